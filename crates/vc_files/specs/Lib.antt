@@ -1,0 +1,6 @@
+pub mod Failures
+pub mod FailingOnce
+pub mod FileMap
+pub mod Fused
+pub mod Memory
+pub mod Outcome
