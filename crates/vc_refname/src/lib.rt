@@ -1,0 +1,17 @@
+//! Names of refs, and which texts are such names.
+//!
+//! The rules are those of `git check-ref-format`, each said of the whole text, and one more: a name has at most
+//! 255 bytes. [`RefName::check`] tests a text, or tells the first rule that it breaks; a [`RefName`] is a text
+//! that breaks none, which its type keeps.
+#![tactic(auto)]
+
+mod fault;
+mod name;
+mod rules;
+mod traits;
+
+pub use fault::{NameFault, NewNameError};
+pub use name::RefName;
+
+#[cfg(test)]
+mod tests;
