@@ -1,0 +1,72 @@
+// The names that a store has.
+ghost use Rattle.std.specs.Prelude.{◌≡◌, ◌↔◌, ◌⊎◌, ◌++◌, Contains, IfOk, OnOk, IfErr, IsErrOf, IsSome, true, filter, filter_map, codes, option_map, map, length};
+ghost use Rattle.vc_files.specs.FileMap.{paths_under};
+ghost use Rattle.vc_files.specs.Failures.{Wears};
+ghost use Rattle.vc_object.specs.ObjectId.{IsSortedByName};
+ghost use Rattle.vc_object.specs.declared.id.ObjectId.{ObjectId};
+ghost use Rattle.vc_store.specs.Store.{name_in, stored_names, has_digits, HasFile, objects, IsDamaged};
+ghost use Rattle.vc_store.specs.StoreFault.{IsFault};
+
+use crate::StoreFault;
+use crate::paths::{name_in, prefix_path};
+use std::alloc::Global;
+use vc_files::{Fault, Files};
+use vc_object::ObjectId;
+
+// The names in whose places files stand, of the paths that begin so.
+fn names_under<F: Files>(
+    files: &mut F,
+    alloc: Global,
+    prefix: &str,
+) -> Result<Vec<ObjectId>, StoreFault>
+    ensures names { F.honest → IfOk result (λ names. names.items ≡ filter_map name_in (paths_under (F.content files.old) prefix.now)) }
+    ensures fault { IfErr result IsFault }
+    ensures same { F.content files.new ≡ F.content files.old }
+    ensures wear { Wears F.failed F.can_fail files.old files.new (IsErrOf result (StoreFault.Fault Fault.Device)) }
+{
+    let paths = files.list(alloc, prefix)?;
+    let mut names = Vec::new(alloc);
+    for path in &paths {
+        if let Some(id) = name_in(alloc, path.as_str())? {
+            names.push(id)?;
+        }
+    }
+    Ok(names)
+}
+
+/// The names of all objects, sorted. A name is there if a file stands in its place, also a damaged one.
+pub fn names<F: Files>(files: &mut F, alloc: Global) -> Result<Vec<ObjectId>, StoreFault>
+    ensures names { F.honest → IfOk result (λ names. names.items ≡ stored_names (F.content files.old)) }
+    ensures sorted { F.honest → IfOk result (λ names. IsSortedByName names.items) }
+    ensures exact { F.honest → IfOk result (λ names. (id : ObjectId) → Contains names.items id ↔ HasFile (F.content files.old) id) }
+    ensures objects { F.honest → IfOk result (λ names. (id : ObjectId) → Contains names.items id → IsSome (objects (F.content files.old) id) ⊎ IsDamaged (F.content files.old) id) }
+    ensures complete { F.honest → IfOk result (λ names. (id : ObjectId) → IsSome (objects (F.content files.old) id) → Contains names.items id) }
+    ensures fault { IfErr result IsFault }
+    ensures same { F.content files.new ≡ F.content files.old }
+    ensures wear { Wears F.failed F.can_fail files.old files.new (IsErrOf result (StoreFault.Fault Fault.Device)) }
+{
+    let names = names_under(files, alloc, "objects/")?;
+    Ok(names)
+}
+
+/// The names of all objects that begin with these hex digits, sorted: those of `names`, and no others. The digits
+/// are of either case. No digits give all names, a byte that is no hex digit gives none. With two digits or
+/// more, one folder is listed.
+pub fn by_prefix<F: Files>(
+    files: &mut F,
+    alloc: Global,
+    digits: &[u8],
+) -> Result<Vec<ObjectId>, StoreFault>
+    ensures names { F.honest → IfOk result (λ names. names.items ≡ filter (has_digits digits.now) (stored_names (F.content files.old))) }
+    ensures sorted { F.honest → IfOk result (λ names. IsSortedByName names.items) }
+    ensures exact { F.honest → IfOk result (λ names. (id : ObjectId) → Contains names.items id ↔ (HasFile (F.content files.old) id × (has_digits digits.now id ≡ true))) }
+    ensures fault { IfErr result IsFault }
+    ensures same { F.content files.new ≡ F.content files.old }
+    ensures wear { Wears F.failed F.can_fail files.old files.new (IsErrOf result (StoreFault.Fault Fault.Device)) }
+{
+    let Some(prefix) = prefix_path(alloc, digits)? else {
+        return Ok(Vec::new(alloc));
+    };
+    let names = names_under(files, alloc, prefix.as_str())?;
+    Ok(names)
+}

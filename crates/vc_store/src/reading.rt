@@ -1,0 +1,104 @@
+// Looking objects up by name.
+ghost use Rattle.std.specs.Prelude.{◌≡◌, ◌⊎◌, Some, None, IfOk, IfErr, IsErrAnd, IsErrOf, option_map, is_ok, true, false};
+ghost use Rattle.vc_files.specs.Failures.{Wears};
+ghost use Rattle.vc_object.specs.Decoding.{stored_object};
+ghost use Rattle.vc_store.specs.Store.{stored, stored_in, IsAbsent, IsDamaged, objects};
+ghost use Rattle.vc_store.specs.StoreFault.{IsFault, IsOfName, IsRefused};
+
+use crate::paths::object_path;
+use crate::{StoreFault, Stored};
+use std::alloc::Global;
+use vc_files::{Fault, Files};
+use vc_object::{Object, ObjectId};
+
+// The object that a file's bytes give to the name.
+fn judge<'a>(id: &ObjectId, bytes: &'a [u8]) -> Result<Object<'a>, StoreFault>
+    ensures found { IfOk result (λ o. stored_in id.now (Some bytes.now) ≡ Ok (stored_object o.kind o.body.now)) }
+    ensures refused { IfErr result (λ e. (e ≡ StoreFault.Damaged id.now) × (stored_in id.now (Some bytes.now) ≡ Err e)) }
+{
+    let Ok(object) = vc_object::decode(bytes) else {
+        return Err(StoreFault::Damaged(*id));
+    };
+    if vc_object::name_of(object.kind, object.body) != *id {
+        return Err(StoreFault::Damaged(*id));
+    }
+    Ok(object)
+}
+
+// The bytes of the file in the place of the object with this name.
+fn read_file<F: Files>(
+    files: &mut F,
+    alloc: Global,
+    id: &ObjectId,
+) -> Result<Option<Vec<u8>>, StoreFault>
+    ensures found { F.honest → IfOk result (λ bytes. stored_in id.now (option_map (λ b. b.items) bytes) ≡ stored (F.content files.old) id.now) }
+    ensures fault { IfErr result IsFault }
+    ensures same { F.content files.new ≡ F.content files.old }
+    ensures wear { Wears F.failed F.can_fail files.old files.new (IsErrOf result (StoreFault.Fault Fault.Device)) }
+{
+    let path = object_path(alloc, id)?;
+    let bytes = files.get(alloc, path.as_str())?;
+    Ok(bytes)
+}
+
+/// The object with this name. The file is read whole, and what it holds must have the name: 11 where there is no
+/// file, 12 where it is no object or another one.
+pub fn get<F: Files>(files: &mut F, alloc: Global, id: &ObjectId) -> Result<Stored, StoreFault>
+    ensures found { F.honest → IfOk result (λ s. stored (F.content files.old) id.now ≡ Ok (stored_object s.kind s.body.items)) }
+    ensures refused { F.honest → IfErr result (λ e. IsFault e ⊎ (stored (F.content files.old) id.now ≡ Err e)) }
+    ensures absent { F.honest → IsAbsent (F.content files.old) id.now → IsErrAnd result (λ e. IsFault e ⊎ (e ≡ StoreFault.Absent id.now)) }
+    ensures damaged { F.honest → IsDamaged (F.content files.old) id.now → IsErrAnd result (λ e. IsFault e ⊎ (e ≡ StoreFault.Damaged id.now)) }
+    ensures object { F.honest → IfOk result (λ s. objects (F.content files.old) id.now ≡ Some (stored_object s.kind s.body.items)) }
+    ensures none { F.honest → IfErr result (λ e. IsFault e ⊎ (objects (F.content files.old) id.now ≡ None)) }
+    ensures of_name { IfErr result (IsOfName id.now) }
+    ensures same { F.content files.new ≡ F.content files.old }
+    ensures wear { Wears F.failed F.can_fail files.old files.new (IsErrOf result (StoreFault.Fault Fault.Device)) }
+{
+    let id = &id.named();
+    let Some(bytes) = read_file(files, alloc, id)? else {
+        return Err(StoreFault::Absent(*id));
+    };
+    let object = judge(id, &bytes)?;
+    let body = object.body.to_vec(alloc)?;
+    Ok(Stored {
+        kind: object.kind,
+        body,
+    })
+}
+
+/// The object with this name, or none where it is absent.
+pub fn find<F: Files>(
+    files: &mut F,
+    alloc: Global,
+    id: &ObjectId,
+) -> Result<Option<Stored>, StoreFault>
+    ensures found { F.honest → IfOk result (λ found. option_map (λ s. stored_object s.kind s.body.items) found ≡ objects (F.content files.old) id.now) }
+    ensures damaged { F.honest → IsDamaged (F.content files.old) id.now → IsErrAnd result (λ e. IsFault e ⊎ (e ≡ StoreFault.Damaged id.now)) }
+    ensures refused { IfErr result (IsRefused id.now (F.honest → IsDamaged (F.content files.old) id.now)) }
+    ensures same { F.content files.new ≡ F.content files.old }
+    ensures wear { Wears F.failed F.can_fail files.old files.new (IsErrOf result (StoreFault.Fault Fault.Device)) }
+{
+    match get(files, alloc, id) {
+        Ok(object) => Ok(Some(object)),
+        Err(StoreFault::Absent(_)) => Ok(None),
+        Err(e) => Err(e),
+    }
+}
+
+/// Whether an object has this name. Its file is read whole, and what it holds must have the name, else it is 12.
+pub fn has<F: Files>(files: &mut F, alloc: Global, id: &ObjectId) -> Result<bool, StoreFault>
+    ensures there { F.honest → IfOk result (λ there. there ≡ is_ok (stored (F.content files.old) id.now)) }
+    ensures absent { F.honest → IfOk result (λ there. there ≡ false → stored (F.content files.old) id.now ≡ Err (StoreFault.Absent id.now)) }
+    ensures damaged { F.honest → IsDamaged (F.content files.old) id.now → IsErrAnd result (λ e. IsFault e ⊎ (e ≡ StoreFault.Damaged id.now)) }
+    ensures refused { F.honest → IfErr result (λ e. IsFault e ⊎ ((e ≡ StoreFault.Damaged id.now) × IsDamaged (F.content files.old) id.now)) }
+    ensures of_name { IfErr result (λ e. IsFault e ⊎ (e ≡ StoreFault.Damaged id.now)) }
+    ensures same { F.content files.new ≡ F.content files.old }
+    ensures wear { Wears F.failed F.can_fail files.old files.new (IsErrOf result (StoreFault.Fault Fault.Device)) }
+{
+    let id = &id.named();
+    let Some(bytes) = read_file(files, alloc, id)? else {
+        return Ok(false);
+    };
+    judge(id, &bytes)?;
+    Ok(true)
+}

@@ -1,0 +1,66 @@
+// Storing objects.
+ghost use Rattle.std.specs.Prelude.{◌≡◌, IfOk, IfErr, IsOk, IsErr, OnOk, OnErr, IsErrOf, map, codes};
+ghost use Rattle.vc_files.specs.FileMap.{SameOutside};
+ghost use Rattle.vc_files.specs.Failures.{Wears};
+ghost use Rattle.vc_files.specs.Outcome.{AfterSome};
+ghost use Rattle.vc_object.specs.Decoding.{stored_object};
+ghost use Rattle.vc_object.specs.Object.{object_name, IsObject};
+ghost use Rattle.vc_object.specs.ObjectFault.{BodyFault};
+ghost use Rattle.vc_object.specs.declared.fault.ObjectFault.{ObjectFault};
+ghost use Rattle.vc_store.specs.Store.{IsDamaged, objects, with_object, with_objects, with_file, with_files};
+ghost use Rattle.vc_store.specs.StoreFault.{IsOfPut, IsOfAll, IsOfDamage};
+
+use crate::paths::object_path;
+use crate::reading::has;
+use crate::{StoreFault, Stored};
+use std::alloc::Global;
+use vc_files::{Fault, Files};
+use vc_object::{Kind, ObjectFault, ObjectId};
+
+/// Stores the object of this kind and body, and answers its name. An object that is there stays as it is, and
+/// nothing is written. A body over 16,777,216 bytes is 3, one out of its kind's grammar is what `check` says, and
+/// both are found before anything else; 12 is answered where a file stands in the object's place and isn't it.
+pub fn put<F: Files>(
+    files: &mut F,
+    alloc: Global,
+    kind: Kind,
+    body: &[u8],
+) -> Result<ObjectId, StoreFault>
+    ensures name { IfOk result (λ id. id ≡ object_name kind body.now) }
+    ensures legal { IsOk result → IsObject kind body.now }
+    ensures refused { IfErr result (IsOfPut kind body.now) }
+    ensures only { (e : ObjectFault) → BodyFault kind body.now e → result ≡ Err (StoreFault.BadObject e) }
+    ensures damaged { F.honest → IfErr result (IsOfDamage (F.content files.old)) }
+    ensures over_damage { F.honest → IsDamaged (F.content files.old) (object_name kind body.now) → IsErr result }
+    ensures objects { F.honest → IfOk result (λ id. objects (F.content files.new) ≡ with_object (objects (F.content files.old)) id (stored_object kind body.now)) }
+    ensures files { F.honest → OnOk result (F.content files.new ≡ with_file (F.content files.old) (stored_object kind body.now)) }
+    ensures outside { F.honest → SameOutside (codes "objects/") (F.content files.old) (F.content files.new) }
+    ensures err { F.honest → OnErr result (F.content files.new ≡ F.content files.old) }
+    ensures wear { Wears F.failed F.can_fail files.old files.new (IsErrOf result (StoreFault.Fault Fault.Device)) }
+{
+    let object = vc_object::check(kind, body)?;
+    let id = vc_object::name_of(kind, body);
+    if !has(files, alloc, &id)? {
+        let path = object_path(alloc, &id)?;
+        let bytes = vc_object::encode(alloc, &object)?;
+        files.put(alloc, path.as_str(), &bytes)?;
+    }
+    Ok(id)
+}
+
+/// Stores objects, in order. A call that ends early has stored a front of them.
+pub fn put_all<F: Files>(files: &mut F, alloc: Global, all: &[Stored]) -> Result<(), StoreFault>
+    ensures refused { IfErr result IsOfAll }
+    ensures damaged { F.honest → IfErr result (IsOfDamage (F.content files.new)) }
+    ensures objects { F.honest → OnOk result (objects (F.content files.new) ≡ with_objects (objects (F.content files.old)) (map (λ s. stored_object s.kind s.body.items) all.now)) }
+    ensures files { F.honest → OnOk result (F.content files.new ≡ with_files (F.content files.old) (map (λ s. stored_object s.kind s.body.items) all.now)) }
+    ensures outside { F.honest → SameOutside (codes "objects/") (F.content files.old) (F.content files.new) }
+    ensures some { F.honest → AfterSome with_objects (objects (F.content files.old)) (map (λ s. stored_object s.kind s.body.items) all.now) (objects (F.content files.new)) }
+    ensures some_files { F.honest → AfterSome with_files (F.content files.old) (map (λ s. stored_object s.kind s.body.items) all.now) (F.content files.new) }
+    ensures wear { Wears F.failed F.can_fail files.old files.new (IsErrOf result (StoreFault.Fault Fault.Device)) }
+{
+    for object in all {
+        put(files, alloc, object.kind, &object.body)?;
+    }
+    Ok(())
+}
