@@ -1,0 +1,6 @@
+pub mod RefFileLemmas
+pub mod RefsLemmas
+pub mod PathLemmas
+pub mod WayLemmas
+pub mod HeadLemmas
+pub mod ListingLemmas

@@ -1,0 +1,69 @@
+-- HEAD: the ref that is checked out, or an id.
+use Rattle.std.specs.Prelude.{◌≡◌, ℕ, ◌&&◌, nat_eq, bytes_eq, List, [], ◌∷◌, ◌++◌, drop, Option, Some, None, if◌then◌else◌, codes, option_map, option_and_then}
+use Rattle.std.specs.List.{starts_with}
+use Rattle.std.specs.Str.{is_utf8}
+use Rattle.std.specs.FinMap as files
+use Rattle.vc_files.specs.FileMap.{FileMap, SameOutside}
+use Rattle.vc_object.specs.declared.id.ObjectId.{ObjectId}
+use Rattle.vc_refs.specs.RefFile.{without_lf, id_in, id_text}
+use Rattle.vc_refs.specs.RefMap.{RefMap, IsInRefs, is_ref}
+use Rattle.vc_refs.specs.Refs.{ChangesOnly}
+use Rattle.vc_refs.specs.declared.heads.Head.{Head}
+use Rattle.vc_refs.specs.declared.heads.Head.TheVariants as head
+use Rattle.vc_refs.specs.declared.heads.HeadText.{HeadText}
+use Rattle.vc_refs.specs.declared.heads.HeadText.TheVariants.{Says, NamesHead, SaysNothing}
+
+-- an id, if the text spells one
+abbrev pub id_said : Option ObjectId → HeadText
+id_said (Some id) = Says (head.Id id)
+id_said None = SaysNothing
+
+-- a branch, if the name is a ref's
+abbrev pub name_said : List ℕ → HeadText
+name_said name =
+    if bytes_eq name (codes "HEAD") then NamesHead
+    else if is_ref name && is_utf8 name then Says (head.Branch name)
+    else SaysNothing
+
+-- `ref: ` and a legal name in `refs/`, or an id; the LF at the end may be missing
+abbrev pub read_head : List ℕ → HeadText
+read_head text = if starts_with nat_eq text (codes "ref: ") then name_said (without_lf (drop 5 text)) else id_said (id_in text)
+
+abbrev pub said : HeadText → Option Head
+said (Says h) = Some h
+said NamesHead = None
+said SaysNothing = None
+
+-- what HEAD is, if its file is there and says it
+unfoldable pub head_of : FileMap → Option Head
+head_of content = option_and_then (λ text. said (read_head text)) (files.get content (codes "HEAD"))
+
+-- HEAD names HEAD
+abbrev pub IsHeadLoop : FileMap → Type 0
+IsHeadLoop content = option_map read_head (files.get content (codes "HEAD")) ≡ Some NamesHead
+
+-- HEAD's file is there, and says neither a ref nor an id
+abbrev pub IsBadHead : FileMap → Type 0
+IsBadHead content = option_map read_head (files.get content (codes "HEAD")) ≡ Some SaysNothing
+
+-- the id that HEAD leads to, if its ref is there
+abbrev pub head_value : RefMap → Option Head → Option ObjectId
+head_value refs None = None
+head_value refs (Some (head.Branch name)) = refs name
+head_value refs (Some (head.Id id)) = Some id
+
+-- what is written for HEAD
+abbrev pub head_text : Head → List ℕ
+head_text (head.Branch name) = codes "ref: " ++ (name ++ 10 ∷ [])
+head_text (head.Id id) = id_text id
+
+-- a branch in `refs/`, or any id
+abbrev pub IsHeadInRefs : Head → Type 0
+IsHeadInRefs (head.Branch name) = IsInRefs name
+IsHeadInRefs (head.Id id) = Unit {0}
+
+-- after a change of this ref each other file, all that lies outside `refs/`, and HEAD are as before
+pub record KeepsTheRest (name : List ℕ) (old new : FileMap) : Type 0 where
+  pub only : ChangesOnly name old new
+  pub outside : SameOutside (codes "refs/") old new
+  pub head : head_of new ≡ head_of old

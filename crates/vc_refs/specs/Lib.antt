@@ -1,0 +1,6 @@
+pub mod RefFile
+pub mod RefMap
+pub mod Refs
+pub mod Head
+pub mod Way
+pub mod RefFault

@@ -1,0 +1,23 @@
+// What HEAD may be.
+use vc_object::ObjectId;
+use vc_refname::RefName;
+
+/// The branch that is checked out, or an id where none is (a detached HEAD).
+#[derive(Debug, Drop, PartialEq, Eq)]
+pub enum Head {
+    /// The ref with this name, which need not be there yet.
+    Branch(RefName),
+    /// This id.
+    Id(ObjectId),
+}
+
+/// What the text of HEAD's file is.
+#[derive(Drop)]
+pub(crate) enum HeadText {
+    /// It says what HEAD is.
+    Says(Head),
+    /// It names HEAD.
+    NamesHead,
+    /// It says nothing of the kind.
+    SaysNothing,
+}

@@ -1,0 +1,104 @@
+// A look at one ref.
+ghost use Rattle.std.specs.Prelude.{◌≡◌, true, Some, None, if◌then◌else◌, IfOk, IfErr, OnOk, IsErrOf};
+ghost use Rattle.vc_files.specs.Failures.{Wears};
+ghost use Rattle.vc_refs.specs.RefMap.{IsInRefs, is_ref, entry_at};
+ghost use Rattle.vc_refs.specs.Refs.{refs, IsBadRef};
+ghost use Rattle.vc_refs.specs.RefFault.{BlamesRef, BlamesPath, BlamesRemove, HasExpected};
+
+use crate::RefFault;
+use crate::text::id_in;
+use std::alloc::{AllocError, Global};
+use vc_files::{Fault, Files};
+use vc_object::ObjectId;
+use vc_refname::{NewNameError, RefName};
+
+// The id that the file of a ref spells, or none where there is no such file.
+pub(crate) fn read<F: Files>(
+    files: &mut F,
+    alloc: Global,
+    path: &str,
+) -> Result<Option<ObjectId>, RefFault>
+    requires { is_ref path.now ≡ true }
+    ensures found { F.honest → IfOk result (λ id. id ≡ refs (F.content files.old) path.now) }
+    ensures good { F.honest → OnOk result (IsBadRef (F.content files.old) path.now → ⊥) }
+    ensures refused { F.honest → IfErr result (BlamesRef (F.content files.old) path.now) }
+    ensures same { F.content files.new ≡ F.content files.old }
+    ensures wear { Wears F.failed F.can_fail files.old files.new (IsErrOf result (RefFault.Fault Fault.Device)) }
+{
+    let Some(bytes) = files.get(alloc, path)? else {
+        return Ok(None);
+    };
+    match id_in(&bytes) {
+        Some(id) => Ok(Some(id)),
+        None => Err(RefFault::BadRefFile(String::from_str(alloc, path)?)),
+    }
+}
+
+/// The id that the ref stands for, or none where there is no such ref.
+pub fn get<F: Files>(
+    files: &mut F,
+    alloc: Global,
+    name: &RefName,
+) -> Result<Option<ObjectId>, RefFault>
+    requires { IsInRefs name.now }
+    ensures found { F.honest → IfOk result (λ id. id ≡ refs (F.content files.old) name.now) }
+    ensures good { F.honest → OnOk result (IsBadRef (F.content files.old) name.now → ⊥) }
+    ensures refused { F.honest → IfErr result (BlamesRef (F.content files.old) name.now) }
+    ensures same { F.content files.new ≡ F.content files.old }
+    ensures wear { Wears F.failed F.can_fail files.old files.new (IsErrOf result (RefFault.Fault Fault.Device)) }
+{
+    let id = read(files, alloc, name.as_str())?;
+    Ok(id)
+}
+
+// The name of the ref whose file has this path, or none where the path is no ref's.
+pub(crate) fn name_at(alloc: Global, path: &str) -> Result<Option<RefName>, AllocError>
+    ensures { IfOk result (λ name. name ≡ (if is_ref path.now then Some path.now else None)) }
+{
+    match RefName::new(alloc, path) {
+        Ok(name) if name.in_refs() => Ok(Some(name)),
+        Ok(_) | Err(NewNameError::Refused(_)) => Ok(None),
+        Err(NewNameError::Memory) => Err(AllocError),
+    }
+}
+
+// The ref whose file has this path, or none where there is no such file.
+pub(crate) fn ref_at<F: Files>(
+    files: &mut F,
+    alloc: Global,
+    path: &str,
+) -> Result<Option<(RefName, ObjectId)>, RefFault>
+    ensures found { F.honest → IfOk result (λ found. found ≡ entry_at (refs (F.content files.old)) path.now) }
+    ensures good { F.honest → OnOk result (IsBadRef (F.content files.old) path.now → ⊥) }
+    ensures refused { F.honest → IfErr result (BlamesPath (F.content files.old) path.now) }
+    ensures same { F.content files.new ≡ F.content files.old }
+    ensures wear { Wears F.failed F.can_fail files.old files.new (IsErrOf result (RefFault.Fault Fault.Device)) }
+{
+    let Some(name) = name_at(alloc, path)? else {
+        return Err(RefFault::BadRefFile(String::from_str(alloc, path)?));
+    };
+    match get(files, alloc, &name)? {
+        Some(id) => Ok(Some((name, id))),
+        None => Ok(None),
+    }
+}
+
+// Refuses where the ref's value is not the expected one.
+pub(crate) fn expect_value<F: Files>(
+    files: &mut F,
+    alloc: Global,
+    name: &RefName,
+    expected: Option<ObjectId>,
+) -> Result<(), RefFault>
+    requires { IsInRefs name.now }
+    ensures allowed { F.honest → OnOk result (HasExpected (F.content files.old) name.now expected) }
+    ensures refused { F.honest → IfErr result (BlamesRemove (F.content files.old) name.now expected) }
+    ensures same { F.content files.new ≡ F.content files.old }
+    ensures wear { Wears F.failed F.can_fail files.old files.new (IsErrOf result (RefFault.Fault Fault.Device)) }
+{
+    let current = get(files, alloc, name)?;
+    if current != expected {
+        return Err(RefFault::Stale(current));
+    }
+    Ok(())
+}
