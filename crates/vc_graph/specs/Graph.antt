@@ -1,0 +1,36 @@
+-- A set of objects as a graph. `links` gives what an object that is there links to, and none for a name that is absent
+-- (what an object links to is Git's object format: gitcore-tutorial, git-rev-list's `--objects`). Nothing here asks that
+-- the links have no cycle, or that the set is finite.
+use Rattle.std.specs.Prelude.{◌≡◌, List, Option, Some, None, IsSome, Contains}
+
+module _ {Id : Type 0} (links : Id → Option (List Id)) where
+  -- x is there, and y is one of its links
+  abbrev pub LinksTo : Id → Id → Type 0
+  LinksTo x y = (ys : List Id) × (links x ≡ Some ys) × Contains ys y
+
+  -- a list of names leads from x to y, each a link of the one before; x alone is such a list
+  pub data Reaches (x : Id) : Id → Type 0 where
+    itself : Reaches x x
+    onward : {y z : Id} → Reaches x y → LinksTo y z → Reaches x z
+
+  -- one of the roots reaches y
+  pub record ReachedFrom (roots : List Id) (y : Id) : Type 0 where
+    pub root : Id
+    pub is_root : Contains roots root
+    pub reaches : Reaches root y
+
+  -- every name that x reaches is there
+  abbrev pub IsClosed : Id → Type 0
+  IsClosed x = (y : Id) → Reaches x y → IsSome (links y)
+
+  -- every name that a root reaches is there
+  abbrev pub IsClosedUnder : List Id → Type 0
+  IsClosedUnder roots = (y : Id) → ReachedFrom roots y → IsSome (links y)
+
+  -- each of the names is there, and its links are among them
+  pub record IsFollowed (names : List Id) : Type 0 where
+    pub follows : (x : Id) → Contains names x → (ys : List Id) × (links x ≡ Some ys) × ((y : Id) → Contains ys y → Contains names y)
+
+  -- a root reaches the name y, which is absent
+  abbrev pub IsMissing : List Id → Id → Type 0
+  IsMissing roots y = ReachedFrom roots y × (links y ≡ None)

@@ -1,0 +1,5 @@
+pub mod Graph
+pub mod GraphFault
+pub mod Incomplete
+pub mod Overlay
+pub mod StoreState

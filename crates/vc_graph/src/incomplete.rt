@@ -1,0 +1,39 @@
+//! Which of several roots is the first that reaches a name that is absent.
+ghost use Rattle.std.specs.Prelude.{◌≡◌, IfOk, IfErr, IsErrOf};
+ghost use Rattle.vc_files.specs.Failures.{Wears};
+ghost use Rattle.vc_graph.specs.Graph.{ReachedFrom};
+ghost use Rattle.vc_graph.specs.GraphFault.{IsMet};
+ghost use Rattle.vc_graph.specs.Incomplete.{IsAnswerOfFirst};
+ghost use Rattle.vc_object.specs.ObjectMap.{links_in};
+
+use crate::walk::walk;
+use crate::{GraphFault, Objects};
+use indexmap::IndexSet;
+use std::alloc::Global;
+use vc_files::Fault;
+use vc_object::ObjectId;
+use vc_store::StoreFault;
+
+/// The first of the roots that reaches an absent name, or none where all that they reach is there. Each object is read
+/// once, also one that several roots reach.
+pub fn first_incomplete<O: Objects>(
+    alloc: Global,
+    objects: &mut O,
+    roots: &[ObjectId],
+) -> Result<Option<ObjectId>, StoreFault>
+    ensures first { IfOk result (λ found. O.is_honest → IsAnswerOfFirst (links_in (O.objects (O.state_of objects.old))) roots.now found) }
+    ensures refused { IfErr result (λ e. O.is_honest → IsMet (ReachedFrom (links_in (O.objects (O.state_of objects.old))) roots.now) (O.damaged (O.state_of objects.old)) e) }
+
+    ensures kept { O.state_of objects.new ≡ O.state_of objects.old }
+    ensures wear { Wears O.failed O.can_fail objects.old objects.new (IsErrOf result (StoreFault.Fault Fault.Device)) }
+{
+    let mut met = IndexSet::new(alloc);
+    for root in roots {
+        match walk(objects, &[*root], &mut met) {
+            Ok(()) => {}
+            Err(GraphFault::Missing(_)) => return Ok(Some(*root)),
+            Err(GraphFault::Store(fault)) => return Err(fault),
+        }
+    }
+    Ok(None)
+}

@@ -1,0 +1,22 @@
+//! What is reached from objects by their links: closure, completeness and difference, over anything that gives links.
+#![tactic(auto)]
+
+mod fault;
+mod incomplete;
+mod names;
+mod overlay;
+#[cfg(test)]
+mod overlay_tests;
+mod reach;
+mod source;
+mod store;
+#[cfg(test)]
+mod tests;
+mod walk;
+
+pub use fault::GraphFault;
+pub use incomplete::first_incomplete;
+pub use names::{sorted_difference, sorted_from};
+pub use overlay::{Carried, Overlay};
+pub use reach::{closure, difference, is_complete};
+pub use source::Objects;

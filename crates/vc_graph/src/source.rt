@@ -1,0 +1,43 @@
+//! What a walk over objects asks.
+ghost use Rattle.std.specs.Prelude.{◌≡◌, ℕ, IfOk, IfErr, IsErrOf};
+ghost use Rattle.std.specs.Option.{option_map};
+ghost use Rattle.vc_files.specs.Failures.{Wears};
+ghost use Rattle.vc_object.specs.ObjectMap.{ObjectMap, links_in};
+ghost use Rattle.vc_object.specs.declared.id.ObjectId.{ObjectId as Id};
+ghost use Rattle.vc_store.specs.StoreFault.{IsRefused};
+
+use vc_files::Fault;
+use vc_object::ObjectId;
+use vc_store::StoreFault;
+
+/// A set of objects by name, each of which links to others: a store, a store with what a push carries, a table.
+pub trait Objects {
+    /// Whether it answers with what it holds. A real device may not.
+    ghost is_honest: { Type 0 };
+
+    /// What a call could change.
+    ghost State: { Type 0 };
+
+    /// What a value holds.
+    ghost state_of: { Self → State };
+
+    /// The objects, by name.
+    ghost objects: { State → ObjectMap };
+
+    /// The names that a look-up may refuse because what is kept there is damaged.
+    ghost damaged: { State → Id → Type 0 };
+
+    /// How often the device below it has failed.
+    ghost failed: { Self → ℕ };
+
+    /// Whether the device below it can fail.
+    ghost can_fail: { Self → Type 0 };
+
+    /// The links of the object with this name, in the order of its body, or `None` where it is absent. A tree links to
+    /// its entries except commits of other repositories, a commit to its tree and its parents, a tag to its object.
+    fn links(&mut self, id: &ObjectId) -> Result<Option<Vec<ObjectId>>, StoreFault>
+        ensures answer { IfOk result (λ found. is_honest → option_map (λ v. v.items) found ≡ links_in (objects (state_of self.old)) id.now) }
+        ensures refused { IfErr result (IsRefused id.now (is_honest → damaged (state_of self.old) id.now)) }
+        ensures kept { state_of self.new ≡ state_of self.old }
+        ensures wear { Wears failed can_fail self.old self.new (IsErrOf result (StoreFault.Fault Fault.Device)) };
+}

@@ -1,0 +1,33 @@
+//! A store as a set of objects.
+use crate::Objects;
+use std::alloc::AllocError;
+use vc_files::Files;
+use vc_object::ObjectId;
+use vc_store::{Store, StoreFault};
+
+impl<F: Files> Objects for Store<'_, F> {
+    ghost use Rattle.vc_store.specs.Store.{objects, IsDamaged};
+    ghost use Rattle.vc_graph.specs.StoreState.{StoreState, store_state};
+
+    ghost is_honest = { F.honest };
+
+    ghost State = { StoreState };
+
+    ghost state_of = { λ s. store_state s.files.ghost_name (F.content s.files.now) };
+
+    ghost objects = { λ state. objects state.content };
+
+    ghost damaged = { λ state id. IsDamaged state.content id };
+
+    ghost failed = { λ s. F.failed s.files.now };
+
+    ghost can_fail = { λ s. F.can_fail s.files.now };
+
+    fn links(&mut self, id: &ObjectId) -> Result<Option<Vec<ObjectId>>, StoreFault> {
+        let Some(found) = self.find(id)? else {
+            return Ok(None);
+        };
+        let links = vc_object::links(self.alloc(), &found.object())?;
+        Ok(Some(links))
+    }
+}

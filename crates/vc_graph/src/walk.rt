@@ -1,0 +1,41 @@
+//! The walk over links. One set is both what was met and what is still to be read, so each object is read once.
+ghost use Rattle.std.specs.Prelude.{◌≡◌, ◌↔◌, ◌++◌, length, take, IfErr, IsErrOf, OnOk, Contains};
+ghost use Rattle.vc_files.specs.Failures.{Wears};
+ghost use Rattle.vc_graph.specs.Graph.{IsFollowed, ReachedFrom};
+ghost use Rattle.vc_graph.specs.GraphFault.{IsTold};
+ghost use Rattle.vc_object.specs.ObjectMap.{links_in};
+ghost use Rattle.vc_object.specs.declared.id.ObjectId.{ObjectId as Id};
+
+use crate::{GraphFault, Objects};
+use indexmap::IndexSet;
+use vc_files::Fault;
+use vc_object::ObjectId;
+use vc_store::StoreFault;
+
+// Adds to the names that were met the roots and all that they reach. What was met before is not read again.
+pub(crate) fn walk<O: Objects>(
+    objects: &mut O,
+    roots: &[ObjectId],
+    met: &mut IndexSet<ObjectId>,
+) -> Result<(), GraphFault>
+    requires { O.is_honest → IsFollowed (links_in (O.objects (O.state_of objects.old))) met.old.keys }
+    ensures reached { OnOk result (O.is_honest → (id : Id) → Contains met.new.keys id ↔ ReachedFrom (links_in (O.objects (O.state_of objects.old))) (met.old.keys ++ roots.now) id) }
+    ensures followed { OnOk result (O.is_honest → IsFollowed (links_in (O.objects (O.state_of objects.old))) met.new.keys) }
+    ensures first { OnOk result (take (length met.old.keys) met.new.keys ≡ met.old.keys) }
+    ensures refused { IfErr result (λ e. O.is_honest → IsTold (O.objects (O.state_of objects.old)) (O.damaged (O.state_of objects.old)) (met.old.keys ++ roots.now) e) }
+
+    ensures kept { O.state_of objects.new ≡ O.state_of objects.old }
+    ensures wear { Wears O.failed O.can_fail objects.old objects.new (IsErrOf result (GraphFault.Store (StoreFault.Fault Fault.Device))) }
+{
+    let mut next = met.len();
+    met.extend(roots)?;
+    while next < met.len() {
+        let id = met[next];
+        let Some(links) = objects.links(&id)? else {
+            return Err(GraphFault::Missing(id));
+        };
+        met.extend(links)?;
+        next += 1;
+    }
+    Ok(())
+}
