@@ -1,0 +1,4 @@
+pub mod BestLemmas
+pub mod GatheredLemmas
+pub mod HistoryLemmas
+pub mod PassedLemmas

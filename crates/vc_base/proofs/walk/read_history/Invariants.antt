@@ -1,0 +1,14 @@
+use Rattle.std.proofs.Common.{◌≡◌, ◌-◌, ◌^◌, map, length}
+use Rattle.vc_base.proofs.HistoryLemmas.{Meets}
+use Rattle.vc_files.specs.Failures.{Wears}
+use Rattle.vc_base.proofs.walk.read_history.Given as goal
+
+abbrev pub invariant-reading : goal.invariant-reading
+invariant-reading g l = record {
+  kept : g.C.Objects.state_of l.commits ≡ g.C.Objects.state_of l.initial.commits;
+  wear : Wears g.C.Objects.failed g.C.Objects.can_fail l.initial.commits l.commits ⊥;
+  meets : g.C.Objects.is_honest → Meets (g.C.Objects.objects (g.C.Objects.state_of l.initial.commits)) l.roots l.walk.met.keys (map (λ v. v.items) l.walk.parents.items) l.walk.other;
+}
+
+abbrev pub decreases-reading : goal.decreases-reading
+decreases-reading g l = 2 ^ 63 - length l.walk.parents.items

@@ -1,0 +1,44 @@
+//! Whether one commit descends from another.
+ghost use Rattle.std.specs.Prelude.{◌≡◌, ◌↔◌, ◌∷◌, [], IsSome, IsTrue, IfOk, IfErr, IsErrOf, not};
+ghost use Rattle.vc_base.specs.BaseFault.{IsTold};
+ghost use Rattle.vc_base.specs.History.{IsAncestor};
+ghost use Rattle.vc_files.specs.Failures.{Wears};
+ghost use Rattle.vc_graph.specs.Graph.{IsClosed};
+ghost use Rattle.vc_object.specs.ObjectMap.{parents_in};
+
+use crate::walk::Walk;
+use crate::{BaseFault, Commits};
+use std::alloc::Global;
+use vc_files::Fault;
+use vc_object::ObjectId;
+use vc_store::StoreFault;
+
+/// Whether `a` is an ancestor of `b`. A commit is its own ancestor. The walk goes from `b` and ends where it reads `a`, so
+/// what lies beyond may be absent, or no commit; a `no` is answered only where the whole history of `b` was read. An `a`
+/// that no parent leads to is not looked for.
+pub fn is_ancestor<C: Commits>(
+    alloc: Global,
+    commits: &mut C,
+    a: &ObjectId,
+    b: &ObjectId,
+) -> Result<bool, BaseFault>
+    ensures answer { IfOk result (λ yes. C.is_honest → IsTrue yes ↔ IsAncestor (parents_in (C.objects (C.state_of commits.old))) a.now b.now) }
+    ensures commit { IfOk result (λ yes. C.is_honest → IsTrue yes → IsSome (parents_in (C.objects (C.state_of commits.old)) a.now)) }
+    ensures whole { IfOk result (λ yes. C.is_honest → IsTrue (not yes) → IsClosed (parents_in (C.objects (C.state_of commits.old))) b.now) }
+    ensures refused { IfErr result (λ e. C.is_honest → IsTold (C.objects (C.state_of commits.old)) (C.damaged (C.state_of commits.old)) (b.now ∷ []) e) }
+
+    ensures kept { C.state_of commits.new ≡ C.state_of commits.old }
+    ensures wear { Wears C.failed C.can_fail commits.old commits.new (IsErrOf result (BaseFault.Store (StoreFault.Fault Fault.Device))) }
+{
+    let mut walk = Walk::from_roots(alloc, &[*b])?;
+    'reading: while walk.parents.len() < walk.met.len() {
+        let id = walk.read_next(alloc, commits)?;
+        if id == *a && walk.other.is_none() {
+            return Ok(true);
+        }
+    }
+    match walk.other {
+        Some(id) => Err(BaseFault::NotACommit(id)),
+        None => Ok(false),
+    }
+}

@@ -1,0 +1,49 @@
+//! The refusals of this crate.
+ghost use Rattle.std.specs.Prelude.{◌≡◌};
+ghost use Rattle.vc_base.specs.declared.fault.BaseFault.TheVariants.{Store};
+ghost use Rattle.vc_files.specs.declared.faults.Fault.TheVariants.{Memory};
+ghost use Rattle.vc_store.specs.declared.faults.StoreFault.TheVariants.{Fault};
+
+use std::alloc::{AllocError, AllocFailed};
+use thiserror::Error;
+use vc_files::Fault;
+use vc_object::ObjectId;
+use vc_store::StoreFault;
+
+/// Why a question about a history has no answer.
+#[derive(Clone, Copy, Debug, PartialEq, Eq, Error)]
+pub enum BaseFault {
+    /// 40: a root, or a name that parent links lead to, is absent.
+    #[error("40 Missing")]
+    Missing(ObjectId),
+    /// 41: a root, or what parent links lead to, is an object of another kind.
+    #[error("41 NotACommit")]
+    NotACommit(ObjectId),
+    /// The layers below gave no answer: 12, or want of memory or a device.
+    #[error("{0}")]
+    Store(StoreFault),
+}
+
+impl From<StoreFault> for BaseFault {
+    ghost from_gives = { λ fault e. e ≡ Store fault };
+
+    fn from(fault: StoreFault) -> BaseFault {
+        BaseFault::Store(fault)
+    }
+}
+
+impl From<AllocError> for BaseFault {
+    ghost from_gives = { λ _ e. e ≡ Store (Fault Memory) };
+
+    fn from(_: AllocError) -> BaseFault {
+        BaseFault::Store(StoreFault::Fault(Fault::Memory))
+    }
+}
+
+impl<T: Drop> From<AllocFailed<T>> for BaseFault {
+    ghost from_gives = { λ _ e. e ≡ Store (Fault Memory) };
+
+    fn from(_: AllocFailed<T>) -> BaseFault {
+        BaseFault::Store(StoreFault::Fault(Fault::Memory))
+    }
+}

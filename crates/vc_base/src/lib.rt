@@ -1,0 +1,19 @@
+//! Ancestry among commits: who descends from whom, the best common ancestors, and sets of commits, over anything that
+//! gives parents. A history is read once, each commit of it once, and what is asked is answered from what was read.
+#![tactic(auto)]
+
+mod ancestry;
+mod bases;
+mod fault;
+mod selection;
+mod source;
+mod store;
+#[cfg(test)]
+mod tests;
+mod walk;
+
+pub use ancestry::is_ancestor;
+pub use bases::{common_ancestors, merge_bases};
+pub use fault::BaseFault;
+pub use selection::commits;
+pub use source::{Commits, Parents};

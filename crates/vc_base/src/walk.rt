@@ -1,0 +1,130 @@
+//! The walk over a history. It reads each commit once, and keeps what it has read for the questions that follow.
+ghost use Rattle.std.specs.Prelude.{◌≡◌, ◌↔◌, ◌+◌, ◌<◌, [], None, length, map, slice_get, IfOk, IfErr, IsErrOf, OnOk, Contains};
+ghost use Rattle.indexmap.specs.IndexSet.{insert_all};
+ghost use Rattle.vc_base.specs.BaseFault.{IsOfNext, IsTold};
+ghost use Rattle.vc_base.specs.Walk.{Gathers, Reads, graph_read, parents_read};
+ghost use Rattle.vc_files.specs.Failures.{Wears};
+ghost use Rattle.vc_graph.specs.Graph.{ReachedFrom, IsClosedUnder};
+ghost use Rattle.vc_object.specs.ObjectId.{id_eq};
+ghost use Rattle.vc_object.specs.ObjectMap.{parents_in};
+ghost use Rattle.vc_object.specs.declared.id.ObjectId.{ObjectId as Id};
+
+use crate::{BaseFault, Commits, Parents};
+use indexmap::IndexSet;
+use std::alloc::{AllocError, Global};
+use vc_files::Fault;
+use vc_object::ObjectId;
+use vc_store::StoreFault;
+
+// What a walk over a history has met, and what it has read of it.
+#[derive(Drop)]
+pub(crate) struct Walk {
+    // The names that were met, in order: those that were read, then those that are still to be read.
+    pub(crate) met: IndexSet<ObjectId>,
+    // The parents of those that were read, in the same order. An object that is no commit has none.
+    pub(crate) parents: Vec<Vec<ObjectId>>,
+    // One of those that were read that is no commit, if there is one.
+    pub(crate) other: Option<ObjectId>,
+}
+
+impl Walk {
+    // A walk that has met the roots and has read nothing.
+    pub(crate) fn from_roots(alloc: Global, roots: &[ObjectId]) -> Result<Walk, AllocError>
+        ensures met { IfOk result (λ w. w.met.keys ≡ insert_all id_eq [] roots.now) }
+        ensures parents { IfOk result (λ w. w.parents.items ≡ []) }
+        ensures other { IfOk result (λ w. w.other ≡ None) }
+    {
+        let mut met = IndexSet::new(alloc);
+        met.extend(roots)?;
+        Ok(Walk {
+            met,
+            parents: Vec::new(alloc),
+            other: None,
+        })
+    }
+
+    // Reads the next of the names that were met, meets its parents, and answers the name.
+    pub(crate) fn read_next<C: Commits>(
+        &mut self,
+        alloc: Global,
+        commits: &mut C,
+    ) -> Result<ObjectId, BaseFault>
+        requires { length self.old.parents.items < length self.old.met.keys }
+        ensures reads { IfOk result (λ id. C.is_honest → Reads (C.objects (C.state_of commits.old)) self.old.met.keys self.new.met.keys (map (λ v. v.items) self.old.parents.items) (map (λ v. v.items) self.new.parents.items) self.old.other self.new.other id) }
+        ensures more { OnOk result (length self.new.parents.items ≡ length self.old.parents.items + 1) }
+        ensures refused { IfErr result (λ e. C.is_honest → IsOfNext (C.objects (C.state_of commits.old)) (C.damaged (C.state_of commits.old)) (λ id. slice_get self.old.met.keys (length self.old.parents.items) ≡ Some id) e) }
+
+        ensures kept { C.state_of commits.new ≡ C.state_of commits.old }
+        ensures wear { Wears C.failed C.can_fail commits.old commits.new (IsErrOf result (BaseFault.Store (StoreFault.Fault Fault.Device))) }
+    {
+        let id = self.met[self.parents.len()];
+        let Some(found) = commits.parents(&id)? else {
+            return Err(BaseFault::Missing(id));
+        };
+        let parents = match found {
+            Parents::Of(parents) => parents,
+            Parents::NotCommit => {
+                self.other = Some(id);
+                Vec::new(alloc)
+            }
+        };
+        self.met.extend(parents.as_slice())?;
+        self.parents.push(parents)?;
+        Ok(id)
+    }
+
+    // The parents that were read of a name: none of one that was not met.
+    pub(crate) fn parents_of(&self, id: &ObjectId) -> &[ObjectId]
+        ensures { result.now ≡ parents_read self.now.met.keys (map (λ v. v.items) self.now.parents.items) id.now }
+    {
+        let Some(place) = self.met.get_index_of(id) else {
+            return &[];
+        };
+        match self.parents.get(place) {
+            Some(parents) => parents,
+            None => &[],
+        }
+    }
+
+    // What the roots reach by the parents that were read.
+    pub(crate) fn ancestors(
+        &self,
+        alloc: Global,
+        roots: &[ObjectId],
+    ) -> Result<IndexSet<ObjectId>, AllocError>
+        ensures { IfOk result (λ found. (id : Id) → Contains found.keys id ↔ ReachedFrom (graph_read self.now.met.keys (map (λ v. v.items) self.now.parents.items)) roots.now id) }
+    {
+        let mut found = IndexSet::new(alloc);
+        found.extend(roots)?;
+        let mut next = 0;
+        while next < found.len() {
+            let id = found[next];
+            found.extend(self.parents_of(&id))?;
+            next += 1;
+        }
+        Ok(found)
+    }
+}
+
+// Reads the whole history of some roots, all of which must be commits.
+pub(crate) fn read_history<C: Commits>(
+    alloc: Global,
+    commits: &mut C,
+    roots: &[ObjectId],
+) -> Result<Walk, BaseFault>
+    ensures gathered { IfOk result (λ w. C.is_honest → Gathers (C.objects (C.state_of commits.old)) roots.now w.met.keys (map (λ v. v.items) w.parents.items)) }
+    ensures closed { OnOk result (C.is_honest → IsClosedUnder (parents_in (C.objects (C.state_of commits.old))) roots.now) }
+    ensures refused { IfErr result (λ e. C.is_honest → IsTold (C.objects (C.state_of commits.old)) (C.damaged (C.state_of commits.old)) roots.now e) }
+
+    ensures kept { C.state_of commits.new ≡ C.state_of commits.old }
+    ensures wear { Wears C.failed C.can_fail commits.old commits.new (IsErrOf result (BaseFault.Store (StoreFault.Fault Fault.Device))) }
+{
+    let mut walk = Walk::from_roots(alloc, roots)?;
+    'reading: while walk.parents.len() < walk.met.len() {
+        walk.read_next(alloc, commits)?;
+    }
+    match walk.other {
+        Some(id) => Err(BaseFault::NotACommit(id)),
+        None => Ok(walk),
+    }
+}
