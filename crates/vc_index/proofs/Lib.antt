@@ -1,0 +1,13 @@
+pub mod PathLemmas
+pub mod MapLemmas
+pub mod ConflictLemmas
+pub mod TextLemmas
+pub mod EntriesLemmas
+pub mod ReadLemmas
+pub mod AgainLemmas
+pub mod FileLemmas
+pub mod PlaceLemmas
+pub mod PartLemmas
+pub mod ClosingLemmas
+pub mod LoadLemmas
+pub mod ReadingLemmas

@@ -1,0 +1,23 @@
+use Rattle.std.proofs.Common.{◌≡◌, map}
+use Rattle.std.specs.List.{AllByRecursion}
+use Rattle.vc_files.specs.Failures.{Wears}
+use Rattle.vc_store.specs.Store.{objects}
+use Rattle.vc_index.specs.Loading.{HasBlobs, item_pair}
+use Rattle.vc_index.proofs.LoadLemmas.{Loading, IsNamed, work}
+use Rattle.vc_index.proofs.ReadingLemmas.{Walks}
+use Rattle.vc_index.proofs.loading.load.Given as goal
+
+abbrev pub invariant-loop-item : goal.invariant-loop-item
+invariant-loop-item g l =
+    let content = g.F.Files.content in
+    record {
+      named : AllByRecursion IsNamed (map item_pair l.items.items);
+      loading : g.F.Files.honest → Loading (objects (content l.fn.files)) l.root (map item_pair l.items.items) l.index;
+      blobs : g.F.Files.honest → HasBlobs (objects (content l.fn.files)) l.index;
+      walks : g.F.Files.honest → Walks (objects (content l.fn.files)) l.root (map item_pair l.items.items);
+      same : content l.files ≡ content l.fn.files;
+      wear : Wears g.F.Files.failed g.F.Files.can_fail l.fn.files l.files ⊥;
+    }
+
+abbrev pub decreases-loop-item : goal.decreases-loop-item
+decreases-loop-item g l = work (map item_pair l.items.items)

@@ -1,0 +1,93 @@
+-- How far the writing of an index's trees has come: its files and the trees that were stored, as parts of folders
+-- that are open, the lowest folder last.
+use Rattle.std.specs.Prelude.{◌≡◌, ◌↔◌, ℕ, List, [], ◌∷◌, ◌++◌, map, length, ◌-◌, Some, slice_get}
+use Rattle.std.specs.List.{AllByRecursion}
+use Rattle.std.specs.Option.{option_map_or}
+use Rattle.std.specs.FinMap.{get}
+use Rattle.std.specs.Ordering.{nat_cmp}
+use Rattle.std.specs.Cmp.Lexicographic.{slice_cmp}
+use Rattle.std.specs.declared.cmp.Ordering.TheVariants.{Less}
+use Rattle.vc_object.specs.Bytes.{Without}
+use Rattle.vc_object.specs.ObjectMap.{ObjectMap}
+use Rattle.vc_object.specs.Tree.{Entry, IsName, key}
+use Rattle.vc_object.specs.declared.id.ObjectId.{ObjectId}
+use Rattle.vc_object.specs.declared.mode.Mode.{Mode}
+use Rattle.vc_store.specs.Store.{with_objects}
+use Rattle.vc_index.specs.HeldFiles.{Pair, HasFile}
+use Rattle.vc_index.specs.IndexMap.{IndexMap, index_entry}
+use Rattle.vc_index.specs.Part.{EndsInSlash, part_entry, part_pair}
+use Rattle.vc_index.specs.Path.{names_in, IsAbove}
+use Rattle.vc_index.specs.WrittenTrees.{Holds, IsOfFolder, IsPart, AreLowerTrees, tree_object}
+use Rattle.vc_index.specs.declared.trees.Part.{Part}
+
+-- the first text begins the second
+abbrev pub Begins : List ℕ → List ℕ → Type 0
+Begins front text = (rest : List ℕ) × (text ≡ front ++ rest)
+
+-- each part's folder is one of the folders of those behind it
+abbrev pub Nested : List Part → Type 0
+Nested [] = Unit {0}
+Nested (part ∷ parts) = AllByRecursion (λ other. Begins part.folder.now other.folder.now) parts × Nested parts
+
+-- a part has a legal path, cut at its last slash, stands for a file or a folder of the index, and leads to a file of
+-- the index or to a tree that is stored
+pub record IsSoundPart (files : IndexMap) (trees : List (List Entry)) (part : Part) : Type 0 where
+  pub names : AllByRecursion IsName (names_in (part.folder.now ++ part.name.now))
+  pub plain : Without 47 part.name.now
+  pub ends : EndsInSlash part.folder.now
+  pub id : length part.entry.id.0 ≡ 20
+  pub of_folder : IsOfFolder files part.folder.now (part_entry part)
+  pub leads : IsPart files trees (part_entry part)
+
+-- where a pair stands in the order: a folder's path goes as though it ended in `/`
+abbrev pub place : Pair → List ℕ
+place e = key e.1.mode e.0
+
+-- the pair comes before the other, and its path is not that of a folder above the other's
+pub record ComesFirst (e other : Pair) : Type 0 where
+  pub below : slice_cmp nat_cmp (place e) (place other) ≡ Less
+  pub apart : IsAbove e.0 (place other) → ⊥
+
+-- each pair comes before all that follow it
+abbrev pub InPlaces : List Pair → Type 0
+InPlaces [] = Unit {0}
+InPlaces (e ∷ others) = AllByRecursion (ComesFirst e) others × InPlaces others
+
+-- the path is the next one of what is left, if there is one
+abbrev pub IsNext : List ℕ → List Pair → Type 0
+IsNext next [] = Unit {0}
+IsNext next (e ∷ rest) = place e ≡ next
+
+-- the next of what is left, if there is one, lies not in the folder
+abbrev pub IsLeft : List ℕ → List Pair → Type 0
+IsLeft folder [] = Unit {0}
+IsLeft folder (e ∷ rest) = Begins folder (place e) → ⊥
+
+-- the parts, with the trees stored and with what is left, have the files of the index
+pub record Building (files : IndexMap) (trees : List (List Entry)) (parts : List Part) (rest : List Pair) : Type 0 where
+  pub same_files : (objects : ObjectMap) → Holds objects trees → (path : List ℕ) (mode : Mode) (id : ObjectId)
+      → HasFile objects (map part_pair parts ++ rest) path mode id ↔ (get files path ≡ Some (index_entry mode id))
+  pub below : AreLowerTrees files [] trees
+  pub each : AllByRecursion (IsSoundPart files trees) parts
+  pub nested : Nested parts
+  pub order : InPlaces (map part_pair parts ++ rest)
+
+-- the last part's folder is one of the folders of the path
+abbrev pub IsInside : List ℕ → List Part → Type 0
+IsInside path parts = (front : List Part) (part : Part) → parts ≡ front ++ part ∷ [] → Begins part.folder.now path
+
+-- more trees of the index were stored behind these
+pub record Stands (honest : Type 0) (files : IndexMap) (trees : List (List Entry)) (old new : ObjectMap) : Type 0 where
+  pub more : List (List Entry)
+  pub below : AreLowerTrees files [] (trees ++ more)
+  pub stored : honest → new ≡ with_objects old (map tree_object more)
+
+-- more trees were stored behind these, and these are the parts now
+pub record Closes (honest : Type 0) (files : IndexMap) (rest : List Pair) (trees : List (List Entry)) (parts : List Part) (old new : ObjectMap) : Type 0 where
+  pub more : List (List Entry)
+  pub building : Building files (trees ++ more) parts rest
+  pub stored : honest → new ≡ with_objects old (map tree_object more)
+
+-- how long the path of the last part's folder is
+abbrev pub open_length : List Part → ℕ
+open_length parts = option_map_or (λ (part : Part). length part.folder.now) (slice_get parts (length parts - 1)) 0

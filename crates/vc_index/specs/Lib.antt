@@ -1,0 +1,11 @@
+pub mod Path
+pub mod IndexMap
+pub mod IndexFault
+pub mod IndexText
+pub mod TreeFiles
+pub mod WrittenTrees
+pub mod Part
+pub mod HeldFiles
+pub mod Building
+pub mod Loading
+pub mod TreeReading

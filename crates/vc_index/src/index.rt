@@ -1,0 +1,251 @@
+// The index as a finite map from paths to modes and ids.
+ghost use Rattle.std.specs.Prelude.{◌≡◌, ◌≢◌, ◌↔◌, OnOk, OnErr, IfOk, IfErr, IsOk, IsTrue, MatchResult, Result, ◌⊎◌, IsSome, Some, IsErrOf, map, codes, ℕ, List};
+ghost use Rattle.std.specs.FinMap as paths;
+ghost use Rattle.vc_files.specs.Failures.{Wears};
+ghost use Rattle.vc_files.specs.FileMap.{SameOutside};
+ghost use Rattle.vc_store.specs.Store.{objects, IsDamaged};
+ghost use Rattle.vc_object.specs.declared.id.ObjectId.{ObjectId as Id};
+ghost use Rattle.vc_object.specs.declared.mode.Mode.{Mode as ModeValue};
+ghost use Rattle.vc_index.specs.Loading.{HasBlobs, IsOfLoad};
+ghost use Rattle.vc_index.specs.TreeFiles.{IsFileOfTree};
+ghost use Rattle.vc_index.specs.TreeReading.{ReadsAs, TreeFault, tree_fault};
+ghost use Rattle.vc_index.specs.WrittenTrees.{IsWritten, IsBegun, IsOfWrite};
+ghost use Rattle.vc_index.specs.Path.{IsPath, IsAbove};
+ghost use Rattle.vc_index.specs.IndexMap.{HasConflict, HasFileAbove, IndexMap, IsIndex, index_entry, index_of};
+ghost use Rattle.vc_index.specs.IndexFault.{IsOfAdd, IsMemory};
+ghost use Rattle.vc_index.specs.IndexText.{index_text, IsOfRead, TextFault};
+ghost use Rattle.std.specs.Ordering.{nat_cmp};
+ghost use Rattle.std.specs.Cmp.Lexicographic.{slice_cmp};
+
+use crate::loading::load;
+use crate::path::is_path;
+use crate::text::{entry_at, push_entry};
+use crate::trees::write_trees;
+use crate::{IndexEntry, IndexFault};
+use std::alloc::{AllocError, Global};
+use std::cmp::Ordering;
+use std::collections::BTreeMap;
+use std::collections::btree_map::Iter;
+use std::marker::Model;
+use std::ops::Bound;
+use vc_files::{Fault, Files};
+use vc_object::{Mode, ObjectId};
+use vc_store::StoreFault;
+
+/// Files by their paths, sorted by the bytes of the paths. No file's path is the folder of another's.
+#[derive(Drop)]
+pub struct Index {
+    map: BTreeMap<Vec<u8>, IndexEntry>,
+}
+
+impl Model for Index {
+    ghost use Rattle.vc_index.specs.IndexMap.{IndexMap, index_code, IsIndex, index_of};
+
+    ghost Value = { IndexMap };
+
+    ghost coded = { index_code };
+
+    ghost view = { λ s. index_of s.map };
+
+    ghost invariant = { λ s. IsIndex (index_of s.map) };
+}
+
+impl Index {
+    /// An index with no files.
+    pub fn new(alloc: Global) -> Index
+        ensures { result ≡ paths.empty }
+    {
+        Index {
+            map: BTreeMap::new(alloc),
+        }
+    }
+
+    /// The index that a text stands for: an entry for each file, `mode SP id SP 0 TAB path NUL`, in the order of the
+    /// paths, as `git ls-files --stage -z` prints them. Other bytes are refused with the offset of the entry at fault.
+    pub fn read(alloc: Global, bytes: &[u8]) -> Result<Index, IndexFault>
+        ensures ok { IfOk result (λ index. bytes.now ≡ index_text index) }
+        ensures index { IfOk result IsIndex }
+        ensures refused { IfErr result (IsOfRead bytes.now) }
+        ensures again { (m : IndexMap) → IsIndex m → bytes.now ≡ index_text m → MatchResult result (λ index. index ≡ m) IsMemory }
+        ensures only { (place : ℕ) → TextFault bytes.now place → MatchResult result (λ _. ⊥) (λ e. (e ≡ IndexFault.BadIndex place) ⊎ IsMemory e) }
+    {
+        read_text(alloc, bytes)
+    }
+
+    /// The text of the index.
+    pub fn write(&self, alloc: Global) -> Result<Vec<u8>, AllocError>
+        ensures text { IfOk result (λ text. text.items ≡ index_text self.now) }
+        ensures index { IsIndex self.now }
+    {
+        let mut text = Vec::new(alloc);
+        for (path, entry) in &self.map {
+            push_entry(&mut text, path, *entry)?;
+        }
+        Ok(text)
+    }
+
+    /// Stores the trees of the index, the lower ones first, and answers the name of the root's tree. No tree below
+    /// the root is empty; the tree of an index with no files is. A tree whose spelling is over 16,777,216 bytes is 3,
+    /// and no tree of an index is refused for another fault of its bytes.
+    pub fn write_tree<F: Files>(&self, alloc: Global, files: &mut F) -> Result<ObjectId, IndexFault>
+        ensures written { IfOk result (IsWritten F.honest self.now (objects (F.content files.old)) (objects (F.content files.new))) }
+        ensures begun { OnErr result (IsBegun F.honest self.now (objects (F.content files.old)) (objects (F.content files.new))) }
+        ensures refused { IfErr result (IsOfWrite self.now (λ id. F.honest → IsDamaged (F.content files.new) id)) }
+        ensures outside { F.honest → SameOutside (codes "objects/") (F.content files.old) (F.content files.new) }
+        ensures wear { Wears F.failed F.can_fail files.old files.new (IsErrOf result (IndexFault.Store (StoreFault.Fault Fault.Device))) }
+    {
+        write_trees(alloc, files, &self.map)
+    }
+
+    /// The index of the files of a tree. An entry that is a commit of another repository is kept and not followed.
+    /// The tree is walked in the order of the paths, each object read once for each path that leads to it; at one
+    /// entry a path that is too long (60) comes before an object of another kind (63) or one that is absent (40). No
+    /// depth of nesting ends the program, since each level makes the paths longer.
+    pub fn from_tree<F: Files>(
+        alloc: Global,
+        files: &mut F,
+        root: &ObjectId,
+    ) -> Result<Index, IndexFault>
+        ensures files { F.honest → IfOk result (λ index. (path : List ℕ) (mode : ModeValue) (id : Id) → IsFileOfTree (objects (F.content files.old)) root.now path mode id ↔ (paths.get index path ≡ Some (index_entry mode id))) }
+        ensures reading { F.honest → IfOk result (λ index. ReadsAs (objects (F.content files.old)) root.now (Ok index)) }
+        ensures first { F.honest → IfErr result (λ e. (fault : TreeFault) → tree_fault e ≡ Some fault → ReadsAs (objects (F.content files.old)) root.now (Err fault)) }
+        ensures only { F.honest → (v : Result IndexMap TreeFault) → ReadsAs (objects (F.content files.old)) root.now v → MatchResult result (λ index. v ≡ Ok index) (λ e. (fault : TreeFault) → tree_fault e ≡ Some fault → v ≡ Err fault) }
+        ensures blobs { F.honest → IfOk result (λ index. HasBlobs (objects (F.content files.old)) index) }
+        ensures refused { IfErr result (IsOfLoad F.honest (F.content files.old) root.now) }
+        ensures same { F.content files.new ≡ F.content files.old }
+        ensures wear { Wears F.failed F.can_fail files.old files.new (IsErrOf result (IndexFault.Store (StoreFault.Fault Fault.Device))) }
+    {
+        load(alloc, files, root)
+    }
+
+    /// What stands at a path.
+    pub fn get(&self, path: &[u8]) -> Option<IndexEntry>
+        ensures found { result ≡ paths.get self.now path.now }
+        ensures index { IsIndex self.now }
+    {
+        self.map.get(path).copied()
+    }
+
+    /// The files in the order of their paths: each path, and what stands there.
+    pub fn iter(&self) -> Iter<'_, Vec<u8>, IndexEntry>
+        ensures files { map (λ e. (e.0.items, e.1)) result ≡ paths.entries self.now }
+        ensures index { IsIndex self.now }
+    {
+        self.map.iter()
+    }
+
+    /// Puts a file, a link or a commit of another repository at a path, in place of what stands there. A path that
+    /// may not stand in a tree (60) is refused before one that conflicts with a file of the index (61).
+    pub fn add(
+        &mut self,
+        alloc: Global,
+        path: &[u8],
+        mode: Mode,
+        id: ObjectId,
+    ) -> Result<(), IndexFault>
+        requires { mode ≢ Mode.Tree }
+        ensures ok { OnOk result (self.new ≡ paths.insert self.old path.now (index_entry mode id)) }
+        ensures legal { IsOk result → IsPath path.now }
+        ensures free { IsOk result → ¬ (HasConflict self.old path.now) }
+        ensures refused { IfErr result (IsOfAdd self.old path.now) }
+        ensures err { OnErr result (self.new ≡ self.old) }
+    {
+        let id = id.named();
+        if !is_path(path) {
+            return Err(IndexFault::BadPath);
+        }
+        if has_conflict(alloc, &self.map, path)? {
+            return Err(IndexFault::PathConflict);
+        }
+        let key = path.to_vec(alloc)?;
+        self.map.insert(key, IndexEntry { mode, id })?;
+        Ok(())
+    }
+
+    /// Takes away what stands at a path. Where nothing stands, nothing changes.
+    pub fn remove(&mut self, path: &[u8])
+        ensures { self.new ≡ paths.remove self.old path.now }
+    {
+        let _ = self.map.remove(path);
+    }
+}
+
+// Whether a folder above the path is a file of the map.
+fn has_file_above(map: &BTreeMap<Vec<u8>, IndexEntry>, path: &[u8]) -> bool
+    ensures { IsTrue result ↔ HasFileAbove (index_of map.now) path.now }
+{
+    for (i, byte) in path.iter().enumerate() {
+        if *byte == b'/' && map.contains_key(&path[..i]) {
+            return true;
+        }
+    }
+    false
+}
+
+// Whether a path may stand behind all paths of the map, of which `last` is the last.
+fn may_follow(map: &BTreeMap<Vec<u8>, IndexEntry>, last: &[u8], path: &[u8]) -> bool
+    ensures { IsTrue result ↔ ((slice_cmp nat_cmp last.now path.now ≡ Ordering.Less) × IsPath path.now × ¬ (HasFileAbove (index_of map.now) path.now)) }
+{
+    if last.cmp(path) != Ordering::Less || !is_path(path) {
+        return false;
+    }
+    !has_file_above(map, path)
+}
+
+// Whether a file of the map lies in the path as a folder.
+fn has_file_below(
+    alloc: Global,
+    map: &BTreeMap<Vec<u8>, IndexEntry>,
+    path: &[u8],
+) -> Result<bool, AllocError>
+    ensures { IfOk result (λ below. IsTrue below ↔ ((other : List ℕ) × IsSome (paths.get (index_of map.now) other) × IsAbove path.now other)) }
+{
+    let mut folder = path.to_vec(alloc)?;
+    folder.push(b'/')?;
+    match map
+        .range((Bound::Included(&folder), Bound::Unbounded))
+        .next()
+    {
+        Some((first, _)) => Ok(first.as_slice().starts_with(&folder)),
+        None => Ok(false),
+    }
+}
+
+// Whether a file of the map is a folder of the path, or lies in the path as a folder.
+fn has_conflict(
+    alloc: Global,
+    map: &BTreeMap<Vec<u8>, IndexEntry>,
+    path: &[u8],
+) -> Result<bool, AllocError>
+    ensures { IfOk result (λ conflict. IsTrue conflict ↔ HasConflict (index_of map.now) path.now) }
+{
+    if has_file_above(map, path) {
+        return Ok(true);
+    }
+    let below = has_file_below(alloc, map, path)?;
+    Ok(below)
+}
+
+// The index that a text stands for.
+fn read_text(alloc: Global, bytes: &[u8]) -> Result<Index, IndexFault>
+    ensures ok { IfOk result (λ index. bytes.now ≡ index_text index) }
+    ensures index { IfOk result IsIndex }
+    ensures refused { IfErr result (IsOfRead bytes.now) }
+{
+    let mut map = BTreeMap::new(alloc);
+    let mut last: &[u8] = b"";
+    let mut rest = bytes;
+    while !rest.is_empty() {
+        let place = bytes.len() - rest.len();
+        let Some((path, entry, after)) = entry_at(rest) else {
+            return Err(IndexFault::BadIndex(place));
+        };
+        if !may_follow(&map, last, path) {
+            return Err(IndexFault::BadIndex(place));
+        }
+        map.insert(path.to_vec(alloc)?, entry)?;
+        last = path;
+        rest = after;
+    }
+    Ok(Index { map })
+}

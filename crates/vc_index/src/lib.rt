@@ -1,0 +1,18 @@
+//! The index: the files of the next commit, by their paths, and how trees stand for them.
+#![tactic(auto)]
+
+mod entry;
+mod faults;
+mod index;
+mod loading;
+mod path;
+mod text;
+mod trees;
+
+pub use entry::IndexEntry;
+pub use faults::IndexFault;
+pub use index::Index;
+pub use path::MAX_PATH;
+
+#[cfg(test)]
+mod tests;

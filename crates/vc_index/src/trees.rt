@@ -1,0 +1,173 @@
+// The trees that an index is written as.
+ghost use Rattle.std.specs.Prelude.{◌≡◌, ◌≢◌, ◌<◌, ◌≤◌, ◌-◌, ◌++◌, ◌∷◌, [], ◌⊎◌, ℕ, List, Some, length, drop, take, map, codes, slice_get, option_map, IfOk, IfErr, OnOk, OnErr, IsErrOf};
+ghost use Rattle.std.specs.List.{AllByRecursion};
+ghost use Rattle.vc_files.specs.Failures.{Wears};
+ghost use Rattle.vc_files.specs.FileMap.{SameOutside};
+ghost use Rattle.vc_object.specs.Bytes.{Without};
+ghost use Rattle.vc_object.specs.Tree.{Entry, spelling};
+ghost use Rattle.vc_store.specs.Store.{objects, IsDamaged};
+ghost use Rattle.vc_index.specs.Building.{Building, Closes, Stands, IsInside, IsLeft, IsNext, open_length};
+ghost use Rattle.vc_index.specs.HeldFiles.{Pair};
+ghost use Rattle.vc_index.specs.IndexMap.{IndexMap, IsIndex, index_of};
+ghost use Rattle.vc_index.specs.Part.{EndsInSlash, part_entry};
+ghost use Rattle.vc_index.specs.WrittenTrees.{IsWritten, IsBegun, IsOfWrite};
+ghost use Rattle.vc_index.specs.declared.trees.Part.{Part};
+
+use crate::{IndexEntry, IndexFault};
+use std::alloc::{AllocError, Global};
+use std::collections::BTreeMap;
+use vc_files::{Fault, Files};
+use vc_object::{Kind, Mode, ObjectId};
+use vc_store::StoreFault;
+
+/// A file, or a folder whose tree is stored: the folder above it, which ends in `/` or is empty, and its name.
+#[derive(Clone, Copy)]
+pub(crate) struct Part<'a> {
+    folder: &'a [u8],
+    name: &'a [u8],
+    entry: IndexEntry,
+}
+
+// What a path has up to its last `/`, and what follows.
+fn split_path(path: &[u8]) -> (&[u8], &[u8])
+    ensures is { path.now ≡ result.0.now ++ result.1.now }
+    ensures name { Without 47 result.1.now }
+    ensures folder { EndsInSlash result.0.now }
+{
+    let mut end = path.len();
+    while end > 0 && path[end - 1] != b'/' {
+        end -= 1;
+    }
+    path.split_at(end)
+}
+
+// The entries of a folder's tree, spelled.
+fn tree_body(alloc: Global, parts: &[Part<'_>]) -> Result<Vec<u8>, AllocError>
+    ensures { IfOk result (λ body. body.items ≡ spelling (map part_entry parts.now)) }
+{
+    let mut body = Vec::new(alloc);
+    for part in parts {
+        body.extend_from_slice(part.entry.mode.text())?;
+        body.push(b' ')?;
+        body.extend_from_slice(part.name)?;
+        body.push(0)?;
+        body.extend_from_slice(&part.entry.id.0)?;
+    }
+    Ok(body)
+}
+
+// Where the parts of the last folder begin: those before lie in folders above it.
+fn start_of(parts: &[Part<'_>], folder: &[u8]) -> usize
+    ensures bound { result ≤ length parts.now }
+    ensures inside { AllByRecursion (λ part. length part.folder.now ≡ length folder.now) (drop result parts.now) }
+    ensures above { (front : List Part) (part : Part) → take result parts.now ≡ front ++ part ∷ [] → length part.folder.now ≢ length folder.now }
+{
+    let mut start = parts.len();
+    while start > 0 && parts[start - 1].folder.len() == folder.len() {
+        start -= 1;
+    }
+    start
+}
+
+// Stores the tree of the last folder, and puts the tree in place of the folder's parts.
+fn close_folder<'a, F: Files>(
+    alloc: Global,
+    files: &mut F,
+    parts: &mut Vec<Part<'a>>,
+    folder: &'a [u8],
+) -> Result<(), IndexFault>
+    requires last { option_map (λ part. part.folder.now) (slice_get parts.old.items (length parts.old.items - 1)) ≡ Some folder.now }
+    requires some { 0 < length folder.now }
+    ensures closes { (m : IndexMap) (trees : List (List Entry)) (rest : List Pair) → IsLeft folder.now rest → Building m trees parts.old.items rest → OnOk result (Closes F.honest m rest trees parts.new.items (objects (F.content files.old)) (objects (F.content files.new))) }
+    ensures stands { (m : IndexMap) (trees : List (List Entry)) (rest : List Pair) → Building m trees parts.old.items rest → Stands F.honest m trees (objects (F.content files.old)) (objects (F.content files.new)) }
+    ensures shorter { OnOk result (open_length parts.new.items < length folder.now) }
+    ensures refused { (m : IndexMap) (trees : List (List Entry)) (rest : List Pair) → Building m trees parts.old.items rest → IfErr result (IsOfWrite m (λ id. F.honest → IsDamaged (F.content files.new) id)) }
+    ensures outside { F.honest → SameOutside (codes "objects/") (F.content files.old) (F.content files.new) }
+    ensures wear { Wears F.failed F.can_fail files.old files.new (IsErrOf result (IndexFault.Store (StoreFault.Fault Fault.Device))) }
+{
+    let start = start_of(parts, folder);
+    let body = tree_body(alloc, parts.as_slice().split_at(start).1)?;
+    let stored = vc_store::put(files, alloc, Kind::Tree, &body)?;
+    let id = stored.named();
+    let (above, name) = split_path(folder.split_at(folder.len() - 1).0);
+    parts.truncate(start);
+    let mode = Mode::Tree;
+    parts.push(Part {
+        folder: above,
+        name,
+        entry: IndexEntry { mode, id },
+    })?;
+    Ok(())
+}
+
+// Stores the trees of the last folders, as long as the next path lies not in them.
+fn close_folders<F: Files>(
+    alloc: Global,
+    files: &mut F,
+    parts: &mut Vec<Part<'_>>,
+    next: &[u8],
+) -> Result<(), IndexFault>
+    ensures closes { (m : IndexMap) (trees : List (List Entry)) (rest : List Pair) → IsNext next.now rest → Building m trees parts.old.items rest → OnOk result (Closes F.honest m rest trees parts.new.items (objects (F.content files.old)) (objects (F.content files.new))) }
+    ensures inside { OnOk result (IsInside next.now parts.new.items) }
+    ensures stands { (m : IndexMap) (trees : List (List Entry)) (rest : List Pair) → IsNext next.now rest → Building m trees parts.old.items rest → Stands F.honest m trees (objects (F.content files.old)) (objects (F.content files.new)) }
+    ensures refused { (m : IndexMap) (trees : List (List Entry)) (rest : List Pair) → IsNext next.now rest → Building m trees parts.old.items rest → IfErr result (IsOfWrite m (λ id. F.honest → IsDamaged (F.content files.new) id)) }
+    ensures outside { F.honest → SameOutside (codes "objects/") (F.content files.old) (F.content files.new) }
+    ensures wear { Wears F.failed F.can_fail files.old files.new (IsErrOf result (IndexFault.Store (StoreFault.Fault Fault.Device))) }
+{
+    while let Some(last) = parts.last() {
+        let folder = last.folder;
+        if next.starts_with(folder) {
+            return Ok(());
+        }
+        close_folder(alloc, files, parts, folder)?;
+    }
+    Ok(())
+}
+
+// Cuts the paths of an index into the parts of its root, and stores the trees of all folders below.
+fn root_parts<'a, F: Files>(
+    alloc: Global,
+    files: &mut F,
+    map: &'a BTreeMap<Vec<u8>, IndexEntry>,
+) -> Result<Vec<Part<'a>>, IndexFault>
+    requires { IsIndex (index_of map.now) }
+    ensures closed { IfOk result (λ parts. Closes F.honest (index_of map.now) [] [] parts.items (objects (F.content files.old)) (objects (F.content files.new))) }
+    ensures inside { IfOk result (λ parts. IsInside [] parts.items) }
+    ensures stands { Stands F.honest (index_of map.now) [] (objects (F.content files.old)) (objects (F.content files.new)) }
+    ensures refused { IfErr result (IsOfWrite (index_of map.now) (λ id. F.honest → IsDamaged (F.content files.new) id)) }
+    ensures outside { F.honest → SameOutside (codes "objects/") (F.content files.old) (F.content files.new) }
+    ensures wear { Wears F.failed F.can_fail files.old files.new (IsErrOf result (IndexFault.Store (StoreFault.Fault Fault.Device))) }
+{
+    let mut parts = Vec::new(alloc);
+    for (path, entry) in map {
+        close_folders(alloc, files, &mut parts, path)?;
+        let (folder, name) = split_path(path);
+        let entry = *entry;
+        parts.push(Part {
+            folder,
+            name,
+            entry,
+        })?;
+    }
+    close_folders(alloc, files, &mut parts, b"")?;
+    Ok(parts)
+}
+
+/// Stores the trees of an index, the lower ones first, and answers the root's name.
+pub(crate) fn write_trees<F: Files>(
+    alloc: Global,
+    files: &mut F,
+    map: &BTreeMap<Vec<u8>, IndexEntry>,
+) -> Result<ObjectId, IndexFault>
+    requires { IsIndex (index_of map.now) }
+    ensures written { IfOk result (IsWritten F.honest (index_of map.now) (objects (F.content files.old)) (objects (F.content files.new))) }
+    ensures begun { OnErr result (IsBegun F.honest (index_of map.now) (objects (F.content files.old)) (objects (F.content files.new))) }
+    ensures refused { IfErr result (IsOfWrite (index_of map.now) (λ id. F.honest → IsDamaged (F.content files.new) id)) }
+    ensures outside { F.honest → SameOutside (codes "objects/") (F.content files.old) (F.content files.new) }
+    ensures wear { Wears F.failed F.can_fail files.old files.new (IsErrOf result (IndexFault.Store (StoreFault.Fault Fault.Device))) }
+{
+    let parts = root_parts(alloc, files, map)?;
+    let body = tree_body(alloc, &parts)?;
+    let id = vc_store::put(files, alloc, Kind::Tree, &body)?;
+    Ok(id)
+}
