@@ -1,0 +1,182 @@
+-- Sets of paths, and lists of them.
+use Rattle.std.proofs.Common.{◌≡◌, ℕ, ◌<◌, ◌+◌, Bool, true, false, not, ◌||◌, ◌&&◌, List, [], ◌∷◌, ◌++◌, map, take, length, get_or, Option, Some, None, sym, ap, refl, ◌∙◌, subst, IsTrue, ◌↔◌, ◌⊎◌, inl, inr}
+use Rattle.std.specs.Prelude.{Vec, String, string_bytes, IsSome, is_some, IsUtf8}
+use Rattle.std.specs.Global.{Global}
+use Rattle.std.specs.BTreeSet.{BTreeSet, UpdatesBy}
+use Rattle.std.specs.BTreeMap.{is_at}
+use Rattle.std.specs.Set.{KeepsOthers}
+use Rattle.std.specs.FinMap as maps
+use Rattle.std.specs.FinMap.{contains_key-keys}
+use Rattle.std.specs.Ordering.{nat_cmp, is_eq, eq_by_cmp}
+use Rattle.std.specs.declared.cmp.Ordering.TheVariants.{Less}
+use Rattle.std.specs.Cmp.{eq_by_cmp_equiv}
+use Rattle.std.specs.Cmp.Lexicographic.{slice_cmp, nat_list_cmp_total}
+use Rattle.std.specs.List.{list_any, AllByRecursion}
+use Rattle.std.specs.List.Sorted.{IsStrictlySortedBy}
+use Rattle.std.proofs.lemmas.Bool.{false_from_ne_true}
+use Rattle.std.proofs.lemmas.List.{map_more}
+use Rattle.std.proofs.lemmas.List.Folds.{list_any-append}
+use Rattle.std.proofs.lemmas.Str.{IsUtf8-string_bytes}
+use Rattle.vc_files.specs.FileMap.{FileMap}
+use Rattle.vc_index.specs.IndexMap.{IndexMap}
+use Rattle.vc_index.specs.declared.entry.IndexEntry.{IndexEntry}
+use Rattle.vc_index.proofs.MapLemmas.{key_cmp, same_text, is_eq-same}
+use Rattle.vc_checkout.specs.WorkTree.{has_path, HasTextPaths, IsUntracked}
+
+abbrev pub Paths : Type 0
+Paths = BTreeSet (Vec ℕ Global)
+
+-- whether two paths are the same
+abbrev pub is_same : List ℕ → List ℕ → Bool
+is_same = eq_by_cmp (slice_cmp nat_cmp)
+
+-- whether a path is one of the list
+abbrev pub is_listed : List ℕ → List (List ℕ) → Bool
+is_listed path paths = list_any (is_same path) paths
+
+pub has_path-none : (paths : Paths) → paths.keys ≡ [] → (q : List ℕ) → has_path paths q ≡ false
+has_path-none paths none q = ap (λ keys. list_any (is_at (λ (k : Vec ℕ Global). slice_cmp nat_cmp q k.items)) keys) none
+
+-- a path more
+pub has_path-more : (m n : Paths) (k : List ℕ) → UpdatesBy key_cmp (λ s. slice_cmp nat_cmp k s.items) m n true → (q : List ℕ) → has_path n q ≡ (is_same q k || has_path m q)
+unfolding KeepsOthers
+has_path-more m n k change q =
+    elim (is_same q k) as (λ b. is_same q k ≡ b → has_path n q ≡ (b || has_path m q)) [
+      | true ↦ λ same. ap (has_path n) (same_text q k same) ∙ change.1
+      | false ↦ λ other.
+          change.3 (is_at (λ s. slice_cmp nat_cmp q s.items))
+          (λ x y. (eq_by_cmp_equiv nat_list_cmp_total).congr q x.items y.items)
+          (λ x at. false_from_ne_true _ (λ too.
+          let e : q ≡ k = same_text q x.items too ∙ sym (same_text k x.items at) in
+          let f : is_eq (slice_cmp nat_cmp q k) ≡ true = ap (λ t. is_eq (slice_cmp nat_cmp q t)) (sym e) ∙ is_eq-same q in
+          cc (f, other)))
+    ] refl
+
+-- a path that was in the rest is now in the set
+pub moved : (a b c : Bool) → ((b || a) || c) ≡ (a || (b || c))
+moved true true c = refl
+moved true false c = refl
+moved false b c = elim b as (λ b. ((b || false) || c) ≡ (b || c)) [ true ↦ refl | false ↦ refl ]
+
+or_false : (a : Bool) → (a || false) ≡ a
+or_false true = refl
+or_false false = refl
+
+pub or-nothing : (a : Bool) (q : List ℕ) (paths : List (List ℕ)) → paths ≡ [] → (a || is_listed q paths) ≡ a
+or-nothing a q paths none = ap (λ ps. a || is_listed q ps) none ∙ or_false a
+
+-- one path more of those that are listed
+pub listed_more : (all : List (String Global)) (i : ℕ) (path : String Global) → i < length all → path ≡ get_or all i path → (q : List ℕ)
+    → is_listed q (map string_bytes (take (i + 1) all)) ≡ (is_listed q (map string_bytes (take i all)) || is_same q (string_bytes path))
+listed_more all i path inside is q =
+    ap (is_listed q) (map_more string_bytes all i path inside ∙ ap (λ s. map string_bytes (take i all) ++ string_bytes s ∷ []) (sym is))
+    ∙ list_any-append (is_same q) (map string_bytes (take i all)) (string_bytes path ∷ [])
+    ∙ ap (λ b. is_listed q (map string_bytes (take i all)) || b) (or_false (is_same q (string_bytes path)))
+
+-- the paths of a map are text, where they are those of strings
+pub text_paths : (work : FileMap) (all : List (String Global)) → map string_bytes all ≡ maps.keys work → HasTextPaths work
+text_paths work all is path some =
+    among path all (ap (is_listed path) is ∙ sym (contains_key-keys work path) ∙ some)
+  where
+    among : (path : List ℕ) (all : List (String Global)) → is_listed path (map string_bytes all) ≡ true → IsUtf8 path
+    among path [] e = cc e
+    among path (s ∷ all) e = elim (is_same path (string_bytes s)) as (λ b. is_same path (string_bytes s) ≡ b → (b || is_listed path (map string_bytes all)) ≡ true → IsUtf8 path) [
+      | true ↦ λ same _. subst IsUtf8 (sym (same_text path (string_bytes s) same)) (IsUtf8-string_bytes s)
+      | false ↦ λ _ later. among path all later
+    ] refl e
+
+-- the paths of an index's entries
+pub entry_paths : (es : List (Vec ℕ Global × IndexEntry)) (m : IndexMap) → map (λ e. (e.0.items, e.1)) es ≡ maps.entries m → (q : List ℕ) → is_listed q (map (λ e. e.0.items) es) ≡ is_some (maps.get m q)
+entry_paths es m is q = ap (is_listed q) (firsts es ∙ ap (map (λ (e : List ℕ × IndexEntry). e.0)) is) ∙ sym (contains_key-keys m q)
+  where
+    firsts : (es : List (Vec ℕ Global × IndexEntry)) → map (λ e. e.0.items) es ≡ map (λ (e : List ℕ × IndexEntry). e.0) (map (λ e. (e.0.items, e.1)) es)
+    firsts [] = refl
+    firsts (e ∷ es) = ap (λ rest. e.0.items ∷ rest) (firsts es)
+
+-- one path goes from the rest into the set
+pub path_moved : (m n : Paths) (k : List ℕ) (before rest : List (List ℕ)) → UpdatesBy key_cmp (λ s. slice_cmp nat_cmp k s.items) m n true → before ≡ k ∷ rest → (q : List ℕ)
+    → (has_path n q || is_listed q rest) ≡ (has_path m q || is_listed q before)
+path_moved m n k before rest change first q =
+    ap (λ b. b || is_listed q rest) (has_path-more m n k change q) ∙ moved (has_path m q) (is_same q k) (is_listed q rest) ∙ ap (λ ps. has_path m q || is_listed q ps) (sym first)
+
+-- a listed path that the index lacks is one more that was found
+pub found_more : (m n : Paths) (index : IndexMap) (all : List (String Global)) (i : ℕ) (path : String Global) → i < length all → path ≡ get_or all i path → is_some (maps.get index (string_bytes path)) ≡ false
+    → UpdatesBy key_cmp (λ s. slice_cmp nat_cmp (string_bytes path) s.items) m n true → (q : List ℕ)
+    → has_path m q ≡ (is_listed q (map string_bytes (take i all)) && not (is_some (maps.get index q)))
+    → has_path n q ≡ (is_listed q (map string_bytes (take (i + 1) all)) && not (is_some (maps.get index q)))
+found_more m n index all i path inside is lacks change q before =
+    has_path-more m n (string_bytes path) change q ∙ ap (λ b. is_same q (string_bytes path) || b) before
+    ∙ by_test (is_same q (string_bytes path)) (is_listed q (map string_bytes (take i all))) (is_some (maps.get index q)) (λ same. ap (λ p. is_some (maps.get index p)) (same_text q (string_bytes path) same) ∙ lacks)
+    ∙ ap (λ b. b && not (is_some (maps.get index q))) (sym (listed_more all i path inside is q))
+  where
+    by_test : (s l h : Bool) → (s ≡ true → h ≡ false) → (s || (l && not h)) ≡ ((l || s) && not h)
+    by_test true true true f = let e = f refl in cc e
+    by_test true true false f = refl
+    by_test true false true f = let e = f refl in cc e
+    by_test true false false f = refl
+    by_test false true h f = refl
+    by_test false false h f = refl
+
+-- a listed path that the index has is not found
+pub found_same : (found : Paths) (index : IndexMap) (all : List (String Global)) (i : ℕ) (path : String Global) → i < length all → path ≡ get_or all i path → is_some (maps.get index (string_bytes path)) ≡ true → (q : List ℕ)
+    → has_path found q ≡ (is_listed q (map string_bytes (take i all)) && not (is_some (maps.get index q)))
+    → has_path found q ≡ (is_listed q (map string_bytes (take (i + 1) all)) && not (is_some (maps.get index q)))
+found_same found index all i path inside is has q before =
+    before ∙ by_test (is_same q (string_bytes path)) (is_listed q (map string_bytes (take i all))) (is_some (maps.get index q)) (λ same. ap (λ p. is_some (maps.get index p)) (same_text q (string_bytes path) same) ∙ has)
+    ∙ ap (λ b. b && not (is_some (maps.get index q))) (sym (listed_more all i path inside is q))
+  where
+    by_test : (s l h : Bool) → (s ≡ true → h ≡ true) → (l && not h) ≡ ((l || s) && not h)
+    by_test true true h f = refl
+    by_test true false true f = refl
+    by_test true false false f = let e = f refl in cc e
+    by_test false true h f = refl
+    by_test false false h f = refl
+
+-- what was found at the end are the untracked files
+pub all_found : (found : Paths) (index : IndexMap) (work : FileMap) (all : List (String Global)) (i : ℕ) → take i all ≡ all → map string_bytes all ≡ maps.keys work
+    → ((q : List ℕ) → has_path found q ≡ (is_listed q (map string_bytes (take i all)) && not (is_some (maps.get index q))))
+    → (q : List ℕ) → IsTrue (has_path found q) ↔ IsUntracked index work q
+all_found found index work all i whole is so_far q =
+    by_options (maps.get work q) (maps.get index q) (has_path found q)
+    (so_far q ∙ ap (λ l. is_listed q (map string_bytes l) && not (is_some (maps.get index q))) whole ∙ ap (λ l. is_listed q l && not (is_some (maps.get index q))) is ∙ ap (λ b. b && not (is_some (maps.get index q))) (sym (contains_key-keys work q)))
+  where
+    by_options : (w : Option (List ℕ)) (e : Option IndexEntry) (b : Bool) → b ≡ (is_some w && not (is_some e)) → IsTrue b ↔ (IsSome w × (e ≡ None))
+    by_options (Some w) None b h = (λ _. (refl, refl), λ _. h)
+    by_options (Some w) (Some e) b h = (λ t. cc (h, t), λ (s, n). cc n)
+    by_options None e b h = (λ t. cc (h, t), λ (s, n). cc s)
+
+-- the paths of a set
+pub set_paths : (ks : List (Vec ℕ Global)) (paths : Paths) → ks ≡ paths.keys → (q : List ℕ) → is_listed q (map (λ k. k.items) ks) ≡ has_path paths q
+set_paths ks paths is q = test_of ks ∙ ap (λ l. list_any (is_at (λ (k : Vec ℕ Global). slice_cmp nat_cmp q k.items)) l) is
+  where
+    test_of : (ks : List (Vec ℕ Global)) → is_listed q (map (λ k. k.items) ks) ≡ list_any (is_at (λ (k : Vec ℕ Global). slice_cmp nat_cmp q k.items)) ks
+    test_of [] = refl
+    test_of (k ∷ ks) = ap (λ b. is_same q k.items || b) (test_of ks)
+
+-- the paths of a set are in order
+pub set_sorted : (ks : List (Vec ℕ Global)) → IsStrictlySortedBy key_cmp ks → IsStrictlySortedBy (slice_cmp nat_cmp) (map (λ k. k.items) ks)
+unfolding IsStrictlySortedBy
+set_sorted [] sorted = tt
+set_sorted (k ∷ ks) sorted = (first ks sorted.0, set_sorted ks sorted.1)
+  where
+    first : (ks : List (Vec ℕ Global)) → AllByRecursion (λ y. key_cmp k y ≡ Less) ks → AllByRecursion (λ y. slice_cmp nat_cmp k.items y ≡ Less) (map (λ k. k.items) ks)
+    first [] all = tt
+    first (y ∷ ks) all = (all.0, first ks all.1)
+
+-- the paths of an index, of a tree and of the untracked files are in the set of all
+pub all_listed : (ks : List (Vec ℕ Global)) (all untracked : Paths) (index tree : IndexMap) (work : FileMap) → ks ≡ all.keys
+    → ((q : List ℕ) → has_path all q ≡ ((has_path untracked q || is_some (maps.get index q)) || is_some (maps.get tree q)))
+    → ((q : List ℕ) → IsTrue (has_path untracked q) ↔ IsUntracked index work q)
+    → (q : List ℕ) → ((is_some (maps.get index q) || is_some (maps.get tree q)) ≡ true) ⊎ IsUntracked index work q → is_listed q (map (λ k. k.items) ks) ≡ true
+all_listed ks all untracked index tree work is whole exact q some =
+    set_paths ks all is q ∙ whole q ∙ by_test (has_path untracked q) (is_some (maps.get index q)) (is_some (maps.get tree q)) (which some)
+  where
+    which : ((is_some (maps.get index q) || is_some (maps.get tree q)) ≡ true) ⊎ IsUntracked index work q → (has_path untracked q ≡ true) ⊎ ((is_some (maps.get index q) || is_some (maps.get tree q)) ≡ true)
+    which (inl known) = inr known
+    which (inr loose) = inl ((exact q).1 loose)
+
+    by_test : (u i t : Bool) → (u ≡ true) ⊎ ((i || t) ≡ true) → ((u || i) || t) ≡ true
+    by_test true i t h = refl
+    by_test false true t h = refl
+    by_test false false t (inl h) = cc h
+    by_test false false t (inr h) = h

@@ -1,0 +1,41 @@
+use Rattle.std.proofs.Common.{rules, ◌≡◌, ◌≢◌, ap, ◌∙◌, inr, Option, List, ℕ}
+use Rattle.std.specs.FinMap as files
+use Rattle.vc_object.specs.declared.mode.Mode.TheVariants as modes
+use Rattle.vc_store.specs.Store.{objects}
+use Rattle.vc_checkout.specs.CheckedOut.{file_of}
+use Rattle.vc_checkout.specs.CheckoutFault.{IsFault}
+use Rattle.vc_checkout.specs.declared.faults.CheckoutFault.{CheckoutFault}
+use Rattle.vc_checkout.proofs.ApplyLemmas.{step_removed, step_put, file_commit, file_blob, has_blob}
+use Rattle.vc_checkout.proofs.ClearLemmas.{if_err, on_err}
+use Rattle.vc_checkout.proofs.apply.put_in.Goals as goal
+
+pub returns-in_err-make_folder-clause-begun : goal.returns-in_err-make_folder-clause-begun
+returns-in_err-make_folder-clause-begun g c = λ honest stored.
+    let old = g.T.WorkTree.content c.args.work.now in
+    let all = objects (g.F.Files.content c.args.files.now) in
+    let text : c.in-Ok.text.now ≡ c.args.path.now = search rules in
+    on_err _ _ (inr (step_removed (λ (_ after : Option (List ℕ)). after ≡ file_of all c.args.entry.mode c.args.entry.id) c.args.path.now old _
+    (c.make_folder.ensures.same ∙ c.in_ok-remove.ensures.ok honest ∙ ap (files.remove old) text) (file_commit all c.args.entry.mode c.args.entry.id (search rules))))
+
+pub returns-then-eq-clause-done : goal.returns-then-eq-clause-done
+returns-then-eq-clause-done g c = λ honest stored.
+    let old = g.T.WorkTree.content c.args.work.now in
+    let all = objects (g.F.Files.content c.args.files.now) in
+    let text : c.in-Ok.text.now ≡ c.args.path.now = search rules in
+    step_removed (λ (_ after : Option (List ℕ)). after ≡ file_of all c.args.entry.mode c.args.entry.id) c.args.path.now old _
+    (c.make_folder.ensures.same ∙ c.in_ok-remove.ensures.ok honest ∙ ap (files.remove old) text) (file_commit all c.args.entry.mode c.args.entry.id (search rules))
+
+pub returns-in_err-body-clause-refused : goal.returns-in_err-body-clause-refused
+returns-in_err-body-clause-refused g c =
+    let other : c.args.entry.mode ≢ modes.Commit = search rules in
+    if_err c.from_residual-in_err-body.result c.in_err-body.field-0.0 (λ (e : CheckoutFault). g.F.Files.honest → IsFault e) (search rules) (λ stored. c.in_err-body.ensures.refused stored (has_blob (objects (g.F.Files.content c.args.files.now)) c.args.entry (c.requires.blob stored) other))
+
+pub returns-clause-done : goal.returns-clause-done
+returns-clause-done g c = λ honest stored.
+    let old = g.T.WorkTree.content c.args.work.now in
+    let all = objects (g.F.Files.content c.args.files.now) in
+    let text : c.in-Ok.text.now ≡ c.args.path.now = search rules in
+    let bytes : c.deref.result.now ≡ c.in_ok-body.body.items = search rules in
+    let other : c.args.entry.mode ≢ modes.Commit = search rules in
+    step_put (λ (_ after : Option (List ℕ)). after ≡ file_of all c.args.entry.mode c.args.entry.id) c.args.path.now c.in_ok-body.body.items old _
+    (c.in_ok-write.ensures.ok honest ∙ ap (λ p. files.insert old p c.deref.result.now) text ∙ ap (files.insert old c.args.path.now) bytes) (file_blob all c.args.entry.mode c.args.entry.id c.in_ok-body.body.items other (c.in_ok-body.ensures.body stored))

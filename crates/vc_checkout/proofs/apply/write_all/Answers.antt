@@ -1,0 +1,46 @@
+use Rattle.std.proofs.Common.{rules, ◌≡◌, ◌∷◌, map, refl, subst, List, ℕ}
+use Rattle.std.specs.FinMap.{get}
+use Rattle.vc_files.specs.FileMap.{FileMap}
+use Rattle.vc_store.specs.Store.{objects}
+use Rattle.vc_checkout.specs.CheckedOut.{IsWritten, StepAt, StepOrNone}
+use Rattle.vc_checkout.proofs.ApplyLemmas.{working_start, working_more, working_stop, written_again, written_none, no_entry}
+use Rattle.vc_checkout.proofs.apply.write_all.Goals as goal
+
+pub loop-path-init : goal.loop-path-init
+loop-path-init g c =
+    let i = λ (q : List ℕ). get c.args.index.now q in
+    let t = λ (q : List ℕ). get c.args.tree.now q in
+    let old = g.T.WorkTree.content c.args.work.now in
+    let all = objects (g.F.Files.content c.args.files.now) in
+    record {
+      working = λ honest stored. working_start (λ q. IsWritten all (i q) (t q)) (λ q. written_again all (i q) (t q)) old old _ refl
+          (λ q lacks. written_none all (i q) (t q) (get old q) (no_entry c.into_iter-path-iterator.result c.args.tree.now (search rules) q lacks));
+      same = refl;
+      wear = search rules;
+    }
+
+pub loop-path-preserved : goal.loop-path-preserved
+loop-path-preserved g c =
+    let i = λ (q : List ℕ). get c.args.index.now q in
+    let t = λ (q : List ℕ). get c.args.tree.now q in
+    let old = g.T.WorkTree.content c.args.work.now in
+    let mid = g.T.WorkTree.content c.loop-path.work in
+    let now = g.T.WorkTree.content c.write_path.new.work in
+    let all = objects (g.F.Files.content c.args.files.now) in
+    let path = c.deref.result.now in
+    let first : map (λ e. e.0.items) c.loop-path.path-iterator ≡ path ∷ map (λ e. e.0.items) c.next.new.self = search rules in
+    record {
+      working = λ honest stored. working_more (λ q. IsWritten all (i q) (t q)) (λ q. written_again all (i q) (t q)) old mid now _ _ path first
+          (subst (λ (f : FileMap). StepAt (IsWritten (objects f) (get c.args.index.now path) (get c.args.tree.now path)) path mid now) c.loop-path.invariant.same (c.in_ok-write_path.ensures.done honest stored)) (c.loop-path.invariant.working honest stored);
+      same = search rules;
+      wear = search rules;
+    }
+
+pub returns-in_err-write_path-clause-begun : goal.returns-in_err-write_path-clause-begun
+returns-in_err-write_path-clause-begun g c = λ honest stored.
+    let mid = g.T.WorkTree.content c.loop-path.work in
+    let now = g.T.WorkTree.content c.write_path.new.work in
+    let all = objects (g.F.Files.content c.args.files.now) in
+    let path = c.deref.result.now in
+    working_stop (λ q. IsWritten all (get c.args.index.now q) (get c.args.tree.now q)) (λ q. written_again all (get c.args.index.now q) (get c.args.tree.now q)) (g.T.WorkTree.content c.args.work.now) mid now _ path
+    (subst (λ (f : FileMap). StepOrNone (IsWritten (objects f) (get c.args.index.now path) (get c.args.tree.now path)) path mid now) c.loop-path.invariant.same (c.in_err-write_path.ensures.begun honest stored)) (c.loop-path.invariant.working honest stored)

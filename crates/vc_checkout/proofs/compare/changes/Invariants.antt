@@ -1,0 +1,14 @@
+use Rattle.std.proofs.Common.{◌≡◌, map}
+use Rattle.vc_files.specs.Failures.{Wears}
+use Rattle.vc_checkout.specs.Status.{seen}
+use Rattle.vc_checkout.proofs.StatusLemmas.{SoFar}
+use Rattle.vc_checkout.proofs.compare.changes.Given as goal
+
+abbrev pub invariant-loop-path : goal.invariant-loop-path
+invariant-loop-path g l = record {
+  can : (goal.iterator-loop-path g).can_next l.path-iterator;
+  finite : (goal.iterator-loop-path g).is_finite l.path-iterator;
+  so_far : g.T.WorkTree.honest → SoFar l.tree l.index (g.T.WorkTree.content l.fn.work) (map seen l.changes.items) (map (λ k. k.items) l.path-iterator);
+  same : g.T.WorkTree.content l.work ≡ g.T.WorkTree.content l.fn.work;
+  wear : Wears g.T.WorkTree.failed g.T.WorkTree.can_fail l.fn.work l.work ⊥;
+}

@@ -1,0 +1,10 @@
+use Rattle.std.proofs.Common.{◌≡◌, ◌||◌, ℕ, List, map}
+use Rattle.std.specs.Prelude.{is_some}
+use Rattle.std.specs.FinMap as maps
+use Rattle.vc_checkout.specs.WorkTree.{has_path}
+use Rattle.vc_checkout.proofs.PathSetLemmas.{is_listed}
+use Rattle.vc_checkout.proofs.paths.add_paths.Given as goal
+
+-- the paths so far and those of the rest are those that are wanted
+abbrev pub invariant-loop-path : goal.invariant-loop-path
+invariant-loop-path l = (path : List ℕ) → (has_path l.paths path || is_listed path (map (λ e. e.0.items) l.path-iterator)) ≡ (has_path l.fn.paths path || is_some (maps.get l.index path))

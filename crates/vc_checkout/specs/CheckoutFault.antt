@@ -1,0 +1,36 @@
+-- What a refusal of a checkout says.
+use Rattle.std.specs.Prelude.{◌≡◌, ◌⊎◌, Option, Some, None}
+use Rattle.vc_files.specs.FileMap.{FileMap}
+use Rattle.vc_object.specs.declared.id.ObjectId.{ObjectId}
+use Rattle.vc_files.specs.declared.faults.Fault.{Fault as FileFault}
+use Rattle.vc_store.specs.Store.{objects}
+use Rattle.vc_index.specs.IndexMap.{IndexMap}
+use Rattle.vc_checkout.specs.Heads.{IsIndexOf}
+use Rattle.vc_checkout.specs.Refusal.{IsRefused}
+use Rattle.vc_store.specs.declared.faults.StoreFault.TheVariants.{Fault}
+use Rattle.vc_index.specs.declared.faults.IndexFault.{IndexFault}
+use Rattle.vc_index.specs.declared.faults.IndexFault.TheVariants.{Store}
+use Rattle.vc_index.specs.Loading.{IsOfLoad}
+use Rattle.vc_checkout.specs.declared.faults.CheckoutFault.{CheckoutFault}
+use Rattle.vc_checkout.specs.declared.faults.CheckoutFault.TheVariants.{Index}
+
+-- want of memory, or a device that failed
+abbrev pub IsFault : CheckoutFault → Type 0
+IsFault fault = (cause : FileFault) × (fault ≡ Index (Store (Fault cause)))
+
+-- something in the work tree is against a checkout
+abbrev pub IsAgainst : CheckoutFault → Type 0
+IsAgainst (Index fault) = ⊥
+IsAgainst _ = Unit {0}
+
+-- why a status was not told: the tree was not read, or a fault
+abbrev pub IsOfStatus : Type 0 → FileMap → Option ObjectId → CheckoutFault → Type 0
+IsOfStatus honest content None fault = IsFault fault
+IsOfStatus honest content (Some tree) fault = IsFault fault ⊎ ((cause : IndexFault) × (fault ≡ Index cause) × IsOfLoad honest content tree cause)
+
+-- why a work tree was not checked out: a fault, or the tree was not read, or what is against it at the first path
+abbrev pub IsOfCheckout : Type 0 → Type 0 → FileMap → FileMap → IndexMap → ObjectId → CheckoutFault → Type 0
+IsOfCheckout work_honest files_honest work content index root fault =
+    IsFault fault
+    ⊎ (((cause : IndexFault) × (fault ≡ Index cause) × IsOfLoad files_honest content root cause)
+    ⊎ (IsAgainst fault × (work_honest → (tree : IndexMap) × IsIndexOf (objects content) root tree × IsRefused index tree work fault)))

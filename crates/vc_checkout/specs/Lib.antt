@@ -1,0 +1,7 @@
+pub mod WorkTree
+pub mod Status
+pub mod CheckoutFault
+pub mod Devices
+pub mod Heads
+pub mod Refusal
+pub mod CheckedOut

@@ -1,0 +1,28 @@
+-- The files of a work tree beside those of an index.
+use Rattle.std.specs.Prelude.{◌≡◌, ℕ, Bool, List, Vec, None, IsSome, IsUtf8}
+use Rattle.std.specs.BTreeSet.{BTreeSet, contains_by}
+use Rattle.std.specs.Cmp.Lexicographic.{slice_cmp}
+use Rattle.std.specs.FinMap.{get}
+use Rattle.std.specs.Global.{Global}
+use Rattle.std.specs.Ordering.{nat_cmp}
+use Rattle.vc_files.specs.FileMap.{FileMap}
+use Rattle.vc_object.specs.Object.{object_name}
+use Rattle.vc_object.specs.declared.id.ObjectId.{ObjectId}
+use Rattle.vc_object.specs.declared.kind.Kind.TheVariants as kinds
+use Rattle.vc_index.specs.IndexMap.{IndexMap}
+
+-- the name that a file's content has as a blob
+abbrev pub blob_name : List ℕ → ObjectId
+blob_name bytes = object_name kinds.Blob bytes
+
+-- the path of each file is text
+abbrev pub HasTextPaths : FileMap → Type 0
+HasTextPaths work = (path : List ℕ) → IsSome (get work path) → IsUtf8 path
+
+-- the work tree has a file at the path, and the index has no entry there
+abbrev pub IsUntracked : IndexMap → FileMap → List ℕ → Type 0
+IsUntracked index work path = IsSome (get work path) × (get index path ≡ None)
+
+-- whether a set of paths has the path
+abbrev pub has_path : BTreeSet (Vec ℕ Global) → List ℕ → Bool
+has_path paths path = contains_by (λ k. slice_cmp nat_cmp path k.items) paths

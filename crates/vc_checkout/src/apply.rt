@@ -1,0 +1,243 @@
+// Bringing a work tree to the files of a tree.
+ghost use Rattle.std.specs.Prelude.{◌≡◌, ◌≢◌, ◌⊎◌, ◌↔◌, ℕ, List, Option, Some, IfOk, IfErr, OnOk, OnErr, IsErrOf, IsSome, IsUtf8, option_map};
+ghost use Rattle.std.specs.FinMap as maps;
+ghost use Rattle.vc_files.specs.Failures.{Wears};
+ghost use Rattle.vc_object.specs.declared.id.ObjectId.{ObjectId as Id};
+ghost use Rattle.vc_store.specs.Store.{objects};
+ghost use Rattle.vc_index.specs.Loading.{HasBlobs, IsBlobIfDue};
+ghost use Rattle.vc_checkout.specs.CheckedOut.{IsCheckedOut, IsCleared, IsOldOrCheckedOut, IsWritten, StepAt, StepOrNone, file_of, left_of};
+ghost use Rattle.vc_checkout.specs.CheckoutFault.{IsFault, IsOfCheckout};
+ghost use Rattle.vc_checkout.specs.Devices.{WearsEither};
+ghost use Rattle.vc_checkout.specs.Heads.{IsIndexOf};
+ghost use Rattle.vc_checkout.specs.Refusal.{IsClear, IsDue};
+ghost use Rattle.vc_checkout.specs.WorkTree.{HasTextPaths};
+
+use crate::clear::check_all;
+use crate::{CheckoutFault, WorkTree};
+use std::alloc::Global;
+use std::str;
+use vc_files::{Fault, Files};
+use vc_index::{Index, IndexEntry, IndexFault};
+use vc_object::{Mode, ObjectId};
+use vc_store::StoreFault;
+
+// Takes the folders above a path away, from the lowest on, as long as nothing is in them.
+fn remove_empty_above<T: WorkTree>(
+    alloc: Global,
+    work: &mut T,
+    path: &str,
+) -> Result<(), CheckoutFault>
+    ensures fault { IfErr result IsFault }
+    ensures same { T.content work.new ≡ T.content work.old }
+    ensures wear { Wears T.failed T.can_fail work.old work.new (IsErrOf result (CheckoutFault.Index (IndexFault.Store (StoreFault.Fault Fault.Device)))) }
+{
+    let mut below = path;
+    for _ in 0..path.len() {
+        let Some((folder, _)) = below.rsplit_once('/') else {
+            return Ok(());
+        };
+        if !work.remove_folder(alloc, folder)? {
+            return Ok(());
+        }
+        below = folder;
+    }
+    Ok(())
+}
+
+// Takes away the file of an entry, or the folder of a commit of another repository if it is empty.
+fn take_out<T: WorkTree>(
+    alloc: Global,
+    work: &mut T,
+    path: &[u8],
+    entry: IndexEntry,
+) -> Result<(), CheckoutFault>
+    requires { T.honest → HasTextPaths (T.content work.old) }
+    ensures done { T.honest → OnOk result (StepAt (λ file after. after ≡ left_of entry.mode file) path.now (T.content work.old) (T.content work.new)) }
+    ensures begun { T.honest → OnErr result (StepOrNone (λ file after. after ≡ left_of entry.mode file) path.now (T.content work.old) (T.content work.new)) }
+    ensures fault { IfErr result IsFault }
+    ensures wear { Wears T.failed T.can_fail work.old work.new (IsErrOf result (CheckoutFault.Index (IndexFault.Store (StoreFault.Fault Fault.Device)))) }
+{
+    let Ok(text) = str::from_utf8(path) else {
+        return Ok(());
+    };
+    if entry.mode == Mode::Commit {
+        work.remove_folder(alloc, text)?;
+    } else {
+        work.remove(alloc, text)?;
+    }
+    remove_empty_above(alloc, work, text)?;
+    Ok(())
+}
+
+// Takes away what the index has at a path and the tree lacks.
+fn clear_path<T: WorkTree>(
+    alloc: Global,
+    work: &mut T,
+    index: &Index,
+    tree: &Index,
+    path: &[u8],
+) -> Result<(), CheckoutFault>
+    requires { T.honest → HasTextPaths (T.content work.old) }
+    ensures done { T.honest → OnOk result (StepAt (IsCleared (maps.get index.now path.now) (maps.get tree.now path.now)) path.now (T.content work.old) (T.content work.new)) }
+    ensures begun { T.honest → OnErr result (StepOrNone (IsCleared (maps.get index.now path.now) (maps.get tree.now path.now)) path.now (T.content work.old) (T.content work.new)) }
+    ensures fault { IfErr result IsFault }
+    ensures wear { Wears T.failed T.can_fail work.old work.new (IsErrOf result (CheckoutFault.Index (IndexFault.Store (StoreFault.Fault Fault.Device)))) }
+{
+    let Some(old) = index.get(path) else {
+        return Ok(());
+    };
+    if tree.get(path).is_some() {
+        return Ok(());
+    }
+    take_out(alloc, work, path, old)?;
+    Ok(())
+}
+
+// Takes away all that the index has and the tree lacks.
+fn clear_all<T: WorkTree>(
+    alloc: Global,
+    work: &mut T,
+    index: &Index,
+    tree: &Index,
+) -> Result<(), CheckoutFault>
+    requires { T.honest → HasTextPaths (T.content work.old) }
+    ensures done { T.honest → OnOk result ((path : List ℕ) → IsCleared (maps.get index.now path) (maps.get tree.now path) (maps.get (T.content work.old) path) (maps.get (T.content work.new) path)) }
+    ensures begun { T.honest → (path : List ℕ) → (maps.get (T.content work.new) path ≡ maps.get (T.content work.old) path) ⊎ IsCleared (maps.get index.now path) (maps.get tree.now path) (maps.get (T.content work.old) path) (maps.get (T.content work.new) path) }
+    ensures fault { IfErr result IsFault }
+    ensures wear { Wears T.failed T.can_fail work.old work.new (IsErrOf result (CheckoutFault.Index (IndexFault.Store (StoreFault.Fault Fault.Device)))) }
+{
+    for (path, _) in index.iter() {
+        clear_path(alloc, work, index, tree, path)?;
+    }
+    Ok(())
+}
+
+// The content of the blob with this name.
+fn blob_of<F: Files>(alloc: Global, files: &mut F, id: &ObjectId) -> Result<Vec<u8>, CheckoutFault>
+    ensures body { F.honest → IfOk result (λ body. option_map (λ object. object.body) (objects (F.content files.old) id.now) ≡ Some body.items) }
+    ensures refused { IfErr result (λ e. F.honest → IsSome (objects (F.content files.old) id.now) → IsFault e) }
+    ensures same { F.content files.new ≡ F.content files.old }
+    ensures wear { Wears F.failed F.can_fail files.old files.new (IsErrOf result (CheckoutFault.Index (IndexFault.Store (StoreFault.Fault Fault.Device)))) }
+{
+    match vc_store::find(files, alloc, id) {
+        Ok(Some(stored)) => Ok(stored.body),
+        Ok(None) => Err(CheckoutFault::Index(IndexFault::Missing(*id))),
+        Err(fault) => Err(CheckoutFault::Index(IndexFault::Store(fault))),
+    }
+}
+
+// Writes the file of an entry, or makes the empty folder of a commit of another repository.
+fn put_in<T: WorkTree, F: Files>(
+    alloc: Global,
+    work: &mut T,
+    files: &mut F,
+    path: &[u8],
+    entry: IndexEntry,
+) -> Result<(), CheckoutFault>
+    requires text { IsUtf8 path.now }
+    requires blob { F.honest → IsBlobIfDue (objects (F.content files.old)) entry }
+    ensures done { T.honest → F.honest → OnOk result (StepAt (λ _ after. after ≡ file_of (objects (F.content files.old)) entry.mode entry.id) path.now (T.content work.old) (T.content work.new)) }
+    ensures begun { T.honest → F.honest → OnErr result (StepOrNone (λ _ after. after ≡ file_of (objects (F.content files.old)) entry.mode entry.id) path.now (T.content work.old) (T.content work.new)) }
+    ensures refused { IfErr result (λ e. F.honest → IsFault e) }
+    ensures same { F.content files.new ≡ F.content files.old }
+    ensures wear { WearsEither T.failed T.can_fail F.failed F.can_fail work.old work.new files.old files.new (IsErrOf result (CheckoutFault.Index (IndexFault.Store (StoreFault.Fault Fault.Device)))) }
+{
+    let Ok(text) = str::from_utf8(path) else {
+        unreachable!();
+    };
+    if entry.mode == Mode::Commit {
+        work.remove(alloc, text)?;
+        work.make_folder(alloc, text)?;
+        return Ok(());
+    }
+    let body = blob_of(alloc, files, &entry.id)?;
+    work.write(alloc, text, &body)?;
+    Ok(())
+}
+
+// Writes what is due at a path.
+fn write_path<T: WorkTree, F: Files>(
+    alloc: Global,
+    work: &mut T,
+    files: &mut F,
+    index: &Index,
+    tree: &Index,
+    path: &[u8],
+) -> Result<(), CheckoutFault>
+    requires text { IsDue (maps.get index.now path.now) (maps.get tree.now path.now) → IsUtf8 path.now }
+    requires blobs { F.honest → HasBlobs (objects (F.content files.old)) tree.now }
+    ensures done { T.honest → F.honest → OnOk result (StepAt (IsWritten (objects (F.content files.old)) (maps.get index.now path.now) (maps.get tree.now path.now)) path.now (T.content work.old) (T.content work.new)) }
+    ensures begun { T.honest → F.honest → OnErr result (StepOrNone (IsWritten (objects (F.content files.old)) (maps.get index.now path.now) (maps.get tree.now path.now)) path.now (T.content work.old) (T.content work.new)) }
+    ensures refused { IfErr result (λ e. F.honest → IsFault e) }
+    ensures same { F.content files.new ≡ F.content files.old }
+    ensures wear { WearsEither T.failed T.can_fail F.failed F.can_fail work.old work.new files.old files.new (IsErrOf result (CheckoutFault.Index (IndexFault.Store (StoreFault.Fault Fault.Device)))) }
+{
+    let Some(new) = tree.get(path) else {
+        return Ok(());
+    };
+    if index.get(path) == Some(new) {
+        return Ok(());
+    }
+    put_in(alloc, work, files, path, new)?;
+    Ok(())
+}
+
+// Writes all that is due.
+fn write_all<T: WorkTree, F: Files>(
+    alloc: Global,
+    work: &mut T,
+    files: &mut F,
+    index: &Index,
+    tree: &Index,
+) -> Result<(), CheckoutFault>
+    requires text { (path : List ℕ) → IsDue (maps.get index.now path) (maps.get tree.now path) → IsUtf8 path }
+    requires blobs { F.honest → HasBlobs (objects (F.content files.old)) tree.now }
+    ensures done { T.honest → F.honest → OnOk result ((path : List ℕ) → IsWritten (objects (F.content files.old)) (maps.get index.now path) (maps.get tree.now path) (maps.get (T.content work.old) path) (maps.get (T.content work.new) path)) }
+    ensures begun { T.honest → F.honest → (path : List ℕ) → (maps.get (T.content work.new) path ≡ maps.get (T.content work.old) path) ⊎ IsWritten (objects (F.content files.old)) (maps.get index.now path) (maps.get tree.now path) (maps.get (T.content work.old) path) (maps.get (T.content work.new) path) }
+    ensures refused { IfErr result (λ e. F.honest → IsFault e) }
+    ensures same { F.content files.new ≡ F.content files.old }
+    ensures wear { WearsEither T.failed T.can_fail F.failed F.can_fail work.old work.new files.old files.new (IsErrOf result (CheckoutFault.Index (IndexFault.Store (StoreFault.Fault Fault.Device)))) }
+{
+    for (path, _) in tree.iter() {
+        write_path(alloc, work, files, index, tree, path)?;
+    }
+    Ok(())
+}
+
+/// Brings the work tree from the files of the index to those of a tree, and answers the index of the tree.
+///
+/// A path of the tree is due if the index has nothing there, or something else. Before the first write, over the paths
+/// of both in the order of their bytes, and at each path in this order: 72 is a due path that is not UTF-8; 70 is a
+/// file that the index has and the tree lacks or has otherwise, and whose content is neither of the two; 71 is a file
+/// that the index lacks, where a due path is to be written: at the path with another content, above it or below it.
+/// Contents are compared by the names that they have as blobs. Where all is clear, files of the index that the tree
+/// lacks are removed, then what is due is written: a link as a file that holds its text, an executable without the
+/// right to be run, a commit of another repository as an empty folder. Folders that became empty go; the folder of a
+/// commit of another repository goes only if it is empty. What isn't due stays as it is.
+///
+/// A fault may leave any part of this done; each path then has its old file or its new one.
+pub fn checkout<T: WorkTree, F: Files>(
+    alloc: Global,
+    work: &mut T,
+    files: &mut F,
+    index: &Index,
+    tree: &ObjectId,
+) -> Result<Index, CheckoutFault>
+    ensures index { F.honest → IfOk result (λ new. IsIndexOf (objects (F.content files.old)) tree.now new) }
+    ensures work { T.honest → F.honest → IfOk result (λ new. (path : List ℕ) → IsCheckedOut (objects (F.content files.old)) (maps.get index.now path) (maps.get new path) (maps.get (T.content work.old) path) (maps.get (T.content work.new) path)) }
+    ensures clear { T.honest → IfOk result (λ new. (path : List ℕ) → IsClear index.now new (T.content work.old) path) }
+    ensures refused { F.honest → IfErr result (IsOfCheckout T.honest F.honest (T.content work.old) (F.content files.old) index.now tree.now) }
+    ensures unchanged { F.honest → IfErr result (λ e. IsFault e ⊎ (T.content work.new ≡ T.content work.old)) }
+    ensures fault { T.honest → F.honest → OnErr result ((path : List ℕ) → IsOldOrCheckedOut (objects (F.content files.old)) tree.now index.now (T.content work.old) (T.content work.new) path) }
+    ensures files { F.content files.new ≡ F.content files.old }
+    ensures wear { WearsEither T.failed T.can_fail F.failed F.can_fail work.old work.new files.old files.new (IsErrOf result (CheckoutFault.Index (IndexFault.Store (StoreFault.Fault Fault.Device)))) }
+{
+    let new = match Index::from_tree(alloc, files, tree) {
+        Ok(new) => new,
+        Err(fault) => return Err(CheckoutFault::Index(fault)),
+    };
+    check_all(alloc, work, index, &new)?;
+    clear_all(alloc, work, index, &new)?;
+    write_all(alloc, work, files, index, &new)?;
+    Ok(new)
+}

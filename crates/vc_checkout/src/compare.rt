@@ -1,0 +1,187 @@
+// What differs between a tree, the index and the work tree.
+ghost use Rattle.std.specs.Prelude.{◌≡◌, ◌↔◌, ◌||◌, ℕ, List, Option, Some, None, IfOk, IfErr, OnOk, IsErrOf, IsTrue, is_some, map, option_map};
+ghost use Rattle.std.specs.FinMap as maps;
+ghost use Rattle.vc_files.specs.Failures.{Wears};
+ghost use Rattle.vc_store.specs.Store.{objects};
+ghost use Rattle.vc_index.specs.IndexMap.{IndexMap};
+ghost use Rattle.vc_checkout.specs.CheckoutFault.{IsFault, IsOfStatus};
+ghost use Rattle.vc_checkout.specs.Devices.{WearsEither};
+ghost use Rattle.vc_checkout.specs.Heads.{IsIndexOfHead};
+ghost use Rattle.vc_checkout.specs.Status.{IsWorkChange, IsChangeAt, IsStatus, seen};
+ghost use Rattle.vc_checkout.specs.WorkTree.{HasTextPaths, IsUntracked, blob_name, has_path};
+
+use crate::change::index_change;
+use crate::paths::{add_paths, copy_paths, untracked_paths};
+use crate::{Change, CheckoutFault, IndexChange, WorkChange, WorkTree};
+use std::alloc::{AllocError, Global};
+use std::collections::BTreeSet;
+use std::str;
+use vc_files::{Fault, Files};
+use vc_index::{Index, IndexEntry, IndexFault};
+use vc_object::{Kind, Mode, ObjectId, name_of};
+use vc_store::StoreFault;
+
+/// The name that the content of the file at a path has as a blob, or none where there is no file.
+pub(crate) fn file_name<T: WorkTree>(
+    alloc: Global,
+    work: &mut T,
+    path: &[u8],
+) -> Result<Option<ObjectId>, CheckoutFault>
+    requires { T.honest → HasTextPaths (T.content work.old) }
+    ensures name { T.honest → IfOk result (λ name. name ≡ option_map blob_name (maps.get (T.content work.old) path.now)) }
+    ensures fault { IfErr result IsFault }
+    ensures same { T.content work.new ≡ T.content work.old }
+    ensures wear { Wears T.failed T.can_fail work.old work.new (IsErrOf result (CheckoutFault.Index (IndexFault.Store (StoreFault.Fault Fault.Device)))) }
+{
+    let Ok(text) = str::from_utf8(path) else {
+        return Ok(None);
+    };
+    let Some(bytes) = work.read(alloc, text)? else {
+        return Ok(None);
+    };
+    Ok(Some(name_of(Kind::Blob, &bytes)))
+}
+
+// How the file at a path differs from what the index has there. Only a file that the index has is read.
+fn work_change<T: WorkTree>(
+    alloc: Global,
+    work: &mut T,
+    untracked: &BTreeSet<Vec<u8>>,
+    path: &[u8],
+    entry: Option<IndexEntry>,
+) -> Result<WorkChange, CheckoutFault>
+    requires texts { T.honest → HasTextPaths (T.content work.old) }
+    requires untracked { T.honest → entry ≡ None → is_some (maps.get (T.content work.old) path.now) ≡ has_path untracked.now path.now }
+    ensures change { T.honest → IfOk result (IsWorkChange entry (maps.get (T.content work.old) path.now)) }
+    ensures fault { IfErr result IsFault }
+    ensures same { T.content work.new ≡ T.content work.old }
+    ensures wear { Wears T.failed T.can_fail work.old work.new (IsErrOf result (CheckoutFault.Index (IndexFault.Store (StoreFault.Fault Fault.Device)))) }
+{
+    let Some(entry) = entry else {
+        if untracked.contains(path) {
+            return Ok(WorkChange::Untracked);
+        }
+        return Ok(WorkChange::Same);
+    };
+    if entry.mode == Mode::Commit {
+        return Ok(WorkChange::Same);
+    }
+    let Some(name) = file_name(alloc, work, path)? else {
+        return Ok(WorkChange::Gone);
+    };
+    if name == entry.id {
+        return Ok(WorkChange::Same);
+    }
+    Ok(WorkChange::Changed)
+}
+
+// How a path differs, or none where it doesn't.
+fn change_at<T: WorkTree>(
+    alloc: Global,
+    work: &mut T,
+    untracked: &BTreeSet<Vec<u8>>,
+    index: &Index,
+    tree: &Index,
+    path: &[u8],
+) -> Result<Option<Change>, CheckoutFault>
+    requires texts { T.honest → HasTextPaths (T.content work.old) }
+    requires untracked { T.honest → IsTrue (has_path untracked.now path.now) ↔ IsUntracked index.now (T.content work.old) path.now }
+    ensures change { T.honest → IfOk result (IsChangeAt tree.now index.now (T.content work.old) path.now) }
+    ensures fault { IfErr result IsFault }
+    ensures same { T.content work.new ≡ T.content work.old }
+    ensures wear { Wears T.failed T.can_fail work.old work.new (IsErrOf result (CheckoutFault.Index (IndexFault.Store (StoreFault.Fault Fault.Device)))) }
+{
+    let entry = index.get(path);
+    let staged = index_change(tree.get(path), entry);
+    let unstaged = work_change(alloc, work, untracked, path, entry)?;
+    if staged == IndexChange::Same && unstaged == WorkChange::Same {
+        return Ok(None);
+    }
+    let path = path.to_vec(alloc)?;
+    Ok(Some(Change {
+        path,
+        index: staged,
+        work: unstaged,
+    }))
+}
+
+// The paths of an index and of a tree, and those of the files that the index lacks.
+fn all_paths(
+    alloc: Global,
+    untracked: &BTreeSet<Vec<u8>>,
+    index: &Index,
+    tree: &Index,
+) -> Result<BTreeSet<Vec<u8>>, AllocError>
+    ensures { IfOk result (λ all. (path : List ℕ) → has_path all path ≡ ((has_path untracked.now path || is_some (maps.get index.now path)) || is_some (maps.get tree.now path))) }
+{
+    let mut all = BTreeSet::new(alloc);
+    copy_paths(alloc, &mut all, untracked)?;
+    add_paths(alloc, &mut all, index)?;
+    add_paths(alloc, &mut all, tree)?;
+    Ok(all)
+}
+
+// The changes of all paths at which something differs.
+fn changes<T: WorkTree>(
+    alloc: Global,
+    work: &mut T,
+    index: &Index,
+    tree: &Index,
+) -> Result<Vec<Change>, CheckoutFault>
+    ensures status { T.honest → IfOk result (λ changes. IsStatus tree.now index.now (T.content work.old) (map seen changes.items)) }
+    ensures fault { IfErr result IsFault }
+    ensures same { T.content work.new ≡ T.content work.old }
+    ensures wear { Wears T.failed T.can_fail work.old work.new (IsErrOf result (CheckoutFault.Index (IndexFault.Store (StoreFault.Fault Fault.Device)))) }
+{
+    let untracked = untracked_paths(alloc, work, index)?;
+    let paths = all_paths(alloc, &untracked, index, tree)?;
+    let mut changes = Vec::new(alloc);
+    for path in &paths {
+        let Some(change) = change_at(alloc, work, &untracked, index, tree, path)? else {
+            continue;
+        };
+        changes.push(change)?;
+    }
+    Ok(changes)
+}
+
+// The index of a tree, or one with no files where there is no tree.
+fn head_index<F: Files>(
+    alloc: Global,
+    files: &mut F,
+    tree: Option<ObjectId>,
+) -> Result<Index, CheckoutFault>
+    ensures index { F.honest → IfOk result (IsIndexOfHead (objects (F.content files.old)) tree) }
+    ensures refused { IfErr result (IsOfStatus F.honest (F.content files.old) tree) }
+    ensures same { F.content files.new ≡ F.content files.old }
+    ensures wear { Wears F.failed F.can_fail files.old files.new (IsErrOf result (CheckoutFault.Index (IndexFault.Store (StoreFault.Fault Fault.Device)))) }
+{
+    let Some(id) = tree else {
+        return Ok(Index::new(alloc));
+    };
+    match Index::from_tree(alloc, files, &id) {
+        Ok(index) => Ok(index),
+        Err(fault) => Err(CheckoutFault::Index(fault)),
+    }
+}
+
+/// How the index differs from a tree, and the work tree from the index: the paths at which something differs, in
+/// the order of their bytes. Without a tree every path of the index is added. Files that the index lacks are listed
+/// and not read; an executable bit is not compared, since none is set.
+pub fn status<T: WorkTree, F: Files>(
+    alloc: Global,
+    work: &mut T,
+    files: &mut F,
+    index: &Index,
+    tree: Option<ObjectId>,
+) -> Result<Vec<Change>, CheckoutFault>
+    ensures status { T.honest → F.honest → IfOk result (λ changes. (head : IndexMap) × IsIndexOfHead (objects (F.content files.old)) tree head × IsStatus head index.now (T.content work.old) (map seen changes.items)) }
+    ensures refused { IfErr result (IsOfStatus F.honest (F.content files.old) tree) }
+    ensures work { T.content work.new ≡ T.content work.old }
+    ensures files { F.content files.new ≡ F.content files.old }
+    ensures wear { WearsEither T.failed T.can_fail F.failed F.can_fail work.old work.new files.old files.new (IsErrOf result (CheckoutFault.Index (IndexFault.Store (StoreFault.Fault Fault.Device)))) }
+{
+    let head = head_index(alloc, files, tree)?;
+    let changes = changes(alloc, work, index, &head)?;
+    Ok(changes)
+}

@@ -1,0 +1,237 @@
+// The system's calls on the files of a folder, none of which follows a link below it.
+use std::alloc::Global;
+use std::fs::{self, File, FileType, OpenFile, OpenOptions};
+use std::io::{self, ErrorKind, Read, Write};
+use std::rt;
+
+/// A folder, and what its files are reached by.
+#[derive(Drop)]
+pub(crate) struct Ground<R> {
+    pub rt: R,
+    pub path: String,
+}
+
+impl<R: rt::Files + AllocGlobal + Clone + Drop> Ground<R> {
+    // Where a path lies.
+    fn place(&self, alloc: Global, path: &str) -> io::Result<String> {
+        let top = self.path.as_str();
+        Ok(format!(in alloc; "{top}/{path}")?)
+    }
+
+    // What stands at a path, or none where nothing does. A link is a link.
+    fn kind_at(&self, alloc: Global, path: &str) -> io::Result<Option<FileType>> {
+        let place = self.place(alloc, path)?;
+        match fs::symlink_metadata(&self.rt, place.as_str()) {
+            Ok(metadata) => Ok(Some(metadata.file_type())),
+            Err(e) if is_absence(&e) => Ok(None),
+            Err(e) => Err(e),
+        }
+    }
+
+    // Whether each folder above the path is one, and none is the store.
+    fn is_open(&self, alloc: Global, path: &str) -> io::Result<bool> {
+        if is_store(path) {
+            return Ok(false);
+        }
+        for (i, byte) in path.as_bytes().iter().enumerate() {
+            if *byte == b'/' {
+                match self.kind_at(alloc, path.split_at(i).0)? {
+                    Some(kind) if kind.is_dir() => {}
+                    _ => return Ok(false),
+                }
+            }
+        }
+        Ok(true)
+    }
+
+    /// The bytes of a file or the text of a link, or none where neither stands.
+    pub fn read(&self, alloc: Global, path: &str) -> io::Result<Option<Vec<u8>>> {
+        if !self.is_open(alloc, path)? {
+            return Ok(None);
+        }
+        let Some(kind) = self.kind_at(alloc, path)? else {
+            return Ok(None);
+        };
+        let place = self.place(alloc, path)?;
+        if kind.is_symlink() {
+            let text = self.rt.read_link(alloc, place.as_str())?;
+            return Ok(Some(text.into_string().into_bytes()));
+        }
+        if !kind.is_file() {
+            return Ok(None);
+        }
+        self.read_whole(alloc, place.as_str()).map(Some)
+    }
+
+    fn read_whole(&self, alloc: Global, place: &str) -> io::Result<Vec<u8>> {
+        let mut file = File::open(&self.rt, place)?;
+        let size = usize::try_from(file.metadata()?.len()).unwrap_or(0);
+        // Room for one byte more, so that the end is found without a second buffer.
+        let mut bytes = Vec::with_capacity(alloc, size.saturating_add(1))?;
+        file.read_to_end(&mut bytes)?;
+        Ok(bytes)
+    }
+
+    /// Writes a file in place of a file, a link, or a folder in which no file is.
+    pub fn write(&self, alloc: Global, path: &str, bytes: &[u8]) -> io::Result<()> {
+        self.make_folders_above(alloc, path)?;
+        match self.kind_at(alloc, path)? {
+            None => {}
+            Some(kind) if kind.is_dir() => self.remove_empty(alloc, path)?,
+            Some(_) => fs::remove_file(&self.rt, self.place(alloc, path)?.as_str())?,
+        }
+        let place = self.place(alloc, path)?;
+        // A name that somebody puts there meanwhile is not opened.
+        let mut file = OpenOptions::new()
+            .write(true)
+            .create_new(true)
+            .open(&self.rt, place.as_str())?;
+        file.write_all(bytes)
+    }
+
+    // Makes the folders above a path, where they are missing.
+    fn make_folders_above(&self, alloc: Global, path: &str) -> io::Result<()> {
+        if is_store(path) {
+            return Err(io::Error::from(ErrorKind::PermissionDenied));
+        }
+        for (i, byte) in path.as_bytes().iter().enumerate() {
+            if *byte == b'/' {
+                self.make_one_folder(alloc, path.split_at(i).0)?;
+            }
+        }
+        Ok(())
+    }
+
+    fn make_one_folder(&self, alloc: Global, path: &str) -> io::Result<()> {
+        match self.kind_at(alloc, path)? {
+            Some(kind) if kind.is_dir() => Ok(()),
+            Some(_) => Err(io::Error::from(ErrorKind::NotADirectory)),
+            None => fs::create_dir(&self.rt, self.place(alloc, path)?.as_str()),
+        }
+    }
+
+    /// Makes a folder, and those above it.
+    pub fn make_folder(&self, alloc: Global, path: &str) -> io::Result<()> {
+        self.make_folders_above(alloc, path)?;
+        self.make_one_folder(alloc, path)
+    }
+
+    /// Takes a file or a link away. A folder stays.
+    pub fn remove(&self, alloc: Global, path: &str) -> io::Result<()> {
+        if !self.is_open(alloc, path)? {
+            return Ok(());
+        }
+        let place = self.place(alloc, path)?;
+        match fs::remove_file(&self.rt, place.as_str()) {
+            Err(e) if is_absence(&e) => Ok(()),
+            done => done,
+        }
+    }
+
+    /// Takes a folder away if it is empty, and says whether it did.
+    pub fn remove_folder(&self, alloc: Global, path: &str) -> io::Result<bool> {
+        if !self.is_open(alloc, path)? {
+            return Ok(false);
+        }
+        let place = self.place(alloc, path)?;
+        match fs::remove_dir(&self.rt, place.as_str()) {
+            Ok(()) => Ok(true),
+            Err(e) if is_absence(&e) || e.kind() == ErrorKind::DirectoryNotEmpty => Ok(false),
+            Err(e) => Err(e),
+        }
+    }
+
+    // Removes a folder with all folders in it. One that holds anything else stays, and is an error.
+    fn remove_empty(&self, alloc: Global, path: &str) -> io::Result<()> {
+        let mut found = vec![in alloc; format!(in alloc; "{path}/")?]?;
+        let mut next = 0;
+        for _ in 0..u64::MAX {
+            if next >= found.len() {
+                break;
+            }
+            let folder = found[next].clone()?;
+            next += 1;
+            let mut names = Vec::new(alloc);
+            self.names_in(alloc, folder.as_str(), &mut names, &mut found)?;
+            if !names.is_empty() {
+                return Err(io::Error::from(ErrorKind::DirectoryNotEmpty));
+            }
+        }
+        for folder in found.iter().rev() {
+            fs::remove_dir(&self.rt, self.place(alloc, folder.as_str())?.as_str())?;
+        }
+        Ok(())
+    }
+
+    /// The paths of all files and links, sorted.
+    pub fn list(&self, alloc: Global) -> io::Result<Vec<String>> {
+        let mut names = Vec::new(alloc);
+        let mut folders = vec![in alloc; String::new(alloc)]?;
+        for _ in 0..u64::MAX {
+            let Some(folder) = folders.pop() else {
+                break;
+            };
+            self.names_in(alloc, folder.as_str(), &mut names, &mut folders)?;
+        }
+        names.sort()?;
+        Ok(names)
+    }
+
+    // Adds the files and links of one folder to the names, and its folders to those that are left.
+    fn names_in(
+        &self,
+        alloc: Global,
+        folder: &str,
+        names: &mut Vec<String>,
+        folders: &mut Vec<String>,
+    ) -> io::Result<()> {
+        let place = self.place(alloc, folder)?;
+        let entries = match fs::read_dir(&self.rt, place.as_str()) {
+            Ok(entries) => entries,
+            Err(e) if is_absence(&e) => return Ok(()),
+            Err(e) => return Err(e),
+        };
+        for entry in entries {
+            let entry = match entry {
+                Ok(entry) => entry,
+                Err(e) if e.kind() == ErrorKind::InvalidFilename => continue,
+                Err(e) => return Err(e),
+            };
+            let kind = match entry.file_type() {
+                Ok(kind) => kind,
+                // Somebody took it away meanwhile.
+                Err(e) if is_absence(&e) => continue,
+                Err(e) => return Err(e),
+            };
+            let name = entry.file_name();
+            let path = format!(in alloc; "{folder}{name}")?;
+            if is_store(path.as_str()) {
+                continue;
+            }
+            if kind.is_dir() {
+                folders.push(format!(in alloc; "{folder}{name}/")?)?;
+            } else if kind.is_file() || kind.is_symlink() {
+                names.push(path)?;
+            }
+        }
+        Ok(())
+    }
+}
+
+// Whether the path's first part is that of the store.
+fn is_store(path: &str) -> bool {
+    let first = match path.split_once('/') {
+        Some((first, _)) => first,
+        None => path,
+    };
+    first.eq_ignore_ascii_case(".git")
+}
+
+// Whether no file has the path: nothing stands there, a folder does, or a file stands where a folder of the path
+// should.
+fn is_absence(e: &io::Error) -> bool {
+    matches!(
+        e.kind(),
+        ErrorKind::NotFound | ErrorKind::NotADirectory | ErrorKind::IsADirectory
+    )
+}

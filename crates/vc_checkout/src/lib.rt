@@ -1,0 +1,25 @@
+//! The work tree: bringing it to the files of a tree, and how it differs from the index.
+#![tactic(auto)]
+
+mod apply;
+mod change;
+mod clear;
+mod compare;
+mod faults;
+mod folder;
+mod ground;
+mod memory;
+mod paths;
+mod way;
+mod work;
+
+pub use apply::checkout;
+pub use change::{Change, IndexChange, WorkChange};
+pub use compare::status;
+pub use faults::CheckoutFault;
+pub use folder::FolderTree;
+pub use memory::MemoryTree;
+pub use work::WorkTree;
+
+#[cfg(test)]
+mod tests;

@@ -1,0 +1,64 @@
+// Sets of paths.
+ghost use Rattle.std.specs.Prelude.{◌≡◌, ◌↔◌, ◌||◌, ℕ, List, IfOk, IfErr, OnOk, IsErrOf, IsTrue, is_some};
+ghost use Rattle.std.specs.FinMap as maps;
+ghost use Rattle.vc_files.specs.Failures.{Wears};
+ghost use Rattle.vc_checkout.specs.CheckoutFault.{IsFault};
+ghost use Rattle.vc_checkout.specs.WorkTree.{has_path, HasTextPaths, IsUntracked};
+
+use crate::{CheckoutFault, WorkTree};
+use std::alloc::{AllocError, Global};
+use std::collections::BTreeSet;
+use vc_files::Fault;
+use vc_index::{Index, IndexFault};
+use vc_store::StoreFault;
+
+/// Adds the paths of an index to a set.
+pub(crate) fn add_paths(
+    alloc: Global,
+    paths: &mut BTreeSet<Vec<u8>>,
+    index: &Index,
+) -> Result<(), AllocError>
+    ensures { OnOk result ((path : List ℕ) → has_path paths.new path ≡ (has_path paths.old path || is_some (maps.get index.now path))) }
+{
+    for (path, _) in index.iter() {
+        paths.insert(path.as_slice().to_vec(alloc)?)?;
+    }
+    Ok(())
+}
+
+/// Adds the paths of one set to another.
+pub(crate) fn copy_paths(
+    alloc: Global,
+    paths: &mut BTreeSet<Vec<u8>>,
+    more: &BTreeSet<Vec<u8>>,
+) -> Result<(), AllocError>
+    ensures { OnOk result ((path : List ℕ) → has_path paths.new path ≡ (has_path paths.old path || has_path more.now path)) }
+{
+    for path in more {
+        paths.insert(path.as_slice().to_vec(alloc)?)?;
+    }
+    Ok(())
+}
+
+/// The paths of the files of the work tree that the index lacks.
+pub(crate) fn untracked_paths<T: WorkTree>(
+    alloc: Global,
+    work: &mut T,
+    index: &Index,
+) -> Result<BTreeSet<Vec<u8>>, CheckoutFault>
+    ensures untracked { T.honest → IfOk result (λ found. (path : List ℕ) → IsTrue (has_path found path) ↔ IsUntracked index.now (T.content work.old) path) }
+    ensures texts { T.honest → OnOk result (HasTextPaths (T.content work.old)) }
+    ensures fault { IfErr result IsFault }
+    ensures same { T.content work.new ≡ T.content work.old }
+    ensures wear { Wears T.failed T.can_fail work.old work.new (IsErrOf result (CheckoutFault.Index (IndexFault.Store (StoreFault.Fault Fault.Device)))) }
+{
+    let listed = work.list(alloc)?;
+    let mut found = BTreeSet::new(alloc);
+    for path in &listed {
+        let path = path.as_bytes();
+        if index.get(path).is_none() {
+            found.insert(path.to_vec(alloc)?)?;
+        }
+    }
+    Ok(found)
+}

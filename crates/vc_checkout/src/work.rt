@@ -1,0 +1,65 @@
+// What a checkout knows of a work tree.
+ghost use Rattle.std.specs.Prelude.{◌≡◌, ◌≤◌, ℕ, min, map, IfOk, OnOk, OnErr, IsErrOf, option_map, string_bytes};
+ghost use Rattle.std.specs.FinMap as files;
+ghost use Rattle.vc_files.specs.FileMap.{FileMap};
+ghost use Rattle.vc_files.specs.Failures.{Wears};
+
+use std::alloc::Global;
+use vc_files::Fault;
+
+/// The files that a person works on, by their paths, which are text. Each call is safe and ends, whatever the tree
+/// does. What the clauses under `honest` say, a real disk doesn't promise.
+///
+/// The content that the clauses speak of is the files alone. A folder is there as long as something lies in it; one
+/// in which nothing lies stays until it is removed.
+pub trait WorkTree {
+    /// Whether the work tree is a finite map of paths to bytes.
+    ghost honest: { Type 0 };
+
+    /// The files as they are.
+    ghost content: { Self → FileMap };
+
+    /// How often the device has failed.
+    ghost failed: { Self → ℕ };
+
+    /// Whether the device can fail.
+    ghost can_fail: { Self → Type 0 };
+
+    /// The bytes of a file, or none where no file has the path.
+    fn read(&mut self, alloc: Global, path: &str) -> Result<Option<Vec<u8>>, Fault>
+        ensures found { honest → IfOk result (λ found. option_map (λ bytes. bytes.items) found ≡ files.get (content self.old) path.now) }
+        ensures same { content self.new ≡ content self.old }
+        ensures wear { Wears failed can_fail self.old self.new (IsErrOf result Fault.Device) };
+
+    /// Writes a file whole, and makes the folders above it. A folder at the path gives way if no file is in it.
+    fn write(&mut self, alloc: Global, path: &str, bytes: &[u8]) -> Result<(), Fault>
+        ensures ok { honest → OnOk result (content self.new ≡ files.insert (content self.old) path.now bytes.now) }
+        ensures err { honest → OnErr result (content self.new ≡ content self.old) }
+        ensures wear { Wears failed can_fail self.old self.new (IsErrOf result Fault.Device) };
+
+    /// Takes a file away; an absent one stays absent. The folders above it stay, also where nothing is left in them.
+    fn remove(&mut self, alloc: Global, path: &str) -> Result<(), Fault>
+        ensures ok { honest → OnOk result (content self.new ≡ files.remove (content self.old) path.now) }
+        ensures err { honest → OnErr result (content self.new ≡ content self.old) }
+        ensures wear { Wears failed can_fail self.old self.new (IsErrOf result Fault.Device) };
+
+    /// Makes a folder, and those above it. One that is there stays.
+    fn make_folder(&mut self, alloc: Global, path: &str) -> Result<(), Fault>
+        ensures same { content self.new ≡ content self.old }
+        ensures wear { Wears failed can_fail self.old self.new (IsErrOf result Fault.Device) };
+
+    /// Takes a folder away if nothing lies in it, and says whether it did.
+    fn remove_folder(&mut self, alloc: Global, path: &str) -> Result<bool, Fault>
+        ensures same { content self.new ≡ content self.old }
+        ensures wear { Wears failed can_fail self.old self.new (IsErrOf result Fault.Device) };
+
+    /// The paths of all files, sorted by their bytes.
+    fn list(&mut self, alloc: Global) -> Result<Vec<String>, Fault>
+        ensures listed { honest → IfOk result (λ listed. map string_bytes listed.items ≡ files.keys (content self.old)) }
+        ensures same { content self.new ≡ content self.old }
+        ensures wear { Wears failed can_fail self.old self.new (IsErrOf result Fault.Device) };
+
+    /// How often the device has failed; the count stops at its greatest value.
+    fn failures(&self) -> u64
+        ensures { result ≡ failed self.now };
+}
