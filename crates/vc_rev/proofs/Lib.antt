@@ -1,0 +1,17 @@
+pub mod Parts
+pub mod NameLemmas
+pub mod DigitLemmas
+pub mod StepLemmas
+pub mod ReadLemmas
+pub mod Places
+pub mod ExprLemmas
+pub mod OutcomeLemmas
+pub mod SetLemmas
+pub mod SetAgain
+pub mod SetSame
+pub mod ObjectLemmas
+pub mod StepsLemmas
+pub mod AnswerLemmas
+pub mod NamesLemmas
+pub mod SameAnswer
+pub mod SelectionLemmas

@@ -1,0 +1,20 @@
+use Rattle.std.proofs.lemmas.Result.{err_from_is_err_and}
+use Rattle.std.proofs.Common.{◌≡◌, ap}
+use Rattle.vc_rev.specs.Outcome.{Read}
+use Rattle.vc_rev.specs.Faults.{ReadsRev}
+use Rattle.vc_rev.specs.SetGrammar.{TermText, To}
+use Rattle.vc_rev.specs.SetReading.{range_view}
+use Rattle.vc_rev.specs.Views.{rev_view}
+use Rattle.vc_rev.proofs.OutcomeLemmas.{then_bad}
+use Rattle.vc_rev.proofs.set.read_to.Goals as goal
+
+pub returns-in_err-rev-clause-fault : goal.returns-in_err-rev-clause-fault
+returns-in_err-rev-clause-fault c =
+    let p = err_from_is_err_and c.from_residual.result c.from_residual.ensures.1 in
+    rw (p.1, p.2) (then_bad c.args.source.now (ReadsRev c.args.text.now) (λ rev rest o. o ≡ Read (range_view c.args.dots (To rev)) rest) c.in_err-rev.field-0.0 c.in_err-rev.ensures.fault)
+
+pub returns-clause-ok : goal.returns-clause-ok
+returns-clause-ok c = (Read (rev_view c.in_ok-rev.rev) c.in_ok-rev.rest.now, c.in_ok-rev.ensures.ok, ap (λ (t : TermText). Read t c.in_ok-rev.rest.now) c.range.ensures.term)
+
+pub returns-clause-slices : goal.returns-clause-slices
+returns-clause-slices c = c.range.ensures.slices c.args.source.now c.in_ok-rev.ensures.slices

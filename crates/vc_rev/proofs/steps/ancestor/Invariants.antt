@@ -1,0 +1,18 @@
+use Rattle.std.proofs.Common.{◌≡◌}
+use Rattle.vc_files.specs.Failures.{Wears}
+use Rattle.vc_rev.specs.Meaning.{Answer, FirstParents}
+use Rattle.vc_rev.specs.Source.{source}
+use Rattle.vc_rev.proofs.steps.ancestor.Given as goal
+
+-- what comes of the parents that are left is what comes of all
+abbrev pub invariant-parents : goal.invariant-parents
+invariant-parents g l =
+    let s = source (g.R.Repository.names (g.R.Repository.view_of l.initial.repo)) (g.R.Objects.objects (g.R.Objects.state_of l.initial.repo)) (g.R.Repository.stored (g.R.Repository.view_of l.initial.repo)) in record {
+      kept : g.R.Objects.state_of l.repo ≡ g.R.Objects.state_of l.initial.repo;
+      seen : g.R.Repository.view_of l.repo ≡ g.R.Repository.view_of l.initial.repo;
+      wear : Wears g.R.Objects.failed g.R.Objects.can_fail l.initial.repo l.repo ⊥;
+      onward : g.R.Objects.is_honest → (answer : Answer) → FirstParents s l.left l.at answer → FirstParents s l.fn.n l.fn.id answer;
+    }
+
+abbrev pub decreases-parents : goal.decreases-parents
+decreases-parents g l = l.left

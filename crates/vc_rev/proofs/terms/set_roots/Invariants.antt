@@ -1,0 +1,18 @@
+use Rattle.std.proofs.Common.{◌≡◌, Result, map, drop}
+use Rattle.vc_files.specs.Failures.{Wears}
+use Rattle.vc_rev.specs.RootsView.{roots_view}
+use Rattle.vc_rev.specs.Selection.{Selection, SetGives, TermsGive}
+use Rattle.vc_rev.specs.SetViews.{term_view}
+use Rattle.vc_rev.specs.Source.{source}
+use Rattle.vc_rev.specs.declared.refusal.Refusal.{Refusal}
+use Rattle.vc_rev.proofs.terms.set_roots.Given as goal
+
+-- what comes of the terms that are left is what comes of all
+abbrev pub invariant-terms : goal.invariant-terms
+invariant-terms g l =
+    let s = source (g.R.Repository.names (g.R.Repository.view_of l.initial.repo)) (g.R.Objects.objects (g.R.Objects.state_of l.initial.repo)) (g.R.Repository.stored (g.R.Repository.view_of l.initial.repo)) in record {
+      kept : g.R.Objects.state_of l.repo ≡ g.R.Objects.state_of l.initial.repo;
+      seen : g.R.Repository.view_of l.repo ≡ g.R.Repository.view_of l.initial.repo;
+      wear : Wears g.R.Objects.failed g.R.Objects.can_fail l.initial.repo l.repo ⊥;
+      onward : g.R.Objects.is_honest → (answer : Result Selection Refusal) → TermsGive s (map term_view (drop l.term-index l.terms)) (roots_view l.roots) answer → SetGives s (map term_view l.terms) answer;
+    }

@@ -1,0 +1,40 @@
+-- What a name, a step or an expression gives: a value or a refusal, as a relation of what it is over and its answer.
+use Rattle.std.specs.Prelude.{◌≡◌, ◌⊎◌, Result, Ok, Err}
+use Rattle.vc_store.specs.declared.faults.StoreFault.TheVariants as stores
+use Rattle.vc_files.specs.declared.faults.Fault.TheVariants as devices
+use Rattle.vc_rev.specs.declared.refusal.Refusal.{Refusal}
+use Rattle.vc_rev.specs.declared.refusal.SourceFault.{SourceFault}
+use Rattle.vc_rev.specs.declared.refusal.SourceFault.TheVariants as sources
+use Rattle.vc_rev.specs.declared.refusal.RevFault.{RevFault}
+use Rattle.vc_rev.specs.declared.refusal.RevFault.TheVariants.{Refused, Missing, NotACommit, Source}
+
+-- what comes after an answer: the next one from its value, and nothing behind a refusal
+abbrev pub Continues : {A B : Type 0} → (A → Result B Refusal → Type 0) → Result B Refusal → Result A Refusal → Type 0
+Continues next answer (Ok a) = next a answer
+Continues next answer (Err e) = answer ≡ Err e
+
+-- one answer after another
+abbrev pub After : {A B : Type 0} → (Result A Refusal → Type 0) → (A → Result B Refusal → Type 0) → Result B Refusal → Type 0
+After {A} First next answer = (first : Result A Refusal) × First first × Continues next answer first
+
+-- want of memory, or a fault that the repository may answer
+abbrev pub IsSourceFault : (SourceFault → Type 0) → SourceFault → Type 0
+IsSourceFault Blames fault = (fault ≡ sources.Store (stores.Fault devices.Memory)) ⊎ Blames fault
+
+-- a refusal is the one that is given; every other fault is the repository's
+abbrev pub IsTold : {A : Type 0} → (SourceFault → Type 0) → (Result A Refusal → Type 0) → RevFault → Type 0
+IsTold Blames Gives (Refused refusal) = Gives (Err refusal)
+IsTold Blames Gives (Missing id) = ⊥
+IsTold Blames Gives (NotACommit id) = ⊥
+IsTold Blames Gives (Source fault) = IsSourceFault Blames fault
+
+-- no refusal is given
+abbrev pub IsNoAnswer : Result (Unit {0}) Refusal → Type 0
+IsNoAnswer answer = ⊥
+
+-- the answer is this refusal, unless the repository gave none
+abbrev pub IsAnswered : {A : Type 0} → Result A Refusal → RevFault → Type 0
+IsAnswered answer (Refused refusal) = answer ≡ Err refusal
+IsAnswered answer (Missing id) = ⊥
+IsAnswered answer (NotACommit id) = ⊥
+IsAnswered answer (Source fault) = Unit {0}

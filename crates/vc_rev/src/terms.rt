@@ -1,0 +1,243 @@
+//! What the terms of a set include and exclude.
+
+ghost use Rattle.std.specs.Prelude.{◌≡◌, Ok, map, IfOk, IfErr, IsErrOf};
+ghost use Rattle.vc_files.specs.Failures.{Wears};
+ghost use Rattle.vc_rev.specs.Answer.{IsTold};
+ghost use Rattle.vc_rev.specs.RootsView.{roots_view};
+ghost use Rattle.vc_rev.specs.Selection.{CommitGives, BothGive, Makes, RangeGives, SymmetricGives, SetGives, TermGives, first_of, second_of, head_rev, nth_of};
+ghost use Rattle.vc_rev.specs.SetViews.{ends_view, term_view};
+ghost use Rattle.vc_rev.specs.Source.{source};
+ghost use Rattle.vc_rev.specs.Uses.{used};
+ghost use Rattle.vc_rev.specs.Views.{rev_view};
+
+use crate::object::commit_at;
+use crate::refusal::{RevFault, SourceFault};
+use crate::repository::Repository;
+use crate::roots::Roots;
+use crate::steps::peel;
+use crate::token::{BaseToken, Ends, Rev, Step, StepToken, Term};
+use crate::value::rev_value;
+use std::alloc::{AllocError, Global};
+use vc_files::Fault;
+use vc_object::ObjectId;
+use vc_store::StoreFault;
+
+/// How a term takes a commit.
+#[derive(Clone, Copy, Debug)]
+pub(crate) enum Use {
+    Included,
+    Excluded,
+    ParentsIncluded,
+    ParentsExcluded,
+    /// The commit without its parents.
+    Only,
+}
+
+/// The commit that a base and its steps lead to behind tags, and its parents.
+fn commit_value<R: Repository>(
+    alloc: Global,
+    repo: &mut R,
+    rev: &Rev<'_>,
+) -> Result<(ObjectId, Vec<ObjectId>), RevFault>
+    ensures ok { IfOk result (λ found. R.is_honest → CommitGives (source (R.names (R.view_of repo.old)) (R.objects (R.state_of repo.old)) (R.stored (R.view_of repo.old))) (rev_view rev.now) (Ok (found.0, found.1.items))) }
+    ensures refused { IfErr result (λ e. R.is_honest → IsTold (R.blames (R.view_of repo.old)) (CommitGives (source (R.names (R.view_of repo.old)) (R.objects (R.state_of repo.old)) (R.stored (R.view_of repo.old))) (rev_view rev.now)) e) }
+
+    ensures kept { R.state_of repo.new ≡ R.state_of repo.old }
+    ensures seen { R.view_of repo.new ≡ R.view_of repo.old }
+    ensures wear { Wears R.failed R.can_fail repo.old repo.new (IsErrOf result (RevFault.Source (SourceFault.Store (StoreFault.Fault Fault.Device)))) }
+{
+    let id = rev_value(alloc, repo, rev)?;
+    let (at, object) = peel(alloc, repo, id)?;
+    commit_at(alloc, at, &object)
+}
+
+/// What a term that takes a commit so includes and excludes.
+fn used(alloc: Global, way: Use, id: ObjectId, parents: Vec<ObjectId>) -> Result<Roots, AllocError>
+    ensures { IfOk result (λ roots. roots_view roots ≡ used way (id, parents.items)) }
+{
+    let none = Vec::new(alloc);
+    match way {
+        Use::Included => Ok(Roots::of(alloc, vec![in alloc; id]?, none)),
+        Use::Excluded => Ok(Roots::of(alloc, none, vec![in alloc; id]?)),
+        Use::ParentsIncluded => Ok(Roots::of(alloc, parents, none)),
+        Use::ParentsExcluded => Ok(Roots::of(alloc, none, parents)),
+        Use::Only => Ok(Roots::of(alloc, vec![in alloc; id]?, parents)),
+    }
+}
+
+/// What a term of one commit includes and excludes.
+fn single<R: Repository>(
+    alloc: Global,
+    repo: &mut R,
+    rev: &Rev<'_>,
+    way: Use,
+) -> Result<Roots, RevFault>
+    ensures ok { IfOk result (λ found. R.is_honest → Makes (source (R.names (R.view_of repo.old)) (R.objects (R.state_of repo.old)) (R.stored (R.view_of repo.old))) (used way) (rev_view rev.now) (Ok (roots_view found))) }
+    ensures refused { IfErr result (λ e. R.is_honest → IsTold (R.blames (R.view_of repo.old)) (Makes (source (R.names (R.view_of repo.old)) (R.objects (R.state_of repo.old)) (R.stored (R.view_of repo.old))) (used way) (rev_view rev.now)) e) }
+
+    ensures kept { R.state_of repo.new ≡ R.state_of repo.old }
+    ensures seen { R.view_of repo.new ≡ R.view_of repo.old }
+    ensures wear { Wears R.failed R.can_fail repo.old repo.new (IsErrOf result (RevFault.Source (SourceFault.Store (StoreFault.Fault Fault.Device)))) }
+{
+    let (id, parents) = commit_value(alloc, repo, rev)?;
+    Ok(used(alloc, way, id, parents)?)
+}
+
+/// The commits that two bases and their steps lead to.
+fn both<R: Repository>(
+    alloc: Global,
+    repo: &mut R,
+    first: &Rev<'_>,
+    second: &Rev<'_>,
+) -> Result<(ObjectId, ObjectId), RevFault>
+    ensures ok { IfOk result (λ found. R.is_honest → BothGive (source (R.names (R.view_of repo.old)) (R.objects (R.state_of repo.old)) (R.stored (R.view_of repo.old))) (rev_view first.now) (rev_view second.now) (Ok found)) }
+    ensures refused { IfErr result (λ e. R.is_honest → IsTold (R.blames (R.view_of repo.old)) (BothGive (source (R.names (R.view_of repo.old)) (R.objects (R.state_of repo.old)) (R.stored (R.view_of repo.old))) (rev_view first.now) (rev_view second.now)) e) }
+
+    ensures kept { R.state_of repo.new ≡ R.state_of repo.old }
+    ensures seen { R.view_of repo.new ≡ R.view_of repo.old }
+    ensures wear { Wears R.failed R.can_fail repo.old repo.new (IsErrOf result (RevFault.Source (SourceFault.Store (StoreFault.Fault Fault.Device)))) }
+{
+    let (first, _) = commit_value(alloc, repo, first)?;
+    let (second, _) = commit_value(alloc, repo, second)?;
+    Ok((first, second))
+}
+
+/// HEAD, for an end of a range that is left out.
+fn head<'a>(alloc: Global) -> Rev<'a>
+    ensures { rev_view result ≡ head_rev }
+{
+    Rev {
+        base: BaseToken {
+            start: 0,
+            text: b"@",
+        },
+        steps: Vec::new(alloc),
+    }
+}
+
+/// The commits at the ends of a range.
+fn ends_value<R: Repository>(
+    alloc: Global,
+    repo: &mut R,
+    ends: &Ends<'_>,
+) -> Result<(ObjectId, ObjectId), RevFault>
+    ensures ok { IfOk result (λ found. R.is_honest → BothGive (source (R.names (R.view_of repo.old)) (R.objects (R.state_of repo.old)) (R.stored (R.view_of repo.old))) (first_of (ends_view ends.now)) (second_of (ends_view ends.now)) (Ok found)) }
+    ensures refused { IfErr result (λ e. R.is_honest → IsTold (R.blames (R.view_of repo.old)) (BothGive (source (R.names (R.view_of repo.old)) (R.objects (R.state_of repo.old)) (R.stored (R.view_of repo.old))) (first_of (ends_view ends.now)) (second_of (ends_view ends.now))) e) }
+
+    ensures kept { R.state_of repo.new ≡ R.state_of repo.old }
+    ensures seen { R.view_of repo.new ≡ R.view_of repo.old }
+    ensures wear { Wears R.failed R.can_fail repo.old repo.new (IsErrOf result (RevFault.Source (SourceFault.Store (StoreFault.Fault Fault.Device)))) }
+{
+    match ends {
+        Ends::Both(first, second) => both(alloc, repo, first, second),
+        Ends::From(first) => both(alloc, repo, first, &head(alloc)),
+        Ends::To(second) => both(alloc, repo, &head(alloc), second),
+    }
+}
+
+/// A base, its steps, and one more to the n-th parent. That step stands nowhere in the source.
+fn nth_of<'a>(alloc: Global, rev: &Rev<'a>, n: u32) -> Result<Rev<'a>, AllocError>
+    ensures { IfOk result (λ found. rev_view found ≡ nth_of (rev_view rev.now) n) }
+{
+    let mut steps = rev.steps.as_slice().to_vec(alloc)?;
+    steps.push(StepToken {
+        step: Step::Parent(n),
+        start: 0,
+        text: b"",
+    })?;
+    Ok(Rev {
+        base: rev.base,
+        steps,
+    })
+}
+
+/// What is between the n-th parent of a commit and the commit.
+fn since<R: Repository>(
+    alloc: Global,
+    repo: &mut R,
+    rev: &Rev<'_>,
+    n: u32,
+) -> Result<Roots, RevFault>
+    ensures ok { IfOk result (λ found. R.is_honest → RangeGives (source (R.names (R.view_of repo.old)) (R.objects (R.state_of repo.old)) (R.stored (R.view_of repo.old))) (nth_of (rev_view rev.now) n) (rev_view rev.now) (Ok (roots_view found))) }
+    ensures refused { IfErr result (λ e. R.is_honest → IsTold (R.blames (R.view_of repo.old)) (RangeGives (source (R.names (R.view_of repo.old)) (R.objects (R.state_of repo.old)) (R.stored (R.view_of repo.old))) (nth_of (rev_view rev.now) n) (rev_view rev.now)) e) }
+
+    ensures kept { R.state_of repo.new ≡ R.state_of repo.old }
+    ensures seen { R.view_of repo.new ≡ R.view_of repo.old }
+    ensures wear { Wears R.failed R.can_fail repo.old repo.new (IsErrOf result (RevFault.Source (SourceFault.Store (StoreFault.Fault Fault.Device)))) }
+{
+    let parent = nth_of(alloc, rev, n)?;
+    let (first, second) = both(alloc, repo, &parent, rev)?;
+    Ok(Roots::between(alloc, first, second)?)
+}
+
+/// What is between the ends of a range.
+fn range<R: Repository>(alloc: Global, repo: &mut R, ends: &Ends<'_>) -> Result<Roots, RevFault>
+    ensures ok { IfOk result (λ found. R.is_honest → RangeGives (source (R.names (R.view_of repo.old)) (R.objects (R.state_of repo.old)) (R.stored (R.view_of repo.old))) (first_of (ends_view ends.now)) (second_of (ends_view ends.now)) (Ok (roots_view found))) }
+    ensures refused { IfErr result (λ e. R.is_honest → IsTold (R.blames (R.view_of repo.old)) (RangeGives (source (R.names (R.view_of repo.old)) (R.objects (R.state_of repo.old)) (R.stored (R.view_of repo.old))) (first_of (ends_view ends.now)) (second_of (ends_view ends.now))) e) }
+
+    ensures kept { R.state_of repo.new ≡ R.state_of repo.old }
+    ensures seen { R.view_of repo.new ≡ R.view_of repo.old }
+    ensures wear { Wears R.failed R.can_fail repo.old repo.new (IsErrOf result (RevFault.Source (SourceFault.Store (StoreFault.Fault Fault.Device)))) }
+{
+    let (first, second) = ends_value(alloc, repo, ends)?;
+    Ok(Roots::between(alloc, first, second)?)
+}
+
+/// What the ends of a range don't have in common.
+fn symmetric<R: Repository>(alloc: Global, repo: &mut R, ends: &Ends<'_>) -> Result<Roots, RevFault>
+    ensures ok { IfOk result (λ found. R.is_honest → SymmetricGives (source (R.names (R.view_of repo.old)) (R.objects (R.state_of repo.old)) (R.stored (R.view_of repo.old))) (first_of (ends_view ends.now)) (second_of (ends_view ends.now)) (Ok (roots_view found))) }
+    ensures refused { IfErr result (λ e. R.is_honest → IsTold (R.blames (R.view_of repo.old)) (SymmetricGives (source (R.names (R.view_of repo.old)) (R.objects (R.state_of repo.old)) (R.stored (R.view_of repo.old))) (first_of (ends_view ends.now)) (second_of (ends_view ends.now))) e) }
+
+    ensures kept { R.state_of repo.new ≡ R.state_of repo.old }
+    ensures seen { R.view_of repo.new ≡ R.view_of repo.old }
+    ensures wear { Wears R.failed R.can_fail repo.old repo.new (IsErrOf result (RevFault.Source (SourceFault.Store (StoreFault.Fault Fault.Device)))) }
+{
+    let (first, second) = ends_value(alloc, repo, ends)?;
+    Ok(Roots::apart(alloc, first, second)?)
+}
+
+/// What a term includes and excludes.
+fn term_roots<R: Repository>(
+    alloc: Global,
+    repo: &mut R,
+    term: &Term<'_>,
+) -> Result<Roots, RevFault>
+    ensures ok { IfOk result (λ found. R.is_honest → TermGives (source (R.names (R.view_of repo.old)) (R.objects (R.state_of repo.old)) (R.stored (R.view_of repo.old))) (term_view term.now) (Ok (roots_view found))) }
+    ensures refused { IfErr result (λ e. R.is_honest → IsTold (R.blames (R.view_of repo.old)) (TermGives (source (R.names (R.view_of repo.old)) (R.objects (R.state_of repo.old)) (R.stored (R.view_of repo.old))) (term_view term.now)) e) }
+
+    ensures kept { R.state_of repo.new ≡ R.state_of repo.old }
+    ensures seen { R.view_of repo.new ≡ R.view_of repo.old }
+    ensures wear { Wears R.failed R.can_fail repo.old repo.new (IsErrOf result (RevFault.Source (SourceFault.Store (StoreFault.Fault Fault.Device)))) }
+{
+    match term {
+        Term::Include(rev) => single(alloc, repo, rev, Use::Included),
+        Term::Exclude(rev) => single(alloc, repo, rev, Use::Excluded),
+        Term::Parents(rev) => single(alloc, repo, rev, Use::ParentsIncluded),
+        Term::ExcludeParents(rev) => single(alloc, repo, rev, Use::ParentsExcluded),
+        Term::Only(rev) => single(alloc, repo, rev, Use::Only),
+        Term::Since(rev, n) => since(alloc, repo, rev, *n),
+        Term::Range(ends) => range(alloc, repo, ends),
+        Term::Symmetric(ends) => symmetric(alloc, repo, ends),
+    }
+}
+
+/// What the terms of a set include and exclude, one after another.
+pub(crate) fn set_roots<R: Repository>(
+    alloc: Global,
+    repo: &mut R,
+    terms: &[Term<'_>],
+) -> Result<Roots, RevFault>
+    ensures ok { IfOk result (λ found. R.is_honest → SetGives (source (R.names (R.view_of repo.old)) (R.objects (R.state_of repo.old)) (R.stored (R.view_of repo.old))) (map term_view terms.now) (Ok (roots_view found))) }
+    ensures refused { IfErr result (λ e. R.is_honest → IsTold (R.blames (R.view_of repo.old)) (SetGives (source (R.names (R.view_of repo.old)) (R.objects (R.state_of repo.old)) (R.stored (R.view_of repo.old))) (map term_view terms.now)) e) }
+
+    ensures kept { R.state_of repo.new ≡ R.state_of repo.old }
+    ensures seen { R.view_of repo.new ≡ R.view_of repo.old }
+    ensures wear { Wears R.failed R.can_fail repo.old repo.new (IsErrOf result (RevFault.Source (SourceFault.Store (StoreFault.Fault Fault.Device)))) }
+{
+    let mut roots = Roots::none(alloc);
+    'terms: for term in terms {
+        let more = term_roots(alloc, repo, term)?;
+        roots.append(&more)?;
+    }
+    Ok(roots)
+}
