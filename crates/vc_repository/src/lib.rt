@@ -1,0 +1,12 @@
+//! A repository's refs, HEAD, objects and index over files, as revision expressions are resolved over them.
+#![tactic(auto)]
+
+mod faults;
+mod files;
+mod index;
+
+pub use files::FileRepository;
+pub use index::read_index;
+
+#[cfg(test)]
+mod tests;
