@@ -1,0 +1,15 @@
+pub mod LineLaws
+pub mod ListLaws
+pub mod ReaderLaws
+pub mod Written
+pub mod WholeLaws
+pub mod UseLaws
+pub mod MessageLaws
+pub mod FaultLaws
+pub mod CarriedLaws
+pub mod ObjectLines
+pub mod StreamLaws
+pub mod Bodies
+pub mod TextLaws
+pub mod WrittenStreams
+pub mod CarriedOnce
