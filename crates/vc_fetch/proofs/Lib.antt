@@ -1,0 +1,9 @@
+pub mod IdLines
+pub mod Messages
+pub mod Wants
+pub mod Packs
+pub mod Adverts
+pub mod WrittenAdverts
+pub mod RefLines
+pub mod RefMaps
+pub mod WrittenMessages

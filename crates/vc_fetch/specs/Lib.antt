@@ -1,0 +1,9 @@
+pub mod Ids
+pub mod ListMessage
+pub mod ErrorMessage
+pub mod Want
+pub mod WantView
+pub mod Pack
+pub mod PackView
+pub mod Advert
+pub mod AdvertView

@@ -1,0 +1,25 @@
+//! The messages of a fetch: what each says, how it is spelled in lines, and how it is written.
+#![tactic(auto)]
+
+mod advert;
+mod error;
+mod ids;
+mod laws;
+mod list;
+mod pack;
+mod want;
+
+pub use advert::{Advert, AdvertReader};
+pub use error::{Error, ErrorReader};
+pub use laws::{
+    written_advert_is_read, written_error_is_read, written_list_is_read, written_pack_is_read,
+    written_want_is_read,
+};
+pub use list::{List, ListReader};
+pub use pack::{Pack, PackReader};
+pub use want::{MAX_IDS, Want, WantReader};
+
+#[cfg(test)]
+mod advert_tests;
+#[cfg(test)]
+mod tests;
