@@ -1,0 +1,69 @@
+use Rattle.std.proofs.Common.{rules, ◌≡◌, ◌++◌, ◌∙◌, ap, Contains, List, slice_get}
+use Rattle.vc_answer.proofs.AnswerLemmas.{first_not_ours, refused_answer, ours_of_both, ours_onward, sent_from, from_sent, counted_is, first_counted, head_of_first}
+use Rattle.vc_answer.specs.AnswerFault.{IsRefusedAnswer}
+use Rattle.vc_answer.specs.Picked.{IsPicked}
+use Rattle.vc_graph.specs.Graph.{ReachedFrom}
+use Rattle.vc_object.specs.ObjectMap.{links_in}
+use Rattle.vc_object.specs.declared.id.ObjectId.{ObjectId as Id}
+use Rattle.vc_store.specs.Store.{objects}
+use Rattle.vc_answer.proofs.answer.answer_want.Goals as goal
+
+pub returns-in-Some-clause-refused : goal.returns-in-Some-clause-refused
+returns-in-Some-clause-refused g c honest =
+    let content = g.F.Files.content c.args.files.now in
+    let first = rw (c.deref.ensures.value, c.deref-2.ensures.value) at c.in-Some.ensures.other in
+    first_not_ours content c.in_ok-ours.ours.items c.args.want.now.wants.items (c.in_ok-ours.ensures.ours honest) c.in-Some.id first
+
+pub returns-in_err-objects-clause-refused : goal.returns-in_err-objects-clause-refused
+returns-in_err-objects-clause-refused g c honest =
+    let content = g.F.Files.content c.args.files.now in
+    let ours = c.in_ok-ours.ours.items in
+    let wants = c.args.want.now.wants.items in
+    let counted = c.in_ok-counted.counted.items in
+    let all = c.in_ok-ours.ensures.ours honest in
+    let among : (id : Id) → Contains wants id → Contains ours id = rw (c.deref.ensures.value, c.deref-2.ensures.value) at c.in_default.ensures.none in
+    let picked : IsPicked (Contains ours) c.args.want.now.haves.items counted = rw (c.deref-3.ensures.value, c.deref-4.ensures.value) at c.in_ok-counted.ensures in
+    let blames = rw (c.deref-5.ensures.value, c.deref-6.ensures.value, c.in_ok-ours.ensures.same) at (c.in_err-objects.ensures.refused honest) in
+    let met = ours_of_both content wants counted (λ id h. (all id).0 (among id h)) (λ id h. (counted_is content ours c.args.want.now.haves.items counted all picked id h).ours) in
+    let told : IsRefusedAnswer content wants c.in_err-objects.field-0.0 =
+    refused_answer (ReachedFrom (links_in (objects content)) (wants ++ counted)) content wants met c.in_err-objects.field-0.0 blames in
+    search (rules, told)
+
+pub returns-clause-objects : goal.returns-clause-objects
+returns-clause-objects g c honest id o =
+    let content = g.F.Files.content c.args.files.now in
+    let ours = c.in_ok-ours.ours.items in
+    let wants = c.args.want.now.wants.items in
+    let haves = c.args.want.now.haves.items in
+    let counted = c.in_ok-counted.counted.items in
+    let all = c.in_ok-ours.ensures.ours honest in
+    let picked : IsPicked (Contains ours) haves counted = rw (c.deref-3.ensures.value, c.deref-4.ensures.value) at c.in_ok-counted.ensures in
+    let sent = rw (c.deref-5.ensures.value, c.deref-6.ensures.value, c.in_ok-ours.ensures.same) at (c.in_ok-objects.ensures.sent honest id o) in
+    (λ h. let r = sent.0 h in (sent_from content ours haves counted all picked wants id r.0, r.1), λ h. sent.1 (from_sent content ours haves counted all picked wants id h.0, h.1))
+
+pub returns-clause-there : goal.returns-clause-there
+returns-clause-there g c honest id h =
+    let content = g.F.Files.content c.args.files.now in
+    let ours = c.in_ok-ours.ours.items in
+    let wants = c.args.want.now.wants.items in
+    let all = c.in_ok-ours.ensures.ours honest in
+    let among : (id : Id) → Contains wants id → Contains ours id = rw (c.deref.ensures.value, c.deref-2.ensures.value) at c.in_default.ensures.none in
+    c.in_ok-ours.ensures.there honest id (ours_onward content wants (λ x w. (all x).0 (among x w)) id h.wanted)
+
+pub returns-clause-ack : goal.returns-clause-ack
+returns-clause-ack g c honest =
+    let content = g.F.Files.content c.args.files.now in
+    let ours = c.in_ok-ours.ours.items in
+    let haves = c.args.want.now.haves.items in
+    let counted = c.in_ok-counted.counted.items in
+    let all = c.in_ok-ours.ensures.ours honest in
+    let picked : IsPicked (Contains ours) haves counted = rw (c.deref-3.ensures.value, c.deref-4.ensures.value) at c.in_ok-counted.ensures in
+    let head : c.copied-ack.result ≡ slice_get counted 0 = c.copied-ack.ensures ∙ c.first.ensures.value ∙ ap (λ (l : List Id). slice_get l 0) c.deref-7.ensures.value in
+    first_counted content ours haves counted all picked c.copied-ack.result (head_of_first counted c.copied-ack.result head)
+
+pub returns-clause-ours : goal.returns-clause-ours
+returns-clause-ours g c honest id h =
+    let ours = c.in_ok-ours.ours.items in
+    let wants = c.args.want.now.wants.items in
+    let among : (id : Id) → Contains wants id → Contains ours id = rw (c.deref.ensures.value, c.deref-2.ensures.value) at c.in_default.ensures.none in
+    (c.in_ok-ours.ensures.ours honest id).0 (among id h)

@@ -1,0 +1,4 @@
+pub mod Answer
+pub mod AnswerFault
+pub mod PackObjects
+pub mod Picked

@@ -1,0 +1,80 @@
+//! The refusals of this crate.
+ghost use Rattle.std.specs.Prelude.{◌≡◌};
+ghost use Rattle.vc_answer.specs.AnswerFault.{from_store, from_graph, from_refs};
+ghost use Rattle.vc_answer.specs.declared.fault.AnswerFault.TheVariants.{Fault};
+ghost use Rattle.vc_files.specs.declared.faults.Fault.TheVariants.{Memory};
+
+use std::alloc::AllocError;
+use std::fmt;
+use thiserror::Error;
+use vc_files::Fault;
+use vc_graph::GraphFault;
+use vc_object::ObjectId;
+use vc_refs::RefFault;
+use vc_store::StoreFault;
+
+/// Why wants have no answer, or a pack is not taken.
+#[derive(Debug, Drop, PartialEq, Eq, Error)]
+pub enum AnswerFault {
+    /// 90: no ref of the node reaches this wanted id.
+    #[error("90 NotOurs")]
+    NotOurs(ObjectId),
+    /// 92: this wanted id reaches one that neither the store nor the pack has.
+    #[error("92 Incomplete")]
+    Incomplete(ObjectId),
+    /// 33 or 34: the files of the refs or of HEAD.
+    #[error("{0}")]
+    Refs(RefFault),
+    /// 40 or 12: an object that is reached is absent, or its file is damaged.
+    #[error("{0}")]
+    Graph(GraphFault),
+    /// Want of memory, or a device that failed. It stands here alone, and in none of the variants above.
+    #[error("{0}")]
+    Fault(Fault),
+}
+
+impl From<StoreFault> for AnswerFault {
+    ghost from_gives = { λ fault e. e ≡ from_store fault };
+
+    fn from(fault: StoreFault) -> Self {
+        match fault {
+            StoreFault::Fault(fault) => AnswerFault::Fault(fault),
+            StoreFault::BadObject(_) => AnswerFault::Graph(GraphFault::Store(fault)),
+            StoreFault::Absent(_) => AnswerFault::Graph(GraphFault::Store(fault)),
+            StoreFault::Damaged(_) => AnswerFault::Graph(GraphFault::Store(fault)),
+        }
+    }
+}
+
+impl From<GraphFault> for AnswerFault {
+    ghost from_gives = { λ fault e. e ≡ from_graph fault };
+
+    fn from(fault: GraphFault) -> Self {
+        match fault {
+            GraphFault::Missing(_) => AnswerFault::Graph(fault),
+            GraphFault::Store(fault) => AnswerFault::from(fault),
+        }
+    }
+}
+
+impl From<RefFault> for AnswerFault {
+    ghost from_gives = { λ fault e. e ≡ from_refs fault };
+
+    fn from(fault: RefFault) -> Self {
+        match fault {
+            RefFault::Stale(current) => AnswerFault::Refs(RefFault::Stale(current)),
+            RefFault::Conflict(name) => AnswerFault::Refs(RefFault::Conflict(name)),
+            RefFault::BadRefFile(path) => AnswerFault::Refs(RefFault::BadRefFile(path)),
+            RefFault::HeadLoop => AnswerFault::Refs(RefFault::HeadLoop),
+            RefFault::Fault(fault) => AnswerFault::Fault(fault),
+        }
+    }
+}
+
+impl From<AllocError> for AnswerFault {
+    ghost from_gives = { λ _ e. e ≡ Fault Memory };
+
+    fn from(_: AllocError) -> Self {
+        AnswerFault::Fault(Fault::Memory)
+    }
+}

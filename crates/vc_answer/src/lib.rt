@@ -1,0 +1,20 @@
+//! The answer to a want, and the judgement of a pack.
+//!
+//! A node sends what it is asked for only where one of its refs reaches it, and leaves out what the asker has only where
+//! one of its refs reaches that too: what lies below an object that it merely stores may be absent at the asker.
+#![tactic(auto)]
+
+mod answer;
+mod counting;
+mod fault;
+mod judge;
+mod pack_objects;
+mod reading;
+#[cfg(test)]
+mod tests;
+mod values;
+
+pub use answer::answer_want;
+pub use fault::AnswerFault;
+pub use judge::judge_pack;
+pub use pack_objects::PackObjects;
