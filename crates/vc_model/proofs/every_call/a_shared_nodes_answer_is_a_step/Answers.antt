@@ -1,0 +1,5 @@
+use Rattle.vc_model.proofs.SharedAnswers.{shared_answers_are_steps as proved}
+use Rattle.vc_model.proofs.every_call.a_shared_nodes_answer_is_a_step.Goals as goal
+
+pub returns : goal.returns
+returns c = proved

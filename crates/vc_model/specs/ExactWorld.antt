@@ -1,0 +1,156 @@
+-- The world exactly: every event with its one answer, but for what a stop leaves. Runs of it, and what occurs in them.
+use Rattle.std.specs.Prelude.{◌≡◌, ◌≢◌, ℕ, ◌≤◌, List, [], ◌∷◌, Option, Some, None, Result, Ok, ◌⊎◌, slice_get, unwrap_or}
+use Rattle.std.specs.FinMap.{get}
+use Rattle.vc_model.specs.Object.{Object, Format}
+use Rattle.vc_model.specs.Push.{Slots}
+use Rattle.vc_model.specs.Message.{Message, Envelope, IsNamedMessage, Carries, message_of}
+use Rattle.vc_model.specs.Message.Envelope.{ToShared, ToClone}
+use Rattle.vc_model.specs.Node.{Node, Answer}
+use Rattle.vc_model.specs.Node.Answer.{Did, Declined}
+use Rattle.vc_model.specs.Node.Reply.{Stored}
+use Rattle.vc_model.specs.Shared.{SharedNode}
+use Rattle.vc_model.specs.Clone.{Awaited, CloneNode, Task}
+use Rattle.vc_model.specs.World.{World, Party, after_shared, after_clone}
+use Rattle.vc_model.specs.World.Party.{TheShared, TheClone}
+use Rattle.vc_model.specs.Run.{OccursIn}
+use Rattle.vc_model.specs.Rules.{Rules}
+use Rattle.vc_model.specs.Question.Question.{Unread, Unresolved, Compare, PackRefs}
+use Rattle.vc_model.specs.SharedCall.{SharedCall, SharedAnswers}
+use Rattle.vc_model.specs.SharedCall.SharedCall.{Accept, StepOf, Asks as AsksShared, Prune as PruneShared, Open as OpenShared}
+use Rattle.vc_model.specs.CloneCall.{CloneCall, CloneAnswers, Makes}
+use Rattle.vc_model.specs.CloneCall.CloneCall.{Receive, Asks, Prune, Open}
+use Rattle.vc_model.specs.Order.{Order, Expression, IsTaskOf, call_of}
+use Rattle.vc_model.specs.Fuse.{Fuse, Fuses, SharedWrites, CloneWrites, Burns, with_fuse}
+
+-- A world, and the writes left at its nodes.
+pub record FusedWorld : Type 0 where
+  pub world : World
+  pub shared_fuse : Fuse
+  pub clone_fuses : Fuses
+
+pub data WorldEvent : Type 0 where
+  Orders : (clone : ℕ) → Order → WorldEvent
+  Delivers : (message : ℕ) → WorldEvent
+  -- bytes come that nobody sent, and are read as this message
+  Forges : Envelope → WorldEvent
+  -- bytes come that nobody sent, and are refused with this number, being no message
+  Garbles : Party → (refusal : ℕ) → WorldEvent
+  Steps : (slot : ℕ) → WorldEvent
+  Compares : Party → (first second : Expression) → WorldEvent
+  Prunes : Party → WorldEvent
+  Packs : Party → WorldEvent
+  Restarts : Party → WorldEvent
+  Stops : Party → (writes : ℕ) → WorldEvent
+
+-- the refusals of bytes that are no message
+abbrev pub IsUnreadable : ℕ → Type 0
+IsUnreadable n = ((80 ≤ n) × (n ≤ 84)) ⊎ (n ≡ 3)
+
+-- The event comes to the shared node as this call, and its reply goes to clone c.
+abbrev pub CallsShared : Format → World → WorldEvent → ℕ → SharedCall → Type 0
+CallsShared fmt w (Delivers k) c i = (m : Message) × (slice_get w.sent k ≡ Some (ToShared c m)) × (i ≡ Accept m)
+CallsShared fmt w (Forges (ToShared b m)) c i = (b ≡ c) × IsNamedMessage fmt m × (i ≡ Accept m)
+CallsShared fmt w (Garbles TheShared n) c i = (c ≡ 0) × IsUnreadable n × (i ≡ AsksShared (Unread n))
+CallsShared fmt w (Steps s) c i = (c ≡ unwrap_or (get w.senders s) 0) × (i ≡ StepOf s)
+CallsShared fmt w (Compares TheShared x y) c i = (c ≡ 0) × (i ≡ AsksShared (Compare x y))
+CallsShared fmt w (Prunes TheShared) c i = (c ≡ 0) × (i ≡ PruneShared)
+CallsShared fmt w (Packs TheShared) c i = (c ≡ 0) × (i ≡ AsksShared PackRefs)
+CallsShared fmt w (Restarts TheShared) c i = (c ≡ 0) × (i ≡ OpenShared)
+CallsShared fmt w _ c i = ⊥
+
+-- An order's expressions are read first; a node that is down reads none.
+abbrev pub OrderCalls : (fmt : Format) → Rules fmt → CloneNode → Order → CloneCall → Type 0
+OrderCalls fmt rules n o i =
+    ((n.live ≡ None) × (i ≡ Asks (Unresolved 112)))
+    ⊎ ((n.live ≢ None) × ((v : Result Task ℕ) × IsTaskOf fmt rules n.repository o v × (i ≡ call_of v)))
+
+-- The event comes to clone c, which is this node, as this call.
+abbrev pub CallsClone : (fmt : Format) → Rules fmt → World → WorldEvent → ℕ → CloneNode → CloneCall → Type 0
+CallsClone fmt rules w (Orders b o) c n i = (b ≡ c) × OrderCalls fmt rules n o i
+CallsClone fmt rules w (Delivers k) c n i = (m : Message) × (slice_get w.sent k ≡ Some (ToClone c m)) × (i ≡ Receive m)
+CallsClone fmt rules w (Forges (ToClone b m)) c n i = (b ≡ c) × IsNamedMessage fmt m × (i ≡ Receive m)
+CallsClone fmt rules w (Garbles (TheClone b) k) c n i = (b ≡ c) × IsUnreadable k × (i ≡ Asks (Unread k))
+CallsClone fmt rules w (Compares (TheClone b) x y) c n i = (b ≡ c) × (i ≡ Asks (Compare x y))
+CallsClone fmt rules w (Prunes (TheClone b)) c n i = (b ≡ c) × (i ≡ Prune)
+CallsClone fmt rules w (Packs (TheClone b)) c n i = (b ≡ c) × (i ≡ Asks PackRefs)
+CallsClone fmt rules w (Restarts (TheClone b)) c n i = (b ≡ c) × (i ≡ Open)
+CallsClone fmt rules w _ c n i = ⊥
+
+-- A restart takes the fuse out first.
+abbrev pub shared_fuse_at : Fuse → SharedCall → Fuse
+shared_fuse_at fuse OpenShared = None
+shared_fuse_at fuse _ = fuse
+
+abbrev pub clone_fuse_at : Fuse → CloneCall → Fuse
+clone_fuse_at fuse Open = None
+clone_fuse_at fuse _ = fuse
+
+-- a node that is down writes nothing
+abbrev pub MayShared : Format → SharedNode → SharedCall → Type 0
+MayShared fmt n i = (slots : Slots) × (n.live ≡ Some slots) × SharedWrites fmt n.repository slots i
+
+abbrev pub MayClone : (fmt : Format) → Rules fmt → CloneNode → CloneCall → Type 0
+MayClone fmt rules n i = (a : Awaited) × (n.live ≡ Some a) × CloneWrites fmt rules n.repository a i
+
+-- A stop sets the writes left. At a node that is down it need not: a restart takes them out before anything is seen of them.
+abbrev pub SetsFuse : {V : Type 0} → Node V → Fuse → ℕ → Fuse → Type 0
+SetsFuse n before writes after = (after ≡ Some writes) ⊎ ((n.live ≡ None) × (after ≡ before))
+
+-- The event's answer in this world, and the world after it.
+pub data WorldAnswers (fmt : Format) (rules : Rules fmt) (old : FusedWorld) (e : WorldEvent) (a : Answer) (new : FusedWorld) : Type 0 where
+  no_message : (k : ℕ) → e ≡ Delivers k → slice_get old.world.sent k ≡ None → a ≡ Declined 113 → new ≡ old → WorldAnswers fmt rules old e a new
+  stop_shared : (writes : ℕ) (f : Fuse) → e ≡ Stops TheShared writes → SetsFuse old.world.shared old.shared_fuse writes f → a ≡ Did Stored
+      → new ≡ record { world = old.world; shared_fuse = f; clone_fuses = old.clone_fuses } → WorldAnswers fmt rules old e a new
+  stop_clone : (c : ℕ) (n : CloneNode) (writes : ℕ) (f : Fuse) → e ≡ Stops (TheClone c) writes → get old.world.clones c ≡ Some n → SetsFuse n (get old.clone_fuses c) writes f → a ≡ Did Stored
+      → new ≡ record { world = old.world; shared_fuse = old.shared_fuse; clone_fuses = with_fuse old.clone_fuses c f } → WorldAnswers fmt rules old e a new
+  at_shared : (c : ℕ) (i : SharedCall) (n : SharedNode) (sends : Option Message) (f : Fuse) → CallsShared fmt old.world e c i → SharedAnswers fmt rules old.world.shared i a n sends
+      → Burns (shared_fuse_at old.shared_fuse i) (MayShared fmt old.world.shared i) old.world.shared.repository n.repository a f
+      → new ≡ record { world = after_shared old.world c a n sends; shared_fuse = f; clone_fuses = old.clone_fuses } → WorldAnswers fmt rules old e a new
+  at_clone : (c : ℕ) (n m : CloneNode) (i : CloneCall) (sends : Option Message) (f : Fuse) → get old.world.clones c ≡ Some n → CallsClone fmt rules old.world e c n i → CloneAnswers fmt rules n i a m sends
+      → Burns (clone_fuse_at (get old.clone_fuses c) i) (MayClone fmt rules n i) n.repository m.repository a f
+      → new ≡ record { world = after_clone old.world c m sends; shared_fuse = old.shared_fuse; clone_fuses = with_fuse old.clone_fuses c f } → WorldAnswers fmt rules old e a new
+
+-- ---- runs
+
+pub record ExactMoment : Type 0 where
+  pub event : WorldEvent
+  pub answer : Answer
+  pub world : FusedWorld
+
+-- What happened, the newest first.
+abbrev pub ExactHistory : Type 0
+ExactHistory = List ExactMoment
+
+abbrev pub fused_after : FusedWorld → ExactHistory → FusedWorld
+fused_after start [] = start
+fused_after start (m ∷ h) = m.world
+
+abbrev pub ExactRun : (fmt : Format) → Rules fmt → FusedWorld → ExactHistory → Type 0
+ExactRun fmt rules start [] = Unit {0}
+ExactRun fmt rules start (m ∷ h) = WorldAnswers fmt rules (fused_after start h) m.event m.answer m.world × ExactRun fmt rules start h
+
+-- The event brings the object: by forged bytes, or because a clone's order makes it.
+abbrev pub BringsExactly : (fmt : Format) → Rules fmt → FusedWorld → WorldEvent → Object → Type 0
+BringsExactly fmt rules w (Forges e) o = Carries (message_of e) o
+BringsExactly fmt rules w (Orders c order) o =
+    (n : CloneNode) × (t : Task) × (get w.world.clones c ≡ Some n) × IsTaskOf fmt rules n.repository order (Ok t) × Makes fmt rules n.repository t o
+BringsExactly fmt rules w _ o = ⊥
+
+-- The object occurs at some moment of the run.
+abbrev pub OccursExactly : (fmt : Format) → Rules fmt → FusedWorld → ExactHistory → Object → Type 0
+OccursExactly fmt rules start [] o = OccursIn start.world o
+OccursExactly fmt rules start (m ∷ h) o =
+    OccursIn m.world.world o ⊎ (BringsExactly fmt rules (fused_after start h) m.event o ⊎ OccursExactly fmt rules start h o)
+
+-- No two different objects that occur have one name.
+pub record NoExactCollision (fmt : Format) (rules : Rules fmt) (start : FusedWorld) (h : ExactHistory) : Type 0 where
+  pub unique : (o p : Object) → OccursExactly fmt rules start h o → OccursExactly fmt rules start h p → fmt.name_of o ≡ fmt.name_of p → o ≡ p
+
+abbrev pub IsHonest : WorldEvent → Type 0
+IsHonest (Forges (ToClone c m)) = ⊥
+IsHonest _ = Unit {0}
+
+-- What a clone receives was sent by the shared node, or is no message.
+abbrev pub NothingForgedExactly : ExactHistory → Type 0
+NothingForgedExactly [] = Unit {0}
+NothingForgedExactly (m ∷ h) = IsHonest m.event × NothingForgedExactly h
