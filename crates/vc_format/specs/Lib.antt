@@ -1,0 +1,2 @@
+pub mod Git
+pub mod Format
