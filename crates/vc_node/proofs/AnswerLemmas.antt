@@ -1,0 +1,135 @@
+-- From what is shown before and after a call to the machine's answers.
+use Rattle.std.proofs.Common.{◌≡◌, ◌⊎◌, inl, inr, ℕ, Bool, true, false, cond, List, Option, Some, None, refl, sym, ap, ◌∙◌, subst}
+use Rattle.std.specs.Prelude.{option_map, bytes_eq, not}
+use Rattle.std.specs.FinMap.{FinMap, get, insert, remove, get-insert, get-remove}
+use Rattle.std.specs.Ordering.{nat_cmp}
+use Rattle.std.specs.Cmp.Lexicographic.{slice_cmp, nat_list_cmp_total}
+use Rattle.std.proofs.lemmas.Map.Text.{is_eq-slice_cmp}
+use Rattle.vc_files.specs.FileMap.{FileMap}
+use Rattle.vc_format.specs.Git.{kind_of}
+use Rattle.vc_model.specs.Repository.{Repository}
+use Rattle.vc_model.specs.Node.{Answer, Failure}
+use Rattle.vc_model.specs.Node.Answer.{Did, Declined, Fault}
+use Rattle.vc_model.specs.Clone.{Awaited, CloneNode, Task}
+use Rattle.vc_model.specs.Clone.Awaited.{Nothing}
+use Rattle.vc_model.specs.CloneCall.{Refuses}
+use Rattle.vc_model.specs.CloneCall.CloneAnswers.{down, refused, obeyed, faulted}
+use Rattle.vc_model.specs.Rules.{Tests, rules_by}
+use Rattle.vc_object.specs.declared.kind.Kind.{Kind as ObjectKind}
+use Rattle.vc_object.specs.declared.kind.Kind.TheVariants as kinds
+use Rattle.vc_refs.specs.declared.faults.RefFault.TheVariants as ref
+use Rattle.vc_store.specs.declared.faults.StoreFault.TheVariants as store
+use Rattle.vc_node.specs.declared.fault.NodeFault.{NodeFault}
+use Rattle.vc_node.specs.declared.fault.NodeFault.TheVariants.{Store, Ref, Missing, NotACommit, BadPath, PathConflict, BadIndex, WrongEntry, Down}
+use Rattle.vc_node.specs.NodeFault.{is_fault}
+use Rattle.vc_node.specs.Shown.{Shown, shown}
+use Rattle.vc_node.specs.Machine.{git, machine_kind, live_of, Spells, AgreesOn, Follows, Answers, IsBadFile, fault_answer}
+
+pub kind_back : (k : ObjectKind) → kind_of (machine_kind k) ≡ k
+kind_back kinds.Blob = refl
+kind_back kinds.Tree = refl
+kind_back kinds.Commit = refl
+kind_back kinds.Tag = refl
+
+-- a node that is down
+pub answers_down : (task : Task) (was : Bool) (s : Shown) → was ≡ false → Answers task (Declined 112) was was s s
+answers_down task was s e = record {
+  each = λ tests agrees n holds. (n, holds, down (holds.live ∙ ap live_of e) (λ h. cc h) refl refl refl);
+}
+
+abbrev pub stays : Answer → Bool
+stays (Did y) = true
+stays (Declined n) = true
+stays (Fault f) = false
+
+pub stays_by_fault : (e : NodeFault) → not (is_fault e) ≡ stays (fault_answer e)
+stays_by_fault (Store (store.BadObject f)) = refl
+stays_by_fault (Store (store.Absent id)) = refl
+stays_by_fault (Store (store.Damaged id)) = refl
+stays_by_fault (Store (store.Fault f)) = refl
+stays_by_fault (Ref (ref.Stale current)) = refl
+stays_by_fault (Ref (ref.Conflict other)) = refl
+stays_by_fault (Ref (ref.BadRefFile path)) = refl
+stays_by_fault (Ref ref.HeadLoop) = refl
+stays_by_fault (Ref (ref.Fault f)) = refl
+stays_by_fault (Missing id) = refl
+stays_by_fault (NotACommit id) = refl
+stays_by_fault BadPath = refl
+stays_by_fault PathConflict = refl
+stays_by_fault (BadIndex place) = refl
+stays_by_fault (WrongEntry at) = refl
+stays_by_fault Down = refl
+
+same_node : (r s : Repository) (a b : Option Awaited) → r ≡ s → a ≡ b → ◌≡◌ {A = CloneNode} (record { repository = r; live = a }) (record { repository = s; live = b })
+same_node r s a b e f i = record { repository = e i; live = f i }
+
+-- a node that is up
+pub answers_from : (task : Task) (a : Answer) (was is : Bool) (old new : Shown) → Follows task a old new → was ≡ true → is ≡ stays a → Answers task a was is old new
+answers_from task (Did y) was is old new follows up after = record {
+  each = λ tests agrees n holds.
+      let g = follows.goes tests agrees n.repository holds.spells in
+      let d = g.2 in (
+        record { repository = g.0; live = Some Nothing },
+        record { spells = g.1; live = ap live_of (sym after) },
+        obeyed Nothing d.0 (holds.live ∙ ap live_of up) d.1 (d.2, ap Some (sym d.3), d.5) (sym d.4),
+      );
+}
+answers_from task (Declined k) was is old new follows up after = record {
+  each = λ tests agrees n holds.
+      let g = follows.goes tests agrees n.repository holds.spells in
+      let live : n.live ≡ Some Nothing = holds.live ∙ ap live_of up in (
+        record { repository = g.0; live = Some Nothing },
+        record { spells = g.1; live = ap live_of (sym after) },
+        refused Nothing k live g.2.0 refl (same_node g.0 n.repository (Some Nothing) n.live g.2.1 (sym live)) refl,
+      );
+}
+answers_from task (Fault f) was is old new follows up after = record {
+  each = λ tests agrees n holds.
+      let g = follows.goes tests agrees n.repository holds.spells in
+      let live : n.live ≡ Some Nothing = holds.live ∙ ap live_of up in (
+        record { repository = g.0; live = None },
+        record { spells = g.1; live = ap live_of (sym after) },
+        elim (g.2) [
+          | inl d ↦ obeyed Nothing d.0 live d.1 (d.2, refl) refl
+          | inr e ↦ faulted Nothing f live (λ h. cc h) refl (same_node g.0 n.repository None None e refl) refl
+        ],
+      );
+}
+
+-- the same after a call that failed
+pub answers_failed : (task : Task) (e : NodeFault) (was is : Bool) (old new : Shown) → Follows task (fault_answer e) old new → was ≡ true → is ≡ not (is_fault e) → Answers task (fault_answer e) was is old new
+answers_failed task e was is old new follows up after = answers_from task (fault_answer e) was is old new follows up (after ∙ stays_by_fault e)
+
+-- the same as a method gives it: the fault went through the call that takes the node down
+pub failed : (task : Task) (e told : NodeFault) (was is : Bool) (content : FileMap) (old new : Shown) → IsBadFile content e ⊎ Follows task (fault_answer e) old new → told ≡ e → was ≡ true → is ≡ not (is_fault e)
+    → IsBadFile content told ⊎ Answers task (fault_answer told) was is old new
+failed task e told was is content old new cases same up after =
+    subst (λ (f : NodeFault). IsBadFile content f ⊎ Answers task (fault_answer f) was is old new) (sym same)
+    (elim cases [ inl bad ↦ inl bad | inr follows ↦ inr (answers_failed task e was is old new follows up after) ])
+
+pub unchanged : (task : Task) (a : Answer) (old new : FileMap) → Follows task a (shown old) (shown old) → new ≡ old → Follows task a (shown old) (shown new)
+unchanged task a old new follows same = subst (λ (m : FileMap). Follows task a (shown old) (shown m)) (sym same) follows
+
+pub or_unchanged : (Bad : Type 0) (task : Task) (a : Answer) (old new : FileMap) → Bad ⊎ Follows task a (shown old) (shown old) → new ≡ old → Bad ⊎ Follows task a (shown old) (shown new)
+or_unchanged Bad task a old new cases same = elim cases [ inl bad ↦ inl bad | inr follows ↦ inr (unchanged task a old new follows same) ]
+
+-- a refusal, and a fault before anything was done
+pub declines : (task : Task) (n : ℕ) (s : Shown) → ((tests : Tests git) → AgreesOn tests → (r : Repository) → Spells s r → Refuses git (rules_by git tests) r task n) → Follows task (Declined n) s s
+declines task n s h = record { goes = λ tests agrees r spells. (r, spells, (h tests agrees r spells, refl)) }
+
+pub faults : (task : Task) (f : Failure) (s : Shown) → Follows task (Fault f) s s
+faults task f s = record { goes = λ tests agrees r spells. (r, spells, inr refl) }
+
+-- ---- maps by the bytes of their keys
+
+module _ {X : Type 0} (m : FinMap (slice_cmp nat_cmp) X) (k q : List ℕ) where
+  pub get-put : (v : X) → get (insert m k v) q ≡ cond (bytes_eq q k) (Some v) (get m q)
+  get-put v = get-insert nat_list_cmp_total m k v q ∙ ap (λ b. cond b (Some v) (get m q)) (is_eq-slice_cmp q k)
+
+  pub get-unput : get (remove m k) q ≡ cond (bytes_eq q k) None (get m q)
+  get-unput = get-remove nat_list_cmp_total m k q ∙ ap (λ b. cond b None (get m q)) (is_eq-slice_cmp q k)
+
+-- under a condition, a function of either value
+pub map_cond : {X Y : Type 0} (f : X → Y) (b : Bool) (a c : Option X) → cond b (option_map f a) (option_map f c) ≡ option_map f (cond b a c)
+map_cond f true a c = refl
+map_cond f false a c = refl

@@ -1,0 +1,260 @@
+-- The machine's answers to changes of branches and of HEAD.
+use Rattle.std.proofs.Common.{◌≡◌, ◌⊎◌, inl, inr, ℕ, Bool, true, false, cond, nat_eq, append_assoc, List, [], ◌∷◌, ◌++◌, drop, length, Option, Some, None, refl, sym, ap, ◌∙◌, subst}
+use Rattle.std.specs.Prelude.{option_map, is_some, bytes_eq, codes, ◌||◌}
+use Rattle.std.specs.List.{starts_with}
+use Rattle.std.specs.FinMap.{get, insert, remove}
+use Rattle.vc_files.specs.FileMap.{FileMap}
+use Rattle.vc_format.specs.Git.{id_of_bytes}
+use Rattle.vc_model.specs.Object.{Id, stored}
+use Rattle.vc_model.specs.Reach.{IsClosed, HasHistory}
+use Rattle.vc_model.specs.Refs.{RefName, Refs, IsBranch, IsFree, Conflicts}
+use Rattle.vc_model.specs.Refs.Head.{OnBranch, Detached}
+use Rattle.vc_model.specs.Repository.{Repository, only_changes}
+use Rattle.vc_model.specs.Repository.Change.{RemoveRef, SetRefs, SetHead}
+use Rattle.vc_model.specs.Node.{Deed}
+use Rattle.vc_model.specs.CloneCall.{Obeys}
+use Rattle.vc_model.specs.Rules.{Tests, rules_by}
+use Rattle.vc_model.specs.Node.Answer.{Did}
+use Rattle.vc_model.specs.Node.Reply.{Stored}
+use Rattle.vc_model.specs.Clone.{Awaited, quietly}
+use Rattle.vc_model.specs.Clone.Awaited.{Nothing}
+use Rattle.vc_model.specs.Clone.Task.{DeleteBranch, SetBranch, MoveHead}
+use Rattle.vc_object.specs.declared.id.ObjectId.{ObjectId}
+use Rattle.vc_refs.specs.RefMap.{RefMap, is_folder_of, conflicts, with_ref, without_ref}
+use Rattle.vc_refs.specs.Refs.{refs, IsBadRef}
+use Rattle.vc_refs.specs.Way.{IsFree as IsFreeName}
+use Rattle.vc_refs.specs.declared.heads.Head.{Head as RefsHead}
+use Rattle.vc_refs.specs.declared.heads.Head.TheVariants as heads
+use Rattle.vc_refs.proofs.RefsLemmas.{taken_from_ref}
+use Rattle.vc_store.specs.Store.{objects}
+use Rattle.vc_store.specs.declared.faults.StoreFault.TheVariants as store
+use Rattle.vc_refs.specs.declared.faults.RefFault.TheVariants as ref
+use Rattle.vc_refs.proofs.WayLemmas.{split_from_starts, starts_with-append}
+use Rattle.vc_node.specs.declared.fault.NodeFault.{NodeFault}
+use Rattle.vc_node.specs.declared.fault.NodeFault.TheVariants.{Store, Ref, Missing, NotACommit, BadPath, PathConflict, BadIndex, WrongEntry, Down}
+use Rattle.vc_node.specs.Blames.{BlamesRemoved, BlamesBranch, BlamesHead, MayHead, IsLocalHead}
+use Rattle.vc_node.specs.GoodCommit.{IsComplete, IsHistory}
+use Rattle.vc_node.specs.Shown.{Shown, shown, with_refs_shown, with_head_shown}
+use Rattle.vc_node.specs.Machine.{git, machine_head, Spells, Follows, IsBadFile, fault_answer, failure_of}
+use Rattle.vc_node.proofs.AnswerLemmas.{declines, faults, get-put, get-unput, map_cond}
+use Rattle.vc_node.proofs.IndexLemmas.{none_added}
+use Rattle.vc_node.proofs.ReachLemmas.{closed_from, closed_to, history_from, history_to, objects_sound}
+
+-- a name that begins so is a branch's
+pub branch_named : (name : List ℕ) → starts_with nat_eq name (codes "refs/heads/") ≡ true → IsBranch name
+branch_named name h = (drop 11 name, split_from_starts name (codes "refs/heads/") h)
+
+-- a repository with other refs
+pub spells_refs : (s : Shown) (r : Repository) (map : RefMap) (refs : Refs) → Spells s r → ((n : RefName) → map n ≡ option_map id_of_bytes (get refs n)) → Spells (with_refs_shown s map) (record r { refs = refs })
+spells_refs s r map refs p rel = record {
+  objects = p.objects;
+  refs = rel;
+  head = p.head;
+  head_shown = p.head_shown;
+  head_is = p.head_is;
+  map = p.map;
+  map_sound = p.map_sound;
+  map_shown = p.map_shown;
+  index = p.index;
+}
+
+removed_rel : (s : Shown) (r : Repository) (name : List ℕ) → Spells s r → (q : RefName) → without_ref s.refs name q ≡ option_map id_of_bytes (get (remove r.refs name) q)
+unfolding without_ref
+removed_rel s r name p q = ap (cond (bytes_eq q name) None) (p.refs q) ∙ map_cond id_of_bytes (bytes_eq q name) None (get r.refs q) ∙ ap (option_map id_of_bytes) (sym (get-unput r.refs name q))
+
+pub delete_done : (name : List ℕ) (old new : Shown) → starts_with nat_eq name (codes "refs/heads/") ≡ true → new ≡ with_refs_shown old (without_ref old.refs name) → Follows (DeleteBranch name) (Did Stored) old new
+delete_done name old new begins is = record {
+  goes = λ tests agrees r p.
+      let after = record r { refs = remove r.refs name } in (
+        after,
+        subst (λ (s : Shown). Spells s after) (sym is) (spells_refs old r (without_ref old.refs name) (remove r.refs name) p (removed_rel old r name p)),
+        (quietly Nothing (only_changes (RemoveRef name ∷ [])) Stored, (branch_named name begins, refl), (r.objects, none_added r.objects, refl), refl, refl, refl),
+      );
+}
+
+pub delete_failed : (content : FileMap) (name : List ℕ) (e : NodeFault) → BlamesRemoved content e → IsBadFile content e ⊎ Follows (DeleteBranch name) (fault_answer e) (shown content) (shown content)
+delete_failed content name (Ref (ref.Stale current)) blames = absurd blames
+delete_failed content name (Ref (ref.Conflict other)) blames = absurd blames
+delete_failed content name (Ref (ref.BadRefFile path)) blames = inl blames
+delete_failed content name (Ref ref.HeadLoop) blames = absurd blames
+delete_failed content name (Ref (ref.Fault f)) blames = inr (faults (DeleteBranch name) (failure_of f) (shown content))
+delete_failed content name (Store e) blames = absurd blames
+delete_failed content name (Missing id) blames = absurd blames
+delete_failed content name (NotACommit id) blames = absurd blames
+delete_failed content name BadPath blames = absurd blames
+delete_failed content name PathConflict blames = absurd blames
+delete_failed content name (BadIndex place) blames = absurd blames
+delete_failed content name (WrongEntry at) blames = absurd blames
+delete_failed content name Down blames = absurd blames
+
+-- ---- what is in the way of a name
+
+conflict_from : (a b : List ℕ) → is_folder_of a b ≡ true → (rest : List ℕ) × (b ≡ a ++ 47 ∷ rest)
+conflict_from a b h = (drop (length (a ++ 47 ∷ [])) b, split_from_starts b (a ++ 47 ∷ []) h ∙ append_assoc a (47 ∷ []) (drop (length (a ++ 47 ∷ [])) b))
+
+folder_from : (a b : List ℕ) → (rest : List ℕ) × (b ≡ a ++ 47 ∷ rest) → is_folder_of a b ≡ true
+folder_from a b h = ap (λ c. starts_with nat_eq c (a ++ 47 ∷ [])) (h.1 ∙ sym (append_assoc a (47 ∷ []) h.0)) ∙ starts_with-append (a ++ 47 ∷ []) h.0
+
+conflicts_from : (a b : List ℕ) → conflicts a b ≡ true → Conflicts a b
+conflicts_from a b h = by (is_folder_of a b) refl
+  where
+    by : (x : Bool) → is_folder_of a b ≡ x → Conflicts a b
+    by true e = inl (conflict_from a b e)
+    by false e = inr (conflict_from b a (ap (λ x. x || is_folder_of b a) (sym e) ∙ h))
+
+conflicts_to : (a b : List ℕ) → Conflicts a b → conflicts a b ≡ true
+conflicts_to a b (inl h) = ap (λ x. x || is_folder_of b a) (folder_from a b h)
+conflicts_to a b (inr h) = by (is_folder_of a b)
+  where
+    by : (x : Bool) → x || is_folder_of b a ≡ true
+    by true = refl
+    by false = folder_from b a h
+
+some_id : (found : Option Id) (x : Id) → found ≡ Some x → is_some (option_map id_of_bytes found) ≡ true
+some_id None x e = cc
+some_id (Some y) x e = refl
+
+id_some : (found : Option Id) → is_some (option_map id_of_bytes found) ≡ true → (x : Id) × (found ≡ Some x)
+id_some None h = absurd (cc h)
+id_some (Some x) h = (x, refl)
+
+-- a name that no file is in the way of is free
+free_from : (content : FileMap) (r : Repository) (name : List ℕ) → Spells (shown content) r → IsFreeName content name → IsFree r.refs name
+free_from content r name p free m x found conflict =
+    let there : is_some (refs content m) ≡ true = ap is_some (p.refs m) ∙ some_id (get r.refs m) x found in
+    free m (record { taken = taken_from_ref content m there; conflict = conflicts_to m name conflict })
+
+-- one that a ref is in the way of isn't
+not_free : (content : FileMap) (r : Repository) (name other : List ℕ) → Spells (shown content) r → conflicts other name ≡ true → is_some (refs content other) ≡ true → ¬ IsFree r.refs name
+not_free content r name other p conflict there free =
+    let x = id_some (get r.refs other) (sym (ap is_some (p.refs other)) ∙ there) in
+    free other x.0 x.1 (conflicts_from other name conflict)
+
+-- ---- good commits
+
+module _ (content : FileMap) (r : Repository) (p : Spells (shown content) r) (id : ObjectId) where
+  closed : IsComplete content id → IsClosed git (stored r.objects) id.0
+  closed h = closed_from (objects content) r.objects p.objects id.0 h
+
+  not_closed : ¬ IsComplete content id → ¬ IsClosed git (stored r.objects) id.0
+  not_closed h c = h (closed_to (objects content) r.objects p.objects id.0 c)
+
+  history : IsHistory content id → HasHistory git (stored r.objects) id.0
+  history h = history_from (objects content) r.objects p.objects (objects_sound content) id.0 h
+
+  not_history : ¬ IsHistory content id → ¬ HasHistory git (stored r.objects) id.0
+  not_history h c = h (history_to (objects content) r.objects p.objects (objects_sound content) id.0 c)
+
+set_rel : (s : Shown) (r : Repository) (name : List ℕ) (id : ObjectId) → Spells s r → (q : RefName) → with_ref s.refs name id q ≡ option_map id_of_bytes (get (insert r.refs name id.0) q)
+unfolding with_ref
+set_rel s r name id p q =
+    ap (cond (bytes_eq q name) (Some id)) (p.refs q) ∙ map_cond id_of_bytes (bytes_eq q name) (Some id.0) (get r.refs q) ∙ ap (option_map id_of_bytes) (sym (get-put r.refs name q id.0))
+
+pub set_branch_done : (content : FileMap) (name : List ℕ) (id : ObjectId) (new : Shown) → starts_with nat_eq name (codes "refs/heads/") ≡ true → new ≡ with_refs_shown (shown content) (with_ref (refs content) name id)
+    → IsFreeName content name → IsComplete content id × IsHistory content id → Follows (SetBranch name id.0) (Did Stored) (shown content) new
+set_branch_done content name id new begins is free good = record {
+  goes = λ tests agrees r p.
+      let after = record r { refs = insert r.refs name id.0 } in (
+        after,
+        subst (λ (s : Shown). Spells s after) (sym is) (spells_refs (shown content) r (with_ref (refs content) name id) (insert r.refs name id.0) p (set_rel (shown content) r name id p)),
+        (
+          quietly Nothing (only_changes (SetRefs ((name, id.0) ∷ []) ∷ [])) Stored,
+          (branch_named name begins, free_from content r name p free, (closed content r p id good.0, history content r p id good.1), refl),
+          (r.objects, none_added r.objects, refl),
+          refl,
+          refl,
+          refl,
+        ),
+      );
+}
+
+pub set_branch_failed : (content : FileMap) (name : List ℕ) (id : ObjectId) (e : NodeFault) → BlamesBranch content name id e → IsBadFile content e ⊎ Follows (SetBranch name id.0) (fault_answer e) (shown content) (shown content)
+set_branch_failed content name id (Ref (ref.Stale current)) blames = absurd blames
+set_branch_failed content name id (Ref (ref.Conflict other)) blames = inr (declines (SetBranch name id.0) 32 (shown content) (λ tests agrees r p. inl (not_free content r name other p blames.0.here.conflict blames.1, refl)))
+set_branch_failed content name id (Ref (ref.BadRefFile path)) blames = inl (elim blames [ inl way ↦ way.0 | inr own ↦ subst (λ (n : List ℕ). IsBadRef content n) (sym own.0) own.1 ])
+set_branch_failed content name id (Ref ref.HeadLoop) blames = absurd blames
+set_branch_failed content name id (Ref (ref.Fault f)) blames = inr (faults (SetBranch name id.0) (failure_of f) (shown content))
+set_branch_failed content name id (Missing absent) blames =
+    inr (declines (SetBranch name id.0) 40 (shown content) (λ tests agrees r p. inr (free_from content r name p blames.0, inl (not_closed content r p id blames.1, refl))))
+set_branch_failed content name id (NotACommit other) blames =
+    inr (declines (SetBranch name id.0) 41 (shown content) (λ tests agrees r p. inr (free_from content r name p blames.0, inr (closed content r p id blames.1.0, inl (not_history content r p id blames.1.1, refl)))))
+set_branch_failed content name id (Store (store.BadObject f)) blames = absurd blames
+set_branch_failed content name id (Store (store.Absent absent)) blames = absurd blames
+set_branch_failed content name id (Store (store.Damaged damaged)) blames = inl blames
+set_branch_failed content name id (Store (store.Fault f)) blames = inr (faults (SetBranch name id.0) (failure_of f) (shown content))
+set_branch_failed content name id BadPath blames = absurd blames
+set_branch_failed content name id PathConflict blames = absurd blames
+set_branch_failed content name id (BadIndex place) blames = absurd blames
+set_branch_failed content name id (WrongEntry at) blames = absurd blames
+set_branch_failed content name id Down blames = absurd blames
+
+-- ---- HEAD
+
+-- a repository with another HEAD
+pub spells_head : (s : Shown) (r : Repository) (h : RefsHead) → Spells s r → Spells (with_head_shown s h) (record r { head = machine_head h })
+spells_head s r h p = record {
+  objects = p.objects;
+  refs = p.refs;
+  head = h;
+  head_shown = refl;
+  head_is = refl;
+  map = p.map;
+  map_sound = p.map_sound;
+  map_shown = p.map_shown;
+  index = p.index;
+}
+
+abbrev head_deed : RefsHead → Deed Awaited
+head_deed h = quietly Nothing (only_changes (SetHead (machine_head h) ∷ [])) Stored
+
+head_obeyed : (content : FileMap) (r : Repository) (tests : Tests git) (h : RefsHead) → Spells (shown content) r → IsLocalHead h → MayHead content h → Obeys git (rules_by git tests) r Nothing (MoveHead (machine_head h)) (head_deed h)
+head_obeyed content r tests (heads.Branch name) p fits may = (branch_named name fits, refl)
+head_obeyed content r tests (heads.Id id) p fits may = ((closed content r p id may.0, history content r p id may.1), refl)
+
+pub set_head_done : (content : FileMap) (h : RefsHead) (new : Shown) → IsLocalHead h → new ≡ with_head_shown (shown content) h → MayHead content h → Follows (MoveHead (machine_head h)) (Did Stored) (shown content) new
+set_head_done content h new fits is may = record {
+  goes = λ tests agrees r p.
+      let after = record r { head = machine_head h } in (
+        after,
+        subst (λ (s : Shown). Spells s after) (sym is) (spells_head (shown content) r h p),
+        (head_deed h, head_obeyed content r tests h p fits may, (r.objects, none_added r.objects, refl), refl, refl, refl),
+      );
+}
+
+module _ (content : FileMap) where
+  id_failed : (id : ObjectId) (e : NodeFault) → BlamesHead content (heads.Id id) e → IsBadFile content e ⊎ Follows (MoveHead (Detached id.0)) (fault_answer e) (shown content) (shown content)
+  id_failed id (Ref (ref.Stale current)) blames = absurd blames
+  id_failed id (Ref (ref.Conflict other)) blames = absurd blames
+  id_failed id (Ref (ref.BadRefFile path)) blames = absurd blames
+  id_failed id (Ref ref.HeadLoop) blames = absurd blames
+  id_failed id (Ref (ref.Fault f)) blames = inr (faults (MoveHead (Detached id.0)) (failure_of f) (shown content))
+  id_failed id (Missing absent) blames = inr (declines (MoveHead (Detached id.0)) 40 (shown content) (λ tests agrees r p. inl (not_closed content r p id blames, refl)))
+  id_failed id (NotACommit other) blames = inr (declines (MoveHead (Detached id.0)) 41 (shown content) (λ tests agrees r p. inr (closed content r p id blames.0, inl (not_history content r p id blames.1, refl))))
+  id_failed id (Store (store.BadObject f)) blames = absurd blames
+  id_failed id (Store (store.Absent absent)) blames = absurd blames
+  id_failed id (Store (store.Damaged damaged)) blames = inl blames
+  id_failed id (Store (store.Fault f)) blames = inr (faults (MoveHead (Detached id.0)) (failure_of f) (shown content))
+  id_failed id BadPath blames = absurd blames
+  id_failed id PathConflict blames = absurd blames
+  id_failed id (BadIndex place) blames = absurd blames
+  id_failed id (WrongEntry at) blames = absurd blames
+  id_failed id Down blames = absurd blames
+
+  branch_failed : (name : List ℕ) (e : NodeFault) → BlamesHead content (heads.Branch name) e → IsBadFile content e ⊎ Follows (MoveHead (OnBranch name)) (fault_answer e) (shown content) (shown content)
+  branch_failed name (Ref (ref.Stale current)) blames = absurd blames
+  branch_failed name (Ref (ref.Conflict other)) blames = absurd blames
+  branch_failed name (Ref (ref.BadRefFile path)) blames = absurd blames
+  branch_failed name (Ref ref.HeadLoop) blames = absurd blames
+  branch_failed name (Ref (ref.Fault f)) blames = inr (faults (MoveHead (OnBranch name)) (failure_of f) (shown content))
+  branch_failed name (Missing absent) blames = absurd blames
+  branch_failed name (NotACommit other) blames = absurd blames
+  branch_failed name (Store e) blames = absurd blames
+  branch_failed name BadPath blames = absurd blames
+  branch_failed name PathConflict blames = absurd blames
+  branch_failed name (BadIndex place) blames = absurd blames
+  branch_failed name (WrongEntry at) blames = absurd blames
+  branch_failed name Down blames = absurd blames
+
+  pub set_head_failed : (h : RefsHead) (e : NodeFault) → BlamesHead content h e → IsBadFile content e ⊎ Follows (MoveHead (machine_head h)) (fault_answer e) (shown content) (shown content)
+  set_head_failed (heads.Branch name) e blames = branch_failed name e blames
+  set_head_failed (heads.Id id) e blames = id_failed id e blames

@@ -1,0 +1,210 @@
+-- The machine's answers to changes of the index.
+use Rattle.std.proofs.Common.{◌≡◌, ◌≢◌, ◌⊎◌, inl, inr, ℕ, true, false, cond, List, [], ◌∷◌, Option, Some, None, refl, sym, ap, ◌∙◌, subst}
+use Rattle.std.specs.Prelude.{option_map, IsSome, bytes_eq}
+use Rattle.std.specs.FinMap.{get, insert, remove, empty, get-empty}
+use Rattle.std.specs.Option.{option_or}
+use Rattle.std.specs.Ordering.{nat_cmp}
+use Rattle.std.specs.Cmp.Lexicographic.{slice_cmp}
+use Rattle.vc_files.specs.FileMap.{FileMap}
+use Rattle.vc_format.specs.Git.{git_name}
+use Rattle.vc_index.specs.IndexMap.{IndexMap, IsIndex, HasConflict, index_entry}
+use Rattle.vc_index.specs.IndexText.{index_text}
+use Rattle.vc_index.specs.declared.entry.IndexEntry.{IndexEntry}
+use Rattle.vc_index.proofs.MapLemmas.{insert-IsIndex, remove-IsIndex}
+use Rattle.vc_model.specs.Object.{Object, Objects, blob}
+use Rattle.vc_model.specs.Repository.{Repository, Entry, Index, AllAdded, SomeAdded, with_objects, only_changes}
+use Rattle.vc_model.specs.Repository.Change.{SetIndex}
+use Rattle.vc_model.specs.Node.{Deed}
+use Rattle.vc_model.specs.Node.Answer.{Did, Declined}
+use Rattle.vc_model.specs.Node.Reply.{Stored}
+use Rattle.vc_model.specs.Clone.{Awaited, only_object, quietly}
+use Rattle.vc_model.specs.Clone.Awaited.{Nothing}
+use Rattle.vc_model.specs.Clone.Task.{Stage, Unstage}
+use Rattle.vc_model.specs.CloneCall.{IsFreePath, Obeys, Refuses}
+use Rattle.vc_model.specs.Rules.{Tests, rules_by}
+use Rattle.vc_object.specs.Decoding.{stored_object}
+use Rattle.vc_object.specs.Object.{object_name}
+use Rattle.vc_object.specs.declared.kind.Kind.TheVariants as kinds
+use Rattle.vc_object.specs.declared.mode.Mode.{Mode}
+use Rattle.vc_object.specs.declared.mode.Mode.TheVariants as modes
+use Rattle.vc_store.specs.Store.{objects, with_object}
+use Rattle.vc_store.specs.declared.faults.StoreFault.TheVariants as store
+use Rattle.vc_node.specs.declared.fault.NodeFault.{NodeFault}
+use Rattle.vc_node.specs.declared.fault.NodeFault.TheVariants.{Store, Ref, Missing, NotACommit, BadPath, PathConflict, BadIndex, WrongEntry, Down}
+use Rattle.vc_node.specs.Blames.{BlamesAdd, MayStage, TellsDamage}
+use Rattle.vc_node.specs.IndexFile.{SpellsIndex, BlamesIndex}
+use Rattle.vc_node.specs.NodeFault.{is_fault}
+use Rattle.vc_node.specs.Shown.{Shown, shown, with_objects_shown, with_index_shown}
+use Rattle.vc_node.specs.Machine.{git, machine_entry, mode_number, Spells, Follows, AgreesOn, IsBadFile, fault_answer, failure_of, object_number}
+use Rattle.vc_node.proofs.AnswerLemmas.{faults, get-put, get-unput, map_cond}
+use Rattle.vc_node.proofs.WriteLemmas.{added, added_all, spells_added}
+
+-- nothing is added
+pub none_added : (s : Objects) → AllAdded s empty s
+none_added s = record { each = λ x. by (get s x) ∙ ap (option_or (get s x)) (sym (get-empty (slice_cmp nat_cmp) x)) }
+  where
+    by : (found : Option Object) → found ≡ option_or found None
+    by None = refl
+    by (Some o) = refl
+
+-- what is shown spells the index
+pub spells_index : (content : FileMap) (r : Repository) (p : Spells (shown content) r) → SpellsIndex content p.map
+spells_index content r p = record { sound = p.map_sound; text = p.map_shown }
+
+-- a repository with another index
+pub spells_map : (s : Shown) (r : Repository) (m : IndexMap) (i : Index) → Spells s r → IsIndex m → ((q : List ℕ) → get i q ≡ option_map machine_entry (get m q)) → Spells (with_index_shown s (index_text m)) (record r { index = i })
+spells_map s r m i p sound rel = record {
+  objects = p.objects;
+  refs = p.refs;
+  head = p.head;
+  head_shown = p.head_shown;
+  head_is = p.head_is;
+  map = m;
+  map_sound = sound;
+  map_shown = refl;
+  index = rel;
+}
+
+-- ---- unstage
+
+pub unstage_done : (content : FileMap) (path : List ℕ) (new : Shown) → ((m : IndexMap) → SpellsIndex content m → new ≡ with_index_shown (shown content) (index_text (remove m path)))
+    → Follows (Unstage path) (Did Stored) (shown content) new
+unstage_done content path new is = record {
+  goes = λ tests agrees r p.
+      let i = remove r.index path in
+      let rel : (q : List ℕ) → get i q ≡ option_map machine_entry (get (remove p.map path) q) =
+      λ q. get-unput r.index path q ∙ ap (cond (bytes_eq q path) None) (p.index q) ∙ map_cond machine_entry (bytes_eq q path) None (get p.map q) ∙ ap (option_map machine_entry) (sym (get-unput p.map path q)) in
+      let after = record r { index = i } in (
+        after,
+        subst (λ (s : Shown). Spells s after) (sym (is p.map (spells_index content r p))) (spells_map (shown content) r (remove p.map path) i p (remove-IsIndex p.map path p.map_sound) rel),
+        (quietly Nothing (only_changes (SetIndex i ∷ [])) Stored, refl, (r.objects, none_added r.objects, refl), refl, refl, refl),
+      );
+}
+
+pub unstage_failed : (content : FileMap) (path : List ℕ) (e : NodeFault) → BlamesIndex content e → IsBadFile content e ⊎ Follows (Unstage path) (fault_answer e) (shown content) (shown content)
+unstage_failed content path (Store (store.BadObject f)) blames = absurd blames
+unstage_failed content path (Store (store.Absent id)) blames = absurd blames
+unstage_failed content path (Store (store.Damaged id)) blames = absurd blames
+unstage_failed content path (Store (store.Fault f)) blames = inr (faults (Unstage path) (failure_of f) (shown content))
+unstage_failed content path (BadIndex place) blames = inr (record { goes = λ tests agrees r p. absurd (blames p.map (spells_index content r p)) })
+unstage_failed content path (Ref e) blames = absurd blames
+unstage_failed content path (Missing id) blames = absurd blames
+unstage_failed content path (NotACommit id) blames = absurd blames
+unstage_failed content path BadPath blames = absurd blames
+unstage_failed content path PathConflict blames = absurd blames
+unstage_failed content path (WrongEntry at) blames = absurd blames
+unstage_failed content path Down blames = absurd blames
+
+-- ---- add
+
+some_under : (o : Option IndexEntry) (e : Entry) → option_map machine_entry o ≡ Some e → IsSome o
+some_under None e h = cc
+some_under (Some v) e h = refl
+
+some_value : (o : Option IndexEntry) → IsSome o → (v : IndexEntry) × (o ≡ Some v)
+some_value None h = absurd (cc h)
+some_value (Some v) h = (v, refl)
+
+module _ (content : FileMap) (path bytes : List ℕ) (mode : Mode) (r : Repository) (p : Spells (shown content) r) where
+  -- where no file of the index conflicts, none of the machine's does
+  free_path : ¬ HasConflict p.map path → IsFreePath r.index path
+  free_path free q e found conflict = free (q, some_under (get p.map q) e (sym (p.index q) ∙ found), conflict)
+
+  not_free_path : HasConflict p.map path → ¬ IsFreePath r.index path
+  not_free_path h free =
+      let v = some_value (get p.map h.0) h.1 in
+      free h.0 (machine_entry v.0) (p.index h.0 ∙ ap (option_map machine_entry) v.1) h.2
+
+abbrev pub staged_objects : FileMap → List ℕ → Shown
+staged_objects content bytes = with_objects_shown (shown content) (with_object (objects content) (object_name kinds.Blob bytes) (stored_object kinds.Blob bytes))
+
+abbrev pub staged_map : IndexMap → List ℕ → Mode → List ℕ → IndexMap
+staged_map m path mode bytes = insert m path (index_entry mode (object_name kinds.Blob bytes))
+
+abbrev staged_index : Repository → List ℕ → Mode → List ℕ → Index
+staged_index r path mode bytes = insert r.index path (record { mode = mode_number mode; id = git_name (blob bytes) })
+
+abbrev staged_deed : Repository → List ℕ → Mode → List ℕ → Deed Awaited
+staged_deed r path mode bytes = quietly Nothing (record { objects = only_object git (blob bytes); changes = SetIndex (staged_index r path mode bytes) ∷ [] }) Stored
+
+staged_obeyed : (content : FileMap) (path bytes : List ℕ) (mode : Mode) (tests : Tests git) (r : Repository) → AgreesOn tests → (p : Spells (shown content) r) → MayStage p.map path bytes
+    → Obeys git (rules_by git tests) r Nothing (Stage path (mode_number mode) bytes) (staged_deed r path mode bytes)
+staged_obeyed content path bytes mode tests r agrees p may =
+    ((agrees.path path).1 may.legal, free_path content path bytes mode r p may.free, agrees.sound (blob bytes) may.object, refl)
+
+pub add_done : (content : FileMap) (path bytes : List ℕ) (mode : Mode) (new : Shown) → mode ≢ modes.Tree
+    → ((m : IndexMap) → SpellsIndex content m → new ≡ with_index_shown (staged_objects content bytes) (index_text (staged_map m path mode bytes)))
+    → ((m : IndexMap) → SpellsIndex content m → MayStage m path bytes)
+    → Follows (Stage path (mode_number mode) bytes) (Did Stored) (shown content) new
+add_done content path bytes mode new file is may = record {
+  goes = λ tests agrees r p.
+      let o = blob bytes in
+      let k = git_name o in
+      let ok = may p.map (spells_index content r p) in
+      let v = index_entry mode (object_name kinds.Blob bytes) in
+      let i = staged_index r path mode bytes in
+      let rel : (q : List ℕ) → get i q ≡ option_map machine_entry (get (staged_map p.map path mode bytes) q) =
+      λ q. get-put r.index path q (machine_entry v) ∙ ap (cond (bytes_eq q path) (Some (machine_entry v))) (p.index q) ∙ map_cond machine_entry (bytes_eq q path) (Some v) (get p.map q) ∙ ap (option_map machine_entry) (sym (get-put p.map path q v)) in
+      let sound = insert-IsIndex p.map path v p.map_sound (record { legal = ok.legal; mode = file; id = ok.id }) ok.free in
+      let stored = with_objects r (added r.objects k o) in
+      let after = record stored { index = i } in (
+        after,
+        subst (λ (s : Shown). Spells s after) (sym (is p.map (spells_index content r p))) (spells_map (staged_objects content bytes) stored (staged_map p.map path mode bytes) i (spells_added (shown content) r k o p) sound rel),
+        (staged_deed r path mode bytes, staged_obeyed content path bytes mode tests r agrees p ok, (added r.objects k o, added_all r.objects k o, refl), refl, refl, refl),
+      );
+}
+
+-- what an add left that was cut
+abbrev pub LeftByAdd : FileMap → IndexMap → List ℕ → List ℕ → NodeFault → FileMap → Type 0
+LeftByAdd content m path bytes e new = (new ≡ content) ⊎ ((is_fault e ≡ true) × MayStage m path bytes × (shown new ≡ staged_objects content bytes))
+
+some_added : {s c after : Objects} → AllAdded s c after → SomeAdded s c after
+some_added all = record { each = λ x. inr (all.each x) }
+
+-- a refusal, after which nothing has changed
+add_declined : (content : FileMap) (path bytes : List ℕ) (mode : Mode) (e : NodeFault) (n : ℕ) (new : FileMap) → is_fault e ≡ false → fault_answer e ≡ Declined n
+    → ((m : IndexMap) → SpellsIndex content m → LeftByAdd content m path bytes e new)
+    → ((tests : Tests git) → AgreesOn tests → (r : Repository) → Spells (shown content) r → Refuses git (rules_by git tests) r (Stage path (mode_number mode) bytes) n)
+    → Follows (Stage path (mode_number mode) bytes) (Declined n) (shown content) (shown new)
+add_declined content path bytes mode e n new sound is left refuses = record {
+  goes = λ tests agrees r p.
+      elim (left p.map (spells_index content r p)) [
+        | inl same ↦ (r, subst (λ (c : FileMap). Spells (shown c) r) (sym same) p, (refuses tests agrees r p, refl))
+        | inr cut ↦ absurd (let bad : true ≡ false = sym cut.0 ∙ sound in cc)
+      ];
+}
+
+pub add_failed : (content : FileMap) (path bytes : List ℕ) (mode : Mode) (e : NodeFault) (new : FileMap) → ((m : IndexMap) → SpellsIndex content m → BlamesAdd content m path bytes e) → TellsDamage content e
+    → ((m : IndexMap) → SpellsIndex content m → LeftByAdd content m path bytes e new)
+    → IsBadFile content e ⊎ Follows (Stage path (mode_number mode) bytes) (fault_answer e) (shown content) (shown new)
+add_failed content path bytes mode (Store (store.BadObject f)) new blames damage left =
+    inr (add_declined content path bytes mode (Store (store.BadObject f)) (object_number f) new refl refl left (λ tests agrees r p.
+    let b = blames p.map (spells_index content r p) in
+    inr ((agrees.path path).1 b.0, inr (free_path content path bytes mode r p b.1, agrees.fault (blob bytes) f b.2))))
+add_failed content path bytes mode (Store (store.Absent id)) new blames damage left = inr (record { goes = λ tests agrees r p. absurd (blames p.map (spells_index content r p)) })
+add_failed content path bytes mode (Store (store.Damaged id)) new blames damage left = inl damage
+add_failed content path bytes mode (Store (store.Fault f)) new blames damage left = inr (record {
+  goes = λ tests agrees r p.
+      let k = git_name (blob bytes) in
+      let o = blob bytes in
+      elim (left p.map (spells_index content r p)) [
+        | inl same ↦ (r, subst (λ (c : FileMap). Spells (shown c) r) (sym same) p, inr refl)
+        | inr cut ↦ (
+          with_objects r (added r.objects k o),
+          subst (λ (s : Shown). Spells s (with_objects r (added r.objects k o))) (sym cut.2) (spells_added (shown content) r k o p),
+          inl (staged_deed r path mode bytes, staged_obeyed content path bytes mode tests r agrees p cut.1, inl (added r.objects k o, some_added (added_all r.objects k o), refl), refl),
+        )
+      ];
+})
+add_failed content path bytes mode BadPath new blames damage left =
+    inr (add_declined content path bytes mode BadPath 60 new refl refl left (λ tests agrees r p. inl (λ t. blames p.map (spells_index content r p) ((agrees.path path).0 t), refl)))
+add_failed content path bytes mode PathConflict new blames damage left =
+    inr (add_declined content path bytes mode PathConflict 61 new refl refl left (λ tests agrees r p.
+    let b = blames p.map (spells_index content r p) in
+    inr ((agrees.path path).1 b.0, inl (not_free_path content path bytes mode r p b.1, refl))))
+add_failed content path bytes mode (BadIndex place) new blames damage left = inr (record { goes = λ tests agrees r p. absurd (blames p.map (spells_index content r p)) })
+add_failed content path bytes mode (Ref e) new blames damage left = inr (record { goes = λ tests agrees r p. absurd (blames p.map (spells_index content r p)) })
+add_failed content path bytes mode (Missing id) new blames damage left = inr (record { goes = λ tests agrees r p. absurd (blames p.map (spells_index content r p)) })
+add_failed content path bytes mode (NotACommit id) new blames damage left = inr (record { goes = λ tests agrees r p. absurd (blames p.map (spells_index content r p)) })
+add_failed content path bytes mode (WrongEntry at) new blames damage left = inr (record { goes = λ tests agrees r p. absurd (blames p.map (spells_index content r p)) })
+add_failed content path bytes mode Down new blames damage left = inr (record { goes = λ tests agrees r p. absurd (blames p.map (spells_index content r p)) })

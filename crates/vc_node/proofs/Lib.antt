@@ -1,0 +1,10 @@
+pub mod ShownLemmas
+pub mod CommitLemmas
+pub mod AnswerLemmas
+pub mod WriteLemmas
+pub mod IndexLemmas
+pub mod TreeLemmas
+pub mod TreeLaws
+pub mod BranchLemmas
+pub mod ReachLemmas
+pub mod MakingLemmas

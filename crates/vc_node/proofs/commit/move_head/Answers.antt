@@ -1,0 +1,7 @@
+use Rattle.vc_node.proofs.ShownLemmas.{shown_head}
+use Rattle.vc_node.proofs.commit.move_head.Goals as goal
+
+pub returns-in_ok-set_head-in-Id-clause-moved : goal.returns-in_ok-set_head-in-Id-clause-moved
+returns-in_ok-set_head-in-Id-clause-moved g c = λ honest.
+    let is = shown_head _ _ _ (c.in_ok-set_head-in-Id.ensures.only honest) (c.in_ok-set_head-in-Id.ensures.refs honest) (c.in_ok-set_head-in-Id.ensures.set honest) in
+    rw c.in-Id.is is

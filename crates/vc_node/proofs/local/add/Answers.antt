@@ -1,0 +1,43 @@
+use Rattle.std.proofs.Common.{◌≡◌, ap, ◌∙◌, rules, sym, subst, true}
+use Rattle.std.specs.FinMap as paths
+use Rattle.vc_index.specs.IndexMap.{IndexMap, HasConflict, index_entry}
+use Rattle.vc_index.specs.IndexText.{index_text}
+use Rattle.vc_object.specs.declared.id.ObjectId.{ObjectId}
+use Rattle.vc_object.specs.ObjectId.{is_id}
+use Rattle.vc_object.specs.Decoding.{stored_object}
+use Rattle.vc_object.specs.Object.{object_name}
+use Rattle.vc_object.specs.declared.kind.Kind.TheVariants.{Blob}
+use Rattle.vc_store.specs.Store.{objects, with_object}
+use Rattle.vc_node.specs.Shown.{Shown, shown, with_objects_shown, with_index_shown}
+use Rattle.vc_node.specs.Blames.{MayStage}
+use Rattle.vc_node.proofs.ShownLemmas.{shown_index, shown_objects_from}
+use Rattle.vc_node.proofs.local.add.Goals as goal
+
+pub returns-clause-added : goal.returns-clause-added
+returns-clause-added g c = λ honest m spells.
+    let content = g.F.Files.content in
+    let bytes = c.args.bytes.now in
+    let path = c.args.path.now in
+    let first : shown (content c.put.new.files) ≡ with_objects_shown (shown (content c.args.files.now)) (with_object (objects (content c.args.files.now)) (object_name Blob bytes) (stored_object Blob bytes)) =
+    shown_objects_from _ _ _ _ _ _ c.in_ok-index.ensures.same (c.in_ok-put.ensures.outside honest) (c.in_ok-put.ensures.objects honest) c.in_ok-put.ensures.name in
+    let made : c.add.new.self ≡ paths.insert m path (index_entry c.args.mode (object_name Blob bytes)) =
+    c.in_ok-add.ensures.ok ∙ ap (λ (i : IndexMap). paths.insert i path (index_entry c.args.mode c.name_of-name.result)) (c.in_ok-index.ensures.again honest m spells)
+    ∙ ap (λ (n : ObjectId). paths.insert m path (index_entry c.args.mode n)) c.name_of-name.ensures.name in
+    shown_index _ _ _ (c.in_ok-write_index.ensures.written honest) ∙ ap (λ (s : Shown). with_index_shown s (index_text c.add.new.self)) first
+    ∙ ap (λ (i : IndexMap). with_index_shown (with_objects_shown (shown (content c.args.files.now)) (with_object (objects (content c.args.files.now)) (object_name Blob bytes) (stored_object Blob bytes))) (index_text i)) made
+
+pub returns-in_err-write_index-clause-left : goal.returns-in_err-write_index-clause-left
+returns-in_err-write_index-clause-left g c = λ honest m spells.
+    let content = g.F.Files.content in
+    let bytes = c.args.bytes.now in
+    let first : shown (content c.put.new.files) ≡ with_objects_shown (shown (content c.args.files.now)) (with_object (objects (content c.args.files.now)) (object_name Blob bytes) (stored_object Blob bytes)) =
+    shown_objects_from _ _ _ _ _ _ c.in_ok-index.ensures.same (c.in_ok-put.ensures.outside honest) (c.in_ok-put.ensures.objects honest) c.in_ok-put.ensures.name in
+    let all : shown (content c.write_index.new.files) ≡ with_objects_shown (shown (content c.args.files.now)) (with_object (objects (content c.args.files.now)) (object_name Blob bytes) (stored_object Blob bytes)) =
+    ap shown (c.in_err-write_index.ensures.err honest) ∙ first in
+    let may : MayStage m c.args.path.now bytes = record {
+      legal = c.in_ok-add.ensures.legal (search rules);
+      free = λ h. c.in_ok-add.ensures.free (search rules) (subst (λ (i : IndexMap). HasConflict i c.args.path.now) (sym (c.in_ok-index.ensures.again honest m spells)) h);
+      object = c.in_ok-put.ensures.legal (search rules);
+      id = subst (λ (n : ObjectId). is_id n ≡ true) c.name_of-name.ensures.name c.name_of-name.ensures.valid;
+    } in
+    search (rules, all, may)

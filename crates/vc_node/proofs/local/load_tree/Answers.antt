@@ -1,0 +1,13 @@
+use Rattle.std.proofs.Common.{refl}
+use Rattle.vc_node.proofs.ShownLemmas.{shown_index_from}
+use Rattle.vc_node.proofs.local.load_tree.Goals as goal
+
+pub returns-clause-loaded : goal.returns-clause-loaded
+returns-clause-loaded g c = λ honest. record {
+  index = c.in_ok-index.index;
+  files = c.in_ok-index.ensures.files honest;
+  blobs = c.in_ok-index.ensures.blobs honest;
+  reads = c.in_ok-index.ensures.reading honest;
+  sound = c.in_ok-write_index.ensures.index;
+  is = shown_index_from _ _ _ _ _ c.in_ok-index.ensures.same (c.in_ok-write_index.ensures.written honest) refl;
+}

@@ -1,0 +1,12 @@
+use Rattle.std.proofs.Common.{ap, ◌∙◌}
+use Rattle.std.specs.FinMap as paths
+use Rattle.vc_index.specs.IndexMap.{IndexMap}
+use Rattle.vc_index.specs.IndexText.{index_text}
+use Rattle.vc_node.proofs.ShownLemmas.{shown_index_from}
+use Rattle.vc_node.proofs.local.unstage.Goals as goal
+
+pub returns-clause-removed : goal.returns-clause-removed
+returns-clause-removed g c = λ honest m spells.
+    let path = c.args.path.now in
+    shown_index_from _ _ _ _ _ c.in_ok-index.ensures.same (c.in_ok-write_index.ensures.written honest)
+    (ap index_text (c.remove.ensures ∙ ap (λ (i : IndexMap). paths.remove i path) (c.in_ok-index.ensures.again honest m spells)))

@@ -1,0 +1,8 @@
+use Rattle.vc_node.proofs.TreeLaws.{trees_give_one, given_trees_are_closed}
+use Rattle.vc_node.proofs.trees_give_what_the_machine_asks.Goals as goal
+
+pub returns-clause-one : goal.returns-clause-one
+returns-clause-one c = trees_give_one
+
+pub returns-clause-closed : goal.returns-clause-closed
+returns-clause-closed c = given_trees_are_closed

@@ -1,0 +1,9 @@
+pub mod NodeFault
+pub mod Held
+pub mod IndexFile
+pub mod GoodCommit
+pub mod Shown
+pub mod Blames
+pub mod Machine
+pub mod Commit
+pub mod TreeLaw

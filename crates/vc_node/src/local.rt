@@ -1,0 +1,178 @@
+// What the local commands do to files: each looks for what refuses it before it writes, and writes an object before what
+// names it.
+ghost use Rattle.std.specs.Prelude.{◌≡◌, ◌≢◌, ◌⊎◌, IfOk, IfErr, OnOk, OnErr, IsErrOf, IsErrAnd, IsOk, codes, true, false};
+ghost use Rattle.std.specs.FinMap as paths;
+ghost use Rattle.vc_files.specs.Failures.{Wears};
+ghost use Rattle.vc_index.specs.IndexMap.{IndexMap, HasConflict, index_entry};
+ghost use Rattle.vc_index.specs.IndexText.{index_text};
+ghost use Rattle.vc_index.specs.Path.{IsPath};
+ghost use Rattle.vc_object.specs.Decoding.{stored_object};
+ghost use Rattle.vc_object.specs.Object.{object_name, IsObject};
+ghost use Rattle.vc_refs.specs.RefMap.{IsInRefs, with_ref, without_ref};
+ghost use Rattle.vc_refs.specs.Refs.{refs};
+ghost use Rattle.vc_refs.specs.Way.{IsFree};
+ghost use Rattle.vc_store.specs.Store.{objects, with_object};
+ghost use Rattle.vc_index.specs.Loading.{HasBlobs};
+ghost use Rattle.vc_index.specs.TreeFiles.{IsFileOfTree};
+ghost use Rattle.vc_object.specs.declared.mode.Mode.{Mode as ModeValue};
+ghost use Rattle.vc_object.specs.declared.id.ObjectId.{ObjectId as Id};
+ghost use Rattle.vc_object.specs.declared.kind.Kind.TheVariants.{Blob};
+ghost use Rattle.vc_refs.specs.Head.{IsHeadInRefs};
+ghost use Rattle.vc_node.specs.Blames.{BlamesWrite, BlamesAdd, BlamesBranch, BlamesPut, BlamesHead, BlamesLoad, BlamesRemoved, MayStage, MayHead, TellsDamage};
+ghost use Rattle.vc_node.specs.GoodCommit.{IsComplete, IsHistory};
+ghost use Rattle.vc_node.specs.IndexFile.{SpellsIndex, BlamesIndex};
+ghost use Rattle.vc_node.specs.NodeFault.{is_fault};
+ghost use Rattle.vc_node.specs.Shown.{IsLoaded, shown, with_objects_shown, with_refs_shown, with_head_shown, with_index_shown};
+
+use crate::NodeFault;
+use crate::checks::refuse_bad_commit;
+use crate::index_file::{read_index, write_index};
+use std::alloc::Global;
+use vc_files::{Fault, Files};
+use vc_index::Index;
+use vc_object::{Kind, Mode, ObjectId};
+use vc_refname::RefName;
+use vc_refs::{Head, RefFault, refuse_conflict};
+use vc_store::StoreFault;
+
+/// Stores an object.
+pub(crate) fn write<F: Files>(
+    alloc: Global,
+    files: &mut F,
+    kind: Kind,
+    body: &[u8],
+) -> Result<ObjectId, NodeFault>
+    ensures name { IfOk result (λ id. id ≡ object_name kind body.now) }
+    ensures legal { IsOk result → IsObject kind body.now }
+    ensures stored { F.honest → IfOk result (λ id. shown (F.content files.new) ≡ with_objects_shown (shown (F.content files.old)) (with_object (objects (F.content files.old)) id (stored_object kind body.now))) }
+    ensures refused { F.honest → IfErr result (BlamesWrite (F.content files.old) kind body.now) }
+    ensures err { F.honest → OnErr result (F.content files.new ≡ F.content files.old) }
+    ensures wear { Wears F.failed F.can_fail files.old files.new (IsErrOf result (NodeFault.Store (StoreFault.Fault Fault.Device))) }
+{
+    let id = vc_store::put(files, alloc, kind, body)?;
+    Ok(id)
+}
+
+/// Takes a path away from the index.
+pub(crate) fn unstage<F: Files>(alloc: Global, files: &mut F, path: &[u8]) -> Result<(), NodeFault>
+    ensures removed { F.honest → (m : IndexMap) → SpellsIndex (F.content files.old) m → OnOk result (shown (F.content files.new) ≡ with_index_shown (shown (F.content files.old)) (index_text (paths.remove m path.now))) }
+    ensures refused { F.honest → IfErr result (BlamesIndex (F.content files.old)) }
+    ensures err { F.honest → OnErr result (F.content files.new ≡ F.content files.old) }
+    ensures wear { Wears F.failed F.can_fail files.old files.new (IsErrOf result (NodeFault.Store (StoreFault.Fault Fault.Device))) }
+{
+    let mut index = read_index(alloc, files)?;
+    index.remove(path);
+    write_index(alloc, files, &index)?;
+    Ok(())
+}
+
+/// Stores the blob of a file and puts the file into the index.
+pub(crate) fn add<F: Files>(
+    alloc: Global,
+    files: &mut F,
+    path: &[u8],
+    mode: Mode,
+    bytes: &[u8],
+) -> Result<(), NodeFault>
+    requires { mode ≢ Mode.Tree }
+    ensures added { F.honest → (m : IndexMap) → SpellsIndex (F.content files.old) m → OnOk result (shown (F.content files.new) ≡ with_index_shown (with_objects_shown (shown (F.content files.old)) (with_object (objects (F.content files.old)) (object_name Blob bytes.now) (stored_object Blob bytes.now))) (index_text (paths.insert m path.now (index_entry mode (object_name Blob bytes.now))))) }
+    ensures may { F.honest → (m : IndexMap) → SpellsIndex (F.content files.old) m → OnOk result (MayStage m path.now bytes.now) }
+    ensures refused { F.honest → (m : IndexMap) → SpellsIndex (F.content files.old) m → IfErr result (BlamesAdd (F.content files.old) m path.now bytes.now) }
+    ensures damaged { F.honest → IfErr result (TellsDamage (F.content files.old)) }
+    ensures left { F.honest → (m : IndexMap) → SpellsIndex (F.content files.old) m → IfErr result (λ e. (F.content files.new ≡ F.content files.old) ⊎ ((is_fault e ≡ true) × MayStage m path.now bytes.now × (shown (F.content files.new) ≡ with_objects_shown (shown (F.content files.old)) (with_object (objects (F.content files.old)) (object_name Blob bytes.now) (stored_object Blob bytes.now))))) }
+    ensures wear { Wears F.failed F.can_fail files.old files.new (IsErrOf result (NodeFault.Store (StoreFault.Fault Fault.Device))) }
+{
+    let mut index = read_index(alloc, files)?;
+    let name = vc_object::name_of(Kind::Blob, bytes);
+    index.add(alloc, path, mode, name)?;
+    vc_store::put(files, alloc, Kind::Blob, bytes)?;
+    write_index(alloc, files, &index)?;
+    Ok(())
+}
+
+/// Makes the index that of a tree's files.
+pub(crate) fn load_tree<F: Files>(
+    alloc: Global,
+    files: &mut F,
+    id: &ObjectId,
+) -> Result<(), NodeFault>
+    ensures loaded { F.honest → OnOk result (IsLoaded (F.content files.old) id.now (F.content files.new)) }
+    ensures refused { F.honest → IfErr result (BlamesLoad (F.content files.old) id.now) }
+    ensures err { F.honest → OnErr result (F.content files.new ≡ F.content files.old) }
+    ensures wear { Wears F.failed F.can_fail files.old files.new (IsErrOf result (NodeFault.Store (StoreFault.Fault Fault.Device))) }
+{
+    let index = Index::from_tree(alloc, files, id)?;
+    write_index(alloc, files, &index)?;
+    Ok(())
+}
+
+/// Makes HEAD a branch, or the id of a good commit.
+pub(crate) fn set_head<F: Files>(alloc: Global, files: &mut F, head: &Head) -> Result<(), NodeFault>
+    requires { IsHeadInRefs head.now }
+    ensures set { F.honest → OnOk result (shown (F.content files.new) ≡ with_head_shown (shown (F.content files.old)) head.now) }
+    ensures may { F.honest → OnOk result (MayHead (F.content files.old) head.now) }
+    ensures refused { F.honest → IfErr result (BlamesHead (F.content files.old) head.now) }
+    ensures err { F.honest → OnErr result (F.content files.new ≡ F.content files.old) }
+{
+    if let Head::Id(id) = head {
+        refuse_bad_commit(alloc, files, id)?;
+    }
+    vc_refs::set_head(files, alloc, head)?;
+    Ok(())
+}
+
+/// Sets a ref, whatever it is.
+pub(crate) fn put_ref<F: Files>(
+    alloc: Global,
+    files: &mut F,
+    name: &RefName,
+    id: ObjectId,
+) -> Result<(), NodeFault>
+    requires { IsInRefs name.now }
+    ensures set { F.honest → OnOk result (shown (F.content files.new) ≡ with_refs_shown (shown (F.content files.old)) (with_ref (refs (F.content files.old)) name.now id)) }
+    ensures free { F.honest → OnOk result (IsFree (F.content files.old) name.now) }
+    ensures refused { F.honest → IfErr result (BlamesPut (F.content files.old) name.now) }
+    ensures err { F.honest → OnErr result (F.content files.new ≡ F.content files.old) }
+    ensures wear { Wears F.failed F.can_fail files.old files.new (IsErrOf result (NodeFault.Ref (RefFault.Fault Fault.Device))) }
+{
+    let current = vc_refs::get(files, alloc, name)?;
+    vc_refs::set(files, alloc, name, current, id)?;
+    Ok(())
+}
+
+/// Sets a branch to a good commit, whatever it is.
+pub(crate) fn set_branch<F: Files>(
+    alloc: Global,
+    files: &mut F,
+    branch: &RefName,
+    id: &ObjectId,
+) -> Result<(), NodeFault>
+    requires { IsInRefs branch.now }
+    ensures set { F.honest → OnOk result (shown (F.content files.new) ≡ with_refs_shown (shown (F.content files.old)) (with_ref (refs (F.content files.old)) branch.now id.now)) }
+    ensures free { F.honest → OnOk result (IsFree (F.content files.old) branch.now) }
+    ensures good { F.honest → OnOk result (IsComplete (F.content files.old) id.now × IsHistory (F.content files.old) id.now) }
+    ensures refused { F.honest → IfErr result (BlamesBranch (F.content files.old) branch.now id.now) }
+    ensures err { F.honest → OnErr result (F.content files.new ≡ F.content files.old) }
+{
+    refuse_conflict(files, alloc, branch)?;
+    refuse_bad_commit(alloc, files, id)?;
+    put_ref(alloc, files, branch, id.named())?;
+    Ok(())
+}
+
+/// Removes a ref, whatever it is.
+pub(crate) fn remove_ref<F: Files>(
+    alloc: Global,
+    files: &mut F,
+    name: &RefName,
+) -> Result<(), NodeFault>
+    requires { IsInRefs name.now }
+    ensures removed { F.honest → OnOk result (shown (F.content files.new) ≡ with_refs_shown (shown (F.content files.old)) (without_ref (refs (F.content files.old)) name.now)) }
+    ensures refused { F.honest → IfErr result (BlamesRemoved (F.content files.old)) }
+    ensures err { F.honest → OnErr result (F.content files.new ≡ F.content files.old) }
+    ensures wear { Wears F.failed F.can_fail files.old files.new (IsErrOf result (NodeFault.Ref (RefFault.Fault Fault.Device))) }
+{
+    let current = vc_refs::get(files, alloc, name)?;
+    vc_refs::remove(files, alloc, name, current)?;
+    Ok(())
+}

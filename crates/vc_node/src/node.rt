@@ -1,0 +1,254 @@
+// A clone.
+ghost use Rattle.std.specs.Prelude.{◌≡◌, ◌≢◌, ◌⊎◌, OnOk, OnErr, IfOk, IfErr, IsErrOf, true, false, not, nat_eq, codes};
+ghost use Rattle.std.specs.List.{starts_with};
+ghost use Rattle.vc_model.specs.Clone.Task.{Write, Stage, Unstage, LoadTree, SetBranch, DeleteBranch, MoveHead};
+ghost use Rattle.vc_refs.specs.Head.{IsHeadInRefs};
+ghost use Rattle.vc_node.specs.Blames.{BlamesLoad, BlamesOpen, IsLocalHead};
+ghost use Rattle.vc_files.specs.FileMap.{SameOutside};
+ghost use Rattle.vc_node.specs.Commit.{IsCommitted};
+ghost use Rattle.vc_node.specs.Machine.{Answers, OrBadFile, machine_object, mode_number, machine_head, made_answer, done_answer, up_after};
+ghost use Rattle.vc_node.specs.NodeFault.{is_fault};
+ghost use Rattle.vc_node.specs.Shown.{IsLoaded, IsReady, shown};
+
+use crate::commit::Words;
+use crate::index_file::read_index;
+use crate::{NodeFault, commit, local};
+use std::alloc::Global;
+use std::marker::Model;
+use vc_files::{Fault, Files};
+use vc_object::{Kind, Mode, ObjectId};
+use vc_refname::RefName;
+use vc_refs::Head;
+use vc_store::StoreFault;
+
+/// A clone over files: objects, refs, HEAD and an index. Once a call has ended in a fault, each later one but
+/// [`close`](CloneNode::close) is refused (112), until the files are opened again.
+#[derive(Drop)]
+pub struct CloneNode<F> {
+    files: F,
+    alloc: Global,
+    is_up: bool,
+}
+
+impl<F> Model for CloneNode<F> {
+    ghost use Rattle.vc_node.specs.Held.{Held};
+
+    ghost Value = { Held F };
+
+    ghost view = { λ s. record { files = s.files; is_up = s.is_up } };
+}
+
+impl<F: Files> CloneNode<F> {
+    /// The clone that the files hold, with nothing awaited. In a new one HEAD names the branch `main`, and the index has
+    /// no files. Where the files are none of a clone's (33 and 34: HEAD, 62: the index), or a fault comes, they are handed
+    /// back.
+    pub fn open(alloc: Global, mut files: F) -> Result<CloneNode<F>, (F, NodeFault)>
+        ensures ready { F.honest → IfOk result (λ node. IsReady (F.content files) (F.content node.files)) }
+        ensures up { IfOk result (λ node. node.is_up ≡ true) }
+        ensures refused { F.honest → IfErr result (λ e. BlamesOpen (F.content files) e.1) }
+        ensures err { F.honest → IfErr result (λ e. F.content e.0 ≡ F.content files) }
+    {
+        match make_ready(alloc, &mut files) {
+            Ok(()) => Ok(CloneNode {
+                files,
+                alloc,
+                is_up: true,
+            }),
+            Err(fault) => Err((files, fault)),
+        }
+    }
+
+    /// The files, whatever state the node is in.
+    pub fn close(self) -> F
+        ensures { result ≡ self.files }
+    {
+        let CloneNode {
+            files,
+            alloc: _,
+            is_up: _,
+        } = self;
+        files
+    }
+
+    // The fault, after which the node is down if it is no refusal.
+    fn fail(&mut self, fault: NodeFault) -> NodeFault
+        ensures fault { result ≡ fault }
+        ensures files { self.new.files ≡ self.old.files }
+        ensures up { self.old.is_up ≡ true → self.new.is_up ≡ not (is_fault fault) }
+    {
+        if fault.is_fault() {
+            self.is_up = false;
+        }
+        fault
+    }
+
+    /// Stores an object, and answers its name. One that is there stays as it is.
+    pub fn write(&mut self, kind: Kind, body: &[u8]) -> Result<ObjectId, NodeFault>
+        ensures answers { F.honest → OrBadFile (F.content self.old.files) result (Answers (Write (machine_object kind body.now)) (made_answer result) self.old.is_up self.new.is_up (shown (F.content self.old.files)) (shown (F.content self.new.files))) }
+        ensures down { self.old.is_up ≡ false → result ≡ Err NodeFault.Down }
+        ensures err { F.honest → OnErr result (F.content self.new.files ≡ F.content self.old.files) }
+        ensures up { self.old.is_up ≡ true → self.new.is_up ≡ up_after result }
+    {
+        if !self.is_up {
+            return Err(NodeFault::Down);
+        }
+        match local::write(self.alloc, &mut self.files, kind, body) {
+            Ok(id) => Ok(id),
+            Err(fault) => Err(self.fail(fault)),
+        }
+    }
+
+    /// Takes a path away from the index. Where nothing stands, nothing changes.
+    pub fn unstage(&mut self, path: &[u8]) -> Result<(), NodeFault>
+        ensures answers { F.honest → OrBadFile (F.content self.old.files) result (Answers (Unstage path.now) (done_answer result) self.old.is_up self.new.is_up (shown (F.content self.old.files)) (shown (F.content self.new.files))) }
+        ensures down { self.old.is_up ≡ false → result ≡ Err NodeFault.Down }
+        ensures err { F.honest → OnErr result (F.content self.new.files ≡ F.content self.old.files) }
+        ensures up { self.old.is_up ≡ true → self.new.is_up ≡ up_after result }
+    {
+        if !self.is_up {
+            return Err(NodeFault::Down);
+        }
+        match local::unstage(self.alloc, &mut self.files, path) {
+            Ok(()) => Ok(()),
+            Err(fault) => Err(self.fail(fault)),
+        }
+    }
+
+    /// Stores the blob of a file or a link, and puts the file into the index. A path that may not stand there (60) is
+    /// refused before one that conflicts with a file of the index (61), and that before a body that is too large (3).
+    pub fn add(&mut self, path: &[u8], mode: Mode, bytes: &[u8]) -> Result<(), NodeFault>
+        requires { mode ≢ Mode.Tree }
+        ensures answers { F.honest → OrBadFile (F.content self.old.files) result (Answers (Stage path.now (mode_number mode) bytes.now) (done_answer result) self.old.is_up self.new.is_up (shown (F.content self.old.files)) (shown (F.content self.new.files))) }
+        ensures down { self.old.is_up ≡ false → result ≡ Err NodeFault.Down }
+        ensures up { self.old.is_up ≡ true → self.new.is_up ≡ up_after result }
+    {
+        if !self.is_up {
+            return Err(NodeFault::Down);
+        }
+        match local::add(self.alloc, &mut self.files, path, mode, bytes) {
+            Ok(()) => Ok(()),
+            Err(fault) => Err(self.fail(fault)),
+        }
+    }
+
+    /// Removes a branch. Where there is none, nothing changes.
+    pub fn delete_branch(&mut self, branch: &RefName) -> Result<(), NodeFault>
+        requires { starts_with nat_eq branch.now (codes "refs/heads/") ≡ true }
+        ensures answers { F.honest → OrBadFile (F.content self.old.files) result (Answers (DeleteBranch branch.now) (done_answer result) self.old.is_up self.new.is_up (shown (F.content self.old.files)) (shown (F.content self.new.files))) }
+        ensures down { self.old.is_up ≡ false → result ≡ Err NodeFault.Down }
+        ensures err { F.honest → OnErr result (F.content self.new.files ≡ F.content self.old.files) }
+        ensures up { self.old.is_up ≡ true → self.new.is_up ≡ up_after result }
+    {
+        if !self.is_up {
+            return Err(NodeFault::Down);
+        }
+        match local::remove_ref(self.alloc, &mut self.files, branch) {
+            Ok(()) => Ok(()),
+            Err(fault) => Err(self.fail(fault)),
+        }
+    }
+
+    /// Sets a branch to a commit, whatever it was: 32 where its name conflicts with a ref; then 40 where not all is
+    /// there that the commit reaches, and 41 where it is no commit, or one along its parent links isn't.
+    pub fn set_branch(&mut self, branch: &RefName, id: &ObjectId) -> Result<(), NodeFault>
+        requires { starts_with nat_eq branch.now (codes "refs/heads/") ≡ true }
+        ensures answers { F.honest → OrBadFile (F.content self.old.files) result (Answers (SetBranch branch.now id.now.0) (done_answer result) self.old.is_up self.new.is_up (shown (F.content self.old.files)) (shown (F.content self.new.files))) }
+        ensures down { self.old.is_up ≡ false → result ≡ Err NodeFault.Down }
+        ensures err { F.honest → OnErr result (F.content self.new.files ≡ F.content self.old.files) }
+        ensures up { self.old.is_up ≡ true → self.new.is_up ≡ up_after result }
+    {
+        if !self.is_up {
+            return Err(NodeFault::Down);
+        }
+        match local::set_branch(self.alloc, &mut self.files, branch, id) {
+            Ok(()) => Ok(()),
+            Err(fault) => Err(self.fail(fault)),
+        }
+    }
+
+    /// Makes HEAD a branch, which need not be there, or the id of a commit, which is looked at as in
+    /// [`set_branch`](CloneNode::set_branch).
+    pub fn set_head(&mut self, head: &Head) -> Result<(), NodeFault>
+        requires { IsLocalHead head.now }
+        ensures answers { F.honest → OrBadFile (F.content self.old.files) result (Answers (MoveHead (machine_head head.now)) (done_answer result) self.old.is_up self.new.is_up (shown (F.content self.old.files)) (shown (F.content self.new.files))) }
+        ensures down { self.old.is_up ≡ false → result ≡ Err NodeFault.Down }
+        ensures err { F.honest → OnErr result (F.content self.new.files ≡ F.content self.old.files) }
+        ensures up { self.old.is_up ≡ true → self.new.is_up ≡ up_after result }
+    {
+        if !self.is_up {
+            return Err(NodeFault::Down);
+        }
+        match local::set_head(self.alloc, &mut self.files, head) {
+            Ok(()) => Ok(()),
+            Err(fault) => Err(self.fail(fault)),
+        }
+    }
+
+    /// Makes the index that of a tree's files: 60 where a path is too long, 63 where an entry leads to an object of
+    /// another kind than its mode says, and 40 where it leads to none, as the tree is read in the order of its paths.
+    pub fn load_tree(&mut self, id: &ObjectId) -> Result<(), NodeFault>
+        ensures loaded { F.honest → OnOk result (IsLoaded (F.content self.old.files) id.now (F.content self.new.files)) }
+        ensures answers { F.honest → OrBadFile (F.content self.old.files) result (Answers (LoadTree id.now.0) (done_answer result) self.old.is_up self.new.is_up (shown (F.content self.old.files)) (shown (F.content self.new.files))) }
+        ensures refused { F.honest → IfErr result (λ e. (e ≡ NodeFault.Down) ⊎ BlamesLoad (F.content self.old.files) id.now e) }
+        ensures down { self.old.is_up ≡ false → result ≡ Err NodeFault.Down }
+        ensures err { F.honest → OnErr result (F.content self.new.files ≡ F.content self.old.files) }
+        ensures up { self.old.is_up ≡ true → self.new.is_up ≡ up_after result }
+    {
+        if !self.is_up {
+            return Err(NodeFault::Down);
+        }
+        match local::load_tree(self.alloc, &mut self.files, id) {
+            Ok(()) => Ok(()),
+            Err(fault) => Err(self.fail(fault)),
+        }
+    }
+
+    /// Commits the index, and answers the name of the commit: its tree is the index's, its parents are HEAD's commit, if
+    /// there is one, and then the extra ones, and behind an empty line stand the message and LF. HEAD's branch, or a
+    /// detached HEAD, is moved to it. Refused, in this order, are an author or a committer of more than one line (8), a
+    /// HEAD whose branch conflicts with a ref (32), an extra parent of which not all is there (40) or that is no commit
+    /// (41), and a commit or a tree that is too large (3). One that changes no file is allowed.
+    pub fn commit(
+        &mut self,
+        extra_parents: &[ObjectId],
+        author: &[u8],
+        committer: &[u8],
+        message: &[u8],
+    ) -> Result<ObjectId, NodeFault>
+        ensures committed { F.honest → IfOk result (λ id. IsCommitted (F.content self.old.files) extra_parents.now author.now committer.now message.now id (F.content self.new.files)) }
+        ensures down { self.old.is_up ≡ false → result ≡ Err NodeFault.Down }
+        ensures err { F.honest → OnErr result (SameOutside (codes "objects/") (F.content self.old.files) (F.content self.new.files)) }
+        ensures up { self.old.is_up ≡ true → self.new.is_up ≡ up_after result }
+    {
+        if !self.is_up {
+            return Err(NodeFault::Down);
+        }
+        let words = Words {
+            author,
+            committer,
+            message,
+        };
+        match commit::commit(self.alloc, &mut self.files, extra_parents, words) {
+            Ok(id) => Ok(id),
+            Err(fault) => Err(self.fail(fault)),
+        }
+    }
+}
+
+// Makes the files those of a clone: HEAD, where there is none, names the branch `main`.
+fn make_ready<F: Files>(alloc: Global, files: &mut F) -> Result<(), NodeFault>
+    ensures ready { F.honest → OnOk result (IsReady (F.content files.old) (F.content files.new)) }
+    ensures refused { F.honest → IfErr result (BlamesOpen (F.content files.old)) }
+    ensures err { F.honest → OnErr result (F.content files.new ≡ F.content files.old) }
+{
+    read_index(alloc, files)?;
+    if vc_refs::head(files, alloc)?.is_some() {
+        return Ok(());
+    }
+    let Ok(main) = RefName::new(alloc, "refs/heads/main") else {
+        // The text is a legal name, so it was memory.
+        return Err(NodeFault::Store(StoreFault::Fault(Fault::Memory)));
+    };
+    vc_refs::set_head(files, alloc, &Head::Branch(main))?;
+    Ok(())
+}
