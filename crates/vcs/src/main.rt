@@ -1,0 +1,64 @@
+//! The program `vcs`: Git's object model in a folder, one subcommand a run.
+#![tactic(auto)]
+
+mod arguments;
+mod cat_file;
+mod clone;
+mod failure;
+mod hash_object;
+mod init;
+mod input;
+mod merge_base;
+mod output;
+mod pieces;
+mod repository;
+mod rev_list;
+mod rev_parse;
+mod run;
+mod show_ref;
+#[cfg(test)]
+mod tests;
+mod work;
+
+use crate::failure::Failure;
+use crate::input::{Input, known_length};
+use std::io::ErrorKind;
+use std::process::ExitCode;
+use std::{env, fs};
+
+fn main(rt: HostRuntime) -> ExitCode {
+    let mut faults = rt.stderr();
+    let input = Input {
+        stream: rt.reader(),
+        length: length_of_input(&rt),
+    };
+    ExitCode::from(match words(&rt) {
+        Ok(words) => run::run(&rt, &words, input, &mut rt.stdout(), &mut faults),
+        Err(failure) => failure.report(&mut faults),
+    })
+}
+
+// How many bytes standard input has left, where it is a file: the system tells its length and the place in it.
+fn length_of_input(rt: &HostRuntime) -> Option<usize> {
+    let metadata = fs::metadata(rt, "/proc/self/fd/0").ok()?;
+    if !metadata.is_file() {
+        return None;
+    }
+    let told = fs::read_to_string(rt, "/proc/self/fdinfo/0").ok()?;
+    let place = told.as_str().strip_prefix("pos:")?.lines().next()?;
+    let place = place.trim().parse::<u64>().ok()?;
+    known_length(true, metadata.len(), place)
+}
+
+// The words of the command line. Words that aren't text are no command line of this program.
+fn words(rt: &HostRuntime) -> Result<Vec<String>, Failure> {
+    let words = match env::args(rt) {
+        Ok(words) => words,
+        Err(error) if error.kind() == ErrorKind::InvalidData => {
+            let text = "the words of the command line aren't all UTF-8";
+            return Err(Failure::Usage(String::from_str(rt.alloc(), text)?));
+        }
+        Err(error) => return Err(Failure::from(error)),
+    };
+    Ok(words.collect(rt.alloc())?)
+}

@@ -1,0 +1,157 @@
+//! One run of the program: from words and streams to an exit status.
+
+use crate::arguments::{Request, Task, command, parents_of, request_of, terms_of};
+use crate::cat_file::cat_file;
+use crate::clone::{add, branch, branch_delete, commit, unstage, write_tree};
+use crate::failure::Failure;
+use crate::hash_object::{HashObject, hash_object};
+use crate::init::init;
+use crate::input::Input;
+use crate::merge_base::merge_base;
+use crate::rev_list::rev_list;
+use crate::rev_parse::rev_parse;
+use crate::show_ref::show_ref;
+use crate::work::{checkout, status};
+use clap::Error;
+use clap::error::ErrorKind;
+use std::convert::AsStr;
+use std::io::{Read, Write};
+use std::rt;
+use vc_files::Fault;
+
+/// The words of a command line of which there may be many.
+#[derive(Clone, Copy)]
+struct Lists<'a> {
+    terms: &'a str,
+    parents: &'a [&'a str],
+}
+
+/// Does what the words ask for and gives the exit status: 0 done, 1 refused, 2 a command line that is off, 3 a
+/// fault. Answers go to `output`, everything else to `faults`. The first word is the program's name.
+pub fn run<R, S, I, O, E>(
+    rt: &R,
+    words: &[S],
+    input: Input<I>,
+    output: &mut O,
+    faults: &mut E,
+) -> u8
+where
+    S: AsStr,
+    R: rt::Files + AllocGlobal + Clone + Drop,
+    I: Read + Drop,
+    O: Write,
+    E: Write,
+{
+    match obey(rt, words, input, output, faults) {
+        Ok(status) => status,
+        Err(failure) => failure.report(faults),
+    }
+}
+
+fn obey<R, S, I, O, E>(
+    rt: &R,
+    words: &[S],
+    input: Input<I>,
+    output: &mut O,
+    faults: &mut E,
+) -> Result<u8, Failure>
+where
+    S: AsStr,
+    R: rt::Files + AllocGlobal + Clone + Drop,
+    I: Read + Drop,
+    O: Write,
+    E: Write,
+{
+    let matches = match command(rt.alloc())?.try_get_matches_from(words) {
+        Ok(matches) => matches,
+        Err(error) => return explain(&error, output, faults),
+    };
+    let terms = terms_of(rt.alloc(), &matches)?;
+    let parents = parents_of(rt.alloc(), &matches)?;
+    let Some(request) = request_of(&matches) else {
+        return Ok(2);
+    };
+    let lists = Lists {
+        terms: terms.as_str(),
+        parents: &parents,
+    };
+    if perform(rt, &request, lists, input, output)? {
+        Ok(0)
+    } else {
+        Ok(1)
+    }
+}
+
+// Prints what the reader of the command line has to say: help that was asked for, or what is off.
+fn explain<O: Write, E: Write>(
+    error: &Error,
+    output: &mut O,
+    faults: &mut E,
+) -> Result<u8, Failure> {
+    if error.kind() == ErrorKind::OutOfMemory {
+        return Err(Failure::Fault(Fault::Memory));
+    }
+    if error.use_stderr() {
+        write!(faults, "{error}")?;
+        return Ok(2);
+    }
+    write!(output, "{error}")?;
+    Ok(0)
+}
+
+// Does what is asked, and tells whether there was an answer: to ask for what doesn't exist is status 1 with no words.
+fn perform<R, I, O>(
+    rt: &R,
+    request: &Request<'_>,
+    lists: Lists<'_>,
+    input: Input<I>,
+    output: &mut O,
+) -> Result<bool, Failure>
+where
+    R: rt::Files + AllocGlobal + Clone + Drop,
+    I: Read + Drop,
+    O: Write,
+{
+    let store = request.store;
+    match request.task {
+        Task::Init => init(rt, store)?,
+        Task::HashObject { kind, write, file } => {
+            let store = if write { Some(store) } else { None };
+            hash_object(rt, HashObject { kind, store, file }, input, output)?;
+        }
+        Task::CatFile { part, revision } => cat_file(rt, store, part, revision, output)?,
+        Task::ShowRef => show_ref(rt, store, output)?,
+        Task::RevParse { revision } => rev_parse(rt, store, revision, output)?,
+        Task::RevList => rev_list(rt, store, lists.terms, output)?,
+        Task::MergeBase { first, second } => {
+            return merge_base(rt, store, first, second, output);
+        }
+        task => work_on(rt, store, task, lists.parents, output)?,
+    }
+    Ok(true)
+}
+
+// Does what is asked of a clone's index, branches, HEAD and work tree.
+fn work_on<R, O>(
+    rt: &R,
+    store: &str,
+    task: Task<'_>,
+    parents: &[&str],
+    output: &mut O,
+) -> Result<(), Failure>
+where
+    R: rt::Files + AllocGlobal + Clone + Drop,
+    O: Write,
+{
+    match task {
+        Task::Add { mode, work, path } => add(rt, store, work, mode, path),
+        Task::Unstage { path } => unstage(rt, store, path),
+        Task::WriteTree => write_tree(rt, store, output),
+        Task::Commit(words) => commit(rt, store, words, parents, output),
+        Task::Branch { name, revision } => branch(rt, store, name, revision),
+        Task::BranchDelete { name } => branch_delete(rt, store, name),
+        Task::Checkout { work, revision } => checkout(rt, store, work, revision),
+        Task::Status { work } => status(rt, store, work, output),
+        _ => Ok(()),
+    }
+}
