@@ -239,4 +239,4 @@ fn many_steps_are_taken(rt: HostRuntime) -> Result<(), Fail> {
     Ok(())
 }
 
-const STEPS: usize = 20_000;
+const STEPS: usize = 100_000;
