@@ -70,6 +70,5 @@ present es id v e n there =
     let has : has_name (stored_name (stored v)) (objects_of es) ≡ true = ap (λ t. has_name t (objects_of es)) (sym e) ∙ sym (found_has id es n) ∙ there in
     sym (ap (λ b. cond b (objects_of es) (put_by_name (stored v) (objects_of es))) has)
 
-pub stays_named : {X Y : Type 0} (r : Result X Y) (es new : Entries) (id : ObjectId) (v : StreamObject) → id ≡ stored_name (stored v) → AreNamed es → finds id es ≡ false → OnOk r (new ≡ insert_entry id_cmp es id v) → OnErr r (new ≡ es) → AreNamed new
-stays_named (Ok x) es new id v e n none ok err = subst AreNamed (sym ok) (put es id v e n none).named
-stays_named (Err y) es new id v e n none ok err = subst AreNamed (sym err) n
+pub stays_named : (es new : Entries) (id : ObjectId) (v : StreamObject) → id ≡ stored_name (stored v) → AreNamed es → finds id es ≡ false → new ≡ insert_entry id_cmp es id v → AreNamed new
+stays_named es new id v e n none is = subst AreNamed (sym is) (put es id v e n none).named

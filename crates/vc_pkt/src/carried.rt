@@ -4,6 +4,7 @@ ghost use Rattle.vc_pkt.specs.StreamObjectView.{AreNamed};
 
 use std::alloc::{AllocError, Global};
 use std::collections::BTreeMap;
+use std::collections::btree_map::Entry;
 use vc_object::{Kind, ObjectId, name_of};
 
 /// An object as a stream carries it. Its body need not be in the grammar of its kind.
@@ -43,8 +44,11 @@ impl CarriedObjects {
         ensures err { OnErr result (self.new.by_name.entries ≡ self.old.by_name.entries) }
     {
         let id = name_of(object.kind, &object.body);
-        if !self.by_name.contains_key(&id) {
-            self.by_name.insert(id, object)?;
+        match self.by_name.entry(id)? {
+            Entry::Vacant(place) => {
+                place.insert(object);
+            }
+            Entry::Occupied(_) => {}
         }
         Ok(())
     }

@@ -1,20 +1,25 @@
-use Rattle.std.proofs.Common.{sym, ap, ◌∙◌}
+use Rattle.std.proofs.Common.{rules, ◌≡◌, None, is_some, sym, ap, ◌∙◌}
+use Rattle.std.specs.Map.{lookup}
+use Rattle.std.specs.BTreeMap.{is_at}
+use Rattle.vc_object.specs.ObjectId.{id_cmp}
 use Rattle.vc_object.specs.Object.{object_name}
 use Rattle.vc_pkt.specs.StreamObjectView.{objects_of}
 use Rattle.vc_pkt.proofs.CarriedLaws.{added, present, stays_named}
 use Rattle.vc_pkt.proofs.carried.CarriedObjects.add.Goals as goal
 
-pub invariant_of-self : goal.invariant_of-self
-invariant_of-self c =
+pub invariant_of-self-in-Vacant : goal.invariant_of-self-in-Vacant
+invariant_of-self-in-Vacant c =
     let own = c.name_of-id.ensures.name ∙ ap (λ b. object_name c.args.object.kind b) c.deref.ensures.value in
-    record { named = stays_named c.insert.result _ _ c.name_of-id.result c.args.object own c.args.self.now.named (sym c.if-not-contains_key.ensures) c.insert.ensures.entries c.insert.ensures.err }
+    let none : lookup (is_at (id_cmp c.name_of-id.result)) c.args.self.now.by_name.entries ≡ None = search rules in
+    record { named = stays_named _ _ c.name_of-id.result c.args.object own c.args.self.now.named (ap is_some none) (search rules) }
 
-pub returns-in_ok-insert-clause-ok : goal.returns-in_ok-insert-clause-ok
-returns-in_ok-insert-clause-ok c =
+pub returns-in-Vacant-clause-ok : goal.returns-in-Vacant-clause-ok
+returns-in-Vacant-clause-ok c =
     let own = c.name_of-id.ensures.name ∙ ap (λ b. object_name c.args.object.kind b) c.deref.ensures.value in
-    ap objects_of c.in_ok-insert.ensures.entries ∙ added _ c.name_of-id.result c.args.object own c.args.self.now.named (sym c.if-not-contains_key.ensures)
+    let none : lookup (is_at (id_cmp c.name_of-id.result)) c.args.self.now.by_name.entries ≡ None = search rules in
+    ap objects_of (search rules) ∙ added _ c.name_of-id.result c.args.object own c.args.self.now.named (ap is_some none)
 
-pub returns-else-not-contains_key-clause-ok : goal.returns-else-not-contains_key-clause-ok
-returns-else-not-contains_key-clause-ok c =
+pub returns-in-Occupied-clause-ok : goal.returns-in-Occupied-clause-ok
+returns-in-Occupied-clause-ok c =
     let own = c.name_of-id.ensures.name ∙ ap (λ b. object_name c.args.object.kind b) c.deref.ensures.value in
-    present _ c.name_of-id.result c.args.object own c.args.self.now.named (sym c.if-not-contains_key.ensures)
+    ap objects_of (search rules) ∙ present _ c.name_of-id.result c.args.object own c.args.self.now.named (search rules)
