@@ -10,4 +10,4 @@ pack_text pack = record { ack = pack.ack; objects = carried pack.objects }
 
 abbrev pub pack_state : PackReader → PackState
 pack_state Start = starting
-pack_state (Objects ack stream) = streaming ack (set_state stream)
+pack_state (Objects ack stream) = streaming ack.value (set_state stream)

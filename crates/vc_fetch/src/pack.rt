@@ -13,8 +13,9 @@ use crate::ids::id_line;
 use std::alloc::{AllocError, Global};
 use vc_object::{Kind, ObjectId, check};
 use vc_pkt::{
-    CarriedObjects, Line, MessageReader, ObjectStep, ObjectStream, PktError, PktFault, Step,
-    StreamProgress, read_message, take_object_line, without_lf, write_objects, write_text,
+    CarriedObjects, IncomingObjects, Line, MessageReader, ObjectStep, ObjectStream, PktError,
+    PktFault, Step, StreamProgress, read_message, take_object_line, without_lf, write_objects,
+    write_text,
 };
 
 /// The message that brings objects.
@@ -30,8 +31,9 @@ pub struct Pack {
 #[derive(Drop)]
 pub enum PackReader {
     Start,
-    /// The first line has come, and some of the objects.
-    Objects(Option<ObjectId>, ObjectStream),
+    /// The first line has come, and some of the objects. What that line said is boxed, so that the lines
+    /// behind it move one pointer and not 21 bytes.
+    Objects(Box<Option<ObjectId>>, ObjectStream),
 }
 
 /// Whether the body is in the grammar of the kind, and not over the limit.
@@ -90,14 +92,14 @@ impl MessageReader for PackReader {
                 let Some(ack) = ack_line(data) else {
                     return Err(PktError::Refused(PktFault::BadRecord(number)));
                 };
-                let objects = CarriedObjects::new(alloc);
+                let ack = Box::new(alloc, ack)?;
+                let objects = IncomingObjects::new(alloc);
                 let progress = StreamProgress::Between;
                 let stream = ObjectStream { objects, progress };
                 Ok(Step::More(PackReader::Objects(ack, stream)))
             }
             PackReader::Objects(ack, stream) => {
                 let ObjectStream { objects, progress } = stream;
-                let mut objects = objects;
                 match take_object_line(alloc, progress, line, number)? {
                     ObjectStep::More(progress) => {
                         let stream = ObjectStream { objects, progress };
@@ -107,12 +109,16 @@ impl MessageReader for PackReader {
                         if !is_object(object.kind, &object.body) {
                             return Err(PktError::Refused(PktFault::BadRecord(first)));
                         }
-                        objects.add(object)?;
+                        let objects = objects.add(alloc, object)?;
                         let progress = StreamProgress::Between;
                         let stream = ObjectStream { objects, progress };
                         Ok(Step::More(PackReader::Objects(ack, stream)))
                     }
-                    ObjectStep::End => Ok(Step::Done(Pack { ack, objects })),
+                    ObjectStep::End => {
+                        let ack = *ack;
+                        let objects = objects.finish(alloc)?;
+                        Ok(Step::Done(Pack { ack, objects }))
+                    }
                 }
             }
         }

@@ -1,6 +1,5 @@
 -- A map of carried objects as the list of them.
-use Rattle.std.proofs.Common.{◌≡◌, Bool, true, false, cond, List, [], ◌∷◌, Option, Some, is_some, ◌||◌, Result, Ok, Err, refl, ap, sym, ◌∙◌, subst, true≢false}
-use Rattle.std.specs.Prelude.{OnOk, OnErr}
+use Rattle.std.proofs.Common.{◌≡◌, Bool, true, false, cond, List, [], ◌∷◌, Option, Some, is_some, ◌||◌, refl, ap, sym, ◌∙◌, subst, true≢false}
 use Rattle.std.specs.Map.{lookup}
 use Rattle.std.specs.BTreeMap.{insert_entry, is_at}
 use Rattle.std.specs.Ordering.{is_eq, match_ordering}
@@ -12,16 +11,16 @@ use Rattle.vc_pkt.specs.Carried.{stored_name, has_name, put_by_name, with_object
 use Rattle.vc_pkt.specs.StreamObjectView.{stored, objects_of, AreNamed}
 use Rattle.vc_pkt.specs.declared.carried.StreamObject.{StreamObject}
 
-abbrev Entries : Type 0
+abbrev pub Entries : Type 0
 Entries = List (ObjectId × StreamObject)
 
-abbrev finds : ObjectId → Entries → Bool
+abbrev pub finds : ObjectId → Entries → Bool
 finds id es = is_some (lookup (is_at (id_cmp id)) es)
 
-head_same : (k l : ObjectId) (ks ls : List ObjectId) → k ∷ ks ≡ l ∷ ls → k ≡ l
+pub head_same : (k l : ObjectId) (ks ls : List ObjectId) → k ∷ ks ≡ l ∷ ls → k ≡ l
 head_same k l ks ls e = cc e
 
-tail_same : (k l : ObjectId) (ks ls : List ObjectId) → k ∷ ks ≡ l ∷ ls → ks ≡ ls
+pub tail_same : (k l : ObjectId) (ks ls : List ObjectId) → k ∷ ks ≡ l ∷ ls → ks ≡ ls
 tail_same k l ks ls e = cc e
 
 found_step : (b c d : Bool) (o : Option StreamObject) (v : StreamObject) → b ≡ c → is_some o ≡ d → is_some (cond b (Some v) o) ≡ (c || d)

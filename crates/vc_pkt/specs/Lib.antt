@@ -14,6 +14,7 @@ pub mod ObjectLine
 pub mod Carried
 pub mod ObjectStream
 pub mod StreamObjectView
+pub mod Incoming
 pub mod ObjectStreamView
 pub mod StreamFaults
 pub mod Written

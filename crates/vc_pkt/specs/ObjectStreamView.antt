@@ -2,6 +2,7 @@
 use Rattle.std.specs.Prelude.{List}
 use Rattle.vc_object.specs.Decoding.{StoredObject}
 use Rattle.vc_pkt.specs.ObjectStream.{Progress, between, inside, ObjectStepped, going_on, full, over, SetState}
+use Rattle.vc_pkt.specs.Incoming.{incoming}
 use Rattle.vc_pkt.specs.StreamObjectView.{stored, objects_of}
 use Rattle.vc_pkt.specs.declared.carried.CarriedObjects.{CarriedObjects}
 use Rattle.vc_pkt.specs.declared.progress.StreamProgress.{StreamProgress}
@@ -23,4 +24,4 @@ abbrev pub carried : CarriedObjects → List StoredObject
 carried objects = objects_of objects.by_name.entries
 
 abbrev pub set_state : ObjectStream → SetState
-set_state stream = record { set = carried stream.objects; progress = progress_of stream.progress }
+set_state stream = record { set = incoming stream.objects; progress = progress_of stream.progress }

@@ -3,6 +3,7 @@
 
 mod carried;
 mod fault;
+mod incoming;
 mod laws;
 mod line;
 mod message;
@@ -17,6 +18,7 @@ mod write;
 
 pub use carried::{CarriedObjects, StreamObject};
 pub use fault::{PktError, PktFault};
+pub use incoming::{IncomingObjects, ObjectRun};
 pub use laws::{
     carried_objects_are_sorted, carried_objects_count_once, flush_is_zeros, however_cut,
     no_list_of_bad, one_bad_place, one_first_fault, one_list, written_is_read,

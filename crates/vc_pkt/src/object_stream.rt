@@ -9,6 +9,7 @@ ghost use Rattle.vc_pkt.specs.ObjectStreamView.{carried, set_state};
 
 use crate::carried::CarriedObjects;
 use crate::fault::PktError;
+use crate::incoming::IncomingObjects;
 use crate::line::Line;
 use crate::message::{MessageReader, Step, read_message};
 use crate::progress::{ObjectStep, StreamProgress, take_object_line};
@@ -17,7 +18,7 @@ use std::alloc::Global;
 /// Reads an object stream line by line. Bodies may be out of their kind's grammar.
 #[derive(Drop)]
 pub struct ObjectStream {
-    pub objects: CarriedObjects,
+    pub objects: IncomingObjects,
     pub progress: StreamProgress,
 }
 
@@ -40,7 +41,7 @@ impl MessageReader for ObjectStream {
 
     fn new(alloc: Global) -> ObjectStream {
         ObjectStream {
-            objects: CarriedObjects::new(alloc),
+            objects: IncomingObjects::new(alloc),
             progress: StreamProgress::Between,
         }
     }
@@ -52,15 +53,17 @@ impl MessageReader for ObjectStream {
         number: u64,
     ) -> Result<Step<ObjectStream, CarriedObjects>, PktError> {
         let ObjectStream { objects, progress } = self;
-        let mut objects = objects;
         match take_object_line(alloc, progress, line, number)? {
             ObjectStep::More(progress) => Ok(Step::More(ObjectStream { objects, progress })),
             ObjectStep::Object(_, object) => {
-                objects.add(object)?;
+                let objects = objects.add(alloc, object)?;
                 let progress = StreamProgress::Between;
                 Ok(Step::More(ObjectStream { objects, progress }))
             }
-            ObjectStep::End => Ok(Step::Done(objects)),
+            ObjectStep::End => {
+                let objects = objects.finish(alloc)?;
+                Ok(Step::Done(objects))
+            }
         }
     }
 

@@ -158,7 +158,7 @@ fn line_by_line(rt: HostRuntime) -> Result<(), Fail> {
     Ok(())
 }
 
-// 20,000 small objects: nothing may grow with the square.
+// 20,000 small objects, in any order and in order of name: nothing may grow with the square.
 #[test]
 fn many_objects(rt: HostRuntime) -> Result<(), Fail> {
     let mut text = Vec::new(rt.alloc());
@@ -169,5 +169,9 @@ fn many_objects(rt: HostRuntime) -> Result<(), Fail> {
     write_flush(&mut text)?;
     let objects = ObjectStream::read(rt.alloc(), &text)?;
     assert_eq!(rt; objects.by_name.len(), 20_000);
+    let mut sorted = Vec::new(rt.alloc());
+    write_objects(&mut sorted, &objects)?;
+    let again = ObjectStream::read(rt.alloc(), &sorted)?;
+    assert_eq!(rt; again.by_name.len(), 20_000);
     Ok(())
 }
