@@ -13,4 +13,4 @@ pub mod Bodies
 pub mod TextLaws
 pub mod WrittenStreams
 pub mod CarriedOnce
-pub mod Runs
+pub mod Rows

@@ -17,5 +17,5 @@ IsAbove id entries = AllByRecursion (λ k. id_cmp k id ≡ Less) (keys_of entrie
 
 -- the objects, in order of name
 abbrev pub incoming : IncomingObjects → List StoredObject
-incoming (Ascending run) = objects_of run.items.items
+incoming (Ascending row) = objects_of row.items.items
 incoming (Mixed objects) = objects_of objects.by_name.entries

@@ -16,7 +16,7 @@ use vc_object::{ObjectId, name_of};
 /// Objects, each under its own name, and each name greater than those before it. A stream is written in
 /// this order.
 #[derive(Drop)]
-pub struct ObjectRun {
+pub struct ObjectRow {
     pub items: Vec<(ObjectId, StreamObject)>,
     pub ghost named: { AreNamed items.items },
     pub ghost sorted: { IsSortedByName (keys_of items.items) } by { IsStrictlySortedBy-prop id_cmp (keys_of items.items) },
@@ -26,7 +26,7 @@ pub struct ObjectRun {
 /// row, of which a map is made at the end. From the first that comes out of order they are a map.
 #[derive(Drop)]
 pub enum IncomingObjects {
-    Ascending(ObjectRun),
+    Ascending(ObjectRow),
     Mixed(CarriedObjects),
 }
 
@@ -40,17 +40,17 @@ fn map_of(
     items.into_iter().collect(alloc)
 }
 
-impl ObjectRun {
+impl ObjectRow {
     ghost use Rattle.std.specs.Prelude.{◌≡◌, ◌++◌, ◌∷◌, [], IsTrue};
     ghost use Rattle.vc_pkt.specs.Carried.{stored_name};
     ghost use Rattle.vc_pkt.specs.StreamObjectView.{stored};
     ghost use Rattle.vc_pkt.specs.Incoming.{IsAbove};
 
     /// No objects.
-    fn new(alloc: Global) -> ObjectRun
+    fn new(alloc: Global) -> ObjectRow
         ensures { result.items.items ≡ [] }
     {
-        ObjectRun {
+        ObjectRow {
             items: Vec::new(alloc),
         }
     }
@@ -66,22 +66,22 @@ impl ObjectRun {
     }
 
     /// One object more, of a greater name.
-    fn push(self, id: ObjectId, object: StreamObject) -> Result<ObjectRun, AllocError>
+    fn push(self, id: ObjectId, object: StreamObject) -> Result<ObjectRow, AllocError>
         requires named { id ≡ stored_name (stored object) }
         requires above { IsAbove id self.items.items }
-        ensures { IfOk result (λ run. run.items.items ≡ self.items.items ++ (id, object) ∷ []) }
+        ensures { IfOk result (λ row. row.items.items ≡ self.items.items ++ (id, object) ∷ []) }
     {
-        let ObjectRun { items } = self;
+        let ObjectRow { items } = self;
         let mut items = items;
         items.push((id, object))?;
-        Ok(ObjectRun { items })
+        Ok(ObjectRow { items })
     }
 
     /// The same objects as a map.
     fn into_map(self, alloc: Global) -> Result<CarriedObjects, AllocError>
         ensures { IfOk result (λ objects. objects.by_name.entries ≡ self.items.items) }
     {
-        let ObjectRun { items } = self;
+        let ObjectRow { items } = self;
         let by_name = map_of(alloc, items)?;
         Ok(CarriedObjects { by_name })
     }
@@ -97,7 +97,7 @@ impl IncomingObjects {
     pub fn new(alloc: Global) -> IncomingObjects
         ensures { incoming result ≡ [] }
     {
-        IncomingObjects::Ascending(ObjectRun::new(alloc))
+        IncomingObjects::Ascending(ObjectRow::new(alloc))
     }
 
     /// The set with one object more. One whose name is there stays as it is.
@@ -105,14 +105,14 @@ impl IncomingObjects {
         ensures { IfOk result (λ objects. incoming objects ≡ with_object (stored object) (incoming self)) }
     {
         match self {
-            IncomingObjects::Ascending(run) => {
+            IncomingObjects::Ascending(row) => {
                 let id = name_of(object.kind, &object.body);
-                if run.is_below(&id) {
-                    let run = run.push(id, object)?;
-                    return Ok(IncomingObjects::Ascending(run));
+                if row.is_below(&id) {
+                    let row = row.push(id, object)?;
+                    return Ok(IncomingObjects::Ascending(row));
                 }
                 // This object is named once more. It happens once in a stream.
-                let mut objects = run.into_map(alloc)?;
+                let mut objects = row.into_map(alloc)?;
                 objects.add(object)?;
                 Ok(IncomingObjects::Mixed(objects))
             }
@@ -129,8 +129,8 @@ impl IncomingObjects {
         ensures { IfOk result (λ objects. objects_of objects.by_name.entries ≡ incoming self) }
     {
         match self {
-            IncomingObjects::Ascending(run) => {
-                let objects = run.into_map(alloc)?;
+            IncomingObjects::Ascending(row) => {
+                let objects = row.into_map(alloc)?;
                 Ok(objects)
             }
             IncomingObjects::Mixed(objects) => Ok(objects),

@@ -18,7 +18,7 @@ mod write;
 
 pub use carried::{CarriedObjects, StreamObject};
 pub use fault::{PktError, PktFault};
-pub use incoming::{IncomingObjects, ObjectRun};
+pub use incoming::{IncomingObjects, ObjectRow};
 pub use laws::{
     carried_objects_are_sorted, carried_objects_count_once, flush_is_zeros, however_cut,
     no_list_of_bad, one_bad_place, one_first_fault, one_list, written_is_read,

@@ -1,8 +1,8 @@
 use Rattle.std.proofs.Common.{rules, ◌≡◌, ◌-◌, length, slice_get, Some}
 use Rattle.std.specs.declared.cmp.Ordering.TheVariants.{Less}
 use Rattle.vc_object.specs.ObjectId.{id_cmp}
-use Rattle.vc_pkt.proofs.Runs.{above_all}
-use Rattle.vc_pkt.proofs.incoming.ObjectRun.is_below.Goals as goal
+use Rattle.vc_pkt.proofs.Rows.{above_all}
+use Rattle.vc_pkt.proofs.incoming.ObjectRow.is_below.Goals as goal
 
 pub returns-in-Less : goal.returns-in-Less
 returns-in-Less c =

@@ -2,8 +2,8 @@ use Rattle.std.proofs.Common.{sym, subst}
 use Rattle.std.specs.Map.{keys_of}
 use Rattle.vc_object.specs.ObjectId.{IsSortedByName}
 use Rattle.vc_pkt.specs.StreamObjectView.{AreNamed}
-use Rattle.vc_pkt.proofs.Runs.{named_more, sorted_more}
-use Rattle.vc_pkt.proofs.incoming.ObjectRun.push.Goals as goal
+use Rattle.vc_pkt.proofs.Rows.{named_more, sorted_more}
+use Rattle.vc_pkt.proofs.incoming.ObjectRow.push.Goals as goal
 
 pub invariant_of-result : goal.invariant_of-result
 invariant_of-result c = record {
