@@ -46,6 +46,17 @@ above_all id x (e ∷ es) s g h =
     let same = some_same (last_or e es) x (sym (last_get e es) ∙ ap (slice_get (e ∷ es)) (sym at) ∙ g) in
     above_last id e es s (ap (λ y. id_cmp y.0 id) same ∙ h)
 
+of_last : (id : ObjectId) (e : ObjectId × StreamObject) (es : Entries) → IsAbove id (e ∷ es) → id_cmp (last_or e es).0 id ≡ Less
+of_last id e [] a = a.0
+of_last id e (f ∷ es) a = of_last id f es a.1
+
+pub last_below : (id : ObjectId) (x : ObjectId × StreamObject) (es : Entries) → slice_get es (length es - 1) ≡ Some x → IsAbove id es → id_cmp x.0 id ≡ Less
+last_below id x [] g a = absurd (cc g)
+last_below id x (e ∷ es) g a =
+    let at : length (e ∷ es) - 1 ≡ length es = omega arith in
+    let same = some_same (last_or e es) x (sym (last_get e es) ∙ ap (slice_get (e ∷ es)) (sym at) ∙ g) in
+    ap (λ y. id_cmp y.0 id) (sym same) ∙ of_last id e es a
+
 -- ---- one entry more
 greater : (id k : ObjectId) → id_cmp k id ≡ Less → id_cmp id k ≡ Greater
 greater id k h = id_cmp_total.antisymm id k ∙ ap ordering_reverse h

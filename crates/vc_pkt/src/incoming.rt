@@ -41,7 +41,7 @@ fn map_of(
 }
 
 impl ObjectRow {
-    ghost use Rattle.std.specs.Prelude.{◌≡◌, ◌++◌, ◌∷◌, [], IsTrue};
+    ghost use Rattle.std.specs.Prelude.{◌≡◌, ◌↔◌, ◌++◌, ◌∷◌, [], IsTrue};
     ghost use Rattle.vc_pkt.specs.Carried.{stored_name};
     ghost use Rattle.vc_pkt.specs.StreamObjectView.{stored};
     ghost use Rattle.vc_pkt.specs.Incoming.{IsAbove};
@@ -55,9 +55,9 @@ impl ObjectRow {
         }
     }
 
-    /// True only where the name is greater than all.
+    /// Whether the name is greater than all.
     fn is_below(&self, id: &ObjectId) -> bool
-        ensures { IsTrue result → IsAbove id.now self.now.items.items }
+        ensures { IsTrue result ↔ IsAbove id.now self.now.items.items }
     {
         match self.items.last() {
             Some(last) => matches!(last.0.cmp(id), Ordering::Less),
