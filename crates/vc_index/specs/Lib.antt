@@ -5,6 +5,7 @@ pub mod IndexText
 pub mod TreeFiles
 pub mod WrittenTrees
 pub mod Part
+pub mod FolderTrees
 pub mod HeldFiles
 pub mod Building
 pub mod Loading
