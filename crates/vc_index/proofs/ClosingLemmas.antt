@@ -1,5 +1,5 @@
 -- What the closing of a folder and the end of an index leave, for whom writes trees.
-use Rattle.std.proofs.Common.{◌≡◌, ◌≢◌, ℕ, ◌<◌, ◌-◌, List, [], ◌∷◌, ◌++◌, map, Option, Some, None, refl, ap, sym, ◌∙◌, subst, ⊎_elim, inl, inr, append_assoc, append-nil, length, take, drop, arith, length-append, ◌↔◌}
+use Rattle.std.proofs.Common.{◌≡◌, ◌≢◌, ℕ, zero, suc, ◌<◌, ◌≤◌, ◌-◌, List, [], ◌∷◌, ◌++◌, map, Option, Some, None, refl, ap, sym, ◌∙◌, subst, ⊎_elim, inl, inr, append_assoc, append-nil, length, take, drop, arith, length-append, ◌↔◌}
 use Rattle.std.proofs.Common.{true, false, cond}
 use Rattle.std.specs.Prelude.{slice_get, option_map, Result, Ok, Err, IfErr}
 use Rattle.std.specs.Result.{IsErrAnd}
@@ -31,7 +31,8 @@ use Rattle.vc_store.specs.StoreFault.{IsOfPut, IsOfDamage}
 use Rattle.vc_files.specs.FileMap.{FileMap}
 use Rattle.vc_store.specs.declared.faults.StoreFault.{StoreFault}
 use Rattle.vc_store.specs.declared.faults.StoreFault.TheVariants.{BadObject, Absent, Damaged, Fault}
-use Rattle.vc_index.specs.Building.{Begins, Nested, InPlaces, IsNext, IsLeft, IsSoundPart, Building, Stands, Closes, IsInside, open_length}
+use Rattle.vc_index.specs.Building.{Begins, Nested, InPlaces, IsNext, IsLeft, IsSoundPart, HasOver, ArePartTrees, Building, Stands, Closes, IsInside, open_length}
+use Rattle.vc_index.specs.FolderTrees.{AreJoined, AreIndexTrees, Fits}
 use Rattle.vc_index.specs.HeldFiles.{Pair, HasFile, placed}
 use Rattle.vc_index.specs.IndexMap.{IndexMap, IsIndex, IsFile, index_entry}
 use Rattle.vc_index.specs.Part.{EndsInSlash, part_entry, part_pair}
@@ -41,8 +42,10 @@ use Rattle.vc_index.specs.WrittenTrees.{tree_object, Holds, IsPart, AreLowerTree
 use Rattle.vc_index.specs.declared.entry.IndexEntry.{IndexEntry}
 use Rattle.vc_index.specs.declared.faults.IndexFault.{IndexFault}
 use Rattle.vc_index.specs.declared.trees.Part.{Part}
+use Rattle.vc_index.proofs.CoverLemmas.{over_entries, over_named}
 use Rattle.vc_index.proofs.EntriesLemmas.{get_mid}
 use Rattle.vc_index.proofs.FileLemmas.{opened, closed}
+use Rattle.vc_index.proofs.FolderLemmas.{joined_push, joined_entries}
 use Rattle.vc_index.proofs.MapLemmas.{same_text}
 use Rattle.vc_index.proofs.PlaceLemmas.{file_place, front_places, files_order}
 use Rattle.vc_index.proofs.PartLemmas.{by_last, last_get, got_last, folder_begins, nested_push, nested_last, holds_parts, run_tree, placed_run, all_parts, all_join, all_map, all_over, map_join, begins_trans, tree, run_of_folder, of_one_folder, below_new, building_new}
@@ -85,12 +88,13 @@ module _ (honest : Type 0) (files : IndexMap) (trees : List (List Entry)) where
 
   module _ (rest : List Pair) where
     pub closes_none : (parts : List Part) (old new : ObjectMap) → Building files trees parts rest → (honest → new ≡ old) → Closes honest files rest trees parts old new
-    closes_none parts old new b same = record { more = []; building = subst (λ (ts : List (List Entry)). Building files ts parts rest) (sym (append-nil trees)) b; stored = same }
+    closes_none parts old new b same = record { more = []; building = subst (λ (ts : List (List Entry)). Building files ts parts rest) (sym (append-nil trees)) b; fits = tt; stored = same }
 
     pub closes_then : (mid parts : List Part) (old now new : ObjectMap) (first : Closes honest files rest trees mid old now) → Closes honest files rest (trees ++ first.more) parts now new → Closes honest files rest trees parts old new
     closes_then mid parts old now new first second = record {
       more = first.more ++ second.more;
       building = subst (λ (ts : List (List Entry)). Building files ts parts rest) (append_assoc trees first.more second.more) second.building;
+      fits = all_join Fits first.more second.more first.fits second.fits;
       stored = λ h. stored_then old now new first.more second.more (first.stored h) (second.stored h);
     }
 
@@ -207,7 +211,7 @@ pushed files trees front parts new path entry more sound at b inside is plain en
       plain = plain;
       ends = ends;
       id = subst (λ (e : IndexEntry). length e.id.0 ≡ 20) (sym same) (id_of_test entry.id file.id).sized;
-      of_folder = inl (subst (λ (e : IndexEntry). e.mode ≢ modes.Tree) (sym same) file.mode, ap (get files) (sym is) ∙ there ∙ ap (λ e. Some e) (sym same));
+      of_folder = inl of_new;
       leads = inr (subst (λ (e : IndexEntry). (e.mode ≢ modes.Tree) × ((p : List ℕ) × (get files p ≡ Some (index_entry e.mode e.id)))) (sym same) (file.mode, (path, there)));
     },
     tt,
@@ -224,6 +228,11 @@ pushed files trees front parts new path entry more sound at b inside is plain en
       (first, tt)))
       (by_last parts));
   order = subst InPlaces (sym regrouped) b.order;
+  levels = b.levels;
+  listed = subst (λ (ts : List (List Entry)). AreJoined (ArePartTrees files b.levels) (parts ++ new ∷ []) ts) (append-nil trees) (joined_push (ArePartTrees files b.levels) parts new trees [] b.listed (inl (of_new.0, of_new.1, refl)));
+  covers = λ q some. subst (λ (l : List Pair). HasOver l q) (sym regrouped) (b.covers q some);
+  index = sound;
+  walked = (front ++ (path, entry) ∷ [], at ∙ sym (append_assoc front ((path, entry) ∷ []) more));
 }
   where
     there : get files path ≡ Some entry
@@ -231,6 +240,9 @@ pushed files trees front parts new path entry more sound at b inside is plain en
 
     file : IsFile path entry
     file = sound.file path entry there
+
+    of_new : (new.entry.mode ≢ modes.Tree) × (get files (new.folder.now ++ new.name.now) ≡ Some (index_entry new.entry.mode new.entry.id))
+    of_new = (subst (λ (e : IndexEntry). e.mode ≢ modes.Tree) (sym same) file.mode, ap (get files) (sym is) ∙ there ∙ ap (λ e. Some e) (sym same))
 
     regrouped : map part_pair (parts ++ new ∷ []) ++ more ≡ map part_pair parts ++ (path, entry) ∷ more
     regrouped = ap (λ l. l ++ more) (map_join part_pair parts (new ∷ [])) ∙ append_assoc (map part_pair parts) (part_pair new ∷ []) more ∙ ap (λ (p : Pair). map part_pair parts ++ p ∷ more) (λ i. (sym is i, same i))
@@ -268,6 +280,11 @@ building_starts files sound = record {
   each = tt;
   nested = tt;
   order = files_order files sound;
+  levels = zero;
+  listed = refl;
+  covers = over_entries files;
+  index = sound;
+  walked = ([], refl);
 }
 
 -- ---- the root
@@ -297,18 +314,33 @@ module _ (files : IndexMap) (lower : List (List Entry)) (parts : List Part) (b :
   pub root_refused : (Damage : ObjectId → Type 0) (body : List ℕ) (fault : StoreFault) → body ≡ spelling (map part_entry parts) → IsOfPut kinds.Tree body fault → ((id : ObjectId) → fault ≡ Damaged id → Damage id) → IsOfTrees files Damage fault
   root_refused Damage body fault is put damaged = tree_refused files [] (map part_entry parts) Damage body fault root_tree (of_one_folder files lower [] parts b.each (root_folders parts b.nested inside)) is put damaged
 
+  root_pairs : map part_pair parts ++ [] ≡ map (placed []) (map part_entry parts)
+  root_pairs = append-nil (map part_pair parts) ∙ placed_run [] parts (root_folders parts b.nested inside)
+
+  -- the trees stored and the root's are those of the index
+  pub root_listed : AreIndexTrees files (lower ++ map part_entry parts ∷ []) (map part_entry parts)
+  root_listed = record {
+    levels = suc b.levels;
+    is = record {
+      below = lower;
+      is = refl;
+      tree = root_tree;
+      names = λ path name some first. over_named [] path name (map part_entry parts) root_tree.legal first (subst (λ (l : List Pair). HasOver l path) root_pairs (b.covers path some));
+      joined = joined_entries files b.levels [] parts lower (root_folders parts b.nested inside) b.listed;
+    };
+  }
+
   root_files : (objects : ObjectMap) → Holds objects (lower ++ map part_entry parts ∷ []) → (path : List ℕ) (mode : Mode) (id : ObjectId)
       → IsFileOfTree objects (object_name kinds.Tree (spelling (map part_entry parts))) path mode id ↔ (get files path ≡ Some (index_entry mode id))
   root_files objects held path mode id =
       let parted = holds_parts objects lower (map part_entry parts ∷ []) held in
       let there : IsTreeAt objects (object_name kinds.Tree (spelling (map part_entry parts))) (map part_entry parts) = record { stored = parted.1.0; tree = root_tree } in
-      let pairs : map part_pair parts ++ [] ≡ map (placed []) (map part_entry parts) = append-nil (map part_pair parts) ∙ placed_run [] parts (root_folders parts b.nested inside) in
       let all = b.same_files objects parted.0 path mode id in (
-        λ f. all.0 (subst (λ (l : List Pair). HasFile objects l path mode id) (sym pairs) (opened objects path mode id [] (object_name kinds.Tree (spelling (map part_entry parts))) (map part_entry parts) there (inr (refl, (path, refl, f))))),
+        λ f. all.0 (subst (λ (l : List Pair). HasFile objects l path mode id) (sym root_pairs) (opened objects path mode id [] (object_name kinds.Tree (spelling (map part_entry parts))) (map part_entry parts) there (inr (refl, (path, refl, f))))),
         λ g. ⊎_elim
             (λ file. absurd (file.0 refl))
             (λ tree. subst (λ (p : List ℕ). IsFileOfTree objects (object_name kinds.Tree (spelling (map part_entry parts))) p mode id) (sym tree.1.1) tree.1.2)
-            (closed objects path mode id [] (object_name kinds.Tree (spelling (map part_entry parts))) (map part_entry parts) there (subst (λ (l : List Pair). HasFile objects l path mode id) pairs (all.1 g))),
+            (closed objects path mode id [] (object_name kinds.Tree (spelling (map part_entry parts))) (map part_entry parts) there (subst (λ (l : List Pair). HasFile objects l path mode id) root_pairs (all.1 g))),
       )
 
   pub root_trees : AreTreesOf files lower (map part_entry parts)
@@ -351,6 +383,7 @@ push_step honest files front more path entry parts mid parts' part old now new s
     record {
       more = both.more;
       building = subst (λ (ps : List Part). Building files both.more ps more) (sym pushes) (pushed files both.more front mid part path entry more sound at both.building inside is plain ends same);
+      fits = both.fits;
       stored = both.stored;
     }
 
@@ -358,13 +391,15 @@ pub begun : (honest : Type 0) (files : IndexMap) (old new : ObjectMap) → Stand
 begun honest files old new s = record { trees = s.more; lower = s.below; stored = s.stored }
 
 pub written : (honest : Type 0) (files : IndexMap) (parts : List Part) (old mid new : ObjectMap) (id : ObjectId) (body : List ℕ)
-    → Closes honest files [] [] parts old mid → IsInside [] parts → body ≡ spelling (map part_entry parts) → id ≡ object_name kinds.Tree body
+    → Closes honest files [] [] parts old mid → IsInside [] parts → body ≡ spelling (map part_entry parts) → id ≡ object_name kinds.Tree body → length body ≤ 16777216
     → (honest → new ≡ with_object mid id (stored_object kinds.Tree body)) → IsWritten honest files old new id
-written honest files parts old mid new id body closes inside is named put = record {
+written honest files parts old mid new id body closes inside is named size put = record {
   lower = closes.more;
   root = map part_entry parts;
   trees = root_trees files closes.more parts closes.building inside;
   is = named ∙ ap (object_name kinds.Tree) is;
+  listed = root_listed files closes.more parts closes.building inside;
+  fits = all_join Fits closes.more (map part_entry parts ∷ []) closes.fits (subst (λ (t : List ℕ). length t ≤ 16777216) is size, tt);
   stored = λ h. stored_then old mid new closes.more (map part_entry parts ∷ []) (closes.stored h) (stored_one mid new id body (map part_entry parts) is named (put h));
 }
 

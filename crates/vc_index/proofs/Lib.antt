@@ -1,4 +1,5 @@
 pub mod PathLemmas
+pub mod FolderLemmas
 pub mod MapLemmas
 pub mod ConflictLemmas
 pub mod TextLemmas
@@ -7,6 +8,7 @@ pub mod ReadLemmas
 pub mod AgainLemmas
 pub mod FileLemmas
 pub mod PlaceLemmas
+pub mod CoverLemmas
 pub mod PartLemmas
 pub mod ClosingLemmas
 pub mod LoadLemmas

@@ -1,5 +1,5 @@
 -- How parts of folders become a tree.
-use Rattle.std.proofs.Common.{◌≡◌, ◌≢◌, ℕ, ◌<◌, ◌≤◌, ◌-◌, ◌+◌, List, [], ◌∷◌, ◌++◌, map, Some, refl, ap, sym, ◌∙◌, subst, ⊎_elim, ◌⊎◌, inl, inr, append_assoc, append-nil, length, drop, get_or, arith, length-append, ◌↔◌, true, false, cond, ◌==◌}
+use Rattle.std.proofs.Common.{◌≡◌, ◌≢◌, ℕ, suc, ◌<◌, ◌≤◌, ◌-◌, ◌+◌, List, [], ◌∷◌, ◌++◌, map, Some, refl, ap, sym, ◌∙◌, subst, ⊎_elim, ◌⊎◌, inl, inr, append_assoc, append-nil, length, drop, get_or, arith, length-append, ◌↔◌, true, false, cond, ◌==◌}
 use Rattle.std.specs.Prelude.{slice_get, IsSome, is_some}
 use Rattle.std.specs.List.{AllByRecursion, onto_first}
 use Rattle.std.proofs.lemmas.List.{drop_more}
@@ -13,7 +13,8 @@ use Rattle.vc_object.specs.declared.kind.Kind.TheVariants as kinds
 use Rattle.vc_object.specs.declared.mode.Mode.{Mode}
 use Rattle.vc_object.specs.declared.mode.Mode.TheVariants as modes
 use Rattle.vc_object.proofs.Texts.{agreeing, ne-eqb}
-use Rattle.vc_index.specs.Building.{Begins, Nested, place, InPlaces, IsLeft, IsSoundPart, Building}
+use Rattle.vc_index.specs.Building.{Begins, Nested, place, ComesFirst, InPlaces, IsLeft, IsSoundPart, HasOver, ArePartTrees, Building}
+use Rattle.vc_index.specs.FolderTrees.{NamesAll, AreJoined, AreFolderTrees}
 use Rattle.vc_index.specs.HeldFiles.{Pair, under, HasFile, placed}
 use Rattle.vc_index.specs.IndexMap.{IndexMap, index_entry}
 use Rattle.vc_index.specs.Part.{EndsInSlash, part_entry, part_pair}
@@ -21,8 +22,10 @@ use Rattle.vc_index.specs.Path.{names_in, IsAbove}
 use Rattle.vc_index.specs.TreeFiles.{IsTreeAt}
 use Rattle.vc_index.specs.WrittenTrees.{tree_object, Holds, IsTreeOf, IsOfFolder, IsPart, AreLowerTrees}
 use Rattle.vc_index.specs.declared.trees.Part.{Part}
+use Rattle.vc_index.proofs.CoverLemmas.{no_byte, over_front, over_back, over_parts, over_before, over_after, over_named, over_closed}
 use Rattle.vc_index.proofs.FileLemmas.{has_front, has_back, has_parts, opened, closed}
-use Rattle.vc_index.proofs.PlaceLemmas.{entries_order, places_closed, part_place, front_places, back_places}
+use Rattle.vc_index.proofs.FolderLemmas.{joined_parts, joined_push, joined_entries, parts_more}
+use Rattle.vc_index.proofs.PlaceLemmas.{entries_order, places_closed, places_parts, part_place, front_places, back_places}
 
 -- ---- lists
 pub more_inside : {X : Type 0} (P : X → Type 0) (xs : List X) (n : ℕ) (d : X) → 0 < n → n ≤ length xs → P (get_or xs (n - 1) d) → AllByRecursion P (drop n xs) → AllByRecursion P (drop (n - 1) xs)
@@ -77,10 +80,6 @@ got_last xs x e = ⊎_elim
     (by_last xs)
 
 -- ---- texts that begin texts
-no_byte : (a b : List ℕ) → Without 47 (a ++ 47 ∷ b) → ⊥
-no_byte [] b w = w.0 refl
-no_byte (x ∷ a) b w = no_byte a b w.1
-
 same_end : (f z front : List ℕ) → f ++ z ≡ front ++ 47 ∷ [] → z ≢ [] → (y : List ℕ) × (z ≡ y ++ 47 ∷ [])
 same_end [] z front e some = (front, e)
 same_end (x ∷ f) z [] e some = absurd (some (no_rest f z (let t : f ++ z ≡ [] = cc e in t)))
@@ -381,6 +380,48 @@ module _ (files : IndexMap) (trees : List (List Entry)) (rest : List Pair) (befo
         closed_order : InPlaces (map part_pair before ++ (d, index_entry modes.Tree (object_name kinds.Tree (spelling es))) ∷ rest)
         closed_order = places_closed d (part_pair last) (key last.entry.mode last.name.now) place_last (object_name kinds.Tree (spelling es)) (map part_pair before) (map part_pair front) rest by_place (all_over part_pair (λ (a : Pair). Begins (d ++ 47 ∷ []) a.0 → ⊥) before outside) left
 
+        -- under which pairs the files of the index stand
+        covered : (path : List ℕ) → IsSome (get files path) → HasOver (map part_pair before) path ⊎ HasOver (map part_pair run ++ rest) path
+        covered path some = over_parts (map part_pair before) (map part_pair run ++ rest) path
+            (subst (λ (l : List Pair). HasOver l path) (ap (λ l. l ++ rest) (map_join part_pair before run) ∙ append_assoc (map part_pair before) (map part_pair run) rest) (b.covers path some))
+
+        placed_in : map part_pair run ≡ map (placed (d ++ 47 ∷ [])) es
+        placed_in = placed_run (d ++ 47 ∷ []) run in_folder
+
+        by_new : InPlaces (map part_pair before) × AllByRecursion (λ a. AllByRecursion (ComesFirst a) ((d, index_entry modes.Tree (object_name kinds.Tree (spelling es))) ∷ rest)) (map part_pair before) × InPlaces ((d, index_entry modes.Tree (object_name kinds.Tree (spelling es))) ∷ rest)
+        by_new = places_parts (map part_pair before) ((d, index_entry modes.Tree (object_name kinds.Tree (spelling es))) ∷ rest) closed_order
+
+        -- the files in the folder stand under its entries
+        names_new : NamesAll files (d ++ 47 ∷ []) es
+        names_new path name some first = ⊎_elim
+            (λ x. absurd (over_before d (object_name kinds.Tree (spelling es)) path (map part_pair before) rest by_new.1 (all_over part_pair (λ (a : Pair). Begins (d ++ 47 ∷ []) a.0 → ⊥) before outside) x))
+            (λ x. ⊎_elim
+            (λ y. over_named (d ++ 47 ∷ []) path name es tree.legal first (subst (λ (l : List Pair). HasOver l ((d ++ 47 ∷ []) ++ path)) placed_in y))
+            (λ y. absurd (over_after d (object_name kinds.Tree (spelling es)) path rest by_new.2.0 y))
+            (over_parts (map part_pair run) rest ((d ++ 47 ∷ []) ++ path) x))
+            (covered ((d ++ 47 ∷ []) ++ path) some)
+
+        covers_new : (path : List ℕ) → IsSome (get files path) → HasOver (map part_pair (before ++ new ∷ []) ++ rest) path
+        covers_new path some = subst (λ (l : List Pair). HasOver l path) (sym grouped_pairs) (⊎_elim
+            (λ x. over_front (map part_pair before) _ path x)
+            (λ x. over_back (map part_pair before) _ path (⊎_elim
+            (λ y. inl (inr (over_closed d path es (subst (λ (l : List Pair). HasOver l path) placed_in y))))
+            (λ y. inr y)
+            (over_parts (map part_pair run) rest path x)))
+            (covered path some))
+
+        -- the trees of the folder: those of its parts, and its own
+        folder_new : (own : List (List Entry)) → AreJoined (ArePartTrees files b.levels) run own → AreFolderTrees (suc b.levels) files ((new.folder.now ++ new.name.now) ++ 47 ∷ []) (own ++ es ∷ []) es
+        folder_new own joined = subst (λ (p : List ℕ). AreFolderTrees (suc b.levels) files (p ++ 47 ∷ []) (own ++ es ∷ []) es) (sym is_new)
+            (record { below = own; is = refl; tree = tree; names = names_new; joined = joined_entries files b.levels (d ++ 47 ∷ []) run own in_folder joined })
+
+        listed_new : AreJoined (ArePartTrees files (suc b.levels)) (before ++ new ∷ []) (trees ++ es ∷ [])
+        listed_new =
+            let j = joined_parts (ArePartTrees files b.levels) before run trees b.listed in
+            subst (λ (ts : List (List Entry)). AreJoined (ArePartTrees files (suc b.levels)) (before ++ new ∷ []) ts) (sym (append_assoc j.0 j.1 (es ∷ [])) ∙ ap (λ l. l ++ es ∷ []) (sym j.2))
+            (joined_push (ArePartTrees files (suc b.levels)) before new j.0 (j.1 ++ es ∷ []) (parts_more files b.levels before j.0 j.3)
+            (inr (ap (λ e. e.mode) entry_new, (es, run_some, ap (λ e. e.id) entry_new, folder_new j.1 j.4))))
+
         module _ (objects : ObjectMap) (held : Holds objects (trees ++ es ∷ [])) (path : List ℕ) (mode : Mode) (id : ObjectId) where
           there : IsTreeAt objects (object_name kinds.Tree (spelling es)) es
           there = record { stored = (holds_parts objects trees (es ∷ []) held).1.0; tree = tree }
@@ -420,4 +461,9 @@ module _ (files : IndexMap) (trees : List (List Entry)) (rest : List Pair) (befo
           each = all_join (IsSoundPart files (trees ++ es ∷ [])) before (new ∷ []) (all_map (IsSoundPart files trees) (IsSoundPart files (trees ++ es ∷ [])) before (λ g s. sound_more files trees (es ∷ []) g s) each_before) (new_sound, tt);
           nested = nested_new;
           order = subst InPlaces (sym grouped_pairs) closed_order;
+          levels = suc b.levels;
+          listed = listed_new;
+          covers = covers_new;
+          index = b.index;
+          walked = b.walked;
         }

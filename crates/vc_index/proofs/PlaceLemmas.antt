@@ -24,7 +24,7 @@ use Rattle.vc_index.proofs.EntriesLemmas.{mid_before, get_mid, AllBefore, All_la
 abbrev IsLess : List ℕ → List ℕ → Type 0
 IsLess a b = slice_cmp nat_cmp a b ≡ Less
 
-not_itself : (a : List ℕ) → IsLess a a → ⊥
+pub not_itself : (a : List ℕ) → IsLess a a → ⊥
 not_itself a e = let z = sym e ∙ tied_itself nat_list_cmp_total a in cc z
 
 less_cases : (x y : ℕ) (xs ys : List ℕ) → IsLess (x ∷ xs) (y ∷ ys) → (nat_cmp x y ≡ Less) ⊎ ((x ≡ y) × IsLess xs ys)
@@ -60,7 +60,7 @@ below_or_in (c ∷ f) x (y ∷ k) h = ⊎_elim
     (less_cases y c k (f ++ x) h)
 
 -- a front comes before all that the text comes before
-front_below : (f x k : List ℕ) → IsLess (f ++ x) k → IsLess f k
+pub front_below : (f x k : List ℕ) → IsLess (f ++ x) k → IsLess f k
 front_below [] [] [] h = h
 front_below [] (c ∷ x) [] h = absurd (cc h)
 front_below [] x (y ∷ k) h = refl
@@ -78,7 +78,7 @@ between f a b k low high = ⊎_elim
     (below_or_in f b k high)
 
 -- ---- what stands behind a name
-tail_cases : (m : Mode) → (tail m ≡ 47 ∷ []) ⊎ (tail m ≡ [])
+pub tail_cases : (m : Mode) → (tail m ≡ 47 ∷ []) ⊎ (tail m ≡ [])
 tail_cases modes.Tree = inl refl
 tail_cases modes.File = inr refl
 tail_cases modes.SharedFile = inr refl
@@ -102,7 +102,7 @@ pub part_place : (g : Part) → place (part_pair g) ≡ g.folder.now ++ key g.en
 part_place g = append_assoc g.folder.now g.name.now (tail g.entry.mode)
 
 -- ---- lists in order
-places_parts : (xs ys : List Pair) → InPlaces (xs ++ ys) → InPlaces xs × AllByRecursion (λ x. AllByRecursion (ComesFirst x) ys) xs × InPlaces ys
+pub places_parts : (xs ys : List Pair) → InPlaces (xs ++ ys) → InPlaces xs × AllByRecursion (λ x. AllByRecursion (ComesFirst x) ys) xs × InPlaces ys
 places_parts [] ys h = (tt, tt, h)
 places_parts (x ∷ xs) ys h =
     let all = parts (ComesFirst x) xs ys h.0 in

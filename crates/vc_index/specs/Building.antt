@@ -1,9 +1,9 @@
 -- How far the writing of an index's trees has come: its files and the trees that were stored, as parts of folders
 -- that are open, the lowest folder last.
-use Rattle.std.specs.Prelude.{◌≡◌, ◌↔◌, ℕ, List, [], ◌∷◌, ◌++◌, map, length, ◌-◌, Some, slice_get}
+use Rattle.std.specs.Prelude.{◌≡◌, ◌↔◌, ◌⊎◌, ℕ, List, [], ◌∷◌, ◌++◌, map, length, ◌-◌, IsSome, Some, slice_get}
 use Rattle.std.specs.List.{AllByRecursion}
 use Rattle.std.specs.Option.{option_map_or}
-use Rattle.std.specs.FinMap.{get}
+use Rattle.std.specs.FinMap.{get, entries}
 use Rattle.std.specs.Ordering.{nat_cmp}
 use Rattle.std.specs.Cmp.Lexicographic.{slice_cmp}
 use Rattle.std.specs.declared.cmp.Ordering.TheVariants.{Less}
@@ -13,8 +13,9 @@ use Rattle.vc_object.specs.Tree.{Entry, IsName, key}
 use Rattle.vc_object.specs.declared.id.ObjectId.{ObjectId}
 use Rattle.vc_object.specs.declared.mode.Mode.{Mode}
 use Rattle.vc_store.specs.Store.{with_objects}
+use Rattle.vc_index.specs.FolderTrees.{AllFit, AreEntryTrees, AreFolderTrees, AreJoined}
 use Rattle.vc_index.specs.HeldFiles.{Pair, HasFile}
-use Rattle.vc_index.specs.IndexMap.{IndexMap, index_entry}
+use Rattle.vc_index.specs.IndexMap.{IndexMap, IsIndex, index_entry}
 use Rattle.vc_index.specs.Part.{EndsInSlash, part_entry, part_pair}
 use Rattle.vc_index.specs.Path.{names_in, IsAbove}
 use Rattle.vc_index.specs.WrittenTrees.{Holds, IsOfFolder, IsPart, AreLowerTrees, tree_object}
@@ -63,7 +64,17 @@ abbrev pub IsLeft : List ℕ → List Pair → Type 0
 IsLeft folder [] = Unit {0}
 IsLeft folder (e ∷ rest) = Begins folder (place e) → ⊥
 
--- the parts, with the trees stored and with what is left, have the files of the index
+-- one of the pairs has the path, or is a folder above it
+abbrev pub HasOver : List Pair → List ℕ → Type 0
+HasOver [] path = ⊥
+HasOver (e ∷ es) path = ((e.0 ≡ path) ⊎ IsAbove e.0 path) ⊎ HasOver es path
+
+-- the trees that a part has, with at most so many levels of folders
+abbrev pub ArePartTrees : IndexMap → ℕ → Part → List (List Entry) → Type 0
+ArePartTrees files levels part own = AreEntryTrees files (AreFolderTrees levels files) part.folder.now (part_entry part) own
+
+-- the parts, with the trees stored and with what is left, have the files of the index; the trees stored are those of the
+-- parts, one after another
 pub record Building (files : IndexMap) (trees : List (List Entry)) (parts : List Part) (rest : List Pair) : Type 0 where
   pub same_files : (objects : ObjectMap) → Holds objects trees → (path : List ℕ) (mode : Mode) (id : ObjectId)
       → HasFile objects (map part_pair parts ++ rest) path mode id ↔ (get files path ≡ Some (index_entry mode id))
@@ -71,6 +82,11 @@ pub record Building (files : IndexMap) (trees : List (List Entry)) (parts : List
   pub each : AllByRecursion (IsSoundPart files trees) parts
   pub nested : Nested parts
   pub order : InPlaces (map part_pair parts ++ rest)
+  pub levels : ℕ
+  pub listed : AreJoined (ArePartTrees files levels) parts trees
+  pub covers : (path : List ℕ) → IsSome (get files path) → HasOver (map part_pair parts ++ rest) path
+  pub index : IsIndex files
+  pub walked : (front : List Pair) × (entries files ≡ front ++ rest)
 
 -- the last part's folder is one of the folders of the path
 abbrev pub IsInside : List ℕ → List Part → Type 0
@@ -86,6 +102,7 @@ pub record Stands (honest : Type 0) (files : IndexMap) (trees : List (List Entry
 pub record Closes (honest : Type 0) (files : IndexMap) (rest : List Pair) (trees : List (List Entry)) (parts : List Part) (old new : ObjectMap) : Type 0 where
   pub more : List (List Entry)
   pub building : Building files (trees ++ more) parts rest
+  pub fits : AllFit more
   pub stored : honest → new ≡ with_objects old (map tree_object more)
 
 -- how long the path of the last part's folder is

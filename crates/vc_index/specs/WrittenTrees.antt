@@ -11,6 +11,7 @@ use Rattle.vc_object.specs.declared.id.ObjectId.{ObjectId}
 use Rattle.vc_object.specs.declared.kind.Kind.TheVariants as kinds
 use Rattle.vc_object.specs.declared.mode.Mode.{Mode}
 use Rattle.vc_object.specs.declared.mode.Mode.TheVariants as modes
+use Rattle.vc_index.specs.FolderTrees.{AllFit, AreIndexTrees}
 use Rattle.vc_index.specs.IndexMap.{IndexMap, index_entry}
 use Rattle.vc_index.specs.Path.{IsAbove}
 use Rattle.vc_index.specs.TreeFiles.{IsFileOfTree}
@@ -51,12 +52,15 @@ pub record AreTreesOf (files : IndexMap) (lower : List (List Entry)) (root : Lis
   pub same_files : (objects : ObjectMap) → Holds objects (lower ++ root ∷ []) → (path : List ℕ) (mode : Mode) (id : ObjectId)
       → IsFileOfTree objects (object_name kinds.Tree (spelling root)) path mode id ↔ (get files path ≡ Some (index_entry mode id))
 
--- the index was written: its trees were stored, the lower ones first, and the id is that of the root's
+-- the index was written: its trees, each of which fits, were stored, the lower ones first, folder by folder, and the id is
+-- that of the root's
 pub record IsWritten (honest : Type 0) (files : IndexMap) (old new : ObjectMap) (id : ObjectId) : Type 0 where
   pub lower : List (List Entry)
   pub root : List Entry
   pub trees : AreTreesOf files lower root
   pub is : id ≡ object_name kinds.Tree (spelling root)
+  pub listed : AreIndexTrees files (lower ++ root ∷ []) root
+  pub fits : AllFit (lower ++ root ∷ [])
   pub stored : honest → new ≡ with_objects old (map tree_object (lower ++ root ∷ []))
 
 -- some of the trees below the root were stored, and nothing else

@@ -1,4 +1,4 @@
-use Rattle.std.proofs.Common.{ℕ, ◌≡◌, List, [], ◌∷◌, ◌++◌, map, take, drop, length, sym, ap, ◌∙◌, subst, refl}
+use Rattle.std.proofs.Common.{ℕ, ◌≡◌, ◌≤◌, List, [], ◌∷◌, ◌++◌, map, take, drop, length, sym, ap, ◌∙◌, subst, refl}
 use Rattle.std.specs.List.{AllByRecursion}
 use Rattle.vc_object.specs.Object.{object_name}
 use Rattle.vc_object.specs.ObjectId.{is_id}
@@ -68,6 +68,7 @@ returns-clause-closes g c = λ m trees rest left b.
           (λ fs p e. c.start_of-start.ensures.above fs p (ap (take start) c.deref.ensures.value ∙ e))
           part c.named-id.result body is (sym c.split_path.ensures.is ∙ c.split_at-2.ensures.front) c.split_path.ensures.name c.split_path.ensures.folder refl
           (c.named-id.ensures.same ∙ c.in_ok-stored.ensures.name ∙ ap (object_name kinds.Tree) c.deref-2.ensures.value) (ap is_id c.named-id.ensures.same ∙ c.named-id.ensures.valid) left);
+      fits = (subst (λ (t : List ℕ). length t ≤ 16777216) (c.deref-2.ensures.value ∙ is) (c.in_ok-stored.ensures.legal refl).size, tt);
       stored = λ honest. stored_one (objects (g.F.Files.content c.args.files.now)) (objects (g.F.Files.content c.put.new.files)) c.in_ok-stored.stored c.deref-2.result.now es (c.deref-2.ensures.value ∙ is) c.in_ok-stored.ensures.name (c.in_ok-stored.ensures.objects honest);
     }
 

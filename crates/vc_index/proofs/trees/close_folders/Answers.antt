@@ -1,12 +1,12 @@
-use Rattle.std.proofs.Common.{rules, ◌≡◌, ◌-◌, List, ◌++◌, Some, length, sym, ap, ◌∙◌, nat_eq, true, false}
+use Rattle.std.proofs.Common.{rules, ◌≡◌, ◌-◌, List, ◌++◌, Some, length, refl, sym, ap, ◌∙◌, nat_eq, true, false}
 use Rattle.std.specs.Prelude.{slice_get}
 use Rattle.std.specs.List.{starts_with}
-use Rattle.vc_files.proofs.FileMapLemmas.{outside_then}
+use Rattle.vc_files.proofs.FileMapLemmas.{outside_then, outside_same}
 use Rattle.vc_object.specs.declared.id.ObjectId.{ObjectId}
 use Rattle.vc_store.specs.Store.{objects, IsDamaged}
 use Rattle.vc_index.specs.WrittenTrees.{IsOfWrite}
 use Rattle.vc_index.specs.declared.trees.Part.{Part}
-use Rattle.vc_index.proofs.ClosingLemmas.{closes_then, closes_stands, stands_then, inside_last, left_of, handed_on}
+use Rattle.vc_index.proofs.ClosingLemmas.{closes_none, closes_then, closes_stands, stands_then, inside_last, left_of, handed_on}
 use Rattle.vc_index.proofs.trees.close_folders.Goals as goal
 
 pub returns-then-starts_with-clause-inside : goal.returns-then-starts_with-clause-inside
@@ -17,6 +17,13 @@ returns-then-starts_with-clause-inside g c =
 
 pub returns-then-starts_with-clause-stands : goal.returns-then-starts_with-clause-stands
 returns-then-starts_with-clause-stands g c = λ m trees rest n b. closes_stands g.F.Files.honest m trees rest c.loop-last.parts.items (objects (g.F.Files.content c.args.files.now)) (objects (g.F.Files.content c.loop-last.files)) (c.loop-last.invariant.closes m trees rest n b)
+
+pub loop-last-init : goal.loop-last-init
+loop-last-init g c = record {
+  closes = λ m trees rest n b. closes_none g.F.Files.honest m trees rest c.args.parts.now.items (objects (g.F.Files.content c.args.files.now)) (objects (g.F.Files.content c.args.files.now)) b (λ _. refl);
+  outside = λ honest. outside_same _ _;
+  wear = search rules;
+}
 
 pub loop-last-preserved : goal.loop-last-preserved
 loop-last-preserved g c =

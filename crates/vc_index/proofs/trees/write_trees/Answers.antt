@@ -1,4 +1,4 @@
-use Rattle.std.proofs.Common.{◌≡◌, map, ap, ◌∙◌}
+use Rattle.std.proofs.Common.{◌≡◌, map, refl, ap, ◌∙◌}
 use Rattle.vc_object.specs.Tree.{spelling}
 use Rattle.vc_object.specs.declared.id.ObjectId.{ObjectId}
 use Rattle.vc_store.specs.Store.{objects, IsDamaged}
@@ -13,7 +13,7 @@ pub returns-clause-written : goal.returns-clause-written
 returns-clause-written g c =
     let is : c.deref-2.result.now ≡ spelling (map part_entry c.in_ok-parts.parts.items) = c.deref-2.ensures.value ∙ c.in_ok-body.ensures ∙ ap (λ ps. spelling (map part_entry ps)) c.deref.ensures.value in
     written g.F.Files.honest (index_of c.args.map.now) c.in_ok-parts.parts.items (objects (g.F.Files.content c.args.files.now)) (objects (g.F.Files.content c.root_parts.new.files)) (objects (g.F.Files.content c.put.new.files)) c.in_ok-id.id c.deref-2.result.now
-    c.in_ok-parts.ensures.closed c.in_ok-parts.ensures.inside is c.in_ok-id.ensures.name c.in_ok-id.ensures.objects
+    c.in_ok-parts.ensures.closed c.in_ok-parts.ensures.inside is c.in_ok-id.ensures.name (c.in_ok-id.ensures.legal refl).size c.in_ok-id.ensures.objects
 
 pub returns-in_err-id-clause-refused : goal.returns-in_err-id-clause-refused
 returns-in_err-id-clause-refused g c =
