@@ -1,5 +1,6 @@
 pub mod PathLemmas
 pub mod FolderLemmas
+pub mod OneListLemmas
 pub mod MapLemmas
 pub mod ConflictLemmas
 pub mod TextLemmas

@@ -8,7 +8,7 @@ use Rattle.vc_object.specs.Object.{object_name}
 use Rattle.vc_object.specs.Tree.{Entry, HasName, IsTree, spelling}
 use Rattle.vc_object.specs.declared.kind.Kind.TheVariants as kinds
 use Rattle.vc_object.specs.declared.mode.Mode.TheVariants as modes
-use Rattle.vc_index.specs.IndexMap.{IndexMap, index_entry}
+use Rattle.vc_index.specs.IndexMap.{IndexMap, IsIndex, index_entry}
 use Rattle.vc_index.specs.Path.{IsAbove}
 
 -- the path's first name: all of it, or what stands before its first `/`
@@ -75,3 +75,7 @@ pub record IsFirstLarge (files : IndexMap) (entries : List Entry) : Type 0 where
   pub listed : AreIndexTrees files (before ++ entries ∷ after) root
   pub fits : AllFit before
   pub large : 16777216 < length (spelling entries)
+
+-- an index has one list of trees at most
+abbrev pub TreesAreOneList : Type 0
+TreesAreOneList = (files : IndexMap) → IsIndex files → (trees others : List (List Entry)) (root other : List Entry) → AreIndexTrees files trees root → AreIndexTrees files others other → (trees ≡ others) × (root ≡ other)

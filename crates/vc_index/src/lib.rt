@@ -4,6 +4,7 @@
 mod entry;
 mod faults;
 mod index;
+pub mod laws;
 mod loading;
 mod path;
 mod text;
