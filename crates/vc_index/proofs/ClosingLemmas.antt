@@ -15,30 +15,25 @@ use Rattle.std.proofs.lemmas.List.{take-append-drop, take_at, length-take-le}
 use Rattle.vc_object.specs.Bytes.{Without}
 use Rattle.vc_object.specs.Decoding.{StoredObject, stored_object}
 use Rattle.vc_object.specs.Object.{object_name}
-use Rattle.vc_object.specs.ObjectFault.{BodyFault, too_large, no_grammar}
-use Rattle.vc_object.specs.ObjectId.{is_id}
 use Rattle.vc_object.specs.ObjectMap.{ObjectMap}
 use Rattle.vc_object.specs.Tree.{Entry, IsTree, IsName, spelling}
 use Rattle.vc_object.specs.declared.id.ObjectId.{ObjectId}
 use Rattle.vc_object.specs.declared.kind.Kind.TheVariants as kinds
 use Rattle.vc_object.specs.declared.mode.Mode.{Mode}
 use Rattle.vc_object.specs.declared.mode.Mode.TheVariants as modes
-use Rattle.vc_object.specs.declared.fault.ObjectFault.{ObjectFault}
-use Rattle.vc_object.specs.declared.fault.ObjectFault.TheVariants.{TooLarge}
-use Rattle.vc_object.proofs.Objects as grammar
 use Rattle.vc_store.specs.Store.{IsDamaged, with_object, with_objects}
-use Rattle.vc_store.specs.StoreFault.{IsOfPut, IsOfDamage}
+use Rattle.vc_store.specs.StoreFault.{IsOfDamage}
 use Rattle.vc_files.specs.FileMap.{FileMap}
 use Rattle.vc_store.specs.declared.faults.StoreFault.{StoreFault}
-use Rattle.vc_store.specs.declared.faults.StoreFault.TheVariants.{BadObject, Absent, Damaged, Fault}
-use Rattle.vc_index.specs.Building.{Begins, Nested, InPlaces, IsNext, IsLeft, IsSoundPart, HasOver, ArePartTrees, Building, Stands, Closes, IsInside, open_length}
+use Rattle.vc_store.specs.declared.faults.StoreFault.TheVariants.{Damaged}
+use Rattle.vc_index.specs.Building.{Begins, Nested, InPlaces, IsNext, IsLeft, IsSoundPart, HasOver, ArePartTrees, Building, Closes, IsInside, open_length}
 use Rattle.vc_index.specs.FolderTrees.{AreJoined, AreIndexTrees, Fits}
 use Rattle.vc_index.specs.HeldFiles.{Pair, HasFile, placed}
 use Rattle.vc_index.specs.IndexMap.{IndexMap, IsIndex, IsFile, index_entry}
 use Rattle.vc_index.specs.Part.{EndsInSlash, part_entry, part_pair}
 use Rattle.vc_index.specs.Path.{names_in}
 use Rattle.vc_index.specs.TreeFiles.{IsTreeAt, IsFileOfTree}
-use Rattle.vc_index.specs.WrittenTrees.{tree_object, Holds, IsPart, AreLowerTrees, AreTreesOf, IsWritten, IsBegun, HasTooLarge, IsOfFolder, IsOfTrees}
+use Rattle.vc_index.specs.WrittenTrees.{tree_object, Holds, IsPart, AreLowerTrees, AreTreesOf, IsWritten, IsOfFolder}
 use Rattle.vc_index.specs.declared.entry.IndexEntry.{IndexEntry}
 use Rattle.vc_index.specs.declared.faults.IndexFault.{IndexFault}
 use Rattle.vc_index.specs.declared.trees.Part.{Part}
@@ -51,7 +46,8 @@ use Rattle.vc_index.proofs.PlaceLemmas.{file_place, front_places, files_order}
 use Rattle.vc_index.proofs.PartLemmas.{by_last, last_get, got_last, folder_begins, nested_push, nested_last, holds_parts, run_tree, placed_run, all_parts, all_join, all_map, all_over, map_join, begins_trans, tree, run_of_folder, of_one_folder, below_new, building_new}
 use Rattle.vc_index.proofs.TextLemmas.{id_of_test}
 
-push_same : {X : Type 0} (xs ys : List X) (x y : X) → xs ++ x ∷ [] ≡ ys ++ y ∷ [] → x ≡ y
+-- the last elements of one list
+pub push_same : {X : Type 0} (xs ys : List X) (x y : X) → xs ++ x ∷ [] ≡ ys ++ y ∷ [] → x ≡ y
 push_same xs ys x y e =
     let same : Some x ≡ Some y = sym (last_get xs x) ∙ ap (λ (l : List _). slice_get l (length l - 1)) e ∙ last_get ys y in
     cc same
@@ -75,7 +71,7 @@ with_objects-append : (old : ObjectMap) (a b : List StoredObject) → with_objec
 with_objects-append old [] b = refl
 with_objects-append old (x ∷ a) b = with_objects-append (with_object old (object_name x.kind x.body) x) a b
 
-stored_then : (old mid new : ObjectMap) (a b : List (List Entry)) → mid ≡ with_objects old (map tree_object a) → new ≡ with_objects mid (map tree_object b) → new ≡ with_objects old (map tree_object (a ++ b))
+pub stored_then : (old mid new : ObjectMap) (a b : List (List Entry)) → mid ≡ with_objects old (map tree_object a) → new ≡ with_objects mid (map tree_object b) → new ≡ with_objects old (map tree_object (a ++ b))
 stored_then old mid new a b p q =
     q ∙ ap (λ o. with_objects o (map tree_object b)) p ∙ sym (with_objects-append old (map tree_object a) (map tree_object b)) ∙ ap (with_objects old) (sym (map_join tree_object a b))
 
@@ -83,9 +79,6 @@ pub stored_one : (old new : ObjectMap) (id : ObjectId) (body : List ℕ) (es : L
 stored_one old new id body es is named put = put ∙ ap (λ i. with_object old i (stored_object kinds.Tree body)) named ∙ ap (λ b. with_object old (object_name kinds.Tree b) (stored_object kinds.Tree b)) is
 
 module _ (honest : Type 0) (files : IndexMap) (trees : List (List Entry)) where
-  pub stands_none : (old new : ObjectMap) → AreLowerTrees files [] trees → (honest → new ≡ old) → Stands honest files trees old new
-  stands_none old new below same = record { more = []; below = subst (AreLowerTrees files []) (sym (append-nil trees)) below; stored = same }
-
   module _ (rest : List Pair) where
     pub closes_none : (parts : List Part) (old new : ObjectMap) → Building files trees parts rest → (honest → new ≡ old) → Closes honest files rest trees parts old new
     closes_none parts old new b same = record { more = []; building = subst (λ (ts : List (List Entry)). Building files ts parts rest) (sym (append-nil trees)) b; fits = tt; stored = same }
@@ -97,28 +90,6 @@ module _ (honest : Type 0) (files : IndexMap) (trees : List (List Entry)) where
       fits = all_join Fits first.more second.more first.fits second.fits;
       stored = λ h. stored_then old now new first.more second.more (first.stored h) (second.stored h);
     }
-
-    pub stands_then : (mid : List Part) (old now new : ObjectMap) (first : Closes honest files rest trees mid old now) → Stands honest files (trees ++ first.more) now new → Stands honest files trees old new
-    stands_then mid old now new first second = record {
-      more = first.more ++ second.more;
-      below = subst (AreLowerTrees files []) (append_assoc trees first.more second.more) second.below;
-      stored = λ h. stored_then old now new first.more second.more (first.stored h) (second.stored h);
-    }
-
-    pub closes_stands : (parts : List Part) (old new : ObjectMap) → Closes honest files rest trees parts old new → Stands honest files trees old new
-    closes_stands parts old new c = record { more = c.more; below = c.building.below; stored = c.stored }
-
--- ---- a tree that the store does not take
-pub tree_refused : (files : IndexMap) (folder : List ℕ) (es : List Entry) (Damage : ObjectId → Type 0) (body : List ℕ) (fault : StoreFault)
-    → IsTree es → AllByRecursion (IsOfFolder files folder) es → body ≡ spelling es → IsOfPut kinds.Tree body fault → ((id : ObjectId) → fault ≡ Damaged id → Damage id) → IsOfTrees files Damage fault
-tree_refused files folder es Damage body (BadObject fault) sound each is put damaged = large fault put
-  where
-    large : (e : ObjectFault) → BodyFault kinds.Tree body e → (e ≡ TooLarge) × HasTooLarge files
-    large e (too_large n same) = (same, record { folder = folder; entries = es; tree = sound; each = each; large = subst (λ (t : List ℕ). 16777216 < length t) is n })
-    large e (no_grammar n f) = absurd (grammar.no_grammar kinds.Tree body e f (es, sound, is))
-tree_refused files folder es Damage body (Absent id) sound each is put damaged = put
-tree_refused files folder es Damage body (Damaged id) sound each is put damaged = damaged id refl
-tree_refused files folder es Damage body (Fault fault) sound each is put damaged = tt
 
 -- ---- one folder closed
 module _ (files : IndexMap) (trees : List (List Entry)) (rest : List Pair) (parts : List Part) (start : ℕ) (folder : List ℕ)
@@ -166,11 +137,11 @@ module _ (files : IndexMap) (trees : List (List Entry)) (rest : List Pair) (part
     pub closing_below : AreLowerTrees files [] (trees ++ map part_entry (drop start parts) ∷ [])
     closing_below = below_new files trees rest (take start parts) (drop start parts) ends.0 last.1 path.0 parted ends.1 (last.3 ∙ path.1) inside_d above_d
 
-    -- the store takes the folder's tree, if it is not too large
-    pub closing_refused : (Damage : ObjectId → Type 0) (body : List ℕ) (fault : StoreFault) → body ≡ spelling (map part_entry (drop start parts)) → IsOfPut kinds.Tree body fault → ((id : ObjectId) → fault ≡ Damaged id → Damage id) → IsOfTrees files Damage fault
-    closing_refused Damage body fault is put damaged = tree_refused files (path.0 ++ 47 ∷ []) (map part_entry (drop start parts)) Damage body fault
-        (tree files trees rest (take start parts) (drop start parts) ends.0 last.1 path.0 parted ends.1 (last.3 ∙ path.1) inside_d above_d)
-        (run_of_folder files trees rest (take start parts) (drop start parts) ends.0 last.1 path.0 parted ends.1 (last.3 ∙ path.1) inside_d above_d) is put damaged
+    pub closing_tree : IsTree (map part_entry (drop start parts))
+    closing_tree = tree files trees rest (take start parts) (drop start parts) ends.0 last.1 path.0 parted ends.1 (last.3 ∙ path.1) inside_d above_d
+
+    pub closing_each : AllByRecursion (IsOfFolder files (path.0 ++ 47 ∷ [])) (map part_entry (drop start parts))
+    closing_each = run_of_folder files trees rest (take start parts) (drop start parts) ends.0 last.1 path.0 parted ends.1 (last.3 ∙ path.1) inside_d above_d
 
     module _ (new : Part) (id : ObjectId) (body : List ℕ)
         (is : body ≡ spelling (map part_entry (drop start parts)))
@@ -179,7 +150,7 @@ module _ (files : IndexMap) (trees : List (List Entry)) (rest : List Pair) (part
         (ends_new : EndsInSlash new.folder.now)
         (entry_new : new.entry ≡ index_entry modes.Tree id)
         (named : id ≡ object_name kinds.Tree body)
-        (valid : is_id id ≡ true)
+        (sized : length id.0 ≡ 20)
         (left : IsLeft folder rest)
       where
         entry_is : new.entry ≡ index_entry modes.Tree (object_name kinds.Tree (spelling (map part_entry (drop start parts))))
@@ -187,7 +158,7 @@ module _ (files : IndexMap) (trees : List (List Entry)) (rest : List Pair) (part
 
         pub closing : Building files (trees ++ map part_entry (drop start parts) ∷ []) (take start parts ++ new ∷ []) rest
         closing = building_new files trees rest (take start parts) (drop start parts) ends.0 last.1 path.0 parted ends.1 (last.3 ∙ path.1) inside_d above_d new
-            (is_new ∙ path_is) plain_new ends_new entry_is (subst (λ (e : IndexEntry). length e.id.0 ≡ 20) (sym entry_new) (id_of_test id valid).sized)
+            (is_new ∙ path_is) plain_new ends_new entry_is (subst (λ (e : IndexEntry). length e.id.0 ≡ 20) (sym entry_new) sized)
             (subst (λ (f : List ℕ). IsLeft f rest) path.1 left)
 
 -- the folder that is open now is shorter
@@ -304,15 +275,14 @@ root_folders parts nested inside = ⊎_elim
     nothing_begins (x ∷ a) b h e = absurd (let z : [] ≡ x ∷ (a ++ h.0) = sym e ∙ h.1 in cc z)
 
 module _ (files : IndexMap) (lower : List (List Entry)) (parts : List Part) (b : Building files lower parts []) (inside : IsInside [] parts) where
-  root_tree : IsTree (map part_entry parts)
+  pub root_tree : IsTree (map part_entry parts)
   root_tree = run_tree files lower [] parts b.each (root_folders parts b.nested inside) (front_places (map part_pair parts) [] b.order)
 
   root_parts : AllByRecursion (IsPart files lower) (map part_entry parts)
   root_parts = all_over part_entry (IsPart files lower) parts (all_map (IsSoundPart files lower) (λ g. IsPart files lower (part_entry g)) parts (λ g s. s.leads) b.each)
 
-  -- the store takes the root's tree, if it is not too large
-  pub root_refused : (Damage : ObjectId → Type 0) (body : List ℕ) (fault : StoreFault) → body ≡ spelling (map part_entry parts) → IsOfPut kinds.Tree body fault → ((id : ObjectId) → fault ≡ Damaged id → Damage id) → IsOfTrees files Damage fault
-  root_refused Damage body fault is put damaged = tree_refused files [] (map part_entry parts) Damage body fault root_tree (of_one_folder files lower [] parts b.each (root_folders parts b.nested inside)) is put damaged
+  pub root_each : AllByRecursion (IsOfFolder files []) (map part_entry parts)
+  root_each = of_one_folder files lower [] parts b.each (root_folders parts b.nested inside)
 
   root_pairs : map part_pair parts ++ [] ≡ map (placed []) (map part_entry parts)
   root_pairs = append-nil (map part_pair parts) ∙ placed_run [] parts (root_folders parts b.nested inside)
@@ -386,9 +356,6 @@ push_step honest files front more path entry parts mid parts' part old now new s
       fits = both.fits;
       stored = both.stored;
     }
-
-pub begun : (honest : Type 0) (files : IndexMap) (old new : ObjectMap) → Stands honest files [] old new → IsBegun honest files old new
-begun honest files old new s = record { trees = s.more; lower = s.below; stored = s.stored }
 
 pub written : (honest : Type 0) (files : IndexMap) (parts : List Part) (old mid new : ObjectMap) (id : ObjectId) (body : List ℕ)
     → Closes honest files [] [] parts old mid → IsInside [] parts → body ≡ spelling (map part_entry parts) → id ≡ object_name kinds.Tree body → length body ≤ 16777216

@@ -12,5 +12,7 @@ pub mod PlaceLemmas
 pub mod CoverLemmas
 pub mod PartLemmas
 pub mod ClosingLemmas
+pub mod CompletionLemmas
+pub mod StandingLemmas
 pub mod LoadLemmas
 pub mod ReadingLemmas

@@ -13,7 +13,7 @@ use Rattle.vc_object.specs.Tree.{Entry, IsName, key}
 use Rattle.vc_object.specs.declared.id.ObjectId.{ObjectId}
 use Rattle.vc_object.specs.declared.mode.Mode.{Mode}
 use Rattle.vc_store.specs.Store.{with_objects}
-use Rattle.vc_index.specs.FolderTrees.{AllFit, AreEntryTrees, AreFolderTrees, AreJoined}
+use Rattle.vc_index.specs.FolderTrees.{AllFit, AreEntryTrees, AreFirstTrees, AreFolderTrees, AreJoined}
 use Rattle.vc_index.specs.HeldFiles.{Pair, HasFile}
 use Rattle.vc_index.specs.IndexMap.{IndexMap, IsIndex, index_entry}
 use Rattle.vc_index.specs.Part.{EndsInSlash, part_entry, part_pair}
@@ -92,10 +92,12 @@ pub record Building (files : IndexMap) (trees : List (List Entry)) (parts : List
 abbrev pub IsInside : List ℕ → List Part → Type 0
 IsInside path parts = (front : List Part) (part : Part) → parts ≡ front ++ part ∷ [] → Begins part.folder.now path
 
--- more trees of the index were stored behind these
+-- more trees of the index were stored behind these, and they are its first ones together
 pub record Stands (honest : Type 0) (files : IndexMap) (trees : List (List Entry)) (old new : ObjectMap) : Type 0 where
   pub more : List (List Entry)
   pub below : AreLowerTrees files [] (trees ++ more)
+  pub first : AreFirstTrees files (trees ++ more)
+  pub fits : AllFit more
   pub stored : honest → new ≡ with_objects old (map tree_object more)
 
 -- more trees were stored behind these, and these are the parts now

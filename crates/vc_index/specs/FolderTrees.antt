@@ -59,13 +59,12 @@ Fits entries = length (spelling entries) ≤ 16777216
 abbrev pub AllFit : List (List Entry) → Type 0
 AllFit trees = AllByRecursion Fits trees
 
--- the trees are the first ones of the index's, not all of them, and each fits
+-- the trees are the first ones of the index's, and not all of them
 pub record AreFirstTrees (files : IndexMap) (trees : List (List Entry)) : Type 0 where
   pub rest : List (List Entry)
   pub root : List Entry
   pub listed : AreIndexTrees files (trees ++ rest) root
   pub more : rest ≢ []
-  pub fits : AllFit trees
 
 -- the tree is one of the index's and does not fit, and each before it does
 pub record IsFirstLarge (files : IndexMap) (entries : List Entry) : Type 0 where
@@ -79,3 +78,7 @@ pub record IsFirstLarge (files : IndexMap) (entries : List Entry) : Type 0 where
 -- an index has one list of trees at most
 abbrev pub TreesAreOneList : Type 0
 TreesAreOneList = (files : IndexMap) → IsIndex files → (trees others : List (List Entry)) (root other : List Entry) → AreIndexTrees files trees root → AreIndexTrees files others other → (trees ≡ others) × (root ≡ other)
+
+-- each index has a list of trees
+abbrev pub TreesAreThere : Type 0
+TreesAreThere = (files : IndexMap) → IsIndex files → (trees : List (List Entry)) × (root : List Entry) × AreIndexTrees files trees root

@@ -11,7 +11,7 @@ use Rattle.vc_object.specs.declared.id.ObjectId.{ObjectId}
 use Rattle.vc_object.specs.declared.kind.Kind.TheVariants as kinds
 use Rattle.vc_object.specs.declared.mode.Mode.{Mode}
 use Rattle.vc_object.specs.declared.mode.Mode.TheVariants as modes
-use Rattle.vc_index.specs.FolderTrees.{AllFit, AreIndexTrees}
+use Rattle.vc_index.specs.FolderTrees.{AllFit, AreFirstTrees, AreIndexTrees, IsFirstLarge}
 use Rattle.vc_index.specs.IndexMap.{IndexMap, index_entry}
 use Rattle.vc_index.specs.Path.{IsAbove}
 use Rattle.vc_index.specs.TreeFiles.{IsFileOfTree}
@@ -63,10 +63,12 @@ pub record IsWritten (honest : Type 0) (files : IndexMap) (old new : ObjectMap) 
   pub fits : AllFit (lower ++ root ∷ [])
   pub stored : honest → new ≡ with_objects old (map tree_object (lower ++ root ∷ []))
 
--- some of the trees below the root were stored, and nothing else
+-- the first of the index's trees were stored, those below the root at most, and nothing else
 pub record IsBegun (honest : Type 0) (files : IndexMap) (old new : ObjectMap) : Type 0 where
   pub trees : List (List Entry)
   pub lower : AreLowerTrees files [] trees
+  pub first : AreFirstTrees files trees
+  pub fits : AllFit trees
   pub stored : honest → new ≡ with_objects old (map tree_object trees)
 
 -- an entry of the folder, whose path ends in `/` or is empty: a file of the index, or a folder that has one
@@ -75,13 +77,14 @@ IsOfFolder files folder entry =
     ((entry.mode ≢ modes.Tree) × (get files (folder ++ entry.name) ≡ Some (index_entry entry.mode entry.id)))
     ⊎ ((entry.mode ≡ modes.Tree) × ((path : List ℕ) × IsSome (get files path) × IsAbove (folder ++ entry.name) path))
 
--- a folder of the index has a tree whose spelling is over 16,777,216 bytes
+-- a folder of the index has a tree, the first of the index's whose spelling is over 16,777,216 bytes
 pub record HasTooLarge (files : IndexMap) : Type 0 where
   pub folder : List ℕ
   pub entries : List Entry
   pub tree : IsTree entries
   pub each : AllByRecursion (IsOfFolder files folder) entries
   pub large : 16777216 < length (spelling entries)
+  pub first : IsFirstLarge files entries
 
 -- why the store did not take a tree of the index: the tree is too large, a file is damaged, or a fault
 abbrev pub IsOfTrees : IndexMap → (ObjectId → Type 0) → StoreFault → Type 0

@@ -7,6 +7,7 @@ ghost use Rattle.vc_object.specs.Bytes.{Without};
 ghost use Rattle.vc_object.specs.Tree.{Entry, spelling};
 ghost use Rattle.vc_store.specs.Store.{objects, IsDamaged};
 ghost use Rattle.vc_index.specs.Building.{Building, Closes, Stands, IsInside, IsLeft, IsNext, open_length};
+ghost use Rattle.vc_index.specs.FolderTrees.{AllFit};
 ghost use Rattle.vc_index.specs.HeldFiles.{Pair};
 ghost use Rattle.vc_index.specs.IndexMap.{IndexMap, IsIndex, index_of};
 ghost use Rattle.vc_index.specs.Part.{EndsInSlash, part_entry};
@@ -79,9 +80,9 @@ fn close_folder<'a, F: Files>(
     requires last { option_map (λ part. part.folder.now) (slice_get parts.old.items (length parts.old.items - 1)) ≡ Some folder.now }
     requires some { 0 < length folder.now }
     ensures closes { (m : IndexMap) (trees : List (List Entry)) (rest : List Pair) → IsLeft folder.now rest → Building m trees parts.old.items rest → OnOk result (Closes F.honest m rest trees parts.new.items (objects (F.content files.old)) (objects (F.content files.new))) }
-    ensures stands { (m : IndexMap) (trees : List (List Entry)) (rest : List Pair) → Building m trees parts.old.items rest → Stands F.honest m trees (objects (F.content files.old)) (objects (F.content files.new)) }
+    ensures stands { (m : IndexMap) (trees : List (List Entry)) (rest : List Pair) → IsLeft folder.now rest → Building m trees parts.old.items rest → Stands F.honest m trees (objects (F.content files.old)) (objects (F.content files.new)) }
     ensures shorter { OnOk result (open_length parts.new.items < length folder.now) }
-    ensures refused { (m : IndexMap) (trees : List (List Entry)) (rest : List Pair) → Building m trees parts.old.items rest → IfErr result (IsOfWrite m (λ id. F.honest → IsDamaged (F.content files.new) id)) }
+    ensures refused { (m : IndexMap) (trees : List (List Entry)) (rest : List Pair) → IsLeft folder.now rest → AllFit trees → Building m trees parts.old.items rest → IfErr result (IsOfWrite m (λ id. F.honest → IsDamaged (F.content files.new) id)) }
     ensures outside { F.honest → SameOutside (codes "objects/") (F.content files.old) (F.content files.new) }
     ensures wear { Wears F.failed F.can_fail files.old files.new (IsErrOf result (IndexFault.Store (StoreFault.Fault Fault.Device))) }
 {
@@ -110,7 +111,7 @@ fn close_folders<F: Files>(
     ensures closes { (m : IndexMap) (trees : List (List Entry)) (rest : List Pair) → IsNext next.now rest → Building m trees parts.old.items rest → OnOk result (Closes F.honest m rest trees parts.new.items (objects (F.content files.old)) (objects (F.content files.new))) }
     ensures inside { OnOk result (IsInside next.now parts.new.items) }
     ensures stands { (m : IndexMap) (trees : List (List Entry)) (rest : List Pair) → IsNext next.now rest → Building m trees parts.old.items rest → Stands F.honest m trees (objects (F.content files.old)) (objects (F.content files.new)) }
-    ensures refused { (m : IndexMap) (trees : List (List Entry)) (rest : List Pair) → IsNext next.now rest → Building m trees parts.old.items rest → IfErr result (IsOfWrite m (λ id. F.honest → IsDamaged (F.content files.new) id)) }
+    ensures refused { (m : IndexMap) (trees : List (List Entry)) (rest : List Pair) → IsNext next.now rest → AllFit trees → Building m trees parts.old.items rest → IfErr result (IsOfWrite m (λ id. F.honest → IsDamaged (F.content files.new) id)) }
     ensures outside { F.honest → SameOutside (codes "objects/") (F.content files.old) (F.content files.new) }
     ensures wear { Wears F.failed F.can_fail files.old files.new (IsErrOf result (IndexFault.Store (StoreFault.Fault Fault.Device))) }
 {

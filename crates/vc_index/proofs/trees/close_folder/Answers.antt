@@ -14,11 +14,19 @@ use Rattle.vc_index.specs.Part.{part_entry}
 use Rattle.vc_index.specs.WrittenTrees.{IsOfWrite}
 use Rattle.vc_index.specs.declared.faults.IndexFault.TheVariants.{Store}
 use Rattle.vc_index.specs.declared.trees.Part.{Part}
-use Rattle.vc_index.proofs.ClosingLemmas.{closing, closing_below, closing_shorter, stored_one, closing_refused, handed_on, still_damaged}
+use Rattle.vc_index.proofs.ClosingLemmas.{closing, closing_shorter, stored_one, handed_on, still_damaged}
+use Rattle.vc_index.proofs.StandingLemmas.{stands_none, closing_refused, closing_stands}
+use Rattle.vc_index.proofs.TextLemmas.{id_of_test}
 use Rattle.vc_index.proofs.trees.close_folder.Goals as goal
 
+pub returns-in_err-body-clause-stands : goal.returns-in_err-body-clause-stands
+returns-in_err-body-clause-stands g c = λ m trees rest left b. stands_none g.F.Files.honest m rest trees c.args.parts.now.items (objects (g.F.Files.content c.args.files.now)) (objects (g.F.Files.content c.args.files.now)) b (λ _. refl)
+
+pub returns-in_err-stored-clause-stands : goal.returns-in_err-stored-clause-stands
+returns-in_err-stored-clause-stands g c = λ m trees rest left b. stands_none g.F.Files.honest m rest trees c.args.parts.now.items (objects (g.F.Files.content c.args.files.now)) (objects (g.F.Files.content c.put.new.files)) b (λ honest. ap objects (c.in_err-stored.ensures.err honest))
+
 pub returns-in_err-push-clause-stands : goal.returns-in_err-push-clause-stands
-returns-in_err-push-clause-stands g c = λ m trees rest b.
+returns-in_err-push-clause-stands g c = λ m trees rest left b.
     let parts = c.args.parts.now.items in
     let start = c.start_of-start.result in
     let folder = c.args.folder.now in
@@ -26,15 +34,14 @@ returns-in_err-push-clause-stands g c = λ m trees rest b.
     let es = map part_entry (drop start parts) in
     let inside = subst (λ (ps : List Part). AllByRecursion (λ (p : Part). length p.folder.now ≡ length folder) (drop start ps)) c.deref.ensures.value c.start_of-start.ensures.inside in
     let is : body ≡ spelling es = c.in_ok-body.ensures ∙ ap (λ ps. spelling (map part_entry ps)) (c.split_at.ensures.back ∙ ap (drop start) c.as_slice.ensures.value) in
-    record {
-      more = es ∷ [];
-      below = closing_below m trees rest parts start folder b c.requires.last c.requires.some inside
-          (λ fs p e. c.start_of-start.ensures.above fs p (ap (take start) c.deref.ensures.value ∙ e));
-      stored = λ honest. stored_one (objects (g.F.Files.content c.args.files.now)) (objects (g.F.Files.content c.put.new.files)) c.in_ok-stored.stored c.deref-2.result.now es (c.deref-2.ensures.value ∙ is) c.in_ok-stored.ensures.name (c.in_ok-stored.ensures.objects honest);
-    }
+    closing_stands m trees rest parts start folder b c.requires.last c.requires.some inside
+    (λ fs p e. c.start_of-start.ensures.above fs p (ap (take start) c.deref.ensures.value ∙ e)) left
+    g.F.Files.honest (objects (g.F.Files.content c.args.files.now)) (objects (g.F.Files.content c.put.new.files))
+    (subst (λ (t : List ℕ). length t ≤ 16777216) (c.deref-2.ensures.value ∙ is) (c.in_ok-stored.ensures.legal refl).size, tt)
+    (λ honest. stored_one (objects (g.F.Files.content c.args.files.now)) (objects (g.F.Files.content c.put.new.files)) c.in_ok-stored.stored c.deref-2.result.now es (c.deref-2.ensures.value ∙ is) c.in_ok-stored.ensures.name (c.in_ok-stored.ensures.objects honest))
 
 pub returns-in_err-stored-clause-refused : goal.returns-in_err-stored-clause-refused
-returns-in_err-stored-clause-refused g c = λ m trees rest b.
+returns-in_err-stored-clause-refused g c = λ m trees rest left fits b.
     let content = g.F.Files.content in
     let parts = c.args.parts.now.items in
     let start = c.start_of-start.result in
@@ -47,7 +54,7 @@ returns-in_err-stored-clause-refused g c = λ m trees rest b.
     let is : body ≡ spelling es = c.in_ok-body.ensures ∙ ap (λ ps. spelling (map part_entry ps)) (c.split_at.ensures.back ∙ ap (drop start) c.as_slice.ensures.value) in
     handed_on (IsOfWrite m Damage) (Store fault) c.from_residual-in_err-stored.result c.from_residual-in_err-stored.ensures.1
     (closing_refused m trees rest parts start folder b c.requires.last c.requires.some inside
-    (λ fs p e. c.start_of-start.ensures.above fs p (ap (take start) c.deref.ensures.value ∙ e)) Damage body fault is
+    (λ fs p e. c.start_of-start.ensures.above fs p (ap (take start) c.deref.ensures.value ∙ e)) left Damage body fault fits is
     (subst (λ (t : List ℕ). IsOfPut kinds.Tree t fault) c.deref-2.ensures.value c.in_err-stored.ensures.refused)
     (λ id e honest. still_damaged (content c.args.files.now) (content c.put.new.files) fault id (c.in_err-stored.ensures.err honest) (c.in_err-stored.ensures.damaged honest) e))
 
@@ -67,13 +74,13 @@ returns-clause-closes g c = λ m trees rest left b.
       building = subst (λ (ps : List Part). Building m (trees ++ es ∷ []) ps rest) (sym pushes) (closing m trees rest parts start folder b c.requires.last c.requires.some inside
           (λ fs p e. c.start_of-start.ensures.above fs p (ap (take start) c.deref.ensures.value ∙ e))
           part c.named-id.result body is (sym c.split_path.ensures.is ∙ c.split_at-2.ensures.front) c.split_path.ensures.name c.split_path.ensures.folder refl
-          (c.named-id.ensures.same ∙ c.in_ok-stored.ensures.name ∙ ap (object_name kinds.Tree) c.deref-2.ensures.value) (ap is_id c.named-id.ensures.same ∙ c.named-id.ensures.valid) left);
+          (c.named-id.ensures.same ∙ c.in_ok-stored.ensures.name ∙ ap (object_name kinds.Tree) c.deref-2.ensures.value) (id_of_test c.named-id.result (ap is_id c.named-id.ensures.same ∙ c.named-id.ensures.valid)).sized left);
       fits = (subst (λ (t : List ℕ). length t ≤ 16777216) (c.deref-2.ensures.value ∙ is) (c.in_ok-stored.ensures.legal refl).size, tt);
       stored = λ honest. stored_one (objects (g.F.Files.content c.args.files.now)) (objects (g.F.Files.content c.put.new.files)) c.in_ok-stored.stored c.deref-2.result.now es (c.deref-2.ensures.value ∙ is) c.in_ok-stored.ensures.name (c.in_ok-stored.ensures.objects honest);
     }
 
 pub returns-clause-stands : goal.returns-clause-stands
-returns-clause-stands g c = λ m trees rest b.
+returns-clause-stands g c = λ m trees rest left b.
     let parts = c.args.parts.now.items in
     let start = c.start_of-start.result in
     let folder = c.args.folder.now in
@@ -81,12 +88,11 @@ returns-clause-stands g c = λ m trees rest b.
     let es = map part_entry (drop start parts) in
     let inside = subst (λ (ps : List Part). AllByRecursion (λ (p : Part). length p.folder.now ≡ length folder) (drop start ps)) c.deref.ensures.value c.start_of-start.ensures.inside in
     let is : body ≡ spelling es = c.in_ok-body.ensures ∙ ap (λ ps. spelling (map part_entry ps)) (c.split_at.ensures.back ∙ ap (drop start) c.as_slice.ensures.value) in
-    record {
-      more = es ∷ [];
-      below = closing_below m trees rest parts start folder b c.requires.last c.requires.some inside
-          (λ fs p e. c.start_of-start.ensures.above fs p (ap (take start) c.deref.ensures.value ∙ e));
-      stored = λ honest. stored_one (objects (g.F.Files.content c.args.files.now)) (objects (g.F.Files.content c.put.new.files)) c.in_ok-stored.stored c.deref-2.result.now es (c.deref-2.ensures.value ∙ is) c.in_ok-stored.ensures.name (c.in_ok-stored.ensures.objects honest);
-    }
+    closing_stands m trees rest parts start folder b c.requires.last c.requires.some inside
+    (λ fs p e. c.start_of-start.ensures.above fs p (ap (take start) c.deref.ensures.value ∙ e)) left
+    g.F.Files.honest (objects (g.F.Files.content c.args.files.now)) (objects (g.F.Files.content c.put.new.files))
+    (subst (λ (t : List ℕ). length t ≤ 16777216) (c.deref-2.ensures.value ∙ is) (c.in_ok-stored.ensures.legal refl).size, tt)
+    (λ honest. stored_one (objects (g.F.Files.content c.args.files.now)) (objects (g.F.Files.content c.put.new.files)) c.in_ok-stored.stored c.deref-2.result.now es (c.deref-2.ensures.value ∙ is) c.in_ok-stored.ensures.name (c.in_ok-stored.ensures.objects honest))
 
 pub returns-clause-shorter : goal.returns-clause-shorter
 returns-clause-shorter g c =

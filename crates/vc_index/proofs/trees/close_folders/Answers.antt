@@ -4,9 +4,12 @@ use Rattle.std.specs.List.{starts_with}
 use Rattle.vc_files.proofs.FileMapLemmas.{outside_then, outside_same}
 use Rattle.vc_object.specs.declared.id.ObjectId.{ObjectId}
 use Rattle.vc_store.specs.Store.{objects, IsDamaged}
+use Rattle.vc_index.specs.FolderTrees.{Fits}
 use Rattle.vc_index.specs.WrittenTrees.{IsOfWrite}
 use Rattle.vc_index.specs.declared.trees.Part.{Part}
-use Rattle.vc_index.proofs.ClosingLemmas.{closes_none, closes_then, closes_stands, stands_then, inside_last, left_of, handed_on}
+use Rattle.vc_index.proofs.ClosingLemmas.{closes_none, closes_then, inside_last, left_of, handed_on}
+use Rattle.vc_index.proofs.PartLemmas.{all_join}
+use Rattle.vc_index.proofs.StandingLemmas.{closes_stands, stands_then}
 use Rattle.vc_index.proofs.trees.close_folders.Goals as goal
 
 pub returns-then-starts_with-clause-inside : goal.returns-then-starts_with-clause-inside
@@ -16,7 +19,7 @@ returns-then-starts_with-clause-inside g c =
     inside_last c.loop-last.parts.items c.in-Some.last.now c.args.next.now at begun
 
 pub returns-then-starts_with-clause-stands : goal.returns-then-starts_with-clause-stands
-returns-then-starts_with-clause-stands g c = λ m trees rest n b. closes_stands g.F.Files.honest m trees rest c.loop-last.parts.items (objects (g.F.Files.content c.args.files.now)) (objects (g.F.Files.content c.loop-last.files)) (c.loop-last.invariant.closes m trees rest n b)
+returns-then-starts_with-clause-stands g c = λ m trees rest n b. closes_stands g.F.Files.honest m rest trees c.loop-last.parts.items (objects (g.F.Files.content c.args.files.now)) (objects (g.F.Files.content c.loop-last.files)) (c.loop-last.invariant.closes m trees rest n b)
 
 pub loop-last-init : goal.loop-last-init
 loop-last-init g c = record {
@@ -40,14 +43,14 @@ loop-last-preserved g c =
 pub returns-in_err-close_folder-clause-stands : goal.returns-in_err-close_folder-clause-stands
 returns-in_err-close_folder-clause-stands g c = λ m trees rest n b.
     let first = c.loop-last.invariant.closes m trees rest n b in
-    stands_then g.F.Files.honest m trees rest c.loop-last.parts.items (objects (g.F.Files.content c.args.files.now)) (objects (g.F.Files.content c.loop-last.files)) (objects (g.F.Files.content c.close_folder.new.files)) first
-    (c.in_err-close_folder.ensures.stands m (trees ++ first.more) rest first.building)
+    stands_then g.F.Files.honest m rest trees c.loop-last.parts.items (objects (g.F.Files.content c.args.files.now)) (objects (g.F.Files.content c.loop-last.files)) (objects (g.F.Files.content c.close_folder.new.files)) first
+    (c.in_err-close_folder.ensures.stands m (trees ++ first.more) rest (left_of c.args.next.now c.in-Some.last.now.folder.now rest n (sym c.starts_with.ensures.value ∙ c.if-starts_with.false)) first.building)
 
 pub returns-in_err-close_folder-clause-refused : goal.returns-in_err-close_folder-clause-refused
-returns-in_err-close_folder-clause-refused g c = λ m trees rest n b.
+returns-in_err-close_folder-clause-refused g c = λ m trees rest n fits b.
     let first = c.loop-last.invariant.closes m trees rest n b in
     handed_on (IsOfWrite m (λ (id : ObjectId). g.F.Files.honest → IsDamaged (g.F.Files.content c.close_folder.new.files) id)) c.in_err-close_folder.field-0.0 c.from_residual.result c.from_residual.ensures.1
-    (c.in_err-close_folder.ensures.refused m (trees ++ first.more) rest first.building)
+    (c.in_err-close_folder.ensures.refused m (trees ++ first.more) rest (left_of c.args.next.now c.in-Some.last.now.folder.now rest n (sym c.starts_with.ensures.value ∙ c.if-starts_with.false)) (all_join Fits trees first.more fits first.fits) first.building)
 
 pub returns-clause-stands : goal.returns-clause-stands
-returns-clause-stands g c = λ m trees rest n b. closes_stands g.F.Files.honest m trees rest c.loop-last.parts.items (objects (g.F.Files.content c.args.files.now)) (objects (g.F.Files.content c.loop-last.files)) (c.loop-last.invariant.closes m trees rest n b)
+returns-clause-stands g c = λ m trees rest n b. closes_stands g.F.Files.honest m rest trees c.loop-last.parts.items (objects (g.F.Files.content c.args.files.now)) (objects (g.F.Files.content c.loop-last.files)) (c.loop-last.invariant.closes m trees rest n b)

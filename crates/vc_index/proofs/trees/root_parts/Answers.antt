@@ -12,7 +12,8 @@ use Rattle.vc_index.specs.IndexMap.{index_of}
 use Rattle.vc_index.specs.declared.entry.IndexEntry.{IndexEntry}
 use Rattle.vc_index.specs.declared.trees.Part.{Part}
 use Rattle.vc_index.proofs.MapLemmas.{entries-index_of}
-use Rattle.vc_index.proofs.ClosingLemmas.{building_starts, closes_none, closes_then, stands_then, push_step, next_is, handed_on}
+use Rattle.vc_index.proofs.ClosingLemmas.{building_starts, closes_none, closes_then, push_step, next_is, handed_on}
+use Rattle.vc_index.proofs.StandingLemmas.{stands_then}
 use Rattle.vc_index.proofs.trees.root_parts.Goals as goal
 
 abbrev view : Vec ℕ Global × IndexEntry → Pair
@@ -43,7 +44,7 @@ returns-in_err-close_folders-clause-stands g c =
     let at : entries m ≡ front ++ (path, entry) ∷ more = c.loop-path.invariant.walked.1 ∙ ap (λ (r : List Pair). front ++ r) rest_is in
     let next = next_is m front more path entry c.deref.result.now c.requires at c.deref.ensures.value in
     let first = subst (λ (r : List Pair). Closes g.F.Files.honest m r [] c.loop-path.parts.items (objects (g.F.Files.content c.args.files.now)) (objects (g.F.Files.content c.loop-path.files))) rest_is c.loop-path.invariant.closes in
-    stands_then g.F.Files.honest m [] ((path, entry) ∷ more) c.loop-path.parts.items (objects (g.F.Files.content c.args.files.now)) (objects (g.F.Files.content c.loop-path.files)) (objects (g.F.Files.content c.close_folders.new.files)) first
+    stands_then g.F.Files.honest m ((path, entry) ∷ more) [] c.loop-path.parts.items (objects (g.F.Files.content c.args.files.now)) (objects (g.F.Files.content c.loop-path.files)) (objects (g.F.Files.content c.close_folders.new.files)) first
     (c.in_err-close_folders.ensures.stands m first.more ((path, entry) ∷ more) next first.building)
 
 pub loop-path-preserved : goal.loop-path-preserved
@@ -82,7 +83,7 @@ returns-in_err-push-clause-stands g c =
     let at : entries m ≡ front ++ (path, entry) ∷ more = c.loop-path.invariant.walked.1 ∙ ap (λ (r : List Pair). front ++ r) rest_is in
     let next = next_is m front more path entry c.deref.result.now c.requires at c.deref.ensures.value in
     let first = subst (λ (r : List Pair). Closes g.F.Files.honest m r [] c.loop-path.parts.items (objects (g.F.Files.content c.args.files.now)) (objects (g.F.Files.content c.loop-path.files))) rest_is c.loop-path.invariant.closes in
-    stands_then g.F.Files.honest m [] ((path, entry) ∷ more) c.loop-path.parts.items (objects (g.F.Files.content c.args.files.now)) (objects (g.F.Files.content c.loop-path.files)) (objects (g.F.Files.content c.close_folders.new.files)) first
+    stands_then g.F.Files.honest m ((path, entry) ∷ more) [] c.loop-path.parts.items (objects (g.F.Files.content c.args.files.now)) (objects (g.F.Files.content c.loop-path.files)) (objects (g.F.Files.content c.close_folders.new.files)) first
     (c.in_ok-close_folders.ensures.stands m first.more ((path, entry) ∷ more) next first.building)
 
 pub returns-in_err-close_folders-2-clause-stands : goal.returns-in_err-close_folders-2-clause-stands
@@ -121,7 +122,7 @@ returns-in_err-close_folders-clause-refused g c =
     let next = next_is m front more path entry c.deref.result.now c.requires at c.deref.ensures.value in
     let first = subst (λ (r : List Pair). Closes g.F.Files.honest m r [] c.loop-path.parts.items (objects (g.F.Files.content c.args.files.now)) (objects (g.F.Files.content c.loop-path.files))) rest_is c.loop-path.invariant.closes in
     handed_on (IsOfWrite m (λ (id : ObjectId). g.F.Files.honest → IsDamaged (g.F.Files.content c.close_folders.new.files) id)) c.in_err-close_folders.field-0.0 c.from_residual.result c.from_residual.ensures.1
-    (c.in_err-close_folders.ensures.refused m first.more ((path, entry) ∷ more) next first.building)
+    (c.in_err-close_folders.ensures.refused m first.more ((path, entry) ∷ more) next first.fits first.building)
 
 pub returns-in_err-close_folders-2-clause-refused : goal.returns-in_err-close_folders-2-clause-refused
 returns-in_err-close_folders-2-clause-refused g c =
@@ -129,4 +130,4 @@ returns-in_err-close_folders-2-clause-refused g c =
     let none : map view c.loop-path.path-iterator ≡ [] = ap (map view) c.in-None.ensures.steps.0 in
     let first = subst (λ (r : List Pair). Closes g.F.Files.honest m r [] c.loop-path.parts.items (objects (g.F.Files.content c.args.files.now)) (objects (g.F.Files.content c.loop-path.files))) none c.loop-path.invariant.closes in
     handed_on (IsOfWrite m (λ (id : ObjectId). g.F.Files.honest → IsDamaged (g.F.Files.content c.close_folders-2.new.files) id)) c.in_err-close_folders-2.field-0.0 c.from_residual-in_err-close_folders-2.result c.from_residual-in_err-close_folders-2.ensures.1
-    (c.in_err-close_folders-2.ensures.refused m first.more [] tt first.building)
+    (c.in_err-close_folders-2.ensures.refused m first.more [] tt first.fits first.building)

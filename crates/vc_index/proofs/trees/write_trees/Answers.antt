@@ -6,7 +6,8 @@ use Rattle.vc_index.specs.IndexMap.{index_of}
 use Rattle.vc_index.specs.Part.{part_entry}
 use Rattle.vc_index.specs.WrittenTrees.{IsOfWrite}
 use Rattle.vc_index.specs.declared.faults.IndexFault.TheVariants.{Store}
-use Rattle.vc_index.proofs.ClosingLemmas.{written, root_refused, handed_on, still_damaged}
+use Rattle.vc_index.proofs.ClosingLemmas.{written, handed_on, still_damaged}
+use Rattle.vc_index.proofs.StandingLemmas.{root_refused}
 use Rattle.vc_index.proofs.trees.write_trees.Goals as goal
 
 pub returns-clause-written : goal.returns-clause-written
@@ -24,5 +25,5 @@ returns-in_err-id-clause-refused g c =
     let Damage = λ (id : ObjectId). g.F.Files.honest → IsDamaged (content c.put.new.files) id in
     let is : c.deref-2.result.now ≡ spelling (map part_entry c.in_ok-parts.parts.items) = c.deref-2.ensures.value ∙ c.in_ok-body.ensures ∙ ap (λ ps. spelling (map part_entry ps)) c.deref.ensures.value in
     handed_on (IsOfWrite m Damage) (Store fault) c.from_residual-in_err-id.result c.from_residual-in_err-id.ensures.1
-    (root_refused m closes.more c.in_ok-parts.parts.items closes.building c.in_ok-parts.ensures.inside Damage c.deref-2.result.now fault is c.in_err-id.ensures.refused
+    (root_refused m closes.more c.in_ok-parts.parts.items closes.building c.in_ok-parts.ensures.inside Damage c.deref-2.result.now fault closes.fits is c.in_err-id.ensures.refused
     (λ id e honest. still_damaged (content c.root_parts.new.files) (content c.put.new.files) fault id (c.in_err-id.ensures.err honest) (c.in_err-id.ensures.damaged honest) e))
