@@ -1,13 +1,11 @@
 -- Each index has its trees: what is left of its files, and the folders that are open, can be closed to the end.
-use Rattle.std.proofs.Common.{◌≡◌, ◌≢◌, ℕ, zero, suc, ◌<◌, ◌≤◌, ◌-◌, List, [], ◌∷◌, ◌++◌, map, Some, true, false, ◌==◌, nat_eq, refl, ap, sym, ◌∙◌, subst, ⊎_elim, inl, inr, append_assoc, append-nil, length, take, drop, arith}
-use Rattle.std.specs.Prelude.{option_map, slice_get, ◌+◌}
+use Rattle.std.proofs.Common.{◌≡◌, ◌≢◌, ℕ, zero, suc, ◌<◌, ◌≤◌, ◌-◌, List, [], ◌∷◌, ◌++◌, map, Some, true, false, ◌==◌, nat_eq, refl, ap, sym, ◌∙◌, subst, ⊎_elim, inl, inr, append_assoc, append-nil, length, length-append, take, drop, arith}
+use Rattle.std.specs.Prelude.{option_map, slice_get, slice_index, ◌+◌}
 use Rattle.std.specs.List.{AllByRecursion, starts_with}
 use Rattle.std.specs.Int.{to_be_bytes, bytes_high_first, w32}
 use Rattle.std.specs.FinMap.{entries}
-use Rattle.std.specs.Prelude.{slice_index}
 use Rattle.std.proofs.lemmas.Bool.Decides.{Decides-eqb}
 use Rattle.std.proofs.lemmas.List.{take_at, drop_at}
-use Rattle.std.proofs.Common.{length-append}
 use Rattle.sha1.specs.Sha1.{sha1, digest_bytes}
 use Rattle.vc_object.specs.Bytes.{Without}
 use Rattle.vc_object.specs.Object.{object_name, object_bytes}
