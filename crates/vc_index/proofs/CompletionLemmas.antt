@@ -192,7 +192,7 @@ module _ (files : IndexMap) (rest : List Pair) (next : List ℕ) (is_next : IsNe
   close_all trees parts b = close_below (suc (open_length parts)) (open_length parts) (omega arith) trees parts (omega arith) b
 
 -- ---- to the end
--- the first ones of the first ones
+-- a front of the index's first trees is one too
 pub first_more : (files : IndexMap) (trees more : List (List Entry)) → AreFirstTrees files (trees ++ more) → AreFirstTrees files trees
 first_more files trees more h = record { rest = more ++ h.rest; root = h.root; listed = subst (λ (ts : List (List Entry)). AreIndexTrees files ts h.root) (append_assoc trees more h.rest) h.listed; more = λ none. h.more (no_back more h.rest none) }
   where

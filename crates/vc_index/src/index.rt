@@ -84,9 +84,9 @@ impl Index {
         Ok(text)
     }
 
-    /// Stores the trees of the index, the lower ones first, and answers the name of the root's tree. No tree below
-    /// the root is empty; the tree of an index with no files is. A tree whose spelling is over 16,777,216 bytes is 3,
-    /// and no tree of an index is refused for another fault of its bytes.
+    /// Stores the trees of the index, folder by folder and the lower ones first, and answers the name of the root's
+    /// tree. No tree below the root is empty; the tree of an index with no files is. A tree whose spelling is over
+    /// 16,777,216 bytes is 3, and no tree of an index is refused for another fault of its bytes.
     pub fn write_tree<F: Files>(&self, alloc: Global, files: &mut F) -> Result<ObjectId, IndexFault>
         ensures written { IfOk result (IsWritten F.honest self.now (objects (F.content files.old)) (objects (F.content files.new))) }
         ensures begun { OnErr result (IsBegun F.honest self.now (objects (F.content files.old)) (objects (F.content files.new))) }
