@@ -47,6 +47,12 @@ pub enum Task<'a> {
     },
     /// Its terms are told by [`terms_of`].
     RevList,
+    Local(LocalTask<'a>),
+}
+
+/// A subcommand of a clone: of its index, branches, HEAD and work tree.
+#[derive(Clone, Copy, Debug)]
+pub enum LocalTask<'a> {
     Add {
         mode: FileMode,
         work: &'a str,
@@ -415,40 +421,48 @@ pub fn request_of<'a>(matches: &ArgMatches<'a>) -> Option<Request<'a>> {
             revision: words.get_str("rev")?,
         },
         "rev-list" => Task::RevList,
-        "add" => Task::Add {
-            mode: mode_named(words.get_str("mode")?)?,
-            work: words.get_str("work")?,
-            path: words.get_str("path")?,
-        },
-        "unstage" => Task::Unstage {
-            path: words.get_str("path")?,
-        },
-        "write-tree" => Task::WriteTree,
-        "commit" => Task::Commit(Words {
-            author: words.get_str("author")?,
-            committer: words.get_str("committer")?,
-            message: words.get_str("message")?,
-        }),
-        "branch" => Task::Branch {
-            name: words.get_str("name")?,
-            revision: words.get_str("rev")?,
-        },
-        "branch-delete" => Task::BranchDelete {
-            name: words.get_str("name")?,
-        },
-        "checkout" => Task::Checkout {
-            work: words.get_str("work")?,
-            revision: words.get_str("rev")?,
-        },
-        "status" => Task::Status {
-            work: words.get_str("work")?,
-        },
-        _ => return None,
+        _ => Task::Local(local_task_of(name, words)?),
     };
     Some(Request {
         store: words.get_str("store")?,
         task,
     })
+}
+
+// The subcommand of a clone that the name and its words ask for, if it is one.
+fn local_task_of<'a>(name: &str, words: &ArgMatches<'a>) -> Option<LocalTask<'a>> {
+    let task = match name {
+        "add" => LocalTask::Add {
+            mode: mode_named(words.get_str("mode")?)?,
+            work: words.get_str("work")?,
+            path: words.get_str("path")?,
+        },
+        "unstage" => LocalTask::Unstage {
+            path: words.get_str("path")?,
+        },
+        "write-tree" => LocalTask::WriteTree,
+        "commit" => LocalTask::Commit(Words {
+            author: words.get_str("author")?,
+            committer: words.get_str("committer")?,
+            message: words.get_str("message")?,
+        }),
+        "branch" => LocalTask::Branch {
+            name: words.get_str("name")?,
+            revision: words.get_str("rev")?,
+        },
+        "branch-delete" => LocalTask::BranchDelete {
+            name: words.get_str("name")?,
+        },
+        "checkout" => LocalTask::Checkout {
+            work: words.get_str("work")?,
+            revision: words.get_str("rev")?,
+        },
+        "status" => LocalTask::Status {
+            work: words.get_str("work")?,
+        },
+        _ => return None,
+    };
+    Some(task)
 }
 
 fn part_named(word: &str) -> Option<Part> {

@@ -1,6 +1,6 @@
 //! One run of the program: from words and streams to an exit status.
 
-use crate::arguments::{Request, Task, command, parents_of, request_of, terms_of};
+use crate::arguments::{LocalTask, Request, Task, command, parents_of, request_of, terms_of};
 use crate::cat_file::cat_file;
 use crate::clone::{add, branch, branch_delete, commit, unstage, write_tree};
 use crate::failure::Failure;
@@ -126,7 +126,7 @@ where
         Task::MergeBase { first, second } => {
             return merge_base(rt, store, first, second, output);
         }
-        task => work_on(rt, store, task, lists.parents, output)?,
+        Task::Local(task) => work_on(rt, store, task, lists.parents, output)?,
     }
     Ok(true)
 }
@@ -135,7 +135,7 @@ where
 fn work_on<R, O>(
     rt: &R,
     store: &str,
-    task: Task<'_>,
+    task: LocalTask<'_>,
     parents: &[&str],
     output: &mut O,
 ) -> Result<(), Failure>
@@ -144,14 +144,13 @@ where
     O: Write,
 {
     match task {
-        Task::Add { mode, work, path } => add(rt, store, work, mode, path),
-        Task::Unstage { path } => unstage(rt, store, path),
-        Task::WriteTree => write_tree(rt, store, output),
-        Task::Commit(words) => commit(rt, store, words, parents, output),
-        Task::Branch { name, revision } => branch(rt, store, name, revision),
-        Task::BranchDelete { name } => branch_delete(rt, store, name),
-        Task::Checkout { work, revision } => checkout(rt, store, work, revision),
-        Task::Status { work } => status(rt, store, work, output),
-        _ => Ok(()),
+        LocalTask::Add { mode, work, path } => add(rt, store, work, mode, path),
+        LocalTask::Unstage { path } => unstage(rt, store, path),
+        LocalTask::WriteTree => write_tree(rt, store, output),
+        LocalTask::Commit(words) => commit(rt, store, words, parents, output),
+        LocalTask::Branch { name, revision } => branch(rt, store, name, revision),
+        LocalTask::BranchDelete { name } => branch_delete(rt, store, name),
+        LocalTask::Checkout { work, revision } => checkout(rt, store, work, revision),
+        LocalTask::Status { work } => status(rt, store, work, output),
     }
 }
