@@ -1,22 +1,22 @@
 -- No ref is ever a folder of another.
-use Rattle.std.proofs.Common.{◌≡◌, ◌≢◌, ℕ, zero, suc, Bool, true, false, List, [], ◌∷◌, ◌++◌, map, Option, Some, None, is_none, ◌⊎◌, inl, inr, refl, sym, ap, ◌∙◌, subst, arith, length, length-append, nat_cmp, take}
-use Rattle.std.specs.FinMap.{FinMap, get, insert, remove, empty, entries, nat_cmp-IsAntisymmetric}
+use Rattle.std.proofs.Common.{◌≡◌, ℕ, zero, suc, true, List, [], ◌∷◌, ◌++◌, map, Option, Some, None, is_none, inl, inr, sym, ap, subst, arith, length, length-append, nat_cmp, take}
+use Rattle.std.specs.FinMap.{insert, remove, empty, entries, nat_cmp-IsAntisymmetric}
 use Rattle.std.specs.Cmp.{nat_cmp_total}
-use Rattle.std.specs.List.{AllByRecursion, list_all}
+use Rattle.std.specs.List.{list_all}
 use Rattle.std.specs.Cmp.Lexicographic.{slice_cmp, nat_list_cmp_total}
 use Rattle.vc_model.specs.Object.{Id, Format, Objects, Lookup, stored, over}
 use Rattle.vc_model.specs.Refs.{RefName, Refs, Head, Conflicts, IsFree, with_refs}
 use Rattle.vc_model.specs.Refs.Head.{OnBranch, Detached}
-use Rattle.vc_model.specs.Repository.{Repository, Change, changed, changed_all, with_objects, Effect, Done, StopsWithin, no_effect, only_changes}
+use Rattle.vc_model.specs.Repository.{Repository, Change, changed, changed_all, with_objects, Effect}
 use Rattle.vc_model.specs.Repository.Change.{SetRefs, RemoveRef, SetHead, SetIndex}
 use Rattle.vc_model.specs.Push.{Judged, Reason, Stage, OpenPush, Slots, Verdict, Command, Updates, UpdatesAll, JudgesInTurn, new_value}
 use Rattle.vc_model.specs.Push.Verdict.{Passing, Accepted, Refused}
 use Rattle.vc_model.specs.Push.Stage.{Unpacked, Checked, Migrated, Finished}
 use Rattle.vc_model.specs.Message.{Message}
 use Rattle.vc_model.specs.Message.Message.{ListRefs, Advert, Want, Pack, Push, Report, Error}
-use Rattle.vc_model.specs.Node.{Node, Answer, Reply, Deed, Ends, PruneEnds}
+use Rattle.vc_model.specs.Node.{Node, Answer, Reply, Deed, Ends}
 use Rattle.vc_model.specs.Node.Answer.{Did, Declined, Fault}
-use Rattle.vc_model.specs.Shared.{SharedNode, Serves, StepsPush, StepsSlot, UpdatesPush, IsNeeded, SharedEvent, SharedDoes, SharedStep}
+use Rattle.vc_model.specs.Shared.{SharedNode, Serves, StepsPush, IsNeeded, SharedEvent, SharedDoes, SharedStep}
 use Rattle.vc_model.specs.Shared.UpdatesPush.{together, singly}
 use Rattle.vc_model.specs.Shared.SharedEvent.{Arrives, StepSlot, PruneShared, RestartShared, QuietShared}
 use Rattle.vc_model.specs.Shared.SharedStep.{down, declines, works, prunes, restarts, quiet, faults}

@@ -1,13 +1,12 @@
 -- An exact answer of a clone is a step of the machine.
 use Rattle.std.proofs.Common.{◌≡◌, ◌≢◌, ℕ, Option, None, Result, Ok, Err, inl, inr, refl, sym, ap, subst}
-use Rattle.std.specs.FinMap.{insert}
 use Rattle.vc_model.specs.Object.{Id, Format, Objects, over}
 use Rattle.vc_model.specs.Refs.Head.{OnBranch, Detached}
 use Rattle.vc_model.specs.Repository.{Repository, IsSound}
 use Rattle.vc_model.specs.Message.{Message}
 use Rattle.vc_model.specs.Node.{Answer, Deed, IsNoFault}
 use Rattle.vc_model.specs.Node.Answer.{Did, Declined}
-use Rattle.vc_model.specs.Clone.{Awaited, CloneNode, Task, Performs, CloneDoes, CloneDeclines, CloneStep}
+use Rattle.vc_model.specs.Clone.{Awaited, CloneNode, Task, Performs, CloneDoes, CloneDeclines, CloneStep, with_object}
 use Rattle.vc_model.specs.Clone.Task.{Write, Stage, Unstage, LoadTree, MakeCommit, SetBranch, DeleteBranch, MoveHead, StartFetch, StartPush}
 use Rattle.vc_model.specs.Clone.CloneStep.{down as step_down, declines as step_declines, works as step_works, prunes as step_prunes, restarts as step_restarts, quiet as step_quiet, faults as step_faults}
 use Rattle.vc_model.specs.Rules.{Rules, rules_by}
@@ -28,7 +27,7 @@ module _ (fmt : Format) (rules : Rules fmt) where
   obeys_performs r a (LoadTree x) d s f h = let k = rules.index_reached r.objects x h.0 h.1 in (h.0, k.0, k.1, h.2)
   obeys_performs r a (MakeCommit extra author committer message) d s f h =
       let t = h.3.0 in
-      let made : Objects = insert t.0 (fmt.name_of (new_commit fmt r t.1 extra author committer message)) (new_commit fmt r t.1 extra author committer message) in (
+      let made : Objects = with_object t.0 (fmt.name_of (new_commit fmt r t.1 extra author committer message)) (new_commit fmt r t.1 extra author committer message) in (
         made,
         fmt.name_of (new_commit fmt r t.1 extra author committer message),
         record {

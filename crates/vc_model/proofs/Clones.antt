@@ -1,5 +1,5 @@
 -- What a clone does has a good effect.
-use Rattle.std.proofs.Common.{◌≡◌, ℕ, ◌<◌, List, [], ◌∷◌, Option, Some, None, inl, inr, refl, sym, ap, ◌∙◌, subst, arith, nat_cmp, Contains, length, ◌++◌, option_to_list}
+use Rattle.std.proofs.Common.{◌≡◌, ℕ, ◌<◌, List, [], ◌∷◌, Option, Some, None, inl, inr, refl, sym, ap, ◌∙◌, subst, arith, nat_cmp, Contains, length, ◌++◌, option_to_list, unwrap_or}
 use Rattle.std.specs.FinMap.{get, insert, remove, empty, entries}
 use Rattle.std.specs.Option.{option_or}
 use Rattle.std.specs.List.{AllByRecursion}
@@ -14,7 +14,7 @@ use Rattle.vc_model.specs.Message.{Message, IsNamedMessage}
 use Rattle.vc_model.specs.Message.Message.{ListRefs, Advert, Want, Pack, Push, Report, Error}
 use Rattle.vc_model.specs.Node.{Deed}
 use Rattle.vc_model.specs.Shared.{head_value}
-use Rattle.vc_model.specs.Clone.{Awaited, Task, Performs, Receives, Moves, MovesAny, MovesBranch, MovesToAdvert, IsNewCommit, only_object, head_to, IsGoodCommit, accepted_ids}
+use Rattle.vc_model.specs.Clone.{Awaited, Task, Performs, Receives, Moves, MovesAny, MovesBranch, MovesToAdvert, IsNewCommit, only_object, with_object, head_to, IsGoodCommit, accepted_ids}
 use Rattle.vc_model.specs.Clone.Task.{Write, Stage, Unstage, LoadTree, MakeCommit, SetBranch, DeleteBranch, MoveHead, StartFetch, StartPush}
 use Rattle.vc_model.specs.Keeping.{Fits}
 use Rattle.vc_model.proofs.Maps.{insert_cases, remove_cases, bytes_same, none_in_empty}
@@ -68,13 +68,21 @@ head_to_good : (fmt : Format) (at : Lookup) (h : Head) (x : Id) → ((n : RefNam
 head_to_good fmt at (OnBranch b) x i g = (record { closed = g.0; kind = inr (inl (i b refl), g.1) }, tt)
 head_to_good fmt at (Detached y) x i g = g
 
-named_commit : (fmt : Format) (r : Repository) (parents : List Id) (author committer message : List ℕ) (s : Objects) (x : Id) → IsNewCommit fmt r parents author committer message s x → IsNamed fmt s
-named_commit fmt r parents author committer message s x c = subst (IsNamed fmt) (sym c.objects_are) (record {
-  named = λ y o g. elim (insert_cases nat_list_cmp_total bytes_same c.trees x c.commit y o g) [
-    | inl is ↦ ap fmt.name_of is.1 ∙ (sym c.name_is ∙ sym is.0)
-    | inr was ↦ c.trees_are.named.named y o was
+-- an object that is put with others, under its name
+pub with_object_named : (fmt : Format) (s : Objects) (x : Id) (o : Object) → IsNamed fmt s → x ≡ fmt.name_of o → IsNamed fmt (with_object s x o)
+with_object_named fmt s x o named is = record {
+  named = λ y p g. elim (insert_cases nat_list_cmp_total bytes_same s x (unwrap_or (get s x) o) y p g) [
+    | inl put ↦ ap fmt.name_of put.1 ∙ (by (get s x) refl ∙ sym put.0)
+    | inr was ↦ named.named y p was
   ];
-})
+}
+  where
+    by : (found : Option Object) → get s x ≡ found → fmt.name_of (unwrap_or found o) ≡ x
+    by None e = sym is
+    by (Some q) e = named.named x q e
+
+named_commit : (fmt : Format) (r : Repository) (parents : List Id) (author committer message : List ℕ) (s : Objects) (x : Id) → IsNewCommit fmt r parents author committer message s x → IsNamed fmt s
+named_commit fmt r parents author committer message s x c = subst (IsNamed fmt) (sym c.objects_are) (with_object_named fmt c.trees x c.commit c.trees_are.named c.name_is)
 
 pub good_task : (fmt : Format) (r : Repository) (a : Awaited) (t : Task) (d : Deed Awaited) → IsSound fmt r → Fits fmt r t → Performs fmt r a t d → GoodEffect fmt r d.effect
 good_task fmt r a (Write o) d h fits is = subst (λ (d : Deed Awaited). GoodEffect fmt r d.effect) (sym is) (record { named = named_only fmt o; changes = tt })

@@ -1,6 +1,6 @@
 -- A commit that a clone makes of its index is good: closed, with commits alone along its parent links.
-use Rattle.std.proofs.Common.{◌≡◌, ℕ, ◌<◌, List, [], ◌∷◌, Option, Some, None, Ok, ◌⊎◌, inl, inr, refl, sym, ap, ◌∙◌, subst, arith, Contains, get_or, option_to_list}
-use Rattle.std.specs.FinMap.{get, insert}
+use Rattle.std.proofs.Common.{◌≡◌, ℕ, ◌<◌, List, [], ◌∷◌, Option, Some, None, Ok, ◌⊎◌, inl, inr, refl, sym, ap, ◌∙◌, subst, arith, Contains, get_or, option_to_list, unwrap_or}
+use Rattle.std.specs.FinMap.{get}
 use Rattle.std.specs.Option.{option_or}
 use Rattle.std.specs.List.{AllByRecursion}
 use Rattle.std.specs.Cmp.Lexicographic.{nat_list_cmp_total}
@@ -12,14 +12,15 @@ use Rattle.vc_model.specs.Refs.{Head, branch, tag, IsBranch}
 use Rattle.vc_model.specs.Refs.Head.{OnBranch, Detached}
 use Rattle.vc_model.specs.Repository.{Repository, IsSound}
 use Rattle.vc_model.specs.Shared.{head_value}
-use Rattle.vc_model.specs.Clone.{IsGoodCommit}
+use Rattle.vc_model.specs.Clone.{IsGoodCommit, with_object}
 use Rattle.vc_model.specs.Clone.Task.{MakeCommit}
 use Rattle.vc_model.specs.Rules.{Rules, AreFound}
 use Rattle.vc_model.specs.CloneCall.{Makes, new_commit, parents_with}
 use Rattle.vc_model.specs.Exact.{MadeFit}
-use Rattle.vc_model.proofs.Maps.{insert_cases, insert_same, insert_other, same_key, bytes_same}
+use Rattle.vc_model.proofs.Maps.{insert_same, insert_other, same_key, bytes_same}
 use Rattle.vc_model.proofs.Reaching.{Extends, closed_grows, history_grows}
 use Rattle.vc_model.proofs.Sound.{over_extends, named_over}
+use Rattle.vc_model.proofs.Clones.{with_object_named}
 use Rattle.vc_model.proofs.Pushes.{all_append, all_map}
 
 -- ---- lists
@@ -62,7 +63,7 @@ module _ (fmt : Format) (rules : Rules fmt) (r : Repository) (extra : List Id) (
   x = fmt.name_of commit
 
   abbrev made : Objects
-  made = insert t.0 x commit
+  made = with_object t.0 x commit
 
   abbrev at : Lookup
   at = over r.objects made
@@ -80,12 +81,7 @@ module _ (fmt : Format) (rules : Rules fmt) (r : Repository) (extra : List Id) (
   tree_named y o g = (rules.trees_named r.index t trees).named y o g
 
   pub made_named : IsNamed fmt made
-  made_named = record {
-    named = λ y o g. elim (insert_cases nat_list_cmp_total bytes_same t.0 x commit y o g) [
-      | inl is ↦ ap fmt.name_of is.1 ∙ sym is.0
-      | inr was ↦ tree_named y o was
-    ];
-  }
+  made_named = with_object_named fmt t.0 x commit (rules.trees_named r.index t trees) refl
 
   -- a made object is found under its name
   found_made : (o : Object) → IsMade o → get made (fmt.name_of o) ≡ Some o → at (fmt.name_of o) ≡ Some o
@@ -95,10 +91,13 @@ module _ (fmt : Format) (rules : Rules fmt) (r : Repository) (extra : List Id) (
       go None e = g
       go (Some p) e = ap Some (sym (fit.stored o p m e))
 
+  put_here : get made x ≡ Some (unwrap_or (get t.0 x) commit)
+  put_here = insert_same nat_list_cmp_total bytes_same t.0 x (unwrap_or (get t.0 x) commit)
+
   tree_made : (y : Id) (o : Object) → get t.0 y ≡ Some o → get made y ≡ Some o
   tree_made y o g = elim (same_key nat_list_cmp_total bytes_same y x) [
-    | inl e ↦ ap (get made) e ∙ (insert_same nat_list_cmp_total bytes_same t.0 x commit ∙ ap Some (fit.apart commit o makes_commit (makes_tree y o g) (sym (tree_named y o g ∙ e))))
-    | inr e ↦ insert_other nat_list_cmp_total bytes_same t.0 x commit y e ∙ g
+    | inl e ↦ ap (get made) e ∙ (put_here ∙ ap (λ (found : Option Object). Some (unwrap_or found commit)) (sym (ap (get t.0) e) ∙ g))
+    | inr e ↦ insert_other nat_list_cmp_total bytes_same t.0 x (unwrap_or (get t.0 x) commit) y e ∙ g
   ]
 
   pub trees_found : AreFound at t.0
@@ -106,8 +105,13 @@ module _ (fmt : Format) (rules : Rules fmt) (r : Repository) (extra : List Id) (
       let n : fmt.name_of o ≡ y = tree_named y o g in
       subst (λ z. at z ≡ Some o) n (found_made o (makes_tree y o g) (subst (λ z. get made z ≡ Some o) (sym n) (tree_made y o g)))
 
+  -- no tree has the commit's name
+  commit_kept : (found : Option Object) → get t.0 x ≡ found → unwrap_or found commit ≡ commit
+  commit_kept None e = refl
+  commit_kept (Some o) e = sym (fit.apart commit o makes_commit (makes_tree x o e) (sym (tree_named x o e)))
+
   commit_found : at x ≡ Some commit
-  commit_found = found_made commit makes_commit (insert_same nat_list_cmp_total bytes_same t.0 x commit)
+  commit_found = found_made commit makes_commit (put_here ∙ ap Some (commit_kept (get t.0 x) refl))
 
   extends : Extends (stored r.objects) at
   extends = over_extends r.objects made

@@ -14,7 +14,7 @@ use Rattle.vc_model.specs.Message.Message.{ListRefs, Advert, Want, Pack, Push, R
 use Rattle.vc_model.specs.Node.{Node, Answer, IsNoFault, Deed, PruneEnds, RestartEnds}
 use Rattle.vc_model.specs.Node.Answer.{Declined}
 use Rattle.vc_model.specs.Node.Reply.{Stored, Moved, Reported}
-use Rattle.vc_model.specs.Clone.{Awaited, CloneNode, PushItem, Task, Performs, Receives, ReceivesNot, Moves, MovesAny, MovesBranch, MovesToAdvert, AreOpen, AreCommandsFor, IsOldOf, IsGoodCommit, IsHeadFree, IsItemId, IsTrackingValue, IsReached, accepted_ids, refused_reasons, haves_of, quietly, sending}
+use Rattle.vc_model.specs.Clone.{Awaited, CloneNode, PushItem, Task, Performs, Receives, ReceivesNot, Moves, MovesAny, MovesBranch, MovesToAdvert, AreOpen, AreCommandsFor, IsOldOf, IsGoodCommit, IsHeadFree, IsItemId, IsTrackingValue, IsReached, accepted_ids, refused_reasons, haves_of, quietly, sending, with_object}
 use Rattle.vc_model.specs.Clone.Awaited.{Nothing, AnAdvert, APack}
 use Rattle.vc_model.specs.Clone.Task.{Write, Stage, Unstage, LoadTree, MakeCommit, SetBranch, DeleteBranch, MoveHead, StartFetch, StartPush}
 use Rattle.vc_model.specs.Rules.{Rules, rules_by}
@@ -185,7 +185,7 @@ module _ (fmt : Format) (rules : Rules fmt) (r : Repository) where
   task_once a (MakeCommit extra author committer message) d e g h =
       let same : g.3.0 ≡ h.3.0 = ok_once g.3.0 h.3.0 (rules.one_root r.index (Ok g.3.0) (Ok h.3.0) g.3.1 h.3.1) in
       subst (λ (t : Objects × Id). d ≡ quietly a (record {
-        objects = insert t.0 (fmt.name_of (new_commit fmt r t.1 extra author committer message)) (new_commit fmt r t.1 extra author committer message);
+        objects = with_object t.0 (fmt.name_of (new_commit fmt r t.1 extra author committer message)) (new_commit fmt r t.1 extra author committer message);
         changes = Rattle.vc_model.specs.Clone.head_to r.head (fmt.name_of (new_commit fmt r t.1 extra author committer message)) ∷ [];
       })
       (Rattle.vc_model.specs.Node.Reply.Made (fmt.name_of (new_commit fmt r t.1 extra author committer message)))) same g.3.2.1 ∙ sym h.3.2.1
@@ -200,7 +200,8 @@ module _ (fmt : Format) (rules : Rules fmt) (r : Repository) where
       let s : p.1 ≡ q.1 = difference_once fmt r.objects (IsItemId items) (IsTrackingValue r.refs) p.1 q.1 p.3 q.3 in
       p.4 ∙ (ap (λ (cs : List Command). sending a (Push atomic None cs p.1)) cs ∙ (ap (λ (s : Objects). sending a (Push atomic None q.0 s)) s ∙ sym q.4))
 
-  apart : (a : Awaited) (t : Task) (n : ℕ) (d : Deed Awaited) → Refuses fmt rules r t n → Obeys fmt rules r a t d → ⊥
+  -- no command is both refused and done
+  pub apart : (a : Awaited) (t : Task) (n : ℕ) (d : Deed Awaited) → Refuses fmt rules r t n → Obeys fmt rules r a t d → ⊥
   apart a (Write o) n d g h = none_some (rules.fault o) n g h.0
   apart a (Stage p mode content) n d g h =
       none_some (rules.fault (blob content)) n

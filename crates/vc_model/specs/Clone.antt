@@ -50,6 +50,10 @@ pub data Task : Type 0 where
 abbrev pub only_object : Format → Object → Objects
 only_object fmt o = insert empty (fmt.name_of o) o
 
+-- these objects, with this one too: one that is there stays
+abbrev pub with_object : Objects → Id → Object → Objects
+with_object s x o = insert s x (unwrap_or (get s x) o)
+
 -- A commit that a branch or HEAD may name: closed, and its history is commits.
 abbrev pub IsGoodCommit : Format → Lookup → Id → Type 0
 IsGoodCommit fmt at x = IsClosed fmt at x × HasHistory fmt at x
@@ -80,7 +84,7 @@ pub record IsNewCommit (fmt : Format) (r : Repository) (parents : List Id) (auth
   pub trees_are : AreTreesOf fmt (over r.objects objects) r.index trees root
   pub commit_is : commit ≡ record { kind = Commit; body = fmt.commit_body root parents author committer message }
   pub name_is : x ≡ fmt.name_of commit
-  pub objects_are : objects ≡ insert trees x commit
+  pub objects_are : objects ≡ with_object trees x commit
   pub free : IsHeadFree r
   pub good : IsGoodCommit fmt (over r.objects objects) x
 

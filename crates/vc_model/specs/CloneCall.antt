@@ -1,12 +1,12 @@
 -- What a clone answers to each call, exactly: every refusal with its number, every reply, and the node after it.
 use Rattle.std.specs.Prelude.{◌≡◌, ◌≢◌, ℕ, ◌≤◌, List, [], ◌∷◌, ◌++◌, Option, Some, None, Ok, Err, ◌⊎◌, IsTrue, length, option_to_list}
-use Rattle.std.specs.FinMap.{get, insert}
+use Rattle.std.specs.FinMap.{get}
 use Rattle.std.specs.List.{AllByRecursion}
 use Rattle.vc_model.specs.Object.{Id, Object, blob, IsLine, Format, Objects, Lookup, stored}
 use Rattle.vc_model.specs.Object.Kind.{Commit}
 use Rattle.vc_model.specs.Reach.{IsClosed, HasHistory}
 use Rattle.vc_model.specs.Refs.{Conflicts, IsFree}
-use Rattle.vc_model.specs.Refs.Head.{OnBranch, Detached}
+use Rattle.vc_model.specs.Refs.Head.{Detached}
 use Rattle.vc_model.specs.Repository.{Repository, Index, Entry, only_changes}
 use Rattle.vc_model.specs.Repository.Change.{SetIndex}
 use Rattle.vc_model.specs.Message.{Message, HasObject}
@@ -14,7 +14,7 @@ use Rattle.vc_model.specs.Node.{Answer, Failure, Deed, Ends, sent_by, PruneEnds,
 use Rattle.vc_model.specs.Node.Answer.{Declined, Fault}
 use Rattle.vc_model.specs.Node.Reply.{Stored, Made}
 use Rattle.vc_model.specs.Shared.{head_value}
-use Rattle.vc_model.specs.Clone.{Awaited, CloneNode, Task, Performs, Receives, ReceivesNot, IsGoodCommit, IsHeadFree, IsItemId, IsReached, quietly, head_to}
+use Rattle.vc_model.specs.Clone.{Awaited, CloneNode, Task, Performs, Receives, ReceivesNot, IsGoodCommit, IsHeadFree, IsItemId, IsReached, quietly, head_to, with_object}
 use Rattle.vc_model.specs.Clone.Awaited.{Nothing}
 use Rattle.vc_model.specs.Clone.Task.{Write, Stage, LoadTree, MakeCommit, SetBranch, MoveHead, StartPush}
 use Rattle.vc_model.specs.Rules.{Rules}
@@ -66,7 +66,7 @@ Obeys fmt rules r a (MakeCommit extra author committer message) d =
     (IsLine author × IsLine committer) × IsHeadFree r × AllByRecursion (IsGoodCommit fmt (stored r.objects)) extra
     × ((t : Objects × Id) × rules.trees_of r.index (Ok t)
     × (let commit = new_commit fmt r t.1 extra author committer message in let x = fmt.name_of commit in
-    (rules.fault commit ≡ None) × (d ≡ quietly a (record { objects = insert t.0 x commit; changes = head_to r.head x ∷ [] }) (Made x))))
+    (rules.fault commit ≡ None) × (d ≡ quietly a (record { objects = with_object t.0 x commit; changes = head_to r.head x ∷ [] }) (Made x))))
 Obeys fmt rules r a (StartPush atomic items) d =
     (length items ≤ 256) × ((x : Id) → IsItemId items x → IsClosed fmt (stored r.objects) x) × Performs fmt r a (StartPush atomic items) d
 Obeys fmt rules r a t d = Performs fmt r a t d
