@@ -16,3 +16,4 @@ pub mod CompletionLemmas
 pub mod StandingLemmas
 pub mod LoadLemmas
 pub mod ReadingLemmas
+pub mod DamageLemmas

@@ -8,5 +8,6 @@ pub mod Part
 pub mod FolderTrees
 pub mod HeldFiles
 pub mod Building
+pub mod Damage
 pub mod Loading
 pub mod TreeReading

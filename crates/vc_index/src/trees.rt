@@ -7,6 +7,7 @@ ghost use Rattle.vc_object.specs.Bytes.{Without};
 ghost use Rattle.vc_object.specs.Tree.{Entry, spelling};
 ghost use Rattle.vc_store.specs.Store.{objects, IsDamaged};
 ghost use Rattle.vc_index.specs.Building.{Building, Closes, Stands, IsInside, IsLeft, IsNext, open_length};
+ghost use Rattle.vc_index.specs.Damage.{KeepsDamage, TellsTreesPlace};
 ghost use Rattle.vc_index.specs.FolderTrees.{AllFit};
 ghost use Rattle.vc_index.specs.HeldFiles.{Pair};
 ghost use Rattle.vc_index.specs.IndexMap.{IndexMap, IsIndex, index_of};
@@ -84,6 +85,8 @@ fn close_folder<'a, F: Files>(
     ensures shorter { OnOk result (open_length parts.new.items < length folder.now) }
     ensures refused { (m : IndexMap) (trees : List (List Entry)) (rest : List Pair) → IsLeft folder.now rest → AllFit trees → Building m trees parts.old.items rest → IfErr result (IsOfWrite m (λ id. F.honest → IsDamaged (F.content files.new) id)) }
     ensures outside { F.honest → SameOutside (codes "objects/") (F.content files.old) (F.content files.new) }
+    ensures undamaged { F.honest → KeepsDamage (F.content files.old) (F.content files.new) }
+    ensures place { IfErr result TellsTreesPlace }
     ensures wear { Wears F.failed F.can_fail files.old files.new (IsErrOf result (IndexFault.Store (StoreFault.Fault Fault.Device))) }
 {
     let start = start_of(parts, folder);
@@ -113,6 +116,8 @@ fn close_folders<F: Files>(
     ensures stands { (m : IndexMap) (trees : List (List Entry)) (rest : List Pair) → IsNext next.now rest → Building m trees parts.old.items rest → Stands F.honest m trees (objects (F.content files.old)) (objects (F.content files.new)) }
     ensures refused { (m : IndexMap) (trees : List (List Entry)) (rest : List Pair) → IsNext next.now rest → AllFit trees → Building m trees parts.old.items rest → IfErr result (IsOfWrite m (λ id. F.honest → IsDamaged (F.content files.new) id)) }
     ensures outside { F.honest → SameOutside (codes "objects/") (F.content files.old) (F.content files.new) }
+    ensures undamaged { F.honest → KeepsDamage (F.content files.old) (F.content files.new) }
+    ensures place { IfErr result TellsTreesPlace }
     ensures wear { Wears F.failed F.can_fail files.old files.new (IsErrOf result (IndexFault.Store (StoreFault.Fault Fault.Device))) }
 {
     while let Some(last) = parts.last() {
@@ -137,6 +142,8 @@ fn root_parts<'a, F: Files>(
     ensures stands { Stands F.honest (index_of map.now) [] (objects (F.content files.old)) (objects (F.content files.new)) }
     ensures refused { IfErr result (IsOfWrite (index_of map.now) (λ id. F.honest → IsDamaged (F.content files.new) id)) }
     ensures outside { F.honest → SameOutside (codes "objects/") (F.content files.old) (F.content files.new) }
+    ensures undamaged { F.honest → KeepsDamage (F.content files.old) (F.content files.new) }
+    ensures place { IfErr result TellsTreesPlace }
     ensures wear { Wears F.failed F.can_fail files.old files.new (IsErrOf result (IndexFault.Store (StoreFault.Fault Fault.Device))) }
 {
     let mut parts = Vec::new(alloc);
@@ -165,10 +172,12 @@ pub(crate) fn write_trees<F: Files>(
     ensures begun { OnErr result (IsBegun F.honest (index_of map.now) (objects (F.content files.old)) (objects (F.content files.new))) }
     ensures refused { IfErr result (IsOfWrite (index_of map.now) (λ id. F.honest → IsDamaged (F.content files.new) id)) }
     ensures outside { F.honest → SameOutside (codes "objects/") (F.content files.old) (F.content files.new) }
+    ensures undamaged { F.honest → KeepsDamage (F.content files.old) (F.content files.new) }
+    ensures place { IfErr result TellsTreesPlace }
     ensures wear { Wears F.failed F.can_fail files.old files.new (IsErrOf result (IndexFault.Store (StoreFault.Fault Fault.Device))) }
 {
     let parts = root_parts(alloc, files, map)?;
     let body = tree_body(alloc, &parts)?;
     let id = vc_store::put(files, alloc, Kind::Tree, &body)?;
-    Ok(id)
+    Ok(id.named())
 }

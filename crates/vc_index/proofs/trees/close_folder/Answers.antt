@@ -17,6 +17,7 @@ use Rattle.vc_index.specs.declared.trees.Part.{Part}
 use Rattle.vc_index.proofs.ClosingLemmas.{closing, closing_shorter, stored_one, handed_on, still_damaged}
 use Rattle.vc_index.proofs.StandingLemmas.{stands_none, closing_refused, closing_stands}
 use Rattle.vc_index.proofs.TextLemmas.{id_of_test}
+use Rattle.vc_index.proofs.DamageLemmas.{damage_put}
 use Rattle.vc_index.proofs.trees.close_folder.Goals as goal
 
 pub returns-in_err-body-clause-stands : goal.returns-in_err-body-clause-stands
@@ -100,3 +101,13 @@ returns-clause-shorter g c =
     let part : Part = record { folder = c.split_path.result.0; name = c.split_path.result.1; entry = index_entry modes.Tree c.named-id.result } in
     let pushes : c.push.new.self.items ≡ take start c.args.parts.now.items ++ part ∷ [] = c.in_ok-push.ensures.items ∙ ap (λ ps. ps ++ part ∷ []) c.truncate.ensures.items in
     rw pushes (closing_shorter (take start c.args.parts.now.items) part c.args.folder.now c.requires.some (sym c.split_path.ensures.is ∙ c.split_at-2.ensures.front))
+
+pub returns-in_err-push-clause-undamaged : goal.returns-in_err-push-clause-undamaged
+returns-in_err-push-clause-undamaged g c = λ honest.
+    let content = g.F.Files.content in
+    damage_put (content c.args.files.now) (content c.put.new.files) kinds.Tree c.deref-2.result.now c.in_ok-stored.stored c.in_ok-stored.ensures.name c.named-id.ensures.valid (c.in_ok-stored.ensures.files honest) (c.in_ok-stored.ensures.objects honest)
+
+pub returns-clause-undamaged : goal.returns-clause-undamaged
+returns-clause-undamaged g c = λ honest.
+    let content = g.F.Files.content in
+    damage_put (content c.args.files.now) (content c.put.new.files) kinds.Tree c.deref-2.result.now c.in_ok-stored.stored c.in_ok-stored.ensures.name c.named-id.ensures.valid (c.in_ok-stored.ensures.files honest) (c.in_ok-stored.ensures.objects honest)

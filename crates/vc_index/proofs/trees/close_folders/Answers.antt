@@ -10,6 +10,7 @@ use Rattle.vc_index.specs.declared.trees.Part.{Part}
 use Rattle.vc_index.proofs.ClosingLemmas.{closes_none, closes_then, inside_last, left_of, handed_on}
 use Rattle.vc_index.proofs.PartLemmas.{all_join}
 use Rattle.vc_index.proofs.StandingLemmas.{closes_stands, stands_then}
+use Rattle.vc_index.proofs.DamageLemmas.{damage_same, damage_then}
 use Rattle.vc_index.proofs.trees.close_folders.Goals as goal
 
 pub returns-then-starts_with-clause-inside : goal.returns-then-starts_with-clause-inside
@@ -25,6 +26,7 @@ pub loop-last-init : goal.loop-last-init
 loop-last-init g c = record {
   closes = λ m trees rest n b. closes_none g.F.Files.honest m trees rest c.args.parts.now.items (objects (g.F.Files.content c.args.files.now)) (objects (g.F.Files.content c.args.files.now)) b (λ _. refl);
   outside = λ honest. outside_same _ _;
+  undamaged = λ honest. damage_same _ _ refl;
   wear = search rules;
 }
 
@@ -37,6 +39,7 @@ loop-last-preserved g c =
           closes_then g.F.Files.honest m trees rest c.loop-last.parts.items c.close_folder.new.parts.items (objects (g.F.Files.content c.args.files.now)) (objects (g.F.Files.content c.loop-last.files)) (objects (g.F.Files.content c.close_folder.new.files)) first
           (c.in_ok-close_folder.ensures.closes m (trees ++ first.more) rest (left_of c.args.next.now c.in-Some.last.now.folder.now rest n not_in) first.building);
       outside = λ honest. outside_then (c.loop-last.invariant.outside honest) (c.in_ok-close_folder.ensures.outside honest);
+      undamaged = λ honest. damage_then (c.loop-last.invariant.undamaged honest) (c.in_ok-close_folder.ensures.undamaged honest);
       wear = search rules;
     }
 
@@ -54,3 +57,6 @@ returns-in_err-close_folder-clause-refused g c = λ m trees rest n fits b.
 
 pub returns-clause-stands : goal.returns-clause-stands
 returns-clause-stands g c = λ m trees rest n b. closes_stands g.F.Files.honest m rest trees c.loop-last.parts.items (objects (g.F.Files.content c.args.files.now)) (objects (g.F.Files.content c.loop-last.files)) (c.loop-last.invariant.closes m trees rest n b)
+
+pub returns-in_err-close_folder-clause-undamaged : goal.returns-in_err-close_folder-clause-undamaged
+returns-in_err-close_folder-clause-undamaged g c = λ honest. damage_then (c.loop-last.invariant.undamaged honest) (c.in_err-close_folder.ensures.undamaged honest)

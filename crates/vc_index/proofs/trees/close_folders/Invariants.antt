@@ -4,6 +4,7 @@ use Rattle.vc_files.specs.Failures.{Wears}
 use Rattle.vc_files.specs.FileMap.{SameOutside}
 use Rattle.vc_object.specs.Tree.{Entry}
 use Rattle.vc_store.specs.Store.{objects}
+use Rattle.vc_index.specs.Damage.{KeepsDamage}
 use Rattle.vc_index.specs.Building.{Building, Closes, IsNext, open_length}
 use Rattle.vc_index.specs.HeldFiles.{Pair}
 use Rattle.vc_index.specs.IndexMap.{IndexMap}
@@ -16,6 +17,7 @@ invariant-loop-last g l =
       closes : (m : IndexMap) (trees : List (List Entry)) (rest : List Pair) → IsNext l.next rest → Building m trees l.fn.parts.items rest
           → Closes g.F.Files.honest m rest trees l.parts.items (objects (content l.fn.files)) (objects (content l.files));
       outside : g.F.Files.honest → SameOutside (codes "objects/") (content l.fn.files) (content l.files);
+      undamaged : g.F.Files.honest → KeepsDamage (content l.fn.files) (content l.files);
       wear : Wears g.F.Files.failed g.F.Files.can_fail l.fn.files l.files ⊥;
     }
 

@@ -14,6 +14,7 @@ use Rattle.vc_index.specs.declared.trees.Part.{Part}
 use Rattle.vc_index.proofs.MapLemmas.{entries-index_of}
 use Rattle.vc_index.proofs.ClosingLemmas.{building_starts, closes_none, closes_then, push_step, next_is, handed_on}
 use Rattle.vc_index.proofs.StandingLemmas.{stands_then}
+use Rattle.vc_index.proofs.DamageLemmas.{damage_same, damage_then}
 use Rattle.vc_index.proofs.trees.root_parts.Goals as goal
 
 abbrev view : Vec ℕ Global × IndexEntry → Pair
@@ -30,6 +31,7 @@ loop-path-init g c =
       walked = ([], all);
       closes = closes_none g.F.Files.honest m [] (map view c.into_iter-path-iterator.result) c.new-parts.result.items (objects (g.F.Files.content c.args.files.now)) (objects (g.F.Files.content c.args.files.now)) b (λ _. refl);
       outside = λ honest. outside_same _ _;
+      undamaged = λ honest. damage_same _ _ refl;
       wear = search rules;
     }
 
@@ -69,6 +71,7 @@ loop-path-preserved g c =
           (subst (λ (q : List ℕ). IsInside q c.close_folders.new.parts.items) c.deref.ensures.value c.in_ok-close_folders.ensures.inside)
           (sym c.deref-in-loop-path.ensures.value ∙ c.split_path.ensures.is) c.split_path.ensures.name c.split_path.ensures.folder refl c.in_ok-push.ensures.items;
       outside = λ honest. outside_then (c.loop-path.invariant.outside honest) (c.in_ok-close_folders.ensures.outside honest);
+      undamaged = λ honest. damage_then (c.loop-path.invariant.undamaged honest) (c.in_ok-close_folders.ensures.undamaged honest);
       wear = search rules;
     }
 
@@ -131,3 +134,15 @@ returns-in_err-close_folders-2-clause-refused g c =
     let first = subst (λ (r : List Pair). Closes g.F.Files.honest m r [] c.loop-path.parts.items (objects (g.F.Files.content c.args.files.now)) (objects (g.F.Files.content c.loop-path.files))) none c.loop-path.invariant.closes in
     handed_on (IsOfWrite m (λ (id : ObjectId). g.F.Files.honest → IsDamaged (g.F.Files.content c.close_folders-2.new.files) id)) c.in_err-close_folders-2.field-0.0 c.from_residual-in_err-close_folders-2.result c.from_residual-in_err-close_folders-2.ensures.1
     (c.in_err-close_folders-2.ensures.refused m first.more [] tt first.fits first.building)
+
+pub returns-in_err-close_folders-clause-undamaged : goal.returns-in_err-close_folders-clause-undamaged
+returns-in_err-close_folders-clause-undamaged g c = λ honest. damage_then (c.loop-path.invariant.undamaged honest) (c.in_err-close_folders.ensures.undamaged honest)
+
+pub returns-in_err-push-clause-undamaged : goal.returns-in_err-push-clause-undamaged
+returns-in_err-push-clause-undamaged g c = λ honest. damage_then (c.loop-path.invariant.undamaged honest) (c.in_ok-close_folders.ensures.undamaged honest)
+
+pub returns-in_err-close_folders-2-clause-undamaged : goal.returns-in_err-close_folders-2-clause-undamaged
+returns-in_err-close_folders-2-clause-undamaged g c = λ honest. damage_then (c.loop-path.invariant.undamaged honest) (c.in_err-close_folders-2.ensures.undamaged honest)
+
+pub returns-clause-undamaged : goal.returns-clause-undamaged
+returns-clause-undamaged g c = λ honest. damage_then (c.loop-path.invariant.undamaged honest) (c.in_ok-close_folders-2.ensures.undamaged honest)

@@ -4,6 +4,7 @@ use Rattle.std.specs.FinMap.{entries}
 use Rattle.vc_files.specs.Failures.{Wears}
 use Rattle.vc_files.specs.FileMap.{SameOutside}
 use Rattle.vc_store.specs.Store.{objects}
+use Rattle.vc_index.specs.Damage.{KeepsDamage}
 use Rattle.vc_index.specs.Building.{Closes}
 use Rattle.vc_index.specs.HeldFiles.{Pair}
 use Rattle.vc_index.specs.IndexMap.{index_of}
@@ -18,5 +19,6 @@ invariant-loop-path g l =
       walked : (front : List Pair) × (entries (index_of l.map) ≡ front ++ map (λ e. (e.0.items, e.1)) l.path-iterator);
       closes : Closes g.F.Files.honest (index_of l.map) (map (λ e. (e.0.items, e.1)) l.path-iterator) [] l.parts.items (objects (content l.fn.files)) (objects (content l.files));
       outside : g.F.Files.honest → SameOutside (codes "objects/") (content l.fn.files) (content l.files);
+      undamaged : g.F.Files.honest → KeepsDamage (content l.fn.files) (content l.files);
       wear : Wears g.F.Files.failed g.F.Files.can_fail l.fn.files l.files ⊥;
     }
