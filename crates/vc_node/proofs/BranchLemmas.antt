@@ -119,13 +119,13 @@ id_some None h = absurd (cc h)
 id_some (Some x) h = (x, refl)
 
 -- a name that no file is in the way of is free
-free_from : (content : FileMap) (r : Repository) (name : List ℕ) → Spells (shown content) r → IsFreeName content name → IsFree r.refs name
+pub free_from : (content : FileMap) (r : Repository) (name : List ℕ) → Spells (shown content) r → IsFreeName content name → IsFree r.refs name
 free_from content r name p free m x found conflict =
     let there : is_some (refs content m) ≡ true = ap is_some (p.refs m) ∙ some_id (get r.refs m) x found in
     free m (record { taken = taken_from_ref content m there; conflict = conflicts_to m name conflict })
 
 -- one that a ref is in the way of isn't
-not_free : (content : FileMap) (r : Repository) (name other : List ℕ) → Spells (shown content) r → conflicts other name ≡ true → is_some (refs content other) ≡ true → ¬ IsFree r.refs name
+pub not_free : (content : FileMap) (r : Repository) (name other : List ℕ) → Spells (shown content) r → conflicts other name ≡ true → is_some (refs content other) ≡ true → ¬ IsFree r.refs name
 not_free content r name other p conflict there free =
     let x = id_some (get r.refs other) (sym (ap is_some (p.refs other)) ∙ there) in
     free other x.0 x.1 (conflicts_from other name conflict)
@@ -133,19 +133,19 @@ not_free content r name other p conflict there free =
 -- ---- good commits
 
 module _ (content : FileMap) (r : Repository) (p : Spells (shown content) r) (id : ObjectId) where
-  closed : IsComplete content id → IsClosed git (stored r.objects) id.0
+  pub closed : IsComplete content id → IsClosed git (stored r.objects) id.0
   closed h = closed_from (objects content) r.objects p.objects id.0 h
 
-  not_closed : ¬ IsComplete content id → ¬ IsClosed git (stored r.objects) id.0
+  pub not_closed : ¬ IsComplete content id → ¬ IsClosed git (stored r.objects) id.0
   not_closed h c = h (closed_to (objects content) r.objects p.objects id.0 c)
 
-  history : IsHistory content id → HasHistory git (stored r.objects) id.0
+  pub history : IsHistory content id → HasHistory git (stored r.objects) id.0
   history h = history_from (objects content) r.objects p.objects (objects_sound content) id.0 h
 
-  not_history : ¬ IsHistory content id → ¬ HasHistory git (stored r.objects) id.0
+  pub not_history : ¬ IsHistory content id → ¬ HasHistory git (stored r.objects) id.0
   not_history h c = h (history_to (objects content) r.objects p.objects (objects_sound content) id.0 c)
 
-set_rel : (s : Shown) (r : Repository) (name : List ℕ) (id : ObjectId) → Spells s r → (q : RefName) → with_ref s.refs name id q ≡ option_map id_of_bytes (get (insert r.refs name id.0) q)
+pub set_rel : (s : Shown) (r : Repository) (name : List ℕ) (id : ObjectId) → Spells s r → (q : RefName) → with_ref s.refs name id q ≡ option_map id_of_bytes (get (insert r.refs name id.0) q)
 unfolding with_ref
 set_rel s r name id p q =
     ap (cond (bytes_eq q name) (Some id)) (p.refs q) ∙ map_cond id_of_bytes (bytes_eq q name) (Some id.0) (get r.refs q) ∙ ap (option_map id_of_bytes) (sym (get-put r.refs name q id.0))

@@ -8,3 +8,9 @@ pub mod TreeLaws
 pub mod BranchLemmas
 pub mod ReachLemmas
 pub mod MakingLemmas
+pub mod RefusalLemmas
+pub mod IndexTreeLaws
+pub mod TreeObjects
+pub mod CommitAnswers
+pub mod CommitFailures
+pub mod StoringLemmas

@@ -1,6 +1,6 @@
 -- From the steps of a commit to the whole.
-use Rattle.std.proofs.Common.{◌≡◌, ℕ, ◌+◌, ◌<◌, zero, suc, List, [], ◌∷◌, take, get_or, length, refl, sym, ap, ◌∙◌, subst, add-one, arith}
-use Rattle.std.specs.Prelude.{codes}
+use Rattle.std.proofs.Common.{◌≡◌, ℕ, ◌+◌, ◌<◌, zero, suc, List, [], ◌∷◌, take, get_or, length, refl, sym, ap, ◌∙◌, subst, add-one, arith, inl, inr}
+use Rattle.std.specs.Prelude.{Result, Ok, Err, IsErrAnd, IfErr, OnErr, codes}
 use Rattle.std.specs.List.{AllByRecursion}
 use Rattle.vc_files.specs.FileMap.{FileMap, SameOutside}
 use Rattle.vc_index.specs.IndexMap.{IndexMap}
@@ -8,7 +8,10 @@ use Rattle.vc_object.specs.ObjectMap.{ObjectMap}
 use Rattle.vc_object.specs.declared.id.ObjectId.{ObjectId}
 use Rattle.vc_refs.specs.declared.heads.Head.{Head}
 use Rattle.vc_store.specs.Store.{objects}
-use Rattle.vc_node.specs.Commit.{WritesCommit, moved}
+use Rattle.vc_node.specs.Commit.{IsGoodParent, WritesCommit, moved}
+use Rattle.vc_node.specs.GoodCommit.{BlamesCommit}
+use Rattle.vc_node.specs.Making.{BlamesParents, StoresTrees}
+use Rattle.vc_node.specs.declared.fault.NodeFault.{NodeFault}
 use Rattle.vc_node.specs.Shown.{shown, with_objects_shown}
 use Rattle.vc_node.proofs.ShownLemmas.{shown_objects}
 
@@ -21,6 +24,21 @@ all_one_more P (x ∷ xs) (suc i) d less all p = (all.0, all_one_more P xs i d (
 pub all_more : {X : Type 0} (P : X → Type 0) (xs : List X) (i : ℕ) (d : X) → i < length xs → AllByRecursion P (take i xs) → P (get_or xs i d) → AllByRecursion P (take (i + 1) xs)
 all_more P xs i d less all p = subst (λ n. AllByRecursion P (take n xs)) (sym (add-one i)) (all_one_more P xs i d less all p)
 
+-- the first that is no good parent, behind those that were looked at
+pub parents_blamed : (content : FileMap) (xs : List ObjectId) (i : ℕ) (d : ObjectId) (e : NodeFault) → i < length xs → AllByRecursion (IsGoodParent content) (take i xs) → BlamesCommit content (get_or xs i d) e → BlamesParents content xs e
+parents_blamed content [] i d e less all blames = absurd (omega arith)
+parents_blamed content (x ∷ xs) zero d e less all blames = inl blames
+parents_blamed content (x ∷ xs) (suc i) d e less all blames = inr (all.0, parents_blamed content xs i d e (omega arith) all.1 blames)
+
+-- what is handed on as it came
+pub told_on : {T : Type 0} (Reason : NodeFault → Type 0) (fault : NodeFault) (r : Result T NodeFault) → IsErrAnd r (λ e. e ≡ fault) → Reason fault → IfErr r Reason
+told_on Reason fault (Ok x) is reason = tt
+told_on Reason fault (Err e) is reason = subst Reason (sym is) reason
+
+pub left_on : {T : Type 0} (Left : Type 0) (fault : NodeFault) (r : Result T NodeFault) → IsErrAnd r (λ e. e ≡ fault) → Left → OnErr r Left
+left_on Left fault (Ok x) is left = tt
+left_on Left fault (Err e) is left = left
+
 -- what was written to honest files
 pub writes_there : (honest : Type 0) (m : IndexMap) (ps qs : List ObjectId) (author committer message : List ℕ) (mid old new : ObjectMap) (id : ObjectId) → honest → ps ≡ qs → mid ≡ old
     → WritesCommit honest m ps author committer message mid new id → WritesCommit (Unit {0}) m qs author committer message old new id
@@ -29,11 +47,23 @@ writes_there honest m ps qs author committer message mid old new id there same f
     (subst (λ (o : ObjectMap). WritesCommit (Unit {0}) m ps author committer message o new id) from (record {
       tree = w.tree;
       between = w.between;
-      trees = λ _. let t = w.trees there in record { lower = t.lower; root = t.root; trees = t.trees; is = t.is; stored = λ _. t.stored there };
+      trees = λ _. let t = w.trees there in record { lower = t.lower; root = t.root; trees = t.trees; is = t.is; listed = t.listed; fits = t.fits; stored = λ _. t.stored there };
       legal = w.legal;
       name = w.name;
       commit = λ _. w.commit there;
     }))
+
+-- the trees that were stored in honest files
+pub trees_there : (honest : Type 0) (m : IndexMap) (mid old new : ObjectMap) → honest → mid ≡ old → StoresTrees honest m mid new → StoresTrees (Unit {0}) m old new
+trees_there honest m mid old new there from (inl b) =
+    subst (λ (o : ObjectMap). StoresTrees (Unit {0}) m o new) from (inl (record { trees = b.trees; lower = b.lower; first = b.first; fits = b.fits; stored = λ _. b.stored there }))
+trees_there honest m mid old new there from (inr w) =
+    let t = w.1 in
+    subst (λ (o : ObjectMap). StoresTrees (Unit {0}) m o new) from (inr (w.0, record { lower = t.lower; root = t.root; trees = t.trees; is = t.is; listed = t.listed; fits = t.fits; stored = λ _. t.stored there }))
+
+-- what is shown of files in which objects alone were stored
+pub stored_shown : (old mid new : FileMap) → mid ≡ old → SameOutside (codes "objects/") mid new → shown new ≡ with_objects_shown (shown old) (objects new)
+stored_shown old mid new same outside = shown_objects mid new (objects new) outside refl ∙ ap (λ (m : FileMap). with_objects_shown (shown m) (objects new)) same
 
 pub committed_shown : (old mid made new : FileMap) (head : Head) (id : ObjectId) → mid ≡ old → SameOutside (codes "objects/") mid made → shown new ≡ moved head id (shown made) → shown new ≡ moved head id (with_objects_shown (shown old) (objects made))
 committed_shown old mid made new head id same outside is =

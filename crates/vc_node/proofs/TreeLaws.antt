@@ -70,7 +70,7 @@ first_or_later y ys x h = elim (Contains-append_cases (y ∷ []) ys x h) [
 
 module _ (y : ObjectId) where
   -- an entry of this id that is no commit of another repository
-  IsLinked : List Entry → Type 0
+  unfoldable pub IsLinked : List Entry → Type 0
   IsLinked es = (mode : Mode) × (name : List ℕ) × HasEntry es mode name y × (mode ≢ modes.Commit)
 
   later_linked : (e : Entry) (es : List Entry) → IsLinked es → IsLinked (e ∷ es)
@@ -89,7 +89,7 @@ module _ (y : ObjectId) where
   by_mode e es modes.Link rest is c = first_linked e es modes.Link rest is (λ k. cc k) c
   by_mode e es modes.Commit rest is c = later_linked e es (rest c)
 
-  linked : (es : List Entry) → Contains (entry_links es) y → IsLinked es
+  pub linked : (es : List Entry) → Contains (entry_links es) y → IsLinked es
   linked [] h = absurd (none_in y h)
   linked (e ∷ es) h = by_mode e es e.mode (λ c. linked es c) refl h
 

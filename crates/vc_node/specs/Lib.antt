@@ -6,4 +6,5 @@ pub mod Shown
 pub mod Blames
 pub mod Machine
 pub mod Commit
+pub mod Making
 pub mod TreeLaw

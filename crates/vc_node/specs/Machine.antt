@@ -1,5 +1,5 @@
 -- How a node of the machine stands in what files show, and what the machine answers, at Git's objects.
-use Rattle.std.specs.Prelude.{◌≡◌, ◌⊎◌, ◌↔◌, ℕ, Bool, true, false, IsTrue, List, Option, Some, None, Result, Ok, Err, option_map, string_bytes, IsErrAnd, not}
+use Rattle.std.specs.Prelude.{◌≡◌, ◌⊎◌, ◌↔◌, ℕ, Bool, true, false, IsTrue, List, map, Option, Some, None, Result, Ok, Err, option_map, string_bytes, IsErrAnd, not}
 use Rattle.std.specs.FinMap.{get}
 use Rattle.vc_files.specs.FileMap.{FileMap}
 use Rattle.vc_files.specs.declared.faults.Fault.{Fault as FilesFault}
@@ -7,11 +7,13 @@ use Rattle.vc_files.specs.declared.faults.Fault.TheVariants as files
 use Rattle.vc_format.specs.Format.{git_format}
 use Rattle.vc_format.specs.Git.{kind_of, id_of_bytes}
 use Rattle.vc_format.proofs.Laws.{links_agree, spells_commits}
+use Rattle.vc_index.specs.FolderTrees.{AllFit, AreIndexTrees}
 use Rattle.vc_index.specs.IndexMap.{IndexMap, IsIndex}
 use Rattle.vc_index.specs.IndexText.{index_text}
 use Rattle.vc_index.specs.Path.{IsPath}
 use Rattle.vc_index.specs.TreeReading.{TreeFault, ReadsAs}
 use Rattle.vc_index.specs.TreeReading.TreeFault.{LongPath, OtherKind, NoObject}
+use Rattle.vc_index.specs.WrittenTrees.{tree_object}
 use Rattle.vc_index.specs.declared.entry.IndexEntry.{IndexEntry}
 use Rattle.vc_model.specs.Object.{Format, Kind, Object, Objects, Id}
 use Rattle.vc_model.specs.Object.Kind.{Blob, Tree, Commit, Tag}
@@ -28,9 +30,10 @@ use Rattle.vc_model.specs.CloneCall.{CloneAnswers, Obeys, Refuses}
 use Rattle.vc_model.specs.CloneCall.CloneCall.{Command}
 use Rattle.vc_model.specs.Rules.{Rules, Tests, rules_by}
 use Rattle.vc_object.specs.Decoding.{StoredObject, stored_object}
-use Rattle.vc_object.specs.Object.{IsObject}
+use Rattle.vc_object.specs.Object.{IsObject, object_name}
 use Rattle.vc_object.specs.ObjectFault.{BodyFault}
 use Rattle.vc_object.specs.ObjectMap.{ObjectMap}
+use Rattle.vc_object.specs.Tree.{Entry as TreeEntry, spelling}
 use Rattle.vc_object.specs.declared.fault.ObjectFault.{ObjectFault}
 use Rattle.vc_object.specs.declared.fault.ObjectFault.TheVariants as object
 use Rattle.vc_object.specs.declared.id.ObjectId.{ObjectId}
@@ -43,7 +46,7 @@ use Rattle.vc_refs.specs.declared.faults.RefFault.{RefFault}
 use Rattle.vc_refs.specs.declared.faults.RefFault.TheVariants as ref
 use Rattle.vc_refs.specs.declared.heads.Head.{Head as RefsHead}
 use Rattle.vc_refs.specs.declared.heads.Head.TheVariants as heads
-use Rattle.vc_store.specs.Store.{IsDamaged}
+use Rattle.vc_store.specs.Store.{IsDamaged, with_objects}
 use Rattle.vc_store.specs.declared.faults.StoreFault.{StoreFault}
 use Rattle.vc_store.specs.declared.faults.StoreFault.TheVariants as store
 use Rattle.vc_node.specs.NodeFault.{is_fault}
@@ -156,6 +159,10 @@ abbrev pub done_answer : Result (Unit {0}) NodeFault → Answer
 done_answer (Ok u) = Did Stored
 done_answer (Err e) = fault_answer e
 
+-- no objects at all
+abbrev pub no_objects : ObjectMap
+no_objects id = None
+
 -- the machine's objects by name, as the layers below have them
 abbrev pub layer_objects : Objects → ObjectMap
 layer_objects s id = option_map stored_of (get s id.0)
@@ -175,11 +182,27 @@ abbrev pub TreeGives : Objects → Id → Result Index ℕ → Type 0
 TreeGives s x (Ok i) = (m : IndexMap) × ReadsAs (layer_objects s) (id_of_bytes x) (Ok m) × ShowsIndex i m
 TreeGives s x (Err n) = (fault : TreeFault) × ReadsAs (layer_objects s) (id_of_bytes x) (Err fault) × (n ≡ tree_number fault)
 
--- the machine's tests are those of the layers below: bodies of objects, paths, and what trees are read as
+-- the trees of the machine's index as one list, the root's of these entries
+pub record ListsTrees (i : Index) (m : IndexMap) (trees : List (List TreeEntry)) (root : List TreeEntry) : Type 0 where
+  pub sound : IsIndex m
+  pub shows : ShowsIndex i m
+  pub listed : AreIndexTrees m trees root
+
+-- the machine's objects are these trees; of those that have one name it is the first
+abbrev pub HoldsTrees : Objects → List (List TreeEntry) → Type 0
+HoldsTrees s trees = (x : Id) → option_map stored_of (get s x) ≡ with_objects no_objects (map tree_object trees) (id_of_bytes x)
+
+-- the trees of an index and the root's name, or that one of them is too large (3)
+abbrev pub TreesGive : Index → Result (Objects × Id) ℕ → Type 0
+TreesGive i (Ok t) = (m : IndexMap) × (trees : List (List TreeEntry)) × (root : List TreeEntry) × ListsTrees i m trees root × AllFit trees × HoldsTrees t.0 trees × (t.1 ≡ (object_name kinds.Tree (spelling root)).0)
+TreesGive i (Err n) = (m : IndexMap) × (trees : List (List TreeEntry)) × (root : List TreeEntry) × ListsTrees i m trees root × (¬ AllFit trees) × (n ≡ 3)
+
+-- the machine's tests are those of the layers below: bodies of objects, paths, the trees of indexes, and what trees are read as
 pub record AgreesOn (tests : Tests git) : Type 0 where
   pub fault : (o : Object) (e : ObjectFault) → BodyFault (kind_of o.kind) o.body e → tests.fault o ≡ Some (object_number e)
   pub sound : (o : Object) → IsObject (kind_of o.kind) o.body → tests.fault o ≡ None
   pub path : (p : List ℕ) → IsTrue (tests.is_path p) ↔ IsPath p
+  pub trees_of : (i : Index) (v : Result (Objects × Id) ℕ) → IsTrue (tests.trees_of i v) ↔ TreesGive i v
   pub index_of : (s : Objects) (x : Id) (v : Result Index ℕ) → IsTrue (tests.index_of s x v) ↔ TreeGives s x v
 
 -- the refusal is for a damaged file of an object, or for a file in refs/ that stands for no ref

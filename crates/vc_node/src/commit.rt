@@ -1,11 +1,12 @@
 // What a commit does to files: it looks for what refuses it, writes the trees and the commit, and then moves HEAD.
-ghost use Rattle.std.specs.Prelude.{◌≡◌, ◌++◌, IfOk, OnOk, OnErr, Contains, codes};
+ghost use Rattle.std.specs.Prelude.{◌≡◌, ◌++◌, IfOk, IfErr, OnOk, OnErr, Contains, codes};
 ghost use Rattle.std.specs.List.{AllByRecursion};
 ghost use Rattle.vc_files.specs.FileMap.{SameOutside};
 ghost use Rattle.vc_object.specs.Lines.{id_line, line};
 ghost use Rattle.vc_refs.specs.Head.{IsHeadInRefs, head_of};
 ghost use Rattle.vc_store.specs.Store.{objects};
 ghost use Rattle.vc_node.specs.Commit.{IsGoodParent, IsFreeHead, IsCommitted, WritesCommit, made_body, moved, parents_of_commit};
+ghost use Rattle.vc_node.specs.Making.{AreLines, BlamesLines, BlamesFreeHead, BlamesParents, BlamesLook, BlamesObjects, BlamesMaking, BlamesMoving, LeftByCommit, StoresTrees};
 ghost use Rattle.vc_node.specs.Shown.{shown};
 
 use crate::NodeFault;
@@ -31,6 +32,7 @@ pub(crate) struct Words<'a> {
 fn refuse_lines(words: Words<'_>) -> Result<(), NodeFault>
     ensures author { OnOk result (¬ (Contains words.entry.author.now 10)) }
     ensures committer { OnOk result (¬ (Contains words.entry.committer.now 10)) }
+    ensures refused { IfErr result (BlamesLines words.entry.author.now words.entry.committer.now) }
 {
     if words.author.contains(&b'\n') || words.committer.contains(&b'\n') {
         return Err(NodeFault::Store(StoreFault::BadObject(ObjectFault::BadCommit)));
@@ -43,6 +45,7 @@ fn free_head<F: Files>(alloc: Global, files: &mut F) -> Result<Head, NodeFault>
     ensures found { F.honest → IfOk result (λ head. head_of (F.content files.old) ≡ Some head) }
     ensures inside { IfOk result IsHeadInRefs }
     ensures free { F.honest → IfOk result (IsFreeHead (F.content files.old)) }
+    ensures refused { F.honest → IfErr result (BlamesFreeHead (F.content files.old)) }
     ensures same { F.content files.new ≡ F.content files.old }
 {
     let Some(head) = vc_refs::head(files, alloc)? else {
@@ -61,6 +64,7 @@ fn refuse_bad_parents<F: Files>(
     parents: &[ObjectId],
 ) -> Result<(), NodeFault>
     ensures good { F.honest → OnOk result (AllByRecursion (IsGoodParent (F.content files.old)) parents.now) }
+    ensures refused { F.honest → IfErr result (BlamesParents (F.content files.old) parents.now) }
     ensures same { F.content files.new ≡ F.content files.old }
 {
     for parent in parents {
@@ -76,6 +80,7 @@ fn parents_with<F: Files>(
     extra: &[ObjectId],
 ) -> Result<Vec<ObjectId>, NodeFault>
     ensures parents { F.honest → IfOk result (λ ids. ids.items ≡ parents_of_commit (F.content files.old) extra.now) }
+    ensures refused { F.honest → IfErr result (BlamesLook (F.content files.old)) }
     ensures same { F.content files.new ≡ F.content files.old }
 {
     let mut parents = Vec::new(alloc);
@@ -134,6 +139,8 @@ fn write_objects<F: Files>(
     parents: &[ObjectId],
     words: Words<'_>,
 ) -> Result<ObjectId, NodeFault>
+    ensures refused { IfErr result (BlamesObjects F.honest (F.content files.old) index.now parents.now words.entry.author.now words.entry.committer.now words.entry.message.now) }
+    ensures left { OnErr result (StoresTrees F.honest index.now (objects (F.content files.old)) (objects (F.content files.new))) }
     ensures written { IfOk result (WritesCommit F.honest index.now parents.now words.entry.author.now words.entry.committer.now words.entry.message.now (objects (F.content files.old)) (objects (F.content files.new))) }
     ensures outside { F.honest → SameOutside (codes "objects/") (F.content files.old) (F.content files.new) }
 {
@@ -152,6 +159,7 @@ fn move_head<F: Files>(
 ) -> Result<(), NodeFault>
     requires { IsHeadInRefs head.now }
     ensures moved { F.honest → OnOk result (shown (F.content files.new) ≡ moved head.now id (shown (F.content files.old))) }
+    ensures refused { F.honest → IfErr result (BlamesMoving (F.content files.old) head.now) }
     ensures err { F.honest → OnErr result (F.content files.new ≡ F.content files.old) }
 {
     match head {
@@ -175,6 +183,9 @@ pub(crate) fn commit<F: Files>(
     words: Words<'_>,
 ) -> Result<ObjectId, NodeFault>
     ensures committed { F.honest → IfOk result (λ id. IsCommitted (F.content files.old) extra.now words.entry.author.now words.entry.committer.now words.entry.message.now id (F.content files.new)) }
+    ensures lines { OnOk result (AreLines words.entry.author.now words.entry.committer.now) }
+    ensures refused { F.honest → IfErr result (BlamesMaking (F.content files.old) extra.now words.entry.author.now words.entry.committer.now words.entry.message.now) }
+    ensures left { F.honest → OnErr result (LeftByCommit (F.content files.old) extra.now words.entry.author.now words.entry.committer.now words.entry.message.now (F.content files.new)) }
     ensures err { F.honest → OnErr result (SameOutside (codes "objects/") (F.content files.old) (F.content files.new)) }
 {
     refuse_lines(words)?;

@@ -1,7 +1,8 @@
 // A clone.
-ghost use Rattle.std.specs.Prelude.{◌≡◌, ◌≢◌, ◌⊎◌, OnOk, OnErr, IfOk, IfErr, IsErrOf, true, false, not, nat_eq, codes};
+ghost use Rattle.std.specs.Prelude.{◌≡◌, ◌≢◌, ◌⊎◌, OnOk, OnErr, IfOk, IfErr, IsErrOf, true, false, not, nat_eq, map, codes};
 ghost use Rattle.std.specs.List.{starts_with};
-ghost use Rattle.vc_model.specs.Clone.Task.{Write, Stage, Unstage, LoadTree, SetBranch, DeleteBranch, MoveHead};
+ghost use Rattle.vc_format.specs.Git.{bytes_of_id};
+ghost use Rattle.vc_model.specs.Clone.Task.{Write, Stage, Unstage, LoadTree, MakeCommit, SetBranch, DeleteBranch, MoveHead};
 ghost use Rattle.vc_refs.specs.Head.{IsHeadInRefs};
 ghost use Rattle.vc_node.specs.Blames.{BlamesLoad, BlamesOpen, IsLocalHead};
 ghost use Rattle.vc_files.specs.FileMap.{SameOutside};
@@ -215,6 +216,7 @@ impl<F: Files> CloneNode<F> {
         committer: &[u8],
         message: &[u8],
     ) -> Result<ObjectId, NodeFault>
+        ensures answers { F.honest → OrBadFile (F.content self.old.files) result (Answers (MakeCommit (map bytes_of_id extra_parents.now) author.now committer.now message.now) (made_answer result) self.old.is_up self.new.is_up (shown (F.content self.old.files)) (shown (F.content self.new.files))) }
         ensures committed { F.honest → IfOk result (λ id. IsCommitted (F.content self.old.files) extra_parents.now author.now committer.now message.now id (F.content self.new.files)) }
         ensures down { self.old.is_up ≡ false → result ≡ Err NodeFault.Down }
         ensures err { F.honest → OnErr result (SameOutside (codes "objects/") (F.content self.old.files) (F.content self.new.files)) }

@@ -1,10 +1,19 @@
-use Rattle.std.proofs.Common.{◌≡◌, ◌∙◌, ap, subst}
+use Rattle.std.proofs.Common.{◌≡◌, ◌∙◌, List, rules, inl, inr, ap, subst}
 use Rattle.std.specs.List.{AllByRecursion}
-use Rattle.vc_files.specs.FileMap.{FileMap}
+use Rattle.std.specs.Prelude.{codes}
+use Rattle.vc_files.specs.FileMap.{FileMap, SameOutside}
+use Rattle.vc_object.specs.Object.{IsObject}
+use Rattle.vc_object.specs.declared.id.ObjectId.{ObjectId}
+use Rattle.vc_object.specs.declared.kind.Kind.TheVariants as kinds
 use Rattle.vc_store.specs.Store.{objects}
-use Rattle.vc_node.specs.Commit.{IsGoodParent, parents_of_commit}
-use Rattle.vc_node.specs.IndexFile.{SpellsIndex}
-use Rattle.vc_node.proofs.MakingLemmas.{writes_there, committed_shown}
+use Rattle.vc_node.specs.Commit.{IsGoodParent, made_body, parents_of_commit}
+use Rattle.vc_node.specs.IndexFile.{SpellsIndex, BlamesIndex}
+use Rattle.vc_node.specs.Making.{AreLines, BlamesLook, BlamesParents, BlamesMaking, IsCut, LeftByCommit, MayCommit}
+use Rattle.vc_node.specs.Making.BlamesMaking.{of_lines, of_look, of_conflict, of_parents, of_index, of_objects}
+use Rattle.vc_node.specs.Shown.{shown}
+use Rattle.vc_node.proofs.MakingLemmas.{left_on, told_on, writes_there, trees_there, stored_shown, committed_shown}
+use Rattle.vc_node.proofs.RefusalLemmas.{moving_blamed}
+use Rattle.vc_node.proofs.StoringLemmas.{root_of, memory_blamed, files_blamed}
 use Rattle.vc_node.proofs.commit.commit.Goals as goal
 
 pub returns-clause-committed : goal.returns-clause-committed
@@ -27,3 +36,171 @@ returns-clause-committed g c = λ honest.
       writes = writes_there g.F.Files.honest _ _ _ _ _ _ _ _ _ _ honest parents (ap objects fourth) c.in_ok-id.ensures.written;
       is = committed_shown _ _ _ _ c.in_ok-head.head c.in_ok-id.id fourth (c.in_ok-id.ensures.outside honest) (c.in_ok-move_head.ensures.moved honest);
     }
+
+-- ---- what refuses it
+
+pub returns-in_err-refuse_lines-clause-refused : goal.returns-in_err-refuse_lines-clause-refused
+returns-in_err-refuse_lines-clause-refused g c = λ honest.
+    let w = c.args.words in
+    let blames : BlamesMaking (g.F.Files.content c.args.files.now) c.args.extra.now w.author.now w.committer.now w.message.now c.in_err-refuse_lines.field-0.0 = of_lines c.in_err-refuse_lines.ensures.refused in
+    search (rules, blames)
+
+pub returns-in_err-head-clause-refused : goal.returns-in_err-head-clause-refused
+returns-in_err-head-clause-refused g c = λ honest.
+    let w = c.args.words in
+    let lines : AreLines w.author.now w.committer.now = (c.in_ok-refuse_lines.ensures.author, c.in_ok-refuse_lines.ensures.committer) in
+    let blames : BlamesMaking (g.F.Files.content c.args.files.now) c.args.extra.now w.author.now w.committer.now w.message.now c.in_err-head.field-0.0 =
+    elim (c.in_err-head.ensures.refused honest) [ inl look ↦ of_look look | inr conflict ↦ of_conflict lines conflict ] in
+    told_on (BlamesMaking (g.F.Files.content c.args.files.now) c.args.extra.now w.author.now w.committer.now w.message.now) c.in_err-head.field-0.0 c.from_residual-in_err-head.result c.from_residual-in_err-head.ensures.1 blames
+
+pub returns-in_err-refuse_bad_parents-clause-refused : goal.returns-in_err-refuse_bad_parents-clause-refused
+returns-in_err-refuse_bad_parents-clause-refused g c = λ honest.
+    let w = c.args.words in
+    let content = g.F.Files.content in
+    let e = c.in_err-refuse_bad_parents.field-0.0 in
+    let lines : AreLines w.author.now w.committer.now = (c.in_ok-refuse_lines.ensures.author, c.in_ok-refuse_lines.ensures.committer) in
+    let first : content c.free_head.new.files ≡ content c.args.files.now = c.in_ok-head.ensures.same in
+    let told = subst (λ (m : FileMap). BlamesParents m c.args.extra.now e) first (c.in_err-refuse_bad_parents.ensures.refused honest) in
+    let blames : BlamesMaking (content c.args.files.now) c.args.extra.now w.author.now w.committer.now w.message.now e =
+    of_parents c.in_ok-head.head lines (c.in_ok-head.ensures.found honest) (c.in_ok-head.ensures.free honest) told in
+    told_on (BlamesMaking (g.F.Files.content c.args.files.now) c.args.extra.now w.author.now w.committer.now w.message.now) e c.from_residual-in_err-refuse_bad_parents.result c.from_residual-in_err-refuse_bad_parents.ensures.1 blames
+
+pub returns-in_err-parents-clause-refused : goal.returns-in_err-parents-clause-refused
+returns-in_err-parents-clause-refused g c = λ honest.
+    let w = c.args.words in
+    let content = g.F.Files.content in
+    let e = c.in_err-parents.field-0.0 in
+    let second : content c.refuse_bad_parents.new.files ≡ content c.args.files.now = c.in_ok-refuse_bad_parents.ensures.same ∙ c.in_ok-head.ensures.same in
+    let blames : BlamesMaking (content c.args.files.now) c.args.extra.now w.author.now w.committer.now w.message.now e = of_look (subst (λ (m : FileMap). BlamesLook m e) second (c.in_err-parents.ensures.refused honest)) in
+    search (rules, blames)
+
+pub returns-in_err-index-clause-refused : goal.returns-in_err-index-clause-refused
+returns-in_err-index-clause-refused g c = λ honest.
+    let w = c.args.words in
+    let content = g.F.Files.content in
+    let e = c.in_err-index.field-0.0 in
+    let third : content c.parents_with.new.files ≡ content c.args.files.now = c.in_ok-parents.ensures.same ∙ c.in_ok-refuse_bad_parents.ensures.same ∙ c.in_ok-head.ensures.same in
+    let blames : BlamesMaking (content c.args.files.now) c.args.extra.now w.author.now w.committer.now w.message.now e = of_index (subst (λ (m : FileMap). BlamesIndex m e) third (c.in_err-index.ensures.refused honest)) in
+    search (rules, blames)
+
+pub returns-in_err-write_objects-clause-refused : goal.returns-in_err-write_objects-clause-refused
+returns-in_err-write_objects-clause-refused g c = λ honest.
+    let w = c.args.words in
+    let content = g.F.Files.content in
+    let extra = c.args.extra.now in
+    let e = c.in_err-write_objects.field-0.0 in
+    let first : content c.free_head.new.files ≡ content c.args.files.now = c.in_ok-head.ensures.same in
+    let second : content c.refuse_bad_parents.new.files ≡ content c.args.files.now = c.in_ok-refuse_bad_parents.ensures.same ∙ first in
+    let third : content c.parents_with.new.files ≡ content c.args.files.now = c.in_ok-parents.ensures.same ∙ second in
+    let parents = c.deref.ensures.value ∙ c.in_ok-parents.ensures.parents honest ∙ ap (λ (m : FileMap). parents_of_commit m extra) second in
+    let may : MayCommit (content c.args.files.now) extra w.author.now w.committer.now = record {
+      lines = (c.in_ok-refuse_lines.ensures.author, c.in_ok-refuse_lines.ensures.committer);
+      head = c.in_ok-head.head;
+      head_is = c.in_ok-head.ensures.found honest;
+      free = c.in_ok-head.ensures.free honest;
+      parents = subst (λ (m : FileMap). AllByRecursion (IsGoodParent m) extra) first (c.in_ok-refuse_bad_parents.ensures.good honest);
+    } in
+    let spelled = subst (λ (m : FileMap). SpellsIndex m c.in_ok-index.index) third (c.in_ok-index.ensures.spelled honest) in
+    let blames : BlamesMaking (content c.args.files.now) extra w.author.now w.committer.now w.message.now e =
+    of_objects c.in_ok-index.index may spelled
+    (memory_blamed (Unit {0}) tt _ (content c.args.files.now) c.in_ok-index.index _ (parents_of_commit (content c.args.files.now) extra) w.author.now w.committer.now w.message.now c.new-memory.ensures parents e c.in_err-write_objects.ensures.refused) in
+    told_on (BlamesMaking (content c.args.files.now) c.args.extra.now w.author.now w.committer.now w.message.now) e c.from_residual-in_err-write_objects.result c.from_residual-in_err-write_objects.ensures.1 blames
+
+pub returns-in_err-id-clause-refused : goal.returns-in_err-id-clause-refused
+returns-in_err-id-clause-refused g c = λ honest.
+    let w = c.args.words in
+    let content = g.F.Files.content in
+    let extra = c.args.extra.now in
+    let e = c.in_err-id.field-0.0 in
+    let first : content c.free_head.new.files ≡ content c.args.files.now = c.in_ok-head.ensures.same in
+    let second : content c.refuse_bad_parents.new.files ≡ content c.args.files.now = c.in_ok-refuse_bad_parents.ensures.same ∙ first in
+    let third : content c.parents_with.new.files ≡ content c.args.files.now = c.in_ok-parents.ensures.same ∙ second in
+    let fourth : content c.read_index.new.files ≡ content c.args.files.now = c.in_ok-index.ensures.same ∙ third in
+    let parents = c.deref-2.ensures.value ∙ c.in_ok-parents.ensures.parents honest ∙ ap (λ (m : FileMap). parents_of_commit m extra) second in
+    let may : MayCommit (content c.args.files.now) extra w.author.now w.committer.now = record {
+      lines = (c.in_ok-refuse_lines.ensures.author, c.in_ok-refuse_lines.ensures.committer);
+      head = c.in_ok-head.head;
+      head_is = c.in_ok-head.ensures.found honest;
+      free = c.in_ok-head.ensures.free honest;
+      parents = subst (λ (m : FileMap). AllByRecursion (IsGoodParent m) extra) first (c.in_ok-refuse_bad_parents.ensures.good honest);
+    } in
+    let spelled = subst (λ (m : FileMap). SpellsIndex m c.in_ok-index.index) third (c.in_ok-index.ensures.spelled honest) in
+    let blames : BlamesMaking (content c.args.files.now) extra w.author.now w.committer.now w.message.now e =
+    of_objects c.in_ok-index.index may spelled
+    (files_blamed g.F.Files.honest honest _ (content c.args.files.now) c.in_ok-index.index _ (parents_of_commit (content c.args.files.now) extra) w.author.now w.committer.now w.message.now fourth parents e c.in_err-id.ensures.refused) in
+    told_on (BlamesMaking (content c.args.files.now) c.args.extra.now w.author.now w.committer.now w.message.now) e c.from_residual-in_err-id.result c.from_residual-in_err-id.ensures.1 blames
+
+pub returns-in_err-move_head-clause-refused : goal.returns-in_err-move_head-clause-refused
+returns-in_err-move_head-clause-refused g c = λ honest.
+    let w = c.args.words in
+    let content = g.F.Files.content in
+    let e = c.in_err-move_head.field-0.0 in
+    let fourth : content c.read_index.new.files ≡ content c.args.files.now = c.in_ok-index.ensures.same ∙ c.in_ok-parents.ensures.same ∙ c.in_ok-refuse_bad_parents.ensures.same ∙ c.in_ok-head.ensures.same in
+    let outside = subst (λ (m : FileMap). SameOutside (codes "objects/") m (content c.write_objects-2.new.files)) fourth (c.in_ok-id.ensures.outside honest) in
+    let blames : BlamesMaking (content c.args.files.now) c.args.extra.now w.author.now w.committer.now w.message.now e =
+    of_look (moving_blamed (content c.args.files.now) (content c.write_objects-2.new.files) outside c.in_ok-head.head (c.in_ok-head.ensures.free honest) e (c.in_err-move_head.ensures.refused honest)) in
+    told_on (BlamesMaking (content c.args.files.now) c.args.extra.now w.author.now w.committer.now w.message.now) e c.from_residual-in_err-move_head.result c.from_residual-in_err-move_head.ensures.1 blames
+
+-- ---- what it leaves
+
+pub returns-in_err-id-clause-left : goal.returns-in_err-id-clause-left
+returns-in_err-id-clause-left g c = λ honest.
+    let w = c.args.words in
+    let content = g.F.Files.content in
+    let extra = c.args.extra.now in
+    let first : content c.free_head.new.files ≡ content c.args.files.now = c.in_ok-head.ensures.same in
+    let second : content c.refuse_bad_parents.new.files ≡ content c.args.files.now = c.in_ok-refuse_bad_parents.ensures.same ∙ first in
+    let third : content c.parents_with.new.files ≡ content c.args.files.now = c.in_ok-parents.ensures.same ∙ second in
+    let fourth : content c.read_index.new.files ≡ content c.args.files.now = c.in_ok-index.ensures.same ∙ third in
+    let parents = c.deref.ensures.value ∙ c.in_ok-parents.ensures.parents honest ∙ ap (λ (m : FileMap). parents_of_commit m extra) second in
+    let made = c.in_ok-write_objects.ensures.written in
+    let cut : IsCut (content c.args.files.now) extra w.author.now w.committer.now w.message.now (content c.write_objects-2.new.files) = record {
+      may = record {
+        lines = (c.in_ok-refuse_lines.ensures.author, c.in_ok-refuse_lines.ensures.committer);
+        head = c.in_ok-head.head;
+        head_is = c.in_ok-head.ensures.found honest;
+        free = c.in_ok-head.ensures.free honest;
+        parents = subst (λ (m : FileMap). AllByRecursion (IsGoodParent m) extra) first (c.in_ok-refuse_bad_parents.ensures.good honest);
+      };
+      map = c.in_ok-index.index;
+      spelled = subst (λ (m : FileMap). SpellsIndex m c.in_ok-index.index) third (c.in_ok-index.ensures.spelled honest);
+      tree = made.tree;
+      root = root_of (made.trees tt);
+      legal = subst (λ (ps : List ObjectId). IsObject kinds.Commit (made_body made.tree ps w.author.now w.committer.now w.message.now)) parents made.legal;
+      after = objects (content c.write_objects-2.new.files);
+      some = inl (trees_there g.F.Files.honest c.in_ok-index.index _ _ _ honest (ap objects fourth) c.in_err-id.ensures.left);
+      is = stored_shown (content c.args.files.now) (content c.read_index.new.files) (content c.write_objects-2.new.files) fourth (c.in_err-id.ensures.outside honest);
+    } in
+    let left : LeftByCommit (content c.args.files.now) extra w.author.now w.committer.now w.message.now (content c.write_objects-2.new.files) = inr cut in
+    left_on _ c.in_err-id.field-0.0 c.from_residual-in_err-id.result c.from_residual-in_err-id.ensures.1 left
+
+pub returns-in_err-move_head-clause-left : goal.returns-in_err-move_head-clause-left
+returns-in_err-move_head-clause-left g c = λ honest.
+    let w = c.args.words in
+    let content = g.F.Files.content in
+    let extra = c.args.extra.now in
+    let first : content c.free_head.new.files ≡ content c.args.files.now = c.in_ok-head.ensures.same in
+    let second : content c.refuse_bad_parents.new.files ≡ content c.args.files.now = c.in_ok-refuse_bad_parents.ensures.same ∙ first in
+    let third : content c.parents_with.new.files ≡ content c.args.files.now = c.in_ok-parents.ensures.same ∙ second in
+    let fourth : content c.read_index.new.files ≡ content c.args.files.now = c.in_ok-index.ensures.same ∙ third in
+    let parents = c.deref-2.ensures.value ∙ c.in_ok-parents.ensures.parents honest ∙ ap (λ (m : FileMap). parents_of_commit m extra) second in
+    let made = writes_there g.F.Files.honest c.in_ok-index.index _ (parents_of_commit (content c.args.files.now) extra) w.author.now w.committer.now w.message.now _ (objects (content c.args.files.now)) _ c.in_ok-id.id honest parents (ap objects fourth) c.in_ok-id.ensures.written in
+    let cut : IsCut (content c.args.files.now) extra w.author.now w.committer.now w.message.now (content c.move_head.new.files) = record {
+      may = record {
+        lines = (c.in_ok-refuse_lines.ensures.author, c.in_ok-refuse_lines.ensures.committer);
+        head = c.in_ok-head.head;
+        head_is = c.in_ok-head.ensures.found honest;
+        free = c.in_ok-head.ensures.free honest;
+        parents = subst (λ (m : FileMap). AllByRecursion (IsGoodParent m) extra) first (c.in_ok-refuse_bad_parents.ensures.good honest);
+      };
+      map = c.in_ok-index.index;
+      spelled = subst (λ (m : FileMap). SpellsIndex m c.in_ok-index.index) third (c.in_ok-index.ensures.spelled honest);
+      tree = made.tree;
+      root = root_of (made.trees tt);
+      legal = made.legal;
+      after = objects (content c.write_objects-2.new.files);
+      some = inr (c.in_ok-id.id, made);
+      is = ap shown (c.in_err-move_head.ensures.err honest) ∙ stored_shown (content c.args.files.now) (content c.read_index.new.files) (content c.write_objects-2.new.files) fourth (c.in_ok-id.ensures.outside honest);
+    } in
+    let left : LeftByCommit (content c.args.files.now) extra w.author.now w.committer.now w.message.now (content c.move_head.new.files) = inr cut in
+    left_on _ c.in_err-move_head.field-0.0 c.from_residual-in_err-move_head.result c.from_residual-in_err-move_head.ensures.1 left

@@ -1,0 +1,33 @@
+use Rattle.std.proofs.Common.{rules, inr, ap, ◌∙◌}
+use Rattle.vc_store.specs.Store.{objects}
+use Rattle.vc_node.specs.Making.{BlamesObjects, StoresTrees}
+use Rattle.vc_node.specs.NodeFault.{of_index}
+use Rattle.vc_node.specs.declared.fault.NodeFault.TheVariants.{Store}
+use Rattle.vc_node.proofs.StoringLemmas.{root_of, written_still, tree_blamed, body_blamed}
+use Rattle.vc_node.proofs.commit.write_objects.Goals as goal
+
+pub returns-in_err-tree-clause-refused : goal.returns-in_err-tree-clause-refused
+returns-in_err-tree-clause-refused g c =
+    let content = g.F.Files.content in
+    let w = c.args.words in
+    let e = c.in_err-tree.field-0.0 in
+    let blames : BlamesObjects g.F.Files.honest (content c.args.files.now) c.args.index.now c.args.parents.now w.author.now w.committer.now w.message.now (of_index e) =
+    tree_blamed g.F.Files.honest (content c.args.files.now) (content c.write_tree.new.files) c.args.index.now c.args.parents.now w.author.now w.committer.now w.message.now c.in_err-tree.ensures.undamaged e c.in_err-tree.ensures.refused c.in_err-tree.ensures.place in
+    search (rules, blames)
+
+pub returns-in_err-id-clause-refused : goal.returns-in_err-id-clause-refused
+returns-in_err-id-clause-refused g c =
+    let content = g.F.Files.content in
+    let w = c.args.words in
+    let e = c.in_err-id.field-0.0 in
+    let blames : BlamesObjects g.F.Files.honest (content c.args.files.now) c.args.index.now c.args.parents.now w.author.now w.committer.now w.message.now (Store e) =
+    body_blamed g.F.Files.honest (content c.args.files.now) (content c.write_tree.new.files) c.args.index.now c.args.parents.now w.author.now w.committer.now w.message.now c.in_ok-tree.ensures.undamaged
+    c.in_ok-tree.tree (root_of c.in_ok-tree.ensures.written) c.deref.result.now (c.deref.ensures.value ∙ c.in_ok-body.ensures) e c.in_err-id.ensures.refused c.in_err-id.ensures.damaged in
+    search (rules, blames)
+
+pub returns-in_err-id-clause-left : goal.returns-in_err-id-clause-left
+returns-in_err-id-clause-left g c =
+    let content = g.F.Files.content in
+    let left : StoresTrees g.F.Files.honest c.args.index.now (objects (content c.args.files.now)) (objects (content c.put.new.files)) =
+    inr (c.in_ok-tree.tree, written_still g.F.Files.honest c.args.index.now (objects (content c.args.files.now)) (objects (content c.write_tree.new.files)) (objects (content c.put.new.files)) c.in_ok-tree.tree c.in_ok-tree.ensures.written (λ h. ap objects (c.in_err-id.ensures.err h))) in
+    search (rules, left)
