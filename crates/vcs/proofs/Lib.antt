@@ -1,2 +1,3 @@
 pub mod BodyLemmas
+pub mod CloneLemmas
 pub mod PieceLemmas

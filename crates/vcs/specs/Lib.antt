@@ -1,3 +1,4 @@
 pub mod Failure
 pub mod HashObject
 pub mod Shown
+pub mod CloneWords

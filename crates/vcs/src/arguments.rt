@@ -1,6 +1,7 @@
 //! The command line: its subcommands, and what a list of words asks for.
 
-ghost use Rattle.std.specs.Prelude.{◌≢◌};
+ghost use Rattle.std.specs.Prelude.{◌≡◌, ◌≢◌};
+ghost use Rattle.vcs.specs.CloneWords.{mode_of};
 
 use crate::clone::Words;
 use crate::failure::Failure;
@@ -91,7 +92,8 @@ pub enum FileMode {
 impl FileMode {
     /// The mode of an entry.
     pub fn mode(self) -> Mode
-        ensures { result ≢ Mode.Tree }
+        ensures value { result ≡ mode_of self }
+        ensures file { result ≢ Mode.Tree }
     {
         match self {
             FileMode::Plain => Mode::File,

@@ -1,6 +1,7 @@
 //! The subcommands that work on a clone's index, branches and HEAD: each is one call of a node, or two.
-ghost use Rattle.std.specs.Prelude.{◌≡◌, IfOk, true, nat_eq, codes};
+ghost use Rattle.std.specs.Prelude.{◌≡◌, IfOk, IfErr, true, nat_eq, codes};
 ghost use Rattle.std.specs.List.{starts_with};
+ghost use Rattle.vcs.specs.CloneWords.{IsOfBranch, branch_ref};
 
 use crate::arguments::FileMode;
 use crate::failure::Failure;
@@ -40,7 +41,9 @@ where
 
 /// The branch of this name, `refs/heads/` before it.
 pub fn branch_of(alloc: Global, name: &str) -> Result<RefName, Failure>
-    ensures { IfOk result (λ branch. starts_with nat_eq branch (codes "refs/heads/") ≡ true) }
+    ensures name { IfOk result (λ branch. branch ≡ branch_ref name.now) }
+    ensures refused { IfErr result (IsOfBranch name.now) }
+    ensures branch { IfOk result (λ branch. starts_with nat_eq branch (codes "refs/heads/") ≡ true) }
 {
     let text = format!(in alloc; "refs/heads/{name}")?;
     match RefName::new(alloc, text.as_str()) {

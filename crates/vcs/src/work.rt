@@ -1,6 +1,8 @@
 //! The subcommands that look at the work tree: `checkout` and `status`.
-ghost use Rattle.std.specs.Prelude.{IfOk};
+ghost use Rattle.std.specs.Prelude.{◌≡◌, IfOk};
 ghost use Rattle.vc_node.specs.Blames.{IsLocalHead};
+ghost use Rattle.vc_refs.specs.Refs.{refs};
+ghost use Rattle.vcs.specs.CloneWords.{head_of_checkout};
 
 use crate::clone::{branch_of, open_clone, open_work};
 use crate::failure::Failure;
@@ -10,7 +12,7 @@ use std::alloc::{AllocError, Global};
 use std::io::Write;
 use std::rt;
 use vc_checkout::{Change, IndexChange, WorkChange};
-use vc_files::FolderFiles;
+use vc_files::{Files, FolderFiles};
 use vc_object::{Kind, ObjectId};
 use vc_refs::{Head, Refs};
 use vc_repository::read_index;
@@ -34,15 +36,15 @@ where
 }
 
 // The HEAD that a checkout of the revision leaves: the branch of that name, else the commit.
-fn head_for<R>(
+fn head_for<F: Files>(
     alloc: Global,
-    files: &mut FolderFiles<R>,
+    files: &mut F,
     revision: &str,
     commit: ObjectId,
 ) -> Result<Head, Failure>
-where
-    R: rt::Files + AllocGlobal + Clone + Drop,
-    ensures { IfOk result IsLocalHead }
+    ensures value { F.honest → IfOk result (λ head. head ≡ head_of_checkout (refs (F.content files.old)) revision.now commit) }
+    ensures local { IfOk result IsLocalHead }
+    ensures same { F.content files.new ≡ F.content files.old }
 {
     let branch = match branch_of(alloc, revision) {
         Ok(branch) => branch,
