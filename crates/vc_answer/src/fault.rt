@@ -5,8 +5,8 @@ ghost use Rattle.vc_answer.specs.declared.fault.AnswerFault.TheVariants.{Fault};
 ghost use Rattle.vc_files.specs.declared.faults.Fault.TheVariants.{Memory};
 
 use std::alloc::AllocError;
+use std::error::Error;
 use std::fmt;
-use thiserror::Error;
 use vc_files::Fault;
 use vc_graph::GraphFault;
 use vc_object::ObjectId;
@@ -14,24 +14,33 @@ use vc_refs::RefFault;
 use vc_store::StoreFault;
 
 /// Why wants have no answer, or a pack is not taken.
-#[derive(Debug, Drop, PartialEq, Eq, Error)]
+#[derive(Debug, Drop)]
 pub enum AnswerFault {
     /// 90: no ref of the node reaches this wanted id.
-    #[error("90 NotOurs")]
     NotOurs(ObjectId),
     /// 92: this wanted id reaches one that neither the store nor the pack has.
-    #[error("92 Incomplete")]
     Incomplete(ObjectId),
     /// 33 or 34: the files of the refs or of HEAD.
-    #[error("{0}")]
     Refs(RefFault),
     /// 40 or 12: an object that is reached is absent, or its file is damaged.
-    #[error("{0}")]
     Graph(GraphFault),
     /// Want of memory, or a device that failed. It stands here alone, and in none of the variants above.
-    #[error("{0}")]
     Fault(Fault),
 }
+
+impl fmt::Display for AnswerFault {
+    fn fmt<W: fmt::Write>(&self, f: &mut fmt::Formatter<W>) -> fmt::Result {
+        match self {
+            AnswerFault::NotOurs(_) => f.write_str("90 NotOurs"),
+            AnswerFault::Incomplete(_) => f.write_str("92 Incomplete"),
+            AnswerFault::Refs(fault) => fmt::Display::fmt(fault, f),
+            AnswerFault::Graph(fault) => fmt::Display::fmt(fault, f),
+            AnswerFault::Fault(fault) => fmt::Display::fmt(fault, f),
+        }
+    }
+}
+
+impl Error for AnswerFault {}
 
 impl From<StoreFault> for AnswerFault {
     ghost from_gives = { λ fault e. e ≡ from_store fault };

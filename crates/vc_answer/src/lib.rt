@@ -10,8 +10,6 @@ mod fault;
 mod judge;
 mod pack_objects;
 mod reading;
-#[cfg(test)]
-mod tests;
 mod values;
 
 pub use answer::answer_want;

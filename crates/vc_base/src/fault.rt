@@ -5,24 +5,34 @@ ghost use Rattle.vc_files.specs.declared.faults.Fault.TheVariants.{Memory};
 ghost use Rattle.vc_store.specs.declared.faults.StoreFault.TheVariants.{Fault};
 
 use std::alloc::{AllocError, AllocFailed};
-use thiserror::Error;
+use std::error::Error;
+use std::fmt;
 use vc_files::Fault;
 use vc_object::ObjectId;
 use vc_store::StoreFault;
 
 /// Why a question about a history has no answer.
-#[derive(Clone, Copy, Debug, PartialEq, Eq, Error)]
+#[derive(Clone, Copy, Debug)]
 pub enum BaseFault {
     /// 40: a root, or a name that parent links lead to, is absent.
-    #[error("40 Missing")]
     Missing(ObjectId),
     /// 41: a root, or what parent links lead to, is an object of another kind.
-    #[error("41 NotACommit")]
     NotACommit(ObjectId),
     /// The layers below gave no answer: 12, or want of memory or a device.
-    #[error("{0}")]
     Store(StoreFault),
 }
+
+impl fmt::Display for BaseFault {
+    fn fmt<W: fmt::Write>(&self, f: &mut fmt::Formatter<W>) -> fmt::Result {
+        match self {
+            BaseFault::Missing(_) => f.write_str("40 Missing"),
+            BaseFault::NotACommit(_) => f.write_str("41 NotACommit"),
+            BaseFault::Store(fault) => fmt::Display::fmt(fault, f),
+        }
+    }
+}
+
+impl Error for BaseFault {}
 
 impl From<StoreFault> for BaseFault {
     ghost from_gives = { λ fault e. e ≡ Store fault };

@@ -8,8 +8,6 @@ mod fault;
 mod selection;
 mod source;
 mod store;
-#[cfg(test)]
-mod tests;
 mod walk;
 
 pub use ancestry::is_ancestor;

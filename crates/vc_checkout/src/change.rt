@@ -4,7 +4,7 @@ ghost use Rattle.vc_checkout.specs.Status.{IsIndexChange};
 use vc_index::IndexEntry;
 
 /// How what the index has at a path differs from what the tree has there.
-#[derive(Clone, Copy, Debug, PartialEq, Eq)]
+#[derive(Clone, Copy)]
 pub enum IndexChange {
     /// Both have the same, or neither has anything.
     Same,
@@ -17,7 +17,7 @@ pub enum IndexChange {
 }
 
 /// How the file at a path differs from what the index has there.
-#[derive(Clone, Copy, Debug, PartialEq, Eq)]
+#[derive(Clone, Copy)]
 pub enum WorkChange {
     /// The file has the content that the index has, or neither is there, or the index has a commit of another
     /// repository.
@@ -31,7 +31,7 @@ pub enum WorkChange {
 }
 
 /// A path at which something differs.
-#[derive(Debug, Drop)]
+#[derive(Drop)]
 pub struct Change {
     pub path: Vec<u8>,
     pub index: IndexChange,

@@ -11,7 +11,7 @@ use vc_index::IndexFault;
 use vc_store::StoreFault;
 
 /// Why a work tree was not changed, or not compared.
-#[derive(Debug, Drop)]
+#[derive(Drop)]
 pub enum CheckoutFault {
     /// 70: the file with this path was changed and not staged, and the change would be lost.
     LocalChange(Vec<u8>),

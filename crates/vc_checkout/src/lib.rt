@@ -6,8 +6,6 @@ mod change;
 mod clear;
 mod compare;
 mod faults;
-mod folder;
-mod ground;
 mod memory;
 mod paths;
 mod way;
@@ -17,9 +15,5 @@ pub use apply::checkout;
 pub use change::{Change, IndexChange, WorkChange};
 pub use compare::status;
 pub use faults::CheckoutFault;
-pub use folder::FolderTree;
 pub use memory::MemoryTree;
 pub use work::WorkTree;
-
-#[cfg(test)]
-mod tests;

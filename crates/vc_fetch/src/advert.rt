@@ -23,7 +23,7 @@ use vc_pkt::{
 const CAPABILITIES: &[u8] = b"\0report-status-v2";
 
 /// The message that tells the refs of a node.
-#[derive(Debug, Drop)]
+#[derive(Drop)]
 pub struct Advert {
     /// The value of HEAD, where it has one.
     pub head: Option<ObjectId>,
@@ -33,7 +33,7 @@ pub struct Advert {
 }
 
 /// Reads an advertisement line by line.
-#[derive(Debug, Drop)]
+#[derive(Drop)]
 pub struct AdvertReader {
     /// Every name so far, that of HEAD and those that are passed over among them.
     pub listed: BTreeMap<Vec<u8>, ObjectId>,

@@ -11,14 +11,14 @@ use std::alloc::{AllocError, Global};
 use vc_pkt::{Line, MessageReader, PktError, PktFault, Step, read_message, without_lf, write_text};
 
 /// The message that refuses.
-#[derive(Debug, Drop)]
+#[derive(Drop)]
 pub struct Error {
     /// Any bytes, at most 65,511 of them where it is written.
     pub text: Vec<u8>,
 }
 
 /// Reads an error message, which is one line.
-#[derive(Clone, Copy, Debug)]
+#[derive(Clone, Copy)]
 pub struct ErrorReader;
 
 impl MessageReader for ErrorReader {

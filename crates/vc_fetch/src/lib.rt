@@ -18,8 +18,3 @@ pub use laws::{
 pub use list::{List, ListReader};
 pub use pack::{Pack, PackReader};
 pub use want::{MAX_IDS, Want, WantReader};
-
-#[cfg(test)]
-mod advert_tests;
-#[cfg(test)]
-mod tests;

@@ -14,11 +14,11 @@ use vc_pkt::{
 };
 
 /// The message that asks for all refs. This project's own: git asks by connecting.
-#[derive(Clone, Copy, Debug, PartialEq, Eq)]
+#[derive(Clone, Copy)]
 pub struct List;
 
 /// Reads a list message line by line.
-#[derive(Clone, Copy, Debug)]
+#[derive(Clone, Copy)]
 pub struct ListReader {
     /// Whether the word has come.
     pub worded: bool,

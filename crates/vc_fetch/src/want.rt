@@ -21,7 +21,7 @@ use vc_pkt::{
 pub const MAX_IDS: usize = 256;
 
 /// The message that asks for objects.
-#[derive(Debug, Drop)]
+#[derive(Drop)]
 pub struct Want {
     /// At least one, at most 256.
     pub wants: Vec<ObjectId>,
@@ -30,7 +30,7 @@ pub struct Want {
 }
 
 /// Reads a want message line by line.
-#[derive(Debug, Drop)]
+#[derive(Drop)]
 pub enum WantReader {
     /// The flush has not come yet.
     Wanting(Vec<ObjectId>),

@@ -6,7 +6,7 @@ use std::alloc::Global;
 use std::marker::Model;
 
 /// What is left of a fuse.
-#[derive(Clone, Copy, Debug, PartialEq, Eq)]
+#[derive(Clone, Copy, PartialEq, Eq)]
 pub enum Fuse {
     /// Every call passes.
     Unset,

@@ -2,21 +2,31 @@
 ghost use Rattle.std.specs.Prelude.{◌≡◌};
 
 use std::alloc::AllocError;
-use thiserror::Error;
+use std::error::Error;
+use std::fmt;
 use vc_files::Fault;
 use vc_object::ObjectId;
 use vc_store::StoreFault;
 
 /// Why a question about a graph has no answer.
-#[derive(Clone, Copy, Debug, PartialEq, Eq, Error)]
+#[derive(Clone, Copy, Debug)]
 pub enum GraphFault {
     /// 40: a name that is reached from a root is absent.
-    #[error("40 Missing")]
     Missing(ObjectId),
     /// The store gave none.
-    #[error("{0}")]
     Store(StoreFault),
 }
+
+impl fmt::Display for GraphFault {
+    fn fmt<W: fmt::Write>(&self, f: &mut fmt::Formatter<W>) -> fmt::Result {
+        match self {
+            GraphFault::Missing(_) => f.write_str("40 Missing"),
+            GraphFault::Store(fault) => fmt::Display::fmt(fault, f),
+        }
+    }
+}
+
+impl Error for GraphFault {}
 
 impl From<StoreFault> for GraphFault {
     ghost use Rattle.vc_graph.specs.declared.fault.GraphFault.TheVariants.{Store};

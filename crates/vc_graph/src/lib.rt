@@ -5,13 +5,9 @@ mod fault;
 mod incomplete;
 mod names;
 mod overlay;
-#[cfg(test)]
-mod overlay_tests;
 mod reach;
 mod source;
 mod store;
-#[cfg(test)]
-mod tests;
 mod walk;
 
 pub use fault::GraphFault;

@@ -2,7 +2,7 @@
 use vc_object::{Mode, ObjectId};
 
 /// A file's mode, and the name of its content.
-#[derive(Clone, Copy, Debug, PartialEq, Eq)]
+#[derive(Clone, Copy, PartialEq, Eq)]
 pub struct IndexEntry {
     pub mode: Mode,
     pub id: ObjectId,

@@ -10,7 +10,7 @@ use vc_object::ObjectId;
 use vc_store::StoreFault;
 
 /// Why a call on an index gives no answer.
-#[derive(Debug, Drop)]
+#[derive(Drop)]
 pub enum IndexFault {
     /// 60: the path is empty, longer than 4,096 bytes, or has a part that may not stand in a tree.
     BadPath,

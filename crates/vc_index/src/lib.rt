@@ -14,6 +14,3 @@ pub use entry::IndexEntry;
 pub use faults::IndexFault;
 pub use index::Index;
 pub use path::MAX_PATH;
-
-#[cfg(test)]
-mod tests;

@@ -6,8 +6,8 @@ ghost use Rattle.vc_node.specs.declared.fault.NodeFault.TheVariants.{Store, Ref}
 ghost use Rattle.vc_node.specs.NodeFault.{is_fault, of_base, of_index};
 
 use std::alloc::{AllocError, AllocFailed};
+use std::error::Error;
 use std::fmt;
-use thiserror::Error;
 use vc_base::BaseFault;
 use vc_files::Fault;
 use vc_index::IndexFault;
@@ -16,37 +16,46 @@ use vc_refs::RefFault;
 use vc_store::StoreFault;
 
 /// What refuses a call of a node, by number, or the fault that ended it. After a fault the node is down.
-#[derive(Debug, Drop, Error)]
+#[derive(Debug, Drop)]
 pub enum NodeFault {
     /// 1 to 10: a body that is no object of its kind, 8 also for an author or committer of more than one line; 12: a
     /// damaged file of an object. Or a fault.
-    #[error("{0}")]
     Store(StoreFault),
     /// 32: a name that conflicts with a ref; 33 and 34: a file of refs or of HEAD that stands for none. Or a fault.
-    #[error("{0}")]
     Ref(RefFault),
     /// 40: the object with this name, or one that it reaches, is absent.
-    #[error("40 Missing")]
     Missing(ObjectId),
     /// 41: this object is no commit.
-    #[error("41 NotACommit")]
     NotACommit(ObjectId),
     /// 60: a path that may not stand in an index.
-    #[error("60 BadPath")]
     BadPath,
     /// 61: a path that is a folder of a file of the index, or the other way round.
-    #[error("61 PathConflict")]
     PathConflict,
     /// 62: the index file goes wrong at this byte.
-    #[error("62 BadIndex")]
     BadIndex(usize),
     /// 63: what a tree has at this path is of another kind than its mode says.
-    #[error("63 WrongEntry")]
     WrongEntry(Vec<u8>),
     /// 112: a fault came before, and the node was not opened again.
-    #[error("112 Down")]
     Down,
 }
+
+impl fmt::Display for NodeFault {
+    fn fmt<W: fmt::Write>(&self, f: &mut fmt::Formatter<W>) -> fmt::Result {
+        match self {
+            NodeFault::Store(fault) => fmt::Display::fmt(fault, f),
+            NodeFault::Ref(fault) => fmt::Display::fmt(fault, f),
+            NodeFault::Missing(_) => f.write_str("40 Missing"),
+            NodeFault::NotACommit(_) => f.write_str("41 NotACommit"),
+            NodeFault::BadPath => f.write_str("60 BadPath"),
+            NodeFault::PathConflict => f.write_str("61 PathConflict"),
+            NodeFault::BadIndex(_) => f.write_str("62 BadIndex"),
+            NodeFault::WrongEntry(_) => f.write_str("63 WrongEntry"),
+            NodeFault::Down => f.write_str("112 Down"),
+        }
+    }
+}
+
+impl Error for NodeFault {}
 
 impl NodeFault {
     /// Whether it is want of memory or a device that failed, and no refusal.

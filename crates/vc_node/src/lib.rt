@@ -26,6 +26,3 @@ pub fn trees_give_what_the_machine_asks()
     ensures named { IndexTreesAreNamed }
     ensures whole { IndexTreesAreClosed }
 {}
-
-#[cfg(test)]
-mod tests;

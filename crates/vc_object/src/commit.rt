@@ -11,7 +11,7 @@ use crate::id::ObjectId;
 use crate::lines::{id_line_at, line_at};
 
 /// A commit. Its texts are slices of its body, and live as long as that.
-#[derive(Clone, Copy, Debug)]
+#[derive(Clone, Copy)]
 pub struct Commit<'a> {
     pub tree: ObjectId,
     // The lines of the parents, and what follows them.
@@ -33,7 +33,7 @@ impl<'a> Commit<'a> {
 }
 
 /// The parents of a commit, in the order of their lines.
-#[derive(Clone, Copy, Debug)]
+#[derive(Clone, Copy)]
 pub struct Parents<'a> {
     pub(crate) rest: &'a [u8],
 }

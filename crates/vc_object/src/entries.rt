@@ -10,7 +10,7 @@ use crate::id::ObjectId;
 use crate::mode::Mode;
 
 /// An entry of a tree. Its name is a slice of the tree's body, and lives as long as that.
-#[derive(Clone, Copy, Debug)]
+#[derive(Clone, Copy)]
 pub struct TreeEntry<'a> {
     pub mode: Mode,
     pub name: &'a [u8],
@@ -18,7 +18,7 @@ pub struct TreeEntry<'a> {
 }
 
 /// The entries of a tree, in the order of its body. Reading them takes no memory.
-#[derive(Clone, Copy, Debug)]
+#[derive(Clone, Copy)]
 pub struct TreeEntries<'a> {
     pub(crate) rest: &'a [u8],
 }

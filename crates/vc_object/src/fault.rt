@@ -1,39 +1,56 @@
 //! Why bytes are no object.
 
-use thiserror::Error;
+use std::error::Error;
+use std::fmt;
 
 /// Why bytes are no object, or a body is none of its kind. Of several faults the first one from the left is given,
 /// in the order header, `TooLarge`, size, body. `fault as u16` is the number of the refusal.
-#[derive(Clone, Copy, Debug, PartialEq, Eq, Error)]
+#[derive(Clone, Copy, Debug)]
 pub enum ObjectFault {
     /// 1: no header begins like that.
-    #[error("1 BadHeader")]
     BadHeader = 1,
     /// 2: the body is longer than the size that the header states.
-    #[error("2 BadSize")]
     BadSize = 2,
     /// 3: the body, or the size that the header states, is over the limit.
-    #[error("3 TooLarge")]
     TooLarge = 3,
     /// 4: the mode of a tree's entry is none.
-    #[error("4 BadMode")]
     BadMode = 4,
     /// 5: the name of a tree's entry may not stand there.
-    #[error("5 BadName")]
     BadName = 5,
     /// 6: a tree's entry does not come behind the one before it.
-    #[error("6 NotSorted")]
     NotSorted = 6,
     /// 7: an earlier entry of the tree has the name, with whatever mode.
-    #[error("7 DuplicateName")]
     DuplicateName = 7,
     /// 8: the body is no commit's.
-    #[error("8 BadCommit")]
     BadCommit = 8,
     /// 9: the body is no tag's.
-    #[error("9 BadTag")]
     BadTag = 9,
     /// 10: the bytes are a beginning: of a header, of a body of the stated size, or of a tree's entry.
-    #[error("10 Cut")]
     Cut = 10,
 }
+
+impl ObjectFault {
+    // The number and the name, as they are printed.
+    fn text(self) -> &'static str {
+        match self {
+            ObjectFault::BadHeader => "1 BadHeader",
+            ObjectFault::BadSize => "2 BadSize",
+            ObjectFault::TooLarge => "3 TooLarge",
+            ObjectFault::BadMode => "4 BadMode",
+            ObjectFault::BadName => "5 BadName",
+            ObjectFault::NotSorted => "6 NotSorted",
+            ObjectFault::DuplicateName => "7 DuplicateName",
+            ObjectFault::BadCommit => "8 BadCommit",
+            ObjectFault::BadTag => "9 BadTag",
+            ObjectFault::Cut => "10 Cut",
+        }
+    }
+}
+
+impl fmt::Display for ObjectFault {
+    fn fmt<W: fmt::Write>(&self, f: &mut fmt::Formatter<W>) -> fmt::Result {
+        f.write_str(self.text())
+    }
+}
+
+impl Error for ObjectFault {}

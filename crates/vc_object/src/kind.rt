@@ -5,7 +5,7 @@ ghost use Rattle.vc_object.specs.Kind.{front, word};
 ghost use Rattle.vc_object.specs.CommitReading.{kind_of};
 
 /// What an object is. Its word begins the object's header (gitformat-loose: `<type> <size>`, NUL).
-#[derive(Clone, Copy, Debug, PartialEq, Eq)]
+#[derive(Clone, Copy, PartialEq, Eq)]
 pub enum Kind {
     Blob,
     Tree,

@@ -38,6 +38,3 @@ pub use name::name_of;
 pub use object::{Object, check, decode, encode};
 pub use tag::Tag;
 pub use views::{Tree, commit_of, tag_of, tree_of};
-
-#[cfg(test)]
-mod tests;

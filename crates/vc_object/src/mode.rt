@@ -5,7 +5,7 @@ ghost use Rattle.vc_object.specs.Tree.{mode_text, tail};
 ghost use Rattle.vc_object.specs.Entries.{mode_of};
 
 /// What an entry of a tree is (git-mktree, git-fast-import: the modes of entries). Other modes are refused.
-#[derive(Clone, Copy, Debug, PartialEq, Eq)]
+#[derive(Clone, Copy, PartialEq, Eq)]
 pub enum Mode {
     /// A folder, `40000`: its id is a tree's.
     Tree,

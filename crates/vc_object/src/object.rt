@@ -20,7 +20,7 @@ use std::alloc::{AllocError, Global};
 ///
 /// [`decode`] and [`check`] make one of bytes that may be anything. Whoever has it needs no test again: the type
 /// keeps the fact, and a literal elsewhere has to prove it.
-#[derive(Clone, Copy, Debug)]
+#[derive(Clone, Copy)]
 pub struct Object<'a> {
     pub kind: Kind,
     pub body: &'a [u8],

@@ -11,7 +11,7 @@ use crate::kind::Kind;
 use crate::lines::{id_line_at, line_at};
 
 /// An annotated tag. Its texts are slices of its body, and live as long as that.
-#[derive(Clone, Copy, Debug)]
+#[derive(Clone, Copy)]
 pub struct Tag<'a> {
     pub object: ObjectId,
     /// The kind that the tag states, which may not be that of the object.

@@ -16,7 +16,7 @@ use crate::object::Object;
 use crate::tag::{Tag, read_tag};
 
 /// A tree: a body that spells one.
-#[derive(Clone, Copy, Debug)]
+#[derive(Clone, Copy)]
 pub struct Tree<'a> {
     pub body: &'a [u8],
     pub ghost sound: { ∥ IsTreeBody body.now ∥₁ },

@@ -8,7 +8,7 @@ use std::collections::btree_map::Entry;
 use vc_object::{Kind, ObjectId, name_of};
 
 /// An object as a stream carries it. Its body need not be in the grammar of its kind.
-#[derive(Debug, Drop)]
+#[derive(Drop)]
 pub struct StreamObject {
     pub kind: Kind,
     /// At most 16,777,216 bytes.

@@ -33,8 +33,3 @@ pub use reader::PktReader;
 pub use text::without_lf;
 pub use whole::{OwnedLine, lines_of};
 pub use write::{write_flush, write_line, write_text};
-
-#[cfg(test)]
-mod stream_tests;
-#[cfg(test)]
-mod tests;

@@ -14,7 +14,7 @@ pub const MAX_DATA: usize = 65_516;
 /// A line of Git's protocol (pkt-line of gitprotocol-common): a flush, `0000`, or data behind four hex
 /// digits that write the length of the whole line. The data are lent from the bytes that were read; an
 /// empty data line, `0004`, is read and never written.
-#[derive(Clone, Copy, Debug)]
+#[derive(Clone, Copy)]
 pub enum Line<'a> {
     Flush,
     Data(&'a [u8]),

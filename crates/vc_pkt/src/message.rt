@@ -12,7 +12,7 @@ use crate::line::{Line, parse_line};
 use std::alloc::Global;
 
 /// What a line does to a message that is being read.
-#[derive(Debug, Drop)]
+#[derive(Drop)]
 pub enum Step<R, M> {
     /// More lines are to come, for this reader.
     More(R),

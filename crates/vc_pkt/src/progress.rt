@@ -15,7 +15,7 @@ use std::alloc::Global;
 use vc_object::{Kind, MAX_BODY};
 
 /// An object of which some bytes were read, fewer than its size.
-#[derive(Debug, Drop)]
+#[derive(Drop)]
 pub struct Part {
     /// The number of the line that began it.
     pub first: u64,
@@ -25,14 +25,14 @@ pub struct Part {
 }
 
 /// Where a stream stands.
-#[derive(Debug, Drop)]
+#[derive(Drop)]
 pub enum StreamProgress {
     Between,
     Inside(Part),
 }
 
 /// What a line of a stream does.
-#[derive(Debug, Drop)]
+#[derive(Drop)]
 pub enum ObjectStep {
     More(StreamProgress),
     /// An object is full; the number is that of the line that began it.

@@ -15,7 +15,7 @@ use crate::reader::PktReader;
 use std::alloc::{AllocError, Global};
 
 /// A line with data of its own.
-#[derive(Debug, Drop)]
+#[derive(Drop)]
 pub enum OwnedLine {
     Flush,
     Data(Vec<u8>),

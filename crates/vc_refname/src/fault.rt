@@ -1,52 +1,78 @@
 //! The rules that a text may break, by their numbers.
 
-use thiserror::Error;
+use std::error::Error;
+use std::fmt;
 
 /// The rule that a text breaks. The first rule that is broken is told, by number.
-#[derive(Clone, Copy, Debug, PartialEq, Eq, Error)]
+#[derive(Clone, Copy, Debug)]
 pub enum NameFault {
     /// 20: the whole text is `@`.
-    #[error("20 SingleAt")]
     SingleAt,
     /// 21: there is no `/`.
-    #[error("21 NoSlash")]
     NoSlash,
     /// 22: a component, which is what stands between slashes, begins with `.`.
-    #[error("22 DotBegin")]
     DotBegin,
     /// 23: a component ends with `.lock`.
-    #[error("23 LockEnd")]
     LockEnd,
     /// 24: two dots stand side by side.
-    #[error("24 TwoDots")]
     TwoDots,
     /// 25: it holds a control byte, DEL, a space, or one of `~` `^` `:` `?` `*` `[` `\`.
-    #[error("25 BadByte")]
     BadByte,
     /// 26: it holds `@{`.
-    #[error("26 AtBrace")]
     AtBrace,
     /// 27: it begins or ends with `/`.
-    #[error("27 EdgeSlash")]
     EdgeSlash,
     /// 28: two slashes stand side by side.
-    #[error("28 TwoSlashes")]
     TwoSlashes,
     /// 29: it ends with `.`.
-    #[error("29 FinalDot")]
     FinalDot,
     /// 30: it has more than 255 bytes. Git has no such rule.
-    #[error("30 TooLong")]
     TooLong,
 }
 
+impl NameFault {
+    // The number and the name, as they are printed.
+    fn text(self) -> &'static str {
+        match self {
+            NameFault::SingleAt => "20 SingleAt",
+            NameFault::NoSlash => "21 NoSlash",
+            NameFault::DotBegin => "22 DotBegin",
+            NameFault::LockEnd => "23 LockEnd",
+            NameFault::TwoDots => "24 TwoDots",
+            NameFault::BadByte => "25 BadByte",
+            NameFault::AtBrace => "26 AtBrace",
+            NameFault::EdgeSlash => "27 EdgeSlash",
+            NameFault::TwoSlashes => "28 TwoSlashes",
+            NameFault::FinalDot => "29 FinalDot",
+            NameFault::TooLong => "30 TooLong",
+        }
+    }
+}
+
+impl fmt::Display for NameFault {
+    fn fmt<W: fmt::Write>(&self, f: &mut fmt::Formatter<W>) -> fmt::Result {
+        f.write_str(self.text())
+    }
+}
+
+impl Error for NameFault {}
+
 /// Why no name was made.
-#[derive(Clone, Copy, Debug, PartialEq, Eq, Error)]
+#[derive(Clone, Copy, Debug)]
 pub enum NewNameError {
     /// The text is no name.
-    #[error("{0}")]
     Refused(NameFault),
     /// A growth was refused.
-    #[error("memory")]
     Memory,
 }
+
+impl fmt::Display for NewNameError {
+    fn fmt<W: fmt::Write>(&self, f: &mut fmt::Formatter<W>) -> fmt::Result {
+        match self {
+            NewNameError::Refused(fault) => fmt::Display::fmt(fault, f),
+            NewNameError::Memory => f.write_str("memory"),
+        }
+    }
+}
+
+impl Error for NewNameError {}

@@ -12,6 +12,3 @@ mod traits;
 
 pub use fault::{NameFault, NewNameError};
 pub use name::RefName;
-
-#[cfg(test)]
-mod tests;

@@ -4,32 +4,41 @@ ghost use Rattle.vc_files.specs.declared.faults.Fault.TheVariants.{Memory};
 ghost use Rattle.vc_refs.specs.declared.faults.RefFault.TheVariants.{Fault};
 
 use std::alloc::{AllocError, AllocFailed};
+use std::error::Error;
 use std::fmt;
-use thiserror::Error;
 use vc_files::Fault;
 use vc_object::ObjectId;
 use vc_refname::RefName;
 
 /// What refuses a call on refs, by number, or the fault that ended it.
-#[derive(Debug, Drop, PartialEq, Eq, Error)]
+#[derive(Debug, Drop)]
 pub enum RefFault {
     /// 31: the ref has this value, and not the expected one; none where it isn't there.
-    #[error("31 Stale")]
     Stale(Option<ObjectId>),
     /// 32: this ref is there, and one of the two names is a folder of the other. It is the first such ref by the
     /// bytes of its name.
-    #[error("32 Conflict")]
     Conflict(RefName),
     /// 33: the file at this path stands for no ref, or, at `HEAD`, for no HEAD.
-    #[error("33 BadRefFile")]
     BadRefFile(String),
     /// 34: HEAD names HEAD.
-    #[error("34 HeadLoop")]
     HeadLoop,
     /// Want of memory, or a device that failed.
-    #[error("{0}")]
     Fault(Fault),
 }
+
+impl fmt::Display for RefFault {
+    fn fmt<W: fmt::Write>(&self, f: &mut fmt::Formatter<W>) -> fmt::Result {
+        match self {
+            RefFault::Stale(_) => f.write_str("31 Stale"),
+            RefFault::Conflict(_) => f.write_str("32 Conflict"),
+            RefFault::BadRefFile(_) => f.write_str("33 BadRefFile"),
+            RefFault::HeadLoop => f.write_str("34 HeadLoop"),
+            RefFault::Fault(fault) => fmt::Display::fmt(fault, f),
+        }
+    }
+}
+
+impl Error for RefFault {}
 
 impl From<Fault> for RefFault {
     ghost from_gives = { λ fault e. e ≡ Fault fault };

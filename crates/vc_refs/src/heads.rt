@@ -3,7 +3,7 @@ use vc_object::ObjectId;
 use vc_refname::RefName;
 
 /// The branch that is checked out, or an id where none is (a detached HEAD).
-#[derive(Debug, Drop, PartialEq, Eq)]
+#[derive(Drop)]
 pub enum Head {
     /// The ref with this name, which need not be there yet.
     Branch(RefName),

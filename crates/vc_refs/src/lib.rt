@@ -26,6 +26,3 @@ pub use removing::remove;
 pub use setting::set;
 pub use view::Refs;
 pub use way::refuse_conflict;
-
-#[cfg(test)]
-mod tests;

@@ -7,6 +7,3 @@ mod index;
 
 pub use files::FileRepository;
 pub use index::read_index;
-
-#[cfg(test)]
-mod tests;

@@ -4,18 +4,28 @@ ghost use Rattle.std.specs.Prelude.{◌≡◌};
 ghost use Rattle.vc_rev.specs.declared.fault.ParseFault.TheVariants.{Memory};
 
 use std::alloc::{AllocError, AllocFailed};
-use thiserror::Error;
+use std::error::Error;
+use std::fmt;
 
 /// Why a text was not read.
-#[derive(Clone, Copy, Debug, PartialEq, Eq, Error)]
+#[derive(Clone, Copy, Debug)]
 pub enum ParseFault {
     /// 50: the text goes wrong at this byte, counted from 0.
-    #[error("50 BadSyntax")]
     BadSyntax(usize),
     /// A growth was refused.
-    #[error("memory")]
     Memory,
 }
+
+impl fmt::Display for ParseFault {
+    fn fmt<W: fmt::Write>(&self, f: &mut fmt::Formatter<W>) -> fmt::Result {
+        match self {
+            ParseFault::BadSyntax(_) => f.write_str("50 BadSyntax"),
+            ParseFault::Memory => f.write_str("memory"),
+        }
+    }
+}
+
+impl Error for ParseFault {}
 
 impl From<AllocError> for ParseFault {
     ghost from_gives = { λ _ e. e ≡ Memory };

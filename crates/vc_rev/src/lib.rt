@@ -27,6 +27,3 @@ pub use selected::resolve_set;
 pub use set::parse_set;
 pub use token::{BaseToken, Ends, Expr, PathToken, Rev, SetExpr, Step, StepToken, Term};
 pub use value::resolve;
-
-#[cfg(test)]
-mod tests;

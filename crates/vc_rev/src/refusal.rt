@@ -8,67 +8,102 @@ ghost use Rattle.vc_store.specs.declared.faults.StoreFault.TheVariants.{Fault};
 ghost use Rattle.vc_files.specs.declared.faults.Fault.TheVariants.{Memory};
 
 use std::alloc::{AllocError, AllocFailed};
-use thiserror::Error;
+use std::error::Error;
+use std::fmt;
 use vc_base::BaseFault;
 use vc_object::ObjectId;
 use vc_store::StoreFault;
 
 /// Why an expression has no value, though the repository answered.
-#[derive(Clone, Copy, Debug, PartialEq, Eq, Error)]
+#[derive(Clone, Copy, Debug)]
 pub enum Refusal {
     /// 51: the name names nothing, or an object that must be read is absent.
-    #[error("51 Unknown")]
     Unknown,
     /// 52: several stored objects have names that begin with these digits.
-    #[error("52 Ambiguous")]
     Ambiguous,
     /// 53: fewer than four digits name no object.
-    #[error("53 TooShort")]
     TooShort,
     /// 54: the commit has no such parent.
-    #[error("54 NoSuchParent")]
     NoSuchParent,
     /// 55: the object is of another kind, or tags lead back to themselves.
-    #[error("55 WrongKind")]
     WrongKind,
     /// 56: nothing stands at the path.
-    #[error("56 NoSuchPath")]
     NoSuchPath,
 }
 
+impl Refusal {
+    // The number and the name, as they are printed.
+    fn text(self) -> &'static str {
+        match self {
+            Refusal::Unknown => "51 Unknown",
+            Refusal::Ambiguous => "52 Ambiguous",
+            Refusal::TooShort => "53 TooShort",
+            Refusal::NoSuchParent => "54 NoSuchParent",
+            Refusal::WrongKind => "55 WrongKind",
+            Refusal::NoSuchPath => "56 NoSuchPath",
+        }
+    }
+}
+
+impl fmt::Display for Refusal {
+    fn fmt<W: fmt::Write>(&self, f: &mut fmt::Formatter<W>) -> fmt::Result {
+        f.write_str(self.text())
+    }
+}
+
+impl Error for Refusal {}
+
 /// Why a repository gave no answer.
-#[derive(Debug, Drop, Error)]
+#[derive(Debug, Drop)]
 pub enum SourceFault {
     /// 12, or a fault of memory or device.
-    #[error("{0}")]
     Store(StoreFault),
     /// 33: a file of refs with this path is in none of its forms.
-    #[error("33 BadRefFile")]
     BadRefFile(String),
     /// 34: HEAD names HEAD.
-    #[error("34 HeadLoop")]
     HeadLoop,
     /// 62: the index goes wrong at this byte.
-    #[error("62 BadIndex")]
     BadIndex(usize),
 }
 
+impl fmt::Display for SourceFault {
+    fn fmt<W: fmt::Write>(&self, f: &mut fmt::Formatter<W>) -> fmt::Result {
+        match self {
+            SourceFault::Store(fault) => fmt::Display::fmt(fault, f),
+            SourceFault::BadRefFile(_) => f.write_str("33 BadRefFile"),
+            SourceFault::HeadLoop => f.write_str("34 HeadLoop"),
+            SourceFault::BadIndex(_) => f.write_str("62 BadIndex"),
+        }
+    }
+}
+
+impl Error for SourceFault {}
+
 /// Why an expression or a set has no value.
-#[derive(Debug, Drop, Error)]
+#[derive(Debug, Drop)]
 pub enum RevFault {
     /// 51 to 56.
-    #[error("{0}")]
     Refused(Refusal),
     /// 40: the walk of a set met a name that is absent.
-    #[error("40 Missing")]
     Missing(ObjectId),
     /// 41: the walk of a set met an object that is no commit.
-    #[error("41 NotACommit")]
     NotACommit(ObjectId),
     /// The repository gave no answer, or memory ran out.
-    #[error("{0}")]
     Source(SourceFault),
 }
+
+impl fmt::Display for RevFault {
+    fn fmt<W: fmt::Write>(&self, f: &mut fmt::Formatter<W>) -> fmt::Result {
+        match self {
+            RevFault::Refused(fault) => fmt::Display::fmt(fault, f),
+            RevFault::Missing(_) => f.write_str("40 Missing"),
+            RevFault::NotACommit(_) => f.write_str("41 NotACommit"),
+            RevFault::Source(fault) => fmt::Display::fmt(fault, f),
+        }
+    }
+}
+
+impl Error for RevFault {}
 
 impl From<Refusal> for RevFault {
     ghost from_gives = { λ refusal e. e ≡ Refused refusal };

@@ -9,7 +9,7 @@ use vc_object::ObjectId;
 
 /// Commits that are included with their ancestors, commits that are excluded with theirs, and pairs of commits whose
 /// common ancestors are excluded.
-#[derive(Debug, Drop)]
+#[derive(Drop)]
 pub(crate) struct Roots {
     pub(crate) include: Vec<ObjectId>,
     pub(crate) exclude: Vec<ObjectId>,

@@ -23,7 +23,7 @@ use vc_object::ObjectId;
 use vc_store::StoreFault;
 
 /// How a term takes a commit.
-#[derive(Clone, Copy, Debug)]
+#[derive(Clone, Copy)]
 pub(crate) enum Use {
     Included,
     Excluded,

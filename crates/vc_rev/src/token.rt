@@ -3,7 +3,7 @@
 use vc_object::Kind;
 
 /// A step from an object to another.
-#[derive(Clone, Copy, Debug, PartialEq, Eq)]
+#[derive(Clone, Copy)]
 pub enum Step {
     /// `^n`, and `^` for `^1`.
     Parent(u32),
@@ -16,14 +16,14 @@ pub enum Step {
 }
 
 /// Where an expression starts: `@`, or a name.
-#[derive(Clone, Copy, Debug)]
+#[derive(Clone, Copy)]
 pub struct BaseToken<'a> {
     pub start: usize,
     pub text: &'a [u8],
 }
 
 /// A step as it is written.
-#[derive(Clone, Copy, Debug)]
+#[derive(Clone, Copy)]
 pub struct StepToken<'a> {
     pub step: Step,
     pub start: usize,
@@ -31,21 +31,21 @@ pub struct StepToken<'a> {
 }
 
 /// The path behind a colon.
-#[derive(Clone, Copy, Debug)]
+#[derive(Clone, Copy)]
 pub struct PathToken<'a> {
     pub start: usize,
     pub text: &'a [u8],
 }
 
 /// A base, and the steps from it.
-#[derive(Debug, Drop)]
+#[derive(Drop)]
 pub struct Rev<'a> {
     pub base: BaseToken<'a>,
     pub steps: Vec<StepToken<'a>>,
 }
 
 /// A revision expression.
-#[derive(Debug, Drop)]
+#[derive(Drop)]
 pub enum Expr<'a> {
     /// What the steps lead to.
     Object(Rev<'a>),
@@ -56,7 +56,7 @@ pub enum Expr<'a> {
 }
 
 /// The ends of a range. One that is left out is HEAD.
-#[derive(Debug, Drop)]
+#[derive(Drop)]
 pub enum Ends<'a> {
     Both(Rev<'a>, Rev<'a>),
     From(Rev<'a>),
@@ -64,7 +64,7 @@ pub enum Ends<'a> {
 }
 
 /// A term of a set.
-#[derive(Debug, Drop)]
+#[derive(Drop)]
 pub enum Term<'a> {
     /// `r`
     Include(Rev<'a>),
@@ -85,7 +85,7 @@ pub enum Term<'a> {
 }
 
 /// A set of commits, by its terms.
-#[derive(Debug, Drop)]
+#[derive(Drop)]
 pub struct SetExpr<'a> {
     pub terms: Vec<Term<'a>>,
 }

@@ -4,26 +4,36 @@ ghost use Rattle.vc_files.specs.declared.faults.Fault.TheVariants.{Memory};
 ghost use Rattle.vc_store.specs.declared.faults.StoreFault.TheVariants.{BadObject, Fault};
 
 use std::alloc::{AllocError, AllocFailed};
-use thiserror::Error;
+use std::error::Error;
+use std::fmt;
 use vc_files::Fault;
 use vc_object::{ObjectFault, ObjectId};
 
 /// Why a store gives no answer.
-#[derive(Clone, Copy, Debug, PartialEq, Eq, Error)]
+#[derive(Clone, Copy, Debug)]
 pub enum StoreFault {
     /// 1 to 10: the body is too large, or out of its kind's grammar.
-    #[error("{0}")]
     BadObject(ObjectFault),
     /// 11: there is no object with the name.
-    #[error("11 Absent")]
     Absent(ObjectId),
     /// 12: the file is no object with the name.
-    #[error("12 Damaged")]
     Damaged(ObjectId),
     /// Want of memory, or a device that failed.
-    #[error("{0}")]
     Fault(Fault),
 }
+
+impl fmt::Display for StoreFault {
+    fn fmt<W: fmt::Write>(&self, f: &mut fmt::Formatter<W>) -> fmt::Result {
+        match self {
+            StoreFault::BadObject(fault) => fmt::Display::fmt(fault, f),
+            StoreFault::Absent(_) => f.write_str("11 Absent"),
+            StoreFault::Damaged(_) => f.write_str("12 Damaged"),
+            StoreFault::Fault(fault) => fmt::Display::fmt(fault, f),
+        }
+    }
+}
+
+impl Error for StoreFault {}
 
 impl From<ObjectFault> for StoreFault {
     ghost from_gives = { λ fault e. e ≡ BadObject fault };

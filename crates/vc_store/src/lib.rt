@@ -18,6 +18,3 @@ pub use reading::{find, get, has};
 pub use stored::Stored;
 pub use view::Store;
 pub use writing::{put, put_all};
-
-#[cfg(test)]
-mod tests;

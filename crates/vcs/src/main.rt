@@ -1,30 +1,10 @@
 //! The program `vcs`: Git's object model in a folder, one subcommand a run.
 #![tactic(auto)]
 
-mod arguments;
-mod cat_file;
-mod clone;
-mod failure;
-mod hash_object;
-mod init;
-mod input;
-mod merge_base;
-mod output;
-mod pieces;
-mod repository;
-mod rev_list;
-mod rev_parse;
-mod run;
-mod show_ref;
-#[cfg(test)]
-mod tests;
-mod work;
-
-use crate::failure::Failure;
-use crate::input::{Input, known_length};
 use std::io::ErrorKind;
 use std::process::ExitCode;
 use std::{env, fs};
+use vc_commands::{Failure, Input, known_length, run};
 
 fn main(rt: HostRuntime) -> ExitCode {
     let mut faults = rt.stderr();
@@ -33,7 +13,7 @@ fn main(rt: HostRuntime) -> ExitCode {
         length: length_of_input(&rt),
     };
     ExitCode::from(match words(&rt) {
-        Ok(words) => run::run(&rt, &words, input, &mut rt.stdout(), &mut faults),
+        Ok(words) => run(&rt, &words, input, &mut rt.stdout(), &mut faults),
         Err(failure) => failure.report(&mut faults),
     })
 }

@@ -1,0 +1,48 @@
+-- What a failure of a command means for its exit status.
+use Rattle.std.specs.Prelude.{ℕ, ⊤, if◌then◌else◌}
+use Rattle.vc_base.specs.declared.fault.BaseFault.TheVariants.{Store as BaseStore}
+use Rattle.vc_refs.specs.declared.faults.RefFault.TheVariants.{Fault as RefFaulted}
+use Rattle.vc_rev.specs.declared.fault.ParseFault.TheVariants.{Memory}
+use Rattle.vc_rev.specs.declared.refusal.RevFault.{RevFault}
+use Rattle.vc_rev.specs.declared.refusal.RevFault.TheVariants.{Source}
+use Rattle.vc_rev.specs.declared.refusal.SourceFault.{SourceFault}
+use Rattle.vc_rev.specs.declared.refusal.SourceFault.TheVariants as sources
+use Rattle.vc_store.specs.declared.faults.StoreFault.{StoreFault}
+use Rattle.vc_store.specs.declared.faults.StoreFault.TheVariants.{Fault as StoreFaulted}
+use Rattle.vc_node.specs.NodeFault.{is_fault}
+use Rattle.vc_node.specs.declared.fault.NodeFault.{NodeFault}
+use Rattle.vc_commands.specs.declared.failure.Failure.{Failure}
+use Rattle.vc_commands.specs.declared.failure.Failure.TheVariants.{Store, Base, Refs, Usage, Fault, Syntax, Revision, Node}
+
+-- want of memory, or a device that failed
+abbrev pub IsFault : Failure → Type 0
+IsFault (Fault fault) = ⊤
+IsFault _ = ⊥
+
+-- a fault of memory or device is 3, and every refusal 1
+abbrev pub store_status : StoreFault → ℕ
+store_status (StoreFaulted fault) = 3
+store_status _ = 1
+
+abbrev pub source_status : SourceFault → ℕ
+source_status (sources.Store fault) = store_status fault
+source_status _ = 1
+
+abbrev pub revision_status : RevFault → ℕ
+revision_status (Source fault) = source_status fault
+revision_status _ = 1
+
+abbrev pub node_status : NodeFault → ℕ
+node_status fault = if is_fault fault then 3 else 1
+
+-- 2 where the command line is off, 3 at a fault, and 1 where the command was refused
+abbrev pub status_of : Failure → ℕ
+status_of (Usage text) = 2
+status_of (Fault fault) = 3
+status_of (Syntax Memory) = 3
+status_of (Revision fault) = revision_status fault
+status_of (Node fault) = node_status fault
+status_of (Store (StoreFaulted fault)) = 3
+status_of (Base (BaseStore (StoreFaulted fault))) = 3
+status_of (Refs (RefFaulted fault)) = 3
+status_of _ = 1

@@ -1,0 +1,477 @@
+//! The command line: its subcommands, and what a list of words asks for.
+
+ghost use Rattle.std.specs.Prelude.{◌≡◌, ◌≢◌};
+ghost use Rattle.vc_commands.specs.CloneWords.{mode_of};
+
+use crate::clone::Words;
+use crate::failure::Failure;
+use clap::{Arg, ArgAction, ArgMatches, Command};
+use std::alloc::{AllocError, Global};
+use vc_object::{Kind, Mode};
+
+const KINDS: [&str; 4] = ["blob", "tree", "commit", "tag"];
+
+const MODES: [&str; 3] = ["100644", "100755", "120000"];
+
+const PARTS: [&str; 3] = ["type", "size", "body"];
+
+/// What one run is to do, and on which store.
+#[derive(Clone, Copy)]
+pub struct Request<'a> {
+    /// The folder of the store.
+    pub store: &'a str,
+    pub task: Task<'a>,
+}
+
+/// A subcommand and its words.
+#[derive(Clone, Copy)]
+pub enum Task<'a> {
+    Init,
+    HashObject {
+        kind: Kind,
+        /// Whether the object is stored, too.
+        write: bool,
+        /// The file with the body; none: standard input.
+        file: Option<&'a str>,
+    },
+    CatFile {
+        part: Part,
+        revision: &'a str,
+    },
+    ShowRef,
+    MergeBase {
+        first: &'a str,
+        second: &'a str,
+    },
+    RevParse {
+        revision: &'a str,
+    },
+    /// Its terms are told by [`terms_of`].
+    RevList,
+    Local(LocalTask<'a>),
+}
+
+/// A subcommand of a clone: of its index, branches, HEAD and work tree.
+#[derive(Clone, Copy)]
+pub enum LocalTask<'a> {
+    Add {
+        mode: FileMode,
+        work: &'a str,
+        path: &'a str,
+    },
+    Unstage {
+        path: &'a str,
+    },
+    WriteTree,
+    /// Its extra parents are told by [`parents_of`].
+    Commit(Words<'a>),
+    Branch {
+        name: &'a str,
+        revision: &'a str,
+    },
+    BranchDelete {
+        name: &'a str,
+    },
+    Checkout {
+        work: &'a str,
+        revision: &'a str,
+    },
+    Status {
+        work: &'a str,
+    },
+}
+
+/// How a file of the work tree stands in the index.
+#[derive(Clone, Copy)]
+pub enum FileMode {
+    Plain,
+    Executable,
+    Link,
+}
+
+impl FileMode {
+    /// The mode of an entry.
+    pub fn mode(self) -> Mode
+        ensures value { result ≡ mode_of self }
+        ensures file { result ≢ Mode.Tree }
+    {
+        match self {
+            FileMode::Plain => Mode::File,
+            FileMode::Executable => Mode::Executable,
+            FileMode::Link => Mode::Link,
+        }
+    }
+}
+
+/// Which part of an object is shown.
+#[derive(Clone, Copy)]
+pub enum Part {
+    Kind,
+    Size,
+    Body,
+}
+
+/// The whole command line.
+pub fn command<'a>(alloc: Global) -> Result<Command<'a>, AllocError> {
+    Command::new(alloc, "vcs")
+        .version("0.1.0")
+        .about("A version control core with Git's object model: nothing that was committed is lost")
+        .subcommand_required(true)
+        .arg_required_else_help(true)
+        .subcommand(init(alloc)?)?
+        .subcommand(hash_object(alloc)?)?
+        .subcommand(cat_file(alloc)?)?
+        .subcommand(show_ref(alloc)?)?
+        .subcommand(merge_base(alloc)?)?
+        .subcommand(rev_parse(alloc)?)?
+        .subcommand(rev_list(alloc)?)?
+        .subcommand(add(alloc)?)?
+        .subcommand(unstage(alloc)?)?
+        .subcommand(write_tree(alloc)?)?
+        .subcommand(commit(alloc)?)?
+        .subcommand(branch(alloc)?)?
+        .subcommand(branch_delete(alloc)?)?
+        .subcommand(checkout(alloc)?)?
+        .subcommand(status(alloc)?)
+}
+
+fn store<'a>(alloc: Global) -> Arg<'a> {
+    Arg::new(alloc, "store")
+        .long("store")
+        .value_name("folder")
+        .default_value(".git")
+        .help("The folder of the store")
+}
+
+fn init<'a>(alloc: Global) -> Result<Command<'a>, AllocError> {
+    Command::new(alloc, "init")
+        .about("Make a store whose HEAD is refs/heads/main; one that is there stays as it is")
+        .after_help("Example: vcs init --store .vcs")
+        .arg(store(alloc))
+}
+
+fn hash_object<'a>(alloc: Global) -> Result<Command<'a>, AllocError> {
+    Command::new(alloc, "hash-object")
+        .about("Print the name of an object, and store it with --write")
+        .after_help("Example: printf 'Hello World\\n' | vcs hash-object")
+        .arg(store(alloc))?
+        .arg(
+            Arg::new(alloc, "kind")
+                .long("kind")
+                .value_name("kind")
+                .value_parser(KINDS.as_slice())
+                .default_value("blob")
+                .help("The kind of the object"),
+        )?
+        .arg(
+            Arg::new(alloc, "write")
+                .long("write")
+                .short('w')
+                .action(ArgAction::SetTrue)
+                .help("Store the object, too"),
+        )?
+        .arg(
+            Arg::new(alloc, "file").value_name("file").help(
+                "The file with the body, by the current folder [default: standard input]",
+            ),
+        )
+}
+
+fn cat_file<'a>(alloc: Global) -> Result<Command<'a>, AllocError> {
+    Command::new(alloc, "cat-file")
+        .about("Print an object's kind, its size in bytes, or its body as it is")
+        .after_help("Example: vcs cat-file --show size 557db03de997c86a4a028e1ebd3a1ceb225be238")
+        .arg(store(alloc))?
+        .arg(
+            Arg::new(alloc, "show")
+                .long("show")
+                .value_name("part")
+                .value_parser(PARTS.as_slice())
+                .default_value("body")
+                .help("What to print"),
+        )?
+        .arg(
+            Arg::new(alloc, "rev").value_name("rev").required(true).help(
+                "The object: a revision, as main~2:src/lib.rs or its name in 40 hex digits",
+            ),
+        )
+}
+
+fn show_ref<'a>(alloc: Global) -> Result<Command<'a>, AllocError> {
+    Command::new(alloc, "show-ref")
+        .about("Print the refs by name, each with its id before it")
+        .after_help("Example: vcs show-ref --store .vcs")
+        .arg(store(alloc))
+}
+
+fn merge_base<'a>(alloc: Global) -> Result<Command<'a>, AllocError> {
+    Command::new(alloc, "merge-base")
+        .about(
+            "Print the best common ancestors of two commits; there may be several, or none (status 1)",
+        )
+        .after_help(
+            "Example: vcs merge-base 1cd19b32dbb05a1e6b1ad3a4d0ed7bbf4ec3df2d 61780798228d17af2d34fce4cfbdf35556832472",
+        )
+        .arg(store(alloc))?
+        .arg(revision(alloc, "first", "rev"))?
+        .arg(revision(alloc, "second", "other"))
+}
+
+fn revision<'a>(alloc: Global, id: &'a str, name: &'a str) -> Arg<'a> {
+    Arg::new(alloc, id).value_name(name).required(true).help(
+        "A commit: a revision, as main~2 or its name in 40 hex digits",
+    )
+}
+
+fn rev_parse<'a>(alloc: Global) -> Result<Command<'a>, AllocError> {
+    Command::new(alloc, "rev-parse")
+        .about("Print the name of the object that a revision names")
+        .after_help("Example: vcs rev-parse main~2^{tree}")
+        .arg(store(alloc))?
+        .arg(
+            Arg::new(alloc, "rev").value_name("rev").required(true).help(
+                "A revision: a ref, HEAD, an id or its beginning, with steps and a path",
+            ),
+        )
+}
+
+fn rev_list<'a>(alloc: Global) -> Result<Command<'a>, AllocError> {
+    Command::new(alloc, "rev-list")
+        .about("Print the commits that the terms select, sorted by name, one a line")
+        .after_help("Example: vcs rev-list main ^topic, or vcs rev-list topic..main")
+        .arg(store(alloc))?
+        .arg(
+            Arg::new(alloc, "term")
+                .value_name("term")
+                .required(true)
+                .num_args(1..)
+                .help("A term: r, ^r, a..b, a...b, r^@, r^! or r^-n, with revisions r, a and b"),
+        )
+}
+
+fn work<'a>(alloc: Global) -> Arg<'a> {
+    Arg::new(alloc, "work")
+        .long("work")
+        .value_name("folder")
+        .default_value(".")
+        .help("The folder of the work tree")
+}
+
+fn word<'a>(alloc: Global, id: &'a str, help: &'a str) -> Arg<'a> {
+    Arg::new(alloc, id).value_name(id).required(true).help(help)
+}
+
+fn said<'a>(alloc: Global, id: &'a str, help: &'a str) -> Arg<'a> {
+    Arg::new(alloc, id)
+        .long(id)
+        .value_name("text")
+        .required(true)
+        .help(help)
+}
+
+fn add<'a>(alloc: Global) -> Result<Command<'a>, AllocError> {
+    Command::new(alloc, "add")
+        .about("Put a file of the work tree into the index")
+        .after_help("Example: vcs add src/lib.rs")
+        .arg(store(alloc))?
+        .arg(work(alloc))?
+        .arg(
+            Arg::new(alloc, "mode")
+                .long("mode")
+                .value_name("mode")
+                .value_parser(MODES.as_slice())
+                .default_value("100644")
+                .help("A file, a file that may be run, or a link whose text the file holds"),
+        )?
+        .arg(word(
+            alloc,
+            "path",
+            "The file's path, from the work tree's folder",
+        ))
+}
+
+fn unstage<'a>(alloc: Global) -> Result<Command<'a>, AllocError> {
+    Command::new(alloc, "unstage")
+        .about("Take a path out of the index; the file in the work tree stays")
+        .after_help("Example: vcs unstage src/lib.rs")
+        .arg(store(alloc))?
+        .arg(word(alloc, "path", "The path in the index"))
+}
+
+fn write_tree<'a>(alloc: Global) -> Result<Command<'a>, AllocError> {
+    Command::new(alloc, "write-tree")
+        .about("Store the index as trees, and print the root's name")
+        .after_help("Example: vcs write-tree")
+        .arg(store(alloc))
+}
+
+fn commit<'a>(alloc: Global) -> Result<Command<'a>, AllocError> {
+    Command::new(alloc, "commit")
+        .about("Commit the index on HEAD's branch, and print the commit's name")
+        .after_help(
+            "Example: vcs commit --author 'A <a@x> 0 +0000' --committer 'A <a@x> 0 +0000' --message first",
+        )
+        .arg(store(alloc))?
+        .arg(said(
+            alloc,
+            "author",
+            "Who wrote it: name, address in <>, seconds and zone",
+        ))?
+        .arg(said(alloc, "committer", "Who commits it, in the same form"))?
+        .arg(said(alloc, "message", "What the commit says"))?
+        .arg(
+            Arg::new(alloc, "parent")
+                .value_name("rev")
+                .num_args(0..)
+                .help("Extra parents, behind HEAD's commit"),
+        )
+}
+
+fn branch<'a>(alloc: Global) -> Result<Command<'a>, AllocError> {
+    Command::new(alloc, "branch")
+        .about("Set a branch to a commit, whatever it was")
+        .after_help("Example: vcs branch topic main~2")
+        .arg(store(alloc))?
+        .arg(word(alloc, "name", "The branch, without refs/heads/"))?
+        .arg(revision(alloc, "rev", "rev"))
+}
+
+fn branch_delete<'a>(alloc: Global) -> Result<Command<'a>, AllocError> {
+    Command::new(alloc, "branch-delete")
+        .about("Remove a branch; its commits stay")
+        .after_help("Example: vcs branch-delete topic")
+        .arg(store(alloc))?
+        .arg(word(alloc, "name", "The branch, without refs/heads/"))
+}
+
+fn checkout<'a>(alloc: Global) -> Result<Command<'a>, AllocError> {
+    Command::new(alloc, "checkout")
+        .about("Bring work tree, index and HEAD to a commit; nothing that isn't stored is lost")
+        .after_help("Example: vcs checkout main")
+        .arg(store(alloc))?
+        .arg(work(alloc))?
+        .arg(revision(alloc, "rev", "rev"))
+}
+
+fn status<'a>(alloc: Global) -> Result<Command<'a>, AllocError> {
+    Command::new(alloc, "status")
+        .about("Print how HEAD's tree, the index and the work tree differ")
+        .after_help("Example: vcs status")
+        .arg(store(alloc))?
+        .arg(work(alloc))
+}
+
+/// The extra parents of a commit among the matches.
+pub fn parents_of<'a>(alloc: Global, matches: &ArgMatches<'a>) -> Result<Vec<&'a str>, AllocError> {
+    let mut parents = Vec::new(alloc);
+    let Some((_, words)) = matches.subcommand() else {
+        return Ok(parents);
+    };
+    if let Some(revisions) = words.get_strs("parent") {
+        parents.extend_from_slice(revisions)?;
+    }
+    Ok(parents)
+}
+
+fn mode_named(text: &str) -> Option<FileMode> {
+    match text {
+        "100644" => Some(FileMode::Plain),
+        "100755" => Some(FileMode::Executable),
+        "120000" => Some(FileMode::Link),
+        _ => None,
+    }
+}
+
+/// The terms of a set among the matches, with a space between two; without any, nothing.
+pub fn terms_of(alloc: Global, matches: &ArgMatches<'_>) -> Result<String, AllocError> {
+    let mut text = String::new(alloc);
+    let Some((_, words)) = matches.subcommand() else {
+        return Ok(text);
+    };
+    let Some(terms) = words.get_strs("term") else {
+        return Ok(text);
+    };
+    for (place, term) in terms.iter().enumerate() {
+        if place > 0 {
+            text.push(' ')?;
+        }
+        text.push_str(term)?;
+    }
+    Ok(text)
+}
+
+/// What the matches ask for, or none where they hold no subcommand of this program.
+pub fn request_of<'a>(matches: &ArgMatches<'a>) -> Option<Request<'a>> {
+    let (name, words) = matches.subcommand()?;
+    let task = match name {
+        "init" => Task::Init,
+        "hash-object" => Task::HashObject {
+            kind: Kind::from_word(words.get_str("kind")?.as_bytes())?,
+            write: words.get_flag("write"),
+            file: words.get_str("file"),
+        },
+        "cat-file" => Task::CatFile {
+            part: part_named(words.get_str("show")?)?,
+            revision: words.get_str("rev")?,
+        },
+        "show-ref" => Task::ShowRef,
+        "merge-base" => Task::MergeBase {
+            first: words.get_str("first")?,
+            second: words.get_str("second")?,
+        },
+        "rev-parse" => Task::RevParse {
+            revision: words.get_str("rev")?,
+        },
+        "rev-list" => Task::RevList,
+        _ => Task::Local(local_task_of(name, words)?),
+    };
+    Some(Request {
+        store: words.get_str("store")?,
+        task,
+    })
+}
+
+// The subcommand of a clone that the name and its words ask for, if it is one.
+fn local_task_of<'a>(name: &str, words: &ArgMatches<'a>) -> Option<LocalTask<'a>> {
+    let task = match name {
+        "add" => LocalTask::Add {
+            mode: mode_named(words.get_str("mode")?)?,
+            work: words.get_str("work")?,
+            path: words.get_str("path")?,
+        },
+        "unstage" => LocalTask::Unstage {
+            path: words.get_str("path")?,
+        },
+        "write-tree" => LocalTask::WriteTree,
+        "commit" => LocalTask::Commit(Words {
+            author: words.get_str("author")?,
+            committer: words.get_str("committer")?,
+            message: words.get_str("message")?,
+        }),
+        "branch" => LocalTask::Branch {
+            name: words.get_str("name")?,
+            revision: words.get_str("rev")?,
+        },
+        "branch-delete" => LocalTask::BranchDelete {
+            name: words.get_str("name")?,
+        },
+        "checkout" => LocalTask::Checkout {
+            work: words.get_str("work")?,
+            revision: words.get_str("rev")?,
+        },
+        "status" => LocalTask::Status {
+            work: words.get_str("work")?,
+        },
+        _ => return None,
+    };
+    Some(task)
+}
+
+fn part_named(word: &str) -> Option<Part> {
+    match word {
+        "type" => Some(Part::Kind),
+        "size" => Some(Part::Size),
+        "body" => Some(Part::Body),
+        _ => None,
+    }
+}

@@ -1,0 +1,23 @@
+//! The commands of the program `vcs`: a run is some words and streams, and gives an exit status.
+#![tactic(auto)]
+
+mod arguments;
+mod cat_file;
+mod clone;
+mod failure;
+mod hash_object;
+mod init;
+mod input;
+mod merge_base;
+mod output;
+mod pieces;
+mod program;
+mod repository;
+mod rev_list;
+mod rev_parse;
+mod show_ref;
+mod work;
+
+pub use failure::Failure;
+pub use input::{Input, known_length};
+pub use program::run;

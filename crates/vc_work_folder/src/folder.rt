@@ -1,0 +1,117 @@
+// A work tree in a real folder. Nothing is claimed of a disk.
+ghost use Rattle.std.specs.Prelude.{◌≡◌, ◌≤◌, IsErrOf};
+ghost use Rattle.vc_files.specs.Failures.{HasFailed};
+
+use crate::ground::Ground;
+use std::alloc::Global;
+use std::io::{self, ErrorKind};
+use std::marker::Model;
+use std::rt;
+use vc_checkout::WorkTree;
+use vc_files::Fault;
+
+/// The work tree in a folder.
+///
+/// An entry `.git` at the top, in any ASCII case, is passed over: it isn't listed, nothing is read there, and a write
+/// there is a fault. What has a name that isn't UTF-8 isn't listed, and neither is what is no file, link or folder.
+///
+/// No link in the work tree is followed. A link that somebody placed there by hand is a file whose content is the
+/// text of the link: it is listed and read so, a write in its place puts a file there and leaves what it leads to
+/// alone, and a write below it is a fault. The folder's own path may lead through links.
+///
+/// A file is written in its place after what stood there was removed, as Git does it, so a write that fails may leave
+/// none, or a part. Nothing is made durable.
+#[derive(Drop)]
+pub struct FolderTree<R: rt::Files + AllocGlobal + Clone + Drop> {
+    ground: Ground<R>,
+    failed: u64,
+}
+
+impl<R: rt::Files + AllocGlobal + Clone + Drop> Model for FolderTree<R> {
+    ghost use Rattle.std.specs.Prelude.{ℕ};
+
+    ghost Value = { ℕ };
+
+    ghost view = { λ s. s.failed };
+}
+
+impl<R: rt::Files + AllocGlobal + Clone + Drop> FolderTree<R> {
+    /// The work tree in the folder with this path.
+    pub fn new(rt: R, path: String) -> Self
+        ensures { result ≡ 0 }
+    {
+        FolderTree {
+            ground: Ground { rt, path },
+            failed: 0,
+        }
+    }
+
+    // Counts what the device failed to do.
+    fn settle<T: Drop>(&mut self, done: io::Result<T>) -> Result<T, Fault>
+        ensures later { self.old ≤ self.new }
+        ensures device { IsErrOf result Fault.Device → HasFailed self.old self.new }
+    {
+        match done {
+            Ok(value) => Ok(value),
+            Err(e) => Err(self.fault(e)),
+        }
+    }
+
+    fn fault(&mut self, e: io::Error) -> Fault
+        ensures later { self.old ≤ self.new }
+        ensures device { result ≡ Fault.Device → HasFailed self.old self.new }
+    {
+        if e.kind() == ErrorKind::OutOfMemory {
+            return Fault::Memory;
+        }
+        self.failed = self.failed.saturating_add(1);
+        Fault::Device
+    }
+}
+
+impl<R: rt::Files + AllocGlobal + Clone + Drop> WorkTree for FolderTree<R> {
+    ghost use Rattle.std.specs.Prelude.{⊤};
+    ghost use Rattle.std.specs.FinMap as files;
+
+    ghost honest = { ⊥ };
+
+    ghost content = { λ _. files.empty };
+
+    ghost failed = { λ s. s };
+
+    ghost can_fail = { λ _. ⊤ };
+
+    fn read(&mut self, alloc: Global, path: &str) -> Result<Option<Vec<u8>>, Fault> {
+        let done = self.ground.read(alloc, path);
+        self.settle(done)
+    }
+
+    fn write(&mut self, alloc: Global, path: &str, bytes: &[u8]) -> Result<(), Fault> {
+        let done = self.ground.write(alloc, path, bytes);
+        self.settle(done)
+    }
+
+    fn remove(&mut self, alloc: Global, path: &str) -> Result<(), Fault> {
+        let done = self.ground.remove(alloc, path);
+        self.settle(done)
+    }
+
+    fn make_folder(&mut self, alloc: Global, path: &str) -> Result<(), Fault> {
+        let done = self.ground.make_folder(alloc, path);
+        self.settle(done)
+    }
+
+    fn remove_folder(&mut self, alloc: Global, path: &str) -> Result<bool, Fault> {
+        let done = self.ground.remove_folder(alloc, path);
+        self.settle(done)
+    }
+
+    fn list(&mut self, alloc: Global) -> Result<Vec<String>, Fault> {
+        let done = self.ground.list(alloc);
+        self.settle(done)
+    }
+
+    fn failures(&self) -> u64 {
+        self.failed
+    }
+}

@@ -1,0 +1,7 @@
+//! The work tree in a real folder. Nothing is claimed of a disk: that it is a map of paths to bytes is tested.
+#![tactic(auto)]
+
+mod folder;
+mod ground;
+
+pub use folder::FolderTree;
