@@ -1,0 +1,116 @@
+//! Rows about a node: files that rows set up, the answer to a want, and the judgement of a pack.
+
+use crate::messages::object_of;
+use crate::spelling::{ids_of, push_bytes, push_id, spelled};
+use std::alloc::{AllocError, Global};
+use std::fmt::Write;
+use vc_answer::{AnswerFault, answer_want, judge_pack};
+use vc_fetch::{Pack, Want};
+use vc_files::{Files, MemoryFiles};
+use vc_graph::GraphFault;
+use vc_object::ObjectId;
+use vc_store::Store;
+
+/// From here on there are no files.
+pub fn empty(out: &mut String, alloc: Global, files: &mut MemoryFiles) -> Result<(), AllocError> {
+    *files = MemoryFiles::new(alloc);
+    out.push_str("ok")
+}
+
+/// Stores an object, `kind:body`. The answer is its name.
+pub fn put(
+    out: &mut String,
+    alloc: Global,
+    files: &mut MemoryFiles,
+    text: &str,
+) -> Result<(), AllocError> {
+    let object = object_of(alloc, text)?;
+    match Store::new(alloc, files).put(object.kind, &object.body) {
+        Ok(id) => push_id(out, id),
+        Err(fault) => write!(out, "{fault}"),
+    }
+}
+
+/// Stores a file, a path and bytes.
+pub fn file(
+    out: &mut String,
+    alloc: Global,
+    files: &mut MemoryFiles,
+    text: &str,
+) -> Result<(), AllocError> {
+    let (path, bytes) = text.split_once(' ').unwrap_or((text, ""));
+    let bytes = spelled(alloc, bytes)?;
+    match files.put(alloc, path, &bytes) {
+        Ok(()) => out.push_str("ok"),
+        Err(fault) => write!(out, "{fault}"),
+    }
+}
+
+// The object that a refusal names.
+fn blamed(fault: &AnswerFault) -> Option<ObjectId> {
+    match fault {
+        AnswerFault::NotOurs(id) => Some(*id),
+        AnswerFault::Incomplete(id) => Some(*id),
+        AnswerFault::Graph(GraphFault::Missing(id)) => Some(*id),
+        _ => None,
+    }
+}
+
+fn push_refusal(out: &mut String, fault: &AnswerFault) -> Result<(), AllocError> {
+    write!(out, "{fault}")?;
+    if let Some(id) = blamed(fault) {
+        out.push(' ')?;
+        push_id(out, id)?;
+    }
+    Ok(())
+}
+
+fn push_pack(out: &mut String, alloc: Global, pack: &Pack) -> Result<(), AllocError> {
+    let bytes = pack.write(alloc)?;
+    push_bytes(out, &bytes, " ")
+}
+
+/// The pack that answers wants and haves, as it is written.
+pub fn answer(
+    out: &mut String,
+    alloc: Global,
+    files: &mut MemoryFiles,
+    text: &str,
+) -> Result<(), AllocError> {
+    let (wants, haves) = text.split_once(' ').unwrap_or((text, "-"));
+    let wants = ids_of(alloc, wants)?;
+    let haves = ids_of(alloc, haves)?;
+    match answer_want(alloc, files, &Want { wants, haves }) {
+        Ok(pack) => push_pack(out, alloc, &pack),
+        Err(fault) => push_refusal(out, &fault),
+    }
+}
+
+fn push_verdict(
+    out: &mut String,
+    alloc: Global,
+    files: &mut MemoryFiles,
+    wants: &[ObjectId],
+    pack: &Pack,
+) -> Result<(), AllocError> {
+    match judge_pack(alloc, files, wants, pack) {
+        Ok(()) => out.push_str("ok"),
+        Err(fault) => push_refusal(out, &fault),
+    }
+}
+
+/// Whether the files and the pack together have all that the wants reach.
+pub fn judge(
+    out: &mut String,
+    alloc: Global,
+    files: &mut MemoryFiles,
+    text: &str,
+) -> Result<(), AllocError> {
+    let (wants, pack) = text.split_once(' ').unwrap_or((text, ""));
+    let wants = ids_of(alloc, wants)?;
+    let pack = spelled(alloc, pack)?;
+    match Pack::read(alloc, &pack) {
+        Ok(pack) => push_verdict(out, alloc, files, &wants, &pack),
+        Err(fault) => write!(out, "{fault}"),
+    }
+}

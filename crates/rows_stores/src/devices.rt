@@ -1,0 +1,107 @@
+//! What rows act on: files of each kind, or a table of links. Several may be open, and each row is for all of them.
+use crate::answers::{Answer, done, joined, word, yes_or_no};
+use crate::file_rows;
+use crate::ids::two;
+use crate::tables::Drawn;
+use std::alloc::Global;
+use std::mem;
+use vc_files::{FailOnce, FusedFiles, MemoryFiles};
+use vc_folder::FolderFiles;
+
+#[derive(Drop)]
+pub enum Device {
+    Memory(MemoryFiles),
+    Folder(FolderFiles<HostRuntime>),
+    Fails(FailOnce<MemoryFiles>),
+    Fused(FusedFiles<MemoryFiles>),
+    Table(Drawn),
+}
+
+/// Lets go what was open, and opens what the text names, parted by `, `.
+pub fn open_all(rt: &HostRuntime, devices: &mut Vec<Device>, text: &str) -> Answer {
+    devices.clear();
+    for part in text.split(", ") {
+        devices.push(open(rt, part)?)?;
+    }
+    done(rt.alloc())
+}
+
+fn open(rt: &HostRuntime, text: &str) -> anyhow::Result<Device> {
+    let (kind, rest) = two(text);
+    let alloc = rt.alloc();
+    Ok(match kind {
+        "memory" => Device::Memory(MemoryFiles::new(alloc)),
+        "folder" => Device::Folder(FolderFiles::new(rt.clone()?, String::from_str(alloc, rest)?)),
+        "fails" => Device::Fails(FailOnce::new(MemoryFiles::new(alloc), rest.parse()?)),
+        "fused" => Device::Fused(fused(alloc, rest)?),
+        "table" => Device::Table(Drawn::new(alloc, rest)?),
+        _ => anyhow::bail!("no such files"),
+    })
+}
+
+// Files with a fuse that is set where the text has a number.
+fn fused(alloc: Global, text: &str) -> anyhow::Result<FusedFiles<MemoryFiles>> {
+    let mut files = FusedFiles::new(MemoryFiles::new(alloc));
+    if !text.is_empty() {
+        files.stop_after(text.parse()?);
+    }
+    Ok(files)
+}
+
+/// The answers of all that is open, of which one is printed where all are the same.
+pub fn obey_all(alloc: Global, devices: &mut Vec<Device>, verb: &str, rest: &str) -> Answer {
+    let mut answers: Vec<String> = Vec::new(alloc);
+    let mut differ = false;
+    for device in devices.iter_mut() {
+        let answer = match obey(alloc, device, verb, rest) {
+            Ok(answer) => answer,
+            Err(error) => format!(in alloc; "{error}")?,
+        };
+        differ |= answers.first().is_some_and(|first| *first != answer);
+        answers.push(answer)?;
+    }
+    if !differ {
+        answers.truncate(1);
+    }
+    joined(alloc, &answers, " | ")
+}
+
+fn obey(alloc: Global, device: &mut Device, verb: &str, rest: &str) -> Answer {
+    if verb == "restart" {
+        return restart(alloc, device);
+    }
+    match device {
+        Device::Memory(files) => file_rows::obey(files, alloc, verb, rest),
+        Device::Folder(files) => match verb {
+            "sync" => {
+                files.sync(alloc)?;
+                done(alloc)
+            }
+            _ => file_rows::obey(files, alloc, verb, rest),
+        },
+        Device::Fails(files) => match verb {
+            "tripped" => yes_or_no(alloc, files.has_failed()),
+            _ => file_rows::obey(files, alloc, verb, rest),
+        },
+        Device::Fused(files) => match verb {
+            "tripped" => yes_or_no(alloc, files.is_blown()),
+            "fuse" => {
+                files.stop_after(rest.parse()?);
+                done(alloc)
+            }
+            _ => file_rows::obey(files, alloc, verb, rest),
+        },
+        Device::Table(drawn) => drawn.obey(verb, rest),
+    }
+}
+
+// The files as a restart finds them, without what made them fail.
+fn restart(alloc: Global, device: &mut Device) -> Answer {
+    let old = mem::replace(device, Device::Memory(MemoryFiles::new(alloc)));
+    *device = match old {
+        Device::Fails(files) => Device::Memory(files.into_inner()),
+        Device::Fused(files) => Device::Memory(files.into_inner()),
+        other => other,
+    };
+    word(alloc, "done")
+}

@@ -1,0 +1,76 @@
+//! Rows on what objects reach, and on ancestry.
+use crate::answers::{Answer, id_or_none, listed, yes_or_no};
+use crate::ids::{Shown, ids_of};
+use anyhow::bail;
+use std::alloc::Global;
+use vc_base::{BaseFault, Commits, commits, common_ancestors, is_ancestor, merge_bases};
+use vc_graph::{GraphFault, Objects, closure, difference, first_incomplete, is_complete};
+use vc_object::ObjectId;
+
+// The ids of a row, and behind the word `without` those that are excluded.
+#[derive(Drop)]
+pub struct Sides {
+    include: Vec<ObjectId>,
+    exclude: Vec<ObjectId>,
+}
+
+impl Sides {
+    pub fn new(alloc: Global, text: &str) -> anyhow::Result<Sides> {
+        let (include, exclude) = text.split_once("without ").unwrap_or((text, ""));
+        Ok(Sides {
+            include: ids_of(alloc, include)?,
+            exclude: ids_of(alloc, exclude)?,
+        })
+    }
+
+    // The id at a place, or zeros.
+    fn at(&self, place: usize) -> ObjectId {
+        self.include.get(place).copied().unwrap_or(ObjectId::ZERO)
+    }
+}
+
+pub fn obey_commits<C: Commits>(source: &mut C, alloc: Global, verb: &str, rest: &str) -> Answer {
+    let sides = Sides::new(alloc, rest)?;
+    let (a, b) = (sides.at(0), sides.at(1));
+    let found = match verb {
+        "ancestor" => return yes_or_no(alloc, told_base(is_ancestor(alloc, source, &a, &b))?),
+        "bases" => merge_bases(alloc, source, &a, &b),
+        "common" => common_ancestors(alloc, source, &a, &b),
+        "commits" => commits(alloc, source, &sides.include, &sides.exclude),
+        _ => return obey(source, alloc, verb, &sides),
+    };
+    listed(alloc, &told_base(found)?)
+}
+
+pub fn obey<O: Objects>(source: &mut O, alloc: Global, verb: &str, sides: &Sides) -> Answer {
+    let found = match verb {
+        "closure" => closure(alloc, source, &sides.include),
+        "difference" => difference(alloc, source, &sides.include, &sides.exclude),
+        "complete" => return yes_or_no(alloc, is_complete(alloc, source, &sides.at(0))?),
+        "incomplete" => {
+            return id_or_none(alloc, first_incomplete(alloc, source, &sides.include)?);
+        }
+        _ => bail!("no such verb"),
+    };
+    listed(alloc, &told(found)?)
+}
+
+fn told<T>(answer: Result<T, GraphFault>) -> anyhow::Result<T> {
+    match answer {
+        Ok(value) => Ok(value),
+        Err(fault) => match fault {
+            GraphFault::Missing(id) => bail!("{fault} {}", Shown(id)),
+            GraphFault::Store(_) => bail!("{fault}"),
+        },
+    }
+}
+
+fn told_base<T>(answer: Result<T, BaseFault>) -> anyhow::Result<T> {
+    match answer {
+        Ok(value) => Ok(value),
+        Err(fault) => match fault {
+            BaseFault::Missing(id) | BaseFault::NotACommit(id) => bail!("{fault} {}", Shown(id)),
+            BaseFault::Store(_) => bail!("{fault}"),
+        },
+    }
+}

@@ -1,0 +1,177 @@
+//! Rows about a work tree: its files and folders, checkouts and what differs.
+use crate::bench::Bench;
+use crate::ground::Ground;
+use crate::index::given;
+use crate::words::{bytes, cut, escaped, id_of, or_word, push_item};
+use anyhow::{Result, bail};
+use std::alloc::Global;
+use std::{fs, io};
+use vc_checkout::{Change, CheckoutFault, IndexChange, MemoryTree, WorkChange, WorkTree};
+
+pub fn row(bench: &mut Bench, row: &str) -> Result<String> {
+    let alloc = bench.alloc;
+    let (verb, rest) = cut(row);
+    match verb {
+        "memory" => start(bench, false, rest)?,
+        "folder" => start(bench, true, rest)?,
+        "fail-after" => bench.ground.fail_after(rest.parse::<u64>()?),
+        "checkout" => return checkout(bench, rest),
+        "status" => return status(bench, rest),
+        "files" => return files(alloc, &mut bench.ground),
+        "has-folder" => return truth(alloc, bench.ground.has_folder(rest)),
+        "failures" => return failures(alloc, &bench.ground),
+        _ => return call(alloc, &mut bench.ground, verb, rest),
+    }
+    Ok(String::new(alloc))
+}
+
+// A call of the work tree.
+fn call(alloc: Global, ground: &mut Ground, verb: &str, rest: &str) -> Result<String> {
+    let (path, text) = cut(rest);
+    match verb {
+        "read" => match ground.read(alloc, path)? {
+            Some(text) => return Ok(escaped(alloc, &text)?),
+            None => bail!("none"),
+        },
+        "remove-folder" => return truth(alloc, ground.remove_folder(alloc, path)?),
+        "write" => ground.write(alloc, path, &bytes(alloc, text)?)?,
+        "remove" => ground.remove(alloc, path)?,
+        "make-folder" => ground.make_folder(alloc, path)?,
+        _ => bail!("no such row"),
+    }
+    Ok(String::new(alloc))
+}
+
+fn truth(alloc: Global, holds: bool) -> Result<String> {
+    Ok(String::from_str(alloc, if holds { "yes" } else { "no" })?)
+}
+
+// Makes the folder `work`, in place of what it was.
+fn new_folder(rt: &HostRuntime) -> io::Result<()> {
+    if fs::exists(rt, "work")? {
+        fs::remove_dir_all(rt, "work")?;
+    }
+    fs::create_dir(rt, "work")
+}
+
+// A new work tree with some files, each a path, `=` and the content.
+fn start(bench: &mut Bench, on_disk: bool, items: &str) -> Result<()> {
+    if on_disk {
+        new_folder(&bench.rt)?;
+    }
+    bench.ground.start(bench.alloc, on_disk);
+    for item in items.split(" | ") {
+        if let Some((path, text)) = item.split_once('=') {
+            let text = bytes(bench.alloc, text)?;
+            bench.ground.write(bench.alloc, path, &text)?;
+        }
+    }
+    Ok(())
+}
+
+// How often calls failed, and how often the folder did.
+fn failures(alloc: Global, ground: &Ground) -> Result<String> {
+    let (all, disk) = (ground.failures(), ground.folder_failures());
+    Ok(format!(in alloc; "{all}, and {disk} in the folder")?)
+}
+
+// The files of the work tree and their contents.
+fn files(alloc: Global, ground: &mut Ground) -> Result<String> {
+    let mut list = String::new(alloc);
+    for path in &ground.list(alloc)? {
+        let Some(text) = ground.read(alloc, path.as_str())? else {
+            bail!("{path} is listed and not there");
+        };
+        let text = escaped(alloc, &text)?;
+        push_item(
+            &mut list,
+            " | ",
+            format!(in alloc; "{path}={text}")?.as_str(),
+        )?;
+    }
+    Ok(or_word(list, "none")?)
+}
+
+// What a call gave, or else the words of what refused it, with the path.
+fn passed<T>(alloc: Global, done: Result<T, CheckoutFault>) -> Result<T> {
+    let (word, path) = match done {
+        Ok(value) => return Ok(value),
+        Err(CheckoutFault::Index(fault)) => return given(alloc, Err(fault)),
+        Err(CheckoutFault::LocalChange(path)) => ("70 LocalChange", path),
+        Err(CheckoutFault::InTheWay(path)) => ("71 InTheWay", path),
+        Err(CheckoutFault::NotText(path)) => ("72 NotText", path),
+    };
+    let path = escaped(alloc, &path)?;
+    bail!("{word} {path}")
+}
+
+// Brings the work tree to a tree, and answers which files it then has, also where it was refused or a call failed.
+fn checkout(bench: &mut Bench, tree: &str) -> Result<String> {
+    let alloc = bench.alloc;
+    let tree = id_of(&bench.names, tree)?;
+    let done = vc_checkout::checkout(
+        alloc,
+        &mut bench.ground,
+        &mut bench.files,
+        &bench.index,
+        &tree,
+    );
+    bench.ground.fail_after(u64::MAX);
+    let files = files(alloc, &mut bench.ground)?;
+    match passed(alloc, done) {
+        Ok(index) => {
+            bench.index = index;
+            Ok(files)
+        }
+        Err(fault) => Ok(format!(in alloc; "{fault}: {files}")?),
+    }
+}
+
+fn status(bench: &mut Bench, tree: &str) -> Result<String> {
+    let alloc = bench.alloc;
+    let tree = match tree {
+        "" => None,
+        word => Some(id_of(&bench.names, word)?),
+    };
+    let done = vc_checkout::status(
+        alloc,
+        &mut bench.ground,
+        &mut bench.files,
+        &bench.index,
+        tree,
+    );
+    letters(alloc, &passed(alloc, done)?)
+}
+
+// The changes, each as a letter for the index, one for the work tree, and the path.
+fn letters(alloc: Global, changes: &[Change]) -> Result<String> {
+    let mut list = String::new(alloc);
+    for change in changes {
+        let path = escaped(alloc, &change.path)?;
+        let (index, work) = (index_letter(change.index), work_letter(change.work));
+        push_item(
+            &mut list,
+            " | ",
+            format!(in alloc; "{index}{work} {path}")?.as_str(),
+        )?;
+    }
+    Ok(or_word(list, "nothing differs")?)
+}
+
+fn index_letter(change: IndexChange) -> char {
+    match change {
+        IndexChange::Same => '.',
+        IndexChange::Added => 'A',
+        IndexChange::Removed => 'D',
+        IndexChange::Changed => 'M',
+    }
+}
+
+fn work_letter(change: WorkChange) -> char {
+    match change {
+        WorkChange::Same => '.',
+        WorkChange::Gone => 'D',
+        WorkChange::Changed => 'M',
+        WorkChange::Untracked => '?',
+    }
+}
