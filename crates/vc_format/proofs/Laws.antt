@@ -1,6 +1,7 @@
 -- Git's links and parents are as the machine asks of a format.
 use Rattle.std.proofs.Common.{◌≡◌, ℕ, List, [], ◌∷◌, map, Option, Some, None, refl, sym, ap, ◌∙◌, subst, arith, Contains, unwrap_or, option_map}
 use Rattle.std.specs.List.{AllByRecursion}
+use Rattle.vc_refname.specs.RefName.{first_broken_rule}
 use Rattle.std.proofs.lemmas.List.Elements.{Contains-append_right}
 use Rattle.vc_object.specs.declared.kind.Kind.TheVariants as kinds
 use Rattle.vc_object.specs.Bytes.{Without}
@@ -11,7 +12,7 @@ use Rattle.vc_object.specs.CommitReading.{commit_of}
 use Rattle.vc_object.proofs.Commits.{commit_again}
 use Rattle.vc_model.specs.Object.{Id, Kind, Object, IsLine}
 use Rattle.vc_model.specs.Object.Kind.{Blob, Tree, Commit, Tag}
-use Rattle.vc_format.specs.Git.{kind_of, bytes_of_id, id_of_bytes, git_name, commit_text, SpellsCommits, LinksAgree}
+use Rattle.vc_format.specs.Git.{kind_of, bytes_of_id, id_of_bytes, git_name, commit_text, SpellsCommits, LinksAgree, MainIsName}
 use Rattle.vc_format.proofs.Names.{name_bytes, name_length, byte_of}
 
 -- ---- links agree
@@ -63,3 +64,9 @@ spells_commits tree ps author committer message named a c =
       ap (λ (o : Option CommitText). map bytes_of_id (commit_links o)) read ∙ ap (λ (xs : List Id). tree ∷ xs) (same_ids ps),
       ap (λ (o : Option CommitText). map bytes_of_id (unwrap_or (option_map (λ (c : CommitText). c.parents) o) [])) read ∙ same_ids ps,
     )
+
+-- ---- names
+
+pub main_is_name : MainIsName
+unfolding first_broken_rule
+main_is_name = refl

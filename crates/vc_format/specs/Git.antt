@@ -1,6 +1,6 @@
 -- Git's object format: SHA-1 over an object's header and body, links and parents as they are read from the body, and the
 -- rules of git-check-ref-format with one more for branches, that the name a clone tracks them by fits too.
-use Rattle.std.specs.Prelude.{◌≡◌, ℕ, Bool, List, [], ◌∷◌, ◌++◌, map, Contains, is_none, length, nat_le, nat_eq, ◌&&◌, not, ◌||◌, codes, unwrap_or}
+use Rattle.std.specs.Prelude.{◌≡◌, ℕ, Bool, IsTrue, List, [], ◌∷◌, ◌++◌, map, Contains, length, nat_le, nat_eq, ◌&&◌, not, ◌||◌, codes, unwrap_or}
 use Rattle.std.specs.List.{starts_with}
 use Rattle.std.specs.Str.{is_utf8}
 use Rattle.vc_object.specs.declared.id.ObjectId.{ObjectId}
@@ -9,7 +9,7 @@ use Rattle.vc_object.specs.declared.kind.Kind.TheVariants as kinds
 use Rattle.vc_object.specs.Object.{object_name}
 use Rattle.vc_object.specs.Links.{links_of, parents_of}
 use Rattle.vc_object.specs.Commit.{CommitText, commit_bytes}
-use Rattle.vc_refname.specs.RefName.{first_broken_rule}
+use Rattle.vc_refname.specs.RefName.{is_ref_name}
 use Rattle.vc_model.specs.Object.{Id, Kind, Object, IsLine}
 use Rattle.vc_model.specs.Object.Kind.{Blob, Tree, Commit, Tag}
 
@@ -38,7 +38,7 @@ git_parents o = map bytes_of_id (unwrap_or (parents_of (kind_of o.kind) o.body) 
 -- The name of a branch has at most 246 bytes, so that its tracking name has at most 255.
 abbrev pub git_is_legal : List ℕ → Bool
 git_is_legal text =
-    is_utf8 text && (is_none (first_broken_rule text) && (not (starts_with nat_eq text (codes "refs/heads/")) || nat_le (length text) 246))
+    is_utf8 text && (is_ref_name text && (not (starts_with nat_eq text (codes "refs/heads/")) || nat_le (length text) 246))
 
 -- The rest of a commit that is made here: an empty line, the message, and LF.
 abbrev pub commit_text : Id → List Id → List ℕ → List ℕ → List ℕ → CommitText
@@ -57,3 +57,7 @@ SpellsCommits = (tree : Id) (ps : List Id) (author committer message : List ℕ)
 -- A blob links to nothing, and a parent is a link.
 abbrev pub LinksAgree : Type 0
 LinksAgree = ((o : Object) → o.kind ≡ Blob → git_links o ≡ []) × ((o : Object) (x : Id) → Contains (git_parents o) x → Contains (git_links o) x)
+
+-- The branch that HEAD of a new repository names has a legal name.
+abbrev pub MainIsName : Type 0
+MainIsName = IsTrue (is_ref_name (codes "refs/heads/main"))

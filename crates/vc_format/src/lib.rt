@@ -4,7 +4,7 @@
 //! Nothing here is program code. The crates that name the machine in their contracts name it at this format.
 #![tactic(auto)]
 
-ghost use Rattle.vc_format.specs.Git.{SpellsCommits, LinksAgree};
+ghost use Rattle.vc_format.specs.Git.{SpellsCommits, LinksAgree, MainIsName};
 ghost use Rattle.vc_format.specs.Format.{EveryGitRunIsSafe};
 
 /// A commit that is spelled of a tree and parents, which are names of objects, with an author and a committer on one
@@ -16,6 +16,11 @@ pub fn a_commit_links_to_what_it_is_made_of()
 /// A blob links to nothing, and a parent is a link.
 pub fn parents_are_links()
     ensures { LinksAgree }
+{}
+
+/// The branch that HEAD of a new repository names has a legal name.
+pub fn main_is_a_legal_name()
+    ensures { MainIsName }
 {}
 
 /// Git's format is one of the machine's: each of its laws of every format holds of it. As one of them, every run of a

@@ -5,7 +5,7 @@ use Rattle.std.specs.Cmp.{nat_cmp_total}
 use Rattle.std.specs.List.{list_all}
 use Rattle.std.specs.Cmp.Lexicographic.{slice_cmp, nat_list_cmp_total}
 use Rattle.vc_model.specs.Object.{Id, Format, Objects, Lookup, stored, over}
-use Rattle.vc_model.specs.Refs.{RefName, Refs, Head, Conflicts, IsFree, with_refs}
+use Rattle.vc_model.specs.Refs.{RefName, Refs, Head, Conflicts, AreApart, IsFree, with_refs}
 use Rattle.vc_model.specs.Refs.Head.{OnBranch, Detached}
 use Rattle.vc_model.specs.Repository.{Repository, Change, changed, changed_all, with_objects, Effect}
 use Rattle.vc_model.specs.Repository.Change.{SetRefs, RemoveRef, SetHead, SetIndex}
@@ -28,7 +28,7 @@ use Rattle.vc_model.specs.Clone.CloneStep.{down as clone_down, declines as clone
 use Rattle.vc_model.specs.World.{World, Event, Step, IsNew, empty_repository}
 use Rattle.vc_model.specs.World.Step.{no_message, at_shared, at_clone}
 use Rattle.vc_model.specs.Run.{History, world_after, Run}
-use Rattle.vc_model.specs.Apart.{AreApart, EveryNodeApart, RefsStayApart}
+use Rattle.vc_model.specs.Apart.{EveryNodeApart, RefsStayApart}
 use Rattle.vc_model.proofs.Maps.{insert_cases, remove_cases, bytes_same, none_in_empty}
 use Rattle.vc_model.proofs.Kept.{prune_ok, restart_ok}
 use Rattle.vc_model.proofs.Runs.{front_run}
@@ -158,7 +158,7 @@ clone_free fmt r a PruneClone d is = absurd is
 clone_free fmt r a RestartClone d is = absurd is
 clone_free fmt r a QuietClone d is = absurd is
 
-clone_apart : (fmt : Format) (old new : CloneNode) (e : CloneEvent) (a : Answer) (sends : Option Message) → AreApart old.repository.refs → CloneStep fmt old e a new sends → AreApart new.repository.refs
+pub clone_apart : (fmt : Format) (old new : CloneNode) (e : CloneEvent) (a : Answer) (sends : Option Message) → AreApart old.repository.refs → CloneStep fmt old e a new sends → AreApart new.repository.refs
 clone_apart fmt old new e a sends h s = elim s [
   | clone_down x y v z is none ↦ subst (λ (n : CloneNode). AreApart n.repository.refs) (sym is) h
   | clone_declines w n x y z is none ↦ subst (λ (n : CloneNode). AreApart n.repository.refs) (sym is) h
@@ -216,7 +216,7 @@ shared_free fmt r slots PruneShared d is = absurd is
 shared_free fmt r slots RestartShared d is = absurd is
 shared_free fmt r slots QuietShared d is = absurd is
 
-shared_apart : (fmt : Format) (old new : SharedNode) (e : SharedEvent) (a : Answer) (sends : Option Message) → AreApart old.repository.refs → SharedStep fmt old e a new sends → AreApart new.repository.refs
+pub shared_apart : (fmt : Format) (old new : SharedNode) (e : SharedEvent) (a : Answer) (sends : Option Message) → AreApart old.repository.refs → SharedStep fmt old e a new sends → AreApart new.repository.refs
 shared_apart fmt old new e a sends h s = elim s [
   | down x y v z is none ↦ subst (λ (n : SharedNode). AreApart n.repository.refs) (sym is) h
   | declines w n x y z is none ↦ subst (λ (n : SharedNode). AreApart n.repository.refs) (sym is) h
@@ -229,7 +229,7 @@ shared_apart fmt old new e a sends h s = elim s [
 
 -- ---- the world
 
-world_apart : (fmt : Format) (old new : World) (e : Event) (a : Answer) → EveryNodeApart old → Step fmt old e a new → EveryNodeApart new
+pub world_apart : (fmt : Format) (old new : World) (e : Event) (a : Answer) → EveryNodeApart old → Step fmt old e a new → EveryNodeApart new
 world_apart fmt old new e a h s = elim s [
   | no_message k x y z is ↦ subst EveryNodeApart (sym is) h
   | at_shared c i n sends for step is ↦ subst EveryNodeApart (sym is) (record { shared = shared_apart fmt old.shared n i a sends h.shared step; clones = h.clones })
@@ -242,10 +242,10 @@ world_apart fmt old new e a h s = elim s [
   })
 ]
 
-empty_apart : AreApart empty
+pub empty_apart : AreApart empty
 empty_apart m n x y g k c = none_in_empty (slice_cmp nat_cmp) m x g
 
-new_apart : (n : ℕ) (w : World) → IsNew w n → EveryNodeApart w
+pub new_apart : (n : ℕ) (w : World) → IsNew w n → EveryNodeApart w
 new_apart n w new = record {
   shared = subst (λ (s : SharedNode). AreApart s.repository.refs) (sym new.shared) empty_apart;
   clones = λ c m is. elim (new.clones c) [
@@ -254,9 +254,9 @@ new_apart n w new = record {
   ];
 }
 
-run_apart : (fmt : Format) (n : ℕ) (start : World) (h : History) → IsNew start n → Run fmt start h → EveryNodeApart (world_after start h)
-run_apart fmt n start [] new r = new_apart n start new
-run_apart fmt n start (m ∷ h) new r = world_apart fmt (world_after start h) m.world m.event m.answer (run_apart fmt n start h new r.1) r.0
+pub run_apart : (fmt : Format) (start : World) (h : History) → EveryNodeApart start → Run fmt start h → EveryNodeApart (world_after start h)
+run_apart fmt start [] new r = new
+run_apart fmt start (m ∷ h) new r = world_apart fmt (world_after start h) m.world m.event m.answer (run_apart fmt start h new r.1) r.0
 
 pub refs_stay_apart : RefsStayApart
-refs_stay_apart fmt n start late early new r = run_apart fmt n start early new (front_run fmt start late early r)
+refs_stay_apart fmt n start late early new r = run_apart fmt start early (new_apart n start new) (front_run fmt start late early r)

@@ -1,6 +1,6 @@
 -- An exact answer of a clone is a step of the machine.
 use Rattle.std.proofs.Common.{◌≡◌, ◌≢◌, ℕ, Option, None, Result, Ok, Err, inl, inr, refl, sym, ap, subst}
-use Rattle.vc_model.specs.Object.{Id, Format, Objects, over}
+use Rattle.vc_model.specs.Object.{Id, Object, Format, Objects, over}
 use Rattle.vc_model.specs.Refs.Head.{OnBranch, Detached}
 use Rattle.vc_model.specs.Repository.{Repository, IsSound}
 use Rattle.vc_model.specs.Message.{Message}
@@ -12,10 +12,11 @@ use Rattle.vc_model.specs.Clone.CloneStep.{down as step_down, declines as step_d
 use Rattle.vc_model.specs.Rules.{Rules, rules_by}
 use Rattle.vc_model.specs.Node.Reply.{Stored, Same, Differs}
 use Rattle.vc_model.specs.Question.{Question, Tells, Compares, found}
-use Rattle.vc_model.specs.CloneCall.{new_commit, Obeys, CloneCall, CloneObeys, CloneRefuses, CloneAnswers}
+use Rattle.vc_model.specs.Run.{BringsLocally}
+use Rattle.vc_model.specs.CloneCall.{new_commit, Obeys, Makes, CloneCall, CloneObeys, CloneRefuses, CloneAnswers}
 use Rattle.vc_model.specs.CloneCall.CloneCall.{Command, Receive, Asks, Prune, Open}
 use Rattle.vc_model.specs.CloneCall.CloneAnswers.{down, asked, refused, obeyed, pruned, opened, faulted}
-use Rattle.vc_model.specs.Question.Question.{Unread, Unresolved, Resolve, Compare, PackRefs}
+use Rattle.vc_model.specs.Question.Question.{Unread, Unresolved, Interrupted, Resolve, Compare, PackRefs}
 use Rattle.vc_model.specs.Exact.{clone_event, MadeFit, CallFits, CloneAnswerIsStep}
 use Rattle.vc_model.proofs.Commits.{commit_good, trees_found}
 
@@ -67,6 +68,19 @@ module _ (fmt : Format) (rules : Rules fmt) where
   declined r a Prune n h = absurd h
   declined r a Open n h = absurd h
 
+  -- what a command brings it makes
+  pub made_of : (r : Repository) (t : Task) (o : Object) → BringsLocally t o → Makes fmt rules r t o
+  made_of r (Write p) o h = h
+  made_of r (Stage path mode content) o h = h
+  made_of r (Unstage path) o h = absurd h
+  made_of r (LoadTree x) o h = absurd h
+  made_of r (MakeCommit x y z w) o h = absurd h
+  made_of r (SetBranch b x) o h = absurd h
+  made_of r (DeleteBranch b) o h = absurd h
+  made_of r (MoveHead x) o h = absurd h
+  made_of r StartFetch o h = absurd h
+  made_of r (StartPush x y) o h = absurd h
+
   quiet_answer : (a b : Answer) → a ≡ b → IsNoFault b → IsNoFault a
   quiet_answer a b e h = subst IsNoFault (sym e) h
 
@@ -77,6 +91,7 @@ module _ (fmt : Format) (rules : Rules fmt) where
   pub told_quiet : (r : Repository) (q : Question) (a : Answer) → Tells fmt rules r q a → IsNoFault a
   told_quiet r (Unread n) a h = quiet_answer a (Declined n) h tt
   told_quiet r (Unresolved n) a h = quiet_answer a (Declined n) h tt
+  told_quiet r Interrupted a h = absurd h
   told_quiet r (Resolve e) a h = quiet_answer a (found h.0) h.2 (found_quiet h.0)
   told_quiet r (Compare first second) a h = go h.0 h.2
     where

@@ -1,14 +1,14 @@
 -- What a clone does has a good effect.
-use Rattle.std.proofs.Common.{◌≡◌, ℕ, ◌<◌, List, [], ◌∷◌, Option, Some, None, inl, inr, refl, sym, ap, ◌∙◌, subst, arith, nat_cmp, Contains, length, ◌++◌, option_to_list, unwrap_or}
+use Rattle.std.proofs.Common.{◌≡◌, ℕ, ◌<◌, List, [], ◌∷◌, Option, Some, None, inl, inr, refl, sym, ap, ◌∙◌, subst, arith, nat_cmp, Contains, IsTrue, length, ◌++◌, option_to_list, unwrap_or}
 use Rattle.std.specs.FinMap.{get, insert, remove, empty, entries}
 use Rattle.std.specs.Option.{option_or}
 use Rattle.std.specs.List.{AllByRecursion}
 use Rattle.std.specs.Cmp.Lexicographic.{slice_cmp, nat_list_cmp_total}
 use Rattle.vc_model.specs.Object.{Id, Object, blob, Format, Objects, Lookup, IsNamed, stored, over}
 use Rattle.vc_model.specs.Reach.{Path, Links, IsClosed}
-use Rattle.vc_model.specs.Refs.{RefName, Refs, Head, IsBranch}
+use Rattle.vc_model.specs.Refs.{RefName, Refs, Head}
 use Rattle.vc_model.specs.Refs.Head.{OnBranch, Detached}
-use Rattle.vc_model.specs.Repository.{Repository, Entry, Change, no_effect, only_changes, IsGoodValue, IsSound}
+use Rattle.vc_model.specs.Repository.{Repository, Entry, Change, no_effect, only_changes, IsBranchName, IsGoodValue, IsSound}
 use Rattle.vc_model.specs.Repository.Change.{SetRefs, RemoveRef, SetHead, SetIndex}
 use Rattle.vc_model.specs.Message.{Message, IsNamedMessage}
 use Rattle.vc_model.specs.Message.Message.{ListRefs, Advert, Want, Pack, Push, Report, Error}
@@ -64,8 +64,8 @@ blob_closed fmt at o none is = record { there = λ y p. go y p.0 p.1 }
         let no : Contains [] z = subst (λ (xs : List Id). Contains xs z) (ap fmt.links same ∙ none) p.0.link in
         absurd (let k : no.0 < length {A = Id} [] = no.1 in omega arith)
 
-head_to_good : (fmt : Format) (at : Lookup) (h : Head) (x : Id) → ((n : RefName) → h ≡ OnBranch n → IsBranch n) → IsGoodCommit fmt at x → GoodChange fmt at (head_to h x)
-head_to_good fmt at (OnBranch b) x i g = (record { closed = g.0; kind = inr (inl (i b refl), g.1) }, tt)
+head_to_good : (fmt : Format) (at : Lookup) (h : Head) (x : Id) → ((n : RefName) → h ≡ OnBranch n → IsBranchName fmt n) → IsGoodCommit fmt at x → GoodChange fmt at (head_to h x)
+head_to_good fmt at (OnBranch b) x i g = (record { name = (i b refl).1; closed = g.0; kind = inr (inl (i b refl).0, g.1) }, tt)
 head_to_good fmt at (Detached y) x i g = g
 
 -- an object that is put with others, under its name
@@ -115,7 +115,7 @@ good_task fmt r a (MakeCommit extra author committer message) d h fits is =
     (record { named = named_commit fmt r (option_to_list (head_value r) ++ extra) author committer message is.0 is.1 is.2; changes = (head_to_good fmt (over r.objects is.0) r.head is.1 h.on_branch is.2.good, tt) })
 good_task fmt r a (SetBranch n x) d h fits is =
     subst (λ (d : Deed Awaited). GoodEffect fmt r d.effect) (sym is.3)
-    (good_only fmt r (SetRefs ((n, x) ∷ []) ∷ []) ((record { closed = is.2.0; kind = inr (inl is.0, is.2.1) }, tt), tt))
+    (good_only fmt r (SetRefs ((n, x) ∷ []) ∷ []) ((record { name = is.0.1; closed = is.2.0; kind = inr (inl is.0.0, is.2.1) }, tt), tt))
 good_task fmt r a (DeleteBranch n) d h fits is =
     subst (λ (d : Deed Awaited). GoodEffect fmt r d.effect) (sym is.1) (good_only fmt r (RemoveRef n ∷ []) (tt, tt))
 good_task fmt r a (MoveHead (OnBranch n)) d h fits is =
@@ -135,11 +135,11 @@ moves_good fmt at may good refs (r ∷ rs) cs (inl m) =
 moves_good fmt at may good refs (r ∷ rs) cs (inr m) = moves_good fmt at may good refs rs cs m.1
 
 branch_good : (fmt : Format) (at : Lookup) (refs : Refs) (n : RefName) (x : Id) (t : RefName) → MovesBranch fmt at refs n x t → IsGoodValue fmt at t x
-branch_good fmt at refs n x t m = record { closed = m.good.0; kind = inr (inr (m.name, m.tracking_is), m.good.1) }
+branch_good fmt at refs n x t m = record { name = fmt.legal_names t m.fits; closed = m.good.0; kind = inr (inr (m.name, m.tracking_is), m.good.1) }
 
 any_good : (fmt : Format) (at : Lookup) (refs : Refs) (n : RefName) (x : Id) (t : RefName) → MovesAny fmt at refs n x t → IsGoodValue fmt at t x
 any_good fmt at refs n x t (inl m) = branch_good fmt at refs n x t m
-any_good fmt at refs n x t (inr m) = record { closed = m.closed; kind = inl (m.name, m.same ∙ m.tag_is) }
+any_good fmt at refs n x t (inr m) = record { name = fmt.legal_names t (subst (λ (t : RefName). IsTrue (fmt.is_legal t)) (sym m.same) m.legal); closed = m.closed; kind = inl (m.name, m.same ∙ m.tag_is) }
 
 pub advert_changes : (fmt : Format) (r : Repository) (at : Lookup) (refs : Refs) (s : Objects) (d : Deed Awaited) → (m : MovesToAdvert fmt r at refs s d) → AllByRecursion (GoodChange fmt at) m.changes
 advert_changes fmt r at refs s d m = moves_good fmt at (MovesAny fmt at) (any_good fmt at) r.refs (entries refs) m.changes m.moves

@@ -44,7 +44,7 @@ branch_tag_apart a b e = let h : ◌≡◌ {A = ℕ} 104 116 = ap (λ (xs : List
 head_good_by : (fmt : Format) (r : Repository) → IsSound fmt r → (h : Head) → r.head ≡ h → (x : Id) → elim h [ OnBranch b ↦ get r.refs b | Detached y ↦ Some y ] ≡ Some x → IsGoodCommit fmt (stored r.objects) x
 head_good_by fmt r s (OnBranch b) e x g =
     let v = s.refs b x g in
-    let named : IsBranch b = s.on_branch b e in
+    let named : IsBranch b = (s.on_branch b e).0 in
     (v.closed, elim (v.kind) [ inl t ↦ absurd (branch_tag_apart named.0 t.0 (sym named.1 ∙ t.1)) | inr k ↦ k.1 ])
 head_good_by fmt r s (Detached y) e x g = let same : y ≡ x = cc in s.head x (e ∙ ap Detached same)
 

@@ -1,14 +1,16 @@
 -- Every run of the shared node alone keeps it closed, and its branches going forward.
-use Rattle.std.proofs.Common.{◌≡◌, ℕ, List, [], ◌∷◌, ◌++◌, Some, inl, inr, refl, sym, ◌∙◌, subst, nat_cmp}
+use Rattle.std.proofs.Common.{◌≡◌, ℕ, List, [], ◌∷◌, ◌++◌, map, Some, inl, inr, refl, sym, ◌∙◌, subst, nat_cmp}
 use Rattle.std.specs.FinMap.{get}
 use Rattle.vc_model.specs.Object.{Id, Object, Format, Objects, over}
 use Rattle.vc_model.specs.Reach.{HasParentAmong, IsAncestorAmong, HasParent, IsAncestor}
 use Rattle.vc_model.specs.Refs.{branch}
 use Rattle.vc_model.specs.Push.{OpenPush, Slots}
 use Rattle.vc_model.specs.Node.{Node}
-use Rattle.vc_model.specs.Shared.{SharedEvent}
+use Rattle.vc_model.specs.Shared.{SharedEvent, SharedStep}
+use Rattle.vc_model.specs.Rules.{Rules, rules_by}
+use Rattle.vc_model.specs.Exact.{shared_event}
 use Rattle.vc_model.specs.Shared.SharedEvent.{Arrives, StepSlot, PruneShared, RestartShared, QuietShared}
-use Rattle.vc_model.specs.Desk.{Served, Log, node_after, IsServed, IsWell, IsAt, WasThere, NoneCollide, OpensSound, DeskClosed, DeskForward}
+use Rattle.vc_model.specs.Desk.{Served, Log, node_after, IsServed, IsWell, IsAt, WasThere, NoneCollide, OpensSound, DeskClosed, DeskForward, ExactLog, node_left, IsAnswered, served, ExactLogIsLog}
 use Rattle.vc_model.specs.Desk.IsAt.{in_store, in_push}
 use Rattle.vc_model.specs.Keeping.{Arrived, SharedKept}
 use Rattle.vc_model.proofs.Maps.{none_in_empty}
@@ -16,6 +18,7 @@ use Rattle.vc_model.proofs.Reaching.{reaches-trans, reaches-steps}
 use Rattle.vc_model.proofs.Sound.{named_over}
 use Rattle.vc_model.proofs.Kept.{SharedKeeps, push_weaker, shared_step}
 use Rattle.vc_model.proofs.Runs.{found_over, closed_of_sound}
+use Rattle.vc_model.proofs.SharedAnswers.{shared_answer_is_step}
 
 module _ (fmt : Format) (start : Node Slots) where
   abbrev Was : Log → Id → Id → Type 0
@@ -95,3 +98,21 @@ desk_closed fmt start late early h r one =
 
 pub desk_forward : DeskForward
 desk_forward fmt start late early b x h r one v = desk_forward_from fmt start late early b x h r one v
+
+-- ---- an exact log
+
+node_of_log : (start : Node Slots) (es : ExactLog) → node_after start (map served es) ≡ node_left start es
+node_of_log start [] = refl
+node_of_log start (e ∷ es) = refl
+
+exact_log : (fmt : Format) (rules : Rules fmt) (start : Node Slots) (es : ExactLog) → IsAnswered fmt rules start es → IsServed fmt start (map served es)
+exact_log fmt rules start [] h = tt
+exact_log fmt rules start (e ∷ es) h = (
+  h.0,
+  subst (λ (n : Node Slots). SharedStep fmt n (shared_event e.call) e.answer e.node e.sends) (sym (node_of_log start es))
+      (shared_answer_is_step fmt rules (node_left start es) e.node e.call e.answer e.sends h.1),
+  exact_log fmt rules start es h.2,
+)
+
+pub exact_log_is_log : ExactLogIsLog
+exact_log_is_log fmt tests start es h = exact_log fmt (rules_by fmt tests) start es h

@@ -1,5 +1,5 @@
 -- What holds of the world after every run, and that a step keeps it.
-use Rattle.std.proofs.Common.{◌≡◌, ℕ, List, [], ◌∷◌, ◌++◌, Option, Some, None, inl, inr, refl, sym, ap, ◌∙◌, subst, nat_cmp, take, slice_get, codes, option_to_list, option_map}
+use Rattle.std.proofs.Common.{◌≡◌, ℕ, List, [], ◌∷◌, ◌++◌, Option, Some, None, inl, inr, refl, sym, ap, ◌∙◌, subst, nat_cmp, take, slice_get, codes, IsTrue, option_to_list, option_map}
 use Rattle.std.specs.FinMap.{get, empty, nat_cmp-IsAntisymmetric}
 use Rattle.std.specs.Cmp.{nat_cmp_total}
 use Rattle.std.specs.Cmp.Lexicographic.{slice_cmp}
@@ -74,7 +74,7 @@ empty_sound : (fmt : Format) → IsSound fmt empty_repository
 empty_sound fmt = record {
   objects = record { named = λ x o h. absurd (none_in_empty (slice_cmp nat_cmp) x o h) };
   refs = λ n x h. absurd (none_in_empty (slice_cmp nat_cmp) n x h);
-  on_branch = λ n e. (codes "main", cc);
+  on_branch = λ n e. let same : branch (codes "main") ≡ n = cc in ((codes "main", sym same), subst (λ (n : List ℕ). IsTrue (fmt.is_name n)) same fmt.main_is_name);
   head = λ x e. absurd (cc);
   index = λ p e h m. absurd (none_in_empty (slice_cmp nat_cmp) p e h);
 }
@@ -82,7 +82,7 @@ empty_sound fmt = record {
 pub new_is_sound : (fmt : Format) (w : World) (n : ℕ) → IsNew w n → StartsSound fmt w
 new_is_sound fmt w n new = record {
   shared = subst (λ (s : Node Slots). IsSound fmt s.repository) (sym new.shared) (empty_sound fmt);
-  bare = subst (λ (s : Node Slots). IsBare s.repository) (sym new.shared) (record { each = λ n x g. absurd (none_in_empty (slice_cmp nat_cmp) n x g); on_branch = (branch (codes "main"), refl) });
+  bare = subst (λ (s : Node Slots). IsBare fmt s.repository) (sym new.shared) (record { each = λ n x g. absurd (none_in_empty (slice_cmp nat_cmp) n x g); on_branch = (branch (codes "main"), refl) });
   slots = λ slots up. let e = ap (λ (s : Node Slots). s.live) new.shared in cc;
   clones = λ c m is. elim (new.clones c) [
     | inl a ↦ let e : record { repository = empty_repository; live = Some Nothing } ≡ m = let b = a.1 in cc in subst (λ (m : Node Awaited). IsSound fmt m.repository) e (empty_sound fmt)
@@ -234,13 +234,13 @@ module _ (fmt : Format) (anc : Id → Id → Type 0) (self : (a : Id) → anc a 
   ends_slots (Declined k) n m slots d ok e alone left up = absurd e
 
   ends_forward : (a : Answer) (n m : Node Slots) (slots : Slots) (d : Deed Slots) → SharedOk fmt anc n.repository slots d → Ends a n d m → Descends anc n.repository.refs m.repository.refs
-  ends_forward (Did y) n m slots d ok e = done_forward anc self trans n.repository m.repository d.effect ok.forward e.0
-  ends_forward (Fault f) n m slots d ok e = cut_forward anc self trans n.repository m.repository d.effect ok.forward e.0
+  ends_forward (Did y) n m slots d ok e = done_forward fmt anc self trans n.repository m.repository d.effect ok.forward e.0
+  ends_forward (Fault f) n m slots d ok e = cut_forward fmt anc self trans n.repository m.repository d.effect ok.forward e.0
   ends_forward (Declined k) n m slots d ok e = absurd e
 
-  ends_bare : (a : Answer) (n m : Node Slots) (slots : Slots) (d : Deed Slots) → IsBare n.repository → SharedOk fmt anc n.repository slots d → Ends a n d m → IsBare m.repository
-  ends_bare (Did y) n m slots d h ok e = done_bare anc n.repository m.repository d.effect h ok.forward e.0
-  ends_bare (Fault f) n m slots d h ok e = cut_bare anc n.repository m.repository d.effect h ok.forward e.0
+  ends_bare : (a : Answer) (n m : Node Slots) (slots : Slots) (d : Deed Slots) → IsBare fmt n.repository → SharedOk fmt anc n.repository slots d → Ends a n d m → IsBare fmt m.repository
+  ends_bare (Did y) n m slots d h ok e = done_bare fmt anc n.repository m.repository d.effect h ok.forward e.0
+  ends_bare (Fault f) n m slots d h ok e = cut_bare fmt anc n.repository m.repository d.effect h ok.forward e.0
   ends_bare (Declined k) n m slots d h ok e = absurd e
 
   same_node : (old new : Node Slots) (sends : Option Message) → SharedKept fmt anc old → new ≡ old → sends ≡ None → SharedKeeps fmt anc old new sends
@@ -253,7 +253,7 @@ module _ (fmt : Format) (anc : Id → Id → Type 0) (self : (a : Id) → anc a 
   same_store : (old new : Node Slots) (sends : Option Message) → SharedKept fmt anc old → new.repository ≡ old.repository → sends ≡ None
       → ((slots : Slots) → new.live ≡ Some slots → SlotsOk fmt anc new.repository.objects slots) → SharedKeeps fmt anc old new sends
   same_store old new sends h is none slots = record {
-    kept = record { sound = subst (IsSound fmt) (sym is) h.sound; bare = subst IsBare (sym is) h.bare; slots = slots };
+    kept = record { sound = subst (IsSound fmt) (sym is) h.sound; bare = subst (IsBare fmt) (sym is) h.bare; slots = slots };
     forward = subst (λ (r : Repository). Descends anc old.repository.refs r.refs) (sym is) (descends_same anc self trans old.repository.refs);
     named = λ e g. absurd (cc);
   }
@@ -283,7 +283,7 @@ module _ (fmt : Format) (anc : Id → Id → Type 0) (self : (a : Id) → anc a 
         let ok : PruneOk (IsNeeded fmt old.repository slots) old new = prune_ok a (IsNeeded fmt old.repository slots) old new ends in
         record {
           kept = record {
-            bare = subst IsBare (sym ok.rest) (record { each = h.bare.each; on_branch = h.bare.on_branch });
+            bare = subst (IsBare fmt) (sym ok.rest) (record { each = h.bare.each; on_branch = h.bare.on_branch });
             sound = subst (IsSound fmt) (sym ok.rest) (sound_pruned fmt old.repository new.repository.objects (IsNeeded fmt old.repository slots) h.sound ok.partly (λ x y r q. by_root x r q));
             slots = λ left u k p got.
                 let same : slots ≡ left = let v = ok.live left u in cc in

@@ -27,3 +27,6 @@ pub mod ExactRuns
 pub mod Racing
 pub mod OneWorld
 pub mod Apart
+pub mod Formed
+pub mod Good
+pub mod Left

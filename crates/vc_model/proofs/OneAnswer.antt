@@ -11,7 +11,7 @@ use Rattle.vc_model.specs.Node.Answer.{Did, Declined, Fault}
 use Rattle.vc_model.specs.Node.Reply.{Same, Differs, Removed}
 use Rattle.vc_model.specs.Rules.{Rules}
 use Rattle.vc_model.specs.Question.{Question, Tells, Compares, found}
-use Rattle.vc_model.specs.Question.Question.{Unread, Unresolved, Resolve, Compare, PackRefs}
+use Rattle.vc_model.specs.Question.Question.{Unread, Unresolved, Interrupted, Resolve, Compare, PackRefs}
 use Rattle.vc_model.proofs.Maps.{bytes_same}
 
 pub same_objects : (s t : Objects) → ((x : Id) → get s x ≡ get t x) → s ≡ t
@@ -124,6 +124,7 @@ module _ (fmt : Format) (rules : Rules fmt) (r : Repository) where
   pub told_once : (q : Question) (a b : Answer) → Tells fmt rules r q a → Tells fmt rules r q b → a ≡ b
   told_once (Unread n) a b g h = g ∙ sym h
   told_once (Unresolved n) a b g h = g ∙ sym h
+  told_once Interrupted a b g h = absurd g
   told_once (Resolve e) a b g h = g.2 ∙ (ap found (rules.one_value r e g.0 h.0 g.1 h.1) ∙ sym h.2)
   told_once (Compare first second) a b g h =
       compare_once h.0 second a b (subst (λ v. Compares fmt rules r v second a) (rules.one_value r first g.0 h.0 g.1 h.1) g.2) h.2

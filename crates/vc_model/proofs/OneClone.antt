@@ -1,8 +1,8 @@
 -- A clone has one answer to a call.
-use Rattle.std.proofs.Common.{◌≡◌, ◌≢◌, ℕ, ◌≤◌, List, [], ◌∷◌, Option, Some, None, Result, Ok, Err, ◌⊎◌, inl, inr, refl, sym, ap, ◌∙◌, subst, IsTrue, Contains, length, take, unwrap_or}
+use Rattle.std.proofs.Common.{◌≡◌, ◌≢◌, ℕ, ◌≤◌, List, [], ◌∷◌, Option, Some, None, Result, Ok, Err, ◌⊎◌, inl, inr, refl, sym, ap, ◌∙◌, subst, Contains, length, take, unwrap_or}
 use Rattle.std.specs.FinMap.{get, insert, entries, empty}
 use Rattle.std.specs.List.{AllByRecursion}
-use Rattle.vc_model.specs.Object.{Id, zero_id, blob, IsLine, Format, Objects, Lookup, stored, over}
+use Rattle.vc_model.specs.Object.{Id, Object, zero_id, blob, IsLine, Format, Objects, Lookup, stored, over}
 use Rattle.vc_model.specs.Reach.{IsClosed, HasHistory}
 use Rattle.vc_model.specs.Refs.{RefName, Refs, tracking, IsFree}
 use Rattle.vc_model.specs.Refs.Head.{OnBranch, Detached}
@@ -53,11 +53,11 @@ commits_met fmt at (x ∷ xs) n p a g =
     (met (HasHistory fmt at x) 41 n (CommitsOr fmt at xs n p) a.0.1
     (met (IsClosed fmt at x) 40 n (Unless (HasHistory fmt at x) 41 n (CommitsOr fmt at xs n p)) a.0.0 g))
 
-some_once : (o : Option ℕ) (n k : ℕ) → o ≡ Some n → o ≡ Some k → n ≡ k
-some_once o n k g h = cc
+some_is : (n k : ℕ) → ◌≡◌ {A = Option ℕ} (Some n) (Some k) → n ≡ k
+some_is n k e = cc
 
-none_some : (o : Option ℕ) (n : ℕ) → o ≡ Some n → o ≡ None → ⊥
-none_some o n g h = absurd (cc)
+some_none : (n : ℕ) → ◌≡◌ {A = Option ℕ} (Some n) None → ⊥
+some_none n e = absurd (cc)
 
 err_once : {X : Type 0} (n k : ℕ) → ◌≡◌ {A = Result X ℕ} (Err n) (Err k) → n ≡ k
 err_once n k e = cc
@@ -137,17 +137,23 @@ module _ (fmt : Format) (rules : Rules fmt) (r : Repository) where
   -- the trees of the index, or the commit, are refused
   abbrev Rest : List Id → List ℕ → List ℕ → List ℕ → ℕ → Type 0
   Rest extra author committer message n =
-      rules.trees_of r.index (Err n) ⊎ ((t : Objects × Id) × rules.trees_of r.index (Ok t) × (rules.fault (new_commit fmt r t.1 extra author committer message) ≡ Some n))
+      rules.trees_of r.index (Err n) ⊎ ((t : Objects × Id) × rules.trees_of r.index (Ok t) × (rules.fault (new_commit fmt r t.1 extra author committer message) (Some n)))
 
   -- what is left to do of an advertisement
   abbrev Sent : Awaited → Refs → List Id → Deed Awaited → Type 0
   Sent a refs ids d = ((ids ≢ []) × (d ≡ sending (APack (take 256 ids) refs) (Want (take 256 ids) (haves_of r)))) ⊎ ((ids ≡ []) × MovesToAdvert fmt r (stored r.objects) refs empty d)
 
+  fault_once : (o : Object) (n k : ℕ) → rules.fault o (Some n) → rules.fault o (Some k) → n ≡ k
+  fault_once o n k g h = some_is n k (rules.one_fault o (Some n) (Some k) g h)
+
+  no_fault : (o : Object) (n : ℕ) → rules.fault o (Some n) → rules.fault o None → ⊥
+  no_fault o n g h = some_none n (rules.one_fault o (Some n) None g h)
+
   refusal_once : (t : Task) (n k : ℕ) → Refuses fmt rules r t n → Refuses fmt rules r t k → n ≡ k
-  refusal_once (Write o) n k g h = some_once (rules.fault o) n k g h
+  refusal_once (Write o) n k g h = fault_once o n k g h
   refusal_once (Stage p mode content) n k g h =
-      unless_once (IsTrue (rules.is_path p)) 60 n k (Unless (IsFreePath r.index p) 61 n (rules.fault (blob content) ≡ Some n)) (Unless (IsFreePath r.index p) 61 k (rules.fault (blob content) ≡ Some k))
-      (unless_once (IsFreePath r.index p) 61 n k (rules.fault (blob content) ≡ Some n) (rules.fault (blob content) ≡ Some k) (some_once (rules.fault (blob content)) n k)) g h
+      unless_once (rules.is_path p) 60 n k (Unless (IsFreePath r.index p) 61 n (rules.fault (blob content) (Some n))) (Unless (IsFreePath r.index p) 61 k (rules.fault (blob content) (Some k)))
+      (unless_once (IsFreePath r.index p) 61 n k (rules.fault (blob content) (Some n)) (rules.fault (blob content) (Some k)) (fault_once (blob content) n k)) g h
   refusal_once (Unstage p) n k g h = absurd g
   refusal_once (LoadTree x) n k g h = err_once n k (rules.one_index r.objects x (Err n) (Err k) g h)
   refusal_once (MakeCommit extra author committer message) n k g h =
@@ -161,7 +167,7 @@ module _ (fmt : Format) (rules : Rules fmt) (r : Repository) where
       rest (inr g) (inl h) = absurd (ok_err g.0 k (rules.one_root r.index (Ok g.0) (Err k) g.1 h))
       rest (inr g) (inr h) =
           let same : g.0 ≡ h.0 = ok_once g.0 h.0 (rules.one_root r.index (Ok g.0) (Ok h.0) g.1 h.1) in
-          some_once (rules.fault (new_commit fmt r h.0.1 extra author committer message)) n k (subst (λ (t : Objects × Id). rules.fault (new_commit fmt r t.1 extra author committer message) ≡ Some n) same g.2) h.2
+          fault_once (new_commit fmt r h.0.1 extra author committer message) n k (subst (λ (t : Objects × Id). rules.fault (new_commit fmt r t.1 extra author committer message) (Some n)) same g.2) h.2
   refusal_once (SetBranch b x) n k g h =
       unless_once (IsFree r.refs b) 32 n k (Unless (IsClosed fmt (stored r.objects) x) 40 n (Unless (HasHistory fmt (stored r.objects) x) 41 n ⊥)) (Unless (IsClosed fmt (stored r.objects) x) 40 k (Unless (HasHistory fmt (stored r.objects) x) 41 k ⊥))
       (unless_once (IsClosed fmt (stored r.objects) x) 40 n k (Unless (HasHistory fmt (stored r.objects) x) 41 n ⊥) (Unless (HasHistory fmt (stored r.objects) x) 41 k ⊥)
@@ -202,10 +208,10 @@ module _ (fmt : Format) (rules : Rules fmt) (r : Repository) where
 
   -- no command is both refused and done
   pub apart : (a : Awaited) (t : Task) (n : ℕ) (d : Deed Awaited) → Refuses fmt rules r t n → Obeys fmt rules r a t d → ⊥
-  apart a (Write o) n d g h = none_some (rules.fault o) n g h.0
+  apart a (Write o) n d g h = no_fault o n g h.0
   apart a (Stage p mode content) n d g h =
-      none_some (rules.fault (blob content)) n
-      (met (IsFreePath r.index p) 61 n (rules.fault (blob content) ≡ Some n) h.1 (met (IsTrue (rules.is_path p)) 60 n (Unless (IsFreePath r.index p) 61 n (rules.fault (blob content) ≡ Some n)) h.0 g)) h.2
+      no_fault (blob content) n
+      (met (IsFreePath r.index p) 61 n (rules.fault (blob content) (Some n)) h.1 (met (rules.is_path p) 60 n (Unless (IsFreePath r.index p) 61 n (rules.fault (blob content) (Some n))) h.0 g)) h.2
   apart a (Unstage p) n d g h = g
   apart a (LoadTree x) n d g h = ok_err h.0 n (rules.one_index r.objects x (Ok h.0) (Err n) h.1 g)
   apart a (MakeCommit extra author committer message) n d g h =
@@ -216,7 +222,7 @@ module _ (fmt : Format) (rules : Rules fmt) (r : Repository) where
       rest (inl e) = ok_err h.3.0 n (rules.one_root r.index (Ok h.3.0) (Err n) h.3.1 e)
       rest (inr e) =
           let same : e.0 ≡ h.3.0 = ok_once e.0 h.3.0 (rules.one_root r.index (Ok e.0) (Ok h.3.0) e.1 h.3.1) in
-          none_some (rules.fault (new_commit fmt r h.3.0.1 extra author committer message)) n (subst (λ (t : Objects × Id). rules.fault (new_commit fmt r t.1 extra author committer message) ≡ Some n) same e.2) h.3.2.0
+          no_fault (new_commit fmt r h.3.0.1 extra author committer message) n (subst (λ (t : Objects × Id). rules.fault (new_commit fmt r t.1 extra author committer message) (Some n)) same e.2) h.3.2.0
   apart a (SetBranch b x) n d g h =
       met (HasHistory fmt (stored r.objects) x) 41 n ⊥ h.2.1 (met (IsClosed fmt (stored r.objects) x) 40 n (Unless (HasHistory fmt (stored r.objects) x) 41 n ⊥) h.2.0
       (met (IsFree r.refs b) 32 n (Unless (IsClosed fmt (stored r.objects) x) 40 n (Unless (HasHistory fmt (stored r.objects) x) 41 n ⊥)) h.1 g))

@@ -7,8 +7,8 @@ use Rattle.std.specs.Cmp.Lexicographic.{nat_list_cmp_total}
 use Rattle.std.proofs.lemmas.List.Elements.{Contains-append_right}
 use Rattle.vc_model.specs.Object.{Id, zero_id, Object, Format, Objects, Lookup, stored, over}
 use Rattle.vc_model.specs.Reach.{Reaches, Links, IsAncestor}
-use Rattle.vc_model.specs.Refs.{RefName, Refs, IsBranch, IsTag, IsCurrent, branch, with_refs}
-use Rattle.vc_model.specs.Repository.{Repository, Change, IsGoodValue, PartlyPruned}
+use Rattle.vc_model.specs.Refs.{RefName, Refs, IsBranch, IsCurrent, branch, with_refs}
+use Rattle.vc_model.specs.Repository.{Repository, Change, IsGoodValue, IsSharedName, PartlyPruned}
 use Rattle.vc_model.specs.Repository.Change.{SetRefs}
 use Rattle.vc_model.specs.Push.{Command, Judged, Verdict, Reason, Stage, OpenPush, Slots, is_passing, Checks, ChecksAll, ChecksPush, Updates, UpdatesAll, JudgesInTurn, failed_with_others, accepted, refused_by, new_value}
 use Rattle.vc_model.specs.Push.Verdict.{Passing, Accepted, Refused}
@@ -48,8 +48,8 @@ all_append P (x ∷ xs) ys h k = (h.0, all_append P xs ys h.1 k)
 check_one : (fmt : Format) (at : Lookup) (anc : Id → Id → Type 0) → ((a b : Id) → IsAncestor fmt at a b → anc a b)
     → (c : Command) (v w : Verdict) → Checks fmt at c v w → w ≡ Passing → JudgedOk fmt at anc c
 check_one fmt at anc to c Passing Passing h e = record {
-  value = record { closed = h.1.1.1.0; kind = elim (h.1.0) [ inl b ↦ inr (inl b, h.1.1.1.1.0 b) | inr t ↦ inl t ] };
-  place = h.1.0;
+  value = record { name = fmt.legal_names c.name h.0; closed = h.1.1.1.0; kind = elim (h.1.0) [ inl b ↦ inr (inl b, h.1.1.1.1.0 b) | inr t ↦ inl t ] };
+  place = (h.1.0, h.0);
   forward = λ b. elim (h.1.1.1.1.1.0 b) [ inl z ↦ inl z | inr a ↦ inr (to c.old c.new a) ];
 }
 check_one fmt at anc to c Passing Accepted h e = absurd h
@@ -138,9 +138,9 @@ abbrev pub Descends : (Id → Id → Type 0) → Refs → Refs → Type 0
 Descends anc old new = (b : List ℕ) (x : Id) → get old (branch b) ≡ Some x → (y : Id) × (get new (branch b) ≡ Some y) × anc x y
 
 -- Refs change not at all, or by one change that goes forward.
-pub data Forward (anc : Id → Id → Type 0) (refs : Refs) (cs : List Change) : Type 0 where
-  stays : cs ≡ [] → Forward anc refs cs
-  sets : (rs : List (RefName × Id)) → cs ≡ SetRefs rs ∷ [] → Descends anc refs (with_refs rs refs) → AllByRecursion (λ r. IsBranch r.0 ⊎ IsTag r.0) rs → Forward anc refs cs
+pub data Forward (fmt : Format) (anc : Id → Id → Type 0) (refs : Refs) (cs : List Change) : Type 0 where
+  stays : cs ≡ [] → Forward fmt anc refs cs
+  sets : (rs : List (RefName × Id)) → cs ≡ SetRefs rs ∷ [] → Descends anc refs (with_refs rs refs) → AllByRecursion (λ r. IsSharedName fmt r.0) rs → Forward fmt anc refs cs
 
 module _ (anc : Id → Id → Type 0) (self : (a : Id) → anc a a) (trans : (a b c : Id) → anc a b → anc b c → anc a c) where
   pub descends_same : (refs : Refs) → Descends anc refs refs
@@ -190,14 +190,14 @@ module _ (anc : Id → Id → Type 0) (self : (a : Id) → anc a a) (trans : (a 
     values_good [] h = tt
     values_good (j ∷ js) h = (h.0.value, values_good js h.1)
 
-    places : (js : List Judged) → AllByRecursion (λ j. JudgedOk fmt at anc j.command) js → AllByRecursion (λ r. IsBranch r.0 ⊎ IsTag r.0) (map new_value js)
+    places : (js : List Judged) → AllByRecursion (λ j. JudgedOk fmt at anc j.command) js → AllByRecursion (λ r. IsSharedName fmt r.0) (map new_value js)
     places [] h = tt
     places (j ∷ js) h = (h.0.place, places js h.1)
 
     -- what an update of an open push does
     pub record UpdateOk (refs : Refs) (atomic : Bool) (ks : List Judged) (cs : List Change) : Type 0 where
       pub good : AllByRecursion (GoodChange fmt at) cs
-      pub forward : Forward anc refs cs
+      pub forward : Forward fmt anc refs cs
       pub rest : list_any is_passing ks ≡ true → CommandsOk fmt at anc atomic ks
 
     over_rest : (atomic : Bool) (ks : List Judged) → AllOver ks → list_any is_passing ks ≡ true → CommandsOk fmt at anc atomic ks
@@ -219,7 +219,7 @@ module _ (anc : Id → Id → Type 0) (self : (a : Id) → anc a a) (trans : (a 
           }
         ]
 
-    one_update : (r : Repository) (c : Command) (v : Verdict) (cs : List Change) → JudgedOk fmt at anc c → Updates r.refs c v cs → AllByRecursion (GoodChange fmt at) cs × Forward anc r.refs cs × (v ≢ Passing)
+    one_update : (r : Repository) (c : Command) (v : Verdict) (cs : List Change) → JudgedOk fmt at anc c → Updates r.refs c v cs → AllByRecursion (GoodChange fmt at) cs × Forward fmt anc r.refs cs × (v ≢ Passing)
     one_update r c Accepted cs ok u = (subst (AllByRecursion (GoodChange fmt at)) (sym u.1) ((ok.value, tt), tt), sets ((c.name, c.new) ∷ []) u.1 (one_set r.refs c u.0.1.1.0 ok.forward) (ok.place, tt), λ e. absurd (cc))
     one_update r c (Refused q) cs ok u = (subst (AllByRecursion (GoodChange fmt at)) (sym u.1) tt, stays u.1, λ e. absurd (cc))
     one_update r c Passing cs ok u = absurd u

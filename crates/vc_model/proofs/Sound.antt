@@ -7,21 +7,23 @@ use Rattle.std.specs.List.{AllByRecursion}
 use Rattle.std.specs.Cmp.Lexicographic.{nat_list_cmp_total}
 use Rattle.vc_model.specs.Object.{Id, Object, Format, Objects, Lookup, IsNamed, stored, over}
 use Rattle.vc_model.specs.Reach.{Reaches, Links, IsClosed, HasHistory}
-use Rattle.vc_model.specs.Refs.{RefName, Refs, IsBranch, with_refs}
+use Rattle.vc_model.specs.Refs.{RefName, Refs, with_refs}
 use Rattle.vc_model.specs.Refs.Head.{OnBranch, Detached}
-use Rattle.vc_model.specs.Repository.{Repository, Entry, gitlink, Change, changed, changed_all, with_objects, Effect, AllAdded, SomeAdded, Done, StopsWithin, IsGoodValue, IsSound, IsRoot, PartlyPruned}
+use Rattle.vc_model.specs.Repository.{Repository, Entry, gitlink, Change, changed, changed_all, with_objects, Effect, AllAdded, SomeAdded, Done, StopsWithin, IsBranchName, IsGoodValue, IsSound, IsRoot, PartlyPruned}
 use Rattle.vc_model.specs.Repository.Change.{SetRefs, RemoveRef, SetHead, SetIndex}
 use Rattle.vc_model.proofs.Maps.{insert_cases, remove_cases, bytes_same}
 use Rattle.vc_model.proofs.Reaching.{Extends, closed_grows, history_grows, closed_kept, history_kept}
 
 pub value_grows : (fmt : Format) (f g : Lookup) (n : RefName) (x : Id) → Extends f g → IsGoodValue fmt f n x → IsGoodValue fmt g n x
 value_grows fmt f g n x e v = record {
+  name = v.name;
   closed = closed_grows fmt f g x e v.closed;
   kind = elim (v.kind) [ inl t ↦ inl t | inr h ↦ inr (h.0, history_grows fmt f g x e h.1) ];
 }
 
 pub value_kept : (fmt : Format) (f g : Lookup) (n : RefName) (x : Id) → ((z : Id) → Reaches (Links fmt f) x z → g z ≡ f z) → IsGoodValue fmt f n x → IsGoodValue fmt g n x
 value_kept fmt f g n x e v = record {
+  name = v.name;
   closed = closed_kept fmt f g x e v.closed;
   kind = elim (v.kind) [ inl t ↦ inl t | inr h ↦ inr (h.0, history_kept fmt f g x e h.1) ];
 }
@@ -30,7 +32,7 @@ value_kept fmt f g n x e v = record {
 abbrev pub GoodChange : Format → Lookup → Change → Type 0
 GoodChange fmt at (SetRefs rs) = AllByRecursion (λ r. IsGoodValue fmt at r.0 r.1) rs
 GoodChange fmt at (RemoveRef n) = Unit {0}
-GoodChange fmt at (SetHead (OnBranch n)) = IsBranch n
+GoodChange fmt at (SetHead (OnBranch n)) = IsBranchName fmt n
 GoodChange fmt at (SetHead (Detached x)) = IsClosed fmt at x × HasHistory fmt at x
 GoodChange fmt at (SetIndex i) = (p : List ℕ) (e : Entry) → get i p ≡ Some e → e.mode ≢ gitlink → IsClosed fmt at e.id
 
@@ -74,7 +76,7 @@ sound_changed fmt r (RemoveRef n) h g = record {
 sound_changed fmt r (SetHead (OnBranch n)) h g = record {
   objects = h.objects;
   refs = h.refs;
-  on_branch = λ m e. let same : n ≡ m = cc in subst IsBranch same g;
+  on_branch = λ m e. let same : n ≡ m = cc in subst (IsBranchName fmt) same g;
   head = λ x e. absurd (cc);
   index = h.index;
 }

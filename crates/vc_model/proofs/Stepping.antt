@@ -1,5 +1,5 @@
 -- What the shared node does keeps its open pushes right and its branches going forward.
-use Rattle.std.proofs.Common.{◌≡◌, ℕ, zero, suc, Bool, true, false, List, [], ◌∷◌, Option, Some, None, ◌⊎◌, inl, inr, refl, sym, ap, ◌∙◌, subst, nat_cmp, take, if◌then◌else◌}
+use Rattle.std.proofs.Common.{◌≡◌, ℕ, zero, suc, Bool, true, false, List, [], ◌∷◌, Option, Some, None, inl, inr, refl, sym, ap, ◌∙◌, subst, nat_cmp, take, if◌then◌else◌}
 use Rattle.std.specs.FinMap.{empty, get, get-empty, insert, nat_cmp-IsAntisymmetric}
 use Rattle.std.specs.Cmp.{nat_cmp_total}
 use Rattle.std.specs.Option.{option_or}
@@ -7,8 +7,8 @@ use Rattle.std.specs.List.{AllByRecursion, list_any}
 use Rattle.std.specs.Cmp.Lexicographic.{nat_list_cmp_total, slice_cmp}
 use Rattle.vc_model.specs.Object.{Id, Object, Format, Objects, IsNamed, stored, over}
 use Rattle.vc_model.specs.Reach.{IsAncestor}
-use Rattle.vc_model.specs.Refs.{RefName, Refs, IsBranch, IsTag, with_refs}
-use Rattle.vc_model.specs.Repository.{Repository, Change, changed_all, with_objects, Effect, no_effect, only_changes, IsSound, IsBare, AllAdded, Done, StopsWithin}
+use Rattle.vc_model.specs.Refs.{RefName, Refs, with_refs}
+use Rattle.vc_model.specs.Repository.{Repository, Change, changed_all, with_objects, Effect, no_effect, only_changes, IsSharedName, IsSound, IsBare, AllAdded, Done, StopsWithin}
 use Rattle.vc_model.specs.Repository.Change.{SetRefs}
 use Rattle.vc_model.specs.Push.{Command, Judged, Stage, OpenPush, Slots, is_passing, stage_while}
 use Rattle.vc_model.specs.Push.Stage.{Unpacked, Checked, Migrated, Finished}
@@ -48,7 +48,7 @@ while_ok fmt anc s p x js h = go (list_any is_passing js) h
 -- What a step of an open push does, and how the push stands where all that the step adds is there.
 pub record StepOk (fmt : Format) (anc : Id → Id → Type 0) (r : Repository) (e : Effect) (q : OpenPush) : Type 0 where
   pub good : GoodEffect fmt r e
-  pub forward : Forward anc r.refs e.changes
+  pub forward : Forward fmt anc r.refs e.changes
   pub after : (s : Objects) → AllAdded r.objects e.objects s → PushOk fmt anc s q
 
 -- ---- all slots
@@ -56,7 +56,7 @@ pub record StepOk (fmt : Format) (anc : Id → Id → Type 0) (r : Repository) (
 -- What an event does at the shared node, and how its open pushes stand where all that it adds is there.
 pub record SharedOk (fmt : Format) (anc : Id → Id → Type 0) (r : Repository) (slots : Slots) (d : Deed Slots) : Type 0 where
   pub good : GoodEffect fmt r d.effect
-  pub forward : Forward anc r.refs d.effect.changes
+  pub forward : Forward fmt anc r.refs d.effect.changes
   pub after : (s : Objects) → AllAdded r.objects d.effect.objects s → Alone s slots → SlotsOk fmt anc s d.left
   pub sends : (m : Message) → d.sends ≡ Some m → IsNamedMessage fmt m
 
@@ -164,76 +164,76 @@ module _ (fmt : Format) (anc : Id → Id → Type 0) (self : (a : Id) → anc a 
 
 -- ---- the refs after a deed
 
-front_forward : (anc : Id → Id → Type 0) → ((a : Id) → anc a a) → ((a b c : Id) → anc a b → anc b c → anc a c)
-    → (r : Repository) (s : Objects) (cs : List Change) (k : ℕ) → Forward anc r.refs cs → Descends anc r.refs (changed_all (take k cs) (with_objects r s)).refs
-front_forward anc self trans r s cs k (stays e) = subst (λ cs. Descends anc r.refs (changed_all (take k cs) (with_objects r s)).refs) (sym e) (none k)
+front_forward : (fmt : Format) (anc : Id → Id → Type 0) → ((a : Id) → anc a a) → ((a b c : Id) → anc a b → anc b c → anc a c)
+    → (r : Repository) (s : Objects) (cs : List Change) (k : ℕ) → Forward fmt anc r.refs cs → Descends anc r.refs (changed_all (take k cs) (with_objects r s)).refs
+front_forward fmt anc self trans r s cs k (stays e) = subst (λ cs. Descends anc r.refs (changed_all (take k cs) (with_objects r s)).refs) (sym e) (none k)
   where
     none : (k : ℕ) → Descends anc r.refs (changed_all (take k []) (with_objects r s)).refs
     none zero = descends_same anc self trans r.refs
     none (suc k) = descends_same anc self trans r.refs
-front_forward anc self trans r s cs k (sets rs e d a) = subst (λ cs. Descends anc r.refs (changed_all (take k cs) (with_objects r s)).refs) (sym e) (some k)
+front_forward fmt anc self trans r s cs k (sets rs e d a) = subst (λ cs. Descends anc r.refs (changed_all (take k cs) (with_objects r s)).refs) (sym e) (some k)
   where
     some : (k : ℕ) → Descends anc r.refs (changed_all (take k (SetRefs rs ∷ [])) (with_objects r s)).refs
     some zero = descends_same anc self trans r.refs
     some (suc zero) = d
     some (suc (suc k)) = d
 
-whole_forward : (anc : Id → Id → Type 0) → ((a : Id) → anc a a) → ((a b c : Id) → anc a b → anc b c → anc a c)
-    → (r : Repository) (s : Objects) (cs : List Change) → Forward anc r.refs cs → Descends anc r.refs (changed_all cs (with_objects r s)).refs
-whole_forward anc self trans r s cs (stays e) = subst (λ cs. Descends anc r.refs (changed_all cs (with_objects r s)).refs) (sym e) (descends_same anc self trans r.refs)
-whole_forward anc self trans r s cs (sets rs e d a) = subst (λ cs. Descends anc r.refs (changed_all cs (with_objects r s)).refs) (sym e) d
+whole_forward : (fmt : Format) (anc : Id → Id → Type 0) → ((a : Id) → anc a a) → ((a b c : Id) → anc a b → anc b c → anc a c)
+    → (r : Repository) (s : Objects) (cs : List Change) → Forward fmt anc r.refs cs → Descends anc r.refs (changed_all cs (with_objects r s)).refs
+whole_forward fmt anc self trans r s cs (stays e) = subst (λ cs. Descends anc r.refs (changed_all cs (with_objects r s)).refs) (sym e) (descends_same anc self trans r.refs)
+whole_forward fmt anc self trans r s cs (sets rs e d a) = subst (λ cs. Descends anc r.refs (changed_all cs (with_objects r s)).refs) (sym e) d
 
-pub done_forward : (anc : Id → Id → Type 0) → ((a : Id) → anc a a) → ((a b c : Id) → anc a b → anc b c → anc a c)
-    → (r new : Repository) (e : Effect) → Forward anc r.refs e.changes → Done r e new → Descends anc r.refs new.refs
-done_forward anc self trans r new e f d = subst (λ (n : Repository). Descends anc r.refs n.refs) (sym d.2) (whole_forward anc self trans r d.0 e.changes f)
+pub done_forward : (fmt : Format) (anc : Id → Id → Type 0) → ((a : Id) → anc a a) → ((a b c : Id) → anc a b → anc b c → anc a c)
+    → (r new : Repository) (e : Effect) → Forward fmt anc r.refs e.changes → Done r e new → Descends anc r.refs new.refs
+done_forward fmt anc self trans r new e f d = subst (λ (n : Repository). Descends anc r.refs n.refs) (sym d.2) (whole_forward fmt anc self trans r d.0 e.changes f)
 
-pub cut_forward : (anc : Id → Id → Type 0) → ((a : Id) → anc a a) → ((a b c : Id) → anc a b → anc b c → anc a c)
-    → (r new : Repository) (e : Effect) → Forward anc r.refs e.changes → StopsWithin r e new → Descends anc r.refs new.refs
-cut_forward anc self trans r new e f (inl d) = subst (λ (n : Repository). Descends anc r.refs n.refs) (sym d.2) (descends_same anc self trans r.refs)
-cut_forward anc self trans r new e f (inr d) = subst (λ (n : Repository). Descends anc r.refs n.refs) (sym d.3) (front_forward anc self trans r d.0 e.changes d.1 f)
+pub cut_forward : (fmt : Format) (anc : Id → Id → Type 0) → ((a : Id) → anc a a) → ((a b c : Id) → anc a b → anc b c → anc a c)
+    → (r new : Repository) (e : Effect) → Forward fmt anc r.refs e.changes → StopsWithin r e new → Descends anc r.refs new.refs
+cut_forward fmt anc self trans r new e f (inl d) = subst (λ (n : Repository). Descends anc r.refs n.refs) (sym d.2) (descends_same anc self trans r.refs)
+cut_forward fmt anc self trans r new e f (inr d) = subst (λ (n : Repository). Descends anc r.refs n.refs) (sym d.3) (front_forward fmt anc self trans r d.0 e.changes d.1 f)
 
 -- ---- branches and tags alone
 
 -- branches and tags alone
-record BareRefs (refs : Refs) : Type 0 where
-  pub each : (n : RefName) (x : Id) → get refs n ≡ Some x → IsBranch n ⊎ IsTag n
+record BareRefs (fmt : Format) (refs : Refs) : Type 0 where
+  pub each : (n : RefName) (x : Id) → get refs n ≡ Some x → IsSharedName fmt n
 
-bare_set : (rs : List (RefName × Id)) (refs : Refs) → AllByRecursion (λ r. IsBranch r.0 ⊎ IsTag r.0) rs → BareRefs refs → BareRefs (with_refs rs refs)
-bare_set [] refs a h = h
-bare_set (r ∷ rs) refs a h = bare_set rs (insert refs r.0 r.1) a.1 (record {
+bare_set : (fmt : Format) (rs : List (RefName × Id)) (refs : Refs) → AllByRecursion (λ r. IsSharedName fmt r.0) rs → BareRefs fmt refs → BareRefs fmt (with_refs rs refs)
+bare_set fmt [] refs a h = h
+bare_set fmt (r ∷ rs) refs a h = bare_set fmt rs (insert refs r.0 r.1) a.1 (record {
   each = λ n x g. elim (insert_cases nat_list_cmp_total bytes_same refs r.0 r.1 n x g) [
-    | inl is ↦ subst (λ n. IsBranch n ⊎ IsTag n) (sym is.0) a.0
+    | inl is ↦ subst (IsSharedName fmt) (sym is.0) a.0
     | inr was ↦ h.each n x was
   ];
 })
 
 -- the objects are no matter, and refs that are set are branches and tags
-bare_same : (r : Repository) (s : Objects) → IsBare r → IsBare (with_objects r s)
-bare_same r s h = record { each = h.each; on_branch = h.on_branch }
+bare_same : (fmt : Format) (r : Repository) (s : Objects) → IsBare fmt r → IsBare fmt (with_objects r s)
+bare_same fmt r s h = record { each = h.each; on_branch = h.on_branch }
 
-bare_after : (r : Repository) (s : Objects) (rs : List (RefName × Id)) → AllByRecursion (λ r. IsBranch r.0 ⊎ IsTag r.0) rs → IsBare r → IsBare (changed_all (SetRefs rs ∷ []) (with_objects r s))
-bare_after r s rs a h = record { each = (bare_set rs r.refs a (record { each = h.each })).each; on_branch = h.on_branch }
+bare_after : (fmt : Format) (r : Repository) (s : Objects) (rs : List (RefName × Id)) → AllByRecursion (λ r. IsSharedName fmt r.0) rs → IsBare fmt r → IsBare fmt (changed_all (SetRefs rs ∷ []) (with_objects r s))
+bare_after fmt r s rs a h = record { each = (bare_set fmt rs r.refs a (record { each = h.each })).each; on_branch = h.on_branch }
 
-front_bare : (anc : Id → Id → Type 0) (r : Repository) (s : Objects) (cs : List Change) (k : ℕ) → IsBare r → Forward anc r.refs cs → IsBare (changed_all (take k cs) (with_objects r s))
-front_bare anc r s cs k h (stays e) = subst (λ cs. IsBare (changed_all (take k cs) (with_objects r s))) (sym e) (none k)
+front_bare : (fmt : Format) (anc : Id → Id → Type 0) (r : Repository) (s : Objects) (cs : List Change) (k : ℕ) → IsBare fmt r → Forward fmt anc r.refs cs → IsBare fmt (changed_all (take k cs) (with_objects r s))
+front_bare fmt anc r s cs k h (stays e) = subst (λ cs. IsBare fmt (changed_all (take k cs) (with_objects r s))) (sym e) (none k)
   where
-    none : (k : ℕ) → IsBare (changed_all (take k []) (with_objects r s))
-    none zero = bare_same r s h
-    none (suc k) = bare_same r s h
-front_bare anc r s cs k h (sets rs e d a) = subst (λ cs. IsBare (changed_all (take k cs) (with_objects r s))) (sym e) (some k)
+    none : (k : ℕ) → IsBare fmt (changed_all (take k []) (with_objects r s))
+    none zero = bare_same fmt r s h
+    none (suc k) = bare_same fmt r s h
+front_bare fmt anc r s cs k h (sets rs e d a) = subst (λ cs. IsBare fmt (changed_all (take k cs) (with_objects r s))) (sym e) (some k)
   where
-    some : (k : ℕ) → IsBare (changed_all (take k (SetRefs rs ∷ [])) (with_objects r s))
-    some zero = bare_same r s h
-    some (suc zero) = bare_after r s rs a h
-    some (suc (suc k)) = bare_after r s rs a h
+    some : (k : ℕ) → IsBare fmt (changed_all (take k (SetRefs rs ∷ [])) (with_objects r s))
+    some zero = bare_same fmt r s h
+    some (suc zero) = bare_after fmt r s rs a h
+    some (suc (suc k)) = bare_after fmt r s rs a h
 
-whole_bare : (anc : Id → Id → Type 0) (r : Repository) (s : Objects) (cs : List Change) → IsBare r → Forward anc r.refs cs → IsBare (changed_all cs (with_objects r s))
-whole_bare anc r s cs h (stays e) = subst (λ cs. IsBare (changed_all cs (with_objects r s))) (sym e) (bare_same r s h)
-whole_bare anc r s cs h (sets rs e d a) = subst (λ cs. IsBare (changed_all cs (with_objects r s))) (sym e) (bare_after r s rs a h)
+whole_bare : (fmt : Format) (anc : Id → Id → Type 0) (r : Repository) (s : Objects) (cs : List Change) → IsBare fmt r → Forward fmt anc r.refs cs → IsBare fmt (changed_all cs (with_objects r s))
+whole_bare fmt anc r s cs h (stays e) = subst (λ cs. IsBare fmt (changed_all cs (with_objects r s))) (sym e) (bare_same fmt r s h)
+whole_bare fmt anc r s cs h (sets rs e d a) = subst (λ cs. IsBare fmt (changed_all cs (with_objects r s))) (sym e) (bare_after fmt r s rs a h)
 
-pub done_bare : (anc : Id → Id → Type 0) (r new : Repository) (e : Effect) → IsBare r → Forward anc r.refs e.changes → Done r e new → IsBare new
-done_bare anc r new e h f d = subst IsBare (sym d.2) (whole_bare anc r d.0 e.changes h f)
+pub done_bare : (fmt : Format) (anc : Id → Id → Type 0) (r new : Repository) (e : Effect) → IsBare fmt r → Forward fmt anc r.refs e.changes → Done r e new → IsBare fmt new
+done_bare fmt anc r new e h f d = subst (IsBare fmt) (sym d.2) (whole_bare fmt anc r d.0 e.changes h f)
 
-pub cut_bare : (anc : Id → Id → Type 0) (r new : Repository) (e : Effect) → IsBare r → Forward anc r.refs e.changes → StopsWithin r e new → IsBare new
-cut_bare anc r new e h f (inl d) = subst IsBare (sym d.2) (bare_same r d.0 h)
-cut_bare anc r new e h f (inr d) = subst IsBare (sym d.3) (front_bare anc r d.0 e.changes d.1 h f)
+pub cut_bare : (fmt : Format) (anc : Id → Id → Type 0) (r new : Repository) (e : Effect) → IsBare fmt r → Forward fmt anc r.refs e.changes → StopsWithin r e new → IsBare fmt new
+cut_bare fmt anc r new e h f (inl d) = subst (IsBare fmt) (sym d.2) (bare_same fmt r d.0 h)
+cut_bare fmt anc r new e h f (inr d) = subst (IsBare fmt) (sym d.3) (front_bare fmt anc r d.0 e.changes d.1 h f)

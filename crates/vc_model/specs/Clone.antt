@@ -14,7 +14,7 @@ use Rattle.vc_model.specs.Repository.Change.{SetRefs, RemoveRef, SetHead, SetInd
 use Rattle.vc_model.specs.Push.{Command}
 use Rattle.vc_model.specs.Message.{Message, Told}
 use Rattle.vc_model.specs.Message.Message.{ListRefs, Advert, Want, Pack, Push, Report}
-use Rattle.vc_model.specs.Repository.{IsRoot}
+use Rattle.vc_model.specs.Repository.{IsRoot, IsBranchName}
 use Rattle.vc_model.specs.Node.{Node, Answer, IsNoFault, Failure, Reply, Deed, Ends, sent_by, PruneEnds, RestartEnds, IsDifference}
 use Rattle.vc_model.specs.Node.Answer.{Declined, Fault}
 use Rattle.vc_model.specs.Node.Reply.{Stored, Made, Sends, Moved, Reported}
@@ -129,9 +129,9 @@ Performs fmt r a (MakeCommit extra author committer message) d =
     (s : Objects) × (x : Id) × IsNewCommit fmt r (option_to_list (head_value r) ++ extra) author committer message s x
     × (d ≡ quietly a (record { objects = s; changes = head_to r.head x ∷ [] }) (Made x))
 Performs fmt r a (SetBranch n x) d =
-    IsBranch n × IsFree r.refs n × IsGoodCommit fmt (stored r.objects) x × (d ≡ quietly a (only_changes (SetRefs ((n, x) ∷ []) ∷ [])) Stored)
+    IsBranchName fmt n × IsFree r.refs n × IsGoodCommit fmt (stored r.objects) x × (d ≡ quietly a (only_changes (SetRefs ((n, x) ∷ []) ∷ [])) Stored)
 Performs fmt r a (DeleteBranch n) d = IsBranch n × (d ≡ quietly a (only_changes (RemoveRef n ∷ [])) Stored)
-Performs fmt r a (MoveHead (OnBranch n)) d = IsBranch n × (d ≡ quietly a (only_changes (SetHead (OnBranch n) ∷ [])) Stored)
+Performs fmt r a (MoveHead (OnBranch n)) d = IsBranchName fmt n × (d ≡ quietly a (only_changes (SetHead (OnBranch n) ∷ [])) Stored)
 Performs fmt r a (MoveHead (Detached x)) d = IsGoodCommit fmt (stored r.objects) x × (d ≡ quietly a (only_changes (SetHead (Detached x) ∷ [])) Stored)
 Performs fmt r a StartFetch d = d ≡ sending AnAdvert ListRefs
 Performs fmt r a (StartPush atomic is) d =

@@ -1,5 +1,5 @@
 -- What a clone answers to each call, exactly: every refusal with its number, every reply, and the node after it.
-use Rattle.std.specs.Prelude.{◌≡◌, ◌≢◌, ℕ, ◌≤◌, List, [], ◌∷◌, ◌++◌, Option, Some, None, Ok, Err, ◌⊎◌, IsTrue, length, option_to_list}
+use Rattle.std.specs.Prelude.{◌≡◌, ◌≢◌, ℕ, ◌≤◌, List, [], ◌∷◌, ◌++◌, Option, Some, None, Ok, Err, ◌⊎◌, length, option_to_list}
 use Rattle.std.specs.FinMap.{get}
 use Rattle.std.specs.List.{AllByRecursion}
 use Rattle.vc_model.specs.Object.{Id, Object, blob, IsLine, Format, Objects, Lookup, stored}
@@ -42,13 +42,13 @@ CommitsOr fmt at (x ∷ xs) n rest = Unless (IsClosed fmt at x) 40 n (Unless (Ha
 
 -- The local command is refused with this number.
 abbrev pub Refuses : (fmt : Format) → Rules fmt → Repository → Task → ℕ → Type 0
-Refuses fmt rules r (Write o) n = rules.fault o ≡ Some n
-Refuses fmt rules r (Stage p mode content) n = Unless (IsTrue (rules.is_path p)) 60 n (Unless (IsFreePath r.index p) 61 n (rules.fault (blob content) ≡ Some n))
+Refuses fmt rules r (Write o) n = rules.fault o (Some n)
+Refuses fmt rules r (Stage p mode content) n = Unless (rules.is_path p) 60 n (Unless (IsFreePath r.index p) 61 n (rules.fault (blob content) (Some n)))
 Refuses fmt rules r (LoadTree x) n = rules.index_of r.objects x (Err n)
 Refuses fmt rules r (MakeCommit extra author committer message) n =
     Unless (IsLine author × IsLine committer) 8 n (Unless (IsHeadFree r) 32 n (CommitsOr fmt (stored r.objects) extra n
     (rules.trees_of r.index (Err n)
-    ⊎ ((t : Objects × Id) × rules.trees_of r.index (Ok t) × (rules.fault (new_commit fmt r t.1 extra author committer message) ≡ Some n)))))
+    ⊎ ((t : Objects × Id) × rules.trees_of r.index (Ok t) × (rules.fault (new_commit fmt r t.1 extra author committer message) (Some n))))))
 Refuses fmt rules r (SetBranch b x) n =
     Unless (IsFree r.refs b) 32 n (Unless (IsClosed fmt (stored r.objects) x) 40 n (Unless (HasHistory fmt (stored r.objects) x) 41 n ⊥))
 Refuses fmt rules r (MoveHead (Detached x)) n = Unless (IsClosed fmt (stored r.objects) x) 40 n (Unless (HasHistory fmt (stored r.objects) x) 41 n ⊥)
@@ -58,15 +58,15 @@ Refuses fmt rules r _ n = ⊥
 
 -- What the local command does where nothing refuses it.
 abbrev pub Obeys : (fmt : Format) → Rules fmt → Repository → Awaited → Task → Deed Awaited → Type 0
-Obeys fmt rules r a (Write o) d = (rules.fault o ≡ None) × Performs fmt r a (Write o) d
+Obeys fmt rules r a (Write o) d = (rules.fault o None) × Performs fmt r a (Write o) d
 Obeys fmt rules r a (Stage p mode content) d =
-    IsTrue (rules.is_path p) × IsFreePath r.index p × (rules.fault (blob content) ≡ None) × Performs fmt r a (Stage p mode content) d
+    rules.is_path p × IsFreePath r.index p × (rules.fault (blob content) None) × Performs fmt r a (Stage p mode content) d
 Obeys fmt rules r a (LoadTree x) d = (i : Index) × rules.index_of r.objects x (Ok i) × (d ≡ quietly a (only_changes (SetIndex i ∷ [])) Stored)
 Obeys fmt rules r a (MakeCommit extra author committer message) d =
     (IsLine author × IsLine committer) × IsHeadFree r × AllByRecursion (IsGoodCommit fmt (stored r.objects)) extra
     × ((t : Objects × Id) × rules.trees_of r.index (Ok t)
     × (let commit = new_commit fmt r t.1 extra author committer message in let x = fmt.name_of commit in
-    (rules.fault commit ≡ None) × (d ≡ quietly a (record { objects = with_object t.0 x commit; changes = head_to r.head x ∷ [] }) (Made x))))
+    (rules.fault commit None) × (d ≡ quietly a (record { objects = with_object t.0 x commit; changes = head_to r.head x ∷ [] }) (Made x))))
 Obeys fmt rules r a (StartPush atomic items) d =
     (length items ≤ 256) × ((x : Id) → IsItemId items x → IsClosed fmt (stored r.objects) x) × Performs fmt r a (StartPush atomic items) d
 Obeys fmt rules r a t d = Performs fmt r a t d

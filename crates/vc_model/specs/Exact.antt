@@ -1,9 +1,10 @@
 -- The laws of the exact relation: an exact answer is a step of the machine, and there is one answer.
-use Rattle.std.specs.Prelude.{◌≡◌, ◌≢◌, ℕ, [], ◌∷◌, Option, Some, None, Ok, ◌⊎◌}
+use Rattle.std.specs.Prelude.{◌≡◌, ◌≢◌, ℕ, [], ◌∷◌, ◌++◌, Option, Some, None, Ok, ◌⊎◌, false}
 use Rattle.std.specs.FinMap.{get}
 use Rattle.vc_model.specs.Object.{Object, Format}
 use Rattle.vc_model.specs.Repository.{Repository, IsSound}
 use Rattle.vc_model.specs.Message.{Message}
+use Rattle.vc_model.specs.Message.Envelope.{ToShared, ToClone}
 use Rattle.vc_model.specs.Node.{Answer, IsNoFault}
 use Rattle.vc_model.specs.Node.Answer.{Fault}
 use Rattle.vc_model.specs.Node.Failure.{Device}
@@ -13,13 +14,15 @@ use Rattle.vc_model.specs.Shared.SharedEvent.{Arrives, StepSlot, PruneShared, Re
 use Rattle.vc_model.specs.Clone.CloneEvent.{Commanded, Gets, PruneClone, RestartClone, QuietClone}
 use Rattle.vc_model.specs.World.{Event, IsNew, StartsSound}
 use Rattle.vc_model.specs.World.Event.{Local, Deliver, Forge, StepPush, Prune as PruneAt, Restart, Stop, Ask, PackRefs, Noise}
-use Rattle.vc_model.specs.World.Party.{TheClone}
+use Rattle.vc_model.specs.World.Party.{TheShared, TheClone}
 use Rattle.vc_model.specs.Run.{History, Run, NoCollision}
-use Rattle.vc_model.specs.Safe.{IsSafe}
+use Rattle.vc_model.specs.Safe.{IsSafe, EveryNodeSound}
 use Rattle.vc_model.specs.Order.{IsTaskOf}
-use Rattle.vc_model.specs.ExactWorld.{FusedWorld, WorldEvent, ExactMoment, ExactHistory, fused_after, ExactRun, WorldAnswers, NoExactCollision, NothingForgedExactly}
-use Rattle.vc_model.specs.ExactWorld.WorldEvent.{Orders, Delivers, Forges, Garbles, Steps, Compares, Prunes, Packs, Restarts, Stops}
+use Rattle.vc_model.specs.ExactWorld.{FusedWorld, WorldEvent, ComesAs, ExactMoment, ExactHistory, fused_after, ExactRun, WorldAnswers, NoExactCollision, NothingForgedExactly}
+use Rattle.vc_model.specs.ExactWorld.Letter.{FromClone, FromShared}
+use Rattle.vc_model.specs.ExactWorld.WorldEvent.{Orders, Delivers, Forges, Steps, Compares, Prunes, Packs, Restarts, Stops}
 use Rattle.vc_model.specs.Rules.{Rules, Tests, rules_by}
+use Rattle.vc_model.specs.Wire.{Wire, WireTests, wire_by}
 use Rattle.vc_model.specs.CloneCall.{CloneCall, CloneAnswers, Makes}
 use Rattle.vc_model.specs.CloneCall.CloneCall.{Command, Receive, Asks, Prune, Open}
 use Rattle.vc_model.specs.SharedCall.{SharedCall, SharedAnswers}
@@ -73,38 +76,39 @@ SharedHasOneAnswer = (fmt : Format) (tests : Tests fmt) (old m n : SharedNode) (
     SharedAnswers fmt (rules_by fmt tests) old e a m s → SharedAnswers fmt (rules_by fmt tests) old e b n t → IsNoFault a → IsNoFault b →
     (a ≡ b) × (m ≡ n) × (s ≡ t)
 
--- The machine's event: an order is the local command that it comes to, or, where an expression has no value, changes nothing.
-abbrev pub IsPlain : (fmt : Format) → Rules fmt → FusedWorld → WorldEvent → Event → Type 0
-IsPlain fmt rules w (Orders c o) e =
-    ((n : CloneNode) × (t : Task) × (get w.world.clones c ≡ Some n) × IsTaskOf fmt rules n.repository o (Ok t) × (e ≡ Local c t)) ⊎ (e ≡ Noise (TheClone c))
-IsPlain fmt rules w (Delivers k) e = e ≡ Deliver k
-IsPlain fmt rules w (Forges m) e = e ≡ Forge m
-IsPlain fmt rules w (Garbles p n) e = e ≡ Noise p
-IsPlain fmt rules w (Steps s) e = e ≡ StepPush s
-IsPlain fmt rules w (Compares p x y) e = e ≡ Ask p x y
-IsPlain fmt rules w (Prunes p) e = e ≡ PruneAt p
-IsPlain fmt rules w (Packs p) e = e ≡ PackRefs p
-IsPlain fmt rules w (Restarts p) e = e ≡ Restart p
-IsPlain fmt rules w (Stops p n) e = e ≡ Stop p n
+-- The machine's event: an order is the local command that it comes to, or, where an expression has no value or reading it is cut
+-- short, changes nothing; forged bytes are the message that they are, or change nothing.
+abbrev pub IsPlain : (fmt : Format) → Wire fmt → FusedWorld → WorldEvent → Event → Type 0
+IsPlain fmt wire w (Orders c o) e =
+    ((n : CloneNode) × (t : Task) × (get w.world.clones c ≡ Some n) × IsTaskOf fmt wire.rules n.repository o (Ok t) × (e ≡ Local c t)) ⊎ (e ≡ Noise (TheClone c))
+IsPlain fmt wire w (Delivers k) e = e ≡ Deliver k
+IsPlain fmt wire w (Forges (FromClone c bytes)) e = ComesAs fmt wire bytes (λ m. Forge (ToShared c m)) (λ n. Noise TheShared) e
+IsPlain fmt wire w (Forges (FromShared c bytes)) e = ComesAs fmt wire bytes (λ m. Forge (ToClone c m)) (λ n. Noise (TheClone c)) e
+IsPlain fmt wire w (Steps s) e = e ≡ StepPush s
+IsPlain fmt wire w (Compares p x y) e = e ≡ Ask p x y
+IsPlain fmt wire w (Prunes p) e = e ≡ PruneAt p
+IsPlain fmt wire w (Packs p) e = e ≡ PackRefs p
+IsPlain fmt wire w (Restarts p) e = e ≡ Restart p
+IsPlain fmt wire w (Stops p n) e = e ≡ Stop p n
 
 -- The history of the machine has the same answers and worlds, moment by moment.
-abbrev pub Shadows : (fmt : Format) → Rules fmt → FusedWorld → ExactHistory → History → Type 0
-Shadows fmt rules start [] [] = Unit {0}
-Shadows fmt rules start (m ∷ h) (n ∷ k) = (n.answer ≡ m.answer) × (n.world ≡ m.world.world) × IsPlain fmt rules (fused_after start h) m.event n.event × Shadows fmt rules start h k
-Shadows fmt rules start [] (n ∷ k) = ⊥
-Shadows fmt rules start (m ∷ h) [] = ⊥
+abbrev pub Shadows : (fmt : Format) → Wire fmt → FusedWorld → ExactHistory → History → Type 0
+Shadows fmt wire start [] [] = Unit {0}
+Shadows fmt wire start (m ∷ h) (n ∷ k) = (n.answer ≡ m.answer) × (n.world ≡ m.world.world) × IsPlain fmt wire (fused_after start h) m.event n.event × Shadows fmt wire start h k
+Shadows fmt wire start [] (n ∷ k) = ⊥
+Shadows fmt wire start (m ∷ h) [] = ⊥
 
 -- An exact run is a run of the machine.
 abbrev pub ExactRunIsRun : Type 0
-ExactRunIsRun = (fmt : Format) (tests : Tests fmt) (start : FusedWorld) (h : ExactHistory) →
-    StartsSound fmt start.world → ExactRun fmt (rules_by fmt tests) start h → NoExactCollision fmt (rules_by fmt tests) start h →
-    (k : History) × Shadows fmt (rules_by fmt tests) start h k × Run fmt start.world k × NoCollision fmt start.world k
+ExactRunIsRun = (fmt : Format) (tests : WireTests fmt) (start : FusedWorld) (h : ExactHistory) →
+    StartsSound fmt start.world → ExactRun fmt (wire_by fmt tests) start h → NoExactCollision fmt (wire_by fmt tests) start h →
+    (k : History) × Shadows fmt (wire_by fmt tests) start h k × Run fmt start.world k × NoCollision fmt start.world k
 
 -- So an exact run of a new world is safe.
 abbrev pub ExactRunIsSafe : Type 0
-ExactRunIsSafe = (fmt : Format) (tests : Tests fmt) (n : ℕ) (start : FusedWorld) (h : ExactHistory) →
-    IsNew start.world n → ExactRun fmt (rules_by fmt tests) start h → NoExactCollision fmt (rules_by fmt tests) start h → NothingForgedExactly h →
-    (k : History) × Shadows fmt (rules_by fmt tests) start h k × IsSafe fmt start.world k
+ExactRunIsSafe = (fmt : Format) (tests : WireTests fmt) (n : ℕ) (start : FusedWorld) (h : ExactHistory) →
+    IsNew start.world n → ExactRun fmt (wire_by fmt tests) start h → NoExactCollision fmt (wire_by fmt tests) start h → NothingForgedExactly fmt (wire_by fmt tests) h →
+    (k : History) × Shadows fmt (wire_by fmt tests) start h k × IsSafe fmt start.world k
 
 -- no writes left are set anywhere
 pub record IsUnfused (w : FusedWorld) : Type 0 where
@@ -122,10 +126,22 @@ NoStops (m ∷ h) = IsNoStop m.event × NoStops h
 
 -- But for stops and faults, an event has one answer and leads to one world.
 abbrev pub WorldHasOneAnswer : Type 0
-WorldHasOneAnswer = (fmt : Format) (tests : Tests fmt) (old m n : FusedWorld) (e : WorldEvent) (a b : Answer) → IsUnfused old → IsNoStop e →
-    WorldAnswers fmt (rules_by fmt tests) old e a m → WorldAnswers fmt (rules_by fmt tests) old e b n → IsNoFault a → IsNoFault b → (a ≡ b) × (m ≡ n)
+WorldHasOneAnswer = (fmt : Format) (tests : WireTests fmt) (old m n : FusedWorld) (e : WorldEvent) (a b : Answer) → IsUnfused old → IsNoStop e →
+    WorldAnswers fmt (wire_by fmt tests) old e a m → WorldAnswers fmt (wire_by fmt tests) old e b n → IsNoFault a → IsNoFault b → (a ≡ b) × (m ≡ n)
 
--- Where no stop was ever set, the device never fails.
+-- Where no stop was ever set, a device that is not frail never fails.
 abbrev pub DeviceNeedsAStop : Type 0
-DeviceNeedsAStop = (fmt : Format) (tests : Tests fmt) (start : FusedWorld) (m : ExactMoment) (h : ExactHistory) →
-    IsUnfused start → NoStops (m ∷ h) → ExactRun fmt (rules_by fmt tests) start (m ∷ h) → m.answer ≢ Fault Device
+DeviceNeedsAStop = (fmt : Format) (tests : WireTests fmt) (start : FusedWorld) (m : ExactMoment) (h : ExactHistory) →
+    start.frail ≡ false → IsUnfused start → NoStops (m ∷ h) → ExactRun fmt (wire_by fmt tests) start (m ∷ h) → m.answer ≢ Fault Device
+
+-- At each moment of an exact run from sound nodes every node is sound.
+abbrev pub ExactRunStaysSound : Type 0
+ExactRunStaysSound = (fmt : Format) (tests : WireTests fmt) (start : FusedWorld) (late early : ExactHistory) →
+    StartsSound fmt start.world → ExactRun fmt (wire_by fmt tests) start (late ++ early) → NoExactCollision fmt (wire_by fmt tests) start (late ++ early) →
+    EveryNodeSound fmt (fused_after start early).world
+
+-- A node that a stop left no more writes stores what it stored.
+abbrev pub NoWriteIsLeft : Type 0
+NoWriteIsLeft = (fmt : Format) (tests : WireTests fmt) (old new : FusedWorld) (e : WorldEvent) (a : Answer) → WorldAnswers fmt (wire_by fmt tests) old e a new →
+    (old.shared_fuse ≡ Some 0 → new.world.shared.repository ≡ old.world.shared.repository)
+    × ((c : ℕ) (n m : CloneNode) → get old.clone_fuses c ≡ Some 0 → get old.world.clones c ≡ Some n → get new.world.clones c ≡ Some m → m.repository ≡ n.repository)

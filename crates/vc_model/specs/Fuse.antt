@@ -1,9 +1,10 @@
 -- The writes left at a node, once a stop set them: so many stored writes pass, and the next fails.
-use Rattle.std.specs.Prelude.{◌≡◌, ◌≢◌, ℕ, ◌+◌, ◌-◌, ◌≤◌, Option, Some, None, ◌⊎◌}
-use Rattle.std.specs.FinMap.{FinMap, get, insert, remove, len}
+use Rattle.std.specs.Prelude.{◌≡◌, ◌≢◌, ℕ, ◌-◌, ◌≤◌, Bool, true, IsTrue, List, Contains, length, Option, Some, None, ◌⊎◌}
+use Rattle.std.specs.FinMap.{FinMap, get, insert, remove}
 use Rattle.std.specs.Ordering.{nat_cmp}
-use Rattle.vc_model.specs.Object.{Format}
-use Rattle.vc_model.specs.Repository.{Repository, with_objects, no_effect}
+use Rattle.vc_model.specs.Object.{Id, Format}
+use Rattle.vc_model.specs.Refs.{RefName}
+use Rattle.vc_model.specs.Repository.{Repository, no_effect}
 use Rattle.vc_model.specs.Push.{OpenPush, Slots}
 use Rattle.vc_model.specs.Push.Stage.{Finished}
 use Rattle.vc_model.specs.Message.Message.{Pack, Push}
@@ -44,19 +45,38 @@ CloneWrites fmt rules r a (AsksClone PackRefs) = Unit {0}
 CloneWrites fmt rules r a PruneClone = Unit {0}
 CloneWrites fmt rules r a _ = ⊥
 
--- So many writes suffice for the change: one for each object that came or went, and one where anything else differs.
-pub record WritesSuffice (writes : ℕ) (old new : Repository) : Type 0 where
-  pub came : len new.objects ≤ len old.objects + writes
-  pub went : len old.objects ≤ len new.objects + writes
-  pub rest : new ≢ with_objects old new.objects → len new.objects + 1 ≤ len old.objects + writes
+-- A place that a write may change.
+pub data Place : Type 0 where
+  AnObject : Id → Place
+  ARef : RefName → Place
+  -- all refs of an atomic push, which are set by one write
+  TheRefs : Place
+  TheHead : Place
+  TheIndex : Place
 
--- With this fuse before it, a call that may write, or may not, ends with this answer and this fuse. The device fails only where
--- a stop set the writes left, and the call wanted a write when none was left.
-abbrev pub Burns : Fuse → Type 0 → Repository → Repository → Answer → Fuse → Type 0
-Burns None may old new a after = (a ≢ Fault Device) × (after ≡ None)
-Burns (Some writes) may old new a after =
-    ((a ≡ Fault Device) × may × WritesSuffice writes old new × (after ≡ Some 0))
-    ⊎ ((a ≢ Fault Device) × ((k : ℕ) × (k ≤ writes) × ((¬ may) → k ≡ 0) × WritesSuffice k old new × (after ≡ Some (writes - k))))
+-- The repositories differ at no other places.
+pub record DiffersAt (places : List Place) (old new : Repository) : Type 0 where
+  pub objects : (x : Id) → (get new.objects x ≡ get old.objects x) ⊎ Contains places (AnObject x)
+  pub refs : (n : RefName) → (get new.refs n ≡ get old.refs n) ⊎ (Contains places (ARef n) ⊎ Contains places TheRefs)
+  pub head : (new.head ≡ old.head) ⊎ Contains places TheHead
+  pub index : (new.index ≡ old.index) ⊎ Contains places TheIndex
+
+-- So many writes suffice for the change: one at each place. Only where refs are set together one write sets them all.
+abbrev pub WritesSuffice : (together : Type 0) → ℕ → Repository → Repository → Type 0
+WritesSuffice together writes old new = (places : List Place) × (length places ≤ writes) × (Contains places TheRefs → together) × DiffersAt places old new
+
+-- The step sets all refs of a push as one.
+abbrev pub SetsTogether : Slots → SharedCall → Type 0
+SetsTogether slots (StepOf s) = (p : OpenPush) × (get slots s ≡ Some p) × (p.atomic ≡ true)
+SetsTogether slots _ = ⊥
+
+-- With this fuse before it, a call that may write, or may not, ends with this answer and this fuse. A frail device may fail at any
+-- time; another one only where a stop set the writes left, and the call wanted a write when none was left.
+abbrev pub Burns : (frail : Bool) → Fuse → (may together : Type 0) → Repository → Repository → Answer → Fuse → Type 0
+Burns frail None may together old new a after = (a ≡ Fault Device → IsTrue frail) × (after ≡ None)
+Burns frail (Some writes) may together old new a after =
+    (k : ℕ) × (k ≤ writes) × ((¬ may) → k ≡ 0) × WritesSuffice together k old new × (after ≡ Some (writes - k))
+    × (a ≡ Fault Device → IsTrue frail ⊎ (may × (k ≡ writes)))
 
 abbrev pub Fuses : Type 0
 Fuses = FinMap nat_cmp ℕ

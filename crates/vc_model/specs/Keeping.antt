@@ -3,8 +3,8 @@ use Rattle.std.specs.Prelude.{◌≡◌, ℕ, Bool, true, List, Option, Some, �
 use Rattle.std.specs.FinMap.{get}
 use Rattle.std.specs.List.{AllByRecursion, list_all}
 use Rattle.vc_model.specs.Object.{Id, zero_id, Object, Format, Objects, Lookup, IsNamed, stored, over}
-use Rattle.vc_model.specs.Refs.{IsBranch, IsTag}
-use Rattle.vc_model.specs.Repository.{Repository, IsGoodValue, IsSound, IsBare}
+use Rattle.vc_model.specs.Refs.{IsBranch}
+use Rattle.vc_model.specs.Repository.{Repository, IsGoodValue, IsSharedName, IsSound, IsBare}
 use Rattle.vc_model.specs.Push.{Command, Judged, Stage, OpenPush, Slots, is_passing}
 use Rattle.vc_model.specs.Push.Verdict.{Passing}
 use Rattle.vc_model.specs.Push.Stage.{Unpacked, Checked, Migrated, Finished}
@@ -19,7 +19,7 @@ use Rattle.vc_model.specs.Run.{BringsLocally}
 -- What a command that passed its check meets, over what is found at.
 pub record JudgedOk (fmt : Format) (at : Lookup) (anc : Id → Id → Type 0) (c : Command) : Type 0 where
   pub value : IsGoodValue fmt at c.name c.new
-  pub place : IsBranch c.name ⊎ IsTag c.name
+  pub place : IsSharedName fmt c.name
   pub forward : IsBranch c.name → (c.old ≡ zero_id) ⊎ anc c.old c.new
 
 abbrev pub PassingOk : Format → Lookup → (Id → Id → Type 0) → Judged → Type 0
@@ -49,7 +49,7 @@ Alone s slots = (k : ℕ) (p : OpenPush) → get slots k ≡ Some p → (x : Id)
 -- What holds of the shared node.
 pub record SharedKept (fmt : Format) (anc : Id → Id → Type 0) (n : SharedNode) : Type 0 where
   pub sound : IsSound fmt n.repository
-  pub bare : IsBare n.repository
+  pub bare : IsBare fmt n.repository
   pub slots : (slots : Slots) → n.live ≡ Some slots → SlotsOk fmt anc n.repository.objects slots
 
 -- a message that comes is named

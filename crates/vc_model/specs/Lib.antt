@@ -17,6 +17,7 @@ pub mod Keeping
 pub mod Graph
 pub mod Small
 pub mod Rules
+pub mod Wire
 pub mod Question
 pub mod CloneCall
 pub mod SharedCall
@@ -24,4 +25,5 @@ pub mod Order
 pub mod Fuse
 pub mod ExactWorld
 pub mod Exact
+pub mod Good
 pub mod Race

@@ -1,5 +1,5 @@
 -- Objects, their names, and what an object links to.
-use Rattle.std.specs.Prelude.{◌≡◌, ℕ, Bool, List, [], ◌∷◌, Option, Some, Contains, replicate}
+use Rattle.std.specs.Prelude.{◌≡◌, ℕ, Bool, IsTrue, List, [], ◌∷◌, Option, Some, Contains, replicate, codes}
 use Rattle.std.specs.FinMap.{FinMap, get}
 use Rattle.std.specs.Option.{option_or}
 use Rattle.std.specs.Ordering.{nat_cmp}
@@ -37,10 +37,14 @@ pub record Format : Type 0 where
   pub links : Object → List Id
   -- those of them by `parent` lines
   pub parents : Object → List Id
-  -- a ref name that breaks none of the rules; of a branch also that its tracking name breaks none
+  -- a ref name that breaks none of the rules
+  pub is_name : List ℕ → Bool
+  -- a name that a push may set: one that breaks none of the rules, and of a branch also that its tracking name breaks none
   pub is_legal : List ℕ → Bool
   -- the body of a commit
   pub commit_body : (tree : Id) (parents : List Id) (author committer message : List ℕ) → List ℕ
+  pub legal_names : (n : List ℕ) → IsTrue (is_legal n) → IsTrue (is_name n)
+  pub main_is_name : IsTrue (is_name (codes "refs/heads/main"))
   pub blobs : (o : Object) → o.kind ≡ Blob → links o ≡ []
   pub parents_linked : (o : Object) (x : Id) → Contains (parents o) x → Contains (links o) x
   -- a commit of names of objects, whose author and committer are lines, links to its tree and its parents

@@ -12,6 +12,8 @@ pub data Question : Type 0 where
   Unread : (refusal : ℕ) → Question
   -- an expression of the call has no value, refused with this number
   Unresolved : (refusal : ℕ) → Question
+  -- the expressions of the call could not all be read: a fault comes before what was asked is known
+  Interrupted : Question
   Resolve : (expression : List ℕ) → Question
   -- whether two expressions have the same value
   Compare : (first second : List ℕ) → Question
@@ -32,6 +34,7 @@ Compares fmt rules r (Ok x) second a =
 abbrev pub Tells : (fmt : Format) → Rules fmt → Repository → Question → Answer → Type 0
 Tells fmt rules r (Unread n) a = a ≡ Declined n
 Tells fmt rules r (Unresolved n) a = a ≡ Declined n
+Tells fmt rules r Interrupted a = ⊥
 Tells fmt rules r (Resolve e) a = (v : Result Id ℕ) × rules.denotes r e v × (a ≡ found v)
 Tells fmt rules r (Compare first second) a = (v : Result Id ℕ) × rules.denotes r first v × Compares fmt rules r v second a
 Tells fmt rules r PackRefs a = a ≡ Did Stored

@@ -1,5 +1,5 @@
 -- What a node stores: objects, refs, HEAD and an index. What an event adds and changes there, whole or cut by a stop.
-use Rattle.std.specs.Prelude.{◌≡◌, ◌≢◌, ℕ, List, [], ◌∷◌, Some, None, ◌⊎◌, take}
+use Rattle.std.specs.Prelude.{◌≡◌, ◌≢◌, ℕ, IsTrue, List, [], ◌∷◌, Some, None, ◌⊎◌, take}
 use Rattle.std.specs.FinMap.{FinMap, get, remove, empty}
 use Rattle.std.specs.Ordering.{nat_cmp}
 use Rattle.std.specs.Cmp.Lexicographic.{slice_cmp}
@@ -75,21 +75,31 @@ StopsWithin old e new =
     ((s : Objects) × SomeAdded old.objects e.objects s × (new ≡ with_objects old s))
     ⊎ ((s : Objects) × (k : ℕ) × AllAdded old.objects e.objects s × (new ≡ changed_all (take k e.changes) (with_objects old s)))
 
--- A value that a ref may have: closed, and for a branch or a tracking ref a history of commits.
+-- A branch whose name breaks none of the rules.
+abbrev pub IsBranchName : Format → RefName → Type 0
+IsBranchName fmt n = IsBranch n × IsTrue (fmt.is_name n)
+
+-- A branch or a tag that a push may set.
+abbrev pub IsSharedName : Format → RefName → Type 0
+IsSharedName fmt n = (IsBranch n ⊎ IsTag n) × IsTrue (fmt.is_legal n)
+
+-- A ref and a value that it may have: a legal name, and an id that is closed, for a branch or a tracking ref a history of
+-- commits.
 pub record IsGoodValue (fmt : Format) (at : Lookup) (n : RefName) (x : Id) : Type 0 where
+  pub name : IsTrue (fmt.is_name n)
   pub closed : IsClosed fmt at x
   pub kind : IsTag n ⊎ (IsBranch n ⊎ IsTrackingRef n) × HasHistory fmt at x
 
--- Branches and tags alone, and a HEAD that names a branch, as at the shared node.
-pub record IsBare (r : Repository) : Type 0 where
-  pub each : (n : RefName) (x : Id) → get r.refs n ≡ Some x → IsBranch n ⊎ IsTag n
+-- Branches and tags alone, that clones can track and hold, and a HEAD that names a branch, as at the shared node.
+pub record IsBare (fmt : Format) (r : Repository) : Type 0 where
+  pub each : (n : RefName) (x : Id) → get r.refs n ≡ Some x → IsSharedName fmt n
   pub on_branch : (n : RefName) × (r.head ≡ OnBranch n)
 
 -- The objects are closed under all refs, HEAD and the index, each object under its own name.
 pub record IsSound (fmt : Format) (r : Repository) : Type 0 where
   pub objects : IsNamed fmt r.objects
   pub refs : (n : RefName) (x : Id) → get r.refs n ≡ Some x → IsGoodValue fmt (stored r.objects) n x
-  pub on_branch : (n : RefName) → r.head ≡ OnBranch n → IsBranch n
+  pub on_branch : (n : RefName) → r.head ≡ OnBranch n → IsBranchName fmt n
   pub head : (x : Id) → r.head ≡ Detached x → IsClosed fmt (stored r.objects) x × HasHistory fmt (stored r.objects) x
   pub index : (p : List ℕ) (e : Entry) → get r.index p ≡ Some e → e.mode ≢ gitlink → IsClosed fmt (stored r.objects) e.id
 

@@ -26,7 +26,7 @@ pub record EveryNodeClosed (fmt : Format) (w : World) : Type 0 where
 -- Each node is sound, and the shared one has branches and tags alone.
 pub record EveryNodeSound (fmt : Format) (w : World) : Type 0 where
   pub shared : IsSound fmt w.shared.repository
-  pub bare : IsBare w.shared.repository
+  pub bare : IsBare fmt w.shared.repository
   pub clones : (c : ℕ) (n : CloneNode) → get w.clones c ≡ Some n → IsSound fmt n.repository
 
 -- The value of branch b at the shared node, if it has one.

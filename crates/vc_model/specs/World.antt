@@ -107,7 +107,7 @@ pub record IsNew (w : World) (n : ℕ) : Type 0 where
 -- A world of sound nodes, in which no push is open and nothing was sent. A new world is one.
 pub record StartsSound (fmt : Format) (w : World) : Type 0 where
   pub shared : IsSound fmt w.shared.repository
-  pub bare : IsBare w.shared.repository
+  pub bare : IsBare fmt w.shared.repository
   pub slots : (slots : Slots) → w.shared.live ≡ Some slots → slots ≡ empty
   pub clones : (c : ℕ) (n : CloneNode) → get w.clones c ≡ Some n → IsSound fmt n.repository
   pub sent : w.sent ≡ []

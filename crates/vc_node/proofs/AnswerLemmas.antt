@@ -11,10 +11,8 @@ use Rattle.vc_model.specs.Repository.{Repository}
 use Rattle.vc_model.specs.Node.{Answer, Failure}
 use Rattle.vc_model.specs.Node.Answer.{Did, Declined, Fault}
 use Rattle.vc_model.specs.Clone.{Awaited, CloneNode, Task}
-use Rattle.vc_model.specs.Clone.Awaited.{Nothing}
 use Rattle.vc_model.specs.CloneCall.{Refuses}
 use Rattle.vc_model.specs.CloneCall.CloneAnswers.{down, refused, obeyed, faulted}
-use Rattle.vc_model.specs.Rules.{Tests, rules_by}
 use Rattle.vc_object.specs.declared.kind.Kind.{Kind as ObjectKind}
 use Rattle.vc_object.specs.declared.kind.Kind.TheVariants as kinds
 use Rattle.vc_refs.specs.declared.faults.RefFault.TheVariants as ref
@@ -23,7 +21,8 @@ use Rattle.vc_node.specs.declared.fault.NodeFault.{NodeFault}
 use Rattle.vc_node.specs.declared.fault.NodeFault.TheVariants.{Store, Ref, Missing, NotACommit, BadPath, PathConflict, BadIndex, WrongEntry, Down}
 use Rattle.vc_node.specs.NodeFault.{is_fault}
 use Rattle.vc_node.specs.Shown.{Shown, shown}
-use Rattle.vc_node.specs.Machine.{git, machine_kind, live_of, Spells, AgreesOn, Follows, Answers, IsBadFile, fault_answer}
+use Rattle.vc_rules.specs.Git.{git, machine_kind}
+use Rattle.vc_node.specs.Machine.{git_rules, live_of, Spells, Follows, Answers, IsBadFile, fault_answer}
 
 pub kind_back : (k : ObjectKind) → kind_of (machine_kind k) ≡ k
 kind_back kinds.Blob = refl
@@ -34,7 +33,7 @@ kind_back kinds.Tag = refl
 -- a node that is down
 pub answers_down : (task : Task) (was : Bool) (s : Shown) → was ≡ false → Answers task (Declined 112) was was s s
 answers_down task was s e = record {
-  each = λ tests agrees n holds. (n, holds, down (holds.live ∙ ap live_of e) (λ h. cc h) refl refl refl);
+  each = λ awaited n holds. (n, holds, down (holds.live ∙ ap (λ (up : Bool). live_of up awaited) e) (λ h. cc h) refl refl refl);
 }
 
 abbrev pub stays : Answer → Bool
@@ -66,32 +65,32 @@ same_node r s a b e f i = record { repository = e i; live = f i }
 -- a node that is up
 pub answers_from : (task : Task) (a : Answer) (was is : Bool) (old new : Shown) → Follows task a old new → was ≡ true → is ≡ stays a → Answers task a was is old new
 answers_from task (Did y) was is old new follows up after = record {
-  each = λ tests agrees n holds.
-      let g = follows.goes tests agrees n.repository holds.spells in
+  each = λ awaited n holds.
+      let g = follows.goes awaited n.repository holds.spells in
       let d = g.2 in (
-        record { repository = g.0; live = Some Nothing },
-        record { spells = g.1; live = ap live_of (sym after) },
-        obeyed Nothing d.0 (holds.live ∙ ap live_of up) d.1 (d.2, ap Some (sym d.3), d.5) (sym d.4),
+        record { repository = g.0; live = Some awaited },
+        record { spells = g.1; live = ap (λ (up : Bool). live_of up awaited) (sym after) },
+        obeyed awaited d.0 (holds.live ∙ ap (λ (up : Bool). live_of up awaited) up) d.1 (d.2, ap Some (sym d.3), d.5) (sym d.4),
       );
 }
 answers_from task (Declined k) was is old new follows up after = record {
-  each = λ tests agrees n holds.
-      let g = follows.goes tests agrees n.repository holds.spells in
-      let live : n.live ≡ Some Nothing = holds.live ∙ ap live_of up in (
-        record { repository = g.0; live = Some Nothing },
-        record { spells = g.1; live = ap live_of (sym after) },
-        refused Nothing k live g.2.0 refl (same_node g.0 n.repository (Some Nothing) n.live g.2.1 (sym live)) refl,
+  each = λ awaited n holds.
+      let g = follows.goes awaited n.repository holds.spells in
+      let live : n.live ≡ Some awaited = holds.live ∙ ap (λ (up : Bool). live_of up awaited) up in (
+        record { repository = g.0; live = Some awaited },
+        record { spells = g.1; live = ap (λ (up : Bool). live_of up awaited) (sym after) },
+        refused awaited k live g.2.0 refl (same_node g.0 n.repository (Some awaited) n.live g.2.1 (sym live)) refl,
       );
 }
 answers_from task (Fault f) was is old new follows up after = record {
-  each = λ tests agrees n holds.
-      let g = follows.goes tests agrees n.repository holds.spells in
-      let live : n.live ≡ Some Nothing = holds.live ∙ ap live_of up in (
+  each = λ awaited n holds.
+      let g = follows.goes awaited n.repository holds.spells in
+      let live : n.live ≡ Some awaited = holds.live ∙ ap (λ (up : Bool). live_of up awaited) up in (
         record { repository = g.0; live = None },
-        record { spells = g.1; live = ap live_of (sym after) },
+        record { spells = g.1; live = ap (λ (up : Bool). live_of up awaited) (sym after) },
         elim (g.2) [
-          | inl d ↦ obeyed Nothing d.0 live d.1 (d.2, refl) refl
-          | inr e ↦ faulted Nothing f live (λ h. cc h) refl (same_node g.0 n.repository None None e refl) refl
+          | inl d ↦ obeyed awaited d.0 live d.1 (d.2, refl) refl
+          | inr e ↦ faulted awaited f live (λ h. cc h) refl (same_node g.0 n.repository None None e refl) refl
         ],
       );
 }
@@ -114,11 +113,11 @@ pub or_unchanged : (Bad : Type 0) (task : Task) (a : Answer) (old new : FileMap)
 or_unchanged Bad task a old new cases same = elim cases [ inl bad ↦ inl bad | inr follows ↦ inr (unchanged task a old new follows same) ]
 
 -- a refusal, and a fault before anything was done
-pub declines : (task : Task) (n : ℕ) (s : Shown) → ((tests : Tests git) → AgreesOn tests → (r : Repository) → Spells s r → Refuses git (rules_by git tests) r task n) → Follows task (Declined n) s s
-declines task n s h = record { goes = λ tests agrees r spells. (r, spells, (h tests agrees r spells, refl)) }
+pub declines : (task : Task) (n : ℕ) (s : Shown) → ((r : Repository) → Spells s r → Refuses git git_rules r task n) → Follows task (Declined n) s s
+declines task n s h = record { goes = λ awaited r spells. (r, spells, (h r spells, refl)) }
 
 pub faults : (task : Task) (f : Failure) (s : Shown) → Follows task (Fault f) s s
-faults task f s = record { goes = λ tests agrees r spells. (r, spells, inr refl) }
+faults task f s = record { goes = λ awaited r spells. (r, spells, inr refl) }
 
 -- ---- maps by the bytes of their keys
 

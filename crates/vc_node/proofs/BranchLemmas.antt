@@ -13,11 +13,9 @@ use Rattle.vc_model.specs.Repository.{Repository, only_changes}
 use Rattle.vc_model.specs.Repository.Change.{RemoveRef, SetRefs, SetHead}
 use Rattle.vc_model.specs.Node.{Deed}
 use Rattle.vc_model.specs.CloneCall.{Obeys}
-use Rattle.vc_model.specs.Rules.{Tests, rules_by}
 use Rattle.vc_model.specs.Node.Answer.{Did}
 use Rattle.vc_model.specs.Node.Reply.{Stored}
 use Rattle.vc_model.specs.Clone.{Awaited, quietly}
-use Rattle.vc_model.specs.Clone.Awaited.{Nothing}
 use Rattle.vc_model.specs.Clone.Task.{DeleteBranch, SetBranch, MoveHead}
 use Rattle.vc_object.specs.declared.id.ObjectId.{ObjectId}
 use Rattle.vc_refs.specs.RefMap.{RefMap, is_folder_of, conflicts, with_ref, without_ref}
@@ -35,10 +33,13 @@ use Rattle.vc_node.specs.declared.fault.NodeFault.TheVariants.{Store, Ref, Missi
 use Rattle.vc_node.specs.Blames.{BlamesRemoved, BlamesBranch, BlamesHead, MayHead, IsLocalHead}
 use Rattle.vc_node.specs.GoodCommit.{IsComplete, IsHistory}
 use Rattle.vc_node.specs.Shown.{Shown, shown, with_refs_shown, with_head_shown}
-use Rattle.vc_node.specs.Machine.{git, machine_head, Spells, Follows, IsBadFile, fault_answer, failure_of}
+use Rattle.vc_rules.specs.Git.{git}
+use Rattle.vc_node.specs.Machine.{git_rules, machine_head, Spells, Follows, IsBadFile, fault_answer, failure_of}
 use Rattle.vc_node.proofs.AnswerLemmas.{declines, faults, get-put, get-unput, map_cond}
 use Rattle.vc_node.proofs.IndexLemmas.{none_added}
-use Rattle.vc_node.proofs.ReachLemmas.{closed_from, closed_to, history_from, history_to, objects_sound}
+use Rattle.vc_rules.proofs.ReachLemmas.{closed_from, closed_to, history_from, history_to}
+use Rattle.vc_node.proofs.NameLemmas.{head_named, set_named}
+use Rattle.vc_node.proofs.StoredLemmas.{objects_sound}
 
 -- a name that begins so is a branch's
 pub branch_named : (name : List ℕ) → starts_with nat_eq name (codes "refs/heads/") ≡ true → IsBranch name
@@ -64,11 +65,11 @@ removed_rel s r name p q = ap (cond (bytes_eq q name) None) (p.refs q) ∙ map_c
 
 pub delete_done : (name : List ℕ) (old new : Shown) → starts_with nat_eq name (codes "refs/heads/") ≡ true → new ≡ with_refs_shown old (without_ref old.refs name) → Follows (DeleteBranch name) (Did Stored) old new
 delete_done name old new begins is = record {
-  goes = λ tests agrees r p.
+  goes = λ awaited r p.
       let after = record r { refs = remove r.refs name } in (
         after,
         subst (λ (s : Shown). Spells s after) (sym is) (spells_refs old r (without_ref old.refs name) (remove r.refs name) p (removed_rel old r name p)),
-        (quietly Nothing (only_changes (RemoveRef name ∷ [])) Stored, (branch_named name begins, refl), (r.objects, none_added r.objects, refl), refl, refl, refl),
+        (quietly awaited (only_changes (RemoveRef name ∷ [])) Stored, (branch_named name begins, refl), (r.objects, none_added r.objects, refl), refl, refl, refl),
       );
 }
 
@@ -150,16 +151,16 @@ unfolding with_ref
 set_rel s r name id p q =
     ap (cond (bytes_eq q name) (Some id)) (p.refs q) ∙ map_cond id_of_bytes (bytes_eq q name) (Some id.0) (get r.refs q) ∙ ap (option_map id_of_bytes) (sym (get-put r.refs name q id.0))
 
-pub set_branch_done : (content : FileMap) (name : List ℕ) (id : ObjectId) (new : Shown) → starts_with nat_eq name (codes "refs/heads/") ≡ true → new ≡ with_refs_shown (shown content) (with_ref (refs content) name id)
-    → IsFreeName content name → IsComplete content id × IsHistory content id → Follows (SetBranch name id.0) (Did Stored) (shown content) new
+pub set_branch_done : (content : FileMap) (name : List ℕ) (id : ObjectId) (new : FileMap) → starts_with nat_eq name (codes "refs/heads/") ≡ true → shown new ≡ with_refs_shown (shown content) (with_ref (refs content) name id)
+    → IsFreeName content name → IsComplete content id × IsHistory content id → Follows (SetBranch name id.0) (Did Stored) (shown content) (shown new)
 set_branch_done content name id new begins is free good = record {
-  goes = λ tests agrees r p.
+  goes = λ awaited r p.
       let after = record r { refs = insert r.refs name id.0 } in (
         after,
         subst (λ (s : Shown). Spells s after) (sym is) (spells_refs (shown content) r (with_ref (refs content) name id) (insert r.refs name id.0) p (set_rel (shown content) r name id p)),
         (
-          quietly Nothing (only_changes (SetRefs ((name, id.0) ∷ []) ∷ [])) Stored,
-          (branch_named name begins, free_from content r name p free, (closed content r p id good.0, history content r p id good.1), refl),
+          quietly awaited (only_changes (SetRefs ((name, id.0) ∷ []) ∷ [])) Stored,
+          ((branch_named name begins, set_named content new name id is), free_from content r name p free, (closed content r p id good.0, history content r p id good.1), refl),
           (r.objects, none_added r.objects, refl),
           refl,
           refl,
@@ -170,14 +171,14 @@ set_branch_done content name id new begins is free good = record {
 
 pub set_branch_failed : (content : FileMap) (name : List ℕ) (id : ObjectId) (e : NodeFault) → BlamesBranch content name id e → IsBadFile content e ⊎ Follows (SetBranch name id.0) (fault_answer e) (shown content) (shown content)
 set_branch_failed content name id (Ref (ref.Stale current)) blames = absurd blames
-set_branch_failed content name id (Ref (ref.Conflict other)) blames = inr (declines (SetBranch name id.0) 32 (shown content) (λ tests agrees r p. inl (not_free content r name other p blames.0.here.conflict blames.1, refl)))
+set_branch_failed content name id (Ref (ref.Conflict other)) blames = inr (declines (SetBranch name id.0) 32 (shown content) (λ r p. inl (not_free content r name other p blames.0.here.conflict blames.1, refl)))
 set_branch_failed content name id (Ref (ref.BadRefFile path)) blames = inl (elim blames [ inl way ↦ way.0 | inr own ↦ subst (λ (n : List ℕ). IsBadRef content n) (sym own.0) own.1 ])
 set_branch_failed content name id (Ref ref.HeadLoop) blames = absurd blames
 set_branch_failed content name id (Ref (ref.Fault f)) blames = inr (faults (SetBranch name id.0) (failure_of f) (shown content))
 set_branch_failed content name id (Missing absent) blames =
-    inr (declines (SetBranch name id.0) 40 (shown content) (λ tests agrees r p. inr (free_from content r name p blames.0, inl (not_closed content r p id blames.1, refl))))
+    inr (declines (SetBranch name id.0) 40 (shown content) (λ r p. inr (free_from content r name p blames.0, inl (not_closed content r p id blames.1, refl))))
 set_branch_failed content name id (NotACommit other) blames =
-    inr (declines (SetBranch name id.0) 41 (shown content) (λ tests agrees r p. inr (free_from content r name p blames.0, inr (closed content r p id blames.1.0, inl (not_history content r p id blames.1.1, refl)))))
+    inr (declines (SetBranch name id.0) 41 (shown content) (λ r p. inr (free_from content r name p blames.0, inr (closed content r p id blames.1.0, inl (not_history content r p id blames.1.1, refl)))))
 set_branch_failed content name id (Store (store.BadObject f)) blames = absurd blames
 set_branch_failed content name id (Store (store.Absent absent)) blames = absurd blames
 set_branch_failed content name id (Store (store.Damaged damaged)) blames = inl blames
@@ -204,20 +205,20 @@ spells_head s r h p = record {
   index = p.index;
 }
 
-abbrev head_deed : RefsHead → Deed Awaited
-head_deed h = quietly Nothing (only_changes (SetHead (machine_head h) ∷ [])) Stored
+abbrev head_deed : Awaited → RefsHead → Deed Awaited
+head_deed awaited h = quietly awaited (only_changes (SetHead (machine_head h) ∷ [])) Stored
 
-head_obeyed : (content : FileMap) (r : Repository) (tests : Tests git) (h : RefsHead) → Spells (shown content) r → IsLocalHead h → MayHead content h → Obeys git (rules_by git tests) r Nothing (MoveHead (machine_head h)) (head_deed h)
-head_obeyed content r tests (heads.Branch name) p fits may = (branch_named name fits, refl)
-head_obeyed content r tests (heads.Id id) p fits may = ((closed content r p id may.0, history content r p id may.1), refl)
+head_obeyed : (content new : FileMap) (r : Repository) (awaited : Awaited) (h : RefsHead) → Spells (shown content) r → IsLocalHead h → shown new ≡ with_head_shown (shown content) h → MayHead content h → Obeys git git_rules r awaited (MoveHead (machine_head h)) (head_deed awaited h)
+head_obeyed content new r awaited (heads.Branch name) p fits is may = ((branch_named name fits, head_named new name (ap (λ (s : Shown). s.head) is)), refl)
+head_obeyed content new r awaited (heads.Id id) p fits is may = ((closed content r p id may.0, history content r p id may.1), refl)
 
-pub set_head_done : (content : FileMap) (h : RefsHead) (new : Shown) → IsLocalHead h → new ≡ with_head_shown (shown content) h → MayHead content h → Follows (MoveHead (machine_head h)) (Did Stored) (shown content) new
+pub set_head_done : (content : FileMap) (h : RefsHead) (new : FileMap) → IsLocalHead h → shown new ≡ with_head_shown (shown content) h → MayHead content h → Follows (MoveHead (machine_head h)) (Did Stored) (shown content) (shown new)
 set_head_done content h new fits is may = record {
-  goes = λ tests agrees r p.
+  goes = λ awaited r p.
       let after = record r { head = machine_head h } in (
         after,
         subst (λ (s : Shown). Spells s after) (sym is) (spells_head (shown content) r h p),
-        (head_deed h, head_obeyed content r tests h p fits may, (r.objects, none_added r.objects, refl), refl, refl, refl),
+        (head_deed awaited h, head_obeyed content new r awaited h p fits is may, (r.objects, none_added r.objects, refl), refl, refl, refl),
       );
 }
 
@@ -228,8 +229,8 @@ module _ (content : FileMap) where
   id_failed id (Ref (ref.BadRefFile path)) blames = absurd blames
   id_failed id (Ref ref.HeadLoop) blames = absurd blames
   id_failed id (Ref (ref.Fault f)) blames = inr (faults (MoveHead (Detached id.0)) (failure_of f) (shown content))
-  id_failed id (Missing absent) blames = inr (declines (MoveHead (Detached id.0)) 40 (shown content) (λ tests agrees r p. inl (not_closed content r p id blames, refl)))
-  id_failed id (NotACommit other) blames = inr (declines (MoveHead (Detached id.0)) 41 (shown content) (λ tests agrees r p. inr (closed content r p id blames.0, inl (not_history content r p id blames.1, refl))))
+  id_failed id (Missing absent) blames = inr (declines (MoveHead (Detached id.0)) 40 (shown content) (λ r p. inl (not_closed content r p id blames, refl)))
+  id_failed id (NotACommit other) blames = inr (declines (MoveHead (Detached id.0)) 41 (shown content) (λ r p. inr (closed content r p id blames.0, inl (not_history content r p id blames.1, refl))))
   id_failed id (Store (store.BadObject f)) blames = absurd blames
   id_failed id (Store (store.Absent absent)) blames = absurd blames
   id_failed id (Store (store.Damaged damaged)) blames = inl blames

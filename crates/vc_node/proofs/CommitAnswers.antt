@@ -1,6 +1,6 @@
 -- The machine's answers to a commit.
 use Rattle.std.proofs.Common.{◌≡◌, ◌≤◌, inl, inr, ℕ, List, [], ◌∷◌, ◌++◌, map, append-nil, length, Some, None, Ok, Err, refl, sym, ap, ◌∙◌, subst, arith}
-use Rattle.std.specs.Prelude.{option_map, IsTrue}
+use Rattle.std.specs.Prelude.{option_map}
 use Rattle.std.specs.FinMap.{get, insert, empty}
 use Rattle.vc_files.specs.FileMap.{FileMap}
 use Rattle.vc_format.specs.Git.{bytes_of_id, id_of_bytes, git_name}
@@ -11,7 +11,6 @@ use Rattle.vc_index.proofs.AgainLemmas.{one_index}
 use Rattle.vc_index.proofs.OneListLemmas.{one_list}
 use Rattle.vc_index.proofs.PartLemmas.{all_parts}
 use Rattle.vc_model.specs.Clone.{Awaited, Task, head_to, quietly, with_object as with_made}
-use Rattle.vc_model.specs.Clone.Awaited.{Nothing}
 use Rattle.vc_model.specs.Clone.Task.{MakeCommit}
 use Rattle.vc_model.specs.CloneCall.{Obeys, new_commit}
 use Rattle.vc_model.specs.Node.{Deed}
@@ -20,7 +19,6 @@ use Rattle.vc_model.specs.Node.Reply.{Made}
 use Rattle.vc_model.specs.Object.{Object, Objects, Id}
 use Rattle.vc_model.specs.Refs.{Head as MachineHead}
 use Rattle.vc_model.specs.Repository.{Repository, AllAdded, SomeAdded, StopsWithin, changed, with_objects as with_all}
-use Rattle.vc_model.specs.Rules.{Tests, rules_by}
 use Rattle.vc_object.specs.Decoding.{stored_object}
 use Rattle.vc_object.specs.Object.{IsObject, object_name}
 use Rattle.vc_object.specs.ObjectMap.{ObjectMap}
@@ -33,7 +31,9 @@ use Rattle.vc_refs.specs.declared.heads.Head.TheVariants as heads
 use Rattle.vc_store.specs.Store.{objects, with_object, with_objects}
 use Rattle.vc_node.specs.Commit.{IsCommitted, WritesCommit, made_body, moved, parents_of_commit}
 use Rattle.vc_node.specs.IndexFile.{SpellsIndex}
-use Rattle.vc_node.specs.Machine.{git, machine_entry, machine_head, stored_of, ShowsIndex, ListsTrees, Spells, AgreesOn, Follows}
+use Rattle.vc_rules.specs.Git.{git, machine_entry, stored_of}
+use Rattle.vc_rules.specs.Trees.{TreesGive, ShowsIndex, ListsTrees}
+use Rattle.vc_node.specs.Machine.{git_rules, machine_head, Spells, Follows}
 use Rattle.vc_node.specs.Making.{AreLines, HasRoot, IsCut, MayCommit}
 use Rattle.vc_node.specs.Shown.{Shown, shown, with_objects_shown}
 use Rattle.vc_node.proofs.BranchLemmas.{spells_refs, spells_head, set_rel}
@@ -54,7 +54,7 @@ module _ (content : FileMap) (extra : List ObjectId) (author committer message :
   abbrev body : ObjectId → List ℕ
   body tree = made_body tree (parents_of_commit content extra) author committer message
 
-  module _ (tests : Tests git) (agrees : AgreesOn tests) (r : Repository) (p : Spells (shown content) r) where
+  module _ (r : Repository) (p : Spells (shown content) r) where
     abbrev pub commit : ObjectId → Object
     commit tree = new_commit git r tree.0 (map bytes_of_id extra) author committer message
 
@@ -71,35 +71,33 @@ module _ (content : FileMap) (extra : List ObjectId) (author committer message :
       pub lists : (trees : List (List Entry)) (root : List Entry) → AreIndexTrees m trees root → ListsTrees r.index m trees root
       lists trees root listed = record { sound = spelled.sound; shows = shows; listed = listed }
 
-      pub trees_given : (tree : ObjectId) (root : HasRoot m tree) → IsTrue (tests.trees_of r.index (Ok (with_trees empty root.trees, tree.0)))
+      pub trees_given : (tree : ObjectId) (root : HasRoot m tree) → TreesGive r.index (Ok (with_trees empty root.trees, tree.0))
       trees_given tree root =
-          (agrees.trees_of r.index (Ok (with_trees empty root.trees, tree.0))).1
           (m, root.trees, root.root, lists root.trees root.root root.listed, root.fits, trees_held root.trees, ap (λ (id : ObjectId). id.0) root.is)
 
-      pub too_large : (entries : List Entry) → IsFirstLarge m entries → IsTrue (tests.trees_of r.index (Err 3))
-      too_large entries first =
-          (agrees.trees_of r.index (Err 3)).1 (
-            m,
-            first.before ++ entries ∷ first.after,
-            first.root,
-            lists (first.before ++ entries ∷ first.after) first.root first.listed,
-            λ fit. (let all = all_parts (λ (es : List Entry). length (spelling es) ≤ 16777216) first.before (entries ∷ first.after) fit in let large = first.large in let small = all.1.0 in omega (arith, large, small)),
-            refl,
-          )
+      pub too_large : (entries : List Entry) → IsFirstLarge m entries → TreesGive r.index (Err 3)
+      too_large entries first = (
+        m,
+        first.before ++ entries ∷ first.after,
+        first.root,
+        lists (first.before ++ entries ∷ first.after) first.root first.listed,
+        λ fit. (let all = all_parts (λ (es : List Entry). length (spelling es) ≤ 16777216) first.before (entries ∷ first.after) fit in let large = first.large in let small = all.1.0 in omega (arith, large, small)),
+        refl,
+      )
 
       -- the commit's effect
       abbrev effect_objects : List (List Entry) → ObjectId → Objects
       effect_objects trees tree = with_made (with_trees empty trees) (git_name (commit tree)) (commit tree)
 
-      abbrev pub commit_deed : List (List Entry) → ObjectId → Deed Awaited
-      commit_deed trees tree = quietly Nothing (record { objects = effect_objects trees tree; changes = head_to r.head (git_name (commit tree)) ∷ [] }) (Made (git_name (commit tree)))
+      abbrev pub commit_deed : Awaited → List (List Entry) → ObjectId → Deed Awaited
+      commit_deed awaited trees tree = quietly awaited (record { objects = effect_objects trees tree; changes = head_to r.head (git_name (commit tree)) ∷ [] }) (Made (git_name (commit tree)))
 
-      pub obeyed : MayCommit content extra author committer → (tree : ObjectId) (root : HasRoot m tree) → IsObject kinds.Commit (body tree) → Obeys git (rules_by git tests) r Nothing commit_task (commit_deed root.trees tree)
-      obeyed may tree root legal = (
+      pub obeyed : (awaited : Awaited) → MayCommit content extra author committer → (tree : ObjectId) (root : HasRoot m tree) → IsObject kinds.Commit (body tree) → Obeys git git_rules r awaited commit_task (commit_deed awaited root.trees tree)
+      obeyed awaited may tree root legal = (
         may.lines,
         head_free content r p may.head may.head_is may.free,
         parents_good content r p extra may.parents,
-        ((with_trees empty root.trees, tree.0), trees_given tree root, (agrees.sound (commit tree) (subst (λ (text : List ℕ). IsObject kinds.Commit text) (sym (body_is tree)) legal), refl)),
+        ((with_trees empty root.trees, tree.0), trees_given tree root, (subst (λ (text : List ℕ). IsObject kinds.Commit text) (sym (body_is tree)) legal, refl)),
       )
 
       -- ---- a cut among the trees
@@ -158,37 +156,37 @@ module _ (content : FileMap) (extra : List ObjectId) (author committer message :
 
   pub commit_done : (id : ObjectId) (new : FileMap) → AreLines author committer → IsCommitted content extra author committer message id new → Follows commit_task (Did (Made id.0)) (shown content) (shown new)
   commit_done id new lines c = record {
-    goes = λ tests agrees r p.
+    goes = λ awaited r p.
         let w = c.writes in
         let may : MayCommit content extra author committer = record { lines = lines; head = c.head; head_is = c.head_is; free = c.free; parents = c.parents } in
-        let u = stored_all tests agrees r p c.map c.spelled c.after id w in
-        let after = changed (head_to r.head (git_name (commit tests agrees r p w.tree))) (with_all r u) in (
+        let u = stored_all r p c.map c.spelled c.after id w in
+        let after = changed (head_to r.head (git_name (commit r p w.tree))) (with_all r u) in (
           after,
-          subst (λ (s : Shown). Spells s after) (sym c.is) (moved_spells tests agrees r p c.map c.spelled c.after id w c.head c.head_is),
+          subst (λ (s : Shown). Spells s after) (sym c.is) (moved_spells r p c.map c.spelled c.after id w c.head c.head_is),
           (
-            commit_deed tests agrees r p c.map c.spelled (all tests agrees r p c.map c.spelled c.after id w) w.tree,
-            obeyed tests agrees r p c.map c.spelled may w.tree (written_root tests agrees r p c.map c.spelled c.after id w) w.legal,
-            (u, all_over tests agrees r p c.map c.spelled c.after id w, refl),
+            commit_deed r p c.map c.spelled awaited (all r p c.map c.spelled c.after id w) w.tree,
+            obeyed r p c.map c.spelled awaited may w.tree (written_root r p c.map c.spelled c.after id w) w.legal,
+            (u, all_over r p c.map c.spelled c.after id w, refl),
             refl,
             refl,
-            ap Made (sym (name_is tests agrees r p c.map c.spelled c.after id w)),
+            ap Made (sym (name_is r p c.map c.spelled c.after id w)),
           ),
         );
   }
 
   -- what a cut leaves is what a stop within the commit's effect leaves
-  module _ (tests : Tests git) (agrees : AgreesOn tests) (r : Repository) (p : Spells (shown content) r) (new : FileMap) (cut : IsCut content extra author committer message new) where
+  module _ (awaited : Awaited) (r : Repository) (p : Spells (shown content) r) (new : FileMap) (cut : IsCut content extra author committer message new) where
     abbrev CutDeed : Type 0
-    CutDeed = (u : Repository) × Spells (shown new) u × (d : Deed Awaited) × Obeys git (rules_by git tests) r Nothing commit_task d × StopsWithin r d.effect u × (d.sends ≡ None)
+    CutDeed = (u : Repository) × Spells (shown new) u × (d : Deed Awaited) × Obeys git git_rules r awaited commit_task d × StopsWithin r d.effect u × (d.sends ≡ None)
 
     front_cut : (front rest : List (List Entry)) → cut.root.trees ≡ front ++ rest → cut.after ≡ with_objects (objects content) (map tree_object front) → CutDeed
     front_cut front rest is stored =
         let u = with_all r (with_trees r.objects front) in (
           u,
-          subst (λ (s : Shown). Spells s u) (sym cut.is) (front_spells tests agrees r p cut.map cut.spelled front cut.after stored),
-          commit_deed tests agrees r p cut.map cut.spelled cut.root.trees cut.tree,
-          obeyed tests agrees r p cut.map cut.spelled cut.may cut.tree cut.root cut.legal,
-          inl (with_trees r.objects front, front_some tests agrees r p cut.map cut.spelled front rest cut.root.trees cut.tree is, refl),
+          subst (λ (s : Shown). Spells s u) (sym cut.is) (front_spells r p cut.map cut.spelled front cut.after stored),
+          commit_deed r p cut.map cut.spelled awaited cut.root.trees cut.tree,
+          obeyed r p cut.map cut.spelled awaited cut.may cut.tree cut.root cut.legal,
+          inl (with_trees r.objects front, front_some r p cut.map cut.spelled front rest cut.root.trees cut.tree is, refl),
           refl,
         )
 
@@ -203,13 +201,13 @@ module _ (content : FileMap) (extra : List ObjectId) (author committer message :
       ]
       | inr made ↦ (
           let w = made.1 in
-          let s = stored_all tests agrees r p cut.map cut.spelled cut.after made.0 w in
-          let over = all_over tests agrees r p cut.map cut.spelled cut.after made.0 w in
+          let s = stored_all r p cut.map cut.spelled cut.after made.0 w in
+          let over = all_over r p cut.map cut.spelled cut.after made.0 w in
           let u = with_all r s in (
             u,
-            subst (λ (s : Shown). Spells s u) (sym cut.is) (all_spells tests agrees r p cut.map cut.spelled cut.after made.0 w),
-            commit_deed tests agrees r p cut.map cut.spelled (all tests agrees r p cut.map cut.spelled cut.after made.0 w) w.tree,
-            obeyed tests agrees r p cut.map cut.spelled cut.may w.tree (written_root tests agrees r p cut.map cut.spelled cut.after made.0 w) w.legal,
+            subst (λ (s : Shown). Spells s u) (sym cut.is) (all_spells r p cut.map cut.spelled cut.after made.0 w),
+            commit_deed r p cut.map cut.spelled awaited (all r p cut.map cut.spelled cut.after made.0 w) w.tree,
+            obeyed r p cut.map cut.spelled awaited cut.may w.tree (written_root r p cut.map cut.spelled cut.after made.0 w) w.legal,
             inl (s, record { each = λ x. inr (over.each x) }, refl),
             refl,
           ))

@@ -8,7 +8,6 @@ use Rattle.vc_model.specs.CloneCall.{Refuses}
 use Rattle.vc_model.specs.Node.{Answer, Failure}
 use Rattle.vc_model.specs.Node.Answer.{Declined, Fault}
 use Rattle.vc_model.specs.Repository.{Repository}
-use Rattle.vc_model.specs.Rules.{Tests, rules_by}
 use Rattle.vc_model.proofs.OneClone.{apart}
 use Rattle.vc_object.specs.ObjectFault.{BodyFault}
 use Rattle.vc_object.specs.declared.id.ObjectId.{ObjectId}
@@ -20,13 +19,15 @@ use Rattle.vc_store.specs.declared.faults.StoreFault.TheVariants as store
 use Rattle.vc_node.specs.Commit.{parents_of_commit}
 use Rattle.vc_node.specs.GoodCommit.{BlamesCommit}
 use Rattle.vc_node.specs.IndexFile.{SpellsIndex, BlamesIndex}
-use Rattle.vc_node.specs.Machine.{git, Spells, AgreesOn, Follows, IsBadFile, fault_answer, failure_of, object_number}
+use Rattle.vc_rules.specs.Git.{git}
+use Rattle.vc_rules.specs.Faults.{object_number}
+use Rattle.vc_node.specs.Machine.{git_rules, Spells, Follows, IsBadFile, fault_answer, failure_of}
 use Rattle.vc_node.specs.Making.{AreLines, BlamesLook, BlamesParents, BlamesStored, BlamesObjects, BlamesMaking, HasHeadConflict, LeftByCommit, MayCommit}
 use Rattle.vc_node.specs.Making.BlamesMaking.{of_lines, of_look, of_conflict, of_parents, of_index, of_objects}
 use Rattle.vc_node.specs.Shown.{shown}
 use Rattle.vc_node.specs.declared.fault.NodeFault.{NodeFault}
 use Rattle.vc_node.specs.declared.fault.NodeFault.TheVariants.{Store, Ref, Missing, NotACommit, BadPath, PathConflict, BadIndex, WrongEntry, Down}
-use Rattle.vc_node.proofs.CommitAnswers.{commit_task, commit, body_is, trees_given, too_large, cut_deed}
+use Rattle.vc_node.proofs.CommitAnswers.{commit_task, body_is, trees_given, too_large, cut_deed}
 use Rattle.vc_node.proofs.IndexLemmas.{spells_index}
 use Rattle.vc_node.proofs.RefusalLemmas.{head_free, head_not_free, parents_missing, parents_other, parents_pass}
 use Rattle.vc_node.proofs.TreeObjects.{with_trees}
@@ -44,7 +45,7 @@ module _ (content : FileMap) (extra : List ObjectId) (author committer message :
 
   -- the machine refuses it with this number
   Declines : ℕ → Type 0
-  Declines n = (tests : Tests git) → AgreesOn tests → (r : Repository) → Spells (shown content) r → Refuses git (rules_by git tests) r task n
+  Declines n = (r : Repository) → Spells (shown content) r → Refuses git git_rules r task n
 
   -- no repository is shown
   IsNone : Type 0
@@ -78,7 +79,7 @@ module _ (content : FileMap) (extra : List ObjectId) (author committer message :
 
   lines_outcome : (e : NodeFault) → e ≡ Store (store.BadObject Rattle.vc_object.specs.declared.fault.ObjectFault.TheVariants.BadCommit) → ¬ AreLines author committer → Outcome e
   unfolding Declines
-  lines_outcome e is not = declined e 8 (ap fault_answer is) (λ tests agrees r p. inl (not, refl))
+  lines_outcome e is not = declined e 8 (ap fault_answer is) (λ r p. inl (not, refl))
 
   look_outcome : (e : NodeFault) → BlamesLook content e → Outcome e
   look_outcome (Ref (ref.Stale current)) blames = absurd blames
@@ -101,12 +102,12 @@ module _ (content : FileMap) (extra : List ObjectId) (author committer message :
 
   conflict_outcome : (e : NodeFault) → AreLines author committer → HasHeadConflict content e → Outcome e
   unfolding Declines
-  conflict_outcome e lines h = declined e 32 (ap fault_answer h.is) (λ tests agrees r p. inr (lines, inl (head_not_free content r p e h, refl)))
+  conflict_outcome e lines h = declined e 32 (ap fault_answer h.is) (λ r p. inr (lines, inl (head_not_free content r p e h, refl)))
 
   parents_outcome : (e : NodeFault) → AreLines author committer → ((r : Repository) → Spells (shown content) r → IsHeadFree r) → BlamesParents content extra e → Outcome e
   unfolding Declines
-  parents_outcome (Missing id) lines free blames = declined (Missing id) 40 refl (λ tests agrees r p. inr (lines, inr (free r p, parents_missing content r p _ id extra blames)))
-  parents_outcome (NotACommit id) lines free blames = declined (NotACommit id) 41 refl (λ tests agrees r p. inr (lines, inr (free r p, parents_other content r p _ id extra blames)))
+  parents_outcome (Missing id) lines free blames = declined (Missing id) 40 refl (λ r p. inr (lines, inr (free r p, parents_missing content r p _ id extra blames)))
+  parents_outcome (NotACommit id) lines free blames = declined (NotACommit id) 41 refl (λ r p. inr (lines, inr (free r p, parents_other content r p _ id extra blames)))
   parents_outcome (Store (store.BadObject f)) lines free blames = absurd (one_blamed content extra (Store (store.BadObject f)) blames).1
   parents_outcome (Store (store.Absent id)) lines free blames = absurd (one_blamed content extra (Store (store.Absent id)) blames).1
   parents_outcome (Store (store.Damaged id)) lines free blames = bad (Store (store.Damaged id)) (one_blamed content extra (Store (store.Damaged id)) blames).1
@@ -135,11 +136,10 @@ module _ (content : FileMap) (extra : List ObjectId) (author committer message :
 
   stored_outcome : (m : IndexMap) → MayCommit content extra author committer → SpellsIndex content m → (f : StoreFault) → BlamesStored (Unit {0}) content m (parents_of_commit content extra) author committer message f → Outcome (Store f)
   unfolding Declines
-  stored_outcome m may s (store.BadObject f) (inl large) = declined (Store (store.BadObject f)) 3 (ap (λ g. Declined (object_number g)) large.0) (λ tests agrees r p.
-      inr (may.lines, inr (head_free content r p may.head may.head_is may.free, parents_pass content r p 3 _ extra may.parents (inl (too_large content extra author committer message tests agrees r p m s large.1.entries large.1.first)))))
-  stored_outcome m may s (store.BadObject f) (inr made) = declined (Store (store.BadObject f)) (object_number f) refl (λ tests agrees r p.
+  stored_outcome m may s (store.BadObject f) (inl large) = declined (Store (store.BadObject f)) 3 (ap (λ g. Declined (object_number g)) large.0) (λ r p.
+      inr (may.lines, inr (head_free content r p may.head may.head_is may.free, parents_pass content r p 3 _ extra may.parents (inl (too_large content extra author committer message r p m s large.1.entries large.1.first)))))
+  stored_outcome m may s (store.BadObject f) (inr made) = declined (Store (store.BadObject f)) (object_number f) refl (λ r p.
       let tree = made.0 in
-      let o = commit content extra author committer message tests agrees r p tree in
       inr (
         may.lines,
         inr (
@@ -147,8 +147,8 @@ module _ (content : FileMap) (extra : List ObjectId) (author committer message :
           parents_pass content r p (object_number f) _ extra may.parents
               (inr (
                 (with_trees empty made.1.trees, tree.0),
-                trees_given content extra author committer message tests agrees r p m s tree made.1,
-                agrees.fault o f (subst (λ (text : List ℕ). BodyFault kinds.Commit text f) (sym (body_is content extra author committer message tests agrees r p tree)) made.2),
+                trees_given content extra author committer message r p m s tree made.1,
+                (f, subst (λ (text : List ℕ). BodyFault kinds.Commit text f) (sym (body_is content extra author committer message r p tree)) made.2, refl),
               )),
         ),
       ))
@@ -178,16 +178,16 @@ module _ (content : FileMap) (extra : List ObjectId) (author committer message :
   -- ---- the answer
 
   fault_follows : (new : FileMap) (f : Failure) → LeftByCommit content extra author committer message new → Follows task (Fault f) (shown content) (shown new)
-  fault_follows new f (inl same) = record { goes = λ tests agrees r p. (r, subst (λ (m : FileMap). Spells (shown m) r) (sym same) p, inr refl) }
-  fault_follows new f (inr cut) = record { goes = λ tests agrees r p. let d = cut_deed content extra author committer message tests agrees r p new cut in (d.0, d.1, inl (d.2, d.3, d.4, d.5)) }
+  fault_follows new f (inl same) = record { goes = λ awaited r p. (r, subst (λ (m : FileMap). Spells (shown m) r) (sym same) p, inr refl) }
+  fault_follows new f (inr cut) = record { goes = λ awaited r p. let d = cut_deed content extra author committer message awaited r p new cut in (d.0, d.1, inl (d.2, d.3, d.4, d.5)) }
 
   declined_follows : (new : FileMap) (n : ℕ) → Declines n → LeftByCommit content extra author committer message new → Follows task (Declined n) (shown content) (shown new)
   unfolding Declines
-  declined_follows new n refuses (inl same) = record { goes = λ tests agrees r p. (r, subst (λ (m : FileMap). Spells (shown m) r) (sym same) p, (refuses tests agrees r p, refl)) }
+  declined_follows new n refuses (inl same) = record { goes = λ awaited r p. (r, subst (λ (m : FileMap). Spells (shown m) r) (sym same) p, (refuses r p, refl)) }
   declined_follows new n refuses (inr cut) = record {
-    goes = λ tests agrees r p.
-        let d = cut_deed content extra author committer message tests agrees r p new cut in
-        absurd (apart git (rules_by git tests) r Nothing task n d.2 (refuses tests agrees r p) d.3);
+    goes = λ awaited r p.
+        let d = cut_deed content extra author committer message awaited r p new cut in
+        absurd (apart git git_rules r awaited task n d.2 (refuses r p) d.3);
   }
 
   pub commit_failed : (e : NodeFault) (new : FileMap) → BlamesMaking content extra author committer message e → LeftByCommit content extra author committer message new
@@ -199,7 +199,7 @@ module _ (content : FileMap) (extra : List ObjectId) (author committer message :
       | inl fault ↦ inr (subst (λ (a : Answer). Follows task a (shown content) (shown new)) (sym fault.1) (fault_follows new fault.0 left))
       | inr later ↦ elim later [
         | inl refusal ↦ inr (subst (λ (a : Answer). Follows task a (shown content) (shown new)) (sym refusal.1) (declined_follows new refusal.0 refusal.2 left))
-        | inr none ↦ inr (record { goes = λ tests agrees r p. absurd (none r p) })
+        | inr none ↦ inr (record { goes = λ awaited r p. absurd (none r p) })
       ]
     ]
   ]

@@ -18,10 +18,8 @@ use Rattle.vc_model.specs.Node.{Deed}
 use Rattle.vc_model.specs.Node.Answer.{Did, Declined}
 use Rattle.vc_model.specs.Node.Reply.{Stored}
 use Rattle.vc_model.specs.Clone.{Awaited, only_object, quietly}
-use Rattle.vc_model.specs.Clone.Awaited.{Nothing}
 use Rattle.vc_model.specs.Clone.Task.{Stage, Unstage}
 use Rattle.vc_model.specs.CloneCall.{IsFreePath, Obeys, Refuses}
-use Rattle.vc_model.specs.Rules.{Tests, rules_by}
 use Rattle.vc_object.specs.Decoding.{stored_object}
 use Rattle.vc_object.specs.Object.{object_name}
 use Rattle.vc_object.specs.declared.kind.Kind.TheVariants as kinds
@@ -35,7 +33,9 @@ use Rattle.vc_node.specs.Blames.{BlamesAdd, MayStage, TellsDamage}
 use Rattle.vc_node.specs.IndexFile.{SpellsIndex, BlamesIndex}
 use Rattle.vc_node.specs.NodeFault.{is_fault}
 use Rattle.vc_node.specs.Shown.{Shown, shown, with_objects_shown, with_index_shown}
-use Rattle.vc_node.specs.Machine.{git, machine_entry, mode_number, Spells, Follows, AgreesOn, IsBadFile, fault_answer, failure_of, object_number}
+use Rattle.vc_rules.specs.Git.{git, machine_entry, mode_number}
+use Rattle.vc_rules.specs.Faults.{object_number}
+use Rattle.vc_node.specs.Machine.{git_rules, Spells, Follows, IsBadFile, fault_answer, failure_of}
 use Rattle.vc_node.proofs.AnswerLemmas.{faults, get-put, get-unput, map_cond}
 use Rattle.vc_node.proofs.WriteLemmas.{added, added_all, spells_added}
 
@@ -70,14 +70,14 @@ spells_map s r m i p sound rel = record {
 pub unstage_done : (content : FileMap) (path : List ℕ) (new : Shown) → ((m : IndexMap) → SpellsIndex content m → new ≡ with_index_shown (shown content) (index_text (remove m path)))
     → Follows (Unstage path) (Did Stored) (shown content) new
 unstage_done content path new is = record {
-  goes = λ tests agrees r p.
+  goes = λ awaited r p.
       let i = remove r.index path in
       let rel : (q : List ℕ) → get i q ≡ option_map machine_entry (get (remove p.map path) q) =
       λ q. get-unput r.index path q ∙ ap (cond (bytes_eq q path) None) (p.index q) ∙ map_cond machine_entry (bytes_eq q path) None (get p.map q) ∙ ap (option_map machine_entry) (sym (get-unput p.map path q)) in
       let after = record r { index = i } in (
         after,
         subst (λ (s : Shown). Spells s after) (sym (is p.map (spells_index content r p))) (spells_map (shown content) r (remove p.map path) i p (remove-IsIndex p.map path p.map_sound) rel),
-        (quietly Nothing (only_changes (SetIndex i ∷ [])) Stored, refl, (r.objects, none_added r.objects, refl), refl, refl, refl),
+        (quietly awaited (only_changes (SetIndex i ∷ [])) Stored, refl, (r.objects, none_added r.objects, refl), refl, refl, refl),
       );
 }
 
@@ -86,7 +86,7 @@ unstage_failed content path (Store (store.BadObject f)) blames = absurd blames
 unstage_failed content path (Store (store.Absent id)) blames = absurd blames
 unstage_failed content path (Store (store.Damaged id)) blames = absurd blames
 unstage_failed content path (Store (store.Fault f)) blames = inr (faults (Unstage path) (failure_of f) (shown content))
-unstage_failed content path (BadIndex place) blames = inr (record { goes = λ tests agrees r p. absurd (blames p.map (spells_index content r p)) })
+unstage_failed content path (BadIndex place) blames = inr (record { goes = λ awaited r p. absurd (blames p.map (spells_index content r p)) })
 unstage_failed content path (Ref e) blames = absurd blames
 unstage_failed content path (Missing id) blames = absurd blames
 unstage_failed content path (NotACommit id) blames = absurd blames
@@ -124,20 +124,20 @@ staged_map m path mode bytes = insert m path (index_entry mode (object_name kind
 abbrev staged_index : Repository → List ℕ → Mode → List ℕ → Index
 staged_index r path mode bytes = insert r.index path (record { mode = mode_number mode; id = git_name (blob bytes) })
 
-abbrev staged_deed : Repository → List ℕ → Mode → List ℕ → Deed Awaited
-staged_deed r path mode bytes = quietly Nothing (record { objects = only_object git (blob bytes); changes = SetIndex (staged_index r path mode bytes) ∷ [] }) Stored
+abbrev staged_deed : Awaited → Repository → List ℕ → Mode → List ℕ → Deed Awaited
+staged_deed awaited r path mode bytes = quietly awaited (record { objects = only_object git (blob bytes); changes = SetIndex (staged_index r path mode bytes) ∷ [] }) Stored
 
-staged_obeyed : (content : FileMap) (path bytes : List ℕ) (mode : Mode) (tests : Tests git) (r : Repository) → AgreesOn tests → (p : Spells (shown content) r) → MayStage p.map path bytes
-    → Obeys git (rules_by git tests) r Nothing (Stage path (mode_number mode) bytes) (staged_deed r path mode bytes)
-staged_obeyed content path bytes mode tests r agrees p may =
-    ((agrees.path path).1 may.legal, free_path content path bytes mode r p may.free, agrees.sound (blob bytes) may.object, refl)
+staged_obeyed : (content : FileMap) (path bytes : List ℕ) (mode : Mode) (awaited : Awaited) (r : Repository) → (p : Spells (shown content) r) → MayStage p.map path bytes
+    → Obeys git git_rules r awaited (Stage path (mode_number mode) bytes) (staged_deed awaited r path mode bytes)
+staged_obeyed content path bytes mode awaited r p may =
+    (may.legal, free_path content path bytes mode r p may.free, may.object, refl)
 
 pub add_done : (content : FileMap) (path bytes : List ℕ) (mode : Mode) (new : Shown) → mode ≢ modes.Tree
     → ((m : IndexMap) → SpellsIndex content m → new ≡ with_index_shown (staged_objects content bytes) (index_text (staged_map m path mode bytes)))
     → ((m : IndexMap) → SpellsIndex content m → MayStage m path bytes)
     → Follows (Stage path (mode_number mode) bytes) (Did Stored) (shown content) new
 add_done content path bytes mode new file is may = record {
-  goes = λ tests agrees r p.
+  goes = λ awaited r p.
       let o = blob bytes in
       let k = git_name o in
       let ok = may p.map (spells_index content r p) in
@@ -150,7 +150,7 @@ add_done content path bytes mode new file is may = record {
       let after = record stored { index = i } in (
         after,
         subst (λ (s : Shown). Spells s after) (sym (is p.map (spells_index content r p))) (spells_map (staged_objects content bytes) stored (staged_map p.map path mode bytes) i (spells_added (shown content) r k o p) sound rel),
-        (staged_deed r path mode bytes, staged_obeyed content path bytes mode tests r agrees p ok, (added r.objects k o, added_all r.objects k o, refl), refl, refl, refl),
+        (staged_deed awaited r path mode bytes, staged_obeyed content path bytes mode awaited r p ok, (added r.objects k o, added_all r.objects k o, refl), refl, refl, refl),
       );
 }
 
@@ -164,12 +164,12 @@ some_added all = record { each = λ x. inr (all.each x) }
 -- a refusal, after which nothing has changed
 add_declined : (content : FileMap) (path bytes : List ℕ) (mode : Mode) (e : NodeFault) (n : ℕ) (new : FileMap) → is_fault e ≡ false → fault_answer e ≡ Declined n
     → ((m : IndexMap) → SpellsIndex content m → LeftByAdd content m path bytes e new)
-    → ((tests : Tests git) → AgreesOn tests → (r : Repository) → Spells (shown content) r → Refuses git (rules_by git tests) r (Stage path (mode_number mode) bytes) n)
+    → ((r : Repository) → Spells (shown content) r → Refuses git git_rules r (Stage path (mode_number mode) bytes) n)
     → Follows (Stage path (mode_number mode) bytes) (Declined n) (shown content) (shown new)
 add_declined content path bytes mode e n new sound is left refuses = record {
-  goes = λ tests agrees r p.
+  goes = λ awaited r p.
       elim (left p.map (spells_index content r p)) [
-        | inl same ↦ (r, subst (λ (c : FileMap). Spells (shown c) r) (sym same) p, (refuses tests agrees r p, refl))
+        | inl same ↦ (r, subst (λ (c : FileMap). Spells (shown c) r) (sym same) p, (refuses r p, refl))
         | inr cut ↦ absurd (let bad : true ≡ false = sym cut.0 ∙ sound in cc)
       ];
 }
@@ -178,13 +178,13 @@ pub add_failed : (content : FileMap) (path bytes : List ℕ) (mode : Mode) (e : 
     → ((m : IndexMap) → SpellsIndex content m → LeftByAdd content m path bytes e new)
     → IsBadFile content e ⊎ Follows (Stage path (mode_number mode) bytes) (fault_answer e) (shown content) (shown new)
 add_failed content path bytes mode (Store (store.BadObject f)) new blames damage left =
-    inr (add_declined content path bytes mode (Store (store.BadObject f)) (object_number f) new refl refl left (λ tests agrees r p.
+    inr (add_declined content path bytes mode (Store (store.BadObject f)) (object_number f) new refl refl left (λ r p.
     let b = blames p.map (spells_index content r p) in
-    inr ((agrees.path path).1 b.0, inr (free_path content path bytes mode r p b.1, agrees.fault (blob bytes) f b.2))))
-add_failed content path bytes mode (Store (store.Absent id)) new blames damage left = inr (record { goes = λ tests agrees r p. absurd (blames p.map (spells_index content r p)) })
+    inr (b.0, inr (free_path content path bytes mode r p b.1, (f, b.2, refl)))))
+add_failed content path bytes mode (Store (store.Absent id)) new blames damage left = inr (record { goes = λ awaited r p. absurd (blames p.map (spells_index content r p)) })
 add_failed content path bytes mode (Store (store.Damaged id)) new blames damage left = inl damage
 add_failed content path bytes mode (Store (store.Fault f)) new blames damage left = inr (record {
-  goes = λ tests agrees r p.
+  goes = λ awaited r p.
       let k = git_name (blob bytes) in
       let o = blob bytes in
       elim (left p.map (spells_index content r p)) [
@@ -192,19 +192,19 @@ add_failed content path bytes mode (Store (store.Fault f)) new blames damage lef
         | inr cut ↦ (
           with_objects r (added r.objects k o),
           subst (λ (s : Shown). Spells s (with_objects r (added r.objects k o))) (sym cut.2) (spells_added (shown content) r k o p),
-          inl (staged_deed r path mode bytes, staged_obeyed content path bytes mode tests r agrees p cut.1, inl (added r.objects k o, some_added (added_all r.objects k o), refl), refl),
+          inl (staged_deed awaited r path mode bytes, staged_obeyed content path bytes mode awaited r p cut.1, inl (added r.objects k o, some_added (added_all r.objects k o), refl), refl),
         )
       ];
 })
 add_failed content path bytes mode BadPath new blames damage left =
-    inr (add_declined content path bytes mode BadPath 60 new refl refl left (λ tests agrees r p. inl (λ t. blames p.map (spells_index content r p) ((agrees.path path).0 t), refl)))
+    inr (add_declined content path bytes mode BadPath 60 new refl refl left (λ r p. inl (λ t. blames p.map (spells_index content r p) t, refl)))
 add_failed content path bytes mode PathConflict new blames damage left =
-    inr (add_declined content path bytes mode PathConflict 61 new refl refl left (λ tests agrees r p.
+    inr (add_declined content path bytes mode PathConflict 61 new refl refl left (λ r p.
     let b = blames p.map (spells_index content r p) in
-    inr ((agrees.path path).1 b.0, inl (not_free_path content path bytes mode r p b.1, refl))))
-add_failed content path bytes mode (BadIndex place) new blames damage left = inr (record { goes = λ tests agrees r p. absurd (blames p.map (spells_index content r p)) })
-add_failed content path bytes mode (Ref e) new blames damage left = inr (record { goes = λ tests agrees r p. absurd (blames p.map (spells_index content r p)) })
-add_failed content path bytes mode (Missing id) new blames damage left = inr (record { goes = λ tests agrees r p. absurd (blames p.map (spells_index content r p)) })
-add_failed content path bytes mode (NotACommit id) new blames damage left = inr (record { goes = λ tests agrees r p. absurd (blames p.map (spells_index content r p)) })
-add_failed content path bytes mode (WrongEntry at) new blames damage left = inr (record { goes = λ tests agrees r p. absurd (blames p.map (spells_index content r p)) })
-add_failed content path bytes mode Down new blames damage left = inr (record { goes = λ tests agrees r p. absurd (blames p.map (spells_index content r p)) })
+    inr (b.0, inl (not_free_path content path bytes mode r p b.1, refl))))
+add_failed content path bytes mode (BadIndex place) new blames damage left = inr (record { goes = λ awaited r p. absurd (blames p.map (spells_index content r p)) })
+add_failed content path bytes mode (Ref e) new blames damage left = inr (record { goes = λ awaited r p. absurd (blames p.map (spells_index content r p)) })
+add_failed content path bytes mode (Missing id) new blames damage left = inr (record { goes = λ awaited r p. absurd (blames p.map (spells_index content r p)) })
+add_failed content path bytes mode (NotACommit id) new blames damage left = inr (record { goes = λ awaited r p. absurd (blames p.map (spells_index content r p)) })
+add_failed content path bytes mode (WrongEntry at) new blames damage left = inr (record { goes = λ awaited r p. absurd (blames p.map (spells_index content r p)) })
+add_failed content path bytes mode Down new blames damage left = inr (record { goes = λ awaited r p. absurd (blames p.map (spells_index content r p)) })

@@ -4,13 +4,12 @@ pub mod AnswerLemmas
 pub mod WriteLemmas
 pub mod IndexLemmas
 pub mod TreeLemmas
-pub mod TreeLaws
 pub mod BranchLemmas
-pub mod ReachLemmas
+pub mod StoredLemmas
 pub mod MakingLemmas
 pub mod RefusalLemmas
-pub mod IndexTreeLaws
 pub mod TreeObjects
 pub mod CommitAnswers
 pub mod CommitFailures
 pub mod StoringLemmas
+pub mod NameLemmas

@@ -28,7 +28,8 @@ use Rattle.vc_store.specs.Store.{objects}
 use Rattle.vc_store.specs.declared.faults.StoreFault.TheVariants as store
 use Rattle.vc_node.specs.Blames.{BlamesName, BlamesPut, IsOfMemory}
 use Rattle.vc_node.specs.Commit.{IsGoodParent, IsFreeHead, made_body, parents_of_commit}
-use Rattle.vc_node.specs.Machine.{git, machine_head, Spells}
+use Rattle.vc_rules.specs.Git.{git}
+use Rattle.vc_node.specs.Machine.{machine_head, Spells}
 use Rattle.vc_node.specs.Making.{IsOfLook, BlamesLook, BlamesFreeHead, BlamesMoving, BlamesParents, HasHeadConflict}
 use Rattle.vc_node.specs.Shown.{Shown, shown}
 use Rattle.vc_node.specs.declared.fault.NodeFault.{NodeFault}

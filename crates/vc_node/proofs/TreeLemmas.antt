@@ -17,7 +17,6 @@ use Rattle.vc_model.specs.Repository.Change.{SetIndex}
 use Rattle.vc_model.specs.Node.Answer.{Did, Declined}
 use Rattle.vc_model.specs.Node.Reply.{Stored}
 use Rattle.vc_model.specs.Clone.{quietly}
-use Rattle.vc_model.specs.Clone.Awaited.{Nothing}
 use Rattle.vc_model.specs.Clone.Task.{LoadTree}
 use Rattle.vc_object.specs.ObjectMap.{ObjectMap}
 use Rattle.vc_object.specs.declared.id.ObjectId.{ObjectId}
@@ -29,7 +28,9 @@ use Rattle.vc_node.specs.declared.fault.NodeFault.TheVariants.{Store, Ref, Missi
 use Rattle.vc_node.specs.Blames.{BlamesLoad, IsOfMemory}
 use Rattle.vc_node.specs.NodeFault.{of_index}
 use Rattle.vc_node.specs.Shown.{Shown, IsLoaded, shown}
-use Rattle.vc_node.specs.Machine.{machine_entry, layer_objects, tree_number, ShowsIndex, TreeGives, Spells, Follows, IsBadFile, fault_answer, failure_of}
+use Rattle.vc_rules.specs.Git.{machine_entry, layer_objects}
+use Rattle.vc_rules.specs.Trees.{tree_number, ShowsIndex, TreeGives}
+use Rattle.vc_node.specs.Machine.{Spells, Follows, IsBadFile, fault_answer, failure_of}
 use Rattle.vc_node.proofs.AnswerLemmas.{declines, faults, map_cond}
 use Rattle.vc_node.proofs.IndexLemmas.{none_added, spells_map}
 
@@ -68,7 +69,7 @@ module _ (content : FileMap) (r : Repository) (p : Spells (shown content) r) whe
 
 pub load_done : (content new : FileMap) (id : ObjectId) → IsLoaded content id new → Follows (LoadTree id.0) (Did Stored) (shown content) (shown new)
 load_done content new id loaded = record {
-  goes = λ tests agrees r p.
+  goes = λ awaited r p.
       let m = loaded.index in
       let i = machine_index m in
       let rel = machine_index_shows m in
@@ -76,8 +77,8 @@ load_done content new id loaded = record {
         after,
         subst (λ (s : Shown). Spells s after) (sym loaded.is) (spells_map (shown content) r m i p loaded.sound rel),
         (
-          quietly Nothing (only_changes (SetIndex i ∷ [])) Stored,
-          (i, (agrees.index_of r.objects id.0 (Ok i)).1 (m, reads_there content r p id (Ok m) loaded.reads, rel), refl),
+          quietly awaited (only_changes (SetIndex i ∷ [])) Stored,
+          (i, (m, reads_there content r p id (Ok m) loaded.reads, rel), refl),
           (r.objects, none_added r.objects, refl),
           refl,
           refl,
@@ -88,7 +89,7 @@ load_done content new id loaded = record {
 
 first_declined : (content : FileMap) (id : ObjectId) (fault : TreeFault) → ReadsAs (objects content) id (Err fault) → Follows (LoadTree id.0) (Declined (tree_number fault)) (shown content) (shown content)
 first_declined content id fault reads =
-    declines (LoadTree id.0) (tree_number fault) (shown content) (λ tests agrees r p. (agrees.index_of r.objects id.0 (Err (tree_number fault))).1 (number_given content r p id fault reads))
+    declines (LoadTree id.0) (tree_number fault) (shown content) (λ r p. number_given content r p id fault reads)
 
 load_refused : (content : FileMap) (id : ObjectId) (f : IndexFault) → IsOfLoad (Unit {0}) content id f → ((fault : TreeFault) → tree_fault f ≡ Some fault → ReadsAs (objects content) id (Err fault))
     → IsBadFile content (of_index f) ⊎ Follows (LoadTree id.0) (fault_answer (of_index f)) (shown content) (shown content)

@@ -15,7 +15,9 @@ use Rattle.vc_object.specs.ObjectMap.{ObjectMap}
 use Rattle.vc_object.specs.Tree.{Entry, spelling}
 use Rattle.vc_object.specs.declared.kind.Kind.TheVariants as kinds
 use Rattle.vc_store.specs.Store.{with_object, with_objects}
-use Rattle.vc_node.specs.Machine.{machine_object, stored_of, no_objects, Spells, HoldsTrees}
+use Rattle.vc_rules.specs.Git.{machine_object, stored_of, no_objects}
+use Rattle.vc_rules.specs.Trees.{HoldsTrees}
+use Rattle.vc_node.specs.Machine.{Spells}
 use Rattle.vc_node.specs.Shown.{Shown, with_objects_shown}
 use Rattle.vc_node.proofs.AnswerLemmas.{get-put}
 use Rattle.vc_node.proofs.WriteLemmas.{added, added_shows}

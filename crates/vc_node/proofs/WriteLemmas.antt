@@ -13,7 +13,6 @@ use Rattle.vc_model.specs.Repository.{Repository, AllAdded, with_objects}
 use Rattle.vc_model.specs.Node.Answer.{Did}
 use Rattle.vc_model.specs.Node.Reply.{Made}
 use Rattle.vc_model.specs.Clone.{only_object, quietly}
-use Rattle.vc_model.specs.Clone.Awaited.{Nothing}
 use Rattle.vc_model.specs.Clone.Task.{Write}
 use Rattle.vc_object.specs.Decoding.{StoredObject, stored_object}
 use Rattle.vc_object.specs.Object.{object_name, IsObject}
@@ -27,7 +26,9 @@ use Rattle.vc_node.specs.declared.fault.NodeFault.{NodeFault}
 use Rattle.vc_node.specs.declared.fault.NodeFault.TheVariants.{Store, Ref, Missing, NotACommit, BadPath, PathConflict, BadIndex, WrongEntry, Down}
 use Rattle.vc_node.specs.Blames.{BlamesWrite}
 use Rattle.vc_node.specs.Shown.{Shown, with_objects_shown}
-use Rattle.vc_node.specs.Machine.{git, machine_object, stored_of, Spells, Follows, IsBadFile, fault_answer, failure_of, object_number}
+use Rattle.vc_rules.specs.Git.{git, machine_object, stored_of}
+use Rattle.vc_rules.specs.Faults.{object_number}
+use Rattle.vc_node.specs.Machine.{Spells, Follows, IsBadFile, fault_answer, failure_of}
 use Rattle.vc_node.proofs.AnswerLemmas.{kind_back, declines, faults, get-put}
 
 -- the objects, with this one too: one that is there stays
@@ -80,7 +81,7 @@ spells_added s r k o p = record {
 pub write_done : (kind : ObjectKind) (body : List ℕ) (id : ObjectId) (old new : Shown) → IsObject kind body → id ≡ object_name kind body → new ≡ with_objects_shown old (with_object old.objects id (stored_object kind body))
     → Follows (Write (machine_object kind body)) (Did (Made id.0)) old new
 write_done kind body id old new legal name is = record {
-  goes = λ tests agrees r spells.
+  goes = λ awaited r spells.
       let o = machine_object kind body in
       let k = git_name o in
       let same : stored_of o ≡ stored_object kind body = ap (λ (k : ObjectKind). stored_object k body) (kind_back kind) in
@@ -90,8 +91,8 @@ write_done kind body id old new legal name is = record {
         with_objects r (added r.objects k o),
         subst (λ (s : Shown). Spells s (with_objects r (added r.objects k o))) shows (spells_added old r k o spells),
         (
-          quietly Nothing (record { objects = only_object git o; changes = [] }) (Made k),
-          (agrees.sound o (subst (λ (j : ObjectKind). IsObject j body) (sym (kind_back kind)) legal), refl),
+          quietly awaited (record { objects = only_object git o; changes = [] }) (Made k),
+          (subst (λ (j : ObjectKind). IsObject j body) (sym (kind_back kind)) legal, refl),
           (added r.objects k o, added_all r.objects k o, refl),
           refl,
           refl,
@@ -102,7 +103,7 @@ write_done kind body id old new legal name is = record {
 
 pub write_failed : (content : FileMap) (kind : ObjectKind) (body : List ℕ) (e : NodeFault) (s : Shown) → BlamesWrite content kind body e → IsBadFile content e ⊎ Follows (Write (machine_object kind body)) (fault_answer e) s s
 write_failed content kind body (Store (store.BadObject f)) s blames =
-    inr (declines (Write (machine_object kind body)) (object_number f) s (λ tests agrees r spells. agrees.fault (machine_object kind body) f (subst (λ (j : ObjectKind). BodyFault j body f) (sym (kind_back kind)) blames)))
+    inr (declines (Write (machine_object kind body)) (object_number f) s (λ r spells. (f, subst (λ (j : ObjectKind). BodyFault j body f) (sym (kind_back kind)) blames, refl)))
 write_failed content kind body (Store (store.Absent id)) s blames = absurd blames
 write_failed content kind body (Store (store.Damaged id)) s blames = inl blames
 write_failed content kind body (Store (store.Fault f)) s blames = inr (faults (Write (machine_object kind body)) (failure_of f) s)

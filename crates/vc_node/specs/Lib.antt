@@ -7,4 +7,3 @@ pub mod Blames
 pub mod Machine
 pub mod Commit
 pub mod Making
-pub mod TreeLaw

@@ -1,7 +1,9 @@
 -- What a fault of a node is of, and which are no refusals.
-use Rattle.std.specs.Prelude.{Bool, true, false}
+use Rattle.std.specs.Prelude.{Bool, true, false, IsTrue, Result, Ok, Err}
 use Rattle.vc_base.specs.declared.fault.BaseFault.{BaseFault}
 use Rattle.vc_base.specs.declared.fault.BaseFault.TheVariants as base
+use Rattle.vc_files.specs.declared.faults.Fault.{Fault as FilesFault}
+use Rattle.vc_files.specs.declared.faults.Fault.TheVariants as files
 use Rattle.vc_index.specs.declared.faults.IndexFault.{IndexFault}
 use Rattle.vc_index.specs.declared.faults.IndexFault.TheVariants as index
 use Rattle.vc_refs.specs.declared.faults.RefFault.{RefFault}
@@ -39,3 +41,18 @@ abbrev pub is_fault : NodeFault → Bool
 is_fault (Store fault) = is_store_fault fault
 is_fault (Ref fault) = is_ref_fault fault
 is_fault _ = false
+
+-- the device failed
+abbrev pub is_device : FilesFault → Bool
+is_device files.Device = true
+is_device files.Memory = false
+
+abbrev pub IsOfDevice : NodeFault → Type 0
+IsOfDevice (Store (store.Fault fault)) = IsTrue (is_device fault)
+IsOfDevice (Ref (ref.Fault fault)) = IsTrue (is_device fault)
+IsOfDevice _ = ⊥
+
+-- the call tells a fault of the device
+abbrev pub TellsDevice : {T : Type 0} → Result T NodeFault → Type 0
+TellsDevice (Ok x) = ⊥
+TellsDevice (Err e) = IsOfDevice e

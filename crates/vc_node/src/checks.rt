@@ -1,6 +1,7 @@
 // What a commit must be before a branch, HEAD or another commit may name it.
 ghost use Rattle.std.specs.Prelude.{◌≡◌, IfErr, OnOk, IsErrOf};
 ghost use Rattle.vc_files.specs.Failures.{Wears};
+ghost use Rattle.vc_node.specs.NodeFault.{TellsDevice};
 ghost use Rattle.vc_node.specs.GoodCommit.{IsComplete, IsHistory, BlamesCommit};
 
 use crate::NodeFault;
@@ -22,7 +23,7 @@ pub(crate) fn refuse_bad_commit<F: Files>(
     ensures history { F.honest → OnOk result (IsHistory (F.content files.old) id.now) }
     ensures refused { F.honest → IfErr result (BlamesCommit (F.content files.old) id.now) }
     ensures same { F.content files.new ≡ F.content files.old }
-    ensures wear { Wears F.failed F.can_fail files.old files.new (IsErrOf result (NodeFault.Store (StoreFault.Fault Fault.Device))) }
+    ensures wear { Wears F.failed F.can_fail files.old files.new (TellsDevice result) }
 {
     let mut store = Store::new(alloc, files);
     if !is_complete(alloc, &mut store, id)? {

@@ -5,7 +5,7 @@ ghost use Rattle.vc_files.specs.Failures.{Wears};
 ghost use Rattle.vc_index.specs.IndexMap.{IndexMap, IsIndex};
 ghost use Rattle.vc_index.specs.IndexText.{index_text};
 ghost use Rattle.vc_node.specs.IndexFile.{SpellsIndex, BlamesIndex, index_bytes};
-ghost use Rattle.vc_node.specs.NodeFault.{is_fault};
+ghost use Rattle.vc_node.specs.NodeFault.{is_fault, TellsDevice};
 
 use crate::NodeFault;
 use std::alloc::Global;
@@ -34,7 +34,7 @@ pub(crate) fn read_index<F: Files>(alloc: Global, files: &mut F) -> Result<Index
     ensures again { F.honest → (m : IndexMap) → SpellsIndex (F.content files.old) m → IfOk result (λ index. index ≡ m) }
     ensures refused { F.honest → IfErr result (BlamesIndex (F.content files.old)) }
     ensures same { F.content files.new ≡ F.content files.old }
-    ensures wear { Wears F.failed F.can_fail files.old files.new (IsErrOf result (NodeFault.Store (StoreFault.Fault Fault.Device))) }
+    ensures wear { Wears F.failed F.can_fail files.old files.new (TellsDevice result) }
 {
     let bytes = index_bytes(alloc, files)?;
     let index = Index::read(alloc, &bytes)?;

@@ -7,8 +7,10 @@ ghost use Rattle.vc_refs.specs.Head.{IsHeadInRefs};
 ghost use Rattle.vc_node.specs.Blames.{BlamesLoad, BlamesOpen, IsLocalHead};
 ghost use Rattle.vc_files.specs.FileMap.{SameOutside};
 ghost use Rattle.vc_node.specs.Commit.{IsCommitted};
-ghost use Rattle.vc_node.specs.Machine.{Answers, OrBadFile, machine_object, mode_number, machine_head, made_answer, done_answer, up_after};
-ghost use Rattle.vc_node.specs.NodeFault.{is_fault};
+ghost use Rattle.vc_rules.specs.Git.{machine_object, mode_number};
+ghost use Rattle.vc_node.specs.Machine.{Answers, OrBadFile, machine_head, made_answer, done_answer, up_after};
+ghost use Rattle.vc_files.specs.Failures.{Wears};
+ghost use Rattle.vc_node.specs.NodeFault.{is_fault, IsOfDevice, TellsDevice};
 ghost use Rattle.vc_node.specs.Shown.{IsLoaded, IsReady, shown};
 
 use crate::commit::Words;
@@ -48,6 +50,8 @@ impl<F: Files> CloneNode<F> {
         ensures up { IfOk result (λ node. node.is_up ≡ true) }
         ensures refused { F.honest → IfErr result (λ e. BlamesOpen (F.content files) e.1) }
         ensures err { F.honest → IfErr result (λ e. F.content e.0 ≡ F.content files) }
+        ensures wear { IfOk result (λ node. Wears F.failed F.can_fail files node.files ⊥) }
+        ensures wear_err { IfErr result (λ e. Wears F.failed F.can_fail files e.0 (IsOfDevice e.1)) }
     {
         match make_ready(alloc, &mut files) {
             Ok(()) => Ok(CloneNode {
@@ -89,6 +93,7 @@ impl<F: Files> CloneNode<F> {
         ensures down { self.old.is_up ≡ false → result ≡ Err NodeFault.Down }
         ensures err { F.honest → OnErr result (F.content self.new.files ≡ F.content self.old.files) }
         ensures up { self.old.is_up ≡ true → self.new.is_up ≡ up_after result }
+        ensures wear { Wears F.failed F.can_fail self.old.files self.new.files (TellsDevice result) }
     {
         if !self.is_up {
             return Err(NodeFault::Down);
@@ -105,6 +110,7 @@ impl<F: Files> CloneNode<F> {
         ensures down { self.old.is_up ≡ false → result ≡ Err NodeFault.Down }
         ensures err { F.honest → OnErr result (F.content self.new.files ≡ F.content self.old.files) }
         ensures up { self.old.is_up ≡ true → self.new.is_up ≡ up_after result }
+        ensures wear { Wears F.failed F.can_fail self.old.files self.new.files (TellsDevice result) }
     {
         if !self.is_up {
             return Err(NodeFault::Down);
@@ -122,6 +128,7 @@ impl<F: Files> CloneNode<F> {
         ensures answers { F.honest → OrBadFile (F.content self.old.files) result (Answers (Stage path.now (mode_number mode) bytes.now) (done_answer result) self.old.is_up self.new.is_up (shown (F.content self.old.files)) (shown (F.content self.new.files))) }
         ensures down { self.old.is_up ≡ false → result ≡ Err NodeFault.Down }
         ensures up { self.old.is_up ≡ true → self.new.is_up ≡ up_after result }
+        ensures wear { Wears F.failed F.can_fail self.old.files self.new.files (TellsDevice result) }
     {
         if !self.is_up {
             return Err(NodeFault::Down);
@@ -139,6 +146,7 @@ impl<F: Files> CloneNode<F> {
         ensures down { self.old.is_up ≡ false → result ≡ Err NodeFault.Down }
         ensures err { F.honest → OnErr result (F.content self.new.files ≡ F.content self.old.files) }
         ensures up { self.old.is_up ≡ true → self.new.is_up ≡ up_after result }
+        ensures wear { Wears F.failed F.can_fail self.old.files self.new.files (TellsDevice result) }
     {
         if !self.is_up {
             return Err(NodeFault::Down);
@@ -157,6 +165,7 @@ impl<F: Files> CloneNode<F> {
         ensures down { self.old.is_up ≡ false → result ≡ Err NodeFault.Down }
         ensures err { F.honest → OnErr result (F.content self.new.files ≡ F.content self.old.files) }
         ensures up { self.old.is_up ≡ true → self.new.is_up ≡ up_after result }
+        ensures wear { Wears F.failed F.can_fail self.old.files self.new.files (TellsDevice result) }
     {
         if !self.is_up {
             return Err(NodeFault::Down);
@@ -175,6 +184,7 @@ impl<F: Files> CloneNode<F> {
         ensures down { self.old.is_up ≡ false → result ≡ Err NodeFault.Down }
         ensures err { F.honest → OnErr result (F.content self.new.files ≡ F.content self.old.files) }
         ensures up { self.old.is_up ≡ true → self.new.is_up ≡ up_after result }
+        ensures wear { Wears F.failed F.can_fail self.old.files self.new.files (TellsDevice result) }
     {
         if !self.is_up {
             return Err(NodeFault::Down);
@@ -194,6 +204,7 @@ impl<F: Files> CloneNode<F> {
         ensures down { self.old.is_up ≡ false → result ≡ Err NodeFault.Down }
         ensures err { F.honest → OnErr result (F.content self.new.files ≡ F.content self.old.files) }
         ensures up { self.old.is_up ≡ true → self.new.is_up ≡ up_after result }
+        ensures wear { Wears F.failed F.can_fail self.old.files self.new.files (TellsDevice result) }
     {
         if !self.is_up {
             return Err(NodeFault::Down);
@@ -221,6 +232,7 @@ impl<F: Files> CloneNode<F> {
         ensures down { self.old.is_up ≡ false → result ≡ Err NodeFault.Down }
         ensures err { F.honest → OnErr result (SameOutside (codes "objects/") (F.content self.old.files) (F.content self.new.files)) }
         ensures up { self.old.is_up ≡ true → self.new.is_up ≡ up_after result }
+        ensures wear { Wears F.failed F.can_fail self.old.files self.new.files (TellsDevice result) }
     {
         if !self.is_up {
             return Err(NodeFault::Down);
@@ -242,6 +254,7 @@ fn make_ready<F: Files>(alloc: Global, files: &mut F) -> Result<(), NodeFault>
     ensures ready { F.honest → OnOk result (IsReady (F.content files.old) (F.content files.new)) }
     ensures refused { F.honest → IfErr result (BlamesOpen (F.content files.old)) }
     ensures err { F.honest → OnErr result (F.content files.new ≡ F.content files.old) }
+    ensures wear { Wears F.failed F.can_fail files.old files.new (TellsDevice result) }
 {
     read_index(alloc, files)?;
     if vc_refs::head(files, alloc)?.is_some() {

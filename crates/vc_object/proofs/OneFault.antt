@@ -153,13 +153,13 @@ two_grammars kinds.Tree body e f a b = one_fault body e f a b
 two_grammars kinds.Commit body e f a b = a.0 ∙ sym b.0
 two_grammars kinds.Tag body e f a b = a.0 ∙ sym b.0
 
-two_bodies : (k : Kind) (body : List ℕ) (e f : ObjectFault) → BodyFault k body e → BodyFault k body f → e ≡ f
+pub two_bodies : (k : Kind) (body : List ℕ) (e f : ObjectFault) → BodyFault k body e → BodyFault k body f → e ≡ f
 two_bodies k body e f (fault.too_large l is) (fault.too_large m at) = is ∙ sym at
 two_bodies k body e f (fault.too_large l is) (fault.no_grammar m g) = absurd (omega arith)
 two_bodies k body e f (fault.no_grammar l g) (fault.too_large m at) = absurd (omega arith)
 two_bodies k body e f (fault.no_grammar l g) (fault.no_grammar m h) = two_grammars k body e f g h
 
-no_body_fault : (k : Kind) (body : List ℕ) (e : ObjectFault) → IsObject k body → BodyFault k body e → ⊥
+pub no_body_fault : (k : Kind) (body : List ℕ) (e : ObjectFault) → IsObject k body → BodyFault k body e → ⊥
 no_body_fault k body e object (fault.too_large l is) = let s = object.size in omega arith
 no_body_fault k body e object (fault.no_grammar l g) = no_grammar k body e g object.grammar
 

@@ -104,25 +104,47 @@ kept_at old new only q = elim (is_ref q) as (λ b. is_ref q ≡ b → cond b (op
 pub refs-kept_head : (old new : FileMap) → ChangesOnly (codes "HEAD") old new → refs new ≡ refs old
 refs-kept_head old new only i q = kept_at old new only q i
 
--- a branch that HEAD names lies in `refs/`
-pub head_inside : (text : List ℕ) (h : Head) → read_head text ≡ Says h → IsHeadInRefs h
-head_inside text h = by_kind (starts_with nat_eq text (codes "ref: ")) refl
+-- a ref's name, or any id
+abbrev pub IsLegalHead : Head → Type 0
+IsLegalHead (head.Branch name) = is_ref name ≡ true
+IsLegalHead (head.Id id) = Unit {0}
+
+-- a branch that HEAD names has a ref's name
+pub head_legal : (text : List ℕ) (h : Head) → read_head text ≡ Says h → IsLegalHead h
+head_legal text h = by_kind (starts_with nat_eq text (codes "ref: ")) refl
   where
-    by_id : (o : Option ObjectId) → id_said o ≡ Says h → IsHeadInRefs h
-    by_id (Some id) says = let is : h ≡ head.Id id = cc in subst IsHeadInRefs (sym is) tt
+    by_id : (o : Option ObjectId) → id_said o ≡ Says h → IsLegalHead h
+    by_id (Some id) says = let is : h ≡ head.Id id = cc in subst IsLegalHead (sym is) tt
     by_id None says = cc
 
-    by_name : (name : List ℕ) (self legal text : Bool) → is_ref name ≡ legal → cond self NamesHead (cond (legal && text) (Says (head.Branch name)) SaysNothing) ≡ Says h → IsHeadInRefs h
+    by_name : (name : List ℕ) (self legal text : Bool) → is_ref name ≡ legal → cond self NamesHead (cond (legal && text) (Says (head.Branch name)) SaysNothing) ≡ Says h → IsLegalHead h
     by_name name true legal text e says = cc
-    by_name name false true true e says =
-        let is : h ≡ head.Branch name = cc in
-        subst IsHeadInRefs (sym is) (and_parts (is_ref_name name) (starts_with nat_eq name (codes "refs/")) e).1
+    by_name name false true true e says = let is : h ≡ head.Branch name = cc in subst IsLegalHead (sym is) e
     by_name name false true false e says = cc
     by_name name false false text e says = cc
 
-    by_kind : (b : Bool) → starts_with nat_eq text (codes "ref: ") ≡ b → cond b (name_said (without_lf (drop 5 text))) (id_said (id_in text)) ≡ Says h → IsHeadInRefs h
+    by_kind : (b : Bool) → starts_with nat_eq text (codes "ref: ") ≡ b → cond b (name_said (without_lf (drop 5 text))) (id_said (id_in text)) ≡ Says h → IsLegalHead h
     by_kind true e says = by_name (without_lf (drop 5 text)) _ _ _ refl says
     by_kind false e says = by_id (id_in text) says
+
+-- so it lies in `refs/`
+pub head_inside : (text : List ℕ) (h : Head) → read_head text ≡ Says h → IsHeadInRefs h
+head_inside text (head.Branch name) says = (and_parts (is_ref_name name) (starts_with nat_eq name (codes "refs/")) (head_legal text (head.Branch name) says)).1
+head_inside text (head.Id id) says = tt
+
+-- the same of what HEAD is
+pub head_of-legal : (content : FileMap) (h : Head) → head_of content ≡ Some h → IsLegalHead h
+unfolding head_of
+head_of-legal content h = by (files.get content (codes "HEAD"))
+  where
+    by_text : (text : List ℕ) (found : _) → read_head text ≡ found → said found ≡ Some h → IsLegalHead h
+    by_text text (Says g) e is = let same : g ≡ h = cc in head_legal text h (e ∙ ap Says same)
+    by_text text NamesHead e is = cc
+    by_text text SaysNothing e is = cc
+
+    by : (found : Option (List ℕ)) → option_and_then (λ text. said (read_head text)) found ≡ Some h → IsLegalHead h
+    by None is = cc
+    by (Some text) is = by_text text (read_head text) refl is
 
 -- no change, a write and a removal keep the rest
 pub rest_same : (name : List ℕ) (content : FileMap) → KeepsTheRest name content content

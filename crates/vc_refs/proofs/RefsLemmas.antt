@@ -100,6 +100,15 @@ good_absent content name none bad =
 pub refs-there : (content : FileMap) (name text : List ℕ) → is_ref name ≡ true → files.get content name ≡ Some text → refs content name ≡ id_in text
 refs-there content name text legal there = refs-at content name legal ∙ ap (option_and_then id_in) there
 
+-- one that has a value has a ref's name
+pub ref_legal : (content : FileMap) (name : List ℕ) (id : ObjectId) → refs content name ≡ Some id → is_ref name ≡ true
+unfolding refs
+ref_legal content name id = by (is_ref name) refl
+  where
+    by : (b : Bool) → is_ref name ≡ b → cond b (option_and_then id_in (files.get content name)) None ≡ Some id → is_ref name ≡ true
+    by true e there = e
+    by false e there = cc
+
 -- one that has a value isn't bad
 pub good_there : (content : FileMap) (name : List ℕ) (id : ObjectId) → refs content name ≡ Some id → IsBadRef content name → ⊥
 good_there content name id there bad = let none : refs content name ≡ None = bad.none in cc

@@ -15,3 +15,4 @@ pub mod AnswerLemmas
 pub mod NamesLemmas
 pub mod SameAnswer
 pub mod SelectionLemmas
+pub mod ValueLemmas

@@ -1,5 +1,5 @@
 -- An expression denotes one answer at most.
-use Rattle.std.proofs.Common.{◌≡◌, ◌≢◌, ◌⊎◌, inl, inr, ℕ, zero, suc, Bool, true, false, List, [], ◌∷◌, Option, Some, None, Result, Ok, Err, MatchBool, MatchOption, Contains, option_map, option_and_then, nat_lt, length, refl, sym, ap, subst, ◌∙◌}
+use Rattle.std.proofs.Common.{◌≡◌, ◌⊎◌, inl, inr, ℕ, zero, suc, Bool, true, false, List, [], ◌∷◌, Option, Some, None, Result, Ok, Err, MatchBool, MatchOption, Contains, option_map, option_and_then, nat_lt, length, refl, sym, ap, subst, ◌∙◌}
 use Rattle.vc_graph.specs.Graph.{LinksTo, Reaches, itself, onward}
 use Rattle.vc_object.specs.Decoding.{StoredObject}
 use Rattle.vc_object.specs.ObjectMap.{ObjectMap}
@@ -10,7 +10,7 @@ use Rattle.vc_object.specs.declared.mode.Mode.{Mode}
 use Rattle.vc_object.specs.declared.mode.Mode.TheVariants as modes
 use Rattle.vc_rev.specs.Answer.{After, Continues}
 use Rattle.vc_rev.specs.Grammar.{RevText, ExprText, Object, InTree, InIndex}
-use Rattle.vc_rev.specs.Meaning.{Answer, target_in, tag_links, pick, places, is_prefix, is_head, id_of, components, child_at, PeelsTo, PicksFrom, FirstParents, AncestorGives, PeelGives, StepGives, StepsGive, RefGives, FirstValue, PrefixGives, DigitsGive, ShortGives, NameGives, RevGives, EntryGives, PathGives, Denotes}
+use Rattle.vc_rev.specs.Meaning.{target_in, tag_links, pick, places, is_prefix, is_head, id_of, components, child_at, PeelsTo, PicksFrom, FirstParents, AncestorGives, PeelGives, StepGives, StepsGive, RefGives, FirstValue, PrefixGives, DigitsGive, ShortGives, NameGives, RevGives, EntryGives, PathGives, Denotes}
 use Rattle.vc_rev.specs.Source.{Source}
 use Rattle.vc_rev.specs.declared.refusal.Refusal.{Refusal}
 use Rattle.vc_rev.specs.declared.refusal.Refusal.TheVariants.{Unknown, Ambiguous, TooShort, NoSuchParent, WrongKind, NoSuchPath}

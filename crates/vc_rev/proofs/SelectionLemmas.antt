@@ -1,18 +1,18 @@
 -- What terms select, and what the walk of a set tells.
-use Rattle.std.proofs.Common.{◌≡◌, ℕ, ◌+◌, ◌<◌, inl, inr, ⊎_elim, List, [], ◌∷◌, ◌++◌, Option, Some, None, IsSome, length, drop, take, get_or, map, Result, Ok, Err, IfOk, IfErr, OnOk, MatchResult, Contains, ◌↔◌, refl, sym, ap, subst, ◌∙◌, arith}
+use Rattle.std.proofs.Common.{◌≡◌, ℕ, ◌+◌, ◌<◌, inl, inr, ⊎_elim, List, [], ◌∷◌, ◌++◌, IsSome, length, drop, take, get_or, map, Result, Ok, Err, IfOk, IfErr, OnOk, MatchResult, Contains, ◌↔◌, refl, sym, ap, subst, arith}
 use Rattle.std.proofs.lemmas.List.{drop_more, take_more, get_or_default}
 use Rattle.std.proofs.lemmas.List.Elements.{Contains-append_left, Contains-append_right, Contains-append_cases, Contains-push, Contains-push_cases}
 use Rattle.vc_base.specs.BaseFault.{IsTold as IsBaseTold}
 use Rattle.vc_base.specs.History.{IsCommonAncestor, IsSelected}
 use Rattle.vc_base.specs.declared.fault.BaseFault.{BaseFault}
 use Rattle.vc_base.specs.declared.fault.BaseFault.TheVariants as bases
-use Rattle.vc_graph.specs.Graph.{Reaches, ReachedFrom, IsClosedUnder, itself}
+use Rattle.vc_graph.specs.Graph.{ReachedFrom, IsClosedUnder, itself}
 use Rattle.vc_graph.proofs.FaultLemmas.{IsMet-more}
 use Rattle.vc_graph.proofs.WalkLemmas.{Reaches-trans}
 use Rattle.vc_object.specs.ObjectMap.{ObjectMap, parents_in}
 use Rattle.vc_object.specs.declared.id.ObjectId.{ObjectId}
 use Rattle.vc_rev.specs.Answer.{Continues, IsTold, IsAnswered}
-use Rattle.vc_rev.specs.Selection.{Selection, CommitRead, CommitGives, BothGive, Makes, TermGives, TermsGive, SetGives, commit_at, first_of, second_of, joined, nth_of, selection, AreCommon, ArePairsWalked, IsCommonOf, IsExcludedBy, IsMetBy, IsMetByPairs, IsOfWalk, IsSelectedBy, IsWalked}
+use Rattle.vc_rev.specs.Selection.{Selection, CommitRead, CommitGives, BothGive, Makes, TermGives, TermsGive, SetGives, commit_at, first_of, second_of, joined, nth_of, selection, AreCommon, ArePairsWalked, IsExcludedBy, IsMetBy, IsMetByPairs, IsOfWalk, IsSelectedBy, IsWalked}
 use Rattle.vc_rev.specs.Meaning.{PeelsTo, RevGives}
 use Rattle.vc_rev.specs.Grammar.{RevText}
 use Rattle.vc_rev.specs.SetGrammar.{TermText, Include, Exclude, Parents, ExcludeParents, Only, Since, Range, Symmetric}

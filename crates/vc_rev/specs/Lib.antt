@@ -18,3 +18,4 @@ pub mod Selection
 pub mod WalkFault
 pub mod RootsView
 pub mod Uses
+pub mod Value

@@ -15,6 +15,7 @@ loop-parent-preserved g c =
     record {
       good = λ honest. all_more (IsGoodParent (content c.args.files.now)) c.args.parents.now c.loop-parent.parent-index d c.loop-parent-test.true (c.loop-parent.invariant.good honest)
           (subst (λ (m : FileMap). IsGoodParent m id) c.loop-parent.invariant.same (c.in_ok-refuse_bad_commit.ensures.complete honest, c.in_ok-refuse_bad_commit.ensures.history honest));
+      wear = search rules;
       same = c.in_ok-refuse_bad_commit.ensures.same ∙ c.loop-parent.invariant.same;
     }
 

@@ -1,4 +1,4 @@
-use Rattle.std.proofs.Common.{◌≡◌, [], ◌∙◌, ◌++◌, ap, take, length, refl, rules, arith}
+use Rattle.std.proofs.Common.{◌≡◌, ◌∙◌, ◌++◌, ap, take, length, refl, rules, arith}
 use Rattle.std.proofs.Math.Seq.{take-length}
 use Rattle.std.proofs.lemmas.Result.{err_from_is_err_and}
 use Rattle.vc_rev.specs.Selection.{IsMetByPairs}

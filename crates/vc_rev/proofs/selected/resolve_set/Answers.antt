@@ -1,10 +1,7 @@
-use Rattle.std.proofs.Common.{◌≡◌, Ok, Err, Result, inl, inr}
-use Rattle.std.proofs.lemmas.Result.{err_from_is_err_and, IfOk-weaker, IfErr-weaker}
+use Rattle.std.proofs.lemmas.Result.{err_from_is_err_and}
 use Rattle.vc_rev.specs.RootsView.{roots_view}
-use Rattle.vc_rev.specs.Selection.{Selection}
 use Rattle.vc_rev.specs.SetViews.{terms_view}
 use Rattle.vc_rev.specs.Source.{source}
-use Rattle.vc_rev.specs.declared.refusal.Refusal.{Refusal}
 use Rattle.vc_rev.proofs.SelectionLemmas.{not_both, ok_both, told_one}
 use Rattle.vc_rev.proofs.selected.resolve_set.Goals as goal
 

@@ -21,7 +21,7 @@ use Rattle.vc_model.specs.Repository.{Index, Entry as MachineEntry}
 use Rattle.vc_model.specs.Rules.{AreEntriesClosed, AreFound}
 use Rattle.vc_object.specs.Decoding.{StoredObject}
 use Rattle.vc_object.specs.Links.{entry_links, links_of}
-use Rattle.vc_object.specs.Object.{object_name}
+use Rattle.vc_object.specs.Object.{object_name, IsObject}
 use Rattle.vc_object.specs.ObjectMap.{ObjectMap}
 use Rattle.vc_object.specs.Tree.{Entry, IsTree, spelling}
 use Rattle.vc_object.specs.declared.id.ObjectId.{ObjectId}
@@ -30,9 +30,10 @@ use Rattle.vc_object.specs.declared.mode.Mode.{Mode}
 use Rattle.vc_object.specs.declared.mode.Mode.TheVariants as modes
 use Rattle.vc_object.proofs.Reading.{entries_again}
 use Rattle.vc_store.specs.Store.{with_object, with_objects}
-use Rattle.vc_node.specs.Machine.{git, machine_object, stored_of, mode_number, machine_entry, no_objects, ListsTrees, HoldsTrees, ShowsIndex}
-use Rattle.vc_node.specs.TreeLaw.{IndexTreesGiveOne, IndexTreesAreNamed, IndexTreesAreClosed}
-use Rattle.vc_node.proofs.TreeLaws.{IsLinked, linked}
+use Rattle.vc_rules.specs.Git.{git, machine_object, stored_of, mode_number, machine_entry, no_objects}
+use Rattle.vc_rules.specs.Trees.{ListsTrees, HoldsTrees, ShowsIndex}
+use Rattle.vc_rules.specs.Laws.{IndexTreesGiveOne, IndexTreesAreNamed, IndexTreesAreFormed, IndexTreesAreClosed}
+use Rattle.vc_rules.proofs.TreeLaws.{IsLinked, linked}
 
 -- ---- one answer
 
@@ -301,3 +302,22 @@ index_trees_are_closed i t at given found closed =
     let made = folder_made m trees lists.listed.levels [] trees given.2 lists.listed.is (λ id h. h) in
     let root = root_of m trees lists.listed.levels [] trees given.2 lists.listed.is in
     root_whole i m lists.shows trees t.0 given.5 made at found closed t.1 (subst (IsTreeOf trees) (ap id_of_bytes (sym given.6)) root)
+
+-- ---- each is a tree's body
+
+IsFormed : ObjectId → StoredObject → Type 0
+IsFormed id q = IsObject q.kind q.body
+
+all_formed : (m : IndexMap) (all trees : List (List Entry)) → AllByRecursion (IsMade m all) trees → AllFit trees → AllByRecursion (λ (es : List Entry). IsFormed (object_name kinds.Tree (spelling es)) (tree_object es)) trees
+unfolding IsMade IsFormed
+all_formed m all [] made fit = tt
+all_formed m all (es ∷ trees) made fit = (record { grammar = (es, made.0.0, refl); size = fit.0 }, all_formed m all trees made.1 fit.1)
+
+pub index_trees_are_formed : IndexTreesAreFormed
+unfolding IsFormed AllStored Within
+index_trees_are_formed i t given x o found =
+    let m = given.0 in
+    let trees = given.1 in
+    let listed = given.3.listed in
+    let made = folder_made m trees listed.levels [] trees given.2 listed.is (λ id h. h) in
+    put_trees IsFormed trees no_objects (λ id q h. cc h) (all_formed m trees trees made given.4) (id_of_bytes x) (stored_of o) (sym (given.5 x) ∙ ap (option_map stored_of) found)

@@ -1,8 +1,6 @@
 -- What is reached in the machine is what the walks reach.
-use Rattle.std.proofs.Common.{◌≡◌, ℕ, Bool, true, false, cond, Ok, Err, List, [], ◌∷◌, ◌++◌, map, Option, Some, None, refl, sym, ap, ◌∙◌, subst, Contains, inl, inr, arith}
-use Rattle.std.specs.Prelude.{IsSome, option_map, unwrap_or, bytes_eq}
-use Rattle.std.specs.Result.{result_ok}
-use Rattle.vc_files.specs.FileMap.{FileMap}
+use Rattle.std.proofs.Common.{◌≡◌, ℕ, List, [], ◌∷◌, ◌++◌, map, Option, Some, None, refl, sym, ap, ◌∙◌, subst, Contains, inl, inr, arith}
+use Rattle.std.specs.Prelude.{IsSome, option_map, unwrap_or}
 use Rattle.std.specs.FinMap.{get}
 use Rattle.std.proofs.lemmas.List.Elements.{Contains-append_right, Contains-append_cases, Contains-push_cases}
 use Rattle.vc_format.specs.Git.{kind_of, id_of_bytes, bytes_of_id}
@@ -13,19 +11,15 @@ use Rattle.vc_model.specs.Object.Kind.{Blob, Tree, Commit, Tag}
 use Rattle.vc_model.specs.Reach.{Path, Reaches, Links, HasParent, IsClosed, HasHistory}
 use Rattle.vc_object.specs.Commit.{CommitText}
 use Rattle.vc_object.specs.CommitReading.{commit_of}
-use Rattle.vc_object.specs.Decoding.{StoredObject, decoded}
-use Rattle.vc_object.specs.Object.{IsObject, IsBody, object_name}
-use Rattle.vc_object.specs.ObjectId.{is_id}
+use Rattle.vc_object.specs.Decoding.{StoredObject}
+use Rattle.vc_object.specs.Object.{IsObject, IsBody}
 use Rattle.vc_object.proofs.Commits.{commit_again}
-use Rattle.vc_object.proofs.Decoding.{decoded_some}
 use Rattle.vc_object.specs.declared.kind.Kind.TheVariants as kinds
-use Rattle.vc_store.specs.Store.{objects, object_path, named, stored as stored_file, stored_in}
-use Rattle.vc_store.specs.declared.faults.StoreFault.TheVariants.{Damaged}
 use Rattle.vc_object.specs.Links.{links_of, parents_of}
 use Rattle.vc_object.specs.ObjectMap.{ObjectMap, links_in, parents_in}
 use Rattle.vc_object.specs.declared.id.ObjectId.{ObjectId}
 use Rattle.vc_object.proofs.ObjectMaps.{links_in-none, links_in-some, parents_in-none, parents_in-some}
-use Rattle.vc_node.specs.Machine.{git, stored_of}
+use Rattle.vc_rules.specs.Git.{git, stored_of}
 
 -- a list's ids, as bytes
 to_bytes : (xs : List ObjectId) (x : ObjectId) → Contains xs x → Contains (map bytes_of_id xs) (bytes_of_id x)
@@ -162,26 +156,3 @@ module _ (o : ObjectMap) (s : Objects) (rel : (x : Id) → o (id_of_bytes x) ≡
         let found : o y ≡ Some (stored_of t.0) = rel y.0 ∙ ap (option_map stored_of) t.1 in
         let ps = parsed t.0.kind t.0.body t.2 (sound y (stored_of t.0) found) in
         some_there (parents_in o y) ps.0 (parents_in-some o y (stored_of t.0) found ∙ ps.1)
-
--- ---- objects of files are objects
-
-named_sound : (id : ObjectId) (q o : StoredObject) (b : Bool) → ◌≡◌ {A = Option StoredObject} (result_ok (cond b (Ok q) (Err (Damaged id)))) (Some o) → q ≡ o
-named_sound id q o true h = cc
-named_sound id q o false h = cc
-
-read_sound : (id : ObjectId) (bytes : List ℕ) (found : Option StoredObject) (o : StoredObject) → decoded bytes ≡ found → result_ok (named id found) ≡ Some o → IsObject o.kind o.body
-read_sound id bytes None o e h = cc
-read_sound id bytes (Some q) o e h =
-    subst (λ (p : StoredObject). IsObject p.kind p.body) (named_sound id q o (bytes_eq (object_name q.kind q.body).0 id.0) h) ((decoded_some bytes q e).object)
-
-file_sound : (id : ObjectId) (file : Option (List ℕ)) (o : StoredObject) → result_ok (stored_in id file) ≡ Some o → IsObject o.kind o.body
-file_sound id None o h = cc
-file_sound id (Some bytes) o h = read_sound id bytes (decoded bytes) o refl h
-
-pub objects_sound : (content : FileMap) (id : ObjectId) (o : StoredObject) → objects content id ≡ Some o → IsObject o.kind o.body
-unfolding objects
-objects_sound content id o = by (is_id id)
-  where
-    by : (b : Bool) → cond b (result_ok (stored_file content id)) None ≡ Some o → IsObject o.kind o.body
-    by true h = file_sound id (get content (object_path id.0)) o h
-    by false h = cc

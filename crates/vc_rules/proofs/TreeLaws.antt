@@ -28,9 +28,10 @@ use Rattle.vc_object.specs.declared.mode.Mode.{Mode}
 use Rattle.vc_object.specs.declared.mode.Mode.TheVariants as modes
 use Rattle.vc_object.proofs.ObjectMaps.{links_in-some}
 use Rattle.vc_object.proofs.Reading.{entries_again}
-use Rattle.vc_node.specs.Machine.{git, machine_entry, mode_number, tree_number, layer_objects}
-use Rattle.vc_node.specs.TreeLaw.{TreesGiveOne, GivenTreesAreClosed}
-use Rattle.vc_node.proofs.ReachLemmas.{closed_from, path_from}
+use Rattle.vc_rules.specs.Git.{git, machine_entry, mode_number, layer_objects}
+use Rattle.vc_rules.specs.Trees.{tree_number}
+use Rattle.vc_rules.specs.Laws.{TreesGiveOne, GivenTreesAreClosed}
+use Rattle.vc_rules.proofs.ReachLemmas.{closed_from, path_from}
 
 some_is : {X : Type 0} (o : Option X) (x : X) → o ≡ Some x → IsSome o
 some_is None x e = cc

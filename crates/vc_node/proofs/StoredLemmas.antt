@@ -1,0 +1,34 @@
+-- The objects of files are objects.
+use Rattle.std.proofs.Common.{◌≡◌, ℕ, Bool, true, false, cond, Ok, Err, List, Option, Some, None, refl, subst}
+use Rattle.std.specs.Prelude.{bytes_eq}
+use Rattle.std.specs.Result.{result_ok}
+use Rattle.vc_files.specs.FileMap.{FileMap}
+use Rattle.std.specs.FinMap.{get}
+use Rattle.vc_object.specs.Decoding.{StoredObject, decoded}
+use Rattle.vc_object.specs.Object.{IsObject, object_name}
+use Rattle.vc_object.specs.ObjectId.{is_id}
+use Rattle.vc_object.proofs.Decoding.{decoded_some}
+use Rattle.vc_store.specs.Store.{objects, object_path, named, stored as stored_file, stored_in}
+use Rattle.vc_store.specs.declared.faults.StoreFault.TheVariants.{Damaged}
+use Rattle.vc_object.specs.declared.id.ObjectId.{ObjectId}
+
+named_sound : (id : ObjectId) (q o : StoredObject) (b : Bool) → ◌≡◌ {A = Option StoredObject} (result_ok (cond b (Ok q) (Err (Damaged id)))) (Some o) → q ≡ o
+named_sound id q o true h = cc
+named_sound id q o false h = cc
+
+read_sound : (id : ObjectId) (bytes : List ℕ) (found : Option StoredObject) (o : StoredObject) → decoded bytes ≡ found → result_ok (named id found) ≡ Some o → IsObject o.kind o.body
+read_sound id bytes None o e h = cc
+read_sound id bytes (Some q) o e h =
+    subst (λ (p : StoredObject). IsObject p.kind p.body) (named_sound id q o (bytes_eq (object_name q.kind q.body).0 id.0) h) ((decoded_some bytes q e).object)
+
+file_sound : (id : ObjectId) (file : Option (List ℕ)) (o : StoredObject) → result_ok (stored_in id file) ≡ Some o → IsObject o.kind o.body
+file_sound id None o h = cc
+file_sound id (Some bytes) o h = read_sound id bytes (decoded bytes) o refl h
+
+pub objects_sound : (content : FileMap) (id : ObjectId) (o : StoredObject) → objects content id ≡ Some o → IsObject o.kind o.body
+unfolding objects
+objects_sound content id o = by (is_id id)
+  where
+    by : (b : Bool) → cond b (result_ok (stored_file content id)) None ≡ Some o → IsObject o.kind o.body
+    by true h = file_sound id (get content (object_path id.0)) o h
+    by false h = cc

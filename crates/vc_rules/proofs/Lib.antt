@@ -1,0 +1,6 @@
+pub mod ReachLemmas
+pub mod TreeLaws
+pub mod IndexTreeLaws
+pub mod FaultLaws
+pub mod ValueLaws
+pub mod GitLaws

@@ -1,0 +1,5 @@
+pub mod Git
+pub mod Faults
+pub mod Trees
+pub mod Values
+pub mod Laws
