@@ -1,8 +1,10 @@
 -- Ends of a source, and slices of it.
-use Rattle.std.proofs.Common.{◌≡◌, ℕ, ◌+◌, ◌-◌, List, [], ◌∷◌, ◌++◌, length, take, drop, refl, sym, ap, ◌∙◌, append_assoc, arith}
+use Rattle.std.proofs.Common.{◌≡◌, ◌⊎◌, inl, inr, ℕ, ◌+◌, ◌-◌, codes, List, [], ◌∷◌, ◌++◌, length, take, drop, refl, sym, ap, subst, ◌∙◌, append_assoc, arith}
 use Rattle.std.specs.List.{AllByRecursion}
-use Rattle.std.proofs.lemmas.List.{append-nil, length-append, take_at, drop_at}
-use Rattle.vc_rev.specs.Views.{IsEnd, IsSlice}
+use Rattle.std.proofs.lemmas.List.{length-append, take_at, drop_at}
+use Rattle.vc_rev.specs.Grammar.{IsStep, IsPlainPath}
+use Rattle.vc_rev.specs.Views.{IsEnd, StandsSteps}
+use Rattle.vc_rev.specs.declared.token.StepToken.{StepToken}
 use Rattle.vc_rev.specs.Outcome.{IsPlace}
 
 pub all_push : {X : Type 0} (P : X → Type 0) (xs : List X) (x : X) → AllByRecursion P xs → P x → AllByRecursion P (xs ++ x ∷ [])
@@ -21,11 +23,6 @@ drop_end source text i =
     let sized : length i.0 ≡ length source - length text = omega (arith, end_short source text i) in
     ap (λ s. drop (length source - length text) s) i.1 ∙ drop_at i.0 text (length source - length text) sized
 
--- what stands at the front of an end is a slice
-pub slice_front : (source text a rest : List ℕ) → IsEnd text source → text ≡ a ++ rest → IsSlice source (length source - length text) a
-slice_front source text a rest i e =
-    ap (λ t. take (length a) t) (drop_end source text i ∙ e) ∙ take_at a rest (length a) refl
-
 pub front_taken : (text a rest : List ℕ) → text ≡ a ++ rest → take (length text - length rest) text ≡ a
 front_taken text a rest e =
     let sized : length a ≡ length text - length rest = omega (arith, ap length e, length-append a rest) in
@@ -34,6 +31,19 @@ front_taken text a rest e =
 pub place_of : (source text : List ℕ) → IsEnd text source → IsPlace source text (length source - length text)
 place_of source text i = omega (arith, end_short source text i)
 
--- what stands behind a colon, up to the end
-pub path_slice : (source text path : List ℕ) → IsEnd text source → text ≡ 58 ∷ path → IsSlice source (length source - length path) path
-path_slice source text path i e = slice_front source path path [] (end_on source text (58 ∷ []) path i e) (sym (append-nil path))
+-- one more step behind the others
+pub stand_more : (source text : List ℕ) (tokens : List StepToken) (rest : List ℕ) (token : StepToken) (after : List ℕ) → StandsSteps source text tokens rest → rest ≡ token.text.now ++ after
+    → IsPlace source rest token.start → IsStep token.text.now token.step → StandsSteps source text (tokens ++ token ∷ []) after
+stand_more source text [] rest token after e is place step = (after, e ∙ is, subst (λ (t : List ℕ). IsPlace source t token.start) (sym e) place, step, refl)
+stand_more source text (t ∷ ts) rest token after s is place step = (s.0, s.1, s.2, s.3, stand_more source s.0 ts rest token after s.4 is place step)
+
+-- what a colon at the start names ends the source
+pub index_stands : (source path text : List ℕ) (start : ℕ) → source ≡ codes ":" ++ path → ((start ≡ 3) × (path ≡ codes "0:" ++ text)) ⊎ ((start ≡ 1) × (text ≡ path) × IsPlainPath path) → IsEnd text source × IsPlace source text start
+index_stands source path text start e (inl h) =
+    let is : source ≡ codes ":0:" ++ text = e ∙ ap (λ p. 58 ∷ p) h.1 in
+    let place = h.0 in
+    ((codes ":0:", is), omega (arith, place, ap length is))
+index_stands source path text start e (inr h) =
+    let is : source ≡ codes ":" ++ text = e ∙ ap (λ p. 58 ∷ p) (sym h.1) in
+    let place = h.0 in
+    ((codes ":", is), omega (arith, place, ap length is))

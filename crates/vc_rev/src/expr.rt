@@ -4,7 +4,7 @@ ghost use Rattle.std.specs.Prelude.{◌≡◌, ◌⊎◌, ℕ, IfOk, IfErr, Matc
 ghost use Rattle.vc_rev.specs.Grammar.{IsExpr, ExprText};
 ghost use Rattle.vc_rev.specs.Faults.{ExprError, IsBadAt, Reads, ReadsRev, ReadsSteps, RevRead, ReadsExpr, IndexPath, NoColon};
 ghost use Rattle.vc_rev.specs.Outcome.{FaultAt};
-ghost use Rattle.vc_rev.specs.Views.{expr_view, rev_view, steps_view, ExprSlices, RevSlices, StepSlices, IsEnd};
+ghost use Rattle.vc_rev.specs.Views.{expr_view, rev_view, steps_view, ExprSlices, RevSlices, StandsRev, StandsSteps, IsEnd};
 ghost use Rattle.vc_rev.specs.Steps.{step_at};
 ghost use Rattle.vc_rev.specs.Seen as reads;
 
@@ -24,7 +24,7 @@ fn read_steps<'a>(
     ensures ok { IfOk result (λ found. Reads text.now (steps_view found.0) found.1.now) }
     ensures other { IfOk result (λ found. step_at found.1.now ≡ reads.Other) }
     ensures rest { IfOk result (λ found. IsEnd found.1.now source.now) }
-    ensures slices { IfOk result (λ found. StepSlices source.now found.0) }
+    ensures slices { IfOk result (λ found. StandsSteps source.now text.now found.0.items found.1.now) }
     ensures fault { IfErr result (FaultAt source.now (ReadsSteps text.now)) }
 {
     let mut tokens = Vec::new(alloc);
@@ -52,6 +52,7 @@ pub(crate) fn read_rev<'a>(
     requires { IsEnd text.now source.now }
     ensures ok { IfOk result (λ found. RevRead text.now (rev_view found.0) found.1.now) }
     ensures rest { IfOk result (λ found. IsEnd found.1.now source.now) }
+    ensures stands { IfOk result (λ found. StandsRev source.now text.now found.0 found.1.now) }
     ensures slices { IfOk result (λ found. RevSlices source.now found.0) }
     ensures fault { IfErr result (FaultAt source.now (ReadsRev text.now)) }
 {
@@ -118,7 +119,7 @@ fn read(alloc: Global, source: &[u8]) -> Result<Expr<'_>, ParseFault>
 ///
 /// Each token lends its text from the source. The time is linear in the source's length.
 pub fn parse(alloc: Global, source: &[u8]) -> Result<Expr<'_>, ParseFault>
-    // What is read is in the grammar, and each token is its slice of the source.
+    // What is read is in the grammar, and its tokens stand one behind another in the source, from its front to its end.
     ensures ok { IfOk result (λ expr. IsExpr source.now (expr_view expr)) }
     ensures slices { IfOk result (ExprSlices source.now) }
 
