@@ -17,19 +17,20 @@ use Rattle.vc_store.specs.Store.{IsDamaged, object_path, objects, stored_in, wit
 use Rattle.vc_store.specs.StoreFault.{IsOfPut}
 use Rattle.vc_store.specs.declared.faults.StoreFault.{StoreFault}
 use Rattle.vc_store.specs.declared.faults.StoreFault.TheVariants.{BadObject, Absent, Damaged, Fault}
-use Rattle.vc_store.proofs.PathLemmas.{name_in-object_path}
+use Rattle.vc_store.proofs.PathLemmas.{name_in-object_path, named_by_path}
 use Rattle.vc_store.proofs.StoreLemmas.{objects-absent}
 use Rattle.vc_index.specs.Damage.{KeepsDamage, IsTreesPlace}
 
 pub damage_same : (old new : FileMap) → new ≡ old → KeepsDamage old new
-damage_same old new same = record { before = λ id valid damaged. subst (λ (m : FileMap). IsDamaged m id) same damaged }
+damage_same old new same = record { before = λ id damaged. subst (λ (m : FileMap). IsDamaged m id) same damaged }
 
 pub damage_then : {old mid new : FileMap} → KeepsDamage old mid → KeepsDamage mid new → KeepsDamage old new
-damage_then first second = record { before = λ id valid damaged. first.before id valid (second.before id valid damaged) }
+damage_then first second = record { before = λ id damaged. first.before id (second.before id damaged) }
 
-apart : (q name : ObjectId) → is_id q ≡ true → is_id name ≡ true → bytes_eq q.0 name.0 ≡ false → bytes_eq (object_path q.0) (object_path name.0) ≡ false
-apart q name valid named other = false_from_ne_true _ (λ same.
+apart : (q name : ObjectId) → is_id name ≡ true → bytes_eq q.0 name.0 ≡ false → bytes_eq (object_path q.0) (object_path name.0) ≡ false
+apart q name named other = false_from_ne_true _ (λ same.
     let path : object_path q.0 ≡ object_path name.0 = (bytes_eq-Decides (object_path q.0) (object_path name.0)).0 same in
+    let valid : is_id q ≡ true = named_by_path q.0 name.0 named path in
     let is : Some q ≡ Some name = sym (name_in-object_path q.0 valid) ∙ ap name_in path ∙ name_in-object_path name.0 named in
     let e : q.0 ≡ name.0 = ap (λ (found : Option ObjectId). (unwrap_or found q).0) is in
     let yes : bytes_eq q.0 name.0 ≡ true = (bytes_eq-Decides q.0 name.0).1 e in
@@ -50,15 +51,15 @@ unfolding with_object
 put_there o name q object same = ap (λ b. cond b (Some (unwrap_or (o name) object)) (o q)) same
 
 pub damage_put : (old new : FileMap) (kind : Kind) (body : List ℕ) (name : ObjectId) → name ≡ object_name kind body → is_id name ≡ true → new ≡ with_file old (stored_object kind body) → objects new ≡ with_object (objects old) name (stored_object kind body) → KeepsDamage old new
-damage_put old new kind body name is named file put = record { before = λ id valid damaged. by id valid damaged (bytes_eq id.0 name.0) refl }
+damage_put old new kind body name is named file put = record { before = λ id damaged. by id damaged (bytes_eq id.0 name.0) refl }
   where
-    by : (id : ObjectId) → is_id id ≡ true → IsDamaged new id → (b : Bool) → bytes_eq id.0 name.0 ≡ b → IsDamaged old id
-    by id valid damaged true same =
+    by : (id : ObjectId) → IsDamaged new id → (b : Bool) → bytes_eq id.0 name.0 ≡ b → IsDamaged old id
+    by id damaged true same =
         absurd (let none : objects new id ≡ None = objects-absent new id (Damaged id) damaged in
         let some : objects new id ≡ Some (unwrap_or (objects old name) (stored_object kind body)) = ap (λ (o : ObjectMap). o id) put ∙ put_there (objects old) name id (stored_object kind body) same in
         let bad : Some (unwrap_or (objects old name) (stored_object kind body)) ≡ None = sym some ∙ none in cc bad)
-    by id valid damaged false other =
-        let path : bytes_eq (object_path id.0) (object_path (object_name kind body).0) ≡ false = subst (λ (n : ObjectId). bytes_eq (object_path id.0) (object_path n.0) ≡ false) is (apart id name valid named other) in
+    by id damaged false other =
+        let path : bytes_eq (object_path id.0) (object_path (object_name kind body).0) ≡ false = subst (λ (n : ObjectId). bytes_eq (object_path id.0) (object_path n.0) ≡ false) is (apart id name named other) in
         let found : files.get new (object_path id.0) ≡ files.get old (object_path id.0) = ap (λ (m : FileMap). files.get m (object_path id.0)) file ∙ put_apart old kind body (object_path id.0) path in
         ap (stored_in id) (sym found) ∙ damaged
 

@@ -1,8 +1,7 @@
 -- What the writing of trees does to damaged files of objects: none becomes damaged, and one that is told stands in a tree's place.
-use Rattle.std.specs.Prelude.{◌≡◌, ℕ, ⊤, true, List}
+use Rattle.std.specs.Prelude.{◌≡◌, ℕ, ⊤, List}
 use Rattle.vc_files.specs.FileMap.{FileMap}
 use Rattle.vc_object.specs.Object.{object_name}
-use Rattle.vc_object.specs.ObjectId.{is_id}
 use Rattle.vc_object.specs.declared.id.ObjectId.{ObjectId}
 use Rattle.vc_object.specs.declared.kind.Kind.TheVariants.{Tree}
 use Rattle.vc_store.specs.Store.{IsDamaged}
@@ -13,7 +12,7 @@ use Rattle.vc_index.specs.declared.faults.IndexFault.TheVariants.{Store}
 
 -- what is damaged now was so before
 pub record KeepsDamage (old new : FileMap) : Type 0 where
-  pub before : (id : ObjectId) → is_id id ≡ true → IsDamaged new id → IsDamaged old id
+  pub before : (id : ObjectId) → IsDamaged new id → IsDamaged old id
 
 -- a damaged file that is told stands where a tree would
 abbrev pub IsTreesPlace : StoreFault → Type 0

@@ -1,6 +1,6 @@
 -- From what is shown before and after a call to the machine's answers.
 use Rattle.std.proofs.Common.{◌≡◌, ◌⊎◌, inl, inr, ℕ, Bool, true, false, cond, List, Option, Some, None, refl, sym, ap, ◌∙◌, subst}
-use Rattle.std.specs.Prelude.{option_map, bytes_eq, not}
+use Rattle.std.specs.Prelude.{option_map, bytes_eq, string_bytes, not}
 use Rattle.std.specs.FinMap.{FinMap, get, insert, remove, get-insert, get-remove}
 use Rattle.std.specs.Ordering.{nat_cmp}
 use Rattle.std.specs.Cmp.Lexicographic.{slice_cmp, nat_list_cmp_total}
@@ -19,10 +19,12 @@ use Rattle.vc_refs.specs.declared.faults.RefFault.TheVariants as ref
 use Rattle.vc_store.specs.declared.faults.StoreFault.TheVariants as store
 use Rattle.vc_node.specs.declared.fault.NodeFault.{NodeFault}
 use Rattle.vc_node.specs.declared.fault.NodeFault.TheVariants.{Store, Ref, Missing, NotACommit, BadPath, PathConflict, BadIndex, WrongEntry, Down}
+use Rattle.vc_node.specs.Clean.{IsClean, KeepsClean}
 use Rattle.vc_node.specs.NodeFault.{is_fault}
 use Rattle.vc_node.specs.Shown.{Shown, shown}
 use Rattle.vc_rules.specs.Git.{git, machine_kind}
-use Rattle.vc_node.specs.Machine.{git_rules, live_of, Spells, Follows, Answers, IsBadFile, fault_answer}
+use Rattle.vc_node.specs.Machine.{git_rules, live_of, Spells, Follows, Answers, AnswersShown, IsBadFile, fault_answer}
+use Rattle.vc_node.proofs.CleanLemmas.{still_clean}
 
 pub kind_back : (k : ObjectKind) → kind_of (machine_kind k) ≡ k
 kind_back kinds.Blob = refl
@@ -31,7 +33,7 @@ kind_back kinds.Commit = refl
 kind_back kinds.Tag = refl
 
 -- a node that is down
-pub answers_down : (task : Task) (was : Bool) (s : Shown) → was ≡ false → Answers task (Declined 112) was was s s
+pub answers_down : (task : Task) (was : Bool) (s : Shown) → was ≡ false → AnswersShown task (Declined 112) was was s s
 answers_down task was s e = record {
   each = λ awaited n holds. (n, holds, down (holds.live ∙ ap (λ (up : Bool). live_of up awaited) e) (λ h. cc h) refl refl refl);
 }
@@ -63,7 +65,7 @@ same_node : (r s : Repository) (a b : Option Awaited) → r ≡ s → a ≡ b �
 same_node r s a b e f i = record { repository = e i; live = f i }
 
 -- a node that is up
-pub answers_from : (task : Task) (a : Answer) (was is : Bool) (old new : Shown) → Follows task a old new → was ≡ true → is ≡ stays a → Answers task a was is old new
+pub answers_from : (task : Task) (a : Answer) (was is : Bool) (old new : Shown) → Follows task a old new → was ≡ true → is ≡ stays a → AnswersShown task a was is old new
 answers_from task (Did y) was is old new follows up after = record {
   each = λ awaited n holds.
       let g = follows.goes awaited n.repository holds.spells in
@@ -96,15 +98,58 @@ answers_from task (Fault f) was is old new follows up after = record {
 }
 
 -- the same after a call that failed
-pub answers_failed : (task : Task) (e : NodeFault) (was is : Bool) (old new : Shown) → Follows task (fault_answer e) old new → was ≡ true → is ≡ not (is_fault e) → Answers task (fault_answer e) was is old new
+pub answers_failed : (task : Task) (e : NodeFault) (was is : Bool) (old new : Shown) → Follows task (fault_answer e) old new → was ≡ true → is ≡ not (is_fault e) → AnswersShown task (fault_answer e) was is old new
 answers_failed task e was is old new follows up after = answers_from task (fault_answer e) was is old new follows up (after ∙ stays_by_fault e)
 
 -- the same as a method gives it: the fault went through the call that takes the node down
 pub failed : (task : Task) (e told : NodeFault) (was is : Bool) (content : FileMap) (old new : Shown) → IsBadFile content e ⊎ Follows task (fault_answer e) old new → told ≡ e → was ≡ true → is ≡ not (is_fault e)
-    → IsBadFile content told ⊎ Answers task (fault_answer told) was is old new
+    → IsBadFile content told ⊎ AnswersShown task (fault_answer told) was is old new
 failed task e told was is content old new cases same up after =
-    subst (λ (f : NodeFault). IsBadFile content f ⊎ Answers task (fault_answer f) was is old new) (sym same)
+    subst (λ (f : NodeFault). IsBadFile content f ⊎ AnswersShown task (fault_answer f) was is old new) (sym same)
     (elim cases [ inl bad ↦ inl bad | inr follows ↦ inr (answers_failed task e was is old new follows up after) ])
+
+-- ---- clean files
+
+no_bad : (content : FileMap) (e : NodeFault) → IsClean content → IsBadFile content e → ⊥
+no_bad content (Store (store.BadObject f)) clean bad = bad
+no_bad content (Store (store.Absent id)) clean bad = bad
+no_bad content (Store (store.Damaged id)) clean bad = clean.objects id bad
+no_bad content (Store (store.Fault f)) clean bad = bad
+no_bad content (Ref (ref.Stale current)) clean bad = bad
+no_bad content (Ref (ref.Conflict other)) clean bad = bad
+no_bad content (Ref (ref.BadRefFile path)) clean bad = clean.refs (string_bytes path) bad
+no_bad content (Ref ref.HeadLoop) clean bad = bad
+no_bad content (Ref (ref.Fault f)) clean bad = bad
+no_bad content (Missing id) clean bad = bad
+no_bad content (NotACommit id) clean bad = bad
+no_bad content BadPath clean bad = bad
+no_bad content PathConflict clean bad = bad
+no_bad content (BadIndex place) clean bad = bad
+no_bad content (WrongEntry at) clean bad = bad
+no_bad content Down clean bad = bad
+
+-- what a call answers over any files it does over clean ones, where it tells no fault or that the node is down
+pub held : (task : Task) (a : Answer) (was is : Bool) (old new : FileMap) → ⊥ ⊎ AnswersShown task a was is (shown old) (shown new) → KeepsClean old new → Answers task a was is old new
+held task a was is old new cases keeps = record {
+  each = λ awaited n holds. elim cases [
+    | inl none ↦ absurd none
+    | inr answers ↦
+        let g = answers.each awaited n holds.shows in
+        (g.0, record { shows = g.1; clean = still_clean old new keeps holds.clean }, g.2)
+  ];
+}
+
+-- and where it tells a fault, which is for no bad file then; the equation is there to read off what was told
+pub held_failed : (task : Task) (e told : NodeFault) (was is : Bool) (old new : FileMap) → told ≡ e → IsBadFile old told ⊎ AnswersShown task (fault_answer told) was is (shown old) (shown new) → KeepsClean old new
+    → Answers task (fault_answer told) was is old new
+held_failed task e told was is old new same cases keeps = record {
+  each = λ awaited n holds. elim cases [
+    | inl bad ↦ absurd (no_bad old told holds.clean bad)
+    | inr answers ↦ (held task (fault_answer told) was is old new (inr answers) keeps).each awaited n holds
+  ];
+}
+
+-- ---- what is left as it was
 
 pub unchanged : (task : Task) (a : Answer) (old new : FileMap) → Follows task a (shown old) (shown old) → new ≡ old → Follows task a (shown old) (shown new)
 unchanged task a old new follows same = subst (λ (m : FileMap). Follows task a (shown old) (shown m)) (sym same) follows

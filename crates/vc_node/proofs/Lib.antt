@@ -13,3 +13,4 @@ pub mod CommitAnswers
 pub mod CommitFailures
 pub mod StoringLemmas
 pub mod NameLemmas
+pub mod CleanLemmas

@@ -18,7 +18,7 @@ use Rattle.vc_node.specs.Shown.{Shown, shown, with_refs_shown}
 legal_of : (name : List ℕ) → is_ref name ≡ true → is_ref_name name ≡ true
 legal_of name h = (and_parts (is_ref_name name) (starts_with nat_eq name (codes "refs/")) h).0
 
-with_ref_same : (r : RefMap) (name : List ℕ) (id : ObjectId) → with_ref r name id name ≡ Some id
+pub with_ref_same : (r : RefMap) (name : List ℕ) (id : ObjectId) → with_ref r name id name ≡ Some id
 unfolding with_ref
 with_ref_same r name id = ap (λ (b : Bool). cond b (Some id) (r name)) ((bytes_eq-Decides name name).1 refl)
 

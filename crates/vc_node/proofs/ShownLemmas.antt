@@ -55,7 +55,7 @@ head_same old new same = ap (option_and_then (λ text. said (read_head text))) s
 pub ref_no_object : (q : List ℕ) → starts_with nat_eq q (codes "refs/") ≡ true → starts_with nat_eq q (codes "objects/") ≡ false
 ref_no_object q h = ap (λ p. starts_with nat_eq p (codes "objects/")) (split_from_starts q (codes "refs/") h)
 
-ref_no_index : (q : List ℕ) → starts_with nat_eq q (codes "refs/") ≡ true → bytes_eq q (codes "index") ≡ false
+pub ref_no_index : (q : List ℕ) → starts_with nat_eq q (codes "refs/") ≡ true → bytes_eq q (codes "index") ≡ false
 ref_no_index q h = ap (λ p. bytes_eq p (codes "index")) (split_from_starts q (codes "refs/") h)
 
 -- a change in objects/ shows as other objects

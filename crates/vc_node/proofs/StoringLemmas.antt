@@ -1,5 +1,5 @@
 -- Why the objects of a commit were not stored, and what was.
-use Rattle.std.proofs.Common.{◌≡◌, inl, inr, ℕ, true, List, [], ◌∷◌, ◌++◌, Err, w8, sym, ap, ◌∙◌, subst}
+use Rattle.std.proofs.Common.{◌≡◌, inl, inr, ℕ, true, List, [], ◌∷◌, ◌++◌, Err, w8, ap, ◌∙◌, subst}
 use Rattle.std.proofs.Math.Facts.{Fits-of_lt}
 use Rattle.std.specs.FinMap.{get, empty, get-empty}
 use Rattle.std.specs.Ordering.{nat_cmp}
@@ -52,7 +52,7 @@ module _ (honest : Type 0) (old mid : FileMap) (m : IndexMap) (parents : List Ob
   trees_blamed : (f : StoreFault) → IsOfWrite m (λ id. honest → IsDamaged mid id) (index.Store f) → TellsTreesPlace (index.Store f) → BlamesStored honest old m parents author committer message f
   trees_blamed (store.BadObject g) of place = inl of
   trees_blamed (store.Absent id) of place = absurd of
-  trees_blamed (store.Damaged id) of place = λ h. (keeps h).before id (subst (λ (i : ObjectId). is_id i ≡ true) (sym place.1) (name_valid kinds.Tree place.0)) (of h)
+  trees_blamed (store.Damaged id) of place = λ h. (keeps h).before id (of h)
   trees_blamed (store.Fault g) of place = tt
 
   pub tree_blamed : (f : IndexFault) → IsOfWrite m (λ id. honest → IsDamaged mid id) f → TellsTreesPlace f → BlamesObjects honest old m parents author committer message (of_index f)
@@ -67,7 +67,7 @@ module _ (honest : Type 0) (old mid : FileMap) (m : IndexMap) (parents : List Ob
   pub body_blamed : (tree : ObjectId) → HasRoot m tree → (body : List ℕ) → body ≡ made_body tree parents author committer message → (f : StoreFault) → IsOfPut kinds.Commit body f → (honest → IsOfDamage mid f) → BlamesObjects honest old m parents author committer message (Store f)
   body_blamed tree root body is (store.BadObject g) of damage = inr (tree, root, subst (λ (text : List ℕ). BodyFault kinds.Commit text g) is of)
   body_blamed tree root body is (store.Absent id) of damage = absurd of
-  body_blamed tree root body is (store.Damaged id) of damage = λ h. (keeps h).before id (subst (λ (i : ObjectId). is_id i ≡ true) (sym of.1) (name_valid kinds.Commit body)) (damage h)
+  body_blamed tree root body is (store.Damaged id) of damage = λ h. (keeps h).before id (damage h)
   body_blamed tree root body is (store.Fault g) of damage = tt
 
 -- no file is damaged where there is none, so a commit to files in memory is refused as one to any files is

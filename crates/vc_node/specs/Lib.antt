@@ -7,3 +7,4 @@ pub mod Blames
 pub mod Machine
 pub mod Commit
 pub mod Making
+pub mod Clean

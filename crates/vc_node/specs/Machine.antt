@@ -32,8 +32,9 @@ use Rattle.vc_refs.specs.declared.heads.Head.TheVariants as heads
 use Rattle.vc_store.specs.Store.{IsDamaged}
 use Rattle.vc_store.specs.declared.faults.StoreFault.{StoreFault}
 use Rattle.vc_store.specs.declared.faults.StoreFault.TheVariants as store
+use Rattle.vc_node.specs.Clean.{IsClean}
 use Rattle.vc_node.specs.NodeFault.{is_fault}
-use Rattle.vc_node.specs.Shown.{Shown}
+use Rattle.vc_node.specs.Shown.{Shown, shown}
 use Rattle.vc_node.specs.declared.fault.NodeFault.{NodeFault}
 use Rattle.vc_node.specs.declared.fault.NodeFault.TheVariants.{Store, Ref, Missing, NotACommit, BadPath, PathConflict, BadIndex, WrongEntry, Down}
 
@@ -63,10 +64,15 @@ abbrev pub live_of : Bool → Awaited → Option Awaited
 live_of true awaited = Some awaited
 live_of false awaited = None
 
--- The node of the machine that a node holds, which awaits this while it is up.
-pub record HoldsNode (s : Shown) (is_up : Bool) (awaited : Awaited) (n : CloneNode) : Type 0 where
+-- The node of the machine that is shown, which awaits this while it is up.
+pub record ShowsNode (s : Shown) (is_up : Bool) (awaited : Awaited) (n : CloneNode) : Type 0 where
   pub spells : Spells s n.repository
   pub live : n.live ≡ live_of is_up awaited
+
+-- The node of the machine that a node holds: it is shown, and by clean files.
+pub record HoldsNode (content : FileMap) (is_up : Bool) (awaited : Awaited) (n : CloneNode) : Type 0 where
+  pub shows : ShowsNode (shown content) is_up awaited n
+  pub clean : IsClean content
 
 abbrev pub failure_of : FilesFault → Failure
 failure_of files.Memory = Memory
@@ -129,9 +135,14 @@ Goes awaited r task (Fault f) after = ((d : Deed Awaited) × Obeys git git_rules
 pub record Follows (task : Task) (a : Answer) (old new : Shown) : Type 0 where
   pub goes : (awaited : Awaited) (r : Repository) → Spells old r → (after : Repository) × Spells new after × Goes awaited r task a after
 
--- Whatever node was held, and whatever it awaits, the answer is one of the machine's to the command, and the node it leads to is
--- held then.
-pub record Answers (task : Task) (a : Answer) (was_up is_up : Bool) (old new : Shown) : Type 0 where
+-- Whatever node was shown, and whatever it awaits, the answer is one of the machine's to the command, and the node it leads to is
+-- shown then.
+pub record AnswersShown (task : Task) (a : Answer) (was_up is_up : Bool) (old new : Shown) : Type 0 where
+  pub each : (awaited : Awaited) (n : CloneNode) → ShowsNode old was_up awaited n
+      → (m : CloneNode) × ShowsNode new is_up awaited m × CloneAnswers git git_rules n (Command task) a m None
+
+-- The same of a node that was held.
+pub record Answers (task : Task) (a : Answer) (was_up is_up : Bool) (old new : FileMap) : Type 0 where
   pub each : (awaited : Awaited) (n : CloneNode) → HoldsNode old was_up awaited n
       → (m : CloneNode) × HoldsNode new is_up awaited m × CloneAnswers git git_rules n (Command task) a m None
 

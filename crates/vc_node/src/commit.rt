@@ -6,6 +6,7 @@ ghost use Rattle.vc_files.specs.FileMap.{SameOutside};
 ghost use Rattle.vc_object.specs.Lines.{id_line, line};
 ghost use Rattle.vc_refs.specs.Head.{IsHeadInRefs, head_of};
 ghost use Rattle.vc_store.specs.Store.{objects};
+ghost use Rattle.vc_node.specs.Clean.{KeepsClean};
 ghost use Rattle.vc_node.specs.Commit.{IsGoodParent, IsFreeHead, IsCommitted, WritesCommit, made_body, moved, parents_of_commit};
 ghost use Rattle.vc_node.specs.Making.{AreLines, BlamesLines, BlamesFreeHead, BlamesParents, BlamesLook, BlamesObjects, BlamesMaking, BlamesMoving, LeftByCommit, StoresTrees};
 ghost use Rattle.vc_node.specs.NodeFault.{TellsDevice};
@@ -148,6 +149,7 @@ fn write_objects<F: Files>(
     ensures left { OnErr result (StoresTrees F.honest index.now (objects (F.content files.old)) (objects (F.content files.new))) }
     ensures written { IfOk result (WritesCommit F.honest index.now parents.now words.entry.author.now words.entry.committer.now words.entry.message.now (objects (F.content files.old)) (objects (F.content files.new))) }
     ensures outside { F.honest → SameOutside (codes "objects/") (F.content files.old) (F.content files.new) }
+    ensures clean { F.honest → KeepsClean (F.content files.old) (F.content files.new) }
     ensures wear { Wears F.failed F.can_fail files.old files.new (TellsDevice result) }
 {
     let tree = index.write_tree(alloc, files)?;
@@ -167,6 +169,7 @@ fn move_head<F: Files>(
     ensures moved { F.honest → OnOk result (shown (F.content files.new) ≡ moved head.now id (shown (F.content files.old))) }
     ensures refused { F.honest → IfErr result (BlamesMoving (F.content files.old) head.now) }
     ensures err { F.honest → OnErr result (F.content files.new ≡ F.content files.old) }
+    ensures clean { F.honest → OnOk result (KeepsClean (F.content files.old) (F.content files.new)) }
     ensures wear { Wears F.failed F.can_fail files.old files.new (TellsDevice result) }
 {
     match head {
@@ -194,6 +197,7 @@ pub(crate) fn commit<F: Files>(
     ensures refused { F.honest → IfErr result (BlamesMaking (F.content files.old) extra.now words.entry.author.now words.entry.committer.now words.entry.message.now) }
     ensures left { F.honest → OnErr result (LeftByCommit (F.content files.old) extra.now words.entry.author.now words.entry.committer.now words.entry.message.now (F.content files.new)) }
     ensures err { F.honest → OnErr result (SameOutside (codes "objects/") (F.content files.old) (F.content files.new)) }
+    ensures clean { F.honest → KeepsClean (F.content files.old) (F.content files.new) }
     ensures wear { Wears F.failed F.can_fail files.old files.new (TellsDevice result) }
 {
     refuse_lines(words)?;

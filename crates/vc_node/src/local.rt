@@ -19,6 +19,7 @@ ghost use Rattle.vc_object.specs.declared.id.ObjectId.{ObjectId as Id};
 ghost use Rattle.vc_object.specs.declared.kind.Kind.TheVariants.{Blob};
 ghost use Rattle.vc_refs.specs.Head.{IsHeadInRefs};
 ghost use Rattle.vc_node.specs.Blames.{BlamesWrite, BlamesAdd, BlamesBranch, BlamesPut, BlamesHead, BlamesLoad, BlamesRemoved, MayStage, MayHead, TellsDamage};
+ghost use Rattle.vc_node.specs.Clean.{KeepsClean};
 ghost use Rattle.vc_node.specs.GoodCommit.{IsComplete, IsHistory};
 ghost use Rattle.vc_node.specs.IndexFile.{SpellsIndex, BlamesIndex};
 ghost use Rattle.vc_node.specs.NodeFault.{is_fault, TellsDevice};
@@ -47,6 +48,7 @@ pub(crate) fn write<F: Files>(
     ensures stored { F.honest → IfOk result (λ id. shown (F.content files.new) ≡ with_objects_shown (shown (F.content files.old)) (with_object (objects (F.content files.old)) id (stored_object kind body.now))) }
     ensures refused { F.honest → IfErr result (BlamesWrite (F.content files.old) kind body.now) }
     ensures err { F.honest → OnErr result (F.content files.new ≡ F.content files.old) }
+    ensures clean { F.honest → OnOk result (KeepsClean (F.content files.old) (F.content files.new)) }
     ensures wear { Wears F.failed F.can_fail files.old files.new (TellsDevice result) }
 {
     let id = vc_store::put(files, alloc, kind, body)?;
@@ -58,6 +60,7 @@ pub(crate) fn unstage<F: Files>(alloc: Global, files: &mut F, path: &[u8]) -> Re
     ensures removed { F.honest → (m : IndexMap) → SpellsIndex (F.content files.old) m → OnOk result (shown (F.content files.new) ≡ with_index_shown (shown (F.content files.old)) (index_text (paths.remove m path.now))) }
     ensures refused { F.honest → IfErr result (BlamesIndex (F.content files.old)) }
     ensures err { F.honest → OnErr result (F.content files.new ≡ F.content files.old) }
+    ensures clean { F.honest → OnOk result (KeepsClean (F.content files.old) (F.content files.new)) }
     ensures wear { Wears F.failed F.can_fail files.old files.new (TellsDevice result) }
 {
     let mut index = read_index(alloc, files)?;
@@ -80,6 +83,7 @@ pub(crate) fn add<F: Files>(
     ensures refused { F.honest → (m : IndexMap) → SpellsIndex (F.content files.old) m → IfErr result (BlamesAdd (F.content files.old) m path.now bytes.now) }
     ensures damaged { F.honest → IfErr result (TellsDamage (F.content files.old)) }
     ensures left { F.honest → (m : IndexMap) → SpellsIndex (F.content files.old) m → IfErr result (λ e. (F.content files.new ≡ F.content files.old) ⊎ ((is_fault e ≡ true) × MayStage m path.now bytes.now × (shown (F.content files.new) ≡ with_objects_shown (shown (F.content files.old)) (with_object (objects (F.content files.old)) (object_name Blob bytes.now) (stored_object Blob bytes.now))))) }
+    ensures clean { F.honest → KeepsClean (F.content files.old) (F.content files.new) }
     ensures wear { Wears F.failed F.can_fail files.old files.new (TellsDevice result) }
 {
     let mut index = read_index(alloc, files)?;
@@ -99,6 +103,7 @@ pub(crate) fn load_tree<F: Files>(
     ensures loaded { F.honest → OnOk result (IsLoaded (F.content files.old) id.now (F.content files.new)) }
     ensures refused { F.honest → IfErr result (BlamesLoad (F.content files.old) id.now) }
     ensures err { F.honest → OnErr result (F.content files.new ≡ F.content files.old) }
+    ensures clean { F.honest → OnOk result (KeepsClean (F.content files.old) (F.content files.new)) }
     ensures wear { Wears F.failed F.can_fail files.old files.new (TellsDevice result) }
 {
     let index = Index::from_tree(alloc, files, id)?;
@@ -113,6 +118,7 @@ pub(crate) fn set_head<F: Files>(alloc: Global, files: &mut F, head: &Head) -> R
     ensures may { F.honest → OnOk result (MayHead (F.content files.old) head.now) }
     ensures refused { F.honest → IfErr result (BlamesHead (F.content files.old) head.now) }
     ensures err { F.honest → OnErr result (F.content files.new ≡ F.content files.old) }
+    ensures clean { F.honest → OnOk result (KeepsClean (F.content files.old) (F.content files.new)) }
     ensures wear { Wears F.failed F.can_fail files.old files.new (TellsDevice result) }
 {
     if let Head::Id(id) = head {
@@ -134,6 +140,7 @@ pub(crate) fn put_ref<F: Files>(
     ensures free { F.honest → OnOk result (IsFree (F.content files.old) name.now) }
     ensures refused { F.honest → IfErr result (BlamesPut (F.content files.old) name.now) }
     ensures err { F.honest → OnErr result (F.content files.new ≡ F.content files.old) }
+    ensures clean { F.honest → OnOk result (KeepsClean (F.content files.old) (F.content files.new)) }
     ensures wear { Wears F.failed F.can_fail files.old files.new (TellsDevice result) }
 {
     let current = vc_refs::get(files, alloc, name)?;
@@ -154,6 +161,7 @@ pub(crate) fn set_branch<F: Files>(
     ensures good { F.honest → OnOk result (IsComplete (F.content files.old) id.now × IsHistory (F.content files.old) id.now) }
     ensures refused { F.honest → IfErr result (BlamesBranch (F.content files.old) branch.now id.now) }
     ensures err { F.honest → OnErr result (F.content files.new ≡ F.content files.old) }
+    ensures clean { F.honest → OnOk result (KeepsClean (F.content files.old) (F.content files.new)) }
     ensures wear { Wears F.failed F.can_fail files.old files.new (TellsDevice result) }
 {
     refuse_conflict(files, alloc, branch)?;
@@ -172,6 +180,7 @@ pub(crate) fn remove_ref<F: Files>(
     ensures removed { F.honest → OnOk result (shown (F.content files.new) ≡ with_refs_shown (shown (F.content files.old)) (without_ref (refs (F.content files.old)) name.now)) }
     ensures refused { F.honest → IfErr result (BlamesRemoved (F.content files.old)) }
     ensures err { F.honest → OnErr result (F.content files.new ≡ F.content files.old) }
+    ensures clean { F.honest → OnOk result (KeepsClean (F.content files.old) (F.content files.new)) }
     ensures wear { Wears F.failed F.can_fail files.old files.new (TellsDevice result) }
 {
     let current = vc_refs::get(files, alloc, name)?;

@@ -6,9 +6,10 @@ ghost use Rattle.vc_model.specs.Clone.Task.{Write, Stage, Unstage, LoadTree, Mak
 ghost use Rattle.vc_refs.specs.Head.{IsHeadInRefs};
 ghost use Rattle.vc_node.specs.Blames.{BlamesLoad, BlamesOpen, IsLocalHead};
 ghost use Rattle.vc_files.specs.FileMap.{SameOutside};
+ghost use Rattle.vc_node.specs.Clean.{KeepsClean};
 ghost use Rattle.vc_node.specs.Commit.{IsCommitted};
 ghost use Rattle.vc_rules.specs.Git.{machine_object, mode_number};
-ghost use Rattle.vc_node.specs.Machine.{Answers, OrBadFile, machine_head, made_answer, done_answer, up_after};
+ghost use Rattle.vc_node.specs.Machine.{Answers, AnswersShown, OrBadFile, machine_head, made_answer, done_answer, up_after};
 ghost use Rattle.vc_files.specs.Failures.{Wears};
 ghost use Rattle.vc_node.specs.NodeFault.{is_fault, IsOfDevice, TellsDevice};
 ghost use Rattle.vc_node.specs.Shown.{IsLoaded, IsReady, shown};
@@ -50,6 +51,7 @@ impl<F: Files> CloneNode<F> {
         ensures up { IfOk result (λ node. node.is_up ≡ true) }
         ensures refused { F.honest → IfErr result (λ e. BlamesOpen (F.content files) e.1) }
         ensures err { F.honest → IfErr result (λ e. F.content e.0 ≡ F.content files) }
+        ensures clean { F.honest → IfOk result (λ node. KeepsClean (F.content files) (F.content node.files)) }
         ensures wear { IfOk result (λ node. Wears F.failed F.can_fail files node.files ⊥) }
         ensures wear_err { IfErr result (λ e. Wears F.failed F.can_fail files e.0 (IsOfDevice e.1)) }
     {
@@ -89,10 +91,12 @@ impl<F: Files> CloneNode<F> {
 
     /// Stores an object, and answers its name. One that is there stays as it is.
     pub fn write(&mut self, kind: Kind, body: &[u8]) -> Result<ObjectId, NodeFault>
-        ensures answers { F.honest → OrBadFile (F.content self.old.files) result (Answers (Write (machine_object kind body.now)) (made_answer result) self.old.is_up self.new.is_up (shown (F.content self.old.files)) (shown (F.content self.new.files))) }
+        ensures answers { F.honest → Answers (Write (machine_object kind body.now)) (made_answer result) self.old.is_up self.new.is_up (F.content self.old.files) (F.content self.new.files) }
+        ensures bad_file { F.honest → OrBadFile (F.content self.old.files) result (AnswersShown (Write (machine_object kind body.now)) (made_answer result) self.old.is_up self.new.is_up (shown (F.content self.old.files)) (shown (F.content self.new.files))) }
         ensures down { self.old.is_up ≡ false → result ≡ Err NodeFault.Down }
         ensures err { F.honest → OnErr result (F.content self.new.files ≡ F.content self.old.files) }
         ensures up { self.old.is_up ≡ true → self.new.is_up ≡ up_after result }
+        ensures clean { F.honest → KeepsClean (F.content self.old.files) (F.content self.new.files) }
         ensures wear { Wears F.failed F.can_fail self.old.files self.new.files (TellsDevice result) }
     {
         if !self.is_up {
@@ -106,10 +110,12 @@ impl<F: Files> CloneNode<F> {
 
     /// Takes a path away from the index. Where nothing stands, nothing changes.
     pub fn unstage(&mut self, path: &[u8]) -> Result<(), NodeFault>
-        ensures answers { F.honest → OrBadFile (F.content self.old.files) result (Answers (Unstage path.now) (done_answer result) self.old.is_up self.new.is_up (shown (F.content self.old.files)) (shown (F.content self.new.files))) }
+        ensures answers { F.honest → Answers (Unstage path.now) (done_answer result) self.old.is_up self.new.is_up (F.content self.old.files) (F.content self.new.files) }
+        ensures bad_file { F.honest → OrBadFile (F.content self.old.files) result (AnswersShown (Unstage path.now) (done_answer result) self.old.is_up self.new.is_up (shown (F.content self.old.files)) (shown (F.content self.new.files))) }
         ensures down { self.old.is_up ≡ false → result ≡ Err NodeFault.Down }
         ensures err { F.honest → OnErr result (F.content self.new.files ≡ F.content self.old.files) }
         ensures up { self.old.is_up ≡ true → self.new.is_up ≡ up_after result }
+        ensures clean { F.honest → KeepsClean (F.content self.old.files) (F.content self.new.files) }
         ensures wear { Wears F.failed F.can_fail self.old.files self.new.files (TellsDevice result) }
     {
         if !self.is_up {
@@ -125,9 +131,11 @@ impl<F: Files> CloneNode<F> {
     /// refused before one that conflicts with a file of the index (61), and that before a body that is too large (3).
     pub fn add(&mut self, path: &[u8], mode: Mode, bytes: &[u8]) -> Result<(), NodeFault>
         requires { mode ≢ Mode.Tree }
-        ensures answers { F.honest → OrBadFile (F.content self.old.files) result (Answers (Stage path.now (mode_number mode) bytes.now) (done_answer result) self.old.is_up self.new.is_up (shown (F.content self.old.files)) (shown (F.content self.new.files))) }
+        ensures answers { F.honest → Answers (Stage path.now (mode_number mode) bytes.now) (done_answer result) self.old.is_up self.new.is_up (F.content self.old.files) (F.content self.new.files) }
+        ensures bad_file { F.honest → OrBadFile (F.content self.old.files) result (AnswersShown (Stage path.now (mode_number mode) bytes.now) (done_answer result) self.old.is_up self.new.is_up (shown (F.content self.old.files)) (shown (F.content self.new.files))) }
         ensures down { self.old.is_up ≡ false → result ≡ Err NodeFault.Down }
         ensures up { self.old.is_up ≡ true → self.new.is_up ≡ up_after result }
+        ensures clean { F.honest → KeepsClean (F.content self.old.files) (F.content self.new.files) }
         ensures wear { Wears F.failed F.can_fail self.old.files self.new.files (TellsDevice result) }
     {
         if !self.is_up {
@@ -142,10 +150,12 @@ impl<F: Files> CloneNode<F> {
     /// Removes a branch. Where there is none, nothing changes.
     pub fn delete_branch(&mut self, branch: &RefName) -> Result<(), NodeFault>
         requires { starts_with nat_eq branch.now (codes "refs/heads/") ≡ true }
-        ensures answers { F.honest → OrBadFile (F.content self.old.files) result (Answers (DeleteBranch branch.now) (done_answer result) self.old.is_up self.new.is_up (shown (F.content self.old.files)) (shown (F.content self.new.files))) }
+        ensures answers { F.honest → Answers (DeleteBranch branch.now) (done_answer result) self.old.is_up self.new.is_up (F.content self.old.files) (F.content self.new.files) }
+        ensures bad_file { F.honest → OrBadFile (F.content self.old.files) result (AnswersShown (DeleteBranch branch.now) (done_answer result) self.old.is_up self.new.is_up (shown (F.content self.old.files)) (shown (F.content self.new.files))) }
         ensures down { self.old.is_up ≡ false → result ≡ Err NodeFault.Down }
         ensures err { F.honest → OnErr result (F.content self.new.files ≡ F.content self.old.files) }
         ensures up { self.old.is_up ≡ true → self.new.is_up ≡ up_after result }
+        ensures clean { F.honest → KeepsClean (F.content self.old.files) (F.content self.new.files) }
         ensures wear { Wears F.failed F.can_fail self.old.files self.new.files (TellsDevice result) }
     {
         if !self.is_up {
@@ -161,10 +171,12 @@ impl<F: Files> CloneNode<F> {
     /// there that the commit reaches, and 41 where it is no commit, or one along its parent links isn't.
     pub fn set_branch(&mut self, branch: &RefName, id: &ObjectId) -> Result<(), NodeFault>
         requires { starts_with nat_eq branch.now (codes "refs/heads/") ≡ true }
-        ensures answers { F.honest → OrBadFile (F.content self.old.files) result (Answers (SetBranch branch.now id.now.0) (done_answer result) self.old.is_up self.new.is_up (shown (F.content self.old.files)) (shown (F.content self.new.files))) }
+        ensures answers { F.honest → Answers (SetBranch branch.now id.now.0) (done_answer result) self.old.is_up self.new.is_up (F.content self.old.files) (F.content self.new.files) }
+        ensures bad_file { F.honest → OrBadFile (F.content self.old.files) result (AnswersShown (SetBranch branch.now id.now.0) (done_answer result) self.old.is_up self.new.is_up (shown (F.content self.old.files)) (shown (F.content self.new.files))) }
         ensures down { self.old.is_up ≡ false → result ≡ Err NodeFault.Down }
         ensures err { F.honest → OnErr result (F.content self.new.files ≡ F.content self.old.files) }
         ensures up { self.old.is_up ≡ true → self.new.is_up ≡ up_after result }
+        ensures clean { F.honest → KeepsClean (F.content self.old.files) (F.content self.new.files) }
         ensures wear { Wears F.failed F.can_fail self.old.files self.new.files (TellsDevice result) }
     {
         if !self.is_up {
@@ -180,10 +192,12 @@ impl<F: Files> CloneNode<F> {
     /// [`set_branch`](CloneNode::set_branch).
     pub fn set_head(&mut self, head: &Head) -> Result<(), NodeFault>
         requires { IsLocalHead head.now }
-        ensures answers { F.honest → OrBadFile (F.content self.old.files) result (Answers (MoveHead (machine_head head.now)) (done_answer result) self.old.is_up self.new.is_up (shown (F.content self.old.files)) (shown (F.content self.new.files))) }
+        ensures answers { F.honest → Answers (MoveHead (machine_head head.now)) (done_answer result) self.old.is_up self.new.is_up (F.content self.old.files) (F.content self.new.files) }
+        ensures bad_file { F.honest → OrBadFile (F.content self.old.files) result (AnswersShown (MoveHead (machine_head head.now)) (done_answer result) self.old.is_up self.new.is_up (shown (F.content self.old.files)) (shown (F.content self.new.files))) }
         ensures down { self.old.is_up ≡ false → result ≡ Err NodeFault.Down }
         ensures err { F.honest → OnErr result (F.content self.new.files ≡ F.content self.old.files) }
         ensures up { self.old.is_up ≡ true → self.new.is_up ≡ up_after result }
+        ensures clean { F.honest → KeepsClean (F.content self.old.files) (F.content self.new.files) }
         ensures wear { Wears F.failed F.can_fail self.old.files self.new.files (TellsDevice result) }
     {
         if !self.is_up {
@@ -199,11 +213,13 @@ impl<F: Files> CloneNode<F> {
     /// another kind than its mode says, and 40 where it leads to none, as the tree is read in the order of its paths.
     pub fn load_tree(&mut self, id: &ObjectId) -> Result<(), NodeFault>
         ensures loaded { F.honest → OnOk result (IsLoaded (F.content self.old.files) id.now (F.content self.new.files)) }
-        ensures answers { F.honest → OrBadFile (F.content self.old.files) result (Answers (LoadTree id.now.0) (done_answer result) self.old.is_up self.new.is_up (shown (F.content self.old.files)) (shown (F.content self.new.files))) }
+        ensures answers { F.honest → Answers (LoadTree id.now.0) (done_answer result) self.old.is_up self.new.is_up (F.content self.old.files) (F.content self.new.files) }
+        ensures bad_file { F.honest → OrBadFile (F.content self.old.files) result (AnswersShown (LoadTree id.now.0) (done_answer result) self.old.is_up self.new.is_up (shown (F.content self.old.files)) (shown (F.content self.new.files))) }
         ensures refused { F.honest → IfErr result (λ e. (e ≡ NodeFault.Down) ⊎ BlamesLoad (F.content self.old.files) id.now e) }
         ensures down { self.old.is_up ≡ false → result ≡ Err NodeFault.Down }
         ensures err { F.honest → OnErr result (F.content self.new.files ≡ F.content self.old.files) }
         ensures up { self.old.is_up ≡ true → self.new.is_up ≡ up_after result }
+        ensures clean { F.honest → KeepsClean (F.content self.old.files) (F.content self.new.files) }
         ensures wear { Wears F.failed F.can_fail self.old.files self.new.files (TellsDevice result) }
     {
         if !self.is_up {
@@ -227,11 +243,13 @@ impl<F: Files> CloneNode<F> {
         committer: &[u8],
         message: &[u8],
     ) -> Result<ObjectId, NodeFault>
-        ensures answers { F.honest → OrBadFile (F.content self.old.files) result (Answers (MakeCommit (map bytes_of_id extra_parents.now) author.now committer.now message.now) (made_answer result) self.old.is_up self.new.is_up (shown (F.content self.old.files)) (shown (F.content self.new.files))) }
+        ensures answers { F.honest → Answers (MakeCommit (map bytes_of_id extra_parents.now) author.now committer.now message.now) (made_answer result) self.old.is_up self.new.is_up (F.content self.old.files) (F.content self.new.files) }
+        ensures bad_file { F.honest → OrBadFile (F.content self.old.files) result (AnswersShown (MakeCommit (map bytes_of_id extra_parents.now) author.now committer.now message.now) (made_answer result) self.old.is_up self.new.is_up (shown (F.content self.old.files)) (shown (F.content self.new.files))) }
         ensures committed { F.honest → IfOk result (λ id. IsCommitted (F.content self.old.files) extra_parents.now author.now committer.now message.now id (F.content self.new.files)) }
         ensures down { self.old.is_up ≡ false → result ≡ Err NodeFault.Down }
         ensures err { F.honest → OnErr result (SameOutside (codes "objects/") (F.content self.old.files) (F.content self.new.files)) }
         ensures up { self.old.is_up ≡ true → self.new.is_up ≡ up_after result }
+        ensures clean { F.honest → KeepsClean (F.content self.old.files) (F.content self.new.files) }
         ensures wear { Wears F.failed F.can_fail self.old.files self.new.files (TellsDevice result) }
     {
         if !self.is_up {
@@ -254,6 +272,7 @@ fn make_ready<F: Files>(alloc: Global, files: &mut F) -> Result<(), NodeFault>
     ensures ready { F.honest → OnOk result (IsReady (F.content files.old) (F.content files.new)) }
     ensures refused { F.honest → IfErr result (BlamesOpen (F.content files.old)) }
     ensures err { F.honest → OnErr result (F.content files.new ≡ F.content files.old) }
+    ensures clean { F.honest → OnOk result (KeepsClean (F.content files.old) (F.content files.new)) }
     ensures wear { Wears F.failed F.can_fail files.old files.new (TellsDevice result) }
 {
     read_index(alloc, files)?;

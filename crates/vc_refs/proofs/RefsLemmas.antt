@@ -90,6 +90,9 @@ refs-absent content name none = elim (is_ref name) as (λ b. cond b (option_and_
   | false ↦ refl
 ]
 
+pub get-unput_here : (content : FileMap) (name : List ℕ) → files.get (files.remove content name) name ≡ None
+get-unput_here content name = get-unput content name name ∙ ap (λ b. cond b None (files.get content name)) ((bytes_eq-Decides name name).1 refl)
+
 pub good_absent : (content : FileMap) (name : List ℕ) → files.get content name ≡ None → IsBadRef content name → ⊥
 good_absent content name none bad =
     let there : is_some (files.get content name) ≡ true = (and_parts (starts_with nat_eq name (codes "refs/")) (is_some (files.get content name)) bad.taken).1 in

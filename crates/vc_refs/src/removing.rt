@@ -2,7 +2,7 @@
 ghost use Rattle.std.specs.Prelude.{◌≡◌, IfErr, OnOk, OnErr, IsErrOf};
 ghost use Rattle.vc_files.specs.Failures.{Wears};
 ghost use Rattle.vc_refs.specs.RefMap.{IsInRefs, IsRefMap, without_ref};
-ghost use Rattle.vc_refs.specs.Refs.{refs};
+ghost use Rattle.vc_refs.specs.Refs.{refs, IsBadRef};
 ghost use Rattle.vc_refs.specs.Head.{KeepsTheRest};
 ghost use Rattle.vc_refs.specs.RefFault.{BlamesRemove, HasExpected};
 
@@ -22,6 +22,7 @@ pub fn remove<F: Files>(
 ) -> Result<(), RefFault>
     requires { IsInRefs name.now }
     ensures removed { F.honest → OnOk result (refs (F.content files.new) ≡ without_ref (refs (F.content files.old)) name.now) }
+    ensures gone { F.honest → OnOk result (IsBadRef (F.content files.new) name.now → ⊥) }
     ensures allowed { F.honest → OnOk result (HasExpected (F.content files.old) name.now expected) }
     ensures refused { F.honest → IfErr result (BlamesRemove (F.content files.old) name.now expected) }
     ensures kept { F.honest → IsRefMap (refs (F.content files.old)) → IsRefMap (refs (F.content files.new)) }
@@ -41,6 +42,7 @@ pub fn remove<F: Files>(
 fn take_away<F: Files>(files: &mut F, alloc: Global, name: &RefName) -> Result<(), Fault>
     requires { IsInRefs name.now }
     ensures removed { F.honest → OnOk result (refs (F.content files.new) ≡ without_ref (refs (F.content files.old)) name.now) }
+    ensures gone { F.honest → OnOk result (IsBadRef (F.content files.new) name.now → ⊥) }
     ensures rest { F.honest → KeepsTheRest name.now (F.content files.old) (F.content files.new) }
     ensures err { F.honest → OnErr result (F.content files.new ≡ F.content files.old) }
     ensures wear { Wears F.failed F.can_fail files.old files.new (IsErrOf result Fault.Device) }

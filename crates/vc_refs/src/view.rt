@@ -80,6 +80,7 @@ impl<'a, F: Files> Refs<'a, F> {
         requires { IsInRefs name.now }
         ensures same_files { self.new.files.ghost_name ≡ self.old.files.ghost_name }
         ensures removed { F.honest → OnOk result (refs (F.content self.new.files.now) ≡ without_ref (refs (F.content self.old.files.now)) name.now) }
+        ensures gone { F.honest → OnOk result (IsBadRef (F.content self.new.files.now) name.now → ⊥) }
         ensures allowed { F.honest → OnOk result (HasExpected (F.content self.old.files.now) name.now expected) }
         ensures refused { F.honest → IfErr result (BlamesRemove (F.content self.old.files.now) name.now expected) }
         ensures kept { F.honest → IsRefMap (refs (F.content self.old.files.now)) → IsRefMap (refs (F.content self.new.files.now)) }

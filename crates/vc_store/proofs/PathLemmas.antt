@@ -11,6 +11,7 @@ use Rattle.std.specs.Cmp.Lexicographic.{slice_cmp}
 use Rattle.std.specs.declared.cmp.Ordering.{Ordering}
 use Rattle.std.specs.declared.cmp.Ordering.TheVariants.{Less, Equal, Greater}
 use Rattle.std.proofs.lemmas.Slice.Eq.{bytes_eq-Decides}
+use Rattle.std.proofs.lemmas.List.{get_or_past}
 use Rattle.std.proofs.lemmas.Bool.{and_parts, and_from, cases_lt, cases_order, eqb-true, eq-eqb}
 use Rattle.std.proofs.lemmas.Bool.Decides.{nat_tests}
 use Rattle.hex.specs.declared.error.FromHexError.{FromHexError}
@@ -114,6 +115,50 @@ digit-at d lt = eqb-true (digit d) (cond (nat_lt d 10) (48 + d) (87 + d)) (all_b
 
 digit-hex : (d : ℕ) → d < 16 → is_ascii_hexdigit (digit d) ≡ true
 digit-hex d lt = all_below-at (λ d. is_ascii_hexdigit (digit d)) 16 d refl lt
+
+-- what is no digit's value has no digit
+digit-below : (d e : ℕ) → digit d ≡ digit e → e < 16 → d < 16
+digit-below d e same lt =
+    elim (cases_lt d 16) [
+      | inl below ↦ below
+      | inr top ↦
+          absurd (let none : digit d ≡ 0 = get_or_past lower_digits d 0 top in
+          let hex : is_ascii_hexdigit (digit e) ≡ true = digit-hex e lt in
+          let no : is_ascii_hexdigit 0 ≡ true = subst (λ c. is_ascii_hexdigit c ≡ true) (sym same ∙ none) hex in cc no)
+    ]
+
+byte-below : (x y : ℕ) → digit (x / 16) ≡ digit (y / 16) → y < 256 → x < 256
+byte-below x y same lt = let high : x / 16 < 16 = digit-below (x / 16) (y / 16) same (omega (arith, lt)) in omega (arith, high)
+
+-- what has the digits of bytes is bytes
+bytes_by_digits : (xs ys : List ℕ) → encode_lower xs ≡ encode_lower ys → IsBytes ys → IsBytes xs
+unfolding encode_with
+bytes_by_digits [] ys same h i = lit< tt
+bytes_by_digits (x ∷ xs) [] same h i = absurd (cc same)
+bytes_by_digits (x ∷ xs) (y ∷ ys) same h zero = let high : digit (x / 16) ≡ digit (y / 16) = cc in byte-below x y high (h 0)
+bytes_by_digits (x ∷ xs) (y ∷ ys) same h (suc i) = let rest : encode_lower xs ≡ encode_lower ys = cc in bytes_by_digits xs ys rest (λ k. h (suc k)) i
+
+-- what has the place of a name is that name
+pub named_by_path : (q name : List ℕ) → is_name name ≡ true → object_path q ≡ object_path name → is_name q ≡ true
+unfolding encode_with
+named_by_path q [] valid same = absurd (let size = is_name-length [] valid in omega (arith, size))
+named_by_path [] (y ∷ ys) valid same = absurd (let size = is_name-length (y ∷ ys) valid in
+    let digits = length-encode_with lower_digits ys in
+    let long : length (object_path []) ≡ length (object_path (y ∷ ys)) = ap length same in
+    omega (arith, size, digits, long))
+named_by_path (x ∷ xs) (y ∷ ys) valid same =
+    let size = is_name-length (y ∷ ys) valid in
+    let high : digit (x / 16) ≡ digit (y / 16) = cc in
+    let rest : encode_lower xs ≡ encode_lower ys = cc in
+    let bytes = is_name-bytes (y ∷ ys) valid in
+    let long : length (encode_lower xs) ≡ length (encode_lower ys) = ap length rest in
+    let mine = length-encode_with lower_digits xs in
+    let theirs = length-encode_with lower_digits ys in
+    is_name-from (x ∷ xs) (omega (arith, size, long, mine, theirs)) (at x xs (byte-below x y high (bytes 0)) (bytes_by_digits xs ys rest (λ k. bytes (suc k))))
+  where
+    at : (x : ℕ) (xs : List ℕ) → x < 256 → IsBytes xs → IsBytes (x ∷ xs)
+    at x xs here rest zero = here
+    at x xs here rest (suc i) = rest i
 
 digits_rise : (i j : ℕ) → i < j → cond (nat_lt i 10) (48 + i) (87 + i) < cond (nat_lt j 10) (48 + j) (87 + j)
 digits_rise i j lt = grind (arith, nat_tests)

@@ -4,6 +4,8 @@ use Rattle.vc_node.specs.Making.{BlamesObjects, StoresTrees}
 use Rattle.vc_node.specs.NodeFault.{of_index}
 use Rattle.vc_node.specs.declared.fault.NodeFault.TheVariants.{Store}
 use Rattle.vc_node.proofs.StoringLemmas.{root_of, written_still, tree_blamed, body_blamed}
+use Rattle.vc_object.specs.declared.kind.Kind.TheVariants as kinds
+use Rattle.vc_node.proofs.CleanLemmas.{clean_objects, clean_on, clean_then, clean_put}
 use Rattle.vc_node.proofs.commit.write_objects.Goals as goal
 
 pub returns-in_err-tree-clause-refused : goal.returns-in_err-tree-clause-refused
@@ -31,3 +33,19 @@ returns-in_err-id-clause-left g c =
     let left : StoresTrees g.F.Files.honest c.args.index.now (objects (content c.args.files.now)) (objects (content c.put.new.files)) =
     inr (c.in_ok-tree.tree, written_still g.F.Files.honest c.args.index.now (objects (content c.args.files.now)) (objects (content c.write_tree.new.files)) (objects (content c.put.new.files)) c.in_ok-tree.tree c.in_ok-tree.ensures.written (λ h. ap objects (c.in_err-id.ensures.err h))) in
     search (rules, left)
+
+-- ---- no file becomes bad
+
+pub returns-in_err-tree-clause-clean : goal.returns-in_err-tree-clause-clean
+returns-in_err-tree-clause-clean g c = λ honest. clean_objects _ _ (c.in_err-tree.ensures.undamaged honest) (c.in_err-tree.ensures.outside honest)
+
+pub returns-in_err-body-clause-clean : goal.returns-in_err-body-clause-clean
+returns-in_err-body-clause-clean g c = λ honest. clean_objects _ _ (c.in_ok-tree.ensures.undamaged honest) (c.in_ok-tree.ensures.outside honest)
+
+pub returns-in_err-id-clause-clean : goal.returns-in_err-id-clause-clean
+returns-in_err-id-clause-clean g c = λ honest. clean_on _ _ _ (clean_objects _ _ (c.in_ok-tree.ensures.undamaged honest) (c.in_ok-tree.ensures.outside honest)) (c.in_err-id.ensures.err honest)
+
+pub returns-clause-clean : goal.returns-clause-clean
+returns-clause-clean g c = λ honest.
+    clean_then _ _ _ (clean_objects _ _ (c.in_ok-tree.ensures.undamaged honest) (c.in_ok-tree.ensures.outside honest))
+    (clean_put _ _ kinds.Commit c.deref.result.now c.in_ok-id.id c.in_ok-id.ensures.name (c.in_ok-id.ensures.files honest) (c.in_ok-id.ensures.objects honest) (c.in_ok-id.ensures.outside honest))

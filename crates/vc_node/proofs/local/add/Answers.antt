@@ -11,6 +11,7 @@ use Rattle.vc_store.specs.Store.{objects, with_object}
 use Rattle.vc_node.specs.Shown.{Shown, shown, with_objects_shown, with_index_shown}
 use Rattle.vc_node.specs.Blames.{MayStage}
 use Rattle.vc_node.proofs.ShownLemmas.{shown_index, shown_objects_from}
+use Rattle.vc_node.proofs.CleanLemmas.{clean_from, clean_on, clean_then, clean_put, clean_index}
 use Rattle.vc_node.proofs.local.add.Goals as goal
 
 pub returns-clause-added : goal.returns-clause-added
@@ -41,3 +42,13 @@ returns-in_err-write_index-clause-left g c = λ honest m spells.
       id = subst (λ (n : ObjectId). is_id n ≡ true) c.name_of-name.ensures.name c.name_of-name.ensures.valid;
     } in
     search (rules, all, may)
+
+pub returns-in_err-write_index-clause-clean : goal.returns-in_err-write_index-clause-clean
+returns-in_err-write_index-clause-clean g c = λ honest.
+    let stored = clean_put _ _ Blob c.args.bytes.now c.in_ok-put.field-0 c.in_ok-put.ensures.name (c.in_ok-put.ensures.files honest) (c.in_ok-put.ensures.objects honest) (c.in_ok-put.ensures.outside honest) in
+    clean_on _ _ _ (clean_from _ _ _ c.in_ok-index.ensures.same stored) (c.in_err-write_index.ensures.err honest)
+
+pub returns-clause-clean : goal.returns-clause-clean
+returns-clause-clean g c = λ honest.
+    let stored = clean_put _ _ Blob c.args.bytes.now c.in_ok-put.field-0 c.in_ok-put.ensures.name (c.in_ok-put.ensures.files honest) (c.in_ok-put.ensures.objects honest) (c.in_ok-put.ensures.outside honest) in
+    clean_then _ _ _ (clean_from _ _ _ c.in_ok-index.ensures.same stored) (clean_index _ _ _ (c.in_ok-write_index.ensures.written honest))

@@ -1,5 +1,6 @@
 use Rattle.std.proofs.Common.{refl}
 use Rattle.vc_node.proofs.ShownLemmas.{shown_index_from}
+use Rattle.vc_node.proofs.CleanLemmas.{clean_from, clean_index}
 use Rattle.vc_node.proofs.local.load_tree.Goals as goal
 
 pub returns-clause-loaded : goal.returns-clause-loaded
@@ -11,3 +12,6 @@ returns-clause-loaded g c = λ honest. record {
   sound = c.in_ok-write_index.ensures.index;
   is = shown_index_from _ _ _ _ _ c.in_ok-index.ensures.same (c.in_ok-write_index.ensures.written honest) refl;
 }
+
+pub returns-clause-clean : goal.returns-clause-clean
+returns-clause-clean g c = λ honest. clean_from _ _ _ c.in_ok-index.ensures.same (clean_index _ _ _ (c.in_ok-write_index.ensures.written honest))

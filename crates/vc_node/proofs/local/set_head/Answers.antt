@@ -1,6 +1,7 @@
 use Rattle.std.proofs.Common.{◌≡◌, ap, ◌∙◌}
 use Rattle.vc_node.proofs.ShownLemmas.{shown_head_from}
 use Rattle.vc_node.proofs.local.set_head.Goals.{in-Id+in_ok-refuse_bad_commit, in_default}
+use Rattle.vc_node.proofs.CleanLemmas.{clean_from, clean_head}
 use Rattle.vc_node.proofs.local.set_head.Goals as goal
 
 pub returns-clause-set : goal.returns-clause-set
@@ -9,3 +10,10 @@ returns-clause-set g c = λ honest.
     let same : content c.match-head.files ≡ content c.args.files.now =
     elim c.match-head.branch [ in-Id+in_ok-refuse_bad_commit w ↦ ap content w.files-is ∙ w.in_ok-refuse_bad_commit.ensures.same | in_default w ↦ ap content w.files-is ] in
     shown_head_from _ _ _ c.args.head.now same (c.in_ok-set_head.ensures.only honest) (c.in_ok-set_head.ensures.refs honest) (c.in_ok-set_head.ensures.set honest)
+
+pub returns-clause-clean : goal.returns-clause-clean
+returns-clause-clean g c = λ honest.
+    let content = g.F.Files.content in
+    let same : content c.match-head.files ≡ content c.args.files.now =
+    elim c.match-head.branch [ in-Id+in_ok-refuse_bad_commit w ↦ ap content w.files-is ∙ w.in_ok-refuse_bad_commit.ensures.same | in_default w ↦ ap content w.files-is ] in
+    clean_from _ _ _ same (clean_head _ _ (c.in_ok-set_head.ensures.only honest))

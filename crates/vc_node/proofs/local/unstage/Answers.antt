@@ -3,6 +3,7 @@ use Rattle.std.specs.FinMap as paths
 use Rattle.vc_index.specs.IndexMap.{IndexMap}
 use Rattle.vc_index.specs.IndexText.{index_text}
 use Rattle.vc_node.proofs.ShownLemmas.{shown_index_from}
+use Rattle.vc_node.proofs.CleanLemmas.{clean_from, clean_index}
 use Rattle.vc_node.proofs.local.unstage.Goals as goal
 
 pub returns-clause-removed : goal.returns-clause-removed
@@ -10,3 +11,6 @@ returns-clause-removed g c = λ honest m spells.
     let path = c.args.path.now in
     shown_index_from _ _ _ _ _ c.in_ok-index.ensures.same (c.in_ok-write_index.ensures.written honest)
     (ap index_text (c.remove.ensures ∙ ap (λ (i : IndexMap). paths.remove i path) (c.in_ok-index.ensures.again honest m spells)))
+
+pub returns-clause-clean : goal.returns-clause-clean
+returns-clause-clean g c = λ honest. clean_from _ _ _ c.in_ok-index.ensures.same (clean_index _ _ _ (c.in_ok-write_index.ensures.written honest))

@@ -1,5 +1,9 @@
 use Rattle.vc_node.proofs.ShownLemmas.{shown_objects}
+use Rattle.vc_node.proofs.CleanLemmas.{clean_put}
 use Rattle.vc_node.proofs.local.write.Goals as goal
 
 pub returns-clause-stored : goal.returns-clause-stored
 returns-clause-stored g c = λ honest. shown_objects _ _ _ (c.in_ok-id.ensures.outside honest) (c.in_ok-id.ensures.objects honest)
+
+pub returns-clause-clean : goal.returns-clause-clean
+returns-clause-clean g c = λ honest. clean_put _ _ c.args.kind c.args.body.now c.in_ok-id.id c.in_ok-id.ensures.name (c.in_ok-id.ensures.files honest) (c.in_ok-id.ensures.objects honest) (c.in_ok-id.ensures.outside honest)

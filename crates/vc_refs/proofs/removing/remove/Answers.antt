@@ -13,3 +13,6 @@ returns-then-is_none-clause-removed g c = λ honest.
     let allowed = c.in_ok-expect_value.ensures.allowed honest in
     let none : is_none c.args.expected ≡ true = search rules in
     rw c.in_ok-expect_value.ensures.same (refs-without_absent map c.args.name.now (absent_from_expected map c.args.name.now c.args.expected allowed.current none))
+
+pub returns-then-is_none-clause-gone : goal.returns-then-is_none-clause-gone
+returns-then-is_none-clause-gone g c = λ honest. rw c.in_ok-expect_value.ensures.same (c.in_ok-expect_value.ensures.allowed honest).good

@@ -1,20 +1,21 @@
-use Rattle.std.proofs.Common.{rules, ap, inr, sym, subst}
+use Rattle.std.proofs.Common.{refl, rules, ap, inr, sym, subst}
 use Rattle.vc_files.specs.FileMap.{FileMap}
 use Rattle.vc_index.specs.IndexMap.{IndexMap}
 use Rattle.vc_node.specs.IndexFile.{SpellsIndex}
-use Rattle.vc_node.proofs.AnswerLemmas.{answers_down, answers_from, failed}
+use Rattle.vc_node.proofs.AnswerLemmas.{answers_down, answers_from, failed, held, held_failed}
 use Rattle.vc_node.proofs.IndexLemmas.{LeftByAdd, add_done, add_failed}
+use Rattle.vc_node.proofs.CleanLemmas.{clean_same}
 use Rattle.vc_node.proofs.node.CloneNode.add.Goals as goal
 
-pub returns-then-not-self-clause-answers : goal.returns-then-not-self-clause-answers
-returns-then-not-self-clause-answers g c = λ honest. inr (answers_down _ _ _ (search rules))
+pub returns-then-not-self-clause-bad_file : goal.returns-then-not-self-clause-bad_file
+returns-then-not-self-clause-bad_file g c = λ honest. inr (answers_down _ _ _ (search rules))
 
-pub returns-in-Ok-clause-answers : goal.returns-in-Ok-clause-answers
-returns-in-Ok-clause-answers g c = λ honest. rw (← c.self.view_is)
+pub returns-in-Ok-clause-bad_file : goal.returns-in-Ok-clause-bad_file
+returns-in-Ok-clause-bad_file g c = λ honest. rw (← c.self.view_is)
     (inr (answers_from _ _ _ _ _ _ (add_done _ c.args.path.now c.args.bytes.now c.args.mode _ c.requires (c.in-Ok.ensures.added honest) (c.in-Ok.ensures.may honest)) (search rules) (search rules)))
 
-pub returns-in-Err-clause-answers : goal.returns-in-Err-clause-answers
-returns-in-Err-clause-answers g c = λ honest.
+pub returns-in-Err-clause-bad_file : goal.returns-in-Err-clause-bad_file
+returns-in-Err-clause-bad_file g c = λ honest.
     let content = g.F.Files.content in
     let old = content c.self.inside.files in
     let left : (m : IndexMap) → SpellsIndex old m → LeftByAdd old m c.args.path.now c.args.bytes.now c.in-Err.fault (content c.fail.new.self.files) =
@@ -22,3 +23,12 @@ returns-in-Err-clause-answers g c = λ honest.
     rw (← c.self.view_is) (failed _ _ _ _ _ _ _ _
     (add_failed old c.args.path.now c.args.bytes.now c.args.mode c.in-Err.fault (content c.fail.new.self.files) (c.in-Err.ensures.refused honest) (c.in-Err.ensures.damaged honest) left)
     c.fail.ensures.fault (search rules) (c.fail.ensures.up (search rules)))
+
+pub returns-then-not-self-clause-answers : goal.returns-then-not-self-clause-answers
+returns-then-not-self-clause-answers g c = λ honest. held _ _ _ _ _ _ (returns-then-not-self-clause-bad_file g c honest) (clean_same _ _ refl)
+
+pub returns-in-Ok-clause-answers : goal.returns-in-Ok-clause-answers
+returns-in-Ok-clause-answers g c = λ honest. held _ _ _ _ _ _ (returns-in-Ok-clause-bad_file g c honest) (search rules)
+
+pub returns-in-Err-clause-answers : goal.returns-in-Err-clause-answers
+returns-in-Err-clause-answers g c = λ honest. held_failed _ _ _ _ _ _ _ c.fail.ensures.fault (returns-in-Err-clause-bad_file g c honest) (search rules)

@@ -1,22 +1,23 @@
-use Rattle.std.proofs.Common.{rules, ap, inr, sym, subst}
+use Rattle.std.proofs.Common.{refl, rules, ap, inr, sym, subst}
 use Rattle.vc_files.specs.FileMap.{FileMap}
 use Rattle.vc_node.specs.Making.{LeftByCommit}
-use Rattle.vc_node.proofs.AnswerLemmas.{answers_down, answers_from, failed}
+use Rattle.vc_node.proofs.AnswerLemmas.{answers_down, answers_from, failed, held, held_failed}
 use Rattle.vc_node.proofs.CommitAnswers.{commit_done}
 use Rattle.vc_node.proofs.CommitFailures.{commit_failed}
+use Rattle.vc_node.proofs.CleanLemmas.{clean_same}
 use Rattle.vc_node.proofs.node.CloneNode.commit.Goals as goal
 
-pub returns-then-not-self-clause-answers : goal.returns-then-not-self-clause-answers
-returns-then-not-self-clause-answers g c = λ honest. inr (answers_down _ _ _ (search rules))
+pub returns-then-not-self-clause-bad_file : goal.returns-then-not-self-clause-bad_file
+returns-then-not-self-clause-bad_file g c = λ honest. inr (answers_down _ _ _ (search rules))
 
-pub returns-in-Ok-clause-answers : goal.returns-in-Ok-clause-answers
-returns-in-Ok-clause-answers g c = λ honest.
+pub returns-in-Ok-clause-bad_file : goal.returns-in-Ok-clause-bad_file
+returns-in-Ok-clause-bad_file g c = λ honest.
     let old = g.F.Files.content c.self.inside.files in
     rw (← c.self.view_is) (inr (answers_from _ _ _ _ _ _
     (commit_done old c.args.extra_parents.now c.args.author.now c.args.committer.now c.args.message.now c.in-Ok.id _ c.in-Ok.ensures.lines (c.in-Ok.ensures.committed honest)) (search rules) (search rules)))
 
-pub returns-in-Err-clause-answers : goal.returns-in-Err-clause-answers
-returns-in-Err-clause-answers g c = λ honest.
+pub returns-in-Err-clause-bad_file : goal.returns-in-Err-clause-bad_file
+returns-in-Err-clause-bad_file g c = λ honest.
     let content = g.F.Files.content in
     let old = content c.self.inside.files in
     let left : LeftByCommit old c.args.extra_parents.now c.args.author.now c.args.committer.now c.args.message.now (content c.fail.new.self.files) =
@@ -24,3 +25,12 @@ returns-in-Err-clause-answers g c = λ honest.
     rw (← c.self.view_is) (failed _ _ _ _ _ _ _ _
     (commit_failed old c.args.extra_parents.now c.args.author.now c.args.committer.now c.args.message.now c.in-Err.fault (content c.fail.new.self.files) (c.in-Err.ensures.refused honest) left)
     c.fail.ensures.fault (search rules) (c.fail.ensures.up (search rules)))
+
+pub returns-then-not-self-clause-answers : goal.returns-then-not-self-clause-answers
+returns-then-not-self-clause-answers g c = λ honest. held _ _ _ _ _ _ (returns-then-not-self-clause-bad_file g c honest) (clean_same _ _ refl)
+
+pub returns-in-Ok-clause-answers : goal.returns-in-Ok-clause-answers
+returns-in-Ok-clause-answers g c = λ honest. held _ _ _ _ _ _ (returns-in-Ok-clause-bad_file g c honest) (search rules)
+
+pub returns-in-Err-clause-answers : goal.returns-in-Err-clause-answers
+returns-in-Err-clause-answers g c = λ honest. held_failed _ _ _ _ _ _ _ c.fail.ensures.fault (returns-in-Err-clause-bad_file g c honest) (search rules)

@@ -1,0 +1,17 @@
+-- Files of which none is bad, and that a call makes none bad.
+use Rattle.std.specs.Prelude.{ℕ, List}
+use Rattle.vc_files.specs.FileMap.{FileMap}
+use Rattle.vc_index.specs.Damage.{KeepsDamage}
+use Rattle.vc_object.specs.declared.id.ObjectId.{ObjectId}
+use Rattle.vc_refs.specs.Refs.{IsBadRef, SpellsRefs}
+use Rattle.vc_store.specs.Store.{IsDamaged}
+
+-- Each file in an object's place is that object, and each file in refs/ stands for a ref.
+pub record IsClean (content : FileMap) : Type 0 where
+  pub objects : (id : ObjectId) → ¬ IsDamaged content id
+  pub refs : SpellsRefs content
+
+-- What is bad now was so before.
+pub record KeepsClean (old new : FileMap) : Type 0 where
+  pub damage : KeepsDamage old new
+  pub refs : (path : List ℕ) → IsBadRef new path → IsBadRef old path
