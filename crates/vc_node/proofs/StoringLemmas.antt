@@ -6,7 +6,7 @@ use Rattle.std.specs.Ordering.{nat_cmp}
 use Rattle.std.specs.Cmp.Lexicographic.{slice_cmp}
 use Rattle.vc_files.specs.FileMap.{FileMap}
 use Rattle.vc_format.proofs.Names.{byte_of, name_bytes, name_length}
-use Rattle.vc_index.specs.Damage.{KeepsDamage, TellsTreesPlace}
+use Rattle.vc_index.specs.Damage.{KeepsDamage}
 use Rattle.vc_index.specs.IndexMap.{IndexMap}
 use Rattle.vc_index.specs.WrittenTrees.{IsWritten, IsOfWrite}
 use Rattle.vc_index.specs.declared.faults.IndexFault.{IndexFault}
@@ -49,19 +49,19 @@ written_still honest m old mid new tree w same = record {
 
 module _ (honest : Type 0) (old mid : FileMap) (m : IndexMap) (parents : List ObjectId) (author committer message : List ℕ) (keeps : honest → KeepsDamage old mid) where
   -- why the trees were not
-  trees_blamed : (f : StoreFault) → IsOfWrite m (λ id. honest → IsDamaged mid id) (index.Store f) → TellsTreesPlace (index.Store f) → BlamesStored honest old m parents author committer message f
-  trees_blamed (store.BadObject g) of place = inl of
-  trees_blamed (store.Absent id) of place = absurd of
-  trees_blamed (store.Damaged id) of place = λ h. (keeps h).before id (of h)
-  trees_blamed (store.Fault g) of place = tt
+  trees_blamed : (f : StoreFault) → IsOfWrite m (λ id. honest → IsDamaged mid id) (index.Store f) → BlamesStored honest old m parents author committer message f
+  trees_blamed (store.BadObject g) of = inl of
+  trees_blamed (store.Absent id) of = absurd of
+  trees_blamed (store.Damaged id) of = λ h. (keeps h).before id (of h)
+  trees_blamed (store.Fault g) of = tt
 
-  pub tree_blamed : (f : IndexFault) → IsOfWrite m (λ id. honest → IsDamaged mid id) f → TellsTreesPlace f → BlamesObjects honest old m parents author committer message (of_index f)
-  tree_blamed (index.Store f) of place = trees_blamed f of place
-  tree_blamed index.BadPath of place = absurd of
-  tree_blamed index.PathConflict of place = absurd of
-  tree_blamed (index.BadIndex place) of told = absurd of
-  tree_blamed (index.WrongEntry at) of place = absurd of
-  tree_blamed (index.Missing id) of place = absurd of
+  pub tree_blamed : (f : IndexFault) → IsOfWrite m (λ id. honest → IsDamaged mid id) f → BlamesObjects honest old m parents author committer message (of_index f)
+  tree_blamed (index.Store f) of = trees_blamed f of
+  tree_blamed index.BadPath of = absurd of
+  tree_blamed index.PathConflict of = absurd of
+  tree_blamed (index.BadIndex place) of = absurd of
+  tree_blamed (index.WrongEntry at) of = absurd of
+  tree_blamed (index.Missing id) of = absurd of
 
   -- why the commit was not
   pub body_blamed : (tree : ObjectId) → HasRoot m tree → (body : List ℕ) → body ≡ made_body tree parents author committer message → (f : StoreFault) → IsOfPut kinds.Commit body f → (honest → IsOfDamage mid f) → BlamesObjects honest old m parents author committer message (Store f)

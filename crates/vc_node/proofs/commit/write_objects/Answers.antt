@@ -14,7 +14,7 @@ returns-in_err-tree-clause-refused g c =
     let w = c.args.words in
     let e = c.in_err-tree.field-0.0 in
     let blames : BlamesObjects g.F.Files.honest (content c.args.files.now) c.args.index.now c.args.parents.now w.author.now w.committer.now w.message.now (of_index e) =
-    tree_blamed g.F.Files.honest (content c.args.files.now) (content c.write_tree.new.files) c.args.index.now c.args.parents.now w.author.now w.committer.now w.message.now c.in_err-tree.ensures.undamaged e c.in_err-tree.ensures.refused c.in_err-tree.ensures.place in
+    tree_blamed g.F.Files.honest (content c.args.files.now) (content c.write_tree.new.files) c.args.index.now c.args.parents.now w.author.now w.committer.now w.message.now c.in_err-tree.ensures.undamaged e c.in_err-tree.ensures.refused in
     search (rules, blames)
 
 pub returns-in_err-id-clause-refused : goal.returns-in_err-id-clause-refused
