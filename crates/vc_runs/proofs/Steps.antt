@@ -1,0 +1,388 @@
+-- What each node answers in the run, event by event.
+use Rattle.std.proofs.Common.{◌≡◌, ◌≢◌, ℕ, false, List, [], ◌∷◌, ◌++◌, map, Option, Some, None, Ok, inl, inr, refl, sym, ap, ◌∙◌, subst, nat_cmp, arith, get_or, take, Contains, unwrap_or, option_to_list}
+use Rattle.std.specs.FinMap.{get, insert, remove, empty, get-empty, entries, nat_cmp-IsAntisymmetric}
+use Rattle.std.specs.Cmp.{nat_cmp_total}
+use Rattle.std.specs.Cmp.Lexicographic.{slice_cmp, nat_list_cmp_total}
+use Rattle.vc_model.specs.Object.{Id, zero_id, Object, Format, Objects, Lookup, stored, over}
+use Rattle.vc_model.specs.Object.Kind.{Commit}
+use Rattle.vc_model.specs.Reach.{Reaches, Links, IsClosed, HasHistory}
+use Rattle.vc_model.specs.Refs.{RefName, Refs, branch, tracking, Conflicts}
+use Rattle.vc_model.specs.Repository.{Repository, with_objects, no_effect, only_changes}
+use Rattle.vc_model.specs.Repository.Change.{SetRefs}
+use Rattle.vc_model.specs.Push.{Command, OpenPush, Slots}
+use Rattle.vc_model.specs.Push.Verdict.{Passing, Accepted}
+use Rattle.vc_model.specs.Push.Stage.{Checked, Migrated, Finished}
+use Rattle.vc_model.specs.Message.{Message}
+use Rattle.vc_model.specs.Message.Message.{ListRefs, Advert, Want, Pack, Push, Report}
+use Rattle.vc_model.specs.Node.{Deed, IsDifference}
+use Rattle.vc_model.specs.Node.Answer.{Did, Fault}
+use Rattle.vc_model.specs.Node.Failure.{Device}
+use Rattle.vc_model.specs.Node.Reply.{Stored, Made, Sends, Opened, Passed, MigratedAll, Updated, Reported, Moved}
+use Rattle.vc_model.specs.Shared.{SharedNode, head_value, IsOurs, IsFirstCounted, opened}
+use Rattle.vc_model.specs.Shared.UpdatesPush.{singly}
+use Rattle.vc_model.specs.Clone.{Awaited, CloneNode, PushItem, with_object, MovesToAdvert, IsItemId, IsTrackingValue, IsOldOf, MovesBranch, MovesAny, Moves, AreOpen, haves_of, once, quietly, sending, head_to}
+use Rattle.vc_model.specs.Clone.Awaited.{Nothing, AnAdvert, APack}
+use Rattle.vc_model.specs.Clone.Task.{MakeCommit, StartPush, StartFetch}
+use Rattle.vc_model.specs.CloneCall.{CloneAnswers, new_commit}
+use Rattle.vc_model.specs.CloneCall.CloneCall.{Command as Commands, Receive}
+use Rattle.vc_model.specs.CloneCall.CloneAnswers.{obeyed as clone_obeyed}
+use Rattle.vc_model.specs.SharedCall.{SharedAnswers}
+use Rattle.vc_model.specs.SharedCall.SharedCall.{Accept, StepOf, Open}
+use Rattle.vc_model.specs.SharedCall.SharedAnswers.{obeyed, opened as restarted, faulted}
+use Rattle.vc_model.specs.World.{empty_repository}
+use Rattle.vc_model.specs.Wire.{Wire}
+use Rattle.vc_model.proofs.Commits.{all_holds}
+use Rattle.vc_model.proofs.Maps.{insert_same, insert_other, bytes_same, none_in_empty}
+use Rattle.vc_runs.specs.Witness.{main}
+use Rattle.vc_runs.proofs.Pair.{Facts, Setting, one_ref, one_alone, no_entries, entries_of_one, added_none, added_first, in_none, in_one}
+use Rattle.vc_runs.proofs.Pair as pair
+
+abbrev pub clone : Repository → Awaited → CloneNode
+clone r a = record { repository = r; live = Some a }
+
+abbrev pub up : Repository → Slots → SharedNode
+up r l = record { repository = r; live = Some l }
+
+tracking_is_no_branch : (a b : List ℕ) → tracking a ≡ branch b → ⊥
+tracking_is_no_branch a b e = let h : ◌≡◌ {A = ℕ} 114 104 = ap (λ (xs : List ℕ). get_or xs 5 0) e in omega arith
+
+-- neither is a folder of the other
+no_conflict : (a b : List ℕ) → Conflicts (branch a) (tracking b) → ⊥
+no_conflict a b (inl c) = let h : ◌≡◌ {A = ℕ} 114 104 = ap (λ (xs : List ℕ). get_or xs 5 0) c.1 in omega arith
+no_conflict a b (inr c) = let h : ◌≡◌ {A = ℕ} 104 114 = ap (λ (xs : List ℕ). get_or xs 5 0) c.1 in omega arith
+
+put : (l : Slots) (p : OpenPush) → get (insert l 0 p) 0 ≡ Some p
+put l p = insert_same nat_cmp_total nat_cmp-IsAntisymmetric l 0 p
+
+-- a new clone has nothing
+pub no_haves : haves_of empty_repository ≡ []
+no_haves =
+    ap (λ es. take 256 (once [] (map (λ e. e.1) es ++ option_to_list (head_value empty_repository)))) (no_entries {X = Id})
+    ∙ ap (λ v. take 256 (once [] ([] ++ option_to_list v))) (get-empty (slice_cmp nat_cmp) (branch main))
+
+module _ (here : Setting) where
+  abbrev fmt : Format
+  fmt = here.fmt
+
+  abbrev wire : Wire fmt
+  wire = here.wire
+
+  abbrev tree : Object
+  tree = here.tree
+
+  abbrev commit : Object
+  commit = here.commit
+
+  abbrev author : List ℕ
+  author = here.author
+
+  abbrev message : List ℕ
+  message = here.message
+
+  abbrev f : Facts fmt wire tree commit author message
+  f = here.facts
+
+  abbrev t : Id
+  t = fmt.name_of tree
+
+  abbrev x : Id
+  x = fmt.name_of commit
+
+  abbrev both : Objects
+  both = pair.both here
+
+  has_commit : get both x ≡ Some commit
+  has_commit = pair.has_commit here
+
+  has_tree : get both t ≡ Some tree
+  has_tree = pair.has_tree here
+
+  closed : (at : Lookup) → at t ≡ Some tree → at x ≡ Some commit → IsClosed fmt at x
+  closed at a b = pair.commit_closed here at a b
+
+  history : (at : Lookup) → at t ≡ Some tree → at x ≡ Some commit → HasHistory fmt at x
+  history at a b = pair.commit_history here at a b
+
+  tree_over : over empty both t ≡ Some tree
+  tree_over = pair.tree_over here
+
+  commit_over : over empty both x ≡ Some commit
+  commit_over = pair.commit_over here
+
+  all_reached : (y : Id) (o : Object) → get both y ≡ Some o → Reaches (Links fmt (stored both)) x y
+  all_reached y o g = pair.reached_both here (stored both) has_commit has_tree y o g
+
+  -- ---- repositories: with the commit on main, the same at a clone that knows it, and a clone that only knows it
+
+  abbrev pub on_main : Repository
+  on_main = record { objects = both; refs = one_ref (branch main) x; head = empty_repository.head; index = empty }
+
+  -- the objects alone, before the update
+  abbrev pub migrated : Repository
+  migrated = with_objects empty_repository both
+
+  abbrev pub knowing : Repository
+  knowing = record { objects = both; refs = insert (one_ref (branch main) x) (tracking main) x; head = empty_repository.head; index = empty }
+
+  abbrev pub fetched : Repository
+  fetched = record { objects = both; refs = one_ref (tracking main) x; head = empty_repository.head; index = empty }
+
+  main_is : get on_main.refs (branch main) ≡ Some x
+  main_is = insert_same nat_list_cmp_total bytes_same empty (branch main) x
+
+  not_known : get on_main.refs (tracking main) ≡ None
+  not_known = insert_other nat_list_cmp_total bytes_same empty (branch main) x (tracking main) (tracking_is_no_branch main main) ∙ get-empty (slice_cmp nat_cmp) (tracking main)
+
+  nothing_tracked : (y : Id) → IsTrackingValue on_main.refs y → ⊥
+  nothing_tracked y v = tracking_is_no_branch v.0 main (one_alone (branch main) x (tracking v.0) y v.1).0
+
+  pub head_is : head_value on_main ≡ Some x
+  head_is = main_is
+
+  -- ---- the first clone commits and pushes
+
+  abbrev commit_made : Object → Deed Awaited
+  commit_made o =
+      let trees = pair.trees here in
+      quietly Nothing (record { objects = with_object trees (fmt.name_of o) o; changes = head_to empty_repository.head (fmt.name_of o) ∷ [] }) (Made (fmt.name_of o))
+
+  pub is_commit : commit ≡ new_commit fmt empty_repository t [] author author message
+  is_commit = f.made ∙ ap (λ (v : Option Id). record { kind = Commit; body = fmt.commit_body t (option_to_list v ++ []) author author message }) (sym (get-empty (slice_cmp nat_cmp) (branch main)))
+
+  pub commits : CloneAnswers fmt wire.rules (clone empty_repository Nothing) (Commands (MakeCommit [] author author message)) (Did (Made x)) (clone on_main Nothing) None
+  commits = clone_obeyed Nothing (commit_made commit) refl
+      ((f.line, f.line), (λ m y g. absurd (none_in_empty (slice_cmp nat_cmp) m y g)), tt, ((pair.trees here, t), f.trees, made))
+      ((both, added_first both, refl), refl, refl) refl
+    where
+      made : (wire.rules.fault (new_commit fmt empty_repository t [] author author message) None) × (commit_made commit ≡ commit_made (new_commit fmt empty_repository t [] author author message))
+      made = subst (λ o. (wire.rules.fault o None) × (commit_made commit ≡ commit_made o)) is_commit (f.formed, refl)
+
+  abbrev item : PushItem
+  item = record { id = Some x; name = branch main }
+
+  abbrev pub command : Command
+  command = record { old = zero_id; new = x; name = branch main }
+
+  abbrev pub push : Message
+  push = Push false None (command ∷ []) both
+
+  pub pushes : CloneAnswers fmt wire.rules (clone on_main Nothing) (Commands (StartPush false (item ∷ []))) (Did Sends) (clone on_main Nothing) (Some push)
+  pushes = clone_obeyed Nothing (sending Nothing push) refl (omega arith, items_closed, (command ∷ [], both, (refl, refl, old, tt), carried, refl)) ((both, added_none both, refl), refl, refl) refl
+    where
+      one_item : (y : Id) → IsItemId (item ∷ []) y → y ≡ x
+      one_item y i = ap (λ v. unwrap_or v x) (sym i.2 ∙ all_holds (λ (p : PushItem). p.id ≡ Some x) (item ∷ []) i.0 (refl, tt) i.1)
+
+      items_closed : (y : Id) → IsItemId (item ∷ []) y → IsClosed fmt (stored both) y
+      items_closed y i = subst (IsClosed fmt (stored both)) (sym (one_item y i)) (closed (stored both) has_tree has_commit)
+
+      old : IsOldOf on_main.refs (branch main) zero_id
+      old = inl (main, refl, sym (ap (λ v. unwrap_or v zero_id) not_known))
+
+      carried : IsDifference fmt both (IsItemId (item ∷ [])) (IsTrackingValue on_main.refs) both
+      carried = record {
+        only = λ y o g. (g, (x, (item, (0, omega arith, refl), refl), all_reached y o g), λ r. nothing_tracked r.0 r.1);
+        all = λ y o g r not. g;
+      }
+
+  -- ---- the push at the shared node
+
+  abbrev pub p0 : OpenPush
+  p0 = opened false None (command ∷ []) both
+
+  abbrev pub p1 : OpenPush
+  p1 = record p0 { stage = Checked }
+
+  abbrev pub p2 : OpenPush
+  p2 = record p0 { stage = Migrated }
+
+  abbrev pub p3 : OpenPush
+  p3 = record p0 { commands = record { command = command; verdict = Accepted } ∷ []; stage = Finished }
+
+  abbrev pub l0 : Slots
+  l0 = insert empty 0 p0
+
+  abbrev pub l1 : Slots
+  l1 = insert l0 0 p1
+
+  abbrev pub l2 : Slots
+  l2 = insert l1 0 p2
+
+  abbrev pub l3 : Slots
+  l3 = insert l2 0 p3
+
+  abbrev pub l4 : Slots
+  l4 = remove l3 0
+
+  pub opens : SharedAnswers fmt wire.rules (up empty_repository empty) (Accept push) (Did (Opened 0)) (up empty_repository l0) None
+  opens = obeyed empty (record { effect = no_effect; left = l0; sends = None; reply = Opened 0 }) refl
+      (0, record { below = omega arith; free = get-empty nat_cmp 0; lowest = λ n h. absurd (omega arith) }, refl)
+      ((empty, added_none empty, refl), refl, refl) refl
+
+  pub checks : SharedAnswers fmt wire.rules (up empty_repository l0) (StepOf 0) (Did (Passed 1)) (up empty_repository l1) None
+  checks = obeyed l0 (record { effect = no_effect; left = l1; sends = None; reply = Passed 1 }) refl (
+    p0,
+    put empty p0,
+    inl (
+      p1,
+      (
+        record { command = command; verdict = Passing } ∷ [],
+        (refl, (f.legal, (inl (main, refl), (f.not_zero, (closed (over empty both) tree_over commit_over, ((λ _. history (over empty both) tree_over commit_over), ((λ _. inl refl), tt)))))), tt),
+        refl,
+        refl,
+        refl,
+      ),
+      refl,
+      refl,
+    ),
+  )
+      ((empty, added_none empty, refl), refl, refl) refl
+
+  pub migrates : SharedAnswers fmt wire.rules (up empty_repository l1) (StepOf 0) (Did MigratedAll) (up migrated l2) None
+  migrates = obeyed l1 (record { effect = record { objects = both; changes = [] }; left = l2; sends = None; reply = MigratedAll }) refl
+      (p1, put l0 p1, inl (p2, (refl, refl, refl), refl, refl))
+      ((both, added_first both, refl), refl, refl) refl
+
+  pub updates : SharedAnswers fmt wire.rules (up migrated l2) (StepOf 0) (Did (Updated (branch main) None)) (up on_main l3) None
+  updates = obeyed l2 (record { effect = only_changes (SetRefs ((branch main, x) ∷ []) ∷ []); left = l3; sends = None; reply = Updated (branch main) None }) refl (
+    p2,
+    put l1 p2,
+    inl (
+      p3,
+      (
+        p3.commands,
+        SetRefs ((branch main, x) ∷ []) ∷ [],
+        singly (record {
+          front = [];
+          next = record { command = command; verdict = Passing };
+          back = [];
+          verdict = Accepted;
+          before = refl;
+          first = refl;
+          passing = refl;
+          update = (((λ _. get-empty (slice_cmp nat_cmp) (branch main)), ((λ m y g. absurd (none_in_empty (slice_cmp nat_cmp) m y g)), (inl (refl, get-empty (slice_cmp nat_cmp) (branch main)), tt))), refl);
+          after = refl;
+        }) refl refl,
+        refl,
+        refl,
+      ),
+      refl,
+      refl,
+    ),
+  )
+      ((both, added_none both, refl), refl, refl) refl
+
+  abbrev pub report : Message
+  report = Report None (record { name = branch main; outcome = Ok x } ∷ [])
+
+  pub reports : SharedAnswers fmt wire.rules (up on_main l3) (StepOf 0) (Did Sends) (up on_main l4) (Some report)
+  reports = obeyed l3 (record { effect = no_effect; left = l4; sends = Some report; reply = Sends }) refl
+      (p3, put l2 p3, inr (record { name = branch main; outcome = Ok x } ∷ [], refl, ((refl, inl (refl, refl)), tt), refl))
+      ((both, added_none both, refl), refl, refl) refl
+
+  -- ---- tracking refs move
+
+  moves : (refs : Refs) → ((m : RefName) (v : Id) → get refs m ≡ Some v → m ≡ branch main) → get refs (tracking main) ≡ None → MovesBranch fmt (stored both) refs (branch main) x (tracking main)
+  moves refs alone none = record {
+    name = main;
+    branch_is = refl;
+    tracking_is = refl;
+    legal = f.legal;
+    fits = f.fits;
+    free = λ m v g c. no_conflict main main (subst (λ n. Conflicts n (tracking main)) (alone m v g) c);
+    good = (closed (stored both) has_tree has_commit, history (stored both) has_tree has_commit);
+    forward = inl none;
+  }
+
+  pub tracks : CloneAnswers fmt wire.rules (clone on_main Nothing) (Receive report) (Did (Reported 1 [])) (clone knowing Nothing) None
+  tracks = clone_obeyed Nothing (quietly Nothing (only_changes (SetRefs ((tracking main, x) ∷ []) ∷ [])) (Reported 1 [])) refl
+      (SetRefs ((tracking main, x) ∷ []) ∷ [], inl (tracking main, [], moves on_main.refs (λ m v g. (one_alone (branch main) x m v g).0) not_known, refl, refl), refl)
+      ((both, added_none both, refl), refl, refl) refl
+
+  -- ---- the shared node fails, and restarts
+
+  abbrev pub down : SharedNode
+  down = record { repository = on_main; live = None }
+
+  pub fails : SharedAnswers fmt wire.rules (up on_main l4) (Accept push) (Fault Device) down None
+  fails = faulted l4 Device refl (λ e. absurd (cc)) refl refl refl
+
+  pub restarts : SharedAnswers fmt wire.rules down Open (Did Stored) (up on_main empty) None
+  restarts = restarted refl (refl, refl) refl
+
+  -- ---- the second clone fetches
+
+  abbrev pub advert : Message
+  advert = Advert (head_value on_main) on_main.refs
+
+  abbrev pub want : Message
+  want = Want (x ∷ []) (haves_of empty_repository)
+
+  abbrev pub pack : Message
+  pack = Pack None both
+
+  pub asks : CloneAnswers fmt wire.rules (clone empty_repository Nothing) (Commands StartFetch) (Did Sends) (clone empty_repository AnAdvert) (Some ListRefs)
+  asks = clone_obeyed Nothing (sending AnAdvert ListRefs) refl refl ((empty, added_none empty, refl), refl, refl) refl
+
+  pub lists : SharedAnswers fmt wire.rules (up on_main empty) (Accept ListRefs) (Did Sends) (up on_main empty) (Some advert)
+  lists = obeyed empty (record { effect = no_effect; left = empty; sends = Some advert; reply = Sends }) refl refl ((both, added_none both, refl), refl, refl) refl
+
+  not_closed : ¬ IsClosed fmt (stored empty) x
+  not_closed c = let there = c.there x ([], refl) in none_in_empty (slice_cmp nat_cmp) x there.0 there.1
+
+  pub wants : CloneAnswers fmt wire.rules (clone empty_repository AnAdvert) (Receive advert) (Did Sends) (clone empty_repository (APack (x ∷ []) on_main.refs)) (Some want)
+  wants = clone_obeyed AnAdvert (sending (APack (x ∷ []) on_main.refs) want) refl (refl, x ∷ [], open_ids, inl (some, refl)) ((empty, added_none empty, refl), refl, refl) refl
+    where
+      some : x ∷ [] ≢ []
+      some e = absurd (cc)
+
+      open_ids : AreOpen fmt (stored empty) [] (entries on_main.refs) (x ∷ [])
+      open_ids = subst (λ es. AreOpen fmt (stored empty) [] es (x ∷ [])) (sym (entries_of_one (branch main) x)) (inr (not_closed, in_none x, [], refl, refl))
+
+  is_ours : IsOurs fmt on_main x
+  is_ours = (x, (branch main, main_is), ([], refl))
+
+  no_have : (y : Id) → Contains (haves_of empty_repository) y → ⊥
+  no_have y c = in_none y (subst (λ ys. Contains ys y) no_haves c)
+
+  pub packs : SharedAnswers fmt wire.rules (up on_main empty) (Accept want) (Did Sends) (up on_main empty) (Some pack)
+  packs = obeyed empty (record { effect = no_effect; left = empty; sends = Some pack; reply = Sends }) refl
+      ((is_ours, tt), (None, both, subst (λ hs. IsFirstCounted fmt on_main hs None) (sym no_haves) refl, packed, refl))
+      ((both, added_none both, refl), refl, refl) refl
+    where
+      packed : IsDifference fmt both (Contains (x ∷ [])) (λ h. Contains (haves_of empty_repository) h × IsOurs fmt on_main h) both
+      packed = record {
+        only = λ y o g. (g, (x, (0, omega arith, refl), all_reached y o g), λ r. no_have r.0 r.1.0);
+        all = λ y o g r not. g;
+      }
+
+  abbrev at : Lookup
+  at = over empty both
+
+  pub takes : CloneAnswers fmt wire.rules (clone empty_repository (APack (x ∷ []) on_main.refs)) (Receive pack) (Did (Moved 1 0)) (clone fetched Nothing) None
+  takes = clone_obeyed (APack (x ∷ []) on_main.refs) (quietly Nothing (record { objects = both; changes = SetRefs ((tracking main, x) ∷ []) ∷ [] }) (Moved 1 0)) refl
+      (x ∷ [], on_main.refs, refl, wanted, moved)
+      ((both, added_first both, refl), refl, refl) refl
+    where
+      wanted : (y : Id) → Contains (x ∷ []) y → IsClosed fmt at y
+      wanted y c = subst (IsClosed fmt at) (sym (in_one x y c)) (closed at tree_over commit_over)
+
+      moved : MovesToAdvert fmt empty_repository at on_main.refs both (quietly Nothing (record { objects = both; changes = SetRefs ((tracking main, x) ∷ []) ∷ [] }) (Moved 1 0))
+      moved = record {
+        changes = SetRefs ((tracking main, x) ∷ []) ∷ [];
+        open_ids = [];
+        moves = subst (λ es. Moves (MovesAny fmt at) empty es (SetRefs ((tracking main, x) ∷ []) ∷ [])) (sym (entries_of_one (branch main) x)) (inl (tracking main, [], inl to_main, refl, refl));
+        rest = subst (λ es. AreOpen fmt at [] es []) (sym (entries_of_one (branch main) x)) (inl (inl (closed at tree_over commit_over), refl));
+        deed = refl;
+      }
+        where
+          to_main : MovesBranch fmt at empty (branch main) x (tracking main)
+          to_main = record {
+            name = main;
+            branch_is = refl;
+            tracking_is = refl;
+            legal = f.legal;
+            fits = f.fits;
+            free = λ m v g. absurd (none_in_empty (slice_cmp nat_cmp) m v g);
+            good = (closed at tree_over commit_over, history at tree_over commit_over);
+            forward = inl (get-empty (slice_cmp nat_cmp) (tracking main));
+          }
