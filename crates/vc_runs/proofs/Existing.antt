@@ -15,19 +15,19 @@ use Rattle.vc_model.specs.World.{IsNew, empty_repository}
 use Rattle.vc_model.proofs.Maps.{insert_same, insert_other, bytes_same, same_key}
 use Rattle.vc_model.proofs.Tracked.{value_at_clone}
 use Rattle.vc_rules.specs.Git.{git}
-use Rattle.vc_runs.specs.Names.{empty_tree, first_commit, first_commit_id, author, message}
+use Rattle.vc_runs.specs.Names.{path, content, first_tree, first_commit, first_commit_id, author, message}
 use Rattle.vc_runs.specs.Wire.{Readings, git_wire}
 use Rattle.vc_runs.specs.Witness.{main, told, IsWitness, RunsExist, PremisesAreMet}
 use Rattle.vc_runs.proofs.Names.{names_are_known}
 use Rattle.vc_runs.proofs.GitFacts.{facts}
-use Rattle.vc_runs.proofs.Pair.{Setting}
+use Rattle.vc_runs.proofs.Stores.{Setting}
 use Rattle.vc_runs.proofs.Steps.{clone, up}
 use Rattle.vc_runs.proofs.Steps as steps
-use Rattle.vc_runs.proofs.Worlds.{Start, w0, w16, history, is_run, honest, first_clone, second_clone}
+use Rattle.vc_runs.proofs.Worlds.{Start, w0, w17, history, is_run, honest, first_clone, second_clone}
 use Rattle.vc_runs.proofs.Brought.{no_collision}
 
 abbrev here : Readings → Setting
-here readings = record { fmt = git; wire = git_wire readings; tree = empty_tree; commit = first_commit; author = author; message = message; facts = facts readings }
+here readings = record { fmt = git; wire = git_wire readings; path = path; content = content; tree = first_tree; commit = first_commit; author = author; message = message; facts = facts readings }
 
 module _ (readings : Readings) (start : Start) (n : ℕ) (enough : 2 ≤ n) (unfused : (c : ℕ) → get start.fuses c ≡ None) (new : (c : ℕ) → (c < n) × (get start.clones c ≡ Some (clone empty_repository Nothing)) ⊎ (n ≤ c) × (get start.clones c ≡ None)) where
   is_new : (c : ℕ) → c < 2 → get start.clones c ≡ Some (clone empty_repository Nothing)
@@ -37,21 +37,21 @@ module _ (readings : Readings) (start : Start) (n : ℕ) (enough : 2 ≤ n) (unf
   are_new c m g = elim (new c) [ inl h ↦ (let e = h.1 in cc) | inr h ↦ absurd (let e = h.1 in cc) ]
 
   known : git.name_of first_commit ≡ first_commit_id
-  known = names_are_known.1
+  known = names_are_known.2
 
   witness : IsWitness (git_wire readings) (w0 (here readings) start) (history (here readings) start)
   witness = record {
     run = is_run (here readings) start (is_new 0 (omega arith)) (is_new 1 (omega arith)) (unfused 0) (unfused 1);
     tells = ap (λ y. reverse (told y)) known;
-    apart = no_collision (here readings) start are_new (is_new 0 (omega arith));
+    apart = no_collision (here readings) start are_new;
     honest = honest (here readings) start;
     branch = insert_same nat_list_cmp_total bytes_same empty (branch main) (git.name_of first_commit) ∙ ap Some known;
     first_knows =
-        value_at_clone (w16 (here readings) start).world 0 main (git.name_of first_commit)
+        value_at_clone (w17 (here readings) start).world 0 main (git.name_of first_commit)
         (clone (steps.knowing (here readings)) Nothing, first_clone (here readings) start (is_new 0 (omega arith)) (is_new 1 (omega arith)) (unfused 0) (unfused 1), insert_same nat_list_cmp_total bytes_same (insert empty (branch main) (git.name_of first_commit)) (tracking main) (git.name_of first_commit))
         ∙ ap Some known;
     second_knows =
-        value_at_clone (w16 (here readings) start).world 1 main (git.name_of first_commit)
+        value_at_clone (w17 (here readings) start).world 1 main (git.name_of first_commit)
         (clone (steps.fetched (here readings)) Nothing, second_clone (here readings) start (is_new 0 (omega arith)) (is_new 1 (omega arith)) (unfused 0) (unfused 1), insert_same nat_list_cmp_total bytes_same empty (tracking main) (git.name_of first_commit))
         ∙ ap Some known;
   }

@@ -1,8 +1,8 @@
 -- What the run asks of its format, rules and objects holds at Git's.
-use Rattle.std.proofs.Common.{map, cond, ◌≡◌, ◌≢◌, ℕ, Bool, true, false, not, List, [], ◌∷◌, ◌==◌, Some, None, Ok, inr, refl, sym, ap, ◌∙◌, subst, length, get_or, arith, Contains}
+use Rattle.std.proofs.Common.{inl, ◌⊎◌, ◌++◌, suc, length-append, map, cond, ◌≡◌, ◌≢◌, ℕ, Bool, true, false, not, List, [], ◌∷◌, ◌==◌, Some, None, Ok, inr, refl, sym, ap, ◌∙◌, subst, length, get_or, arith, Contains}
 use Rattle.std.specs.Prelude.{IsTrue, IsUtf8, codes, option_map, bytes_eq}
 use Rattle.std.specs.FinMap.{get, insert, empty, get-empty}
-use Rattle.std.specs.List.{list_all}
+use Rattle.std.specs.List.{AllByRecursion, list_all}
 use Rattle.std.specs.Str.{is_utf8, chars}
 use Rattle.std.specs.Cmp.Lexicographic.{slice_cmp, nat_list_cmp_total}
 use Rattle.std.specs.Ordering.{nat_cmp}
@@ -19,7 +19,14 @@ use Rattle.vc_refname.specs.RefName.{is_ref_name, first_broken_rule}
 use Rattle.vc_refname.proofs.BrokenRules.{legal_from_is_ref_name}
 use Rattle.vc_store.specs.Store.{with_object}
 use Rattle.vc_index.specs.WrittenTrees.{tree_object}
-use Rattle.vc_index.proofs.MapLemmas.{empty-IsIndex, no_some}
+use Rattle.vc_index.specs.declared.entry.IndexEntry.{IndexEntry}
+use Rattle.vc_index.specs.FolderTrees.{NamesAll}
+use Rattle.vc_index.specs.IndexMap.{IndexMap, IsIndex, index_entry}
+use Rattle.vc_index.specs.Path.{IsPath}
+use Rattle.vc_index.proofs.MapLemmas.{empty-IsIndex, insert-IsIndex, got, no_some}
+use Rattle.vc_object.specs.Tree.{IsName, IsEntry, spelling}
+use Rattle.vc_object.specs.declared.mode.Mode.TheVariants as modes
+use Rattle.vc_rules.specs.Trees.{ShowsIndex}
 use Rattle.vc_rev.specs.Meaning.{or_refusal}
 use Rattle.vc_rev.specs.declared.refusal.Refusal.TheVariants.{Unknown}
 use Rattle.vc_rev.specs.Grammar.ExprText.{Object as BaseAndSteps}
@@ -31,19 +38,22 @@ use Rattle.vc_model.specs.Refs.{branch, tracking}
 use Rattle.vc_model.specs.Repository.{Repository}
 use Rattle.vc_model.specs.Shared.{head_value}
 use Rattle.vc_model.proofs.Commits.{all_holds}
-use Rattle.vc_model.proofs.Maps.{insert_same, insert_other, bytes_same}
+use Rattle.vc_model.proofs.Maps.{same_key, insert_same, insert_other, bytes_same}
 use Rattle.vc_rules.specs.Faults.{FaultGives}
 use Rattle.vc_rules.specs.Git.{git, stored_of, machine_entry}
 use Rattle.vc_rules.specs.Trees.{TreesGive, HoldsTrees}
 use Rattle.vc_rules.specs.Values.{DenotesAt}
-use Rattle.vc_runs.specs.Names.{empty_tree, empty_tree_id, author, message, first_commit, first_commit_id}
+use Rattle.vc_runs.specs.Names.{path, plain_file, content, first_file, first_file_id, first_entries, first_tree, first_tree_id, author, message, first_commit, first_commit_id}
 use Rattle.vc_runs.specs.Wire.{Readings, git_wire}
 use Rattle.vc_runs.specs.Witness.{main}
 use Rattle.vc_runs.proofs.Names.{names_are_known}
-use Rattle.vc_runs.proofs.Pair.{Facts}
+use Rattle.vc_runs.proofs.Stores.{Facts, index_with}
+
+abbrev b : Id
+b = git.name_of first_file
 
 abbrev t : Id
-t = git.name_of empty_tree
+t = git.name_of first_tree
 
 abbrev x : Id
 x = git.name_of first_commit
@@ -62,11 +72,11 @@ author_without = without_by author refl
 author_line : IsLine author
 author_line c = all_holds (λ b. b ≢ 10) author 10 author_without c refl
 
-tree_is_id : IsId (id_of_bytes empty_tree_id)
-tree_is_id = subst (λ y. IsId (id_of_bytes y)) names_are_known.0 (record { sized = name_length _; bytes = λ i. byte_of _ (name_bytes _) i })
+tree_is_id : IsId (id_of_bytes first_tree_id)
+tree_is_id = subst (λ y. IsId (id_of_bytes y)) names_are_known.1 (record { sized = name_length _; bytes = λ i. byte_of _ (name_bytes _) i })
 
 abbrev text : CommitText
-text = commit_text empty_tree_id [] author author message
+text = commit_text first_tree_id [] author author message
 
 commit_size : length first_commit.body ≡ 98
 unfolding encode_with
@@ -78,26 +88,32 @@ commit_formed = record {
   size = omega (arith, commit_size);
 }
 
+file_formed : FaultGives first_file None
+file_formed = record { grammar = tt; size = omega arith }
+
 -- ---- the objects
 
 made : first_commit ≡ record { kind = Commit; body = git.commit_body t [] author author message }
-made = ap (λ y. record { kind = Commit; body = git.commit_body y [] author author message }) (sym names_are_known.0)
+made = ap (λ y. record { kind = Commit; body = git.commit_body y [] author author message }) (sym names_are_known.1)
 
 named : (y : Id) → Contains (t ∷ []) y → (o : Object) × (git.name_of o ≡ y)
-named y c = (empty_tree, sym (all_holds (λ z. z ≡ t) (t ∷ []) y (refl, tt) c))
+named y c = (first_tree, sym (all_holds (λ z. z ≡ t) (t ∷ []) y (refl, tt) c))
 
-tree_links : git.links empty_tree ≡ []
-tree_links = ap (λ (es : List Entry). map bytes_of_id (entry_links es)) (entries_again [] tt)
+-- ids of other first bytes are others
+other_names : (m n : ℕ) (y z v w : Id) → y ≡ v → z ≡ w → get_or v 0 0 ≡ m → get_or w 0 0 ≡ n → m ≢ n → y ≢ z
+other_names m n y z v w yv zw vm wn apart e = apart (sym vm ∙ (ap (λ (ys : List ℕ). get_or ys 0 0) (sym yv ∙ (e ∙ zw)) ∙ wn))
 
-apart : t ≢ x
-apart e =
-    let same : empty_tree_id ≡ first_commit_id = sym names_are_known.0 ∙ e ∙ names_are_known.1 in
-    let h : ◌≡◌ {A = ℕ} 75 148 = ap (λ (ys : List ℕ). get_or ys 0 0) same in omega arith
+file_tree : b ≢ t
+file_tree = other_names 206 9 b t first_file_id first_tree_id names_are_known.0 names_are_known.1 refl refl (λ e. omega (arith, e))
+
+file_commit : b ≢ x
+file_commit = other_names 206 205 b x first_file_id first_commit_id names_are_known.0 names_are_known.2 refl refl (λ e. omega (arith, e))
+
+tree_commit : t ≢ x
+tree_commit = other_names 9 205 t x first_tree_id first_commit_id names_are_known.1 names_are_known.2 refl refl (λ e. omega (arith, e))
 
 not_zero : x ≢ zero_id
-not_zero e =
-    let same : first_commit_id ≡ zero_id = sym names_are_known.1 ∙ e in
-    let h : ◌≡◌ {A = ℕ} 148 0 = ap (λ (ys : List ℕ). get_or ys 0 0) same in omega arith
+not_zero = other_names 205 0 x zero_id first_commit_id zero_id names_are_known.2 refl refl refl (λ e. omega (arith, e))
 
 -- ---- names of refs
 
@@ -124,57 +140,122 @@ head_is r y e = (
   (Ok (id_of_bytes y), ap (λ v. or_refusal (option_map id_of_bytes v) Unknown) (sym e), refl),
 )
 
--- ---- the trees of an index without files
+-- ---- the file in the index
+
+name_legal : IsName path
+name_legal = record {
+  some = λ e. let h : ◌≡◌ {A = ℕ} 1 0 = ap length e in omega arith;
+  no_slash = ((λ e. omega arith), tt);
+  no_nul = ((λ e. omega arith), tt);
+  not_dot = λ e. let h : ◌≡◌ {A = ℕ} 97 46 = ap (λ (ys : List ℕ). get_or ys 0 0) e in omega arith;
+  not_dots = λ e. let h : ◌≡◌ {A = ℕ} 1 2 = ap length e in omega arith;
+  not_git = λ e. let h : ◌≡◌ {A = ℕ} 1 4 = ap length e in omega arith;
+}
+
+path_legal : IsPath path
+path_legal = record { names = (name_legal, tt); short = omega arith }
+
+abbrev entry : IndexEntry
+entry = index_entry modes.File (id_of_bytes first_file_id)
+
+abbrev files : IndexMap
+files = insert empty path entry
+
+file_there : get files path ≡ Some entry
+file_there = insert_same nat_list_cmp_total bytes_same empty path entry
+
+is_index : IsIndex files
+is_index = insert-IsIndex empty path entry empty-IsIndex (record { legal = path_legal; mode = λ e. absurd (cc); id = refl }) (λ c. no_some (get empty c.0) (get-empty (slice_cmp nat_cmp) c.0) c.1)
+
+shows_index : ShowsIndex (index_with git path content) files
+shows_index p = go (same_key nat_list_cmp_total bytes_same p path)
+  where
+    go : (p ≡ path) ⊎ (p ≢ path) → get (index_with git path content) p ≡ option_map machine_entry (get files p)
+    go (inl e) =
+        ap (get (index_with git path content)) e ∙ (insert_same nat_list_cmp_total bytes_same empty path (record { mode = plain_file; id = b })
+        ∙ (ap (λ y. Some (record { mode = plain_file; id = y })) names_are_known.0 ∙ (ap (option_map machine_entry) (sym file_there) ∙ ap (λ q. option_map machine_entry (get files q)) (sym e))))
+    go (inr n) =
+        insert_other nat_list_cmp_total bytes_same empty path (record { mode = plain_file; id = b }) p n
+        ∙ (get-empty (slice_cmp nat_cmp) p ∙ ap (option_map machine_entry) (sym (insert_other nat_list_cmp_total bytes_same empty path entry p n ∙ get-empty (slice_cmp nat_cmp) p)))
+
+-- ---- its tree
+
+entries_legal : AllByRecursion IsEntry first_entries
+entries_legal = (record { name = name_legal; id = refl }, tt)
+
+tree_links : git.links first_tree ≡ b ∷ []
+tree_links = ap (λ (es : List Entry). map bytes_of_id (entry_links es)) (entries_again first_entries entries_legal) ∙ ap (λ (y : Id). y ∷ []) (sym names_are_known.0)
+
+-- a path of one letter is in no folder
+in_no_folder : (name rest : List ℕ) → path ≡ name ++ 47 ∷ rest → ⊥
+in_no_folder [] rest e = let h : ◌≡◌ {A = ℕ} 97 47 = ap (λ (ys : List ℕ). get_or ys 0 0) e in omega arith
+in_no_folder (c ∷ cs) rest e = let h : 1 ≡ suc (length (cs ++ 47 ∷ rest)) = ap length e in omega (arith, length-append cs (47 ∷ rest))
+
+names_all : NamesAll files [] first_entries
+names_all p name some first = elim (got empty path p entry) [
+  | inl is ↦ elim (first.1) [
+    | inl same ↦ inl (sym is ∙ same)
+    | inr above ↦ absurd (in_no_folder name above.0 (sym is ∙ above.1))
+  ]
+  | inr was ↦ absurd (no_some (get files p) (was ∙ get-empty (slice_cmp nat_cmp) p) some)
+]
 
 abbrev trees : Objects
-trees = insert empty t empty_tree
+trees = insert empty t first_tree
 
-holds : HoldsTrees trees ([] ∷ [])
+holds : HoldsTrees trees (first_entries ∷ [])
 unfolding with_object
 holds y = go (bytes_eq y t) refl
   where
-    go : (b : Bool) → bytes_eq y t ≡ b → option_map stored_of (get trees y) ≡ cond b (Some (tree_object [])) None
-    go true e = ap (λ z. option_map stored_of (get trees z)) ((bytes_eq-Decides y t).0 e) ∙ ap (option_map stored_of) (insert_same nat_list_cmp_total bytes_same empty t empty_tree)
+    go : (c : Bool) → bytes_eq y t ≡ c → option_map stored_of (get trees y) ≡ cond c (Some (tree_object first_entries)) None
+    go true e = ap (λ z. option_map stored_of (get trees z)) ((bytes_eq-Decides y t).0 e) ∙ ap (option_map stored_of) (insert_same nat_list_cmp_total bytes_same empty t first_tree)
     go false e =
         let other : y ≢ t = λ same. let yes = (bytes_eq-Decides y t).1 same in absurd (let bad : true ≡ false = sym yes ∙ e in cc) in
-        ap (option_map stored_of) (insert_other nat_list_cmp_total bytes_same empty t empty_tree y other ∙ get-empty (slice_cmp nat_cmp) y)
+        ap (option_map stored_of) (insert_other nat_list_cmp_total bytes_same empty t first_tree y other ∙ get-empty (slice_cmp nat_cmp) y)
 
-trees_of_nothing : TreesGive empty (Ok (trees, t))
-trees_of_nothing = (
-  empty,
-  [] ∷ [],
-  [],
+tree_size : length (spelling first_entries) ≡ 29
+tree_size = refl
+
+trees_of_file : TreesGive (index_with git path content) (Ok (trees, t))
+trees_of_file = (
+  files,
+  first_entries ∷ [],
+  first_entries,
   record {
-    sound = empty-IsIndex;
-    shows = λ p. get-empty (slice_cmp nat_cmp) p ∙ sym (ap (option_map machine_entry) (get-empty (slice_cmp nat_cmp) p));
+    sound = is_index;
+    shows = shows_index;
     listed = record {
       levels = 1;
       is = record {
         below = [];
         is = refl;
-        tree = record { legal = tt; order = tt };
-        names = λ p n some first. no_some (get empty p) (get-empty (slice_cmp nat_cmp) p) some;
-        joined = refl;
+        tree = record { legal = entries_legal; order = (tt, tt) };
+        names = names_all;
+        joined = ([], [], refl, inl ((λ e. absurd (cc)), file_there, refl), refl);
       };
     };
   },
-  (omega arith, tt),
+  (omega (arith, tree_size), tt),
   holds,
   refl,
 )
 
 -- ---- all of it
 
-pub facts : (readings : Readings) → Facts git (git_wire readings) empty_tree first_commit author message
+pub facts : (readings : Readings) → Facts git (git_wire readings) path content first_tree first_commit author message
 facts readings = record {
-  trees = trees_of_nothing;
-  formed = commit_formed;
+  path_legal = path_legal;
+  file_formed = file_formed;
+  trees = trees_of_file;
+  commit_formed = commit_formed;
   made = made;
   line = author_line;
   tree_links = tree_links;
   links = ap git.links made ∙ git.commit_links t [] author author message named author_line author_line;
   parents = ap git.parents made ∙ git.commit_parents t [] author author message named author_line author_line;
-  apart = apart;
+  file_tree = file_tree;
+  file_commit = file_commit;
+  tree_commit = tree_commit;
   not_zero = not_zero;
   legal = legal;
   fits = fits;

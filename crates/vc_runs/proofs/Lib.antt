@@ -1,5 +1,6 @@
 mod Names
-mod Pair
+mod Graphs
+mod Stores
 mod Steps
 mod Worlds
 mod Occurs

@@ -1,4 +1,4 @@
--- The names of two objects, computed.
+-- The names of three objects, computed.
 use Rattle.std.proofs.Common.{refl}
 use Rattle.std.specs.Fmt.{digits}
 use Rattle.hex.specs.Hex.{encode_with}
@@ -7,4 +7,4 @@ use Rattle.sha1.specs.Sha1.{first_words, schedule, rounds, compress, hash_after,
 
 pub names_are_known : NamesAreKnown
 unfolding digits encode_with first_words schedule rounds compress hash_after digest_bytes sha1
-names_are_known = (refl, refl)
+names_are_known = (refl, refl, refl)

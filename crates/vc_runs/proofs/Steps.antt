@@ -7,8 +7,8 @@ use Rattle.vc_model.specs.Object.{Id, zero_id, Object, Format, Objects, Lookup, 
 use Rattle.vc_model.specs.Object.Kind.{Commit}
 use Rattle.vc_model.specs.Reach.{Reaches, Links, IsClosed, HasHistory}
 use Rattle.vc_model.specs.Refs.{RefName, Refs, branch, tracking, Conflicts}
-use Rattle.vc_model.specs.Repository.{Repository, with_objects, no_effect, only_changes}
-use Rattle.vc_model.specs.Repository.Change.{SetRefs}
+use Rattle.vc_model.specs.Repository.{Repository, Index, with_objects, no_effect, only_changes}
+use Rattle.vc_model.specs.Repository.Change.{SetRefs, SetIndex}
 use Rattle.vc_model.specs.Push.{Command, OpenPush, Slots}
 use Rattle.vc_model.specs.Push.Verdict.{Passing, Accepted}
 use Rattle.vc_model.specs.Push.Stage.{Checked, Migrated, Finished}
@@ -22,7 +22,7 @@ use Rattle.vc_model.specs.Shared.{SharedNode, head_value, IsOurs, IsFirstCounted
 use Rattle.vc_model.specs.Shared.UpdatesPush.{singly}
 use Rattle.vc_model.specs.Clone.{Awaited, CloneNode, PushItem, with_object, MovesToAdvert, IsItemId, IsTrackingValue, IsOldOf, MovesBranch, MovesAny, Moves, AreOpen, haves_of, once, quietly, sending, head_to}
 use Rattle.vc_model.specs.Clone.Awaited.{Nothing, AnAdvert, APack}
-use Rattle.vc_model.specs.Clone.Task.{MakeCommit, StartPush, StartFetch}
+use Rattle.vc_model.specs.Clone.Task.{Stage, MakeCommit, StartPush, StartFetch}
 use Rattle.vc_model.specs.CloneCall.{CloneAnswers, new_commit}
 use Rattle.vc_model.specs.CloneCall.CloneCall.{Command as Commands, Receive}
 use Rattle.vc_model.specs.CloneCall.CloneAnswers.{obeyed as clone_obeyed}
@@ -33,9 +33,11 @@ use Rattle.vc_model.specs.World.{empty_repository}
 use Rattle.vc_model.specs.Wire.{Wire}
 use Rattle.vc_model.proofs.Commits.{all_holds}
 use Rattle.vc_model.proofs.Maps.{insert_same, insert_other, bytes_same, none_in_empty}
+use Rattle.vc_runs.specs.Names.{plain_file}
 use Rattle.vc_runs.specs.Witness.{main}
-use Rattle.vc_runs.proofs.Pair.{Facts, Setting, one_ref, one_alone, no_entries, entries_of_one, added_none, added_first, in_none, in_one}
-use Rattle.vc_runs.proofs.Pair as pair
+use Rattle.vc_runs.proofs.Graphs.{one_ref, one_alone, no_entries, entries_of_one, added_none, added_first, in_none, in_one}
+use Rattle.vc_runs.proofs.Stores.{Facts, Setting, index_with}
+use Rattle.vc_runs.proofs.Stores as stores
 
 abbrev pub clone : Repository → Awaited → CloneNode
 clone r a = record { repository = r; live = Some a }
@@ -67,65 +69,54 @@ module _ (here : Setting) where
   abbrev wire : Wire fmt
   wire = here.wire
 
-  abbrev tree : Object
-  tree = here.tree
-
-  abbrev commit : Object
-  commit = here.commit
-
-  abbrev author : List ℕ
-  author = here.author
-
-  abbrev message : List ℕ
-  message = here.message
-
-  abbrev f : Facts fmt wire tree commit author message
+  abbrev f : Facts fmt wire here.path here.content here.tree here.commit here.author here.message
   f = here.facts
 
   abbrev t : Id
-  t = fmt.name_of tree
+  t = fmt.name_of here.tree
 
   abbrev x : Id
-  x = fmt.name_of commit
+  x = fmt.name_of here.commit
 
-  abbrev both : Objects
-  both = pair.both here
+  abbrev index : Index
+  index = index_with fmt here.path here.content
 
-  has_commit : get both x ≡ Some commit
-  has_commit = pair.has_commit here
+  abbrev staged : Objects
+  staged = stores.staged here
 
-  has_tree : get both t ≡ Some tree
-  has_tree = pair.has_tree here
+  abbrev all : Objects
+  all = stores.all here
 
-  closed : (at : Lookup) → at t ≡ Some tree → at x ≡ Some commit → IsClosed fmt at x
-  closed at a b = pair.commit_closed here at a b
+  closed : (at : Lookup) → stores.Finds here at → IsClosed fmt at x
+  closed at finds = stores.closed here at finds
 
-  history : (at : Lookup) → at t ≡ Some tree → at x ≡ Some commit → HasHistory fmt at x
-  history at a b = pair.commit_history here at a b
+  history : (at : Lookup) → stores.Finds here at → HasHistory fmt at x
+  history at finds = stores.history here at finds
 
-  tree_over : over empty both t ≡ Some tree
-  tree_over = pair.tree_over here
+  all_reached : (y : Id) (o : Object) → get all y ≡ Some o → Reaches (Links fmt (stored all)) x y
+  all_reached y o g = stores.all_reached here (stored all) (stores.found here) y o g
 
-  commit_over : over empty both x ≡ Some commit
-  commit_over = pair.commit_over here
+  -- ---- repositories of the first clone: with the file staged, with the commit on main, and where it knows that of the shared node
 
-  all_reached : (y : Id) (o : Object) → get both y ≡ Some o → Reaches (Links fmt (stored both)) x y
-  all_reached y o g = pair.reached_both here (stored both) has_commit has_tree y o g
-
-  -- ---- repositories: with the commit on main, the same at a clone that knows it, and a clone that only knows it
+  abbrev pub staging : Repository
+  staging = record { objects = staged; refs = empty; head = empty_repository.head; index = index }
 
   abbrev pub on_main : Repository
-  on_main = record { objects = both; refs = one_ref (branch main) x; head = empty_repository.head; index = empty }
-
-  -- the objects alone, before the update
-  abbrev pub migrated : Repository
-  migrated = with_objects empty_repository both
+  on_main = record { objects = all; refs = one_ref (branch main) x; head = empty_repository.head; index = index }
 
   abbrev pub knowing : Repository
-  knowing = record { objects = both; refs = insert (one_ref (branch main) x) (tracking main) x; head = empty_repository.head; index = empty }
+  knowing = record { objects = all; refs = insert (one_ref (branch main) x) (tracking main) x; head = empty_repository.head; index = index }
+
+  -- ---- of the shared node: with the objects alone, and with main; of the second clone, once it has fetched
+
+  abbrev pub migrated : Repository
+  migrated = with_objects empty_repository all
+
+  abbrev pub served : Repository
+  served = record { objects = all; refs = one_ref (branch main) x; head = empty_repository.head; index = empty }
 
   abbrev pub fetched : Repository
-  fetched = record { objects = both; refs = one_ref (tracking main) x; head = empty_repository.head; index = empty }
+  fetched = record { objects = all; refs = one_ref (tracking main) x; head = empty_repository.head; index = empty }
 
   main_is : get on_main.refs (branch main) ≡ Some x
   main_is = insert_same nat_list_cmp_total bytes_same empty (branch main) x
@@ -139,23 +130,30 @@ module _ (here : Setting) where
   pub head_is : head_value on_main ≡ Some x
   head_is = main_is
 
-  -- ---- the first clone commits and pushes
+  -- ---- the first clone stages a file, commits and pushes
+
+  pub stages : CloneAnswers fmt wire.rules (clone empty_repository Nothing) (Commands (Stage here.path plain_file here.content)) (Did Stored) (clone staging Nothing) None
+  stages = clone_obeyed Nothing (quietly Nothing (record { objects = staged; changes = SetIndex index ∷ [] }) Stored) refl
+      (f.path_legal, (λ p e g. absurd (none_in_empty (slice_cmp nat_cmp) p e g)), f.file_formed, refl)
+      ((staged, added_first staged, refl), refl, refl) refl
 
   abbrev commit_made : Object → Deed Awaited
   commit_made o =
-      let trees = pair.trees here in
-      quietly Nothing (record { objects = with_object trees (fmt.name_of o) o; changes = head_to empty_repository.head (fmt.name_of o) ∷ [] }) (Made (fmt.name_of o))
+      quietly Nothing (record { objects = with_object (stores.trees here) (fmt.name_of o) o; changes = head_to empty_repository.head (fmt.name_of o) ∷ [] }) (Made (fmt.name_of o))
 
-  pub is_commit : commit ≡ new_commit fmt empty_repository t [] author author message
-  is_commit = f.made ∙ ap (λ (v : Option Id). record { kind = Commit; body = fmt.commit_body t (option_to_list v ++ []) author author message }) (sym (get-empty (slice_cmp nat_cmp) (branch main)))
+  abbrev pub new : Object
+  new = new_commit fmt staging t [] here.author here.author here.message
 
-  pub commits : CloneAnswers fmt wire.rules (clone empty_repository Nothing) (Commands (MakeCommit [] author author message)) (Did (Made x)) (clone on_main Nothing) None
-  commits = clone_obeyed Nothing (commit_made commit) refl
-      ((f.line, f.line), (λ m y g. absurd (none_in_empty (slice_cmp nat_cmp) m y g)), tt, ((pair.trees here, t), f.trees, made))
-      ((both, added_first both, refl), refl, refl) refl
+  pub is_new : here.commit ≡ new
+  is_new = f.made ∙ ap (λ (v : Option Id). record { kind = Commit; body = fmt.commit_body t (option_to_list v ++ []) here.author here.author here.message }) (sym (get-empty (slice_cmp nat_cmp) (branch main)))
+
+  pub commits : CloneAnswers fmt wire.rules (clone staging Nothing) (Commands (MakeCommit [] here.author here.author here.message)) (Did (Made x)) (clone on_main Nothing) None
+  commits = clone_obeyed Nothing (commit_made here.commit) refl
+      ((f.line, f.line), (λ m y g. absurd (none_in_empty (slice_cmp nat_cmp) m y g)), tt, ((stores.trees here, t), f.trees, made))
+      ((all, stores.made_added here, refl), refl, refl) refl
     where
-      made : (wire.rules.fault (new_commit fmt empty_repository t [] author author message) None) × (commit_made commit ≡ commit_made (new_commit fmt empty_repository t [] author author message))
-      made = subst (λ o. (wire.rules.fault o None) × (commit_made commit ≡ commit_made o)) is_commit (f.formed, refl)
+      made : (wire.rules.fault new None) × (commit_made here.commit ≡ commit_made new)
+      made = subst (λ o. (wire.rules.fault o None) × (commit_made here.commit ≡ commit_made o)) is_new (f.commit_formed, refl)
 
   abbrev item : PushItem
   item = record { id = Some x; name = branch main }
@@ -164,21 +162,21 @@ module _ (here : Setting) where
   command = record { old = zero_id; new = x; name = branch main }
 
   abbrev pub push : Message
-  push = Push false None (command ∷ []) both
+  push = Push false None (command ∷ []) all
 
   pub pushes : CloneAnswers fmt wire.rules (clone on_main Nothing) (Commands (StartPush false (item ∷ []))) (Did Sends) (clone on_main Nothing) (Some push)
-  pushes = clone_obeyed Nothing (sending Nothing push) refl (omega arith, items_closed, (command ∷ [], both, (refl, refl, old, tt), carried, refl)) ((both, added_none both, refl), refl, refl) refl
+  pushes = clone_obeyed Nothing (sending Nothing push) refl (omega arith, items_closed, (command ∷ [], all, (refl, refl, old, tt), carried, refl)) ((all, added_none all, refl), refl, refl) refl
     where
       one_item : (y : Id) → IsItemId (item ∷ []) y → y ≡ x
       one_item y i = ap (λ v. unwrap_or v x) (sym i.2 ∙ all_holds (λ (p : PushItem). p.id ≡ Some x) (item ∷ []) i.0 (refl, tt) i.1)
 
-      items_closed : (y : Id) → IsItemId (item ∷ []) y → IsClosed fmt (stored both) y
-      items_closed y i = subst (IsClosed fmt (stored both)) (sym (one_item y i)) (closed (stored both) has_tree has_commit)
+      items_closed : (y : Id) → IsItemId (item ∷ []) y → IsClosed fmt (stored all) y
+      items_closed y i = subst (IsClosed fmt (stored all)) (sym (one_item y i)) (closed (stored all) (stores.found here))
 
       old : IsOldOf on_main.refs (branch main) zero_id
       old = inl (main, refl, sym (ap (λ v. unwrap_or v zero_id) not_known))
 
-      carried : IsDifference fmt both (IsItemId (item ∷ [])) (IsTrackingValue on_main.refs) both
+      carried : IsDifference fmt all (IsItemId (item ∷ [])) (IsTrackingValue on_main.refs) all
       carried = record {
         only = λ y o g. (g, (x, (item, (0, omega arith, refl), refl), all_reached y o g), λ r. nothing_tracked r.0 r.1);
         all = λ y o g r not. g;
@@ -187,7 +185,7 @@ module _ (here : Setting) where
   -- ---- the push at the shared node
 
   abbrev pub p0 : OpenPush
-  p0 = opened false None (command ∷ []) both
+  p0 = opened false None (command ∷ []) all
 
   abbrev pub p1 : OpenPush
   p1 = record p0 { stage = Checked }
@@ -226,7 +224,7 @@ module _ (here : Setting) where
       p1,
       (
         record { command = command; verdict = Passing } ∷ [],
-        (refl, (f.legal, (inl (main, refl), (f.not_zero, (closed (over empty both) tree_over commit_over, ((λ _. history (over empty both) tree_over commit_over), ((λ _. inl refl), tt)))))), tt),
+        (refl, (f.legal, (inl (main, refl), (f.not_zero, (closed (over empty all) (stores.found_over here), ((λ _. history (over empty all) (stores.found_over here)), ((λ _. inl refl), tt)))))), tt),
         refl,
         refl,
         refl,
@@ -238,11 +236,11 @@ module _ (here : Setting) where
       ((empty, added_none empty, refl), refl, refl) refl
 
   pub migrates : SharedAnswers fmt wire.rules (up empty_repository l1) (StepOf 0) (Did MigratedAll) (up migrated l2) None
-  migrates = obeyed l1 (record { effect = record { objects = both; changes = [] }; left = l2; sends = None; reply = MigratedAll }) refl
+  migrates = obeyed l1 (record { effect = record { objects = all; changes = [] }; left = l2; sends = None; reply = MigratedAll }) refl
       (p1, put l0 p1, inl (p2, (refl, refl, refl), refl, refl))
-      ((both, added_first both, refl), refl, refl) refl
+      ((all, added_first all, refl), refl, refl) refl
 
-  pub updates : SharedAnswers fmt wire.rules (up migrated l2) (StepOf 0) (Did (Updated (branch main) None)) (up on_main l3) None
+  pub updates : SharedAnswers fmt wire.rules (up migrated l2) (StepOf 0) (Did (Updated (branch main) None)) (up served l3) None
   updates = obeyed l2 (record { effect = only_changes (SetRefs ((branch main, x) ∷ []) ∷ []); left = l3; sends = None; reply = Updated (branch main) None }) refl (
     p2,
     put l1 p2,
@@ -269,19 +267,19 @@ module _ (here : Setting) where
       refl,
     ),
   )
-      ((both, added_none both, refl), refl, refl) refl
+      ((all, added_none all, refl), refl, refl) refl
 
   abbrev pub report : Message
   report = Report None (record { name = branch main; outcome = Ok x } ∷ [])
 
-  pub reports : SharedAnswers fmt wire.rules (up on_main l3) (StepOf 0) (Did Sends) (up on_main l4) (Some report)
+  pub reports : SharedAnswers fmt wire.rules (up served l3) (StepOf 0) (Did Sends) (up served l4) (Some report)
   reports = obeyed l3 (record { effect = no_effect; left = l4; sends = Some report; reply = Sends }) refl
       (p3, put l2 p3, inr (record { name = branch main; outcome = Ok x } ∷ [], refl, ((refl, inl (refl, refl)), tt), refl))
-      ((both, added_none both, refl), refl, refl) refl
+      ((all, added_none all, refl), refl, refl) refl
 
   -- ---- tracking refs move
 
-  moves : (refs : Refs) → ((m : RefName) (v : Id) → get refs m ≡ Some v → m ≡ branch main) → get refs (tracking main) ≡ None → MovesBranch fmt (stored both) refs (branch main) x (tracking main)
+  moves : (refs : Refs) → ((m : RefName) (v : Id) → get refs m ≡ Some v → m ≡ branch main) → get refs (tracking main) ≡ None → MovesBranch fmt (stored all) refs (branch main) x (tracking main)
   moves refs alone none = record {
     name = main;
     branch_is = refl;
@@ -289,89 +287,89 @@ module _ (here : Setting) where
     legal = f.legal;
     fits = f.fits;
     free = λ m v g c. no_conflict main main (subst (λ n. Conflicts n (tracking main)) (alone m v g) c);
-    good = (closed (stored both) has_tree has_commit, history (stored both) has_tree has_commit);
+    good = (closed (stored all) (stores.found here), history (stored all) (stores.found here));
     forward = inl none;
   }
 
   pub tracks : CloneAnswers fmt wire.rules (clone on_main Nothing) (Receive report) (Did (Reported 1 [])) (clone knowing Nothing) None
   tracks = clone_obeyed Nothing (quietly Nothing (only_changes (SetRefs ((tracking main, x) ∷ []) ∷ [])) (Reported 1 [])) refl
       (SetRefs ((tracking main, x) ∷ []) ∷ [], inl (tracking main, [], moves on_main.refs (λ m v g. (one_alone (branch main) x m v g).0) not_known, refl, refl), refl)
-      ((both, added_none both, refl), refl, refl) refl
+      ((all, added_none all, refl), refl, refl) refl
 
   -- ---- the shared node fails, and restarts
 
   abbrev pub down : SharedNode
-  down = record { repository = on_main; live = None }
+  down = record { repository = served; live = None }
 
-  pub fails : SharedAnswers fmt wire.rules (up on_main l4) (Accept push) (Fault Device) down None
+  pub fails : SharedAnswers fmt wire.rules (up served l4) (Accept push) (Fault Device) down None
   fails = faulted l4 Device refl (λ e. absurd (cc)) refl refl refl
 
-  pub restarts : SharedAnswers fmt wire.rules down Open (Did Stored) (up on_main empty) None
+  pub restarts : SharedAnswers fmt wire.rules down Open (Did Stored) (up served empty) None
   restarts = restarted refl (refl, refl) refl
 
   -- ---- the second clone fetches
 
   abbrev pub advert : Message
-  advert = Advert (head_value on_main) on_main.refs
+  advert = Advert (head_value served) served.refs
 
   abbrev pub want : Message
   want = Want (x ∷ []) (haves_of empty_repository)
 
   abbrev pub pack : Message
-  pack = Pack None both
+  pack = Pack None all
 
   pub asks : CloneAnswers fmt wire.rules (clone empty_repository Nothing) (Commands StartFetch) (Did Sends) (clone empty_repository AnAdvert) (Some ListRefs)
   asks = clone_obeyed Nothing (sending AnAdvert ListRefs) refl refl ((empty, added_none empty, refl), refl, refl) refl
 
-  pub lists : SharedAnswers fmt wire.rules (up on_main empty) (Accept ListRefs) (Did Sends) (up on_main empty) (Some advert)
-  lists = obeyed empty (record { effect = no_effect; left = empty; sends = Some advert; reply = Sends }) refl refl ((both, added_none both, refl), refl, refl) refl
+  pub lists : SharedAnswers fmt wire.rules (up served empty) (Accept ListRefs) (Did Sends) (up served empty) (Some advert)
+  lists = obeyed empty (record { effect = no_effect; left = empty; sends = Some advert; reply = Sends }) refl refl ((all, added_none all, refl), refl, refl) refl
 
   not_closed : ¬ IsClosed fmt (stored empty) x
   not_closed c = let there = c.there x ([], refl) in none_in_empty (slice_cmp nat_cmp) x there.0 there.1
 
-  pub wants : CloneAnswers fmt wire.rules (clone empty_repository AnAdvert) (Receive advert) (Did Sends) (clone empty_repository (APack (x ∷ []) on_main.refs)) (Some want)
-  wants = clone_obeyed AnAdvert (sending (APack (x ∷ []) on_main.refs) want) refl (refl, x ∷ [], open_ids, inl (some, refl)) ((empty, added_none empty, refl), refl, refl) refl
+  pub wants : CloneAnswers fmt wire.rules (clone empty_repository AnAdvert) (Receive advert) (Did Sends) (clone empty_repository (APack (x ∷ []) served.refs)) (Some want)
+  wants = clone_obeyed AnAdvert (sending (APack (x ∷ []) served.refs) want) refl (refl, x ∷ [], open_ids, inl (some, refl)) ((empty, added_none empty, refl), refl, refl) refl
     where
       some : x ∷ [] ≢ []
       some e = absurd (cc)
 
-      open_ids : AreOpen fmt (stored empty) [] (entries on_main.refs) (x ∷ [])
+      open_ids : AreOpen fmt (stored empty) [] (entries served.refs) (x ∷ [])
       open_ids = subst (λ es. AreOpen fmt (stored empty) [] es (x ∷ [])) (sym (entries_of_one (branch main) x)) (inr (not_closed, in_none x, [], refl, refl))
 
-  is_ours : IsOurs fmt on_main x
+  is_ours : IsOurs fmt served x
   is_ours = (x, (branch main, main_is), ([], refl))
 
   no_have : (y : Id) → Contains (haves_of empty_repository) y → ⊥
   no_have y c = in_none y (subst (λ ys. Contains ys y) no_haves c)
 
-  pub packs : SharedAnswers fmt wire.rules (up on_main empty) (Accept want) (Did Sends) (up on_main empty) (Some pack)
+  pub packs : SharedAnswers fmt wire.rules (up served empty) (Accept want) (Did Sends) (up served empty) (Some pack)
   packs = obeyed empty (record { effect = no_effect; left = empty; sends = Some pack; reply = Sends }) refl
-      ((is_ours, tt), (None, both, subst (λ hs. IsFirstCounted fmt on_main hs None) (sym no_haves) refl, packed, refl))
-      ((both, added_none both, refl), refl, refl) refl
+      ((is_ours, tt), (None, all, subst (λ hs. IsFirstCounted fmt served hs None) (sym no_haves) refl, packed, refl))
+      ((all, added_none all, refl), refl, refl) refl
     where
-      packed : IsDifference fmt both (Contains (x ∷ [])) (λ h. Contains (haves_of empty_repository) h × IsOurs fmt on_main h) both
+      packed : IsDifference fmt all (Contains (x ∷ [])) (λ h. Contains (haves_of empty_repository) h × IsOurs fmt served h) all
       packed = record {
         only = λ y o g. (g, (x, (0, omega arith, refl), all_reached y o g), λ r. no_have r.0 r.1.0);
         all = λ y o g r not. g;
       }
 
   abbrev at : Lookup
-  at = over empty both
+  at = over empty all
 
-  pub takes : CloneAnswers fmt wire.rules (clone empty_repository (APack (x ∷ []) on_main.refs)) (Receive pack) (Did (Moved 1 0)) (clone fetched Nothing) None
-  takes = clone_obeyed (APack (x ∷ []) on_main.refs) (quietly Nothing (record { objects = both; changes = SetRefs ((tracking main, x) ∷ []) ∷ [] }) (Moved 1 0)) refl
-      (x ∷ [], on_main.refs, refl, wanted, moved)
-      ((both, added_first both, refl), refl, refl) refl
+  pub takes : CloneAnswers fmt wire.rules (clone empty_repository (APack (x ∷ []) served.refs)) (Receive pack) (Did (Moved 1 0)) (clone fetched Nothing) None
+  takes = clone_obeyed (APack (x ∷ []) served.refs) (quietly Nothing (record { objects = all; changes = SetRefs ((tracking main, x) ∷ []) ∷ [] }) (Moved 1 0)) refl
+      (x ∷ [], served.refs, refl, wanted, moved)
+      ((all, added_first all, refl), refl, refl) refl
     where
       wanted : (y : Id) → Contains (x ∷ []) y → IsClosed fmt at y
-      wanted y c = subst (IsClosed fmt at) (sym (in_one x y c)) (closed at tree_over commit_over)
+      wanted y c = subst (IsClosed fmt at) (sym (in_one x y c)) (closed at (stores.found_over here))
 
-      moved : MovesToAdvert fmt empty_repository at on_main.refs both (quietly Nothing (record { objects = both; changes = SetRefs ((tracking main, x) ∷ []) ∷ [] }) (Moved 1 0))
+      moved : MovesToAdvert fmt empty_repository at served.refs all (quietly Nothing (record { objects = all; changes = SetRefs ((tracking main, x) ∷ []) ∷ [] }) (Moved 1 0))
       moved = record {
         changes = SetRefs ((tracking main, x) ∷ []) ∷ [];
         open_ids = [];
         moves = subst (λ es. Moves (MovesAny fmt at) empty es (SetRefs ((tracking main, x) ∷ []) ∷ [])) (sym (entries_of_one (branch main) x)) (inl (tracking main, [], inl to_main, refl, refl));
-        rest = subst (λ es. AreOpen fmt at [] es []) (sym (entries_of_one (branch main) x)) (inl (inl (closed at tree_over commit_over), refl));
+        rest = subst (λ es. AreOpen fmt at [] es []) (sym (entries_of_one (branch main) x)) (inl (inl (closed at (stores.found_over here)), refl));
         deed = refl;
       }
         where
@@ -383,6 +381,6 @@ module _ (here : Setting) where
             legal = f.legal;
             fits = f.fits;
             free = λ m v g. absurd (none_in_empty (slice_cmp nat_cmp) m v g);
-            good = (closed at tree_over commit_over, history at tree_over commit_over);
+            good = (closed at (stores.found_over here), history at (stores.found_over here));
             forward = inl (get-empty (slice_cmp nat_cmp) (tracking main));
           }

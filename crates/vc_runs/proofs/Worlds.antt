@@ -1,10 +1,10 @@
 -- The worlds of the run, and that each event leads from one to the next.
-use Rattle.std.proofs.Common.{slice_get, ◌≡◌, ◌≢◌, ℕ, Bool, true, false, cond, List, [], ◌∷◌, Option, Some, None, Ok, inl, inr, refl, sym, ap, ◌∙◌, subst, nat_cmp, arith, unwrap_or}
+use Rattle.std.proofs.Common.{slice_get, ◌≡◌, ◌≢◌, ℕ, Bool, true, false, cond, [], ◌∷◌, Option, Some, None, Ok, inl, inr, refl, sym, ap, ◌∙◌, subst, nat_cmp, arith, unwrap_or}
 use Rattle.std.specs.Prelude.{codes}
 use Rattle.std.specs.FinMap.{FinMap, get, insert, remove, empty, get-remove, nat_cmp-IsAntisymmetric}
 use Rattle.std.specs.Ordering.{eq_by_cmp}
 use Rattle.std.specs.Cmp.{nat_cmp_total}
-use Rattle.vc_model.specs.Object.{Id, Object, Format}
+use Rattle.vc_model.specs.Object.{Id, Format}
 use Rattle.vc_model.specs.Refs.{branch}
 use Rattle.vc_model.specs.Repository.{Repository}
 use Rattle.vc_model.specs.Message.{Message}
@@ -17,13 +17,13 @@ use Rattle.vc_model.specs.Node.Reply.{Stored, Made, Sends, Opened, Passed, Migra
 use Rattle.vc_model.specs.Shared.{SharedNode}
 use Rattle.vc_model.specs.Clone.{CloneNode, Task}
 use Rattle.vc_model.specs.Clone.Awaited.{Nothing, AnAdvert, APack}
-use Rattle.vc_model.specs.Clone.Task.{MakeCommit, StartPush, StartFetch}
+use Rattle.vc_model.specs.Clone.Task.{Stage, MakeCommit, StartPush, StartFetch}
 use Rattle.vc_model.specs.CloneCall.{CloneAnswers}
 use Rattle.vc_model.specs.CloneCall.CloneCall.{Command as Commands, Receive}
 use Rattle.vc_model.specs.SharedCall.{SharedAnswers}
 use Rattle.vc_model.specs.SharedCall.SharedCall.{Accept, StepOf, Open}
 use Rattle.vc_model.specs.Order.{Order, IsTaskOf}
-use Rattle.vc_model.specs.Order.Order.{CommitIndex, PushItems, Fetch}
+use Rattle.vc_model.specs.Order.Order.{StageFile, CommitIndex, PushItems, Fetch}
 use Rattle.vc_model.specs.Fuse.{Fuse, Fuses, Place, Burns, DiffersAt, with_fuse}
 use Rattle.vc_model.specs.World.{empty_repository, after_shared, after_clone}
 use Rattle.vc_model.specs.World.Party.{TheShared}
@@ -32,8 +32,10 @@ use Rattle.vc_model.specs.ExactWorld.{FusedWorld, WorldEvent, ExactMoment, Exact
 use Rattle.vc_model.specs.ExactWorld.WorldEvent.{Orders, Delivers, Steps, Restarts, Stops}
 use Rattle.vc_model.specs.ExactWorld.WorldAnswers.{stop_shared, at_shared, at_clone}
 use Rattle.vc_model.proofs.Maps.{insert_same, insert_other}
+use Rattle.vc_runs.specs.Names.{plain_file}
 use Rattle.vc_runs.specs.Witness.{main}
-use Rattle.vc_runs.proofs.Pair.{Facts, Setting, in_none}
+use Rattle.vc_runs.proofs.Graphs.{in_none}
+use Rattle.vc_runs.proofs.Stores.{Facts, Setting}
 use Rattle.vc_runs.proofs.Steps.{clone, up}
 use Rattle.vc_runs.proofs.Steps as steps
 
@@ -86,23 +88,17 @@ module _ (here : Setting) where
   abbrev wire : Wire fmt
   wire = here.wire
 
-  abbrev tree : Object
-  tree = here.tree
-
-  abbrev commit : Object
-  commit = here.commit
-
-  abbrev author : List ℕ
-  author = here.author
-
-  abbrev message : List ℕ
-  message = here.message
-
-  abbrev f : Facts fmt wire tree commit author message
+  abbrev f : Facts fmt wire here.path here.content here.tree here.commit here.author here.message
   f = here.facts
 
   abbrev x : Id
-  x = fmt.name_of commit
+  x = fmt.name_of here.commit
+
+  abbrev staging : Repository
+  staging = steps.staging here
+
+  abbrev served : Repository
+  served = steps.served here
 
   abbrev on_main : Repository
   on_main = steps.on_main here
@@ -171,78 +167,82 @@ module _ (here : Setting) where
     w0 = record { world = record { shared = up empty_repository empty; clones = clones; sent = []; senders = start.senders }; frail = start.frail; shared_fuse = None; clone_fuses = fuses }
 
     abbrev pub w1 : FusedWorld
-    w1 = by_clone w0 0 (clone on_main Nothing) None
+    w1 = by_clone w0 0 (clone staging Nothing) None
 
     abbrev pub w2 : FusedWorld
-    w2 = by_clone w1 0 (clone on_main Nothing) (Some push)
+    w2 = by_clone w1 0 (clone on_main Nothing) None
 
     abbrev pub w3 : FusedWorld
-    w3 = by_shared w2 0 (Did (Opened 0)) (up empty_repository (steps.l0 here)) None None
+    w3 = by_clone w2 0 (clone on_main Nothing) (Some push)
 
     abbrev pub w4 : FusedWorld
-    w4 = by_shared w3 0 (Did (Passed 1)) (up empty_repository (steps.l1 here)) None None
+    w4 = by_shared w3 0 (Did (Opened 0)) (up empty_repository (steps.l0 here)) None None
 
     abbrev pub w5 : FusedWorld
-    w5 = by_shared w4 0 (Did MigratedAll) (up (steps.migrated here) (steps.l2 here)) None None
+    w5 = by_shared w4 0 (Did (Passed 1)) (up empty_repository (steps.l1 here)) None None
 
     abbrev pub w6 : FusedWorld
-    w6 = by_shared w5 0 (Did (Updated (branch main) None)) (up on_main (steps.l3 here)) None None
+    w6 = by_shared w5 0 (Did MigratedAll) (up (steps.migrated here) (steps.l2 here)) None None
 
     abbrev pub w7 : FusedWorld
-    w7 = by_shared w6 0 (Did Sends) (up on_main (steps.l4 here)) (Some report) None
+    w7 = by_shared w6 0 (Did (Updated (branch main) None)) (up served (steps.l3 here)) None None
 
     abbrev pub w8 : FusedWorld
-    w8 = by_clone w7 0 (clone knowing Nothing) None
+    w8 = by_shared w7 0 (Did Sends) (up served (steps.l4 here)) (Some report) None
 
     abbrev pub w9 : FusedWorld
-    w9 = with_stop w8 0
+    w9 = by_clone w8 0 (clone knowing Nothing) None
 
     abbrev pub w10 : FusedWorld
-    w10 = by_shared w9 0 (Fault Device) (steps.down here) None (Some 0)
+    w10 = with_stop w9 0
 
     abbrev pub w11 : FusedWorld
-    w11 = by_shared w10 0 (Did Stored) (up on_main empty) None None
+    w11 = by_shared w10 0 (Fault Device) (steps.down here) None (Some 0)
 
     abbrev pub w12 : FusedWorld
-    w12 = by_clone w11 1 (clone empty_repository AnAdvert) (Some ListRefs)
+    w12 = by_shared w11 0 (Did Stored) (up served empty) None None
 
     abbrev pub w13 : FusedWorld
-    w13 = by_shared w12 1 (Did Sends) (up on_main empty) (Some advert) None
+    w13 = by_clone w12 1 (clone empty_repository AnAdvert) (Some ListRefs)
 
     abbrev pub w14 : FusedWorld
-    w14 = by_clone w13 1 (clone empty_repository (APack (x ∷ []) on_main.refs)) (Some want)
+    w14 = by_shared w13 1 (Did Sends) (up served empty) (Some advert) None
 
     abbrev pub w15 : FusedWorld
-    w15 = by_shared w14 1 (Did Sends) (up on_main empty) (Some pack) None
+    w15 = by_clone w14 1 (clone empty_repository (APack (x ∷ []) served.refs)) (Some want)
 
     abbrev pub w16 : FusedWorld
-    w16 = by_clone w15 1 (clone fetched Nothing) None
+    w16 = by_shared w15 1 (Did Sends) (up served empty) (Some pack) None
+
+    abbrev pub w17 : FusedWorld
+    w17 = by_clone w16 1 (clone fetched Nothing) None
 
     abbrev then_ : WorldEvent → Answer → FusedWorld → ExactMoment
     then_ e a w = record { event = e; answer = a; world = w }
 
     abbrev pub history : ExactHistory
     history =
-        then_ (Delivers 5) (Did (Moved 1 0)) w16
-        ∷ then_ (Delivers 4) (Did Sends) w15
-        ∷ then_ (Delivers 3) (Did Sends) w14
-        ∷ then_ (Delivers 2) (Did Sends) w13
-        ∷ then_ (Orders 1 Fetch) (Did Sends) w12
-        ∷ then_ (Restarts TheShared) (Did Stored) w11
-        ∷ then_ (Delivers 0) (Fault Device) w10
-        ∷ then_ (Stops TheShared 0) (Did Stored) w9
-        ∷ then_ (Delivers 1) (Did (Reported 1 [])) w8
-        ∷ then_ (Steps 0) (Did Sends) w7
-        ∷ then_ (Steps 0) (Did (Updated (branch main) None)) w6
-        ∷ then_ (Steps 0) (Did MigratedAll) w5
-        ∷ then_ (Steps 0) (Did (Passed 1)) w4
-        ∷ then_ (Delivers 0) (Did (Opened 0)) w3
-        ∷ then_ (Orders 0 (PushItems false (record { value = Some (codes "HEAD"); name = branch main } ∷ []))) (Did Sends) w2
-        ∷ then_ (Orders 0 (CommitIndex [] author author message)) (Did (Made x)) w1
+        then_ (Delivers 5) (Did (Moved 1 0)) w17
+        ∷ then_ (Delivers 4) (Did Sends) w16
+        ∷ then_ (Delivers 3) (Did Sends) w15
+        ∷ then_ (Delivers 2) (Did Sends) w14
+        ∷ then_ (Orders 1 Fetch) (Did Sends) w13
+        ∷ then_ (Restarts TheShared) (Did Stored) w12
+        ∷ then_ (Delivers 0) (Fault Device) w11
+        ∷ then_ (Stops TheShared 0) (Did Stored) w10
+        ∷ then_ (Delivers 1) (Did (Reported 1 [])) w9
+        ∷ then_ (Steps 0) (Did Sends) w8
+        ∷ then_ (Steps 0) (Did (Updated (branch main) None)) w7
+        ∷ then_ (Steps 0) (Did MigratedAll) w6
+        ∷ then_ (Steps 0) (Did (Passed 1)) w5
+        ∷ then_ (Delivers 0) (Did (Opened 0)) w4
+        ∷ then_ (Orders 0 (PushItems false (record { value = Some (codes "HEAD"); name = branch main } ∷ []))) (Did Sends) w3
+        ∷ then_ (Orders 0 (CommitIndex [] here.author here.author here.message)) (Did (Made x)) w2
+        ∷ then_ (Orders 0 (StageFile here.path plain_file here.content)) (Did Stored) w1
         ∷ []
 
     pub honest : NothingForgedExactly fmt wire history
-    honest = (tt, (tt, (tt, (tt, (tt, (tt, (tt, (tt, (tt, (tt, (tt, (tt, (tt, (tt, (tt, (tt, tt))))))))))))))))
+    honest = (tt, (tt, (tt, (tt, (tt, (tt, (tt, (tt, (tt, (tt, (tt, (tt, (tt, (tt, (tt, (tt, (tt, tt)))))))))))))))))
 
     -- clones 0 and 1 are new, and have no fuse
     module _ (first : get clones 0 ≡ Some (clone empty_repository Nothing)) (second : get clones 1 ≡ Some (clone empty_repository Nothing)) (no_first : get fuses 0 ≡ None) (no_second : get fuses 1 ≡ None) where
@@ -261,74 +261,89 @@ module _ (here : Setting) where
       some : {A : Type 0} (a : A) → Some a ≢ None
       some a e = absurd (cc)
 
-      e1 : WorldAnswers fmt wire w0 (Orders 0 (CommitIndex [] author author message)) (Did (Made x)) w1
-      e1 = ordered w0 0 (clone empty_repository Nothing) (clone on_main Nothing) (CommitIndex [] author author message) (MakeCommit [] author author message) (Made x) None first no_first (some Nothing)
-          (Ok [], refl, refl) (steps.commits here)
+      -- the first clone has no fuse after each of its answers
+      no_fuse_1 : get w1.clone_fuses 0 ≡ None
+      no_fuse_1 = still_none fuses 0 0 no_first
 
-      e2 : WorldAnswers fmt wire w1 (Orders 0 (PushItems false (record { value = Some (codes "HEAD"); name = branch main } ∷ []))) (Did Sends) w2
-      e2 = ordered w1 0 (clone on_main Nothing) (clone on_main Nothing) (PushItems false (record { value = Some (codes "HEAD"); name = branch main } ∷ []))
-          (StartPush false (record { id = Some x; name = branch main } ∷ [])) Sends (Some push) (set 0 clones (clone on_main Nothing)) (still_none fuses 0 0 no_first) (some Nothing)
+      no_fuse_2 : get w2.clone_fuses 0 ≡ None
+      no_fuse_2 = still_none w1.clone_fuses 0 0 no_fuse_1
+
+      no_fuse_3 : get w3.clone_fuses 0 ≡ None
+      no_fuse_3 = still_none w2.clone_fuses 0 0 no_fuse_2
+
+      e1 : WorldAnswers fmt wire w0 (Orders 0 (StageFile here.path plain_file here.content)) (Did Stored) w1
+      e1 = ordered w0 0 (clone empty_repository Nothing) (clone staging Nothing) (StageFile here.path plain_file here.content) (Stage here.path plain_file here.content) Stored None first no_first (some Nothing)
+          refl (steps.stages here)
+
+      e2 : WorldAnswers fmt wire w1 (Orders 0 (CommitIndex [] here.author here.author here.message)) (Did (Made x)) w2
+      e2 = ordered w1 0 (clone staging Nothing) (clone on_main Nothing) (CommitIndex [] here.author here.author here.message) (MakeCommit [] here.author here.author here.message) (Made x) None
+          (set 0 clones (clone staging Nothing)) no_fuse_1 (some Nothing) (Ok [], refl, refl) (steps.commits here)
+
+      e3 : WorldAnswers fmt wire w2 (Orders 0 (PushItems false (record { value = Some (codes "HEAD"); name = branch main } ∷ []))) (Did Sends) w3
+      e3 = ordered w2 0 (clone on_main Nothing) (clone on_main Nothing) (PushItems false (record { value = Some (codes "HEAD"); name = branch main } ∷ []))
+          (StartPush false (record { id = Some x; name = branch main } ∷ [])) Sends (Some push) (set 0 w1.world.clones (clone on_main Nothing)) no_fuse_2 (some Nothing)
           (Ok (record { id = Some x; name = branch main } ∷ []), inr (codes "HEAD", refl, inr (x, Ok [], f.head on_main (steps.head_is here), refl, refl)), refl)
           (steps.pushes here)
 
-      e3 : WorldAnswers fmt wire w2 (Delivers 0) (Did (Opened 0)) w3
-      e3 = accepted w2 0 (up empty_repository (steps.l0 here)) 0 push (Opened 0) None refl refl (steps.opens here)
+      e4 : WorldAnswers fmt wire w3 (Delivers 0) (Did (Opened 0)) w4
+      e4 = accepted w3 0 (up empty_repository (steps.l0 here)) 0 push (Opened 0) None refl refl (steps.opens here)
 
-      e4 : WorldAnswers fmt wire w3 (Steps 0) (Did (Passed 1)) w4
-      e4 = stepped w3 0 (up empty_repository (steps.l1 here)) 0 (Passed 1) None refl sender (steps.checks here)
+      e5 : WorldAnswers fmt wire w4 (Steps 0) (Did (Passed 1)) w5
+      e5 = stepped w4 0 (up empty_repository (steps.l1 here)) 0 (Passed 1) None refl sender (steps.checks here)
 
-      e5 : WorldAnswers fmt wire w4 (Steps 0) (Did MigratedAll) w5
-      e5 = stepped w4 0 (up (steps.migrated here) (steps.l2 here)) 0 MigratedAll None refl sender (steps.migrates here)
+      e6 : WorldAnswers fmt wire w5 (Steps 0) (Did MigratedAll) w6
+      e6 = stepped w5 0 (up (steps.migrated here) (steps.l2 here)) 0 MigratedAll None refl sender (steps.migrates here)
 
-      e6 : WorldAnswers fmt wire w5 (Steps 0) (Did (Updated (branch main) None)) w6
-      e6 = stepped w5 0 (up on_main (steps.l3 here)) 0 (Updated (branch main) None) None refl sender (steps.updates here)
+      e7 : WorldAnswers fmt wire w6 (Steps 0) (Did (Updated (branch main) None)) w7
+      e7 = stepped w6 0 (up served (steps.l3 here)) 0 (Updated (branch main) None) None refl sender (steps.updates here)
 
-      e7 : WorldAnswers fmt wire w6 (Steps 0) (Did Sends) w7
-      e7 = stepped w6 0 (up on_main (steps.l4 here)) 0 Sends (Some report) refl sender (steps.reports here)
+      e8 : WorldAnswers fmt wire w7 (Steps 0) (Did Sends) w8
+      e8 = stepped w7 0 (up served (steps.l4 here)) 0 Sends (Some report) refl sender (steps.reports here)
 
-      e8 : WorldAnswers fmt wire w7 (Delivers 1) (Did (Reported 1 [])) w8
-      e8 = received w7 0 (clone on_main Nothing) (clone knowing Nothing) 1 report (Reported 1 []) None (set 0 (insert clones 0 (clone on_main Nothing)) (clone on_main Nothing))
-          (still_none (remove fuses 0) 0 0 (still_none fuses 0 0 no_first)) refl (steps.tracks here)
+      e9 : WorldAnswers fmt wire w8 (Delivers 1) (Did (Reported 1 [])) w9
+      e9 = received w8 0 (clone on_main Nothing) (clone knowing Nothing) 1 report (Reported 1 []) None (set 0 w2.world.clones (clone on_main Nothing))
+          no_fuse_3 refl (steps.tracks here)
 
-      e9 : WorldAnswers fmt wire w8 (Stops TheShared 0) (Did Stored) w9
-      e9 = stop_shared 0 (Some 0) refl (inl refl) refl refl
+      e10 : WorldAnswers fmt wire w9 (Stops TheShared 0) (Did Stored) w10
+      e10 = stop_shared 0 (Some 0) refl (inl refl) refl refl
 
-      e10 : WorldAnswers fmt wire w9 (Delivers 0) (Fault Device) w10
-      e10 = at_shared 0 (Accept push) (steps.down here) None (Some 0) (push, refl, refl) (steps.fails here)
-          (burnt start.frail (MayShared fmt w9.world.shared (Accept push)) (TogetherAt w9.world.shared (Accept push)) on_main (steps.l4 here, refl, tt)) refl
+      e11 : WorldAnswers fmt wire w10 (Delivers 0) (Fault Device) w11
+      e11 = at_shared 0 (Accept push) (steps.down here) None (Some 0) (push, refl, refl) (steps.fails here)
+          (burnt start.frail (MayShared fmt w10.world.shared (Accept push)) (TogetherAt w10.world.shared (Accept push)) served (steps.l4 here, refl, tt)) refl
 
-      e11 : WorldAnswers fmt wire w10 (Restarts TheShared) (Did Stored) w11
-      e11 = at_shared 0 Open (up on_main empty) None None (refl, refl) (steps.restarts here)
-          (quiet start.frail None refl (MayShared fmt w10.world.shared Open) (TogetherAt w10.world.shared Open) on_main on_main Stored) refl
+      e12 : WorldAnswers fmt wire w11 (Restarts TheShared) (Did Stored) w12
+      e12 = at_shared 0 Open (up served empty) None None (refl, refl) (steps.restarts here)
+          (quiet start.frail None refl (MayShared fmt w11.world.shared Open) (TogetherAt w11.world.shared Open) served served Stored) refl
 
-      second_kept : get w11.world.clones 1 ≡ Some (clone empty_repository Nothing)
-      second_kept = kept w7.world.clones (clone knowing Nothing) _ (kept w1.world.clones (clone on_main Nothing) _ (kept clones (clone on_main Nothing) _ second))
+      second_kept : get w12.world.clones 1 ≡ Some (clone empty_repository Nothing)
+      second_kept =
+          kept w8.world.clones (clone knowing Nothing) _ (kept w2.world.clones (clone on_main Nothing) _ (kept w1.world.clones (clone on_main Nothing) _ (kept clones (clone staging Nothing) _ second)))
 
-      none_kept : get w11.clone_fuses 1 ≡ None
-      none_kept = still_none w7.clone_fuses 0 1 (still_none w1.clone_fuses 0 1 (still_none fuses 0 1 no_second))
+      none_kept : get w12.clone_fuses 1 ≡ None
+      none_kept = still_none w8.clone_fuses 0 1 (still_none w2.clone_fuses 0 1 (still_none w1.clone_fuses 0 1 (still_none fuses 0 1 no_second)))
 
-      e12 : WorldAnswers fmt wire w11 (Orders 1 Fetch) (Did Sends) w12
-      e12 = ordered w11 1 (clone empty_repository Nothing) (clone empty_repository AnAdvert) Fetch StartFetch Sends (Some ListRefs) second_kept none_kept (some Nothing) refl (steps.asks here)
+      e13 : WorldAnswers fmt wire w12 (Orders 1 Fetch) (Did Sends) w13
+      e13 = ordered w12 1 (clone empty_repository Nothing) (clone empty_repository AnAdvert) Fetch StartFetch Sends (Some ListRefs) second_kept none_kept (some Nothing) refl (steps.asks here)
 
-      e13 : WorldAnswers fmt wire w12 (Delivers 2) (Did Sends) w13
-      e13 = accepted w12 1 (up on_main empty) 2 ListRefs Sends (Some advert) refl refl (steps.lists here)
+      e14 : WorldAnswers fmt wire w13 (Delivers 2) (Did Sends) w14
+      e14 = accepted w13 1 (up served empty) 2 ListRefs Sends (Some advert) refl refl (steps.lists here)
 
-      e14 : WorldAnswers fmt wire w13 (Delivers 3) (Did Sends) w14
-      e14 = received w13 1 (clone empty_repository AnAdvert) (clone empty_repository (APack (x ∷ []) on_main.refs)) 3 advert Sends (Some want) (set 1 w11.world.clones (clone empty_repository AnAdvert))
-          (still_none w11.clone_fuses 1 1 none_kept) refl (steps.wants here)
+      e15 : WorldAnswers fmt wire w14 (Delivers 3) (Did Sends) w15
+      e15 = received w14 1 (clone empty_repository AnAdvert) (clone empty_repository (APack (x ∷ []) served.refs)) 3 advert Sends (Some want) (set 1 w12.world.clones (clone empty_repository AnAdvert))
+          (still_none w12.clone_fuses 1 1 none_kept) refl (steps.wants here)
 
-      e15 : WorldAnswers fmt wire w14 (Delivers 4) (Did Sends) w15
-      e15 = accepted w14 1 (up on_main empty) 4 want Sends (Some pack) refl refl (steps.packs here)
+      e16 : WorldAnswers fmt wire w15 (Delivers 4) (Did Sends) w16
+      e16 = accepted w15 1 (up served empty) 4 want Sends (Some pack) refl refl (steps.packs here)
 
-      e16 : WorldAnswers fmt wire w15 (Delivers 5) (Did (Moved 1 0)) w16
-      e16 = received w15 1 (clone empty_repository (APack (x ∷ []) on_main.refs)) (clone fetched Nothing) 5 pack (Moved 1 0) None (set 1 w12.world.clones (clone empty_repository (APack (x ∷ []) on_main.refs)))
-          (still_none w12.clone_fuses 1 1 (still_none w11.clone_fuses 1 1 none_kept)) refl (steps.takes here)
+      e17 : WorldAnswers fmt wire w16 (Delivers 5) (Did (Moved 1 0)) w17
+      e17 = received w16 1 (clone empty_repository (APack (x ∷ []) served.refs)) (clone fetched Nothing) 5 pack (Moved 1 0) None (set 1 w13.world.clones (clone empty_repository (APack (x ∷ []) served.refs)))
+          (still_none w13.clone_fuses 1 1 (still_none w12.clone_fuses 1 1 none_kept)) refl (steps.takes here)
 
       pub is_run : ExactRun fmt wire w0 history
-      is_run = (e16, (e15, (e14, (e13, (e12, (e11, (e10, (e9, (e8, (e7, (e6, (e5, (e4, (e3, (e2, (e1, tt))))))))))))))))
+      is_run = (e17, (e16, (e15, (e14, (e13, (e12, (e11, (e10, (e9, (e8, (e7, (e6, (e5, (e4, (e3, (e2, (e1, tt)))))))))))))))))
 
-      pub first_clone : get w16.world.clones 0 ≡ Some (clone knowing Nothing)
-      first_clone = kept_first w14.world.clones (clone fetched Nothing) _ (kept_first w12.world.clones _ _ (kept_first w11.world.clones _ _ (set 0 w7.world.clones (clone knowing Nothing))))
+      pub first_clone : get w17.world.clones 0 ≡ Some (clone knowing Nothing)
+      first_clone = kept_first w15.world.clones (clone fetched Nothing) _ (kept_first w13.world.clones _ _ (kept_first w12.world.clones _ _ (set 0 w8.world.clones (clone knowing Nothing))))
 
-      pub second_clone : get w16.world.clones 1 ≡ Some (clone fetched Nothing)
-      second_clone = set 1 w14.world.clones (clone fetched Nothing)
+      pub second_clone : get w17.world.clones 1 ≡ Some (clone fetched Nothing)
+      second_clone = set 1 w15.world.clones (clone fetched Nothing)

@@ -1,4 +1,4 @@
--- A run of the exact relation at Git's format, event by event with its answers: a clone commits and pushes, the shared node stops, fails
+-- A run of the exact relation at Git's format, event by event with its answers: a clone commits a file and pushes, the shared node stops, fails
 -- at a write and restarts, and another clone fetches.
 use Rattle.std.specs.Prelude.{◌≡◌, ◌≤◌, ℕ, false, List, [], ◌∷◌, map, reverse, Some, None, codes}
 use Rattle.vc_model.specs.Object.{Id}
@@ -7,7 +7,7 @@ use Rattle.vc_model.specs.Node.{Answer}
 use Rattle.vc_model.specs.Node.Answer.{Did, Fault}
 use Rattle.vc_model.specs.Node.Failure.{Device}
 use Rattle.vc_model.specs.Node.Reply.{Stored, Made, Sends, Opened, Passed, MigratedAll, Updated, Reported, Moved}
-use Rattle.vc_model.specs.Order.Order.{CommitIndex, PushItems, Fetch}
+use Rattle.vc_model.specs.Order.Order.{StageFile, CommitIndex, PushItems, Fetch}
 use Rattle.vc_model.specs.Safe.{branch_value, tracking_value}
 use Rattle.vc_model.specs.World.{IsNew}
 use Rattle.vc_model.specs.World.Party.{TheShared}
@@ -16,7 +16,7 @@ use Rattle.vc_model.specs.Exact.{IsUnfused}
 use Rattle.vc_model.specs.ExactWorld.{FusedWorld, WorldEvent, ExactMoment, ExactHistory, fused_after, ExactRun, NoExactCollision, NothingForgedExactly}
 use Rattle.vc_model.specs.ExactWorld.WorldEvent.{Orders, Delivers, Steps, Restarts, Stops}
 use Rattle.vc_rules.specs.Git.{git}
-use Rattle.vc_runs.specs.Names.{author, message, first_commit_id}
+use Rattle.vc_runs.specs.Names.{path, plain_file, content, author, message, first_commit_id}
 use Rattle.vc_runs.specs.Wire.{Readings, git_wire}
 
 abbrev pub main : List ℕ
@@ -25,8 +25,9 @@ main = codes "main"
 -- what is told and what is answered, the first of it first, where the new commit has this name
 abbrev pub told : Id → List (WorldEvent × Answer)
 told commit =
-    -- clone 0 commits its empty index, and pushes the commit as main
-    (Orders 0 (CommitIndex [] author author message), Did (Made commit))
+    -- clone 0 stages a file, commits, and pushes the commit as main
+    (Orders 0 (StageFile path plain_file content), Did Stored)
+    ∷ (Orders 0 (CommitIndex [] author author message), Did (Made commit))
     ∷ (Orders 0 (PushItems false (record { value = Some (codes "HEAD"); name = branch main } ∷ [])), Did Sends)
     -- the push comes to the shared node, is checked, stored and accepted, and is reported
     ∷ (Delivers 0, Did (Opened 0))

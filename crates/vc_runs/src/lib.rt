@@ -7,16 +7,16 @@
 ghost use Rattle.vc_runs.specs.Names.{NamesAreKnown};
 ghost use Rattle.vc_runs.specs.Witness.{RunsExist, PremisesAreMet};
 
-/// The tree without entries and the commit of the run below have the names that git prints of them, computed through the
+/// The file, the tree and the commit of the run below have the names that git prints of them, computed through the
 /// definition of SHA-1.
-pub fn two_names_are_gits()
+pub fn three_names_are_gits()
     ensures { NamesAreKnown }
 {}
 
 /// From each new world of two clones or more in which no stop is set, however bytes are read, there is an exact run with
-/// the events and answers that `told` lists: one clone commits and pushes, the push is accepted and reported, the shared
-/// node is stopped at a write and restarts, and another clone fetches. At its end the branch has the commit, and both
-/// clones know it.
+/// the events and answers that `told` lists: one clone stages a file, commits and pushes, the push is accepted and reported,
+/// the shared node is stopped at a write and restarts, and another clone fetches. At its end the branch has the commit,
+/// and both clones know it.
 ///
 /// It has what the laws of exact runs ask: no two different objects that occur have one name, and nothing is forged.
 pub fn an_exact_run_exists()

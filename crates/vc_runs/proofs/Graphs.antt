@@ -1,0 +1,67 @@
+-- For the run: maps of one entry, what is added to nothing, and paths of graphs, one link at a time.
+use Rattle.std.proofs.Common.{◌≡◌, ◌<◌, List, [], ◌∷◌, Option, Some, None, inl, inr, refl, sym, ap, ◌∙◌, subst, nat_cmp, length, arith, Contains}
+use Rattle.std.specs.FinMap.{get, insert, empty, get-empty, entries, put, entries-insert, len-entries, len-empty}
+use Rattle.std.specs.Option.{option_or}
+use Rattle.std.specs.List.{AllByRecursion}
+use Rattle.std.specs.Cmp.Lexicographic.{slice_cmp, nat_list_cmp_total}
+use Rattle.vc_model.specs.Object.{Id, Object, Format, Objects, Lookup}
+use Rattle.vc_model.specs.Object.Kind.{Commit}
+use Rattle.vc_model.specs.Reach.{Path, Links, HasParent, IsClosed, HasHistory}
+use Rattle.vc_model.specs.Refs.{RefName, Refs}
+use Rattle.vc_model.specs.Repository.{AllAdded}
+use Rattle.vc_model.proofs.Commits.{all_holds}
+use Rattle.vc_model.proofs.Maps.{insert_cases, bytes_same, none_in_empty}
+
+-- ---- maps
+
+abbrev pub one_ref : RefName → Id → Refs
+one_ref n x = insert empty n x
+
+nothing_in : {A : Type 0} (xs : List A) → length xs ≡ 0 → xs ≡ []
+nothing_in [] e = refl
+nothing_in (y ∷ ys) e = absurd (omega (arith, e))
+
+pub no_entries : {X : Type 0} → entries (empty {X = X} {R = slice_cmp nat_cmp}) ≡ []
+no_entries {X} = nothing_in (entries (empty {X = X} {R = slice_cmp nat_cmp})) (sym (len-entries (empty {X = X} {R = slice_cmp nat_cmp})) ∙ len-empty (slice_cmp nat_cmp) X)
+
+pub entries_of_one : (n : RefName) (x : Id) → entries (one_ref n x) ≡ (n, x) ∷ []
+entries_of_one n x = entries-insert nat_list_cmp_total empty n x ∙ ap (put (slice_cmp nat_cmp) n x) no_entries
+
+pub one_alone : (n : RefName) (x : Id) (m : RefName) (v : Id) → get (one_ref n x) m ≡ Some v → (m ≡ n) × (v ≡ x)
+one_alone n x m v g = elim (insert_cases nat_list_cmp_total bytes_same empty n x m v g) [ inl is ↦ is | inr was ↦ absurd (none_in_empty (slice_cmp nat_cmp) m v was) ]
+
+pub or_none : (a : Option Object) (y : Id) → a ≡ option_or a (get (empty {X = Object} {R = slice_cmp nat_cmp}) y)
+or_none None y = sym (get-empty (slice_cmp nat_cmp) y)
+or_none (Some p) y = refl
+
+pub added_none : (s : Objects) → AllAdded s empty s
+added_none s = record { each = λ y. or_none (get s y) y }
+
+pub added_first : (s : Objects) → AllAdded empty s s
+added_first s = record { each = λ y. sym (ap (λ a. option_or a (get s y)) (get-empty (slice_cmp nat_cmp) y)) }
+
+-- ---- graphs
+
+pub closed_step : (fmt : Format) (at : Lookup) (x : Id) (o : Object) → at x ≡ Some o → AllByRecursion (IsClosed fmt at) (fmt.links o) → IsClosed fmt at x
+closed_step fmt at x o is all = record { there = λ y p. go y p.0 p.1 }
+  where
+    go : (y : Id) (zs : List Id) → Path (Links fmt at) zs x y → (q : Object) × (at y ≡ Some q)
+    go y [] p = (o, ap at (sym p) ∙ is)
+    go y (z ∷ zs) p =
+        let same : p.0.object ≡ o = let f = p.0.found in cc in
+        (all_holds (IsClosed fmt at) (fmt.links o) z all (subst (λ (q : Object). Contains (fmt.links q) z) same p.0.link)).there y (zs, p.1)
+
+pub history_step : (fmt : Format) (at : Lookup) (x : Id) (o : Object) → at x ≡ Some o → o.kind ≡ Commit → AllByRecursion (HasHistory fmt at) (fmt.parents o) → HasHistory fmt at x
+history_step fmt at x o is kind all = record { commits = λ y p. go y p.0 p.1 }
+  where
+    go : (y : Id) (zs : List Id) → Path (HasParent fmt at) zs x y → (q : Object) × (at y ≡ Some q) × (q.kind ≡ Commit)
+    go y [] p = (o, ap at (sym p) ∙ is, kind)
+    go y (z ∷ zs) p =
+        let same : p.0.object ≡ o = let f = p.0.found in cc in
+        (all_holds (HasHistory fmt at) (fmt.parents o) z all (subst (λ (q : Object). Contains (fmt.parents q) z) same p.0.parent)).commits y (zs, p.1)
+
+pub in_none : {A : Type 0} (z : A) → Contains {X = A} [] z → ⊥
+in_none z c = absurd (let k : c.0 < 0 = c.1 in omega arith)
+
+pub in_one : (x z : Id) → Contains (x ∷ []) z → z ≡ x
+in_one x z c = all_holds (λ y. y ≡ x) (x ∷ []) z (refl, tt) c
