@@ -10,7 +10,7 @@ use Rattle.vc_model.specs.Message.{HasObject}
 use Rattle.vc_model.specs.Message.Message.{ListRefs}
 use Rattle.vc_model.specs.Node.Answer.{Did, Fault}
 use Rattle.vc_model.specs.Node.Failure.{Device}
-use Rattle.vc_model.specs.Node.Reply.{Stored, Sends, Opened, Passed, MigratedAll, Updated}
+use Rattle.vc_model.specs.Node.Reply.{Removed, Stored, Sends, Opened, Passed, MigratedAll, Updated}
 use Rattle.vc_model.specs.Push.{Slots}
 use Rattle.vc_model.specs.Clone.{CloneNode, Task, PushItem}
 use Rattle.vc_model.specs.Clone.Awaited.{Nothing, AnAdvert, APack}
@@ -179,6 +179,15 @@ module _ (here : Setting) where
     h17 : WorldOnly Only (worlds.w17 here start).world
     h17 = clone_only Only (worlds.w16 here start).world 1 (clone (steps.fetched here) Nothing) None h16 in_all (sends_nothing Only)
 
+    h18 : WorldOnly Only (worlds.w18 here start).world
+    h18 = clone_only Only (worlds.w17 here start).world 0 (clone (steps.knowing here) Nothing) None h17 in_all (sends_nothing Only)
+
+    h19 : WorldOnly Only (worlds.w19 here start).world
+    h19 = shared_only Only (worlds.w18 here start).world 0 (Did Stored) (up served empty) None h18 (node_only served empty in_all (none_open Only)) (sends_nothing Only)
+
+    h20 : WorldOnly Only (worlds.w20 here start).world
+    h20 = shared_only Only (worlds.w19 here start).world 0 (Did (Removed 0)) (up served empty) None h19 (node_only served empty in_all (none_open Only)) (sends_nothing Only)
+
     -- two orders bring them, and no other event brings any
     stage_brings : (o : Object) → BringsExactly fmt wire (worlds.w0 here start) (Orders 0 (StageFile here.path plain_file here.content)) o → Only o
     stage_brings o b =
@@ -193,7 +202,7 @@ module _ (here : Setting) where
         commit_makes o (subst (λ (n : CloneNode). Makes fmt wire.rules n.repository (MakeCommit [] here.author here.author here.message) o) node_is (subst (λ (z : Task). Makes fmt wire.rules b.0.repository z o) task_is b.4))
 
     each : EachOnly Only fmt wire (worlds.w0 here start) (worlds.history here start)
-    each = (h17, (λ o b. absurd b), (h16, (λ o b. absurd b), (h15, (λ o b. absurd b), (h14, (λ o b. absurd b), (h13, (λ o b. absurd (fetch_makes b.0.repository b.1 o b.3 b.4)), (h12, (λ o b. absurd b), (h11, (λ o b. absurd b), (h10, (λ o b. absurd b), (h9, (λ o b. absurd b), (h8, (λ o b. absurd b), (h7, (λ o b. absurd b), (h6, (λ o b. absurd b), (h5, (λ o b. absurd b), (h4, (λ o b. absurd b), (h3, (λ o b. absurd (push_makes b.3.0 b.0.repository b.1 o b.3.2 b.4)), (h2, commit_brings, (h1, stage_brings, h0)))))))))))))))))
+    each = (h20, (λ o b. absurd b), (h19, (λ o b. absurd b), (h18, (λ o b. absurd b), (h17, (λ o b. absurd b), (h16, (λ o b. absurd b), (h15, (λ o b. absurd b), (h14, (λ o b. absurd b), (h13, (λ o b. absurd (fetch_makes b.0.repository b.1 o b.3 b.4)), (h12, (λ o b. absurd b), (h11, (λ o b. absurd b), (h10, (λ o b. absurd b), (h9, (λ o b. absurd b), (h8, (λ o b. absurd b), (h7, (λ o b. absurd b), (h6, (λ o b. absurd b), (h5, (λ o b. absurd b), (h4, (λ o b. absurd b), (h3, (λ o b. absurd (push_makes b.3.0 b.0.repository b.1 o b.3.2 b.4)), (h2, commit_brings, (h1, stage_brings, h0))))))))))))))))))))
 
     pub no_collision : NoExactCollision fmt wire (worlds.w0 here start) (worlds.history here start)
     no_collision = record { unique = λ o p i j e. stores.one_each here o p (occurs o i) (occurs p j) e }

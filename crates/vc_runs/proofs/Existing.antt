@@ -5,6 +5,7 @@ use Rattle.std.specs.Cmp.{nat_cmp_total, unsigned_Decides}
 use Rattle.std.specs.Cmp.Lexicographic.{nat_list_cmp_total}
 use Rattle.vc_model.specs.Refs.{branch, tracking}
 use Rattle.vc_model.specs.Message.{Envelope}
+use Rattle.vc_model.specs.Object.{Id, Object, Objects}
 use Rattle.vc_model.specs.Shared.{SharedNode}
 use Rattle.vc_model.specs.Clone.{CloneNode}
 use Rattle.vc_model.specs.Clone.Awaited.{Nothing}
@@ -15,15 +16,16 @@ use Rattle.vc_model.specs.World.{IsNew, empty_repository}
 use Rattle.vc_model.proofs.Maps.{insert_same, insert_other, bytes_same, same_key}
 use Rattle.vc_model.proofs.Tracked.{value_at_clone}
 use Rattle.vc_rules.specs.Git.{git}
-use Rattle.vc_runs.specs.Names.{path, content, first_tree, first_commit, first_commit_id, author, message}
+use Rattle.vc_runs.specs.Names.{path, content, first_file, first_file_id, first_tree, first_tree_id, first_commit, first_commit_id, author, message}
 use Rattle.vc_runs.specs.Wire.{Readings, git_wire}
-use Rattle.vc_runs.specs.Witness.{main, told, IsWitness, RunsExist, PremisesAreMet}
+use Rattle.vc_runs.specs.Witness.{HasAll, main, told, IsWitness, RunsExist, PremisesAreMet}
 use Rattle.vc_runs.proofs.Names.{names_are_known}
 use Rattle.vc_runs.proofs.GitFacts.{facts}
 use Rattle.vc_runs.proofs.Stores.{Setting}
+use Rattle.vc_runs.proofs.Stores as stores
 use Rattle.vc_runs.proofs.Steps.{clone, up}
 use Rattle.vc_runs.proofs.Steps as steps
-use Rattle.vc_runs.proofs.Worlds.{Start, w0, w17, history, is_run, honest, first_clone, second_clone}
+use Rattle.vc_runs.proofs.Worlds.{Start, w0, w20, history, is_run, honest, first_clone, second_clone}
 use Rattle.vc_runs.proofs.Brought.{no_collision}
 
 abbrev here : Readings → Setting
@@ -39,19 +41,38 @@ module _ (readings : Readings) (start : Start) (n : ℕ) (enough : 2 ≤ n) (unf
   known : git.name_of first_commit ≡ first_commit_id
   known = names_are_known.2
 
+  abbrev all : Objects
+  all = stores.all (here readings)
+
+  found_at : (y z : Id) (o : Object) → y ≡ z → get all y ≡ Some o → get all z ≡ Some o
+  found_at y z o e g = subst (λ (w : Id). get all w ≡ Some o) e g
+
+  has_all : HasAll (stores.all (here readings))
+  has_all =
+      let finds = stores.found (here readings) in (
+        found_at (git.name_of first_file) first_file_id first_file names_are_known.0 finds.file,
+        found_at (git.name_of first_tree) first_tree_id first_tree names_are_known.1 finds.tree,
+        found_at (git.name_of first_commit) first_commit_id first_commit known finds.commit,
+      )
+
   witness : IsWitness (git_wire readings) (w0 (here readings) start) (history (here readings) start)
   witness = record {
     run = is_run (here readings) start (is_new 0 (omega arith)) (is_new 1 (omega arith)) (unfused 0) (unfused 1);
     tells = ap (λ y. reverse (told y)) known;
     apart = no_collision (here readings) start are_new;
     honest = honest (here readings) start;
+    second_has = (
+      clone (steps.fetched (here readings)) Nothing,
+      second_clone (here readings) start (is_new 0 (omega arith)) (is_new 1 (omega arith)) (unfused 0) (unfused 1),
+      has_all,
+    );
     branch = insert_same nat_list_cmp_total bytes_same empty (branch main) (git.name_of first_commit) ∙ ap Some known;
     first_knows =
-        value_at_clone (w17 (here readings) start).world 0 main (git.name_of first_commit)
+        value_at_clone (w20 (here readings) start).world 0 main (git.name_of first_commit)
         (clone (steps.knowing (here readings)) Nothing, first_clone (here readings) start (is_new 0 (omega arith)) (is_new 1 (omega arith)) (unfused 0) (unfused 1), insert_same nat_list_cmp_total bytes_same (insert empty (branch main) (git.name_of first_commit)) (tracking main) (git.name_of first_commit))
         ∙ ap Some known;
     second_knows =
-        value_at_clone (w17 (here readings) start).world 1 main (git.name_of first_commit)
+        value_at_clone (w20 (here readings) start).world 1 main (git.name_of first_commit)
         (clone (steps.fetched (here readings)) Nothing, second_clone (here readings) start (is_new 0 (omega arith)) (is_new 1 (omega arith)) (unfused 0) (unfused 1), insert_same nat_list_cmp_total bytes_same empty (tracking main) (git.name_of first_commit))
         ∙ ap Some known;
   }

@@ -140,6 +140,13 @@ head_is r y e = (
   (Ok (id_of_bytes y), ap (λ v. or_refusal (option_map id_of_bytes v) Unknown) (sym e), refl),
 )
 
+head_is_too : (r : Repository) (y : Id) → head_value r ≡ Some y → DenotesAt r (codes "@") (Ok y)
+head_is_too r y e = (
+  BaseAndSteps (record { base = codes "@"; steps = [] }),
+  ([], inl refl, refl, refl),
+  (Ok (id_of_bytes y), ap (λ v. or_refusal (option_map id_of_bytes v) Unknown) (sym e), refl),
+)
+
 -- ---- the file in the index
 
 name_legal : IsName path
@@ -260,4 +267,5 @@ facts readings = record {
   legal = legal;
   fits = fits;
   head = λ r e. head_is r x e;
+  head_too = λ r e. head_is_too r x e;
 }

@@ -1,6 +1,6 @@
 -- What each node answers in the run, event by event.
-use Rattle.std.proofs.Common.{◌≡◌, ◌≢◌, ℕ, false, List, [], ◌∷◌, ◌++◌, map, Option, Some, None, Ok, inl, inr, refl, sym, ap, ◌∙◌, subst, nat_cmp, arith, get_or, take, Contains, unwrap_or, option_to_list}
-use Rattle.std.specs.FinMap.{get, insert, remove, empty, get-empty, entries, nat_cmp-IsAntisymmetric}
+use Rattle.std.proofs.Common.{◌⊎◌, ◌-◌, ◌≡◌, ◌≢◌, ℕ, false, List, [], ◌∷◌, ◌++◌, map, Option, Some, None, Ok, inl, inr, refl, sym, ap, ◌∙◌, subst, nat_cmp, arith, get_or, take, Contains, unwrap_or, option_to_list}
+use Rattle.std.specs.FinMap.{len, get, insert, remove, empty, get-empty, entries, nat_cmp-IsAntisymmetric}
 use Rattle.std.specs.Cmp.{nat_cmp_total}
 use Rattle.std.specs.Cmp.Lexicographic.{slice_cmp, nat_list_cmp_total}
 use Rattle.vc_model.specs.Object.{Id, zero_id, Object, Format, Objects, Lookup, stored, over}
@@ -17,22 +17,25 @@ use Rattle.vc_model.specs.Message.Message.{ListRefs, Advert, Want, Pack, Push, R
 use Rattle.vc_model.specs.Node.{Deed, IsDifference}
 use Rattle.vc_model.specs.Node.Answer.{Did, Fault}
 use Rattle.vc_model.specs.Node.Failure.{Device}
-use Rattle.vc_model.specs.Node.Reply.{Stored, Made, Sends, Opened, Passed, MigratedAll, Updated, Reported, Moved}
-use Rattle.vc_model.specs.Shared.{SharedNode, head_value, IsOurs, IsFirstCounted, opened}
+use Rattle.vc_model.specs.Node.Reply.{Stored, Made, Sends, Opened, Passed, MigratedAll, Updated, Reported, Moved, Same, Removed}
+use Rattle.vc_model.specs.Shared.{SharedNode, IsNeeded, head_value, IsOurs, IsFirstCounted, opened}
 use Rattle.vc_model.specs.Shared.UpdatesPush.{singly}
 use Rattle.vc_model.specs.Clone.{Awaited, CloneNode, PushItem, with_object, MovesToAdvert, IsItemId, IsTrackingValue, IsOldOf, MovesBranch, MovesAny, Moves, AreOpen, haves_of, once, quietly, sending, head_to}
 use Rattle.vc_model.specs.Clone.Awaited.{Nothing, AnAdvert, APack}
 use Rattle.vc_model.specs.Clone.Task.{Stage, MakeCommit, StartPush, StartFetch}
 use Rattle.vc_model.specs.CloneCall.{CloneAnswers, new_commit}
-use Rattle.vc_model.specs.CloneCall.CloneCall.{Command as Commands, Receive}
-use Rattle.vc_model.specs.CloneCall.CloneAnswers.{obeyed as clone_obeyed}
+use Rattle.vc_model.specs.CloneCall.CloneCall.{Command as Commands, Receive, Asks as AsksClone}
+use Rattle.vc_model.specs.CloneCall.CloneAnswers.{obeyed as clone_obeyed, asked as clone_asked}
 use Rattle.vc_model.specs.SharedCall.{SharedAnswers}
-use Rattle.vc_model.specs.SharedCall.SharedCall.{Accept, StepOf, Open}
-use Rattle.vc_model.specs.SharedCall.SharedAnswers.{obeyed, opened as restarted, faulted}
+use Rattle.vc_model.specs.SharedCall.SharedCall.{Accept, StepOf, Open, Asks, Prune}
+use Rattle.vc_model.specs.SharedCall.SharedAnswers.{obeyed, asked, pruned, opened as restarted, faulted}
+use Rattle.vc_model.specs.Question.Question.{Compare, PackRefs}
+use Rattle.vc_model.specs.Shared.IsNeeded.{by_root, by_push}
 use Rattle.vc_model.specs.World.{empty_repository}
 use Rattle.vc_model.specs.Wire.{Wire}
 use Rattle.vc_model.proofs.Commits.{all_holds}
 use Rattle.vc_model.proofs.Maps.{insert_same, insert_other, bytes_same, none_in_empty}
+use Rattle.std.specs.Prelude.{codes}
 use Rattle.vc_runs.specs.Names.{plain_file}
 use Rattle.vc_runs.specs.Witness.{main}
 use Rattle.vc_runs.proofs.Graphs.{one_ref, one_alone, no_entries, entries_of_one, added_none, added_first, in_none, in_one}
@@ -384,3 +387,32 @@ module _ (here : Setting) where
             good = (closed at (stores.found_over here), history at (stores.found_over here));
             forward = inl (get-empty (slice_cmp nat_cmp) (tracking main));
           }
+
+  -- ---- questions, and a prune that finds nothing to take away
+
+  knowing_head : head_value knowing ≡ Some x
+  knowing_head = insert_other nat_list_cmp_total bytes_same (one_ref (branch main) x) (tracking main) x (branch main) (λ e. tracking_is_no_branch main main (sym e)) ∙ main_is
+
+  pub compares : CloneAnswers fmt wire.rules (clone knowing Nothing) (AsksClone (Compare (codes "HEAD") (codes "@"))) (Did Same) (clone knowing Nothing) None
+  compares = clone_asked Nothing (Compare (codes "HEAD") (codes "@")) refl refl (Ok x, f.head knowing knowing_head, (Ok x, f.head_too knowing knowing_head, inr (inl (refl, refl)))) refl refl
+
+  pub packs_refs : SharedAnswers fmt wire.rules (up served empty) (Asks PackRefs) (Did Stored) (up served empty) None
+  packs_refs = asked empty PackRefs refl refl refl refl refl
+
+  -- what a prune keeps is there
+  needed_there : (y : Id) → IsNeeded fmt served empty y → (o : Object) × (get all y ≡ Some o)
+  needed_there y (by_root r (inl ref) path) =
+      (closed (stored all) (stores.found here)).there y (subst (λ z. Reaches (Links fmt (stored all)) z y) (one_alone (branch main) x ref.0 r ref.1).1 path)
+  needed_there y (by_root r (inr (inl head)) path) = absurd (cc)
+  needed_there y (by_root r (inr (inr entry)) path) = absurd (none_in_empty (slice_cmp nat_cmp) entry.0 entry.1 entry.2)
+  needed_there y (by_push k p j is c v path) = absurd (none_in_empty nat_cmp k p is)
+
+  pub prunes : SharedAnswers fmt wire.rules (up served empty) Prune (Did (Removed 0)) (up served empty) None
+  prunes = pruned empty refl refl ((λ y. kept y (get all y) refl), refl, refl, ap Removed none_less) refl
+    where
+      none_less : 0 ≡ len all - len all
+      none_less = omega arith
+
+      kept : (y : Id) (a : Option Object) → get all y ≡ a → (IsNeeded fmt served empty y × (get all y ≡ get all y)) ⊎ ((¬ IsNeeded fmt served empty y) × (get all y ≡ None))
+      kept y None e = inr ((λ n. let there = needed_there y n in let g = there.1 in cc), e)
+      kept y (Some o) e = inl (by_root x (inl (branch main, main_is)) (all_reached y o e), refl)

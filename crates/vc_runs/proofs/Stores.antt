@@ -40,6 +40,7 @@ pub record Facts (fmt : Format) (wire : Wire fmt) (path content : List ℕ) (tre
   pub legal : IsTrue (fmt.is_legal (branch main))
   pub fits : IsTrue (fmt.is_legal (tracking main))
   pub head : (r : Repository) → head_value r ≡ Some (fmt.name_of commit) → wire.rules.denotes r (codes "HEAD") (Ok (fmt.name_of commit))
+  pub head_too : (r : Repository) → head_value r ≡ Some (fmt.name_of commit) → wire.rules.denotes r (codes "@") (Ok (fmt.name_of commit))
 
 -- a format, a wire and three objects of which that holds
 pub record Setting : Type 1 where

@@ -13,23 +13,24 @@ use Rattle.vc_model.specs.Message.Envelope.{ToShared, ToClone}
 use Rattle.vc_model.specs.Node.{Answer, Reply}
 use Rattle.vc_model.specs.Node.Answer.{Did, Fault}
 use Rattle.vc_model.specs.Node.Failure.{Device}
-use Rattle.vc_model.specs.Node.Reply.{Stored, Made, Sends, Opened, Passed, MigratedAll, Updated, Reported, Moved}
+use Rattle.vc_model.specs.Node.Reply.{Stored, Made, Sends, Opened, Passed, MigratedAll, Updated, Reported, Moved, Same, Removed}
 use Rattle.vc_model.specs.Shared.{SharedNode}
 use Rattle.vc_model.specs.Clone.{CloneNode, Task}
 use Rattle.vc_model.specs.Clone.Awaited.{Nothing, AnAdvert, APack}
 use Rattle.vc_model.specs.Clone.Task.{Stage, MakeCommit, StartPush, StartFetch}
 use Rattle.vc_model.specs.CloneCall.{CloneAnswers}
-use Rattle.vc_model.specs.CloneCall.CloneCall.{Command as Commands, Receive}
+use Rattle.vc_model.specs.CloneCall.CloneCall.{Command as Commands, Receive, Asks as AsksClone}
 use Rattle.vc_model.specs.SharedCall.{SharedAnswers}
-use Rattle.vc_model.specs.SharedCall.SharedCall.{Accept, StepOf, Open}
+use Rattle.vc_model.specs.SharedCall.SharedCall.{Accept, StepOf, Open, Asks, Prune}
 use Rattle.vc_model.specs.Order.{Order, IsTaskOf}
 use Rattle.vc_model.specs.Order.Order.{StageFile, CommitIndex, PushItems, Fetch}
 use Rattle.vc_model.specs.Fuse.{Fuse, Fuses, Place, Burns, DiffersAt, with_fuse}
 use Rattle.vc_model.specs.World.{empty_repository, after_shared, after_clone}
-use Rattle.vc_model.specs.World.Party.{TheShared}
+use Rattle.vc_model.specs.World.Party.{TheShared, TheClone}
+use Rattle.vc_model.specs.Question.Question.{Compare, PackRefs}
 use Rattle.vc_model.specs.Wire.{Wire}
 use Rattle.vc_model.specs.ExactWorld.{FusedWorld, WorldEvent, ExactMoment, ExactHistory, ExactRun, WorldAnswers, NothingForgedExactly, MayShared, TogetherAt, MayClone}
-use Rattle.vc_model.specs.ExactWorld.WorldEvent.{Orders, Delivers, Steps, Restarts, Stops}
+use Rattle.vc_model.specs.ExactWorld.WorldEvent.{Orders, Delivers, Steps, Compares, Prunes, Packs, Restarts, Stops}
 use Rattle.vc_model.specs.ExactWorld.WorldAnswers.{stop_shared, at_shared, at_clone}
 use Rattle.vc_model.proofs.Maps.{insert_same, insert_other}
 use Rattle.vc_runs.specs.Names.{plain_file}
@@ -217,12 +218,24 @@ module _ (here : Setting) where
     abbrev pub w17 : FusedWorld
     w17 = by_clone w16 1 (clone fetched Nothing) None
 
+    abbrev pub w18 : FusedWorld
+    w18 = by_clone w17 0 (clone knowing Nothing) None
+
+    abbrev pub w19 : FusedWorld
+    w19 = by_shared w18 0 (Did Stored) (up served empty) None None
+
+    abbrev pub w20 : FusedWorld
+    w20 = by_shared w19 0 (Did (Removed 0)) (up served empty) None None
+
     abbrev then_ : WorldEvent → Answer → FusedWorld → ExactMoment
     then_ e a w = record { event = e; answer = a; world = w }
 
     abbrev pub history : ExactHistory
     history =
-        then_ (Delivers 5) (Did (Moved 1 0)) w17
+        then_ (Prunes TheShared) (Did (Removed 0)) w20
+        ∷ then_ (Packs TheShared) (Did Stored) w19
+        ∷ then_ (Compares (TheClone 0) (codes "HEAD") (codes "@")) (Did Same) w18
+        ∷ then_ (Delivers 5) (Did (Moved 1 0)) w17
         ∷ then_ (Delivers 4) (Did Sends) w16
         ∷ then_ (Delivers 3) (Did Sends) w15
         ∷ then_ (Delivers 2) (Did Sends) w14
@@ -242,7 +255,7 @@ module _ (here : Setting) where
         ∷ []
 
     pub honest : NothingForgedExactly fmt wire history
-    honest = (tt, (tt, (tt, (tt, (tt, (tt, (tt, (tt, (tt, (tt, (tt, (tt, (tt, (tt, (tt, (tt, (tt, tt)))))))))))))))))
+    honest = (tt, (tt, (tt, (tt, (tt, (tt, (tt, (tt, (tt, (tt, (tt, (tt, (tt, (tt, (tt, (tt, (tt, (tt, (tt, (tt, tt))))))))))))))))))))
 
     -- clones 0 and 1 are new, and have no fuse
     module _ (first : get clones 0 ≡ Some (clone empty_repository Nothing)) (second : get clones 1 ≡ Some (clone empty_repository Nothing)) (no_first : get fuses 0 ≡ None) (no_second : get fuses 1 ≡ None) where
@@ -339,11 +352,30 @@ module _ (here : Setting) where
       e17 = received w16 1 (clone empty_repository (APack (x ∷ []) served.refs)) (clone fetched Nothing) 5 pack (Moved 1 0) None (set 1 w13.world.clones (clone empty_repository (APack (x ∷ []) served.refs)))
           (still_none w13.clone_fuses 1 1 (still_none w12.clone_fuses 1 1 none_kept)) refl (steps.takes here)
 
+      -- the first clone is as it was when it had the report
+      first_kept : get w17.world.clones 0 ≡ Some (clone knowing Nothing)
+      first_kept = kept_first w15.world.clones (clone fetched Nothing) _ (kept_first w13.world.clones _ _ (kept_first w12.world.clones _ _ (set 0 w8.world.clones (clone knowing Nothing))))
+
+      no_fuse_17 : get w17.clone_fuses 0 ≡ None
+      no_fuse_17 = still_none w15.clone_fuses 1 0 (still_none w13.clone_fuses 1 0 (still_none w12.clone_fuses 1 0 (still_none w8.clone_fuses 0 0 no_fuse_3)))
+
+      e18 : WorldAnswers fmt wire w17 (Compares (TheClone 0) (codes "HEAD") (codes "@")) (Did Same) w18
+      e18 = at_clone 0 (clone knowing Nothing) (clone knowing Nothing) (AsksClone (Compare (codes "HEAD") (codes "@"))) None None first_kept (refl, refl) (steps.compares here)
+          (quiet start.frail (get w17.clone_fuses 0) no_fuse_17 (MayClone fmt wire.rules (clone knowing Nothing) (AsksClone (Compare (codes "HEAD") (codes "@")))) ⊥ knowing knowing Same) refl
+
+      e19 : WorldAnswers fmt wire w18 (Packs TheShared) (Did Stored) w19
+      e19 = at_shared 0 (Asks PackRefs) (up served empty) None None (refl, refl) (steps.packs_refs here)
+          (quiet start.frail None refl (MayShared fmt w18.world.shared (Asks PackRefs)) (TogetherAt w18.world.shared (Asks PackRefs)) served served Stored) refl
+
+      e20 : WorldAnswers fmt wire w19 (Prunes TheShared) (Did (Removed 0)) w20
+      e20 = at_shared 0 Prune (up served empty) None None (refl, refl) (steps.prunes here)
+          (quiet start.frail None refl (MayShared fmt w19.world.shared Prune) (TogetherAt w19.world.shared Prune) served served (Removed 0)) refl
+
       pub is_run : ExactRun fmt wire w0 history
-      is_run = (e17, (e16, (e15, (e14, (e13, (e12, (e11, (e10, (e9, (e8, (e7, (e6, (e5, (e4, (e3, (e2, (e1, tt)))))))))))))))))
+      is_run = (e20, (e19, (e18, (e17, (e16, (e15, (e14, (e13, (e12, (e11, (e10, (e9, (e8, (e7, (e6, (e5, (e4, (e3, (e2, (e1, tt))))))))))))))))))))
 
-      pub first_clone : get w17.world.clones 0 ≡ Some (clone knowing Nothing)
-      first_clone = kept_first w15.world.clones (clone fetched Nothing) _ (kept_first w13.world.clones _ _ (kept_first w12.world.clones _ _ (set 0 w8.world.clones (clone knowing Nothing))))
+      pub first_clone : get w20.world.clones 0 ≡ Some (clone knowing Nothing)
+      first_clone = set 0 w17.world.clones (clone knowing Nothing)
 
-      pub second_clone : get w17.world.clones 1 ≡ Some (clone fetched Nothing)
-      second_clone = set 1 w15.world.clones (clone fetched Nothing)
+      pub second_clone : get w20.world.clones 1 ≡ Some (clone fetched Nothing)
+      second_clone = kept w17.world.clones (clone knowing Nothing) _ (set 1 w15.world.clones (clone fetched Nothing))

@@ -15,8 +15,8 @@ pub fn three_names_are_gits()
 
 /// From each new world of two clones or more in which no stop is set, however bytes are read, there is an exact run with
 /// the events and answers that `told` lists: one clone stages a file, commits and pushes, the push is accepted and reported,
-/// the shared node is stopped at a write and restarts, and another clone fetches. At its end the branch has the commit,
-/// and both clones know it.
+/// the shared node is stopped at a write and restarts, another clone fetches, and last come a question, a packing of refs
+/// and a prune. At its end the branch has the commit, both clones know it, and the second one has all of it.
 ///
 /// It has what the laws of exact runs ask: no two different objects that occur have one name, and nothing is forged.
 pub fn an_exact_run_exists()
