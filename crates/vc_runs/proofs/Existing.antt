@@ -15,9 +15,10 @@ use Rattle.vc_model.specs.Fuse.{Fuse}
 use Rattle.vc_model.specs.World.{IsNew, empty_repository}
 use Rattle.vc_model.proofs.Maps.{insert_same, insert_other, bytes_same, same_key}
 use Rattle.vc_model.proofs.Tracked.{value_at_clone}
+use Rattle.vc_model.specs.Wire.{Wire}
 use Rattle.vc_rules.specs.Git.{git}
 use Rattle.vc_runs.specs.Names.{path, content, first_file, first_file_id, first_tree, first_tree_id, first_commit, first_commit_id, author, message}
-use Rattle.vc_runs.specs.Wire.{Readings, git_wire}
+use Rattle.vc_runs.specs.Wire.{Readings, git_rules, git_wire}
 use Rattle.vc_runs.specs.Witness.{HasAll, main, told, IsWitness, RunsExist, PremisesAreMet}
 use Rattle.vc_runs.proofs.Names.{names_are_known}
 use Rattle.vc_runs.proofs.GitFacts.{facts}
@@ -28,10 +29,10 @@ use Rattle.vc_runs.proofs.Steps as steps
 use Rattle.vc_runs.proofs.Worlds.{Start, w0, w20, history, is_run, honest, first_clone, second_clone}
 use Rattle.vc_runs.proofs.Brought.{no_collision}
 
-abbrev here : Readings → Setting
-here readings = record { fmt = git; wire = git_wire readings; path = path; content = content; tree = first_tree; commit = first_commit; author = author; message = message; facts = facts readings }
+abbrev here : (wire : Wire git) → wire.rules ≡ git_rules → Setting
+here wire same = record { fmt = git; wire = wire; path = path; content = content; tree = first_tree; commit = first_commit; author = author; message = message; facts = facts wire same }
 
-module _ (readings : Readings) (start : Start) (n : ℕ) (enough : 2 ≤ n) (unfused : (c : ℕ) → get start.fuses c ≡ None) (new : (c : ℕ) → (c < n) × (get start.clones c ≡ Some (clone empty_repository Nothing)) ⊎ (n ≤ c) × (get start.clones c ≡ None)) where
+module _ (wire : Wire git) (same : wire.rules ≡ git_rules) (start : Start) (n : ℕ) (enough : 2 ≤ n) (unfused : (c : ℕ) → get start.fuses c ≡ None) (new : (c : ℕ) → (c < n) × (get start.clones c ≡ Some (clone empty_repository Nothing)) ⊎ (n ≤ c) × (get start.clones c ≡ None)) where
   is_new : (c : ℕ) → c < 2 → get start.clones c ≡ Some (clone empty_repository Nothing)
   is_new c below = elim (new c) [ inl h ↦ h.1 | inr h ↦ absurd (let k : n ≤ c = h.0 in omega arith) ]
 
@@ -42,45 +43,46 @@ module _ (readings : Readings) (start : Start) (n : ℕ) (enough : 2 ≤ n) (unf
   known = names_are_known.2
 
   abbrev all : Objects
-  all = stores.all (here readings)
+  all = stores.all (here wire same)
 
   found_at : (y z : Id) (o : Object) → y ≡ z → get all y ≡ Some o → get all z ≡ Some o
   found_at y z o e g = subst (λ (w : Id). get all w ≡ Some o) e g
 
-  has_all : HasAll (stores.all (here readings))
+  has_all : HasAll (stores.all (here wire same))
   has_all =
-      let finds = stores.found (here readings) in (
+      let finds = stores.found (here wire same) in (
         found_at (git.name_of first_file) first_file_id first_file names_are_known.0 finds.file,
         found_at (git.name_of first_tree) first_tree_id first_tree names_are_known.1 finds.tree,
         found_at (git.name_of first_commit) first_commit_id first_commit known finds.commit,
       )
 
-  witness : IsWitness (git_wire readings) (w0 (here readings) start) (history (here readings) start)
+  witness : IsWitness wire (w0 (here wire same) start) (history (here wire same) start)
   witness = record {
-    run = is_run (here readings) start (is_new 0 (omega arith)) (is_new 1 (omega arith)) (unfused 0) (unfused 1);
+    run = is_run (here wire same) start (is_new 0 (omega arith)) (is_new 1 (omega arith)) (unfused 0) (unfused 1);
     tells = ap (λ y. reverse (told y)) known;
-    apart = no_collision (here readings) start are_new;
-    honest = honest (here readings) start;
+    apart = no_collision (here wire same) start are_new;
+    honest = honest (here wire same) start;
     second_has = (
-      clone (steps.fetched (here readings)) Nothing,
-      second_clone (here readings) start (is_new 0 (omega arith)) (is_new 1 (omega arith)) (unfused 0) (unfused 1),
+      clone (steps.fetched (here wire same)) Nothing,
+      second_clone (here wire same) start (is_new 0 (omega arith)) (is_new 1 (omega arith)) (unfused 0) (unfused 1),
       has_all,
     );
     branch = insert_same nat_list_cmp_total bytes_same empty (branch main) (git.name_of first_commit) ∙ ap Some known;
     first_knows =
-        value_at_clone (w20 (here readings) start).world 0 main (git.name_of first_commit)
-        (clone (steps.knowing (here readings)) Nothing, first_clone (here readings) start (is_new 0 (omega arith)) (is_new 1 (omega arith)) (unfused 0) (unfused 1), insert_same nat_list_cmp_total bytes_same (insert empty (branch main) (git.name_of first_commit)) (tracking main) (git.name_of first_commit))
+        value_at_clone (w20 (here wire same) start).world 0 main (git.name_of first_commit)
+        (clone (steps.knowing (here wire same)) Nothing, first_clone (here wire same) start (is_new 0 (omega arith)) (is_new 1 (omega arith)) (unfused 0) (unfused 1), insert_same nat_list_cmp_total bytes_same (insert empty (branch main) (git.name_of first_commit)) (tracking main) (git.name_of first_commit))
         ∙ ap Some known;
     second_knows =
-        value_at_clone (w20 (here readings) start).world 1 main (git.name_of first_commit)
-        (clone (steps.fetched (here readings)) Nothing, second_clone (here readings) start (is_new 0 (omega arith)) (is_new 1 (omega arith)) (unfused 0) (unfused 1), insert_same nat_list_cmp_total bytes_same empty (tracking main) (git.name_of first_commit))
+        value_at_clone (w20 (here wire same) start).world 1 main (git.name_of first_commit)
+        (clone (steps.fetched (here wire same)) Nothing, second_clone (here wire same) start (is_new 0 (omega arith)) (is_new 1 (omega arith)) (unfused 0) (unfused 1), insert_same nat_list_cmp_total bytes_same empty (tracking main) (git.name_of first_commit))
         ∙ ap Some known;
   }
 
-pub runs_exist : RunsExist
-runs_exist readings n start enough new unfused =
+-- on any wire whose rules are these
+pub run_on : (wire : Wire git) → wire.rules ≡ git_rules → (n : ℕ) (start : FusedWorld) → 2 ≤ n → IsNew start.world n → IsUnfused start → (h : ExactHistory) × IsWitness wire start h
+run_on wire same n start enough new unfused =
     by_sent start.world.sent new.sent (by_shared start.world.shared new.shared (by_fuse start.shared_fuse unfused.shared
-    (history (here readings) parts, witness readings parts n enough unfused.clones new.clones)))
+    (history (here wire same) parts, witness wire same parts n enough unfused.clones new.clones)))
   where
     parts : Start
     parts = record { clones = start.world.clones; senders = start.world.senders; frail = start.frail; fuses = start.clone_fuses }
@@ -88,14 +90,17 @@ runs_exist readings n start enough new unfused =
     world_of : List Envelope → SharedNode → Fuse → FusedWorld
     world_of sent shared fuse = record { world = record { shared = shared; clones = start.world.clones; sent = sent; senders = start.world.senders }; frail = start.frail; shared_fuse = fuse; clone_fuses = start.clone_fuses }
 
-    by_sent : (sent : List Envelope) → sent ≡ [] → ((h : ExactHistory) × IsWitness (git_wire readings) (world_of [] start.world.shared start.shared_fuse) h) → (h : ExactHistory) × IsWitness (git_wire readings) (world_of sent start.world.shared start.shared_fuse) h
-    by_sent sent e h = subst (λ z. (h : ExactHistory) × IsWitness (git_wire readings) (world_of z start.world.shared start.shared_fuse) h) (sym e) h
+    by_sent : (sent : List Envelope) → sent ≡ [] → ((h : ExactHistory) × IsWitness wire (world_of [] start.world.shared start.shared_fuse) h) → (h : ExactHistory) × IsWitness wire (world_of sent start.world.shared start.shared_fuse) h
+    by_sent sent e h = subst (λ z. (h : ExactHistory) × IsWitness wire (world_of z start.world.shared start.shared_fuse) h) (sym e) h
 
-    by_shared : (shared : SharedNode) → shared ≡ up empty_repository empty → ((h : ExactHistory) × IsWitness (git_wire readings) (world_of [] (up empty_repository empty) start.shared_fuse) h) → (h : ExactHistory) × IsWitness (git_wire readings) (world_of [] shared start.shared_fuse) h
-    by_shared shared e h = subst (λ z. (h : ExactHistory) × IsWitness (git_wire readings) (world_of [] z start.shared_fuse) h) (sym e) h
+    by_shared : (shared : SharedNode) → shared ≡ up empty_repository empty → ((h : ExactHistory) × IsWitness wire (world_of [] (up empty_repository empty) start.shared_fuse) h) → (h : ExactHistory) × IsWitness wire (world_of [] shared start.shared_fuse) h
+    by_shared shared e h = subst (λ z. (h : ExactHistory) × IsWitness wire (world_of [] z start.shared_fuse) h) (sym e) h
 
-    by_fuse : (fuse : Fuse) → fuse ≡ None → ((h : ExactHistory) × IsWitness (git_wire readings) (world_of [] (up empty_repository empty) None) h) → (h : ExactHistory) × IsWitness (git_wire readings) (world_of [] (up empty_repository empty) fuse) h
-    by_fuse fuse e h = subst (λ z. (h : ExactHistory) × IsWitness (git_wire readings) (world_of [] (up empty_repository empty) z) h) (sym e) h
+    by_fuse : (fuse : Fuse) → fuse ≡ None → ((h : ExactHistory) × IsWitness wire (world_of [] (up empty_repository empty) None) h) → (h : ExactHistory) × IsWitness wire (world_of [] (up empty_repository empty) fuse) h
+    by_fuse fuse e h = subst (λ z. (h : ExactHistory) × IsWitness wire (world_of [] (up empty_repository empty) z) h) (sym e) h
+
+pub runs_exist : RunsExist
+runs_exist readings n start enough new unfused = run_on (git_wire readings) refl n start enough new unfused
 
 -- ---- new worlds
 

@@ -44,7 +44,9 @@ use Rattle.vc_rules.specs.Git.{git, stored_of, machine_entry}
 use Rattle.vc_rules.specs.Trees.{TreesGive, HoldsTrees}
 use Rattle.vc_rules.specs.Values.{DenotesAt}
 use Rattle.vc_runs.specs.Names.{path, plain_file, content, first_file, first_file_id, first_entries, first_tree, first_tree_id, author, message, first_commit, first_commit_id}
-use Rattle.vc_runs.specs.Wire.{Readings, git_wire}
+use Rattle.vc_runs.specs.Wire.{git_rules}
+use Rattle.vc_model.specs.Rules.{Rules}
+use Rattle.vc_model.specs.Wire.{Wire}
 use Rattle.vc_runs.specs.Witness.{main}
 use Rattle.vc_runs.proofs.Names.{names_are_known}
 use Rattle.vc_runs.proofs.Stores.{Facts, index_with}
@@ -249,12 +251,13 @@ trees_of_file = (
 
 -- ---- all of it
 
-pub facts : (readings : Readings) → Facts git (git_wire readings) path content first_tree first_commit author message
-facts readings = record {
-  path_legal = path_legal;
-  file_formed = file_formed;
-  trees = trees_of_file;
-  commit_formed = commit_formed;
+-- of any wire that has these rules
+pub facts : (wire : Wire git) → wire.rules ≡ git_rules → Facts git wire path content first_tree first_commit author message
+facts wire same = record {
+  path_legal = back (λ (r : Rules git). r.is_path path) path_legal;
+  file_formed = back (λ (r : Rules git). r.fault first_file None) file_formed;
+  trees = back (λ (r : Rules git). r.trees_of (index_with git path content) (Ok (trees, t))) trees_of_file;
+  commit_formed = back (λ (r : Rules git). r.fault first_commit None) commit_formed;
   made = made;
   line = author_line;
   tree_links = tree_links;
@@ -266,6 +269,9 @@ facts readings = record {
   not_zero = not_zero;
   legal = legal;
   fits = fits;
-  head = λ r e. head_is r x e;
-  head_too = λ r e. head_is_too r x e;
+  head = λ r e. back (λ (rules : Rules git). rules.denotes r (codes "HEAD") (Ok x)) (head_is r x e);
+  head_too = λ r e. back (λ (rules : Rules git). rules.denotes r (codes "@") (Ok x)) (head_is_too r x e);
 }
+  where
+    back : (P : Rules git → Type 0) → P git_rules → P wire.rules
+    back P p = subst P (sym same) p

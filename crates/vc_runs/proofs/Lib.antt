@@ -6,4 +6,4 @@ mod Worlds
 mod Occurs
 mod Brought
 mod GitFacts
-mod Existing
+pub mod Existing
