@@ -7,3 +7,4 @@ mod Occurs
 mod Brought
 mod GitFacts
 pub mod Existing
+pub mod Safety

@@ -1,3 +1,4 @@
 pub mod Names
 pub mod Wire
+pub mod Safety
 pub mod Witness
