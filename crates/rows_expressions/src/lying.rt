@@ -67,7 +67,7 @@ impl Repository for Lying<'_> {
 
     ghost stored = { λ _ _. ⊥ };
 
-    ghost blames = { λ _ _. ⊤ };
+    ghost blames = { λ _ _ _. ⊤ };
 
     ghost follows = { λ _ _ _. refl };
 

@@ -1,17 +1,22 @@
 -- What a repository over files holds.
-use Rattle.std.specs.Prelude.{◌≡◌, ◌⊎◌, ℕ, List, codes, string_bytes, option_map}
+use Rattle.std.specs.Prelude.{◌≡◌, ℕ, option_map}
 use Rattle.std.specs.FinMap as paths
 use Rattle.vc_files.specs.FileMap.{FileMap}
 use Rattle.vc_index.specs.IndexMap.{IndexMap}
 use Rattle.vc_index.specs.declared.entry.IndexEntry.{IndexEntry}
 use Rattle.vc_object.specs.declared.id.ObjectId.{ObjectId}
-use Rattle.vc_refs.specs.Head.{IsBadHead, IsHeadLoop, head_of, head_value}
-use Rattle.vc_refs.specs.Refs.{IsBadRef, refs}
+use Rattle.vc_refs.specs.Head.{head_of, head_value}
+use Rattle.vc_refs.specs.RefFault.{BlamesHeadValue, BlamesRef}
+use Rattle.vc_refs.specs.Refs.{refs}
+use Rattle.vc_refs.specs.declared.faults.RefFault.{RefFault}
+use Rattle.vc_repository.specs.Faults.{of_refs}
+use Rattle.vc_rev.specs.Question.{Question, Head, Ref, Entry, Prefix, Object}
 use Rattle.vc_rev.specs.Source.{Names}
 use Rattle.vc_rev.specs.declared.refusal.SourceFault.{SourceFault}
-use Rattle.vc_rev.specs.declared.refusal.SourceFault.TheVariants as faults
+use Rattle.vc_rev.specs.declared.refusal.SourceFault.TheVariants.{Store}
 use Rattle.vc_store.specs.Store.{HasFile, IsDamaged}
-use Rattle.vc_store.specs.declared.faults.StoreFault.TheVariants as stores
+use Rattle.vc_store.specs.StoreFault.{IsFault, IsRefused}
+use Rattle.vc_store.specs.declared.faults.StoreFault.{StoreFault}
 
 -- the reference by which the files were lent, the files, and the index
 pub record State : Type 0 where
@@ -34,13 +39,19 @@ names_in s = record {
 abbrev pub HasFileIn : State → ObjectId → Type 0
 HasFileIn s id = HasFile s.content id
 
--- a file of refs is in none of its forms, HEAD names HEAD, an object's file is damaged; a fault of memory or device needs no
--- cause in the files
-abbrev pub IsCause : State → SourceFault → Type 0
-IsCause s (faults.Store (stores.BadObject fault)) = ⊥
-IsCause s (faults.Store (stores.Absent id)) = ⊥
-IsCause s (faults.Store (stores.Damaged id)) = IsDamaged s.content id
-IsCause s (faults.Store (stores.Fault fault)) = Unit {0}
-IsCause s (faults.BadRefFile path) = IsBadRef s.content (string_bytes path) ⊎ ((string_bytes path ≡ codes "HEAD") × IsBadHead s.content)
-IsCause s faults.HeadLoop = IsHeadLoop s.content
-IsCause s (faults.BadIndex place) = ⊥
+-- a fault of a look at refs, and one of a look at the store, as a repository's
+abbrev pub IsOfRefs : (RefFault → Type 0) → SourceFault → Type 0
+IsOfRefs Blames fault = (e : RefFault) × Blames e × (fault ≡ of_refs e)
+
+abbrev pub IsOfStore : (StoreFault → Type 0) → SourceFault → Type 0
+IsOfStore Blames fault = (e : StoreFault) × Blames e × (fault ≡ Store e)
+
+-- The fault has its cause in a file that has to be read to answer the question: HEAD's or that of the branch that it names,
+-- the ref's own, the object's own. The index was read before, so it answers without a fault, and a listing of names reads no
+-- file. A fault of memory or device needs no cause in the files.
+abbrev pub IsCause : State → Question → SourceFault → Type 0
+IsCause s Head fault = IsOfRefs (BlamesHeadValue s.content) fault
+IsCause s (Ref name) fault = IsOfRefs (BlamesRef s.content name) fault
+IsCause s (Entry path) fault = ⊥
+IsCause s (Prefix digits) fault = IsOfStore IsFault fault
+IsCause s (Object id) fault = IsOfStore (IsRefused id (IsDamaged s.content id)) fault

@@ -7,6 +7,7 @@ pub mod Places
 pub mod ExprLemmas
 pub mod OutcomeLemmas
 pub mod SetLemmas
+pub mod SetPlaces
 pub mod SetAgain
 pub mod SetSame
 pub mod ObjectLemmas

@@ -1,5 +1,5 @@
 -- Names and the digits that begin them.
-use Rattle.std.proofs.Common.{◌≡◌, ◌≢◌, ◌↔◌, ◌≤◌, ℕ, List, [], ◌∷◌, ◌++◌, true, false, nat_lt, length, Contains, Option, Some, None, Ok, Bool, cond, ◌&&◌, ◌==◌, true≢false, codes, IfSome, IsSome, option_map, ⊎_elim, refl, sym, ap, subst, ◌∙◌, arith}
+use Rattle.std.proofs.Common.{◌≡◌, ◌≢◌, ◌↔◌, ◌≤◌, ◌<◌, ℕ, Vec, Global, map, drop, get_or, inl, List, [], ◌∷◌, ◌++◌, true, false, nat_lt, length, Contains, Option, Some, None, Ok, Bool, cond, ◌&&◌, ◌==◌, true≢false, codes, IfSome, IsSome, option_map, ⊎_elim, refl, sym, ap, subst, ◌∙◌, arith}
 use Rattle.hex.specs.Hex.{decode_of, is_hex_digit}
 use Rattle.std.specs.List.{AllPass, list_all}
 use Rattle.std.specs.Result.{result_ok}
@@ -12,7 +12,14 @@ use Rattle.std.proofs.lemmas.List.Elements.{Contains-push_cases}
 use Rattle.vc_object.proofs.IdLemmas.{id_cmp_total}
 use Rattle.vc_object.specs.ObjectId.{id_cmp, IsSortedByName}
 use Rattle.vc_object.specs.declared.id.ObjectId.{ObjectId}
-use Rattle.vc_rev.specs.Meaning.{Answer, Begins, PrefixGives, DigitsGive, FirstValue, id_of, is_prefix, places, the_one}
+use Rattle.std.proofs.lemmas.List.{drop_more}
+use Rattle.vc_rev.specs.Answer.{IsTold, IsNoAnswer}
+use Rattle.vc_rev.specs.Asking.{FirstValueAsks, RefAsks}
+use Rattle.vc_rev.specs.Question.{Question}
+use Rattle.vc_rev.specs.declared.refusal.RevFault.{RevFault}
+use Rattle.vc_rev.specs.declared.refusal.SourceFault.{SourceFault}
+use Rattle.vc_rev.proofs.AnswerLemmas.{told_same}
+use Rattle.vc_rev.specs.Meaning.{Answer, Begins, PrefixGives, DigitsGive, id_of, is_prefix, places, the_one}
 use Rattle.vc_rev.specs.Source.{Source}
 
 less_differs : (x y : ObjectId) → id_cmp x y ≡ Less → x ≢ y
@@ -37,16 +44,21 @@ digits_gives s name ids answer p l c h e =
     rw (p, long) (subst (λ (a : Answer). PrefixGives s name a) (sym e) (one_gives s name ids c h))
 
 -- the names that were put together are the places of the name
-pub short_first : (s : Source) (name : List ℕ) (value : Option ObjectId) (a b c d e f : List ℕ) → a ≡ name → b ≡ codes "refs/" ++ name → c ≡ codes "refs/tags/" ++ name → d ≡ codes "refs/heads/" ++ name → e ≡ codes "refs/remotes/" ++ name → f ≡ codes "refs/remotes/" ++ (name ++ codes "/HEAD")
-    → FirstValue s (a ∷ b ∷ c ∷ d ∷ e ∷ f ∷ []) value → FirstValue s (places name) value
-short_first s name value a b c d e f h i j k l m first =
+pub places_same : (name a b c d e f : List ℕ) → a ≡ name → b ≡ codes "refs/" ++ name → c ≡ codes "refs/tags/" ++ name → d ≡ codes "refs/heads/" ++ name → e ≡ codes "refs/remotes/" ++ name → f ≡ codes "refs/remotes/" ++ (name ++ codes "/HEAD") → a ∷ b ∷ c ∷ d ∷ e ∷ f ∷ [] ≡ places name
+places_same name a b c d e f h i j k l m =
     let last : f ∷ [] ≡ (codes "refs/remotes/" ++ (name ++ codes "/HEAD")) ∷ [] = ap (λ t. t ∷ []) m in
-    subst (λ (x : List ℕ). FirstValue s (x ∷ (codes "refs/" ++ name) ∷ (codes "refs/tags/" ++ name) ∷ (codes "refs/heads/" ++ name) ∷ (codes "refs/remotes/" ++ name) ∷ (codes "refs/remotes/" ++ (name ++ codes "/HEAD")) ∷ []) value) h
-    (subst (λ (x : List ℕ). FirstValue s (a ∷ x ∷ (codes "refs/tags/" ++ name) ∷ (codes "refs/heads/" ++ name) ∷ (codes "refs/remotes/" ++ name) ∷ (codes "refs/remotes/" ++ (name ++ codes "/HEAD")) ∷ []) value) i
-    (subst (λ (x : List ℕ). FirstValue s (a ∷ b ∷ x ∷ (codes "refs/heads/" ++ name) ∷ (codes "refs/remotes/" ++ name) ∷ (codes "refs/remotes/" ++ (name ++ codes "/HEAD")) ∷ []) value) j
-    (subst (λ (x : List ℕ). FirstValue s (a ∷ b ∷ c ∷ x ∷ (codes "refs/remotes/" ++ name) ∷ (codes "refs/remotes/" ++ (name ++ codes "/HEAD")) ∷ []) value) k
-    (subst (λ (x : List ℕ). FirstValue s (a ∷ b ∷ c ∷ d ∷ x ∷ (codes "refs/remotes/" ++ (name ++ codes "/HEAD")) ∷ []) value) l
-    (subst (λ (x : List (List ℕ)). FirstValue s (a ∷ b ∷ c ∷ d ∷ e ∷ x) value) last first)))))
+    two h (two i (two j (two k (two l last))))
+  where
+    two : {x y : List ℕ} {xs ys : List (List ℕ)} → x ≡ y → xs ≡ ys → x ∷ xs ≡ y ∷ ys
+    two {x} {y} {xs} {ys} p q = ap (λ z. z ∷ xs) p ∙ ap (λ zs. y ∷ zs) q
+
+-- what a name tells is told of all names
+pub names_told : (s : Source) (Blames : Question → SourceFault → Type 0) (xs : List (Vec ℕ Global)) (i : ℕ) (d : Vec ℕ Global) (e : RevFault) → i < length xs → ((question : Question) → FirstValueAsks s (map (λ (v : Vec ℕ Global). v.items) (drop i xs)) question → FirstValueAsks s (map (λ (v : Vec ℕ Global). v.items) xs) question)
+    → IsTold Blames (RefAsks (get_or xs i d).items) IsNoAnswer e → IsTold Blames (FirstValueAsks s (map (λ (v : Vec ℕ Global). v.items) xs)) IsNoAnswer e
+names_told s Blames xs i d e lt asked t =
+    told_same Blames (RefAsks (get_or xs i d).items) (FirstValueAsks s (map (λ (v : Vec ℕ Global). v.items) xs)) IsNoAnswer IsNoAnswer e
+    (λ question h. asked question (subst (λ (ts : List (Vec ℕ Global)). FirstValueAsks s (map (λ (v : Vec ℕ Global). v.items) ts) question) (sym (drop_more xs i d lt)) (inl h)))
+    (λ r h. h) t
 
 and_both : (a b : Bool) → (a && b) ≡ true → (a ≡ true) × (b ≡ true)
 and_both true b h = (refl, h)

@@ -1,15 +1,10 @@
 -- Ends of a source, and slices of it.
 use Rattle.std.proofs.Common.{◌≡◌, ◌⊎◌, inl, inr, ℕ, ◌+◌, ◌-◌, codes, List, [], ◌∷◌, ◌++◌, length, take, drop, refl, sym, ap, subst, ◌∙◌, append_assoc, arith}
-use Rattle.std.specs.List.{AllByRecursion}
 use Rattle.std.proofs.lemmas.List.{length-append, take_at, drop_at}
 use Rattle.vc_rev.specs.Grammar.{IsStep, IsPlainPath}
 use Rattle.vc_rev.specs.Views.{IsEnd, StandsSteps}
 use Rattle.vc_rev.specs.declared.token.StepToken.{StepToken}
 use Rattle.vc_rev.specs.Outcome.{IsPlace}
-
-pub all_push : {X : Type 0} (P : X → Type 0) (xs : List X) (x : X) → AllByRecursion P xs → P x → AllByRecursion P (xs ++ x ∷ [])
-all_push P [] x h p = (p, tt)
-all_push P (y ∷ ys) x h p = (h.0, all_push P ys x h.1 p)
 
 -- the end of an end is an end
 pub end_on : (source text front rest : List ℕ) → IsEnd text source → text ≡ front ++ rest → IsEnd rest source

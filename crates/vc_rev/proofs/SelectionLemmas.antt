@@ -12,9 +12,10 @@ use Rattle.vc_graph.proofs.WalkLemmas.{Reaches-trans}
 use Rattle.vc_object.specs.ObjectMap.{ObjectMap, parents_in}
 use Rattle.vc_object.specs.declared.id.ObjectId.{ObjectId}
 use Rattle.vc_rev.specs.Answer.{Continues, IsTold, IsAnswered}
-use Rattle.vc_rev.specs.Selection.{Selection, CommitRead, CommitGives, BothGive, Makes, TermGives, TermsGive, SetGives, commit_at, first_of, second_of, joined, nth_of, selection, AreCommon, ArePairsWalked, IsExcludedBy, IsMetBy, IsMetByPairs, IsOfWalk, IsSelectedBy, IsWalked}
+use Rattle.vc_rev.specs.Selection.{Selection, CommitRead, CommitGives, BothGive, Makes, TermAsks, TermGives, TermsAsk, TermsGive, SetGives, commit_at, first_of, second_of, joined, nth_of, selection, AreCommon, ArePairsWalked, IsExcludedBy, IsMetBy, IsMetByPairs, IsOfWalk, IsSelectedBy, IsWalked}
 use Rattle.vc_rev.specs.Meaning.{PeelsTo, RevGives}
 use Rattle.vc_rev.specs.Grammar.{RevText}
+use Rattle.vc_rev.specs.Question.{Question}
 use Rattle.vc_rev.specs.SetGrammar.{TermText, Include, Exclude, Parents, ExcludeParents, Only, Since, Range, Symmetric}
 use Rattle.vc_rev.specs.SetViews.{term_view}
 use Rattle.vc_rev.specs.Source.{Source}
@@ -29,9 +30,11 @@ use Rattle.vc_rev.proofs.AnswerLemmas.{told_same}
 use Rattle.vc_rev.proofs.SameAnswer.{AtMostOne, after_one, equal_one, peels_one, rev_one}
 
 -- what a term tells is told of all terms
-pub terms_told : (s : Source) (Blames : SourceFault → Type 0) (xs : List Term) (i : ℕ) (d : Term) (before : Selection) (e : RevFault) → i < length xs → ((answer : Result Selection Refusal) → TermsGive s (map term_view (drop i xs)) before answer → SetGives s (map term_view xs) answer) → IsTold Blames (TermGives s (term_view (get_or xs i d))) e → IsTold Blames (SetGives s (map term_view xs)) e
-terms_told s Blames xs i d before e lt go t =
-    told_same Blames (TermGives s (term_view (get_or xs i d))) (SetGives s (map term_view xs)) e
+pub terms_told : (s : Source) (Blames : Question → SourceFault → Type 0) (xs : List Term) (i : ℕ) (d : Term) (before : Selection) (e : RevFault) → i < length xs → ((question : Question) → TermsAsk s (map term_view (drop i xs)) question → TermsAsk s (map term_view xs) question)
+    → ((answer : Result Selection Refusal) → TermsGive s (map term_view (drop i xs)) before answer → SetGives s (map term_view xs) answer) → IsTold Blames (TermAsks s (term_view (get_or xs i d))) (TermGives s (term_view (get_or xs i d))) e → IsTold Blames (TermsAsk s (map term_view xs)) (SetGives s (map term_view xs)) e
+terms_told s Blames xs i d before e lt asked go t =
+    told_same Blames (TermAsks s (term_view (get_or xs i d))) (TermsAsk s (map term_view xs)) (TermGives s (term_view (get_or xs i d))) (SetGives s (map term_view xs)) e
+    (λ question h. asked question (subst (λ (ts : List Term). TermsAsk s (map term_view ts) question) (sym (drop_more xs i d lt)) (inl h)))
     (λ r h. go (Err r) (subst (λ (ts : List Term). TermsGive s (map term_view ts) before (Err r)) (sym (drop_more xs i d lt)) (Err r, h, refl))) t
 
 -- one term more
@@ -39,6 +42,10 @@ pub terms_more : (s : Source) (xs : List Term) (i : ℕ) (d : Term) (before afte
 terms_more s xs i d before after more answer lt gives is h =
     subst (λ (ts : List Term). TermsGive s (map term_view ts) before answer) (sym (drop_more xs i d lt))
     (Ok more, gives, subst (λ (chosen : Selection). TermsGive s (map term_view (drop (i + 1) xs)) chosen answer) is h)
+
+-- what is asked behind a term is asked from it on
+pub terms_asked : (s : Source) (xs : List Term) (i : ℕ) (d : Term) (more : Selection) (question : Question) → i < length xs → TermGives s (term_view (get_or xs i d)) (Ok more) → TermsAsk s (map term_view (drop (i + 1) xs)) question → TermsAsk s (map term_view (drop i xs)) question
+terms_asked s xs i d more question lt gives h = subst (λ (ts : List Term). TermsAsk s (map term_view ts) question) (sym (drop_more xs i d lt)) (inr (more, gives, h))
 
 -- Terms have one selection at most.
 module _ (s : Source) where
@@ -73,19 +80,19 @@ module _ (s : Source) where
   pub not_both : (terms : List TermText) (chosen : Selection) (refusal : Refusal) → SetGives s terms (Ok chosen) → SetGives s terms (Err refusal) → ⊥
   not_both terms chosen refusal p q = let e = terms_one terms (selection [] [] []) (Ok chosen) (Err refusal) p q in cc e
 
-  pub told_one : (Blames : SourceFault → Type 0) (terms : List TermText) (refusal : Refusal) (e : RevFault) → SetGives s terms (Err refusal) → IsTold Blames (SetGives s terms) e → IsAnswered (let r : Result Selection Refusal = Err refusal in r) e
+  pub told_one : (Blames : Question → SourceFault → Type 0) (terms : List TermText) (refusal : Refusal) (e : RevFault) → SetGives s terms (Err refusal) → IsTold Blames (TermsAsk s terms) (SetGives s terms) e → IsAnswered (let r : Result Selection Refusal = Err refusal in r) e
   told_one Blames terms refusal (faults.Refused r) p t = terms_one terms (selection [] [] []) (Err refusal) (Err r) p t
   told_one Blames terms refusal (faults.Missing id) p t = t
   told_one Blames terms refusal (faults.NotACommit id) p t = t
   told_one Blames terms refusal (faults.Source fault) p t = tt
 
 -- what a relation of one answer at most gives is answered
-pub only_answer : {A : Type 0} (Blames : SourceFault → Type 0) (Gives : Result A Refusal → Type 0) (r : Result A RevFault) → AtMostOne Gives → IfOk r (λ found. Gives (Ok found)) → IfErr r (IsTold Blames Gives) → (answer : Result A Refusal) → Gives answer → MatchResult r (λ found. answer ≡ Ok found) (IsAnswered answer)
-only_answer Blames Gives (Ok found) one ok told answer h = one answer (Ok found) h ok
-only_answer Blames Gives (Err (faults.Refused refusal)) one ok told answer h = one answer (Err refusal) h told
-only_answer Blames Gives (Err (faults.Missing id)) one ok told answer h = told
-only_answer Blames Gives (Err (faults.NotACommit id)) one ok told answer h = told
-only_answer Blames Gives (Err (faults.Source fault)) one ok told answer h = tt
+pub only_answer : {A : Type 0} (Blames : Question → SourceFault → Type 0) (Asks : Question → Type 0) (Gives : Result A Refusal → Type 0) (r : Result A RevFault) → AtMostOne Gives → IfOk r (λ found. Gives (Ok found)) → IfErr r (IsTold Blames Asks Gives) → (answer : Result A Refusal) → Gives answer → MatchResult r (λ found. answer ≡ Ok found) (IsAnswered answer)
+only_answer Blames Asks Gives (Ok found) one ok told answer h = one answer (Ok found) h ok
+only_answer Blames Asks Gives (Err (faults.Refused refusal)) one ok told answer h = one answer (Err refusal) h told
+only_answer Blames Asks Gives (Err (faults.Missing id)) one ok told answer h = told
+only_answer Blames Asks Gives (Err (faults.NotACommit id)) one ok told answer h = told
+only_answer Blames Asks Gives (Err (faults.Source fault)) one ok told answer h = tt
 
 -- two facts of an answer, put together
 pub ok_both : {A E : Type 0} (r : Result A E) (P : A → Type 0) (Q : Type 0) (R : A → Type 0) → ((a : A) → P a → Q → R a) → IfOk r P → OnOk r Q → IfOk r R

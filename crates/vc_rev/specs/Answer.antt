@@ -2,6 +2,7 @@
 use Rattle.std.specs.Prelude.{◌≡◌, ◌⊎◌, Result, Ok, Err}
 use Rattle.vc_store.specs.declared.faults.StoreFault.TheVariants as stores
 use Rattle.vc_files.specs.declared.faults.Fault.TheVariants as devices
+use Rattle.vc_rev.specs.Question.{Question}
 use Rattle.vc_rev.specs.declared.refusal.Refusal.{Refusal}
 use Rattle.vc_rev.specs.declared.refusal.SourceFault.{SourceFault}
 use Rattle.vc_rev.specs.declared.refusal.SourceFault.TheVariants as sources
@@ -17,16 +18,20 @@ Continues next answer (Err e) = answer ≡ Err e
 abbrev pub After : {A B : Type 0} → (Result A Refusal → Type 0) → (A → Result B Refusal → Type 0) → Result B Refusal → Type 0
 After {A} First next answer = (first : Result A Refusal) × First first × Continues next answer first
 
--- want of memory, or a fault that the repository may answer
-abbrev pub IsSourceFault : (SourceFault → Type 0) → SourceFault → Type 0
-IsSourceFault Blames fault = (fault ≡ sources.Store (stores.Fault devices.Memory)) ⊎ Blames fault
+-- want of memory, or a fault that the repository may answer to one of the questions that are asked
+abbrev pub IsSourceFault : (Question → SourceFault → Type 0) → (Question → Type 0) → SourceFault → Type 0
+IsSourceFault Blames Asks fault = (fault ≡ sources.Store (stores.Fault devices.Memory)) ⊎ ((question : Question) × Asks question × Blames question fault)
 
--- a refusal is the one that is given; every other fault is the repository's
-abbrev pub IsTold : {A : Type 0} → (SourceFault → Type 0) → (Result A Refusal → Type 0) → RevFault → Type 0
-IsTold Blames Gives (Refused refusal) = Gives (Err refusal)
-IsTold Blames Gives (Missing id) = ⊥
-IsTold Blames Gives (NotACommit id) = ⊥
-IsTold Blames Gives (Source fault) = IsSourceFault Blames fault
+-- a refusal is the one that is given; every other fault is the repository's, for a question that had to be asked
+abbrev pub IsTold : {A : Type 0} → (Question → SourceFault → Type 0) → (Question → Type 0) → (Result A Refusal → Type 0) → RevFault → Type 0
+IsTold Blames Asks Gives (Refused refusal) = Gives (Err refusal)
+IsTold Blames Asks Gives (Missing id) = ⊥
+IsTold Blames Asks Gives (NotACommit id) = ⊥
+IsTold Blames Asks Gives (Source fault) = IsSourceFault Blames Asks fault
+
+-- a refusal that takes no repository
+abbrev pub IsToldAlone : {A : Type 0} → (Result A Refusal → Type 0) → RevFault → Type 0
+IsToldAlone Gives e = IsTold (λ question fault. ⊥) (λ question. ⊥) Gives e
 
 -- no refusal is given
 abbrev pub IsNoAnswer : Result (Unit {0}) Refusal → Type 0

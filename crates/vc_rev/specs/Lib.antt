@@ -12,8 +12,10 @@ pub mod SetReading
 pub mod BehindView
 pub mod SetViews
 pub mod Source
+pub mod Question
 pub mod Answer
 pub mod Meaning
+pub mod Asking
 pub mod Selection
 pub mod WalkFault
 pub mod RootsView

@@ -9,8 +9,10 @@ use Rattle.vc_object.specs.Links.{parents_of}
 use Rattle.vc_object.specs.ObjectMap.{ObjectMap, parents_in}
 use Rattle.vc_object.specs.declared.id.ObjectId.{ObjectId}
 use Rattle.vc_rev.specs.Answer.{After, IsTold}
+use Rattle.vc_rev.specs.Asking.{PeelingAsks, RevAsks}
 use Rattle.vc_rev.specs.Grammar.{RevText}
 use Rattle.vc_rev.specs.Meaning.{PeelsTo, RevGives}
+use Rattle.vc_rev.specs.Question.{Question, AsksAfter}
 use Rattle.vc_rev.specs.SetGrammar.{TermText, EndsText, Include, Exclude, Parents, ExcludeParents, Only, Since, Range, Symmetric, Both, From, To}
 use Rattle.vc_rev.specs.Source.{Source}
 use Rattle.vc_rev.specs.declared.refusal.Refusal.{Refusal}
@@ -105,6 +107,28 @@ module _ (s : Source) where
   abbrev pub SetGives : List TermText → Result Selection Refusal → Type 0
   SetGives terms answer = TermsGive terms (selection [] [] []) answer
 
+  -- What terms ask of a repository before their walk.
+  abbrev pub CommitAsks : RevText → Question → Type 0
+  CommitAsks rev question = AsksAfter (RevAsks s rev) (RevGives s rev) (PeelingAsks s) question
+
+  abbrev pub BothAsk : RevText → RevText → Question → Type 0
+  BothAsk first second question = AsksAfter (CommitAsks first) (CommitGives first) (λ a. CommitAsks second) question
+
+  abbrev pub TermAsks : TermText → Question → Type 0
+  TermAsks (Include rev) question = CommitAsks rev question
+  TermAsks (Exclude rev) question = CommitAsks rev question
+  TermAsks (Parents rev) question = CommitAsks rev question
+  TermAsks (ExcludeParents rev) question = CommitAsks rev question
+  TermAsks (Only rev) question = CommitAsks rev question
+  TermAsks (Since rev n) question = BothAsk (nth_of rev n) rev question
+  TermAsks (Range ends) question = BothAsk (first_of ends) (second_of ends) question
+  TermAsks (Symmetric ends) question = BothAsk (first_of ends) (second_of ends) question
+
+  -- no term behind the first that is refused asks anything
+  abbrev pub TermsAsk : List TermText → Question → Type 0
+  TermsAsk [] question = ⊥
+  TermsAsk (term ∷ others) question = AsksAfter (TermAsks term) (TermGives term) (λ more. TermsAsk others) question
+
 module _ (objects : ObjectMap) where
   -- a common ancestor of one of the pairs
   abbrev pub IsCommonOf : List (ObjectId × ObjectId) → ObjectId → Type 0
@@ -146,7 +170,7 @@ module _ (objects : ObjectMap) where
   IsOfWalk Meets IsDamaged (Unanswered _) = ⊥
 
 -- a term is refused; or all terms have a selection, and its walk ends early
-abbrev pub IsToldOfSet : Source → (SourceFault → Type 0) → (ObjectId → Type 0) → List TermText → RevFault → Type 0
+abbrev pub IsToldOfSet : Source → (Question → SourceFault → Type 0) → (ObjectId → Type 0) → List TermText → RevFault → Type 0
 IsToldOfSet s Blames IsDamaged terms e =
-    IsTold Blames (SetGives s terms) e
+    IsTold Blames (TermsAsk s terms) (SetGives s terms) e
     ⊎ ((chosen : Selection) × SetGives s terms (Ok chosen) × IsOfWalk s.objects (IsMetBy s.objects chosen) IsDamaged e)

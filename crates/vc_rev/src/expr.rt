@@ -4,7 +4,7 @@ ghost use Rattle.std.specs.Prelude.{◌≡◌, ◌⊎◌, ℕ, IfOk, IfErr, Matc
 ghost use Rattle.vc_rev.specs.Grammar.{IsExpr, ExprText};
 ghost use Rattle.vc_rev.specs.Faults.{ExprError, IsBadAt, Reads, ReadsRev, ReadsSteps, RevRead, ReadsExpr, IndexPath, NoColon};
 ghost use Rattle.vc_rev.specs.Outcome.{FaultAt};
-ghost use Rattle.vc_rev.specs.Views.{expr_view, rev_view, steps_view, ExprSlices, RevSlices, StandsRev, StandsSteps, IsEnd};
+ghost use Rattle.vc_rev.specs.Views.{expr_view, rev_view, steps_view, ExprSlices, StandsRev, StandsSteps, IsEnd};
 ghost use Rattle.vc_rev.specs.Steps.{step_at};
 ghost use Rattle.vc_rev.specs.Seen as reads;
 
@@ -53,7 +53,6 @@ pub(crate) fn read_rev<'a>(
     ensures ok { IfOk result (λ found. RevRead text.now (rev_view found.0) found.1.now) }
     ensures rest { IfOk result (λ found. IsEnd found.1.now source.now) }
     ensures stands { IfOk result (λ found. StandsRev source.now text.now found.0 found.1.now) }
-    ensures slices { IfOk result (λ found. RevSlices source.now found.0) }
     ensures fault { IfErr result (FaultAt source.now (ReadsRev text.now)) }
 {
     let (name, rest) = split_name(text);

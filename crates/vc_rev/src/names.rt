@@ -5,6 +5,7 @@ ghost use Rattle.std.specs.Char.{is_ascii_hexdigit};
 ghost use Rattle.std.specs.List.{list_all};
 ghost use Rattle.vc_files.specs.Failures.{Wears};
 ghost use Rattle.vc_rev.specs.Answer.{IsTold, IsNoAnswer};
+ghost use Rattle.vc_rev.specs.Asking.{DigitsAsk, FirstValueAsks, HeadAsks, NameAsks, RefAsks, ShortAsks};
 ghost use Rattle.vc_rev.specs.Meaning.{IsFullName, RefGives, FirstValue, DigitsGive, ShortGives, HeadGives, NameGives, id_of, is_head, is_prefix, places, the_one};
 ghost use Rattle.vc_rev.specs.Source.{source};
 
@@ -84,7 +85,7 @@ pub(crate) fn ref_value<R: Repository>(
     text: &[u8],
 ) -> Result<Option<ObjectId>, RevFault>
     ensures ok { IfOk result (λ found. R.is_honest → RefGives (source (R.names (R.view_of repo.old)) (R.objects (R.state_of repo.old)) (R.stored (R.view_of repo.old))) text.now found) }
-    ensures refused { IfErr result (λ e. R.is_honest → IsTold (R.blames (R.view_of repo.old)) IsNoAnswer e) }
+    ensures refused { IfErr result (λ e. R.is_honest → IsTold (R.blames (R.view_of repo.old)) (RefAsks text.now) IsNoAnswer e) }
 
     ensures kept { R.state_of repo.new ≡ R.state_of repo.old }
     ensures seen { R.view_of repo.new ≡ R.view_of repo.old }
@@ -100,7 +101,7 @@ pub(crate) fn ref_value<R: Repository>(
 /// The one object whose name begins with these digits.
 pub(crate) fn digits_value<R: Repository>(repo: &mut R, name: &[u8]) -> Result<ObjectId, RevFault>
     ensures ok { IfOk result (λ found. R.is_honest → DigitsGive (source (R.names (R.view_of repo.old)) (R.objects (R.state_of repo.old)) (R.stored (R.view_of repo.old))) name.now (Ok found)) }
-    ensures refused { IfErr result (λ e. R.is_honest → IsTold (R.blames (R.view_of repo.old)) (DigitsGive (source (R.names (R.view_of repo.old)) (R.objects (R.state_of repo.old)) (R.stored (R.view_of repo.old))) name.now) e) }
+    ensures refused { IfErr result (λ e. R.is_honest → IsTold (R.blames (R.view_of repo.old)) (DigitsAsk name.now) (DigitsGive (source (R.names (R.view_of repo.old)) (R.objects (R.state_of repo.old)) (R.stored (R.view_of repo.old))) name.now) e) }
 
     ensures kept { R.state_of repo.new ≡ R.state_of repo.old }
     ensures seen { R.view_of repo.new ≡ R.view_of repo.old }
@@ -126,7 +127,7 @@ fn first_value<R: Repository>(
     names: &[Vec<u8>],
 ) -> Result<Option<ObjectId>, RevFault>
     ensures ok { IfOk result (λ found. R.is_honest → FirstValue (source (R.names (R.view_of repo.old)) (R.objects (R.state_of repo.old)) (R.stored (R.view_of repo.old))) (map (λ name. name.items) names.now) found) }
-    ensures refused { IfErr result (λ e. R.is_honest → IsTold (R.blames (R.view_of repo.old)) IsNoAnswer e) }
+    ensures refused { IfErr result (λ e. R.is_honest → IsTold (R.blames (R.view_of repo.old)) (FirstValueAsks (source (R.names (R.view_of repo.old)) (R.objects (R.state_of repo.old)) (R.stored (R.view_of repo.old))) (map (λ name. name.items) names.now)) IsNoAnswer e) }
 
     ensures kept { R.state_of repo.new ≡ R.state_of repo.old }
     ensures seen { R.view_of repo.new ≡ R.view_of repo.old }
@@ -147,7 +148,7 @@ fn short_value<R: Repository>(
     name: &[u8],
 ) -> Result<Option<ObjectId>, RevFault>
     ensures ok { IfOk result (λ found. R.is_honest → FirstValue (source (R.names (R.view_of repo.old)) (R.objects (R.state_of repo.old)) (R.stored (R.view_of repo.old))) (places name.now) found) }
-    ensures refused { IfErr result (λ e. R.is_honest → IsTold (R.blames (R.view_of repo.old)) IsNoAnswer e) }
+    ensures refused { IfErr result (λ e. R.is_honest → IsTold (R.blames (R.view_of repo.old)) (FirstValueAsks (source (R.names (R.view_of repo.old)) (R.objects (R.state_of repo.old)) (R.stored (R.view_of repo.old))) (places name.now)) IsNoAnswer e) }
 
     ensures kept { R.state_of repo.new ≡ R.state_of repo.old }
     ensures seen { R.view_of repo.new ≡ R.view_of repo.old }
@@ -172,7 +173,7 @@ fn short_or_digits<R: Repository>(
     name: &[u8],
 ) -> Result<ObjectId, RevFault>
     ensures ok { IfOk result (λ found. R.is_honest → ShortGives (source (R.names (R.view_of repo.old)) (R.objects (R.state_of repo.old)) (R.stored (R.view_of repo.old))) name.now (Ok found)) }
-    ensures refused { IfErr result (λ e. R.is_honest → IsTold (R.blames (R.view_of repo.old)) (ShortGives (source (R.names (R.view_of repo.old)) (R.objects (R.state_of repo.old)) (R.stored (R.view_of repo.old))) name.now) e) }
+    ensures refused { IfErr result (λ e. R.is_honest → IsTold (R.blames (R.view_of repo.old)) (ShortAsks (source (R.names (R.view_of repo.old)) (R.objects (R.state_of repo.old)) (R.stored (R.view_of repo.old))) name.now) (ShortGives (source (R.names (R.view_of repo.old)) (R.objects (R.state_of repo.old)) (R.stored (R.view_of repo.old))) name.now) e) }
 
     ensures kept { R.state_of repo.new ≡ R.state_of repo.old }
     ensures seen { R.view_of repo.new ≡ R.view_of repo.old }
@@ -188,7 +189,7 @@ fn short_or_digits<R: Repository>(
 /// The value of HEAD.
 fn head_value<R: Repository>(repo: &mut R) -> Result<ObjectId, RevFault>
     ensures ok { IfOk result (λ found. R.is_honest → HeadGives (source (R.names (R.view_of repo.old)) (R.objects (R.state_of repo.old)) (R.stored (R.view_of repo.old))) (Ok found)) }
-    ensures refused { IfErr result (λ e. R.is_honest → IsTold (R.blames (R.view_of repo.old)) (HeadGives (source (R.names (R.view_of repo.old)) (R.objects (R.state_of repo.old)) (R.stored (R.view_of repo.old)))) e) }
+    ensures refused { IfErr result (λ e. R.is_honest → IsTold (R.blames (R.view_of repo.old)) HeadAsks (HeadGives (source (R.names (R.view_of repo.old)) (R.objects (R.state_of repo.old)) (R.stored (R.view_of repo.old)))) e) }
 
     ensures kept { R.state_of repo.new ≡ R.state_of repo.old }
     ensures seen { R.view_of repo.new ≡ R.view_of repo.old }
@@ -222,7 +223,7 @@ pub(crate) fn name_value<R: Repository>(
     name: &[u8],
 ) -> Result<ObjectId, RevFault>
     ensures ok { IfOk result (λ found. R.is_honest → NameGives (source (R.names (R.view_of repo.old)) (R.objects (R.state_of repo.old)) (R.stored (R.view_of repo.old))) name.now (Ok found)) }
-    ensures refused { IfErr result (λ e. R.is_honest → IsTold (R.blames (R.view_of repo.old)) (NameGives (source (R.names (R.view_of repo.old)) (R.objects (R.state_of repo.old)) (R.stored (R.view_of repo.old))) name.now) e) }
+    ensures refused { IfErr result (λ e. R.is_honest → IsTold (R.blames (R.view_of repo.old)) (NameAsks (source (R.names (R.view_of repo.old)) (R.objects (R.state_of repo.old)) (R.stored (R.view_of repo.old))) name.now) (NameGives (source (R.names (R.view_of repo.old)) (R.objects (R.state_of repo.old)) (R.stored (R.view_of repo.old))) name.now) e) }
 
     ensures kept { R.state_of repo.new ≡ R.state_of repo.old }
     ensures seen { R.view_of repo.new ≡ R.view_of repo.old }

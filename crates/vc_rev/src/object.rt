@@ -7,7 +7,7 @@ ghost use Rattle.vc_rev.specs.Meaning.{commit_in, target_in, entries_in, entry_n
 ghost use Rattle.vc_object.specs.Entries.{entries_of};
 ghost use Rattle.vc_object.specs.EntryView.{entry_view};
 ghost use Rattle.vc_object.specs.Links.{parents_of};
-ghost use Rattle.vc_rev.specs.Answer.{IsTold};
+ghost use Rattle.vc_rev.specs.Answer.{IsToldAlone};
 ghost use Rattle.vc_rev.specs.Selection.{commit_at};
 
 use crate::refusal::{Refusal, RevFault, SourceFault};
@@ -50,7 +50,7 @@ fn nth_parent(id: ObjectId, parents: &[ObjectId], n: u32) -> Result<ObjectId, Re
 /// The n-th parent of the commit that an object is.
 fn parent(alloc: Global, id: ObjectId, object: &Stored, n: u32) -> Result<ObjectId, RevFault>
     ensures ok { IfOk result (λ found. parent_in id (parents_of object.now.kind object.now.body.items) n ≡ Ok found) }
-    ensures refused { IfErr result (IsTold (λ _. ⊥) (λ answer. answer ≡ parent_in id (parents_of object.now.kind object.now.body.items) n)) }
+    ensures refused { IfErr result (IsToldAlone (λ answer. answer ≡ parent_in id (parents_of object.now.kind object.now.body.items) n)) }
     ensures memory { IfErr result (λ e. e ≢ RevFault.Source (SourceFault.Store (StoreFault.Fault Fault.Device))) }
 {
     let found = vc_object::parents(alloc, &object.object())?;
@@ -68,7 +68,7 @@ pub(crate) fn commit_at(
     object: &Stored,
 ) -> Result<(ObjectId, Vec<ObjectId>), RevFault>
     ensures ok { IfOk result (λ found. commit_at (id, stored_object object.now.kind object.now.body.items) ≡ Ok (found.0, found.1.items)) }
-    ensures refused { IfErr result (IsTold (λ _. ⊥) (λ answer. answer ≡ commit_at (id, stored_object object.now.kind object.now.body.items))) }
+    ensures refused { IfErr result (IsToldAlone (λ answer. answer ≡ commit_at (id, stored_object object.now.kind object.now.body.items))) }
     ensures memory { IfErr result (λ e. e ≢ RevFault.Source (SourceFault.Store (StoreFault.Fault Fault.Device))) }
 {
     let found = vc_object::parents(alloc, &object.object())?;
@@ -102,7 +102,7 @@ pub(crate) fn pick(
     object: &Stored,
 ) -> Result<ObjectId, RevFault>
     ensures ok { IfOk result (λ found. pick step (id, stored_object object.now.kind object.now.body.items) ≡ Ok found) }
-    ensures refused { IfErr result (IsTold (λ _. ⊥) (λ answer. answer ≡ pick step (id, stored_object object.now.kind object.now.body.items))) }
+    ensures refused { IfErr result (IsToldAlone (λ answer. answer ≡ pick step (id, stored_object object.now.kind object.now.body.items))) }
     ensures memory { IfErr result (λ e. e ≢ RevFault.Source (SourceFault.Store (StoreFault.Fault Fault.Device))) }
 {
     match step {

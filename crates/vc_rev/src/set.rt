@@ -1,14 +1,14 @@
 //! Sets.
 
-ghost use Rattle.std.specs.Prelude.{◌≡◌, ◌⊎◌, ◌∷◌, ◌++◌, [], IfOk, IfErr, MatchResult, List, ℕ};
+ghost use Rattle.std.specs.Prelude.{◌≡◌, ◌⊎◌, ◌∷◌, ◌++◌, [], IfOk, IfErr, MatchResult, List, ℕ, codes};
 ghost use Rattle.vc_rev.specs.Grammar.{RevText};
 ghost use Rattle.vc_rev.specs.Outcome.{Outcome, Read, FaultAt, Then, IsPlace};
 ghost use Rattle.vc_rev.specs.Faults.{ReadsRev, RevRead};
-ghost use Rattle.vc_rev.specs.SetGrammar.{IsSet, TermText};
+ghost use Rattle.vc_rev.specs.SetGrammar.{IsSet, TermText, dots_text};
 ghost use Rattle.vc_rev.specs.SetReading.{ReadsTerm, ReadsFrom, ReadsBehind, ReadsSet, EndsWith, Done, Stopped, SetError, IsBadSetAt, range_view, excluded_at, behind_at, after_spaces};
 ghost use Rattle.vc_rev.specs.SetGrammar as texts;
-ghost use Rattle.vc_rev.specs.SetViews.{term_view, ends_view, terms_view, EndsSlices, TermSlices, SetSlices};
-ghost use Rattle.vc_rev.specs.Views.{IsEnd, RevSlices, rev_view};
+ghost use Rattle.vc_rev.specs.SetViews.{term_view, ends_view, terms_view, StandsEnds, StandsTerm, SetSlices};
+ghost use Rattle.vc_rev.specs.Views.{IsEnd, StandsRev, rev_view};
 
 use crate::base::split_name;
 use crate::expr::read_rev;
@@ -20,7 +20,7 @@ use std::alloc::Global;
 /// The range of these dots and ends.
 fn range<'a>(dots: Dots, ends: Ends<'a>) -> Term<'a>
     ensures term { term_view result ≡ range_view dots (ends_view ends.entry) }
-    ensures slices { (source : List ℕ) → EndsSlices source ends.entry → TermSlices source result }
+    ensures stands { (source text rest : List ℕ) → StandsEnds (dots_text dots) source text ends.entry rest → StandsTerm source text result rest }
 {
     match dots {
         Dots::Two => Term::Range(ends),
@@ -31,7 +31,7 @@ fn range<'a>(dots: Dots, ends: Ends<'a>) -> Term<'a>
 /// The term that excludes what is at hand, from what follows it.
 fn excluded<'a>(rev: Rev<'a>, text: &'a [u8]) -> (Term<'a>, &'a [u8])
     ensures term { Read (term_view result.0) result.1.now ≡ excluded_at (rev_view rev.entry) text.now }
-    ensures slices { (source : List ℕ) → RevSlices source rev.entry → TermSlices source result.0 }
+    ensures stands { (source behind : List ℕ) → StandsRev source behind rev.entry text.now → StandsTerm source (codes "^" ++ behind) result.0 result.1.now }
 {
     match text.strip_prefix(b"^@") {
         Some(rest) => (Term::ExcludeParents(rev), rest),
@@ -47,7 +47,7 @@ fn read_excluded<'a>(
 ) -> Result<(Term<'a>, &'a [u8]), ParseFault>
     requires { IsEnd text.now source.now }
     ensures ok { IfOk result (λ found. Then (ReadsRev text.now) (λ rev rest o. o ≡ excluded_at rev rest) (Read (term_view found.0) found.1.now)) }
-    ensures slices { IfOk result (λ found. TermSlices source.now found.0) }
+    ensures stands { IfOk result (λ found. StandsTerm source.now (codes "^" ++ text.now) found.0 found.1.now) }
     ensures fault { IfErr result (FaultAt source.now (Then (ReadsRev text.now) (λ rev rest o. o ≡ excluded_at rev rest))) }
 {
     let (rev, rest) = read_rev(alloc, source, text)?;
@@ -63,7 +63,7 @@ fn read_to<'a>(
 ) -> Result<(Term<'a>, &'a [u8]), ParseFault>
     requires { IsEnd text.now source.now }
     ensures ok { IfOk result (λ found. Then (ReadsRev text.now) (λ rev rest o. o ≡ Read (range_view dots (texts.To rev)) rest) (Read (term_view found.0) found.1.now)) }
-    ensures slices { IfOk result (λ found. TermSlices source.now found.0) }
+    ensures stands { IfOk result (λ found. StandsTerm source.now (dots_text dots ++ text.now) found.0 found.1.now) }
     ensures fault { IfErr result (FaultAt source.now (Then (ReadsRev text.now) (λ rev rest o. o ≡ Read (range_view dots (texts.To rev)) rest))) }
 {
     let (rev, rest) = read_rev(alloc, source, text)?;
@@ -80,7 +80,7 @@ fn read_from<'a>(
 ) -> Result<(Term<'a>, &'a [u8]), ParseFault>
     requires { IsEnd text.now source.now }
     ensures ok { IfOk result (λ found. ReadsFrom dots (rev_view first.entry) text.now (Read (term_view found.0) found.1.now)) }
-    ensures slices { IfOk result (λ found. RevSlices source.now first.entry → TermSlices source.now found.0) }
+    ensures stands { IfOk result (λ found. (front : List ℕ) → StandsRev source.now front first.entry (dots_text dots ++ text.now) → StandsTerm source.now front found.0 found.1.now) }
     ensures fault { IfErr result (FaultAt source.now (ReadsFrom dots (rev_view first.entry) text.now)) }
 {
     let (name, _) = split_name(text);
@@ -100,7 +100,7 @@ fn read_behind<'a>(
 ) -> Result<(Term<'a>, &'a [u8]), ParseFault>
     requires { IsEnd text.now source.now }
     ensures ok { IfOk result (λ found. ReadsBehind (rev_view rev.entry) text.now (behind_at text.now) (Read (term_view found.0) found.1.now)) }
-    ensures slices { IfOk result (λ found. RevSlices source.now rev.entry → TermSlices source.now found.0) }
+    ensures stands { IfOk result (λ found. (front : List ℕ) → StandsRev source.now front rev.entry text.now → StandsTerm source.now front found.0 found.1.now) }
     ensures fault { IfErr result (FaultAt source.now (ReadsBehind (rev_view rev.entry) text.now (behind_at text.now))) }
 {
     match suffix_at(text) {
@@ -121,7 +121,7 @@ fn read_based<'a>(
 ) -> Result<(Term<'a>, &'a [u8]), ParseFault>
     requires { IsEnd text.now source.now }
     ensures ok { IfOk result (λ found. Then (ReadsRev text.now) (λ rev rest o. ReadsBehind rev rest (behind_at rest) o) (Read (term_view found.0) found.1.now)) }
-    ensures slices { IfOk result (λ found. TermSlices source.now found.0) }
+    ensures stands { IfOk result (λ found. StandsTerm source.now text.now found.0 found.1.now) }
     ensures fault { IfErr result (FaultAt source.now (Then (ReadsRev text.now) (λ rev rest o. ReadsBehind rev rest (behind_at rest) o))) }
 {
     let (rev, rest) = read_rev(alloc, source, text)?;
@@ -136,7 +136,7 @@ fn read_term<'a>(
 ) -> Result<(Term<'a>, &'a [u8]), ParseFault>
     requires { IsEnd text.now source.now }
     ensures ok { IfOk result (λ found. ReadsTerm text.now (Read (term_view found.0) found.1.now)) }
-    ensures slices { IfOk result (λ found. TermSlices source.now found.0) }
+    ensures stands { IfOk result (λ found. StandsTerm source.now text.now found.0 found.1.now) }
     ensures fault { IfErr result (FaultAt source.now (ReadsTerm text.now)) }
 {
     match prefix_at(text) {
@@ -182,7 +182,7 @@ fn read_set(alloc: Global, source: &[u8]) -> Result<SetExpr<'_>, ParseFault>
 ///
 /// Each token lends its text from the source. The time is linear in the source's length.
 pub fn parse_set(alloc: Global, source: &[u8]) -> Result<SetExpr<'_>, ParseFault>
-    // What is read is in the grammar, and each token is its slice of the source.
+    // What is read is in the grammar, and its tokens stand one behind another in the source, from its front to its end.
     ensures ok { IfOk result (λ set. IsSet source.now (terms_view set)) }
     ensures slices { IfOk result (SetSlices source.now) }
 

@@ -4,6 +4,7 @@ ghost use Rattle.std.specs.Prelude.{◌≡◌, ◌≢◌, Some, Ok, Result, IfOk
 ghost use Rattle.vc_files.specs.Failures.{Wears};
 ghost use Rattle.vc_object.specs.Decoding.{stored_object, StoredObject};
 ghost use Rattle.vc_rev.specs.Answer.{IsTold};
+ghost use Rattle.vc_rev.specs.Asking.{AncestorAsks, PeelAsks, PeelingAsks, StepAsks, StepsAsk};
 ghost use Rattle.vc_rev.specs.Meaning.{PeelsTo, PicksFrom, AncestorGives, PeelGives, StepGives, StepsGive};
 ghost use Rattle.vc_rev.specs.Source.{source};
 
@@ -24,7 +25,7 @@ pub(crate) fn peel<R: Repository>(
     id: ObjectId,
 ) -> Result<(ObjectId, Stored), RevFault>
     ensures ok { IfOk result (λ found. R.is_honest → PeelsTo (source (R.names (R.view_of repo.old)) (R.objects (R.state_of repo.old)) (R.stored (R.view_of repo.old))) id (Ok (found.0, stored_object found.1.kind found.1.body.items))) }
-    ensures refused { IfErr result (λ e. R.is_honest → IsTold (R.blames (R.view_of repo.old)) (PeelsTo (source (R.names (R.view_of repo.old)) (R.objects (R.state_of repo.old)) (R.stored (R.view_of repo.old))) id) e) }
+    ensures refused { IfErr result (λ e. R.is_honest → IsTold (R.blames (R.view_of repo.old)) (PeelingAsks (source (R.names (R.view_of repo.old)) (R.objects (R.state_of repo.old)) (R.stored (R.view_of repo.old))) id) (PeelsTo (source (R.names (R.view_of repo.old)) (R.objects (R.state_of repo.old)) (R.stored (R.view_of repo.old))) id) e) }
 
     ensures kept { R.state_of repo.new ≡ R.state_of repo.old }
     ensures seen { R.view_of repo.new ≡ R.view_of repo.old }
@@ -55,7 +56,7 @@ pub(crate) fn pick_from<R: Repository>(
     id: ObjectId,
 ) -> Result<ObjectId, RevFault>
     ensures ok { IfOk result (λ found. R.is_honest → PicksFrom (source (R.names (R.view_of repo.old)) (R.objects (R.state_of repo.old)) (R.stored (R.view_of repo.old))) step id (Ok found)) }
-    ensures refused { IfErr result (λ e. R.is_honest → IsTold (R.blames (R.view_of repo.old)) (PicksFrom (source (R.names (R.view_of repo.old)) (R.objects (R.state_of repo.old)) (R.stored (R.view_of repo.old))) step id) e) }
+    ensures refused { IfErr result (λ e. R.is_honest → IsTold (R.blames (R.view_of repo.old)) (PeelingAsks (source (R.names (R.view_of repo.old)) (R.objects (R.state_of repo.old)) (R.stored (R.view_of repo.old))) id) (PicksFrom (source (R.names (R.view_of repo.old)) (R.objects (R.state_of repo.old)) (R.stored (R.view_of repo.old))) step id) e) }
 
     ensures kept { R.state_of repo.new ≡ R.state_of repo.old }
     ensures seen { R.view_of repo.new ≡ R.view_of repo.old }
@@ -73,7 +74,7 @@ fn ancestor<R: Repository>(
     n: u32,
 ) -> Result<ObjectId, RevFault>
     ensures ok { IfOk result (λ found. R.is_honest → AncestorGives (source (R.names (R.view_of repo.old)) (R.objects (R.state_of repo.old)) (R.stored (R.view_of repo.old))) n id (Ok found)) }
-    ensures refused { IfErr result (λ e. R.is_honest → IsTold (R.blames (R.view_of repo.old)) (AncestorGives (source (R.names (R.view_of repo.old)) (R.objects (R.state_of repo.old)) (R.stored (R.view_of repo.old))) n id) e) }
+    ensures refused { IfErr result (λ e. R.is_honest → IsTold (R.blames (R.view_of repo.old)) (AncestorAsks (source (R.names (R.view_of repo.old)) (R.objects (R.state_of repo.old)) (R.stored (R.view_of repo.old))) n id) (AncestorGives (source (R.names (R.view_of repo.old)) (R.objects (R.state_of repo.old)) (R.stored (R.view_of repo.old))) n id) e) }
 
     ensures kept { R.state_of repo.new ≡ R.state_of repo.old }
     ensures seen { R.view_of repo.new ≡ R.view_of repo.old }
@@ -94,7 +95,7 @@ fn ancestor<R: Repository>(
 /// The object itself, if it is a tag.
 fn tag_itself<R: Repository>(repo: &mut R, id: ObjectId) -> Result<ObjectId, RevFault>
     ensures ok { IfOk result (λ found. R.is_honest → PeelGives (source (R.names (R.view_of repo.old)) (R.objects (R.state_of repo.old)) (R.stored (R.view_of repo.old))) Kind.Tag id (Ok found)) }
-    ensures refused { IfErr result (λ e. R.is_honest → IsTold (R.blames (R.view_of repo.old)) (PeelGives (source (R.names (R.view_of repo.old)) (R.objects (R.state_of repo.old)) (R.stored (R.view_of repo.old))) Kind.Tag id) e) }
+    ensures refused { IfErr result (λ e. R.is_honest → IsTold (R.blames (R.view_of repo.old)) (PeelAsks (source (R.names (R.view_of repo.old)) (R.objects (R.state_of repo.old)) (R.stored (R.view_of repo.old))) Kind.Tag id) (PeelGives (source (R.names (R.view_of repo.old)) (R.objects (R.state_of repo.old)) (R.stored (R.view_of repo.old))) Kind.Tag id) e) }
 
     ensures kept { R.state_of repo.new ≡ R.state_of repo.old }
     ensures seen { R.view_of repo.new ≡ R.view_of repo.old }
@@ -117,7 +118,7 @@ fn peel_to<R: Repository>(
     id: ObjectId,
 ) -> Result<ObjectId, RevFault>
     ensures ok { IfOk result (λ found. R.is_honest → PeelGives (source (R.names (R.view_of repo.old)) (R.objects (R.state_of repo.old)) (R.stored (R.view_of repo.old))) kind id (Ok found)) }
-    ensures refused { IfErr result (λ e. R.is_honest → IsTold (R.blames (R.view_of repo.old)) (PeelGives (source (R.names (R.view_of repo.old)) (R.objects (R.state_of repo.old)) (R.stored (R.view_of repo.old))) kind id) e) }
+    ensures refused { IfErr result (λ e. R.is_honest → IsTold (R.blames (R.view_of repo.old)) (PeelAsks (source (R.names (R.view_of repo.old)) (R.objects (R.state_of repo.old)) (R.stored (R.view_of repo.old))) kind id) (PeelGives (source (R.names (R.view_of repo.old)) (R.objects (R.state_of repo.old)) (R.stored (R.view_of repo.old))) kind id) e) }
 
     ensures kept { R.state_of repo.new ≡ R.state_of repo.old }
     ensures seen { R.view_of repo.new ≡ R.view_of repo.old }
@@ -139,7 +140,7 @@ fn step_value<R: Repository>(
     id: ObjectId,
 ) -> Result<ObjectId, RevFault>
     ensures ok { IfOk result (λ found. R.is_honest → StepGives (source (R.names (R.view_of repo.old)) (R.objects (R.state_of repo.old)) (R.stored (R.view_of repo.old))) step id (Ok found)) }
-    ensures refused { IfErr result (λ e. R.is_honest → IsTold (R.blames (R.view_of repo.old)) (StepGives (source (R.names (R.view_of repo.old)) (R.objects (R.state_of repo.old)) (R.stored (R.view_of repo.old))) step id) e) }
+    ensures refused { IfErr result (λ e. R.is_honest → IsTold (R.blames (R.view_of repo.old)) (StepAsks (source (R.names (R.view_of repo.old)) (R.objects (R.state_of repo.old)) (R.stored (R.view_of repo.old))) step id) (StepGives (source (R.names (R.view_of repo.old)) (R.objects (R.state_of repo.old)) (R.stored (R.view_of repo.old))) step id) e) }
 
     ensures kept { R.state_of repo.new ≡ R.state_of repo.old }
     ensures seen { R.view_of repo.new ≡ R.view_of repo.old }
@@ -161,7 +162,7 @@ pub(crate) fn steps_value<R: Repository>(
     id: ObjectId,
 ) -> Result<ObjectId, RevFault>
     ensures ok { IfOk result (λ found. R.is_honest → StepsGive (source (R.names (R.view_of repo.old)) (R.objects (R.state_of repo.old)) (R.stored (R.view_of repo.old))) (map (λ token. token.step) steps.now) id (Ok found)) }
-    ensures refused { IfErr result (λ e. R.is_honest → IsTold (R.blames (R.view_of repo.old)) (StepsGive (source (R.names (R.view_of repo.old)) (R.objects (R.state_of repo.old)) (R.stored (R.view_of repo.old))) (map (λ token. token.step) steps.now) id) e) }
+    ensures refused { IfErr result (λ e. R.is_honest → IsTold (R.blames (R.view_of repo.old)) (StepsAsk (source (R.names (R.view_of repo.old)) (R.objects (R.state_of repo.old)) (R.stored (R.view_of repo.old))) (map (λ token. token.step) steps.now) id) (StepsGive (source (R.names (R.view_of repo.old)) (R.objects (R.state_of repo.old)) (R.stored (R.view_of repo.old))) (map (λ token. token.step) steps.now) id) e) }
 
     ensures kept { R.state_of repo.new ≡ R.state_of repo.old }
     ensures seen { R.view_of repo.new ≡ R.view_of repo.old }

@@ -4,7 +4,7 @@ ghost use Rattle.std.specs.Prelude.{◌≡◌, Ok, map, IfOk, IfErr, IsErrOf};
 ghost use Rattle.vc_files.specs.Failures.{Wears};
 ghost use Rattle.vc_rev.specs.Answer.{IsTold};
 ghost use Rattle.vc_rev.specs.RootsView.{roots_view};
-ghost use Rattle.vc_rev.specs.Selection.{CommitGives, BothGive, Makes, RangeGives, SymmetricGives, SetGives, TermGives, first_of, second_of, head_rev, nth_of};
+ghost use Rattle.vc_rev.specs.Selection.{BothAsk, CommitAsks, CommitGives, BothGive, Makes, RangeGives, SymmetricGives, SetGives, TermAsks, TermGives, TermsAsk, first_of, second_of, head_rev, nth_of};
 ghost use Rattle.vc_rev.specs.SetViews.{ends_view, term_view};
 ghost use Rattle.vc_rev.specs.Source.{source};
 ghost use Rattle.vc_rev.specs.Uses.{used};
@@ -40,7 +40,7 @@ fn commit_value<R: Repository>(
     rev: &Rev<'_>,
 ) -> Result<(ObjectId, Vec<ObjectId>), RevFault>
     ensures ok { IfOk result (λ found. R.is_honest → CommitGives (source (R.names (R.view_of repo.old)) (R.objects (R.state_of repo.old)) (R.stored (R.view_of repo.old))) (rev_view rev.now) (Ok (found.0, found.1.items))) }
-    ensures refused { IfErr result (λ e. R.is_honest → IsTold (R.blames (R.view_of repo.old)) (CommitGives (source (R.names (R.view_of repo.old)) (R.objects (R.state_of repo.old)) (R.stored (R.view_of repo.old))) (rev_view rev.now)) e) }
+    ensures refused { IfErr result (λ e. R.is_honest → IsTold (R.blames (R.view_of repo.old)) (CommitAsks (source (R.names (R.view_of repo.old)) (R.objects (R.state_of repo.old)) (R.stored (R.view_of repo.old))) (rev_view rev.now)) (CommitGives (source (R.names (R.view_of repo.old)) (R.objects (R.state_of repo.old)) (R.stored (R.view_of repo.old))) (rev_view rev.now)) e) }
 
     ensures kept { R.state_of repo.new ≡ R.state_of repo.old }
     ensures seen { R.view_of repo.new ≡ R.view_of repo.old }
@@ -73,7 +73,7 @@ fn single<R: Repository>(
     way: Use,
 ) -> Result<Roots, RevFault>
     ensures ok { IfOk result (λ found. R.is_honest → Makes (source (R.names (R.view_of repo.old)) (R.objects (R.state_of repo.old)) (R.stored (R.view_of repo.old))) (used way) (rev_view rev.now) (Ok (roots_view found))) }
-    ensures refused { IfErr result (λ e. R.is_honest → IsTold (R.blames (R.view_of repo.old)) (Makes (source (R.names (R.view_of repo.old)) (R.objects (R.state_of repo.old)) (R.stored (R.view_of repo.old))) (used way) (rev_view rev.now)) e) }
+    ensures refused { IfErr result (λ e. R.is_honest → IsTold (R.blames (R.view_of repo.old)) (CommitAsks (source (R.names (R.view_of repo.old)) (R.objects (R.state_of repo.old)) (R.stored (R.view_of repo.old))) (rev_view rev.now)) (Makes (source (R.names (R.view_of repo.old)) (R.objects (R.state_of repo.old)) (R.stored (R.view_of repo.old))) (used way) (rev_view rev.now)) e) }
 
     ensures kept { R.state_of repo.new ≡ R.state_of repo.old }
     ensures seen { R.view_of repo.new ≡ R.view_of repo.old }
@@ -91,7 +91,7 @@ fn both<R: Repository>(
     second: &Rev<'_>,
 ) -> Result<(ObjectId, ObjectId), RevFault>
     ensures ok { IfOk result (λ found. R.is_honest → BothGive (source (R.names (R.view_of repo.old)) (R.objects (R.state_of repo.old)) (R.stored (R.view_of repo.old))) (rev_view first.now) (rev_view second.now) (Ok found)) }
-    ensures refused { IfErr result (λ e. R.is_honest → IsTold (R.blames (R.view_of repo.old)) (BothGive (source (R.names (R.view_of repo.old)) (R.objects (R.state_of repo.old)) (R.stored (R.view_of repo.old))) (rev_view first.now) (rev_view second.now)) e) }
+    ensures refused { IfErr result (λ e. R.is_honest → IsTold (R.blames (R.view_of repo.old)) (BothAsk (source (R.names (R.view_of repo.old)) (R.objects (R.state_of repo.old)) (R.stored (R.view_of repo.old))) (rev_view first.now) (rev_view second.now)) (BothGive (source (R.names (R.view_of repo.old)) (R.objects (R.state_of repo.old)) (R.stored (R.view_of repo.old))) (rev_view first.now) (rev_view second.now)) e) }
 
     ensures kept { R.state_of repo.new ≡ R.state_of repo.old }
     ensures seen { R.view_of repo.new ≡ R.view_of repo.old }
@@ -122,7 +122,7 @@ fn ends_value<R: Repository>(
     ends: &Ends<'_>,
 ) -> Result<(ObjectId, ObjectId), RevFault>
     ensures ok { IfOk result (λ found. R.is_honest → BothGive (source (R.names (R.view_of repo.old)) (R.objects (R.state_of repo.old)) (R.stored (R.view_of repo.old))) (first_of (ends_view ends.now)) (second_of (ends_view ends.now)) (Ok found)) }
-    ensures refused { IfErr result (λ e. R.is_honest → IsTold (R.blames (R.view_of repo.old)) (BothGive (source (R.names (R.view_of repo.old)) (R.objects (R.state_of repo.old)) (R.stored (R.view_of repo.old))) (first_of (ends_view ends.now)) (second_of (ends_view ends.now))) e) }
+    ensures refused { IfErr result (λ e. R.is_honest → IsTold (R.blames (R.view_of repo.old)) (BothAsk (source (R.names (R.view_of repo.old)) (R.objects (R.state_of repo.old)) (R.stored (R.view_of repo.old))) (first_of (ends_view ends.now)) (second_of (ends_view ends.now))) (BothGive (source (R.names (R.view_of repo.old)) (R.objects (R.state_of repo.old)) (R.stored (R.view_of repo.old))) (first_of (ends_view ends.now)) (second_of (ends_view ends.now))) e) }
 
     ensures kept { R.state_of repo.new ≡ R.state_of repo.old }
     ensures seen { R.view_of repo.new ≡ R.view_of repo.old }
@@ -159,7 +159,7 @@ fn since<R: Repository>(
     n: u32,
 ) -> Result<Roots, RevFault>
     ensures ok { IfOk result (λ found. R.is_honest → RangeGives (source (R.names (R.view_of repo.old)) (R.objects (R.state_of repo.old)) (R.stored (R.view_of repo.old))) (nth_of (rev_view rev.now) n) (rev_view rev.now) (Ok (roots_view found))) }
-    ensures refused { IfErr result (λ e. R.is_honest → IsTold (R.blames (R.view_of repo.old)) (RangeGives (source (R.names (R.view_of repo.old)) (R.objects (R.state_of repo.old)) (R.stored (R.view_of repo.old))) (nth_of (rev_view rev.now) n) (rev_view rev.now)) e) }
+    ensures refused { IfErr result (λ e. R.is_honest → IsTold (R.blames (R.view_of repo.old)) (BothAsk (source (R.names (R.view_of repo.old)) (R.objects (R.state_of repo.old)) (R.stored (R.view_of repo.old))) (nth_of (rev_view rev.now) n) (rev_view rev.now)) (RangeGives (source (R.names (R.view_of repo.old)) (R.objects (R.state_of repo.old)) (R.stored (R.view_of repo.old))) (nth_of (rev_view rev.now) n) (rev_view rev.now)) e) }
 
     ensures kept { R.state_of repo.new ≡ R.state_of repo.old }
     ensures seen { R.view_of repo.new ≡ R.view_of repo.old }
@@ -173,7 +173,7 @@ fn since<R: Repository>(
 /// What is between the ends of a range.
 fn range<R: Repository>(alloc: Global, repo: &mut R, ends: &Ends<'_>) -> Result<Roots, RevFault>
     ensures ok { IfOk result (λ found. R.is_honest → RangeGives (source (R.names (R.view_of repo.old)) (R.objects (R.state_of repo.old)) (R.stored (R.view_of repo.old))) (first_of (ends_view ends.now)) (second_of (ends_view ends.now)) (Ok (roots_view found))) }
-    ensures refused { IfErr result (λ e. R.is_honest → IsTold (R.blames (R.view_of repo.old)) (RangeGives (source (R.names (R.view_of repo.old)) (R.objects (R.state_of repo.old)) (R.stored (R.view_of repo.old))) (first_of (ends_view ends.now)) (second_of (ends_view ends.now))) e) }
+    ensures refused { IfErr result (λ e. R.is_honest → IsTold (R.blames (R.view_of repo.old)) (BothAsk (source (R.names (R.view_of repo.old)) (R.objects (R.state_of repo.old)) (R.stored (R.view_of repo.old))) (first_of (ends_view ends.now)) (second_of (ends_view ends.now))) (RangeGives (source (R.names (R.view_of repo.old)) (R.objects (R.state_of repo.old)) (R.stored (R.view_of repo.old))) (first_of (ends_view ends.now)) (second_of (ends_view ends.now))) e) }
 
     ensures kept { R.state_of repo.new ≡ R.state_of repo.old }
     ensures seen { R.view_of repo.new ≡ R.view_of repo.old }
@@ -186,7 +186,7 @@ fn range<R: Repository>(alloc: Global, repo: &mut R, ends: &Ends<'_>) -> Result<
 /// What the ends of a range don't have in common.
 fn symmetric<R: Repository>(alloc: Global, repo: &mut R, ends: &Ends<'_>) -> Result<Roots, RevFault>
     ensures ok { IfOk result (λ found. R.is_honest → SymmetricGives (source (R.names (R.view_of repo.old)) (R.objects (R.state_of repo.old)) (R.stored (R.view_of repo.old))) (first_of (ends_view ends.now)) (second_of (ends_view ends.now)) (Ok (roots_view found))) }
-    ensures refused { IfErr result (λ e. R.is_honest → IsTold (R.blames (R.view_of repo.old)) (SymmetricGives (source (R.names (R.view_of repo.old)) (R.objects (R.state_of repo.old)) (R.stored (R.view_of repo.old))) (first_of (ends_view ends.now)) (second_of (ends_view ends.now))) e) }
+    ensures refused { IfErr result (λ e. R.is_honest → IsTold (R.blames (R.view_of repo.old)) (BothAsk (source (R.names (R.view_of repo.old)) (R.objects (R.state_of repo.old)) (R.stored (R.view_of repo.old))) (first_of (ends_view ends.now)) (second_of (ends_view ends.now))) (SymmetricGives (source (R.names (R.view_of repo.old)) (R.objects (R.state_of repo.old)) (R.stored (R.view_of repo.old))) (first_of (ends_view ends.now)) (second_of (ends_view ends.now))) e) }
 
     ensures kept { R.state_of repo.new ≡ R.state_of repo.old }
     ensures seen { R.view_of repo.new ≡ R.view_of repo.old }
@@ -203,7 +203,7 @@ fn term_roots<R: Repository>(
     term: &Term<'_>,
 ) -> Result<Roots, RevFault>
     ensures ok { IfOk result (λ found. R.is_honest → TermGives (source (R.names (R.view_of repo.old)) (R.objects (R.state_of repo.old)) (R.stored (R.view_of repo.old))) (term_view term.now) (Ok (roots_view found))) }
-    ensures refused { IfErr result (λ e. R.is_honest → IsTold (R.blames (R.view_of repo.old)) (TermGives (source (R.names (R.view_of repo.old)) (R.objects (R.state_of repo.old)) (R.stored (R.view_of repo.old))) (term_view term.now)) e) }
+    ensures refused { IfErr result (λ e. R.is_honest → IsTold (R.blames (R.view_of repo.old)) (TermAsks (source (R.names (R.view_of repo.old)) (R.objects (R.state_of repo.old)) (R.stored (R.view_of repo.old))) (term_view term.now)) (TermGives (source (R.names (R.view_of repo.old)) (R.objects (R.state_of repo.old)) (R.stored (R.view_of repo.old))) (term_view term.now)) e) }
 
     ensures kept { R.state_of repo.new ≡ R.state_of repo.old }
     ensures seen { R.view_of repo.new ≡ R.view_of repo.old }
@@ -228,7 +228,7 @@ pub(crate) fn set_roots<R: Repository>(
     terms: &[Term<'_>],
 ) -> Result<Roots, RevFault>
     ensures ok { IfOk result (λ found. R.is_honest → SetGives (source (R.names (R.view_of repo.old)) (R.objects (R.state_of repo.old)) (R.stored (R.view_of repo.old))) (map term_view terms.now) (Ok (roots_view found))) }
-    ensures refused { IfErr result (λ e. R.is_honest → IsTold (R.blames (R.view_of repo.old)) (SetGives (source (R.names (R.view_of repo.old)) (R.objects (R.state_of repo.old)) (R.stored (R.view_of repo.old))) (map term_view terms.now)) e) }
+    ensures refused { IfErr result (λ e. R.is_honest → IsTold (R.blames (R.view_of repo.old)) (TermsAsk (source (R.names (R.view_of repo.old)) (R.objects (R.state_of repo.old)) (R.stored (R.view_of repo.old))) (map term_view terms.now)) (SetGives (source (R.names (R.view_of repo.old)) (R.objects (R.state_of repo.old)) (R.stored (R.view_of repo.old))) (map term_view terms.now)) e) }
 
     ensures kept { R.state_of repo.new ≡ R.state_of repo.old }
     ensures seen { R.view_of repo.new ≡ R.view_of repo.old }

@@ -3,6 +3,7 @@
 ghost use Rattle.std.specs.Prelude.{◌≡◌, ◌==◌, Ok, MatchResult, map, IfOk, IfErr, IsErrOf};
 ghost use Rattle.vc_files.specs.Failures.{Wears};
 ghost use Rattle.vc_rev.specs.Answer.{IsTold, IsAnswered};
+ghost use Rattle.vc_rev.specs.Asking.{ChildAsks, EntryAsks, ExprAsks, IndexAsks, PathAsks, RevAsks};
 ghost use Rattle.vc_rev.specs.Meaning.{Answer, child_at, EntryGives, PathGives, IndexGives, RevGives, Denotes, components, is_folder};
 ghost use Rattle.vc_rev.specs.Source.{source};
 ghost use Rattle.vc_rev.specs.Views.{rev_view, expr_view};
@@ -57,7 +58,7 @@ fn child<R: Repository>(
     id: ObjectId,
 ) -> Result<(Mode, ObjectId), RevFault>
     ensures ok { IfOk result (λ found. R.is_honest → child_at (source (R.names (R.view_of repo.old)) (R.objects (R.state_of repo.old)) (R.stored (R.view_of repo.old))) name.now mode id ≡ Ok found) }
-    ensures refused { IfErr result (λ e. R.is_honest → IsTold (R.blames (R.view_of repo.old)) (λ answer. answer ≡ child_at (source (R.names (R.view_of repo.old)) (R.objects (R.state_of repo.old)) (R.stored (R.view_of repo.old))) name.now mode id) e) }
+    ensures refused { IfErr result (λ e. R.is_honest → IsTold (R.blames (R.view_of repo.old)) (ChildAsks mode id) (λ answer. answer ≡ child_at (source (R.names (R.view_of repo.old)) (R.objects (R.state_of repo.old)) (R.stored (R.view_of repo.old))) name.now mode id) e) }
 
     ensures kept { R.state_of repo.new ≡ R.state_of repo.old }
     ensures seen { R.view_of repo.new ≡ R.view_of repo.old }
@@ -82,7 +83,7 @@ fn entry_value<R: Repository>(
     tree: ObjectId,
 ) -> Result<ObjectId, RevFault>
     ensures ok { IfOk result (λ found. R.is_honest → EntryGives (source (R.names (R.view_of repo.old)) (R.objects (R.state_of repo.old)) (R.stored (R.view_of repo.old))) (map (λ part. part.now) parts.now) modes.Tree tree (Ok found)) }
-    ensures refused { IfErr result (λ e. R.is_honest → IsTold (R.blames (R.view_of repo.old)) (EntryGives (source (R.names (R.view_of repo.old)) (R.objects (R.state_of repo.old)) (R.stored (R.view_of repo.old))) (map (λ part. part.now) parts.now) modes.Tree tree) e) }
+    ensures refused { IfErr result (λ e. R.is_honest → IsTold (R.blames (R.view_of repo.old)) (EntryAsks (source (R.names (R.view_of repo.old)) (R.objects (R.state_of repo.old)) (R.stored (R.view_of repo.old))) (map (λ part. part.now) parts.now) modes.Tree tree) (EntryGives (source (R.names (R.view_of repo.old)) (R.objects (R.state_of repo.old)) (R.stored (R.view_of repo.old))) (map (λ part. part.now) parts.now) modes.Tree tree) e) }
 
     ensures kept { R.state_of repo.new ≡ R.state_of repo.old }
     ensures seen { R.view_of repo.new ≡ R.view_of repo.old }
@@ -106,7 +107,7 @@ fn path_value<R: Repository>(
     path: &[u8],
 ) -> Result<ObjectId, RevFault>
     ensures ok { IfOk result (λ found. R.is_honest → PathGives (source (R.names (R.view_of repo.old)) (R.objects (R.state_of repo.old)) (R.stored (R.view_of repo.old))) path.now id (Ok found)) }
-    ensures refused { IfErr result (λ e. R.is_honest → IsTold (R.blames (R.view_of repo.old)) (PathGives (source (R.names (R.view_of repo.old)) (R.objects (R.state_of repo.old)) (R.stored (R.view_of repo.old))) path.now id) e) }
+    ensures refused { IfErr result (λ e. R.is_honest → IsTold (R.blames (R.view_of repo.old)) (PathAsks (source (R.names (R.view_of repo.old)) (R.objects (R.state_of repo.old)) (R.stored (R.view_of repo.old))) path.now id) (PathGives (source (R.names (R.view_of repo.old)) (R.objects (R.state_of repo.old)) (R.stored (R.view_of repo.old))) path.now id) e) }
 
     ensures kept { R.state_of repo.new ≡ R.state_of repo.old }
     ensures seen { R.view_of repo.new ≡ R.view_of repo.old }
@@ -124,7 +125,7 @@ pub(crate) fn rev_value<R: Repository>(
     rev: &Rev<'_>,
 ) -> Result<ObjectId, RevFault>
     ensures ok { IfOk result (λ found. R.is_honest → RevGives (source (R.names (R.view_of repo.old)) (R.objects (R.state_of repo.old)) (R.stored (R.view_of repo.old))) (rev_view rev.now) (Ok found)) }
-    ensures refused { IfErr result (λ e. R.is_honest → IsTold (R.blames (R.view_of repo.old)) (RevGives (source (R.names (R.view_of repo.old)) (R.objects (R.state_of repo.old)) (R.stored (R.view_of repo.old))) (rev_view rev.now)) e) }
+    ensures refused { IfErr result (λ e. R.is_honest → IsTold (R.blames (R.view_of repo.old)) (RevAsks (source (R.names (R.view_of repo.old)) (R.objects (R.state_of repo.old)) (R.stored (R.view_of repo.old))) (rev_view rev.now)) (RevGives (source (R.names (R.view_of repo.old)) (R.objects (R.state_of repo.old)) (R.stored (R.view_of repo.old))) (rev_view rev.now)) e) }
 
     ensures kept { R.state_of repo.new ≡ R.state_of repo.old }
     ensures seen { R.view_of repo.new ≡ R.view_of repo.old }
@@ -137,7 +138,7 @@ pub(crate) fn rev_value<R: Repository>(
 /// The id at a path of the index.
 fn index_value<R: Repository>(repo: &mut R, path: &[u8]) -> Result<ObjectId, RevFault>
     ensures ok { IfOk result (λ found. R.is_honest → IndexGives (source (R.names (R.view_of repo.old)) (R.objects (R.state_of repo.old)) (R.stored (R.view_of repo.old))) path.now (Ok found)) }
-    ensures refused { IfErr result (λ e. R.is_honest → IsTold (R.blames (R.view_of repo.old)) (IndexGives (source (R.names (R.view_of repo.old)) (R.objects (R.state_of repo.old)) (R.stored (R.view_of repo.old))) path.now) e) }
+    ensures refused { IfErr result (λ e. R.is_honest → IsTold (R.blames (R.view_of repo.old)) (IndexAsks path.now) (IndexGives (source (R.names (R.view_of repo.old)) (R.objects (R.state_of repo.old)) (R.stored (R.view_of repo.old))) path.now) e) }
 
     ensures kept { R.state_of repo.new ≡ R.state_of repo.old }
     ensures seen { R.view_of repo.new ≡ R.view_of repo.old }
@@ -158,7 +159,7 @@ fn in_tree<R: Repository>(
     path: &[u8],
 ) -> Result<ObjectId, RevFault>
     ensures ok { IfOk result (λ found. R.is_honest → Denotes (source (R.names (R.view_of repo.old)) (R.objects (R.state_of repo.old)) (R.stored (R.view_of repo.old))) (texts.InTree (rev_view rev.now) path.now) (Ok found)) }
-    ensures refused { IfErr result (λ e. R.is_honest → IsTold (R.blames (R.view_of repo.old)) (Denotes (source (R.names (R.view_of repo.old)) (R.objects (R.state_of repo.old)) (R.stored (R.view_of repo.old))) (texts.InTree (rev_view rev.now) path.now)) e) }
+    ensures refused { IfErr result (λ e. R.is_honest → IsTold (R.blames (R.view_of repo.old)) (ExprAsks (source (R.names (R.view_of repo.old)) (R.objects (R.state_of repo.old)) (R.stored (R.view_of repo.old))) (texts.InTree (rev_view rev.now) path.now)) (Denotes (source (R.names (R.view_of repo.old)) (R.objects (R.state_of repo.old)) (R.stored (R.view_of repo.old))) (texts.InTree (rev_view rev.now) path.now)) e) }
 
     ensures kept { R.state_of repo.new ≡ R.state_of repo.old }
     ensures seen { R.view_of repo.new ≡ R.view_of repo.old }
@@ -175,7 +176,7 @@ fn expr_value<R: Repository>(
     expr: &Expr<'_>,
 ) -> Result<ObjectId, RevFault>
     ensures ok { IfOk result (λ found. R.is_honest → Denotes (source (R.names (R.view_of repo.old)) (R.objects (R.state_of repo.old)) (R.stored (R.view_of repo.old))) (expr_view expr.now) (Ok found)) }
-    ensures refused { IfErr result (λ e. R.is_honest → IsTold (R.blames (R.view_of repo.old)) (Denotes (source (R.names (R.view_of repo.old)) (R.objects (R.state_of repo.old)) (R.stored (R.view_of repo.old))) (expr_view expr.now)) e) }
+    ensures refused { IfErr result (λ e. R.is_honest → IsTold (R.blames (R.view_of repo.old)) (ExprAsks (source (R.names (R.view_of repo.old)) (R.objects (R.state_of repo.old)) (R.stored (R.view_of repo.old))) (expr_view expr.now)) (Denotes (source (R.names (R.view_of repo.old)) (R.objects (R.state_of repo.old)) (R.stored (R.view_of repo.old))) (expr_view expr.now)) e) }
 
     ensures kept { R.state_of repo.new ≡ R.state_of repo.old }
     ensures seen { R.view_of repo.new ≡ R.view_of repo.old }
@@ -199,7 +200,7 @@ pub fn resolve<R: Repository>(
     expr: &Expr<'_>,
 ) -> Result<ObjectId, RevFault>
     ensures ok { IfOk result (λ found. R.is_honest → Denotes (source (R.names (R.view_of repo.old)) (R.objects (R.state_of repo.old)) (R.stored (R.view_of repo.old))) (expr_view expr.now) (Ok found)) }
-    ensures refused { IfErr result (λ e. R.is_honest → IsTold (R.blames (R.view_of repo.old)) (Denotes (source (R.names (R.view_of repo.old)) (R.objects (R.state_of repo.old)) (R.stored (R.view_of repo.old))) (expr_view expr.now)) e) }
+    ensures refused { IfErr result (λ e. R.is_honest → IsTold (R.blames (R.view_of repo.old)) (ExprAsks (source (R.names (R.view_of repo.old)) (R.objects (R.state_of repo.old)) (R.stored (R.view_of repo.old))) (expr_view expr.now)) (Denotes (source (R.names (R.view_of repo.old)) (R.objects (R.state_of repo.old)) (R.stored (R.view_of repo.old))) (expr_view expr.now)) e) }
 
     // What an expression denotes is answered, value or refusal, unless the repository gives no answer.
     ensures only { R.is_honest → (answer : Answer) → Denotes (source (R.names (R.view_of repo.old)) (R.objects (R.state_of repo.old)) (R.stored (R.view_of repo.old))) (expr_view expr.now) answer → MatchResult result (λ found. answer ≡ Ok found) (IsAnswered answer) }

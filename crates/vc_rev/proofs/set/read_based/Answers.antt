@@ -15,6 +15,9 @@ pub returns-clause-ok : goal.returns-clause-ok
 returns-clause-ok c =
     IfOk-weaker c.read_behind.result _ _ (λ found h. (Read (rev_view c.in_ok-rev.rev) c.in_ok-rev.rest.now, c.in_ok-rev.ensures.ok, h)) c.read_behind.ensures.ok
 
+pub returns-clause-stands : goal.returns-clause-stands
+returns-clause-stands c = IfOk-weaker c.read_behind.result _ _ (λ found h. h c.args.text.now c.in_ok-rev.ensures.stands) c.read_behind.ensures.stands
+
 pub returns-clause-fault : goal.returns-clause-fault
 returns-clause-fault c =
     IfErr-weaker c.read_behind.result _ _ (λ e h. next_bad c.args.source.now (ReadsRev c.args.text.now) (λ rev rest o. ReadsBehind rev rest (behind_at rest) o) (rev_view c.in_ok-rev.rev) c.in_ok-rev.rest.now e c.in_ok-rev.ensures.ok h) c.read_behind.ensures.fault

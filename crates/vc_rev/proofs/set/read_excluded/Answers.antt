@@ -15,5 +15,5 @@ returns-in_err-rev-clause-fault c =
 pub returns-clause-ok : goal.returns-clause-ok
 returns-clause-ok c = (Read (rev_view c.in_ok-rev.rev) c.in_ok-rev.rest.now, c.in_ok-rev.ensures.ok, c.excluded.ensures.term)
 
-pub returns-clause-slices : goal.returns-clause-slices
-returns-clause-slices c = c.excluded.ensures.slices c.args.source.now c.in_ok-rev.ensures.slices
+pub returns-clause-stands : goal.returns-clause-stands
+returns-clause-stands c = c.excluded.ensures.stands c.args.source.now c.args.text.now c.in_ok-rev.ensures.stands

@@ -21,8 +21,8 @@ returns-clause-ok c =
     let some : (length (name_of c.args.text.now) == 0) ≡ false = rw c.split_name.ensures.name at (sym c.is_empty.ensures ∙ c.if-is_empty.false) in
     rw some (Read (rev_view c.in_ok-second.second) c.in_ok-second.rest.now, c.in_ok-second.ensures.ok, ap (λ (t : TermText). Read t c.in_ok-second.rest.now) c.range-2.ensures.term)
 
-pub returns-then-is_empty-clause-slices : goal.returns-then-is_empty-clause-slices
-returns-then-is_empty-clause-slices c = λ h. c.range.ensures.slices c.args.source.now h
+pub returns-then-is_empty-clause-stands : goal.returns-then-is_empty-clause-stands
+returns-then-is_empty-clause-stands c = λ front h. c.range.ensures.stands c.args.source.now front c.args.text.now h
 
-pub returns-clause-slices : goal.returns-clause-slices
-returns-clause-slices c = λ h. c.range-2.ensures.slices c.args.source.now (h, c.in_ok-second.ensures.slices)
+pub returns-clause-stands : goal.returns-clause-stands
+returns-clause-stands c = λ front h. c.range-2.ensures.stands c.args.source.now front c.in_ok-second.rest.now (c.args.text.now, h, c.in_ok-second.ensures.stands)

@@ -1,14 +1,14 @@
 use Rattle.std.proofs.Common.{◌≡◌, ◌≢◌, ◌==◌, ℕ, inr, length, map, true≢false, List, [], ◌∷◌, ◌++◌, sym, ap, subst, ◌∙◌, append_assoc, arith}
-use Rattle.std.specs.List.{AllByRecursion}
 use Rattle.std.proofs.lemmas.Bool.Decides.{nat_tests}
 use Rattle.std.proofs.lemmas.List.{map_push, nil_from_length, length-append}
 use Rattle.std.proofs.lemmas.Result.{err_from_is_err_and}
 use Rattle.vc_rev.specs.SetGrammar.{TermText}
 use Rattle.vc_rev.specs.SetReading.{Done, Stopped, ReadsSet, after_spaces}
-use Rattle.vc_rev.specs.SetViews.{term_view, TermSlices}
+use Rattle.vc_rev.specs.SetViews.{term_view, StandTerms}
 use Rattle.vc_rev.specs.declared.token.Term.{Term}
-use Rattle.vc_rev.proofs.Places.{end_on, end_short, place_of, all_push}
+use Rattle.vc_rev.proofs.Places.{end_on, end_short, place_of}
 use Rattle.vc_rev.proofs.SetLemmas.{term_found, spaces_front, spaces_shorter, set_stops, set_bad, set_more}
+use Rattle.vc_rev.proofs.SetPlaces.{terms_stand}
 use Rattle.vc_rev.proofs.set.read_set.Goals as goal
 
 pub returns-in_err-term-clause-fault : goal.returns-in_err-term-clause-fault
@@ -24,6 +24,11 @@ returns-then-is_empty-clause-ok c =
       ap (map term_view) c.in_ok-push.ensures.items ∙ map_push term_view c.terms.terms.items c.in_ok-term.term,
       set_stops c.args.source.now c.terms.rest.now (map term_view c.terms.terms.items) (Done (term_view c.in_ok-term.term)) c.terms.invariant.set (rw none at c.in_ok-term.ensures.ok),
     )
+
+pub returns-then-is_empty-clause-slices : goal.returns-then-is_empty-clause-slices
+returns-then-is_empty-clause-slices c =
+    let none : c.in_ok-term.after.now ≡ [] = nil_from_length c.in_ok-term.after.now (let t = sym c.is_empty.ensures ∙ c.if-is_empty.true in grind (arith, nat_tests, t)) in
+    subst (λ (ts : List Term). StandTerms c.args.source.now c.args.source.now ts) (sym c.in_ok-push.ensures.items) (c.terms.invariant.slices (c.in_ok-term.term ∷ []) (rw none at c.in_ok-term.ensures.stands))
 
 pub overflow_sub-result : goal.overflow_sub-result
 overflow_sub-result c =
@@ -64,5 +69,7 @@ terms-preserved c =
       set = λ others ending h.
           subst (λ (ts : List TermText). ReadsSet source (ts ++ others) ending) (sym views) (set_more source c.terms.rest.now after before others term ending i.set c.in_ok-term.ensures.ok (sym c.starts_with.ensures.value ∙ c.if-not-starts_with.false) (rw c.after_spaces-rest.ensures at h));
       rest = rw c.after_spaces-rest.ensures (end_on source c.terms.rest.now (f.0 ++ s.0) (after_spaces after) i.rest (f.2 ∙ ap (λ x. f.0 ++ x) s.2 ∙ sym (append_assoc f.0 s.0 (after_spaces after))));
-      slices = subst (λ (ts : List Term). AllByRecursion (TermSlices source) ts) (sym items) (all_push (TermSlices source) c.terms.terms.items c.in_ok-term.term i.slices c.in_ok-term.ensures.slices);
+      slices = λ others h.
+          subst (λ (ts : List Term). StandTerms source source (ts ++ others)) (sym items) (rw append_assoc (i.slices (c.in_ok-term.term ∷ others)
+          (terms_stand source c.terms.rest.now after c.in_ok-term.term others c.in_ok-term.ensures.stands (sym c.starts_with.ensures.value ∙ c.if-not-starts_with.false) (rw c.after_spaces-rest.ensures at h))));
     }

@@ -1,17 +1,17 @@
 use Rattle.std.proofs.Common.{List, ◌++◌, length, map}
-use Rattle.std.specs.List.{AllByRecursion}
 use Rattle.vc_rev.specs.SetGrammar.{TermText}
 use Rattle.vc_rev.specs.SetReading.{Ending, ReadsSet}
-use Rattle.vc_rev.specs.SetViews.{term_view, TermSlices}
+use Rattle.vc_rev.specs.SetViews.{term_view, StandTerms}
+use Rattle.vc_rev.specs.declared.token.Term.{Term}
 use Rattle.vc_rev.specs.Views.{IsEnd}
 use Rattle.vc_rev.proofs.set.read_set.Given as goal
 
--- what the rest is read as comes behind the terms that were read
+-- what the rest is read as comes behind the terms that were read, and stands behind them
 abbrev pub invariant-terms : goal.invariant-terms
 invariant-terms l = record {
   set : (others : List TermText) (ending : Ending) → ReadsSet l.rest others ending → ReadsSet l.source (map term_view l.terms.items ++ others) ending;
   rest : IsEnd l.rest l.source;
-  slices : AllByRecursion (TermSlices l.source) l.terms.items;
+  slices : (others : List Term) → StandTerms l.source l.rest others → StandTerms l.source l.source (l.terms.items ++ others);
 }
 
 abbrev pub decreases-terms : goal.decreases-terms

@@ -1,8 +1,8 @@
 use Rattle.std.proofs.lemmas.Result.{err_from_is_err_and}
-use Rattle.std.proofs.Common.{◌≡◌, ap}
+use Rattle.std.proofs.Common.{◌≡◌, ◌++◌, ap, refl}
 use Rattle.vc_rev.specs.Outcome.{Read}
 use Rattle.vc_rev.specs.Faults.{ReadsRev}
-use Rattle.vc_rev.specs.SetGrammar.{TermText, To}
+use Rattle.vc_rev.specs.SetGrammar.{TermText, To, dots_text}
 use Rattle.vc_rev.specs.SetReading.{range_view}
 use Rattle.vc_rev.specs.Views.{rev_view}
 use Rattle.vc_rev.proofs.OutcomeLemmas.{then_bad}
@@ -16,5 +16,5 @@ returns-in_err-rev-clause-fault c =
 pub returns-clause-ok : goal.returns-clause-ok
 returns-clause-ok c = (Read (rev_view c.in_ok-rev.rev) c.in_ok-rev.rest.now, c.in_ok-rev.ensures.ok, ap (λ (t : TermText). Read t c.in_ok-rev.rest.now) c.range.ensures.term)
 
-pub returns-clause-slices : goal.returns-clause-slices
-returns-clause-slices c = c.range.ensures.slices c.args.source.now c.in_ok-rev.ensures.slices
+pub returns-clause-stands : goal.returns-clause-stands
+returns-clause-stands c = c.range.ensures.stands c.args.source.now (dots_text c.args.dots ++ c.args.text.now) c.in_ok-rev.rest.now (c.args.text.now, refl, c.in_ok-rev.ensures.stands)

@@ -1,11 +1,15 @@
 use Rattle.std.proofs.Common.{rules, ◌≡◌, ◌≢◌, ◌∙◌, Ok, Err, arith}
 use Rattle.std.proofs.lemmas.Result.{err_from_is_err_and}
+use Rattle.vc_rev.specs.Asking.{AncestorAsks, PeelingAsks}
 use Rattle.vc_rev.specs.Meaning.{PicksFrom, AncestorGives}
 use Rattle.vc_rev.specs.Source.{source}
 use Rattle.vc_rev.specs.declared.token.Step.TheVariants as steps
 use Rattle.vc_rev.proofs.AnswerLemmas.{told_same}
-use Rattle.vc_rev.proofs.StepsLemmas.{parents_more, parents_end, parents_none, ancestor_some}
+use Rattle.vc_rev.proofs.StepsLemmas.{parents_more, parents_end, parents_none, ancestor_some, ancestor_asked, parents_asked, parents_asked-first}
 use Rattle.vc_rev.proofs.steps.ancestor.Goals as goal
+
+pub returns-then-n-eq0-clause-refused : goal.returns-then-n-eq0-clause-refused
+returns-then-n-eq0-clause-refused g c = rw c.if-n-eq0.true c.pick_from.ensures.refused
 
 pub returns-in_err-at-clause-refused : goal.returns-in_err-at-clause-refused
 returns-in_err-at-clause-refused g c =
@@ -17,7 +21,8 @@ returns-in_err-at-clause-refused g c =
     let told = rw (i.kept, i.seen) at c.in_err-at.ensures.refused in
     let p = err_from_is_err_and c.from_residual.result c.from_residual.ensures.1 in
     rw (p.1, p.2) (λ honest.
-    told_same blames (PicksFrom s (steps.Parent 1) c.parents.at) (AncestorGives s c.args.n c.args.id) c.in_err-at.field-0.0
+    told_same blames (PeelingAsks s c.parents.at) (AncestorAsks s c.args.n c.args.id) (PicksFrom s (steps.Parent 1) c.parents.at) (AncestorGives s c.args.n c.args.id) c.in_err-at.field-0.0
+    (λ question h. ancestor_asked s c.args.n c.args.id question some (i.asked honest question (parents_asked-first s c.parents.left c.parents.at question left h)))
     (λ r h. ancestor_some s c.args.n c.args.id (Err r) some (i.onward honest (Err r) (parents_end s c.parents.left c.parents.at r left h))) (told honest))
 
 pub parents-preserved : goal.parents-preserved
@@ -31,6 +36,7 @@ parents-preserved g c =
       seen = c.in_ok-at.ensures.seen ∙ i.seen;
       wear = search rules;
       onward = λ honest answer h. i.onward honest answer (parents_more s c.parents.left c.parents.at c.in_ok-at.at answer left (picked honest) h);
+      asked = λ honest question h. i.asked honest question (parents_asked s c.parents.left c.parents.at c.in_ok-at.at question left (picked honest) h);
     }
 
 pub returns-clause-ok : goal.returns-clause-ok

@@ -1,10 +1,12 @@
-use Rattle.std.proofs.Common.{rules, ◌≡◌, [], ◌∷◌, Some, ap, sym, ◌∙◌, refl, arith}
+use Rattle.std.proofs.Common.{rules, inr, ◌≡◌, [], ◌∷◌, Some, ap, sym, ◌∙◌, refl, arith}
 use Rattle.std.specs.Option.{option_map}
 use Rattle.indexmap.specs.IndexSet.{insert_key, insert_all}
 use Rattle.vc_graph.proofs.WalkLemmas.{Walks-step, Contains-from_slice_get, walked-closed, Reaches-from_one, ReachedFrom-one}
 use Rattle.vc_object.proofs.IdLemmas.{id_eq-same}
 use Rattle.vc_object.specs.Decoding.{stored_object}
 use Rattle.vc_object.specs.ObjectId.{id_eq}
+use Rattle.std.proofs.lemmas.Result.{err_from_is_err_and}
+use Rattle.vc_rev.specs.Question as questions
 use Rattle.vc_rev.specs.Meaning.{tag_links}
 use Rattle.vc_rev.proofs.StepsLemmas.{Walks-one, tag_links-tag}
 use Rattle.vc_rev.proofs.steps.peel.Goals as goal
@@ -13,6 +15,15 @@ pub loop-next-init : goal.loop-next-init
 loop-next-init g c =
     let added : c.insert.new.self.keys ≡ c.args.id ∷ [] = c.in_ok-insert.ensures.keys ∙ ap (λ ks. insert_key id_eq ks c.args.id) c.new-seen.ensures.empty in
     record { kept = refl; seen = refl; wear = search rules; walks = λ honest. Walks-one (tag_links (g.R.Objects.objects (g.R.Objects.state_of c.args.repo.now))) c.args.id c.insert.new.self.keys added }
+
+pub returns-in_err-object-clause-refused : goal.returns-in_err-object-clause-refused
+returns-in_err-object-clause-refused g c =
+    let before = c.loop-next.invariant in
+    let objects = g.R.Objects.objects (g.R.Objects.state_of c.args.repo.now) in
+    let at = c.index.result.now in
+    let told = rw before.seen at c.in_err-object.ensures.refused in
+    let p = err_from_is_err_and c.from_residual-in_err-object.result c.from_residual-in_err-object.ensures.1 in
+    rw (p.1, p.2) (λ honest. inr (questions.Object at, (at, Reaches-from_one (tag_links objects) c.args.id at ((before.walks honest).reached at (Contains-from_slice_get _ _ _ c.index.ensures)), refl), told honest))
 
 pub returns-in_default-clause-refused : goal.returns-in_default-clause-refused
 returns-in_default-clause-refused g c honest =

@@ -1,10 +1,12 @@
 use Rattle.std.proofs.Common.{◌≡◌, map, drop}
 use Rattle.vc_files.specs.Failures.{Wears}
+use Rattle.vc_rev.specs.Asking.{StepsAsk}
+use Rattle.vc_rev.specs.Question.{Question}
 use Rattle.vc_rev.specs.Meaning.{Answer, StepsGive}
 use Rattle.vc_rev.specs.Source.{source}
 use Rattle.vc_rev.proofs.steps.steps_value.Given as goal
 
--- what comes of the steps that are left is what comes of all
+-- what comes of the steps that are left is what comes of all, and what they ask all ask
 abbrev pub invariant-steps : goal.invariant-steps
 invariant-steps g l =
     let s = source (g.R.Repository.names (g.R.Repository.view_of l.initial.repo)) (g.R.Objects.objects (g.R.Objects.state_of l.initial.repo)) (g.R.Repository.stored (g.R.Repository.view_of l.initial.repo)) in record {
@@ -12,4 +14,5 @@ invariant-steps g l =
       seen : g.R.Repository.view_of l.repo ≡ g.R.Repository.view_of l.initial.repo;
       wear : Wears g.R.Objects.failed g.R.Objects.can_fail l.initial.repo l.repo ⊥;
       onward : g.R.Objects.is_honest → (answer : Answer) → StepsGive s (map (λ token. token.step) (drop l.token-index l.steps)) l.at answer → StepsGive s (map (λ token. token.step) l.steps) l.fn.id answer;
+      asked : g.R.Objects.is_honest → (question : Question) → StepsAsk s (map (λ token. token.step) (drop l.token-index l.steps)) l.at question → StepsAsk s (map (λ token. token.step) l.steps) l.fn.id question;
     }

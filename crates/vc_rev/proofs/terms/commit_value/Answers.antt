@@ -6,13 +6,14 @@ use Rattle.vc_object.specs.Decoding.{StoredObject, stored_object}
 use Rattle.vc_object.specs.declared.id.ObjectId.{ObjectId}
 use Rattle.vc_store.specs.declared.faults.StoreFault.TheVariants as stores
 use Rattle.vc_rev.specs.Answer.{After}
+use Rattle.vc_rev.specs.Asking.{PeelingAsks, RevAsks}
 use Rattle.vc_rev.specs.Meaning.{PeelsTo, RevGives}
 use Rattle.vc_rev.specs.Selection.{commit_at}
 use Rattle.vc_rev.specs.Source.{source}
 use Rattle.vc_rev.specs.Views.{rev_view}
 use Rattle.vc_rev.specs.declared.refusal.SourceFault.TheVariants as sources
 use Rattle.vc_rev.specs.declared.refusal.RevFault.TheVariants as faults
-use Rattle.vc_rev.proofs.AnswerLemmas.{told_first, told_next, told_pure, wears_none, err_at}
+use Rattle.vc_rev.proofs.AnswerLemmas.{told_first, told_next, told_only, told_alone, wears_none, err_at}
 use Rattle.vc_rev.proofs.terms.commit_value.Goals as goal
 
 pub returns-in_err-id-clause-refused : goal.returns-in_err-id-clause-refused
@@ -20,7 +21,7 @@ returns-in_err-id-clause-refused g c =
     let s = source (g.R.Repository.names (g.R.Repository.view_of c.args.repo.now)) (g.R.Objects.objects (g.R.Objects.state_of c.args.repo.now)) (g.R.Repository.stored (g.R.Repository.view_of c.args.repo.now)) in
     let blames = g.R.Repository.blames (g.R.Repository.view_of c.args.repo.now) in
     let p = err_from_is_err_and c.from_residual.result c.from_residual.ensures.1 in
-    rw (p.1, p.2) (λ honest. told_first blames (RevGives s (rev_view c.args.rev.now)) (λ x. After (PeelsTo s x) (λ found a. a ≡ commit_at found)) c.in_err-id.field-0.0 (c.in_err-id.ensures.refused honest))
+    rw (p.1, p.2) (λ honest. told_first blames (RevAsks s (rev_view c.args.rev.now)) (RevGives s (rev_view c.args.rev.now)) (PeelingAsks s) (λ x. After (PeelsTo s x) (λ found a. a ≡ commit_at found)) c.in_err-id.field-0.0 (c.in_err-id.ensures.refused honest))
 
 pub returns-in_err-at-clause-refused : goal.returns-in_err-at-clause-refused
 returns-in_err-at-clause-refused g c =
@@ -29,8 +30,8 @@ returns-in_err-at-clause-refused g c =
     let told = rw (c.in_ok-id.ensures.kept, c.in_ok-id.ensures.seen) at c.in_err-at.ensures.refused in
     let p = err_from_is_err_and c.from_residual-in_err-at.result c.from_residual-in_err-at.ensures.1 in
     rw (p.1, p.2) (λ honest.
-    told_next blames (RevGives s (rev_view c.args.rev.now)) (λ x. After (PeelsTo s x) (λ found a. a ≡ commit_at found)) c.in_ok-id.id c.in_err-at.field-0.0 (c.in_ok-id.ensures.ok honest)
-    (told_first blames (PeelsTo s c.in_ok-id.id) (λ found a. a ≡ commit_at found) c.in_err-at.field-0.0 (told honest)))
+    told_next blames (RevAsks s (rev_view c.args.rev.now)) (RevGives s (rev_view c.args.rev.now)) (PeelingAsks s) (λ x. After (PeelsTo s x) (λ found a. a ≡ commit_at found)) c.in_ok-id.id c.in_err-at.field-0.0 (c.in_ok-id.ensures.ok honest)
+    (told_only blames (PeelingAsks s c.in_ok-id.id) (PeelsTo s c.in_ok-id.id) (λ found a. a ≡ commit_at found) c.in_err-at.field-0.0 (told honest)))
 
 pub returns-clause-ok : goal.returns-clause-ok
 returns-clause-ok g c =
@@ -44,8 +45,8 @@ returns-clause-refused g c =
     let found : ObjectId × StoredObject = (c.in_ok-at.at, stored_object c.in_ok-at.object.kind c.in_ok-at.object.body.items) in
     let peeled = rw c.in_ok-id.ensures.kept at c.in_ok-at.ensures.ok in
     IfErr-weaker c.commit_at.result _ _ (λ e h honest.
-    told_next blames (RevGives s (rev_view c.args.rev.now)) (λ x. After (PeelsTo s x) (λ f a. a ≡ commit_at f)) c.in_ok-id.id e (c.in_ok-id.ensures.ok honest)
-    (told_next blames (PeelsTo s c.in_ok-id.id) (λ f a. a ≡ commit_at f) found e (peeled honest) (told_pure blames (λ a. a ≡ commit_at found) e h))) c.commit_at.ensures.refused
+    told_next blames (RevAsks s (rev_view c.args.rev.now)) (RevGives s (rev_view c.args.rev.now)) (PeelingAsks s) (λ x. After (PeelsTo s x) (λ f a. a ≡ commit_at f)) c.in_ok-id.id e (c.in_ok-id.ensures.ok honest)
+    (told_alone blames (PeelingAsks s c.in_ok-id.id) (PeelsTo s c.in_ok-id.id) (λ f a. a ≡ commit_at f) found e (peeled honest) h)) c.commit_at.ensures.refused
 
 pub returns-clause-wear : goal.returns-clause-wear
 returns-clause-wear g c =

@@ -1,7 +1,7 @@
 use Rattle.std.proofs.Common.{Ok, IfOk, IfErr, subst}
 use Rattle.vc_rev.specs.Answer.{IsTold}
 use Rattle.vc_rev.specs.Grammar.{RevText}
-use Rattle.vc_rev.specs.Selection.{BothGive}
+use Rattle.vc_rev.specs.Selection.{BothAsk, BothGive}
 use Rattle.vc_rev.specs.Source.{source}
 use Rattle.vc_rev.specs.Views.{rev_view}
 use Rattle.vc_rev.proofs.terms.ends_value.Goals as goal
@@ -28,5 +28,5 @@ pub returns-in-To-clause-refused : goal.returns-in-To-clause-refused
 returns-in-To-clause-refused g c =
     let s = source (g.R.Repository.names (g.R.Repository.view_of c.args.repo.now)) (g.R.Objects.objects (g.R.Objects.state_of c.args.repo.now)) (g.R.Repository.stored (g.R.Repository.view_of c.args.repo.now)) in
     let blames = g.R.Repository.blames (g.R.Repository.view_of c.args.repo.now) in
-    let h = subst (λ (rev : RevText). IfErr c.both-in-To.result (λ e. g.R.Objects.is_honest → IsTold blames (BothGive s rev (rev_view c.in-To.second)) e)) c.head-in-To.ensures c.both-in-To.ensures.refused in
+    let h = subst (λ (rev : RevText). IfErr c.both-in-To.result (λ e. g.R.Objects.is_honest → IsTold blames (BothAsk s rev (rev_view c.in-To.second)) (BothGive s rev (rev_view c.in-To.second)) e)) c.head-in-To.ensures c.both-in-To.ensures.refused in
     rw c.in-To.is h

@@ -1,9 +1,9 @@
 use Rattle.std.proofs.Common.{◌≡◌, [], ◌∷◌, Ok, ap}
 use Rattle.std.proofs.lemmas.Result.{err_from_is_err_and}
-use Rattle.vc_rev.specs.Selection.{BothGive, selection, first_of, second_of}
+use Rattle.vc_rev.specs.Selection.{BothAsk, BothGive, selection, first_of, second_of}
 use Rattle.vc_rev.specs.SetViews.{ends_view}
 use Rattle.vc_rev.specs.Source.{source}
-use Rattle.vc_rev.proofs.AnswerLemmas.{told_first}
+use Rattle.vc_rev.proofs.AnswerLemmas.{told_only}
 use Rattle.vc_rev.proofs.terms.range.Goals as goal
 
 pub returns-in_err-first-clause-refused : goal.returns-in_err-first-clause-refused
@@ -12,7 +12,7 @@ returns-in_err-first-clause-refused g c =
     let blames = g.R.Repository.blames (g.R.Repository.view_of c.args.repo.now) in
     let told = c.in_err-first.ensures.refused in
     let p = err_from_is_err_and c.from_residual.result c.from_residual.ensures.1 in
-    rw (p.1, p.2) (λ honest. told_first blames (BothGive s (first_of (ends_view c.args.ends.now)) (second_of (ends_view c.args.ends.now))) (λ ends r. r ≡ Ok (selection (ends.1 ∷ []) (ends.0 ∷ []) [])) c.in_err-first.field-0.0 (told honest))
+    rw (p.1, p.2) (λ honest. told_only blames (BothAsk s (first_of (ends_view c.args.ends.now)) (second_of (ends_view c.args.ends.now))) (BothGive s (first_of (ends_view c.args.ends.now)) (second_of (ends_view c.args.ends.now))) (λ ends r. r ≡ Ok (selection (ends.1 ∷ []) (ends.0 ∷ []) [])) c.in_err-first.field-0.0 (told honest))
 
 pub returns-clause-ok : goal.returns-clause-ok
 returns-clause-ok g c honest =

@@ -1,13 +1,14 @@
 use Rattle.std.proofs.Common.{◌≡◌, Result, map, drop}
 use Rattle.vc_files.specs.Failures.{Wears}
 use Rattle.vc_rev.specs.RootsView.{roots_view}
-use Rattle.vc_rev.specs.Selection.{Selection, SetGives, TermsGive}
+use Rattle.vc_rev.specs.Selection.{Selection, SetGives, TermsAsk, TermsGive}
+use Rattle.vc_rev.specs.Question.{Question}
 use Rattle.vc_rev.specs.SetViews.{term_view}
 use Rattle.vc_rev.specs.Source.{source}
 use Rattle.vc_rev.specs.declared.refusal.Refusal.{Refusal}
 use Rattle.vc_rev.proofs.terms.set_roots.Given as goal
 
--- what comes of the terms that are left is what comes of all
+-- what comes of the terms that are left is what comes of all, and what they ask all ask
 abbrev pub invariant-terms : goal.invariant-terms
 invariant-terms g l =
     let s = source (g.R.Repository.names (g.R.Repository.view_of l.initial.repo)) (g.R.Objects.objects (g.R.Objects.state_of l.initial.repo)) (g.R.Repository.stored (g.R.Repository.view_of l.initial.repo)) in record {
@@ -15,4 +16,5 @@ invariant-terms g l =
       seen : g.R.Repository.view_of l.repo ≡ g.R.Repository.view_of l.initial.repo;
       wear : Wears g.R.Objects.failed g.R.Objects.can_fail l.initial.repo l.repo ⊥;
       onward : g.R.Objects.is_honest → (answer : Result Selection Refusal) → TermsGive s (map term_view (drop l.term-index l.terms)) (roots_view l.roots) answer → SetGives s (map term_view l.terms) answer;
+      asked : g.R.Objects.is_honest → (question : Question) → TermsAsk s (map term_view (drop l.term-index l.terms)) question → TermsAsk s (map term_view l.terms) question;
     }

@@ -2,19 +2,19 @@ use Rattle.std.proofs.Common.{◌≡◌, [], ◌∷◌, Ok, ap, subst}
 use Rattle.std.proofs.lemmas.Result.{err_from_is_err_and}
 use Rattle.vc_rev.specs.Answer.{IsTold}
 use Rattle.vc_rev.specs.Grammar.{RevText}
-use Rattle.vc_rev.specs.Selection.{BothGive, selection, nth_of}
+use Rattle.vc_rev.specs.Selection.{BothAsk, BothGive, selection, nth_of}
 use Rattle.vc_rev.specs.Views.{rev_view}
 use Rattle.vc_rev.specs.Source.{source}
-use Rattle.vc_rev.proofs.AnswerLemmas.{told_first}
+use Rattle.vc_rev.proofs.AnswerLemmas.{told_only}
 use Rattle.vc_rev.proofs.terms.since.Goals as goal
 
 pub returns-in_err-first-clause-refused : goal.returns-in_err-first-clause-refused
 returns-in_err-first-clause-refused g c =
     let s = source (g.R.Repository.names (g.R.Repository.view_of c.args.repo.now)) (g.R.Objects.objects (g.R.Objects.state_of c.args.repo.now)) (g.R.Repository.stored (g.R.Repository.view_of c.args.repo.now)) in
     let blames = g.R.Repository.blames (g.R.Repository.view_of c.args.repo.now) in
-    let told = λ (honest : g.R.Objects.is_honest). subst (λ (rev : RevText). IsTold blames (BothGive s rev (rev_view c.args.rev.now)) c.in_err-first.field-0.0) c.in_ok-parent.ensures (c.in_err-first.ensures.refused honest) in
+    let told = λ (honest : g.R.Objects.is_honest). subst (λ (rev : RevText). IsTold blames (BothAsk s rev (rev_view c.args.rev.now)) (BothGive s rev (rev_view c.args.rev.now)) c.in_err-first.field-0.0) c.in_ok-parent.ensures (c.in_err-first.ensures.refused honest) in
     let p = err_from_is_err_and c.from_residual-in_err-first.result c.from_residual-in_err-first.ensures.1 in
-    rw (p.1, p.2) (λ honest. told_first blames (BothGive s (nth_of (rev_view c.args.rev.now) c.args.n) (rev_view c.args.rev.now)) (λ ends r. r ≡ Ok (selection (ends.1 ∷ []) (ends.0 ∷ []) [])) c.in_err-first.field-0.0 (told honest))
+    rw (p.1, p.2) (λ honest. told_only blames (BothAsk s (nth_of (rev_view c.args.rev.now) c.args.n) (rev_view c.args.rev.now)) (BothGive s (nth_of (rev_view c.args.rev.now) c.args.n) (rev_view c.args.rev.now)) (λ ends r. r ≡ Ok (selection (ends.1 ∷ []) (ends.0 ∷ []) [])) c.in_err-first.field-0.0 (told honest))
 
 pub returns-clause-ok : goal.returns-clause-ok
 returns-clause-ok g c honest =

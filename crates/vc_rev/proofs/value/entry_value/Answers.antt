@@ -11,4 +11,4 @@ returns-in_err-found-clause-refused g c =
     let i = c.loop-part.invariant in
     let told = rw (i.kept, i.seen) at c.in_err-found.ensures.refused in
     let p = err_from_is_err_and c.from_residual.result c.from_residual.ensures.1 in
-    rw (p.1, p.2) (λ honest. entries_told s blames c.args.parts.now c.loop-part.part-index _ c.loop-part.mode c.loop-part.at modes.Tree c.args.tree c.in_err-found.field-0.0 c.loop-part-test.true (i.onward honest) (told honest))
+    rw (p.1, p.2) (λ honest. entries_told s blames c.args.parts.now c.loop-part.part-index _ c.loop-part.mode c.loop-part.at modes.Tree c.args.tree c.in_err-found.field-0.0 c.loop-part-test.true (i.asked honest) (i.onward honest) (told honest))
