@@ -67,6 +67,8 @@ impl Repository for Lying<'_> {
 
     ghost stored = { λ _ _. ⊥ };
 
+    ghost is_good = { λ _ _. ⊤ };
+
     ghost blames = { λ _ _ _. ⊤ };
 
     ghost follows = { λ _ _ _. refl };

@@ -1,13 +1,13 @@
 -- What a repository over files holds.
-use Rattle.std.specs.Prelude.{◌≡◌, ℕ, option_map}
+use Rattle.std.specs.Prelude.{◌≡◌, ⊤, ℕ, option_map}
 use Rattle.std.specs.FinMap as paths
 use Rattle.vc_files.specs.FileMap.{FileMap}
 use Rattle.vc_index.specs.IndexMap.{IndexMap}
 use Rattle.vc_index.specs.declared.entry.IndexEntry.{IndexEntry}
 use Rattle.vc_object.specs.declared.id.ObjectId.{ObjectId}
 use Rattle.vc_refs.specs.Head.{head_of, head_value}
-use Rattle.vc_refs.specs.RefFault.{BlamesHeadValue, BlamesRef}
-use Rattle.vc_refs.specs.Refs.{refs}
+use Rattle.vc_refs.specs.RefFault.{BlamesHeadValue, BlamesRef, IsGoodHeadValue}
+use Rattle.vc_refs.specs.Refs.{IsBadRef, refs}
 use Rattle.vc_refs.specs.declared.faults.RefFault.{RefFault}
 use Rattle.vc_repository.specs.Faults.{of_refs}
 use Rattle.vc_rev.specs.Question.{Question, Head, Ref, Entry, Prefix, Object}
@@ -38,6 +38,14 @@ names_in s = record {
 -- a file stands in the place of the object with that name
 abbrev pub HasFileIn : State → ObjectId → Type 0
 HasFileIn s id = HasFile s.content id
+
+-- what has to be read to answer the question is in its form: HEAD and the ref that it names, the ref, the object
+abbrev pub IsGood : State → Question → Type 0
+IsGood s Head = IsGoodHeadValue s.content
+IsGood s (Ref name) = IsBadRef s.content name → ⊥
+IsGood s (Entry path) = ⊤
+IsGood s (Prefix digits) = ⊤
+IsGood s (Object id) = IsDamaged s.content id → ⊥
 
 -- a fault of a look at refs, and one of a look at the store, as a repository's
 abbrev pub IsOfRefs : (RefFault → Type 0) → SourceFault → Type 0

@@ -70,7 +70,7 @@ impl<F: Files> Commits for FileRepository<'_, F> {
 }
 
 impl<F: Files> Repository for FileRepository<'_, F> {
-    ghost use Rattle.vc_repository.specs.State.{State, state, names_in, HasFileIn, IsCause};
+    ghost use Rattle.vc_repository.specs.State.{State, state, names_in, HasFileIn, IsCause, IsGood};
 
     ghost View = { State };
 
@@ -79,6 +79,8 @@ impl<F: Files> Repository for FileRepository<'_, F> {
     ghost names = { names_in };
 
     ghost stored = { HasFileIn };
+
+    ghost is_good = { IsGood };
 
     ghost blames = { IsCause };
 

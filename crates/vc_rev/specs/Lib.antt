@@ -21,3 +21,4 @@ pub mod WalkFault
 pub mod RootsView
 pub mod Uses
 pub mod Value
+pub mod Printed

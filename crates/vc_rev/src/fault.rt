@@ -1,6 +1,7 @@
 //! Why a text is no expression.
 
-ghost use Rattle.std.specs.Prelude.{◌≡◌};
+ghost use Rattle.std.specs.Prelude.{◌≡◌, Some};
+ghost use Rattle.vc_rev.specs.Printed.{parse_fault_text};
 ghost use Rattle.vc_rev.specs.declared.fault.ParseFault.TheVariants.{Memory};
 
 use std::alloc::{AllocError, AllocFailed};
@@ -17,6 +18,8 @@ pub enum ParseFault {
 }
 
 impl fmt::Display for ParseFault {
+    ghost output = { λ e. Some (parse_fault_text e) };
+
     fn fmt<W: fmt::Write>(&self, f: &mut fmt::Formatter<W>) -> fmt::Result {
         match self {
             ParseFault::BadSyntax(_) => f.write_str("50 BadSyntax"),

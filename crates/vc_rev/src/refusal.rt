@@ -1,6 +1,7 @@
 //! Why an expression has no value.
 
-ghost use Rattle.std.specs.Prelude.{◌≡◌};
+ghost use Rattle.std.specs.Prelude.{◌≡◌, Some};
+ghost use Rattle.vc_rev.specs.Printed.{refusal_text, rev_fault_text, source_text};
 ghost use Rattle.vc_rev.specs.WalkFault.{of_base};
 ghost use Rattle.vc_rev.specs.declared.refusal.RevFault.TheVariants.{Refused, Source};
 ghost use Rattle.vc_rev.specs.declared.refusal.SourceFault.TheVariants.{Store};
@@ -33,7 +34,9 @@ pub enum Refusal {
 
 impl Refusal {
     // The number and the name, as they are printed.
-    fn text(self) -> &'static str {
+    fn text(self) -> &'static str
+        ensures { result.now ≡ refusal_text self }
+    {
         match self {
             Refusal::Unknown => "51 Unknown",
             Refusal::Ambiguous => "52 Ambiguous",
@@ -46,6 +49,8 @@ impl Refusal {
 }
 
 impl fmt::Display for Refusal {
+    ghost output = { λ e. Some (refusal_text e) };
+
     fn fmt<W: fmt::Write>(&self, f: &mut fmt::Formatter<W>) -> fmt::Result {
         f.write_str(self.text())
     }
@@ -67,6 +72,8 @@ pub enum SourceFault {
 }
 
 impl fmt::Display for SourceFault {
+    ghost output = { source_text };
+
     fn fmt<W: fmt::Write>(&self, f: &mut fmt::Formatter<W>) -> fmt::Result {
         match self {
             SourceFault::Store(fault) => fmt::Display::fmt(fault, f),
@@ -93,6 +100,8 @@ pub enum RevFault {
 }
 
 impl fmt::Display for RevFault {
+    ghost output = { rev_fault_text };
+
     fn fmt<W: fmt::Write>(&self, f: &mut fmt::Formatter<W>) -> fmt::Result {
         match self {
             RevFault::Refused(fault) => fmt::Display::fmt(fault, f),

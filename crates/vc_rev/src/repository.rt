@@ -1,6 +1,6 @@
 //! What expressions are resolved over.
 
-ghost use Rattle.std.specs.Prelude.{◌≡◌, ◌↔◌, true, nat_eq, codes, option_map, Contains, IfOk, IfErr, IsErrOf};
+ghost use Rattle.std.specs.Prelude.{◌≡◌, ◌↔◌, true, nat_eq, codes, option_map, Contains, IfOk, IfErr, IsErrOf, OnOk};
 ghost use Rattle.std.specs.List.{starts_with};
 ghost use Rattle.vc_files.specs.Failures.{Wears};
 ghost use Rattle.vc_object.specs.Decoding.{stored_object};
@@ -31,12 +31,16 @@ pub trait Repository: Commits {
     /// The names in whose places something is stored, whole or damaged.
     ghost stored: { View → Id → Type 0 };
 
+    /// All that has to be read to answer a question is in its form.
+    ghost is_good: { View → Question → Type 0 };
+
     /// The faults for which there is a cause in what has to be read to answer a question.
     ghost blames: { View → Question → Unanswered → Type 0 };
 
     /// The value of HEAD; none where its branch has none.
     fn head(&mut self) -> Result<Option<ObjectId>, SourceFault>
         ensures value { IfOk result (λ found. Self.is_honest → found ≡ (names (view_of self.old)).head) }
+        ensures good { OnOk result (Self.is_honest → is_good (view_of self.old) Head) }
         ensures refused { IfErr result (λ e. Self.is_honest → blames (view_of self.old) Head e) }
         ensures kept { Self.state_of self.new ≡ Self.state_of self.old }
         ensures seen { view_of self.new ≡ view_of self.old }
@@ -46,6 +50,7 @@ pub trait Repository: Commits {
     fn ref_value(&mut self, name: &RefName) -> Result<Option<ObjectId>, SourceFault>
         requires { starts_with nat_eq name.now (codes "refs/") ≡ true }
         ensures value { IfOk result (λ found. Self.is_honest → found ≡ (names (view_of self.old)).ref name.now) }
+        ensures good { OnOk result (Self.is_honest → is_good (view_of self.old) (Ref name.now)) }
         ensures refused { IfErr result (λ e. Self.is_honest → blames (view_of self.old) (Ref name.now) e) }
         ensures kept { Self.state_of self.new ≡ Self.state_of self.old }
         ensures seen { view_of self.new ≡ view_of self.old }
@@ -54,6 +59,7 @@ pub trait Repository: Commits {
     /// The id at this path of the index.
     fn index_entry(&mut self, path: &[u8]) -> Result<Option<ObjectId>, SourceFault>
         ensures value { IfOk result (λ found. Self.is_honest → found ≡ (names (view_of self.old)).index path.now) }
+        ensures good { OnOk result (Self.is_honest → is_good (view_of self.old) (Entry path.now)) }
         ensures refused { IfErr result (λ e. Self.is_honest → blames (view_of self.old) (Entry path.now) e) }
         ensures kept { Self.state_of self.new ≡ Self.state_of self.old }
         ensures seen { view_of self.new ≡ view_of self.old }
@@ -63,6 +69,7 @@ pub trait Repository: Commits {
     fn by_prefix(&mut self, digits: &[u8]) -> Result<Vec<ObjectId>, SourceFault>
         ensures exact { IfOk result (λ ids. Self.is_honest → (id : Id) → Contains ids.items id ↔ (stored (view_of self.old) id × (begins_with digits.now id ≡ true))) }
         ensures sorted { IfOk result (λ ids. Self.is_honest → IsSortedByName ids.items) }
+        ensures good { OnOk result (Self.is_honest → is_good (view_of self.old) (Prefix digits.now)) }
         ensures refused { IfErr result (λ e. Self.is_honest → blames (view_of self.old) (Prefix digits.now) e) }
         ensures kept { Self.state_of self.new ≡ Self.state_of self.old }
         ensures seen { view_of self.new ≡ view_of self.old }
@@ -71,6 +78,7 @@ pub trait Repository: Commits {
     /// The object with this name, or none where it is absent.
     fn find(&mut self, id: &ObjectId) -> Result<Option<Stored>, SourceFault>
         ensures found { IfOk result (λ found. Self.is_honest → option_map (λ s. stored_object s.kind s.body.items) found ≡ Self.objects (Self.state_of self.old) id.now) }
+        ensures good { OnOk result (Self.is_honest → is_good (view_of self.old) (Object id.now)) }
         ensures refused { IfErr result (λ e. Self.is_honest → blames (view_of self.old) (Object id.now) e) }
         ensures kept { Self.state_of self.new ≡ Self.state_of self.old }
         ensures seen { view_of self.new ≡ view_of self.old }

@@ -1,0 +1,35 @@
+-- What a refusal is printed as: its number and its name.
+use Rattle.std.specs.Prelude.{ℕ, List, Option, Some, None, codes}
+use Rattle.vc_rev.specs.declared.fault.ParseFault.{ParseFault}
+use Rattle.vc_rev.specs.declared.fault.ParseFault.TheVariants.{BadSyntax, Memory}
+use Rattle.vc_rev.specs.declared.refusal.Refusal.{Refusal}
+use Rattle.vc_rev.specs.declared.refusal.Refusal.TheVariants.{Unknown, Ambiguous, TooShort, NoSuchParent, WrongKind, NoSuchPath}
+use Rattle.vc_rev.specs.declared.refusal.RevFault.{RevFault}
+use Rattle.vc_rev.specs.declared.refusal.RevFault.TheVariants.{Refused, Missing, NotACommit, Source}
+use Rattle.vc_rev.specs.declared.refusal.SourceFault.{SourceFault}
+use Rattle.vc_rev.specs.declared.refusal.SourceFault.TheVariants.{Store, BadRefFile, HeadLoop, BadIndex}
+
+abbrev pub parse_fault_text : ParseFault → List ℕ
+parse_fault_text (BadSyntax place) = codes "50 BadSyntax"
+parse_fault_text Memory = codes "memory"
+
+abbrev pub refusal_text : Refusal → List ℕ
+refusal_text Unknown = codes "51 Unknown"
+refusal_text Ambiguous = codes "52 Ambiguous"
+refusal_text TooShort = codes "53 TooShort"
+refusal_text NoSuchParent = codes "54 NoSuchParent"
+refusal_text WrongKind = codes "55 WrongKind"
+refusal_text NoSuchPath = codes "56 NoSuchPath"
+
+-- a fault of the store is printed as the store prints it, of which nothing is claimed here
+abbrev pub source_text : SourceFault → Option (List ℕ)
+source_text (Store fault) = None
+source_text (BadRefFile path) = Some (codes "33 BadRefFile")
+source_text HeadLoop = Some (codes "34 HeadLoop")
+source_text (BadIndex place) = Some (codes "62 BadIndex")
+
+abbrev pub rev_fault_text : RevFault → Option (List ℕ)
+rev_fault_text (Refused refusal) = Some (refusal_text refusal)
+rev_fault_text (Missing id) = Some (codes "40 Missing")
+rev_fault_text (NotACommit id) = Some (codes "41 NotACommit")
+rev_fault_text (Source fault) = source_text fault
