@@ -92,10 +92,13 @@ impl Ground {
 impl WorkTree for Ground {
     ghost use Rattle.std.specs.Prelude.{⊤};
     ghost use Rattle.std.specs.FinMap as files;
+    ghost use Rattle.std.specs.FinSet as set;
 
     ghost honest = { ⊥ };
 
     ghost content = { λ _. files.empty };
+
+    ghost folders = { λ _. set.empty };
 
     ghost failed = { λ s. s };
 

@@ -14,8 +14,9 @@ use Rattle.vc_index.specs.declared.entry.IndexEntry.{IndexEntry}
 use Rattle.vc_index.proofs.MapLemmas.{same_text}
 use Rattle.vc_checkout.specs.Refusal.{IsClear, IsDue, IsHindered, IsInTheWay, IsRefused, RefusedAt}
 use Rattle.vc_checkout.specs.WorkTree.{IsUntracked, has_path}
-use Rattle.vc_checkout.specs.CheckoutFault.{IsAgainst, IsFault, IsOfCheckout}
-use Rattle.vc_checkout.specs.Heads.{IsIndexOf}
+use Rattle.vc_checkout.specs.CheckoutFault.{IsAgainst, IsFault, IsOfCheckout, TellsFirst, told_fault}
+use Rattle.vc_index.specs.TreeReading.{ReadsAs}
+use Rattle.vc_object.specs.ObjectMap.{ObjectMap}
 use Rattle.vc_object.specs.declared.id.ObjectId.{ObjectId}
 use Rattle.vc_store.specs.Store.{objects}
 use Rattle.vc_checkout.specs.declared.faults.CheckoutFault.{CheckoutFault}
@@ -120,7 +121,7 @@ no_fault (InTheWay at) against (cause, is) = cc is
 no_fault (NotText at) against (cause, is) = cc is
 no_fault (Index fault) against told = absurd against
 
-pub of_check : (work_honest files_honest : Type 0) (work content : FileMap) (index tree : IndexMap) (root : ObjectId) (e : CheckoutFault) → IsIndexOf (objects content) root tree
+pub of_check : (work_honest files_honest : Type 0) (work content : FileMap) (index tree : IndexMap) (root : ObjectId) (e : CheckoutFault) → ReadsAs (objects content) root (Ok tree)
     → IsFault e ⊎ IsAgainst e → (work_honest → IsFault e ⊎ IsRefused index tree work e) → IsOfCheckout work_honest files_honest work content index root e
 of_check work_honest files_honest work content index tree root e of_tree (inl fault) told = inl fault
 of_check work_honest files_honest work content index tree root e of_tree (inr against) told = inr (inr (against, λ honest. (tree, of_tree, refused (told honest))))
@@ -128,3 +129,16 @@ of_check work_honest files_honest work content index tree root e of_tree (inr ag
     refused : IsFault e ⊎ IsRefused index tree work e → IsRefused index tree work e
     refused (inl fault) = absurd (no_fault e against fault)
     refused (inr is) = is
+
+-- ---- what tells no fault of a tree
+pub fault_tells : (e : CheckoutFault) → IsFault e → told_fault e ≡ None
+fault_tells e (cause, is) = ap told_fault is
+
+pub against_tells : (e : CheckoutFault) → IsAgainst e → told_fault e ≡ None
+against_tells (LocalChange at) against = refl
+against_tells (InTheWay at) against = refl
+against_tells (NotText at) against = refl
+against_tells (Index fault) against = absurd against
+
+pub tells_none : (objects : ObjectMap) (root : ObjectId) (e : CheckoutFault) → told_fault e ≡ None → TellsFirst objects root e
+tells_none objects root e none = λ fault told. absurd (cc (none, told))

@@ -3,3 +3,5 @@ pub mod StatusLemmas
 pub mod WayLemmas
 pub mod ClearLemmas
 pub mod ApplyLemmas
+pub mod FolderLemmas
+pub mod HeldLemmas

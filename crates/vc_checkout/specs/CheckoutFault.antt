@@ -1,16 +1,17 @@
 -- What a refusal of a checkout says.
-use Rattle.std.specs.Prelude.{◌≡◌, ◌⊎◌, Option, Some, None}
+use Rattle.std.specs.Prelude.{◌≡◌, ◌⊎◌, Option, Some, None, Ok, Err}
 use Rattle.vc_files.specs.FileMap.{FileMap}
 use Rattle.vc_object.specs.declared.id.ObjectId.{ObjectId}
 use Rattle.vc_files.specs.declared.faults.Fault.{Fault as FileFault}
+use Rattle.vc_object.specs.ObjectMap.{ObjectMap}
 use Rattle.vc_store.specs.Store.{objects}
 use Rattle.vc_index.specs.IndexMap.{IndexMap}
-use Rattle.vc_checkout.specs.Heads.{IsIndexOf}
 use Rattle.vc_checkout.specs.Refusal.{IsRefused}
 use Rattle.vc_store.specs.declared.faults.StoreFault.TheVariants.{Fault}
 use Rattle.vc_index.specs.declared.faults.IndexFault.{IndexFault}
 use Rattle.vc_index.specs.declared.faults.IndexFault.TheVariants.{Store}
 use Rattle.vc_index.specs.Loading.{IsOfLoad}
+use Rattle.vc_index.specs.TreeReading.{ReadsAs, TreeFault, tree_fault}
 use Rattle.vc_checkout.specs.declared.faults.CheckoutFault.{CheckoutFault}
 use Rattle.vc_checkout.specs.declared.faults.CheckoutFault.TheVariants.{Index}
 
@@ -28,9 +29,18 @@ abbrev pub IsOfStatus : Type 0 → FileMap → Option ObjectId → CheckoutFault
 IsOfStatus honest content None fault = IsFault fault
 IsOfStatus honest content (Some tree) fault = IsFault fault ⊎ ((cause : IndexFault) × (fault ≡ Index cause) × IsOfLoad honest content tree cause)
 
+-- the fault of a tree that a refusal tells
+abbrev pub told_fault : CheckoutFault → Option TreeFault
+told_fault (Index cause) = tree_fault cause
+told_fault _ = None
+
+-- a fault of the tree that is told is the first one that its reading meets
+abbrev pub TellsFirst : ObjectMap → ObjectId → CheckoutFault → Type 0
+TellsFirst objects root refusal = (fault : TreeFault) → told_fault refusal ≡ Some fault → ReadsAs objects root (Err fault)
+
 -- why a work tree was not checked out: a fault, or the tree was not read, or what is against it at the first path
 abbrev pub IsOfCheckout : Type 0 → Type 0 → FileMap → FileMap → IndexMap → ObjectId → CheckoutFault → Type 0
 IsOfCheckout work_honest files_honest work content index root fault =
     IsFault fault
     ⊎ (((cause : IndexFault) × (fault ≡ Index cause) × IsOfLoad files_honest content root cause)
-    ⊎ (IsAgainst fault × (work_honest → (tree : IndexMap) × IsIndexOf (objects content) root tree × IsRefused index tree work fault)))
+    ⊎ (IsAgainst fault × (work_honest → (tree : IndexMap) × ReadsAs (objects content) root (Ok tree) × IsRefused index tree work fault)))

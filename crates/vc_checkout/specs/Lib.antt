@@ -1,4 +1,5 @@
 pub mod WorkTree
+pub mod Folders
 pub mod Status
 pub mod CheckoutFault
 pub mod Devices

@@ -1,14 +1,14 @@
 // Bringing a work tree to the files of a tree.
-ghost use Rattle.std.specs.Prelude.{◌≡◌, ◌≢◌, ◌⊎◌, ◌↔◌, ℕ, List, Option, Some, IfOk, IfErr, OnOk, OnErr, IsErrOf, IsSome, IsUtf8, option_map};
+ghost use Rattle.std.specs.Prelude.{◌≡◌, ◌≢◌, ◌⊎◌, ◌↔◌, ℕ, List, Option, Some, Ok, IfOk, IfErr, OnOk, OnErr, IsErrOf, IsSome, IsUtf8, option_map};
 ghost use Rattle.std.specs.FinMap as maps;
 ghost use Rattle.vc_files.specs.Failures.{Wears};
 ghost use Rattle.vc_object.specs.declared.id.ObjectId.{ObjectId as Id};
 ghost use Rattle.vc_store.specs.Store.{objects};
 ghost use Rattle.vc_index.specs.Loading.{HasBlobs, IsBlobIfDue};
 ghost use Rattle.vc_checkout.specs.CheckedOut.{IsCheckedOut, IsCleared, IsOldOrCheckedOut, IsWritten, StepAt, StepOrNone, file_of, left_of};
-ghost use Rattle.vc_checkout.specs.CheckoutFault.{IsFault, IsOfCheckout};
+ghost use Rattle.vc_index.specs.TreeReading.{ReadsAs};
+ghost use Rattle.vc_checkout.specs.CheckoutFault.{IsFault, IsOfCheckout, TellsFirst};
 ghost use Rattle.vc_checkout.specs.Devices.{WearsEither};
-ghost use Rattle.vc_checkout.specs.Heads.{IsIndexOf};
 ghost use Rattle.vc_checkout.specs.Refusal.{IsClear, IsDue};
 ghost use Rattle.vc_checkout.specs.WorkTree.{HasTextPaths};
 
@@ -223,11 +223,13 @@ pub fn checkout<T: WorkTree, F: Files>(
     index: &Index,
     tree: &ObjectId,
 ) -> Result<Index, CheckoutFault>
-    ensures index { F.honest → IfOk result (λ new. IsIndexOf (objects (F.content files.old)) tree.now new) }
+    ensures index { F.honest → IfOk result (λ new. ReadsAs (objects (F.content files.old)) tree.now (Ok new)) }
     ensures work { T.honest → F.honest → IfOk result (λ new. (path : List ℕ) → IsCheckedOut (objects (F.content files.old)) (maps.get index.now path) (maps.get new path) (maps.get (T.content work.old) path) (maps.get (T.content work.new) path)) }
     ensures clear { T.honest → IfOk result (λ new. (path : List ℕ) → IsClear index.now new (T.content work.old) path) }
     ensures refused { F.honest → IfErr result (IsOfCheckout T.honest F.honest (T.content work.old) (F.content files.old) index.now tree.now) }
+    ensures tree { F.honest → IfErr result (TellsFirst (objects (F.content files.old)) tree.now) }
     ensures unchanged { F.honest → IfErr result (λ e. IsFault e ⊎ (T.content work.new ≡ T.content work.old)) }
+    ensures unmoved { F.honest → IfErr result (λ e. IsFault e ⊎ (T.folders work.new ≡ T.folders work.old)) }
     ensures fault { T.honest → F.honest → OnErr result ((path : List ℕ) → IsOldOrCheckedOut (objects (F.content files.old)) tree.now index.now (T.content work.old) (T.content work.new) path) }
     ensures files { F.content files.new ≡ F.content files.old }
     ensures wear { WearsEither T.failed T.can_fail F.failed F.can_fail work.old work.new files.old files.new (IsErrOf result (CheckoutFault.Index (IndexFault.Store (StoreFault.Fault Fault.Device)))) }

@@ -42,6 +42,7 @@ fn has_local_change<T: WorkTree>(
     ensures change { T.honest → IfOk result (λ lost. IsTrue lost ↔ HasLocalChange old new (maps.get (T.content work.old) path.now)) }
     ensures fault { IfErr result IsFault }
     ensures same { T.content work.new ≡ T.content work.old }
+    ensures folders { T.folders work.new ≡ T.folders work.old }
     ensures wear { Wears T.failed T.can_fail work.old work.new (IsErrOf result (CheckoutFault.Index (IndexFault.Store (StoreFault.Fault Fault.Device)))) }
 {
     let Some(entry) = old else {
@@ -75,6 +76,7 @@ fn check_path<T: WorkTree>(
     ensures kind { IfErr result (λ e. IsFault e ⊎ IsAgainst e) }
     ensures text { OnOk result (IsDue (maps.get index.now path.now) (maps.get tree.now path.now) → IsUtf8 path.now) }
     ensures same { T.content work.new ≡ T.content work.old }
+    ensures folders { T.folders work.new ≡ T.folders work.old }
     ensures wear { Wears T.failed T.can_fail work.old work.new (IsErrOf result (CheckoutFault.Index (IndexFault.Store (StoreFault.Fault Fault.Device)))) }
 {
     let old = index.get(path);
@@ -110,6 +112,7 @@ pub(crate) fn check_all<T: WorkTree>(
     ensures text { OnOk result ((path : List ℕ) → IsDue (maps.get index.now path) (maps.get tree.now path) → IsUtf8 path) }
     ensures texts { T.honest → OnOk result (HasTextPaths (T.content work.old)) }
     ensures same { T.content work.new ≡ T.content work.old }
+    ensures folders { T.folders work.new ≡ T.folders work.old }
     ensures wear { Wears T.failed T.can_fail work.old work.new (IsErrOf result (CheckoutFault.Index (IndexFault.Store (StoreFault.Fault Fault.Device)))) }
 {
     let untracked = untracked_paths(alloc, work, index)?;

@@ -2,9 +2,10 @@
 ghost use Rattle.std.specs.Prelude.{◌≡◌, ◌↔◌, ◌||◌, ℕ, List, Option, Some, None, IfOk, IfErr, OnOk, IsErrOf, IsTrue, is_some, map, option_map};
 ghost use Rattle.std.specs.FinMap as maps;
 ghost use Rattle.vc_files.specs.Failures.{Wears};
+ghost use Rattle.vc_object.specs.declared.id.ObjectId.{ObjectId as Id};
 ghost use Rattle.vc_store.specs.Store.{objects};
 ghost use Rattle.vc_index.specs.IndexMap.{IndexMap};
-ghost use Rattle.vc_checkout.specs.CheckoutFault.{IsFault, IsOfStatus};
+ghost use Rattle.vc_checkout.specs.CheckoutFault.{IsFault, IsOfStatus, TellsFirst};
 ghost use Rattle.vc_checkout.specs.Devices.{WearsEither};
 ghost use Rattle.vc_checkout.specs.Heads.{IsIndexOfHead};
 ghost use Rattle.vc_checkout.specs.Status.{IsWorkChange, IsChangeAt, IsStatus, seen};
@@ -31,6 +32,7 @@ pub(crate) fn file_name<T: WorkTree>(
     ensures name { T.honest → IfOk result (λ name. name ≡ option_map blob_name (maps.get (T.content work.old) path.now)) }
     ensures fault { IfErr result IsFault }
     ensures same { T.content work.new ≡ T.content work.old }
+    ensures folders { T.folders work.new ≡ T.folders work.old }
     ensures wear { Wears T.failed T.can_fail work.old work.new (IsErrOf result (CheckoutFault.Index (IndexFault.Store (StoreFault.Fault Fault.Device)))) }
 {
     let Ok(text) = str::from_utf8(path) else {
@@ -55,6 +57,7 @@ fn work_change<T: WorkTree>(
     ensures change { T.honest → IfOk result (IsWorkChange entry (maps.get (T.content work.old) path.now)) }
     ensures fault { IfErr result IsFault }
     ensures same { T.content work.new ≡ T.content work.old }
+    ensures folders { T.folders work.new ≡ T.folders work.old }
     ensures wear { Wears T.failed T.can_fail work.old work.new (IsErrOf result (CheckoutFault.Index (IndexFault.Store (StoreFault.Fault Fault.Device)))) }
 {
     let Some(entry) = entry else {
@@ -89,6 +92,7 @@ fn change_at<T: WorkTree>(
     ensures change { T.honest → IfOk result (IsChangeAt tree.now index.now (T.content work.old) path.now) }
     ensures fault { IfErr result IsFault }
     ensures same { T.content work.new ≡ T.content work.old }
+    ensures folders { T.folders work.new ≡ T.folders work.old }
     ensures wear { Wears T.failed T.can_fail work.old work.new (IsErrOf result (CheckoutFault.Index (IndexFault.Store (StoreFault.Fault Fault.Device)))) }
 {
     let entry = index.get(path);
@@ -131,6 +135,7 @@ fn changes<T: WorkTree>(
     ensures status { T.honest → IfOk result (λ changes. IsStatus tree.now index.now (T.content work.old) (map seen changes.items)) }
     ensures fault { IfErr result IsFault }
     ensures same { T.content work.new ≡ T.content work.old }
+    ensures folders { T.folders work.new ≡ T.folders work.old }
     ensures wear { Wears T.failed T.can_fail work.old work.new (IsErrOf result (CheckoutFault.Index (IndexFault.Store (StoreFault.Fault Fault.Device)))) }
 {
     let untracked = untracked_paths(alloc, work, index)?;
@@ -153,6 +158,7 @@ fn head_index<F: Files>(
 ) -> Result<Index, CheckoutFault>
     ensures index { F.honest → IfOk result (IsIndexOfHead (objects (F.content files.old)) tree) }
     ensures refused { IfErr result (IsOfStatus F.honest (F.content files.old) tree) }
+    ensures tree { F.honest → IfErr result (λ e. (root : Id) → tree ≡ Some root → TellsFirst (objects (F.content files.old)) root e) }
     ensures same { F.content files.new ≡ F.content files.old }
     ensures wear { Wears F.failed F.can_fail files.old files.new (IsErrOf result (CheckoutFault.Index (IndexFault.Store (StoreFault.Fault Fault.Device)))) }
 {
@@ -177,7 +183,9 @@ pub fn status<T: WorkTree, F: Files>(
 ) -> Result<Vec<Change>, CheckoutFault>
     ensures status { T.honest → F.honest → IfOk result (λ changes. (head : IndexMap) × IsIndexOfHead (objects (F.content files.old)) tree head × IsStatus head index.now (T.content work.old) (map seen changes.items)) }
     ensures refused { IfErr result (IsOfStatus F.honest (F.content files.old) tree) }
+    ensures tree { F.honest → IfErr result (λ e. (root : Id) → tree ≡ Some root → TellsFirst (objects (F.content files.old)) root e) }
     ensures work { T.content work.new ≡ T.content work.old }
+    ensures folders { T.folders work.new ≡ T.folders work.old }
     ensures files { F.content files.new ≡ F.content files.old }
     ensures wear { WearsEither T.failed T.can_fail F.failed F.can_fail work.old work.new files.old files.new (IsErrOf result (CheckoutFault.Index (IndexFault.Store (StoreFault.Fault Fault.Device)))) }
 {

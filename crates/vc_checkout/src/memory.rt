@@ -1,8 +1,13 @@
 // A work tree in memory.
-ghost use Rattle.std.specs.Prelude.{◌≡◌, IfErr};
+ghost use Rattle.std.specs.Prelude.{◌≡◌, ◌↔◌, ◌⊎◌, ◌||◌, not, ℕ, List, IfErr, OnOk, OnErr, IsTrue, bytes_eq};
 ghost use Rattle.std.specs.FinMap as files;
+ghost use Rattle.std.specs.FinSet as set;
+ghost use Rattle.vc_files.specs.Memory.{files_of};
+ghost use Rattle.vc_index.specs.Path.{IsAbove};
+ghost use Rattle.vc_checkout.specs.Folders.{HoldsFile, IsFolder, IsNoted, folders_of, is_above};
 
 use crate::WorkTree;
+use crate::paths::folder_of;
 use std::alloc::Global;
 use std::collections::{BTreeMap, BTreeSet};
 use std::marker::Model;
@@ -17,22 +22,24 @@ pub struct MemoryTree {
 }
 
 impl Model for MemoryTree {
-    ghost use Rattle.std.specs.Coded.{coded_ℕ, coded_list};
+    ghost use Rattle.std.specs.Coded.{coded_ℕ, coded_list, coded×};
     ghost use Rattle.std.specs.FinMap.{code};
+    ghost use Rattle.std.specs.FinSet as set;
     ghost use Rattle.vc_files.specs.FileMap.{FileMap};
     ghost use Rattle.vc_files.specs.Memory.{files_of};
+    ghost use Rattle.vc_checkout.specs.Folders.{Folders, folders_of};
 
-    ghost Value = { FileMap };
+    ghost Value = { FileMap × Folders };
 
-    ghost coded = { code (coded_list coded_ℕ) (coded_list coded_ℕ) };
+    ghost coded = { coded× (code (coded_list coded_ℕ) (coded_list coded_ℕ)) (set.code (coded_list coded_ℕ)) };
 
-    ghost view = { λ s. files_of s.files };
+    ghost view = { λ s. (files_of s.files, folders_of s.folders) };
 }
 
 impl MemoryTree {
     /// No files and no folders.
     pub fn new(alloc: Global) -> Self
-        ensures { result ≡ files.empty }
+        ensures { result ≡ (files.empty, set.empty) }
     {
         MemoryTree {
             files: BTreeMap::new(alloc),
@@ -41,38 +48,77 @@ impl MemoryTree {
     }
 
     /// Whether a folder has this path: it was made, or something lies in it.
-    pub fn has_folder(&self, path: &str) -> bool {
-        self.folders.contains(path) || self.has_below(path)
-    }
-
-    // Whether a file or a folder lies in the folder.
-    fn has_below(&self, folder: &str) -> bool {
-        self.files
-            .keys()
-            .any(|path| is_below(path.as_str(), folder))
-            || self
-                .folders
-                .iter()
-                .any(|path| is_below(path.as_str(), folder))
-    }
-
-    // Notes the folder that a file lies in, which stays when the file goes.
-    fn note_folder(&mut self, alloc: Global, path: &str) -> Result<(), Fault>
-        ensures same { self.new ≡ self.old }
-        ensures memory { IfErr result (λ e. e ≡ Fault.Memory) }
+    pub fn has_folder(&self, path: &str) -> bool
+        ensures { IsTrue result ↔ IsFolder self.now.0 self.now.1 path.now }
     {
-        if let Some((folder, _)) = path.rsplit_once('/') {
-            self.folders.insert(String::from_str(alloc, folder)?)?;
-        }
-        Ok(())
+        self.folders.contains(path) || has_below(&self.files, &self.folders, path)
     }
 }
 
 // Whether the path lies in the folder.
-fn is_below(path: &str, folder: &str) -> bool {
-    match path.strip_prefix(folder) {
-        Some(rest) => rest.starts_with('/'),
+fn is_below(path: &str, folder: &str) -> bool
+    ensures { result ≡ is_above folder.now path.now }
+{
+    match path.as_bytes().strip_prefix(folder.as_bytes()) {
+        Some(rest) => rest.starts_with(b"/"),
         None => false,
+    }
+}
+
+// Whether the path is neither that of the folder nor below it.
+fn is_beside(path: &str, folder: &str) -> bool
+    ensures { result ≡ not (bytes_eq path.now folder.now || is_above folder.now path.now) }
+{
+    path != folder && !is_below(path, folder)
+}
+
+// Whether one of these files lies in the folder.
+fn has_file_below(files: &BTreeMap<String, Vec<u8>>, folder: &str) -> bool
+    ensures { IsTrue result ↔ HoldsFile (files_of files.now) folder.now }
+{
+    for path in files.keys() {
+        if is_below(path.as_str(), folder) {
+            return true;
+        }
+    }
+    false
+}
+
+// Whether one of these folders lies in the folder.
+fn has_folder_below(folders: &BTreeSet<String>, folder: &str) -> bool
+    ensures { IsTrue result ↔ ((one : List ℕ) × IsAbove folder.now one × IsTrue (set.contains (folders_of folders.now) one)) }
+{
+    for path in folders {
+        if is_below(path.as_str(), folder) {
+            return true;
+        }
+    }
+    false
+}
+
+// Whether a file or a folder lies in the folder.
+fn has_below(
+    files: &BTreeMap<String, Vec<u8>>,
+    folders: &BTreeSet<String>,
+    folder: &str,
+) -> bool
+    ensures { IsTrue result ↔ (HoldsFile (files_of files.now) folder.now ⊎ ((one : List ℕ) × IsAbove folder.now one × IsTrue (set.contains (folders_of folders.now) one))) }
+{
+    has_file_below(files, folder) || has_folder_below(folders, folder)
+}
+
+// Notes the folder that a path lies in, which stays when nothing is left in it.
+fn note_folder(alloc: Global, folders: &mut BTreeSet<String>, path: &str) -> Result<(), Fault>
+    ensures noted { OnOk result (IsNoted path.now (folders_of folders.old) (folders_of folders.new)) }
+    ensures err { OnErr result (folders_of folders.new ≡ folders_of folders.old) }
+    ensures memory { IfErr result (λ e. e ≡ Fault.Memory) }
+{
+    match folder_of(path) {
+        None => Ok(()),
+        Some(folder) => {
+            folders.insert(String::from_str(alloc, folder)?)?;
+            Ok(())
+        }
     }
 }
 
@@ -81,7 +127,9 @@ impl WorkTree for MemoryTree {
 
     ghost honest = { ⊤ };
 
-    ghost content = { λ s. s };
+    ghost content = { λ s. s.0 };
+
+    ghost folders = { λ s. s.1 };
 
     ghost failed = { λ _. 0 };
 
@@ -98,12 +146,15 @@ impl WorkTree for MemoryTree {
         let key = String::from_str(alloc, path)?;
         let value = bytes.to_vec(alloc)?;
         self.files.insert(key, value)?;
-        self.folders.retain(|folder| folder.as_str() != path && !is_below(folder.as_str(), path));
+        self.folders.retain(|folder| is_beside(folder.as_str(), path));
         Ok(())
     }
 
     fn remove(&mut self, alloc: Global, path: &str) -> Result<(), Fault> {
-        self.note_folder(alloc, path)?;
+        if !self.files.contains_key(path) {
+            return Ok(());
+        }
+        note_folder(alloc, &mut self.folders, path)?;
         let _ = self.files.remove(path);
         Ok(())
     }
@@ -114,10 +165,13 @@ impl WorkTree for MemoryTree {
     }
 
     fn remove_folder(&mut self, alloc: Global, path: &str) -> Result<bool, Fault> {
-        if self.has_below(path) || !self.folders.contains(path) {
+        if has_below(&self.files, &self.folders, path) {
             return Ok(false);
         }
-        self.note_folder(alloc, path)?;
+        if !self.folders.contains(path) {
+            return Ok(true);
+        }
+        note_folder(alloc, &mut self.folders, path)?;
         let _ = self.folders.remove(path);
         Ok(true)
     }

@@ -1,8 +1,10 @@
 // Sets of paths.
-ghost use Rattle.std.specs.Prelude.{◌≡◌, ◌↔◌, ◌||◌, ℕ, List, IfOk, IfErr, OnOk, IsErrOf, IsTrue, is_some};
+ghost use Rattle.std.specs.Prelude.{◌≡◌, ◌↔◌, ◌||◌, ℕ, List, IfOk, IfErr, OnOk, IsErrOf, IsTrue, is_some, MatchOption};
 ghost use Rattle.std.specs.FinMap as maps;
 ghost use Rattle.vc_files.specs.Failures.{Wears};
+ghost use Rattle.vc_index.specs.Path.{IsAbove};
 ghost use Rattle.vc_checkout.specs.CheckoutFault.{IsFault};
+ghost use Rattle.vc_checkout.specs.Folders.{IsLowestAbove};
 ghost use Rattle.vc_checkout.specs.WorkTree.{has_path, HasTextPaths, IsUntracked};
 
 use crate::{CheckoutFault, WorkTree};
@@ -11,6 +13,14 @@ use std::collections::BTreeSet;
 use vc_files::Fault;
 use vc_index::{Index, IndexFault};
 use vc_store::StoreFault;
+
+/// The path of the folder that a path lies in, or none where it lies in none.
+pub(crate) fn folder_of(path: &str) -> Option<&str>
+    ensures { MatchOption result ((folder : List ℕ) → ¬ (IsAbove folder path.now)) (λ folder. IsLowestAbove folder.now path.now) }
+{
+    let end = path.rfind('/')?;
+    Some(path.split_at(end).0)
+}
 
 /// Adds the paths of an index to a set.
 pub(crate) fn add_paths(
@@ -50,6 +60,7 @@ pub(crate) fn untracked_paths<T: WorkTree>(
     ensures texts { T.honest → OnOk result (HasTextPaths (T.content work.old)) }
     ensures fault { IfErr result IsFault }
     ensures same { T.content work.new ≡ T.content work.old }
+    ensures folders { T.folders work.new ≡ T.folders work.old }
     ensures wear { Wears T.failed T.can_fail work.old work.new (IsErrOf result (CheckoutFault.Index (IndexFault.Store (StoreFault.Fault Fault.Device)))) }
 {
     let listed = work.list(alloc)?;

@@ -55,6 +55,7 @@ pub(crate) fn is_hindered<T: WorkTree>(
     ensures hindered { T.honest → IfOk result (λ yes. IsTrue yes ↔ IsHindered (λ other. IsTrue (has_path others.now other)) (T.content work.old) path.now entry) }
     ensures fault { IfErr result IsFault }
     ensures same { T.content work.new ≡ T.content work.old }
+    ensures folders { T.folders work.new ≡ T.folders work.old }
     ensures wear { Wears T.failed T.can_fail work.old work.new (IsErrOf result (CheckoutFault.Index (IndexFault.Store (StoreFault.Fault Fault.Device)))) }
 {
     if has_above(others, path) {

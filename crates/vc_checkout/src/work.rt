@@ -1,8 +1,9 @@
 // What a checkout knows of a work tree.
-ghost use Rattle.std.specs.Prelude.{◌≡◌, ◌≤◌, ℕ, min, map, IfOk, OnOk, OnErr, IsErrOf, option_map, string_bytes};
+ghost use Rattle.std.specs.Prelude.{◌≡◌, ◌≢◌, ◌⊎◌, ◌↔◌, ℕ, map, IfOk, OnOk, OnErr, IsErrOf, false, option_map, string_bytes};
 ghost use Rattle.std.specs.FinMap as files;
 ghost use Rattle.vc_files.specs.FileMap.{FileMap};
 ghost use Rattle.vc_files.specs.Failures.{Wears};
+ghost use Rattle.vc_checkout.specs.Folders.{AreFolders, Folders, IsAtOrIn, IsFolder};
 
 use std::alloc::Global;
 use vc_files::Fault;
@@ -10,14 +11,16 @@ use vc_files::Fault;
 /// The files that a person works on, by their paths, which are text. Each call is safe and ends, whatever the tree
 /// does. What the clauses under `honest` say, a real disk doesn't promise.
 ///
-/// The content that the clauses speak of is the files alone. A folder is there as long as something lies in it; one
-/// in which nothing lies stays until it is removed.
+/// A folder is there as long as something lies in it; one in which nothing lies stays until it is removed.
 pub trait WorkTree {
     /// Whether the work tree is a finite map of paths to bytes.
     ghost honest: { Type 0 };
 
     /// The files as they are.
     ghost content: { Self → FileMap };
+
+    /// The folders that are there of themselves. One in which something lies is there by what lies in it.
+    ghost folders: { Self → Folders };
 
     /// How often the device has failed.
     ghost failed: { Self → ℕ };
@@ -29,34 +32,46 @@ pub trait WorkTree {
     fn read(&mut self, alloc: Global, path: &str) -> Result<Option<Vec<u8>>, Fault>
         ensures found { honest → IfOk result (λ found. option_map (λ bytes. bytes.items) found ≡ files.get (content self.old) path.now) }
         ensures same { content self.new ≡ content self.old }
+        ensures folders { folders self.new ≡ folders self.old }
         ensures wear { Wears failed can_fail self.old self.new (IsErrOf result Fault.Device) };
 
-    /// Writes a file whole, and makes the folders above it. A folder at the path gives way if no file is in it.
+    /// Writes a file whole, and makes the folders above it. A folder at the path gives way with those in it, but where a
+    /// file lies.
     fn write(&mut self, alloc: Global, path: &str, bytes: &[u8]) -> Result<(), Fault>
         ensures ok { honest → OnOk result (content self.new ≡ files.insert (content self.old) path.now bytes.now) }
         ensures err { honest → OnErr result (content self.new ≡ content self.old) }
+        ensures folders { honest → OnOk result (AreFolders (content self.new) (folders self.new) (λ one. IsFolder (content self.old) (folders self.old) one × ¬ (IsAtOrIn path.now one))) }
+        ensures err_folders { honest → OnErr result (folders self.new ≡ folders self.old) }
         ensures wear { Wears failed can_fail self.old self.new (IsErrOf result Fault.Device) };
 
     /// Takes a file away; an absent one stays absent. The folders above it stay, also where nothing is left in them.
     fn remove(&mut self, alloc: Global, path: &str) -> Result<(), Fault>
         ensures ok { honest → OnOk result (content self.new ≡ files.remove (content self.old) path.now) }
         ensures err { honest → OnErr result (content self.new ≡ content self.old) }
+        ensures folders { honest → OnOk result (AreFolders (content self.new) (folders self.new) (IsFolder (content self.old) (folders self.old))) }
+        ensures err_folders { honest → OnErr result (folders self.new ≡ folders self.old) }
         ensures wear { Wears failed can_fail self.old self.new (IsErrOf result Fault.Device) };
 
     /// Makes a folder, and those above it. One that is there stays.
     fn make_folder(&mut self, alloc: Global, path: &str) -> Result<(), Fault>
         ensures same { content self.new ≡ content self.old }
+        ensures folders { honest → OnOk result (AreFolders (content self.new) (folders self.new) (λ one. IsFolder (content self.old) (folders self.old) one ⊎ (one ≡ path.now))) }
+        ensures err_folders { honest → OnErr result (folders self.new ≡ folders self.old) }
         ensures wear { Wears failed can_fail self.old self.new (IsErrOf result Fault.Device) };
 
-    /// Takes a folder away if nothing lies in it, and says whether it did.
+    /// Takes a folder away if nothing lies in it, and says whether none is there now.
     fn remove_folder(&mut self, alloc: Global, path: &str) -> Result<bool, Fault>
         ensures same { content self.new ≡ content self.old }
+        ensures folders { honest → OnOk result (AreFolders (content self.new) (folders self.new) (λ one. IsFolder (content self.old) (folders self.old) one × (one ≢ path.now))) }
+        ensures gone { honest → IfOk result (λ gone. (gone ≡ false) ↔ IsFolder (content self.new) (folders self.new) path.now) }
+        ensures err_folders { honest → OnErr result (folders self.new ≡ folders self.old) }
         ensures wear { Wears failed can_fail self.old self.new (IsErrOf result Fault.Device) };
 
     /// The paths of all files, sorted by their bytes.
     fn list(&mut self, alloc: Global) -> Result<Vec<String>, Fault>
         ensures listed { honest → IfOk result (λ listed. map string_bytes listed.items ≡ files.keys (content self.old)) }
         ensures same { content self.new ≡ content self.old }
+        ensures folders { folders self.new ≡ folders self.old }
         ensures wear { Wears failed can_fail self.old self.new (IsErrOf result Fault.Device) };
 
     /// How often the device has failed; the count stops at its greatest value.

@@ -72,10 +72,13 @@ impl<R: rt::Files + AllocGlobal + Clone + Drop> FolderTree<R> {
 impl<R: rt::Files + AllocGlobal + Clone + Drop> WorkTree for FolderTree<R> {
     ghost use Rattle.std.specs.Prelude.{⊤};
     ghost use Rattle.std.specs.FinMap as files;
+    ghost use Rattle.std.specs.FinSet as set;
 
     ghost honest = { ⊥ };
 
     ghost content = { λ _. files.empty };
+
+    ghost folders = { λ _. set.empty };
 
     ghost failed = { λ s. s };
 

@@ -128,15 +128,16 @@ impl<R: rt::Files + AllocGlobal + Clone + Drop> Ground<R> {
         }
     }
 
-    /// Takes a folder away if it is empty, and says whether it did.
+    /// Takes a folder away if it is empty, and says whether none is there now.
     pub fn remove_folder(&self, alloc: Global, path: &str) -> io::Result<bool> {
         if !self.is_open(alloc, path)? {
-            return Ok(false);
+            return Ok(true);
         }
         let place = self.place(alloc, path)?;
         match fs::remove_dir(&self.rt, place.as_str()) {
             Ok(()) => Ok(true),
-            Err(e) if is_absence(&e) || e.kind() == ErrorKind::DirectoryNotEmpty => Ok(false),
+            Err(e) if is_absence(&e) => Ok(true),
+            Err(e) if e.kind() == ErrorKind::DirectoryNotEmpty => Ok(false),
             Err(e) => Err(e),
         }
     }

@@ -13,7 +13,7 @@ returns-in_err-check_all-clause-refused g c = λ stored.
     let work = g.T.WorkTree.content c.args.work.now in
     let content = g.F.Files.content c.args.files.now in
     if_err c.from_residual.result c.in_err-check_all.field-0.0 (IsOfCheckout g.T.WorkTree.honest g.F.Files.honest work content c.args.index.now c.args.tree.now) (search rules)
-    (of_check g.T.WorkTree.honest g.F.Files.honest work content c.args.index.now c.in-Ok.new c.args.tree.now c.in_err-check_all.field-0.0 (c.in-Ok.ensures.files stored) c.in_err-check_all.ensures.kind c.in_err-check_all.ensures.refused)
+    (of_check g.T.WorkTree.honest g.F.Files.honest work content c.args.index.now c.in-Ok.new c.args.tree.now c.in_err-check_all.field-0.0 (c.in-Ok.ensures.reading stored) c.in_err-check_all.ensures.kind c.in_err-check_all.ensures.refused)
 
 pub returns-in_err-clear_all-clause-fault : goal.returns-in_err-clear_all-clause-fault
 returns-in_err-clear_all-clause-fault g c = λ honest stored.

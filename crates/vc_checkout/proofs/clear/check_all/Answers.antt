@@ -21,6 +21,7 @@ loop-path-init g c =
       clear = λ honest. record { at = λ q lacks. let none = apart q lacks in clear_elsewhere c.args.index.now c.args.tree.now (g.T.WorkTree.content c.args.work.now) q none.0 none.1 };
       text = record { at = λ q lacks due. absurd (nothing_due (get c.args.index.now q) (get c.args.tree.now q) (apart q lacks).1 due) };
       same = search rules;
+      folders = search rules;
       wear = search rules;
     }
 
@@ -35,6 +36,7 @@ loop-path-preserved g c =
       clear = λ honest. holds_more _ _ _ path first (subst (λ (w : FileMap). IsClear c.args.index.now c.args.tree.now w path) c.loop-path.invariant.same (c.in_ok-check_path.ensures.clear honest)) (c.loop-path.invariant.clear honest);
       text = holds_more _ _ _ path first c.in_ok-check_path.ensures.text c.loop-path.invariant.text;
       same = search rules;
+      folders = search rules;
       wear = search rules;
     }
 

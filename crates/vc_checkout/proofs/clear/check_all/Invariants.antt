@@ -17,5 +17,6 @@ invariant-loop-path g l = record {
   clear : g.T.WorkTree.honest → Holds (IsClear l.index l.tree (g.T.WorkTree.content l.fn.work)) (map (λ k. k.items) l.path-iterator);
   text : Holds (λ path. IsDue (get l.index path) (get l.tree path) → IsUtf8 path) (map (λ k. k.items) l.path-iterator);
   same : g.T.WorkTree.content l.work ≡ g.T.WorkTree.content l.fn.work;
+  folders : g.T.WorkTree.folders l.work ≡ g.T.WorkTree.folders l.fn.work;
   wear : Wears g.T.WorkTree.failed g.T.WorkTree.can_fail l.fn.work l.work ⊥;
 }

@@ -15,6 +15,7 @@ loop-path-init g c =
           (set_sorted c.into_iter-path-iterator.result (rw keys c.into_iter-path-iterator.ensures.into_iter_gives.4))
           (all_listed c.into_iter-path-iterator.result c.in_ok-paths.paths c.in_ok-untracked.untracked c.args.index.now c.args.tree.now (g.T.WorkTree.content c.args.work.now) keys c.in_ok-paths.ensures (c.in_ok-untracked.ensures.untracked honest));
       same = search rules;
+      folders = search rules;
       wear = search rules;
     }
 
@@ -31,6 +32,7 @@ loop-path-preserved-in_default g c =
           let first : map (λ k. k.items) c.loop-path.path-iterator ≡ path ∷ map (λ k. k.items) c.next.new.self = search rules in
           status_same c.args.tree.now c.args.index.now work _ _ _ path first (subst (IsChangeAt c.args.tree.now c.args.index.now work path) none told) (c.loop-path.invariant.so_far honest);
       same = search rules;
+      folders = search rules;
       wear = search rules;
     }
 
@@ -50,6 +52,7 @@ loop-path-preserved g c =
           status_more c.args.tree.now c.args.index.now work (map seen c.loop-path.changes.items) (map seen c.push.new.self.items) _ _ (seen change) (first ∙ ap (λ (p : List ℕ). p ∷ map (λ k. k.items) c.next.new.self) (sym at.0))
           (seen_more c.loop-path.changes.items c.push.new.self.items change (search rules)) (subst (λ (p : List ℕ). Differs c.args.tree.now c.args.index.now work p change.index change.work) (sym at.0) at.1) (c.loop-path.invariant.so_far honest);
       same = search rules;
+      folders = search rules;
       wear = search rules;
     }
 

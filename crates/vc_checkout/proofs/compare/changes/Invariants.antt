@@ -10,5 +10,6 @@ invariant-loop-path g l = record {
   finite : (goal.iterator-loop-path g).is_finite l.path-iterator;
   so_far : g.T.WorkTree.honest → SoFar l.tree l.index (g.T.WorkTree.content l.fn.work) (map seen l.changes.items) (map (λ k. k.items) l.path-iterator);
   same : g.T.WorkTree.content l.work ≡ g.T.WorkTree.content l.fn.work;
+  folders : g.T.WorkTree.folders l.work ≡ g.T.WorkTree.folders l.fn.work;
   wear : Wears g.T.WorkTree.failed g.T.WorkTree.can_fail l.fn.work l.work ⊥;
 }

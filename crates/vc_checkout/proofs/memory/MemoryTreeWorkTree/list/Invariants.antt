@@ -5,4 +5,4 @@ use Rattle.vc_checkout.proofs.memory.MemoryTreeWorkTree.list.Given as goal
 
 -- the paths so far and those that the rest gives are those of all files
 abbrev pub invariant-loop-path : goal.invariant-loop-path
-invariant-loop-path l = map string_bytes l.listed.items ++ map string_bytes l.path-iterator ≡ files.keys l.fn.self
+invariant-loop-path l = map string_bytes l.listed.items ++ map string_bytes l.path-iterator ≡ files.keys l.fn.self.0
