@@ -89,7 +89,7 @@ same_or_not q k = elim (bytes_eq q k) as (λ b. bytes_eq q k ≡ b → (q ≡ k)
 ] refl
 
 -- whether a path lies in a folder
-above_or_not : (a c : List ℕ) → IsAbove a c ⊎ (IsAbove a c → ⊥)
+pub above_or_not : (a c : List ℕ) → IsAbove a c ⊎ (IsAbove a c → ⊥)
 above_or_not [] [] = inr (λ (r, e). cc e)
 above_or_not [] (y ∷ c) = by (same_or_not (y ∷ []) (47 ∷ []))
   where

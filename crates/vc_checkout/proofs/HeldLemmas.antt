@@ -105,6 +105,7 @@ removed_absent m p lacks = same_map nat_list_cmp_total (slice_cmp-IsAntisymmetri
     none : (o : Option (Vec ℕ Global)) → is_some o ≡ false → option_map (λ bytes. bytes.items) o ≡ None
     none None e = refl
     none (Some x) e = cc e
+
     by : (q : List ℕ) → (q ≡ p) ⊎ (q ≢ p) → get (files_of m) q ≡ get (files.remove (files_of m) p) q
     by q (inl same) = ap (get (files_of m)) same ∙ get-files_of m p ∙ none (get_by_text m p) lacks ∙ sym (ap (get (files.remove (files_of m) p)) same ∙ removed_at (files_of m) (files.remove (files_of m) p) p refl)
     by q (inr apart) = sym (removed_others (files_of m) (files.remove (files_of m) p) p refl q apart)
@@ -167,6 +168,7 @@ module _ (path : List ℕ) (old new : Folders) where
       kept : (b c : Bool) → c ≡ true → cond b true c ≡ true
       kept true c is = refl
       kept false c is = is
+
       only : (one : List ℕ) (b : Bool) → is_same one k ≡ b → cond b true (contains old one) ≡ true → IsTrue (contains old one) ⊎ IsAbove one path
       only one true same is = inr (subst (λ (p : List ℕ). IsAbove p path) (sym (same_text one k same)) lowest.above)
       only one false other is = inl is
@@ -199,8 +201,8 @@ module _ (work now : FileMap) (held new : Folders) (p : List ℕ) where
   -- a file is written
   pub folders_put : ((q : List ℕ) → IsSome (get work q) → IsSome (get now q)) → IsSome (get now p) → ((q : List ℕ) → contains new q ≡ (not (bytes_eq q p || is_above p q) && contains held q)) → AreFolders now new (λ one. IsFolder work held one × (IsAtOrIn p one → ⊥))
   folders_put files there set = are_folders now new (λ one. IsFolder work held one × (IsAtOrIn p one → ⊥))
-    (λ one is. let n = not_at one (contains held one) (sym (set one) ∙ is) in folder_itself now (λ one. IsFolder work held one × (IsAtOrIn p one → ⊥)) one (folder_itself work (IsHeld held) one n.1, n.0))
-    (λ one is. back one is.0 is.1)
+      (λ one is. let n = not_at one (contains held one) (sym (set one) ∙ is) in folder_itself now (λ one. IsFolder work held one × (IsAtOrIn p one → ⊥)) one (folder_itself work (IsHeld held) one n.1, n.0))
+      (λ one is. back one is.0 is.1)
     where
       kept : (one q : List ℕ) → (IsAtOrIn p one → ⊥) → IsAtOrIn one q → IsAtOrIn p q ⊎ ((not (bytes_eq q p || is_above p q) && contains held q) ≡ true) → IsFolder now new one
       kept one q apart at (inr stays) = folder_above now (IsHeld new) one q at (folder_itself now (IsHeld new) q (set q ∙ stays))
@@ -209,6 +211,7 @@ module _ (work now : FileMap) (held new : Folders) (p : List ℕ) where
           by : IsAbove one p ⊎ IsAtOrIn p one → IsFolder now new one
           by (inl above) = inl (p, above, there)
           by (inr in_it) = absurd (apart in_it)
+
       back : (one : List ℕ) → IsFolder work held one → (IsAtOrIn p one → ⊥) → IsFolder now new one
       back one (inl (path, above, some)) apart = inl (path, above, files path some)
       back one (inr (q, is, at)) apart = kept one q apart at (beside q (contains held q) is)
@@ -216,14 +219,16 @@ module _ (work now : FileMap) (held new : Folders) (p : List ℕ) where
   -- a file that was there is taken away
   pub folders_taken : ((q : List ℕ) → q ≢ p → IsSome (get work q) → IsSome (get now q)) → IsSome (get work p) → IsNoted p held new → AreFolders now new (IsFolder work held)
   folders_taken files there noted = are_folders now new (IsFolder work held)
-    (λ one is. folder_itself now (IsFolder work held) one (was one (noted.only one is)))
-    back
+      (λ one is. folder_itself now (IsFolder work held) one (was one (noted.only one is)))
+      back
     where
       was : (one : List ℕ) → IsTrue (contains held one) ⊎ IsAbove one p → IsFolder work held one
       was one (inl is) = folder_itself work (IsHeld held) one is
       was one (inr above) = inl (p, above, there)
+
       above_it : (one : List ℕ) → IsAbove one p → IsFolder now new one
       above_it one above = let f = noted.all one above in folder_above now (IsHeld new) one f.0 f.3 (folder_itself now (IsHeld new) f.0 f.1)
+
       back : (one : List ℕ) → IsFolder work held one → IsFolder now new one
       back one (inl (path, above, some)) = by (same_or_not path p)
         where
@@ -242,9 +247,11 @@ folders_made work held new p set = are_folders work new (λ one. IsFolder work h
         by : (b : Bool) → is_same one p ≡ b → cond b true (contains held one) ≡ true → IsFolder work held one ⊎ (one ≡ p)
         by true same e = inr (same_text one p same)
         by false other e = inl (folder_itself work (IsHeld held) one e)
+
     held_still : (b c : Bool) → c ≡ true → cond b true c ≡ true
     held_still true c e = refl
     held_still false c e = e
+
     back : (one : List ℕ) → IsFolder work held one ⊎ (one ≡ p) → IsFolder work new one
     back one (inl (inl file)) = inl file
     back one (inl (inr (q, is, at))) = folder_above work (IsHeld new) one q at (folder_itself work (IsHeld new) q (set q ∙ held_still (is_same q p) (contains held q) is))
@@ -271,6 +278,7 @@ folders_kept work held p how = are_folders work held (λ one. IsFolder work held
     at_p : HasBelow work held p → IsFolderBy work (λ one. IsFolder work held one × (one ≢ p)) p
     at_p (inl file) = inl file
     at_p (inr (q, above, is)) = inr (q, (folder_itself work (IsHeld held) q is, λ same. above_itself p (subst (IsAbove p) same above)), inr above)
+
     by : (one : List ℕ) → IsFolder work held one → (one ≡ p) ⊎ (one ≢ p) → HasBelow work held p ⊎ (IsFolder work held p → ⊥) → IsFolderBy work (λ one. IsFolder work held one × (one ≢ p)) one
     by one is (inr apart) how = folder_itself work (λ one. IsFolder work held one × (one ≢ p)) one (is, apart)
     by one is (inl same) (inl below) = subst (IsFolderBy work (λ one. IsFolder work held one × (one ≢ p))) (sym same) (at_p below)
@@ -315,8 +323,8 @@ module _ (work : FileMap) (held noted new : Folders) (p : List ℕ) (empty : Has
 
     pub folders_removed : AreFolders work new (λ one. IsFolder work held one × (one ≢ p))
     folders_removed = are_folders work new (λ one. IsFolder work held one × (one ≢ p))
-      (λ one is. let o = only one is in folder_itself work (λ one. IsFolder work held one × (one ≢ p)) one (was_one one (note.only one o.1), o.0))
-      (λ one is. back one is.0 is.1)
+        (λ one is. let o = only one is in folder_itself work (λ one. IsFolder work held one × (one ≢ p)) one (was_one one (note.only one o.1), o.0))
+        (λ one is. back one is.0 is.1)
 
     pub folder_gone : IsFolder work new p → ⊥
     folder_gone (inl file) = empty (inl file)

@@ -5,3 +5,5 @@ pub mod ClearLemmas
 pub mod ApplyLemmas
 pub mod FolderLemmas
 pub mod HeldLemmas
+pub mod LeavingLemmas
+pub mod MakingLemmas

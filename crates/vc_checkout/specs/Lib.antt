@@ -6,3 +6,4 @@ pub mod Devices
 pub mod Heads
 pub mod Refusal
 pub mod CheckedOut
+pub mod FoldersAfter

@@ -1,18 +1,23 @@
 // Bringing a work tree to the files of a tree.
-ghost use Rattle.std.specs.Prelude.{◌≡◌, ◌≢◌, ◌⊎◌, ◌↔◌, ℕ, List, Option, Some, Ok, IfOk, IfErr, OnOk, OnErr, IsErrOf, IsSome, IsUtf8, option_map};
+ghost use Rattle.std.specs.Prelude.{◌≡◌, ◌≢◌, ◌⊎◌, ◌↔◌, ℕ, List, Option, Some, None, Ok, IfOk, IfErr, OnOk, OnErr, IsErrOf, IsSome, IsUtf8, option_map};
 ghost use Rattle.std.specs.FinMap as maps;
+ghost use Rattle.vc_files.specs.FileMap.{FileMap};
 ghost use Rattle.vc_files.specs.Failures.{Wears};
 ghost use Rattle.vc_object.specs.declared.id.ObjectId.{ObjectId as Id};
 ghost use Rattle.vc_store.specs.Store.{objects};
 ghost use Rattle.vc_index.specs.Loading.{HasBlobs, IsBlobIfDue};
+ghost use Rattle.vc_index.specs.Path.{IsAbove};
 ghost use Rattle.vc_checkout.specs.CheckedOut.{IsCheckedOut, IsCleared, IsOldOrCheckedOut, IsWritten, StepAt, StepOrNone, file_of, left_of};
 ghost use Rattle.vc_index.specs.TreeReading.{ReadsAs};
 ghost use Rattle.vc_checkout.specs.CheckoutFault.{IsFault, IsOfCheckout, TellsFirst};
 ghost use Rattle.vc_checkout.specs.Devices.{WearsEither};
+ghost use Rattle.vc_checkout.specs.Folders.{AreFolders, Folders, IsFolder};
+ghost use Rattle.vc_checkout.specs.FoldersAfter.{AreBetween, AreFoldersBegun, GivesWay, GivesWayBy, IsFolderAfter, IsFolderFor, IsLeft, IsLeftBy, IsLink, IsLinked, IsMadeBy, IsMadeFor, TakesPlace};
 ghost use Rattle.vc_checkout.specs.Refusal.{IsClear, IsDue};
 ghost use Rattle.vc_checkout.specs.WorkTree.{HasTextPaths};
 
 use crate::clear::check_all;
+use crate::paths::folder_of;
 use crate::{CheckoutFault, WorkTree};
 use std::alloc::Global;
 use std::str;
@@ -29,13 +34,12 @@ fn remove_empty_above<T: WorkTree>(
 ) -> Result<(), CheckoutFault>
     ensures fault { IfErr result IsFault }
     ensures same { T.content work.new ≡ T.content work.old }
+    ensures folders { T.honest → OnOk result (AreFolders (T.content work.new) (T.folders work.new) (λ one. IsFolder (T.content work.old) (T.folders work.old) one × ¬ (IsAbove one path.now))) }
+    ensures between { T.honest → AreBetween (T.content work.new) (T.folders work.new) (λ one. IsFolder (T.content work.old) (T.folders work.old) one × ¬ (IsAbove one path.now)) (IsFolder (T.content work.old) (T.folders work.old)) }
     ensures wear { Wears T.failed T.can_fail work.old work.new (IsErrOf result (CheckoutFault.Index (IndexFault.Store (StoreFault.Fault Fault.Device)))) }
 {
     let mut below = path;
-    for _ in 0..path.len() {
-        let Some((folder, _)) = below.rsplit_once('/') else {
-            return Ok(());
-        };
+    while let Some(folder) = folder_of(below) {
         if !work.remove_folder(alloc, folder)? {
             return Ok(());
         }
@@ -55,6 +59,8 @@ fn take_out<T: WorkTree>(
     ensures done { T.honest → OnOk result (StepAt (λ file after. after ≡ left_of entry.mode file) path.now (T.content work.old) (T.content work.new)) }
     ensures begun { T.honest → OnErr result (StepOrNone (λ file after. after ≡ left_of entry.mode file) path.now (T.content work.old) (T.content work.new)) }
     ensures fault { IfErr result IsFault }
+    ensures folders { T.honest → OnOk result (AreFolders (T.content work.new) (T.folders work.new) (λ one. IsFolder (T.content work.old) (T.folders work.old) one × ¬ (IsUtf8 path.now × IsFolderFor entry path.now one))) }
+    ensures between { T.honest → AreBetween (T.content work.new) (T.folders work.new) (λ one. IsFolder (T.content work.old) (T.folders work.old) one × ¬ (IsUtf8 path.now × IsFolderFor entry path.now one)) (IsFolder (T.content work.old) (T.folders work.old)) }
     ensures wear { Wears T.failed T.can_fail work.old work.new (IsErrOf result (CheckoutFault.Index (IndexFault.Store (StoreFault.Fault Fault.Device)))) }
 {
     let Ok(text) = str::from_utf8(path) else {
@@ -81,6 +87,8 @@ fn clear_path<T: WorkTree>(
     ensures done { T.honest → OnOk result (StepAt (IsCleared (maps.get index.now path.now) (maps.get tree.now path.now)) path.now (T.content work.old) (T.content work.new)) }
     ensures begun { T.honest → OnErr result (StepOrNone (IsCleared (maps.get index.now path.now) (maps.get tree.now path.now)) path.now (T.content work.old) (T.content work.new)) }
     ensures fault { IfErr result IsFault }
+    ensures folders { T.honest → OnOk result (AreFolders (T.content work.new) (T.folders work.new) (λ one. IsFolder (T.content work.old) (T.folders work.old) one × ¬ (IsLeft (maps.get index.now path.now) (maps.get tree.now path.now) path.now one))) }
+    ensures between { T.honest → AreBetween (T.content work.new) (T.folders work.new) (λ one. IsFolder (T.content work.old) (T.folders work.old) one × ¬ (IsLeft (maps.get index.now path.now) (maps.get tree.now path.now) path.now one)) (IsFolder (T.content work.old) (T.folders work.old)) }
     ensures wear { Wears T.failed T.can_fail work.old work.new (IsErrOf result (CheckoutFault.Index (IndexFault.Store (StoreFault.Fault Fault.Device)))) }
 {
     let Some(old) = index.get(path) else {
@@ -104,6 +112,8 @@ fn clear_all<T: WorkTree>(
     ensures done { T.honest → OnOk result ((path : List ℕ) → IsCleared (maps.get index.now path) (maps.get tree.now path) (maps.get (T.content work.old) path) (maps.get (T.content work.new) path)) }
     ensures begun { T.honest → (path : List ℕ) → (maps.get (T.content work.new) path ≡ maps.get (T.content work.old) path) ⊎ IsCleared (maps.get index.now path) (maps.get tree.now path) (maps.get (T.content work.old) path) (maps.get (T.content work.new) path) }
     ensures fault { IfErr result IsFault }
+    ensures folders { T.honest → OnOk result (AreFolders (T.content work.new) (T.folders work.new) (λ one. IsFolder (T.content work.old) (T.folders work.old) one × ¬ (IsLeftBy index.now tree.now one))) }
+    ensures between { T.honest → AreBetween (T.content work.new) (T.folders work.new) (λ one. IsFolder (T.content work.old) (T.folders work.old) one × ¬ (IsLeftBy index.now tree.now one)) (IsFolder (T.content work.old) (T.folders work.old)) }
     ensures wear { Wears T.failed T.can_fail work.old work.new (IsErrOf result (CheckoutFault.Index (IndexFault.Store (StoreFault.Fault Fault.Device)))) }
 {
     for (path, _) in index.iter() {
@@ -140,6 +150,8 @@ fn put_in<T: WorkTree, F: Files>(
     ensures begun { T.honest → F.honest → OnErr result (StepOrNone (λ _ after. after ≡ file_of (objects (F.content files.old)) entry.mode entry.id) path.now (T.content work.old) (T.content work.new)) }
     ensures refused { IfErr result (λ e. F.honest → IsFault e) }
     ensures same { F.content files.new ≡ F.content files.old }
+    ensures folders { T.honest → OnOk result (AreFolders (T.content work.new) (T.folders work.new) (λ one. IsLink entry path.now one ⊎ (IsFolder (T.content work.old) (T.folders work.old) one × ¬ (TakesPlace entry path.now one)))) }
+    ensures between { T.honest → AreBetween (T.content work.new) (T.folders work.new) (λ one. IsFolder (T.content work.old) (T.folders work.old) one × ¬ (TakesPlace entry path.now one)) (λ one. IsFolder (T.content work.old) (T.folders work.old) one ⊎ IsFolderFor entry path.now one) }
     ensures wear { WearsEither T.failed T.can_fail F.failed F.can_fail work.old work.new files.old files.new (IsErrOf result (CheckoutFault.Index (IndexFault.Store (StoreFault.Fault Fault.Device)))) }
 {
     let Ok(text) = str::from_utf8(path) else {
@@ -170,6 +182,9 @@ fn write_path<T: WorkTree, F: Files>(
     ensures begun { T.honest → F.honest → OnErr result (StepOrNone (IsWritten (objects (F.content files.old)) (maps.get index.now path.now) (maps.get tree.now path.now)) path.now (T.content work.old) (T.content work.new)) }
     ensures refused { IfErr result (λ e. F.honest → IsFault e) }
     ensures same { F.content files.new ≡ F.content files.old }
+    ensures folders { T.honest → OnOk result (AreFolders (T.content work.new) (T.folders work.new) (λ one. ((one ≡ path.now) × IsLinked (maps.get index.now path.now) (maps.get tree.now path.now)) ⊎ (IsFolder (T.content work.old) (T.folders work.old) one × ¬ (GivesWay (maps.get index.now path.now) (maps.get tree.now path.now) path.now one)))) }
+    ensures between { T.honest → AreBetween (T.content work.new) (T.folders work.new) (λ one. IsFolder (T.content work.old) (T.folders work.old) one × ¬ (GivesWay (maps.get index.now path.now) (maps.get tree.now path.now) path.now one)) (λ one. IsFolder (T.content work.old) (T.folders work.old) one ⊎ IsMadeFor (maps.get index.now path.now) (maps.get tree.now path.now) path.now one) }
+    ensures due { OnOk result (((maps.get index.now path.now ≡ maps.get tree.now path.now) ⊎ (maps.get tree.now path.now ≡ None)) ⊎ IsDue (maps.get index.now path.now) (maps.get tree.now path.now)) }
     ensures wear { WearsEither T.failed T.can_fail F.failed F.can_fail work.old work.new files.old files.new (IsErrOf result (CheckoutFault.Index (IndexFault.Store (StoreFault.Fault Fault.Device)))) }
 {
     let Some(new) = tree.get(path) else {
@@ -196,6 +211,8 @@ fn write_all<T: WorkTree, F: Files>(
     ensures begun { T.honest → F.honest → (path : List ℕ) → (maps.get (T.content work.new) path ≡ maps.get (T.content work.old) path) ⊎ IsWritten (objects (F.content files.old)) (maps.get index.now path) (maps.get tree.now path) (maps.get (T.content work.old) path) (maps.get (T.content work.new) path) }
     ensures refused { IfErr result (λ e. F.honest → IsFault e) }
     ensures same { F.content files.new ≡ F.content files.old }
+    ensures folders { T.honest → F.honest → OnOk result ((old : FileMap) (was : Folders) → AreFolders (T.content work.old) (T.folders work.old) (λ one. IsFolder old was one × ¬ (IsLeftBy index.now tree.now one)) → AreFolders (T.content work.new) (T.folders work.new) (IsFolderAfter index.now tree.now (IsFolder old was))) }
+    ensures between { T.honest → AreBetween (T.content work.new) (T.folders work.new) (λ one. IsFolder (T.content work.old) (T.folders work.old) one × ¬ (GivesWayBy index.now tree.now one)) (λ one. IsFolder (T.content work.old) (T.folders work.old) one ⊎ IsMadeBy index.now tree.now one) }
     ensures wear { WearsEither T.failed T.can_fail F.failed F.can_fail work.old work.new files.old files.new (IsErrOf result (CheckoutFault.Index (IndexFault.Store (StoreFault.Fault Fault.Device)))) }
 {
     for (path, _) in tree.iter() {
@@ -212,10 +229,12 @@ fn write_all<T: WorkTree, F: Files>(
 /// that the index lacks, where a due path is to be written: at the path with another content, above it or below it.
 /// Contents are compared by the names that they have as blobs. Where all is clear, files of the index that the tree
 /// lacks are removed, then what is due is written: a link as a file that holds its text, an executable without the
-/// right to be run, a commit of another repository as an empty folder. Folders that became empty go; the folder of a
-/// commit of another repository goes only if it is empty. What isn't due stays as it is.
+/// right to be run, a commit of another repository as an empty folder. A folder that an entry which goes lies in, or
+/// that is its own, goes if nothing is left in it; every other folder stays, but where a file is written in its place.
+/// What isn't due stays as it is.
 ///
-/// A fault may leave any part of this done; each path then has its old file or its new one.
+/// A fault may leave any part of this done; each path then has its old file or its new one, and no folder is gone or
+/// made that would not have been.
 pub fn checkout<T: WorkTree, F: Files>(
     alloc: Global,
     work: &mut T,
@@ -231,6 +250,8 @@ pub fn checkout<T: WorkTree, F: Files>(
     ensures unchanged { F.honest → IfErr result (λ e. IsFault e ⊎ (T.content work.new ≡ T.content work.old)) }
     ensures unmoved { F.honest → IfErr result (λ e. IsFault e ⊎ (T.folders work.new ≡ T.folders work.old)) }
     ensures fault { T.honest → F.honest → OnErr result ((path : List ℕ) → IsOldOrCheckedOut (objects (F.content files.old)) tree.now index.now (T.content work.old) (T.content work.new) path) }
+    ensures folders { T.honest → F.honest → IfOk result (λ new. AreFolders (T.content work.new) (T.folders work.new) (IsFolderAfter index.now new (IsFolder (T.content work.old) (T.folders work.old)))) }
+    ensures begun { T.honest → F.honest → OnErr result (AreFoldersBegun (objects (F.content files.old)) tree.now index.now (T.content work.old) (T.folders work.old) (T.content work.new) (T.folders work.new)) }
     ensures files { F.content files.new ≡ F.content files.old }
     ensures wear { WearsEither T.failed T.can_fail F.failed F.can_fail work.old work.new files.old files.new (IsErrOf result (CheckoutFault.Index (IndexFault.Store (StoreFault.Fault Fault.Device)))) }
 {

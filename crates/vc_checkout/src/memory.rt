@@ -97,11 +97,7 @@ fn has_folder_below(folders: &BTreeSet<String>, folder: &str) -> bool
 }
 
 // Whether a file or a folder lies in the folder.
-fn has_below(
-    files: &BTreeMap<String, Vec<u8>>,
-    folders: &BTreeSet<String>,
-    folder: &str,
-) -> bool
+fn has_below(files: &BTreeMap<String, Vec<u8>>, folders: &BTreeSet<String>, folder: &str) -> bool
     ensures { IsTrue result ↔ (HoldsFile (files_of files.now) folder.now ⊎ ((one : List ℕ) × IsAbove folder.now one × IsTrue (set.contains (folders_of folders.now) one))) }
 {
     has_file_below(files, folder) || has_folder_below(folders, folder)
@@ -146,7 +142,8 @@ impl WorkTree for MemoryTree {
         let key = String::from_str(alloc, path)?;
         let value = bytes.to_vec(alloc)?;
         self.files.insert(key, value)?;
-        self.folders.retain(|folder| is_beside(folder.as_str(), path));
+        self.folders
+            .retain(|folder| is_beside(folder.as_str(), path));
         Ok(())
     }
 
