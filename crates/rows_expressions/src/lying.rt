@@ -1,6 +1,6 @@
 //! A repository that lies: it reads some names as others, as git does after `git replace`, and claims nothing of itself.
 ghost use Rattle.std.specs.Prelude.{None, ⊤, refl};
-ghost use Rattle.vc_files.specs.Failures.{greatest_count};
+ghost use Rattle.vc_files.specs.Failures.{greatest_count, unstopped};
 ghost use Rattle.vc_rev.specs.Source.{Names};
 
 use indexmap::IndexMap;
@@ -40,6 +40,8 @@ impl Objects for Lying<'_> {
     ghost failed = { λ _. greatest_count };
 
     ghost can_fail = { λ _. ⊤ };
+
+    ghost left = { unstopped };
 
     // No expression asks for links.
     fn links(&mut self, _id: &ObjectId) -> Result<Option<Vec<ObjectId>>, StoreFault> {

@@ -1,5 +1,6 @@
 //! Tables of links, for graphs that no store can hold, and that count how often they are read.
 ghost use Rattle.std.specs.Prelude.{None};
+ghost use Rattle.vc_files.specs.Failures.{unstopped};
 
 use crate::answers::{Answer, done};
 use crate::graph_rows::{self, Sides};
@@ -60,6 +61,8 @@ impl Objects for Table {
     ghost failed = { λ _. 0 };
 
     ghost can_fail = { λ _. ⊥ };
+
+    ghost left = { unstopped };
 
     fn links(&mut self, id: &ObjectId) -> Result<Option<Vec<ObjectId>>, StoreFault> {
         self.reads = self.reads.wrapping_add(1);

@@ -28,7 +28,7 @@ fn our_names<F: Files>(alloc: Global, files: &mut F) -> Result<Vec<ObjectId>, An
     ensures there { F.honest → OnOk result ((id : Id) → IsOurs (F.content files.old) id → IsSome (objects (F.content files.old) id)) }
     ensures refused { F.honest → IfErr result (IsRefusedWalk (IsOurs (F.content files.old)) (F.content files.old)) }
     ensures same { F.content files.new ≡ F.content files.old }
-    ensures wear { Wears F.failed F.can_fail files.old files.new (IsErrOf result (AnswerFault.Fault Fault.Device)) }
+    ensures wear { Wears F.failed F.can_fail F.left files.old files.new (IsErrOf result (AnswerFault.Fault Fault.Device)) }
 {
     let values = ref_values(alloc, files)?;
     let ids = closure(alloc, &mut Store::new(alloc, files), &values)?;
@@ -50,7 +50,7 @@ pub fn answer_want<F: Files>(alloc: Global, files: &mut F, want: &Want) -> Resul
     ensures refused { F.honest → IfErr result (IsRefusedAnswer (F.content files.old) want.now.wants.items) }
 
     ensures same { F.content files.new ≡ F.content files.old }
-    ensures wear { Wears F.failed F.can_fail files.old files.new (IsErrOf result (AnswerFault.Fault Fault.Device)) }
+    ensures wear { Wears F.failed F.can_fail F.left files.old files.new (IsErrOf result (AnswerFault.Fault Fault.Device)) }
 {
     let ours = our_names(alloc, files)?;
     if let Some(id) = first_other(&ours, &want.wants) {

@@ -29,7 +29,7 @@ fn first_left_open<O: Objects>(
     ensures first { IfOk result (λ found. O.is_honest → IsAnswerOfFirst (links_in (with_carried (O.objects (O.state_of stored.old)) (objects_in (carried_objects carried.now.objects.now)))) wants.now found) }
     ensures refused { IfErr result (λ e. O.is_honest → IsMet (ReachedFrom (links_in (with_carried (O.objects (O.state_of stored.old)) (objects_in (carried_objects carried.now.objects.now)))) wants.now) (O.damaged (O.state_of stored.old)) e) }
     ensures kept { O.state_of stored.new ≡ O.state_of stored.old }
-    ensures wear { Wears O.failed O.can_fail stored.old stored.new (IsErrOf result (StoreFault.Fault Fault.Device)) }
+    ensures wear { Wears O.failed O.can_fail O.left stored.old stored.new (IsErrOf result (StoreFault.Fault Fault.Device)) }
 {
     let mut objects = Overlay {
         stored,
@@ -49,7 +49,7 @@ fn first_in_files<F: Files>(
     ensures first { F.honest → IfOk result (IsAnswerOfFirst (links_in (with_carried (objects (F.content files.old)) (objects_in (carried_objects carried.now.objects.now)))) wants.now) }
     ensures refused { F.honest → IfErr result (IsMet (ReachedFrom (links_in (with_carried (objects (F.content files.old)) (objects_in (carried_objects carried.now.objects.now)))) wants.now) (IsDamaged (F.content files.old))) }
     ensures same { F.content files.new ≡ F.content files.old }
-    ensures wear { Wears F.failed F.can_fail files.old files.new (IsErrOf result (StoreFault.Fault Fault.Device)) }
+    ensures wear { Wears F.failed F.can_fail F.left files.old files.new (IsErrOf result (StoreFault.Fault Fault.Device)) }
 {
     let first = first_left_open(alloc, &mut Store::new(alloc, files), carried, wants)?;
     Ok(first)
@@ -68,7 +68,7 @@ pub fn judge_pack<F: Files>(
     ensures refused { F.honest → IfErr result (IsRefusedPack (F.content files.old) (objects_in (carried_objects pack.now.objects)) wants.now) }
 
     ensures same { F.content files.new ≡ F.content files.old }
-    ensures wear { Wears F.failed F.can_fail files.old files.new (IsErrOf result (AnswerFault.Fault Fault.Device)) }
+    ensures wear { Wears F.failed F.can_fail F.left files.old files.new (IsErrOf result (AnswerFault.Fault Fault.Device)) }
 {
     let carried = PackObjects {
         objects: &pack.objects,

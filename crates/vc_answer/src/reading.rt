@@ -31,7 +31,7 @@ fn read_objects<F: Files>(
     ensures sorted { F.honest → IfOk result (λ read. IsSortedByName (map stored_name (carried read))) }
     ensures refused { F.honest → IfErr result (λ e. IsFault e ⊎ ((id : Id) × Contains ids.now id × (objects (F.content files.old) id ≡ None))) }
     ensures same { F.content files.new ≡ F.content files.old }
-    ensures wear { Wears F.failed F.can_fail files.old files.new (IsErrOf result (StoreFault.Fault Fault.Device)) }
+    ensures wear { Wears F.failed F.can_fail F.left files.old files.new (IsErrOf result (StoreFault.Fault Fault.Device)) }
 {
     let mut read = CarriedObjects::new(alloc);
     for id in ids {
@@ -55,7 +55,7 @@ fn sent_names<F: Files>(
     ensures closed { F.honest → OnOk result (IsClosedUnder (links_in (objects (F.content files.old))) (wants.now ++ counted.now)) }
     ensures refused { F.honest → IfErr result (IsTold (objects (F.content files.old)) (IsDamaged (F.content files.old)) (wants.now ++ counted.now)) }
     ensures same { F.content files.new ≡ F.content files.old }
-    ensures wear { Wears F.failed F.can_fail files.old files.new (IsErrOf result (GraphFault.Store (StoreFault.Fault Fault.Device))) }
+    ensures wear { Wears F.failed F.can_fail F.left files.old files.new (IsErrOf result (GraphFault.Store (StoreFault.Fault Fault.Device))) }
 {
     let ids = difference(alloc, &mut Store::new(alloc, files), wants, counted)?;
     Ok(ids)
@@ -72,7 +72,7 @@ pub(crate) fn sent_objects<F: Files>(
     ensures sorted { F.honest → IfOk result (λ sent. IsSortedByName (map stored_name (carried sent))) }
     ensures refused { F.honest → IfErr result (IsRefusedWalk (ReachedFrom (links_in (objects (F.content files.old))) (wants.now ++ counted.now)) (F.content files.old)) }
     ensures same { F.content files.new ≡ F.content files.old }
-    ensures wear { Wears F.failed F.can_fail files.old files.new (IsErrOf result (AnswerFault.Fault Fault.Device)) }
+    ensures wear { Wears F.failed F.can_fail F.left files.old files.new (IsErrOf result (AnswerFault.Fault Fault.Device)) }
 {
     let ids = sent_names(alloc, files, wants, counted)?;
     let sent = read_objects(alloc, files, &ids)?;

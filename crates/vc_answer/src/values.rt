@@ -28,7 +28,7 @@ pub(crate) fn ref_values<F: Files>(alloc: Global, files: &mut F) -> Result<Vec<O
     ensures values { F.honest → IfOk result (λ ids. (id : Id) → Contains ids.items id ↔ IsRefValue (F.content files.old) id) }
     ensures refused { F.honest → IfErr result (λ e. BlamesList (F.content files.old) e ⊎ BlamesHead (F.content files.old) e) }
     ensures same { F.content files.new ≡ F.content files.old }
-    ensures wear { Wears F.failed F.can_fail files.old files.new (IsErrOf result (RefFault.Fault Fault.Device)) }
+    ensures wear { Wears F.failed F.can_fail F.left files.old files.new (IsErrOf result (RefFault.Fault Fault.Device)) }
 {
     let listed = list(files, alloc)?;
     let mut ids = ids_of(alloc, &listed)?;

@@ -18,7 +18,6 @@ use Rattle.vc_object.specs.ObjectId.{id_eq}
 use Rattle.vc_object.specs.declared.id.ObjectId.{ObjectId}
 use Rattle.vc_object.proofs.IdLemmas.{id_eq-same, id_eq_equiv}
 use Rattle.vc_graph.specs.Graph.{LinksTo, Reaches, ReachedFrom, IsClosedUnder, itself, onward}
-use Rattle.vc_graph.specs.GraphFault.{IsMet}
 use Rattle.vc_graph.proofs.FaultLemmas.{IsMet-more}
 use Rattle.vc_graph.proofs.WalkLemmas.{Walks, Walks-start, Walks-step, walked, walked-closed, insert_all-prefix, Contains-insert_all_old, Contains-from_slice_get, IsFollowed-none}
 use Rattle.vc_base.specs.BaseFault.{IsTold, IsOfNext}

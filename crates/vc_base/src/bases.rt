@@ -34,7 +34,7 @@ pub fn merge_bases<C: Commits>(
     ensures refused { IfErr result (λ e. C.is_honest → IsTold (C.objects (C.state_of commits.old)) (C.damaged (C.state_of commits.old)) (a.now ∷ b.now ∷ []) e) }
 
     ensures kept { C.state_of commits.new ≡ C.state_of commits.old }
-    ensures wear { Wears C.failed C.can_fail commits.old commits.new (IsErrOf result (BaseFault.Store (StoreFault.Fault Fault.Device))) }
+    ensures wear { Wears C.failed C.can_fail C.left commits.old commits.new (IsErrOf result (BaseFault.Store (StoreFault.Fault Fault.Device))) }
 {
     let walk = read_history(alloc, commits, &[*a, *b])?;
     Ok(best_common(alloc, &walk, a, b)?)
@@ -55,7 +55,7 @@ pub fn common_ancestors<C: Commits>(
     ensures refused { IfErr result (λ e. C.is_honest → IsTold (C.objects (C.state_of commits.old)) (C.damaged (C.state_of commits.old)) (a.now ∷ b.now ∷ []) e) }
 
     ensures kept { C.state_of commits.new ≡ C.state_of commits.old }
-    ensures wear { Wears C.failed C.can_fail commits.old commits.new (IsErrOf result (BaseFault.Store (StoreFault.Fault Fault.Device))) }
+    ensures wear { Wears C.failed C.can_fail C.left commits.old commits.new (IsErrOf result (BaseFault.Store (StoreFault.Fault Fault.Device))) }
 {
     let walk = read_history(alloc, commits, &[*a, *b])?;
     let common = common_in_history(alloc, &walk, a, b)?;

@@ -30,7 +30,7 @@ pub fn commits<C: Commits>(
     ensures refused { IfErr result (λ e. C.is_honest → IsTold (C.objects (C.state_of commits.old)) (C.damaged (C.state_of commits.old)) (include.now ++ exclude.now) e) }
 
     ensures kept { C.state_of commits.new ≡ C.state_of commits.old }
-    ensures wear { Wears C.failed C.can_fail commits.old commits.new (IsErrOf result (BaseFault.Store (StoreFault.Fault Fault.Device))) }
+    ensures wear { Wears C.failed C.can_fail C.left commits.old commits.new (IsErrOf result (BaseFault.Store (StoreFault.Fault Fault.Device))) }
 {
     let roots = joined(alloc, include, exclude)?;
     let walk = read_history(alloc, commits, &roots)?;

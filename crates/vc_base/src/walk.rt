@@ -55,7 +55,7 @@ impl Walk {
         ensures refused { IfErr result (λ e. C.is_honest → IsOfNext (C.objects (C.state_of commits.old)) (C.damaged (C.state_of commits.old)) (λ id. slice_get self.old.met.keys (length self.old.parents.items) ≡ Some id) e) }
 
         ensures kept { C.state_of commits.new ≡ C.state_of commits.old }
-        ensures wear { Wears C.failed C.can_fail commits.old commits.new (IsErrOf result (BaseFault.Store (StoreFault.Fault Fault.Device))) }
+        ensures wear { Wears C.failed C.can_fail C.left commits.old commits.new (IsErrOf result (BaseFault.Store (StoreFault.Fault Fault.Device))) }
     {
         let id = self.met[self.parents.len()];
         let Some(found) = commits.parents(&id)? else {
@@ -117,7 +117,7 @@ pub(crate) fn read_history<C: Commits>(
     ensures refused { IfErr result (λ e. C.is_honest → IsTold (C.objects (C.state_of commits.old)) (C.damaged (C.state_of commits.old)) roots.now e) }
 
     ensures kept { C.state_of commits.new ≡ C.state_of commits.old }
-    ensures wear { Wears C.failed C.can_fail commits.old commits.new (IsErrOf result (BaseFault.Store (StoreFault.Fault Fault.Device))) }
+    ensures wear { Wears C.failed C.can_fail C.left commits.old commits.new (IsErrOf result (BaseFault.Store (StoreFault.Fault Fault.Device))) }
 {
     let mut walk = Walk::from_roots(alloc, roots)?;
     'reading: while walk.parents.len() < walk.met.len() {

@@ -2,7 +2,7 @@
 ghost use Rattle.std.specs.Prelude.{◌≡◌, ◌≢◌, ◌⊎◌, ◌↔◌, ℕ, List, Option, Some, None, Ok, IfOk, IfErr, OnOk, OnErr, IsErrOf, IsSome, IsUtf8, option_map};
 ghost use Rattle.std.specs.FinMap as maps;
 ghost use Rattle.vc_files.specs.FileMap.{FileMap};
-ghost use Rattle.vc_files.specs.Failures.{Wears};
+ghost use Rattle.vc_files.specs.Failures.{Wears, unstopped};
 ghost use Rattle.vc_object.specs.declared.id.ObjectId.{ObjectId as Id};
 ghost use Rattle.vc_store.specs.Store.{objects};
 ghost use Rattle.vc_index.specs.Loading.{HasBlobs, IsBlobIfDue};
@@ -36,7 +36,7 @@ fn remove_empty_above<T: WorkTree>(
     ensures same { T.content work.new ≡ T.content work.old }
     ensures folders { T.honest → OnOk result (AreFolders (T.content work.new) (T.folders work.new) (λ one. IsFolder (T.content work.old) (T.folders work.old) one × ¬ (IsAbove one path.now))) }
     ensures between { T.honest → AreBetween (T.content work.new) (T.folders work.new) (λ one. IsFolder (T.content work.old) (T.folders work.old) one × ¬ (IsAbove one path.now)) (IsFolder (T.content work.old) (T.folders work.old)) }
-    ensures wear { Wears T.failed T.can_fail work.old work.new (IsErrOf result (CheckoutFault.Index (IndexFault.Store (StoreFault.Fault Fault.Device)))) }
+    ensures wear { Wears T.failed T.can_fail unstopped work.old work.new (IsErrOf result (CheckoutFault.Index (IndexFault.Store (StoreFault.Fault Fault.Device)))) }
 {
     let mut below = path;
     while let Some(folder) = folder_of(below) {
@@ -61,7 +61,7 @@ fn take_out<T: WorkTree>(
     ensures fault { IfErr result IsFault }
     ensures folders { T.honest → OnOk result (AreFolders (T.content work.new) (T.folders work.new) (λ one. IsFolder (T.content work.old) (T.folders work.old) one × ¬ (IsUtf8 path.now × IsFolderFor entry path.now one))) }
     ensures between { T.honest → AreBetween (T.content work.new) (T.folders work.new) (λ one. IsFolder (T.content work.old) (T.folders work.old) one × ¬ (IsUtf8 path.now × IsFolderFor entry path.now one)) (IsFolder (T.content work.old) (T.folders work.old)) }
-    ensures wear { Wears T.failed T.can_fail work.old work.new (IsErrOf result (CheckoutFault.Index (IndexFault.Store (StoreFault.Fault Fault.Device)))) }
+    ensures wear { Wears T.failed T.can_fail unstopped work.old work.new (IsErrOf result (CheckoutFault.Index (IndexFault.Store (StoreFault.Fault Fault.Device)))) }
 {
     let Ok(text) = str::from_utf8(path) else {
         return Ok(());
@@ -89,7 +89,7 @@ fn clear_path<T: WorkTree>(
     ensures fault { IfErr result IsFault }
     ensures folders { T.honest → OnOk result (AreFolders (T.content work.new) (T.folders work.new) (λ one. IsFolder (T.content work.old) (T.folders work.old) one × ¬ (IsLeft (maps.get index.now path.now) (maps.get tree.now path.now) path.now one))) }
     ensures between { T.honest → AreBetween (T.content work.new) (T.folders work.new) (λ one. IsFolder (T.content work.old) (T.folders work.old) one × ¬ (IsLeft (maps.get index.now path.now) (maps.get tree.now path.now) path.now one)) (IsFolder (T.content work.old) (T.folders work.old)) }
-    ensures wear { Wears T.failed T.can_fail work.old work.new (IsErrOf result (CheckoutFault.Index (IndexFault.Store (StoreFault.Fault Fault.Device)))) }
+    ensures wear { Wears T.failed T.can_fail unstopped work.old work.new (IsErrOf result (CheckoutFault.Index (IndexFault.Store (StoreFault.Fault Fault.Device)))) }
 {
     let Some(old) = index.get(path) else {
         return Ok(());
@@ -114,7 +114,7 @@ fn clear_all<T: WorkTree>(
     ensures fault { IfErr result IsFault }
     ensures folders { T.honest → OnOk result (AreFolders (T.content work.new) (T.folders work.new) (λ one. IsFolder (T.content work.old) (T.folders work.old) one × ¬ (IsLeftBy index.now tree.now one))) }
     ensures between { T.honest → AreBetween (T.content work.new) (T.folders work.new) (λ one. IsFolder (T.content work.old) (T.folders work.old) one × ¬ (IsLeftBy index.now tree.now one)) (IsFolder (T.content work.old) (T.folders work.old)) }
-    ensures wear { Wears T.failed T.can_fail work.old work.new (IsErrOf result (CheckoutFault.Index (IndexFault.Store (StoreFault.Fault Fault.Device)))) }
+    ensures wear { Wears T.failed T.can_fail unstopped work.old work.new (IsErrOf result (CheckoutFault.Index (IndexFault.Store (StoreFault.Fault Fault.Device)))) }
 {
     for (path, _) in index.iter() {
         clear_path(alloc, work, index, tree, path)?;
@@ -127,7 +127,7 @@ fn blob_of<F: Files>(alloc: Global, files: &mut F, id: &ObjectId) -> Result<Vec<
     ensures body { F.honest → IfOk result (λ body. option_map (λ object. object.body) (objects (F.content files.old) id.now) ≡ Some body.items) }
     ensures refused { IfErr result (λ e. F.honest → IsSome (objects (F.content files.old) id.now) → IsFault e) }
     ensures same { F.content files.new ≡ F.content files.old }
-    ensures wear { Wears F.failed F.can_fail files.old files.new (IsErrOf result (CheckoutFault.Index (IndexFault.Store (StoreFault.Fault Fault.Device)))) }
+    ensures wear { Wears F.failed F.can_fail F.left files.old files.new (IsErrOf result (CheckoutFault.Index (IndexFault.Store (StoreFault.Fault Fault.Device)))) }
 {
     match vc_store::find(files, alloc, id) {
         Ok(Some(stored)) => Ok(stored.body),
@@ -152,7 +152,7 @@ fn put_in<T: WorkTree, F: Files>(
     ensures same { F.content files.new ≡ F.content files.old }
     ensures folders { T.honest → OnOk result (AreFolders (T.content work.new) (T.folders work.new) (λ one. IsLink entry path.now one ⊎ (IsFolder (T.content work.old) (T.folders work.old) one × ¬ (TakesPlace entry path.now one)))) }
     ensures between { T.honest → AreBetween (T.content work.new) (T.folders work.new) (λ one. IsFolder (T.content work.old) (T.folders work.old) one × ¬ (TakesPlace entry path.now one)) (λ one. IsFolder (T.content work.old) (T.folders work.old) one ⊎ IsFolderFor entry path.now one) }
-    ensures wear { WearsEither T.failed T.can_fail F.failed F.can_fail work.old work.new files.old files.new (IsErrOf result (CheckoutFault.Index (IndexFault.Store (StoreFault.Fault Fault.Device)))) }
+    ensures wear { WearsEither T.failed T.can_fail F.failed F.can_fail F.left work.old work.new files.old files.new (IsErrOf result (CheckoutFault.Index (IndexFault.Store (StoreFault.Fault Fault.Device)))) }
 {
     let Ok(text) = str::from_utf8(path) else {
         unreachable!();
@@ -185,7 +185,7 @@ fn write_path<T: WorkTree, F: Files>(
     ensures folders { T.honest → OnOk result (AreFolders (T.content work.new) (T.folders work.new) (λ one. ((one ≡ path.now) × IsLinked (maps.get index.now path.now) (maps.get tree.now path.now)) ⊎ (IsFolder (T.content work.old) (T.folders work.old) one × ¬ (GivesWay (maps.get index.now path.now) (maps.get tree.now path.now) path.now one)))) }
     ensures between { T.honest → AreBetween (T.content work.new) (T.folders work.new) (λ one. IsFolder (T.content work.old) (T.folders work.old) one × ¬ (GivesWay (maps.get index.now path.now) (maps.get tree.now path.now) path.now one)) (λ one. IsFolder (T.content work.old) (T.folders work.old) one ⊎ IsMadeFor (maps.get index.now path.now) (maps.get tree.now path.now) path.now one) }
     ensures due { OnOk result (((maps.get index.now path.now ≡ maps.get tree.now path.now) ⊎ (maps.get tree.now path.now ≡ None)) ⊎ IsDue (maps.get index.now path.now) (maps.get tree.now path.now)) }
-    ensures wear { WearsEither T.failed T.can_fail F.failed F.can_fail work.old work.new files.old files.new (IsErrOf result (CheckoutFault.Index (IndexFault.Store (StoreFault.Fault Fault.Device)))) }
+    ensures wear { WearsEither T.failed T.can_fail F.failed F.can_fail F.left work.old work.new files.old files.new (IsErrOf result (CheckoutFault.Index (IndexFault.Store (StoreFault.Fault Fault.Device)))) }
 {
     let Some(new) = tree.get(path) else {
         return Ok(());
@@ -213,7 +213,7 @@ fn write_all<T: WorkTree, F: Files>(
     ensures same { F.content files.new ≡ F.content files.old }
     ensures folders { T.honest → F.honest → OnOk result ((old : FileMap) (was : Folders) → AreFolders (T.content work.old) (T.folders work.old) (λ one. IsFolder old was one × ¬ (IsLeftBy index.now tree.now one)) → AreFolders (T.content work.new) (T.folders work.new) (IsFolderAfter index.now tree.now (IsFolder old was))) }
     ensures between { T.honest → AreBetween (T.content work.new) (T.folders work.new) (λ one. IsFolder (T.content work.old) (T.folders work.old) one × ¬ (GivesWayBy index.now tree.now one)) (λ one. IsFolder (T.content work.old) (T.folders work.old) one ⊎ IsMadeBy index.now tree.now one) }
-    ensures wear { WearsEither T.failed T.can_fail F.failed F.can_fail work.old work.new files.old files.new (IsErrOf result (CheckoutFault.Index (IndexFault.Store (StoreFault.Fault Fault.Device)))) }
+    ensures wear { WearsEither T.failed T.can_fail F.failed F.can_fail F.left work.old work.new files.old files.new (IsErrOf result (CheckoutFault.Index (IndexFault.Store (StoreFault.Fault Fault.Device)))) }
 {
     for (path, _) in tree.iter() {
         write_path(alloc, work, files, index, tree, path)?;
@@ -253,7 +253,7 @@ pub fn checkout<T: WorkTree, F: Files>(
     ensures folders { T.honest → F.honest → IfOk result (λ new. AreFolders (T.content work.new) (T.folders work.new) (IsFolderAfter index.now new (IsFolder (T.content work.old) (T.folders work.old)))) }
     ensures begun { T.honest → F.honest → OnErr result (AreFoldersBegun (objects (F.content files.old)) tree.now index.now (T.content work.old) (T.folders work.old) (T.content work.new) (T.folders work.new)) }
     ensures files { F.content files.new ≡ F.content files.old }
-    ensures wear { WearsEither T.failed T.can_fail F.failed F.can_fail work.old work.new files.old files.new (IsErrOf result (CheckoutFault.Index (IndexFault.Store (StoreFault.Fault Fault.Device)))) }
+    ensures wear { WearsEither T.failed T.can_fail F.failed F.can_fail F.left work.old work.new files.old files.new (IsErrOf result (CheckoutFault.Index (IndexFault.Store (StoreFault.Fault Fault.Device)))) }
 {
     let new = match Index::from_tree(alloc, files, tree) {
         Ok(new) => new,

@@ -1,7 +1,7 @@
 // Whether anything is against a checkout, before the first write.
 ghost use Rattle.std.specs.Prelude.{◌≡◌, ◌≢◌, ◌⊎◌, ◌↔◌, ℕ, List, Some, IfOk, IfErr, OnOk, IsErrOf, IsTrue, IsUtf8};
 ghost use Rattle.std.specs.FinMap as maps;
-ghost use Rattle.vc_files.specs.Failures.{Wears};
+ghost use Rattle.vc_files.specs.Failures.{Wears, unstopped};
 ghost use Rattle.vc_index.specs.declared.entry.IndexEntry.{IndexEntry as Entry};
 ghost use Rattle.vc_checkout.specs.CheckoutFault.{IsAgainst, IsFault};
 ghost use Rattle.vc_checkout.specs.Refusal.{HasLocalChange, IsClear, IsDue, IsHindered, IsOther, IsRefused, RefusedAt};
@@ -43,7 +43,7 @@ fn has_local_change<T: WorkTree>(
     ensures fault { IfErr result IsFault }
     ensures same { T.content work.new ≡ T.content work.old }
     ensures folders { T.folders work.new ≡ T.folders work.old }
-    ensures wear { Wears T.failed T.can_fail work.old work.new (IsErrOf result (CheckoutFault.Index (IndexFault.Store (StoreFault.Fault Fault.Device)))) }
+    ensures wear { Wears T.failed T.can_fail unstopped work.old work.new (IsErrOf result (CheckoutFault.Index (IndexFault.Store (StoreFault.Fault Fault.Device)))) }
 {
     let Some(entry) = old else {
         return Ok(false);
@@ -77,7 +77,7 @@ fn check_path<T: WorkTree>(
     ensures text { OnOk result (IsDue (maps.get index.now path.now) (maps.get tree.now path.now) → IsUtf8 path.now) }
     ensures same { T.content work.new ≡ T.content work.old }
     ensures folders { T.folders work.new ≡ T.folders work.old }
-    ensures wear { Wears T.failed T.can_fail work.old work.new (IsErrOf result (CheckoutFault.Index (IndexFault.Store (StoreFault.Fault Fault.Device)))) }
+    ensures wear { Wears T.failed T.can_fail unstopped work.old work.new (IsErrOf result (CheckoutFault.Index (IndexFault.Store (StoreFault.Fault Fault.Device)))) }
 {
     let old = index.get(path);
     let new = tree.get(path);
@@ -113,7 +113,7 @@ pub(crate) fn check_all<T: WorkTree>(
     ensures texts { T.honest → OnOk result (HasTextPaths (T.content work.old)) }
     ensures same { T.content work.new ≡ T.content work.old }
     ensures folders { T.folders work.new ≡ T.folders work.old }
-    ensures wear { Wears T.failed T.can_fail work.old work.new (IsErrOf result (CheckoutFault.Index (IndexFault.Store (StoreFault.Fault Fault.Device)))) }
+    ensures wear { Wears T.failed T.can_fail unstopped work.old work.new (IsErrOf result (CheckoutFault.Index (IndexFault.Store (StoreFault.Fault Fault.Device)))) }
 {
     let untracked = untracked_paths(alloc, work, index)?;
     let mut paths = BTreeSet::new(alloc);

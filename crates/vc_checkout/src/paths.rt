@@ -1,7 +1,7 @@
 // Sets of paths.
 ghost use Rattle.std.specs.Prelude.{◌≡◌, ◌↔◌, ◌||◌, ℕ, List, IfOk, IfErr, OnOk, IsErrOf, IsTrue, is_some, MatchOption};
 ghost use Rattle.std.specs.FinMap as maps;
-ghost use Rattle.vc_files.specs.Failures.{Wears};
+ghost use Rattle.vc_files.specs.Failures.{Wears, unstopped};
 ghost use Rattle.vc_index.specs.Path.{IsAbove};
 ghost use Rattle.vc_checkout.specs.CheckoutFault.{IsFault};
 ghost use Rattle.vc_checkout.specs.Folders.{IsLowestAbove};
@@ -61,7 +61,7 @@ pub(crate) fn untracked_paths<T: WorkTree>(
     ensures fault { IfErr result IsFault }
     ensures same { T.content work.new ≡ T.content work.old }
     ensures folders { T.folders work.new ≡ T.folders work.old }
-    ensures wear { Wears T.failed T.can_fail work.old work.new (IsErrOf result (CheckoutFault.Index (IndexFault.Store (StoreFault.Fault Fault.Device)))) }
+    ensures wear { Wears T.failed T.can_fail unstopped work.old work.new (IsErrOf result (CheckoutFault.Index (IndexFault.Store (StoreFault.Fault Fault.Device)))) }
 {
     let listed = work.list(alloc)?;
     let mut found = BTreeSet::new(alloc);

@@ -1,6 +1,6 @@
 // What stands where a file is to be written.
 ghost use Rattle.std.specs.Prelude.{◌≡◌, ◌↔◌, ℕ, List, IfOk, IfErr, IsErrOf, IsTrue};
-ghost use Rattle.vc_files.specs.Failures.{Wears};
+ghost use Rattle.vc_files.specs.Failures.{Wears, unstopped};
 ghost use Rattle.vc_index.specs.Path.{IsAbove};
 ghost use Rattle.vc_checkout.specs.CheckoutFault.{IsFault};
 ghost use Rattle.vc_checkout.specs.Refusal.{IsHindered};
@@ -56,7 +56,7 @@ pub(crate) fn is_hindered<T: WorkTree>(
     ensures fault { IfErr result IsFault }
     ensures same { T.content work.new ≡ T.content work.old }
     ensures folders { T.folders work.new ≡ T.folders work.old }
-    ensures wear { Wears T.failed T.can_fail work.old work.new (IsErrOf result (CheckoutFault.Index (IndexFault.Store (StoreFault.Fault Fault.Device)))) }
+    ensures wear { Wears T.failed T.can_fail unstopped work.old work.new (IsErrOf result (CheckoutFault.Index (IndexFault.Store (StoreFault.Fault Fault.Device)))) }
 {
     if has_above(others, path) {
         return Ok(true);

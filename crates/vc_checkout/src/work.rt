@@ -2,7 +2,7 @@
 ghost use Rattle.std.specs.Prelude.{◌≡◌, ◌≢◌, ◌⊎◌, ◌↔◌, ℕ, map, IfOk, OnOk, OnErr, IsErrOf, false, option_map, string_bytes};
 ghost use Rattle.std.specs.FinMap as files;
 ghost use Rattle.vc_files.specs.FileMap.{FileMap};
-ghost use Rattle.vc_files.specs.Failures.{Wears};
+ghost use Rattle.vc_files.specs.Failures.{Wears, unstopped};
 ghost use Rattle.vc_checkout.specs.Folders.{AreFolders, Folders, IsAtOrIn, IsFolder};
 
 use std::alloc::Global;
@@ -33,7 +33,7 @@ pub trait WorkTree {
         ensures found { honest → IfOk result (λ found. option_map (λ bytes. bytes.items) found ≡ files.get (content self.old) path.now) }
         ensures same { content self.new ≡ content self.old }
         ensures folders { folders self.new ≡ folders self.old }
-        ensures wear { Wears failed can_fail self.old self.new (IsErrOf result Fault.Device) };
+        ensures wear { Wears failed can_fail unstopped self.old self.new (IsErrOf result Fault.Device) };
 
     /// Writes a file whole, and makes the folders above it. A folder at the path gives way with those in it, but where a
     /// file lies.
@@ -42,7 +42,7 @@ pub trait WorkTree {
         ensures err { honest → OnErr result (content self.new ≡ content self.old) }
         ensures folders { honest → OnOk result (AreFolders (content self.new) (folders self.new) (λ one. IsFolder (content self.old) (folders self.old) one × ¬ (IsAtOrIn path.now one))) }
         ensures err_folders { honest → OnErr result (folders self.new ≡ folders self.old) }
-        ensures wear { Wears failed can_fail self.old self.new (IsErrOf result Fault.Device) };
+        ensures wear { Wears failed can_fail unstopped self.old self.new (IsErrOf result Fault.Device) };
 
     /// Takes a file away; an absent one stays absent. The folders above it stay, also where nothing is left in them.
     fn remove(&mut self, alloc: Global, path: &str) -> Result<(), Fault>
@@ -50,14 +50,14 @@ pub trait WorkTree {
         ensures err { honest → OnErr result (content self.new ≡ content self.old) }
         ensures folders { honest → OnOk result (AreFolders (content self.new) (folders self.new) (IsFolder (content self.old) (folders self.old))) }
         ensures err_folders { honest → OnErr result (folders self.new ≡ folders self.old) }
-        ensures wear { Wears failed can_fail self.old self.new (IsErrOf result Fault.Device) };
+        ensures wear { Wears failed can_fail unstopped self.old self.new (IsErrOf result Fault.Device) };
 
     /// Makes a folder, and those above it. One that is there stays.
     fn make_folder(&mut self, alloc: Global, path: &str) -> Result<(), Fault>
         ensures same { content self.new ≡ content self.old }
         ensures folders { honest → OnOk result (AreFolders (content self.new) (folders self.new) (λ one. IsFolder (content self.old) (folders self.old) one ⊎ (one ≡ path.now))) }
         ensures err_folders { honest → OnErr result (folders self.new ≡ folders self.old) }
-        ensures wear { Wears failed can_fail self.old self.new (IsErrOf result Fault.Device) };
+        ensures wear { Wears failed can_fail unstopped self.old self.new (IsErrOf result Fault.Device) };
 
     /// Takes a folder away if nothing lies in it, and says whether none is there now.
     fn remove_folder(&mut self, alloc: Global, path: &str) -> Result<bool, Fault>
@@ -65,14 +65,14 @@ pub trait WorkTree {
         ensures folders { honest → OnOk result (AreFolders (content self.new) (folders self.new) (λ one. IsFolder (content self.old) (folders self.old) one × (one ≢ path.now))) }
         ensures gone { honest → IfOk result (λ gone. (gone ≡ false) ↔ IsFolder (content self.new) (folders self.new) path.now) }
         ensures err_folders { honest → OnErr result (folders self.new ≡ folders self.old) }
-        ensures wear { Wears failed can_fail self.old self.new (IsErrOf result Fault.Device) };
+        ensures wear { Wears failed can_fail unstopped self.old self.new (IsErrOf result Fault.Device) };
 
     /// The paths of all files, sorted by their bytes.
     fn list(&mut self, alloc: Global) -> Result<Vec<String>, Fault>
         ensures listed { honest → IfOk result (λ listed. map string_bytes listed.items ≡ files.keys (content self.old)) }
         ensures same { content self.new ≡ content self.old }
         ensures folders { folders self.new ≡ folders self.old }
-        ensures wear { Wears failed can_fail self.old self.new (IsErrOf result Fault.Device) };
+        ensures wear { Wears failed can_fail unstopped self.old self.new (IsErrOf result Fault.Device) };
 
     /// How often the device has failed; the count stops at its greatest value.
     fn failures(&self) -> u64

@@ -1,5 +1,5 @@
 -- What becomes of a fuse.
-use Rattle.std.specs.Prelude.{ℕ, ◌+◌, ◌-◌, cond, nat_eq, min}
+use Rattle.std.specs.Prelude.{ℕ, ◌+◌, ◌-◌, ◌⊎◌, cond, nat_eq, min, Option, Some, is_some, IsTrue}
 use Rattle.vc_files.specs.Failures.{greatest_count}
 use Rattle.vc_files.specs.declared.fused.Fuse.{Fuse}
 use Rattle.vc_files.specs.declared.fused.Fuse.TheVariants.{Unset, Left, Blown}
@@ -21,11 +21,6 @@ after_write Unset = Unset
 after_write (Left n) = cond (nat_eq n 0) Blown (Left (n - 1))
 after_write Blown = Blown
 
--- a fuse that was set
-abbrev pub IsArmed : Fuse → Type 0
-IsArmed Unset = ⊥
-IsArmed _ = Unit {0}
-
 -- the fuse refuses the call
 abbrev pub IsBlown : Fuse → Type 0
 IsBlown Blown = Unit {0}
@@ -35,3 +30,26 @@ IsBlown _ = ⊥
 abbrev pub refused_after : Fuse → ℕ → ℕ
 refused_after Blown refused = min (refused + 1) greatest_count
 refused_after _ refused = refused
+
+-- how often files with a fuse have failed
+abbrev pub fused_failed : {F : Type 0} → (F → ℕ) → Fused F → ℕ
+fused_failed failed s = min (failed s.files + s.refused) greatest_count
+
+-- how many more writes pass, where without a fuse this many do
+abbrev pub left_by : Fuse → Option ℕ → Option ℕ
+left_by Unset below = below
+left_by (Left n) below = Some n
+left_by Blown below = Some 0
+
+abbrev pub fused_left : {F : Type 0} → (F → Option ℕ) → Fused F → Option ℕ
+fused_left left s = left_by s.fuse (left s.files)
+
+-- whether they can fail where the fuse still lets a write pass: a blown fuse fails every call, and under one that is set the
+-- files may come to a stop of their own
+abbrev pub CanFailBy : Fuse → Option ℕ → Type 0 → Type 0
+CanFailBy Unset below can_fail = can_fail
+CanFailBy (Left n) below can_fail = IsTrue (is_some below) ⊎ can_fail
+CanFailBy Blown below can_fail = Unit {0}
+
+abbrev pub FusedCanFail : {F : Type 0} → (F → Type 0) → (F → Option ℕ) → Fused F → Type 0
+FusedCanFail can_fail left s = CanFailBy s.fuse (left s.files) (can_fail s.files)

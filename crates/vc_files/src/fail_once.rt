@@ -72,27 +72,29 @@ impl<F: Files> FailOnce<F> {
 }
 
 impl<F: Files> Files for FailOnce<F> {
-    ghost use Rattle.std.specs.Prelude.{◌≡◌, ◌+◌, ◌⊎◌, ⊤, Some, min, map, string_bytes, IfOk, OnOk, OnErr, IsErrOf, option_map};
+    ghost use Rattle.std.specs.Prelude.{◌≡◌, Some, map, string_bytes, IfOk, OnOk, OnErr, IsErrOf, option_map};
     ghost use Rattle.std.specs.FinMap as files;
-    ghost use Rattle.vc_files.specs.Failures.{Wears, greatest_count};
+    ghost use Rattle.vc_files.specs.Failures.{Wears, Writes};
     ghost use Rattle.vc_files.specs.FileMap.{paths_under};
-    ghost use Rattle.vc_files.specs.FailingOnce.{after_call, failed_calls, IsToFail};
+    ghost use Rattle.vc_files.specs.FailingOnce.{CanFailOnce, after_call, failed_once};
 
     ghost honest = { F.honest };
 
     ghost content = { λ s. F.content s.files };
 
-    ghost failed = { λ s. min (F.failed s.files + failed_calls s.left) greatest_count };
+    ghost failed = { failed_once F.failed };
 
-    ghost can_fail = { λ s. IsToFail s.left ⊎ F.can_fail s.files };
+    ghost can_fail = { CanFailOnce F.can_fail };
+
+    ghost left = { λ s. F.left s.files };
 
     fn get(&mut self, alloc: Global, path: &str) -> Result<Option<Vec<u8>>, Fault>
         ensures found { F.honest → IfOk result (λ found. option_map (λ bytes. bytes.items) found ≡ files.get (F.content self.old.files) path.now) }
         ensures same { F.content self.new.files ≡ F.content self.old.files }
-        ensures wear { Wears (λ s. min (F.failed s.files + failed_calls s.left) greatest_count) (λ s. IsToFail s.left ⊎ F.can_fail s.files) self.old self.new (IsErrOf result Fault.Device) }
+        ensures wear { Wears (failed_once F.failed) (CanFailOnce F.can_fail) (λ s. F.left s.files) self.old self.new (IsErrOf result Fault.Device) }
         ensures left { self.new.left ≡ after_call self.old.left }
         ensures fails { self.old.left ≡ Some 0 → (result ≡ Err Fault.Device) × (self.new.files ≡ self.old.files) }
-        ensures passed { (self.old.left ≡ Some 0 → ⊥) → Wears F.failed F.can_fail self.old.files self.new.files (IsErrOf result Fault.Device) }
+        ensures passed { (self.old.left ≡ Some 0 → ⊥) → Wears F.failed F.can_fail F.left self.old.files self.new.files (IsErrOf result Fault.Device) }
     {
         self.pass()?;
         self.files.get(alloc, path)
@@ -101,10 +103,10 @@ impl<F: Files> Files for FailOnce<F> {
     fn put(&mut self, alloc: Global, path: &str, bytes: &[u8]) -> Result<(), Fault>
         ensures ok { F.honest → OnOk result (F.content self.new.files ≡ files.insert (F.content self.old.files) path.now bytes.now) }
         ensures err { F.honest → OnErr result (F.content self.new.files ≡ F.content self.old.files) }
-        ensures wear { Wears (λ s. min (F.failed s.files + failed_calls s.left) greatest_count) (λ s. IsToFail s.left ⊎ F.can_fail s.files) self.old self.new (IsErrOf result Fault.Device) }
+        ensures wear { Writes F.honest (λ s. F.content s.files) (failed_once F.failed) (CanFailOnce F.can_fail) (λ s. F.left s.files) self.old self.new (IsErrOf result Fault.Device) }
         ensures left { self.new.left ≡ after_call self.old.left }
         ensures fails { self.old.left ≡ Some 0 → (result ≡ Err Fault.Device) × (self.new.files ≡ self.old.files) }
-        ensures passed { (self.old.left ≡ Some 0 → ⊥) → Wears F.failed F.can_fail self.old.files self.new.files (IsErrOf result Fault.Device) }
+        ensures passed { (self.old.left ≡ Some 0 → ⊥) → Writes F.honest F.content F.failed F.can_fail F.left self.old.files self.new.files (IsErrOf result Fault.Device) }
     {
         self.pass()?;
         self.files.put(alloc, path, bytes)
@@ -113,10 +115,10 @@ impl<F: Files> Files for FailOnce<F> {
     fn remove(&mut self, alloc: Global, path: &str) -> Result<(), Fault>
         ensures ok { F.honest → OnOk result (F.content self.new.files ≡ files.remove (F.content self.old.files) path.now) }
         ensures err { F.honest → OnErr result (F.content self.new.files ≡ F.content self.old.files) }
-        ensures wear { Wears (λ s. min (F.failed s.files + failed_calls s.left) greatest_count) (λ s. IsToFail s.left ⊎ F.can_fail s.files) self.old self.new (IsErrOf result Fault.Device) }
+        ensures wear { Writes F.honest (λ s. F.content s.files) (failed_once F.failed) (CanFailOnce F.can_fail) (λ s. F.left s.files) self.old self.new (IsErrOf result Fault.Device) }
         ensures left { self.new.left ≡ after_call self.old.left }
         ensures fails { self.old.left ≡ Some 0 → (result ≡ Err Fault.Device) × (self.new.files ≡ self.old.files) }
-        ensures passed { (self.old.left ≡ Some 0 → ⊥) → Wears F.failed F.can_fail self.old.files self.new.files (IsErrOf result Fault.Device) }
+        ensures passed { (self.old.left ≡ Some 0 → ⊥) → Writes F.honest F.content F.failed F.can_fail F.left self.old.files self.new.files (IsErrOf result Fault.Device) }
     {
         self.pass()?;
         self.files.remove(alloc, path)
@@ -125,10 +127,10 @@ impl<F: Files> Files for FailOnce<F> {
     fn list(&mut self, alloc: Global, prefix: &str) -> Result<Vec<String>, Fault>
         ensures listed { F.honest → IfOk result (λ listed. map string_bytes listed.items ≡ paths_under (F.content self.old.files) prefix.now) }
         ensures same { F.content self.new.files ≡ F.content self.old.files }
-        ensures wear { Wears (λ s. min (F.failed s.files + failed_calls s.left) greatest_count) (λ s. IsToFail s.left ⊎ F.can_fail s.files) self.old self.new (IsErrOf result Fault.Device) }
+        ensures wear { Wears (failed_once F.failed) (CanFailOnce F.can_fail) (λ s. F.left s.files) self.old self.new (IsErrOf result Fault.Device) }
         ensures left { self.new.left ≡ after_call self.old.left }
         ensures fails { self.old.left ≡ Some 0 → (result ≡ Err Fault.Device) × (self.new.files ≡ self.old.files) }
-        ensures passed { (self.old.left ≡ Some 0 → ⊥) → Wears F.failed F.can_fail self.old.files self.new.files (IsErrOf result Fault.Device) }
+        ensures passed { (self.old.left ≡ Some 0 → ⊥) → Wears F.failed F.can_fail F.left self.old.files self.new.files (IsErrOf result Fault.Device) }
     {
         self.pass()?;
         self.files.list(alloc, prefix)

@@ -116,29 +116,31 @@ impl<F: Files> FusedFiles<F> {
 }
 
 impl<F: Files> Files for FusedFiles<F> {
-    ghost use Rattle.std.specs.Prelude.{◌+◌, ◌⊎◌, min, map, string_bytes};
+    ghost use Rattle.std.specs.Prelude.{map, string_bytes};
     ghost use Rattle.std.specs.Prelude.{◌≡◌, IfOk, OnOk, OnErr, IsErrOf, option_map};
     ghost use Rattle.std.specs.FinMap as files;
-    ghost use Rattle.vc_files.specs.Failures.{Wears, greatest_count};
+    ghost use Rattle.vc_files.specs.Failures.{Wears, Writes};
     ghost use Rattle.vc_files.specs.FileMap.{paths_under};
-    ghost use Rattle.vc_files.specs.Fused.{IsArmed, IsBlown, after_write, refused_after};
+    ghost use Rattle.vc_files.specs.Fused.{FusedCanFail, IsBlown, after_write, fused_failed, fused_left, refused_after};
 
     ghost honest = { F.honest };
 
     ghost content = { λ s. F.content s.files };
 
-    ghost failed = { λ s. min (F.failed s.files + s.refused) greatest_count };
+    ghost failed = { fused_failed F.failed };
 
-    ghost can_fail = { λ s. IsArmed s.fuse ⊎ F.can_fail s.files };
+    ghost can_fail = { FusedCanFail F.can_fail F.left };
+
+    ghost left = { fused_left F.left };
 
     fn get(&mut self, alloc: Global, path: &str) -> Result<Option<Vec<u8>>, Fault>
         ensures found { F.honest → IfOk result (λ found. option_map (λ bytes. bytes.items) found ≡ files.get (F.content self.old.files) path.now) }
         ensures same { F.content self.new.files ≡ F.content self.old.files }
-        ensures wear { Wears (λ s. min (F.failed s.files + s.refused) greatest_count) (λ s. IsArmed s.fuse ⊎ F.can_fail s.files) self.old self.new (IsErrOf result Fault.Device) }
+        ensures wear { Wears (fused_failed F.failed) (FusedCanFail F.can_fail F.left) (fused_left F.left) self.old self.new (IsErrOf result Fault.Device) }
         ensures fuse { self.new.fuse ≡ self.old.fuse }
         ensures refused { self.new.refused ≡ refused_after self.old.fuse self.old.refused }
         ensures blown { IsBlown self.old.fuse → (result ≡ Err Fault.Device) × (self.new.files ≡ self.old.files) }
-        ensures passed { (IsBlown self.old.fuse → ⊥) → Wears F.failed F.can_fail self.old.files self.new.files (IsErrOf result Fault.Device) }
+        ensures passed { (IsBlown self.old.fuse → ⊥) → Wears F.failed F.can_fail F.left self.old.files self.new.files (IsErrOf result Fault.Device) }
     {
         self.pass()?;
         self.files.get(alloc, path)
@@ -147,11 +149,11 @@ impl<F: Files> Files for FusedFiles<F> {
     fn put(&mut self, alloc: Global, path: &str, bytes: &[u8]) -> Result<(), Fault>
         ensures ok { F.honest → OnOk result (F.content self.new.files ≡ files.insert (F.content self.old.files) path.now bytes.now) }
         ensures err { F.honest → OnErr result (F.content self.new.files ≡ F.content self.old.files) }
-        ensures wear { Wears (λ s. min (F.failed s.files + s.refused) greatest_count) (λ s. IsArmed s.fuse ⊎ F.can_fail s.files) self.old self.new (IsErrOf result Fault.Device) }
+        ensures wear { Writes F.honest (λ s. F.content s.files) (fused_failed F.failed) (FusedCanFail F.can_fail F.left) (fused_left F.left) self.old self.new (IsErrOf result Fault.Device) }
         ensures fuse { self.new.fuse ≡ after_write self.old.fuse }
         ensures refused { self.new.refused ≡ refused_after self.new.fuse self.old.refused }
         ensures blown { IsBlown self.new.fuse → (result ≡ Err Fault.Device) × (self.new.files ≡ self.old.files) }
-        ensures passed { (IsBlown self.new.fuse → ⊥) → Wears F.failed F.can_fail self.old.files self.new.files (IsErrOf result Fault.Device) }
+        ensures passed { (IsBlown self.new.fuse → ⊥) → Writes F.honest F.content F.failed F.can_fail F.left self.old.files self.new.files (IsErrOf result Fault.Device) }
     {
         self.pass_write()?;
         self.files.put(alloc, path, bytes)
@@ -160,11 +162,11 @@ impl<F: Files> Files for FusedFiles<F> {
     fn remove(&mut self, alloc: Global, path: &str) -> Result<(), Fault>
         ensures ok { F.honest → OnOk result (F.content self.new.files ≡ files.remove (F.content self.old.files) path.now) }
         ensures err { F.honest → OnErr result (F.content self.new.files ≡ F.content self.old.files) }
-        ensures wear { Wears (λ s. min (F.failed s.files + s.refused) greatest_count) (λ s. IsArmed s.fuse ⊎ F.can_fail s.files) self.old self.new (IsErrOf result Fault.Device) }
+        ensures wear { Writes F.honest (λ s. F.content s.files) (fused_failed F.failed) (FusedCanFail F.can_fail F.left) (fused_left F.left) self.old self.new (IsErrOf result Fault.Device) }
         ensures fuse { self.new.fuse ≡ after_write self.old.fuse }
         ensures refused { self.new.refused ≡ refused_after self.new.fuse self.old.refused }
         ensures blown { IsBlown self.new.fuse → (result ≡ Err Fault.Device) × (self.new.files ≡ self.old.files) }
-        ensures passed { (IsBlown self.new.fuse → ⊥) → Wears F.failed F.can_fail self.old.files self.new.files (IsErrOf result Fault.Device) }
+        ensures passed { (IsBlown self.new.fuse → ⊥) → Writes F.honest F.content F.failed F.can_fail F.left self.old.files self.new.files (IsErrOf result Fault.Device) }
     {
         self.pass_write()?;
         self.files.remove(alloc, path)
@@ -173,11 +175,11 @@ impl<F: Files> Files for FusedFiles<F> {
     fn list(&mut self, alloc: Global, prefix: &str) -> Result<Vec<String>, Fault>
         ensures listed { F.honest → IfOk result (λ listed. map string_bytes listed.items ≡ paths_under (F.content self.old.files) prefix.now) }
         ensures same { F.content self.new.files ≡ F.content self.old.files }
-        ensures wear { Wears (λ s. min (F.failed s.files + s.refused) greatest_count) (λ s. IsArmed s.fuse ⊎ F.can_fail s.files) self.old self.new (IsErrOf result Fault.Device) }
+        ensures wear { Wears (fused_failed F.failed) (FusedCanFail F.can_fail F.left) (fused_left F.left) self.old self.new (IsErrOf result Fault.Device) }
         ensures fuse { self.new.fuse ≡ self.old.fuse }
         ensures refused { self.new.refused ≡ refused_after self.old.fuse self.old.refused }
         ensures blown { IsBlown self.old.fuse → (result ≡ Err Fault.Device) × (self.new.files ≡ self.old.files) }
-        ensures passed { (IsBlown self.old.fuse → ⊥) → Wears F.failed F.can_fail self.old.files self.new.files (IsErrOf result Fault.Device) }
+        ensures passed { (IsBlown self.old.fuse → ⊥) → Wears F.failed F.can_fail F.left self.old.files self.new.files (IsErrOf result Fault.Device) }
     {
         self.pass()?;
         self.files.list(alloc, prefix)

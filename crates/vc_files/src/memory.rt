@@ -46,6 +46,7 @@ fn begins_with(path: &str, prefix: &str) -> bool
 
 impl Files for MemoryFiles {
     ghost use Rattle.std.specs.Prelude.{ℕ, ⊤};
+    ghost use Rattle.vc_files.specs.Failures.{unstopped};
 
     ghost honest = { ⊤ };
 
@@ -54,6 +55,8 @@ impl Files for MemoryFiles {
     ghost failed = { λ _. 0 };
 
     ghost can_fail = { λ _. ⊥ };
+
+    ghost left = { unstopped };
 
     fn get(&mut self, alloc: Global, path: &str) -> Result<Option<Vec<u8>>, Fault> {
         let Some(bytes) = self.map.get(path) else {

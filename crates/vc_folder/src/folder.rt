@@ -1,6 +1,6 @@
 // Files in a real folder. Nothing is claimed of a disk.
 ghost use Rattle.std.specs.Prelude.{◌≡◌, ◌≤◌, IsErrOf};
-ghost use Rattle.vc_files.specs.Failures.{HasFailed};
+ghost use Rattle.vc_files.specs.Failures.{HasFailed, unstopped};
 
 use crate::disk::Disk;
 use std::alloc::Global;
@@ -89,6 +89,8 @@ impl<R: rt::Files + AllocGlobal + Clone + Drop> Files for FolderFiles<R> {
     ghost failed = { λ s. s };
 
     ghost can_fail = { λ _. ⊤ };
+
+    ghost left = { unstopped };
 
     fn get(&mut self, alloc: Global, path: &str) -> Result<Option<Vec<u8>>, Fault> {
         let done = self.disk.get(alloc, path);

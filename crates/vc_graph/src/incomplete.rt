@@ -25,7 +25,7 @@ pub fn first_incomplete<O: Objects>(
     ensures refused { IfErr result (λ e. O.is_honest → IsMet (ReachedFrom (links_in (O.objects (O.state_of objects.old))) roots.now) (O.damaged (O.state_of objects.old)) e) }
 
     ensures kept { O.state_of objects.new ≡ O.state_of objects.old }
-    ensures wear { Wears O.failed O.can_fail objects.old objects.new (IsErrOf result (StoreFault.Fault Fault.Device)) }
+    ensures wear { Wears O.failed O.can_fail O.left objects.old objects.new (IsErrOf result (StoreFault.Fault Fault.Device)) }
 {
     let mut met = IndexSet::new(alloc);
     for root in roots {

@@ -62,6 +62,8 @@ impl<O: Objects, C: Carried> Objects for Overlay<'_, O, C> {
 
     ghost can_fail = { λ s. O.can_fail s.stored.now };
 
+    ghost left = { λ s. O.left s.stored.now };
+
     fn links(&mut self, id: &ObjectId) -> Result<Option<Vec<ObjectId>>, StoreFault> {
         if let Some(links) = self.stored.links(id)? {
             return Ok(Some(links));

@@ -27,7 +27,7 @@ pub fn closure<O: Objects>(
     ensures refused { IfErr result (λ e. O.is_honest → IsTold (O.objects (O.state_of objects.old)) (O.damaged (O.state_of objects.old)) roots.now e) }
 
     ensures kept { O.state_of objects.new ≡ O.state_of objects.old }
-    ensures wear { Wears O.failed O.can_fail objects.old objects.new (IsErrOf result (GraphFault.Store (StoreFault.Fault Fault.Device))) }
+    ensures wear { Wears O.failed O.can_fail O.left objects.old objects.new (IsErrOf result (GraphFault.Store (StoreFault.Fault Fault.Device))) }
 {
     let mut met = IndexSet::new(alloc);
     walk(objects, roots, &mut met)?;
@@ -44,7 +44,7 @@ pub fn is_complete<O: Objects>(
     ensures refused { IfErr result (λ e. O.is_honest → IsMet (ReachedFrom (links_in (O.objects (O.state_of objects.old))) (root.now ∷ [])) (O.damaged (O.state_of objects.old)) e) }
 
     ensures kept { O.state_of objects.new ≡ O.state_of objects.old }
-    ensures wear { Wears O.failed O.can_fail objects.old objects.new (IsErrOf result (StoreFault.Fault Fault.Device)) }
+    ensures wear { Wears O.failed O.can_fail O.left objects.old objects.new (IsErrOf result (StoreFault.Fault Fault.Device)) }
 {
     let mut met = IndexSet::new(alloc);
     match walk(objects, &[*root], &mut met) {
@@ -68,7 +68,7 @@ pub fn difference<O: Objects>(
     ensures refused { IfErr result (λ e. O.is_honest → IsTold (O.objects (O.state_of objects.old)) (O.damaged (O.state_of objects.old)) (include.now ++ exclude.now) e) }
 
     ensures kept { O.state_of objects.new ≡ O.state_of objects.old }
-    ensures wear { Wears O.failed O.can_fail objects.old objects.new (IsErrOf result (GraphFault.Store (StoreFault.Fault Fault.Device))) }
+    ensures wear { Wears O.failed O.can_fail O.left objects.old objects.new (IsErrOf result (GraphFault.Store (StoreFault.Fault Fault.Device))) }
 {
     let mut met = IndexSet::new(alloc);
     walk(objects, exclude, &mut met)?;

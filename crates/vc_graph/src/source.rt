@@ -1,5 +1,5 @@
 //! What a walk over objects asks.
-ghost use Rattle.std.specs.Prelude.{◌≡◌, ℕ, IfOk, IfErr, IsErrOf};
+ghost use Rattle.std.specs.Prelude.{◌≡◌, ℕ, Option, IfOk, IfErr, IsErrOf};
 ghost use Rattle.std.specs.Option.{option_map};
 ghost use Rattle.vc_files.specs.Failures.{Wears};
 ghost use Rattle.vc_object.specs.ObjectMap.{ObjectMap, links_in};
@@ -33,11 +33,14 @@ pub trait Objects {
     /// Whether the device below it can fail.
     ghost can_fail: { Self → Type 0 };
 
+    /// How many more writes that device takes before it stops, or none where no stop is set.
+    ghost left: { Self → Option ℕ };
+
     /// The links of the object with this name, in the order of its body, or `None` where it is absent. A tree links to
     /// its entries except commits of other repositories, a commit to its tree and its parents, a tag to its object.
     fn links(&mut self, id: &ObjectId) -> Result<Option<Vec<ObjectId>>, StoreFault>
         ensures answer { IfOk result (λ found. is_honest → option_map (λ v. v.items) found ≡ links_in (objects (state_of self.old)) id.now) }
         ensures refused { IfErr result (IsRefused id.now (is_honest → damaged (state_of self.old) id.now)) }
         ensures kept { state_of self.new ≡ state_of self.old }
-        ensures wear { Wears failed can_fail self.old self.new (IsErrOf result (StoreFault.Fault Fault.Device)) };
+        ensures wear { Wears failed can_fail left self.old self.new (IsErrOf result (StoreFault.Fault Fault.Device)) };
 }

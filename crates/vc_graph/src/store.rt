@@ -23,6 +23,8 @@ impl<F: Files> Objects for Store<'_, F> {
 
     ghost can_fail = { λ s. F.can_fail s.files.now };
 
+    ghost left = { λ s. F.left s.files.now };
+
     fn links(&mut self, id: &ObjectId) -> Result<Option<Vec<ObjectId>>, StoreFault> {
         let Some(found) = self.find(id)? else {
             return Ok(None);

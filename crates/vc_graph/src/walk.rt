@@ -25,7 +25,7 @@ pub(crate) fn walk<O: Objects>(
     ensures refused { IfErr result (λ e. O.is_honest → IsTold (O.objects (O.state_of objects.old)) (O.damaged (O.state_of objects.old)) (met.old.keys ++ roots.now) e) }
 
     ensures kept { O.state_of objects.new ≡ O.state_of objects.old }
-    ensures wear { Wears O.failed O.can_fail objects.old objects.new (IsErrOf result (GraphFault.Store (StoreFault.Fault Fault.Device))) }
+    ensures wear { Wears O.failed O.can_fail O.left objects.old objects.new (IsErrOf result (GraphFault.Store (StoreFault.Fault Fault.Device))) }
 {
     let mut next = met.len();
     met.extend(roots)?;

@@ -1,7 +1,7 @@
 // The index as a finite map from paths to modes and ids.
 ghost use Rattle.std.specs.Prelude.{◌≡◌, ◌≢◌, ◌↔◌, OnOk, OnErr, IfOk, IfErr, IsOk, IsTrue, MatchResult, Result, ◌⊎◌, IsSome, Some, IsErrOf, map, codes, ℕ, List};
 ghost use Rattle.std.specs.FinMap as paths;
-ghost use Rattle.vc_files.specs.Failures.{Wears};
+ghost use Rattle.vc_files.specs.Failures.{Wears, Writes};
 ghost use Rattle.vc_files.specs.FileMap.{SameOutside};
 ghost use Rattle.vc_store.specs.Store.{objects, IsDamaged};
 ghost use Rattle.vc_object.specs.declared.id.ObjectId.{ObjectId as Id};
@@ -95,7 +95,7 @@ impl Index {
         ensures outside { F.honest → SameOutside (codes "objects/") (F.content files.old) (F.content files.new) }
         ensures undamaged { F.honest → KeepsDamage (F.content files.old) (F.content files.new) }
         ensures place { IfErr result TellsTreesPlace }
-        ensures wear { Wears F.failed F.can_fail files.old files.new (IsErrOf result (IndexFault.Store (StoreFault.Fault Fault.Device))) }
+        ensures wear { Writes F.honest F.content F.failed F.can_fail F.left files.old files.new (IsErrOf result (IndexFault.Store (StoreFault.Fault Fault.Device))) }
     {
         write_trees(alloc, files, &self.map)
     }
@@ -116,7 +116,7 @@ impl Index {
         ensures blobs { F.honest → IfOk result (λ index. HasBlobs (objects (F.content files.old)) index) }
         ensures refused { IfErr result (IsOfLoad F.honest (F.content files.old) root.now) }
         ensures same { F.content files.new ≡ F.content files.old }
-        ensures wear { Wears F.failed F.can_fail files.old files.new (IsErrOf result (IndexFault.Store (StoreFault.Fault Fault.Device))) }
+        ensures wear { Wears F.failed F.can_fail F.left files.old files.new (IsErrOf result (IndexFault.Store (StoreFault.Fault Fault.Device))) }
     {
         load(alloc, files, root)
     }

@@ -37,7 +37,7 @@ fn find_object<F: Files>(
     ensures found { F.honest → IfOk result (λ s. objects (F.content files.old) item.now.entry.id ≡ Some (stored_object kind s.body.items)) }
     ensures refused { IfErr result (IsOfLook F.honest (F.content files.old) kind item.now) }
     ensures same { F.content files.new ≡ F.content files.old }
-    ensures wear { Wears F.failed F.can_fail files.old files.new (IsErrOf result (IndexFault.Store (StoreFault.Fault Fault.Device))) }
+    ensures wear { Wears F.failed F.can_fail F.left files.old files.new (IsErrOf result (IndexFault.Store (StoreFault.Fault Fault.Device))) }
 {
     let id = item.entry.id;
     let Some(stored) = vc_store::find(files, alloc, &id)? else {
@@ -93,7 +93,7 @@ fn open_folder<F: Files>(
     ensures opened { OnOk result (IsOpened F.honest (F.content files.old) item.now items.old.items items.new.items) }
     ensures refused { IfErr result (IsOfLook F.honest (F.content files.old) Kind.Tree item.now) }
     ensures same { F.content files.new ≡ F.content files.old }
-    ensures wear { Wears F.failed F.can_fail files.old files.new (IsErrOf result (IndexFault.Store (StoreFault.Fault Fault.Device))) }
+    ensures wear { Wears F.failed F.can_fail F.left files.old files.new (IsErrOf result (IndexFault.Store (StoreFault.Fault Fault.Device))) }
 {
     let stored = find_object(alloc, files, item, Kind::Tree)?;
     let Some(tree) = tree_of(&stored.object()) else {
@@ -109,7 +109,7 @@ fn look_for_blob<F: Files>(alloc: Global, files: &mut F, item: &Item) -> Result<
     ensures refused { IfErr result (λ e. (item.now.entry.mode ≢ Mode.Commit) × IsOfLook F.honest (F.content files.old) Kind.Blob item.now e) }
     ensures blob { F.honest → OnOk result (IsBlobIfDue (objects (F.content files.old)) item.now.entry) }
     ensures same { F.content files.new ≡ F.content files.old }
-    ensures wear { Wears F.failed F.can_fail files.old files.new (IsErrOf result (IndexFault.Store (StoreFault.Fault Fault.Device))) }
+    ensures wear { Wears F.failed F.can_fail F.left files.old files.new (IsErrOf result (IndexFault.Store (StoreFault.Fault Fault.Device))) }
 {
     if item.entry.mode == Mode::Commit {
         return Ok(());
@@ -130,7 +130,7 @@ pub(crate) fn load<F: Files>(
     ensures blobs { F.honest → IfOk result (λ index. HasBlobs (objects (F.content files.old)) index) }
     ensures refused { IfErr result (IsOfLoad F.honest (F.content files.old) root.now) }
     ensures same { F.content files.new ≡ F.content files.old }
-    ensures wear { Wears F.failed F.can_fail files.old files.new (IsErrOf result (IndexFault.Store (StoreFault.Fault Fault.Device))) }
+    ensures wear { Wears F.failed F.can_fail F.left files.old files.new (IsErrOf result (IndexFault.Store (StoreFault.Fault Fault.Device))) }
 {
     let mut index = Index::new(alloc);
     let mut items = Vec::new(alloc);

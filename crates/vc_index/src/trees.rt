@@ -1,7 +1,7 @@
 // The trees that an index is written as.
 ghost use Rattle.std.specs.Prelude.{◌≡◌, ◌≢◌, ◌<◌, ◌≤◌, ◌-◌, ◌++◌, ◌∷◌, [], ◌⊎◌, ℕ, List, Some, length, drop, take, map, codes, slice_get, option_map, IfOk, IfErr, OnOk, OnErr, IsErrOf};
 ghost use Rattle.std.specs.List.{AllByRecursion};
-ghost use Rattle.vc_files.specs.Failures.{Wears};
+ghost use Rattle.vc_files.specs.Failures.{Writes};
 ghost use Rattle.vc_files.specs.FileMap.{SameOutside};
 ghost use Rattle.vc_object.specs.Bytes.{Without};
 ghost use Rattle.vc_object.specs.Tree.{Entry, spelling};
@@ -87,7 +87,7 @@ fn close_folder<'a, F: Files>(
     ensures outside { F.honest → SameOutside (codes "objects/") (F.content files.old) (F.content files.new) }
     ensures undamaged { F.honest → KeepsDamage (F.content files.old) (F.content files.new) }
     ensures place { IfErr result TellsTreesPlace }
-    ensures wear { Wears F.failed F.can_fail files.old files.new (IsErrOf result (IndexFault.Store (StoreFault.Fault Fault.Device))) }
+    ensures wear { Writes F.honest F.content F.failed F.can_fail F.left files.old files.new (IsErrOf result (IndexFault.Store (StoreFault.Fault Fault.Device))) }
 {
     let start = start_of(parts, folder);
     let body = tree_body(alloc, parts.as_slice().split_at(start).1)?;
@@ -118,7 +118,7 @@ fn close_folders<F: Files>(
     ensures outside { F.honest → SameOutside (codes "objects/") (F.content files.old) (F.content files.new) }
     ensures undamaged { F.honest → KeepsDamage (F.content files.old) (F.content files.new) }
     ensures place { IfErr result TellsTreesPlace }
-    ensures wear { Wears F.failed F.can_fail files.old files.new (IsErrOf result (IndexFault.Store (StoreFault.Fault Fault.Device))) }
+    ensures wear { Writes F.honest F.content F.failed F.can_fail F.left files.old files.new (IsErrOf result (IndexFault.Store (StoreFault.Fault Fault.Device))) }
 {
     while let Some(last) = parts.last() {
         let folder = last.folder;
@@ -144,7 +144,7 @@ fn root_parts<'a, F: Files>(
     ensures outside { F.honest → SameOutside (codes "objects/") (F.content files.old) (F.content files.new) }
     ensures undamaged { F.honest → KeepsDamage (F.content files.old) (F.content files.new) }
     ensures place { IfErr result TellsTreesPlace }
-    ensures wear { Wears F.failed F.can_fail files.old files.new (IsErrOf result (IndexFault.Store (StoreFault.Fault Fault.Device))) }
+    ensures wear { Writes F.honest F.content F.failed F.can_fail F.left files.old files.new (IsErrOf result (IndexFault.Store (StoreFault.Fault Fault.Device))) }
 {
     let mut parts = Vec::new(alloc);
     for (path, entry) in map {
@@ -174,7 +174,7 @@ pub(crate) fn write_trees<F: Files>(
     ensures outside { F.honest → SameOutside (codes "objects/") (F.content files.old) (F.content files.new) }
     ensures undamaged { F.honest → KeepsDamage (F.content files.old) (F.content files.new) }
     ensures place { IfErr result TellsTreesPlace }
-    ensures wear { Wears F.failed F.can_fail files.old files.new (IsErrOf result (IndexFault.Store (StoreFault.Fault Fault.Device))) }
+    ensures wear { Writes F.honest F.content F.failed F.can_fail F.left files.old files.new (IsErrOf result (IndexFault.Store (StoreFault.Fault Fault.Device))) }
 {
     let parts = root_parts(alloc, files, map)?;
     let body = tree_body(alloc, &parts)?;

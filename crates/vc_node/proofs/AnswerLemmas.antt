@@ -23,7 +23,8 @@ use Rattle.vc_node.specs.Clean.{IsClean, KeepsClean}
 use Rattle.vc_node.specs.NodeFault.{is_fault}
 use Rattle.vc_node.specs.Shown.{Shown, shown}
 use Rattle.vc_rules.specs.Git.{git, machine_kind}
-use Rattle.vc_node.specs.Machine.{git_rules, live_of, Spells, Follows, Answers, AnswersShown, IsBadFile, fault_answer}
+use Rattle.vc_rules.proofs.GitLaws.{git_rules}
+use Rattle.vc_node.specs.Machine.{live_of, Spells, Follows, Answers, AnswersShown, IsBadFile, fault_answer}
 use Rattle.vc_node.proofs.CleanLemmas.{still_clean}
 
 pub kind_back : (k : ObjectKind) → kind_of (machine_kind k) ≡ k

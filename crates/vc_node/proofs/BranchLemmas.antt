@@ -34,7 +34,8 @@ use Rattle.vc_node.specs.Blames.{BlamesRemoved, BlamesBranch, BlamesHead, MayHea
 use Rattle.vc_node.specs.GoodCommit.{IsComplete, IsHistory}
 use Rattle.vc_node.specs.Shown.{Shown, shown, with_refs_shown, with_head_shown}
 use Rattle.vc_rules.specs.Git.{git}
-use Rattle.vc_node.specs.Machine.{git_rules, machine_head, Spells, Follows, IsBadFile, fault_answer, failure_of}
+use Rattle.vc_rules.proofs.GitLaws.{git_rules}
+use Rattle.vc_node.specs.Machine.{machine_head, Spells, Follows, IsBadFile, fault_answer, failure_of}
 use Rattle.vc_node.proofs.AnswerLemmas.{declines, faults, get-put, get-unput, map_cond}
 use Rattle.vc_node.proofs.IndexLemmas.{none_added}
 use Rattle.vc_rules.proofs.ReachLemmas.{closed_from, closed_to, history_from, history_to}

@@ -33,7 +33,8 @@ use Rattle.vc_node.specs.Commit.{IsCommitted, WritesCommit, made_body, moved, pa
 use Rattle.vc_node.specs.IndexFile.{SpellsIndex}
 use Rattle.vc_rules.specs.Git.{git, machine_entry, stored_of}
 use Rattle.vc_rules.specs.Trees.{TreesGive, ShowsIndex, ListsTrees}
-use Rattle.vc_node.specs.Machine.{git_rules, machine_head, Spells, Follows}
+use Rattle.vc_rules.proofs.GitLaws.{git_rules}
+use Rattle.vc_node.specs.Machine.{machine_head, Spells, Follows}
 use Rattle.vc_node.specs.Making.{AreLines, HasRoot, IsCut, MayCommit}
 use Rattle.vc_node.specs.Shown.{Shown, shown, with_objects_shown}
 use Rattle.vc_node.proofs.BranchLemmas.{spells_refs, spells_head, set_rel}

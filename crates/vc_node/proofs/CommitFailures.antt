@@ -21,7 +21,8 @@ use Rattle.vc_node.specs.GoodCommit.{BlamesCommit}
 use Rattle.vc_node.specs.IndexFile.{SpellsIndex, BlamesIndex}
 use Rattle.vc_rules.specs.Git.{git}
 use Rattle.vc_rules.specs.Faults.{object_number}
-use Rattle.vc_node.specs.Machine.{git_rules, Spells, Follows, IsBadFile, fault_answer, failure_of}
+use Rattle.vc_rules.proofs.GitLaws.{git_rules}
+use Rattle.vc_node.specs.Machine.{Spells, Follows, IsBadFile, fault_answer, failure_of}
 use Rattle.vc_node.specs.Making.{AreLines, BlamesLook, BlamesParents, BlamesStored, BlamesObjects, BlamesMaking, HasHeadConflict, LeftByCommit, MayCommit}
 use Rattle.vc_node.specs.Making.BlamesMaking.{of_lines, of_look, of_conflict, of_parents, of_index, of_objects}
 use Rattle.vc_node.specs.Shown.{shown}

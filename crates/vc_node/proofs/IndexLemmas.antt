@@ -35,7 +35,8 @@ use Rattle.vc_node.specs.NodeFault.{is_fault}
 use Rattle.vc_node.specs.Shown.{Shown, shown, with_objects_shown, with_index_shown}
 use Rattle.vc_rules.specs.Git.{git, machine_entry, mode_number}
 use Rattle.vc_rules.specs.Faults.{object_number}
-use Rattle.vc_node.specs.Machine.{git_rules, Spells, Follows, IsBadFile, fault_answer, failure_of}
+use Rattle.vc_rules.proofs.GitLaws.{git_rules}
+use Rattle.vc_node.specs.Machine.{Spells, Follows, IsBadFile, fault_answer, failure_of}
 use Rattle.vc_node.proofs.AnswerLemmas.{faults, get-put, get-unput, map_cond}
 use Rattle.vc_node.proofs.WriteLemmas.{added, added_all, spells_added}
 

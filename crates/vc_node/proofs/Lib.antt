@@ -14,3 +14,5 @@ pub mod CommitFailures
 pub mod StoringLemmas
 pub mod NameLemmas
 pub mod CleanLemmas
+pub mod OpeningLaws
+pub mod ReadLemmas

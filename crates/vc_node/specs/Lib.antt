@@ -8,3 +8,5 @@ pub mod Machine
 pub mod Commit
 pub mod Making
 pub mod Clean
+pub mod Opening
+pub mod Reads

@@ -18,11 +18,9 @@ use Rattle.vc_model.specs.Node.Reply.{Stored, Made}
 use Rattle.vc_model.specs.Clone.{Awaited, CloneNode, Task}
 use Rattle.vc_model.specs.CloneCall.{CloneAnswers, Obeys, Refuses}
 use Rattle.vc_model.specs.CloneCall.CloneCall.{Command}
-use Rattle.vc_model.specs.Rules.{Rules}
 use Rattle.vc_rules.specs.Git.{git, machine_entry, stored_of}
 use Rattle.vc_rules.specs.Faults.{object_number}
-use Rattle.vc_rules.specs.Laws.{rules_of}
-use Rattle.vc_rules.proofs.GitLaws.{git_laws}
+use Rattle.vc_rules.proofs.GitLaws.{git_rules}
 use Rattle.vc_object.specs.declared.id.ObjectId.{ObjectId}
 use Rattle.vc_refs.specs.Refs.{IsBadRef}
 use Rattle.vc_refs.specs.declared.faults.RefFault.{RefFault}
@@ -37,10 +35,6 @@ use Rattle.vc_node.specs.NodeFault.{is_fault}
 use Rattle.vc_node.specs.Shown.{Shown, shown}
 use Rattle.vc_node.specs.declared.fault.NodeFault.{NodeFault}
 use Rattle.vc_node.specs.declared.fault.NodeFault.TheVariants.{Store, Ref, Missing, NotACommit, BadPath, PathConflict, BadIndex, WrongEntry, Down}
-
--- the rules of the machine: the layers' own relations
-abbrev pub git_rules : Rules git
-git_rules = rules_of git_laws
 
 -- a HEAD, as the machine has it
 abbrev pub machine_head : RefsHead → Head

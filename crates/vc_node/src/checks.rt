@@ -2,6 +2,7 @@
 ghost use Rattle.std.specs.Prelude.{◌≡◌, IfErr, OnOk, IsErrOf};
 ghost use Rattle.vc_files.specs.Failures.{Wears};
 ghost use Rattle.vc_node.specs.NodeFault.{TellsDevice};
+ghost use Rattle.vc_node.specs.Reads.{IsReached, NoneRead, TellsRead};
 ghost use Rattle.vc_node.specs.GoodCommit.{IsComplete, IsHistory, BlamesCommit};
 
 use crate::NodeFault;
@@ -23,7 +24,8 @@ pub(crate) fn refuse_bad_commit<F: Files>(
     ensures history { F.honest → OnOk result (IsHistory (F.content files.old) id.now) }
     ensures refused { F.honest → IfErr result (BlamesCommit (F.content files.old) id.now) }
     ensures same { F.content files.new ≡ F.content files.old }
-    ensures wear { Wears F.failed F.can_fail files.old files.new (TellsDevice result) }
+    ensures file { F.honest → IfErr result (TellsRead (IsReached (F.content files.old) id.now) NoneRead) }
+    ensures wear { Wears F.failed F.can_fail F.left files.old files.new (TellsDevice result) }
 {
     let mut store = Store::new(alloc, files);
     if !is_complete(alloc, &mut store, id)? {

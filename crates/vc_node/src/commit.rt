@@ -1,7 +1,7 @@
 // What a commit does to files: it looks for what refuses it, writes the trees and the commit, and then moves HEAD.
 ghost use Rattle.std.specs.Prelude.{◌≡◌, ◌++◌, IfOk, IfErr, OnOk, OnErr, Contains, codes};
 ghost use Rattle.std.specs.List.{AllByRecursion};
-ghost use Rattle.vc_files.specs.Failures.{Wears};
+ghost use Rattle.vc_files.specs.Failures.{Wears, Writes};
 ghost use Rattle.vc_files.specs.FileMap.{SameOutside};
 ghost use Rattle.vc_object.specs.Lines.{id_line, line};
 ghost use Rattle.vc_refs.specs.Head.{IsHeadInRefs, head_of};
@@ -50,7 +50,7 @@ fn free_head<F: Files>(alloc: Global, files: &mut F) -> Result<Head, NodeFault>
     ensures free { F.honest → IfOk result (IsFreeHead (F.content files.old)) }
     ensures refused { F.honest → IfErr result (BlamesFreeHead (F.content files.old)) }
     ensures same { F.content files.new ≡ F.content files.old }
-    ensures wear { Wears F.failed F.can_fail files.old files.new (TellsDevice result) }
+    ensures wear { Wears F.failed F.can_fail F.left files.old files.new (TellsDevice result) }
 {
     let Some(head) = vc_refs::head(files, alloc)? else {
         return Err(NodeFault::Ref(RefFault::BadRefFile(String::from_str(alloc, "HEAD")?)));
@@ -70,7 +70,7 @@ fn refuse_bad_parents<F: Files>(
     ensures good { F.honest → OnOk result (AllByRecursion (IsGoodParent (F.content files.old)) parents.now) }
     ensures refused { F.honest → IfErr result (BlamesParents (F.content files.old) parents.now) }
     ensures same { F.content files.new ≡ F.content files.old }
-    ensures wear { Wears F.failed F.can_fail files.old files.new (TellsDevice result) }
+    ensures wear { Wears F.failed F.can_fail F.left files.old files.new (TellsDevice result) }
 {
     for parent in parents {
         refuse_bad_commit(alloc, files, parent)?;
@@ -87,7 +87,7 @@ fn parents_with<F: Files>(
     ensures parents { F.honest → IfOk result (λ ids. ids.items ≡ parents_of_commit (F.content files.old) extra.now) }
     ensures refused { F.honest → IfErr result (BlamesLook (F.content files.old)) }
     ensures same { F.content files.new ≡ F.content files.old }
-    ensures wear { Wears F.failed F.can_fail files.old files.new (TellsDevice result) }
+    ensures wear { Wears F.failed F.can_fail F.left files.old files.new (TellsDevice result) }
 {
     let mut parents = Vec::new(alloc);
     if let Some(id) = vc_refs::resolve_head(files, alloc)? {
@@ -150,7 +150,7 @@ fn write_objects<F: Files>(
     ensures written { IfOk result (WritesCommit F.honest index.now parents.now words.entry.author.now words.entry.committer.now words.entry.message.now (objects (F.content files.old)) (objects (F.content files.new))) }
     ensures outside { F.honest → SameOutside (codes "objects/") (F.content files.old) (F.content files.new) }
     ensures clean { F.honest → KeepsClean (F.content files.old) (F.content files.new) }
-    ensures wear { Wears F.failed F.can_fail files.old files.new (TellsDevice result) }
+    ensures wear { Writes F.honest F.content F.failed F.can_fail F.left files.old files.new (TellsDevice result) }
 {
     let tree = index.write_tree(alloc, files)?;
     let body = commit_body(alloc, tree, parents, words)?;
@@ -170,7 +170,7 @@ fn move_head<F: Files>(
     ensures refused { F.honest → IfErr result (BlamesMoving (F.content files.old) head.now) }
     ensures err { F.honest → OnErr result (F.content files.new ≡ F.content files.old) }
     ensures clean { F.honest → OnOk result (KeepsClean (F.content files.old) (F.content files.new)) }
-    ensures wear { Wears F.failed F.can_fail files.old files.new (TellsDevice result) }
+    ensures wear { Writes F.honest F.content F.failed F.can_fail F.left files.old files.new (TellsDevice result) }
 {
     match head {
         Head::Branch(name) => {
@@ -198,7 +198,7 @@ pub(crate) fn commit<F: Files>(
     ensures left { F.honest → OnErr result (LeftByCommit (F.content files.old) extra.now words.entry.author.now words.entry.committer.now words.entry.message.now (F.content files.new)) }
     ensures err { F.honest → OnErr result (SameOutside (codes "objects/") (F.content files.old) (F.content files.new)) }
     ensures clean { F.honest → KeepsClean (F.content files.old) (F.content files.new) }
-    ensures wear { Wears F.failed F.can_fail files.old files.new (TellsDevice result) }
+    ensures wear { Writes F.honest F.content F.failed F.can_fail F.left files.old files.new (TellsDevice result) }
 {
     refuse_lines(words)?;
     let head = free_head(alloc, files)?;

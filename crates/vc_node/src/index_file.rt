@@ -1,11 +1,12 @@
 // The file of a clone's index.
 ghost use Rattle.std.specs.Prelude.{◌≡◌, IfOk, IfErr, OnOk, OnErr, IsErrOf, MatchResult, IsTrue, codes};
 ghost use Rattle.std.specs.FinMap as paths;
-ghost use Rattle.vc_files.specs.Failures.{Wears};
+ghost use Rattle.vc_files.specs.Failures.{Wears, Writes};
 ghost use Rattle.vc_index.specs.IndexMap.{IndexMap, IsIndex};
 ghost use Rattle.vc_index.specs.IndexText.{index_text};
 ghost use Rattle.vc_node.specs.IndexFile.{SpellsIndex, BlamesIndex, index_bytes};
 ghost use Rattle.vc_node.specs.NodeFault.{is_fault, TellsDevice};
+ghost use Rattle.vc_node.specs.Reads.{NoneRead, TellsRead};
 
 use crate::NodeFault;
 use std::alloc::Global;
@@ -20,7 +21,7 @@ const INDEX: &str = "index";
 fn index_bytes<F: Files>(alloc: Global, files: &mut F) -> Result<Vec<u8>, Fault>
     ensures found { F.honest → IfOk result (λ bytes. bytes.items ≡ index_bytes (F.content files.old)) }
     ensures same { F.content files.new ≡ F.content files.old }
-    ensures wear { Wears F.failed F.can_fail files.old files.new (IsErrOf result Fault.Device) }
+    ensures wear { Wears F.failed F.can_fail F.left files.old files.new (IsErrOf result Fault.Device) }
 {
     match files.get(alloc, INDEX)? {
         Some(bytes) => Ok(bytes),
@@ -34,7 +35,8 @@ pub(crate) fn read_index<F: Files>(alloc: Global, files: &mut F) -> Result<Index
     ensures again { F.honest → (m : IndexMap) → SpellsIndex (F.content files.old) m → IfOk result (λ index. index ≡ m) }
     ensures refused { F.honest → IfErr result (BlamesIndex (F.content files.old)) }
     ensures same { F.content files.new ≡ F.content files.old }
-    ensures wear { Wears F.failed F.can_fail files.old files.new (TellsDevice result) }
+    ensures file { IfErr result (TellsRead NoneRead NoneRead) }
+    ensures wear { Wears F.failed F.can_fail F.left files.old files.new (TellsDevice result) }
 {
     let bytes = index_bytes(alloc, files)?;
     let index = Index::read(alloc, &bytes)?;
@@ -50,7 +52,7 @@ pub(crate) fn write_index<F: Files>(
     ensures written { F.honest → OnOk result (F.content files.new ≡ paths.insert (F.content files.old) (codes "index") (index_text index.now)) }
     ensures index { OnOk result (IsIndex index.now) }
     ensures err { F.honest → OnErr result (F.content files.new ≡ F.content files.old) }
-    ensures wear { Wears F.failed F.can_fail files.old files.new (IsErrOf result Fault.Device) }
+    ensures wear { Writes F.honest F.content F.failed F.can_fail F.left files.old files.new (IsErrOf result Fault.Device) }
 {
     let text = index.write(alloc)?;
     files.put(alloc, INDEX, &text)?;

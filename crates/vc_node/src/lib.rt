@@ -10,6 +10,8 @@ mod fault;
 mod index_file;
 mod local;
 mod node;
+mod opened;
 
 pub use fault::NodeFault;
 pub use node::CloneNode;
+pub use opened::{a_held_node_can_be_opened, new_files_can_be_opened};

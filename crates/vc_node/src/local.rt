@@ -2,7 +2,7 @@
 // names it.
 ghost use Rattle.std.specs.Prelude.{◌≡◌, ◌≢◌, ◌⊎◌, IfOk, IfErr, OnOk, OnErr, IsErrOf, IsErrAnd, IsOk, codes, true, false};
 ghost use Rattle.std.specs.FinMap as paths;
-ghost use Rattle.vc_files.specs.Failures.{Wears};
+ghost use Rattle.vc_files.specs.Failures.{Writes};
 ghost use Rattle.vc_index.specs.IndexMap.{IndexMap, HasConflict, index_entry};
 ghost use Rattle.vc_index.specs.IndexText.{index_text};
 ghost use Rattle.vc_index.specs.Path.{IsPath};
@@ -23,6 +23,7 @@ ghost use Rattle.vc_node.specs.Clean.{KeepsClean};
 ghost use Rattle.vc_node.specs.GoodCommit.{IsComplete, IsHistory};
 ghost use Rattle.vc_node.specs.IndexFile.{SpellsIndex, BlamesIndex};
 ghost use Rattle.vc_node.specs.NodeFault.{is_fault, TellsDevice};
+ghost use Rattle.vc_node.specs.Reads.{IsAtName, IsBelow, IsReached, IsReachedByHead, NoneRead, TellsRead};
 ghost use Rattle.vc_node.specs.Shown.{IsLoaded, shown, with_objects_shown, with_refs_shown, with_head_shown, with_index_shown};
 
 use crate::NodeFault;
@@ -49,7 +50,8 @@ pub(crate) fn write<F: Files>(
     ensures refused { F.honest → IfErr result (BlamesWrite (F.content files.old) kind body.now) }
     ensures err { F.honest → OnErr result (F.content files.new ≡ F.content files.old) }
     ensures clean { F.honest → OnOk result (KeepsClean (F.content files.old) (F.content files.new)) }
-    ensures wear { Wears F.failed F.can_fail files.old files.new (TellsDevice result) }
+    ensures file { IfErr result (TellsRead (λ id. id ≡ object_name kind body.now) NoneRead) }
+    ensures wear { Writes F.honest F.content F.failed F.can_fail F.left files.old files.new (TellsDevice result) }
 {
     let id = vc_store::put(files, alloc, kind, body)?;
     Ok(id)
@@ -61,7 +63,8 @@ pub(crate) fn unstage<F: Files>(alloc: Global, files: &mut F, path: &[u8]) -> Re
     ensures refused { F.honest → IfErr result (BlamesIndex (F.content files.old)) }
     ensures err { F.honest → OnErr result (F.content files.new ≡ F.content files.old) }
     ensures clean { F.honest → OnOk result (KeepsClean (F.content files.old) (F.content files.new)) }
-    ensures wear { Wears F.failed F.can_fail files.old files.new (TellsDevice result) }
+    ensures file { IfErr result (TellsRead NoneRead NoneRead) }
+    ensures wear { Writes F.honest F.content F.failed F.can_fail F.left files.old files.new (TellsDevice result) }
 {
     let mut index = read_index(alloc, files)?;
     index.remove(path);
@@ -84,7 +87,8 @@ pub(crate) fn add<F: Files>(
     ensures damaged { F.honest → IfErr result (TellsDamage (F.content files.old)) }
     ensures left { F.honest → (m : IndexMap) → SpellsIndex (F.content files.old) m → IfErr result (λ e. (F.content files.new ≡ F.content files.old) ⊎ ((is_fault e ≡ true) × MayStage m path.now bytes.now × (shown (F.content files.new) ≡ with_objects_shown (shown (F.content files.old)) (with_object (objects (F.content files.old)) (object_name Blob bytes.now) (stored_object Blob bytes.now))))) }
     ensures clean { F.honest → KeepsClean (F.content files.old) (F.content files.new) }
-    ensures wear { Wears F.failed F.can_fail files.old files.new (TellsDevice result) }
+    ensures file { IfErr result (TellsRead (λ id. id ≡ object_name Blob bytes.now) NoneRead) }
+    ensures wear { Writes F.honest F.content F.failed F.can_fail F.left files.old files.new (TellsDevice result) }
 {
     let mut index = read_index(alloc, files)?;
     let name = vc_object::name_of(Kind::Blob, bytes);
@@ -104,7 +108,8 @@ pub(crate) fn load_tree<F: Files>(
     ensures refused { F.honest → IfErr result (BlamesLoad (F.content files.old) id.now) }
     ensures err { F.honest → OnErr result (F.content files.new ≡ F.content files.old) }
     ensures clean { F.honest → OnOk result (KeepsClean (F.content files.old) (F.content files.new)) }
-    ensures wear { Wears F.failed F.can_fail files.old files.new (TellsDevice result) }
+    ensures file { F.honest → IfErr result (TellsRead (IsBelow (F.content files.old) id.now) NoneRead) }
+    ensures wear { Writes F.honest F.content F.failed F.can_fail F.left files.old files.new (TellsDevice result) }
 {
     let index = Index::from_tree(alloc, files, id)?;
     write_index(alloc, files, &index)?;
@@ -119,7 +124,8 @@ pub(crate) fn set_head<F: Files>(alloc: Global, files: &mut F, head: &Head) -> R
     ensures refused { F.honest → IfErr result (BlamesHead (F.content files.old) head.now) }
     ensures err { F.honest → OnErr result (F.content files.new ≡ F.content files.old) }
     ensures clean { F.honest → OnOk result (KeepsClean (F.content files.old) (F.content files.new)) }
-    ensures wear { Wears F.failed F.can_fail files.old files.new (TellsDevice result) }
+    ensures file { F.honest → IfErr result (TellsRead (IsReachedByHead (F.content files.old) head.now) NoneRead) }
+    ensures wear { Writes F.honest F.content F.failed F.can_fail F.left files.old files.new (TellsDevice result) }
 {
     if let Head::Id(id) = head {
         refuse_bad_commit(alloc, files, id)?;
@@ -141,7 +147,8 @@ pub(crate) fn put_ref<F: Files>(
     ensures refused { F.honest → IfErr result (BlamesPut (F.content files.old) name.now) }
     ensures err { F.honest → OnErr result (F.content files.new ≡ F.content files.old) }
     ensures clean { F.honest → OnOk result (KeepsClean (F.content files.old) (F.content files.new)) }
-    ensures wear { Wears F.failed F.can_fail files.old files.new (TellsDevice result) }
+    ensures file { F.honest → IfErr result (TellsRead NoneRead (IsAtName (F.content files.old) name.now)) }
+    ensures wear { Writes F.honest F.content F.failed F.can_fail F.left files.old files.new (TellsDevice result) }
 {
     let current = vc_refs::get(files, alloc, name)?;
     vc_refs::set(files, alloc, name, current, id)?;
@@ -162,7 +169,8 @@ pub(crate) fn set_branch<F: Files>(
     ensures refused { F.honest → IfErr result (BlamesBranch (F.content files.old) branch.now id.now) }
     ensures err { F.honest → OnErr result (F.content files.new ≡ F.content files.old) }
     ensures clean { F.honest → OnOk result (KeepsClean (F.content files.old) (F.content files.new)) }
-    ensures wear { Wears F.failed F.can_fail files.old files.new (TellsDevice result) }
+    ensures file { F.honest → IfErr result (TellsRead (IsReached (F.content files.old) id.now) (IsAtName (F.content files.old) branch.now)) }
+    ensures wear { Writes F.honest F.content F.failed F.can_fail F.left files.old files.new (TellsDevice result) }
 {
     refuse_conflict(files, alloc, branch)?;
     refuse_bad_commit(alloc, files, id)?;
@@ -181,7 +189,8 @@ pub(crate) fn remove_ref<F: Files>(
     ensures refused { F.honest → IfErr result (BlamesRemoved (F.content files.old)) }
     ensures err { F.honest → OnErr result (F.content files.new ≡ F.content files.old) }
     ensures clean { F.honest → OnOk result (KeepsClean (F.content files.old) (F.content files.new)) }
-    ensures wear { Wears F.failed F.can_fail files.old files.new (TellsDevice result) }
+    ensures file { F.honest → IfErr result (TellsRead NoneRead (λ path. path ≡ name.now)) }
+    ensures wear { Writes F.honest F.content F.failed F.can_fail F.left files.old files.new (TellsDevice result) }
 {
     let current = vc_refs::get(files, alloc, name)?;
     vc_refs::remove(files, alloc, name, current)?;

@@ -3,15 +3,20 @@ ghost use Rattle.std.specs.Prelude.{◌≡◌, ◌≢◌, ◌⊎◌, OnOk, OnErr
 ghost use Rattle.std.specs.List.{starts_with};
 ghost use Rattle.vc_format.specs.Git.{bytes_of_id};
 ghost use Rattle.vc_model.specs.Clone.Task.{Write, Stage, Unstage, LoadTree, MakeCommit, SetBranch, DeleteBranch, MoveHead};
+ghost use Rattle.vc_model.specs.Clone.Awaited.{Nothing};
+ghost use Rattle.vc_model.specs.Repository.{Repository};
+ghost use Rattle.vc_object.specs.Object.{object_name};
 ghost use Rattle.vc_refs.specs.Head.{IsHeadInRefs};
 ghost use Rattle.vc_node.specs.Blames.{BlamesLoad, BlamesOpen, IsLocalHead};
 ghost use Rattle.vc_files.specs.FileMap.{SameOutside};
 ghost use Rattle.vc_node.specs.Clean.{KeepsClean};
 ghost use Rattle.vc_node.specs.Commit.{IsCommitted};
 ghost use Rattle.vc_rules.specs.Git.{machine_object, mode_number};
-ghost use Rattle.vc_node.specs.Machine.{Answers, AnswersShown, OrBadFile, machine_head, made_answer, done_answer, up_after};
-ghost use Rattle.vc_files.specs.Failures.{Wears};
+ghost use Rattle.vc_node.specs.Machine.{Answers, AnswersShown, HoldsNode, OrBadFile, machine_head, made_answer, done_answer, up_after};
+ghost use Rattle.vc_files.specs.Failures.{Writes};
 ghost use Rattle.vc_node.specs.NodeFault.{is_fault, IsOfDevice, TellsDevice};
+ghost use Rattle.vc_node.specs.Opening.{IsOpenable, opened_node};
+ghost use Rattle.vc_node.specs.Reads.{IsAtName, IsBelow, IsReached, IsReachedByHead, NoneRead, TellsRead};
 ghost use Rattle.vc_node.specs.Shown.{IsLoaded, IsReady, shown};
 
 use crate::commit::Words;
@@ -49,11 +54,12 @@ impl<F: Files> CloneNode<F> {
     pub fn open(alloc: Global, mut files: F) -> Result<CloneNode<F>, (F, NodeFault)>
         ensures ready { F.honest → IfOk result (λ node. IsReady (F.content files) (F.content node.files)) }
         ensures up { IfOk result (λ node. node.is_up ≡ true) }
+        ensures opens { F.honest → (r : Repository) → IsOpenable (F.content files) r → IfOk result (λ node. HoldsNode (F.content node.files) true Nothing (opened_node r)) }
         ensures refused { F.honest → IfErr result (λ e. BlamesOpen (F.content files) e.1) }
         ensures err { F.honest → IfErr result (λ e. F.content e.0 ≡ F.content files) }
         ensures clean { F.honest → IfOk result (λ node. KeepsClean (F.content files) (F.content node.files)) }
-        ensures wear { IfOk result (λ node. Wears F.failed F.can_fail files node.files ⊥) }
-        ensures wear_err { IfErr result (λ e. Wears F.failed F.can_fail files e.0 (IsOfDevice e.1)) }
+        ensures wear { IfOk result (λ node. Writes F.honest F.content F.failed F.can_fail F.left files node.files ⊥) }
+        ensures wear_err { IfErr result (λ e. Writes F.honest F.content F.failed F.can_fail F.left files e.0 (IsOfDevice e.1)) }
     {
         match make_ready(alloc, &mut files) {
             Ok(()) => Ok(CloneNode {
@@ -97,7 +103,8 @@ impl<F: Files> CloneNode<F> {
         ensures err { F.honest → OnErr result (F.content self.new.files ≡ F.content self.old.files) }
         ensures up { self.old.is_up ≡ true → self.new.is_up ≡ up_after result }
         ensures clean { F.honest → KeepsClean (F.content self.old.files) (F.content self.new.files) }
-        ensures wear { Wears F.failed F.can_fail self.old.files self.new.files (TellsDevice result) }
+        ensures file { IfErr result (TellsRead (λ id. id ≡ object_name kind body.now) NoneRead) }
+        ensures wear { Writes F.honest F.content F.failed F.can_fail F.left self.old.files self.new.files (TellsDevice result) }
     {
         if !self.is_up {
             return Err(NodeFault::Down);
@@ -116,7 +123,8 @@ impl<F: Files> CloneNode<F> {
         ensures err { F.honest → OnErr result (F.content self.new.files ≡ F.content self.old.files) }
         ensures up { self.old.is_up ≡ true → self.new.is_up ≡ up_after result }
         ensures clean { F.honest → KeepsClean (F.content self.old.files) (F.content self.new.files) }
-        ensures wear { Wears F.failed F.can_fail self.old.files self.new.files (TellsDevice result) }
+        ensures file { IfErr result (TellsRead NoneRead NoneRead) }
+        ensures wear { Writes F.honest F.content F.failed F.can_fail F.left self.old.files self.new.files (TellsDevice result) }
     {
         if !self.is_up {
             return Err(NodeFault::Down);
@@ -136,7 +144,8 @@ impl<F: Files> CloneNode<F> {
         ensures down { self.old.is_up ≡ false → result ≡ Err NodeFault.Down }
         ensures up { self.old.is_up ≡ true → self.new.is_up ≡ up_after result }
         ensures clean { F.honest → KeepsClean (F.content self.old.files) (F.content self.new.files) }
-        ensures wear { Wears F.failed F.can_fail self.old.files self.new.files (TellsDevice result) }
+        ensures file { IfErr result (TellsRead (λ id. id ≡ object_name Kind.Blob bytes.now) NoneRead) }
+        ensures wear { Writes F.honest F.content F.failed F.can_fail F.left self.old.files self.new.files (TellsDevice result) }
     {
         if !self.is_up {
             return Err(NodeFault::Down);
@@ -156,7 +165,8 @@ impl<F: Files> CloneNode<F> {
         ensures err { F.honest → OnErr result (F.content self.new.files ≡ F.content self.old.files) }
         ensures up { self.old.is_up ≡ true → self.new.is_up ≡ up_after result }
         ensures clean { F.honest → KeepsClean (F.content self.old.files) (F.content self.new.files) }
-        ensures wear { Wears F.failed F.can_fail self.old.files self.new.files (TellsDevice result) }
+        ensures file { F.honest → IfErr result (TellsRead NoneRead (λ path. path ≡ branch.now)) }
+        ensures wear { Writes F.honest F.content F.failed F.can_fail F.left self.old.files self.new.files (TellsDevice result) }
     {
         if !self.is_up {
             return Err(NodeFault::Down);
@@ -177,7 +187,8 @@ impl<F: Files> CloneNode<F> {
         ensures err { F.honest → OnErr result (F.content self.new.files ≡ F.content self.old.files) }
         ensures up { self.old.is_up ≡ true → self.new.is_up ≡ up_after result }
         ensures clean { F.honest → KeepsClean (F.content self.old.files) (F.content self.new.files) }
-        ensures wear { Wears F.failed F.can_fail self.old.files self.new.files (TellsDevice result) }
+        ensures file { F.honest → IfErr result (TellsRead (IsReached (F.content self.old.files) id.now) (IsAtName (F.content self.old.files) branch.now)) }
+        ensures wear { Writes F.honest F.content F.failed F.can_fail F.left self.old.files self.new.files (TellsDevice result) }
     {
         if !self.is_up {
             return Err(NodeFault::Down);
@@ -198,7 +209,8 @@ impl<F: Files> CloneNode<F> {
         ensures err { F.honest → OnErr result (F.content self.new.files ≡ F.content self.old.files) }
         ensures up { self.old.is_up ≡ true → self.new.is_up ≡ up_after result }
         ensures clean { F.honest → KeepsClean (F.content self.old.files) (F.content self.new.files) }
-        ensures wear { Wears F.failed F.can_fail self.old.files self.new.files (TellsDevice result) }
+        ensures file { F.honest → IfErr result (TellsRead (IsReachedByHead (F.content self.old.files) head.now) NoneRead) }
+        ensures wear { Writes F.honest F.content F.failed F.can_fail F.left self.old.files self.new.files (TellsDevice result) }
     {
         if !self.is_up {
             return Err(NodeFault::Down);
@@ -220,7 +232,8 @@ impl<F: Files> CloneNode<F> {
         ensures err { F.honest → OnErr result (F.content self.new.files ≡ F.content self.old.files) }
         ensures up { self.old.is_up ≡ true → self.new.is_up ≡ up_after result }
         ensures clean { F.honest → KeepsClean (F.content self.old.files) (F.content self.new.files) }
-        ensures wear { Wears F.failed F.can_fail self.old.files self.new.files (TellsDevice result) }
+        ensures file { F.honest → IfErr result (TellsRead (IsBelow (F.content self.old.files) id.now) NoneRead) }
+        ensures wear { Writes F.honest F.content F.failed F.can_fail F.left self.old.files self.new.files (TellsDevice result) }
     {
         if !self.is_up {
             return Err(NodeFault::Down);
@@ -250,7 +263,7 @@ impl<F: Files> CloneNode<F> {
         ensures err { F.honest → OnErr result (SameOutside (codes "objects/") (F.content self.old.files) (F.content self.new.files)) }
         ensures up { self.old.is_up ≡ true → self.new.is_up ≡ up_after result }
         ensures clean { F.honest → KeepsClean (F.content self.old.files) (F.content self.new.files) }
-        ensures wear { Wears F.failed F.can_fail self.old.files self.new.files (TellsDevice result) }
+        ensures wear { Writes F.honest F.content F.failed F.can_fail F.left self.old.files self.new.files (TellsDevice result) }
     {
         if !self.is_up {
             return Err(NodeFault::Down);
@@ -273,7 +286,7 @@ fn make_ready<F: Files>(alloc: Global, files: &mut F) -> Result<(), NodeFault>
     ensures refused { F.honest → IfErr result (BlamesOpen (F.content files.old)) }
     ensures err { F.honest → OnErr result (F.content files.new ≡ F.content files.old) }
     ensures clean { F.honest → OnOk result (KeepsClean (F.content files.old) (F.content files.new)) }
-    ensures wear { Wears F.failed F.can_fail files.old files.new (TellsDevice result) }
+    ensures wear { Writes F.honest F.content F.failed F.can_fail F.left files.old files.new (TellsDevice result) }
 {
     read_index(alloc, files)?;
     if vc_refs::head(files, alloc)?.is_some() {

@@ -1,6 +1,6 @@
 // HEAD: look, resolve and set.
 ghost use Rattle.std.specs.Prelude.{◌≡◌, Some, IfOk, IfErr, IfSome, OnOk, OnErr, IsErrOf, codes, string_bytes};
-ghost use Rattle.vc_files.specs.Failures.{Wears};
+ghost use Rattle.vc_files.specs.Failures.{Wears, Writes};
 ghost use Rattle.vc_refs.specs.declared.heads.HeadText.TheVariants.{Says};
 ghost use Rattle.vc_refs.specs.Head.{read_head, name_said, head_of, head_text, head_value, IsHeadInRefs};
 ghost use Rattle.vc_refs.specs.Refs.{refs, ChangesOnly};
@@ -74,7 +74,7 @@ pub fn head<F: Files>(files: &mut F, alloc: Global) -> Result<Option<Head>, RefF
     ensures good { F.honest → OnOk result (IsGoodHead (F.content files.old)) }
     ensures refused { F.honest → IfErr result (BlamesHead (F.content files.old)) }
     ensures same { F.content files.new ≡ F.content files.old }
-    ensures wear { Wears F.failed F.can_fail files.old files.new (IsErrOf result (RefFault.Fault Fault.Device)) }
+    ensures wear { Wears F.failed F.can_fail F.left files.old files.new (IsErrOf result (RefFault.Fault Fault.Device)) }
 {
     let Some(bytes) = files.get(alloc, HEAD)? else {
         return Ok(None);
@@ -92,7 +92,7 @@ pub fn resolve_head<F: Files>(files: &mut F, alloc: Global) -> Result<Option<Obj
     ensures good { F.honest → OnOk result (IsGoodHeadValue (F.content files.old)) }
     ensures refused { F.honest → IfErr result (BlamesHeadValue (F.content files.old)) }
     ensures same { F.content files.new ≡ F.content files.old }
-    ensures wear { Wears F.failed F.can_fail files.old files.new (IsErrOf result (RefFault.Fault Fault.Device)) }
+    ensures wear { Wears F.failed F.can_fail F.left files.old files.new (IsErrOf result (RefFault.Fault Fault.Device)) }
 {
     let Some(head) = head(files, alloc)? else {
         return Ok(None);
@@ -114,7 +114,7 @@ pub fn set_head<F: Files>(files: &mut F, alloc: Global, head: &Head) -> Result<(
     ensures refs { F.honest → refs (F.content files.new) ≡ refs (F.content files.old) }
     ensures only { F.honest → ChangesOnly (codes "HEAD") (F.content files.old) (F.content files.new) }
     ensures err { F.honest → OnErr result (F.content files.new ≡ F.content files.old) }
-    ensures wear { Wears F.failed F.can_fail files.old files.new (IsErrOf result (RefFault.Fault Fault.Device)) }
+    ensures wear { Writes F.honest F.content F.failed F.can_fail F.left files.old files.new (IsErrOf result (RefFault.Fault Fault.Device)) }
 {
     let text = head_text(alloc, head)?;
     files.put(alloc, HEAD, text.as_bytes())?;

@@ -19,7 +19,7 @@ pub fn list<F: Files>(files: &mut F, alloc: Global) -> Result<Vec<(RefName, Obje
     ensures good { F.honest → OnOk result (SpellsRefs (F.content files.old)) }
     ensures refused { F.honest → IfErr result (BlamesList (F.content files.old)) }
     ensures same { F.content files.new ≡ F.content files.old }
-    ensures wear { Wears F.failed F.can_fail files.old files.new (IsErrOf result (RefFault.Fault Fault.Device)) }
+    ensures wear { Wears F.failed F.can_fail F.left files.old files.new (IsErrOf result (RefFault.Fault Fault.Device)) }
 {
     let paths = files.list(alloc, "refs/")?;
     let mut listed = Vec::new(alloc);

@@ -23,7 +23,7 @@ pub(crate) fn read<F: Files>(
     ensures good { F.honest → OnOk result (IsBadRef (F.content files.old) path.now → ⊥) }
     ensures refused { F.honest → IfErr result (BlamesRef (F.content files.old) path.now) }
     ensures same { F.content files.new ≡ F.content files.old }
-    ensures wear { Wears F.failed F.can_fail files.old files.new (IsErrOf result (RefFault.Fault Fault.Device)) }
+    ensures wear { Wears F.failed F.can_fail F.left files.old files.new (IsErrOf result (RefFault.Fault Fault.Device)) }
 {
     let Some(bytes) = files.get(alloc, path)? else {
         return Ok(None);
@@ -45,7 +45,7 @@ pub fn get<F: Files>(
     ensures good { F.honest → OnOk result (IsBadRef (F.content files.old) name.now → ⊥) }
     ensures refused { F.honest → IfErr result (BlamesRef (F.content files.old) name.now) }
     ensures same { F.content files.new ≡ F.content files.old }
-    ensures wear { Wears F.failed F.can_fail files.old files.new (IsErrOf result (RefFault.Fault Fault.Device)) }
+    ensures wear { Wears F.failed F.can_fail F.left files.old files.new (IsErrOf result (RefFault.Fault Fault.Device)) }
 {
     let id = read(files, alloc, name.as_str())?;
     Ok(id)
@@ -72,7 +72,7 @@ pub(crate) fn ref_at<F: Files>(
     ensures good { F.honest → OnOk result (IsBadRef (F.content files.old) path.now → ⊥) }
     ensures refused { F.honest → IfErr result (BlamesPath (F.content files.old) path.now) }
     ensures same { F.content files.new ≡ F.content files.old }
-    ensures wear { Wears F.failed F.can_fail files.old files.new (IsErrOf result (RefFault.Fault Fault.Device)) }
+    ensures wear { Wears F.failed F.can_fail F.left files.old files.new (IsErrOf result (RefFault.Fault Fault.Device)) }
 {
     let Some(name) = name_at(alloc, path)? else {
         return Err(RefFault::BadRefFile(String::from_str(alloc, path)?));
@@ -94,7 +94,7 @@ pub(crate) fn expect_value<F: Files>(
     ensures allowed { F.honest → OnOk result (HasExpected (F.content files.old) name.now expected) }
     ensures refused { F.honest → IfErr result (BlamesRemove (F.content files.old) name.now expected) }
     ensures same { F.content files.new ≡ F.content files.old }
-    ensures wear { Wears F.failed F.can_fail files.old files.new (IsErrOf result (RefFault.Fault Fault.Device)) }
+    ensures wear { Wears F.failed F.can_fail F.left files.old files.new (IsErrOf result (RefFault.Fault Fault.Device)) }
 {
     let current = get(files, alloc, name)?;
     if current != expected {

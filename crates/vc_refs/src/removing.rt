@@ -1,6 +1,6 @@
 // Removing one ref.
 ghost use Rattle.std.specs.Prelude.{◌≡◌, IfErr, OnOk, OnErr, IsErrOf};
-ghost use Rattle.vc_files.specs.Failures.{Wears};
+ghost use Rattle.vc_files.specs.Failures.{Writes};
 ghost use Rattle.vc_refs.specs.RefMap.{IsInRefs, IsRefMap, without_ref};
 ghost use Rattle.vc_refs.specs.Refs.{refs, IsBadRef};
 ghost use Rattle.vc_refs.specs.Head.{KeepsTheRest};
@@ -28,7 +28,7 @@ pub fn remove<F: Files>(
     ensures kept { F.honest → IsRefMap (refs (F.content files.old)) → IsRefMap (refs (F.content files.new)) }
     ensures rest { F.honest → KeepsTheRest name.now (F.content files.old) (F.content files.new) }
     ensures err { F.honest → OnErr result (F.content files.new ≡ F.content files.old) }
-    ensures wear { Wears F.failed F.can_fail files.old files.new (IsErrOf result (RefFault.Fault Fault.Device)) }
+    ensures wear { Writes F.honest F.content F.failed F.can_fail F.left files.old files.new (IsErrOf result (RefFault.Fault Fault.Device)) }
 {
     expect_value(files, alloc, name, expected)?;
     if expected.is_none() {
@@ -45,7 +45,7 @@ fn take_away<F: Files>(files: &mut F, alloc: Global, name: &RefName) -> Result<(
     ensures gone { F.honest → OnOk result (IsBadRef (F.content files.new) name.now → ⊥) }
     ensures rest { F.honest → KeepsTheRest name.now (F.content files.old) (F.content files.new) }
     ensures err { F.honest → OnErr result (F.content files.new ≡ F.content files.old) }
-    ensures wear { Wears F.failed F.can_fail files.old files.new (IsErrOf result Fault.Device) }
+    ensures wear { Writes F.honest F.content F.failed F.can_fail F.left files.old files.new (IsErrOf result Fault.Device) }
 {
     files.remove(alloc, name.as_str())?;
     Ok(())

@@ -1,6 +1,6 @@
 // Refs as a view of files.
 ghost use Rattle.std.specs.Prelude.{◌≡◌, Some, IfOk, IfErr, IfSome, OnOk, OnErr, IsErrOf, codes};
-ghost use Rattle.vc_files.specs.Failures.{Wears};
+ghost use Rattle.vc_files.specs.Failures.{Wears, Writes};
 ghost use Rattle.vc_refs.specs.RefMap.{IsInRefs, IsRefMap, IsListOf, with_ref, without_ref};
 ghost use Rattle.vc_refs.specs.Refs.{refs, IsBadRef, SpellsRefs, ChangesOnly};
 ghost use Rattle.vc_refs.specs.Head.{head_of, head_value, IsHeadInRefs, KeepsTheRest};
@@ -37,7 +37,7 @@ impl<'a, F: Files> Refs<'a, F> {
         ensures good { F.honest → OnOk result (IsBadRef (F.content self.old.files.now) name.now → ⊥) }
         ensures refused { F.honest → IfErr result (BlamesRef (F.content self.old.files.now) name.now) }
         ensures same { F.content self.new.files.now ≡ F.content self.old.files.now }
-        ensures wear { Wears F.failed F.can_fail self.old.files.now self.new.files.now (IsErrOf result (RefFault.Fault Fault.Device)) }
+        ensures wear { Wears F.failed F.can_fail F.left self.old.files.now self.new.files.now (IsErrOf result (RefFault.Fault Fault.Device)) }
     {
         loose::get(self.files, self.alloc, name)
     }
@@ -57,7 +57,7 @@ impl<'a, F: Files> Refs<'a, F> {
         ensures kept { F.honest → IsRefMap (refs (F.content self.old.files.now)) → IsRefMap (refs (F.content self.new.files.now)) }
         ensures rest { F.honest → KeepsTheRest name.now (F.content self.old.files.now) (F.content self.new.files.now) }
         ensures err { F.honest → OnErr result (F.content self.new.files.now ≡ F.content self.old.files.now) }
-        ensures wear { Wears F.failed F.can_fail self.old.files.now self.new.files.now (IsErrOf result (RefFault.Fault Fault.Device)) }
+        ensures wear { Writes F.honest F.content F.failed F.can_fail F.left self.old.files.now self.new.files.now (IsErrOf result (RefFault.Fault Fault.Device)) }
     {
         setting::set(self.files, self.alloc, name, expected, new)
     }
@@ -70,7 +70,7 @@ impl<'a, F: Files> Refs<'a, F> {
         ensures free { F.honest → OnOk result (IsFree (F.content self.old.files.now) name.now) }
         ensures refused { F.honest → IfErr result (BlamesWay (F.content self.old.files.now) name.now) }
         ensures same { F.content self.new.files.now ≡ F.content self.old.files.now }
-        ensures wear { Wears F.failed F.can_fail self.old.files.now self.new.files.now (IsErrOf result (RefFault.Fault Fault.Device)) }
+        ensures wear { Wears F.failed F.can_fail F.left self.old.files.now self.new.files.now (IsErrOf result (RefFault.Fault Fault.Device)) }
     {
         way::refuse_conflict(self.files, self.alloc, name)
     }
@@ -86,7 +86,7 @@ impl<'a, F: Files> Refs<'a, F> {
         ensures kept { F.honest → IsRefMap (refs (F.content self.old.files.now)) → IsRefMap (refs (F.content self.new.files.now)) }
         ensures rest { F.honest → KeepsTheRest name.now (F.content self.old.files.now) (F.content self.new.files.now) }
         ensures err { F.honest → OnErr result (F.content self.new.files.now ≡ F.content self.old.files.now) }
-        ensures wear { Wears F.failed F.can_fail self.old.files.now self.new.files.now (IsErrOf result (RefFault.Fault Fault.Device)) }
+        ensures wear { Writes F.honest F.content F.failed F.can_fail F.left self.old.files.now self.new.files.now (IsErrOf result (RefFault.Fault Fault.Device)) }
     {
         removing::remove(self.files, self.alloc, name, expected)
     }
@@ -98,7 +98,7 @@ impl<'a, F: Files> Refs<'a, F> {
         ensures good { F.honest → OnOk result (SpellsRefs (F.content self.old.files.now)) }
         ensures refused { F.honest → IfErr result (BlamesList (F.content self.old.files.now)) }
         ensures same { F.content self.new.files.now ≡ F.content self.old.files.now }
-        ensures wear { Wears F.failed F.can_fail self.old.files.now self.new.files.now (IsErrOf result (RefFault.Fault Fault.Device)) }
+        ensures wear { Wears F.failed F.can_fail F.left self.old.files.now self.new.files.now (IsErrOf result (RefFault.Fault Fault.Device)) }
     {
         listing::list(self.files, self.alloc)
     }
@@ -111,7 +111,7 @@ impl<'a, F: Files> Refs<'a, F> {
         ensures good { F.honest → OnOk result (IsGoodHead (F.content self.old.files.now)) }
         ensures refused { F.honest → IfErr result (BlamesHead (F.content self.old.files.now)) }
         ensures same { F.content self.new.files.now ≡ F.content self.old.files.now }
-        ensures wear { Wears F.failed F.can_fail self.old.files.now self.new.files.now (IsErrOf result (RefFault.Fault Fault.Device)) }
+        ensures wear { Wears F.failed F.can_fail F.left self.old.files.now self.new.files.now (IsErrOf result (RefFault.Fault Fault.Device)) }
     {
         head_file::head(self.files, self.alloc)
     }
@@ -123,7 +123,7 @@ impl<'a, F: Files> Refs<'a, F> {
         ensures good { F.honest → OnOk result (IsGoodHeadValue (F.content self.old.files.now)) }
         ensures refused { F.honest → IfErr result (BlamesHeadValue (F.content self.old.files.now)) }
         ensures same { F.content self.new.files.now ≡ F.content self.old.files.now }
-        ensures wear { Wears F.failed F.can_fail self.old.files.now self.new.files.now (IsErrOf result (RefFault.Fault Fault.Device)) }
+        ensures wear { Wears F.failed F.can_fail F.left self.old.files.now self.new.files.now (IsErrOf result (RefFault.Fault Fault.Device)) }
     {
         head_file::resolve_head(self.files, self.alloc)
     }
@@ -137,7 +137,7 @@ impl<'a, F: Files> Refs<'a, F> {
         ensures refs { F.honest → refs (F.content self.new.files.now) ≡ refs (F.content self.old.files.now) }
         ensures only { F.honest → ChangesOnly (codes "HEAD") (F.content self.old.files.now) (F.content self.new.files.now) }
         ensures err { F.honest → OnErr result (F.content self.new.files.now ≡ F.content self.old.files.now) }
-        ensures wear { Wears F.failed F.can_fail self.old.files.now self.new.files.now (IsErrOf result (RefFault.Fault Fault.Device)) }
+        ensures wear { Writes F.honest F.content F.failed F.can_fail F.left self.old.files.now self.new.files.now (IsErrOf result (RefFault.Fault Fault.Device)) }
     {
         head_file::set_head(self.files, self.alloc, head)
     }

@@ -20,7 +20,7 @@ fn taken_folder<'a, F: Files>(
     requires { IsInRefs path.now }
     ensures first { F.honest → IfOk result (λ folder. MatchOption folder (IsFreeAbove (F.content files.old) path.now) (λ f. IsFirstInTheWay (F.content files.old) path.now f.now)) }
     ensures same { F.content files.new ≡ F.content files.old }
-    ensures wear { Wears F.failed F.can_fail files.old files.new (IsErrOf result Fault.Device) }
+    ensures wear { Wears F.failed F.can_fail F.left files.old files.new (IsErrOf result Fault.Device) }
 {
     let bytes = path.as_bytes();
     for i in "refs/".len()..bytes.len() {
@@ -43,7 +43,7 @@ fn first_in_the_way<F: Files>(
     requires { IsInRefs path.now }
     ensures first { F.honest → IfOk result (λ found. MatchOption found (IsFree (F.content files.old) path.now) (λ p. IsFirstInTheWay (F.content files.old) path.now (string_bytes p))) }
     ensures same { F.content files.new ≡ F.content files.old }
-    ensures wear { Wears F.failed F.can_fail files.old files.new (IsErrOf result Fault.Device) }
+    ensures wear { Wears F.failed F.can_fail F.left files.old files.new (IsErrOf result Fault.Device) }
 {
     if let Some(folder) = taken_folder(files, alloc, path)? {
         return Ok(Some(String::from_str(alloc, folder)?));
@@ -66,7 +66,7 @@ pub fn refuse_conflict<F: Files>(
     ensures free { F.honest → OnOk result (IsFree (F.content files.old) name.now) }
     ensures refused { F.honest → IfErr result (BlamesWay (F.content files.old) name.now) }
     ensures same { F.content files.new ≡ F.content files.old }
-    ensures wear { Wears F.failed F.can_fail files.old files.new (IsErrOf result (RefFault.Fault Fault.Device)) }
+    ensures wear { Wears F.failed F.can_fail F.left files.old files.new (IsErrOf result (RefFault.Fault Fault.Device)) }
 {
     let Some(other) = first_in_the_way(files, alloc, name.as_str())? else {
         return Ok(());

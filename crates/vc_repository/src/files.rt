@@ -58,6 +58,8 @@ impl<F: Files> Objects for FileRepository<'_, F> {
 
     ghost can_fail = { λ s. F.can_fail s.files.now };
 
+    ghost left = { λ s. F.left s.files.now };
+
     fn links(&mut self, id: &ObjectId) -> Result<Option<Vec<ObjectId>>, StoreFault> {
         Store::new(self.alloc, self.files).links(id)
     }

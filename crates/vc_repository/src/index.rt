@@ -44,7 +44,7 @@ pub fn read_index<F: Files>(alloc: Global, files: &mut F) -> Result<Index, Sourc
     ensures found { F.honest → IfOk result (IsIndexOf (F.content files.old)) }
     ensures refused { F.honest → IfErr result (IsOfIndexFile (F.content files.old)) }
     ensures same { F.content files.new ≡ F.content files.old }
-    ensures wear { Wears F.failed F.can_fail files.old files.new (IsErrOf result (SourceFault.Store (StoreFault.Fault Fault.Device))) }
+    ensures wear { Wears F.failed F.can_fail F.left files.old files.new (IsErrOf result (SourceFault.Store (StoreFault.Fault Fault.Device))) }
 {
     let found = match files.get(alloc, INDEX) {
         Ok(found) => found,

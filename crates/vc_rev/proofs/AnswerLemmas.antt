@@ -1,5 +1,5 @@
 -- One answer after another: what is told of it.
-use Rattle.std.proofs.Common.{◌≡◌, ℕ, inl, inr, Result, Ok, Err, IfErr, refl, subst}
+use Rattle.std.proofs.Common.{Option, ◌≡◌, ℕ, inl, inr, Result, Ok, Err, IfErr, refl, subst}
 use Rattle.vc_files.specs.Failures.{Wears}
 use Rattle.vc_rev.specs.Answer.{After, IsTold, IsToldAlone}
 use Rattle.vc_rev.specs.Question.{Question, AsksAfter}
@@ -38,12 +38,13 @@ module _ (Blames : Question → SourceFault → Type 0) where
   told_alone Asks First next a (Source fault) f (inr b) = absurd b.1
 
 -- what is no fault of the device wears nothing
-pub wears_none : {D : Type 0} (failed : D → ℕ) (can_fail : D → Type 0) (old new : D) (P Q : Type 0) → Wears failed can_fail old new P → (Q → ⊥) → Wears failed can_fail old new Q
-wears_none failed can_fail old new P Q w other = record {
+pub wears_none : {D : Type 0} (failed : D → ℕ) (can_fail : D → Type 0) (left : D → Option ℕ) (old new : D) (P Q : Type 0) → Wears failed can_fail left old new P → (Q → ⊥) → Wears failed can_fail left old new Q
+wears_none failed can_fail left old new P Q w other = record {
   later = w.later;
   calm = w.calm;
   could = λ q. absurd (other q);
   failed_now = λ q. absurd (other q);
+  unspent = w.unspent;
 }
 
 pub err_at : {A E : Type 0} (P : E → Type 0) (r : Result A E) (e : E) → IfErr r P → r ≡ Err e → P e

@@ -89,7 +89,7 @@ pub(crate) fn ref_value<R: Repository>(
 
     ensures kept { R.state_of repo.new ≡ R.state_of repo.old }
     ensures seen { R.view_of repo.new ≡ R.view_of repo.old }
-    ensures wear { Wears R.failed R.can_fail repo.old repo.new (IsErrOf result (RevFault.Source (SourceFault.Store (StoreFault.Fault Fault.Device)))) }
+    ensures wear { Wears R.failed R.can_fail R.left repo.old repo.new (IsErrOf result (RevFault.Source (SourceFault.Store (StoreFault.Fault Fault.Device)))) }
 {
     let Some(name) = full_name(alloc, text)? else {
         return Ok(None);
@@ -105,7 +105,7 @@ pub(crate) fn digits_value<R: Repository>(repo: &mut R, name: &[u8]) -> Result<O
 
     ensures kept { R.state_of repo.new ≡ R.state_of repo.old }
     ensures seen { R.view_of repo.new ≡ R.view_of repo.old }
-    ensures wear { Wears R.failed R.can_fail repo.old repo.new (IsErrOf result (RevFault.Source (SourceFault.Store (StoreFault.Fault Fault.Device)))) }
+    ensures wear { Wears R.failed R.can_fail R.left repo.old repo.new (IsErrOf result (RevFault.Source (SourceFault.Store (StoreFault.Fault Fault.Device)))) }
 {
     if !is_prefix(name) {
         return Err(RevFault::Refused(Refusal::Unknown));
@@ -131,7 +131,7 @@ fn first_value<R: Repository>(
 
     ensures kept { R.state_of repo.new ≡ R.state_of repo.old }
     ensures seen { R.view_of repo.new ≡ R.view_of repo.old }
-    ensures wear { Wears R.failed R.can_fail repo.old repo.new (IsErrOf result (RevFault.Source (SourceFault.Store (StoreFault.Fault Fault.Device)))) }
+    ensures wear { Wears R.failed R.can_fail R.left repo.old repo.new (IsErrOf result (RevFault.Source (SourceFault.Store (StoreFault.Fault Fault.Device)))) }
 {
     for name in names {
         if let Some(id) = ref_value(alloc, repo, name)? {
@@ -152,7 +152,7 @@ fn short_value<R: Repository>(
 
     ensures kept { R.state_of repo.new ≡ R.state_of repo.old }
     ensures seen { R.view_of repo.new ≡ R.view_of repo.old }
-    ensures wear { Wears R.failed R.can_fail repo.old repo.new (IsErrOf result (RevFault.Source (SourceFault.Store (StoreFault.Fault Fault.Device)))) }
+    ensures wear { Wears R.failed R.can_fail R.left repo.old repo.new (IsErrOf result (RevFault.Source (SourceFault.Store (StoreFault.Fault Fault.Device)))) }
 {
     let whole = joined(alloc, b"", name)?;
     let below = joined(alloc, b"refs/", name)?;
@@ -177,7 +177,7 @@ fn short_or_digits<R: Repository>(
 
     ensures kept { R.state_of repo.new ≡ R.state_of repo.old }
     ensures seen { R.view_of repo.new ≡ R.view_of repo.old }
-    ensures wear { Wears R.failed R.can_fail repo.old repo.new (IsErrOf result (RevFault.Source (SourceFault.Store (StoreFault.Fault Fault.Device)))) }
+    ensures wear { Wears R.failed R.can_fail R.left repo.old repo.new (IsErrOf result (RevFault.Source (SourceFault.Store (StoreFault.Fault Fault.Device)))) }
 {
     let found = short_value(alloc, repo, name)?;
     match found {
@@ -193,7 +193,7 @@ fn head_value<R: Repository>(repo: &mut R) -> Result<ObjectId, RevFault>
 
     ensures kept { R.state_of repo.new ≡ R.state_of repo.old }
     ensures seen { R.view_of repo.new ≡ R.view_of repo.old }
-    ensures wear { Wears R.failed R.can_fail repo.old repo.new (IsErrOf result (RevFault.Source (SourceFault.Store (StoreFault.Fault Fault.Device)))) }
+    ensures wear { Wears R.failed R.can_fail R.left repo.old repo.new (IsErrOf result (RevFault.Source (SourceFault.Store (StoreFault.Fault Fault.Device)))) }
 {
     let head = repo.head()?;
     match head {
@@ -227,7 +227,7 @@ pub(crate) fn name_value<R: Repository>(
 
     ensures kept { R.state_of repo.new ≡ R.state_of repo.old }
     ensures seen { R.view_of repo.new ≡ R.view_of repo.old }
-    ensures wear { Wears R.failed R.can_fail repo.old repo.new (IsErrOf result (RevFault.Source (SourceFault.Store (StoreFault.Fault Fault.Device)))) }
+    ensures wear { Wears R.failed R.can_fail R.left repo.old repo.new (IsErrOf result (RevFault.Source (SourceFault.Store (StoreFault.Fault Fault.Device)))) }
 {
     if is_head(name) {
         return head_value(repo);

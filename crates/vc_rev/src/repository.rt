@@ -44,7 +44,7 @@ pub trait Repository: Commits {
         ensures refused { IfErr result (λ e. Self.is_honest → blames (view_of self.old) Head e) }
         ensures kept { Self.state_of self.new ≡ Self.state_of self.old }
         ensures seen { view_of self.new ≡ view_of self.old }
-        ensures wear { Wears Self.failed Self.can_fail self.old self.new (IsErrOf result (SourceFault.Store (StoreFault.Fault Fault.Device))) };
+        ensures wear { Wears Self.failed Self.can_fail Self.left self.old self.new (IsErrOf result (SourceFault.Store (StoreFault.Fault Fault.Device))) };
 
     /// The value of the ref with this whole name.
     fn ref_value(&mut self, name: &RefName) -> Result<Option<ObjectId>, SourceFault>
@@ -54,7 +54,7 @@ pub trait Repository: Commits {
         ensures refused { IfErr result (λ e. Self.is_honest → blames (view_of self.old) (Ref name.now) e) }
         ensures kept { Self.state_of self.new ≡ Self.state_of self.old }
         ensures seen { view_of self.new ≡ view_of self.old }
-        ensures wear { Wears Self.failed Self.can_fail self.old self.new (IsErrOf result (SourceFault.Store (StoreFault.Fault Fault.Device))) };
+        ensures wear { Wears Self.failed Self.can_fail Self.left self.old self.new (IsErrOf result (SourceFault.Store (StoreFault.Fault Fault.Device))) };
 
     /// The id at this path of the index.
     fn index_entry(&mut self, path: &[u8]) -> Result<Option<ObjectId>, SourceFault>
@@ -63,7 +63,7 @@ pub trait Repository: Commits {
         ensures refused { IfErr result (λ e. Self.is_honest → blames (view_of self.old) (Entry path.now) e) }
         ensures kept { Self.state_of self.new ≡ Self.state_of self.old }
         ensures seen { view_of self.new ≡ view_of self.old }
-        ensures wear { Wears Self.failed Self.can_fail self.old self.new (IsErrOf result (SourceFault.Store (StoreFault.Fault Fault.Device))) };
+        ensures wear { Wears Self.failed Self.can_fail Self.left self.old self.new (IsErrOf result (SourceFault.Store (StoreFault.Fault Fault.Device))) };
 
     /// The stored names that begin with these hex digits, of either case, sorted.
     fn by_prefix(&mut self, digits: &[u8]) -> Result<Vec<ObjectId>, SourceFault>
@@ -73,7 +73,7 @@ pub trait Repository: Commits {
         ensures refused { IfErr result (λ e. Self.is_honest → blames (view_of self.old) (Prefix digits.now) e) }
         ensures kept { Self.state_of self.new ≡ Self.state_of self.old }
         ensures seen { view_of self.new ≡ view_of self.old }
-        ensures wear { Wears Self.failed Self.can_fail self.old self.new (IsErrOf result (SourceFault.Store (StoreFault.Fault Fault.Device))) };
+        ensures wear { Wears Self.failed Self.can_fail Self.left self.old self.new (IsErrOf result (SourceFault.Store (StoreFault.Fault Fault.Device))) };
 
     /// The object with this name, or none where it is absent.
     fn find(&mut self, id: &ObjectId) -> Result<Option<Stored>, SourceFault>
@@ -82,7 +82,7 @@ pub trait Repository: Commits {
         ensures refused { IfErr result (λ e. Self.is_honest → blames (view_of self.old) (Object id.now) e) }
         ensures kept { Self.state_of self.new ≡ Self.state_of self.old }
         ensures seen { view_of self.new ≡ view_of self.old }
-        ensures wear { Wears Self.failed Self.can_fail self.old self.new (IsErrOf result (SourceFault.Store (StoreFault.Fault Fault.Device))) };
+        ensures wear { Wears Self.failed Self.can_fail Self.left self.old self.new (IsErrOf result (SourceFault.Store (StoreFault.Fault Fault.Device))) };
 
     /// What a value holds is held as long as its state stays.
     ghost follows: { (x y : Self) → Self.state_of x ≡ Self.state_of y → view_of x ≡ view_of y };

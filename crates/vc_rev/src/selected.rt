@@ -34,7 +34,7 @@ fn common_of_pairs<R: Repository>(
 
     ensures kept { R.state_of repo.new ≡ R.state_of repo.old }
     ensures seen { R.view_of repo.new ≡ R.view_of repo.old }
-    ensures wear { Wears R.failed R.can_fail repo.old repo.new (IsErrOf result (RevFault.Source (SourceFault.Store (StoreFault.Fault Fault.Device)))) }
+    ensures wear { Wears R.failed R.can_fail R.left repo.old repo.new (IsErrOf result (RevFault.Source (SourceFault.Store (StoreFault.Fault Fault.Device)))) }
 {
     let mut found = Vec::new(alloc);
     for pair in pairs {
@@ -57,7 +57,7 @@ fn selected<R: Repository>(
 
     ensures kept { R.state_of repo.new ≡ R.state_of repo.old }
     ensures seen { R.view_of repo.new ≡ R.view_of repo.old }
-    ensures wear { Wears R.failed R.can_fail repo.old repo.new (IsErrOf result (RevFault.Source (SourceFault.Store (StoreFault.Fault Fault.Device)))) }
+    ensures wear { Wears R.failed R.can_fail R.left repo.old repo.new (IsErrOf result (RevFault.Source (SourceFault.Store (StoreFault.Fault Fault.Device)))) }
 {
     let mut exclude = common_of_pairs(alloc, repo, &roots.apart)?;
     exclude.extend_from_slice(&roots.exclude)?;
@@ -85,7 +85,7 @@ pub fn resolve_set<R: Repository>(
 
     ensures kept { R.state_of repo.new ≡ R.state_of repo.old }
     ensures seen { R.view_of repo.new ≡ R.view_of repo.old }
-    ensures wear { Wears R.failed R.can_fail repo.old repo.new (IsErrOf result (RevFault.Source (SourceFault.Store (StoreFault.Fault Fault.Device)))) }
+    ensures wear { Wears R.failed R.can_fail R.left repo.old repo.new (IsErrOf result (RevFault.Source (SourceFault.Store (StoreFault.Fault Fault.Device)))) }
 {
     let roots = set_roots(alloc, repo, &set.terms)?;
     selected(alloc, repo, &roots)

@@ -29,7 +29,7 @@ pub(crate) fn peel<R: Repository>(
 
     ensures kept { R.state_of repo.new ≡ R.state_of repo.old }
     ensures seen { R.view_of repo.new ≡ R.view_of repo.old }
-    ensures wear { Wears R.failed R.can_fail repo.old repo.new (IsErrOf result (RevFault.Source (SourceFault.Store (StoreFault.Fault Fault.Device)))) }
+    ensures wear { Wears R.failed R.can_fail R.left repo.old repo.new (IsErrOf result (RevFault.Source (SourceFault.Store (StoreFault.Fault Fault.Device)))) }
 {
     let mut seen = IndexSet::new(alloc);
     seen.insert(id)?;
@@ -60,7 +60,7 @@ pub(crate) fn pick_from<R: Repository>(
 
     ensures kept { R.state_of repo.new ≡ R.state_of repo.old }
     ensures seen { R.view_of repo.new ≡ R.view_of repo.old }
-    ensures wear { Wears R.failed R.can_fail repo.old repo.new (IsErrOf result (RevFault.Source (SourceFault.Store (StoreFault.Fault Fault.Device)))) }
+    ensures wear { Wears R.failed R.can_fail R.left repo.old repo.new (IsErrOf result (RevFault.Source (SourceFault.Store (StoreFault.Fault Fault.Device)))) }
 {
     let (at, object) = peel(alloc, repo, id)?;
     pick(alloc, step, at, &object)
@@ -78,7 +78,7 @@ fn ancestor<R: Repository>(
 
     ensures kept { R.state_of repo.new ≡ R.state_of repo.old }
     ensures seen { R.view_of repo.new ≡ R.view_of repo.old }
-    ensures wear { Wears R.failed R.can_fail repo.old repo.new (IsErrOf result (RevFault.Source (SourceFault.Store (StoreFault.Fault Fault.Device)))) }
+    ensures wear { Wears R.failed R.can_fail R.left repo.old repo.new (IsErrOf result (RevFault.Source (SourceFault.Store (StoreFault.Fault Fault.Device)))) }
 {
     if n == 0 {
         return pick_from(alloc, repo, Step::Parent(0), id);
@@ -99,7 +99,7 @@ fn tag_itself<R: Repository>(repo: &mut R, id: ObjectId) -> Result<ObjectId, Rev
 
     ensures kept { R.state_of repo.new ≡ R.state_of repo.old }
     ensures seen { R.view_of repo.new ≡ R.view_of repo.old }
-    ensures wear { Wears R.failed R.can_fail repo.old repo.new (IsErrOf result (RevFault.Source (SourceFault.Store (StoreFault.Fault Fault.Device)))) }
+    ensures wear { Wears R.failed R.can_fail R.left repo.old repo.new (IsErrOf result (RevFault.Source (SourceFault.Store (StoreFault.Fault Fault.Device)))) }
 {
     let Some(object) = repo.find(&id)? else {
         return Err(RevFault::Refused(Refusal::Unknown));
@@ -122,7 +122,7 @@ fn peel_to<R: Repository>(
 
     ensures kept { R.state_of repo.new ≡ R.state_of repo.old }
     ensures seen { R.view_of repo.new ≡ R.view_of repo.old }
-    ensures wear { Wears R.failed R.can_fail repo.old repo.new (IsErrOf result (RevFault.Source (SourceFault.Store (StoreFault.Fault Fault.Device)))) }
+    ensures wear { Wears R.failed R.can_fail R.left repo.old repo.new (IsErrOf result (RevFault.Source (SourceFault.Store (StoreFault.Fault Fault.Device)))) }
 {
     match kind {
         Kind::Tag => tag_itself(repo, id),
@@ -144,7 +144,7 @@ fn step_value<R: Repository>(
 
     ensures kept { R.state_of repo.new ≡ R.state_of repo.old }
     ensures seen { R.view_of repo.new ≡ R.view_of repo.old }
-    ensures wear { Wears R.failed R.can_fail repo.old repo.new (IsErrOf result (RevFault.Source (SourceFault.Store (StoreFault.Fault Fault.Device)))) }
+    ensures wear { Wears R.failed R.can_fail R.left repo.old repo.new (IsErrOf result (RevFault.Source (SourceFault.Store (StoreFault.Fault Fault.Device)))) }
 {
     match step {
         Step::Parent(n) => pick_from(alloc, repo, Step::Parent(n), id),
@@ -166,7 +166,7 @@ pub(crate) fn steps_value<R: Repository>(
 
     ensures kept { R.state_of repo.new ≡ R.state_of repo.old }
     ensures seen { R.view_of repo.new ≡ R.view_of repo.old }
-    ensures wear { Wears R.failed R.can_fail repo.old repo.new (IsErrOf result (RevFault.Source (SourceFault.Store (StoreFault.Fault Fault.Device)))) }
+    ensures wear { Wears R.failed R.can_fail R.left repo.old repo.new (IsErrOf result (RevFault.Source (SourceFault.Store (StoreFault.Fault Fault.Device)))) }
 {
     let mut at = id;
     'steps: for token in steps {

@@ -44,7 +44,7 @@ fn commit_value<R: Repository>(
 
     ensures kept { R.state_of repo.new ≡ R.state_of repo.old }
     ensures seen { R.view_of repo.new ≡ R.view_of repo.old }
-    ensures wear { Wears R.failed R.can_fail repo.old repo.new (IsErrOf result (RevFault.Source (SourceFault.Store (StoreFault.Fault Fault.Device)))) }
+    ensures wear { Wears R.failed R.can_fail R.left repo.old repo.new (IsErrOf result (RevFault.Source (SourceFault.Store (StoreFault.Fault Fault.Device)))) }
 {
     let id = rev_value(alloc, repo, rev)?;
     let (at, object) = peel(alloc, repo, id)?;
@@ -77,7 +77,7 @@ fn single<R: Repository>(
 
     ensures kept { R.state_of repo.new ≡ R.state_of repo.old }
     ensures seen { R.view_of repo.new ≡ R.view_of repo.old }
-    ensures wear { Wears R.failed R.can_fail repo.old repo.new (IsErrOf result (RevFault.Source (SourceFault.Store (StoreFault.Fault Fault.Device)))) }
+    ensures wear { Wears R.failed R.can_fail R.left repo.old repo.new (IsErrOf result (RevFault.Source (SourceFault.Store (StoreFault.Fault Fault.Device)))) }
 {
     let (id, parents) = commit_value(alloc, repo, rev)?;
     Ok(used(alloc, way, id, parents)?)
@@ -95,7 +95,7 @@ fn both<R: Repository>(
 
     ensures kept { R.state_of repo.new ≡ R.state_of repo.old }
     ensures seen { R.view_of repo.new ≡ R.view_of repo.old }
-    ensures wear { Wears R.failed R.can_fail repo.old repo.new (IsErrOf result (RevFault.Source (SourceFault.Store (StoreFault.Fault Fault.Device)))) }
+    ensures wear { Wears R.failed R.can_fail R.left repo.old repo.new (IsErrOf result (RevFault.Source (SourceFault.Store (StoreFault.Fault Fault.Device)))) }
 {
     let (first, _) = commit_value(alloc, repo, first)?;
     let (second, _) = commit_value(alloc, repo, second)?;
@@ -126,7 +126,7 @@ fn ends_value<R: Repository>(
 
     ensures kept { R.state_of repo.new ≡ R.state_of repo.old }
     ensures seen { R.view_of repo.new ≡ R.view_of repo.old }
-    ensures wear { Wears R.failed R.can_fail repo.old repo.new (IsErrOf result (RevFault.Source (SourceFault.Store (StoreFault.Fault Fault.Device)))) }
+    ensures wear { Wears R.failed R.can_fail R.left repo.old repo.new (IsErrOf result (RevFault.Source (SourceFault.Store (StoreFault.Fault Fault.Device)))) }
 {
     match ends {
         Ends::Both(first, second) => both(alloc, repo, first, second),
@@ -163,7 +163,7 @@ fn since<R: Repository>(
 
     ensures kept { R.state_of repo.new ≡ R.state_of repo.old }
     ensures seen { R.view_of repo.new ≡ R.view_of repo.old }
-    ensures wear { Wears R.failed R.can_fail repo.old repo.new (IsErrOf result (RevFault.Source (SourceFault.Store (StoreFault.Fault Fault.Device)))) }
+    ensures wear { Wears R.failed R.can_fail R.left repo.old repo.new (IsErrOf result (RevFault.Source (SourceFault.Store (StoreFault.Fault Fault.Device)))) }
 {
     let parent = nth_of(alloc, rev, n)?;
     let (first, second) = both(alloc, repo, &parent, rev)?;
@@ -177,7 +177,7 @@ fn range<R: Repository>(alloc: Global, repo: &mut R, ends: &Ends<'_>) -> Result<
 
     ensures kept { R.state_of repo.new ≡ R.state_of repo.old }
     ensures seen { R.view_of repo.new ≡ R.view_of repo.old }
-    ensures wear { Wears R.failed R.can_fail repo.old repo.new (IsErrOf result (RevFault.Source (SourceFault.Store (StoreFault.Fault Fault.Device)))) }
+    ensures wear { Wears R.failed R.can_fail R.left repo.old repo.new (IsErrOf result (RevFault.Source (SourceFault.Store (StoreFault.Fault Fault.Device)))) }
 {
     let (first, second) = ends_value(alloc, repo, ends)?;
     Ok(Roots::between(alloc, first, second)?)
@@ -190,7 +190,7 @@ fn symmetric<R: Repository>(alloc: Global, repo: &mut R, ends: &Ends<'_>) -> Res
 
     ensures kept { R.state_of repo.new ≡ R.state_of repo.old }
     ensures seen { R.view_of repo.new ≡ R.view_of repo.old }
-    ensures wear { Wears R.failed R.can_fail repo.old repo.new (IsErrOf result (RevFault.Source (SourceFault.Store (StoreFault.Fault Fault.Device)))) }
+    ensures wear { Wears R.failed R.can_fail R.left repo.old repo.new (IsErrOf result (RevFault.Source (SourceFault.Store (StoreFault.Fault Fault.Device)))) }
 {
     let (first, second) = ends_value(alloc, repo, ends)?;
     Ok(Roots::apart(alloc, first, second)?)
@@ -207,7 +207,7 @@ fn term_roots<R: Repository>(
 
     ensures kept { R.state_of repo.new ≡ R.state_of repo.old }
     ensures seen { R.view_of repo.new ≡ R.view_of repo.old }
-    ensures wear { Wears R.failed R.can_fail repo.old repo.new (IsErrOf result (RevFault.Source (SourceFault.Store (StoreFault.Fault Fault.Device)))) }
+    ensures wear { Wears R.failed R.can_fail R.left repo.old repo.new (IsErrOf result (RevFault.Source (SourceFault.Store (StoreFault.Fault Fault.Device)))) }
 {
     match term {
         Term::Include(rev) => single(alloc, repo, rev, Use::Included),
@@ -232,7 +232,7 @@ pub(crate) fn set_roots<R: Repository>(
 
     ensures kept { R.state_of repo.new ≡ R.state_of repo.old }
     ensures seen { R.view_of repo.new ≡ R.view_of repo.old }
-    ensures wear { Wears R.failed R.can_fail repo.old repo.new (IsErrOf result (RevFault.Source (SourceFault.Store (StoreFault.Fault Fault.Device)))) }
+    ensures wear { Wears R.failed R.can_fail R.left repo.old repo.new (IsErrOf result (RevFault.Source (SourceFault.Store (StoreFault.Fault Fault.Device)))) }
 {
     let mut roots = Roots::none(alloc);
     'terms: for term in terms {

@@ -62,7 +62,7 @@ fn child<R: Repository>(
 
     ensures kept { R.state_of repo.new ≡ R.state_of repo.old }
     ensures seen { R.view_of repo.new ≡ R.view_of repo.old }
-    ensures wear { Wears R.failed R.can_fail repo.old repo.new (IsErrOf result (RevFault.Source (SourceFault.Store (StoreFault.Fault Fault.Device)))) }
+    ensures wear { Wears R.failed R.can_fail R.left repo.old repo.new (IsErrOf result (RevFault.Source (SourceFault.Store (StoreFault.Fault Fault.Device)))) }
 {
     if !is_folder(mode) {
         return Err(RevFault::Refused(Refusal::NoSuchPath));
@@ -87,7 +87,7 @@ fn entry_value<R: Repository>(
 
     ensures kept { R.state_of repo.new ≡ R.state_of repo.old }
     ensures seen { R.view_of repo.new ≡ R.view_of repo.old }
-    ensures wear { Wears R.failed R.can_fail repo.old repo.new (IsErrOf result (RevFault.Source (SourceFault.Store (StoreFault.Fault Fault.Device)))) }
+    ensures wear { Wears R.failed R.can_fail R.left repo.old repo.new (IsErrOf result (RevFault.Source (SourceFault.Store (StoreFault.Fault Fault.Device)))) }
 {
     let mut mode = Mode::Tree;
     let mut at = tree;
@@ -111,7 +111,7 @@ fn path_value<R: Repository>(
 
     ensures kept { R.state_of repo.new ≡ R.state_of repo.old }
     ensures seen { R.view_of repo.new ≡ R.view_of repo.old }
-    ensures wear { Wears R.failed R.can_fail repo.old repo.new (IsErrOf result (RevFault.Source (SourceFault.Store (StoreFault.Fault Fault.Device)))) }
+    ensures wear { Wears R.failed R.can_fail R.left repo.old repo.new (IsErrOf result (RevFault.Source (SourceFault.Store (StoreFault.Fault Fault.Device)))) }
 {
     let tree = pick_from(alloc, repo, Step::PeelTo(Kind::Tree), id)?;
     let parts = components(alloc, path)?;
@@ -129,7 +129,7 @@ pub(crate) fn rev_value<R: Repository>(
 
     ensures kept { R.state_of repo.new ≡ R.state_of repo.old }
     ensures seen { R.view_of repo.new ≡ R.view_of repo.old }
-    ensures wear { Wears R.failed R.can_fail repo.old repo.new (IsErrOf result (RevFault.Source (SourceFault.Store (StoreFault.Fault Fault.Device)))) }
+    ensures wear { Wears R.failed R.can_fail R.left repo.old repo.new (IsErrOf result (RevFault.Source (SourceFault.Store (StoreFault.Fault Fault.Device)))) }
 {
     let id = name_value(alloc, repo, rev.base.text)?;
     steps_value(alloc, repo, &rev.steps, id)
@@ -142,7 +142,7 @@ fn index_value<R: Repository>(repo: &mut R, path: &[u8]) -> Result<ObjectId, Rev
 
     ensures kept { R.state_of repo.new ≡ R.state_of repo.old }
     ensures seen { R.view_of repo.new ≡ R.view_of repo.old }
-    ensures wear { Wears R.failed R.can_fail repo.old repo.new (IsErrOf result (RevFault.Source (SourceFault.Store (StoreFault.Fault Fault.Device)))) }
+    ensures wear { Wears R.failed R.can_fail R.left repo.old repo.new (IsErrOf result (RevFault.Source (SourceFault.Store (StoreFault.Fault Fault.Device)))) }
 {
     let found = repo.index_entry(path)?;
     match found {
@@ -163,7 +163,7 @@ fn in_tree<R: Repository>(
 
     ensures kept { R.state_of repo.new ≡ R.state_of repo.old }
     ensures seen { R.view_of repo.new ≡ R.view_of repo.old }
-    ensures wear { Wears R.failed R.can_fail repo.old repo.new (IsErrOf result (RevFault.Source (SourceFault.Store (StoreFault.Fault Fault.Device)))) }
+    ensures wear { Wears R.failed R.can_fail R.left repo.old repo.new (IsErrOf result (RevFault.Source (SourceFault.Store (StoreFault.Fault Fault.Device)))) }
 {
     let id = rev_value(alloc, repo, rev)?;
     path_value(alloc, repo, id, path)
@@ -180,7 +180,7 @@ fn expr_value<R: Repository>(
 
     ensures kept { R.state_of repo.new ≡ R.state_of repo.old }
     ensures seen { R.view_of repo.new ≡ R.view_of repo.old }
-    ensures wear { Wears R.failed R.can_fail repo.old repo.new (IsErrOf result (RevFault.Source (SourceFault.Store (StoreFault.Fault Fault.Device)))) }
+    ensures wear { Wears R.failed R.can_fail R.left repo.old repo.new (IsErrOf result (RevFault.Source (SourceFault.Store (StoreFault.Fault Fault.Device)))) }
 {
     match expr {
         Expr::Object(rev) => rev_value(alloc, repo, rev),
@@ -207,7 +207,7 @@ pub fn resolve<R: Repository>(
 
     ensures kept { R.state_of repo.new ≡ R.state_of repo.old }
     ensures seen { R.view_of repo.new ≡ R.view_of repo.old }
-    ensures wear { Wears R.failed R.can_fail repo.old repo.new (IsErrOf result (RevFault.Source (SourceFault.Store (StoreFault.Fault Fault.Device)))) }
+    ensures wear { Wears R.failed R.can_fail R.left repo.old repo.new (IsErrOf result (RevFault.Source (SourceFault.Store (StoreFault.Fault Fault.Device)))) }
 {
     expr_value(alloc, repo, expr)
 }

@@ -1,5 +1,7 @@
--- All that the machine asks of its rules, of the layers' relations.
-use Rattle.vc_rules.specs.Laws.{GitLaws}
+-- All that the machine asks of its rules, of the layers' relations; and the rules that these make.
+use Rattle.vc_model.specs.Rules.{Rules}
+use Rattle.vc_rules.specs.Git.{git}
+use Rattle.vc_rules.specs.Laws.{GitLaws, rules_of}
 use Rattle.vc_rules.proofs.FaultLaws.{bodies_have_one_fault}
 use Rattle.vc_rules.proofs.TreeLaws.{trees_give_one, given_trees_are_closed}
 use Rattle.vc_rules.proofs.IndexTreeLaws.{index_trees_give_one, index_trees_are_named, index_trees_are_formed, index_trees_are_closed}
@@ -16,3 +18,7 @@ git_laws = record {
   trees_closed = index_trees_are_closed;
   one_value = expressions_have_one_value;
 }
+
+-- The rules of the machine at Git's format. They are defined here and not in specs/, which may not name a proof of its own crate.
+abbrev pub git_rules : Rules git
+git_rules = rules_of git_laws

@@ -57,7 +57,7 @@ pub record GitLaws : Type 0 where
   pub one_value : ExpressionsHaveOneValue
 
 -- The rules of the machine at Git's format: the layers' own relations. What the machine asks of them is handed in, since a file of
--- specs may not name a proof of its own crate: crates above hand in `git_laws` of proofs/GitLaws.
+-- specs may not name a proof of its own crate: `git_rules` of proofs/GitLaws are these rules.
 abbrev pub rules_of : GitLaws → Rules git
 rules_of laws = record {
   fault = FaultGives;

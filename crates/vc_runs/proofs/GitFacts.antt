@@ -44,7 +44,7 @@ use Rattle.vc_rules.specs.Git.{git, stored_of, machine_entry}
 use Rattle.vc_rules.specs.Trees.{TreesGive, HoldsTrees}
 use Rattle.vc_rules.specs.Values.{DenotesAt}
 use Rattle.vc_runs.specs.Names.{path, plain_file, content, first_file, first_file_id, first_entries, first_tree, first_tree_id, author, message, first_commit, first_commit_id}
-use Rattle.vc_runs.specs.Wire.{git_rules}
+use Rattle.vc_rules.proofs.GitLaws.{git_rules}
 use Rattle.vc_model.specs.Rules.{Rules}
 use Rattle.vc_model.specs.Wire.{Wire}
 use Rattle.vc_runs.specs.Witness.{main}

@@ -1,14 +1,10 @@
 -- The wire of a world at Git's format: its rules are the layers' own relations.
 use Rattle.std.specs.Prelude.{◌≡◌, ℕ, Bool, IsTrue, List}
 use Rattle.vc_model.specs.Message.{Message, IsNamedMessage}
-use Rattle.vc_model.specs.Rules.{Rules, IsFormedMessage}
+use Rattle.vc_model.specs.Rules.{IsFormedMessage}
 use Rattle.vc_model.specs.Wire.{Wire, IsUnreadable}
 use Rattle.vc_rules.specs.Git.{git}
-use Rattle.vc_rules.specs.Laws.{rules_of}
-use Rattle.vc_rules.proofs.GitLaws.{git_laws}
-
-abbrev pub git_rules : Rules git
-git_rules = rules_of git_laws
+use Rattle.vc_rules.proofs.GitLaws.{git_rules}
 
 -- What a wire has beside its rules: which bytes are which message, and how others are refused. By tests, so that a law may range
 -- over them.

@@ -22,7 +22,7 @@ fn names_under<F: Files>(
     ensures names { F.honest → IfOk result (λ names. names.items ≡ filter_map name_in (paths_under (F.content files.old) prefix.now)) }
     ensures fault { IfErr result IsFault }
     ensures same { F.content files.new ≡ F.content files.old }
-    ensures wear { Wears F.failed F.can_fail files.old files.new (IsErrOf result (StoreFault.Fault Fault.Device)) }
+    ensures wear { Wears F.failed F.can_fail F.left files.old files.new (IsErrOf result (StoreFault.Fault Fault.Device)) }
 {
     let paths = files.list(alloc, prefix)?;
     let mut names = Vec::new(alloc);
@@ -43,7 +43,7 @@ pub fn names<F: Files>(files: &mut F, alloc: Global) -> Result<Vec<ObjectId>, St
     ensures complete { F.honest → IfOk result (λ names. (id : ObjectId) → IsSome (objects (F.content files.old) id) → Contains names.items id) }
     ensures fault { IfErr result IsFault }
     ensures same { F.content files.new ≡ F.content files.old }
-    ensures wear { Wears F.failed F.can_fail files.old files.new (IsErrOf result (StoreFault.Fault Fault.Device)) }
+    ensures wear { Wears F.failed F.can_fail F.left files.old files.new (IsErrOf result (StoreFault.Fault Fault.Device)) }
 {
     let names = names_under(files, alloc, "objects/")?;
     Ok(names)
@@ -62,7 +62,7 @@ pub fn by_prefix<F: Files>(
     ensures exact { F.honest → IfOk result (λ names. (id : ObjectId) → Contains names.items id ↔ (HasFile (F.content files.old) id × (has_digits digits.now id ≡ true))) }
     ensures fault { IfErr result IsFault }
     ensures same { F.content files.new ≡ F.content files.old }
-    ensures wear { Wears F.failed F.can_fail files.old files.new (IsErrOf result (StoreFault.Fault Fault.Device)) }
+    ensures wear { Wears F.failed F.can_fail F.left files.old files.new (IsErrOf result (StoreFault.Fault Fault.Device)) }
 {
     let Some(prefix) = prefix_path(alloc, digits)? else {
         return Ok(Vec::new(alloc));

@@ -34,7 +34,7 @@ fn read_file<F: Files>(
     ensures found { F.honest → IfOk result (λ bytes. stored_in id.now (option_map (λ b. b.items) bytes) ≡ stored (F.content files.old) id.now) }
     ensures fault { IfErr result IsFault }
     ensures same { F.content files.new ≡ F.content files.old }
-    ensures wear { Wears F.failed F.can_fail files.old files.new (IsErrOf result (StoreFault.Fault Fault.Device)) }
+    ensures wear { Wears F.failed F.can_fail F.left files.old files.new (IsErrOf result (StoreFault.Fault Fault.Device)) }
 {
     let path = object_path(alloc, id)?;
     let bytes = files.get(alloc, path.as_str())?;
@@ -52,7 +52,7 @@ pub fn get<F: Files>(files: &mut F, alloc: Global, id: &ObjectId) -> Result<Stor
     ensures none { F.honest → IfErr result (λ e. IsFault e ⊎ (objects (F.content files.old) id.now ≡ None)) }
     ensures of_name { IfErr result (IsOfName id.now) }
     ensures same { F.content files.new ≡ F.content files.old }
-    ensures wear { Wears F.failed F.can_fail files.old files.new (IsErrOf result (StoreFault.Fault Fault.Device)) }
+    ensures wear { Wears F.failed F.can_fail F.left files.old files.new (IsErrOf result (StoreFault.Fault Fault.Device)) }
 {
     let id = &id.named();
     let Some(bytes) = read_file(files, alloc, id)? else {
@@ -76,7 +76,7 @@ pub fn find<F: Files>(
     ensures damaged { F.honest → IsDamaged (F.content files.old) id.now → IsErrAnd result (λ e. IsFault e ⊎ (e ≡ StoreFault.Damaged id.now)) }
     ensures refused { IfErr result (IsRefused id.now (F.honest → IsDamaged (F.content files.old) id.now)) }
     ensures same { F.content files.new ≡ F.content files.old }
-    ensures wear { Wears F.failed F.can_fail files.old files.new (IsErrOf result (StoreFault.Fault Fault.Device)) }
+    ensures wear { Wears F.failed F.can_fail F.left files.old files.new (IsErrOf result (StoreFault.Fault Fault.Device)) }
 {
     match get(files, alloc, id) {
         Ok(object) => Ok(Some(object)),
@@ -93,7 +93,7 @@ pub fn has<F: Files>(files: &mut F, alloc: Global, id: &ObjectId) -> Result<bool
     ensures refused { F.honest → IfErr result (λ e. IsFault e ⊎ ((e ≡ StoreFault.Damaged id.now) × IsDamaged (F.content files.old) id.now)) }
     ensures of_name { IfErr result (λ e. IsFault e ⊎ (e ≡ StoreFault.Damaged id.now)) }
     ensures same { F.content files.new ≡ F.content files.old }
-    ensures wear { Wears F.failed F.can_fail files.old files.new (IsErrOf result (StoreFault.Fault Fault.Device)) }
+    ensures wear { Wears F.failed F.can_fail F.left files.old files.new (IsErrOf result (StoreFault.Fault Fault.Device)) }
 {
     let id = &id.named();
     let Some(bytes) = read_file(files, alloc, id)? else {

@@ -1,7 +1,7 @@
 // A store as a view of files.
 ghost use Rattle.std.specs.Prelude.{◌≡◌, ◌↔◌, ◌⊎◌, Some, None, Contains, IfOk, IfErr, IsErr, IsErrAnd, IsOk, OnOk, OnErr, IsErrOf, IsSome, is_ok, true, false, map, filter, option_map, codes};
 ghost use Rattle.vc_files.specs.FileMap.{SameOutside};
-ghost use Rattle.vc_files.specs.Failures.{Wears};
+ghost use Rattle.vc_files.specs.Failures.{Wears, Writes};
 ghost use Rattle.vc_files.specs.Outcome.{AfterSome};
 ghost use Rattle.vc_object.specs.Decoding.{stored_object};
 ghost use Rattle.vc_object.specs.Object.{object_name, IsObject};
@@ -54,7 +54,7 @@ impl<'a, F: Files> Store<'a, F> {
         ensures none { F.honest → IfErr result (λ e. IsFault e ⊎ (objects (F.content self.old.files.now) id.now ≡ None)) }
         ensures of_name { IfErr result (IsOfName id.now) }
         ensures same { F.content self.new.files.now ≡ F.content self.old.files.now }
-        ensures wear { Wears F.failed F.can_fail self.old.files.now self.new.files.now (IsErrOf result (StoreFault.Fault Fault.Device)) }
+        ensures wear { Wears F.failed F.can_fail F.left self.old.files.now self.new.files.now (IsErrOf result (StoreFault.Fault Fault.Device)) }
     {
         reading::get(self.files, self.alloc, id)
     }
@@ -66,7 +66,7 @@ impl<'a, F: Files> Store<'a, F> {
         ensures damaged { F.honest → IsDamaged (F.content self.old.files.now) id.now → IsErrAnd result (λ e. IsFault e ⊎ (e ≡ StoreFault.Damaged id.now)) }
         ensures refused { IfErr result (IsRefused id.now (F.honest → IsDamaged (F.content self.old.files.now) id.now)) }
         ensures same { F.content self.new.files.now ≡ F.content self.old.files.now }
-        ensures wear { Wears F.failed F.can_fail self.old.files.now self.new.files.now (IsErrOf result (StoreFault.Fault Fault.Device)) }
+        ensures wear { Wears F.failed F.can_fail F.left self.old.files.now self.new.files.now (IsErrOf result (StoreFault.Fault Fault.Device)) }
     {
         reading::find(self.files, self.alloc, id)
     }
@@ -80,7 +80,7 @@ impl<'a, F: Files> Store<'a, F> {
         ensures refused { F.honest → IfErr result (λ e. IsFault e ⊎ ((e ≡ StoreFault.Damaged id.now) × IsDamaged (F.content self.old.files.now) id.now)) }
         ensures of_name { IfErr result (λ e. IsFault e ⊎ (e ≡ StoreFault.Damaged id.now)) }
         ensures same { F.content self.new.files.now ≡ F.content self.old.files.now }
-        ensures wear { Wears F.failed F.can_fail self.old.files.now self.new.files.now (IsErrOf result (StoreFault.Fault Fault.Device)) }
+        ensures wear { Wears F.failed F.can_fail F.left self.old.files.now self.new.files.now (IsErrOf result (StoreFault.Fault Fault.Device)) }
     {
         reading::has(self.files, self.alloc, id)
     }
@@ -98,7 +98,7 @@ impl<'a, F: Files> Store<'a, F> {
         ensures files { F.honest → OnOk result (F.content self.new.files.now ≡ with_file (F.content self.old.files.now) (stored_object kind body.now)) }
         ensures outside { F.honest → SameOutside (codes "objects/") (F.content self.old.files.now) (F.content self.new.files.now) }
         ensures err { F.honest → OnErr result (F.content self.new.files.now ≡ F.content self.old.files.now) }
-        ensures wear { Wears F.failed F.can_fail self.old.files.now self.new.files.now (IsErrOf result (StoreFault.Fault Fault.Device)) }
+        ensures wear { Writes F.honest F.content F.failed F.can_fail F.left self.old.files.now self.new.files.now (IsErrOf result (StoreFault.Fault Fault.Device)) }
     {
         writing::put(self.files, self.alloc, kind, body)
     }
@@ -113,7 +113,7 @@ impl<'a, F: Files> Store<'a, F> {
         ensures outside { F.honest → SameOutside (codes "objects/") (F.content self.old.files.now) (F.content self.new.files.now) }
         ensures some { F.honest → AfterSome with_objects (objects (F.content self.old.files.now)) (map (λ s. stored_object s.kind s.body.items) all.now) (objects (F.content self.new.files.now)) }
         ensures some_files { F.honest → AfterSome with_files (F.content self.old.files.now) (map (λ s. stored_object s.kind s.body.items) all.now) (F.content self.new.files.now) }
-        ensures wear { Wears F.failed F.can_fail self.old.files.now self.new.files.now (IsErrOf result (StoreFault.Fault Fault.Device)) }
+        ensures wear { Writes F.honest F.content F.failed F.can_fail F.left self.old.files.now self.new.files.now (IsErrOf result (StoreFault.Fault Fault.Device)) }
     {
         writing::put_all(self.files, self.alloc, all)
     }
@@ -128,7 +128,7 @@ impl<'a, F: Files> Store<'a, F> {
         ensures complete { F.honest → IfOk result (λ names. (id : ObjectId) → IsSome (objects (F.content self.old.files.now) id) → Contains names.items id) }
         ensures fault { IfErr result IsFault }
         ensures same { F.content self.new.files.now ≡ F.content self.old.files.now }
-        ensures wear { Wears F.failed F.can_fail self.old.files.now self.new.files.now (IsErrOf result (StoreFault.Fault Fault.Device)) }
+        ensures wear { Wears F.failed F.can_fail F.left self.old.files.now self.new.files.now (IsErrOf result (StoreFault.Fault Fault.Device)) }
     {
         listing::names(self.files, self.alloc)
     }
@@ -141,7 +141,7 @@ impl<'a, F: Files> Store<'a, F> {
         ensures exact { F.honest → IfOk result (λ names. (id : ObjectId) → Contains names.items id ↔ (HasFile (F.content self.old.files.now) id × (has_digits digits.now id ≡ true))) }
         ensures fault { IfErr result IsFault }
         ensures same { F.content self.new.files.now ≡ F.content self.old.files.now }
-        ensures wear { Wears F.failed F.can_fail self.old.files.now self.new.files.now (IsErrOf result (StoreFault.Fault Fault.Device)) }
+        ensures wear { Wears F.failed F.can_fail F.left self.old.files.now self.new.files.now (IsErrOf result (StoreFault.Fault Fault.Device)) }
     {
         listing::by_prefix(self.files, self.alloc, digits)
     }

@@ -1,7 +1,7 @@
 // Storing objects.
 ghost use Rattle.std.specs.Prelude.{◌≡◌, IfOk, IfErr, IsOk, IsErr, OnOk, OnErr, IsErrOf, map, codes};
 ghost use Rattle.vc_files.specs.FileMap.{SameOutside};
-ghost use Rattle.vc_files.specs.Failures.{Wears};
+ghost use Rattle.vc_files.specs.Failures.{Writes};
 ghost use Rattle.vc_files.specs.Outcome.{AfterSome};
 ghost use Rattle.vc_object.specs.Decoding.{stored_object};
 ghost use Rattle.vc_object.specs.Object.{object_name, IsObject};
@@ -36,7 +36,7 @@ pub fn put<F: Files>(
     ensures files { F.honest → OnOk result (F.content files.new ≡ with_file (F.content files.old) (stored_object kind body.now)) }
     ensures outside { F.honest → SameOutside (codes "objects/") (F.content files.old) (F.content files.new) }
     ensures err { F.honest → OnErr result (F.content files.new ≡ F.content files.old) }
-    ensures wear { Wears F.failed F.can_fail files.old files.new (IsErrOf result (StoreFault.Fault Fault.Device)) }
+    ensures wear { Writes F.honest F.content F.failed F.can_fail F.left files.old files.new (IsErrOf result (StoreFault.Fault Fault.Device)) }
 {
     let object = vc_object::check(kind, body)?;
     let id = vc_object::name_of(kind, body);
@@ -57,7 +57,7 @@ pub fn put_all<F: Files>(files: &mut F, alloc: Global, all: &[Stored]) -> Result
     ensures outside { F.honest → SameOutside (codes "objects/") (F.content files.old) (F.content files.new) }
     ensures some { F.honest → AfterSome with_objects (objects (F.content files.old)) (map (λ s. stored_object s.kind s.body.items) all.now) (objects (F.content files.new)) }
     ensures some_files { F.honest → AfterSome with_files (F.content files.old) (map (λ s. stored_object s.kind s.body.items) all.now) (F.content files.new) }
-    ensures wear { Wears F.failed F.can_fail files.old files.new (IsErrOf result (StoreFault.Fault Fault.Device)) }
+    ensures wear { Writes F.honest F.content F.failed F.can_fail F.left files.old files.new (IsErrOf result (StoreFault.Fault Fault.Device)) }
 {
     for object in all {
         put(files, alloc, object.kind, &object.body)?;

@@ -7,7 +7,7 @@ use Rattle.vc_base.proofs.ancestry.is_ancestor.Given as goal
 abbrev pub invariant-reading : goal.invariant-reading
 invariant-reading g l = record {
   kept : g.C.Objects.state_of l.commits ≡ g.C.Objects.state_of l.initial.commits;
-  wear : Wears g.C.Objects.failed g.C.Objects.can_fail l.initial.commits l.commits ⊥;
+  wear : Wears g.C.Objects.failed g.C.Objects.can_fail g.C.Objects.left l.initial.commits l.commits ⊥;
   meets : g.C.Objects.is_honest → Meets (g.C.Objects.objects (g.C.Objects.state_of l.initial.commits)) (l.b ∷ []) l.walk.met.keys (map (λ v. v.items) l.walk.parents.items) l.walk.other;
   unmet : g.C.Objects.is_honest → l.walk.other ≡ None → (k : ℕ) (d : Id) → k < length (map (λ v. v.items) l.walk.parents.items) → get_or l.walk.met.keys k d ≢ l.a;
 }

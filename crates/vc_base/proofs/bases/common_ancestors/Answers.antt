@@ -1,4 +1,4 @@
-use Rattle.std.proofs.Common.{◌≡◌, [], ◌∷◌, take, length, map, refl, arith}
+use Rattle.std.proofs.Common.{[], ◌∷◌, map, refl, arith}
 use Rattle.vc_base.proofs.GatheredLemmas.{same-common}
 use Rattle.vc_object.specs.declared.id.ObjectId.{ObjectId}
 use Rattle.vc_base.proofs.bases.common_ancestors.Goals as goal

@@ -1,4 +1,4 @@
-use Rattle.std.proofs.Common.{◌≡◌, [], Contains, Result, Ok}
+use Rattle.std.proofs.Common.{◌≡◌, [], Result, Ok}
 use Rattle.indexmap.specs.IndexSet.{IndexSet, IsFromIterResult, insert_all}
 use Rattle.std.proofs.lemmas.Iterator.Adapters.{fact_from_collect}
 use Rattle.std.proofs.lemmas.Iterator.Consumers.{YieldsList-from_copied, YieldsList-from_rest}

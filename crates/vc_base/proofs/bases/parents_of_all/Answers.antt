@@ -1,6 +1,5 @@
 use Rattle.std.proofs.Common.{◌≡◌, [], take, ap, ◌∙◌, refl, arith, get_or, length, map}
 use Rattle.std.proofs.Math.Seq.{take-length}
-use Rattle.vc_graph.specs.Graph.{LinksTo}
 use Rattle.vc_object.proofs.IdLemmas.{id_eq_equiv, id_eq-same}
 use Rattle.vc_object.specs.ObjectId.{id_eq}
 use Rattle.vc_object.specs.declared.id.ObjectId.{ObjectId}

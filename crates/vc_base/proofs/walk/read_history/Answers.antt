@@ -1,7 +1,7 @@
-use Rattle.std.proofs.Common.{◌∙◌, refl, map, length, arith, rules, ap}
+use Rattle.std.proofs.Common.{◌∙◌, refl, map, arith, rules, ap}
 use Rattle.std.proofs.lemmas.Grind.{common_steps}
 use Rattle.std.proofs.Math.ListN.{length-map}
-use Rattle.vc_base.proofs.HistoryLemmas.{Meets, Meets-start, Meets-reads, Meets-reached, IsTold-from_next, gathered, other-told, all-commits}
+use Rattle.vc_base.proofs.HistoryLemmas.{Meets-start, Meets-reads, Meets-reached, IsTold-from_next, gathered, other-told, all-commits}
 use Rattle.vc_graph.proofs.WalkLemmas.{Contains-from_slice_get}
 use Rattle.vc_base.proofs.walk.read_history.Goals as goal
 

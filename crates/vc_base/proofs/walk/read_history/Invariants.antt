@@ -6,7 +6,7 @@ use Rattle.vc_base.proofs.walk.read_history.Given as goal
 abbrev pub invariant-reading : goal.invariant-reading
 invariant-reading g l = record {
   kept : g.C.Objects.state_of l.commits ≡ g.C.Objects.state_of l.initial.commits;
-  wear : Wears g.C.Objects.failed g.C.Objects.can_fail l.initial.commits l.commits ⊥;
+  wear : Wears g.C.Objects.failed g.C.Objects.can_fail g.C.Objects.left l.initial.commits l.commits ⊥;
   meets : g.C.Objects.is_honest → Meets (g.C.Objects.objects (g.C.Objects.state_of l.initial.commits)) l.roots l.walk.met.keys (map (λ v. v.items) l.walk.parents.items) l.walk.other;
 }
 

@@ -1,6 +1,6 @@
 use Rattle.std.proofs.Common.{map}
 use Rattle.std.specs.FinMap.{get}
-use Rattle.vc_files.specs.Failures.{Wears}
+use Rattle.vc_files.specs.Failures.{Wears, unstopped}
 use Rattle.vc_checkout.specs.CheckedOut.{IsCleared}
 use Rattle.vc_checkout.specs.WorkTree.{HasTextPaths}
 use Rattle.vc_checkout.proofs.ApplyLemmas.{Working}
@@ -15,5 +15,5 @@ invariant-loop-path g l = record {
   texts : g.T.WorkTree.honest → HasTextPaths (g.T.WorkTree.content l.work);
   leaving : g.T.WorkTree.honest → Leaving (IsFolder (g.T.WorkTree.content l.fn.work) (g.T.WorkTree.folders l.fn.work)) (λ q. IsLeft (get l.index q) (get l.tree q) q) (g.T.WorkTree.content l.work) (g.T.WorkTree.folders l.work) (map (λ e. e.0.items) l.path-iterator);
   between : g.T.WorkTree.honest → AreBetween (g.T.WorkTree.content l.work) (g.T.WorkTree.folders l.work) (λ d. IsFolder (g.T.WorkTree.content l.fn.work) (g.T.WorkTree.folders l.fn.work) d × (IsLeftBy l.index l.tree d → ⊥)) (IsFolder (g.T.WorkTree.content l.fn.work) (g.T.WorkTree.folders l.fn.work));
-  wear : Wears g.T.WorkTree.failed g.T.WorkTree.can_fail l.fn.work l.work ⊥;
+  wear : Wears g.T.WorkTree.failed g.T.WorkTree.can_fail unstopped l.fn.work l.work ⊥;
 }

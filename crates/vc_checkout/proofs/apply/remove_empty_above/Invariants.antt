@@ -1,7 +1,7 @@
 use Rattle.std.proofs.Common.{◌≡◌, length}
 use denote.Text.{Utf8}
 use denote.Shadow.{shadow}
-use Rattle.vc_files.specs.Failures.{Wears}
+use Rattle.vc_files.specs.Failures.{Wears, unstopped}
 use Rattle.vc_index.specs.Path.{IsAbove}
 use Rattle.vc_checkout.specs.Folders.{AreFolders, IsAtOrIn, IsFolder}
 use Rattle.vc_checkout.proofs.apply.remove_empty_above.Given as goal
@@ -13,7 +13,7 @@ invariant-loop-folder g l = record {
   inside : IsAtOrIn l.below l.path;
   chain : g.T.WorkTree.honest → AreFolders (g.T.WorkTree.content l.work) (g.T.WorkTree.folders l.work) (λ d. IsFolder (g.T.WorkTree.content l.fn.work) (g.T.WorkTree.folders l.fn.work) d × (IsAbove d l.path → IsAbove d l.below));
   same : g.T.WorkTree.content l.work ≡ g.T.WorkTree.content l.fn.work;
-  wear : Wears g.T.WorkTree.failed g.T.WorkTree.can_fail l.fn.work l.work ⊥;
+  wear : Wears g.T.WorkTree.failed g.T.WorkTree.can_fail unstopped l.fn.work l.work ⊥;
 }
 
 abbrev pub decreases-loop-folder : goal.decreases-loop-folder

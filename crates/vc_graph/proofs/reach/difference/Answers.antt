@@ -2,7 +2,6 @@ use Rattle.std.proofs.Common.{◌≡◌, ◌++◌, Contains, ◌↔◌, ap, leng
 use Rattle.std.proofs.lemmas.Grind.{common_steps}
 use Rattle.vc_graph.proofs.FaultLemmas.{IsTold-more}
 use Rattle.vc_graph.proofs.WalkLemmas.{Contains-added, IsClosedUnder-from_followed, ReachedFrom-append_right, ReachedFrom-went_on, ReachedFrom-all_roots}
-use Rattle.vc_graph.specs.Graph.{ReachedFrom}
 use Rattle.vc_object.specs.ObjectMap.{links_in}
 use Rattle.vc_object.specs.declared.id.ObjectId.{ObjectId}
 use Rattle.vc_graph.proofs.reach.difference.Goals as goal

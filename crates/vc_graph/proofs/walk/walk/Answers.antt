@@ -1,4 +1,4 @@
-use Rattle.std.proofs.Common.{◌≡◌, ◌++◌, ap, sym, ◌∙◌, refl, map, map-id, Ok, Result, append_assoc, arith, rules, subst, take, length}
+use Rattle.std.proofs.Common.{◌≡◌, ◌++◌, ap, sym, ◌∙◌, refl, map-id, Ok, Result, append_assoc, arith, rules, subst, take, length}
 use Rattle.indexmap.specs.IndexSet.{insert_all}
 use Rattle.std.proofs.Math.Seq.{take-append_seam}
 use Rattle.std.proofs.lemmas.Iterator.Adapters.{YieldsList-from_vec, fact_from_extend}

@@ -16,7 +16,7 @@ invariant-loop-item g l =
       blobs : g.F.Files.honest → HasBlobs (objects (content l.fn.files)) l.index;
       walks : g.F.Files.honest → Walks (objects (content l.fn.files)) l.root (map item_pair l.items.items);
       same : content l.files ≡ content l.fn.files;
-      wear : Wears g.F.Files.failed g.F.Files.can_fail l.fn.files l.files ⊥;
+      wear : Wears g.F.Files.failed g.F.Files.can_fail g.F.Files.left l.fn.files l.files ⊥;
     }
 
 abbrev pub decreases-loop-item : goal.decreases-loop-item

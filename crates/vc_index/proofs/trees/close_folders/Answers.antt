@@ -1,6 +1,7 @@
 use Rattle.std.proofs.Common.{rules, ◌≡◌, ◌-◌, List, ◌++◌, Some, length, refl, sym, ap, ◌∙◌, nat_eq, true, false}
 use Rattle.std.specs.Prelude.{slice_get}
 use Rattle.std.specs.List.{starts_with}
+use Rattle.vc_files.proofs.WearLemmas.{writes_both, writes_told}
 use Rattle.vc_files.proofs.FileMapLemmas.{outside_then, outside_same}
 use Rattle.vc_object.specs.declared.id.ObjectId.{ObjectId}
 use Rattle.vc_store.specs.Store.{objects, IsDamaged}
@@ -40,7 +41,7 @@ loop-last-preserved g c =
           (c.in_ok-close_folder.ensures.closes m (trees ++ first.more) rest (left_of c.args.next.now c.in-Some.last.now.folder.now rest n not_in) first.building);
       outside = λ honest. outside_then (c.loop-last.invariant.outside honest) (c.in_ok-close_folder.ensures.outside honest);
       undamaged = λ honest. damage_then (c.loop-last.invariant.undamaged honest) (c.in_ok-close_folder.ensures.undamaged honest);
-      wear = search rules;
+      wear = writes_both c.loop-last.invariant.wear (λ never. never) (writes_told c.in_ok-close_folder.ensures.wear (search rules) (λ never. absurd never));
     }
 
 pub returns-in_err-close_folder-clause-stands : goal.returns-in_err-close_folder-clause-stands
@@ -60,3 +61,6 @@ returns-clause-stands g c = λ m trees rest n b. closes_stands g.F.Files.honest 
 
 pub returns-in_err-close_folder-clause-undamaged : goal.returns-in_err-close_folder-clause-undamaged
 returns-in_err-close_folder-clause-undamaged g c = λ honest. damage_then (c.loop-last.invariant.undamaged honest) (c.in_err-close_folder.ensures.undamaged honest)
+
+pub returns-in_err-close_folder-clause-wear : goal.returns-in_err-close_folder-clause-wear
+returns-in_err-close_folder-clause-wear g c = writes_both c.loop-last.invariant.wear (λ never. never) (writes_told c.in_err-close_folder.ensures.wear (search rules) (search rules))

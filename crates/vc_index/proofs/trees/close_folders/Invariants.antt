@@ -1,6 +1,6 @@
 use Rattle.std.proofs.Common.{List}
 use Rattle.std.specs.Prelude.{codes}
-use Rattle.vc_files.specs.Failures.{Wears}
+use Rattle.vc_files.specs.Failures.{Writes}
 use Rattle.vc_files.specs.FileMap.{SameOutside}
 use Rattle.vc_object.specs.Tree.{Entry}
 use Rattle.vc_store.specs.Store.{objects}
@@ -18,7 +18,7 @@ invariant-loop-last g l =
           → Closes g.F.Files.honest m rest trees l.parts.items (objects (content l.fn.files)) (objects (content l.files));
       outside : g.F.Files.honest → SameOutside (codes "objects/") (content l.fn.files) (content l.files);
       undamaged : g.F.Files.honest → KeepsDamage (content l.fn.files) (content l.files);
-      wear : Wears g.F.Files.failed g.F.Files.can_fail l.fn.files l.files ⊥;
+      wear : Writes g.F.Files.honest content g.F.Files.failed g.F.Files.can_fail g.F.Files.left l.fn.files l.files ⊥;
     }
 
 abbrev pub decreases-loop-last : goal.decreases-loop-last

@@ -2,6 +2,7 @@ use Rattle.std.proofs.Common.{rules, ◌≡◌, List, [], ◌∷◌, ◌++◌, m
 use Rattle.std.specs.Prelude.{Vec}
 use Rattle.std.specs.Global.{Global}
 use Rattle.std.specs.FinMap.{entries}
+use Rattle.vc_files.proofs.WearLemmas.{writes_both, writes_told}
 use Rattle.vc_files.proofs.FileMapLemmas.{outside_then, outside_same}
 use Rattle.vc_object.specs.declared.id.ObjectId.{ObjectId}
 use Rattle.vc_store.specs.Store.{objects, IsDamaged}
@@ -72,7 +73,7 @@ loop-path-preserved g c =
           (sym c.deref-in-loop-path.ensures.value ∙ c.split_path.ensures.is) c.split_path.ensures.name c.split_path.ensures.folder refl c.in_ok-push.ensures.items;
       outside = λ honest. outside_then (c.loop-path.invariant.outside honest) (c.in_ok-close_folders.ensures.outside honest);
       undamaged = λ honest. damage_then (c.loop-path.invariant.undamaged honest) (c.in_ok-close_folders.ensures.undamaged honest);
-      wear = search rules;
+      wear = writes_both c.loop-path.invariant.wear (λ never. never) (writes_told c.in_ok-close_folders.ensures.wear (search rules) (λ never. absurd never));
     }
 
 pub returns-in_err-push-clause-stands : goal.returns-in_err-push-clause-stands
@@ -146,3 +147,15 @@ returns-in_err-close_folders-2-clause-undamaged g c = λ honest. damage_then (c.
 
 pub returns-clause-undamaged : goal.returns-clause-undamaged
 returns-clause-undamaged g c = λ honest. damage_then (c.loop-path.invariant.undamaged honest) (c.in_ok-close_folders-2.ensures.undamaged honest)
+
+pub returns-in_err-close_folders-clause-wear : goal.returns-in_err-close_folders-clause-wear
+returns-in_err-close_folders-clause-wear g c = writes_both c.loop-path.invariant.wear (λ never. never) (writes_told c.in_err-close_folders.ensures.wear (search rules) (search rules))
+
+pub returns-in_err-push-clause-wear : goal.returns-in_err-push-clause-wear
+returns-in_err-push-clause-wear g c = writes_both c.loop-path.invariant.wear (λ never. never) (writes_told c.in_ok-close_folders.ensures.wear (search rules) (search rules))
+
+pub returns-in_err-close_folders-2-clause-wear : goal.returns-in_err-close_folders-2-clause-wear
+returns-in_err-close_folders-2-clause-wear g c = writes_both c.loop-path.invariant.wear (λ never. never) (writes_told c.in_err-close_folders-2.ensures.wear (search rules) (search rules))
+
+pub returns-clause-wear : goal.returns-clause-wear
+returns-clause-wear g c = writes_both c.loop-path.invariant.wear (λ never. never) (writes_told c.in_ok-close_folders-2.ensures.wear (search rules) (search rules))

@@ -1,7 +1,7 @@
 use Rattle.std.proofs.Common.{List, [], ◌≡◌, ◌++◌, map}
 use Rattle.std.specs.Prelude.{codes}
 use Rattle.std.specs.FinMap.{entries}
-use Rattle.vc_files.specs.Failures.{Wears}
+use Rattle.vc_files.specs.Failures.{Writes}
 use Rattle.vc_files.specs.FileMap.{SameOutside}
 use Rattle.vc_store.specs.Store.{objects}
 use Rattle.vc_index.specs.Damage.{KeepsDamage}
@@ -20,5 +20,5 @@ invariant-loop-path g l =
       closes : Closes g.F.Files.honest (index_of l.map) (map (λ e. (e.0.items, e.1)) l.path-iterator) [] l.parts.items (objects (content l.fn.files)) (objects (content l.files));
       outside : g.F.Files.honest → SameOutside (codes "objects/") (content l.fn.files) (content l.files);
       undamaged : g.F.Files.honest → KeepsDamage (content l.fn.files) (content l.files);
-      wear : Wears g.F.Files.failed g.F.Files.can_fail l.fn.files l.files ⊥;
+      wear : Writes g.F.Files.honest content g.F.Files.failed g.F.Files.can_fail g.F.Files.left l.fn.files l.files ⊥;
     }

@@ -1,4 +1,6 @@
+use Rattle.std.proofs.Common.{rules}
 use Rattle.std.proofs.Common.{◌≡◌, map, refl, ap, ◌∙◌}
+use Rattle.vc_files.proofs.WearLemmas.{writes_both, writes_told}
 use Rattle.vc_object.specs.Tree.{spelling}
 use Rattle.vc_object.specs.declared.id.ObjectId.{ObjectId}
 use Rattle.vc_store.specs.Store.{objects, IsDamaged}
@@ -37,3 +39,9 @@ pub returns-clause-undamaged : goal.returns-clause-undamaged
 returns-clause-undamaged g c = λ honest.
     let content = g.F.Files.content in
     damage_then (c.in_ok-parts.ensures.undamaged honest) (damage_put (content c.root_parts.new.files) (content c.put.new.files) kinds.Tree c.deref-2.result.now c.in_ok-id.id c.in_ok-id.ensures.name c.named.ensures.valid (c.in_ok-id.ensures.files honest) (c.in_ok-id.ensures.objects honest))
+
+pub returns-in_err-id-clause-wear : goal.returns-in_err-id-clause-wear
+returns-in_err-id-clause-wear g c = writes_both c.in_ok-parts.ensures.wear (search rules) (writes_told c.in_err-id.ensures.wear (search rules) (search rules))
+
+pub returns-clause-wear : goal.returns-clause-wear
+returns-clause-wear g c = writes_both c.in_ok-parts.ensures.wear (search rules) (writes_told c.in_ok-id.ensures.wear (search rules) (search rules))

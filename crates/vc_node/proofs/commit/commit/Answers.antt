@@ -1,3 +1,4 @@
+use Rattle.vc_files.proofs.WearLemmas.{wears_then, wears_writes, writes_both, writes_none, writes_told}
 use Rattle.std.proofs.Common.{◌≡◌, ◌∙◌, List, rules, inl, inr, ap, subst}
 use Rattle.std.specs.List.{AllByRecursion}
 use Rattle.std.specs.Prelude.{codes}
@@ -204,3 +205,30 @@ returns-in_err-move_head-clause-left g c = λ honest.
     } in
     let left : LeftByCommit (content c.args.files.now) extra w.author.now w.committer.now w.message.now (content c.move_head.new.files) = inr cut in
     left_on _ c.in_err-move_head.field-0.0 c.from_residual-in_err-move_head.result c.from_residual-in_err-move_head.ensures.1 left
+
+pub returns-in_err-head-clause-wear : goal.returns-in_err-head-clause-wear
+returns-in_err-head-clause-wear g c = writes_told (wears_writes c.in_err-head.ensures.wear (search rules)) (search rules) (search rules)
+
+pub returns-in_err-refuse_bad_parents-clause-wear : goal.returns-in_err-refuse_bad_parents-clause-wear
+returns-in_err-refuse_bad_parents-clause-wear g c = wears_then c.in_ok-head.ensures.wear (search rules) (search rules) (writes_told (wears_writes c.in_err-refuse_bad_parents.ensures.wear (search rules)) (search rules) (search rules))
+
+pub returns-in_err-parents-clause-wear : goal.returns-in_err-parents-clause-wear
+returns-in_err-parents-clause-wear g c = wears_then c.in_ok-head.ensures.wear (search rules) (search rules) (wears_then c.in_ok-refuse_bad_parents.ensures.wear (search rules) (search rules) (writes_told (wears_writes c.in_err-parents.ensures.wear (search rules)) (search rules) (search rules)))
+
+pub returns-in_err-index-clause-wear : goal.returns-in_err-index-clause-wear
+returns-in_err-index-clause-wear g c = wears_then c.in_ok-head.ensures.wear (search rules) (search rules) (wears_then c.in_ok-refuse_bad_parents.ensures.wear (search rules) (search rules) (wears_then c.in_ok-parents.ensures.wear (search rules) (search rules) (writes_told (wears_writes c.in_err-index.ensures.wear (search rules)) (search rules) (search rules))))
+
+pub returns-in_err-write_objects-clause-wear : goal.returns-in_err-write_objects-clause-wear
+returns-in_err-write_objects-clause-wear g c = wears_then c.in_ok-head.ensures.wear (search rules) (search rules) (wears_then c.in_ok-refuse_bad_parents.ensures.wear (search rules) (search rules) (wears_then c.in_ok-parents.ensures.wear (search rules) (search rules) (writes_told (wears_writes c.in_ok-index.ensures.wear (search rules)) (search rules) (search rules))))
+
+pub returns-in_err-id-clause-wear : goal.returns-in_err-id-clause-wear
+returns-in_err-id-clause-wear g c = wears_then c.in_ok-head.ensures.wear (search rules) (search rules) (wears_then c.in_ok-refuse_bad_parents.ensures.wear (search rules) (search rules) (wears_then c.in_ok-parents.ensures.wear (search rules) (search rules) (wears_then c.in_ok-index.ensures.wear (search rules) (search rules) (writes_told c.in_err-id.ensures.wear (search rules) (search rules)))))
+
+pub returns-in_err-move_head-clause-wear : goal.returns-in_err-move_head-clause-wear
+returns-in_err-move_head-clause-wear g c = wears_then c.in_ok-head.ensures.wear (search rules) (search rules) (wears_then c.in_ok-refuse_bad_parents.ensures.wear (search rules) (search rules) (wears_then c.in_ok-parents.ensures.wear (search rules) (search rules) (wears_then c.in_ok-index.ensures.wear (search rules) (search rules) (writes_both c.in_ok-id.ensures.wear (search rules) (writes_told c.in_err-move_head.ensures.wear (search rules) (search rules))))))
+
+pub returns-clause-wear : goal.returns-clause-wear
+returns-clause-wear g c = wears_then c.in_ok-head.ensures.wear (search rules) (search rules) (wears_then c.in_ok-refuse_bad_parents.ensures.wear (search rules) (search rules) (wears_then c.in_ok-parents.ensures.wear (search rules) (search rules) (wears_then c.in_ok-index.ensures.wear (search rules) (search rules) (writes_both c.in_ok-id.ensures.wear (search rules) (writes_told c.in_ok-move_head.ensures.wear (search rules) (search rules))))))
+
+pub returns-in_err-refuse_lines-clause-wear : goal.returns-in_err-refuse_lines-clause-wear
+returns-in_err-refuse_lines-clause-wear g c = writes_none (search rules)

@@ -7,6 +7,6 @@ use Rattle.vc_node.proofs.commit.refuse_bad_parents.Given as goal
 abbrev pub invariant-loop-parent : goal.invariant-loop-parent
 invariant-loop-parent g l = record {
   good : g.F.Files.honest → AllByRecursion (IsGoodParent (g.F.Files.content l.fn.files)) (take l.parent-index l.parents);
-  wear : Wears g.F.Files.failed g.F.Files.can_fail l.fn.files l.files ⊥;
+  wear : Wears g.F.Files.failed g.F.Files.can_fail g.F.Files.left l.fn.files l.files ⊥;
   same : g.F.Files.content l.files ≡ g.F.Files.content l.fn.files;
 }

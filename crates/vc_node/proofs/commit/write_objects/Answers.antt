@@ -1,3 +1,4 @@
+use Rattle.vc_files.proofs.WearLemmas.{writes_both, writes_told}
 use Rattle.std.proofs.Common.{rules, inr, ap, ◌∙◌}
 use Rattle.vc_store.specs.Store.{objects}
 use Rattle.vc_node.specs.Making.{BlamesObjects, StoresTrees}
@@ -49,3 +50,9 @@ pub returns-clause-clean : goal.returns-clause-clean
 returns-clause-clean g c = λ honest.
     clean_then _ _ _ (clean_objects _ _ (c.in_ok-tree.ensures.undamaged honest) (c.in_ok-tree.ensures.outside honest))
     (clean_put _ _ kinds.Commit c.deref.result.now c.in_ok-id.id c.in_ok-id.ensures.name (c.in_ok-id.ensures.files honest) (c.in_ok-id.ensures.objects honest) (c.in_ok-id.ensures.outside honest))
+
+pub returns-in_err-id-clause-wear : goal.returns-in_err-id-clause-wear
+returns-in_err-id-clause-wear g c = writes_both c.in_ok-tree.ensures.wear (search rules) (writes_told c.in_err-id.ensures.wear (search rules) (search rules))
+
+pub returns-clause-wear : goal.returns-clause-wear
+returns-clause-wear g c = writes_both c.in_ok-tree.ensures.wear (search rules) (writes_told c.in_ok-id.ensures.wear (search rules) (search rules))

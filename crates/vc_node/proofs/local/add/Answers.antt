@@ -1,3 +1,4 @@
+use Rattle.vc_files.proofs.WearLemmas.{wears_then, wears_writes, writes_both, writes_told}
 use Rattle.std.proofs.Common.{◌≡◌, ap, ◌∙◌, rules, sym, subst, true}
 use Rattle.std.specs.FinMap as paths
 use Rattle.vc_index.specs.IndexMap.{IndexMap, HasConflict, index_entry}
@@ -52,3 +53,15 @@ pub returns-clause-clean : goal.returns-clause-clean
 returns-clause-clean g c = λ honest.
     let stored = clean_put _ _ Blob c.args.bytes.now c.in_ok-put.field-0 c.in_ok-put.ensures.name (c.in_ok-put.ensures.files honest) (c.in_ok-put.ensures.objects honest) (c.in_ok-put.ensures.outside honest) in
     clean_then _ _ _ (clean_from _ _ _ c.in_ok-index.ensures.same stored) (clean_index _ _ _ (c.in_ok-write_index.ensures.written honest))
+
+pub returns-in_err-index-clause-wear : goal.returns-in_err-index-clause-wear
+returns-in_err-index-clause-wear g c = writes_told (wears_writes c.in_err-index.ensures.wear (search rules)) (search rules) (search rules)
+
+pub returns-in_err-add-clause-wear : goal.returns-in_err-add-clause-wear
+returns-in_err-add-clause-wear g c = writes_told (wears_writes c.in_ok-index.ensures.wear (search rules)) (search rules) (search rules)
+
+pub returns-in_err-write_index-clause-wear : goal.returns-in_err-write_index-clause-wear
+returns-in_err-write_index-clause-wear g c = wears_then c.in_ok-index.ensures.wear (search rules) (search rules) (writes_both c.in_ok-put.ensures.wear (search rules) (writes_told c.in_err-write_index.ensures.wear (search rules) (search rules)))
+
+pub returns-clause-wear : goal.returns-clause-wear
+returns-clause-wear g c = wears_then c.in_ok-index.ensures.wear (search rules) (search rules) (writes_both c.in_ok-put.ensures.wear (search rules) (writes_told c.in_ok-write_index.ensures.wear (search rules) (search rules)))

@@ -1,4 +1,5 @@
-use Rattle.std.proofs.Common.{refl}
+use Rattle.vc_files.proofs.WearLemmas.{wears_then, wears_writes, writes_told}
+use Rattle.std.proofs.Common.{rules, refl}
 use Rattle.vc_node.proofs.ShownLemmas.{shown_index_from}
 use Rattle.vc_node.proofs.CleanLemmas.{clean_from, clean_index}
 use Rattle.vc_node.proofs.local.load_tree.Goals as goal
@@ -15,3 +16,9 @@ returns-clause-loaded g c = λ honest. record {
 
 pub returns-clause-clean : goal.returns-clause-clean
 returns-clause-clean g c = λ honest. clean_from _ _ _ c.in_ok-index.ensures.same (clean_index _ _ _ (c.in_ok-write_index.ensures.written honest))
+
+pub returns-in_err-index-clause-wear : goal.returns-in_err-index-clause-wear
+returns-in_err-index-clause-wear g c = writes_told (wears_writes c.in_err-index.ensures.wear (search rules)) (search rules) (search rules)
+
+pub returns-clause-wear : goal.returns-clause-wear
+returns-clause-wear g c = wears_then c.in_ok-index.ensures.wear (search rules) (search rules) (writes_told c.in_ok-write_index.ensures.wear (search rules) (search rules))

@@ -1,3 +1,5 @@
+use Rattle.std.proofs.Common.{rules}
+use Rattle.vc_files.proofs.WearLemmas.{wears_then, wears_writes, writes_told}
 use Rattle.vc_refs.specs.RefMap.{RefMap, with_ref}
 use Rattle.vc_node.proofs.ShownLemmas.{shown_refs_from}
 use Rattle.vc_node.proofs.CleanLemmas.{clean_from, clean_set}
@@ -9,3 +11,12 @@ returns-clause-set g c = λ honest.
 
 pub returns-clause-clean : goal.returns-clause-clean
 returns-clause-clean g c = λ honest. clean_from _ _ _ c.in_ok-current.ensures.same (clean_set _ _ c.args.name.now c.args.id (c.in_ok-set.ensures.rest honest) (c.in_ok-set.ensures.set honest))
+
+pub returns-in_err-current-clause-wear : goal.returns-in_err-current-clause-wear
+returns-in_err-current-clause-wear g c = writes_told (wears_writes c.in_err-current.ensures.wear (search rules)) (search rules) (search rules)
+
+pub returns-in_err-set-clause-wear : goal.returns-in_err-set-clause-wear
+returns-in_err-set-clause-wear g c = wears_then c.in_ok-current.ensures.wear (search rules) (search rules) (writes_told c.in_err-set.ensures.wear (search rules) (search rules))
+
+pub returns-clause-wear : goal.returns-clause-wear
+returns-clause-wear g c = wears_then c.in_ok-current.ensures.wear (search rules) (search rules) (writes_told c.in_ok-set.ensures.wear (search rules) (search rules))

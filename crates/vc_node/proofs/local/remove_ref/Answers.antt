@@ -1,4 +1,5 @@
-use Rattle.std.proofs.Common.{◌≡◌, subst}
+use Rattle.vc_files.proofs.WearLemmas.{wears_then, wears_writes, writes_told}
+use Rattle.std.proofs.Common.{rules, ◌≡◌, subst}
 use Rattle.vc_files.specs.FileMap.{FileMap}
 use Rattle.vc_refs.specs.RefMap.{without_ref}
 use Rattle.vc_refs.specs.Refs.{refs}
@@ -16,3 +17,12 @@ returns-clause-removed g c = λ honest.
 
 pub returns-clause-clean : goal.returns-clause-clean
 returns-clause-clean g c = λ honest. clean_from _ _ _ c.in_ok-current.ensures.same (clean_ref _ _ c.args.name.now (c.in_ok-remove.ensures.rest honest) (c.in_ok-remove.ensures.gone honest))
+
+pub returns-in_err-current-clause-wear : goal.returns-in_err-current-clause-wear
+returns-in_err-current-clause-wear g c = writes_told (wears_writes c.in_err-current.ensures.wear (search rules)) (search rules) (search rules)
+
+pub returns-in_err-remove-clause-wear : goal.returns-in_err-remove-clause-wear
+returns-in_err-remove-clause-wear g c = wears_then c.in_ok-current.ensures.wear (search rules) (search rules) (writes_told c.in_err-remove.ensures.wear (search rules) (search rules))
+
+pub returns-clause-wear : goal.returns-clause-wear
+returns-clause-wear g c = wears_then c.in_ok-current.ensures.wear (search rules) (search rules) (writes_told c.in_ok-remove.ensures.wear (search rules) (search rules))

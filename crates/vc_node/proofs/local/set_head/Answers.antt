@@ -1,4 +1,5 @@
-use Rattle.std.proofs.Common.{◌≡◌, ap, ◌∙◌}
+use Rattle.vc_files.proofs.WearLemmas.{wears_then, wears_writes, writes_from, writes_told}
+use Rattle.std.proofs.Common.{rules, ◌≡◌, ap, ◌∙◌}
 use Rattle.vc_node.proofs.ShownLemmas.{shown_head_from}
 use Rattle.vc_node.proofs.local.set_head.Goals.{in-Id+in_ok-refuse_bad_commit, in_default}
 use Rattle.vc_node.proofs.CleanLemmas.{clean_from, clean_head}
@@ -17,3 +18,13 @@ returns-clause-clean g c = λ honest.
     let same : content c.match-head.files ≡ content c.args.files.now =
     elim c.match-head.branch [ in-Id+in_ok-refuse_bad_commit w ↦ ap content w.files-is ∙ w.in_ok-refuse_bad_commit.ensures.same | in_default w ↦ ap content w.files-is ] in
     clean_from _ _ _ same (clean_head _ _ (c.in_ok-set_head.ensures.only honest))
+
+pub returns-in_err-refuse_bad_commit-clause-wear : goal.returns-in_err-refuse_bad_commit-clause-wear
+returns-in_err-refuse_bad_commit-clause-wear g c = writes_told (wears_writes c.in_err-refuse_bad_commit.ensures.wear (search rules)) (search rules) (search rules)
+
+pub returns-clause-wear : goal.returns-clause-wear
+returns-clause-wear g c =
+    elim c.match-head.branch [
+      | in-Id+in_ok-refuse_bad_commit w ↦ wears_then w.in_ok-refuse_bad_commit.ensures.wear (search rules) (search rules) (writes_from w.files-is (writes_told c.in_ok-set_head.ensures.wear (search rules) (search rules)))
+      | in_default w ↦ writes_from w.files-is (writes_told c.in_ok-set_head.ensures.wear (search rules) (search rules))
+    ]

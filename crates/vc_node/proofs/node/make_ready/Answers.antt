@@ -1,3 +1,4 @@
+use Rattle.vc_files.proofs.WearLemmas.{wears_then, wears_writes, writes_told}
 use Rattle.std.proofs.Common.{◌≡◌, rules, ap, ◌∙◌, true, false}
 use Rattle.std.specs.Prelude.{is_some}
 use Rattle.vc_refs.specs.Head.{head_of}
@@ -20,3 +21,21 @@ returns-clause-ready g c = λ honest.
     ready_made (content c.args.files.now) (content c.head.new.files) (content c.set_head.new.files) c.in_ok-head.field-0 c.in-Ok.main (c.in_ok-head.ensures.found honest ∙ ap head_of same) none (c.in_ok-head.ensures.same ∙ same)
     c.in-Ok.ensures.ok (c.in_ok-set_head.ensures.only honest) (c.in_ok-set_head.ensures.refs honest) (c.in_ok-set_head.ensures.set honest)
     (c.in_ok-read_index.field-0, c.in_ok-read_index.ensures.spelled honest)
+
+pub returns-in_err-read_index-clause-wear : goal.returns-in_err-read_index-clause-wear
+returns-in_err-read_index-clause-wear g c = writes_told (wears_writes c.in_err-read_index.ensures.wear (search rules)) (search rules) (search rules)
+
+pub returns-in_err-head-clause-wear : goal.returns-in_err-head-clause-wear
+returns-in_err-head-clause-wear g c = wears_then c.in_ok-read_index.ensures.wear (search rules) (search rules) (writes_told (wears_writes c.in_err-head.ensures.wear (search rules)) (search rules) (search rules))
+
+pub returns-then-is_some-clause-wear : goal.returns-then-is_some-clause-wear
+returns-then-is_some-clause-wear g c = wears_then c.in_ok-read_index.ensures.wear (search rules) (search rules) (writes_told (wears_writes c.in_ok-head.ensures.wear (search rules)) (search rules) (search rules))
+
+pub returns-in_default-clause-wear : goal.returns-in_default-clause-wear
+returns-in_default-clause-wear g c = wears_then c.in_ok-read_index.ensures.wear (search rules) (search rules) (writes_told (wears_writes c.in_ok-head.ensures.wear (search rules)) (search rules) (search rules))
+
+pub returns-clause-wear : goal.returns-clause-wear
+returns-clause-wear g c = wears_then c.in_ok-read_index.ensures.wear (search rules) (search rules) (wears_then c.in_ok-head.ensures.wear (search rules) (search rules) (writes_told c.in_ok-set_head.ensures.wear (search rules) (search rules)))
+
+pub returns-in_err-set_head-clause-wear : goal.returns-in_err-set_head-clause-wear
+returns-in_err-set_head-clause-wear g c = wears_then c.in_ok-read_index.ensures.wear (search rules) (search rules) (wears_then c.in_ok-head.ensures.wear (search rules) (search rules) (writes_told c.in_err-set_head.ensures.wear (search rules) (search rules)))

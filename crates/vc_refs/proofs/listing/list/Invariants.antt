@@ -13,5 +13,5 @@ invariant-loop-path g l =
       so_far : g.F.Files.honest → l.listed.items ≡ filter_map (entry_at (refs content)) (map string_bytes (take l.path-index l.path-items));
       good : g.F.Files.honest → AllGood content (map string_bytes (take l.path-index l.path-items));
       same : g.F.Files.content l.files ≡ content;
-      wear : Wears g.F.Files.failed g.F.Files.can_fail l.fn.files l.files ⊥;
+      wear : Wears g.F.Files.failed g.F.Files.can_fail g.F.Files.left l.fn.files l.files ⊥;
     }

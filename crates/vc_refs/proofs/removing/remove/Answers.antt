@@ -1,3 +1,4 @@
+use Rattle.vc_files.proofs.WearLemmas.{wears_writes, writes_told}
 use Rattle.std.proofs.Common.{rules, ◌≡◌, true, is_none}
 use Rattle.vc_refs.specs.Refs.{refs}
 use Rattle.vc_refs.proofs.RefsLemmas.{IsRefMap-without_ref, refs-without_absent, absent_from_expected}
@@ -16,3 +17,6 @@ returns-then-is_none-clause-removed g c = λ honest.
 
 pub returns-then-is_none-clause-gone : goal.returns-then-is_none-clause-gone
 returns-then-is_none-clause-gone g c = λ honest. rw c.in_ok-expect_value.ensures.same (c.in_ok-expect_value.ensures.allowed honest).good
+
+pub returns-in_err-expect_value-clause-wear : goal.returns-in_err-expect_value-clause-wear
+returns-in_err-expect_value-clause-wear g c = writes_told (wears_writes c.in_err-expect_value.ensures.wear (search rules)) (search rules) (search rules)

@@ -13,7 +13,7 @@ invariant-loop-name g l =
     let s = source (g.R.Repository.names (g.R.Repository.view_of l.initial.repo)) (g.R.Objects.objects (g.R.Objects.state_of l.initial.repo)) (g.R.Repository.stored (g.R.Repository.view_of l.initial.repo)) in record {
       kept : g.R.Objects.state_of l.repo ≡ g.R.Objects.state_of l.initial.repo;
       seen : g.R.Repository.view_of l.repo ≡ g.R.Repository.view_of l.initial.repo;
-      wear : Wears g.R.Objects.failed g.R.Objects.can_fail l.initial.repo l.repo ⊥;
+      wear : Wears g.R.Objects.failed g.R.Objects.can_fail g.R.Objects.left l.initial.repo l.repo ⊥;
       onward : g.R.Objects.is_honest → (value : Option ObjectId) → FirstValue s (map (λ name. name.items) (drop l.name-index l.names)) value → FirstValue s (map (λ name. name.items) l.names) value;
       asked : g.R.Objects.is_honest → (question : Question) → FirstValueAsks s (map (λ name. name.items) (drop l.name-index l.names)) question → FirstValueAsks s (map (λ name. name.items) l.names) question;
     }

@@ -8,7 +8,7 @@ abbrev pub invariant-loop-next : goal.invariant-loop-next
 invariant-loop-next g l = record {
   kept : g.R.Objects.state_of l.repo ≡ g.R.Objects.state_of l.initial.repo;
   seen : g.R.Repository.view_of l.repo ≡ g.R.Repository.view_of l.initial.repo;
-  wear : Wears g.R.Objects.failed g.R.Objects.can_fail l.initial.repo l.repo ⊥;
+  wear : Wears g.R.Objects.failed g.R.Objects.can_fail g.R.Objects.left l.initial.repo l.repo ⊥;
   walks : g.R.Objects.is_honest → Walks (tag_links (g.R.Objects.objects (g.R.Objects.state_of l.initial.repo))) (l.fn.id ∷ []) l.seen.keys l.next;
 }
 

@@ -31,5 +31,5 @@ returns-clause-refused g c =
 
 pub returns-clause-wear : goal.returns-clause-wear
 returns-clause-wear g c =
-    wears_none g.R.Objects.failed g.R.Objects.can_fail c.args.repo.now c.peel.new.repo _ _ c.in_ok-at.ensures.wear
+    wears_none g.R.Objects.failed g.R.Objects.can_fail g.R.Objects.left c.args.repo.now c.peel.new.repo _ _ c.in_ok-at.ensures.wear
     (λ is. err_at _ c.pick.result (faults.Source (sources.Store (stores.Fault devices.Device))) c.pick.ensures.memory is refl)

@@ -12,7 +12,7 @@ invariant-steps g l =
     let s = source (g.R.Repository.names (g.R.Repository.view_of l.initial.repo)) (g.R.Objects.objects (g.R.Objects.state_of l.initial.repo)) (g.R.Repository.stored (g.R.Repository.view_of l.initial.repo)) in record {
       kept : g.R.Objects.state_of l.repo ≡ g.R.Objects.state_of l.initial.repo;
       seen : g.R.Repository.view_of l.repo ≡ g.R.Repository.view_of l.initial.repo;
-      wear : Wears g.R.Objects.failed g.R.Objects.can_fail l.initial.repo l.repo ⊥;
+      wear : Wears g.R.Objects.failed g.R.Objects.can_fail g.R.Objects.left l.initial.repo l.repo ⊥;
       onward : g.R.Objects.is_honest → (answer : Answer) → StepsGive s (map (λ token. token.step) (drop l.token-index l.steps)) l.at answer → StepsGive s (map (λ token. token.step) l.steps) l.fn.id answer;
       asked : g.R.Objects.is_honest → (question : Question) → StepsAsk s (map (λ token. token.step) (drop l.token-index l.steps)) l.at question → StepsAsk s (map (λ token. token.step) l.steps) l.fn.id question;
     }

@@ -50,6 +50,6 @@ returns-clause-refused g c =
 
 pub returns-clause-wear : goal.returns-clause-wear
 returns-clause-wear g c =
-    let before : Wears g.R.Objects.failed g.R.Objects.can_fail c.args.repo.now c.peel.new.repo ⊥ = search rules in
-    wears_none g.R.Objects.failed g.R.Objects.can_fail c.args.repo.now c.peel.new.repo _ _ before
+    let before : Wears g.R.Objects.failed g.R.Objects.can_fail g.R.Objects.left c.args.repo.now c.peel.new.repo ⊥ = search rules in
+    wears_none g.R.Objects.failed g.R.Objects.can_fail g.R.Objects.left c.args.repo.now c.peel.new.repo _ _ before
     (λ is. err_at _ c.commit_at.result (faults.Source (sources.Store (stores.Fault devices.Device))) c.commit_at.ensures.memory is refl)

@@ -14,7 +14,7 @@ invariant-terms g l =
     let s = source (g.R.Repository.names (g.R.Repository.view_of l.initial.repo)) (g.R.Objects.objects (g.R.Objects.state_of l.initial.repo)) (g.R.Repository.stored (g.R.Repository.view_of l.initial.repo)) in record {
       kept : g.R.Objects.state_of l.repo ≡ g.R.Objects.state_of l.initial.repo;
       seen : g.R.Repository.view_of l.repo ≡ g.R.Repository.view_of l.initial.repo;
-      wear : Wears g.R.Objects.failed g.R.Objects.can_fail l.initial.repo l.repo ⊥;
+      wear : Wears g.R.Objects.failed g.R.Objects.can_fail g.R.Objects.left l.initial.repo l.repo ⊥;
       onward : g.R.Objects.is_honest → (answer : Result Selection Refusal) → TermsGive s (map term_view (drop l.term-index l.terms)) (roots_view l.roots) answer → SetGives s (map term_view l.terms) answer;
       asked : g.R.Objects.is_honest → (question : Question) → TermsAsk s (map term_view (drop l.term-index l.terms)) question → TermsAsk s (map term_view l.terms) question;
     }

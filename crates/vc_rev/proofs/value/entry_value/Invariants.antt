@@ -13,7 +13,7 @@ invariant-loop-part g l =
     let s = source (g.R.Repository.names (g.R.Repository.view_of l.initial.repo)) (g.R.Objects.objects (g.R.Objects.state_of l.initial.repo)) (g.R.Repository.stored (g.R.Repository.view_of l.initial.repo)) in record {
       kept : g.R.Objects.state_of l.repo ≡ g.R.Objects.state_of l.initial.repo;
       seen : g.R.Repository.view_of l.repo ≡ g.R.Repository.view_of l.initial.repo;
-      wear : Wears g.R.Objects.failed g.R.Objects.can_fail l.initial.repo l.repo ⊥;
+      wear : Wears g.R.Objects.failed g.R.Objects.can_fail g.R.Objects.left l.initial.repo l.repo ⊥;
       onward : g.R.Objects.is_honest → (answer : Answer) → EntryGives s (map (λ part. part.now) (drop l.part-index l.parts)) l.mode l.at answer → EntryGives s (map (λ part. part.now) l.parts) modes.Tree l.fn.tree answer;
       asked : g.R.Objects.is_honest → (question : Question) → EntryAsks s (map (λ part. part.now) (drop l.part-index l.parts)) l.mode l.at question → EntryAsks s (map (λ part. part.now) l.parts) modes.Tree l.fn.tree question;
     }

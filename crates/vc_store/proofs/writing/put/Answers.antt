@@ -1,6 +1,7 @@
 use Rattle.std.proofs.Common.{rules, ◌≡◌, ℕ, List, Result, Err, refl}
 use Rattle.std.specs.Prelude.{is_ok, true}
 use Rattle.std.specs.FinMap as files
+use Rattle.vc_files.proofs.WearLemmas.{wears_then, writes_told}
 use Rattle.vc_object.specs.Object.{object_bytes, IsObject}
 use Rattle.vc_object.specs.ObjectFault.{BodyFault}
 use Rattle.vc_object.specs.declared.fault.ObjectFault.{ObjectFault}
@@ -77,3 +78,6 @@ returns-in_ok-put-clause-only g c = λ e. never c.args.kind c.args.body.now (c.i
 
 pub returns-else-not-branch-clause-only : goal.returns-else-not-branch-clause-only
 returns-else-not-branch-clause-only g c = λ e. never c.args.kind c.args.body.now (c.in_ok-object.ensures.exact.0 refl) _ e
+
+pub returns-in_ok-put-clause-wear : goal.returns-in_ok-put-clause-wear
+returns-in_ok-put-clause-wear g c = wears_then c.in_ok-has.ensures.wear (λ _. c.in_ok-has.ensures.same) (search rules) (writes_told c.in_ok-put.ensures.wear (search rules) (search rules))

@@ -1,0 +1,49 @@
+-- A bad file that is told is one that was read.
+use Rattle.std.proofs.Common.{[], ◌∷◌}
+use Rattle.vc_base.specs.BaseFault.{IsTold}
+use Rattle.vc_base.specs.declared.fault.BaseFault.{BaseFault}
+use Rattle.vc_base.specs.declared.fault.BaseFault.TheVariants as base
+use Rattle.vc_files.specs.FileMap.{FileMap}
+use Rattle.vc_graph.specs.Graph.{ReachedFrom}
+use Rattle.vc_graph.specs.GraphFault.{IsMet}
+use Rattle.vc_index.specs.Loading.{IsOfLoad}
+use Rattle.vc_index.specs.declared.faults.IndexFault.{IndexFault}
+use Rattle.vc_index.specs.declared.faults.IndexFault.TheVariants as index
+use Rattle.vc_object.specs.ObjectMap.{links_in, parents_in}
+use Rattle.vc_object.specs.declared.id.ObjectId.{ObjectId}
+use Rattle.vc_store.specs.Store.{objects, IsDamaged}
+use Rattle.vc_store.specs.declared.faults.StoreFault.{StoreFault}
+use Rattle.vc_store.specs.declared.faults.StoreFault.TheVariants as store
+use Rattle.vc_node.specs.NodeFault.{of_base, of_index}
+use Rattle.vc_node.specs.Reads.{NoneRead, TellsRead, IsReached, IsBelow}
+use Rattle.vc_node.specs.declared.fault.NodeFault.TheVariants.{Store}
+use Rattle.vc_node.proofs.CommitLemmas.{reach_parents}
+
+pub met_read : (content : FileMap) (id : ObjectId) (e : StoreFault) → IsMet (ReachedFrom (links_in (objects content)) (id ∷ [])) (IsDamaged content) e → TellsRead (IsReached content id) NoneRead (Store e)
+met_read content id (store.BadObject f) met = tt
+met_read content id (store.Absent x) met = tt
+met_read content id (store.Damaged x) met = met.0
+met_read content id (store.Fault f) met = tt
+
+-- what a commit descends from it reaches
+parent_read : (content : FileMap) (id : ObjectId) (e : StoreFault) → IsMet (ReachedFrom (parents_in (objects content)) (id ∷ [])) (IsDamaged content) e → TellsRead (IsReached content id) NoneRead (Store e)
+parent_read content id (store.BadObject f) met = tt
+parent_read content id (store.Absent x) met = tt
+parent_read content id (store.Damaged x) met = record { root = met.0.root; is_root = met.0.is_root; reaches = reach_parents (objects content) met.0.root x met.0.reaches }
+parent_read content id (store.Fault f) met = tt
+
+pub told_read : (content : FileMap) (id : ObjectId) (e : BaseFault) → IsTold (objects content) (IsDamaged content) (id ∷ []) e → TellsRead (IsReached content id) NoneRead (of_base e)
+told_read content id (base.Missing x) told = tt
+told_read content id (base.NotACommit x) told = tt
+told_read content id (base.Store e) told = parent_read content id e told
+
+pub load_read : (content : FileMap) (id : ObjectId) (e : IndexFault) → IsOfLoad (Unit {0}) content id e → TellsRead (IsBelow content id) NoneRead (of_index e)
+load_read content id index.BadPath why = tt
+load_read content id index.PathConflict why = tt
+load_read content id (index.BadIndex place) why = tt
+load_read content id (index.WrongEntry at) why = tt
+load_read content id (index.Missing x) why = tt
+load_read content id (index.Store (store.BadObject f)) why = tt
+load_read content id (index.Store (store.Absent x)) why = tt
+load_read content id (index.Store (store.Damaged x)) why = (why tt).1
+load_read content id (index.Store (store.Fault f)) why = tt

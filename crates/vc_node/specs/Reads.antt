@@ -1,0 +1,53 @@
+-- Which files a command reads, of those that may be bad.
+use Rattle.std.specs.Prelude.{◌≡◌, ◌⊎◌, ℕ, List, [], ◌∷◌, string_bytes}
+use Rattle.vc_files.specs.FileMap.{FileMap}
+use Rattle.vc_graph.specs.Graph.{ReachedFrom}
+use Rattle.vc_index.specs.Loading.{IsEntryOfTree}
+use Rattle.vc_object.specs.ObjectMap.{links_in}
+use Rattle.vc_object.specs.declared.id.ObjectId.{ObjectId}
+use Rattle.vc_object.specs.declared.mode.Mode.{Mode}
+use Rattle.vc_refs.specs.Way.{IsFirstInTheWay}
+use Rattle.vc_refs.specs.declared.faults.RefFault.{RefFault}
+use Rattle.vc_refs.specs.declared.faults.RefFault.TheVariants as ref
+use Rattle.vc_refs.specs.declared.heads.Head.{Head}
+use Rattle.vc_refs.specs.declared.heads.Head.TheVariants as heads
+use Rattle.vc_store.specs.Store.{objects}
+use Rattle.vc_store.specs.declared.faults.StoreFault.{StoreFault}
+use Rattle.vc_store.specs.declared.faults.StoreFault.TheVariants as store
+use Rattle.vc_node.specs.declared.fault.NodeFault.{NodeFault}
+use Rattle.vc_node.specs.declared.fault.NodeFault.TheVariants.{Store, Ref}
+
+-- no file
+abbrev pub NoneRead : {X : Type 0} → X → Type 0
+NoneRead x = ⊥
+
+abbrev pub IsOfObject : (ObjectId → Type 0) → StoreFault → Type 0
+IsOfObject IsRead (store.Damaged id) = IsRead id
+IsOfObject IsRead _ = Unit {0}
+
+abbrev pub IsOfPath : (List ℕ → Type 0) → RefFault → Type 0
+IsOfPath IsRead (ref.BadRefFile path) = IsRead (string_bytes path)
+IsOfPath IsRead _ = Unit {0}
+
+-- A bad file that is told is that of one of these objects, or the one of these paths.
+abbrev pub TellsRead : (ObjectId → Type 0) → (List ℕ → Type 0) → NodeFault → Type 0
+TellsRead IsObject IsPath (Store e) = IsOfObject IsObject e
+TellsRead IsObject IsPath (Ref e) = IsOfPath IsPath e
+TellsRead IsObject IsPath _ = Unit {0}
+
+-- what the id reaches
+abbrev pub IsReached : FileMap → ObjectId → ObjectId → Type 0
+IsReached content id = ReachedFrom (links_in (objects content)) (id ∷ [])
+
+-- an entry of the tree, or the tree
+abbrev pub IsBelow : FileMap → ObjectId → ObjectId → Type 0
+IsBelow content root id = (path : List ℕ) × (mode : Mode) × IsEntryOfTree (objects content) root path mode id
+
+-- what HEAD is to be, where it is no branch
+abbrev pub IsReachedByHead : FileMap → Head → ObjectId → Type 0
+IsReachedByHead content (heads.Branch name) = NoneRead
+IsReachedByHead content (heads.Id id) = IsReached content id
+
+-- the ref's own file, or the first that is in its way
+abbrev pub IsAtName : FileMap → List ℕ → List ℕ → Type 0
+IsAtName content name path = (path ≡ name) ⊎ IsFirstInTheWay content name path
