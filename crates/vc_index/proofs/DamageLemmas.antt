@@ -12,14 +12,11 @@ use Rattle.vc_object.specs.ObjectId.{is_id}
 use Rattle.vc_object.specs.ObjectMap.{ObjectMap}
 use Rattle.vc_object.specs.declared.id.ObjectId.{ObjectId}
 use Rattle.vc_object.specs.declared.kind.Kind.{Kind}
-use Rattle.vc_object.specs.declared.kind.Kind.TheVariants as kinds
 use Rattle.vc_store.specs.Store.{IsDamaged, object_path, objects, stored_in, with_file, with_object, name_in}
-use Rattle.vc_store.specs.StoreFault.{IsOfPut}
-use Rattle.vc_store.specs.declared.faults.StoreFault.{StoreFault}
-use Rattle.vc_store.specs.declared.faults.StoreFault.TheVariants.{BadObject, Absent, Damaged, Fault}
+use Rattle.vc_store.specs.declared.faults.StoreFault.TheVariants.{Damaged}
 use Rattle.vc_store.proofs.PathLemmas.{name_in-object_path, named_by_path}
 use Rattle.vc_store.proofs.StoreLemmas.{objects-absent}
-use Rattle.vc_index.specs.Damage.{KeepsDamage, IsTreesPlace}
+use Rattle.vc_index.specs.Damage.{KeepsDamage}
 
 pub damage_same : (old new : FileMap) → new ≡ old → KeepsDamage old new
 damage_same old new same = record { before = λ id damaged. subst (λ (m : FileMap). IsDamaged m id) same damaged }
@@ -62,10 +59,3 @@ damage_put old new kind body name is named file put = record { before = λ id da
         let path : bytes_eq (object_path id.0) (object_path (object_name kind body).0) ≡ false = subst (λ (n : ObjectId). bytes_eq (object_path id.0) (object_path n.0) ≡ false) is (apart id name named other) in
         let found : files.get new (object_path id.0) ≡ files.get old (object_path id.0) = ap (λ (m : FileMap). files.get m (object_path id.0)) file ∙ put_apart old kind body (object_path id.0) path in
         ap (stored_in id) (sym found) ∙ damaged
-
--- what a put of a tree tells
-pub place_put : (body : List ℕ) (fault : StoreFault) → IsOfPut kinds.Tree body fault → IsTreesPlace fault
-place_put body (BadObject f) of = tt
-place_put body (Absent id) of = tt
-place_put body (Damaged id) of = (body, of.1)
-place_put body (Fault f) of = tt

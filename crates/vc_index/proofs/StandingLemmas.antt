@@ -1,7 +1,8 @@
 -- What stands where the writing of an index's trees ends early, and which tree the store did not take.
-use Rattle.std.proofs.Common.{◌≡◌, ◌≢◌, ℕ, ◌<◌, ◌-◌, List, [], ◌∷◌, ◌++◌, map, Some, refl, sym, subst, append_assoc, append-nil, length, take, drop}
+use Rattle.std.proofs.Common.{◌≡◌, ◌≢◌, ℕ, ◌<◌, ◌≤◌, ◌-◌, List, [], ◌∷◌, ◌++◌, map, Some, refl, sym, ap, ◌∙◌, subst, append_assoc, append-nil, length, take, drop}
 use Rattle.std.specs.Prelude.{slice_get, option_map}
 use Rattle.std.specs.List.{AllByRecursion}
+use Rattle.vc_object.specs.Object.{object_name}
 use Rattle.vc_object.specs.ObjectFault.{BodyFault, too_large, no_grammar}
 use Rattle.vc_object.specs.ObjectMap.{ObjectMap}
 use Rattle.vc_object.specs.Tree.{Entry, IsTree, spelling}
@@ -69,7 +70,9 @@ tree_refused files folder es before after root Damage body (BadObject fault) sou
         (same, record { folder = folder; entries = es; tree = sound; each = each; large = long; first = record { before = before; after = after; root = root; listed = listed; fits = fits; large = long } })
     large e (no_grammar n f) = absurd (grammar.no_grammar kinds.Tree body e f (es, sound, is))
 tree_refused files folder es before after root Damage body (Absent id) sound each fits listed is put damaged = put
-tree_refused files folder es before after root Damage body (Damaged id) sound each fits listed is put damaged = damaged id refl
+tree_refused files folder es before after root Damage body (Damaged id) sound each fits listed is put damaged =
+    let small : Fits es = subst (λ (t : List ℕ). length t ≤ 16777216) is put.0.size in
+    (record { before = before; entries = es; after = after; root = root; listed = listed; fits = all_join Fits before (es ∷ []) fits (small, tt); is = put.1 ∙ ap (object_name kinds.Tree) is }, damaged id refl)
 tree_refused files folder es before after root Damage body (Fault fault) sound each fits listed is put damaged = tt
 
 module _ (files : IndexMap) (trees : List (List Entry)) (rest : List Pair) (parts : List Part) (start : ℕ) (folder : List ℕ)

@@ -6,6 +6,7 @@ use Rattle.std.specs.List.{AllByRecursion}
 use Rattle.vc_object.specs.Bytes.{Without}
 use Rattle.vc_object.specs.Object.{object_name}
 use Rattle.vc_object.specs.Tree.{Entry, HasName, IsTree, spelling}
+use Rattle.vc_object.specs.declared.id.ObjectId.{ObjectId}
 use Rattle.vc_object.specs.declared.kind.Kind.TheVariants as kinds
 use Rattle.vc_object.specs.declared.mode.Mode.TheVariants as modes
 use Rattle.vc_index.specs.IndexMap.{IndexMap, IsIndex, index_entry}
@@ -74,6 +75,16 @@ pub record IsFirstLarge (files : IndexMap) (entries : List Entry) : Type 0 where
   pub listed : AreIndexTrees files (before ++ entries ∷ after) root
   pub fits : AllFit before
   pub large : 16777216 < length (spelling entries)
+
+-- the id is that of one of the index's trees, which fits, as each before it does
+pub record IsIndexTree (files : IndexMap) (id : ObjectId) : Type 0 where
+  pub before : List (List Entry)
+  pub entries : List Entry
+  pub after : List (List Entry)
+  pub root : List Entry
+  pub listed : AreIndexTrees files (before ++ entries ∷ after) root
+  pub fits : AllFit (before ++ entries ∷ [])
+  pub is : id ≡ object_name kinds.Tree (spelling entries)
 
 -- an index has one list of trees at most
 abbrev pub TreesAreOneList : Type 0

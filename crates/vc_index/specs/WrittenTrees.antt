@@ -11,7 +11,7 @@ use Rattle.vc_object.specs.declared.id.ObjectId.{ObjectId}
 use Rattle.vc_object.specs.declared.kind.Kind.TheVariants as kinds
 use Rattle.vc_object.specs.declared.mode.Mode.{Mode}
 use Rattle.vc_object.specs.declared.mode.Mode.TheVariants as modes
-use Rattle.vc_index.specs.FolderTrees.{AllFit, AreFirstTrees, AreIndexTrees, IsFirstLarge}
+use Rattle.vc_index.specs.FolderTrees.{AllFit, AreFirstTrees, AreIndexTrees, IsFirstLarge, IsIndexTree}
 use Rattle.vc_index.specs.IndexMap.{IndexMap, index_entry}
 use Rattle.vc_index.specs.Path.{IsAbove}
 use Rattle.vc_index.specs.TreeFiles.{IsFileOfTree}
@@ -86,11 +86,11 @@ pub record HasTooLarge (files : IndexMap) : Type 0 where
   pub large : 16777216 < length (spelling entries)
   pub first : IsFirstLarge files entries
 
--- why the store did not take a tree of the index: the tree is too large, a file is damaged, or a fault
+-- why the store did not take a tree of the index: the tree is too large, the file in its place is damaged, or a fault
 abbrev pub IsOfTrees : IndexMap → (ObjectId → Type 0) → StoreFault → Type 0
 IsOfTrees files IsDamaged (BadObject fault) = (fault ≡ TooLarge) × HasTooLarge files
 IsOfTrees files IsDamaged (Absent id) = ⊥
-IsOfTrees files IsDamaged (Damaged id) = IsDamaged id
+IsOfTrees files IsDamaged (Damaged id) = IsIndexTree files id × IsDamaged id
 IsOfTrees files IsDamaged (Fault fault) = ⊤
 
 -- why an index was not written

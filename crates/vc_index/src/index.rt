@@ -11,7 +11,7 @@ ghost use Rattle.vc_index.specs.TreeFiles.{IsFileOfTree};
 ghost use Rattle.vc_index.specs.TreeReading.{ReadsAs, TreeFault, tree_fault};
 ghost use Rattle.vc_index.specs.WrittenTrees.{IsWritten, IsBegun, IsOfWrite};
 ghost use Rattle.vc_index.specs.Path.{IsPath, IsAbove};
-ghost use Rattle.vc_index.specs.Damage.{KeepsDamage, TellsTreesPlace};
+ghost use Rattle.vc_index.specs.Damage.{KeepsDamage};
 ghost use Rattle.vc_index.specs.IndexMap.{HasConflict, HasFileAbove, IndexMap, IsIndex, index_entry, index_of};
 ghost use Rattle.vc_index.specs.IndexFault.{IsOfAdd, IsMemory};
 ghost use Rattle.vc_index.specs.IndexText.{index_text, IsOfRead, TextFault};
@@ -94,7 +94,6 @@ impl Index {
         ensures refused { IfErr result (IsOfWrite self.now (λ id. F.honest → IsDamaged (F.content files.new) id)) }
         ensures outside { F.honest → SameOutside (codes "objects/") (F.content files.old) (F.content files.new) }
         ensures undamaged { F.honest → KeepsDamage (F.content files.old) (F.content files.new) }
-        ensures place { IfErr result TellsTreesPlace }
         ensures wear { Writes F.honest F.content F.failed F.can_fail F.left files.old files.new (IsErrOf result (IndexFault.Store (StoreFault.Fault Fault.Device))) }
     {
         write_trees(alloc, files, &self.map)

@@ -7,7 +7,7 @@ ghost use Rattle.vc_object.specs.Bytes.{Without};
 ghost use Rattle.vc_object.specs.Tree.{Entry, spelling};
 ghost use Rattle.vc_store.specs.Store.{objects, IsDamaged};
 ghost use Rattle.vc_index.specs.Building.{Building, Closes, Stands, IsInside, IsLeft, IsNext, open_length};
-ghost use Rattle.vc_index.specs.Damage.{KeepsDamage, TellsTreesPlace};
+ghost use Rattle.vc_index.specs.Damage.{KeepsDamage};
 ghost use Rattle.vc_index.specs.FolderTrees.{AllFit};
 ghost use Rattle.vc_index.specs.HeldFiles.{Pair};
 ghost use Rattle.vc_index.specs.IndexMap.{IndexMap, IsIndex, index_of};
@@ -86,7 +86,6 @@ fn close_folder<'a, F: Files>(
     ensures refused { (m : IndexMap) (trees : List (List Entry)) (rest : List Pair) → IsLeft folder.now rest → AllFit trees → Building m trees parts.old.items rest → IfErr result (IsOfWrite m (λ id. F.honest → IsDamaged (F.content files.new) id)) }
     ensures outside { F.honest → SameOutside (codes "objects/") (F.content files.old) (F.content files.new) }
     ensures undamaged { F.honest → KeepsDamage (F.content files.old) (F.content files.new) }
-    ensures place { IfErr result TellsTreesPlace }
     ensures wear { Writes F.honest F.content F.failed F.can_fail F.left files.old files.new (IsErrOf result (IndexFault.Store (StoreFault.Fault Fault.Device))) }
 {
     let start = start_of(parts, folder);
@@ -117,7 +116,6 @@ fn close_folders<F: Files>(
     ensures refused { (m : IndexMap) (trees : List (List Entry)) (rest : List Pair) → IsNext next.now rest → AllFit trees → Building m trees parts.old.items rest → IfErr result (IsOfWrite m (λ id. F.honest → IsDamaged (F.content files.new) id)) }
     ensures outside { F.honest → SameOutside (codes "objects/") (F.content files.old) (F.content files.new) }
     ensures undamaged { F.honest → KeepsDamage (F.content files.old) (F.content files.new) }
-    ensures place { IfErr result TellsTreesPlace }
     ensures wear { Writes F.honest F.content F.failed F.can_fail F.left files.old files.new (IsErrOf result (IndexFault.Store (StoreFault.Fault Fault.Device))) }
 {
     while let Some(last) = parts.last() {
@@ -143,7 +141,6 @@ fn root_parts<'a, F: Files>(
     ensures refused { IfErr result (IsOfWrite (index_of map.now) (λ id. F.honest → IsDamaged (F.content files.new) id)) }
     ensures outside { F.honest → SameOutside (codes "objects/") (F.content files.old) (F.content files.new) }
     ensures undamaged { F.honest → KeepsDamage (F.content files.old) (F.content files.new) }
-    ensures place { IfErr result TellsTreesPlace }
     ensures wear { Writes F.honest F.content F.failed F.can_fail F.left files.old files.new (IsErrOf result (IndexFault.Store (StoreFault.Fault Fault.Device))) }
 {
     let mut parts = Vec::new(alloc);
@@ -173,7 +170,6 @@ pub(crate) fn write_trees<F: Files>(
     ensures refused { IfErr result (IsOfWrite (index_of map.now) (λ id. F.honest → IsDamaged (F.content files.new) id)) }
     ensures outside { F.honest → SameOutside (codes "objects/") (F.content files.old) (F.content files.new) }
     ensures undamaged { F.honest → KeepsDamage (F.content files.old) (F.content files.new) }
-    ensures place { IfErr result TellsTreesPlace }
     ensures wear { Writes F.honest F.content F.failed F.can_fail F.left files.old files.new (IsErrOf result (IndexFault.Store (StoreFault.Fault Fault.Device))) }
 {
     let parts = root_parts(alloc, files, map)?;

@@ -52,7 +52,7 @@ module _ (honest : Type 0) (old mid : FileMap) (m : IndexMap) (parents : List Ob
   trees_blamed : (f : StoreFault) → IsOfWrite m (λ id. honest → IsDamaged mid id) (index.Store f) → BlamesStored honest old m parents author committer message f
   trees_blamed (store.BadObject g) of = inl of
   trees_blamed (store.Absent id) of = absurd of
-  trees_blamed (store.Damaged id) of = λ h. (keeps h).before id (of h)
+  trees_blamed (store.Damaged id) of = λ h. (keeps h).before id (of.1 h)
   trees_blamed (store.Fault g) of = tt
 
   pub tree_blamed : (f : IndexFault) → IsOfWrite m (λ id. honest → IsDamaged mid id) f → BlamesObjects honest old m parents author committer message (of_index f)
