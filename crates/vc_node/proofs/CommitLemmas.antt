@@ -49,7 +49,7 @@ no_some None e h = cc
 no_some (Some x) e h = cc
 
 -- what one root reaches
-only_root : (graph : ObjectId → Option (List ObjectId)) (root y : ObjectId) → ReachedFrom graph (root ∷ []) y → Reaches graph root y
+pub only_root : (graph : ObjectId → Option (List ObjectId)) (root y : ObjectId) → ReachedFrom graph (root ∷ []) y → Reaches graph root y
 only_root graph root y r = subst (λ (x : ObjectId). Reaches graph x y) (lone r.is_root) r.reaches
   where
     lone : {x : ObjectId} → Contains (root ∷ []) x → x ≡ root

@@ -16,3 +16,4 @@ pub mod NameLemmas
 pub mod CleanLemmas
 pub mod OpeningLaws
 pub mod ReadLemmas
+pub mod CommitReads

@@ -139,7 +139,7 @@ module _ (content : FileMap) (r : Repository) (p : Spells (shown content) r) whe
 -- ---- HEAD is not moved, after objects alone were stored
 
 module _ (old new : FileMap) (outside : SameOutside (codes "objects/") old new) where
-  taken_before : (path : List ℕ) → is_taken new path ≡ true → is_taken old path ≡ true
+  pub taken_before : (path : List ℕ) → is_taken new path ≡ true → is_taken old path ≡ true
   taken_before path taken =
       let inside : starts_with nat_eq path (codes "refs/") ≡ true = (and_parts (starts_with nat_eq path (codes "refs/")) (is_some (get new path)) taken).0 in
       ap (λ (found : Option (List ℕ)). starts_with nat_eq path (codes "refs/") && is_some found) (sym (outside.at path (ref_no_object path inside))) ∙ taken

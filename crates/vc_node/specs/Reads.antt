@@ -1,11 +1,16 @@
 -- Which files a command reads, of those that may be bad.
-use Rattle.std.specs.Prelude.{◌≡◌, ◌⊎◌, ℕ, List, [], ◌∷◌, string_bytes}
+use Rattle.std.specs.Prelude.{◌≡◌, ◌⊎◌, ℕ, List, [], ◌∷◌, Some, codes, string_bytes}
 use Rattle.vc_files.specs.FileMap.{FileMap}
 use Rattle.vc_graph.specs.Graph.{ReachedFrom}
+use Rattle.vc_index.specs.FolderTrees.{IsIndexTree}
+use Rattle.vc_index.specs.IndexMap.{IndexMap}
 use Rattle.vc_index.specs.Loading.{IsEntryOfTree}
+use Rattle.vc_object.specs.Object.{object_name}
 use Rattle.vc_object.specs.ObjectMap.{links_in}
 use Rattle.vc_object.specs.declared.id.ObjectId.{ObjectId}
+use Rattle.vc_object.specs.declared.kind.Kind.TheVariants as kinds
 use Rattle.vc_object.specs.declared.mode.Mode.{Mode}
+use Rattle.vc_refs.specs.Head.{head_of}
 use Rattle.vc_refs.specs.Way.{IsFirstInTheWay}
 use Rattle.vc_refs.specs.declared.faults.RefFault.{RefFault}
 use Rattle.vc_refs.specs.declared.faults.RefFault.TheVariants as ref
@@ -14,6 +19,9 @@ use Rattle.vc_refs.specs.declared.heads.Head.TheVariants as heads
 use Rattle.vc_store.specs.Store.{objects}
 use Rattle.vc_store.specs.declared.faults.StoreFault.{StoreFault}
 use Rattle.vc_store.specs.declared.faults.StoreFault.TheVariants as store
+use Rattle.vc_node.specs.Commit.{made_body, parents_of_commit}
+use Rattle.vc_node.specs.IndexFile.{SpellsIndex}
+use Rattle.vc_node.specs.Making.{HasRoot}
 use Rattle.vc_node.specs.declared.fault.NodeFault.{NodeFault}
 use Rattle.vc_node.specs.declared.fault.NodeFault.TheVariants.{Store, Ref}
 
@@ -35,9 +43,13 @@ TellsRead IsObject IsPath (Store e) = IsOfObject IsObject e
 TellsRead IsObject IsPath (Ref e) = IsOfPath IsPath e
 TellsRead IsObject IsPath _ = Unit {0}
 
+-- what one of the ids reaches
+abbrev pub IsReachedByOne : FileMap → List ObjectId → ObjectId → Type 0
+IsReachedByOne content ids = ReachedFrom (links_in (objects content)) ids
+
 -- what the id reaches
 abbrev pub IsReached : FileMap → ObjectId → ObjectId → Type 0
-IsReached content id = ReachedFrom (links_in (objects content)) (id ∷ [])
+IsReached content id = IsReachedByOne content (id ∷ [])
 
 -- an entry of the tree, or the tree
 abbrev pub IsBelow : FileMap → ObjectId → ObjectId → Type 0
@@ -51,3 +63,22 @@ IsReachedByHead content (heads.Id id) = IsReached content id
 -- the ref's own file, or the first that is in its way
 abbrev pub IsAtName : FileMap → List ℕ → List ℕ → Type 0
 IsAtName content name path = (path ≡ name) ⊎ IsFirstInTheWay content name path
+
+-- of a HEAD that names a branch, what is at that name
+abbrev pub IsAtBranch : FileMap → Head → List ℕ → Type 0
+IsAtBranch content (heads.Branch name) = IsAtName content name
+IsAtBranch content (heads.Id id) = NoneRead
+
+-- HEAD's own file, or what is at the branch that it names
+abbrev pub IsAtHead : FileMap → List ℕ → Type 0
+IsAtHead content path = (path ≡ codes "HEAD") ⊎ ((head : Head) × (head_of content ≡ Some head) × IsAtBranch content head path)
+
+-- a tree of the index, or the commit of its root's
+abbrev pub IsMade : IndexMap → List ObjectId → (author committer message : List ℕ) → ObjectId → Type 0
+IsMade m parents author committer message id =
+    IsIndexTree m id ⊎ ((tree : ObjectId) × HasRoot m tree × (id ≡ object_name kinds.Commit (made_body tree parents author committer message)))
+
+-- what an extra parent reaches, or what is made of the index
+abbrev pub IsOfCommit : FileMap → List ObjectId → (author committer message : List ℕ) → ObjectId → Type 0
+IsOfCommit content extra author committer message id =
+    IsReachedByOne content extra id ⊎ ((m : IndexMap) × SpellsIndex content m × IsMade m (parents_of_commit content extra) author committer message id)

@@ -10,6 +10,7 @@ ghost use Rattle.vc_node.specs.Clean.{KeepsClean};
 ghost use Rattle.vc_node.specs.Commit.{IsGoodParent, IsFreeHead, IsCommitted, WritesCommit, made_body, moved, parents_of_commit};
 ghost use Rattle.vc_node.specs.Making.{AreLines, BlamesLines, BlamesFreeHead, BlamesParents, BlamesLook, BlamesObjects, BlamesMaking, BlamesMoving, LeftByCommit, StoresTrees};
 ghost use Rattle.vc_node.specs.NodeFault.{TellsDevice};
+ghost use Rattle.vc_node.specs.Reads.{IsAtBranch, IsAtHead, IsMade, IsOfCommit, IsReachedByOne, NoneRead, TellsRead};
 ghost use Rattle.vc_node.specs.Shown.{shown};
 
 use crate::NodeFault;
@@ -50,6 +51,7 @@ fn free_head<F: Files>(alloc: Global, files: &mut F) -> Result<Head, NodeFault>
     ensures free { F.honest → IfOk result (IsFreeHead (F.content files.old)) }
     ensures refused { F.honest → IfErr result (BlamesFreeHead (F.content files.old)) }
     ensures same { F.content files.new ≡ F.content files.old }
+    ensures file { F.honest → IfErr result (TellsRead NoneRead (IsAtHead (F.content files.old))) }
     ensures wear { Wears F.failed F.can_fail F.left files.old files.new (TellsDevice result) }
 {
     let Some(head) = vc_refs::head(files, alloc)? else {
@@ -70,6 +72,7 @@ fn refuse_bad_parents<F: Files>(
     ensures good { F.honest → OnOk result (AllByRecursion (IsGoodParent (F.content files.old)) parents.now) }
     ensures refused { F.honest → IfErr result (BlamesParents (F.content files.old) parents.now) }
     ensures same { F.content files.new ≡ F.content files.old }
+    ensures file { F.honest → IfErr result (TellsRead (IsReachedByOne (F.content files.old) parents.now) NoneRead) }
     ensures wear { Wears F.failed F.can_fail F.left files.old files.new (TellsDevice result) }
 {
     for parent in parents {
@@ -87,6 +90,7 @@ fn parents_with<F: Files>(
     ensures parents { F.honest → IfOk result (λ ids. ids.items ≡ parents_of_commit (F.content files.old) extra.now) }
     ensures refused { F.honest → IfErr result (BlamesLook (F.content files.old)) }
     ensures same { F.content files.new ≡ F.content files.old }
+    ensures file { F.honest → IfErr result (TellsRead NoneRead (IsAtHead (F.content files.old))) }
     ensures wear { Wears F.failed F.can_fail F.left files.old files.new (TellsDevice result) }
 {
     let mut parents = Vec::new(alloc);
@@ -150,6 +154,7 @@ fn write_objects<F: Files>(
     ensures written { IfOk result (WritesCommit F.honest index.now parents.now words.entry.author.now words.entry.committer.now words.entry.message.now (objects (F.content files.old)) (objects (F.content files.new))) }
     ensures outside { F.honest → SameOutside (codes "objects/") (F.content files.old) (F.content files.new) }
     ensures clean { F.honest → KeepsClean (F.content files.old) (F.content files.new) }
+    ensures file { IfErr result (TellsRead (IsMade index.now parents.now words.entry.author.now words.entry.committer.now words.entry.message.now) NoneRead) }
     ensures wear { Writes F.honest F.content F.failed F.can_fail F.left files.old files.new (TellsDevice result) }
 {
     let tree = index.write_tree(alloc, files)?;
@@ -170,6 +175,7 @@ fn move_head<F: Files>(
     ensures refused { F.honest → IfErr result (BlamesMoving (F.content files.old) head.now) }
     ensures err { F.honest → OnErr result (F.content files.new ≡ F.content files.old) }
     ensures clean { F.honest → OnOk result (KeepsClean (F.content files.old) (F.content files.new)) }
+    ensures file { F.honest → IfErr result (TellsRead NoneRead (IsAtBranch (F.content files.old) head.now)) }
     ensures wear { Writes F.honest F.content F.failed F.can_fail F.left files.old files.new (TellsDevice result) }
 {
     match head {
@@ -198,6 +204,7 @@ pub(crate) fn commit<F: Files>(
     ensures left { F.honest → OnErr result (LeftByCommit (F.content files.old) extra.now words.entry.author.now words.entry.committer.now words.entry.message.now (F.content files.new)) }
     ensures err { F.honest → OnErr result (SameOutside (codes "objects/") (F.content files.old) (F.content files.new)) }
     ensures clean { F.honest → KeepsClean (F.content files.old) (F.content files.new) }
+    ensures file { F.honest → IfErr result (TellsRead (IsOfCommit (F.content files.old) extra.now words.entry.author.now words.entry.committer.now words.entry.message.now) (IsAtHead (F.content files.old))) }
     ensures wear { Writes F.honest F.content F.failed F.can_fail F.left files.old files.new (TellsDevice result) }
 {
     refuse_lines(words)?;

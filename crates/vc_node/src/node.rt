@@ -16,7 +16,7 @@ ghost use Rattle.vc_node.specs.Machine.{Answers, AnswersShown, HoldsNode, OrBadF
 ghost use Rattle.vc_files.specs.Failures.{Writes};
 ghost use Rattle.vc_node.specs.NodeFault.{is_fault, IsOfDevice, TellsDevice};
 ghost use Rattle.vc_node.specs.Opening.{IsOpenable, opened_node};
-ghost use Rattle.vc_node.specs.Reads.{IsAtName, IsBelow, IsReached, IsReachedByHead, NoneRead, TellsRead};
+ghost use Rattle.vc_node.specs.Reads.{IsAtHead, IsAtName, IsBelow, IsOfCommit, IsReached, IsReachedByHead, NoneRead, TellsRead};
 ghost use Rattle.vc_node.specs.Shown.{IsLoaded, IsReady, shown};
 
 use crate::commit::Words;
@@ -263,6 +263,7 @@ impl<F: Files> CloneNode<F> {
         ensures err { F.honest → OnErr result (SameOutside (codes "objects/") (F.content self.old.files) (F.content self.new.files)) }
         ensures up { self.old.is_up ≡ true → self.new.is_up ≡ up_after result }
         ensures clean { F.honest → KeepsClean (F.content self.old.files) (F.content self.new.files) }
+        ensures file { F.honest → IfErr result (TellsRead (IsOfCommit (F.content self.old.files) extra_parents.now author.now committer.now message.now) (IsAtHead (F.content self.old.files))) }
         ensures wear { Writes F.honest F.content F.failed F.can_fail F.left self.old.files self.new.files (TellsDevice result) }
     {
         if !self.is_up {

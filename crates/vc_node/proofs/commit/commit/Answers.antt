@@ -1,5 +1,5 @@
 use Rattle.vc_files.proofs.WearLemmas.{wears_then, wears_writes, writes_both, writes_none, writes_told}
-use Rattle.std.proofs.Common.{◌≡◌, ◌∙◌, List, rules, inl, inr, ap, subst}
+use Rattle.std.proofs.Common.{◌≡◌, ◌∙◌, List, rules, inl, inr, sym, ap, subst}
 use Rattle.std.specs.List.{AllByRecursion}
 use Rattle.std.specs.Prelude.{codes}
 use Rattle.vc_files.specs.FileMap.{FileMap, SameOutside}
@@ -15,6 +15,8 @@ use Rattle.vc_node.specs.Shown.{shown}
 use Rattle.vc_node.proofs.MakingLemmas.{left_on, told_on, writes_there, trees_there, stored_shown, committed_shown}
 use Rattle.vc_node.proofs.RefusalLemmas.{moving_blamed}
 use Rattle.vc_node.proofs.StoringLemmas.{root_of, memory_blamed, files_blamed}
+use Rattle.vc_node.specs.Reads.{IsAtHead, IsOfCommit, IsReachedByOne, NoneRead, TellsRead}
+use Rattle.vc_node.proofs.CommitReads.{at_head_read, made_read, moving_read, nothing_read, reached_read}
 use Rattle.vc_node.proofs.commit.commit.Goals as goal
 
 pub returns-clause-committed : goal.returns-clause-committed
@@ -232,3 +234,102 @@ returns-clause-wear g c = wears_then c.in_ok-head.ensures.wear (search rules) (s
 
 pub returns-in_err-refuse_lines-clause-wear : goal.returns-in_err-refuse_lines-clause-wear
 returns-in_err-refuse_lines-clause-wear g c = writes_none (search rules)
+
+-- ---- a bad file that it tells
+
+pub returns-in_err-head-clause-file : goal.returns-in_err-head-clause-file
+returns-in_err-head-clause-file g c = λ honest.
+    let w = c.args.words in
+    let content = g.F.Files.content in
+    let old = content c.args.files.now in
+    let extra = c.args.extra.now in
+    let e = c.in_err-head.field-0.0 in
+    told_on (TellsRead (IsOfCommit old extra w.author.now w.committer.now w.message.now) (IsAtHead old)) e c.from_residual-in_err-head.result c.from_residual-in_err-head.ensures.1
+    (at_head_read old extra w.author.now w.committer.now w.message.now e (c.in_err-head.ensures.file honest))
+
+pub returns-in_err-refuse_bad_parents-clause-file : goal.returns-in_err-refuse_bad_parents-clause-file
+returns-in_err-refuse_bad_parents-clause-file g c = λ honest.
+    let w = c.args.words in
+    let content = g.F.Files.content in
+    let old = content c.args.files.now in
+    let extra = c.args.extra.now in
+    let e = c.in_err-refuse_bad_parents.field-0.0 in
+    let first : content c.free_head.new.files ≡ old = c.in_ok-head.ensures.same in
+    told_on (TellsRead (IsOfCommit old extra w.author.now w.committer.now w.message.now) (IsAtHead old)) e c.from_residual-in_err-refuse_bad_parents.result c.from_residual-in_err-refuse_bad_parents.ensures.1
+    (reached_read old extra w.author.now w.committer.now w.message.now e (subst (λ (m : FileMap). TellsRead (IsReachedByOne m extra) NoneRead e) first (c.in_err-refuse_bad_parents.ensures.file honest)))
+
+pub returns-in_err-parents-clause-file : goal.returns-in_err-parents-clause-file
+returns-in_err-parents-clause-file g c = λ honest.
+    let w = c.args.words in
+    let content = g.F.Files.content in
+    let old = content c.args.files.now in
+    let extra = c.args.extra.now in
+    let e = c.in_err-parents.field-0.0 in
+    let first : content c.free_head.new.files ≡ old = c.in_ok-head.ensures.same in
+    let second : content c.refuse_bad_parents.new.files ≡ old = c.in_ok-refuse_bad_parents.ensures.same ∙ first in
+    told_on (TellsRead (IsOfCommit old extra w.author.now w.committer.now w.message.now) (IsAtHead old)) e c.from_residual-in_err-parents.result c.from_residual-in_err-parents.ensures.1
+    (at_head_read old extra w.author.now w.committer.now w.message.now e (subst (λ (m : FileMap). TellsRead NoneRead (IsAtHead m) e) second (c.in_err-parents.ensures.file honest)))
+
+pub returns-in_err-write_objects-clause-file : goal.returns-in_err-write_objects-clause-file
+returns-in_err-write_objects-clause-file g c = λ honest.
+    let w = c.args.words in
+    let content = g.F.Files.content in
+    let old = content c.args.files.now in
+    let extra = c.args.extra.now in
+    let e = c.in_err-write_objects.field-0.0 in
+    let first : content c.free_head.new.files ≡ old = c.in_ok-head.ensures.same in
+    let second : content c.refuse_bad_parents.new.files ≡ old = c.in_ok-refuse_bad_parents.ensures.same ∙ first in
+    let third : content c.parents_with.new.files ≡ old = c.in_ok-parents.ensures.same ∙ second in
+    let spelled = subst (λ (m : FileMap). SpellsIndex m c.in_ok-index.index) third (c.in_ok-index.ensures.spelled honest) in
+    let parents = c.deref.ensures.value ∙ c.in_ok-parents.ensures.parents honest ∙ ap (λ (m : FileMap). parents_of_commit m extra) second in
+    told_on (TellsRead (IsOfCommit old extra w.author.now w.committer.now w.message.now) (IsAtHead old)) e c.from_residual-in_err-write_objects.result c.from_residual-in_err-write_objects.ensures.1
+    (made_read old extra w.author.now w.committer.now w.message.now c.in_ok-index.index spelled _ parents e c.in_err-write_objects.ensures.file)
+
+pub returns-in_err-id-clause-file : goal.returns-in_err-id-clause-file
+returns-in_err-id-clause-file g c = λ honest.
+    let w = c.args.words in
+    let content = g.F.Files.content in
+    let old = content c.args.files.now in
+    let extra = c.args.extra.now in
+    let e = c.in_err-id.field-0.0 in
+    let first : content c.free_head.new.files ≡ old = c.in_ok-head.ensures.same in
+    let second : content c.refuse_bad_parents.new.files ≡ old = c.in_ok-refuse_bad_parents.ensures.same ∙ first in
+    let third : content c.parents_with.new.files ≡ old = c.in_ok-parents.ensures.same ∙ second in
+    let spelled = subst (λ (m : FileMap). SpellsIndex m c.in_ok-index.index) third (c.in_ok-index.ensures.spelled honest) in
+    let parents = c.deref-2.ensures.value ∙ c.in_ok-parents.ensures.parents honest ∙ ap (λ (m : FileMap). parents_of_commit m extra) second in
+    told_on (TellsRead (IsOfCommit old extra w.author.now w.committer.now w.message.now) (IsAtHead old)) e c.from_residual-in_err-id.result c.from_residual-in_err-id.ensures.1
+    (made_read old extra w.author.now w.committer.now w.message.now c.in_ok-index.index spelled _ parents e c.in_err-id.ensures.file)
+
+pub returns-in_err-move_head-clause-file : goal.returns-in_err-move_head-clause-file
+returns-in_err-move_head-clause-file g c = λ honest.
+    let w = c.args.words in
+    let content = g.F.Files.content in
+    let old = content c.args.files.now in
+    let extra = c.args.extra.now in
+    let e = c.in_err-move_head.field-0.0 in
+    let first : content c.free_head.new.files ≡ old = c.in_ok-head.ensures.same in
+    let second : content c.refuse_bad_parents.new.files ≡ old = c.in_ok-refuse_bad_parents.ensures.same ∙ first in
+    let third : content c.parents_with.new.files ≡ old = c.in_ok-parents.ensures.same ∙ second in
+    let fourth : content c.read_index.new.files ≡ old = c.in_ok-index.ensures.same ∙ third in
+    let outside = subst (λ (m : FileMap). SameOutside (codes "objects/") m (content c.write_objects-2.new.files)) fourth (c.in_ok-id.ensures.outside honest) in
+    told_on (TellsRead (IsOfCommit old extra w.author.now w.committer.now w.message.now) (IsAtHead old)) e c.from_residual-in_err-move_head.result c.from_residual-in_err-move_head.ensures.1
+    (at_head_read old extra w.author.now w.committer.now w.message.now e (moving_read old (content c.write_objects-2.new.files) outside c.in_ok-head.head (c.in_ok-head.ensures.found honest) (c.in_ok-head.ensures.free honest) e (c.in_err-move_head.ensures.file honest)))
+
+pub returns-in_err-index-clause-file : goal.returns-in_err-index-clause-file
+returns-in_err-index-clause-file g c = λ honest.
+    let w = c.args.words in
+    let old = g.F.Files.content c.args.files.now in
+    let extra = c.args.extra.now in
+    let e = c.in_err-index.field-0.0 in
+    told_on (TellsRead (IsOfCommit old extra w.author.now w.committer.now w.message.now) (IsAtHead old)) e c.from_residual-in_err-index.result c.from_residual-in_err-index.ensures.1
+    (nothing_read old extra w.author.now w.committer.now w.message.now e c.in_err-index.ensures.file)
+
+pub returns-in_err-refuse_lines-clause-file : goal.returns-in_err-refuse_lines-clause-file
+returns-in_err-refuse_lines-clause-file g c = λ honest.
+    let w = c.args.words in
+    let old = g.F.Files.content c.args.files.now in
+    let extra = c.args.extra.now in
+    let e = c.in_err-refuse_lines.field-0.0 in
+    let read : TellsRead (IsOfCommit old extra w.author.now w.committer.now w.message.now) (IsAtHead old) e =
+    subst (TellsRead (IsOfCommit old extra w.author.now w.committer.now w.message.now) (IsAtHead old)) (sym c.in_err-refuse_lines.ensures.refused.0) tt in
+    search (rules, read)

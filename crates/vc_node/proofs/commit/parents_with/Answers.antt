@@ -2,6 +2,8 @@ use Rattle.std.proofs.Common.{rules}
 use Rattle.vc_node.specs.Making.{BlamesLook}
 use Rattle.vc_node.specs.declared.fault.NodeFault.TheVariants.{Ref}
 use Rattle.vc_node.proofs.RefusalLemmas.{of_head_value}
+use Rattle.vc_node.specs.Reads.{IsAtHead, NoneRead, TellsRead}
+use Rattle.vc_node.proofs.CommitReads.{value_read}
 use Rattle.vc_node.proofs.commit.parents_with.Goals as goal
 
 pub returns-in_err-id-clause-refused : goal.returns-in_err-id-clause-refused
@@ -9,3 +11,9 @@ returns-in_err-id-clause-refused g c = λ honest.
     let content = g.F.Files.content c.args.files.now in
     let blames : BlamesLook content (Ref c.in_err-id.field-0.0) = of_head_value content c.in_err-id.field-0.0 (c.in_err-id.ensures.refused honest) in
     search (rules, blames)
+
+pub returns-in_err-id-clause-file : goal.returns-in_err-id-clause-file
+returns-in_err-id-clause-file g c = λ honest.
+    let content = g.F.Files.content c.args.files.now in
+    let read : TellsRead NoneRead (IsAtHead content) (Ref c.in_err-id.field-0.0) = value_read content c.in_err-id.field-0.0 (c.in_err-id.ensures.refused honest) in
+    search (rules, read)

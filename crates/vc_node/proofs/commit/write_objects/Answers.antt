@@ -7,6 +7,10 @@ use Rattle.vc_node.specs.declared.fault.NodeFault.TheVariants.{Store}
 use Rattle.vc_node.proofs.StoringLemmas.{root_of, written_still, tree_blamed, body_blamed}
 use Rattle.vc_object.specs.declared.kind.Kind.TheVariants as kinds
 use Rattle.vc_node.proofs.CleanLemmas.{clean_objects, clean_on, clean_then, clean_put}
+use Rattle.vc_store.specs.Store.{IsDamaged}
+use Rattle.vc_object.specs.declared.id.ObjectId.{ObjectId}
+use Rattle.vc_node.specs.Reads.{IsMade, NoneRead, TellsRead}
+use Rattle.vc_node.proofs.CommitReads.{trees_read, body_read}
 use Rattle.vc_node.proofs.commit.write_objects.Goals as goal
 
 pub returns-in_err-tree-clause-refused : goal.returns-in_err-tree-clause-refused
@@ -56,3 +60,22 @@ returns-in_err-id-clause-wear g c = writes_both c.in_ok-tree.ensures.wear (searc
 
 pub returns-clause-wear : goal.returns-clause-wear
 returns-clause-wear g c = writes_both c.in_ok-tree.ensures.wear (search rules) (writes_told c.in_ok-id.ensures.wear (search rules) (search rules))
+
+-- ---- a bad file that is told
+
+pub returns-in_err-tree-clause-file : goal.returns-in_err-tree-clause-file
+returns-in_err-tree-clause-file g c =
+    let w = c.args.words in
+    let e = c.in_err-tree.field-0.0 in
+    let read : TellsRead (IsMade c.args.index.now c.args.parents.now w.author.now w.committer.now w.message.now) NoneRead (of_index e) =
+    trees_read c.args.index.now c.args.parents.now w.author.now w.committer.now w.message.now (λ (id : ObjectId). g.F.Files.honest → IsDamaged (g.F.Files.content c.write_tree.new.files) id) e c.in_err-tree.ensures.refused in
+    search (rules, read)
+
+pub returns-in_err-id-clause-file : goal.returns-in_err-id-clause-file
+returns-in_err-id-clause-file g c =
+    let w = c.args.words in
+    let e = c.in_err-id.field-0.0 in
+    let read : TellsRead (IsMade c.args.index.now c.args.parents.now w.author.now w.committer.now w.message.now) NoneRead (Store e) =
+    body_read c.args.index.now c.args.parents.now w.author.now w.committer.now w.message.now
+    c.in_ok-tree.tree (root_of c.in_ok-tree.ensures.written) c.deref.result.now (c.deref.ensures.value ∙ c.in_ok-body.ensures) e c.in_err-id.ensures.refused in
+    search (rules, read)
