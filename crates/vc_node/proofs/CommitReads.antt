@@ -1,22 +1,18 @@
 -- A bad file that a commit tells is one that it had to read.
-use Rattle.std.proofs.Common.{◌≡◌, inl, inr, ℕ, ◌<◌, List, [], ◌∷◌, Some, true, nat_eq, get_or, length, refl, sym, ap, ◌∙◌, subst}
-use Rattle.std.specs.Prelude.{codes, string_bytes, is_some, ◌&&◌}
-use Rattle.std.specs.List.{starts_with}
-use Rattle.std.proofs.lemmas.Bool.{and_parts}
+use Rattle.std.proofs.Common.{◌≡◌, inl, inr, ℕ, ◌<◌, List, Some, get_or, length, refl, ap, ◌∙◌, subst}
+use Rattle.std.specs.Prelude.{codes, string_bytes}
 use Rattle.std.proofs.lemmas.List.Elements.{Contains-get_or}
-use Rattle.std.specs.FinMap.{get}
 use Rattle.vc_files.specs.FileMap.{FileMap, SameOutside}
 use Rattle.vc_index.specs.IndexMap.{IndexMap}
 use Rattle.vc_index.specs.WrittenTrees.{IsOfWrite}
 use Rattle.vc_index.specs.declared.faults.IndexFault.{IndexFault}
 use Rattle.vc_index.specs.declared.faults.IndexFault.TheVariants as index
-use Rattle.vc_object.specs.ObjectMap.{links_in}
 use Rattle.vc_object.specs.Object.{object_name}
+use Rattle.vc_object.specs.ObjectMap.{links_in}
 use Rattle.vc_object.specs.declared.id.ObjectId.{ObjectId}
 use Rattle.vc_object.specs.declared.kind.Kind.TheVariants as kinds
 use Rattle.vc_refs.specs.Head.{head_of}
 use Rattle.vc_refs.specs.RefFault.{BlamesHead, BlamesHeadValue, BlamesWay, IsFault}
-use Rattle.vc_refs.specs.Way.{IsFree, IsFirstInTheWay}
 use Rattle.vc_refs.specs.declared.faults.RefFault.{RefFault}
 use Rattle.vc_refs.specs.declared.faults.RefFault.TheVariants as ref
 use Rattle.vc_refs.specs.declared.heads.Head.{Head}
