@@ -1,11 +1,11 @@
 //! Rows on objects by name.
-use crate::answers::{Answer, done, id_or_none, listed, word, yes_or_no};
+use crate::answers::{Answer, id_or_none, listed, word, yes_or_no};
 use crate::ids::{bytes_of, id_of, two};
 use crate::ref_rows;
 use anyhow::bail;
 use bstr::ByteSlice;
 use std::alloc::Global;
-use vc_files::{Files, MemoryFiles};
+use vc_files::Files;
 use vc_object::{Kind, ObjectId};
 use vc_store::{Store, Stored};
 
@@ -14,7 +14,6 @@ pub fn obey<F: Files>(files: &mut F, alloc: Global, verb: &str, rest: &str) -> A
     match verb {
         "store" => id_or_none(alloc, Some(put(&mut store, alloc, rest)?)),
         "store-zeros" => put_zeros(&mut store, alloc, rest),
-        "store-all" => put_all(&mut store, alloc, rest),
         "object" | "find" | "has" => look(&mut store, alloc, verb, &id_of(alloc, rest)?),
         "names" => listed(alloc, &store.names()?),
         "by-prefix" => listed(alloc, &store.by_prefix(&bytes_of(alloc, rest)?)?),
@@ -53,17 +52,4 @@ fn put<F: Files>(store: &mut Store<'_, F>, alloc: Global, text: &str) -> anyhow:
 fn put_zeros<F: Files>(store: &mut Store<'_, F>, alloc: Global, rest: &str) -> Answer {
     let body = vec![in alloc; 0; rest.parse()?]?;
     id_or_none(alloc, Some(store.put(Kind::Blob, &body)?))
-}
-
-// Stores the objects that a text writes, parted by `, `, as a store of their own gives them.
-fn put_all<F: Files>(store: &mut Store<'_, F>, alloc: Global, text: &str) -> Answer {
-    let mut files = MemoryFiles::new(alloc);
-    let mut own = Store::new(alloc, &mut files);
-    let mut all = Vec::new(alloc);
-    for part in text.split(", ") {
-        let id = put(&mut own, alloc, part)?;
-        all.push(own.get(&id)?)?;
-    }
-    store.put_all(&all)?;
-    done(alloc)
 }

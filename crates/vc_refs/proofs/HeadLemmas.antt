@@ -17,7 +17,7 @@ use Rattle.vc_refs.specs.declared.heads.Head.TheVariants as head
 use Rattle.vc_refs.specs.declared.heads.HeadText.TheVariants.{Says, NamesHead, SaysNothing}
 use Rattle.vc_refs.specs.RefFile.{id_in, id_text, without_lf}
 use Rattle.vc_refs.specs.RefMap.{IsInRefs, is_ref}
-use Rattle.vc_refs.specs.Head.{read_head, name_said, id_said, said, head_of, head_text, IsHeadInRefs, KeepsTheRest}
+use Rattle.vc_refs.specs.Head.{read_head, name_said, id_said, said, head_of, head_text, IsHeadInRefs, IsLegalHead, KeepsTheRest}
 use Rattle.vc_refs.specs.Refs.{refs, ChangesOnly}
 use Rattle.vc_refs.proofs.RefFileLemmas.{without_lf-line, id_in-id_text, digits_of}
 use Rattle.vc_refs.proofs.RefsLemmas.{only_put, only_unput, outside_from_only}
@@ -103,11 +103,6 @@ kept_at old new only q = elim (is_ref q) as (λ b. is_ref q ≡ b → cond b (op
 
 pub refs-kept_head : (old new : FileMap) → ChangesOnly (codes "HEAD") old new → refs new ≡ refs old
 refs-kept_head old new only i q = kept_at old new only q i
-
--- a ref's name, or any id
-abbrev pub IsLegalHead : Head → Type 0
-IsLegalHead (head.Branch name) = is_ref name ≡ true
-IsLegalHead (head.Id id) = Unit {0}
 
 -- a branch that HEAD names has a ref's name
 pub head_legal : (text : List ℕ) (h : Head) → read_head text ≡ Says h → IsLegalHead h

@@ -1,5 +1,5 @@
 -- HEAD: the ref that is checked out, or an id.
-use Rattle.std.specs.Prelude.{◌≡◌, ℕ, ◌&&◌, nat_eq, bytes_eq, List, [], ◌∷◌, ◌++◌, drop, Option, Some, None, if◌then◌else◌, codes, option_map, option_and_then}
+use Rattle.std.specs.Prelude.{◌≡◌, ℕ, true, ◌&&◌, nat_eq, bytes_eq, List, [], ◌∷◌, ◌++◌, drop, Option, Some, None, if◌then◌else◌, codes, option_map, option_and_then}
 use Rattle.std.specs.List.{starts_with}
 use Rattle.std.specs.Str.{is_utf8}
 use Rattle.std.specs.FinMap as files
@@ -61,6 +61,11 @@ head_text (head.Id id) = id_text id
 abbrev pub IsHeadInRefs : Head → Type 0
 IsHeadInRefs (head.Branch name) = IsInRefs name
 IsHeadInRefs (head.Id id) = Unit {0}
+
+-- a ref's name, or any id
+abbrev pub IsLegalHead : Head → Type 0
+IsLegalHead (head.Branch name) = is_ref name ≡ true
+IsLegalHead (head.Id id) = Unit {0}
 
 -- after a change of this ref each other file, all that lies outside `refs/`, and HEAD are as before
 pub record KeepsTheRest (name : List ℕ) (old new : FileMap) : Type 0 where

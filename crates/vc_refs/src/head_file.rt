@@ -1,8 +1,8 @@
 // HEAD: look, resolve and set.
-ghost use Rattle.std.specs.Prelude.{◌≡◌, Some, IfOk, IfErr, IfSome, OnOk, OnErr, IsErrOf, codes, string_bytes};
+ghost use Rattle.std.specs.Prelude.{◌≡◌, ◌⊎◌, Some, IfOk, IfErr, IfSome, OnOk, OnErr, IsErrOf, codes, string_bytes};
 ghost use Rattle.vc_files.specs.Failures.{Wears, Writes};
 ghost use Rattle.vc_refs.specs.declared.heads.HeadText.TheVariants.{Says};
-ghost use Rattle.vc_refs.specs.Head.{read_head, name_said, head_of, head_text, head_value, IsHeadInRefs};
+ghost use Rattle.vc_refs.specs.Head.{read_head, name_said, head_of, head_text, head_value, IsHeadInRefs, IsLegalHead};
 ghost use Rattle.vc_refs.specs.Refs.{refs, ChangesOnly};
 ghost use Rattle.vc_refs.specs.RefFault.{BlamesHead, BlamesHeadValue, IsGoodHead, IsGoodHeadValue, IsFault};
 
@@ -115,6 +115,7 @@ pub fn set_head<F: Files>(files: &mut F, alloc: Global, head: &Head) -> Result<(
     ensures only { F.honest → ChangesOnly (codes "HEAD") (F.content files.old) (F.content files.new) }
     ensures err { F.honest → OnErr result (F.content files.new ≡ F.content files.old) }
     ensures wear { Writes F.honest F.content F.failed F.can_fail F.left files.old files.new (IsErrOf result (RefFault.Fault Fault.Device)) }
+    ensures looks { IsLegalHead head.now ⊎ Wears F.failed F.can_fail F.left files.old files.new (IsErrOf result (RefFault.Fault Fault.Device)) }
 {
     let text = head_text(alloc, head)?;
     files.put(alloc, HEAD, text.as_bytes())?;

@@ -1,6 +1,6 @@
 // Removing one ref.
-ghost use Rattle.std.specs.Prelude.{◌≡◌, IfErr, OnOk, OnErr, IsErrOf};
-ghost use Rattle.vc_files.specs.Failures.{Writes};
+ghost use Rattle.std.specs.Prelude.{◌≡◌, ◌⊎◌, IsSome, IfErr, OnOk, OnErr, IsErrOf};
+ghost use Rattle.vc_files.specs.Failures.{Wears, Writes};
 ghost use Rattle.vc_refs.specs.RefMap.{IsInRefs, IsRefMap, without_ref};
 ghost use Rattle.vc_refs.specs.Refs.{refs, IsBadRef};
 ghost use Rattle.vc_refs.specs.Head.{KeepsTheRest};
@@ -29,6 +29,7 @@ pub fn remove<F: Files>(
     ensures rest { F.honest → KeepsTheRest name.now (F.content files.old) (F.content files.new) }
     ensures err { F.honest → OnErr result (F.content files.new ≡ F.content files.old) }
     ensures wear { Writes F.honest F.content F.failed F.can_fail F.left files.old files.new (IsErrOf result (RefFault.Fault Fault.Device)) }
+    ensures looks { F.honest → (IsSome expected × HasExpected (F.content files.old) name.now expected) ⊎ Wears F.failed F.can_fail F.left files.old files.new (IsErrOf result (RefFault.Fault Fault.Device)) }
 {
     expect_value(files, alloc, name, expected)?;
     if expected.is_none() {

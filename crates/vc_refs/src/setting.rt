@@ -1,6 +1,6 @@
 // Setting one ref.
-ghost use Rattle.std.specs.Prelude.{◌≡◌, true, IfErr, OnOk, OnErr, IsErrOf};
-ghost use Rattle.vc_files.specs.Failures.{Writes};
+ghost use Rattle.std.specs.Prelude.{◌≡◌, ◌⊎◌, true, IfErr, OnOk, OnErr, IsErrOf};
+ghost use Rattle.vc_files.specs.Failures.{Wears, Writes};
 ghost use Rattle.vc_refs.specs.RefMap.{IsInRefs, IsRefMap, is_ref, with_ref};
 ghost use Rattle.vc_refs.specs.Refs.{refs};
 ghost use Rattle.vc_refs.specs.Head.{KeepsTheRest};
@@ -31,6 +31,7 @@ pub fn set<F: Files>(
     ensures rest { F.honest → KeepsTheRest name.now (F.content files.old) (F.content files.new) }
     ensures err { F.honest → OnErr result (F.content files.new ≡ F.content files.old) }
     ensures wear { Writes F.honest F.content F.failed F.can_fail F.left files.old files.new (IsErrOf result (RefFault.Fault Fault.Device)) }
+    ensures looks { F.honest → ((is_ref name.now ≡ true) × MaySet (F.content files.old) name.now expected) ⊎ Wears F.failed F.can_fail F.left files.old files.new (IsErrOf result (RefFault.Fault Fault.Device)) }
 {
     refuse_conflict(files, alloc, name)?;
     expect_value(files, alloc, name, expected)?;
@@ -46,6 +47,7 @@ fn put<F: Files>(files: &mut F, alloc: Global, name: &RefName, id: ObjectId) -> 
     ensures rest { F.honest → KeepsTheRest name.now (F.content files.old) (F.content files.new) }
     ensures err { F.honest → OnErr result (F.content files.new ≡ F.content files.old) }
     ensures wear { Writes F.honest F.content F.failed F.can_fail F.left files.old files.new (IsErrOf result Fault.Device) }
+    ensures looks { (is_ref name.now ≡ true) ⊎ Wears F.failed F.can_fail F.left files.old files.new (IsErrOf result Fault.Device) }
 {
     let text = id_text(alloc, &id)?;
     files.put(alloc, name.as_str(), text.as_bytes())?;

@@ -1,9 +1,9 @@
 // Refs as a view of files.
-ghost use Rattle.std.specs.Prelude.{◌≡◌, Some, IfOk, IfErr, IfSome, OnOk, OnErr, IsErrOf, codes};
+ghost use Rattle.std.specs.Prelude.{◌≡◌, ◌⊎◌, true, Some, IsSome, IfOk, IfErr, IfSome, OnOk, OnErr, IsErrOf, codes};
 ghost use Rattle.vc_files.specs.Failures.{Wears, Writes};
-ghost use Rattle.vc_refs.specs.RefMap.{IsInRefs, IsRefMap, IsListOf, with_ref, without_ref};
+ghost use Rattle.vc_refs.specs.RefMap.{IsInRefs, IsRefMap, IsListOf, is_ref, with_ref, without_ref};
 ghost use Rattle.vc_refs.specs.Refs.{refs, IsBadRef, SpellsRefs, ChangesOnly};
-ghost use Rattle.vc_refs.specs.Head.{head_of, head_value, IsHeadInRefs, KeepsTheRest};
+ghost use Rattle.vc_refs.specs.Head.{head_of, head_value, IsHeadInRefs, IsLegalHead, KeepsTheRest};
 ghost use Rattle.vc_refs.specs.Way.{IsFree};
 ghost use Rattle.vc_refs.specs.RefFault.{BlamesRef, BlamesRemove, BlamesSet, BlamesWay, BlamesList, BlamesHead, BlamesHeadValue, HasExpected, MaySet, IsGoodHead, IsGoodHeadValue, IsFault};
 
@@ -58,6 +58,7 @@ impl<'a, F: Files> Refs<'a, F> {
         ensures rest { F.honest → KeepsTheRest name.now (F.content self.old.files.now) (F.content self.new.files.now) }
         ensures err { F.honest → OnErr result (F.content self.new.files.now ≡ F.content self.old.files.now) }
         ensures wear { Writes F.honest F.content F.failed F.can_fail F.left self.old.files.now self.new.files.now (IsErrOf result (RefFault.Fault Fault.Device)) }
+        ensures looks { F.honest → ((is_ref name.now ≡ true) × MaySet (F.content self.old.files.now) name.now expected) ⊎ Wears F.failed F.can_fail F.left self.old.files.now self.new.files.now (IsErrOf result (RefFault.Fault Fault.Device)) }
     {
         setting::set(self.files, self.alloc, name, expected, new)
     }
@@ -87,6 +88,7 @@ impl<'a, F: Files> Refs<'a, F> {
         ensures rest { F.honest → KeepsTheRest name.now (F.content self.old.files.now) (F.content self.new.files.now) }
         ensures err { F.honest → OnErr result (F.content self.new.files.now ≡ F.content self.old.files.now) }
         ensures wear { Writes F.honest F.content F.failed F.can_fail F.left self.old.files.now self.new.files.now (IsErrOf result (RefFault.Fault Fault.Device)) }
+        ensures looks { F.honest → (IsSome expected × HasExpected (F.content self.old.files.now) name.now expected) ⊎ Wears F.failed F.can_fail F.left self.old.files.now self.new.files.now (IsErrOf result (RefFault.Fault Fault.Device)) }
     {
         removing::remove(self.files, self.alloc, name, expected)
     }
@@ -138,6 +140,7 @@ impl<'a, F: Files> Refs<'a, F> {
         ensures only { F.honest → ChangesOnly (codes "HEAD") (F.content self.old.files.now) (F.content self.new.files.now) }
         ensures err { F.honest → OnErr result (F.content self.new.files.now ≡ F.content self.old.files.now) }
         ensures wear { Writes F.honest F.content F.failed F.can_fail F.left self.old.files.now self.new.files.now (IsErrOf result (RefFault.Fault Fault.Device)) }
+        ensures looks { IsLegalHead head.now ⊎ Wears F.failed F.can_fail F.left self.old.files.now self.new.files.now (IsErrOf result (RefFault.Fault Fault.Device)) }
     {
         head_file::set_head(self.files, self.alloc, head)
     }

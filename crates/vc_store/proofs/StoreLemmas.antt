@@ -1,11 +1,9 @@
 -- What a write of an object's file does to the objects.
-use Rattle.std.proofs.Common.{◌≡◌, ℕ, ◌<◌, ◌+◌, zero, suc, Bool, true, false, cond, ◌==◌, nat_eq, nat_lt, List, [], ◌∷◌, ◌++◌, take, drop, length, Option, Some, None, Result, Ok, Err, sym, ap, refl, ◌∙◌, subst, lit<, rules, get_or, slice_index}
+use Rattle.std.proofs.Common.{◌≡◌, ℕ, ◌<◌, zero, suc, Bool, true, false, cond, ◌==◌, nat_eq, nat_lt, List, [], ◌∷◌, ◌++◌, take, drop, length, Option, Some, None, Result, Ok, Err, sym, ap, refl, ◌∙◌, subst, lit<, rules, slice_index}
 use Rattle.std.specs.Prelude.{bytes_eq, is_ok, is_some, codes, unwrap_or}
 use Rattle.std.specs.List.{list_all, starts_with}
 use Rattle.std.specs.Result.{result_ok}
 use Rattle.std.specs.FinMap as files
-use Rattle.std.specs.Prelude.{map}
-use Rattle.std.proofs.lemmas.List.{map_more, take-map}
 use Rattle.std.proofs.lemmas.Slice.Eq.{bytes_eq-Decides}
 use Rattle.std.proofs.lemmas.Bool.{false_from_ne_true, and_parts}
 use Rattle.hex.specs.declared.error.FromHexError.{FromHexError}
@@ -16,14 +14,12 @@ use Rattle.vc_files.proofs.FileMapLemmas.{get-put, outside_put}
 use Rattle.vc_object.specs.Decoding.{StoredObject, stored_object, decoded}
 use Rattle.vc_object.specs.Object.{object_name, object_bytes, IsObject}
 use Rattle.vc_object.specs.ObjectId.{is_name, is_id}
-use Rattle.vc_object.specs.ObjectMap.{ObjectMap}
 use Rattle.vc_object.specs.declared.id.ObjectId.{ObjectId}
 use Rattle.vc_object.specs.declared.kind.Kind.{Kind}
 use Rattle.vc_object.proofs.Decoding.{decoded_again}
-use Rattle.vc_store.specs.declared.stored.Stored.{Stored}
 use Rattle.vc_store.specs.declared.faults.StoreFault.{StoreFault}
 use Rattle.vc_store.specs.declared.faults.StoreFault.TheVariants.{Absent, Damaged}
-use Rattle.vc_store.specs.Store.{object_path, stored, stored_in, named, objects, with_object, with_objects, with_file, with_files}
+use Rattle.vc_store.specs.Store.{object_path, stored, stored_in, named, objects, with_object, with_file}
 
 all_bytes : (xs : List ℕ) → list_all (λ b. nat_lt b 256) xs ≡ true → (i : ℕ) → slice_index xs i < 256
 all_bytes [] h i = lit< tt
@@ -130,23 +126,6 @@ objects-there content id object valid there i q =
 pub outside-put : (content : FileMap) (name bytes : List ℕ) → SameOutside (codes "objects/") content (files.insert content (object_path name) bytes)
 outside-put content name bytes = outside_put (codes "objects/") content (object_path name) bytes refl
 
--- one object more, at the end
-pub with_objects-push : (objects : ObjectMap) (more : List StoredObject) (object : StoredObject) → with_objects objects (more ++ object ∷ []) ≡ with_object (with_objects objects more) (object_name object.kind object.body) object
-with_objects-push objects [] object = refl
-with_objects-push objects (first ∷ more) object = with_objects-push (with_object objects (object_name first.kind first.body) first) more object
-
-stored_view : Stored → StoredObject
-stored_view s = stored_object s.kind s.body.items
-
--- a loop that has added the first i objects adds one more
-pub with_objects-more : (objects : ObjectMap) (all : List Stored) (i : ℕ) (object : Stored) → i < length all → object ≡ get_or all i object
-    → with_objects objects (take (i + 1) (map (λ s. stored_object s.kind s.body.items) all))
-    ≡ with_object (with_objects objects (take i (map (λ s. stored_object s.kind s.body.items) all))) (object_name object.kind object.body.items) (stored_object object.kind object.body.items)
-unfolding stored_view
-with_objects-more objects all i object inside is =
-    rw (take-map {X = Stored} stored_view (i + 1) all, take-map {X = Stored} stored_view i all, map_more {X = Stored} stored_view all i object inside, ← is)
-    (with_objects-push objects (map stored_view (take i all)) (stored_view object))
-
 no_ref : (q : List ℕ) → starts_with nat_eq (object_path q) (codes "refs/") ≡ false
 no_ref q = refl
 
@@ -191,17 +170,3 @@ unfolding with_file
 with_file-there content id kind body is there =
     let some : is_some (files.get content (object_path (object_name kind body).0)) ≡ true = subst (λ (i : ObjectId). is_some (files.get content (object_path i.0)) ≡ true) is (there_file id (files.get content (object_path id.0)) there) in
     sym (ap (λ b. cond b content (files.insert content (object_path (object_name kind body).0) (object_bytes kind body))) some)
-
--- one file more, at the end
-with_files-push : (content : FileMap) (more : List StoredObject) (object : StoredObject) → with_files content (more ++ object ∷ []) ≡ with_file (with_files content more) object
-with_files-push content [] object = refl
-with_files-push content (first ∷ more) object = with_files-push (with_file content first) more object
-
--- a loop that has stored the first i objects stores one more
-pub with_files-more : (content : FileMap) (all : List Stored) (i : ℕ) (object : Stored) → i < length all → object ≡ get_or all i object
-    → with_files content (take (i + 1) (map (λ s. stored_object s.kind s.body.items) all))
-    ≡ with_file (with_files content (take i (map (λ s. stored_object s.kind s.body.items) all))) (stored_object object.kind object.body.items)
-unfolding stored_view
-with_files-more content all i object inside is =
-    rw (take-map {X = Stored} stored_view (i + 1) all, take-map {X = Stored} stored_view i all, map_more {X = Stored} stored_view all i object inside, ← is)
-    (with_files-push content (map stored_view (take i all)) (stored_view object))

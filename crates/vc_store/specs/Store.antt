@@ -60,11 +60,6 @@ with_file content object =
     let path = object_path (object_name object.kind object.body).0 in
     if is_some (files.get content path) then content else files.insert content path (object_bytes object.kind object.body)
 
--- the files, with those of these objects too, the first of them first
-abbrev pub with_files : FileMap → List StoredObject → FileMap
-with_files content [] = content
-with_files content (object ∷ rest) = with_files (with_file content object) rest
-
 -- the digits of a path
 abbrev pub digits_in : List ℕ → List ℕ
 digits_in path = take 2 (drop 8 path) ++ drop 11 path

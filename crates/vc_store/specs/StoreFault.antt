@@ -28,12 +28,6 @@ IsOfPut kind body (Absent absent) = ⊥
 IsOfPut kind body (Damaged damaged) = IsObject kind body × (damaged ≡ object_name kind body)
 IsOfPut kind body (Fault fault) = IsObject kind body
 
--- what a put of objects that were read may answer: no such object is refused as a bad one
-abbrev pub IsOfAll : StoreFault → Type 0
-IsOfAll (Damaged damaged) = ⊤
-IsOfAll (Fault fault) = ⊤
-IsOfAll _ = ⊥
-
 -- a damaged object is damaged
 abbrev pub IsOfDamage : FileMap → StoreFault → Type 0
 IsOfDamage content (Damaged damaged) = IsDamaged content damaged

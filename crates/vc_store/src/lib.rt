@@ -17,4 +17,4 @@ pub use listing::{by_prefix, names};
 pub use reading::{find, get, has};
 pub use stored::Stored;
 pub use view::Store;
-pub use writing::{put, put_all};
+pub use writing::put;

@@ -1,16 +1,15 @@
 // A store as a view of files.
-ghost use Rattle.std.specs.Prelude.{◌≡◌, ◌↔◌, ◌⊎◌, Some, None, Contains, IfOk, IfErr, IsErr, IsErrAnd, IsOk, OnOk, OnErr, IsErrOf, IsSome, is_ok, true, false, map, filter, option_map, codes};
+ghost use Rattle.std.specs.Prelude.{◌≡◌, ◌↔◌, ◌⊎◌, Some, None, Contains, IfOk, IfErr, IsErr, IsErrAnd, IsOk, OnOk, OnErr, IsErrOf, IsSome, is_ok, true, false, filter, option_map, codes};
 ghost use Rattle.vc_files.specs.FileMap.{SameOutside};
 ghost use Rattle.vc_files.specs.Failures.{Wears, Writes};
-ghost use Rattle.vc_files.specs.Outcome.{AfterSome};
 ghost use Rattle.vc_object.specs.Decoding.{stored_object};
 ghost use Rattle.vc_object.specs.Object.{object_name, IsObject};
 ghost use Rattle.vc_object.specs.ObjectFault.{BodyFault};
 ghost use Rattle.vc_object.specs.ObjectId.{IsSortedByName};
 ghost use Rattle.vc_object.specs.declared.fault.ObjectFault.{ObjectFault};
 ghost use Rattle.vc_object.specs.declared.id.ObjectId.{ObjectId};
-ghost use Rattle.vc_store.specs.Store.{stored, IsAbsent, IsDamaged, objects, with_object, with_objects, with_file, with_files, stored_names, has_digits, HasFile};
-ghost use Rattle.vc_store.specs.StoreFault.{IsFault, IsOfName, IsOfPut, IsOfAll, IsOfDamage, IsRefused};
+ghost use Rattle.vc_store.specs.Store.{stored, IsAbsent, IsDamaged, objects, with_object, with_file, stored_names, has_digits, HasFile};
+ghost use Rattle.vc_store.specs.StoreFault.{IsFault, IsOfName, IsOfPut, IsOfDamage, IsRefused};
 
 use crate::{StoreFault, Stored, listing, reading, writing};
 use std::alloc::Global;
@@ -99,23 +98,9 @@ impl<'a, F: Files> Store<'a, F> {
         ensures outside { F.honest → SameOutside (codes "objects/") (F.content self.old.files.now) (F.content self.new.files.now) }
         ensures err { F.honest → OnErr result (F.content self.new.files.now ≡ F.content self.old.files.now) }
         ensures wear { Writes F.honest F.content F.failed F.can_fail F.left self.old.files.now self.new.files.now (IsErrOf result (StoreFault.Fault Fault.Device)) }
+        ensures looks { IsObject kind body.now ⊎ Wears F.failed F.can_fail F.left self.old.files.now self.new.files.now (IsErrOf result (StoreFault.Fault Fault.Device)) }
     {
         writing::put(self.files, self.alloc, kind, body)
-    }
-
-    /// Stores objects, in order. A call that ends early has stored a front of them.
-    pub fn put_all(&mut self, all: &[Stored]) -> Result<(), StoreFault>
-        ensures same_files { self.new.files.ghost_name ≡ self.old.files.ghost_name }
-        ensures refused { IfErr result IsOfAll }
-        ensures damaged { F.honest → IfErr result (IsOfDamage (F.content self.new.files.now)) }
-        ensures objects { F.honest → OnOk result (objects (F.content self.new.files.now) ≡ with_objects (objects (F.content self.old.files.now)) (map (λ s. stored_object s.kind s.body.items) all.now)) }
-        ensures files { F.honest → OnOk result (F.content self.new.files.now ≡ with_files (F.content self.old.files.now) (map (λ s. stored_object s.kind s.body.items) all.now)) }
-        ensures outside { F.honest → SameOutside (codes "objects/") (F.content self.old.files.now) (F.content self.new.files.now) }
-        ensures some { F.honest → AfterSome with_objects (objects (F.content self.old.files.now)) (map (λ s. stored_object s.kind s.body.items) all.now) (objects (F.content self.new.files.now)) }
-        ensures some_files { F.honest → AfterSome with_files (F.content self.old.files.now) (map (λ s. stored_object s.kind s.body.items) all.now) (F.content self.new.files.now) }
-        ensures wear { Writes F.honest F.content F.failed F.can_fail F.left self.old.files.now self.new.files.now (IsErrOf result (StoreFault.Fault Fault.Device)) }
-    {
-        writing::put_all(self.files, self.alloc, all)
     }
 
     /// The names of all objects, sorted. A name is there if a file stands in its place, also a damaged one.

@@ -1,25 +1,25 @@
 // Storing objects.
-ghost use Rattle.std.specs.Prelude.{◌≡◌, IfOk, IfErr, IsOk, IsErr, OnOk, OnErr, IsErrOf, map, codes};
+ghost use Rattle.std.specs.Prelude.{◌≡◌, ◌⊎◌, IfOk, IfErr, IsOk, IsErr, OnOk, OnErr, IsErrOf, codes};
 ghost use Rattle.vc_files.specs.FileMap.{SameOutside};
-ghost use Rattle.vc_files.specs.Failures.{Writes};
-ghost use Rattle.vc_files.specs.Outcome.{AfterSome};
+ghost use Rattle.vc_files.specs.Failures.{Wears, Writes};
 ghost use Rattle.vc_object.specs.Decoding.{stored_object};
 ghost use Rattle.vc_object.specs.Object.{object_name, IsObject};
 ghost use Rattle.vc_object.specs.ObjectFault.{BodyFault};
 ghost use Rattle.vc_object.specs.declared.fault.ObjectFault.{ObjectFault};
-ghost use Rattle.vc_store.specs.Store.{IsDamaged, objects, with_object, with_objects, with_file, with_files};
-ghost use Rattle.vc_store.specs.StoreFault.{IsOfPut, IsOfAll, IsOfDamage};
+ghost use Rattle.vc_store.specs.Store.{IsDamaged, objects, with_object, with_file};
+ghost use Rattle.vc_store.specs.StoreFault.{IsOfPut, IsOfDamage};
 
+use crate::StoreFault;
 use crate::paths::object_path;
 use crate::reading::has;
-use crate::{StoreFault, Stored};
 use std::alloc::Global;
 use vc_files::{Fault, Files};
 use vc_object::{Kind, ObjectFault, ObjectId};
 
 /// Stores the object of this kind and body, and answers its name. An object that is there stays as it is, and
 /// nothing is written. A body over 16,777,216 bytes is 3, one out of its kind's grammar is what `check` says, and
-/// both are found before anything else; 12 is answered where a file stands in the object's place and isn't it.
+/// both are found before anything else; 12 is answered where a file stands in the object's place and isn't it. No body
+/// but an object's spends a write.
 pub fn put<F: Files>(
     files: &mut F,
     alloc: Global,
@@ -37,6 +37,7 @@ pub fn put<F: Files>(
     ensures outside { F.honest → SameOutside (codes "objects/") (F.content files.old) (F.content files.new) }
     ensures err { F.honest → OnErr result (F.content files.new ≡ F.content files.old) }
     ensures wear { Writes F.honest F.content F.failed F.can_fail F.left files.old files.new (IsErrOf result (StoreFault.Fault Fault.Device)) }
+    ensures looks { IsObject kind body.now ⊎ Wears F.failed F.can_fail F.left files.old files.new (IsErrOf result (StoreFault.Fault Fault.Device)) }
 {
     let object = vc_object::check(kind, body)?;
     let id = vc_object::name_of(kind, body);
@@ -46,21 +47,4 @@ pub fn put<F: Files>(
         files.put(alloc, path.as_str(), &bytes)?;
     }
     Ok(id)
-}
-
-/// Stores objects, in order. A call that ends early has stored a front of them.
-pub fn put_all<F: Files>(files: &mut F, alloc: Global, all: &[Stored]) -> Result<(), StoreFault>
-    ensures refused { IfErr result IsOfAll }
-    ensures damaged { F.honest → IfErr result (IsOfDamage (F.content files.new)) }
-    ensures objects { F.honest → OnOk result (objects (F.content files.new) ≡ with_objects (objects (F.content files.old)) (map (λ s. stored_object s.kind s.body.items) all.now)) }
-    ensures files { F.honest → OnOk result (F.content files.new ≡ with_files (F.content files.old) (map (λ s. stored_object s.kind s.body.items) all.now)) }
-    ensures outside { F.honest → SameOutside (codes "objects/") (F.content files.old) (F.content files.new) }
-    ensures some { F.honest → AfterSome with_objects (objects (F.content files.old)) (map (λ s. stored_object s.kind s.body.items) all.now) (objects (F.content files.new)) }
-    ensures some_files { F.honest → AfterSome with_files (F.content files.old) (map (λ s. stored_object s.kind s.body.items) all.now) (F.content files.new) }
-    ensures wear { Writes F.honest F.content F.failed F.can_fail F.left files.old files.new (IsErrOf result (StoreFault.Fault Fault.Device)) }
-{
-    for object in all {
-        put(files, alloc, object.kind, &object.body)?;
-    }
-    Ok(())
 }

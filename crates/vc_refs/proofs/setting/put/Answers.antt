@@ -1,4 +1,4 @@
-use Rattle.std.proofs.Common.{rules, ◌≡◌, true, subst}
+use Rattle.std.proofs.Common.{rules, ◌≡◌, true, subst, inl}
 use Rattle.std.specs.FinMap as files
 use Rattle.vc_object.specs.ObjectId.{is_id}
 use Rattle.vc_object.proofs.IdLemmas.{is_id-from_array}
@@ -25,3 +25,9 @@ returns-clause-rest g c = λ honest.
     let content = g.F.Files.content in
     let made : content c.put.new.self ≡ files.insert (content c.args.files.now) c.args.name.now (id_text c.args.id) = search (rules, c.in_ok-put.ensures.ok honest) in
     rw made (rest_put (content c.args.files.now) c.args.name.now (id_text c.args.id) c.requires)
+
+pub returns-in_err-put-clause-looks : goal.returns-in_err-put-clause-looks
+returns-in_err-put-clause-looks g c = inl (is_ref-from_legal c.args.name.now (subst IsRefName c.as_str.ensures.text c.as_str.ensures.legal) c.requires)
+
+pub returns-clause-looks : goal.returns-clause-looks
+returns-clause-looks g c = inl (is_ref-from_legal c.args.name.now (subst IsRefName c.as_str.ensures.text c.as_str.ensures.legal) c.requires)

@@ -1,4 +1,4 @@
-use Rattle.std.proofs.Common.{rules, ◌≡◌, ℕ, List, Result, Err, refl}
+use Rattle.std.proofs.Common.{rules, ◌≡◌, ℕ, List, Result, Err, refl, inl, inr}
 use Rattle.std.specs.Prelude.{is_ok, true}
 use Rattle.std.specs.FinMap as files
 use Rattle.vc_files.proofs.WearLemmas.{wears_then, writes_told}
@@ -81,3 +81,25 @@ returns-else-not-branch-clause-only g c = λ e. never c.args.kind c.args.body.no
 
 pub returns-in_ok-put-clause-wear : goal.returns-in_ok-put-clause-wear
 returns-in_ok-put-clause-wear g c = wears_then c.in_ok-has.ensures.wear (λ _. c.in_ok-has.ensures.same) (search rules) (writes_told c.in_ok-put.ensures.wear (search rules) (search rules))
+
+-- only what is no object is refused before anything is looked for
+pub returns-in_err-object-clause-looks : goal.returns-in_err-object-clause-looks
+returns-in_err-object-clause-looks g c = inr (search rules)
+
+pub returns-in_err-has-clause-looks : goal.returns-in_err-has-clause-looks
+returns-in_err-has-clause-looks g c = inl (c.in_ok-object.ensures.exact.0 refl)
+
+pub returns-in_err-path-clause-looks : goal.returns-in_err-path-clause-looks
+returns-in_err-path-clause-looks g c = inl (c.in_ok-object.ensures.exact.0 refl)
+
+pub returns-in_err-bytes-clause-looks : goal.returns-in_err-bytes-clause-looks
+returns-in_err-bytes-clause-looks g c = inl (c.in_ok-object.ensures.exact.0 refl)
+
+pub returns-in_err-put-clause-looks : goal.returns-in_err-put-clause-looks
+returns-in_err-put-clause-looks g c = inl (c.in_ok-object.ensures.exact.0 refl)
+
+pub returns-in_ok-put-clause-looks : goal.returns-in_ok-put-clause-looks
+returns-in_ok-put-clause-looks g c = inl (c.in_ok-object.ensures.exact.0 refl)
+
+pub returns-else-not-branch-clause-looks : goal.returns-else-not-branch-clause-looks
+returns-else-not-branch-clause-looks g c = inl (c.in_ok-object.ensures.exact.0 refl)
