@@ -206,7 +206,7 @@ spells_head s r h p = record {
   index = p.index;
 }
 
-abbrev head_deed : Awaited → RefsHead → Deed Awaited
+abbrev pub head_deed : Awaited → RefsHead → Deed Awaited
 head_deed awaited h = quietly awaited (only_changes (SetHead (machine_head h) ∷ [])) Stored
 
 head_obeyed : (content new : FileMap) (r : Repository) (awaited : Awaited) (h : RefsHead) → Spells (shown content) r → IsLocalHead h → shown new ≡ with_head_shown (shown content) h → MayHead content h → Obeys git git_rules r awaited (MoveHead (machine_head h)) (head_deed awaited h)

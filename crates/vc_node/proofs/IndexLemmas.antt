@@ -122,13 +122,13 @@ staged_objects content bytes = with_objects_shown (shown content) (with_object (
 abbrev pub staged_map : IndexMap → List ℕ → Mode → List ℕ → IndexMap
 staged_map m path mode bytes = insert m path (index_entry mode (object_name kinds.Blob bytes))
 
-abbrev staged_index : Repository → List ℕ → Mode → List ℕ → Index
+abbrev pub staged_index : Repository → List ℕ → Mode → List ℕ → Index
 staged_index r path mode bytes = insert r.index path (record { mode = mode_number mode; id = git_name (blob bytes) })
 
-abbrev staged_deed : Awaited → Repository → List ℕ → Mode → List ℕ → Deed Awaited
+abbrev pub staged_deed : Awaited → Repository → List ℕ → Mode → List ℕ → Deed Awaited
 staged_deed awaited r path mode bytes = quietly awaited (record { objects = only_object git (blob bytes); changes = SetIndex (staged_index r path mode bytes) ∷ [] }) Stored
 
-staged_obeyed : (content : FileMap) (path bytes : List ℕ) (mode : Mode) (awaited : Awaited) (r : Repository) → (p : Spells (shown content) r) → MayStage p.map path bytes
+pub staged_obeyed : (content : FileMap) (path bytes : List ℕ) (mode : Mode) (awaited : Awaited) (r : Repository) → (p : Spells (shown content) r) → MayStage p.map path bytes
     → Obeys git git_rules r awaited (Stage path (mode_number mode) bytes) (staged_deed awaited r path mode bytes)
 staged_obeyed content path bytes mode awaited r p may =
     (may.legal, free_path content path bytes mode r p may.free, may.object, refl)

@@ -17,3 +17,5 @@ pub mod CleanLemmas
 pub mod OpeningLaws
 pub mod ReadLemmas
 pub mod CommitReads
+pub mod LookLemmas
+pub mod MayLemmas

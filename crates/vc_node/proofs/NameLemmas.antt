@@ -15,7 +15,7 @@ use Rattle.vc_refs.proofs.HeadLemmas.{head_of-legal}
 use Rattle.vc_refs.proofs.RefsLemmas.{ref_legal}
 use Rattle.vc_node.specs.Shown.{Shown, shown, with_refs_shown}
 
-legal_of : (name : List ℕ) → is_ref name ≡ true → is_ref_name name ≡ true
+pub legal_of : (name : List ℕ) → is_ref name ≡ true → is_ref_name name ≡ true
 legal_of name h = (and_parts (is_ref_name name) (starts_with nat_eq name (codes "refs/")) h).0
 
 pub with_ref_same : (r : RefMap) (name : List ℕ) (id : ObjectId) → with_ref r name id name ≡ Some id

@@ -46,10 +46,10 @@ find_mapped q (e ∷ es) =
     ap (cond (is_eq (slice_cmp nat_cmp q e.0)) (Some (machine_entry e.1))) (find_mapped q es)
     ∙ map_cond machine_entry (is_eq (slice_cmp nat_cmp q e.0)) (Some e.1) (find (slice_cmp nat_cmp) q es)
 
-machine_index : IndexMap → Index
+pub machine_index : IndexMap → Index
 machine_index m = from_entries (map entry_pair (entries m))
 
-machine_index_shows : (m : IndexMap) → ShowsIndex (machine_index m) m
+pub machine_index_shows : (m : IndexMap) → ShowsIndex (machine_index m) m
 unfolding machine_index
 machine_index_shows m q = get-from_entries nat_list_cmp_total (map entry_pair (entries m)) q ∙ find_mapped q (entries m) ∙ ap (option_map machine_entry) (sym (get-entries m q))
 
@@ -59,7 +59,7 @@ module _ (content : FileMap) (r : Repository) (p : Spells (shown content) r) whe
   same_objects : objects content ≡ layer_objects r.objects
   same_objects i id = p.objects id.0 i
 
-  reads_there : (id : ObjectId) (v : Result IndexMap TreeFault) → ReadsAs (objects content) id v → ReadsAs (layer_objects r.objects) id v
+  pub reads_there : (id : ObjectId) (v : Result IndexMap TreeFault) → ReadsAs (objects content) id v → ReadsAs (layer_objects r.objects) id v
   reads_there id v reads = subst (λ (o : ObjectMap). ReadsAs o id v) same_objects reads
 
   number_given : (id : ObjectId) (fault : TreeFault) → ReadsAs (objects content) id (Err fault) → TreeGives r.objects id.0 (Err (tree_number fault))

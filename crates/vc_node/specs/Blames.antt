@@ -1,5 +1,5 @@
 -- What refuses a local command, by its files.
-use Rattle.std.specs.Prelude.{◌≡◌, ◌⊎◌, ℕ, List, Some, Err, true, nat_eq, string_bytes, codes}
+use Rattle.std.specs.Prelude.{◌≡◌, ◌⊎◌, ℕ, List, Some, Ok, Err, true, nat_eq, string_bytes, codes}
 use Rattle.std.specs.List.{starts_with}
 use Rattle.vc_files.specs.FileMap.{FileMap}
 use Rattle.vc_index.specs.IndexMap.{IndexMap, HasConflict}
@@ -99,6 +99,10 @@ abbrev pub BlamesHead : FileMap → Head → NodeFault → Type 0
 BlamesHead content h (Ref (ref.Fault fault)) = Unit {0}
 BlamesHead content (head.Id id) e = BlamesCommit content id e
 BlamesHead content (head.Branch name) e = ⊥
+
+-- a tree is loaded that is read as an index
+abbrev pub MayLoad : FileMap → ObjectId → Type 0
+MayLoad content id = (m : IndexMap) × ReadsAs (objects content) id (Ok m)
 
 -- a tree is not loaded for its first fault, for the file of an entry that is damaged, or for a failure
 abbrev pub BlamesLoad : FileMap → ObjectId → NodeFault → Type 0

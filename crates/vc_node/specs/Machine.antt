@@ -18,6 +18,7 @@ use Rattle.vc_model.specs.Node.Reply.{Stored, Made}
 use Rattle.vc_model.specs.Clone.{Awaited, CloneNode, Task}
 use Rattle.vc_model.specs.CloneCall.{CloneAnswers, Obeys, Refuses}
 use Rattle.vc_model.specs.CloneCall.CloneCall.{Command}
+use Rattle.vc_model.specs.ExactWorld.{MayClone}
 use Rattle.vc_rules.specs.Git.{git, machine_entry, stored_of}
 use Rattle.vc_rules.specs.Faults.{object_number}
 use Rattle.vc_rules.proofs.GitLaws.{git_rules}
@@ -139,6 +140,10 @@ pub record AnswersShown (task : Task) (a : Answer) (was_up is_up : Bool) (old ne
 pub record Answers (task : Task) (a : Answer) (was_up is_up : Bool) (old new : FileMap) : Type 0 where
   pub each : (awaited : Awaited) (n : CloneNode) → HoldsNode old was_up awaited n
       → (m : CloneNode) × HoldsNode new is_up awaited m × CloneAnswers git git_rules n (Command task) a m None
+
+-- Whatever node was held, and whatever it awaits: the machine's command may write, or this holds.
+abbrev pub MayWriteOr : Task → Bool → FileMap → Type 0 → Type 0
+MayWriteOr task was_up old IsLook = (awaited : Awaited) (n : CloneNode) → HoldsNode old was_up awaited n → MayClone git git_rules n (Command task) ⊎ IsLook
 
 -- Either a file that is none of the layers' own is told, or this holds.
 abbrev pub OrBadFile : {T : Type 0} → FileMap → Result T NodeFault → Type 0 → Type 0

@@ -87,6 +87,15 @@ pub record HasRoot (m : IndexMap) (tree : ObjectId) : Type 0 where
   pub fits : AllFit trees
   pub is : tree ≡ object_name kinds.Tree (spelling root)
 
+-- a commit may be made: nothing refuses it, and its objects neither
+pub record MayMake (content : FileMap) (extra : List ObjectId) (author committer message : List ℕ) : Type 0 where
+  pub may : MayCommit content extra author committer
+  pub map : IndexMap
+  pub spelled : SpellsIndex content map
+  pub tree : ObjectId
+  pub root : HasRoot map tree
+  pub legal : IsObject kinds.Commit (made_body tree (parents_of_commit content extra) author committer message)
+
 -- the objects of a commit are refused for a tree of the index that is too large, or for the commit's own body; or a file of
 -- one is damaged
 abbrev pub BlamesStored : Type 0 → FileMap → IndexMap → List ObjectId → (author committer message : List ℕ) → StoreFault → Type 0

@@ -1,5 +1,5 @@
 // What a commit does to files: it looks for what refuses it, writes the trees and the commit, and then moves HEAD.
-ghost use Rattle.std.specs.Prelude.{◌≡◌, ◌++◌, IfOk, IfErr, OnOk, OnErr, Contains, codes};
+ghost use Rattle.std.specs.Prelude.{◌≡◌, ◌⊎◌, ◌++◌, IfOk, IfErr, OnOk, OnErr, Contains, codes};
 ghost use Rattle.std.specs.List.{AllByRecursion};
 ghost use Rattle.vc_files.specs.Failures.{Wears, Writes};
 ghost use Rattle.vc_files.specs.FileMap.{SameOutside};
@@ -8,7 +8,7 @@ ghost use Rattle.vc_refs.specs.Head.{IsHeadInRefs, head_of};
 ghost use Rattle.vc_store.specs.Store.{objects};
 ghost use Rattle.vc_node.specs.Clean.{KeepsClean};
 ghost use Rattle.vc_node.specs.Commit.{IsGoodParent, IsFreeHead, IsCommitted, WritesCommit, made_body, moved, parents_of_commit};
-ghost use Rattle.vc_node.specs.Making.{AreLines, BlamesLines, BlamesFreeHead, BlamesParents, BlamesLook, BlamesObjects, BlamesMaking, BlamesMoving, LeftByCommit, StoresTrees};
+ghost use Rattle.vc_node.specs.Making.{AreLines, BlamesLines, BlamesFreeHead, BlamesParents, BlamesLook, BlamesObjects, BlamesMaking, BlamesMoving, LeftByCommit, MayMake, StoresTrees};
 ghost use Rattle.vc_node.specs.NodeFault.{TellsDevice};
 ghost use Rattle.vc_node.specs.Reads.{IsAtBranch, IsAtHead, IsMade, IsOfCommit, IsReachedByOne, NoneRead, TellsRead};
 ghost use Rattle.vc_node.specs.Shown.{shown};
@@ -206,6 +206,7 @@ pub(crate) fn commit<F: Files>(
     ensures clean { F.honest → KeepsClean (F.content files.old) (F.content files.new) }
     ensures file { F.honest → IfErr result (TellsRead (IsOfCommit (F.content files.old) extra.now words.entry.author.now words.entry.committer.now words.entry.message.now) (IsAtHead (F.content files.old))) }
     ensures wear { Writes F.honest F.content F.failed F.can_fail F.left files.old files.new (TellsDevice result) }
+    ensures looks { F.honest → MayMake (F.content files.old) extra.now words.entry.author.now words.entry.committer.now words.entry.message.now ⊎ Wears F.failed F.can_fail F.left files.old files.new (TellsDevice result) }
 {
     refuse_lines(words)?;
     let head = free_head(alloc, files)?;

@@ -2,13 +2,13 @@
 // names it.
 ghost use Rattle.std.specs.Prelude.{◌≡◌, ◌≢◌, ◌⊎◌, IfOk, IfErr, OnOk, OnErr, IsErrOf, IsErrAnd, IsOk, codes, true, false};
 ghost use Rattle.std.specs.FinMap as paths;
-ghost use Rattle.vc_files.specs.Failures.{Writes};
+ghost use Rattle.vc_files.specs.Failures.{Wears, Writes};
 ghost use Rattle.vc_index.specs.IndexMap.{IndexMap, HasConflict, index_entry};
 ghost use Rattle.vc_index.specs.IndexText.{index_text};
 ghost use Rattle.vc_index.specs.Path.{IsPath};
 ghost use Rattle.vc_object.specs.Decoding.{stored_object};
 ghost use Rattle.vc_object.specs.Object.{object_name, IsObject};
-ghost use Rattle.vc_refs.specs.RefMap.{IsInRefs, with_ref, without_ref};
+ghost use Rattle.vc_refs.specs.RefMap.{IsInRefs, is_ref, with_ref, without_ref};
 ghost use Rattle.vc_refs.specs.Refs.{refs};
 ghost use Rattle.vc_refs.specs.Way.{IsFree};
 ghost use Rattle.vc_store.specs.Store.{objects, with_object};
@@ -17,8 +17,8 @@ ghost use Rattle.vc_index.specs.TreeFiles.{IsFileOfTree};
 ghost use Rattle.vc_object.specs.declared.mode.Mode.{Mode as ModeValue};
 ghost use Rattle.vc_object.specs.declared.id.ObjectId.{ObjectId as Id};
 ghost use Rattle.vc_object.specs.declared.kind.Kind.TheVariants.{Blob};
-ghost use Rattle.vc_refs.specs.Head.{IsHeadInRefs};
-ghost use Rattle.vc_node.specs.Blames.{BlamesWrite, BlamesAdd, BlamesBranch, BlamesPut, BlamesHead, BlamesLoad, BlamesRemoved, MayStage, MayHead, TellsDamage};
+ghost use Rattle.vc_refs.specs.Head.{IsHeadInRefs, IsLegalHead};
+ghost use Rattle.vc_node.specs.Blames.{BlamesWrite, BlamesAdd, BlamesBranch, BlamesPut, BlamesHead, BlamesLoad, BlamesRemoved, MayLoad, MayStage, MayHead, TellsDamage};
 ghost use Rattle.vc_node.specs.Clean.{KeepsClean};
 ghost use Rattle.vc_node.specs.GoodCommit.{IsComplete, IsHistory};
 ghost use Rattle.vc_node.specs.IndexFile.{SpellsIndex, BlamesIndex};
@@ -52,6 +52,7 @@ pub(crate) fn write<F: Files>(
     ensures clean { F.honest → OnOk result (KeepsClean (F.content files.old) (F.content files.new)) }
     ensures file { IfErr result (TellsRead (λ id. id ≡ object_name kind body.now) NoneRead) }
     ensures wear { Writes F.honest F.content F.failed F.can_fail F.left files.old files.new (TellsDevice result) }
+    ensures looks { IsObject kind body.now ⊎ Wears F.failed F.can_fail F.left files.old files.new (TellsDevice result) }
 {
     let id = vc_store::put(files, alloc, kind, body)?;
     Ok(id)
@@ -89,6 +90,7 @@ pub(crate) fn add<F: Files>(
     ensures clean { F.honest → KeepsClean (F.content files.old) (F.content files.new) }
     ensures file { IfErr result (TellsRead (λ id. id ≡ object_name Blob bytes.now) NoneRead) }
     ensures wear { Writes F.honest F.content F.failed F.can_fail F.left files.old files.new (TellsDevice result) }
+    ensures looks { F.honest → (m : IndexMap) → SpellsIndex (F.content files.old) m → MayStage m path.now bytes.now ⊎ Wears F.failed F.can_fail F.left files.old files.new (TellsDevice result) }
 {
     let mut index = read_index(alloc, files)?;
     let name = vc_object::name_of(Kind::Blob, bytes);
@@ -110,6 +112,7 @@ pub(crate) fn load_tree<F: Files>(
     ensures clean { F.honest → OnOk result (KeepsClean (F.content files.old) (F.content files.new)) }
     ensures file { F.honest → IfErr result (TellsRead (IsBelow (F.content files.old) id.now) NoneRead) }
     ensures wear { Writes F.honest F.content F.failed F.can_fail F.left files.old files.new (TellsDevice result) }
+    ensures looks { F.honest → MayLoad (F.content files.old) id.now ⊎ Wears F.failed F.can_fail F.left files.old files.new (TellsDevice result) }
 {
     let index = Index::from_tree(alloc, files, id)?;
     write_index(alloc, files, &index)?;
@@ -126,6 +129,7 @@ pub(crate) fn set_head<F: Files>(alloc: Global, files: &mut F, head: &Head) -> R
     ensures clean { F.honest → OnOk result (KeepsClean (F.content files.old) (F.content files.new)) }
     ensures file { F.honest → IfErr result (TellsRead (IsReachedByHead (F.content files.old) head.now) NoneRead) }
     ensures wear { Writes F.honest F.content F.failed F.can_fail F.left files.old files.new (TellsDevice result) }
+    ensures looks { F.honest → (IsLegalHead head.now × MayHead (F.content files.old) head.now) ⊎ Wears F.failed F.can_fail F.left files.old files.new (TellsDevice result) }
 {
     if let Head::Id(id) = head {
         refuse_bad_commit(alloc, files, id)?;
@@ -149,6 +153,7 @@ pub(crate) fn put_ref<F: Files>(
     ensures clean { F.honest → OnOk result (KeepsClean (F.content files.old) (F.content files.new)) }
     ensures file { F.honest → IfErr result (TellsRead NoneRead (IsAtName (F.content files.old) name.now)) }
     ensures wear { Writes F.honest F.content F.failed F.can_fail F.left files.old files.new (TellsDevice result) }
+    ensures looks { F.honest → ((is_ref name.now ≡ true) × IsFree (F.content files.old) name.now) ⊎ Wears F.failed F.can_fail F.left files.old files.new (TellsDevice result) }
 {
     let current = vc_refs::get(files, alloc, name)?;
     vc_refs::set(files, alloc, name, current, id)?;
@@ -171,6 +176,7 @@ pub(crate) fn set_branch<F: Files>(
     ensures clean { F.honest → OnOk result (KeepsClean (F.content files.old) (F.content files.new)) }
     ensures file { F.honest → IfErr result (TellsRead (IsReached (F.content files.old) id.now) (IsAtName (F.content files.old) branch.now)) }
     ensures wear { Writes F.honest F.content F.failed F.can_fail F.left files.old files.new (TellsDevice result) }
+    ensures looks { F.honest → ((is_ref branch.now ≡ true) × IsFree (F.content files.old) branch.now × IsComplete (F.content files.old) id.now × IsHistory (F.content files.old) id.now) ⊎ Wears F.failed F.can_fail F.left files.old files.new (TellsDevice result) }
 {
     refuse_conflict(files, alloc, branch)?;
     refuse_bad_commit(alloc, files, id)?;

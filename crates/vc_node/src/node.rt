@@ -12,8 +12,8 @@ ghost use Rattle.vc_files.specs.FileMap.{SameOutside};
 ghost use Rattle.vc_node.specs.Clean.{KeepsClean};
 ghost use Rattle.vc_node.specs.Commit.{IsCommitted};
 ghost use Rattle.vc_rules.specs.Git.{machine_object, mode_number};
-ghost use Rattle.vc_node.specs.Machine.{Answers, AnswersShown, HoldsNode, OrBadFile, machine_head, made_answer, done_answer, up_after};
-ghost use Rattle.vc_files.specs.Failures.{Writes};
+ghost use Rattle.vc_node.specs.Machine.{Answers, AnswersShown, HoldsNode, MayWriteOr, OrBadFile, machine_head, made_answer, done_answer, up_after};
+ghost use Rattle.vc_files.specs.Failures.{Wears, Writes};
 ghost use Rattle.vc_node.specs.NodeFault.{is_fault, IsOfDevice, TellsDevice};
 ghost use Rattle.vc_node.specs.Opening.{IsOpenable, opened_node};
 ghost use Rattle.vc_node.specs.Reads.{IsAtHead, IsAtName, IsBelow, IsOfCommit, IsReached, IsReachedByHead, NoneRead, TellsRead};
@@ -105,6 +105,7 @@ impl<F: Files> CloneNode<F> {
         ensures clean { F.honest → KeepsClean (F.content self.old.files) (F.content self.new.files) }
         ensures file { IfErr result (TellsRead (λ id. id ≡ object_name kind body.now) NoneRead) }
         ensures wear { Writes F.honest F.content F.failed F.can_fail F.left self.old.files self.new.files (TellsDevice result) }
+        ensures looks { F.honest → MayWriteOr (Write (machine_object kind body.now)) self.old.is_up (F.content self.old.files) (Wears F.failed F.can_fail F.left self.old.files self.new.files (TellsDevice result)) }
     {
         if !self.is_up {
             return Err(NodeFault::Down);
@@ -125,6 +126,7 @@ impl<F: Files> CloneNode<F> {
         ensures clean { F.honest → KeepsClean (F.content self.old.files) (F.content self.new.files) }
         ensures file { IfErr result (TellsRead NoneRead NoneRead) }
         ensures wear { Writes F.honest F.content F.failed F.can_fail F.left self.old.files self.new.files (TellsDevice result) }
+        ensures looks { F.honest → MayWriteOr (Unstage path.now) self.old.is_up (F.content self.old.files) (Wears F.failed F.can_fail F.left self.old.files self.new.files (TellsDevice result)) }
     {
         if !self.is_up {
             return Err(NodeFault::Down);
@@ -146,6 +148,7 @@ impl<F: Files> CloneNode<F> {
         ensures clean { F.honest → KeepsClean (F.content self.old.files) (F.content self.new.files) }
         ensures file { IfErr result (TellsRead (λ id. id ≡ object_name Kind.Blob bytes.now) NoneRead) }
         ensures wear { Writes F.honest F.content F.failed F.can_fail F.left self.old.files self.new.files (TellsDevice result) }
+        ensures looks { F.honest → MayWriteOr (Stage path.now (mode_number mode) bytes.now) self.old.is_up (F.content self.old.files) (Wears F.failed F.can_fail F.left self.old.files self.new.files (TellsDevice result)) }
     {
         if !self.is_up {
             return Err(NodeFault::Down);
@@ -167,6 +170,7 @@ impl<F: Files> CloneNode<F> {
         ensures clean { F.honest → KeepsClean (F.content self.old.files) (F.content self.new.files) }
         ensures file { F.honest → IfErr result (TellsRead NoneRead (λ path. path ≡ branch.now)) }
         ensures wear { Writes F.honest F.content F.failed F.can_fail F.left self.old.files self.new.files (TellsDevice result) }
+        ensures looks { F.honest → MayWriteOr (DeleteBranch branch.now) self.old.is_up (F.content self.old.files) (Wears F.failed F.can_fail F.left self.old.files self.new.files (TellsDevice result)) }
     {
         if !self.is_up {
             return Err(NodeFault::Down);
@@ -189,6 +193,7 @@ impl<F: Files> CloneNode<F> {
         ensures clean { F.honest → KeepsClean (F.content self.old.files) (F.content self.new.files) }
         ensures file { F.honest → IfErr result (TellsRead (IsReached (F.content self.old.files) id.now) (IsAtName (F.content self.old.files) branch.now)) }
         ensures wear { Writes F.honest F.content F.failed F.can_fail F.left self.old.files self.new.files (TellsDevice result) }
+        ensures looks { F.honest → MayWriteOr (SetBranch branch.now id.now.0) self.old.is_up (F.content self.old.files) (Wears F.failed F.can_fail F.left self.old.files self.new.files (TellsDevice result)) }
     {
         if !self.is_up {
             return Err(NodeFault::Down);
@@ -211,6 +216,7 @@ impl<F: Files> CloneNode<F> {
         ensures clean { F.honest → KeepsClean (F.content self.old.files) (F.content self.new.files) }
         ensures file { F.honest → IfErr result (TellsRead (IsReachedByHead (F.content self.old.files) head.now) NoneRead) }
         ensures wear { Writes F.honest F.content F.failed F.can_fail F.left self.old.files self.new.files (TellsDevice result) }
+        ensures looks { F.honest → MayWriteOr (MoveHead (machine_head head.now)) self.old.is_up (F.content self.old.files) (Wears F.failed F.can_fail F.left self.old.files self.new.files (TellsDevice result)) }
     {
         if !self.is_up {
             return Err(NodeFault::Down);
@@ -234,6 +240,7 @@ impl<F: Files> CloneNode<F> {
         ensures clean { F.honest → KeepsClean (F.content self.old.files) (F.content self.new.files) }
         ensures file { F.honest → IfErr result (TellsRead (IsBelow (F.content self.old.files) id.now) NoneRead) }
         ensures wear { Writes F.honest F.content F.failed F.can_fail F.left self.old.files self.new.files (TellsDevice result) }
+        ensures looks { F.honest → MayWriteOr (LoadTree id.now.0) self.old.is_up (F.content self.old.files) (Wears F.failed F.can_fail F.left self.old.files self.new.files (TellsDevice result)) }
     {
         if !self.is_up {
             return Err(NodeFault::Down);
@@ -265,6 +272,7 @@ impl<F: Files> CloneNode<F> {
         ensures clean { F.honest → KeepsClean (F.content self.old.files) (F.content self.new.files) }
         ensures file { F.honest → IfErr result (TellsRead (IsOfCommit (F.content self.old.files) extra_parents.now author.now committer.now message.now) (IsAtHead (F.content self.old.files))) }
         ensures wear { Writes F.honest F.content F.failed F.can_fail F.left self.old.files self.new.files (TellsDevice result) }
+        ensures looks { F.honest → MayWriteOr (MakeCommit (map bytes_of_id extra_parents.now) author.now committer.now message.now) self.old.is_up (F.content self.old.files) (Wears F.failed F.can_fail F.left self.old.files self.new.files (TellsDevice result)) }
     {
         if !self.is_up {
             return Err(NodeFault::Down);

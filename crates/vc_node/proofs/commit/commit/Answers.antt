@@ -1,3 +1,4 @@
+use Rattle.vc_node.proofs.LookLemmas.{looks_none, looks_then, looks_told}
 use Rattle.vc_files.proofs.WearLemmas.{wears_then, wears_writes, writes_both, writes_none, writes_told}
 use Rattle.std.proofs.Common.{◌≡◌, ◌∙◌, List, rules, inl, inr, sym, ap, subst}
 use Rattle.std.specs.List.{AllByRecursion}
@@ -9,7 +10,7 @@ use Rattle.vc_object.specs.declared.kind.Kind.TheVariants as kinds
 use Rattle.vc_store.specs.Store.{objects}
 use Rattle.vc_node.specs.Commit.{IsGoodParent, made_body, parents_of_commit}
 use Rattle.vc_node.specs.IndexFile.{SpellsIndex, BlamesIndex}
-use Rattle.vc_node.specs.Making.{AreLines, BlamesLook, BlamesParents, BlamesMaking, IsCut, LeftByCommit, MayCommit}
+use Rattle.vc_node.specs.Making.{AreLines, BlamesLook, BlamesParents, BlamesMaking, IsCut, LeftByCommit, MayCommit, MayMake}
 use Rattle.vc_node.specs.Making.BlamesMaking.{of_lines, of_look, of_conflict, of_parents, of_index, of_objects}
 use Rattle.vc_node.specs.Shown.{shown}
 use Rattle.vc_node.proofs.MakingLemmas.{left_on, told_on, writes_there, trees_there, stored_shown, committed_shown}
@@ -333,3 +334,101 @@ returns-in_err-refuse_lines-clause-file g c = λ honest.
     let read : TellsRead (IsOfCommit old extra w.author.now w.committer.now w.message.now) (IsAtHead old) e =
     subst (TellsRead (IsOfCommit old extra w.author.now w.committer.now w.message.now) (IsAtHead old)) (sym c.in_err-refuse_lines.ensures.refused.0) tt in
     search (rules, read)
+
+-- ---- what it may spend
+
+pub returns-in_err-refuse_lines-clause-looks : goal.returns-in_err-refuse_lines-clause-looks
+returns-in_err-refuse_lines-clause-looks g c = λ honest. inr (looks_none (search rules))
+
+pub returns-in_err-head-clause-looks : goal.returns-in_err-head-clause-looks
+returns-in_err-head-clause-looks g c = λ honest. inr (looks_told c.in_err-head.ensures.wear (search rules))
+
+pub returns-in_err-refuse_bad_parents-clause-looks : goal.returns-in_err-refuse_bad_parents-clause-looks
+returns-in_err-refuse_bad_parents-clause-looks g c = λ honest. inr (looks_then c.in_ok-head.ensures.wear (looks_told c.in_err-refuse_bad_parents.ensures.wear (search rules)))
+
+pub returns-in_err-parents-clause-looks : goal.returns-in_err-parents-clause-looks
+returns-in_err-parents-clause-looks g c = λ honest. inr (looks_then c.in_ok-head.ensures.wear (looks_then c.in_ok-refuse_bad_parents.ensures.wear (looks_told c.in_err-parents.ensures.wear (search rules))))
+
+pub returns-in_err-index-clause-looks : goal.returns-in_err-index-clause-looks
+returns-in_err-index-clause-looks g c = λ honest. inr (looks_then c.in_ok-head.ensures.wear (looks_then c.in_ok-refuse_bad_parents.ensures.wear (looks_then c.in_ok-parents.ensures.wear (looks_told c.in_err-index.ensures.wear (search rules)))))
+
+pub returns-in_err-write_objects-clause-looks : goal.returns-in_err-write_objects-clause-looks
+returns-in_err-write_objects-clause-looks g c = λ honest. inr (looks_then c.in_ok-head.ensures.wear (looks_then c.in_ok-refuse_bad_parents.ensures.wear (looks_then c.in_ok-parents.ensures.wear (looks_told c.in_ok-index.ensures.wear (search rules)))))
+
+pub returns-in_err-id-clause-looks : goal.returns-in_err-id-clause-looks
+returns-in_err-id-clause-looks g c = λ honest.
+    let w = c.args.words in
+    let content = g.F.Files.content in
+    let extra = c.args.extra.now in
+    let first : content c.free_head.new.files ≡ content c.args.files.now = c.in_ok-head.ensures.same in
+    let second : content c.refuse_bad_parents.new.files ≡ content c.args.files.now = c.in_ok-refuse_bad_parents.ensures.same ∙ first in
+    let third : content c.parents_with.new.files ≡ content c.args.files.now = c.in_ok-parents.ensures.same ∙ second in
+    let parents = c.deref.ensures.value ∙ c.in_ok-parents.ensures.parents honest ∙ ap (λ (m : FileMap). parents_of_commit m extra) second in
+    let made = c.in_ok-write_objects.ensures.written in
+    let makes : MayMake (content c.args.files.now) extra w.author.now w.committer.now w.message.now = record {
+      may = record {
+        lines = (c.in_ok-refuse_lines.ensures.author, c.in_ok-refuse_lines.ensures.committer);
+        head = c.in_ok-head.head;
+        head_is = c.in_ok-head.ensures.found honest;
+        free = c.in_ok-head.ensures.free honest;
+        parents = subst (λ (m : FileMap). AllByRecursion (IsGoodParent m) extra) first (c.in_ok-refuse_bad_parents.ensures.good honest);
+      };
+      map = c.in_ok-index.index;
+      spelled = subst (λ (m : FileMap). SpellsIndex m c.in_ok-index.index) third (c.in_ok-index.ensures.spelled honest);
+      tree = made.tree;
+      root = root_of (made.trees tt);
+      legal = subst (λ (ps : List ObjectId). IsObject kinds.Commit (made_body made.tree ps w.author.now w.committer.now w.message.now)) parents made.legal;
+    } in
+    inl makes
+
+pub returns-in_err-move_head-clause-looks : goal.returns-in_err-move_head-clause-looks
+returns-in_err-move_head-clause-looks g c = λ honest.
+    let w = c.args.words in
+    let content = g.F.Files.content in
+    let extra = c.args.extra.now in
+    let first : content c.free_head.new.files ≡ content c.args.files.now = c.in_ok-head.ensures.same in
+    let second : content c.refuse_bad_parents.new.files ≡ content c.args.files.now = c.in_ok-refuse_bad_parents.ensures.same ∙ first in
+    let third : content c.parents_with.new.files ≡ content c.args.files.now = c.in_ok-parents.ensures.same ∙ second in
+    let parents = c.deref.ensures.value ∙ c.in_ok-parents.ensures.parents honest ∙ ap (λ (m : FileMap). parents_of_commit m extra) second in
+    let made = c.in_ok-write_objects.ensures.written in
+    let makes : MayMake (content c.args.files.now) extra w.author.now w.committer.now w.message.now = record {
+      may = record {
+        lines = (c.in_ok-refuse_lines.ensures.author, c.in_ok-refuse_lines.ensures.committer);
+        head = c.in_ok-head.head;
+        head_is = c.in_ok-head.ensures.found honest;
+        free = c.in_ok-head.ensures.free honest;
+        parents = subst (λ (m : FileMap). AllByRecursion (IsGoodParent m) extra) first (c.in_ok-refuse_bad_parents.ensures.good honest);
+      };
+      map = c.in_ok-index.index;
+      spelled = subst (λ (m : FileMap). SpellsIndex m c.in_ok-index.index) third (c.in_ok-index.ensures.spelled honest);
+      tree = made.tree;
+      root = root_of (made.trees tt);
+      legal = subst (λ (ps : List ObjectId). IsObject kinds.Commit (made_body made.tree ps w.author.now w.committer.now w.message.now)) parents made.legal;
+    } in
+    inl makes
+
+pub returns-clause-looks : goal.returns-clause-looks
+returns-clause-looks g c = λ honest.
+    let w = c.args.words in
+    let content = g.F.Files.content in
+    let extra = c.args.extra.now in
+    let first : content c.free_head.new.files ≡ content c.args.files.now = c.in_ok-head.ensures.same in
+    let second : content c.refuse_bad_parents.new.files ≡ content c.args.files.now = c.in_ok-refuse_bad_parents.ensures.same ∙ first in
+    let third : content c.parents_with.new.files ≡ content c.args.files.now = c.in_ok-parents.ensures.same ∙ second in
+    let parents = c.deref.ensures.value ∙ c.in_ok-parents.ensures.parents honest ∙ ap (λ (m : FileMap). parents_of_commit m extra) second in
+    let made = c.in_ok-write_objects.ensures.written in
+    let makes : MayMake (content c.args.files.now) extra w.author.now w.committer.now w.message.now = record {
+      may = record {
+        lines = (c.in_ok-refuse_lines.ensures.author, c.in_ok-refuse_lines.ensures.committer);
+        head = c.in_ok-head.head;
+        head_is = c.in_ok-head.ensures.found honest;
+        free = c.in_ok-head.ensures.free honest;
+        parents = subst (λ (m : FileMap). AllByRecursion (IsGoodParent m) extra) first (c.in_ok-refuse_bad_parents.ensures.good honest);
+      };
+      map = c.in_ok-index.index;
+      spelled = subst (λ (m : FileMap). SpellsIndex m c.in_ok-index.index) third (c.in_ok-index.ensures.spelled honest);
+      tree = made.tree;
+      root = root_of (made.trees tt);
+      legal = subst (λ (ps : List ObjectId). IsObject kinds.Commit (made_body made.tree ps w.author.now w.committer.now w.message.now)) parents made.legal;
+    } in
+    inl makes

@@ -1,12 +1,13 @@
+use Rattle.vc_node.proofs.LookLemmas.{looks_told, or_told, looks_or}
 use Rattle.vc_files.proofs.WearLemmas.{wears_then, wears_writes, writes_both, writes_told}
-use Rattle.std.proofs.Common.{◌≡◌, ap, ◌∙◌, rules, sym, subst, true}
+use Rattle.std.proofs.Common.{◌≡◌, ap, ◌∙◌, rules, sym, subst, true, inr, inl}
 use Rattle.std.specs.FinMap as paths
 use Rattle.vc_index.specs.IndexMap.{IndexMap, HasConflict, index_entry}
 use Rattle.vc_index.specs.IndexText.{index_text}
 use Rattle.vc_object.specs.declared.id.ObjectId.{ObjectId}
 use Rattle.vc_object.specs.ObjectId.{is_id}
 use Rattle.vc_object.specs.Decoding.{stored_object}
-use Rattle.vc_object.specs.Object.{object_name}
+use Rattle.vc_object.specs.Object.{object_name, IsObject}
 use Rattle.vc_object.specs.declared.kind.Kind.TheVariants.{Blob}
 use Rattle.vc_store.specs.Store.{objects, with_object}
 use Rattle.vc_node.specs.Shown.{Shown, shown, with_objects_shown, with_index_shown}
@@ -60,8 +61,47 @@ returns-in_err-index-clause-wear g c = writes_told (wears_writes c.in_err-index.
 pub returns-in_err-add-clause-wear : goal.returns-in_err-add-clause-wear
 returns-in_err-add-clause-wear g c = writes_told (wears_writes c.in_ok-index.ensures.wear (search rules)) (search rules) (search rules)
 
+pub returns-in_err-put-clause-wear : goal.returns-in_err-put-clause-wear
+returns-in_err-put-clause-wear g c = wears_then c.in_ok-index.ensures.wear (search rules) (search rules) (writes_told c.in_err-put.ensures.wear (search rules) (search rules))
+
 pub returns-in_err-write_index-clause-wear : goal.returns-in_err-write_index-clause-wear
 returns-in_err-write_index-clause-wear g c = wears_then c.in_ok-index.ensures.wear (search rules) (search rules) (writes_both c.in_ok-put.ensures.wear (search rules) (writes_told c.in_err-write_index.ensures.wear (search rules) (search rules)))
 
 pub returns-clause-wear : goal.returns-clause-wear
 returns-clause-wear g c = wears_then c.in_ok-index.ensures.wear (search rules) (search rules) (writes_both c.in_ok-put.ensures.wear (search rules) (writes_told c.in_ok-write_index.ensures.wear (search rules) (search rules)))
+
+pub returns-in_err-index-clause-looks : goal.returns-in_err-index-clause-looks
+returns-in_err-index-clause-looks g c = λ honest m spells. inr (looks_told c.in_err-index.ensures.wear (search rules))
+
+pub returns-in_err-add-clause-looks : goal.returns-in_err-add-clause-looks
+returns-in_err-add-clause-looks g c = λ honest m spells. inr (looks_told c.in_ok-index.ensures.wear (search rules))
+
+pub returns-in_err-put-clause-looks : goal.returns-in_err-put-clause-looks
+returns-in_err-put-clause-looks g c = λ honest m spells.
+    let may : IsObject Blob c.args.bytes.now → MayStage m c.args.path.now c.args.bytes.now = λ object. record {
+      legal = c.in_ok-add.ensures.legal (search rules);
+      free = λ h. c.in_ok-add.ensures.free (search rules) (subst (λ (i : IndexMap). HasConflict i c.args.path.now) (sym (c.in_ok-index.ensures.again honest m spells)) h);
+      object = object;
+      id = subst (λ (n : ObjectId). is_id n ≡ true) c.name_of-name.ensures.name c.name_of-name.ensures.valid;
+    } in
+    looks_or c.in_ok-index.ensures.wear (or_told c.in_err-put.ensures.looks may (search rules)) (λ staged. staged)
+
+pub returns-in_err-write_index-clause-looks : goal.returns-in_err-write_index-clause-looks
+returns-in_err-write_index-clause-looks g c = λ honest m spells.
+    let may : MayStage m c.args.path.now c.args.bytes.now = record {
+      legal = c.in_ok-add.ensures.legal (search rules);
+      free = λ h. c.in_ok-add.ensures.free (search rules) (subst (λ (i : IndexMap). HasConflict i c.args.path.now) (sym (c.in_ok-index.ensures.again honest m spells)) h);
+      object = c.in_ok-put.ensures.legal (search rules);
+      id = subst (λ (n : ObjectId). is_id n ≡ true) c.name_of-name.ensures.name c.name_of-name.ensures.valid;
+    } in
+    inl may
+
+pub returns-clause-looks : goal.returns-clause-looks
+returns-clause-looks g c = λ honest m spells.
+    let may : MayStage m c.args.path.now c.args.bytes.now = record {
+      legal = c.in_ok-add.ensures.legal (search rules);
+      free = λ h. c.in_ok-add.ensures.free (search rules) (subst (λ (i : IndexMap). HasConflict i c.args.path.now) (sym (c.in_ok-index.ensures.again honest m spells)) h);
+      object = c.in_ok-put.ensures.legal (search rules);
+      id = subst (λ (n : ObjectId). is_id n ≡ true) c.name_of-name.ensures.name c.name_of-name.ensures.valid;
+    } in
+    inl may

@@ -1,5 +1,6 @@
+use Rattle.vc_node.proofs.LookLemmas.{looks_told}
 use Rattle.vc_files.proofs.WearLemmas.{wears_then, wears_writes, writes_told}
-use Rattle.std.proofs.Common.{rules, refl}
+use Rattle.std.proofs.Common.{rules, refl, inr, inl}
 use Rattle.vc_node.proofs.ShownLemmas.{shown_index_from}
 use Rattle.vc_node.proofs.CleanLemmas.{clean_from, clean_index}
 use Rattle.vc_node.proofs.local.load_tree.Goals as goal
@@ -22,3 +23,12 @@ returns-in_err-index-clause-wear g c = writes_told (wears_writes c.in_err-index.
 
 pub returns-clause-wear : goal.returns-clause-wear
 returns-clause-wear g c = wears_then c.in_ok-index.ensures.wear (search rules) (search rules) (writes_told c.in_ok-write_index.ensures.wear (search rules) (search rules))
+
+pub returns-in_err-index-clause-looks : goal.returns-in_err-index-clause-looks
+returns-in_err-index-clause-looks g c = λ honest. inr (looks_told c.in_err-index.ensures.wear (search rules))
+
+pub returns-in_err-write_index-clause-looks : goal.returns-in_err-write_index-clause-looks
+returns-in_err-write_index-clause-looks g c = λ honest. inl (c.in_ok-index.index, c.in_ok-index.ensures.reading honest)
+
+pub returns-clause-looks : goal.returns-clause-looks
+returns-clause-looks g c = λ honest. inl (c.in_ok-index.index, c.in_ok-index.ensures.reading honest)

@@ -1,4 +1,7 @@
-use Rattle.std.proofs.Common.{rules}
+use Rattle.vc_refs.specs.Way.{IsFree}
+use Rattle.vc_files.specs.FileMap.{FileMap}
+use Rattle.vc_node.proofs.LookLemmas.{looks_told, or_told, looks_or}
+use Rattle.std.proofs.Common.{rules, inr, subst}
 use Rattle.vc_files.proofs.WearLemmas.{wears_then, wears_writes, writes_told}
 use Rattle.vc_refs.specs.RefMap.{RefMap, with_ref}
 use Rattle.vc_node.proofs.ShownLemmas.{shown_refs_from}
@@ -20,3 +23,18 @@ returns-in_err-set-clause-wear g c = wears_then c.in_ok-current.ensures.wear (se
 
 pub returns-clause-wear : goal.returns-clause-wear
 returns-clause-wear g c = wears_then c.in_ok-current.ensures.wear (search rules) (search rules) (writes_told c.in_ok-set.ensures.wear (search rules) (search rules))
+
+pub returns-in_err-current-clause-looks : goal.returns-in_err-current-clause-looks
+returns-in_err-current-clause-looks g c = λ honest. inr (looks_told c.in_err-current.ensures.wear (search rules))
+
+pub returns-in_err-set-clause-looks : goal.returns-in_err-set-clause-looks
+returns-in_err-set-clause-looks g c = λ honest.
+    let name = c.args.name.now in
+    looks_or c.in_ok-current.ensures.wear (or_told (c.in_err-set.ensures.looks honest) (λ may. may) (search rules))
+    (λ may. (may.0, subst (λ (m : FileMap). IsFree m name) c.in_ok-current.ensures.same may.1.free))
+
+pub returns-clause-looks : goal.returns-clause-looks
+returns-clause-looks g c = λ honest.
+    let name = c.args.name.now in
+    looks_or c.in_ok-current.ensures.wear (or_told (c.in_ok-set.ensures.looks honest) (λ may. may) (search rules))
+    (λ may. (may.0, subst (λ (m : FileMap). IsFree m name) c.in_ok-current.ensures.same may.1.free))

@@ -1,4 +1,7 @@
-use Rattle.std.proofs.Common.{rules}
+use Rattle.vc_node.specs.GoodCommit.{IsComplete, IsHistory}
+use Rattle.vc_refs.specs.Way.{IsFree}
+use Rattle.vc_node.proofs.LookLemmas.{looks_told, looks_then, or_told, looks_or}
+use Rattle.std.proofs.Common.{rules, inr}
 use Rattle.vc_files.proofs.WearLemmas.{wears_then, wears_writes, writes_told}
 use Rattle.vc_node.proofs.local.set_branch.Goals as goal
 
@@ -13,3 +16,27 @@ returns-in_err-put_ref-clause-wear g c = wears_then c.in_ok-refuse_conflict.ensu
 
 pub returns-clause-wear : goal.returns-clause-wear
 returns-clause-wear g c = wears_then c.in_ok-refuse_conflict.ensures.wear (search rules) (search rules) (wears_then c.in_ok-refuse_bad_commit.ensures.wear (search rules) (search rules) (writes_told c.in_ok-put_ref.ensures.wear (search rules) (search rules)))
+
+pub returns-in_err-refuse_conflict-clause-looks : goal.returns-in_err-refuse_conflict-clause-looks
+returns-in_err-refuse_conflict-clause-looks g c = λ honest. inr (looks_told c.in_err-refuse_conflict.ensures.wear (search rules))
+
+pub returns-in_err-refuse_bad_commit-clause-looks : goal.returns-in_err-refuse_bad_commit-clause-looks
+returns-in_err-refuse_bad_commit-clause-looks g c = λ honest. inr (looks_then c.in_ok-refuse_conflict.ensures.wear (looks_told c.in_err-refuse_bad_commit.ensures.wear (search rules)))
+
+pub returns-in_err-put_ref-clause-looks : goal.returns-in_err-put_ref-clause-looks
+returns-in_err-put_ref-clause-looks g c = λ honest.
+    let content = g.F.Files.content in
+    let name = c.args.branch.now in
+    let free : IsFree (content c.args.files.now) name = search (rules, c.in_ok-refuse_conflict.ensures.free honest) in
+    let complete : IsComplete (content c.args.files.now) c.args.id.now = search (rules, c.in_ok-refuse_bad_commit.ensures.complete honest) in
+    let history : IsHistory (content c.args.files.now) c.args.id.now = search (rules, c.in_ok-refuse_bad_commit.ensures.history honest) in
+    looks_or c.in_ok-refuse_conflict.ensures.wear (looks_or c.in_ok-refuse_bad_commit.ensures.wear (or_told (c.in_err-put_ref.ensures.looks honest) (λ may. may) (search rules)) (λ may. may)) (λ may. (may.0, free, complete, history))
+
+pub returns-clause-looks : goal.returns-clause-looks
+returns-clause-looks g c = λ honest.
+    let content = g.F.Files.content in
+    let name = c.args.branch.now in
+    let free : IsFree (content c.args.files.now) name = search (rules, c.in_ok-refuse_conflict.ensures.free honest) in
+    let complete : IsComplete (content c.args.files.now) c.args.id.now = search (rules, c.in_ok-refuse_bad_commit.ensures.complete honest) in
+    let history : IsHistory (content c.args.files.now) c.args.id.now = search (rules, c.in_ok-refuse_bad_commit.ensures.history honest) in
+    looks_or c.in_ok-refuse_conflict.ensures.wear (looks_or c.in_ok-refuse_bad_commit.ensures.wear (or_told (c.in_ok-put_ref.ensures.looks honest) (λ may. may) (search rules)) (λ may. may)) (λ may. (may.0, free, complete, history))

@@ -1,3 +1,5 @@
+use Rattle.std.proofs.Common.{rules}
+use Rattle.vc_node.proofs.LookLemmas.{or_told}
 use Rattle.vc_node.proofs.ShownLemmas.{shown_objects}
 use Rattle.vc_node.proofs.CleanLemmas.{clean_put}
 use Rattle.vc_node.proofs.local.write.Goals as goal
@@ -7,3 +9,9 @@ returns-clause-stored g c = λ honest. shown_objects _ _ _ (c.in_ok-id.ensures.o
 
 pub returns-clause-clean : goal.returns-clause-clean
 returns-clause-clean g c = λ honest. clean_put _ _ c.args.kind c.args.body.now c.in_ok-id.id c.in_ok-id.ensures.name (c.in_ok-id.ensures.files honest) (c.in_ok-id.ensures.objects honest) (c.in_ok-id.ensures.outside honest)
+
+pub returns-in_err-id-clause-looks : goal.returns-in_err-id-clause-looks
+returns-in_err-id-clause-looks g c = or_told c.in_err-id.ensures.looks (λ object. object) (search rules)
+
+pub returns-clause-looks : goal.returns-clause-looks
+returns-clause-looks g c = or_told c.in_ok-id.ensures.looks (λ object. object) (search rules)

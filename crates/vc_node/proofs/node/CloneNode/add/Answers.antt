@@ -1,9 +1,13 @@
+use Rattle.vc_rules.specs.Git.{mode_number}
+use Rattle.vc_model.specs.Clone.Task.{Stage}
+use Rattle.vc_node.proofs.MayLemmas.{may_or, add_may}
+use Rattle.vc_node.proofs.LookLemmas.{looks_none, or_told, or_failed}
 use Rattle.std.proofs.Common.{refl, rules, ap, inr, sym, subst}
 use Rattle.vc_files.specs.FileMap.{FileMap}
 use Rattle.vc_index.specs.IndexMap.{IndexMap}
 use Rattle.vc_node.specs.IndexFile.{SpellsIndex}
 use Rattle.vc_node.proofs.AnswerLemmas.{answers_down, answers_from, failed, held, held_failed}
-use Rattle.vc_node.proofs.IndexLemmas.{LeftByAdd, add_done, add_failed}
+use Rattle.vc_node.proofs.IndexLemmas.{LeftByAdd, add_done, add_failed, spells_index}
 use Rattle.vc_node.proofs.CleanLemmas.{clean_same}
 use Rattle.vc_node.proofs.node.CloneNode.add.Goals as goal
 
@@ -32,3 +36,12 @@ returns-in-Ok-clause-answers g c = λ honest. held _ _ _ _ _ _ (returns-in-Ok-cl
 
 pub returns-in-Err-clause-answers : goal.returns-in-Err-clause-answers
 returns-in-Err-clause-answers g c = λ honest. held_failed _ _ _ _ _ _ _ c.fail.ensures.fault (returns-in-Err-clause-bad_file g c honest) (search rules)
+
+pub returns-then-not-self-clause-looks : goal.returns-then-not-self-clause-looks
+returns-then-not-self-clause-looks g c = λ honest awaited n holds. inr (looks_none (λ told. told))
+
+pub returns-in-Ok-clause-looks : goal.returns-in-Ok-clause-looks
+returns-in-Ok-clause-looks g c = λ honest. rw (← c.self.view_is) (may_or (Stage c.args.path.now (mode_number c.args.mode) c.args.bytes.now) _ _ (search rules) (λ awaited r p. or_told (c.in-Ok.ensures.looks honest p.map (spells_index _ r p)) (λ may. add_may _ awaited r p c.args.path.now c.args.bytes.now c.args.mode may) (search rules)))
+
+pub returns-in-Err-clause-looks : goal.returns-in-Err-clause-looks
+returns-in-Err-clause-looks g c = λ honest. rw (← c.self.view_is) (may_or (Stage c.args.path.now (mode_number c.args.mode) c.args.bytes.now) _ _ (search rules) (λ awaited r p. or_failed (c.in-Err.ensures.looks honest p.map (spells_index _ r p)) (λ may. add_may _ awaited r p c.args.path.now c.args.bytes.now c.args.mode may) c.fail.ensures.files c.fail.ensures.fault))

@@ -1,4 +1,8 @@
-use Rattle.std.proofs.Common.{refl, rules, ap, inr, sym, subst}
+use Rattle.vc_format.specs.Git.{bytes_of_id}
+use Rattle.vc_model.specs.Clone.Task.{MakeCommit}
+use Rattle.vc_node.proofs.MayLemmas.{may_or, commit_may}
+use Rattle.vc_node.proofs.LookLemmas.{looks_none, or_told, or_failed}
+use Rattle.std.proofs.Common.{refl, rules, ap, inr, sym, subst, map}
 use Rattle.vc_files.specs.FileMap.{FileMap}
 use Rattle.vc_node.specs.Making.{LeftByCommit}
 use Rattle.vc_node.proofs.AnswerLemmas.{answers_down, answers_from, failed, held, held_failed}
@@ -37,3 +41,12 @@ returns-in-Err-clause-answers g c = λ honest. held_failed _ _ _ _ _ _ _ c.fail.
 
 pub returns-in-Err-clause-file : goal.returns-in-Err-clause-file
 returns-in-Err-clause-file g c = λ honest. rw (← c.self.view_is, c.fail.ensures.fault) (c.in-Err.ensures.file honest)
+
+pub returns-then-not-self-clause-looks : goal.returns-then-not-self-clause-looks
+returns-then-not-self-clause-looks g c = λ honest awaited n holds. inr (looks_none (λ told. told))
+
+pub returns-in-Ok-clause-looks : goal.returns-in-Ok-clause-looks
+returns-in-Ok-clause-looks g c = λ honest. rw (← c.self.view_is) (may_or (MakeCommit (map bytes_of_id c.args.extra_parents.now) c.args.author.now c.args.committer.now c.args.message.now) _ _ (search rules) (λ awaited r p. or_told (c.in-Ok.ensures.looks honest) (λ may. commit_may _ awaited r p c.args.extra_parents.now c.args.author.now c.args.committer.now c.args.message.now may) (search rules)))
+
+pub returns-in-Err-clause-looks : goal.returns-in-Err-clause-looks
+returns-in-Err-clause-looks g c = λ honest. rw (← c.self.view_is) (may_or (MakeCommit (map bytes_of_id c.args.extra_parents.now) c.args.author.now c.args.committer.now c.args.message.now) _ _ (search rules) (λ awaited r p. or_failed (c.in-Err.ensures.looks honest) (λ may. commit_may _ awaited r p c.args.extra_parents.now c.args.author.now c.args.committer.now c.args.message.now may) c.fail.ensures.files c.fail.ensures.fault))

@@ -1,3 +1,6 @@
+use Rattle.vc_model.specs.Clone.Task.{SetBranch}
+use Rattle.vc_node.proofs.MayLemmas.{may_or, set_branch_may}
+use Rattle.vc_node.proofs.LookLemmas.{looks_none, or_told, or_failed}
 use Rattle.std.proofs.Common.{refl, rules, ap, ◌∙◌, inr}
 use Rattle.vc_node.proofs.AnswerLemmas.{answers_down, answers_from, failed, held, held_failed, or_unchanged}
 use Rattle.vc_node.proofs.BranchLemmas.{set_branch_done, set_branch_failed}
@@ -24,3 +27,12 @@ returns-in-Ok-clause-answers g c = λ honest. held _ _ _ _ _ _ (returns-in-Ok-cl
 
 pub returns-in-Err-clause-answers : goal.returns-in-Err-clause-answers
 returns-in-Err-clause-answers g c = λ honest. held_failed _ _ _ _ _ _ _ c.fail.ensures.fault (returns-in-Err-clause-bad_file g c honest) (search rules)
+
+pub returns-then-not-self-clause-looks : goal.returns-then-not-self-clause-looks
+returns-then-not-self-clause-looks g c = λ honest awaited n holds. inr (looks_none (λ told. told))
+
+pub returns-in-Ok-clause-looks : goal.returns-in-Ok-clause-looks
+returns-in-Ok-clause-looks g c = λ honest. rw (← c.self.view_is) (may_or (SetBranch c.args.branch.now c.args.id.now.0) _ _ (search rules) (λ awaited r p. or_told (c.in-Ok.ensures.looks honest) (λ may. set_branch_may _ awaited r p c.args.branch.now c.args.id.now (search rules) may) (search rules)))
+
+pub returns-in-Err-clause-looks : goal.returns-in-Err-clause-looks
+returns-in-Err-clause-looks g c = λ honest. rw (← c.self.view_is) (may_or (SetBranch c.args.branch.now c.args.id.now.0) _ _ (search rules) (λ awaited r p. or_failed (c.in-Err.ensures.looks honest) (λ may. set_branch_may _ awaited r p c.args.branch.now c.args.id.now (search rules) may) c.fail.ensures.files c.fail.ensures.fault))

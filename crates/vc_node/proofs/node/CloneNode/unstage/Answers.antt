@@ -1,4 +1,7 @@
-use Rattle.std.proofs.Common.{refl, rules, ap, ◌∙◌, inr}
+use Rattle.vc_model.specs.Clone.Task.{Unstage}
+use Rattle.vc_node.proofs.MayLemmas.{may_or, unstage_may}
+use Rattle.vc_node.proofs.LookLemmas.{looks_none}
+use Rattle.std.proofs.Common.{refl, rules, ap, ◌∙◌, inr, inl}
 use Rattle.vc_node.proofs.AnswerLemmas.{answers_down, answers_from, failed, held, held_failed, or_unchanged}
 use Rattle.vc_node.proofs.IndexLemmas.{unstage_done, unstage_failed}
 use Rattle.vc_node.proofs.CleanLemmas.{clean_same}
@@ -24,3 +27,12 @@ returns-in-Ok-clause-answers g c = λ honest. held _ _ _ _ _ _ (returns-in-Ok-cl
 
 pub returns-in-Err-clause-answers : goal.returns-in-Err-clause-answers
 returns-in-Err-clause-answers g c = λ honest. held_failed _ _ _ _ _ _ _ c.fail.ensures.fault (returns-in-Err-clause-bad_file g c honest) (search rules)
+
+pub returns-then-not-self-clause-looks : goal.returns-then-not-self-clause-looks
+returns-then-not-self-clause-looks g c = λ honest awaited n holds. inr (looks_none (λ told. told))
+
+pub returns-in-Ok-clause-looks : goal.returns-in-Ok-clause-looks
+returns-in-Ok-clause-looks g c = λ honest. rw (← c.self.view_is) (may_or (Unstage c.args.path.now) _ _ (search rules) (λ awaited r p. inl (unstage_may c.args.path.now awaited r)))
+
+pub returns-in-Err-clause-looks : goal.returns-in-Err-clause-looks
+returns-in-Err-clause-looks g c = λ honest. rw (← c.self.view_is) (may_or (Unstage c.args.path.now) _ _ (search rules) (λ awaited r p. inl (unstage_may c.args.path.now awaited r)))

@@ -1,3 +1,7 @@
+use Rattle.vc_rules.specs.Git.{machine_object}
+use Rattle.vc_model.specs.Clone.Task.{Write}
+use Rattle.vc_node.proofs.MayLemmas.{may_or, write_may}
+use Rattle.vc_node.proofs.LookLemmas.{looks_none, or_told, or_failed}
 use Rattle.std.proofs.Common.{refl, rules, ap, ◌∙◌, inr}
 use Rattle.vc_node.specs.Shown.{shown}
 use Rattle.vc_node.proofs.AnswerLemmas.{answers_down, answers_from, failed, held, held_failed, or_unchanged}
@@ -25,3 +29,12 @@ returns-in-Ok-clause-answers g c = λ honest. held _ _ _ _ _ _ (returns-in-Ok-cl
 
 pub returns-in-Err-clause-answers : goal.returns-in-Err-clause-answers
 returns-in-Err-clause-answers g c = λ honest. held_failed _ _ _ _ _ _ _ c.fail.ensures.fault (returns-in-Err-clause-bad_file g c honest) (search rules)
+
+pub returns-then-not-self-clause-looks : goal.returns-then-not-self-clause-looks
+returns-then-not-self-clause-looks g c = λ honest awaited n holds. inr (looks_none (λ told. told))
+
+pub returns-in-Ok-clause-looks : goal.returns-in-Ok-clause-looks
+returns-in-Ok-clause-looks g c = λ honest. rw (← c.self.view_is) (may_or (Write (machine_object c.args.kind c.args.body.now)) _ _ (search rules) (λ awaited r p. or_told (c.in-Ok.ensures.looks) (λ may. write_may c.args.kind c.args.body.now may awaited r) (search rules)))
+
+pub returns-in-Err-clause-looks : goal.returns-in-Err-clause-looks
+returns-in-Err-clause-looks g c = λ honest. rw (← c.self.view_is) (may_or (Write (machine_object c.args.kind c.args.body.now)) _ _ (search rules) (λ awaited r p. or_failed (c.in-Err.ensures.looks) (λ may. write_may c.args.kind c.args.body.now may awaited r) c.fail.ensures.files c.fail.ensures.fault))
