@@ -10,3 +10,4 @@ pub mod Making
 pub mod Clean
 pub mod Opening
 pub mod Reads
+pub mod Printed

@@ -4,6 +4,7 @@ ghost use Rattle.vc_files.specs.declared.faults.Fault.TheVariants.{Memory};
 ghost use Rattle.vc_store.specs.declared.faults.StoreFault.TheVariants as store_fault;
 ghost use Rattle.vc_node.specs.declared.fault.NodeFault.TheVariants.{Store, Ref};
 ghost use Rattle.vc_node.specs.NodeFault.{is_fault, of_base, of_index};
+ghost use Rattle.vc_node.specs.Printed.{node_fault_text};
 
 use std::alloc::{AllocError, AllocFailed};
 use std::error::Error;
@@ -40,6 +41,8 @@ pub enum NodeFault {
 }
 
 impl fmt::Display for NodeFault {
+    ghost output = { node_fault_text };
+
     fn fmt<W: fmt::Write>(&self, f: &mut fmt::Formatter<W>) -> fmt::Result {
         match self {
             NodeFault::Store(fault) => fmt::Display::fmt(fault, f),
