@@ -29,7 +29,7 @@ use Rattle.vc_node.specs.Shown.{shown}
 use Rattle.vc_node.specs.declared.fault.NodeFault.{NodeFault}
 use Rattle.vc_node.specs.declared.fault.NodeFault.TheVariants.{Store, Ref, Missing, NotACommit, BadPath, PathConflict, BadIndex, WrongEntry, Down}
 use Rattle.vc_node.proofs.CommitAnswers.{commit_task, body_is, trees_given, too_large, cut_deed}
-use Rattle.vc_node.proofs.IndexLemmas.{spells_index}
+use Rattle.vc_node.proofs.IndexLemmas.{spells_index, no_bad_index}
 use Rattle.vc_node.proofs.RefusalLemmas.{head_free, head_not_free, parents_missing, parents_other, parents_pass}
 use Rattle.vc_node.proofs.TreeObjects.{with_trees}
 use Rattle.std.specs.FinMap.{empty}
@@ -122,7 +122,7 @@ module _ (content : FileMap) (extra : List ObjectId) (author committer message :
 
   index_outcome : (e : NodeFault) → BlamesIndex content e → Outcome e
   unfolding IsNone
-  index_outcome (BadIndex place) blames = nothing (BadIndex place) (λ r p. blames p.map (spells_index content r p))
+  index_outcome (BadIndex place) blames = nothing (BadIndex place) (λ r p. no_bad_index content place blames p.map (spells_index content r p))
   index_outcome (Store (store.BadObject f)) blames = absurd blames
   index_outcome (Store (store.Absent id)) blames = absurd blames
   index_outcome (Store (store.Damaged id)) blames = absurd blames

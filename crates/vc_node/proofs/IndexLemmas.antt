@@ -8,8 +8,11 @@ use Rattle.std.specs.Cmp.Lexicographic.{slice_cmp}
 use Rattle.vc_files.specs.FileMap.{FileMap}
 use Rattle.vc_format.specs.Git.{git_name}
 use Rattle.vc_index.specs.IndexMap.{IndexMap, IsIndex, HasConflict, index_entry}
-use Rattle.vc_index.specs.IndexText.{index_text}
+use Rattle.vc_index.specs.IndexText.{index_text, IsOfRead, TextFault}
 use Rattle.vc_index.specs.declared.entry.IndexEntry.{IndexEntry}
+use Rattle.vc_index.specs.declared.faults.IndexFault.{IndexFault}
+use Rattle.vc_index.specs.declared.faults.IndexFault.TheVariants as index
+use Rattle.vc_index.proofs.AgainLemmas.{no_text_fault}
 use Rattle.vc_index.proofs.MapLemmas.{insert-IsIndex, remove-IsIndex}
 use Rattle.vc_model.specs.Object.{Object, Objects, blob}
 use Rattle.vc_model.specs.Repository.{Repository, Entry, Index, AllAdded, SomeAdded, with_objects, only_changes}
@@ -26,12 +29,14 @@ use Rattle.vc_object.specs.declared.kind.Kind.TheVariants as kinds
 use Rattle.vc_object.specs.declared.mode.Mode.{Mode}
 use Rattle.vc_object.specs.declared.mode.Mode.TheVariants as modes
 use Rattle.vc_store.specs.Store.{objects, with_object}
+use Rattle.vc_store.specs.StoreFault.{IsFault as IsStoreFault}
+use Rattle.vc_store.specs.declared.faults.StoreFault.{StoreFault}
 use Rattle.vc_store.specs.declared.faults.StoreFault.TheVariants as store
 use Rattle.vc_node.specs.declared.fault.NodeFault.{NodeFault}
 use Rattle.vc_node.specs.declared.fault.NodeFault.TheVariants.{Store, Ref, Missing, NotACommit, BadPath, PathConflict, BadIndex, WrongEntry, Down}
 use Rattle.vc_node.specs.Blames.{BlamesAdd, MayStage, TellsDamage}
-use Rattle.vc_node.specs.IndexFile.{SpellsIndex, BlamesIndex}
-use Rattle.vc_node.specs.NodeFault.{is_fault}
+use Rattle.vc_node.specs.IndexFile.{SpellsIndex, BlamesIndex, index_bytes}
+use Rattle.vc_node.specs.NodeFault.{is_fault, of_index}
 use Rattle.vc_node.specs.Shown.{Shown, shown, with_objects_shown, with_index_shown}
 use Rattle.vc_rules.specs.Git.{git, machine_entry, mode_number}
 use Rattle.vc_rules.specs.Faults.{object_number}
@@ -51,6 +56,34 @@ none_added s = record { each = λ x. by (get s x) ∙ ap (option_or (get s x)) (
 -- what is shown spells the index
 pub spells_index : (content : FileMap) (r : Repository) (p : Spells (shown content) r) → SpellsIndex content p.map
 spells_index content r p = record { sound = p.map_sound; text = p.map_shown }
+
+-- a file that goes wrong at a byte spells no index
+pub no_bad_index : (content : FileMap) (place : ℕ) → TextFault (index_bytes content) place → (m : IndexMap) → SpellsIndex content m → ⊥
+no_bad_index content place fault m s = no_text_fault m (index_bytes content) place s.sound s.text fault
+
+-- what is no text of an index is the file's own fault
+pub text_blamed : (content : FileMap) (bytes : List ℕ) (f : IndexFault) → bytes ≡ index_bytes content → IsOfRead bytes f → BlamesIndex content (of_index f)
+text_blamed content bytes index.BadPath same why = absurd why
+text_blamed content bytes index.PathConflict same why = absurd why
+text_blamed content bytes (index.BadIndex place) same why = subst (λ (all : List ℕ). TextFault all place) same why
+text_blamed content bytes (index.WrongEntry at) same why = absurd why
+text_blamed content bytes (index.Missing id) same why = absurd why
+text_blamed content bytes (index.Store fault) same why = subst (λ (f : StoreFault). IsStoreFault f) (sym why) tt
+
+-- where files spell an index, a look at it that is refused is an add's own fault
+pub index_add_blamed : (content : FileMap) (m : IndexMap) (path body : List ℕ) (e : NodeFault) → SpellsIndex content m → BlamesIndex content e → BlamesAdd content m path body e
+index_add_blamed content m path body (Store (store.BadObject f)) s blames = absurd blames
+index_add_blamed content m path body (Store (store.Absent id)) s blames = absurd blames
+index_add_blamed content m path body (Store (store.Damaged id)) s blames = absurd blames
+index_add_blamed content m path body (Store (store.Fault f)) s blames = tt
+index_add_blamed content m path body (BadIndex place) s blames = absurd (no_bad_index content place blames m s)
+index_add_blamed content m path body (Ref f) s blames = absurd blames
+index_add_blamed content m path body (Missing id) s blames = absurd blames
+index_add_blamed content m path body (NotACommit id) s blames = absurd blames
+index_add_blamed content m path body BadPath s blames = absurd blames
+index_add_blamed content m path body PathConflict s blames = absurd blames
+index_add_blamed content m path body (WrongEntry at) s blames = absurd blames
+index_add_blamed content m path body Down s blames = absurd blames
 
 -- a repository with another index
 pub spells_map : (s : Shown) (r : Repository) (m : IndexMap) (i : Index) → Spells s r → IsIndex m → ((q : List ℕ) → get i q ≡ option_map machine_entry (get m q)) → Spells (with_index_shown s (index_text m)) (record r { index = i })
@@ -87,7 +120,7 @@ unstage_failed content path (Store (store.BadObject f)) blames = absurd blames
 unstage_failed content path (Store (store.Absent id)) blames = absurd blames
 unstage_failed content path (Store (store.Damaged id)) blames = absurd blames
 unstage_failed content path (Store (store.Fault f)) blames = inr (faults (Unstage path) (failure_of f) (shown content))
-unstage_failed content path (BadIndex place) blames = inr (record { goes = λ awaited r p. absurd (blames p.map (spells_index content r p)) })
+unstage_failed content path (BadIndex place) blames = inr (record { goes = λ awaited r p. absurd (no_bad_index content place blames p.map (spells_index content r p)) })
 unstage_failed content path (Ref e) blames = absurd blames
 unstage_failed content path (Missing id) blames = absurd blames
 unstage_failed content path (NotACommit id) blames = absurd blames

@@ -3,6 +3,7 @@ use Rattle.std.specs.Prelude.{◌≡◌, ◌⊎◌, ℕ, List, Some, Ok, Err, tr
 use Rattle.std.specs.List.{starts_with}
 use Rattle.vc_files.specs.FileMap.{FileMap}
 use Rattle.vc_index.specs.IndexMap.{IndexMap, HasConflict}
+use Rattle.vc_index.specs.IndexText.{TextFault}
 use Rattle.vc_index.specs.Loading.{IsOfLoad}
 use Rattle.vc_index.specs.Path.{IsPath}
 use Rattle.vc_index.specs.TreeReading.{TreeFault, ReadsAs, tree_fault}
@@ -25,7 +26,7 @@ use Rattle.vc_store.specs.StoreFault.{IsFault as IsStoreFault}
 use Rattle.vc_store.specs.declared.faults.StoreFault.{StoreFault}
 use Rattle.vc_store.specs.declared.faults.StoreFault.TheVariants as store
 use Rattle.vc_node.specs.GoodCommit.{IsComplete, IsHistory, BlamesCommit}
-use Rattle.vc_node.specs.IndexFile.{SpellsIndex}
+use Rattle.vc_node.specs.IndexFile.{index_bytes}
 use Rattle.vc_node.specs.NodeFault.{of_index}
 use Rattle.vc_node.specs.declared.fault.NodeFault.{NodeFault}
 use Rattle.vc_node.specs.declared.fault.NodeFault.TheVariants.{Store, Ref, Missing, NotACommit, BadPath, PathConflict, BadIndex}
@@ -131,6 +132,6 @@ IsLocalHead (head.Id id) = Unit {0}
 -- files are opened whose index and HEAD say what they are
 abbrev pub BlamesOpen : FileMap → NodeFault → Type 0
 BlamesOpen content (Store fault) = IsStoreFault fault
-BlamesOpen content (BadIndex place) = (m : IndexMap) → SpellsIndex content m → ⊥
+BlamesOpen content (BadIndex place) = TextFault (index_bytes content) place
 BlamesOpen content (Ref fault) = BlamesHeadFile content fault
 BlamesOpen content _ = ⊥

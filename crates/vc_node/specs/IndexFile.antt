@@ -3,7 +3,7 @@ use Rattle.std.specs.Prelude.{◌≡◌, ℕ, List, [], codes, unwrap_or}
 use Rattle.std.specs.FinMap as files
 use Rattle.vc_files.specs.FileMap.{FileMap}
 use Rattle.vc_index.specs.IndexMap.{IndexMap, IsIndex}
-use Rattle.vc_index.specs.IndexText.{index_text}
+use Rattle.vc_index.specs.IndexText.{index_text, TextFault}
 use Rattle.vc_node.specs.declared.fault.NodeFault.{NodeFault}
 use Rattle.vc_node.specs.declared.fault.NodeFault.TheVariants.{Store, Ref, Missing, NotACommit, BadPath, PathConflict, BadIndex, WrongEntry, Down}
 use Rattle.vc_store.specs.StoreFault.{IsFault}
@@ -17,10 +17,10 @@ pub record SpellsIndex (content : FileMap) (m : IndexMap) : Type 0 where
   pub sound : IsIndex m
   pub text : index_bytes content ≡ index_text m
 
--- a look at the index is refused only where its file spells none
+-- a look at the index is refused only where its file spells none, at the first byte that goes wrong
 abbrev pub BlamesIndex : FileMap → NodeFault → Type 0
 BlamesIndex content (Store fault) = IsFault fault
-BlamesIndex content (BadIndex place) = (m : IndexMap) → SpellsIndex content m → ⊥
+BlamesIndex content (BadIndex place) = TextFault (index_bytes content) place
 BlamesIndex content (Ref fault) = ⊥
 BlamesIndex content (Missing id) = ⊥
 BlamesIndex content (NotACommit id) = ⊥

@@ -11,8 +11,9 @@ use Rattle.vc_object.specs.Object.{object_name, IsObject}
 use Rattle.vc_object.specs.declared.kind.Kind.TheVariants.{Blob}
 use Rattle.vc_store.specs.Store.{objects, with_object}
 use Rattle.vc_node.specs.Shown.{Shown, shown, with_objects_shown, with_index_shown}
-use Rattle.vc_node.specs.Blames.{MayStage}
+use Rattle.vc_node.specs.Blames.{BlamesAdd, MayStage}
 use Rattle.vc_node.proofs.ShownLemmas.{shown_index, shown_objects_from}
+use Rattle.vc_node.proofs.IndexLemmas.{index_add_blamed}
 use Rattle.vc_node.proofs.CleanLemmas.{clean_from, clean_on, clean_then, clean_put, clean_index}
 use Rattle.vc_node.proofs.local.add.Goals as goal
 
@@ -28,6 +29,13 @@ returns-clause-added g c = λ honest m spells.
     ∙ ap (λ (n : ObjectId). paths.insert m path (index_entry c.args.mode n)) c.name_of-name.ensures.name in
     shown_index _ _ _ (c.in_ok-write_index.ensures.written honest) ∙ ap (λ (s : Shown). with_index_shown s (index_text c.add.new.self)) first
     ∙ ap (λ (i : IndexMap). with_index_shown (with_objects_shown (shown (content c.args.files.now)) (with_object (objects (content c.args.files.now)) (object_name Blob bytes) (stored_object Blob bytes))) (index_text i)) made
+
+pub returns-in_err-index-clause-refused : goal.returns-in_err-index-clause-refused
+returns-in_err-index-clause-refused g c = λ honest m spells.
+    let content = g.F.Files.content c.args.files.now in
+    let e = c.in_err-index.field-0.0 in
+    let blames : BlamesAdd content m c.args.path.now c.args.bytes.now e = index_add_blamed content m c.args.path.now c.args.bytes.now e spells (c.in_err-index.ensures.refused honest) in
+    search (rules, blames)
 
 pub returns-in_err-write_index-clause-left : goal.returns-in_err-write_index-clause-left
 returns-in_err-write_index-clause-left g c = λ honest m spells.
