@@ -1,10 +1,19 @@
 // In which order files of a folder are written and made durable.
-use crate::root::{Root, is_absence};
+use crate::left_over;
+use crate::root::{Found, Root, above, is_absence};
 use std::alloc::Global;
 use std::collections::BTreeSet;
 use std::fs::OpenFile;
-use std::io::{self, Write};
+use std::io::{self, ErrorKind, Write};
 use std::rt;
+
+// The most bytes that the file of an object has: its body, and the longest header, `commit 16777216` and a NUL. A
+// ref's file and HEAD are far shorter. What is longer is read to one byte more, which no reader takes for whole.
+const MOST_OF_AN_OBJECT: u64 = 16_777_216 + 16;
+
+// The most bytes that any other file may have. An index of ten million files has room for paths of 370 bytes each in
+// it. A text that was cut could be taken for whole there, so a longer file is not read at all.
+const MOST_OF_A_FILE: u64 = 4_294_967_296;
 
 // When a file is made durable.
 #[derive(Clone, Copy, PartialEq, Eq)]
@@ -27,6 +36,14 @@ fn care_of(path: &str) -> Care {
     }
 }
 
+// Whether what may stand at a path is no longer than the file of an object.
+fn is_short(path: &str) -> bool {
+    path.starts_with("objects/")
+        || path.starts_with("quarantine/")
+        || path.starts_with("refs/")
+        || path == "HEAD"
+}
+
 /// Files in a folder, some of which wait for the next sync.
 pub(crate) struct Disk<R: rt::Files + AllocGlobal + Clone + Drop> {
     root: Root<R>,
@@ -34,6 +51,8 @@ pub(crate) struct Disk<R: rt::Files + AllocGlobal + Clone + Drop> {
     waiting: BTreeSet<String>,
     // The folders that have names which aren't durable yet.
     folders: BTreeSet<String>,
+    // Folders of paths that were seen to be folders, and no links.
+    seen: BTreeSet<String>,
 }
 
 impl<R: rt::Files + AllocGlobal + Clone + Drop> Disk<R> {
@@ -43,21 +62,83 @@ impl<R: rt::Files + AllocGlobal + Clone + Drop> Disk<R> {
             root: Root { rt, path },
             waiting: BTreeSet::new(alloc),
             folders: BTreeSet::new(alloc),
+            seen: BTreeSet::new(alloc),
         }
     }
 
-    pub fn get(&self, alloc: Global, path: &str) -> io::Result<Option<Vec<u8>>> {
+    pub fn get(&mut self, alloc: Global, path: &str) -> io::Result<Option<Vec<u8>>> {
         if self.waiting.contains(path) {
             let lock = self.root.lock(alloc, path)?;
-            if let Some(bytes) = self.root.read(alloc, lock.as_str())? {
+            if let Some(bytes) = self.read(alloc, path, lock.as_str())? {
                 return Ok(Some(bytes));
             }
         }
+        if !self.has_folders(alloc, path)? {
+            return Ok(None);
+        }
         let place = self.root.place(alloc, path)?;
-        self.root.read(alloc, place.as_str())
+        self.read(alloc, path, place.as_str())
+    }
+
+    // Reads the file of a path at its place or under its lock name, no further than such a file may be long.
+    fn read(&self, alloc: Global, path: &str, place: &str) -> io::Result<Option<Vec<u8>>> {
+        if is_short(path) {
+            return self.root.read(alloc, place, MOST_OF_AN_OBJECT + 1);
+        }
+        let bytes = self.root.read(alloc, place, MOST_OF_A_FILE + 1)?;
+        match &bytes {
+            Some(bytes) if bytes.len() as u64 > MOST_OF_A_FILE => {
+                Err(io::Error::from(ErrorKind::FileTooLarge))
+            }
+            _ => Ok(bytes),
+        }
+    }
+
+    // What stands at a path. A link, a pipe and the like is an error, there and at a folder of the path.
+    fn look(&mut self, alloc: Global, path: &str) -> io::Result<Found> {
+        if !self.has_folders(alloc, path)? {
+            return Ok(Found::Nothing);
+        }
+        let place = self.root.place(alloc, path)?;
+        self.root.find(place.as_str())
+    }
+
+    // Whether the folders of a path are there. Each is looked at once.
+    fn has_folders(&mut self, alloc: Global, path: &str) -> io::Result<bool> {
+        let Some((lowest, _)) = path.rsplit_once('/') else {
+            return Ok(true);
+        };
+        if self.seen.contains(lowest) {
+            return Ok(true);
+        }
+        for end in 1..path.len() {
+            match path.split_at_checked(end) {
+                Some((folder, rest)) if rest.starts_with('/') => {
+                    if !self.has_folder(alloc, folder)? {
+                        return Ok(false);
+                    }
+                }
+                _ => {}
+            }
+        }
+        Ok(true)
+    }
+
+    fn has_folder(&mut self, alloc: Global, folder: &str) -> io::Result<bool> {
+        if self.seen.contains(folder) {
+            return Ok(true);
+        }
+        let place = self.root.place(alloc, folder)?;
+        let is_there = self.root.find(place.as_str())? == Found::Folder;
+        if is_there {
+            self.seen.insert(String::from_str(alloc, folder)?)?;
+        }
+        Ok(is_there)
     }
 
     pub fn put(&mut self, alloc: Global, path: &str, bytes: &[u8]) -> io::Result<()> {
+        // Nothing but a file is replaced.
+        self.look(alloc, path)?;
         match care_of(path) {
             Care::Now => self.put_now(alloc, path, bytes),
             Care::Later => self.put_later(alloc, path, bytes),
@@ -118,7 +199,7 @@ impl<R: rt::Files + AllocGlobal + Clone + Drop> Disk<R> {
 
     // Renames a lock file into its place, or removes it.
     fn bring(&mut self, alloc: Global, path: &str) -> io::Result<()> {
-        let renamed = self.root.rename(alloc, path);
+        let renamed = self.rename(alloc, path);
         if renamed.is_err() {
             let lock = self.root.lock(alloc, path)?;
             // The answer is the first error; a lock file that stays blocks nothing.
@@ -127,8 +208,20 @@ impl<R: rt::Files + AllocGlobal + Clone + Drop> Disk<R> {
         renamed
     }
 
+    // Folders in which a stopped process left nothing that counts give way.
+    fn rename(&self, alloc: Global, path: &str) -> io::Result<()> {
+        match self.root.rename(alloc, path) {
+            Err(e) if e.kind() == ErrorKind::IsADirectory => {}
+            done => return done,
+        }
+        left_over::clear(&self.root, &self.waiting, alloc, path)?;
+        self.root.rename(alloc, path)
+    }
+
     pub fn remove(&mut self, alloc: Global, path: &str) -> io::Result<()> {
         let care = care_of(path);
+        // Nothing but a file is removed.
+        self.look(alloc, path)?;
         if care == Care::Now {
             self.sync(alloc)?;
         }
@@ -142,15 +235,18 @@ impl<R: rt::Files + AllocGlobal + Clone + Drop> Disk<R> {
         if !self.root.remove(place.as_str())? && !was_there {
             return Ok(());
         }
-        let folder = self.root.remove_empty(place.as_str());
+        let folder = left_over::remove_empty(&self.root, &self.waiting, alloc, path)?;
         if care == Care::Now {
-            self.folders.insert(String::from_str(alloc, folder)?)?;
+            self.folders.insert(folder)?;
             self.sync_folders()?;
         }
         Ok(())
     }
 
-    pub fn list(&self, alloc: Global, prefix: &str) -> io::Result<Vec<String>> {
+    pub fn list(&mut self, alloc: Global, prefix: &str) -> io::Result<Vec<String>> {
+        if !self.has_folders(alloc, prefix)? {
+            return Ok(Vec::new(alloc));
+        }
         let mut names = self.root.list(alloc, prefix)?;
         for path in &self.waiting {
             if path.as_str().starts_with(prefix) {
@@ -206,7 +302,7 @@ impl<R: rt::Files + AllocGlobal + Clone + Drop> Disk<R> {
     }
 
     fn bring_waiting(&self, alloc: Global, path: &str) -> io::Result<()> {
-        match self.root.rename(alloc, path) {
+        match self.rename(alloc, path) {
             Err(e) if is_absence(&e) => {
                 let place = self.root.place(alloc, path)?;
                 self.root.sync(place.as_str())
@@ -242,13 +338,8 @@ impl<R: rt::Files + AllocGlobal + Clone + Drop> Disk<R> {
             if below.len() < self.root.path.len() {
                 break;
             }
-            let above = match below.rsplit_once('/') {
-                Some((folder, _)) if !folder.is_empty() => folder,
-                Some(_) => "/",
-                None => ".",
-            };
-            self.folders.insert(String::from_str(alloc, above)?)?;
-            below = above;
+            below = above(below);
+            self.folders.insert(String::from_str(alloc, below)?)?;
         }
         Ok(())
     }
@@ -275,6 +366,7 @@ impl<R: rt::Files + AllocGlobal + Clone + Drop> Drop for Disk<R> {
             root: _,
             waiting: _,
             folders: _,
+            seen: _,
         } = self;
     }
 }

@@ -10,8 +10,13 @@ use std::rt;
 use vc_files::{Fault, Files};
 
 /// Files in a folder. A file is written beside its place, as `<path>.lock`, and then renamed. Names that end in
-/// `.lock` aren't listed, left-over ones are overwritten, and folders that became empty are removed. A path at
-/// which a folder stands has no file.
+/// `.lock` aren't listed. What a killed process left under such a name is removed, where a file is to be written
+/// there, and with a folder that holds nothing else. Folders that became empty are removed. A path at which a
+/// folder stands has no file.
+///
+/// A link, a pipe and whatever else is neither a file nor a folder, at a path or at a folder of it, is a failure of
+/// the device in each call: never followed, opened, replaced or passed over. Names that aren't UTF-8 fail a listing.
+/// The folder itself may be reached by links.
 ///
 /// A file is durable when `put` returns, and so is all that was put before it, except for these:
 /// - an object, below `objects/`, keeps its lock name until the next such file is put or `sync` is called; then
@@ -20,7 +25,7 @@ use vc_files::{Fault, Files};
 /// - a quarantined object, below `quarantine/`, is never made durable: a stop leaves nothing of it that is read.
 ///
 /// Letting the value go syncs it too, and drops an error, so a program ends with `sync`. One process at a time
-/// writes to a folder.
+/// writes to a folder: the one that holds its `FolderLock`.
 #[derive(Drop)]
 pub struct FolderFiles<R: rt::Files + AllocGlobal + Clone + Drop> {
     disk: Disk<R>,
@@ -70,10 +75,21 @@ impl<R: rt::Files + AllocGlobal + Clone + Drop> FolderFiles<R> {
         ensures later { self.old ≤ self.new }
         ensures device { result ≡ Fault.Device → HasFailed self.old self.new }
     {
-        if e.kind() == ErrorKind::OutOfMemory {
-            return Fault::Memory;
+        match fault_of(&e) {
+            Fault::Memory => Fault::Memory,
+            Fault::Device => {
+                self.failed = self.failed.saturating_add(1);
+                Fault::Device
+            }
         }
-        self.failed = self.failed.saturating_add(1);
+    }
+}
+
+/// What an error of the system is to the layers above.
+pub(crate) fn fault_of(e: &io::Error) -> Fault {
+    if e.kind() == ErrorKind::OutOfMemory {
+        Fault::Memory
+    } else {
         Fault::Device
     }
 }

@@ -3,6 +3,9 @@
 
 mod disk;
 mod folder;
+mod left_over;
+mod lock;
 mod root;
 
 pub use folder::FolderFiles;
+pub use lock::FolderLock;

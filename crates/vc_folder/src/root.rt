@@ -1,16 +1,42 @@
-// The system's calls on files in a folder, by their paths below it.
+// The system's calls on files in a folder.
 use std::alloc::Global;
-use std::fs::{self, File, OpenFile};
+use std::fs::{self, File, Metadata, OpenFile};
 use std::io::{self, ErrorKind, Read};
 use std::rt;
 
-const LOCK: &str = ".lock";
+pub(crate) const LOCK: &str = ".lock";
 
 /// A folder, and what its files are reached by.
 #[derive(Drop)]
 pub(crate) struct Root<R> {
     pub rt: R,
     pub path: String,
+}
+
+/// What stands at a place; a file with its length.
+#[derive(Clone, Copy, PartialEq, Eq)]
+pub(crate) enum Found {
+    Nothing,
+    Folder,
+    File(u64),
+}
+
+/// The paths that a walk through folders has met. Those of folders end in a slash.
+#[derive(Drop)]
+pub(crate) struct Walk {
+    pub files: Vec<String>,
+    pub locks: Vec<String>,
+    pub folders: Vec<String>,
+}
+
+impl Walk {
+    pub fn new(alloc: Global) -> Self {
+        Walk {
+            files: Vec::new(alloc),
+            locks: Vec::new(alloc),
+            folders: Vec::new(alloc),
+        }
+    }
 }
 
 impl<R: rt::Files + AllocGlobal + Clone + Drop> Root<R> {
@@ -26,35 +52,53 @@ impl<R: rt::Files + AllocGlobal + Clone + Drop> Root<R> {
         Ok(format!(in alloc; "{root}/{path}{LOCK}")?)
     }
 
-    /// The bytes of a file, or none where there is no file. A folder isn't one.
-    pub fn read(&self, alloc: Global, place: &str) -> io::Result<Option<Vec<u8>>> {
-        match self.read_whole(alloc, place) {
+    /// What stands at a place, where no link is followed. What is neither a file nor a folder is an error.
+    pub fn find(&self, place: &str) -> io::Result<Found> {
+        match fs::symlink_metadata(&self.rt, place) {
+            Ok(metadata) => kind_of(&metadata),
+            Err(e) if is_absence(&e) => Ok(Found::Nothing),
+            Err(e) => Err(e),
+        }
+    }
+
+    /// The bytes of a file, at most so many, or none where there is no file. Only a file is ever opened.
+    pub fn read(&self, alloc: Global, place: &str, most: u64) -> io::Result<Option<Vec<u8>>> {
+        let Found::File(length) = self.find(place)? else {
+            return Ok(None);
+        };
+        match self.read_file(alloc, place, length.min(most), most) {
             Ok(bytes) => Ok(Some(bytes)),
+            // Another process took it away meanwhile.
             Err(e) if is_absence(&e) => Ok(None),
             Err(e) => Err(e),
         }
     }
 
-    fn read_whole(&self, alloc: Global, place: &str) -> io::Result<Vec<u8>> {
-        let mut file = File::open(&self.rt, place)?;
-        let size = usize::try_from(file.metadata()?.len()).unwrap_or(0);
+    fn read_file(&self, alloc: Global, place: &str, length: u64, most: u64) -> io::Result<Vec<u8>> {
+        let file = File::open(&self.rt, place)?;
+        let size = usize::try_from(length).unwrap_or(0);
         // Room for one byte more, so that the end is found without a second buffer.
         let mut bytes = Vec::with_capacity(alloc, size.saturating_add(1))?;
-        file.read_to_end(&mut bytes)?;
+        file.take(most).read_to_end(&mut bytes)?;
         Ok(bytes)
     }
 
-    /// Opens a file that is to be written anew, and says whether folders had to be made for it.
+    /// Opens a file that wasn't there, and says whether folders had to be made for it. What a stopped process left
+    /// at its place is removed first: no file that another process holds open is ever cut, and no link followed.
     pub fn create(&self, place: &str) -> io::Result<(R::File, bool)> {
-        match File::create(&self.rt, place) {
+        match File::create_new(&self.rt, place) {
             Ok(file) => return Ok((file, false)),
+            Err(e) if e.kind() == ErrorKind::AlreadyExists => {
+                self.remove(place)?;
+                return Ok((File::create_new(&self.rt, place)?, false));
+            }
             Err(e) if e.kind() == ErrorKind::NotFound => {}
             Err(e) => return Err(e),
         }
         if let Some((folder, _)) = place.rsplit_once('/') {
             fs::create_dir_all(&self.rt, folder)?;
         }
-        Ok((File::create(&self.rt, place)?, true))
+        Ok((File::create_new(&self.rt, place)?, true))
     }
 
     /// Makes what stands at a place durable: a file's content, or a folder's names.
@@ -62,16 +106,10 @@ impl<R: rt::Files + AllocGlobal + Clone + Drop> Root<R> {
         File::open(&self.rt, place)?.sync_all()
     }
 
-    /// Gives a file that was written under its lock name its place. Empty folders that a stopped process left
-    /// there give way.
+    /// Gives a file that was written under its lock name its place.
     pub fn rename(&self, alloc: Global, path: &str) -> io::Result<()> {
         let lock = self.lock(alloc, path)?;
         let place = self.place(alloc, path)?;
-        match fs::rename(&self.rt, lock.as_str(), place.as_str()) {
-            Err(e) if e.kind() == ErrorKind::IsADirectory => {}
-            done => return done,
-        }
-        self.remove_empty_at(alloc, path)?;
         fs::rename(&self.rt, lock.as_str(), place.as_str())
     }
 
@@ -84,71 +122,32 @@ impl<R: rt::Files + AllocGlobal + Clone + Drop> Root<R> {
         }
     }
 
-    /// Removes the folders above a place, from the lowest on, as long as they are empty, and answers the lowest
-    /// one that stays.
-    pub fn remove_empty<'a>(&'a self, place: &'a str) -> &'a str {
-        let mut below = place;
-        for _ in 0..place.len() {
-            match below.rsplit_once('/') {
-                // A folder that can't be removed holds something, or is gone already.
-                Some((folder, _)) if folder.len() > self.path.len() => {
-                    if fs::remove_dir(&self.rt, folder).is_err() {
-                        return folder;
-                    }
-                    below = folder;
-                }
-                _ => break,
-            }
-        }
-        self.path.as_str()
-    }
-
-    // Removes the folder at a path with all folders in it, if no file is among them.
-    fn remove_empty_at(&self, alloc: Global, path: &str) -> io::Result<()> {
-        let top = format!(in alloc; "{path}/")?;
-        let mut found = vec![in alloc; top]?;
-        let mut next = 0;
-        for _ in 0..u64::MAX {
-            if next >= found.len() {
-                break;
-            }
-            let folder = found[next].clone()?;
-            next += 1;
-            let mut names = Vec::new(alloc);
-            self.names_in(alloc, folder.as_str(), "", &mut names, &mut found)?;
-        }
-        for folder in found.iter().rev() {
-            fs::remove_dir(&self.rt, self.place(alloc, folder.as_str())?.as_str())?;
-        }
-        Ok(())
-    }
-
     /// The paths of the files that begin so, in no order. Only folders that such a path may be in are read.
     pub fn list(&self, alloc: Global, prefix: &str) -> io::Result<Vec<String>> {
         let first = match prefix.rsplit_once('/') {
             Some((folder, _)) => format!(in alloc; "{folder}/")?,
             None => String::new(alloc),
         };
-        let mut names = Vec::new(alloc);
-        let mut folders = vec![in alloc; first]?;
+        let mut walk = Walk::new(alloc);
+        walk.folders.push(first)?;
         for _ in 0..u64::MAX {
-            let Some(folder) = folders.pop() else {
+            let Some(folder) = walk.folders.pop() else {
                 break;
             };
-            self.names_in(alloc, folder.as_str(), prefix, &mut names, &mut folders)?;
+            self.walk_in(alloc, folder.as_str(), prefix, &mut walk)?;
         }
-        Ok(names)
+        Ok(walk.files)
     }
 
-    // Adds the files of one folder to the names, and its folders to those that are left. A name that isn't
-    // UTF-8 is passed over: no path of ours is spelled so.
-    fn names_in(
+    /// Adds to a walk what one folder holds, as far as a path with the prefix may be there. A name that isn't UTF-8
+    /// and what is neither a file nor a folder is an error: no path of ours leads there, and passing over it would
+    /// hide that something else does.
+    pub fn walk_in(
         &self,
         alloc: Global,
         folder: &str,
         prefix: &str,
-        names: &mut Vec<String>,
-        folders: &mut Vec<String>,
+        walk: &mut Walk,
     ) -> io::Result<()> {
         let place = self.place(alloc, folder)?;
         let entries = match fs::read_dir(&self.rt, place.as_str()) {
@@ -157,31 +156,71 @@ impl<R: rt::Files + AllocGlobal + Clone + Drop> Root<R> {
             Err(e) => return Err(e),
         };
         for entry in entries {
-            let entry = match entry {
-                Ok(entry) => entry,
-                Err(e) if e.kind() == ErrorKind::InvalidFilename => continue,
-                Err(e) => return Err(e),
-            };
-            let kind = match entry.file_type() {
-                Ok(kind) => kind,
+            let entry = entry?;
+            let name = entry.file_name();
+            let path = format!(in alloc; "{folder}{name}")?;
+            let metadata = match entry.metadata() {
+                Ok(metadata) => metadata,
                 // Another process took it away meanwhile.
                 Err(e) if is_absence(&e) => continue,
                 Err(e) => return Err(e),
             };
-            let name = entry.file_name();
-            if kind.is_dir() {
-                let path = format!(in alloc; "{folder}{name}/")?;
-                if path.as_str().starts_with(prefix) {
-                    folders.push(path)?;
-                }
-            } else if kind.is_file() && !name.ends_with(LOCK) {
-                let path = format!(in alloc; "{folder}{name}")?;
-                if path.as_str().starts_with(prefix) {
-                    names.push(path)?;
-                }
-            }
+            meet(path, prefix, &metadata, walk)?;
         }
         Ok(())
+    }
+
+    /// The paths of the lock files in a folder that holds nothing else, or none where it holds more.
+    pub fn locks_alone(&self, alloc: Global, folder: &str) -> io::Result<Option<Vec<String>>> {
+        let place = self.place(alloc, folder)?;
+        let mut locks = Vec::new(alloc);
+        for entry in fs::read_dir(&self.rt, place.as_str())? {
+            let entry = entry?;
+            let name = entry.file_name();
+            if !name.ends_with(LOCK) || entry.file_type()?.is_dir() {
+                return Ok(None);
+            }
+            locks.push(format!(in alloc; "{folder}/{name}")?)?;
+        }
+        Ok(Some(locks))
+    }
+}
+
+// Adds what stands at a path to a walk, unless no path with the prefix may be there.
+fn meet(mut path: String, prefix: &str, metadata: &Metadata, walk: &mut Walk) -> io::Result<()> {
+    if metadata.is_dir() {
+        path.push('/')?;
+    }
+    if !path.as_str().starts_with(prefix) {
+        return Ok(());
+    }
+    if metadata.is_dir() {
+        walk.folders.push(path)?;
+    } else if path.as_str().ends_with(LOCK) {
+        walk.locks.push(path)?;
+    } else {
+        kind_of(metadata)?;
+        walk.files.push(path)?;
+    }
+    Ok(())
+}
+
+fn kind_of(metadata: &Metadata) -> io::Result<Found> {
+    if metadata.is_file() {
+        Ok(Found::File(metadata.len()))
+    } else if metadata.is_dir() {
+        Ok(Found::Folder)
+    } else {
+        Err(io::Error::from(ErrorKind::InvalidData))
+    }
+}
+
+/// The folder above a place.
+pub(crate) fn above(place: &str) -> &str {
+    match place.rsplit_once('/') {
+        Some((folder, _)) if !folder.is_empty() => folder,
+        Some(_) => "/",
+        None => ".",
     }
 }
 

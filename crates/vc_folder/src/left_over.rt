@@ -1,0 +1,110 @@
+// What a process that was killed leaves in a folder: lock files that nobody waits for, and empty folders.
+use crate::root::{LOCK, Root, Walk};
+use std::alloc::Global;
+use std::collections::BTreeSet;
+use std::io::{self, ErrorKind};
+use std::{fs, rt};
+
+/// Removes the folder at a path with all folders in it and the lock files that were left there, if nothing else is
+/// among them.
+pub(crate) fn clear<R: rt::Files + AllocGlobal + Clone + Drop>(
+    root: &Root<R>,
+    waiting: &BTreeSet<String>,
+    alloc: Global,
+    path: &str,
+) -> io::Result<()> {
+    let walk = walk_below(root, alloc, path)?;
+    if !walk.files.is_empty() || is_any_awaited(waiting, &walk.locks) {
+        return Err(io::Error::from(ErrorKind::DirectoryNotEmpty));
+    }
+    remove_all(root, alloc, &walk.locks)?;
+    for folder in walk.folders.iter().rev() {
+        fs::remove_dir(&root.rt, root.place(alloc, folder.as_str())?.as_str())?;
+    }
+    Ok(())
+}
+
+// All that stands below a path; a folder comes behind those that it is in.
+fn walk_below<R: rt::Files + AllocGlobal + Clone + Drop>(
+    root: &Root<R>,
+    alloc: Global,
+    path: &str,
+) -> io::Result<Walk> {
+    let mut walk = Walk::new(alloc);
+    walk.folders.push(format!(in alloc; "{path}/")?)?;
+    let mut next = 0;
+    for _ in 0..u64::MAX {
+        if next >= walk.folders.len() {
+            break;
+        }
+        let folder = walk.folders[next].clone()?;
+        next += 1;
+        root.walk_in(alloc, folder.as_str(), "", &mut walk)?;
+    }
+    Ok(walk)
+}
+
+/// Removes the folders of a path, from the lowest on, as long as they hold nothing but lock files that were left,
+/// and answers where the lowest one stands that stays.
+pub(crate) fn remove_empty<R: rt::Files + AllocGlobal + Clone + Drop>(
+    root: &Root<R>,
+    waiting: &BTreeSet<String>,
+    alloc: Global,
+    path: &str,
+) -> io::Result<String> {
+    let mut below = path;
+    for _ in 0..path.len() {
+        let Some((folder, _)) = below.rsplit_once('/') else {
+            break;
+        };
+        let place = root.place(alloc, folder)?;
+        if !is_removed(root, waiting, alloc, folder, place.as_str()) {
+            return Ok(place);
+        }
+        below = folder;
+    }
+    Ok(root.path.clone()?)
+}
+
+// Removes a folder, unless it holds something that counts. That it stays, for whatever reason, harms nothing.
+fn is_removed<R: rt::Files + AllocGlobal + Clone + Drop>(
+    root: &Root<R>,
+    waiting: &BTreeSet<String>,
+    alloc: Global,
+    folder: &str,
+    place: &str,
+) -> bool {
+    match fs::remove_dir(&root.rt, place) {
+        Ok(()) => return true,
+        Err(e) if e.kind() == ErrorKind::DirectoryNotEmpty => {}
+        Err(_) => return false,
+    }
+    let Ok(Some(locks)) = root.locks_alone(alloc, folder) else {
+        return false;
+    };
+    !is_any_awaited(waiting, &locks)
+        && remove_all(root, alloc, &locks).is_ok()
+        && fs::remove_dir(&root.rt, place).is_ok()
+}
+
+fn is_any_awaited(waiting: &BTreeSet<String>, locks: &[String]) -> bool {
+    for lock in locks {
+        if let Some(path) = lock.as_str().strip_suffix(LOCK) {
+            if waiting.contains(path) {
+                return true;
+            }
+        }
+    }
+    false
+}
+
+fn remove_all<R: rt::Files + AllocGlobal + Clone + Drop>(
+    root: &Root<R>,
+    alloc: Global,
+    paths: &[String],
+) -> io::Result<()> {
+    for path in paths {
+        root.remove(root.place(alloc, path.as_str())?.as_str())?;
+    }
+    Ok(())
+}
