@@ -1,5 +1,5 @@
 -- What changes of files show.
-use Rattle.std.proofs.Common.{◌≡◌, ℕ, true, false, cond, nat_eq, List, [], Option, Some, None, refl, ap, ◌∙◌, subst}
+use Rattle.std.proofs.Common.{◌≡◌, ℕ, true, false, cond, nat_eq, List, [], Option, Some, None, refl, sym, ap, ◌∙◌, subst}
 use Rattle.std.specs.Prelude.{bytes_eq, is_some, codes, option_and_then, unwrap_or}
 use Rattle.std.specs.List.{starts_with}
 use Rattle.std.specs.FinMap as files
@@ -110,12 +110,19 @@ shown_objects_from old mid new id name object same outside is e =
 -- files that are opened, with a HEAD or without one
 pub ready_there : (old new : FileMap) (h : Option Head) → h ≡ head_of old → is_some h ≡ true → new ≡ old → (m : IndexMap) × SpellsIndex old m → IsReady old new
 ready_there old new None is there same index = cc
-ready_there old new (Some x) is there same index = record { is = ap shown same ∙ ap (λ (g : Option Head). opened g (shown old)) is; index = index }
+ready_there old new (Some x) is there same index = record {
+  is = ap shown same ∙ ap (λ (g : Option Head). opened g (shown old)) is;
+  same = λ head found. same;
+  only = subst (λ (c : FileMap). ChangesOnly (codes "HEAD") old c) (sym same) (record { at = λ q other. refl });
+  index = index;
+}
 
 pub ready_made : (old mid new : FileMap) (h : Option Head) (main : List ℕ) → h ≡ head_of old → is_some h ≡ false → mid ≡ old → main ≡ codes "refs/heads/main" → ChangesOnly (codes "HEAD") mid new → refs new ≡ refs mid → head_of new ≡ Some (heads.Branch main)
     → (m : IndexMap) × SpellsIndex old m → IsReady old new
 ready_made old mid new (Some x) main is none same named only kept head index = cc
 ready_made old mid new None main is none same named only kept head index = record {
   is = shown_head_from old mid new main_head same only kept (head ∙ ap (λ (n : List ℕ). Some (heads.Branch n)) named) ∙ ap (λ (g : Option Head). opened g (shown old)) is;
+  same = λ head found. absurd (let bad : None ≡ Some head = is ∙ found in cc);
+  only = subst (λ (c : FileMap). ChangesOnly (codes "HEAD") c new) same only;
   index = index;
 }

@@ -11,7 +11,7 @@ use Rattle.vc_object.specs.ObjectMap.{ObjectMap}
 use Rattle.vc_object.specs.declared.id.ObjectId.{ObjectId}
 use Rattle.vc_object.specs.declared.mode.Mode.{Mode}
 use Rattle.vc_refs.specs.RefMap.{RefMap}
-use Rattle.vc_refs.specs.Refs.{refs}
+use Rattle.vc_refs.specs.Refs.{refs, ChangesOnly}
 use Rattle.vc_refs.specs.Head.{head_of}
 use Rattle.vc_refs.specs.declared.heads.Head.{Head}
 use Rattle.vc_refs.specs.declared.heads.Head.TheVariants as heads
@@ -59,7 +59,9 @@ abbrev pub opened : Option Head → Shown → Shown
 opened (Some head) s = s
 opened None s = with_head_shown s main_head
 
--- the files were opened
+-- The files were opened: where they have a HEAD, nothing was written, else HEAD's file alone.
 pub record IsReady (old new : FileMap) : Type 0 where
   pub is : shown new ≡ opened (head_of old) (shown old)
+  pub same : (head : Head) → head_of old ≡ Some head → new ≡ old
+  pub only : ChangesOnly (codes "HEAD") old new
   pub index : (m : IndexMap) × SpellsIndex old m
