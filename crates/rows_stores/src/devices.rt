@@ -2,9 +2,10 @@
 use crate::answers::{Answer, done, joined, word, yes_or_no};
 use crate::file_rows;
 use crate::ids::two;
+use crate::recorder::Recorder;
 use crate::tables::Drawn;
 use std::alloc::Global;
-use std::mem;
+use std::{mem, rt};
 use vc_files::{FailOnce, FusedFiles, MemoryFiles};
 use vc_folder::FolderFiles;
 
@@ -12,6 +13,7 @@ use vc_folder::FolderFiles;
 pub enum Device {
     Memory(MemoryFiles),
     Folder(FolderFiles<HostRuntime>),
+    Recorded(FolderFiles<Recorder>),
     Fails(FailOnce<MemoryFiles>),
     Fused(FusedFiles<MemoryFiles>),
     Table(Drawn),
@@ -32,6 +34,10 @@ fn open(rt: &HostRuntime, text: &str) -> anyhow::Result<Device> {
     Ok(match kind {
         "memory" => Device::Memory(MemoryFiles::new(alloc)),
         "folder" => Device::Folder(FolderFiles::new(rt.clone()?, String::from_str(alloc, rest)?)),
+        "recorded" => {
+            let recorder = Recorder { host: rt.clone()? };
+            Device::Recorded(FolderFiles::new(recorder, String::from_str(alloc, rest)?))
+        }
         "fails" => Device::Fails(FailOnce::new(MemoryFiles::new(alloc), rest.parse()?)),
         "fused" => Device::Fused(fused(alloc, rest)?),
         "table" => Device::Table(Drawn::new(alloc, rest)?),
@@ -72,13 +78,8 @@ fn obey(alloc: Global, device: &mut Device, verb: &str, rest: &str) -> Answer {
     }
     match device {
         Device::Memory(files) => file_rows::obey(files, alloc, verb, rest),
-        Device::Folder(files) => match verb {
-            "sync" => {
-                files.sync(alloc)?;
-                done(alloc)
-            }
-            _ => file_rows::obey(files, alloc, verb, rest),
-        },
+        Device::Folder(files) => obey_in_folder(files, alloc, verb, rest),
+        Device::Recorded(files) => obey_in_folder(files, alloc, verb, rest),
         Device::Fails(files) => match verb {
             "tripped" => yes_or_no(alloc, files.has_failed()),
             _ => file_rows::obey(files, alloc, verb, rest),
@@ -93,6 +94,19 @@ fn obey(alloc: Global, device: &mut Device, verb: &str, rest: &str) -> Answer {
         },
         Device::Table(drawn) => drawn.obey(verb, rest),
     }
+}
+
+fn obey_in_folder<R: rt::Files + AllocGlobal + Clone + Drop>(
+    files: &mut FolderFiles<R>,
+    alloc: Global,
+    verb: &str,
+    rest: &str,
+) -> Answer {
+    if verb != "sync" {
+        return file_rows::obey(files, alloc, verb, rest);
+    }
+    files.sync(alloc)?;
+    done(alloc)
 }
 
 // The files as a restart finds them, without what made them fail.

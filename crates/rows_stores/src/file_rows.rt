@@ -9,6 +9,7 @@ pub fn obey<F: Files>(files: &mut F, alloc: Global, verb: &str, rest: &str) -> A
     match verb {
         "put" => put(files, alloc, rest),
         "get" => get(files, alloc, rest),
+        "length" => length(files, alloc, rest),
         "remove" => {
             files.remove(alloc, rest)?;
             done(alloc)
@@ -32,6 +33,13 @@ fn put<F: Files>(files: &mut F, alloc: Global, rest: &str) -> Answer {
 fn get<F: Files>(files: &mut F, alloc: Global, path: &str) -> Answer {
     match files.get(alloc, path)? {
         Some(bytes) => quoted(alloc, &bytes),
+        None => word(alloc, "none"),
+    }
+}
+
+fn length<F: Files>(files: &mut F, alloc: Global, path: &str) -> Answer {
+    match files.get(alloc, path)? {
+        Some(bytes) => Ok(format!(in alloc; "{}", bytes.len())?),
         None => word(alloc, "none"),
     }
 }

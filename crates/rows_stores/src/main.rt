@@ -6,40 +6,54 @@ mod devices;
 mod file_rows;
 mod graph_rows;
 mod ids;
+mod lock_rows;
 mod object_rows;
 mod random;
 mod raw;
+mod recorder;
 mod ref_rows;
 mod tables;
 
 use crate::answers::{Answer, word};
 use crate::devices::Device;
 use crate::ids::two;
+use vc_folder::FolderLock;
+
+// What the rows so far have opened and locked.
+#[derive(Drop)]
+struct Held {
+    devices: Vec<Device>,
+    locks: Vec<FolderLock<HostRuntime>>,
+}
 
 fn main(rt: HostRuntime) -> anyhow::Result<()> {
-    let mut devices = Vec::new(rt.alloc());
+    let mut held = Held {
+        devices: Vec::new(rt.alloc()),
+        locks: Vec::new(rt.alloc()),
+    };
     for line in rt.lines(rt.alloc()) {
         let line = line?;
-        rt.println(printed(&rt, &mut devices, line.as_str())?)?;
+        rt.println(printed(&rt, &mut held, line.as_str())?)?;
     }
     Ok(())
 }
 
 // What is printed for a line: comments and blank lines as they are.
-fn printed(rt: &HostRuntime, devices: &mut Vec<Device>, row: &str) -> Answer {
+fn printed(rt: &HostRuntime, held: &mut Held, row: &str) -> Answer {
     if row.is_empty() || row.starts_with("#") {
         return word(rt.alloc(), row);
     }
-    let answer = obey(rt, devices, row)?;
+    let answer = obey(rt, held, row)?;
     Ok(format!(in rt.alloc(); "{row} = {answer}")?)
 }
 
-fn obey(rt: &HostRuntime, devices: &mut Vec<Device>, row: &str) -> Answer {
+fn obey(rt: &HostRuntime, held: &mut Held, row: &str) -> Answer {
     let (verb, rest) = two(row);
     match verb {
-        "files" => devices::open_all(rt, devices, rest),
+        "files" => devices::open_all(rt, &mut held.devices, rest),
         "random" => random::agreements(rt.alloc(), rest),
-        "raw-write" | "raw-folder" | "raw-read" | "raw-remove" => raw::obey(rt, verb, rest),
-        _ => devices::obey_all(rt.alloc(), devices, verb, rest),
+        "lock" | "try-lock" | "unlock" => lock_rows::obey(rt, &mut held.locks, verb, rest),
+        _ if verb.starts_with("raw-") => raw::obey(rt, verb, rest),
+        _ => devices::obey_all(rt.alloc(), &mut held.devices, verb, rest),
     }
 }

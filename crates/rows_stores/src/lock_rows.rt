@@ -1,0 +1,28 @@
+//! Rows on the right to write to a folder. A program that locks a folder twice stands for two processes.
+use crate::answers::{Answer, done, word};
+use vc_folder::FolderLock;
+
+pub fn obey(
+    rt: &HostRuntime,
+    locks: &mut Vec<FolderLock<HostRuntime>>,
+    verb: &str,
+    path: &str,
+) -> Answer {
+    match verb {
+        "lock" => locks.push(FolderLock::take(rt, path)?)?,
+        "unlock" => locks.clear(),
+        _ => return try_take(rt, locks, path),
+    }
+    done(rt.alloc())
+}
+
+fn try_take(rt: &HostRuntime, locks: &mut Vec<FolderLock<HostRuntime>>, path: &str) -> Answer {
+    match FolderLock::try_take(rt, path) {
+        Ok(Some(lock)) => {
+            locks.push(lock)?;
+            done(rt.alloc())
+        }
+        Ok(None) => word(rt.alloc(), "held by another"),
+        Err(fault) => Ok(format!(in rt.alloc(); "{fault}")?),
+    }
+}

@@ -1,0 +1,139 @@
+//! The host's files, where each call that changes something or makes it durable is printed once it is done: in which
+//! order a folder is written and synced is compared so.
+use std::alloc::{Allocator, Global};
+use std::fs::{File, Metadata, OpenFile, OpenOptions};
+use std::io::{self, Read, Seek, SeekFrom, Write};
+use std::rt::Files;
+
+#[derive(Clone, Drop)]
+pub struct Recorder {
+    pub host: HostRuntime,
+}
+
+/// An open file or folder, with its path.
+#[derive(Drop)]
+pub struct RecordedFile {
+    recorder: Recorder,
+    file: File,
+    path: String,
+}
+
+impl Recorder {
+    fn tell<T: Drop>(&self, done: io::Result<T>, verb: &str, path: &str) -> io::Result<T> {
+        let value = done?;
+        println!(self.host; "  {verb} {path}")?;
+        Ok(value)
+    }
+}
+
+impl Alloc for Recorder {
+    type A = Global;
+
+    fn alloc(&self) -> Global {
+        self.host.alloc()
+    }
+}
+
+impl Files for Recorder {
+    type File = RecordedFile;
+
+    type Dir = <HostRuntime as Files>::Dir;
+
+    fn open_file(&self, how: &OpenOptions, path: &str) -> io::Result<RecordedFile> {
+        let mut file = self.host.open_file(how, path);
+        if how.asks_create_new() {
+            file = self.tell(file, "create", path);
+        } else if how.asks_write() {
+            file = self.tell(file, "overwrite", path);
+        }
+        Ok(RecordedFile {
+            recorder: self.clone()?,
+            file: file?,
+            path: String::from_str(self.alloc(), path)?,
+        })
+    }
+
+    fn open_dir(&self, path: &str) -> io::Result<Self::Dir> {
+        self.host.open_dir(path)
+    }
+
+    fn metadata(&self, path: &str) -> io::Result<Metadata> {
+        self.host.metadata(path)
+    }
+
+    fn symlink_metadata(&self, path: &str) -> io::Result<Metadata> {
+        self.host.symlink_metadata(path)
+    }
+
+    fn copy(&self, from: &str, to: &str) -> io::Result<u64> {
+        self.tell(self.host.copy(from, to), "copy to", to)
+    }
+
+    fn rename(&self, from: &str, to: &str) -> io::Result<()> {
+        self.tell(self.host.rename(from, to), "rename to", to)
+    }
+
+    fn remove_file(&self, path: &str) -> io::Result<()> {
+        self.tell(self.host.remove_file(path), "remove", path)
+    }
+
+    fn create_dir(&self, path: &str) -> io::Result<()> {
+        self.tell(self.host.create_dir(path), "make folder", path)
+    }
+
+    fn remove_dir(&self, path: &str) -> io::Result<()> {
+        self.tell(self.host.remove_dir(path), "remove folder", path)
+    }
+
+    fn remove_dir_all<B: Allocator>(&self, alloc: B, path: &str) -> io::Result<()> {
+        self.tell(self.host.remove_dir_all(alloc, path), "remove all of", path)
+    }
+}
+
+impl RecordedFile {
+    fn tell<T: Drop>(&self, done: io::Result<T>, verb: &str) -> io::Result<T> {
+        self.recorder.tell(done, verb, self.path.as_str())
+    }
+}
+
+impl Read for RecordedFile {
+    fn read(&mut self, buf: &mut [u8]) -> io::Result<usize> {
+        self.file.read(buf)
+    }
+}
+
+impl Write for RecordedFile {
+    fn write(&mut self, buf: &[u8]) -> io::Result<usize> {
+        let written = self.file.write(buf)?;
+        self.tell(Ok(()), "write")?;
+        Ok(written)
+    }
+
+    fn flush(&mut self) -> io::Result<()> {
+        self.file.flush()
+    }
+}
+
+impl Seek for RecordedFile {
+    fn seek(&mut self, to: SeekFrom) -> io::Result<u64> {
+        self.file.seek(to)
+    }
+}
+
+impl OpenFile for RecordedFile {
+    fn metadata(&self) -> io::Result<Metadata> {
+        self.file.metadata()
+    }
+
+    fn set_len(&self, size: u64) -> io::Result<()> {
+        self.tell(self.file.set_len(size), "cut")
+    }
+
+    fn sync_all(&self) -> io::Result<()> {
+        self.tell(self.file.sync_all(), "sync")
+    }
+
+    fn sync_data(&self) -> io::Result<()> {
+        self.tell(self.file.sync_data(), "sync data of")
+    }
+}
