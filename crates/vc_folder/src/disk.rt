@@ -85,12 +85,11 @@ impl<R: rt::Files + AllocGlobal + Clone + Drop> Disk<R> {
         if is_short(path) {
             return self.root.read(alloc, place, MOST_OF_AN_OBJECT + 1);
         }
-        let bytes = self.root.read(alloc, place, MOST_OF_A_FILE + 1)?;
-        match &bytes {
-            Some(bytes) if bytes.len() as u64 > MOST_OF_A_FILE => {
+        match self.root.find(place)? {
+            Found::File(length) if length > MOST_OF_A_FILE => {
                 Err(io::Error::from(ErrorKind::FileTooLarge))
             }
-            _ => Ok(bytes),
+            _ => self.root.read(alloc, place, MOST_OF_A_FILE),
         }
     }
 
