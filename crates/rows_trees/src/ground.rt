@@ -32,7 +32,7 @@ impl Ground {
         let path = String::from_str(rt.alloc(), "work")?;
         Ok(Ground {
             memory: MemoryTree::new(rt.alloc()),
-            folder: FolderTree::new(rt.clone()?, path),
+            folder: FolderTree::new(rt.clone()?, path, String::new(rt.alloc())),
             on_disk: false,
             left: u64::MAX,
             failed: 0,

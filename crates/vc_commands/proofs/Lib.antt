@@ -1,3 +1,5 @@
+pub mod AddLemmas
 pub mod BodyLemmas
+pub mod CheckoutLemmas
 pub mod CloneLemmas
 pub mod PieceLemmas

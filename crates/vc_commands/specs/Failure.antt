@@ -9,10 +9,12 @@ use Rattle.vc_rev.specs.declared.refusal.SourceFault.{SourceFault}
 use Rattle.vc_rev.specs.declared.refusal.SourceFault.TheVariants as sources
 use Rattle.vc_store.specs.declared.faults.StoreFault.{StoreFault}
 use Rattle.vc_store.specs.declared.faults.StoreFault.TheVariants.{Fault as StoreFaulted}
-use Rattle.vc_node.specs.NodeFault.{is_fault}
+use Rattle.vc_checkout.specs.declared.faults.CheckoutFault.{CheckoutFault}
+use Rattle.vc_checkout.specs.declared.faults.CheckoutFault.TheVariants as checkouts
+use Rattle.vc_node.specs.NodeFault.{is_fault, of_index}
 use Rattle.vc_node.specs.declared.fault.NodeFault.{NodeFault}
 use Rattle.vc_commands.specs.declared.failure.Failure.{Failure}
-use Rattle.vc_commands.specs.declared.failure.Failure.TheVariants.{Store, Base, Refs, Usage, Fault, Syntax, Revision, Node}
+use Rattle.vc_commands.specs.declared.failure.Failure.TheVariants.{Store, Base, Refs, Usage, Fault, Syntax, Revision, Node, LocalChange, InTheWay, NotText}
 
 -- want of memory, or a device that failed
 abbrev pub IsFault : Failure → Type 0
@@ -46,3 +48,10 @@ status_of (Store (StoreFaulted fault)) = 3
 status_of (Base (BaseStore (StoreFaulted fault))) = 3
 status_of (Refs (RefFaulted fault)) = 3
 status_of _ = 1
+
+-- what refuses a checkout, or ends it, as a failure of a command
+abbrev pub of_checkout : CheckoutFault → Failure
+of_checkout (checkouts.LocalChange path) = LocalChange
+of_checkout (checkouts.InTheWay path) = InTheWay
+of_checkout (checkouts.NotText path) = NotText
+of_checkout (checkouts.Index fault) = Node (of_index fault)

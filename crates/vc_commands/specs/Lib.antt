@@ -2,3 +2,6 @@ pub mod Failure
 pub mod HashObject
 pub mod Shown
 pub mod CloneWords
+pub mod Checkout
+pub mod StatusLines
+pub mod Adding

@@ -3,21 +3,17 @@ ghost use Rattle.std.specs.Prelude.{◌≡◌, IfOk, IfErr, true, nat_eq, codes}
 ghost use Rattle.std.specs.List.{starts_with};
 ghost use Rattle.vc_commands.specs.CloneWords.{IsOfBranch, branch_ref};
 
-use crate::arguments::FileMode;
 use crate::failure::Failure;
 use crate::output::print_id;
 use crate::repository::{open_store, resolve};
 use std::alloc::Global;
 use std::io::Write;
 use std::rt;
-use vc_checkout::WorkTree;
 use vc_folder::FolderFiles;
-use vc_index::Index;
 use vc_node::CloneNode;
 use vc_object::ObjectId;
 use vc_refname::{NewNameError, RefName};
 use vc_repository::read_index;
-use vc_work_folder::FolderTree;
 
 /// The clone in this folder, which is made where there is none.
 pub fn open_clone<R>(rt: &R, store: &str) -> Result<CloneNode<FolderFiles<R>>, Failure>
@@ -29,15 +25,6 @@ where
         Ok(node) => Ok(node),
         Err((_, fault)) => Err(Failure::Node(fault)),
     }
-}
-
-/// The work tree in this folder.
-pub fn open_work<R>(rt: &R, work: &str) -> Result<FolderTree<R>, Failure>
-where
-    R: rt::Files + AllocGlobal + Clone + Drop,
-{
-    let path = String::from_str(rt.alloc(), work)?;
-    Ok(FolderTree::new(rt.clone()?, path))
 }
 
 /// The branch of this name, `refs/heads/` before it.
@@ -52,21 +39,6 @@ pub fn branch_of(alloc: Global, name: &str) -> Result<RefName, Failure>
         Err(NewNameError::Refused(fault)) => Err(Failure::Name(fault)),
         Err(NewNameError::Memory) => Err(Failure::Fault(vc_files::Fault::Memory)),
     }
-}
-
-/// Puts a file of the work tree into the index. A path that no index may have is refused before the file is looked for.
-pub fn add<R>(rt: &R, store: &str, work: &str, mode: FileMode, path: &str) -> Result<(), Failure>
-where
-    R: rt::Files + AllocGlobal + Clone + Drop,
-{
-    let mut node = open_clone(rt, store)?;
-    let mode = mode.mode();
-    Index::new(rt.alloc()).add(rt.alloc(), path.as_bytes(), mode, ObjectId::ZERO)?;
-    let Some(bytes) = open_work(rt, work)?.read(rt.alloc(), path)? else {
-        return Err(Failure::NoSuchPath);
-    };
-    node.add(path.as_bytes(), mode, &bytes)?;
-    Ok(())
 }
 
 /// Takes a path out of the index. Where nothing stands, nothing changes.

@@ -3,7 +3,8 @@ ghost use Rattle.std.specs.Prelude.{◌≡◌};
 ghost use Rattle.vc_files.specs.declared.faults.Fault.TheVariants.{Memory};
 ghost use Rattle.vc_commands.specs.declared.failure.Failure.TheVariants.{Object, Store, Base, Refs, Fault, Syntax, Revision, Node};
 ghost use Rattle.vc_rev.specs.declared.refusal.RevFault.TheVariants.{Source};
-ghost use Rattle.vc_commands.specs.Failure.{revision_status, source_status, store_status, node_status};
+ghost use Rattle.vc_node.specs.NodeFault.{of_index};
+ghost use Rattle.vc_commands.specs.Failure.{revision_status, source_status, store_status, node_status, of_checkout};
 
 use std::alloc::{AllocError, AllocFailed};
 use std::fmt;
@@ -216,12 +217,16 @@ impl From<NodeFault> for Failure {
 }
 
 impl From<IndexFault> for Failure {
+    ghost from_gives = { λ fault e. e ≡ Node (of_index fault) };
+
     fn from(fault: IndexFault) -> Failure {
         Failure::Node(NodeFault::from(fault))
     }
 }
 
 impl From<CheckoutFault> for Failure {
+    ghost from_gives = { λ fault e. e ≡ of_checkout fault };
+
     fn from(fault: CheckoutFault) -> Failure {
         match fault {
             CheckoutFault::LocalChange(_) => Failure::LocalChange,

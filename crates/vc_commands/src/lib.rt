@@ -1,8 +1,10 @@
 //! The commands of the program `vcs`: a run is some words and streams, and gives an exit status.
 #![tactic(auto)]
 
+mod add;
 mod arguments;
 mod cat_file;
+mod checkout;
 mod clone;
 mod failure;
 mod hash_object;
@@ -10,12 +12,14 @@ mod init;
 mod input;
 mod merge_base;
 mod output;
+mod own_folder;
 mod pieces;
 mod program;
 mod repository;
 mod rev_list;
 mod rev_parse;
 mod show_ref;
+mod status;
 mod work;
 
 pub use failure::Failure;

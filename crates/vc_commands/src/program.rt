@@ -2,7 +2,7 @@
 
 use crate::arguments::{LocalTask, Request, Task, command, parents_of, request_of, terms_of};
 use crate::cat_file::cat_file;
-use crate::clone::{add, branch, branch_delete, commit, unstage, write_tree};
+use crate::clone::{branch, branch_delete, commit, unstage, write_tree};
 use crate::failure::Failure;
 use crate::hash_object::{HashObject, hash_object};
 use crate::init::init;
@@ -11,7 +11,7 @@ use crate::merge_base::merge_base;
 use crate::rev_list::rev_list;
 use crate::rev_parse::rev_parse;
 use crate::show_ref::show_ref;
-use crate::work::{checkout, status};
+use crate::work::{add, checkout, status};
 use clap::Error;
 use clap::error::ErrorKind;
 use std::convert::AsStr;

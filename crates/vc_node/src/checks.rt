@@ -15,7 +15,7 @@ use vc_store::{Store, StoreFault};
 
 /// Refuses an id of which not all is there that it reaches (40), and then one that is no commit, or that has an object
 /// of another kind along its parent links (41).
-pub(crate) fn refuse_bad_commit<F: Files>(
+pub fn refuse_bad_commit<F: Files>(
     alloc: Global,
     files: &mut F,
     id: &ObjectId,

@@ -30,7 +30,7 @@ fn index_bytes<F: Files>(alloc: Global, files: &mut F) -> Result<Vec<u8>, Fault>
 }
 
 /// The index that the file spells: one with no files where the file is absent.
-pub(crate) fn read_index<F: Files>(alloc: Global, files: &mut F) -> Result<Index, NodeFault>
+pub fn read_index<F: Files>(alloc: Global, files: &mut F) -> Result<Index, NodeFault>
     ensures spelled { F.honest → IfOk result (SpellsIndex (F.content files.old)) }
     ensures again { F.honest → (m : IndexMap) → SpellsIndex (F.content files.old) m → IfOk result (λ index. index ≡ m) }
     ensures refused { F.honest → IfErr result (BlamesIndex (F.content files.old)) }
@@ -44,11 +44,7 @@ pub(crate) fn read_index<F: Files>(alloc: Global, files: &mut F) -> Result<Index
 }
 
 /// Writes the file of the index.
-pub(crate) fn write_index<F: Files>(
-    alloc: Global,
-    files: &mut F,
-    index: &Index,
-) -> Result<(), Fault>
+pub fn write_index<F: Files>(alloc: Global, files: &mut F, index: &Index) -> Result<(), Fault>
     ensures written { F.honest → OnOk result (F.content files.new ≡ paths.insert (F.content files.old) (codes "index") (index_text index.now)) }
     ensures index { OnOk result (IsIndex index.now) }
     ensures err { F.honest → OnErr result (F.content files.new ≡ F.content files.old) }

@@ -12,6 +12,8 @@ mod local;
 mod node;
 mod opened;
 
+pub use checks::refuse_bad_commit;
 pub use fault::NodeFault;
+pub use index_file::{read_index, write_index};
 pub use node::CloneNode;
 pub use opened::{a_held_node_can_be_opened, new_files_can_be_opened};

@@ -12,8 +12,8 @@ use vc_files::Fault;
 
 /// The work tree in a folder.
 ///
-/// An entry `.git` at the top, in any ASCII case, is passed over: it isn't listed, nothing is read there, and a write
-/// there is a fault. What has a name that isn't UTF-8 isn't listed, and neither is what is no file, link or folder.
+/// An entry `.git` at the top and the folder of the store that is worked on, whatever its name, both in any ASCII case, are
+/// passed over: they aren't listed, nothing is read or removed there, and a write there is a fault. What has a name that isn't UTF-8 isn't listed, and neither is what is no file, link or folder.
 ///
 /// No link in the work tree is followed. A link that somebody placed there by hand is a file whose content is the
 /// text of the link: it is listed and read so, a write in its place puts a file there and leaves what it leads to
@@ -36,12 +36,13 @@ impl<R: rt::Files + AllocGlobal + Clone + Drop> Model for FolderTree<R> {
 }
 
 impl<R: rt::Files + AllocGlobal + Clone + Drop> FolderTree<R> {
-    /// The work tree in the folder with this path.
-    pub fn new(rt: R, path: String) -> Self
+    /// The work tree in the folder with this path. `own` is the path that the folder of its store has in it, empty where it
+    /// lies elsewhere.
+    pub fn new(rt: R, path: String, own: String) -> Self
         ensures { result ≡ 0 }
     {
         FolderTree {
-            ground: Ground { rt, path },
+            ground: Ground { rt, path, own },
             failed: 0,
         }
     }

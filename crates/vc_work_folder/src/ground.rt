@@ -1,4 +1,5 @@
 // The system's calls on the files of a folder, none of which follows a link below it.
+use crate::own::is_own;
 use std::alloc::Global;
 use std::fs::{self, File, FileType, OpenFile, OpenOptions};
 use std::io::{self, ErrorKind, Read, Write};
@@ -9,6 +10,8 @@ use std::rt;
 pub(crate) struct Ground<R> {
     pub rt: R,
     pub path: String,
+    /// The path of the store's folder in this one, where it lies in it; else empty.
+    pub own: String,
 }
 
 impl<R: rt::Files + AllocGlobal + Clone + Drop> Ground<R> {
@@ -16,6 +19,11 @@ impl<R: rt::Files + AllocGlobal + Clone + Drop> Ground<R> {
     fn place(&self, alloc: Global, path: &str) -> io::Result<String> {
         let top = self.path.as_str();
         Ok(format!(in alloc; "{top}/{path}")?)
+    }
+
+    // Whether the path is that of a store, or lies in it: its first part is `.git`, or it is the store's own.
+    fn is_store(&self, path: &str) -> bool {
+        is_git(path) || is_own(self.own.as_str().as_bytes(), path.as_bytes())
     }
 
     // What stands at a path, or none where nothing does. A link is a link.
@@ -30,7 +38,7 @@ impl<R: rt::Files + AllocGlobal + Clone + Drop> Ground<R> {
 
     // Whether each folder above the path is one, and none is the store.
     fn is_open(&self, alloc: Global, path: &str) -> io::Result<bool> {
-        if is_store(path) {
+        if self.is_store(path) {
             return Ok(false);
         }
         for (i, byte) in path.as_bytes().iter().enumerate() {
@@ -91,7 +99,7 @@ impl<R: rt::Files + AllocGlobal + Clone + Drop> Ground<R> {
 
     // Makes the folders above a path, where they are missing.
     fn make_folders_above(&self, alloc: Global, path: &str) -> io::Result<()> {
-        if is_store(path) {
+        if self.is_store(path) {
             return Err(io::Error::from(ErrorKind::PermissionDenied));
         }
         for (i, byte) in path.as_bytes().iter().enumerate() {
@@ -206,7 +214,7 @@ impl<R: rt::Files + AllocGlobal + Clone + Drop> Ground<R> {
             };
             let name = entry.file_name();
             let path = format!(in alloc; "{folder}{name}")?;
-            if is_store(path.as_str()) {
+            if self.is_store(path.as_str()) {
                 continue;
             }
             if kind.is_dir() {
@@ -219,8 +227,8 @@ impl<R: rt::Files + AllocGlobal + Clone + Drop> Ground<R> {
     }
 }
 
-// Whether the path's first part is that of the store.
-fn is_store(path: &str) -> bool {
+// Whether the path's first part is the name of a store of Git.
+fn is_git(path: &str) -> bool {
     let first = match path.split_once('/') {
         Some((first, _)) => first,
         None => path,

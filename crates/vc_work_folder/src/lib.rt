@@ -3,5 +3,7 @@
 
 mod folder;
 mod ground;
+mod own;
 
 pub use folder::FolderTree;
+pub use own::{is_own, meets_own};
