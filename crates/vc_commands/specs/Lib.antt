@@ -5,3 +5,4 @@ pub mod CloneWords
 pub mod Checkout
 pub mod StatusLines
 pub mod Adding
+pub mod Revisions

@@ -1,32 +1,45 @@
-//! The store that a command works on, and the objects that its revisions name.
+//! The store that a command works on, and what revisions name in it.
+ghost use Rattle.std.specs.Prelude.{◌≡◌, Ok, IfOk, IfErr};
+ghost use Rattle.vc_object.specs.ObjectId.{IsSortedByName};
+ghost use Rattle.vc_rev.specs.Views.{expr_view};
+ghost use Rattle.vc_commands.specs.Revisions.{Denoted, IsIndexFor, IsOfIndexFor, IsOfRevision, IsOfTerms, IsSelected};
 
 use crate::failure::{Failure, fault_of};
 use std::alloc::Global;
 use std::io::ErrorKind;
 use std::{fs, rt};
+use vc_files::Files;
 use vc_folder::FolderFiles;
 use vc_index::Index;
 use vc_object::ObjectId;
 use vc_repository::{FileRepository, read_index};
-use vc_rev::{Expr, parse, parse_set, resolve_set};
+use vc_rev::{Expr, RevFault, SourceFault, parse, parse_set, resolve_set};
 
-/// The files of the store in this folder, which need not be there yet. A folder that Git made is refused: what
-/// Git stores there is compressed, and its refs have rules of their own.
+/// The files of the store in this folder, which need not be there yet. A folder that Git made is refused.
 pub fn open_store<R>(rt: &R, folder: &str) -> Result<FolderFiles<R>, Failure>
 where
     R: rt::Files + AllocGlobal + Clone + Drop,
+{
+    refuse_store_of_git(rt, folder)?;
+    let root = String::from_str(rt.alloc(), folder)?;
+    Ok(FolderFiles::new(rt.clone()?, root))
+}
+
+/// Refuses a folder that Git made: what Git stores there is compressed, and its refs have rules of their own.
+pub fn refuse_store_of_git<R>(rt: &R, folder: &str) -> Result<(), Failure>
+where
+    R: rt::Files + AllocGlobal,
 {
     if is_of_git(rt, folder)? {
         return Err(Failure::Usage(format!(in rt.alloc();
             "{folder} is a repository that git made, and this is no git: name another folder by --store"
         )?));
     }
-    let root = String::from_str(rt.alloc(), folder)?;
-    Ok(FolderFiles::new(rt.clone()?, root))
+    Ok(())
 }
 
-// Whether the folder has Git's file of settings, which begins with the section `core`. This program writes none.
-fn is_of_git<R: rt::Files + AllocGlobal>(rt: &R, folder: &str) -> Result<bool, Failure> {
+/// Whether the folder has Git's file of settings, which begins with the section `core`. This program writes none.
+pub fn is_of_git<R: rt::Files + AllocGlobal>(rt: &R, folder: &str) -> Result<bool, Failure> {
     let path = format!(in rt.alloc(); "{folder}/config")?;
     match fs::read(rt, path.as_str()) {
         Ok(text) => Ok(text.trim_ascii_start().starts_with(b"[core]")),
@@ -37,47 +50,83 @@ fn is_of_git<R: rt::Files + AllocGlobal>(rt: &R, folder: &str) -> Result<bool, F
     }
 }
 
-/// The object that a revision names.
-pub fn resolve<R>(
+// The index that the expression is resolved with: the file's where it reads the index, else an empty one.
+fn index_for<F: Files>(
     alloc: Global,
-    files: &mut FolderFiles<R>,
+    files: &mut F,
+    expr: &Expr<'_>,
+) -> Result<Index, SourceFault>
+    ensures index { F.honest → IfOk result (IsIndexFor (F.content files.old) (expr_view expr.now)) }
+    ensures refused { F.honest → IfErr result (IsOfIndexFor (F.content files.old) (expr_view expr.now)) }
+    ensures same { F.content files.new ≡ F.content files.old }
+{
+    match expr {
+        Expr::InIndex(_) => {
+            let index = read_index(alloc, files)?;
+            Ok(index)
+        }
+        Expr::InTree(_, _) => Ok(Index::new(alloc)),
+        Expr::Object(_) => Ok(Index::new(alloc)),
+    }
+}
+
+/// The object that a revision names.
+pub fn resolve<F: Files>(
+    alloc: Global,
+    files: &mut F,
     revision: &str,
 ) -> Result<ObjectId, Failure>
-where
-    R: rt::Files + AllocGlobal + Clone + Drop,
+    ensures value { F.honest → IfOk result (λ id. Denoted (F.content files.old) revision.now (Ok id)) }
+    ensures refused { F.honest → IfErr result (IsOfRevision (F.content files.old) revision.now) }
+    ensures same { F.content files.new ≡ F.content files.old }
 {
     resolve_bytes(alloc, files, revision.as_bytes())
 }
 
 /// The same, of a revision that need not be text.
-pub fn resolve_bytes<R>(
+pub fn resolve_bytes<F: Files>(
     alloc: Global,
-    files: &mut FolderFiles<R>,
+    files: &mut F,
     revision: &[u8],
 ) -> Result<ObjectId, Failure>
-where
-    R: rt::Files + AllocGlobal + Clone + Drop,
+    ensures value { F.honest → IfOk result (λ id. Denoted (F.content files.old) revision.now (Ok id)) }
+    ensures refused { F.honest → IfErr result (IsOfRevision (F.content files.old) revision.now) }
+    ensures same { F.content files.new ≡ F.content files.old }
 {
-    let expr = parse(alloc, revision)?;
-    let index = match expr {
-        Expr::InIndex(_) => read_index(alloc, files)?,
-        _ => Index::new(alloc),
+    let expr = match parse(alloc, revision) {
+        Ok(expr) => expr,
+        Err(fault) => return Err(Failure::Syntax(fault)),
+    };
+    let index = match index_for(alloc, files, &expr) {
+        Ok(index) => index,
+        Err(fault) => return Err(Failure::Revision(RevFault::Source(fault))),
     };
     let mut repository = FileRepository::new(alloc, files, &index);
-    Ok(vc_rev::resolve(alloc, &mut repository, &expr)?)
+    match vc_rev::resolve(alloc, &mut repository, &expr) {
+        Ok(id) => Ok(id),
+        Err(fault) => Err(Failure::Revision(fault)),
+    }
 }
 
 /// The commits that some terms select, sorted by name.
-pub fn select<R>(
+pub fn select<F: Files>(
     alloc: Global,
-    files: &mut FolderFiles<R>,
-    terms: &str,
+    files: &mut F,
+    terms: &[u8],
 ) -> Result<Vec<ObjectId>, Failure>
-where
-    R: rt::Files + AllocGlobal + Clone + Drop,
+    ensures selected { F.honest → IfOk result (λ ids. IsSelected (F.content files.old) terms.now ids.items) }
+    ensures sorted { IfOk result (λ ids. IsSortedByName ids.items) }
+    ensures refused { F.honest → IfErr result (IsOfTerms (F.content files.old) terms.now) }
+    ensures same { F.content files.new ≡ F.content files.old }
 {
-    let set = parse_set(alloc, terms.as_bytes())?;
+    let set = match parse_set(alloc, terms) {
+        Ok(set) => set,
+        Err(fault) => return Err(Failure::Syntax(fault)),
+    };
     let index = Index::new(alloc);
     let mut repository = FileRepository::new(alloc, files, &index);
-    Ok(resolve_set(alloc, &mut repository, &set)?)
+    match resolve_set(alloc, &mut repository, &set) {
+        Ok(ids) => Ok(ids),
+        Err(fault) => Err(Failure::Revision(fault)),
+    }
 }

@@ -1,19 +1,44 @@
 //! The subcommand `rev-list`: the commits that some terms select.
+ghost use Rattle.std.specs.Prelude.{◌≡◌, ◌⊎◌, IfErr, OnOk};
+ghost use Rattle.std.specs.Io.KnownBytes.{Keeps};
+ghost use Rattle.vc_commands.specs.Failure.{IsFault};
+ghost use Rattle.vc_commands.specs.Revisions.{IsOfTerms, PrintsSelected};
 
 use crate::failure::Failure;
 use crate::output::{id_lines, print_text};
 use crate::repository::{open_store, select};
+use std::alloc::Global;
 use std::io::Write;
 use std::rt;
+use vc_files::Files;
 
-/// Prints the commits that the terms select, sorted by name, one a line.
+/// Prints the commits that the terms select in the store of this folder.
 pub fn rev_list<R, O>(rt: &R, store: &str, terms: &str, output: &mut O) -> Result<(), Failure>
 where
     R: rt::Files + AllocGlobal + Clone + Drop,
     O: Write,
 {
     let mut files = open_store(rt, store)?;
-    let ids = select(rt.alloc(), &mut files, terms)?;
-    let lines = id_lines(rt.alloc(), &ids)?;
-    print_text(&lines, output)
+    print_selected(rt.alloc(), &mut files, terms.as_bytes(), output)
+}
+
+/// Prints the commits that the terms select, sorted by name, one a line.
+pub fn print_selected<F: Files, O: Write>(
+    alloc: Global,
+    files: &mut F,
+    terms: &[u8],
+    output: &mut O,
+) -> Result<(), Failure>
+    ensures printed { F.honest → OnOk result (PrintsSelected (F.content files.old) terms.now (O.contents output.old) (O.contents output.new)) }
+    ensures refused { F.honest → IfErr result (IsOfTerms (F.content files.old) terms.now) }
+    ensures nothing_printed { IfErr result (λ e. IsFault e ⊎ Keeps (O.contents output.old) (O.contents output.new)) }
+    ensures same { F.content files.new ≡ F.content files.old }
+{
+    let ids = match select(alloc, files, terms) {
+        Ok(ids) => ids,
+        Err(failure) => return Err(failure),
+    };
+    let lines = id_lines(alloc, &ids)?;
+    print_text(&lines, output)?;
+    Ok(())
 }
