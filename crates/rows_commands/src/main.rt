@@ -18,7 +18,7 @@ use bstr::{ByteSlice, ByteVec};
 use std::alloc::AllocError;
 use std::io::{self, BufWriter, ErrorKind, Write};
 use std::{env, fs};
-use vc_commands::{Input, run};
+use vc_commands::{Faults, Input, run};
 
 fn main(rt: HostRuntime) -> io::Result<()> {
     let mut out = BufWriter::new(rt.alloc(), rt.stdout())?;
@@ -74,14 +74,17 @@ fn follow<W: Write>(
 fn run_words<W: Write>(rt: &HostRuntime, line: &str, input: &[u8], out: &mut W) -> io::Result<()> {
     let words = words_of(rt, line)?;
     let mut output = Vec::new(rt.alloc());
-    let mut faults = Vec::new(rt.alloc());
+    let mut faults = Faults {
+        stream: Vec::new(rt.alloc()),
+        is_terminal: false,
+    };
     let input = Input {
         stream: input,
         length: None,
     };
     let status = run(rt, &words, input, &mut output, &mut faults);
     print_text(&output, out)?;
-    print_text(&faults, out)?;
+    print_text(&faults.stream, out)?;
     if status != 0 {
         writeln!(out, "status {status}")?;
     }

@@ -3,3 +3,4 @@ pub mod BodyLemmas
 pub mod CheckoutLemmas
 pub mod CloneLemmas
 pub mod PieceLemmas
+pub mod StepLemmas

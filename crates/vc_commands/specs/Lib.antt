@@ -6,3 +6,5 @@ pub mod Checkout
 pub mod StatusLines
 pub mod Adding
 pub mod Revisions
+pub mod Steps
+pub mod Writers

@@ -2,9 +2,12 @@
 
 ghost use Rattle.std.specs.Prelude.{◌≡◌, ◌≢◌};
 ghost use Rattle.vc_commands.specs.CloneWords.{mode_of};
+ghost use Rattle.vc_commands.specs.Writers.{is_writer, is_local_writer, needs_store};
 
 use crate::clone::Words;
 use crate::failure::Failure;
+use crate::nearby::DEFAULT_STORE;
+use clap::parser::ValueSource;
 use clap::{Arg, ArgAction, ArgMatches, Command};
 use std::alloc::{AllocError, Global};
 use vc_object::{Kind, Mode};
@@ -20,6 +23,8 @@ const PARTS: [&str; 3] = ["type", "size", "body"];
 pub struct Request<'a> {
     /// The folder of the store.
     pub store: &'a str,
+    /// Whether the command line names that folder.
+    pub is_named: bool,
     pub task: Task<'a>,
 }
 
@@ -81,6 +86,58 @@ pub enum LocalTask<'a> {
     },
 }
 
+impl Task<'_> {
+    /// Whether it writes to its store.
+    pub fn is_writer(&self) -> bool
+        ensures { result ≡ is_writer self.now }
+    {
+        match self {
+            Task::Init => true,
+            Task::HashObject { write, .. } => *write,
+            Task::CatFile { .. } => false,
+            Task::ShowRef => false,
+            Task::MergeBase { .. } => false,
+            Task::RevParse { .. } => false,
+            Task::RevList => false,
+            Task::Local(task) => task.is_writer(),
+        }
+    }
+
+    /// Whether it works on a store that should be there, or that it begins without being told to.
+    pub fn needs_store(&self) -> bool
+        ensures { result ≡ needs_store self.now }
+    {
+        match self {
+            Task::Init => false,
+            Task::HashObject { write, .. } => *write,
+            Task::CatFile { .. } => true,
+            Task::ShowRef => true,
+            Task::MergeBase { .. } => true,
+            Task::RevParse { .. } => true,
+            Task::RevList => true,
+            Task::Local(_) => true,
+        }
+    }
+}
+
+impl LocalTask<'_> {
+    // Whether it writes to its store.
+    fn is_writer(&self) -> bool
+        ensures { result ≡ is_local_writer self.now }
+    {
+        match self {
+            LocalTask::Add { .. } => true,
+            LocalTask::Unstage { .. } => true,
+            LocalTask::WriteTree => true,
+            LocalTask::Commit(_) => true,
+            LocalTask::Branch { .. } => true,
+            LocalTask::BranchDelete { .. } => true,
+            LocalTask::Checkout { .. } => true,
+            LocalTask::Status { .. } => false,
+        }
+    }
+}
+
 /// How a file of the work tree stands in the index.
 #[derive(Clone, Copy)]
 pub enum FileMode {
@@ -139,7 +196,7 @@ fn store<'a>(alloc: Global) -> Arg<'a> {
     Arg::new(alloc, "store")
         .long("store")
         .value_name("folder")
-        .default_value(".git")
+        .default_value(DEFAULT_STORE)
         .help("The folder of the store")
 }
 
@@ -329,8 +386,12 @@ fn commit<'a>(alloc: Global) -> Result<Command<'a>, AllocError> {
 
 fn branch<'a>(alloc: Global) -> Result<Command<'a>, AllocError> {
     Command::new(alloc, "branch")
-        .about("Set a branch to a commit, whatever it was")
-        .after_help("Example: vcs branch topic main~2")
+        .about(
+            "Set a branch to a commit, whatever it was; commits that it alone named lose their name",
+        )
+        .after_help(
+            "What the branch was is told on a terminal: from that id the commits can be named again.\n\nExample: vcs branch topic main~2",
+        )
         .arg(store(alloc))?
         .arg(word(alloc, "name", "The branch, without refs/heads/"))?
         .arg(revision(alloc, "rev", "rev"))
@@ -338,16 +399,22 @@ fn branch<'a>(alloc: Global) -> Result<Command<'a>, AllocError> {
 
 fn branch_delete<'a>(alloc: Global) -> Result<Command<'a>, AllocError> {
     Command::new(alloc, "branch-delete")
-        .about("Remove a branch; its commits stay")
-        .after_help("Example: vcs branch-delete topic")
+        .about(
+            "Remove a branch; its commits stay stored, and those that it alone named lose their name",
+        )
+        .after_help(
+            "What the branch was is told on a terminal: from that id the commits can be named again.\n\nExample: vcs branch-delete topic",
+        )
         .arg(store(alloc))?
         .arg(word(alloc, "name", "The branch, without refs/heads/"))
 }
 
 fn checkout<'a>(alloc: Global) -> Result<Command<'a>, AllocError> {
     Command::new(alloc, "checkout")
-        .about("Bring work tree, index and HEAD to a commit; nothing that isn't stored is lost")
-        .after_help("Example: vcs checkout main")
+        .about("Bring work tree, index and HEAD to a commit; a change that is not staged stops it")
+        .after_help(
+            "What is staged counts as stored: a staged file that was never committed goes from the work tree and the index.\nIts blob stays in the store, under the name that hash-object gives it.\n\nExample: vcs checkout main",
+        )
         .arg(store(alloc))?
         .arg(work(alloc))?
         .arg(revision(alloc, "rev", "rev"))
@@ -425,10 +492,25 @@ pub fn request_of<'a>(matches: &ArgMatches<'a>) -> Option<Request<'a>> {
         "rev-list" => Task::RevList,
         _ => Task::Local(local_task_of(name, words)?),
     };
+    let is_named = words.value_source("store") == Some(ValueSource::CommandLine);
     Some(Request {
         store: words.get_str("store")?,
+        is_named,
         task,
     })
+}
+
+/// The option among the matches that is to name a folder and names none: an empty name is no folder's.
+pub fn option_without_folder<'a>(matches: &ArgMatches<'a>) -> Option<&'static str> {
+    let (name, words) = matches.subcommand()?;
+    if words.get_str("store") == Some("") {
+        return Some("--store");
+    }
+    let has_work = matches!(name, "add" | "checkout" | "status");
+    if has_work && words.get_str("work") == Some("") {
+        return Some("--work");
+    }
+    None
 }
 
 // The subcommand of a clone that the name and its words ask for, if it is one.
@@ -444,9 +526,9 @@ fn local_task_of<'a>(name: &str, words: &ArgMatches<'a>) -> Option<LocalTask<'a>
         },
         "write-tree" => LocalTask::WriteTree,
         "commit" => LocalTask::Commit(Words {
-            author: words.get_str("author")?,
-            committer: words.get_str("committer")?,
-            message: words.get_str("message")?,
+            author: words.get_str("author")?.as_bytes(),
+            committer: words.get_str("committer")?.as_bytes(),
+            message: words.get_str("message")?.as_bytes(),
         }),
         "branch" => LocalTask::Branch {
             name: words.get_str("name")?,

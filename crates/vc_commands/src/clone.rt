@@ -1,19 +1,28 @@
-//! The subcommands that work on a clone's index, branches and HEAD: each is one call of a node, or two.
-ghost use Rattle.std.specs.Prelude.{◌≡◌, IfOk, IfErr, true, nat_eq, codes};
+//! The subcommands that work on a clone's index, branches and HEAD: each is one call of a node.
+ghost use Rattle.std.specs.Prelude.{◌≡◌, ◌⊎◌, Some, Ok, IfSome, IfOk, IfErr, OnOk, true, nat_eq, codes, map};
 ghost use Rattle.std.specs.List.{starts_with};
+ghost use Rattle.vc_files.specs.FileMap.{SameOutside};
+ghost use Rattle.vc_model.specs.Clone.Task.{Unstage, SetBranch, DeleteBranch};
+ghost use Rattle.vc_refs.specs.Refs.{refs};
 ghost use Rattle.vc_commands.specs.CloneWords.{IsOfBranch, branch_ref};
+ghost use Rattle.vc_commands.specs.Revisions.{Denoted, IsOfRevision};
+ghost use Rattle.vc_commands.specs.Steps.{AreDenoted, CommitsIndex, CommitsOn, IsOfStep, IsOfTree, SetsBranch, StepsTo, WritesTree};
 
 use crate::failure::Failure;
+use crate::faults::Faults;
 use crate::output::print_id;
 use crate::repository::{open_store, resolve};
 use std::alloc::Global;
 use std::io::Write;
 use std::rt;
+use vc_files::Files;
 use vc_folder::FolderFiles;
-use vc_node::CloneNode;
+use vc_node::{CloneNode, NodeFault};
 use vc_object::ObjectId;
 use vc_refname::{NewNameError, RefName};
+use vc_refs::{RefFault, Refs};
 use vc_repository::read_index;
+use vc_rev::RevFault;
 
 /// The clone in this folder, which is made where there is none.
 pub fn open_clone<R>(rt: &R, store: &str) -> Result<CloneNode<FolderFiles<R>>, Failure>
@@ -41,37 +50,68 @@ pub fn branch_of(alloc: Global, name: &str) -> Result<RefName, Failure>
     }
 }
 
-/// Takes a path out of the index. Where nothing stands, nothing changes.
+/// Takes a path out of the index of the store in this folder.
 pub fn unstage<R>(rt: &R, store: &str, path: &str) -> Result<(), Failure>
 where
     R: rt::Files + AllocGlobal + Clone + Drop,
 {
-    open_clone(rt, store)?.unstage(path.as_bytes())?;
-    Ok(())
+    let files = open_store(rt, store)?;
+    let (_files, done) = unstage_path(rt.alloc(), files, path.as_bytes());
+    done
 }
 
-/// Stores the trees of the index, and prints the name of the root's.
+/// Takes a path out of the index. Where nothing stands, nothing changes. The files are handed back.
+pub fn unstage_path<F: Files>(alloc: Global, files: F, path: &[u8]) -> (F, Result<(), Failure>)
+    ensures unstaged { F.honest → OnOk result.1 (StepsTo (Unstage path.now) (Ok tt) (F.content files) (F.content result.0)) }
+    ensures refused { F.honest → IfErr result.1 (IsOfStep (Unstage path.now) (F.content files) (F.content result.0)) }
+{
+    let mut node = match CloneNode::open(alloc, files) {
+        Ok(node) => node,
+        Err((files, fault)) => return (files, Err(Failure::Node(fault))),
+    };
+    match node.unstage(path) {
+        Ok(()) => (node.close(), Ok(())),
+        Err(fault) => (node.close(), Err(Failure::Node(fault))),
+    }
+}
+
+/// Stores the trees of the index, and prints the name of the root's when they are durable.
 pub fn write_tree<R, O>(rt: &R, store: &str, output: &mut O) -> Result<(), Failure>
 where
     R: rt::Files + AllocGlobal + Clone + Drop,
     O: Write,
 {
     let mut files = open_store(rt, store)?;
-    let index = read_index(rt.alloc(), &mut files)?;
-    let id = index.write_tree(rt.alloc(), &mut files)?;
+    let id = write_index(rt.alloc(), &mut files)?;
     files.sync(rt.alloc())?;
     print_id(&id, output)
+}
+
+/// Stores the trees of the index, and answers the name of the root's.
+pub fn write_index<F: Files>(alloc: Global, files: &mut F) -> Result<ObjectId, Failure>
+    ensures written { F.honest → IfOk result (WritesTree (F.content files.old) (F.content files.new)) }
+    ensures refused { F.honest → IfErr result (IsOfTree F.honest (F.content files.old) (F.content files.new)) }
+    ensures outside { F.honest → SameOutside (codes "objects/") (F.content files.old) (F.content files.new) }
+{
+    let index = match read_index(alloc, files) {
+        Ok(index) => index,
+        Err(fault) => return Err(Failure::Revision(RevFault::Source(fault))),
+    };
+    match index.write_tree(alloc, files) {
+        Ok(id) => Ok(id),
+        Err(fault) => Err(Failure::Node(NodeFault::from(fault))),
+    }
 }
 
 /// What a commit says beside its tree and its parents.
 #[derive(Clone, Copy)]
 pub struct Words<'a> {
-    pub author: &'a str,
-    pub committer: &'a str,
-    pub message: &'a str,
+    pub author: &'a [u8],
+    pub committer: &'a [u8],
+    pub message: &'a [u8],
 }
 
-/// Commits the index, with these revisions as extra parents, and prints the name of the commit.
+/// Commits the index of the store in this folder.
 pub fn commit<R, O>(
     rt: &R,
     store: &str,
@@ -83,44 +123,199 @@ where
     R: rt::Files + AllocGlobal + Clone + Drop,
     O: Write,
 {
-    let mut files = open_store(rt, store)?;
-    let mut parents = Vec::new(rt.alloc());
-    for revision in revisions {
-        parents.push(resolve(rt.alloc(), &mut files, revision)?)?;
+    let files = open_store(rt, store)?;
+    let (_files, done) = commit_index(rt.alloc(), files, words, revisions, output);
+    done
+}
+
+/// Commits the index, with what these revisions name as extra parents, and prints the name of the commit. The files are
+/// handed back.
+pub fn commit_index<F: Files, O: Write>(
+    alloc: Global,
+    mut files: F,
+    words: Words<'_>,
+    revisions: &[&str],
+    output: &mut O,
+) -> (F, Result<(), Failure>)
+    ensures committed { F.honest → OnOk result.1 (CommitsIndex (F.content files) (map (λ revision. revision.now) revisions.now) words.entry.author.now words.entry.committer.now words.entry.message.now (F.content result.0) (O.contents output.old) (O.contents output.new)) }
+{
+    match parents_named(alloc, &mut files, revisions) {
+        Ok(parents) => commit_on(alloc, files, words, &parents, output),
+        Err(failure) => (files, Err(failure)),
     }
-    let mut node = open_clone(rt, store)?;
+}
+
+// Commits the index with these extra parents, and prints the name of the commit.
+fn commit_on<F: Files, O: Write>(
+    alloc: Global,
+    files: F,
+    words: Words<'_>,
+    parents: &[ObjectId],
+    output: &mut O,
+) -> (F, Result<(), Failure>)
+    ensures committed { F.honest → OnOk result.1 (CommitsOn (F.content files) parents.now words.entry.author.now words.entry.committer.now words.entry.message.now (F.content result.0) (O.contents output.old) (O.contents output.new)) }
+{
+    let mut node = match CloneNode::open(alloc, files) {
+        Ok(node) => node,
+        Err((files, fault)) => return (files, Err(Failure::Node(fault))),
+    };
     let Words {
         author,
         committer,
         message,
     } = words;
-    let id = node.commit(
-        &parents,
-        author.as_bytes(),
-        committer.as_bytes(),
-        message.as_bytes(),
-    )?;
-    print_id(&id, output)
+    match node.commit(parents, author, committer, message) {
+        Ok(id) => (node.close(), print_id(&id, output)),
+        Err(fault) => (node.close(), Err(Failure::Node(fault))),
+    }
 }
 
-/// Sets a branch to the commit that a revision names, whatever it was.
-pub fn branch<R>(rt: &R, store: &str, name: &str, revision: &str) -> Result<(), Failure>
+// What the revisions name, in their order.
+fn parents_named<F: Files>(
+    alloc: Global,
+    files: &mut F,
+    revisions: &[&str],
+) -> Result<Vec<ObjectId>, Failure>
+    ensures named { F.honest → IfOk result (λ ids. AreDenoted (F.content files.old) (map (λ revision. revision.now) revisions.now) ids.items) }
+    ensures same { F.content files.new ≡ F.content files.old }
+{
+    let mut parents = Vec::new(alloc);
+    for revision in revisions {
+        let id = resolve(alloc, files, revision)?;
+        parents.push(id)?;
+    }
+    Ok(parents)
+}
+
+/// Sets a branch of the store in this folder. A person is told what it was.
+pub fn branch<R, E>(
+    rt: &R,
+    store: &str,
+    name: &str,
+    revision: &str,
+    faults: &mut Faults<E>,
+) -> Result<(), Failure>
 where
     R: rt::Files + AllocGlobal + Clone + Drop,
+    E: Write,
 {
     let mut files = open_store(rt, store)?;
-    let branch = branch_of(rt.alloc(), name)?;
-    let id = resolve(rt.alloc(), &mut files, revision)?;
-    open_clone(rt, store)?.set_branch(&branch, &id)?;
-    Ok(())
+    let was = branch_value(rt.alloc(), &mut files, name)?;
+    let (_files, done) = set_branch(rt.alloc(), files, name, revision);
+    done?;
+    match was {
+        Some(id) => faults.tell_old_branch(name, &id),
+        None => Ok(()),
+    }
 }
 
-/// Removes a branch. Where there is none, nothing changes.
-pub fn branch_delete<R>(rt: &R, store: &str, name: &str) -> Result<(), Failure>
+/// Sets a branch to the commit that a revision names, whatever it was. The files are handed back.
+pub fn set_branch<F: Files>(
+    alloc: Global,
+    mut files: F,
+    name: &str,
+    revision: &str,
+) -> (F, Result<(), Failure>)
+    ensures set { F.honest → OnOk result.1 (SetsBranch (F.content files) name.now revision.now (F.content result.0)) }
+{
+    match branch_target(alloc, &mut files, name, revision) {
+        Ok((branch, id)) => set_branch_to(alloc, files, &branch, &id),
+        Err(failure) => (files, Err(failure)),
+    }
+}
+
+// The ref that the branch of this name is, and the commit that the revision names.
+fn branch_target<F: Files>(
+    alloc: Global,
+    files: &mut F,
+    name: &str,
+    revision: &str,
+) -> Result<(RefName, ObjectId), Failure>
+    ensures name { IfOk result (λ found. found.0 ≡ branch_ref name.now) }
+    ensures branch { IfOk result (λ found. starts_with nat_eq found.0 (codes "refs/heads/") ≡ true) }
+    ensures id { F.honest → IfOk result (λ found. Denoted (F.content files.old) revision.now (Ok found.1)) }
+    ensures refused { F.honest → IfErr result (λ e. IsOfBranch name.now e ⊎ IsOfRevision (F.content files.old) revision.now e) }
+    ensures same { F.content files.new ≡ F.content files.old }
+{
+    let branch = branch_of(alloc, name)?;
+    let commit = resolve(alloc, files, revision)?;
+    Ok((branch, commit))
+}
+
+// Sets a branch to a commit.
+fn set_branch_to<F: Files>(
+    alloc: Global,
+    files: F,
+    branch: &RefName,
+    id: &ObjectId,
+) -> (F, Result<(), Failure>)
+    requires { starts_with nat_eq branch.now (codes "refs/heads/") ≡ true }
+    ensures set { F.honest → OnOk result.1 (StepsTo (SetBranch branch.now id.now.0) (Ok tt) (F.content files) (F.content result.0)) }
+    ensures refused { F.honest → IfErr result.1 (IsOfStep (SetBranch branch.now id.now.0) (F.content files) (F.content result.0)) }
+{
+    let mut node = match CloneNode::open(alloc, files) {
+        Ok(node) => node,
+        Err((files, fault)) => return (files, Err(Failure::Node(fault))),
+    };
+    match node.set_branch(branch, id) {
+        Ok(()) => (node.close(), Ok(())),
+        Err(fault) => (node.close(), Err(Failure::Node(fault))),
+    }
+}
+
+/// Removes a branch of the store in this folder. A person is told what it was.
+pub fn branch_delete<R, E>(
+    rt: &R,
+    store: &str,
+    name: &str,
+    faults: &mut Faults<E>,
+) -> Result<(), Failure>
 where
     R: rt::Files + AllocGlobal + Clone + Drop,
+    E: Write,
 {
-    let branch = branch_of(rt.alloc(), name)?;
-    open_clone(rt, store)?.delete_branch(&branch)?;
-    Ok(())
+    let mut files = open_store(rt, store)?;
+    let was = branch_value(rt.alloc(), &mut files, name)?;
+    let (_files, done) = delete_branch(rt.alloc(), files, name);
+    done?;
+    match was {
+        Some(id) => faults.tell_old_branch(name, &id),
+        None => Ok(()),
+    }
+}
+
+/// Removes a branch. Where there is none, nothing changes. The files are handed back.
+pub fn delete_branch<F: Files>(alloc: Global, files: F, name: &str) -> (F, Result<(), Failure>)
+    ensures deleted { F.honest → OnOk result.1 (StepsTo (DeleteBranch (branch_ref name.now)) (Ok tt) (F.content files) (F.content result.0)) }
+    ensures refused { F.honest → IfErr result.1 (λ e. IsOfBranch name.now e ⊎ IsOfStep (DeleteBranch (branch_ref name.now)) (F.content files) (F.content result.0) e) }
+{
+    let branch = match branch_of(alloc, name) {
+        Ok(branch) => branch,
+        Err(failure) => return (files, Err(failure)),
+    };
+    let mut node = match CloneNode::open(alloc, files) {
+        Ok(node) => node,
+        Err((files, fault)) => return (files, Err(Failure::Node(fault))),
+    };
+    match node.delete_branch(&branch) {
+        Ok(()) => (node.close(), Ok(())),
+        Err(fault) => (node.close(), Err(Failure::Node(fault))),
+    }
+}
+
+// What a branch is now, to be told later. A file of the branch that can't be read is told when the branch is set.
+fn branch_value<F: Files>(
+    alloc: Global,
+    files: &mut F,
+    name: &str,
+) -> Result<Option<ObjectId>, Failure>
+    ensures value { F.honest → IfOk result (λ found. IfSome found (λ id. refs (F.content files.old) (branch_ref name.now) ≡ Some id)) }
+    ensures same { F.content files.new ≡ F.content files.old }
+{
+    let branch = branch_of(alloc, name)?;
+    match Refs::new(alloc, files).get(&branch) {
+        Ok(found) => Ok(found),
+        Err(RefFault::Fault(fault)) => Err(Failure::Fault(fault)),
+        Err(_) => Ok(None),
+    }
 }

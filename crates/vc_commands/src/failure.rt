@@ -1,5 +1,5 @@
 //! Why a command ended without its answer: the line that it prints, and its exit status.
-ghost use Rattle.std.specs.Prelude.{◌≡◌};
+ghost use Rattle.std.specs.Prelude.{◌≡◌, ◌⊎◌};
 ghost use Rattle.vc_files.specs.declared.faults.Fault.TheVariants.{Memory};
 ghost use Rattle.vc_commands.specs.declared.failure.Failure.TheVariants.{Object, Store, Base, Refs, Fault, Syntax, Revision, Node};
 ghost use Rattle.vc_rev.specs.declared.refusal.RevFault.TheVariants.{Source};
@@ -99,7 +99,9 @@ impl Failure {
 
     /// Prints the line of this failure and gives its status. Where not even that line can be written, that is
     /// a fault of its own.
-    pub fn report<W: Write>(&self, faults: &mut W) -> u8 {
+    pub fn report<W: Write>(&self, faults: &mut W) -> u8
+        ensures status { (result ≡ status_of self.now) ⊎ (result ≡ 3) }
+    {
         match writeln!(faults, "vcs: {self}") {
             Ok(()) => self.status(),
             Err(_) => 3,

@@ -10,10 +10,12 @@ ghost use Rattle.vc_commands.specs.Failure.{IsFault};
 ghost use Rattle.vc_commands.specs.HashObject.{id_line, IsOfBody, IsOfStored};
 
 use crate::failure::Failure;
+use crate::faults::Faults;
 use crate::input::{Input, open_body, read_body};
 use crate::output::print_id;
 use crate::pieces::name_pieces;
 use crate::repository::open_store;
+use crate::writer::only_writer;
 use std::alloc::Global;
 use std::io::{Read, Write};
 use std::rt;
@@ -46,6 +48,37 @@ where
         None => name_or_store(rt, task, input, output),
         Some(path) => name_or_store(rt, task, open_body(rt, path)?, output),
     }
+}
+
+/// Stores the object whose body the input is, and prints its name. The input is read before the store is taken: whoever
+/// makes it may be a command that writes to the store.
+pub fn store_stream<R, I, O, E>(
+    rt: &R,
+    store: &str,
+    kind: Kind,
+    input: Input<I>,
+    output: &mut O,
+    faults: &mut Faults<E>,
+) -> Result<(), Failure>
+where
+    R: rt::Files + AllocGlobal + Clone + Drop,
+    I: Read + Drop,
+    O: Write,
+    E: Write,
+{
+    let Input { stream, length } = input;
+    let body = read_body(rt.alloc(), stream, length.unwrap_or(MAX_BODY))?;
+    let _lock = only_writer(rt, store, faults)?;
+    let task = HashObject {
+        kind,
+        store: Some(store),
+        file: None,
+    };
+    let input = Input {
+        stream: body.as_slice(),
+        length: Some(body.len()),
+    };
+    name_or_store(rt, task, input, output)
 }
 
 fn name_or_store<R, I, O>(

@@ -2,12 +2,11 @@
 ghost use Rattle.std.specs.Prelude.{◌≡◌, take, IfOk, IfSome, IfErr};
 ghost use Rattle.vc_commands.specs.Failure.{IsFault};
 
-use crate::failure::Failure;
+use crate::failure::{Failure, fault_of};
 use std::alloc::Global;
 use std::fs::{self, OpenFile};
 use std::io::{self, ErrorKind, Read};
 use std::rt;
-use vc_files::Fault;
 use vc_object::MAX_BODY;
 
 /// The longest read of a body: one byte more than a body may have, which is enough to refuse it.
@@ -49,7 +48,7 @@ fn read_front<I: Read + Drop>(
     Ok(body)
 }
 
-/// Opens a file for its body. One that is missing, that can't be opened, or that is a folder is no such path. The
+/// Opens a file for its body. One that is missing, that may not be read, or that is a folder is no such path. The
 /// length is known of a regular file that isn't empty: what the system makes as it is read has length 0.
 pub fn open_body<R: rt::Files>(rt: &R, path: &str) -> Result<Input<R::File>, Failure> {
     let stream = match fs::open(rt, path) {
@@ -75,10 +74,14 @@ pub fn known_length(is_file: bool, length: u64, place: u64) -> Option<usize> {
     usize::try_from(length - place).ok()
 }
 
-// Why a file can't be read: want of memory stays a fault.
+// Why a file can't be read: nothing that may be read stands there, or it is a fault.
 fn unreadable(error: &io::Error) -> Failure {
     match error.kind() {
-        ErrorKind::OutOfMemory => Failure::Fault(Fault::Memory),
-        _ => Failure::NoSuchPath,
+        ErrorKind::NotFound | ErrorKind::NotADirectory | ErrorKind::IsADirectory => {
+            Failure::NoSuchPath
+        }
+        ErrorKind::PermissionDenied | ErrorKind::FilesystemLoop => Failure::NoSuchPath,
+        ErrorKind::InvalidFilename | ErrorKind::InvalidInput => Failure::NoSuchPath,
+        _ => Failure::Fault(fault_of(error)),
     }
 }

@@ -1,19 +1,25 @@
 //! One run of the program: from words and streams to an exit status.
 
-use crate::arguments::{LocalTask, Request, Task, command, parents_of, request_of, terms_of};
+use crate::arguments::{
+    LocalTask, Request, Task, command, option_without_folder, parents_of, request_of, terms_of,
+};
 use crate::cat_file::cat_file;
 use crate::clone::{branch, branch_delete, commit, unstage, write_tree};
 use crate::failure::Failure;
-use crate::hash_object::{HashObject, hash_object};
+use crate::faults::Faults;
+use crate::hash_object::{HashObject, hash_object, store_stream};
 use crate::init::init;
 use crate::input::Input;
 use crate::merge_base::merge_base;
+use crate::nearby::refuse_second_store;
 use crate::rev_list::rev_list;
 use crate::rev_parse::rev_parse;
 use crate::show_ref::show_ref;
 use crate::work::{add, checkout, status};
-use clap::Error;
+use crate::writer::only_writer;
 use clap::error::ErrorKind;
+use clap::{ArgMatches, Error};
+use std::alloc::Global;
 use std::convert::AsStr;
 use std::io::{Read, Write};
 use std::rt;
@@ -27,13 +33,14 @@ struct Lists<'a> {
 }
 
 /// Does what the words ask for and gives the exit status: 0 done, 1 refused, 2 a command line that is off, 3 a
-/// fault. Answers go to `output`, everything else to `faults`. The first word is the program's name.
+/// fault. Answers go to `output`, everything else to `faults`. The first word is the program's name. A command that writes
+/// to its store waits for another one that does.
 pub fn run<R, S, I, O, E>(
     rt: &R,
     words: &[S],
     input: Input<I>,
     output: &mut O,
-    faults: &mut E,
+    faults: &mut Faults<E>,
 ) -> u8
 where
     S: AsStr,
@@ -44,7 +51,7 @@ where
 {
     match obey(rt, words, input, output, faults) {
         Ok(status) => status,
-        Err(failure) => failure.report(faults),
+        Err(failure) => failure.report(&mut faults.stream),
     }
 }
 
@@ -53,7 +60,7 @@ fn obey<R, S, I, O, E>(
     words: &[S],
     input: Input<I>,
     output: &mut O,
-    faults: &mut E,
+    faults: &mut Faults<E>,
 ) -> Result<u8, Failure>
 where
     S: AsStr,
@@ -64,8 +71,9 @@ where
 {
     let matches = match command(rt.alloc())?.try_get_matches_from(words) {
         Ok(matches) => matches,
-        Err(error) => return explain(&error, output, faults),
+        Err(error) => return explain(&error, output, &mut faults.stream),
     };
+    refuse_unnamed_folder(rt.alloc(), &matches)?;
     let terms = terms_of(rt.alloc(), &matches)?;
     let parents = parents_of(rt.alloc(), &matches)?;
     let Some(request) = request_of(&matches) else {
@@ -75,10 +83,23 @@ where
         terms: terms.as_str(),
         parents: &parents,
     };
-    if perform(rt, &request, lists, input, output)? {
+    if !request.is_named && request.task.needs_store() {
+        refuse_second_store(rt)?;
+    }
+    if perform(rt, &request, lists, input, output, faults)? {
         Ok(0)
     } else {
         Ok(1)
+    }
+}
+
+// Refuses an option that names no folder.
+fn refuse_unnamed_folder(alloc: Global, matches: &ArgMatches<'_>) -> Result<(), Failure> {
+    match option_without_folder(matches) {
+        Some(option) => Err(Failure::Usage(format!(in alloc;
+            "{option} names no folder: its value is empty"
+        )?)),
+        None => Ok(()),
     }
 }
 
@@ -99,20 +120,37 @@ fn explain<O: Write, E: Write>(
     Ok(0)
 }
 
-// Does what is asked, and tells whether there was an answer: to ask for what doesn't exist is status 1 with no words.
-fn perform<R, I, O>(
+// Does what is asked, and tells whether there was an answer: to ask for what doesn't exist is status 1 with no words. A
+// command that writes has its store alone until it ends.
+fn perform<R, I, O, E>(
     rt: &R,
     request: &Request<'_>,
     lists: Lists<'_>,
     input: Input<I>,
     output: &mut O,
+    faults: &mut Faults<E>,
 ) -> Result<bool, Failure>
 where
     R: rt::Files + AllocGlobal + Clone + Drop,
     I: Read + Drop,
     O: Write,
+    E: Write,
 {
     let store = request.store;
+    if let Task::HashObject {
+        kind,
+        write: true,
+        file: None,
+    } = request.task
+    {
+        store_stream(rt, store, kind, input, output, faults)?;
+        return Ok(true);
+    }
+    let _lock = if request.task.is_writer() {
+        Some(only_writer(rt, store, faults)?)
+    } else {
+        None
+    };
     match request.task {
         Task::Init => init(rt, store)?,
         Task::HashObject { kind, write, file } => {
@@ -126,30 +164,32 @@ where
         Task::MergeBase { first, second } => {
             return merge_base(rt, store, first, second, output);
         }
-        Task::Local(task) => work_on(rt, store, task, lists.parents, output)?,
+        Task::Local(task) => work_on(rt, store, task, lists.parents, output, faults)?,
     }
     Ok(true)
 }
 
 // Does what is asked of a clone's index, branches, HEAD and work tree.
-fn work_on<R, O>(
+fn work_on<R, O, E>(
     rt: &R,
     store: &str,
     task: LocalTask<'_>,
     parents: &[&str],
     output: &mut O,
+    faults: &mut Faults<E>,
 ) -> Result<(), Failure>
 where
     R: rt::Files + AllocGlobal + Clone + Drop,
     O: Write,
+    E: Write,
 {
     match task {
         LocalTask::Add { mode, work, path } => add(rt, store, work, mode, path),
         LocalTask::Unstage { path } => unstage(rt, store, path),
         LocalTask::WriteTree => write_tree(rt, store, output),
         LocalTask::Commit(words) => commit(rt, store, words, parents, output),
-        LocalTask::Branch { name, revision } => branch(rt, store, name, revision),
-        LocalTask::BranchDelete { name } => branch_delete(rt, store, name),
+        LocalTask::Branch { name, revision } => branch(rt, store, name, revision, faults),
+        LocalTask::BranchDelete { name } => branch_delete(rt, store, name, faults),
         LocalTask::Checkout { work, revision } => checkout(rt, store, work, revision),
         LocalTask::Status { work } => status(rt, store, work, output),
     }

@@ -51,11 +51,7 @@ pub fn is_of_git<R: rt::Files + AllocGlobal>(rt: &R, folder: &str) -> Result<boo
 }
 
 // The index that the expression is resolved with: the file's where it reads the index, else an empty one.
-fn index_for<F: Files>(
-    alloc: Global,
-    files: &mut F,
-    expr: &Expr<'_>,
-) -> Result<Index, SourceFault>
+fn index_for<F: Files>(alloc: Global, files: &mut F, expr: &Expr<'_>) -> Result<Index, SourceFault>
     ensures index { F.honest → IfOk result (IsIndexFor (F.content files.old) (expr_view expr.now)) }
     ensures refused { F.honest → IfErr result (IsOfIndexFor (F.content files.old) (expr_view expr.now)) }
     ensures same { F.content files.new ≡ F.content files.old }
@@ -71,11 +67,7 @@ fn index_for<F: Files>(
 }
 
 /// The object that a revision names.
-pub fn resolve<F: Files>(
-    alloc: Global,
-    files: &mut F,
-    revision: &str,
-) -> Result<ObjectId, Failure>
+pub fn resolve<F: Files>(alloc: Global, files: &mut F, revision: &str) -> Result<ObjectId, Failure>
     ensures value { F.honest → IfOk result (λ id. Denoted (F.content files.old) revision.now (Ok id)) }
     ensures refused { F.honest → IfErr result (IsOfRevision (F.content files.old) revision.now) }
     ensures same { F.content files.new ≡ F.content files.old }

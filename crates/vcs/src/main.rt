@@ -1,20 +1,23 @@
 //! The program `vcs`: Git's object model in a folder, one subcommand a run.
 #![tactic(auto)]
 
-use std::io::ErrorKind;
+use std::io::{ErrorKind, IsTerminal};
 use std::process::ExitCode;
 use std::{env, fs};
-use vc_commands::{Failure, Input, known_length, run};
+use vc_commands::{Failure, Faults, Input, known_length, run};
 
 fn main(rt: HostRuntime) -> ExitCode {
-    let mut faults = rt.stderr();
+    let mut faults = Faults {
+        stream: rt.stderr(),
+        is_terminal: rt.stderr().is_terminal(),
+    };
     let input = Input {
         stream: rt.reader(),
         length: length_of_input(&rt),
     };
     ExitCode::from(match words(&rt) {
         Ok(words) => run(&rt, &words, input, &mut rt.stdout(), &mut faults),
-        Err(failure) => failure.report(&mut faults),
+        Err(failure) => failure.report(&mut faults.stream),
     })
 }
 

@@ -31,6 +31,10 @@ pub returns-clause-refused : goal.returns-clause-refused
 returns-clause-refused g c = λ honest.
     let repository = c.new-repository.result in
     let s = state repository.files.ghost_name (g.F.Files.content repository.files.now) repository.index.now in
-    let same = ap g.F.Files.content c.new-repository.ensures.files in
-    (terms_view c.in-Ok.set, s, c.in-Ok.ensures.ok, same,
-    subst (λ (m : FileMap). IsToldOfSet (over s) (IsCause s) (IsDamaged m) (terms_view c.in-Ok.set) c.in-Err-resolve_set.fault) same (c.in-Err-resolve_set.ensures.refused honest))
+    let same = ap g.F.Files.content c.new-repository.ensures.files in (
+      terms_view c.in-Ok.set,
+      s,
+      c.in-Ok.ensures.ok,
+      same,
+      subst (λ (m : FileMap). IsToldOfSet (over s) (IsCause s) (IsDamaged m) (terms_view c.in-Ok.set) c.in-Err-resolve_set.fault) same (c.in-Err-resolve_set.ensures.refused honest),
+    )

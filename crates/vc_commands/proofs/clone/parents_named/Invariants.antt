@@ -1,0 +1,9 @@
+use Rattle.std.proofs.Common.{◌≡◌, map, take}
+use Rattle.vc_commands.specs.Steps.{AreDenoted}
+use Rattle.vc_commands.proofs.clone.parents_named.Given as goal
+
+abbrev pub invariant-loop-revision : goal.invariant-loop-revision
+invariant-loop-revision g l = record {
+  same : g.F.Files.content l.files ≡ g.F.Files.content l.fn.files;
+  named : g.F.Files.honest → AreDenoted (g.F.Files.content l.fn.files) (map (λ revision. revision.now) (take l.revision-index l.revisions)) l.parents.items;
+}
