@@ -17,6 +17,7 @@ use crate::pieces::name_pieces;
 use crate::repository::open_store;
 use crate::writer::only_writer;
 use std::alloc::Global;
+use std::fs::File;
 use std::io::{Read, Write};
 use std::rt;
 use vc_files::Files;
@@ -61,7 +62,7 @@ pub fn store_stream<R, I, O, E>(
     faults: &mut Faults<E>,
 ) -> Result<(), Failure>
 where
-    R: rt::Files + AllocGlobal + Clone + Drop,
+    R: rt::Files<File = File> + AllocGlobal + Clone + Drop,
     I: Read + Drop,
     O: Write,
     E: Write,

@@ -21,6 +21,7 @@ use clap::error::ErrorKind;
 use clap::{ArgMatches, Error};
 use std::alloc::Global;
 use std::convert::AsStr;
+use std::fs::File;
 use std::io::{Read, Write};
 use std::rt;
 use vc_files::Fault;
@@ -44,7 +45,7 @@ pub fn run<R, S, I, O, E>(
 ) -> u8
 where
     S: AsStr,
-    R: rt::Files + AllocGlobal + Clone + Drop,
+    R: rt::Files<File = File> + AllocGlobal + Clone + Drop,
     I: Read + Drop,
     O: Write,
     E: Write,
@@ -64,7 +65,7 @@ fn obey<R, S, I, O, E>(
 ) -> Result<u8, Failure>
 where
     S: AsStr,
-    R: rt::Files + AllocGlobal + Clone + Drop,
+    R: rt::Files<File = File> + AllocGlobal + Clone + Drop,
     I: Read + Drop,
     O: Write,
     E: Write,
@@ -131,7 +132,7 @@ fn perform<R, I, O, E>(
     faults: &mut Faults<E>,
 ) -> Result<bool, Failure>
 where
-    R: rt::Files + AllocGlobal + Clone + Drop,
+    R: rt::Files<File = File> + AllocGlobal + Clone + Drop,
     I: Read + Drop,
     O: Write,
     E: Write,

@@ -3,6 +3,7 @@
 use crate::failure::Failure;
 use crate::faults::Faults;
 use crate::repository::refuse_store_of_git;
+use std::fs::File;
 use std::io::Write;
 use std::rt;
 use vc_folder::FolderLock;
@@ -15,7 +16,7 @@ pub fn only_writer<R, E>(
     faults: &mut Faults<E>,
 ) -> Result<FolderLock<R>, Failure>
 where
-    R: rt::Files + AllocGlobal + Clone + Drop,
+    R: rt::Files<File = File> + AllocGlobal + Clone + Drop,
     E: Write,
 {
     refuse_store_of_git(rt, store)?;
