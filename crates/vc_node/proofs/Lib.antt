@@ -19,3 +19,4 @@ pub mod ReadLemmas
 pub mod CommitReads
 pub mod LookLemmas
 pub mod MayLemmas
+pub mod BurnLemmas

@@ -11,3 +11,4 @@ pub mod Clean
 pub mod Opening
 pub mod Reads
 pub mod Printed
+pub mod Burning

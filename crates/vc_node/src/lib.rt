@@ -4,6 +4,7 @@
 //! `vc_model`'s machine at Git's object format (`vc_format`): the files spell a repository, and a call is a step of it.
 #![tactic(auto)]
 
+mod burning;
 mod checks;
 mod commit;
 mod fault;
@@ -12,6 +13,7 @@ mod local;
 mod node;
 mod opened;
 
+pub use burning::a_call_spends_what_the_machine_allows;
 pub use checks::refuse_bad_commit;
 pub use fault::NodeFault;
 pub use index_file::{read_index, write_index};

@@ -1,0 +1,330 @@
+-- What a call spends is what the machine allows: one write for each place that changed.
+use Rattle.std.proofs.Common.{◌≡◌, ◌⊎◌, inl, inr, ℕ, ◌-◌, ◌≤◌, Bool, true, false, cond, List, [], ◌∷◌, Option, Some, None, Result, Ok, Err, IsTrue, Contains, map, nat_eq, codes, refl, sym, ap, ◌∙◌, subst, arith}
+use Rattle.std.specs.Prelude.{bytes_eq, option_map, option_and_then, unwrap_or}
+use Rattle.std.specs.FinMap.{get, same_map}
+use Rattle.std.specs.List.{starts_with}
+use Rattle.std.specs.Result.{result_ok}
+use Rattle.std.specs.Cmp.Lexicographic.{nat_list_cmp_total}
+use Rattle.std.proofs.lemmas.Bool.{and_parts}
+use Rattle.std.proofs.lemmas.List.{length-map}
+use Rattle.std.proofs.lemmas.List.Elements.{Contains-append_right, Contains-append_cases, Contains-push_cases}
+use Rattle.std.proofs.lemmas.Slice.Eq.{bytes_eq-Decides}
+use Rattle.vc_files.specs.FileMap.{FileMap}
+use Rattle.vc_files.specs.Failures.{DifferAtMost, Spends, Wears, Writes}
+use Rattle.vc_files.specs.declared.faults.Fault.{Fault as FilesFault}
+use Rattle.vc_files.specs.declared.faults.Fault.TheVariants as device
+use Rattle.vc_format.specs.Git.{id_of_bytes, kind_of}
+use Rattle.vc_index.proofs.AgainLemmas.{one_index}
+use Rattle.vc_model.specs.Object.{Id, Kind, Object}
+use Rattle.vc_model.specs.Object.Kind.{Blob, Tree, Commit, Tag}
+use Rattle.vc_model.specs.Refs.{RefName}
+use Rattle.vc_model.specs.Repository.{Repository}
+use Rattle.vc_model.specs.CloneCall.CloneCall.{Command}
+use Rattle.vc_model.specs.ExactWorld.{MayClone}
+use Rattle.vc_model.specs.Fuse.{Burns, DiffersAt, Place, WritesSuffice}
+use Rattle.vc_model.specs.Fuse.Place.{AnObject, ARef, TheRefs, TheHead, TheIndex}
+use Rattle.vc_model.specs.Node.{Answer}
+use Rattle.vc_model.specs.Node.Answer.{Fault}
+use Rattle.vc_model.specs.Node.Failure.{Device}
+use Rattle.vc_model.proofs.Maps.{bytes_same}
+use Rattle.vc_object.specs.ObjectId.{is_name}
+use Rattle.vc_object.specs.declared.id.ObjectId.{ObjectId}
+use Rattle.vc_refname.specs.RefName.{is_ref_name}
+use Rattle.vc_refs.specs.Head.{head_of}
+use Rattle.vc_refs.specs.RefFile.{id_in}
+use Rattle.vc_refs.specs.RefMap.{is_ref}
+use Rattle.vc_refs.specs.Refs.{refs}
+use Rattle.vc_refs.specs.declared.faults.RefFault.{RefFault}
+use Rattle.vc_refs.specs.declared.faults.RefFault.TheVariants as ref
+use Rattle.vc_refs.specs.declared.heads.Head.{Head as RefsHead}
+use Rattle.vc_store.specs.Store.{name_in, object_path, objects, stored_in}
+use Rattle.vc_store.specs.declared.faults.StoreFault.{StoreFault}
+use Rattle.vc_store.specs.declared.faults.StoreFault.TheVariants as store
+use Rattle.vc_store.proofs.PathLemmas.{name_in-some, name_in-object_path}
+use Rattle.vc_rules.specs.Git.{git, machine_entry, machine_kind, stored_of}
+use Rattle.vc_rules.proofs.GitLaws.{git_rules}
+use Rattle.vc_node.specs.Burning.{CallsBurn}
+use Rattle.vc_node.specs.Machine.{Spells, done_answer, fault_answer, failure_of, machine_head, made_answer, ref_answer, store_answer}
+use Rattle.vc_node.specs.NodeFault.{IsOfDevice, TellsDevice}
+use Rattle.vc_node.specs.Shown.{shown}
+use Rattle.vc_node.specs.declared.fault.NodeFault.{NodeFault}
+use Rattle.vc_node.specs.declared.fault.NodeFault.TheVariants.{Store, Ref}
+
+-- ---- the place of a path
+
+abbrev named_place : List ℕ → Option ObjectId → Place
+named_place path (Some id) = AnObject id.0
+named_place path None = cond (bytes_eq path (codes "HEAD")) TheHead (cond (bytes_eq path (codes "index")) TheIndex (ARef path))
+
+-- the one place that a file of this path shows
+abbrev place : List ℕ → Place
+place path = named_place path (name_in path)
+
+object_place : (x : Id) → is_name x ≡ true → place (object_path x) ≡ AnObject x
+object_place x valid = ap (named_place (object_path x)) (name_in-object_path x valid)
+
+ref_place : (n : RefName) → is_ref n ≡ true → place n ≡ ARef n
+ref_place n is = by (name_in n) refl
+  where
+    begins : starts_with nat_eq n (codes "refs/") ≡ true
+    begins = (and_parts (is_ref_name n) (starts_with nat_eq n (codes "refs/")) is).1
+
+    is_not : (other : List ℕ) → starts_with nat_eq other (codes "refs/") ≡ false → bytes_eq n other ≡ false
+    is_not other begins_not = no (bytes_eq n other) refl
+      where
+        no : (b : Bool) → bytes_eq n other ≡ b → bytes_eq n other ≡ false
+        no true e = absurd (cc (sym (ap (λ m. starts_with nat_eq m (codes "refs/")) ((bytes_eq-Decides n other).0 e)) ∙ begins, begins_not))
+        no false e = e
+
+    by : (o : Option ObjectId) → name_in n ≡ o → place n ≡ ARef n
+    by (Some id) e = absurd (cc (sym (ap (λ m. starts_with nat_eq m (codes "refs/")) (name_in-some n id e).0) ∙ begins))
+    by None e =
+        ap (named_place n) e
+        ∙ ap (λ b. cond b TheHead (cond (bytes_eq n (codes "index")) TheIndex (ARef n))) (is_not (codes "HEAD") refl)
+        ∙ ap (λ b. cond b TheIndex (ARef n)) (is_not (codes "index") refl)
+
+-- no file is the place of all refs at once
+no_place_of_all : (path : List ℕ) → place path ≡ TheRefs → ⊥
+no_place_of_all path = by (name_in path)
+  where
+    else_ref : (b c : Bool) → cond b TheHead (cond c TheIndex (ARef path)) ≡ TheRefs → ⊥
+    else_ref true c e = cc e
+    else_ref false true e = cc e
+    else_ref false false e = cc e
+
+    by : (o : Option ObjectId) → named_place path o ≡ TheRefs → ⊥
+    by (Some id) e = cc e
+    by None e = else_ref (bytes_eq path (codes "HEAD")) (bytes_eq path (codes "index")) e
+
+-- ---- lists of images
+
+mapped : {X Y : Type 0} (f : X → Y) (xs : List X) (x : X) → Contains xs x → Contains (map f xs) (f x)
+mapped f [] x h = absurd (let k = h.1 in omega arith)
+mapped f (y ∷ ys) x h = elim (Contains-append_cases (y ∷ []) ys x h) [
+  | inl first ↦ elim (Contains-push_cases [] y x first) [
+    | inl none ↦ absurd (let k = none.1 in omega arith)
+    | inr same ↦ subst (λ z. Contains (map f (y ∷ ys)) (f z)) same (0, omega arith, refl)
+  ]
+  | inr later ↦ Contains-append_right (f y ∷ []) (map f ys) (f x) (mapped f ys x later)
+]
+
+image_of : {X Y : Type 0} (f : X → Y) (xs : List X) (y : Y) → Contains (map f xs) y → (x : X) × (f x ≡ y)
+image_of f [] y h = absurd (let k = h.1 in omega arith)
+image_of f (x ∷ xs) y h = elim (Contains-append_cases (f x ∷ []) (map f xs) y h) [
+  | inl first ↦ elim (Contains-push_cases [] (f x) y first) [
+    | inl none ↦ absurd (let k = none.1 in omega arith)
+    | inr same ↦ (x, same)
+  ]
+  | inr later ↦ image_of f xs y later
+]
+
+-- ---- an object of the machine is known by how it is stored
+
+kind_again : (k : Kind) → machine_kind (kind_of k) ≡ k
+kind_again Blob = refl
+kind_again Tree = refl
+kind_again Commit = refl
+kind_again Tag = refl
+
+stored_once : (o p : Object) → stored_of o ≡ stored_of p → o ≡ p
+stored_once o p e =
+    let kinds : o.kind ≡ p.kind = sym (kind_again o.kind) ∙ ap (λ s. machine_kind s.kind) e ∙ kind_again p.kind in
+    let bodies : o.body ≡ p.body = ap (λ s. s.body) e in
+    ap (λ k. record { kind = k; body = o.body }) kinds ∙ ap (λ b. record { kind = p.kind; body = b }) bodies
+
+some_once : (a b : Option Object) → option_map stored_of a ≡ option_map stored_of b → a ≡ b
+some_once None None e = refl
+some_once None (Some p) e = absurd (cc e)
+some_once (Some o) None e = absurd (cc e)
+some_once (Some o) (Some p) e = ap Some (stored_once o p (ap (λ s. unwrap_or s (stored_of o)) e))
+
+id_once : (a b : Option Id) → option_map id_of_bytes a ≡ option_map id_of_bytes b → a ≡ b
+id_once None None e = refl
+id_once None (Some p) e = absurd (cc e)
+id_once (Some o) None e = absurd (cc e)
+id_once (Some o) (Some p) e = ap Some (ap (λ s. (unwrap_or s (id_of_bytes o)).0) e)
+
+-- ---- a file that is as it was shows what it showed
+
+object_at : (old new : FileMap) (x : Id) → (is_name x ≡ true → get new (object_path x) ≡ get old (object_path x)) → objects new (id_of_bytes x) ≡ objects old (id_of_bytes x)
+unfolding objects
+object_at old new x same = by (is_name x) refl
+  where
+    by : (b : Bool) → is_name x ≡ b → cond b (result_ok (stored_in (id_of_bytes x) (get new (object_path x)))) None ≡ cond b (result_ok (stored_in (id_of_bytes x) (get old (object_path x)))) None
+    by true e = ap (λ f. result_ok (stored_in (id_of_bytes x) f)) (same e)
+    by false e = refl
+
+ref_at : (old new : FileMap) (n : RefName) → (is_ref n ≡ true → get new n ≡ get old n) → refs new n ≡ refs old n
+unfolding refs
+ref_at old new n same = by (is_ref n) refl
+  where
+    by : (b : Bool) → is_ref n ≡ b → cond b (option_and_then id_in (get new n)) None ≡ cond b (option_and_then id_in (get old n)) None
+    by true e = ap (λ f. option_and_then id_in f) (same e)
+    by false e = refl
+
+head_at : (old new : FileMap) → get new (codes "HEAD") ≡ get old (codes "HEAD") → head_of new ≡ head_of old
+unfolding head_of
+head_at old new same = search same
+
+module _ (old new : FileMap) (r s : Repository) (p : Spells (shown old) r) (q : Spells (shown new) s) (paths : List (List ℕ)) (each : (path : List ℕ) → (get new path ≡ get old path) ⊎ Contains paths path) where
+  at : (path : List ℕ) → (get new path ≡ get old path) ⊎ Contains (map place paths) (place path)
+  at path = elim (each path) [
+    | inl same ↦ inl same
+    | inr there ↦ inr (mapped place paths path there)
+  ]
+
+  objects_differ : (x : Id) → (get s.objects x ≡ get r.objects x) ⊎ Contains (map place paths) (AnObject x)
+  objects_differ x = by (is_name x) refl
+    where
+      same_as : (is_name x ≡ true → get new (object_path x) ≡ get old (object_path x)) → get s.objects x ≡ get r.objects x
+      same_as same = some_once (get s.objects x) (get r.objects x) (sym (q.objects x) ∙ object_at old new x same ∙ p.objects x)
+
+      by : (b : Bool) → is_name x ≡ b → (get s.objects x ≡ get r.objects x) ⊎ Contains (map place paths) (AnObject x)
+      by true valid = elim (at (object_path x)) [
+        | inl same ↦ inl (same_as (λ _. same))
+        | inr there ↦ inr (subst (λ y. Contains (map place paths) y) (object_place x valid) there)
+      ]
+      by false valid = inl (same_as (λ e. absurd (cc (e, valid))))
+
+  refs_differ : (n : RefName) → (get s.refs n ≡ get r.refs n) ⊎ Contains (map place paths) (ARef n)
+  refs_differ n = by (is_ref n) refl
+    where
+      same_as : (is_ref n ≡ true → get new n ≡ get old n) → get s.refs n ≡ get r.refs n
+      same_as same = id_once (get s.refs n) (get r.refs n) (sym (q.refs n) ∙ ref_at old new n same ∙ p.refs n)
+
+      by : (b : Bool) → is_ref n ≡ b → (get s.refs n ≡ get r.refs n) ⊎ Contains (map place paths) (ARef n)
+      by true is = elim (at n) [
+        | inl same ↦ inl (same_as (λ _. same))
+        | inr there ↦ inr (subst (λ y. Contains (map place paths) y) (ref_place n is) there)
+      ]
+      by false is = inl (same_as (λ e. absurd (cc (e, is))))
+
+  head_differs : (s.head ≡ r.head) ⊎ Contains (map place paths) TheHead
+  head_differs = elim (at (codes "HEAD")) [
+    | inl same ↦ inl (
+        let heads : ◌≡◌ {A = Option RefsHead} (Some q.head) (Some p.head) = sym q.head_shown ∙ head_at old new same ∙ p.head_shown in
+        q.head_is ∙ ap machine_head (ap (λ h. unwrap_or h p.head) heads) ∙ sym p.head_is)
+    | inr there ↦ inr there
+  ]
+
+  index_differs : (s.index ≡ r.index) ⊎ Contains (map place paths) TheIndex
+  index_differs = elim (at (codes "index")) [
+    | inl same ↦ inl (
+        let maps : q.map ≡ p.map = one_index q.map p.map q.map_sound p.map_sound (sym q.map_shown ∙ ap (λ f. unwrap_or f []) same ∙ p.map_shown) in
+        same_map nat_list_cmp_total bytes_same s.index r.index (λ path. q.index path ∙ ap (λ m. option_map machine_entry (get m path)) maps ∙ sym (p.index path)))
+    | inr there ↦ inr there
+  ]
+
+  differs : DiffersAt (map place paths) r s
+  differs = record {
+    objects = objects_differ;
+    refs = λ n. elim (refs_differ n) [
+      | inl same ↦ inl same
+      | inr there ↦ inr (inl there)
+    ];
+    head = head_differs;
+    index = index_differs;
+  }
+
+-- one write a path suffices in the machine
+suffices : (old new : FileMap) (r s : Repository) (k : ℕ) → Spells (shown old) r → Spells (shown new) s → DifferAtMost k old new → WritesSuffice ⊥ k r s
+suffices old new r s k p q d = (
+  map place d.0,
+  subst (λ l. l ≤ k) (sym (length-map d.0 place)) d.1,
+  λ all. let image = image_of place d.0 TheRefs all in no_place_of_all image.0 image.1,
+  differs old new r s p q d.0 d.2,
+)
+
+-- ---- the call
+
+module _ {D : Type 0} (honest : Type 0) (content : D → FileMap) (failed : D → ℕ) (can_fail : D → Type 0) (left : D → Option ℕ) (old new : D) (IsDevice : Type 0) (frail : Bool) (may : Type 0) (a : Answer) (r s : Repository) where
+  burns : honest → (a ≡ Fault Device → IsDevice) → (can_fail old → IsTrue frail) → Writes honest content failed can_fail left old new IsDevice → may ⊎ Wears failed can_fail left old new IsDevice
+      → Spells (shown (content old)) r → Spells (shown (content new)) s → Burns frail (left old) may ⊥ r s a (left new)
+  burns is_honest tells can w looks p q = by (left old) refl
+    where
+      none_left : (made : ℕ) → ◌≡◌ {A = Option ℕ} None (Some made) → ⊥
+      none_left made e = cc e
+
+      by : (o : Option ℕ) → left old ≡ o → Burns frail o may ⊥ r s a (left new)
+      by None e = (
+        λ is. elim (w.could (tells is)) [
+          | inl could ↦ can could
+          | inr stopped ↦ absurd (none_left w.made (sym e ∙ stopped))
+        ],
+        subst (λ o. Spends w.made o (left new)) e w.spent,
+      )
+      by (Some writes) e = elim looks [
+        | inl wants ↦ (
+          w.made,
+          spent.0,
+          λ not. absurd (not wants),
+          suffices (content old) (content new) r s w.made p q (w.differ is_honest),
+          spent.1,
+          λ is. elim (w.could (tells is)) [
+            | inl could ↦ inl (can could)
+            | inr stopped ↦ inr (wants, sym (ap (λ o. unwrap_or o 0) (sym e ∙ stopped)))
+          ],
+        )
+        | inr look ↦
+            let kept : writes - w.made ≡ writes = ap (λ o. unwrap_or o 0) (sym spent.1 ∙ look.unspent ∙ e) in
+            let none : w.made ≡ 0 = omega (arith, kept, spent.0) in
+            let whole : writes ≡ writes - 0 = omega arith in (
+              0,
+              omega arith,
+              λ _. refl,
+              suffices (content old) (content new) r s 0 p q (subst (λ k. DifferAtMost k (content old) (content new)) none (w.differ is_honest)),
+              look.unspent ∙ e ∙ ap Some whole,
+              λ is. inl (can (look.could (tells is))),
+            )
+      ]
+        where
+          spent : (w.made ≤ writes) × (left new ≡ Some (writes - w.made))
+          spent = subst (λ o. Spends w.made o (left new)) e w.spent
+
+calls_burn : {D T : Type 0} (honest : Type 0) (content : D → FileMap) (failed : D → ℕ) (can_fail : D → Type 0) (left : D → Option ℕ) (answer_of : Result T NodeFault → Answer)
+    → ((r : Result T NodeFault) → answer_of r ≡ Fault Device → TellsDevice r) → CallsBurn honest content failed can_fail left answer_of
+calls_burn honest content failed can_fail left answer_of tells old new result frail task was_up is_up awaited n is_honest can wear looks answers holds =
+    let step = answers.each awaited n holds in (
+      step.0,
+      step.1,
+      step.2,
+      burns honest content failed can_fail left old new (TellsDevice result) frail (MayClone git git_rules n (Command task)) (answer_of result) n.repository step.0.repository is_honest (tells result) can wear (looks awaited n holds) holds.shows.spells step.1.shows.spells,
+    )
+
+-- ---- what is told
+
+of_device : (f : FilesFault) → Fault (failure_of f) ≡ Fault Device → IsOfDevice (Store (store.Fault f))
+of_device device.Device e = refl
+of_device device.Memory e = absurd (cc e)
+
+of_store : (e : StoreFault) → store_answer e ≡ Fault Device → IsOfDevice (Store e)
+of_store (store.BadObject f) e = absurd (cc e)
+of_store (store.Absent id) e = absurd (cc e)
+of_store (store.Damaged id) e = absurd (cc e)
+of_store (store.Fault f) e = of_device f e
+
+of_ref : (e : RefFault) → ref_answer e ≡ Fault Device → IsOfDevice (Ref e)
+of_ref (ref.Stale current) e = absurd (cc e)
+of_ref (ref.Conflict other) e = absurd (cc e)
+of_ref (ref.BadRefFile path) e = absurd (cc e)
+of_ref ref.HeadLoop e = absurd (cc e)
+of_ref (ref.Fault f) e = of_device f e
+
+of_fault : (e : NodeFault) → fault_answer e ≡ Fault Device → IsOfDevice e
+of_fault (Store e) is = of_store e is
+of_fault (Ref e) is = of_ref e is
+of_fault _ is = absurd (cc is)
+
+made_tells : (r : Result ObjectId NodeFault) → made_answer r ≡ Fault Device → TellsDevice r
+made_tells (Ok id) is = absurd (cc is)
+made_tells (Err e) is = of_fault e is
+
+done_tells : (r : Result (Unit {0}) NodeFault) → done_answer r ≡ Fault Device → TellsDevice r
+done_tells (Ok u) is = absurd (cc is)
+done_tells (Err e) is = of_fault e is
+
+pub made_burns : {D : Type 0} (honest : Type 0) (content : D → FileMap) (failed : D → ℕ) (can_fail : D → Type 0) (left : D → Option ℕ) → CallsBurn honest content failed can_fail left made_answer
+made_burns honest content failed can_fail left = calls_burn honest content failed can_fail left made_answer made_tells
+
+pub done_burns : {D : Type 0} (honest : Type 0) (content : D → FileMap) (failed : D → ℕ) (can_fail : D → Type 0) (left : D → Option ℕ) → CallsBurn honest content failed can_fail left done_answer
+done_burns honest content failed can_fail left = calls_burn honest content failed can_fail left done_answer done_tells

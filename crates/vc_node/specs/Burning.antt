@@ -1,0 +1,29 @@
+-- What a call spends of the writes left before a stop, as the machine says it.
+use Rattle.std.specs.Prelude.{ℕ, Bool, IsTrue, Option, None, Result}
+use Rattle.vc_files.specs.FileMap.{FileMap}
+use Rattle.vc_files.specs.Failures.{Wears, Writes}
+use Rattle.vc_model.specs.Clone.{Awaited, CloneNode, Task}
+use Rattle.vc_model.specs.CloneCall.{CloneAnswers}
+use Rattle.vc_model.specs.CloneCall.CloneCall.{Command}
+use Rattle.vc_model.specs.ExactWorld.{MayClone}
+use Rattle.vc_model.specs.Fuse.{Burns}
+use Rattle.vc_model.specs.Node.{Answer}
+use Rattle.vc_rules.specs.Git.{git}
+use Rattle.vc_rules.proofs.GitLaws.{git_rules}
+use Rattle.vc_node.specs.Machine.{Answers, HoldsNode, MayWriteOr}
+use Rattle.vc_node.specs.NodeFault.{TellsDevice}
+use Rattle.vc_node.specs.declared.fault.NodeFault.{NodeFault}
+
+-- A call of a held node that says what it answers, what it wears, and where it only looks, is a step of the machine that ends
+-- with the writes left which the machine allows: one for each place that changed, none where the command may not write, and a
+-- fault of the device only where none was left for a write that it wanted. `frail` says whether the device may fail without a stop.
+abbrev pub CallsBurn : {D T : Type 0} → (honest : Type 0) → (D → FileMap) → (D → ℕ) → (D → Type 0) → (D → Option ℕ) → (Result T NodeFault → Answer) → Type 0
+CallsBurn {D} {T} honest content failed can_fail left answer_of =
+    (old new : D) (result : Result T NodeFault) (frail : Bool) (task : Task) (was_up is_up : Bool) (awaited : Awaited) (n : CloneNode)
+    → honest → (can_fail old → IsTrue frail)
+    → Writes honest content failed can_fail left old new (TellsDevice result)
+    → MayWriteOr task was_up (content old) (Wears failed can_fail left old new (TellsDevice result))
+    → Answers task (answer_of result) was_up is_up (content old) (content new)
+    → HoldsNode (content old) was_up awaited n
+    → (m : CloneNode) × HoldsNode (content new) is_up awaited m × CloneAnswers git git_rules n (Command task) (answer_of result) m None
+    × Burns frail (left old) (MayClone git git_rules n (Command task)) ⊥ n.repository m.repository (answer_of result) (left new)

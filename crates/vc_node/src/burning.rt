@@ -1,0 +1,13 @@
+// What a call spends of the writes left before a stop.
+ghost use Rattle.vc_node.specs.Burning.{CallsBurn};
+ghost use Rattle.vc_node.specs.Machine.{done_answer, made_answer};
+
+use vc_files::Files;
+
+/// What a call of a held clone says of its answer, of its wear and of where it only looks makes it a step of the machine that
+/// spends what the machine allows: over files of any kind, for calls that make an object and for those that only change what is
+/// stored.
+pub fn a_call_spends_what_the_machine_allows<F: Files>()
+    ensures made { CallsBurn F.honest F.content F.failed F.can_fail F.left made_answer }
+    ensures done { CallsBurn F.honest F.content F.failed F.can_fail F.left done_answer }
+{}
