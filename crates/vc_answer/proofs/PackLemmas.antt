@@ -4,7 +4,7 @@ use Rattle.std.specs.Map.{lookup}
 use Rattle.std.specs.BTreeMap.{is_at}
 use Rattle.std.specs.Option.{option_map, option_and_then}
 use Rattle.std.specs.Ordering.{is_eq}
-use Rattle.vc_answer.specs.PackObjects.{objects_in}
+use Rattle.vc_fetch.specs.PackObjects.{objects_in}
 use Rattle.vc_fetch.specs.Pack.{is_object}
 use Rattle.vc_object.specs.ObjectId.{id_cmp}
 use Rattle.vc_object.specs.declared.id.ObjectId.{ObjectId}

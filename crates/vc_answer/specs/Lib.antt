@@ -1,4 +1,3 @@
 pub mod Answer
 pub mod AnswerFault
-pub mod PackObjects
 pub mod Picked

@@ -1,7 +1,7 @@
 //! Whether a pack brings all that was asked for.
 ghost use Rattle.std.specs.Prelude.{◌≡◌, IfOk, IfErr, IsErrOf, OnOk};
 ghost use Rattle.vc_answer.specs.AnswerFault.{IsRefusedPack};
-ghost use Rattle.vc_answer.specs.PackObjects.{objects_in};
+ghost use Rattle.vc_fetch.specs.PackObjects.{objects_in};
 ghost use Rattle.vc_files.specs.Failures.{Wears};
 ghost use Rattle.vc_graph.specs.Graph.{IsClosedUnder, ReachedFrom};
 ghost use Rattle.vc_graph.specs.GraphFault.{IsMet};

@@ -11,7 +11,7 @@ pub struct PackObjects<'a> {
 }
 
 impl Carried for PackObjects<'_> {
-    ghost use Rattle.vc_answer.specs.PackObjects.{objects_in};
+    ghost use Rattle.vc_fetch.specs.PackObjects.{objects_in};
     ghost use Rattle.vc_pkt.specs.ObjectStreamView.{carried};
 
     ghost carried = { λ pack. objects_in (carried pack.objects.now) };

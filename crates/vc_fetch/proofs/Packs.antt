@@ -13,7 +13,7 @@ use Rattle.vc_object.proofs.Objects.{header_once, decimal_size}
 use Rattle.vc_pkt.specs.Line.{LineText, flush, text}
 use Rattle.vc_pkt.specs.TextLine.{without_lf}
 use Rattle.vc_pkt.specs.Message.{Stepped, onward, complete, going, run, GivenBy}
-use Rattle.vc_pkt.specs.ObjectStream.{SetState, between, set_step, no_objects}
+use Rattle.vc_pkt.specs.ObjectStream.{SetState, set_step, no_objects}
 use Rattle.vc_pkt.specs.declared.fault.PktFault.{PktFault}
 use Rattle.vc_pkt.proofs.StreamLaws.{means, stream_runs}
 use Rattle.vc_fetch.specs.Ids.{id_line}
@@ -106,7 +106,7 @@ first_of : (line : List ℕ) (rest : List LineText) (p : PackText) (o : Option (
 first_of line rest p None is e = absurd (cc e)
 first_of line rest p (Some ack) is e =
     let w = with_pack_ok ack (run (set_step is_object) 1 no_objects rest) p (sym (stream_both rest 1 ack no_objects) ∙ e) in
-    let m = means is_object rest 1 [] between p.objects w.0 in
+    let m = means is_object rest 1 [] p.objects w.0 in
     record {
       first = line;
       others = rest;

@@ -39,7 +39,7 @@ no_nul [] w = refl
 no_nul (b ∷ words) w = ap (λ t. cond t [] (b ∷ before_nul words)) (ne-eqb b 0 w.0) ∙ ap (λ t. b ∷ t) (no_nul words w.1)
 
 -- what is cut off is nothing, or begins with a NUL
-nul_cut : (words : List ℕ) → (tail : List ℕ) × IsCapabilities tail × (words ≡ before_nul words ++ tail)
+pub nul_cut : (words : List ℕ) → (tail : List ℕ) × IsCapabilities tail × (words ≡ before_nul words ++ tail)
 nul_cut [] = ([], tt, refl)
 nul_cut (b ∷ words) = by (b == 0) refl (nul_cut words)
   where
@@ -52,7 +52,7 @@ either_false true b e = cc e
 either_false false b e = (refl, e)
 
 -- the name is found again before the capabilities
-name_before : (name tail : List ℕ) → list_any is_break name ≡ false → IsCapabilities tail → before_nul (name ++ tail) ≡ name
+pub name_before : (name tail : List ℕ) → list_any is_break name ≡ false → IsCapabilities tail → before_nul (name ++ tail) ≡ name
 name_before [] [] plain passed = refl
 name_before [] (b ∷ bs) plain passed = ap (λ t. cond t [] (b ∷ before_nul bs)) (eq-eqb b 0 passed)
 name_before (b ∷ name) tail plain passed =

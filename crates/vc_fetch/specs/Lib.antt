@@ -4,6 +4,7 @@ pub mod ErrorMessage
 pub mod Want
 pub mod WantView
 pub mod Pack
+pub mod PackObjects
 pub mod PackView
 pub mod Advert
 pub mod AdvertView

@@ -54,7 +54,7 @@ fn has_break(name: &[u8]) -> bool
 }
 
 /// Whether a ref in a message may have the name.
-fn is_name(name: &[u8]) -> bool
+pub fn is_name(name: &[u8]) -> bool
     ensures { result ≡ is_name name.now }
 {
     if name.is_empty() {
@@ -64,7 +64,7 @@ fn is_name(name: &[u8]) -> bool
 }
 
 /// What stands before the first NUL, or all.
-fn before_nul(words: &[u8]) -> &[u8]
+pub fn before_nul(words: &[u8]) -> &[u8]
     ensures { result.now ≡ before_nul words.now }
 {
     for (i, byte) in words.iter().enumerate() {

@@ -10,7 +10,7 @@ use vc_pkt::without_lf;
 
 /// The id that forty digits of either case write.
 #[tactic(auto, unfolding(crate::specs::Ids::id_of))]
-pub(crate) fn id_of(digits: &[u8]) -> Option<ObjectId>
+pub fn id_of(digits: &[u8]) -> Option<ObjectId>
     ensures { result ≡ id_of digits.now }
 {
     match <[u8; 20] as FromHex>::from_hex(digits) {
@@ -21,7 +21,7 @@ pub(crate) fn id_of(digits: &[u8]) -> Option<ObjectId>
 
 /// The id of a line of this word and an id.
 #[tactic(auto, unfolding(crate::specs::Ids::id_line))]
-pub(crate) fn id_line(word: &[u8], line: &[u8]) -> Option<ObjectId>
+pub fn id_line(word: &[u8], line: &[u8]) -> Option<ObjectId>
     ensures { result ≡ id_line word.now line.now }
 {
     let digits = without_lf(line).strip_prefix(word)?;

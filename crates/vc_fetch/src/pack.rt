@@ -37,7 +37,7 @@ pub enum PackReader {
 }
 
 /// Whether the body is in the grammar of the kind, and not over the limit.
-fn is_object(kind: Kind, body: &[u8]) -> bool
+pub fn is_object(kind: Kind, body: &[u8]) -> bool
     ensures { result ≡ is_object (stored_object kind body.now) }
 {
     match check(kind, body) {

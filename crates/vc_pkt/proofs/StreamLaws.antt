@@ -1,4 +1,4 @@
--- What the lines of an object stream give is the set that they spell.
+-- What the lines of an object stream give is what they spell: the objects gathered one by one, or as a set by name.
 use Rattle.std.proofs.Common.{◌≡◌, ℕ, ◌+◌, ◌<◌, ◌≤◌, Bool, true, false, cond, List, [], ◌∷◌, ◌++◌, length, Option, Some, None, Result, Ok, Err, refl, ap, sym, ◌∙◌, subst, arith, append_assoc, length-append, ◌⊎◌, inl, inr, ⊎_elim}
 use Rattle.std.specs.Prelude.{nat_lt}
 use Rattle.std.proofs.lemmas.List.{append-nil}
@@ -9,7 +9,7 @@ use Rattle.vc_pkt.specs.Line.{LineText, flush, text}
 use Rattle.vc_pkt.specs.Message.{Stepped, onward, going, run}
 use Rattle.vc_pkt.specs.ObjectLine.{IsObjectLine, object_line}
 use Rattle.vc_pkt.specs.Carried.{with_object, with_objects}
-use Rattle.vc_pkt.specs.ObjectStream.{IsData, IsStream, SpellsSet, Progress, between, inside, ObjectStepped, going_on, full, over, so_far, begun, SetState, set_stepped, set_step}
+use Rattle.vc_pkt.specs.ObjectStream.{IsData, IsStream, SpellsSet, Progress, between, inside, ObjectStepped, going_on, full, over, so_far, begun, Gathered, gather_stepped, gather_step, gather_all, set_step}
 use Rattle.vc_pkt.specs.declared.fault.PktFault.{PktFault}
 use Rattle.vc_pkt.specs.declared.fault.PktFault.TheVariants.{BadRecord}
 use Rattle.vc_pkt.proofs.ObjectLines.{line_of, line_again}
@@ -58,30 +58,30 @@ nonempty : (d : List ℕ) → (d ≡ []) ⊎ (0 < length d)
 nonempty [] = inl refl
 nonempty (b ∷ d) = inr (omega arith)
 
-module _ (T : StoredObject → Bool) where
-  abbrev pub state : List StoredObject → Progress → SetState
+module _ {A : Type 0} (add : StoredObject → A → A) (T : StoredObject → Bool) where
+  abbrev pub state : A → Progress → Gathered A
   state set progress = record { set = set; progress = progress }
 
-  abbrev pub runs : ℕ → List StoredObject → Progress → List LineText → Result (List StoredObject) PktFault
-  runs number set progress lines = run (set_step T) number (state set progress) lines
+  abbrev pub runs : ℕ → A → Progress → List LineText → Result A PktFault
+  runs number set progress lines = run (gather_step add T) number (state set progress) lines
 
   -- what follows a full object
-  abbrev taken_or : List StoredObject → ℕ → StoredObject → Bool → Result (Stepped SetState (List StoredObject)) PktFault
-  taken_or set first object b = cond b (Ok (onward (state (with_object object set) between))) (Err (BadRecord first))
+  abbrev taken_or : A → ℕ → StoredObject → Bool → Result (Stepped (Gathered A) A) PktFault
+  taken_or set first object b = cond b (Ok (onward (state (add object set) between))) (Err (BadRecord first))
 
   -- what an end without a fault shows of the first step
-  data Goes (set : List StoredObject) (r : Result ObjectStepped PktFault) (k : SetState → Result (List StoredObject) PktFault) (lines : List LineText) (result : List StoredObject) : Type 0 where
+  data Goes (set : A) (r : Result ObjectStepped PktFault) (k : Gathered A → Result A PktFault) (lines : List LineText) (result : A) : Type 0 where
     on : (p : Progress) → r ≡ Ok (going_on p) → k (state set p) ≡ Ok result → Goes set r k lines result
-    filled : (first : ℕ) (object : StoredObject) → r ≡ Ok (full first object) → T object ≡ true → k (state (with_object object set) between) ≡ Ok result → Goes set r k lines result
+    filled : (first : ℕ) (object : StoredObject) → r ≡ Ok (full first object) → T object ≡ true → k (state (add object set) between) ≡ Ok result → Goes set r k lines result
     ended : r ≡ Ok over → lines ≡ [] → result ≡ set → Goes set r k lines result
 
-  full_step : (set : List StoredObject) (first : ℕ) (object : StoredObject) (k : SetState → Result (List StoredObject) PktFault) (lines : List LineText) (number : ℕ) (result : List StoredObject) (b : Bool) → T object ≡ b
-      → going (set_stepped T set (Ok (full first object))) k lines number ≡ Ok result → (b ≡ true) × (k (state (with_object object set) between) ≡ Ok result)
+  full_step : (set : A) (first : ℕ) (object : StoredObject) (k : Gathered A → Result A PktFault) (lines : List LineText) (number : ℕ) (result : A) (b : Bool) → T object ≡ b
+      → going (gather_stepped add T set (Ok (full first object))) k lines number ≡ Ok result → (b ≡ true) × (k (state (add object set) between) ≡ Ok result)
   full_step set first object k lines number result true is e = (refl, ap (λ t. going (taken_or set first object t) k lines number) (sym is) ∙ e)
   full_step set first object k lines number result false is e =
       let h : Err (BadRecord first) ≡ Ok result = ap (λ t. going (taken_or set first object t) k lines number) (sym is) ∙ e in absurd (cc h)
 
-  goes : (set : List StoredObject) (r : Result ObjectStepped PktFault) (k : SetState → Result (List StoredObject) PktFault) (lines : List LineText) (number : ℕ) (result : List StoredObject) → going (set_stepped T set r) k lines number ≡ Ok result → Goes set r k lines result
+  goes : (set : A) (r : Result ObjectStepped PktFault) (k : Gathered A → Result A PktFault) (lines : List LineText) (number : ℕ) (result : A) → going (gather_stepped add T set r) k lines number ≡ Ok result → Goes set r k lines result
   goes set (Err f) k lines number result e = absurd (cc e)
   goes set (Ok (going_on p)) k lines number result e = on p refl e
   goes set (Ok (full first object)) k lines number result e =
@@ -91,7 +91,7 @@ module _ (T : StoredObject → Bool) where
   goes set (Ok over) k (l ∷ ls) number result e = absurd (cc e)
 
   -- the lines behind an object's first bytes: the rest of its body, and then a stream
-  pub record IsRest (set : List StoredObject) (kind : Kind) (size : ℕ) (body : List ℕ) (lines : List LineText) (result : List StoredObject) : Type 0 where
+  pub record IsRest (set : A) (kind : Kind) (size : ℕ) (body : List ℕ) (lines : List LineText) (result : A) : Type 0 where
     pub ls : List LineText
     pub others : List LineText
     pub d : List ℕ
@@ -101,19 +101,19 @@ module _ (T : StoredObject → Bool) where
     pub taken : T (stored_object kind (body ++ d)) ≡ true
     pub stream : IsStream T objects others
     pub whole : lines ≡ ls ++ others
-    pub once : result ≡ with_objects set (stored_object kind (body ++ d) ∷ objects)
+    pub once : result ≡ gather_all add set (stored_object kind (body ++ d) ∷ objects)
 
-  pub record IsNext (set : List StoredObject) (lines : List LineText) (result : List StoredObject) : Type 0 where
+  pub record IsNext (set : A) (lines : List LineText) (result : A) : Type 0 where
     pub objects : List StoredObject
     pub stream : IsStream T objects lines
-    pub once : result ≡ with_objects set objects
+    pub once : result ≡ gather_all add set objects
 
-  abbrev pub Means : List StoredObject → Progress → List LineText → List StoredObject → Type 0
+  abbrev pub Means : A → Progress → List LineText → A → Type 0
   Means set between lines result = IsNext set lines result
   Means set (inside first kind size body) lines result = IsRest set kind size body lines result
 
   -- an object whose first line is there
-  with_line : (set : List StoredObject) (head : List ℕ) (kind : Kind) (size : ℕ) (lines : List LineText) (result : List StoredObject) → object_line head ≡ Some (kind, size) → size ≤ 16777216 → IsRest set kind size [] lines result
+  with_line : (set : A) (head : List ℕ) (kind : Kind) (size : ℕ) (lines : List LineText) (result : A) → object_line head ≡ Some (kind, size) → size ≤ 16777216 → IsRest set kind size [] lines result
       → IsNext set (text head ∷ lines) result
   with_line set head kind size lines result h small r =
       let line : IsObjectLine kind (length r.d) head = subst (λ n. IsObjectLine kind n head) (sym r.sized) (line_of head kind size h small) in
@@ -130,21 +130,21 @@ module _ (T : StoredObject → Bool) where
         once = r.once;
       }
 
-  pub means : (lines : List LineText) (number : ℕ) (set : List StoredObject) (p : Progress) (result : List StoredObject) → runs number set p lines ≡ Ok result → Means set p lines result
-  means [] number set p result e = absurd (cc e)
-  means (flush ∷ lines) number set between result e = elim (goes set (Ok over) (λ t. run (set_step T) (number + 1) t lines) lines (number + 1) result e) [
+  pub gather_means : (lines : List LineText) (number : ℕ) (set : A) (p : Progress) (result : A) → runs number set p lines ≡ Ok result → Means set p lines result
+  gather_means [] number set p result e = absurd (cc e)
+  gather_means (flush ∷ lines) number set between result e = elim (goes set (Ok over) (λ t. run (gather_step add T) (number + 1) t lines) lines (number + 1) result e) [
     | on p r k ↦ absurd (cc r)
     | filled first object r taken k ↦ absurd (cc r)
     | ended r none is ↦ record { objects = []; stream = ap (λ t. flush ∷ t) none; once = is }
   ]
-  means (text head ∷ lines) number set between result e = elim (goes set (begun number (object_line head)) (λ t. run (set_step T) (number + 1) t lines) lines (number + 1) result e) [
+  gather_means (text head ∷ lines) number set between result e = elim (goes set (begun number (object_line head)) (λ t. run (gather_step add T) (number + 1) t lines) lines (number + 1) result e) [
     | on p r k ↦
         let b = begun_ok (object_line head) number (going_on p) r in
         ⊎_elim
         (λ less.
         let at : p ≡ inside number b.0.0 b.0.1 [] = let l = less.1 in cc l in
         let again : runs (number + 1) set (inside number b.0.0 b.0.1 []) lines ≡ Ok result = ap (λ s. runs (number + 1) set s lines) (sym at) ∙ k in
-        with_line set head b.0.0 b.0.1 lines result b.1 b.2 (means lines (number + 1) set (inside number b.0.0 b.0.1 []) result again))
+        with_line set head b.0.0 b.0.1 lines result b.1 b.2 (gather_means lines (number + 1) set (inside number b.0.0 b.0.1 []) result again))
         (λ all. absurd (let l = all.1 in cc l))
         (so_far_ok number b.0.0 b.0.1 [] (going_on p) b.3)
     | filled first object r taken k ↦
@@ -153,21 +153,21 @@ module _ (T : StoredObject → Bool) where
         (λ less. absurd (let l = less.1 in cc l))
         (λ all.
         let at : object ≡ stored_object b.0.0 [] = let l = all.1 in cc l in
-        let next = means lines (number + 1) (with_object object set) between result k in
+        let next = gather_means lines (number + 1) (add object set) between result k in
         with_line set head b.0.0 b.0.1 lines result b.1 b.2
-        (record { ls = []; others = lines; d = []; objects = next.objects; pieces = refl; sized = all.0; taken = ap T (sym at) ∙ taken; stream = next.stream; whole = refl; once = next.once ∙ ap (λ o. with_objects (with_object o set) next.objects) at }))
+        (record { ls = []; others = lines; d = []; objects = next.objects; pieces = refl; sized = all.0; taken = ap T (sym at) ∙ taken; stream = next.stream; whole = refl; once = next.once ∙ ap (λ o. gather_all add (add o set) next.objects) at }))
         (so_far_ok number b.0.0 b.0.1 [] (full first object) b.3)
     | ended r none is ↦ absurd (let b = begun_ok (object_line head) number over r in ⊎_elim (λ l. let q = l.1 in cc q) (λ l. let q = l.1 in cc q) (so_far_ok number b.0.0 b.0.1 [] over b.3))
   ]
-  means (flush ∷ lines) number set (inside first kind size body) result e = absurd (cc e)
-  means (text [] ∷ lines) number set (inside first kind size body) result e = absurd (cc e)
-  means (text (q ∷ qs) ∷ lines) number set (inside first kind size body) result e = elim (goes set (so_far first kind size (body ++ q ∷ qs)) (λ t. run (set_step T) (number + 1) t lines) lines (number + 1) result e) [
+  gather_means (flush ∷ lines) number set (inside first kind size body) result e = absurd (cc e)
+  gather_means (text [] ∷ lines) number set (inside first kind size body) result e = absurd (cc e)
+  gather_means (text (q ∷ qs) ∷ lines) number set (inside first kind size body) result e = elim (goes set (so_far first kind size (body ++ q ∷ qs)) (λ t. run (gather_step add T) (number + 1) t lines) lines (number + 1) result e) [
     | on p r k ↦
         ⊎_elim
         (λ less.
         let at : p ≡ inside first kind size (body ++ q ∷ qs) = let l = less.1 in cc l in
         let again : runs (number + 1) set (inside first kind size (body ++ q ∷ qs)) lines ≡ Ok result = ap (λ s. runs (number + 1) set s lines) (sym at) ∙ k in
-        let m = means lines (number + 1) set (inside first kind size (body ++ q ∷ qs)) result again in
+        let m = gather_means lines (number + 1) set (inside first kind size (body ++ q ∷ qs)) result again in
         let joined : (body ++ q ∷ qs) ++ m.d ≡ body ++ (q ∷ qs ++ m.d) = append_assoc body (q ∷ qs) m.d in
         record {
           ls = text (q ∷ qs) ∷ m.ls;
@@ -179,7 +179,7 @@ module _ (T : StoredObject → Bool) where
           taken = ap (λ b. T (stored_object kind b)) (sym joined) ∙ m.taken;
           stream = m.stream;
           whole = ap (λ t. text (q ∷ qs) ∷ t) m.whole;
-          once = m.once ∙ ap (λ b. with_objects set (stored_object kind b ∷ m.objects)) joined;
+          once = m.once ∙ ap (λ b. gather_all add set (stored_object kind b ∷ m.objects)) joined;
         })
         (λ all. absurd (let l = all.1 in cc l))
         (so_far_ok first kind size (body ++ q ∷ qs) (going_on p) r)
@@ -188,7 +188,7 @@ module _ (T : StoredObject → Bool) where
         (λ less. absurd (let l = less.1 in cc l))
         (λ all.
         let at : object ≡ stored_object kind (body ++ q ∷ qs) = let l = all.1 in cc l in
-        let next = means lines (number + 1) (with_object object set) between result k in
+        let next = gather_means lines (number + 1) (add object set) between result k in
         record {
           ls = text (q ∷ qs) ∷ [];
           others = lines;
@@ -199,20 +199,20 @@ module _ (T : StoredObject → Bool) where
           taken = ap T (sym at) ∙ taken;
           stream = next.stream;
           whole = refl;
-          once = next.once ∙ ap (λ o. with_objects (with_object o set) next.objects) at;
+          once = next.once ∙ ap (λ o. gather_all add (add o set) next.objects) at;
         })
         (so_far_ok first kind size (body ++ q ∷ qs) (full first' object) r)
     | ended r none is ↦ absurd (⊎_elim (λ l. let q = l.1 in cc q) (λ l. let q = l.1 in cc q) (so_far_ok first kind size (body ++ q ∷ qs) over r))
   ]
 
   -- ---- a stream gives its objects
-  taken_step : (set : List StoredObject) (first : ℕ) (object : StoredObject) (k : SetState → Result (List StoredObject) PktFault) (lines : List LineText) (number : ℕ) → T object ≡ true
-      → going (set_stepped T set (Ok (full first object))) k lines number ≡ k (state (with_object object set) between)
+  taken_step : (set : A) (first : ℕ) (object : StoredObject) (k : Gathered A → Result A PktFault) (lines : List LineText) (number : ℕ) → T object ≡ true
+      → going (gather_stepped add T set (Ok (full first object))) k lines number ≡ k (state (add object set) between)
   taken_step set first object k lines number taken = ap (λ t. going (taken_or set first object t) k lines number) taken
 
-  data_runs : (ls : List LineText) (set : List StoredObject) (first : ℕ) (kind : Kind) (size number : ℕ) (body d : List ℕ) (result : List StoredObject) (others : List LineText) → IsData ls d → length (body ++ d) ≡ size → 0 < length d
+  data_runs : (ls : List LineText) (set : A) (first : ℕ) (kind : Kind) (size number : ℕ) (body d : List ℕ) (result : A) (others : List LineText) → IsData ls d → length (body ++ d) ≡ size → 0 < length d
       → T (stored_object kind (body ++ d)) ≡ true
-      → ((n : ℕ) → runs n (with_object (stored_object kind (body ++ d)) set) between others ≡ Ok result) → runs number set (inside first kind size body) (ls ++ others) ≡ Ok result
+      → ((n : ℕ) → runs n (add (stored_object kind (body ++ d)) set) between others ≡ Ok result) → runs number set (inside first kind size body) (ls ++ others) ≡ Ok result
   data_runs [] set first kind size number body d result others h len some taken k = absurd (let z : length d ≡ 0 = ap length h in omega arith)
   data_runs (flush ∷ ls) set first kind size number body d result others h len some taken k = absurd h
   data_runs (text [] ∷ ls) set first kind size number body d result others h len some taken k = absurd (h.0 refl)
@@ -220,29 +220,29 @@ module _ (T : StoredObject → Bool) where
       let next = body ++ q ∷ qs in
       let joined : next ++ rest ≡ body ++ d = append_assoc body (q ∷ qs) rest ∙ ap (λ t. body ++ t) (sym is) in
       let sum : length next + length rest ≡ size = sym (length-append next rest) ∙ ap length joined ∙ len in
-      let K : SetState → Result (List StoredObject) PktFault = λ t. run (set_step T) (number + 1) t (ls ++ others) in
+      let K : Gathered A → Result A PktFault = λ t. run (gather_step add T) (number + 1) t (ls ++ others) in
       ⊎_elim
       (λ none.
       let stop : so_far first kind size next ≡ Ok (full first (stored_object kind next)) = so_far_full first kind size next (let z = ap length none in omega arith) in
       let left : ls ≡ [] = no_data ls (subst (λ r. IsData ls r) none each) in
       let same : next ≡ body ++ d = sym (append-nil next) ∙ ap (λ t. next ++ t) (sym none) ∙ joined in
-      ap (λ r. going (set_stepped T set r) K (ls ++ others) (number + 1)) stop
+      ap (λ r. going (gather_stepped add T set r) K (ls ++ others) (number + 1)) stop
       ∙ taken_step set first (stored_object kind next) K (ls ++ others) (number + 1) (ap (λ b. T (stored_object kind b)) same ∙ taken)
-      ∙ ap (λ t. runs (number + 1) (with_object (stored_object kind next) set) between (t ++ others)) left
-      ∙ ap (λ b. runs (number + 1) (with_object (stored_object kind b) set) between others) same ∙ k (number + 1))
+      ∙ ap (λ t. runs (number + 1) (add (stored_object kind next) set) between (t ++ others)) left
+      ∙ ap (λ b. runs (number + 1) (add (stored_object kind b) set) between others) same ∙ k (number + 1))
       (λ more'.
       let go : so_far first kind size next ≡ Ok (going_on (inside first kind size next)) = so_far_more first kind size next (omega arith) in
-      ap (λ r. going (set_stepped T set r) K (ls ++ others) (number + 1)) go
+      ap (λ r. going (gather_stepped add T set r) K (ls ++ others) (number + 1)) go
       ∙ data_runs ls set first kind size (number + 1) next rest result others each (ap length joined ∙ len) more' (ap (λ b. T (stored_object kind b)) joined ∙ taken)
-      (λ n. ap (λ b. runs n (with_object (stored_object kind b) set) between others) joined ∙ k n))
+      (λ n. ap (λ b. runs n (add (stored_object kind b) set) between others) joined ∙ k n))
       (nonempty rest)
 
-  pub stream_runs : (objects : List StoredObject) (lines : List LineText) (number : ℕ) (set : List StoredObject) → IsStream T objects lines → runs number set between lines ≡ Ok (with_objects set objects)
-  stream_runs [] lines number set h = ap (runs number set between) h
-  stream_runs (object ∷ objects) lines number set (these, others, o, taken, stream, is) =
+  pub gather_runs : (objects : List StoredObject) (lines : List LineText) (number : ℕ) (set : A) → IsStream T objects lines → runs number set between lines ≡ Ok (gather_all add set objects)
+  gather_runs [] lines number set h = ap (runs number set between) h
+  gather_runs (object ∷ objects) lines number set (these, others, o, taken, stream, is) =
       let ls = o.body in
-      let K : SetState → Result (List StoredObject) PktFault = λ t. run (set_step T) (number + 1) t (ls ++ others) in
-      let result = with_objects (with_object object set) objects in
+      let K : Gathered A → Result A PktFault = λ t. run (gather_step add T) (number + 1) t (ls ++ others) in
+      let result = gather_all add (add object set) objects in
       let whole : lines ≡ text o.first ∷ (ls ++ others) = is ∙ ap (λ t. t ++ others) o.whole in
       let first : begun number (object_line o.first) ≡ so_far number object.kind (length object.body) [] =
       ap (begun number) (line_again o.first object.kind (length object.body) o.begins o.small) ∙ begun_fits object.kind (length object.body) number o.small in
@@ -253,24 +253,37 @@ module _ (T : StoredObject → Bool) where
       let stop : so_far number object.kind (length object.body) [] ≡ Ok (full number (stored_object object.kind [])) = so_far_full number object.kind (length object.body) [] size in
       let left : ls ≡ [] = no_data ls (subst (λ r. IsData ls r) none o.pieces) in
       let same : stored_object object.kind [] ≡ object = ap (stored_object object.kind) (sym none) in
-      ap (λ r. going (set_stepped T set r) K (ls ++ others) (number + 1)) (first ∙ stop)
+      ap (λ r. going (gather_stepped add T set r) K (ls ++ others) (number + 1)) (first ∙ stop)
       ∙ taken_step set number (stored_object object.kind []) K (ls ++ others) (number + 1) (ap T same ∙ taken)
-      ∙ ap (λ t. runs (number + 1) (with_object (stored_object object.kind []) set) between (t ++ others)) left
-      ∙ ap (λ s. runs (number + 1) (with_object s set) between others) same
-      ∙ stream_runs objects others (number + 1) (with_object object set) stream)
+      ∙ ap (λ t. runs (number + 1) (add (stored_object object.kind []) set) between (t ++ others)) left
+      ∙ ap (λ s. runs (number + 1) (add s set) between others) same
+      ∙ gather_runs objects others (number + 1) (add object set) stream)
       (λ some.
       let go : so_far number object.kind (length object.body) [] ≡ Ok (going_on (inside number object.kind (length object.body) [])) = so_far_more number object.kind (length object.body) [] some in
-      ap (λ r. going (set_stepped T set r) K (ls ++ others) (number + 1)) (first ∙ go)
+      ap (λ r. going (gather_stepped add T set r) K (ls ++ others) (number + 1)) (first ∙ go)
       ∙ data_runs ls set number object.kind (length object.body) (number + 1) [] object.body result others o.pieces refl some taken
-      (λ n. stream_runs objects others n (with_object object set) stream))
+      (λ n. gather_runs objects others n (add object set) stream))
       (nonempty object.body)
 
+module _ (T : StoredObject → Bool) where
+  as_set : (set : List StoredObject) (os : List StoredObject) → gather_all with_object set os ≡ with_objects set os
+  as_set set [] = refl
+  as_set set (o ∷ os) = as_set (with_object o set) os
+
   -- ---- the set that lines spell
-  pub spells_from : (set result : List StoredObject) (lines : List LineText) → runs 0 set between lines ≡ Ok result → (objects : List StoredObject) × IsStream T objects lines × (result ≡ with_objects set objects)
-  spells_from set result lines e = let m = means lines 0 set between result e in (m.objects, m.stream, m.once)
+  pub record IsSetOf (set : List StoredObject) (lines : List LineText) (result : List StoredObject) : Type 0 where
+    pub objects : List StoredObject
+    pub stream : IsStream T objects lines
+    pub once : result ≡ with_objects set objects
 
-  pub set_spelled : (result : List StoredObject) (lines : List LineText) → runs 0 [] between lines ≡ Ok result → SpellsSet T result lines
-  set_spelled result lines e = let m = means lines 0 [] between result e in record { objects = m.objects; stream = m.stream; once = m.once }
+  pub means : (lines : List LineText) (number : ℕ) (set result : List StoredObject) → run (set_step T) number (record { set = set; progress = between }) lines ≡ Ok result → IsSetOf set lines result
+  means lines number set result e = let m = gather_means with_object T lines number set between result e in record { objects = m.objects; stream = m.stream; once = m.once ∙ as_set set m.objects }
 
-  pub set_given : (result : List StoredObject) (lines : List LineText) → SpellsSet T result lines → runs 0 [] between lines ≡ Ok result
+  pub stream_runs : (objects : List StoredObject) (lines : List LineText) (number : ℕ) (set : List StoredObject) → IsStream T objects lines → run (set_step T) number (record { set = set; progress = between }) lines ≡ Ok (with_objects set objects)
+  stream_runs objects lines number set h = gather_runs with_object T objects lines number set h ∙ ap Ok (as_set set objects)
+
+  pub set_spelled : (result : List StoredObject) (lines : List LineText) → run (set_step T) 0 (record { set = []; progress = between }) lines ≡ Ok result → SpellsSet T result lines
+  set_spelled result lines e = let m = means lines 0 [] result e in record { objects = m.objects; stream = m.stream; once = m.once }
+
+  pub set_given : (result : List StoredObject) (lines : List LineText) → SpellsSet T result lines → run (set_step T) 0 (record { set = []; progress = between }) lines ≡ Ok result
   set_given result lines s = stream_runs s.objects lines 0 [] s.stream ∙ ap Ok (sym s.once)

@@ -83,7 +83,7 @@ object_spelled o small = record {
   whole = refl;
 }
 
-stream_spelled : (T : StoredObject → Bool) (os : List StoredObject) → AllByRecursion (λ o. length o.body ≤ 16777216) os → AllByRecursion (λ o. T o ≡ true) os → IsStream T os (stream_lines os)
+pub stream_spelled : (T : StoredObject → Bool) (os : List StoredObject) → AllByRecursion (λ o. length o.body ≤ 16777216) os → AllByRecursion (λ o. T o ≡ true) os → IsStream T os (stream_lines os)
 stream_spelled T [] small taken = refl
 stream_spelled T (o ∷ os) small taken =
     (object_lines o, stream_lines os, object_spelled o small.0, taken.0, stream_spelled T os small.1 taken.1, append_assoc (object_lines o) (flat_map object_lines os) (flush ∷ []))

@@ -76,21 +76,35 @@ object_step number (inside first kind size body) flush = Err SizeMismatch
 object_step number (inside first kind size body) (text []) = Err (BadRecord number)
 object_step number (inside first kind size body) (text (b ∷ bs)) = so_far first kind size (body ++ b ∷ bs)
 
--- the set so far, and where the stream stands
-pub record SetState : Type 0 where
-  pub set : List StoredObject
+-- what was gathered so far, and where the stream stands
+pub record Gathered (A : Type 0) : Type 0 where
+  pub set : A
   pub progress : Progress
 
-module _ (IsTaken : StoredObject → Bool) where
+-- a stream whose objects are gathered one by one, `add` saying what each adds to those before
+module _ {A : Type 0} (add : StoredObject → A → A) (IsTaken : StoredObject → Bool) where
   -- an object that isn't taken is a fault of its line
-  abbrev pub set_stepped : List StoredObject → Result ObjectStepped PktFault → Result (Stepped SetState (List StoredObject)) PktFault
-  set_stepped set (Err fault) = Err fault
-  set_stepped set (Ok (going_on progress)) = Ok (onward (record { set = set; progress = progress }))
-  set_stepped set (Ok (full first object)) = if IsTaken object then Ok (onward (record { set = with_object object set; progress = between })) else Err (BadRecord first)
-  set_stepped set (Ok over) = Ok (complete set)
+  abbrev pub gather_stepped : A → Result ObjectStepped PktFault → Result (Stepped (Gathered A) A) PktFault
+  gather_stepped set (Err fault) = Err fault
+  gather_stepped set (Ok (going_on progress)) = Ok (onward (record { set = set; progress = progress }))
+  gather_stepped set (Ok (full first object)) = if IsTaken object then Ok (onward (record { set = add object set; progress = between })) else Err (BadRecord first)
+  gather_stepped set (Ok over) = Ok (complete set)
 
-  abbrev pub set_step : Steps SetState (List StoredObject)
-  set_step number s line = set_stepped s.set (object_step number s.progress line)
+  abbrev pub gather_step : Steps (Gathered A) A
+  gather_step number s line = gather_stepped s.set (object_step number s.progress line)
+
+-- what is gathered with these objects too, the first of them first
+abbrev pub gather_all : {A : Type 0} → (StoredObject → A → A) → A → List StoredObject → A
+gather_all add set [] = set
+gather_all add set (o ∷ os) = gather_all add (add o set) os
+
+-- the set so far, and where the stream stands
+abbrev pub SetState : Type 0
+SetState = Gathered (List StoredObject)
+
+-- objects gathered as a set by name
+abbrev pub set_step : (StoredObject → Bool) → Steps SetState (List StoredObject)
+set_step IsTaken = gather_step with_object IsTaken
 
 abbrev pub no_objects : SetState
 no_objects = record { set = []; progress = between }

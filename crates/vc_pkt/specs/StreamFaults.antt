@@ -4,8 +4,9 @@ use Rattle.vc_object.specs.Decoding.{StoredObject}
 use Rattle.vc_object.specs.declared.kind.Kind.{Kind}
 use Rattle.vc_pkt.specs.Line.{LineText, flush, text}
 use Rattle.vc_pkt.specs.Message.{IsOwnFault}
+use Rattle.vc_pkt.specs.Carried.{with_object}
 use Rattle.vc_pkt.specs.ObjectLine.{object_line}
-use Rattle.vc_pkt.specs.ObjectStream.{Progress, between, inside, ObjectStepped, going_on, full, over, so_far, begun, object_step, SetState, set_stepped, set_step}
+use Rattle.vc_pkt.specs.ObjectStream.{Progress, between, inside, ObjectStepped, going_on, full, over, so_far, begun, object_step, Gathered, gather_stepped, gather_step, SetState, set_step}
 use Rattle.vc_pkt.specs.declared.fault.PktFault.{PktFault}
 
 pub either_own : {X : Type 0} (b : Bool) (x y : Result X PktFault) → IsOwnFault x → IsOwnFault y → IsOwnFault (cond b x y)
@@ -26,11 +27,15 @@ object_step_own number (inside first kind size body) flush = tt
 object_step_own number (inside first kind size body) (text []) = tt
 object_step_own number (inside first kind size body) (text (b ∷ bs)) = so_far_own first kind size (body ++ b ∷ bs)
 
-set_stepped_own : (IsTaken : StoredObject → Bool) (set : List StoredObject) (r : Result ObjectStepped PktFault) → IsOwnFault r → IsOwnFault (set_stepped IsTaken set r)
-set_stepped_own IsTaken set (Err fault) own = own
-set_stepped_own IsTaken set (Ok (going_on progress)) own = tt
-set_stepped_own IsTaken set (Ok (full first object)) own = either_own (IsTaken object) _ _ tt tt
-set_stepped_own IsTaken set (Ok over) own = tt
+module _ {A : Type 0} (add : StoredObject → A → A) (IsTaken : StoredObject → Bool) where
+  gather_stepped_own : (set : A) (r : Result ObjectStepped PktFault) → IsOwnFault r → IsOwnFault (gather_stepped add IsTaken set r)
+  gather_stepped_own set (Err fault) own = own
+  gather_stepped_own set (Ok (going_on progress)) own = tt
+  gather_stepped_own set (Ok (full first object)) own = either_own (IsTaken object) _ _ tt tt
+  gather_stepped_own set (Ok over) own = tt
+
+  pub gather_step_own : (number : ℕ) (s : Gathered A) (line : LineText) → IsOwnFault (gather_step add IsTaken number s line)
+  gather_step_own number s line = gather_stepped_own s.set (object_step number s.progress line) (object_step_own number s.progress line)
 
 pub set_step_own : (IsTaken : StoredObject → Bool) (number : ℕ) (s : SetState) (line : LineText) → IsOwnFault (set_step IsTaken number s line)
-set_step_own IsTaken number s line = set_stepped_own IsTaken s.set (object_step number s.progress line) (object_step_own number s.progress line)
+set_step_own IsTaken = gather_step_own with_object IsTaken

@@ -1,5 +1,5 @@
 use Rattle.std.proofs.Common.{rules}
-use Rattle.vc_answer.specs.PackObjects.{objects_in}
+use Rattle.vc_fetch.specs.PackObjects.{objects_in}
 use Rattle.vc_graph.specs.Graph.{ReachedFrom}
 use Rattle.vc_graph.specs.GraphFault.{IsMet}
 use Rattle.vc_graph.specs.Overlay.{with_carried}

@@ -1,7 +1,7 @@
 use Rattle.std.proofs.Common.{rules}
 use Rattle.vc_answer.proofs.AnswerLemmas.{refused_pack}
 use Rattle.vc_answer.specs.AnswerFault.{IsRefusedPack, from_store}
-use Rattle.vc_answer.specs.PackObjects.{objects_in}
+use Rattle.vc_fetch.specs.PackObjects.{objects_in}
 use Rattle.vc_pkt.specs.ObjectStreamView.{carried}
 use Rattle.vc_answer.proofs.judge.judge_pack.Goals as goal
 
