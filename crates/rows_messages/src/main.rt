@@ -7,6 +7,7 @@
 mod answers;
 mod lines;
 mod messages;
+mod pushes;
 mod reading;
 mod spelling;
 mod writing;

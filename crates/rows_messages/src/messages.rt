@@ -69,8 +69,8 @@ fn push_found(out: &mut String, id: Option<ObjectId>) -> Result<(), AllocError> 
     }
 }
 
-// A space and `kind:body` for each object.
-fn push_objects(out: &mut String, objects: &CarriedObjects) -> Result<(), AllocError> {
+/// Tells a space and `kind:body` for each object.
+pub fn push_objects(out: &mut String, objects: &CarriedObjects) -> Result<(), AllocError> {
     for object in objects.by_name.values() {
         out.push(' ')?;
         push_bytes(out, object.kind.word(), "")?;

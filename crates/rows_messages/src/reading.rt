@@ -8,6 +8,7 @@ use vc_fetch::{
     Advert, AdvertReader, Error, ErrorReader, List, ListReader, Pack, PackReader, Want, WantReader,
 };
 use vc_pkt::{Line, ObjectStream, PktError, PktFault, PktReader, Step};
+use vc_push::{Push, PushReader, Report, ReportReader};
 
 // What the message says, or why there is none.
 fn told<R: Telling>(
@@ -85,6 +86,8 @@ fn answer(alloc: Global, kind: &str, bytes: &[u8]) -> Result<String, AllocError>
         "want" => however_cut::<WantReader>(alloc, bytes, Want::read(alloc, bytes)),
         "pack" => however_cut::<PackReader>(alloc, bytes, Pack::read(alloc, bytes)),
         "error" => however_cut::<ErrorReader>(alloc, bytes, Error::read(alloc, bytes)),
+        "push" => however_cut::<PushReader>(alloc, bytes, Push::read(alloc, bytes)),
+        "report" => however_cut::<ReportReader>(alloc, bytes, Report::read(alloc, bytes)),
         "objects" => however_cut::<ObjectStream>(alloc, bytes, ObjectStream::read(alloc, bytes)),
         _ => String::from_str(alloc, "no such message"),
     }

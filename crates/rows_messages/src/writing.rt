@@ -4,6 +4,7 @@ ghost use Rattle.vc_fetch.specs.Advert.{HasShortNames};
 ghost use Rattle.vc_fetch.specs.AdvertView.{advert_text};
 
 use crate::messages::{object_of, objects_of};
+use crate::pushes;
 use crate::spelling::{ids_of, push_bytes, spelled};
 use std::alloc::{AllocError, Global};
 use vc_fetch::{Advert, Error, List, Pack, Want};
@@ -112,6 +113,8 @@ fn written(alloc: Global, kind: &str, words: &str) -> Result<Vec<u8>, AllocError
         "pack" => pack(alloc, words),
         "advert" => advert(alloc, words),
         "error" => error(alloc, words),
+        "push" => pushes::push(alloc, words),
+        "report" => pushes::report(alloc, words),
         _ => Ok(Vec::new(alloc)),
     }
 }
