@@ -1,36 +1,86 @@
 -- A step of a node that was opened, and revisions one after another: for the commands of a clone.
-use Rattle.std.proofs.Common.{◌≡◌, ℕ, ◌+◌, ◌<◌, true, Bool, List, [], ◌∷◌, ◌++◌, length, take, get_or, map, Ok, ◌∙◌, ap, subst, sym, refl}
+use Rattle.std.proofs.Common.{◌≡◌, ℕ, ◌+◌, ◌<◌, true, Bool, List, [], ◌∷◌, ◌++◌, length, take, get_or, map, Ok, Err, ◌∙◌, ap, subst, sym, refl, inl, inr, zero, suc, arith}
 use Rattle.std.proofs.lemmas.List.{map-append, take_more}
 use denote.Ref.{Bor}
-use Rattle.std.specs.Prelude.{Option, Result}
+use Rattle.std.specs.Prelude.{Option, Result, OnErr}
 use Rattle.vc_files.specs.FileMap.{FileMap}
+use Rattle.vc_files.specs.declared.faults.Fault.TheVariants.{Memory}
 use Rattle.vc_model.specs.Clone.{Task}
-use Rattle.vc_node.specs.Machine.{Answers, done_answer, up_after}
-use Rattle.vc_node.specs.Shown.{IsReady}
+use Rattle.vc_model.specs.Clone.Task.{SetBranch}
+use Rattle.vc_model.specs.Node.{Answer}
+use Rattle.vc_node.specs.Commit.{IsCommitted}
+use Rattle.vc_node.specs.Machine.{Answers, AnswersShown, OrBadFile, done_answer, made_answer, up_after}
+use Rattle.vc_node.specs.Shown.{IsReady, shown}
 use Rattle.vc_node.specs.declared.fault.NodeFault.{NodeFault}
 use Rattle.vc_object.specs.declared.id.ObjectId.{ObjectId}
-use Rattle.vc_commands.specs.Revisions.{Denoted}
-use Rattle.vc_commands.specs.Steps.{AreDenoted, CommitsIndex, CommitsOn, SetsBranch, StepsTo, WritesTree}
-use Rattle.vc_index.specs.IndexMap.{IndexMap}
-use Rattle.vc_index.specs.WrittenTrees.{IsWritten}
-use Rattle.vc_repository.specs.IndexFile.{IsIndexOf}
-use Rattle.vc_store.specs.Store.{objects}
+use Rattle.vc_refname.specs.RefName.{IsRefName}
 use Rattle.vc_commands.specs.CloneWords.{branch_ref}
-use Rattle.vc_model.specs.Clone.Task.{SetBranch}
+use Rattle.vc_commands.specs.Revisions.{Denoted, IsOfRevision}
+use Rattle.vc_commands.specs.Steps.{AreDenoted, CommitsIndex, CommitsOn, IsOfCommit, IsOfCommitOn, IsOfRevisions, IsOfSetting, IsOfStep, LeavesAt, MakesCommit, SetsBranch, StepsTo, committing}
+use Rattle.vc_commands.specs.Steps.IsOfCommit.{of_commit}
+use Rattle.vc_commands.specs.Steps.IsOfSetting.{of_step}
+use Rattle.vc_commands.specs.declared.failure.Failure.{Failure}
+use Rattle.vc_commands.specs.declared.failure.Failure.TheVariants.{Fault}
 
--- what a node answered between its opening and its closing is a step
+-- what a node answered between its opening and its closing: by what the answer is, with the node up before, and the files that it gives back
+module _ {T : Type 0} (told : Result T NodeFault → Answer) (task : Task) (r s : Result T NodeFault) (was is : Bool) (between new closed : FileMap) (up : was ≡ true) (after : is ≡ up_after r) (same : r ≡ s) (end : new ≡ closed) where
+  after_call : (P : Result T NodeFault → Bool → Bool → FileMap → Type 0) → P r was is new → P s true (up_after s) closed
+  after_call P h = subst (λ m. P s true (up_after s) m) end (subst (λ q. P q true (up_after q) new) same (subst (λ b. P r true b new) after (subst (λ b. P r b is new) up h)))
+
+  pub answers_of : Answers task (told r) was is between new → Answers task (told s) true (up_after s) between closed
+  answers_of = after_call (λ q b c m. Answers task (told q) b c between m)
+
+  pub bad_file_of : OrBadFile between r (AnswersShown task (told r) was is (shown between) (shown new)) → OrBadFile between s (AnswersShown task (told s) true (up_after s) (shown between) (shown closed))
+  bad_file_of = after_call (λ q b c m. OrBadFile between q (AnswersShown task (told q) b c (shown between) (shown m)))
+
+  pub left_of : OnErr r (LeavesAt task between new) → OnErr s (LeavesAt task between closed)
+  left_of = after_call (λ q _ _ m. OnErr q (LeavesAt task between m))
+
+-- such an answer is a step
 pub step_of : (task : Task) (r s : Result (Unit {0}) NodeFault) (was is : Bool) (old between new closed : FileMap)
     → IsReady old between → was ≡ true → is ≡ up_after r → r ≡ s → new ≡ closed
-    → Answers task (done_answer r) was is between new → StepsTo task s old closed
-step_of task r s was is old between new closed ready up after same end answers =
-    let up_now : Answers task (done_answer r) true is between new = subst (λ b. Answers task (done_answer r) b is between new) up answers in
-    let up_then : Answers task (done_answer r) true (up_after r) between new = subst (λ b. Answers task (done_answer r) true b between new) after up_now in
-    let told : Answers task (done_answer s) true (up_after s) between new = subst (λ q. Answers task (done_answer q) true (up_after q) between new) same up_then in
-    record {
-      between = between;
-      ready = ready;
-      answers = subst (λ m. Answers task (done_answer s) true (up_after s) between m) end told;
-    }
+    → Answers task (done_answer r) was is between new → OrBadFile between r (AnswersShown task (done_answer r) was is (shown between) (shown new)) → OnErr r (LeavesAt task between new)
+    → StepsTo task s old closed
+step_of task r s was is old between new closed ready up after same end answers bad left = record {
+  between = between;
+  ready = ready;
+  answers = answers_of done_answer task r s was is between new closed up after same end answers;
+  bad_file = bad_file_of done_answer task r s was is between new closed up after same end bad;
+  left = left_of done_answer task r s was is between new closed up after same end left;
+}
+
+-- a refused commit is one
+pub refused_of : (task : Task) (r : Result ObjectId NodeFault) (fault : NodeFault) (was is : Bool) (old between new closed : FileMap)
+    → IsReady old between → was ≡ true → is ≡ up_after r → r ≡ Err fault → new ≡ closed
+    → Answers task (made_answer r) was is between new → OrBadFile between r (AnswersShown task (made_answer r) was is (shown between) (shown new)) → OnErr r (LeavesAt task between new)
+    → StepsTo task (Err fault) old closed
+refused_of task r fault was is old between new closed ready up after same end answers bad left = record {
+  between = between;
+  ready = ready;
+  answers = answers_of made_answer task r (Err fault) was is between new closed up after same end answers;
+  bad_file = bad_file_of made_answer task r (Err fault) was is between new closed up after same end bad;
+  left = left_of made_answer task r (Err fault) was is between new closed up after same end left;
+}
+
+-- an answer is no bad file that is told
+none_told : {P : Type 0} {X : Type 0} (content : FileMap) (x : X) → OrBadFile content (Ok x) P → P
+none_told content x (inl told) = absurd told
+none_told content x (inr p) = p
+
+-- a commit that a node answered
+pub made_of : (extra : List ObjectId) (author committer message : List ℕ) (r : Result ObjectId NodeFault) (id : ObjectId) (was is : Bool) (old between new closed : FileMap)
+    → IsReady old between → was ≡ true → is ≡ up_after r → r ≡ Ok id → new ≡ closed
+    → Answers (committing extra author committer message) (made_answer r) was is between new
+    → OrBadFile between r (AnswersShown (committing extra author committer message) (made_answer r) was is (shown between) (shown new))
+    → IsCommitted between extra author committer message id new
+    → MakesCommit old extra author committer message id closed
+made_of extra author committer message r id was is old between new closed ready up after same end answers bad committed = record {
+  between = between;
+  ready = ready;
+  committed = subst (λ m. IsCommitted between extra author committer message id m) end committed;
+  answers = answers_of made_answer (committing extra author committer message) r (Ok id) was is between new closed up after same end answers;
+  answers_shown = none_told between id (bad_file_of made_answer (committing extra author committer message) r (Ok id) was is between new closed up after same end bad);
+}
 
 -- one more revision behind those that were resolved
 pub denoted_next : (content : FileMap) (texts : List (List ℕ)) (ids : List ObjectId) (text : List ℕ) (id : ObjectId)
@@ -49,6 +99,20 @@ named_more content revisions i d lt ids id more before is added =
     let front : map now (take (i + 1) revisions) ≡ map now (take i revisions) ++ (get_or revisions i d).now ∷ [] = ap (map now) (take_more revisions i d lt) ∙ map-append now (take i revisions) (get_or revisions i d ∷ []) in
     let last : AreDenoted content (map now (take i revisions) ++ (get_or revisions i d).now ∷ []) (ids ++ id ∷ []) = denoted_next content (map now (take i revisions)) ids (get_or revisions i d).now id before is in
     subst (λ (texts : List (List ℕ)). AreDenoted content texts more) (sym front) (subst (λ (xs : List ObjectId). AreDenoted content (map now (take i revisions) ++ (get_or revisions i d).now ∷ []) xs) (sym added) last)
+
+-- the first revision that has no value, behind those that were resolved
+pub named_stop : (content : FileMap) (revisions : List (Bor (List ℕ))) (i : ℕ) (d : Bor (List ℕ)) → i < length revisions → (ids : List ObjectId) (e : Failure)
+    → AreDenoted content (map (λ revision. revision.now) (take i revisions)) ids → IsOfRevision content (get_or revisions i d).now e
+    → IsOfRevisions content (map (λ revision. revision.now) revisions) e
+named_stop content [] i d lt ids e are of = let out : ⊥ = omega (arith, lt) in absurd out
+named_stop content (r ∷ revisions) zero d lt ids e are of = inl of
+named_stop content (r ∷ revisions) (suc i) d lt ids e (first, others, one, rest, split) of = inr (first, one, named_stop content revisions i d (let less : i < length revisions = omega (arith, lt) in less) others e rest of)
+
+-- the same where memory runs out behind a value
+pub named_fault : (content : FileMap) (revisions : List (Bor (List ℕ))) (i : ℕ) (d : Bor (List ℕ)) → i < length revisions → (ids : List ObjectId) (id : ObjectId)
+    → AreDenoted content (map (λ revision. revision.now) (take i revisions)) ids → Denoted content (get_or revisions i d).now (Ok id)
+    → IsOfRevisions content (map (λ revision. revision.now) revisions) (Fault Memory)
+named_fault content revisions i d lt ids id are is = named_stop content revisions i d lt ids (Fault Memory) are tt
 
 -- a commit on parents that revisions have
 pub commits_index : (old m new : FileMap) (revisions : List (List ℕ)) (ids extra : List ObjectId) (author committer message : List ℕ) (before after : Option (List ℕ))
@@ -69,17 +133,16 @@ sets_branch old m new name revision branch id same is value step = record {
   step = subst (λ (f : FileMap). StepsTo (SetBranch (branch_ref name) id.0) (Ok tt) f new) same (subst (λ (b : List ℕ). StepsTo (SetBranch b id.0) (Ok tt) m new) is step);
 }
 
--- trees that were written of the index in its file
-pub writes_tree : (honest : Type 0) (old m new : FileMap) (index : IndexMap) (id : ObjectId)
-    → honest → m ≡ old → IsIndexOf old index → IsWritten honest index (objects m) (objects new) id → WritesTree old new id
-writes_tree honest old m new index id h same is w =
-    let written : IsWritten (Unit {0}) index (objects m) (objects new) id = record {
-      lower = w.lower;
-      root = w.root;
-      trees = w.trees;
-      is = w.is;
-      listed = w.listed;
-      fits = w.fits;
-      stored = λ u. w.stored h;
-    } in
-    (index, is, subst (λ (f : FileMap). IsWritten (Unit {0}) index (objects f) (objects new) id) same written)
+-- the same of what refuses it
+pub refuses_index : (old m new : FileMap) (revisions : List (List ℕ)) (ids extra : List ObjectId) (author committer message : List ℕ) (before after : Option (List ℕ)) (e : Failure)
+    → m ≡ old → extra ≡ ids → AreDenoted old revisions ids → IsOfCommitOn m extra author committer message new before after e
+    → IsOfCommit old revisions author committer message new before after e
+refuses_index old m new revisions ids extra author committer message before after e same is named on =
+    of_commit ids named (subst (λ (f : FileMap). IsOfCommitOn f ids author committer message new before after e) same (subst (λ (xs : List ObjectId). IsOfCommitOn m xs author committer message new before after e) is on))
+
+-- and of what refuses a branch that is set
+pub refuses_branch : (old m new : FileMap) (name revision branch : List ℕ) (id : ObjectId) (e : Failure)
+    → m ≡ old → branch ≡ branch_ref name → IsRefName (branch_ref name) → Denoted old revision (Ok id) → IsOfStep (SetBranch branch id.0) m new e
+    → IsOfSetting old name revision new e
+refuses_branch old m new name revision branch id e same is legal value step =
+    of_step id legal value (subst (λ (f : FileMap). IsOfStep (SetBranch (branch_ref name) id.0) f new e) same (subst (λ (b : List ℕ). IsOfStep (SetBranch b id.0) m new e) is step))

@@ -1,37 +1,47 @@
 -- What the commands of a clone do: its files are opened, and a step of the machine follows.
-use Rattle.std.specs.Prelude.{◌≡◌, ◌⊎◌, ℕ, true, List, [], ◌∷◌, Option, Result, Ok, Err}
-use Rattle.std.specs.Io.KnownBytes.{Appends}
-use Rattle.vc_files.specs.FileMap.{FileMap}
+use Rattle.std.specs.Prelude.{◌≡◌, ◌⊎◌, ℕ, true, List, [], ◌∷◌, Option, Result, Ok, Err, OnErr, map, codes}
+use Rattle.std.specs.Io.KnownBytes.{Appends, Keeps}
+use Rattle.vc_files.specs.FileMap.{FileMap, SameOutside}
 use Rattle.vc_index.specs.IndexMap.{IndexMap}
 use Rattle.vc_index.specs.WrittenTrees.{IsOfWrite, IsWritten}
 use Rattle.vc_index.specs.declared.faults.IndexFault.{IndexFault}
 use Rattle.vc_model.specs.Clone.{Task}
-use Rattle.vc_model.specs.Clone.Task.{SetBranch}
+use Rattle.vc_model.specs.Clone.Task.{MakeCommit, SetBranch}
 use Rattle.vc_node.specs.Blames.{BlamesOpen}
 use Rattle.vc_node.specs.Commit.{IsCommitted}
-use Rattle.vc_node.specs.Machine.{Answers, done_answer, up_after}
+use Rattle.vc_node.specs.Machine.{Answers, AnswersShown, OrBadFile, done_answer, made_answer, up_after}
 use Rattle.vc_node.specs.NodeFault.{of_index}
-use Rattle.vc_node.specs.Shown.{IsReady}
+use Rattle.vc_node.specs.Shown.{IsReady, shown}
 use Rattle.vc_node.specs.declared.fault.NodeFault.{NodeFault}
 use Rattle.vc_object.specs.declared.id.ObjectId.{ObjectId}
+use Rattle.vc_refname.specs.RefName.{IsRefName}
 use Rattle.vc_repository.specs.IndexFile.{IsIndexOf, IsOfIndexFile}
 use Rattle.vc_rev.specs.declared.refusal.RevFault.TheVariants as revs
 use Rattle.vc_store.specs.Store.{objects, IsDamaged}
-use Rattle.vc_commands.specs.CloneWords.{branch_ref}
+use Rattle.vc_commands.specs.CloneWords.{IsOfBranch, branch_ref}
+use Rattle.vc_commands.specs.Failure.{IsFault}
 use Rattle.vc_commands.specs.HashObject.{id_line}
-use Rattle.vc_commands.specs.Revisions.{Denoted}
+use Rattle.vc_commands.specs.Revisions.{Denoted, IsOfRevision}
 use Rattle.vc_commands.specs.declared.failure.Failure.{Failure}
 use Rattle.vc_commands.specs.declared.failure.Failure.TheVariants.{Node, Revision}
 
--- the files were opened as a clone's, and then the machine answers the command so
+-- what a refused task leaves: the files as they were, but for objects where it was a commit
+abbrev pub LeavesAt : Task → FileMap → FileMap → Type 0
+LeavesAt (MakeCommit extra author committer message) old new = SameOutside (codes "objects/") old new
+LeavesAt _ old new = new ≡ old
+
+-- the files were opened as a clone's, and then the machine answers the command so; over files of which some are bad, it does
+-- by what they show, or a bad one is told
 pub record StepsTo (task : Task) (answer : Result (Unit {0}) NodeFault) (old new : FileMap) : Type 0 where
   pub between : FileMap
   pub ready : IsReady old between
   pub answers : Answers task (done_answer answer) true (up_after answer) between new
+  pub bad_file : OrBadFile between answer (AnswersShown task (done_answer answer) true (up_after answer) (shown between) (shown new))
+  pub left : OnErr answer (LeavesAt task between new)
 
--- why a command gives no answer: the files are no clone's, or the machine answers so
+-- why a command gives no answer: the files are no clone's, and stay; or the machine answers so
 abbrev pub IsOfStep : Task → FileMap → FileMap → Failure → Type 0
-IsOfStep task old new (Node fault) = BlamesOpen old fault ⊎ StepsTo task (Err fault) old new
+IsOfStep task old new (Node fault) = (BlamesOpen old fault × (new ≡ old)) ⊎ StepsTo task (Err fault) old new
 IsOfStep task old new _ = ⊥
 
 -- the branch of that name is set to what the revision has
@@ -40,9 +50,18 @@ pub record SetsBranch (old : FileMap) (name revision : List ℕ) (new : FileMap)
   pub value : Denoted old revision (Ok id)
   pub step : StepsTo (SetBranch (branch_ref name) id.0) (Ok tt) old new
 
+-- why there is nothing to set: no branch has the name; or one may, and the revision has no value
+abbrev pub IsOfTarget : FileMap → (name revision : List ℕ) → Failure → Type 0
+IsOfTarget old name revision e = IsOfBranch name e ⊎ (IsRefName (branch_ref name) × IsOfRevision old revision e)
+
+-- why a branch isn't set: that leaves the files as they were; or there is what to set, and it is what the step answers
+pub data IsOfSetting (old : FileMap) (name revision : List ℕ) (new : FileMap) (e : Failure) : Type 0 where
+  of_target : IsOfTarget old name revision e → new ≡ old → IsOfSetting old name revision new e
+  of_step : (id : ObjectId) → IsRefName (branch_ref name) → Denoted old revision (Ok id) → IsOfStep (SetBranch (branch_ref name) id.0) old new e → IsOfSetting old name revision new e
+
 -- the trees of the index in its file were written, and the id is that of the root's
-abbrev pub WritesTree : FileMap → FileMap → ObjectId → Type 0
-WritesTree old new id = (index : IndexMap) × IsIndexOf old index × IsWritten (Unit {0}) index (objects old) (objects new) id
+abbrev pub WritesTree : Type 0 → FileMap → FileMap → ObjectId → Type 0
+WritesTree honest old new id = (index : IndexMap) × IsIndexOf old index × IsWritten honest index (objects old) (objects new) id
 
 -- why no tree is written: the file of the index spells none; a tree is refused, or a fault
 abbrev pub IsOfTree : Type 0 → FileMap → FileMap → Failure → Type 0
@@ -56,16 +75,43 @@ AreDenoted content [] ids = ids ≡ []
 AreDenoted content (revision ∷ revisions) ids =
     (id : ObjectId) × (others : List ObjectId) × Denoted content revision (Ok id) × AreDenoted content revisions others × (ids ≡ id ∷ others)
 
--- the files were opened, the index was committed on HEAD with these extra parents, and the commit's id was printed
-pub record CommitsOn (old : FileMap) (extra : List ObjectId) (author committer message : List ℕ) (new : FileMap) (before after : Option (List ℕ)) : Type 0 where
+-- one of the revisions has no value, and those before it have one
+abbrev pub IsOfRevisions : FileMap → List (List ℕ) → Failure → Type 0
+IsOfRevisions content [] e = ⊥
+IsOfRevisions content (revision ∷ revisions) e =
+    IsOfRevision content revision e ⊎ ((id : ObjectId) × Denoted content revision (Ok id) × IsOfRevisions content revisions e)
+
+-- a commit of the index on HEAD, with these extra parents
+abbrev pub committing : List ObjectId → (author committer message : List ℕ) → Task
+committing extra author committer message = MakeCommit (map (λ (id : ObjectId). id.0) extra) author committer message
+
+-- the files were opened, and the index was committed on HEAD with these extra parents: that is the machine's step, and its
+-- answer is the commit's id
+pub record MakesCommit (old : FileMap) (extra : List ObjectId) (author committer message : List ℕ) (id : ObjectId) (new : FileMap) : Type 0 where
   pub between : FileMap
   pub ready : IsReady old between
-  pub id : ObjectId
   pub committed : IsCommitted between extra author committer message id new
+  pub answers : Answers (committing extra author committer message) (made_answer (Ok id)) true true between new
+  pub answers_shown : AnswersShown (committing extra author committer message) (made_answer (Ok id)) true true (shown between) (shown new)
+
+-- the commit was made, and its id printed
+pub record CommitsOn (old : FileMap) (extra : List ObjectId) (author committer message : List ℕ) (new : FileMap) (before after : Option (List ℕ)) : Type 0 where
+  pub id : ObjectId
+  pub made : MakesCommit old extra author committer message id new
   pub text : Appends before after (id_line id)
+
+-- why no commit is told: none was made and nothing printed, or the commit was made and a fault kept its id from being printed
+pub data IsOfCommitOn (old : FileMap) (extra : List ObjectId) (author committer message : List ℕ) (new : FileMap) (before after : Option (List ℕ)) (e : Failure) : Type 0 where
+  of_step : IsOfStep (committing extra author committer message) old new e → Keeps before after → IsOfCommitOn old extra author committer message new before after e
+  untold : (id : ObjectId) → IsFault e → MakesCommit old extra author committer message id new → IsOfCommitOn old extra author committer message new before after e
 
 -- the same, with what revisions have as extra parents
 pub record CommitsIndex (old : FileMap) (revisions : List (List ℕ)) (author committer message : List ℕ) (new : FileMap) (before after : Option (List ℕ)) : Type 0 where
   pub extra : List ObjectId
   pub named : AreDenoted old revisions extra
   pub on : CommitsOn old extra author committer message new before after
+
+-- a revision without a value is told before the files are opened; else it is what the commit on their values answers
+pub data IsOfCommit (old : FileMap) (revisions : List (List ℕ)) (author committer message : List ℕ) (new : FileMap) (before after : Option (List ℕ)) (e : Failure) : Type 0 where
+  of_revisions : IsOfRevisions old revisions e → new ≡ old → Keeps before after → IsOfCommit old revisions author committer message new before after e
+  of_commit : (extra : List ObjectId) → AreDenoted old revisions extra → IsOfCommitOn old extra author committer message new before after e → IsOfCommit old revisions author committer message new before after e

@@ -3,10 +3,11 @@ ghost use Rattle.std.specs.Prelude.{◌≡◌, ◌⊎◌, Some, Ok, IfSome, IfOk
 ghost use Rattle.std.specs.List.{starts_with};
 ghost use Rattle.vc_files.specs.FileMap.{SameOutside};
 ghost use Rattle.vc_model.specs.Clone.Task.{Unstage, SetBranch, DeleteBranch};
+ghost use Rattle.vc_refname.specs.RefName.{IsRefName};
 ghost use Rattle.vc_refs.specs.Refs.{refs};
 ghost use Rattle.vc_commands.specs.CloneWords.{IsOfBranch, branch_ref};
 ghost use Rattle.vc_commands.specs.Revisions.{Denoted, IsOfRevision};
-ghost use Rattle.vc_commands.specs.Steps.{AreDenoted, CommitsIndex, CommitsOn, IsOfStep, IsOfTree, SetsBranch, StepsTo, WritesTree};
+ghost use Rattle.vc_commands.specs.Steps.{AreDenoted, CommitsIndex, CommitsOn, IsOfCommit, IsOfCommitOn, IsOfRevisions, IsOfSetting, IsOfStep, IsOfTarget, IsOfTree, SetsBranch, StepsTo, WritesTree};
 
 use crate::failure::Failure;
 use crate::faults::Faults;
@@ -40,6 +41,7 @@ where
 pub fn branch_of(alloc: Global, name: &str) -> Result<RefName, Failure>
     ensures name { IfOk result (λ branch. branch ≡ branch_ref name.now) }
     ensures refused { IfErr result (IsOfBranch name.now) }
+    ensures legal { OnOk result (IsRefName (branch_ref name.now)) }
     ensures branch { IfOk result (λ branch. starts_with nat_eq branch (codes "refs/heads/") ≡ true) }
 {
     let text = format!(in alloc; "refs/heads/{name}")?;
@@ -89,7 +91,7 @@ where
 
 /// Stores the trees of the index, and answers the name of the root's.
 pub fn write_index<F: Files>(alloc: Global, files: &mut F) -> Result<ObjectId, Failure>
-    ensures written { F.honest → IfOk result (WritesTree (F.content files.old) (F.content files.new)) }
+    ensures written { F.honest → IfOk result (WritesTree F.honest (F.content files.old) (F.content files.new)) }
     ensures refused { F.honest → IfErr result (IsOfTree F.honest (F.content files.old) (F.content files.new)) }
     ensures outside { F.honest → SameOutside (codes "objects/") (F.content files.old) (F.content files.new) }
 {
@@ -129,7 +131,8 @@ where
 }
 
 /// Commits the index, with what these revisions name as extra parents, and prints the name of the commit. The files are
-/// handed back.
+/// handed back. A revision without a value is refused before anything is looked at, and what refuses the commit leaves all but
+/// objects as it was. Where the name can't be printed, that is a fault, and the commit is made.
 pub fn commit_index<F: Files, O: Write>(
     alloc: Global,
     mut files: F,
@@ -138,6 +141,7 @@ pub fn commit_index<F: Files, O: Write>(
     output: &mut O,
 ) -> (F, Result<(), Failure>)
     ensures committed { F.honest → OnOk result.1 (CommitsIndex (F.content files) (map (λ revision. revision.now) revisions.now) words.entry.author.now words.entry.committer.now words.entry.message.now (F.content result.0) (O.contents output.old) (O.contents output.new)) }
+    ensures refused { F.honest → IfErr result.1 (IsOfCommit (F.content files) (map (λ revision. revision.now) revisions.now) words.entry.author.now words.entry.committer.now words.entry.message.now (F.content result.0) (O.contents output.old) (O.contents output.new)) }
 {
     match parents_named(alloc, &mut files, revisions) {
         Ok(parents) => commit_on(alloc, files, words, &parents, output),
@@ -154,6 +158,7 @@ fn commit_on<F: Files, O: Write>(
     output: &mut O,
 ) -> (F, Result<(), Failure>)
     ensures committed { F.honest → OnOk result.1 (CommitsOn (F.content files) parents.now words.entry.author.now words.entry.committer.now words.entry.message.now (F.content result.0) (O.contents output.old) (O.contents output.new)) }
+    ensures refused { F.honest → IfErr result.1 (IsOfCommitOn (F.content files) parents.now words.entry.author.now words.entry.committer.now words.entry.message.now (F.content result.0) (O.contents output.old) (O.contents output.new)) }
 {
     let mut node = match CloneNode::open(alloc, files) {
         Ok(node) => node,
@@ -166,7 +171,7 @@ fn commit_on<F: Files, O: Write>(
     } = words;
     match node.commit(parents, author, committer, message) {
         Ok(id) => (node.close(), print_id(&id, output)),
-        Err(fault) => (node.close(), Err(Failure::Node(fault))),
+        Err(refusal) => (node.close(), Err(Failure::Node(refusal))),
     }
 }
 
@@ -177,6 +182,7 @@ fn parents_named<F: Files>(
     revisions: &[&str],
 ) -> Result<Vec<ObjectId>, Failure>
     ensures named { F.honest → IfOk result (λ ids. AreDenoted (F.content files.old) (map (λ revision. revision.now) revisions.now) ids.items) }
+    ensures refused { F.honest → IfErr result (IsOfRevisions (F.content files.old) (map (λ revision. revision.now) revisions.now)) }
     ensures same { F.content files.new ≡ F.content files.old }
 {
     let mut parents = Vec::new(alloc);
@@ -209,7 +215,8 @@ where
     }
 }
 
-/// Sets a branch to the commit that a revision names, whatever it was. The files are handed back.
+/// Sets a branch to the commit that a revision names, whatever it was. The files are handed back, and where the branch isn't
+/// set, they are as they were, or as opening leaves them.
 pub fn set_branch<F: Files>(
     alloc: Global,
     mut files: F,
@@ -217,6 +224,7 @@ pub fn set_branch<F: Files>(
     revision: &str,
 ) -> (F, Result<(), Failure>)
     ensures set { F.honest → OnOk result.1 (SetsBranch (F.content files) name.now revision.now (F.content result.0)) }
+    ensures refused { F.honest → IfErr result.1 (IsOfSetting (F.content files) name.now revision.now (F.content result.0)) }
 {
     match branch_target(alloc, &mut files, name, revision) {
         Ok((branch, id)) => set_branch_to(alloc, files, &branch, &id),
@@ -234,7 +242,8 @@ fn branch_target<F: Files>(
     ensures name { IfOk result (λ found. found.0 ≡ branch_ref name.now) }
     ensures branch { IfOk result (λ found. starts_with nat_eq found.0 (codes "refs/heads/") ≡ true) }
     ensures id { F.honest → IfOk result (λ found. Denoted (F.content files.old) revision.now (Ok found.1)) }
-    ensures refused { F.honest → IfErr result (λ e. IsOfBranch name.now e ⊎ IsOfRevision (F.content files.old) revision.now e) }
+    ensures legal { OnOk result (IsRefName (branch_ref name.now)) }
+    ensures refused { F.honest → IfErr result (IsOfTarget (F.content files.old) name.now revision.now) }
     ensures same { F.content files.new ≡ F.content files.old }
 {
     let branch = branch_of(alloc, name)?;
@@ -287,7 +296,7 @@ where
 /// Removes a branch. Where there is none, nothing changes. The files are handed back.
 pub fn delete_branch<F: Files>(alloc: Global, files: F, name: &str) -> (F, Result<(), Failure>)
     ensures deleted { F.honest → OnOk result.1 (StepsTo (DeleteBranch (branch_ref name.now)) (Ok tt) (F.content files) (F.content result.0)) }
-    ensures refused { F.honest → IfErr result.1 (λ e. IsOfBranch name.now e ⊎ IsOfStep (DeleteBranch (branch_ref name.now)) (F.content files) (F.content result.0) e) }
+    ensures refused { F.honest → IfErr result.1 (λ e. (IsOfBranch name.now e × (F.content result.0 ≡ F.content files)) ⊎ IsOfStep (DeleteBranch (branch_ref name.now)) (F.content files) (F.content result.0) e) }
 {
     let branch = match branch_of(alloc, name) {
         Ok(branch) => branch,
@@ -312,8 +321,8 @@ fn branch_value<F: Files>(
     ensures value { F.honest → IfOk result (λ found. IfSome found (λ id. refs (F.content files.old) (branch_ref name.now) ≡ Some id)) }
     ensures same { F.content files.new ≡ F.content files.old }
 {
-    let branch = branch_of(alloc, name)?;
-    match Refs::new(alloc, files).get(&branch) {
+    let full_name = branch_of(alloc, name)?;
+    match Refs::new(alloc, files).get(&full_name) {
         Ok(found) => Ok(found),
         Err(RefFault::Fault(fault)) => Err(Failure::Fault(fault)),
         Err(_) => Ok(None),

@@ -1,18 +1,33 @@
-use Rattle.std.proofs.Common.{ap, sym, subst}
-use Rattle.vc_files.specs.FileMap.{FileMap}
-use Rattle.vc_node.specs.Commit.{IsCommitted}
+use Rattle.std.proofs.Common.{ap, sym, inr}
+use Rattle.std.proofs.KnownBytes.{Keeps-refl}
+use Rattle.std.proofs.lemmas.Result.{IfErr-weaker}
 use Rattle.vc_commands.proofs.BodyLemmas.{OnOk-map}
+use Rattle.vc_commands.proofs.StepLemmas.{made_of, refused_of}
+use Rattle.vc_commands.specs.Failure.{IsFault}
+use Rattle.vc_commands.specs.Steps.{IsOfCommitOn, MakesCommit, committing}
+use Rattle.vc_commands.specs.Steps.IsOfCommitOn.{of_step, untold}
 use Rattle.vc_commands.proofs.clone.commit_on.Goals as goal
 
 pub returns-in-Ok-commit : goal.returns-in-Ok-commit
-returns-in-Ok-commit g c = record {
-  committed = λ honest.
-      let content = g.F.Files.content in
-      OnOk-map c.print_id.result (λ line. record {
-        between = content c.in-Ok.node.files;
-        ready = c.in-Ok.ensures.ready honest;
-        id = c.in-Ok-commit.id;
-        committed = subst (λ (m : FileMap). IsCommitted (content c.in-Ok.node.files) c.args.parents.now c.args.words.author.now c.args.words.committer.now c.args.words.message.now c.in-Ok-commit.id m) (ap content (sym c.close.ensures)) (c.in-Ok-commit.ensures.committed honest);
-        text = line;
-      }) c.print_id.ensures.line;
-}
+returns-in-Ok-commit g c =
+    let content = g.F.Files.content in
+    let contents = g.O.Write.contents in
+    let made : g.F.Files.honest → MakesCommit (content c.args.files) c.args.parents.now c.args.words.author.now c.args.words.committer.now c.args.words.message.now c.in-Ok-commit.id (content c.close.result) = λ honest. made_of c.args.parents.now c.args.words.author.now c.args.words.committer.now c.args.words.message.now c.commit.result c.in-Ok-commit.id c.in-Ok.node.is_up c.commit.new.self.is_up
+    (content c.args.files) (content c.in-Ok.node.files) (content c.commit.new.self.files) (content c.close.result)
+    (c.in-Ok.ensures.ready honest) c.in-Ok.ensures.up (c.commit.ensures.up c.in-Ok.ensures.up) c.in-Ok-commit.is (ap content (sym c.close.ensures))
+    (c.commit.ensures.answers honest) (c.commit.ensures.bad_file honest) (c.in-Ok-commit.ensures.committed honest) in
+    record {
+      committed = λ honest. OnOk-map c.print_id.result (λ line. record { id = c.in-Ok-commit.id; made = made honest; text = line }) c.print_id.ensures.line;
+      refused = λ honest. IfErr-weaker c.print_id.result IsFault
+          (IsOfCommitOn (content c.args.files) c.args.parents.now c.args.words.author.now c.args.words.committer.now c.args.words.message.now (content c.close.result) (contents c.args.output.now) (contents c.print_id.new.output))
+          (λ e fault. untold c.in-Ok-commit.id fault (made honest)) c.print_id.ensures.fault;
+    }
+
+pub returns-in-Err-commit-clause-refused : goal.returns-in-Err-commit-clause-refused
+returns-in-Err-commit-clause-refused g c = λ honest.
+    let content = g.F.Files.content in
+    of_step (inr (refused_of (committing c.args.parents.now c.args.words.author.now c.args.words.committer.now c.args.words.message.now) c.commit.result c.in-Err-commit.refusal c.in-Ok.node.is_up c.commit.new.self.is_up
+    (content c.args.files) (content c.in-Ok.node.files) (content c.commit.new.self.files) (content c.close-in-Err-commit.result)
+    (c.in-Ok.ensures.ready honest) c.in-Ok.ensures.up (c.commit.ensures.up c.in-Ok.ensures.up) c.in-Err-commit.is (ap content (sym c.close-in-Err-commit.ensures))
+    (c.commit.ensures.answers honest) (c.commit.ensures.bad_file honest) (c.commit.ensures.err honest)))
+    (Keeps-refl (g.O.Write.contents c.args.output.now))

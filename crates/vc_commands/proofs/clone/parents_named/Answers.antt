@@ -1,6 +1,10 @@
-use Rattle.std.proofs.Common.{◌≡◌, ◌∙◌, ap, take, length, arith}
+use Rattle.std.proofs.Common.{◌≡◌, ◌∙◌, ap, map, take, length, arith}
 use Rattle.std.proofs.Math.Seq.{take-length}
-use Rattle.vc_commands.proofs.StepLemmas.{named_more}
+use Rattle.vc_files.specs.declared.faults.Fault.TheVariants.{Memory}
+use Rattle.vc_commands.specs.Steps.{IsOfRevisions}
+use Rattle.vc_commands.specs.declared.failure.Failure.TheVariants.{Fault}
+use Rattle.vc_commands.proofs.AddLemmas.{handed_on}
+use Rattle.vc_commands.proofs.StepLemmas.{named_fault, named_more, named_stop}
 use Rattle.vc_commands.proofs.clone.parents_named.Goals as goal
 
 pub loop-revision-preserved : goal.loop-revision-preserved
@@ -19,3 +23,19 @@ returns-clause-named g c =
 
 pub returns-in_err-id-clause-same : goal.returns-in_err-id-clause-same
 returns-in_err-id-clause-same g c = c.in_err-id.ensures.same ∙ c.loop-revision.invariant.same
+
+pub returns-in_err-id-clause-refused : goal.returns-in_err-id-clause-refused
+returns-in_err-id-clause-refused g c = λ honest.
+    let i = c.loop-revision.invariant in
+    let content = g.F.Files.content in
+    let failure = c.in_err-id.field-0.0 in
+    handed_on (IsOfRevisions (content c.args.files.now) (map (λ revision. revision.now) c.args.revisions.now)) failure c.from_residual.result c.from_residual.ensures.1
+    (named_stop (content c.args.files.now) c.args.revisions.now c.loop-revision.revision-index _ c.loop-revision-test.true c.loop-revision.parents.items failure (i.named honest) (rw i.same at (c.in_err-id.ensures.refused honest)))
+
+pub returns-in_err-push-clause-refused : goal.returns-in_err-push-clause-refused
+returns-in_err-push-clause-refused g c = λ honest.
+    let i = c.loop-revision.invariant in
+    let content = g.F.Files.content in
+    let value = rw i.same at c.in_ok-id.ensures.value in
+    handed_on (IsOfRevisions (content c.args.files.now) (map (λ revision. revision.now) c.args.revisions.now)) (Fault Memory) c.from_residual-in_err-push.result c.from_residual-in_err-push.ensures.1
+    (named_fault (content c.args.files.now) c.args.revisions.now c.loop-revision.revision-index _ c.loop-revision-test.true c.loop-revision.parents.items c.in_ok-id.id (i.named honest) (value honest))
