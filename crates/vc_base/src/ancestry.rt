@@ -1,12 +1,13 @@
-//! Whether one commit descends from another.
+//! Whether one commit descends from another, and whether a history is one of commits alone.
 ghost use Rattle.std.specs.Prelude.{◌≡◌, ◌↔◌, ◌∷◌, [], IsSome, IsTrue, IfOk, IfErr, IsErrOf, not};
 ghost use Rattle.vc_base.specs.BaseFault.{IsTold};
 ghost use Rattle.vc_base.specs.History.{IsAncestor};
 ghost use Rattle.vc_files.specs.Failures.{Wears};
-ghost use Rattle.vc_graph.specs.Graph.{IsClosed};
+ghost use Rattle.vc_graph.specs.Graph.{IsClosed, ReachedFrom};
+ghost use Rattle.vc_graph.specs.GraphFault.{IsMet};
 ghost use Rattle.vc_object.specs.ObjectMap.{parents_in};
 
-use crate::walk::Walk;
+use crate::walk::{Walk, read_history};
 use crate::{BaseFault, Commits};
 use std::alloc::Global;
 use vc_files::Fault;
@@ -40,5 +41,28 @@ pub fn is_ancestor<C: Commits>(
     match walk.other {
         Some(id) => Err(BaseFault::NotACommit(id)),
         None => Ok(false),
+    }
+}
+
+/// Whether the root is a commit that is there, and every name that parent links lead to from it is one. The whole history
+/// is read, each commit once.
+pub fn is_history<C: Commits>(
+    alloc: Global,
+    commits: &mut C,
+    root: &ObjectId,
+) -> Result<bool, StoreFault>
+    ensures history { IfOk result (λ yes. C.is_honest → IsTrue yes ↔ IsClosed (parents_in (C.objects (C.state_of commits.old))) root.now) }
+    ensures refused { IfErr result (λ e. C.is_honest → IsMet (ReachedFrom (parents_in (C.objects (C.state_of commits.old))) (root.now ∷ [])) (C.damaged (C.state_of commits.old)) e) }
+
+    ensures kept { C.state_of commits.new ≡ C.state_of commits.old }
+    ensures wear { Wears C.failed C.can_fail C.left commits.old commits.new (IsErrOf result (StoreFault.Fault Fault.Device)) }
+{
+    let Err(told) = read_history(alloc, commits, &[*root]) else {
+        return Ok(true);
+    };
+    match told {
+        BaseFault::Missing(_) => Ok(false),
+        BaseFault::NotACommit(_) => Ok(false),
+        BaseFault::Store(fault) => Err(fault),
     }
 }

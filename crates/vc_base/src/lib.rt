@@ -5,12 +5,13 @@
 mod ancestry;
 mod bases;
 mod fault;
+mod overlay;
 mod selection;
 mod source;
 mod store;
 mod walk;
 
-pub use ancestry::is_ancestor;
+pub use ancestry::{is_ancestor, is_history};
 pub use bases::{common_ancestors, merge_bases};
 pub use fault::BaseFault;
 pub use selection::commits;
