@@ -1,0 +1,119 @@
+//! The verdict on one command at the check.
+ghost use Rattle.std.specs.Prelude.{◌≡◌, ◌⊎◌, ◌∷◌, [], true, None, IfOk, IfErr, IsErrOf};
+ghost use Rattle.vc_files.specs.Failures.{Wears};
+ghost use Rattle.vc_format.specs.Git.{git_is_legal};
+ghost use Rattle.vc_graph.specs.Graph.{IsClosed, ReachedFrom};
+ghost use Rattle.vc_graph.specs.GraphFault.{IsMet};
+ghost use Rattle.vc_object.specs.ObjectMap.{links_in, parents_in};
+ghost use Rattle.vc_push.specs.PushView.{command_of};
+ghost use Rattle.vc_session.specs.Verdict.{CheckNeeds, IsVerdict, IsVerdictAtCheck, MayBeSet, history_reasons, is_branch, is_inside, own_reason};
+
+use std::alloc::Global;
+use vc_base::{BaseFault, Commits, is_ancestor, is_history};
+use vc_files::Fault;
+use vc_graph::is_complete;
+use vc_object::ObjectId;
+use vc_push::{Command, Reason};
+use vc_refname::RefName;
+use vc_store::StoreFault;
+
+// The bytes of the name of a branch, at most: the name by which a clone tracks it is nine bytes longer.
+const MAX_BRANCH: usize = 246;
+
+// Whether it names a branch.
+fn is_branch(name: &[u8]) -> bool
+    ensures { result ≡ is_branch name.now }
+{
+    name.starts_with(b"refs/heads/")
+}
+
+// Whether it names a branch or a tag.
+fn is_inside(name: &[u8]) -> bool
+    ensures { result ≡ is_inside name.now }
+{
+    is_branch(name) || name.starts_with(b"refs/tags/")
+}
+
+/// Whether a ref of the shared repository may have the name: UTF-8, no rule broken, and short enough to be tracked.
+pub fn is_legal(name: &[u8]) -> bool
+    ensures { result ≡ git_is_legal name.now }
+{
+    let Ok(text) = str::from_utf8(name) else {
+        return false;
+    };
+    if RefName::check(text).is_err() {
+        return false;
+    }
+    !is_branch(name) || name.len() <= MAX_BRANCH
+}
+
+// The first reason that the command alone gives: 100, 101 or 102.
+fn own_reason(command: &Command) -> Option<Reason>
+    ensures { result ≡ own_reason (command_of command.now) }
+{
+    if !is_legal(&command.name) {
+        return Some(Reason::BadName);
+    }
+    if !is_inside(&command.name) {
+        return Some(Reason::OutsideRefs);
+    }
+    if command.new == ObjectId::ZERO {
+        return Some(Reason::DeletionProhibited);
+    }
+    None
+}
+
+// The first reason that the history of a branch's new value gives: 104 or 105.
+fn history_reason<C: Commits>(
+    alloc: Global,
+    commits: &mut C,
+    command: &Command,
+) -> Result<Option<Reason>, StoreFault>
+    ensures verdict { IfOk result (λ found. C.is_honest → IsVerdict (CheckNeeds (C.objects (C.state_of commits.old)) (command_of command.now)) history_reasons found) }
+    ensures refused { IfErr result (λ e. C.is_honest → IsMet (ReachedFrom (parents_in (C.objects (C.state_of commits.old))) (command.now.new ∷ [])) (C.damaged (C.state_of commits.old)) e) }
+    ensures kept { C.state_of commits.new ≡ C.state_of commits.old }
+    ensures wear { Wears C.failed C.can_fail C.left commits.old commits.new (IsErrOf result (StoreFault.Fault Fault.Device)) }
+{
+    if !is_branch(&command.name) {
+        return Ok(None);
+    }
+    if !is_history(alloc, commits, &command.new)? {
+        return Ok(Some(Reason::NotACommit));
+    }
+    if command.old == ObjectId::ZERO {
+        return Ok(None);
+    }
+    match is_ancestor(alloc, commits, &command.old, &command.new) {
+        Ok(true) => Ok(None),
+        Ok(false) => Ok(Some(Reason::NonFastForward)),
+        // Its history was just read, and is whole.
+        Err(BaseFault::Missing(_)) => Ok(Some(Reason::NotACommit)),
+        Err(BaseFault::NotACommit(_)) => Ok(Some(Reason::NotACommit)),
+        Err(BaseFault::Store(fault)) => Err(fault),
+    }
+}
+
+/// The first of the reasons 100 to 105 for which a command is refused at its check, over the objects that are stored or
+/// carried at this moment; none where it passes. Nothing is changed. Every object that the new id reaches is read once, of a
+/// branch every commit of its history once more, and those down to the old id a third time.
+pub fn judge<C: Commits>(
+    alloc: Global,
+    commits: &mut C,
+    command: &Command,
+) -> Result<Option<Reason>, StoreFault>
+    ensures verdict { IfOk result (λ found. C.is_honest → IsVerdictAtCheck (C.objects (C.state_of commits.old)) (command_of command.now) found) }
+    ensures legal { IfOk result (λ found. found ≡ None → MayBeSet command.now.name.items) }
+    ensures refused { IfErr result (λ e. C.is_honest → IsMet (λ id. ReachedFrom (links_in (C.objects (C.state_of commits.old))) (command.now.new ∷ []) id ⊎ ReachedFrom (parents_in (C.objects (C.state_of commits.old))) (command.now.new ∷ []) id) (C.damaged (C.state_of commits.old)) e) }
+
+    ensures kept { C.state_of commits.new ≡ C.state_of commits.old }
+    ensures wear { Wears C.failed C.can_fail C.left commits.old commits.new (IsErrOf result (StoreFault.Fault Fault.Device)) }
+{
+    if let Some(reason) = own_reason(command) {
+        return Ok(Some(reason));
+    }
+    if !is_complete(alloc, commits, &command.new)? {
+        return Ok(Some(Reason::MissingObjects));
+    }
+    let found = history_reason(alloc, commits, command)?;
+    Ok(found)
+}
