@@ -1,4 +1,4 @@
--- The message Push: commands that change refs, a flush, and the objects that they need (git-receive-pack).
+-- The message Push: commands that change refs, a flush, and the objects that they need (gitprotocol-pack).
 use Rattle.std.specs.Prelude.{◌≡◌, ◌≤◌, ◌<◌, ◌++◌, ℕ, Bool, true, false, not, nat_lt, List, [], ◌∷◌, length, map, codes, replicate, find, Option, Some, None, Result, Ok, Err, if◌then◌else◌}
 use Rattle.std.specs.List.{AllByRecursion, list_all}
 use Rattle.hex.specs.Hex.{encode_lower}

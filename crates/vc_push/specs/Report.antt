@@ -1,5 +1,6 @@
--- The message Report: whether what a push carried was taken, and for each command whether it was accepted (git-receive-pack,
--- report-status-v2). Own: form, place and use of the line `option new-oid`.
+-- The message Report: whether what a push carried was taken, and for each command whether it was accepted (gitprotocol-pack,
+-- report-status-v2).
+-- own: form, place and use of the line `option new-oid`
 use Rattle.std.specs.Prelude.{◌≡◌, ◌≢◌, ◌≤◌, ◌++◌, ◌+◌, ℕ, nat_lt, List, [], ◌∷◌, length, codes, decimal, unwrap_or, Option, Some, None, Result, Ok, Err, if◌then◌else◌}
 use Rattle.std.specs.List.{AllByRecursion, flat_map}
 use Rattle.std.specs.Str.{bytes_eq}
