@@ -131,8 +131,8 @@ where
 }
 
 /// Commits the index, with what these revisions name as extra parents, and prints the name of the commit. The files are
-/// handed back. A revision without a value is refused before anything is looked at, and what refuses the commit leaves all but
-/// objects as it was. Where the name can't be printed, that is a fault, and the commit is made.
+/// handed back. A revision without a value is refused before anything is written; what else refuses the commit leaves the
+/// files as opening leaves them, but for objects. Where the name can't be printed, that is a fault, and the commit is made.
 pub fn commit_index<F: Files, O: Write>(
     alloc: Global,
     mut files: F,
@@ -215,8 +215,9 @@ where
     }
 }
 
-/// Sets a branch to the commit that a revision names, whatever it was. The files are handed back, and where the branch isn't
-/// set, they are as they were, or as opening leaves them.
+/// Sets a branch to the commit that a revision names, whatever it was: a name that no branch may have is refused before a
+/// revision without a value. The files are handed back, and where the branch isn't set, they are as they were, or as opening
+/// leaves them.
 pub fn set_branch<F: Files>(
     alloc: Global,
     mut files: F,
