@@ -1,21 +1,24 @@
 //! Rows on what objects reach, and on ancestry.
 use crate::answers::{Answer, id_or_none, listed, yes_or_no};
 use crate::ids::{Shown, ids_of};
+use crate::verdict_rows;
 use anyhow::bail;
 use std::alloc::Global;
-use vc_base::{BaseFault, Commits, commits, common_ancestors, is_ancestor, merge_bases};
+use vc_base::{
+    BaseFault, Commits, commits, common_ancestors, is_ancestor, is_history, merge_bases,
+};
 use vc_graph::{GraphFault, Objects, closure, difference, first_incomplete, is_complete};
 use vc_object::ObjectId;
 
 // The ids of a row, and behind the word `without` those that are excluded.
 #[derive(Drop)]
-pub struct Sides {
+struct Sides {
     include: Vec<ObjectId>,
     exclude: Vec<ObjectId>,
 }
 
 impl Sides {
-    pub fn new(alloc: Global, text: &str) -> anyhow::Result<Sides> {
+    fn new(alloc: Global, text: &str) -> anyhow::Result<Sides> {
         let (include, exclude) = text.split_once("without ").unwrap_or((text, ""));
         Ok(Sides {
             include: ids_of(alloc, include)?,
@@ -30,10 +33,14 @@ impl Sides {
 }
 
 pub fn obey_commits<C: Commits>(source: &mut C, alloc: Global, verb: &str, rest: &str) -> Answer {
+    if verb == "verdict" {
+        return verdict_rows::obey(source, alloc, rest);
+    }
     let sides = Sides::new(alloc, rest)?;
     let (a, b) = (sides.at(0), sides.at(1));
     let found = match verb {
         "ancestor" => return yes_or_no(alloc, told_base(is_ancestor(alloc, source, &a, &b))?),
+        "history" => return yes_or_no(alloc, is_history(alloc, source, &a)?),
         "bases" => merge_bases(alloc, source, &a, &b),
         "common" => common_ancestors(alloc, source, &a, &b),
         "commits" => commits(alloc, source, &sides.include, &sides.exclude),
@@ -42,7 +49,7 @@ pub fn obey_commits<C: Commits>(source: &mut C, alloc: Global, verb: &str, rest:
     listed(alloc, &told_base(found)?)
 }
 
-pub fn obey<O: Objects>(source: &mut O, alloc: Global, verb: &str, sides: &Sides) -> Answer {
+fn obey<O: Objects>(source: &mut O, alloc: Global, verb: &str, sides: &Sides) -> Answer {
     let found = match verb {
         "closure" => closure(alloc, source, &sides.include),
         "difference" => difference(alloc, source, &sides.include, &sides.exclude),

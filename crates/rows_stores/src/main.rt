@@ -13,6 +13,7 @@ mod raw;
 mod recorder;
 mod ref_rows;
 mod tables;
+mod verdict_rows;
 
 use crate::answers::{Answer, word};
 use crate::devices::Device;

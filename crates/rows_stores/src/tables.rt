@@ -3,7 +3,7 @@ ghost use Rattle.std.specs.Prelude.{None};
 ghost use Rattle.vc_files.specs.Failures.{unstopped};
 
 use crate::answers::{Answer, done};
-use crate::graph_rows::{self, Sides};
+use crate::graph_rows;
 use crate::ids::{bytes_of, id_of, ids_of, lettered, numbered, two};
 use anyhow::bail;
 use indexmap::IndexMap;
@@ -146,14 +146,13 @@ impl Drawn {
         if self.carried.is_empty() {
             return graph_rows::obey_commits(&mut self.table, self.alloc, verb, rest);
         }
-        let sides = Sides::new(self.alloc, rest)?;
         let carried = lent(self.alloc, &self.carried)?;
         let mut objects = Overlay {
             stored: &mut self.table,
             carried: &carried,
             alloc: self.alloc,
         };
-        graph_rows::obey(&mut objects, self.alloc, verb, &sides)
+        graph_rows::obey_commits(&mut objects, self.alloc, verb, rest)
     }
 
     // Adds so many layers of so many commits, each of which has all of the layer below as its parents: the one that was
@@ -184,14 +183,19 @@ impl Drawn {
     }
 }
 
-// The trees that are carried, by name.
+// The trees and commits that are carried, by name.
 fn lent(
     alloc: Global,
     carried: &[(ObjectId, Vec<u8>)],
 ) -> anyhow::Result<IndexMap<ObjectId, Object<'_>>> {
     let mut objects = IndexMap::new(alloc);
     for (id, body) in carried {
-        match check(Kind::Tree, body) {
+        let kind = if body.starts_with(b"tree ") {
+            Kind::Commit
+        } else {
+            Kind::Tree
+        };
+        match check(kind, body) {
             Ok(object) => objects.insert(*id, object)?,
             Err(fault) => bail!("{fault}"),
         };

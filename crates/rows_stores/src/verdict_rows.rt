@@ -1,0 +1,26 @@
+//! Rows on the verdict on a command of a push.
+use crate::answers::{Answer, word};
+use crate::ids::{bytes_of, id_in, two};
+use bstr::ByteSlice;
+use std::alloc::Global;
+use vc_base::Commits;
+use vc_object::ObjectId;
+use vc_push::Command;
+use vc_session::judge;
+
+/// A row has the old id, the new one and the name; `-` stands for no value. The answer is the number of the reason for which
+/// the command is refused, and its text, or that it passes.
+pub fn obey<C: Commits>(commits: &mut C, alloc: Global, rest: &str) -> Answer {
+    let (old, rest) = two(rest);
+    let (new, name) = two(rest);
+    let command = Command {
+        old: id_in(alloc, old)?.unwrap_or(ObjectId::ZERO),
+        new: id_in(alloc, new)?.unwrap_or(ObjectId::ZERO),
+        name: bytes_of(alloc, name)?,
+    };
+    let Some(reason) = judge(alloc, commits, &command)? else {
+        return word(alloc, "passes");
+    };
+    let text = reason.text().as_bstr();
+    Ok(format!(in alloc; "{} {text}", reason.number())?)
+}
