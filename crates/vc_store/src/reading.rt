@@ -11,8 +11,8 @@ use std::alloc::Global;
 use vc_files::{Fault, Files};
 use vc_object::{Object, ObjectId};
 
-// The object that a file's bytes give to the name.
-fn judge<'a>(id: &ObjectId, bytes: &'a [u8]) -> Result<Object<'a>, StoreFault>
+/// The object that the bytes of a file give to the name: 12 where they are none, or one of another name.
+pub fn object_in<'a>(id: &ObjectId, bytes: &'a [u8]) -> Result<Object<'a>, StoreFault>
     ensures found { IfOk result (λ o. stored_in id.now (Some bytes.now) ≡ Ok (stored_object o.kind o.body.now)) }
     ensures refused { IfErr result (λ e. (e ≡ StoreFault.Damaged id.now) × (stored_in id.now (Some bytes.now) ≡ Err e)) }
 {
@@ -58,7 +58,7 @@ pub fn get<F: Files>(files: &mut F, alloc: Global, id: &ObjectId) -> Result<Stor
     let Some(bytes) = read_file(files, alloc, id)? else {
         return Err(StoreFault::Absent(*id));
     };
-    let object = judge(id, &bytes)?;
+    let object = object_in(id, &bytes)?;
     let body = object.body.to_vec(alloc)?;
     Ok(Stored {
         kind: object.kind,
@@ -99,6 +99,6 @@ pub fn has<F: Files>(files: &mut F, alloc: Global, id: &ObjectId) -> Result<bool
     let Some(bytes) = read_file(files, alloc, id)? else {
         return Ok(false);
     };
-    judge(id, &bytes)?;
+    object_in(id, &bytes)?;
     Ok(true)
 }
