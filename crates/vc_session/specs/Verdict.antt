@@ -1,5 +1,6 @@
 -- The verdict on a command: the first reason whose cause holds at its moment (git-receive-pack with denyNonFastForwards and
--- denyDeletes; the order, the bound on a branch's name, and the rules on tags are this project's own).
+-- denyDeletes).
+-- own: the order of the causes, the bound on a branch's name, that a ref is a branch or a tag, and what is asked of tags.
 use Rattle.std.specs.Prelude.{◌≡◌, ◌⊎◌, ℕ, Bool, true, false, ◌||◌, nat_eq, List, [], ◌∷◌, codes, is_some, Option, Some, None, if◌then◌else◌}
 use Rattle.std.specs.List.{AllByRecursion, starts_with}
 use Rattle.vc_base.specs.History.{IsAncestor}
