@@ -1,2 +1,4 @@
 pub mod JudgeLemmas
 pub mod NameLemmas
+pub mod QuarantineLemmas
+pub mod SeenLemmas

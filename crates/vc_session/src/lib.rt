@@ -1,6 +1,11 @@
-//! The verdict on a push: for which reason a command is refused, if for any.
+//! The verdict on a push: for which reason a command is refused, if for any; and where what a push carries stands until it is
+//! stored.
 #![tactic(auto)]
 
 mod judging;
+mod quarantine;
+mod seen;
 
 pub use judging::{is_legal, judge};
+pub use quarantine::{drop_quarantine, find_in_quarantine, put_in_quarantine};
+pub use seen::PushObjects;

@@ -1,0 +1,22 @@
+use Rattle.std.proofs.Common.{rules, ◌≡◌}
+use Rattle.std.specs.FinMap as files
+use Rattle.vc_object.specs.Object.{object_bytes}
+use Rattle.vc_session.specs.Quarantine.{quarantine_path}
+use Rattle.vc_session.proofs.QuarantineLemmas.{outside_put_there, quarantined-put}
+use Rattle.vc_session.proofs.quarantine.put_in_quarantine.Goals as goal
+
+pub returns-clause-objects : goal.returns-clause-objects
+returns-clause-objects g c = λ honest q.
+    let content = g.F.Files.content in
+    let id = c.name_of-id.result in
+    let object = c.args.object.now in
+    let made : content c.put.new.self ≡ files.insert (content c.args.files.now) (quarantine_path c.args.slot id.0) (object_bytes object.kind object.body.now) = search (rules, c.in_ok-put.ensures.ok honest) in
+    rw made (quarantined-put (content c.args.files.now) c.args.slot id object.kind object.body.now (search rules) (search rules) (search rules) q)
+
+pub returns-clause-outside : goal.returns-clause-outside
+returns-clause-outside g c = λ honest.
+    let content = g.F.Files.content in
+    let id = c.name_of-id.result in
+    let object = c.args.object.now in
+    let made : content c.put.new.self ≡ files.insert (content c.args.files.now) (quarantine_path c.args.slot id.0) (object_bytes object.kind object.body.now) = search (rules, c.in_ok-put.ensures.ok honest) in
+    rw made (outside_put_there (content c.args.files.now) c.args.slot id.0 (object_bytes object.kind object.body.now))
