@@ -2,3 +2,5 @@ pub mod JudgeLemmas
 pub mod NameLemmas
 pub mod QuarantineLemmas
 pub mod SeenLemmas
+pub mod UpdateLemmas
+pub mod MigratingLemmas

@@ -162,3 +162,10 @@ taken_outside old now slot items i listed t = record {
       let no : is_among path front ≡ false = first_no _ _ (sym (list_any-append (eq_by_cmp (slice_cmp nat_cmp) path) front back) ∙ none) in
       t.at path ∙ ap (λ b. cond b None (files.get old path)) no;
 }
+
+not_stored : (slot : ℕ) (name : List ℕ) → starts_with nat_eq (quarantine_path slot name) (codes "objects/") ≡ false
+not_stored slot name = refl
+
+-- what changes stored objects alone keeps the quarantine
+pub quarantined-same : (old now : FileMap) (slot : ℕ) → SameOutside (codes "objects/") old now → (q : ObjectId) → quarantined now slot q ≡ quarantined old slot q
+quarantined-same old now slot same q = same_at old now slot q (λ _. same.at (quarantine_path slot q.0) (not_stored slot q.0))

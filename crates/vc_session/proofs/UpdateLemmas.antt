@@ -1,0 +1,123 @@
+-- The verdict on a command at its update, from what its ref's files are.
+use Rattle.std.proofs.Common.{◌≡◌, ℕ, Bool, true, false, cond, subst, ◌&&◌, ◌||◌, nat_eq, List, [], ◌∷◌, ◌++◌, inl, inr, Option, Some, None, is_some, sym, ap, refl, ◌∙◌, true≢false}
+use Rattle.std.specs.Prelude.{codes, Result, Err, IfOk, IfErr, IsErrOf}
+use Rattle.std.specs.List.{starts_with}
+use Rattle.std.proofs.lemmas.Bool.{and_from, and_parts, false_from_ne_true}
+use Rattle.vc_files.specs.FileMap.{FileMap}
+use Rattle.vc_object.specs.declared.id.ObjectId.{ObjectId}
+use Rattle.vc_push.specs.Push.{CommandText}
+use Rattle.vc_push.specs.declared.reason.Reason.TheVariants.{AlreadyExists, NameConflict, Stale}
+use Rattle.vc_refs.proofs.RefsLemmas.{taken_from_ref}
+use Rattle.vc_files.specs.declared.faults.Fault.TheVariants.{Device}
+use Rattle.vc_refs.specs.RefFault.{BlamesSet, IsStale, MaySet}
+use Rattle.vc_refs.specs.declared.faults.RefFault.{RefFault}
+use Rattle.vc_refs.specs.declared.faults.RefFault.TheVariants as fault
+use Rattle.vc_refs.specs.Refs.{refs}
+use Rattle.vc_refs.specs.Way.{IsFirstInTheWay, IsFree}
+use Rattle.vc_session.specs.Updating.{BlamesUpdate, reason_of}
+use Rattle.vc_session.specs.Verdict.{refs_after, IsVerdictAtUpdate, MayBeSet, UpdateNeeds, expected, is_branch, is_tag}
+
+shorter : (xs front back : List ℕ) → starts_with nat_eq xs (front ++ back) ≡ true → starts_with nat_eq xs front ≡ true
+shorter [] [] back h = refl
+shorter (x ∷ xs) [] back h = refl
+shorter [] (b ∷ front) back h = h
+shorter (x ∷ xs) (b ∷ front) back h =
+    let parts = and_parts (nat_eq b x) (starts_with nat_eq xs (front ++ back)) h in
+    and_from (nat_eq b x) (starts_with nat_eq xs front) parts.0 (shorter xs front back parts.1)
+
+in_refs : (name : List ℕ) (branch : Bool) → is_branch name ≡ branch → (branch || is_tag name) ≡ true → starts_with nat_eq name (codes "refs/") ≡ true
+in_refs name true is inside = shorter name (codes "refs/") (codes "heads/") is
+in_refs name false is inside = shorter name (codes "refs/") (codes "tags/") inside
+
+-- a branch or a tag lies in `refs/`
+pub may_in_refs : (name : List ℕ) → MayBeSet name → starts_with nat_eq name (codes "refs/") ≡ true
+may_in_refs name may = in_refs name (is_branch name) refl may.inside
+
+none_there : (o : Option ObjectId) → is_some o ≡ true → o ≡ None → ⊥
+none_there None some none = true≢false (sym some)
+none_there (Some id) some none = cc none
+
+not_there : (tag : Bool) (o : Option ObjectId) → (tag && is_some o) ≡ false → tag ≡ true → o ≡ None
+not_there true None h is = refl
+not_there true (Some id) h is = absurd (true≢false h)
+not_there false o h is = absurd (true≢false (sym is))
+
+module _ (content : FileMap) (c : CommandText) where
+  pub stands : (is_tag c.name && is_some (refs content c.name)) ≡ true → IsVerdictAtUpdate (refs content) c (Some AlreadyExists)
+  stands h =
+      let parts = and_parts (is_tag c.name) (is_some (refs content c.name)) h in
+      inl ((λ needs. none_there (refs content c.name) parts.1 (needs parts.0)), refl)
+
+  module _ (no_tag : (is_tag c.name && is_some (refs content c.name)) ≡ false) where
+    absent : UpdateNeeds (refs content) c AlreadyExists
+    absent = not_there (is_tag c.name) (refs content c.name) no_tag
+
+    pub in_the_way : (other : List ℕ) → IsFirstInTheWay content c.name other → is_some (refs content other) ≡ true → IsVerdictAtUpdate (refs content) c (Some NameConflict)
+    in_the_way other first some = inr (absent, inl ((λ needs. true≢false (sym first.here.conflict ∙ needs other some)), refl))
+
+    free : IsFree content c.name → UpdateNeeds (refs content) c NameConflict
+    free is = λ other some. false_from_ne_true _ (λ conflict. is other (record { taken = taken_from_ref content other some; conflict = conflict }))
+
+    pub stale : (current : Option ObjectId) → IsFree content c.name → IsStale content c.name (expected c.old) current → IsVerdictAtUpdate (refs content) c (Some Stale)
+    stale current is s = inr (absent, inr (free is, inl ((λ needs. s.other (sym s.is ∙ needs)), refl)))
+
+    pub passes : MaySet content c.name (expected c.old) → IsVerdictAtUpdate (refs content) c None
+    passes may = (absent, (free may.free, (may.value.current, tt)))
+
+    -- what refuses the value of the ref gives the verdict
+    pub refused_verdict : (e : RefFault) → BlamesSet content c.name (expected c.old) e → IfOk (reason_of e) (IsVerdictAtUpdate (refs content) c)
+    refused_verdict (fault.Stale current) b = stale current b.0 b.1
+    refused_verdict (fault.Conflict other) b = in_the_way other b.0 b.1
+    refused_verdict (fault.BadRefFile path) b = tt
+    refused_verdict fault.HeadLoop b = tt
+    refused_verdict (fault.Fault f) b = tt
+
+  pub refused_blames : (e : RefFault) → BlamesSet content c.name (expected c.old) e → IfErr (reason_of e) (BlamesUpdate content c.name)
+  refused_blames (fault.Stale current) b = tt
+  refused_blames (fault.Conflict other) b = tt
+  refused_blames (fault.BadRefFile path) b = (b.0, elim b.1 [ inl first ↦ inl first | inr own ↦ inr own.0 ])
+  refused_blames fault.HeadLoop b = b
+  refused_blames (fault.Fault f) b = tt
+
+  -- and the ref stays
+  pub refused_refs : (now : FileMap) (e : RefFault) → now ≡ content → IfOk (reason_of e) (λ found. refs now ≡ refs_after (refs content) c found)
+  refused_refs now (fault.Stale current) same = ap refs same
+  refused_refs now (fault.Conflict other) same = ap refs same
+  refused_refs now (fault.BadRefFile path) same = tt
+  refused_refs now fault.HeadLoop same = tt
+  refused_refs now (fault.Fault f) same = tt
+
+-- a refusal is no pass
+pub refused_no_pass : (P : Type 0) (e : RefFault) → IfOk (reason_of e) (λ found. found ≡ None → P)
+refused_no_pass P (fault.Stale current) = λ h. absurd (cc h)
+refused_no_pass P (fault.Conflict other) = λ h. absurd (cc h)
+refused_no_pass P (fault.BadRefFile path) = tt
+refused_no_pass P fault.HeadLoop = tt
+refused_no_pass P (fault.Fault f) = tt
+
+pub device_told : (T : Type 0) (e : RefFault) → ◌≡◌ {A = Result T RefFault} (Err e) (Err (fault.Fault Device)) → IsErrOf (reason_of e) (fault.Fault Device)
+device_told T (fault.Stale current) h = absurd (cc h)
+device_told T (fault.Conflict other) h = absurd (cc h)
+device_told T (fault.BadRefFile path) h = absurd (cc h)
+device_told T fault.HeadLoop h = absurd (cc h)
+device_told T (fault.Fault f) h =
+    let same : f ≡ Device = cc in
+    ap (λ x. Err (fault.Fault x)) same
+
+pub device_meant : (T : Type 0) (e : RefFault) → IsErrOf (reason_of e) (fault.Fault Device) → ◌≡◌ {A = Result T RefFault} (Err e) (Err (fault.Fault Device))
+device_meant T (fault.Stale current) h = absurd (cc h)
+device_meant T (fault.Conflict other) h = absurd (cc h)
+device_meant T (fault.BadRefFile path) h = absurd (cc h)
+device_meant T fault.HeadLoop h = absurd (cc h)
+device_meant T (fault.Fault f) h =
+    let same : f ≡ Device = cc in
+    ap (λ x. Err (fault.Fault x)) same
+
+-- ---- what is said of the same files, name and value
+pub only_name : (b : Bool) (n m : List ℕ) → ◌≡◌ {A = Option (List ℕ)} (Some m) (cond b (Some n) None) → m ≡ n
+only_name true n m h = cc
+only_name false n m h = absurd (cc h)
+
+pub moved : (P : FileMap → List ℕ → Option ObjectId → Type 0) {m k : FileMap} {n l : List ℕ} {e f : Option ObjectId} → m ≡ k → n ≡ l → e ≡ f → P m n e → P k l f
+moved P {m = m} {k = k} {n = n} {l = l} {e = e} {f = f} files name value h =
+    subst (λ (x : Option ObjectId). P k l x) value (subst (λ (x : List ℕ). P k x e) name (subst (λ (x : FileMap). P x n e) files h))

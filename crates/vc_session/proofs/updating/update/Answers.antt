@@ -1,0 +1,71 @@
+use Rattle.std.proofs.Common.{rules, ◌≡◌, ◌&&◌, ℕ, List, Option, None, Result, false, is_some, sym, refl, ◌∙◌, subst}
+use Rattle.std.specs.Prelude.{IfOk, IfErr, IsErrOf}
+use Rattle.std.specs.Str.{is_utf8}
+use Rattle.vc_files.proofs.WearLemmas.{wears_then, wears_writes, writes_told}
+use Rattle.vc_files.specs.Failures.{Writes}
+use Rattle.vc_files.specs.declared.faults.Fault.TheVariants.{Device}
+use Rattle.vc_push.specs.PushView.{command_of}
+use Rattle.vc_push.specs.declared.reason.Reason.{Reason}
+use Rattle.vc_refname.specs.RefName.{is_ref_name}
+use Rattle.vc_refs.specs.Head.{KeepsTheRest}
+use Rattle.vc_refs.specs.RefFault.{BlamesSet, MaySet}
+use Rattle.vc_refs.specs.Refs.{refs}
+use Rattle.vc_refs.specs.declared.faults.RefFault.{RefFault}
+use Rattle.vc_refs.specs.declared.faults.RefFault.TheVariants.{Fault}
+use Rattle.vc_session.specs.Updating.{BlamesUpdate}
+use Rattle.vc_session.specs.Verdict.{IsVerdictAtUpdate, is_tag}
+use Rattle.vc_session.proofs.UpdateLemmas.{device_meant, device_told, moved, only_name, passes, refused_blames, refused_verdict}
+use Rattle.vc_session.proofs.updating.update.Goals as goal
+
+pub returns-in_err-is_standing_tag-clause-wear : goal.returns-in_err-is_standing_tag-clause-wear
+returns-in_err-is_standing_tag-clause-wear g c = writes_told (wears_writes c.in_err-is_standing_tag.ensures.wear (λ _. c.in_err-is_standing_tag.ensures.same)) (search rules) (search rules)
+
+pub returns-then-branch-clause-wear : goal.returns-then-branch-clause-wear
+returns-then-branch-clause-wear g c = writes_told (wears_writes c.in_ok-is_standing_tag.ensures.wear (λ _. c.in_ok-is_standing_tag.ensures.same)) (search rules) (search rules)
+
+pub returns-in-Ok-clause-verdict : goal.returns-in-Ok-clause-verdict
+returns-in-Ok-clause-verdict g c = λ honest may.
+    let content = g.F.Files.content in
+    let command = command_of c.args.command.now in
+    let named : c.in-Some.name ≡ command.name = only_name (is_utf8 c.deref.result.now && is_ref_name c.deref.result.now) c.deref.result.now c.in-Some.name (sym c.in-Some.is ∙ c.in_ok-name.ensures) ∙ c.deref.ensures.value in
+    let standing : false ≡ (is_tag c.in-Some.name && is_some (refs (content c.args.files.now) c.in-Some.name)) = search (rules, c.in_ok-is_standing_tag.ensures.standing honest, c.if-branch.false) in
+    let no_tag : (is_tag command.name && is_some (refs (content c.args.files.now) command.name)) ≡ false = subst (λ (n : List ℕ). (is_tag n && is_some (refs (content c.args.files.now) n)) ≡ false) named (sym standing) in
+    passes (content c.args.files.now) command no_tag (moved MaySet c.in_ok-is_standing_tag.ensures.same named c.expected-expected.ensures (c.in-Ok.ensures.allowed honest))
+
+pub returns-in-Ok-clause-allowed : goal.returns-in-Ok-clause-allowed
+returns-in-Ok-clause-allowed g c = λ honest none.
+    let named : c.in-Some.name ≡ c.args.command.now.name.items = only_name (is_utf8 c.deref.result.now && is_ref_name c.deref.result.now) c.deref.result.now c.in-Some.name (sym c.in-Some.is ∙ c.in_ok-name.ensures) ∙ c.deref.ensures.value in
+    moved MaySet c.in_ok-is_standing_tag.ensures.same named c.expected-expected.ensures (c.in-Ok.ensures.allowed honest)
+
+pub returns-in-Ok-clause-rest : goal.returns-in-Ok-clause-rest
+returns-in-Ok-clause-rest g c = λ honest.
+    let content = g.F.Files.content in
+    let named : c.in-Some.name ≡ c.args.command.now.name.items = only_name (is_utf8 c.deref.result.now && is_ref_name c.deref.result.now) c.deref.result.now c.in-Some.name (sym c.in-Some.is ∙ c.in_ok-name.ensures) ∙ c.deref.ensures.value in
+    moved (λ files name value. KeepsTheRest name files (content c.set.new.files)) {e = None} c.in_ok-is_standing_tag.ensures.same named refl (c.in-Ok.ensures.rest honest)
+
+pub returns-in-Ok-clause-wear : goal.returns-in-Ok-clause-wear
+returns-in-Ok-clause-wear g c = wears_then c.in_ok-is_standing_tag.ensures.wear (λ _. c.in_ok-is_standing_tag.ensures.same) (search rules) (writes_told c.in-Ok.ensures.wear (search rules) (search rules))
+
+pub returns-clause-verdict : goal.returns-clause-verdict
+returns-clause-verdict g c = λ honest may.
+    let content = g.F.Files.content in
+    let command = command_of c.args.command.now in
+    let named : c.in-Some.name ≡ command.name = only_name (is_utf8 c.deref.result.now && is_ref_name c.deref.result.now) c.deref.result.now c.in-Some.name (sym c.in-Some.is ∙ c.in_ok-name.ensures) ∙ c.deref.ensures.value in
+    let standing : false ≡ (is_tag c.in-Some.name && is_some (refs (content c.args.files.now) c.in-Some.name)) = search (rules, c.in_ok-is_standing_tag.ensures.standing honest, c.if-branch.false) in
+    let no_tag : (is_tag command.name && is_some (refs (content c.args.files.now) command.name)) ≡ false = subst (λ (n : List ℕ). (is_tag n && is_some (refs (content c.args.files.now) n)) ≡ false) named (sym standing) in
+    let blames = moved (λ files name value. BlamesSet files name value c.in-Err.fault) c.in_ok-is_standing_tag.ensures.same named c.expected-expected.ensures (c.in-Err.ensures.refused honest) in
+    subst (λ (r : Result (Option Reason) RefFault). IfOk r (IsVerdictAtUpdate (refs (content c.args.files.now)) command)) (sym c.reason_of.ensures) (refused_verdict (content c.args.files.now) command no_tag c.in-Err.fault blames)
+
+pub returns-clause-refused : goal.returns-clause-refused
+returns-clause-refused g c = λ honest.
+    let content = g.F.Files.content in
+    let command = command_of c.args.command.now in
+    let named : c.in-Some.name ≡ command.name = only_name (is_utf8 c.deref.result.now && is_ref_name c.deref.result.now) c.deref.result.now c.in-Some.name (sym c.in-Some.is ∙ c.in_ok-name.ensures) ∙ c.deref.ensures.value in
+    let blames = moved (λ files name value. BlamesSet files name value c.in-Err.fault) c.in_ok-is_standing_tag.ensures.same named c.expected-expected.ensures (c.in-Err.ensures.refused honest) in
+    subst (λ (r : Result (Option Reason) RefFault). IfErr r (BlamesUpdate (content c.args.files.now) command.name)) (sym c.reason_of.ensures) (refused_blames (content c.args.files.now) command c.in-Err.fault blames)
+
+pub returns-clause-wear : goal.returns-clause-wear
+returns-clause-wear g c =
+    wears_then c.in_ok-is_standing_tag.ensures.wear (λ _. c.in_ok-is_standing_tag.ensures.same) (search rules)
+    (subst (λ (r : Result (Option Reason) RefFault). Writes g.F.Files.honest g.F.Files.content g.F.Files.failed g.F.Files.can_fail g.F.Files.left c.is_standing_tag.new.files c.set.new.files (IsErrOf r (Fault Device))) (sym c.reason_of.ensures)
+    (writes_told c.in-Err.ensures.wear (device_told (Unit {0}) c.in-Err.fault) (device_meant (Unit {0}) c.in-Err.fault)))

@@ -1,0 +1,25 @@
+-- What stands against an update: a reason that the push is told, or a fault of the node's own files.
+use Rattle.std.specs.Prelude.{◌≡◌, ◌⊎◌, ⊤, ℕ, List, Option, Some, Result, Ok, Err, string_bytes}
+use Rattle.vc_files.specs.FileMap.{FileMap}
+use Rattle.vc_push.specs.declared.reason.Reason.{Reason}
+use Rattle.vc_push.specs.declared.reason.Reason.TheVariants as reason
+use Rattle.vc_refs.specs.Refs.{IsBadRef}
+use Rattle.vc_refs.specs.Way.{IsFirstInTheWay}
+use Rattle.vc_refs.specs.declared.faults.RefFault.{RefFault}
+use Rattle.vc_refs.specs.declared.faults.RefFault.TheVariants.{Stale, Conflict, BadRefFile, HeadLoop, Fault}
+
+-- a file in `refs/` that stands for no ref: the ref's own, or the first that stands in its way
+abbrev pub BlamesUpdate : FileMap → List ℕ → RefFault → Type 0
+BlamesUpdate content name (Stale current) = ⊥
+BlamesUpdate content name (Conflict other) = ⊥
+BlamesUpdate content name (BadRefFile path) = IsBadRef content (string_bytes path) × (IsFirstInTheWay content name (string_bytes path) ⊎ (string_bytes path ≡ name))
+BlamesUpdate content name HeadLoop = ⊥
+BlamesUpdate content name (Fault fault) = ⊤
+
+-- a ref in the way and another value are the push's matter, and the rest is not
+abbrev pub reason_of : RefFault → Result (Option Reason) RefFault
+reason_of (Stale current) = Ok (Some reason.Stale)
+reason_of (Conflict other) = Ok (Some reason.NameConflict)
+reason_of (BadRefFile path) = Err (BadRefFile path)
+reason_of HeadLoop = Err HeadLoop
+reason_of (Fault fault) = Err (Fault fault)
