@@ -1,6 +1,6 @@
--- What a checkout brings, and what it leaves.
-use Rattle.std.specs.Prelude.{◌≡◌, ℕ, List, [], ◌∷◌, ◌++◌, Ok, MatchOption, codes, false}
-use Rattle.std.specs.FinMap.{get}
+-- What a checkout brings, what it leaves, and why it is refused.
+use Rattle.std.specs.Prelude.{◌≡◌, ◌⊎◌, ℕ, List, [], ◌∷◌, ◌++◌, ⊤, Ok, MatchOption, codes, true, false}
+use Rattle.std.specs.FinMap.{get, insert}
 use Rattle.hex.specs.Hex.{encode_lower}
 use Rattle.vc_files.specs.FileMap.{FileMap}
 use Rattle.vc_object.specs.Kind.{word}
@@ -9,75 +9,180 @@ use Rattle.vc_object.specs.declared.id.ObjectId.{ObjectId}
 use Rattle.vc_object.specs.declared.kind.Kind.{Kind}
 use Rattle.vc_object.specs.declared.kind.Kind.TheVariants as kinds
 use Rattle.vc_object.specs.declared.mode.Mode.{Mode}
-use Rattle.vc_refs.specs.Refs.{refs}
+use Rattle.vc_refs.specs.RefFault.{BlamesHead, BlamesRef, IsGoodHead}
+use Rattle.vc_refs.specs.RefMap.{is_ref}
+use Rattle.vc_refs.specs.Refs.{IsBadRef, refs}
 use Rattle.vc_refs.specs.declared.heads.Head.{Head}
 use Rattle.vc_refs.specs.declared.heads.Head.TheVariants as heads
-use Rattle.vc_store.specs.Store.{objects, HasFile}
+use Rattle.vc_store.specs.Store.{objects}
 use Rattle.vc_index.specs.IndexMap.{IndexMap, IsIndex}
 use Rattle.vc_index.specs.IndexText.{index_text}
 use Rattle.vc_index.specs.TreeFiles.{IsFileOfTree}
 use Rattle.vc_index.specs.TreeReading.{ReadsAs}
 use Rattle.vc_checkout.specs.CheckedOut.{IsCheckedOut}
+use Rattle.vc_checkout.specs.CheckoutFault.{IsAgainst}
+use Rattle.vc_checkout.specs.Refusal.{IsRefused}
+use Rattle.vc_checkout.specs.declared.faults.CheckoutFault.{CheckoutFault}
 use Rattle.vc_work_folder.specs.Own.{meets_own}
-use Rattle.vc_rev.specs.Source.{Source, source}
-use Rattle.vc_rev.specs.Value.{HasValue}
-use Rattle.vc_repository.specs.State.{names_in, state}
-use Rattle.vc_node.specs.Blames.{MayHead}
-use Rattle.vc_node.specs.IndexFile.{SpellsIndex}
+use Rattle.vc_node.specs.Blames.{BlamesHead as BlamesNewHead, BlamesLoad, MayHead}
+use Rattle.vc_node.specs.IndexFile.{BlamesIndex, SpellsIndex}
 use Rattle.vc_node.specs.Shown.{shown, with_head_shown, with_index_shown}
+use Rattle.vc_node.specs.declared.fault.NodeFault.TheVariants.{BadPath}
 use Rattle.vc_commands.specs.CloneWords.{branch_ref}
-
--- refs, HEAD, objects and an index, as revisions are resolved over them
-abbrev pub source_of : FileMap → IndexMap → Source
-source_of content index = source (names_in (state 0 content index)) (objects content) (HasFile content)
-
--- the text is a revision that has this value
-abbrev pub IsValue : FileMap → IndexMap → List ℕ → ObjectId → Type 0
-IsValue content index text id = HasValue (source_of content index) text (Ok id)
+use Rattle.vc_commands.specs.Failure.{of_checkout, status_of}
+use Rattle.vc_commands.specs.Revisions.{Denoted, IsOfRevision}
+use Rattle.vc_commands.specs.declared.failure.Failure.{Failure}
+use Rattle.vc_commands.specs.declared.failure.Failure.TheVariants.{Node, Refs, Fault}
 
 -- the text of an id, peeled to this kind
 abbrev pub peeled : ObjectId → Kind → List ℕ
 peeled id kind = encode_lower id.0 ++ (codes "^{" ++ (word kind ++ 125 ∷ []))
 
 -- the commit of an object, and the tree of that commit
-pub record IsCommitTree (content : FileMap) (index : IndexMap) (named commit root : ObjectId) : Type 0 where
-  pub commit_is : IsValue content index (peeled named kinds.Commit) commit
-  pub root_is : IsValue content index (peeled commit kinds.Tree) root
+pub record IsCommitTree (content : FileMap) (named commit root : ObjectId) : Type 0 where
+  pub commit_is : Denoted content (peeled named kinds.Commit) (Ok commit)
+  pub root_is : Denoted content (peeled commit kinds.Tree) (Ok root)
 
 -- of a revision that is no branch's name: HEAD is its commit
-pub record IsDetached (content : FileMap) (index : IndexMap) (revision : List ℕ) (head : Head) (root : ObjectId) : Type 0 where
+pub record IsDetached (content : FileMap) (revision : List ℕ) (head : Head) (root : ObjectId) : Type 0 where
   pub named : ObjectId
   pub commit : ObjectId
-  pub named_is : IsValue content index revision named
-  pub tree : IsCommitTree content index named commit root
+  pub named_is : Denoted content revision (Ok named)
+  pub tree : IsCommitTree content named commit root
   pub head_is : head ≡ heads.Id commit
 
 -- of the name of a branch that has this value: HEAD is the branch, whatever else has the name
-pub record IsOnBranch (content : FileMap) (index : IndexMap) (revision : List ℕ) (head : Head) (root named : ObjectId) : Type 0 where
+pub record IsOnBranch (content : FileMap) (revision : List ℕ) (head : Head) (root named : ObjectId) : Type 0 where
   pub commit : ObjectId
-  pub tree : IsCommitTree content index named commit root
+  pub tree : IsCommitTree content named commit root
   pub head_is : head ≡ heads.Branch (branch_ref revision)
 
+-- a ref of this name could be read: if there is a file, it spells an id
+abbrev pub IsReadable : FileMap → List ℕ → Type 0
+IsReadable content name = is_ref name ≡ true → ¬ IsBadRef content name
+
 -- the HEAD that a checkout of the revision leaves, and the tree that it brings
-abbrev pub IsTarget : FileMap → IndexMap → List ℕ → Head → ObjectId → Type 0
-IsTarget content index revision head root =
-    MatchOption (refs content (branch_ref revision)) (IsDetached content index revision head root) (IsOnBranch content index revision head root)
+pub record IsTarget (content : FileMap) (revision : List ℕ) (head : Head) (root : ObjectId) : Type 0 where
+  pub readable : IsReadable content (branch_ref revision)
+  pub is : MatchOption (refs content (branch_ref revision)) (IsDetached content revision head root) (IsOnBranch content revision head root)
 
 -- no file of the tree has the path of the store's own folder, of one above it, or one in it
 pub record IsApart (objects : ObjectMap) (root : ObjectId) (own : List ℕ) : Type 0 where
   pub each : (path : List ℕ) (mode : Mode) (id : ObjectId) → IsFileOfTree objects root path mode id → meets_own own path ≡ false
 
+-- the index and HEAD can be read
+pub record IsStarted (content : FileMap) (index : IndexMap) : Type 0 where
+  pub spelled : SpellsIndex content index
+  pub readable : IsGoodHead content
+
+-- all that is looked at before the work tree: besides, the revision leads to this HEAD and this tree, HEAD may be that, and the
+-- tree keeps away from the store's own folder
+pub record MayBring (own revision : List ℕ) (content : FileMap) (index : IndexMap) (head : Head) (root : ObjectId) : Type 0 where
+  pub started : IsStarted content index
+  pub target : IsTarget content revision head root
+  pub may : MayHead content head
+  pub apart : IsApart (objects content) root own
+
 -- The work tree has the files of the tree as a checkout brings them, the index is the tree's, and HEAD is the target.
 pub record ChecksOut (own revision : List ℕ) (old new was now : FileMap) : Type 0 where
   pub index : IndexMap
-  pub spelled : SpellsIndex old index
   pub head : Head
   pub root : ObjectId
-  pub target : IsTarget old index revision head root
-  pub may : MayHead old head
-  pub apart : IsApart (objects old) root own
+  pub before : MayBring own revision old index head root
   pub tree : IndexMap
   pub reads : ReadsAs (objects old) root (Ok tree)
   pub files : (path : List ℕ) → IsCheckedOut (objects old) (get index path) (get tree path) (get was path) (get now path)
   pub sound : IsIndex tree
   pub shows : shown new ≡ with_head_shown (with_index_shown (shown old) (index_text tree)) head
+
+-- what a fault behind the work tree leaves: the work tree and the index are brought, and HEAD is not moved
+pub record LeavesHead (honest : Type 0) (own revision : List ℕ) (old new was now : FileMap) : Type 0 where
+  pub index : IndexMap
+  pub head : Head
+  pub root : ObjectId
+  pub before : MayBring own revision old index head root
+  pub tree : IndexMap
+  pub reads : ReadsAs (objects old) root (Ok tree)
+  pub files : honest → (path : List ℕ) → IsCheckedOut (objects old) (get index path) (get tree path) (get was path) (get now path)
+  pub written : new ≡ insert old (codes "index") (index_text tree)
+
+-- the file of the index spells none
+abbrev pub IsOfIndex : FileMap → Failure → Type 0
+IsOfIndex content (Node fault) = BlamesIndex content fault
+IsOfIndex content _ = ⊥
+
+-- the file of HEAD says nothing that HEAD can be
+abbrev pub IsOfHead : FileMap → Failure → Type 0
+IsOfHead content (Refs fault) = BlamesHead content fault
+IsOfHead content _ = ⊥
+
+-- the file of the ref of this name is bad, or a fault
+abbrev pub IsOfRef : FileMap → List ℕ → Failure → Type 0
+IsOfRef content name (Refs fault) = BlamesRef content name fault
+IsOfRef content name (Fault fault) = ⊤
+IsOfRef content name _ = ⊥
+
+-- the object is no commit, or its tree can't be named
+abbrev pub IsOfCommit : FileMap → ObjectId → Failure → Type 0
+IsOfCommit content named e =
+    IsOfRevision content (peeled named kinds.Commit) e
+    ⊎ ((commit : ObjectId) × Denoted content (peeled named kinds.Commit) (Ok commit) × IsOfRevision content (peeled commit kinds.Tree) e)
+
+-- the revision has no value, or what it names is no commit
+abbrev pub IsOfDetached : FileMap → List ℕ → Failure → Type 0
+IsOfDetached content revision e = IsOfRevision content revision e ⊎ ((named : ObjectId) × Denoted content revision (Ok named) × IsOfCommit content named e)
+
+-- the file of the branch of that name is bad; or what the branch has is no commit; or, without a branch, what the revision names
+abbrev pub IsOfTarget : FileMap → List ℕ → Failure → Type 0
+IsOfTarget content revision e =
+    IsOfRef content (branch_ref revision) e
+    ⊎ (IsReadable content (branch_ref revision) × MatchOption (refs content (branch_ref revision)) (IsOfDetached content revision e) (λ named. IsOfCommit content named e))
+
+-- HEAD may not be that commit: something is absent that it reaches (40), or there is no commit along its parent links (41)
+abbrev pub IsOfNewHead : FileMap → Head → Failure → Type 0
+IsOfNewHead content head (Node fault) = BlamesNewHead content head fault
+IsOfNewHead content head _ = ⊥
+
+-- the tree is not read as an index
+abbrev pub IsOfTreeRead : FileMap → ObjectId → Failure → Type 0
+IsOfTreeRead content root (Node fault) = BlamesLoad content root fault
+IsOfTreeRead content root _ = ⊥
+
+-- a tree that was read has a file in the store's own folder, or in the place of a folder above it
+pub record HasOwn (objects : ObjectMap) (root : ObjectId) (own : List ℕ) : Type 0 where
+  pub tree : IndexMap
+  pub reads : ReadsAs objects root (Ok tree)
+  pub path : List ℕ
+  pub mode : Mode
+  pub id : ObjectId
+  pub is : IsFileOfTree objects root path mode id
+  pub meets : meets_own own path ≡ true
+
+-- such a file is refused with 60
+abbrev pub IsOfOwn : FileMap → ObjectId → List ℕ → Failure → Type 0
+IsOfOwn content root own (Node fault) = (fault ≡ BadPath) × HasOwn (objects content) root own
+IsOfOwn content root own _ = ⊥
+
+-- what is in the work tree is against the tree: a path that is no text (72), a change (70), or a file in the way (71), as the
+-- first cause at the first path
+abbrev pub IsOfWork : Type 0 → FileMap → IndexMap → ObjectId → FileMap → Failure → Type 0
+IsOfWork honest content index root work e =
+    (against : CheckoutFault) × (e ≡ of_checkout against) × IsAgainst against
+    × (honest → (tree : IndexMap) × ReadsAs (objects content) root (Ok tree) × IsRefused index tree work against)
+
+-- Why nothing is brought, by what is looked at before the work tree. What comes first was good where a later thing is blamed.
+pub data RefusesLook (own revision : List ℕ) (content : FileMap) (e : Failure) : Type 0 where
+  of_fault : status_of e ≡ 3 → RefusesLook own revision content e
+  of_index : IsOfIndex content e → RefusesLook own revision content e
+  of_head : (index : IndexMap) → SpellsIndex content index → IsOfHead content e → RefusesLook own revision content e
+  of_target : (index : IndexMap) → IsStarted content index → IsOfTarget content revision e → RefusesLook own revision content e
+  of_new_head : (index : IndexMap) (head : Head) (root : ObjectId) → IsStarted content index → IsTarget content revision head root → IsOfNewHead content head e → RefusesLook own revision content e
+  of_tree : (index : IndexMap) (head : Head) (root : ObjectId) → IsStarted content index → IsTarget content revision head root → MayHead content head → IsOfTreeRead content root e ⊎ IsOfOwn content root own e
+      → RefusesLook own revision content e
+
+-- The same of the whole: a tree that the look didn't have to read is read now, and then the work tree is looked at.
+pub data RefusesCheckout (honest : Type 0) (own revision : List ℕ) (content work : FileMap) (e : Failure) : Type 0 where
+  of_fault : status_of e ≡ 3 → RefusesCheckout honest own revision content work e
+  of_look : RefusesLook own revision content e → RefusesCheckout honest own revision content work e
+  of_work : (index : IndexMap) (head : Head) (root : ObjectId) → MayBring own revision content index head root → IsOfTreeRead content root e ⊎ IsOfWork honest content index root work e
+      → RefusesCheckout honest own revision content work e

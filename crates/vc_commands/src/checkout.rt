@@ -1,16 +1,18 @@
 //! What `checkout` does to files and to a work tree: it looks at all that it needs before it writes.
-ghost use Rattle.std.specs.Prelude.{◌≡◌, ◌⊎◌, ℕ, List, Some, None, IfOk, IfErr, OnOk, IsSome, MatchOption, IsTrue, true, false};
+ghost use Rattle.std.specs.Prelude.{◌≡◌, ◌⊎◌, ℕ, List, Some, None, Ok, IfOk, IfErr, OnOk, IsSome, MatchOption, IsTrue, true, false};
 ghost use Rattle.std.specs.FinMap as maps;
 ghost use Rattle.vc_node.specs.Blames.{IsLocalHead, MayHead};
 ghost use Rattle.vc_refs.specs.Refs.{refs};
 ghost use Rattle.vc_store.specs.Store.{objects};
 ghost use Rattle.vc_work_folder.specs.Own.{meets_own};
-ghost use Rattle.vc_commands.specs.Checkout.{ChecksOut, IsApart, IsCommitTree, IsTarget, IsValue, peeled};
+ghost use Rattle.vc_commands.specs.Checkout.{ChecksOut, IsApart, IsCommitTree, IsOfCommit, IsOfNewHead, IsOfOwn, IsOfRef, IsOfTarget, IsOfTreeRead, IsReadable, IsTarget, LeavesHead, MayBring, RefusesCheckout, RefusesLook, peeled};
 ghost use Rattle.vc_commands.specs.CloneWords.{branch_ref};
 ghost use Rattle.vc_commands.specs.Failure.{status_of};
+ghost use Rattle.vc_commands.specs.Revisions.{Denoted, IsOfRevision};
 
 use crate::clone::branch_of;
 use crate::failure::Failure;
+use crate::repository::{resolve, resolve_bytes};
 use std::alloc::{AllocError, Global};
 use vc_checkout::WorkTree;
 use vc_files::Files;
@@ -19,25 +21,7 @@ use vc_node::{NodeFault, read_index, refuse_bad_commit, write_index};
 use vc_object::{Kind, ObjectId};
 use vc_refname::RefName;
 use vc_refs::Head;
-use vc_repository::FileRepository;
-use vc_rev::parse;
 use vc_work_folder::meets_own;
-
-// The object that a revision names.
-fn value_of<F: Files>(
-    alloc: Global,
-    files: &mut F,
-    index: &Index,
-    text: &[u8],
-) -> Result<ObjectId, Failure>
-    ensures value { F.honest → IfOk result (IsValue (F.content files.old) index.now text.now) }
-    ensures same { F.content files.new ≡ F.content files.old }
-{
-    let expr = parse(alloc, text)?;
-    let mut repository = FileRepository::new(alloc, files, index);
-    let id = vc_rev::resolve(alloc, &mut repository, &expr)?;
-    Ok(id)
-}
 
 // The text of an id, peeled to a kind.
 fn peel_text(alloc: Global, id: &ObjectId, kind: Kind) -> Result<Vec<u8>, AllocError>
@@ -55,29 +39,29 @@ fn peel_text(alloc: Global, id: &ObjectId, kind: Kind) -> Result<Vec<u8>, AllocE
 pub fn peel<F: Files>(
     alloc: Global,
     files: &mut F,
-    index: &Index,
     id: &ObjectId,
     kind: Kind,
 ) -> Result<ObjectId, Failure>
-    ensures value { F.honest → IfOk result (IsValue (F.content files.old) index.now (peeled id.now kind)) }
+    ensures value { F.honest → IfOk result (λ found. Denoted (F.content files.old) (peeled id.now kind) (Ok found)) }
+    ensures refused { F.honest → IfErr result (IsOfRevision (F.content files.old) (peeled id.now kind)) }
     ensures same { F.content files.new ≡ F.content files.old }
 {
     let text = peel_text(alloc, id, kind)?;
-    value_of(alloc, files, index, &text)
+    resolve_bytes(alloc, files, &text)
 }
 
 // The commit of an object, and the tree of that commit.
 fn commit_tree<F: Files>(
     alloc: Global,
     files: &mut F,
-    index: &Index,
     id: &ObjectId,
 ) -> Result<(ObjectId, ObjectId), Failure>
-    ensures tree { F.honest → IfOk result (λ found. IsCommitTree (F.content files.old) index.now id.now found.0 found.1) }
+    ensures tree { F.honest → IfOk result (λ found. IsCommitTree (F.content files.old) id.now found.0 found.1) }
+    ensures refused { F.honest → IfErr result (IsOfCommit (F.content files.old) id.now) }
     ensures same { F.content files.new ≡ F.content files.old }
 {
-    let commit = peel(alloc, files, index, id, Kind::Commit)?;
-    let tree = peel(alloc, files, index, &commit, Kind::Tree)?;
+    let commit = peel(alloc, files, id, Kind::Commit)?;
+    let tree = peel(alloc, files, &commit, Kind::Tree)?;
     Ok((commit, tree))
 }
 
@@ -89,6 +73,8 @@ fn branch_at<F: Files>(
 ) -> Result<Option<(RefName, ObjectId)>, Failure>
     ensures found { F.honest → IfOk result (λ found. MatchOption found (refs (F.content files.old) (branch_ref name.now) ≡ None) (λ b. refs (F.content files.old) (branch_ref name.now) ≡ Some b.1)) }
     ensures name { IfOk result (λ found. MatchOption found (Unit {0}) (λ b. b.0 ≡ branch_ref name.now)) }
+    ensures good { F.honest → OnOk result (IsReadable (F.content files.old) (branch_ref name.now)) }
+    ensures refused { F.honest → IfErr result (IsOfRef (F.content files.old) (branch_ref name.now)) }
     ensures same { F.content files.new ≡ F.content files.old }
 {
     let branch = match branch_of(alloc, name) {
@@ -106,25 +92,26 @@ fn branch_at<F: Files>(
 fn target<F: Files>(
     alloc: Global,
     files: &mut F,
-    index: &Index,
     revision: &str,
 ) -> Result<(Head, ObjectId), Failure>
-    ensures target { F.honest → IfOk result (λ found. IsTarget (F.content files.old) index.now revision.now found.0 found.1) }
+    ensures target { F.honest → IfOk result (λ found. IsTarget (F.content files.old) revision.now found.0 found.1) }
     ensures local { IfOk result (λ found. IsLocalHead found.0) }
+    ensures refused { F.honest → IfErr result (IsOfTarget (F.content files.old) revision.now) }
     ensures same { F.content files.new ≡ F.content files.old }
 {
     let Some((branch, id)) = branch_at(alloc, files, revision)? else {
-        let named = value_of(alloc, files, index, revision.as_bytes())?;
-        let (commit, tree) = commit_tree(alloc, files, index, &named)?;
+        let named = resolve(alloc, files, revision)?;
+        let (commit, tree) = commit_tree(alloc, files, &named)?;
         return Ok((Head::Id(commit), tree));
     };
-    let (_, tree) = commit_tree(alloc, files, index, &id)?;
+    let (_, tree) = commit_tree(alloc, files, &id)?;
     Ok((Head::Branch(branch), tree))
 }
 
 // Refuses a HEAD that is the id of no complete commit.
 fn refuse_bad_head<F: Files>(alloc: Global, files: &mut F, head: &Head) -> Result<(), Failure>
     ensures may { F.honest → OnOk result (MayHead (F.content files.old) head.now) }
+    ensures refused { F.honest → IfErr result (IsOfNewHead (F.content files.old) head.now) }
     ensures same { F.content files.new ≡ F.content files.old }
 {
     if let Head::Id(id) = head {
@@ -135,7 +122,8 @@ fn refuse_bad_head<F: Files>(alloc: Global, files: &mut F, head: &Head) -> Resul
 
 // Whether the index has a file in the store's own folder, or in the place of one above it.
 fn has_own(index: &Index, own: &[u8]) -> bool
-    ensures { result ≡ false → (path : List ℕ) → IsSome (maps.get index.now path) → meets_own own.now path ≡ false }
+    ensures apart { result ≡ false → (path : List ℕ) → IsSome (maps.get index.now path) → meets_own own.now path ≡ false }
+    ensures found { result ≡ true → (path : List ℕ) × IsSome (maps.get index.now path) × (meets_own own.now path ≡ true) }
 {
     for (path, _) in index.iter() {
         if meets_own(own, path) {
@@ -153,6 +141,7 @@ fn refuse_own<F: Files>(
     tree: &ObjectId,
 ) -> Result<(), Failure>
     ensures apart { F.honest → OnOk result (IsApart (objects (F.content files.old)) tree.now own.now) }
+    ensures refused { F.honest → IfErr result (λ e. IsOfTreeRead (F.content files.old) tree.now e ⊎ IsOfOwn (F.content files.old) tree.now own.now e) }
     ensures same { F.content files.new ≡ F.content files.old }
 {
     if own.is_empty() {
@@ -168,12 +157,35 @@ fn refuse_own<F: Files>(
     Ok(())
 }
 
+// What a checkout needs: the index, the HEAD that it leaves and the tree that it brings. Nothing is written.
+fn look<F: Files>(
+    alloc: Global,
+    files: &mut F,
+    own: &[u8],
+    revision: &str,
+) -> Result<(Index, Head, ObjectId), Failure>
+    ensures may { F.honest → IfOk result (λ found. MayBring own.now revision.now (F.content files.old) found.0 found.1 found.2) }
+    ensures local { IfOk result (λ found. IsLocalHead found.1) }
+    ensures refused { F.honest → IfErr result (RefusesLook own.now revision.now (F.content files.old)) }
+    ensures same { F.content files.new ≡ F.content files.old }
+{
+    let index = read_index(alloc, files)?;
+    vc_refs::head(files, alloc)?;
+    let (aim, tree) = target(alloc, files, revision)?;
+    refuse_bad_head(alloc, files, &aim)?;
+    refuse_own(alloc, files, own, &tree)?;
+    Ok((index, aim, tree))
+}
+
 /// Brings the work tree, the index and HEAD, in this order, to the commit that the revision names: where there is a branch
 /// of that name, to the branch. `own` is the path of the store's folder in the work tree, empty where it lies elsewhere.
 ///
-/// Before the first write it is seen that the index and HEAD can be read, that a commit which HEAD is to be has all that it
-/// reaches and commits alone along its parent links, that all of the tree is there, that no path of it is own (60), and that
-/// nothing which is not stored would be lost.
+/// Before the first write these are looked at, and the first that is at fault is told: the file of the index (62), HEAD's
+/// (33, 34), that of the branch of that name (33), the revision (50 to 56), what it names as a commit and its tree (51, 55),
+/// all that a commit reaches which HEAD is to be (40), and the commits along its parent links (41), all of the tree (40, 60,
+/// 63), its paths, none of which may be own (60), and the work tree, where nothing may be lost that is not stored (70, 71, 72).
+///
+/// A fault may leave part of the work tree brought, or all of it and the index; HEAD moves last.
 pub fn check_out<F: Files, W: WorkTree>(
     alloc: Global,
     files: &mut F,
@@ -182,15 +194,12 @@ pub fn check_out<F: Files, W: WorkTree>(
     revision: &str,
 ) -> Result<(), Failure>
     ensures done { W.honest → F.honest → OnOk result (ChecksOut own.now revision.now (F.content files.old) (F.content files.new) (W.content work.old) (W.content work.new)) }
-    ensures files { F.honest → IfErr result (λ e. (status_of e ≡ 3) ⊎ (F.content files.new ≡ F.content files.old)) }
+    ensures refused { F.honest → IfErr result (RefusesCheckout W.honest own.now revision.now (F.content files.old) (W.content work.old)) }
+    ensures files { F.honest → IfErr result (λ e. (F.content files.new ≡ F.content files.old) ⊎ ((status_of e ≡ 3) × LeavesHead W.honest own.now revision.now (F.content files.old) (F.content files.new) (W.content work.old) (W.content work.new))) }
     ensures work { F.honest → IfErr result (λ e. (status_of e ≡ 3) ⊎ (W.content work.new ≡ W.content work.old)) }
     ensures folders { F.honest → IfErr result (λ e. (status_of e ≡ 3) ⊎ (W.folders work.new ≡ W.folders work.old)) }
 {
-    let index = read_index(alloc, files)?;
-    vc_refs::head(files, alloc)?;
-    let (aim, tree) = target(alloc, files, &index, revision)?;
-    refuse_bad_head(alloc, files, &aim)?;
-    refuse_own(alloc, files, own, &tree)?;
+    let (index, aim, tree) = look(alloc, files, own, revision)?;
     let new = vc_checkout::checkout(alloc, work, files, &index, &tree)?;
     write_index(alloc, files, &new)?;
     vc_refs::set_head(files, alloc, &aim)?;

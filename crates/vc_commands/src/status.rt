@@ -4,7 +4,7 @@ ghost use Rattle.std.specs.List.{flat_map};
 ghost use Rattle.std.specs.Io.KnownBytes.{Keeps};
 ghost use Rattle.vc_checkout.specs.Status.{seen};
 ghost use Rattle.vc_commands.specs.Failure.{status_of};
-ghost use Rattle.vc_commands.specs.StatusLines.{IsHeadTree, PrintsStatus, change_lines, index_letter, line, lost_line, unknown_line};
+ghost use Rattle.vc_commands.specs.StatusLines.{IsHeadTree, IsOfHeadTree, PrintsStatus, RefusesStatus, change_lines, index_letter, line, lost_line, unknown_line};
 
 use crate::checkout::peel;
 use crate::failure::Failure;
@@ -13,7 +13,6 @@ use std::alloc::{AllocError, Global};
 use std::io::Write;
 use vc_checkout::{Change, IndexChange, WorkChange, WorkTree};
 use vc_files::Files;
-use vc_index::Index;
 use vc_node::read_index;
 use vc_object::{Kind, ObjectId};
 use vc_work_folder::is_own;
@@ -92,18 +91,15 @@ fn status_lines(alloc: Global, own: &[u8], changes: &[Change]) -> Result<Vec<u8>
 }
 
 // The tree of HEAD's commit, where there is one.
-fn head_tree<F: Files>(
-    alloc: Global,
-    files: &mut F,
-    index: &Index,
-) -> Result<Option<ObjectId>, Failure>
-    ensures tree { F.honest → IfOk result (IsHeadTree (F.content files.old) index.now) }
+fn head_tree<F: Files>(alloc: Global, files: &mut F) -> Result<Option<ObjectId>, Failure>
+    ensures tree { F.honest → IfOk result (IsHeadTree (F.content files.old)) }
+    ensures refused { F.honest → IfErr result (IsOfHeadTree (F.content files.old)) }
     ensures same { F.content files.new ≡ F.content files.old }
 {
     let Some(commit) = vc_refs::resolve_head(files, alloc)? else {
         return Ok(None);
     };
-    let tree = peel(alloc, files, index, &commit, Kind::Tree)?;
+    let tree = peel(alloc, files, &commit, Kind::Tree)?;
     Ok(Some(tree))
 }
 
@@ -111,6 +107,9 @@ fn head_tree<F: Files>(
 /// the index differs from HEAD's tree, how the file differs from the index, a space, the path. A file that the index lacks
 /// has a line of its own, also behind one for what the index lost. `own` is the path of the store's folder in the work tree,
 /// empty where it lies elsewhere: the files there are no part of the work tree.
+///
+/// These are looked at in turn, and the first that is at fault is told: the file of the index (62), HEAD's and its branch's
+/// (33, 34), what HEAD leads to and its tree (51, 55), all of the tree (40, 60, 63).
 pub fn print_status<F: Files, W: WorkTree, O: Write>(
     alloc: Global,
     files: &mut F,
@@ -119,13 +118,14 @@ pub fn print_status<F: Files, W: WorkTree, O: Write>(
     output: &mut O,
 ) -> Result<(), Failure>
     ensures printed { W.honest → F.honest → OnOk result (PrintsStatus (F.content files.old) (W.content work.old) own.now (O.contents output.old) (O.contents output.new)) }
+    ensures refused { F.honest → IfErr result (RefusesStatus (F.content files.old)) }
     ensures nothing_printed { IfErr result (λ e. (status_of e ≡ 3) ⊎ Keeps (O.contents output.old) (O.contents output.new)) }
     ensures files { F.content files.new ≡ F.content files.old }
     ensures work { W.content work.new ≡ W.content work.old }
     ensures folders { W.folders work.new ≡ W.folders work.old }
 {
     let index = read_index(alloc, files)?;
-    let tree = head_tree(alloc, files, &index)?;
+    let tree = head_tree(alloc, files)?;
     let changes = vc_checkout::status(alloc, work, files, &index, tree)?;
     let lines = status_lines(alloc, own, &changes)?;
     print_text(&lines, output)?;
