@@ -4,3 +4,4 @@ pub mod CheckoutLemmas
 pub mod CloneLemmas
 pub mod PieceLemmas
 pub mod StepLemmas
+pub mod ToldLemmas

@@ -51,7 +51,7 @@ status_of _ = 1
 
 -- what refuses a checkout, or ends it, as a failure of a command
 abbrev pub of_checkout : CheckoutFault → Failure
-of_checkout (checkouts.LocalChange path) = LocalChange
-of_checkout (checkouts.InTheWay path) = InTheWay
-of_checkout (checkouts.NotText path) = NotText
+of_checkout (checkouts.LocalChange path) = LocalChange path
+of_checkout (checkouts.InTheWay path) = InTheWay path
+of_checkout (checkouts.NotText path) = NotText path
 of_checkout (checkouts.Index fault) = Node (of_index fault)

@@ -1,4 +1,7 @@
 pub mod Failure
+pub mod AtFault
+pub mod OwnPath
+pub mod Again
 pub mod HashObject
 pub mod Shown
 pub mod CloneWords

@@ -1,11 +1,13 @@
 //! Why a command ended without its answer: the line that it prints, and its exit status.
-ghost use Rattle.std.specs.Prelude.{◌≡◌, ◌⊎◌};
+ghost use Rattle.std.specs.Prelude.{◌≡◌, ◌++◌, IfOk, IfErr, IfSome, OnOk};
+ghost use Rattle.std.specs.Option.{option_map};
 ghost use Rattle.vc_files.specs.declared.faults.Fault.TheVariants.{Memory};
 ghost use Rattle.vc_commands.specs.declared.failure.Failure.TheVariants.{Object, Store, Base, Refs, Fault, Syntax, Revision, Node};
 ghost use Rattle.vc_rev.specs.declared.refusal.RevFault.TheVariants.{Source};
 ghost use Rattle.vc_node.specs.NodeFault.{of_index};
 ghost use Rattle.vc_commands.specs.Failure.{revision_status, source_status, store_status, node_status, of_checkout};
 
+use crate::faults::Faults;
 use std::alloc::{AllocError, AllocFailed};
 use std::fmt;
 use std::io::{self, ErrorKind, Write};
@@ -29,12 +31,12 @@ pub enum Failure {
     Revision(RevFault),
     /// What refused a call of a clone.
     Node(NodeFault),
-    /// A file of the work tree was changed and not staged, and the change would be lost.
-    LocalChange,
-    /// A file that the index lacks stands in the way.
-    InTheWay,
-    /// A path is not UTF-8, so no file can have it.
-    NotText,
+    /// The file of the work tree with this path was changed and not staged, and the change would be lost.
+    LocalChange(Vec<u8>),
+    /// A file that the index lacks stands in the way of the one with this path.
+    InTheWay(Vec<u8>),
+    /// This path is not UTF-8, so no file can have it.
+    NotText(Vec<u8>),
     /// There is no such file, or it can't be read.
     NoSuchPath,
     /// A body that is refused before any store is asked.
@@ -54,14 +56,18 @@ pub enum Failure {
 }
 
 impl fmt::Display for Failure {
+    ghost use Rattle.vc_commands.specs.AtFault.{failure_text};
+
+    ghost output = { failure_text };
+
     fn fmt<W: fmt::Write>(&self, f: &mut fmt::Formatter<W>) -> fmt::Result {
         match self {
             Failure::Syntax(fault) => fmt::Display::fmt(fault, f),
             Failure::Revision(fault) => fmt::Display::fmt(fault, f),
             Failure::Node(fault) => fmt::Display::fmt(fault, f),
-            Failure::LocalChange => f.write_str("70 LocalChange"),
-            Failure::InTheWay => f.write_str("71 InTheWay"),
-            Failure::NotText => f.write_str("72 NotText"),
+            Failure::LocalChange(_) => f.write_str("70 LocalChange"),
+            Failure::InTheWay(_) => f.write_str("71 InTheWay"),
+            Failure::NotText(_) => f.write_str("72 NotText"),
             Failure::NoSuchPath => f.write_str("56 NoSuchPath"),
             Failure::Object(fault) => fmt::Display::fmt(fault, f),
             Failure::Store(fault) => fmt::Display::fmt(fault, f),
@@ -75,7 +81,9 @@ impl fmt::Display for Failure {
 }
 
 impl Failure {
-    ghost use Rattle.vc_commands.specs.Failure.{status_of};
+    ghost use Rattle.std.specs.Io.KnownBytes.{Appends};
+    ghost use Rattle.vc_commands.specs.AtFault.{failure_line, failure_text, line_behind};
+    ghost use Rattle.vc_commands.specs.Failure.{IsFault, status_of};
 
     /// The exit status: 1 for a refusal, 2 for a command line that is off, 3 for a fault.
     pub fn status(&self) -> u8
@@ -83,7 +91,7 @@ impl Failure {
     {
         match self {
             Failure::NoSuchPath | Failure::Object(_) | Failure::Name(_) => 1,
-            Failure::LocalChange | Failure::InTheWay | Failure::NotText => 1,
+            Failure::LocalChange(_) | Failure::InTheWay(_) | Failure::NotText(_) => 1,
             Failure::Node(fault) => node_status(fault),
             Failure::Syntax(ParseFault::Memory)
             | Failure::Store(StoreFault::Fault(_))
@@ -97,15 +105,31 @@ impl Failure {
         }
     }
 
-    /// Prints the line of this failure and gives its status. Where not even that line can be written, that is
-    /// a fault of its own.
-    pub fn report<W: Write>(&self, faults: &mut W) -> u8
-        ensures status { (result ≡ status_of self.now) ⊎ (result ≡ 3) }
+    /// Prints the line of this failure, on a terminal another one behind it that is to tell what is at fault, and gives the
+    /// status. Where that can't be printed, that is a fault of its own.
+    pub fn report<W: Write>(
+        &self,
+        behind: Option<&[u8]>,
+        faults: &mut Faults<W>,
+    ) -> Result<u8, Failure>
+        ensures status { IfOk result (λ status. status ≡ status_of self.now) }
+        ensures told { OnOk result (IfSome (failure_text self.now) (λ text. Appends (W.contents faults.old.stream) (W.contents faults.new.stream) (failure_line text ++ line_behind faults.old.is_terminal (option_map (λ line. line.now) behind.entry)))) }
+        ensures fault { IfErr result IsFault }
     {
-        match writeln!(faults, "vcs: {self}") {
-            Ok(()) => self.status(),
-            Err(_) => 3,
+        self.print(&mut faults.stream)?;
+        if let Some(line) = behind {
+            faults.tell_line(line)?;
         }
+        Ok(self.status())
+    }
+
+    // Prints the line of this failure.
+    fn print<W: Write>(&self, stream: &mut W) -> Result<(), Failure>
+        ensures line { OnOk result (IfSome (failure_text self.now) (λ text. Appends (W.contents stream.old) (W.contents stream.new) (failure_line text))) }
+        ensures fault { IfErr result IsFault }
+    {
+        writeln!(stream, "vcs: {self}")?;
+        Ok(())
     }
 }
 
@@ -231,9 +255,9 @@ impl From<CheckoutFault> for Failure {
 
     fn from(fault: CheckoutFault) -> Failure {
         match fault {
-            CheckoutFault::LocalChange(_) => Failure::LocalChange,
-            CheckoutFault::InTheWay(_) => Failure::InTheWay,
-            CheckoutFault::NotText(_) => Failure::NotText,
+            CheckoutFault::LocalChange(path) => Failure::LocalChange(path),
+            CheckoutFault::InTheWay(path) => Failure::InTheWay(path),
+            CheckoutFault::NotText(path) => Failure::NotText(path),
             CheckoutFault::Index(fault) => Failure::from(fault),
         }
     }

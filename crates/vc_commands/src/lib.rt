@@ -2,7 +2,9 @@
 #![tactic(auto)]
 
 mod add;
+mod again;
 mod arguments;
+mod at_fault;
 mod cat_file;
 mod checkout;
 mod clone;
@@ -28,4 +30,4 @@ mod writer;
 pub use failure::Failure;
 pub use faults::Faults;
 pub use input::{Input, known_length};
-pub use program::run;
+pub use program::{run, tell};

@@ -1,5 +1,9 @@
 //! Where the folder of a store lies in a work tree: that folder is no part of the work tree.
 
+ghost use Rattle.std.specs.Prelude.{◌≡◌, ◌↔◌, None, IfSome};
+ghost use Rattle.std.specs.Path.{PathStartsWith};
+ghost use Rattle.vc_commands.specs.OwnPath.{IsOwnPath};
+
 use crate::failure::{Failure, fault_of};
 use std::alloc::Global;
 use std::io::ErrorKind;
@@ -17,19 +21,31 @@ where
     let alloc = rt.alloc();
     let store_place = place_of(rt, store)?;
     let work_place = place_of(rt, work)?;
-    if work_place.as_path().starts_with(store_place.as_str()) {
-        return Err(Failure::Usage(format!(in alloc;
+    match own_path(store_place.as_str(), work_place.as_str()) {
+        Some(own) => Ok(String::from_str(alloc, own)?),
+        None => Err(Failure::Usage(format!(in alloc;
             "the work tree {work} lies in the store {store}: name another folder by --work"
-        )?));
+        )?)),
     }
-    let Ok(own) = store_place.as_path().strip_prefix(work_place.as_str()) else {
-        return Ok(String::new(alloc));
+}
+
+// The path that the folder of the store has in the work tree, from where the two lie; none where the work tree lies in the
+// store.
+fn own_path<'a>(store: &'a str, work: &str) -> Option<&'a str>
+    ensures refused { result ≡ None ↔ PathStartsWith work.now store.now }
+    ensures value { IfSome result (λ own. IsOwnPath store.now work.now own.now) }
+{
+    if Path::new(work).starts_with(store) {
+        return None;
+    }
+    let Ok(own) = Path::new(store).strip_prefix(work) else {
+        return Some("");
     };
     let own = own.as_str();
     if is_own(b".git", own.as_bytes()) {
-        return Ok(String::new(alloc));
+        return Some("");
     }
-    Ok(String::from_str(alloc, own)?)
+    Some(own)
 }
 
 // Where a folder lies, with each link on the way followed. It need not be there yet.

@@ -1,5 +1,6 @@
 //! One run of the program: from words and streams to an exit status.
 
+use crate::again::{Lists, line_of_refusal};
 use crate::arguments::{
     LocalTask, Request, Task, command, option_without_folder, parents_of, request_of, terms_of,
 };
@@ -26,13 +27,6 @@ use std::io::{Read, Write};
 use std::rt;
 use vc_files::Fault;
 
-/// The words of a command line of which there may be many.
-#[derive(Clone, Copy)]
-struct Lists<'a> {
-    terms: &'a str,
-    parents: &'a [&'a str],
-}
-
 /// Does what the words ask for and gives the exit status: 0 done, 1 refused, 2 a command line that is off, 3 a
 /// fault. Answers go to `output`, everything else to `faults`. The first word is the program's name. A command that writes
 /// to its store waits for another one that does.
@@ -52,7 +46,7 @@ where
 {
     match obey(rt, words, input, output, faults) {
         Ok(status) => status,
-        Err(failure) => failure.report(&mut faults.stream),
+        Err(failure) => tell(&failure, None, faults),
     }
 }
 
@@ -87,10 +81,41 @@ where
     if !request.is_named && request.task.needs_store() {
         refuse_second_store(rt)?;
     }
-    if perform(rt, &request, lists, input, output, faults)? {
-        Ok(0)
-    } else {
-        Ok(1)
+    match perform(rt, &request, lists, input, output, faults) {
+        Ok(true) => Ok(0),
+        Ok(false) => Ok(1),
+        Err(failure) => Ok(tell_at(rt, &request, lists, &failure, faults)),
+    }
+}
+
+// Tells why the command ended, and on a terminal what is at fault. Where that can't be found, the refusal is told all the same.
+fn tell_at<R, E>(
+    rt: &R,
+    request: &Request<'_>,
+    lists: Lists<'_>,
+    failure: &Failure,
+    faults: &mut Faults<E>,
+) -> u8
+where
+    R: rt::Files + AllocGlobal + Clone + Drop,
+    E: Write,
+{
+    if !faults.is_terminal {
+        return tell(failure, None, faults);
+    }
+    match line_of_refusal(rt, request.store, request.task, lists, failure) {
+        Ok(Some(line)) => tell(failure, Some(&line), faults),
+        Ok(None) => tell(failure, None, faults),
+        Err(_) => tell(failure, None, faults),
+    }
+}
+
+/// Tells why a command ended, with a line behind it on a terminal, and gives the exit status: 3 where not even that can be
+/// told.
+pub fn tell<E: Write>(failure: &Failure, behind: Option<&[u8]>, faults: &mut Faults<E>) -> u8 {
+    match failure.report(behind, faults) {
+        Ok(status) => status,
+        Err(fault) => fault.status(),
     }
 }
 

@@ -4,7 +4,7 @@
 use std::io::{ErrorKind, IsTerminal};
 use std::process::ExitCode;
 use std::{env, fs};
-use vc_commands::{Failure, Faults, Input, known_length, run};
+use vc_commands::{Failure, Faults, Input, known_length, run, tell};
 
 fn main(rt: HostRuntime) -> ExitCode {
     let mut faults = Faults {
@@ -17,7 +17,7 @@ fn main(rt: HostRuntime) -> ExitCode {
     };
     ExitCode::from(match words(&rt) {
         Ok(words) => run(&rt, &words, input, &mut rt.stdout(), &mut faults),
-        Err(failure) => failure.report(&mut faults.stream),
+        Err(failure) => tell(&failure, None, &mut faults),
     })
 }
 
