@@ -1,5 +1,5 @@
 -- What a refusal is about, and the line that tells it to a person.
-use Rattle.std.specs.Prelude.{◌≡◌, ◌==◌, ◌||◌, ◌+◌, ◌-◌, ◌/◌, ◌%◌, ℕ, Bool, true, false, if◌then◌else◌, nat_le, List, [], ◌∷◌, ◌++◌, Option, None, Some, MatchOption, Vec, codes, get_or, string_bytes}
+use Rattle.std.specs.Prelude.{◌≡◌, ◌==◌, ◌||◌, ◌+◌, ◌-◌, ◌/◌, ◌%◌, ℕ, Bool, if◌then◌else◌, nat_le, List, [], ◌∷◌, ◌++◌, Option, None, Some, MatchOption, Vec, codes, get_or, string_bytes}
 use Rattle.std.specs.Global.{Global}
 use Rattle.std.specs.List.{flat_map}
 use Rattle.hex.specs.Hex.{encode_lower}

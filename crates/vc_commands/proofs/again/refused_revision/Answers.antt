@@ -1,5 +1,4 @@
-use Rattle.std.proofs.Common.{rules, ◌≡◌, ℕ, List, Option, subst, sym}
-use Rattle.std.specs.Prelude.{IfSome}
+use Rattle.std.proofs.Common.{rules}
 use Rattle.vc_commands.specs.Revisions.{IsOfRevision}
 use Rattle.vc_commands.specs.Again.{IsRefusedRevision}
 use Rattle.vc_commands.proofs.again.refused_revision.Goals as goal

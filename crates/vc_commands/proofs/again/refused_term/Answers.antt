@@ -1,5 +1,4 @@
-use Rattle.std.proofs.Common.{rules, ◌≡◌, ℕ, List, Option, subst, sym}
-use Rattle.std.specs.Prelude.{IfSome}
+use Rattle.std.proofs.Common.{rules}
 use Rattle.vc_commands.specs.Revisions.{IsOfTerms}
 use Rattle.vc_commands.specs.Again.{IsRefusedTerms}
 use Rattle.vc_commands.proofs.again.refused_term.Goals as goal

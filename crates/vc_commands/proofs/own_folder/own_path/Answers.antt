@@ -1,4 +1,4 @@
-use Rattle.std.proofs.Common.{rules, ◌≡◌, refl, inl, inr, true}
+use Rattle.std.proofs.Common.{rules, ◌≡◌, refl, inr, true}
 use Rattle.std.specs.Prelude.{codes}
 use Rattle.std.specs.Path.{StripsPrefix}
 use Rattle.vc_work_folder.specs.Own.{is_own}
