@@ -136,16 +136,16 @@ not_free content r name other p conflict there free =
 
 module _ (content : FileMap) (r : Repository) (p : Spells (shown content) r) (id : ObjectId) where
   pub closed : IsComplete content id → IsClosed git (stored r.objects) id.0
-  closed h = closed_from (objects content) r.objects p.objects id.0 h
+  closed h = closed_from (objects content) (stored r.objects) p.objects id.0 h
 
   pub not_closed : ¬ IsComplete content id → ¬ IsClosed git (stored r.objects) id.0
-  not_closed h c = h (closed_to (objects content) r.objects p.objects id.0 c)
+  not_closed h c = h (closed_to (objects content) (stored r.objects) p.objects id.0 c)
 
   pub history : IsHistory content id → HasHistory git (stored r.objects) id.0
-  history h = history_from (objects content) r.objects p.objects (objects_sound content) id.0 h
+  history h = history_from (objects content) (stored r.objects) p.objects (objects_sound content) id.0 h
 
   pub not_history : ¬ IsHistory content id → ¬ HasHistory git (stored r.objects) id.0
-  not_history h c = h (history_to (objects content) r.objects p.objects (objects_sound content) id.0 c)
+  not_history h c = h (history_to (objects content) (stored r.objects) p.objects (objects_sound content) id.0 c)
 
 pub set_rel : (s : Shown) (r : Repository) (name : List ℕ) (id : ObjectId) → Spells s r → (q : RefName) → with_ref s.refs name id q ≡ option_map id_of_bytes (get (insert r.refs name id.0) q)
 unfolding with_ref

@@ -4,3 +4,4 @@ pub mod IndexTreeLaws
 pub mod FaultLaws
 pub mod ValueLaws
 pub mod GitLaws
+pub mod VerdictLaws

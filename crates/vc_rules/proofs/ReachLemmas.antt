@@ -1,12 +1,11 @@
 -- What is reached in the machine is what the walks reach.
 use Rattle.std.proofs.Common.{◌≡◌, ℕ, List, [], ◌∷◌, ◌++◌, map, Option, Some, None, refl, sym, ap, ◌∙◌, subst, Contains, inl, inr, arith}
 use Rattle.std.specs.Prelude.{IsSome, option_map, unwrap_or}
-use Rattle.std.specs.FinMap.{get}
 use Rattle.std.proofs.lemmas.List.Elements.{Contains-append_right, Contains-append_cases, Contains-push_cases}
 use Rattle.vc_format.specs.Git.{kind_of, id_of_bytes, bytes_of_id}
 use Rattle.vc_graph.specs.Graph as graph
 use Rattle.vc_graph.specs.Graph.Reaches.{itself, onward}
-use Rattle.vc_model.specs.Object.{Object, Objects, Id, stored, Kind}
+use Rattle.vc_model.specs.Object.{Object, Id, Lookup, Kind}
 use Rattle.vc_model.specs.Object.Kind.{Blob, Tree, Commit, Tag}
 use Rattle.vc_model.specs.Reach.{Path, Reaches, Links, HasParent, IsClosed, HasHistory}
 use Rattle.vc_object.specs.Commit.{CommitText}
@@ -55,15 +54,15 @@ there_some : {X : Type 0} (o : Option X) → IsSome o → (x : X) × (o ≡ Some
 there_some None h = absurd (cc h)
 there_some (Some x) h = (x, refl)
 
-module _ (o : ObjectMap) (s : Objects) (rel : (x : Id) → o (id_of_bytes x) ≡ option_map stored_of (get s x)) where
+module _ (o : ObjectMap) (at : Lookup) (rel : (x : Id) → o (id_of_bytes x) ≡ option_map stored_of (at x)) where
   -- ---- links
 
-  link_to : (x y : Id) → Links git (stored s) x y → graph.LinksTo (links_in o) (id_of_bytes x) (id_of_bytes y)
+  link_to : (x y : Id) → Links git at x y → graph.LinksTo (links_in o) (id_of_bytes x) (id_of_bytes y)
   link_to x y l =
       let found : o (id_of_bytes x) ≡ Some (stored_of l.object) = rel x ∙ ap (option_map stored_of) l.found in
       (links_of (kind_of l.object.kind) l.object.body, links_in-some o (id_of_bytes x) (stored_of l.object) found, from_bytes (links_of (kind_of l.object.kind) l.object.body) y l.link)
 
-  link_from : (x y : Id) (found : Option Object) → get s x ≡ found → graph.LinksTo (links_in o) (id_of_bytes x) (id_of_bytes y) → Links git (stored s) x y
+  link_from : (x y : Id) (found : Option Object) → at x ≡ found → graph.LinksTo (links_in o) (id_of_bytes x) (id_of_bytes y) → Links git at x y
   link_from x y None e l =
       let none : links_in o (id_of_bytes x) ≡ None = links_in-none o (id_of_bytes x) (rel x ∙ ap (option_map stored_of) e) in
       let bad : Some l.0 ≡ None = sym l.1 ∙ none in cc
@@ -72,22 +71,22 @@ module _ (o : ObjectMap) (s : Objects) (rel : (x : Id) → o (id_of_bytes x) ≡
       let same : l.0 ≡ links_of (kind_of p.kind) p.body = cc in
       record { object = p; found = e; link = subst (λ (ids : List ObjectId). Contains (map bytes_of_id ids) y) same (to_bytes l.0 (id_of_bytes y) l.2) }
 
-  path_to : (zs : List Id) (r x y : Id) → graph.Reaches (links_in o) (id_of_bytes r) (id_of_bytes x) → Path (Links git (stored s)) zs x y → graph.Reaches (links_in o) (id_of_bytes r) (id_of_bytes y)
+  path_to : (zs : List Id) (r x y : Id) → graph.Reaches (links_in o) (id_of_bytes r) (id_of_bytes x) → Path (Links git at) zs x y → graph.Reaches (links_in o) (id_of_bytes r) (id_of_bytes y)
   path_to [] r x y h p = subst (λ (w : Id). graph.Reaches (links_in o) (id_of_bytes r) (id_of_bytes w)) p h
   path_to (z ∷ zs) r x y h p = path_to zs r z y (onward h (link_to x z p.0)) p.1
 
-  pub path_from : (x y : ObjectId) → graph.Reaches (links_in o) x y → Reaches (Links git (stored s)) x.0 y.0
+  pub path_from : (x y : ObjectId) → graph.Reaches (links_in o) x y → Reaches (Links git at) x.0 y.0
   path_from x y itself = ([], refl)
-  path_from x y (onward {y = z} h l) = let p = path_from x z h in (p.0 ++ y.0 ∷ [], path_more (Links git (stored s)) p.0 x.0 z.0 y.0 p.1 (link_from z.0 y.0 (get s z.0) refl l))
+  path_from x y (onward {y = z} h l) = let p = path_from x z h in (p.0 ++ y.0 ∷ [], path_more (Links git at) p.0 x.0 z.0 y.0 p.1 (link_from z.0 y.0 (at z.0) refl l))
 
-  closed_there : (y : Id) (found : Option Object) → get s y ≡ found → IsSome (links_in o (id_of_bytes y)) → (q : Object) × (get s y ≡ Some q)
+  closed_there : (y : Id) (found : Option Object) → at y ≡ found → IsSome (links_in o (id_of_bytes y)) → (q : Object) × (at y ≡ Some q)
   closed_there y None e h = absurd (let none : links_in o (id_of_bytes y) ≡ None = links_in-none o (id_of_bytes y) (rel y ∙ ap (option_map stored_of) e) in let t = there_some (links_in o (id_of_bytes y)) h in let bad : Some t.0 ≡ None = sym t.1 ∙ none in cc)
   closed_there y (Some q) e h = (q, e)
 
-  pub closed_from : (x : Id) → graph.IsClosed (links_in o) (id_of_bytes x) → IsClosed git (stored s) x
-  closed_from x closed = record { there = λ y r. closed_there y (get s y) refl (closed (id_of_bytes y) (path_to r.0 x x y itself r.1)) }
+  pub closed_from : (x : Id) → graph.IsClosed (links_in o) (id_of_bytes x) → IsClosed git at x
+  closed_from x closed = record { there = λ y r. closed_there y (at y) refl (closed (id_of_bytes y) (path_to r.0 x x y itself r.1)) }
 
-  pub closed_to : (x : Id) → IsClosed git (stored s) x → graph.IsClosed (links_in o) (id_of_bytes x)
+  pub closed_to : (x : Id) → IsClosed git at x → graph.IsClosed (links_in o) (id_of_bytes x)
   closed_to x closed y r =
       let t = closed.there y.0 (path_from (id_of_bytes x) y r) in
       some_there (links_in o y) (links_of (kind_of t.0.kind) t.0.body) (links_in-some o y (stored_of t.0) (rel y.0 ∙ ap (option_map stored_of) t.1))
@@ -99,7 +98,7 @@ module _ (o : ObjectMap) (s : Objects) (rel : (x : Id) → o (id_of_bytes x) ≡
     parents_to k body y None e h = absurd (let i = h.1 in omega arith)
     parents_to k body y (Some ps) e h = (ps, e, from_bytes ps y h)
 
-    parent_to : (x y : Id) → HasParent git (stored s) x y → graph.LinksTo (parents_in o) (id_of_bytes x) (id_of_bytes y)
+    parent_to : (x y : Id) → HasParent git at x y → graph.LinksTo (parents_in o) (id_of_bytes x) (id_of_bytes y)
     parent_to x y l =
         let q = l.object in
         let found : o (id_of_bytes x) ≡ Some (stored_of q) = rel x ∙ ap (option_map stored_of) l.found in
@@ -113,7 +112,7 @@ module _ (o : ObjectMap) (s : Objects) (rel : (x : Id) → o (id_of_bytes x) ≡
     is_commit Commit body ps e = refl
     is_commit Tag body ps e = cc
 
-    parent_from : (x y : Id) (found : Option Object) → get s x ≡ found → graph.LinksTo (parents_in o) (id_of_bytes x) (id_of_bytes y) → HasParent git (stored s) x y
+    parent_from : (x y : Id) (found : Option Object) → at x ≡ found → graph.LinksTo (parents_in o) (id_of_bytes x) (id_of_bytes y) → HasParent git at x y
     parent_from x y None e l =
         let none : parents_in o (id_of_bytes x) ≡ None = parents_in-none o (id_of_bytes x) (rel x ∙ ap (option_map stored_of) e) in
         let bad : Some l.0 ≡ None = sym l.1 ∙ none in cc
@@ -126,22 +125,22 @@ module _ (o : ObjectMap) (s : Objects) (rel : (x : Id) → o (id_of_bytes x) ≡
           parent = subst (λ (f : Option (List ObjectId)). Contains (map bytes_of_id (unwrap_or f [])) y) (sym are) (to_bytes l.0 (id_of_bytes y) l.2);
         }
 
-    line_to : (zs : List Id) (r x y : Id) → graph.Reaches (parents_in o) (id_of_bytes r) (id_of_bytes x) → Path (HasParent git (stored s)) zs x y → graph.Reaches (parents_in o) (id_of_bytes r) (id_of_bytes y)
+    pub line_to : (zs : List Id) (r x y : Id) → graph.Reaches (parents_in o) (id_of_bytes r) (id_of_bytes x) → Path (HasParent git at) zs x y → graph.Reaches (parents_in o) (id_of_bytes r) (id_of_bytes y)
     line_to [] r x y h p = subst (λ (w : Id). graph.Reaches (parents_in o) (id_of_bytes r) (id_of_bytes w)) p h
     line_to (z ∷ zs) r x y h p = line_to zs r z y (onward h (parent_to x z p.0)) p.1
 
-    line_from : (x y : ObjectId) → graph.Reaches (parents_in o) x y → Reaches (HasParent git (stored s)) x.0 y.0
+    pub line_from : (x y : ObjectId) → graph.Reaches (parents_in o) x y → Reaches (HasParent git at) x.0 y.0
     line_from x y itself = ([], refl)
-    line_from x y (onward {y = z} h l) = let p = line_from x z h in (p.0 ++ y.0 ∷ [], path_more (HasParent git (stored s)) p.0 x.0 z.0 y.0 p.1 (parent_from z.0 y.0 (get s z.0) refl l))
+    line_from x y (onward {y = z} h l) = let p = line_from x z h in (p.0 ++ y.0 ∷ [], path_more (HasParent git at) p.0 x.0 z.0 y.0 p.1 (parent_from z.0 y.0 (at z.0) refl l))
 
-    history_there : (y : Id) (found : Option Object) → get s y ≡ found → IsSome (parents_in o (id_of_bytes y)) → (q : Object) × (get s y ≡ Some q) × (q.kind ≡ Commit)
+    history_there : (y : Id) (found : Option Object) → at y ≡ found → IsSome (parents_in o (id_of_bytes y)) → (q : Object) × (at y ≡ Some q) × (q.kind ≡ Commit)
     history_there y None e h = absurd (let none : parents_in o (id_of_bytes y) ≡ None = parents_in-none o (id_of_bytes y) (rel y ∙ ap (option_map stored_of) e) in let t = there_some (parents_in o (id_of_bytes y)) h in let bad : Some t.0 ≡ None = sym t.1 ∙ none in cc)
     history_there y (Some q) e h =
         let t = there_some (parents_in o (id_of_bytes y)) h in
         (q, e, is_commit q.kind q.body t.0 (sym (parents_in-some o (id_of_bytes y) (stored_of q) (rel y ∙ ap (option_map stored_of) e)) ∙ t.1))
 
-    pub history_from : (x : Id) → graph.IsClosed (parents_in o) (id_of_bytes x) → HasHistory git (stored s) x
-    history_from x closed = record { commits = λ y r. history_there y (get s y) refl (closed (id_of_bytes y) (line_to r.0 x x y itself r.1)) }
+    pub history_from : (x : Id) → graph.IsClosed (parents_in o) (id_of_bytes x) → HasHistory git at x
+    history_from x closed = record { commits = λ y r. history_there y (at y) refl (closed (id_of_bytes y) (line_to r.0 x x y itself r.1)) }
 
     -- a commit's body is one
     parsed : (k : Kind) (body : List ℕ) → k ≡ Commit → IsObject (kind_of k) body → (ps : List ObjectId) × (parents_of (kind_of k) body ≡ Some ps)
@@ -150,7 +149,7 @@ module _ (o : ObjectMap) (s : Objects) (rel : (x : Id) → o (id_of_bytes x) ≡
         by : IsBody kinds.Commit body → (ps : List ObjectId) × (parents_of kinds.Commit body ≡ Some ps)
         by g = (g.0.parents, ap (option_map (λ (c : CommitText). c.parents)) (ap commit_of g.2 ∙ commit_again g.0 g.1))
 
-    pub history_to : (x : Id) → HasHistory git (stored s) x → graph.IsClosed (parents_in o) (id_of_bytes x)
+    pub history_to : (x : Id) → HasHistory git at x → graph.IsClosed (parents_in o) (id_of_bytes x)
     history_to x history y r =
         let t = history.commits y.0 (line_from (id_of_bytes x) y r) in
         let found : o y ≡ Some (stored_of t.0) = rel y.0 ∙ ap (option_map stored_of) t.1 in

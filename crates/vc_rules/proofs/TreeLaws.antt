@@ -188,11 +188,11 @@ pub given_trees_are_closed : GivenTreesAreClosed
 given_trees_are_closed s x i given =
     let o = layer_objects s in
     let root = id_of_bytes x in (
-      closed_from o s (λ y. refl) x (tree_closed o root given.1.0),
+      closed_from o (stored s) (λ y. refl) x (tree_closed o root given.1.0),
       λ p e at other.
           let v = some_entry (get given.0 p) e (sym (given.2 p) ∙ at) in
           let f : IsFileOfTree o root p v.0.mode v.0.id = (given.1.1 p v.0.mode v.0.id).1 v.1 in
           let no_commit : v.0.mode ≢ modes.Commit = λ k. other (ap (λ (e : MachineEntry). e.mode) (sym v.2) ∙ ap mode_number k) in
-          let reached = path_from o s (λ y. refl) root v.0.id (file_reached o root given.1.0 root f.entries f.names v.0.mode v.0.id itself f.at f.leads no_commit) in
+          let reached = path_from o (stored s) (λ y. refl) root v.0.id (file_reached o root given.1.0 root f.entries f.names v.0.mode v.0.id itself f.at f.leads no_commit) in
           subst (λ (e : MachineEntry). Reaches (Links git (stored s)) x e.id) v.2 reached,
     )

@@ -3,3 +3,4 @@ pub mod Faults
 pub mod Trees
 pub mod Values
 pub mod Laws
+pub mod Verdicts

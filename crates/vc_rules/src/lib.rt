@@ -6,6 +6,7 @@
 #![tactic(auto)]
 
 ghost use Rattle.vc_rules.specs.Laws.{GitLaws};
+ghost use Rattle.vc_rules.specs.Verdicts.{CheckNeedsAgree, ChecksAgree};
 
 /// What the layers give is as the machine asks of its rules. A body has one fault at most, a tree one index or number, an
 /// index one list of trees or number, an expression one value or refusal. An index comes only of a tree of which all is
@@ -13,4 +14,11 @@ ghost use Rattle.vc_rules.specs.Laws.{GitLaws};
 /// the root reaches nothing that is absent but what the index's files do.
 pub fn the_layers_give_what_the_machine_asks()
     ensures { GitLaws }
+{}
+
+/// What the check of a push asks of a command is what the machine asks, reason by reason, and so what is judged of a command
+/// is what the machine's check makes of it.
+pub fn the_check_of_a_push_is_the_machines()
+    ensures needs { CheckNeedsAgree }
+    ensures verdict { ChecksAgree }
 {}
