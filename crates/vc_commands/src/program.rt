@@ -1,4 +1,6 @@
 //! One run of the program: from words and streams to an exit status.
+ghost use Rattle.std.specs.Prelude.{◌≡◌, ◌⊎◌};
+ghost use Rattle.vc_commands.specs.Failure.{status_of};
 
 use crate::again::{Lists, line_of_refusal};
 use crate::arguments::{
@@ -99,6 +101,7 @@ fn tell_at<R, E>(
 where
     R: rt::Files + AllocGlobal + Clone + Drop,
     E: Write,
+    ensures status { (result ≡ status_of failure.now) ⊎ (result ≡ 3) }
 {
     if !faults.is_terminal {
         return tell(failure, None, faults);
@@ -112,7 +115,9 @@ where
 
 /// Tells why a command ended, with a line behind it on a terminal, and gives the exit status: 3 where not even that can be
 /// told.
-pub fn tell<E: Write>(failure: &Failure, behind: Option<&[u8]>, faults: &mut Faults<E>) -> u8 {
+pub fn tell<E: Write>(failure: &Failure, behind: Option<&[u8]>, faults: &mut Faults<E>) -> u8
+    ensures status { (result ≡ status_of failure.now) ⊎ (result ≡ 3) }
+{
     match failure.report(behind, faults) {
         Ok(status) => status,
         Err(fault) => fault.status(),

@@ -6,8 +6,9 @@ use Rattle.vc_commands.proofs.again.refused_revision.Goals.{then-status-eq1, els
 
 pub returns-in-Err-clause-refused : goal.returns-in-Err-clause-refused
 returns-in-Err-clause-refused g c = λ honest. elim c.if-status-eq1.branch [
-      then-status-eq1 w ↦
-        let refused : IsOfRevision (g.F.Files.content c.args.files.now) w.as_bytes.result.now c.in-Err.failure = search rules in
-        let it : IsRefusedRevision (g.F.Files.content c.args.files.now) w.as_bytes.result.now = record { failure = c.in-Err.failure; refused = refused; status = search rules } in
-        rw w.result-is it
-    | else-status-eq1 w ↦ rw w.result-is tt ]
+  | then-status-eq1 w ↦
+      let refused : IsOfRevision (g.F.Files.content c.args.files.now) w.as_bytes.result.now c.in-Err.failure = search rules in
+      let it : IsRefusedRevision (g.F.Files.content c.args.files.now) w.as_bytes.result.now = record { failure = c.in-Err.failure; refused = refused; status = search rules } in
+      rw w.result-is it
+  | else-status-eq1 w ↦ rw w.result-is tt
+]

@@ -1,4 +1,3 @@
-use Rattle.std.proofs.Common.{◌≡◌}
 use Rattle.std.proofs.lemmas.Result.{IfErr-weaker}
 use Rattle.vc_model.specs.Clone.Task.{SetBranch}
 use Rattle.vc_commands.proofs.BodyLemmas.{OnOk-map}

@@ -1,4 +1,4 @@
-use Rattle.std.proofs.Common.{◌≡◌, ℕ, List, Ok, Err, ap, sym, subst, inr}
+use Rattle.std.proofs.Common.{Ok, Err, ap, sym, inr}
 use Rattle.vc_model.specs.Clone.Task.{Unstage}
 use Rattle.vc_commands.proofs.StepLemmas.{step_of}
 use Rattle.vc_commands.proofs.clone.unstage_path.Goals as goal

@@ -1,4 +1,4 @@
-use Rattle.std.proofs.Common.{◌≡◌, subst}
+use Rattle.std.proofs.Common.{subst}
 use Rattle.vc_files.specs.FileMap.{FileMap}
 use Rattle.vc_index.specs.WrittenTrees.{IsWritten}
 use Rattle.vc_store.specs.Store.{objects}

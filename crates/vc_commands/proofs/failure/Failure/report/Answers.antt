@@ -5,5 +5,6 @@ use Rattle.vc_commands.proofs.failure.Failure.report.Goals.{in-Some+in_ok-tell_l
 
 pub returns-clause-told : goal.returns-clause-told
 returns-clause-told g c = elim c.match-behind.branch [
-      in-Some+in_ok-tell_line w ↦ told_behind _ _ (g.W.Write.contents c.print.new.stream) _ _ c.in_ok-print.ensures.line (search rules)
-    | in_default w ↦ told_behind _ _ (g.W.Write.contents c.print.new.stream) _ _ c.in_ok-print.ensures.line (search rules) ]
+  | in-Some+in_ok-tell_line w ↦ told_behind _ _ (g.W.Write.contents c.print.new.stream) _ _ c.in_ok-print.ensures.line (search rules)
+  | in_default w ↦ told_behind _ _ (g.W.Write.contents c.print.new.stream) _ _ c.in_ok-print.ensures.line (search rules)
+]
