@@ -3,11 +3,16 @@ use crate::answers::{Answer, id_or_none, listed, yes_or_no};
 use crate::ids::{Shown, ids_of};
 use crate::verdict_rows;
 use anyhow::bail;
-use std::alloc::Global;
+use indexmap::IndexSet;
+use std::alloc::{AllocError, Global};
 use vc_base::{
-    BaseFault, Commits, commits, common_ancestors, is_ancestor, is_history, merge_bases,
+    BaseFault, Commits, commits, common_ancestors, is_ancestor, is_history, is_history_beyond,
+    merge_bases,
 };
-use vc_graph::{GraphFault, Objects, closure, difference, first_incomplete, is_complete};
+use vc_graph::{
+    GraphFault, Objects, closure, difference, first_incomplete, is_complete, is_complete_beyond,
+    learn_links,
+};
 use vc_object::ObjectId;
 
 // The ids of a row, and behind the word `without` those that are excluded.
@@ -41,6 +46,11 @@ pub fn obey_commits<C: Commits>(source: &mut C, alloc: Global, verb: &str, rest:
     let found = match verb {
         "ancestor" => return yes_or_no(alloc, told_base(is_ancestor(alloc, source, &a, &b))?),
         "history" => return yes_or_no(alloc, is_history(alloc, source, &a)?),
+        "history-beyond" => {
+            let mut known = set_of(alloc, &sides.exclude)?;
+            let whole = is_history_beyond(source, &mut known, &a)?;
+            return beyond(alloc, whole, &known);
+        }
         "bases" => merge_bases(alloc, source, &a, &b),
         "common" => common_ancestors(alloc, source, &a, &b),
         "commits" => commits(alloc, source, &sides.include, &sides.exclude),
@@ -54,12 +64,36 @@ fn obey<O: Objects>(source: &mut O, alloc: Global, verb: &str, sides: &Sides) ->
         "closure" => closure(alloc, source, &sides.include),
         "difference" => difference(alloc, source, &sides.include, &sides.exclude),
         "complete" => return yes_or_no(alloc, is_complete(alloc, source, &sides.at(0))?),
+        "complete-beyond" => {
+            let mut known = set_of(alloc, &sides.exclude)?;
+            let whole = is_complete_beyond(source, &mut known, &sides.at(0))?;
+            return beyond(alloc, whole, &known);
+        }
+        "learn" => {
+            let mut known = set_of(alloc, &sides.exclude)?;
+            learn_links(source, &mut known, &sides.include)?;
+            return listed(alloc, known.as_slice());
+        }
         "incomplete" => {
             return id_or_none(alloc, first_incomplete(alloc, source, &sides.include)?);
         }
         _ => bail!("no such verb"),
     };
     listed(alloc, &told(found)?)
+}
+
+// Names that a row says are known.
+fn set_of(alloc: Global, ids: &[ObjectId]) -> Result<IndexSet<ObjectId>, AllocError> {
+    let mut set = IndexSet::new(alloc);
+    set.extend(ids)?;
+    Ok(set)
+}
+
+// Whether a walk beyond known names found all, and what is known then.
+fn beyond(alloc: Global, whole: bool, known: &IndexSet<ObjectId>) -> Answer {
+    let names = listed(alloc, known.as_slice())?;
+    let yes = if whole { "yes" } else { "no" };
+    Ok(format!(in alloc; "{yes}, {names}")?)
 }
 
 fn told<T>(answer: Result<T, GraphFault>) -> anyhow::Result<T> {

@@ -6,7 +6,7 @@ use std::alloc::Global;
 use vc_base::Commits;
 use vc_object::ObjectId;
 use vc_push::Command;
-use vc_session::judge;
+use vc_session::{Known, judge};
 
 /// A row has the old id, the new one and the name; `-` stands for no value. The answer is the number of the reason for which
 /// the command is refused, and its text, or that it passes.
@@ -18,7 +18,7 @@ pub fn obey<C: Commits>(commits: &mut C, alloc: Global, rest: &str) -> Answer {
         new: id_in(alloc, new)?.unwrap_or(ObjectId::ZERO),
         name: bytes_of(alloc, name)?,
     };
-    let Some(reason) = judge(alloc, commits, &command)? else {
+    let Some(reason) = judge(alloc, commits, &mut Known::nothing(alloc), &command)? else {
         return word(alloc, "passes");
     };
     let text = reason.text().as_bstr();

@@ -27,12 +27,13 @@ impl Model for Ground {
 }
 
 impl Ground {
-    /// A work tree in memory; the other one is the folder `work`.
+    /// A work tree in memory; the other one is the folder `work`, whose store's folder is `store`.
     pub fn new(rt: &HostRuntime) -> Result<Ground, AllocError> {
         let path = String::from_str(rt.alloc(), "work")?;
+        let store = String::from_str(rt.alloc(), "store")?;
         Ok(Ground {
             memory: MemoryTree::new(rt.alloc()),
-            folder: FolderTree::new(rt.clone()?, path, String::new(rt.alloc())),
+            folder: FolderTree::new(rt.clone()?, path, String::new(rt.alloc()), store),
             on_disk: false,
             left: u64::MAX,
             failed: 0,

@@ -5,6 +5,7 @@
 mod ancestry;
 mod bases;
 mod fault;
+mod known;
 mod overlay;
 mod selection;
 mod source;
@@ -14,5 +15,6 @@ mod walk;
 pub use ancestry::{is_ancestor, is_history};
 pub use bases::{common_ancestors, merge_bases};
 pub use fault::BaseFault;
+pub use known::is_history_beyond;
 pub use selection::commits;
 pub use source::{Commits, Parents};

@@ -13,13 +13,14 @@ use std::rt;
 use vc_work_folder::FolderTree;
 
 // The work tree in this folder, of which the folder of the store is no part.
-fn open_work<R>(rt: &R, work: &str, own: &str) -> Result<FolderTree<R>, Failure>
+fn open_work<R>(rt: &R, store: &str, work: &str, own: &str) -> Result<FolderTree<R>, Failure>
 where
     R: rt::Files + AllocGlobal + Clone + Drop,
 {
     let path = String::from_str(rt.alloc(), work)?;
     let own = String::from_str(rt.alloc(), own)?;
-    Ok(FolderTree::new(rt.clone()?, path, own))
+    let store = String::from_str(rt.alloc(), store)?;
+    Ok(FolderTree::new(rt.clone()?, path, own, store))
 }
 
 /// Puts a file of the work tree into the index. A path that no index may have is refused before the file is looked for.
@@ -28,7 +29,7 @@ where
     R: rt::Files + AllocGlobal + Clone + Drop,
 {
     let own = own_folder(rt, store, work)?;
-    let mut ground = open_work(rt, work, own.as_str())?;
+    let mut ground = open_work(rt, store, work, own.as_str())?;
     let mut node = open_clone(rt, store)?;
     add_file(
         rt.alloc(),
@@ -47,7 +48,7 @@ where
     R: rt::Files + AllocGlobal + Clone + Drop,
 {
     let own = own_folder(rt, store, work)?;
-    let mut ground = open_work(rt, work, own.as_str())?;
+    let mut ground = open_work(rt, store, work, own.as_str())?;
     let mut files = open_store(rt, store)?;
     check_out(
         rt.alloc(),
@@ -65,7 +66,7 @@ where
     O: Write,
 {
     let own = own_folder(rt, store, work)?;
-    let mut ground = open_work(rt, work, own.as_str())?;
+    let mut ground = open_work(rt, store, work, own.as_str())?;
     let mut files = open_store(rt, store)?;
     print_status(
         rt.alloc(),

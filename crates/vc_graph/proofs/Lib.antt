@@ -1,5 +1,6 @@
 pub mod FaultLemmas
 pub mod IncompleteLemmas
+pub mod KnownLemmas
 pub mod NamesLemmas
 pub mod OverlayLemmas
 pub mod WalkLemmas

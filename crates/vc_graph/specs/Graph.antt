@@ -1,12 +1,18 @@
 -- A set of objects as a graph. `links` gives what an object that is there links to, and none for a name that is absent
 -- (what an object links to is Git's object format: gitcore-tutorial, git-rev-list's `--objects`). Nothing here asks that
 -- the links have no cycle, or that the set is finite.
-use Rattle.std.specs.Prelude.{◌≡◌, List, Option, Some, None, IsSome, Contains}
+use Rattle.std.specs.Prelude.{◌≡◌, ◌⊎◌, List, Option, Some, None, IsSome, Contains}
 
 module _ {Id : Type 0} (links : Id → Option (List Id)) where
   -- x is there, and y is one of its links
   abbrev pub LinksTo : Id → Id → Type 0
   LinksTo x y = (ys : List Id) × (links x ≡ Some ys) × Contains ys y
+
+  -- one of the names is there and links to y
+  pub record IsLinkOf (names : List Id) (y : Id) : Type 0 where
+    pub name : Id
+    pub is_name : Contains names name
+    pub links_to : LinksTo name y
 
   -- a list of names leads from x to y, each a link of the one before; x alone is such a list
   pub data Reaches (x : Id) : Id → Type 0 where
@@ -26,6 +32,12 @@ module _ {Id : Type 0} (links : Id → Option (List Id)) where
   -- every name that a root reaches is there
   abbrev pub IsClosedUnder : List Id → Type 0
   IsClosedUnder roots = (y : Id) → ReachedFrom roots y → IsSome (links y)
+
+  -- what is known after a walk from x beyond names that were known: each name was known or is reached from x, and what x
+  -- reaches is known now, or is reached from what was known
+  pub record IsMetBeyond (known : List Id) (x : Id) (now : List Id) : Type 0 where
+    pub known_or_reached : (y : Id) → Contains now y → Contains known y ⊎ Reaches x y
+    pub met_or_known : (y : Id) → Reaches x y → Contains now y ⊎ ReachedFrom known y
 
   -- each of the names is there, and its links are among them
   pub record IsFollowed (names : List Id) : Type 0 where

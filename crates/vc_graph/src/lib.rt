@@ -3,6 +3,7 @@
 
 mod fault;
 mod incomplete;
+mod known;
 mod names;
 mod overlay;
 mod reach;
@@ -12,6 +13,7 @@ mod walk;
 
 pub use fault::GraphFault;
 pub use incomplete::first_incomplete;
+pub use known::{add_names, is_complete_beyond, learn_links};
 pub use names::{sorted_difference, sorted_from};
 pub use overlay::{Carried, Overlay};
 pub use reach::{closure, difference, is_complete};

@@ -1,20 +1,13 @@
 -- From what is shown before and after a call to the machine's answers.
-use Rattle.std.proofs.Common.{◌≡◌, ◌⊎◌, inl, inr, ℕ, Bool, true, false, cond, List, Option, Some, None, refl, sym, ap, ◌∙◌, subst}
-use Rattle.std.specs.Prelude.{option_map, bytes_eq, string_bytes, not}
-use Rattle.std.specs.FinMap.{FinMap, get, insert, remove, get-insert, get-remove}
-use Rattle.std.specs.Ordering.{nat_cmp}
-use Rattle.std.specs.Cmp.Lexicographic.{slice_cmp, nat_list_cmp_total}
-use Rattle.std.proofs.lemmas.Map.Text.{is_eq-slice_cmp}
+use Rattle.std.proofs.Common.{◌≡◌, ◌⊎◌, inl, inr, ℕ, Bool, true, false, Option, Some, None, refl, sym, ap, ◌∙◌, subst}
+use Rattle.std.specs.Prelude.{string_bytes, not}
 use Rattle.vc_files.specs.FileMap.{FileMap}
-use Rattle.vc_format.specs.Git.{kind_of}
 use Rattle.vc_model.specs.Repository.{Repository}
 use Rattle.vc_model.specs.Node.{Answer, Failure}
 use Rattle.vc_model.specs.Node.Answer.{Did, Declined, Fault}
 use Rattle.vc_model.specs.Clone.{Awaited, CloneNode, Task}
 use Rattle.vc_model.specs.CloneCall.{Refuses}
 use Rattle.vc_model.specs.CloneCall.CloneAnswers.{down, refused, obeyed, faulted}
-use Rattle.vc_object.specs.declared.kind.Kind.{Kind as ObjectKind}
-use Rattle.vc_object.specs.declared.kind.Kind.TheVariants as kinds
 use Rattle.vc_refs.specs.declared.faults.RefFault.TheVariants as ref
 use Rattle.vc_store.specs.declared.faults.StoreFault.TheVariants as store
 use Rattle.vc_node.specs.declared.fault.NodeFault.{NodeFault}
@@ -22,16 +15,10 @@ use Rattle.vc_node.specs.declared.fault.NodeFault.TheVariants.{Store, Ref, Missi
 use Rattle.vc_node.specs.Clean.{IsClean, KeepsClean}
 use Rattle.vc_node.specs.NodeFault.{is_fault}
 use Rattle.vc_node.specs.Shown.{Shown, shown}
-use Rattle.vc_rules.specs.Git.{git, machine_kind}
+use Rattle.vc_rules.specs.Git.{git}
 use Rattle.vc_rules.proofs.GitLaws.{git_rules}
 use Rattle.vc_node.specs.Machine.{live_of, Spells, Follows, Answers, AnswersShown, IsBadFile, fault_answer}
 use Rattle.vc_node.proofs.CleanLemmas.{still_clean}
-
-pub kind_back : (k : ObjectKind) → kind_of (machine_kind k) ≡ k
-kind_back kinds.Blob = refl
-kind_back kinds.Tree = refl
-kind_back kinds.Commit = refl
-kind_back kinds.Tag = refl
 
 -- a node that is down
 pub answers_down : (task : Task) (was : Bool) (s : Shown) → was ≡ false → AnswersShown task (Declined 112) was was s s
@@ -164,17 +151,3 @@ declines task n s h = record { goes = λ awaited r spells. (r, spells, (h r spel
 
 pub faults : (task : Task) (f : Failure) (s : Shown) → Follows task (Fault f) s s
 faults task f s = record { goes = λ awaited r spells. (r, spells, inr refl) }
-
--- ---- maps by the bytes of their keys
-
-module _ {X : Type 0} (m : FinMap (slice_cmp nat_cmp) X) (k q : List ℕ) where
-  pub get-put : (v : X) → get (insert m k v) q ≡ cond (bytes_eq q k) (Some v) (get m q)
-  get-put v = get-insert nat_list_cmp_total m k v q ∙ ap (λ b. cond b (Some v) (get m q)) (is_eq-slice_cmp q k)
-
-  pub get-unput : get (remove m k) q ≡ cond (bytes_eq q k) None (get m q)
-  get-unput = get-remove nat_list_cmp_total m k q ∙ ap (λ b. cond b None (get m q)) (is_eq-slice_cmp q k)
-
--- under a condition, a function of either value
-pub map_cond : {X Y : Type 0} (f : X → Y) (b : Bool) (a c : Option X) → cond b (option_map f a) (option_map f c) ≡ option_map f (cond b a c)
-map_cond f true a c = refl
-map_cond f false a c = refl

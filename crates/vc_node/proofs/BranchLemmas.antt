@@ -1,13 +1,13 @@
 -- The machine's answers to changes of branches and of HEAD.
-use Rattle.std.proofs.Common.{◌≡◌, ◌⊎◌, inl, inr, ℕ, Bool, true, false, cond, nat_eq, append_assoc, List, [], ◌∷◌, ◌++◌, drop, length, Option, Some, None, refl, sym, ap, ◌∙◌, subst}
-use Rattle.std.specs.Prelude.{option_map, is_some, bytes_eq, codes, ◌||◌}
+use Rattle.std.proofs.Common.{◌≡◌, ◌⊎◌, inl, inr, ℕ, true, cond, nat_eq, List, [], ◌∷◌, drop, None, refl, sym, ap, ◌∙◌, subst}
+use Rattle.std.specs.Prelude.{option_map, is_some, bytes_eq, codes}
 use Rattle.std.specs.List.{starts_with}
 use Rattle.std.specs.FinMap.{get, insert, remove}
 use Rattle.vc_files.specs.FileMap.{FileMap}
 use Rattle.vc_format.specs.Git.{id_of_bytes}
-use Rattle.vc_model.specs.Object.{Id, stored}
+use Rattle.vc_model.specs.Object.{stored}
 use Rattle.vc_model.specs.Reach.{IsClosed, HasHistory}
-use Rattle.vc_model.specs.Refs.{RefName, Refs, IsBranch, IsFree, Conflicts}
+use Rattle.vc_model.specs.Refs.{RefName, Refs, IsBranch, IsFree}
 use Rattle.vc_model.specs.Refs.Head.{OnBranch, Detached}
 use Rattle.vc_model.specs.Repository.{Repository, only_changes}
 use Rattle.vc_model.specs.Repository.Change.{RemoveRef, SetRefs, SetHead}
@@ -18,7 +18,7 @@ use Rattle.vc_model.specs.Node.Reply.{Stored}
 use Rattle.vc_model.specs.Clone.{Awaited, quietly}
 use Rattle.vc_model.specs.Clone.Task.{DeleteBranch, SetBranch, MoveHead}
 use Rattle.vc_object.specs.declared.id.ObjectId.{ObjectId}
-use Rattle.vc_refs.specs.RefMap.{RefMap, is_folder_of, conflicts, with_ref, without_ref}
+use Rattle.vc_refs.specs.RefMap.{RefMap, conflicts, with_ref, without_ref}
 use Rattle.vc_refs.specs.Refs.{refs, IsBadRef}
 use Rattle.vc_refs.specs.Way.{IsFree as IsFreeName}
 use Rattle.vc_refs.specs.declared.heads.Head.{Head as RefsHead}
@@ -27,7 +27,7 @@ use Rattle.vc_refs.proofs.RefsLemmas.{taken_from_ref}
 use Rattle.vc_store.specs.Store.{objects}
 use Rattle.vc_store.specs.declared.faults.StoreFault.TheVariants as store
 use Rattle.vc_refs.specs.declared.faults.RefFault.TheVariants as ref
-use Rattle.vc_refs.proofs.WayLemmas.{split_from_starts, starts_with-append}
+use Rattle.vc_refs.proofs.WayLemmas.{split_from_starts}
 use Rattle.vc_node.specs.declared.fault.NodeFault.{NodeFault}
 use Rattle.vc_node.specs.declared.fault.NodeFault.TheVariants.{Store, Ref, Missing, NotACommit, BadPath, PathConflict, BadIndex, WrongEntry, Down}
 use Rattle.vc_node.specs.Blames.{BlamesRemoved, BlamesBranch, BlamesHead, MayHead, IsLocalHead}
@@ -36,11 +36,13 @@ use Rattle.vc_node.specs.Shown.{Shown, shown, with_refs_shown, with_head_shown}
 use Rattle.vc_rules.specs.Git.{git}
 use Rattle.vc_rules.proofs.GitLaws.{git_rules}
 use Rattle.vc_node.specs.Machine.{machine_head, Spells, Follows, IsBadFile, fault_answer, failure_of}
-use Rattle.vc_node.proofs.AnswerLemmas.{declines, faults, get-put, get-unput, map_cond}
-use Rattle.vc_node.proofs.IndexLemmas.{none_added}
+use Rattle.vc_node.proofs.AnswerLemmas.{declines, faults}
+use Rattle.vc_rules.proofs.JoinLemmas.{none_added}
+use Rattle.vc_rules.proofs.MapLemmas.{get-unput, map_cond}
 use Rattle.vc_rules.proofs.ReachLemmas.{closed_from, closed_to, history_from, history_to}
 use Rattle.vc_node.proofs.NameLemmas.{head_named, set_named}
-use Rattle.vc_node.proofs.StoredLemmas.{objects_sound}
+use Rattle.vc_rules.proofs.RefLemmas.{conflicts_from, conflicts_to, id_some, set_rel, some_id}
+use Rattle.vc_rules.proofs.SoundLemmas.{objects_sound}
 
 -- a name that begins so is a branch's
 pub branch_named : (name : List ℕ) → starts_with nat_eq name (codes "refs/heads/") ≡ true → IsBranch name
@@ -91,35 +93,6 @@ delete_failed content name Down blames = absurd blames
 
 -- ---- what is in the way of a name
 
-conflict_from : (a b : List ℕ) → is_folder_of a b ≡ true → (rest : List ℕ) × (b ≡ a ++ 47 ∷ rest)
-conflict_from a b h = (drop (length (a ++ 47 ∷ [])) b, split_from_starts b (a ++ 47 ∷ []) h ∙ append_assoc a (47 ∷ []) (drop (length (a ++ 47 ∷ [])) b))
-
-folder_from : (a b : List ℕ) → (rest : List ℕ) × (b ≡ a ++ 47 ∷ rest) → is_folder_of a b ≡ true
-folder_from a b h = ap (λ c. starts_with nat_eq c (a ++ 47 ∷ [])) (h.1 ∙ sym (append_assoc a (47 ∷ []) h.0)) ∙ starts_with-append (a ++ 47 ∷ []) h.0
-
-conflicts_from : (a b : List ℕ) → conflicts a b ≡ true → Conflicts a b
-conflicts_from a b h = by (is_folder_of a b) refl
-  where
-    by : (x : Bool) → is_folder_of a b ≡ x → Conflicts a b
-    by true e = inl (conflict_from a b e)
-    by false e = inr (conflict_from b a (ap (λ x. x || is_folder_of b a) (sym e) ∙ h))
-
-conflicts_to : (a b : List ℕ) → Conflicts a b → conflicts a b ≡ true
-conflicts_to a b (inl h) = ap (λ x. x || is_folder_of b a) (folder_from a b h)
-conflicts_to a b (inr h) = by (is_folder_of a b)
-  where
-    by : (x : Bool) → x || is_folder_of b a ≡ true
-    by true = refl
-    by false = folder_from b a h
-
-some_id : (found : Option Id) (x : Id) → found ≡ Some x → is_some (option_map id_of_bytes found) ≡ true
-some_id None x e = cc
-some_id (Some y) x e = refl
-
-id_some : (found : Option Id) → is_some (option_map id_of_bytes found) ≡ true → (x : Id) × (found ≡ Some x)
-id_some None h = absurd (cc h)
-id_some (Some x) h = (x, refl)
-
 -- a name that no file is in the way of is free
 pub free_from : (content : FileMap) (r : Repository) (name : List ℕ) → Spells (shown content) r → IsFreeName content name → IsFree r.refs name
 free_from content r name p free m x found conflict =
@@ -147,18 +120,13 @@ module _ (content : FileMap) (r : Repository) (p : Spells (shown content) r) (id
   pub not_history : ¬ IsHistory content id → ¬ HasHistory git (stored r.objects) id.0
   not_history h c = h (history_to (objects content) (stored r.objects) p.objects (objects_sound content) id.0 c)
 
-pub set_rel : (s : Shown) (r : Repository) (name : List ℕ) (id : ObjectId) → Spells s r → (q : RefName) → with_ref s.refs name id q ≡ option_map id_of_bytes (get (insert r.refs name id.0) q)
-unfolding with_ref
-set_rel s r name id p q =
-    ap (cond (bytes_eq q name) (Some id)) (p.refs q) ∙ map_cond id_of_bytes (bytes_eq q name) (Some id.0) (get r.refs q) ∙ ap (option_map id_of_bytes) (sym (get-put r.refs name q id.0))
-
 pub set_branch_done : (content : FileMap) (name : List ℕ) (id : ObjectId) (new : FileMap) → starts_with nat_eq name (codes "refs/heads/") ≡ true → shown new ≡ with_refs_shown (shown content) (with_ref (refs content) name id)
     → IsFreeName content name → IsComplete content id × IsHistory content id → Follows (SetBranch name id.0) (Did Stored) (shown content) (shown new)
 set_branch_done content name id new begins is free good = record {
   goes = λ awaited r p.
       let after = record r { refs = insert r.refs name id.0 } in (
         after,
-        subst (λ (s : Shown). Spells s after) (sym is) (spells_refs (shown content) r (with_ref (refs content) name id) (insert r.refs name id.0) p (set_rel (shown content) r name id p)),
+        subst (λ (s : Shown). Spells s after) (sym is) (spells_refs (shown content) r (with_ref (refs content) name id) (insert r.refs name id.0) p (set_rel (refs content) r.refs p.refs name id)),
         (
           quietly awaited (only_changes (SetRefs ((name, id.0) ∷ []) ∷ [])) Stored,
           ((branch_named name begins, set_named content new name id is), free_from content r name p free, (closed content r p id good.0, history content r p id good.1), refl),

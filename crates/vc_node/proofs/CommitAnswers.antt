@@ -37,15 +37,16 @@ use Rattle.vc_rules.proofs.GitLaws.{git_rules}
 use Rattle.vc_node.specs.Machine.{machine_head, Spells, Follows}
 use Rattle.vc_node.specs.Making.{AreLines, HasRoot, IsCut, MayCommit}
 use Rattle.vc_node.specs.Shown.{Shown, shown, with_objects_shown}
-use Rattle.vc_node.proofs.BranchLemmas.{spells_refs, spells_head, set_rel}
-use Rattle.vc_node.proofs.IndexLemmas.{none_added}
+use Rattle.vc_node.proofs.BranchLemmas.{spells_refs, spells_head}
+use Rattle.vc_rules.proofs.JoinLemmas.{none_added}
+use Rattle.vc_rules.proofs.RefLemmas.{set_rel}
 use Rattle.vc_node.proofs.RefusalLemmas.{same_head, same_body, head_free, parents_good}
 use Rattle.vc_node.proofs.TreeObjects.{with_trees, with_trees_show, with_trees_append, trees_held, trees_over, spells_objects, added_over, Keeps, keeps_added, keeps_trees, some_of_more}
 use Rattle.vc_node.proofs.WriteLemmas.{added, added_shows}
 
 -- HEAD's branch, or a detached HEAD, is moved to the id
 spells_moved : (s : Shown) (u : Repository) (id : ObjectId) (head : Head) → Spells s u → Spells (moved head id s) (changed (head_to (machine_head head) id.0) u)
-spells_moved s u id (heads.Branch name) p = spells_refs s u (Rattle.vc_refs.specs.RefMap.with_ref s.refs name id) (insert u.refs name id.0) p (set_rel s u name id p)
+spells_moved s u id (heads.Branch name) p = spells_refs s u (Rattle.vc_refs.specs.RefMap.with_ref s.refs name id) (insert u.refs name id.0) p (set_rel s.refs u.refs p.refs name id)
 spells_moved s u id (heads.Id was) p = spells_head s u (heads.Id id) p
 
 module _ (content : FileMap) (extra : List ObjectId) (author committer message : List ℕ) where

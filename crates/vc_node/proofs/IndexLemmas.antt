@@ -1,10 +1,7 @@
 -- The machine's answers to changes of the index.
 use Rattle.std.proofs.Common.{◌≡◌, ◌≢◌, ◌⊎◌, inl, inr, ℕ, true, false, cond, List, [], ◌∷◌, Option, Some, None, refl, sym, ap, ◌∙◌, subst}
 use Rattle.std.specs.Prelude.{option_map, IsSome, bytes_eq}
-use Rattle.std.specs.FinMap.{get, insert, remove, empty, get-empty}
-use Rattle.std.specs.Option.{option_or}
-use Rattle.std.specs.Ordering.{nat_cmp}
-use Rattle.std.specs.Cmp.Lexicographic.{slice_cmp}
+use Rattle.std.specs.FinMap.{get, insert, remove}
 use Rattle.vc_files.specs.FileMap.{FileMap}
 use Rattle.vc_format.specs.Git.{git_name}
 use Rattle.vc_index.specs.IndexMap.{IndexMap, IsIndex, HasConflict, index_entry}
@@ -14,7 +11,7 @@ use Rattle.vc_index.specs.declared.faults.IndexFault.{IndexFault}
 use Rattle.vc_index.specs.declared.faults.IndexFault.TheVariants as index
 use Rattle.vc_index.proofs.AgainLemmas.{no_text_fault}
 use Rattle.vc_index.proofs.MapLemmas.{insert-IsIndex, remove-IsIndex}
-use Rattle.vc_model.specs.Object.{Object, Objects, blob}
+use Rattle.vc_model.specs.Object.{Objects, blob}
 use Rattle.vc_model.specs.Repository.{Repository, Entry, Index, AllAdded, SomeAdded, with_objects, only_changes}
 use Rattle.vc_model.specs.Repository.Change.{SetIndex}
 use Rattle.vc_model.specs.Node.{Deed}
@@ -42,16 +39,10 @@ use Rattle.vc_rules.specs.Git.{git, machine_entry, mode_number}
 use Rattle.vc_rules.specs.Faults.{object_number}
 use Rattle.vc_rules.proofs.GitLaws.{git_rules}
 use Rattle.vc_node.specs.Machine.{Spells, Follows, IsBadFile, fault_answer, failure_of}
-use Rattle.vc_node.proofs.AnswerLemmas.{faults, get-put, get-unput, map_cond}
+use Rattle.vc_node.proofs.AnswerLemmas.{faults}
+use Rattle.vc_rules.proofs.JoinLemmas.{none_added}
+use Rattle.vc_rules.proofs.MapLemmas.{get-put, get-unput, map_cond}
 use Rattle.vc_node.proofs.WriteLemmas.{added, added_all, spells_added}
-
--- nothing is added
-pub none_added : (s : Objects) → AllAdded s empty s
-none_added s = record { each = λ x. by (get s x) ∙ ap (option_or (get s x)) (sym (get-empty (slice_cmp nat_cmp) x)) }
-  where
-    by : (found : Option Object) → found ≡ option_or found None
-    by None = refl
-    by (Some o) = refl
 
 -- what is shown spells the index
 pub spells_index : (content : FileMap) (r : Repository) (p : Spells (shown content) r) → SpellsIndex content p.map

@@ -5,7 +5,6 @@ pub mod WriteLemmas
 pub mod IndexLemmas
 pub mod TreeLemmas
 pub mod BranchLemmas
-pub mod StoredLemmas
 pub mod MakingLemmas
 pub mod RefusalLemmas
 pub mod TreeObjects

@@ -32,7 +32,8 @@ use Rattle.vc_node.specs.Shown.{shown}
 use Rattle.vc_rules.specs.Git.{git, machine_object, mode_number}
 use Rattle.vc_rules.proofs.GitLaws.{git_rules}
 use Rattle.vc_node.specs.Machine.{live_of, machine_head, MayWriteOr, Spells}
-use Rattle.vc_node.proofs.AnswerLemmas.{kind_back, get-put}
+use Rattle.vc_rules.proofs.CarriedLemmas.{kind_back}
+use Rattle.vc_rules.proofs.MapLemmas.{get-put}
 use Rattle.vc_node.proofs.BranchLemmas.{branch_named, closed, free_from, head_deed, history}
 use Rattle.vc_node.proofs.CommitAnswers.{commit_deed, obeyed}
 use Rattle.vc_node.proofs.IndexLemmas.{staged_deed, staged_obeyed}

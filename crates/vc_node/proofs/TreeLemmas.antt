@@ -31,8 +31,10 @@ use Rattle.vc_node.specs.Shown.{Shown, IsLoaded, shown}
 use Rattle.vc_rules.specs.Git.{machine_entry, layer_objects}
 use Rattle.vc_rules.specs.Trees.{tree_number, ShowsIndex, TreeGives}
 use Rattle.vc_node.specs.Machine.{Spells, Follows, IsBadFile, fault_answer, failure_of}
-use Rattle.vc_node.proofs.AnswerLemmas.{declines, faults, map_cond}
-use Rattle.vc_node.proofs.IndexLemmas.{none_added, spells_map}
+use Rattle.vc_node.proofs.AnswerLemmas.{declines, faults}
+use Rattle.vc_rules.proofs.JoinLemmas.{none_added}
+use Rattle.vc_rules.proofs.MapLemmas.{map_cond}
+use Rattle.vc_node.proofs.IndexLemmas.{spells_map}
 
 -- ---- an index of the machine
 

@@ -19,7 +19,7 @@ use Rattle.vc_rules.specs.Git.{machine_object, stored_of, no_objects}
 use Rattle.vc_rules.specs.Trees.{HoldsTrees}
 use Rattle.vc_node.specs.Machine.{Spells}
 use Rattle.vc_node.specs.Shown.{Shown, with_objects_shown}
-use Rattle.vc_node.proofs.AnswerLemmas.{get-put}
+use Rattle.vc_rules.proofs.MapLemmas.{get-put}
 use Rattle.vc_node.proofs.WriteLemmas.{added, added_shows}
 
 abbrev tree_name : List Entry → Id

@@ -29,7 +29,9 @@ use Rattle.vc_node.specs.Shown.{Shown, with_objects_shown}
 use Rattle.vc_rules.specs.Git.{git, machine_object, stored_of}
 use Rattle.vc_rules.specs.Faults.{object_number}
 use Rattle.vc_node.specs.Machine.{Spells, Follows, IsBadFile, fault_answer, failure_of}
-use Rattle.vc_node.proofs.AnswerLemmas.{kind_back, declines, faults, get-put}
+use Rattle.vc_node.proofs.AnswerLemmas.{declines, faults}
+use Rattle.vc_rules.proofs.CarriedLemmas.{kind_back}
+use Rattle.vc_rules.proofs.MapLemmas.{get-put}
 
 -- the objects, with this one too: one that is there stays
 abbrev pub added : Objects → Id → Object → Objects

@@ -5,3 +5,11 @@ pub mod FaultLaws
 pub mod ValueLaws
 pub mod GitLaws
 pub mod VerdictLaws
+pub mod RefLemmas
+pub mod SoundLemmas
+pub mod MapLemmas
+pub mod JoinLemmas
+pub mod UpdateLaws
+pub mod JudgedLemmas
+pub mod CarriedLemmas
+pub mod OpenPushLaws

@@ -29,10 +29,10 @@ begins name start =
     (λ met. (drop (length start) name, s.0 met), λ h. s.1 h.0 h.1)
 
 module _ (name : List ℕ) where
-  branch : is_branch name ≡ true ↔ IsBranch name
+  pub branch : is_branch name ≡ true ↔ IsBranch name
   branch = begins name (codes "refs/heads/")
 
-  tag : is_tag name ≡ true ↔ IsTag name
+  pub tag : is_tag name ≡ true ↔ IsTag name
   tag = begins name (codes "refs/tags/")
 
   either : (b t : Bool) → (b || t) ≡ true → (b ≡ true) ⊎ (t ≡ true)
@@ -55,13 +55,13 @@ module _ (name : List ℕ) where
   )
 
 -- ---- the zero id
-zero : (id : ObjectId) → id_eq id zero_id ≡ true ↔ (id.0 ≡ model.zero_id)
+pub zero : (id : ObjectId) → id_eq id zero_id ≡ true ↔ (id.0 ≡ model.zero_id)
 zero id = (
   λ e. ap (λ (x : ObjectId). x.0) (id_eq-same id zero_id e),
   λ e. subst (λ (x : Id). id_eq (id_of_bytes x) zero_id ≡ true) (sym e) (id_eq_equiv.refl zero_id),
 )
 
-not_zero : (id : ObjectId) → id_eq id zero_id ≡ false ↔ (id.0 ≡ model.zero_id → ⊥)
+pub not_zero : (id : ObjectId) → id_eq id zero_id ≡ false ↔ (id.0 ≡ model.zero_id → ⊥)
 not_zero id = (λ e is. true≢false (sym ((zero id).1 is) ∙ e), λ none. by (id_eq id zero_id) refl none)
   where
     by : (b : Bool) → id_eq id zero_id ≡ b → (id.0 ≡ model.zero_id → ⊥) → b ≡ false
@@ -93,11 +93,11 @@ module _ (objects : ObjectMap) (at : Lookup) (c : CommandText) (found : AreFound
 
 -- ---- the first that is not met
 module _ (A : Reason → Type 0) (B : machine.Reason → Type 0) (agree : (r : Reason) → A r ↔ B (machine_reason r)) where
-  all_met : (qs : List Reason) → AllByRecursion A qs → AllByRecursion B (map machine_reason qs)
+  pub all_met : (qs : List Reason) → AllByRecursion A qs → AllByRecursion B (map machine_reason qs)
   all_met [] h = tt
   all_met (q ∷ qs) h = ((agree q).0 h.0, all_met qs h.1)
 
-  first_unmet : (qs : List Reason) (r : Reason) → FirstUnmet A qs r → machine.FirstUnmet B (map machine_reason qs) (machine_reason r)
+  pub first_unmet : (qs : List Reason) (r : Reason) → FirstUnmet A qs r → machine.FirstUnmet B (map machine_reason qs) (machine_reason r)
   first_unmet [] r h = h
   first_unmet (q ∷ qs) r (inl h) = inl ((λ met. h.0 ((agree q).1 met)), ap machine_reason h.1)
   first_unmet (q ∷ qs) r (inr h) = inr ((agree q).0 h.0, first_unmet qs r h.1)

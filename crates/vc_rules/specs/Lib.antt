@@ -4,3 +4,4 @@ pub mod Trees
 pub mod Values
 pub mod Laws
 pub mod Verdicts
+pub mod OpenPushes

@@ -6,6 +6,7 @@
 #![tactic(auto)]
 
 ghost use Rattle.vc_rules.specs.Laws.{GitLaws};
+ghost use Rattle.vc_rules.specs.OpenPushes.{EachIsBrought, OpensAgree, StepsAgree, OthersStay, EndsEarlyAgree};
 ghost use Rattle.vc_rules.specs.Verdicts.{CheckNeedsAgree, ChecksAgree};
 
 /// What the layers give is as the machine asks of its rules. A body has one fault at most, a tree one index or number, an
@@ -21,4 +22,16 @@ pub fn the_layers_give_what_the_machine_asks()
 pub fn the_check_of_a_push_is_the_machines()
     ensures needs { CheckNeedsAgree }
     ensures verdict { ChecksAgree }
+{}
+
+/// Each step of a push's session is the machine's step of the push that it stands for: the check over what is stored and carried
+/// at that moment, where the repository is sound; the storing of all that is carried; one update over the refs of that moment;
+/// the end, where all is told. The pushes of the other slots stay as they are. A push that is opened is one of the machine's,
+/// of the objects that it brings, and a step that ends early leaves what a stop of the machine's may leave.
+pub fn the_steps_of_a_push_are_the_machines()
+    ensures brought { EachIsBrought }
+    ensures opened { OpensAgree }
+    ensures steps { StepsAgree }
+    ensures others { OthersStay }
+    ensures early { EndsEarlyAgree }
 {}

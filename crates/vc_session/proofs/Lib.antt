@@ -4,3 +4,10 @@ pub mod QuarantineLemmas
 pub mod SeenLemmas
 pub mod UpdateLemmas
 pub mod MigratingLemmas
+pub mod ReportLemmas
+pub mod SessionLemmas
+pub mod DamageLemmas
+pub mod FrameLemmas
+pub mod CarryingLemmas
+pub mod CheckingLemmas
+pub mod KnownLemmas

@@ -48,6 +48,15 @@ quarantined-named content slot id p h = by (is_id id) h
     by true h = of_file id (files.get content (quarantine_path slot id.0)) p h
     by false h = absurd (cc h)
 
+-- and no other text than a name has one
+pub quarantined-valid : (content : FileMap) (slot : ℕ) (id : ObjectId) (p : StoredObject) → quarantined content slot id ≡ Some p → is_id id ≡ true
+unfolding quarantined
+quarantined-valid content slot id p h = by (is_id id) h
+  where
+    by : (b : Bool) → cond b (result_ok (stored_in id (files.get content (quarantine_path slot id.0)))) None ≡ Some p → b ≡ true
+    by true h = refl
+    by false h = absurd (cc h)
+
 -- ---- one object
 put_one : (b : Bool) (stored carried : Option StoredObject) (object : StoredObject) → (b ≡ true → carried ≡ Some object) → cond b (Some (unwrap_or stored object)) stored ≡ cond (b || false) (option_or stored carried) stored
 put_one true None carried object is = sym (is refl)

@@ -1,5 +1,5 @@
 -- What a write into a quarantine does to what it holds, and what is left as files are taken away.
-use Rattle.std.proofs.Common.{◌≡◌, ℕ, Bool, true, false, cond, ◌&&◌, ◌||◌, nat_eq, List, [], ◌∷◌, ◌++◌, drop, length, map, take, Option, Some, None, Ok, Err, sym, ap, refl, ◌∙◌, subst}
+use Rattle.std.proofs.Common.{◌≡◌, ◌⊎◌, inl, inr, ℕ, Bool, true, false, cond, ◌&&◌, ◌||◌, nat_eq, List, [], ◌∷◌, ◌++◌, drop, length, map, take, Option, Some, None, Ok, Err, sym, ap, refl, ◌∙◌, subst}
 use Rattle.std.specs.Prelude.{bytes_eq, codes, is_some, String, string_bytes}
 use Rattle.std.specs.FinMap as files
 use Rattle.std.specs.List.{starts_with}
@@ -27,7 +27,7 @@ use Rattle.vc_refs.proofs.PathLemmas.{is_among, is_among-paths_under}
 use Rattle.vc_store.proofs.PathLemmas.{name_in-object_path}
 use Rattle.vc_store.specs.Store.{name_in, named, object_path, stored_in}
 use Rattle.vc_store.specs.declared.faults.StoreFault.TheVariants.{Damaged}
-use Rattle.vc_session.specs.Quarantine.{IsDropped, quarantine_folder, quarantine_path, quarantined}
+use Rattle.vc_session.specs.Quarantine.{IsDropped, OnlyLoses, quarantine_folder, quarantine_path, quarantined}
 
 -- ---- what a look gives
 module _ (content : FileMap) (slot : ℕ) (id : ObjectId) where
@@ -40,7 +40,7 @@ module _ (content : FileMap) (slot : ℕ) (id : ObjectId) where
   quarantined-none h = elim (is_id id) as (λ b. cond b (result_ok (stored_in id (files.get content (quarantine_path slot id.0)))) None ≡ None) [ true ↦ ap (λ found. result_ok (stored_in id found)) h | false ↦ refl ]
 
 -- ---- a write
-begins : (front rest : List ℕ) → starts_with nat_eq (front ++ rest) front ≡ true
+pub begins : (front rest : List ℕ) → starts_with nat_eq (front ++ rest) front ≡ true
 begins [] [] = refl
 begins [] (x ∷ xs) = refl
 begins (b ∷ bs) rest = ap (λ t. t && starts_with nat_eq (bs ++ rest) bs) (eq-eqb b b refl) ∙ begins bs rest
@@ -74,7 +74,7 @@ put_there id kind body is object =
     ∙ ap (λ b. cond b (Ok (stored_object kind body)) (Err (Damaged id))) (subst (λ (n : ObjectId). bytes_eq (object_name kind body).0 n.0 ≡ true) (sym is) (bytes_same (object_name kind body).0))
 
 -- what depends on one file
-same_at : (old new : FileMap) (slot : ℕ) (q : ObjectId) → (is_id q ≡ true → files.get new (quarantine_path slot q.0) ≡ files.get old (quarantine_path slot q.0)) → quarantined new slot q ≡ quarantined old slot q
+pub same_at : (old new : FileMap) (slot : ℕ) (q : ObjectId) → (is_id q ≡ true → files.get new (quarantine_path slot q.0) ≡ files.get old (quarantine_path slot q.0)) → quarantined new slot q ≡ quarantined old slot q
 unfolding quarantined
 same_at old new slot q same =
     elim (is_id q) as (λ b. is_id q ≡ b → cond b (result_ok (stored_in q (files.get new (quarantine_path slot q.0)))) None ≡ cond b (result_ok (stored_in q (files.get old (quarantine_path slot q.0)))) None) [
@@ -136,6 +136,13 @@ taken_more old mid paths path t = record { at = at }
         ∙ ap (λ o. cond (bytes_eq q path) None o) (t.at q)
         ∙ both_tests (is_among q paths) (bytes_eq q path) (eq_by_cmp (slice_cmp nat_cmp) q path) (files.get old q) (sym (is_eq-slice_cmp q path))
         ∙ ap (λ b. cond b None (files.get old q)) (sym (list_any-append (eq_by_cmp (slice_cmp nat_cmp) q) paths (path ∷ [])))
+
+one_or_gone : (b : Bool) (o x : Option (List ℕ)) → o ≡ cond b None x → (o ≡ x) ⊎ (o ≡ None)
+one_or_gone true o x is = inr is
+one_or_gone false o x is = inl is
+
+pub taken_left : {old now : FileMap} {paths : List (List ℕ)} → Taken old now paths → OnlyLoses old now
+taken_left {old = old} {now = now} {paths = paths} t = record { at = λ q. one_or_gone (is_among q paths) (files.get now q) (files.get old q) (t.at q) }
 
 none_left : (o : Option (List ℕ)) → cond (is_some o) None o ≡ None
 none_left None = refl

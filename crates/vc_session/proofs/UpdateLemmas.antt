@@ -1,8 +1,10 @@
 -- The verdict on a command at its update, from what its ref's files are.
-use Rattle.std.proofs.Common.{◌≡◌, ℕ, Bool, true, false, cond, subst, ◌&&◌, ◌||◌, nat_eq, List, [], ◌∷◌, ◌++◌, inl, inr, Option, Some, None, is_some, sym, ap, refl, ◌∙◌, true≢false}
+use Rattle.std.proofs.Common.{arith, ◌≡◌, ℕ, Bool, true, false, cond, subst, ◌&&◌, ◌||◌, nat_eq, List, [], ◌∷◌, ◌++◌, inl, inr, Option, Some, None, is_some, sym, ap, refl, ◌∙◌, true≢false}
 use Rattle.std.specs.Prelude.{codes, Result, Err, IfOk, IfErr, IsErrOf}
 use Rattle.std.specs.List.{starts_with}
 use Rattle.std.proofs.lemmas.Bool.{and_from, and_parts, false_from_ne_true}
+use Rattle.vc_files.proofs.WearLemmas.{fails_later}
+use Rattle.vc_files.specs.Failures.{Wears}
 use Rattle.vc_files.specs.FileMap.{FileMap}
 use Rattle.vc_object.specs.declared.id.ObjectId.{ObjectId}
 use Rattle.vc_push.specs.Push.{CommandText}
@@ -121,3 +123,13 @@ only_name false n m h = absurd (cc h)
 pub moved : (P : FileMap → List ℕ → Option ObjectId → Type 0) {m k : FileMap} {n l : List ℕ} {e f : Option ObjectId} → m ≡ k → n ≡ l → e ≡ f → P m n e → P k l f
 moved P {m = m} {k = k} {n = n} {l = l} {e = e} {f = f} files name value h =
     subst (λ (x : Option ObjectId). P k l x) value (subst (λ (x : List ℕ). P k x e) name (subst (λ (x : FileMap). P x n e) files h))
+
+-- two calls that write nothing, one after the other, whose end is told in other words
+pub wears_both : {D : Type 0} {failed : D → ℕ} {can_fail : D → Type 0} {left : D → Option ℕ} {old mid new : D} {P Q R : Type 0} → Wears failed can_fail left old mid P → Wears failed can_fail left mid new Q → (R → Q) → Wears failed can_fail left old new R
+wears_both v w from = record {
+  later = omega (arith, v.later, w.later);
+  calm = λ can. v.calm (w.calm can);
+  could = λ told. v.calm (w.could (from told));
+  failed_now = λ told. fails_later v.later (w.failed_now (from told));
+  unspent = w.unspent ∙ v.unspent;
+}

@@ -3,3 +3,8 @@ pub mod Quarantine
 pub mod PushState
 pub mod Updating
 pub mod Migrating
+pub mod Carrying
+pub mod Known
+pub mod Session
+pub mod Steps
+pub mod SessionFault

@@ -1,5 +1,5 @@
 -- Where what an open push carries stands until it is stored: `quarantine/`, the slot, and the digits of the name.
-use Rattle.std.specs.Prelude.{◌≡◌, ℕ, true, nat_eq, List, [], ◌∷◌, ◌++◌, take, drop, codes, decimal, None, Err, if◌then◌else◌}
+use Rattle.std.specs.Prelude.{◌≡◌, ◌⊎◌, ℕ, true, nat_eq, List, [], ◌∷◌, ◌++◌, take, drop, codes, decimal, None, Err, if◌then◌else◌}
 use Rattle.std.specs.FinMap as files
 use Rattle.std.specs.List.{starts_with}
 use Rattle.std.specs.Result.{result_ok}
@@ -35,3 +35,7 @@ objects_seen content slot = with_carried (objects content) (quarantined content 
 -- no file is left in the folder
 abbrev pub IsDropped : ℕ → FileMap → Type 0
 IsDropped slot content = (path : List ℕ) → starts_with nat_eq path (quarantine_folder slot) ≡ true → files.get content path ≡ None
+
+-- each file is as it was, or is gone
+pub record OnlyLoses (old new : FileMap) : Type 0 where
+  pub at : (path : List ℕ) → (files.get new path ≡ files.get old path) ⊎ (files.get new path ≡ None)

@@ -2,16 +2,19 @@
 ghost use Rattle.std.specs.Prelude.{◌≡◌, ◌⊎◌, ◌∷◌, [], true, None, IfOk, IfErr, IsErrOf};
 ghost use Rattle.vc_files.specs.Failures.{Wears};
 ghost use Rattle.vc_format.specs.Git.{git_is_legal};
-ghost use Rattle.vc_graph.specs.Graph.{IsClosed, ReachedFrom};
+ghost use Rattle.vc_graph.specs.Graph.{IsClosed, IsClosedUnder, ReachedFrom};
 ghost use Rattle.vc_graph.specs.GraphFault.{IsMet};
 ghost use Rattle.vc_object.specs.ObjectMap.{links_in, parents_in};
 ghost use Rattle.vc_push.specs.PushView.{command_of};
+ghost use Rattle.vc_session.specs.Known.{AreWhole};
 ghost use Rattle.vc_session.specs.Verdict.{CheckNeeds, IsVerdict, IsVerdictAtCheck, MayBeSet, history_reasons, is_branch, is_inside, own_reason};
 
+use crate::known::Known;
+use indexmap::IndexSet;
 use std::alloc::Global;
-use vc_base::{BaseFault, Commits, is_ancestor, is_history};
+use vc_base::{BaseFault, Commits, is_ancestor, is_history_beyond};
 use vc_files::Fault;
-use vc_graph::is_complete;
+use vc_graph::is_complete_beyond;
 use vc_object::ObjectId;
 use vc_push::{Command, Reason};
 use vc_refname::RefName;
@@ -67,9 +70,11 @@ fn own_reason(command: &Command) -> Option<Reason>
 fn history_reason<C: Commits>(
     alloc: Global,
     commits: &mut C,
+    histories: &mut IndexSet<ObjectId>,
     command: &Command,
 ) -> Result<Option<Reason>, StoreFault>
-    ensures verdict { IfOk result (λ found. C.is_honest → IsVerdict (CheckNeeds (C.objects (C.state_of commits.old)) (command_of command.now)) history_reasons found) }
+    ensures verdict { IfOk result (λ found. C.is_honest → IsClosedUnder (parents_in (C.objects (C.state_of commits.old))) histories.old.keys → IsVerdict (CheckNeeds (C.objects (C.state_of commits.old)) (command_of command.now)) history_reasons found) }
+    ensures known { C.is_honest → IsClosedUnder (parents_in (C.objects (C.state_of commits.old))) histories.old.keys → IsClosedUnder (parents_in (C.objects (C.state_of commits.old))) histories.new.keys }
     ensures refused { IfErr result (λ e. C.is_honest → IsMet (ReachedFrom (parents_in (C.objects (C.state_of commits.old))) (command.now.new ∷ [])) (C.damaged (C.state_of commits.old)) e) }
     ensures kept { C.state_of commits.new ≡ C.state_of commits.old }
     ensures wear { Wears C.failed C.can_fail C.left commits.old commits.new (IsErrOf result (StoreFault.Fault Fault.Device)) }
@@ -77,7 +82,7 @@ fn history_reason<C: Commits>(
     if !is_branch(&command.name) {
         return Ok(None);
     }
-    if !is_history(alloc, commits, &command.new)? {
+    if !is_history_beyond(commits, histories, &command.new)? {
         return Ok(Some(Reason::NotACommit));
     }
     if command.old == ObjectId::ZERO {
@@ -94,15 +99,18 @@ fn history_reason<C: Commits>(
 }
 
 /// The first of the reasons 100 to 105 for which a command is refused at its check, over the objects that are stored or
-/// carried at this moment; none where it passes. Nothing is changed. Every object that the new id reaches is read once, of a
-/// branch every commit of its history once more, and those down to the old id a third time.
+/// carried at this moment, where what is known to be whole is so; none where it passes. No object is changed. The walk stops
+/// at what is known, and what it finds to be whole is known from then on. Every object that the new id reaches before that
+/// is read once, of a branch every commit of them once more, and those down to the old id a third time.
 pub fn judge<C: Commits>(
     alloc: Global,
     commits: &mut C,
+    known: &mut Known,
     command: &Command,
 ) -> Result<Option<Reason>, StoreFault>
-    ensures verdict { IfOk result (λ found. C.is_honest → IsVerdictAtCheck (C.objects (C.state_of commits.old)) (command_of command.now) found) }
+    ensures verdict { IfOk result (λ found. C.is_honest → AreWhole (C.objects (C.state_of commits.old)) known.old → IsVerdictAtCheck (C.objects (C.state_of commits.old)) (command_of command.now) found) }
     ensures legal { IfOk result (λ found. found ≡ None → MayBeSet command.now.name.items) }
+    ensures known { C.is_honest → AreWhole (C.objects (C.state_of commits.old)) known.old → AreWhole (C.objects (C.state_of commits.old)) known.new }
     ensures refused { IfErr result (λ e. C.is_honest → IsMet (λ id. ReachedFrom (links_in (C.objects (C.state_of commits.old))) (command.now.new ∷ []) id ⊎ ReachedFrom (parents_in (C.objects (C.state_of commits.old))) (command.now.new ∷ []) id) (C.damaged (C.state_of commits.old)) e) }
 
     ensures kept { C.state_of commits.new ≡ C.state_of commits.old }
@@ -111,9 +119,9 @@ pub fn judge<C: Commits>(
     if let Some(reason) = own_reason(command) {
         return Ok(Some(reason));
     }
-    if !is_complete(alloc, commits, &command.new)? {
+    if !is_complete_beyond(commits, &mut known.objects, &command.new)? {
         return Ok(Some(Reason::MissingObjects));
     }
-    let found = history_reason(alloc, commits, command)?;
+    let found = history_reason(alloc, commits, &mut known.histories, command)?;
     Ok(found)
 }

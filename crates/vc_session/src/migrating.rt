@@ -1,10 +1,11 @@
 //! Storing what a push carries.
-ghost use Rattle.std.specs.Prelude.{◌≡◌, ◌∷◌, [], codes, IfErr, OnErr, OnOk, IsErrOf};
+ghost use Rattle.std.specs.Prelude.{◌≡◌, ◌≢◌, ◌⊎◌, ◌∷◌, [], codes, IfErr, OnErr, OnOk, IsErrOf};
 ghost use Rattle.vc_files.specs.FileMap.{SameOutside};
-ghost use Rattle.vc_files.specs.Failures.{Writes};
+ghost use Rattle.vc_files.specs.Failures.{Wears, Writes};
 ghost use Rattle.vc_object.specs.declared.id.ObjectId.{ObjectId as Id};
-ghost use Rattle.vc_store.specs.Store.{objects};
+ghost use Rattle.vc_store.specs.Store.{IsDamaged, objects};
 ghost use Rattle.vc_session.specs.Migrating.{IsFrontMigrated, migrated};
+ghost use Rattle.vc_session.specs.SessionFault.{BlamesMigration};
 
 use crate::quarantine::find_in_quarantine;
 use std::alloc::Global;
@@ -21,6 +22,8 @@ fn migrate_one<F: Files>(
 ) -> Result<(), StoreFault>
     ensures stored { F.honest → OnOk result ((q : Id) → objects (F.content files.new) q ≡ migrated (F.content files.old) slot (id.now ∷ []) q) }
     ensures outside { F.honest → SameOutside (codes "objects/") (F.content files.old) (F.content files.new) }
+    ensures refused { F.honest → IfErr result (BlamesMigration (F.content files.old) slot (id.now ∷ [])) }
+    ensures undamaged { F.honest → (q : Id) → IsDamaged (F.content files.new) q → IsDamaged (F.content files.old) q }
     ensures err { F.honest → OnErr result (F.content files.new ≡ F.content files.old) }
     ensures wear { Writes F.honest F.content F.failed F.can_fail F.left files.old files.new (IsErrOf result (StoreFault.Fault Fault.Device)) }
 {
@@ -41,8 +44,10 @@ pub fn migrate<F: Files>(
 ) -> Result<(), StoreFault>
     ensures stored { F.honest → OnOk result ((q : Id) → objects (F.content files.new) q ≡ migrated (F.content files.old) slot names.now q) }
     ensures outside { F.honest → SameOutside (codes "objects/") (F.content files.old) (F.content files.new) }
+    ensures refused { F.honest → IfErr result (BlamesMigration (F.content files.old) slot names.now) }
     ensures left { F.honest → OnErr result (IsFrontMigrated (F.content files.old) slot names.now (F.content files.new)) }
     ensures wear { Writes F.honest F.content F.failed F.can_fail F.left files.old files.new (IsErrOf result (StoreFault.Fault Fault.Device)) }
+    ensures looks { (names.now ≢ []) ⊎ Wears F.failed F.can_fail F.left files.old files.new (IsErrOf result (StoreFault.Fault Fault.Device)) }
 {
     for id in names {
         migrate_one(files, alloc, slot, id)?;

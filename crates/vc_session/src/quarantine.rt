@@ -8,7 +8,7 @@ ghost use Rattle.vc_object.specs.Object.{object_bytes, object_name};
 ghost use Rattle.vc_object.specs.ObjectId.{id_eq};
 ghost use Rattle.vc_object.specs.declared.id.ObjectId.{ObjectId as Id};
 ghost use Rattle.vc_store.specs.StoreFault.{IsFault, IsRefused};
-ghost use Rattle.vc_session.specs.Quarantine.{IsDamagedThere, IsDropped, quarantine_folder, quarantine_path, quarantined};
+ghost use Rattle.vc_session.specs.Quarantine.{IsDamagedThere, IsDropped, OnlyLoses, quarantine_folder, quarantine_path, quarantined};
 
 use std::alloc::{AllocError, Global};
 use vc_files::{Fault, Files};
@@ -83,6 +83,7 @@ pub fn put_in_quarantine<F: Files>(
 /// Takes away all that stands in a slot's quarantine. A call that ends early has taken away some of it.
 pub fn drop_quarantine<F: Files>(files: &mut F, alloc: Global, slot: u8) -> Result<(), Fault>
     ensures dropped { F.honest → OnOk result (IsDropped slot (F.content files.new)) }
+    ensures left { F.honest → OnlyLoses (F.content files.old) (F.content files.new) }
     ensures outside { F.honest → SameOutside (quarantine_folder slot) (F.content files.old) (F.content files.new) }
     ensures wear { Writes F.honest F.content F.failed F.can_fail F.left files.old files.new (IsErrOf result Fault.Device) }
 {

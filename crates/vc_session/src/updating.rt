@@ -85,6 +85,7 @@ pub fn update<F: Files>(
     ensures rest { F.honest → KeepsTheRest command.now.name.items (F.content files.old) (F.content files.new) }
     ensures err { F.honest → OnErr result (F.content files.new ≡ F.content files.old) }
     ensures wear { Writes F.honest F.content F.failed F.can_fail F.left files.old files.new (IsErrOf result (RefFault.Fault Fault.Device)) }
+    ensures looks { F.honest → MayBeSet command.now.name.items → IsVerdictAtUpdate (refs (F.content files.old)) (command_of command.now) None ⊎ Wears F.failed F.can_fail F.left files.old files.new (IsErrOf result (RefFault.Fault Fault.Device)) }
 {
     let Some(name) = ref_named(alloc, &command.name)? else {
         return Ok(Some(Reason::BadName));

@@ -19,8 +19,13 @@ use vc_files::Fault;
 /// text of the link: it is listed and read so, a write in its place puts a file there and leaves what it leads to
 /// alone, and a write below it is a fault. The folder's own path may lead through links.
 ///
-/// A file is written in its place after what stood there was removed, as Git does it, so a write that fails may leave
-/// none, or a part. Nothing is made durable.
+/// A file is written whole into the folder of the store, as `checkout.lock`, and then renamed onto its path, which replaces
+/// a file or a link at once. So whenever a process is killed, no file of the work tree is cut short, and a write that fails
+/// leaves the file or the link that stood there. What a killed process left as `checkout.lock` is removed by the next write.
+/// One process at a time writes, since there is one such name: the one that may write to the store.
+///
+/// Where the two folders lie on different file systems a file can't be renamed. It is written in its place then, after what
+/// stood there was removed, and a write that fails may leave none, or a part. Nothing is made durable.
 #[derive(Drop)]
 pub struct FolderTree<R: rt::Files + AllocGlobal + Clone + Drop> {
     ground: Ground<R>,
@@ -37,12 +42,17 @@ impl<R: rt::Files + AllocGlobal + Clone + Drop> Model for FolderTree<R> {
 
 impl<R: rt::Files + AllocGlobal + Clone + Drop> FolderTree<R> {
     /// The work tree in the folder with this path. `own` is the path that the folder of its store has in it, empty where it
-    /// lies elsewhere.
-    pub fn new(rt: R, path: String, own: String) -> Self
+    /// lies elsewhere. `store` is where that folder is, and it is there when a file is written.
+    pub fn new(rt: R, path: String, own: String, store: String) -> Self
         ensures { result ≡ 0 }
     {
         FolderTree {
-            ground: Ground { rt, path, own },
+            ground: Ground {
+                rt,
+                path,
+                own,
+                store,
+            },
             failed: 0,
         }
     }

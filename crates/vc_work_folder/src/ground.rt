@@ -1,9 +1,13 @@
 // The system's calls on the files of a folder, none of which follows a link below it.
 use crate::own::is_own;
 use std::alloc::Global;
-use std::fs::{self, File, FileType, OpenFile, OpenOptions};
+use std::fs::{self, File, FileType, OpenFile};
 use std::io::{self, ErrorKind, Read, Write};
 use std::rt;
+
+// What a file is called in the store's folder before it has its place. No file of a store has this name, and none that ends
+// so is listed there.
+const DRAFT: &str = "checkout.lock";
 
 /// A folder, and what its files are reached by.
 #[derive(Drop)]
@@ -12,6 +16,8 @@ pub(crate) struct Ground<R> {
     pub path: String,
     /// The path of the store's folder in this one, where it lies in it; else empty.
     pub own: String,
+    /// Where the store's folder is.
+    pub store: String,
 }
 
 impl<R: rt::Files + AllocGlobal + Clone + Drop> Ground<R> {
@@ -19,6 +25,12 @@ impl<R: rt::Files + AllocGlobal + Clone + Drop> Ground<R> {
     fn place(&self, alloc: Global, path: &str) -> io::Result<String> {
         let top = self.path.as_str();
         Ok(format!(in alloc; "{top}/{path}")?)
+    }
+
+    // Where a file is written before it has its place.
+    fn draft(&self, alloc: Global) -> io::Result<String> {
+        let store = self.store.as_str();
+        Ok(format!(in alloc; "{store}/{DRAFT}")?)
     }
 
     // Whether the path is that of a store, or lies in it: its first part is `.git`, or it is the store's own.
@@ -80,9 +92,50 @@ impl<R: rt::Files + AllocGlobal + Clone + Drop> Ground<R> {
         Ok(bytes)
     }
 
-    /// Writes a file in place of a file, a link, or a folder in which no file is.
+    /// Writes a file in place of a file, a link, or a folder in which no file is. It is whole before it has its place.
     pub fn write(&self, alloc: Global, path: &str, bytes: &[u8]) -> io::Result<()> {
         self.make_folders_above(alloc, path)?;
+        let draft = self.draft(alloc)?;
+        let mut done = self.write_draft(draft.as_str(), bytes);
+        if done.is_ok() {
+            done = self.bring(alloc, draft.as_str(), path);
+        }
+        let Err(e) = done else {
+            return Ok(());
+        };
+        // The answer is the first error; a draft that stays blocks nothing.
+        let _ = fs::remove_file(&self.rt, draft.as_str());
+        if e.kind() == ErrorKind::CrossesDevices {
+            return self.write_in_place(alloc, path, bytes);
+        }
+        Err(e)
+    }
+
+    // Writes the draft anew. What a stopped process left there is removed, and no link followed.
+    fn write_draft(&self, draft: &str, bytes: &[u8]) -> io::Result<()> {
+        let mut file = match File::create_new(&self.rt, draft) {
+            Err(e) if e.kind() == ErrorKind::AlreadyExists => {
+                fs::remove_file(&self.rt, draft)?;
+                File::create_new(&self.rt, draft)?
+            }
+            made => made?,
+        };
+        file.write_all(bytes)
+    }
+
+    // Gives the draft its place. A folder in which no file is gives way.
+    fn bring(&self, alloc: Global, draft: &str, path: &str) -> io::Result<()> {
+        let place = self.place(alloc, path)?;
+        match fs::rename(&self.rt, draft, place.as_str()) {
+            Err(e) if e.kind() == ErrorKind::IsADirectory => {}
+            done => return done,
+        }
+        self.remove_empty(alloc, path)?;
+        fs::rename(&self.rt, draft, place.as_str())
+    }
+
+    // The same where the store lies on another file system: what stood there is removed first.
+    fn write_in_place(&self, alloc: Global, path: &str, bytes: &[u8]) -> io::Result<()> {
         match self.kind_at(alloc, path)? {
             None => {}
             Some(kind) if kind.is_dir() => self.remove_empty(alloc, path)?,
@@ -90,10 +143,7 @@ impl<R: rt::Files + AllocGlobal + Clone + Drop> Ground<R> {
         }
         let place = self.place(alloc, path)?;
         // A name that somebody puts there meanwhile is not opened.
-        let mut file = OpenOptions::new()
-            .write(true)
-            .create_new(true)
-            .open(&self.rt, place.as_str())?;
+        let mut file = File::create_new(&self.rt, place.as_str())?;
         file.write_all(bytes)
     }
 

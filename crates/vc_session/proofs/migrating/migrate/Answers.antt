@@ -1,18 +1,29 @@
-use Rattle.std.proofs.Common.{arith, rules, ◌≡◌, [], List, drop, get_or, take, ap, sym, ◌∙◌, subst, Result, Ok, Err, OnErr}
+use Rattle.std.proofs.Common.{arith, rules, ℕ, ◌<◌, ◌≡◌, [], ◌∷◌, List, refl, length, drop, get_or, take, ap, sym, ◌∙◌, subst, Result, Ok, Err, OnErr, ◌⊎◌, inl, inr}
+use Rattle.std.specs.Prelude.{◌≢◌}
+use Rattle.std.proofs.lemmas.List.Elements.{Contains-get_or}
 use Rattle.std.proofs.lemmas.List.{take-append-drop, take_all, take_more}
 use Rattle.vc_files.proofs.FileMapLemmas.{outside_same, outside_then}
 use Rattle.vc_files.proofs.WearLemmas.{writes_both, writes_told}
 use Rattle.vc_files.specs.FileMap.{FileMap}
 use Rattle.vc_object.specs.declared.id.ObjectId.{ObjectId}
 use Rattle.vc_store.specs.Store.{objects}
+use Rattle.vc_store.specs.declared.faults.StoreFault.{StoreFault}
+use Rattle.vc_session.specs.SessionFault.{BlamesMigration}
+use Rattle.vc_session.proofs.DamageLemmas.{blames_before}
 use Rattle.vc_session.specs.Migrating.{IsFrontMigrated, migrated}
 use Rattle.vc_session.proofs.MigratingLemmas.{migrated_more, migrated_none}
 use Rattle.vc_session.proofs.migrating.migrate.Goals as goal
+
+not_below : (ids : List ObjectId) (place : ℕ) → ids ≡ [] → place < length ids → ⊥
+not_below [] place none within = absurd (omega (arith, within))
+not_below (id ∷ ids) place none within = cc none
 
 pub loop-id-init : goal.loop-id-init
 loop-id-init g c = record {
   stored = λ honest q. migrated_none (g.F.Files.content c.args.files.now) c.args.slot q;
   outside = λ honest. outside_same _ _;
+  undamaged = λ honest q damaged. damaged;
+  unread = λ none. refl;
   wear = search rules;
 }
 
@@ -27,6 +38,8 @@ loop-id-preserved g c = record {
       subst (λ (l : List ObjectId). objects (content c.migrate_one.new.files) q ≡ migrated (content c.args.files.now) c.args.slot l q) (sym (take_more ids place none c.loop-id-test.true))
       (migrated_more (content c.args.files.now) (content c.loop-id.files) (content c.migrate_one.new.files) c.args.slot (take place ids) id (c.loop-id.invariant.stored honest) (c.loop-id.invariant.outside honest) (c.in_ok-migrate_one.ensures.stored honest) q);
   outside = λ honest. outside_then (c.loop-id.invariant.outside honest) (c.in_ok-migrate_one.ensures.outside honest);
+  undamaged = λ honest q damaged. c.loop-id.invariant.undamaged honest q (c.in_ok-migrate_one.ensures.undamaged honest q damaged);
+  unread = λ none. absurd (not_below c.args.names.now c.loop-id.id-index none c.loop-id-test.true);
   wear = writes_both c.loop-id.invariant.wear (λ never. never) (writes_told c.in_ok-migrate_one.ensures.wear (search rules) (λ never. absurd never));
 }
 
@@ -45,6 +58,10 @@ returns-clause-wear g c = writes_told c.loop-id.invariant.wear (λ never. absurd
 
 pub returns-in_err-migrate_one-clause-outside : goal.returns-in_err-migrate_one-clause-outside
 returns-in_err-migrate_one-clause-outside g c = λ honest. outside_then (c.loop-id.invariant.outside honest) (c.in_err-migrate_one.ensures.outside honest)
+
+none_or_some : {P : Type 0} (ids : List ObjectId) → (ids ≡ [] → P) → (ids ≢ []) ⊎ P
+none_or_some [] none = inr (none refl)
+none_or_some (id ∷ ids) none = inl (λ e. cc e)
 
 on_err : {A E : Type 0} (r : Result A E) (X : Type 0) → X → OnErr r X
 on_err (Ok a) X x = tt
@@ -65,3 +82,18 @@ returns-in_err-migrate_one-clause-left g c = λ honest.
 
 pub returns-in_err-migrate_one-clause-wear : goal.returns-in_err-migrate_one-clause-wear
 returns-in_err-migrate_one-clause-wear g c = writes_both c.loop-id.invariant.wear (λ never. never) (writes_told c.in_err-migrate_one.ensures.wear (search rules) (search rules))
+
+pub returns-in_err-migrate_one-clause-refused : goal.returns-in_err-migrate_one-clause-refused
+returns-in_err-migrate_one-clause-refused g c = λ honest.
+    let content = g.F.Files.content in
+    let ids = c.args.names.now in
+    let none : ObjectId = record { 0 = [] } in
+    let e : StoreFault = c.in_err-migrate_one.field-0.0 in
+    let among = Contains-get_or ids c.loop-id.id-index none c.loop-id-test.true in
+    let told : BlamesMigration (content c.args.files.now) c.args.slot ids e =
+    blames_before (content c.args.files.now) (content c.loop-id.files) c.args.slot ids (get_or ids c.loop-id.id-index none) among (c.loop-id.invariant.outside honest) (c.loop-id.invariant.undamaged honest) e
+    (c.in_err-migrate_one.ensures.refused honest) in
+    search (rules, told)
+
+pub returns-clause-looks : goal.returns-clause-looks
+returns-clause-looks g c = none_or_some c.args.names.now (λ none. rw (c.loop-id.invariant.unread none) (search rules))

@@ -4,8 +4,8 @@ use Rattle.std.specs.FinMap as files
 use Rattle.std.proofs.lemmas.List.{map_more, take_all}
 use Rattle.vc_files.proofs.WearLemmas.{wears_then, writes_both, writes_told}
 use Rattle.vc_files.specs.FileMap.{FileMap, paths_under}
-use Rattle.vc_session.specs.Quarantine.{quarantine_folder}
-use Rattle.vc_session.proofs.QuarantineLemmas.{Taken, taken_none, taken_more, taken_all, taken_outside}
+use Rattle.vc_session.specs.Quarantine.{OnlyLoses, quarantine_folder}
+use Rattle.vc_session.proofs.QuarantineLemmas.{Taken, taken_none, taken_more, taken_all, taken_left, taken_outside}
 use Rattle.vc_session.proofs.quarantine.drop_quarantine.Goals as goal
 
 pub loop-path-init : goal.loop-path-init
@@ -60,3 +60,15 @@ pub returns-clause-wear : goal.returns-clause-wear
 returns-clause-wear g c =
     wears_then c.in_ok-paths.ensures.wear (λ _. c.in_ok-paths.ensures.same) (search rules)
     (writes_told c.loop-path.invariant.wear (λ never. absurd never) (search rules))
+
+pub returns-in_err-remove-clause-left : goal.returns-in_err-remove-clause-left
+returns-in_err-remove-clause-left g c = λ honest.
+    let content = g.F.Files.content in
+    let same : content c.remove.new.self ≡ content c.loop-path.files = search (rules, c.in_err-remove.ensures.err honest) in
+    subst (λ (m : FileMap). OnlyLoses m (content c.remove.new.self)) c.in_ok-paths.ensures.same
+    (subst (λ (m : FileMap). OnlyLoses (content c.list.new.self) m) (sym same) (taken_left (c.loop-path.invariant.taken honest)))
+
+pub returns-clause-left : goal.returns-clause-left
+returns-clause-left g c = λ honest.
+    let content = g.F.Files.content in
+    subst (λ (m : FileMap). OnlyLoses m (content c.loop-path.files)) c.in_ok-paths.ensures.same (taken_left (c.loop-path.invariant.taken honest))

@@ -1,4 +1,4 @@
-use Rattle.std.proofs.Common.{rules, ◌≡◌, ◌&&◌, ℕ, List, Option, None, Result, false, is_some, sym, refl, ◌∙◌, subst}
+use Rattle.std.proofs.Common.{rules, ◌≡◌, ◌&&◌, ℕ, List, Option, None, Result, false, is_some, inl, inr, sym, refl, ◌∙◌, subst}
 use Rattle.std.specs.Prelude.{IfOk, IfErr, IsErrOf}
 use Rattle.std.specs.Str.{is_utf8}
 use Rattle.vc_files.proofs.WearLemmas.{wears_then, wears_writes, writes_told}
@@ -14,7 +14,7 @@ use Rattle.vc_refs.specs.declared.faults.RefFault.{RefFault}
 use Rattle.vc_refs.specs.declared.faults.RefFault.TheVariants.{Fault}
 use Rattle.vc_session.specs.Updating.{BlamesUpdate}
 use Rattle.vc_session.specs.Verdict.{IsVerdictAtUpdate, is_tag}
-use Rattle.vc_session.proofs.UpdateLemmas.{device_meant, device_told, moved, only_name, passes, refused_blames, refused_verdict}
+use Rattle.vc_session.proofs.UpdateLemmas.{device_meant, device_told, moved, only_name, passes, refused_blames, refused_verdict, wears_both}
 use Rattle.vc_session.proofs.updating.update.Goals as goal
 
 pub returns-in_err-is_standing_tag-clause-wear : goal.returns-in_err-is_standing_tag-clause-wear
@@ -69,3 +69,18 @@ returns-clause-wear g c =
     wears_then c.in_ok-is_standing_tag.ensures.wear (λ _. c.in_ok-is_standing_tag.ensures.same) (search rules)
     (subst (λ (r : Result (Option Reason) RefFault). Writes g.F.Files.honest g.F.Files.content g.F.Files.failed g.F.Files.can_fail g.F.Files.left c.is_standing_tag.new.files c.set.new.files (IsErrOf r (Fault Device))) (sym c.reason_of.ensures)
     (writes_told c.in-Err.ensures.wear (device_told (Unit {0}) c.in-Err.fault) (device_meant (Unit {0}) c.in-Err.fault)))
+
+pub returns-in-Ok-clause-looks : goal.returns-in-Ok-clause-looks
+returns-in-Ok-clause-looks g c = λ honest may. inl (returns-in-Ok-clause-verdict g c honest may)
+
+pub returns-clause-looks : goal.returns-clause-looks
+returns-clause-looks g c = λ honest may.
+    let content = g.F.Files.content in
+    let command = command_of c.args.command.now in
+    let named : c.in-Some.name ≡ command.name = only_name (is_utf8 c.deref.result.now && is_ref_name c.deref.result.now) c.deref.result.now c.in-Some.name (sym c.in-Some.is ∙ c.in_ok-name.ensures) ∙ c.deref.ensures.value in
+    let standing : false ≡ (is_tag c.in-Some.name && is_some (refs (content c.args.files.now) c.in-Some.name)) = search (rules, c.in_ok-is_standing_tag.ensures.standing honest, c.if-branch.false) in
+    let no_tag : (is_tag command.name && is_some (refs (content c.args.files.now) command.name)) ≡ false = subst (λ (n : List ℕ). (is_tag n && is_some (refs (content c.args.files.now) n)) ≡ false) named (sym standing) in
+    elim (c.in-Err.ensures.looks honest) [
+      | inl may ↦ inl (passes (content c.args.files.now) command no_tag (moved MaySet c.in_ok-is_standing_tag.ensures.same named c.expected-expected.ensures may.1))
+      | inr wears ↦ inr (wears_both c.in_ok-is_standing_tag.ensures.wear wears (λ told. device_meant (Unit {0}) c.in-Err.fault (subst (λ (r : Result (Option Reason) RefFault). IsErrOf r (Fault Device)) c.reason_of.ensures told)))
+    ]

@@ -1,9 +1,10 @@
 -- The objects of files are objects.
 use Rattle.std.proofs.Common.{◌≡◌, ℕ, Bool, true, false, cond, Ok, Err, List, Option, Some, None, refl, subst}
 use Rattle.std.specs.Prelude.{bytes_eq}
+use Rattle.std.specs.FinMap.{get}
+use Rattle.std.specs.Option.{option_or}
 use Rattle.std.specs.Result.{result_ok}
 use Rattle.vc_files.specs.FileMap.{FileMap}
-use Rattle.std.specs.FinMap.{get}
 use Rattle.vc_object.specs.Decoding.{StoredObject, decoded}
 use Rattle.vc_object.specs.Object.{IsObject, object_name}
 use Rattle.vc_object.specs.ObjectId.{is_id}
@@ -11,6 +12,8 @@ use Rattle.vc_object.proofs.Decoding.{decoded_some}
 use Rattle.vc_store.specs.Store.{objects, object_path, named, stored as stored_file, stored_in}
 use Rattle.vc_store.specs.declared.faults.StoreFault.TheVariants.{Damaged}
 use Rattle.vc_object.specs.declared.id.ObjectId.{ObjectId}
+use Rattle.vc_graph.specs.Overlay.{with_carried}
+use Rattle.vc_session.specs.Quarantine.{objects_seen, quarantine_path, quarantined}
 
 named_sound : (id : ObjectId) (q o : StoredObject) (b : Bool) → ◌≡◌ {A = Option StoredObject} (result_ok (cond b (Ok q) (Err (Damaged id)))) (Some o) → q ≡ o
 named_sound id q o true h = cc
@@ -32,3 +35,21 @@ objects_sound content id o = by (is_id id)
     by : (b : Bool) → cond b (result_ok (stored_file content id)) None ≡ Some o → IsObject o.kind o.body
     by true h = file_sound id (get content (object_path id.0)) o h
     by false h = cc
+
+quarantined_sound : (content : FileMap) (slot : ℕ) (id : ObjectId) (o : StoredObject) → quarantined content slot id ≡ Some o → IsObject o.kind o.body
+unfolding quarantined
+quarantined_sound content slot id o = by (is_id id)
+  where
+    by : (b : Bool) → cond b (result_ok (stored_in id (get content (quarantine_path slot id.0)))) None ≡ Some o → IsObject o.kind o.body
+    by true h = file_sound id (get content (quarantine_path slot id.0)) o h
+    by false h = cc
+
+either_sound : (stored carried : Option StoredObject) (o : StoredObject) → ((p : StoredObject) → stored ≡ Some p → IsObject p.kind p.body) → ((p : StoredObject) → carried ≡ Some p → IsObject p.kind p.body)
+    → option_or stored carried ≡ Some o → IsObject o.kind o.body
+either_sound None carried o first second h = second o h
+either_sound (Some x) carried o first second h = first o h
+
+pub seen_sound : (content : FileMap) (slot : ℕ) (id : ObjectId) (o : StoredObject) → objects_seen content slot id ≡ Some o → IsObject o.kind o.body
+unfolding with_carried
+seen_sound content slot id o h =
+    either_sound (objects content id) (quarantined content slot id) o (λ p e. objects_sound content id p e) (λ p e. quarantined_sound content slot id p e) h

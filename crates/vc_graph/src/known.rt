@@ -1,0 +1,115 @@
+//! What is reached from a root beyond names that are known to be whole: all that these reach is there. What is known is not
+//! read again, nor is what lies below it.
+ghost use Rattle.std.specs.Prelude.{◌≡◌, ◌↔◌, ◌⊎◌, ◌∷◌, [], ℕ, length, take, not, IsTrue, IfOk, IfErr, IsErrOf, OnOk, OnErr, Contains};
+ghost use Rattle.indexmap.specs.IndexSet.{insert_all};
+ghost use Rattle.vc_files.specs.Failures.{Wears};
+ghost use Rattle.vc_graph.specs.Graph.{ReachedFrom, IsClosed, IsClosedUnder, IsLinkOf, IsMetBeyond};
+ghost use Rattle.vc_graph.specs.GraphFault.{IsMet};
+ghost use Rattle.vc_object.specs.ObjectId.{id_eq};
+ghost use Rattle.vc_object.specs.ObjectMap.{links_in};
+ghost use Rattle.vc_object.specs.declared.id.ObjectId.{ObjectId as Id};
+
+use crate::Objects;
+use indexmap::IndexSet;
+use std::alloc::AllocError;
+use vc_files::Fault;
+use vc_object::ObjectId;
+use vc_store::StoreFault;
+
+/// Whether every name that is reached from the root is there, where all that the known names reach is known to be. What is
+/// known is not read again, nor is what lies below it. Where the answer is yes, what was met is known from then on; else the
+/// known names stay as they are.
+pub fn is_complete_beyond<O: Objects>(
+    objects: &mut O,
+    known: &mut IndexSet<ObjectId>,
+    root: &ObjectId,
+) -> Result<bool, StoreFault>
+    ensures complete { IfOk result (λ answer. O.is_honest → IsClosedUnder (links_in (O.objects (O.state_of objects.old))) known.old.keys → IsTrue answer ↔ IsClosed (links_in (O.objects (O.state_of objects.old))) root.now) }
+    ensures known { O.is_honest → IsClosedUnder (links_in (O.objects (O.state_of objects.old))) known.old.keys → IsClosedUnder (links_in (O.objects (O.state_of objects.old))) known.new.keys }
+    ensures root { IfOk result (λ answer. IsTrue answer → Contains known.new.keys root.now) }
+    ensures met { IfOk result (λ answer. O.is_honest → IsTrue answer → IsMetBeyond (links_in (O.objects (O.state_of objects.old))) known.old.keys root.now known.new.keys) }
+    ensures refused { IfErr result (λ e. O.is_honest → IsMet (ReachedFrom (links_in (O.objects (O.state_of objects.old))) (root.now ∷ [])) (O.damaged (O.state_of objects.old)) e) }
+    ensures front { take (length known.old.keys) known.new.keys ≡ known.old.keys }
+    ensures same { IfOk result (λ answer. IsTrue (not answer) → known.new.keys ≡ known.old.keys) }
+    ensures err { OnErr result (known.new.keys ≡ known.old.keys) }
+
+    ensures kept { O.state_of objects.new ≡ O.state_of objects.old }
+    ensures wear { Wears O.failed O.can_fail O.left objects.old objects.new (IsErrOf result (StoreFault.Fault Fault.Device)) }
+{
+    let before = known.len();
+    match walk_beyond(objects, known, root) {
+        Ok(true) => Ok(true),
+        Ok(false) => {
+            known.truncate(before);
+            Ok(false)
+        }
+        Err(fault) => {
+            known.truncate(before);
+            Err(fault)
+        }
+    }
+}
+
+/// Adds the links of each of these names that is there to the known names: they are whole where what they are linked from
+/// is.
+pub fn learn_links<O: Objects>(
+    objects: &mut O,
+    known: &mut IndexSet<ObjectId>,
+    names: &[ObjectId],
+) -> Result<(), StoreFault>
+    ensures learnt { OnOk result (O.is_honest → (id : Id) → Contains known.new.keys id ↔ (Contains known.old.keys id ⊎ IsLinkOf (links_in (O.objects (O.state_of objects.old))) names.now id)) }
+    ensures known { O.is_honest → IsClosedUnder (links_in (O.objects (O.state_of objects.old))) known.old.keys → IsClosedUnder (links_in (O.objects (O.state_of objects.old))) names.now → IsClosedUnder (links_in (O.objects (O.state_of objects.old))) known.new.keys }
+    ensures refused { IfErr result (λ e. O.is_honest → IsMet (Contains names.now) (O.damaged (O.state_of objects.old)) e) }
+    ensures front { take (length known.old.keys) known.new.keys ≡ known.old.keys }
+
+    ensures kept { O.state_of objects.new ≡ O.state_of objects.old }
+    ensures wear { Wears O.failed O.can_fail O.left objects.old objects.new (IsErrOf result (StoreFault.Fault Fault.Device)) }
+{
+    for name in names {
+        if let Some(links) = objects.links(name)? {
+            add_names(known, &links)?;
+        }
+    }
+    Ok(())
+}
+
+/// Adds the names to the set, in their order. Where memory is wanting, those before are added.
+pub fn add_names(set: &mut IndexSet<ObjectId>, names: &[ObjectId]) -> Result<(), AllocError>
+    ensures added { OnOk result (set.new.keys ≡ insert_all id_eq set.old.keys names.now) }
+    ensures err { OnErr result ((n : ℕ) × (set.new.keys ≡ insert_all id_eq set.old.keys (take n names.now))) }
+{
+    for name in names {
+        set.insert(*name)?;
+    }
+    Ok(())
+}
+
+// Adds to the known names the root and what it reaches beyond them, and ends at the first name that is absent. Whether it
+// met none.
+fn walk_beyond<O: Objects>(
+    objects: &mut O,
+    known: &mut IndexSet<ObjectId>,
+    root: &ObjectId,
+) -> Result<bool, StoreFault>
+    ensures complete { IfOk result (λ answer. O.is_honest → IsClosedUnder (links_in (O.objects (O.state_of objects.old))) known.old.keys → IsTrue answer ↔ IsClosed (links_in (O.objects (O.state_of objects.old))) root.now) }
+    ensures known { IfOk result (λ answer. O.is_honest → IsTrue answer → IsClosedUnder (links_in (O.objects (O.state_of objects.old))) known.old.keys → IsClosedUnder (links_in (O.objects (O.state_of objects.old))) known.new.keys) }
+    ensures root { IfOk result (λ answer. IsTrue answer → Contains known.new.keys root.now) }
+    ensures met { IfOk result (λ answer. O.is_honest → IsTrue answer → IsMetBeyond (links_in (O.objects (O.state_of objects.old))) known.old.keys root.now known.new.keys) }
+    ensures refused { IfErr result (λ e. O.is_honest → IsMet (ReachedFrom (links_in (O.objects (O.state_of objects.old))) (root.now ∷ [])) (O.damaged (O.state_of objects.old)) e) }
+    ensures front { take (length known.old.keys) known.new.keys ≡ known.old.keys }
+
+    ensures kept { O.state_of objects.new ≡ O.state_of objects.old }
+    ensures wear { Wears O.failed O.can_fail O.left objects.old objects.new (IsErrOf result (StoreFault.Fault Fault.Device)) }
+{
+    let mut next = known.len();
+    add_names(known, &[*root])?;
+    while next < known.len() {
+        let id = known[next];
+        let Some(links) = objects.links(&id)? else {
+            return Ok(false);
+        };
+        add_names(known, &links)?;
+        next += 1;
+    }
+    Ok(true)
+}

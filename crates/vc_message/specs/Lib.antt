@@ -1,0 +1,2 @@
+pub mod AnyMessage
+pub mod AnyView

@@ -1,0 +1,13 @@
+//! Any message of the protocol, from and to bytes by one reader. The first line tells the kind.
+//!
+//! The lines are those of Git (gitprotocol-pack and gitprotocol-common), kind by kind as vc_fetch and vc_push have them. Where
+//! this project differs, the comment begins with `own:`.
+#![tactic(auto)]
+
+mod laws;
+mod message;
+mod reader;
+
+pub use laws::{one_message, read_or_unread, written_message_is_read};
+pub use message::Message;
+pub use reader::AnyReader;

@@ -1,0 +1,336 @@
+-- Each step of a session is a step of the push that it stands for.
+use Rattle.std.proofs.Common.{◌≡◌, ◌⊎◌, inl, inr, ℕ, suc, List, [], ◌∷◌, map, length, drop, Option, Some, None, Bool, true, cond, refl, ap, sym, ◌∙◌, subst, true≢false}
+use Rattle.std.specs.Prelude.{option_map, is_some, is_none, IsSome, Ok, Err}
+use Rattle.std.specs.FinMap.{empty, get, get-empty}
+use Rattle.std.specs.Option.{option_or}
+use Rattle.std.specs.Ordering.{nat_cmp}
+use Rattle.std.specs.Cmp.Lexicographic.{slice_cmp}
+use Rattle.vc_files.specs.FileMap.{FileMap, SameOutside}
+use Rattle.vc_format.specs.Git.{id_of_bytes}
+use Rattle.vc_graph.specs.Graph.{IsClosed}
+use Rattle.vc_graph.specs.Overlay.{with_carried}
+use Rattle.vc_model.specs.Node.{Reply}
+use Rattle.vc_model.specs.Node.Reply.{Passed, MigratedAll, Updated}
+use Rattle.vc_model.specs.Object.{Id, Object, Objects, stored, over}
+use Rattle.vc_model.specs.Push as machine
+use Rattle.vc_model.specs.Push.{OpenPush, Judged}
+use Rattle.vc_model.specs.Push.Stage.{Unpacked as MachineUnpacked, Checked as MachineChecked, Migrated as MachineMigrated, Finished}
+use Rattle.vc_model.specs.Refs.{IsTag, RefName}
+use Rattle.vc_model.specs.Repository.{Change, Repository, IsSound, changed_all, no_effect, only_changes, with_objects}
+use Rattle.vc_model.specs.Shared as shared
+use Rattle.vc_object.specs.Decoding.{StoredObject}
+use Rattle.vc_object.specs.ObjectMap.{links_in}
+use Rattle.vc_object.specs.declared.fault.ObjectFault.{ObjectFault}
+use Rattle.vc_object.specs.declared.id.ObjectId.{ObjectId}
+use Rattle.vc_push.specs.Push.{Carried, CommandText, FaultOf}
+use Rattle.vc_push.specs.Report.{ReportText, unpack_error}
+use Rattle.vc_push.specs.ReportView.{report_text}
+use Rattle.vc_push.specs.declared.reason.Reason.{Reason}
+use Rattle.vc_refs.specs.Head.{KeepsTheRest}
+use Rattle.vc_refs.specs.RefMap.{RefMap}
+use Rattle.vc_refs.specs.Refs.{refs}
+use Rattle.vc_store.specs.Store.{objects}
+use Rattle.vc_session.proofs.FrameLemmas.{objects-of_ref, objects-of_slot, quarantined-of_ref, quarantined-of_slot, refs-of_objects, refs-of_slot}
+use Rattle.vc_session.proofs.QuarantineLemmas.{quarantined-same}
+use Rattle.vc_session.specs.Carrying.{HoldsNames, objects_of_push}
+use Rattle.vc_session.specs.Known.{AreRefsWhole}
+use Rattle.vc_session.specs.Quarantine.{objects_seen, quarantine_folder, quarantined}
+use Rattle.vc_session.specs.Session.{IsSession, SessionText, fresh, stage_while, verdict_of}
+use Rattle.vc_session.specs.Steps.{EndsEarly, StepChecks, StepFinishes, StepMigrates, StepUpdates, fault_number, unpack_of}
+use Rattle.vc_session.specs.Verdict.{HasHistory, is_branch, refs_after}
+use Rattle.vc_session.specs.declared.stage.Stage.{Stage}
+use Rattle.vc_session.specs.declared.stage.Stage.TheVariants.{Unpacked, Checked, Migrated, Done as AtItsEnd}
+use Rattle.vc_session.specs.declared.stage.Stepped.TheVariants as stepped
+use Rattle.vc_session.specs.declared.stage.Verdict.{Verdict}
+use Rattle.vc_session.specs.declared.stage.Verdict.TheVariants.{Passing}
+use Rattle.vc_rules.specs.Git.{git, stored_of}
+use Rattle.vc_rules.specs.OpenPushes.{EndsEarlyAgree, HoldsContent, HoldsPush, IsPushEnd, IsPushStep, IsStop, OpensAgree, OthersStay, StepsAgree, judged_commands, machine_stage, machine_standing}
+use Rattle.vc_rules.specs.Verdicts.{AreFoundAt, machine_command, machine_reason}
+use Rattle.vc_rules.proofs.JoinLemmas.{joined, joined_all, joined_some, joined_where, joined_where_each, none_added}
+use Rattle.vc_rules.proofs.JudgedLemmas.{checks_all, count_judged, none_judged, split_judged, stage_judged, tells_all}
+use Rattle.vc_rules.proofs.ReachLemmas.{closed_to, history_to}
+use Rattle.vc_rules.proofs.RefLemmas.{set_rel, that_id}
+use Rattle.vc_rules.proofs.SoundLemmas.{objects_sound, seen_sound}
+use Rattle.vc_rules.proofs.UpdateLaws.{changes_of, updates_agree}
+
+-- ---- what is found
+module _ (content : FileMap) (r : Repository) (held : HoldsContent content r) where
+  either : (a b : Option Object) → option_or (option_map stored_of a) (option_map stored_of b) ≡ option_map stored_of (option_or a b)
+  either None b = refl
+  either (Some x) b = refl
+
+  same_seen : (slot : ℕ) (c : Objects) → ((x : Id) → quarantined content slot (id_of_bytes x) ≡ option_map stored_of (get c x))
+      → (x : Id) → objects_seen content slot (id_of_bytes x) ≡ option_map stored_of (over r.objects c x)
+  unfolding with_carried
+  same_seen slot c carried x =
+      ap (λ o. option_or o (quarantined content slot (id_of_bytes x))) (held.objects_are x) ∙ ap (option_or (option_map stored_of (get r.objects x))) (carried x) ∙ either (get r.objects x) (get c x)
+
+  seen_found : (slot : ℕ) (c : Objects) → ((x : Id) → quarantined content slot (id_of_bytes x) ≡ option_map stored_of (get c x)) → AreFoundAt (objects_seen content slot) (over r.objects c)
+  seen_found slot c carried = record { same = same_seen slot c carried; sound = seen_sound content slot }
+
+  -- what a sound repository's refs reach is there
+  refs_whole : IsSound git r → AreRefsWhole content
+  refs_whole sound = record { closed = closed; history = history }
+    where
+      value : (name : List ℕ) (id : ObjectId) → refs content name ≡ Some id → get r.refs name ≡ Some id.0
+      value name id h = that_id (get r.refs name) id.0 (sym (held.refs_are name) ∙ h)
+
+      closed : (name : List ℕ) (id : ObjectId) → refs content name ≡ Some id → IsClosed (links_in (objects content)) id
+      closed name id h = closed_to (objects content) (stored r.objects) held.objects_are id.0 ((sound.refs name id.0 (value name id h)).closed)
+
+      no_tag : (name : List ℕ) → is_branch name ≡ true → IsTag name → ⊥
+      no_tag name is tag = true≢false (sym is ∙ ap is_branch tag.1)
+
+      history : (name : List ℕ) (id : ObjectId) → is_branch name ≡ true → refs content name ≡ Some id → HasHistory (objects content) id
+      history name id is h = elim ((sound.refs name id.0 (value name id h)).kind) [
+        | inl tag ↦ absurd (no_tag name is tag)
+        | inr kept ↦ history_to (objects content) (stored r.objects) held.objects_are (objects_sound content) id.0 kept.1
+      ]
+
+-- ---- what stays
+-- a change in one slot's quarantine
+pub content_beside : (slot : ℕ) (old new : FileMap) (r : Repository) → SameOutside (quarantine_folder slot) old new → HoldsContent old r → HoldsContent new r
+content_beside slot old new r same held = record {
+  objects_are = λ x. objects-of_slot slot old new same (id_of_bytes x) ∙ held.objects_are x;
+  refs_are = λ n. ap (λ (m : RefMap). m n) (refs-of_slot slot old new same) ∙ held.refs_are n;
+}
+
+-- where a slot's quarantine is the same, it holds the same names, and its push is the same
+names_kept : (old new : FileMap) (slot : ℕ) (names : List ObjectId) → ((id : ObjectId) → quarantined new slot id ≡ quarantined old slot id) → HoldsNames old slot names → HoldsNames new slot names
+names_kept old new slot names same held = record {
+  each = λ id among. subst IsSome (sym (same id)) (held.each id among);
+  only = λ id there. held.only id (subst IsSome (same id) there);
+}
+
+pub push_kept : (old new : FileMap) (s : SessionText) (p : OpenPush) → ((id : ObjectId) → quarantined new s.slot id ≡ quarantined old s.slot id) → HoldsPush old s p → HoldsPush new s p
+push_kept old new s p same held = record {
+  session = held.session;
+  single = held.single;
+  fault = held.fault;
+  commands = held.commands;
+  carried = λ x. same (id_of_bytes x) ∙ held.carried x;
+  names = names_kept old new s.slot s.names same held.names;
+  stage = held.stage;
+}
+
+-- ---- a step
+module _ (old new : FileMap) (s t : SessionText) (r : Repository) (p : OpenPush) (content : HoldsContent old r) (held : HoldsPush old s p) where
+  -- what is held after a change of verdicts and stage
+  kept : (ws : List Verdict) (stage : Stage) (ks : List Judged) (left : machine.Stage) → t ≡ record s { verdicts = ws; stage = stage } → IsSession t
+      → ((id : ObjectId) → quarantined new s.slot id ≡ quarantined old s.slot id) → ks ≡ judged_commands s.commands ws → left ≡ machine_stage stage
+      → HoldsPush new t (record p { commands = ks; stage = left })
+  kept ws stage ks left is later same commands at = subst (λ (x : SessionText). HoldsPush new x (record p { commands = ks; stage = left })) (sym is) (record {
+    session = subst IsSession is later;
+    single = held.single;
+    fault = held.fault;
+    commands = commands;
+    carried = λ x. same (id_of_bytes x) ∙ held.carried x;
+    names = names_kept old new s.slot s.names same held.names;
+    stage = at;
+  })
+
+  stands_at : (stage : Stage) → s.stage ≡ stage → p.stage ≡ machine_stage stage
+  stands_at stage is = held.stage ∙ ap machine_stage is
+
+  paired : (ws : List Verdict) (stage : Stage) → t ≡ record s { verdicts = ws; stage = stage } → IsSession t → length ws ≡ length s.commands
+  paired ws stage is later = (subst IsSession is later).paired
+
+  checked : (n : ℕ) → IsSound git r → StepChecks old new s t n → IsSession t → IsPushStep new t (Passed n) r p
+  checked n sound h later =
+      let ks : List Judged = judged_commands s.commands t.verdicts in
+      let left : OpenPush = record p { commands = ks; stage = machine.stage_while ks MachineChecked } in
+      let fits : length t.verdicts ≡ length s.commands = paired t.verdicts (stage_while t.verdicts Checked) h.session later in
+      let all : machine.ChecksAll git (over r.objects p.carried) (judged_commands s.commands s.verdicts) ks =
+      checks_all (objects_seen old s.slot) (over r.objects p.carried) (seen_found old r content s.slot p.carried held.carried) s.commands s.verdicts t.verdicts (h.verdicts (refs_whole old r content sound)) in
+      let whole : machine.ChecksPush git (over r.objects p.carried) p.atomic p.commands ks =
+      subst (λ (a : Bool). machine.ChecksPush git (over r.objects p.carried) a p.commands ks) (sym held.single)
+      (subst (λ (js : List Judged). machine.ChecksAll git (over r.objects p.carried) js ks) (sym held.commands) all) in
+      record {
+        effect = no_effect;
+        left = left;
+        after = r;
+        step = subst (λ (at : machine.Stage). shared.StepsPush git r p at no_effect left (Passed n)) (sym (stands_at Unpacked h.stage))
+            (ks, whole, refl, refl, ap Passed (h.passed ∙ sym (count_judged s.commands t.verdicts fits)));
+        done = (r.objects, none_added r.objects, refl);
+        content = subst (λ (m : FileMap). HoldsContent m r) (sym h.files) content;
+        head = refl;
+        index = refl;
+        held = kept t.verdicts (stage_while t.verdicts Checked) ks (machine.stage_while ks MachineChecked) h.session later
+            (λ id. ap (λ (m : FileMap). quarantined m s.slot id) h.files) refl (stage_judged s.commands t.verdicts Checked fits);
+      }
+
+  migrated : StepMigrates old new s t → IsSession t → IsPushStep new t MigratedAll r p
+  migrated h later =
+      let left : OpenPush = record p { stage = MachineMigrated } in
+      record {
+        effect = record { objects = p.carried; changes = [] };
+        left = left;
+        after = with_objects r (joined r.objects p.carried);
+        step = subst (λ (at : machine.Stage). shared.StepsPush git r p at (record { objects = p.carried; changes = [] }) left MigratedAll) (sym (stands_at Checked h.stage)) (refl, refl, refl);
+        done = (joined r.objects p.carried, joined_all r.objects p.carried, refl);
+        content = record {
+          objects_are = λ x. h.stored (id_of_bytes x) ∙ (seen_found old r content s.slot p.carried held.carried).same x ∙ ap (option_map stored_of) (sym ((joined_all r.objects p.carried).each x));
+          refs_are = λ n. ap (λ (m : RefMap). m n) (refs-of_objects old new h.outside) ∙ content.refs_are n;
+        };
+        head = refl;
+        index = refl;
+        held = kept s.verdicts Migrated p.commands MachineMigrated h.session later (quarantined-same old new s.slot h.outside) held.commands refl;
+      }
+
+  -- the refs after an update
+  updated_content : (name : List ℕ) (c : CommandText) (found : Option Reason) → KeepsTheRest name old new → refs new ≡ refs_after (refs old) c found
+      → HoldsContent new (changed_all (changes_of (refs old) r.refs content.refs_are c found) r)
+  updated_content name c None rest are = record {
+    objects_are = λ x. objects-of_ref name old new rest (id_of_bytes x) ∙ content.objects_are x;
+    refs_are = λ n. ap (λ (m : RefMap). m n) are ∙ set_rel (refs old) r.refs content.refs_are c.name c.new n;
+  }
+  updated_content name c (Some reason) rest are = record {
+    objects_are = λ x. objects-of_ref name old new rest (id_of_bytes x) ∙ content.objects_are x;
+    refs_are = λ n. ap (λ (m : RefMap). m n) are ∙ content.refs_are n;
+  }
+
+  head_stays : (c : CommandText) (found : Option Reason) → (changed_all (changes_of (refs old) r.refs content.refs_are c found) r).head ≡ r.head
+  head_stays c None = refl
+  head_stays c (Some reason) = refl
+
+  index_stays : (c : CommandText) (found : Option Reason) → (changed_all (changes_of (refs old) r.refs content.refs_are c found) r).index ≡ r.index
+  index_stays c None = refl
+  index_stays c (Some reason) = refl
+
+  told : (found : Option Reason) → option_map machine_reason found ≡ shared.refusal_of (machine_standing (verdict_of found))
+  told None = refl
+  told (Some reason) = refl
+
+  updated : (name : List ℕ) (found : Option Reason) → StepUpdates old new s t name found → IsSession t → IsPushStep new t (Updated name (option_map machine_reason found)) r p
+  updated name found h later =
+      let u = h.update in
+      let c : CommandText = u.command in
+      let ks : List Judged = judged_commands s.commands t.verdicts in
+      let cs : List Change = changes_of (refs old) r.refs content.refs_are c found in
+      let left : OpenPush = record p { commands = ks; stage = machine.stage_while ks MachineMigrated } in
+      let fits : length t.verdicts ≡ length s.commands = paired t.verdicts (stage_while t.verdicts Migrated) h.session later in
+      let next : shared.UpdatesNext r p.commands ks cs = record {
+        front = judged_commands s.commands u.front;
+        next = record { command = machine_command c; verdict = machine_standing Passing };
+        back = judged_commands (drop (suc (length u.front)) s.commands) u.back;
+        verdict = machine_standing (verdict_of found);
+        before = held.commands ∙ ap (judged_commands s.commands) u.before ∙ split_judged s.commands u.front Passing u.back c u.command_is;
+        first = none_judged s.commands u.front u.first;
+        passing = refl;
+        update = updates_agree (refs old) r.refs content.refs_are c found u.judged;
+        after = ap (judged_commands s.commands) u.after ∙ split_judged s.commands u.front (verdict_of found) u.back c u.command_is;
+      } in
+      let reply : ◌≡◌ {A = Reply} (Updated name (option_map machine_reason found)) (Updated c.name (shared.refusal_of (machine_standing (verdict_of found)))) =
+      ap (λ (n : RefName). Updated n (option_map machine_reason found)) u.named ∙ ap (Updated c.name) (told found) in
+      record {
+        effect = only_changes cs;
+        left = left;
+        after = changed_all cs r;
+        step = subst (λ (at : machine.Stage). shared.StepsPush git r p at (only_changes cs) left (Updated name (option_map machine_reason found))) (sym (stands_at Migrated h.stage))
+            (ks, cs, shared.UpdatesPush.singly next held.single reply, refl, refl);
+        done = (r.objects, none_added r.objects, refl);
+        content = updated_content name c found h.rest u.refs_are;
+        head = head_stays c found;
+        index = index_stays c found;
+        held = kept t.verdicts (stage_while t.verdicts Migrated) ks (machine.stage_while ks MachineMigrated) h.session later
+            (quarantined-of_ref name old new h.rest s.slot) refl (stage_judged s.commands t.verdicts Migrated fits);
+      }
+
+  unpacked : (fault : Option ObjectFault) → unpack_of fault ≡ option_map unpack_error (option_map fault_number fault)
+  unpacked None = refl
+  unpacked (Some fault) = refl
+
+  finished : (report : ReportText) → StepFinishes old new s t report → IsPushEnd new report r p
+  finished report h =
+      let all = tells_all s.commands s.verdicts report.told h.report_is.told in
+      record {
+        told = all.0;
+        finished = stands_at AtItsEnd h.stage;
+        tells = subst (λ (js : List Judged). shared.TellsAll js all.0) (sym held.commands) all.1;
+        unpack = h.report_is.unpack ∙ unpacked s.fault ∙ ap (option_map unpack_error) (sym held.fault);
+        told_as = all.2;
+        content = content_beside s.slot old new r h.outside content;
+      }
+
+pub steps_agree : StepsAgree
+steps_agree old new s t (stepped.Checked n) r p content held sound h later = checked old new s t r p content held n sound h later
+steps_agree old new s t stepped.Migrated r p content held sound h later = migrated old new s t r p content held h later
+steps_agree old new s t (stepped.Updated name found) r p content held sound h later = updated old new s t r p content held name.items found h later
+steps_agree old new s t (stepped.Finished report) r p content held sound h later = finished old new s t r p content held (report_text report) h
+
+pub others_stay : OthersStay
+others_stay old new s t u (stepped.Checked n) q small fits apart h held = subst (λ (m : FileMap). HoldsPush m u q) (sym h.files) held
+others_stay old new s t u stepped.Migrated q small fits apart h held = push_kept old new u q (quarantined-same old new u.slot h.outside) held
+others_stay old new s t u (stepped.Updated name found) q small fits apart h held = push_kept old new u q (quarantined-of_ref name.items old new h.rest u.slot) held
+others_stay old new s t u (stepped.Finished report) q small fits apart h held =
+    push_kept old new u q (λ id. quarantined-of_slot s.slot old new h.outside u.slot id small fits apart) held
+
+-- ---- the opening
+fresh_judged : (fault : Option ObjectFault) (cs : List CommandText) → map (shared.fresh (option_map fault_number fault)) (map machine_command cs) ≡ judged_commands cs (map (λ c. fresh fault) cs)
+fresh_judged fault [] = refl
+fresh_judged None (c ∷ cs) = ap (λ js. shared.fresh None (machine_command c) ∷ js) (fresh_judged None cs)
+fresh_judged (Some fault) (c ∷ cs) = ap (λ js. shared.fresh (Some (fault_number fault)) (machine_command c) ∷ js) (fresh_judged (Some fault) cs)
+
+-- nothing is carried where a body is at fault
+brought : (carried : Carried) (fault : Option ObjectFault) (c : Objects) (x : Id) → FaultOf carried fault → option_map stored_of (get c x) ≡ objects_of_push carried (id_of_bytes x)
+    → objects_of_push carried (id_of_bytes x) ≡ option_map stored_of (get (cond (is_none (option_map fault_number fault)) c empty) x)
+brought carried None c x faulty made = sym made
+brought (Ok all) (Some fault) c x faulty made = absurd (cc faulty)
+brought (Err bad) (Some fault) c x faulty made = ap (option_map stored_of) (sym (get-empty (slice_cmp nat_cmp) x))
+
+pub opens_agree : OpensAgree
+opens_agree content s slot fault commands carried c opened session faulty carries made = record {
+  session = session;
+  single = refl;
+  fault = ap (option_map fault_number) (sym opened.fault_is);
+  commands = fresh_judged fault commands ∙ ap (λ cs. judged_commands cs (map (λ d. fresh fault) commands)) (sym opened.commands_are) ∙ ap (judged_commands s.commands) (sym opened.verdicts_are);
+  carried = λ x. ap (λ (n : ℕ). quarantined content n (id_of_bytes x)) opened.slot_is ∙ carries.same (id_of_bytes x) ∙ brought carried fault c x faulty (made x);
+  names = subst (λ (n : ℕ). HoldsNames content n s.names) (sym opened.slot_is) carries.holds;
+  stage = sym (ap machine_stage opened.stage_is);
+}
+
+-- ---- a step that ends early
+-- an object that stands there afterwards stood there, or is one of those that are carried
+some_stored : (now : Option StoredObject) (a b : Option Object) → (now ≡ option_map stored_of a) ⊎ (now ≡ option_map stored_of (option_or a b)) → now ≡ option_map stored_of (option_or a (cond (is_some now) b None))
+some_stored None None b h = refl
+some_stored None (Some x) b (inl e) = e
+some_stored None (Some x) b (inr e) = e
+some_stored (Some y) None b (inl e) = absurd (cc e)
+some_stored (Some y) None b (inr e) = e
+some_stored (Some y) (Some x) b (inl e) = e
+some_stored (Some y) (Some x) b (inr e) = e
+
+module _ (old new : FileMap) (s : SessionText) (r : Repository) (p : OpenPush) (content : HoldsContent old r) (held : HoldsPush old s p) where
+  stopped : EndsEarly old new s Checked → IsStop new r (record { objects = p.carried; changes = [] })
+  stopped e = record {
+    after = with_objects r some;
+    stops = inl (some, joined_some r.objects p.carried keep, refl);
+    content = record { objects_are = stored_then; refs_are = λ n. ap (λ (m : RefMap). m n) (refs-of_objects old new e.1) ∙ content.refs_are n };
+    head = refl;
+    index = refl;
+  }
+    where
+      keep : Id → Bool
+      keep x = is_some (objects new (id_of_bytes x))
+
+      some : Objects
+      some = joined_where r.objects p.carried keep
+
+      by : (x : Id) → (objects new (id_of_bytes x) ≡ objects old (id_of_bytes x)) ⊎ (objects new (id_of_bytes x) ≡ objects_seen old s.slot (id_of_bytes x))
+          → (objects new (id_of_bytes x) ≡ option_map stored_of (get r.objects x)) ⊎ (objects new (id_of_bytes x) ≡ option_map stored_of (over r.objects p.carried x))
+      by x (inl h) = inl (h ∙ content.objects_are x)
+      by x (inr h) = inr (h ∙ same_seen old r content s.slot p.carried held.carried x)
+
+      stored_then : (x : Id) → objects new (id_of_bytes x) ≡ option_map stored_of (get some x)
+      stored_then x =
+          some_stored (objects new (id_of_bytes x)) (get r.objects x) (get p.carried x) (by x (e.0 (id_of_bytes x)))
+          ∙ ap (option_map stored_of) (sym (joined_where_each r.objects p.carried keep x))
+
+  unchanged : new ≡ old → HoldsContent new r
+  unchanged same = subst (λ (m : FileMap). HoldsContent m r) (sym same) content
+
+pub early_agree : EndsEarlyAgree
+early_agree old new s Unpacked r p content held e = unchanged old new s r p content held e
+early_agree old new s Checked r p content held e = stopped old new s r p content held e
+early_agree old new s Migrated r p content held e = unchanged old new s r p content held e
+early_agree old new s AtItsEnd r p content held e = content_beside s.slot old new r e content

@@ -1,0 +1,193 @@
+-- The verdicts of a push, as one of them is settled after another, and what a step's parts say of the whole step.
+use Rattle.std.proofs.Common.{arith, ◌≡◌, ◌⊎◌, inl, inr, ℕ, zero, suc, ◌+◌, ◌<◌, cond, Bool, true, false, List, [], ◌∷◌, ◌++◌, length, map, take, drop, get_or, Option, Some, None, is_some, Result, Ok, Err, OnErr, refl, ap, sym, ◌∙◌, subst, slice_set, true≢false}
+use Rattle.std.specs.Prelude.{slice_get, option_map}
+use Rattle.std.specs.List.{list_any}
+use Rattle.std.proofs.lemmas.List.{length-map, length-take-le, take-append-drop, take-set, drop-set, drop_more}
+use Rattle.std.proofs.lemmas.List.Folds.{list_any_at}
+use Rattle.std.proofs.lemmas.Option.{slice_get_read, slice_get_within, slice_get-map, get_or_from_slice_get}
+use Rattle.vc_files.specs.Failures.{Wears, Writes}
+use Rattle.vc_files.specs.FileMap.{FileMap}
+use Rattle.vc_object.specs.declared.id.ObjectId.{ObjectId}
+use Rattle.vc_push.specs.Push.{Carried, CommandText}
+use Rattle.vc_push.specs.PushView.{command_of, commands_of}
+use Rattle.vc_push.specs.declared.command.Command.{Command}
+use Rattle.vc_push.specs.declared.reason.Reason.{Reason}
+use Rattle.vc_refs.specs.RefMap.{RefMap}
+use Rattle.vc_refs.specs.Refs.{refs}
+use Rattle.vc_refs.specs.declared.faults.RefFault.{RefFault}
+use Rattle.vc_refs.specs.declared.faults.RefFault.TheVariants as of_refs
+use Rattle.vc_store.specs.declared.faults.StoreFault.{StoreFault}
+use Rattle.vc_store.specs.declared.faults.StoreFault.TheVariants as of_store
+use Rattle.vc_session.specs.Carrying.{Carries, objects_of_push}
+use Rattle.vc_session.specs.Quarantine.{IsDropped}
+use Rattle.vc_session.specs.Session.{SessionText, IsInStage, MayBeSetWhere, is_passing, stage_while, verdict_of}
+use Rattle.vc_session.specs.SessionFault.{BlamesMigration, IsRefusedCheck, IsRefusedStep, from_refs, from_store}
+use Rattle.vc_session.specs.Steps.{MaySetNext, UpdatesNext}
+use Rattle.vc_session.specs.Updating.{BlamesUpdate}
+use Rattle.vc_session.specs.Verdict.{IsVerdictAtUpdate, MayBeSet, refs_after}
+use Rattle.vc_session.specs.declared.fault.SessionFault.{SessionFault}
+use Rattle.vc_session.specs.declared.fault.SessionFault.TheVariants.{Store, Refs, Fault}
+use Rattle.vc_session.specs.declared.stage.Stage.{Stage}
+use Rattle.vc_session.specs.declared.stage.Stage.TheVariants.{Unpacked, Checked, Migrated, Done}
+use Rattle.vc_session.specs.declared.stage.Verdict.{Verdict}
+use Rattle.vc_session.specs.declared.stage.Verdict.TheVariants.{Passing, Accepted, Refused}
+use Rattle.vc_session.proofs.FrameLemmas.{dropped-none}
+
+module _ (vs : List Verdict) (k : ℕ) (here : slice_get vs k ≡ Some Passing) where
+  within : k < length vs
+  within = slice_get_within vs k Passing here
+
+  pub passing_there : list_any is_passing vs ≡ true
+  passing_there = list_any_at is_passing vs k Passing within (ap is_passing (get_or_from_slice_get vs k Passing Passing here))
+
+  -- what stands before it, it, and what stands behind it
+  pub passing_split : vs ≡ take k vs ++ Passing ∷ drop (k + 1) vs
+  passing_split =
+      sym (take-append-drop k vs) ∙ ap (λ xs. take k vs ++ xs) (drop_more vs k Passing within ∙ ap (λ v. v ∷ drop (k + 1) vs) (get_or_from_slice_get vs k Passing Passing here))
+
+  -- and with another verdict there
+  pub settled_split : (w : Verdict) → slice_set vs k w ≡ take k vs ++ w ∷ drop (k + 1) vs
+  settled_split w =
+      sym (take-append-drop k (slice_set vs k w)) ∙ ap (λ xs. xs ++ drop k (slice_set vs k w)) (take-set vs k w) ∙ ap (λ xs. take k vs ++ xs) (drop-set vs k w within)
+
+-- a command that passed may be set
+pub may_at : (cs : List CommandText) (vs : List Verdict) (k : ℕ) (c : CommandText) → MayBeSetWhere cs vs → slice_get vs k ≡ Some Passing → slice_get cs k ≡ Some c → MayBeSet c.name
+may_at [] vs k c may here is = absurd (cc is)
+may_at (d ∷ cs) [] k c may here is = absurd (cc here)
+may_at (d ∷ cs) (Passing ∷ vs) zero c may here is =
+    let same : d ≡ c = cc in
+    subst (λ (x : CommandText). MayBeSet x.name) same may.0
+may_at (d ∷ cs) (Accepted ∷ vs) zero c may here is = absurd (cc here)
+may_at (d ∷ cs) (Refused r ∷ vs) zero c may here is = absurd (cc here)
+may_at (d ∷ cs) (Passing ∷ vs) (suc k) c may here is = may_at cs vs k c may.1 here is
+may_at (d ∷ cs) (Accepted ∷ vs) (suc k) c may here is = may_at cs vs k c may here is
+may_at (d ∷ cs) (Refused r ∷ vs) (suc k) c may here is = may_at cs vs k c may here is
+
+rest_may : (c : CommandText) (cs : List CommandText) (v : Verdict) (vs : List Verdict) → MayBeSetWhere (c ∷ cs) (v ∷ vs) → MayBeSetWhere cs vs
+rest_may c cs Passing vs may = may.1
+rest_may c cs Accepted vs may = may
+rest_may c cs (Refused r) vs may = may
+
+settled_may : (c : CommandText) (cs : List CommandText) (w : Verdict) (vs : List Verdict) → is_passing w ≡ false → MayBeSetWhere cs vs → MayBeSetWhere (c ∷ cs) (w ∷ vs)
+settled_may c cs Passing vs settled may = absurd (cc settled)
+settled_may c cs Accepted vs settled may = may
+settled_may c cs (Refused r) vs settled may = may
+
+-- the others may still be, once it is settled
+pub may_after : (cs : List CommandText) (vs : List Verdict) (k : ℕ) (w : Verdict) → is_passing w ≡ false → MayBeSetWhere cs vs → MayBeSetWhere cs (slice_set vs k w)
+may_after [] vs k w settled may = tt
+may_after (c ∷ cs) [] k w settled may = tt
+may_after (c ∷ cs) (v ∷ vs) zero w settled may = settled_may c cs w vs settled (rest_may c cs v vs may)
+may_after (c ∷ cs) (Passing ∷ vs) (suc k) w settled may = (may.0, may_after cs vs k w settled may.1)
+may_after (c ∷ cs) (Accepted ∷ vs) (suc k) w settled may = may_after cs vs k w settled may
+may_after (c ∷ cs) (Refused r ∷ vs) (suc k) w settled may = may_after cs vs k w settled may
+
+-- a session stands at the stage while a command passes, and else at its end
+pub in_stage : (s : SessionText) (stage : Stage) → (list_any is_passing s.verdicts ≡ true → IsInStage s stage) → IsInStage s (stage_while s.verdicts stage)
+in_stage s stage passes =
+    elim (list_any is_passing s.verdicts) as (λ b. list_any is_passing s.verdicts ≡ b → IsInStage s (cond b stage Done)) [
+      | true ↦ λ yes. passes yes
+      | false ↦ λ no. no
+    ] refl
+
+-- ---- refusals
+-- of the check, as of its step
+pub refused_check : (content : FileMap) (s : SessionText) (e : SessionFault) → IsRefusedCheck content s.slot e → IsRefusedStep content s Unpacked e
+refused_check content s (Store fault) h = h
+refused_check content s (Refs fault) h = h
+refused_check content s (Fault fault) h = tt
+
+pub refused_migration : (content : FileMap) (s : SessionText) (e : StoreFault) → BlamesMigration content s.slot s.names e → IsRefusedStep content s Checked (from_store e)
+refused_migration content s (of_store.BadObject fault) h = h
+refused_migration content s (of_store.Absent id) h = h
+refused_migration content s (of_store.Damaged id) h = h
+refused_migration content s (of_store.Fault fault) h = tt
+
+pub refused_update : (content : FileMap) (s : SessionText) (name : List ℕ) (e : RefFault) → BlamesUpdate content name e → IsRefusedStep content s Migrated (from_refs e)
+refused_update content s name (of_refs.Stale current) h = h
+refused_update content s name (of_refs.Conflict other) h = h
+refused_update content s name (of_refs.BadRefFile path) h = h.0
+refused_update content s name of_refs.HeadLoop h = h
+refused_update content s name (of_refs.Fault fault) h = tt
+
+-- what an error leaves, from what it is
+pub on_err : {A E : Type 0} (r : Result A E) (X : Type 0) → X → OnErr r X
+on_err (Ok a) X x = tt
+on_err (Err e) X x = x
+
+-- ---- one update
+pub settled_verdict : (found : Option Reason) → is_passing (verdict_of found) ≡ false
+settled_verdict None = refl
+settled_verdict (Some reason) = refl
+
+-- the command at the place of the next verdict that passes
+pub command_there : (held : List Command) (vs : List Verdict) (k : ℕ) (command : Command) → length vs ≡ length (commands_of held) → slice_get vs k ≡ Some Passing → command ≡ get_or held k command
+    → slice_get (commands_of held) k ≡ Some (command_of command)
+command_there held vs k command paired here is =
+    let within : k < length held = omega (arith, slice_get_within vs k Passing here, paired, length-map held command_of) in
+    slice_get-map command_of held k ∙ ap (option_map command_of) (slice_get_read held (length held) k command refl within is)
+
+-- and it is one, however often it is read
+pub same_there : (held : List Command) (vs : List Verdict) (k : ℕ) (c d : Command) → length vs ≡ length (commands_of held) → slice_get vs k ≡ Some Passing → c ≡ get_or held k c → d ≡ get_or held k d → c ≡ d
+same_there held vs k c d paired here is also =
+    let within : k < length held = omega (arith, slice_get_within vs k Passing here, paired, length-map held command_of) in
+    let one : slice_get held k ≡ Some c = slice_get_read held (length held) k c refl within is in
+    let other : slice_get held k ≡ Some d = slice_get_read held (length held) k d refl within also in
+    cc
+
+module _ (vs : List Verdict) (k : ℕ) (here : slice_get vs k ≡ Some Passing) (first : list_any is_passing (take k vs) ≡ false) (cs : List CommandText) (c : CommandText) (there : slice_get cs k ≡ Some c) where
+  front_there : slice_get cs (length (take k vs)) ≡ Some c
+  front_there = ap (slice_get cs) (length-take-le k vs (omega (arith, slice_get_within vs k Passing here))) ∙ there
+
+  pub updates_next : (old new : RefMap) (ws : List Verdict) (name : List ℕ) (found : Option Reason)
+      → name ≡ c.name → IsVerdictAtUpdate old c found → new ≡ refs_after old c found → ws ≡ slice_set vs k (verdict_of found) → UpdatesNext old new cs vs ws name found
+  updates_next old new ws name found named judged set after = record {
+    front = take k vs;
+    back = drop (k + 1) vs;
+    command = c;
+    before = passing_split vs k here;
+    first = first;
+    command_is = front_there;
+    named = named;
+    judged = judged;
+    refs_are = set;
+    after = after ∙ settled_split vs k here (verdict_of found);
+  }
+
+  pub may_set_next : (content : FileMap) (s : SessionText) → s.verdicts ≡ vs → s.commands ≡ cs → IsVerdictAtUpdate (refs content) c None → MaySetNext content s
+  may_set_next content s verdicts commands judged =
+      (take k vs, drop (k + 1) vs, c, verdicts ∙ passing_split vs k here, first, ap (λ ds. slice_get ds (length (take k vs))) commands ∙ front_there, judged)
+
+-- the device's end, told in other words
+pub wears_told : {D : Type 0} {failed : D → ℕ} {can_fail : D → Type 0} {left : D → Option ℕ} {old new : D} {P Q : Type 0} → Wears failed can_fail left old new P → (Q → P) → Wears failed can_fail left old new Q
+wears_told w from = record { later = w.later; calm = w.calm; could = λ device. w.could (from device); failed_now = λ device. w.failed_now (from device); unspent = w.unspent }
+
+pub either : {A B C D : Type 0} → A ⊎ B → (A → C) → (B → D) → C ⊎ D
+either (inl a) f g = inl (f a)
+either (inr b) f g = inr (g b)
+
+-- ---- the opening
+-- each command has the same verdict
+pub same_verdicts : (v : Verdict) (held : List Command) → map (λ (c : Command). v) held ≡ map (λ (c : CommandText). v) (commands_of held)
+same_verdicts v [] = refl
+same_verdicts v (c ∷ held) = ap (λ vs. v ∷ vs) (same_verdicts v held)
+
+-- an empty quarantine carries nothing
+pub nothing_carried : (content : FileMap) (slot : ℕ) → IsDropped slot content → Carries content slot [] (λ id. None)
+nothing_carried content slot dropped = record {
+  same = dropped-none content slot dropped;
+  holds = record {
+    each = λ id among. absurd (omega (arith, among.1));
+    only = λ id some. absurd (true≢false (sym some ∙ ap is_some (dropped-none content slot dropped id)));
+  };
+}
+
+pub carries_by : (now files : FileMap) (slot : ℕ) (ids names : List ObjectId) (push carried : Carried) → now ≡ files → ids ≡ names → push ≡ carried → Carries files slot names (objects_of_push carried) → Carries now slot ids (objects_of_push push)
+carries_by now files slot ids names push carried same_files same_names same_push h =
+    subst (λ (x : FileMap). Carries x slot ids (objects_of_push push)) (sym same_files)
+    (subst (λ (x : List ObjectId). Carries files slot x (objects_of_push push)) (sym same_names)
+    (subst (λ (x : Carried). Carries files slot names (objects_of_push x)) (sym same_push) h))
+
+-- the same call, up to what is the same
+pub writes_at : {D : Type 0} {honest : Type 0} {content : D → FileMap} {failed : D → ℕ} {can_fail : D → Type 0} {left : D → Option ℕ} {old new now : D} {P : Type 0} → now ≡ new → Writes honest content failed can_fail left old new P → Writes honest content failed can_fail left old now P
+writes_at {honest = honest} {content = content} {failed = failed} {can_fail = can_fail} {left = left} {old = old} {P = P} same w = subst (λ d. Writes honest content failed can_fail left old d P) (sym same) w

@@ -1,0 +1,115 @@
+use Rattle.std.proofs.Common.{rules, ◌≡◌, false, length, get_or, take, List, Some, None, Option, ap, sym, ◌∙◌, refl, subst, slice_set, ℕ}
+use Rattle.std.specs.Prelude.{slice_get}
+use Rattle.std.specs.List.{list_any}
+use Rattle.std.proofs.lemmas.List.{length-set}
+use Rattle.vc_push.specs.Push.{CommandText}
+use Rattle.vc_push.specs.PushView.{command_of, commands_of}
+use Rattle.vc_push.specs.declared.command.Command.{Command}
+use Rattle.vc_push.specs.declared.reason.Reason.{Reason}
+use Rattle.vc_refs.specs.Head.{KeepsTheRest}
+use Rattle.vc_refs.specs.RefMap.{RefMap}
+use Rattle.vc_refs.specs.Refs.{refs}
+use Rattle.vc_session.specs.Session.{SessionText, IsInStage, MayBeSetWhere, is_passing, stage_while, verdict_of}
+use Rattle.vc_session.specs.Steps.{StepUpdates}
+use Rattle.vc_session.specs.Verdict.{IsVerdictAtUpdate, MayBeSet, refs_after}
+use Rattle.vc_session.specs.contracts.session.PushSession.{the_view}
+use Rattle.vc_session.specs.declared.stage.Stage.{Stage}
+use Rattle.vc_session.specs.declared.stage.Stage.TheVariants.{Migrated}
+use Rattle.vc_session.specs.declared.stage.Verdict.{Verdict}
+use Rattle.vc_session.specs.declared.stage.Verdict.TheVariants.{Passing}
+use Rattle.vc_session.proofs.SessionLemmas.{command_there, either, in_stage, may_after, may_at, may_set_next, same_there, settled_verdict, updates_next, wears_told}
+use Rattle.vc_session.proofs.session.PushSession.update.Goals as goal
+use Rattle.vc_session.proofs.session.PushSession.update.Goals.{in-None, in-Some-found}
+
+pub returns-in_err-found-clause-looks : goal.returns-in_err-found-clause-looks
+returns-in_err-found-clause-looks g c = λ honest.
+    let content = g.F.Files.content c.args.files.now in
+    let t : SessionText = the_view c.self.inside in
+    let k = c.in-Some.place in
+    let command : Command = c.index-2.result.now in
+    let here : slice_get t.verdicts k ≡ Some Passing = ap (λ (vs : List Verdict). slice_get vs k) (sym c.deref.ensures.value) ∙ c.in-Some.ensures.place.0 in
+    let first : list_any is_passing (take k t.verdicts) ≡ false = ap (λ (vs : List Verdict). list_any is_passing (take k vs)) (sym c.deref.ensures.value) ∙ c.in-Some.ensures.place.1 in
+    let is : command ≡ get_or c.self.inside.commands.items k command = search (rules, c.index-2.ensures) in
+    let there : slice_get t.commands k ≡ Some (command_of command) = command_there c.self.inside.commands.items t.verdicts k command c.self.invariant.paired here is in
+    let stage : t.stage ≡ Migrated = ap (λ (s : SessionText). s.stage) c.self.view_is ∙ c.requires.stage in
+    let may : MayBeSetWhere t.commands t.verdicts = (subst (λ (x : Stage). IsInStage t x) stage c.self.invariant.in_stage).0 in
+    either (c.in_err-found.ensures.looks honest (may_at t.commands t.verdicts k (command_of command) may here there))
+    (may_set_next t.verdicts k here first t.commands (command_of command) there content c.args.self.now (ap (λ (s : SessionText). s.verdicts) (sym c.self.view_is)) (ap (λ (s : SessionText). s.commands) (sym c.self.view_is)))
+    (λ w. wears_told w (search rules))
+
+pub invariant_of-self : goal.invariant_of-self
+invariant_of-self g c =
+    let t : SessionText = the_view c.self.inside in
+    let k = c.in-Some.place in
+    let ws = c.set_verdict.new.verdicts.items in
+    let verdict : c.match-found.verdict ≡ verdict_of c.in_ok-found.found = elim c.match-found.branch [
+      | in-None w ↦ w.verdict-is ∙ sym (ap verdict_of w.in-None.is)
+      | in-Some-found w ↦ w.verdict-is ∙ sym (ap verdict_of w.in-Some-found.is)
+    ] in
+    let set : ws ≡ slice_set t.verdicts k c.match-found.verdict = search (rules, c.set_verdict.ensures) in
+    let settled : is_passing c.match-found.verdict ≡ false = ap is_passing verdict ∙ settled_verdict c.in_ok-found.found in
+    let before : t.stage ≡ Migrated = ap (λ (s : SessionText). s.stage) c.self.view_is ∙ c.requires.stage in
+    let may : MayBeSetWhere t.commands t.verdicts = (subst (λ (x : Stage). IsInStage t x) before c.self.invariant.in_stage).0 in
+    let after : MayBeSetWhere t.commands ws = subst (λ (vs : List Verdict). MayBeSetWhere t.commands vs) (sym set) (may_after t.commands t.verdicts k c.match-found.verdict settled may) in
+    let u : SessionText = record t { verdicts = ws; stage = c.stage_while-self-inside.result } in
+    let stage : u.stage ≡ stage_while ws Migrated = c.stage_while-self-inside.ensures ∙ ap (λ (vs : List Verdict). stage_while vs Migrated) c.deref-3.ensures.value in
+    record {
+      paired = ap length set ∙ length-set t.verdicts k c.match-found.verdict ∙ c.self.invariant.paired;
+      in_stage = subst (λ (x : Stage). IsInStage u x) (sym stage) (in_stage u Migrated (λ passes. (after, passes)));
+    }
+
+pub returns-clause-steps : goal.returns-clause-steps
+returns-clause-steps g c = λ honest.
+    let old = g.F.Files.content c.args.files.now in
+    let new = g.F.Files.content c.update.new.files in
+    let t : SessionText = the_view c.self.inside in
+    let k = c.in-Some.place in
+    let command : Command = c.index-2.result.now in
+    let ws = c.set_verdict.new.verdicts.items in
+    let found = c.match-found.found in
+    let here : slice_get t.verdicts k ≡ Some Passing = ap (λ (vs : List Verdict). slice_get vs k) (sym c.deref.ensures.value) ∙ c.in-Some.ensures.place.0 in
+    let first : list_any is_passing (take k t.verdicts) ≡ false = ap (λ (vs : List Verdict). list_any is_passing (take k vs)) (sym c.deref.ensures.value) ∙ c.in-Some.ensures.place.1 in
+    let is : command ≡ get_or c.self.inside.commands.items k command = search (rules, c.index-2.ensures) in
+    let there : slice_get t.commands k ≡ Some (command_of command) = command_there c.self.inside.commands.items t.verdicts k command c.self.invariant.paired here is in
+    let before : t.stage ≡ Migrated = ap (λ (s : SessionText). s.stage) c.self.view_is ∙ c.requires.stage in
+    let may : MayBeSetWhere t.commands t.verdicts = (subst (λ (x : Stage). IsInStage t x) before c.self.invariant.in_stage).0 in
+    let allowed : MayBeSet command.name.items = may_at t.commands t.verdicts k (command_of command) may here there in
+    let told : found ≡ c.in_ok-found.found = elim c.match-found.branch [
+      | in-None w ↦ w.found-is
+      | in-Some-found w ↦ w.found-is ∙ sym w.in-Some-found.is
+    ] in
+    let verdict : c.match-found.verdict ≡ verdict_of found = elim c.match-found.branch [
+      | in-None w ↦ w.verdict-is ∙ sym (ap verdict_of (w.found-is ∙ w.in-None.is))
+      | in-Some-found w ↦ w.verdict-is ∙ sym (ap verdict_of w.found-is)
+    ] in
+    let judged : IsVerdictAtUpdate (refs old) (command_of command) found = subst (λ (f : Option Reason). IsVerdictAtUpdate (refs old) (command_of command) f) (sym told) (c.in_ok-found.ensures.verdict honest allowed) in
+    let set : refs new ≡ refs_after (refs old) (command_of command) found = c.in_ok-found.ensures.set honest ∙ ap (λ (f : Option Reason). refs_after (refs old) (command_of command) f) (sym told) in
+    let after : ws ≡ slice_set t.verdicts k (verdict_of found) = c.set_verdict.ensures ∙ ap (λ (v : Verdict). slice_set t.verdicts k v) verdict in
+    let read : Command = c.index.result.now in
+    let also : read ≡ get_or c.self.inside.commands.items k read = search (rules, c.index.ensures) in
+    let same : read ≡ command = same_there c.self.inside.commands.items t.verdicts k read command c.self.invariant.paired here also is in
+    let copied : c.in_ok-name.name.items ≡ read.name.items = search (rules, c.in_ok-name.ensures, c.deref-2.ensures.value) in
+    let named : c.in_ok-name.name.items ≡ command.name.items = copied ∙ ap (λ (x : Command). x.name.items) same in
+    let stage : c.stage_while-self-inside.result ≡ stage_while ws Migrated = c.stage_while-self-inside.ensures ∙ ap (λ (vs : List Verdict). stage_while vs Migrated) c.deref-3.ensures.value in
+    subst (λ (s : SessionText). StepUpdates old new s (record t { verdicts = ws; stage = c.stage_while-self-inside.result }) c.in_ok-name.name.items found) c.self.view_is (record {
+      stage = before;
+      update = updates_next t.verdicts k here first t.commands (command_of command) there (refs old) (refs new) ws c.in_ok-name.name.items found named judged set after;
+      session = ap (λ (x : Stage). record t { verdicts = ws; stage = x }) stage;
+      rest = subst (λ (n : List ℕ). KeepsTheRest n old new) (sym named) (c.in_ok-found.ensures.rest honest);
+    })
+
+pub returns-clause-looks : goal.returns-clause-looks
+returns-clause-looks g c = λ honest.
+    let content = g.F.Files.content c.args.files.now in
+    let t : SessionText = the_view c.self.inside in
+    let k = c.in-Some.place in
+    let command : Command = c.index-2.result.now in
+    let here : slice_get t.verdicts k ≡ Some Passing = ap (λ (vs : List Verdict). slice_get vs k) (sym c.deref.ensures.value) ∙ c.in-Some.ensures.place.0 in
+    let first : list_any is_passing (take k t.verdicts) ≡ false = ap (λ (vs : List Verdict). list_any is_passing (take k vs)) (sym c.deref.ensures.value) ∙ c.in-Some.ensures.place.1 in
+    let is : command ≡ get_or c.self.inside.commands.items k command = search (rules, c.index-2.ensures) in
+    let there : slice_get t.commands k ≡ Some (command_of command) = command_there c.self.inside.commands.items t.verdicts k command c.self.invariant.paired here is in
+    let stage : t.stage ≡ Migrated = ap (λ (s : SessionText). s.stage) c.self.view_is ∙ c.requires.stage in
+    let may : MayBeSetWhere t.commands t.verdicts = (subst (λ (x : Stage). IsInStage t x) stage c.self.invariant.in_stage).0 in
+    either (c.in_ok-found.ensures.looks honest (may_at t.commands t.verdicts k (command_of command) may here there))
+    (may_set_next t.verdicts k here first t.commands (command_of command) there content c.args.self.now (ap (λ (s : SessionText). s.verdicts) (sym c.self.view_is)) (ap (λ (s : SessionText). s.commands) (sym c.self.view_is)))
+    (λ w. wears_told w (λ never. absurd (cc never)))

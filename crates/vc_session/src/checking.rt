@@ -1,0 +1,127 @@
+//! The check of all commands of a push.
+ghost use Rattle.std.specs.Prelude.{◌≡◌, Some, None, true, false, ⊤, length, slice_get, take, count_by, IfOk, IfErr, IfSome, IfNone, IsErrOf};
+ghost use Rattle.std.specs.List.{list_any};
+ghost use Rattle.vc_files.specs.Failures.{Wears};
+ghost use Rattle.vc_graph.specs.GraphFault.{IsMet};
+ghost use Rattle.vc_push.specs.PushView.{command_of, commands_of};
+ghost use Rattle.vc_session.specs.Known.{AreRefsWhole, AreWhole};
+ghost use Rattle.vc_session.specs.Quarantine.{objects_seen};
+ghost use Rattle.vc_session.specs.Session.{MayBeSetWhere, is_passing};
+ghost use Rattle.vc_session.specs.SessionFault.{IsRefusedCheck};
+ghost use Rattle.vc_session.specs.Steps.{Checks, ChecksAll};
+ghost use Rattle.vc_session.specs.Verdict.{MayBeSet};
+
+use crate::fault::SessionFault;
+use crate::judging::judge;
+use crate::known::Known;
+use crate::seen::PushObjects;
+use crate::stage::Verdict;
+use std::alloc::Global;
+use vc_base::Commits;
+use vc_files::{Fault, Files};
+use vc_push::Command;
+use vc_store::StoreFault;
+
+// What the check makes of the verdict on a command.
+fn checked<C: Commits>(
+    alloc: Global,
+    commits: &mut C,
+    known: &mut Known,
+    command: &Command,
+    verdict: Verdict,
+) -> Result<Verdict, StoreFault>
+    ensures checks { IfOk result (λ after. C.is_honest → AreWhole (C.objects (C.state_of commits.old)) known.old → Checks (C.objects (C.state_of commits.old)) (command_of command.now) verdict after) }
+    ensures legal { IfOk result (λ after. verdict ≡ Verdict.Passing → is_passing after ≡ true → MayBeSet command.now.name.items) }
+    ensures settled { IfOk result (λ after. is_passing verdict ≡ false → after ≡ verdict) }
+    ensures known { C.is_honest → AreWhole (C.objects (C.state_of commits.old)) known.old → AreWhole (C.objects (C.state_of commits.old)) known.new }
+    ensures refused { IfErr result (λ e. C.is_honest → IsMet (λ id. ⊤) (C.damaged (C.state_of commits.old)) e) }
+    ensures kept { C.state_of commits.new ≡ C.state_of commits.old }
+    ensures wear { Wears C.failed C.can_fail C.left commits.old commits.new (IsErrOf result (StoreFault.Fault Fault.Device)) }
+{
+    match verdict {
+        Verdict::Passing => {
+            let found = judge(alloc, commits, known, command)?;
+            match found {
+                None => Ok(Verdict::Passing),
+                Some(reason) => Ok(Verdict::Refused(reason)),
+            }
+        }
+        Verdict::Accepted => Ok(Verdict::Accepted),
+        Verdict::Refused(reason) => Ok(Verdict::Refused(reason)),
+    }
+}
+
+// What the check makes of the verdicts on all commands. What is found to be whole under one of them is not read again for
+// the next.
+fn check_all<C: Commits>(
+    alloc: Global,
+    commits: &mut C,
+    known: &mut Known,
+    commands: &[Command],
+    verdicts: &[Verdict],
+) -> Result<Vec<Verdict>, StoreFault>
+    requires paired { length verdicts.now ≡ length commands.now }
+    ensures checks { IfOk result (λ after. C.is_honest → AreWhole (C.objects (C.state_of commits.old)) known.old → ChecksAll (C.objects (C.state_of commits.old)) (commands_of commands.now) verdicts.now after.items) }
+    ensures legal { IfOk result (λ after. MayBeSetWhere (commands_of commands.now) after.items) }
+    ensures paired { IfOk result (λ after. length after.items ≡ length commands.now) }
+    ensures refused { IfErr result (λ e. C.is_honest → IsMet (λ id. ⊤) (C.damaged (C.state_of commits.old)) e) }
+    ensures kept { C.state_of commits.new ≡ C.state_of commits.old }
+    ensures wear { Wears C.failed C.can_fail C.left commits.old commits.new (IsErrOf result (StoreFault.Fault Fault.Device)) }
+{
+    let mut after = Vec::new(alloc);
+    for i in 0..commands.len() {
+        let verdict = checked(alloc, commits, known, &commands[i], verdicts[i])?;
+        after.push(verdict)?;
+    }
+    Ok(after)
+}
+
+/// What the check makes of the verdicts on the commands of a slot's push, over what is stored and what its quarantine
+/// holds. The values of refs are known to be whole, and so is what hangs on them.
+pub(crate) fn check_in_files<F: Files>(
+    alloc: Global,
+    files: &mut F,
+    slot: u8,
+    commands: &[Command],
+    verdicts: &[Verdict],
+) -> Result<Vec<Verdict>, SessionFault>
+    requires paired { length verdicts.now ≡ length commands.now }
+    ensures checks { F.honest → AreRefsWhole (F.content files.old) → IfOk result (λ after. ChecksAll (objects_seen (F.content files.old) slot) (commands_of commands.now) verdicts.now after.items) }
+    ensures legal { IfOk result (λ after. MayBeSetWhere (commands_of commands.now) after.items) }
+    ensures paired { IfOk result (λ after. length after.items ≡ length commands.now) }
+    ensures refused { F.honest → IfErr result (IsRefusedCheck (F.content files.old) slot) }
+    ensures same { F.content files.new ≡ F.content files.old }
+    ensures wear { Wears F.failed F.can_fail F.left files.old files.new (IsErrOf result (SessionFault.Fault Fault.Device)) }
+{
+    let mut known = Known::by_refs(files, alloc)?;
+    let mut seen = PushObjects { files, slot, alloc };
+    known.learn_tips(alloc, &mut seen, commands)?;
+    let after = check_all(alloc, &mut seen, &mut known, commands, verdicts)?;
+    Ok(after)
+}
+
+/// How many of the verdicts pass.
+pub(crate) fn count_passing(verdicts: &[Verdict]) -> usize
+    ensures { result ≡ count_by is_passing verdicts.now }
+{
+    let mut passing = 0;
+    for verdict in verdicts {
+        if matches!(verdict, Verdict::Passing) {
+            passing += 1;
+        }
+    }
+    passing
+}
+
+/// The place of the first verdict that passes.
+pub(crate) fn next_passing(verdicts: &[Verdict]) -> Option<usize>
+    ensures place { IfSome result (λ k. (slice_get verdicts.now k ≡ Some Verdict.Passing) × (list_any is_passing (take k verdicts.now) ≡ false)) }
+    ensures none { IfNone result (list_any is_passing verdicts.now ≡ false) }
+{
+    for i in 0..verdicts.len() {
+        if matches!(verdicts[i], Verdict::Passing) {
+            return Some(i);
+        }
+    }
+    None
+}

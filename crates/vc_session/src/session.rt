@@ -1,0 +1,196 @@
+//! One open push.
+ghost use Rattle.std.specs.Prelude.{◌≡◌, ◌⊎◌, ◌<◌, Option, length, slice_set, IfOk, IfErr, OnErr, IsErrOf};
+ghost use Rattle.vc_files.specs.FileMap.{SameOutside};
+ghost use Rattle.vc_files.specs.Failures.{Wears, Writes};
+ghost use Rattle.vc_object.specs.declared.fault.ObjectFault.{ObjectFault as Refusal};
+ghost use Rattle.vc_push.specs.Push.{FaultOf};
+ghost use Rattle.vc_push.specs.PushView.{push_text};
+ghost use Rattle.vc_session.specs.Carrying.{Carries, HoldsNames, objects_of_push};
+ghost use Rattle.vc_session.specs.Quarantine.{quarantine_folder};
+ghost use Rattle.vc_session.specs.Session.{stage_while};
+ghost use Rattle.vc_session.specs.SessionFault.{IsRefusedStep};
+ghost use Rattle.vc_session.specs.Steps.{EndsEarly, IsOpened, MayWrite, Steps};
+
+use crate::checking::{check_in_files, count_passing, next_passing};
+use crate::fault::SessionFault;
+use crate::migrating::migrate;
+use crate::opening::{fresh, put_all};
+use crate::quarantine::drop_quarantine;
+use crate::reporting::report;
+use crate::stage::{Stage, Stepped, Verdict};
+use crate::updating::update;
+use std::alloc::Global;
+use std::marker::Model;
+use vc_files::{Fault, Files};
+use vc_object::{ObjectFault, ObjectId};
+use vc_push::{Command, Push};
+
+/// One open push: its commands and what became of them, and how far it has come. What it carries stands in the quarantine
+/// of its slot. It keeps neither the store nor the refs: both are handed to it, as files, at each step, so that other
+/// pushes take their steps between.
+#[derive(Drop)]
+pub struct PushSession {
+    slot: u8,
+    // Why the first carried body at fault is none of its kind. Then nothing is carried, and every command has 109.
+    fault: Option<ObjectFault>,
+    commands: Vec<Command>,
+    // The verdict so far on each command.
+    verdicts: Vec<Verdict>,
+    // The names of what is carried, in their order.
+    names: Vec<ObjectId>,
+    stage: Stage,
+}
+
+impl Model for PushSession {
+    ghost use Rattle.vc_push.specs.PushView.{commands_of};
+    ghost use Rattle.vc_session.specs.Session.{IsSession, SessionText};
+
+    ghost Value = { SessionText };
+
+    ghost view = { λ s. record { slot = s.slot; fault = s.fault; commands = commands_of s.commands.items; verdicts = s.verdicts.items; names = s.names.items; stage = s.stage } };
+
+    ghost invariant = { λ s. IsSession (record { slot = s.slot; fault = s.fault; commands = commands_of s.commands.items; verdicts = s.verdicts.items; names = s.names.items; stage = s.stage }) };
+}
+
+// Another verdict at this place.
+fn set_verdict(verdicts: &mut Vec<Verdict>, place: usize, verdict: Verdict)
+    requires { place < length verdicts.old.items }
+    ensures { verdicts.new.items ≡ slice_set verdicts.old.items place verdict }
+{
+    verdicts[place] = verdict;
+}
+
+// The stage, while a command passes.
+fn stage_while(verdicts: &[Verdict], stage: Stage) -> Stage
+    ensures { result ≡ stage_while verdicts.now stage }
+{
+    match next_passing(verdicts) {
+        Some(_) => stage,
+        None => Stage::Done,
+    }
+}
+
+impl PushSession {
+    /// Opens a push in a slot: what it carries is put into the slot's quarantine, in place of whatever stood there. Where a
+    /// carried body is at fault nothing is carried, and every command has 109. After an error the quarantine may hold some
+    /// of it; store and refs are as before.
+    pub fn new<F: Files>(
+        files: &mut F,
+        alloc: Global,
+        slot: u8,
+        push: Push,
+    ) -> Result<PushSession, Fault>
+        ensures opened { IfOk result (λ s. (fault : Option Refusal) × FaultOf (push_text push).carried fault × IsOpened slot fault (push_text push).commands s) }
+        ensures carried { F.honest → IfOk result (λ s. Carries (F.content files.new) slot s.names (objects_of_push (push_text push).carried)) }
+        ensures outside { F.honest → SameOutside (quarantine_folder slot) (F.content files.old) (F.content files.new) }
+        ensures wear { Writes F.honest F.content F.failed F.can_fail F.left files.old files.new (IsErrOf result Fault.Device) }
+    {
+        let fault = push.fault();
+        drop_quarantine(files, alloc, slot)?;
+        let names = match &push.carried {
+            Ok(objects) => put_all(files, alloc, slot, objects)?,
+            Err(_) => Vec::new(alloc),
+        };
+        let verdicts = fresh(alloc, &push.commands, fault)?;
+        let Push {
+            commands,
+            carried: _,
+        } = push;
+        Ok(PushSession {
+            slot,
+            fault,
+            commands,
+            verdicts,
+            names,
+            stage: Stage::Unpacked,
+        })
+    }
+
+    // The check: 100 to 105, over what is stored and carried now.
+    fn check<F: Files>(&mut self, files: &mut F, alloc: Global) -> Result<Stepped, SessionFault>
+        requires stage { self.old.stage ≡ Stage.Unpacked }
+        ensures steps { F.honest → IfOk result (Steps (F.content files.old) (F.content files.new) self.old self.new) }
+        ensures unchanged { OnErr result (self.new ≡ self.old) }
+        ensures same { F.content files.new ≡ F.content files.old }
+        ensures refused { F.honest → IfErr result (IsRefusedStep (F.content files.old) self.old Stage.Unpacked) }
+        ensures wear { Wears F.failed F.can_fail F.left files.old files.new (IsErrOf result (SessionFault.Fault Fault.Device)) }
+    {
+        let verdicts = check_in_files(alloc, files, self.slot, &self.commands, &self.verdicts)?;
+        let passed = count_passing(&verdicts);
+        self.stage = stage_while(&verdicts, Stage::Checked);
+        self.verdicts = verdicts;
+        Ok(Stepped::Checked(passed as u64))
+    }
+
+    // What is carried is stored.
+    fn migrate<F: Files>(&mut self, files: &mut F, alloc: Global) -> Result<Stepped, SessionFault>
+        requires stage { self.old.stage ≡ Stage.Checked }
+        ensures steps { F.honest → HoldsNames (F.content files.old) self.old.slot self.old.names → IfOk result (Steps (F.content files.old) (F.content files.new) self.old self.new) }
+        ensures unchanged { OnErr result (self.new ≡ self.old) }
+        ensures early { F.honest → OnErr result (EndsEarly (F.content files.old) (F.content files.new) self.old Stage.Checked) }
+        ensures refused { F.honest → IfErr result (IsRefusedStep (F.content files.old) self.old Stage.Checked) }
+        ensures wear { Writes F.honest F.content F.failed F.can_fail F.left files.old files.new (IsErrOf result (SessionFault.Fault Fault.Device)) }
+        ensures looks { MayWrite (F.content files.old) self.old Stage.Checked ⊎ Wears F.failed F.can_fail F.left files.old files.new (IsErrOf result (SessionFault.Fault Fault.Device)) }
+    {
+        migrate(files, alloc, self.slot, &self.names)?;
+        self.stage = Stage::Migrated;
+        Ok(Stepped::Migrated)
+    }
+
+    // The next command that passed is judged by the refs, 106 to 108, and its ref is set. The name is copied first, so that
+    // no fault comes behind the write.
+    fn update<F: Files>(&mut self, files: &mut F, alloc: Global) -> Result<Stepped, SessionFault>
+        requires stage { self.old.stage ≡ Stage.Migrated }
+        ensures steps { F.honest → IfOk result (Steps (F.content files.old) (F.content files.new) self.old self.new) }
+        ensures unchanged { OnErr result (self.new ≡ self.old) }
+        ensures err { F.honest → OnErr result (F.content files.new ≡ F.content files.old) }
+        ensures refused { F.honest → IfErr result (IsRefusedStep (F.content files.old) self.old Stage.Migrated) }
+        ensures wear { Writes F.honest F.content F.failed F.can_fail F.left files.old files.new (IsErrOf result (SessionFault.Fault Fault.Device)) }
+        ensures looks { F.honest → MayWrite (F.content files.old) self.old Stage.Migrated ⊎ Wears F.failed F.can_fail F.left files.old files.new (IsErrOf result (SessionFault.Fault Fault.Device)) }
+    {
+        let Some(place) = next_passing(&self.verdicts) else {
+            unreachable!();
+        };
+        let name = self.commands[place].name.to_vec(alloc)?;
+        let found = update(files, alloc, &self.commands[place])?;
+        let verdict = match found {
+            None => Verdict::Accepted,
+            Some(reason) => Verdict::Refused(reason),
+        };
+        set_verdict(&mut self.verdicts, place, verdict);
+        self.stage = stage_while(&self.verdicts, Stage::Migrated);
+        Ok(Stepped::Updated(name, found))
+    }
+
+    // All is told, and the quarantine is dropped.
+    fn finish<F: Files>(&self, files: &mut F, alloc: Global) -> Result<Stepped, SessionFault>
+        requires stage { self.now.stage ≡ Stage.Done }
+        ensures steps { F.honest → IfOk result (Steps (F.content files.old) (F.content files.new) self.now self.now) }
+        ensures early { F.honest → OnErr result (EndsEarly (F.content files.old) (F.content files.new) self.now Stage.Done) }
+        ensures refused { F.honest → IfErr result (IsRefusedStep (F.content files.old) self.now Stage.Done) }
+        ensures wear { Writes F.honest F.content F.failed F.can_fail F.left files.old files.new (IsErrOf result (SessionFault.Fault Fault.Device)) }
+    {
+        let report = report(alloc, self.fault, &self.commands, &self.verdicts)?;
+        drop_quarantine(files, alloc, self.slot)?;
+        Ok(Stepped::Finished(report))
+    }
+
+    /// The next step: the check of all commands, the storing of what is carried, the update of one command, or the end. After
+    /// an error the session is as it was, and of what the step was to store some may be there; no ref has changed. Once
+    /// it has told its report the session is at its end, and its slot is free.
+    pub fn step<F: Files>(&mut self, files: &mut F, alloc: Global) -> Result<Stepped, SessionFault>
+        ensures steps { F.honest → HoldsNames (F.content files.old) self.old.slot self.old.names → IfOk result (Steps (F.content files.old) (F.content files.new) self.old self.new) }
+        ensures unchanged { OnErr result (self.new ≡ self.old) }
+        ensures early { F.honest → OnErr result (EndsEarly (F.content files.old) (F.content files.new) self.old self.old.stage) }
+        ensures refused { F.honest → IfErr result (IsRefusedStep (F.content files.old) self.old self.old.stage) }
+        ensures wear { Writes F.honest F.content F.failed F.can_fail F.left files.old files.new (IsErrOf result (SessionFault.Fault Fault.Device)) }
+        ensures looks { F.honest → MayWrite (F.content files.old) self.old self.old.stage ⊎ Wears F.failed F.can_fail F.left files.old files.new (IsErrOf result (SessionFault.Fault Fault.Device)) }
+    {
+        match self.stage {
+            Stage::Unpacked => self.check(files, alloc),
+            Stage::Checked => self.migrate(files, alloc),
+            Stage::Migrated => self.update(files, alloc),
+            Stage::Done => self.finish(files, alloc),
+        }
+    }
+}
