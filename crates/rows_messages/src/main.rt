@@ -1,5 +1,5 @@
-//! Reads rows, one a line, about the lines and messages of Git's protocol and about the answers of a node, and
-//! prints each with what the libraries answer.
+//! Reads rows, one a line, about the lines and messages of Git's protocol, about the answers of a node and about its open
+//! pushes, and prints each with what the libraries answer.
 //!
 //! A row that is misspelled ends nothing: it gets an answer that nobody expects.
 #![tactic(auto)]
@@ -9,9 +9,11 @@ mod lines;
 mod messages;
 mod pushes;
 mod reading;
+mod sessions;
 mod spelling;
 mod writing;
 
+use crate::sessions::OpenPushes;
 use std::alloc::{AllocError, Global};
 use std::io;
 use std::io::{BufRead, BufReader};
@@ -22,6 +24,7 @@ fn answer(
     out: &mut String,
     alloc: Global,
     files: &mut MemoryFiles,
+    pushes: &mut OpenPushes,
     verb: &str,
     text: &str,
 ) -> Result<(), AllocError> {
@@ -37,19 +40,30 @@ fn answer(
         "file" => answers::file(out, alloc, files, text),
         "answer" => answers::answer(out, alloc, files, text),
         "judge" => answers::judge(out, alloc, files, text),
+        "open" => sessions::open_push(out, alloc, files, pushes, text),
+        "step" => sessions::step(out, alloc, files, pushes, text),
+        "run" => sessions::run(out, alloc, files, text),
+        "orders" => sessions::orders(out, alloc, files, text),
+        "refs" => sessions::refs(out, alloc, files),
+        "count" => sessions::count(out, alloc, files, text),
         _ => out.push_str("no such verb"),
     }
 }
 
 // The row and its answer; a comment and a blank line as they are.
-fn answered(alloc: Global, files: &mut MemoryFiles, row: &str) -> Result<String, AllocError> {
+fn answered(
+    alloc: Global,
+    files: &mut MemoryFiles,
+    pushes: &mut OpenPushes,
+    row: &str,
+) -> Result<String, AllocError> {
     let mut line = String::from_str(alloc, row)?;
     if row.is_empty() || row.starts_with('#') {
         return Ok(line);
     }
     let (verb, text) = row.split_once(' ').unwrap_or((row, ""));
     let mut told = String::new(alloc);
-    answer(&mut told, alloc, files, verb, text)?;
+    answer(&mut told, alloc, files, pushes, verb, text)?;
     line.push_str(" = ")?;
     spelling::push_short(&mut line, told.as_str())?;
     Ok(line)
@@ -58,8 +72,9 @@ fn answered(alloc: Global, files: &mut MemoryFiles, row: &str) -> Result<String,
 fn main(rt: HostRuntime) -> io::Result<()> {
     let alloc = rt.alloc();
     let mut files = MemoryFiles::new(alloc);
+    let mut pushes = OpenPushes::new(alloc);
     for row in BufReader::new(alloc, rt.reader())?.lines(alloc) {
-        rt.println(answered(alloc, &mut files, row?.as_str())?)?;
+        rt.println(answered(alloc, &mut files, &mut pushes, row?.as_str())?)?;
     }
     Ok(())
 }

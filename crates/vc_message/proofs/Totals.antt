@@ -18,7 +18,7 @@ use Rattle.vc_pkt.proofs.MessageLaws.{SoFar, at_start, on_no_line, on_more, on_d
 abbrev AtFront : List ℕ → Type 0
 AtFront bytes = (line : LineText) × (spelled more : List ℕ) × IsLine line spelled × (bytes ≡ spelled ++ more)
 
-less_or : (m n : ℕ) → (m < n) ⊎ (n ≤ m)
+pub less_or : (m n : ℕ) → (m < n) ⊎ (n ≤ m)
 less_or m n = by (nat_lt m n) refl
   where
     by : (b : Bool) → nat_lt m n ≡ b → (m < n) ⊎ (n ≤ m)

@@ -1,2 +1,4 @@
 pub mod AnyMessage
 pub mod AnyView
+pub mod Machine
+pub mod Laws

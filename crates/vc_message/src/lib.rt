@@ -8,6 +8,9 @@ mod laws;
 mod message;
 mod reader;
 
-pub use laws::{one_message, read_or_unread, written_message_is_read};
+pub use laws::{
+    every_reading, messages_are_a_wire, one_message, one_reading, one_writing, read_or_unread,
+    what_is_read_is_named, written_message_is_read,
+};
 pub use message::Message;
 pub use reader::AnyReader;

@@ -17,5 +17,5 @@ pub use burning::a_call_spends_what_the_machine_allows;
 pub use checks::refuse_bad_commit;
 pub use fault::NodeFault;
 pub use index_file::{read_index, write_index};
-pub use node::CloneNode;
+pub use node::{CloneNode, make_ready};
 pub use opened::{a_held_node_can_be_opened, new_files_can_be_opened};

@@ -289,8 +289,9 @@ impl<F: Files> CloneNode<F> {
     }
 }
 
-// Makes the files those of a clone: HEAD, where there is none, names the branch `main`.
-fn make_ready<F: Files>(alloc: Global, files: &mut F) -> Result<(), NodeFault>
+/// Makes the files those of a node: HEAD, where there is none, names the branch `main`. Where they are none of a node's (33
+/// and 34: HEAD, 62: the index), or a fault comes, they stay as they are.
+pub fn make_ready<F: Files>(alloc: Global, files: &mut F) -> Result<(), NodeFault>
     ensures ready { F.honest → OnOk result (IsReady (F.content files.old) (F.content files.new)) }
     ensures refused { F.honest → IfErr result (BlamesOpen (F.content files.old)) }
     ensures err { F.honest → OnErr result (F.content files.new ≡ F.content files.old) }

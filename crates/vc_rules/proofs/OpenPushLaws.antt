@@ -135,22 +135,22 @@ module _ (old new : FileMap) (s t : SessionText) (r : Repository) (p : OpenPush)
   paired : (ws : List Verdict) (stage : Stage) → t ≡ record s { verdicts = ws; stage = stage } → IsSession t → length ws ≡ length s.commands
   paired ws stage is later = (subst IsSession is later).paired
 
-  checked : (n : ℕ) → IsSound git r → StepChecks old new s t n → IsSession t → IsPushStep new t (Passed n) r p
-  checked n sound h later =
+  checked : (n : ℕ) → StepChecks old new s t n → IsSession t → IsPushStep new t (Passed n) r p
+  checked n h later =
       let ks : List Judged = judged_commands s.commands t.verdicts in
       let left : OpenPush = record p { commands = ks; stage = machine.stage_while ks MachineChecked } in
       let fits : length t.verdicts ≡ length s.commands = paired t.verdicts (stage_while t.verdicts Checked) h.session later in
-      let all : machine.ChecksAll git (over r.objects p.carried) (judged_commands s.commands s.verdicts) ks =
+      let all : IsSound git r → machine.ChecksAll git (over r.objects p.carried) (judged_commands s.commands s.verdicts) ks = λ sound.
       checks_all (objects_seen old s.slot) (over r.objects p.carried) (seen_found old r content s.slot p.carried held.carried) s.commands s.verdicts t.verdicts (h.verdicts (refs_whole old r content sound)) in
-      let whole : machine.ChecksPush git (over r.objects p.carried) p.atomic p.commands ks =
+      let whole : IsSound git r → machine.ChecksPush git (over r.objects p.carried) p.atomic p.commands ks = λ sound.
       subst (λ (a : Bool). machine.ChecksPush git (over r.objects p.carried) a p.commands ks) (sym held.single)
-      (subst (λ (js : List Judged). machine.ChecksAll git (over r.objects p.carried) js ks) (sym held.commands) all) in
+      (subst (λ (js : List Judged). machine.ChecksAll git (over r.objects p.carried) js ks) (sym held.commands) (all sound)) in
       record {
         effect = no_effect;
         left = left;
         after = r;
-        step = subst (λ (at : machine.Stage). shared.StepsPush git r p at no_effect left (Passed n)) (sym (stands_at Unpacked h.stage))
-            (ks, whole, refl, refl, ap Passed (h.passed ∙ sym (count_judged s.commands t.verdicts fits)));
+        step = λ sound. subst (λ (at : machine.Stage). shared.StepsPush git r p at no_effect left (Passed n)) (sym (stands_at Unpacked h.stage))
+            (ks, whole sound, refl, refl, ap Passed (h.passed ∙ sym (count_judged s.commands t.verdicts fits)));
         done = (r.objects, none_added r.objects, refl);
         content = subst (λ (m : FileMap). HoldsContent m r) (sym h.files) content;
         head = refl;
@@ -166,7 +166,7 @@ module _ (old new : FileMap) (s t : SessionText) (r : Repository) (p : OpenPush)
         effect = record { objects = p.carried; changes = [] };
         left = left;
         after = with_objects r (joined r.objects p.carried);
-        step = subst (λ (at : machine.Stage). shared.StepsPush git r p at (record { objects = p.carried; changes = [] }) left MigratedAll) (sym (stands_at Checked h.stage)) (refl, refl, refl);
+        step = λ sound. subst (λ (at : machine.Stage). shared.StepsPush git r p at (record { objects = p.carried; changes = [] }) left MigratedAll) (sym (stands_at Checked h.stage)) (refl, refl, refl);
         done = (joined r.objects p.carried, joined_all r.objects p.carried, refl);
         content = record {
           objects_are = λ x. h.stored (id_of_bytes x) ∙ (seen_found old r content s.slot p.carried held.carried).same x ∙ ap (option_map stored_of) (sym ((joined_all r.objects p.carried).each x));
@@ -226,7 +226,7 @@ module _ (old new : FileMap) (s t : SessionText) (r : Repository) (p : OpenPush)
         effect = only_changes cs;
         left = left;
         after = changed_all cs r;
-        step = subst (λ (at : machine.Stage). shared.StepsPush git r p at (only_changes cs) left (Updated name (option_map machine_reason found))) (sym (stands_at Migrated h.stage))
+        step = λ sound. subst (λ (at : machine.Stage). shared.StepsPush git r p at (only_changes cs) left (Updated name (option_map machine_reason found))) (sym (stands_at Migrated h.stage))
             (ks, cs, shared.UpdatesPush.singly next held.single reply, refl, refl);
         done = (r.objects, none_added r.objects, refl);
         content = updated_content name c found h.rest u.refs_are;
@@ -253,10 +253,10 @@ module _ (old new : FileMap) (s t : SessionText) (r : Repository) (p : OpenPush)
       }
 
 pub steps_agree : StepsAgree
-steps_agree old new s t (stepped.Checked n) r p content held sound h later = checked old new s t r p content held n sound h later
-steps_agree old new s t stepped.Migrated r p content held sound h later = migrated old new s t r p content held h later
-steps_agree old new s t (stepped.Updated name found) r p content held sound h later = updated old new s t r p content held name.items found h later
-steps_agree old new s t (stepped.Finished report) r p content held sound h later = finished old new s t r p content held (report_text report) h
+steps_agree old new s t (stepped.Checked n) r p content held h later = checked old new s t r p content held n h later
+steps_agree old new s t stepped.Migrated r p content held h later = migrated old new s t r p content held h later
+steps_agree old new s t (stepped.Updated name found) r p content held h later = updated old new s t r p content held name.items found h later
+steps_agree old new s t (stepped.Finished report) r p content held h later = finished old new s t r p content held (report_text report) h
 
 pub others_stay : OthersStay
 others_stay old new s t u (stepped.Checked n) q small fits apart h held = subst (λ (m : FileMap). HoldsPush m u q) (sym h.files) held

@@ -84,12 +84,12 @@ AreToldAs [] [] = Unit {0}
 AreToldAs (x ∷ xs) (t ∷ ts) = IsToldAs x t × AreToldAs xs ts
 AreToldAs _ _ = ⊥
 
--- a step before the end: the machine's, and what is held then is what the machine has then
+-- A step before the end: what is held then is what the machine may have then, and over a sound repository the step is the machine's.
 pub record IsPushStep (new : FileMap) (t : SessionText) (reply : Reply) (r : Repository) (p : OpenPush) : Type 0 where
   pub effect : Effect
   pub left : OpenPush
   pub after : Repository
-  pub step : shared.StepsPush git r p p.stage effect left reply
+  pub step : IsSound git r → shared.StepsPush git r p p.stage effect left reply
   pub done : Done r effect after
   pub content : HoldsContent new after
   pub head : after.head ≡ r.head
@@ -111,10 +111,10 @@ StepsAs stepped.Migrated new t r p = IsPushStep new t MigratedAll r p
 StepsAs (stepped.Updated name found) new t r p = IsPushStep new t (Updated name.items (option_map machine_reason found)) r p
 StepsAs (stepped.Finished report) new t r p = IsPushEnd new (report_text report) r p
 
--- a step of a session over a sound repository is a step of the push that it stands for
+-- a step of a session is a step of the push that it stands for
 abbrev pub StepsAgree : Type 0
 StepsAgree = (old new : FileMap) (s t : SessionText) (did : Stepped) (r : Repository) (p : OpenPush) →
-    HoldsContent old r → HoldsPush old s p → IsSound git r → Steps old new s t did → IsSession t → StepsAs did new t r p
+    HoldsContent old r → HoldsPush old s p → Steps old new s t did → IsSession t → StepsAs did new t r p
 
 -- ---- the other slots
 -- and what stands in another slot is the same push

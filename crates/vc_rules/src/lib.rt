@@ -24,8 +24,8 @@ pub fn the_check_of_a_push_is_the_machines()
     ensures verdict { ChecksAgree }
 {}
 
-/// Each step of a push's session is the machine's step of the push that it stands for: the check over what is stored and carried
-/// at that moment, where the repository is sound; the storing of all that is carried; one update over the refs of that moment;
+/// Each step of a push's session is a step of the push that it stands for, and the machine's where the repository is sound: the
+/// check over what is stored and carried at that moment; the storing of all that is carried; one update over the refs of that moment;
 /// the end, where all is told. The pushes of the other slots stay as they are. A push that is opened is one of the machine's,
 /// of the objects that it brings, and a step that ends early leaves what a stop of the machine's may leave.
 pub fn the_steps_of_a_push_are_the_machines()

@@ -66,9 +66,13 @@ parted (x ∷ a) (y ∷ b) rest p q h =
     let parts = and_parts (nat_eq y x) (starts_with nat_eq ((a ++ 47 ∷ []) ++ rest) (b ++ 47 ∷ [])) h in
     ap (λ z. z ∷ a) (sym (eqb-true y x parts.0)) ∙ ap (λ ds. y ∷ ds) (parted a b rest p.1 q.1 parts.1)
 
-other_slot : (slot other : ℕ) (rest : List ℕ) → slot < 2 ^ 64 → other < 2 ^ 64 → other ≢ slot → starts_with nat_eq (quarantine_folder other ++ rest) (quarantine_folder slot) ≡ false
-other_slot slot other rest small fits apart = false_from_ne_true _ (λ h.
-    apart (decimal_injective other slot fits small (parted (decimal other) (decimal slot) rest (decimal_is_IsNumeral other fits).0.1 (decimal_is_IsNumeral slot small).0.1 h)))
+-- a path in a slot's folder is of that slot
+pub slot_of : (slot other : ℕ) (rest : List ℕ) → slot < 2 ^ 64 → other < 2 ^ 64 → starts_with nat_eq (quarantine_folder other ++ rest) (quarantine_folder slot) ≡ true → other ≡ slot
+slot_of slot other rest small fits h =
+    decimal_injective other slot fits small (parted (decimal other) (decimal slot) rest (decimal_is_IsNumeral other fits).0.1 (decimal_is_IsNumeral slot small).0.1 h)
+
+pub other_slot : (slot other : ℕ) (rest : List ℕ) → slot < 2 ^ 64 → other < 2 ^ 64 → other ≢ slot → starts_with nat_eq (quarantine_folder other ++ rest) (quarantine_folder slot) ≡ false
+other_slot slot other rest small fits apart = false_from_ne_true _ (λ h. apart (slot_of slot other rest small fits h))
 
 -- no file in `refs/` lies in another part
 pub ref_no_object : (q : List ℕ) → starts_with nat_eq q (codes "refs/") ≡ true → starts_with nat_eq q (codes "objects/") ≡ false

@@ -8,6 +8,7 @@ pub mod ReportLemmas
 pub mod SessionLemmas
 pub mod DamageLemmas
 pub mod FrameLemmas
+pub mod CleanLemmas
 pub mod CarryingLemmas
 pub mod CheckingLemmas
 pub mod KnownLemmas

@@ -58,17 +58,22 @@ unfolding name_or_none
 same_name a b p q e =
     ap name_or_none (sym (name_in-object_path a p) ∙ ap name_in e ∙ name_in-object_path b q)
 
-same_path : (slot : ℕ) (a b : List ℕ) → is_name a ≡ true → is_name b ≡ true → quarantine_path slot a ≡ quarantine_path slot b → a ≡ b
-same_path slot a b p q e =
+-- one place there is one place in the store
+pub same_place : (slot : ℕ) (a b : List ℕ) → quarantine_path slot a ≡ quarantine_path slot b → object_path a ≡ object_path b
+same_place slot a b e =
     let rest : List ℕ → List ℕ = λ name. encode_lower (take 1 name) ++ 47 ∷ encode_lower (drop 1 name) in
     let folder = quarantine_folder slot in
     let same : rest a ≡ rest b = sym (drop-append_seam folder (rest a)) ∙ ap (drop (length folder)) e ∙ drop-append_seam folder (rest b) in
-    same_name a b p q (ap (λ (t : List ℕ). codes "objects/" ++ t) same)
+    ap (λ (t : List ℕ). codes "objects/" ++ t) same
+
+pub same_path : (slot : ℕ) (a b : List ℕ) → is_name a ≡ true → is_name b ≡ true → quarantine_path slot a ≡ quarantine_path slot b → a ≡ b
+same_path slot a b p q e = same_name a b p q (same_place slot a b e)
 
 bytes_same : (xs : List ℕ) → bytes_eq xs xs ≡ true
 bytes_same xs = (bytes_eq-Decides xs xs).1 refl
 
-put_there : (id : ObjectId) (kind : Kind) (body : List ℕ) → id ≡ object_name kind body → ∥ IsObject kind body ∥₁ → stored_in id (Some (object_bytes kind body)) ≡ Ok (stored_object kind body)
+-- its file is good
+pub put_there : (id : ObjectId) (kind : Kind) (body : List ℕ) → id ≡ object_name kind body → ∥ IsObject kind body ∥₁ → stored_in id (Some (object_bytes kind body)) ≡ Ok (stored_object kind body)
 put_there id kind body is object =
     ap (named id) (decoded_again (object_bytes kind body) kind body object refl)
     ∙ ap (λ b. cond b (Ok (stored_object kind body)) (Err (Damaged id))) (subst (λ (n : ObjectId). bytes_eq (object_name kind body).0 n.0 ≡ true) (sym is) (bytes_same (object_name kind body).0))

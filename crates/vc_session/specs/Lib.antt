@@ -1,5 +1,6 @@
 pub mod Verdict
 pub mod Quarantine
+pub mod Clean
 pub mod PushState
 pub mod Updating
 pub mod Migrating

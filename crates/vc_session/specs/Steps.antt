@@ -122,6 +122,11 @@ pub record StepFinishes (old new : FileMap) (s t : SessionText) (report : Report
   pub dropped : IsDropped s.slot new
   pub outside : SameOutside (quarantine_folder s.slot) old new
 
+-- what is told at the end is the report, whatever the files are
+abbrev pub TellsReport : SessionText → Stepped → Type 0
+TellsReport s (stepped.Finished report) = IsReport s (report_text report)
+TellsReport s _ = Unit {0}
+
 -- the step that was taken, by what it answers
 abbrev pub Steps : FileMap → FileMap → SessionText → SessionText → Stepped → Type 0
 Steps old new s t (stepped.Checked n) = StepChecks old new s t n

@@ -4,6 +4,7 @@ ghost use Rattle.vc_files.specs.FileMap.{SameOutside};
 ghost use Rattle.vc_files.specs.Failures.{Wears, Writes};
 ghost use Rattle.vc_object.specs.declared.id.ObjectId.{ObjectId as Id};
 ghost use Rattle.vc_store.specs.Store.{IsDamaged, objects};
+ghost use Rattle.vc_session.specs.Clean.{MakesNoneBad};
 ghost use Rattle.vc_session.specs.Migrating.{IsFrontMigrated, migrated};
 ghost use Rattle.vc_session.specs.SessionFault.{BlamesMigration};
 
@@ -35,7 +36,8 @@ fn migrate_one<F: Files>(
 }
 
 /// Stores the objects of a slot's quarantine that have these names, in their order. One that is stored already stays as it
-/// is; 11 where the quarantine lacks one, 12 where a file is damaged. A call that ends early has stored those before.
+/// is; 11 where the quarantine lacks one, 12 where a file is damaged. A call that ends early has stored those before. No
+/// file becomes bad.
 pub fn migrate<F: Files>(
     files: &mut F,
     alloc: Global,
@@ -46,6 +48,7 @@ pub fn migrate<F: Files>(
     ensures outside { F.honest → SameOutside (codes "objects/") (F.content files.old) (F.content files.new) }
     ensures refused { F.honest → IfErr result (BlamesMigration (F.content files.old) slot names.now) }
     ensures left { F.honest → OnErr result (IsFrontMigrated (F.content files.old) slot names.now (F.content files.new)) }
+    ensures bad { F.honest → MakesNoneBad (F.content files.old) (F.content files.new) }
     ensures wear { Writes F.honest F.content F.failed F.can_fail F.left files.old files.new (IsErrOf result (StoreFault.Fault Fault.Device)) }
     ensures looks { (names.now ≢ []) ⊎ Wears F.failed F.can_fail F.left files.old files.new (IsErrOf result (StoreFault.Fault Fault.Device)) }
 {

@@ -4,6 +4,7 @@ ghost use Rattle.vc_files.specs.FileMap.{SameOutside};
 ghost use Rattle.vc_files.specs.Failures.{Writes};
 ghost use Rattle.vc_pkt.specs.ObjectStreamView.{carried};
 ghost use Rattle.vc_session.specs.Carrying.{Carries, objects_in};
+ghost use Rattle.vc_session.specs.Clean.{MakesNoneBad};
 ghost use Rattle.vc_session.specs.Quarantine.{IsDropped, quarantine_folder};
 ghost use Rattle.vc_session.specs.Session.{fresh};
 
@@ -34,7 +35,8 @@ pub(crate) fn fresh(
     Ok(verdicts)
 }
 
-/// Puts what a push carries into the empty quarantine of a slot, in order of name, and answers the names.
+/// Puts what a push carries into the empty quarantine of a slot, in order of name, and answers the names. No file becomes
+/// bad.
 pub(crate) fn put_all<F: Files>(
     files: &mut F,
     alloc: Global,
@@ -43,6 +45,7 @@ pub(crate) fn put_all<F: Files>(
 ) -> Result<Vec<ObjectId>, Fault>
     ensures carried { F.honest → IsDropped slot (F.content files.old) → IfOk result (λ names. Carries (F.content files.new) slot names.items (objects_in (carried objects.now))) }
     ensures outside { F.honest → SameOutside (quarantine_folder slot) (F.content files.old) (F.content files.new) }
+    ensures bad { F.honest → MakesNoneBad (F.content files.old) (F.content files.new) }
     ensures wear { Writes F.honest F.content F.failed F.can_fail F.left files.old files.new (IsErrOf result Fault.Device) }
 {
     let mut names = Vec::new(alloc);

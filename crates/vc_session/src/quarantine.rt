@@ -8,6 +8,7 @@ ghost use Rattle.vc_object.specs.Object.{object_bytes, object_name};
 ghost use Rattle.vc_object.specs.ObjectId.{id_eq};
 ghost use Rattle.vc_object.specs.declared.id.ObjectId.{ObjectId as Id};
 ghost use Rattle.vc_store.specs.StoreFault.{IsFault, IsRefused};
+ghost use Rattle.vc_session.specs.Clean.{MakesNoneBad};
 ghost use Rattle.vc_session.specs.Quarantine.{IsDamagedThere, IsDropped, OnlyLoses, quarantine_folder, quarantine_path, quarantined};
 
 use std::alloc::{AllocError, Global};
@@ -59,7 +60,25 @@ pub fn find_in_quarantine<F: Files>(
     }))
 }
 
-/// Puts an object into a slot's quarantine, and answers its name. One write of one file does it.
+/// Writes a file in the place of an object of a slot's quarantine, whatever it holds.
+pub(crate) fn put_at<F: Files>(
+    files: &mut F,
+    alloc: Global,
+    slot: u8,
+    id: &ObjectId,
+    bytes: &[u8],
+) -> Result<(), Fault>
+    ensures ok { F.honest → OnOk result (F.content files.new ≡ insert (F.content files.old) (quarantine_path slot id.now.0) bytes.now) }
+    ensures outside { F.honest → SameOutside (quarantine_folder slot) (F.content files.old) (F.content files.new) }
+    ensures err { F.honest → OnErr result (F.content files.new ≡ F.content files.old) }
+    ensures wear { Writes F.honest F.content F.failed F.can_fail F.left files.old files.new (IsErrOf result Fault.Device) }
+{
+    let path = quarantine_path(alloc, slot, id)?;
+    files.put(alloc, path.as_str(), bytes)?;
+    Ok(())
+}
+
+/// Puts an object into a slot's quarantine, and answers its name. One write of one file does it. No file becomes bad.
 pub fn put_in_quarantine<F: Files>(
     files: &mut F,
     alloc: Global,
@@ -71,20 +90,21 @@ pub fn put_in_quarantine<F: Files>(
     ensures objects { F.honest → IfOk result (λ id. (q : Id) → quarantined (F.content files.new) slot q ≡ (if id_eq q id then Some (stored_object object.now.kind object.now.body.now) else quarantined (F.content files.old) slot q)) }
     ensures outside { F.honest → SameOutside (quarantine_folder slot) (F.content files.old) (F.content files.new) }
     ensures err { F.honest → OnErr result (F.content files.new ≡ F.content files.old) }
+    ensures bad { F.honest → MakesNoneBad (F.content files.old) (F.content files.new) }
     ensures wear { Writes F.honest F.content F.failed F.can_fail F.left files.old files.new (IsErrOf result Fault.Device) }
 {
     let id = name_of(object.kind, object.body);
-    let path = quarantine_path(alloc, slot, &id)?;
     let bytes = encode(alloc, object)?;
-    files.put(alloc, path.as_str(), &bytes)?;
+    put_at(files, alloc, slot, &id, &bytes)?;
     Ok(id)
 }
 
-/// Takes away all that stands in a slot's quarantine. A call that ends early has taken away some of it.
+/// Takes away all that stands in a slot's quarantine. A call that ends early has taken away some of it. No file becomes bad.
 pub fn drop_quarantine<F: Files>(files: &mut F, alloc: Global, slot: u8) -> Result<(), Fault>
     ensures dropped { F.honest → OnOk result (IsDropped slot (F.content files.new)) }
     ensures left { F.honest → OnlyLoses (F.content files.old) (F.content files.new) }
     ensures outside { F.honest → SameOutside (quarantine_folder slot) (F.content files.old) (F.content files.new) }
+    ensures bad { F.honest → MakesNoneBad (F.content files.old) (F.content files.new) }
     ensures wear { Writes F.honest F.content F.failed F.can_fail F.left files.old files.new (IsErrOf result Fault.Device) }
 {
     let folder = quarantine_folder(alloc, slot)?;

@@ -6,10 +6,11 @@ ghost use Rattle.vc_object.specs.declared.fault.ObjectFault.{ObjectFault as Refu
 ghost use Rattle.vc_push.specs.Push.{FaultOf};
 ghost use Rattle.vc_push.specs.PushView.{push_text};
 ghost use Rattle.vc_session.specs.Carrying.{Carries, HoldsNames, objects_of_push};
+ghost use Rattle.vc_session.specs.Clean.{IsQuarantineClean, MakesNoneBad};
 ghost use Rattle.vc_session.specs.Quarantine.{quarantine_folder};
 ghost use Rattle.vc_session.specs.Session.{stage_while};
 ghost use Rattle.vc_session.specs.SessionFault.{IsRefusedStep};
-ghost use Rattle.vc_session.specs.Steps.{EndsEarly, IsOpened, MayWrite, Steps};
+ghost use Rattle.vc_session.specs.Steps.{EndsEarly, IsOpened, MayWrite, Steps, TellsReport};
 
 use crate::checking::{check_in_files, count_passing, next_passing};
 use crate::fault::SessionFault;
@@ -73,7 +74,7 @@ fn stage_while(verdicts: &[Verdict], stage: Stage) -> Stage
 impl PushSession {
     /// Opens a push in a slot: what it carries is put into the slot's quarantine, in place of whatever stood there. Where a
     /// carried body is at fault nothing is carried, and every command has 109. After an error the quarantine may hold some
-    /// of it; store and refs are as before.
+    /// of it; store and refs are as before. No file becomes bad, and the quarantine of a push that is open has no bad file.
     pub fn new<F: Files>(
         files: &mut F,
         alloc: Global,
@@ -83,6 +84,8 @@ impl PushSession {
         ensures opened { IfOk result (λ s. (fault : Option Refusal) × FaultOf (push_text push).carried fault × IsOpened slot fault (push_text push).commands s) }
         ensures carried { F.honest → IfOk result (λ s. Carries (F.content files.new) slot s.names (objects_of_push (push_text push).carried)) }
         ensures outside { F.honest → SameOutside (quarantine_folder slot) (F.content files.old) (F.content files.new) }
+        ensures bad { F.honest → MakesNoneBad (F.content files.old) (F.content files.new) }
+        ensures clean { F.honest → IfOk result (λ s. IsQuarantineClean (F.content files.new) slot) }
         ensures wear { Writes F.honest F.content F.failed F.can_fail F.left files.old files.new (IsErrOf result Fault.Device) }
     {
         let fault = push.fault();
@@ -111,8 +114,11 @@ impl PushSession {
         requires stage { self.old.stage ≡ Stage.Unpacked }
         ensures steps { F.honest → IfOk result (Steps (F.content files.old) (F.content files.new) self.old self.new) }
         ensures unchanged { OnErr result (self.new ≡ self.old) }
+        ensures commands { self.new.commands ≡ self.old.commands }
+        ensures told { IfOk result (TellsReport self.old) }
         ensures same { F.content files.new ≡ F.content files.old }
         ensures refused { F.honest → IfErr result (IsRefusedStep (F.content files.old) self.old Stage.Unpacked) }
+        ensures bad { F.honest → MakesNoneBad (F.content files.old) (F.content files.new) }
         ensures wear { Wears F.failed F.can_fail F.left files.old files.new (IsErrOf result (SessionFault.Fault Fault.Device)) }
     {
         let verdicts = check_in_files(alloc, files, self.slot, &self.commands, &self.verdicts)?;
@@ -127,8 +133,11 @@ impl PushSession {
         requires stage { self.old.stage ≡ Stage.Checked }
         ensures steps { F.honest → HoldsNames (F.content files.old) self.old.slot self.old.names → IfOk result (Steps (F.content files.old) (F.content files.new) self.old self.new) }
         ensures unchanged { OnErr result (self.new ≡ self.old) }
+        ensures commands { self.new.commands ≡ self.old.commands }
+        ensures told { IfOk result (TellsReport self.old) }
         ensures early { F.honest → OnErr result (EndsEarly (F.content files.old) (F.content files.new) self.old Stage.Checked) }
         ensures refused { F.honest → IfErr result (IsRefusedStep (F.content files.old) self.old Stage.Checked) }
+        ensures bad { F.honest → MakesNoneBad (F.content files.old) (F.content files.new) }
         ensures wear { Writes F.honest F.content F.failed F.can_fail F.left files.old files.new (IsErrOf result (SessionFault.Fault Fault.Device)) }
         ensures looks { MayWrite (F.content files.old) self.old Stage.Checked ⊎ Wears F.failed F.can_fail F.left files.old files.new (IsErrOf result (SessionFault.Fault Fault.Device)) }
     {
@@ -143,8 +152,11 @@ impl PushSession {
         requires stage { self.old.stage ≡ Stage.Migrated }
         ensures steps { F.honest → IfOk result (Steps (F.content files.old) (F.content files.new) self.old self.new) }
         ensures unchanged { OnErr result (self.new ≡ self.old) }
+        ensures commands { self.new.commands ≡ self.old.commands }
+        ensures told { IfOk result (TellsReport self.old) }
         ensures err { F.honest → OnErr result (F.content files.new ≡ F.content files.old) }
         ensures refused { F.honest → IfErr result (IsRefusedStep (F.content files.old) self.old Stage.Migrated) }
+        ensures bad { F.honest → MakesNoneBad (F.content files.old) (F.content files.new) }
         ensures wear { Writes F.honest F.content F.failed F.can_fail F.left files.old files.new (IsErrOf result (SessionFault.Fault Fault.Device)) }
         ensures looks { F.honest → MayWrite (F.content files.old) self.old Stage.Migrated ⊎ Wears F.failed F.can_fail F.left files.old files.new (IsErrOf result (SessionFault.Fault Fault.Device)) }
     {
@@ -166,8 +178,10 @@ impl PushSession {
     fn finish<F: Files>(&self, files: &mut F, alloc: Global) -> Result<Stepped, SessionFault>
         requires stage { self.now.stage ≡ Stage.Done }
         ensures steps { F.honest → IfOk result (Steps (F.content files.old) (F.content files.new) self.now self.now) }
+        ensures told { IfOk result (TellsReport self.now) }
         ensures early { F.honest → OnErr result (EndsEarly (F.content files.old) (F.content files.new) self.now Stage.Done) }
         ensures refused { F.honest → IfErr result (IsRefusedStep (F.content files.old) self.now Stage.Done) }
+        ensures bad { F.honest → MakesNoneBad (F.content files.old) (F.content files.new) }
         ensures wear { Writes F.honest F.content F.failed F.can_fail F.left files.old files.new (IsErrOf result (SessionFault.Fault Fault.Device)) }
     {
         let report = report(alloc, self.fault, &self.commands, &self.verdicts)?;
@@ -177,12 +191,15 @@ impl PushSession {
 
     /// The next step: the check of all commands, the storing of what is carried, the update of one command, or the end. After
     /// an error the session is as it was, and of what the step was to store some may be there; no ref has changed. Once
-    /// it has told its report the session is at its end, and its slot is free.
+    /// it has told its report the session is at its end, and its slot is free. No step makes a file bad.
     pub fn step<F: Files>(&mut self, files: &mut F, alloc: Global) -> Result<Stepped, SessionFault>
         ensures steps { F.honest → HoldsNames (F.content files.old) self.old.slot self.old.names → IfOk result (Steps (F.content files.old) (F.content files.new) self.old self.new) }
         ensures unchanged { OnErr result (self.new ≡ self.old) }
+        ensures commands { self.new.commands ≡ self.old.commands }
+        ensures told { IfOk result (TellsReport self.old) }
         ensures early { F.honest → OnErr result (EndsEarly (F.content files.old) (F.content files.new) self.old self.old.stage) }
         ensures refused { F.honest → IfErr result (IsRefusedStep (F.content files.old) self.old self.old.stage) }
+        ensures bad { F.honest → MakesNoneBad (F.content files.old) (F.content files.new) }
         ensures wear { Writes F.honest F.content F.failed F.can_fail F.left files.old files.new (IsErrOf result (SessionFault.Fault Fault.Device)) }
         ensures looks { F.honest → MayWrite (F.content files.old) self.old self.old.stage ⊎ Wears F.failed F.can_fail F.left files.old files.new (IsErrOf result (SessionFault.Fault Fault.Device)) }
     {

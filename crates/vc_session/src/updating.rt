@@ -8,6 +8,7 @@ ghost use Rattle.vc_refs.specs.Head.{KeepsTheRest};
 ghost use Rattle.vc_refs.specs.RefFault.{BlamesRef, MaySet};
 ghost use Rattle.vc_refs.specs.RefMap.{IsInRefs};
 ghost use Rattle.vc_refs.specs.Refs.{refs};
+ghost use Rattle.vc_session.specs.Clean.{MakesNoneBad};
 ghost use Rattle.vc_session.specs.Updating.{BlamesUpdate, reason_of};
 ghost use Rattle.vc_session.specs.Verdict.{IsVerdictAtUpdate, MayBeSet, expected, is_tag, refs_after};
 
@@ -72,7 +73,7 @@ fn reason_of(fault: RefFault) -> Result<Option<Reason>, RefFault>
 
 /// Judges a command at its update, over the refs of this moment, and sets its ref where nothing is against it: the first of
 /// the reasons 106 to 108 that holds, or none, where the ref was set. One compare and set of one file does it. A name that
-/// no check lets pass is refused by its own reason, 100 or 101, and nothing is read.
+/// no check lets pass is refused by its own reason, 100 or 101, and nothing is read. No file becomes bad.
 pub fn update<F: Files>(
     files: &mut F,
     alloc: Global,
@@ -84,6 +85,7 @@ pub fn update<F: Files>(
     ensures refused { F.honest → IfErr result (BlamesUpdate (F.content files.old) command.now.name.items) }
     ensures rest { F.honest → KeepsTheRest command.now.name.items (F.content files.old) (F.content files.new) }
     ensures err { F.honest → OnErr result (F.content files.new ≡ F.content files.old) }
+    ensures bad { F.honest → MakesNoneBad (F.content files.old) (F.content files.new) }
     ensures wear { Writes F.honest F.content F.failed F.can_fail F.left files.old files.new (IsErrOf result (RefFault.Fault Fault.Device)) }
     ensures looks { F.honest → MayBeSet command.now.name.items → IsVerdictAtUpdate (refs (F.content files.old)) (command_of command.now) None ⊎ Wears F.failed F.can_fail F.left files.old files.new (IsErrOf result (RefFault.Fault Fault.Device)) }
 {

@@ -9,6 +9,7 @@ use Rattle.vc_object.specs.declared.id.ObjectId.{ObjectId}
 use Rattle.vc_store.specs.Store.{objects}
 use Rattle.vc_store.specs.declared.faults.StoreFault.{StoreFault}
 use Rattle.vc_session.specs.SessionFault.{BlamesMigration}
+use Rattle.vc_session.proofs.CleanLemmas.{bad_objects}
 use Rattle.vc_session.proofs.DamageLemmas.{blames_before}
 use Rattle.vc_session.specs.Migrating.{IsFrontMigrated, migrated}
 use Rattle.vc_session.proofs.MigratingLemmas.{migrated_more, migrated_none}
@@ -53,11 +54,18 @@ returns-clause-stored g c = λ honest q.
 pub returns-clause-outside : goal.returns-clause-outside
 returns-clause-outside g c = c.loop-id.invariant.outside
 
+pub returns-clause-bad : goal.returns-clause-bad
+returns-clause-bad g c = λ honest. bad_objects _ _ (c.loop-id.invariant.outside honest) (c.loop-id.invariant.undamaged honest)
+
 pub returns-clause-wear : goal.returns-clause-wear
 returns-clause-wear g c = writes_told c.loop-id.invariant.wear (λ never. absurd never) (search rules)
 
 pub returns-in_err-migrate_one-clause-outside : goal.returns-in_err-migrate_one-clause-outside
 returns-in_err-migrate_one-clause-outside g c = λ honest. outside_then (c.loop-id.invariant.outside honest) (c.in_err-migrate_one.ensures.outside honest)
+
+pub returns-in_err-migrate_one-clause-bad : goal.returns-in_err-migrate_one-clause-bad
+returns-in_err-migrate_one-clause-bad g c = λ honest.
+    bad_objects _ _ (returns-in_err-migrate_one-clause-outside g c honest) (λ q damaged. c.loop-id.invariant.undamaged honest q (c.in_err-migrate_one.ensures.undamaged honest q damaged))
 
 none_or_some : {P : Type 0} (ids : List ObjectId) → (ids ≡ [] → P) → (ids ≢ []) ⊎ P
 none_or_some [] none = inr (none refl)

@@ -16,6 +16,7 @@ use Rattle.vc_pkt.specs.ObjectStreamView.{carried}
 use Rattle.vc_pkt.specs.StreamObjectView.{stored}
 use Rattle.vc_pkt.specs.declared.carried.StreamObject.{StreamObject}
 use Rattle.vc_session.proofs.CarryingLemmas.{IsHeld, fewer, held_all, held_none, held_passed, held_put}
+use Rattle.vc_session.proofs.CleanLemmas.{bad_same, bad_then}
 use Rattle.vc_session.proofs.opening.put_all.Goals as goal
 
 never_ok : {A E : Type 0} (r : Result A E) → ((a : A) → r ≡ Ok a → ⊥) → IsOk r → ⊥
@@ -33,11 +34,15 @@ loop-object-init g c =
           subst (λ (rest : List StreamObject). IsSortedByName (map stored_name (map stored rest))) (sym rest)
           (subst (λ (ids : List ObjectId). IsSortedByName ids) c.args.objects.now.named c.values-object-items.ensures.ordered);
       outside = λ honest. outside_same _ _;
+      bad = λ honest. bad_same _ _ refl;
       wear = writes_none (λ never. never);
     }
 
 pub returns-in_err-id-clause-outside : goal.returns-in_err-id-clause-outside
 returns-in_err-id-clause-outside g c = λ honest. outside_then (c.loop-object.invariant.outside honest) (c.in_err-id.ensures.outside honest)
+
+pub returns-in_err-id-clause-bad : goal.returns-in_err-id-clause-bad
+returns-in_err-id-clause-bad g c = λ honest. bad_then (c.loop-object.invariant.bad honest) (c.in_err-id.ensures.bad honest)
 
 pub returns-in_err-id-clause-wear : goal.returns-in_err-id-clause-wear
 returns-in_err-id-clause-wear g c = writes_both c.loop-object.invariant.wear (λ never. never) (writes_told c.in_err-id.ensures.wear (search rules) (search rules))
@@ -62,11 +67,15 @@ loop-object-preserved-in-Continue-branch-2 g c =
           (held_put c.args.slot c.loop-object.names.items all (map stored c.next.new.self) o p c.in_ok-id.id (content c.loop-object.files) (content c.put_in_quarantine.new.files) is c.in_ok-id.ensures.name good sorted (c.in_ok-id.ensures.objects honest) before);
       sorted = fewer o (map stored c.next.new.self) sorted;
       outside = λ honest. outside_then (c.loop-object.invariant.outside honest) (c.in_ok-id.ensures.outside honest);
+      bad = λ honest. bad_then (c.loop-object.invariant.bad honest) (c.in_ok-id.ensures.bad honest);
       wear = writes_both c.loop-object.invariant.wear (λ never. never) (writes_told c.in_ok-id.ensures.wear (search rules) (λ never. absurd never));
     }
 
 pub returns-in_err-push-clause-outside : goal.returns-in_err-push-clause-outside
 returns-in_err-push-clause-outside g c = λ honest. outside_then (c.loop-object.invariant.outside honest) (c.in_ok-id.ensures.outside honest)
+
+pub returns-in_err-push-clause-bad : goal.returns-in_err-push-clause-bad
+returns-in_err-push-clause-bad g c = λ honest. bad_then (c.loop-object.invariant.bad honest) (c.in_ok-id.ensures.bad honest)
 
 pub returns-in_err-push-clause-wear : goal.returns-in_err-push-clause-wear
 returns-in_err-push-clause-wear g c = writes_both c.loop-object.invariant.wear (λ never. never) (writes_told c.in_ok-id.ensures.wear (search rules) (search rules))
@@ -87,6 +96,7 @@ loop-object-preserved g c =
           (subst (λ (rest : List StreamObject). IsHeld (content c.loop-object.files) c.args.slot c.loop-object.names.items all (map stored rest)) next (c.loop-object.invariant.held honest dropped));
       sorted = fewer o (map stored c.next.new.self) sorted;
       outside = c.loop-object.invariant.outside;
+      bad = c.loop-object.invariant.bad;
       wear = c.loop-object.invariant.wear;
     }
 
@@ -98,6 +108,9 @@ returns-clause-carried g c = λ honest dropped.
 
 pub returns-clause-outside : goal.returns-clause-outside
 returns-clause-outside g c = c.loop-object.invariant.outside
+
+pub returns-clause-bad : goal.returns-clause-bad
+returns-clause-bad g c = c.loop-object.invariant.bad
 
 pub returns-clause-wear : goal.returns-clause-wear
 returns-clause-wear g c = writes_told c.loop-object.invariant.wear (λ never. absurd never) (search rules)

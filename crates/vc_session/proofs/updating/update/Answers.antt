@@ -14,6 +14,7 @@ use Rattle.vc_refs.specs.declared.faults.RefFault.{RefFault}
 use Rattle.vc_refs.specs.declared.faults.RefFault.TheVariants.{Fault}
 use Rattle.vc_session.specs.Updating.{BlamesUpdate}
 use Rattle.vc_session.specs.Verdict.{IsVerdictAtUpdate, is_tag}
+use Rattle.vc_session.proofs.CleanLemmas.{bad_from, bad_set}
 use Rattle.vc_session.proofs.UpdateLemmas.{device_meant, device_told, moved, only_name, passes, refused_blames, refused_verdict, wears_both}
 use Rattle.vc_session.proofs.updating.update.Goals as goal
 
@@ -42,6 +43,9 @@ returns-in-Ok-clause-rest g c = λ honest.
     let content = g.F.Files.content in
     let named : c.in-Some.name ≡ c.args.command.now.name.items = only_name (is_utf8 c.deref.result.now && is_ref_name c.deref.result.now) c.deref.result.now c.in-Some.name (sym c.in-Some.is ∙ c.in_ok-name.ensures) ∙ c.deref.ensures.value in
     moved (λ files name value. KeepsTheRest name files (content c.set.new.files)) {e = None} c.in_ok-is_standing_tag.ensures.same named refl (c.in-Ok.ensures.rest honest)
+
+pub returns-in-Ok-clause-bad : goal.returns-in-Ok-clause-bad
+returns-in-Ok-clause-bad g c = λ honest. bad_from c.in_ok-is_standing_tag.ensures.same (bad_set _ _ c.in-Some.name c.args.command.now.new (c.in-Ok.ensures.rest honest) (c.in-Ok.ensures.set honest))
 
 pub returns-in-Ok-clause-wear : goal.returns-in-Ok-clause-wear
 returns-in-Ok-clause-wear g c = wears_then c.in_ok-is_standing_tag.ensures.wear (λ _. c.in_ok-is_standing_tag.ensures.same) (search rules) (writes_told c.in-Ok.ensures.wear (search rules) (search rules))

@@ -1,4 +1,4 @@
-use Rattle.std.proofs.Common.{rules, ◌≡◌, List, [], map, Ok, Err, ap, ◌∙◌, refl}
+use Rattle.std.proofs.Common.{rules, arith, ◌≡◌, ◌<◌, ◌^◌, List, [], map, Ok, Err, ap, ◌∙◌, refl}
 use Rattle.std.specs.Prelude.{Vec}
 use Rattle.std.specs.Global.{Global}
 use Rattle.vc_files.proofs.WearLemmas.{writes_both, writes_told}
@@ -7,6 +7,8 @@ use Rattle.vc_object.specs.declared.id.ObjectId.{ObjectId}
 use Rattle.vc_push.specs.PushView.{carried_view}
 use Rattle.vc_push.specs.declared.command.Command.{Command}
 use Rattle.vc_session.specs.Session.{fresh}
+use Rattle.vc_session.proofs.CleanLemmas.{bad_on, bad_same, bad_then, clean_after, clean_dropped}
+use Rattle.vc_session.specs.Clean.{MakesNoneBad}
 use Rattle.vc_session.proofs.SessionLemmas.{carries_by, nothing_carried, same_verdicts, writes_at}
 use Rattle.vc_session.proofs.session.PushSession.new.Goals as goal
 use Rattle.vc_session.proofs.session.PushSession.new.Goals.{in-Ok+in_ok-names-in-Ok, in-Err}
@@ -57,3 +59,34 @@ returns-clause-wear g c =
       | in-Err w ↦ writes_at w.files-is (writes_told c.in_ok-drop_quarantine.ensures.wear (λ never. absurd (cc never)) (λ never. absurd never))
     ] in
     writes_told before (λ never. absurd never) (λ never. absurd (cc never))
+
+pub returns-in_err-names-in-Ok-clause-bad : goal.returns-in_err-names-in-Ok-clause-bad
+returns-in_err-names-in-Ok-clause-bad g c = λ honest. bad_then (c.in_ok-drop_quarantine.ensures.bad honest) (c.in_err-names-in-Ok.ensures.bad honest)
+
+pub returns-in_err-verdicts-clause-bad : goal.returns-in_err-verdicts-clause-bad
+returns-in_err-verdicts-clause-bad g c = λ honest.
+    let content = g.F.Files.content in
+    elim c.match-push-2.branch [
+      | in-Ok+in_ok-names-in-Ok w ↦ bad_on (bad_then (c.in_ok-drop_quarantine.ensures.bad honest) (w.in_ok-names-in-Ok.ensures.bad honest)) (ap content w.files-is)
+      | in-Err w ↦ bad_on (c.in_ok-drop_quarantine.ensures.bad honest) (ap content w.files-is)
+    ]
+
+pub returns-clause-bad : goal.returns-clause-bad
+returns-clause-bad g c = λ honest.
+    let content = g.F.Files.content in
+    elim c.match-push-2.branch [
+      | in-Ok+in_ok-names-in-Ok w ↦ bad_on (bad_then (c.in_ok-drop_quarantine.ensures.bad honest) (w.in_ok-names-in-Ok.ensures.bad honest)) (ap content w.files-is)
+      | in-Err w ↦ bad_on (c.in_ok-drop_quarantine.ensures.bad honest) (ap content w.files-is)
+    ]
+
+pub returns-clause-clean : goal.returns-clause-clean
+returns-clause-clean g c = λ honest.
+    let content = g.F.Files.content in
+    let slot = c.args.slot in
+    let emptied = content c.drop_quarantine.new.files in
+    let small : slot < 2 ^ 64 = omega (arith, c.ranges.slot.fits) in
+    let none : MakesNoneBad emptied (content c.match-push-2.files) = elim c.match-push-2.branch [
+      | in-Ok+in_ok-names-in-Ok w ↦ bad_on (w.in_ok-names-in-Ok.ensures.bad honest) (ap content w.files-is)
+      | in-Err w ↦ bad_same emptied (content c.match-push-2.files) (ap content w.files-is)
+    ] in
+    clean_after emptied (content c.match-push-2.files) slot small none (clean_dropped emptied slot (c.in_ok-drop_quarantine.ensures.dropped honest))

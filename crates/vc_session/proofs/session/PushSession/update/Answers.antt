@@ -1,13 +1,11 @@
-use Rattle.std.proofs.Common.{rules, ◌≡◌, false, length, get_or, take, List, Some, None, Option, ap, sym, ◌∙◌, refl, subst, slice_set, ℕ}
+use Rattle.std.proofs.Common.{rules, ◌≡◌, false, length, get_or, take, List, Some, Option, ap, sym, ◌∙◌, subst, slice_set, ℕ}
 use Rattle.std.specs.Prelude.{slice_get}
 use Rattle.std.specs.List.{list_any}
 use Rattle.std.proofs.lemmas.List.{length-set}
-use Rattle.vc_push.specs.Push.{CommandText}
-use Rattle.vc_push.specs.PushView.{command_of, commands_of}
+use Rattle.vc_push.specs.PushView.{command_of}
 use Rattle.vc_push.specs.declared.command.Command.{Command}
 use Rattle.vc_push.specs.declared.reason.Reason.{Reason}
 use Rattle.vc_refs.specs.Head.{KeepsTheRest}
-use Rattle.vc_refs.specs.RefMap.{RefMap}
 use Rattle.vc_refs.specs.Refs.{refs}
 use Rattle.vc_session.specs.Session.{SessionText, IsInStage, MayBeSetWhere, is_passing, stage_while, verdict_of}
 use Rattle.vc_session.specs.Steps.{StepUpdates}

@@ -1,0 +1,263 @@
+//! Rows about pushes, many at once, from the moment that they are taken to their reports.
+
+use crate::messages::Telling;
+use crate::pushes;
+use crate::spelling::{push_bytes, push_id};
+use std::alloc::{AllocError, Global};
+use std::collections::BTreeMap;
+use std::fmt::Write;
+use vc_files::{Fault, Files, MemoryFiles};
+use vc_push::{Push, ReportReader};
+use vc_refs::Refs;
+use vc_session::{PushSession, SessionFault, Stepped};
+
+/// The pushes that are open, by their slots.
+#[derive(Drop)]
+pub struct OpenPushes {
+    by_slot: BTreeMap<u8, PushSession>,
+}
+
+impl OpenPushes {
+    /// None is.
+    pub fn new(alloc: Global) -> OpenPushes {
+        OpenPushes {
+            by_slot: BTreeMap::new(alloc),
+        }
+    }
+}
+
+// Tells what a step did, or why it is not done.
+fn push_step(out: &mut String, did: &Result<Stepped, SessionFault>) -> Result<(), AllocError> {
+    match did {
+        Ok(Stepped::Checked(passed)) => write!(out, "checked {passed}"),
+        Ok(Stepped::Migrated) => out.push_str("stored"),
+        Ok(Stepped::Updated(name, found)) => {
+            match found {
+                Some(reason) => write!(out, "{} ", reason.number())?,
+                None => out.push_str("set ")?,
+            }
+            push_bytes(out, name, "\\x20")
+        }
+        Ok(Stepped::Finished(report)) => ReportReader::tell(out, report),
+        Err(fault) => write!(out, "{fault}"),
+    }
+}
+
+// Whether there is a step behind this one.
+fn goes_on(did: &Result<Stepped, SessionFault>) -> bool {
+    match did {
+        Ok(Stepped::Finished(_)) => false,
+        Ok(_) => true,
+        Err(_) => false,
+    }
+}
+
+// Opens the push of these words, which comes as it is written. None where it is refused, and then it is told why.
+fn opened(
+    out: &mut String,
+    alloc: Global,
+    files: &mut MemoryFiles,
+    slot: u8,
+    words: &str,
+) -> Result<Option<PushSession>, AllocError> {
+    let bytes = pushes::push(alloc, words)?;
+    let push = match Push::read(alloc, &bytes) {
+        Ok(push) => push,
+        Err(fault) => {
+            write!(out, "{fault}")?;
+            return Ok(None);
+        }
+    };
+    match PushSession::new(files, alloc, slot, push) {
+        Ok(session) => Ok(Some(session)),
+        Err(fault) => {
+            write!(out, "{fault}")?;
+            Ok(None)
+        }
+    }
+}
+
+/// Opens a push in a slot: its number, and the words of the push.
+pub fn open_push(
+    out: &mut String,
+    alloc: Global,
+    files: &mut MemoryFiles,
+    pushes: &mut OpenPushes,
+    text: &str,
+) -> Result<(), AllocError> {
+    let (slot, words) = text.split_once(' ').unwrap_or((text, ""));
+    let slot = slot.parse::<u8>().unwrap_or(0);
+    if let Some(session) = opened(out, alloc, files, slot, words)? {
+        pushes.by_slot.insert(slot, session)?;
+        out.push_str("ok")?;
+    }
+    Ok(())
+}
+
+/// One step of the push in this slot.
+pub fn step(
+    out: &mut String,
+    alloc: Global,
+    files: &mut MemoryFiles,
+    pushes: &mut OpenPushes,
+    text: &str,
+) -> Result<(), AllocError> {
+    let slot = text.parse::<u8>().unwrap_or(0);
+    let Some(session) = pushes.by_slot.get_mut(&slot) else {
+        return out.push_str("no push");
+    };
+    let did = session.step(files, alloc);
+    push_step(out, &did)
+}
+
+// Its next steps, until one is its last. No push has more commands than 256.
+fn push_steps(
+    out: &mut String,
+    alloc: Global,
+    files: &mut MemoryFiles,
+    session: &mut PushSession,
+) -> Result<(), AllocError> {
+    for number in 0..260u32 {
+        if number > 0 {
+            out.push_str("; ")?;
+        }
+        let did = session.step(files, alloc);
+        push_step(out, &did)?;
+        if !goes_on(&did) {
+            break;
+        }
+    }
+    Ok(())
+}
+
+/// The steps of a push that is alone, from its words.
+pub fn run(
+    out: &mut String,
+    alloc: Global,
+    files: &mut MemoryFiles,
+    text: &str,
+) -> Result<(), AllocError> {
+    match opened(out, alloc, files, 0, text)? {
+        Some(mut session) => push_steps(out, alloc, files, &mut session),
+        None => Ok(()),
+    }
+}
+
+/// Tells the refs: a name, `=` and an id for each, and what `=` of none is.
+pub fn refs(out: &mut String, alloc: Global, files: &mut MemoryFiles) -> Result<(), AllocError> {
+    match Refs::new(alloc, files).list() {
+        Ok(refs) => {
+            out.push_str("refs")?;
+            for (name, id) in &refs {
+                out.push(' ')?;
+                push_bytes(out, name.as_str().as_bytes(), "\\x20")?;
+                out.push('=')?;
+                push_id(out, *id)?;
+            }
+            Ok(())
+        }
+        Err(fault) => write!(out, "{fault}"),
+    }
+}
+
+/// How many files stand below a path.
+pub fn count(
+    out: &mut String,
+    alloc: Global,
+    files: &mut MemoryFiles,
+    text: &str,
+) -> Result<(), AllocError> {
+    match files.list(alloc, text) {
+        Ok(paths) => write!(out, "{}", paths.len()),
+        Err(fault) => write!(out, "{fault}"),
+    }
+}
+
+// The same files once more.
+fn copy(alloc: Global, files: &mut MemoryFiles) -> Result<MemoryFiles, Fault> {
+    let mut copied = MemoryFiles::new(alloc);
+    for path in files.list(alloc, "")? {
+        if let Some(bytes) = files.get(alloc, path.as_str())? {
+            copied.put(alloc, path.as_str(), &bytes)?;
+        }
+    }
+    Ok(copied)
+}
+
+// A step of a push that has not come to its end. Only what is told at its end is told, or why it has none.
+fn push_end(
+    out: &mut String,
+    alloc: Global,
+    files: &mut MemoryFiles,
+    turn: Option<PushSession>,
+) -> Result<Option<PushSession>, AllocError> {
+    let Some(mut session) = turn else {
+        return Ok(None);
+    };
+    let did = session.step(files, alloc);
+    if goes_on(&did) {
+        return Ok(Some(session));
+    }
+    push_step(out, &did)?;
+    Ok(None)
+}
+
+// What comes of two pushes, taken one after the other, whose steps come in this order: each of its eight lowest bits tells
+// whose step is next.
+fn in_order(
+    alloc: Global,
+    files: &mut MemoryFiles,
+    pair: (&str, &str),
+    order: u32,
+) -> Result<String, AllocError> {
+    let mut tales = (String::new(alloc), String::new(alloc));
+    let mut first = opened(&mut tales.0, alloc, files, 0, pair.0)?;
+    let mut second = opened(&mut tales.1, alloc, files, 1, pair.1)?;
+    let mut order = order;
+    for _ in 0..8u32 {
+        if order % 2 == 0 {
+            first = push_end(&mut tales.0, alloc, files, first)?;
+        } else {
+            second = push_end(&mut tales.1, alloc, files, second)?;
+        }
+        order /= 2;
+    }
+    let (mut told, other) = tales;
+    told.push_str(" / ")?;
+    told.push_str(other.as_str())?;
+    told.push_str(" / ")?;
+    refs(&mut told, alloc, files)?;
+    told.push_str(" / ")?;
+    count(&mut told, alloc, files, "quarantine/")?;
+    Ok(told)
+}
+
+/// All orders of the steps of two pushes, parted by ` ; `, each over the files as they are: how many come to each end. An end
+/// is the report of each, the refs, and how many files are left in quarantine.
+pub fn orders(
+    out: &mut String,
+    alloc: Global,
+    files: &mut MemoryFiles,
+    text: &str,
+) -> Result<(), AllocError> {
+    let pair = text.split_once(" ; ").unwrap_or((text, ""));
+    let mut ends = BTreeMap::<String, u32>::new(alloc);
+    for order in 0..256u32 {
+        if order.count_ones() != 4 {
+            continue;
+        }
+        let Ok(mut copied) = copy(alloc, files) else {
+            return Err(AllocError);
+        };
+        let end = in_order(alloc, &mut copied, pair, order)?;
+        let times = ends.get(&end).copied().unwrap_or(0).wrapping_add(1);
+        ends.insert(end, times)?;
+    }
+    for (end, times) in &ends {
+        if !out.is_empty() {
+            out.push_str("; ")?;
+        }
+        write!(out, "{times}: {end}")?;
+    }
+    Ok(())
+}

@@ -1,0 +1,109 @@
+-- What stays of a held node where files change.
+use Rattle.std.proofs.Common.{◌≡◌, ◌≢◌, ◌<◌, ◌^◌, ◌++◌, arith, ℕ, true, false, nat_eq, length, List, [], Option, Some, None, refl, sym, ap, ◌∙◌, subst}
+use Rattle.std.specs.Prelude.{codes, slice_set, unwrap_or}
+use Rattle.std.specs.FinMap as files
+use Rattle.std.specs.FinMap.{get}
+use Rattle.std.specs.List.{starts_with}
+use Rattle.std.proofs.lemmas.List.{get_or-set_same, get_or-set_other}
+use Rattle.std.proofs.lemmas.Option.{unwrap_or-slice_get}
+use Rattle.vc_files.specs.FileMap.{FileMap, SameOutside}
+use Rattle.vc_model.specs.Push.{OpenPush}
+use Rattle.vc_model.specs.Repository.{Index, Repository}
+use Rattle.vc_node.specs.Clean.{IsClean}
+use Rattle.vc_node.specs.IndexFile.{index_bytes}
+use Rattle.vc_node.specs.Machine.{Spells}
+use Rattle.vc_node.specs.Shown.{shown}
+use Rattle.vc_refs.proofs.WayLemmas.{split_from_starts}
+use Rattle.vc_refs.specs.Head.{KeepsTheRest, head_of}
+use Rattle.vc_rules.proofs.OpenPushLaws.{others_stay}
+use Rattle.vc_rules.specs.OpenPushes.{HoldsContent}
+use Rattle.vc_session.specs.Clean.{MakesNoneBad}
+use Rattle.vc_session.proofs.FrameLemmas.{head-same, other_slot}
+use Rattle.vc_session.specs.Quarantine.{IsDropped, quarantine_folder}
+use Rattle.vc_session.specs.Session.{SessionText}
+use Rattle.vc_session.specs.Steps.{Steps}
+use Rattle.vc_session.specs.declared.stage.Stepped.{Stepped as SessionStep}
+use Rattle.vc_session.specs.declared.stage.Stepped.TheVariants as session
+use Rattle.vc_shared.specs.Holding.{HoldsSlot}
+use Rattle.vc_shared.specs.Slots.{slot_of}
+
+-- ---- slots
+pub slot_set : (slots : List (Option SessionText)) (k : ℕ) (v : Option SessionText) → k < length slots → slot_of (slice_set slots k v) k ≡ v
+slot_set slots k v within = unwrap_or-slice_get (slice_set slots k v) k None ∙ get_or-set_same slots k v None within
+
+pub slot_other : (slots : List (Option SessionText)) (k j : ℕ) (v : Option SessionText) → j ≢ k → slot_of (slice_set slots k v) j ≡ slot_of slots j
+slot_other slots k j v apart = unwrap_or-slice_get (slice_set slots k v) j None ∙ get_or-set_other slots k j v None apart ∙ sym (unwrap_or-slice_get slots j None)
+
+-- ---- the repository
+pub content_of : (content : FileMap) (r : Repository) → Spells (shown content) r → HoldsContent content r
+content_of content r spells = record { objects_are = spells.objects; refs_are = spells.refs }
+
+-- HEAD and the index are the same
+pub record SameBeside (old new : FileMap) : Type 0 where
+  pub head : head_of new ≡ head_of old
+  pub index : index_bytes new ≡ index_bytes old
+
+pub spells_on : (old new : FileMap) (r after : Repository) → Spells (shown old) r → HoldsContent new after → SameBeside old new → after.head ≡ r.head → after.index ≡ r.index → Spells (shown new) after
+spells_on old new r after spells content beside head index = record {
+  objects = content.objects_are;
+  refs = content.refs_are;
+  head = spells.head;
+  head_shown = beside.head ∙ spells.head_shown;
+  head_is = head ∙ spells.head_is;
+  map = spells.map;
+  map_sound = spells.map_sound;
+  map_shown = beside.index ∙ spells.map_shown;
+  index = λ p. ap (λ (i : Index). get i p) index ∙ spells.index p;
+}
+
+beside_by : (old new : FileMap) → files.get new (codes "HEAD") ≡ files.get old (codes "HEAD") → files.get new (codes "index") ≡ files.get old (codes "index") → SameBeside old new
+beside_by old new head index = record { head = head-same old new head; index = ap (λ found. unwrap_or found []) index }
+
+pub beside_same : (old new : FileMap) → new ≡ old → SameBeside old new
+beside_same old new same = record { head = ap head_of same; index = ap index_bytes same }
+
+pub beside_slot : (slot : ℕ) (old new : FileMap) → SameOutside (quarantine_folder slot) old new → SameBeside old new
+beside_slot slot old new same = beside_by old new (same.at (codes "HEAD") refl) (same.at (codes "index") refl)
+
+pub beside_objects : (old new : FileMap) → SameOutside (codes "objects/") old new → SameBeside old new
+beside_objects old new same = beside_by old new (same.at (codes "HEAD") refl) (same.at (codes "index") refl)
+
+pub beside_ref : (name : List ℕ) (old new : FileMap) → KeepsTheRest name old new → SameBeside old new
+beside_ref name old new rest = beside_by old new (rest.outside.at (codes "HEAD") refl) (rest.outside.at (codes "index") refl)
+
+pub steps_beside : (old new : FileMap) (s t : SessionText) (did : SessionStep) → Steps old new s t did → SameBeside old new
+steps_beside old new s t (session.Checked n) h = beside_same old new h.files
+steps_beside old new s t session.Migrated h = beside_objects old new h.outside
+steps_beside old new s t (session.Updated name found) h = beside_ref name.items old new h.rest
+steps_beside old new s t (session.Finished report) h = beside_slot s.slot old new h.outside
+
+-- ---- a quarantine that is empty
+abbrev SameThere : FileMap → FileMap → ℕ → Type 0
+SameThere old new slot = (path : List ℕ) → starts_with nat_eq path (quarantine_folder slot) ≡ true → files.get new path ≡ files.get old path
+
+dropped_on : (old new : FileMap) (slot : ℕ) → SameThere old new slot → IsDropped slot old → IsDropped slot new
+dropped_on old new slot same dropped path h = same path h ∙ dropped path h
+
+beyond : (prefix : List ℕ) (slot : ℕ) → ((rest : List ℕ) → starts_with nat_eq (quarantine_folder slot ++ rest) prefix ≡ false) → (old new : FileMap) → SameOutside prefix old new → SameThere old new slot
+beyond prefix slot apart old new same path h =
+    same.at path (ap (λ p. starts_with nat_eq p prefix) (split_from_starts path (quarantine_folder slot) h) ∙ apart _)
+
+pub steps_dropped : (old new : FileMap) (s t : SessionText) (did : SessionStep) (slot : ℕ) → s.slot < 2 ^ 64 → slot < 2 ^ 64 → slot ≢ s.slot → Steps old new s t did → IsDropped slot old → IsDropped slot new
+steps_dropped old new s t (session.Checked n) slot small fits apart h dropped = subst (IsDropped slot) (sym h.files) dropped
+steps_dropped old new s t session.Migrated slot small fits apart h dropped = dropped_on old new slot (beyond (codes "objects/") slot (λ rest. refl) old new h.outside) dropped
+steps_dropped old new s t (session.Updated name found) slot small fits apart h dropped = dropped_on old new slot (beyond (codes "refs/") slot (λ rest. refl) old new h.rest.outside) dropped
+steps_dropped old new s t (session.Finished report) slot small fits apart h dropped =
+    dropped_on old new slot (beyond (quarantine_folder s.slot) slot (λ rest. other_slot s.slot slot rest small fits apart) old new h.outside) dropped
+
+-- ---- the other slots
+pub slot_stays : (old new : FileMap) (s t : SessionText) (did : SessionStep) (slot : ℕ) → s.slot < 8 → slot < 8 → slot ≢ s.slot → Steps old new s t did → MakesNoneBad old new
+    → (v : Option SessionText) (q : Option OpenPush) → HoldsSlot old slot v q → HoldsSlot new slot v q
+slot_stays old new s t did slot small fits apart h bad None None dropped = steps_dropped old new s t did slot (omega (arith, small)) (omega (arith, fits)) apart h dropped
+slot_stays old new s t did slot small fits apart h bad (Some u) (Some q) (at, push, clean) =
+    (at, others_stay old new s t u did q (omega (arith, small)) (omega (arith, fits, at)) (λ same. apart (sym at ∙ same)) h push, λ id damaged. clean id (bad.quarantines slot (omega (arith, fits)) id damaged))
+slot_stays old new s t did slot small fits apart h bad None (Some q) never = never
+slot_stays old new s t did slot small fits apart h bad (Some u) None never = never
+
+-- what was clean is so
+pub clean_on : (old new : FileMap) → MakesNoneBad old new → IsClean old → IsClean new
+clean_on old new bad clean = record { objects = λ id damaged. clean.objects id (bad.objects id damaged); refs = λ path wrong. clean.refs path (bad.refs path wrong) }

@@ -1,0 +1,8 @@
+use Rattle.vc_shared.proofs.OpeningLemmas.{held_opened, openable_kept}
+use Rattle.vc_shared.proofs.shared.Shared.open.Goals as goal
+
+pub returns-in-Ok-clause-opens : goal.returns-in-Ok-clause-opens
+returns-in-Ok-clause-opens g c = λ honest r can. held_opened _ _ r (c.in-Ok.ensures.opened honest) can
+
+pub returns-in-Err-clause-err : goal.returns-in-Err-clause-err
+returns-in-Err-clause-err g c = λ honest r can. openable_kept _ _ (c.in-Err.ensures.err honest) r can

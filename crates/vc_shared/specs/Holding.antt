@@ -1,0 +1,44 @@
+-- The machine's shared node that files and open pushes hold.
+use Rattle.std.specs.Prelude.{◌≡◌, ◌<◌, ◌≤◌, ℕ, Bool, true, false, List, length, Option, Some, None}
+use Rattle.std.specs.FinMap.{get}
+use Rattle.vc_files.specs.FileMap.{FileMap}
+use Rattle.vc_model.specs.Push.{OpenPush, Slots}
+use Rattle.vc_model.specs.Shared.{SharedNode}
+use Rattle.vc_node.specs.Clean.{IsClean}
+use Rattle.vc_node.specs.Machine.{Spells}
+use Rattle.vc_node.specs.Shown.{shown}
+use Rattle.vc_rules.specs.OpenPushes.{HoldsPush}
+use Rattle.vc_session.specs.Clean.{IsQuarantineClean}
+use Rattle.vc_session.specs.Quarantine.{IsDropped}
+use Rattle.vc_session.specs.Session.{SessionText}
+use Rattle.vc_shared.specs.Slots.{slot_of}
+
+-- what a shared node is made of
+pub record SharedText (F : Type 0) : Type 0 where
+  pub files : F
+  -- the push in each of its eight slots
+  pub slots : List (Option SessionText)
+  pub is_up : Bool
+
+-- A slot is the machine's: no push is open and its quarantine is empty, or the push and what stands there are the machine's push.
+abbrev pub HoldsSlot : FileMap → ℕ → Option SessionText → Option OpenPush → Type 0
+HoldsSlot content k None None = IsDropped k content
+HoldsSlot content k (Some s) (Some p) = (s.slot ≡ k) × HoldsPush content s p × IsQuarantineClean content k
+HoldsSlot content k _ _ = ⊥
+
+pub record HoldsSlots (content : FileMap) (slots : List (Option SessionText)) (pushes : Slots) : Type 0 where
+  pub eight : length slots ≡ 8
+  pub each : (k : ℕ) → k < 8 → HoldsSlot content k (slot_of slots k) (get pushes k)
+  pub others : (k : ℕ) → 8 ≤ k → get pushes k ≡ None
+
+-- a node that is up has its pushes open, and one that is down has none
+abbrev pub IsLive : FileMap → List (Option SessionText) → Bool → Option Slots → Type 0
+IsLive content slots true (Some pushes) = HoldsSlots content slots pushes
+IsLive content slots false None = Unit {0}
+IsLive content slots _ _ = ⊥
+
+-- The node of the machine that is held: its repository is shown, by clean files, and its pushes are open.
+pub record HoldsShared (content : FileMap) (slots : List (Option SessionText)) (is_up : Bool) (n : SharedNode) : Type 0 where
+  pub spells : Spells (shown content) n.repository
+  pub clean : IsClean content
+  pub live : IsLive content slots is_up n.live

@@ -1,0 +1,29 @@
+-- That what a step of a slot says of itself is the machine's answer.
+use Rattle.std.specs.Prelude.{◌≡◌, ℕ, Bool, true, false, List, Option, Result, Err, IfOk, IfErr, OnErr}
+use Rattle.vc_files.specs.FileMap.{FileMap}
+use Rattle.vc_model.specs.SharedCall.SharedCall.{StepOf}
+use Rattle.vc_node.specs.declared.fault.NodeFault.TheVariants.{Down}
+use Rattle.vc_session.specs.Clean.{MakesNoneBad}
+use Rattle.vc_session.specs.Session.{SessionText}
+use Rattle.vc_shared.specs.Calls.{AnswersShared, SteppedAs}
+use Rattle.vc_shared.specs.Faults.{is_fault, up_after}
+use Rattle.vc_shared.specs.Slots.{AreTellable, slot_of}
+use Rattle.vc_shared.specs.Stepping.{EndsSlotEarly, IsHeldThere, IsRefusedIn, StepsSlot}
+use Rattle.vc_shared.specs.declared.fault.SharedFault.{SharedFault}
+use Rattle.vc_shared.specs.declared.fault.SharedFault.TheVariants.{Node}
+use Rattle.vc_shared.specs.declared.stepping.Stepped.{Stepped}
+
+-- of a node that is up: the step of the session is told, or why there is none, and what it leaves
+abbrev pub StepsAnswer : Type 0
+StepsAnswer = (old new : FileMap) (slots after : List (Option SessionText)) (k : ℕ) (was_up is_up : Bool) (result : Result Stepped SharedFault)
+    → (IsHeldThere old (slot_of slots k) → IfOk result (StepsSlot old new slots after k))
+    → IfErr result (λ e. is_fault e ≡ false → after ≡ slots)
+    → (IsHeldThere old (slot_of slots k) → OnErr result (EndsSlotEarly old new (slot_of slots k)))
+    → IfErr result (IsRefusedIn old (slot_of slots k))
+    → MakesNoneBad old new → AreTellable slots
+    → was_up ≡ true → is_up ≡ up_after result → AnswersShared (StepOf k) (SteppedAs result) old new slots after was_up is_up
+
+-- of a node that is down
+abbrev pub DownAnswers : Type 0
+DownAnswers = (old new : FileMap) (slots after : List (Option SessionText)) (k : ℕ) (was_up is_up : Bool) (result : Result Stepped SharedFault)
+    → new ≡ old → after ≡ slots → is_up ≡ was_up → was_up ≡ false → result ≡ Err (Node Down) → AnswersShared (StepOf k) (SteppedAs result) old new slots after was_up is_up

@@ -1,0 +1,12 @@
+//! Laws of the definitions: functions with no work to do, whose contracts are the laws.
+
+ghost use Rattle.vc_shared.specs.Laws.{DownAnswers, StepsAnswer};
+
+/// A step of the push in a slot is the machine's: where the session's step is told so, or refused so, whatever node was held
+/// leads by the machine's answer to one that is held then. An empty slot is 111; over clean files a step ends early for a fault
+/// alone, and leaves what a stop of the machine's may leave; the report of a push that is at its end is sent, and its slot is
+/// free. A node that is down answers 112.
+pub fn a_step_in_a_slot_is_the_machines()
+    ensures up { StepsAnswer }
+    ensures down { DownAnswers }
+{}
