@@ -11,6 +11,7 @@ mod pushes;
 mod reading;
 mod sessions;
 mod spelling;
+mod taking;
 mod writing;
 
 use crate::sessions::OpenPushes;
@@ -34,6 +35,8 @@ fn answer(
         "read" => reading::read(out, alloc, text),
         "cut" => reading::cut(out, alloc, text),
         "changed" => reading::changed(out, alloc, text),
+        "take" => taking::take(out, alloc, text),
+        "broken" => taking::broken(out, alloc, text),
         "write" => writing::write(out, alloc, text),
         "empty" => answers::empty(out, alloc, files),
         "put" => answers::put(out, alloc, files, text),

@@ -134,15 +134,15 @@ module _ (content : FileMap) where
 
 -- ---- exits
 -- objects that are there are read, but for a fault
-pub refused_read : (Meets : ObjectId → Type 0) (content : FileMap) (ids : List ObjectId) → ((id : ObjectId) → Contains ids id → IsSome (objects content id))
-    → (e : StoreFault) → IsFault e ⊎ ((id : ObjectId) × Contains ids id × (objects content id ≡ None)) → IsRefusedWalk Meets content (from_store e)
-refused_read Meets content ids there (store.BadObject fault) (inl h) = absurd h
-refused_read Meets content ids there (store.Absent id) (inl h) = absurd h
-refused_read Meets content ids there (store.Damaged id) (inl h) = absurd h
-refused_read Meets content ids there (store.Fault fault) h = tt
-refused_read Meets content ids there (store.BadObject fault) (inr h) = absurd (true≢false (sym (subst (λ o. IsSome o) h.2 (there h.0 h.1))))
-refused_read Meets content ids there (store.Absent id) (inr h) = absurd (true≢false (sym (subst (λ o. IsSome o) h.2 (there h.0 h.1))))
-refused_read Meets content ids there (store.Damaged id) (inr h) = absurd (true≢false (sym (subst (λ o. IsSome o) h.2 (there h.0 h.1))))
+pub met_read : (Meets : ObjectId → Type 0) (content : FileMap) (ids : List ObjectId) → ((id : ObjectId) → Contains ids id → IsSome (objects content id))
+    → (e : StoreFault) → IsFault e ⊎ ((id : ObjectId) × Contains ids id × (objects content id ≡ None)) → IsMet Meets (IsDamaged content) e
+met_read Meets content ids there (store.BadObject fault) (inl h) = absurd h
+met_read Meets content ids there (store.Absent id) (inl h) = absurd h
+met_read Meets content ids there (store.Damaged id) (inl h) = absurd h
+met_read Meets content ids there (store.Fault fault) h = tt
+met_read Meets content ids there (store.BadObject fault) (inr h) = absurd (true≢false (sym (subst (λ o. IsSome o) h.2 (there h.0 h.1))))
+met_read Meets content ids there (store.Absent id) (inr h) = absurd (true≢false (sym (subst (λ o. IsSome o) h.2 (there h.0 h.1))))
+met_read Meets content ids there (store.Damaged id) (inr h) = absurd (true≢false (sym (subst (λ o. IsSome o) h.2 (there h.0 h.1))))
 
 -- names that are reached from closed roots are there
 pub closed_there : (content : FileMap) (wants counted ids : List ObjectId) → IsClosedUnder (links_in (objects content)) (wants ++ counted)

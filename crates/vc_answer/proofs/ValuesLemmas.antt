@@ -52,7 +52,7 @@ lift e es (y ∷ ys) below h =
     (ap (λ t. cond t (Some e.1) (find name_cmp y.0 es)) (above e.0 y.0 parts.0) ∙ h.0, lift e es ys parts.1 h.1)
 
 -- each entry of a sorted list is found under its name
-each_found : (es : Entries) → is_sorted name_cmp es ≡ true → AllByRecursion (λ x. find name_cmp x.0 es ≡ Some x.1) es
+pub each_found : (es : Entries) → is_sorted name_cmp es ≡ true → AllByRecursion (λ x. find name_cmp x.0 es ≡ Some x.1) es
 each_found [] sorted = tt
 each_found (e ∷ es) sorted =
     let parts = both (below_all name_cmp e.0 es) (is_sorted name_cmp es) sorted in

@@ -16,3 +16,4 @@ pub use answer::answer_want;
 pub use fault::AnswerFault;
 pub use judge::judge_pack;
 pub use pack_objects::PackObjects;
+pub use reading::sent_objects;

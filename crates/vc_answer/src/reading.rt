@@ -1,6 +1,5 @@
 //! The objects of a store that are sent.
 ghost use Rattle.std.specs.Prelude.{◌≡◌, ◌↔◌, ◌⊎◌, ◌++◌, map, IfOk, IfErr, IsErrOf, OnOk, Some, None, Contains};
-ghost use Rattle.vc_answer.specs.AnswerFault.{IsRefusedWalk};
 ghost use Rattle.vc_files.specs.Failures.{Wears};
 ghost use Rattle.vc_graph.specs.Graph.{ReachedFrom, IsClosedUnder};
 ghost use Rattle.vc_graph.specs.GraphFault.{IsTold};
@@ -13,7 +12,6 @@ ghost use Rattle.vc_pkt.specs.ObjectStreamView.{carried};
 ghost use Rattle.vc_store.specs.Store.{objects, IsDamaged};
 ghost use Rattle.vc_store.specs.StoreFault.{IsFault};
 
-use crate::AnswerFault;
 use std::alloc::Global;
 use vc_files::{Fault, Files};
 use vc_graph::{GraphFault, difference};
@@ -61,18 +59,19 @@ fn sent_names<F: Files>(
     Ok(ids)
 }
 
-// The objects that the wants reach and the counted haves do not.
-pub(crate) fn sent_objects<F: Files>(
+/// The stored objects that the wants reach and the counted haves do not, each read once and taken by its name. Nothing that
+/// is reached may be absent, on either side.
+pub fn sent_objects<F: Files>(
     alloc: Global,
     files: &mut F,
     wants: &[ObjectId],
     counted: &[ObjectId],
-) -> Result<CarriedObjects, AnswerFault>
+) -> Result<CarriedObjects, GraphFault>
     ensures sent { F.honest → IfOk result (λ sent. (id : Id) (o : StoredObject) → object_named id (carried sent) ≡ Some o ↔ ((ReachedFrom (links_in (objects (F.content files.old))) wants.now id × ¬ ReachedFrom (links_in (objects (F.content files.old))) counted.now id) × (objects (F.content files.old) id ≡ Some o))) }
     ensures sorted { F.honest → IfOk result (λ sent. IsSortedByName (map stored_name (carried sent))) }
-    ensures refused { F.honest → IfErr result (IsRefusedWalk (ReachedFrom (links_in (objects (F.content files.old))) (wants.now ++ counted.now)) (F.content files.old)) }
+    ensures refused { F.honest → IfErr result (IsTold (objects (F.content files.old)) (IsDamaged (F.content files.old)) (wants.now ++ counted.now)) }
     ensures same { F.content files.new ≡ F.content files.old }
-    ensures wear { Wears F.failed F.can_fail F.left files.old files.new (IsErrOf result (AnswerFault.Fault Fault.Device)) }
+    ensures wear { Wears F.failed F.can_fail F.left files.old files.new (IsErrOf result (GraphFault.Store (StoreFault.Fault Fault.Device))) }
 {
     let ids = sent_names(alloc, files, wants, counted)?;
     let sent = read_objects(alloc, files, &ids)?;

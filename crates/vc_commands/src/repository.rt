@@ -1,8 +1,7 @@
 //! The store that a command works on, and what revisions name in it.
 ghost use Rattle.std.specs.Prelude.{◌≡◌, Ok, IfOk, IfErr};
 ghost use Rattle.vc_object.specs.ObjectId.{IsSortedByName};
-ghost use Rattle.vc_rev.specs.Views.{expr_view};
-ghost use Rattle.vc_commands.specs.Revisions.{Denoted, IsIndexFor, IsOfIndexFor, IsOfRevision, IsOfTerms, IsSelected};
+ghost use Rattle.vc_commands.specs.Revisions.{Denoted, IsOfRevision, IsOfTerms, IsSelected};
 
 use crate::failure::{Failure, fault_of};
 use std::alloc::Global;
@@ -12,8 +11,8 @@ use vc_files::Files;
 use vc_folder::FolderFiles;
 use vc_index::Index;
 use vc_object::ObjectId;
-use vc_repository::{FileRepository, read_index};
-use vc_rev::{Expr, RevFault, SourceFault, parse, parse_set, resolve_set};
+use vc_repository::FileRepository;
+use vc_rev::{parse, parse_set, resolve_set};
 
 /// The files of the store in this folder, which need not be there yet. A folder that Git made is refused.
 pub fn open_store<R>(rt: &R, folder: &str) -> Result<FolderFiles<R>, Failure>
@@ -50,22 +49,6 @@ pub fn is_of_git<R: rt::Files + AllocGlobal>(rt: &R, folder: &str) -> Result<boo
     }
 }
 
-// The index that the expression is resolved with: the file's where it reads the index, else an empty one.
-fn index_for<F: Files>(alloc: Global, files: &mut F, expr: &Expr<'_>) -> Result<Index, SourceFault>
-    ensures index { F.honest → IfOk result (IsIndexFor (F.content files.old) (expr_view expr.now)) }
-    ensures refused { F.honest → IfErr result (IsOfIndexFor (F.content files.old) (expr_view expr.now)) }
-    ensures same { F.content files.new ≡ F.content files.old }
-{
-    match expr {
-        Expr::InIndex(_) => {
-            let index = read_index(alloc, files)?;
-            Ok(index)
-        }
-        Expr::InTree(_, _) => Ok(Index::new(alloc)),
-        Expr::Object(_) => Ok(Index::new(alloc)),
-    }
-}
-
 /// The object that a revision names.
 pub fn resolve<F: Files>(alloc: Global, files: &mut F, revision: &str) -> Result<ObjectId, Failure>
     ensures value { F.honest → IfOk result (λ id. Denoted (F.content files.old) revision.now (Ok id)) }
@@ -89,12 +72,7 @@ pub fn resolve_bytes<F: Files>(
         Ok(expr) => expr,
         Err(fault) => return Err(Failure::Syntax(fault)),
     };
-    let index = match index_for(alloc, files, &expr) {
-        Ok(index) => index,
-        Err(fault) => return Err(Failure::Revision(RevFault::Source(fault))),
-    };
-    let mut repository = FileRepository::new(alloc, files, &index);
-    match vc_rev::resolve(alloc, &mut repository, &expr) {
+    match vc_repository::resolve(alloc, files, &expr) {
         Ok(id) => Ok(id),
         Err(fault) => Err(Failure::Revision(fault)),
     }

@@ -6,3 +6,7 @@ pub mod MachineObjects
 pub mod MachineTexts
 pub mod OneWriting
 pub mod Readings
+pub mod IncomingLines
+pub mod IncomingReads
+pub mod IncomingLaws
+pub mod IncomingFronts

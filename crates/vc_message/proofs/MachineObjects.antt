@@ -40,7 +40,7 @@ stored_once o p e =
     let bodies : o.body ≡ p.body = ap (λ s. s.body) e in
     ap (λ k. record { kind = k; body = o.body }) kinds ∙ ap (λ b. record { kind = p.kind; body = b }) bodies
 
-some_once : (a b : Option Object) → option_map stored_of a ≡ option_map stored_of b → a ≡ b
+pub some_once : (a b : Option Object) → option_map stored_of a ≡ option_map stored_of b → a ≡ b
 some_once None None e = refl
 some_once None (Some p) e = absurd (cc e)
 some_once (Some o) None e = absurd (cc e)

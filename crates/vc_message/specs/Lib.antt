@@ -2,3 +2,5 @@ pub mod AnyMessage
 pub mod AnyView
 pub mod Machine
 pub mod Laws
+pub mod IncomingFault
+pub mod Incoming

@@ -4,10 +4,14 @@
 //! this project differs, the comment begins with `own:`.
 #![tactic(auto)]
 
+mod incoming;
+mod incoming_fault;
 mod laws;
 mod message;
 mod reader;
 
+pub use incoming::read_message;
+pub use incoming_fault::IncomingFault;
 pub use laws::{
     every_reading, messages_are_a_wire, one_message, one_reading, one_writing, read_or_unread,
     what_is_read_is_named, written_message_is_read,

@@ -1,3 +1,4 @@
 pub mod Faults
 pub mod IndexFile
+pub mod Resolving
 pub mod State

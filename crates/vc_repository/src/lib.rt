@@ -4,6 +4,8 @@
 mod faults;
 mod files;
 mod index;
+mod resolving;
 
 pub use files::FileRepository;
 pub use index::read_index;
+pub use resolving::resolve;

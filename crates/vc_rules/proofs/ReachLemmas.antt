@@ -71,7 +71,7 @@ module _ (o : ObjectMap) (at : Lookup) (rel : (x : Id) → o (id_of_bytes x) ≡
       let same : l.0 ≡ links_of (kind_of p.kind) p.body = cc in
       record { object = p; found = e; link = subst (λ (ids : List ObjectId). Contains (map bytes_of_id ids) y) same (to_bytes l.0 (id_of_bytes y) l.2) }
 
-  path_to : (zs : List Id) (r x y : Id) → graph.Reaches (links_in o) (id_of_bytes r) (id_of_bytes x) → Path (Links git at) zs x y → graph.Reaches (links_in o) (id_of_bytes r) (id_of_bytes y)
+  pub path_to : (zs : List Id) (r x y : Id) → graph.Reaches (links_in o) (id_of_bytes r) (id_of_bytes x) → Path (Links git at) zs x y → graph.Reaches (links_in o) (id_of_bytes r) (id_of_bytes y)
   path_to [] r x y h p = subst (λ (w : Id). graph.Reaches (links_in o) (id_of_bytes r) (id_of_bytes w)) p h
   path_to (z ∷ zs) r x y h p = path_to zs r z y (onward h (link_to x z p.0)) p.1
 

@@ -8,7 +8,7 @@ ghost use Rattle.vc_push.specs.PushView.{push_text};
 ghost use Rattle.vc_session.specs.Carrying.{Carries, HoldsNames, objects_of_push};
 ghost use Rattle.vc_session.specs.Clean.{IsQuarantineClean, MakesNoneBad};
 ghost use Rattle.vc_session.specs.Quarantine.{quarantine_folder};
-ghost use Rattle.vc_session.specs.Session.{stage_while};
+ghost use Rattle.vc_session.specs.Session.{IsSession, stage_while};
 ghost use Rattle.vc_session.specs.SessionFault.{IsRefusedStep};
 ghost use Rattle.vc_session.specs.Steps.{EndsEarly, IsOpened, MayWrite, Steps, TellsReport};
 
@@ -83,6 +83,7 @@ impl PushSession {
     ) -> Result<PushSession, Fault>
         ensures opened { IfOk result (λ s. (fault : Option Refusal) × FaultOf (push_text push).carried fault × IsOpened slot fault (push_text push).commands s) }
         ensures carried { F.honest → IfOk result (λ s. Carries (F.content files.new) slot s.names (objects_of_push (push_text push).carried)) }
+        ensures session { IfOk result IsSession }
         ensures outside { F.honest → SameOutside (quarantine_folder slot) (F.content files.old) (F.content files.new) }
         ensures bad { F.honest → MakesNoneBad (F.content files.old) (F.content files.new) }
         ensures clean { F.honest → IfOk result (λ s. IsQuarantineClean (F.content files.new) slot) }
@@ -113,6 +114,7 @@ impl PushSession {
     fn check<F: Files>(&mut self, files: &mut F, alloc: Global) -> Result<Stepped, SessionFault>
         requires stage { self.old.stage ≡ Stage.Unpacked }
         ensures steps { F.honest → IfOk result (Steps (F.content files.old) (F.content files.new) self.old self.new) }
+        ensures session { IsSession self.new }
         ensures unchanged { OnErr result (self.new ≡ self.old) }
         ensures commands { self.new.commands ≡ self.old.commands }
         ensures told { IfOk result (TellsReport self.old) }
@@ -132,6 +134,7 @@ impl PushSession {
     fn migrate<F: Files>(&mut self, files: &mut F, alloc: Global) -> Result<Stepped, SessionFault>
         requires stage { self.old.stage ≡ Stage.Checked }
         ensures steps { F.honest → HoldsNames (F.content files.old) self.old.slot self.old.names → IfOk result (Steps (F.content files.old) (F.content files.new) self.old self.new) }
+        ensures session { IsSession self.new }
         ensures unchanged { OnErr result (self.new ≡ self.old) }
         ensures commands { self.new.commands ≡ self.old.commands }
         ensures told { IfOk result (TellsReport self.old) }
@@ -151,6 +154,7 @@ impl PushSession {
     fn update<F: Files>(&mut self, files: &mut F, alloc: Global) -> Result<Stepped, SessionFault>
         requires stage { self.old.stage ≡ Stage.Migrated }
         ensures steps { F.honest → IfOk result (Steps (F.content files.old) (F.content files.new) self.old self.new) }
+        ensures session { IsSession self.new }
         ensures unchanged { OnErr result (self.new ≡ self.old) }
         ensures commands { self.new.commands ≡ self.old.commands }
         ensures told { IfOk result (TellsReport self.old) }
@@ -194,6 +198,7 @@ impl PushSession {
     /// it has told its report the session is at its end, and its slot is free. No step makes a file bad.
     pub fn step<F: Files>(&mut self, files: &mut F, alloc: Global) -> Result<Stepped, SessionFault>
         ensures steps { F.honest → HoldsNames (F.content files.old) self.old.slot self.old.names → IfOk result (Steps (F.content files.old) (F.content files.new) self.old self.new) }
+        ensures session { IsSession self.new }
         ensures unchanged { OnErr result (self.new ≡ self.old) }
         ensures commands { self.new.commands ≡ self.old.commands }
         ensures told { IfOk result (TellsReport self.old) }

@@ -53,7 +53,7 @@ Leads n k new after is_up shows =
     × (IsSound git n.repository → IsBare git n.repository → SharedAnswers git git_rules n (StepOf k) a m sends)
 
 -- ---- what is sent at the end
-written_by : (m : Message) (t : MessageText) (bytes : List ℕ) → TextOf m t → IsWrittenMessage t → bytes ≡ flat_map spelling (message_lines t) → IsWritten m bytes
+pub written_by : (m : Message) (t : MessageText) (bytes : List ℕ) → TextOf m t → IsWrittenMessage t → bytes ≡ flat_map spelling (message_lines t) → IsWritten m bytes
 written_by m t bytes is written spelled = record {
   text = t;
   is = is;

@@ -1,5 +1,5 @@
 -- A step of the push in a slot is the machine's: one that was done, one that a fault ended, and one of a slot where none is.
-use Rattle.std.proofs.Common.{◌≡◌, ◌<◌, arith, ℕ, Bool, true, false, length, List, [], Option, Some, None, Result, Ok, Err, IsSome, refl, sym, ap, ◌∙◌, subst, inl, inr, true≢false}
+use Rattle.std.proofs.Common.{◌≡◌, ◌≢◌, ◌<◌, arith, ℕ, Bool, true, false, length, List, [], Option, Some, None, Result, Ok, Err, IsSome, refl, sym, ap, ◌∙◌, subst, inl, inr, true≢false}
 use Rattle.std.specs.Prelude.{IfErr, IfOk, OnErr, is_some, not, unwrap_or}
 use Rattle.std.specs.FinMap.{get, insert}
 use Rattle.std.proofs.lemmas.List.Elements.{All-get_or}
@@ -8,15 +8,16 @@ use Rattle.vc_files.specs.FileMap.{FileMap}
 use Rattle.vc_files.specs.declared.faults.Fault.{Fault as FilesFault}
 use Rattle.vc_files.specs.declared.faults.Fault.TheVariants.{Memory}
 use Rattle.vc_message.proofs.Totals.{less_or}
-use Rattle.vc_model.specs.Node.{Deed, Failure}
+use Rattle.vc_model.specs.Message.{Message}
+use Rattle.vc_model.specs.Node.{Answer, Deed, Failure}
 use Rattle.vc_model.specs.Node.Answer.{Declined, Fault}
 use Rattle.vc_model.specs.Node.Reply.{MigratedAll}
 use Rattle.vc_model.specs.Push.{OpenPush, Slots, Stage as MachineStage}
 use Rattle.vc_model.specs.Push.Stage.{Checked as MachineChecked, Migrated as MachineMigrated}
-use Rattle.vc_model.specs.Repository.{Effect}
+use Rattle.vc_model.specs.Repository.{Effect, IsBare, IsSound}
 use Rattle.vc_model.specs.Shared.{SharedNode, StepsPush as StepsMachine}
-use Rattle.vc_model.specs.SharedCall.{SharedAnswers}
-use Rattle.vc_model.specs.SharedCall.SharedCall.{StepOf}
+use Rattle.vc_model.specs.SharedCall.{SharedAnswers, SharedCall}
+use Rattle.vc_model.specs.SharedCall.SharedCall.{Open, StepOf}
 use Rattle.vc_node.specs.Clean.{IsClean}
 use Rattle.vc_node.specs.Machine.{failure_of}
 use Rattle.vc_node.specs.declared.fault.NodeFault.TheVariants.{Down}
@@ -24,6 +25,7 @@ use Rattle.vc_object.specs.declared.id.ObjectId.{ObjectId}
 use Rattle.vc_push.specs.Report.{IsWrittenReport, ReportText}
 use Rattle.vc_refs.specs.declared.faults.RefFault.TheVariants as ref
 use Rattle.vc_rules.proofs.OpenPushLaws.{early_agree}
+use Rattle.vc_rules.proofs.GitLaws.{git_rules}
 use Rattle.vc_rules.specs.Git.{git}
 use Rattle.vc_rules.specs.OpenPushes.{EndsEarlyAs, HoldsContent, HoldsPush, IsStop, machine_stage}
 use Rattle.vc_session.specs.Carrying.{HoldsNames}
@@ -144,12 +146,12 @@ held_there content pushes k None none = tt
 held_there content pushes k (Some s) (p, small, is, at, push, clean) = push.names
 
 -- the pushes of a node that is up
-pushes_of : (content : FileMap) (slots : List (Option SessionText)) (live : Option Slots) → IsLive content slots true live → (pushes : Slots) × (live ≡ Some pushes) × HoldsSlots content slots pushes
+pub pushes_of : (content : FileMap) (slots : List (Option SessionText)) (live : Option Slots) → IsLive content slots true live → (pushes : Slots) × (live ≡ Some pushes) × HoldsSlots content slots pushes
 pushes_of content slots None never = absurd never
 pushes_of content slots (Some pushes) holds = (pushes, refl, holds)
 
 -- what is held stays so where nothing changes
-held_still : (old new : FileMap) (slots after : List (Option SessionText)) (was_up is_up : Bool) (n : SharedNode) → new ≡ old → after ≡ slots → is_up ≡ was_up → HoldsShared old slots was_up n → HoldsShared new after is_up n
+pub held_still : (old new : FileMap) (slots after : List (Option SessionText)) (was_up is_up : Bool) (n : SharedNode) → new ≡ old → after ≡ slots → is_up ≡ was_up → HoldsShared old slots was_up n → HoldsShared new after is_up n
 held_still old new slots after was_up is_up n files same up held =
     subst (λ (m : FileMap). HoldsShared m after is_up n) (sym files)
     (subst (λ (xs : List (Option SessionText)). HoldsShared old xs is_up n) (sym same)
@@ -219,21 +221,22 @@ stepped_answers old new slots after k was_up is_up result steps unchanged early 
         by_result old new slots after n open_now.0 k is_up held open_now.1 open_now.2 bad result tellable written up steps unchanged early refused
 
 -- A node that is down answers so, and stays as it is.
+module _ (call : SharedCall) (Shows : Answer → Option Message → Type 0) (never : call ≢ Open) (told : Shows (Declined 112) None) where
+  pub down_answers : (old new : FileMap) (slots after : List (Option SessionText)) (was_up is_up : Bool) → new ≡ old → after ≡ slots → is_up ≡ was_up → was_up ≡ false → AnswersShared call Shows old new slots after was_up is_up
+  down_answers old new slots after was_up is_up files same up was = record { each = λ n held. by n held }
+    where
+      none_open : (live : Option Slots) → IsLive old slots false live → live ≡ None
+      none_open None h = refl
+      none_open (Some pushes) h = absurd h
+
+      by : (n : SharedNode) → HoldsShared old slots was_up n → (m : SharedNode) × (a : Answer) × (sends : Option Message) × HoldsShared new after is_up m × Shows a sends
+          × (IsSound git n.repository → IsBare git n.repository → SharedAnswers git git_rules n call a m sends)
+      by n held =
+          let down : HoldsShared old slots false n = subst (λ (b : Bool). HoldsShared old slots b n) was held in
+          (n, Declined 112, None, held_still old new slots after was_up is_up n files same up held, told, λ sound bare. SharedAnswers.down (none_open n.live down.live) never refl refl refl)
+
 pub stepped_down : (old new : FileMap) (slots after : List (Option SessionText)) (k : ℕ) (was_up is_up : Bool) (result : Result Stepped SharedFault)
     → new ≡ old → after ≡ slots → is_up ≡ was_up → was_up ≡ false → result ≡ Err (Node Down) → AnswersShared (StepOf k) (SteppedAs result) old new slots after was_up is_up
-stepped_down old new slots after k was_up is_up result files same up was is = record { each = λ n held. by n held }
-  where
-    none_open : (live : Option Slots) → IsLive old slots false live → live ≡ None
-    none_open None h = refl
-    none_open (Some pushes) never = absurd never
-
-    by : (n : SharedNode) → HoldsShared old slots was_up n → Leads n k new after is_up (SteppedAs result)
-    by n held =
-        let down : HoldsShared old slots false n = subst (λ (b : Bool). HoldsShared old slots b n) was held in (
-          n,
-          Declined 112,
-          None,
-          held_still old new slots after was_up is_up n files same up held,
-          subst (λ (r : Result Stepped SharedFault). SteppedAs r (Declined 112) None) (sym is) (record { answer = refl; sent = refl }),
-          λ sound bare. SharedAnswers.down (none_open n.live down.live) (λ never. cc never) refl refl refl,
-        )
+stepped_down old new slots after k was_up is_up result files same up was is =
+    down_answers (StepOf k) (SteppedAs result) (λ never. cc never) (subst (λ (r : Result Stepped SharedFault). SteppedAs r (Declined 112) None) (sym is) (record { answer = refl; sent = refl }))
+    old new slots after was_up is_up files same up was

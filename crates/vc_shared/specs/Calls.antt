@@ -1,12 +1,12 @@
 -- What a call of the shared node says: the machine's node that is held before it leads to one that is held after it, by the
 -- machine's answer.
-use Rattle.std.specs.Prelude.{◌≡◌, ℕ, Bool, List, Option, Some, None, Result, Ok, Err, option_map}
+use Rattle.std.specs.Prelude.{◌≡◌, ◌<◌, ℕ, Bool, List, Option, Some, None, Result, Ok, Err, option_map}
 use Rattle.vc_files.specs.FileMap.{FileMap}
 use Rattle.vc_message.specs.Machine.{IsWritten}
 use Rattle.vc_model.specs.Message.{Message}
 use Rattle.vc_model.specs.Node.{Answer}
 use Rattle.vc_model.specs.Node.Answer.{Did}
-use Rattle.vc_model.specs.Node.Reply.{MigratedAll, Passed, Sends, Updated as UpdatedOne}
+use Rattle.vc_model.specs.Node.Reply.{MigratedAll, Opened, Passed, Sends, Updated as UpdatedOne}
 use Rattle.vc_model.specs.Repository.{IsBare, IsSound}
 use Rattle.vc_model.specs.Shared.{SharedNode}
 use Rattle.vc_model.specs.SharedCall.{SharedAnswers, SharedCall}
@@ -16,6 +16,8 @@ use Rattle.vc_rules.specs.Verdicts.{machine_reason}
 use Rattle.vc_session.specs.Session.{SessionText}
 use Rattle.vc_shared.specs.Faults.{fault_answer}
 use Rattle.vc_shared.specs.Holding.{HoldsShared}
+use Rattle.vc_shared.specs.declared.accepting.Accepted.{Accepted}
+use Rattle.vc_shared.specs.declared.accepting.Accepted.TheVariants.{Reply, Slot}
 use Rattle.vc_shared.specs.declared.fault.SharedFault.{SharedFault}
 use Rattle.vc_shared.specs.declared.stepping.Stepped.{Stepped}
 use Rattle.vc_shared.specs.declared.stepping.Stepped.TheVariants.{Checked, Migrated, Updated, Finished}
@@ -39,6 +41,12 @@ SteppedAs (Ok Migrated) a sends = Quietly (Did MigratedAll) a sends
 SteppedAs (Ok (Updated name found)) a sends = Quietly (Did (UpdatedOne name.items (option_map machine_reason found))) a sends
 SteppedAs (Ok (Finished bytes)) a sends = SendsBytes bytes.items a sends
 SteppedAs (Err e) a sends = Quietly (fault_answer e) a sends
+
+-- the machine's answer to a message, as it is told
+abbrev pub AcceptedAs : Result Accepted SharedFault → Answer → Option Message → Type 0
+AcceptedAs (Ok (Reply bytes)) a sends = SendsBytes bytes.items a sends
+AcceptedAs (Ok (Slot k)) a sends = (k < 8) × Quietly (Did (Opened k)) a sends
+AcceptedAs (Err e) a sends = Quietly (fault_answer e) a sends
 
 -- Whatever node was held, some node is held after the call; and where the node was sound and bare, the answer and that node are the
 -- machine's.

@@ -1,7 +1,11 @@
+pub mod Accepting
 pub mod Calls
 pub mod Faults
 pub mod Holding
 pub mod Laws
 pub mod Opening
+pub mod Pushing
+pub mod Resolving
+pub mod Serving
 pub mod Slots
 pub mod Stepping

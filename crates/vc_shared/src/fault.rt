@@ -1,22 +1,37 @@
 // Why a call of the shared node gives no answer.
 ghost use Rattle.std.specs.Prelude.{◌≡◌};
 ghost use Rattle.vc_shared.specs.declared.fault.SharedFault.TheVariants.{Node};
-ghost use Rattle.vc_shared.specs.Faults.{is_fault, of_device, of_refs, of_session, of_store};
+ghost use Rattle.vc_shared.specs.Faults.{is_fault, of_answer, of_device, of_graph, of_pkt, of_refs, of_rev, of_session, of_source, of_store};
 
 use std::alloc::AllocError;
 use std::error::Error;
 use std::fmt;
+use vc_answer::AnswerFault;
 use vc_files::Fault;
+use vc_graph::GraphFault;
 use vc_node::NodeFault;
+use vc_object::ObjectId;
+use vc_pkt::{PktError, PktFault};
 use vc_refs::RefFault;
+use vc_rev::{Refusal, RevFault, SourceFault};
 use vc_session::SessionFault;
 use vc_store::StoreFault;
 
 /// What refuses a call of the shared node, by number, or the fault that ended it. After a fault the node is down.
 #[derive(Debug, Drop)]
 pub enum SharedFault {
+    /// 80 to 84, or 3: the bytes are no message.
+    Unread(PktFault),
+    /// 90: no ref of the node reaches this wanted id.
+    NotOurs(ObjectId),
+    /// 91: a message of this kind is none that the shared node takes.
+    Unexpected,
+    /// 110: a push is open in each of the eight slots.
+    Busy,
     /// 111: no push is open in this slot.
     NoSuchSlot,
+    /// 51 to 56: the expression has no value.
+    NoValue(Refusal),
     /// 11, 12 and 33: a file of the node is at fault; 112: a fault came before, and the node was not opened again. Or a fault.
     Node(NodeFault),
 }
@@ -24,7 +39,12 @@ pub enum SharedFault {
 impl fmt::Display for SharedFault {
     fn fmt<W: fmt::Write>(&self, f: &mut fmt::Formatter<W>) -> fmt::Result {
         match self {
+            SharedFault::Unread(fault) => fmt::Display::fmt(fault, f),
+            SharedFault::NotOurs(_) => f.write_str("90 NotOurs"),
+            SharedFault::Unexpected => f.write_str("91 Unexpected"),
+            SharedFault::Busy => f.write_str("110 Busy"),
             SharedFault::NoSuchSlot => f.write_str("111 NoSuchSlot"),
+            SharedFault::NoValue(refusal) => fmt::Display::fmt(refusal, f),
             SharedFault::Node(fault) => fmt::Display::fmt(fault, f),
         }
     }
@@ -38,8 +58,8 @@ impl SharedFault {
         ensures { result ≡ is_fault self.now }
     {
         match self {
-            SharedFault::NoSuchSlot => false,
             SharedFault::Node(fault) => fault.is_fault(),
+            _ => false,
         }
     }
 }
@@ -92,6 +112,69 @@ impl From<SessionFault> for SharedFault {
             SessionFault::Store(fault) => from_store(fault),
             SessionFault::Refs(fault) => from_refs(fault),
             SessionFault::Fault(fault) => from_device(fault),
+        }
+    }
+}
+
+// An answer tells no fault of the device here either.
+fn from_graph(fault: GraphFault) -> SharedFault
+    ensures { result ≡ of_graph fault }
+{
+    match fault {
+        GraphFault::Missing(id) => SharedFault::Node(NodeFault::Missing(id)),
+        GraphFault::Store(fault) => from_store(fault),
+    }
+}
+
+impl From<AnswerFault> for SharedFault {
+    ghost from_gives = { λ fault e. e ≡ of_answer fault };
+
+    fn from(fault: AnswerFault) -> Self {
+        match fault {
+            AnswerFault::NotOurs(id) => SharedFault::NotOurs(id),
+            // Only a pack can be incomplete, and here none is judged.
+            AnswerFault::Incomplete(id) => SharedFault::Node(NodeFault::Missing(id)),
+            AnswerFault::Refs(fault) => from_refs(fault),
+            AnswerFault::Graph(fault) => from_graph(fault),
+            AnswerFault::Fault(fault) => from_device(fault),
+        }
+    }
+}
+
+// What had to be read for an expression.
+fn from_source(fault: SourceFault) -> SharedFault
+    ensures { result ≡ of_source fault }
+{
+    match fault {
+        SourceFault::Store(fault) => SharedFault::Node(NodeFault::Store(fault)),
+        SourceFault::BadRefFile(path) => SharedFault::Node(NodeFault::Ref(RefFault::BadRefFile(
+            path,
+        ))),
+        SourceFault::HeadLoop => SharedFault::Node(NodeFault::Ref(RefFault::HeadLoop)),
+        SourceFault::BadIndex(place) => SharedFault::Node(NodeFault::BadIndex(place)),
+    }
+}
+
+impl From<RevFault> for SharedFault {
+    ghost from_gives = { λ fault e. e ≡ of_rev fault };
+
+    fn from(fault: RevFault) -> Self {
+        match fault {
+            RevFault::Refused(refusal) => SharedFault::NoValue(refusal),
+            RevFault::Missing(id) => SharedFault::Node(NodeFault::Missing(id)),
+            RevFault::NotACommit(id) => SharedFault::Node(NodeFault::NotACommit(id)),
+            RevFault::Source(fault) => from_source(fault),
+        }
+    }
+}
+
+impl From<PktError> for SharedFault {
+    ghost from_gives = { λ error e. e ≡ of_pkt error };
+
+    fn from(error: PktError) -> Self {
+        match error {
+            PktError::Refused(fault) => SharedFault::Unread(fault),
+            PktError::Memory => from_device(Fault::Memory),
         }
     }
 }

@@ -4,13 +4,20 @@
 //! the open pushes hold a node of the machine, and a call is a step of it.
 #![tactic(auto)]
 
+mod accepting;
 mod fault;
 mod laws;
 mod opening;
+mod pushing;
+mod resolving;
+mod serving;
 mod shared;
 mod stepping;
 
+pub use accepting::Accepted;
 pub use fault::SharedFault;
 pub use laws::a_step_in_a_slot_is_the_machines;
+pub use pushing::a_push_is_opened_as_the_machine_does;
+pub use resolving::the_value_of_an_expression_is_the_machines;
 pub use shared::Shared;
 pub use stepping::Stepped;

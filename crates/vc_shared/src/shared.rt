@@ -1,19 +1,34 @@
 // The shared node.
-ghost use Rattle.std.specs.Prelude.{◌≡◌, IfErr, IfOk, Some, true};
+ghost use Rattle.std.specs.Prelude.{◌≡◌, ◌⊎◌, ℕ, IfErr, IfOk, OnErr, None, Some, List, not, false, true};
 ghost use Rattle.std.specs.FinMap.{empty};
-ghost use Rattle.vc_files.specs.Failures.{Writes};
+ghost use Rattle.vc_files.specs.Failures.{Wears, Writes};
+ghost use Rattle.vc_message.specs.Machine.{IsUnread, Reads};
+ghost use Rattle.vc_model.specs.Message.{Message};
+ghost use Rattle.vc_model.specs.Question.Question.{Resolve, Unread};
 ghost use Rattle.vc_model.specs.Repository.{Repository};
+ghost use Rattle.vc_model.specs.SharedCall.SharedCall.{Accept, Asks, StepOf};
 ghost use Rattle.vc_node.specs.Blames.{BlamesOpen};
 ghost use Rattle.vc_node.specs.Clean.{KeepsClean};
 ghost use Rattle.vc_node.specs.NodeFault.{IsOfDevice as IsNodeDevice};
 ghost use Rattle.vc_node.specs.Opening.{IsOpenable};
+ghost use Rattle.vc_shared.specs.Accepting.{IsRefusedBytes, IsToWrite};
+ghost use Rattle.vc_shared.specs.Calls.{AcceptedAs, AnswersShared, SteppedAs};
+ghost use Rattle.vc_rev.specs.Grammar.{IsExpr};
+ghost use Rattle.vc_rev.specs.Views.{expr_view};
+ghost use Rattle.vc_shared.specs.Faults.{TellsDevice, fault_answer, is_fault, up_after};
 ghost use Rattle.vc_shared.specs.Holding.{HoldsShared};
+ghost use Rattle.vc_shared.specs.Resolving.{FoundAs};
+ghost use Rattle.vc_shared.specs.Slots.{slot_of};
+ghost use Rattle.vc_shared.specs.Stepping.{IsHeldThere, IsRefusedIn, MayWriteIn};
 
 use crate::opening::open_files;
+use crate::{Accepted, SharedFault, Stepped, accepting, stepping};
 use std::alloc::Global;
 use std::marker::Model;
 use vc_files::Files;
 use vc_node::NodeFault;
+use vc_object::ObjectId;
+use vc_rev::Expr;
 use vc_session::PushSession;
 
 /// The shared node over files: one bare repository, and the pushes that are open in its eight slots. Once a call has ended
@@ -72,5 +87,82 @@ impl<F: Files> Shared<F> {
             is_up: _,
         } = self;
         files
+    }
+
+    // The fault, after which the node is down if it is no refusal.
+    fn fail(&mut self, fault: SharedFault) -> SharedFault
+        ensures fault { result ≡ fault }
+        ensures files { self.new.files ≡ self.old.files }
+        ensures slots { self.new.slots ≡ self.old.slots }
+        ensures up { self.old.is_up ≡ true → self.new.is_up ≡ not (is_fault fault) }
+    {
+        if fault.is_fault() {
+            self.is_up = false;
+        }
+        fault
+    }
+
+    /// The next step of the push in this slot: the check of all its commands, the storing of what it carries, the update of
+    /// one ref, or its report, after which the slot is free. 111 where no push is open there.
+    pub fn step(&mut self, slot: u8) -> Result<Stepped, SharedFault>
+        ensures answers { F.honest → AnswersShared (StepOf slot) (SteppedAs result) (F.content self.old.files) (F.content self.new.files) self.old.slots self.new.slots self.old.is_up self.new.is_up }
+        ensures bad_file { F.honest → IfErr result (λ e. (e ≡ SharedFault.Node NodeFault.Down) ⊎ IsRefusedIn (F.content self.old.files) (slot_of self.old.slots slot) e) }
+        ensures down { self.old.is_up ≡ false → result ≡ Err (SharedFault.Node NodeFault.Down) }
+        ensures up { self.old.is_up ≡ true → self.new.is_up ≡ up_after result }
+        ensures clean { F.honest → KeepsClean (F.content self.old.files) (F.content self.new.files) }
+        ensures wear { Writes F.honest F.content F.failed F.can_fail F.left self.old.files self.new.files (TellsDevice result) }
+        ensures looks { F.honest → IsHeldThere (F.content self.old.files) (slot_of self.old.slots slot) → MayWriteIn (F.content self.old.files) (slot_of self.old.slots slot) ⊎ Wears F.failed F.can_fail F.left self.old.files self.new.files (TellsDevice result) }
+    {
+        if !self.is_up {
+            return Err(SharedFault::Node(NodeFault::Down));
+        }
+        match stepping::step(self.alloc, &mut self.files, &mut self.slots, slot) {
+            Ok(told) => Ok(told),
+            Err(fault) => Err(self.fail(fault)),
+        }
+    }
+
+    /// Takes the message that is all of the bytes: a list is answered by the refs, a want by a pack, and a push is opened in the
+    /// lowest free slot. Refused are bytes that are no message (80 to 84, or 3), a message that a clone takes (91), a want of
+    /// what no ref reaches (90), and a push where eight are open (110); nothing is changed then.
+    pub fn accept(&mut self, bytes: &[u8]) -> Result<Accepted, SharedFault>
+        ensures answers { F.honest → (m : Message) → Reads bytes.now m → AnswersShared (Accept m) (AcceptedAs result) (F.content self.old.files) (F.content self.new.files) self.old.slots self.new.slots self.old.is_up self.new.is_up }
+        ensures unread { F.honest → (n : ℕ) → IsUnread bytes.now n → AnswersShared (Asks (Unread n)) (AcceptedAs result) (F.content self.old.files) (F.content self.new.files) self.old.slots self.new.slots self.old.is_up self.new.is_up }
+        ensures bad_file { F.honest → IfErr result (λ e. (e ≡ SharedFault.Node NodeFault.Down) ⊎ IsRefusedBytes (F.content self.old.files) self.old.slots bytes.now e) }
+        ensures err { OnErr result (self.new.slots ≡ self.old.slots) }
+        ensures down { self.old.is_up ≡ false → result ≡ Err (SharedFault.Node NodeFault.Down) }
+        ensures up { self.old.is_up ≡ true → self.new.is_up ≡ up_after result }
+        ensures clean { F.honest → KeepsClean (F.content self.old.files) (F.content self.new.files) }
+        ensures wear { Writes F.honest F.content F.failed F.can_fail F.left self.old.files self.new.files (TellsDevice result) }
+        ensures looks { (m : Message) → Reads bytes.now m → IsToWrite m ⊎ Wears F.failed F.can_fail F.left self.old.files self.new.files (TellsDevice result) }
+    {
+        if !self.is_up {
+            return Err(SharedFault::Node(NodeFault::Down));
+        }
+        match accepting::accept(self.alloc, &mut self.files, &mut self.slots, bytes) {
+            Ok(accepted) => Ok(accepted),
+            Err(fault) => Err(self.fail(fault)),
+        }
+    }
+
+    /// The object that an expression names at the node: 51 to 56 where it names none.
+    pub fn resolve(&mut self, expr: &Expr<'_>) -> Result<ObjectId, SharedFault>
+        ensures answers { F.honest → (text : List ℕ) → IsExpr text (expr_view expr.now) → AnswersShared (Asks (Resolve text)) (FoundAs fault_answer result) (F.content self.old.files) (F.content self.new.files) self.old.slots self.new.slots self.old.is_up self.new.is_up }
+        ensures down { self.old.is_up ≡ false → result ≡ Err (SharedFault.Node NodeFault.Down) }
+        ensures up { self.old.is_up ≡ true → self.new.is_up ≡ up_after result }
+        ensures same { F.content self.new.files ≡ F.content self.old.files }
+        ensures slots { self.new.slots ≡ self.old.slots }
+        ensures wear { Wears F.failed F.can_fail F.left self.old.files self.new.files (TellsDevice result) }
+    {
+        if !self.is_up {
+            return Err(SharedFault::Node(NodeFault::Down));
+        }
+        match vc_repository::resolve(self.alloc, &mut self.files, expr) {
+            Ok(id) => Ok(id),
+            Err(fault) => {
+                let fault = SharedFault::from(fault);
+                Err(self.fail(fault))
+            }
+        }
     }
 }

@@ -1,6 +1,16 @@
-//! What a step of a push in a slot did, as the node tells it.
+//! A step of the push in a slot.
+ghost use Rattle.std.specs.Prelude.{◌≡◌, ◌⊎◌, ◌<◌, IfOk, IfErr, OnErr, Err, None, Some, false, length, slice_set};
+ghost use Rattle.vc_files.specs.Failures.{Wears, Writes};
+ghost use Rattle.vc_session.specs.Clean.{MakesNoneBad};
+ghost use Rattle.vc_shared.specs.Faults.{TellsDevice, is_fault};
+ghost use Rattle.vc_shared.specs.Slots.{AreTellable, AreToldInOne, slot_of};
+ghost use Rattle.vc_shared.specs.Stepping.{EndsSlotEarly, HasShortReport, IsEnd, IsHeldThere, IsRefusedIn, MayWriteIn, StepsPush, StepsSlot, Tells, left_in};
 
+use crate::SharedFault;
+use std::alloc::{AllocError, Global};
+use vc_files::Files;
 use vc_push::Reason;
+use vc_session::{PushSession, Stepped as SessionStep};
 
 /// What a step did.
 #[derive(Drop)]
@@ -13,4 +23,96 @@ pub enum Stepped {
     Updated(Vec<u8>, Option<Reason>),
     /// The slot is free, and these bytes are the report.
     Finished(Vec<u8>),
+}
+
+// The step of a session, as the node tells it: a report by its bytes.
+fn told(alloc: Global, did: SessionStep) -> Result<Stepped, AllocError>
+    requires short { HasShortReport did }
+    ensures told { IfOk result (Tells did) }
+    ensures fault { OnErr result (IsEnd did) }
+{
+    match did {
+        SessionStep::Checked(passed) => Ok(Stepped::Checked(passed)),
+        SessionStep::Migrated => Ok(Stepped::Migrated),
+        SessionStep::Updated(name, found) => Ok(Stepped::Updated(name, found)),
+        SessionStep::Finished(report) => Ok(Stepped::Finished(report.write(alloc)?)),
+    }
+}
+
+// The next step of a push.
+fn step_push<F: Files>(
+    alloc: Global,
+    files: &mut F,
+    push: &mut PushSession,
+) -> Result<Stepped, SharedFault>
+    requires tellable { AreToldInOne push.old }
+    ensures tellable { AreToldInOne push.new }
+    ensures steps { F.honest → IsHeldThere (F.content files.old) (Some push.old) → IfOk result (StepsPush (F.content files.old) (F.content files.new) push.old push.new) }
+    ensures unchanged { IfErr result (λ e. is_fault e ≡ false → push.new ≡ push.old) }
+    ensures early { F.honest → IsHeldThere (F.content files.old) (Some push.old) → OnErr result (EndsSlotEarly (F.content files.old) (F.content files.new) (Some push.old)) }
+    ensures refused { F.honest → IfErr result (IsRefusedIn (F.content files.old) (Some push.old)) }
+    ensures bad { F.honest → MakesNoneBad (F.content files.old) (F.content files.new) }
+    ensures wear { Writes F.honest F.content F.failed F.can_fail F.left files.old files.new (TellsDevice result) }
+    ensures looks { F.honest → IsHeldThere (F.content files.old) (Some push.old) → MayWriteIn (F.content files.old) (Some push.old) ⊎ Wears F.failed F.can_fail F.left files.old files.new (TellsDevice result) }
+{
+    let did = push.step(files, alloc)?;
+    Ok(told(alloc, did)?)
+}
+
+// The push in this slot is taken out of it.
+fn take(slots: &mut [Option<PushSession>; 8], slot: u8) -> Option<PushSession>
+    ensures push { result ≡ slot_of slots.old slot }
+    ensures left { slots.new ≡ slice_set slots.old slot None }
+{
+    let place = usize::from(slot);
+    if place < slots.len() {
+        slots[place].take()
+    } else {
+        None
+    }
+}
+
+// The slot has this in it.
+fn put(slots: &mut [Option<PushSession>; 8], slot: u8, push: Option<PushSession>)
+    requires { slot < length slots.old }
+    ensures { slots.new ≡ slice_set slots.old slot push }
+{
+    slots[usize::from(slot)] = push;
+}
+
+// A push that was told its report leaves its slot.
+fn left(did: &Result<Stepped, SharedFault>, push: PushSession) -> Option<PushSession>
+    ensures { result ≡ left_in did.now push }
+{
+    match did {
+        Ok(Stepped::Finished(_)) => None,
+        _ => Some(push),
+    }
+}
+
+/// The next step of the push in this slot, which is free after its last.
+pub(crate) fn step<F: Files>(
+    alloc: Global,
+    files: &mut F,
+    slots: &mut [Option<PushSession>; 8],
+    slot: u8,
+) -> Result<Stepped, SharedFault>
+    requires tellable { AreTellable slots.old }
+    ensures tellable { AreTellable slots.new }
+    ensures none { slot_of slots.old slot ≡ None → result ≡ Err SharedFault.NoSuchSlot }
+    ensures steps { F.honest → IsHeldThere (F.content files.old) (slot_of slots.old slot) → IfOk result (StepsSlot (F.content files.old) (F.content files.new) slots.old slots.new slot) }
+    ensures unchanged { IfErr result (λ e. is_fault e ≡ false → slots.new ≡ slots.old) }
+    ensures early { F.honest → IsHeldThere (F.content files.old) (slot_of slots.old slot) → OnErr result (EndsSlotEarly (F.content files.old) (F.content files.new) (slot_of slots.old slot)) }
+    ensures refused { F.honest → IfErr result (IsRefusedIn (F.content files.old) (slot_of slots.old slot)) }
+    ensures bad { F.honest → MakesNoneBad (F.content files.old) (F.content files.new) }
+    ensures wear { Writes F.honest F.content F.failed F.can_fail F.left files.old files.new (TellsDevice result) }
+    ensures looks { F.honest → IsHeldThere (F.content files.old) (slot_of slots.old slot) → MayWriteIn (F.content files.old) (slot_of slots.old slot) ⊎ Wears F.failed F.can_fail F.left files.old files.new (TellsDevice result) }
+{
+    let Some(mut push) = take(slots, slot) else {
+        return Err(SharedFault::NoSuchSlot);
+    };
+    let did = step_push(alloc, files, &mut push);
+    let left = left(&did, push);
+    put(slots, slot, left);
+    did
 }

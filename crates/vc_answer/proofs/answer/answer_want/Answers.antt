@@ -1,11 +1,9 @@
 use Rattle.std.proofs.Common.{rules, ◌≡◌, ◌++◌, ◌∙◌, ap, Contains, List, slice_get}
-use Rattle.vc_answer.proofs.AnswerLemmas.{first_not_ours, refused_answer, ours_of_both, ours_onward, sent_from, from_sent, counted_is, first_counted, head_of_first}
-use Rattle.vc_answer.specs.AnswerFault.{IsRefusedAnswer}
+use Rattle.vc_answer.proofs.AnswerLemmas.{first_not_ours, refused_answer, refused_graph, ours_of_both, ours_onward, sent_from, from_sent, counted_is, first_counted, head_of_first}
+use Rattle.vc_answer.specs.Answer.{IsOurs}
+use Rattle.vc_answer.specs.AnswerFault.{IsRefusedAnswer, from_graph}
 use Rattle.vc_answer.specs.Picked.{IsPicked}
-use Rattle.vc_graph.specs.Graph.{ReachedFrom}
-use Rattle.vc_object.specs.ObjectMap.{links_in}
 use Rattle.vc_object.specs.declared.id.ObjectId.{ObjectId as Id}
-use Rattle.vc_store.specs.Store.{objects}
 use Rattle.vc_answer.proofs.answer.answer_want.Goals as goal
 
 pub returns-in-Some-clause-refused : goal.returns-in-Some-clause-refused
@@ -25,8 +23,8 @@ returns-in_err-objects-clause-refused g c honest =
     let picked : IsPicked (Contains ours) c.args.want.now.haves.items counted = rw (c.deref-3.ensures.value, c.deref-4.ensures.value) at c.in_ok-counted.ensures in
     let blames = rw (c.deref-5.ensures.value, c.deref-6.ensures.value, c.in_ok-ours.ensures.same) at (c.in_err-objects.ensures.refused honest) in
     let met = ours_of_both content wants counted (λ id h. (all id).0 (among id h)) (λ id h. (counted_is content ours c.args.want.now.haves.items counted all picked id h).ours) in
-    let told : IsRefusedAnswer content wants c.in_err-objects.field-0.0 =
-    refused_answer (ReachedFrom (links_in (objects content)) (wants ++ counted)) content wants met c.in_err-objects.field-0.0 blames in
+    let walk = refused_graph (IsOurs content) content (wants ++ counted) met c.in_err-objects.field-0.0 blames in
+    let told : IsRefusedAnswer content wants (from_graph c.in_err-objects.field-0.0) = refused_answer (IsOurs content) content wants (λ y h. h) (from_graph c.in_err-objects.field-0.0) walk in
     search (rules, told)
 
 pub returns-clause-objects : goal.returns-clause-objects

@@ -1,18 +1,10 @@
 use Rattle.std.proofs.Common.{rules, ◌++◌}
-use Rattle.vc_answer.proofs.AnswerLemmas.{refused_graph, refused_read, closed_there}
-use Rattle.vc_answer.specs.AnswerFault.{IsRefusedWalk, from_graph, from_store}
+use Rattle.vc_answer.proofs.AnswerLemmas.{met_read, closed_there}
 use Rattle.vc_graph.specs.Graph.{ReachedFrom}
+use Rattle.vc_graph.specs.GraphFault.{IsMet}
 use Rattle.vc_object.specs.ObjectMap.{links_in}
-use Rattle.vc_store.specs.Store.{objects}
+use Rattle.vc_store.specs.Store.{objects, IsDamaged}
 use Rattle.vc_answer.proofs.reading.sent_objects.Goals as goal
-
-pub returns-in_err-ids-clause-refused : goal.returns-in_err-ids-clause-refused
-returns-in_err-ids-clause-refused g c honest =
-    let content = g.F.Files.content c.args.files.now in
-    let roots = c.args.wants.now ++ c.args.counted.now in
-    let told : IsRefusedWalk (ReachedFrom (links_in (objects content)) roots) content (from_graph c.in_err-ids.field-0.0) =
-    refused_graph (ReachedFrom (links_in (objects content)) roots) content roots (λ y h. h) c.in_err-ids.field-0.0 (c.in_err-ids.ensures.refused honest) in
-    search (rules, told)
 
 pub returns-in_err-sent-clause-refused : goal.returns-in_err-sent-clause-refused
 returns-in_err-sent-clause-refused g c honest =
@@ -22,9 +14,9 @@ returns-in_err-sent-clause-refused g c honest =
     let reached = c.in_ok-ids.ensures.reached honest in
     let there = closed_there content c.args.wants.now c.args.counted.now ids (c.in_ok-ids.ensures.closed honest) (λ id h. ((reached id).0 h).0) in
     let blames = rw (c.deref.ensures.value, c.in_ok-ids.ensures.same) at (c.in_err-sent.ensures.refused honest) in
-    let told : IsRefusedWalk (ReachedFrom (links_in (objects content)) roots) content (from_store c.in_err-sent.field-0.0) =
-    refused_read (ReachedFrom (links_in (objects content)) roots) content ids there c.in_err-sent.field-0.0 blames in
-    search (rules, told)
+    let met : IsMet (ReachedFrom (links_in (objects content)) roots) (IsDamaged content) c.in_err-sent.field-0.0 =
+    met_read (ReachedFrom (links_in (objects content)) roots) content ids there c.in_err-sent.field-0.0 blames in
+    search (rules, met)
 
 pub returns-clause-sent : goal.returns-clause-sent
 returns-clause-sent g c honest id o =

@@ -2,12 +2,12 @@ use Rattle.std.proofs.Common.{ap, subst}
 use Rattle.std.specs.Prelude.{◌↔◌, Contains}
 use Rattle.vc_files.specs.FileMap.{FileMap}
 use Rattle.vc_object.specs.declared.id.ObjectId.{ObjectId}
+use Rattle.vc_repository.specs.Resolving.{over}
 use Rattle.vc_repository.specs.State.{state}
 use Rattle.vc_rev.specs.Selection.{IsSelectedBy, IsToldOfSet, IsWalked}
 use Rattle.vc_rev.specs.SetViews.{terms_view}
 use Rattle.vc_store.specs.Store.{objects, IsDamaged}
 use Rattle.vc_repository.specs.State.{IsCause}
-use Rattle.vc_commands.specs.Revisions.{over}
 use Rattle.vc_commands.proofs.repository.select.Goals as goal
 
 pub returns-in-Ok-resolve_set-clause-selected : goal.returns-in-Ok-resolve_set-clause-selected

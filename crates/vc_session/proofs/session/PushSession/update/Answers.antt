@@ -111,3 +111,6 @@ returns-clause-looks g c = λ honest.
     either (c.in_ok-found.ensures.looks honest (may_at t.commands t.verdicts k (command_of command) may here there))
     (may_set_next t.verdicts k here first t.commands (command_of command) there content c.args.self.now (ap (λ (s : SessionText). s.verdicts) (sym c.self.view_is)) (ap (λ (s : SessionText). s.commands) (sym c.self.view_is)))
     (λ w. wears_told w (λ never. absurd (cc never)))
+
+pub returns-clause-session : goal.returns-clause-session
+returns-clause-session g c = invariant_of-self g c

@@ -1,0 +1,92 @@
+//! Rows about messages that come one behind another from a reader.
+
+use crate::spelling::{push_bytes, spelled};
+use std::alloc::{AllocError, Global};
+use std::fmt::Write;
+use std::io::{self, ErrorKind, Read};
+use vc_message::{IncomingFault, read_message};
+
+// A reader that gives one byte at a time, after a read that is interrupted.
+#[derive(Drop)]
+struct Dripping<'a> {
+    rest: &'a [u8],
+    is_ready: bool,
+}
+
+impl<'a> Read for Dripping<'a> {
+    fn read(&mut self, buffer: &mut [u8]) -> io::Result<usize> {
+        self.is_ready = !self.is_ready;
+        if self.is_ready {
+            return Err(io::Error::from(ErrorKind::Interrupted));
+        }
+        let most = buffer.len().min(1);
+        self.rest.read(&mut buffer[..most])
+    }
+}
+
+// A reader that fails.
+#[derive(Drop)]
+struct Failing;
+
+impl Read for Failing {
+    fn read(&mut self, _: &mut [u8]) -> io::Result<usize> {
+        Err(io::Error::from(ErrorKind::ConnectionReset))
+    }
+}
+
+// The messages that the reader gives, `|` behind each, and why no more come.
+fn told<R: Read>(alloc: Global, reader: &mut R, most: usize) -> Result<String, AllocError> {
+    let mut out = String::new(alloc);
+    for _ in 0..=most {
+        match read_message(alloc, reader) {
+            Ok(Some(bytes)) => {
+                push_bytes(&mut out, &bytes, " ")?;
+                out.push_str(" | ")?;
+            }
+            Ok(None) => {
+                out.push_str("end")?;
+                return Ok(out);
+            }
+            Err(IncomingFault::Memory) => return Err(AllocError),
+            Err(fault) => {
+                write!(out, "{fault}")?;
+                return Ok(out);
+            }
+        }
+    }
+    Ok(out)
+}
+
+/// The messages of a reader that gives the bytes at once; and where one that cuts them at some place, or gives them one by one,
+/// gives others, these too.
+pub fn take(out: &mut String, alloc: Global, text: &str) -> Result<(), AllocError> {
+    let bytes = spelled(alloc, text)?;
+    let mut whole_reader = bytes.as_slice();
+    let whole = told(alloc, &mut whole_reader, bytes.len())?;
+    out.push_str(whole.as_str())?;
+    let mut dripping = Dripping {
+        rest: &bytes,
+        is_ready: false,
+    };
+    let other = told(alloc, &mut dripping, bytes.len())?;
+    if other.as_str() != whole.as_str() {
+        write!(out, ", but byte by byte {other}")?;
+    }
+    for place in 0..bytes.len() {
+        let front = &bytes[..place];
+        let mut reader = front.chain(&bytes[place..]);
+        let other = told(alloc, &mut reader, bytes.len())?;
+        if other.as_str() != whole.as_str() {
+            write!(out, ", but cut at {place} {other}")?;
+        }
+    }
+    Ok(())
+}
+
+/// The messages of a reader that fails behind the bytes.
+pub fn broken(out: &mut String, alloc: Global, text: &str) -> Result<(), AllocError> {
+    let bytes = spelled(alloc, text)?;
+    let mut reader = bytes.as_slice().chain(Failing);
+    let told = told(alloc, &mut reader, bytes.len())?;
+    out.push_str(told.as_str())
+}

@@ -1,0 +1,9 @@
+pub mod MovingDecisions
+pub mod MovingFronts
+pub mod MovingLemmas
+pub mod MovingLoops
+pub mod MovingPaths
+pub mod MovingRules
+pub mod ReceivingLemmas
+pub mod SendingLaws
+pub mod SendingLemmas

@@ -1,0 +1,158 @@
+-- Refs move one after another: what is done so far, and that each front of it is one of all the moves.
+use Rattle.std.proofs.Common.{arith, ◌≡◌, inl, inr, ℕ, Bool, true, false, cond, ◌+◌, codes, List, [], ◌∷◌, ◌++◌, length, take, refl, sym, ap, ◌∙◌, subst}
+use Rattle.std.specs.Prelude.{◌≢◌, option_map}
+use Rattle.std.specs.FinMap.{get, insert}
+use Rattle.std.proofs.lemmas.List.{length-append}
+use Rattle.vc_files.specs.FileMap.{FileMap, SameOutside}
+use Rattle.vc_format.specs.Git.{id_of_bytes}
+use Rattle.vc_model.specs.Clone.{Moves}
+use Rattle.vc_model.specs.Object.{Id, Objects, stored}
+use Rattle.vc_model.specs.Refs.{RefName, Refs}
+use Rattle.vc_model.specs.Repository.{Change, Repository, changed, changed_all}
+use Rattle.vc_model.specs.Repository.Change.{SetRefs}
+use Rattle.vc_object.specs.declared.id.ObjectId.{ObjectId}
+use Rattle.vc_refs.specs.RefMap.{RefMap}
+use Rattle.vc_refs.specs.Refs.{refs}
+use Rattle.vc_rules.proofs.RefLemmas.{set_rel}
+use Rattle.vc_rules.proofs.SoundLemmas.{objects_sound}
+use Rattle.vc_rules.specs.Git.{git}
+use Rattle.vc_rules.specs.OpenPushes.{HoldsContent}
+use Rattle.vc_session.proofs.FrameLemmas.{objects-same}
+use Rattle.vc_store.specs.Store.{object_path, objects}
+use Rattle.vc_exchange.specs.Moving.{AreFrontMoved, AreMoved, IsMove, MayMove, MovesBy, MovesSome, Told, machine_refs, rule_of}
+use Rattle.vc_exchange.specs.declared.moving.Followed.{Followed}
+use Rattle.vc_exchange.proofs.MovingDecisions.{Decided}
+use Rattle.vc_exchange.proofs.MovingRules.{decided_move, may_moves, moves_may}
+
+abbrev Rule : Type 1
+Rule = Refs → RefName → Id → RefName → Type 0
+
+-- ---- changes in order
+changed_append : (cs ds : List Change) (r : Repository) → changed_all (cs ++ ds) r ≡ changed_all ds (changed_all cs r)
+changed_append [] ds r = refl
+changed_append (c ∷ cs) ds r = changed_append cs ds (changed c r)
+
+moves_keep : (may : Rule) (rs : List (RefName × Id)) (r : Repository) (cs : List Change) → Moves may r.refs rs cs → (changed_all cs r).objects ≡ r.objects
+moves_keep may [] r cs e = ap (λ (c : List Change). (changed_all c r).objects) e
+moves_keep may (q ∷ qs) r cs (inl (t, more, m, e, rest)) = ap (λ (c : List Change). (changed_all c r).objects) e ∙ moves_keep may qs (changed (SetRefs ((t, q.1) ∷ [])) r) more rest
+moves_keep may (q ∷ qs) r cs (inr (none, rest)) = moves_keep may qs r cs rest
+
+moves_append : (may : Rule) (rs : List (RefName × Id)) (r : Repository) (cs : List Change) (qs : List (RefName × Id)) (ds : List Change)
+    → Moves may r.refs rs cs → Moves may (changed_all cs r).refs qs ds → Moves may r.refs (rs ++ qs) (cs ++ ds)
+moves_append may [] r cs qs ds e second = subst (λ (c : List Change). Moves may (changed_all c r).refs qs ds → Moves may r.refs qs (c ++ ds)) (sym e) (λ m. m) second
+moves_append may (x ∷ xs) r cs qs ds (inl (t, more, m, e, rest)) second =
+    let later : Moves may (changed_all more (changed (SetRefs ((t, x.1) ∷ [])) r)).refs qs ds = subst (λ (c : List Change). Moves may (changed_all c r).refs qs ds) e second in
+    inl (t, more ++ ds, m, ap (λ (c : List Change). c ++ ds) e, moves_append may xs (changed (SetRefs ((t, x.1) ∷ [])) r) more qs ds rest later)
+moves_append may (x ∷ xs) r cs qs ds (inr (none, rest)) second = inr (none, moves_append may xs r cs qs ds rest second)
+
+-- where each move is decided, there are all of them
+all_moves : (may : Rule) → ((rs : Refs) (n : RefName) (x : Id) → Decided ((t : RefName) × may rs n x t)) → (qs : List (RefName × Id)) (rs : Refs) → (cs : List Change) × Moves may rs qs cs
+all_moves may decide [] rs = ([], refl)
+all_moves may decide (q ∷ qs) rs = elim (decide rs q.0 q.1) as (λ _. (cs : List Change) × Moves may rs (q ∷ qs) cs) [
+  | inl (t, m) ↦ let rest = all_moves may decide qs (insert rs t q.1) in (SetRefs ((t, q.1) ∷ []) ∷ rest.0, inl (t, rest.0, m, refl, rest.1))
+  | inr none ↦ let rest = all_moves may decide qs rs in (rest.0, inr (none, rest.1))
+]
+
+take_front : (cs ds : List Change) → take (length cs) (cs ++ ds) ≡ cs
+take_front [] ds = take_none ds
+  where
+    take_none : (ds : List Change) → take 0 ds ≡ []
+    take_none [] = refl
+    take_none (d ∷ ds) = refl
+take_front (c ∷ cs) ds = ap (λ (l : List Change). c ∷ l) (take_front cs ds)
+
+machine_append : (a b : List Told) → machine_refs (a ++ b) ≡ machine_refs a ++ machine_refs b
+machine_append [] b = refl
+machine_append (t ∷ a) b = ap (λ l. (t.0, t.1.0) ∷ l) (machine_append a b)
+
+-- ---- over files
+objects_kept : (old new : FileMap) → SameOutside (codes "refs/") old new → (id : ObjectId) → objects new id ≡ objects old id
+objects_kept old new outside id = objects-same old new id (outside.at (object_path id.0) refl)
+
+module _ (followed : Followed) where
+  module _ (content : FileMap) (r : Repository) (p : HoldsContent content r) where
+    -- one ref
+    pub one_moved : (new : FileMap) → SameOutside (codes "refs/") content new → (name : List ℕ) (id : ObjectId) (moved : Bool) → IsMove followed content new name id moved → AreMoved followed ((name, id) ∷ []) r new (cond moved 1 0)
+    one_moved new outside name id true (to, may, set) =
+        let m = may_moves (objects content) r.objects p.objects_are (objects_sound content) (refs content) r.refs p.refs_are followed name id to may in
+        record {
+          changes = SetRefs ((to, id.0) ∷ []) ∷ [];
+          moves = inl (to, [], m, refl, refl);
+          content = record {
+            objects_are = λ x. objects_kept content new outside (id_of_bytes x) ∙ p.objects_are x;
+            refs_are = λ n. ap (λ (k : RefMap). k n) set ∙ set_rel (refs content) r.refs p.refs_are to id n;
+          };
+          counted = refl;
+        }
+    one_moved new outside name id false (none, same) = record {
+      changes = [];
+      moves = inr ((λ h. none h.0 (moves_may (objects content) r.objects p.objects_are (objects_sound content) (refs content) r.refs p.refs_are followed name id.0 h.0 h.1)), refl);
+      content = subst (λ (m : FileMap). HoldsContent m r) (sym same) p;
+      counted = refl;
+    }
+
+    pub none_moved : AreMoved followed [] r content 0
+    none_moved = record { changes = []; moves = refl; content = p; counted = refl }
+
+  -- those before, and more
+  pub more_moved : (front more : List Told) (r : Repository) (mid new : FileMap) (n k : ℕ) (before : AreMoved followed front r mid n) → AreMoved followed more (changed_all before.changes r) new k → AreMoved followed (front ++ more) r new (n + k)
+  more_moved front more r mid new n k before then =
+      let may = rule_of followed git (stored r.objects) in
+      let kept = moves_keep may (machine_refs front) r before.changes before.moves in
+      let later : Moves may (changed_all before.changes r).refs (machine_refs more) then.changes =
+      subst (λ (s : Objects). Moves (rule_of followed git (stored s)) (changed_all before.changes r).refs (machine_refs more) then.changes) kept then.moves in
+      record {
+        changes = before.changes ++ then.changes;
+        moves = subst (λ (l : List (RefName × Id)). Moves may r.refs l (before.changes ++ then.changes)) (sym (machine_append front more))
+            (moves_append may (machine_refs front) r before.changes (machine_refs more) then.changes before.moves later);
+        content = subst (HoldsContent new) (sym (changed_append before.changes then.changes r)) then.content;
+        counted = omega (arith, before.counted, then.counted, length-append before.changes then.changes);
+      }
+
+  -- what is left to move
+  rest_moves : (content : FileMap) (r : Repository) → HoldsContent content r → (rs : Refs) (qs : List (RefName × Id)) → (cs : List Change) × Moves (rule_of followed git (stored r.objects)) rs qs cs
+  rest_moves content r p rs qs =
+      all_moves (rule_of followed git (stored r.objects)) (λ refs n x. decided_move (objects content) r.objects p.objects_are (objects_sound content) (λ q. option_map id_of_bytes (get refs q)) refs (λ q. refl) followed n x) qs rs
+
+  -- a front of what is told is a front of all the moves
+  module _ (front more : List Told) (content : FileMap) (r : Repository) (p : HoldsContent content r) (now : FileMap) (n : ℕ) (before : AreMoved followed front r now n) where
+    abbrev rest : (cs : List Change) × Moves (rule_of followed git (stored r.objects)) (changed_all before.changes r).refs (machine_refs more) cs
+    rest = rest_moves content r p (changed_all before.changes r).refs (machine_refs more)
+
+    whole : (ds : List Change) → Moves (rule_of followed git (stored r.objects)) (changed_all before.changes r).refs (machine_refs more) ds → MovesBy followed r (front ++ more) (before.changes ++ ds)
+    whole ds m = subst (λ (l : List (RefName × Id)). Moves (rule_of followed git (stored r.objects)) r.refs l (before.changes ++ ds)) (sym (machine_append front more))
+        (moves_append (rule_of followed git (stored r.objects)) (machine_refs front) r before.changes (machine_refs more) ds before.moves m)
+
+    pub front_moved : AreFrontMoved followed (front ++ more) r now
+    front_moved = record {
+      changes = before.changes ++ rest.0;
+      done = length before.changes;
+      moves = whole rest.0 rest.1;
+      content = subst (λ (cs : List Change). HoldsContent now (changed_all cs r)) (sym (take_front before.changes rest.0)) before.content;
+    }
+
+    -- where some moved
+    pub some_moved : n ≢ 0 → MovesSome followed (front ++ more) r
+    some_moved moved = (before.changes ++ rest.0, whole rest.0 rest.1, λ none. moved (before.counted ∙ empty before.changes rest.0 none))
+      where
+        empty : (cs ds : List Change) → cs ++ ds ≡ [] → length cs ≡ 0
+        empty [] ds e = refl
+        empty (c ∷ cs) ds e = absurd (cc e)
+
+  -- where the next one may move
+  pub next_moves : (front more : List Told) (name : List ℕ) (id : ObjectId) (content : FileMap) (r : Repository) (p : HoldsContent content r) (now : FileMap) (n : ℕ) (before : AreMoved followed front r now n) (to : List ℕ)
+      → MayMove followed now name id to → MovesSome followed (front ++ (name, id) ∷ more) r
+  next_moves front more name id content r p now n before to may =
+      let rule = rule_of followed git (stored r.objects) in
+      let after = changed_all before.changes r in
+      let kept = moves_keep rule (machine_refs front) r before.changes before.moves in
+      let q = before.content in
+      let moves : rule_of followed git (stored after.objects) after.refs name id.0 to = may_moves (objects now) after.objects q.objects_are (objects_sound now) (refs now) after.refs q.refs_are followed name id to may in
+      let next : rule after.refs name id.0 to = subst (λ (s : Objects). rule_of followed git (stored s) after.refs name id.0 to) kept moves in
+      let later = rest_moves content r p (insert after.refs to id.0) (machine_refs more) in
+      let ds = SetRefs ((to, id.0) ∷ []) ∷ later.0 in
+      (before.changes ++ ds, whole front ((name, id) ∷ more) content r p now n before ds (inl (to, later.0, next, refl, later.1)), some before.changes later.0 (SetRefs ((to, id.0) ∷ [])))
+    where
+      some : (cs ds : List Change) (c : Change) → cs ++ c ∷ ds ≢ []
+      some [] ds c e = cc e
+      some (d ∷ cs) ds c e = cc e

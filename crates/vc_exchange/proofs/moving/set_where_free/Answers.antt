@@ -1,0 +1,31 @@
+use Rattle.std.proofs.Common.{inl, inr, sym, subst, Bool, Result}
+use Rattle.std.specs.Prelude.{IfOk, IsErrOf}
+use Rattle.vc_files.specs.declared.faults.Fault.TheVariants.{Device}
+use Rattle.vc_refs.specs.declared.faults.RefFault.{RefFault}
+use Rattle.vc_refs.specs.declared.faults.RefFault.TheVariants.{Fault}
+use Rattle.vc_session.proofs.CleanLemmas.{bad_set}
+use Rattle.vc_session.proofs.SessionLemmas.{wears_told}
+use Rattle.vc_exchange.specs.Moving.{IsSetWhereFree}
+use Rattle.vc_exchange.proofs.MovingLemmas.{device_meant, free_among, passed_set}
+use Rattle.vc_exchange.proofs.moving.set_where_free.Goals as goal
+
+pub returns-in-Ok-clause-set : goal.returns-in-Ok-clause-set
+returns-in-Ok-clause-set g c = λ honest. (free_among (g.F.Files.content c.args.files.now) c.args.to.now (c.in-Ok.ensures.allowed honest).free, c.in-Ok.ensures.set honest)
+
+pub returns-in-Ok-clause-bad : goal.returns-in-Ok-clause-bad
+returns-in-Ok-clause-bad g c = λ honest. bad_set _ _ c.args.to.now c.args.id (c.in-Ok.ensures.rest honest) (c.in-Ok.ensures.set honest)
+
+pub returns-in-Ok-clause-looks : goal.returns-in-Ok-clause-looks
+returns-in-Ok-clause-looks g c = λ honest. inl (free_among (g.F.Files.content c.args.files.now) c.args.to.now (c.in-Ok.ensures.allowed honest).free)
+
+pub returns-in-Err-clause-set : goal.returns-in-Err-clause-set
+returns-in-Err-clause-set g c = λ honest.
+    let content = g.F.Files.content in
+    subst (λ (r : Result Bool RefFault). IfOk r (IsSetWhereFree (content c.args.files.now) (content c.set.new.files) c.args.to.now c.args.id)) (sym c.passed_over.ensures)
+    (passed_set (content c.args.files.now) c.args.to.now c.args.current (content c.set.new.files) c.args.id c.in-Err.fault (c.in-Err.ensures.err honest) (c.in-Err.ensures.refused honest))
+
+pub returns-in-Err-clause-looks : goal.returns-in-Err-clause-looks
+returns-in-Err-clause-looks g c = λ honest. elim (c.in-Err.ensures.looks honest) [
+  | inl may ↦ inl (free_among (g.F.Files.content c.args.files.now) c.args.to.now may.1.free)
+  | inr wears ↦ inr (wears_told wears (λ told. device_meant (Unit {0}) c.in-Err.fault (subst (λ (r : Result Bool RefFault). IsErrOf r (Fault Device)) c.passed_over.ensures told)))
+]

@@ -1,0 +1,46 @@
+-- What an exchange is refused for.
+use Rattle.std.specs.Prelude.{⊤, string_bytes}
+use Rattle.vc_files.specs.FileMap.{FileMap}
+use Rattle.vc_refs.specs.Refs.{IsBadRef}
+use Rattle.vc_refs.specs.declared.faults.RefFault.{RefFault}
+use Rattle.vc_refs.specs.declared.faults.RefFault.TheVariants as of_refs
+use Rattle.vc_store.specs.Store.{IsDamaged}
+use Rattle.vc_store.specs.declared.faults.StoreFault.{StoreFault}
+use Rattle.vc_store.specs.declared.faults.StoreFault.TheVariants as of_store
+use Rattle.vc_exchange.specs.declared.fault.ExchangeFault.{ExchangeFault}
+use Rattle.vc_exchange.specs.declared.fault.ExchangeFault.TheVariants.{Store, Refs, Fault}
+
+-- what the layers below refuse, told here; a fault is told as one
+abbrev pub from_store : StoreFault → ExchangeFault
+from_store (of_store.BadObject fault) = Store (of_store.BadObject fault)
+from_store (of_store.Absent id) = Store (of_store.Absent id)
+from_store (of_store.Damaged id) = Store (of_store.Damaged id)
+from_store (of_store.Fault fault) = Fault fault
+
+abbrev pub from_refs : RefFault → ExchangeFault
+from_refs (of_refs.Stale current) = Refs (of_refs.Stale current)
+from_refs (of_refs.Conflict name) = Refs (of_refs.Conflict name)
+from_refs (of_refs.BadRefFile path) = Refs (of_refs.BadRefFile path)
+from_refs of_refs.HeadLoop = Refs of_refs.HeadLoop
+from_refs (of_refs.Fault fault) = Fault fault
+
+-- the file of an object is damaged
+abbrev pub BlamesObjects : FileMap → StoreFault → Type 0
+BlamesObjects content (of_store.BadObject fault) = ⊥
+BlamesObjects content (of_store.Absent id) = ⊥
+BlamesObjects content (of_store.Damaged id) = IsDamaged content id
+BlamesObjects content (of_store.Fault fault) = ⊤
+
+-- a file in `refs/` is none of a ref
+abbrev pub BlamesRefs : FileMap → RefFault → Type 0
+BlamesRefs content (of_refs.Stale current) = ⊥
+BlamesRefs content (of_refs.Conflict name) = ⊥
+BlamesRefs content (of_refs.BadRefFile path) = IsBadRef content (string_bytes path)
+BlamesRefs content of_refs.HeadLoop = ⊥
+BlamesRefs content (of_refs.Fault fault) = ⊤
+
+-- a file of the clone is bad, or memory or the device is at fault
+abbrev pub BlamesFiles : FileMap → ExchangeFault → Type 0
+BlamesFiles content (Store fault) = BlamesObjects content fault
+BlamesFiles content (Refs fault) = BlamesRefs content fault
+BlamesFiles content (Fault fault) = ⊤

@@ -1,0 +1,129 @@
+-- How the refs of a clone follow those of the shared repository (the refspecs `refs/heads/*:refs/remotes/origin/*` and
+-- `refs/tags/*:refs/tags/*` of git-fetch).
+-- own: no ref is forced, each name is legal, and nothing is followed to an id of which not all is there.
+use Rattle.std.specs.Prelude.{◌≡◌, ◌≢◌, ℕ, Bool, true, false, ◌&&◌, not, List, [], map, take, length, Option, Some, None, is_some, Result, Ok, Err, Vec, if◌then◌else◌}
+use Rattle.std.specs.Global.{Global}
+use Rattle.vc_base.specs.History.{IsAncestor}
+use Rattle.vc_files.specs.FileMap.{FileMap}
+use Rattle.vc_format.specs.Git.{git_is_legal}
+use Rattle.vc_graph.specs.Graph.{IsClosed}
+use Rattle.vc_model.specs.Clone.{MovesAny, MovesBranch, Moves}
+use Rattle.vc_model.specs.Object.{Format, Id, Lookup, stored}
+use Rattle.vc_model.specs.Refs.{RefName, Refs}
+use Rattle.vc_model.specs.Repository.{Change, Repository, changed_all}
+use Rattle.vc_object.specs.ObjectId.{id_eq}
+use Rattle.vc_object.specs.ObjectMap.{ObjectMap, links_in, parents_in}
+use Rattle.vc_object.specs.declared.id.ObjectId.{ObjectId}
+use Rattle.vc_refname.specs.RefName.{tracking_name}
+use Rattle.vc_refs.specs.RefMap.{RefMap, conflicts, with_ref}
+use Rattle.vc_refs.specs.Refs.{refs}
+use Rattle.vc_refs.specs.declared.faults.RefFault.{RefFault}
+use Rattle.vc_refs.specs.declared.faults.RefFault.TheVariants as of_refs
+use Rattle.vc_rules.specs.Git.{git}
+use Rattle.vc_rules.specs.OpenPushes.{HoldsContent}
+use Rattle.vc_session.specs.Verdict.{HasHistory, is_branch, is_tag}
+use Rattle.vc_store.specs.Store.{objects}
+use Rattle.vc_exchange.specs.declared.moving.Followed.{Followed}
+use Rattle.vc_exchange.specs.declared.moving.Followed.TheVariants.{All, Branches}
+
+-- ---- one ref
+abbrev pub has_tags : Followed → Bool
+has_tags All = true
+has_tags Branches = false
+
+-- the ref that follows one of this name: the tracking ref of a branch, and a tag itself where tags are followed
+abbrev pub follower : Followed → List ℕ → Option (List ℕ)
+follower followed name = if is_branch name then Some (tracking_name name) else (if has_tags followed && is_tag name then Some name else None)
+
+-- a ref that is absent takes any value, that of a branch any other one, and a tag stays
+abbrev pub is_new : Bool → Option ObjectId → ObjectId → Bool
+is_new branch None id = true
+is_new branch (Some current) id = branch && not (id_eq current id)
+
+-- the id descends from the value, where there is one
+abbrev pub Descends : ObjectMap → Option ObjectId → ObjectId → Type 0
+Descends objects None id = Unit {0}
+Descends objects (Some current) id = IsAncestor (parents_in objects) current id
+
+-- a ref that follows a branch, or a tag, and has this value may take the id
+pub record MayTake (objects : ObjectMap) (branch : Bool) (current : Option ObjectId) (id : ObjectId) : Type 0 where
+  pub new : is_new branch current id ≡ true
+  pub complete : IsClosed (links_in objects) id
+  pub forward : branch ≡ true → HasHistory objects id × Descends objects current id
+
+-- the ref `to` follows that of this name to the id, if its own name is free
+pub record MayFollow (followed : Followed) (objects : ObjectMap) (refs : RefMap) (name : List ℕ) (id : ObjectId) (to : List ℕ) : Type 0 where
+  pub legal : git_is_legal name ≡ true
+  pub follows : follower followed name ≡ Some to
+  pub takes : MayTake objects (is_branch name) (refs to) id
+
+abbrev pub IsFreeAmong : RefMap → List ℕ → Type 0
+IsFreeAmong refs name = (other : List ℕ) → is_some (refs other) ≡ true → conflicts other name ≡ false
+
+abbrev pub MayMove : Followed → FileMap → List ℕ → ObjectId → List ℕ → Type 0
+MayMove followed content name id to = MayFollow followed (objects content) (refs content) name id to × IsFreeAmong (refs content) to
+
+-- a ref moved, or none may and nothing is changed
+abbrev pub IsMove : Followed → FileMap → FileMap → List ℕ → ObjectId → Bool → Type 0
+IsMove followed old new name id true = (to : List ℕ) × MayMove followed old name id to × (refs new ≡ with_ref (refs old) to id)
+IsMove followed old new name id false = ((to : List ℕ) → ¬ MayMove followed old name id to) × (new ≡ old)
+
+-- ---- by steps
+-- so it is, or so it isn't
+abbrev pub IsDecided : Bool → Type 0 → Type 0
+IsDecided true P = P
+IsDecided false P = ¬ P
+
+-- the ref that may follow, with its value, or none
+abbrev pub IsFound : Followed → FileMap → List ℕ → ObjectId → Option (List ℕ × Option ObjectId) → Type 0
+IsFound followed content name id None = (to : List ℕ) → ¬ MayFollow followed (objects content) (refs content) name id to
+IsFound followed content name id (Some found) = MayFollow followed (objects content) (refs content) name id found.0
+
+-- another ref in the way is no refusal
+abbrev pub passed_over : RefFault → Result Bool RefFault
+passed_over (of_refs.Conflict other) = Ok false
+passed_over (of_refs.Stale current) = Err (of_refs.Stale current)
+passed_over (of_refs.BadRefFile path) = Err (of_refs.BadRefFile path)
+passed_over of_refs.HeadLoop = Err of_refs.HeadLoop
+passed_over (of_refs.Fault fault) = Err (of_refs.Fault fault)
+
+-- the ref is set, or another is in its way and nothing is changed
+abbrev pub IsSetWhereFree : FileMap → FileMap → List ℕ → ObjectId → Bool → Type 0
+IsSetWhereFree old new to id true = IsFreeAmong (refs old) to × (refs new ≡ with_ref (refs old) to id)
+IsSetWhereFree old new to id false = (¬ IsFreeAmong (refs old) to) × (new ≡ old)
+
+-- ---- all of them, as the machine has it
+-- a name and its id, as they are told
+abbrev pub Told : Type 0
+Told = List ℕ × ObjectId
+
+abbrev pub told_in : List (Vec ℕ Global × ObjectId) → List Told
+told_in told = map (λ r. (r.0.items, r.1)) told
+
+abbrev pub machine_refs : List Told → List (RefName × Id)
+machine_refs told = map (λ r. (r.0, r.1.0)) told
+
+abbrev pub rule_of : Followed → Format → Lookup → Refs → RefName → Id → RefName → Type 0
+rule_of All fmt at = MovesAny fmt at
+rule_of Branches fmt at = MovesBranch fmt at
+
+abbrev pub MovesBy : Followed → Repository → List Told → List Change → Type 0
+MovesBy followed r told changes = Moves (rule_of followed git (stored r.objects)) r.refs (machine_refs told) changes
+
+-- the refs of the repository follow what is told, and so many moved
+pub record AreMoved (followed : Followed) (told : List Told) (r : Repository) (new : FileMap) (moved : ℕ) : Type 0 where
+  pub changes : List Change
+  pub moves : MovesBy followed r told changes
+  pub content : HoldsContent new (changed_all changes r)
+  pub counted : moved ≡ length changes
+
+-- some first changes are done
+pub record AreFrontMoved (followed : Followed) (told : List Told) (r : Repository) (new : FileMap) : Type 0 where
+  pub changes : List Change
+  pub done : ℕ
+  pub moves : MovesBy followed r told changes
+  pub content : HoldsContent new (changed_all (take done changes) r)
+
+-- some ref moves
+abbrev pub MovesSome : Followed → List Told → Repository → Type 0
+MovesSome followed told r = (changes : List Change) × MovesBy followed r told changes × (changes ≢ [])

@@ -1,0 +1,74 @@
+//! What refuses an exchange.
+ghost use Rattle.std.specs.Prelude.{◌≡◌};
+
+use std::alloc::AllocError;
+use std::error::Error;
+use std::fmt;
+use vc_files::Fault;
+use vc_refs::RefFault;
+use vc_store::StoreFault;
+
+/// Why a clone does not do what a message asks: files of the clone are at fault, or the device or memory is.
+#[derive(Debug, Drop)]
+pub enum ExchangeFault {
+    /// 12: the file of an object is damaged.
+    Store(StoreFault),
+    /// 33: a file in `refs/` stands for no ref.
+    Refs(RefFault),
+    /// Want of memory, or a device that failed. It stands here alone, and in neither of the variants above.
+    Fault(Fault),
+}
+
+impl fmt::Display for ExchangeFault {
+    fn fmt<W: fmt::Write>(&self, f: &mut fmt::Formatter<W>) -> fmt::Result {
+        match self {
+            ExchangeFault::Store(fault) => fmt::Display::fmt(fault, f),
+            ExchangeFault::Refs(fault) => fmt::Display::fmt(fault, f),
+            ExchangeFault::Fault(fault) => fmt::Display::fmt(fault, f),
+        }
+    }
+}
+
+impl Error for ExchangeFault {}
+
+impl From<StoreFault> for ExchangeFault {
+    ghost use Rattle.vc_exchange.specs.Faults.{from_store};
+
+    ghost from_gives = { λ fault e. e ≡ from_store fault };
+
+    fn from(fault: StoreFault) -> ExchangeFault {
+        match fault {
+            StoreFault::Fault(fault) => ExchangeFault::Fault(fault),
+            StoreFault::BadObject(_) => ExchangeFault::Store(fault),
+            StoreFault::Absent(_) => ExchangeFault::Store(fault),
+            StoreFault::Damaged(_) => ExchangeFault::Store(fault),
+        }
+    }
+}
+
+impl From<RefFault> for ExchangeFault {
+    ghost use Rattle.vc_exchange.specs.Faults.{from_refs};
+
+    ghost from_gives = { λ fault e. e ≡ from_refs fault };
+
+    fn from(fault: RefFault) -> ExchangeFault {
+        match fault {
+            RefFault::Fault(fault) => ExchangeFault::Fault(fault),
+            RefFault::Stale(current) => ExchangeFault::Refs(RefFault::Stale(current)),
+            RefFault::Conflict(name) => ExchangeFault::Refs(RefFault::Conflict(name)),
+            RefFault::BadRefFile(path) => ExchangeFault::Refs(RefFault::BadRefFile(path)),
+            RefFault::HeadLoop => ExchangeFault::Refs(RefFault::HeadLoop),
+        }
+    }
+}
+
+impl From<AllocError> for ExchangeFault {
+    ghost use Rattle.vc_exchange.specs.declared.fault.ExchangeFault.TheVariants.{Fault as OfDevice};
+    ghost use Rattle.vc_files.specs.declared.faults.Fault.TheVariants.{Memory};
+
+    ghost from_gives = { λ _ e. e ≡ OfDevice Memory };
+
+    fn from(_: AllocError) -> ExchangeFault {
+        ExchangeFault::Fault(Fault::Memory)
+    }
+}

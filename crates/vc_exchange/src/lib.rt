@@ -1,0 +1,16 @@
+//! What a clone sends to the shared node, and what it makes of what comes from there: functions over the files of a clone.
+#![tactic(auto)]
+
+mod fault;
+mod item;
+mod moving;
+mod receiving;
+mod send_fault;
+mod sending;
+
+pub use fault::ExchangeFault;
+pub use item::PushItem;
+pub use moving::{Followed, move_ref, move_refs};
+pub use receiving::{receive_report, what_a_report_accepts_is_the_machines};
+pub use send_fault::SendFault;
+pub use sending::{list_message, push_message};

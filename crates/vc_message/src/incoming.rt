@@ -1,0 +1,200 @@
+//! One message from a reader, line by line, and no byte behind it.
+
+ghost use Rattle.std.specs.Prelude.{◌≡◌, ◌<◌, ◌≤◌, ◌+◌, ◌++◌, ℕ, List, Some, length, take, drop, MatchOption, MatchResult, IfOk, IfErr, IfSome, IfNone, OnOk, OnErr};
+ghost use Rattle.std.specs.Io.KnownBytes.{Consumes, IsAtEnd, Keeps};
+ghost use Rattle.vc_pkt.specs.Faults.{FaultAt};
+ghost use Rattle.vc_pkt.specs.Line.{IsLength, IsLine};
+ghost use Rattle.vc_pkt.specs.LineView.{line_text};
+ghost use Rattle.vc_pkt.specs.Message.{GivenBy, IsSpelledBy};
+ghost use Rattle.vc_model.specs.Message.{Message};
+ghost use Rattle.vc_message.specs.AnyMessage.{any_step, beginning};
+ghost use Rattle.vc_message.specs.Machine.{Reads};
+ghost use Rattle.vc_message.specs.Incoming.{Fails, IsLineOf, IsLoss, IsRest, IsWithinLine, GivesMessage, IsFaultOf, Takes, TakesMessage, TakesNothing, TakesWithinLine};
+ghost use Rattle.vc_message.specs.declared.incoming_fault.IncomingFault.TheVariants.{Failed};
+
+use crate::incoming_fault::IncomingFault;
+use crate::reader::AnyReader;
+use hex::FromHex;
+use std::alloc::Global;
+use std::io::{self, ErrorKind, Read};
+use vc_pkt::{Line, MAX_DATA, MessageReader, PktFault, Step, parse_line};
+
+/// One read into the buffer, from this place on.
+fn read_at<R: Read>(reader: &mut R, buffer: &mut [u8], at: usize) -> io::Result<usize>
+    requires { at < length buffer.old }
+    ensures front { take at buffer.new ≡ take at buffer.old }
+    ensures fits { IfOk result (λ n. at + n ≤ length buffer.new) }
+    ensures ok { IfOk result (λ n. Consumes (R.remaining reader.old) (R.remaining reader.new) (take n (drop at buffer.new))) }
+    ensures end { IfOk result (λ n. n ≡ 0 → IsAtEnd (R.remaining reader.new)) }
+    ensures err { OnErr result (Keeps (R.remaining reader.old) (R.remaining reader.new)) }
+{
+    let read = reader.read(&mut buffer[at..])?;
+    Ok(read)
+}
+
+/// Whether the read may be tried again.
+fn is_interrupted(error: &io::Error) -> bool {
+    matches!(error.kind(), ErrorKind::Interrupted)
+}
+
+/// Fills the buffer from this place on, and says up to where: its end, unless the reader comes to its own. What interrupts a read
+/// doesn't end it.
+fn fill<R: Read>(reader: &mut R, buffer: &mut [u8], at: usize) -> Result<usize, IncomingFault>
+    requires { at ≤ length buffer.old }
+    ensures within { IfOk result (λ end. (at ≤ end) × (end ≤ length buffer.new)) }
+    ensures same { OnOk result ((length buffer.new ≡ length buffer.old) × (take at buffer.new ≡ take at buffer.old)) }
+    ensures bytes { IfOk result (λ end. Consumes (R.remaining reader.old) (R.remaining reader.new) (drop at (take end buffer.new))) }
+    ensures end { IfOk result (λ end. end < length buffer.new → IsAtEnd (R.remaining reader.new)) }
+    ensures err { OnErr result ((bytes : List ℕ) × Consumes (R.remaining reader.old) (R.remaining reader.new) bytes × (at + length bytes ≤ length buffer.old)) }
+    ensures fault { IfErr result (λ fault. fault ≡ Failed) }
+{
+    let mut filled = at;
+    'reads: for _ in 0..u64::MAX {
+        if filled >= buffer.len() {
+            return Ok(filled);
+        }
+        match read_at(reader, buffer, filled) {
+            Ok(0) => return Ok(filled),
+            Ok(n) => filled += n,
+            Err(error) => {
+                if !is_interrupted(&error) {
+                    return Err(IncomingFault::Failed);
+                }
+            }
+        }
+    }
+    Err(IncomingFault::Failed)
+}
+
+/// Adds the reader's next bytes, so many, or fewer where it comes to its end.
+fn push_read<R: Read>(
+    reader: &mut R,
+    bytes: &mut Vec<u8>,
+    count: usize,
+) -> Result<(), IncomingFault>
+    requires { count ≤ 65516 }
+    ensures ok { OnOk result ((read : List ℕ) × (bytes.new.items ≡ bytes.old.items ++ read) × Consumes (R.remaining reader.old) (R.remaining reader.new) read × (length read ≤ count) × (length read < count → IsAtEnd (R.remaining reader.new))) }
+    ensures err { OnErr result ((read : List ℕ) × Consumes (R.remaining reader.old) (R.remaining reader.new) read × (length read ≤ count)) }
+    ensures fault { IfErr result IsLoss }
+{
+    let start = bytes.len();
+    bytes.resize(start + count, 0)?;
+    let end = fill(reader, bytes.as_mut_slice(), start)?;
+    bytes.truncate(end);
+    Ok(())
+}
+
+/// The number that four hex digits write.
+fn stated_length(digits: &[u8]) -> Option<usize>
+    requires { length digits.now ≡ 4 }
+    ensures { MatchOption result ((n : ℕ) → IsLength digits.now n → ⊥) (λ n. IsLength digits.now n) }
+{
+    match <[u8; 2] as FromHex>::from_hex(digits) {
+        Ok(bytes) => Some(u16::from_be_bytes(bytes) as usize),
+        Err(_) => None,
+    }
+}
+
+/// How many bytes a line has behind its first four.
+fn rest_len(front: &[u8]) -> usize
+    requires { length front.now ≤ 4 }
+    ensures { IsRest front.now result }
+{
+    if front.len() < 4 {
+        return 0;
+    }
+    let Some(length) = stated_length(front) else {
+        return 0;
+    };
+    if length < 4 {
+        return 0;
+    }
+    if length - 4 > MAX_DATA {
+        return 0;
+    }
+    length - 4
+}
+
+/// What stands behind the first bytes.
+fn behind(bytes: &Vec<u8>, start: usize) -> &[u8]
+    requires { start ≤ length bytes.now.items }
+    ensures { result.now ≡ drop start bytes.now.items }
+{
+    &bytes[start..]
+}
+
+/// Adds the reader's next line, and no byte behind it. Where no line begins with the next four bytes it adds these, and where the
+/// reader comes to its end before the line does, what there is of it.
+fn push_line<R: Read>(reader: &mut R, bytes: &mut Vec<u8>) -> Result<(), IncomingFault>
+    ensures ok { OnOk result ((read : List ℕ) × (bytes.new.items ≡ bytes.old.items ++ read) × TakesWithinLine (R.remaining reader.old) (R.remaining reader.new) read × IsLineOf (R.remaining reader.new) read) }
+    ensures err { OnErr result ((read : List ℕ) × TakesWithinLine (R.remaining reader.old) (R.remaining reader.new) read) }
+    ensures fault { IfErr result IsLoss }
+{
+    let start = bytes.len();
+    push_read(reader, bytes, 4)?;
+    let rest = rest_len(behind(bytes, start));
+    if rest == 0 {
+        return Ok(());
+    }
+    push_read(reader, bytes, rest)?;
+    Ok(())
+}
+
+/// The line that the bytes at this place are, or why they are none.
+fn line_at(bytes: &[u8], place: u64) -> Result<Line<'_>, PktFault>
+    ensures { MatchResult result (λ line. (spelled : List ℕ) × (more : List ℕ) × IsLine (line_text line) spelled × (bytes.now ≡ spelled ++ more)) (FaultAt place bytes.now) }
+{
+    match parse_line(bytes) {
+        Ok((line, _)) => Ok(line),
+        Err(fault) => Err(match fault {
+            PktFault::BadLength(_) => PktFault::BadLength(place),
+            _ => PktFault::CutMessage,
+        }),
+    }
+}
+
+/// Takes the bytes of one message that this kind of reader reads.
+fn take_message<M: MessageReader, R: Read>(
+    alloc: Global,
+    reader: &mut R,
+) -> Result<Option<Vec<u8>>, IncomingFault>
+    ensures message { IfOk result (λ taken. IfSome taken (λ bytes. Takes M.step M.start (R.remaining reader.old) (R.remaining reader.new) bytes.items × ((message : M.Text) × IsSpelledBy (GivenBy M.step M.start) message bytes.items))) }
+    ensures end { IfOk result (λ taken. IfNone taken (TakesNothing (R.remaining reader.old) (R.remaining reader.new))) }
+    ensures fault { IfErr result (Fails M.step M.start (R.remaining reader.old) (R.remaining reader.new)) }
+{
+    let mut bytes = Vec::new(alloc);
+    let mut number = 0u64;
+    let mut state = M::new(alloc);
+    'lines: loop {
+        let start = bytes.len();
+        push_line(reader, &mut bytes)?;
+        if bytes.is_empty() {
+            return Ok(None);
+        }
+        let line = line_at(behind(&bytes, start), start as u64)?;
+        match state.take(alloc, line, number)? {
+            Step::More(next) => state = next,
+            Step::Done(_) => return Ok(Some(bytes)),
+        }
+        number += 1;
+    }
+}
+
+/// The bytes of the next message, and no byte behind it is taken from the reader; none where the reader is at its end before the
+/// first byte. However the reader cuts the bytes, the answer is the same. Each line is asked for in two reads, its first four bytes
+/// and its rest, so that a reader to which a read is dear should be buffered.
+///
+/// Bytes that are no message are refused with their first fault as soon as it has come, and 83 where the reader ends before the
+/// message: what is held is no more than a message may have, and one line. What was read of a message that isn't given is lost.
+pub fn read_message<R: Read>(
+    alloc: Global,
+    reader: &mut R,
+) -> Result<Option<Vec<u8>>, IncomingFault>
+    ensures message { IfOk result (λ taken. IfSome taken (λ bytes. TakesMessage (R.remaining reader.old) (R.remaining reader.new) bytes.items)) }
+    ensures end { IfOk result (λ taken. IfNone taken (TakesNothing (R.remaining reader.old) (R.remaining reader.new))) }
+    ensures fault { IfErr result (Fails any_step beginning (R.remaining reader.old) (R.remaining reader.new)) }
+    ensures known { (m : Message) (bytes rest : List ℕ) → R.remaining reader.old ≡ Some (bytes ++ rest) → Reads bytes m → GivesMessage bytes rest (R.remaining reader.new) result }
+    ensures unread { IfErr result (IsFaultOf (R.remaining reader.old)) }
+{
+    take_message::<AnyReader, R>(alloc, reader)
+}

@@ -1,0 +1,54 @@
+use Rattle.std.proofs.Common.{refl, subst, sym}
+use Rattle.vc_fetch.specs.WantView.{want_text}
+use Rattle.vc_files.proofs.WearLemmas.{wears_writes}
+use Rattle.std.specs.Prelude.{IfErr}
+use Rattle.vc_message.specs.AnyMessage.{SpellsMessage}
+use Rattle.vc_message.specs.AnyView.{message_text}
+use Rattle.vc_message.specs.Machine.{TextOf}
+use Rattle.vc_message.specs.declared.message.Message.{Message}
+use Rattle.vc_pkt.specs.Message.{IsSpelledBy}
+use Rattle.vc_push.specs.PushView.{push_text}
+use Rattle.vc_shared.proofs.AcceptingLemmas.{advert_declined, error_declined, list_told, pack_declined, push_told, reply_wears, report_declined, slot_refused, want_told}
+use Rattle.vc_shared.proofs.PushingTexts.{reads_tellable}
+use Rattle.vc_shared.specs.Accepting.{IsRefusedMessage, WasRead}
+use Rattle.vc_shared.specs.Pushing.{IsRefusedPush}
+use Rattle.vc_shared.proofs.accepting.take.Goals as goal
+
+pub returns-in-List-clause-answers : goal.returns-in-List-clause-answers
+returns-in-List-clause-answers g c = λ honest m is.
+    list_told m (g.F.Files.content c.args.files.now) (g.F.Files.content c.list.new.files) c.args.slots.now c.args.slots.now c.replied.result c.list.result c.replied.ensures (subst (λ (x : Message). TextOf m (message_text x)) c.in-List.is is) (c.list.ensures.listed honest) (c.list.ensures.refused honest) c.list.ensures.same refl
+
+pub returns-in-List-clause-wear : goal.returns-in-List-clause-wear
+returns-in-List-clause-wear g c = wears_writes (reply_wears c.list.result c.replied.result c.replied.ensures c.list.ensures.wear) (λ honest. c.list.ensures.same)
+
+pub returns-in-Want-clause-answers : goal.returns-in-Want-clause-answers
+returns-in-Want-clause-answers g c = λ honest m is.
+    want_told m (g.F.Files.content c.args.files.now) (g.F.Files.content c.answer.new.files) c.args.slots.now c.args.slots.now c.replied-in-Want.result (want_text c.in-Want.want) c.answer.result c.replied-in-Want.ensures (subst (λ (x : Message). WasRead (message_text x)) c.in-Want.is c.requires.read) (subst (λ (x : Message). TextOf m (message_text x)) c.in-Want.is is) (c.answer.ensures.answered honest) (c.answer.ensures.refused honest) c.answer.ensures.same refl
+
+pub returns-in-Want-clause-wear : goal.returns-in-Want-clause-wear
+returns-in-Want-clause-wear g c = wears_writes (reply_wears c.answer.result c.replied-in-Want.result c.replied-in-Want.ensures c.answer.ensures.wear) (λ honest. c.answer.ensures.same)
+
+pub open_push-requires-clause-told : goal.open_push-requires-clause-told
+open_push-requires-clause-told g c = reads_tellable (push_text c.in-Push.push) c.requires.read.0 (subst (λ (x : Message). IsSpelledBy SpellsMessage (message_text x) c.requires.read.0) c.in-Push.is c.requires.read.1)
+
+pub returns-in-Push-clause-answers : goal.returns-in-Push-clause-answers
+returns-in-Push-clause-answers g c = λ honest m is.
+    push_told m (g.F.Files.content c.args.files.now) (g.F.Files.content c.open_push.new.files) c.args.slots.now c.open_push.new.slots c.opened.result (push_text c.in-Push.push) c.open_push.result c.opened.ensures (subst (λ (x : Message). TextOf m (message_text x)) c.in-Push.is is)
+    (c.open_push.ensures.opened honest) c.open_push.ensures.unchanged c.open_push.ensures.refused (c.open_push.ensures.outside honest) (c.open_push.ensures.bad honest)
+
+pub returns-in-Push-clause-refused : goal.returns-in-Push-clause-refused
+returns-in-Push-clause-refused g c = λ honest.
+    subst (λ (x : Message). IfErr c.opened.result (IsRefusedMessage (g.F.Files.content c.args.files.now) c.args.slots.now (message_text x))) (sym c.in-Push.is)
+    (slot_refused (IsRefusedPush c.args.slots.now) c.open_push.result c.opened.result c.opened.ensures c.open_push.ensures.refused)
+
+pub returns-in-Advert-clause-answers : goal.returns-in-Advert-clause-answers
+returns-in-Advert-clause-answers g c = λ honest m is. advert_declined (g.F.Files.content c.args.files.now) c.args.slots.now m _ (subst (λ (x : Message). TextOf m (message_text x)) c.in-Advert.is is)
+
+pub returns-in-Pack-clause-answers : goal.returns-in-Pack-clause-answers
+returns-in-Pack-clause-answers g c = λ honest m is. pack_declined (g.F.Files.content c.args.files.now) c.args.slots.now m _ (subst (λ (x : Message). TextOf m (message_text x)) c.in-Pack.is is)
+
+pub returns-in-Report-clause-answers : goal.returns-in-Report-clause-answers
+returns-in-Report-clause-answers g c = λ honest m is. report_declined (g.F.Files.content c.args.files.now) c.args.slots.now m _ (subst (λ (x : Message). TextOf m (message_text x)) c.in-Report.is is)
+
+pub returns-clause-answers : goal.returns-clause-answers
+returns-clause-answers g c = λ honest m is. error_declined (g.F.Files.content c.args.files.now) c.args.slots.now m _ (subst (λ (x : Message). TextOf m (message_text x)) c.in-Error.is is)

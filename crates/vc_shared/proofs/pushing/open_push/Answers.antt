@@ -1,0 +1,8 @@
+use Rattle.vc_shared.proofs.PushingLemmas.{changes_free}
+use Rattle.vc_shared.proofs.pushing.open_push.Goals as goal
+
+pub returns-in-Ok-clause-outside : goal.returns-in-Ok-clause-outside
+returns-in-Ok-clause-outside g c = λ honest. changes_free _ _ _ _ c.in-Some.ensures (c.new.ensures.outside honest)
+
+pub returns-in-Err-clause-outside : goal.returns-in-Err-clause-outside
+returns-in-Err-clause-outside g c = λ honest. changes_free _ _ _ _ c.in-Some.ensures (c.new.ensures.outside honest)

@@ -1,0 +1,56 @@
+use Rattle.std.proofs.Common.{ap, refl, inl, inr, Ok, Err, rules}
+use Rattle.vc_model.specs.SharedCall.SharedCall.{StepOf}
+use Rattle.vc_node.proofs.CleanLemmas.{clean_same}
+use Rattle.vc_node.proofs.LookLemmas.{looks_none}
+use Rattle.vc_shared.proofs.CallLemmas.{answers_through, clean_through, looks_through, told_as}
+use Rattle.vc_shared.proofs.OpeningLemmas.{clean_by}
+use Rattle.vc_shared.proofs.SteppingLaws.{stepped_answers, stepped_down}
+use Rattle.vc_shared.proofs.TellingLemmas.{written_report}
+use Rattle.vc_shared.specs.Calls.{SteppedAs}
+use Rattle.vc_shared.specs.Slots.{slot_of}
+use Rattle.vc_shared.specs.Stepping.{IsRefusedIn}
+use Rattle.vc_shared.proofs.shared.Shared.step.Goals as goal
+
+pub returns-then-not-self-clause-answers : goal.returns-then-not-self-clause-answers
+returns-then-not-self-clause-answers g c = λ honest. stepped_down _ _ _ _ c.args.slot _ _ _ refl refl refl (search rules) refl
+
+pub returns-in-Ok-clause-answers : goal.returns-in-Ok-clause-answers
+returns-in-Ok-clause-answers g c = λ honest.
+    let content = g.F.Files.content in
+    rw (← c.self.view_is) (stepped_answers (content c.self.inside.files) (content c.step.new.files) c.self.inside.slots c.step.new.slots c.args.slot c.self.inside.is_up c.self.inside.is_up (Ok c.in-Ok.told)
+    (c.in-Ok.ensures.steps honest) tt (λ held. tt) tt (c.in-Ok.ensures.bad honest) c.self.invariant written_report c.if-not-self.false c.if-not-self.false)
+
+pub returns-in-Err-clause-answers : goal.returns-in-Err-clause-answers
+returns-in-Err-clause-answers g c = λ honest.
+    let content = g.F.Files.content in
+    rw (← c.self.view_is) (answers_through (StepOf c.args.slot) SteppedAs (content c.self.inside.files) (content c.step.new.files) (content c.fail.new.self.files) c.self.inside.slots c.step.new.slots c.fail.new.self.slots
+    c.self.inside.is_up c.fail.new.self.is_up c.in-Err.fault c.fail.result c.fail.ensures.fault (ap content c.fail.ensures.files) c.fail.ensures.slots
+    (stepped_answers (content c.self.inside.files) (content c.step.new.files) c.self.inside.slots c.step.new.slots c.args.slot c.self.inside.is_up c.fail.new.self.is_up (Err c.in-Err.fault)
+    (λ held. tt) c.in-Err.ensures.unchanged (c.in-Err.ensures.early honest) (c.in-Err.ensures.refused honest) (c.in-Err.ensures.bad honest) c.self.invariant written_report c.if-not-self.false (c.fail.ensures.up c.if-not-self.false)))
+
+pub returns-then-not-self-clause-bad_file : goal.returns-then-not-self-clause-bad_file
+returns-then-not-self-clause-bad_file g c = λ honest. inl refl
+
+pub returns-in-Err-clause-bad_file : goal.returns-in-Err-clause-bad_file
+returns-in-Err-clause-bad_file g c = λ honest.
+    rw (← c.self.view_is) (inr (told_as (IsRefusedIn (g.F.Files.content c.self.inside.files) (slot_of c.self.inside.slots c.args.slot)) c.in-Err.fault c.fail.result c.fail.ensures.fault (c.in-Err.ensures.refused honest)))
+
+pub returns-then-not-self-clause-clean : goal.returns-then-not-self-clause-clean
+returns-then-not-self-clause-clean g c = λ honest. clean_same _ _ refl
+
+pub returns-in-Ok-clause-clean : goal.returns-in-Ok-clause-clean
+returns-in-Ok-clause-clean g c = λ honest. rw (← c.self.view_is) (clean_by _ _ (c.in-Ok.ensures.bad honest))
+
+pub returns-in-Err-clause-clean : goal.returns-in-Err-clause-clean
+returns-in-Err-clause-clean g c = λ honest.
+    let content = g.F.Files.content in
+    rw (← c.self.view_is) (clean_through (content c.self.inside.files) (content c.step.new.files) (content c.fail.new.self.files) (ap content c.fail.ensures.files) (clean_by _ _ (c.in-Err.ensures.bad honest)))
+
+pub returns-then-not-self-clause-looks : goal.returns-then-not-self-clause-looks
+returns-then-not-self-clause-looks g c = λ honest held. inr (looks_none (λ told. told))
+
+pub returns-in-Ok-clause-looks : goal.returns-in-Ok-clause-looks
+returns-in-Ok-clause-looks g c = λ honest. rw (← c.self.view_is) (λ held. c.in-Ok.ensures.looks honest held)
+
+pub returns-in-Err-clause-looks : goal.returns-in-Err-clause-looks
+returns-in-Err-clause-looks g c = λ honest. rw (← c.self.view_is) (λ held. looks_through c.in-Err.fault c.fail.result c.fail.ensures.fault c.fail.ensures.files (c.in-Err.ensures.looks honest held))
