@@ -24,6 +24,7 @@ fn answer(
         "close" => site::close(out, site),
         "accept" => site::accept(out, alloc, site, text),
         "step" => site::step(out, site, text),
+        "resolve" => site::resolve(out, alloc, site, text),
         "file" => site::file(out, alloc, site, text),
         "count" => site::count(out, alloc, site, text),
         _ => {

@@ -4,7 +4,9 @@ use bstr::{ByteSlice, ByteVec};
 use std::alloc::{AllocError, Global};
 use std::fmt::Write;
 use vc_files::{Files, FusedFiles, MemoryFiles};
+use vc_object::ObjectId;
 use vc_push::Reason;
+use vc_rev::parse;
 use vc_shared::{Accepted, Shared, SharedFault, Stepped};
 
 /// Files in memory that can be stopped.
@@ -138,6 +140,45 @@ pub fn step(out: &mut String, site: Site, text: &str) -> Result<Site, AllocError
     match site {
         Site::Open(mut node) => {
             push_stepped(out, &node.step(slot))?;
+            Ok(Site::Open(node))
+        }
+        Site::Closed(files) => {
+            out.push_str("closed")?;
+            Ok(Site::Closed(files))
+        }
+    }
+}
+
+// Tells the id that an expression names, or why it names none.
+fn push_found(out: &mut String, found: &Result<ObjectId, SharedFault>) -> Result<(), AllocError> {
+    match found {
+        Ok(id) => {
+            for digit in id.to_hex() {
+                out.push(digit as char)?;
+            }
+            Ok(())
+        }
+        Err(fault) => write!(out, "{fault}"),
+    }
+}
+
+/// What an expression names at the node.
+pub fn resolve(
+    out: &mut String,
+    alloc: Global,
+    site: Site,
+    text: &str,
+) -> Result<Site, AllocError> {
+    let expr = match parse(alloc, text.as_bytes()) {
+        Ok(expr) => expr,
+        Err(fault) => {
+            write!(out, "{fault}")?;
+            return Ok(site);
+        }
+    };
+    match site {
+        Site::Open(mut node) => {
+            push_found(out, &node.resolve(&expr))?;
             Ok(Site::Open(node))
         }
         Site::Closed(files) => {

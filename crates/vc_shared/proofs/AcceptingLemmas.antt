@@ -1,5 +1,5 @@
 -- A message that comes to the shared node, once its kind is known.
-use Rattle.std.proofs.Common.{◌≡◌, ◌≢◌, ℕ, Bool, true, false, List, Vec, Option, Some, None, Result, Ok, Err, true≢false, refl, sym, ap, ◌∙◌, subst, inl, inr, ◌⊎◌}
+use Rattle.std.proofs.Common.{◌≡◌, ◌≢◌, ℕ, Bool, true, List, Vec, Option, None, Result, Ok, Err, true≢false, refl, sym, ap, ◌∙◌, subst}
 use Rattle.std.specs.Global.{Global}
 use Rattle.std.specs.Prelude.{IfErr, IfOk, IsErrAnd, OnErr}
 use Rattle.vc_fetch.specs.Want.{WantText}
@@ -13,7 +13,6 @@ use Rattle.vc_message.specs.AnyMessage.{MessageText, SpellsMessage, a_list, a_pa
 use Rattle.vc_message.specs.AnyView.{message_text}
 use Rattle.vc_message.specs.Machine.{IsUnread, Reads, TextOf, pkt_number}
 use Rattle.vc_model.specs.Message.{Message}
-use Rattle.vc_model.specs.Message.Message.{Advert, Error, ListRefs, Pack, Push, Report, Want}
 use Rattle.vc_model.specs.Node.{Answer}
 use Rattle.vc_model.specs.Node.Answer.{Declined, Fault}
 use Rattle.vc_model.specs.Question.Question.{Unread as AsksUnread}
@@ -37,7 +36,7 @@ use Rattle.vc_shared.proofs.PushingLemmas.{push_answers}
 use Rattle.vc_shared.proofs.ServingLaws.{list_answers, want_answers}
 use Rattle.vc_shared.proofs.SteppingLaws.{held_still, pushes_of}
 use Rattle.vc_shared.specs.Accepting.{AnswersUp, IsRefusedBytes, IsRefusedMessage, IsToWrite, WasRead}
-use Rattle.vc_shared.specs.Calls.{AcceptedAs, AnswersShared, Quietly}
+use Rattle.vc_shared.specs.Calls.{Quietly}
 use Rattle.vc_shared.specs.Faults.{IsOfDevice, TellsDevice, of_device, of_pkt, up_after}
 use Rattle.vc_shared.specs.Holding.{HoldsShared, IsLive}
 use Rattle.vc_shared.specs.Pushing.{ChangesFree, IsRefusedPush, OpensSlot, slot_reply}

@@ -1,10 +1,9 @@
 -- A fault of a push's step, as the node tells it: what it says of the device, and what is refused by it.
-use Rattle.std.proofs.Common.{◌≡◌, ℕ, Bool, true, false, Option, Result, Ok, Err, refl, sym, ap, ◌∙◌, subst, ◌⊎◌, inl, inr, true≢false}
-use Rattle.std.specs.Prelude.{IfErr, IsErrAnd, IsErrOf, OnErr, ⊤}
+use Rattle.std.proofs.Common.{◌≡◌, ℕ, Option, Result, Ok, Err, refl, sym, ap, ◌∙◌, subst, ◌⊎◌, inl, inr, true≢false}
+use Rattle.std.specs.Prelude.{IfErr, IsErrAnd, IsErrOf, OnErr}
 use Rattle.vc_files.proofs.WearLemmas.{writes_told}
 use Rattle.vc_files.specs.Failures.{Wears, Writes}
 use Rattle.vc_files.specs.FileMap.{FileMap}
-use Rattle.vc_files.specs.declared.faults.Fault.{Fault as FilesFault}
 use Rattle.vc_files.specs.declared.faults.Fault.TheVariants.{Device, Memory}
 use Rattle.vc_refs.specs.declared.faults.RefFault.TheVariants as refs
 use Rattle.vc_store.specs.declared.faults.StoreFault.TheVariants as store
@@ -14,7 +13,7 @@ use Rattle.vc_session.specs.declared.fault.SessionFault.{SessionFault}
 use Rattle.vc_session.specs.declared.fault.SessionFault.TheVariants as session
 use Rattle.vc_session.specs.declared.stage.Stage.{Stage}
 use Rattle.vc_session.specs.declared.stage.Stage.TheVariants.{Unpacked, Checked, Migrated, Done}
-use Rattle.vc_shared.specs.Faults.{IsOfDevice, TellsDevice, of_device, of_session}
+use Rattle.vc_shared.specs.Faults.{IsOfDevice, TellsDevice, of_session}
 use Rattle.vc_shared.specs.declared.fault.SharedFault.{SharedFault}
 
 -- ---- the device

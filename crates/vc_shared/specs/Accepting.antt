@@ -1,5 +1,5 @@
 -- A message that comes to the shared node: that it is answered as the machine answers it, and why it is refused.
-use Rattle.std.specs.Prelude.{◌≡◌, ◌⊎◌, ℕ, Bool, true, List, Option, Result}
+use Rattle.std.specs.Prelude.{◌≡◌, ℕ, Bool, true, List, Option, Result}
 use Rattle.vc_files.specs.FileMap.{FileMap}
 use Rattle.vc_files.specs.declared.faults.Fault.TheVariants.{Memory}
 use Rattle.vc_message.specs.AnyMessage.{MessageText, SpellsMessage, a_list, a_push, a_want, any_step, beginning}

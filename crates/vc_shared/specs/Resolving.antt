@@ -26,6 +26,12 @@ use Rattle.vc_rules.specs.Values.{DenotesAt}
 use Rattle.vc_session.specs.Session.{SessionText}
 use Rattle.vc_store.specs.declared.faults.StoreFault.TheVariants as store
 use Rattle.vc_shared.specs.Calls.{AnswersShared, Quietly}
+use Rattle.vc_shared.specs.Faults.{of_rev}
+use Rattle.vc_shared.specs.declared.fault.SharedFault.{SharedFault}
+
+-- over any files: why an expression has no value, as the shared node tells it
+abbrev pub IsRefusedValue : FileMap → ExprText → SharedFault → Type 0
+IsRefusedValue content e fault = (f : RevFault) × (fault ≡ of_rev f) × IsOfExpr content e f
 
 -- the machine's answer where an expression has no value
 abbrev pub source_answer : SourceFault → Answer

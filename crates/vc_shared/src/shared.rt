@@ -1,5 +1,5 @@
 // The shared node.
-ghost use Rattle.std.specs.Prelude.{◌≡◌, ◌⊎◌, ℕ, IfErr, IfOk, OnErr, None, Some, List, not, false, true};
+ghost use Rattle.std.specs.Prelude.{◌≡◌, ◌⊎◌, ℕ, IfErr, IfOk, OnErr, Ok, None, Some, List, not, false, true};
 ghost use Rattle.std.specs.FinMap.{empty};
 ghost use Rattle.vc_files.specs.Failures.{Wears, Writes};
 ghost use Rattle.vc_message.specs.Machine.{IsUnread, Reads};
@@ -11,13 +11,14 @@ ghost use Rattle.vc_node.specs.Blames.{BlamesOpen};
 ghost use Rattle.vc_node.specs.Clean.{KeepsClean};
 ghost use Rattle.vc_node.specs.NodeFault.{IsOfDevice as IsNodeDevice};
 ghost use Rattle.vc_node.specs.Opening.{IsOpenable};
-ghost use Rattle.vc_shared.specs.Accepting.{IsRefusedBytes, IsToWrite};
-ghost use Rattle.vc_shared.specs.Calls.{AcceptedAs, AnswersShared, SteppedAs};
+ghost use Rattle.vc_repository.specs.Resolving.{DenotesIn};
 ghost use Rattle.vc_rev.specs.Grammar.{IsExpr};
 ghost use Rattle.vc_rev.specs.Views.{expr_view};
+ghost use Rattle.vc_shared.specs.Accepting.{IsRefusedBytes, IsToWrite};
+ghost use Rattle.vc_shared.specs.Calls.{AcceptedAs, AnswersShared, SteppedAs};
 ghost use Rattle.vc_shared.specs.Faults.{TellsDevice, fault_answer, is_fault, up_after};
 ghost use Rattle.vc_shared.specs.Holding.{HoldsShared};
-ghost use Rattle.vc_shared.specs.Resolving.{FoundAs};
+ghost use Rattle.vc_shared.specs.Resolving.{FoundAs, IsRefusedValue};
 ghost use Rattle.vc_shared.specs.Slots.{slot_of};
 ghost use Rattle.vc_shared.specs.Stepping.{IsHeldThere, IsRefusedIn, MayWriteIn};
 
@@ -148,6 +149,8 @@ impl<F: Files> Shared<F> {
     /// The object that an expression names at the node: 51 to 56 where it names none.
     pub fn resolve(&mut self, expr: &Expr<'_>) -> Result<ObjectId, SharedFault>
         ensures answers { F.honest → (text : List ℕ) → IsExpr text (expr_view expr.now) → AnswersShared (Asks (Resolve text)) (FoundAs fault_answer result) (F.content self.old.files) (F.content self.new.files) self.old.slots self.new.slots self.old.is_up self.new.is_up }
+        ensures value { F.honest → IfOk result (λ id. DenotesIn (F.content self.old.files) (expr_view expr.now) (Ok id)) }
+        ensures bad_file { F.honest → IfErr result (λ e. (e ≡ SharedFault.Node NodeFault.Down) ⊎ IsRefusedValue (F.content self.old.files) (expr_view expr.now) e) }
         ensures down { self.old.is_up ≡ false → result ≡ Err (SharedFault.Node NodeFault.Down) }
         ensures up { self.old.is_up ≡ true → self.new.is_up ≡ up_after result }
         ensures same { F.content self.new.files ≡ F.content self.old.files }

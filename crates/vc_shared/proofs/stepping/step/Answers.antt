@@ -1,9 +1,6 @@
-use Rattle.std.proofs.Common.{◌≡◌, ◌<◌, ◌∙◌, ℕ, Option, Some, None, List, length, refl, sym, ap, subst}
-use Rattle.std.specs.Prelude.{slice_set}
+use Rattle.std.proofs.Common.{◌≡◌, ◌<◌, ◌∙◌, ℕ, None, length, sym, ap, subst}
 use Rattle.std.proofs.lemmas.List.{length-set}
-use Rattle.vc_session.specs.Session.{SessionText}
 use Rattle.vc_shared.proofs.SlotLemmas.{open_within, put_back, same_slot, slot_steps, slot_unchanged, told_after, told_at}
-use Rattle.vc_shared.specs.Slots.{slot_of}
 use Rattle.vc_shared.specs.Stepping.{left_in}
 use Rattle.vc_shared.proofs.stepping.step.Goals as goal
 

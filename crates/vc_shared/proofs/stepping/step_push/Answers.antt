@@ -1,12 +1,11 @@
-use Rattle.std.proofs.Common.{◌≡◌, IfErr, Some, refl}
+use Rattle.std.proofs.Common.{Some, refl}
 use Rattle.vc_files.specs.declared.faults.Fault.TheVariants.{Memory}
-use Rattle.vc_session.specs.Steps.{EndsEarly}
 use Rattle.vc_session.specs.declared.fault.SessionFault.TheVariants as session
 use Rattle.vc_shared.specs.Faults.{of_device}
 use Rattle.vc_shared.specs.Stepping.{IsRefusedIn}
 use Rattle.vc_shared.proofs.FaultLemmas.{err_as, looks_as, memory_refused, on_err, writes_as}
 use Rattle.vc_shared.proofs.SlotLemmas.{end_early}
-use Rattle.vc_shared.proofs.TellingLemmas.{short_report, told_on}
+use Rattle.vc_shared.proofs.TellingLemmas.{short_report}
 use Rattle.vc_shared.proofs.stepping.step_push.Goals as goal
 
 pub told-requires : goal.told-requires

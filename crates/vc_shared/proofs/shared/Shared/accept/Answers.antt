@@ -1,4 +1,4 @@
-use Rattle.std.proofs.Common.{ap, inl, inr, refl, rules, Ok, Err, ◌∙◌}
+use Rattle.std.proofs.Common.{ap, inl, inr, refl, rules, ◌∙◌}
 use Rattle.vc_model.specs.Question.Question.{Unread}
 use Rattle.vc_model.specs.SharedCall.SharedCall.{Accept, Asks}
 use Rattle.vc_node.proofs.CleanLemmas.{clean_same}

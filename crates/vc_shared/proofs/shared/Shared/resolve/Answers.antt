@@ -1,4 +1,4 @@
-use Rattle.std.proofs.Common.{ap, refl, sym, Ok, rules, ◌∙◌}
+use Rattle.std.proofs.Common.{ap, inl, inr, refl, sym, Ok, rules, ◌∙◌}
 use Rattle.std.specs.Prelude.{not}
 use Rattle.vc_model.specs.Question.Question.{Resolve}
 use Rattle.vc_model.specs.SharedCall.SharedCall.{Asks}
@@ -28,3 +28,13 @@ returns-in-Err-clause-answers g c = λ honest text spelled.
 pub returns-in-Err-clause-wear : goal.returns-in-Err-clause-wear
 returns-in-Err-clause-wear g c =
     rw (← c.self.view_is) (no_value_wears c.in-Err.fault c.fail.result c.resolve.result (c.fail.ensures.fault ∙ c.from-fault.ensures) c.in-Err.is c.fail.ensures.files c.resolve.ensures.wear)
+
+pub returns-in-Ok-clause-value : goal.returns-in-Ok-clause-value
+returns-in-Ok-clause-value g c = λ honest. rw (← c.self.view_is) (c.in-Ok.ensures.value honest)
+
+pub returns-then-not-self-clause-bad_file : goal.returns-then-not-self-clause-bad_file
+returns-then-not-self-clause-bad_file g c = λ honest. inl refl
+
+pub returns-in-Err-clause-bad_file : goal.returns-in-Err-clause-bad_file
+returns-in-Err-clause-bad_file g c = λ honest.
+    rw (← c.self.view_is) (inr (c.in-Err.fault, c.fail.ensures.fault ∙ c.from-fault.ensures, c.in-Err.ensures.refused honest))
