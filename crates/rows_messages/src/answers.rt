@@ -94,7 +94,7 @@ fn push_verdict(
     pack: &Pack,
 ) -> Result<(), AllocError> {
     match judge_pack(alloc, files, wants, pack) {
-        Ok(()) => out.push_str("ok"),
+        Ok(_) => out.push_str("ok"),
         Err(fault) => push_refusal(out, &fault),
     }
 }

@@ -1,57 +1,36 @@
-//! Reads rows, one a line, about the shared node, and prints each with what the node answers.
+//! Reads rows, one a line, about the shared node and two clones, and prints each with what the node answers. A row about a clone
+//! begins with its name, `c0` or `c1`. The verb `take` brings the shared node a message that any node sent, by its number, or the last one.
 //!
 //! A row that is misspelled ends nothing: it gets an answer that nobody expects.
 #![tactic(auto)]
 
+mod clones;
+mod ground;
+mod shared;
 mod site;
+mod words;
 
-use crate::site::Site;
+use crate::ground::Ground;
 use std::alloc::{AllocError, Global};
 use std::io;
 use std::io::{BufRead, BufReader};
 
-// What a verb answers to what stands behind it in the row, and what stands then.
-fn answer(
-    out: &mut String,
-    alloc: Global,
-    site: Site,
-    verb: &str,
-    text: &str,
-) -> Result<Site, AllocError> {
-    match verb {
-        "new" => site::new(out, alloc),
-        "open" => site::open(out, alloc, site, text),
-        "close" => site::close(out, site),
-        "accept" => site::accept(out, alloc, site, text),
-        "step" => site::step(out, site, text),
-        "resolve" => site::resolve(out, alloc, site, text),
-        "file" => site::file(out, alloc, site, text),
-        "count" => site::count(out, alloc, site, text),
-        _ => {
-            out.push_str("no such verb")?;
-            Ok(site)
-        }
-    }
-}
-
-// The row with its answer, and what stands then; a comment and a blank line as they are.
-fn answered(alloc: Global, site: Site, row: &str) -> Result<(String, Site), AllocError> {
+// The row with its answer; a comment and a blank line as they are.
+fn answered(alloc: Global, ground: &mut Ground, row: &str) -> Result<String, AllocError> {
     let mut line = String::from_str(alloc, row)?;
     if row.is_empty() || row.starts_with('#') {
-        return Ok((line, site));
+        return Ok(line);
     }
-    let (verb, text) = row.split_once(' ').unwrap_or((row, ""));
     line.push_str(" = ")?;
-    let site = answer(&mut line, alloc, site, verb, text)?;
-    Ok((line, site))
+    ground.row(&mut line, row)?;
+    Ok(line)
 }
 
 fn main(rt: HostRuntime) -> io::Result<()> {
     let alloc = rt.alloc();
-    let mut site = Site::empty(alloc);
+    let mut ground = Ground::empty(alloc);
     for row in BufReader::new(alloc, rt.reader())?.lines(alloc) {
-        let (line, next) = answered(alloc, site, row?.as_str())?;
-        site = next;
+        let line = answered(alloc, &mut ground, row?.as_str())?;
         rt.println(line)?;
     }
     Ok(())

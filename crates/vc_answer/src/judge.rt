@@ -5,28 +5,58 @@ ghost use Rattle.vc_fetch.specs.PackObjects.{objects_in};
 ghost use Rattle.vc_files.specs.Failures.{Wears};
 ghost use Rattle.vc_graph.specs.Graph.{IsClosedUnder, ReachedFrom};
 ghost use Rattle.vc_graph.specs.GraphFault.{IsMet};
-ghost use Rattle.vc_graph.specs.Incomplete.{IsAnswerOfFirst};
+ghost use Rattle.vc_graph.specs.Incomplete.{IsFirstIncomplete};
 ghost use Rattle.vc_graph.specs.Overlay.{with_carried};
 ghost use Rattle.vc_object.specs.ObjectMap.{links_in};
 ghost use Rattle.vc_pkt.specs.ObjectStreamView.{carried as carried_objects};
 ghost use Rattle.vc_store.specs.Store.{objects, IsDamaged};
 
 use crate::{AnswerFault, PackObjects};
+use indexmap::IndexSet;
 use std::alloc::Global;
 use vc_fetch::Pack;
 use vc_files::{Fault, Files};
-use vc_graph::{Objects, Overlay, first_incomplete};
+use vc_graph::{Objects, Overlay, first_incomplete, is_complete_beyond};
 use vc_object::ObjectId;
 use vc_store::{Store, StoreFault};
 
-// The first want that is incomplete with what is stored and what is carried.
-fn first_left_open<O: Objects>(
+// The names of what the wants reach, where all of it is there; or the first want of which that isn't so.
+fn names_reached<O: Objects>(
+    alloc: Global,
+    objects: &mut O,
+    wants: &[ObjectId],
+) -> Result<Result<IndexSet<ObjectId>, ObjectId>, StoreFault>
+    ensures complete { IfOk result (λ found. IfOk found (λ met. O.is_honest → IsClosedUnder (links_in (O.objects (O.state_of objects.old))) wants.now)) }
+    ensures met { IfOk result (λ found. IfOk found (λ met. O.is_honest → IsClosedUnder (links_in (O.objects (O.state_of objects.old))) met.keys)) }
+    ensures first { IfOk result (λ found. IfErr found (λ id. O.is_honest → IsFirstIncomplete (links_in (O.objects (O.state_of objects.old))) wants.now id)) }
+    ensures refused { IfErr result (λ e. O.is_honest → IsMet (ReachedFrom (links_in (O.objects (O.state_of objects.old))) wants.now) (O.damaged (O.state_of objects.old)) e) }
+    ensures kept { O.state_of objects.new ≡ O.state_of objects.old }
+    ensures wear { Wears O.failed O.can_fail O.left objects.old objects.new (IsErrOf result (StoreFault.Fault Fault.Device)) }
+{
+    let mut met = IndexSet::new(alloc);
+    for id in wants {
+        if !is_complete_beyond(objects, &mut met, id)? {
+            // A walk of its own finds what is lacking.
+            let first = first_incomplete(alloc, objects, wants)?;
+            return match first {
+                Some(id) => Ok(Err(id)),
+                None => Ok(Ok(met)),
+            };
+        }
+    }
+    Ok(Ok(met))
+}
+
+// The same over what is stored and what is carried.
+fn names_met<O: Objects>(
     alloc: Global,
     stored: &mut O,
     carried: &PackObjects<'_>,
     wants: &[ObjectId],
-) -> Result<Option<ObjectId>, StoreFault>
-    ensures first { IfOk result (λ found. O.is_honest → IsAnswerOfFirst (links_in (with_carried (O.objects (O.state_of stored.old)) (objects_in (carried_objects carried.now.objects.now)))) wants.now found) }
+) -> Result<Result<IndexSet<ObjectId>, ObjectId>, StoreFault>
+    ensures complete { IfOk result (λ found. IfOk found (λ met. O.is_honest → IsClosedUnder (links_in (with_carried (O.objects (O.state_of stored.old)) (objects_in (carried_objects carried.now.objects.now)))) wants.now)) }
+    ensures met { IfOk result (λ found. IfOk found (λ met. O.is_honest → IsClosedUnder (links_in (with_carried (O.objects (O.state_of stored.old)) (objects_in (carried_objects carried.now.objects.now)))) met.keys)) }
+    ensures first { IfOk result (λ found. IfErr found (λ id. O.is_honest → IsFirstIncomplete (links_in (with_carried (O.objects (O.state_of stored.old)) (objects_in (carried_objects carried.now.objects.now)))) wants.now id)) }
     ensures refused { IfErr result (λ e. O.is_honest → IsMet (ReachedFrom (links_in (with_carried (O.objects (O.state_of stored.old)) (objects_in (carried_objects carried.now.objects.now)))) wants.now) (O.damaged (O.state_of stored.old)) e) }
     ensures kept { O.state_of stored.new ≡ O.state_of stored.old }
     ensures wear { Wears O.failed O.can_fail O.left stored.old stored.new (IsErrOf result (StoreFault.Fault Fault.Device)) }
@@ -36,35 +66,39 @@ fn first_left_open<O: Objects>(
         carried,
         alloc,
     };
-    first_incomplete(alloc, &mut objects, wants)
+    let found = names_reached(alloc, &mut objects, wants)?;
+    Ok(found)
 }
 
 // The same over the objects of files.
-fn first_in_files<F: Files>(
+fn names_met_in_files<F: Files>(
     alloc: Global,
     files: &mut F,
     carried: &PackObjects<'_>,
     wants: &[ObjectId],
-) -> Result<Option<ObjectId>, StoreFault>
-    ensures first { F.honest → IfOk result (IsAnswerOfFirst (links_in (with_carried (objects (F.content files.old)) (objects_in (carried_objects carried.now.objects.now)))) wants.now) }
+) -> Result<Result<IndexSet<ObjectId>, ObjectId>, StoreFault>
+    ensures complete { F.honest → IfOk result (λ found. OnOk found (IsClosedUnder (links_in (with_carried (objects (F.content files.old)) (objects_in (carried_objects carried.now.objects.now)))) wants.now)) }
+    ensures met { F.honest → IfOk result (λ found. IfOk found (λ met. IsClosedUnder (links_in (with_carried (objects (F.content files.old)) (objects_in (carried_objects carried.now.objects.now)))) met.keys)) }
+    ensures first { F.honest → IfOk result (λ found. IfErr found (IsFirstIncomplete (links_in (with_carried (objects (F.content files.old)) (objects_in (carried_objects carried.now.objects.now)))) wants.now)) }
     ensures refused { F.honest → IfErr result (IsMet (ReachedFrom (links_in (with_carried (objects (F.content files.old)) (objects_in (carried_objects carried.now.objects.now)))) wants.now) (IsDamaged (F.content files.old))) }
     ensures same { F.content files.new ≡ F.content files.old }
     ensures wear { Wears F.failed F.can_fail F.left files.old files.new (IsErrOf result (StoreFault.Fault Fault.Device)) }
 {
-    let first = first_left_open(alloc, &mut Store::new(alloc, files), carried, wants)?;
-    Ok(first)
+    let found = names_met(alloc, &mut Store::new(alloc, files), carried, wants)?;
+    Ok(found)
 }
 
-/// Whether the store and the pack together have all that the wants reach. The first want of which that isn't so is
-/// refused. A stored object counts before a carried one of its name, and a carried body out of its kind's grammar
-/// counts for nothing. Each object is read once; nothing is stored.
+/// Whether the store and the pack together have all that the wants reach: the names of all that, of which so the same is known. The
+/// first want of which it isn't so is refused. A stored object counts before a carried one of its name, and a carried body out of
+/// its kind's grammar counts for nothing. Each object is read once, and once more where a want is refused; nothing is stored.
 pub fn judge_pack<F: Files>(
     alloc: Global,
     files: &mut F,
     wants: &[ObjectId],
     pack: &Pack,
-) -> Result<(), AnswerFault>
+) -> Result<IndexSet<ObjectId>, AnswerFault>
     ensures complete { F.honest → OnOk result (IsClosedUnder (links_in (with_carried (objects (F.content files.old)) (objects_in (carried_objects pack.now.objects)))) wants.now) }
+    ensures met { F.honest → IfOk result (λ met. IsClosedUnder (links_in (with_carried (objects (F.content files.old)) (objects_in (carried_objects pack.now.objects)))) met.keys) }
     ensures refused { F.honest → IfErr result (IsRefusedPack (F.content files.old) (objects_in (carried_objects pack.now.objects)) wants.now) }
 
     ensures same { F.content files.new ≡ F.content files.old }
@@ -73,9 +107,9 @@ pub fn judge_pack<F: Files>(
     let carried = PackObjects {
         objects: &pack.objects,
     };
-    let first = first_in_files(alloc, files, &carried, wants)?;
-    match first {
-        Some(id) => Err(AnswerFault::Incomplete(id)),
-        None => Ok(()),
+    let found = names_met_in_files(alloc, files, &carried, wants)?;
+    match found {
+        Ok(met) => Ok(met),
+        Err(id) => Err(AnswerFault::Incomplete(id)),
     }
 }

@@ -1,3 +1,4 @@
+pub mod DeedLemmas
 pub mod MovingDecisions
 pub mod MovingFronts
 pub mod MovingLemmas
@@ -7,3 +8,5 @@ pub mod MovingRules
 pub mod ReceivingLemmas
 pub mod SendingLaws
 pub mod SendingLemmas
+pub mod StoringLemmas
+pub mod WantingOpen

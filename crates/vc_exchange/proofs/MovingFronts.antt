@@ -46,7 +46,7 @@ moves_append may (x ∷ xs) r cs qs ds (inl (t, more, m, e, rest)) second =
 moves_append may (x ∷ xs) r cs qs ds (inr (none, rest)) second = inr (none, moves_append may xs r cs qs ds rest second)
 
 -- where each move is decided, there are all of them
-all_moves : (may : Rule) → ((rs : Refs) (n : RefName) (x : Id) → Decided ((t : RefName) × may rs n x t)) → (qs : List (RefName × Id)) (rs : Refs) → (cs : List Change) × Moves may rs qs cs
+pub all_moves : (may : Rule) → ((rs : Refs) (n : RefName) (x : Id) → Decided ((t : RefName) × may rs n x t)) → (qs : List (RefName × Id)) (rs : Refs) → (cs : List Change) × Moves may rs qs cs
 all_moves may decide [] rs = ([], refl)
 all_moves may decide (q ∷ qs) rs = elim (decide rs q.0 q.1) as (λ _. (cs : List Change) × Moves may rs (q ∷ qs) cs) [
   | inl (t, m) ↦ let rest = all_moves may decide qs (insert rs t q.1) in (SetRefs ((t, q.1) ∷ []) ∷ rest.0, inl (t, rest.0, m, refl, rest.1))
@@ -61,7 +61,7 @@ take_front [] ds = take_none ds
     take_none (d ∷ ds) = refl
 take_front (c ∷ cs) ds = ap (λ (l : List Change). c ∷ l) (take_front cs ds)
 
-machine_append : (a b : List Told) → machine_refs (a ++ b) ≡ machine_refs a ++ machine_refs b
+pub machine_append : (a b : List Told) → machine_refs (a ++ b) ≡ machine_refs a ++ machine_refs b
 machine_append [] b = refl
 machine_append (t ∷ a) b = ap (λ l. (t.0, t.1.0) ∷ l) (machine_append a b)
 

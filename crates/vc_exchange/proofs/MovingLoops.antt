@@ -16,7 +16,7 @@ use Rattle.vc_store.specs.declared.faults.StoreFault.TheVariants as of_store
 use Rattle.vc_exchange.specs.Faults.{BlamesFiles}
 use Rattle.vc_exchange.specs.Moving.{Told, told_in}
 use Rattle.vc_exchange.specs.declared.fault.ExchangeFault.{ExchangeFault}
-use Rattle.vc_exchange.specs.declared.fault.ExchangeFault.TheVariants.{Store, Refs, Fault}
+use Rattle.vc_exchange.specs.declared.fault.ExchangeFault.TheVariants.{Store, Refs, Incomplete, Fault}
 use Rattle.vc_exchange.proofs.MovingDecisions.{contained_none}
 
 abbrev pub Item : Type 0
@@ -51,6 +51,7 @@ blames_before old new none (Refs (of_refs.Conflict other)) b = b
 blames_before old new none (Refs (of_refs.BadRefFile path)) b = none.refs _ b
 blames_before old new none (Refs of_refs.HeadLoop) b = b
 blames_before old new none (Refs (of_refs.Fault fault)) b = tt
+blames_before old new none (Incomplete id) never = absurd never
 blames_before old new none (Fault fault) b = tt
 
 -- what is whole stays so where no object changes

@@ -1,14 +1,25 @@
--- What a report accepts, command by command.
-use Rattle.std.proofs.Common.{◌≡◌, ℕ, ◌<◌, ◌+◌, List, [], ◌∷◌, ◌++◌, length, take, get_or, map, Result, Ok, Err, append_assoc, refl, sym, ap, ◌∙◌}
+-- What a report accepts and what it refuses, command by command, and the deed of the machine's clone at it.
+use Rattle.std.proofs.Common.{◌≡◌, ℕ, ◌<◌, ◌+◌, List, [], ◌∷◌, ◌++◌, length, take, get_or, map, None, Result, Ok, Err, append_assoc, refl, sym, ap, ◌∙◌, subst}
 use Rattle.std.proofs.lemmas.List.{take_more}
-use Rattle.vc_message.specs.Machine.{machine_told}
-use Rattle.vc_model.specs.Clone.{accepted_ids}
+use Rattle.std.specs.FinMap.{empty}
+use Rattle.vc_files.specs.FileMap.{FileMap}
+use Rattle.vc_message.specs.Machine.{IsReport, machine_told}
+use Rattle.vc_model.specs.Clone.{Awaited, Moves, MovesBranch, Receives, accepted_ids, quietly, refused_reasons}
+use Rattle.vc_model.specs.Message.{Message}
+use Rattle.vc_model.specs.Node.Reply.{Reported}
+use Rattle.vc_model.specs.Object.{Id, stored}
+use Rattle.vc_model.specs.Refs.{RefName}
+use Rattle.vc_model.specs.Repository.{Change, Repository, only_changes}
 use Rattle.vc_object.specs.declared.id.ObjectId.{ObjectId}
-use Rattle.vc_push.specs.Report.{ToldText}
+use Rattle.vc_push.specs.Report.{ReportText, ToldText}
 use Rattle.vc_push.specs.ReportView.{told_of}
 use Rattle.vc_push.specs.declared.report.Told.{Told as Command}
-use Rattle.vc_exchange.specs.Moving.{Told, machine_refs, told_in}
+use Rattle.vc_rules.specs.Git.{git}
+use Rattle.vc_exchange.specs.Deeds.{ChangesAt, IsCutShort, IsReceived}
+use Rattle.vc_exchange.specs.Moving.{AreFrontMoved, AreMoved, MovesSome, Told, machine_refs, told_in}
 use Rattle.vc_exchange.specs.Receiving.{AcceptedAgree, accepted}
+use Rattle.vc_exchange.specs.declared.moving.Followed.TheVariants.{Branches}
+use Rattle.vc_exchange.proofs.DeedLemmas.{added_none, all_received, front_received, some_received}
 use Rattle.vc_exchange.proofs.MovingLoops.{Item, told_append}
 
 pub accepted_agree : AcceptedAgree
@@ -43,3 +54,42 @@ next_accepted told i command within is =
 -- one more ref
 pub pushed : (refs more : List Item) (item : Item) → more ≡ refs ++ item ∷ [] → told_in more ≡ told_in refs ++ (item.0.items, item.1) ∷ []
 pushed refs more item e = ap told_in e ∙ told_append refs (item ∷ [])
+
+-- ---- what is refused
+abbrev refused : List ToldText → List ℕ
+refused told = refused_reasons (map machine_told told)
+
+first_refused : (t : ToldText) (ts : List ToldText) → refused (t ∷ ts) ≡ refused (t ∷ []) ++ refused ts
+first_refused t ts = by t.outcome
+  where
+    by : (o : Result ObjectId (List ℕ)) → refused (record { name = t.name; outcome = o } ∷ ts) ≡ refused (record { name = t.name; outcome = o } ∷ []) ++ refused ts
+    by (Ok id) = refl
+    by (Err reason) = refl
+
+refused_append : (a b : List ToldText) → refused (a ++ b) ≡ refused a ++ refused b
+refused_append [] b = refl
+refused_append (t ∷ a) b = first_refused t (a ++ b) ∙ ap (λ (l : List ℕ). refused (t ∷ []) ++ l) (refused_append a b) ∙ sym (append_assoc (refused (t ∷ [])) (refused a) (refused b)) ∙ ap (λ (l : List ℕ). l ++ refused b) (sym (first_refused t a))
+
+-- the numbers so far, and that of the next one where it is refused
+pub next_refused : (told : List Command) (i : ℕ) (command : Command) → i < length told → command ≡ get_or told i command → refused (map told_of (take i told)) ++ refused (told_of command ∷ []) ≡ refused (map told_of (take (i + 1) told))
+next_refused told i command within is =
+    sym (refused_append (map told_of (take i told)) (told_of command ∷ [])) ∙ ap refused (sym (map_append (take i told) (command ∷ []))) ∙ ap (λ (x : Command). refused (map told_of (take i told ++ x ∷ []))) is
+    ∙ ap (λ (l : List Command). refused (map told_of l)) (sym (take_more told i command within))
+
+-- ---- the deed
+module _ (r : Repository) (awaits : Awaited) (m : Message) (t : ReportText) (report : IsReport m t) (told : List Told) (is : told ≡ accepted t.told) (numbers : List ℕ) (are : numbers ≡ refused t.told) where
+  takes : (cs : List Change) → Moves (MovesBranch git (stored r.objects)) r.refs (machine_refs told) cs → Receives git r awaits m (quietly awaits (only_changes cs) (Reported (length cs) numbers))
+  takes cs moves = subst (λ (x : Message). Receives git r awaits x (quietly awaits (only_changes cs) (Reported (length cs) numbers))) (sym report.is) (
+    cs,
+    subst (λ (l : List (RefName × Id)). Moves (MovesBranch git (stored r.objects)) r.refs l cs) (ap machine_refs is ∙ sym (accepted_agree t.told)) moves,
+    ap (λ (ns : List ℕ). quietly awaits (only_changes cs) (Reported (length cs) ns)) are,
+  )
+
+  pub report_received : (new : FileMap) (moved : ℕ) → AreMoved Branches told r new moved → IsReceived r awaits m new awaits None (Reported moved numbers)
+  report_received = all_received Branches told r empty r.objects (added_none r.objects) (stored r.objects) refl awaits m awaits (λ n. Reported n numbers) takes
+
+  pub report_cut : (new : FileMap) → AreFrontMoved Branches told r new → IsCutShort r awaits m new
+  report_cut = front_received Branches told r empty r.objects (added_none r.objects) (stored r.objects) refl awaits m awaits (λ n. Reported n numbers) takes
+
+  pub report_changes : MovesSome Branches told r → ChangesAt r awaits m
+  report_changes = some_received Branches told r empty r.objects (added_none r.objects) (stored r.objects) refl awaits m awaits (λ n. Reported n numbers) takes

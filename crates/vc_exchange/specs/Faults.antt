@@ -1,6 +1,10 @@
 -- What an exchange is refused for.
 use Rattle.std.specs.Prelude.{⊤, string_bytes}
+use Rattle.vc_answer.specs.declared.fault.AnswerFault.{AnswerFault}
+use Rattle.vc_answer.specs.declared.fault.AnswerFault.TheVariants as answer
 use Rattle.vc_files.specs.FileMap.{FileMap}
+use Rattle.vc_graph.specs.declared.fault.GraphFault.{GraphFault}
+use Rattle.vc_graph.specs.declared.fault.GraphFault.TheVariants as graph
 use Rattle.vc_refs.specs.Refs.{IsBadRef}
 use Rattle.vc_refs.specs.declared.faults.RefFault.{RefFault}
 use Rattle.vc_refs.specs.declared.faults.RefFault.TheVariants as of_refs
@@ -8,7 +12,7 @@ use Rattle.vc_store.specs.Store.{IsDamaged}
 use Rattle.vc_store.specs.declared.faults.StoreFault.{StoreFault}
 use Rattle.vc_store.specs.declared.faults.StoreFault.TheVariants as of_store
 use Rattle.vc_exchange.specs.declared.fault.ExchangeFault.{ExchangeFault}
-use Rattle.vc_exchange.specs.declared.fault.ExchangeFault.TheVariants.{Store, Refs, Fault}
+use Rattle.vc_exchange.specs.declared.fault.ExchangeFault.TheVariants.{Store, Refs, Incomplete, Fault}
 
 -- what the layers below refuse, told here; a fault is told as one
 abbrev pub from_store : StoreFault → ExchangeFault
@@ -23,6 +27,18 @@ from_refs (of_refs.Conflict name) = Refs (of_refs.Conflict name)
 from_refs (of_refs.BadRefFile path) = Refs (of_refs.BadRefFile path)
 from_refs of_refs.HeadLoop = Refs of_refs.HeadLoop
 from_refs (of_refs.Fault fault) = Fault fault
+
+-- a pack is judged by what it should bring alone: of an answer's other refusals none comes
+abbrev pub from_graph : GraphFault → ExchangeFault
+from_graph (graph.Missing id) = Incomplete id
+from_graph (graph.Store fault) = from_store fault
+
+abbrev pub from_answer : AnswerFault → ExchangeFault
+from_answer (answer.NotOurs id) = Incomplete id
+from_answer (answer.Incomplete id) = Incomplete id
+from_answer (answer.Refs fault) = from_refs fault
+from_answer (answer.Graph fault) = from_graph fault
+from_answer (answer.Fault fault) = Fault fault
 
 -- the file of an object is damaged
 abbrev pub BlamesObjects : FileMap → StoreFault → Type 0
@@ -43,4 +59,5 @@ BlamesRefs content (of_refs.Fault fault) = ⊤
 abbrev pub BlamesFiles : FileMap → ExchangeFault → Type 0
 BlamesFiles content (Store fault) = BlamesObjects content fault
 BlamesFiles content (Refs fault) = BlamesRefs content fault
+BlamesFiles content (Incomplete id) = ⊥
 BlamesFiles content (Fault fault) = ⊤

@@ -1,6 +1,9 @@
+pub mod Deeds
 pub mod Faults
 pub mod Moving
 pub mod Receiving
 pub mod SendFault
 pub mod Sending
 pub mod SentPush
+pub mod Storing
+pub mod Wanting

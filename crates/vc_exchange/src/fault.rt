@@ -1,10 +1,14 @@
 //! What refuses an exchange.
 ghost use Rattle.std.specs.Prelude.{◌≡◌};
+ghost use Rattle.vc_exchange.specs.Faults.{from_graph};
 
-use std::alloc::AllocError;
+use std::alloc::{AllocError, AllocFailed};
 use std::error::Error;
 use std::fmt;
+use vc_answer::AnswerFault;
 use vc_files::Fault;
+use vc_graph::GraphFault;
+use vc_object::ObjectId;
 use vc_refs::RefFault;
 use vc_store::StoreFault;
 
@@ -15,6 +19,8 @@ pub enum ExchangeFault {
     Store(StoreFault),
     /// 33: a file in `refs/` stands for no ref.
     Refs(RefFault),
+    /// 92: with the pack, not all is there that this wanted id reaches.
+    Incomplete(ObjectId),
     /// Want of memory, or a device that failed. It stands here alone, and in neither of the variants above.
     Fault(Fault),
 }
@@ -24,6 +30,7 @@ impl fmt::Display for ExchangeFault {
         match self {
             ExchangeFault::Store(fault) => fmt::Display::fmt(fault, f),
             ExchangeFault::Refs(fault) => fmt::Display::fmt(fault, f),
+            ExchangeFault::Incomplete(_) => f.write_str("92 Incomplete"),
             ExchangeFault::Fault(fault) => fmt::Display::fmt(fault, f),
         }
     }
@@ -62,6 +69,32 @@ impl From<RefFault> for ExchangeFault {
     }
 }
 
+fn from_graph(fault: GraphFault) -> ExchangeFault
+    ensures { result ≡ from_graph fault }
+{
+    match fault {
+        GraphFault::Missing(id) => ExchangeFault::Incomplete(id),
+        GraphFault::Store(fault) => ExchangeFault::from(fault),
+    }
+}
+
+impl From<AnswerFault> for ExchangeFault {
+    ghost use Rattle.vc_exchange.specs.Faults.{from_answer};
+
+    ghost from_gives = { λ fault e. e ≡ from_answer fault };
+
+    // A pack is judged by what it should bring alone: of an answer's other refusals none comes.
+    fn from(fault: AnswerFault) -> ExchangeFault {
+        match fault {
+            AnswerFault::NotOurs(id) => ExchangeFault::Incomplete(id),
+            AnswerFault::Incomplete(id) => ExchangeFault::Incomplete(id),
+            AnswerFault::Refs(fault) => ExchangeFault::from(fault),
+            AnswerFault::Graph(fault) => from_graph(fault),
+            AnswerFault::Fault(fault) => ExchangeFault::Fault(fault),
+        }
+    }
+}
+
 impl From<AllocError> for ExchangeFault {
     ghost use Rattle.vc_exchange.specs.declared.fault.ExchangeFault.TheVariants.{Fault as OfDevice};
     ghost use Rattle.vc_files.specs.declared.faults.Fault.TheVariants.{Memory};
@@ -69,6 +102,17 @@ impl From<AllocError> for ExchangeFault {
     ghost from_gives = { λ _ e. e ≡ OfDevice Memory };
 
     fn from(_: AllocError) -> ExchangeFault {
+        ExchangeFault::Fault(Fault::Memory)
+    }
+}
+
+impl<T: Drop> From<AllocFailed<T>> for ExchangeFault {
+    ghost use Rattle.vc_exchange.specs.declared.fault.ExchangeFault.TheVariants.{Fault as OfDevice};
+    ghost use Rattle.vc_files.specs.declared.faults.Fault.TheVariants.{Memory};
+
+    ghost from_gives = { λ _ e. e ≡ OfDevice Memory };
+
+    fn from(_: AllocFailed<T>) -> ExchangeFault {
         ExchangeFault::Fault(Fault::Memory)
     }
 }

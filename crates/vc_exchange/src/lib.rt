@@ -7,10 +7,13 @@ mod moving;
 mod receiving;
 mod send_fault;
 mod sending;
+mod storing;
+mod wanting;
 
 pub use fault::ExchangeFault;
 pub use item::PushItem;
-pub use moving::{Followed, move_ref, move_refs};
-pub use receiving::{receive_report, what_a_report_accepts_is_the_machines};
+pub use receiving::{Reported, receive_report, what_a_report_accepts_is_the_machines};
 pub use send_fault::SendFault;
 pub use sending::{list_message, push_message};
+pub use storing::store_all;
+pub use wanting::open_ids;

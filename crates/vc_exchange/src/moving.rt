@@ -210,11 +210,11 @@ fn set_where_free<F: Files>(
     }
 }
 
-/// Moves the ref that follows one of this name to the id: the tracking ref of a branch, where it is absent or the id descends
-/// from its value; a tag where it is absent and tags are followed. Whether it moved. All that the id reaches must be there, and a
-/// branch's history must be one of commits alone; what is not so is passed over, and so is a name that is illegal, of no branch
-/// or tag, or in the way of a ref that is there. What is known must be so; more is known after the call. No file becomes bad.
-pub fn move_ref<F: Files>(
+// Moves the ref that follows one of this name to the id: the tracking ref of a branch, where it is absent or the id descends
+// from its value; a tag where it is absent and tags are followed. Whether it moved. All that the id reaches must be there, and a
+// branch's history must be one of commits alone; what is not so is passed over, and so is a name that is illegal, of no branch
+// or tag, or in the way of a ref that is there. What is known must be so; more is known after the call. No file becomes bad.
+fn move_ref<F: Files>(
     files: &mut F,
     alloc: Global,
     known: &mut Known,
@@ -239,26 +239,26 @@ pub fn move_ref<F: Files>(
 }
 
 /// Moves the refs that follow these, in their order, and counts those that moved. A call that ends early has moved some first
-/// of them. Each object is read once for all of them to see that it is whole. No file becomes bad, and none outside `refs/`
-/// changes.
-pub fn move_refs<F: Files>(
+/// of them. Each object is read once for all of them to see that it is whole, and none of which that is known. What is known must
+/// be so; more is known after the call. No file becomes bad, and none outside `refs/` changes.
+pub(crate) fn move_refs<F: Files>(
     files: &mut F,
     alloc: Global,
+    known: &mut Known,
     followed: Followed,
     told: &[(Vec<u8>, ObjectId)],
 ) -> Result<usize, ExchangeFault>
-    ensures moved { F.honest → (r : Repository) → HoldsContent (F.content files.old) r → IfOk result (AreMoved followed (told_in told.now) r (F.content files.new)) }
+    ensures moved { F.honest → AreWhole (objects (F.content files.old)) known.old → (r : Repository) → HoldsContent (F.content files.old) r → IfOk result (AreMoved followed (told_in told.now) r (F.content files.new)) }
     ensures refused { F.honest → IfErr result (BlamesFiles (F.content files.old)) }
     ensures outside { F.honest → SameOutside (codes "refs/") (F.content files.old) (F.content files.new) }
-    ensures left { F.honest → (r : Repository) → HoldsContent (F.content files.old) r → OnErr result (AreFrontMoved followed (told_in told.now) r (F.content files.new)) }
+    ensures left { F.honest → AreWhole (objects (F.content files.old)) known.old → (r : Repository) → HoldsContent (F.content files.old) r → OnErr result (AreFrontMoved followed (told_in told.now) r (F.content files.new)) }
     ensures bad { F.honest → MakesNoneBad (F.content files.old) (F.content files.new) }
     ensures wear { Writes F.honest F.content F.failed F.can_fail F.left files.old files.new (IsErrOf result (ExchangeFault.Fault Fault.Device)) }
-    ensures looks { F.honest → (r : Repository) → HoldsContent (F.content files.old) r → MovesSome followed (told_in told.now) r ⊎ Wears F.failed F.can_fail F.left files.old files.new (IsErrOf result (ExchangeFault.Fault Fault.Device)) }
+    ensures looks { F.honest → AreWhole (objects (F.content files.old)) known.old → (r : Repository) → HoldsContent (F.content files.old) r → MovesSome followed (told_in told.now) r ⊎ Wears F.failed F.can_fail F.left files.old files.new (IsErrOf result (ExchangeFault.Fault Fault.Device)) }
 {
-    let mut known = Known::nothing(alloc);
     let mut moved = 0;
     for (name, id) in told {
-        if move_ref(files, alloc, &mut known, followed, name, id)? {
+        if move_ref(files, alloc, known, followed, name, id)? {
             moved += 1;
         }
     }

@@ -1,7 +1,9 @@
 -- What a node holds.
 use Rattle.std.specs.Prelude.{Bool}
+use Rattle.vc_node.specs.Awaited.{AwaitedText}
 
--- the files of a node, and whether it is up
+-- the files of a node, what it awaits, and whether it is up
 pub record Held (F : Type 0) : Type 0 where
   pub files : F
+  pub awaited : AwaitedText
   pub is_up : Bool

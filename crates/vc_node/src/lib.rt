@@ -4,8 +4,10 @@
 //! `vc_model`'s machine at Git's object format (`vc_format`): the files spell a repository, and a call is a step of it.
 #![tactic(auto)]
 
+mod awaited;
 mod burning;
 mod checks;
+mod clone_fault;
 mod commit;
 mod fault;
 mod index_file;
@@ -15,6 +17,7 @@ mod opened;
 
 pub use burning::a_call_spends_what_the_machine_allows;
 pub use checks::refuse_bad_commit;
+pub use clone_fault::CloneFault;
 pub use fault::NodeFault;
 pub use index_file::{read_index, write_index};
 pub use node::{CloneNode, make_ready};

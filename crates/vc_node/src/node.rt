@@ -1,12 +1,25 @@
 // A clone.
-ghost use Rattle.std.specs.Prelude.{◌≡◌, ◌≢◌, ◌⊎◌, OnOk, OnErr, IfOk, IfErr, IsErrOf, true, false, not, nat_eq, map, codes};
+ghost use Rattle.std.specs.Prelude.{◌≡◌, ◌≢◌, ◌⊎◌, ℕ, List, [], Ok, Err, OnOk, OnErr, IfOk, IfErr, true, false, not, nat_eq, map, codes};
 ghost use Rattle.std.specs.List.{starts_with};
 ghost use Rattle.vc_format.specs.Git.{bytes_of_id};
 ghost use Rattle.vc_model.specs.Clone.Task.{Write, Stage, Unstage, LoadTree, MakeCommit, SetBranch, DeleteBranch, MoveHead};
 ghost use Rattle.vc_model.specs.Clone.Awaited.{Nothing};
 ghost use Rattle.vc_model.specs.Repository.{Repository};
 ghost use Rattle.vc_object.specs.Object.{object_name};
-ghost use Rattle.vc_refs.specs.Head.{IsHeadInRefs};
+ghost use Rattle.vc_exchange.specs.Sending.{machine_items};
+ghost use Rattle.vc_files.specs.declared.faults.Fault.TheVariants.{Memory};
+ghost use Rattle.vc_model.specs.Clone.{IsItemId};
+ghost use Rattle.vc_model.specs.Clone.Task.{StartFetch, StartPush};
+ghost use Rattle.vc_model.specs.CloneCall.CloneCall.{Asks, Command};
+ghost use Rattle.vc_model.specs.Object.{zero_id};
+ghost use Rattle.vc_model.specs.Question.Question.{Resolve};
+ghost use Rattle.vc_repository.specs.Resolving.{DenotesIn};
+ghost use Rattle.vc_rev.specs.Grammar.{IsExpr};
+ghost use Rattle.vc_rev.specs.Views.{expr_view};
+ghost use Rattle.vc_node.specs.Awaited.{nothing};
+ghost use Rattle.vc_node.specs.CloneCalls.{AnswersClone, FoundAs, SentAs};
+ghost use Rattle.vc_node.specs.CloneFaults.{TellsDevice as CloneTellsDevice, is_fault as is_clone_fault, of_device, up_after as clone_up_after};
+ghost use Rattle.vc_node.specs.Receipts.{IsRefusedStart, IsRefusedValue};
 ghost use Rattle.vc_node.specs.Blames.{BlamesLoad, BlamesOpen, IsLocalHead};
 ghost use Rattle.vc_files.specs.FileMap.{SameOutside};
 ghost use Rattle.vc_node.specs.Clean.{KeepsClean};
@@ -19,15 +32,18 @@ ghost use Rattle.vc_node.specs.Opening.{IsOpenable, opened_node};
 ghost use Rattle.vc_node.specs.Reads.{IsAtHead, IsAtName, IsBelow, IsOfCommit, IsReached, IsReachedByHead, NoneRead, TellsRead};
 ghost use Rattle.vc_node.specs.Shown.{IsLoaded, IsReady, shown};
 
+use crate::awaited::Awaited;
 use crate::commit::Words;
 use crate::index_file::read_index;
-use crate::{NodeFault, commit, local};
+use crate::{CloneFault, NodeFault, commit, local};
 use std::alloc::Global;
 use std::marker::Model;
+use vc_exchange::{PushItem, list_message, push_message};
 use vc_files::{Fault, Files};
 use vc_object::{Kind, Mode, ObjectId};
 use vc_refname::RefName;
 use vc_refs::Head;
+use vc_rev::Expr;
 use vc_store::StoreFault;
 
 /// A clone over files: objects, refs, HEAD and an index. Once a call has ended in a fault, each later one but
@@ -36,15 +52,17 @@ use vc_store::StoreFault;
 pub struct CloneNode<F> {
     files: F,
     alloc: Global,
+    awaited: Awaited,
     is_up: bool,
 }
 
 impl<F> Model for CloneNode<F> {
+    ghost use Rattle.vc_node.specs.Awaited.{awaited_text};
     ghost use Rattle.vc_node.specs.Held.{Held};
 
     ghost Value = { Held F };
 
-    ghost view = { λ s. record { files = s.files; is_up = s.is_up } };
+    ghost view = { λ s. record { files = s.files; awaited = awaited_text s.awaited; is_up = s.is_up } };
 }
 
 impl<F: Files> CloneNode<F> {
@@ -54,6 +72,7 @@ impl<F: Files> CloneNode<F> {
     pub fn open(alloc: Global, mut files: F) -> Result<CloneNode<F>, (F, NodeFault)>
         ensures ready { F.honest → IfOk result (λ node. IsReady (F.content files) (F.content node.files)) }
         ensures up { IfOk result (λ node. node.is_up ≡ true) }
+        ensures awaits { IfOk result (λ node. node.awaited ≡ nothing) }
         ensures opens { F.honest → (r : Repository) → IsOpenable (F.content files) r → IfOk result (λ node. HoldsNode (F.content node.files) true Nothing (opened_node r)) }
         ensures refused { F.honest → IfErr result (λ e. BlamesOpen (F.content files) e.1) }
         ensures err { F.honest → IfErr result (λ e. F.content e.0 ≡ F.content files) }
@@ -65,6 +84,7 @@ impl<F: Files> CloneNode<F> {
             Ok(()) => Ok(CloneNode {
                 files,
                 alloc,
+                awaited: Awaited::Nothing,
                 is_up: true,
             }),
             Err(fault) => Err((files, fault)),
@@ -78,6 +98,7 @@ impl<F: Files> CloneNode<F> {
         let CloneNode {
             files,
             alloc: _,
+            awaited: _,
             is_up: _,
         } = self;
         files
@@ -87,6 +108,7 @@ impl<F: Files> CloneNode<F> {
     fn fail(&mut self, fault: NodeFault) -> NodeFault
         ensures fault { result ≡ fault }
         ensures files { self.new.files ≡ self.old.files }
+        ensures awaits { self.new.awaited ≡ self.old.awaited }
         ensures up { self.old.is_up ≡ true → self.new.is_up ≡ not (is_fault fault) }
     {
         if fault.is_fault() {
@@ -102,6 +124,7 @@ impl<F: Files> CloneNode<F> {
         ensures down { self.old.is_up ≡ false → result ≡ Err NodeFault.Down }
         ensures err { F.honest → OnErr result (F.content self.new.files ≡ F.content self.old.files) }
         ensures up { self.old.is_up ≡ true → self.new.is_up ≡ up_after result }
+        ensures awaits { self.new.awaited ≡ self.old.awaited }
         ensures clean { F.honest → KeepsClean (F.content self.old.files) (F.content self.new.files) }
         ensures file { IfErr result (TellsRead (λ id. id ≡ object_name kind body.now) NoneRead) }
         ensures wear { Writes F.honest F.content F.failed F.can_fail F.left self.old.files self.new.files (TellsDevice result) }
@@ -123,6 +146,7 @@ impl<F: Files> CloneNode<F> {
         ensures down { self.old.is_up ≡ false → result ≡ Err NodeFault.Down }
         ensures err { F.honest → OnErr result (F.content self.new.files ≡ F.content self.old.files) }
         ensures up { self.old.is_up ≡ true → self.new.is_up ≡ up_after result }
+        ensures awaits { self.new.awaited ≡ self.old.awaited }
         ensures clean { F.honest → KeepsClean (F.content self.old.files) (F.content self.new.files) }
         ensures file { IfErr result (TellsRead NoneRead NoneRead) }
         ensures wear { Writes F.honest F.content F.failed F.can_fail F.left self.old.files self.new.files (TellsDevice result) }
@@ -145,6 +169,7 @@ impl<F: Files> CloneNode<F> {
         ensures bad_file { F.honest → OrBadFile (F.content self.old.files) result (AnswersShown (Stage path.now (mode_number mode) bytes.now) (done_answer result) self.old.is_up self.new.is_up (shown (F.content self.old.files)) (shown (F.content self.new.files))) }
         ensures down { self.old.is_up ≡ false → result ≡ Err NodeFault.Down }
         ensures up { self.old.is_up ≡ true → self.new.is_up ≡ up_after result }
+        ensures awaits { self.new.awaited ≡ self.old.awaited }
         ensures clean { F.honest → KeepsClean (F.content self.old.files) (F.content self.new.files) }
         ensures file { IfErr result (TellsRead (λ id. id ≡ object_name Kind.Blob bytes.now) NoneRead) }
         ensures wear { Writes F.honest F.content F.failed F.can_fail F.left self.old.files self.new.files (TellsDevice result) }
@@ -167,6 +192,7 @@ impl<F: Files> CloneNode<F> {
         ensures down { self.old.is_up ≡ false → result ≡ Err NodeFault.Down }
         ensures err { F.honest → OnErr result (F.content self.new.files ≡ F.content self.old.files) }
         ensures up { self.old.is_up ≡ true → self.new.is_up ≡ up_after result }
+        ensures awaits { self.new.awaited ≡ self.old.awaited }
         ensures clean { F.honest → KeepsClean (F.content self.old.files) (F.content self.new.files) }
         ensures file { F.honest → IfErr result (TellsRead NoneRead (λ path. path ≡ branch.now)) }
         ensures wear { Writes F.honest F.content F.failed F.can_fail F.left self.old.files self.new.files (TellsDevice result) }
@@ -190,6 +216,7 @@ impl<F: Files> CloneNode<F> {
         ensures down { self.old.is_up ≡ false → result ≡ Err NodeFault.Down }
         ensures err { F.honest → OnErr result (F.content self.new.files ≡ F.content self.old.files) }
         ensures up { self.old.is_up ≡ true → self.new.is_up ≡ up_after result }
+        ensures awaits { self.new.awaited ≡ self.old.awaited }
         ensures clean { F.honest → KeepsClean (F.content self.old.files) (F.content self.new.files) }
         ensures file { F.honest → IfErr result (TellsRead (IsReached (F.content self.old.files) id.now) (IsAtName (F.content self.old.files) branch.now)) }
         ensures wear { Writes F.honest F.content F.failed F.can_fail F.left self.old.files self.new.files (TellsDevice result) }
@@ -213,6 +240,7 @@ impl<F: Files> CloneNode<F> {
         ensures down { self.old.is_up ≡ false → result ≡ Err NodeFault.Down }
         ensures err { F.honest → OnErr result (F.content self.new.files ≡ F.content self.old.files) }
         ensures up { self.old.is_up ≡ true → self.new.is_up ≡ up_after result }
+        ensures awaits { self.new.awaited ≡ self.old.awaited }
         ensures clean { F.honest → KeepsClean (F.content self.old.files) (F.content self.new.files) }
         ensures file { F.honest → IfErr result (TellsRead (IsReachedByHead (F.content self.old.files) head.now) NoneRead) }
         ensures wear { Writes F.honest F.content F.failed F.can_fail F.left self.old.files self.new.files (TellsDevice result) }
@@ -237,6 +265,7 @@ impl<F: Files> CloneNode<F> {
         ensures down { self.old.is_up ≡ false → result ≡ Err NodeFault.Down }
         ensures err { F.honest → OnErr result (F.content self.new.files ≡ F.content self.old.files) }
         ensures up { self.old.is_up ≡ true → self.new.is_up ≡ up_after result }
+        ensures awaits { self.new.awaited ≡ self.old.awaited }
         ensures clean { F.honest → KeepsClean (F.content self.old.files) (F.content self.new.files) }
         ensures file { F.honest → IfErr result (TellsRead (IsBelow (F.content self.old.files) id.now) NoneRead) }
         ensures wear { Writes F.honest F.content F.failed F.can_fail F.left self.old.files self.new.files (TellsDevice result) }
@@ -269,6 +298,7 @@ impl<F: Files> CloneNode<F> {
         ensures down { self.old.is_up ≡ false → result ≡ Err NodeFault.Down }
         ensures err { F.honest → OnErr result (SameOutside (codes "objects/") (F.content self.old.files) (F.content self.new.files)) }
         ensures up { self.old.is_up ≡ true → self.new.is_up ≡ up_after result }
+        ensures awaits { self.new.awaited ≡ self.old.awaited }
         ensures clean { F.honest → KeepsClean (F.content self.old.files) (F.content self.new.files) }
         ensures file { F.honest → IfErr result (TellsRead (IsOfCommit (F.content self.old.files) extra_parents.now author.now committer.now message.now) (IsAtHead (F.content self.old.files))) }
         ensures wear { Writes F.honest F.content F.failed F.can_fail F.left self.old.files self.new.files (TellsDevice result) }
@@ -285,6 +315,88 @@ impl<F: Files> CloneNode<F> {
         match commit::commit(self.alloc, &mut self.files, extra_parents, words) {
             Ok(id) => Ok(id),
             Err(fault) => Err(self.fail(fault)),
+        }
+    }
+
+    // The same of an exchange's fault.
+    fn fail_exchange(&mut self, fault: CloneFault) -> CloneFault
+        ensures fault { result ≡ fault }
+        ensures files { self.new.files ≡ self.old.files }
+        ensures awaits { self.new.awaited ≡ self.old.awaited }
+        ensures up { self.old.is_up ≡ true → self.new.is_up ≡ not (is_clone_fault fault) }
+    {
+        self.is_up &= !fault.is_fault();
+        fault
+    }
+
+    /// The message that asks the shared node for its refs. They are awaited then, and what was awaited before is forgotten.
+    pub fn start_fetch(&mut self) -> Result<Vec<u8>, CloneFault>
+        ensures answers { F.honest → AnswersClone (Command StartFetch) (SentAs result) (F.content self.old.files) (F.content self.new.files) self.old.awaited self.new.awaited self.old.is_up self.new.is_up }
+        ensures awaits { OnErr result (self.new.awaited ≡ self.old.awaited) }
+        ensures down { self.old.is_up ≡ false → result ≡ Err (CloneFault.Node NodeFault.Down) }
+        ensures up { self.old.is_up ≡ true → self.new.is_up ≡ clone_up_after result }
+        ensures refused { IfErr result (λ e. (e ≡ CloneFault.Node NodeFault.Down) ⊎ (e ≡ of_device Memory)) }
+        ensures same { self.new.files ≡ self.old.files }
+    {
+        if !self.is_up {
+            return Err(CloneFault::Node(NodeFault::Down));
+        }
+        match list_message(self.alloc) {
+            Ok(bytes) => {
+                self.awaited = Awaited::Advert;
+                Ok(bytes)
+            }
+            Err(fault) => {
+                let fault = CloneFault::from(fault);
+                Err(self.fail_exchange(fault))
+            }
+        }
+    }
+
+    /// The message that asks the shared node to change refs: see [`push_message`](vc_exchange::push_message). There is at least one
+    /// item. More than 256 are refused (84), and then the first id of which not all is there (40). What is awaited stays awaited.
+    pub fn start_push(&mut self, items: &[PushItem]) -> Result<Vec<u8>, CloneFault>
+        requires some { items.now ≢ [] }
+        ensures answers { F.honest → (¬ IsItemId (machine_items items.now) zero_id) → AnswersClone (Command (StartPush false (machine_items items.now))) (SentAs result) (F.content self.old.files) (F.content self.new.files) self.old.awaited self.new.awaited self.old.is_up self.new.is_up }
+        ensures bad_file { F.honest → IfErr result (λ e. (e ≡ CloneFault.Node NodeFault.Down) ⊎ IsRefusedStart (F.content self.old.files) items.now e) }
+        ensures awaits { self.new.awaited ≡ self.old.awaited }
+        ensures down { self.old.is_up ≡ false → result ≡ Err (CloneFault.Node NodeFault.Down) }
+        ensures up { self.old.is_up ≡ true → self.new.is_up ≡ clone_up_after result }
+        ensures same { F.content self.new.files ≡ F.content self.old.files }
+        ensures wear { Wears F.failed F.can_fail F.left self.old.files self.new.files (CloneTellsDevice result) }
+    {
+        if !self.is_up {
+            return Err(CloneFault::Node(NodeFault::Down));
+        }
+        match push_message(self.alloc, &mut self.files, items) {
+            Ok(bytes) => Ok(bytes),
+            Err(fault) => {
+                let fault = CloneFault::from(fault);
+                Err(self.fail_exchange(fault))
+            }
+        }
+    }
+
+    /// The object that an expression names at the clone: 51 to 56 where it names none.
+    pub fn resolve(&mut self, expr: &Expr<'_>) -> Result<ObjectId, CloneFault>
+        ensures answers { F.honest → (text : List ℕ) → IsExpr text (expr_view expr.now) → AnswersClone (Asks (Resolve text)) (FoundAs result) (F.content self.old.files) (F.content self.new.files) self.old.awaited self.new.awaited self.old.is_up self.new.is_up }
+        ensures value { F.honest → IfOk result (λ id. DenotesIn (F.content self.old.files) (expr_view expr.now) (Ok id)) }
+        ensures bad_file { F.honest → IfErr result (λ e. (e ≡ CloneFault.Node NodeFault.Down) ⊎ IsRefusedValue (F.content self.old.files) (expr_view expr.now) e) }
+        ensures awaits { self.new.awaited ≡ self.old.awaited }
+        ensures down { self.old.is_up ≡ false → result ≡ Err (CloneFault.Node NodeFault.Down) }
+        ensures up { self.old.is_up ≡ true → self.new.is_up ≡ clone_up_after result }
+        ensures same { F.content self.new.files ≡ F.content self.old.files }
+        ensures wear { Wears F.failed F.can_fail F.left self.old.files self.new.files (CloneTellsDevice result) }
+    {
+        if !self.is_up {
+            return Err(CloneFault::Node(NodeFault::Down));
+        }
+        match vc_repository::resolve(self.alloc, &mut self.files, expr) {
+            Ok(id) => Ok(id),
+            Err(fault) => {
+                let fault = CloneFault::from(fault);
+                Err(self.fail_exchange(fault))
+            }
         }
     }
 }

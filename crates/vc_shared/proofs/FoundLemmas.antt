@@ -7,6 +7,7 @@ use Rattle.vc_files.specs.declared.faults.Fault.TheVariants.{Device, Memory}
 use Rattle.vc_model.specs.Node.{Answer}
 use Rattle.vc_model.specs.Question.Question.{Resolve}
 use Rattle.vc_model.specs.SharedCall.SharedCall.{Asks}
+use Rattle.vc_node.specs.Values.{is_rev_fault, rev_answer}
 use Rattle.vc_repository.specs.Resolving.{IsOfExpr}
 use Rattle.vc_object.specs.declared.id.ObjectId.{ObjectId}
 use Rattle.vc_rev.specs.Grammar.{ExprText, IsExpr}
@@ -18,7 +19,7 @@ use Rattle.vc_store.specs.declared.faults.StoreFault.TheVariants as store
 use Rattle.vc_shared.proofs.ResolvingLemmas.{values_answer}
 use Rattle.vc_shared.specs.Calls.{AnswersShared, Quietly}
 use Rattle.vc_shared.specs.Faults.{IsOfDevice, fault_answer, is_fault, of_rev}
-use Rattle.vc_shared.specs.Resolving.{FoundAs, is_rev_fault, rev_answer}
+use Rattle.vc_shared.specs.Resolving.{FoundAs}
 use Rattle.vc_shared.specs.declared.fault.SharedFault.{SharedFault}
 
 same_answer : (e : RevFault) → fault_answer (of_rev e) ≡ rev_answer e

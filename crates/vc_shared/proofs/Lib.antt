@@ -1,6 +1,5 @@
 pub mod AcceptingLemmas
 pub mod CallLemmas
-pub mod DenotingLemmas
 pub mod FoundLemmas
 pub mod FaultLemmas
 pub mod HoldingLemmas

@@ -5,16 +5,19 @@ use Rattle.vc_fetch.specs.PackObjects.{objects_in}
 use Rattle.vc_pkt.specs.ObjectStreamView.{carried}
 use Rattle.vc_answer.proofs.judge.judge_pack.Goals as goal
 
-pub returns-in_err-first-clause-refused : goal.returns-in_err-first-clause-refused
-returns-in_err-first-clause-refused g c honest =
+pub returns-in_err-found-clause-refused : goal.returns-in_err-found-clause-refused
+returns-in_err-found-clause-refused g c honest =
     let content = g.F.Files.content c.args.files.now in
     let brought = objects_in (carried c.args.pack.now.objects) in
-    let told : IsRefusedPack content brought c.args.wants.now (from_store c.in_err-first.field-0.0) =
-    refused_pack content brought c.args.wants.now c.in_err-first.field-0.0 (c.in_err-first.ensures.refused honest) in
+    let told : IsRefusedPack content brought c.args.wants.now (from_store c.in_err-found.field-0.0) =
+    refused_pack content brought c.args.wants.now c.in_err-found.field-0.0 (c.in_err-found.ensures.refused honest) in
     search (rules, told)
 
-pub returns-in-Some-clause-refused : goal.returns-in-Some-clause-refused
-returns-in-Some-clause-refused g c honest = rw c.in-Some.is at (c.in_ok-first.ensures.first honest)
+pub returns-in-Err-clause-refused : goal.returns-in-Err-clause-refused
+returns-in-Err-clause-refused g c honest = rw c.in-Err.is at (c.in_ok-found.ensures.first honest)
 
-pub returns-in-None-clause-complete : goal.returns-in-None-clause-complete
-returns-in-None-clause-complete g c honest = rw c.in-None.is at (c.in_ok-first.ensures.first honest)
+pub returns-in-Ok-clause-complete : goal.returns-in-Ok-clause-complete
+returns-in-Ok-clause-complete g c honest = rw c.in-Ok.is at (c.in_ok-found.ensures.complete honest)
+
+pub returns-in-Ok-clause-met : goal.returns-in-Ok-clause-met
+returns-in-Ok-clause-met g c honest = rw c.in-Ok.is at (c.in_ok-found.ensures.met honest)

@@ -1,0 +1,80 @@
+//! The shared node and two clones, and what they sent.
+
+use crate::clones::{self, CloneSite};
+use crate::shared::{self, SharedSite};
+use crate::site::Site;
+use crate::words::taken;
+use bstr::ByteVec;
+use std::alloc::{AllocError, Global};
+
+/// The nodes, and the messages that they sent, in order.
+#[derive(Drop)]
+pub struct Ground {
+    shared: SharedSite,
+    first: CloneSite,
+    second: CloneSite,
+    sent: Vec<Vec<u8>>,
+    alloc: Global,
+}
+
+impl Ground {
+    /// All nodes are new and closed, and nothing was sent.
+    pub fn empty(alloc: Global) -> Ground {
+        Ground {
+            shared: Site::empty(alloc),
+            first: Site::empty(alloc),
+            second: Site::empty(alloc),
+            sent: Vec::new(alloc),
+            alloc,
+        }
+    }
+
+    // All nodes are new and open, and nothing was sent.
+    fn world(&mut self, out: &mut String) -> Result<(), AllocError> {
+        *self = Ground::empty(self.alloc);
+        self.shared.open(out, "")?;
+        out.push(' ')?;
+        self.first.open(out, "")?;
+        out.push(' ')?;
+        self.second.open(out, "")
+    }
+
+    // What the shared node answers to a verb, and to what stands behind it in the row.
+    fn shared_row(&mut self, out: &mut String, verb: &str, text: &str) -> Result<(), AllocError> {
+        match verb {
+            "new" => {
+                self.shared = Site::empty(self.alloc);
+                out.push_str("ok")
+            }
+            "open" => self.shared.open(out, text),
+            "close" => {
+                self.shared.close();
+                out.push_str("ok")
+            }
+            "accept" => {
+                let bytes = Vec::unescape_bytes(self.alloc, text)?;
+                shared::accept(out, &mut self.shared, &mut self.sent, &bytes)
+            }
+            "take" => {
+                let bytes = taken(self.alloc, &self.sent, text)?;
+                shared::accept(out, &mut self.shared, &mut self.sent, &bytes)
+            }
+            "step" => shared::step(out, &mut self.shared, &mut self.sent, text),
+            "resolve" => shared::resolve(out, self.alloc, &mut self.shared, text),
+            "file" => self.shared.file(out, text),
+            "count" => self.shared.count(out, text),
+            _ => out.push_str("no such verb"),
+        }
+    }
+
+    /// What a node answers to a row.
+    pub fn row(&mut self, out: &mut String, row: &str) -> Result<(), AllocError> {
+        let (verb, text) = row.split_once(' ').unwrap_or((row, ""));
+        match verb {
+            "world" => self.world(out),
+            "c0" => clones::row(out, self.alloc, &mut self.first, &mut self.sent, text),
+            "c1" => clones::row(out, self.alloc, &mut self.second, &mut self.sent, text),
+            _ => self.shared_row(out, verb, text),
+        }
+    }
+}

@@ -1,0 +1,137 @@
+-- What a pack brings is stored, one object after another, in order of name.
+use Rattle.std.proofs.Common.{◌≡◌, ◌⊎◌, inl, inr, ℕ, Bool, true, false, cond, List, [], ◌∷◌, map, Option, Some, None, refl, sym, ap, ◌∙◌, subst, w8}
+use Rattle.std.specs.Prelude.{codes, option_and_then, unwrap_or}
+use Rattle.std.specs.List.{AllByRecursion}
+use Rattle.std.specs.List.Sorted.{IsStrictlySortedBy}
+use Rattle.std.specs.Option.{option_or}
+use Rattle.std.specs.Ordering.{is_eq}
+use Rattle.std.specs.declared.cmp.Ordering.TheVariants.{Less}
+use Rattle.std.proofs.Math.Facts.{Fits-of_lt}
+use Rattle.std.proofs.Math.Logic.{∥∥₁_elim}
+use Rattle.vc_fetch.specs.Pack.{is_object}
+use Rattle.vc_files.specs.FileMap.{FileMap, SameOutside}
+use Rattle.vc_format.proofs.Names.{byte_of, name_bytes, name_length}
+use Rattle.vc_graph.specs.Overlay.{with_carried}
+use Rattle.vc_object.proofs.IdLemmas.{id_eq-same, id_ties, is_id-from_array}
+use Rattle.vc_object.proofs.OneFault.{no_body_fault}
+use Rattle.vc_object.specs.Decoding.{StoredObject, stored_object}
+use Rattle.vc_object.specs.Object.{IsObject, object_bytes, object_name}
+use Rattle.vc_object.specs.ObjectId.{IsSortedByName, id_cmp, id_eq, is_id}
+use Rattle.vc_object.specs.ObjectMap.{ObjectMap}
+use Rattle.vc_object.specs.declared.id.ObjectId.{ObjectId}
+use Rattle.vc_object.specs.declared.kind.Kind.{Kind}
+use Rattle.vc_pkt.specs.Carried.{object_named, stored_name}
+use Rattle.vc_session.proofs.CleanLemmas.{bad_objects}
+use Rattle.vc_session.proofs.DamageLemmas.{damaged_before}
+use Rattle.vc_session.specs.Carrying.{objects_in}
+use Rattle.vc_session.specs.Clean.{MakesNoneBad}
+use Rattle.vc_store.specs.Store.{objects, with_file, with_object}
+use Rattle.vc_store.specs.StoreFault.{IsOfDamage, IsOfPut}
+use Rattle.vc_store.specs.declared.faults.StoreFault.{StoreFault}
+use Rattle.vc_store.specs.declared.faults.StoreFault.TheVariants.{Absent, BadObject, Damaged, Fault}
+use Rattle.vc_exchange.specs.Faults.{BlamesObjects}
+use Rattle.vc_exchange.specs.Storing.{AreSomeStored, AreStored}
+
+-- ---- what comes, name by name
+same_test : (id : ObjectId) (o : StoredObject) → is_eq (id_cmp id (stored_name o)) ≡ id_eq id (stored_name o)
+same_test id o = sym (id_ties id (stored_name o))
+
+found_step : (id : ObjectId) (o : StoredObject) (os : List StoredObject) → object_named id (o ∷ os) ≡ cond (id_eq id (stored_name o)) (Some o) (object_named id os)
+found_step id o os = ap (λ b. cond b (Some o) (object_named id os)) (same_test id o)
+
+abbrev kept : StoredObject → Option StoredObject
+kept o = cond (is_object o) (Some o) None
+
+in_step : (id : ObjectId) (o : StoredObject) (os : List StoredObject) (b : Bool) → id_eq id (stored_name o) ≡ b → objects_in (o ∷ os) id ≡ cond b (kept o) (objects_in os id)
+unfolding objects_in
+in_step id o os true is = ap (option_and_then kept) (found_step id o os ∙ ap (λ b. cond b (Some o) (object_named id os)) is)
+in_step id o os false is = ap (option_and_then kept) (found_step id o os ∙ ap (λ b. cond b (Some o) (object_named id os)) is)
+
+in_none : (id : ObjectId) (os : List StoredObject) → object_named id os ≡ None → objects_in os id ≡ None
+unfolding objects_in
+in_none id os none = ap (option_and_then kept) none
+
+nothing_in : (id : ObjectId) → objects_in [] id ≡ None
+unfolding objects_in
+nothing_in id = refl
+
+-- in order of name no later object has the first one's name
+above : (o : StoredObject) (os : List StoredObject) → AllByRecursion (λ y. id_cmp (stored_name o) y ≡ Less) (map stored_name os) → object_named (stored_name o) os ≡ None
+above o [] all = refl
+above o (p ∷ ps) all = ap (λ c. cond (is_eq c) (Some p) (object_named (stored_name o) ps)) all.0 ∙ above o ps all.1
+
+once : (id : ObjectId) (o : StoredObject) (os : List StoredObject) → IsSortedByName (map stored_name (o ∷ os)) → id_eq id (stored_name o) ≡ true → object_named id os ≡ None
+unfolding IsStrictlySortedBy
+once id o os sorted same = ap (λ n. object_named n os) (id_eq-same id (stored_name o) same) ∙ above o os sorted.0
+
+-- ---- so far
+or_none : (o : Option StoredObject) → option_or o None ≡ o
+or_none None = refl
+or_none (Some x) = refl
+
+-- what is stored, and what is still to come, are all; nothing that was stored is gone
+pub record IsStoring (old now : FileMap) (all rest : List StoredObject) : Type 0 where
+  pub same : (id : ObjectId) → option_or (objects old id) (objects_in all id) ≡ option_or (objects now id) (objects_in rest id)
+  pub none : (id : ObjectId) → objects now id ≡ None → objects old id ≡ None
+
+pub storing_none : (old : FileMap) (all : List StoredObject) → IsStoring old old all all
+storing_none old all = record { same = λ id. refl; none = λ id e. e }
+
+pub storing_all : (old now : FileMap) (all : List StoredObject) → IsStoring old now all [] → AreStored old now all
+unfolding with_carried
+storing_all old now all s = record { each = λ id. sym (s.same id ∙ ap (option_or (objects now id)) (nothing_in id) ∙ or_none (objects now id)) }
+
+pub storing_some : (old now : FileMap) (all rest : List StoredObject) → IsStoring old now all rest → AreSomeStored old now all
+unfolding with_carried
+storing_some old now all rest s = record { each = λ id. by id (objects now id) refl }
+  where
+    by : (id : ObjectId) (found : Option StoredObject) → objects now id ≡ found → (objects now id ≡ objects old id) ⊎ (objects now id ≡ option_or (objects old id) (objects_in all id))
+    by id None e = inl (e ∙ sym (s.none id e))
+    by id (Some o) e = inr (e ∙ sym (s.same id ∙ ap (λ f. option_or f (objects_in rest id)) e))
+
+module _ (all rest : List StoredObject) (o : StoredObject) where
+  -- a body at fault is passed over
+  pub storing_passed : (old now : FileMap) → IsSortedByName (map stored_name (o ∷ rest)) → is_object o ≡ false → IsStoring old now all (o ∷ rest) → IsStoring old now all rest
+  storing_passed old now sorted bad s = record { same = λ id. s.same id ∙ ap (option_or (objects now id)) (by id (id_eq id (stored_name o)) refl); none = s.none }
+    where
+      by : (id : ObjectId) (b : Bool) → id_eq id (stored_name o) ≡ b → objects_in (o ∷ rest) id ≡ objects_in rest id
+      by id true is = in_step id o rest true is ∙ ap (λ b. cond b (Some o) None) bad ∙ sym (in_none id rest (once id o rest sorted is))
+      by id false is = in_step id o rest false is
+
+  -- and an object is put under its name
+  module _ (old now new : FileMap) (name : ObjectId) (good : is_object o ≡ true) (is_name : name ≡ stored_name o) (put : objects new ≡ with_object (objects now) name o) where
+    at : (q : ObjectId) (b : Bool) → id_eq q (stored_name o) ≡ b → objects new q ≡ cond b (Some (unwrap_or (objects now (stored_name o)) o)) (objects now q)
+    unfolding with_object
+    at q b is = ap (λ (m : ObjectMap). m q) put ∙ ap (λ (n : ObjectId). cond (id_eq q n) (Some (unwrap_or (objects now n) o)) (objects now q)) is_name ∙ ap (λ b. cond b (Some (unwrap_or (objects now (stored_name o)) o)) (objects now q)) is
+
+    or_some : (found : Option StoredObject) → option_or found (Some o) ≡ Some (unwrap_or found o)
+    or_some None = refl
+    or_some (Some x) = refl
+
+    pub storing_put : IsStoring old now all (o ∷ rest) → IsStoring old new all rest
+    storing_put s = record { same = λ q. s.same q ∙ by q (id_eq q (stored_name o)) refl; none = λ q e. s.none q (absent q (id_eq q (stored_name o)) refl e) }
+      where
+        by : (q : ObjectId) (b : Bool) → id_eq q (stored_name o) ≡ b → option_or (objects now q) (objects_in (o ∷ rest) q) ≡ option_or (objects new q) (objects_in rest q)
+        by q true is =
+            ap (option_or (objects now q)) (in_step q o rest true is ∙ ap (λ b. cond b (Some o) None) good) ∙ or_some (objects now q)
+            ∙ ap (λ (n : ObjectId). Some (unwrap_or (objects now n) o)) (id_eq-same q (stored_name o) is) ∙ sym (ap (λ f. option_or f (objects_in rest q)) (at q true is))
+        by q false is = ap (option_or (objects now q)) (in_step q o rest false is) ∙ sym (ap (λ f. option_or f (objects_in rest q)) (at q false is))
+
+        absent : (q : ObjectId) (b : Bool) → id_eq q (stored_name o) ≡ b → objects new q ≡ None → objects now q ≡ None
+        absent q true is e = absurd (let bad : Some (unwrap_or (objects now (stored_name o)) o) ≡ None = sym (at q true is) ∙ e in cc bad)
+        absent q false is e = sym (at q false is) ∙ e
+
+-- ---- a put makes no file bad
+name_valid : (kind : Kind) (body : List ℕ) → is_id (object_name kind body) ≡ true
+name_valid kind body = is_id-from_array (object_name kind body) (name_length (object_bytes kind body)) (λ i. Fits-of_lt {w = w8} (byte_of (object_name kind body).0 (name_bytes (object_bytes kind body)) i))
+
+pub put_bad : (old new : FileMap) (id : ObjectId) (kind : Kind) (body : List ℕ) → id ≡ object_name kind body → SameOutside (codes "objects/") old new → new ≡ with_file old (stored_object kind body) → objects new ≡ with_object (objects old) id (stored_object kind body) → MakesNoneBad old new
+put_bad old new id kind body named outside file made =
+    bad_objects old new outside (damaged_before old new id (stored_object kind body) (subst (λ (n : ObjectId). is_id n ≡ true) (sym named) (name_valid kind body)) (sym named) file made)
+
+-- ---- why one is not stored: what is brought is an object
+pub put_blames : (old now : FileMap) (kind : Kind) (body : List ℕ) (e : StoreFault) → MakesNoneBad old now → ∥ IsObject kind body ∥₁ → IsOfPut kind body e → IsOfDamage now e → BlamesObjects old e
+put_blames old now kind body (BadObject fault) none object of damage = ∥∥₁_elim object (λ x. absurd x) (λ o. no_body_fault kind body fault o of)
+put_blames old now kind body (Absent absent) none object of damage = absurd of
+put_blames old now kind body (Damaged damaged) none object of damage = none.objects damaged damage
+put_blames old now kind body (Fault fault) none object of damage = tt

@@ -1,0 +1,38 @@
+-- What a clone makes of a message, as the machine has it: the deed, done whole, or cut short by a fault.
+use Rattle.std.specs.Prelude.{◌≡◌, ◌≢◌, Option}
+use Rattle.vc_files.specs.FileMap.{FileMap}
+use Rattle.vc_model.specs.Clone.{Awaited, Receives}
+use Rattle.vc_model.specs.Message.{Message}
+use Rattle.vc_model.specs.Node.{Deed, Reply}
+use Rattle.vc_model.specs.Repository.{Done, Effect, Repository, StopsWithin, no_effect}
+use Rattle.vc_rules.specs.Git.{git}
+use Rattle.vc_rules.specs.OpenPushes.{HoldsContent}
+
+-- The clone has received the message: the machine's clone may do this deed, and the files hold what it leaves.
+pub record IsReceived (r : Repository) (awaits : Awaited) (m : Message) (new : FileMap) (left : Awaited) (sends : Option Message) (reply : Reply) : Type 0 where
+  pub effect : Effect
+  pub after : Repository
+  pub receives : Receives git r awaits m (record { effect = effect; left = left; sends = sends; reply = reply })
+  pub done : Done r effect after
+  pub content : HoldsContent new after
+  pub head : after.head ≡ r.head
+  pub index : after.index ≡ r.index
+
+-- The files hold what a stop leaves of a deed of the machine's clone that sends nothing.
+pub record IsPartlyReceived (r : Repository) (awaits : Awaited) (m : Message) (new : FileMap) : Type 0 where
+  pub deed : Deed Awaited
+  pub after : Repository
+  pub receives : Receives git r awaits m deed
+  pub stops : StopsWithin r deed.effect after
+  pub content : HoldsContent new after
+  pub head : after.head ≡ r.head
+  pub index : after.index ≡ r.index
+
+-- nothing was done, or some of it
+pub data IsCutShort (r : Repository) (awaits : Awaited) (m : Message) (new : FileMap) : Type 0 where
+  at_first : HoldsContent new r → IsCutShort r awaits m new
+  within : IsPartlyReceived r awaits m new → IsCutShort r awaits m new
+
+-- the machine's clone does something to what is stored
+abbrev pub ChangesAt : Repository → Awaited → Message → Type 0
+ChangesAt r awaits m = (d : Deed Awaited) × Receives git r awaits m d × (d.effect ≢ no_effect)

@@ -1,0 +1,16 @@
+-- What is stored of the objects that a pack brings.
+use Rattle.std.specs.Prelude.{◌≡◌, ◌⊎◌, List}
+use Rattle.vc_files.specs.FileMap.{FileMap}
+use Rattle.vc_graph.specs.Overlay.{with_carried}
+use Rattle.vc_object.specs.Decoding.{StoredObject}
+use Rattle.vc_object.specs.declared.id.ObjectId.{ObjectId}
+use Rattle.vc_session.specs.Carrying.{objects_in}
+use Rattle.vc_store.specs.Store.{objects}
+
+-- what is stored stays, and what is brought is added
+pub record AreStored (old new : FileMap) (brought : List StoredObject) : Type 0 where
+  pub each : (id : ObjectId) → objects new id ≡ with_carried (objects old) (objects_in brought) id
+
+-- some of it is added
+pub record AreSomeStored (old new : FileMap) (brought : List StoredObject) : Type 0 where
+  pub each : (id : ObjectId) → (objects new id ≡ objects old id) ⊎ (objects new id ≡ with_carried (objects old) (objects_in brought) id)

@@ -1,0 +1,49 @@
+-- What a call of a clone says that sends or takes messages, or asks for a value: the machine's node that is held before it leads to
+-- one that is held after it, by the machine's answer.
+use Rattle.std.specs.Prelude.{◌≡◌, ℕ, Bool, List, Option, Some, None, Result, Ok, Err, Vec}
+use Rattle.std.specs.Global.{Global}
+use Rattle.vc_files.specs.FileMap.{FileMap}
+use Rattle.vc_format.specs.Git.{bytes_of_id}
+use Rattle.vc_message.specs.Machine.{IsWritten}
+use Rattle.vc_model.specs.Clone.{Awaited, CloneNode}
+use Rattle.vc_model.specs.CloneCall.{CloneAnswers, CloneCall}
+use Rattle.vc_model.specs.Message.{Message}
+use Rattle.vc_model.specs.Node.{Answer}
+use Rattle.vc_model.specs.Node.Answer.{Did}
+use Rattle.vc_model.specs.Node.Reply.{Found, Sends}
+use Rattle.vc_model.specs.Repository.{IsSound}
+use Rattle.vc_object.specs.declared.id.ObjectId.{ObjectId}
+use Rattle.vc_rules.proofs.GitLaws.{git_rules}
+use Rattle.vc_rules.specs.Git.{git}
+use Rattle.vc_node.specs.Awaited.{AwaitedText, IsAwaited}
+use Rattle.vc_node.specs.CloneFaults.{fault_answer}
+use Rattle.vc_node.specs.Machine.{HoldsNode}
+use Rattle.vc_node.specs.declared.clone_fault.CloneFault.{CloneFault}
+
+-- bytes are sent that are a message's
+pub record SendsBytes (bytes : List ℕ) (a : Answer) (sends : Option Message) : Type 0 where
+  pub message : Message
+  pub written : IsWritten message bytes
+  pub answer : a ≡ Did Sends
+  pub sent : sends ≡ Some message
+
+-- nothing is sent
+pub record Quietly (b a : Answer) (sends : Option Message) : Type 0 where
+  pub answer : a ≡ b
+  pub sent : sends ≡ None
+
+-- the machine's answer, as it is told, to the start of an exchange
+abbrev pub SentAs : Result (Vec ℕ Global) CloneFault → Answer → Option Message → Type 0
+SentAs (Ok bytes) a sends = SendsBytes bytes.items a sends
+SentAs (Err e) a sends = Quietly (fault_answer e) a sends
+
+-- to the question for a value
+abbrev pub FoundAs : Result ObjectId CloneFault → Answer → Option Message → Type 0
+FoundAs (Ok id) a sends = Quietly (Did (Found (bytes_of_id id))) a sends
+FoundAs (Err e) a sends = Quietly (fault_answer e) a sends
+
+-- Whatever node was held, some node is held after the call; and where the node was sound, the answer and that node are the machine's.
+pub record AnswersClone (call : CloneCall) (shows : Answer → Option Message → Type 0) (old new : FileMap) (waits after : AwaitedText) (was_up is_up : Bool) : Type 0 where
+  pub each : (awaited : Awaited) (n : CloneNode) → IsAwaited waits awaited → HoldsNode old was_up awaited n
+      → (left : Awaited) × (m : CloneNode) × (a : Answer) × (sends : Option Message) × IsAwaited after left × HoldsNode new is_up left m × shows a sends
+      × (IsSound git n.repository → CloneAnswers git git_rules n call a m sends)
