@@ -25,10 +25,10 @@ use Rattle.vc_model.proofs.Pushes.{all_append, all_map}
 
 -- ---- lists
 
-contains_first : {X : Type 0} (x y : X) → Contains (x ∷ []) y → x ≡ y
+pub contains_first : {X : Type 0} (x y : X) → Contains (x ∷ []) y → x ≡ y
 contains_first x y c = elim (Contains-push_cases [] x y c) [ inl n ↦ absurd (let k : n.0 < 0 = n.1 in omega arith) | inr e ↦ e ]
 
-contains_cons : {X : Type 0} (x : X) (xs : List X) (y : X) → Contains (x ∷ xs) y → (x ≡ y) ⊎ Contains xs y
+pub contains_cons : {X : Type 0} (x : X) (xs : List X) (y : X) → Contains (x ∷ xs) y → (x ≡ y) ⊎ Contains xs y
 contains_cons x xs y c = elim (Contains-append_cases (x ∷ []) xs y c) [ inl f ↦ inl (contains_first x y f) | inr r ↦ inr r ]
 
 -- what holds of each element holds of one that is contained
@@ -48,7 +48,7 @@ head_good_by fmt r s (OnBranch b) e x g =
     (v.closed, elim (v.kind) [ inl t ↦ absurd (branch_tag_apart named.0 t.0 (sym named.1 ∙ t.1)) | inr k ↦ k.1 ])
 head_good_by fmt r s (Detached y) e x g = let same : y ≡ x = cc in s.head x (e ∙ ap Detached same)
 
-head_good : (fmt : Format) (r : Repository) → IsSound fmt r → (o : Option Id) → head_value r ≡ o → AllByRecursion (IsGoodCommit fmt (stored r.objects)) (option_to_list o)
+pub head_good : (fmt : Format) (r : Repository) → IsSound fmt r → (o : Option Id) → head_value r ≡ o → AllByRecursion (IsGoodCommit fmt (stored r.objects)) (option_to_list o)
 head_good fmt r s None e = tt
 head_good fmt r s (Some x) e = (head_good_by fmt r s r.head refl x e, tt)
 

@@ -1,10 +1,11 @@
 -- Every exact answer keeps a node good, and so does every exact run.
-use Rattle.std.proofs.Common.{◌≡◌, ℕ, [], ◌∷◌, Some, Result, Ok, Err, inl, inr, sym, subst, nat_cmp, slice_get}
+use Rattle.std.proofs.Common.{◌≡◌, ℕ, [], ◌∷◌, Option, Some, Result, Ok, Err, inl, inr, sym, subst, nat_cmp, slice_get}
 use Rattle.std.specs.FinMap.{get, nat_cmp-IsAntisymmetric}
 use Rattle.std.specs.Cmp.{nat_cmp_total}
 use Rattle.vc_model.specs.Object.{Format}
 use Rattle.vc_model.specs.Repository.{Repository}
-use Rattle.vc_model.specs.Message.{Envelope, message_of}
+use Rattle.vc_model.specs.Push.{Slots}
+use Rattle.vc_model.specs.Message.{Message, Envelope, message_of}
 use Rattle.vc_model.specs.Message.Envelope.{ToShared, ToClone}
 use Rattle.vc_model.specs.Node.{Answer}
 use Rattle.vc_model.specs.Shared.{SharedNode}
@@ -15,12 +16,12 @@ use Rattle.vc_model.specs.World.Party.{TheShared, TheClone}
 use Rattle.vc_model.specs.Run.{world_after}
 use Rattle.vc_model.specs.Safe.{EveryNodeSound}
 use Rattle.vc_model.specs.Apart.{EveryNodeApart}
-use Rattle.vc_model.specs.Keeping.{Arrived, Comes}
+use Rattle.vc_model.specs.Keeping.{Arrived, Comes, SharedKept, Alone, any_order}
 use Rattle.vc_model.specs.Rules.{Rules, rules_by, IsFormedMessage}
 use Rattle.vc_model.specs.Wire.{Wire, wire_by}
-use Rattle.vc_model.specs.SharedCall.{SharedCall}
+use Rattle.vc_model.specs.SharedCall.{SharedCall, SharedAnswers}
 use Rattle.vc_model.specs.SharedCall.SharedCall.{Accept, StepOf, Asks as AsksShared, Prune as PruneShared, Open as OpenShared}
-use Rattle.vc_model.specs.CloneCall.{CloneCall}
+use Rattle.vc_model.specs.CloneCall.{CloneCall, CloneAnswers}
 use Rattle.vc_model.specs.CloneCall.CloneCall.{Command, Receive, Asks, Prune, Open}
 use Rattle.vc_model.specs.Order.{Order, call_of}
 use Rattle.vc_model.specs.ExactWorld.{FusedWorld, WorldEvent, CallsShared, OrderCalls, CallsClone, WorldAnswers, ExactHistory, fused_after, ExactRun}
@@ -28,7 +29,7 @@ use Rattle.vc_model.specs.ExactWorld.Letter.{FromClone, FromShared}
 use Rattle.vc_model.specs.ExactWorld.WorldEvent.{Orders, Delivers, Forges, Steps, Compares, Prunes, Packs, Restarts, Stops}
 use Rattle.vc_model.specs.ExactWorld.WorldAnswers.{no_message, stop_shared, stop_clone, at_shared, at_clone}
 use Rattle.vc_model.specs.Exact.{clone_event, shared_event, CallFits}
-use Rattle.vc_model.specs.Good.{EveryNodeGood, BringsGood, BringsGoodToShared, CloneAnswerKeepsGood, SharedAnswerKeepsGood, ExactRunStaysGood, NewIsGood}
+use Rattle.vc_model.specs.Good.{IsGood, IsGoodShared, SendsGood, EveryNodeGood, BringsGood, BringsGoodToShared, CloneAnswerKeepsGood, SharedAnswerKeepsGood, ExactRunStaysGood, NewIsGood}
 use Rattle.vc_model.proofs.Maps.{insert_cases, none_in_empty}
 use Rattle.vc_model.proofs.Kept.{shared_step_keeps, clone_step_keeps, more_sent, new_is_sound}
 use Rattle.vc_model.proofs.Runs.{stays_sound}
@@ -69,28 +70,35 @@ module _ (fmt : Format) (rules : Rules fmt) where
   brings_to_shared PruneShared b = tt
   brings_to_shared OpenShared b = tt
 
+  pub clone_keeps_good : (old new : CloneNode) (e : CloneCall) (a : Answer) (sends : Option Message) → IsGood fmt rules old.repository → CallFits fmt rules old.repository e → BringsGood fmt rules e
+      → CloneAnswers fmt rules old e a new sends → IsGood fmt rules new.repository × SendsGood fmt rules sends
+  clone_keeps_good old new e a sends h f b s =
+      let step = clone_answer_is_step fmt rules old new e a sends h.sound f s in
+      let kept = clone_step_keeps fmt old new (clone_event e) a sends h.sound (comes old.repository e f b) step in
+      let form : CloneFormed fmt rules new sends = clone_formed fmt rules old new e a sends h.formed (brings e b) s in
+      (record { sound = kept.0; formed = form.formed; apart = clone_apart fmt old new (clone_event e) a sends h.apart step }, λ m g. (kept.1 m g, form.sent m g))
+
+  pub shared_keeps_good : (old new : SharedNode) (e : SharedCall) (a : Answer) (sends : Option Message) → IsGoodShared fmt rules old → SharedKept fmt any_order old → BringsGoodToShared fmt rules e
+      → ((slots : Slots) → old.live ≡ Some slots → Alone new.repository.objects slots) → SharedAnswers fmt rules old e a new sends
+      → IsGoodShared fmt rules new × SharedKept fmt any_order new × SendsGood fmt rules sends
+  shared_keeps_good old new e a sends h k b alone s =
+      let step = shared_answer_is_step fmt rules old new e a sends s in
+      let kept = shared_step_keeps fmt old new (shared_event e) a sends k (arrived e b) alone step in
+      let form : SharedFormed fmt rules new sends = shared_formed fmt rules old new e a sends h.good.formed h.carried (brings_to_shared e b) s in (
+        record {
+          good = record { sound = kept.0.sound; formed = form.formed; apart = shared_apart fmt old new (shared_event e) a sends h.good.apart step };
+          bare = kept.0.bare;
+          carried = form.carried;
+        },
+        kept.0,
+        λ m g. (kept.1 m g, form.sent m g),
+      )
+
 pub clone_answer_keeps_good : CloneAnswerKeepsGood
-clone_answer_keeps_good fmt tests old new e a sends h f b s =
-    let rules : Rules fmt = rules_by fmt tests in
-    let step = clone_answer_is_step fmt rules old new e a sends h.sound f s in
-    let kept = clone_step_keeps fmt old new (clone_event e) a sends h.sound (comes fmt rules old.repository e f b) step in
-    let form : CloneFormed fmt rules new sends = clone_formed fmt rules old new e a sends h.formed (brings fmt rules e b) s in
-    (record { sound = kept.0; formed = form.formed; apart = clone_apart fmt old new (clone_event e) a sends h.apart step }, λ m g. (kept.1 m g, form.sent m g))
+clone_answer_keeps_good fmt tests old new e a sends h f b s = clone_keeps_good fmt (rules_by fmt tests) old new e a sends h f b s
 
 pub shared_answer_keeps_good : SharedAnswerKeepsGood
-shared_answer_keeps_good fmt tests old new e a sends h k b alone s =
-    let rules : Rules fmt = rules_by fmt tests in
-    let step = shared_answer_is_step fmt rules old new e a sends s in
-    let kept = shared_step_keeps fmt old new (shared_event e) a sends k (arrived fmt rules e b) alone step in
-    let form : SharedFormed fmt rules new sends = shared_formed fmt rules old new e a sends h.good.formed h.carried (brings_to_shared fmt rules e b) s in (
-      record {
-        good = record { sound = kept.0.sound; formed = form.formed; apart = shared_apart fmt old new (shared_event e) a sends h.good.apart step };
-        bare = kept.0.bare;
-        carried = form.carried;
-      },
-      kept.0,
-      λ m g. (kept.1 m g, form.sent m g),
-    )
+shared_answer_keeps_good fmt tests old new e a sends h k b alone s = shared_keeps_good fmt (rules_by fmt tests) old new e a sends h k b alone s
 
 -- ---- a run
 

@@ -30,3 +30,10 @@ pub mod Apart
 pub mod Formed
 pub mod Good
 pub mod Left
+pub mod Carried
+pub mod Following
+pub mod Wanted
+pub mod Came
+pub mod Exchanges
+pub mod Fetches
+pub mod Pushing

@@ -36,7 +36,7 @@ unless_once need number n k p q rest (inr g) (inl h) = absurd (h.0 g.0)
 unless_once need number n k p q rest (inr g) (inr h) = rest g.1 h.1
 
 -- where the need is met
-met : (need : Type 0) (number n : ℕ) (rest : Type 0) → need → Unless need number n rest → rest
+pub met : (need : Type 0) (number n : ℕ) (rest : Type 0) → need → Unless need number n rest → rest
 met need number n rest is (inl g) = absurd (g.0 is)
 met need number n rest is (inr g) = g.1
 
@@ -90,7 +90,7 @@ any_once fmt at refs n x t u (inl g) (inr h) = absurd (branch_tag_apart g.name h
 any_once fmt at refs n x t u (inr g) (inl h) = absurd (branch_tag_apart h.name g.name (sym h.branch_is ∙ g.tag_is))
 any_once fmt at refs n x t u (inr g) (inr h) = g.same ∙ sym h.same
 
-open_once : (fmt : Format) (at : Lookup) (seen : List Id) (rs : List (RefName × Id)) (xs ys : List Id) → AreOpen fmt at seen rs xs → AreOpen fmt at seen rs ys → xs ≡ ys
+pub open_once : (fmt : Format) (at : Lookup) (seen : List Id) (rs : List (RefName × Id)) (xs ys : List Id) → AreOpen fmt at seen rs xs → AreOpen fmt at seen rs ys → xs ≡ ys
 open_once fmt at seen [] xs ys g h = g ∙ sym h
 open_once fmt at seen (r ∷ rs) xs ys (inl g) (inl h) = open_once fmt at seen rs xs ys g.1 h.1
 open_once fmt at seen (r ∷ rs) xs ys (inl g) (inr h) = absurd (elim (g.0) [ inl c ↦ h.0 c | inr s ↦ h.1 s ])
@@ -114,7 +114,7 @@ old_once refs n x y (inl g) (inr h) = absurd (h.0 (g.0, g.1))
 old_once refs n x y (inr g) (inl h) = absurd (g.0 (h.0, h.1))
 old_once refs n x y (inr g) (inr h) = g.1 ∙ sym h.1
 
-same_command : (o p n m : Id) (x y : RefName) → o ≡ p → n ≡ m → x ≡ y → ◌≡◌ {A = Command} (record { old = o; new = n; name = x }) (record { old = p; new = m; name = y })
+pub same_command : (o p n m : Id) (x y : RefName) → o ≡ p → n ≡ m → x ≡ y → ◌≡◌ {A = Command} (record { old = o; new = n; name = x }) (record { old = p; new = m; name = y })
 same_command o p n m x y e f g = cc
 
 same_cons : {X : Type 0} (x y : X) (xs ys : List X) → x ≡ y → xs ≡ ys → x ∷ xs ≡ y ∷ ys

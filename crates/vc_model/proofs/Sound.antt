@@ -144,7 +144,7 @@ all_extends s c after a = some_extends s c after (all_is_some s c after a)
 sound_some : (fmt : Format) (r : Repository) (c after : Objects) → IsSound fmt r → IsNamed fmt c → SomeAdded r.objects c after → IsSound fmt (with_objects r after)
 sound_some fmt r c after h n a = sound_grows fmt r after h (some_extends r.objects c after a) (some_named fmt r.objects c after h.objects n a)
 
-all_taken : {X : Type 0} (P : X → Type 0) (k : ℕ) (xs : List X) → AllByRecursion P xs → AllByRecursion P (take k xs)
+pub all_taken : {X : Type 0} (P : X → Type 0) (k : ℕ) (xs : List X) → AllByRecursion P xs → AllByRecursion P (take k xs)
 all_taken P zero xs a = tt
 all_taken P (suc k) [] a = tt
 all_taken P (suc k) (x ∷ xs) a = (a.0, all_taken P k xs a.1)

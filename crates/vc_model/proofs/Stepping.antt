@@ -25,12 +25,15 @@ use Rattle.vc_model.proofs.Clones.{good_only, good_none, named_empty}
 use Rattle.vc_model.proofs.Pushes.{push_grows, over_grows, check_push, update_all, update_next, UpdateOk, Descends, descends_same, Forward}
 use Rattle.vc_model.proofs.Pushes.Forward.{stays, sets}
 
-added_empty : (s t : Objects) → AllAdded s empty t → (x : Id) → get t x ≡ get s x
-added_empty s t a x = a.each x ∙ nothing (get s x) ∙ refl
+pub over_empty : (s : Objects) (x : Id) → over s empty x ≡ get s x
+over_empty s x = nothing (get s x)
   where
     nothing : (o : Option Object) → option_or o (get (empty {X = Object} {R = slice_cmp nat_cmp}) x) ≡ o
     nothing None = get-empty (slice_cmp nat_cmp) x
     nothing (Some o) = refl
+
+pub added_empty : (s t : Objects) → AllAdded s empty t → (x : Id) → get t x ≡ get s x
+added_empty s t a x = a.each x ∙ over_empty s x
 
 same_extends : (s t c : Objects) → ((x : Id) → get t x ≡ get s x) → Extends (over s c) (over t c)
 same_extends s t c e = record { each = λ x o h. ap (λ z. option_or z (get c x)) (e x) ∙ h }

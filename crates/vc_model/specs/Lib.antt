@@ -27,3 +27,4 @@ pub mod ExactWorld
 pub mod Exact
 pub mod Good
 pub mod Race
+pub mod Exchange

@@ -7,6 +7,7 @@
 #![tactic(auto)]
 
 pub mod every_call;
+pub mod every_exchange;
 pub mod every_log;
 pub mod every_run;
 pub mod every_step;
