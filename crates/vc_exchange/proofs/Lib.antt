@@ -1,12 +1,19 @@
+pub mod AdvertDeeds
 pub mod DeedLemmas
+mod EmptyLists
 pub mod MovingDecisions
 pub mod MovingFronts
 pub mod MovingLemmas
 pub mod MovingLoops
 pub mod MovingPaths
 pub mod MovingRules
+pub mod OnceLemmas
+pub mod PackDeeds
+pub mod PackLemmas
 pub mod ReceivingLemmas
+pub mod RefEntries
 pub mod SendingLaws
 pub mod SendingLemmas
 pub mod StoringLemmas
+pub mod WantingHaves
 pub mod WantingOpen

@@ -98,7 +98,7 @@ sized_id digits id e =
     let sized = ok.2 in
     record { sized = omega (arith, sized, long); bytes = ok.3 }
 
-spelled_id : (text : List ℕ) (id : ObjectId) → id_in text ≡ Some id → IsId id
+pub spelled_id : (text : List ℕ) (id : ObjectId) → id_in text ≡ Some id → IsId id
 spelled_id text id = by (decode_sized (without_lf text) 20) refl
   where
     by : (r : Result (List ℕ) FromHexError) → decode_sized (without_lf text) 20 ≡ r → option_map id_of (result_ok r) ≡ Some id → IsId id
@@ -300,7 +300,7 @@ module _ (content : FileMap) (r : Repository) (held : HoldsContent content r) wh
       let t = (sound.refs (tracking k.1.0) k.0 k.1.1).closed.there id.0 k.2 in
       none-some (stored_of t.0) (sym none ∙ held.objects_are id.0 ∙ ap (option_map stored_of) t.1)
 
-positive : {X : Type 0} (xs : List X) → xs ≢ [] → 0 < length xs
+pub positive : {X : Type 0} (xs : List X) → xs ≢ [] → 0 < length xs
 positive [] some = absurd (some refl)
 positive (x ∷ xs) some = omega arith
 

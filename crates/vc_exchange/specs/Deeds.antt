@@ -1,12 +1,21 @@
 -- What a clone makes of a message, as the machine has it: the deed, done whole, or cut short by a fault.
 use Rattle.std.specs.Prelude.{◌≡◌, ◌≢◌, Option}
 use Rattle.vc_files.specs.FileMap.{FileMap}
+use Rattle.vc_format.specs.Git.{bytes_of_id}
 use Rattle.vc_model.specs.Clone.{Awaited, Receives}
 use Rattle.vc_model.specs.Message.{Message}
 use Rattle.vc_model.specs.Node.{Deed, Reply}
 use Rattle.vc_model.specs.Repository.{Done, Effect, Repository, StopsWithin, no_effect}
+use Rattle.vc_model.specs.Shared as machine
+use Rattle.vc_refs.specs.Head.{head_of, head_value}
+use Rattle.vc_refs.specs.Refs.{refs}
 use Rattle.vc_rules.specs.Git.{git}
 use Rattle.vc_rules.specs.OpenPushes.{HoldsContent}
+use Rattle.std.specs.Prelude.{option_map}
+
+-- the repository's HEAD leads where the files' HEAD does
+abbrev pub HoldsHead : FileMap → Repository → Type 0
+HoldsHead content r = option_map bytes_of_id (head_value (refs content) (head_of content)) ≡ machine.head_value r
 
 -- The clone has received the message: the machine's clone may do this deed, and the files hold what it leaves.
 pub record IsReceived (r : Repository) (awaits : Awaited) (m : Message) (new : FileMap) (left : Awaited) (sends : Option Message) (reply : Reply) : Type 0 where

@@ -28,15 +28,15 @@ from_refs (of_refs.BadRefFile path) = Refs (of_refs.BadRefFile path)
 from_refs of_refs.HeadLoop = Refs of_refs.HeadLoop
 from_refs (of_refs.Fault fault) = Fault fault
 
--- a pack is judged by what it should bring alone: of an answer's other refusals none comes
+-- a pack is judged by what it should bring alone: of an answer's other refusals none comes; what is told of files stays as it is
 abbrev pub from_graph : GraphFault → ExchangeFault
 from_graph (graph.Missing id) = Incomplete id
-from_graph (graph.Store fault) = from_store fault
+from_graph (graph.Store fault) = Store fault
 
 abbrev pub from_answer : AnswerFault → ExchangeFault
 from_answer (answer.NotOurs id) = Incomplete id
 from_answer (answer.Incomplete id) = Incomplete id
-from_answer (answer.Refs fault) = from_refs fault
+from_answer (answer.Refs fault) = Refs fault
 from_answer (answer.Graph fault) = from_graph fault
 from_answer (answer.Fault fault) = Fault fault
 

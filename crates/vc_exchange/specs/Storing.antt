@@ -1,5 +1,7 @@
 -- What is stored of the objects that a pack brings.
-use Rattle.std.specs.Prelude.{◌≡◌, ◌⊎◌, List}
+use Rattle.std.specs.Prelude.{◌≡◌, ◌⊎◌, ℕ, List, false, nat_eq, codes}
+use Rattle.std.specs.FinMap.{get}
+use Rattle.std.specs.List.{starts_with}
 use Rattle.vc_files.specs.FileMap.{FileMap}
 use Rattle.vc_graph.specs.Overlay.{with_carried}
 use Rattle.vc_object.specs.Decoding.{StoredObject}
@@ -14,3 +16,7 @@ pub record AreStored (old new : FileMap) (brought : List StoredObject) : Type 0 
 -- some of it is added
 pub record AreSomeStored (old new : FileMap) (brought : List StoredObject) : Type 0 where
   pub each : (id : ObjectId) → (objects new id ≡ objects old id) ⊎ (objects new id ≡ with_carried (objects old) (objects_in brought) id)
+
+-- beside objects and refs nothing changes
+pub record KeepsBeside (old new : FileMap) : Type 0 where
+  pub at : (path : List ℕ) → starts_with nat_eq path (codes "objects/") ≡ false → starts_with nat_eq path (codes "refs/") ≡ false → get new path ≡ get old path

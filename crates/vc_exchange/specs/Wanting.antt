@@ -1,14 +1,24 @@
 -- What a clone asks for, and what it says that it has.
-use Rattle.std.specs.Prelude.{◌≡◌, ◌⊎◌, ◌++◌, ◌∷◌, [], List, Contains, map}
+use Rattle.std.specs.Prelude.{◌≡◌, ◌⊎◌, ◌++◌, ◌∷◌, [], List, Contains, map, ⊤, string_bytes, codes}
+use Rattle.vc_files.specs.FileMap.{FileMap}
 use Rattle.vc_format.specs.Git.{bytes_of_id}
 use Rattle.vc_graph.specs.Graph.{IsClosed}
-use Rattle.vc_model.specs.Clone.{AreOpen}
+use Rattle.vc_model.specs.Clone.{AreOpen, haves_of}
 use Rattle.vc_model.specs.Object.{stored}
 use Rattle.vc_model.specs.Repository.{Repository}
 use Rattle.vc_object.specs.ObjectMap.{ObjectMap, links_in}
 use Rattle.vc_object.specs.declared.id.ObjectId.{ObjectId}
+use Rattle.vc_refs.specs.Head.{IsBadHead, IsHeadLoop}
+use Rattle.vc_refs.specs.RefFault.{IsFirstBadRef}
+use Rattle.vc_refs.specs.declared.faults.RefFault.{RefFault}
+use Rattle.vc_refs.specs.declared.faults.RefFault.TheVariants as of_refs
 use Rattle.vc_rules.specs.Git.{git}
+use Rattle.vc_rules.specs.OpenPushes.{HoldsContent}
+use Rattle.vc_exchange.specs.Deeds.{HoldsHead}
+use Rattle.vc_exchange.specs.Faults.{BlamesObjects}
 use Rattle.vc_exchange.specs.Moving.{Told, machine_refs}
+use Rattle.vc_exchange.specs.declared.fault.ExchangeFault.{ExchangeFault}
+use Rattle.vc_exchange.specs.declared.fault.ExchangeFault.TheVariants.{Fault, Incomplete, Refs, Store}
 
 -- an id that is not complete is added where it isn't there yet; nothing is added for another
 abbrev pub AddsOpen : ObjectMap → List ObjectId → List ObjectId → ObjectId → Type 0
@@ -18,3 +28,22 @@ AddsOpen objects old new id =
 -- the told ids that are not complete, as the machine has them
 abbrev pub AreOpenTold : Repository → List Told → List ObjectId → Type 0
 AreOpenTold r told ids = AreOpen git (stored r.objects) [] (machine_refs told) (map bytes_of_id ids)
+
+-- whatever repository is held, the ids are those that its clone says that it has
+abbrev pub AreHaves : FileMap → List ObjectId → Type 0
+AreHaves content ids = (r : Repository) → HoldsContent content r → HoldsHead content r → map bytes_of_id ids ≡ haves_of r
+
+-- a file in `refs/` stands for no ref, or HEAD's file for no HEAD
+abbrev pub BlamesHeads : FileMap → RefFault → Type 0
+BlamesHeads content (of_refs.Stale current) = ⊥
+BlamesHeads content (of_refs.Conflict name) = ⊥
+BlamesHeads content (of_refs.BadRefFile path) = IsFirstBadRef content (string_bytes path) ⊎ ((string_bytes path ≡ codes "HEAD") × IsBadHead content)
+BlamesHeads content of_refs.HeadLoop = IsHeadLoop content
+BlamesHeads content (of_refs.Fault fault) = ⊤
+
+-- why nothing is asked for: a bad file, or a fault
+abbrev pub BlamesWanting : FileMap → ExchangeFault → Type 0
+BlamesWanting content (Store fault) = BlamesObjects content fault
+BlamesWanting content (Refs fault) = BlamesHeads content fault
+BlamesWanting content (Incomplete id) = ⊥
+BlamesWanting content (Fault fault) = ⊤

@@ -74,7 +74,7 @@ fn from_graph(fault: GraphFault) -> ExchangeFault
 {
     match fault {
         GraphFault::Missing(id) => ExchangeFault::Incomplete(id),
-        GraphFault::Store(fault) => ExchangeFault::from(fault),
+        GraphFault::Store(fault) => ExchangeFault::Store(fault),
     }
 }
 
@@ -83,12 +83,13 @@ impl From<AnswerFault> for ExchangeFault {
 
     ghost from_gives = { λ fault e. e ≡ from_answer fault };
 
-    // A pack is judged by what it should bring alone: of an answer's other refusals none comes.
+    // A pack is judged by what it should bring alone: of an answer's other refusals none comes. What is told of files stays as it
+    // is: an answer tells a fault of the device in its own variant alone.
     fn from(fault: AnswerFault) -> ExchangeFault {
         match fault {
             AnswerFault::NotOurs(id) => ExchangeFault::Incomplete(id),
             AnswerFault::Incomplete(id) => ExchangeFault::Incomplete(id),
-            AnswerFault::Refs(fault) => ExchangeFault::from(fault),
+            AnswerFault::Refs(fault) => ExchangeFault::Refs(fault),
             AnswerFault::Graph(fault) => from_graph(fault),
             AnswerFault::Fault(fault) => ExchangeFault::Fault(fault),
         }

@@ -12,8 +12,9 @@ mod wanting;
 
 pub use fault::ExchangeFault;
 pub use item::PushItem;
-pub use receiving::{Reported, receive_report, what_a_report_accepts_is_the_machines};
+pub use receiving::{
+    Advertised, Asked, Moves, Reported, receive_advert, receive_pack, receive_report,
+    what_a_report_accepts_is_the_machines,
+};
 pub use send_fault::SendFault;
 pub use sending::{list_message, push_message};
-pub use storing::store_all;
-pub use wanting::open_ids;

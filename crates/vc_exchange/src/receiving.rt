@@ -1,27 +1,67 @@
 //! What a clone makes of a message from the shared node.
-ghost use Rattle.std.specs.Prelude.{◌≡◌, ◌⊎◌, ◌++◌, ◌∷◌, [], IfOk, IfErr, OnOk, OnErr, IsErrOf, codes, map};
-ghost use Rattle.vc_exchange.specs.Deeds.{ChangesAt, IsCutShort, IsReceived};
+ghost use Rattle.std.specs.Prelude.{◌≡◌, ◌⊎◌, ◌++◌, ◌∷◌, [], IfOk, IfErr, OnOk, OnErr, IsErrOf, codes, map, length};
+ghost use Rattle.std.specs.FinMap.{entries};
+ghost use Rattle.vc_exchange.specs.Deeds.{ChangesAt, HoldsHead, IsCutShort, IsReceived};
 ghost use Rattle.vc_exchange.specs.Faults.{BlamesFiles};
 ghost use Rattle.vc_exchange.specs.Moving.{told_in};
-ghost use Rattle.vc_exchange.specs.Receiving.{AcceptedAgree, accepted};
+ghost use Rattle.vc_exchange.specs.Receiving.{AcceptedAgree, AreRefs, BlamesAdvert, BlamesPack, IsAdvertTaken, accepted, awaited_pack};
+ghost use Rattle.vc_exchange.specs.Storing.{KeepsBeside};
+ghost use Rattle.vc_fetch.specs.AdvertView.{advert_text, ref_ids};
+ghost use Rattle.vc_fetch.specs.PackView.{pack_text};
 ghost use Rattle.vc_files.specs.Failures.{Wears, Writes};
 ghost use Rattle.vc_files.specs.FileMap.{SameOutside};
-ghost use Rattle.vc_message.specs.Machine.{IsReport, machine_told};
+ghost use Rattle.vc_message.specs.Machine.{IsAdvert, IsPack, IsReport, machine_told};
+ghost use Rattle.vc_model.specs.Clone.Awaited.{AnAdvert, Nothing};
 ghost use Rattle.vc_model.specs.Clone.{Awaited, refused_reasons};
 ghost use Rattle.vc_model.specs.Message.{Message};
-ghost use Rattle.vc_model.specs.Node.Reply.{Reported as ReportedRefs};
+ghost use Rattle.vc_model.specs.Node.Reply.{Moved as MovedRefs, Reported as ReportedRefs};
+ghost use Rattle.vc_model.specs.Refs.{Refs};
 ghost use Rattle.vc_model.specs.Repository.{Repository};
+ghost use Rattle.vc_object.specs.declared.id.ObjectId.{ObjectId as Name};
 ghost use Rattle.vc_push.specs.ReportView.{report_text, told_of};
 ghost use Rattle.vc_rules.specs.OpenPushes.{HoldsContent};
 ghost use Rattle.vc_session.specs.Clean.{MakesNoneBad};
 
 use crate::ExchangeFault;
 use crate::moving::{Followed, move_refs};
+use crate::storing::store_all;
+use crate::wanting::{first_ids, open_ids, want_message};
+use indexmap::IndexSet;
 use std::alloc::{AllocError, Global};
+use std::collections::BTreeMap;
+use vc_answer::judge_pack;
+use vc_fetch::{Advert, Pack};
 use vc_files::{Fault, Files};
 use vc_object::ObjectId;
 use vc_push::{Reason, Report, Told};
 use vc_session::Known;
+
+/// How many refs followed what was told, and how many told ids are still incomplete.
+#[derive(Clone, Copy)]
+pub struct Moves {
+    pub moved: usize,
+    pub left: usize,
+}
+
+/// What a clone asks for after an advertisement, and what it will need of that when the pack is there.
+#[derive(Drop)]
+pub struct Asked {
+    /// The ids that are wanted, at least one and at most 256.
+    pub wants: Vec<ObjectId>,
+    /// The advertised refs in order of their names.
+    pub refs: Vec<(Vec<u8>, ObjectId)>,
+    /// The message that asks for the wants.
+    pub bytes: Vec<u8>,
+}
+
+/// What came of an advertisement.
+#[derive(Drop)]
+pub enum Advertised {
+    /// Not all is there that the advertised ids reach: it is asked for.
+    Wanted(Asked),
+    /// All is there, and the refs followed.
+    Followed(Moves),
+}
 
 /// What came of a report on a push.
 #[derive(Drop)]
@@ -30,6 +70,81 @@ pub struct Reported {
     pub moved: usize,
     /// The numbers of the reasons for which commands were refused, in the order of the push; 0 for an unknown text.
     pub refused: Vec<u16>,
+}
+
+// The refs of an advertisement in order of their names.
+fn listed(
+    alloc: Global,
+    refs: BTreeMap<Vec<u8>, ObjectId>,
+) -> Result<Vec<(Vec<u8>, ObjectId)>, AllocError>
+    ensures { IfOk result (λ listed. told_in listed.items ≡ entries (ref_ids refs)) }
+{
+    let mut listed = Vec::new(alloc);
+    for (name, id) in refs {
+        listed.push((name, id))?;
+    }
+    Ok(listed)
+}
+
+/// Takes an advertisement: the ids of which not all is there are asked for, the first 256 of them in order of the refs' names;
+/// where there are none, the refs follow at once. A call that ends early has moved some first refs. No file becomes bad, and none
+/// outside `refs/` changes.
+pub fn receive_advert<F: Files>(
+    files: &mut F,
+    alloc: Global,
+    advert: Advert,
+) -> Result<Advertised, ExchangeFault>
+    ensures taken { F.honest → (r : Repository) → HoldsContent (F.content files.old) r → HoldsHead (F.content files.old) r → (m : Message) → IsAdvert m (advert_text advert) → IfOk result (IsAdvertTaken r m (F.content files.new)) }
+    ensures cut { F.honest → (r : Repository) → HoldsContent (F.content files.old) r → (m : Message) → IsAdvert m (advert_text advert) → OnErr result (IsCutShort r AnAdvert m (F.content files.new)) }
+    ensures refused { F.honest → IfErr result (BlamesAdvert (F.content files.old)) }
+    ensures outside { F.honest → SameOutside (codes "refs/") (F.content files.old) (F.content files.new) }
+    ensures bad { F.honest → MakesNoneBad (F.content files.old) (F.content files.new) }
+    ensures wear { Writes F.honest F.content F.failed F.can_fail F.left files.old files.new (IsErrOf result (ExchangeFault.Fault Fault.Device)) }
+    ensures looks { F.honest → (r : Repository) → HoldsContent (F.content files.old) r → (m : Message) → IsAdvert m (advert_text advert) → ChangesAt r AnAdvert m ⊎ Wears F.failed F.can_fail F.left files.old files.new (IsErrOf result (ExchangeFault.Fault Fault.Device)) }
+{
+    let refs = listed(alloc, advert.refs)?;
+    let mut known = Known::nothing(alloc);
+    let open = open_ids(files, alloc, &mut known.objects, &refs)?;
+    if open.is_empty() {
+        let moved = move_refs(files, alloc, &mut known, Followed::All, &refs)?;
+        return Ok(Advertised::Followed(Moves { moved, left: 0 }));
+    }
+    let wants = first_ids(alloc, &open)?;
+    let bytes = want_message(files, alloc, &wants)?;
+    Ok(Advertised::Wanted(Asked { wants, refs, bytes }))
+}
+
+/// Takes the pack that brings these wants, which were asked for when these refs were advertised: its objects are stored, and then
+/// the refs follow. With the pack all must be there that the wants reach (92), and nothing is stored before that is seen. A call
+/// that ends early has stored some objects, or all of them and moved some first refs. No file becomes bad, and only objects and
+/// refs change.
+pub fn receive_pack<F: Files>(
+    files: &mut F,
+    alloc: Global,
+    wants: &[ObjectId],
+    told: &[(Vec<u8>, ObjectId)],
+    pack: &Pack,
+) -> Result<Moves, ExchangeFault>
+    ensures taken { F.honest → (r : Repository) → HoldsContent (F.content files.old) r → (m : Message) → IsPack m (pack_text pack.now) → (refs : Refs) → AreRefs refs (told_in told.now) → IfOk result (λ moves. IsReceived r (awaited_pack wants.now refs) m (F.content files.new) Nothing None (MovedRefs moves.moved moves.left)) }
+    ensures cut { F.honest → (r : Repository) → HoldsContent (F.content files.old) r → (m : Message) → IsPack m (pack_text pack.now) → (refs : Refs) → AreRefs refs (told_in told.now) → OnErr result (IsCutShort r (awaited_pack wants.now refs) m (F.content files.new)) }
+    ensures refused { F.honest → (m : Message) → IsPack m (pack_text pack.now) → IfErr result (BlamesPack (F.content files.old) wants.now m) }
+    ensures unchanged { F.honest → IfErr result (λ e. (id : Name) → e ≡ ExchangeFault.Incomplete id → F.content files.new ≡ F.content files.old) }
+    ensures beside { F.honest → KeepsBeside (F.content files.old) (F.content files.new) }
+    ensures bad { F.honest → MakesNoneBad (F.content files.old) (F.content files.new) }
+    ensures wear { Writes F.honest F.content F.failed F.can_fail F.left files.old files.new (IsErrOf result (ExchangeFault.Fault Fault.Device)) }
+{
+    let objects = judge_pack(alloc, files, wants, pack)?;
+    let mut known = Known {
+        objects,
+        histories: IndexSet::new(alloc),
+    };
+    store_all(files, alloc, &pack.objects)?;
+    let open = open_ids(files, alloc, &mut known.objects, told)?;
+    let moved = move_refs(files, alloc, &mut known, Followed::All, told)?;
+    Ok(Moves {
+        moved,
+        left: open.len(),
+    })
 }
 
 // Adds the name and the new id of a command that a report accepts.

@@ -1,5 +1,5 @@
 //! Storing what a pack brings.
-ghost use Rattle.std.specs.Prelude.{IfErr, OnOk, OnErr, IsErrOf, codes};
+ghost use Rattle.std.specs.Prelude.{◌≡◌, IfErr, OnOk, OnErr, IsErrOf, codes};
 ghost use Rattle.vc_exchange.specs.Faults.{BlamesObjects};
 ghost use Rattle.vc_exchange.specs.Storing.{AreSomeStored, AreStored};
 ghost use Rattle.vc_files.specs.Failures.{Writes};
@@ -16,7 +16,7 @@ use vc_store::{StoreFault, put};
 /// Stores the objects, in order of their names. One that is stored already stays as it is, and a body out of its kind's grammar
 /// counts for nothing. 12 where a file stands in an object's place and isn't it. A call that ends early has stored some. No file
 /// becomes bad.
-pub fn store_all<F: Files>(
+pub(crate) fn store_all<F: Files>(
     files: &mut F,
     alloc: Global,
     objects: &CarriedObjects,

@@ -1,22 +1,34 @@
-//! What a clone asks for: the ids of which not all is there.
-ghost use Rattle.std.specs.Prelude.{◌≡◌, IfOk, IfErr, OnOk, IsErrOf};
+//! What a clone asks for: the ids of which not all is there, beside those that it says that it has.
+ghost use Rattle.std.specs.Prelude.{◌≡◌, ◌≢◌, ◌≤◌, [], IfOk, IfErr, OnOk, IsErrOf, length, map, take};
+ghost use Rattle.std.specs.List.{AllByRecursion};
+ghost use Rattle.vc_exchange.specs.Deeds.{HoldsHead};
 ghost use Rattle.vc_exchange.specs.Faults.{BlamesFiles};
 ghost use Rattle.vc_exchange.specs.Moving.{told_in};
-ghost use Rattle.vc_exchange.specs.Wanting.{AddsOpen, AreOpenTold};
+ghost use Rattle.vc_exchange.specs.Wanting.{AddsOpen, AreHaves, AreOpenTold, BlamesWanting};
 ghost use Rattle.vc_files.specs.Failures.{Wears};
+ghost use Rattle.vc_format.specs.Git.{bytes_of_id};
 ghost use Rattle.vc_graph.specs.Graph.{IsClosedUnder};
+ghost use Rattle.vc_message.specs.Machine.{IsWritten};
+ghost use Rattle.vc_model.specs.Clone.{haves_of};
+ghost use Rattle.vc_model.specs.Message.Message.{Want as Asks};
 ghost use Rattle.vc_model.specs.Repository.{Repository};
+ghost use Rattle.vc_object.specs.Lines.{IsId};
 ghost use Rattle.vc_object.specs.ObjectMap.{links_in};
 ghost use Rattle.vc_rules.specs.OpenPushes.{HoldsContent};
 ghost use Rattle.vc_store.specs.Store.{objects};
 
 use crate::ExchangeFault;
 use indexmap::IndexSet;
-use std::alloc::Global;
+use std::alloc::{AllocError, Global};
+use vc_fetch::Want;
 use vc_files::{Fault, Files};
 use vc_graph::is_complete_beyond;
 use vc_object::ObjectId;
+use vc_refs::{list, resolve_head};
 use vc_store::Store;
+
+// The ids that a want names at most, and the haves.
+const MAX_IDS: usize = 256;
 
 // Adds an id to those that are wanted, where not all is there that it reaches, and it is not wanted yet.
 fn add_open<F: Files>(
@@ -46,7 +58,7 @@ fn add_open<F: Files>(
 /// The told ids of which not all is there that they reach, each once, in the order in which they are told: what a clone
 /// wants. Each object is read once for all of them, and none of which it is known that all is there that it reaches; more is
 /// known after the call.
-pub fn open_ids<F: Files>(
+pub(crate) fn open_ids<F: Files>(
     files: &mut F,
     alloc: Global,
     known: &mut IndexSet<ObjectId>,
@@ -64,4 +76,57 @@ pub fn open_ids<F: Files>(
     }
     let ids = wanted.as_slice().to_vec(alloc)?;
     Ok(ids)
+}
+
+/// The first of the ids, as many as a message may name. The caller learns that each is twenty bytes.
+pub(crate) fn first_ids(alloc: Global, ids: &[ObjectId]) -> Result<Vec<ObjectId>, AllocError>
+    ensures first { IfOk result (λ first. first.items ≡ take 256 ids.now) }
+    ensures ids { IfOk result (λ first. AllByRecursion IsId first.items) }
+{
+    let count = ids.len().min(MAX_IDS);
+    let mut first = Vec::new(alloc);
+    for id in &ids[..count] {
+        first.push(id.named())?;
+    }
+    Ok(first)
+}
+
+// The values of the refs in order of their names, then HEAD's, each once, the first 256.
+fn haves<F: Files>(files: &mut F, alloc: Global) -> Result<Vec<ObjectId>, ExchangeFault>
+    ensures haves { F.honest → IfOk result (λ ids. AreHaves (F.content files.old) ids.items) }
+    ensures few { IfOk result (λ ids. length ids.items ≤ 256) }
+    ensures ids { IfOk result (λ ids. AllByRecursion IsId ids.items) }
+    ensures refused { F.honest → IfErr result (BlamesWanting (F.content files.old)) }
+    ensures same { F.content files.new ≡ F.content files.old }
+    ensures wear { Wears F.failed F.can_fail F.left files.old files.new (IsErrOf result (ExchangeFault.Fault Fault.Device)) }
+{
+    let mut ids = IndexSet::new(alloc);
+    for (_, id) in &list(files, alloc)? {
+        ids.insert(*id)?;
+    }
+    if let Some(id) = resolve_head(files, alloc)? {
+        ids.insert(id)?;
+    }
+    let first = first_ids(alloc, ids.as_slice())?;
+    Ok(first)
+}
+
+/// The message that asks for these ids, at least one and at most 256, and tells what the clone has: the values of its refs in
+/// order of their names, then HEAD's, each once, the first 256.
+pub(crate) fn want_message<F: Files>(
+    files: &mut F,
+    alloc: Global,
+    wants: &[ObjectId],
+) -> Result<Vec<u8>, ExchangeFault>
+    requires some { wants.now ≢ [] }
+    requires few { length wants.now ≤ 256 }
+    ensures written { F.honest → (r : Repository) → HoldsContent (F.content files.old) r → HoldsHead (F.content files.old) r → IfOk result (λ bytes. IsWritten (Asks (map bytes_of_id wants.now) (haves_of r)) bytes.items) }
+    ensures refused { F.honest → IfErr result (BlamesWanting (F.content files.old)) }
+    ensures same { F.content files.new ≡ F.content files.old }
+    ensures wear { Wears F.failed F.can_fail F.left files.old files.new (IsErrOf result (ExchangeFault.Fault Fault.Device)) }
+{
+    let haves = haves(files, alloc)?;
+    let wants = first_ids(alloc, wants)?;
+    let bytes = Want { wants, haves }.write(alloc)?;
+    Ok(bytes)
 }
