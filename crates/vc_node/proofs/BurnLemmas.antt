@@ -1,7 +1,8 @@
 -- What a call spends is what the machine allows: one write for each place that changed.
-use Rattle.std.proofs.Common.{◌≡◌, ◌⊎◌, inl, inr, ℕ, ◌-◌, ◌≤◌, Bool, true, false, cond, List, [], ◌∷◌, Option, Some, None, Result, Ok, Err, IsTrue, Contains, map, nat_eq, codes, refl, sym, ap, ◌∙◌, subst, arith}
+use Rattle.std.proofs.Common.{Vec, ◌≡◌, ◌⊎◌, inl, inr, ℕ, ◌-◌, ◌≤◌, Bool, true, false, cond, List, [], ◌∷◌, Option, Some, None, Result, Ok, Err, IsTrue, Contains, map, nat_eq, codes, refl, sym, ap, ◌∙◌, subst, arith}
 use Rattle.std.specs.Prelude.{bytes_eq, option_map, option_and_then, unwrap_or}
 use Rattle.std.specs.FinMap.{get, same_map}
+use Rattle.std.specs.Global.{Global}
 use Rattle.std.specs.List.{starts_with}
 use Rattle.std.specs.Result.{result_ok}
 use Rattle.std.specs.Cmp.Lexicographic.{nat_list_cmp_total}
@@ -23,6 +24,7 @@ use Rattle.vc_model.specs.CloneCall.CloneCall.{Command}
 use Rattle.vc_model.specs.ExactWorld.{MayClone}
 use Rattle.vc_model.specs.Fuse.{Burns, DiffersAt, Place, WritesSuffice}
 use Rattle.vc_model.specs.Fuse.Place.{AnObject, ARef, TheRefs, TheHead, TheIndex}
+use Rattle.vc_model.specs.Message.{Message}
 use Rattle.vc_model.specs.Node.{Answer}
 use Rattle.vc_model.specs.Node.Answer.{Fault}
 use Rattle.vc_model.specs.Node.Failure.{Device}
@@ -43,10 +45,16 @@ use Rattle.vc_store.specs.declared.faults.StoreFault.TheVariants as store
 use Rattle.vc_store.proofs.PathLemmas.{name_in-some, name_in-object_path}
 use Rattle.vc_rules.specs.Git.{git, machine_entry, machine_kind, stored_of}
 use Rattle.vc_rules.proofs.GitLaws.{git_rules}
-use Rattle.vc_node.specs.Burning.{CallsBurn}
+use Rattle.vc_node.specs.Burning.{CallsBurn, ExchangesBurn}
+use Rattle.vc_node.specs.CloneCalls.{FoundAs, ReceivedAs, SentAs}
+use Rattle.vc_node.specs.CloneFaults.{IsOfDevice as IsOfClonesDevice, TellsDevice as CloneTellsDevice, fault_answer as clone_answer}
 use Rattle.vc_node.specs.Machine.{Spells, done_answer, fault_answer, failure_of, machine_head, made_answer, ref_answer, store_answer}
 use Rattle.vc_node.specs.NodeFault.{IsOfDevice, TellsDevice}
 use Rattle.vc_node.specs.Shown.{shown}
+use Rattle.vc_node.specs.declared.clone_fault.CloneFault.{CloneFault}
+use Rattle.vc_node.specs.declared.clone_fault.CloneFault.TheVariants as of_clone
+use Rattle.vc_node.specs.declared.exchanging.Received.{Received}
+use Rattle.vc_node.specs.declared.exchanging.Received.TheVariants.{Moved, Reported, Send}
 use Rattle.vc_node.specs.declared.fault.NodeFault.{NodeFault}
 use Rattle.vc_node.specs.declared.fault.NodeFault.TheVariants.{Store, Ref}
 
@@ -328,3 +336,47 @@ made_burns honest content failed can_fail left = calls_burn honest content faile
 
 pub done_burns : {D : Type 0} (honest : Type 0) (content : D → FileMap) (failed : D → ℕ) (can_fail : D → Type 0) (left : D → Option ℕ) → CallsBurn honest content failed can_fail left done_answer
 done_burns honest content failed can_fail left = calls_burn honest content failed can_fail left done_answer done_tells
+
+-- ---- a call that sends or takes messages, or asks for a value
+
+of_clone_fault : (e : CloneFault) → clone_answer e ≡ Fault Device → IsOfClonesDevice e
+of_clone_fault (of_clone.Node f) is = of_fault f is
+of_clone_fault _ is = absurd (cc is)
+
+exchanges_burn : {D T : Type 0} (honest : Type 0) (content : D → FileMap) (failed : D → ℕ) (can_fail : D → Type 0) (left : D → Option ℕ) (shows : Result T CloneFault → Answer → Option Message → Type 0)
+    → ((r : Result T CloneFault) (a : Answer) (sends : Option Message) → shows r a sends → a ≡ Fault Device → CloneTellsDevice r) → ExchangesBurn honest content failed can_fail left shows
+exchanges_burn honest content failed can_fail left shows tells old new result frail call waits after was_up is_up awaited n is_honest can wear looks answers is holds =
+    let step = answers.each awaited n is holds in (
+      step.0,
+      step.1,
+      step.2,
+      step.3,
+      step.4,
+      step.5,
+      step.6,
+      step.7,
+      burns honest content failed can_fail left old new (CloneTellsDevice result) frail (MayClone git git_rules n call) step.2 n.repository step.1.repository is_honest (tells result step.2 step.3 step.6) can wear (looks awaited n is holds) holds.shows.spells step.5.shows.spells,
+    )
+
+received_tells : (r : Result Received CloneFault) (a : Answer) (sends : Option Message) → ReceivedAs r a sends → a ≡ Fault Device → CloneTellsDevice r
+received_tells (Ok (Send bytes)) a sends told is = absurd (cc (sym told.answer ∙ is))
+received_tells (Ok (Moved moved left)) a sends told is = absurd (cc (sym told.answer ∙ is))
+received_tells (Ok (Reported moved refused)) a sends told is = absurd (cc (sym told.answer ∙ is))
+received_tells (Err e) a sends told is = of_clone_fault e (sym told.answer ∙ is)
+
+sent_tells : (r : Result (Vec ℕ Global) CloneFault) (a : Answer) (sends : Option Message) → SentAs r a sends → a ≡ Fault Device → CloneTellsDevice r
+sent_tells (Ok bytes) a sends told is = absurd (cc (sym told.answer ∙ is))
+sent_tells (Err e) a sends told is = of_clone_fault e (sym told.answer ∙ is)
+
+found_tells : (r : Result ObjectId CloneFault) (a : Answer) (sends : Option Message) → FoundAs r a sends → a ≡ Fault Device → CloneTellsDevice r
+found_tells (Ok id) a sends told is = absurd (cc (sym told.answer ∙ is))
+found_tells (Err e) a sends told is = of_clone_fault e (sym told.answer ∙ is)
+
+pub received_burns : {D : Type 0} (honest : Type 0) (content : D → FileMap) (failed : D → ℕ) (can_fail : D → Type 0) (left : D → Option ℕ) → ExchangesBurn honest content failed can_fail left ReceivedAs
+received_burns honest content failed can_fail left = exchanges_burn honest content failed can_fail left ReceivedAs received_tells
+
+pub sent_burns : {D : Type 0} (honest : Type 0) (content : D → FileMap) (failed : D → ℕ) (can_fail : D → Type 0) (left : D → Option ℕ) → ExchangesBurn honest content failed can_fail left SentAs
+sent_burns honest content failed can_fail left = exchanges_burn honest content failed can_fail left SentAs sent_tells
+
+pub found_burns : {D : Type 0} (honest : Type 0) (content : D → FileMap) (failed : D → ℕ) (can_fail : D → Type 0) (left : D → Option ℕ) → ExchangesBurn honest content failed can_fail left FoundAs
+found_burns honest content failed can_fail left = exchanges_burn honest content failed can_fail left FoundAs found_tells

@@ -9,6 +9,7 @@ pub mod CommitFailures
 pub mod CommitLemmas
 pub mod CommitReads
 pub mod DenotingLemmas
+pub mod ExchangingLemmas
 pub mod IndexLemmas
 pub mod LookLemmas
 pub mod MakingLemmas
@@ -16,11 +17,14 @@ pub mod MayLemmas
 pub mod NameLemmas
 pub mod OpeningLaws
 pub mod ReadLemmas
+pub mod ReceivingClone
+pub mod ReceivingFaults
 pub mod RefusalLemmas
 pub mod ShownLemmas
 pub mod StartLemmas
 pub mod StoringLemmas
 pub mod TreeLemmas
 pub mod TreeObjects
+pub mod UnreadLemmas
 pub mod ValueLemmas
 pub mod WriteLemmas

@@ -3,15 +3,21 @@ use Rattle.std.specs.Prelude.{ℕ, Bool, IsTrue, Option, None, Result}
 use Rattle.vc_files.specs.FileMap.{FileMap}
 use Rattle.vc_files.specs.Failures.{Wears, Writes}
 use Rattle.vc_model.specs.Clone.{Awaited, CloneNode, Task}
-use Rattle.vc_model.specs.CloneCall.{CloneAnswers}
+use Rattle.vc_model.specs.CloneCall.{CloneAnswers, CloneCall}
 use Rattle.vc_model.specs.CloneCall.CloneCall.{Command}
 use Rattle.vc_model.specs.ExactWorld.{MayClone}
 use Rattle.vc_model.specs.Fuse.{Burns}
+use Rattle.vc_model.specs.Message.{Message}
 use Rattle.vc_model.specs.Node.{Answer}
+use Rattle.vc_model.specs.Repository.{IsSound}
 use Rattle.vc_rules.specs.Git.{git}
 use Rattle.vc_rules.proofs.GitLaws.{git_rules}
+use Rattle.vc_node.specs.Awaited.{AwaitedText, IsAwaited}
+use Rattle.vc_node.specs.CloneCalls.{AnswersClone, MayOr}
+use Rattle.vc_node.specs.CloneFaults.{TellsDevice as CloneTellsDevice}
 use Rattle.vc_node.specs.Machine.{Answers, HoldsNode, MayWriteOr}
 use Rattle.vc_node.specs.NodeFault.{TellsDevice}
+use Rattle.vc_node.specs.declared.clone_fault.CloneFault.{CloneFault}
 use Rattle.vc_node.specs.declared.fault.NodeFault.{NodeFault}
 
 -- A call of a held node that says what it answers, what it wears, and where it only looks, is a step of the machine that ends
@@ -27,3 +33,17 @@ CallsBurn {D} {T} honest content failed can_fail left answer_of =
     → HoldsNode (content old) was_up awaited n
     → (m : CloneNode) × HoldsNode (content new) is_up awaited m × CloneAnswers git git_rules n (Command task) (answer_of result) m None
     × Burns frail (left old) (MayClone git git_rules n (Command task)) ⊥ n.repository m.repository (answer_of result) (left new)
+
+-- The same of a call that sends or takes messages, or asks for a value: what it awaits then is held too, and the step is the machine's
+-- where the node was sound. What it spends is the machine's in any case.
+abbrev pub ExchangesBurn : {D T : Type 0} → (honest : Type 0) → (D → FileMap) → (D → ℕ) → (D → Type 0) → (D → Option ℕ) → (Result T CloneFault → Answer → Option Message → Type 0) → Type 0
+ExchangesBurn {D} {T} honest content failed can_fail left shows =
+    (old new : D) (result : Result T CloneFault) (frail : Bool) (call : CloneCall) (waits after : AwaitedText) (was_up is_up : Bool) (awaited : Awaited) (n : CloneNode)
+    → honest → (can_fail old → IsTrue frail)
+    → Writes honest content failed can_fail left old new (CloneTellsDevice result)
+    → MayOr call waits was_up (content old) (Wears failed can_fail left old new (CloneTellsDevice result))
+    → AnswersClone call (shows result) (content old) (content new) waits after was_up is_up
+    → IsAwaited waits awaited → HoldsNode (content old) was_up awaited n
+    → (later : Awaited) × (m : CloneNode) × (a : Answer) × (sends : Option Message) × IsAwaited after later × HoldsNode (content new) is_up later m × shows result a sends
+    × (IsSound git n.repository → CloneAnswers git git_rules n call a m sends)
+    × Burns frail (left old) (MayClone git git_rules n call) ⊥ n.repository m.repository a (left new)

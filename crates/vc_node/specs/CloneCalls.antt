@@ -1,24 +1,29 @@
 -- What a call of a clone says that sends or takes messages, or asks for a value: the machine's node that is held before it leads to
 -- one that is held after it, by the machine's answer.
-use Rattle.std.specs.Prelude.{◌≡◌, ℕ, Bool, List, Option, Some, None, Result, Ok, Err, Vec}
+use Rattle.std.specs.Prelude.{◌≡◌, ◌⊎◌, ℕ, Bool, true, List, Option, Some, None, Result, Ok, Err, Vec}
 use Rattle.std.specs.Global.{Global}
 use Rattle.vc_files.specs.FileMap.{FileMap}
 use Rattle.vc_format.specs.Git.{bytes_of_id}
+use Rattle.vc_message.specs.AnyMessage.{MessageText, SpellsMessage}
 use Rattle.vc_message.specs.Machine.{IsWritten}
 use Rattle.vc_model.specs.Clone.{Awaited, CloneNode}
 use Rattle.vc_model.specs.CloneCall.{CloneAnswers, CloneCall}
+use Rattle.vc_model.specs.ExactWorld.{MayClone}
 use Rattle.vc_model.specs.Message.{Message}
 use Rattle.vc_model.specs.Node.{Answer}
 use Rattle.vc_model.specs.Node.Answer.{Did}
-use Rattle.vc_model.specs.Node.Reply.{Found, Sends}
+use Rattle.vc_model.specs.Node.Reply.{Found, Sends, Moved as MovedRefs, Reported as ReportedRefs}
 use Rattle.vc_model.specs.Repository.{IsSound}
 use Rattle.vc_object.specs.declared.id.ObjectId.{ObjectId}
+use Rattle.vc_pkt.specs.Message.{IsSpelledBy}
 use Rattle.vc_rules.proofs.GitLaws.{git_rules}
 use Rattle.vc_rules.specs.Git.{git}
 use Rattle.vc_node.specs.Awaited.{AwaitedText, IsAwaited}
-use Rattle.vc_node.specs.CloneFaults.{fault_answer}
+use Rattle.vc_node.specs.CloneFaults.{fault_answer, up_after}
 use Rattle.vc_node.specs.Machine.{HoldsNode}
 use Rattle.vc_node.specs.declared.clone_fault.CloneFault.{CloneFault}
+use Rattle.vc_node.specs.declared.exchanging.Received.{Received}
+use Rattle.vc_node.specs.declared.exchanging.Received.TheVariants.{Send, Moved, Reported}
 
 -- bytes are sent that are a message's
 pub record SendsBytes (bytes : List ℕ) (a : Answer) (sends : Option Message) : Type 0 where
@@ -37,6 +42,13 @@ abbrev pub SentAs : Result (Vec ℕ Global) CloneFault → Answer → Option Mes
 SentAs (Ok bytes) a sends = SendsBytes bytes.items a sends
 SentAs (Err e) a sends = Quietly (fault_answer e) a sends
 
+-- to a message
+abbrev pub ReceivedAs : Result Received CloneFault → Answer → Option Message → Type 0
+ReceivedAs (Ok (Send bytes)) a sends = SendsBytes bytes.items a sends
+ReceivedAs (Ok (Moved moved left)) a sends = Quietly (Did (MovedRefs moved left)) a sends
+ReceivedAs (Ok (Reported moved refused)) a sends = Quietly (Did (ReportedRefs moved refused.items)) a sends
+ReceivedAs (Err e) a sends = Quietly (fault_answer e) a sends
+
 -- to the question for a value
 abbrev pub FoundAs : Result ObjectId CloneFault → Answer → Option Message → Type 0
 FoundAs (Ok id) a sends = Quietly (Did (Found (bytes_of_id id))) a sends
@@ -47,3 +59,15 @@ pub record AnswersClone (call : CloneCall) (shows : Answer → Option Message �
   pub each : (awaited : Awaited) (n : CloneNode) → IsAwaited waits awaited → HoldsNode old was_up awaited n
       → (left : Awaited) × (m : CloneNode) × (a : Answer) × (sends : Option Message) × IsAwaited after left × HoldsNode new is_up left m × shows a sends
       × (IsSound git n.repository → CloneAnswers git git_rules n call a m sends)
+
+-- Whatever node was held: the machine's call may write, or this holds.
+abbrev pub MayOr : CloneCall → AwaitedText → Bool → FileMap → Type 0 → Type 0
+MayOr call waits was_up old IsLook = (awaited : Awaited) (n : CloneNode) → IsAwaited waits awaited → HoldsNode old was_up awaited n → MayClone git git_rules n call ⊎ IsLook
+
+-- of a node that is up, whatever state it is in then
+abbrev pub AnswersUp : CloneCall → Result Received CloneFault → FileMap → FileMap → AwaitedText → AwaitedText → Type 0
+AnswersUp call result old new waits after = (was_up is_up : Bool) → was_up ≡ true → is_up ≡ up_after result → AnswersClone call (ReceivedAs result) old new waits after was_up is_up
+
+-- some bytes are read as it
+abbrev pub WasRead : MessageText → Type 0
+WasRead text = (bytes : List ℕ) × IsSpelledBy SpellsMessage text bytes

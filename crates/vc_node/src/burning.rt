@@ -1,5 +1,6 @@
 // What a call spends of the writes left before a stop.
-ghost use Rattle.vc_node.specs.Burning.{CallsBurn};
+ghost use Rattle.vc_node.specs.Burning.{CallsBurn, ExchangesBurn};
+ghost use Rattle.vc_node.specs.CloneCalls.{FoundAs, ReceivedAs, SentAs};
 ghost use Rattle.vc_node.specs.Machine.{done_answer, made_answer};
 
 use vc_files::Files;
@@ -10,4 +11,11 @@ use vc_files::Files;
 pub fn a_call_spends_what_the_machine_allows<F: Files>()
     ensures made { CallsBurn F.honest F.content F.failed F.can_fail F.left made_answer }
     ensures done { CallsBurn F.honest F.content F.failed F.can_fail F.left done_answer }
+{}
+
+/// The same of a call that sends or takes messages, or asks for a value.
+pub fn an_exchange_spends_what_the_machine_allows<F: Files>()
+    ensures received { ExchangesBurn F.honest F.content F.failed F.can_fail F.left ReceivedAs }
+    ensures sent { ExchangesBurn F.honest F.content F.failed F.can_fail F.left SentAs }
+    ensures found { ExchangesBurn F.honest F.content F.failed F.can_fail F.left FoundAs }
 {}

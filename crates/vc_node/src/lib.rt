@@ -9,15 +9,19 @@ mod burning;
 mod checks;
 mod clone_fault;
 mod commit;
+mod exchanging;
 mod fault;
 mod index_file;
 mod local;
 mod node;
 mod opened;
 
-pub use burning::a_call_spends_what_the_machine_allows;
+pub use burning::{
+    a_call_spends_what_the_machine_allows, an_exchange_spends_what_the_machine_allows,
+};
 pub use checks::refuse_bad_commit;
 pub use clone_fault::CloneFault;
+pub use exchanging::Received;
 pub use fault::NodeFault;
 pub use index_file::{read_index, write_index};
 pub use node::{CloneNode, make_ready};

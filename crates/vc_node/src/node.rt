@@ -1,25 +1,28 @@
 // A clone.
-ghost use Rattle.std.specs.Prelude.{◌≡◌, ◌≢◌, ◌⊎◌, ℕ, List, [], Ok, Err, OnOk, OnErr, IfOk, IfErr, true, false, not, nat_eq, map, codes};
+ghost use Rattle.std.specs.Prelude.{◌≡◌, ◌≢◌, ◌⊎◌, ℕ, List, [], Ok, Err, OnOk, OnErr, IfOk, IfErr, IsErrOf, true, false, not, nat_eq, map, codes};
 ghost use Rattle.std.specs.List.{starts_with};
 ghost use Rattle.vc_format.specs.Git.{bytes_of_id};
 ghost use Rattle.vc_model.specs.Clone.Task.{Write, Stage, Unstage, LoadTree, MakeCommit, SetBranch, DeleteBranch, MoveHead};
 ghost use Rattle.vc_model.specs.Clone.Awaited.{Nothing};
 ghost use Rattle.vc_model.specs.Repository.{Repository};
 ghost use Rattle.vc_object.specs.Object.{object_name};
+ghost use Rattle.vc_refs.specs.Head.{IsHeadInRefs};
 ghost use Rattle.vc_exchange.specs.Sending.{machine_items};
 ghost use Rattle.vc_files.specs.declared.faults.Fault.TheVariants.{Memory};
+ghost use Rattle.vc_message.specs.Machine.{IsUnread, Reads};
 ghost use Rattle.vc_model.specs.Clone.{IsItemId};
 ghost use Rattle.vc_model.specs.Clone.Task.{StartFetch, StartPush};
-ghost use Rattle.vc_model.specs.CloneCall.CloneCall.{Asks, Command};
+ghost use Rattle.vc_model.specs.CloneCall.CloneCall.{Asks, Command, Receive};
+ghost use Rattle.vc_model.specs.Message.{Message};
 ghost use Rattle.vc_model.specs.Object.{zero_id};
-ghost use Rattle.vc_model.specs.Question.Question.{Resolve};
+ghost use Rattle.vc_model.specs.Question.Question.{Resolve, Unread};
 ghost use Rattle.vc_repository.specs.Resolving.{DenotesIn};
 ghost use Rattle.vc_rev.specs.Grammar.{IsExpr};
 ghost use Rattle.vc_rev.specs.Views.{expr_view};
 ghost use Rattle.vc_node.specs.Awaited.{nothing};
-ghost use Rattle.vc_node.specs.CloneCalls.{AnswersClone, FoundAs, SentAs};
+ghost use Rattle.vc_node.specs.CloneCalls.{AnswersClone, FoundAs, MayOr, ReceivedAs, SentAs};
 ghost use Rattle.vc_node.specs.CloneFaults.{TellsDevice as CloneTellsDevice, is_fault as is_clone_fault, of_device, up_after as clone_up_after};
-ghost use Rattle.vc_node.specs.Receipts.{IsRefusedStart, IsRefusedValue};
+ghost use Rattle.vc_node.specs.Receipts.{IsOfMessage, IsRefusedBytes, IsRefusedStart, IsRefusedValue};
 ghost use Rattle.vc_node.specs.Blames.{BlamesLoad, BlamesOpen, IsLocalHead};
 ghost use Rattle.vc_files.specs.FileMap.{SameOutside};
 ghost use Rattle.vc_node.specs.Clean.{KeepsClean};
@@ -35,11 +38,11 @@ ghost use Rattle.vc_node.specs.Shown.{IsLoaded, IsReady, shown};
 use crate::awaited::Awaited;
 use crate::commit::Words;
 use crate::index_file::read_index;
-use crate::{CloneFault, NodeFault, commit, local};
+use crate::{CloneFault, NodeFault, Received, commit, exchanging, local};
 use std::alloc::Global;
 use std::marker::Model;
 use vc_exchange::{PushItem, list_message, push_message};
-use vc_files::{Fault, Files};
+use vc_files::{Fault, Files, FusedFiles};
 use vc_object::{Kind, Mode, ObjectId};
 use vc_refname::RefName;
 use vc_refs::Head;
@@ -377,6 +380,31 @@ impl<F: Files> CloneNode<F> {
         }
     }
 
+    /// Takes the message from the shared node that is all of the bytes: its refs and a pack where they are awaited, and the report on
+    /// a push at any time. Refused are bytes that are no message (80 to 84, or 3), a message that isn't awaited (91), and a pack with
+    /// which not all is there that was asked for (92); nothing is changed then, and what was awaited stays so. What was taken is
+    /// awaited no longer; where ids are asked for, their pack is awaited.
+    pub fn receive(&mut self, bytes: &[u8]) -> Result<Received, CloneFault>
+        ensures answers { F.honest → (m : Message) → Reads bytes.now m → AnswersClone (Receive m) (ReceivedAs result) (F.content self.old.files) (F.content self.new.files) self.old.awaited self.new.awaited self.old.is_up self.new.is_up }
+        ensures unread { F.honest → (n : ℕ) → IsUnread bytes.now n → AnswersClone (Asks (Unread n)) (ReceivedAs result) (F.content self.old.files) (F.content self.new.files) self.old.awaited self.new.awaited self.old.is_up self.new.is_up }
+        ensures bad_file { F.honest → IfErr result (λ e. (e ≡ CloneFault.Node NodeFault.Down) ⊎ IsRefusedBytes (F.content self.old.files) self.old.awaited bytes.now e) }
+        ensures err { F.honest → IfErr result (λ e. IsOfMessage e → F.content self.new.files ≡ F.content self.old.files) }
+        ensures awaits { OnErr result (self.new.awaited ≡ self.old.awaited) }
+        ensures down { self.old.is_up ≡ false → result ≡ Err (CloneFault.Node NodeFault.Down) }
+        ensures up { self.old.is_up ≡ true → self.new.is_up ≡ clone_up_after result }
+        ensures clean { F.honest → KeepsClean (F.content self.old.files) (F.content self.new.files) }
+        ensures wear { Writes F.honest F.content F.failed F.can_fail F.left self.old.files self.new.files (CloneTellsDevice result) }
+        ensures looks { F.honest → (m : Message) → Reads bytes.now m → MayOr (Receive m) self.old.awaited self.old.is_up (F.content self.old.files) (Wears F.failed F.can_fail F.left self.old.files self.new.files (CloneTellsDevice result)) }
+    {
+        if !self.is_up {
+            return Err(CloneFault::Node(NodeFault::Down));
+        }
+        match exchanging::receive(self.alloc, &mut self.files, &mut self.awaited, bytes) {
+            Ok(received) => Ok(received),
+            Err(fault) => Err(self.fail_exchange(fault)),
+        }
+    }
+
     /// The object that an expression names at the clone: 51 to 56 where it names none.
     pub fn resolve(&mut self, expr: &Expr<'_>) -> Result<ObjectId, CloneFault>
         ensures answers { F.honest → (text : List ℕ) → IsExpr text (expr_view expr.now) → AnswersClone (Asks (Resolve text)) (FoundAs result) (F.content self.old.files) (F.content self.new.files) self.old.awaited self.new.awaited self.old.is_up self.new.is_up }
@@ -420,4 +448,19 @@ pub fn make_ready<F: Files>(alloc: Global, files: &mut F) -> Result<(), NodeFaul
     };
     vc_refs::set_head(files, alloc, &Head::Branch(main))?;
     Ok(())
+}
+
+impl<F: Files> CloneNode<FusedFiles<F>> {
+    ghost use Rattle.vc_files.specs.Fused.{left_after};
+
+    /// Sets a stop: so many more writes pass, and the next one fails and takes the node down. Where the files are stopped already
+    /// they stay so.
+    pub fn stop_after(&mut self, writes: u64)
+        ensures files { self.new.files.files ≡ self.old.files.files }
+        ensures fuse { self.new.files.fuse ≡ left_after self.old.files.fuse writes }
+        ensures awaited { self.new.awaited ≡ self.old.awaited }
+        ensures up { self.new.is_up ≡ self.old.is_up }
+    {
+        self.files.stop_after(writes);
+    }
 }

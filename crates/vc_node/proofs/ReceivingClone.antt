@@ -1,0 +1,176 @@
+-- What becomes of a clone's node with a message: where it is taken, where a fault cuts that short, and where nothing is done.
+use Rattle.std.proofs.Common.{◌≡◌, ℕ, Bool, true, false, [], Option, Some, None, Result, Ok, Err, refl, sym, ap, ◌∙◌, subst}
+use Rattle.std.specs.Prelude.{IfErr, codes, option_map, unwrap_or}
+use Rattle.std.specs.FinMap as files
+use Rattle.std.specs.FinMap.{get}
+use Rattle.vc_exchange.specs.Deeds.{HoldsHead, IsCutShort, IsReceived}
+use Rattle.vc_exchange.specs.Deeds.IsCutShort.{at_first, within}
+use Rattle.vc_exchange.specs.Storing.{KeepsBeside}
+use Rattle.vc_files.specs.Failures.{Wears}
+use Rattle.vc_files.specs.FileMap.{FileMap, SameOutside}
+use Rattle.vc_format.specs.Git.{bytes_of_id, id_of_bytes}
+use Rattle.vc_model.specs.Clone.{Awaited, CloneNode}
+use Rattle.vc_model.specs.CloneCall.{CloneAnswers, CloneCall}
+use Rattle.vc_model.specs.CloneCall.CloneCall.{Asks, Receive}
+use Rattle.vc_model.specs.Message.{Message}
+use Rattle.vc_model.specs.Node.{Answer, Failure, Reply}
+use Rattle.vc_model.specs.Node.Answer.{Declined, Did, Fault}
+use Rattle.vc_model.specs.Object.{Id}
+use Rattle.vc_model.specs.Question.Question.{Unread as AsksUnread}
+use Rattle.vc_model.specs.Refs.{Head as MachineHead}
+use Rattle.vc_model.specs.Refs.Head.{Detached, OnBranch}
+use Rattle.vc_model.specs.Repository.{Index, Repository}
+use Rattle.vc_refs.specs.Head.{head_of, head_value}
+use Rattle.vc_refs.specs.Refs.{refs}
+use Rattle.vc_refs.specs.declared.heads.Head.{Head}
+use Rattle.vc_refs.specs.declared.heads.Head.TheVariants as heads
+use Rattle.vc_rules.specs.OpenPushes.{HoldsContent}
+use Rattle.vc_session.proofs.FrameLemmas.{head-same}
+use Rattle.vc_session.specs.Clean.{MakesNoneBad}
+use Rattle.vc_node.proofs.CloneCallLemmas.{Leads, looks_through}
+use Rattle.vc_node.specs.Awaited.{AwaitedText, IsAwaited}
+use Rattle.vc_node.specs.Clean.{IsClean, KeepsClean}
+use Rattle.vc_node.specs.CloneCalls.{AnswersUp, MayOr, ReceivedAs}
+use Rattle.vc_node.specs.CloneFaults.{IsOfDevice, up_after}
+use Rattle.vc_node.specs.IndexFile.{index_bytes}
+use Rattle.vc_node.specs.Machine.{HoldsNode, Spells, machine_head}
+use Rattle.vc_node.specs.Receipts.{IsOfMessage}
+use Rattle.vc_node.specs.Shown.{shown}
+use Rattle.vc_node.specs.declared.clone_fault.CloneFault.{CloneFault}
+use Rattle.vc_node.specs.declared.exchanging.Received.{Received}
+
+-- ---- the repository
+back : (o : Option Id) → option_map bytes_of_id (option_map id_of_bytes o) ≡ o
+back None = refl
+back (Some x) = refl
+
+abbrev value_of : Repository → MachineHead → Option Id
+value_of r h = elim h [ OnBranch b ↦ get r.refs b | Detached x ↦ Some x ]
+
+value_by : (content : FileMap) (r : Repository) → Spells (shown content) r → (head : Head) → option_map bytes_of_id (head_value (refs content) (Some head)) ≡ value_of r (machine_head head)
+value_by content r spells (heads.Branch name) = ap (option_map bytes_of_id) (spells.refs name) ∙ back (get r.refs name)
+value_by content r spells (heads.Id id) = refl
+
+pub head_held : (content : FileMap) (r : Repository) → Spells (shown content) r → HoldsHead content r
+head_held content r spells =
+    ap (λ (h : Option Head). option_map bytes_of_id (head_value (refs content) h)) spells.head_shown
+    ∙ (value_by content r spells spells.head ∙ ap (value_of r) (sym spells.head_is))
+
+-- HEAD and the index are the same
+pub record SameBeside (old new : FileMap) : Type 0 where
+  pub head : head_of new ≡ head_of old
+  pub index : index_bytes new ≡ index_bytes old
+
+pub spells_on : (old new : FileMap) (r after : Repository) → Spells (shown old) r → HoldsContent new after → SameBeside old new → after.head ≡ r.head → after.index ≡ r.index → Spells (shown new) after
+spells_on old new r after spells content beside head index = record {
+  objects = content.objects_are;
+  refs = content.refs_are;
+  head = spells.head;
+  head_shown = beside.head ∙ spells.head_shown;
+  head_is = head ∙ spells.head_is;
+  map = spells.map;
+  map_sound = spells.map_sound;
+  map_shown = beside.index ∙ spells.map_shown;
+  index = λ p. ap (λ (i : Index). get i p) index ∙ spells.index p;
+}
+
+beside_by : (old new : FileMap) → files.get new (codes "HEAD") ≡ files.get old (codes "HEAD") → files.get new (codes "index") ≡ files.get old (codes "index") → SameBeside old new
+beside_by old new head index = record { head = head-same old new head; index = ap (λ found. unwrap_or found []) index }
+
+pub beside_refs : (old new : FileMap) → SameOutside (codes "refs/") old new → SameBeside old new
+beside_refs old new same = beside_by old new (same.at (codes "HEAD") refl) (same.at (codes "index") refl)
+
+pub beside_kept : (old new : FileMap) → KeepsBeside old new → SameBeside old new
+beside_kept old new kept = beside_by old new (kept.at (codes "HEAD") refl refl) (kept.at (codes "index") refl refl)
+
+clean_on : (old new : FileMap) → MakesNoneBad old new → IsClean old → IsClean new
+clean_on old new bad clean = record { objects = λ id damaged. clean.objects id (bad.objects id damaged); refs = λ path wrong. clean.refs path (bad.refs path wrong) }
+
+pub bad_same : (content : FileMap) → MakesNoneBad content content
+bad_same content = record { objects = λ id bad. bad; refs = λ path bad. bad; quarantines = λ slot fits id bad. bad }
+
+-- what is made bad by nothing is kept clean
+pub clean_by : (old new : FileMap) → MakesNoneBad old new → KeepsClean old new
+clean_by old new bad = record { damage = record { before = bad.objects }; refs = bad.refs }
+
+-- ---- what a held node leads to
+module _ (old : FileMap) (waits : AwaitedText) (awaited : Awaited) (n : CloneNode) (is : IsAwaited waits awaited) (held : HoldsNode old true awaited n) where
+  -- bytes that are no message
+  pub unread_leads : (k : ℕ) (shows : Answer → Option Message → Type 0) → shows (Declined k) None → Leads n (Asks (AsksUnread k)) old waits true shows
+  unread_leads k shows shown_so = (awaited, n, Declined k, None, is, held, shown_so, λ sound. CloneAnswers.asked awaited (AsksUnread k) held.shows.live refl refl refl refl)
+
+  module _ (new : FileMap) (m : Message) (beside : SameBeside old new) (bad : MakesNoneBad old new) (shows : Answer → Option Message → Type 0) where
+    -- it is taken
+    pub received_leads : (after : AwaitedText) (left : Awaited) (sends : Option Message) (reply : Reply) → IsReceived n.repository awaited m new left sends reply → IsAwaited after left → shows (Did reply) sends
+        → Leads n (Receive m) new after true shows
+    received_leads after left sends reply did waiting shown_so = (
+      left,
+      record { repository = did.after; live = Some left },
+      Did reply,
+      sends,
+      waiting,
+      record {
+        shows = record { spells = spells_on old new n.repository did.after held.shows.spells did.content beside did.head did.index; live = refl };
+        clean = clean_on old new bad held.clean;
+      },
+      shown_so,
+      λ sound. CloneAnswers.obeyed awaited (record { effect = did.effect; left = left; sends = sends; reply = reply }) held.shows.live did.receives (did.done, refl, refl) refl,
+    )
+
+    -- a fault left nothing of it, or some
+    pub cut_leads : (f : Failure) → IsCutShort n.repository awaited m new → shows (Fault f) None → Leads n (Receive m) new waits false shows
+    cut_leads f (at_first content) shown_so = (
+      awaited,
+      record { repository = n.repository; live = None },
+      Fault f,
+      None,
+      is,
+      record {
+        shows = record { spells = spells_on old new n.repository n.repository held.shows.spells content beside refl refl; live = refl };
+        clean = clean_on old new bad held.clean;
+      },
+      shown_so,
+      λ sound. CloneAnswers.faulted awaited f held.shows.live (λ never. cc never) refl refl refl,
+    )
+    cut_leads f (within part) shown_so = (
+      awaited,
+      record { repository = part.after; live = None },
+      Fault f,
+      None,
+      is,
+      record {
+        shows = record { spells = spells_on old new n.repository part.after held.shows.spells part.content beside part.head part.index; live = refl };
+        clean = clean_on old new bad held.clean;
+      },
+      shown_so,
+      λ sound. CloneAnswers.obeyed awaited part.deed held.shows.live part.receives (part.stops, refl) refl,
+    )
+
+-- ---- the answer of a node that is up
+pub up_answers : (call : CloneCall) (result : Result Received CloneFault) (old new : FileMap) (waits after : AwaitedText)
+    → ((awaited : Awaited) (n : CloneNode) → IsAwaited waits awaited → HoldsNode old true awaited n → Leads n call new after (up_after result) (ReceivedAs result)) → AnswersUp call result old new waits after
+up_answers call result old new waits after leads was_up is_up was up = record {
+  each = λ awaited n is held.
+      subst (λ (b : Bool). Leads n call new after b (ReceivedAs result)) (sym up)
+      (leads awaited n is (subst (λ (b : Bool). HoldsNode old b awaited n) was held));
+}
+
+-- a result that is another one, told in other words
+pub answers_as : (call : CloneCall) (old new : FileMap) (waits after : AwaitedText) (result told : Result Received CloneFault) → result ≡ told → AnswersUp call told old new waits after → AnswersUp call result old new waits after
+answers_as call old new waits after result told same answers = subst (λ (r : Result Received CloneFault). AnswersUp call r old new waits after) (sym same) answers
+
+-- ---- what a method tells of it
+pub may_up : {IsLook : Type 0} (call : CloneCall) (waits : AwaitedText) (content : FileMap) (up : Bool) → up ≡ true → MayOr call waits true content IsLook → MayOr call waits up content IsLook
+may_up call waits content up is may awaited n waiting held = may awaited n waiting (subst (λ (b : Bool). HoldsNode content b awaited n) is held)
+
+pub may_through : {D : Type 0} {failed : D → ℕ} {can_fail : D → Type 0} {left : D → Option ℕ} {old mid new : D} (call : CloneCall) (waits : AwaitedText) (content : FileMap) (up : Bool) (e told : CloneFault) → told ≡ e → new ≡ mid → up ≡ true
+    → MayOr call waits true content (Wears failed can_fail left old mid (IsOfDevice e)) → MayOr call waits up content (Wears failed can_fail left old new (IsOfDevice told))
+may_through call waits content up e told is files was may awaited n waiting held = looks_through e told is files (may_up call waits content up was may awaited n waiting held)
+
+pub kept_through : {P Q : Type 0} (e told : CloneFault) → told ≡ e → (P → Q) → (IsOfMessage e → P) → IsOfMessage told → Q
+kept_through e told is on kept of_message = on (kept (subst IsOfMessage is of_message))
+
+-- where nothing changed
+pub kept_here : {P : Type 0} (q : Result Received CloneFault) → P → IfErr q (λ e. IsOfMessage e → P)
+kept_here (Ok x) holds = tt
+kept_here (Err e) holds = λ told. holds

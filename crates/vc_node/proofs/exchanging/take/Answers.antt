@@ -1,0 +1,28 @@
+use Rattle.std.proofs.Common.{subst}
+use Rattle.vc_message.specs.AnyView.{message_text}
+use Rattle.vc_message.specs.Machine.{TextOf}
+use Rattle.vc_message.specs.declared.message.Message.{Message}
+use Rattle.vc_node.proofs.ExchangingLemmas.{other_told}
+use Rattle.vc_node.specs.Awaited.{awaited_text}
+use Rattle.vc_node.proofs.exchanging.take.Goals as goal
+
+pub returns-in-Advert-clause-looks : goal.returns-in-Advert-clause-looks
+returns-in-Advert-clause-looks g c = λ honest m is. c.take_advert.ensures.looks honest m (subst (λ (x : Message). TextOf m (message_text x)) c.in-Advert.is is)
+
+pub returns-in-Pack-clause-looks : goal.returns-in-Pack-clause-looks
+returns-in-Pack-clause-looks g c = λ honest m is. c.take_pack.ensures.looks honest m (subst (λ (x : Message). TextOf m (message_text x)) c.in-Pack.is is)
+
+pub returns-in-Report-clause-looks : goal.returns-in-Report-clause-looks
+returns-in-Report-clause-looks g c = λ honest m is. c.take_report.ensures.looks honest m (subst (λ (x : Message). TextOf m (message_text x)) c.in-Report.is is)
+
+pub returns-in-List-clause-answers : goal.returns-in-List-clause-answers
+returns-in-List-clause-answers g c = λ honest m is. other_told (g.F.Files.content c.args.files.now) (awaited_text c.args.awaited.now) m _ _ c.in-List.is tt is
+
+pub returns-in-Want-clause-answers : goal.returns-in-Want-clause-answers
+returns-in-Want-clause-answers g c = λ honest m is. other_told (g.F.Files.content c.args.files.now) (awaited_text c.args.awaited.now) m _ _ c.in-Want.is tt is
+
+pub returns-in-Push-clause-answers : goal.returns-in-Push-clause-answers
+returns-in-Push-clause-answers g c = λ honest m is. other_told (g.F.Files.content c.args.files.now) (awaited_text c.args.awaited.now) m _ _ c.in-Push.is tt is
+
+pub returns-clause-answers : goal.returns-clause-answers
+returns-clause-answers g c = λ honest m is. other_told (g.F.Files.content c.args.files.now) (awaited_text c.args.awaited.now) m _ _ c.in-Error.is tt is

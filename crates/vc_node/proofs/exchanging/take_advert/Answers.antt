@@ -1,0 +1,59 @@
+use Rattle.std.proofs.Common.{Ok, ap, inr, refl, subst}
+use Rattle.vc_exchange.specs.Moving.{told_in}
+use Rattle.vc_exchange.specs.Receiving.{IsAdvertTaken}
+use Rattle.vc_exchange.specs.declared.receiving.Advertised.{Advertised}
+use Rattle.vc_fetch.specs.AdvertView.{advert_text}
+use Rattle.vc_files.proofs.WearLemmas.{writes_none}
+use Rattle.vc_model.specs.CloneCall.CloneCall.{Receive}
+use Rattle.vc_node.proofs.ExchangingLemmas.{advert_failed, advert_followed, advert_may, advert_refused, advert_unexpected, advert_wanted, awaiting, still_awaiting}
+use Rattle.vc_node.proofs.LookLemmas.{looks_none, or_told}
+use Rattle.vc_node.proofs.ReceivingClone.{bad_same}
+use Rattle.vc_node.proofs.ReceivingFaults.{device_from}
+use Rattle.vc_node.specs.Awaited.{awaited_text}
+use Rattle.vc_node.specs.declared.exchanging.Received.TheVariants.{Moved, Send}
+use Rattle.vc_node.proofs.exchanging.take_advert.Goals as goal
+
+pub returns-in_default : goal.returns-in_default
+returns-in_default g c = record {
+  answers = λ honest m is. advert_unexpected (g.F.Files.content c.args.files.now) m c.args.awaited.now (advert_text c.args.advert) is c.in_default.not-Advert;
+  unchanged = refl;
+  refused = λ honest. advert_refused (g.F.Files.content c.args.files.now) c.args.awaited.now (advert_text c.args.advert) c.in_default.not-Advert;
+  kept = λ honest told. refl;
+  bad = λ honest. bad_same (g.F.Files.content c.args.files.now);
+  wear = writes_none (λ never. never);
+  looks = λ honest m is awaited n waiting held. inr (looks_none (λ never. never));
+}
+
+pub returns-in_err-asked-clause-answers : goal.returns-in_err-asked-clause-answers
+returns-in_err-asked-clause-answers g c = λ honest m is.
+    still_awaiting (Receive m) _ _ _ _ _ (ap awaited_text c.in-Advert.is)
+    (advert_failed (g.F.Files.content c.args.files.now) (g.F.Files.content c.receive_advert.new.files) m (advert_text c.args.advert) is (c.receive_advert.ensures.outside honest) (c.receive_advert.ensures.bad honest)
+    c.in_err-asked.field-0.0 c.from_residual.result c.from_residual.ensures.1 (c.in_err-asked.ensures.refused honest) (c.in_err-asked.ensures.cut honest))
+
+pub returns-in_err-asked-clause-looks : goal.returns-in_err-asked-clause-looks
+returns-in_err-asked-clause-looks g c = λ honest m is.
+    advert_may (g.F.Files.content c.args.files.now) m (awaited_text c.args.awaited.now) (ap awaited_text c.in-Advert.is) (λ r holds.
+    or_told (c.receive_advert.ensures.looks honest r holds m is) (λ may. may)
+    (device_from c.receive_advert.result c.in_err-asked.field-0.0 c.in_err-asked.was c.from_residual.result c.from_residual.ensures.1))
+
+pub returns-in-Wanted-clause-answers : goal.returns-in-Wanted-clause-answers
+returns-in-Wanted-clause-answers g c = λ honest m is.
+    awaiting (Receive m) (Ok (Send c.in-Wanted.asked.bytes)) _ _ _ _ (ap awaited_text c.in-Advert.is) _
+    (advert_wanted (g.F.Files.content c.args.files.now) (g.F.Files.content c.receive_advert.new.files) m (advert_text c.args.advert) is (c.receive_advert.ensures.outside honest) (c.receive_advert.ensures.bad honest)
+    c.in-Wanted.asked.wants.items (told_in c.in-Wanted.asked.refs.items) c.in-Wanted.asked.bytes
+    (λ r holds head k advert. subst (λ (x : Advertised). IsAdvertTaken r k (g.F.Files.content c.receive_advert.new.files) x) c.in-Wanted.is (c.in_ok-asked.ensures.taken honest r holds head k advert)))
+
+pub returns-in-Wanted-clause-looks : goal.returns-in-Wanted-clause-looks
+returns-in-Wanted-clause-looks g c = λ honest m is.
+    advert_may (g.F.Files.content c.args.files.now) m (awaited_text c.args.awaited.now) (ap awaited_text c.in-Advert.is) (λ r holds. or_told (c.in_ok-asked.ensures.looks honest r holds m is) (λ may. may) (λ never. absurd never))
+
+pub returns-in-Followed-clause-answers : goal.returns-in-Followed-clause-answers
+returns-in-Followed-clause-answers g c = λ honest m is.
+    awaiting (Receive m) (Ok (Moved c.in-Followed.moves.moved c.in-Followed.moves.left)) _ _ _ _ (ap awaited_text c.in-Advert.is) _
+    (advert_followed (g.F.Files.content c.args.files.now) (g.F.Files.content c.receive_advert.new.files) m (advert_text c.args.advert) is (c.receive_advert.ensures.outside honest) (c.receive_advert.ensures.bad honest)
+    c.in-Followed.moves.moved c.in-Followed.moves.left
+    (λ r holds head k advert. subst (λ (x : Advertised). IsAdvertTaken r k (g.F.Files.content c.receive_advert.new.files) x) c.in-Followed.is (c.in_ok-asked.ensures.taken honest r holds head k advert)))
+
+pub returns-in-Followed-clause-looks : goal.returns-in-Followed-clause-looks
+returns-in-Followed-clause-looks g c = λ honest m is.
+    advert_may (g.F.Files.content c.args.files.now) m (awaited_text c.args.awaited.now) (ap awaited_text c.in-Advert.is) (λ r holds. or_told (c.in_ok-asked.ensures.looks honest r holds m is) (λ may. may) (λ never. absurd never))
