@@ -1,12 +1,15 @@
--- That what a step of a slot says of itself is the machine's answer.
+-- That what a step of a slot says of itself is the machine's answer; and that what holds a node can be opened again.
 use Rattle.std.specs.Prelude.{◌≡◌, ℕ, Bool, true, false, List, Option, Result, Err, IfOk, IfErr, OnErr}
 use Rattle.vc_files.specs.FileMap.{FileMap}
+use Rattle.vc_model.specs.Shared.{SharedNode}
 use Rattle.vc_model.specs.SharedCall.SharedCall.{StepOf}
+use Rattle.vc_node.specs.Opening.{IsOpenable}
 use Rattle.vc_node.specs.declared.fault.NodeFault.TheVariants.{Down}
 use Rattle.vc_session.specs.Clean.{MakesNoneBad}
 use Rattle.vc_session.specs.Session.{SessionText}
 use Rattle.vc_shared.specs.Calls.{AnswersShared, SteppedAs}
 use Rattle.vc_shared.specs.Faults.{is_fault, up_after}
+use Rattle.vc_shared.specs.Holding.{HoldsShared}
 use Rattle.vc_shared.specs.Slots.{AreTellable, slot_of}
 use Rattle.vc_shared.specs.Stepping.{EndsSlotEarly, IsHeldThere, IsRefusedIn, StepsSlot}
 use Rattle.vc_shared.specs.declared.fault.SharedFault.{SharedFault}
@@ -27,3 +30,7 @@ StepsAnswer = (old new : FileMap) (slots after : List (Option SessionText)) (k :
 abbrev pub DownAnswers : Type 0
 DownAnswers = (old new : FileMap) (slots after : List (Option SessionText)) (k : ℕ) (was_up is_up : Bool) (result : Result Stepped SharedFault)
     → new ≡ old → after ≡ slots → is_up ≡ was_up → was_up ≡ false → result ≡ Err (Node Down) → AnswersShared (StepOf k) (SteppedAs result) old new slots after was_up is_up
+
+-- What holds a node can be opened as its repository, whatever pushes are open in it, and whether it is up or down.
+abbrev pub HeldSharedOpen : Type 0
+HeldSharedOpen = (content : FileMap) (slots : List (Option SessionText)) (is_up : Bool) (n : SharedNode) → HoldsShared content slots is_up n → IsOpenable content n.repository

@@ -1,6 +1,6 @@
 //! Laws of the definitions: functions with no work to do, whose contracts are the laws.
 
-ghost use Rattle.vc_shared.specs.Laws.{DownAnswers, StepsAnswer};
+ghost use Rattle.vc_shared.specs.Laws.{DownAnswers, HeldSharedOpen, StepsAnswer};
 
 /// A step of the push in a slot is the machine's: where the session's step is told so, or refused so, whatever node was held
 /// leads by the machine's answer to one that is held then. An empty slot is 111; over clean files a step ends early for a fault
@@ -9,4 +9,9 @@ ghost use Rattle.vc_shared.specs.Laws.{DownAnswers, StepsAnswer};
 pub fn a_step_in_a_slot_is_the_machines()
     ensures up { StepsAnswer }
     ensures down { DownAnswers }
+{}
+
+/// The files of a node can be opened as its repository after any call, also one that a stop ended: no push is open then.
+pub fn a_held_shared_node_can_be_opened()
+    ensures { HeldSharedOpen }
 {}

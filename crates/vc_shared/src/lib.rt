@@ -16,7 +16,7 @@ mod stepping;
 
 pub use accepting::Accepted;
 pub use fault::SharedFault;
-pub use laws::a_step_in_a_slot_is_the_machines;
+pub use laws::{a_held_shared_node_can_be_opened, a_step_in_a_slot_is_the_machines};
 pub use pushing::a_push_is_opened_as_the_machine_does;
 pub use resolving::the_value_of_an_expression_is_the_machines;
 pub use shared::Shared;

@@ -19,14 +19,14 @@ ghost use Rattle.vc_shared.specs.Calls.{AcceptedAs, AnswersShared, SteppedAs};
 ghost use Rattle.vc_shared.specs.Faults.{TellsDevice, fault_answer, is_fault, up_after};
 ghost use Rattle.vc_shared.specs.Holding.{HoldsShared};
 ghost use Rattle.vc_shared.specs.Resolving.{FoundAs, IsRefusedValue};
-ghost use Rattle.vc_shared.specs.Slots.{slot_of};
-ghost use Rattle.vc_shared.specs.Stepping.{IsHeldThere, IsRefusedIn, MayWriteIn};
+ghost use Rattle.vc_shared.specs.Slots.{AreTellable, slot_of};
+ghost use Rattle.vc_shared.specs.Stepping.{IsHeldThere, IsRefusedIn, MayWriteIn, StepsSlot};
 
 use crate::opening::open_files;
 use crate::{Accepted, SharedFault, Stepped, accepting, stepping};
 use std::alloc::Global;
 use std::marker::Model;
-use vc_files::Files;
+use vc_files::{Files, FusedFiles};
 use vc_node::NodeFault;
 use vc_object::ObjectId;
 use vc_rev::Expr;
@@ -107,6 +107,7 @@ impl<F: Files> Shared<F> {
     /// one ref, or its report, after which the slot is free. 111 where no push is open there.
     pub fn step(&mut self, slot: u8) -> Result<Stepped, SharedFault>
         ensures answers { F.honest → AnswersShared (StepOf slot) (SteppedAs result) (F.content self.old.files) (F.content self.new.files) self.old.slots self.new.slots self.old.is_up self.new.is_up }
+        ensures steps { F.honest → IsHeldThere (F.content self.old.files) (slot_of self.old.slots slot) → IfOk result (StepsSlot (F.content self.old.files) (F.content self.new.files) self.old.slots self.new.slots slot) }
         ensures bad_file { F.honest → IfErr result (λ e. (e ≡ SharedFault.Node NodeFault.Down) ⊎ IsRefusedIn (F.content self.old.files) (slot_of self.old.slots slot) e) }
         ensures down { self.old.is_up ≡ false → result ≡ Err (SharedFault.Node NodeFault.Down) }
         ensures up { self.old.is_up ≡ true → self.new.is_up ≡ up_after result }
@@ -131,6 +132,7 @@ impl<F: Files> Shared<F> {
         ensures unread { F.honest → (n : ℕ) → IsUnread bytes.now n → AnswersShared (Asks (Unread n)) (AcceptedAs result) (F.content self.old.files) (F.content self.new.files) self.old.slots self.new.slots self.old.is_up self.new.is_up }
         ensures bad_file { F.honest → IfErr result (λ e. (e ≡ SharedFault.Node NodeFault.Down) ⊎ IsRefusedBytes (F.content self.old.files) self.old.slots bytes.now e) }
         ensures err { OnErr result (self.new.slots ≡ self.old.slots) }
+        ensures tellable { AreTellable self.new.slots }
         ensures down { self.old.is_up ≡ false → result ≡ Err (SharedFault.Node NodeFault.Down) }
         ensures up { self.old.is_up ≡ true → self.new.is_up ≡ up_after result }
         ensures clean { F.honest → KeepsClean (F.content self.old.files) (F.content self.new.files) }
@@ -167,5 +169,20 @@ impl<F: Files> Shared<F> {
                 Err(self.fail(fault))
             }
         }
+    }
+}
+
+impl<F: Files> Shared<FusedFiles<F>> {
+    ghost use Rattle.vc_files.specs.Fused.{left_after};
+
+    /// Sets a stop: so many more writes pass, and the next one fails and takes the node down. Where the files are stopped already
+    /// they stay so.
+    pub fn stop_after(&mut self, writes: u64)
+        ensures files { self.new.files.files ≡ self.old.files.files }
+        ensures fuse { self.new.files.fuse ≡ left_after self.old.files.fuse writes }
+        ensures slots { self.new.slots ≡ self.old.slots }
+        ensures up { self.new.is_up ≡ self.old.is_up }
+    {
+        self.files.stop_after(writes);
     }
 }
