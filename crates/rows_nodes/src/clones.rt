@@ -1,14 +1,14 @@
 //! Rows about a clone.
 ghost use Rattle.std.specs.List.{starts_with};
-ghost use Rattle.std.specs.Prelude.{◌≡◌, IfSome, true, nat_eq, codes};
+ghost use Rattle.std.specs.Prelude.{◌≡◌, ◌≢◌, [], IfOk, IfSome, true, nat_eq, codes};
 
 use crate::site::{Device, Site};
-use crate::words::{push_bytes, push_done, push_found};
+use crate::words::{push_bytes, push_done, push_found, taken};
 use bstr::ByteVec;
 use std::alloc::{AllocError, Global};
 use std::fmt::Write;
 use vc_exchange::PushItem;
-use vc_node::{CloneFault, CloneNode};
+use vc_node::{CloneFault, CloneNode, Received};
 use vc_object::{Kind, Mode, ObjectId};
 use vc_refname::RefName;
 use vc_rev::parse;
@@ -30,6 +30,26 @@ fn push_sent(
             out.push_str("send ")?;
             push_bytes(out, &bytes)?;
             sent.push(bytes)?;
+            Ok(())
+        }
+        Err(fault) => write!(out, "{fault}"),
+    }
+}
+
+// Tells what came of a message, and keeps what is to be sent.
+fn push_received(
+    out: &mut String,
+    sent: &mut Vec<Vec<u8>>,
+    received: Result<Received, CloneFault>,
+) -> Result<(), AllocError> {
+    match received {
+        Ok(Received::Send(bytes)) => push_sent(out, sent, Ok(bytes)),
+        Ok(Received::Moved { moved, left }) => write!(out, "moved {moved} left {left}"),
+        Ok(Received::Reported { moved, refused }) => {
+            write!(out, "moved {moved}")?;
+            for number in &refused {
+                write!(out, " refused {number}")?;
+            }
             Ok(())
         }
         Err(fault) => write!(out, "{fault}"),
@@ -137,6 +157,14 @@ fn call(
         "branch" => branch(out, alloc, node, text),
         "fetch" => push_sent(out, sent, node.start_fetch()),
         "push" => push(out, alloc, node, sent, text),
+        "receive" => {
+            let bytes = Vec::unescape_bytes(alloc, text)?;
+            push_received(out, sent, node.receive(&bytes))
+        }
+        "take" => {
+            let bytes = taken(alloc, sent, text)?;
+            push_received(out, sent, node.receive(&bytes))
+        }
         "resolve" => resolve(out, alloc, node, text),
         _ => out.push_str("no such verb"),
     }

@@ -10,10 +10,10 @@ use std::alloc::{AllocError, Global};
 /// The nodes, and the messages that they sent, in order.
 #[derive(Drop)]
 pub struct Ground {
-    shared: SharedSite,
-    first: CloneSite,
-    second: CloneSite,
-    sent: Vec<Vec<u8>>,
+    pub shared: SharedSite,
+    pub first: CloneSite,
+    pub second: CloneSite,
+    pub sent: Vec<Vec<u8>>,
     alloc: Global,
 }
 
@@ -59,6 +59,10 @@ impl Ground {
                 let bytes = taken(self.alloc, &self.sent, text)?;
                 shared::accept(out, &mut self.shared, &mut self.sent, &bytes)
             }
+            "serve" => {
+                let bytes = Vec::unescape_bytes(self.alloc, text)?;
+                shared::serve(out, self.alloc, &mut self.shared, &bytes)
+            }
             "step" => shared::step(out, &mut self.shared, &mut self.sent, text),
             "resolve" => shared::resolve(out, self.alloc, &mut self.shared, text),
             "file" => self.shared.file(out, text),
@@ -76,5 +80,10 @@ impl Ground {
             "c1" => clones::row(out, self.alloc, &mut self.second, &mut self.sent, text),
             _ => self.shared_row(out, verb, text),
         }
+    }
+
+    /// Whether at each node all is there that its refs reach. The nodes are closed for it.
+    pub fn is_whole(&mut self) -> bool {
+        self.shared.is_whole() && self.first.is_whole() && self.second.is_whole()
     }
 }

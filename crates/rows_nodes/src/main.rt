@@ -1,5 +1,5 @@
 //! Reads rows, one a line, about the shared node and two clones, and prints each with what the node answers. A row about a clone
-//! begins with its name, `c0` or `c1`. The verb `take` brings the shared node a message that any node sent, by its number, or the last one.
+//! begins with its name, `c0` or `c1`. The verb `take` brings a node a message that any node sent, by its number, or the last one.
 //!
 //! A row that is misspelled ends nothing: it gets an answer that nobody expects.
 #![tactic(auto)]
@@ -8,6 +8,7 @@ mod clones;
 mod ground;
 mod shared;
 mod site;
+mod trials;
 mod words;
 
 use crate::ground::Ground;
@@ -22,16 +23,24 @@ fn answered(alloc: Global, ground: &mut Ground, row: &str) -> Result<String, All
         return Ok(line);
     }
     line.push_str(" = ")?;
-    ground.row(&mut line, row)?;
+    match row.strip_prefix("try ") {
+        Some(text) => trials::row(&mut line, alloc, text)?,
+        None => ground.row(&mut line, row)?,
+    }
     Ok(line)
 }
 
-fn main(rt: HostRuntime) -> io::Result<()> {
+// Answers the rows of the input in their order.
+fn answer_all(rt: &HostRuntime, ground: &mut Ground) -> io::Result<()> {
     let alloc = rt.alloc();
-    let mut ground = Ground::empty(alloc);
     for row in BufReader::new(alloc, rt.reader())?.lines(alloc) {
-        let line = answered(alloc, &mut ground, row?.as_str())?;
+        let line = answered(alloc, ground, row?.as_str())?;
         rt.println(line)?;
     }
     Ok(())
+}
+
+fn main(rt: HostRuntime) -> io::Result<()> {
+    let mut ground = Ground::empty(rt.alloc());
+    answer_all(&rt, &mut ground)
 }

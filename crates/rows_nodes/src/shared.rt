@@ -6,6 +6,7 @@ use std::alloc::{AllocError, Global};
 use std::fmt::Write;
 use vc_push::Reason;
 use vc_rev::parse;
+use vc_server::{ServeFault, Served, serve_message};
 use vc_shared::{Accepted, Shared, SharedFault, Stepped};
 
 /// The shared node of the rows.
@@ -100,4 +101,47 @@ pub fn resolve(
         Some(node) => push_found(out, &node.resolve(&expr)),
         None => out.push_str("closed"),
     }
+}
+
+// Tells how a turn at a connection ended. Whether another may follow.
+fn push_served(out: &mut String, served: Result<Served, ServeFault>) -> Result<bool, AllocError> {
+    match served {
+        Ok(Served::Answered) => {
+            out.push_str("answered ")?;
+            Ok(true)
+        }
+        Ok(Served::Refused(number)) => {
+            write!(out, "refused {number} ")?;
+            Ok(false)
+        }
+        Ok(Served::End) => {
+            out.push_str("end ")?;
+            Ok(false)
+        }
+        Err(fault) => {
+            write!(out, "{fault} ")?;
+            Ok(false)
+        }
+    }
+}
+
+/// A connection on which these bytes come: turn after turn until it ends, or a message is refused, and what is written on it.
+pub fn serve(
+    out: &mut String,
+    alloc: Global,
+    site: &mut SharedSite,
+    bytes: &[u8],
+) -> Result<(), AllocError> {
+    let Some(node) = &mut site.node else {
+        return out.push_str("closed");
+    };
+    let mut reader = bytes;
+    let mut written = Vec::new(alloc);
+    for _ in 0..8 {
+        let served = serve_message(node, alloc, &mut reader, &mut written);
+        if !push_served(out, served)? {
+            break;
+        }
+    }
+    push_bytes(out, &written)
 }

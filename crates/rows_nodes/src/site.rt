@@ -4,16 +4,49 @@ use bstr::ByteVec;
 use std::alloc::{AllocError, Global};
 use std::fmt::Write;
 use std::mem;
-use vc_files::{Files, FusedFiles, MemoryFiles};
+use vc_files::{FailOnce, Files, FusedFiles, MemoryFiles};
+use vc_graph::first_incomplete;
 use vc_node::{CloneNode, NodeFault};
+use vc_object::ObjectId;
+use vc_refname::RefName;
+use vc_refs::list;
 use vc_shared::Shared;
+use vc_store::Store;
 
-/// Files in memory that can be stopped.
-pub type Device = FusedFiles<MemoryFiles>;
+/// Files in memory that can be stopped, and of which one call can fail.
+pub type Device = FusedFiles<FailOnce<MemoryFiles>>;
+
+// The files, of which no call fails.
+fn sound_device(files: MemoryFiles) -> Device {
+    FusedFiles::new(FailOnce::new(files, u64::MAX))
+}
+
+// The files, which fail as the words say: `once` and a number have one call fail after so many calls; a number alone has every
+// call fail after so many writes.
+fn device_of(files: MemoryFiles, words: &str) -> Device {
+    if let Some(number) = words.strip_prefix("once ") {
+        let calls = number.parse::<u64>().unwrap_or(u64::MAX);
+        return FusedFiles::new(FailOnce::new(files, calls));
+    }
+    let mut device = sound_device(files);
+    if let Ok(writes) = words.parse::<u64>() {
+        device.stop_after(writes);
+    }
+    device
+}
 
 /// No files at all.
 pub fn no_files(alloc: Global) -> Device {
-    FusedFiles::new(MemoryFiles::new(alloc))
+    sound_device(MemoryFiles::new(alloc))
+}
+
+// The values of the refs.
+fn ids_of(alloc: Global, listed: &[(RefName, ObjectId)]) -> Result<Vec<ObjectId>, AllocError> {
+    let mut ids = Vec::new(alloc);
+    for (_, id) in listed {
+        ids.push(*id)?;
+    }
+    Ok(ids)
 }
 
 /// A node over files.
@@ -61,22 +94,19 @@ impl<N: Opened> Site<N> {
         }
     }
 
-    // The files, with no stop set.
-    fn take_files(&mut self) -> Device {
+    // The files alone.
+    fn take_files(&mut self) -> MemoryFiles {
         let files = mem::replace(&mut self.files, no_files(self.alloc));
         let files = match self.node.take() {
             Some(node) => node.close(),
             None => files,
         };
-        FusedFiles::new(files.into_inner())
+        files.into_inner().into_inner()
     }
 
-    /// Opens the node; where a number is told, so many writes pass from here on.
-    pub fn open(&mut self, out: &mut String, text: &str) -> Result<(), AllocError> {
-        let mut files = self.take_files();
-        if let Ok(writes) = text.parse::<u64>() {
-            files.stop_after(writes);
-        }
+    /// Opens the node over files that fail as the words say from here on.
+    pub fn open(&mut self, out: &mut String, words: &str) -> Result<(), AllocError> {
+        let files = device_of(self.take_files(), words);
         match N::open(self.alloc, files) {
             Ok(node) => {
                 self.node = Some(node);
@@ -91,7 +121,20 @@ impl<N: Opened> Site<N> {
 
     /// Closes the node.
     pub fn close(&mut self) {
-        self.files = self.take_files();
+        self.files = sound_device(self.take_files());
+    }
+
+    /// Whether all is there that the refs reach. The node is closed for it.
+    pub fn is_whole(&mut self) -> bool {
+        self.close();
+        let Ok(listed) = list(&mut self.files, self.alloc) else {
+            return false;
+        };
+        let Ok(ids) = ids_of(self.alloc, &listed) else {
+            return false;
+        };
+        let mut store = Store::new(self.alloc, &mut self.files);
+        matches!(first_incomplete(self.alloc, &mut store, &ids), Ok(None))
     }
 
     /// Puts a file below the node, which is closed for it: its path, and its bytes by escapes.

@@ -1,0 +1,3 @@
+pub mod ServingLemmas
+pub mod StepsLeft
+pub mod TurnLemmas

@@ -1,0 +1,4 @@
+pub mod Refusals
+pub mod Serving
+pub mod Telling
+pub mod Turn

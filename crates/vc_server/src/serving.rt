@@ -1,0 +1,46 @@
+//! One turn of the shared node at a connection.
+ghost use Rattle.std.specs.Prelude.{◌≡◌, ◌++◌, List, ℕ, IsErrOf, Some, true};
+ghost use Rattle.vc_files.specs.Failures.{Writes};
+ghost use Rattle.vc_message.specs.Machine.{Reads};
+ghost use Rattle.vc_model.specs.Message.{Message};
+ghost use Rattle.vc_node.specs.Clean.{KeepsClean};
+ghost use Rattle.vc_server.specs.Turn.{LeavesRest, TakesTurn, up_after};
+
+use crate::answering::answer;
+use crate::serve_fault::ServeFault;
+use crate::telling::{Served, refuse, tell};
+use std::alloc::Global;
+use std::io::{Read, Write};
+use vc_files::{Fault, Files};
+use vc_message::{IncomingFault, read_message};
+use vc_shared::{Shared, SharedFault};
+
+/// Takes the next message of the reader, and no byte behind it, and writes the reply, and flushes it. Where the message is refused,
+/// or the bytes that came are none, what is written is an Error: `ERR not our ref <id>` for a wanted id that no ref reaches (90),
+/// and `ERR refused <number>` for whatever else. The answer is the same however the reader cuts the bytes.
+pub fn serve_message<F: Files, R: Read, W: Write>(
+    shared: &mut Shared<F>,
+    alloc: Global,
+    reader: &mut R,
+    writer: &mut W,
+) -> Result<Served, ServeFault>
+    ensures turn { TakesTurn F.honest F.content R.remaining W.contents shared.old shared.new reader.old reader.new writer.old writer.new result }
+    ensures known { (m : Message) (bytes rest : List ℕ) → R.remaining reader.old ≡ Some (bytes ++ rest) → Reads bytes m → LeavesRest rest (R.remaining reader.new) result }
+    ensures up { shared.old.is_up ≡ true → shared.new.is_up ≡ up_after result }
+    ensures clean { F.honest → KeepsClean (F.content shared.old.files) (F.content shared.new.files) }
+    ensures wear { Writes F.honest F.content F.failed F.can_fail F.left shared.old.files shared.new.files (IsErrOf result (ServeFault.Fault Fault.Device)) }
+{
+    let taken = match read_message(alloc, reader) {
+        Ok(taken) => taken,
+        Err(IncomingFault::Unread(fault)) => {
+            return refuse(alloc, writer, &SharedFault::Unread(fault));
+        }
+        Err(IncomingFault::Failed) => return Err(ServeFault::ReadFailed),
+        Err(IncomingFault::Memory) => return Err(ServeFault::Memory),
+    };
+    let Some(bytes) = taken else {
+        return Ok(Served::End);
+    };
+    let answered = answer(shared, &bytes);
+    tell(alloc, writer, &answered)
+}
