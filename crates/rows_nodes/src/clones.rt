@@ -105,6 +105,17 @@ fn item_of(alloc: Global, word: &str) -> Option<PushItem> {
     Some(PushItem { id, name })
 }
 
+/// The items of the words, in their order.
+pub fn items_of(alloc: Global, text: &str) -> Result<Vec<PushItem>, AllocError> {
+    let mut items = Vec::new(alloc);
+    for word in text.split_whitespace() {
+        if let Some(item) = item_of(alloc, word) {
+            items.push(item)?;
+        }
+    }
+    Ok(items)
+}
+
 // The start of a push of the items.
 fn push(
     out: &mut String,
@@ -113,12 +124,7 @@ fn push(
     sent: &mut Vec<Vec<u8>>,
     text: &str,
 ) -> Result<(), AllocError> {
-    let mut items = Vec::new(alloc);
-    for word in text.split_whitespace() {
-        if let Some(item) = item_of(alloc, word) {
-            items.push(item)?;
-        }
-    }
+    let items = items_of(alloc, text)?;
     if items.is_empty() {
         return out.push_str("no items");
     }

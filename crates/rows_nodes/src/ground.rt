@@ -1,6 +1,7 @@
 //! The shared node and two clones, and what they sent.
 
 use crate::clones::{self, CloneSite};
+use crate::exchanges;
 use crate::shared::{self, SharedSite};
 use crate::site::Site;
 use crate::words::taken;
@@ -71,11 +72,31 @@ impl Ground {
         }
     }
 
+    // A whole fetch by the clone that is named.
+    fn fetch(&mut self, out: &mut String, name: &str) -> Result<(), AllocError> {
+        match name {
+            "c1" => exchanges::fetch(out, &mut self.shared, &mut self.second),
+            _ => exchanges::fetch(out, &mut self.shared, &mut self.first),
+        }
+    }
+
+    // A whole push by the clone that is named first, of the items behind it.
+    fn push(&mut self, out: &mut String, text: &str) -> Result<(), AllocError> {
+        let alloc = self.alloc;
+        let (name, items) = text.split_once(' ').unwrap_or((text, ""));
+        match name {
+            "c1" => exchanges::push(out, alloc, &mut self.shared, &mut self.second, items),
+            _ => exchanges::push(out, alloc, &mut self.shared, &mut self.first, items),
+        }
+    }
+
     /// What a node answers to a row.
     pub fn row(&mut self, out: &mut String, row: &str) -> Result<(), AllocError> {
         let (verb, text) = row.split_once(' ').unwrap_or((row, ""));
         match verb {
             "world" => self.world(out),
+            "fetch" => self.fetch(out, text),
+            "push" => self.push(out, text),
             "c0" => clones::row(out, self.alloc, &mut self.first, &mut self.sent, text),
             "c1" => clones::row(out, self.alloc, &mut self.second, &mut self.sent, text),
             _ => self.shared_row(out, verb, text),

@@ -5,6 +5,7 @@
 #![tactic(auto)]
 
 mod clones;
+mod exchanges;
 mod ground;
 mod shared;
 mod site;

@@ -10,4 +10,4 @@ mod telling;
 pub use answering::answer;
 pub use serve_fault::ServeFault;
 pub use serving::serve_message;
-pub use telling::Served;
+pub use telling::{Served, tell};

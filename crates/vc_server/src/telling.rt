@@ -97,8 +97,9 @@ pub(crate) fn refuse<W: Write>(
     Ok(Served::Refused(number))
 }
 
-/// A reply is told by its bytes.
-pub(crate) fn tell<W: Write>(
+/// Tells what a node answered: a reply by its bytes, a refusal by the line of an Error, and a fault not at all. What was written is
+/// flushed; a writer that fails is 116.
+pub fn tell<W: Write>(
     alloc: Global,
     writer: &mut W,
     answered: &Result<Vec<u8>, SharedFault>,

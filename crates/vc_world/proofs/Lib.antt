@@ -1,0 +1,10 @@
+pub mod Sent
+pub mod Rounds
+pub mod Pushes
+pub mod Legs
+pub mod RoundCalls
+pub mod Tracked
+pub mod FetchRounds
+pub mod Serves
+pub mod PushCalls
+pub mod ReportLemmas

@@ -1,0 +1,12 @@
+use Rattle.std.proofs.Common.{◌^◌, Some, None}
+use Rattle.vc_world.specs.Exchanging.{HoldsClone, Leads}
+use Rattle.vc_world.proofs.FetchRounds.{GoesOn}
+use Rattle.vc_world.proofs.fetching.exchange_fetch.Given as goal
+
+abbrev pub invariant-rounds : goal.invariant-rounds
+invariant-rounds g l = record {
+  so_far : g.P.Peer.honest → g.F.Files.honest → Leads g.P.Peer.holds (HoldsClone g.F.Files.content) l.initial.shared l.shared l.initial.clone l.clone (GoesOn g.P.Peer.holds g.P.Peer.told (HoldsClone g.F.Files.content) l.before);
+}
+
+abbrev pub decreases-rounds : goal.decreases-rounds
+decreases-rounds g l = elim (l.before) [ None ↦ 2 ^ 64 | Some before ↦ before ]

@@ -1,0 +1,5 @@
+pub mod Chains
+pub mod Exchanging
+pub mod Fetching
+pub mod Laws
+pub mod Pushing

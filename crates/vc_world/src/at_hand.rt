@@ -1,0 +1,21 @@
+// A shared node at hand.
+ghost use Rattle.vc_shared.specs.Faults.{fault_answer};
+ghost use Rattle.vc_shared.specs.Holding.{HoldsShared};
+
+use crate::Peer;
+use vc_files::Files;
+use vc_shared::{Shared, SharedFault};
+
+impl<F: Files> Peer for Shared<F> {
+    type Refusal = SharedFault;
+
+    ghost honest = { F.honest };
+
+    ghost holds = { λ shared n. HoldsShared (F.content shared.files) shared.slots shared.is_up n };
+
+    ghost told = { fault_answer };
+
+    fn ask(&mut self, bytes: &[u8]) -> Result<Vec<u8>, SharedFault> {
+        vc_server::answer(self, bytes)
+    }
+}

@@ -1,0 +1,25 @@
+// Whom a clone asks.
+ghost use Rattle.vc_message.specs.Machine.{Reads};
+ghost use Rattle.vc_model.specs.Message.{Message};
+ghost use Rattle.vc_model.specs.Node.{Answer};
+ghost use Rattle.vc_model.specs.Shared.{SharedNode};
+ghost use Rattle.vc_world.specs.Exchanging.{AnswersPeer};
+
+/// The shared node as a clone meets it: it is sent a message, and answers with one.
+pub trait Peer {
+    /// Why there is no message.
+    type Refusal: Drop;
+
+    /// Whether it is a shared node. What stands at the other end of a connection may be none.
+    ghost honest: { Type 0 };
+
+    /// The nodes of the machine that it may be.
+    ghost holds: { Self → SharedNode → Type 0 };
+
+    /// What the machine's node answered where it refused.
+    ghost told: { Self.Refusal → Answer };
+
+    /// Sends the message that is all of the bytes, and gives the one that comes back.
+    fn ask(&mut self, bytes: &[u8]) -> Result<Vec<u8>, Self::Refusal>
+        ensures answers { honest → (m : Message) → Reads bytes.now m → AnswersPeer holds told m result self.old self.new };
+}

@@ -1,0 +1,85 @@
+// A whole push.
+ghost use Rattle.std.specs.Prelude.{◌≡◌, ◌≢◌, ◌⊎◌, [], IfErr, IfOk};
+ghost use Rattle.vc_exchange.specs.Sending.{machine_items};
+ghost use Rattle.vc_message.specs.Machine.{IsReport, Reads};
+ghost use Rattle.vc_model.specs.Clone.{IsItemId};
+ghost use Rattle.vc_model.specs.Message.{Message as Sent};
+ghost use Rattle.vc_model.specs.Object.{zero_id};
+ghost use Rattle.vc_push.specs.ReportView.{report_text};
+ghost use Rattle.vc_world.specs.Exchanging.{HoldsClone, IsNoReport, IsPush, Leads, PushesOne};
+ghost use Rattle.vc_world.specs.Pushing.{IsUnreadReport, report_in, taken};
+
+use crate::{ExchangeEnd, Peer};
+use std::alloc::Global;
+use vc_exchange::PushItem;
+use vc_files::Files;
+use vc_message::Message;
+use vc_node::{CloneFault, CloneNode, Received};
+use vc_pkt::PktError;
+use vc_push::Report;
+
+// The report that a message is.
+fn report_in<R: Drop>(message: Message) -> Result<Report, ExchangeEnd<R>>
+    ensures { result ≡ report_in message }
+{
+    match message {
+        Message::Report(report) => Ok(report),
+        Message::List(_)
+        | Message::Advert(_)
+        | Message::Want(_)
+        | Message::Pack(_)
+        | Message::Push(_)
+        | Message::Error(_) => Err(ExchangeEnd::Stray),
+    }
+}
+
+// The report that is all of the bytes, which the clone has taken.
+fn read_report<R: Drop>(alloc: Global, bytes: &[u8]) -> Result<Report, ExchangeEnd<R>>
+    ensures report { (m : Sent) → Reads bytes.now m → IfOk result (λ report. IsReport m (report_text report)) }
+    ensures unread { (m : Sent) → Reads bytes.now m → IfErr result (IsUnreadReport m) }
+{
+    let message = match Message::read(alloc, bytes) {
+        Ok(message) => message,
+        Err(PktError::Memory) => return Err(ExchangeEnd::Memory),
+        Err(PktError::Refused(_)) => return Err(ExchangeEnd::Stray),
+    };
+    report_in(message)
+}
+
+// Whether the clone took a report.
+fn take<R: Drop>(received: Result<Received, CloneFault>) -> Result<(), ExchangeEnd<R>>
+    ensures { result ≡ taken received }
+{
+    match received {
+        Ok(Received::Reported { .. }) => Ok(()),
+        Ok(Received::Send(_)) => Err(ExchangeEnd::Stray),
+        Ok(Received::Moved { .. }) => Err(ExchangeEnd::Stray),
+        Err(fault) => Err(ExchangeEnd::Clone(fault)),
+    }
+}
+
+/// A push of the items, of which there is at least one: the clone sends it, and takes the report. It is the report that is answered.
+pub fn exchange_push<P: Peer, F: Files>(
+    alloc: Global,
+    shared: &mut P,
+    clone: &mut CloneNode<F>,
+    items: &[PushItem],
+) -> Result<Report, ExchangeEnd<P::Refusal>>
+    requires some { items.now ≢ [] }
+    ensures pushed { P.honest → F.honest → (¬ IsItemId (machine_items items.now) zero_id) → Leads P.holds (HoldsClone F.content) shared.old shared.new clone.old clone.new (IsPush P.told items.now result) }
+    ensures done { P.honest → F.honest → (¬ IsItemId (machine_items items.now) zero_id) → Leads P.holds (HoldsClone F.content) shared.old shared.new clone.old clone.new (PushesOne P.told items.now result) }
+{
+    let push = match clone.start_push(items) {
+        Ok(push) => push,
+        Err(fault) => return Err(ExchangeEnd::Clone(fault)),
+    };
+    let answer = match shared.ask(&push) {
+        Ok(answer) => answer,
+        Err(refusal) => return Err(ExchangeEnd::Shared(refusal)),
+    };
+    let received = clone.receive(&answer);
+    if let Err(end) = take(received) {
+        return Err(end);
+    }
+    read_report(alloc, &answer)
+}
