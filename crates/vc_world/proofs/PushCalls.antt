@@ -163,7 +163,7 @@ module _ {P R F : Type 0} (holds : P → SharedNode → Type 0) (told : R → An
   pub tells_report : (m : Message) (received : Result Received CloneFault) (result : Result PushReport (ExchangeEnd R)) → taken {R = R} received ≡ Ok tt
       → IfOk result (λ report. IsReport m (report_text report)) → IfErr result (IsUnreadReport m) → Tells m received result
   tells_report m received (Ok report) e is none a sends shown = let r = reports received e a sends shown in (r.0, r.1, r.2, (m, refl, is))
-  tells_report m received (Err Memory) e is none a sends shown = tt
+  tells_report m received (Err Memory) e is none a sends shown = reports received e a sends shown
   tells_report m received (Err Stray) e is none a sends shown = let r = reports received e a sends shown in inr (r.0, r.1, r.2, (m, refl, none))
   tells_report m received (Err (Clone fault)) e is none a sends shown = absurd none
   tells_report m received (Err (Shared refusal)) e is none a sends shown = absurd none

@@ -75,13 +75,13 @@ abbrev pub FetchedAs : {R : Type 0} → (R → Answer) → Result Fetched (Excha
 FetchedAs told (Ok fetched) a = (n : ℕ) × (a ≡ Did (Moved n fetched.left))
 FetchedAs told (Err e) a = RoundAs told (Err e) a
 
--- of a push, and the report that came
+-- of a push, and the report that came; memory is short only where the clone has taken it
 abbrev pub PushedAs : {R : Type 0} → (R → Answer) → Result PushReport (ExchangeEnd R) → Answer → Option Message → Type 0
 PushedAs told (Ok report) a came = (moved : ℕ) × (refused : List ℕ) × (a ≡ Did (Reported moved refused)) × ((m : Message) × (came ≡ Some m) × IsReport m (report_text report))
 PushedAs told (Err (of.Clone fault)) a came = a ≡ fault_answer fault
 PushedAs told (Err (of.Shared refusal)) a came = (a ≡ told refusal) × IsUndone (told refusal)
 PushedAs told (Err of.Stray) a came = ReportsNone a ⊎ ((moved : ℕ) × (refused : List ℕ) × (a ≡ Did (Reported moved refused)) × ((m : Message) × (came ≡ Some m) × IsNoReport m))
-PushedAs told (Err of.Memory) a came = Unit {0}
+PushedAs told (Err of.Memory) a came = (moved : ℕ) × (refused : List ℕ) × (a ≡ Did (Reported moved refused))
 
 -- want of memory or a device that failed
 abbrev pub IsFault : Answer → Type 0
