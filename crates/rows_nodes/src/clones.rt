@@ -3,7 +3,7 @@ ghost use Rattle.std.specs.List.{starts_with};
 ghost use Rattle.std.specs.Prelude.{◌≡◌, ◌≢◌, [], IfOk, IfSome, true, nat_eq, codes};
 
 use crate::site::{Device, Site};
-use crate::words::{push_bytes, push_done, push_found, taken};
+use crate::words::{push_bytes, push_done, push_found, push_restarted, taken};
 use bstr::ByteVec;
 use std::alloc::{AllocError, Global};
 use std::fmt::Write;
@@ -172,6 +172,7 @@ fn call(
             push_received(out, sent, node.receive(&bytes))
         }
         "resolve" => resolve(out, alloc, node, text),
+        "restart" => push_restarted(out, &node.restart(), node.is_up()),
         _ => out.push_str("no such verb"),
     }
 }

@@ -65,6 +65,7 @@ impl Ground {
                 shared::serve(out, self.alloc, &mut self.shared, &bytes)
             }
             "step" => shared::step(out, &mut self.shared, &mut self.sent, text),
+            "restart" => shared::restart(out, &mut self.shared),
             "resolve" => shared::resolve(out, self.alloc, &mut self.shared, text),
             "file" => self.shared.file(out, text),
             "count" => self.shared.count(out, text),

@@ -1,7 +1,7 @@
 //! Rows about the shared node.
 
 use crate::site::{Device, Site};
-use crate::words::{push_bytes, push_found};
+use crate::words::{push_bytes, push_found, push_restarted};
 use std::alloc::{AllocError, Global};
 use std::fmt::Write;
 use vc_push::Reason;
@@ -84,6 +84,14 @@ pub fn step(
         Some(node) => push_stepped(out, sent, node.step(slot)),
         None => out.push_str("closed"),
     }
+}
+
+/// Opens the node again in place, and tells whether it is up then.
+pub fn restart(out: &mut String, site: &mut SharedSite) -> Result<(), AllocError> {
+    let Some(node) = &mut site.node else {
+        return out.push_str("closed");
+    };
+    push_restarted(out, &node.restart(), node.is_up())
 }
 
 /// What an expression names at the node.

@@ -43,6 +43,16 @@ pub fn push_done<E: Display>(out: &mut String, done: &Result<(), E>) -> Result<(
     }
 }
 
+/// Tells what came of a restart, and whether the node is up then.
+pub fn push_restarted<E: Display>(
+    out: &mut String,
+    restarted: &Result<(), E>,
+    is_up: bool,
+) -> Result<(), AllocError> {
+    push_done(out, restarted)?;
+    out.push_str(if is_up { " up" } else { " down" })
+}
+
 /// The message of this number of those that were sent, from 0, or else the last one; where there is none, no bytes.
 pub fn taken(alloc: Global, sent: &[Vec<u8>], text: &str) -> Result<Vec<u8>, AllocError> {
     let found = match text.parse::<usize>() {

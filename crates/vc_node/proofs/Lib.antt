@@ -20,6 +20,7 @@ pub mod ReadLemmas
 pub mod ReceivingClone
 pub mod ReceivingFaults
 pub mod RefusalLemmas
+pub mod RestartLemmas
 pub mod ShownLemmas
 pub mod StartLemmas
 pub mod StoringLemmas

@@ -12,7 +12,7 @@ use Rattle.vc_model.specs.ExactWorld.{MayClone}
 use Rattle.vc_model.specs.Message.{Message}
 use Rattle.vc_model.specs.Node.{Answer}
 use Rattle.vc_model.specs.Node.Answer.{Did}
-use Rattle.vc_model.specs.Node.Reply.{Found, Sends, Moved as MovedRefs, Reported as ReportedRefs}
+use Rattle.vc_model.specs.Node.Reply.{Found, Sends, Stored, Moved as MovedRefs, Reported as ReportedRefs}
 use Rattle.vc_model.specs.Repository.{IsSound}
 use Rattle.vc_object.specs.declared.id.ObjectId.{ObjectId}
 use Rattle.vc_pkt.specs.Message.{IsSpelledBy}
@@ -20,8 +20,9 @@ use Rattle.vc_rules.proofs.GitLaws.{git_rules}
 use Rattle.vc_rules.specs.Git.{git}
 use Rattle.vc_node.specs.Awaited.{AwaitedText, IsAwaited}
 use Rattle.vc_node.specs.CloneFaults.{fault_answer, up_after}
-use Rattle.vc_node.specs.Machine.{HoldsNode}
+use Rattle.vc_node.specs.Machine.{HoldsNode, fault_answer as node_answer}
 use Rattle.vc_node.specs.declared.clone_fault.CloneFault.{CloneFault}
+use Rattle.vc_node.specs.declared.fault.NodeFault.{NodeFault}
 use Rattle.vc_node.specs.declared.exchanging.Received.{Received}
 use Rattle.vc_node.specs.declared.exchanging.Received.TheVariants.{Send, Moved, Reported}
 
@@ -53,6 +54,11 @@ ReceivedAs (Err e) a sends = Quietly (fault_answer e) a sends
 abbrev pub FoundAs : Result ObjectId CloneFault → Answer → Option Message → Type 0
 FoundAs (Ok id) a sends = Quietly (Did (Found (bytes_of_id id))) a sends
 FoundAs (Err e) a sends = Quietly (fault_answer e) a sends
+
+-- to its restart
+abbrev pub RestartedAs : Result (Unit {0}) NodeFault → Answer → Option Message → Type 0
+RestartedAs (Ok u) a sends = Quietly (Did Stored) a sends
+RestartedAs (Err e) a sends = Quietly (node_answer e) a sends
 
 -- Whatever node was held, some node is held after the call; and where the node was sound, the answer and that node are the machine's.
 pub record AnswersClone (call : CloneCall) (shows : Answer → Option Message → Type 0) (old new : FileMap) (waits after : AwaitedText) (was_up is_up : Bool) : Type 0 where

@@ -1,5 +1,5 @@
 // A clone.
-ghost use Rattle.std.specs.Prelude.{◌≡◌, ◌≢◌, ◌⊎◌, ℕ, List, [], Ok, Err, OnOk, OnErr, IfOk, IfErr, IsErrOf, true, false, not, nat_eq, map, codes};
+ghost use Rattle.std.specs.Prelude.{◌≡◌, ◌≢◌, ◌⊎◌, ℕ, List, [], Ok, Err, OnOk, OnErr, IfOk, IfErr, IsErrOf, is_ok, true, false, not, nat_eq, map, codes};
 ghost use Rattle.std.specs.List.{starts_with};
 ghost use Rattle.vc_format.specs.Git.{bytes_of_id};
 ghost use Rattle.vc_model.specs.Clone.Task.{Write, Stage, Unstage, LoadTree, MakeCommit, SetBranch, DeleteBranch, MoveHead};
@@ -12,7 +12,7 @@ ghost use Rattle.vc_files.specs.declared.faults.Fault.TheVariants.{Memory};
 ghost use Rattle.vc_message.specs.Machine.{IsUnread, Reads};
 ghost use Rattle.vc_model.specs.Clone.{IsItemId};
 ghost use Rattle.vc_model.specs.Clone.Task.{StartFetch, StartPush};
-ghost use Rattle.vc_model.specs.CloneCall.CloneCall.{Asks, Command, Receive};
+ghost use Rattle.vc_model.specs.CloneCall.CloneCall.{Asks, Command, Open, Receive};
 ghost use Rattle.vc_model.specs.Message.{Message};
 ghost use Rattle.vc_model.specs.Object.{zero_id};
 ghost use Rattle.vc_model.specs.Question.Question.{Resolve, Unread};
@@ -20,7 +20,7 @@ ghost use Rattle.vc_repository.specs.Resolving.{DenotesIn};
 ghost use Rattle.vc_rev.specs.Grammar.{IsExpr};
 ghost use Rattle.vc_rev.specs.Views.{expr_view};
 ghost use Rattle.vc_node.specs.Awaited.{nothing};
-ghost use Rattle.vc_node.specs.CloneCalls.{AnswersClone, FoundAs, MayOr, ReceivedAs, SentAs};
+ghost use Rattle.vc_node.specs.CloneCalls.{AnswersClone, FoundAs, MayOr, ReceivedAs, RestartedAs, SentAs};
 ghost use Rattle.vc_node.specs.CloneFaults.{TellsDevice as CloneTellsDevice, is_fault as is_clone_fault, of_device, up_after as clone_up_after};
 ghost use Rattle.vc_node.specs.Receipts.{IsOfMessage, IsRefusedBytes, IsRefusedStart, IsRefusedValue};
 ghost use Rattle.vc_node.specs.Blames.{BlamesLoad, BlamesOpen, IsLocalHead};
@@ -105,6 +105,30 @@ impl<F: Files> CloneNode<F> {
             is_up: _,
         } = self;
         files
+    }
+
+    /// Whether no fault has come since the files were opened.
+    pub fn is_up(&self) -> bool
+        ensures { result ≡ self.now.is_up }
+    {
+        self.is_up
+    }
+
+    /// Opens the files again, in place: the node is up then, whatever it was before, and nothing is awaited. Where that fails (see
+    /// [`open`](CloneNode::open)) it is down, and the files are as they were.
+    pub fn restart(&mut self) -> Result<(), NodeFault>
+        ensures answers { F.honest → AnswersClone Open (RestartedAs result) (F.content self.old.files) (F.content self.new.files) self.old.awaited self.new.awaited self.old.is_up self.new.is_up }
+        ensures refused { F.honest → IfErr result (BlamesOpen (F.content self.old.files)) }
+        ensures err { F.honest → OnErr result (F.content self.new.files ≡ F.content self.old.files) }
+        ensures up { self.new.is_up ≡ is_ok result }
+        ensures awaits { self.new.awaited ≡ nothing }
+        ensures clean { F.honest → KeepsClean (F.content self.old.files) (F.content self.new.files) }
+        ensures wear { Writes F.honest F.content F.failed F.can_fail F.left self.old.files self.new.files (TellsDevice result) }
+    {
+        let made = make_ready(self.alloc, &mut self.files);
+        self.awaited = Awaited::Nothing;
+        self.is_up = made.is_ok();
+        made
     }
 
     // The fault, after which the node is down if it is no refusal.

@@ -14,8 +14,8 @@ use vc_rev::Refusal;
 use vc_shared::SharedFault;
 use vc_store::StoreFault;
 
-// The number of bytes that are no message: 80 to 84, or 3.
-fn unread_number(fault: &PktFault) -> u16
+/// The number of bytes that are no message: 80 to 84, or 3.
+pub fn unread_number(fault: &PktFault) -> u16
     ensures { result ≡ pkt_number fault.now }
 {
     match fault {
@@ -28,8 +28,8 @@ fn unread_number(fault: &PktFault) -> u16
     }
 }
 
-// The number of an expression that has no value: 51 to 56.
-fn value_number(refusal: &Refusal) -> u16
+/// The number of an expression that has no value: 51 to 56.
+pub fn value_number(refusal: &Refusal) -> u16
     ensures { result ≡ refusal_number refusal.now }
 {
     match refusal {
@@ -67,8 +67,8 @@ fn ref_ending(fault: &RefFault) -> Result<u16, Fault>
     }
 }
 
-// What any node tells.
-fn node_ending(fault: &NodeFault) -> Result<u16, Fault>
+/// The number of what any node refuses, or the fault that it tells.
+pub fn node_ending(fault: &NodeFault) -> Result<u16, Fault>
     ensures { node_answer fault.now ≡ ended_by result }
 {
     match fault {
@@ -84,8 +84,8 @@ fn node_ending(fault: &NodeFault) -> Result<u16, Fault>
     }
 }
 
-/// The number of the refusal, or the fault that it is.
-pub(crate) fn ending(fault: &SharedFault) -> Result<u16, Fault>
+/// The number of what the shared node refuses, or the fault that it tells.
+pub fn shared_ending(fault: &SharedFault) -> Result<u16, Fault>
     ensures { fault_answer fault.now ≡ ended_by result }
 {
     match fault {

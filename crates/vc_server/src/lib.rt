@@ -8,6 +8,7 @@ mod serving;
 mod telling;
 
 pub use answering::answer;
+pub use ending::{node_ending, shared_ending, unread_number, value_number};
 pub use serve_fault::ServeFault;
 pub use serving::serve_message;
 pub use telling::{Served, tell};

@@ -3,7 +3,7 @@ ghost use Rattle.std.specs.Prelude.{◌≡◌, ◌≤◌, IfErr, IfOk, OnErr, On
 ghost use Rattle.std.specs.Io.KnownBytes.{Appends};
 ghost use Rattle.vc_server.specs.Telling.{TellsAnswer, TellsRefusal, error_bytes, refusal_words};
 
-use crate::ending::ending;
+use crate::ending::shared_ending;
 use crate::serve_fault::ServeFault;
 use std::alloc::{AllocError, Global};
 use std::io::Write;
@@ -88,7 +88,7 @@ pub(crate) fn refuse<W: Write>(
 ) -> Result<Served, ServeFault>
     ensures { TellsRefusal W.contents writer.old writer.new fault.now result }
 {
-    let number = match ending(fault) {
+    let number = match shared_ending(fault) {
         Ok(number) => number,
         Err(fault) => return Err(ServeFault::Fault(fault)),
     };

@@ -7,6 +7,7 @@ pub mod OpeningLemmas
 pub mod PushingLemmas
 pub mod PushingTexts
 pub mod ResolvingLemmas
+pub mod RestartLemmas
 pub mod ServingFaults
 pub mod ServingLaws
 pub mod ServingPacks

@@ -6,10 +6,12 @@ use Rattle.vc_message.specs.Machine.{IsWritten}
 use Rattle.vc_model.specs.Message.{Message}
 use Rattle.vc_model.specs.Node.{Answer}
 use Rattle.vc_model.specs.Node.Answer.{Did}
-use Rattle.vc_model.specs.Node.Reply.{MigratedAll, Opened, Passed, Sends, Updated as UpdatedOne}
+use Rattle.vc_model.specs.Node.Reply.{MigratedAll, Opened, Passed, Sends, Stored, Updated as UpdatedOne}
 use Rattle.vc_model.specs.Repository.{IsBare, IsSound}
 use Rattle.vc_model.specs.Shared.{SharedNode}
 use Rattle.vc_model.specs.SharedCall.{SharedAnswers, SharedCall}
+use Rattle.vc_node.specs.Machine.{fault_answer as node_answer}
+use Rattle.vc_node.specs.declared.fault.NodeFault.{NodeFault}
 use Rattle.vc_rules.proofs.GitLaws.{git_rules}
 use Rattle.vc_rules.specs.Git.{git}
 use Rattle.vc_rules.specs.Verdicts.{machine_reason}
@@ -47,6 +49,11 @@ abbrev pub AcceptedAs : Result Accepted SharedFault → Answer → Option Messag
 AcceptedAs (Ok (Reply bytes)) a sends = SendsBytes bytes.items a sends
 AcceptedAs (Ok (Slot k)) a sends = (k < 8) × Quietly (Did (Opened k)) a sends
 AcceptedAs (Err e) a sends = Quietly (fault_answer e) a sends
+
+-- to its restart
+abbrev pub RestartedAs : Result (Unit {0}) NodeFault → Answer → Option Message → Type 0
+RestartedAs (Ok u) a sends = Quietly (Did Stored) a sends
+RestartedAs (Err e) a sends = Quietly (node_answer e) a sends
 
 -- Whatever node was held, some node is held after the call; and where the node was sound and bare, the answer and that node are the
 -- machine's.

@@ -1,21 +1,21 @@
 // The shared node.
-ghost use Rattle.std.specs.Prelude.{◌≡◌, ◌⊎◌, ℕ, IfErr, IfOk, OnErr, Ok, None, Some, List, not, false, true};
+ghost use Rattle.std.specs.Prelude.{◌≡◌, ◌⊎◌, ℕ, IfErr, IfOk, OnErr, Ok, None, Some, List, is_ok, not, false, true};
 ghost use Rattle.std.specs.FinMap.{empty};
 ghost use Rattle.vc_files.specs.Failures.{Wears, Writes};
 ghost use Rattle.vc_message.specs.Machine.{IsUnread, Reads};
 ghost use Rattle.vc_model.specs.Message.{Message};
 ghost use Rattle.vc_model.specs.Question.Question.{Resolve, Unread};
 ghost use Rattle.vc_model.specs.Repository.{Repository};
-ghost use Rattle.vc_model.specs.SharedCall.SharedCall.{Accept, Asks, StepOf};
+ghost use Rattle.vc_model.specs.SharedCall.SharedCall.{Accept, Asks, Open, StepOf};
 ghost use Rattle.vc_node.specs.Blames.{BlamesOpen};
 ghost use Rattle.vc_node.specs.Clean.{KeepsClean};
-ghost use Rattle.vc_node.specs.NodeFault.{IsOfDevice as IsNodeDevice};
+ghost use Rattle.vc_node.specs.NodeFault.{IsOfDevice as IsNodeDevice, TellsDevice as TellsNodeDevice};
 ghost use Rattle.vc_node.specs.Opening.{IsOpenable};
 ghost use Rattle.vc_repository.specs.Resolving.{DenotesIn};
 ghost use Rattle.vc_rev.specs.Grammar.{IsExpr};
 ghost use Rattle.vc_rev.specs.Views.{expr_view};
 ghost use Rattle.vc_shared.specs.Accepting.{IsRefusedBytes, IsToWrite};
-ghost use Rattle.vc_shared.specs.Calls.{AcceptedAs, AnswersShared, SteppedAs};
+ghost use Rattle.vc_shared.specs.Calls.{AcceptedAs, AnswersShared, RestartedAs, SteppedAs};
 ghost use Rattle.vc_shared.specs.Faults.{TellsDevice, fault_answer, is_fault, up_after};
 ghost use Rattle.vc_shared.specs.Holding.{HoldsShared};
 ghost use Rattle.vc_shared.specs.Resolving.{FoundAs, IsRefusedValue};
@@ -88,6 +88,28 @@ impl<F: Files> Shared<F> {
             is_up: _,
         } = self;
         files
+    }
+
+    /// Whether no fault has come since the files were opened.
+    pub fn is_up(&self) -> bool
+        ensures { result ≡ self.now.is_up }
+    {
+        self.is_up
+    }
+
+    /// Opens the files again, in place: the node is up then, whatever it was before, and no push is open. Where that fails (see
+    /// [`open`](Shared::open)) it is down, and can be restarted as before.
+    pub fn restart(&mut self) -> Result<(), NodeFault>
+        ensures answers { F.honest → AnswersShared Open (RestartedAs result) (F.content self.old.files) (F.content self.new.files) self.old.slots self.new.slots self.old.is_up self.new.is_up }
+        ensures refused { F.honest → IfErr result (BlamesOpen (F.content self.old.files)) }
+        ensures up { self.new.is_up ≡ is_ok result }
+        ensures clean { F.honest → KeepsClean (F.content self.old.files) (F.content self.new.files) }
+        ensures wear { Writes F.honest F.content F.failed F.can_fail F.left self.old.files self.new.files (TellsNodeDevice result) }
+    {
+        let opened = open_files(self.alloc, &mut self.files);
+        self.slots = [None, None, None, None, None, None, None, None];
+        self.is_up = opened.is_ok();
+        opened
     }
 
     // The fault, after which the node is down if it is no refusal.

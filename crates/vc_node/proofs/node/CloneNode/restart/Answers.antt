@@ -1,0 +1,6 @@
+use Rattle.std.proofs.Common.{refl, rules}
+use Rattle.vc_node.proofs.RestartLemmas.{restart_answers}
+use Rattle.vc_node.proofs.node.CloneNode.restart.Goals as goal
+
+pub returns-clause-answers : goal.returns-clause-answers
+returns-clause-answers g c = λ honest. rw (← c.self.view_is) (restart_answers _ _ _ _ _ _ c.make_ready-made.result (c.make_ready-made.ensures.ready honest) (c.make_ready-made.ensures.clean honest) (c.make_ready-made.ensures.err honest) (c.make_ready-made.ensures.refused honest) refl (search rules))
