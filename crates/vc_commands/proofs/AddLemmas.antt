@@ -10,7 +10,7 @@ use Rattle.vc_node.specs.Machine.{Answers}
 use Rattle.vc_commands.specs.Adding.{IsOfPath, RefusesFile}
 use Rattle.vc_commands.specs.declared.arguments.FileMode.{FileMode}
 use Rattle.vc_commands.specs.declared.failure.Failure.{Failure}
-use Rattle.vc_commands.specs.declared.failure.Failure.TheVariants.{Syntax, Revision, Node, LocalChange, InTheWay, NotText, NoSuchPath, Object, Store, Base, Name, Refs, Usage, Fault}
+use Rattle.vc_commands.specs.declared.failure.Failure.TheVariants.{Syntax, Revision, Node, LocalChange, InTheWay, NotText, NoSuchPath, Object, Store, Base, Name, Refs, Remote, Usage, Fault}
 
 -- the same step, by what its path, its mode and its bytes are
 pub step_of : (p q : List ℕ) (m n : Mode) (b d : List ℕ) (answer : Answer) (was_up is_up : Bool) (old new : FileMap) → p ≡ q → m ≡ n → b ≡ d
@@ -32,6 +32,7 @@ refused_path file own mode path was_up is_up old new (InTheWay x) same bad = abs
 refused_path file own mode path was_up is_up old new (NotText x) same bad = absurd bad
 refused_path file own mode path was_up is_up old new NoSuchPath same bad = absurd bad
 refused_path file own mode path was_up is_up old new (Object x) same bad = absurd bad
+refused_path file own mode path was_up is_up old new (Remote x) same bad = absurd bad
 refused_path file own mode path was_up is_up old new (Store x) same bad = absurd bad
 refused_path file own mode path was_up is_up old new (Base x) same bad = absurd bad
 refused_path file own mode path was_up is_up old new (Name x) same bad = absurd bad

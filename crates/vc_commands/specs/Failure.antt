@@ -13,8 +13,10 @@ use Rattle.vc_checkout.specs.declared.faults.CheckoutFault.{CheckoutFault}
 use Rattle.vc_checkout.specs.declared.faults.CheckoutFault.TheVariants as checkouts
 use Rattle.vc_node.specs.NodeFault.{is_fault, of_index}
 use Rattle.vc_node.specs.declared.fault.NodeFault.{NodeFault}
+use Rattle.vc_remote.specs.Faults.{is_fault as is_remote_fault}
+use Rattle.vc_remote.specs.declared.fault.RemoteFault.{RemoteFault}
 use Rattle.vc_commands.specs.declared.failure.Failure.{Failure}
-use Rattle.vc_commands.specs.declared.failure.Failure.TheVariants.{Store, Base, Refs, Usage, Fault, Syntax, Revision, Node, LocalChange, InTheWay, NotText}
+use Rattle.vc_commands.specs.declared.failure.Failure.TheVariants.{Store, Base, Refs, Usage, Fault, Syntax, Revision, Node, Remote, LocalChange, InTheWay, NotText}
 
 -- want of memory, or a device that failed
 abbrev pub IsFault : Failure → Type 0
@@ -37,6 +39,9 @@ revision_status _ = 1
 abbrev pub node_status : NodeFault → ℕ
 node_status fault = if is_fault fault then 3 else 1
 
+abbrev pub remote_status : RemoteFault → ℕ
+remote_status fault = if is_remote_fault fault then 3 else 1
+
 -- 2 where the command line is off, 3 at a fault, and 1 where the command was refused
 abbrev pub status_of : Failure → ℕ
 status_of (Usage text) = 2
@@ -44,6 +49,7 @@ status_of (Fault fault) = 3
 status_of (Syntax Memory) = 3
 status_of (Revision fault) = revision_status fault
 status_of (Node fault) = node_status fault
+status_of (Remote fault) = remote_status fault
 status_of (Store (StoreFaulted fault)) = 3
 status_of (Base (BaseStore (StoreFaulted fault))) = 3
 status_of (Refs (RefFaulted fault)) = 3

@@ -3,18 +3,19 @@ use Rattle.std.specs.Prelude.{Bool, true, false}
 use Rattle.vc_commands.specs.declared.arguments.LocalTask.{LocalTask}
 use Rattle.vc_commands.specs.declared.arguments.LocalTask.TheVariants as locals
 use Rattle.vc_commands.specs.declared.arguments.Task.{Task}
-use Rattle.vc_commands.specs.declared.arguments.Task.TheVariants.{Init, HashObject, Local}
+use Rattle.vc_commands.specs.declared.arguments.Task.TheVariants.{Init, HashObject, Local, Remote}
 
 -- of a clone's commands all but `status` write
 abbrev pub is_local_writer : LocalTask → Bool
 is_local_writer (locals.Status work) = false
 is_local_writer _ = true
 
--- `init`, `hash-object --write`, and what writes of a clone's commands
+-- `init`, `hash-object --write`, what writes of a clone's commands, and what speaks to another process
 abbrev pub is_writer : Task → Bool
 is_writer Init = true
 is_writer (HashObject kind write file) = write
 is_writer (Local task) = is_local_writer task
+is_writer (Remote task) = true
 is_writer _ = false
 
 -- every command but `init`, and `hash-object` without `--write`

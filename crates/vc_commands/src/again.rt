@@ -16,6 +16,8 @@ pub struct Lists<'a> {
     /// The terms of a set, with a space between two.
     pub terms: &'a str,
     pub parents: &'a [&'a str],
+    /// What a push asks for.
+    pub items: &'a [&'a str],
 }
 
 /// The line of what a refusal is about: what it names itself, else the word of the command line that was refused, if there is one.
@@ -76,6 +78,8 @@ where
         Task::CatFile { revision, .. } => Ok(Some(revision.as_bytes())),
         Task::RevParse { revision } => Ok(Some(revision.as_bytes())),
         Task::Local(task) => Ok(local_word(task, failure)),
+        // A push may have many items, and which one was refused isn't looked up again.
+        Task::Remote(_) => Ok(None),
         Task::Init => Ok(None),
         Task::ShowRef => Ok(None),
     }

@@ -7,6 +7,7 @@ ghost use Rattle.vc_commands.specs.Writers.{is_writer, is_local_writer, needs_st
 use crate::clone::Words;
 use crate::failure::Failure;
 use crate::nearby::DEFAULT_STORE;
+use clap::builder::ValueParser;
 use clap::parser::ValueSource;
 use clap::{Arg, ArgAction, ArgMatches, Command};
 use std::alloc::{AllocError, Global};
@@ -17,6 +18,10 @@ const KINDS: [&str; 4] = ["blob", "tree", "commit", "tag"];
 const MODES: [&str; 3] = ["100644", "100755", "120000"];
 
 const PARTS: [&str; 3] = ["type", "size", "body"];
+
+const MOST_PORT: u64 = 65_535;
+
+const MOST_CONNECTIONS: u64 = 1_000_000;
 
 /// What one run is to do, and on which store.
 #[derive(Clone, Copy)]
@@ -54,6 +59,24 @@ pub enum Task<'a> {
     /// Its terms are told by [`terms_of`].
     RevList,
     Local(LocalTask<'a>),
+    Remote(RemoteTask),
+}
+
+/// A subcommand that speaks to another process, by a port of this machine.
+#[derive(Clone, Copy)]
+pub enum RemoteTask {
+    Serve {
+        port: u16,
+        /// How many connections are served.
+        count: u32,
+    },
+    Fetch {
+        port: u16,
+    },
+    /// Its items are told by [`list_of`].
+    Push {
+        port: u16,
+    },
 }
 
 /// A subcommand of a clone: of its index, branches, HEAD and work tree.
@@ -68,7 +91,7 @@ pub enum LocalTask<'a> {
         path: &'a str,
     },
     WriteTree,
-    /// Its extra parents are told by [`parents_of`].
+    /// Its extra parents are told by [`list_of`].
     Commit(Words<'a>),
     Branch {
         name: &'a str,
@@ -100,6 +123,7 @@ impl Task<'_> {
             Task::RevParse { .. } => false,
             Task::RevList => false,
             Task::Local(task) => task.is_writer(),
+            Task::Remote(_) => true,
         }
     }
 
@@ -116,6 +140,7 @@ impl Task<'_> {
             Task::RevParse { .. } => true,
             Task::RevList => true,
             Task::Local(_) => true,
+            Task::Remote(_) => true,
         }
     }
 }
@@ -189,7 +214,10 @@ pub fn command<'a>(alloc: Global) -> Result<Command<'a>, AllocError> {
         .subcommand(branch(alloc)?)?
         .subcommand(branch_delete(alloc)?)?
         .subcommand(checkout(alloc)?)?
-        .subcommand(status(alloc)?)
+        .subcommand(status(alloc)?)?
+        .subcommand(serve(alloc)?)?
+        .subcommand(fetch(alloc)?)?
+        .subcommand(push(alloc)?)
 }
 
 fn store<'a>(alloc: Global) -> Arg<'a> {
@@ -428,16 +456,76 @@ fn status<'a>(alloc: Global) -> Result<Command<'a>, AllocError> {
         .arg(work(alloc))
 }
 
-/// The extra parents of a commit among the matches.
-pub fn parents_of<'a>(alloc: Global, matches: &ArgMatches<'a>) -> Result<Vec<&'a str>, AllocError> {
-    let mut parents = Vec::new(alloc);
+fn port<'a>(alloc: Global) -> Arg<'a> {
+    Arg::new(alloc, "port")
+        .long("port")
+        .value_name("port")
+        .required(true)
+        .value_parser(ValueParser::Unsigned(1, MOST_PORT))
+        .help("The port of this machine, 1 to 65535")
+}
+
+fn serve<'a>(alloc: Global) -> Result<Command<'a>, AllocError> {
+    Command::new(alloc, "serve")
+        .about("Let clones on this machine fetch from the store and push to it")
+        .after_help(
+            "Prints \"listening\" and the port once it is open, and serves one connection after the other. Commands on\nthe store may run meanwhile: they take turns with each message.\n\nExample: vcs serve --store shared --port 7000 --count 100",
+        )
+        .arg(store(alloc))?
+        .arg(port(alloc))?
+        .arg(
+            Arg::new(alloc, "count")
+                .long("count")
+                .value_name("count")
+                .required(true)
+                .value_parser(ValueParser::Unsigned(1, MOST_CONNECTIONS))
+                .help("How many connections are served before it ends, 1 to 1000000"),
+        )
+}
+
+fn fetch<'a>(alloc: Global) -> Result<Command<'a>, AllocError> {
+    Command::new(alloc, "fetch")
+        .about("Fetch what a served store has, and print how many refs moved")
+        .after_help(
+            "A branch b of the served store is followed by refs/remotes/origin/b here, and no branch of this clone moves.\n\nExample: vcs fetch --port 7000, then vcs rev-list main..refs/remotes/origin/main",
+        )
+        .arg(store(alloc))?
+        .arg(port(alloc))
+}
+
+fn push<'a>(alloc: Global) -> Result<Command<'a>, AllocError> {
+    Command::new(alloc, "push")
+        .about("Ask a served store to change refs, and print for each whether it did")
+        .after_help(
+            "Prints \"ok\" and the ref, or \"ng\", the ref and why not; status 1 if one is \"ng\". A branch is changed only from the value\nthat the last fetch or push saw: after \"ng\" fetch, commit or merge on what came, and push again.\n\nExample: vcs push --port 7000 main, or vcs push --port 7000 main~1:refs/heads/topic :refs/heads/old",
+        )
+        .arg(store(alloc))?
+        .arg(port(alloc))?
+        .arg(
+            Arg::new(alloc, "item")
+                .value_name("item")
+                .required(true)
+                .num_args(1..)
+                .help(
+                    "A branch b; or rev:ref, cut at the last colon, for a ref by its full name; or :ref to delete one",
+                ),
+        )
+}
+
+/// The values of an argument that may have many, as the matches have them.
+pub fn list_of<'a>(
+    alloc: Global,
+    matches: &ArgMatches<'a>,
+    id: &str,
+) -> Result<Vec<&'a str>, AllocError> {
+    let mut values = Vec::new(alloc);
     let Some((_, words)) = matches.subcommand() else {
-        return Ok(parents);
+        return Ok(values);
     };
-    if let Some(revisions) = words.get_strs("parent") {
-        parents.extend_from_slice(revisions)?;
+    if let Some(found) = words.get_strs(id) {
+        values.extend_from_slice(found)?;
     }
-    Ok(parents)
+    Ok(values)
 }
 
 fn mode_named(text: &str) -> Option<FileMode> {
@@ -490,6 +578,16 @@ pub fn request_of<'a>(matches: &ArgMatches<'a>) -> Option<Request<'a>> {
             revision: words.get_str("rev")?,
         },
         "rev-list" => Task::RevList,
+        "serve" => Task::Remote(RemoteTask::Serve {
+            port: words.get_one::<u16>("port")?,
+            count: words.get_one::<u32>("count")?,
+        }),
+        "fetch" => Task::Remote(RemoteTask::Fetch {
+            port: words.get_one::<u16>("port")?,
+        }),
+        "push" => Task::Remote(RemoteTask::Push {
+            port: words.get_one::<u16>("port")?,
+        }),
         _ => Task::Local(local_task_of(name, words)?),
     };
     let is_named = words.value_source("store") == Some(ValueSource::CommandLine);

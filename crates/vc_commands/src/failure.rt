@@ -2,10 +2,10 @@
 ghost use Rattle.std.specs.Prelude.{◌≡◌, ◌++◌, IfOk, IfErr, IfSome, OnOk};
 ghost use Rattle.std.specs.Option.{option_map};
 ghost use Rattle.vc_files.specs.declared.faults.Fault.TheVariants.{Memory};
-ghost use Rattle.vc_commands.specs.declared.failure.Failure.TheVariants.{Object, Store, Base, Refs, Fault, Syntax, Revision, Node};
+ghost use Rattle.vc_commands.specs.declared.failure.Failure.TheVariants.{Object, Store, Base, Refs, Fault, Syntax, Revision, Node, Remote};
 ghost use Rattle.vc_rev.specs.declared.refusal.RevFault.TheVariants.{Source};
 ghost use Rattle.vc_node.specs.NodeFault.{of_index};
-ghost use Rattle.vc_commands.specs.Failure.{revision_status, source_status, store_status, node_status, of_checkout};
+ghost use Rattle.vc_commands.specs.Failure.{revision_status, source_status, store_status, node_status, remote_status, of_checkout};
 
 use crate::faults::Faults;
 use std::alloc::{AllocError, AllocFailed};
@@ -19,6 +19,7 @@ use vc_node::NodeFault;
 use vc_object::ObjectFault;
 use vc_refname::{NameFault, NewNameError};
 use vc_refs::RefFault;
+use vc_remote::RemoteFault;
 use vc_rev::{ParseFault, RevFault, SourceFault};
 use vc_store::StoreFault;
 
@@ -49,6 +50,8 @@ pub enum Failure {
     Name(NameFault),
     /// What the refs refused.
     Refs(RefFault),
+    /// Why an exchange with a served store ended early.
+    Remote(RemoteFault),
     /// The command line asks for what this program doesn't do.
     Usage(String),
     /// Want of memory, or a device that failed.
@@ -74,6 +77,7 @@ impl fmt::Display for Failure {
             Failure::Base(fault) => fmt::Display::fmt(fault, f),
             Failure::Name(fault) => fmt::Display::fmt(fault, f),
             Failure::Refs(fault) => fmt::Display::fmt(fault, f),
+            Failure::Remote(fault) => fmt::Display::fmt(fault, f),
             Failure::Usage(text) => f.write_str(text.as_str()),
             Failure::Fault(fault) => fmt::Display::fmt(fault, f),
         }
@@ -101,6 +105,7 @@ impl Failure {
             Failure::Syntax(_) => 1,
             Failure::Revision(fault) => revision_status(fault),
             Failure::Store(_) | Failure::Base(_) | Failure::Refs(_) => 1,
+            Failure::Remote(fault) => remote_status(fault),
             Failure::Usage(_) => 2,
         }
     }
@@ -162,6 +167,16 @@ fn node_status(fault: &NodeFault) -> u8
     ensures { result ≡ node_status fault.now }
 {
     if fault.is_fault() { 3 } else { 1 }
+}
+
+// The exit status where an exchange ended early.
+fn remote_status(fault: &RemoteFault) -> u8
+    ensures { result ≡ remote_status fault.now }
+{
+    match fault.is_fault() {
+        true => 3,
+        false => 1,
+    }
 }
 
 // The exit status where a store gives no answer.
@@ -292,6 +307,14 @@ impl From<BaseFault> for Failure {
 
     fn from(fault: BaseFault) -> Failure {
         Failure::Base(fault)
+    }
+}
+
+impl From<RemoteFault> for Failure {
+    ghost from_gives = { λ fault e. e ≡ Remote fault };
+
+    fn from(fault: RemoteFault) -> Failure {
+        Failure::Remote(fault)
     }
 }
 

@@ -19,6 +19,8 @@ mod output;
 mod own_folder;
 mod pieces;
 mod program;
+mod push_items;
+mod remote;
 mod repository;
 mod rev_list;
 mod rev_parse;

@@ -4,7 +4,8 @@ ghost use Rattle.vc_commands.specs.Failure.{status_of};
 
 use crate::again::{Lists, line_of_refusal};
 use crate::arguments::{
-    LocalTask, Request, Task, command, option_without_folder, parents_of, request_of, terms_of,
+    LocalTask, RemoteTask, Request, Task, command, list_of, option_without_folder, request_of,
+    terms_of,
 };
 use crate::cat_file::cat_file;
 use crate::clone::{branch, branch_delete, commit, unstage, write_tree};
@@ -15,6 +16,7 @@ use crate::init::init;
 use crate::input::Input;
 use crate::merge_base::merge_base;
 use crate::nearby::refuse_second_store;
+use crate::remote::{fetch, push, serve};
 use crate::rev_list::rev_list;
 use crate::rev_parse::rev_parse;
 use crate::show_ref::show_ref;
@@ -26,6 +28,7 @@ use std::alloc::Global;
 use std::convert::AsStr;
 use std::fs::File;
 use std::io::{Read, Write};
+use std::net::Net;
 use std::rt;
 use vc_files::Fault;
 
@@ -41,7 +44,7 @@ pub fn run<R, S, I, O, E>(
 ) -> u8
 where
     S: AsStr,
-    R: rt::Files<File = File> + AllocGlobal + Clone + Drop,
+    R: rt::Files<File = File> + Net + AllocGlobal + Clone + Drop,
     I: Read + Drop,
     O: Write,
     E: Write,
@@ -61,7 +64,7 @@ fn obey<R, S, I, O, E>(
 ) -> Result<u8, Failure>
 where
     S: AsStr,
-    R: rt::Files<File = File> + AllocGlobal + Clone + Drop,
+    R: rt::Files<File = File> + Net + AllocGlobal + Clone + Drop,
     I: Read + Drop,
     O: Write,
     E: Write,
@@ -72,13 +75,15 @@ where
     };
     refuse_unnamed_folder(rt.alloc(), &matches)?;
     let terms = terms_of(rt.alloc(), &matches)?;
-    let parents = parents_of(rt.alloc(), &matches)?;
+    let parents = list_of(rt.alloc(), &matches, "parent")?;
+    let items = list_of(rt.alloc(), &matches, "item")?;
     let Some(request) = request_of(&matches) else {
         return Ok(2);
     };
     let lists = Lists {
         terms: terms.as_str(),
         parents: &parents,
+        items: &items,
     };
     if !request.is_named && request.task.needs_store() {
         refuse_second_store(rt)?;
@@ -162,7 +167,7 @@ fn perform<R, I, O, E>(
     faults: &mut Faults<E>,
 ) -> Result<bool, Failure>
 where
-    R: rt::Files<File = File> + AllocGlobal + Clone + Drop,
+    R: rt::Files<File = File> + Net + AllocGlobal + Clone + Drop,
     I: Read + Drop,
     O: Write,
     E: Write,
@@ -176,6 +181,9 @@ where
     {
         store_stream(rt, store, kind, input, output, faults)?;
         return Ok(true);
+    }
+    if let Task::Remote(task) = request.task {
+        return exchange(rt, store, task, lists.items, output, faults);
     }
     let _lock = if request.task.is_writer() {
         Some(only_writer(rt, store, faults)?)
@@ -196,8 +204,37 @@ where
             return merge_base(rt, store, first, second, output);
         }
         Task::Local(task) => work_on(rt, store, task, lists.parents, output, faults)?,
+        Task::Remote(_) => {}
     }
     Ok(true)
+}
+
+// Serves a store, or does what is asked of a served one. Each has its store alone only while it works on it, and not while
+// it waits for another process.
+fn exchange<R, O, E>(
+    rt: &R,
+    store: &str,
+    task: RemoteTask,
+    items: &[&str],
+    output: &mut O,
+    faults: &mut Faults<E>,
+) -> Result<bool, Failure>
+where
+    R: rt::Files<File = File> + Net + AllocGlobal + Clone + Drop,
+    O: Write,
+    E: Write,
+{
+    match task {
+        RemoteTask::Serve { port, count } => {
+            serve(rt, store, port, count, output, faults)?;
+            Ok(true)
+        }
+        RemoteTask::Fetch { port } => {
+            fetch(rt, store, port, output, faults)?;
+            Ok(true)
+        }
+        RemoteTask::Push { port } => push(rt, store, port, items, output, faults),
+    }
 }
 
 // Does what is asked of a clone's index, branches, HEAD and work tree.

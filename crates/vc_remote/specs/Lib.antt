@@ -1,0 +1,4 @@
+pub mod Faults
+pub mod Printed
+pub mod Turns
+pub mod Words

@@ -1,0 +1,16 @@
+-- What a turn at a connection means for the connection, and for the server.
+use Rattle.std.specs.Prelude.{Bool, true, false, Result, Ok, Err}
+use Rattle.vc_files.specs.declared.faults.Fault.{Fault}
+use Rattle.vc_files.specs.declared.faults.Fault.TheVariants as fault
+use Rattle.vc_server.specs.declared.serve_fault.ServeFault.{ServeFault}
+use Rattle.vc_server.specs.declared.serve_fault.ServeFault.TheVariants as serve_fault
+use Rattle.vc_server.specs.declared.telling.Served.{Served}
+use Rattle.vc_server.specs.declared.telling.Served.TheVariants.{Answered}
+
+-- whether the connection goes on: behind a reply alone; or the fault that ends the server
+abbrev pub going_on : Result Served ServeFault → Result Bool Fault
+going_on (Ok Answered) = Ok true
+going_on (Ok served) = Ok false
+going_on (Err serve_fault.Memory) = Err fault.Memory
+going_on (Err (serve_fault.Fault e)) = Err e
+going_on (Err e) = Ok false

@@ -1,0 +1,70 @@
+//! A whole fetch and a whole push between the clone in a folder and the shared node at a port of this machine.
+ghost use Rattle.std.specs.Prelude.{◌≢◌, []};
+
+use crate::fault::RemoteFault;
+use crate::peer::Server;
+use std::alloc::Global;
+use std::fs::File;
+use std::net::Net;
+use std::rt;
+use vc_exchange::PushItem;
+use vc_folder::{FolderFiles, FolderLock};
+use vc_node::CloneNode;
+use vc_push::Report;
+use vc_world::{exchange_fetch, exchange_push};
+
+/// Fetches into the clone in this folder, whose lock is held, until its refs are the shared node's, all on one connection.
+/// Tells how many refs moved.
+pub fn fetch<R>(rt: &R, lock: FolderLock<R>, store: &str, port: u16) -> Result<usize, RemoteFault>
+where
+    R: rt::Files<File = File> + Net + AllocGlobal + Clone + Drop,
+{
+    let alloc = rt.alloc();
+    let mut clone = open_clone(rt, store)?;
+    let mut server = Server::new(rt.clone()?, port, String::from_str(alloc, store)?, lock);
+    let fetched = exchange_fetch(&mut server, &mut clone);
+    settle(alloc, clone)?;
+    Ok(fetched?.moved)
+}
+
+/// Pushes from the clone in this folder, whose lock is held. Tells what the shared node reports of each item.
+pub fn push<R>(
+    rt: &R,
+    lock: FolderLock<R>,
+    store: &str,
+    port: u16,
+    items: &[PushItem],
+) -> Result<Report, RemoteFault>
+where
+    R: rt::Files<File = File> + Net + AllocGlobal + Clone + Drop,
+    requires some { items.now ≢ [] }
+{
+    let alloc = rt.alloc();
+    let mut clone = open_clone(rt, store)?;
+    let mut server = Server::new(rt.clone()?, port, String::from_str(alloc, store)?, lock);
+    let pushed = exchange_push(alloc, &mut server, &mut clone, items);
+    settle(alloc, clone)?;
+    Ok(pushed?)
+}
+
+// The clone in this folder, which is made where there is none.
+fn open_clone<R>(rt: &R, store: &str) -> Result<CloneNode<FolderFiles<R>>, RemoteFault>
+where
+    R: rt::Files + AllocGlobal + Clone + Drop,
+{
+    let root = String::from_str(rt.alloc(), store)?;
+    match CloneNode::open(rt.alloc(), FolderFiles::new(rt.clone()?, root)) {
+        Ok(clone) => Ok(clone),
+        Err((_, fault)) => Err(RemoteFault::from(fault)),
+    }
+}
+
+// Makes all durable that the clone stored, also where the exchange ended early.
+fn settle<R>(alloc: Global, clone: CloneNode<FolderFiles<R>>) -> Result<(), RemoteFault>
+where
+    R: rt::Files + AllocGlobal + Clone + Drop,
+{
+    let mut files = clone.close();
+    files.sync(alloc)?;
+    Ok(())
+}

@@ -1,0 +1,20 @@
+//! A shared node served at a port of this machine, and a clone's exchanges with one: what goes over a socket.
+//!
+//! A connection carries messages one after the other: the client sends one, and the server answers with one. Nothing is
+//! claimed of sockets and folders; what a message does at a node, the crates below state.
+#![tactic(auto)]
+
+mod answering;
+mod exchanging;
+mod fault;
+mod peer;
+mod report;
+mod serving;
+mod words;
+
+pub use answering::{answer_message, make_shared};
+pub use exchanging::{fetch, push};
+pub use fault::RemoteFault;
+pub use report::{is_done, report_lines};
+pub use serving::{bind, serve};
+pub use words::{ItemWords, item_words};
