@@ -131,6 +131,15 @@ impl<F: Files> CloneNode<F> {
         made
     }
 
+    /// Takes the node down, as a fault of its own does: for whoever runs out of memory between two of its calls.
+    pub fn take_down(&mut self)
+        ensures files { self.new.files ≡ self.old.files }
+        ensures awaits { self.new.awaited ≡ self.old.awaited }
+        ensures up { self.new.is_up ≡ false }
+    {
+        self.is_up = false;
+    }
+
     // The fault, after which the node is down if it is no refusal.
     fn fail(&mut self, fault: NodeFault) -> NodeFault
         ensures fault { result ≡ fault }

@@ -112,6 +112,15 @@ impl<F: Files> Shared<F> {
         opened
     }
 
+    /// Takes the node down, as a fault of its own does: for whoever runs out of memory between two of its calls.
+    pub fn take_down(&mut self)
+        ensures files { self.new.files ≡ self.old.files }
+        ensures slots { self.new.slots ≡ self.old.slots }
+        ensures up { self.new.is_up ≡ false }
+    {
+        self.is_up = false;
+    }
+
     // The fault, after which the node is down if it is no refusal.
     fn fail(&mut self, fault: SharedFault) -> SharedFault
         ensures fault { result ≡ fault }

@@ -1,0 +1,5 @@
+pub mod LetterLemmas
+pub mod NewLemmas
+pub mod StepLemmas
+pub mod EventLemmas
+pub mod RunLemmas

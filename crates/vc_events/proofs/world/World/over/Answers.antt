@@ -1,0 +1,6 @@
+use Rattle.std.proofs.Common.{refl}
+use Rattle.vc_events.proofs.NewLemmas.{new_world}
+use Rattle.vc_events.proofs.world.World.over.Goals as goal
+
+pub returns-clause-new : goal.returns-clause-new
+returns-clause-new g c shared clones = new_world g.S.SharedCalls.holds g.C.CloneCalls.holds _ (c.requires.shared shared) (c.requires.clones clones) c.requires.some c.new.ensures.items refl

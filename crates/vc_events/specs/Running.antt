@@ -1,0 +1,70 @@
+-- Runs of a world: each that ends at the world before is lengthened to one that ends at the world after.
+use Rattle.std.specs.Global.{Global}
+use Rattle.std.specs.Prelude.{◌≡◌, ◌≢◌, ℕ, List, [], ◌∷◌, ◌++◌, Result, Ok, Err, Vec, take, vec_len}
+use Rattle.vc_message.proofs.Readings.{message_wire}
+use Rattle.vc_model.specs.Clone.{CloneNode}
+use Rattle.vc_model.specs.Exact.{Shadows}
+use Rattle.vc_model.specs.ExactWorld.{ExactHistory, ExactMoment, ExactRun, FusedWorld, NoExactCollision, NothingForgedExactly, OccursExactly, fused_after}
+use Rattle.vc_model.specs.Object.{Object, zero_id}
+use Rattle.vc_model.specs.Run.{History}
+use Rattle.vc_model.specs.Safe.{IsSafe}
+use Rattle.vc_model.specs.Shared.{SharedNode}
+use Rattle.vc_model.specs.World.{IsNew, StartsSound}
+use Rattle.vc_rules.specs.Git.{git}
+use Rattle.vc_events.specs.Answers.{IsAnswer}
+use Rattle.vc_events.specs.Events.{event_of}
+use Rattle.vc_events.specs.World.{HoldsWorld, Steps}
+use Rattle.vc_events.specs.declared.answers.Answer.{Answer as WorldAnswer}
+use Rattle.vc_events.specs.declared.events.Event.{Event}
+use Rattle.vc_events.specs.declared.world.World.{World}
+
+-- ---- what was done
+
+-- the events that a run did, and what it answered to them
+abbrev pub done_of : List Event → Result (Vec WorldAnswer Global) (Vec WorldAnswer Global) → List Event
+done_of events (Ok answers) = events
+done_of events (Err answers) = take (vec_len answers) events
+
+abbrev pub said_of : Result (Vec WorldAnswer Global) (Vec WorldAnswer Global) → List WorldAnswer
+said_of (Ok answers) = answers.items
+said_of (Err answers) = answers.items
+
+-- ---- runs
+
+-- The one premise: no two different objects that occur in the run have one name, and none is named by the zero id.
+pub record AreApart (start : FusedWorld) (h : ExactHistory) : Type 0 where
+  pub names : NoExactCollision git message_wire start h
+  pub zero : (o : Object) → OccursExactly git message_wire start h o → git.name_of o ≢ zero_id
+
+-- The history k is h and then these events with these answers.
+abbrev pub IsLengthened : FusedWorld → ExactHistory → List Event → List WorldAnswer → ExactHistory → Type 0
+IsLengthened start h [] [] k = k ≡ h
+IsLengthened start h (e ∷ es) (a ∷ said) k = (m : ExactMoment) × (m.event ≡ event_of e) × IsAnswer (fused_after start h) a m.answer × IsLengthened start (m ∷ h) es said k
+IsLengthened start h [] (a ∷ said) k = ⊥
+IsLengthened start h (e ∷ es) [] k = ⊥
+
+-- Every run that ends at the world before is lengthened by these events and answers to one that ends at the world after.
+pub record Lengthens {S C : Type 0} (holds_shared : S → SharedNode → Type 0) (holds_clone : C → CloneNode → Type 0) (old : World S C) (es : List Event) (said : List WorldAnswer) (new : World S C) : Type 0 where
+  pub each : (start : FusedWorld) (h : ExactHistory) → StartsSound git start.world → ExactRun git message_wire start h
+      → HoldsWorld holds_shared holds_clone old (fused_after start h)
+      → (k : ExactHistory) × IsLengthened start h es said k × HoldsWorld holds_shared holds_clone new (fused_after start k)
+      × (AreApart start k → ExactRun git message_wire start k)
+
+-- The headline. Every run of a new world that ends at the world before is lengthened by these events and answers to one that ends
+-- at the world after: a run in which each node answers by the written rules, and a safe one. Nobody may have forged what a clone received.
+pub record RunsSafely {S C : Type 0} (holds_shared : S → SharedNode → Type 0) (holds_clone : C → CloneNode → Type 0) (old : World S C) (es : List Event) (said : List WorldAnswer) (new : World S C) : Type 0 where
+  pub each : (n : ℕ) (start : FusedWorld) (h : ExactHistory) → IsNew start.world n → ExactRun git message_wire start h → NothingForgedExactly git message_wire h
+      → HoldsWorld holds_shared holds_clone old (fused_after start h)
+      → (k : ExactHistory) × IsLengthened start h es said k × HoldsWorld holds_shared holds_clone new (fused_after start k)
+      × (AreApart start k → ExactRun git message_wire start k × ((p : History) × Shadows git message_wire start k p × IsSafe git start.world p))
+
+-- one event more, and its answer behind the others
+pub record GoesOn {S C : Type 0} (holds_shared : S → SharedNode → Type 0) (holds_clone : C → CloneNode → Type 0) (before after : List WorldAnswer) (old : World S C) (e : Event) (new : World S C) : Type 0 where
+  pub answer : WorldAnswer
+  pub said : after ≡ before ++ answer ∷ []
+  pub steps : Steps holds_shared holds_clone old (event_of e) answer new
+
+-- Every run of a new world is safe.
+abbrev pub EveryRunIsSafe : Type 0
+EveryRunIsSafe = (n : ℕ) (start : FusedWorld) (h : ExactHistory) → IsNew start.world n → ExactRun git message_wire start h → NoExactCollision git message_wire start h → NothingForgedExactly git message_wire h →
+    (p : History) × Shadows git message_wire start h p × IsSafe git start.world p

@@ -1,0 +1,86 @@
+-- The machine's world that a world holds, and what one event does.
+use Rattle.std.specs.FinMap.{get, empty}
+use Rattle.std.specs.List.{AllByRecursion}
+use Rattle.std.specs.Prelude.{◌≡◌, ◌<◌, ℕ, Bool, List, [], ◌∷◌, Option, Some, None, slice_get, unwrap_or, length}
+use Rattle.vc_message.proofs.Readings.{message_wire}
+use Rattle.vc_message.specs.Machine.{IsWritten}
+use Rattle.vc_model.specs.Clone.{CloneNode}
+use Rattle.vc_model.specs.Clone.Awaited.{Nothing}
+use Rattle.vc_model.specs.Exact.{IsUnfused}
+use Rattle.vc_model.specs.ExactWorld.{FusedWorld, WorldAnswers, WorldEvent}
+use Rattle.vc_model.specs.Message.{Envelope}
+use Rattle.vc_model.specs.Message.Envelope.{ToClone, ToShared}
+use Rattle.vc_model.specs.Node.{Answer}
+use Rattle.vc_model.specs.Safe.{EveryNodeSound}
+use Rattle.vc_model.specs.Shared.{SharedNode}
+use Rattle.vc_model.specs.World.{IsNew, World as MachineWorld, empty_repository}
+use Rattle.vc_rules.specs.Git.{git}
+use Rattle.vc_events.specs.Answers.{IsAnswer}
+use Rattle.vc_events.specs.Calls.{HasNoZero}
+use Rattle.vc_events.specs.declared.answers.Answer.{Answer as WorldAnswer}
+use Rattle.vc_events.specs.declared.letters.Letter.{Letter}
+use Rattle.vc_events.specs.declared.letters.Letter.TheVariants as letter
+use Rattle.vc_events.specs.declared.world.World.{World}
+
+-- a written message, with its other end
+abbrev pub IsLetter : Letter → Envelope → Type 0
+IsLetter (letter.ToShared c bytes) (ToShared d m) = (d ≡ c) × IsWritten m bytes.items
+IsLetter (letter.ToClone c bytes) (ToClone d m) = (d ≡ c) × IsWritten m bytes.items
+IsLetter (letter.ToShared c bytes) (ToClone d m) = ⊥
+IsLetter (letter.ToClone c bytes) (ToShared d m) = ⊥
+
+abbrev pub AreLetters : List Letter → List Envelope → Type 0
+AreLetters [] [] = Unit {0}
+AreLetters (l ∷ ls) (e ∷ es) = IsLetter l e × AreLetters ls es
+AreLetters [] (e ∷ es) = ⊥
+AreLetters (l ∷ ls) [] = ⊥
+
+-- the clone at the other end is one of n
+abbrev pub IsEnd : ℕ → Letter → Type 0
+IsEnd n (letter.ToShared c bytes) = c < n
+IsEnd n (letter.ToClone c bytes) = c < n
+
+-- both are there, or neither
+abbrev pub HoldsAt : {C : Type 0} → (C → CloneNode → Type 0) → Option C → Option CloneNode → Type 0
+HoldsAt holds (Some c) (Some n) = holds c n
+HoldsAt holds None None = Unit {0}
+HoldsAt holds (Some c) None = ⊥
+HoldsAt holds None (Some n) = ⊥
+
+-- The machine's world that this one holds.
+pub record HoldsWorld {S C : Type 0} (holds_shared : S → SharedNode → Type 0) (holds_clone : C → CloneNode → Type 0) (v : World S C) (w : FusedWorld) : Type 0 where
+  pub shared : holds_shared v.shared w.world.shared
+  pub clones : (c : ℕ) → HoldsAt holds_clone (slice_get v.clones.items c) (get w.world.clones c)
+  pub letters : AreLetters v.letters.items w.world.sent
+  pub senders : (s : ℕ) → unwrap_or (get w.world.senders s) 0 ≡ unwrap_or (slice_get v.senders s) 0
+  pub unfused : IsUnfused w
+  pub ends : AllByRecursion (IsEnd (length v.clones.items)) v.letters.items
+  pub known : (s : ℕ) → unwrap_or (slice_get v.senders s) 0 < length v.clones.items
+
+-- no clone has an object whose name is the zero id
+abbrev pub NoZeros : MachineWorld → Type 0
+NoZeros w = (c : ℕ) (n : CloneNode) → get w.clones c ≡ Some n → HasNoZero n.repository
+
+-- Whatever world was held, some world is held after the event; and where each node was sound, the answer and that world are the machine's.
+pub record Steps {S C : Type 0} (holds_shared : S → SharedNode → Type 0) (holds_clone : C → CloneNode → Type 0) (old : World S C) (e : WorldEvent) (answer : WorldAnswer) (new : World S C) : Type 0 where
+  pub each : (w : FusedWorld) → HoldsWorld holds_shared holds_clone old w
+      → (v : FusedWorld) × (a : Answer) × HoldsWorld holds_shared holds_clone new v × IsAnswer w answer a
+      × (EveryNodeSound git w.world → NoZeros w.world → WorldAnswers git message_wire w e a v)
+
+-- the same world: its lists may have more room
+pub record IsSame {S C : Type 0} (old new : World S C) : Type 0 where
+  pub shared : new.shared ≡ old.shared
+  pub clones : new.clones.items ≡ old.clones.items
+  pub letters : new.letters.items ≡ old.letters.items
+  pub senders : new.senders ≡ old.senders
+
+-- a node of a new world
+abbrev pub fresh_shared : SharedNode
+fresh_shared = record { repository = empty_repository; live = Some empty }
+
+abbrev pub fresh_clone : CloneNode
+fresh_clone = record { repository = empty_repository; live = Some Nothing }
+
+-- A new world of n clones is held: the run of no events, over devices that are frail or not.
+pub record IsNewWorld {S C : Type 0} (holds_shared : S → SharedNode → Type 0) (holds_clone : C → CloneNode → Type 0) (n : ℕ) (v : World S C) : Type 0 where
+  pub each : (frail : Bool) → (start : FusedWorld) × IsNew start.world n × (start.frail ≡ frail) × IsUnfused start × HoldsWorld holds_shared holds_clone v start

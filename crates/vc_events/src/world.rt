@@ -1,0 +1,191 @@
+// The world and its events.
+ghost use Rattle.std.specs.Prelude.{◌≡◌, ◌<◌, All, IfOk, OnErr, OnOk, vec_len, vec_capacity, length};
+ghost use Rattle.std.specs.List.{AllByRecursion};
+ghost use Rattle.vc_model.specs.ExactWorld.WorldEvent.{Orders, Delivers, Steps as StepsPush, Compares, Restarts};
+ghost use Rattle.vc_events.specs.Events.{event_of, order_of, party_of, IsInOrder, IsInWorld, IsParty};
+ghost use Rattle.vc_events.specs.Running.{GoesOn, Lengthens, RunsSafely, done_of, said_of};
+ghost use Rattle.vc_events.specs.World.{Steps, IsSame, IsNewWorld, fresh_shared, fresh_clone};
+
+use crate::posting::{from_clone, from_shared, sender_of};
+use crate::{Answer, CloneCalls, Event, Letter, Order, Party, SharedCalls};
+use std::alloc::{AllocError, Global};
+
+/// The number that refuses a delivery where no message has the number.
+const NO_MESSAGE: u16 = 113;
+
+/// One shared node, its clones, and every message that was ever sent.
+pub struct World<S, C> {
+    pub(crate) shared: S,
+    pub(crate) clones: Vec<C>,
+    // The messages in the order in which they were sent.
+    pub(crate) letters: Vec<Letter>,
+    // For each slot, the clone whose push was opened there last.
+    pub(crate) senders: [usize; 8],
+}
+
+impl<S: SharedCalls, C: CloneCalls> World<S, C> {
+    /// The world of these nodes, which are new. There is at least one clone.
+    pub fn over(alloc: Global, shared: S, clones: Vec<C>) -> World<S, C>
+        requires shared { S.honest → S.holds shared fresh_shared }
+        requires clones { C.honest → AllByRecursion (λ c. C.holds c fresh_clone) clones.items }
+        requires some { 0 < length clones.items }
+        ensures new { S.honest → C.honest → IsNewWorld S.holds C.holds (length clones.items) result }
+        ensures clones { vec_len result.clones ≡ vec_len clones }
+    {
+        World {
+            shared,
+            clones,
+            letters: Vec::new(alloc),
+            senders: [0; 8],
+        }
+    }
+
+    /// One event, and its answer. Where the world's own lists can't grow, it isn't done.
+    pub fn step(&mut self, alloc: Global, event: &Event) -> Result<Answer, AllocError>
+        requires { IsInWorld (vec_len self.old.clones) event.now }
+        ensures steps { S.honest → C.honest → IfOk result (λ answer. Steps S.holds C.holds self.old (event_of event.now) answer self.new) }
+        ensures err { OnErr result (IsSame self.old self.new) }
+        ensures clones { vec_len self.new.clones ≡ vec_len self.old.clones }
+    {
+        self.letters.reserve(1)?;
+        Ok(self.answer(alloc, event))
+    }
+
+    /// The events, one after the other, and their answers. Where the world's own lists can't grow, that event isn't done, nor any
+    /// after it, and the answers so far are handed back.
+    pub fn run(&mut self, alloc: Global, events: &[Event]) -> Result<Vec<Answer>, Vec<Answer>>
+        requires { All (IsInWorld (vec_len self.old.clones)) events.now }
+        ensures safe { S.honest → C.honest → RunsSafely S.holds C.holds self.old (done_of events.now result) (said_of result) self.new }
+        ensures run { S.honest → C.honest → Lengthens S.holds C.holds self.old (done_of events.now result) (said_of result) self.new }
+        ensures clones { vec_len self.new.clones ≡ vec_len self.old.clones }
+    {
+        let mut answers = Vec::new(alloc);
+        for event in events {
+            if self.more(alloc, &mut answers, event).is_err() {
+                return Err(answers);
+            }
+        }
+        Ok(answers)
+    }
+
+    // One event more, with its answer behind the others.
+    fn more(
+        &mut self,
+        alloc: Global,
+        answers: &mut Vec<Answer>,
+        event: &Event,
+    ) -> Result<(), AllocError>
+        requires { IsInWorld (vec_len self.old.clones) event.now }
+        ensures more { S.honest → C.honest → OnOk result (GoesOn S.holds C.holds answers.old.items answers.new.items self.old event.now self.new) }
+        ensures err { OnErr result (IsSame self.old self.new × (answers.new.items ≡ answers.old.items)) }
+        ensures clones { vec_len self.new.clones ≡ vec_len self.old.clones }
+    {
+        answers.reserve(1)?;
+        let answer = self.step(alloc, event)?;
+        answers.push(answer)?;
+        Ok(())
+    }
+
+    // One event, where there is room for what is sent.
+    fn answer(&mut self, alloc: Global, event: &Event) -> Answer
+        requires in_world { IsInWorld (vec_len self.old.clones) event.now }
+        requires room { vec_len self.old.letters < vec_capacity self.old.letters }
+        ensures steps { S.honest → C.honest → Steps S.holds C.holds self.old (event_of event.now) result self.new }
+        ensures clones { vec_len self.new.clones ≡ vec_len self.old.clones }
+    {
+        match event {
+            Event::Order(clone, order) => self.order(alloc, *clone, order),
+            Event::Deliver(message) => self.deliver(*message),
+            Event::Step(slot) => self.advance(*slot),
+            Event::Compare(party, first, second) => self.compare(alloc, *party, first, second),
+            Event::Restart(party) => self.restart(*party),
+        }
+    }
+
+    // A clone does what it is told.
+    fn order(&mut self, alloc: Global, clone: usize, order: &Order) -> Answer
+        requires there { clone < vec_len self.old.clones }
+        requires in_order { IsInOrder order.now }
+        requires room { vec_len self.old.letters < vec_capacity self.old.letters }
+        ensures steps { S.honest → C.honest → Steps S.holds C.holds self.old (Orders clone (order_of order.now)) result self.new }
+        ensures clones { vec_len self.new.clones ≡ vec_len self.old.clones }
+    {
+        let called = self.clones[clone].obey(alloc, order);
+        from_clone(&mut self.letters, clone, called)
+    }
+
+    // A message comes to its addressee.
+    fn deliver(&mut self, message: usize) -> Answer
+        requires { vec_len self.old.letters < vec_capacity self.old.letters }
+        ensures steps { S.honest → C.honest → Steps S.holds C.holds self.old (Delivers message) result self.new }
+        ensures clones { vec_len self.new.clones ≡ vec_len self.old.clones }
+    {
+        let Some(letter) = self.letters.get(message) else {
+            return Answer::Refused(NO_MESSAGE);
+        };
+        match letter {
+            Letter::ToShared(from, bytes) => {
+                let from = *from;
+                let called = self.shared.deliver(bytes);
+                from_shared(&mut self.letters, &mut self.senders, from, called)
+            }
+            Letter::ToClone(to, bytes) => {
+                let to = *to;
+                if to >= self.clones.len() {
+                    return Answer::Refused(NO_MESSAGE);
+                }
+                let called = self.clones[to].deliver(bytes);
+                from_clone(&mut self.letters, to, called)
+            }
+        }
+    }
+
+    // A step of the push in a slot.
+    fn advance(&mut self, slot: usize) -> Answer
+        requires { vec_len self.old.letters < vec_capacity self.old.letters }
+        ensures steps { S.honest → C.honest → Steps S.holds C.holds self.old (StepsPush slot) result self.new }
+        ensures clones { vec_len self.new.clones ≡ vec_len self.old.clones }
+    {
+        let sender = sender_of(&self.senders, slot);
+        let called = self.shared.advance(slot);
+        from_shared(&mut self.letters, &mut self.senders, sender, called)
+    }
+
+    // A node is asked whether two expressions have one value.
+    fn compare(&mut self, alloc: Global, party: Party, first: &[u8], second: &[u8]) -> Answer
+        requires there { IsParty (vec_len self.old.clones) party }
+        requires room { vec_len self.old.letters < vec_capacity self.old.letters }
+        ensures steps { S.honest → C.honest → Steps S.holds C.holds self.old (Compares (party_of party) first.now second.now) result self.new }
+        ensures clones { vec_len self.new.clones ≡ vec_len self.old.clones }
+    {
+        match party {
+            Party::Shared => {
+                let called = self.shared.compare(alloc, first, second);
+                from_shared(&mut self.letters, &mut self.senders, 0, called)
+            }
+            Party::Clone(clone) => {
+                let called = self.clones[clone].compare(alloc, first, second);
+                from_clone(&mut self.letters, clone, called)
+            }
+        }
+    }
+
+    // A node starts anew over what it has stored.
+    fn restart(&mut self, party: Party) -> Answer
+        requires there { IsParty (vec_len self.old.clones) party }
+        requires room { vec_len self.old.letters < vec_capacity self.old.letters }
+        ensures steps { S.honest → C.honest → Steps S.holds C.holds self.old (Restarts (party_of party)) result self.new }
+        ensures clones { vec_len self.new.clones ≡ vec_len self.old.clones }
+    {
+        match party {
+            Party::Shared => {
+                let called = self.shared.reopen();
+                from_shared(&mut self.letters, &mut self.senders, 0, called)
+            }
+            Party::Clone(clone) => {
+                let called = self.clones[clone].reopen();
+                from_clone(&mut self.letters, clone, called)
+            }
+        }
+    }
+}

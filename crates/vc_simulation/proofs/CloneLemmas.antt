@@ -1,0 +1,588 @@
+-- Calls of a clone, in the world's words.
+use Rattle.std.proofs.Common.{◌≡◌, ◌≢◌, ◌≤◌, ◌<◌, ◌+◌, ℕ, zero, suc, Bool, true, false, List, [], ◌∷◌, ◌++◌, Option, Some, None, Result, Ok, Err, Vec, Global, ◌⊎◌, map, take, drop, get_or, length, arith, inl, inr, refl, sym, ap, ◌∙◌, subst}
+use Rattle.std.proofs.lemmas.List.{take_more}
+use Rattle.std.specs.Prelude.{IfErr, IfOk}
+use Rattle.vc_events.specs.Answers.{Shows, answer_of}
+use Rattle.vc_events.specs.Calls.{CloneCalled, HasNoZero, IsOnly}
+use Rattle.vc_events.specs.Events.{bytes_in}
+use Rattle.vc_events.specs.declared.events.NamedItem.{NamedItem}
+use Rattle.vc_exchange.specs.Sending.{machine_items}
+use Rattle.vc_exchange.specs.declared.item.PushItem.{PushItem}
+use Rattle.vc_events.specs.declared.answers.Deed.{Deed}
+use Rattle.vc_events.specs.declared.answers.Deed.TheVariants as deed
+use Rattle.vc_events.specs.declared.answers.Ended.{Ended}
+use Rattle.vc_events.specs.declared.answers.Ended.TheVariants as ended
+use Rattle.vc_events.specs.declared.answers.Told.{Told}
+use Rattle.vc_events.specs.declared.answers.Told.TheVariants as told
+use Rattle.vc_files.specs.FileMap.{FileMap}
+use Rattle.vc_files.specs.declared.faults.Fault.TheVariants as files
+use Rattle.vc_format.specs.Git.{bytes_of_id}
+use Rattle.vc_model.specs.Clone.{Awaited, CloneNode, Task}
+use Rattle.vc_model.specs.Clone.Task.{StartPush}
+use Rattle.vc_model.specs.CloneCall.{CloneAnswers, CloneCall, Refuses}
+use Rattle.vc_model.specs.CloneCall.CloneAnswers.{asked, down, faulted, obeyed, opened, pruned, refused}
+use Rattle.vc_model.specs.CloneCall.CloneCall.{Asks, Command, Open}
+use Rattle.vc_model.specs.Message.{Message}
+use Rattle.vc_model.specs.Node.{Answer}
+use Rattle.vc_model.specs.Node.Answer.{Declined, Did, Fault}
+use Rattle.vc_model.specs.Node.Failure.{Device, Memory}
+use Rattle.vc_model.specs.Node.Reply.{Differs, Found, Same}
+use Rattle.vc_model.specs.Object.{Id}
+use Rattle.vc_model.specs.Order.{AreValues, Order, IsTaskOf, with_first}
+use Rattle.vc_model.specs.Question.{Question, Tells}
+use Rattle.vc_model.specs.Question.Question.{Compare, Interrupted, Resolve, Unresolved}
+use Rattle.vc_model.specs.Repository.{IsSound, Repository}
+use Rattle.vc_node.specs.Awaited.{IsAwaited}
+use Rattle.vc_node.specs.CloneCalls.{AnswersClone, FoundAs, Quietly as ClonesQuietly}
+use Rattle.vc_node.specs.CloneFaults.{IsOfDevice, TellsDevice, of_device}
+use Rattle.vc_node.specs.declared.clone_fault.CloneFault.TheVariants as clone
+use Rattle.vc_node.specs.declared.fault.NodeFault.TheVariants as node
+use Rattle.vc_node.specs.Held.{Held}
+use Rattle.vc_node.specs.Machine.{Answers, HoldsNode, live_of}
+use Rattle.vc_node.specs.declared.clone_fault.CloneFault.{CloneFault}
+use Rattle.vc_object.specs.declared.id.ObjectId.{ObjectId}
+use Rattle.vc_rev.specs.Faults.{IsBadAt}
+use Rattle.vc_rules.proofs.GitLaws.{git_rules}
+use Rattle.vc_rules.specs.Git.{git}
+use Rattle.vc_events.proofs.RunLemmas.{take_whole}
+use Rattle.vc_simulation.proofs.ItemLemmas.{items_behind, items_refused, zero_refused}
+use Rattle.vc_simulation.proofs.SharedLemmas.{found_is, refused_is}
+use Rattle.vc_simulation.proofs.SteadyLemmas.{StaysSteady, told_calm}
+use Rattle.vc_simulation.specs.Nodes.{HoldsClone, IsRetold, IsSteady}
+use Rattle.vc_simulation.specs.Values.{AreIds, AreNoIds, AreNotPushed, ArePushed, Fails, Finds, HasZero, IsItemFor, IsNoItem, IsNoValue, IsOneMore, IsOneMoreItem, IsValue, Obeys}
+
+-- ---- lists of values
+
+values_more : (r : Repository) (texts : List (Vec ℕ Global)) (text : Vec ℕ Global) (ids : List ObjectId) (id : ObjectId) → AreIds texts ids r → IsValue text.items id r → AreIds (texts ++ text ∷ []) (ids ++ id ∷ []) r
+values_more r [] text [] id are is = inr (bytes_of_id id, Ok [], is, refl, refl)
+values_more r [] text (x ∷ ids) id are is = absurd (cc)
+values_more r (t ∷ texts) text ids id are is = elim are [
+  | inl bad ↦ let e = bad.2 in absurd (cc)
+  | inr good ↦ go (λ ids are. values_more r texts text ids id are is) ids good.0 good.1 good.2 good.3 good.4
+]
+  where
+    go : ((ids : List ObjectId) → AreIds texts ids r → AreIds (texts ++ text ∷ []) (ids ++ id ∷ []) r) → (ids : List ObjectId) (x : Id) (w : Result (List Id) ℕ)
+        → git_rules.denotes r t.items (Ok x) → AreValues git git_rules r (map bytes_in texts) w → Ok (map bytes_of_id ids) ≡ with_first x w
+        → AreIds (t ∷ (texts ++ text ∷ [])) (ids ++ id ∷ []) r
+    go more [] x (Ok xs) denotes rest same = absurd (cc)
+    go more [] x (Err j) denotes rest same = absurd (cc)
+    go more (y ∷ ids) x (Err j) denotes rest same = absurd (cc)
+    go more (y ∷ ids) x (Ok xs) denotes rest same =
+        let list : bytes_of_id y ∷ map bytes_of_id ids ≡ x ∷ xs = cc in
+        let tail : xs ≡ map bytes_of_id ids = cc in
+        let head : x ≡ bytes_of_id y = cc in
+        inr (
+          x,
+          Ok (map bytes_of_id (ids ++ id ∷ [])),
+          denotes,
+          more ids (subst (λ (xs : List Id). AreValues git git_rules r (map bytes_in texts) (Ok xs)) tail rest),
+          ap (λ (z : Id). Ok (z ∷ map bytes_of_id (ids ++ id ∷ []))) (sym head),
+        )
+
+values_fail : (r : Repository) (texts : List (Vec ℕ Global)) (text : Vec ℕ Global) (rest : List (Vec ℕ Global)) (ids : List ObjectId) (k : ℕ) → AreIds texts ids r → IsNoValue text.items r k → AreNoIds (texts ++ text ∷ rest) r k
+values_fail r [] text rest ids k are is = inl (k, is, refl)
+values_fail r (t ∷ texts) text rest ids k are is = elim are [
+  | inl bad ↦ let e = bad.2 in absurd (cc)
+  | inr good ↦ go (λ ids are. values_fail r texts text rest ids k are is) ids good.0 good.1 good.2 good.3 good.4
+]
+  where
+    go : ((ids : List ObjectId) → AreIds texts ids r → AreNoIds (texts ++ text ∷ rest) r k) → (ids : List ObjectId) (x : Id) (w : Result (List Id) ℕ)
+        → git_rules.denotes r t.items (Ok x) → AreValues git git_rules r (map bytes_in texts) w → Ok (map bytes_of_id ids) ≡ with_first x w
+        → AreNoIds (t ∷ (texts ++ text ∷ rest)) r k
+    go more [] x (Ok xs) denotes others same = absurd (cc)
+    go more [] x (Err j) denotes others same = absurd (cc)
+    go more (y ∷ ids) x (Err j) denotes others same = absurd (cc)
+    go more (y ∷ ids) x (Ok xs) denotes others same =
+        let list : bytes_of_id y ∷ map bytes_of_id ids ≡ x ∷ xs = cc in
+        let tail : xs ≡ map bytes_of_id ids = cc in
+        inr (x, Err k, denotes, more ids (subst (λ (xs : List Id). AreValues git git_rules r (map bytes_in texts) (Ok xs)) tail others), refl)
+
+-- a list is its front, an element, and what is behind it
+split_at : {X : Type 0} (xs : List X) (i : ℕ) (d : X) → i < length xs → xs ≡ take i xs ++ get_or xs i d ∷ drop (suc i) xs
+split_at [] i d below = let f : ⊥ = omega (arith, below) in absurd f
+split_at (x ∷ xs) zero d below = refl
+split_at {X} (x ∷ xs) (suc i) d below = ap (λ (ys : List X). x ∷ ys) (split_at xs i d (omega (arith, below)))
+
+-- ---- what is said of any clone
+
+module _ {C : Type 0} (holds : C → CloneNode → Type 0) where
+  pub finds_more : (P Q R : Repository → Type 0) (old mid new : C) → Finds holds P old mid → Finds holds Q mid new → ((r : Repository) → P r → Q r → R r) → Finds holds R old new
+  finds_more P Q R old mid new one two both = record {
+    each = λ n held.
+        let r = one.each n held in
+        let s = two.each r.0 r.1 in (
+          s.0,
+          s.1,
+          λ sound.
+              let a = r.2 sound in
+              let b = s.2 (subst (λ (x : CloneNode). IsSound git x.repository) (sym a.0) sound) in
+              (b.0 ∙ a.0, a.1, both n.repository a.2 (subst (λ (x : CloneNode). Q x.repository) a.0 b.2)),
+        );
+  }
+
+  -- what a clone answers once it has found what it looked for, of the clone that it was
+  abbrev After : (Repository → Type 0) → (CloneNode → CloneCall → Type 0) → (CloneNode → CloneCall → Type 0) → Type 0
+  After P calls also = (n : CloneNode) (i : CloneCall) → n.live ≢ None → P n.repository → calls n i → also n i
+
+  pub finds_then : (P : Repository → Type 0) (calls also : CloneNode → CloneCall → Type 0) (shows : Answer → Option Message → Type 0) (old mid new : C)
+      → Finds holds P old mid → CloneCalled holds calls shows mid new → After P calls also → CloneCalled holds also shows old new
+  finds_then P calls also shows old mid new one call then = record {
+    each = λ n held.
+        let r = one.each n held in
+        let c = call.each r.0 r.1 in (
+          c.0,
+          c.1,
+          c.2,
+          c.3,
+          c.4,
+          c.5,
+          λ sound zeros.
+              let a = r.2 sound in
+              let k : (i : CloneCall) × calls n i × CloneAnswers git git_rules n i c.1 c.0 c.2
+              = subst (λ (x : CloneNode). (i : CloneCall) × calls x i × CloneAnswers git git_rules x i c.1 c.0 c.2) a.0
+              (c.6 (subst (λ (x : CloneNode). IsSound git x.repository) (sym a.0) sound) (subst (λ (x : CloneNode). HasNoZero x.repository) (sym a.0) zeros)) in
+              (k.0, then n k.0 a.1 a.2 k.1, k.2),
+        );
+  }
+
+  -- a command is the order whose task it is
+  pub ordered : (P : Repository → Type 0) (t : Task) (o : Order) (shows : Answer → Option Message → Type 0) (old mid new : C)
+      → Finds holds P old mid → CloneCalled holds (IsOnly (Command t)) shows mid new → ((r : Repository) → P r → IsTaskOf git git_rules r o (Ok t)) → CloneCalled holds (Obeys o) shows old new
+  ordered P t o shows old mid new one call task =
+      finds_then P (IsOnly (Command t)) (Obeys o) shows old mid new one call (λ n i live p is. inr (live, inl (Ok t, task n.repository p, is)))
+
+  pub fails_later : (P : Repository → Type 0) (Q R : Repository → ℕ → Type 0) (shows : Answer → Option Message → Type 0) (old mid new : C)
+      → Finds holds P old mid → CloneCalled holds (Fails Q) shows mid new → ((r : Repository) (k : ℕ) → P r → Q r k → R r k) → CloneCalled holds (Fails R) shows old new
+  fails_later P Q R shows old mid new one call both =
+      finds_then P (Fails Q) (Fails R) shows old mid new one call (λ n i live p f. (f.0, elim f.1 [ inl is ↦ inl is | inr k ↦ inr (k.0, both n.repository k.0 p k.1, k.2) ]))
+
+  -- an order whose expressions are not all read
+  pub failed_order : (Q : Repository → ℕ → Type 0) (o : Order) (shows : Answer → Option Message → Type 0) (old new : C)
+      → CloneCalled holds (Fails Q) shows old new → ((r : Repository) (k : ℕ) → Q r k → IsTaskOf git git_rules r o (Err k)) → CloneCalled holds (Obeys o) shows old new
+  failed_order Q o shows old new call task = record {
+    each = λ n held. let c = call.each n held in (
+      c.0,
+      c.1,
+      c.2,
+      c.3,
+      c.4,
+      c.5,
+      λ sound zeros. let k = c.6 sound zeros in (k.0, inr (k.1.0, elim k.1.1 [ inl is ↦ inr is | inr f ↦ inl (Err f.0, task n.repository f.0 f.1, f.2) ]), k.2),
+    );
+  }
+
+  -- ---- questions
+
+  interrupted : (n m : CloneNode) (q : Question) (a : Answer) (s : Option Message) → n.live ≢ None → CloneAnswers git git_rules n (Asks Interrupted) a m s → CloneAnswers git git_rules n (Asks q) a m s
+  interrupted n m q a s live answers = elim answers [
+    | down none not said same quiet ↦ absurd (live none)
+    | asked w p up call tells same quiet ↦ let same_question : p ≡ Interrupted = cc in absurd (subst (λ (p : Question). Tells git git_rules n.repository p a) same_question tells)
+    | refused w k up never said same quiet ↦ absurd never
+    | obeyed w d up never ends sends ↦ absurd never
+    | pruned w up call ends quiet ↦ absurd (cc)
+    | opened call ends quiet ↦ absurd (cc)
+    | faulted w f up not said same quiet ↦ faulted w f up (λ h. absurd (cc)) said same quiet
+  ]
+
+  unresolved : (n m : CloneNode) (k : ℕ) (q : Question) (a : Answer) (s : Option Message) → n.live ≢ None → Tells git git_rules n.repository q (Declined k)
+      → CloneAnswers git git_rules n (Asks (Unresolved k)) a m s → CloneAnswers git git_rules n (Asks q) a m s
+  unresolved n m k q a s live tells answers = elim answers [
+    | down none not said same quiet ↦ absurd (live none)
+    | asked w p up call told_so same quiet ↦
+        let same_question : p ≡ Unresolved k = cc in
+        let is : a ≡ Declined k = subst (λ (p : Question). Tells git git_rules n.repository p a) same_question told_so in
+        asked w q up refl (subst (λ (a : Answer). Tells git git_rules n.repository q a) (sym is) tells) same quiet
+    | refused w j up never said same quiet ↦ absurd never
+    | obeyed w d up never ends sends ↦ absurd never
+    | pruned w up call ends quiet ↦ absurd (cc)
+    | opened call ends quiet ↦ absurd (cc)
+    | faulted w f up not said same quiet ↦ faulted w f up (λ h. absurd (cc)) said same quiet
+  ]
+
+  -- a question whose expressions are not all read
+  pub failed_question : (Q : Repository → ℕ → Type 0) (q : Question) (shows : Answer → Option Message → Type 0) (old new : C)
+      → CloneCalled holds (Fails Q) shows old new → ((r : Repository) (k : ℕ) → Q r k → Tells git git_rules r q (Declined k)) → CloneCalled holds (IsOnly (Asks q)) shows old new
+  failed_question Q q shows old new call tells = record {
+    each = λ n held. let c = call.each n held in (
+      c.0,
+      c.1,
+      c.2,
+      c.3,
+      c.4,
+      c.5,
+      λ sound zeros. let k = c.6 sound zeros in (
+        Asks q,
+        refl,
+        elim k.1.1 [
+          | inl is ↦ interrupted n c.0 q c.1 c.2 k.1.0 (subst (λ (i : CloneCall). CloneAnswers git git_rules n i c.1 c.0 c.2) is k.2)
+          | inr f ↦ unresolved n c.0 f.0 q c.1 c.2 k.1.0 (tells n.repository f.0 f.1) (subst (λ (i : CloneCall). CloneAnswers git git_rules n i c.1 c.0 c.2) f.2 k.2)
+        ],
+      ),
+    );
+  }
+
+  -- both expressions have values: the deed tells whether they are one
+  pub compared : (old mid new : C) (first second : List ℕ) (x y : ObjectId) (d : Deed) → Finds holds (IsValue first x) old mid → Finds holds (IsValue second y) mid new
+      → ((x ≡ y) × (d ≡ deed.Same)) ⊎ ((bytes_of_id x ≢ bytes_of_id y) × (d ≡ deed.Differs))
+      → CloneCalled holds (IsOnly (Asks (Compare first second))) (Shows (Ok (told.Did d))) old new
+  compared old mid new first second x y d one two either = record {
+    each = λ n held.
+        let both = finds_more (IsValue first x) (IsValue second y) (λ r. IsValue first x r × IsValue second y r) old mid new one two (λ r p q. (p, q)) in
+        let c = both.each n held in
+        let a = answer either in (
+          c.0,
+          a.0,
+          None,
+          c.1,
+          a.1,
+          a.2,
+          λ sound zeros.
+              let same = c.2 sound in
+              let w = up n same.1 in
+              (Asks (Compare first second), refl, asked w.0 (Compare first second) w.1 refl (Ok (bytes_of_id x), same.2.0, (Ok (bytes_of_id y), same.2.1, a.3)) same.0 refl),
+        );
+  }
+    where
+      up : (n : CloneNode) → n.live ≢ None → (s : Awaited) × (n.live ≡ Some s)
+      up n live = go n.live refl
+        where
+          go : (l : Option Awaited) → n.live ≡ l → (s : Awaited) × (n.live ≡ Some s)
+          go (Some s) is = (s, is)
+          go None is = absurd (live is)
+
+      answer : ((x ≡ y) × (d ≡ deed.Same)) ⊎ ((bytes_of_id x ≢ bytes_of_id y) × (d ≡ deed.Differs)) → (a : Answer) × Shows (Ok (told.Did d)) a None × (a ≢ Fault Device)
+          × (((n : ℕ) × (◌≡◌ {A = Result Id ℕ} (Ok (bytes_of_id y)) (Err n)) × (a ≡ Declined n)) ⊎ (((◌≡◌ {A = Result Id ℕ} (Ok (bytes_of_id y)) (Ok (bytes_of_id x))) × (a ≡ Did Same)) ⊎ ((z : Id) × (◌≡◌ {A = Result Id ℕ} (Ok (bytes_of_id y)) (Ok z)) × (bytes_of_id x ≢ z) × (a ≡ Did Differs))))
+      answer (inl h) = (
+        Did Same,
+        subst (λ (d : Deed). Shows (Ok (told.Did d)) (Did Same) None) (sym h.1) (tt, record { answer = refl; sent = refl }),
+        (λ h. absurd (cc)),
+        inr (inl (ap (λ (z : ObjectId). Ok (bytes_of_id z)) (sym h.0), refl)),
+      )
+      answer (inr h) = (
+        Did Differs,
+        subst (λ (d : Deed). Shows (Ok (told.Did d)) (Did Differs) None) (sym h.1) (tt, record { answer = refl; sent = refl }),
+        (λ h. absurd (cc)),
+        inr (inr (bytes_of_id y, refl, h.0, refl)),
+      )
+
+-- a comparison is refused for the first expression that has no value
+pub no_comparison : (first second : List ℕ) (r : Repository) (k : ℕ) → IsNoValue first r k → Tells git git_rules r (Compare first second) (Declined k)
+no_comparison first second r k unread = (Err k, unread, refl)
+
+pub no_second : (first second : List ℕ) (x : ObjectId) (r : Repository) (k : ℕ) → IsValue first x r × IsNoValue second r k → Tells git git_rules r (Compare first second) (Declined k)
+no_second first second x r k both = (Ok (bytes_of_id x), both.0, (Err k, both.1, inl (k, refl, refl)))
+
+-- the start of a fetch tells no fault of the device
+pub fetch_calm : {T : Type 0} (r : Result T CloneFault) → IfErr r (λ e. (e ≡ clone.Node node.Down) ⊎ (e ≡ of_device files.Memory)) → ¬ TellsDevice r
+fetch_calm (Ok x) is device = absurd device
+fetch_calm (Err e) is device = elim is [
+  | inl closed ↦ absurd (subst IsOfDevice closed device)
+  | inr memory ↦ let e : false ≡ true = subst IsOfDevice memory device in cc e
+]
+
+-- what is said of a node is said of what has it
+pub lift : {W C : Type 0} (node : W → C) (holds : C → CloneNode → Type 0) (calls : CloneNode → CloneCall → Type 0) (shows : Answer → Option Message → Type 0) (old new : W)
+    → CloneCalled holds calls shows (node old) (node new) → CloneCalled (λ w n. holds (node w) n) calls shows old new
+lift node holds calls shows old new c = record { each = c.each }
+
+-- ---- what is said of a clone over files
+
+module _ {F : Type 0} (content : F → FileMap) (can_fail : F → Type 0) (left : F → Option ℕ) where
+  abbrev pub Holds : Held F → CloneNode → Type 0
+  Holds v n = HoldsClone content can_fail left v n
+
+  -- a call that sends or takes messages, or asks for a value
+  pub exchange_called : (old new : Held F) (call : CloneCall) (shows : Answer → Option Message → Type 0) (IsDevice : Type 0) (r : Result Told Ended)
+      → AnswersClone call shows (content old.files) (content new.files) old.awaited new.awaited old.is_up new.is_up → StaysSteady can_fail left old.files new.files IsDevice → IsRetold shows IsDevice r
+      → CloneCalled Holds (IsOnly call) (Shows r) old new
+  exchange_called old new call shows IsDevice r answers steady retold = record {
+    each = λ n held. let m = answers.each held.awaited n held.is_awaited held.holds in (
+      m.1,
+      m.2,
+      m.3,
+      record { awaited = m.0; is_awaited = m.4; holds = m.5; steady = steady.steady held.steady },
+      retold.shown m.2 m.3 m.6,
+      told_calm shows IsDevice r m.2 m.3 retold (steady.never held.steady) m.6,
+      λ sound zeros. (call, refl, m.7 sound),
+    );
+  }
+
+  -- a local command
+  pub local_called : (old new : Held F) (task : Task) (answer : Answer) (IsDevice : Type 0) (r : Result Told Ended)
+      → Answers task answer old.is_up new.is_up (content old.files) (content new.files) → new.awaited ≡ old.awaited → StaysSteady can_fail left old.files new.files IsDevice → IsRetold (ClonesQuietly answer) IsDevice r
+      → CloneCalled Holds (IsOnly (Command task)) (Shows r) old new
+  local_called old new task answer IsDevice r answers awaits steady retold = record {
+    each = λ n held. let m = answers.each held.awaited n held.holds in (
+      m.0,
+      answer,
+      None,
+      record { awaited = held.awaited; is_awaited = subst (λ w. IsAwaited w held.awaited) (sym awaits) held.is_awaited; holds = m.1; steady = steady.steady held.steady },
+      retold.shown answer None (record { answer = refl; sent = refl }),
+      told_calm (ClonesQuietly answer) IsDevice r answer None retold (steady.never held.steady) (record { answer = refl; sent = refl }),
+      λ sound zeros. (Command task, refl, m.2),
+    );
+  }
+
+  live_some : (v : Held F) (n : CloneNode) → v.is_up ≡ true → (held : Holds v n) → n.live ≡ Some held.awaited
+  live_some v n up held = held.holds.shows.live ∙ ap (λ (b : Bool). live_of b held.awaited) up
+
+  -- a node that is down refuses what does not open it
+  down_at : (calls : CloneNode → CloneCall → Type 0) (old new : Held F) → old.is_up ≡ false → new ≡ old → ((n : CloneNode) → n.live ≡ None → (i : CloneCall) × calls n i × (i ≢ Open))
+      → CloneCalled Holds calls (Shows (Err (ended.Refused 112))) old new
+  down_at calls old new is_down same comes = record {
+    each = λ n held. (
+      n,
+      Declined 112,
+      None,
+      subst (λ (v : Held F). Holds v n) (sym same) held,
+      record { answer = refl; sent = refl },
+      λ h. absurd (cc),
+      λ sound zeros.
+          let none : n.live ≡ None = held.holds.shows.live ∙ ap (λ (b : Bool). live_of b held.awaited) is_down in
+          let i = comes n none in
+          (i.0, i.1, down none i.2 refl refl refl),
+    );
+  }
+
+  pub down_called : (old new : Held F) (q : Question) → old.is_up ≡ false → new ≡ old → CloneCalled Holds (IsOnly (Asks q)) (Shows (Err (ended.Refused 112))) old new
+  down_called old new q is_down same = down_at (IsOnly (Asks q)) old new is_down same (λ n none. (Asks q, refl, (λ h. absurd (cc))))
+
+  pub down_order : (old new : Held F) (o : Order) → old.is_up ≡ false → new ≡ old → CloneCalled Holds (Obeys o) (Shows (Err (ended.Refused 112))) old new
+  down_order old new o is_down same = down_at (Obeys o) old new is_down same (λ n none. (Asks (Unresolved 112), inl (none, refl), (λ h. absurd (cc))))
+
+  -- a node that is up, before it reads anything
+  pub finds_none : (old new : Held F) → old.is_up ≡ true → new ≡ old → Finds Holds (λ r. Unit {0}) old new
+  finds_none old new up same = record {
+    each = λ n held. (n, subst (λ (v : Held F). Holds v n) (sym same) held, λ sound. (refl, (λ none. let e = live_some old n up held in absurd (cc)), tt));
+  }
+
+  -- ---- values
+
+  value_told : (n m : CloneNode) (text : List ℕ) (id : ObjectId) (a : Answer) (s : Option Message) → CloneAnswers git git_rules n (Asks (Resolve text)) a m s → a ≡ Did (Found (bytes_of_id id))
+      → (m ≡ n) × (n.live ≢ None) × IsValue text id n.repository
+  value_told n m text id a s answers is = elim answers [
+    | down none not said same quiet ↦ absurd (cc)
+    | asked w q live call tells same quiet ↦
+        let same_question : q ≡ Resolve text = cc in
+        let t = subst (λ (q : Question). Tells git git_rules n.repository q a) same_question tells in
+        (same, (λ none. absurd (cc)), found_is n.repository text id t.0 t.1 (sym is ∙ t.2))
+    | refused w k live never said same quiet ↦ absurd never
+    | obeyed w d live never ends sends ↦ absurd never
+    | pruned w live call ends quiet ↦ absurd (cc)
+    | opened call ends quiet ↦ absurd (cc)
+    | faulted w f live not said same quiet ↦ absurd (cc)
+  ]
+
+  no_value_told : (n m : CloneNode) (text : List ℕ) (e : Ended) (a : Answer) (s : Option Message) → n.live ≢ None → CloneAnswers git git_rules n (Asks (Resolve text)) a m s → a ≡ answer_of e
+      → (i : CloneCall) × Fails (IsNoValue text) n i × CloneAnswers git git_rules n i a m s
+  no_value_told n m text e a s live answers is = elim answers [
+    | down none not said same quiet ↦ absurd (live none)
+    | asked w q up call tells same quiet ↦
+        let same_question : q ≡ Resolve text = cc in
+        let t = subst (λ (q : Question). Tells git git_rules n.repository q a) same_question tells in
+        let r = refused_is n.repository text e t.0 t.1 (sym is ∙ t.2) in
+        (Asks (Unresolved r.0), (live, inr (r.0, r.1, refl)), asked w (Unresolved r.0) up refl (is ∙ r.2) same quiet)
+    | refused w k up never said same quiet ↦ absurd never
+    | obeyed w d up never ends sends ↦ absurd never
+    | pruned w up call ends quiet ↦ absurd (cc)
+    | opened call ends quiet ↦ absurd (cc)
+    | faulted w f up not said same quiet ↦ (Asks Interrupted, (live, inl refl), faulted w f up (λ h. absurd (cc)) said same quiet)
+  ]
+
+  pub value_answers : (old new : Held F) (text : List ℕ) (said : Result ObjectId CloneFault) (r : Result ObjectId Ended) → IfOk r (λ id. said ≡ Ok id)
+      → AnswersClone (Asks (Resolve text)) (FoundAs said) (content old.files) (content new.files) old.awaited new.awaited old.is_up new.is_up → StaysSteady can_fail left old.files new.files (TellsDevice said)
+      → IfOk r (λ id. Finds Holds (IsValue text id) old new)
+  value_answers old new text said (Ok id) is answers steady = record {
+    each = λ n held.
+        let m = answers.each held.awaited n held.is_awaited held.holds in
+        let q : ClonesQuietly (Did (Found (bytes_of_id id))) m.2 m.3 = subst (λ (x : Result ObjectId CloneFault). FoundAs x m.2 m.3) is m.6 in (
+          m.1,
+          record { awaited = m.0; is_awaited = m.4; holds = m.5; steady = steady.steady held.steady },
+          λ sound. value_told n m.1 text id m.2 m.3 (m.7 sound) q.answer,
+        );
+  }
+  value_answers old new text said (Err e) is answers steady = tt
+
+  pub no_value_answers : (old new : Held F) (text : List ℕ) (said : Result ObjectId CloneFault) (r : Result ObjectId Ended) → old.is_up ≡ true → IfErr r (λ e. IsRetold (FoundAs said) (TellsDevice said) (Err e))
+      → AnswersClone (Asks (Resolve text)) (FoundAs said) (content old.files) (content new.files) old.awaited new.awaited old.is_up new.is_up → StaysSteady can_fail left old.files new.files (TellsDevice said)
+      → IfErr r (λ e. CloneCalled Holds (Fails (IsNoValue text)) (Shows (Err e)) old new)
+  no_value_answers old new text said (Ok id) up retold answers steady = tt
+  no_value_answers old new text said (Err e) up retold answers steady = record {
+    each = λ n held.
+        let c = (exchange_called old new (Asks (Resolve text)) (FoundAs said) (TellsDevice said) (Err e) answers steady retold).each n held in (
+          c.0,
+          c.1,
+          c.2,
+          c.3,
+          c.4,
+          c.5,
+          λ sound zeros.
+              let k = c.6 sound zeros in
+              no_value_told n c.0 text e c.1 c.2 (λ none. let e = live_some old n up held in absurd (cc)) (subst (λ (i : CloneCall). CloneAnswers git git_rules n i c.1 c.0 c.2) k.1 k.2) c.4.answer,
+        );
+  }
+
+  pub value_bad : (old new : Held F) (text : List ℕ) (place : ℕ) → old.is_up ≡ true → new ≡ old → IsBadAt text place → CloneCalled Holds (Fails (IsNoValue text)) (Shows (Err (ended.Refused 50))) old new
+  value_bad old new text place up same bad = record {
+    each = λ n held. (
+      n,
+      Declined 50,
+      None,
+      subst (λ (v : Held F). Holds v n) (sym same) held,
+      record { answer = refl; sent = refl },
+      λ h. absurd (cc),
+      λ sound zeros.
+          let live = live_some old n up held in
+          (Asks (Unresolved 50), ((λ none. absurd (cc)), inr (50, inl ((place, bad), refl), refl)), asked held.awaited (Unresolved 50) live refl refl refl refl),
+    );
+  }
+
+  -- want of memory, after which the node is down
+  pub halted : (P : Repository → ℕ → Type 0) (old new : Held F) → old.is_up ≡ true → new.is_up ≡ false → new.files ≡ old.files → new.awaited ≡ old.awaited
+      → CloneCalled Holds (Fails P) (Shows (Err (ended.Fault files.Memory))) old new
+  halted P old new up is_down files awaits = record {
+    each = λ n held.
+        let live = live_some old n up held in
+        let m : CloneNode = record { repository = n.repository; live = None } in (
+          m,
+          Fault Memory,
+          None,
+          record {
+            awaited = held.awaited;
+            is_awaited = subst (λ w. IsAwaited w held.awaited) (sym awaits) held.is_awaited;
+            holds = subst (λ (b : Bool). HoldsNode (content new.files) b held.awaited m) (sym is_down)
+                (subst (λ (f : F). HoldsNode (content f) false held.awaited m) (sym files) (record { shows = record { spells = held.holds.shows.spells; live = refl }; clean = held.holds.clean }));
+            steady = subst (λ (f : F). IsSteady can_fail left f) (sym files) held.steady;
+          },
+          record { answer = refl; sent = refl },
+          λ h. absurd (cc),
+          λ sound zeros. (Asks Interrupted, ((λ none. absurd (cc)), inl refl), faulted held.awaited Memory live (λ h. absurd (cc)) refl refl refl),
+        );
+  }
+
+  pub memory_halted : (P : Repository → ℕ → Type 0) (old new : Held F) (e : Ended) → old.is_up ≡ true → new.is_up ≡ false → new.files ≡ old.files → new.awaited ≡ old.awaited → e ≡ ended.Fault files.Memory
+      → CloneCalled Holds (Fails P) (Shows (Err e)) old new
+  memory_halted P old new e up is_down files awaits is = subst (λ (e : Ended). CloneCalled Holds (Fails P) (Shows (Err e)) old new) (sym is) (halted P old new up is_down files awaits)
+
+  -- ---- several values
+
+  -- one more of the front of a list of expressions
+  pub ids_more : (texts : List (Vec ℕ Global)) (i : ℕ) (text : Vec ℕ Global) (ids after : List ObjectId) (old mid new : Held F) → i < length texts
+      → Finds Holds (AreIds (take i texts) ids) old mid → IsOneMore content can_fail left (get_or texts i text).items ids after mid new → Finds Holds (AreIds (take (i + 1) texts) after) old new
+  ids_more texts i text ids after old mid new below finds more =
+      finds_more Holds (AreIds (take i texts) ids) (IsValue (get_or texts i text).items more.id) (AreIds (take (i + 1) texts) after) old mid new finds more.finds
+      (λ r p q. subst (λ (ts : List (Vec ℕ Global)). AreIds ts after r) (sym (take_more texts i text below))
+      (subst (λ (a : List ObjectId). AreIds (take i texts ++ get_or texts i text ∷ []) a r) (sym more.behind) (values_more r (take i texts) (get_or texts i text) ids more.id p q)))
+
+  pub ids_fail : (texts : List (Vec ℕ Global)) (i : ℕ) (text : Vec ℕ Global) (ids : List ObjectId) (e : Ended) (old mid new : Held F) → i < length texts
+      → Finds Holds (AreIds (take i texts) ids) old mid → CloneCalled Holds (Fails (IsNoValue (get_or texts i text).items)) (Shows (Err e)) mid new → CloneCalled Holds (Fails (AreNoIds texts)) (Shows (Err e)) old new
+  ids_fail texts i text ids e old mid new below finds fails =
+      fails_later Holds (AreIds (take i texts) ids) (IsNoValue (get_or texts i text).items) (AreNoIds texts) (Shows (Err e)) old mid new finds fails
+      (λ r k p q. subst (λ (ts : List (Vec ℕ Global)). AreNoIds ts r k) (sym (split_at texts i text below)) (values_fail r (take i texts) (get_or texts i text) (drop (suc i) texts) ids k p q))
+
+  -- none yet, and all
+  pub ids_none : (texts : List (Vec ℕ Global)) (ids : List ObjectId) (v : Held F) → v.is_up ≡ true → ids ≡ [] → Finds Holds (AreIds (take 0 texts) ids) v v
+  ids_none texts ids v up none = finds_more Holds (λ r. Unit {0}) (λ r. Unit {0}) (AreIds (take 0 texts) ids) v v v (finds_none v v up refl) (finds_none v v up refl)
+      (λ r p q. subst (λ (ids : List ObjectId). AreIds (take 0 texts) ids r) (sym none) refl)
+
+  pub ids_whole : (texts : List (Vec ℕ Global)) (i : ℕ) (ids : List ObjectId) (old new : Held F) → i ≡ length texts → Finds Holds (AreIds (take i texts) ids) old new → Finds Holds (AreIds texts ids) old new
+  ids_whole texts i ids old new end finds = subst (λ (ts : List (Vec ℕ Global)). Finds Holds (AreIds ts ids) old new) (ap (λ (n : ℕ). take n texts) end ∙ take_whole texts) finds
+
+  -- the failure that a result tells of
+  pub failure : {T : Type 0} (P Q : Repository → ℕ → Type 0) (r : Result T Ended) (e : Ended) (old new : Held F) → r ≡ Err e → ((s : Repository) (k : ℕ) → P s k → Q s k)
+      → IfErr r (λ e. CloneCalled Holds (Fails P) (Shows (Err e)) old new) → CloneCalled Holds (Fails Q) (Shows (Err e)) old new
+  failure {T} P Q r e old new is wider fails =
+      let c : CloneCalled Holds (Fails P) (Shows (Err e)) old new = subst (λ (r : Result T Ended). IfErr r (λ e. CloneCalled Holds (Fails P) (Shows (Err e)) old new)) is fails in
+      record {
+        each = λ n held. let m = c.each n held in (
+          m.0,
+          m.1,
+          m.2,
+          m.3,
+          m.4,
+          m.5,
+          λ sound zeros. let k = m.6 sound zeros in (k.0, (k.1.0, elim k.1.1 [ inl i ↦ inl i | inr f ↦ inr (f.0, wider n.repository f.0 f.1, f.2) ]), k.2),
+        );
+      }
+
+  -- ---- the items of a push
+
+  pub items_more : (named : List NamedItem) (i : ℕ) (one : NamedItem) (items after : List PushItem) (old mid new : Held F) → i < length named
+      → Finds Holds (ArePushed (take i named) items) old mid → IsOneMoreItem content can_fail left (get_or named i one) items after mid new → Finds Holds (ArePushed (take (i + 1) named) after) old new
+  items_more named i one items after old mid new below finds more =
+      finds_more Holds (ArePushed (take i named) items) (IsItemFor (get_or named i one) more.item) (ArePushed (take (i + 1) named) after) old mid new finds more.finds
+      (λ r p q. subst (λ (ns : List NamedItem). ArePushed ns after r) (sym (take_more named i one below))
+      (subst (λ (a : List PushItem). ArePushed (take i named ++ get_or named i one ∷ []) a r) (sym more.behind) (items_behind r (take i named) (get_or named i one) items more.item p q)))
+
+  pub items_fail : (named : List NamedItem) (i : ℕ) (one : NamedItem) (items : List PushItem) (e : Ended) (old mid new : Held F) → i < length named
+      → Finds Holds (ArePushed (take i named) items) old mid → CloneCalled Holds (Fails (IsNoItem (get_or named i one))) (Shows (Err e)) mid new → CloneCalled Holds (Fails (AreNotPushed named)) (Shows (Err e)) old new
+  items_fail named i one items e old mid new below finds fails =
+      fails_later Holds (ArePushed (take i named) items) (IsNoItem (get_or named i one)) (AreNotPushed named) (Shows (Err e)) old mid new finds fails
+      (λ r k p q. subst (λ (ns : List NamedItem). AreNotPushed ns r k) (sym (split_at named i one below)) (items_refused r (take i named) (get_or named i one) (drop (suc i) named) items k p q))
+
+  pub items_none : (named : List NamedItem) (items : List PushItem) (v : Held F) → v.is_up ≡ true → items ≡ [] → Finds Holds (ArePushed (take 0 named) items) v v
+  items_none named items v up none = finds_more Holds (λ r. Unit {0}) (λ r. Unit {0}) (ArePushed (take 0 named) items) v v v (finds_none v v up refl) (finds_none v v up refl)
+      (λ r p q. subst (λ (items : List PushItem). ArePushed (take 0 named) items r) (sym none) refl)
+
+  pub items_whole : (named : List NamedItem) (i : ℕ) (items : List PushItem) (old new : Held F) → i ≡ length named → Finds Holds (ArePushed (take i named) items) old new → Finds Holds (ArePushed named items) old new
+  items_whole named i items old new end finds = subst (λ (ns : List NamedItem). Finds Holds (ArePushed ns items) old new) (ap (λ (n : ℕ). take n named) end ∙ take_whole named) finds
+
+  -- nothing was looked for: an item that is deleted
+  pub item_gone : (named : NamedItem) (item : PushItem) (old new : Held F) → old.is_up ≡ true → new ≡ old → named.value ≡ None → item ≡ record { id = None; name = named.name } → Finds Holds (IsItemFor named item) old new
+  item_gone named item old new up same none is = finds_more Holds (λ r. Unit {0}) (λ r. Unit {0}) (IsItemFor named item) old old new (finds_none old old up refl) (finds_none old new up same)
+      (λ r p q. (ap (λ (i : PushItem). i.name) is, inl (none, ap (λ (i : PushItem). i.id) is)))
+
+  pub item_there : (named : NamedItem) (text : Vec ℕ Global) (bytes : List ℕ) (id : ObjectId) (item : PushItem) (old new : Held F) → named.value ≡ Some text → bytes ≡ text.items → item ≡ record { id = Some id; name = named.name }
+      → Finds Holds (IsValue bytes id) old new → Finds Holds (IsItemFor named item) old new
+  item_there named text bytes id item old new some same is finds = record {
+    each = λ n held. let m = finds.each n held in (
+      m.0,
+      m.1,
+      λ sound. let k = m.2 sound in (k.0, k.1, (ap (λ (i : PushItem). i.name) is, inr (text, id, some, ap (λ (i : PushItem). i.id) is, subst (λ (b : List ℕ). IsValue b id n.repository) same k.2))),
+    );
+  }
+
+  -- ---- a push with the zero id
+
+  pub zero_push : (old new : Held F) (items : List PushItem) (k : ℕ) → old.is_up ≡ true → new ≡ old → HasZero items → (((256 < length items) × (k ≡ 84)) ⊎ ((length items ≤ 256) × (k ≡ 40)))
+      → CloneCalled Holds (IsOnly (Command (StartPush false (machine_items items)))) (Shows (Err (ended.Refused k))) old new
+  zero_push old new items k up same has which = record {
+    each = λ n held. (
+      n,
+      Declined k,
+      None,
+      subst (λ (v : Held F). Holds v n) (sym same) held,
+      record { answer = refl; sent = refl },
+      λ h. absurd (cc),
+      λ sound zeros.
+          let z = zero_refused n items sound zeros has in
+          let refuses : Refuses git git_rules n.repository (StartPush false (machine_items items)) k = elim which [
+            | inl many ↦ subst (λ (k : ℕ). Refuses git git_rules n.repository (StartPush false (machine_items items)) k) (sym many.1) (z.0 many.0)
+            | inr few ↦ subst (λ (k : ℕ). Refuses git git_rules n.repository (StartPush false (machine_items items)) k) (sym few.1) (z.1 few.0)
+          ] in
+          (Command (StartPush false (machine_items items)), refl, refused held.awaited k (live_some old n up held) refuses refl refl refl),
+    );
+  }
+
+  -- a local command is the order whose task it is
+  pub local_order : (P : Repository → Type 0) (old mid new : Held F) (task : Task) (o : Order) (answer : Answer) (IsDevice : Type 0) (r : Result Told Ended) → Finds Holds P old mid
+      → Answers task answer mid.is_up new.is_up (content mid.files) (content new.files) → new.awaited ≡ mid.awaited → StaysSteady can_fail left mid.files new.files IsDevice → IsRetold (ClonesQuietly answer) IsDevice r
+      → ((s : Repository) → P s → IsTaskOf git git_rules s o (Ok task)) → CloneCalled Holds (Obeys o) (Shows r) old new
+  local_order P old mid new task o answer IsDevice r finds answers awaits steady retold tasks =
+      ordered Holds P task o (Shows r) old mid new finds (local_called mid new task answer IsDevice r answers awaits steady retold) tasks
+
+  -- an order whose expression has no value
+  pub unread_order : {T : Type 0} (P : Repository → ℕ → Type 0) (o : Order) (r : Result T Ended) (e : Ended) (old new : Held F) → r ≡ Err e
+      → IfErr r (λ e. CloneCalled Holds (Fails P) (Shows (Err e)) old new) → ((s : Repository) (k : ℕ) → P s k → IsTaskOf git git_rules s o (Err k)) → CloneCalled Holds (Obeys o) (Shows (Err e)) old new
+  unread_order P o r e old new is fails task = failed_order Holds P o (Shows (Err e)) old new (failure P P r e old new is (λ s k p. p) fails) task
+
+  -- the value that a result tells of
+  pub finding : {T : Type 0} (P : T → Repository → Type 0) (r : Result T Ended) (x : T) (old new : Held F) → r ≡ Ok x → IfOk r (λ x. Finds Holds (P x) old new) → Finds Holds (P x) old new
+  finding {T} P r x old new is finds = subst (λ (r : Result T Ended). IfOk r (λ x. Finds Holds (P x) old new)) is finds
+
+  pub halted_order : (o : Order) (old new : Held F) (e : Ended) → old.is_up ≡ true → new.is_up ≡ false → new.files ≡ old.files → new.awaited ≡ old.awaited → e ≡ ended.Fault files.Memory → CloneCalled Holds (Obeys o) (Shows (Err e)) old new
+  halted_order o old new e up is_down files awaits is = failed_order Holds (λ r k. ⊥) o (Shows (Err e)) old new (memory_halted (λ r k. ⊥) old new e up is_down files awaits is) (λ s k p. absurd p)
+
+  -- an order said in other words
+  pub other_order : (o p : Order) (shows : Answer → Option Message → Type 0) (old new : Held F) → o ≡ p → CloneCalled Holds (Obeys p) shows old new → CloneCalled Holds (Obeys o) shows old new
+  other_order o p shows old new same called = subst (λ (o : Order). CloneCalled Holds (Obeys o) shows old new) (sym same) called

@@ -1,0 +1,19 @@
+use Rattle.std.proofs.Common.{false, rules, refl}
+use Rattle.vc_exchange.specs.Sending.{machine_items}
+use Rattle.vc_model.specs.Clone.Task.{StartPush}
+use Rattle.vc_model.specs.CloneCall.CloneCall.{Command}
+use Rattle.vc_node.specs.CloneCalls.{SentAs}
+use Rattle.vc_node.specs.CloneFaults.{TellsDevice}
+use Rattle.vc_simulation.proofs.CloneLemmas.{exchange_called, zero_push}
+use Rattle.vc_simulation.proofs.ItemLemmas.{no_zero_pushed}
+use Rattle.vc_simulation.proofs.SteadyLemmas.{worn_steady}
+use Rattle.vc_simulation.proofs.world_clone.WorldClone.start_push.Goals as goal
+
+pub returns-then-has_zero : goal.returns-then-has_zero
+returns-then-has_zero g c = record { answers = λ honest. zero_push g.F.Files.content g.F.Files.can_fail g.F.Files.left _ _ c.args.items.now _ c.requires.up refl (c.has_zero.ensures.zero (search rules)) (search rules) }
+
+pub returns : goal.returns
+returns g c = record {
+  answers = λ honest. exchange_called g.F.Files.content g.F.Files.can_fail g.F.Files.left _ _ (Command (StartPush false (machine_items c.args.items.now))) (SentAs c.start_push-called.result) (TellsDevice c.start_push-called.result) _
+      (c.start_push-called.ensures.answers honest (no_zero_pushed c.args.items.now (c.has_zero.ensures.none (search rules)))) (worn_steady g.F.Files.failed g.F.Files.can_fail g.F.Files.left _ _ _ c.start_push-called.ensures.wear) c.sent.ensures;
+}

@@ -1,0 +1,104 @@
+// The shared node of a world, over files, as events call it.
+ghost use Rattle.std.specs.FinMap.{empty as no_files};
+ghost use Rattle.std.specs.Prelude.{◌≡◌, IfErr, IfOk, true};
+ghost use Rattle.vc_events.specs.Answers.{Shows};
+ghost use Rattle.vc_events.specs.Calls.{SharedCalled};
+ghost use Rattle.vc_events.specs.World.{fresh_shared};
+ghost use Rattle.vc_model.specs.Question.Question.{Resolve};
+ghost use Rattle.vc_model.specs.SharedCall.SharedCall.{Asks as AsksShared};
+ghost use Rattle.vc_node.specs.Blames.{BlamesOpen};
+ghost use Rattle.vc_simulation.specs.Nodes.{HoldsServed, IsSteady};
+ghost use Rattle.vc_simulation.specs.Values.{FindsShared, IsValue};
+
+use crate::ends::{DOWN, NO_EXPRESSION, accepted, shared_restarted, shared_value, stepped};
+use std::alloc::Global;
+use vc_events::{Deed, Ended, SharedCalls, Told};
+use vc_files::{Fault, Files};
+use vc_node::NodeFault;
+use vc_object::ObjectId;
+use vc_rev::{ParseFault, parse};
+use vc_shared::Shared;
+
+/// The first number that is none of a slot.
+const NO_SLOT: u8 = 8;
+
+/// The shared node of a world.
+#[derive(Drop)]
+pub struct WorldShared<F> {
+    pub(crate) node: Shared<F>,
+}
+
+impl<F: Files> WorldShared<F> {
+    /// The shared node that these files hold. Where there are none yet, it is a new one. Files that are none of a node's are handed back.
+    pub fn open(alloc: Global, files: F) -> Result<WorldShared<F>, (F, NodeFault)>
+        ensures new { F.honest → IsSteady F.can_fail F.left files → F.content files ≡ no_files → IfOk result (λ shared. HoldsServed F.content F.can_fail F.left shared.node fresh_shared) }
+        ensures refused { F.honest → IfErr result (λ e. BlamesOpen (F.content files) e.1) }
+    {
+        match Shared::open(alloc, files) {
+            Ok(node) => Ok(WorldShared { node }),
+            Err(back) => Err(back),
+        }
+    }
+
+    // The value of an expression, of a node that is up.
+    fn value(&mut self, alloc: Global, text: &[u8]) -> Result<ObjectId, Ended>
+        requires { self.old.node.is_up ≡ true }
+        ensures found { F.honest → IfOk result (λ id. FindsShared (λ v n. HoldsServed F.content F.can_fail F.left v n) (IsValue text.now id) self.old.node self.new.node) }
+        ensures err { F.honest → IfErr result (λ e. SharedCalled (λ v n. HoldsServed F.content F.can_fail F.left v n) (AsksShared (Resolve text.now)) (Shows (Err e)) self.old.node self.new.node) }
+        ensures up { IfOk result (λ id. self.new.node.is_up ≡ true) }
+    {
+        let expr = match parse(alloc, text) {
+            Ok(expr) => expr,
+            Err(ParseFault::BadSyntax(_)) => return Err(Ended::Refused(NO_EXPRESSION)),
+            Err(ParseFault::Memory) => {
+                self.node.take_down();
+                return Err(Ended::Fault(Fault::Memory));
+            }
+        };
+        let called = self.node.resolve(&expr);
+        shared_value(called)
+    }
+}
+
+impl<F: Files> SharedCalls for WorldShared<F> {
+    ghost use Rattle.vc_simulation.specs.Nodes.{HoldsServed};
+
+    ghost honest = { F.honest };
+
+    ghost holds = { λ s n. HoldsServed F.content F.can_fail F.left s.node n };
+
+    fn deliver(&mut self, bytes: &[u8]) -> Result<Told, Ended> {
+        let called = self.node.accept(bytes);
+        accepted(called)
+    }
+
+    fn advance(&mut self, slot: usize) -> Result<Told, Ended> {
+        let place = if slot < 8 { slot as u8 } else { NO_SLOT };
+        let called = self.node.step(place);
+        stepped(called)
+    }
+
+    fn compare(&mut self, alloc: Global, first: &[u8], second: &[u8]) -> Result<Told, Ended> {
+        if !self.node.is_up() {
+            return Err(Ended::Refused(DOWN));
+        }
+        let one = match self.value(alloc, first) {
+            Ok(one) => one,
+            Err(end) => return Err(end),
+        };
+        let two = match self.value(alloc, second) {
+            Ok(two) => two,
+            Err(end) => return Err(end),
+        };
+        if one == two {
+            Ok(Told::Did(Deed::Same))
+        } else {
+            Ok(Told::Did(Deed::Differs))
+        }
+    }
+
+    fn reopen(&mut self) -> Result<Told, Ended> {
+        let called = self.node.restart();
+        shared_restarted(called)
+    }
+}
