@@ -25,8 +25,8 @@ use Rattle.vc_model.specs.CloneCall.CloneCall.{Asks, Command, Open}
 use Rattle.vc_model.specs.Message.{Message}
 use Rattle.vc_model.specs.Node.{Answer}
 use Rattle.vc_model.specs.Node.Answer.{Declined, Did, Fault}
-use Rattle.vc_model.specs.Node.Failure.{Device, Memory}
-use Rattle.vc_model.specs.Node.Reply.{Differs, Found, Same}
+use Rattle.vc_model.specs.Node.Failure.{Memory}
+use Rattle.vc_model.specs.Node.Reply.{Found}
 use Rattle.vc_model.specs.Object.{Id}
 use Rattle.vc_model.specs.Order.{AreValues, Order, IsTaskOf, with_first}
 use Rattle.vc_model.specs.Question.{Question, Tells}
@@ -46,7 +46,7 @@ use Rattle.vc_rules.proofs.GitLaws.{git_rules}
 use Rattle.vc_rules.specs.Git.{git}
 use Rattle.vc_events.proofs.RunLemmas.{take_whole}
 use Rattle.vc_simulation.proofs.ItemLemmas.{items_behind, items_refused, zero_refused}
-use Rattle.vc_simulation.proofs.SharedLemmas.{found_is, refused_is}
+use Rattle.vc_simulation.proofs.ValueLemmas.{comparison, found_is, refused_is}
 use Rattle.vc_simulation.proofs.SteadyLemmas.{StaysSteady, told_calm}
 use Rattle.vc_simulation.specs.Nodes.{HoldsClone, IsRetold, IsSteady}
 use Rattle.vc_simulation.specs.Values.{AreIds, AreNoIds, AreNotPushed, ArePushed, Fails, Finds, HasZero, IsItemFor, IsNoItem, IsNoValue, IsOneMore, IsOneMoreItem, IsValue, Obeys}
@@ -229,7 +229,7 @@ module _ {C : Type 0} (holds : C → CloneNode → Type 0) where
     each = λ n held.
         let both = finds_more (IsValue first x) (IsValue second y) (λ r. IsValue first x r × IsValue second y r) old mid new one two (λ r p q. (p, q)) in
         let c = both.each n held in
-        let a = answer either in (
+        let a = comparison x y d either in (
           c.0,
           a.0,
           None,
@@ -249,21 +249,6 @@ module _ {C : Type 0} (holds : C → CloneNode → Type 0) where
           go : (l : Option Awaited) → n.live ≡ l → (s : Awaited) × (n.live ≡ Some s)
           go (Some s) is = (s, is)
           go None is = absurd (live is)
-
-      answer : ((x ≡ y) × (d ≡ deed.Same)) ⊎ ((bytes_of_id x ≢ bytes_of_id y) × (d ≡ deed.Differs)) → (a : Answer) × Shows (Ok (told.Did d)) a None × (a ≢ Fault Device)
-          × (((n : ℕ) × (◌≡◌ {A = Result Id ℕ} (Ok (bytes_of_id y)) (Err n)) × (a ≡ Declined n)) ⊎ (((◌≡◌ {A = Result Id ℕ} (Ok (bytes_of_id y)) (Ok (bytes_of_id x))) × (a ≡ Did Same)) ⊎ ((z : Id) × (◌≡◌ {A = Result Id ℕ} (Ok (bytes_of_id y)) (Ok z)) × (bytes_of_id x ≢ z) × (a ≡ Did Differs))))
-      answer (inl h) = (
-        Did Same,
-        subst (λ (d : Deed). Shows (Ok (told.Did d)) (Did Same) None) (sym h.1) (tt, record { answer = refl; sent = refl }),
-        (λ h. absurd (cc)),
-        inr (inl (ap (λ (z : ObjectId). Ok (bytes_of_id z)) (sym h.0), refl)),
-      )
-      answer (inr h) = (
-        Did Differs,
-        subst (λ (d : Deed). Shows (Ok (told.Did d)) (Did Differs) None) (sym h.1) (tt, record { answer = refl; sent = refl }),
-        (λ h. absurd (cc)),
-        inr (inr (bytes_of_id y, refl, h.0, refl)),
-      )
 
 -- a comparison is refused for the first expression that has no value
 pub no_comparison : (first second : List ℕ) (r : Repository) (k : ℕ) → IsNoValue first r k → Tells git git_rules r (Compare first second) (Declined k)

@@ -1,5 +1,6 @@
 pub mod EndLemmas
 pub mod SteadyLemmas
+pub mod ValueLemmas
 pub mod SharedLemmas
 pub mod ItemLemmas
 pub mod CloneLemmas

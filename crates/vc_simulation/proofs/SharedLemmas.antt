@@ -1,5 +1,5 @@
 -- Calls of the shared node, in the world's words.
-use Rattle.std.proofs.Common.{◌≡◌, ◌≢◌, ◌≤◌, ℕ, Bool, true, false, List, Option, Some, None, Result, Ok, Err, ◌⊎◌, inl, inr, refl, sym, ap, ◌∙◌, subst}
+use Rattle.std.proofs.Common.{◌≡◌, ◌≢◌, ◌≤◌, ℕ, Bool, true, false, List, Option, Some, None, Result, Ok, Err, ◌⊎◌, inl, inr, refl, sym, ◌∙◌, subst}
 use Rattle.std.specs.FinMap.{get}
 use Rattle.std.specs.Prelude.{IfErr, IfOk}
 use Rattle.vc_events.specs.Answers.{Shows, answer_of}
@@ -16,11 +16,10 @@ use Rattle.vc_format.specs.Git.{bytes_of_id}
 use Rattle.vc_model.specs.Message.{Message}
 use Rattle.vc_model.specs.Node.{Answer, Deed as MachineDeed}
 use Rattle.vc_model.specs.Node.Answer.{Declined, Did, Fault}
-use Rattle.vc_model.specs.Node.Failure.{Device, Memory}
-use Rattle.vc_model.specs.Node.Reply.{Differs, Found, Same}
-use Rattle.vc_model.specs.Object.{Id}
+use Rattle.vc_model.specs.Node.Failure.{Memory}
+use Rattle.vc_model.specs.Node.Reply.{Found}
 use Rattle.vc_model.specs.Push.{Slots}
-use Rattle.vc_model.specs.Question.{Question, Tells, found}
+use Rattle.vc_model.specs.Question.{Question, Tells}
 use Rattle.vc_model.specs.Question.Question.{Compare, Resolve}
 use Rattle.vc_model.specs.Repository.{IsBare, IsSound, Repository}
 use Rattle.vc_model.specs.Shared.{SharedNode, StepsSlot}
@@ -37,19 +36,9 @@ use Rattle.vc_shared.specs.Resolving.{FoundAs}
 use Rattle.vc_shared.specs.declared.fault.SharedFault.{SharedFault}
 use Rattle.vc_shared.specs.Holding.{HoldsShared, IsLive, SharedText}
 use Rattle.vc_simulation.proofs.SteadyLemmas.{StaysSteady, told_calm}
+use Rattle.vc_simulation.proofs.ValueLemmas.{comparison, found_is, refused_is}
 use Rattle.vc_simulation.specs.Nodes.{HoldsServed, IsRetold, IsSteady}
-use Rattle.vc_simulation.specs.Values.{FindsShared, IsNoValue, IsValue}
-
--- a value that is found is one
-pub found_is : (r : Repository) (text : List ℕ) (id : ObjectId) (v : Result Id ℕ) → git_rules.denotes r text v → Did (Found (bytes_of_id id)) ≡ found v → IsValue text id r
-found_is r text id (Ok x) denotes is = let e : bytes_of_id id ≡ x = cc in subst (λ (x : Id). git_rules.denotes r text (Ok x)) (sym e) denotes
-found_is r text id (Err k) denotes is = absurd (cc)
-
--- one that is refused has a number
-pub refused_is : (r : Repository) (text : List ℕ) (e : Ended) (v : Result Id ℕ) → git_rules.denotes r text v → answer_of e ≡ found v → (k : ℕ) × IsNoValue text r k × (answer_of e ≡ Declined k)
-refused_is r text (ended.Refused n) (Ok x) denotes is = absurd (cc)
-refused_is r text (ended.Fault f) (Ok x) denotes is = absurd (cc)
-refused_is r text e (Err k) denotes is = (k, denotes, is)
+use Rattle.vc_simulation.specs.Values.{FindsShared, IsValue}
 
 module _ {F : Type 0} (content : F → FileMap) (can_fail : F → Type 0) (left : F → Option ℕ) where
   abbrev pub Holds : SharedText F → SharedNode → Type 0
@@ -232,7 +221,7 @@ module _ {F : Type 0} (content : F → FileMap) (can_fail : F → Type 0) (left 
     each = λ n held.
         let r = one.each n held in
         let c = two.each r.0 r.1 in
-        let a = answer either in (
+        let a = comparison x y d either in (
           c.0,
           a.0,
           None,
@@ -254,21 +243,6 @@ module _ {F : Type 0} (content : F → FileMap) (can_fail : F → Type 0) (left 
           go : (l : Option Slots) → n.live ≡ l → (s : Slots) × (n.live ≡ Some s)
           go (Some s) is = (s, is)
           go None is = absurd (live is)
-
-      answer : ((x ≡ y) × (d ≡ deed.Same)) ⊎ ((bytes_of_id x ≢ bytes_of_id y) × (d ≡ deed.Differs)) → (a : Answer) × Shows (Ok (told.Did d)) a None × (a ≢ Fault Device)
-          × (((n : ℕ) × (◌≡◌ {A = Result Id ℕ} (Ok (bytes_of_id y)) (Err n)) × (a ≡ Declined n)) ⊎ (((◌≡◌ {A = Result Id ℕ} (Ok (bytes_of_id y)) (Ok (bytes_of_id x))) × (a ≡ Did Same)) ⊎ ((z : Id) × (◌≡◌ {A = Result Id ℕ} (Ok (bytes_of_id y)) (Ok z)) × (bytes_of_id x ≢ z) × (a ≡ Did Differs))))
-      answer (inl h) = (
-        Did Same,
-        subst (λ (d : Deed). Shows (Ok (told.Did d)) (Did Same) None) (sym h.1) (tt, record { answer = refl; sent = refl }),
-        (λ h. absurd (cc)),
-        inr (inl (ap (λ (z : ObjectId). Ok (bytes_of_id z)) (sym h.0), refl)),
-      )
-      answer (inr h) = (
-        Did Differs,
-        subst (λ (d : Deed). Shows (Ok (told.Did d)) (Did Differs) None) (sym h.1) (tt, record { answer = refl; sent = refl }),
-        (λ h. absurd (cc)),
-        inr (inr (bytes_of_id y, refl, h.0, refl)),
-      )
 
   -- ---- what is no expression, and want of memory where one is read
 

@@ -1,5 +1,6 @@
 -- The machine's nodes that a world's nodes are, over a device that neither fails by itself nor was stopped.
-use Rattle.std.specs.Prelude.{◌≡◌, ℕ, Option, None, Result, Err}
+use Rattle.std.specs.Prelude.{◌≡◌, ℕ, Option, None, Some, Result, Err}
+use Rattle.std.specs.FinMap.{empty}
 use Rattle.vc_events.specs.Answers.{Shows}
 use Rattle.vc_events.specs.declared.answers.Ended.{Ended}
 use Rattle.vc_events.specs.declared.answers.Ended.TheVariants as ended
@@ -9,6 +10,7 @@ use Rattle.vc_files.specs.declared.faults.Fault.TheVariants.{Device}
 use Rattle.vc_model.specs.Clone.{Awaited, CloneNode}
 use Rattle.vc_model.specs.Message.{Message}
 use Rattle.vc_model.specs.Node.{Answer}
+use Rattle.vc_model.specs.Repository.{Repository}
 use Rattle.vc_model.specs.Shared.{SharedNode}
 use Rattle.vc_node.specs.Awaited.{IsAwaited}
 use Rattle.vc_node.specs.Held.{Held}
@@ -34,3 +36,7 @@ pub record HoldsClone {F : Type 0} (content : F → FileMap) (can_fail : F → T
 pub record IsRetold (shows : Answer → Option Message → Type 0) (IsDevice : Type 0) (told : Result Told Ended) : Type 0 where
   pub shown : (a : Answer) (sends : Option Message) → shows a sends → Shows told a sends
   pub calm : told ≡ Err (ended.Fault Device) → IsDevice
+
+-- a shared node that has just been opened
+abbrev pub opened_shared : Repository → SharedNode
+opened_shared r = record { repository = r; live = Some empty }

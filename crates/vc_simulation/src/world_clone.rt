@@ -9,7 +9,9 @@ ghost use Rattle.vc_exchange.specs.Sending.{machine_items};
 ghost use Rattle.vc_model.specs.Clone.Task.{StartPush};
 ghost use Rattle.vc_model.specs.CloneCall.CloneCall.{Command};
 ghost use Rattle.vc_model.specs.Order.Order.{BranchAt, CommitIndex, DropBranch, Fetch, HeadAt, HeadOn, LoadIndex, PushItems, StageFile, StoreObject, UnstageFile};
+ghost use Rattle.vc_model.specs.Repository.{Repository};
 ghost use Rattle.vc_node.specs.Blames.{BlamesOpen};
+ghost use Rattle.vc_node.specs.Opening.{IsOpenable, opened_node};
 ghost use Rattle.vc_rules.specs.Git.{machine_object, mode_number};
 ghost use Rattle.vc_simulation.specs.Nodes.{HoldsClone, IsSteady};
 ghost use Rattle.vc_simulation.specs.Values.{AreIds, AreNoIds, AreNotPushed, ArePushed, Fails, Finds, HasZero, IsItemFor, IsNoItem, IsNoValue, IsOneMore, IsOneMoreItem, IsValue, Obeys};
@@ -51,10 +53,13 @@ fn has_zero(items: &[PushItem]) -> bool
 }
 
 impl<F: Files> WorldClone<F> {
-    /// The clone that these files hold. Where there are none yet, it is a new one. Files that are none of a clone's are handed back.
+    /// The clone that these files hold, up and awaiting nothing. Where there are none yet, it is a new one. Files that are none of a
+    /// clone's (33 and 34: HEAD, 62: the index) are handed back as they were, and so are they where a fault comes.
     pub fn open(alloc: Global, files: F) -> Result<WorldClone<F>, (F, NodeFault)>
+        ensures opens { F.honest → IsSteady F.can_fail F.left files → (r : Repository) → IsOpenable (F.content files) r → IfOk result (λ clone. HoldsClone F.content F.can_fail F.left clone.node (opened_node r)) }
         ensures new { F.honest → IsSteady F.can_fail F.left files → F.content files ≡ no_files → IfOk result (λ clone. HoldsClone F.content F.can_fail F.left clone.node fresh_clone) }
         ensures refused { F.honest → IfErr result (λ e. BlamesOpen (F.content files) e.1) }
+        ensures err { F.honest → IfErr result (λ e. F.content e.0 ≡ F.content files) }
     {
         match CloneNode::open(alloc, files) {
             Ok(node) => Ok(WorldClone { node }),

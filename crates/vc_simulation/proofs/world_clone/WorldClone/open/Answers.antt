@@ -1,7 +1,15 @@
-use Rattle.std.proofs.Common.{rules}
-use Rattle.vc_simulation.proofs.OpenLemmas.{clone_opened}
+use Rattle.std.proofs.Common.{true, rules}
+use Rattle.vc_model.specs.Clone.Awaited.{Nothing}
+use Rattle.vc_model.specs.World.{empty_repository}
+use Rattle.vc_node.specs.Machine.{HoldsNode}
+use Rattle.vc_node.specs.Opening.{opened_node}
+use Rattle.vc_simulation.proofs.OpenLemmas.{clone_opened, in_ok, new_openable}
 use Rattle.vc_simulation.proofs.SteadyLemmas.{written_steady}
 use Rattle.vc_simulation.proofs.world_clone.WorldClone.open.Goals as goal
 
+pub returns-in-Ok-clause-opens : goal.returns-in-Ok-clause-opens
+returns-in-Ok-clause-opens g c honest steady r openable = clone_opened g.F.Files.content g.F.Files.can_fail g.F.Files.left c.args.files c.in-Ok.node ⊥ r
+    (in_ok (λ v. HoldsNode (g.F.Files.content v.files) true Nothing (opened_node r)) c.open.result c.in-Ok.node c.in-Ok.is (c.open.ensures.opens honest r openable)) (search rules) (search rules) (written_steady g.F.Files.honest g.F.Files.content g.F.Files.failed g.F.Files.can_fail g.F.Files.left _ _ _ (search rules)) steady
+
 pub returns-in-Ok-clause-new : goal.returns-in-Ok-clause-new
-returns-in-Ok-clause-new g c honest steady none = clone_opened g.F.Files.content g.F.Files.can_fail g.F.Files.left c.args.files c.in-Ok.node ⊥ (λ r openable. search rules) (search rules) (search rules) (written_steady g.F.Files.honest g.F.Files.content g.F.Files.failed g.F.Files.can_fail g.F.Files.left _ _ _ (search rules)) steady none
+returns-in-Ok-clause-new g c honest steady none = returns-in-Ok-clause-opens g c honest steady empty_repository (new_openable g.F.Files.content g.F.Files.can_fail g.F.Files.left c.args.files none)

@@ -1,9 +1,14 @@
-use Rattle.std.proofs.Common.{Some, true, rules}
-use Rattle.std.specs.FinMap.{empty}
+use Rattle.std.proofs.Common.{true, rules}
+use Rattle.vc_model.specs.World.{empty_repository}
 use Rattle.vc_shared.specs.Holding.{HoldsShared}
-use Rattle.vc_simulation.proofs.OpenLemmas.{in_ok, shared_opened}
+use Rattle.vc_simulation.proofs.OpenLemmas.{in_ok, new_openable, shared_opened}
 use Rattle.vc_simulation.proofs.SteadyLemmas.{written_steady}
+use Rattle.vc_simulation.specs.Nodes.{opened_shared}
 use Rattle.vc_simulation.proofs.world_shared.WorldShared.open.Goals as goal
 
+pub returns-in-Ok-clause-opens : goal.returns-in-Ok-clause-opens
+returns-in-Ok-clause-opens g c honest steady r openable = shared_opened g.F.Files.content g.F.Files.can_fail g.F.Files.left c.args.files c.in-Ok.node ⊥ r
+    (in_ok (λ v. HoldsShared (g.F.Files.content v.files) v.slots true (opened_shared r)) c.open.result c.in-Ok.node c.in-Ok.is (c.open.ensures.opens honest r openable)) (search rules) (written_steady g.F.Files.honest g.F.Files.content g.F.Files.failed g.F.Files.can_fail g.F.Files.left _ _ _ (search rules)) steady
+
 pub returns-in-Ok-clause-new : goal.returns-in-Ok-clause-new
-returns-in-Ok-clause-new g c honest steady none = shared_opened g.F.Files.content g.F.Files.can_fail g.F.Files.left c.args.files c.in-Ok.node ⊥ (λ r openable. in_ok (λ v. HoldsShared (g.F.Files.content v.files) v.slots true (record { repository = r; live = Some empty })) c.open.result c.in-Ok.node c.in-Ok.is (c.open.ensures.opens honest r openable)) (search rules) (written_steady g.F.Files.honest g.F.Files.content g.F.Files.failed g.F.Files.can_fail g.F.Files.left _ _ _ (search rules)) steady none
+returns-in-Ok-clause-new g c honest steady none = returns-in-Ok-clause-opens g c honest steady empty_repository (new_openable g.F.Files.content g.F.Files.can_fail g.F.Files.left c.args.files none)
