@@ -1,7 +1,7 @@
 -- The machine's world that a world holds, and what one event does.
 use Rattle.std.specs.FinMap.{get, empty}
 use Rattle.std.specs.List.{AllByRecursion}
-use Rattle.std.specs.Prelude.{◌≡◌, ◌<◌, ℕ, Bool, List, [], ◌∷◌, Option, Some, None, slice_get, unwrap_or, length}
+use Rattle.std.specs.Prelude.{◌≡◌, ◌<◌, ℕ, Bool, List, [], ◌∷◌, Option, Some, None, slice_get, unwrap_or, length, vec_len}
 use Rattle.vc_message.proofs.Readings.{message_wire}
 use Rattle.vc_message.specs.Machine.{IsWritten}
 use Rattle.vc_model.specs.Clone.{CloneNode}
@@ -73,6 +73,10 @@ pub record IsSame {S C : Type 0} (old new : World S C) : Type 0 where
   pub clones : new.clones.items ≡ old.clones.items
   pub letters : new.letters.items ≡ old.letters.items
   pub senders : new.senders ≡ old.senders
+
+-- how many clones there are
+abbrev pub clones_of : {S C : Type 0} → World S C → ℕ
+clones_of v = vec_len v.clones
 
 -- a node of a new world
 abbrev pub fresh_shared : SharedNode

@@ -14,6 +14,7 @@ use std::alloc::{AllocError, Global};
 const NO_MESSAGE: u16 = 113;
 
 /// One shared node, its clones, and every message that was ever sent.
+#[derive(Drop)]
 pub struct World<S, C> {
     pub(crate) shared: S,
     pub(crate) clones: Vec<C>,
@@ -38,6 +39,13 @@ impl<S: SharedCalls, C: CloneCalls> World<S, C> {
             letters: Vec::new(alloc),
             senders: [0; 8],
         }
+    }
+
+    /// Every message that was ever sent, in the order of their numbers. The slice is lent for as long as the world is.
+    pub fn letters(&self) -> &[Letter]
+        ensures { result.now ≡ self.now.letters.items }
+    {
+        &self.letters
     }
 
     /// One event, and its answer. Where the world's own lists can't grow, it isn't done.
