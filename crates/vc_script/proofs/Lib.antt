@@ -1,0 +1,4 @@
+mod ByHandLemmas
+mod ListLemmas
+mod NameLemmas
+pub mod PrintingLemmas
