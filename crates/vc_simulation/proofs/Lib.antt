@@ -5,3 +5,5 @@ pub mod SharedLemmas
 pub mod ItemLemmas
 pub mod CloneLemmas
 pub mod OpenLemmas
+pub mod PlayLemmas
+pub mod ScriptLemmas

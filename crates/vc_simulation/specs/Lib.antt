@@ -1,2 +1,4 @@
+pub mod Memory
 pub mod Nodes
+pub mod Playing
 pub mod Values

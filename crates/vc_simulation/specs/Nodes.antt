@@ -6,7 +6,7 @@ use Rattle.vc_events.specs.declared.answers.Ended.{Ended}
 use Rattle.vc_events.specs.declared.answers.Ended.TheVariants as ended
 use Rattle.vc_events.specs.declared.answers.Told.{Told}
 use Rattle.vc_files.specs.FileMap.{FileMap}
-use Rattle.vc_files.specs.declared.faults.Fault.TheVariants.{Device}
+use Rattle.vc_files.specs.declared.faults.Fault.TheVariants.{Device, Memory}
 use Rattle.vc_model.specs.Clone.{Awaited, CloneNode}
 use Rattle.vc_model.specs.Message.{Message}
 use Rattle.vc_model.specs.Node.{Answer}
@@ -15,7 +15,11 @@ use Rattle.vc_model.specs.Shared.{SharedNode}
 use Rattle.vc_node.specs.Awaited.{IsAwaited}
 use Rattle.vc_node.specs.Held.{Held}
 use Rattle.vc_node.specs.Machine.{HoldsNode}
+use Rattle.vc_node.specs.declared.fault.NodeFault.{NodeFault}
+use Rattle.vc_node.specs.declared.fault.NodeFault.TheVariants.{Ref, Store}
+use Rattle.vc_refs.specs.declared.faults.RefFault.TheVariants as ref
 use Rattle.vc_shared.specs.Holding.{HoldsShared, SharedText}
+use Rattle.vc_store.specs.declared.faults.StoreFault.TheVariants as store
 
 -- the device can't fail, and no stop is set
 pub record IsSteady {F : Type 0} (can_fail : F → Type 0) (left : F → Option ℕ) (files : F) : Type 0 where
@@ -40,3 +44,9 @@ pub record IsRetold (shows : Answer → Option Message → Type 0) (IsDevice : T
 -- a shared node that has just been opened
 abbrev pub opened_shared : Repository → SharedNode
 opened_shared r = record { repository = r; live = Some empty }
+
+-- a node was not opened for want of memory
+abbrev pub IsWantOfMemory : NodeFault → Type 0
+IsWantOfMemory (Store (store.Fault fault)) = fault ≡ Memory
+IsWantOfMemory (Ref (ref.Fault fault)) = fault ≡ Memory
+IsWantOfMemory _ = ⊥

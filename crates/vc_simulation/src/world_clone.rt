@@ -13,7 +13,7 @@ ghost use Rattle.vc_model.specs.Repository.{Repository};
 ghost use Rattle.vc_node.specs.Blames.{BlamesOpen};
 ghost use Rattle.vc_node.specs.Opening.{IsOpenable, opened_node};
 ghost use Rattle.vc_rules.specs.Git.{machine_object, mode_number};
-ghost use Rattle.vc_simulation.specs.Nodes.{HoldsClone, IsSteady};
+ghost use Rattle.vc_simulation.specs.Nodes.{HoldsClone, IsSteady, IsWantOfMemory};
 ghost use Rattle.vc_simulation.specs.Values.{AreIds, AreNoIds, AreNotPushed, ArePushed, Fails, Finds, HasZero, IsItemFor, IsNoItem, IsNoValue, IsOneMore, IsOneMoreItem, IsValue, Obeys};
 
 use crate::ends::{
@@ -59,6 +59,7 @@ impl<F: Files> WorldClone<F> {
         ensures opens { F.honest → IsSteady F.can_fail F.left files → (r : Repository) → IsOpenable (F.content files) r → IfOk result (λ clone. HoldsClone F.content F.can_fail F.left clone.node (opened_node r)) }
         ensures new { F.honest → IsSteady F.can_fail F.left files → F.content files ≡ no_files → IfOk result (λ clone. HoldsClone F.content F.can_fail F.left clone.node fresh_clone) }
         ensures refused { F.honest → IfErr result (λ e. BlamesOpen (F.content files) e.1) }
+        ensures memory { F.honest → IsSteady F.can_fail F.left files → F.content files ≡ no_files → IfErr result (λ e. IsWantOfMemory e.1) }
         ensures err { F.honest → IfErr result (λ e. F.content e.0 ≡ F.content files) }
     {
         match CloneNode::open(alloc, files) {

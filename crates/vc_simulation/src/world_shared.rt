@@ -9,7 +9,7 @@ ghost use Rattle.vc_model.specs.SharedCall.SharedCall.{Asks as AsksShared};
 ghost use Rattle.vc_model.specs.Repository.{Repository};
 ghost use Rattle.vc_node.specs.Blames.{BlamesOpen};
 ghost use Rattle.vc_node.specs.Opening.{IsOpenable};
-ghost use Rattle.vc_simulation.specs.Nodes.{HoldsServed, IsSteady, opened_shared};
+ghost use Rattle.vc_simulation.specs.Nodes.{HoldsServed, IsSteady, IsWantOfMemory, opened_shared};
 ghost use Rattle.vc_simulation.specs.Values.{FindsShared, IsValue};
 
 use crate::ends::{DOWN, NO_EXPRESSION, accepted, shared_restarted, shared_value, stepped};
@@ -37,6 +37,7 @@ impl<F: Files> WorldShared<F> {
         ensures opens { F.honest → IsSteady F.can_fail F.left files → (r : Repository) → IsOpenable (F.content files) r → IfOk result (λ shared. HoldsServed F.content F.can_fail F.left shared.node (opened_shared r)) }
         ensures new { F.honest → IsSteady F.can_fail F.left files → F.content files ≡ no_files → IfOk result (λ shared. HoldsServed F.content F.can_fail F.left shared.node fresh_shared) }
         ensures refused { F.honest → IfErr result (λ e. BlamesOpen (F.content files) e.1) }
+        ensures memory { F.honest → IsSteady F.can_fail F.left files → F.content files ≡ no_files → IfErr result (λ e. IsWantOfMemory e.1) }
         ensures err { F.honest → (r : Repository) → IsOpenable (F.content files) r → IfErr result (λ e. IsOpenable (F.content e.0) r) }
     {
         match Shared::open(alloc, files) {

@@ -3,7 +3,7 @@ use Rattle.vc_model.specs.Clone.Awaited.{Nothing}
 use Rattle.vc_model.specs.World.{empty_repository}
 use Rattle.vc_node.specs.Machine.{HoldsNode}
 use Rattle.vc_node.specs.Opening.{opened_node}
-use Rattle.vc_simulation.proofs.OpenLemmas.{clone_opened, in_ok, new_openable}
+use Rattle.vc_simulation.proofs.OpenLemmas.{clone_opened, in_ok, new_openable, want_of_memory}
 use Rattle.vc_simulation.proofs.SteadyLemmas.{written_steady}
 use Rattle.vc_simulation.proofs.world_clone.WorldClone.open.Goals as goal
 
@@ -13,3 +13,6 @@ returns-in-Ok-clause-opens g c honest steady r openable = clone_opened g.F.Files
 
 pub returns-in-Ok-clause-new : goal.returns-in-Ok-clause-new
 returns-in-Ok-clause-new g c honest steady none = returns-in-Ok-clause-opens g c honest steady empty_repository (new_openable g.F.Files.content g.F.Files.can_fail g.F.Files.left c.args.files none)
+
+pub returns-in-Err-clause-memory : goal.returns-in-Err-clause-memory
+returns-in-Err-clause-memory g c honest steady none = want_of_memory g.F.Files.content g.F.Files.can_fail g.F.Files.left g.F.Files.honest g.F.Files.failed c.args.files c.in-Err.back.0 c.in-Err.back.1 (search rules) (search rules) steady none

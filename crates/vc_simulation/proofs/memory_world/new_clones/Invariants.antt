@@ -1,0 +1,11 @@
+use Rattle.std.proofs.Common.{◌≡◌, length}
+use Rattle.std.specs.List.{AllByRecursion}
+use Rattle.vc_events.specs.World.{fresh_clone}
+use Rattle.vc_simulation.specs.Memory.{HoldsMemoryClone}
+use Rattle.vc_simulation.proofs.memory_world.new_clones.Given as goal
+
+abbrev pub invariant-loop : goal.invariant-loop
+invariant-loop l = record {
+  new : AllByRecursion (λ c. HoldsMemoryClone c fresh_clone) l.clones.items;
+  count : length l.clones.items ≡ l.counter;
+}
