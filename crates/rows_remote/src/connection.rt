@@ -1,0 +1,71 @@
+//! A connection to a shared node over files in memory, with both of its ends.
+
+use std::alloc::Global;
+use std::io::{self, BufReader, ErrorKind, Write};
+use std::mem;
+use std::net::{Net, OpenListener, OpenStream};
+use vc_files::MemoryFiles;
+use vc_message::{IncomingFault, read_message};
+use vc_remote::{answer_message, bind, make_shared};
+use vc_server::tell;
+use vc_shared::SharedFault;
+
+/// A shared node, and a connection to it.
+#[derive(Drop)]
+pub struct Connection<R: Net> {
+    files: MemoryFiles,
+    client: BufReader<R::Stream>,
+    server: BufReader<R::Stream>,
+}
+
+// What ends the program: it has ample memory, and nothing is wrong with a connection to itself.
+fn broken() -> io::Error {
+    io::Error::from(ErrorKind::Other)
+}
+
+impl<R: Net + AllocGlobal> Connection<R> {
+    /// A new shared node, and a connection to it. The system chooses a port that no other program has.
+    pub fn new(rt: &R) -> io::Result<Connection<R>> {
+        let alloc = rt.alloc();
+        let (files, made) = make_shared(alloc, MemoryFiles::new(alloc));
+        if made.is_err() {
+            return Err(broken());
+        }
+        let listener = bind(rt, 0)?;
+        let client = rt.connect(listener.local_addr()?)?;
+        let (server, _) = listener.accept()?;
+        client.set_nodelay(true)?;
+        server.set_nodelay(true)?;
+        Ok(Connection {
+            files,
+            client: BufReader::new(alloc, client)?,
+            server: BufReader::new(alloc, server)?,
+        })
+    }
+
+    /// The client sends these bytes, the server answers the message that it reads of them, and the client reads the answer.
+    pub fn exchange(&mut self, alloc: Global, bytes: &[u8]) -> io::Result<Vec<u8>> {
+        self.client.get_mut().write_all(bytes)?;
+        let answered = self.answer(alloc)?;
+        if tell(alloc, self.server.get_mut(), &answered).is_err() {
+            return Err(broken());
+        }
+        match read_message(alloc, &mut self.client) {
+            Ok(Some(bytes)) => Ok(bytes),
+            _ => Err(broken()),
+        }
+    }
+
+    // What the node answers to the next message that comes.
+    fn answer(&mut self, alloc: Global) -> io::Result<Result<Vec<u8>, SharedFault>> {
+        let bytes = match read_message(alloc, &mut self.server) {
+            Ok(Some(bytes)) => bytes,
+            Err(IncomingFault::Unread(fault)) => return Ok(Err(SharedFault::Unread(fault))),
+            _ => return Err(broken()),
+        };
+        let files = mem::replace(&mut self.files, MemoryFiles::new(alloc));
+        let (files, answered) = answer_message(alloc, files, &bytes);
+        self.files = files;
+        Ok(answered)
+    }
+}

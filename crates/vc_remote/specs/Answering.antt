@@ -1,0 +1,53 @@
+-- One message at the shared node that files hold: the node is opened, serves the message to its end, and is closed.
+use Rattle.std.specs.FinMap.{empty}
+use Rattle.std.specs.Global.{Global}
+use Rattle.std.specs.Prelude.{◌⊎◌, ℕ, List, Option, Some, Result, Err, Vec, true}
+use Rattle.vc_files.specs.FileMap.{FileMap}
+use Rattle.vc_model.specs.Message.{Message}
+use Rattle.vc_model.specs.Node.{Answer}
+use Rattle.vc_model.specs.Repository.{Repository}
+use Rattle.vc_model.specs.Shared.{SharedNode}
+use Rattle.vc_model.specs.SharedCall.{SharedCall}
+use Rattle.vc_node.specs.Blames.{BlamesOpen}
+use Rattle.vc_node.specs.Clean.{KeepsClean}
+use Rattle.vc_node.specs.Opening.{IsOpenable}
+use Rattle.vc_session.specs.Session.{SessionText}
+use Rattle.vc_server.specs.Refusals.{IsRefusedAnswer}
+use Rattle.vc_server.specs.Serving.{ServedAs, ServesOn}
+use Rattle.vc_shared.specs.Holding.{HoldsShared}
+use Rattle.vc_shared.specs.declared.fault.SharedFault.{SharedFault}
+use Rattle.vc_shared.specs.declared.fault.SharedFault.TheVariants.{Node}
+
+-- a shared node that has just been opened: it is up, and no push is open
+abbrev pub opened_shared : Repository → SharedNode
+opened_shared r = record { repository = r; live = Some empty }
+
+-- the files hold it
+abbrev pub HoldsOpened : FileMap → Repository → Type 0
+HoldsOpened content r = (slots : List (Option SessionText)) × HoldsShared content slots true (opened_shared r)
+
+-- the files weren't opened, and can be as before
+abbrev pub StaysClosed : FileMap → FileMap → Repository → Result (Vec ℕ Global) SharedFault → Type 0
+StaysClosed old new r (Err (Node fault)) = BlamesOpen old fault × IsOpenable new r
+StaysClosed old new r _ = ⊥
+
+-- The node was opened and served the call to its end, the result tells its last answer, and the files can be opened as its repository.
+pub record ServesOnce (call : SharedCall) (r : Repository) (new : FileMap) (result : Result (Vec ℕ Global) SharedFault) : Type 0 where
+  pub after : SharedNode
+  pub a : Answer
+  pub sends : Option Message
+  pub told : ServedAs result a sends
+  pub served : ServesOn call (opened_shared r) a after sends
+  pub openable : IsOpenable new after.repository
+
+abbrev pub AnswersOnce : SharedCall → Repository → FileMap → FileMap → Result (Vec ℕ Global) SharedFault → Type 0
+AnswersOnce call r old new result = StaysClosed old new r result ⊎ ServesOnce call r new result
+
+-- the files are no shared node's
+abbrev pub IsUnopened : FileMap → SharedFault → Type 0
+IsUnopened old (Node fault) = BlamesOpen old fault
+IsUnopened old _ = ⊥
+
+-- why there is no reply, whatever the files are: they were not opened, or, opened, they have no bad file more, and the node refuses
+abbrev pub IsRefusedOnce : FileMap → List ℕ → SharedFault → Type 0
+IsRefusedOnce old bytes e = IsUnopened old e ⊎ ((opened : FileMap) × (slots : List (Option SessionText)) × KeepsClean old opened × IsRefusedAnswer opened slots bytes e)
