@@ -10,7 +10,7 @@ use Rattle.vc_node.specs.Machine.{Answers}
 use Rattle.vc_commands.specs.Adding.{IsOfPath, RefusesFile}
 use Rattle.vc_commands.specs.declared.arguments.FileMode.{FileMode}
 use Rattle.vc_commands.specs.declared.failure.Failure.{Failure}
-use Rattle.vc_commands.specs.declared.failure.Failure.TheVariants.{Syntax, Revision, Node, LocalChange, InTheWay, NotText, NoSuchPath, Object, Store, Base, Name, Refs, Remote, Usage, Fault}
+use Rattle.vc_commands.specs.declared.failure.Failure.TheVariants.{Syntax, Revision, Node, LocalChange, InTheWay, NotText, NoSuchPath, Object, Store, Base, Name, Refs, Remote, BadScript, Usage, Fault}
 
 -- the same step, by what its path, its mode and its bytes are
 pub step_of : (p q : List ℕ) (m n : Mode) (b d : List ℕ) (answer : Answer) (was_up is_up : Bool) (old new : FileMap) → p ≡ q → m ≡ n → b ≡ d
@@ -37,6 +37,7 @@ refused_path file own mode path was_up is_up old new (Store x) same bad = absurd
 refused_path file own mode path was_up is_up old new (Base x) same bad = absurd bad
 refused_path file own mode path was_up is_up old new (Name x) same bad = absurd bad
 refused_path file own mode path was_up is_up old new (Refs x) same bad = absurd bad
+refused_path file own mode path was_up is_up old new BadScript same bad = absurd bad
 refused_path file own mode path was_up is_up old new (Usage x) same bad = absurd bad
 
 -- a failure that is handed on

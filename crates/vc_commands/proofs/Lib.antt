@@ -3,5 +3,6 @@ pub mod BodyLemmas
 pub mod CheckoutLemmas
 pub mod CloneLemmas
 pub mod PieceLemmas
+pub mod PushLemmas
 pub mod StepLemmas
 pub mod ToldLemmas

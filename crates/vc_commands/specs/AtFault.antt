@@ -16,7 +16,7 @@ use Rattle.vc_rev.specs.declared.refusal.SourceFault.TheVariants as sources
 use Rattle.vc_store.specs.declared.faults.StoreFault.{StoreFault}
 use Rattle.vc_store.specs.declared.faults.StoreFault.TheVariants as stores
 use Rattle.vc_commands.specs.declared.failure.Failure.{Failure}
-use Rattle.vc_commands.specs.declared.failure.Failure.TheVariants.{LocalChange, InTheWay, NotText, NoSuchPath, Node, Revision, Store, Base, Refs, Syntax, Usage}
+use Rattle.vc_commands.specs.declared.failure.Failure.TheVariants.{LocalChange, InTheWay, NotText, NoSuchPath, Node, Revision, Store, Base, Refs, Syntax, BadScript, Usage}
 use Rattle.vc_node.specs.Printed.{node_fault_text}
 use Rattle.vc_rev.specs.Printed.{parse_fault_text, rev_fault_text}
 
@@ -107,6 +107,7 @@ failure_text (LocalChange path) = Some (codes "70 LocalChange")
 failure_text (InTheWay path) = Some (codes "71 InTheWay")
 failure_text (NotText path) = Some (codes "72 NotText")
 failure_text NoSuchPath = Some (codes "56 NoSuchPath")
+failure_text BadScript = Some (codes "114 BadScript")
 failure_text (Usage text) = Some (string_bytes text)
 failure_text _ = None
 

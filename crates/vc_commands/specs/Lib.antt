@@ -9,5 +9,7 @@ pub mod Checkout
 pub mod StatusLines
 pub mod Adding
 pub mod Revisions
+pub mod PlayedWorld
 pub mod Steps
+pub mod PushWords
 pub mod Writers

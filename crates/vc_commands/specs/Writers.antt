@@ -3,7 +3,7 @@ use Rattle.std.specs.Prelude.{Bool, true, false}
 use Rattle.vc_commands.specs.declared.arguments.LocalTask.{LocalTask}
 use Rattle.vc_commands.specs.declared.arguments.LocalTask.TheVariants as locals
 use Rattle.vc_commands.specs.declared.arguments.Task.{Task}
-use Rattle.vc_commands.specs.declared.arguments.Task.TheVariants.{Init, HashObject, Local, Remote}
+use Rattle.vc_commands.specs.declared.arguments.Task.TheVariants.{Init, HashObject, Local, Remote, World}
 
 -- of a clone's commands all but `status` write
 abbrev pub is_local_writer : LocalTask → Bool
@@ -18,8 +18,9 @@ is_writer (Local task) = is_local_writer task
 is_writer (Remote task) = true
 is_writer _ = false
 
--- every command but `init`, and `hash-object` without `--write`
+-- every command but `init`, `world`, and `hash-object` without `--write`
 abbrev pub needs_store : Task → Bool
 needs_store Init = false
 needs_store (HashObject kind write file) = write
+needs_store (World file) = false
 needs_store _ = true

@@ -80,6 +80,7 @@ where
         Task::Local(task) => Ok(local_word(task, failure)),
         // A push may have many items, and which one was refused isn't looked up again.
         Task::Remote(_) => Ok(None),
+        Task::World { file } => Ok(Some(file.as_bytes())),
         Task::Init => Ok(None),
         Task::ShowRef => Ok(None),
     }

@@ -26,7 +26,7 @@ const MOST_CONNECTIONS: u64 = 1_000_000;
 /// What one run is to do, and on which store.
 #[derive(Clone, Copy)]
 pub struct Request<'a> {
-    /// The folder of the store.
+    /// The folder of the store, if the subcommand has one.
     pub store: &'a str,
     /// Whether the command line names that folder.
     pub is_named: bool,
@@ -60,6 +60,10 @@ pub enum Task<'a> {
     RevList,
     Local(LocalTask<'a>),
     Remote(RemoteTask),
+    World {
+        /// The file with the script.
+        file: &'a str,
+    },
 }
 
 /// A subcommand that speaks to another process, by a port of this machine.
@@ -124,6 +128,7 @@ impl Task<'_> {
             Task::RevList => false,
             Task::Local(task) => task.is_writer(),
             Task::Remote(_) => true,
+            Task::World { .. } => false,
         }
     }
 
@@ -141,6 +146,7 @@ impl Task<'_> {
             Task::RevList => true,
             Task::Local(_) => true,
             Task::Remote(_) => true,
+            Task::World { .. } => false,
         }
     }
 }
@@ -217,7 +223,8 @@ pub fn command<'a>(alloc: Global) -> Result<Command<'a>, AllocError> {
         .subcommand(status(alloc)?)?
         .subcommand(serve(alloc)?)?
         .subcommand(fetch(alloc)?)?
-        .subcommand(push(alloc)?)
+        .subcommand(push(alloc)?)?
+        .subcommand(world(alloc)?)
 }
 
 fn store<'a>(alloc: Global) -> Arg<'a> {
@@ -512,6 +519,20 @@ fn push<'a>(alloc: Global) -> Result<Command<'a>, AllocError> {
         )
 }
 
+fn world<'a>(alloc: Global) -> Result<Command<'a>, AllocError> {
+    Command::new(alloc, "world")
+        .about("Play a script of a world of nodes in memory, and print what each event is answered")
+        .after_help(
+            "The first line of the script is \"world\" and how many clones there are, 1 to 16; each other line is one event. A clone c0\nwrites, adds, commits, fetches and pushes; \"deliver k\" brings the message of that number to whom it is for; \"step s\" is the\nnext step of the push in that slot of the shared node. There is no store, and nothing is left.\n\nExample: printf 'world 1\\nc0 add f x\\nc0 commit m\\nc0 push main\\ndeliver 0\\n' >script, then vcs world script",
+        )
+        .arg(
+            Arg::new(alloc, "file")
+                .value_name("file")
+                .required(true)
+                .help("The file with the script, by the current folder"),
+        )
+}
+
 /// The values of an argument that may have many, as the matches have them.
 pub fn list_of<'a>(
     alloc: Global,
@@ -588,11 +609,14 @@ pub fn request_of<'a>(matches: &ArgMatches<'a>) -> Option<Request<'a>> {
         "push" => Task::Remote(RemoteTask::Push {
             port: words.get_one::<u16>("port")?,
         }),
+        "world" => Task::World {
+            file: words.get_str("file")?,
+        },
         _ => Task::Local(local_task_of(name, words)?),
     };
     let is_named = words.value_source("store") == Some(ValueSource::CommandLine);
     Some(Request {
-        store: words.get_str("store")?,
+        store: words.get_str("store").unwrap_or(DEFAULT_STORE),
         is_named,
         task,
     })

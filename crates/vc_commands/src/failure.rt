@@ -52,6 +52,8 @@ pub enum Failure {
     Refs(RefFault),
     /// Why an exchange with a served store ended early.
     Remote(RemoteFault),
+    /// What was to be played is no script of a world.
+    BadScript,
     /// The command line asks for what this program doesn't do.
     Usage(String),
     /// Want of memory, or a device that failed.
@@ -78,6 +80,7 @@ impl fmt::Display for Failure {
             Failure::Name(fault) => fmt::Display::fmt(fault, f),
             Failure::Refs(fault) => fmt::Display::fmt(fault, f),
             Failure::Remote(fault) => fmt::Display::fmt(fault, f),
+            Failure::BadScript => f.write_str("114 BadScript"),
             Failure::Usage(text) => f.write_str(text.as_str()),
             Failure::Fault(fault) => fmt::Display::fmt(fault, f),
         }
@@ -94,7 +97,7 @@ impl Failure {
         ensures { result ≡ status_of self.now }
     {
         match self {
-            Failure::NoSuchPath | Failure::Object(_) | Failure::Name(_) => 1,
+            Failure::NoSuchPath | Failure::Object(_) | Failure::Name(_) | Failure::BadScript => 1,
             Failure::LocalChange(_) | Failure::InTheWay(_) | Failure::NotText(_) => 1,
             Failure::Node(fault) => node_status(fault),
             Failure::Syntax(ParseFault::Memory)

@@ -27,6 +27,7 @@ mod rev_parse;
 mod show_ref;
 mod status;
 mod work;
+mod world;
 mod writer;
 
 pub use failure::Failure;

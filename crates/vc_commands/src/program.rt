@@ -21,6 +21,7 @@ use crate::rev_list::rev_list;
 use crate::rev_parse::rev_parse;
 use crate::show_ref::show_ref;
 use crate::work::{add, checkout, status};
+use crate::world::world;
 use crate::writer::only_writer;
 use clap::error::ErrorKind;
 use clap::{ArgMatches, Error};
@@ -205,6 +206,7 @@ where
         }
         Task::Local(task) => work_on(rt, store, task, lists.parents, output, faults)?,
         Task::Remote(_) => {}
+        Task::World { file } => world(rt, file, output)?,
     }
     Ok(true)
 }
