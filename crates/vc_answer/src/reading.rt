@@ -59,8 +59,8 @@ fn sent_names<F: Files>(
     Ok(ids)
 }
 
-/// The stored objects that the wants reach and the counted haves do not, each read once and taken by its name. Nothing that
-/// is reached may be absent, on either side.
+/// The stored objects that the wants reach and the counted haves do not, each taken by its name. What either side reaches is
+/// walked once, and nothing of it may be absent; what is sent is read again.
 pub fn sent_objects<F: Files>(
     alloc: Global,
     files: &mut F,
@@ -69,6 +69,7 @@ pub fn sent_objects<F: Files>(
 ) -> Result<CarriedObjects, GraphFault>
     ensures sent { F.honest → IfOk result (λ sent. (id : Id) (o : StoredObject) → object_named id (carried sent) ≡ Some o ↔ ((ReachedFrom (links_in (objects (F.content files.old))) wants.now id × ¬ ReachedFrom (links_in (objects (F.content files.old))) counted.now id) × (objects (F.content files.old) id ≡ Some o))) }
     ensures sorted { F.honest → IfOk result (λ sent. IsSortedByName (map stored_name (carried sent))) }
+    ensures closed { F.honest → OnOk result (IsClosedUnder (links_in (objects (F.content files.old))) (wants.now ++ counted.now)) }
     ensures refused { F.honest → IfErr result (IsTold (objects (F.content files.old)) (IsDamaged (F.content files.old)) (wants.now ++ counted.now)) }
     ensures same { F.content files.new ≡ F.content files.old }
     ensures wear { Wears F.failed F.can_fail F.left files.old files.new (IsErrOf result (GraphFault.Store (StoreFault.Fault Fault.Device))) }

@@ -9,7 +9,7 @@ use Rattle.std.specs.Cmp.Lexicographic.{slice_cmp}
 use Rattle.std.proofs.lemmas.Bool.{ltb-false}
 use Rattle.std.proofs.lemmas.Bool.Decides.{Decides-eqb}
 use Rattle.std.proofs.lemmas.List.{length-drop, map_more, map-append, take_more, append-nil}
-use Rattle.std.proofs.lemmas.List.Elements.{Contains-append_cases, Contains-append_right, Contains-push_cases, filter_map-append}
+use Rattle.std.proofs.lemmas.List.Elements.{Contains-append_cases, Contains-append_left, Contains-append_right, Contains-push_cases, filter_map-append}
 use Rattle.std.proofs.lemmas.Option.{none-some, same_Some}
 use Rattle.std.proofs.lemmas.Slice.Eq.{starts_is}
 use Rattle.vc_answer.proofs.AnswerLemmas.{absent_from_links}
@@ -153,6 +153,10 @@ tracked_values content listed list id = (
 )
 
 -- ---- what is known, and what is sent
+-- what a walk from more names found to be there is so of the first of them
+pub closed_front : (content : FileMap) (ids others : List ObjectId) → IsClosedUnder (links_in (objects content)) (ids ++ others) → IsClosedUnder (links_in (objects content)) ids
+closed_front content ids others closed id h = closed id (record { root = h.root; is_root = Contains-append_left ids others h.root h.is_root; reaches = h.reaches })
+
 module _ (content : FileMap) (ids tracked : List ObjectId) (are : (id : ObjectId) → Contains tracked id ↔ IsTracked content id) where
   known_from : (id : ObjectId) → ReachedFrom (links_in (objects content)) tracked id → IsKnown content id
   known_from id h = record { value = h.root; tracked = (are h.root).0 h.is_root; reaches = h.reaches }

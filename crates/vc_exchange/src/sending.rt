@@ -151,7 +151,26 @@ fn refuse_incomplete<F: Files>(
     }
 }
 
-// The objects that the ids reach and the tracking refs do not. Where there are no ids, nothing is walked.
+// The objects that the ids reach and the tracking refs do not. Each object that either reaches is walked once.
+fn untracked_objects<F: Files>(
+    alloc: Global,
+    files: &mut F,
+    ids: &[ObjectId],
+) -> Result<CarriedObjects, SendFault>
+    ensures sent { F.honest → IfOk result (λ sent. AreSent (F.content files.old) ids.now (carried sent)) }
+    ensures sorted { F.honest → IfOk result (λ sent. IsSortedByName (map stored_name (carried sent))) }
+    ensures complete { F.honest → OnOk result (IsClosedUnder (links_in (objects (F.content files.old))) ids.now) }
+    ensures refused { F.honest → IsClosedUnder (links_in (objects (F.content files.old))) ids.now → IfErr result (IsRefusedSend (F.content files.old) ids.now) }
+    ensures same { F.content files.new ≡ F.content files.old }
+    ensures wear { Wears F.failed F.can_fail F.left files.old files.new (IsErrOf result (SendFault.Fault Fault.Device)) }
+{
+    let tracked = tracked_values(alloc, files)?;
+    let objects = sent_objects(alloc, files, ids, &tracked)?;
+    Ok(objects)
+}
+
+// The same; where there are no ids, nothing is walked. Of what refuses it, the first id of which not all is there is told before
+// all else: a walk of its own looks for it, unless memory or the device gave out.
 fn objects_for<F: Files>(
     alloc: Global,
     files: &mut F,
@@ -159,16 +178,22 @@ fn objects_for<F: Files>(
 ) -> Result<CarriedObjects, SendFault>
     ensures sent { F.honest → IfOk result (λ sent. AreSent (F.content files.old) ids.now (carried sent)) }
     ensures sorted { F.honest → IfOk result (λ sent. IsSortedByName (map stored_name (carried sent))) }
-    ensures refused { F.honest → IsClosedUnder (links_in (objects (F.content files.old))) ids.now → IfErr result (IsRefusedSend (F.content files.old) ids.now) }
+    ensures complete { F.honest → OnOk result (IsClosedUnder (links_in (objects (F.content files.old))) ids.now) }
+    ensures refused { F.honest → IfErr result (IsRefusedSend (F.content files.old) ids.now) }
     ensures same { F.content files.new ≡ F.content files.old }
     ensures wear { Wears F.failed F.can_fail F.left files.old files.new (IsErrOf result (SendFault.Fault Fault.Device)) }
 {
     if ids.is_empty() {
         return Ok(CarriedObjects::new(alloc));
     }
-    let tracked = tracked_values(alloc, files)?;
-    let objects = sent_objects(alloc, files, ids, &tracked)?;
-    Ok(objects)
+    match untracked_objects(alloc, files, ids) {
+        Ok(objects) => Ok(objects),
+        Err(SendFault::Fault(fault)) => Err(SendFault::Fault(fault)),
+        Err(fault) => {
+            refuse_incomplete(alloc, files, ids)?;
+            Err(fault)
+        }
+    }
 }
 
 // The push of the items.
@@ -180,7 +205,6 @@ fn push_for<F: Files>(alloc: Global, files: &mut F, items: &[PushItem]) -> Resul
     ensures wear { Wears F.failed F.can_fail F.left files.old files.new (IsErrOf result (SendFault.Fault Fault.Device)) }
 {
     let ids = item_ids(alloc, items)?;
-    refuse_incomplete(alloc, files, &ids)?;
     let objects = objects_for(alloc, files, &ids)?;
     let commands = commands_for(alloc, files, items)?;
     Ok(Push {
@@ -203,6 +227,9 @@ pub fn list_message(alloc: Global) -> Result<Vec<u8>, AllocError>
 ///
 /// More than 256 items are refused (84), and then the first id of which not all is there (40). The clone's files stay as
 /// they are.
+///
+/// Each object that the ids or the tracking refs reach is walked once, and what is sent is read again. Only where that is
+/// refused are the ids walked by themselves, to find the first of which not all is there.
 pub fn push_message<F: Files>(
     alloc: Global,
     files: &mut F,

@@ -12,10 +12,10 @@ returns-clause-push g c honest =
     let content = g.F.Files.content c.args.files.now in
     let items = c.args.items.now in
     let ids : c.in_ok-ids.ids.items ≡ item_ids items = c.in_ok-ids.ensures in
-    let closed : IsClosedUnder (links_in (objects content)) (item_ids items) = rw (c.deref.ensures.value, ids) at (c.in_ok-refuse_incomplete.ensures.complete honest) in
-    let sent : AreSent content (item_ids items) (carried c.in_ok-objects.objects) = rw (c.deref-2.ensures.value, ids, c.in_ok-refuse_incomplete.ensures.same) at (c.in_ok-objects.ensures.sent honest) in
+    let closed : IsClosedUnder (links_in (objects content)) (item_ids items) = rw (c.deref.ensures.value, ids) at (c.in_ok-objects.ensures.complete honest) in
+    let sent : AreSent content (item_ids items) (carried c.in_ok-objects.objects) = rw (c.deref.ensures.value, ids) at (c.in_ok-objects.ensures.sent honest) in
     let commands : commands_of c.in_ok-commands.commands.items ≡ map (command_for content) items =
-    rw (c.in_ok-objects.ensures.same, c.in_ok-refuse_incomplete.ensures.same) at (c.in_ok-commands.ensures.commands honest) in
+    rw c.in_ok-objects.ensures.same at (c.in_ok-commands.ensures.commands honest) in
     record {
       complete = closed;
       commands = commands;
