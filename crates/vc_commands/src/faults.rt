@@ -4,10 +4,12 @@ ghost use Rattle.std.specs.Prelude.{◌≡◌, IfErr, OnOk, Some, false};
 ghost use Rattle.std.specs.Io.KnownBytes.{Appends, Keeps};
 ghost use Rattle.vc_commands.specs.AtFault.{line_behind};
 ghost use Rattle.vc_commands.specs.Failure.{IsFault};
+ghost use Rattle.vc_remote.specs.Progress.{goes_to_terminal};
 
 use crate::failure::Failure;
 use std::io::Write;
 use vc_object::ObjectId;
+use vc_remote::Progress;
 
 /// A writer for what is no answer, and whether a person reads it as it is written.
 #[derive(Drop)]
@@ -37,6 +39,13 @@ impl<W: Write> Faults<W> {
         }
         self.stream.write_all(line)?;
         Ok(())
+    }
+
+    /// Where a person is told how far a long message is: on a terminal alone.
+    pub fn progress(&mut self) -> Progress<&mut W>
+        ensures { goes_to_terminal result ≡ self.old.is_terminal }
+    {
+        Progress::new(&mut self.stream, self.is_terminal)
     }
 
     /// Tells a person what a branch was before it was set or removed, so that nothing is out of reach by a slip.

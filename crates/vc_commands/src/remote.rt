@@ -69,7 +69,8 @@ where
     Ok(Failure::from(error))
 }
 
-/// Fetches into the clone in this folder from the store that is served at a port, and prints how many refs moved.
+/// Fetches into the clone in this folder from the store that is served at a port, and prints how many refs moved. What could
+/// not be told on a terminal meanwhile is a fault behind the answer.
 pub fn fetch<R, O, E>(
     rt: &R,
     store: &str,
@@ -83,13 +84,16 @@ where
     E: Write,
 {
     let lock = only_writer(rt, store, faults)?;
-    let moved = vc_remote::fetch(rt, lock, store, port)?;
+    let mut progress = faults.progress();
+    let moved = vc_remote::fetch(rt, lock, store, port, &mut progress)?;
     let line = format!(in rt.alloc(); "moved {moved}\n")?;
-    print_text(line.as_bytes(), output)
+    print_text(line.as_bytes(), output)?;
+    progress.outcome()?;
+    Ok(())
 }
 
 /// Pushes from the clone in this folder to the store that is served at a port, prints what became of each item, and tells
-/// whether all were done.
+/// whether all were done. What could not be told on a terminal meanwhile is a fault behind the answer.
 pub fn push<R, O, E>(
     rt: &R,
     store: &str,
@@ -110,7 +114,9 @@ where
     if items.is_empty() {
         return Ok(true);
     }
-    let report = vc_remote::push(rt, lock, store, port, &items)?;
+    let mut progress = faults.progress();
+    let report = vc_remote::push(rt, lock, store, port, &items, &mut progress)?;
     print_text(&report_lines(alloc, &report)?, output)?;
+    progress.outcome()?;
     Ok(is_done(&report))
 }

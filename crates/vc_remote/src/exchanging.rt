@@ -3,8 +3,10 @@ ghost use Rattle.std.specs.Prelude.{◌≢◌, []};
 
 use crate::fault::RemoteFault;
 use crate::peer::Server;
+use crate::progress::Progress;
 use std::alloc::Global;
 use std::fs::File;
+use std::io::Write;
 use std::net::Net;
 use std::rt;
 use vc_exchange::PushItem;
@@ -14,34 +16,46 @@ use vc_push::Report;
 use vc_world::{exchange_fetch, exchange_push};
 
 /// Fetches into the clone in this folder, whose lock is held, until its refs are the shared node's, all on one connection.
-/// Tells how many refs moved.
-pub fn fetch<R>(rt: &R, lock: FolderLock<R>, store: &str, port: u16) -> Result<usize, RemoteFault>
+/// Tells how many refs moved, and meanwhile how far a long message is.
+pub fn fetch<R, W>(
+    rt: &R,
+    lock: FolderLock<R>,
+    store: &str,
+    port: u16,
+    progress: &mut Progress<W>,
+) -> Result<usize, RemoteFault>
 where
     R: rt::Files<File = File> + Net + AllocGlobal + Clone + Drop,
+    W: Write,
 {
     let alloc = rt.alloc();
     let mut clone = open_clone(rt, store)?;
-    let mut server = Server::new(rt.clone()?, port, String::from_str(alloc, store)?, lock);
+    let folder = String::from_str(alloc, store)?;
+    let mut server = Server::new(rt.clone()?, port, folder, lock, progress);
     let fetched = exchange_fetch(&mut server, &mut clone);
     settle(alloc, clone)?;
     Ok(fetched?.moved)
 }
 
-/// Pushes from the clone in this folder, whose lock is held. Tells what the shared node reports of each item.
-pub fn push<R>(
+/// Pushes from the clone in this folder, whose lock is held. Tells what the shared node reports of each item, and meanwhile how
+/// far a long message is.
+pub fn push<R, W>(
     rt: &R,
     lock: FolderLock<R>,
     store: &str,
     port: u16,
     items: &[PushItem],
+    progress: &mut Progress<W>,
 ) -> Result<Report, RemoteFault>
 where
     R: rt::Files<File = File> + Net + AllocGlobal + Clone + Drop,
+    W: Write,
     requires some { items.now ≢ [] }
 {
     let alloc = rt.alloc();
     let mut clone = open_clone(rt, store)?;
-    let mut server = Server::new(rt.clone()?, port, String::from_str(alloc, store)?, lock);
+    let folder = String::from_str(alloc, store)?;
+    let mut server = Server::new(rt.clone()?, port, folder, lock, progress);
     let pushed = exchange_push(alloc, &mut server, &mut clone, items);
     settle(alloc, clone)?;
     Ok(pushed?)

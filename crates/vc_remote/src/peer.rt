@@ -2,23 +2,24 @@
 ghost use Rattle.vc_model.specs.Node.Answer.{Declined};
 
 use crate::fault::RemoteFault;
+use crate::progress::{Counted, Progress};
 use crate::serving::local;
 use std::alloc::{AllocError, Global};
 use std::fs::File;
-use std::io::{BufReader, Write};
+use std::io::{self, BufReader, Read, Write};
 use std::net::{Net, OpenStream};
 use std::rt;
 use vc_fetch::Error;
 use vc_files::Fault;
 use vc_folder::FolderLock;
-use vc_message::read_message;
+use vc_message::{IncomingFault, read_message};
 use vc_pkt::PktError;
 use vc_world::Peer;
 
 /// The shared node at a port of this machine. The right to write to the clone is let go while an answer is waited for, and
 /// taken again before the clone sees the answer: a server that is silent stops no other command on the clone.
 #[derive(Drop)]
-pub(crate) struct Server<R: rt::Files + Net + AllocGlobal + Clone + Drop> {
+pub(crate) struct Server<'a, R: rt::Files + Net + AllocGlobal + Clone + Drop, W> {
     rt: R,
     port: u16,
     // The folder of the clone.
@@ -26,17 +27,29 @@ pub(crate) struct Server<R: rt::Files + Net + AllocGlobal + Clone + Drop> {
     lock: Option<FolderLock<R>>,
     // The connection, once there is one.
     stream: Option<BufReader<R::Stream>>,
+    progress: &'a mut Progress<W>,
 }
 
-impl<R: rt::Files<File = File> + Net + AllocGlobal + Clone + Drop> Server<R> {
+impl<'a, R, W> Server<'a, R, W>
+where
+    R: rt::Files<File = File> + Net + AllocGlobal + Clone + Drop,
+    W: Write,
+{
     /// The shared node at a port, for the clone in a folder, whose lock is held. The first question makes the connection.
-    pub(crate) fn new(rt: R, port: u16, store: String, lock: FolderLock<R>) -> Server<R> {
+    pub(crate) fn new(
+        rt: R,
+        port: u16,
+        store: String,
+        lock: FolderLock<R>,
+        progress: &'a mut Progress<W>,
+    ) -> Server<'a, R, W> {
         Server {
             rt,
             port,
             store,
             lock: Some(lock),
             stream: None,
+            progress,
         }
     }
 
@@ -67,8 +80,8 @@ impl<R: rt::Files<File = File> + Net + AllocGlobal + Clone + Drop> Server<R> {
         let Some(stream) = &mut self.stream else {
             return Err(RemoteFault::WriteFailed);
         };
-        let sent = stream.get_mut().write_all(bytes);
-        let answered = read_message(alloc, stream);
+        let sent = send(stream.get_mut(), bytes, &mut *self.progress);
+        let answered = receive(alloc, stream, &mut *self.progress);
         if sent.is_ok() {
             return match answered? {
                 Some(bytes) => Ok(bytes),
@@ -86,6 +99,28 @@ impl<R: rt::Files<File = File> + Net + AllocGlobal + Clone + Drop> Server<R> {
     }
 }
 
+// Sends a message, and tells how much of it went out.
+fn send<S: Write, W: Write>(
+    stream: &mut S,
+    bytes: &[u8],
+    progress: &mut Progress<W>,
+) -> io::Result<()> {
+    let sent = Counted { stream, progress }.write_all(bytes);
+    progress.end();
+    sent
+}
+
+// Reads a message, and tells how much of it came.
+fn receive<S: Read, W: Write>(
+    alloc: Global,
+    stream: &mut S,
+    progress: &mut Progress<W>,
+) -> Result<Option<Vec<u8>>, IncomingFault> {
+    let read = read_message(alloc, &mut Counted { stream, progress });
+    progress.end();
+    read
+}
+
 // The text of an Error message; none where the bytes are another message.
 fn refused(alloc: Global, bytes: &[u8]) -> Result<Option<Vec<u8>>, AllocError> {
     match Error::read(alloc, bytes) {
@@ -95,7 +130,11 @@ fn refused(alloc: Global, bytes: &[u8]) -> Result<Option<Vec<u8>>, AllocError> {
     }
 }
 
-impl<R: rt::Files<File = File> + Net + AllocGlobal + Clone + Drop> Peer for Server<R> {
+impl<'a, R, W> Peer for Server<'a, R, W>
+where
+    R: rt::Files<File = File> + Net + AllocGlobal + Clone + Drop,
+    W: Write,
+{
     type Refusal = RemoteFault;
 
     // What stands at the other end of a connection may be no shared node, so nothing is claimed of it.
