@@ -16,8 +16,11 @@
 
 use bstr::{ByteSlice, ByteVec};
 use std::alloc::AllocError;
+use std::fs::File;
 use std::io::{self, BufWriter, ErrorKind, Write};
-use std::{env, fs};
+use std::net::Net;
+use std::thread::Threads;
+use std::{env, fs, rt};
 use vc_commands::{Faults, Input, run};
 
 fn main(rt: HostRuntime) -> io::Result<()> {
@@ -30,7 +33,11 @@ fn main(rt: HostRuntime) -> io::Result<()> {
     Ok(())
 }
 
-fn run_script<W: Write>(rt: &HostRuntime, script: &str, out: &mut W) -> io::Result<()> {
+fn run_script<R, W>(rt: &R, script: &str, out: &mut W) -> io::Result<()>
+where
+    R: rt::Files<File = File> + Threads + Net + AllocGlobal + Clone + Drop,
+    W: Write,
+{
     let mut input = Vec::new(rt.alloc());
     for line in script.lines() {
         if let Some(path) = line.strip_prefix("? ") {
@@ -44,12 +51,11 @@ fn run_script<W: Write>(rt: &HostRuntime, script: &str, out: &mut W) -> io::Resu
 }
 
 // Does what a line says. One that is neither blank nor of a known form is a mistake in the script.
-fn follow<W: Write>(
-    rt: &HostRuntime,
-    line: &str,
-    input: &mut Vec<u8>,
-    out: &mut W,
-) -> io::Result<()> {
+fn follow<R, W>(rt: &R, line: &str, input: &mut Vec<u8>, out: &mut W) -> io::Result<()>
+where
+    R: rt::Files<File = File> + Threads + Net + AllocGlobal + Clone + Drop,
+    W: Write,
+{
     let Some((form, rest)) = line.split_once(' ') else {
         return Ok(());
     };
@@ -71,7 +77,11 @@ fn follow<W: Write>(
 }
 
 // Runs a command line over this input, and prints what it printed.
-fn run_words<W: Write>(rt: &HostRuntime, line: &str, input: &[u8], out: &mut W) -> io::Result<()> {
+fn run_words<R, W>(rt: &R, line: &str, input: &[u8], out: &mut W) -> io::Result<()>
+where
+    R: rt::Files<File = File> + Threads + Net + AllocGlobal + Clone + Drop,
+    W: Write,
+{
     let words = words_of(rt, line)?;
     let mut output = Vec::new(rt.alloc());
     let mut faults = Faults {
@@ -92,7 +102,7 @@ fn run_words<W: Write>(rt: &HostRuntime, line: &str, input: &[u8], out: &mut W) 
 }
 
 // The words of a command line: what stands in single quotes is one word, and of the rest each space ends one.
-fn words_of(rt: &HostRuntime, line: &str) -> Result<Vec<String>, AllocError> {
+fn words_of<R: AllocGlobal>(rt: &R, line: &str) -> Result<Vec<String>, AllocError> {
     let mut words = Vec::new(rt.alloc());
     for (place, part) in line.split('\'').enumerate() {
         if place % 2 == 1 {
@@ -129,7 +139,7 @@ fn print_escaped<W: Write>(bytes: &[u8], end: &str, out: &mut W) -> io::Result<(
 }
 
 // Writes a file: its path, a space, its bytes.
-fn write_file(rt: &HostRuntime, words: &str) -> io::Result<()> {
+fn write_file<R: rt::Files + AllocGlobal>(rt: &R, words: &str) -> io::Result<()> {
     let (path, bytes) = words.split_once(' ').unwrap_or((words, ""));
     if let Some((folder, _)) = path.rsplit_once('/') {
         fs::create_dir_all(rt, folder)?;
@@ -138,7 +148,11 @@ fn write_file(rt: &HostRuntime, words: &str) -> io::Result<()> {
 }
 
 // Prints the path and what the file there holds.
-fn show_file<W: Write>(rt: &HostRuntime, path: &str, out: &mut W) -> io::Result<()> {
+fn show_file<R, W>(rt: &R, path: &str, out: &mut W) -> io::Result<()>
+where
+    R: rt::Files + AllocGlobal,
+    W: Write,
+{
     write!(out, "? {path} = ")?;
     match fs::read(rt, path) {
         Ok(bytes) => print_escaped(&bytes, "\n", out),

@@ -5,22 +5,30 @@ use crate::ids::two;
 use crate::recorder::Recorder;
 use crate::tables::Drawn;
 use std::alloc::Global;
+use std::fs::File;
+use std::io::Print;
+use std::thread::Threads;
 use std::{mem, rt};
 use vc_files::{FailOnce, FusedFiles, MemoryFiles};
-use vc_folder::FolderFiles;
+use vc_folder::{FolderFiles, Syncs};
+
+/// What a program is given to reach folders, and to print.
+pub trait Host: rt::Files<File = File> + Threads + Print + AllocGlobal + Clone + Drop {}
+
+impl<R: rt::Files<File = File> + Threads + Print + AllocGlobal + Clone + Drop> Host for R {}
 
 #[derive(Drop)]
-pub enum Device {
+pub enum Device<R: Host> {
     Memory(MemoryFiles),
-    Folder(FolderFiles<HostRuntime>),
-    Recorded(FolderFiles<Recorder>),
+    Folder(FolderFiles<R>),
+    Recorded(FolderFiles<Recorder<R>>),
     Fails(FailOnce<MemoryFiles>),
     Fused(FusedFiles<MemoryFiles>),
     Table(Drawn),
 }
 
 /// Lets go what was open, and opens what the text names, parted by `, `.
-pub fn open_all(rt: &HostRuntime, devices: &mut Vec<Device>, text: &str) -> Answer {
+pub fn open_all<R: Host>(rt: &R, devices: &mut Vec<Device<R>>, text: &str) -> Answer {
     devices.clear();
     for part in text.split(", ") {
         devices.push(open(rt, part)?)?;
@@ -28,7 +36,7 @@ pub fn open_all(rt: &HostRuntime, devices: &mut Vec<Device>, text: &str) -> Answ
     done(rt.alloc())
 }
 
-fn open(rt: &HostRuntime, text: &str) -> anyhow::Result<Device> {
+fn open<R: Host>(rt: &R, text: &str) -> anyhow::Result<Device<R>> {
     let (kind, rest) = two(text);
     let alloc = rt.alloc();
     Ok(match kind {
@@ -55,7 +63,12 @@ fn fused(alloc: Global, text: &str) -> anyhow::Result<FusedFiles<MemoryFiles>> {
 }
 
 /// The answers of all that is open, of which one is printed where all are the same.
-pub fn obey_all(alloc: Global, devices: &mut Vec<Device>, verb: &str, rest: &str) -> Answer {
+pub fn obey_all<R: Host>(
+    alloc: Global,
+    devices: &mut Vec<Device<R>>,
+    verb: &str,
+    rest: &str,
+) -> Answer {
     let mut answers: Vec<String> = Vec::new(alloc);
     let mut differ = false;
     for device in devices.iter_mut() {
@@ -72,7 +85,7 @@ pub fn obey_all(alloc: Global, devices: &mut Vec<Device>, verb: &str, rest: &str
     joined(alloc, &answers, " | ")
 }
 
-fn obey(alloc: Global, device: &mut Device, verb: &str, rest: &str) -> Answer {
+fn obey<R: Host>(alloc: Global, device: &mut Device<R>, verb: &str, rest: &str) -> Answer {
     if verb == "restart" {
         return restart(alloc, device);
     }
@@ -96,7 +109,7 @@ fn obey(alloc: Global, device: &mut Device, verb: &str, rest: &str) -> Answer {
     }
 }
 
-fn obey_in_folder<R: rt::Files + AllocGlobal + Clone + Drop>(
+fn obey_in_folder<R: rt::Files + Syncs<R::File> + AllocGlobal + Clone + Drop>(
     files: &mut FolderFiles<R>,
     alloc: Global,
     verb: &str,
@@ -110,7 +123,7 @@ fn obey_in_folder<R: rt::Files + AllocGlobal + Clone + Drop>(
 }
 
 // The files as a restart finds them, without what made them fail.
-fn restart(alloc: Global, device: &mut Device) -> Answer {
+fn restart<R: Host>(alloc: Global, device: &mut Device<R>) -> Answer {
     let old = mem::replace(device, Device::Memory(MemoryFiles::new(alloc)));
     *device = match old {
         Device::Fails(files) => Device::Memory(files.into_inner()),

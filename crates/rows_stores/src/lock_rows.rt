@@ -1,13 +1,9 @@
 //! Rows on the right to write to a folder. A program that locks a folder twice stands for two processes.
 use crate::answers::{Answer, done, word};
+use crate::devices::Host;
 use vc_folder::FolderLock;
 
-pub fn obey(
-    rt: &HostRuntime,
-    locks: &mut Vec<FolderLock<HostRuntime>>,
-    verb: &str,
-    path: &str,
-) -> Answer {
+pub fn obey<R: Host>(rt: &R, locks: &mut Vec<FolderLock<R>>, verb: &str, path: &str) -> Answer {
     match verb {
         "lock" => locks.push(FolderLock::take(rt, path)?)?,
         "unlock" => locks.clear(),
@@ -16,7 +12,7 @@ pub fn obey(
     done(rt.alloc())
 }
 
-fn try_take(rt: &HostRuntime, locks: &mut Vec<FolderLock<HostRuntime>>, path: &str) -> Answer {
+fn try_take<R: Host>(rt: &R, locks: &mut Vec<FolderLock<R>>, path: &str) -> Answer {
     match FolderLock::try_take(rt, path) {
         Ok(Some(lock)) => {
             locks.push(lock)?;

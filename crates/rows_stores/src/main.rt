@@ -16,15 +16,15 @@ mod tables;
 mod verdict_rows;
 
 use crate::answers::{Answer, word};
-use crate::devices::Device;
+use crate::devices::{Device, Host};
 use crate::ids::two;
 use vc_folder::FolderLock;
 
 // What the rows so far have opened and locked.
 #[derive(Drop)]
-struct Held {
-    devices: Vec<Device>,
-    locks: Vec<FolderLock<HostRuntime>>,
+struct Held<R: Host> {
+    devices: Vec<Device<R>>,
+    locks: Vec<FolderLock<R>>,
 }
 
 fn main(rt: HostRuntime) -> anyhow::Result<()> {
@@ -40,7 +40,7 @@ fn main(rt: HostRuntime) -> anyhow::Result<()> {
 }
 
 // What is printed for a line: comments and blank lines as they are.
-fn printed(rt: &HostRuntime, held: &mut Held, row: &str) -> Answer {
+fn printed<R: Host>(rt: &R, held: &mut Held<R>, row: &str) -> Answer {
     if row.is_empty() || row.starts_with("#") {
         return word(rt.alloc(), row);
     }
@@ -48,7 +48,7 @@ fn printed(rt: &HostRuntime, held: &mut Held, row: &str) -> Answer {
     Ok(format!(in rt.alloc(); "{row} = {answer}")?)
 }
 
-fn obey(rt: &HostRuntime, held: &mut Held, row: &str) -> Answer {
+fn obey<R: Host>(rt: &R, held: &mut Held<R>, row: &str) -> Answer {
     let (verb, rest) = two(row);
     match verb {
         "files" => devices::open_all(rt, &mut held.devices, rest),

@@ -1,11 +1,12 @@
 //! Rows on a real folder that bypass the libraries: what a stopped process or another program leaves there.
 use crate::answers::{Answer, done, quoted, word};
+use crate::devices::Host;
 use crate::ids::{bytes_of, two};
 use std::fs::{self, File};
 use std::io::ErrorKind;
 use std::os::unix::fs::symlink;
 
-pub fn obey(rt: &HostRuntime, verb: &str, rest: &str) -> Answer {
+pub fn obey<R: Host>(rt: &R, verb: &str, rest: &str) -> Answer {
     let (path, text) = two(rest);
     match verb {
         "raw-write" => fs::write(rt, path, bytes_of(rt.alloc(), text)?.as_slice())?,
@@ -20,7 +21,7 @@ pub fn obey(rt: &HostRuntime, verb: &str, rest: &str) -> Answer {
     done(rt.alloc())
 }
 
-fn read(rt: &HostRuntime, path: &str) -> Answer {
+fn read<R: Host>(rt: &R, path: &str) -> Answer {
     match fs::read(rt, path) {
         Ok(bytes) => quoted(rt.alloc(), &bytes),
         Err(error) if error.kind() == ErrorKind::NotFound => word(rt.alloc(), "none"),
@@ -29,7 +30,7 @@ fn read(rt: &HostRuntime, path: &str) -> Answer {
 }
 
 // What stands at a path.
-fn kind(rt: &HostRuntime, path: &str) -> Answer {
+fn kind<R: Host>(rt: &R, path: &str) -> Answer {
     let kind = match fs::symlink_metadata(rt, path) {
         Ok(metadata) if metadata.is_file() => "file",
         Ok(metadata) if metadata.is_dir() => "folder",

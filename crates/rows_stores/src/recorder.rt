@@ -2,23 +2,24 @@
 //! order a folder is written and synced is compared so.
 use std::alloc::{Allocator, Global};
 use std::fs::{File, Metadata, OpenFile, OpenOptions};
-use std::io::{self, Read, Seek, SeekFrom, Write};
+use std::io::{self, Print, Read, Seek, SeekFrom, Write};
 use std::rt::Files;
+use vc_folder::{Begun, Syncs, sync_in_turn};
 
 #[derive(Clone, Drop)]
-pub struct Recorder {
-    pub host: HostRuntime,
+pub struct Recorder<H> {
+    pub host: H,
 }
 
 /// An open file or folder, with its path.
 #[derive(Drop)]
-pub struct RecordedFile {
-    recorder: Recorder,
+pub struct RecordedFile<H> {
+    recorder: Recorder<H>,
     file: File,
     path: String,
 }
 
-impl Recorder {
+impl<H: Print> Recorder<H> {
     fn tell<T: Drop>(&self, done: io::Result<T>, verb: &str, path: &str) -> io::Result<T> {
         let value = done?;
         println!(self.host; "  {verb} {path}")?;
@@ -26,7 +27,7 @@ impl Recorder {
     }
 }
 
-impl Alloc for Recorder {
+impl<H: AllocGlobal> Alloc for Recorder<H> {
     type A = Global;
 
     fn alloc(&self) -> Global {
@@ -34,12 +35,12 @@ impl Alloc for Recorder {
     }
 }
 
-impl Files for Recorder {
-    type File = RecordedFile;
+impl<H: Files<File = File> + Print + AllocGlobal + Clone + Drop> Files for Recorder<H> {
+    type File = RecordedFile<H>;
 
-    type Dir = <HostRuntime as Files>::Dir;
+    type Dir = H::Dir;
 
-    fn open_file(&self, how: &OpenOptions, path: &str) -> io::Result<RecordedFile> {
+    fn open_file(&self, how: &OpenOptions, path: &str) -> io::Result<RecordedFile<H>> {
         let mut file = self.host.open_file(how, path);
         if how.asks_create_new() {
             file = self.tell(file, "create", path);
@@ -90,19 +91,19 @@ impl Files for Recorder {
     }
 }
 
-impl RecordedFile {
+impl<H: Print> RecordedFile<H> {
     fn tell<T: Drop>(&self, done: io::Result<T>, verb: &str) -> io::Result<T> {
         self.recorder.tell(done, verb, self.path.as_str())
     }
 }
 
-impl Read for RecordedFile {
+impl<H: Print> Read for RecordedFile<H> {
     fn read(&mut self, buf: &mut [u8]) -> io::Result<usize> {
         self.file.read(buf)
     }
 }
 
-impl Write for RecordedFile {
+impl<H: Print> Write for RecordedFile<H> {
     fn write(&mut self, buf: &[u8]) -> io::Result<usize> {
         let written = self.file.write(buf)?;
         self.tell(Ok(()), "write")?;
@@ -114,13 +115,13 @@ impl Write for RecordedFile {
     }
 }
 
-impl Seek for RecordedFile {
+impl<H: Print> Seek for RecordedFile<H> {
     fn seek(&mut self, to: SeekFrom) -> io::Result<u64> {
         self.file.seek(to)
     }
 }
 
-impl OpenFile for RecordedFile {
+impl<H: Print> OpenFile for RecordedFile<H> {
     fn metadata(&self) -> io::Result<Metadata> {
         self.file.metadata()
     }
@@ -135,5 +136,20 @@ impl OpenFile for RecordedFile {
 
     fn sync_data(&self) -> io::Result<()> {
         self.tell(self.file.sync_data(), "sync data of")
+    }
+}
+
+// One after the other, so that what is printed has one order.
+impl<H: Print + Drop> Syncs<RecordedFile<H>> for Recorder<H> {
+    fn begin_sync(&self, files: Vec<RecordedFile<H>>) -> Begun {
+        Begun::Done(sync_in_turn(&files))
+    }
+
+    fn end_sync(&self, begun: Begun) -> io::Result<()> {
+        match begun {
+            Begun::Done(synced) => synced,
+            // No thread is ever at it here.
+            Begun::Thread(_) => Ok(()),
+        }
     }
 }

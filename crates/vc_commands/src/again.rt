@@ -9,6 +9,7 @@ use crate::repository::{open_store, resolve, select};
 use std::alloc::Global;
 use std::rt;
 use vc_files::Files;
+use vc_folder::Syncs;
 
 /// The words of a command line of which there may be many.
 #[derive(Clone, Copy)]
@@ -29,7 +30,7 @@ pub fn line_of_refusal<R>(
     failure: &Failure,
 ) -> Result<Option<Vec<u8>>, Failure>
 where
-    R: rt::Files + AllocGlobal + Clone + Drop,
+    R: rt::Files + Syncs<R::File> + AllocGlobal + Clone + Drop,
 {
     if failure.status() != 1 {
         return Ok(None);
@@ -52,7 +53,7 @@ fn word_of<'a, R>(
     failure: &Failure,
 ) -> Result<Option<&'a [u8]>, Failure>
 where
-    R: rt::Files + AllocGlobal + Clone + Drop,
+    R: rt::Files + Syncs<R::File> + AllocGlobal + Clone + Drop,
 {
     let alloc = rt.alloc();
     match task {

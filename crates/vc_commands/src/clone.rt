@@ -17,7 +17,7 @@ use std::alloc::Global;
 use std::io::Write;
 use std::rt;
 use vc_files::Files;
-use vc_folder::FolderFiles;
+use vc_folder::{FolderFiles, Syncs};
 use vc_node::{CloneNode, NodeFault};
 use vc_object::ObjectId;
 use vc_refname::{NewNameError, RefName};
@@ -28,7 +28,7 @@ use vc_rev::RevFault;
 /// The clone in this folder, which is made where there is none.
 pub fn open_clone<R>(rt: &R, store: &str) -> Result<CloneNode<FolderFiles<R>>, Failure>
 where
-    R: rt::Files + AllocGlobal + Clone + Drop,
+    R: rt::Files + Syncs<R::File> + AllocGlobal + Clone + Drop,
 {
     let files = open_store(rt, store)?;
     match CloneNode::open(rt.alloc(), files) {
@@ -55,7 +55,7 @@ pub fn branch_of(alloc: Global, name: &str) -> Result<RefName, Failure>
 /// Takes a path out of the index of the store in this folder.
 pub fn unstage<R>(rt: &R, store: &str, path: &str) -> Result<(), Failure>
 where
-    R: rt::Files + AllocGlobal + Clone + Drop,
+    R: rt::Files + Syncs<R::File> + AllocGlobal + Clone + Drop,
 {
     let files = open_store(rt, store)?;
     let (_files, done) = unstage_path(rt.alloc(), files, path.as_bytes());
@@ -80,7 +80,7 @@ pub fn unstage_path<F: Files>(alloc: Global, files: F, path: &[u8]) -> (F, Resul
 /// Stores the trees of the index, and prints the name of the root's when they are durable.
 pub fn write_tree<R, O>(rt: &R, store: &str, output: &mut O) -> Result<(), Failure>
 where
-    R: rt::Files + AllocGlobal + Clone + Drop,
+    R: rt::Files + Syncs<R::File> + AllocGlobal + Clone + Drop,
     O: Write,
 {
     let mut files = open_store(rt, store)?;
@@ -122,7 +122,7 @@ pub fn commit<R, O>(
     output: &mut O,
 ) -> Result<(), Failure>
 where
-    R: rt::Files + AllocGlobal + Clone + Drop,
+    R: rt::Files + Syncs<R::File> + AllocGlobal + Clone + Drop,
     O: Write,
 {
     let files = open_store(rt, store)?;
@@ -202,7 +202,7 @@ pub fn branch<R, E>(
     faults: &mut Faults<E>,
 ) -> Result<(), Failure>
 where
-    R: rt::Files + AllocGlobal + Clone + Drop,
+    R: rt::Files + Syncs<R::File> + AllocGlobal + Clone + Drop,
     E: Write,
 {
     let mut files = open_store(rt, store)?;
@@ -281,7 +281,7 @@ pub fn branch_delete<R, E>(
     faults: &mut Faults<E>,
 ) -> Result<(), Failure>
 where
-    R: rt::Files + AllocGlobal + Clone + Drop,
+    R: rt::Files + Syncs<R::File> + AllocGlobal + Clone + Drop,
     E: Write,
 {
     let mut files = open_store(rt, store)?;

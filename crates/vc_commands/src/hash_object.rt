@@ -20,7 +20,9 @@ use std::alloc::Global;
 use std::fs::File;
 use std::io::{Read, Write};
 use std::rt;
+use std::thread::Threads;
 use vc_files::Files;
+use vc_folder::Syncs;
 use vc_object::{Kind, MAX_BODY, ObjectFault, ObjectId};
 
 /// What is to be named, and where it is to be stored.
@@ -41,7 +43,7 @@ pub fn hash_object<R, I, O>(
     output: &mut O,
 ) -> Result<(), Failure>
 where
-    R: rt::Files + AllocGlobal + Clone + Drop,
+    R: rt::Files + Syncs<R::File> + AllocGlobal + Clone + Drop,
     I: Read + Drop,
     O: Write,
 {
@@ -62,7 +64,7 @@ pub fn store_stream<R, I, O, E>(
     faults: &mut Faults<E>,
 ) -> Result<(), Failure>
 where
-    R: rt::Files<File = File> + AllocGlobal + Clone + Drop,
+    R: rt::Files<File = File> + Threads + AllocGlobal + Clone + Drop,
     I: Read + Drop,
     O: Write,
     E: Write,
@@ -89,7 +91,7 @@ fn name_or_store<R, I, O>(
     output: &mut O,
 ) -> Result<(), Failure>
 where
-    R: rt::Files + AllocGlobal + Clone + Drop,
+    R: rt::Files + Syncs<R::File> + AllocGlobal + Clone + Drop,
     I: Read + Drop,
     O: Write,
 {

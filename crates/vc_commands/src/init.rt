@@ -10,6 +10,7 @@ use crate::repository::open_store;
 use std::alloc::Global;
 use std::rt;
 use vc_files::{Fault, Files};
+use vc_folder::Syncs;
 use vc_refname::{NewNameError, RefName};
 use vc_refs::{Head, Refs};
 
@@ -19,7 +20,7 @@ const FIRST_BRANCH: &str = "refs/heads/main";
 /// Makes the store in this folder, where there is none.
 pub fn init<R>(rt: &R, store: &str) -> Result<(), Failure>
 where
-    R: rt::Files + AllocGlobal + Clone + Drop,
+    R: rt::Files + Syncs<R::File> + AllocGlobal + Clone + Drop,
 {
     let mut files = open_store(rt, store)?;
     make_head(rt.alloc(), &mut files)

@@ -14,6 +14,7 @@ use std::io::Write;
 use std::rt;
 use vc_base::merge_bases;
 use vc_files::Files;
+use vc_folder::Syncs;
 use vc_object::ObjectId;
 use vc_store::Store;
 
@@ -26,7 +27,7 @@ pub fn merge_base<R, O>(
     output: &mut O,
 ) -> Result<bool, Failure>
 where
-    R: rt::Files + AllocGlobal + Clone + Drop,
+    R: rt::Files + Syncs<R::File> + AllocGlobal + Clone + Drop,
     O: Write,
 {
     let mut files = open_store(rt, store)?;

@@ -31,7 +31,9 @@ use std::fs::File;
 use std::io::{Read, Write};
 use std::net::Net;
 use std::rt;
+use std::thread::Threads;
 use vc_files::Fault;
+use vc_folder::Syncs;
 
 /// Does what the words ask for and gives the exit status: 0 done, 1 refused, 2 a command line that is off, 3 a
 /// fault. Answers go to `output`, everything else to `faults`. The first word is the program's name. A command that writes
@@ -45,7 +47,7 @@ pub fn run<R, S, I, O, E>(
 ) -> u8
 where
     S: AsStr,
-    R: rt::Files<File = File> + Net + AllocGlobal + Clone + Drop,
+    R: rt::Files<File = File> + Threads + Net + AllocGlobal + Clone + Drop,
     I: Read + Drop,
     O: Write,
     E: Write,
@@ -65,7 +67,7 @@ fn obey<R, S, I, O, E>(
 ) -> Result<u8, Failure>
 where
     S: AsStr,
-    R: rt::Files<File = File> + Net + AllocGlobal + Clone + Drop,
+    R: rt::Files<File = File> + Threads + Net + AllocGlobal + Clone + Drop,
     I: Read + Drop,
     O: Write,
     E: Write,
@@ -105,7 +107,7 @@ fn tell_at<R, E>(
     faults: &mut Faults<E>,
 ) -> u8
 where
-    R: rt::Files + AllocGlobal + Clone + Drop,
+    R: rt::Files + Syncs<R::File> + AllocGlobal + Clone + Drop,
     E: Write,
     ensures status { (result ≡ status_of failure.now) ⊎ (result ≡ 3) }
 {
@@ -168,7 +170,7 @@ fn perform<R, I, O, E>(
     faults: &mut Faults<E>,
 ) -> Result<bool, Failure>
 where
-    R: rt::Files<File = File> + Net + AllocGlobal + Clone + Drop,
+    R: rt::Files<File = File> + Threads + Net + AllocGlobal + Clone + Drop,
     I: Read + Drop,
     O: Write,
     E: Write,
@@ -222,7 +224,7 @@ fn exchange<R, O, E>(
     faults: &mut Faults<E>,
 ) -> Result<bool, Failure>
 where
-    R: rt::Files<File = File> + Net + AllocGlobal + Clone + Drop,
+    R: rt::Files<File = File> + Threads + Net + AllocGlobal + Clone + Drop,
     O: Write,
     E: Write,
 {
@@ -249,7 +251,7 @@ fn work_on<R, O, E>(
     faults: &mut Faults<E>,
 ) -> Result<(), Failure>
 where
-    R: rt::Files + AllocGlobal + Clone + Drop,
+    R: rt::Files + Syncs<R::File> + AllocGlobal + Clone + Drop,
     O: Write,
     E: Write,
 {

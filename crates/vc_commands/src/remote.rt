@@ -10,6 +10,7 @@ use std::fs::File;
 use std::io::{self, Write};
 use std::net::Net;
 use std::rt;
+use std::thread::Threads;
 use vc_remote::{is_done, make_shared, report_lines};
 
 /// Serves so many connections to the store in this folder, which is made where there is none. The line `listening`, with the
@@ -23,7 +24,7 @@ pub fn serve<R, O, E>(
     faults: &mut Faults<E>,
 ) -> Result<(), Failure>
 where
-    R: rt::Files<File = File> + Net + AllocGlobal + Clone + Drop,
+    R: rt::Files<File = File> + Threads + Net + AllocGlobal + Clone + Drop,
     O: Write,
     E: Write,
 {
@@ -41,7 +42,7 @@ where
 // Makes the store that of a shared node, or tells why it is none, before anybody is served.
 fn make_ready<R, E>(rt: &R, store: &str, faults: &mut Faults<E>) -> Result<(), Failure>
 where
-    R: rt::Files<File = File> + AllocGlobal + Clone + Drop,
+    R: rt::Files<File = File> + Threads + AllocGlobal + Clone + Drop,
     E: Write,
 {
     let _lock = only_writer(rt, store, faults)?;
@@ -79,7 +80,7 @@ pub fn fetch<R, O, E>(
     faults: &mut Faults<E>,
 ) -> Result<(), Failure>
 where
-    R: rt::Files<File = File> + Net + AllocGlobal + Clone + Drop,
+    R: rt::Files<File = File> + Threads + Net + AllocGlobal + Clone + Drop,
     O: Write,
     E: Write,
 {
@@ -103,7 +104,7 @@ pub fn push<R, O, E>(
     faults: &mut Faults<E>,
 ) -> Result<bool, Failure>
 where
-    R: rt::Files<File = File> + Net + AllocGlobal + Clone + Drop,
+    R: rt::Files<File = File> + Threads + Net + AllocGlobal + Clone + Drop,
     O: Write,
     E: Write,
 {

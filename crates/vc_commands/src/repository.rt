@@ -8,7 +8,7 @@ use std::alloc::Global;
 use std::io::ErrorKind;
 use std::{fs, rt};
 use vc_files::Files;
-use vc_folder::FolderFiles;
+use vc_folder::{FolderFiles, Syncs};
 use vc_index::Index;
 use vc_object::ObjectId;
 use vc_repository::FileRepository;
@@ -17,7 +17,7 @@ use vc_rev::{parse, parse_set, resolve_set};
 /// The files of the store in this folder, which need not be there yet. A folder that Git made is refused.
 pub fn open_store<R>(rt: &R, folder: &str) -> Result<FolderFiles<R>, Failure>
 where
-    R: rt::Files + AllocGlobal + Clone + Drop,
+    R: rt::Files + Syncs<R::File> + AllocGlobal + Clone + Drop,
 {
     refuse_store_of_git(rt, folder)?;
     let root = String::from_str(rt.alloc(), folder)?;

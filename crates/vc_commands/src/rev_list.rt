@@ -11,11 +11,12 @@ use std::alloc::Global;
 use std::io::Write;
 use std::rt;
 use vc_files::Files;
+use vc_folder::Syncs;
 
 /// Prints the commits that the terms select in the store of this folder.
 pub fn rev_list<R, O>(rt: &R, store: &str, terms: &str, output: &mut O) -> Result<(), Failure>
 where
-    R: rt::Files + AllocGlobal + Clone + Drop,
+    R: rt::Files + Syncs<R::File> + AllocGlobal + Clone + Drop,
     O: Write,
 {
     let mut files = open_store(rt, store)?;

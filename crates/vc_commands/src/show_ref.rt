@@ -13,6 +13,7 @@ use std::alloc::{AllocError, Global};
 use std::io::Write;
 use std::rt;
 use vc_files::Files;
+use vc_folder::Syncs;
 use vc_object::ObjectId;
 use vc_refname::RefName;
 use vc_refs::Refs;
@@ -20,7 +21,7 @@ use vc_refs::Refs;
 /// Prints the refs of the store in this folder.
 pub fn show_ref<R, O>(rt: &R, store: &str, output: &mut O) -> Result<(), Failure>
 where
-    R: rt::Files + AllocGlobal + Clone + Drop,
+    R: rt::Files + Syncs<R::File> + AllocGlobal + Clone + Drop,
     O: Write,
 {
     let mut files = open_store(rt, store)?;

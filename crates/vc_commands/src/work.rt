@@ -10,12 +10,13 @@ use crate::repository::open_store;
 use crate::status::print_status;
 use std::io::Write;
 use std::rt;
+use vc_folder::Syncs;
 use vc_work_folder::FolderTree;
 
 // The work tree in this folder, of which the folder of the store is no part.
 fn open_work<R>(rt: &R, store: &str, work: &str, own: &str) -> Result<FolderTree<R>, Failure>
 where
-    R: rt::Files + AllocGlobal + Clone + Drop,
+    R: rt::Files + Syncs<R::File> + AllocGlobal + Clone + Drop,
 {
     let path = String::from_str(rt.alloc(), work)?;
     let own = String::from_str(rt.alloc(), own)?;
@@ -26,7 +27,7 @@ where
 /// Puts a file of the work tree into the index. A path that no index may have is refused before the file is looked for.
 pub fn add<R>(rt: &R, store: &str, work: &str, mode: FileMode, path: &str) -> Result<(), Failure>
 where
-    R: rt::Files + AllocGlobal + Clone + Drop,
+    R: rt::Files + Syncs<R::File> + AllocGlobal + Clone + Drop,
 {
     let own = own_folder(rt, store, work)?;
     let mut ground = open_work(rt, store, work, own.as_str())?;
@@ -45,7 +46,7 @@ where
 /// where a change that is not stored would be lost.
 pub fn checkout<R>(rt: &R, store: &str, work: &str, revision: &str) -> Result<(), Failure>
 where
-    R: rt::Files + AllocGlobal + Clone + Drop,
+    R: rt::Files + Syncs<R::File> + AllocGlobal + Clone + Drop,
 {
     let own = own_folder(rt, store, work)?;
     let mut ground = open_work(rt, store, work, own.as_str())?;
@@ -62,7 +63,7 @@ where
 /// Prints a line for each path at which HEAD's tree, the index and the work tree differ, in the order of the paths.
 pub fn status<R, O>(rt: &R, store: &str, work: &str, output: &mut O) -> Result<(), Failure>
 where
-    R: rt::Files + AllocGlobal + Clone + Drop,
+    R: rt::Files + Syncs<R::File> + AllocGlobal + Clone + Drop,
     O: Write,
 {
     let own = own_folder(rt, store, work)?;

@@ -1,9 +1,10 @@
 // In which order files of a folder are written and made durable.
 use crate::left_over;
 use crate::root::{Found, Root, above, is_absence};
+use crate::syncing::{Syncing, Syncs};
 use std::alloc::Global;
 use std::collections::BTreeSet;
-use std::fs::OpenFile;
+use std::fs::{File, OpenFile};
 use std::io::{self, ErrorKind, Write};
 use std::rt;
 
@@ -45,22 +46,25 @@ fn is_short(path: &str) -> bool {
 }
 
 /// Files in a folder, some of which wait for the next sync.
-pub(crate) struct Disk<R: rt::Files + AllocGlobal + Clone + Drop> {
+pub(crate) struct Disk<R: rt::Files + Syncs<R::File> + AllocGlobal + Clone + Drop> {
     root: Root<R>,
     // The paths of the files that stand under their lock names and wait for their places.
     waiting: BTreeSet<String>,
+    // Those of them that may not be durable yet.
+    syncing: Syncing<R::File>,
     // The folders that have names which aren't durable yet.
     folders: BTreeSet<String>,
     // Folders of paths that were seen to be folders, and no links.
     seen: BTreeSet<String>,
 }
 
-impl<R: rt::Files + AllocGlobal + Clone + Drop> Disk<R> {
+impl<R: rt::Files + Syncs<R::File> + AllocGlobal + Clone + Drop> Disk<R> {
     pub fn new(rt: R, path: String) -> Self {
         let alloc = rt.alloc();
         Disk {
             root: Root { rt, path },
             waiting: BTreeSet::new(alloc),
+            syncing: Syncing::new(alloc),
             folders: BTreeSet::new(alloc),
             seen: BTreeSet::new(alloc),
         }
@@ -154,7 +158,7 @@ impl<R: rt::Files + AllocGlobal + Clone + Drop> Disk<R> {
         self.write_lock(alloc, path, bytes, Care::Now)?;
         self.bring(alloc, path)?;
         self.note_folder(alloc, path)?;
-        self.sync_folders()
+        self.sync_folders(alloc)
     }
 
     fn put_later(&mut self, alloc: Global, path: &str, bytes: &[u8]) -> io::Result<()> {
@@ -163,23 +167,24 @@ impl<R: rt::Files + AllocGlobal + Clone + Drop> Disk<R> {
             self.sync(alloc)?;
         }
         let key = String::from_str(alloc, path)?;
-        self.write_lock(alloc, path, bytes, Care::Later)?;
+        let file = self.write_lock(alloc, path, bytes, Care::Later)?;
         if let Err(e) = self.waiting.insert(key) {
             let lock = self.root.lock(alloc, path)?;
             self.root.remove(lock.as_str())?;
             return Err(io::Error::from(e));
         }
-        Ok(())
+        let added = self.syncing.add(&self.root.rt, alloc, file);
+        self.or_give_up(alloc, added)
     }
 
-    // Writes a file under its lock name, over what a stopped process left there.
+    // Writes a file under its lock name, over what a stopped process left there. It is still open.
     fn write_lock(
         &mut self,
         alloc: Global,
         path: &str,
         bytes: &[u8],
         care: Care,
-    ) -> io::Result<()> {
+    ) -> io::Result<R::File> {
         let lock = self.root.lock(alloc, path)?;
         let (mut file, has_new_folders) = self.root.create(lock.as_str())?;
         let mut written = file.write_all(bytes);
@@ -189,11 +194,14 @@ impl<R: rt::Files + AllocGlobal + Clone + Drop> Disk<R> {
         if written.is_ok() && has_new_folders && care != Care::Never {
             written = self.note_folders_above(alloc, path);
         }
-        if written.is_err() {
-            // The answer is the first error; a lock file that stays blocks nothing.
-            let _ = self.root.remove(lock.as_str());
+        match written {
+            Ok(()) => Ok(file),
+            Err(e) => {
+                // The answer is the first error; a lock file that stays blocks nothing.
+                let _ = self.root.remove(lock.as_str());
+                Err(e)
+            }
         }
-        written
     }
 
     // Renames a lock file into its place, or removes it.
@@ -237,7 +245,7 @@ impl<R: rt::Files + AllocGlobal + Clone + Drop> Disk<R> {
         let folder = left_over::remove_empty(&self.root, &self.waiting, alloc, path)?;
         if care == Care::Now {
             self.folders.insert(folder)?;
-            self.sync_folders()?;
+            self.sync_folders(alloc)?;
         }
         Ok(())
     }
@@ -263,14 +271,23 @@ impl<R: rt::Files + AllocGlobal + Clone + Drop> Disk<R> {
         self.note_waiting_folders(alloc)?;
         self.bring_all(alloc)?;
         self.waiting.clear();
-        self.sync_folders()
+        self.sync_folders(alloc)
     }
 
-    fn sync_contents(&self, alloc: Global) -> io::Result<()> {
-        for path in &self.waiting {
-            self.sync_content(alloc, path.as_str())?;
+    // Makes the contents of what waits durable.
+    fn sync_contents(&mut self, alloc: Global) -> io::Result<()> {
+        let synced = self.syncing.finish(&self.root.rt);
+        self.or_give_up(alloc, synced)
+    }
+
+    // What could not be made durable never gets its place, and what waits with it neither: once the system has told of a
+    // failure, it may take the same file for durable.
+    fn or_give_up(&mut self, alloc: Global, done: io::Result<()>) -> io::Result<()> {
+        if done.is_err() {
+            self.syncing = Syncing::new(alloc);
+            self.waiting.clear();
         }
-        Ok(())
+        done
     }
 
     fn note_waiting_folders(&mut self, alloc: Global) -> io::Result<()> {
@@ -289,17 +306,6 @@ impl<R: rt::Files + AllocGlobal + Clone + Drop> Disk<R> {
     }
 
     // Where the lock file is gone, another process has brought the same file into place.
-    fn sync_content(&self, alloc: Global, path: &str) -> io::Result<()> {
-        let lock = self.root.lock(alloc, path)?;
-        match self.root.sync(lock.as_str()) {
-            Err(e) if is_absence(&e) => {
-                let place = self.root.place(alloc, path)?;
-                self.root.sync(place.as_str())
-            }
-            done => done,
-        }
-    }
-
     fn bring_waiting(&self, alloc: Global, path: &str) -> io::Result<()> {
         match self.rename(alloc, path) {
             Err(e) if is_absence(&e) => {
@@ -310,17 +316,24 @@ impl<R: rt::Files + AllocGlobal + Clone + Drop> Disk<R> {
         }
     }
 
-    fn sync_folders(&mut self) -> io::Result<()> {
+    fn sync_folders(&mut self, alloc: Global) -> io::Result<()> {
+        self.sync_noted(alloc)?;
+        self.folders.clear();
+        Ok(())
+    }
+
+    fn sync_noted(&self, alloc: Global) -> io::Result<()> {
+        let rt = &self.root.rt;
+        let mut syncing = Syncing::new(alloc);
         for folder in &self.folders {
-            match self.root.sync(folder.as_str()) {
-                Ok(()) => {}
+            match File::open(rt, folder.as_str()) {
+                Ok(folder) => syncing.add(rt, alloc, folder)?,
                 // It was removed when its last file was.
                 Err(e) if is_absence(&e) => {}
                 Err(e) => return Err(e),
             }
         }
-        self.folders.clear();
-        Ok(())
+        syncing.finish(rt)
     }
 
     fn note_folder(&mut self, alloc: Global, path: &str) -> io::Result<()> {
@@ -356,7 +369,7 @@ fn folder_of<R: rt::Files + AllocGlobal + Clone + Drop>(
     }
 }
 
-impl<R: rt::Files + AllocGlobal + Clone + Drop> Drop for Disk<R> {
+impl<R: rt::Files + Syncs<R::File> + AllocGlobal + Clone + Drop> Drop for Disk<R> {
     fn drop(mut self) {
         let alloc = self.root.rt.alloc();
         // Nobody is left to hear of an error: who wants to know it calls `sync` before.
@@ -364,6 +377,7 @@ impl<R: rt::Files + AllocGlobal + Clone + Drop> Drop for Disk<R> {
         let Disk {
             root: _,
             waiting: _,
+            syncing: _,
             folders: _,
             seen: _,
         } = self;

@@ -3,6 +3,7 @@ ghost use Rattle.std.specs.Prelude.{◌≡◌, ◌≤◌, IsErrOf};
 ghost use Rattle.vc_files.specs.Failures.{HasFailed, unstopped};
 
 use crate::disk::Disk;
+use crate::syncing::Syncs;
 use std::alloc::Global;
 use std::io::{self, ErrorKind};
 use std::marker::Model;
@@ -21,18 +22,19 @@ use vc_files::{Fault, Files};
 /// A file is durable when `put` returns, and so is all that was put before it, except for these:
 /// - an object, below `objects/`, keeps its lock name until the next such file is put or `sync` is called; then
 ///   the contents of all that wait are made durable, then they are renamed, then their folders are made durable.
-///   So no object is ever found in its place with less than its content. Until then only this value knows them;
+///   So no object is ever found in its place with less than its content. Until then only this value knows them.
+///   Threads make the contents of many durable while more are put; what one fails at is given up with all that waits;
 /// - a quarantined object, below `quarantine/`, is never made durable: a stop leaves nothing of it that is read.
 ///
 /// Letting the value go syncs it too, and drops an error, so a program ends with `sync`. One process at a time
 /// writes to a folder: the one that holds its `FolderLock`.
 #[derive(Drop)]
-pub struct FolderFiles<R: rt::Files + AllocGlobal + Clone + Drop> {
+pub struct FolderFiles<R: rt::Files + Syncs<R::File> + AllocGlobal + Clone + Drop> {
     disk: Disk<R>,
     failed: u64,
 }
 
-impl<R: rt::Files + AllocGlobal + Clone + Drop> Model for FolderFiles<R> {
+impl<R: rt::Files + Syncs<R::File> + AllocGlobal + Clone + Drop> Model for FolderFiles<R> {
     ghost use Rattle.std.specs.Prelude.{ℕ};
 
     ghost Value = { ℕ };
@@ -40,7 +42,7 @@ impl<R: rt::Files + AllocGlobal + Clone + Drop> Model for FolderFiles<R> {
     ghost view = { λ s. s.failed };
 }
 
-impl<R: rt::Files + AllocGlobal + Clone + Drop> FolderFiles<R> {
+impl<R: rt::Files + Syncs<R::File> + AllocGlobal + Clone + Drop> FolderFiles<R> {
     /// The files in the folder with this path, which is made when the first file is put.
     pub fn new(rt: R, root: String) -> Self
         ensures { result ≡ 0 }
@@ -94,7 +96,7 @@ pub(crate) fn fault_of(e: &io::Error) -> Fault {
     }
 }
 
-impl<R: rt::Files + AllocGlobal + Clone + Drop> Files for FolderFiles<R> {
+impl<R: rt::Files + Syncs<R::File> + AllocGlobal + Clone + Drop> Files for FolderFiles<R> {
     ghost use Rattle.std.specs.Prelude.{⊤};
     ghost use Rattle.std.specs.FinMap as files;
 

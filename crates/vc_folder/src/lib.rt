@@ -6,6 +6,8 @@ mod folder;
 mod left_over;
 mod lock;
 mod root;
+mod syncing;
 
 pub use folder::FolderFiles;
 pub use lock::FolderLock;
+pub use syncing::{Begun, Syncs, sync_in_turn};

@@ -9,8 +9,9 @@ use std::fs::File;
 use std::io::Write;
 use std::net::Net;
 use std::rt;
+use std::thread::Threads;
 use vc_exchange::PushItem;
-use vc_folder::{FolderFiles, FolderLock};
+use vc_folder::{FolderFiles, FolderLock, Syncs};
 use vc_node::CloneNode;
 use vc_push::Report;
 use vc_world::{exchange_fetch, exchange_push};
@@ -25,7 +26,7 @@ pub fn fetch<R, W>(
     progress: &mut Progress<W>,
 ) -> Result<usize, RemoteFault>
 where
-    R: rt::Files<File = File> + Net + AllocGlobal + Clone + Drop,
+    R: rt::Files<File = File> + Threads + Net + AllocGlobal + Clone + Drop,
     W: Write,
 {
     let alloc = rt.alloc();
@@ -48,7 +49,7 @@ pub fn push<R, W>(
     progress: &mut Progress<W>,
 ) -> Result<Report, RemoteFault>
 where
-    R: rt::Files<File = File> + Net + AllocGlobal + Clone + Drop,
+    R: rt::Files<File = File> + Threads + Net + AllocGlobal + Clone + Drop,
     W: Write,
     requires some { items.now ≢ [] }
 {
@@ -64,7 +65,7 @@ where
 // The clone in this folder, which is made where there is none.
 fn open_clone<R>(rt: &R, store: &str) -> Result<CloneNode<FolderFiles<R>>, RemoteFault>
 where
-    R: rt::Files + AllocGlobal + Clone + Drop,
+    R: rt::Files + Syncs<R::File> + AllocGlobal + Clone + Drop,
 {
     let root = String::from_str(rt.alloc(), store)?;
     match CloneNode::open(rt.alloc(), FolderFiles::new(rt.clone()?, root)) {
@@ -76,7 +77,7 @@ where
 // Makes all durable that the clone stored, also where the exchange ended early.
 fn settle<R>(alloc: Global, clone: CloneNode<FolderFiles<R>>) -> Result<(), RemoteFault>
 where
-    R: rt::Files + AllocGlobal + Clone + Drop,
+    R: rt::Files + Syncs<R::File> + AllocGlobal + Clone + Drop,
 {
     let mut files = clone.close();
     files.sync(alloc)?;

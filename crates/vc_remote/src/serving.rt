@@ -7,6 +7,7 @@ use std::fs::File;
 use std::io::{self, BufReader, ErrorKind};
 use std::net::{Ipv4Addr, Net, OpenListener, OpenStream, SocketAddr};
 use std::rt;
+use std::thread::Threads;
 use vc_files::Fault;
 use vc_folder::{FolderFiles, FolderLock};
 use vc_message::{IncomingFault, read_message};
@@ -27,7 +28,7 @@ pub(crate) fn local(port: u16) -> SocketAddr {
 /// after a refusal, counts as one. Nothing is kept from message to message, so that other commands may change the store.
 pub fn serve<R>(rt: &R, store: &str, listener: &R::Listener, count: u32) -> Result<(), Fault>
 where
-    R: rt::Files<File = File> + Net + AllocGlobal + Clone + Drop,
+    R: rt::Files<File = File> + Threads + Net + AllocGlobal + Clone + Drop,
 {
     for _ in 0..count {
         match listener.accept() {
@@ -51,7 +52,7 @@ fn pass_over(error: &io::Error) -> Result<(), Fault> {
 // Answers what comes on a connection until the client closes it, the connection fails, or a message is refused.
 fn serve_connection<R>(rt: &R, store: &str, stream: R::Stream) -> Result<(), Fault>
 where
-    R: rt::Files<File = File> + Net + AllocGlobal + Clone + Drop,
+    R: rt::Files<File = File> + Threads + Net + AllocGlobal + Clone + Drop,
 {
     // Without it an answer in parts could wait for the client's word that the first part came.
     if stream.set_nodelay(true).is_err() {
@@ -93,7 +94,7 @@ fn serve_next<R>(
     stream: &mut BufReader<R::Stream>,
 ) -> Result<Served, ServeFault>
 where
-    R: rt::Files<File = File> + Net + AllocGlobal + Clone + Drop,
+    R: rt::Files<File = File> + Threads + Net + AllocGlobal + Clone + Drop,
 {
     let answered = match read_message(rt.alloc(), stream) {
         Ok(Some(bytes)) => match answer_in(rt, store, &bytes) {
@@ -111,7 +112,7 @@ where
 // Answers a message at the store in this folder, whose lock is held meanwhile. All that the node stored is durable then.
 fn answer_in<R>(rt: &R, store: &str, bytes: &[u8]) -> Result<Result<Vec<u8>, SharedFault>, Fault>
 where
-    R: rt::Files<File = File> + AllocGlobal + Clone + Drop,
+    R: rt::Files<File = File> + Threads + AllocGlobal + Clone + Drop,
 {
     let alloc = rt.alloc();
     let _lock = FolderLock::take(rt, store)?;
