@@ -79,7 +79,9 @@ impl Files for MemoryFiles {
 
     fn list(&mut self, alloc: Global, prefix: &str) -> Result<Vec<String>, Fault> {
         let mut listed = Vec::new(alloc);
-        for path in self.map.keys() {
+        // What comes before the prefix doesn't begin with it: the refs of a node stand behind all its objects.
+        let first = String::from_str(alloc, prefix)?;
+        for (path, _) in self.map.range(first..) {
             if begins_with(path.as_str(), prefix) {
                 listed.push(String::from_str(alloc, path.as_str())?)?;
             }

@@ -7,5 +7,5 @@ use Rattle.vc_files.proofs.memory.MemoryFilesFiles.list.Given as goal
 -- the paths so far and those that the rest gives are those of all files
 abbrev pub invariant-loop-path : goal.invariant-loop-path
 invariant-loop-path l =
-    map string_bytes l.listed.items ++ filter (λ path. starts_with nat_eq path l.prefix) (map string_bytes l.path-iterator)
+    map string_bytes l.listed.items ++ filter (λ path. starts_with nat_eq path l.prefix) (map (λ e. string_bytes e.0) l.path-iterator)
     ≡ paths_under l.fn.self l.prefix
