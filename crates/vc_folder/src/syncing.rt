@@ -11,8 +11,9 @@ use std::{io, mem};
 // How many files a thread is given. Fewer are synced by the thread that asks.
 const SHARE: usize = 16;
 
-// How many threads sync at once, at most. With a share each has so many files open; a process may have some thousand.
-const MOST_THREADS: usize = 16;
+// How many threads sync at once, at most. With their shares and one that fills up, some 140 files are open at once: more threads
+// are no quicker, and a process may be allowed no more than 256.
+const MOST_THREADS: usize = 8;
 
 /// What makes files of this type durable.
 pub trait Syncs<T> {
