@@ -7,6 +7,7 @@ pub mod GitLaws
 pub mod VerdictLaws
 pub mod RefLemmas
 pub mod SoundLemmas
+pub mod WholeLemmas
 pub mod MapLemmas
 pub mod JoinLemmas
 pub mod UpdateLaws

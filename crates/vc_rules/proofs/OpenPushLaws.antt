@@ -1,5 +1,5 @@
 -- Each step of a session is a step of the push that it stands for.
-use Rattle.std.proofs.Common.{◌≡◌, ◌⊎◌, inl, inr, ℕ, suc, List, [], ◌∷◌, map, length, drop, Option, Some, None, Bool, true, cond, refl, ap, sym, ◌∙◌, subst, true≢false}
+use Rattle.std.proofs.Common.{◌≡◌, ◌⊎◌, inl, inr, ℕ, suc, List, [], ◌∷◌, map, length, drop, Option, Some, None, Bool, cond, refl, ap, sym, ◌∙◌, subst}
 use Rattle.std.specs.Prelude.{option_map, is_some, is_none, IsSome, Ok, Err}
 use Rattle.std.specs.FinMap.{empty, get, get-empty}
 use Rattle.std.specs.Option.{option_or}
@@ -7,19 +7,17 @@ use Rattle.std.specs.Ordering.{nat_cmp}
 use Rattle.std.specs.Cmp.Lexicographic.{slice_cmp}
 use Rattle.vc_files.specs.FileMap.{FileMap, SameOutside}
 use Rattle.vc_format.specs.Git.{id_of_bytes}
-use Rattle.vc_graph.specs.Graph.{IsClosed}
 use Rattle.vc_graph.specs.Overlay.{with_carried}
 use Rattle.vc_model.specs.Node.{Reply}
 use Rattle.vc_model.specs.Node.Reply.{Passed, MigratedAll, Updated}
 use Rattle.vc_model.specs.Object.{Id, Object, Objects, stored, over}
 use Rattle.vc_model.specs.Push as machine
 use Rattle.vc_model.specs.Push.{OpenPush, Judged}
-use Rattle.vc_model.specs.Push.Stage.{Unpacked as MachineUnpacked, Checked as MachineChecked, Migrated as MachineMigrated, Finished}
-use Rattle.vc_model.specs.Refs.{IsTag, RefName}
+use Rattle.vc_model.specs.Push.Stage.{Checked as MachineChecked, Migrated as MachineMigrated, Finished}
+use Rattle.vc_model.specs.Refs.{RefName}
 use Rattle.vc_model.specs.Repository.{Change, Repository, IsSound, changed_all, no_effect, only_changes, with_objects}
 use Rattle.vc_model.specs.Shared as shared
 use Rattle.vc_object.specs.Decoding.{StoredObject}
-use Rattle.vc_object.specs.ObjectMap.{links_in}
 use Rattle.vc_object.specs.declared.fault.ObjectFault.{ObjectFault}
 use Rattle.vc_object.specs.declared.id.ObjectId.{ObjectId}
 use Rattle.vc_push.specs.Push.{Carried, CommandText, FaultOf}
@@ -33,11 +31,10 @@ use Rattle.vc_store.specs.Store.{objects}
 use Rattle.vc_session.proofs.FrameLemmas.{objects-of_ref, objects-of_slot, quarantined-of_ref, quarantined-of_slot, refs-of_objects, refs-of_slot}
 use Rattle.vc_session.proofs.QuarantineLemmas.{quarantined-same}
 use Rattle.vc_session.specs.Carrying.{HoldsNames, objects_of_push}
-use Rattle.vc_session.specs.Known.{AreRefsWhole}
 use Rattle.vc_session.specs.Quarantine.{objects_seen, quarantine_folder, quarantined}
 use Rattle.vc_session.specs.Session.{IsSession, SessionText, fresh, stage_while, verdict_of}
 use Rattle.vc_session.specs.Steps.{EndsEarly, StepChecks, StepFinishes, StepMigrates, StepUpdates, fault_number, unpack_of}
-use Rattle.vc_session.specs.Verdict.{HasHistory, is_branch, refs_after}
+use Rattle.vc_session.specs.Verdict.{refs_after}
 use Rattle.vc_session.specs.declared.stage.Stage.{Stage}
 use Rattle.vc_session.specs.declared.stage.Stage.TheVariants.{Unpacked, Checked, Migrated, Done as AtItsEnd}
 use Rattle.vc_session.specs.declared.stage.Stepped.TheVariants as stepped
@@ -48,10 +45,10 @@ use Rattle.vc_rules.specs.OpenPushes.{EndsEarlyAgree, HoldsContent, HoldsPush, I
 use Rattle.vc_rules.specs.Verdicts.{AreFoundAt, machine_command, machine_reason}
 use Rattle.vc_rules.proofs.JoinLemmas.{joined, joined_all, joined_some, joined_where, joined_where_each, none_added}
 use Rattle.vc_rules.proofs.JudgedLemmas.{checks_all, count_judged, none_judged, split_judged, stage_judged, tells_all}
-use Rattle.vc_rules.proofs.ReachLemmas.{closed_to, history_to}
-use Rattle.vc_rules.proofs.RefLemmas.{set_rel, that_id}
-use Rattle.vc_rules.proofs.SoundLemmas.{objects_sound, seen_sound}
+use Rattle.vc_rules.proofs.RefLemmas.{set_rel}
+use Rattle.vc_rules.proofs.SoundLemmas.{seen_sound}
 use Rattle.vc_rules.proofs.UpdateLaws.{changes_of, updates_agree}
+use Rattle.vc_rules.proofs.WholeLemmas.{refs_whole}
 
 -- ---- what is found
 module _ (content : FileMap) (r : Repository) (held : HoldsContent content r) where
@@ -67,25 +64,6 @@ module _ (content : FileMap) (r : Repository) (held : HoldsContent content r) wh
 
   seen_found : (slot : ℕ) (c : Objects) → ((x : Id) → quarantined content slot (id_of_bytes x) ≡ option_map stored_of (get c x)) → AreFoundAt (objects_seen content slot) (over r.objects c)
   seen_found slot c carried = record { same = same_seen slot c carried; sound = seen_sound content slot }
-
-  -- what a sound repository's refs reach is there
-  refs_whole : IsSound git r → AreRefsWhole content
-  refs_whole sound = record { closed = closed; history = history }
-    where
-      value : (name : List ℕ) (id : ObjectId) → refs content name ≡ Some id → get r.refs name ≡ Some id.0
-      value name id h = that_id (get r.refs name) id.0 (sym (held.refs_are name) ∙ h)
-
-      closed : (name : List ℕ) (id : ObjectId) → refs content name ≡ Some id → IsClosed (links_in (objects content)) id
-      closed name id h = closed_to (objects content) (stored r.objects) held.objects_are id.0 ((sound.refs name id.0 (value name id h)).closed)
-
-      no_tag : (name : List ℕ) → is_branch name ≡ true → IsTag name → ⊥
-      no_tag name is tag = true≢false (sym is ∙ ap is_branch tag.1)
-
-      history : (name : List ℕ) (id : ObjectId) → is_branch name ≡ true → refs content name ≡ Some id → HasHistory (objects content) id
-      history name id is h = elim ((sound.refs name id.0 (value name id h)).kind) [
-        | inl tag ↦ absurd (no_tag name is tag)
-        | inr kept ↦ history_to (objects content) (stored r.objects) held.objects_are (objects_sound content) id.0 kept.1
-      ]
 
 -- ---- what stays
 -- a change in one slot's quarantine

@@ -28,7 +28,7 @@ use Rattle.vc_object.specs.declared.id.ObjectId.{ObjectId}
 use Rattle.vc_refs.specs.RefMap.{RefMap, IsListOf}
 use Rattle.vc_refs.specs.Refs.{refs}
 use Rattle.vc_session.specs.Known.{AreRefsWhole, AreWhole}
-use Rattle.vc_session.specs.Verdict.{is_branch}
+use Rattle.vc_session.specs.Verdict.{is_tag}
 use Rattle.vc_session.specs.declared.known.Known.{Known}
 use Rattle.vc_store.specs.Store.{objects}
 
@@ -97,10 +97,10 @@ module _ (refs : RefMap) (IsKind : List ℕ → Type 0) where
   }
 
 -- what refs reach is whole, so their values are
-pub AreWhole-by_refs : (content : FileMap) (known : Known) → AreValues (refs content) (λ name. ⊤) known.objects.keys → AreValues (refs content) (λ name. is_branch name ≡ true) known.histories.keys → AreRefsWhole content → AreWhole (objects content) known
-AreWhole-by_refs content known values branches whole = record {
+pub AreWhole-by_refs : (content : FileMap) (known : Known) → AreValues (refs content) (λ name. ⊤) known.objects.keys → AreValues (refs content) (λ name. is_tag name ≡ false) known.histories.keys → AreRefsWhole content → AreWhole (objects content) known
+AreWhole-by_refs content known values others whole = record {
   closed = λ y h. let v = values.each h.root h.is_root in whole.closed v.0 h.root v.2 y h.reaches;
-  histories = λ y h. let v = branches.each h.root h.is_root in whole.history v.0 h.root v.1 v.2 y h.reaches;
+  histories = λ y h. let v = others.each h.root h.is_root in whole.history v.0 h.root v.1 v.2 y h.reaches;
 }
 
 -- ---- the entries of a list of refs

@@ -37,8 +37,8 @@ impl Known {
         }
     }
 
-    /// The values of all refs, and as commits those of the branches. Each file in `refs/` is read once.
-    pub(crate) fn by_refs<F: Files>(files: &mut F, alloc: Global) -> Result<Known, RefFault>
+    /// The values of all refs, and as commits those of all but the tags. Each file in `refs/` is read once.
+    pub fn by_refs<F: Files>(files: &mut F, alloc: Global) -> Result<Known, RefFault>
         ensures whole { F.honest → IfOk result (λ known. AreRefsWhole (F.content files.old) → AreWhole (objects (F.content files.old)) known) }
         ensures refused { F.honest → IfErr result (BlamesList (F.content files.old)) }
         ensures same { F.content files.new ≡ F.content files.old }
@@ -47,7 +47,7 @@ impl Known {
         let mut known = Known::nothing(alloc);
         for (name, id) in &list(files, alloc)? {
             known.objects.insert(*id)?;
-            if name.is_branch() {
+            if !name.is_tag() {
                 known.histories.insert(*id)?;
             }
         }

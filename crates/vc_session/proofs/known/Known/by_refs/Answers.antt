@@ -4,15 +4,15 @@ use Rattle.std.proofs.lemmas.Option.{slice_get-get_or}
 use Rattle.indexmap.specs.IndexSet.{insert_key}
 use Rattle.vc_object.specs.ObjectId.{id_eq}
 use Rattle.vc_refs.specs.Refs.{refs}
-use Rattle.vc_session.specs.Verdict.{is_branch}
+use Rattle.vc_session.specs.Verdict.{is_tag}
 use Rattle.vc_session.proofs.KnownLemmas.{AreValues, AreValues-insert, AreValues-none, AreWhole-by_refs, listed_value}
-use Rattle.vc_session.proofs.known.Known.by_refs.Goals.{then-is_branch+in_ok-insert-2, else-is_branch}
+use Rattle.vc_session.proofs.known.Known.by_refs.Goals.{then-is_tag-not+in_ok-insert-2, else-is_tag-not}
 use Rattle.vc_session.proofs.known.Known.by_refs.Goals as goal
 
 pub loop-name-init : goal.loop-name-init
 loop-name-init g c = record {
   objects = λ honest. AreValues-none (refs (g.F.Files.content c.args.files.now)) (λ name. ⊤) c.nothing-known.result.objects.keys c.nothing-known.ensures.objects;
-  histories = λ honest. AreValues-none (refs (g.F.Files.content c.args.files.now)) (λ name. is_branch name ≡ true) c.nothing-known.result.histories.keys c.nothing-known.ensures.histories;
+  histories = λ honest. AreValues-none (refs (g.F.Files.content c.args.files.now)) (λ name. is_tag name ≡ false) c.nothing-known.result.histories.keys c.nothing-known.ensures.histories;
 }
 
 pub loop-name-preserved : goal.loop-name-preserved
@@ -29,8 +29,8 @@ loop-name-preserved g c =
       | then-is_branch+in_ok-insert-2 w ↦
           let branch : is_branch entry.0 ≡ true = sym c.is_branch.ensures ∙ w.if-is_branch.true in
           let more : w.insert-then-is_branch.new.self.keys ≡ insert_key id_eq c.loop-name.known.histories.keys entry.1 = w.in_ok-insert-2.ensures.keys in
-          let histories : g.F.Files.honest → AreValues at_refs (λ name. is_branch name ≡ true) w.insert-then-is_branch.new.self.keys = λ honest.
-          AreValues-insert at_refs (λ name. is_branch name ≡ true) c.loop-name.known.histories.keys w.insert-then-is_branch.new.self.keys entry.0 entry.1 branch (value honest) more (before.histories honest) in
+          let histories : g.F.Files.honest → AreValues at_refs (λ name. is_tag name ≡ false) w.insert-then-is_branch.new.self.keys = λ honest.
+          AreValues-insert at_refs (λ name. is_tag name ≡ false) c.loop-name.known.histories.keys w.insert-then-is_branch.new.self.keys entry.0 entry.1 branch (value honest) more (before.histories honest) in
           record { objects = rw w.known-is objects; histories = rw w.known-is histories }
       | else-is_branch w ↦ record { objects = rw w.known-is objects; histories = rw w.known-is before.histories }
     ]
