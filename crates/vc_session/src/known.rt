@@ -54,6 +54,19 @@ impl Known {
         Ok(known)
     }
 
+    /// What [`by_refs`](Known::by_refs) tells, or nothing where a file in `refs/` is bad: then a walk goes all the way down.
+    pub fn by_good_refs<F: Files>(files: &mut F, alloc: Global) -> Result<Known, Fault>
+        ensures whole { F.honest → IfOk result (λ known. AreRefsWhole (F.content files.old) → AreWhole (objects (F.content files.old)) known) }
+        ensures same { F.content files.new ≡ F.content files.old }
+        ensures wear { Wears F.failed F.can_fail F.left files.old files.new (IsErrOf result Fault.Device) }
+    {
+        match Known::by_refs(files, alloc) {
+            Ok(known) => Ok(known),
+            Err(RefFault::Fault(fault)) => Err(fault),
+            Err(_) => Ok(Known::nothing(alloc)),
+        }
+    }
+
     /// Adds what the old values of the commands link to, where they are known, and what that links to: the trees of the
     /// tips that a push builds on, and what stands in them. Those are most of what the new trees hold.
     pub(crate) fn learn_tips<C: Commits>(

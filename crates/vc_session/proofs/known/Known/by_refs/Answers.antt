@@ -1,4 +1,4 @@
-use Rattle.std.proofs.Common.{◌≡◌, Some, true, slice_get, sym, ap, ◌∙◌}
+use Rattle.std.proofs.Common.{◌≡◌, Some, false, slice_get, sym, ap, ◌∙◌}
 use Rattle.std.specs.Prelude.{⊤}
 use Rattle.std.proofs.lemmas.Option.{slice_get-get_or}
 use Rattle.indexmap.specs.IndexSet.{insert_key}
@@ -6,7 +6,7 @@ use Rattle.vc_object.specs.ObjectId.{id_eq}
 use Rattle.vc_refs.specs.Refs.{refs}
 use Rattle.vc_session.specs.Verdict.{is_tag}
 use Rattle.vc_session.proofs.KnownLemmas.{AreValues, AreValues-insert, AreValues-none, AreWhole-by_refs, listed_value}
-use Rattle.vc_session.proofs.known.Known.by_refs.Goals.{then-is_tag-not+in_ok-insert-2, else-is_tag-not}
+use Rattle.vc_session.proofs.known.Known.by_refs.Goals.{then-not-is_tag+in_ok-insert-2, else-not-is_tag}
 use Rattle.vc_session.proofs.known.Known.by_refs.Goals as goal
 
 pub loop-name-init : goal.loop-name-init
@@ -25,14 +25,14 @@ loop-name-preserved g c =
     let value : g.F.Files.honest → at_refs entry.0 ≡ Some entry.1 = λ honest. listed_value at_refs items c.loop-name.name-index entry (rw c.deref-name-items.ensures.value (c.in_ok-list.ensures.listed honest)) at in
     let added : c.insert.new.self.keys ≡ insert_key id_eq c.loop-name.known.objects.keys entry.1 = c.in_ok-insert.ensures.keys in
     let objects : g.F.Files.honest → AreValues at_refs (λ name. ⊤) c.insert.new.self.keys = λ honest. AreValues-insert at_refs (λ name. ⊤) c.loop-name.known.objects.keys c.insert.new.self.keys entry.0 entry.1 tt (value honest) added (before.objects honest) in
-    elim c.if-is_branch.branch [
-      | then-is_branch+in_ok-insert-2 w ↦
-          let branch : is_branch entry.0 ≡ true = sym c.is_branch.ensures ∙ w.if-is_branch.true in
-          let more : w.insert-then-is_branch.new.self.keys ≡ insert_key id_eq c.loop-name.known.histories.keys entry.1 = w.in_ok-insert-2.ensures.keys in
-          let histories : g.F.Files.honest → AreValues at_refs (λ name. is_tag name ≡ false) w.insert-then-is_branch.new.self.keys = λ honest.
-          AreValues-insert at_refs (λ name. is_tag name ≡ false) c.loop-name.known.histories.keys w.insert-then-is_branch.new.self.keys entry.0 entry.1 branch (value honest) more (before.histories honest) in
+    elim c.if-not-is_tag.branch [
+      | then-not-is_tag+in_ok-insert-2 w ↦
+          let no_tag : is_tag entry.0 ≡ false = sym c.is_tag.ensures ∙ w.if-not-is_tag.true in
+          let more : w.insert-then-not-is_tag.new.self.keys ≡ insert_key id_eq c.loop-name.known.histories.keys entry.1 = w.in_ok-insert-2.ensures.keys in
+          let histories : g.F.Files.honest → AreValues at_refs (λ name. is_tag name ≡ false) w.insert-then-not-is_tag.new.self.keys = λ honest.
+          AreValues-insert at_refs (λ name. is_tag name ≡ false) c.loop-name.known.histories.keys w.insert-then-not-is_tag.new.self.keys entry.0 entry.1 no_tag (value honest) more (before.histories honest) in
           record { objects = rw w.known-is objects; histories = rw w.known-is histories }
-      | else-is_branch w ↦ record { objects = rw w.known-is objects; histories = rw w.known-is before.histories }
+      | else-not-is_tag w ↦ record { objects = rw w.known-is objects; histories = rw w.known-is before.histories }
     ]
 
 pub returns-clause-whole : goal.returns-clause-whole
