@@ -9,7 +9,7 @@ use Rattle.vc_model.specs.Message.{Message}
 use Rattle.vc_model.specs.Node.Reply.{Reported}
 use Rattle.vc_model.specs.Object.{Id, stored}
 use Rattle.vc_model.specs.Refs.{RefName}
-use Rattle.vc_model.specs.Repository.{Change, Repository, only_changes}
+use Rattle.vc_model.specs.Repository.{Change, IsSound, Repository, only_changes}
 use Rattle.vc_object.specs.declared.id.ObjectId.{ObjectId}
 use Rattle.vc_push.specs.Report.{ReportText, ToldText}
 use Rattle.vc_push.specs.ReportView.{told_of}
@@ -77,19 +77,19 @@ next_refused told i command within is =
     ∙ ap (λ (l : List Command). refused (map told_of l)) (sym (take_more told i command within))
 
 -- ---- the deed
-module _ (r : Repository) (awaits : Awaited) (m : Message) (t : ReportText) (report : IsReport m t) (told : List Told) (is : told ≡ accepted t.told) (numbers : List ℕ) (are : numbers ≡ refused t.told) where
-  takes : (cs : List Change) → Moves (MovesBranch git (stored r.objects)) r.refs (machine_refs told) cs → Receives git r awaits m (quietly awaits (only_changes cs) (Reported (length cs) numbers))
-  takes cs moves = subst (λ (x : Message). Receives git r awaits x (quietly awaits (only_changes cs) (Reported (length cs) numbers))) (sym report.is) (
+module _ (r : Repository) (known : Type 0) (sound : IsSound git r → known) (awaits : Awaited) (m : Message) (t : ReportText) (report : IsReport m t) (told : List Told) (is : told ≡ accepted t.told) (numbers : List ℕ) (are : numbers ≡ refused t.told) where
+  takes : IsSound git r → (cs : List Change) → Moves (MovesBranch git (stored r.objects)) r.refs (machine_refs told) cs → Receives git r awaits m (quietly awaits (only_changes cs) (Reported (length cs) numbers))
+  takes is_sound cs moves = subst (λ (x : Message). Receives git r awaits x (quietly awaits (only_changes cs) (Reported (length cs) numbers))) (sym report.is) (
     cs,
     subst (λ (l : List (RefName × Id)). Moves (MovesBranch git (stored r.objects)) r.refs l cs) (ap machine_refs is ∙ sym (accepted_agree t.told)) moves,
     ap (λ (ns : List ℕ). quietly awaits (only_changes cs) (Reported (length cs) ns)) are,
   )
 
-  pub report_received : (new : FileMap) (moved : ℕ) → AreMoved Branches told r new moved → IsReceived r awaits m new awaits None (Reported moved numbers)
-  report_received = all_received Branches told r empty r.objects (added_none r.objects) (stored r.objects) refl awaits m awaits (λ n. Reported n numbers) takes
+  pub report_received : (new : FileMap) (moved : ℕ) → AreMoved known Branches told r new moved → IsReceived r awaits m new awaits None (Reported moved numbers)
+  report_received = all_received Branches told r empty r.objects (added_none r.objects) (stored r.objects) refl awaits m awaits (λ n. Reported n numbers) known sound takes
 
-  pub report_cut : (new : FileMap) → AreFrontMoved Branches told r new → IsCutShort r awaits m new
-  report_cut = front_received Branches told r empty r.objects (added_none r.objects) (stored r.objects) refl awaits m awaits (λ n. Reported n numbers) takes
+  pub report_cut : (new : FileMap) → AreFrontMoved known Branches told r new → IsCutShort r awaits m new
+  report_cut = front_received Branches told r empty r.objects (added_none r.objects) (stored r.objects) refl awaits m awaits (λ n. Reported n numbers) known sound takes
 
-  pub report_changes : MovesSome Branches told r → ChangesAt r awaits m
-  report_changes = some_received Branches told r empty r.objects (added_none r.objects) (stored r.objects) refl awaits m awaits (λ n. Reported n numbers) takes
+  pub report_changes : (known → MovesSome Branches told r) → IsSound git r → ChangesAt r awaits m
+  report_changes = some_received Branches told r empty r.objects (added_none r.objects) (stored r.objects) refl awaits m awaits (λ n. Reported n numbers) known sound takes
