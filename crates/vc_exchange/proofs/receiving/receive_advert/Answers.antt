@@ -5,22 +5,26 @@ use Rattle.vc_files.specs.FileMap.{FileMap}
 use Rattle.vc_format.specs.Git.{bytes_of_id}
 use Rattle.vc_message.specs.Machine.{IsWritten}
 use Rattle.vc_model.specs.Clone.{haves_of}
+use Rattle.vc_model.specs.Clone.Awaited.{AnAdvert}
 use Rattle.vc_model.specs.Message.Message.{Want as Asks}
 use Rattle.vc_model.specs.Repository.{IsSound, Repository}
 use Rattle.vc_object.specs.declared.id.ObjectId.{ObjectId}
 use Rattle.vc_rules.specs.Git.{git}
 use Rattle.vc_rules.specs.OpenPushes.{HoldsContent}
+use Rattle.vc_session.proofs.CleanLemmas.{bad_same}
 use Rattle.vc_session.proofs.UpdateLemmas.{wears_both}
 use Rattle.vc_session.specs.Known.{AreWhole}
 use Rattle.vc_session.specs.declared.known.Known.{Known}
 use Rattle.vc_store.specs.Store.{objects}
 use Rattle.vc_exchange.specs.Deeds.{HoldsHead}
 use Rattle.vc_exchange.specs.Moving.{AreFrontMoved, AreMoved, MovesSome, Told, told_in}
-use Rattle.vc_exchange.specs.Wanting.{AreOpenTold}
+use Rattle.vc_exchange.specs.Wanting.{AreOpenTold, BlamesWanting}
 use Rattle.vc_exchange.specs.declared.moving.Followed.TheVariants.{All}
 use Rattle.vc_exchange.proofs.AdvertDeeds.{advert_asked, advert_changes, advert_cut, advert_followed, told_refs}
 use Rattle.vc_exchange.proofs.EmptyLists.{empty_items, few_first, some_items}
+use Rattle.vc_exchange.proofs.DeedLemmas.{none_received}
 use Rattle.vc_exchange.proofs.MovingLoops.{whole_more, whole_refs}
+use Rattle.vc_exchange.proofs.ReceivingLemmas.{outside_kept, wanting_kept}
 use Rattle.vc_exchange.proofs.receiving.receive_advert.Goals as goal
 
 on_err : {A E : Type 0} (r : Result A E) (X : Type 0) → X → OnErr r X
@@ -174,3 +178,41 @@ pub returns-clause-wear : goal.returns-clause-wear
 returns-clause-wear g c =
     wears_then c.in_ok-known.ensures.wear (λ _. c.in_ok-known.ensures.same) (search rules)
     (wears_then c.in_ok-open.ensures.wear (λ _. c.in_ok-open.ensures.same) (search rules) (writes_told (wears_writes c.in_ok-bytes.ensures.wear (λ _. c.in_ok-bytes.ensures.same)) (search rules) (search rules)))
+
+pub returns-in_err-open-clause-looks : goal.returns-in_err-open-clause-looks
+returns-in_err-open-clause-looks g c = λ honest r p m advert. inr (wears_both c.in_ok-known.ensures.wear c.in_err-open.ensures.wear (search rules))
+
+pub returns-in_err-wants-clause-outside : goal.returns-in_err-wants-clause-outside
+returns-in_err-wants-clause-outside g c = λ honest. outside_kept (g.F.Files.content c.args.files.now) (g.F.Files.content c.open_ids.new.files) (c.in_ok-open.ensures.same ∙ c.in_ok-known.ensures.same)
+
+pub returns-in_err-wants-clause-bad : goal.returns-in_err-wants-clause-bad
+returns-in_err-wants-clause-bad g c = λ honest. bad_same (g.F.Files.content c.args.files.now) (g.F.Files.content c.open_ids.new.files) (c.in_ok-open.ensures.same ∙ c.in_ok-known.ensures.same)
+
+pub returns-in_err-wants-clause-looks : goal.returns-in_err-wants-clause-looks
+returns-in_err-wants-clause-looks g c = λ honest r p m advert. inr (wears_both c.in_ok-known.ensures.wear c.in_ok-open.ensures.wear (search rules))
+
+pub returns-in_err-bytes-clause-cut : goal.returns-in_err-bytes-clause-cut
+returns-in_err-bytes-clause-cut g c = λ honest r p m advert.
+    on_err c.from_residual-in_err-bytes.result _ (none_received (g.F.Files.content c.args.files.now) (g.F.Files.content c.want_message.new.files) r AnAdvert m (c.in_err-bytes.ensures.same ∙ c.in_ok-open.ensures.same ∙ c.in_ok-known.ensures.same) p)
+
+pub returns-in_err-bytes-clause-refused : goal.returns-in_err-bytes-clause-refused
+returns-in_err-bytes-clause-refused g c = λ honest.
+    let seen = g.F.Files.content c.open_ids.new.files in
+    let e = c.in_err-bytes.field-0.0 in
+    let why : BlamesWanting seen e = search (rules, c.in_err-bytes.ensures.refused honest) in
+    wanting_kept (g.F.Files.content c.args.files.now) seen e c.from_residual-in_err-bytes.result (c.in_ok-open.ensures.same ∙ c.in_ok-known.ensures.same) (search rules) why
+
+pub returns-in_err-bytes-clause-outside : goal.returns-in_err-bytes-clause-outside
+returns-in_err-bytes-clause-outside g c = λ honest. outside_kept (g.F.Files.content c.args.files.now) (g.F.Files.content c.want_message.new.files) (c.in_err-bytes.ensures.same ∙ c.in_ok-open.ensures.same ∙ c.in_ok-known.ensures.same)
+
+pub returns-in_err-bytes-clause-bad : goal.returns-in_err-bytes-clause-bad
+returns-in_err-bytes-clause-bad g c = λ honest. bad_same (g.F.Files.content c.args.files.now) (g.F.Files.content c.want_message.new.files) (c.in_err-bytes.ensures.same ∙ c.in_ok-open.ensures.same ∙ c.in_ok-known.ensures.same)
+
+pub returns-clause-outside : goal.returns-clause-outside
+returns-clause-outside g c = λ honest. outside_kept (g.F.Files.content c.args.files.now) (g.F.Files.content c.want_message.new.files) (c.in_ok-bytes.ensures.same ∙ c.in_ok-open.ensures.same ∙ c.in_ok-known.ensures.same)
+
+pub returns-clause-bad : goal.returns-clause-bad
+returns-clause-bad g c = λ honest. bad_same (g.F.Files.content c.args.files.now) (g.F.Files.content c.want_message.new.files) (c.in_ok-bytes.ensures.same ∙ c.in_ok-open.ensures.same ∙ c.in_ok-known.ensures.same)
+
+pub returns-clause-looks : goal.returns-clause-looks
+returns-clause-looks g c = λ honest r p m advert. inr (wears_both c.in_ok-known.ensures.wear (wears_both c.in_ok-open.ensures.wear c.in_ok-bytes.ensures.wear (search rules)) (λ told. told))
