@@ -1,5 +1,5 @@
 -- From the refs that followed to what the machine's clone does of a message: done whole, cut short, or not yet begun.
-use Rattle.std.proofs.Common.{◌≡◌, ℕ, zero, suc, nat_cmp, List, [], ◌∷◌, length, take, Option, Some, None, inl, inr, refl, sym, ap, subst}
+use Rattle.std.proofs.Common.{◌≡◌, ℕ, nat_cmp, List, length, take, Option, Some, None, inr, refl, sym, ap, subst}
 use Rattle.std.specs.FinMap.{get, empty, get-empty}
 use Rattle.std.specs.Option.{option_or}
 use Rattle.std.specs.Cmp.Lexicographic.{slice_cmp}
@@ -8,7 +8,6 @@ use Rattle.vc_model.specs.Clone.{Awaited, Moves, Receives, quietly}
 use Rattle.vc_model.specs.Message.{Message}
 use Rattle.vc_model.specs.Node.{Reply}
 use Rattle.vc_model.specs.Object.{Id, Lookup, Object, Objects, stored}
-use Rattle.vc_model.specs.Refs.{RefName}
 use Rattle.vc_model.specs.Repository.{AllAdded, Change, Done, Effect, IsSound, Repository, StopsWithin, changed_all, only_changes, with_objects}
 use Rattle.vc_rules.specs.Git.{git}
 use Rattle.vc_rules.specs.OpenPushes.{HoldsContent}

@@ -1,5 +1,5 @@
 -- The deed of a clone that takes a pack, as the machine has it: done whole, or cut short.
-use Rattle.std.proofs.Common.{◌≡◌, inl, inr, ℕ, zero, suc, List, [], ◌∷◌, ◌++◌, arith, length, take, map, Option, None, Ok, refl, sym, ap, ◌∙◌, subst}
+use Rattle.std.proofs.Common.{◌≡◌, inl, inr, ℕ, List, [], ◌∷◌, ◌++◌, length, take, map, Option, None, Ok, refl, sym, subst}
 use Rattle.std.specs.Prelude.{Contains, codes, option_map}
 use Rattle.std.specs.FinMap.{get}
 use Rattle.std.proofs.lemmas.List.{length-map}
