@@ -1,4 +1,5 @@
--- The deed of a clone that takes an advertisement, as the machine has it: something is asked for, or the refs follow.
+-- The deed of a clone that takes an advertisement, as the machine has it over a sound repository: something is asked for, or the
+-- refs follow.
 use Rattle.std.proofs.Common.{◌≡◌, ◌≢◌, inl, inr, ℕ, zero, suc, List, [], ◌∷◌, length, map, take, None, Some, refl, sym, ap, ◌∙◌, subst}
 use Rattle.std.specs.FinMap.{empty, entries}
 use Rattle.vc_fetch.specs.Advert.{AdvertText}
@@ -12,7 +13,7 @@ use Rattle.vc_model.specs.Message.Message.{Want}
 use Rattle.vc_model.specs.Node.Reply.{Moved, Sends}
 use Rattle.vc_model.specs.Object.{Id, stored}
 use Rattle.vc_model.specs.Refs.{RefName}
-use Rattle.vc_model.specs.Repository.{Change, Repository, no_effect, only_changes}
+use Rattle.vc_model.specs.Repository.{Change, IsSound, Repository, no_effect, only_changes}
 use Rattle.vc_object.specs.declared.id.ObjectId.{ObjectId}
 use Rattle.vc_rules.specs.Git.{git}
 use Rattle.vc_rules.specs.OpenPushes.{HoldsContent}
@@ -45,42 +46,42 @@ module _ (r : Repository) (m : Message) (t : AdvertText) (advert : IsAdvert m t)
   open_refs ids are = subst (λ (l : List (RefName × Id)). AreOpen git (stored r.objects) [] l (map bytes_of_id ids)) (sym told_refs) are
 
   -- ---- nothing is open
-  module _ (none : AreOpenTold r told []) where
-    takes : (cs : List Change) → Moves (MovesAny git (stored r.objects)) r.refs (machine_refs told) cs → Receives git r AnAdvert m (quietly Nothing (only_changes cs) (Moved (length cs) 0))
-    takes cs moves =
+  module _ (known : Type 0) (sound : IsSound git r → known) (none : IsSound git r → AreOpenTold r told []) where
+    takes : IsSound git r → (cs : List Change) → Moves (MovesAny git (stored r.objects)) r.refs (machine_refs told) cs → Receives git r AnAdvert m (quietly Nothing (only_changes cs) (Moved (length cs) 0))
+    takes is_sound cs moves =
         subst (λ (x : Message). Receives git r AnAdvert x (quietly Nothing (only_changes cs) (Moved (length cs) 0))) (sym advert.is) (
           refl,
           [],
-          open_refs [] none,
+          open_refs [] (none is_sound),
           inr (
             refl,
             record {
               changes = cs;
               open_ids = [];
               moves = subst (λ (l : List (RefName × Id)). Moves (MovesAny git (stored r.objects)) r.refs l cs) (sym told_refs) moves;
-              rest = open_refs [] none;
+              rest = open_refs [] (none is_sound);
               deed = refl;
             },
           ),
         )
 
-    pub advert_followed : (new : FileMap) (moved : ℕ) → AreMoved All told r new moved → IsReceived r AnAdvert m new Nothing None (Moved moved 0)
-    advert_followed = all_received All told r empty r.objects (added_none r.objects) (stored r.objects) refl AnAdvert m Nothing (λ n. Moved n 0) takes
+    pub advert_followed : (new : FileMap) (moved : ℕ) → AreMoved known All told r new moved → IsReceived r AnAdvert m new Nothing None (Moved moved 0)
+    advert_followed = all_received All told r empty r.objects (added_none r.objects) (stored r.objects) refl AnAdvert m Nothing (λ n. Moved n 0) known sound takes
 
-    pub advert_cut : (new : FileMap) → AreFrontMoved All told r new → IsCutShort r AnAdvert m new
-    advert_cut = front_received All told r empty r.objects (added_none r.objects) (stored r.objects) refl AnAdvert m Nothing (λ n. Moved n 0) takes
+    pub advert_cut : (new : FileMap) → AreFrontMoved known All told r new → IsCutShort r AnAdvert m new
+    advert_cut = front_received All told r empty r.objects (added_none r.objects) (stored r.objects) refl AnAdvert m Nothing (λ n. Moved n 0) known sound takes
 
-    pub advert_changes : MovesSome All told r → ChangesAt r AnAdvert m
-    advert_changes = some_received All told r empty r.objects (added_none r.objects) (stored r.objects) refl AnAdvert m Nothing (λ n. Moved n 0) takes
+    pub advert_changes : (known → MovesSome All told r) → IsSound git r → ChangesAt r AnAdvert m
+    advert_changes = some_received All told r empty r.objects (added_none r.objects) (stored r.objects) refl AnAdvert m Nothing (λ n. Moved n 0) known sound takes
 
   -- ---- something is
-  pub advert_asked : (opened wants : List ObjectId) → opened ≢ [] → AreOpenTold r told opened → wants ≡ take 256 opened → (new : FileMap) → HoldsContent new r
+  pub advert_asked : (opened wants : List ObjectId) → opened ≢ [] → (IsSound git r → AreOpenTold r told opened) → wants ≡ take 256 opened → (new : FileMap) → HoldsContent new r
       → IsReceived r AnAdvert m new (awaited_pack wants advert.refs) (Some (Want (map bytes_of_id wants) (haves_of r))) Sends
   advert_asked opened wants some are first new held = record {
     effect = no_effect;
     after = r;
-    receives = subst (λ (x : Message). Receives git r AnAdvert x (sending (awaited_pack wants advert.refs) (Want (map bytes_of_id wants) (haves_of r)))) (sym advert.is)
-        (refl, map bytes_of_id opened, open_refs opened are, inl (some_bytes opened some, ap (λ (l : List Id). sending (APack l advert.refs) (Want l (haves_of r))) (ap (map bytes_of_id) first ∙ take_bytes 256 opened)));
+    receives = λ sound. subst (λ (x : Message). Receives git r AnAdvert x (sending (awaited_pack wants advert.refs) (Want (map bytes_of_id wants) (haves_of r)))) (sym advert.is)
+        (refl, map bytes_of_id opened, open_refs opened (are sound), inl (some_bytes opened some, ap (λ (l : List Id). sending (APack l advert.refs) (Want l (haves_of r))) (ap (map bytes_of_id) first ∙ take_bytes 256 opened)));
     done = done_changes r [];
     content = held;
     head = refl;

@@ -14,6 +14,7 @@ pub mod ReceivingLemmas
 pub mod RefEntries
 pub mod SendingLaws
 pub mod SendingLemmas
+pub mod SetRefs
 pub mod StoringLemmas
 pub mod WantingHaves
 pub mod WantingOpen

@@ -1,4 +1,4 @@
--- Refs move one after another: what is done so far, and that each front of it is one of all the moves.
+-- Refs move one after another: what is done so far, and that each front of it is one of all the moves, where what was known is so.
 use Rattle.std.proofs.Common.{arith, ◌≡◌, inl, inr, ℕ, Bool, true, false, cond, ◌+◌, codes, List, [], ◌∷◌, ◌++◌, length, take, refl, sym, ap, ◌∙◌, subst}
 use Rattle.std.specs.Prelude.{◌≢◌, option_map}
 use Rattle.std.specs.FinMap.{get, insert}
@@ -23,6 +23,7 @@ use Rattle.vc_exchange.specs.Moving.{AreFrontMoved, AreMoved, IsMove, MayMove, M
 use Rattle.vc_exchange.specs.declared.moving.Followed.{Followed}
 use Rattle.vc_exchange.proofs.MovingDecisions.{Decided}
 use Rattle.vc_exchange.proofs.MovingRules.{decided_move, may_moves, moves_may}
+use Rattle.vc_exchange.proofs.SetRefs.{moves_set, set_append, set_objects}
 
 abbrev Rule : Type 1
 Rule = Refs → RefName → Id → RefName → Type 0
@@ -31,11 +32,6 @@ Rule = Refs → RefName → Id → RefName → Type 0
 changed_append : (cs ds : List Change) (r : Repository) → changed_all (cs ++ ds) r ≡ changed_all ds (changed_all cs r)
 changed_append [] ds r = refl
 changed_append (c ∷ cs) ds r = changed_append cs ds (changed c r)
-
-moves_keep : (may : Rule) (rs : List (RefName × Id)) (r : Repository) (cs : List Change) → Moves may r.refs rs cs → (changed_all cs r).objects ≡ r.objects
-moves_keep may [] r cs e = ap (λ (c : List Change). (changed_all c r).objects) e
-moves_keep may (q ∷ qs) r cs (inl (t, more, m, e, rest)) = ap (λ (c : List Change). (changed_all c r).objects) e ∙ moves_keep may qs (changed (SetRefs ((t, q.1) ∷ [])) r) more rest
-moves_keep may (q ∷ qs) r cs (inr (none, rest)) = moves_keep may qs r cs rest
 
 moves_append : (may : Rule) (rs : List (RefName × Id)) (r : Repository) (cs : List Change) (qs : List (RefName × Id)) (ds : List Change)
     → Moves may r.refs rs cs → Moves may (changed_all cs r).refs qs ds → Moves may r.refs (rs ++ qs) (cs ++ ds)
@@ -69,42 +65,51 @@ machine_append (t ∷ a) b = ap (λ l. (t.0, t.1.0) ∷ l) (machine_append a b)
 objects_kept : (old new : FileMap) → SameOutside (codes "refs/") old new → (id : ObjectId) → objects new id ≡ objects old id
 objects_kept old new outside id = objects-same old new id (outside.at (object_path id.0) refl)
 
+-- what moves where one thing is known moves where more is
+pub move_where : {P Q : Type 0} → (P → Q) → (followed : Followed) (old new : FileMap) (name : List ℕ) (id : ObjectId) (moved : Bool) → IsMove Q followed old new name id moved → IsMove P followed old new name id moved
+move_where so followed old new name id true (to, may, set) = (to, (λ p. may (so p)), set)
+move_where so followed old new name id false (none, same) = ((λ p. none (so p)), same)
+
 module _ (followed : Followed) where
-  module _ (content : FileMap) (r : Repository) (p : HoldsContent content r) where
+  -- moves, and further ones
+  joined : (front more : List Told) (r : Repository) (cs ds : List Change) → MovesBy followed r front cs → Moves (rule_of followed git (stored r.objects)) (changed_all cs r).refs (machine_refs more) ds → MovesBy followed r (front ++ more) (cs ++ ds)
+  joined front more r cs ds moves then = subst (λ (l : List (RefName × Id)). Moves (rule_of followed git (stored r.objects)) r.refs l (cs ++ ds)) (sym (machine_append front more))
+      (moves_append (rule_of followed git (stored r.objects)) (machine_refs front) r cs (machine_refs more) ds moves then)
+
+  module _ (known : Type 0) (content : FileMap) (r : Repository) (p : HoldsContent content r) where
     -- one ref
-    pub one_moved : (new : FileMap) → SameOutside (codes "refs/") content new → (name : List ℕ) (id : ObjectId) (moved : Bool) → IsMove followed content new name id moved → AreMoved followed ((name, id) ∷ []) r new (cond moved 1 0)
-    one_moved new outside name id true (to, may, set) =
-        let m = may_moves (objects content) r.objects p.objects_are (objects_sound content) (refs content) r.refs p.refs_are followed name id to may in
-        record {
-          changes = SetRefs ((to, id.0) ∷ []) ∷ [];
-          moves = inl (to, [], m, refl, refl);
-          content = record {
-            objects_are = λ x. objects_kept content new outside (id_of_bytes x) ∙ p.objects_are x;
-            refs_are = λ n. ap (λ (k : RefMap). k n) set ∙ set_rel (refs content) r.refs p.refs_are to id n;
-          };
-          counted = refl;
-        }
+    pub one_moved : (new : FileMap) → SameOutside (codes "refs/") content new → (name : List ℕ) (id : ObjectId) (moved : Bool) → IsMove known followed content new name id moved → AreMoved known followed ((name, id) ∷ []) r new (cond moved 1 0)
+    one_moved new outside name id true (to, may, set) = record {
+      changes = SetRefs ((to, id.0) ∷ []) ∷ [];
+      set = (tt, tt);
+      moves = λ so. inl (to, [], may_moves (objects content) r.objects p.objects_are (objects_sound content) (refs content) r.refs p.refs_are followed name id to (may so), refl, refl);
+      content = record {
+        objects_are = λ x. objects_kept content new outside (id_of_bytes x) ∙ p.objects_are x;
+        refs_are = λ n. ap (λ (k : RefMap). k n) set ∙ set_rel (refs content) r.refs p.refs_are to id n;
+      };
+      counted = refl;
+    }
     one_moved new outside name id false (none, same) = record {
       changes = [];
-      moves = inr ((λ h. none h.0 (moves_may (objects content) r.objects p.objects_are (objects_sound content) (refs content) r.refs p.refs_are followed name id.0 h.0 h.1)), refl);
+      set = tt;
+      moves = λ so. inr ((λ h. none so h.0 (moves_may (objects content) r.objects p.objects_are (objects_sound content) (refs content) r.refs p.refs_are followed name id.0 h.0 h.1)), refl);
       content = subst (λ (m : FileMap). HoldsContent m r) (sym same) p;
       counted = refl;
     }
 
-    pub none_moved : AreMoved followed [] r content 0
-    none_moved = record { changes = []; moves = refl; content = p; counted = refl }
+    pub none_moved : AreMoved known followed [] r content 0
+    none_moved = record { changes = []; set = tt; moves = λ so. refl; content = p; counted = refl }
 
   -- those before, and more
-  pub more_moved : (front more : List Told) (r : Repository) (mid new : FileMap) (n k : ℕ) (before : AreMoved followed front r mid n) → AreMoved followed more (changed_all before.changes r) new k → AreMoved followed (front ++ more) r new (n + k)
-  more_moved front more r mid new n k before then =
-      let may = rule_of followed git (stored r.objects) in
-      let kept = moves_keep may (machine_refs front) r before.changes before.moves in
-      let later : Moves may (changed_all before.changes r).refs (machine_refs more) then.changes =
-      subst (λ (s : Objects). Moves (rule_of followed git (stored s)) (changed_all before.changes r).refs (machine_refs more) then.changes) kept then.moves in
+  pub more_moved : (known : Type 0) (front more : List Told) (r : Repository) (mid new : FileMap) (n k : ℕ) (before : AreMoved known followed front r mid n) → AreMoved known followed more (changed_all before.changes r) new k → AreMoved known followed (front ++ more) r new (n + k)
+  more_moved known front more r mid new n k before then =
+      let kept = set_objects before.changes r before.set in
+      let later : known → Moves (rule_of followed git (stored r.objects)) (changed_all before.changes r).refs (machine_refs more) then.changes =
+      λ so. subst (λ (s : Objects). Moves (rule_of followed git (stored s)) (changed_all before.changes r).refs (machine_refs more) then.changes) kept (then.moves so) in
       record {
         changes = before.changes ++ then.changes;
-        moves = subst (λ (l : List (RefName × Id)). Moves may r.refs l (before.changes ++ then.changes)) (sym (machine_append front more))
-            (moves_append may (machine_refs front) r before.changes (machine_refs more) then.changes before.moves later);
+        set = set_append before.changes then.changes before.set then.set;
+        moves = λ so. joined front more r before.changes then.changes (before.moves so) (later so);
         content = subst (HoldsContent new) (sym (changed_append before.changes then.changes r)) then.content;
         counted = omega (arith, before.counted, then.counted, length-append before.changes then.changes);
       }
@@ -115,43 +120,40 @@ module _ (followed : Followed) where
       all_moves (rule_of followed git (stored r.objects)) (λ refs n x. decided_move (objects content) r.objects p.objects_are (objects_sound content) (λ q. option_map id_of_bytes (get refs q)) refs (λ q. refl) followed n x) qs rs
 
   -- a front of what is told is a front of all the moves
-  module _ (front more : List Told) (content : FileMap) (r : Repository) (p : HoldsContent content r) (now : FileMap) (n : ℕ) (before : AreMoved followed front r now n) where
+  module _ (known : Type 0) (front more : List Told) (content : FileMap) (r : Repository) (p : HoldsContent content r) (now : FileMap) (n : ℕ) (before : AreMoved known followed front r now n) where
     abbrev rest : (cs : List Change) × Moves (rule_of followed git (stored r.objects)) (changed_all before.changes r).refs (machine_refs more) cs
     rest = rest_moves content r p (changed_all before.changes r).refs (machine_refs more)
 
-    whole : (ds : List Change) → Moves (rule_of followed git (stored r.objects)) (changed_all before.changes r).refs (machine_refs more) ds → MovesBy followed r (front ++ more) (before.changes ++ ds)
-    whole ds m = subst (λ (l : List (RefName × Id)). Moves (rule_of followed git (stored r.objects)) r.refs l (before.changes ++ ds)) (sym (machine_append front more))
-        (moves_append (rule_of followed git (stored r.objects)) (machine_refs front) r before.changes (machine_refs more) ds before.moves m)
-
-    pub front_moved : AreFrontMoved followed (front ++ more) r now
+    pub front_moved : AreFrontMoved known followed (front ++ more) r now
     front_moved = record {
       changes = before.changes ++ rest.0;
       done = length before.changes;
-      moves = whole rest.0 rest.1;
+      set = set_append before.changes rest.0 before.set (moves_set (rule_of followed git (stored r.objects)) (machine_refs more) (changed_all before.changes r).refs rest.0 rest.1);
+      moves = λ so. joined front more r before.changes rest.0 (before.moves so) rest.1;
       content = subst (λ (cs : List Change). HoldsContent now (changed_all cs r)) (sym (take_front before.changes rest.0)) before.content;
     }
 
     -- where some moved
-    pub some_moved : n ≢ 0 → MovesSome followed (front ++ more) r
-    some_moved moved = (before.changes ++ rest.0, whole rest.0 rest.1, λ none. moved (before.counted ∙ empty before.changes rest.0 none))
+    pub some_moved : n ≢ 0 → known → MovesSome followed (front ++ more) r
+    some_moved moved so = (before.changes ++ rest.0, joined front more r before.changes rest.0 (before.moves so) rest.1, λ none. moved (before.counted ∙ empty before.changes rest.0 none))
       where
         empty : (cs ds : List Change) → cs ++ ds ≡ [] → length cs ≡ 0
         empty [] ds e = refl
         empty (c ∷ cs) ds e = absurd (cc e)
 
   -- where the next one may move
-  pub next_moves : (front more : List Told) (name : List ℕ) (id : ObjectId) (content : FileMap) (r : Repository) (p : HoldsContent content r) (now : FileMap) (n : ℕ) (before : AreMoved followed front r now n) (to : List ℕ)
-      → MayMove followed now name id to → MovesSome followed (front ++ (name, id) ∷ more) r
-  next_moves front more name id content r p now n before to may =
+  pub next_moves : (known : Type 0) (front more : List Told) (name : List ℕ) (id : ObjectId) (content : FileMap) (r : Repository) (p : HoldsContent content r) (now : FileMap) (n : ℕ) (before : AreMoved known followed front r now n) (to : List ℕ)
+      → known → MayMove followed now name id to → MovesSome followed (front ++ (name, id) ∷ more) r
+  next_moves known front more name id content r p now n before to so may =
       let rule = rule_of followed git (stored r.objects) in
       let after = changed_all before.changes r in
-      let kept = moves_keep rule (machine_refs front) r before.changes before.moves in
+      let kept = set_objects before.changes r before.set in
       let q = before.content in
       let moves : rule_of followed git (stored after.objects) after.refs name id.0 to = may_moves (objects now) after.objects q.objects_are (objects_sound now) (refs now) after.refs q.refs_are followed name id to may in
       let next : rule after.refs name id.0 to = subst (λ (s : Objects). rule_of followed git (stored s) after.refs name id.0 to) kept moves in
       let later = rest_moves content r p (insert after.refs to id.0) (machine_refs more) in
       let ds = SetRefs ((to, id.0) ∷ []) ∷ later.0 in
-      (before.changes ++ ds, whole front ((name, id) ∷ more) content r p now n before ds (inl (to, later.0, next, refl, later.1)), some before.changes later.0 (SetRefs ((to, id.0) ∷ [])))
+      (before.changes ++ ds, joined front ((name, id) ∷ more) r before.changes ds (before.moves so) (inl (to, later.0, next, refl, later.1)), some before.changes later.0 (SetRefs ((to, id.0) ∷ [])))
     where
       some : (cs ds : List Change) (c : Change) → cs ++ c ∷ ds ≢ []
       some [] ds c e = cc e

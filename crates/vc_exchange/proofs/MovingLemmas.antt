@@ -12,11 +12,12 @@ use Rattle.vc_refs.specs.Refs.{IsBadRef, refs}
 use Rattle.vc_refs.specs.Way.{IsFree}
 use Rattle.vc_refs.specs.declared.faults.RefFault.{RefFault}
 use Rattle.vc_refs.specs.declared.faults.RefFault.TheVariants as fault
-use Rattle.vc_store.specs.Store.{IsDamaged}
+use Rattle.vc_store.specs.Store.{IsDamaged, objects}
 use Rattle.vc_store.specs.declared.faults.StoreFault.{StoreFault}
 use Rattle.vc_store.specs.declared.faults.StoreFault.TheVariants as of_store
 use Rattle.vc_exchange.specs.Faults.{BlamesFiles, BlamesRefs, from_refs, from_store}
-use Rattle.vc_exchange.specs.Moving.{IsDecided, IsFreeAmong, IsSetWhereFree, passed_over}
+use Rattle.vc_exchange.specs.Moving.{IsDecided, IsFreeAmong, IsMove, IsSetWhereFree, MayFollow, MayMove, passed_over}
+use Rattle.vc_exchange.specs.declared.moving.Followed.{Followed}
 
 -- a name that no file is in the way of is free
 pub free_among : (content : FileMap) (to : List ℕ) → IsFree content to → IsFreeAmong (refs content) to
@@ -87,3 +88,13 @@ same_follower x y e = cc e
 pub undecided : (b : Bool) (P : Type 0) → b ≡ false → IsDecided b P → P → ⊥
 undecided true P e d p = absurd (true≢false e)
 undecided false P e d p = d p
+
+-- ---- what was set where its name is free
+-- a ref that may follow, where what was known is so, moved if its name is free
+module _ (known : Type 0) (followed : Followed) (content : FileMap) (name : List ℕ) (id : ObjectId) (to : List ℕ) (may : known → MayFollow followed (objects content) (refs content) name id to) where
+  pub free_moves : IsFreeAmong (refs content) to → known → (t : List ℕ) × MayMove followed content name id t
+  free_moves free so = (to, (may so, free))
+
+  pub set_moves : (new : FileMap) (moved : Bool) → IsSetWhereFree content new to id moved → IsMove known followed content new name id moved
+  set_moves new true (free, set) = (to, (λ so. (may so, free)), set)
+  set_moves new false (taken, same) = ((λ so t moves. taken (subst (IsFreeAmong (refs content)) (same_follower t to (sym moves.0.follows ∙ (may so).follows)) moves.1)), same)

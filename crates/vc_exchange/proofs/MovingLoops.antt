@@ -1,14 +1,20 @@
--- The loop over what is told: what is told so far, the next one and the rest; and what is blamed of files that none of it made bad.
+-- The loop over what is told: what is told so far, the next one and the rest; what is blamed of files that none of it made bad; and
+-- what is known to be whole.
 use Rattle.std.proofs.Common.{◌≡◌, ℕ, suc, ◌<◌, ◌+◌, List, [], ◌∷◌, ◌++◌, length, take, drop, get_or, refl, sym, ap, ◌∙◌, subst, drop-cons}
-use Rattle.std.specs.Prelude.{Contains, Vec, codes}
+use Rattle.std.specs.Prelude.{Vec, codes}
 use Rattle.std.specs.Global.{Global}
 use Rattle.std.proofs.lemmas.List.{take-append-drop, take_more}
 use Rattle.vc_files.specs.FileMap.{FileMap, SameOutside}
-use Rattle.vc_object.specs.ObjectMap.{ObjectMap}
+use Rattle.vc_graph.specs.Graph.{IsClosedUnder}
+use Rattle.vc_model.specs.Repository.{IsSound, Repository}
+use Rattle.vc_object.specs.ObjectMap.{ObjectMap, links_in, parents_in}
 use Rattle.vc_object.specs.declared.id.ObjectId.{ObjectId}
 use Rattle.vc_refs.specs.declared.faults.RefFault.TheVariants as of_refs
+use Rattle.vc_rules.proofs.WholeLemmas.{refs_whole}
+use Rattle.vc_rules.specs.Git.{git}
+use Rattle.vc_rules.specs.OpenPushes.{HoldsContent}
 use Rattle.vc_session.specs.Clean.{MakesNoneBad}
-use Rattle.vc_session.specs.Known.{AreWhole}
+use Rattle.vc_session.specs.Known.{AreRefsWhole, AreWhole}
 use Rattle.vc_session.specs.declared.known.Known.{Known}
 use Rattle.vc_session.proofs.FrameLemmas.{objects-same}
 use Rattle.vc_store.specs.Store.{object_path, objects}
@@ -17,7 +23,6 @@ use Rattle.vc_exchange.specs.Faults.{BlamesFiles}
 use Rattle.vc_exchange.specs.Moving.{Told, told_in}
 use Rattle.vc_exchange.specs.declared.fault.ExchangeFault.{ExchangeFault}
 use Rattle.vc_exchange.specs.declared.fault.ExchangeFault.TheVariants.{Store, Refs, Incomplete, Fault}
-use Rattle.vc_exchange.proofs.MovingDecisions.{contained_none}
 
 abbrev pub Item : Type 0
 Item = Vec ℕ Global × ObjectId
@@ -61,9 +66,13 @@ objects_stay old new outside i id = objects-same old new id (outside.at (object_
 pub whole_after : (old new : FileMap) (known : Known) → SameOutside (codes "refs/") old new → AreWhole (objects old) known → AreWhole (objects new) known
 whole_after old new known outside whole = subst (λ (o : ObjectMap). AreWhole o known) (sym (objects_stay old new outside)) whole
 
--- and nothing is whole for nothing
-pub whole_nothing : (o : ObjectMap) (known : Known) → known.objects.keys ≡ [] → known.histories.keys ≡ [] → AreWhole o known
-whole_nothing o known none nor = record {
-  closed = λ y r. contained_none r.root (subst (λ (l : List ObjectId). Contains l r.root) none r.is_root);
-  histories = λ y r. contained_none r.root (subst (λ (l : List ObjectId). Contains l r.root) nor r.is_root);
-}
+-- what is found to be whole is so beside what was known
+pub whole_more : (old new : FileMap) (known more : Known) → new ≡ old → more.histories ≡ known.histories → (IsClosedUnder (links_in (objects old)) known.objects.keys → IsClosedUnder (links_in (objects old)) more.objects.keys) → AreWhole (objects old) known → AreWhole (objects new) more
+whole_more old new known more same others closed whole = subst (λ (f : FileMap). AreWhole (objects f) more) (sym same) (record {
+  closed = closed whole.closed;
+  histories = subst (λ s. IsClosedUnder (parents_in (objects old)) s.keys) (sym others) whole.histories;
+})
+
+-- in a sound repository what its refs reach is whole
+pub whole_refs : (old new : FileMap) (known : Known) (r : Repository) → new ≡ old → (AreRefsWhole old → AreWhole (objects old) known) → HoldsContent old r → IsSound git r → AreWhole (objects new) known
+whole_refs old new known r same whole held sound = subst (λ (f : FileMap). AreWhole (objects f) known) (sym same) (whole (refs_whole old r held sound))

@@ -1,8 +1,8 @@
 -- The deed of a clone that takes a pack, as the machine has it: done whole, or cut short.
-use Rattle.std.proofs.Common.{◌≡◌, inl, inr, ℕ, zero, suc, List, [], ◌∷◌, ◌++◌, arith, length, take, map, Option, None, Ok, refl, sym, ap, ◌∙◌, subst}
+use Rattle.std.proofs.Common.{◌≡◌, inl, inr, ℕ, List, [], ◌∷◌, ◌++◌, length, take, map, Option, None, Ok, refl, sym, subst}
 use Rattle.std.specs.Prelude.{Contains, codes, option_map}
 use Rattle.std.specs.FinMap.{get}
-use Rattle.std.proofs.lemmas.List.{length-map, take_all}
+use Rattle.std.proofs.lemmas.List.{length-map}
 use Rattle.vc_answer.specs.AnswerFault.{IsRefusedPack}
 use Rattle.vc_answer.specs.declared.fault.AnswerFault.{AnswerFault}
 use Rattle.vc_answer.specs.declared.fault.AnswerFault.TheVariants as answer
@@ -20,8 +20,7 @@ use Rattle.vc_model.specs.Node.Reply.{Moved}
 use Rattle.vc_model.specs.Object.{Id, Lookup, Objects, over, stored}
 use Rattle.vc_model.specs.Reach.{IsClosed}
 use Rattle.vc_model.specs.Refs.{RefName, Refs}
-use Rattle.vc_model.specs.Repository.{Change, Repository, changed, changed_all, with_objects}
-use Rattle.vc_model.specs.Repository.Change.{SetRefs}
+use Rattle.vc_model.specs.Repository.{Change, Repository, changed_all, with_objects}
 use Rattle.vc_object.specs.Decoding.{StoredObject}
 use Rattle.vc_object.specs.ObjectMap.{links_in}
 use Rattle.vc_object.specs.declared.id.ObjectId.{ObjectId}
@@ -46,26 +45,12 @@ use Rattle.vc_exchange.proofs.MovingDecisions.{Decided, contained_first, contain
 use Rattle.vc_exchange.proofs.MovingFronts.{all_moves}
 use Rattle.vc_exchange.proofs.MovingPaths.{decided_closed, same_id}
 use Rattle.vc_exchange.proofs.MovingRules.{decided_move}
+use Rattle.vc_exchange.proofs.SetRefs.{moves_set, set_front, set_head, set_index}
 use Rattle.vc_exchange.proofs.PackLemmas.{all_is, seen_all, seen_sound, some_added, some_content, some_of, want_open, wants_closed}
-
--- ---- refs that move leave HEAD and the index
-abbrev IsBeside : Repository → Repository → Type 0
-IsBeside r now = (now.head ≡ r.head) × (now.index ≡ r.index)
-
-take_none : (k : ℕ) → ◌≡◌ {A = List Change} (take k []) []
-take_none zero = refl
-take_none (suc k) = refl
 
 take_zero : (cs : List Change) → take 0 cs ≡ []
 take_zero [] = refl
 take_zero (c ∷ cs) = refl
-
-moves_beside : (may : Refs → RefName → Id → RefName → Type 0) (rs : List (RefName × Id)) (r : Repository) (cs : List Change) → Moves may r.refs rs cs → (k : ℕ) → IsBeside r (changed_all (take k cs) r)
-moves_beside may [] r cs e k = subst (λ (c : List Change). IsBeside r (changed_all c r)) (sym (ap (take k) e ∙ take_none k)) (refl, refl)
-moves_beside may (q ∷ qs) r cs (inl (t, more, m, e, rest)) zero = subst (λ (c : List Change). IsBeside r (changed_all c r)) (sym (take_zero cs)) (refl, refl)
-moves_beside may (q ∷ qs) r cs (inl (t, more, m, e, rest)) (suc k) =
-    subst (λ (c : List Change). IsBeside r (changed_all c r)) (sym (ap (take (suc k)) e)) (moves_beside may qs (changed (SetRefs ((t, q.1) ∷ [])) r) more rest k)
-moves_beside may (q ∷ qs) r cs (inr (none, rest)) k = moves_beside may qs r cs rest k
 
 -- ---- the ids that stay open
 open_all : (s : Objects) (seen : List Id) (rs : List (RefName × Id)) → (ids : List Id) × AreOpen git (stored s) seen rs ids
@@ -121,50 +106,47 @@ module _ (old : FileMap) (r : Repository) (held : HoldsContent old r) (brought :
             },
           )
 
-      -- all is done
-      pub pack_taken : (new : FileMap) (n : ℕ) (ids : List ObjectId) → AreMoved All told (with_objects r (joined r.objects s)) new n → AreOpenTold (with_objects r (joined r.objects s)) told ids
-          → IsReceived r (awaited_pack wants refs) m new Nothing None (Moved n (length ids))
-      pack_taken new n ids moved still =
-          let deed = receives moved.changes moved.moves (map bytes_of_id ids) still in
-          let counted : Receives git r (awaited_pack wants refs) m (quietly Nothing (record { objects = s; changes = moved.changes }) (Moved n (length (map bytes_of_id ids)))) =
-          subst (λ (k : ℕ). Receives git r (awaited_pack wants refs) m (quietly Nothing (record { objects = s; changes = moved.changes }) (Moved k (length (map bytes_of_id ids))))) (sym moved.counted) deed in
-          let whole : take (length moved.changes) moved.changes ≡ moved.changes = take_all (length moved.changes) moved.changes (omega arith) in
-          let beside : IsBeside r (changed_all moved.changes (with_objects r (joined r.objects s))) =
-          subst (λ (c : List Change). IsBeside r (changed_all c (with_objects r (joined r.objects s)))) whole
-          (moves_beside (rule_of All git (stored (joined r.objects s))) (machine_refs told) (with_objects r (joined r.objects s)) moved.changes moved.moves (length moved.changes)) in
-          record {
-            effect = record { objects = s; changes = moved.changes };
-            after = changed_all moved.changes (with_objects r (joined r.objects s));
-            receives = subst (λ (k : ℕ). Receives git r (awaited_pack wants refs) m (quietly Nothing (record { objects = s; changes = moved.changes }) (Moved n k))) (length-map ids bytes_of_id) counted;
-            done = (joined r.objects s, joined_all r.objects s, refl);
-            content = moved.content;
-            head = beside.0;
-            index = beside.1;
-          }
+      module _ (known : Type 0) (so : known) where
+        -- all is done
+        pub pack_taken : (new : FileMap) (n : ℕ) (ids : List ObjectId) → AreMoved known All told (with_objects r (joined r.objects s)) new n → AreOpenTold (with_objects r (joined r.objects s)) told ids
+            → IsReceived r (awaited_pack wants refs) m new Nothing None (Moved n (length ids))
+        pack_taken new n ids moved still =
+            let deed = receives moved.changes (moved.moves so) (map bytes_of_id ids) still in
+            let counted : Receives git r (awaited_pack wants refs) m (quietly Nothing (record { objects = s; changes = moved.changes }) (Moved n (length (map bytes_of_id ids)))) =
+            subst (λ (k : ℕ). Receives git r (awaited_pack wants refs) m (quietly Nothing (record { objects = s; changes = moved.changes }) (Moved k (length (map bytes_of_id ids))))) (sym moved.counted) deed in
+            record {
+              effect = record { objects = s; changes = moved.changes };
+              after = changed_all moved.changes (with_objects r (joined r.objects s));
+              receives = λ _. subst (λ (k : ℕ). Receives git r (awaited_pack wants refs) m (quietly Nothing (record { objects = s; changes = moved.changes }) (Moved n k))) (length-map ids bytes_of_id) counted;
+              done = (joined r.objects s, joined_all r.objects s, refl);
+              content = moved.content;
+              head = set_head moved.changes (with_objects r (joined r.objects s)) moved.set;
+              index = set_index moved.changes (with_objects r (joined r.objects s)) moved.set;
+            }
 
-      -- all is stored, and a front of the refs moved
-      pub pack_moving : (new : FileMap) → AreFrontMoved All told (with_objects r (joined r.objects s)) new → IsCutShort r (awaited_pack wants refs) m new
-      pack_moving new f =
-          let still = open_all (joined r.objects s) [] (machine_refs told) in
-          let beside = moves_beside (rule_of All git (stored (joined r.objects s))) (machine_refs told) (with_objects r (joined r.objects s)) f.changes f.moves f.done in
-          within (record {
-            deed = quietly Nothing (record { objects = s; changes = f.changes }) (Moved (length f.changes) (length still.0));
-            after = changed_all (take f.done f.changes) (with_objects r (joined r.objects s));
-            receives = receives f.changes f.moves still.0 still.1;
-            stops = inr (joined r.objects s, f.done, joined_all r.objects s, refl);
-            content = f.content;
-            head = beside.0;
-            index = beside.1;
-          })
+        -- all is stored, and a front of the refs moved
+        pub pack_moving : (new : FileMap) → AreFrontMoved known All told (with_objects r (joined r.objects s)) new → IsCutShort r (awaited_pack wants refs) m new
+        pack_moving new f =
+            let still = open_all (joined r.objects s) [] (machine_refs told) in
+            within (record {
+              deed = quietly Nothing (record { objects = s; changes = f.changes }) (Moved (length f.changes) (length still.0));
+              after = changed_all (take f.done f.changes) (with_objects r (joined r.objects s));
+              receives = λ _. receives f.changes (f.moves so) still.0 still.1;
+              stops = inr (joined r.objects s, f.done, joined_all r.objects s, refl);
+              content = f.content;
+              head = set_head (take f.done f.changes) (with_objects r (joined r.objects s)) (set_front f.done f.changes f.set);
+              index = set_index (take f.done f.changes) (with_objects r (joined r.objects s)) (set_front f.done f.changes f.set);
+            })
 
       -- all is stored, and none moved
       pub pack_stored : (new : FileMap) → HoldsContent new (with_objects r (joined r.objects s)) → IsCutShort r (awaited_pack wants refs) m new
       pack_stored new content =
           let changes = changes_all (machine_refs told) in
-          pack_moving new (record {
+          pack_moving (Unit {0}) tt new (record {
             changes = changes.0;
             done = 0;
-            moves = changes.1;
+            set = moves_set (rule_of All git (stored (joined r.objects s))) (machine_refs told) r.refs changes.0 changes.1;
+            moves = λ _. changes.1;
             content = subst (λ (c : List Change). HoldsContent new (changed_all c (with_objects r (joined r.objects s)))) (sym (take_zero changes.0)) content;
           })
 
@@ -176,7 +158,7 @@ module _ (old : FileMap) (r : Repository) (held : HoldsContent old r) (brought :
           within (record {
             deed = quietly Nothing (record { objects = s; changes = changes.0 }) (Moved (length changes.0) (length still.0));
             after = with_objects r (some_of old r held brought s are new outside);
-            receives = receives changes.0 changes.1 still.0 still.1;
+            receives = λ _. receives changes.0 changes.1 still.0 still.1;
             stops = inl (some_of old r held brought s are new outside, some_added old r held brought s are new outside, refl);
             content = some_content old r held brought s are new outside some;
             head = refl;

@@ -1,15 +1,17 @@
 -- What a report accepts and what it refuses, command by command, and the deed of the machine's clone at it.
-use Rattle.std.proofs.Common.{◌≡◌, ℕ, ◌<◌, ◌+◌, List, [], ◌∷◌, ◌++◌, length, take, get_or, map, None, Result, Ok, Err, append_assoc, refl, sym, ap, ◌∙◌, subst}
+use Rattle.std.proofs.Common.{◌≡◌, ℕ, ◌<◌, ◌+◌, List, [], ◌∷◌, ◌++◌, length, take, get_or, map, None, Result, Ok, Err, inl, append_assoc, refl, sym, ap, ◌∙◌, subst}
 use Rattle.std.proofs.lemmas.List.{take_more}
 use Rattle.std.specs.FinMap.{empty}
-use Rattle.vc_files.specs.FileMap.{FileMap}
+use Rattle.std.specs.Prelude.{IfErr}
+use Rattle.vc_files.proofs.FileMapLemmas.{outside_same}
+use Rattle.vc_files.specs.FileMap.{FileMap, SameOutside}
 use Rattle.vc_message.specs.Machine.{IsReport, machine_told}
 use Rattle.vc_model.specs.Clone.{Awaited, Moves, MovesBranch, Receives, accepted_ids, quietly, refused_reasons}
 use Rattle.vc_model.specs.Message.{Message}
 use Rattle.vc_model.specs.Node.Reply.{Reported}
 use Rattle.vc_model.specs.Object.{Id, stored}
 use Rattle.vc_model.specs.Refs.{RefName}
-use Rattle.vc_model.specs.Repository.{Change, Repository, only_changes}
+use Rattle.vc_model.specs.Repository.{Change, IsSound, Repository, only_changes}
 use Rattle.vc_object.specs.declared.id.ObjectId.{ObjectId}
 use Rattle.vc_push.specs.Report.{ReportText, ToldText}
 use Rattle.vc_push.specs.ReportView.{told_of}
@@ -17,8 +19,11 @@ use Rattle.vc_push.specs.declared.report.Told.{Told as Command}
 use Rattle.vc_rules.specs.Git.{git}
 use Rattle.vc_exchange.specs.Deeds.{ChangesAt, IsCutShort, IsReceived}
 use Rattle.vc_exchange.specs.Moving.{AreFrontMoved, AreMoved, MovesSome, Told, machine_refs, told_in}
-use Rattle.vc_exchange.specs.Receiving.{AcceptedAgree, accepted}
+use Rattle.vc_exchange.specs.Receiving.{AcceptedAgree, BlamesAdvert, accepted}
+use Rattle.vc_exchange.specs.Wanting.{BlamesWanting}
+use Rattle.vc_exchange.specs.declared.fault.ExchangeFault.{ExchangeFault}
 use Rattle.vc_exchange.specs.declared.moving.Followed.TheVariants.{Branches}
+use Rattle.vc_exchange.specs.declared.receiving.Advertised.{Advertised}
 use Rattle.vc_exchange.proofs.DeedLemmas.{added_none, all_received, front_received, some_received}
 use Rattle.vc_exchange.proofs.MovingLoops.{Item, told_append}
 
@@ -77,19 +82,29 @@ next_refused told i command within is =
     ∙ ap (λ (l : List Command). refused (map told_of l)) (sym (take_more told i command within))
 
 -- ---- the deed
-module _ (r : Repository) (awaits : Awaited) (m : Message) (t : ReportText) (report : IsReport m t) (told : List Told) (is : told ≡ accepted t.told) (numbers : List ℕ) (are : numbers ≡ refused t.told) where
-  takes : (cs : List Change) → Moves (MovesBranch git (stored r.objects)) r.refs (machine_refs told) cs → Receives git r awaits m (quietly awaits (only_changes cs) (Reported (length cs) numbers))
-  takes cs moves = subst (λ (x : Message). Receives git r awaits x (quietly awaits (only_changes cs) (Reported (length cs) numbers))) (sym report.is) (
+module _ (r : Repository) (known : Type 0) (sound : IsSound git r → known) (awaits : Awaited) (m : Message) (t : ReportText) (report : IsReport m t) (told : List Told) (is : told ≡ accepted t.told) (numbers : List ℕ) (are : numbers ≡ refused t.told) where
+  takes : IsSound git r → (cs : List Change) → Moves (MovesBranch git (stored r.objects)) r.refs (machine_refs told) cs → Receives git r awaits m (quietly awaits (only_changes cs) (Reported (length cs) numbers))
+  takes is_sound cs moves = subst (λ (x : Message). Receives git r awaits x (quietly awaits (only_changes cs) (Reported (length cs) numbers))) (sym report.is) (
     cs,
     subst (λ (l : List (RefName × Id)). Moves (MovesBranch git (stored r.objects)) r.refs l cs) (ap machine_refs is ∙ sym (accepted_agree t.told)) moves,
     ap (λ (ns : List ℕ). quietly awaits (only_changes cs) (Reported (length cs) ns)) are,
   )
 
-  pub report_received : (new : FileMap) (moved : ℕ) → AreMoved Branches told r new moved → IsReceived r awaits m new awaits None (Reported moved numbers)
-  report_received = all_received Branches told r empty r.objects (added_none r.objects) (stored r.objects) refl awaits m awaits (λ n. Reported n numbers) takes
+  pub report_received : (new : FileMap) (moved : ℕ) → AreMoved known Branches told r new moved → IsReceived r awaits m new awaits None (Reported moved numbers)
+  report_received = all_received Branches told r empty r.objects (added_none r.objects) (stored r.objects) refl awaits m awaits (λ n. Reported n numbers) known sound takes
 
-  pub report_cut : (new : FileMap) → AreFrontMoved Branches told r new → IsCutShort r awaits m new
-  report_cut = front_received Branches told r empty r.objects (added_none r.objects) (stored r.objects) refl awaits m awaits (λ n. Reported n numbers) takes
+  pub report_cut : (new : FileMap) → AreFrontMoved known Branches told r new → IsCutShort r awaits m new
+  report_cut = front_received Branches told r empty r.objects (added_none r.objects) (stored r.objects) refl awaits m awaits (λ n. Reported n numbers) known sound takes
 
-  pub report_changes : MovesSome Branches told r → ChangesAt r awaits m
-  report_changes = some_received Branches told r empty r.objects (added_none r.objects) (stored r.objects) refl awaits m awaits (λ n. Reported n numbers) takes
+  pub report_changes : (known → MovesSome Branches told r) → IsSound git r → ChangesAt r awaits m
+  report_changes = some_received Branches told r empty r.objects (added_none r.objects) (stored r.objects) refl awaits m awaits (λ n. Reported n numbers) known sound takes
+
+-- ---- where nothing is changed
+pub outside_kept : {prefix : List ℕ} (old new : FileMap) → new ≡ old → SameOutside prefix old new
+outside_kept {prefix = prefix} old new same = subst (λ (f : FileMap). SameOutside prefix old f) (sym same) (outside_same prefix old)
+
+pub wanting_kept : (old seen : FileMap) (e : ExchangeFault) (r : Result Advertised ExchangeFault) → seen ≡ old → r ≡ Err e → BlamesWanting seen e → IfErr r (BlamesAdvert old)
+wanting_kept old seen e (Ok a) same is why = tt
+wanting_kept old seen e (Err f) same is why =
+    let told : f ≡ e = cc is in
+    subst (BlamesAdvert old) (sym told) (inl (subst (λ (c : FileMap). BlamesWanting c e) same why))

@@ -3,6 +3,7 @@
 -- own: no ref is forced, each name is legal, and nothing is followed to an id of which not all is there.
 use Rattle.std.specs.Prelude.{◌≡◌, ◌≢◌, ℕ, Bool, true, false, ◌&&◌, not, List, [], map, take, length, Option, Some, None, is_some, Result, Ok, Err, Vec, if◌then◌else◌}
 use Rattle.std.specs.Global.{Global}
+use Rattle.std.specs.List.{AllByRecursion}
 use Rattle.vc_base.specs.History.{IsAncestor}
 use Rattle.vc_files.specs.FileMap.{FileMap}
 use Rattle.vc_format.specs.Git.{git_is_legal}
@@ -11,6 +12,7 @@ use Rattle.vc_model.specs.Clone.{MovesAny, MovesBranch, Moves}
 use Rattle.vc_model.specs.Object.{Format, Id, Lookup, stored}
 use Rattle.vc_model.specs.Refs.{RefName, Refs}
 use Rattle.vc_model.specs.Repository.{Change, Repository, changed_all}
+use Rattle.vc_model.specs.Repository.Change.{RemoveRef, SetHead, SetIndex, SetRefs}
 use Rattle.vc_object.specs.ObjectId.{id_eq}
 use Rattle.vc_object.specs.ObjectMap.{ObjectMap, links_in, parents_in}
 use Rattle.vc_object.specs.declared.id.ObjectId.{ObjectId}
@@ -63,10 +65,10 @@ IsFreeAmong refs name = (other : List ℕ) → is_some (refs other) ≡ true →
 abbrev pub MayMove : Followed → FileMap → List ℕ → ObjectId → List ℕ → Type 0
 MayMove followed content name id to = MayFollow followed (objects content) (refs content) name id to × IsFreeAmong (refs content) to
 
--- a ref moved, or none may and nothing is changed
-abbrev pub IsMove : Followed → FileMap → FileMap → List ℕ → ObjectId → Bool → Type 0
-IsMove followed old new name id true = (to : List ℕ) × MayMove followed old name id to × (refs new ≡ with_ref (refs old) to id)
-IsMove followed old new name id false = ((to : List ℕ) → ¬ MayMove followed old name id to) × (new ≡ old)
+-- a ref moved, and it may where what was known is so; or nothing is changed, and then none may
+abbrev pub IsMove : Type 0 → Followed → FileMap → FileMap → List ℕ → ObjectId → Bool → Type 0
+IsMove known followed old new name id true = (to : List ℕ) × (known → MayMove followed old name id to) × (refs new ≡ with_ref (refs old) to id)
+IsMove known followed old new name id false = (known → (to : List ℕ) → ¬ MayMove followed old name id to) × (new ≡ old)
 
 -- ---- by steps
 -- so it is, or so it isn't
@@ -110,18 +112,27 @@ rule_of Branches fmt at = MovesBranch fmt at
 abbrev pub MovesBy : Followed → Repository → List Told → List Change → Type 0
 MovesBy followed r told changes = Moves (rule_of followed git (stored r.objects)) r.refs (machine_refs told) changes
 
--- the refs of the repository follow what is told, and so many moved
-pub record AreMoved (followed : Followed) (told : List Told) (r : Repository) (new : FileMap) (moved : ℕ) : Type 0 where
+-- a change of refs that sets values alone
+abbrev pub SetsRefs : Change → Type 0
+SetsRefs (SetRefs rs) = Unit {0}
+SetsRefs (RemoveRef n) = ⊥
+SetsRefs (SetHead h) = ⊥
+SetsRefs (SetIndex i) = ⊥
+
+-- So many refs moved, and nothing else is changed; where what was known is so, the refs of the repository follow what is told.
+pub record AreMoved (known : Type 0) (followed : Followed) (told : List Told) (r : Repository) (new : FileMap) (moved : ℕ) : Type 0 where
   pub changes : List Change
-  pub moves : MovesBy followed r told changes
+  pub set : AllByRecursion SetsRefs changes
+  pub moves : known → MovesBy followed r told changes
   pub content : HoldsContent new (changed_all changes r)
   pub counted : moved ≡ length changes
 
 -- some first changes are done
-pub record AreFrontMoved (followed : Followed) (told : List Told) (r : Repository) (new : FileMap) : Type 0 where
+pub record AreFrontMoved (known : Type 0) (followed : Followed) (told : List Told) (r : Repository) (new : FileMap) : Type 0 where
   pub changes : List Change
   pub done : ℕ
-  pub moves : MovesBy followed r told changes
+  pub set : AllByRecursion SetsRefs changes
+  pub moves : known → MovesBy followed r told changes
   pub content : HoldsContent new (changed_all (take done changes) r)
 
 -- some ref moves

@@ -96,6 +96,16 @@ impl From<AnswerFault> for ExchangeFault {
     }
 }
 
+impl From<Fault> for ExchangeFault {
+    ghost use Rattle.vc_exchange.specs.declared.fault.ExchangeFault.TheVariants.{Fault as OfDevice};
+
+    ghost from_gives = { λ fault e. e ≡ OfDevice fault };
+
+    fn from(fault: Fault) -> ExchangeFault {
+        ExchangeFault::Fault(fault)
+    }
+}
+
 impl From<AllocError> for ExchangeFault {
     ghost use Rattle.vc_exchange.specs.declared.fault.ExchangeFault.TheVariants.{Fault as OfDevice};
     ghost use Rattle.vc_files.specs.declared.faults.Fault.TheVariants.{Memory};

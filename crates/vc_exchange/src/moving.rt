@@ -213,7 +213,8 @@ fn set_where_free<F: Files>(
 // Moves the ref that follows one of this name to the id: the tracking ref of a branch, where it is absent or the id descends
 // from its value; a tag where it is absent and tags are followed. Whether it moved. All that the id reaches must be there, and a
 // branch's history must be one of commits alone; what is not so is passed over, and so is a name that is illegal, of no branch
-// or tag, or in the way of a ref that is there. What is known must be so; more is known after the call. No file becomes bad.
+// or tag, or in the way of a ref that is there. That is so where what is known is so, and then more is known after the call. In
+// any case one ref is set at most, and no file becomes bad.
 fn move_ref<F: Files>(
     files: &mut F,
     alloc: Global,
@@ -222,14 +223,14 @@ fn move_ref<F: Files>(
     name: &[u8],
     id: &ObjectId,
 ) -> Result<bool, ExchangeFault>
-    ensures moved { F.honest → AreWhole (objects (F.content files.old)) known.old → IfOk result (IsMove followed (F.content files.old) (F.content files.new) name.now id.now) }
+    ensures moved { F.honest → IfOk result (IsMove (AreWhole (objects (F.content files.old)) known.old) followed (F.content files.old) (F.content files.new) name.now id.now) }
     ensures known { F.honest → AreWhole (objects (F.content files.old)) known.old → AreWhole (objects (F.content files.old)) known.new }
     ensures refused { F.honest → IfErr result (BlamesFiles (F.content files.old)) }
     ensures outside { F.honest → SameOutside (codes "refs/") (F.content files.old) (F.content files.new) }
     ensures err { F.honest → OnErr result (F.content files.new ≡ F.content files.old) }
     ensures bad { F.honest → MakesNoneBad (F.content files.old) (F.content files.new) }
     ensures wear { Writes F.honest F.content F.failed F.can_fail F.left files.old files.new (IsErrOf result (ExchangeFault.Fault Fault.Device)) }
-    ensures looks { F.honest → AreWhole (objects (F.content files.old)) known.old → ((to : List ℕ) × MayMove followed (F.content files.old) name.now id.now to) ⊎ Wears F.failed F.can_fail F.left files.old files.new (IsErrOf result (ExchangeFault.Fault Fault.Device)) }
+    ensures looks { F.honest → (AreWhole (objects (F.content files.old)) known.old → (to : List ℕ) × MayMove followed (F.content files.old) name.now id.now to) ⊎ Wears F.failed F.can_fail F.left files.old files.new (IsErrOf result (ExchangeFault.Fault Fault.Device)) }
 {
     let Some((to, current)) = find_follower(files, alloc, known, followed, name, id)? else {
         return Ok(false);
@@ -239,8 +240,9 @@ fn move_ref<F: Files>(
 }
 
 /// Moves the refs that follow these, in their order, and counts those that moved. A call that ends early has moved some first
-/// of them. Each object is read once for all of them to see that it is whole, and none of which that is known. What is known must
-/// be so; more is known after the call. No file becomes bad, and none outside `refs/` changes.
+/// of them. Each object is read once for all of them to see that it is whole, and none of which that is known. Where what is known
+/// is so, the right refs move, and more is known after the call; in any case refs alone are set, no file becomes bad, and none
+/// outside `refs/` changes.
 pub(crate) fn move_refs<F: Files>(
     files: &mut F,
     alloc: Global,
@@ -248,13 +250,13 @@ pub(crate) fn move_refs<F: Files>(
     followed: Followed,
     told: &[(Vec<u8>, ObjectId)],
 ) -> Result<usize, ExchangeFault>
-    ensures moved { F.honest → AreWhole (objects (F.content files.old)) known.old → (r : Repository) → HoldsContent (F.content files.old) r → IfOk result (AreMoved followed (told_in told.now) r (F.content files.new)) }
+    ensures moved { F.honest → (r : Repository) → HoldsContent (F.content files.old) r → IfOk result (AreMoved (AreWhole (objects (F.content files.old)) known.old) followed (told_in told.now) r (F.content files.new)) }
     ensures refused { F.honest → IfErr result (BlamesFiles (F.content files.old)) }
     ensures outside { F.honest → SameOutside (codes "refs/") (F.content files.old) (F.content files.new) }
-    ensures left { F.honest → AreWhole (objects (F.content files.old)) known.old → (r : Repository) → HoldsContent (F.content files.old) r → OnErr result (AreFrontMoved followed (told_in told.now) r (F.content files.new)) }
+    ensures left { F.honest → (r : Repository) → HoldsContent (F.content files.old) r → OnErr result (AreFrontMoved (AreWhole (objects (F.content files.old)) known.old) followed (told_in told.now) r (F.content files.new)) }
     ensures bad { F.honest → MakesNoneBad (F.content files.old) (F.content files.new) }
     ensures wear { Writes F.honest F.content F.failed F.can_fail F.left files.old files.new (IsErrOf result (ExchangeFault.Fault Fault.Device)) }
-    ensures looks { F.honest → AreWhole (objects (F.content files.old)) known.old → (r : Repository) → HoldsContent (F.content files.old) r → MovesSome followed (told_in told.now) r ⊎ Wears F.failed F.can_fail F.left files.old files.new (IsErrOf result (ExchangeFault.Fault Fault.Device)) }
+    ensures looks { F.honest → (r : Repository) → HoldsContent (F.content files.old) r → (AreWhole (objects (F.content files.old)) known.old → MovesSome followed (told_in told.now) r) ⊎ Wears F.failed F.can_fail F.left files.old files.new (IsErrOf result (ExchangeFault.Fault Fault.Device)) }
 {
     let mut moved = 0;
     for (name, id) in told {

@@ -16,9 +16,10 @@ ghost use Rattle.vc_model.specs.Clone.{Awaited, refused_reasons};
 ghost use Rattle.vc_model.specs.Message.{Message};
 ghost use Rattle.vc_model.specs.Node.Reply.{Moved as MovedRefs, Reported as ReportedRefs};
 ghost use Rattle.vc_model.specs.Refs.{Refs};
-ghost use Rattle.vc_model.specs.Repository.{Repository};
+ghost use Rattle.vc_model.specs.Repository.{IsSound, Repository};
 ghost use Rattle.vc_object.specs.declared.id.ObjectId.{ObjectId as Name};
 ghost use Rattle.vc_push.specs.ReportView.{report_text, told_of};
+ghost use Rattle.vc_rules.specs.Git.{git};
 ghost use Rattle.vc_rules.specs.OpenPushes.{HoldsContent};
 ghost use Rattle.vc_session.specs.Clean.{MakesNoneBad};
 
@@ -87,8 +88,9 @@ fn listed(
 }
 
 /// Takes an advertisement: the ids of which not all is there are asked for, the first 256 of them in order of the refs' names;
-/// where there are none, the refs follow at once. A call that ends early has moved some first refs. No file becomes bad, and none
-/// outside `refs/` changes.
+/// where there are none, the refs follow at once. What the clone's own refs reach is taken as there, as it is in a sound
+/// repository, and not read. A call that ends early has moved some first refs. No file becomes bad, and none outside `refs/`
+/// changes.
 pub fn receive_advert<F: Files>(
     files: &mut F,
     alloc: Global,
@@ -100,10 +102,10 @@ pub fn receive_advert<F: Files>(
     ensures outside { F.honest → SameOutside (codes "refs/") (F.content files.old) (F.content files.new) }
     ensures bad { F.honest → MakesNoneBad (F.content files.old) (F.content files.new) }
     ensures wear { Writes F.honest F.content F.failed F.can_fail F.left files.old files.new (IsErrOf result (ExchangeFault.Fault Fault.Device)) }
-    ensures looks { F.honest → (r : Repository) → HoldsContent (F.content files.old) r → (m : Message) → IsAdvert m (advert_text advert) → ChangesAt r AnAdvert m ⊎ Wears F.failed F.can_fail F.left files.old files.new (IsErrOf result (ExchangeFault.Fault Fault.Device)) }
+    ensures looks { F.honest → (r : Repository) → HoldsContent (F.content files.old) r → (m : Message) → IsAdvert m (advert_text advert) → (IsSound git r → ChangesAt r AnAdvert m) ⊎ Wears F.failed F.can_fail F.left files.old files.new (IsErrOf result (ExchangeFault.Fault Fault.Device)) }
 {
     let refs = listed(alloc, advert.refs)?;
-    let mut known = Known::nothing(alloc);
+    let mut known = Known::by_good_refs(files, alloc)?;
     let open = open_ids(files, alloc, &mut known.objects, &refs)?;
     if open.is_empty() {
         let moved = move_refs(files, alloc, &mut known, Followed::All, &refs)?;
@@ -188,8 +190,9 @@ fn refused_numbers(alloc: Global, told: &[Told]) -> Result<Vec<u16>, AllocError>
 }
 
 /// Takes the report on a push: the tracking refs move of the branches whose commands it accepts, and the numbers are told of the
-/// reasons for which it refuses the others. The objects need not be there: a ref follows only to an id of which all is there. A
-/// call that ends early has moved some first refs. No file becomes bad, and none outside `refs/` changes.
+/// reasons for which it refuses the others. The objects need not be there: a ref follows only to an id of which all is there. What
+/// the clone's own refs reach is taken as there, as it is in a sound repository, and not read. A call that ends early has moved
+/// some first refs. No file becomes bad, and none outside `refs/` changes.
 pub fn receive_report<F: Files>(
     files: &mut F,
     alloc: Global,
@@ -201,11 +204,11 @@ pub fn receive_report<F: Files>(
     ensures outside { F.honest → SameOutside (codes "refs/") (F.content files.old) (F.content files.new) }
     ensures bad { F.honest → MakesNoneBad (F.content files.old) (F.content files.new) }
     ensures wear { Writes F.honest F.content F.failed F.can_fail F.left files.old files.new (IsErrOf result (ExchangeFault.Fault Fault.Device)) }
-    ensures looks { F.honest → (r : Repository) → HoldsContent (F.content files.old) r → (m : Message) → IsReport m (report_text report.now) → (awaits : Awaited) → ChangesAt r awaits m ⊎ Wears F.failed F.can_fail F.left files.old files.new (IsErrOf result (ExchangeFault.Fault Fault.Device)) }
+    ensures looks { F.honest → (r : Repository) → HoldsContent (F.content files.old) r → (m : Message) → IsReport m (report_text report.now) → (awaits : Awaited) → (IsSound git r → ChangesAt r awaits m) ⊎ Wears F.failed F.can_fail F.left files.old files.new (IsErrOf result (ExchangeFault.Fault Fault.Device)) }
 {
     let refused = refused_numbers(alloc, &report.told)?;
     let refs = accepted(alloc, &report.told)?;
-    let mut known = Known::nothing(alloc);
+    let mut known = Known::by_good_refs(files, alloc)?;
     let moved = move_refs(files, alloc, &mut known, Followed::Branches, &refs)?;
     Ok(Reported { moved, refused })
 }

@@ -19,7 +19,7 @@ use Rattle.vc_index.proofs.AgainLemmas.{one_index}
 use Rattle.vc_model.specs.Object.{Id, Kind, Object}
 use Rattle.vc_model.specs.Object.Kind.{Blob, Tree, Commit, Tag}
 use Rattle.vc_model.specs.Refs.{RefName}
-use Rattle.vc_model.specs.Repository.{Repository}
+use Rattle.vc_model.specs.Repository.{IsSound, Repository}
 use Rattle.vc_model.specs.CloneCall.CloneCall.{Command}
 use Rattle.vc_model.specs.ExactWorld.{MayClone}
 use Rattle.vc_model.specs.Fuse.{Burns, DiffersAt, Place, WritesSuffice}
@@ -355,7 +355,7 @@ exchanges_burn honest content failed can_fail left shows tells old new result fr
       step.5,
       step.6,
       step.7,
-      burns honest content failed can_fail left old new (CloneTellsDevice result) frail (MayClone git git_rules n call) step.2 n.repository step.1.repository is_honest (tells result step.2 step.3 step.6) can wear (looks awaited n is holds) holds.shows.spells step.5.shows.spells,
+      burns honest content failed can_fail left old new (CloneTellsDevice result) frail (IsSound git n.repository → MayClone git git_rules n call) step.2 n.repository step.1.repository is_honest (tells result step.2 step.3 step.6) can wear (looks awaited n is holds) holds.shows.spells step.5.shows.spells,
     )
 
 received_tells : (r : Result Received CloneFault) (a : Answer) (sends : Option Message) → ReceivedAs r a sends → a ≡ Fault Device → CloneTellsDevice r

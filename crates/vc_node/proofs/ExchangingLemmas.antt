@@ -26,7 +26,7 @@ use Rattle.vc_model.specs.Message.{Message}
 use Rattle.vc_model.specs.Message.Message.{Advert, Error, ListRefs, Pack, Push, Report, Want}
 use Rattle.vc_model.specs.Node.Reply.{Moved as MovedRefs, Reported as ReportedRefs, Sends}
 use Rattle.vc_model.specs.Refs.{Refs}
-use Rattle.vc_model.specs.Repository.{Repository}
+use Rattle.vc_model.specs.Repository.{IsSound, Repository}
 use Rattle.vc_object.specs.declared.id.ObjectId.{ObjectId}
 use Rattle.vc_push.specs.Report.{ReportText}
 use Rattle.vc_rules.proofs.GitLaws.{git_rules}
@@ -241,17 +241,17 @@ other_unexpected content waits m t other is = unexpected content waits m (λ awa
 pub other_told : (content : FileMap) (waits : AwaitedText) (m : Message) (x y : ReadMessage) → x ≡ y → IsOther (message_text y) → TextOf m (message_text x) → AnswersUp (Receive m) (Err Unexpected) content content waits waits
 other_told content waits m x y same other is = other_unexpected content waits m (message_text x) (subst (λ (z : ReadMessage). IsOther (message_text z)) (sym same) other) is
 
--- ---- what may be written
+-- ---- what may be written, where the node is sound
 module _ (old : FileMap) where
   -- an advertisement, where it changes something
-  pub advert_may : {IsLook : Type 0} (m : Message) (w : AwaitedText) → w ≡ an_advert → ((r : Repository) → HoldsContent old r → ChangesAt r AnAdvert m ⊎ IsLook) → MayOr (Receive m) w true old IsLook
+  pub advert_may : {IsLook : Type 0} (m : Message) (w : AwaitedText) → w ≡ an_advert → ((r : Repository) → HoldsContent old r → (IsSound git r → ChangesAt r AnAdvert m) ⊎ IsLook) → MayOr (Receive m) w true old IsLook
   advert_may {IsLook = IsLook} m w at each awaited n waiting held = by (each n.repository (held_content old n.repository held.shows.spells))
     where
       is : awaited ≡ AnAdvert
       is = subst (λ (x : AwaitedText). IsAwaited x awaited) at waiting
 
-      by : ChangesAt n.repository AnAdvert m ⊎ IsLook → MayClone git git_rules n (Receive m) ⊎ IsLook
-      by (inl changes) = inl (AnAdvert, held.shows.live ∙ ap Some is, changes)
+      by : (IsSound git n.repository → ChangesAt n.repository AnAdvert m) ⊎ IsLook → (IsSound git n.repository → MayClone git git_rules n (Receive m)) ⊎ IsLook
+      by (inl changes) = inl (λ sound. (AnAdvert, held.shows.live ∙ ap Some is, changes sound))
       by (inr look) = inr look
 
   writes_report : (r : Repository) (awaited : Awaited) (m : Message) (t : ReportText) → IsReport m t → ChangesAt r awaited m → CloneWrites git git_rules r awaited (Receive m)
@@ -261,9 +261,9 @@ module _ (old : FileMap) where
       subst (λ (k : Message). CloneWrites git git_rules r (APack wants refs) (Receive k)) (sym is.is) (subst (λ (k : Message). ChangesAt r (APack wants refs) k) is.is changes)
 
   -- a report, too
-  pub report_may : {IsLook : Type 0} (waits : AwaitedText) (m : Message) (t : ReportText) → IsReport m t → ((r : Repository) → HoldsContent old r → (awaits : Awaited) → ChangesAt r awaits m ⊎ IsLook) → MayOr (Receive m) waits true old IsLook
+  pub report_may : {IsLook : Type 0} (waits : AwaitedText) (m : Message) (t : ReportText) → IsReport m t → ((r : Repository) → HoldsContent old r → (awaits : Awaited) → (IsSound git r → ChangesAt r awaits m) ⊎ IsLook) → MayOr (Receive m) waits true old IsLook
   report_may {IsLook = IsLook} waits m t is each awaited n waiting held = by (each n.repository (held_content old n.repository held.shows.spells) awaited)
     where
-      by : ChangesAt n.repository awaited m ⊎ IsLook → MayClone git git_rules n (Receive m) ⊎ IsLook
-      by (inl changes) = inl (awaited, held.shows.live, writes_report n.repository awaited m t is changes)
+      by : (IsSound git n.repository → ChangesAt n.repository awaited m) ⊎ IsLook → (IsSound git n.repository → MayClone git git_rules n (Receive m)) ⊎ IsLook
+      by (inl changes) = inl (λ sound. (awaited, held.shows.live, writes_report n.repository awaited m t is (changes sound)))
       by (inr look) = inr look

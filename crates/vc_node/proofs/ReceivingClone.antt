@@ -114,7 +114,7 @@ module _ (old : FileMap) (waits : AwaitedText) (awaited : Awaited) (n : CloneNod
         clean = clean_on old new bad held.clean;
       },
       shown_so,
-      λ sound. CloneAnswers.obeyed awaited (record { effect = did.effect; left = left; sends = sends; reply = reply }) held.shows.live did.receives (did.done, refl, refl) refl,
+      λ sound. CloneAnswers.obeyed awaited (record { effect = did.effect; left = left; sends = sends; reply = reply }) held.shows.live (did.receives sound) (did.done, refl, refl) refl,
     )
 
     -- a fault left nothing of it, or some
@@ -143,7 +143,7 @@ module _ (old : FileMap) (waits : AwaitedText) (awaited : Awaited) (n : CloneNod
         clean = clean_on old new bad held.clean;
       },
       shown_so,
-      λ sound. CloneAnswers.obeyed awaited part.deed held.shows.live part.receives (part.stops, refl) refl,
+      λ sound. CloneAnswers.obeyed awaited part.deed held.shows.live (part.receives sound) (part.stops, refl) refl,
     )
 
 -- ---- the answer of a node that is up

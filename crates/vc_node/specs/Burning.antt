@@ -34,8 +34,8 @@ CallsBurn {D} {T} honest content failed can_fail left answer_of =
     → (m : CloneNode) × HoldsNode (content new) is_up awaited m × CloneAnswers git git_rules n (Command task) (answer_of result) m None
     × Burns frail (left old) (MayClone git git_rules n (Command task)) ⊥ n.repository m.repository (answer_of result) (left new)
 
--- The same of a call that sends or takes messages, or asks for a value: what it awaits then is held too, and the step is the machine's
--- where the node was sound. What it spends is the machine's in any case.
+-- The same of a call that sends or takes messages, or asks for a value: what it awaits then is held too, and the step, and whether it
+-- may write, are the machine's where the node was sound. What it spends is one write for each place that changed in any case.
 abbrev pub ExchangesBurn : {D T : Type 0} → (honest : Type 0) → (D → FileMap) → (D → ℕ) → (D → Type 0) → (D → Option ℕ) → (Result T CloneFault → Answer → Option Message → Type 0) → Type 0
 ExchangesBurn {D} {T} honest content failed can_fail left shows =
     (old new : D) (result : Result T CloneFault) (frail : Bool) (call : CloneCall) (waits after : AwaitedText) (was_up is_up : Bool) (awaited : Awaited) (n : CloneNode)
@@ -46,4 +46,4 @@ ExchangesBurn {D} {T} honest content failed can_fail left shows =
     → IsAwaited waits awaited → HoldsNode (content old) was_up awaited n
     → (later : Awaited) × (m : CloneNode) × (a : Answer) × (sends : Option Message) × IsAwaited after later × HoldsNode (content new) is_up later m × shows result a sends
     × (IsSound git n.repository → CloneAnswers git git_rules n call a m sends)
-    × Burns frail (left old) (MayClone git git_rules n call) ⊥ n.repository m.repository a (left new)
+    × Burns frail (left old) (IsSound git n.repository → MayClone git git_rules n call) ⊥ n.repository m.repository a (left new)

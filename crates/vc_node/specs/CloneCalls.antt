@@ -66,9 +66,9 @@ pub record AnswersClone (call : CloneCall) (shows : Answer → Option Message �
       → (left : Awaited) × (m : CloneNode) × (a : Answer) × (sends : Option Message) × IsAwaited after left × HoldsNode new is_up left m × shows a sends
       × (IsSound git n.repository → CloneAnswers git git_rules n call a m sends)
 
--- Whatever node was held: the machine's call may write, or this holds.
+-- Whatever node was held: where it is sound the machine's call may write, or this holds.
 abbrev pub MayOr : CloneCall → AwaitedText → Bool → FileMap → Type 0 → Type 0
-MayOr call waits was_up old IsLook = (awaited : Awaited) (n : CloneNode) → IsAwaited waits awaited → HoldsNode old was_up awaited n → MayClone git git_rules n call ⊎ IsLook
+MayOr call waits was_up old IsLook = (awaited : Awaited) (n : CloneNode) → IsAwaited waits awaited → HoldsNode old was_up awaited n → (IsSound git n.repository → MayClone git git_rules n call) ⊎ IsLook
 
 -- of a node that is up, whatever state it is in then
 abbrev pub AnswersUp : CloneCall → Result Received CloneFault → FileMap → FileMap → AwaitedText → AwaitedText → Type 0

@@ -1,4 +1,4 @@
-use Rattle.std.proofs.Common.{◌≡◌, ◌≤◌, take}
+use Rattle.std.proofs.Common.{◌≡◌, ◌⊎◌, ◌≤◌, take}
 use Rattle.std.specs.Prelude.{codes}
 use Rattle.vc_files.specs.FileMap.{SameOutside}
 use Rattle.vc_files.specs.Failures.{Wears, Writes}
@@ -12,11 +12,11 @@ use Rattle.vc_exchange.proofs.moving.move_refs.Given as goal
 
 abbrev pub invariant-loop-name : goal.invariant-loop-name
 invariant-loop-name g l = record {
-  moves : g.F.Files.honest → AreWhole (objects (g.F.Files.content l.initial.files)) l.initial.known → (r : Repository) → HoldsContent (g.F.Files.content l.initial.files) r → AreMoved l.fn.followed (told_in (take l.name-index l.told)) r (g.F.Files.content l.files) l.moved;
+  moves : g.F.Files.honest → (r : Repository) → HoldsContent (g.F.Files.content l.initial.files) r → AreMoved (AreWhole (objects (g.F.Files.content l.initial.files)) l.initial.known) l.fn.followed (told_in (take l.name-index l.told)) r (g.F.Files.content l.files) l.moved;
   known : g.F.Files.honest → AreWhole (objects (g.F.Files.content l.initial.files)) l.initial.known → AreWhole (objects (g.F.Files.content l.files)) l.known;
   outside : g.F.Files.honest → SameOutside (codes "refs/") (g.F.Files.content l.initial.files) (g.F.Files.content l.files);
   bad : g.F.Files.honest → MakesNoneBad (g.F.Files.content l.initial.files) (g.F.Files.content l.files);
   counted : l.moved ≤ l.name-index;
-  looked : g.F.Files.honest → AreWhole (objects (g.F.Files.content l.initial.files)) l.initial.known → l.moved ≡ 0 → Wears g.F.Files.failed g.F.Files.can_fail g.F.Files.left l.initial.files l.files ⊥;
+  looked : g.F.Files.honest → l.moved ≡ 0 → (¬ AreWhole (objects (g.F.Files.content l.initial.files)) l.initial.known) ⊎ Wears g.F.Files.failed g.F.Files.can_fail g.F.Files.left l.initial.files l.files ⊥;
   wear : Writes g.F.Files.honest g.F.Files.content g.F.Files.failed g.F.Files.can_fail g.F.Files.left l.initial.files l.files ⊥;
 }

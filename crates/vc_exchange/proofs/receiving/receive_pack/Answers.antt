@@ -12,6 +12,8 @@ use Rattle.vc_object.specs.ObjectMap.{ObjectMap}
 use Rattle.vc_pkt.specs.ObjectStreamView.{carried}
 use Rattle.vc_rules.proofs.JoinLemmas.{joined}
 use Rattle.vc_rules.specs.OpenPushes.{HoldsContent}
+use Rattle.vc_session.specs.Known.{AreWhole}
+use Rattle.vc_store.specs.Store.{objects}
 use Rattle.vc_exchange.specs.Faults.{from_answer}
 use Rattle.vc_exchange.specs.Moving.{told_in}
 use Rattle.vc_exchange.specs.Receiving.{BlamesPack}
@@ -111,7 +113,7 @@ returns-in_err-moved-clause-cut g c = λ honest r p m pack refs same.
     let now : HoldsContent seen (with_objects r (joined r.objects pack.objects)) = subst (λ (f : FileMap). HoldsContent f (with_objects r (joined r.objects pack.objects))) (sym c.in_ok-open.ensures.same) held in
     let met = stored_met old mid brought st c.in_ok-objects.objects.keys (brought_closed old brought c.in_ok-objects.objects.keys (c.in_ok-objects.ensures.met honest)) in
     let whole = whole_after mid seen c.in_ok-open.ensures.same (record { objects = c.open_ids.new.known; histories = c.new.result }) (c.in_ok-open.ensures.known honest met) c.new.ensures.empty in
-    on_err c.from_residual-in_err-moved.result _ (pack_moving old r p brought pack.objects pack.brought m _ pack.is c.args.wants.now refs (told_in c.args.told.now) same closed (content c.move_refs.new.files) (search (rules, c.in_err-moved.ensures.left honest whole (with_objects r (joined r.objects pack.objects)) now)))
+    on_err c.from_residual-in_err-moved.result _ (pack_moving old r p brought pack.objects pack.brought m _ pack.is c.args.wants.now refs (told_in c.args.told.now) same closed (AreWhole (objects seen) (record { objects = c.open_ids.new.known; histories = c.new.result })) whole (content c.move_refs.new.files) (search (rules, c.in_err-moved.ensures.left honest (with_objects r (joined r.objects pack.objects)) now)))
 
 pub returns-in_err-moved-clause-wear : goal.returns-in_err-moved-clause-wear
 returns-in_err-moved-clause-wear g c =
@@ -136,8 +138,8 @@ returns-clause-taken g c = λ honest r p m pack refs same.
     let now : HoldsContent seen all = subst (λ (f : FileMap). HoldsContent f all) (sym c.in_ok-open.ensures.same) held in
     let met = stored_met old mid brought st c.in_ok-objects.objects.keys (brought_closed old brought c.in_ok-objects.objects.keys (c.in_ok-objects.ensures.met honest)) in
     let whole = whole_after mid seen c.in_ok-open.ensures.same (record { objects = c.open_ids.new.known; histories = c.new.result }) (c.in_ok-open.ensures.known honest met) c.new.ensures.empty in
-    let done = pack_taken old r p brought pack.objects pack.brought m _ pack.is c.args.wants.now refs (told_in c.args.told.now) same closed (content c.move_refs.new.files) c.in_ok-moved.moved c.in_ok-open.open.items
-    (c.in_ok-moved.ensures.moved honest whole all now) (c.in_ok-open.ensures.wanted honest met all held) in
+    let done = pack_taken old r p brought pack.objects pack.brought m _ pack.is c.args.wants.now refs (told_in c.args.told.now) same closed (AreWhole (objects seen) (record { objects = c.open_ids.new.known; histories = c.new.result })) whole (content c.move_refs.new.files) c.in_ok-moved.moved c.in_ok-open.open.items
+    (c.in_ok-moved.ensures.moved honest all now) (c.in_ok-open.ensures.wanted honest met all held) in
     search (rules, done, c.len.ensures)
 
 pub returns-clause-wear : goal.returns-clause-wear
