@@ -8,10 +8,8 @@ use Rattle.vc_object.specs.declared.id.ObjectId.{ObjectId}
 use Rattle.vc_store.specs.Store.{objects}
 use Rattle.vc_store.specs.declared.faults.StoreFault.TheVariants as stores
 use Rattle.vc_index.specs.IndexMap.{IndexMap}
-use Rattle.vc_index.specs.Loading.{IsOfList, IsOfLoad, IsOfLoadIn}
+use Rattle.vc_index.specs.Loading.{IsOfList, IsOfLoad}
 use Rattle.vc_index.specs.TreeReading.{TreeFault, ReadsAs, tree_fault}
-use Rattle.vc_index.specs.declared.loading.Look.{Look}
-use Rattle.vc_index.specs.declared.loading.Look.TheVariants as looks
 use Rattle.vc_index.specs.declared.entry.IndexEntry.{IndexEntry}
 use Rattle.vc_index.specs.declared.faults.IndexFault.{IndexFault}
 use Rattle.vc_index.specs.declared.faults.IndexFault.TheVariants.{BadPath, PathConflict, BadIndex, WrongEntry, Missing, Store}
@@ -63,21 +61,21 @@ listed_first first before rest is = ap (is_listed first) is ∙ ap (λ b. b || i
 pub listed_more : (first : List ℕ) (before rest : List (List ℕ)) → before ≡ first ∷ rest → (q : List ℕ) → is_listed q rest ≡ true → is_listed q before ≡ true
 listed_more first before rest is q there = ap (is_listed q) is ∙ (ap (λ b. is_same q first || b) there ∙ or_true (is_same q first))
 
--- what honest files say of a tree that was not read
-load_is : (look : Look) (honest : Type 0) → honest → (content : FileMap) (root : ObjectId) (e : IndexFault) → IsOfLoadIn look honest content root e → IsOfLoadIn look (Unit {0}) content root e
-load_is look honest h content root BadPath is = λ u. is h
-load_is look honest h content root PathConflict is = λ u. is h
-load_is look honest h content root (BadIndex place) is = is
-load_is look honest h content root (WrongEntry at) is = λ u. is h
-load_is look honest h content root (Missing id) is = λ u. is h
-load_is look honest h content root (Store (stores.BadObject fault)) is = is
-load_is look honest h content root (Store (stores.Absent id)) is = is
-load_is look honest h content root (Store (stores.Damaged id)) is = λ u. is h
-load_is look honest h content root (Store (stores.Fault fault)) is = tt
+-- what honest files say of a tree that was not read, or not listed
+load_is : (honest : Type 0) → honest → (content : FileMap) (root : ObjectId) (e : IndexFault) → (IsOfLoad honest content root e → IsOfLoad (Unit {0}) content root e) × (IsOfList honest content root e → IsOfList (Unit {0}) content root e)
+load_is honest h content root BadPath = (λ is u. is h, λ is u. is h)
+load_is honest h content root PathConflict = (λ is u. is h, λ is u. is h)
+load_is honest h content root (BadIndex place) = (λ is. is, λ is. is)
+load_is honest h content root (WrongEntry at) = (λ is u. is h, λ is u. is h)
+load_is honest h content root (Missing id) = (λ is u. is h, λ is u. is h)
+load_is honest h content root (Store (stores.BadObject fault)) = (λ is. is, λ is. is)
+load_is honest h content root (Store (stores.Absent id)) = (λ is. is, λ is. is)
+load_is honest h content root (Store (stores.Damaged id)) = (λ is u. is h, λ is u. is h)
+load_is honest h content root (Store (stores.Fault fault)) = (λ is. tt, λ is. tt)
 
 pub load_blames : (honest : Type 0) → honest → (content : FileMap) (root : ObjectId) (e : IndexFault) → IsOfLoad honest content root e → ((fault : TreeFault) → tree_fault e ≡ Some fault → ReadsAs (objects content) root (Err fault))
     → BlamesLoad content root (of_index e)
-load_blames honest h content root e is first = inl (e, refl, load_is looks.All honest h content root e is, first)
+load_blames honest h content root e is first = inl (e, refl, (load_is honest h content root e).0 is, first)
 
 -- the same, as a command tells it
 read_blames : (honest : Type 0) → honest → (content : FileMap) (root : ObjectId) (cause : CheckoutFault) (e : IndexFault) → cause ≡ Index e → IsOfLoad honest content root e → TellsFirst (objects content) root cause
@@ -88,7 +86,7 @@ read_blames honest h content root cause e at load told =
 list_blames : (honest : Type 0) → honest → (content : FileMap) (root : ObjectId) (cause : CheckoutFault) (e : IndexFault) → cause ≡ Index e → IsOfList honest content root e → TellsFirstListed (objects content) root cause
     → IsOfTreeList content root (of_checkout cause)
 list_blames honest h content root cause e at load told =
-    subst (λ (c : CheckoutFault). IsOfTreeList content root (of_checkout c)) (sym at) (e, refl, load_is looks.Trees honest h content root e load, λ fault tells. told fault (ap told_fault at ∙ tells))
+    subst (λ (c : CheckoutFault). IsOfTreeList content root (of_checkout c)) (sym at) (e, refl, (load_is honest h content root e).1 load, λ fault tells. told fault (ap told_fault at ∙ tells))
 
 -- an own file of the index that a tree was read as is one of the tree
 pub own_of_tree : (objects : ObjectMap) (root : ObjectId) (own : List ℕ) (tree : IndexMap) → ReadsAs objects root (Ok tree)
