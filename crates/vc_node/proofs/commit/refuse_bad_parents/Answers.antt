@@ -27,8 +27,10 @@ loop-parent-preserved g c =
     let known : g.F.Files.honest → AreRefsWhole old → AreWhole (objects (content c.loop-parent.files)) c.loop-parent.known = λ honest whole. subst (λ (m : FileMap). AreWhole (objects m) c.loop-parent.known) (sym before.same) (before.known honest whole) in
     record {
       good = λ honest. all_more (IsGoodParent old) c.args.parents.now c.loop-parent.parent-index d c.loop-parent-test.true (before.good honest)
-          (λ whole. (subst (λ (m : FileMap). IsComplete m id) before.same (c.in_ok-refuse_beyond.ensures.complete honest (known honest whole)),
-              subst (λ (m : FileMap). IsHistory m id) before.same (c.in_ok-refuse_beyond.ensures.history honest (known honest whole))));
+          (λ whole. (
+            subst (λ (m : FileMap). IsComplete m id) before.same (c.in_ok-refuse_beyond.ensures.complete honest (known honest whole)),
+            subst (λ (m : FileMap). IsHistory m id) before.same (c.in_ok-refuse_beyond.ensures.history honest (known honest whole)),
+          ));
       known = λ honest whole. subst (λ (m : FileMap). AreWhole (objects m) c.refuse_beyond.new.known) before.same (c.in_ok-refuse_beyond.ensures.known honest (known honest whole));
       wear = search rules;
       same = c.in_ok-refuse_beyond.ensures.same ∙ before.same;
