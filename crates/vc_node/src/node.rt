@@ -321,7 +321,8 @@ impl<F: Files> CloneNode<F> {
     /// there is one, and then the extra ones, and behind an empty line stand the message and LF. HEAD's branch, or a
     /// detached HEAD, is moved to it. Refused, in this order, are an author or a committer of more than one line (8), a
     /// HEAD whose branch conflicts with a ref (32), an extra parent of which not all is there (40) or that is no commit
-    /// (41), and a commit or a tree that is too large (3). One that changes no file is allowed.
+    /// (41), as in [`set_branch`](CloneNode::set_branch), and a commit or a tree that is too large (3). One that changes no
+    /// file is allowed.
     pub fn commit(
         &mut self,
         extra_parents: &[ObjectId],
