@@ -1,5 +1,5 @@
 // What a commit must be before a branch, HEAD or another commit may name it.
-ghost use Rattle.std.specs.Prelude.{◌≡◌, IfErr, OnOk, IsErrOf};
+ghost use Rattle.std.specs.Prelude.{◌≡◌, IfErr, OnOk};
 ghost use Rattle.vc_files.specs.Failures.{Wears};
 ghost use Rattle.vc_node.specs.NodeFault.{TellsDevice};
 ghost use Rattle.vc_node.specs.Reads.{IsReached, NoneRead, TellsRead};
