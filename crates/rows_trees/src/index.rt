@@ -17,6 +17,7 @@ pub fn row(bench: &mut Bench, row: &str) -> Result<String> {
         "remove" => bench.index.remove(&bytes(alloc, rest)?),
         "fill" => fill(bench, rest)?,
         "load" => load(bench, rest)?,
+        "list" => list(bench, rest)?,
         "text" => return Ok(escaped(alloc, &bench.index.write(alloc)?)?),
         "tree" => return tree(bench, rest),
         "write" => return write(bench),
@@ -79,6 +80,16 @@ fn load(bench: &mut Bench, root: &str) -> Result<()> {
     bench.index = given(
         bench.alloc,
         Index::from_tree(bench.alloc, &mut bench.files, &root),
+    )?;
+    Ok(())
+}
+
+// Makes the index that of the files that a tree lists, whether they are there or not.
+fn list(bench: &mut Bench, root: &str) -> Result<()> {
+    let root = id_of(&bench.names, root)?;
+    bench.index = given(
+        bench.alloc,
+        Index::list_tree(bench.alloc, &mut bench.files, &root),
     )?;
     Ok(())
 }

@@ -1,6 +1,6 @@
 -- What walks and their refusals say of a node's refs.
 use Rattle.std.proofs.Common.{◌≡◌, ◌⊎◌, inl, inr, ⊎_elim, List, [], ◌∷◌, ◌++◌, Option, Some, None, is_some, IsSome, Contains, ◌↔◌, sym, ap, subst, ◌∙◌, refl, true≢false, arith, slice_get}
-use Rattle.std.proofs.lemmas.List.Elements.{Contains-append_cases}
+use Rattle.std.proofs.lemmas.List.Elements.{Contains-append_cases, Contains-append_left, Contains-append_right}
 use Rattle.std.specs.Option.{option_map}
 use Rattle.std.specs.Prelude.{⊤}
 use Rattle.vc_answer.specs.Answer.{IsOurs, IsNotOurs, IsRefValue, IsCounted, IsSent, IsFirstCounted}
@@ -9,7 +9,7 @@ use Rattle.vc_answer.specs.Picked.{IsFirst, IsPicked, BeginsWithFirst}
 use Rattle.vc_answer.specs.declared.fault.AnswerFault.{AnswerFault}
 use Rattle.vc_answer.specs.declared.fault.AnswerFault.TheVariants.{NotOurs, Incomplete, Refs, Graph, Fault}
 use Rattle.vc_files.specs.FileMap.{FileMap}
-use Rattle.vc_graph.specs.Graph.{ReachedFrom, IsClosedUnder}
+use Rattle.vc_graph.specs.Graph.{ReachedFrom, IsClosedUnder, itself}
 use Rattle.vc_graph.specs.GraphFault.{IsMet, IsTold}
 use Rattle.vc_graph.specs.Overlay.{with_carried}
 use Rattle.vc_graph.specs.declared.fault.GraphFault.{GraphFault}
@@ -78,16 +78,25 @@ IsHead [] (Some x) = ⊥
 IsHead (y ∷ ys) None = ⊥
 IsHead (y ∷ ys) (Some x) = y ≡ x
 
+-- ---- a place in a list
+module _ (xs before after : List ObjectId) (x : ObjectId) (place : xs ≡ before ++ x ∷ after) where
+  placed : Contains xs x
+  placed = subst (λ l. Contains l x) (sym place) (Contains-append_right before (x ∷ after) x (0, omega arith, refl))
+
+  earlier : (y : ObjectId) → Contains before y → Contains xs y
+  earlier y h = subst (λ l. Contains l y) (sym place) (Contains-append_left before (x ∷ after) y h)
+
 -- ---- what the refs reach
 module _ (content : FileMap) (values : List ObjectId) (are : (id : ObjectId) → Contains values id ↔ IsRefValue content id) where
   pub ours_from_reached : (id : ObjectId) → ReachedFrom (links_in (objects content)) values id → IsOurs content id
   ours_from_reached id h = record { value = h.root; is_value = (are h.root).0 h.is_root; reaches = h.reaches }
 
+  -- a value of a ref is reached by it
+  pub ours_of_value : (id : ObjectId) → Contains values id → IsOurs content id
+  ours_of_value id h = record { value = id; is_value = (are id).0 h; reaches = itself }
+
   pub reached_from_ours : (id : ObjectId) → IsOurs content id → ReachedFrom (links_in (objects content)) values id
   reached_from_ours id h = record { root = h.value; is_root = (are h.value).1 h.is_value; reaches = h.reaches }
-
-  pub ours_there : IsClosedUnder (links_in (objects content)) values → (id : ObjectId) → IsOurs content id → IsSome (objects content id)
-  ours_there closed id h = there_from_links (objects content) id (closed id (reached_from_ours id h))
 
 module _ (content : FileMap) where
   -- what is reached from what the refs reach is reached from the refs
@@ -100,14 +109,14 @@ module _ (content : FileMap) where
       → (id : ObjectId) → ReachedFrom (links_in (objects content)) (wants ++ counted) id → IsOurs content id
   ours_of_both wants counted wanted held = ours_onward (wants ++ counted) (λ x h. ⊎_elim (wanted x) (held x) (Contains-append_cases wants counted x h))
 
-  module _ (ours haves counted : List ObjectId) (all : (id : ObjectId) → Contains ours id ↔ IsOurs content id) (picked : IsPicked (Contains ours) haves counted) where
+  module _ (ours haves counted : List ObjectId) (all : (id : ObjectId) → Contains haves id → Contains ours id ↔ IsOurs content id) (picked : IsPicked (Contains ours) haves counted) where
     pub counted_is : (id : ObjectId) → Contains counted id → IsCounted content haves id
     counted_is id h =
         let both = (picked.members id).0 h in
-        record { is_have = both.0; ours = (all id).0 both.1 }
+        record { is_have = both.0; ours = (all id both.0).0 both.1 }
 
     pub is_counted : (id : ObjectId) → IsCounted content haves id → Contains counted id
-    is_counted id h = (picked.members id).1 (h.is_have, (all id).1 h.ours)
+    is_counted id h = (picked.members id).1 (h.is_have, (all id h.is_have).1 h.ours)
 
     -- what is sent is what the wants reach less what the counted haves reach
     pub sent_from : (wants : List ObjectId) (id : ObjectId) → ReachedFrom (links_in (objects content)) wants id × ¬ ReachedFrom (links_in (objects content)) counted id → IsSent content wants haves id
@@ -121,44 +130,27 @@ module _ (content : FileMap) where
     first_counted first head = by counted picked.members picked.first first head
       where
         by : (ids : List ObjectId) → ((id : ObjectId) → Contains ids id ↔ (Contains haves id × Contains ours id)) → BeginsWithFirst (Contains ours) haves ids → (first : Option ObjectId) → IsHead ids first → IsFirstCounted content haves first
-        by [] members begins None head = λ have counts. let none = (members have).1 (counts.is_have, (all have).1 counts.ours) in omega (arith, none.1)
+        by [] members begins None head = λ have counts. let none = (members have).1 (counts.is_have, (all have counts.is_have).1 counts.ours) in omega (arith, none.1)
         by [] members begins (Some x) head = absurd head
         by (y ∷ ys) members begins None head = absurd head
         by (y ∷ ys) members begins (Some x) head = record {
           before = begins.before;
           after = begins.after;
           place = begins.place ∙ ap (λ z. begins.before ++ z ∷ begins.after) head;
-          others = λ z h ours_. begins.others z h ((all z).1 ours_);
-          here = subst (IsOurs content) head ((all y).0 begins.here);
+          others = λ z h ours_. begins.others z h ((all z (earlier haves begins.before begins.after y begins.place z h)).1 ours_);
+          here = subst (IsOurs content) head ((all y (placed haves begins.before begins.after y begins.place)).0 begins.here);
         }
 
 -- ---- exits
--- objects that are there are read, but for a fault
-pub met_read : (Meets : ObjectId → Type 0) (content : FileMap) (ids : List ObjectId) → ((id : ObjectId) → Contains ids id → IsSome (objects content id))
-    → (e : StoreFault) → IsFault e ⊎ ((id : ObjectId) × Contains ids id × (objects content id ≡ None)) → IsMet Meets (IsDamaged content) e
-met_read Meets content ids there (store.BadObject fault) (inl h) = absurd h
-met_read Meets content ids there (store.Absent id) (inl h) = absurd h
-met_read Meets content ids there (store.Damaged id) (inl h) = absurd h
-met_read Meets content ids there (store.Fault fault) h = tt
-met_read Meets content ids there (store.BadObject fault) (inr h) = absurd (true≢false (sym (subst (λ o. IsSome o) h.2 (there h.0 h.1))))
-met_read Meets content ids there (store.Absent id) (inr h) = absurd (true≢false (sym (subst (λ o. IsSome o) h.2 (there h.0 h.1))))
-met_read Meets content ids there (store.Damaged id) (inr h) = absurd (true≢false (sym (subst (λ o. IsSome o) h.2 (there h.0 h.1))))
-
--- names that are reached from closed roots are there
-pub closed_there : (content : FileMap) (wants counted ids : List ObjectId) → IsClosedUnder (links_in (objects content)) (wants ++ counted)
-    → ((id : ObjectId) → Contains ids id → ReachedFrom (links_in (objects content)) wants id) → (id : ObjectId) → Contains ids id → IsSome (objects content id)
-closed_there content wants counted ids closed reached id h =
-    there_from_links (objects content) id (closed id (ReachedFrom-append_left (links_in (objects content)) wants counted id (reached id h)))
-
 -- the first name that is not among ours is the first that no ref reaches
-pub first_not_ours : (content : FileMap) (ours wants : List ObjectId) → ((id : ObjectId) → Contains ours id ↔ IsOurs content id) → (id : ObjectId)
+pub first_not_ours : (content : FileMap) (ours wants : List ObjectId) → ((id : ObjectId) → Contains wants id → Contains ours id ↔ IsOurs content id) → (id : ObjectId)
     → IsFirst (λ x. ¬ Contains ours x) (Contains ours) wants id → IsFirst (IsNotOurs content) (IsOurs content) wants id
 first_not_ours content ours wants all id f = record {
   before = f.before;
   after = f.after;
   place = f.place;
-  others = λ y h. (all y).0 (f.others y h);
-  here = λ h. f.here ((all id).1 h);
+  others = λ y h. (all y (earlier wants f.before f.after id f.place y h)).0 (f.others y h);
+  here = λ h. f.here ((all id (placed wants f.before f.after id f.place)).1 h);
 }
 
 pub head_of_first : (ids : List ObjectId) (first : Option ObjectId) → first ≡ slice_get ids 0 → IsHead ids first

@@ -4,4 +4,6 @@ pub mod JudgeLemmas
 pub mod PackLemmas
 pub mod PickedLemmas
 pub mod ReadingLemmas
+pub mod SentLemmas
+pub mod SetLemmas
 pub mod ValuesLemmas

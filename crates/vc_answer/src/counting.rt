@@ -5,6 +5,7 @@ ghost use Rattle.vc_object.specs.ObjectId.{IsSortedByName};
 ghost use Rattle.vc_object.specs.declared.id.ObjectId.{ObjectId as Id};
 
 use std::alloc::{AllocError, Global};
+use vc_fetch::Want;
 use vc_object::ObjectId;
 
 // Whether the id is one of those, which are sorted by name.
@@ -27,6 +28,18 @@ pub(crate) fn first_other(ids: &[ObjectId], wants: &[ObjectId]) -> Option<Object
         }
     }
     None
+}
+
+// Whether all wants and haves are among those ids, which are sorted by name.
+pub(crate) fn are_among(ids: &[ObjectId], want: &Want) -> bool
+    requires { IsSortedByName ids.now }
+    ensures wants { IsTrue result → (id : Id) → Contains want.now.wants.items id → Contains ids.now id }
+    ensures haves { IsTrue result → (id : Id) → Contains want.now.haves.items id → Contains ids.now id }
+{
+    if first_other(ids, &want.wants).is_some() {
+        return false;
+    }
+    first_other(ids, &want.haves).is_none()
 }
 
 // The haves that are among those ids, which are sorted by name, in the order of the haves.

@@ -1,66 +1,96 @@
 //! The objects of a store that are sent.
-ghost use Rattle.std.specs.Prelude.{◌≡◌, ◌↔◌, ◌⊎◌, ◌++◌, map, IfOk, IfErr, IsErrOf, OnOk, Some, None, Contains};
+ghost use Rattle.std.specs.Prelude.{◌≡◌, ◌↔◌, ◌++◌, ◌∷◌, [], map, IfOk, IfErr, IsErrOf, OnOk, Some, Contains};
 ghost use Rattle.vc_files.specs.Failures.{Wears};
-ghost use Rattle.vc_graph.specs.Graph.{ReachedFrom, IsClosedUnder};
+ghost use Rattle.vc_graph.specs.Graph.{ReachedFrom, IsClosedUnder, IsFollowed};
 ghost use Rattle.vc_graph.specs.GraphFault.{IsTold};
 ghost use Rattle.vc_object.specs.Decoding.{StoredObject};
 ghost use Rattle.vc_object.specs.ObjectId.{IsSortedByName};
 ghost use Rattle.vc_object.specs.ObjectMap.{links_in};
 ghost use Rattle.vc_object.specs.declared.id.ObjectId.{ObjectId as Id};
-ghost use Rattle.vc_pkt.specs.Carried.{object_named, stored_name};
+ghost use Rattle.vc_pkt.specs.Carried.{object_named, stored_name, with_object};
 ghost use Rattle.vc_pkt.specs.ObjectStreamView.{carried};
 ghost use Rattle.vc_store.specs.Store.{objects, IsDamaged};
-ghost use Rattle.vc_store.specs.StoreFault.{IsFault};
 
+use indexmap::IndexSet;
 use std::alloc::Global;
 use vc_files::{Fault, Files};
-use vc_graph::{GraphFault, difference};
-use vc_object::ObjectId;
+use vc_graph::{GraphFault, add_names, closure};
+use vc_object::{ObjectId, links};
 use vc_pkt::{CarriedObjects, StreamObject};
-use vc_store::{Store, StoreFault, get};
+use vc_store::{Store, StoreFault, find};
 
-// The stored objects with these names.
-fn read_objects<F: Files>(
+// Adds the stored object with this name to those that are sent. The answer is what it links to.
+fn send<F: Files>(
     alloc: Global,
     files: &mut F,
-    ids: &[ObjectId],
-) -> Result<CarriedObjects, StoreFault>
-    ensures read { F.honest → IfOk result (λ read. (id : Id) (o : StoredObject) → object_named id (carried read) ≡ Some o ↔ (Contains ids.now id × (objects (F.content files.old) id ≡ Some o))) }
-    ensures sorted { F.honest → IfOk result (λ read. IsSortedByName (map stored_name (carried read))) }
-    ensures refused { F.honest → IfErr result (λ e. IsFault e ⊎ ((id : Id) × Contains ids.now id × (objects (F.content files.old) id ≡ None))) }
-    ensures same { F.content files.new ≡ F.content files.old }
-    ensures wear { Wears F.failed F.can_fail F.left files.old files.new (IsErrOf result (StoreFault.Fault Fault.Device)) }
-{
-    let mut read = CarriedObjects::new(alloc);
-    for id in ids {
-        let stored = get(files, alloc, id)?;
-        read.add(StreamObject {
-            kind: stored.kind,
-            body: stored.body,
-        })?;
-    }
-    Ok(read)
-}
-
-// The names that the wants reach and the counted haves do not.
-fn sent_names<F: Files>(
-    alloc: Global,
-    files: &mut F,
-    wants: &[ObjectId],
-    counted: &[ObjectId],
+    sent: &mut CarriedObjects,
+    id: &ObjectId,
 ) -> Result<Vec<ObjectId>, GraphFault>
-    ensures reached { F.honest → IfOk result (λ ids. (id : Id) → Contains ids.items id ↔ (ReachedFrom (links_in (objects (F.content files.old))) wants.now id × ¬ ReachedFrom (links_in (objects (F.content files.old))) counted.now id)) }
-    ensures closed { F.honest → OnOk result (IsClosedUnder (links_in (objects (F.content files.old))) (wants.now ++ counted.now)) }
-    ensures refused { F.honest → IfErr result (IsTold (objects (F.content files.old)) (IsDamaged (F.content files.old)) (wants.now ++ counted.now)) }
+    ensures links { F.honest → IfOk result (λ ids. links_in (objects (F.content files.old)) id.now ≡ Some ids.items) }
+    ensures sent { F.honest → OnOk result ((o : StoredObject) × (objects (F.content files.old) id.now ≡ Some o) × (carried sent.new ≡ with_object o (carried sent.old))) }
+    ensures refused { F.honest → IfErr result (IsTold (objects (F.content files.old)) (IsDamaged (F.content files.old)) (id.now ∷ [])) }
     ensures same { F.content files.new ≡ F.content files.old }
     ensures wear { Wears F.failed F.can_fail F.left files.old files.new (IsErrOf result (GraphFault.Store (StoreFault.Fault Fault.Device))) }
 {
-    let ids = difference(alloc, &mut Store::new(alloc, files), wants, counted)?;
+    let Some(stored) = find(files, alloc, id)? else {
+        return Err(GraphFault::Missing(*id));
+    };
+    let ids = links(alloc, &stored.object())?;
+    sent.add(StreamObject {
+        kind: stored.kind,
+        body: stored.body,
+    })?;
     Ok(ids)
 }
 
+// The stored objects that the wants reach and that are not known, where all that the known names link to is known.
+fn sent_beyond<F: Files>(
+    alloc: Global,
+    files: &mut F,
+    known: IndexSet<ObjectId>,
+    wants: &[ObjectId],
+) -> Result<CarriedObjects, GraphFault>
+    requires { F.honest → IsFollowed (links_in (objects (F.content files.old))) known.keys }
+    ensures sent { F.honest → IfOk result (λ sent. (id : Id) (o : StoredObject) → object_named id (carried sent) ≡ Some o ↔ ((ReachedFrom (links_in (objects (F.content files.old))) (known.keys ++ wants.now) id × ¬ Contains known.keys id) × (objects (F.content files.old) id ≡ Some o))) }
+    ensures sorted { F.honest → IfOk result (λ sent. IsSortedByName (map stored_name (carried sent))) }
+    ensures closed { F.honest → OnOk result (IsClosedUnder (links_in (objects (F.content files.old))) (known.keys ++ wants.now)) }
+    ensures refused { F.honest → IfErr result (IsTold (objects (F.content files.old)) (IsDamaged (F.content files.old)) (known.keys ++ wants.now)) }
+    ensures same { F.content files.new ≡ F.content files.old }
+    ensures wear { Wears F.failed F.can_fail F.left files.old files.new (IsErrOf result (GraphFault.Store (StoreFault.Fault Fault.Device))) }
+{
+    let mut met = known;
+    let mut next = met.len();
+    add_names(&mut met, wants)?;
+    let mut sent = CarriedObjects::new(alloc);
+    while next < met.len() {
+        let id = met[next];
+        let ids = send(alloc, files, &mut sent, &id)?;
+        add_names(&mut met, &ids)?;
+        next += 1;
+    }
+    Ok(sent)
+}
+
+// The names that the roots reach, all of which are there.
+fn reached<F: Files>(
+    alloc: Global,
+    files: &mut F,
+    roots: &[ObjectId],
+) -> Result<IndexSet<ObjectId>, GraphFault>
+    ensures reached { F.honest → IfOk result (λ names. (id : Id) → Contains names.keys id ↔ ReachedFrom (links_in (objects (F.content files.old))) roots.now id) }
+    ensures followed { F.honest → IfOk result (λ names. IsFollowed (links_in (objects (F.content files.old))) names.keys) }
+    ensures refused { F.honest → IfErr result (IsTold (objects (F.content files.old)) (IsDamaged (F.content files.old)) roots.now) }
+    ensures same { F.content files.new ≡ F.content files.old }
+    ensures wear { Wears F.failed F.can_fail F.left files.old files.new (IsErrOf result (GraphFault.Store (StoreFault.Fault Fault.Device))) }
+{
+    let ids = closure(alloc, &mut Store::new(alloc, files), roots)?;
+    let mut names = IndexSet::new(alloc);
+    add_names(&mut names, &ids)?;
+    Ok(names)
+}
+
 /// The stored objects that the wants reach and the counted haves do not, each taken by its name. What either side reaches is
-/// walked once, and nothing of it may be absent; what is sent is read again.
+/// read once, and nothing of it may be absent.
 pub fn sent_objects<F: Files>(
     alloc: Global,
     files: &mut F,
@@ -74,7 +104,7 @@ pub fn sent_objects<F: Files>(
     ensures same { F.content files.new ≡ F.content files.old }
     ensures wear { Wears F.failed F.can_fail F.left files.old files.new (IsErrOf result (GraphFault.Store (StoreFault.Fault Fault.Device))) }
 {
-    let ids = sent_names(alloc, files, wants, counted)?;
-    let sent = read_objects(alloc, files, &ids)?;
+    let known = reached(alloc, files, counted)?;
+    let sent = sent_beyond(alloc, files, known, wants)?;
     Ok(sent)
 }

@@ -3,11 +3,14 @@ ghost use Rattle.std.specs.Prelude.{◌≡◌, ◌↔◌, ◌⊎◌, IfOk, IfErr
 ghost use Rattle.std.specs.Map.{values_of};
 ghost use Rattle.vc_answer.specs.Answer.{IsRefValue};
 ghost use Rattle.vc_files.specs.Failures.{Wears};
+ghost use Rattle.vc_object.specs.ObjectId.{IsSortedByName};
 ghost use Rattle.vc_object.specs.declared.id.ObjectId.{ObjectId as Id};
 ghost use Rattle.vc_refs.specs.RefFault.{BlamesList, BlamesHead};
 
+use indexmap::IndexSet;
 use std::alloc::{AllocError, Global};
 use vc_files::{Fault, Files};
+use vc_graph::{add_names, sorted_from};
 use vc_object::ObjectId;
 use vc_refname::RefName;
 use vc_refs::{Head, RefFault, head, list};
@@ -21,6 +24,17 @@ fn ids_of(alloc: Global, listed: &[(RefName, ObjectId)]) -> Result<Vec<ObjectId>
         ids.push(*id)?;
     }
     Ok(ids)
+}
+
+// The ids of a list, each once, sorted by name.
+pub(crate) fn sorted_names(alloc: Global, ids: &[ObjectId]) -> Result<Vec<ObjectId>, AllocError>
+    ensures same { IfOk result (λ names. (id : Id) → Contains names.items id ↔ Contains ids.now id) }
+    ensures sorted { IfOk result (λ names. IsSortedByName names.items) }
+{
+    let mut set = IndexSet::new(alloc);
+    add_names(&mut set, ids)?;
+    let names = sorted_from(alloc, &set, 0)?;
+    Ok(names)
 }
 
 // The values of all refs and, where HEAD is an id, that id.

@@ -10,8 +10,8 @@ use Rattle.vc_checkout.specs.Refusal.{IsRefused}
 use Rattle.vc_store.specs.declared.faults.StoreFault.TheVariants.{Fault}
 use Rattle.vc_index.specs.declared.faults.IndexFault.{IndexFault}
 use Rattle.vc_index.specs.declared.faults.IndexFault.TheVariants.{Store}
-use Rattle.vc_index.specs.Loading.{IsOfLoad}
-use Rattle.vc_index.specs.TreeReading.{ReadsAs, TreeFault, tree_fault}
+use Rattle.vc_index.specs.Loading.{IsOfList, IsOfLoad}
+use Rattle.vc_index.specs.TreeReading.{ListsAs, ReadsAs, TreeFault, tree_fault}
 use Rattle.vc_checkout.specs.declared.faults.CheckoutFault.{CheckoutFault}
 use Rattle.vc_checkout.specs.declared.faults.CheckoutFault.TheVariants.{Index}
 
@@ -24,10 +24,10 @@ abbrev pub IsAgainst : CheckoutFault → Type 0
 IsAgainst (Index fault) = ⊥
 IsAgainst _ = Unit {0}
 
--- why a status was not told: the tree was not read, or a fault
+-- why a status was not told: the tree and those below it were not read, or a fault
 abbrev pub IsOfStatus : Type 0 → FileMap → Option ObjectId → CheckoutFault → Type 0
 IsOfStatus honest content None fault = IsFault fault
-IsOfStatus honest content (Some tree) fault = IsFault fault ⊎ ((cause : IndexFault) × (fault ≡ Index cause) × IsOfLoad honest content tree cause)
+IsOfStatus honest content (Some tree) fault = IsFault fault ⊎ ((cause : IndexFault) × (fault ≡ Index cause) × IsOfList honest content tree cause)
 
 -- the fault of a tree that a refusal tells
 abbrev pub told_fault : CheckoutFault → Option TreeFault
@@ -37,6 +37,10 @@ told_fault _ = None
 -- a fault of the tree that is told is the first one that its reading meets
 abbrev pub TellsFirst : ObjectMap → ObjectId → CheckoutFault → Type 0
 TellsFirst objects root refusal = (fault : TreeFault) → told_fault refusal ≡ Some fault → ReadsAs objects root (Err fault)
+
+-- the same where the trees alone are read
+abbrev pub TellsFirstListed : ObjectMap → ObjectId → CheckoutFault → Type 0
+TellsFirstListed objects root refusal = (fault : TreeFault) → told_fault refusal ≡ Some fault → ListsAs objects root (Err fault)
 
 -- why a work tree was not checked out: a fault, or the tree was not read, or what is against it at the first path
 abbrev pub IsOfCheckout : Type 0 → Type 0 → FileMap → FileMap → IndexMap → ObjectId → CheckoutFault → Type 0

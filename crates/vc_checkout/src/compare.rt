@@ -5,7 +5,7 @@ ghost use Rattle.vc_files.specs.Failures.{Wears, unstopped};
 ghost use Rattle.vc_object.specs.declared.id.ObjectId.{ObjectId as Id};
 ghost use Rattle.vc_store.specs.Store.{objects};
 ghost use Rattle.vc_index.specs.IndexMap.{IndexMap};
-ghost use Rattle.vc_checkout.specs.CheckoutFault.{IsFault, IsOfStatus, TellsFirst};
+ghost use Rattle.vc_checkout.specs.CheckoutFault.{IsFault, IsOfStatus, TellsFirstListed};
 ghost use Rattle.vc_checkout.specs.Devices.{WearsEither};
 ghost use Rattle.vc_checkout.specs.Heads.{IsIndexOfHead};
 ghost use Rattle.vc_checkout.specs.Status.{IsWorkChange, IsChangeAt, IsStatus, seen};
@@ -150,7 +150,7 @@ fn changes<T: WorkTree>(
     Ok(changes)
 }
 
-// The index of a tree, or one with no files where there is no tree.
+// The index of the files that a tree lists, or one with no files where there is no tree.
 fn head_index<F: Files>(
     alloc: Global,
     files: &mut F,
@@ -158,22 +158,23 @@ fn head_index<F: Files>(
 ) -> Result<Index, CheckoutFault>
     ensures index { F.honest → IfOk result (IsIndexOfHead (objects (F.content files.old)) tree) }
     ensures refused { IfErr result (IsOfStatus F.honest (F.content files.old) tree) }
-    ensures tree { F.honest → IfErr result (λ e. (root : Id) → tree ≡ Some root → TellsFirst (objects (F.content files.old)) root e) }
+    ensures tree { F.honest → IfErr result (λ e. (root : Id) → tree ≡ Some root → TellsFirstListed (objects (F.content files.old)) root e) }
     ensures same { F.content files.new ≡ F.content files.old }
     ensures wear { Wears F.failed F.can_fail F.left files.old files.new (IsErrOf result (CheckoutFault.Index (IndexFault.Store (StoreFault.Fault Fault.Device)))) }
 {
     let Some(id) = tree else {
         return Ok(Index::new(alloc));
     };
-    match Index::from_tree(alloc, files, &id) {
+    match Index::list_tree(alloc, files, &id) {
         Ok(index) => Ok(index),
         Err(fault) => Err(CheckoutFault::Index(fault)),
     }
 }
 
 /// How the index differs from a tree, and the work tree from the index: the paths at which something differs, in
-/// the order of their bytes. Without a tree every path of the index is added. Files that the index lacks are listed
-/// and not read; an executable bit is not compared, since none is set.
+/// the order of their bytes. Without a tree every path of the index is added. Of what the tree's entries name the trees
+/// alone are read: a file of the tree is compared by its id, and whether its blob is there is not asked. Files that the
+/// index lacks are listed and not read; an executable bit is not compared, since none is set.
 pub fn status<T: WorkTree, F: Files>(
     alloc: Global,
     work: &mut T,
@@ -183,7 +184,7 @@ pub fn status<T: WorkTree, F: Files>(
 ) -> Result<Vec<Change>, CheckoutFault>
     ensures status { T.honest → F.honest → IfOk result (λ changes. (head : IndexMap) × IsIndexOfHead (objects (F.content files.old)) tree head × IsStatus head index.now (T.content work.old) (map seen changes.items)) }
     ensures refused { IfErr result (IsOfStatus F.honest (F.content files.old) tree) }
-    ensures tree { F.honest → IfErr result (λ e. (root : Id) → tree ≡ Some root → TellsFirst (objects (F.content files.old)) root e) }
+    ensures tree { F.honest → IfErr result (λ e. (root : Id) → tree ≡ Some root → TellsFirstListed (objects (F.content files.old)) root e) }
     ensures work { T.content work.new ≡ T.content work.old }
     ensures folders { T.folders work.new ≡ T.folders work.old }
     ensures files { F.content files.new ≡ F.content files.old }

@@ -8,7 +8,7 @@ use Rattle.vc_object.specs.declared.id.ObjectId.{ObjectId}
 use Rattle.vc_store.specs.Store.{objects}
 use Rattle.vc_store.specs.declared.faults.StoreFault.TheVariants as stores
 use Rattle.vc_index.specs.IndexMap.{IndexMap}
-use Rattle.vc_index.specs.Loading.{IsOfLoad}
+use Rattle.vc_index.specs.Loading.{IsOfList, IsOfLoad}
 use Rattle.vc_index.specs.TreeReading.{TreeFault, ReadsAs, tree_fault}
 use Rattle.vc_index.specs.declared.entry.IndexEntry.{IndexEntry}
 use Rattle.vc_index.specs.declared.faults.IndexFault.{IndexFault}
@@ -16,7 +16,7 @@ use Rattle.vc_index.specs.declared.faults.IndexFault.TheVariants.{BadPath, PathC
 use Rattle.vc_index.proofs.MapLemmas.{is_eq-same, same_text}
 use Rattle.vc_checkout.proofs.LeavingLemmas.{or_true}
 use Rattle.vc_checkout.proofs.PathSetLemmas.{is_listed, is_same}
-use Rattle.vc_checkout.specs.CheckoutFault.{IsOfCheckout, IsOfStatus, TellsFirst, told_fault}
+use Rattle.vc_checkout.specs.CheckoutFault.{IsOfCheckout, IsOfStatus, TellsFirst, TellsFirstListed, told_fault}
 use Rattle.vc_checkout.specs.declared.faults.CheckoutFault.{CheckoutFault}
 use Rattle.vc_checkout.specs.declared.faults.CheckoutFault.TheVariants.{Index}
 use Rattle.vc_node.specs.Blames.{BlamesLoad}
@@ -37,7 +37,7 @@ use Rattle.vc_commands.specs.Revisions.{Denoted}
 use Rattle.vc_commands.specs.declared.failure.Failure.{Failure}
 use Rattle.vc_commands.specs.Checkout.RefusesCheckout.{of_fault, of_work}
 use Rattle.vc_commands.specs.Failure.{of_checkout, status_of}
-use Rattle.vc_commands.specs.StatusLines.{IsHeadTree, RefusesStatus}
+use Rattle.vc_commands.specs.StatusLines.{IsHeadTree, IsOfTreeList, RefusesStatus}
 use Rattle.vc_commands.specs.StatusLines.RefusesStatus.{by_fault, by_tree}
 
 -- one path less is left
@@ -61,27 +61,32 @@ listed_first first before rest is = ap (is_listed first) is ∙ ap (λ b. b || i
 pub listed_more : (first : List ℕ) (before rest : List (List ℕ)) → before ≡ first ∷ rest → (q : List ℕ) → is_listed q rest ≡ true → is_listed q before ≡ true
 listed_more first before rest is q there = ap (is_listed q) is ∙ (ap (λ b. is_same q first || b) there ∙ or_true (is_same q first))
 
--- what honest files say of a tree that was not read
-load_is : (honest : Type 0) → honest → (content : FileMap) (root : ObjectId) (e : IndexFault) → IsOfLoad honest content root e → IsOfLoad (Unit {0}) content root e
-load_is honest h content root BadPath is = λ u. is h
-load_is honest h content root PathConflict is = λ u. is h
-load_is honest h content root (BadIndex place) is = is
-load_is honest h content root (WrongEntry at) is = λ u. is h
-load_is honest h content root (Missing id) is = λ u. is h
-load_is honest h content root (Store (stores.BadObject fault)) is = is
-load_is honest h content root (Store (stores.Absent id)) is = is
-load_is honest h content root (Store (stores.Damaged id)) is = λ u. is h
-load_is honest h content root (Store (stores.Fault fault)) is = tt
+-- what honest files say of a tree that was not read, or not listed
+load_is : (honest : Type 0) → honest → (content : FileMap) (root : ObjectId) (e : IndexFault) → (IsOfLoad honest content root e → IsOfLoad (Unit {0}) content root e) × (IsOfList honest content root e → IsOfList (Unit {0}) content root e)
+load_is honest h content root BadPath = (λ is u. is h, λ is u. is h)
+load_is honest h content root PathConflict = (λ is u. is h, λ is u. is h)
+load_is honest h content root (BadIndex place) = (λ is. is, λ is. is)
+load_is honest h content root (WrongEntry at) = (λ is u. is h, λ is u. is h)
+load_is honest h content root (Missing id) = (λ is u. is h, λ is u. is h)
+load_is honest h content root (Store (stores.BadObject fault)) = (λ is. is, λ is. is)
+load_is honest h content root (Store (stores.Absent id)) = (λ is. is, λ is. is)
+load_is honest h content root (Store (stores.Damaged id)) = (λ is u. is h, λ is u. is h)
+load_is honest h content root (Store (stores.Fault fault)) = (λ is. tt, λ is. tt)
 
 pub load_blames : (honest : Type 0) → honest → (content : FileMap) (root : ObjectId) (e : IndexFault) → IsOfLoad honest content root e → ((fault : TreeFault) → tree_fault e ≡ Some fault → ReadsAs (objects content) root (Err fault))
     → BlamesLoad content root (of_index e)
-load_blames honest h content root e is first = inl (e, refl, load_is honest h content root e is, first)
+load_blames honest h content root e is first = inl (e, refl, (load_is honest h content root e).0 is, first)
 
 -- the same, as a command tells it
 read_blames : (honest : Type 0) → honest → (content : FileMap) (root : ObjectId) (cause : CheckoutFault) (e : IndexFault) → cause ≡ Index e → IsOfLoad honest content root e → TellsFirst (objects content) root cause
     → IsOfTreeRead content root (of_checkout cause)
 read_blames honest h content root cause e at load told =
     subst (λ (c : CheckoutFault). IsOfTreeRead content root (of_checkout c)) (sym at) (load_blames honest h content root e load (λ fault tells. told fault (ap told_fault at ∙ tells)))
+
+list_blames : (honest : Type 0) → honest → (content : FileMap) (root : ObjectId) (cause : CheckoutFault) (e : IndexFault) → cause ≡ Index e → IsOfList honest content root e → TellsFirstListed (objects content) root cause
+    → IsOfTreeList content root (of_checkout cause)
+list_blames honest h content root cause e at load told =
+    subst (λ (c : CheckoutFault). IsOfTreeList content root (of_checkout c)) (sym at) (e, refl, (load_is honest h content root e).1 load, λ fault tells. told fault (ap told_fault at ∙ tells))
 
 -- an own file of the index that a tree was read as is one of the tree
 pub own_of_tree : (objects : ObjectMap) (root : ObjectId) (own : List ℕ) (tree : IndexMap) → ReadsAs objects root (Ok tree)
@@ -148,17 +153,17 @@ refused_work honest files_honest h own revision content m work index head root c
 
 -- what refuses a status behind HEAD's tree
 pub refused_status : (honest : Type 0) → honest → (content m : FileMap) (index : IndexMap) (tree : Option ObjectId) (cause : CheckoutFault)
-    → SpellsIndex content index → IsHeadTree content tree → m ≡ content → IsOfStatus honest m tree cause → ((root : ObjectId) → tree ≡ Some root → TellsFirst (objects m) root cause)
+    → SpellsIndex content index → IsHeadTree content tree → m ≡ content → IsOfStatus honest m tree cause → ((root : ObjectId) → tree ≡ Some root → TellsFirstListed (objects m) root cause)
     → RefusesStatus content (of_checkout cause)
 refused_status honest h content m index None cause spelled is same (fault, at) first = by_fault (ap (λ (c : CheckoutFault). status_of (of_checkout c)) at)
 refused_status honest h content m index (Some root) cause spelled is same because first = by (subst (λ (f : FileMap). IsOfStatus honest f (Some root) cause) same because)
   where
-    told : TellsFirst (objects content) root cause
-    told = subst (λ (f : FileMap). TellsFirst (objects f) root cause) same (first root refl)
+    told : TellsFirstListed (objects content) root cause
+    told = subst (λ (f : FileMap). TellsFirstListed (objects f) root cause) same (first root refl)
 
     by : IsOfStatus honest content (Some root) cause → RefusesStatus content (of_checkout cause)
     by (inl (fault, at)) = by_fault (ap (λ (c : CheckoutFault). status_of (of_checkout c)) at)
-    by (inr (e, at, load)) = by_tree index root spelled is (read_blames honest h content root cause e at load told)
+    by (inr (e, at, load)) = by_tree index root spelled is (list_blames honest h content root cause e at load told)
 
 -- a fault of refs ends in 3
 pub refs_status : (e : RefFault) → IsRefFault e → status_of (Refs e) ≡ 3

@@ -9,14 +9,14 @@ use Rattle.vc_model.specs.Clone.{Task}
 use Rattle.vc_model.specs.Clone.Task.{SetBranch}
 use Rattle.vc_model.specs.Node.{Answer}
 use Rattle.vc_node.specs.Commit.{IsCommitted}
-use Rattle.vc_node.specs.Machine.{Answers, AnswersShown, OrBadFile, done_answer, made_answer, up_after}
+use Rattle.vc_node.specs.Machine.{AnswersIfSound, AnswersShownIfSound, OrBadFile, done_answer, made_answer, up_after}
 use Rattle.vc_node.specs.Shown.{IsReady, shown}
 use Rattle.vc_node.specs.declared.fault.NodeFault.{NodeFault}
 use Rattle.vc_object.specs.declared.id.ObjectId.{ObjectId}
 use Rattle.vc_refname.specs.RefName.{IsRefName}
 use Rattle.vc_commands.specs.CloneWords.{branch_ref}
 use Rattle.vc_commands.specs.Revisions.{Denoted, IsOfRevision}
-use Rattle.vc_commands.specs.Steps.{AreDenoted, CommitsIndex, CommitsOn, IsOfCommit, IsOfCommitOn, IsOfRevisions, IsOfSetting, IsOfStep, LeavesAt, MakesCommit, SetsBranch, StepsTo, committing}
+use Rattle.vc_commands.specs.Steps.{AnswersBy, AnswersShownBy, AreDenoted, CommitsIndex, CommitsOn, IsOfCommit, IsOfCommitOn, IsOfRevisions, IsOfSetting, IsOfStep, LeavesAt, MakesCommit, SetsBranch, StepsTo, committing}
 use Rattle.vc_commands.specs.Steps.IsOfCommit.{of_commit}
 use Rattle.vc_commands.specs.Steps.IsOfSetting.{of_step}
 use Rattle.vc_commands.specs.declared.failure.Failure.{Failure}
@@ -27,11 +27,11 @@ module _ {T : Type 0} (told : Result T NodeFault → Answer) (task : Task) (r s 
   after_call : (P : Result T NodeFault → Bool → Bool → FileMap → Type 0) → P r was is new → P s true (up_after s) closed
   after_call P h = subst (λ m. P s true (up_after s) m) end (subst (λ q. P q true (up_after q) new) same (subst (λ b. P r true b new) after (subst (λ b. P r b is new) up h)))
 
-  pub answers_of : Answers task (told r) was is between new → Answers task (told s) true (up_after s) between closed
-  answers_of = after_call (λ q b c m. Answers task (told q) b c between m)
+  pub answers_of : AnswersBy task (told r) was is between new → AnswersBy task (told s) true (up_after s) between closed
+  answers_of = after_call (λ q b c m. AnswersBy task (told q) b c between m)
 
-  pub bad_file_of : OrBadFile between r (AnswersShown task (told r) was is (shown between) (shown new)) → OrBadFile between s (AnswersShown task (told s) true (up_after s) (shown between) (shown closed))
-  bad_file_of = after_call (λ q b c m. OrBadFile between q (AnswersShown task (told q) b c (shown between) (shown m)))
+  pub bad_file_of : OrBadFile between r (AnswersShownBy task (told r) was is (shown between) (shown new)) → OrBadFile between s (AnswersShownBy task (told s) true (up_after s) (shown between) (shown closed))
+  bad_file_of = after_call (λ q b c m. OrBadFile between q (AnswersShownBy task (told q) b c (shown between) (shown m)))
 
   pub left_of : OnErr r (LeavesAt task between new) → OnErr s (LeavesAt task between closed)
   left_of = after_call (λ q _ _ m. OnErr q (LeavesAt task between m))
@@ -39,7 +39,7 @@ module _ {T : Type 0} (told : Result T NodeFault → Answer) (task : Task) (r s 
 -- such an answer is a step
 pub step_of : (task : Task) (r s : Result (Unit {0}) NodeFault) (was is : Bool) (old between new closed : FileMap)
     → IsReady old between → was ≡ true → is ≡ up_after r → r ≡ s → new ≡ closed
-    → Answers task (done_answer r) was is between new → OrBadFile between r (AnswersShown task (done_answer r) was is (shown between) (shown new)) → OnErr r (LeavesAt task between new)
+    → AnswersBy task (done_answer r) was is between new → OrBadFile between r (AnswersShownBy task (done_answer r) was is (shown between) (shown new)) → OnErr r (LeavesAt task between new)
     → StepsTo task s old closed
 step_of task r s was is old between new closed ready up after same end answers bad left = record {
   between = between;
@@ -52,7 +52,7 @@ step_of task r s was is old between new closed ready up after same end answers b
 -- a refused commit is one
 pub refused_of : (task : Task) (r : Result ObjectId NodeFault) (fault : NodeFault) (was is : Bool) (old between new closed : FileMap)
     → IsReady old between → was ≡ true → is ≡ up_after r → r ≡ Err fault → new ≡ closed
-    → Answers task (made_answer r) was is between new → OrBadFile between r (AnswersShown task (made_answer r) was is (shown between) (shown new)) → OnErr r (LeavesAt task between new)
+    → AnswersBy task (made_answer r) was is between new → OrBadFile between r (AnswersShownBy task (made_answer r) was is (shown between) (shown new)) → OnErr r (LeavesAt task between new)
     → StepsTo task (Err fault) old closed
 refused_of task r fault was is old between new closed ready up after same end answers bad left = record {
   between = between;
@@ -70,8 +70,8 @@ none_told content x (inr p) = p
 -- a commit that a node answered
 pub made_of : (extra : List ObjectId) (author committer message : List ℕ) (r : Result ObjectId NodeFault) (id : ObjectId) (was is : Bool) (old between new closed : FileMap)
     → IsReady old between → was ≡ true → is ≡ up_after r → r ≡ Ok id → new ≡ closed
-    → Answers (committing extra author committer message) (made_answer r) was is between new
-    → OrBadFile between r (AnswersShown (committing extra author committer message) (made_answer r) was is (shown between) (shown new))
+    → AnswersIfSound (committing extra author committer message) (made_answer r) was is between new
+    → OrBadFile between r (AnswersShownIfSound (committing extra author committer message) (made_answer r) was is (shown between) (shown new))
     → IsCommitted between extra author committer message id new
     → MakesCommit old extra author committer message id closed
 made_of extra author committer message r id was is old between new closed ready up after same end answers bad committed = record {

@@ -1,17 +1,18 @@
 -- What the commands of a clone do: its files are opened, and a step of the machine follows.
-use Rattle.std.specs.Prelude.{◌≡◌, ◌⊎◌, ℕ, true, List, [], ◌∷◌, Option, Result, Ok, Err, OnErr, map, codes}
+use Rattle.std.specs.Prelude.{◌≡◌, ◌⊎◌, ℕ, Bool, true, List, [], ◌∷◌, Option, Result, Ok, Err, OnErr, map, codes}
 use Rattle.std.specs.Io.KnownBytes.{Appends, Keeps}
 use Rattle.vc_files.specs.FileMap.{FileMap, SameOutside}
 use Rattle.vc_index.specs.IndexMap.{IndexMap}
 use Rattle.vc_index.specs.WrittenTrees.{IsOfWrite, IsWritten}
 use Rattle.vc_index.specs.declared.faults.IndexFault.{IndexFault}
 use Rattle.vc_model.specs.Clone.{Task}
-use Rattle.vc_model.specs.Clone.Task.{MakeCommit, SetBranch}
+use Rattle.vc_model.specs.Clone.Task.{MakeCommit, MoveHead, SetBranch}
 use Rattle.vc_node.specs.Blames.{BlamesOpen}
 use Rattle.vc_node.specs.Commit.{IsCommitted}
-use Rattle.vc_node.specs.Machine.{Answers, AnswersShown, OrBadFile, done_answer, made_answer, up_after}
+use Rattle.vc_model.specs.Node.{Answer}
+use Rattle.vc_node.specs.Machine.{Answers, AnswersIfSound, AnswersShown, AnswersShownIfSound, OrBadFile, done_answer, made_answer, up_after}
 use Rattle.vc_node.specs.NodeFault.{of_index}
-use Rattle.vc_node.specs.Shown.{IsReady, shown}
+use Rattle.vc_node.specs.Shown.{IsReady, Shown, shown}
 use Rattle.vc_node.specs.declared.fault.NodeFault.{NodeFault}
 use Rattle.vc_object.specs.declared.id.ObjectId.{ObjectId}
 use Rattle.vc_refname.specs.RefName.{IsRefName}
@@ -30,13 +31,27 @@ abbrev pub LeavesAt : Task → FileMap → FileMap → Type 0
 LeavesAt (MakeCommit extra author committer message) old new = SameOutside (codes "objects/") old new
 LeavesAt _ old new = new ≡ old
 
+-- the machine answers the command so; where it is looked at a commit, at a sound clone, since all is taken to be there that refs reach
+abbrev pub AnswersBy : Task → Answer → (was_up is_up : Bool) → FileMap → FileMap → Type 0
+AnswersBy (SetBranch name id) = AnswersIfSound (SetBranch name id)
+AnswersBy (MoveHead head) = AnswersIfSound (MoveHead head)
+AnswersBy (MakeCommit extra author committer message) = AnswersIfSound (MakeCommit extra author committer message)
+AnswersBy task = Answers task
+
+-- the same by what is shown
+abbrev pub AnswersShownBy : Task → Answer → (was_up is_up : Bool) → Shown → Shown → Type 0
+AnswersShownBy (SetBranch name id) = AnswersShownIfSound (SetBranch name id)
+AnswersShownBy (MoveHead head) = AnswersShownIfSound (MoveHead head)
+AnswersShownBy (MakeCommit extra author committer message) = AnswersShownIfSound (MakeCommit extra author committer message)
+AnswersShownBy task = AnswersShown task
+
 -- the files were opened as a clone's, and then the machine answers the command so; over files of which some are bad, it does
 -- by what they show, or a bad one is told
 pub record StepsTo (task : Task) (answer : Result (Unit {0}) NodeFault) (old new : FileMap) : Type 0 where
   pub between : FileMap
   pub ready : IsReady old between
-  pub answers : Answers task (done_answer answer) true (up_after answer) between new
-  pub bad_file : OrBadFile between answer (AnswersShown task (done_answer answer) true (up_after answer) (shown between) (shown new))
+  pub answers : AnswersBy task (done_answer answer) true (up_after answer) between new
+  pub bad_file : OrBadFile between answer (AnswersShownBy task (done_answer answer) true (up_after answer) (shown between) (shown new))
   pub left : OnErr answer (LeavesAt task between new)
 
 -- why a command gives no answer: the files are no clone's, and stay; or the machine answers so
@@ -85,14 +100,14 @@ IsOfRevisions content (revision ∷ revisions) e =
 abbrev pub committing : List ObjectId → (author committer message : List ℕ) → Task
 committing extra author committer message = MakeCommit (map (λ (id : ObjectId). id.0) extra) author committer message
 
--- the files were opened, and the index was committed on HEAD with these extra parents: that is the machine's step, and its
--- answer is the commit's id
+-- the files were opened, and the index was committed on HEAD with these extra parents: that is the machine's step, where the
+-- clone was sound, and its answer is the commit's id
 pub record MakesCommit (old : FileMap) (extra : List ObjectId) (author committer message : List ℕ) (id : ObjectId) (new : FileMap) : Type 0 where
   pub between : FileMap
   pub ready : IsReady old between
   pub committed : IsCommitted between extra author committer message id new
-  pub answers : Answers (committing extra author committer message) (made_answer (Ok id)) true true between new
-  pub answers_shown : AnswersShown (committing extra author committer message) (made_answer (Ok id)) true true (shown between) (shown new)
+  pub answers : AnswersIfSound (committing extra author committer message) (made_answer (Ok id)) true true between new
+  pub answers_shown : AnswersShownIfSound (committing extra author committer message) (made_answer (Ok id)) true true (shown between) (shown new)
 
 -- the commit was made, and its id printed
 pub record CommitsOn (old : FileMap) (extra : List ObjectId) (author committer message : List ℕ) (new : FileMap) (before after : Option (List ℕ)) : Type 0 where

@@ -133,7 +133,19 @@ fn has_own(index: &Index, own: &[u8]) -> bool
     false
 }
 
-// Refuses a tree with a file in the store's own folder, or in the place of one above it.
+// Whether the tree can be listed, and no file that it lists is in the store's own folder or in the place of one above it.
+fn lists_apart<F: Files>(alloc: Global, files: &mut F, own: &[u8], tree: &ObjectId) -> bool
+    ensures apart { F.honest → result ≡ true → IsApart (objects (F.content files.old)) tree.now own.now }
+    ensures same { F.content files.new ≡ F.content files.old }
+{
+    match Index::list_tree(alloc, files, tree) {
+        Ok(index) => !has_own(&index, own),
+        Err(_) => false,
+    }
+}
+
+// Refuses a tree with a file in the store's own folder, or in the place of one above it. A good tree is known by its
+// listing; only another is read whole here, since a file of it that is absent may be the first fault.
 fn refuse_own<F: Files>(
     alloc: Global,
     files: &mut F,
@@ -145,6 +157,9 @@ fn refuse_own<F: Files>(
     ensures same { F.content files.new ≡ F.content files.old }
 {
     if own.is_empty() {
+        return Ok(());
+    }
+    if lists_apart(alloc, files, own, tree) {
         return Ok(());
     }
     let index = match Index::from_tree(alloc, files, tree) {

@@ -109,7 +109,8 @@ fn head_tree<F: Files>(alloc: Global, files: &mut F) -> Result<Option<ObjectId>,
 /// empty where it lies elsewhere: the files there are no part of the work tree.
 ///
 /// These are looked at in turn, and the first that is at fault is told: the file of the index (62), HEAD's and its branch's
-/// (33, 34), what HEAD leads to and its tree (51, 55), all of the tree (40, 60, 63).
+/// (33, 34), what HEAD leads to and its tree (51, 55), the tree and those below it (40, 60, 63). Of what their entries name
+/// the trees alone are looked at: a file is told by its id, and one that is absent refuses nothing.
 pub fn print_status<F: Files, W: WorkTree, O: Write>(
     alloc: Global,
     files: &mut F,

@@ -151,7 +151,7 @@ fn refuse_incomplete<F: Files>(
     }
 }
 
-// The objects that the ids reach and the tracking refs do not. Each object that either reaches is walked once.
+// The objects that the ids reach and the tracking refs do not. Each object that either reaches is read once.
 fn untracked_objects<F: Files>(
     alloc: Global,
     files: &mut F,
@@ -228,8 +228,8 @@ pub fn list_message(alloc: Global) -> Result<Vec<u8>, AllocError>
 /// More than 256 items are refused (84), and then the first id of which not all is there (40). The clone's files stay as
 /// they are.
 ///
-/// Each object that the ids or the tracking refs reach is walked once, and what is sent is read again. Only where that is
-/// refused are the ids walked by themselves, to find the first of which not all is there.
+/// Each object that the ids or the tracking refs reach is read once. Only where that is refused are the ids walked by
+/// themselves, to find the first of which not all is there.
 pub fn push_message<F: Files>(
     alloc: Global,
     files: &mut F,

@@ -27,8 +27,10 @@ use Rattle.vc_store.specs.declared.faults.StoreFault.TheVariants.{BadObject, Abs
 use Rattle.vc_index.specs.declared.faults.IndexFault.{IndexFault}
 use Rattle.vc_index.specs.declared.faults.IndexFault.TheVariants.{BadPath, PathConflict, BadIndex, WrongEntry, Missing, Store}
 use Rattle.vc_index.specs.IndexFault.{IsOfAdd}
-use Rattle.vc_index.specs.Loading.{ReachesEntry, IsEntryOfTree, IsOpened, IsDue, IsBlobIfDue, HasBlobs, IsOfLook, IsOfLoad, IsOfLoadStored, item_pair}
+use Rattle.vc_index.specs.Loading.{ReachesEntry, IsEntryOfTree, IsOpened, IsDue, IsDueIn, IsSought, IsBlobIfDue, HasBlobs, IsOfLook, IsOfLoadIn, IsOfLoadStored, item_pair}
 use Rattle.vc_index.specs.declared.loading.Item.{Item}
+use Rattle.vc_index.specs.declared.loading.Look.{Look}
+use Rattle.vc_index.specs.declared.loading.Look.TheVariants as looks
 use Rattle.vc_index.specs.Path.{names_in, IsPath}
 use Rattle.vc_index.specs.TreeFiles.{IsTreeAt, HasEntry, IsFileOfTree}
 use Rattle.vc_index.specs.declared.entry.IndexEntry.{IndexEntry}
@@ -365,16 +367,24 @@ due_file modes.Executable kind d e = cc e
 due_file modes.Link kind d e = cc e
 due_file modes.Commit kind d e = d
 
-pub due_tree : (mode : Mode) → mode ≡ modes.Tree → IsDue mode kinds.Tree
-due_tree mode is = subst (λ (m : Mode). IsDue m kinds.Tree) (sym is) refl
+pub sought_if_due : (look : Look) (mode : Mode) (kind : Kind) → IsDueIn look mode kind → IsSought look mode
+sought_if_due looks.Trees mode kind due = due.0
+sought_if_due looks.All mode kind due = due_file mode kind due
 
-pub due_blob : (mode : Mode) → mode ≢ modes.Commit → mode ≢ modes.Tree → IsDue mode kinds.Blob
-due_blob modes.Tree commit tree = absurd (tree refl)
-due_blob modes.File commit tree = refl
-due_blob modes.SharedFile commit tree = refl
-due_blob modes.Executable commit tree = refl
-due_blob modes.Link commit tree = refl
-due_blob modes.Commit commit tree = absurd (commit refl)
+pub due_tree : (look : Look) (mode : Mode) → mode ≡ modes.Tree → IsDueIn look mode kinds.Tree
+due_tree looks.Trees mode is = (is, refl)
+due_tree looks.All mode is = subst (λ (m : Mode). IsDue m kinds.Tree) (sym is) refl
+
+blob_if_file : (mode : Mode) → mode ≢ modes.Commit → mode ≢ modes.Tree → IsDue mode kinds.Blob
+blob_if_file modes.Tree commit tree = absurd (tree refl)
+blob_if_file modes.File commit tree = refl
+blob_if_file modes.SharedFile commit tree = refl
+blob_if_file modes.Executable commit tree = refl
+blob_if_file modes.Link commit tree = refl
+blob_if_file modes.Commit commit tree = absurd (commit refl)
+
+pub due_blob : (look : Look) (mode : Mode) → look ≡ looks.All → mode ≢ modes.Commit → mode ≢ modes.Tree → IsDueIn look mode kinds.Blob
+due_blob look mode all commit tree = subst (λ (l : Look). IsDueIn l mode kinds.Blob) (sym all) (blob_if_file mode commit tree)
 
 stored_load : (honest : Type 0) (content : FileMap) (root : ObjectId) (item : Item) → (honest → IsEntryOfTree (objects content) root item.path.items item.entry.mode item.entry.id)
     → (fault : StoreFault) → IsRefused item.entry.id (honest → IsDamaged content item.entry.id) fault → IsOfLoadStored honest content root fault
@@ -384,30 +394,30 @@ stored_load honest content root item there (Damaged id) h = λ hn.
     (subst (λ (i : ObjectId). IsDamaged content i) (sym h.0) (h.1 hn), (item.path.items, item.entry.mode, subst (λ (i : ObjectId). IsEntryOfTree (objects content) root item.path.items item.entry.mode i) (sym h.0) (there hn)))
 stored_load honest content root item there (Fault fault) h = tt
 
-pub look_load : (honest : Type 0) (content : FileMap) (root : ObjectId) (item : Item) (kind : Kind) → (honest → IsEntryOfTree (objects content) root item.path.items item.entry.mode item.entry.id) → IsDue item.entry.mode kind
-    → (e : IndexFault) → IsOfLook honest content kind item e → IsOfLoad honest content root e
-look_load honest content root item kind there due BadPath h = absurd h
-look_load honest content root item kind there due PathConflict h = absurd h
-look_load honest content root item kind there due (BadIndex place) h = absurd h
-look_load honest content root item kind there due (WrongEntry at) h = λ hn.
+pub look_load : (look : Look) (honest : Type 0) (content : FileMap) (root : ObjectId) (item : Item) (kind : Kind) → (honest → IsEntryOfTree (objects content) root item.path.items item.entry.mode item.entry.id) → IsDueIn look item.entry.mode kind
+    → (e : IndexFault) → IsOfLook honest content kind item e → IsOfLoadIn look honest content root e
+look_load look honest content root item kind there due BadPath h = absurd h
+look_load look honest content root item kind there due PathConflict h = absurd h
+look_load look honest content root item kind there due (BadIndex place) h = absurd h
+look_load look honest content root item kind there due (WrongEntry at) h = λ hn.
     let o = h.1 hn in
     (item.entry.mode, item.entry.id, kind, o.0, subst (λ (p : List ℕ). IsEntryOfTree (objects content) root p item.entry.mode item.entry.id) (sym h.0) (there hn), due, o.1, o.2)
-look_load honest content root item kind there due (Missing id) h = λ hn. (
+look_load look honest content root item kind there due (Missing id) h = λ hn. (
   item.path.items,
   item.entry.mode,
   subst (λ (i : ObjectId). IsEntryOfTree (objects content) root item.path.items item.entry.mode i) (sym h.0) (there hn),
-  due_file item.entry.mode kind due,
+  sought_if_due look item.entry.mode kind due,
   h.1 hn,
 )
-look_load honest content root item kind there due (Store fault) h = stored_load honest content root item there fault h
+look_load look honest content root item kind there due (Store fault) h = stored_load honest content root item there fault h
 
-pub add_load : (honest : Type 0) (content : FileMap) (root : ObjectId) (m : IndexMap) (path : List ℕ) → IsPath path → (honest → HasConflict m path → ⊥) → (e : IndexFault) → IsOfAdd m path e → IsOfLoad honest content root e
-add_load honest content root m path legal free BadPath h = absurd (h legal)
-add_load honest content root m path legal free PathConflict h = λ hn. free hn h.1
-add_load honest content root m path legal free (BadIndex place) h = h
-add_load honest content root m path legal free (WrongEntry at) h = absurd h
-add_load honest content root m path legal free (Missing id) h = absurd h
-add_load honest content root m path legal free (Store fault) h = subst (IsOfLoadStored honest content root) (sym h.1) tt
+pub add_load : (look : Look) (honest : Type 0) (content : FileMap) (root : ObjectId) (m : IndexMap) (path : List ℕ) → IsPath path → (honest → HasConflict m path → ⊥) → (e : IndexFault) → IsOfAdd m path e → IsOfLoadIn look honest content root e
+add_load look honest content root m path legal free BadPath h = absurd (h legal)
+add_load look honest content root m path legal free PathConflict h = λ hn. free hn h.1
+add_load look honest content root m path legal free (BadIndex place) h = h
+add_load look honest content root m path legal free (WrongEntry at) h = absurd h
+add_load look honest content root m path legal free (Missing id) h = absurd h
+add_load look honest content root m path legal free (Store fault) h = subst (IsOfLoadStored honest content root) (sym h.1) tt
 
 -- ---- the items, before and after one is taken
 pub taken : (all rest : List Item) (item : Item) → all ≡ rest ++ item ∷ [] → map item_pair all ≡ map item_pair rest ++ item_pair item ∷ []

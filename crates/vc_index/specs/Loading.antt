@@ -23,6 +23,8 @@ use Rattle.vc_index.specs.declared.entry.IndexEntry.{IndexEntry}
 use Rattle.vc_index.specs.declared.faults.IndexFault.{IndexFault}
 use Rattle.vc_index.specs.declared.faults.IndexFault.TheVariants.{BadPath, PathConflict, BadIndex, WrongEntry, Missing, Store}
 use Rattle.vc_index.specs.declared.loading.Item.{Item}
+use Rattle.vc_index.specs.declared.loading.Look.{Look}
+use Rattle.vc_index.specs.declared.loading.Look.TheVariants as looks
 
 -- the names lead from these entries through folders to an entry
 abbrev pub ReachesEntry : ObjectMap → List Entry → List (List ℕ) → Mode → ObjectId → Type 0
@@ -43,6 +45,16 @@ IsDue modes.Tree kind = kind ≡ kinds.Tree
 IsDue modes.Commit kind = ⊥
 IsDue _ kind = kind ≡ kinds.Blob
 
+-- whether an entry of this mode is looked at: all but a commit of another repository, or the trees alone
+abbrev pub IsSought : Look → Mode → Type 0
+IsSought looks.Trees mode = mode ≡ modes.Tree
+IsSought looks.All mode = mode ≢ modes.Commit
+
+-- the kind of object that is asked for at an entry that is looked at
+abbrev pub IsDueIn : Look → Mode → Kind → Type 0
+IsDueIn looks.Trees mode kind = (mode ≡ modes.Tree) × (kind ≡ kinds.Tree)
+IsDueIn looks.All mode kind = IsDue mode kind
+
 -- an item's path, and what stands there
 abbrev pub item_pair : Item → List ℕ × IndexEntry
 item_pair item = (item.path.items, item.entry)
@@ -60,16 +72,24 @@ IsOfLoadStored honest content root (Absent absent) = ⊥
 IsOfLoadStored honest content root (Damaged id) = honest → IsDamaged content id × ((path : List ℕ) × (mode : Mode) × IsEntryOfTree (objects content) root path mode id)
 IsOfLoadStored honest content root (Fault fault) = ⊤
 
--- why a tree was not read: an entry's path is too long, an entry names an object of another kind, an object is absent
--- or its file is damaged, or a fault
+-- why a tree was not read: an entry's path is too long, an entry that is looked at names an object of another kind, its
+-- object is absent or the file of that is damaged, or a fault
+abbrev pub IsOfLoadIn : Look → Type 0 → FileMap → ObjectId → IndexFault → Type 0
+IsOfLoadIn look honest content root BadPath = honest → (path : List ℕ) × (mode : Mode) × (id : ObjectId) × IsEntryOfTree (objects content) root path mode id × (4096 < length path)
+IsOfLoadIn look honest content root PathConflict = honest → ⊥
+IsOfLoadIn look honest content root (BadIndex place) = ⊥
+IsOfLoadIn look honest content root (WrongEntry at) = honest → (mode : Mode) × (id : ObjectId) × (kind : Kind) × (object : StoredObject)
+    × IsEntryOfTree (objects content) root at.items mode id × IsDueIn look mode kind × (objects content id ≡ Some object) × (object.kind ≢ kind)
+IsOfLoadIn look honest content root (Missing id) = honest → (path : List ℕ) × (mode : Mode) × IsEntryOfTree (objects content) root path mode id × IsSought look mode × (objects content id ≡ None)
+IsOfLoadIn look honest content root (Store fault) = IsOfLoadStored honest content root fault
+
+-- the same where all entries are looked at
 abbrev pub IsOfLoad : Type 0 → FileMap → ObjectId → IndexFault → Type 0
-IsOfLoad honest content root BadPath = honest → (path : List ℕ) × (mode : Mode) × (id : ObjectId) × IsEntryOfTree (objects content) root path mode id × (4096 < length path)
-IsOfLoad honest content root PathConflict = honest → ⊥
-IsOfLoad honest content root (BadIndex place) = ⊥
-IsOfLoad honest content root (WrongEntry at) = honest → (mode : Mode) × (id : ObjectId) × (kind : Kind) × (object : StoredObject)
-    × IsEntryOfTree (objects content) root at.items mode id × IsDue mode kind × (objects content id ≡ Some object) × (object.kind ≢ kind)
-IsOfLoad honest content root (Missing id) = honest → (path : List ℕ) × (mode : Mode) × IsEntryOfTree (objects content) root path mode id × (mode ≢ modes.Commit) × (objects content id ≡ None)
-IsOfLoad honest content root (Store fault) = IsOfLoadStored honest content root fault
+IsOfLoad honest content root e = IsOfLoadIn looks.All honest content root e
+
+-- the same where the trees alone are
+abbrev pub IsOfList : Type 0 → FileMap → ObjectId → IndexFault → Type 0
+IsOfList honest content root e = IsOfLoadIn looks.Trees honest content root e
 
 -- a file or a link has a blob
 abbrev pub IsBlobIfDue : ObjectMap → IndexEntry → Type 0

@@ -1,5 +1,6 @@
 -- What a tree is read as: the index of its files, or the first fault that is met. The tree itself is looked at first, by the
--- empty path, and right after a folder the entries of its tree, in their order.
+-- empty path, and right after a folder the entries of its tree, in their order. Either all that the entries name is looked
+-- for, or the trees alone.
 use Rattle.std.specs.Prelude.{◌≡◌, ◌≢◌, ◌<◌, ◌≤◌, ◌⊎◌, ◌↔◌, ℕ, List, [], ◌∷◌, ◌++◌, length, map, Option, Some, None, Result, Ok, Err}
 use Rattle.std.specs.FinMap.{get}
 use Rattle.vc_object.specs.Decoding.{StoredObject, stored_object}
@@ -11,10 +12,12 @@ use Rattle.vc_object.specs.declared.mode.Mode.{Mode}
 use Rattle.vc_object.specs.declared.mode.Mode.TheVariants as modes
 use Rattle.vc_index.specs.HeldFiles.{Pair, under, placed}
 use Rattle.vc_index.specs.IndexMap.{IndexMap, index_entry}
-use Rattle.vc_index.specs.Loading.{IsDue, IsEntryOfTree}
+use Rattle.vc_index.specs.Loading.{IsDueIn, IsEntryOfTree, IsSought}
 use Rattle.vc_index.specs.TreeFiles.{IsTreeAt, IsFileOfTree}
 use Rattle.vc_index.specs.declared.faults.IndexFault.{IndexFault}
 use Rattle.vc_index.specs.declared.faults.IndexFault.TheVariants.{BadPath, PathConflict, BadIndex, WrongEntry, Missing, Store}
+use Rattle.vc_index.specs.declared.loading.Look.{Look}
+use Rattle.vc_index.specs.declared.loading.Look.TheVariants as looks
 
 -- what may be at fault at an entry: its path is too long, its object is of another kind, or there is none
 pub data TreeFault : Type 0 where
@@ -23,16 +26,16 @@ pub data TreeFault : Type 0 where
   NoObject : ObjectId → TreeFault
 
 -- the entry has this fault: where its path is over 4,096 bytes, no object is looked for
-abbrev pub HasFault : ObjectMap → Pair → TreeFault → Type 0
-HasFault objects e LongPath = 4096 < length e.0
-HasFault objects e (OtherKind path) = (length e.0 ≤ 4096) × (path ≡ e.0) × (kind : Kind) × (object : StoredObject) × IsDue e.1.mode kind × (objects e.1.id ≡ Some object) × (object.kind ≢ kind)
-HasFault objects e (NoObject id) = (length e.0 ≤ 4096) × (id ≡ e.1.id) × (e.1.mode ≢ modes.Commit) × (objects e.1.id ≡ None)
+abbrev pub HasFaultIn : Look → ObjectMap → Pair → TreeFault → Type 0
+HasFaultIn look objects e LongPath = 4096 < length e.0
+HasFaultIn look objects e (OtherKind path) = (length e.0 ≤ 4096) × (path ≡ e.0) × (kind : Kind) × (object : StoredObject) × IsDueIn look e.1.mode kind × (objects e.1.id ≡ Some object) × (object.kind ≢ kind)
+HasFaultIn look objects e (NoObject id) = (length e.0 ≤ 4096) × (id ≡ e.1.id) × IsSought look e.1.mode × (objects e.1.id ≡ None)
 
--- the entry's path has 4,096 bytes at most, an object of the kind that its mode asks for is there, and a folder's is a
--- legal tree
-pub record IsSoundEntry (objects : ObjectMap) (e : Pair) : Type 0 where
+-- the entry's path has 4,096 bytes at most, where it is looked at an object of the kind that its mode asks for is there, and a
+-- folder's is a legal tree
+pub record IsSoundIn (look : Look) (objects : ObjectMap) (e : Pair) : Type 0 where
   pub short : length e.0 ≤ 4096
-  pub object : (kind : Kind) → IsDue e.1.mode kind → (body : List ℕ) × (objects e.1.id ≡ Some (stored_object kind body))
+  pub object : (kind : Kind) → IsDueIn look e.1.mode kind → (body : List ℕ) × (objects e.1.id ≡ Some (stored_object kind body))
   pub tree : e.1.mode ≡ modes.Tree → (entries : List Entry) × IsTreeAt objects e.1.id entries
 
 -- the entries of a folder's tree, by their paths; anything else has none
@@ -42,20 +45,42 @@ AreInside objects e inside =
     ⊎ ((e.1.mode ≢ modes.Tree) × (inside ≡ []))
 
 -- from these entries on, sound ones are passed first, and then one is met that has the fault
-abbrev pub MeetsFault : ObjectMap → (passed : List Pair) → (entries : List Pair) → TreeFault → Type 0
-MeetsFault objects [] entries fault = (e : Pair) × (later : List Pair) × (entries ≡ e ∷ later) × HasFault objects e fault
-MeetsFault objects (e ∷ passed) entries fault =
-    (inside : List Pair) × (later : List Pair) × (entries ≡ e ∷ later) × IsSoundEntry objects e × AreInside objects e inside × MeetsFault objects passed (inside ++ later) fault
+abbrev pub MeetsFaultIn : Look → ObjectMap → (passed : List Pair) → (entries : List Pair) → TreeFault → Type 0
+MeetsFaultIn look objects [] entries fault = (e : Pair) × (later : List Pair) × (entries ≡ e ∷ later) × HasFaultIn look objects e fault
+MeetsFaultIn look objects (e ∷ passed) entries fault =
+    (inside : List Pair) × (later : List Pair) × (entries ≡ e ∷ later) × IsSoundIn look objects e × AreInside objects e inside × MeetsFaultIn look objects passed (inside ++ later) fault
 
 -- the tree and each entry of it, and of the trees below it, is sound
-abbrev pub IsComplete : ObjectMap → ObjectId → Type 0
-IsComplete objects root = (path : List ℕ) (mode : Mode) (id : ObjectId) → IsEntryOfTree objects root path mode id → IsSoundEntry objects (path, index_entry mode id)
+abbrev pub IsCompleteIn : Look → ObjectMap → ObjectId → Type 0
+IsCompleteIn look objects root = (path : List ℕ) (mode : Mode) (id : ObjectId) → IsEntryOfTree objects root path mode id → IsSoundIn look objects (path, index_entry mode id)
 
--- the index of a tree of which all is there, or the first fault
+-- the index of a tree of which all that is looked at is there, or the first fault
+abbrev pub ReadsIn : Look → ObjectMap → ObjectId → Result IndexMap TreeFault → Type 0
+ReadsIn look objects root (Ok index) =
+    IsCompleteIn look objects root × ((path : List ℕ) (mode : Mode) (id : ObjectId) → IsFileOfTree objects root path mode id ↔ (get index path ≡ Some (index_entry mode id)))
+ReadsIn look objects root (Err fault) = (passed : List Pair) × MeetsFaultIn look objects passed (([], index_entry modes.Tree root) ∷ []) fault
+
+-- ---- where all that the entries name is looked for
+
+abbrev pub HasFault : ObjectMap → Pair → TreeFault → Type 0
+HasFault objects e fault = HasFaultIn looks.All objects e fault
+
+abbrev pub IsSoundEntry : ObjectMap → Pair → Type 0
+IsSoundEntry objects e = IsSoundIn looks.All objects e
+
+abbrev pub MeetsFault : ObjectMap → (passed : List Pair) → (entries : List Pair) → TreeFault → Type 0
+MeetsFault objects passed entries fault = MeetsFaultIn looks.All objects passed entries fault
+
+abbrev pub IsComplete : ObjectMap → ObjectId → Type 0
+IsComplete objects root = IsCompleteIn looks.All objects root
+
 abbrev pub ReadsAs : ObjectMap → ObjectId → Result IndexMap TreeFault → Type 0
-ReadsAs objects root (Ok index) =
-    IsComplete objects root × ((path : List ℕ) (mode : Mode) (id : ObjectId) → IsFileOfTree objects root path mode id ↔ (get index path ≡ Some (index_entry mode id)))
-ReadsAs objects root (Err fault) = (passed : List Pair) × MeetsFault objects passed (([], index_entry modes.Tree root) ∷ []) fault
+ReadsAs objects root v = ReadsIn looks.All objects root v
+
+-- ---- where the trees alone are: what a tree lists, whether the files are there or not
+
+abbrev pub ListsAs : ObjectMap → ObjectId → Result IndexMap TreeFault → Type 0
+ListsAs objects root v = ReadsIn looks.Trees objects root v
 
 -- the fault of a tree that a refusal tells; a failure tells none, and neither does a damaged file
 abbrev pub tree_fault : IndexFault → Option TreeFault

@@ -6,9 +6,9 @@ ghost use Rattle.vc_files.specs.FileMap.{SameOutside};
 ghost use Rattle.vc_store.specs.Store.{objects, IsDamaged};
 ghost use Rattle.vc_object.specs.declared.id.ObjectId.{ObjectId as Id};
 ghost use Rattle.vc_object.specs.declared.mode.Mode.{Mode as ModeValue};
-ghost use Rattle.vc_index.specs.Loading.{HasBlobs, IsOfLoad};
+ghost use Rattle.vc_index.specs.Loading.{HasBlobs, IsOfList, IsOfLoad};
 ghost use Rattle.vc_index.specs.TreeFiles.{IsFileOfTree};
-ghost use Rattle.vc_index.specs.TreeReading.{ReadsAs, TreeFault, tree_fault};
+ghost use Rattle.vc_index.specs.TreeReading.{ListsAs, ReadsAs, TreeFault, tree_fault};
 ghost use Rattle.vc_index.specs.WrittenTrees.{IsWritten, IsBegun, IsOfWrite};
 ghost use Rattle.vc_index.specs.Path.{IsPath, IsAbove};
 ghost use Rattle.vc_index.specs.Damage.{KeepsDamage};
@@ -18,7 +18,7 @@ ghost use Rattle.vc_index.specs.IndexText.{index_text, IsOfRead, TextFault};
 ghost use Rattle.std.specs.Ordering.{nat_cmp};
 ghost use Rattle.std.specs.Cmp.Lexicographic.{slice_cmp};
 
-use crate::loading::load;
+use crate::loading::{Look, load};
 use crate::path::is_path;
 use crate::text::{entry_at, push_entry};
 use crate::trees::write_trees;
@@ -117,7 +117,26 @@ impl Index {
         ensures same { F.content files.new ≡ F.content files.old }
         ensures wear { Wears F.failed F.can_fail F.left files.old files.new (IsErrOf result (IndexFault.Store (StoreFault.Fault Fault.Device))) }
     {
-        load(alloc, files, root)
+        load(alloc, files, Look::All, root)
+    }
+
+    /// The index of the files that a tree lists, as `git ls-tree -r` shows them: the trees alone are opened, and whether
+    /// the files are there is not asked. The walk and its faults are those of `from_tree`, but that no file's object can
+    /// end it.
+    pub fn list_tree<F: Files>(
+        alloc: Global,
+        files: &mut F,
+        root: &ObjectId,
+    ) -> Result<Index, IndexFault>
+        ensures files { F.honest → IfOk result (λ index. (path : List ℕ) (mode : ModeValue) (id : Id) → IsFileOfTree (objects (F.content files.old)) root.now path mode id ↔ (paths.get index path ≡ Some (index_entry mode id))) }
+        ensures reading { F.honest → IfOk result (λ index. ListsAs (objects (F.content files.old)) root.now (Ok index)) }
+        ensures first { F.honest → IfErr result (λ e. (fault : TreeFault) → tree_fault e ≡ Some fault → ListsAs (objects (F.content files.old)) root.now (Err fault)) }
+        ensures only { F.honest → (v : Result IndexMap TreeFault) → ListsAs (objects (F.content files.old)) root.now v → MatchResult result (λ index. v ≡ Ok index) (λ e. (fault : TreeFault) → tree_fault e ≡ Some fault → v ≡ Err fault) }
+        ensures refused { IfErr result (IsOfList F.honest (F.content files.old) root.now) }
+        ensures same { F.content files.new ≡ F.content files.old }
+        ensures wear { Wears F.failed F.can_fail F.left files.old files.new (IsErrOf result (IndexFault.Store (StoreFault.Fault Fault.Device))) }
+    {
+        load(alloc, files, Look::Trees, root)
     }
 
     /// What stands at a path.

@@ -1,4 +1,4 @@
-// The index of a tree's files.
+// The index of a tree's files, with all that the tree names or with the trees alone.
 ghost use Rattle.std.specs.Prelude.{◌≡◌, ◌≤◌, ◌++◌, ◌↔◌, ℕ, List, Some, ◌≢◌, [], length, map, reverse, IfOk, IfErr, OnOk, IsErrOf};
 ghost use Rattle.std.specs.FinMap as paths;
 ghost use Rattle.vc_files.specs.Failures.{Wears};
@@ -9,15 +9,22 @@ ghost use Rattle.vc_object.specs.declared.mode.Mode.{Mode as ModeValue};
 ghost use Rattle.vc_store.specs.Store.{objects};
 ghost use Rattle.vc_index.specs.HeldFiles.{placed, under};
 ghost use Rattle.vc_index.specs.IndexMap.{index_entry};
-ghost use Rattle.vc_index.specs.Loading.{HasBlobs, IsOfLook, IsOfLoad, IsOpened, IsBlobIfDue, item_pair};
+ghost use Rattle.vc_index.specs.Loading.{HasBlobs, IsOfLook, IsOfLoadIn, IsOpened, IsBlobIfDue, item_pair};
 ghost use Rattle.vc_index.specs.TreeFiles.{IsFileOfTree};
-ghost use Rattle.vc_index.specs.TreeReading.{ReadsAs, TreeFault, tree_fault};
+ghost use Rattle.vc_index.specs.TreeReading.{ReadsIn, TreeFault, tree_fault};
 
 use crate::{Index, IndexEntry, IndexFault, MAX_PATH};
 use std::alloc::{AllocError, Global};
 use vc_files::{Fault, Files};
 use vc_object::{Kind, Mode, ObjectId, Tree, tree_of};
 use vc_store::{StoreFault, Stored};
+
+/// Which objects are looked for: those of the trees alone, or also the blob of each file and each link.
+#[derive(Clone, Copy, PartialEq)]
+pub(crate) enum Look {
+    Trees,
+    All,
+}
 
 /// An entry that is still to be looked at, by its path from the root.
 #[derive(Drop)]
@@ -104,13 +111,21 @@ fn open_folder<F: Files>(
     Ok(())
 }
 
-// Looks for the blob of a file or a link. A commit of another repository is not looked for.
-fn look_for_blob<F: Files>(alloc: Global, files: &mut F, item: &Item) -> Result<(), IndexFault>
-    ensures refused { IfErr result (λ e. (item.now.entry.mode ≢ Mode.Commit) × IsOfLook F.honest (F.content files.old) Kind.Blob item.now e) }
-    ensures blob { F.honest → OnOk result (IsBlobIfDue (objects (F.content files.old)) item.now.entry) }
+// Looks for the blob of a file or a link, where blobs are looked for. A commit of another repository is not.
+fn look_for_blob<F: Files>(
+    alloc: Global,
+    files: &mut F,
+    look: Look,
+    item: &Item,
+) -> Result<(), IndexFault>
+    ensures refused { IfErr result (λ e. (look ≡ Look.All) × (item.now.entry.mode ≢ Mode.Commit) × IsOfLook F.honest (F.content files.old) Kind.Blob item.now e) }
+    ensures blob { F.honest → OnOk result (look ≡ Look.All → IsBlobIfDue (objects (F.content files.old)) item.now.entry) }
     ensures same { F.content files.new ≡ F.content files.old }
     ensures wear { Wears F.failed F.can_fail F.left files.old files.new (IsErrOf result (IndexFault.Store (StoreFault.Fault Fault.Device))) }
 {
+    if look == Look::Trees {
+        return Ok(());
+    }
     if item.entry.mode == Mode::Commit {
         return Ok(());
     }
@@ -122,13 +137,14 @@ fn look_for_blob<F: Files>(alloc: Global, files: &mut F, item: &Item) -> Result<
 pub(crate) fn load<F: Files>(
     alloc: Global,
     files: &mut F,
+    look: Look,
     root: &ObjectId,
 ) -> Result<Index, IndexFault>
     ensures files { F.honest → IfOk result (λ index. (path : List ℕ) (mode : ModeValue) (id : Id) → IsFileOfTree (objects (F.content files.old)) root.now path mode id ↔ (paths.get index path ≡ Some (index_entry mode id))) }
-    ensures reading { F.honest → IfOk result (λ index. ReadsAs (objects (F.content files.old)) root.now (Ok index)) }
-    ensures first { F.honest → IfErr result (λ e. (fault : TreeFault) → tree_fault e ≡ Some fault → ReadsAs (objects (F.content files.old)) root.now (Err fault)) }
-    ensures blobs { F.honest → IfOk result (λ index. HasBlobs (objects (F.content files.old)) index) }
-    ensures refused { IfErr result (IsOfLoad F.honest (F.content files.old) root.now) }
+    ensures reading { F.honest → IfOk result (λ index. ReadsIn look (objects (F.content files.old)) root.now (Ok index)) }
+    ensures first { F.honest → IfErr result (λ e. (fault : TreeFault) → tree_fault e ≡ Some fault → ReadsIn look (objects (F.content files.old)) root.now (Err fault)) }
+    ensures blobs { F.honest → look ≡ Look.All → IfOk result (λ index. HasBlobs (objects (F.content files.old)) index) }
+    ensures refused { IfErr result (IsOfLoadIn look F.honest (F.content files.old) root.now) }
     ensures same { F.content files.new ≡ F.content files.old }
     ensures wear { Wears F.failed F.can_fail F.left files.old files.new (IsErrOf result (IndexFault.Store (StoreFault.Fault Fault.Device))) }
 {
@@ -147,7 +163,7 @@ pub(crate) fn load<F: Files>(
         if item.entry.mode == Mode::Tree {
             open_folder(alloc, files, &mut items, &item)?;
         } else {
-            look_for_blob(alloc, files, &item)?;
+            look_for_blob(alloc, files, look, &item)?;
             index.add(alloc, path, item.entry.mode, item.entry.id)?;
         }
     }

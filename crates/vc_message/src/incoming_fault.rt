@@ -24,7 +24,7 @@ impl fmt::Display for IncomingFault {
     fn fmt<W: fmt::Write>(&self, f: &mut fmt::Formatter<W>) -> fmt::Result {
         match self {
             IncomingFault::Memory => f.write_str("memory"),
-            IncomingFault::Failed => f.write_str("115 Failed"),
+            IncomingFault::Failed => f.write_str("115 ReadFailed"),
             IncomingFault::Unread(fault) => fmt::Display::fmt(fault, f),
         }
     }

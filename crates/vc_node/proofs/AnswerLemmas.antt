@@ -6,8 +6,9 @@ use Rattle.vc_model.specs.Repository.{Repository}
 use Rattle.vc_model.specs.Node.{Answer, Failure}
 use Rattle.vc_model.specs.Node.Answer.{Did, Declined, Fault}
 use Rattle.vc_model.specs.Clone.{Awaited, CloneNode, Task}
-use Rattle.vc_model.specs.CloneCall.{Refuses}
+use Rattle.vc_model.specs.CloneCall.{CloneAnswers, Refuses}
 use Rattle.vc_model.specs.CloneCall.CloneAnswers.{down, refused, obeyed, faulted}
+use Rattle.vc_model.specs.CloneCall.CloneCall.{Command}
 use Rattle.vc_refs.specs.declared.faults.RefFault.TheVariants as ref
 use Rattle.vc_store.specs.declared.faults.StoreFault.TheVariants as store
 use Rattle.vc_node.specs.declared.fault.NodeFault.{NodeFault}
@@ -17,7 +18,7 @@ use Rattle.vc_node.specs.NodeFault.{is_fault}
 use Rattle.vc_node.specs.Shown.{Shown, shown}
 use Rattle.vc_rules.specs.Git.{git}
 use Rattle.vc_rules.proofs.GitLaws.{git_rules}
-use Rattle.vc_node.specs.Machine.{live_of, Spells, Follows, Answers, AnswersShown, IsBadFile, fault_answer}
+use Rattle.vc_node.specs.Machine.{live_of, Spells, Follows, Goes, Answers, AnswersShown, IsBadFile, fault_answer}
 use Rattle.vc_node.proofs.CleanLemmas.{still_clean}
 
 -- a node that is down
@@ -52,36 +53,24 @@ stays_by_fault Down = refl
 same_node : (r s : Repository) (a b : Option Awaited) → r ≡ s → a ≡ b → ◌≡◌ {A = CloneNode} (record { repository = r; live = a }) (record { repository = s; live = b })
 same_node r s a b e f i = record { repository = e i; live = f i }
 
+-- what a node that is up goes to, as the machine's step
+pub step_of : (task : Task) (a : Answer) (awaited : Awaited) (n : CloneNode) (after : Repository) → n.live ≡ Some awaited → Goes awaited n.repository task a after
+    → CloneAnswers git git_rules n (Command task) a (record { repository = after; live = live_of (stays a) awaited }) None
+step_of task (Did y) awaited n after live g = obeyed awaited g.0 live g.1 (g.2, ap Some (sym g.3), g.5) (sym g.4)
+step_of task (Declined k) awaited n after live g = refused awaited k live g.0 refl (same_node after n.repository (Some awaited) n.live g.1 (sym live)) refl
+step_of task (Fault f) awaited n after live g = elim g [
+  | inl d ↦ obeyed awaited d.0 live d.1 (d.2, refl) refl
+  | inr e ↦ faulted awaited f live (λ h. cc h) refl (same_node after n.repository None None e refl) refl
+]
+
 -- a node that is up
 pub answers_from : (task : Task) (a : Answer) (was is : Bool) (old new : Shown) → Follows task a old new → was ≡ true → is ≡ stays a → AnswersShown task a was is old new
-answers_from task (Did y) was is old new follows up after = record {
+answers_from task a was is old new follows up after = record {
   each = λ awaited n holds.
-      let g = follows.goes awaited n.repository holds.spells in
-      let d = g.2 in (
-        record { repository = g.0; live = Some awaited },
+      let g = follows.goes awaited n.repository holds.spells in (
+        record { repository = g.0; live = live_of (stays a) awaited },
         record { spells = g.1; live = ap (λ (up : Bool). live_of up awaited) (sym after) },
-        obeyed awaited d.0 (holds.live ∙ ap (λ (up : Bool). live_of up awaited) up) d.1 (d.2, ap Some (sym d.3), d.5) (sym d.4),
-      );
-}
-answers_from task (Declined k) was is old new follows up after = record {
-  each = λ awaited n holds.
-      let g = follows.goes awaited n.repository holds.spells in
-      let live : n.live ≡ Some awaited = holds.live ∙ ap (λ (up : Bool). live_of up awaited) up in (
-        record { repository = g.0; live = Some awaited },
-        record { spells = g.1; live = ap (λ (up : Bool). live_of up awaited) (sym after) },
-        refused awaited k live g.2.0 refl (same_node g.0 n.repository (Some awaited) n.live g.2.1 (sym live)) refl,
-      );
-}
-answers_from task (Fault f) was is old new follows up after = record {
-  each = λ awaited n holds.
-      let g = follows.goes awaited n.repository holds.spells in
-      let live : n.live ≡ Some awaited = holds.live ∙ ap (λ (up : Bool). live_of up awaited) up in (
-        record { repository = g.0; live = None },
-        record { spells = g.1; live = ap (λ (up : Bool). live_of up awaited) (sym after) },
-        elim (g.2) [
-          | inl d ↦ obeyed awaited d.0 live d.1 (d.2, refl) refl
-          | inr e ↦ faulted awaited f live (λ h. cc h) refl (same_node g.0 n.repository None None e refl) refl
-        ],
+        step_of task a awaited n g.0 (holds.live ∙ ap (λ (up : Bool). live_of up awaited) up) g.2,
       );
 }
 
@@ -98,7 +87,7 @@ failed task e told was is content old new cases same up after =
 
 -- ---- clean files
 
-no_bad : (content : FileMap) (e : NodeFault) → IsClean content → IsBadFile content e → ⊥
+pub no_bad : (content : FileMap) (e : NodeFault) → IsClean content → IsBadFile content e → ⊥
 no_bad content (Store (store.BadObject f)) clean bad = bad
 no_bad content (Store (store.Absent id)) clean bad = bad
 no_bad content (Store (store.Damaged id)) clean bad = clean.objects id bad

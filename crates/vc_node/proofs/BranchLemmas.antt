@@ -31,18 +31,20 @@ use Rattle.vc_refs.proofs.WayLemmas.{split_from_starts}
 use Rattle.vc_node.specs.declared.fault.NodeFault.{NodeFault}
 use Rattle.vc_node.specs.declared.fault.NodeFault.TheVariants.{Store, Ref, Missing, NotACommit, BadPath, PathConflict, BadIndex, WrongEntry, Down}
 use Rattle.vc_node.specs.Blames.{BlamesRemoved, BlamesBranch, BlamesHead, MayHead, IsLocalHead}
-use Rattle.vc_node.specs.GoodCommit.{IsComplete, IsHistory}
+use Rattle.vc_node.specs.GoodCommit.{IsComplete, IsGoodBeyondRefs, IsHistory}
 use Rattle.vc_node.specs.Shown.{Shown, shown, with_refs_shown, with_head_shown}
 use Rattle.vc_rules.specs.Git.{git}
 use Rattle.vc_rules.proofs.GitLaws.{git_rules}
-use Rattle.vc_node.specs.Machine.{machine_head, Spells, Follows, IsBadFile, fault_answer, failure_of}
-use Rattle.vc_node.proofs.AnswerLemmas.{declines, faults}
+use Rattle.vc_node.specs.Machine.{machine_head, Spells, Follows, FollowsIf, IsBadFile, fault_answer, failure_of}
+use Rattle.vc_node.proofs.AnswerLemmas.{faults}
 use Rattle.vc_rules.proofs.JoinLemmas.{none_added}
 use Rattle.vc_rules.proofs.MapLemmas.{get-unput, map_cond}
 use Rattle.vc_rules.proofs.ReachLemmas.{closed_from, closed_to, history_from, history_to}
 use Rattle.vc_node.proofs.NameLemmas.{head_named, set_named}
+use Rattle.vc_node.proofs.SoundAnswers.{declines_if, faults_if}
 use Rattle.vc_rules.proofs.RefLemmas.{conflicts_from, conflicts_to, id_some, set_rel, some_id}
 use Rattle.vc_rules.proofs.SoundLemmas.{objects_sound}
+use Rattle.vc_session.specs.Known.{AreRefsWhole}
 
 -- a name that begins so is a branch's
 pub branch_named : (name : List ℕ) → starts_with nat_eq name (codes "refs/heads/") ≡ true → IsBranch name
@@ -120,16 +122,19 @@ module _ (content : FileMap) (r : Repository) (p : Spells (shown content) r) (id
   pub not_history : ¬ IsHistory content id → ¬ HasHistory git (stored r.objects) id.0
   not_history h c = h (history_to (objects content) (stored r.objects) p.objects (objects_sound content) id.0 c)
 
+  pub good_here : IsGoodBeyondRefs content id → AreRefsWhole content → IsClosed git (stored r.objects) id.0 × HasHistory git (stored r.objects) id.0
+  good_here good whole = let g = good whole in (closed g.0, history g.1)
+
 pub set_branch_done : (content : FileMap) (name : List ℕ) (id : ObjectId) (new : FileMap) → starts_with nat_eq name (codes "refs/heads/") ≡ true → shown new ≡ with_refs_shown (shown content) (with_ref (refs content) name id)
-    → IsFreeName content name → IsComplete content id × IsHistory content id → Follows (SetBranch name id.0) (Did Stored) (shown content) (shown new)
+    → IsFreeName content name → IsGoodBeyondRefs content id → FollowsIf (AreRefsWhole content) (SetBranch name id.0) (Did Stored) (shown content) (shown new)
 set_branch_done content name id new begins is free good = record {
   goes = λ awaited r p.
       let after = record r { refs = insert r.refs name id.0 } in (
         after,
         subst (λ (s : Shown). Spells s after) (sym is) (spells_refs (shown content) r (with_ref (refs content) name id) (insert r.refs name id.0) p (set_rel (refs content) r.refs p.refs name id)),
-        (
+        λ whole. (
           quietly awaited (only_changes (SetRefs ((name, id.0) ∷ []) ∷ [])) Stored,
-          ((branch_named name begins, set_named content new name id is), free_from content r name p free, (closed content r p id good.0, history content r p id good.1), refl),
+          ((branch_named name begins, set_named content new name id is), free_from content r name p free, good_here content r p id good whole, refl),
           (r.objects, none_added r.objects, refl),
           refl,
           refl,
@@ -138,20 +143,20 @@ set_branch_done content name id new begins is free good = record {
       );
 }
 
-pub set_branch_failed : (content : FileMap) (name : List ℕ) (id : ObjectId) (e : NodeFault) → BlamesBranch content name id e → IsBadFile content e ⊎ Follows (SetBranch name id.0) (fault_answer e) (shown content) (shown content)
+pub set_branch_failed : (content : FileMap) (name : List ℕ) (id : ObjectId) (e : NodeFault) → BlamesBranch content name id e → IsBadFile content e ⊎ FollowsIf (AreRefsWhole content) (SetBranch name id.0) (fault_answer e) (shown content) (shown content)
 set_branch_failed content name id (Ref (ref.Stale current)) blames = absurd blames
-set_branch_failed content name id (Ref (ref.Conflict other)) blames = inr (declines (SetBranch name id.0) 32 (shown content) (λ r p. inl (not_free content r name other p blames.0.here.conflict blames.1, refl)))
+set_branch_failed content name id (Ref (ref.Conflict other)) blames = inr (declines_if (AreRefsWhole content) (SetBranch name id.0) 32 (shown content) (λ r p whole. inl (not_free content r name other p blames.0.here.conflict blames.1, refl)))
 set_branch_failed content name id (Ref (ref.BadRefFile path)) blames = inl (elim blames [ inl way ↦ way.0 | inr own ↦ subst (λ (n : List ℕ). IsBadRef content n) (sym own.0) own.1 ])
 set_branch_failed content name id (Ref ref.HeadLoop) blames = absurd blames
-set_branch_failed content name id (Ref (ref.Fault f)) blames = inr (faults (SetBranch name id.0) (failure_of f) (shown content))
+set_branch_failed content name id (Ref (ref.Fault f)) blames = inr (faults_if (AreRefsWhole content) (SetBranch name id.0) (failure_of f) (shown content))
 set_branch_failed content name id (Missing absent) blames =
-    inr (declines (SetBranch name id.0) 40 (shown content) (λ r p. inr (free_from content r name p blames.0, inl (not_closed content r p id blames.1, refl))))
+    inr (declines_if (AreRefsWhole content) (SetBranch name id.0) 40 (shown content) (λ r p whole. inr (free_from content r name p blames.0, inl (not_closed content r p id (blames.1 whole), refl))))
 set_branch_failed content name id (NotACommit other) blames =
-    inr (declines (SetBranch name id.0) 41 (shown content) (λ r p. inr (free_from content r name p blames.0, inr (closed content r p id blames.1.0, inl (not_history content r p id blames.1.1, refl)))))
+    inr (declines_if (AreRefsWhole content) (SetBranch name id.0) 41 (shown content) (λ r p whole. inr (free_from content r name p blames.0, inr (closed content r p id (blames.1 whole).0, inl (not_history content r p id (blames.1 whole).1, refl)))))
 set_branch_failed content name id (Store (store.BadObject f)) blames = absurd blames
 set_branch_failed content name id (Store (store.Absent absent)) blames = absurd blames
 set_branch_failed content name id (Store (store.Damaged damaged)) blames = inl blames
-set_branch_failed content name id (Store (store.Fault f)) blames = inr (faults (SetBranch name id.0) (failure_of f) (shown content))
+set_branch_failed content name id (Store (store.Fault f)) blames = inr (faults_if (AreRefsWhole content) (SetBranch name id.0) (failure_of f) (shown content))
 set_branch_failed content name id BadPath blames = absurd blames
 set_branch_failed content name id PathConflict blames = absurd blames
 set_branch_failed content name id (BadIndex place) blames = absurd blames
@@ -177,45 +182,45 @@ spells_head s r h p = record {
 abbrev pub head_deed : Awaited → RefsHead → Deed Awaited
 head_deed awaited h = quietly awaited (only_changes (SetHead (machine_head h) ∷ [])) Stored
 
-head_obeyed : (content new : FileMap) (r : Repository) (awaited : Awaited) (h : RefsHead) → Spells (shown content) r → IsLocalHead h → shown new ≡ with_head_shown (shown content) h → MayHead content h → Obeys git git_rules r awaited (MoveHead (machine_head h)) (head_deed awaited h)
-head_obeyed content new r awaited (heads.Branch name) p fits is may = ((branch_named name fits, head_named new name (ap (λ (s : Shown). s.head) is)), refl)
-head_obeyed content new r awaited (heads.Id id) p fits is may = ((closed content r p id may.0, history content r p id may.1), refl)
+head_obeyed : (content new : FileMap) (r : Repository) (awaited : Awaited) (h : RefsHead) → Spells (shown content) r → IsLocalHead h → shown new ≡ with_head_shown (shown content) h → MayHead content h → AreRefsWhole content → Obeys git git_rules r awaited (MoveHead (machine_head h)) (head_deed awaited h)
+head_obeyed content new r awaited (heads.Branch name) p fits is may whole = ((branch_named name fits, head_named new name (ap (λ (s : Shown). s.head) is)), refl)
+head_obeyed content new r awaited (heads.Id id) p fits is may whole = (good_here content r p id may whole, refl)
 
-pub set_head_done : (content : FileMap) (h : RefsHead) (new : FileMap) → IsLocalHead h → shown new ≡ with_head_shown (shown content) h → MayHead content h → Follows (MoveHead (machine_head h)) (Did Stored) (shown content) (shown new)
+pub set_head_done : (content : FileMap) (h : RefsHead) (new : FileMap) → IsLocalHead h → shown new ≡ with_head_shown (shown content) h → MayHead content h → FollowsIf (AreRefsWhole content) (MoveHead (machine_head h)) (Did Stored) (shown content) (shown new)
 set_head_done content h new fits is may = record {
   goes = λ awaited r p.
       let after = record r { head = machine_head h } in (
         after,
         subst (λ (s : Shown). Spells s after) (sym is) (spells_head (shown content) r h p),
-        (head_deed awaited h, head_obeyed content new r awaited h p fits is may, (r.objects, none_added r.objects, refl), refl, refl, refl),
+        λ whole. (head_deed awaited h, head_obeyed content new r awaited h p fits is may whole, (r.objects, none_added r.objects, refl), refl, refl, refl),
       );
 }
 
 module _ (content : FileMap) where
-  id_failed : (id : ObjectId) (e : NodeFault) → BlamesHead content (heads.Id id) e → IsBadFile content e ⊎ Follows (MoveHead (Detached id.0)) (fault_answer e) (shown content) (shown content)
+  id_failed : (id : ObjectId) (e : NodeFault) → BlamesHead content (heads.Id id) e → IsBadFile content e ⊎ FollowsIf (AreRefsWhole content) (MoveHead (Detached id.0)) (fault_answer e) (shown content) (shown content)
   id_failed id (Ref (ref.Stale current)) blames = absurd blames
   id_failed id (Ref (ref.Conflict other)) blames = absurd blames
   id_failed id (Ref (ref.BadRefFile path)) blames = absurd blames
   id_failed id (Ref ref.HeadLoop) blames = absurd blames
-  id_failed id (Ref (ref.Fault f)) blames = inr (faults (MoveHead (Detached id.0)) (failure_of f) (shown content))
-  id_failed id (Missing absent) blames = inr (declines (MoveHead (Detached id.0)) 40 (shown content) (λ r p. inl (not_closed content r p id blames, refl)))
-  id_failed id (NotACommit other) blames = inr (declines (MoveHead (Detached id.0)) 41 (shown content) (λ r p. inr (closed content r p id blames.0, inl (not_history content r p id blames.1, refl))))
+  id_failed id (Ref (ref.Fault f)) blames = inr (faults_if (AreRefsWhole content) (MoveHead (Detached id.0)) (failure_of f) (shown content))
+  id_failed id (Missing absent) blames = inr (declines_if (AreRefsWhole content) (MoveHead (Detached id.0)) 40 (shown content) (λ r p whole. inl (not_closed content r p id (blames whole), refl)))
+  id_failed id (NotACommit other) blames = inr (declines_if (AreRefsWhole content) (MoveHead (Detached id.0)) 41 (shown content) (λ r p whole. inr (closed content r p id (blames whole).0, inl (not_history content r p id (blames whole).1, refl))))
   id_failed id (Store (store.BadObject f)) blames = absurd blames
   id_failed id (Store (store.Absent absent)) blames = absurd blames
   id_failed id (Store (store.Damaged damaged)) blames = inl blames
-  id_failed id (Store (store.Fault f)) blames = inr (faults (MoveHead (Detached id.0)) (failure_of f) (shown content))
+  id_failed id (Store (store.Fault f)) blames = inr (faults_if (AreRefsWhole content) (MoveHead (Detached id.0)) (failure_of f) (shown content))
   id_failed id BadPath blames = absurd blames
   id_failed id PathConflict blames = absurd blames
   id_failed id (BadIndex place) blames = absurd blames
   id_failed id (WrongEntry at) blames = absurd blames
   id_failed id Down blames = absurd blames
 
-  branch_failed : (name : List ℕ) (e : NodeFault) → BlamesHead content (heads.Branch name) e → IsBadFile content e ⊎ Follows (MoveHead (OnBranch name)) (fault_answer e) (shown content) (shown content)
+  branch_failed : (name : List ℕ) (e : NodeFault) → BlamesHead content (heads.Branch name) e → IsBadFile content e ⊎ FollowsIf (AreRefsWhole content) (MoveHead (OnBranch name)) (fault_answer e) (shown content) (shown content)
   branch_failed name (Ref (ref.Stale current)) blames = absurd blames
   branch_failed name (Ref (ref.Conflict other)) blames = absurd blames
   branch_failed name (Ref (ref.BadRefFile path)) blames = absurd blames
   branch_failed name (Ref ref.HeadLoop) blames = absurd blames
-  branch_failed name (Ref (ref.Fault f)) blames = inr (faults (MoveHead (OnBranch name)) (failure_of f) (shown content))
+  branch_failed name (Ref (ref.Fault f)) blames = inr (faults_if (AreRefsWhole content) (MoveHead (OnBranch name)) (failure_of f) (shown content))
   branch_failed name (Missing absent) blames = absurd blames
   branch_failed name (NotACommit other) blames = absurd blames
   branch_failed name (Store e) blames = absurd blames
@@ -225,6 +230,6 @@ module _ (content : FileMap) where
   branch_failed name (WrongEntry at) blames = absurd blames
   branch_failed name Down blames = absurd blames
 
-  pub set_head_failed : (h : RefsHead) (e : NodeFault) → BlamesHead content h e → IsBadFile content e ⊎ Follows (MoveHead (machine_head h)) (fault_answer e) (shown content) (shown content)
+  pub set_head_failed : (h : RefsHead) (e : NodeFault) → BlamesHead content h e → IsBadFile content e ⊎ FollowsIf (AreRefsWhole content) (MoveHead (machine_head h)) (fault_answer e) (shown content) (shown content)
   set_head_failed (heads.Branch name) e blames = branch_failed name e blames
   set_head_failed (heads.Id id) e blames = id_failed id e blames

@@ -45,7 +45,7 @@ use Rattle.vc_store.specs.declared.faults.StoreFault.TheVariants as store
 use Rattle.vc_store.proofs.PathLemmas.{name_in-some, name_in-object_path}
 use Rattle.vc_rules.specs.Git.{git, machine_entry, machine_kind, stored_of}
 use Rattle.vc_rules.proofs.GitLaws.{git_rules}
-use Rattle.vc_node.specs.Burning.{CallsBurn, ExchangesBurn}
+use Rattle.vc_node.specs.Burning.{CallsBurn, ExchangesBurn, SoundCallsBurn}
 use Rattle.vc_node.specs.CloneCalls.{FoundAs, ReceivedAs, SentAs}
 use Rattle.vc_node.specs.CloneFaults.{IsOfDevice as IsOfClonesDevice, TellsDevice as CloneTellsDevice, fault_answer as clone_answer}
 use Rattle.vc_node.specs.Machine.{Spells, done_answer, fault_answer, failure_of, machine_head, made_answer, ref_answer, store_answer}
@@ -299,6 +299,17 @@ calls_burn honest content failed can_fail left answer_of tells old new result fr
       burns honest content failed can_fail left old new (TellsDevice result) frail (MayClone git git_rules n (Command task)) (answer_of result) n.repository step.0.repository is_honest (tells result) can wear (looks awaited n holds) holds.shows.spells step.1.shows.spells,
     )
 
+-- the same of a command that takes it that all is there that refs reach
+sound_calls_burn : {D T : Type 0} (honest : Type 0) (content : D → FileMap) (failed : D → ℕ) (can_fail : D → Type 0) (left : D → Option ℕ) (answer_of : Result T NodeFault → Answer)
+    → ((r : Result T NodeFault) → answer_of r ≡ Fault Device → TellsDevice r) → SoundCallsBurn honest content failed can_fail left answer_of
+sound_calls_burn honest content failed can_fail left answer_of tells old new result frail task was_up is_up awaited n is_honest can wear looks answers holds =
+    let step = answers.each awaited n holds in (
+      step.0,
+      step.1,
+      step.2,
+      burns honest content failed can_fail left old new (TellsDevice result) frail (IsSound git n.repository → MayClone git git_rules n (Command task)) (answer_of result) n.repository step.0.repository is_honest (tells result) can wear (looks awaited n holds) holds.shows.spells step.1.shows.spells,
+    )
+
 -- ---- what is told
 
 of_device : (f : FilesFault) → Fault (failure_of f) ≡ Fault Device → IsOfDevice (Store (store.Fault f))
@@ -336,6 +347,12 @@ made_burns honest content failed can_fail left = calls_burn honest content faile
 
 pub done_burns : {D : Type 0} (honest : Type 0) (content : D → FileMap) (failed : D → ℕ) (can_fail : D → Type 0) (left : D → Option ℕ) → CallsBurn honest content failed can_fail left done_answer
 done_burns honest content failed can_fail left = calls_burn honest content failed can_fail left done_answer done_tells
+
+pub made_burns_if_sound : {D : Type 0} (honest : Type 0) (content : D → FileMap) (failed : D → ℕ) (can_fail : D → Type 0) (left : D → Option ℕ) → SoundCallsBurn honest content failed can_fail left made_answer
+made_burns_if_sound honest content failed can_fail left = sound_calls_burn honest content failed can_fail left made_answer made_tells
+
+pub done_burns_if_sound : {D : Type 0} (honest : Type 0) (content : D → FileMap) (failed : D → ℕ) (can_fail : D → Type 0) (left : D → Option ℕ) → SoundCallsBurn honest content failed can_fail left done_answer
+done_burns_if_sound honest content failed can_fail left = sound_calls_burn honest content failed can_fail left done_answer done_tells
 
 -- ---- a call that sends or takes messages, or asks for a value
 

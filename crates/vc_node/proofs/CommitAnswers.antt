@@ -28,13 +28,14 @@ use Rattle.vc_object.specs.declared.kind.Kind.TheVariants as kinds
 use Rattle.vc_refs.specs.Head.{head_of}
 use Rattle.vc_refs.specs.declared.heads.Head.{Head}
 use Rattle.vc_refs.specs.declared.heads.Head.TheVariants as heads
+use Rattle.vc_session.specs.Known.{AreRefsWhole}
 use Rattle.vc_store.specs.Store.{objects, with_object, with_objects}
 use Rattle.vc_node.specs.Commit.{IsCommitted, WritesCommit, made_body, moved, parents_of_commit}
 use Rattle.vc_node.specs.IndexFile.{SpellsIndex}
 use Rattle.vc_rules.specs.Git.{git, machine_entry, stored_of}
 use Rattle.vc_rules.specs.Trees.{TreesGive, ShowsIndex, ListsTrees}
 use Rattle.vc_rules.proofs.GitLaws.{git_rules}
-use Rattle.vc_node.specs.Machine.{machine_head, Spells, Follows}
+use Rattle.vc_node.specs.Machine.{machine_head, Spells, FollowsIf}
 use Rattle.vc_node.specs.Making.{AreLines, HasRoot, IsCut, MayCommit}
 use Rattle.vc_node.specs.Shown.{Shown, shown, with_objects_shown}
 use Rattle.vc_node.proofs.BranchLemmas.{spells_refs, spells_head}
@@ -94,11 +95,11 @@ module _ (content : FileMap) (extra : List ObjectId) (author committer message :
       abbrev pub commit_deed : Awaited → List (List Entry) → ObjectId → Deed Awaited
       commit_deed awaited trees tree = quietly awaited (record { objects = effect_objects trees tree; changes = head_to r.head (git_name (commit tree)) ∷ [] }) (Made (git_name (commit tree)))
 
-      pub obeyed : (awaited : Awaited) → MayCommit content extra author committer → (tree : ObjectId) (root : HasRoot m tree) → IsObject kinds.Commit (body tree) → Obeys git git_rules r awaited commit_task (commit_deed awaited root.trees tree)
-      obeyed awaited may tree root legal = (
+      pub obeyed : (awaited : Awaited) → AreRefsWhole content → MayCommit content extra author committer → (tree : ObjectId) (root : HasRoot m tree) → IsObject kinds.Commit (body tree) → Obeys git git_rules r awaited commit_task (commit_deed awaited root.trees tree)
+      obeyed awaited whole may tree root legal = (
         may.lines,
         head_free content r p may.head may.head_is may.free,
-        parents_good content r p extra may.parents,
+        parents_good content r p whole extra may.parents,
         ((with_trees empty root.trees, tree.0), trees_given tree root, (subst (λ (text : List ℕ). IsObject kinds.Commit text) (sym (body_is tree)) legal, refl)),
       )
 
@@ -156,7 +157,7 @@ module _ (content : FileMap) (extra : List ObjectId) (author committer message :
             (subst (λ (x : Id). Spells (moved head id (with_objects_shown (shown content) after)) (changed (head_to (machine_head head) x) (with_all r stored_all))) (sym name_is)
             (spells_moved (with_objects_shown (shown content) after) (with_all r stored_all) id head all_spells))
 
-  pub commit_done : (id : ObjectId) (new : FileMap) → AreLines author committer → IsCommitted content extra author committer message id new → Follows commit_task (Did (Made id.0)) (shown content) (shown new)
+  pub commit_done : (id : ObjectId) (new : FileMap) → AreLines author committer → IsCommitted content extra author committer message id new → FollowsIf (AreRefsWhole content) commit_task (Did (Made id.0)) (shown content) (shown new)
   commit_done id new lines c = record {
     goes = λ awaited r p.
         let w = c.writes in
@@ -165,9 +166,9 @@ module _ (content : FileMap) (extra : List ObjectId) (author committer message :
         let after = changed (head_to r.head (git_name (commit r p w.tree))) (with_all r u) in (
           after,
           subst (λ (s : Shown). Spells s after) (sym c.is) (moved_spells r p c.map c.spelled c.after id w c.head c.head_is),
-          (
+          λ whole. (
             commit_deed r p c.map c.spelled awaited (all r p c.map c.spelled c.after id w) w.tree,
-            obeyed r p c.map c.spelled awaited may w.tree (written_root r p c.map c.spelled c.after id w) w.legal,
+            obeyed r p c.map c.spelled awaited whole may w.tree (written_root r p c.map c.spelled c.after id w) w.legal,
             (u, all_over r p c.map c.spelled c.after id w, refl),
             refl,
             refl,
@@ -179,17 +180,19 @@ module _ (content : FileMap) (extra : List ObjectId) (author committer message :
   -- what a cut leaves is what a stop within the commit's effect leaves
   module _ (awaited : Awaited) (r : Repository) (p : Spells (shown content) r) (new : FileMap) (cut : IsCut content extra author committer message new) where
     abbrev CutDeed : Type 0
-    CutDeed = (u : Repository) × Spells (shown new) u × (d : Deed Awaited) × Obeys git git_rules r awaited commit_task d × StopsWithin r d.effect u × (d.sends ≡ None)
+    CutDeed = (u : Repository) × Spells (shown new) u × (AreRefsWhole content → (d : Deed Awaited) × Obeys git git_rules r awaited commit_task d × StopsWithin r d.effect u × (d.sends ≡ None))
 
     front_cut : (front rest : List (List Entry)) → cut.root.trees ≡ front ++ rest → cut.after ≡ with_objects (objects content) (map tree_object front) → CutDeed
     front_cut front rest is stored =
         let u = with_all r (with_trees r.objects front) in (
           u,
           subst (λ (s : Shown). Spells s u) (sym cut.is) (front_spells r p cut.map cut.spelled front cut.after stored),
-          commit_deed r p cut.map cut.spelled awaited cut.root.trees cut.tree,
-          obeyed r p cut.map cut.spelled awaited cut.may cut.tree cut.root cut.legal,
-          inl (with_trees r.objects front, front_some r p cut.map cut.spelled front rest cut.root.trees cut.tree is, refl),
-          refl,
+          λ whole. (
+            commit_deed r p cut.map cut.spelled awaited cut.root.trees cut.tree,
+            obeyed r p cut.map cut.spelled awaited whole cut.may cut.tree cut.root cut.legal,
+            inl (with_trees r.objects front, front_some r p cut.map cut.spelled front rest cut.root.trees cut.tree is, refl),
+            refl,
+          ),
         )
 
     same_list : (trees : List (List Entry)) (root : List Entry) → AreIndexTrees cut.map trees root → cut.root.trees ≡ trees
@@ -208,9 +211,11 @@ module _ (content : FileMap) (extra : List ObjectId) (author committer message :
           let u = with_all r s in (
             u,
             subst (λ (s : Shown). Spells s u) (sym cut.is) (all_spells r p cut.map cut.spelled cut.after made.0 w),
-            commit_deed r p cut.map cut.spelled awaited (all r p cut.map cut.spelled cut.after made.0 w) w.tree,
-            obeyed r p cut.map cut.spelled awaited cut.may w.tree (written_root r p cut.map cut.spelled cut.after made.0 w) w.legal,
-            inl (s, record { each = λ x. inr (over.each x) }, refl),
-            refl,
+            λ whole. (
+              commit_deed r p cut.map cut.spelled awaited (all r p cut.map cut.spelled cut.after made.0 w) w.tree,
+              obeyed r p cut.map cut.spelled awaited whole cut.may w.tree (written_root r p cut.map cut.spelled cut.after made.0 w) w.legal,
+              inl (s, record { each = λ x. inr (over.each x) }, refl),
+              refl,
+            ),
           ))
     ]

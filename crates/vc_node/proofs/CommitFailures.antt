@@ -14,6 +14,7 @@ use Rattle.vc_object.specs.declared.id.ObjectId.{ObjectId}
 use Rattle.vc_object.specs.declared.kind.Kind.TheVariants as kinds
 use Rattle.vc_refs.specs.Head.{head_of}
 use Rattle.vc_refs.specs.declared.faults.RefFault.TheVariants as ref
+use Rattle.vc_session.specs.Known.{AreRefsWhole}
 use Rattle.vc_store.specs.declared.faults.StoreFault.{StoreFault}
 use Rattle.vc_store.specs.declared.faults.StoreFault.TheVariants as store
 use Rattle.vc_node.specs.Commit.{parents_of_commit}
@@ -22,7 +23,7 @@ use Rattle.vc_node.specs.IndexFile.{SpellsIndex, BlamesIndex}
 use Rattle.vc_rules.specs.Git.{git}
 use Rattle.vc_rules.specs.Faults.{object_number}
 use Rattle.vc_rules.proofs.GitLaws.{git_rules}
-use Rattle.vc_node.specs.Machine.{Spells, Follows, IsBadFile, fault_answer, failure_of}
+use Rattle.vc_node.specs.Machine.{Spells, FollowsIf, IsBadFile, fault_answer, failure_of}
 use Rattle.vc_node.specs.Making.{AreLines, BlamesLook, BlamesParents, BlamesStored, BlamesObjects, BlamesMaking, HasHeadConflict, LeftByCommit, MayCommit}
 use Rattle.vc_node.specs.Making.BlamesMaking.{of_lines, of_look, of_conflict, of_parents, of_index, of_objects}
 use Rattle.vc_node.specs.Shown.{shown}
@@ -44,9 +45,9 @@ module _ (content : FileMap) (extra : List ObjectId) (author committer message :
   abbrev task : Rattle.vc_model.specs.Clone.Task
   task = commit_task content extra author committer message
 
-  -- the machine refuses it with this number
+  -- the machine refuses it with this number, where all is there that refs reach
   Declines : ℕ → Type 0
-  Declines n = (r : Repository) → Spells (shown content) r → Refuses git git_rules r task n
+  Declines n = (r : Repository) → Spells (shown content) r → AreRefsWhole content → Refuses git git_rules r task n
 
   -- no repository is shown
   IsNone : Type 0
@@ -80,7 +81,7 @@ module _ (content : FileMap) (extra : List ObjectId) (author committer message :
 
   lines_outcome : (e : NodeFault) → e ≡ Store (store.BadObject Rattle.vc_object.specs.declared.fault.ObjectFault.TheVariants.BadCommit) → ¬ AreLines author committer → Outcome e
   unfolding Declines
-  lines_outcome e is not = declined e 8 (ap fault_answer is) (λ r p. inl (not, refl))
+  lines_outcome e is not = declined e 8 (ap fault_answer is) (λ r p whole. inl (not, refl))
 
   look_outcome : (e : NodeFault) → BlamesLook content e → Outcome e
   look_outcome (Ref (ref.Stale current)) blames = absurd blames
@@ -103,12 +104,12 @@ module _ (content : FileMap) (extra : List ObjectId) (author committer message :
 
   conflict_outcome : (e : NodeFault) → AreLines author committer → HasHeadConflict content e → Outcome e
   unfolding Declines
-  conflict_outcome e lines h = declined e 32 (ap fault_answer h.is) (λ r p. inr (lines, inl (head_not_free content r p e h, refl)))
+  conflict_outcome e lines h = declined e 32 (ap fault_answer h.is) (λ r p whole. inr (lines, inl (head_not_free content r p e h, refl)))
 
   parents_outcome : (e : NodeFault) → AreLines author committer → ((r : Repository) → Spells (shown content) r → IsHeadFree r) → BlamesParents content extra e → Outcome e
   unfolding Declines
-  parents_outcome (Missing id) lines free blames = declined (Missing id) 40 refl (λ r p. inr (lines, inr (free r p, parents_missing content r p _ id extra blames)))
-  parents_outcome (NotACommit id) lines free blames = declined (NotACommit id) 41 refl (λ r p. inr (lines, inr (free r p, parents_other content r p _ id extra blames)))
+  parents_outcome (Missing id) lines free blames = declined (Missing id) 40 refl (λ r p whole. inr (lines, inr (free r p, parents_missing content r p whole _ id extra blames)))
+  parents_outcome (NotACommit id) lines free blames = declined (NotACommit id) 41 refl (λ r p whole. inr (lines, inr (free r p, parents_other content r p whole _ id extra blames)))
   parents_outcome (Store (store.BadObject f)) lines free blames = absurd (one_blamed content extra (Store (store.BadObject f)) blames).1
   parents_outcome (Store (store.Absent id)) lines free blames = absurd (one_blamed content extra (Store (store.Absent id)) blames).1
   parents_outcome (Store (store.Damaged id)) lines free blames = bad (Store (store.Damaged id)) (one_blamed content extra (Store (store.Damaged id)) blames).1
@@ -137,15 +138,15 @@ module _ (content : FileMap) (extra : List ObjectId) (author committer message :
 
   stored_outcome : (m : IndexMap) → MayCommit content extra author committer → SpellsIndex content m → (f : StoreFault) → BlamesStored (Unit {0}) content m (parents_of_commit content extra) author committer message f → Outcome (Store f)
   unfolding Declines
-  stored_outcome m may s (store.BadObject f) (inl large) = declined (Store (store.BadObject f)) 3 (ap (λ g. Declined (object_number g)) large.0) (λ r p.
-      inr (may.lines, inr (head_free content r p may.head may.head_is may.free, parents_pass content r p 3 _ extra may.parents (inl (too_large content extra author committer message r p m s large.1.entries large.1.first)))))
-  stored_outcome m may s (store.BadObject f) (inr made) = declined (Store (store.BadObject f)) (object_number f) refl (λ r p.
+  stored_outcome m may s (store.BadObject f) (inl large) = declined (Store (store.BadObject f)) 3 (ap (λ g. Declined (object_number g)) large.0) (λ r p whole.
+      inr (may.lines, inr (head_free content r p may.head may.head_is may.free, parents_pass content r p whole 3 _ extra may.parents (inl (too_large content extra author committer message r p m s large.1.entries large.1.first)))))
+  stored_outcome m may s (store.BadObject f) (inr made) = declined (Store (store.BadObject f)) (object_number f) refl (λ r p whole.
       let tree = made.0 in
       inr (
         may.lines,
         inr (
           head_free content r p may.head may.head_is may.free,
-          parents_pass content r p (object_number f) _ extra may.parents
+          parents_pass content r p whole (object_number f) _ extra may.parents
               (inr (
                 (with_trees empty made.1.trees, tree.0),
                 trees_given content extra author committer message r p m s tree made.1,
@@ -178,28 +179,28 @@ module _ (content : FileMap) (extra : List ObjectId) (author committer message :
 
   -- ---- the answer
 
-  fault_follows : (new : FileMap) (f : Failure) → LeftByCommit content extra author committer message new → Follows task (Fault f) (shown content) (shown new)
-  fault_follows new f (inl same) = record { goes = λ awaited r p. (r, subst (λ (m : FileMap). Spells (shown m) r) (sym same) p, inr refl) }
-  fault_follows new f (inr cut) = record { goes = λ awaited r p. let d = cut_deed content extra author committer message awaited r p new cut in (d.0, d.1, inl (d.2, d.3, d.4, d.5)) }
+  fault_follows : (new : FileMap) (f : Failure) → LeftByCommit content extra author committer message new → FollowsIf (AreRefsWhole content) task (Fault f) (shown content) (shown new)
+  fault_follows new f (inl same) = record { goes = λ awaited r p. (r, subst (λ (m : FileMap). Spells (shown m) r) (sym same) p, λ whole. inr refl) }
+  fault_follows new f (inr cut) = record { goes = λ awaited r p. let d = cut_deed content extra author committer message awaited r p new cut in (d.0, d.1, λ whole. inl (d.2 whole)) }
 
-  declined_follows : (new : FileMap) (n : ℕ) → Declines n → LeftByCommit content extra author committer message new → Follows task (Declined n) (shown content) (shown new)
+  declined_follows : (new : FileMap) (n : ℕ) → Declines n → LeftByCommit content extra author committer message new → FollowsIf (AreRefsWhole content) task (Declined n) (shown content) (shown new)
   unfolding Declines
-  declined_follows new n refuses (inl same) = record { goes = λ awaited r p. (r, subst (λ (m : FileMap). Spells (shown m) r) (sym same) p, (refuses r p, refl)) }
+  declined_follows new n refuses (inl same) = record { goes = λ awaited r p. (r, subst (λ (m : FileMap). Spells (shown m) r) (sym same) p, λ whole. (refuses r p whole, refl)) }
   declined_follows new n refuses (inr cut) = record {
     goes = λ awaited r p.
         let d = cut_deed content extra author committer message awaited r p new cut in
-        absurd (apart git git_rules r awaited task n d.2 (refuses r p) d.3);
+        (d.0, d.1, λ whole. absurd (apart git git_rules r awaited task n (d.2 whole).0 (refuses r p whole) (d.2 whole).1));
   }
 
   pub commit_failed : (e : NodeFault) (new : FileMap) → BlamesMaking content extra author committer message e → LeftByCommit content extra author committer message new
-      → IsBadFile content e ⊎ Follows task (fault_answer e) (shown content) (shown new)
+      → IsBadFile content e ⊎ FollowsIf (AreRefsWhole content) task (fault_answer e) (shown content) (shown new)
   unfolding Outcome IsNone
   commit_failed e new blames left = elim (outcome e blames) [
     | inl file ↦ inl file
     | inr rest ↦ elim rest [
-      | inl fault ↦ inr (subst (λ (a : Answer). Follows task a (shown content) (shown new)) (sym fault.1) (fault_follows new fault.0 left))
+      | inl fault ↦ inr (subst (λ (a : Answer). FollowsIf (AreRefsWhole content) task a (shown content) (shown new)) (sym fault.1) (fault_follows new fault.0 left))
       | inr later ↦ elim later [
-        | inl refusal ↦ inr (subst (λ (a : Answer). Follows task a (shown content) (shown new)) (sym refusal.1) (declined_follows new refusal.0 refusal.2 left))
+        | inl refusal ↦ inr (subst (λ (a : Answer). FollowsIf (AreRefsWhole content) task a (shown content) (shown new)) (sym refusal.1) (declined_follows new refusal.0 refusal.2 left))
         | inr none ↦ inr (record { goes = λ awaited r p. absurd (none r p) })
       ]
     ]

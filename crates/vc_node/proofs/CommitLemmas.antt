@@ -20,8 +20,10 @@ use Rattle.vc_object.specs.declared.kind.Kind.TheVariants.{Blob, Tree, Commit, T
 use Rattle.vc_object.proofs.ObjectMaps.{links_in-none, links_in-some, parents_in-none, parents_in-some}
 use Rattle.vc_store.specs.Store.{objects, IsDamaged}
 use Rattle.vc_store.specs.declared.faults.StoreFault.TheVariants as store
-use Rattle.vc_node.specs.GoodCommit.{IsComplete, BlamesCommit}
+use Rattle.vc_node.specs.GoodCommit.{IsComplete, BlamesCommitBeyond}
 use Rattle.vc_node.specs.NodeFault.{of_base}
+use Rattle.vc_node.specs.declared.fault.NodeFault.{NodeFault}
+use Rattle.vc_node.specs.declared.fault.NodeFault.TheVariants.{Store, Ref, Missing, NotACommit, BadPath, PathConflict, BadIndex, WrongEntry, Down}
 
 -- parents are links
 read_linked : (c : Option CommitText) (ps : List ObjectId) → option_map (λ (c : CommitText). c.parents) c ≡ Some ps → (y : ObjectId) → Contains ps y → Contains (commit_links c) y
@@ -55,13 +57,25 @@ only_root graph root y r = subst (λ (x : ObjectId). Reaches graph x y) (lone r.
     lone : {x : ObjectId} → Contains (root ∷ []) x → x ≡ root
     lone {x} h = elim (Contains-push_cases [] root x h) [ inl none ↦ absurd (let k = none.1 in omega arith) | inr same ↦ sym same ]
 
--- a refusal of the walk over the history of an id that is complete
-pub told_commit : (content : FileMap) (id : ObjectId) (e : BaseFault) → IsComplete content id → IsTold (objects content) (IsDamaged content) (id ∷ []) e → BlamesCommit content id (of_base e)
-told_commit content id (base.Missing absent) complete told =
-    absurd (no_some (links_in (objects content) absent) (links_in-none (objects content) absent told.1) (complete absent (reach_parents (objects content) id absent (only_root (parents_in (objects content)) id absent told.0))))
-told_commit content id (base.NotACommit other) complete told =
-    (complete, λ history. no_some (parents_in (objects content) other) told.1.1 (history other (only_root (parents_in (objects content)) id other told.0)))
-told_commit content id (base.Store (store.BadObject fault)) complete told = told
-told_commit content id (base.Store (store.Absent absent)) complete told = told
-told_commit content id (base.Store (store.Damaged damaged)) complete told = told.1
-told_commit content id (base.Store (store.Fault fault)) complete told = tt
+-- a refusal of the walk over the history of an id that is complete where what was known is so
+pub told_commit : (IsKnown : Type 0) (content : FileMap) (id : ObjectId) (e : BaseFault) → (IsKnown → IsComplete content id) → IsTold (objects content) (IsDamaged content) (id ∷ []) e → BlamesCommitBeyond IsKnown content id (of_base e)
+told_commit IsKnown content id (base.Missing absent) complete told = λ known.
+    absurd (no_some (links_in (objects content) absent) (links_in-none (objects content) absent told.1) (complete known absent (reach_parents (objects content) id absent (only_root (parents_in (objects content)) id absent told.0))))
+told_commit IsKnown content id (base.NotACommit other) complete told = λ known.
+    (complete known, λ history. no_some (parents_in (objects content) other) told.1.1 (history other (only_root (parents_in (objects content)) id other told.0)))
+told_commit IsKnown content id (base.Store (store.BadObject fault)) complete told = told
+told_commit IsKnown content id (base.Store (store.Absent absent)) complete told = told
+told_commit IsKnown content id (base.Store (store.Damaged damaged)) complete told = told.1
+told_commit IsKnown content id (base.Store (store.Fault fault)) complete told = tt
+
+-- what is blamed where something is known is blamed where that follows
+pub blames_beyond : (IsKnown IsSo : Type 0) (content : FileMap) (id : ObjectId) (e : NodeFault) → (IsSo → IsKnown) → BlamesCommitBeyond IsKnown content id e → BlamesCommitBeyond IsSo content id e
+blames_beyond IsKnown IsSo content id (Missing absent) known blames = λ is. blames (known is)
+blames_beyond IsKnown IsSo content id (NotACommit other) known blames = λ is. blames (known is)
+blames_beyond IsKnown IsSo content id (Store fault) known blames = blames
+blames_beyond IsKnown IsSo content id (Ref fault) known blames = blames
+blames_beyond IsKnown IsSo content id BadPath known blames = blames
+blames_beyond IsKnown IsSo content id PathConflict known blames = blames
+blames_beyond IsKnown IsSo content id (BadIndex place) known blames = blames
+blames_beyond IsKnown IsSo content id (WrongEntry at) known blames = blames
+blames_beyond IsKnown IsSo content id Down known blames = blames

@@ -22,6 +22,7 @@ pub mod ReceivingFaults
 pub mod RefusalLemmas
 pub mod RestartLemmas
 pub mod ShownLemmas
+pub mod SoundAnswers
 pub mod StartLemmas
 pub mod StoringLemmas
 pub mod TreeLemmas

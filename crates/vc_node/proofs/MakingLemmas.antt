@@ -3,15 +3,18 @@ use Rattle.std.proofs.Common.{◌≡◌, ℕ, ◌+◌, ◌<◌, zero, suc, List,
 use Rattle.std.specs.Prelude.{Result, Ok, Err, IsErrAnd, IfErr, OnErr, codes}
 use Rattle.std.specs.List.{AllByRecursion}
 use Rattle.vc_files.specs.FileMap.{FileMap, SameOutside}
+use Rattle.vc_files.specs.declared.faults.Fault.{Fault as FilesFault}
 use Rattle.vc_index.specs.IndexMap.{IndexMap}
 use Rattle.vc_object.specs.ObjectMap.{ObjectMap}
 use Rattle.vc_object.specs.declared.id.ObjectId.{ObjectId}
 use Rattle.vc_refs.specs.declared.heads.Head.{Head}
 use Rattle.vc_store.specs.Store.{objects}
+use Rattle.vc_store.specs.declared.faults.StoreFault.TheVariants as store
 use Rattle.vc_node.specs.Commit.{IsGoodParent, WritesCommit, moved}
 use Rattle.vc_node.specs.GoodCommit.{BlamesCommit}
 use Rattle.vc_node.specs.Making.{BlamesParents, StoresTrees}
 use Rattle.vc_node.specs.declared.fault.NodeFault.{NodeFault}
+use Rattle.vc_node.specs.declared.fault.NodeFault.TheVariants.{Store}
 use Rattle.vc_node.specs.Shown.{shown, with_objects_shown}
 use Rattle.vc_node.proofs.ShownLemmas.{shown_objects}
 
@@ -29,6 +32,11 @@ pub parents_blamed : (content : FileMap) (xs : List ObjectId) (i : ℕ) (d : Obj
 parents_blamed content [] i d e less all blames = absurd (omega arith)
 parents_blamed content (x ∷ xs) zero d e less all blames = inl blames
 parents_blamed content (x ∷ xs) (suc i) d e less all blames = inr (all.0, parents_blamed content xs i d e (omega arith) all.1 blames)
+
+-- a fault blames one of them, whatever they are
+pub fault_blamed : (content : FileMap) (xs : List ObjectId) (f : FilesFault) → 0 < length xs → BlamesParents content xs (Store (store.Fault f))
+fault_blamed content [] f some = absurd (omega arith)
+fault_blamed content (x ∷ xs) f some = inl tt
 
 -- what is handed on as it came
 pub told_on : {T : Type 0} (Reason : NodeFault → Type 0) (fault : NodeFault) (r : Result T NodeFault) → IsErrAnd r (λ e. e ≡ fault) → Reason fault → IfErr r Reason

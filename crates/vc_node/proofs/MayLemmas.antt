@@ -25,8 +25,9 @@ use Rattle.vc_refs.specs.RefMap.{is_ref}
 use Rattle.vc_refs.specs.Way.{IsFree as IsFreeName}
 use Rattle.vc_refs.specs.declared.heads.Head.{Head as RefsHead}
 use Rattle.vc_refs.specs.declared.heads.Head.TheVariants as heads
+use Rattle.vc_session.specs.Known.{AreRefsWhole}
 use Rattle.vc_node.specs.Blames.{IsLocalHead, MayHead, MayLoad, MayStage}
-use Rattle.vc_node.specs.GoodCommit.{IsComplete, IsHistory}
+use Rattle.vc_node.specs.GoodCommit.{IsGoodBeyondRefs}
 use Rattle.vc_node.specs.Making.{MayMake}
 use Rattle.vc_node.specs.Shown.{shown}
 use Rattle.vc_rules.specs.Git.{git, machine_object, mode_number}
@@ -34,7 +35,7 @@ use Rattle.vc_rules.proofs.GitLaws.{git_rules}
 use Rattle.vc_node.specs.Machine.{live_of, machine_head, MayWriteOr, Spells}
 use Rattle.vc_rules.proofs.CarriedLemmas.{kind_back}
 use Rattle.vc_rules.proofs.MapLemmas.{get-put}
-use Rattle.vc_node.proofs.BranchLemmas.{branch_named, closed, free_from, head_deed, history}
+use Rattle.vc_node.proofs.BranchLemmas.{branch_named, free_from, good_here, head_deed}
 use Rattle.vc_node.proofs.CommitAnswers.{commit_deed, obeyed}
 use Rattle.vc_node.proofs.IndexLemmas.{staged_deed, staged_obeyed}
 use Rattle.vc_node.proofs.NameLemmas.{legal_of}
@@ -79,21 +80,21 @@ module _ (content : FileMap) (awaited : Awaited) (r : Repository) (p : Spells (s
       let i = machine_index may.0 in
       (quietly awaited (only_changes (SetIndex i ∷ [])) Stored, (i, (may.0, reads_there content r p id (Ok may.0) may.1, machine_index_shows may.0), refl), change_some empty (SetIndex i))
 
-  pub set_branch_may : (name : List ℕ) (id : ObjectId) → starts_with nat_eq name (codes "refs/heads/") ≡ true → (is_ref name ≡ true) × IsFreeName content name × IsComplete content id × IsHistory content id
-      → CloneWrites git git_rules r awaited (Command (SetBranch name id.0))
-  set_branch_may name id begins may = (
+  pub set_branch_may : (name : List ℕ) (id : ObjectId) → starts_with nat_eq name (codes "refs/heads/") ≡ true → (is_ref name ≡ true) × IsFreeName content name × IsGoodBeyondRefs content id
+      → AreRefsWhole content → CloneWrites git git_rules r awaited (Command (SetBranch name id.0))
+  set_branch_may name id begins may whole = (
     quietly awaited (only_changes (SetRefs ((name, id.0) ∷ []) ∷ [])) Stored,
-    ((branch_named name begins, legal_of name may.0), free_from content r name p may.1, (closed content r p id may.2, history content r p id may.3), refl),
+    ((branch_named name begins, legal_of name may.0), free_from content r name p may.1, good_here content r p id may.2 whole, refl),
     change_some empty (SetRefs ((name, id.0) ∷ [])),
   )
 
-  pub set_head_may : (h : RefsHead) → IsLocalHead h → IsLegalHead h × MayHead content h → CloneWrites git git_rules r awaited (Command (MoveHead (machine_head h)))
-  set_head_may (heads.Branch name) fits may = (head_deed awaited (heads.Branch name), ((branch_named name fits, legal_of name may.0), refl), change_some _ _)
-  set_head_may (heads.Id id) fits may = (head_deed awaited (heads.Id id), ((closed content r p id may.1.0, history content r p id may.1.1), refl), change_some _ _)
+  pub set_head_may : (h : RefsHead) → IsLocalHead h → IsLegalHead h × MayHead content h → AreRefsWhole content → CloneWrites git git_rules r awaited (Command (MoveHead (machine_head h)))
+  set_head_may (heads.Branch name) fits may whole = (head_deed awaited (heads.Branch name), ((branch_named name fits, legal_of name may.0), refl), change_some _ _)
+  set_head_may (heads.Id id) fits may whole = (head_deed awaited (heads.Id id), (good_here content r p id may.1 whole, refl), change_some _ _)
 
-  pub commit_may : (extra : List ObjectId) (author committer message : List ℕ) → MayMake content extra author committer message → CloneWrites git git_rules r awaited (Command (MakeCommit (map bytes_of_id extra) author committer message))
-  commit_may extra author committer message w = (
+  pub commit_may : (extra : List ObjectId) (author committer message : List ℕ) → MayMake content extra author committer message → AreRefsWhole content → CloneWrites git git_rules r awaited (Command (MakeCommit (map bytes_of_id extra) author committer message))
+  commit_may extra author committer message w whole = (
     commit_deed content extra author committer message r p w.map w.spelled awaited w.root.trees w.tree,
-    obeyed content extra author committer message r p w.map w.spelled awaited w.may w.tree w.root w.legal,
+    obeyed content extra author committer message r p w.map w.spelled awaited whole w.may w.tree w.root w.legal,
     change_some _ _,
   )

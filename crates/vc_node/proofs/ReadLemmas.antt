@@ -26,7 +26,7 @@ met_read content id (store.Damaged x) met = met.0
 met_read content id (store.Fault f) met = tt
 
 -- what a commit descends from it reaches
-parent_read : (content : FileMap) (id : ObjectId) (e : StoreFault) → IsMet (ReachedFrom (parents_in (objects content)) (id ∷ [])) (IsDamaged content) e → TellsRead (IsReached content id) NoneRead (Store e)
+pub parent_read : (content : FileMap) (id : ObjectId) (e : StoreFault) → IsMet (ReachedFrom (parents_in (objects content)) (id ∷ [])) (IsDamaged content) e → TellsRead (IsReached content id) NoneRead (Store e)
 parent_read content id (store.BadObject f) met = tt
 parent_read content id (store.Absent x) met = tt
 parent_read content id (store.Damaged x) met = record { root = met.0.root; is_root = met.0.is_root; reaches = reach_parents (objects content) met.0.root x met.0.reaches }

@@ -24,6 +24,7 @@ use Rattle.vc_refs.specs.declared.faults.RefFault.{RefFault}
 use Rattle.vc_refs.specs.declared.faults.RefFault.TheVariants as ref
 use Rattle.vc_refs.specs.declared.heads.Head.{Head}
 use Rattle.vc_refs.specs.declared.heads.Head.TheVariants as heads
+use Rattle.vc_session.specs.Known.{AreRefsWhole}
 use Rattle.vc_store.specs.Store.{objects}
 use Rattle.vc_store.specs.declared.faults.StoreFault.TheVariants as store
 use Rattle.vc_node.specs.Blames.{BlamesName, BlamesPut, IsOfMemory}
@@ -35,7 +36,7 @@ use Rattle.vc_node.specs.Shown.{Shown, shown}
 use Rattle.vc_node.specs.declared.fault.NodeFault.{NodeFault}
 use Rattle.vc_node.specs.declared.fault.NodeFault.TheVariants.{Store, Ref, Missing, NotACommit, BadPath, PathConflict, BadIndex, WrongEntry, Down}
 use Rattle.vc_node.proofs.ShownLemmas.{ref_no_object, shown_objects}
-use Rattle.vc_node.proofs.BranchLemmas.{closed, not_closed, history, not_history, free_from, not_free}
+use Rattle.vc_node.proofs.BranchLemmas.{closed, good_here, not_closed, history, not_history, free_from, not_free}
 
 -- ---- a look at HEAD
 
@@ -79,26 +80,27 @@ pub same_ids : (ids : List ObjectId) → map id_of_bytes (map bytes_of_id ids) �
 same_ids [] = refl
 same_ids (id ∷ ids) = ap (λ (more : List ObjectId). id ∷ more) (same_ids ids)
 
-module _ (content : FileMap) (r : Repository) (p : Spells (shown content) r) where
+module _ (content : FileMap) (r : Repository) (p : Spells (shown content) r) (whole : AreRefsWhole content) where
   -- one of them is declined, or the rest is asked
   pub parents_missing : (rest : Type 0) (absent : ObjectId) (ids : List ObjectId) → BlamesParents content ids (Missing absent) → CommitsOr git (stored r.objects) (map bytes_of_id ids) 40 rest
   parents_missing rest absent [] blames = absurd blames
-  parents_missing rest absent (id ∷ ids) (inl blames) = inl (not_closed content r p id blames, refl)
-  parents_missing rest absent (id ∷ ids) (inr later) = inr (closed content r p id later.0.0, inr (history content r p id later.0.1, parents_missing rest absent ids later.1))
+  parents_missing rest absent (id ∷ ids) (inl blames) = inl (not_closed content r p id (blames whole), refl)
+  parents_missing rest absent (id ∷ ids) (inr later) = inr (closed content r p id (later.0 whole).0, inr (history content r p id (later.0 whole).1, parents_missing rest absent ids later.1))
 
   pub parents_other : (rest : Type 0) (other : ObjectId) (ids : List ObjectId) → BlamesParents content ids (NotACommit other) → CommitsOr git (stored r.objects) (map bytes_of_id ids) 41 rest
   parents_other rest other [] blames = absurd blames
-  parents_other rest other (id ∷ ids) (inl blames) = inr (closed content r p id blames.0, inl (not_history content r p id blames.1, refl))
-  parents_other rest other (id ∷ ids) (inr later) = inr (closed content r p id later.0.0, inr (history content r p id later.0.1, parents_other rest other ids later.1))
+  parents_other rest other (id ∷ ids) (inl blames) = inr (closed content r p id (blames whole).0, inl (not_history content r p id (blames whole).1, refl))
+  parents_other rest other (id ∷ ids) (inr later) = inr (closed content r p id (later.0 whole).0, inr (history content r p id (later.0 whole).1, parents_other rest other ids later.1))
 
   pub parents_pass : (n : ℕ) (rest : Type 0) (ids : List ObjectId) → AllByRecursion (IsGoodParent content) ids → rest → CommitsOr git (stored r.objects) (map bytes_of_id ids) n rest
   parents_pass n rest [] all then = then
-  parents_pass n rest (id ∷ ids) all then = inr (closed content r p id all.0.0, inr (history content r p id all.0.1, parents_pass n rest ids all.1 then))
+  parents_pass n rest (id ∷ ids) all then = inr (closed content r p id (all.0 whole).0, inr (history content r p id (all.0 whole).1, parents_pass n rest ids all.1 then))
 
   pub parents_good : (ids : List ObjectId) → AllByRecursion (IsGoodParent content) ids → AllByRecursion (IsGoodCommit git (stored r.objects)) (map bytes_of_id ids)
   parents_good [] all = tt
-  parents_good (id ∷ ids) all = ((closed content r p id all.0.0, history content r p id all.0.1), parents_good ids all.1)
+  parents_good (id ∷ ids) all = (good_here content r p id all.0 whole, parents_good ids all.1)
 
+module _ (content : FileMap) (r : Repository) (p : Spells (shown content) r) where
   -- HEAD is the machine's
   pub same_head : (head : Head) → head_of content ≡ Some head → head ≡ p.head
   same_head head is = ap (λ (found : Option Head). unwrap_or found head) (sym is ∙ p.head_shown)

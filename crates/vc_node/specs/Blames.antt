@@ -25,7 +25,7 @@ use Rattle.vc_store.specs.Store.{objects, IsDamaged}
 use Rattle.vc_store.specs.StoreFault.{IsFault as IsStoreFault}
 use Rattle.vc_store.specs.declared.faults.StoreFault.{StoreFault}
 use Rattle.vc_store.specs.declared.faults.StoreFault.TheVariants as store
-use Rattle.vc_node.specs.GoodCommit.{IsComplete, IsHistory, BlamesCommit}
+use Rattle.vc_node.specs.GoodCommit.{IsGoodBeyondRefs, BlamesCommit}
 use Rattle.vc_node.specs.IndexFile.{index_bytes}
 use Rattle.vc_node.specs.NodeFault.{of_index}
 use Rattle.vc_node.specs.declared.fault.NodeFault.{NodeFault}
@@ -94,7 +94,7 @@ BlamesPut content name _ = ⊥
 -- HEAD becomes any branch, and no id but that of a good commit
 abbrev pub MayHead : FileMap → Head → Type 0
 MayHead content (head.Branch name) = Unit {0}
-MayHead content (head.Id id) = IsComplete content id × IsHistory content id
+MayHead content (head.Id id) = IsGoodBeyondRefs content id
 
 abbrev pub BlamesHead : FileMap → Head → NodeFault → Type 0
 BlamesHead content h (Ref (ref.Fault fault)) = Unit {0}

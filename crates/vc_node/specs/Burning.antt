@@ -15,7 +15,7 @@ use Rattle.vc_rules.proofs.GitLaws.{git_rules}
 use Rattle.vc_node.specs.Awaited.{AwaitedText, IsAwaited}
 use Rattle.vc_node.specs.CloneCalls.{AnswersClone, MayOr}
 use Rattle.vc_node.specs.CloneFaults.{TellsDevice as CloneTellsDevice}
-use Rattle.vc_node.specs.Machine.{Answers, HoldsNode, MayWriteOr}
+use Rattle.vc_node.specs.Machine.{Answers, AnswersIfSound, HoldsNode, MayWriteIfSoundOr, MayWriteOr}
 use Rattle.vc_node.specs.NodeFault.{TellsDevice}
 use Rattle.vc_node.specs.declared.clone_fault.CloneFault.{CloneFault}
 use Rattle.vc_node.specs.declared.fault.NodeFault.{NodeFault}
@@ -33,6 +33,19 @@ CallsBurn {D} {T} honest content failed can_fail left answer_of =
     → HoldsNode (content old) was_up awaited n
     → (m : CloneNode) × HoldsNode (content new) is_up awaited m × CloneAnswers git git_rules n (Command task) (answer_of result) m None
     × Burns frail (left old) (MayClone git git_rules n (Command task)) ⊥ n.repository m.repository (answer_of result) (left new)
+
+-- The same of a command that takes it that all is there that refs reach: some node is held then, the step is the machine's where the
+-- node was sound, and there alone the command is known to be one that may write.
+abbrev pub SoundCallsBurn : {D T : Type 0} → (honest : Type 0) → (D → FileMap) → (D → ℕ) → (D → Type 0) → (D → Option ℕ) → (Result T NodeFault → Answer) → Type 0
+SoundCallsBurn {D} {T} honest content failed can_fail left answer_of =
+    (old new : D) (result : Result T NodeFault) (frail : Bool) (task : Task) (was_up is_up : Bool) (awaited : Awaited) (n : CloneNode)
+    → honest → (can_fail old → IsTrue frail)
+    → Writes honest content failed can_fail left old new (TellsDevice result)
+    → MayWriteIfSoundOr task was_up (content old) (Wears failed can_fail left old new (TellsDevice result))
+    → AnswersIfSound task (answer_of result) was_up is_up (content old) (content new)
+    → HoldsNode (content old) was_up awaited n
+    → (m : CloneNode) × HoldsNode (content new) is_up awaited m × (IsSound git n.repository → CloneAnswers git git_rules n (Command task) (answer_of result) m None)
+    × Burns frail (left old) (IsSound git n.repository → MayClone git git_rules n (Command task)) ⊥ n.repository m.repository (answer_of result) (left new)
 
 -- The same of a call that sends or takes messages, or asks for a value: what it awaits then is held too, and the step, and whether it
 -- may write, are the machine's where the node was sound. What it spends is one write for each place that changed in any case.

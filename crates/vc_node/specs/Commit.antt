@@ -17,13 +17,13 @@ use Rattle.vc_refs.specs.Way.{IsFree}
 use Rattle.vc_refs.specs.declared.heads.Head.{Head}
 use Rattle.vc_refs.specs.declared.heads.Head.TheVariants as heads
 use Rattle.vc_store.specs.Store.{objects, with_object}
-use Rattle.vc_node.specs.GoodCommit.{IsComplete, IsHistory}
+use Rattle.vc_node.specs.GoodCommit.{IsGoodBeyondRefs}
 use Rattle.vc_node.specs.IndexFile.{SpellsIndex}
 use Rattle.vc_node.specs.Shown.{Shown, shown, with_objects_shown, with_refs_shown, with_head_shown}
 
 -- a commit that may be a parent
 abbrev pub IsGoodParent : FileMap → ObjectId → Type 0
-IsGoodParent content id = IsComplete content id × IsHistory content id
+IsGoodParent content id = IsGoodBeyondRefs content id
 
 -- HEAD may be moved: where it names a branch, the branch may be set
 abbrev pub IsFreeHead : FileMap → Head → Type 0

@@ -3,6 +3,7 @@ use Rattle.vc_files.specs.FileMap.{FileMap}
 use Rattle.vc_graph.specs.Graph.{IsClosed}
 use Rattle.vc_object.specs.ObjectMap.{links_in, parents_in}
 use Rattle.vc_object.specs.declared.id.ObjectId.{ObjectId}
+use Rattle.vc_session.specs.Known.{AreRefsWhole}
 use Rattle.vc_store.specs.Store.{objects, IsDamaged}
 use Rattle.vc_store.specs.declared.faults.StoreFault.{StoreFault}
 use Rattle.vc_store.specs.declared.faults.StoreFault.TheVariants as store
@@ -24,15 +25,23 @@ IsOfDamage content (store.Absent id) = ⊥
 IsOfDamage content (store.Damaged id) = IsDamaged content id
 IsOfDamage content (store.Fault fault) = Unit {0}
 
--- an id is refused as no complete commit: it is not complete, or it is and its history has another object; or a file is
--- damaged, or a fault
+-- an id is refused as no complete commit: it is not complete, or it is and its history has another object, where what was known
+-- before is so; or a file is damaged, or a fault
+abbrev pub BlamesCommitBeyond : Type 0 → FileMap → ObjectId → NodeFault → Type 0
+BlamesCommitBeyond IsKnown content id (Missing absent) = IsKnown → ¬ IsComplete content id
+BlamesCommitBeyond IsKnown content id (NotACommit other) = IsKnown → IsComplete content id × ¬ IsHistory content id
+BlamesCommitBeyond IsKnown content id (Store fault) = IsOfDamage content fault
+BlamesCommitBeyond IsKnown content id (Ref fault) = ⊥
+BlamesCommitBeyond IsKnown content id BadPath = ⊥
+BlamesCommitBeyond IsKnown content id PathConflict = ⊥
+BlamesCommitBeyond IsKnown content id (BadIndex place) = ⊥
+BlamesCommitBeyond IsKnown content id (WrongEntry at) = ⊥
+BlamesCommitBeyond IsKnown content id Down = ⊥
+
+-- the same where all is there that refs reach
 abbrev pub BlamesCommit : FileMap → ObjectId → NodeFault → Type 0
-BlamesCommit content id (Missing absent) = ¬ IsComplete content id
-BlamesCommit content id (NotACommit other) = IsComplete content id × ¬ IsHistory content id
-BlamesCommit content id (Store fault) = IsOfDamage content fault
-BlamesCommit content id (Ref fault) = ⊥
-BlamesCommit content id BadPath = ⊥
-BlamesCommit content id PathConflict = ⊥
-BlamesCommit content id (BadIndex place) = ⊥
-BlamesCommit content id (WrongEntry at) = ⊥
-BlamesCommit content id Down = ⊥
+BlamesCommit content = BlamesCommitBeyond (AreRefsWhole content) content
+
+-- a commit that a branch or HEAD may name, or another commit as a parent, where all is there that refs reach
+abbrev pub IsGoodBeyondRefs : FileMap → ObjectId → Type 0
+IsGoodBeyondRefs content id = AreRefsWhole content → IsComplete content id × IsHistory content id

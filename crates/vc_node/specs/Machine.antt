@@ -10,7 +10,7 @@ use Rattle.vc_index.specs.IndexText.{index_text}
 use Rattle.vc_model.specs.Object.{Id}
 use Rattle.vc_model.specs.Refs.{RefName, Head}
 use Rattle.vc_model.specs.Refs.Head.{OnBranch, Detached}
-use Rattle.vc_model.specs.Repository.{Repository, Done, StopsWithin}
+use Rattle.vc_model.specs.Repository.{IsSound, Repository, Done, StopsWithin}
 use Rattle.vc_model.specs.Node.{Answer, Failure, Deed}
 use Rattle.vc_model.specs.Node.Answer.{Did, Declined, Fault}
 use Rattle.vc_model.specs.Node.Failure.{Memory, Device}
@@ -130,6 +130,11 @@ Goes awaited r task (Fault f) after = ((d : Deed Awaited) × Obeys git git_rules
 pub record Follows (task : Task) (a : Answer) (old new : Shown) : Type 0 where
   pub goes : (awaited : Awaited) (r : Repository) → Spells old r → (after : Repository) × Spells new after × Goes awaited r task a after
 
+-- Whatever repository was shown and whatever is awaited, some repository is shown then; where this held, the answer and what it
+-- goes to are the machine's.
+pub record FollowsIf (Held : Type 0) (task : Task) (a : Answer) (old new : Shown) : Type 0 where
+  pub goes : (awaited : Awaited) (r : Repository) → Spells old r → (after : Repository) × Spells new after × (Held → Goes awaited r task a after)
+
 -- Whatever node was shown, and whatever it awaits, the answer is one of the machine's to the command, and the node it leads to is
 -- shown then.
 pub record AnswersShown (task : Task) (a : Answer) (was_up is_up : Bool) (old new : Shown) : Type 0 where
@@ -141,9 +146,25 @@ pub record Answers (task : Task) (a : Answer) (was_up is_up : Bool) (old new : F
   pub each : (awaited : Awaited) (n : CloneNode) → HoldsNode old was_up awaited n
       → (m : CloneNode) × HoldsNode new is_up awaited m × CloneAnswers git git_rules n (Command task) a m None
 
+-- Of a command that takes it that all is there that refs reach: whatever node was shown, some node is shown then; where the node
+-- was sound, the answer and that node are the machine's.
+pub record AnswersShownIfSound (task : Task) (a : Answer) (was_up is_up : Bool) (old new : Shown) : Type 0 where
+  pub each : (awaited : Awaited) (n : CloneNode) → ShowsNode old was_up awaited n
+      → (m : CloneNode) × ShowsNode new is_up awaited m × (IsSound git n.repository → CloneAnswers git git_rules n (Command task) a m None)
+
+-- The same of a node that was held.
+pub record AnswersIfSound (task : Task) (a : Answer) (was_up is_up : Bool) (old new : FileMap) : Type 0 where
+  pub each : (awaited : Awaited) (n : CloneNode) → HoldsNode old was_up awaited n
+      → (m : CloneNode) × HoldsNode new is_up awaited m × (IsSound git n.repository → CloneAnswers git git_rules n (Command task) a m None)
+
 -- Whatever node was held, and whatever it awaits: the machine's command may write, or this holds.
 abbrev pub MayWriteOr : Task → Bool → FileMap → Type 0 → Type 0
 MayWriteOr task was_up old IsLook = (awaited : Awaited) (n : CloneNode) → HoldsNode old was_up awaited n → MayClone git git_rules n (Command task) ⊎ IsLook
+
+-- The same where the node was sound.
+abbrev pub MayWriteIfSoundOr : Task → Bool → FileMap → Type 0 → Type 0
+MayWriteIfSoundOr task was_up old IsLook =
+    (awaited : Awaited) (n : CloneNode) → HoldsNode old was_up awaited n → (IsSound git n.repository → MayClone git git_rules n (Command task)) ⊎ IsLook
 
 -- Either a file that is none of the layers' own is told, or this holds.
 abbrev pub OrBadFile : {T : Type 0} → FileMap → Result T NodeFault → Type 0 → Type 0

@@ -1,5 +1,5 @@
 // What a call spends of the writes left before a stop.
-ghost use Rattle.vc_node.specs.Burning.{CallsBurn, ExchangesBurn};
+ghost use Rattle.vc_node.specs.Burning.{CallsBurn, ExchangesBurn, SoundCallsBurn};
 ghost use Rattle.vc_node.specs.CloneCalls.{FoundAs, ReceivedAs, SentAs};
 ghost use Rattle.vc_node.specs.Machine.{done_answer, made_answer};
 
@@ -11,6 +11,8 @@ use vc_files::Files;
 pub fn a_call_spends_what_the_machine_allows<F: Files>()
     ensures made { CallsBurn F.honest F.content F.failed F.can_fail F.left made_answer }
     ensures done { CallsBurn F.honest F.content F.failed F.can_fail F.left done_answer }
+    ensures made_if_sound { SoundCallsBurn F.honest F.content F.failed F.can_fail F.left made_answer }
+    ensures done_if_sound { SoundCallsBurn F.honest F.content F.failed F.can_fail F.left done_answer }
 {}
 
 /// The same of a call that sends or takes messages, or asks for a value.

@@ -39,7 +39,7 @@ impl fmt::Display for CloneFault {
     fn fmt<W: fmt::Write>(&self, f: &mut fmt::Formatter<W>) -> fmt::Result {
         match self {
             CloneFault::Unread(fault) => fmt::Display::fmt(fault, f),
-            CloneFault::Unexpected => f.write_str("91 Unexpected"),
+            CloneFault::Unexpected => f.write_str("91 NothingAwaited"),
             CloneFault::TooMany => f.write_str("84 TooMany"),
             CloneFault::Incomplete(_) => f.write_str("92 Incomplete"),
             CloneFault::NoValue(refusal) => fmt::Display::fmt(refusal, f),

@@ -14,7 +14,7 @@ ghost use Rattle.vc_node.specs.Reads.{IsAtBranch, IsAtHead, IsMade, IsOfCommit, 
 ghost use Rattle.vc_node.specs.Shown.{shown};
 
 use crate::NodeFault;
-use crate::checks::refuse_bad_commit;
+use crate::checks::refuse_beyond;
 use crate::index_file::read_index;
 use crate::local::put_ref;
 use std::alloc::{AllocError, Global};
@@ -22,6 +22,7 @@ use vc_files::{Files, MemoryFiles};
 use vc_index::Index;
 use vc_object::{Kind, ObjectFault, ObjectId};
 use vc_refs::{Head, RefFault, refuse_conflict};
+use vc_session::Known;
 use vc_store::StoreFault;
 
 /// What a commit says beside its tree and its parents.
@@ -63,7 +64,7 @@ fn free_head<F: Files>(alloc: Global, files: &mut F) -> Result<Head, NodeFault>
     Ok(head)
 }
 
-// Refuses the first of some parents that is no complete commit.
+// Refuses the first of some parents that is no complete commit. What the values of refs reach is taken to be there.
 fn refuse_bad_parents<F: Files>(
     alloc: Global,
     files: &mut F,
@@ -75,8 +76,12 @@ fn refuse_bad_parents<F: Files>(
     ensures file { F.honest → IfErr result (TellsRead (IsReachedByOne (F.content files.old) parents.now) NoneRead) }
     ensures wear { Wears F.failed F.can_fail F.left files.old files.new (TellsDevice result) }
 {
+    if parents.is_empty() {
+        return Ok(());
+    }
+    let mut known = Known::by_good_refs(files, alloc)?;
     for parent in parents {
-        refuse_bad_commit(alloc, files, parent)?;
+        refuse_beyond(alloc, files, &mut known, parent)?;
     }
     Ok(())
 }

@@ -20,7 +20,7 @@ ghost use Rattle.vc_object.specs.declared.kind.Kind.TheVariants.{Blob};
 ghost use Rattle.vc_refs.specs.Head.{IsHeadInRefs, IsLegalHead};
 ghost use Rattle.vc_node.specs.Blames.{BlamesWrite, BlamesAdd, BlamesBranch, BlamesPut, BlamesHead, BlamesLoad, BlamesRemoved, MayLoad, MayStage, MayHead, TellsDamage};
 ghost use Rattle.vc_node.specs.Clean.{KeepsClean};
-ghost use Rattle.vc_node.specs.GoodCommit.{IsComplete, IsHistory};
+ghost use Rattle.vc_node.specs.GoodCommit.{IsGoodBeyondRefs};
 ghost use Rattle.vc_node.specs.IndexFile.{SpellsIndex, BlamesIndex};
 ghost use Rattle.vc_node.specs.NodeFault.{is_fault, TellsDevice};
 ghost use Rattle.vc_node.specs.Reads.{IsAtName, IsBelow, IsReached, IsReachedByHead, NoneRead, TellsRead};
@@ -170,13 +170,13 @@ pub(crate) fn set_branch<F: Files>(
     requires { IsInRefs branch.now }
     ensures set { F.honest → OnOk result (shown (F.content files.new) ≡ with_refs_shown (shown (F.content files.old)) (with_ref (refs (F.content files.old)) branch.now id.now)) }
     ensures free { F.honest → OnOk result (IsFree (F.content files.old) branch.now) }
-    ensures good { F.honest → OnOk result (IsComplete (F.content files.old) id.now × IsHistory (F.content files.old) id.now) }
+    ensures good { F.honest → OnOk result (IsGoodBeyondRefs (F.content files.old) id.now) }
     ensures refused { F.honest → IfErr result (BlamesBranch (F.content files.old) branch.now id.now) }
     ensures err { F.honest → OnErr result (F.content files.new ≡ F.content files.old) }
     ensures clean { F.honest → OnOk result (KeepsClean (F.content files.old) (F.content files.new)) }
     ensures file { F.honest → IfErr result (TellsRead (IsReached (F.content files.old) id.now) (IsAtName (F.content files.old) branch.now)) }
     ensures wear { Writes F.honest F.content F.failed F.can_fail F.left files.old files.new (TellsDevice result) }
-    ensures looks { F.honest → ((is_ref branch.now ≡ true) × IsFree (F.content files.old) branch.now × IsComplete (F.content files.old) id.now × IsHistory (F.content files.old) id.now) ⊎ Wears F.failed F.can_fail F.left files.old files.new (TellsDevice result) }
+    ensures looks { F.honest → ((is_ref branch.now ≡ true) × IsFree (F.content files.old) branch.now × IsGoodBeyondRefs (F.content files.old) id.now) ⊎ Wears F.failed F.can_fail F.left files.old files.new (TellsDevice result) }
 {
     refuse_conflict(files, alloc, branch)?;
     refuse_bad_commit(alloc, files, id)?;

@@ -28,7 +28,7 @@ ghost use Rattle.vc_files.specs.FileMap.{SameOutside};
 ghost use Rattle.vc_node.specs.Clean.{KeepsClean};
 ghost use Rattle.vc_node.specs.Commit.{IsCommitted};
 ghost use Rattle.vc_rules.specs.Git.{machine_object, mode_number};
-ghost use Rattle.vc_node.specs.Machine.{Answers, AnswersShown, HoldsNode, MayWriteOr, OrBadFile, machine_head, made_answer, done_answer, up_after};
+ghost use Rattle.vc_node.specs.Machine.{Answers, AnswersIfSound, AnswersShown, AnswersShownIfSound, HoldsNode, MayWriteIfSoundOr, MayWriteOr, OrBadFile, machine_head, made_answer, done_answer, up_after};
 ghost use Rattle.vc_files.specs.Failures.{Wears, Writes};
 ghost use Rattle.vc_node.specs.NodeFault.{is_fault, IsOfDevice, TellsDevice};
 ghost use Rattle.vc_node.specs.Opening.{IsOpenable, opened_node};
@@ -244,11 +244,12 @@ impl<F: Files> CloneNode<F> {
     }
 
     /// Sets a branch to a commit, whatever it was: 32 where its name conflicts with a ref; then 40 where not all is
-    /// there that the commit reaches, and 41 where it is no commit, or one along its parent links isn't.
+    /// there that the commit reaches, and 41 where it is no commit, or one along its parent links isn't. That all is there
+    /// that refs reach, and that branches lead to commits alone, is taken from the refs, as it is so at a sound clone.
     pub fn set_branch(&mut self, branch: &RefName, id: &ObjectId) -> Result<(), NodeFault>
         requires { starts_with nat_eq branch.now (codes "refs/heads/") ≡ true }
-        ensures answers { F.honest → Answers (SetBranch branch.now id.now.0) (done_answer result) self.old.is_up self.new.is_up (F.content self.old.files) (F.content self.new.files) }
-        ensures bad_file { F.honest → OrBadFile (F.content self.old.files) result (AnswersShown (SetBranch branch.now id.now.0) (done_answer result) self.old.is_up self.new.is_up (shown (F.content self.old.files)) (shown (F.content self.new.files))) }
+        ensures answers { F.honest → AnswersIfSound (SetBranch branch.now id.now.0) (done_answer result) self.old.is_up self.new.is_up (F.content self.old.files) (F.content self.new.files) }
+        ensures bad_file { F.honest → OrBadFile (F.content self.old.files) result (AnswersShownIfSound (SetBranch branch.now id.now.0) (done_answer result) self.old.is_up self.new.is_up (shown (F.content self.old.files)) (shown (F.content self.new.files))) }
         ensures down { self.old.is_up ≡ false → result ≡ Err NodeFault.Down }
         ensures err { F.honest → OnErr result (F.content self.new.files ≡ F.content self.old.files) }
         ensures up { self.old.is_up ≡ true → self.new.is_up ≡ up_after result }
@@ -256,7 +257,7 @@ impl<F: Files> CloneNode<F> {
         ensures clean { F.honest → KeepsClean (F.content self.old.files) (F.content self.new.files) }
         ensures file { F.honest → IfErr result (TellsRead (IsReached (F.content self.old.files) id.now) (IsAtName (F.content self.old.files) branch.now)) }
         ensures wear { Writes F.honest F.content F.failed F.can_fail F.left self.old.files self.new.files (TellsDevice result) }
-        ensures looks { F.honest → MayWriteOr (SetBranch branch.now id.now.0) self.old.is_up (F.content self.old.files) (Wears F.failed F.can_fail F.left self.old.files self.new.files (TellsDevice result)) }
+        ensures looks { F.honest → MayWriteIfSoundOr (SetBranch branch.now id.now.0) self.old.is_up (F.content self.old.files) (Wears F.failed F.can_fail F.left self.old.files self.new.files (TellsDevice result)) }
     {
         if !self.is_up {
             return Err(NodeFault::Down);
@@ -271,8 +272,8 @@ impl<F: Files> CloneNode<F> {
     /// [`set_branch`](CloneNode::set_branch).
     pub fn set_head(&mut self, head: &Head) -> Result<(), NodeFault>
         requires { IsLocalHead head.now }
-        ensures answers { F.honest → Answers (MoveHead (machine_head head.now)) (done_answer result) self.old.is_up self.new.is_up (F.content self.old.files) (F.content self.new.files) }
-        ensures bad_file { F.honest → OrBadFile (F.content self.old.files) result (AnswersShown (MoveHead (machine_head head.now)) (done_answer result) self.old.is_up self.new.is_up (shown (F.content self.old.files)) (shown (F.content self.new.files))) }
+        ensures answers { F.honest → AnswersIfSound (MoveHead (machine_head head.now)) (done_answer result) self.old.is_up self.new.is_up (F.content self.old.files) (F.content self.new.files) }
+        ensures bad_file { F.honest → OrBadFile (F.content self.old.files) result (AnswersShownIfSound (MoveHead (machine_head head.now)) (done_answer result) self.old.is_up self.new.is_up (shown (F.content self.old.files)) (shown (F.content self.new.files))) }
         ensures down { self.old.is_up ≡ false → result ≡ Err NodeFault.Down }
         ensures err { F.honest → OnErr result (F.content self.new.files ≡ F.content self.old.files) }
         ensures up { self.old.is_up ≡ true → self.new.is_up ≡ up_after result }
@@ -280,7 +281,7 @@ impl<F: Files> CloneNode<F> {
         ensures clean { F.honest → KeepsClean (F.content self.old.files) (F.content self.new.files) }
         ensures file { F.honest → IfErr result (TellsRead (IsReachedByHead (F.content self.old.files) head.now) NoneRead) }
         ensures wear { Writes F.honest F.content F.failed F.can_fail F.left self.old.files self.new.files (TellsDevice result) }
-        ensures looks { F.honest → MayWriteOr (MoveHead (machine_head head.now)) self.old.is_up (F.content self.old.files) (Wears F.failed F.can_fail F.left self.old.files self.new.files (TellsDevice result)) }
+        ensures looks { F.honest → MayWriteIfSoundOr (MoveHead (machine_head head.now)) self.old.is_up (F.content self.old.files) (Wears F.failed F.can_fail F.left self.old.files self.new.files (TellsDevice result)) }
     {
         if !self.is_up {
             return Err(NodeFault::Down);
@@ -320,7 +321,8 @@ impl<F: Files> CloneNode<F> {
     /// there is one, and then the extra ones, and behind an empty line stand the message and LF. HEAD's branch, or a
     /// detached HEAD, is moved to it. Refused, in this order, are an author or a committer of more than one line (8), a
     /// HEAD whose branch conflicts with a ref (32), an extra parent of which not all is there (40) or that is no commit
-    /// (41), and a commit or a tree that is too large (3). One that changes no file is allowed.
+    /// (41), as in [`set_branch`](CloneNode::set_branch), and a commit or a tree that is too large (3). One that changes no
+    /// file is allowed.
     pub fn commit(
         &mut self,
         extra_parents: &[ObjectId],
@@ -328,8 +330,8 @@ impl<F: Files> CloneNode<F> {
         committer: &[u8],
         message: &[u8],
     ) -> Result<ObjectId, NodeFault>
-        ensures answers { F.honest → Answers (MakeCommit (map bytes_of_id extra_parents.now) author.now committer.now message.now) (made_answer result) self.old.is_up self.new.is_up (F.content self.old.files) (F.content self.new.files) }
-        ensures bad_file { F.honest → OrBadFile (F.content self.old.files) result (AnswersShown (MakeCommit (map bytes_of_id extra_parents.now) author.now committer.now message.now) (made_answer result) self.old.is_up self.new.is_up (shown (F.content self.old.files)) (shown (F.content self.new.files))) }
+        ensures answers { F.honest → AnswersIfSound (MakeCommit (map bytes_of_id extra_parents.now) author.now committer.now message.now) (made_answer result) self.old.is_up self.new.is_up (F.content self.old.files) (F.content self.new.files) }
+        ensures bad_file { F.honest → OrBadFile (F.content self.old.files) result (AnswersShownIfSound (MakeCommit (map bytes_of_id extra_parents.now) author.now committer.now message.now) (made_answer result) self.old.is_up self.new.is_up (shown (F.content self.old.files)) (shown (F.content self.new.files))) }
         ensures committed { F.honest → IfOk result (λ id. IsCommitted (F.content self.old.files) extra_parents.now author.now committer.now message.now id (F.content self.new.files)) }
         ensures down { self.old.is_up ≡ false → result ≡ Err NodeFault.Down }
         ensures err { F.honest → OnErr result (SameOutside (codes "objects/") (F.content self.old.files) (F.content self.new.files)) }
@@ -338,7 +340,7 @@ impl<F: Files> CloneNode<F> {
         ensures clean { F.honest → KeepsClean (F.content self.old.files) (F.content self.new.files) }
         ensures file { F.honest → IfErr result (TellsRead (IsOfCommit (F.content self.old.files) extra_parents.now author.now committer.now message.now) (IsAtHead (F.content self.old.files))) }
         ensures wear { Writes F.honest F.content F.failed F.can_fail F.left self.old.files self.new.files (TellsDevice result) }
-        ensures looks { F.honest → MayWriteOr (MakeCommit (map bytes_of_id extra_parents.now) author.now committer.now message.now) self.old.is_up (F.content self.old.files) (Wears F.failed F.can_fail F.left self.old.files self.new.files (TellsDevice result)) }
+        ensures looks { F.honest → MayWriteIfSoundOr (MakeCommit (map bytes_of_id extra_parents.now) author.now committer.now message.now) self.old.is_up (F.content self.old.files) (Wears F.failed F.can_fail F.left self.old.files self.new.files (TellsDevice result)) }
     {
         if !self.is_up {
             return Err(NodeFault::Down);

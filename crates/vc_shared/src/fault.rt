@@ -41,7 +41,7 @@ impl fmt::Display for SharedFault {
         match self {
             SharedFault::Unread(fault) => fmt::Display::fmt(fault, f),
             SharedFault::NotOurs(_) => f.write_str("90 NotOurs"),
-            SharedFault::Unexpected => f.write_str("91 Unexpected"),
+            SharedFault::Unexpected => f.write_str("91 NothingAwaited"),
             SharedFault::Busy => f.write_str("110 Busy"),
             SharedFault::NoSuchSlot => f.write_str("111 NoSuchSlot"),
             SharedFault::NoValue(refusal) => fmt::Display::fmt(refusal, f),

@@ -38,7 +38,7 @@ use Rattle.vc_node.specs.CloneFaults.{IsOfDevice, TellsDevice, of_device}
 use Rattle.vc_node.specs.declared.clone_fault.CloneFault.TheVariants as clone
 use Rattle.vc_node.specs.declared.fault.NodeFault.TheVariants as node
 use Rattle.vc_node.specs.Held.{Held}
-use Rattle.vc_node.specs.Machine.{Answers, HoldsNode, live_of}
+use Rattle.vc_node.specs.Machine.{Answers, AnswersIfSound, HoldsNode, live_of}
 use Rattle.vc_node.specs.declared.clone_fault.CloneFault.{CloneFault}
 use Rattle.vc_object.specs.declared.id.ObjectId.{ObjectId}
 use Rattle.vc_rev.specs.Faults.{IsBadAt}
@@ -292,9 +292,9 @@ module _ {F : Type 0} (content : F → FileMap) (can_fail : F → Type 0) (left 
     );
   }
 
-  -- a local command
+  -- a local command, of which it is said at a sound clone that it is the machine's
   pub local_called : (old new : Held F) (task : Task) (answer : Answer) (IsDevice : Type 0) (r : Result Told Ended)
-      → Answers task answer old.is_up new.is_up (content old.files) (content new.files) → new.awaited ≡ old.awaited → StaysSteady can_fail left old.files new.files IsDevice → IsRetold (ClonesQuietly answer) IsDevice r
+      → AnswersIfSound task answer old.is_up new.is_up (content old.files) (content new.files) → new.awaited ≡ old.awaited → StaysSteady can_fail left old.files new.files IsDevice → IsRetold (ClonesQuietly answer) IsDevice r
       → CloneCalled Holds (IsOnly (Command task)) (Shows r) old new
   local_called old new task answer IsDevice r answers awaits steady retold = record {
     each = λ n held. let m = answers.each held.awaited n held.holds in (
@@ -304,7 +304,7 @@ module _ {F : Type 0} (content : F → FileMap) (can_fail : F → Type 0) (left 
       record { awaited = held.awaited; is_awaited = subst (λ w. IsAwaited w held.awaited) (sym awaits) held.is_awaited; holds = m.1; steady = steady.steady held.steady },
       retold.shown answer None (record { answer = refl; sent = refl }),
       told_calm (ClonesQuietly answer) IsDevice r answer None retold (steady.never held.steady) (record { answer = refl; sent = refl }),
-      λ sound zeros. (Command task, refl, m.2),
+      λ sound zeros. (Command task, refl, m.2 sound),
     );
   }
 
@@ -550,11 +550,18 @@ module _ {F : Type 0} (content : F → FileMap) (can_fail : F → Type 0) (left 
   }
 
   -- a local command is the order whose task it is
+  pub sound_order : (P : Repository → Type 0) (old mid new : Held F) (task : Task) (o : Order) (answer : Answer) (IsDevice : Type 0) (r : Result Told Ended) → Finds Holds P old mid
+      → AnswersIfSound task answer mid.is_up new.is_up (content mid.files) (content new.files) → new.awaited ≡ mid.awaited → StaysSteady can_fail left mid.files new.files IsDevice → IsRetold (ClonesQuietly answer) IsDevice r
+      → ((s : Repository) → P s → IsTaskOf git git_rules s o (Ok task)) → CloneCalled Holds (Obeys o) (Shows r) old new
+  sound_order P old mid new task o answer IsDevice r finds answers awaits steady retold tasks =
+      ordered Holds P task o (Shows r) old mid new finds (local_called mid new task answer IsDevice r answers awaits steady retold) tasks
+
+  -- and where it is said of any clone
   pub local_order : (P : Repository → Type 0) (old mid new : Held F) (task : Task) (o : Order) (answer : Answer) (IsDevice : Type 0) (r : Result Told Ended) → Finds Holds P old mid
       → Answers task answer mid.is_up new.is_up (content mid.files) (content new.files) → new.awaited ≡ mid.awaited → StaysSteady can_fail left mid.files new.files IsDevice → IsRetold (ClonesQuietly answer) IsDevice r
       → ((s : Repository) → P s → IsTaskOf git git_rules s o (Ok task)) → CloneCalled Holds (Obeys o) (Shows r) old new
   local_order P old mid new task o answer IsDevice r finds answers awaits steady retold tasks =
-      ordered Holds P task o (Shows r) old mid new finds (local_called mid new task answer IsDevice r answers awaits steady retold) tasks
+      sound_order P old mid new task o answer IsDevice r finds (record { each = λ awaited n held. let m = answers.each awaited n held in (m.0, m.1, λ sound. m.2) }) awaits steady retold tasks
 
   -- an order whose expression has no value
   pub unread_order : {T : Type 0} (P : Repository → ℕ → Type 0) (o : Order) (r : Result T Ended) (e : Ended) (old new : Held F) → r ≡ Err e

@@ -3,6 +3,7 @@ use Rattle.std.specs.List.{AllByRecursion}
 use Rattle.vc_files.specs.Failures.{Wears}
 use Rattle.vc_store.specs.Store.{objects}
 use Rattle.vc_index.specs.Loading.{HasBlobs, item_pair}
+use Rattle.vc_index.specs.declared.loading.Look.TheVariants as looks
 use Rattle.vc_index.proofs.LoadLemmas.{Loading, IsNamed, work}
 use Rattle.vc_index.proofs.ReadingLemmas.{Walks}
 use Rattle.vc_index.proofs.loading.load.Given as goal
@@ -13,8 +14,8 @@ invariant-loop-item g l =
     record {
       named : AllByRecursion IsNamed (map item_pair l.items.items);
       loading : g.F.Files.honest → Loading (objects (content l.fn.files)) l.root (map item_pair l.items.items) l.index;
-      blobs : g.F.Files.honest → HasBlobs (objects (content l.fn.files)) l.index;
-      walks : g.F.Files.honest → Walks (objects (content l.fn.files)) l.root (map item_pair l.items.items);
+      blobs : g.F.Files.honest → l.look ≡ looks.All → HasBlobs (objects (content l.fn.files)) l.index;
+      walks : g.F.Files.honest → Walks l.look (objects (content l.fn.files)) l.root (map item_pair l.items.items);
       same : content l.files ≡ content l.fn.files;
       wear : Wears g.F.Files.failed g.F.Files.can_fail g.F.Files.left l.fn.files l.files ⊥;
     }

@@ -1,7 +1,8 @@
-use Rattle.vc_node.specs.GoodCommit.{IsComplete, IsHistory}
+use Rattle.vc_files.specs.FileMap.{FileMap}
+use Rattle.vc_node.specs.GoodCommit.{IsGoodBeyondRefs}
 use Rattle.vc_refs.specs.Way.{IsFree}
 use Rattle.vc_node.proofs.LookLemmas.{looks_told, looks_then, or_told, looks_or}
-use Rattle.std.proofs.Common.{rules, inr}
+use Rattle.std.proofs.Common.{◌≡◌, rules, inr, subst}
 use Rattle.vc_files.proofs.WearLemmas.{wears_then, wears_writes, writes_told}
 use Rattle.vc_node.proofs.local.set_branch.Goals as goal
 
@@ -28,15 +29,15 @@ returns-in_err-put_ref-clause-looks g c = λ honest.
     let content = g.F.Files.content in
     let name = c.args.branch.now in
     let free : IsFree (content c.args.files.now) name = search (rules, c.in_ok-refuse_conflict.ensures.free honest) in
-    let complete : IsComplete (content c.args.files.now) c.args.id.now = search (rules, c.in_ok-refuse_bad_commit.ensures.complete honest) in
-    let history : IsHistory (content c.args.files.now) c.args.id.now = search (rules, c.in_ok-refuse_bad_commit.ensures.history honest) in
-    looks_or c.in_ok-refuse_conflict.ensures.wear (looks_or c.in_ok-refuse_bad_commit.ensures.wear (or_told (c.in_err-put_ref.ensures.looks honest) (λ may. may) (search rules)) (λ may. may)) (λ may. (may.0, free, complete, history))
+    let same : content c.refuse_conflict.new.files ≡ content c.args.files.now = c.in_ok-refuse_conflict.ensures.same in
+    let good : IsGoodBeyondRefs (content c.args.files.now) c.args.id.now = subst (λ (m : FileMap). IsGoodBeyondRefs m c.args.id.now) same (λ whole. (c.in_ok-refuse_bad_commit.ensures.complete honest whole, c.in_ok-refuse_bad_commit.ensures.history honest whole)) in
+    looks_or c.in_ok-refuse_conflict.ensures.wear (looks_or c.in_ok-refuse_bad_commit.ensures.wear (or_told (c.in_err-put_ref.ensures.looks honest) (λ may. may) (search rules)) (λ may. may)) (λ may. (may.0, free, good))
 
 pub returns-clause-looks : goal.returns-clause-looks
 returns-clause-looks g c = λ honest.
     let content = g.F.Files.content in
     let name = c.args.branch.now in
     let free : IsFree (content c.args.files.now) name = search (rules, c.in_ok-refuse_conflict.ensures.free honest) in
-    let complete : IsComplete (content c.args.files.now) c.args.id.now = search (rules, c.in_ok-refuse_bad_commit.ensures.complete honest) in
-    let history : IsHistory (content c.args.files.now) c.args.id.now = search (rules, c.in_ok-refuse_bad_commit.ensures.history honest) in
-    looks_or c.in_ok-refuse_conflict.ensures.wear (looks_or c.in_ok-refuse_bad_commit.ensures.wear (or_told (c.in_ok-put_ref.ensures.looks honest) (λ may. may) (search rules)) (λ may. may)) (λ may. (may.0, free, complete, history))
+    let same : content c.refuse_conflict.new.files ≡ content c.args.files.now = c.in_ok-refuse_conflict.ensures.same in
+    let good : IsGoodBeyondRefs (content c.args.files.now) c.args.id.now = subst (λ (m : FileMap). IsGoodBeyondRefs m c.args.id.now) same (λ whole. (c.in_ok-refuse_bad_commit.ensures.complete honest whole, c.in_ok-refuse_bad_commit.ensures.history honest whole)) in
+    looks_or c.in_ok-refuse_conflict.ensures.wear (looks_or c.in_ok-refuse_bad_commit.ensures.wear (or_told (c.in_ok-put_ref.ensures.looks honest) (λ may. may) (search rules)) (λ may. may)) (λ may. (may.0, free, good))

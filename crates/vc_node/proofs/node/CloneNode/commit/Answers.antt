@@ -1,23 +1,24 @@
 use Rattle.vc_format.specs.Git.{bytes_of_id}
 use Rattle.vc_model.specs.Clone.Task.{MakeCommit}
-use Rattle.vc_node.proofs.MayLemmas.{may_or, commit_may}
+use Rattle.vc_node.proofs.MayLemmas.{commit_may}
 use Rattle.vc_node.proofs.LookLemmas.{looks_none, or_told, or_failed}
 use Rattle.std.proofs.Common.{refl, rules, ap, inr, sym, subst, map}
 use Rattle.vc_files.specs.FileMap.{FileMap}
 use Rattle.vc_node.specs.Making.{LeftByCommit}
-use Rattle.vc_node.proofs.AnswerLemmas.{answers_down, answers_from, failed, held, held_failed}
+use Rattle.vc_node.proofs.AnswerLemmas.{answers_down}
 use Rattle.vc_node.proofs.CommitAnswers.{commit_done}
 use Rattle.vc_node.proofs.CommitFailures.{commit_failed}
 use Rattle.vc_node.proofs.CleanLemmas.{clean_same}
+use Rattle.vc_node.proofs.SoundAnswers.{answers_too, may_if_sound, sound_failed, sound_from, sound_held, sound_held_failed}
 use Rattle.vc_node.proofs.node.CloneNode.commit.Goals as goal
 
 pub returns-then-not-self-clause-bad_file : goal.returns-then-not-self-clause-bad_file
-returns-then-not-self-clause-bad_file g c = λ honest. inr (answers_down _ _ _ (search rules))
+returns-then-not-self-clause-bad_file g c = λ honest. inr (answers_too _ _ _ _ _ _ (answers_down _ _ _ (search rules)))
 
 pub returns-in-Ok-clause-bad_file : goal.returns-in-Ok-clause-bad_file
 returns-in-Ok-clause-bad_file g c = λ honest.
     let old = g.F.Files.content c.self.inside.files in
-    rw (← c.self.view_is) (inr (answers_from _ _ _ _ _ _
+    rw (← c.self.view_is) (inr (sound_from _ _ _ _ (g.F.Files.content c.self.inside.files) _
     (commit_done old c.args.extra_parents.now c.args.author.now c.args.committer.now c.args.message.now c.in-Ok.id _ c.in-Ok.ensures.lines (c.in-Ok.ensures.committed honest)) (search rules) (search rules)))
 
 pub returns-in-Err-clause-bad_file : goal.returns-in-Err-clause-bad_file
@@ -26,18 +27,18 @@ returns-in-Err-clause-bad_file g c = λ honest.
     let old = content c.self.inside.files in
     let left : LeftByCommit old c.args.extra_parents.now c.args.author.now c.args.committer.now c.args.message.now (content c.fail.new.self.files) =
     subst (λ (n : FileMap). LeftByCommit old c.args.extra_parents.now c.args.author.now c.args.committer.now c.args.message.now n) (sym (ap content c.fail.ensures.files)) (c.in-Err.ensures.left honest) in
-    rw (← c.self.view_is) (failed _ _ _ _ _ _ _ _
+    rw (← c.self.view_is) (sound_failed _ _ _ _ _ (g.F.Files.content c.self.inside.files) _
     (commit_failed old c.args.extra_parents.now c.args.author.now c.args.committer.now c.args.message.now c.in-Err.fault (content c.fail.new.self.files) (c.in-Err.ensures.refused honest) left)
     c.fail.ensures.fault (search rules) (c.fail.ensures.up (search rules)))
 
 pub returns-then-not-self-clause-answers : goal.returns-then-not-self-clause-answers
-returns-then-not-self-clause-answers g c = λ honest. held _ _ _ _ _ _ (returns-then-not-self-clause-bad_file g c honest) (clean_same _ _ refl)
+returns-then-not-self-clause-answers g c = λ honest. sound_held _ _ _ _ _ _ (returns-then-not-self-clause-bad_file g c honest) (clean_same _ _ refl)
 
 pub returns-in-Ok-clause-answers : goal.returns-in-Ok-clause-answers
-returns-in-Ok-clause-answers g c = λ honest. held _ _ _ _ _ _ (returns-in-Ok-clause-bad_file g c honest) (search rules)
+returns-in-Ok-clause-answers g c = λ honest. sound_held _ _ _ _ _ _ (returns-in-Ok-clause-bad_file g c honest) (search rules)
 
 pub returns-in-Err-clause-answers : goal.returns-in-Err-clause-answers
-returns-in-Err-clause-answers g c = λ honest. held_failed _ _ _ _ _ _ _ c.fail.ensures.fault (returns-in-Err-clause-bad_file g c honest) (search rules)
+returns-in-Err-clause-answers g c = λ honest. sound_held_failed _ _ _ _ _ _ _ c.fail.ensures.fault (returns-in-Err-clause-bad_file g c honest) (search rules)
 
 pub returns-in-Err-clause-file : goal.returns-in-Err-clause-file
 returns-in-Err-clause-file g c = λ honest. rw (← c.self.view_is, c.fail.ensures.fault) (c.in-Err.ensures.file honest)
@@ -46,7 +47,7 @@ pub returns-then-not-self-clause-looks : goal.returns-then-not-self-clause-looks
 returns-then-not-self-clause-looks g c = λ honest awaited n holds. inr (looks_none (λ told. told))
 
 pub returns-in-Ok-clause-looks : goal.returns-in-Ok-clause-looks
-returns-in-Ok-clause-looks g c = λ honest. rw (← c.self.view_is) (may_or (MakeCommit (map bytes_of_id c.args.extra_parents.now) c.args.author.now c.args.committer.now c.args.message.now) _ _ (search rules) (λ awaited r p. or_told (c.in-Ok.ensures.looks honest) (λ may. commit_may _ awaited r p c.args.extra_parents.now c.args.author.now c.args.committer.now c.args.message.now may) (search rules)))
+returns-in-Ok-clause-looks g c = λ honest. rw (← c.self.view_is) (may_if_sound (MakeCommit (map bytes_of_id c.args.extra_parents.now) c.args.author.now c.args.committer.now c.args.message.now) _ _ (search rules) (λ awaited r p. or_told (c.in-Ok.ensures.looks honest) (λ may. commit_may _ awaited r p c.args.extra_parents.now c.args.author.now c.args.committer.now c.args.message.now may) (search rules)))
 
 pub returns-in-Err-clause-looks : goal.returns-in-Err-clause-looks
-returns-in-Err-clause-looks g c = λ honest. rw (← c.self.view_is) (may_or (MakeCommit (map bytes_of_id c.args.extra_parents.now) c.args.author.now c.args.committer.now c.args.message.now) _ _ (search rules) (λ awaited r p. or_failed (c.in-Err.ensures.looks honest) (λ may. commit_may _ awaited r p c.args.extra_parents.now c.args.author.now c.args.committer.now c.args.message.now may) c.fail.ensures.files c.fail.ensures.fault))
+returns-in-Err-clause-looks g c = λ honest. rw (← c.self.view_is) (may_if_sound (MakeCommit (map bytes_of_id c.args.extra_parents.now) c.args.author.now c.args.committer.now c.args.message.now) _ _ (search rules) (λ awaited r p. or_failed (c.in-Err.ensures.looks honest) (λ may. commit_may _ awaited r p c.args.extra_parents.now c.args.author.now c.args.committer.now c.args.message.now may) c.fail.ensures.files c.fail.ensures.fault))

@@ -1,38 +1,39 @@
 use Rattle.vc_model.specs.Clone.Task.{SetBranch}
-use Rattle.vc_node.proofs.MayLemmas.{may_or, set_branch_may}
+use Rattle.vc_node.proofs.MayLemmas.{set_branch_may}
 use Rattle.vc_node.proofs.LookLemmas.{looks_none, or_told, or_failed}
 use Rattle.std.proofs.Common.{refl, rules, ap, ◌∙◌, inr}
-use Rattle.vc_node.proofs.AnswerLemmas.{answers_down, answers_from, failed, held, held_failed, or_unchanged}
+use Rattle.vc_node.proofs.AnswerLemmas.{answers_down}
 use Rattle.vc_node.proofs.BranchLemmas.{set_branch_done, set_branch_failed}
 use Rattle.vc_node.proofs.CleanLemmas.{clean_same}
+use Rattle.vc_node.proofs.SoundAnswers.{answers_too, may_if_sound, or_same, sound_failed, sound_from, sound_held, sound_held_failed}
 use Rattle.vc_node.proofs.node.CloneNode.set_branch.Goals as goal
 
 pub returns-then-not-self-clause-bad_file : goal.returns-then-not-self-clause-bad_file
-returns-then-not-self-clause-bad_file g c = λ honest. inr (answers_down _ _ _ (search rules))
+returns-then-not-self-clause-bad_file g c = λ honest. inr (answers_too _ _ _ _ _ _ (answers_down _ _ _ (search rules)))
 
 pub returns-in-Ok-clause-bad_file : goal.returns-in-Ok-clause-bad_file
-returns-in-Ok-clause-bad_file g c = λ honest. rw (← c.self.view_is) (inr (answers_from _ _ _ _ _ _ (set_branch_done _ c.args.branch.now c.args.id.now _ (search rules) (c.in-Ok.ensures.set honest) (c.in-Ok.ensures.free honest) (c.in-Ok.ensures.good honest)) (search rules) (search rules)))
+returns-in-Ok-clause-bad_file g c = λ honest. rw (← c.self.view_is) (inr (sound_from _ _ _ _ (g.F.Files.content c.self.inside.files) _ (set_branch_done _ c.args.branch.now c.args.id.now _ (search rules) (c.in-Ok.ensures.set honest) (c.in-Ok.ensures.free honest) (c.in-Ok.ensures.good honest)) (search rules) (search rules)))
 
 pub returns-in-Err-clause-bad_file : goal.returns-in-Err-clause-bad_file
 returns-in-Err-clause-bad_file g c = λ honest.
     let content = g.F.Files.content in
     let same = ap content c.fail.ensures.files ∙ c.in-Err.ensures.err honest in
-    rw (← c.self.view_is) (failed _ _ _ _ _ _ _ _ (or_unchanged _ _ _ _ _ (set_branch_failed (content c.self.inside.files) c.args.branch.now c.args.id.now c.in-Err.fault (c.in-Err.ensures.refused honest)) same) c.fail.ensures.fault (search rules) (c.fail.ensures.up (search rules)))
+    rw (← c.self.view_is) (sound_failed _ _ _ _ _ (g.F.Files.content c.self.inside.files) _ (or_same _ _ _ _ _ _ (set_branch_failed (content c.self.inside.files) c.args.branch.now c.args.id.now c.in-Err.fault (c.in-Err.ensures.refused honest)) same) c.fail.ensures.fault (search rules) (c.fail.ensures.up (search rules)))
 
 pub returns-then-not-self-clause-answers : goal.returns-then-not-self-clause-answers
-returns-then-not-self-clause-answers g c = λ honest. held _ _ _ _ _ _ (returns-then-not-self-clause-bad_file g c honest) (clean_same _ _ refl)
+returns-then-not-self-clause-answers g c = λ honest. sound_held _ _ _ _ _ _ (returns-then-not-self-clause-bad_file g c honest) (clean_same _ _ refl)
 
 pub returns-in-Ok-clause-answers : goal.returns-in-Ok-clause-answers
-returns-in-Ok-clause-answers g c = λ honest. held _ _ _ _ _ _ (returns-in-Ok-clause-bad_file g c honest) (search rules)
+returns-in-Ok-clause-answers g c = λ honest. sound_held _ _ _ _ _ _ (returns-in-Ok-clause-bad_file g c honest) (search rules)
 
 pub returns-in-Err-clause-answers : goal.returns-in-Err-clause-answers
-returns-in-Err-clause-answers g c = λ honest. held_failed _ _ _ _ _ _ _ c.fail.ensures.fault (returns-in-Err-clause-bad_file g c honest) (search rules)
+returns-in-Err-clause-answers g c = λ honest. sound_held_failed _ _ _ _ _ _ _ c.fail.ensures.fault (returns-in-Err-clause-bad_file g c honest) (search rules)
 
 pub returns-then-not-self-clause-looks : goal.returns-then-not-self-clause-looks
 returns-then-not-self-clause-looks g c = λ honest awaited n holds. inr (looks_none (λ told. told))
 
 pub returns-in-Ok-clause-looks : goal.returns-in-Ok-clause-looks
-returns-in-Ok-clause-looks g c = λ honest. rw (← c.self.view_is) (may_or (SetBranch c.args.branch.now c.args.id.now.0) _ _ (search rules) (λ awaited r p. or_told (c.in-Ok.ensures.looks honest) (λ may. set_branch_may _ awaited r p c.args.branch.now c.args.id.now (search rules) may) (search rules)))
+returns-in-Ok-clause-looks g c = λ honest. rw (← c.self.view_is) (may_if_sound (SetBranch c.args.branch.now c.args.id.now.0) _ _ (search rules) (λ awaited r p. or_told (c.in-Ok.ensures.looks honest) (λ may. set_branch_may _ awaited r p c.args.branch.now c.args.id.now (search rules) may) (search rules)))
 
 pub returns-in-Err-clause-looks : goal.returns-in-Err-clause-looks
-returns-in-Err-clause-looks g c = λ honest. rw (← c.self.view_is) (may_or (SetBranch c.args.branch.now c.args.id.now.0) _ _ (search rules) (λ awaited r p. or_failed (c.in-Err.ensures.looks honest) (λ may. set_branch_may _ awaited r p c.args.branch.now c.args.id.now (search rules) may) c.fail.ensures.files c.fail.ensures.fault))
+returns-in-Err-clause-looks g c = λ honest. rw (← c.self.view_is) (may_if_sound (SetBranch c.args.branch.now c.args.id.now.0) _ _ (search rules) (λ awaited r p. or_failed (c.in-Err.ensures.looks honest) (λ may. set_branch_may _ awaited r p c.args.branch.now c.args.id.now (search rules) may) c.fail.ensures.files c.fail.ensures.fault))

@@ -4,7 +4,7 @@ use Rattle.vc_model.specs.Order.Order.{HeadOn}
 use Rattle.vc_model.specs.Refs.Head.{OnBranch}
 use Rattle.vc_node.specs.Machine.{done_answer}
 use Rattle.vc_node.specs.NodeFault.{TellsDevice}
-use Rattle.vc_simulation.proofs.CloneLemmas.{finds_none, halted_order, local_order}
+use Rattle.vc_simulation.proofs.CloneLemmas.{finds_none, halted_order, sound_order}
 use Rattle.vc_simulation.proofs.SteadyLemmas.{written_steady}
 use Rattle.vc_simulation.proofs.world_clone.WorldClone.set_head.Goals as goal
 
@@ -13,7 +13,7 @@ returns-in_default g c = record { answers = λ honest. halted_order g.F.Files.co
 
 pub returns : goal.returns
 returns g c = record {
-  answers = λ honest. local_order g.F.Files.content g.F.Files.can_fail g.F.Files.left (λ r. Unit {0}) c.args.self.now.node c.args.self.now.node c.set_head-called.new.self (MoveHead (OnBranch c.args.name.now)) (HeadOn c.args.name.now) (done_answer c.set_head-called.result) (TellsDevice c.set_head-called.result) c.done.result
+  answers = λ honest. sound_order g.F.Files.content g.F.Files.can_fail g.F.Files.left (λ r. Unit {0}) c.args.self.now.node c.args.self.now.node c.set_head-called.new.self (MoveHead (OnBranch c.args.name.now)) (HeadOn c.args.name.now) (done_answer c.set_head-called.result) (TellsDevice c.set_head-called.result) c.done.result
       (finds_none g.F.Files.content g.F.Files.can_fail g.F.Files.left _ _ c.requires.up refl)
       (search rules) c.set_head-called.ensures.awaits (written_steady g.F.Files.honest g.F.Files.content g.F.Files.failed g.F.Files.can_fail g.F.Files.left _ _ _ c.set_head-called.ensures.wear) c.done.ensures (λ s p. refl);
 }
