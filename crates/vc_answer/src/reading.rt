@@ -36,10 +36,11 @@ fn send<F: Files>(
         return Err(GraphFault::Missing(*id));
     };
     let ids = links(alloc, &stored.object())?;
-    sent.add(StreamObject {
+    let object = StreamObject {
         kind: stored.kind,
         body: stored.body,
-    })?;
+    };
+    sent.add_named(*id, object)?;
     Ok(ids)
 }
 

@@ -44,6 +44,15 @@ impl CarriedObjects {
         ensures err { OnErr result (self.new.by_name.entries ≡ self.old.by_name.entries) }
     {
         let id = name_of(object.kind, &object.body);
+        self.add_named(id, object)
+    }
+
+    /// Adds an object whose name is known. One whose name is there stays as it is. If memory is short, nothing is added.
+    pub fn add_named(&mut self, id: ObjectId, object: StreamObject) -> Result<(), AllocError>
+        requires { id ≡ stored_name (stored object) }
+        ensures ok { OnOk result (objects_of self.new.by_name.entries ≡ with_object (stored object) (objects_of self.old.by_name.entries)) }
+        ensures err { OnErr result (self.new.by_name.entries ≡ self.old.by_name.entries) }
+    {
         match self.by_name.entry(id)? {
             Entry::Vacant(place) => {
                 place.insert(object);

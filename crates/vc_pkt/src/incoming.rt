@@ -111,9 +111,8 @@ impl IncomingObjects {
                     let row = row.push(id, object)?;
                     return Ok(IncomingObjects::Ascending(row));
                 }
-                // This object is named once more. It happens once in a stream.
                 let mut objects = row.into_map(alloc)?;
-                objects.add(object)?;
+                objects.add_named(id, object)?;
                 Ok(IncomingObjects::Mixed(objects))
             }
             IncomingObjects::Mixed(objects) => {

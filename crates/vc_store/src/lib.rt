@@ -17,4 +17,4 @@ pub use listing::{by_prefix, names};
 pub use reading::{find, get, has, object_in};
 pub use stored::Stored;
 pub use view::Store;
-pub use writing::put;
+pub use writing::{put, put_named};

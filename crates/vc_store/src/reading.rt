@@ -1,7 +1,8 @@
 // Looking objects up by name.
-ghost use Rattle.std.specs.Prelude.{◌≡◌, ◌⊎◌, Some, None, IfOk, IfErr, IsErrAnd, IsErrOf, option_map, is_ok, true, false};
+ghost use Rattle.std.specs.Prelude.{◌≡◌, ◌⊎◌, Some, None, IfOk, IfErr, IfSome, IsErrAnd, IsErrOf, option_map, is_ok, true, false};
 ghost use Rattle.vc_files.specs.Failures.{Wears};
 ghost use Rattle.vc_object.specs.Decoding.{stored_object};
+ghost use Rattle.vc_object.specs.Object.{object_name};
 ghost use Rattle.vc_store.specs.Store.{stored, stored_in, IsAbsent, IsDamaged, objects};
 ghost use Rattle.vc_store.specs.StoreFault.{IsFault, IsOfName, IsRefused};
 
@@ -14,6 +15,7 @@ use vc_object::{Object, ObjectId};
 /// The object that the bytes of a file give to the name: 12 where they are none, or one of another name.
 pub fn object_in<'a>(id: &ObjectId, bytes: &'a [u8]) -> Result<Object<'a>, StoreFault>
     ensures found { IfOk result (λ o. stored_in id.now (Some bytes.now) ≡ Ok (stored_object o.kind o.body.now)) }
+    ensures named { IfOk result (λ o. object_name o.kind o.body.now ≡ id.now) }
     ensures refused { IfErr result (λ e. (e ≡ StoreFault.Damaged id.now) × (stored_in id.now (Some bytes.now) ≡ Err e)) }
 {
     let Ok(object) = vc_object::decode(bytes) else {
@@ -51,6 +53,7 @@ pub fn get<F: Files>(files: &mut F, alloc: Global, id: &ObjectId) -> Result<Stor
     ensures object { F.honest → IfOk result (λ s. objects (F.content files.old) id.now ≡ Some (stored_object s.kind s.body.items)) }
     ensures none { F.honest → IfErr result (λ e. IsFault e ⊎ (objects (F.content files.old) id.now ≡ None)) }
     ensures of_name { IfErr result (IsOfName id.now) }
+    ensures named { IfOk result (λ s. object_name s.kind s.body.items ≡ id.now) }
     ensures same { F.content files.new ≡ F.content files.old }
     ensures wear { Wears F.failed F.can_fail F.left files.old files.new (IsErrOf result (StoreFault.Fault Fault.Device)) }
 {
@@ -75,6 +78,7 @@ pub fn find<F: Files>(
     ensures found { F.honest → IfOk result (λ found. option_map (λ s. stored_object s.kind s.body.items) found ≡ objects (F.content files.old) id.now) }
     ensures damaged { F.honest → IsDamaged (F.content files.old) id.now → IsErrAnd result (λ e. IsFault e ⊎ (e ≡ StoreFault.Damaged id.now)) }
     ensures refused { IfErr result (IsRefused id.now (F.honest → IsDamaged (F.content files.old) id.now)) }
+    ensures named { IfOk result (λ found. IfSome found (λ s. object_name s.kind s.body.items ≡ id.now)) }
     ensures same { F.content files.new ≡ F.content files.old }
     ensures wear { Wears F.failed F.can_fail F.left files.old files.new (IsErrOf result (StoreFault.Fault Fault.Device)) }
 {
