@@ -17,7 +17,7 @@ use vc_files::{Fault, Files};
 use vc_graph::{GraphFault, add_names, closure};
 use vc_object::{ObjectId, links};
 use vc_pkt::{CarriedObjects, StreamObject};
-use vc_store::{Store, StoreFault, find};
+use vc_store::{Store, StoreFault, find_named};
 
 // Adds the stored object with this name to those that are sent. The answer is what it links to.
 fn send<F: Files>(
@@ -32,7 +32,7 @@ fn send<F: Files>(
     ensures same { F.content files.new ≡ F.content files.old }
     ensures wear { Wears F.failed F.can_fail F.left files.old files.new (IsErrOf result (GraphFault.Store (StoreFault.Fault Fault.Device))) }
 {
-    let Some(stored) = find(files, alloc, id)? else {
+    let Some(stored) = find_named(files, alloc, id)? else {
         return Err(GraphFault::Missing(*id));
     };
     let ids = links(alloc, &stored.object())?;

@@ -1,8 +1,9 @@
 // Looking objects up by name.
-ghost use Rattle.std.specs.Prelude.{◌≡◌, ◌⊎◌, Some, None, IfOk, IfErr, IfSome, IsErrAnd, IsErrOf, option_map, is_ok, true, false};
+ghost use Rattle.std.specs.Prelude.{◌≡◌, ◌⊎◌, Some, None, IfOk, IfErr, IfSome, IfNone, IsErrAnd, IsErrOf, option_map, is_ok, true, false};
 ghost use Rattle.vc_files.specs.Failures.{Wears};
 ghost use Rattle.vc_object.specs.Decoding.{stored_object};
 ghost use Rattle.vc_object.specs.Object.{object_name};
+ghost use Rattle.vc_object.specs.ObjectId.{is_id};
 ghost use Rattle.vc_store.specs.Store.{stored, stored_in, IsAbsent, IsDamaged, objects};
 ghost use Rattle.vc_store.specs.StoreFault.{IsFault, IsOfName, IsRefused};
 
@@ -12,10 +13,10 @@ use std::alloc::Global;
 use vc_files::{Fault, Files};
 use vc_object::{Object, ObjectId};
 
-/// The object that the bytes of a file give to the name: 12 where they are none, or one of another name.
-pub fn object_in<'a>(id: &ObjectId, bytes: &'a [u8]) -> Result<Object<'a>, StoreFault>
+// The object that the bytes of a file give to the name. It has that name.
+fn named_in<'a>(id: &ObjectId, bytes: &'a [u8]) -> Result<Object<'a>, StoreFault>
     ensures found { IfOk result (λ o. stored_in id.now (Some bytes.now) ≡ Ok (stored_object o.kind o.body.now)) }
-    ensures named { IfOk result (λ o. object_name o.kind o.body.now ≡ id.now) }
+    ensures own { IfOk result (λ o. object_name o.kind o.body.now ≡ id.now) }
     ensures refused { IfErr result (λ e. (e ≡ StoreFault.Damaged id.now) × (stored_in id.now (Some bytes.now) ≡ Err e)) }
 {
     let Ok(object) = vc_object::decode(bytes) else {
@@ -25,6 +26,14 @@ pub fn object_in<'a>(id: &ObjectId, bytes: &'a [u8]) -> Result<Object<'a>, Store
         return Err(StoreFault::Damaged(*id));
     }
     Ok(object)
+}
+
+/// The object that the bytes of a file give to the name: 12 where they are none, or one of another name.
+pub fn object_in<'a>(id: &ObjectId, bytes: &'a [u8]) -> Result<Object<'a>, StoreFault>
+    ensures found { IfOk result (λ o. stored_in id.now (Some bytes.now) ≡ Ok (stored_object o.kind o.body.now)) }
+    ensures refused { IfErr result (λ e. (e ≡ StoreFault.Damaged id.now) × (stored_in id.now (Some bytes.now) ≡ Err e)) }
+{
+    named_in(id, bytes)
 }
 
 // The bytes of the file in the place of the object with this name.
@@ -43,6 +52,33 @@ fn read_file<F: Files>(
     Ok(bytes)
 }
 
+// The object with this name, or none where there is no file. It has that name whatever the device does.
+fn read_stored<F: Files>(
+    files: &mut F,
+    alloc: Global,
+    id: &ObjectId,
+) -> Result<Option<Stored>, StoreFault>
+    ensures found { F.honest → IfOk result (λ found. IfSome found (λ s. stored (F.content files.old) id.now ≡ Ok (stored_object s.kind s.body.items))) }
+    ensures absent { F.honest → IfOk result (λ found. IfNone found (stored (F.content files.old) id.now ≡ Err (StoreFault.Absent id.now))) }
+    ensures refused { F.honest → IfErr result (λ e. IsFault e ⊎ (stored (F.content files.old) id.now ≡ Err e)) }
+    ensures of_name { IfErr result (λ e. IsFault e ⊎ (e ≡ StoreFault.Damaged id.now)) }
+    ensures own { IfOk result (λ found. IfSome found (λ s. object_name s.kind s.body.items ≡ id.now)) }
+    ensures valid { is_id id.now ≡ true }
+    ensures same { F.content files.new ≡ F.content files.old }
+    ensures wear { Wears F.failed F.can_fail F.left files.old files.new (IsErrOf result (StoreFault.Fault Fault.Device)) }
+{
+    let id = &id.named();
+    let Some(bytes) = read_file(files, alloc, id)? else {
+        return Ok(None);
+    };
+    let object = named_in(id, &bytes)?;
+    let body = object.body.to_vec(alloc)?;
+    Ok(Some(Stored {
+        kind: object.kind,
+        body,
+    }))
+}
+
 /// The object with this name. The file is read whole, and what it holds must have the name: 11 where there is no
 /// file, 12 where it is no object or another one.
 pub fn get<F: Files>(files: &mut F, alloc: Global, id: &ObjectId) -> Result<Stored, StoreFault>
@@ -53,20 +89,33 @@ pub fn get<F: Files>(files: &mut F, alloc: Global, id: &ObjectId) -> Result<Stor
     ensures object { F.honest → IfOk result (λ s. objects (F.content files.old) id.now ≡ Some (stored_object s.kind s.body.items)) }
     ensures none { F.honest → IfErr result (λ e. IsFault e ⊎ (objects (F.content files.old) id.now ≡ None)) }
     ensures of_name { IfErr result (IsOfName id.now) }
-    ensures named { IfOk result (λ s. object_name s.kind s.body.items ≡ id.now) }
     ensures same { F.content files.new ≡ F.content files.old }
     ensures wear { Wears F.failed F.can_fail F.left files.old files.new (IsErrOf result (StoreFault.Fault Fault.Device)) }
 {
-    let id = &id.named();
-    let Some(bytes) = read_file(files, alloc, id)? else {
-        return Err(StoreFault::Absent(*id));
-    };
-    let object = object_in(id, &bytes)?;
-    let body = object.body.to_vec(alloc)?;
-    Ok(Stored {
-        kind: object.kind,
-        body,
-    })
+    match read_stored(files, alloc, id)? {
+        Some(object) => Ok(object),
+        None => Err(StoreFault::Absent(*id)),
+    }
+}
+
+/// The object with this name, or none where it is absent, as [`find`] has it. What is found has the name whatever the device
+/// does, so that nobody need name it again.
+pub fn find_named<F: Files>(
+    files: &mut F,
+    alloc: Global,
+    id: &ObjectId,
+) -> Result<Option<Stored>, StoreFault>
+    ensures found { F.honest → IfOk result (λ found. option_map (λ s. stored_object s.kind s.body.items) found ≡ objects (F.content files.old) id.now) }
+    ensures own { IfOk result (λ found. IfSome found (λ s. object_name s.kind s.body.items ≡ id.now)) }
+    ensures damaged { F.honest → IsDamaged (F.content files.old) id.now → IsErrAnd result (λ e. IsFault e ⊎ (e ≡ StoreFault.Damaged id.now)) }
+    ensures refused { IfErr result (IsRefused id.now (F.honest → IsDamaged (F.content files.old) id.now)) }
+    ensures same { F.content files.new ≡ F.content files.old }
+    ensures wear { Wears F.failed F.can_fail F.left files.old files.new (IsErrOf result (StoreFault.Fault Fault.Device)) }
+{
+    match read_stored(files, alloc, id)? {
+        Some(object) => Ok(Some(object)),
+        None => Ok(None),
+    }
 }
 
 /// The object with this name, or none where it is absent.
@@ -78,15 +127,10 @@ pub fn find<F: Files>(
     ensures found { F.honest → IfOk result (λ found. option_map (λ s. stored_object s.kind s.body.items) found ≡ objects (F.content files.old) id.now) }
     ensures damaged { F.honest → IsDamaged (F.content files.old) id.now → IsErrAnd result (λ e. IsFault e ⊎ (e ≡ StoreFault.Damaged id.now)) }
     ensures refused { IfErr result (IsRefused id.now (F.honest → IsDamaged (F.content files.old) id.now)) }
-    ensures named { IfOk result (λ found. IfSome found (λ s. object_name s.kind s.body.items ≡ id.now)) }
     ensures same { F.content files.new ≡ F.content files.old }
     ensures wear { Wears F.failed F.can_fail F.left files.old files.new (IsErrOf result (StoreFault.Fault Fault.Device)) }
 {
-    match get(files, alloc, id) {
-        Ok(object) => Ok(Some(object)),
-        Err(StoreFault::Absent(_)) => Ok(None),
-        Err(e) => Err(e),
-    }
+    find_named(files, alloc, id)
 }
 
 /// Whether an object has this name. Its file is read whole, and what it holds must have the name, else it is 12.
