@@ -21,12 +21,14 @@ use Rattle.vc_object.specs.ObjectMap.{ObjectMap}
 use Rattle.vc_object.specs.declared.id.ObjectId.{ObjectId}
 use Rattle.vc_object.specs.declared.kind.Kind.{Kind}
 use Rattle.vc_pkt.specs.Carried.{object_named, stored_name}
+use Rattle.vc_pkt.specs.StreamObjectView.{AreNamed, objects_of, stored}
+use Rattle.vc_pkt.specs.declared.carried.StreamObject.{StreamObject}
 use Rattle.vc_session.proofs.CleanLemmas.{bad_objects}
 use Rattle.vc_session.proofs.DamageLemmas.{damaged_before}
 use Rattle.vc_session.specs.Carrying.{objects_in}
 use Rattle.vc_session.specs.Clean.{MakesNoneBad}
 use Rattle.vc_store.specs.Store.{objects, with_file, with_object}
-use Rattle.vc_store.specs.StoreFault.{IsOfDamage, IsOfPut}
+use Rattle.vc_store.specs.StoreFault.{IsFault, IsOfDamage}
 use Rattle.vc_store.specs.declared.faults.StoreFault.{StoreFault}
 use Rattle.vc_store.specs.declared.faults.StoreFault.TheVariants.{Absent, BadObject, Damaged, Fault}
 use Rattle.vc_exchange.specs.Faults.{BlamesObjects}
@@ -129,9 +131,11 @@ pub put_bad : (old new : FileMap) (id : ObjectId) (kind : Kind) (body : List ℕ
 put_bad old new id kind body named outside file made =
     bad_objects old new outside (damaged_before old new id (stored_object kind body) (subst (λ (n : ObjectId). is_id n ≡ true) (sym named) (name_valid kind body)) (sym named) file made)
 
--- ---- why one is not stored: what is brought is an object
-pub put_blames : (old now : FileMap) (kind : Kind) (body : List ℕ) (e : StoreFault) → MakesNoneBad old now → ∥ IsObject kind body ∥₁ → IsOfPut kind body e → IsOfDamage now e → BlamesObjects old e
-put_blames old now kind body (BadObject fault) none object of damage = ∥∥₁_elim object (λ x. absurd x) (λ o. no_body_fault kind body fault o of)
-put_blames old now kind body (Absent absent) none object of damage = absurd of
-put_blames old now kind body (Damaged damaged) none object of damage = none.objects damaged damage
-put_blames old now kind body (Fault fault) none object of damage = tt
+-- ---- the entries of a map of objects
+-- the first has its own name, and so have those behind it
+module _ (entry : ObjectId × StreamObject) (entries : List (ObjectId × StreamObject)) (named : AreNamed (entry ∷ entries)) where
+  pub first_named : entry.0 ≡ stored_name (stored entry.1)
+  first_named = cc named
+
+  pub later_named : AreNamed entries
+  later_named = cc named

@@ -11,7 +11,7 @@ use std::alloc::Global;
 use vc_files::{Fault, Files};
 use vc_object::check;
 use vc_pkt::CarriedObjects;
-use vc_store::{StoreFault, put};
+use vc_store::{StoreFault, put_named};
 
 /// Stores the objects, in order of their names. One that is stored already stays as it is, and a body out of its kind's grammar
 /// counts for nothing. 12 where a file stands in an object's place and isn't it. A call that ends early has stored some. No file
@@ -28,9 +28,9 @@ pub(crate) fn store_all<F: Files>(
     ensures bad { F.honest → MakesNoneBad (F.content files.old) (F.content files.new) }
     ensures wear { Writes F.honest F.content F.failed F.can_fail F.left files.old files.new (IsErrOf result (StoreFault.Fault Fault.Device)) }
 {
-    for object in objects.by_name.values() {
-        if check(object.kind, &object.body).is_ok() {
-            put(files, alloc, object.kind, &object.body)?;
+    for (id, object) in objects.by_name.iter() {
+        if let Ok(object) = check(object.kind, &object.body) {
+            put_named(files, alloc, id, &object)?;
         }
     }
     Ok(())

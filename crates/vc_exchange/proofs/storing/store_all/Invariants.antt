@@ -5,15 +5,16 @@ use Rattle.vc_files.specs.Failures.{Writes}
 use Rattle.vc_object.specs.ObjectId.{IsSortedByName}
 use Rattle.vc_pkt.specs.Carried.{stored_name}
 use Rattle.vc_pkt.specs.ObjectStreamView.{carried}
-use Rattle.vc_pkt.specs.StreamObjectView.{stored}
+use Rattle.vc_pkt.specs.StreamObjectView.{AreNamed, objects_of}
 use Rattle.vc_session.specs.Clean.{MakesNoneBad}
 use Rattle.vc_exchange.proofs.StoringLemmas.{IsStoring}
 use Rattle.vc_exchange.proofs.storing.store_all.Given as goal
 
-abbrev pub invariant-loop-object : goal.invariant-loop-object
-invariant-loop-object g l = record {
-  storing : g.F.Files.honest → IsStoring (g.F.Files.content l.initial.files) (g.F.Files.content l.files) (carried l.objects) (map stored l.object-iterator);
-  sorted : IsSortedByName (map stored_name (map stored l.object-iterator));
+abbrev pub invariant-loop-id : goal.invariant-loop-id
+invariant-loop-id g l = record {
+  storing : g.F.Files.honest → IsStoring (g.F.Files.content l.initial.files) (g.F.Files.content l.files) (carried l.objects) (objects_of l.id-iterator);
+  sorted : IsSortedByName (map stored_name (objects_of l.id-iterator));
+  named : AreNamed l.id-iterator;
   outside : g.F.Files.honest → SameOutside (codes "objects/") (g.F.Files.content l.initial.files) (g.F.Files.content l.files);
   bad : g.F.Files.honest → MakesNoneBad (g.F.Files.content l.initial.files) (g.F.Files.content l.files);
   wear : Writes g.F.Files.honest g.F.Files.content g.F.Files.failed g.F.Files.can_fail g.F.Files.left l.initial.files l.files ⊥;
