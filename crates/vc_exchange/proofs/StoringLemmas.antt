@@ -7,31 +7,25 @@ use Rattle.std.specs.Option.{option_or}
 use Rattle.std.specs.Ordering.{is_eq}
 use Rattle.std.specs.declared.cmp.Ordering.TheVariants.{Less}
 use Rattle.std.proofs.Math.Facts.{Fits-of_lt}
-use Rattle.std.proofs.Math.Logic.{∥∥₁_elim}
 use Rattle.vc_fetch.specs.Pack.{is_object}
 use Rattle.vc_files.specs.FileMap.{FileMap, SameOutside}
 use Rattle.vc_format.proofs.Names.{byte_of, name_bytes, name_length}
 use Rattle.vc_graph.specs.Overlay.{with_carried}
 use Rattle.vc_object.proofs.IdLemmas.{id_eq-same, id_ties, is_id-from_array}
-use Rattle.vc_object.proofs.OneFault.{no_body_fault}
 use Rattle.vc_object.specs.Decoding.{StoredObject, stored_object}
-use Rattle.vc_object.specs.Object.{IsObject, object_bytes, object_name}
+use Rattle.vc_object.specs.Object.{object_bytes, object_name}
 use Rattle.vc_object.specs.ObjectId.{IsSortedByName, id_cmp, id_eq, is_id}
 use Rattle.vc_object.specs.ObjectMap.{ObjectMap}
 use Rattle.vc_object.specs.declared.id.ObjectId.{ObjectId}
 use Rattle.vc_object.specs.declared.kind.Kind.{Kind}
 use Rattle.vc_pkt.specs.Carried.{object_named, stored_name}
-use Rattle.vc_pkt.specs.StreamObjectView.{AreNamed, objects_of, stored}
+use Rattle.vc_pkt.specs.StreamObjectView.{AreNamed, stored}
 use Rattle.vc_pkt.specs.declared.carried.StreamObject.{StreamObject}
 use Rattle.vc_session.proofs.CleanLemmas.{bad_objects}
 use Rattle.vc_session.proofs.DamageLemmas.{damaged_before}
 use Rattle.vc_session.specs.Carrying.{objects_in}
 use Rattle.vc_session.specs.Clean.{MakesNoneBad}
 use Rattle.vc_store.specs.Store.{objects, with_file, with_object}
-use Rattle.vc_store.specs.StoreFault.{IsFault, IsOfDamage}
-use Rattle.vc_store.specs.declared.faults.StoreFault.{StoreFault}
-use Rattle.vc_store.specs.declared.faults.StoreFault.TheVariants.{Absent, BadObject, Damaged, Fault}
-use Rattle.vc_exchange.specs.Faults.{BlamesObjects}
 use Rattle.vc_exchange.specs.Storing.{AreSomeStored, AreStored}
 
 -- ---- what comes, name by name

@@ -1,4 +1,4 @@
-use Rattle.std.proofs.Common.{arith, rules, ◌≡◌, ◌∷◌, ℕ, List, map, true, false, sym, ap, subst, refl, ◌∙◌, Result, Ok, Err, OnErr}
+use Rattle.std.proofs.Common.{arith, rules, ◌≡◌, ◌∷◌, ℕ, List, map, true, false, sym, subst, refl, ◌∙◌, Result, Ok, Err, OnErr}
 use Rattle.std.specs.Prelude.{IsOk}
 use Rattle.std.specs.Map.Iter.{deref_pair}
 use Rattle.std.proofs.lemmas.Map.Iter.{rest_more, rest_all}
