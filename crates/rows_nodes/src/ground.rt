@@ -87,8 +87,22 @@ impl Ground {
         let alloc = self.alloc;
         let (name, items) = text.split_once(' ').unwrap_or((text, ""));
         match name {
-            "c1" => exchanges::push(out, alloc, &mut self.shared, &mut self.second, items, is_read),
-            _ => exchanges::push(out, alloc, &mut self.shared, &mut self.first, items, is_read),
+            "c1" => exchanges::push(
+                out,
+                alloc,
+                &mut self.shared,
+                &mut self.second,
+                items,
+                is_read,
+            ),
+            _ => exchanges::push(
+                out,
+                alloc,
+                &mut self.shared,
+                &mut self.first,
+                items,
+                is_read,
+            ),
         }
     }
 

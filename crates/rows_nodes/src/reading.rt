@@ -33,9 +33,7 @@ impl<'a> Peer for Reading<'a> {
         match Message::read(self.alloc, &answered) {
             Ok(message) => Ok(Reply::Message(message)),
             // A node's answer is a message, so it was memory.
-            Err(_) => Err(SharedFault::Node(NodeFault::Store(StoreFault::Fault(
-                Fault::Memory,
-            )))),
+            Err(_) => Err(SharedFault::Node(NodeFault::Store(StoreFault::Fault(Fault::Memory)))),
         }
     }
 }
