@@ -38,9 +38,9 @@ module _ {D : Type 0} (content : D → FileMap) (old mid new : D) (waits mids af
   pub settled_clean : MakesNoneBad (content old) (content mid) → KeepsClean (content old) (content new)
   settled_clean bad = subst (λ (d : D). KeepsClean (content old) (content d)) (sym files) (clean_by _ _ bad)
 
-  module _ {honest : Type 0} {failed : D → ℕ} {can_fail : D → Type 0} {left : D → Option ℕ} where
-    pub settled_wear : Writes honest content failed can_fail left old mid (TellsDevice came) → Writes honest content failed can_fail left old new (TellsDevice told)
-    settled_wear wear =
+  module _ {failed : D → ℕ} {can_fail : D → Type 0} {left : D → Option ℕ} where
+    pub settled_wear : {honest : Type 0} → Writes honest content failed can_fail left old mid (TellsDevice came) → Writes honest content failed can_fail left old new (TellsDevice told)
+    settled_wear {honest} wear =
         subst (λ (r : Result Received CloneFault). Writes honest content failed can_fail left old new (TellsDevice r)) (sym is)
         (subst (λ (d : D). Writes honest content failed can_fail left old d (TellsDevice came)) (sym files) wear)
 
@@ -51,9 +51,9 @@ module _ {D : Type 0} (content : D → FileMap) (old mid new : D) (waits mids af
         (subst (λ (r : Result Received CloneFault). MayOr call waits true (content old) (Wears failed can_fail left old new (TellsDevice r))) (sym is)
         (subst (λ (d : D). MayOr call waits true (content old) (Wears failed can_fail left old d (TellsDevice came))) (sym files) may))
 
-refusal_here : {P : CloneFault → Type 0} (came : Result Received CloneFault) → IfErr came P → IfErr came (λ e. (e ≡ Node Down) ⊎ P e)
-refusal_here (Ok x) why = tt
-refusal_here (Err e) why = inr why
+refusal_here : (P : CloneFault → Type 0) (came : Result Received CloneFault) → IfErr came P → IfErr came (λ e. (e ≡ Node Down) ⊎ P e)
+refusal_here P (Ok x) why = tt
+refusal_here P (Err e) why = inr why
 
 pub settled_refusal : (P : CloneFault → Type 0) (came told : Result Received CloneFault) → told ≡ came → IfErr came P → IfErr told (λ e. (e ≡ Node Down) ⊎ P e)
-settled_refusal P came told is why = subst (λ (r : Result Received CloneFault). IfErr r (λ e. (e ≡ Node Down) ⊎ P e)) (sym is) (refusal_here came why)
+settled_refusal P came told is why = subst (λ (r : Result Received CloneFault). IfErr r (λ e. (e ≡ Node Down) ⊎ P e)) (sym is) (refusal_here P came why)
