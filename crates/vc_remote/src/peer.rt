@@ -1,7 +1,4 @@
 //! The shared node at a port of this machine, as a clone meets it.
-ghost use Rattle.std.specs.Prelude.{IfOk, IfSome};
-ghost use Rattle.vc_message.specs.AnyView.{message_text};
-ghost use Rattle.vc_message.specs.Machine.{WasRead};
 ghost use Rattle.vc_model.specs.Node.Answer.{Declined};
 
 use crate::fault::RemoteFault;
@@ -76,9 +73,7 @@ where
     }
 
     // Sends a message, and reads the one that answers it.
-    fn exchange(&mut self, alloc: Global, bytes: &[u8]) -> Result<Message, RemoteFault>
-        ensures { IfOk result (λ message. WasRead (message_text message)) }
-    {
+    fn exchange(&mut self, alloc: Global, bytes: &[u8]) -> Result<Message, RemoteFault> {
         self.connect()?;
         let Some(stream) = &mut self.stream else {
             return Err(RemoteFault::WriteFailed);
@@ -115,9 +110,7 @@ fn receive<S: Read, W: Write>(
     alloc: Global,
     stream: &mut S,
     progress: &mut Progress<W>,
-) -> Result<Option<Message>, IncomingFault>
-    ensures { IfOk result (λ taken. IfSome taken (λ message. WasRead (message_text message))) }
-{
+) -> Result<Option<Message>, IncomingFault> {
     let read = read_message(alloc, &mut Counted { stream, progress });
     progress.end();
     read
