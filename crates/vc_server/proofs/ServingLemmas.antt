@@ -29,7 +29,6 @@ use Rattle.vc_session.specs.declared.stage.Stepped.TheVariants as session
 use Rattle.vc_shared.proofs.HoldingLemmas.{slot_set}
 use Rattle.vc_shared.proofs.SlotLemmas.{open_within, told_at}
 use Rattle.vc_shared.proofs.SteppingLaws.{pushes_of}
-use Rattle.vc_shared.specs.Accepting.{IsRefusedBytes}
 use Rattle.vc_shared.specs.Calls.{AcceptedAs, AnswersShared, Quietly, SendsBytes, SteppedAs}
 use Rattle.vc_shared.specs.Faults.{fault_answer}
 use Rattle.vc_shared.specs.Holding.{HoldsShared, HoldsSlot, HoldsSlots}
@@ -43,7 +42,7 @@ use Rattle.vc_shared.specs.declared.stepping.Stepped.{Stepped}
 use Rattle.vc_shared.specs.declared.stepping.Stepped.TheVariants.{Checked, Migrated, Updated, Finished}
 use Rattle.vc_store.specs.declared.faults.StoreFault.TheVariants as store
 use Rattle.vc_server.proofs.StepsLeft.{IsBefore, few_left, fewer_left, one_left, steps_left}
-use Rattle.vc_server.specs.Refusals.{IsRefusedAnswer, IsRefusedOnTheWay}
+use Rattle.vc_server.specs.Refusals.{IsRefusedFor, IsRefusedOnTheWay}
 use Rattle.vc_server.specs.Serving.{MayAnswer, Serves, ServesOn, StepsOn, StepsToEnd, report_of}
 
 -- ---- what stands in the slot of a node that is up
@@ -264,11 +263,11 @@ module _ (call : SharedCall) (Shows : Answer → Option Message → Type 0) (old
   stays_up up answered = subst (λ (b : Bool). AnswersShared call Shows old new slots after was_up b) up answered
 
 -- ---- why there is no reply
-pub by_bytes : (old : FileMap) (slots : List (Option SessionText)) (bytes : List ℕ) (e : SharedFault) → (e ≡ Node Down) ⊎ IsRefusedBytes old slots bytes e → IsRefusedAnswer old slots bytes e
-by_bytes old slots bytes e (inl down) = inl down
-by_bytes old slots bytes e (inr why) = inr (inl why)
+module _ (Refuses : SharedFault → Type 0) where
+  pub by_itself : (old : FileMap) (e : SharedFault) → (e ≡ Node Down) ⊎ Refuses e → IsRefusedFor Refuses old e
+  by_itself old e (inl down) = inl down
+  by_itself old e (inr why) = inr (inl why)
 
-pub on_the_way : (old mid : FileMap) (slots : List (Option SessionText)) (bytes : List ℕ) (result : Result (Vec ℕ Global) SharedFault) → KeepsClean old mid → IfErr result (IsRefusedOnTheWay mid)
-    → IfErr result (IsRefusedAnswer old slots bytes)
-on_the_way old mid slots bytes (Ok reply) clean refused = tt
-on_the_way old mid slots bytes (Err e) clean (content, slot, keeps, why) = inr (inr (content, slot, clean_then old mid content clean keeps, why))
+  pub on_the_way : (old mid : FileMap) (result : Result (Vec ℕ Global) SharedFault) → KeepsClean old mid → IfErr result (IsRefusedOnTheWay mid) → IfErr result (IsRefusedFor Refuses old)
+  on_the_way old mid (Ok reply) clean refused = tt
+  on_the_way old mid (Err e) clean (content, slot, keeps, why) = inr (inr (content, slot, clean_then old mid content clean keeps, why))

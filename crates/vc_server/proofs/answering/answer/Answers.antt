@@ -1,5 +1,6 @@
 use Rattle.vc_files.proofs.WearLemmas.{writes_both}
-use Rattle.vc_server.proofs.ServingLemmas.{by_bytes, err_is, on_the_way, refused_at_once, replied_at_once, served_by_steps}
+use Rattle.vc_server.proofs.ServingLemmas.{by_itself, err_is, on_the_way, refused_at_once, replied_at_once, served_by_steps}
+use Rattle.vc_shared.specs.Accepting.{IsRefusedBytes}
 use Rattle.vc_server.proofs.answering.answer.Goals as goal
 
 pub returns-in_err-accepted-clause-answers : goal.returns-in_err-accepted-clause-answers
@@ -28,7 +29,7 @@ pub returns-in-Slot-clause-wear : goal.returns-in-Slot-clause-wear
 returns-in-Slot-clause-wear g c = writes_both c.in_ok-accepted.ensures.wear (λ never. never) c.finish.ensures.wear
 
 pub returns-in_err-accepted-clause-bad_file : goal.returns-in_err-accepted-clause-bad_file
-returns-in_err-accepted-clause-bad_file g c = λ honest. rw (err_is _ _ c.from_residual.ensures.1) (by_bytes _ _ _ _ (c.in_err-accepted.ensures.bad_file honest))
+returns-in_err-accepted-clause-bad_file g c = λ honest. rw (err_is _ _ c.from_residual.ensures.1) (by_itself (IsRefusedBytes (g.F.Files.content c.args.shared.now.files) c.args.shared.now.slots c.args.bytes.now) _ _ (c.in_err-accepted.ensures.bad_file honest))
 
 pub returns-in-Slot-clause-bad_file : goal.returns-in-Slot-clause-bad_file
-returns-in-Slot-clause-bad_file g c = λ honest. on_the_way _ _ _ _ c.finish.result (c.in_ok-accepted.ensures.clean honest) (c.finish.ensures.bad_file honest)
+returns-in-Slot-clause-bad_file g c = λ honest. on_the_way (IsRefusedBytes (g.F.Files.content c.args.shared.now.files) c.args.shared.now.slots c.args.bytes.now) _ _ c.finish.result (c.in_ok-accepted.ensures.clean honest) (c.finish.ensures.bad_file honest)
