@@ -1,5 +1,5 @@
 -- A message from a reader, line by line: for the loop that takes it.
-use Rattle.std.proofs.Common.{◌≡◌, ◌≢◌, ℕ, ◌+◌, ◌-◌, List, [], ◌∷◌, ◌++◌, length, drop, Result, Ok, Err, refl, ap, sym, ◌∙◌, subst, arith, append_assoc, length-append, ◌⊎◌, inl, inr}
+use Rattle.std.proofs.Common.{◌≡◌, ◌≢◌, ℕ, ◌+◌, ◌-◌, ◌≤◌, List, [], ◌∷◌, ◌++◌, length, Result, Ok, Err, refl, ap, sym, ◌∙◌, subst, arith, append_assoc, length-append, ◌⊎◌, inl, inr}
 use Rattle.std.specs.Prelude.{Option}
 use Rattle.std.specs.Io.KnownBytes.{Consumes, IsAtEnd}
 use Rattle.std.proofs.KnownBytes.{Consumes-nil, Consumes-trans}
@@ -7,14 +7,14 @@ use Rattle.std.proofs.lemmas.List.{append-nil}
 use Rattle.vc_object.proofs.Texts.{agreeing}
 use Rattle.vc_pkt.specs.Faults.{FaultAt}
 use Rattle.vc_pkt.specs.Line.{LineText, IsLine, IsLines, IsPart, short, begun}
-use Rattle.vc_pkt.specs.Message.{Stepped, onward, complete, Steps, going, run, IsOwnFault, IsSpelledBy, GivenBy, cut}
+use Rattle.vc_pkt.specs.Message.{Stepped, onward, complete, Steps, going, run, IsOwnFault, GivenBy, cut}
 use Rattle.vc_pkt.specs.StepView.{Gives}
 use Rattle.vc_pkt.specs.declared.fault.PktFault.{PktFault}
 use Rattle.vc_pkt.specs.declared.fault.PktFault.TheVariants.{CutMessage}
 use Rattle.vc_pkt.specs.declared.fault.PktError.{PktError}
 use Rattle.vc_pkt.specs.declared.fault.PktError.TheVariants as errors
 use Rattle.vc_pkt.proofs.LineLaws.{line_no_bad, line_no_part, line_once, part_no_bad}
-use Rattle.vc_pkt.proofs.MessageLaws.{SoFar, at_start, line_length, not_cut, on_done, on_error, on_more, on_no_line}
+use Rattle.vc_pkt.proofs.MessageLaws.{SoFar, at_start, not_cut, on_done, on_error, on_more, on_no_line}
 use Rattle.vc_message.specs.Incoming.{IsBegun, IsLineOf, whole, wrong, ended, IsLoss, IsWithinLine, Takes, TakesFault, TakesText, TakesWithinLine, Fails}
 use Rattle.vc_message.specs.IncomingFault.{of_pkt}
 use Rattle.vc_message.specs.declared.incoming_fault.IncomingFault.{IncomingFault}
@@ -34,6 +34,10 @@ line_here new line read spelled more (ended part end) h e = absurd (line_no_part
 -- in a buffer that was empty, what was read is all
 pub in_empty : (before read now : List ℕ) → before ≡ [] → now ≡ before ++ read → now ≡ read
 in_empty before read now none e = e ∙ ap (λ t. t ++ read) none
+
+-- the place behind what was read
+pub end_is : (place end len : ℕ) (now read : List ℕ) → end ≡ place + len → len ≡ length now → now ≡ read → end ≡ place + length read
+end_is place end len now read e long same = e ∙ ap (λ n. place + n) (long ∙ ap length same)
 
 -- where less than a line was read, the reader has no more
 at_end : (new : Option (List ℕ)) (read : List ℕ) → IsLineOf new read → IsPart read → IsAtEnd new
