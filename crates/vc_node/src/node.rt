@@ -452,8 +452,7 @@ impl<F: Files> CloneNode<F> {
         if !self.is_up {
             return Err(CloneFault::Node(NodeFault::Down));
         }
-        let received =
-            exchanging::receive(self.alloc, &mut self.files, &mut self.awaited, bytes);
+        let received = exchanging::receive(self.alloc, &mut self.files, &mut self.awaited, bytes);
         self.settle(received)
     }
 
@@ -472,8 +471,7 @@ impl<F: Files> CloneNode<F> {
         if !self.is_up {
             return Err(CloneFault::Node(NodeFault::Down));
         }
-        let received =
-            exchanging::take(self.alloc, &mut self.files, &mut self.awaited, message);
+        let received = exchanging::take(self.alloc, &mut self.files, &mut self.awaited, message);
         self.settle(received)
     }
 
@@ -492,8 +490,12 @@ impl<F: Files> CloneNode<F> {
         if !self.is_up {
             return Err(CloneFault::Node(NodeFault::Down));
         }
-        let received =
-            exchanging::take_report(self.alloc, &mut self.files, &mut self.awaited, report);
+        let received = exchanging::take_report(
+            self.alloc,
+            &mut self.files,
+            &mut self.awaited,
+            report,
+        );
         self.settle(received)
     }
 

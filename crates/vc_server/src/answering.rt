@@ -9,7 +9,7 @@ ghost use Rattle.vc_model.specs.SharedCall.SharedCall.{Accept, Asks};
 ghost use Rattle.vc_node.specs.Clean.{KeepsClean};
 ghost use Rattle.vc_node.specs.declared.fault.NodeFault.TheVariants.{Down};
 ghost use Rattle.vc_server.specs.Refusals.{IsRefusedAnswer, IsRefusedMessageAnswer, IsRefusedOnTheWay};
-ghost use Rattle.vc_server.specs.Serving.{Serves, StepsToEnd, report_of};
+ghost use Rattle.vc_server.specs.Serving.{RepliesTo, Serves, StepsToEnd, report_of};
 ghost use Rattle.vc_shared.specs.Faults.{TellsDevice, up_after};
 ghost use Rattle.vc_shared.specs.Slots.{AreTellable};
 ghost use Rattle.vc_shared.specs.declared.fault.SharedFault.TheVariants.{Node};
@@ -52,6 +52,22 @@ fn finish<F: Files>(shared: &mut Shared<F>, slot: u8) -> Result<Vec<u8>, SharedF
     Err(SharedFault::NoSuchSlot)
 }
 
+// The reply to what was taken: its bytes, or the report of the push that was opened.
+fn reply_to<F: Files>(shared: &mut Shared<F>, accepted: Accepted) -> Result<Vec<u8>, SharedFault>
+    requires up { shared.old.is_up ≡ true }
+    requires tellable { AreTellable shared.old.slots }
+    ensures replies { F.honest → RepliesTo accepted result (F.content shared.old.files) (F.content shared.new.files) shared.old.slots shared.new.slots shared.new.is_up }
+    ensures bad_file { F.honest → IfErr result (IsRefusedOnTheWay (F.content shared.old.files)) }
+    ensures up { shared.new.is_up ≡ up_after result }
+    ensures clean { F.honest → KeepsClean (F.content shared.old.files) (F.content shared.new.files) }
+    ensures wear { Writes F.honest F.content F.failed F.can_fail F.left shared.old.files shared.new.files (TellsDevice result) }
+{
+    match accepted {
+        Accepted::Reply(reply) => Ok(reply),
+        Accepted::Slot(slot) => finish(shared, slot),
+    }
+}
+
 /// Takes the message that is all of the bytes, and answers with the bytes of the reply: a list is answered by the refs, a want by a
 /// pack, and a push by its report, after all its steps. Refused are bytes that are no message (80 to 84, or 3), a message that a
 /// clone takes (91), a want of what no ref reaches (90), and a push where eight are open (110). After a fault the node is down, and
@@ -66,10 +82,7 @@ pub fn answer<F: Files>(shared: &mut Shared<F>, bytes: &[u8]) -> Result<Vec<u8>,
     ensures wear { Writes F.honest F.content F.failed F.can_fail F.left shared.old.files shared.new.files (TellsDevice result) }
 {
     let accepted = shared.accept(bytes)?;
-    match accepted {
-        Accepted::Reply(reply) => Ok(reply),
-        Accepted::Slot(slot) => finish(shared, slot),
-    }
+    reply_to(shared, accepted)
 }
 
 /// The same of a message that was read already.
@@ -86,8 +99,5 @@ pub fn answer_message<F: Files>(
     ensures wear { Writes F.honest F.content F.failed F.can_fail F.left shared.old.files shared.new.files (TellsDevice result) }
 {
     let accepted = shared.accept_message(message)?;
-    match accepted {
-        Accepted::Reply(reply) => Ok(reply),
-        Accepted::Slot(slot) => finish(shared, slot),
-    }
+    reply_to(shared, accepted)
 }

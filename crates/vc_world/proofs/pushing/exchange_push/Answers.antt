@@ -25,7 +25,7 @@ returns-in-Err-ask g c =
 pub returns-clause-pushed : goal.returns-clause-pushed
 returns-clause-pushed g c p f z =
     comes g.P.Peer.holds g.P.Peer.told g.F.Files.content c.args.items.now c.in-Ok.push c.deref.result.now c.in-Ok-ask.reply c.take_reply.result c.args.shared.now c.ask.new.self c.args.clone.now c.start_push.new.self c.take_reply.new.clone
-    (c.in-Ok.ensures.answers f z) c.deref.ensures.value (c.in-Ok-ask.ensures.answers p) (c.take_reply.ensures f)
+    (c.in-Ok.ensures.answers f z) c.deref.ensures.value (c.in-Ok-ask.ensures.answers p) (c.take_reply.ensures.takes f)
 
 pub returns-clause-done : goal.returns-clause-done
 returns-clause-done g c p f z = pushes_one g.P.Peer.holds g.P.Peer.told g.F.Files.content c.args.items.now c.take_reply.result c.args.shared.now c.ask.new.self c.args.clone.now c.take_reply.new.clone (returns-clause-pushed g c p f z)

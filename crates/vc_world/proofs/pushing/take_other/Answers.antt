@@ -1,4 +1,4 @@
-use Rattle.std.proofs.Common.{Err, sym, ◌∙◌}
+use Rattle.std.proofs.Common.{sym, ◌∙◌}
 use Rattle.vc_world.proofs.PushCalls.{tells_none, tells_stray}
 use Rattle.vc_world.proofs.pushing.take_other.Goals as goal
 

@@ -1,4 +1,4 @@
-use Rattle.std.proofs.Common.{Err, Ok, sym, ◌∙◌}
+use Rattle.std.proofs.Common.{Ok, sym, ◌∙◌}
 use Rattle.vc_world.proofs.PushCalls.{tells_none, tells_report}
 use Rattle.vc_world.proofs.pushing.take_report.Goals as goal
 
