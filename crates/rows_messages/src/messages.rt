@@ -5,8 +5,10 @@ use std::alloc::{AllocError, Global};
 use vc_fetch::{
     Advert, AdvertReader, Error, ErrorReader, List, ListReader, Pack, PackReader, Want, WantReader,
 };
+use vc_message::{AnyReader, Message};
 use vc_object::{Kind, ObjectId};
 use vc_pkt::{CarriedObjects, MessageReader, ObjectStream, StreamObject};
+use vc_push::{PushReader, ReportReader};
 
 /// A reader whose messages can be told.
 pub trait Telling: MessageReader {
@@ -58,6 +60,20 @@ impl Telling for ObjectStream {
     fn tell(out: &mut String, objects: &CarriedObjects) -> Result<(), AllocError> {
         out.push('-')?;
         push_objects(out, objects)
+    }
+}
+
+impl Telling for AnyReader {
+    fn tell(out: &mut String, message: &Message) -> Result<(), AllocError> {
+        match message {
+            Message::List(list) => ListReader::tell(out, list),
+            Message::Advert(advert) => AdvertReader::tell(out, advert),
+            Message::Want(want) => WantReader::tell(out, want),
+            Message::Pack(pack) => PackReader::tell(out, pack),
+            Message::Push(push) => PushReader::tell(out, push),
+            Message::Report(report) => ReportReader::tell(out, report),
+            Message::Error(error) => ErrorReader::tell(out, error),
+        }
     }
 }
 

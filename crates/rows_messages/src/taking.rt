@@ -1,10 +1,11 @@
 //! Rows about messages that come one behind another from a reader.
 
+use crate::messages::Telling;
 use crate::spelling::{push_bytes, spelled};
 use std::alloc::{AllocError, Global};
 use std::fmt::Write;
 use std::io::{self, ErrorKind, Read};
-use vc_message::{IncomingFault, read_message};
+use vc_message::{AnyReader, IncomingFault, Message, read_message};
 
 // A reader that gives one byte at a time, after a read that is interrupted.
 #[derive(Drop)]
@@ -34,15 +35,56 @@ impl Read for Failing {
     }
 }
 
+// A reader that keeps what it gave.
+#[derive(Drop)]
+struct Kept<'a, R> {
+    reader: &'a mut R,
+    given: Vec<u8>,
+}
+
+impl<'a, R: Read> Read for Kept<'a, R> {
+    fn read(&mut self, buffer: &mut [u8]) -> io::Result<usize> {
+        let count = self.reader.read(buffer)?;
+        self.given.extend_from_slice(&buffer[..count])?;
+        Ok(count)
+    }
+}
+
+// What a message says.
+fn words(alloc: Global, message: &Message) -> Result<String, AllocError> {
+    let mut out = String::new(alloc);
+    AnyReader::tell(&mut out, message)?;
+    Ok(out)
+}
+
+// The bytes that were taken for a message; and where they are not read at once as that message, a word more.
+fn push_taken(
+    out: &mut String,
+    alloc: Global,
+    bytes: &[u8],
+    message: &Message,
+) -> Result<(), AllocError> {
+    push_bytes(out, bytes, " ")?;
+    let at_once = match Message::read(alloc, bytes) {
+        Ok(other) => words(alloc, &other)?,
+        Err(_) => String::new(alloc),
+    };
+    if words(alloc, message)?.as_str() != at_once.as_str() {
+        out.push_str(" differs")?;
+    }
+    out.push_str(" | ")
+}
+
 // The messages that the reader gives, `|` behind each, and why no more come.
 fn told<R: Read>(alloc: Global, reader: &mut R, most: usize) -> Result<String, AllocError> {
     let mut out = String::new(alloc);
     for _ in 0..=most {
-        match read_message(alloc, reader) {
-            Ok(Some(bytes)) => {
-                push_bytes(&mut out, &bytes, " ")?;
-                out.push_str(" | ")?;
-            }
+        let mut kept = Kept {
+            reader: &mut *reader,
+            given: Vec::new(alloc),
+        };
+        match read_message(alloc, &mut kept) {
+            Ok(Some(message)) => push_taken(&mut out, alloc, &kept.given, &message)?,
             Ok(None) => {
                 out.push_str("end")?;
                 return Ok(out);

@@ -1,6 +1,7 @@
 //! Rows about a whole exchange of a clone with the shared node.
 
 use crate::clones::{CloneSite, items_of};
+use crate::reading::Reading;
 use crate::shared::SharedSite;
 use crate::words::push_bytes;
 use std::alloc::{AllocError, Global};
@@ -50,11 +51,13 @@ fn push_report(out: &mut String, report: &Report) -> Result<(), AllocError> {
     Ok(())
 }
 
-/// A whole fetch.
+/// A whole fetch. The clone gets the answers as bytes, or read already.
 pub fn fetch(
     out: &mut String,
+    alloc: Global,
     shared: &mut SharedSite,
     clone: &mut CloneSite,
+    is_read: bool,
 ) -> Result<(), AllocError> {
     let Some(shared) = &mut shared.node else {
         return out.push_str("closed");
@@ -62,19 +65,25 @@ pub fn fetch(
     let Some(clone) = &mut clone.node else {
         return out.push_str("closed");
     };
-    match exchange_fetch(shared, clone) {
+    let fetched = if is_read {
+        exchange_fetch(&mut Reading { alloc, shared }, clone)
+    } else {
+        exchange_fetch(shared, clone)
+    };
+    match fetched {
         Ok(fetched) => write!(out, "moved {} left {}", fetched.moved, fetched.left),
         Err(end) => push_end(out, &end),
     }
 }
 
-/// A whole push of the items.
+/// A whole push of the items. The clone gets the answer as bytes, or read already.
 pub fn push(
     out: &mut String,
     alloc: Global,
     shared: &mut SharedSite,
     clone: &mut CloneSite,
     text: &str,
+    is_read: bool,
 ) -> Result<(), AllocError> {
     let items = items_of(alloc, text)?;
     if items.is_empty() {
@@ -86,7 +95,12 @@ pub fn push(
     let Some(clone) = &mut clone.node else {
         return out.push_str("closed");
     };
-    match exchange_push(alloc, shared, clone, &items) {
+    let pushed = if is_read {
+        exchange_push(alloc, &mut Reading { alloc, shared }, clone, &items)
+    } else {
+        exchange_push(alloc, shared, clone, &items)
+    };
+    match pushed {
         Ok(report) => push_report(out, &report),
         Err(end) => push_end(out, &end),
     }

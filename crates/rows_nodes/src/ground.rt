@@ -74,20 +74,35 @@ impl Ground {
     }
 
     // A whole fetch by the clone that is named.
-    fn fetch(&mut self, out: &mut String, name: &str) -> Result<(), AllocError> {
+    fn fetch(&mut self, out: &mut String, name: &str, is_read: bool) -> Result<(), AllocError> {
+        let alloc = self.alloc;
         match name {
-            "c1" => exchanges::fetch(out, &mut self.shared, &mut self.second),
-            _ => exchanges::fetch(out, &mut self.shared, &mut self.first),
+            "c1" => exchanges::fetch(out, alloc, &mut self.shared, &mut self.second, is_read),
+            _ => exchanges::fetch(out, alloc, &mut self.shared, &mut self.first, is_read),
         }
     }
 
     // A whole push by the clone that is named first, of the items behind it.
-    fn push(&mut self, out: &mut String, text: &str) -> Result<(), AllocError> {
+    fn push(&mut self, out: &mut String, text: &str, is_read: bool) -> Result<(), AllocError> {
         let alloc = self.alloc;
         let (name, items) = text.split_once(' ').unwrap_or((text, ""));
         match name {
-            "c1" => exchanges::push(out, alloc, &mut self.shared, &mut self.second, items),
-            _ => exchanges::push(out, alloc, &mut self.shared, &mut self.first, items),
+            "c1" => exchanges::push(
+                out,
+                alloc,
+                &mut self.shared,
+                &mut self.second,
+                items,
+                is_read,
+            ),
+            _ => exchanges::push(
+                out,
+                alloc,
+                &mut self.shared,
+                &mut self.first,
+                items,
+                is_read,
+            ),
         }
     }
 
@@ -96,8 +111,10 @@ impl Ground {
         let (verb, text) = row.split_once(' ').unwrap_or((row, ""));
         match verb {
             "world" => self.world(out),
-            "fetch" => self.fetch(out, text),
-            "push" => self.push(out, text),
+            "fetch" => self.fetch(out, text, false),
+            "push" => self.push(out, text, false),
+            "fetch-read" => self.fetch(out, text, true),
+            "push-read" => self.push(out, text, true),
             "c0" => clones::row(out, self.alloc, &mut self.first, &mut self.sent, text),
             "c1" => clones::row(out, self.alloc, &mut self.second, &mut self.sent, text),
             _ => self.shared_row(out, verb, text),

@@ -7,6 +7,7 @@
 mod clones;
 mod exchanges;
 mod ground;
+mod reading;
 mod shared;
 mod site;
 mod trials;

@@ -1,7 +1,7 @@
 //! A connection to a shared node over files in memory, with both of its ends.
 
 use std::alloc::Global;
-use std::io::{self, BufReader, ErrorKind, Write};
+use std::io::{self, BufReader, ErrorKind, Read, Write};
 use std::mem;
 use std::net::{Net, OpenListener, OpenStream};
 use vc_files::MemoryFiles;
@@ -16,6 +16,21 @@ pub struct Connection<R: Net> {
     files: MemoryFiles,
     client: BufReader<R::Stream>,
     server: BufReader<R::Stream>,
+}
+
+// A reader that keeps what it gave.
+#[derive(Drop)]
+struct Kept<'a, R> {
+    reader: &'a mut R,
+    given: Vec<u8>,
+}
+
+impl<'a, R: Read> Read for Kept<'a, R> {
+    fn read(&mut self, buffer: &mut [u8]) -> io::Result<usize> {
+        let count = self.reader.read(buffer)?;
+        self.given.extend_from_slice(&buffer[..count])?;
+        Ok(count)
+    }
 }
 
 // What ends the program: it has ample memory, and nothing is wrong with a connection to itself.
@@ -43,28 +58,33 @@ impl<R: Net + AllocGlobal> Connection<R> {
         })
     }
 
-    /// The client sends these bytes, the server answers the message that it reads of them, and the client reads the answer.
+    /// The client sends these bytes, the server answers the message that it reads of them, and the client reads the answer, of which
+    /// these are the bytes.
     pub fn exchange(&mut self, alloc: Global, bytes: &[u8]) -> io::Result<Vec<u8>> {
         self.client.get_mut().write_all(bytes)?;
         let answered = self.answer(alloc)?;
         if tell(alloc, self.server.get_mut(), &answered).is_err() {
             return Err(broken());
         }
-        match read_message(alloc, &mut self.client) {
-            Ok(Some(bytes)) => Ok(bytes),
+        let mut kept = Kept {
+            reader: &mut self.client,
+            given: Vec::new(alloc),
+        };
+        match read_message(alloc, &mut kept) {
+            Ok(Some(_)) => Ok(kept.given),
             _ => Err(broken()),
         }
     }
 
     // What the node answers to the next message that comes.
     fn answer(&mut self, alloc: Global) -> io::Result<Result<Vec<u8>, SharedFault>> {
-        let bytes = match read_message(alloc, &mut self.server) {
-            Ok(Some(bytes)) => bytes,
+        let message = match read_message(alloc, &mut self.server) {
+            Ok(Some(message)) => message,
             Err(IncomingFault::Unread(fault)) => return Ok(Err(SharedFault::Unread(fault))),
             _ => return Err(broken()),
         };
         let files = mem::replace(&mut self.files, MemoryFiles::new(alloc));
-        let (files, answered) = answer_message(alloc, files, &bytes);
+        let (files, answered) = answer_message(alloc, files, message);
         self.files = files;
         Ok(answered)
     }

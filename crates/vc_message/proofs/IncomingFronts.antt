@@ -1,21 +1,22 @@
 -- What is taken of a reader whose bytes are known: the message that is first of them, or their first fault.
 use Rattle.std.proofs.Common.{◌≡◌, ℕ, List, [], ◌∷◌, ◌++◌, length, Option, Some, None, Result, Ok, Err, refl, ap, sym, ◌∙◌, subst, arith, append_assoc, ◌⊎◌, inl, inr}
-use Rattle.std.specs.Global.{Global}
-use Rattle.std.specs.Prelude.{Vec, IfOk, IfErr, IfSome, IfNone}
+use Rattle.std.specs.Prelude.{IfOk, IfErr, IfSome, IfNone}
 use Rattle.std.proofs.lemmas.List.{append-nil}
 use Rattle.vc_object.proofs.Texts.{agreeing}
 use Rattle.vc_pkt.specs.Line.{LineText, IsLines, short}
 use Rattle.vc_pkt.specs.Message.{Steps, Begins, IsSpelledBy, GivenBy, FirstFault, cut, bad_length, wrong_line, byte_behind}
 use Rattle.vc_pkt.specs.declared.fault.PktFault.{PktFault}
 use Rattle.vc_pkt.specs.declared.fault.PktFault.TheVariants.{BadLength, BadRecord, CutMessage, SizeMismatch, TooLarge, TooMany}
-use Rattle.vc_pkt.proofs.FaultLaws.{no_fault}
+use Rattle.vc_pkt.proofs.FaultLaws.{no_fault, one_message}
 use Rattle.vc_pkt.proofs.LineLaws.{bad_more}
-use Rattle.vc_model.specs.Message.{Message}
+use Rattle.vc_model.specs.Message.{Message as Sent}
 use Rattle.vc_message.specs.AnyMessage.{MessageText, any_step, beginning}
-use Rattle.vc_message.specs.Incoming.{Fails, GivesMessage, IsFaultOf, Takes, TakesFault, TakesMessage, TakesNothing}
-use Rattle.vc_message.specs.Machine.{Reads}
+use Rattle.vc_message.specs.AnyView.{message_text}
+use Rattle.vc_message.specs.Incoming.{Fails, GivesMessage, IsFaultOf, Takes, TakesFault, TakesMessage, TakesNothing, TakesText}
+use Rattle.vc_message.specs.Machine.{Reads, TextOf}
 use Rattle.vc_message.specs.declared.incoming_fault.IncomingFault.{IncomingFault}
 use Rattle.vc_message.specs.declared.incoming_fault.IncomingFault.TheVariants.{Failed, Memory, Unread}
+use Rattle.vc_message.specs.declared.message.Message.{Message}
 use Rattle.vc_message.proofs.AnyLaws.{any_given, any_spelled}
 use Rattle.vc_message.proofs.MachineTexts.{text_is}
 
@@ -92,19 +93,21 @@ module _ {S M : Type 0} (step : Steps S M) (start : S) where
 
 -- ---- any kind
 abbrev Answer : Type 0
-Answer = Result (Option (Vec ℕ Global)) IncomingFault
+Answer = Result (Option Message) IncomingFault
 
--- bytes that are a message of any kind are read as one
-pub read_as : (bytes : List ℕ) → ((t : MessageText) × IsSpelledBy (GivenBy any_step beginning) t bytes) → (m : Message) × Reads bytes m
-read_as bytes (t, (lines, each, e)) =
+-- what the lines give
+abbrev TakesGiven : Option (List ℕ) → Option (List ℕ) → Answer → Type 0
+TakesGiven old new r = IfOk r (λ taken. IfSome taken (λ message. TakesText any_step beginning (GivenBy any_step beginning) old new (message_text message)))
+
+-- bytes that are given by lines of a message are a message of the machine
+taken_as : (old new : Option (List ℕ)) (t : MessageText) → TakesText any_step beginning (GivenBy any_step beginning) old new t → TakesMessage old new t
+taken_as old new t (bytes, taken, (lines, each, e)) =
     let s = any_spelled t lines e in
-    let m = text_is t lines s in
-    (m.0, record { text = t; is = m.1; spelled = (lines, each, s) })
+    ((bytes, taken, (lines, each, s)), text_is t lines s)
 
 module _ (old new : Option (List ℕ)) where
-  pub message_taken : (r : Answer) → IfOk r (λ taken. IfSome taken (λ bytes. Takes any_step beginning old new bytes.items × ((t : MessageText) × IsSpelledBy (GivenBy any_step beginning) t bytes.items)))
-      → IfOk r (λ taken. IfSome taken (λ bytes. TakesMessage old new bytes.items))
-  message_taken (Ok (Some bytes)) h = (h.0, read_as bytes.items h.1)
+  pub message_taken : (r : Answer) → TakesGiven old new r → IfOk r (λ taken. IfSome taken (λ message. TakesMessage old new (message_text message)))
+  message_taken (Ok (Some message)) h = taken_as old new (message_text message) h
   message_taken (Ok None) h = tt
   message_taken (Err e) h = tt
 
@@ -118,24 +121,30 @@ module _ (old new : Option (List ℕ)) where
       by (Some bytes) Failed h = tt
       by (Some bytes) Memory h = tt
 
-module _ (new : Option (List ℕ)) (bytes rest : List ℕ) (m : Message) (reads : Reads bytes m) where
+module _ (new : Option (List ℕ)) (bytes rest : List ℕ) (m : Sent) (reads : Reads bytes m) where
   gives_lines : IsSpelledBy (GivenBy any_step beginning) reads.text bytes
   gives_lines = let s = reads.spelled in (s.0, s.1, any_given reads.text s.0 s.2)
 
-  by_answer : (r : Answer) → IfOk r (λ taken. IfSome taken (λ b. Takes any_step beginning (Some (bytes ++ rest)) new b.items × ((t : MessageText) × IsSpelledBy (GivenBy any_step beginning) t b.items)))
-      → IfOk r (λ taken. IfNone taken (TakesNothing (Some (bytes ++ rest)) new)) → IfErr r (Fails any_step beginning (Some (bytes ++ rest)) new) → GivesMessage bytes rest new r
-  by_answer (Ok (Some taken)) h none fault =
-      let g = gives_lines in one_message_taken any_step beginning bytes rest reads.text g.0 g.1 g.2 new taken.items h.1.0 h.0 h.1.1
+  -- what is taken is the text that the bytes spell
+  given_text : (t : MessageText) → TakesText any_step beginning (GivenBy any_step beginning) (Some (bytes ++ rest)) new t → TextOf m t × (new ≡ Some rest)
+  given_text t (taken, takes, given) =
+      let g = gives_lines in
+      let end = one_message_taken any_step beginning bytes rest reads.text g.0 g.1 g.2 new taken t takes given in
+      let same = one_message any_step beginning bytes reads.text g.0 g.1 g.2 t (subst (λ b. IsSpelledBy (GivenBy any_step beginning) t b) end.0 given) in
+      (subst (λ x. TextOf m x) same reads.is, end.1)
+
+  by_answer : (r : Answer) → TakesGiven (Some (bytes ++ rest)) new r → IfOk r (λ taken. IfNone taken (TakesNothing (Some (bytes ++ rest)) new)) → IfErr r (Fails any_step beginning (Some (bytes ++ rest)) new)
+      → GivesMessage m rest new r
+  by_answer (Ok (Some message)) h none fault = given_text (message_text message) h
   by_answer (Ok None) h none fault = let g = gives_lines in not_nothing any_step beginning bytes rest reads.text g.0 g.1 g.2 new none
   by_answer (Err (Unread f)) h none fault = let g = gives_lines in absurd (no_fault_taken any_step beginning bytes rest reads.text g.0 g.1 g.2 new f fault)
   by_answer (Err Failed) h none fault = tt
   by_answer (Err Memory) h none fault = tt
 
   pub known_message : (old : Option (List ℕ)) (r : Answer) → old ≡ Some (bytes ++ rest)
-      → IfOk r (λ taken. IfSome taken (λ b. Takes any_step beginning old new b.items × ((t : MessageText) × IsSpelledBy (GivenBy any_step beginning) t b.items)))
-      → IfOk r (λ taken. IfNone taken (TakesNothing old new)) → IfErr r (Fails any_step beginning old new) → GivesMessage bytes rest new r
+      → TakesGiven old new r → IfOk r (λ taken. IfNone taken (TakesNothing old new)) → IfErr r (Fails any_step beginning old new) → GivesMessage m rest new r
   known_message old r is h none fault =
       by_answer r
-      (subst (λ o. IfOk r (λ taken. IfSome taken (λ b. Takes any_step beginning o new b.items × ((t : MessageText) × IsSpelledBy (GivenBy any_step beginning) t b.items)))) is h)
+      (subst (λ o. TakesGiven o new r) is h)
       (subst (λ o. IfOk r (λ taken. IfNone taken (TakesNothing o new))) is none)
       (subst (λ o. IfErr r (Fails any_step beginning o new)) is fault)

@@ -1,5 +1,5 @@
 -- A message from a reader, line by line: for the loop that takes it.
-use Rattle.std.proofs.Common.{◌≡◌, ◌≢◌, ℕ, ◌+◌, ◌-◌, List, [], ◌∷◌, ◌++◌, length, drop, Result, Ok, Err, refl, ap, sym, ◌∙◌, subst, arith, append_assoc, length-append, ◌⊎◌, inl, inr}
+use Rattle.std.proofs.Common.{◌≡◌, ◌≢◌, ℕ, ◌+◌, ◌-◌, ◌≤◌, List, [], ◌∷◌, ◌++◌, length, Result, Ok, Err, refl, ap, sym, ◌∙◌, subst, arith, append_assoc, length-append, ◌⊎◌, inl, inr}
 use Rattle.std.specs.Prelude.{Option}
 use Rattle.std.specs.Io.KnownBytes.{Consumes, IsAtEnd}
 use Rattle.std.proofs.KnownBytes.{Consumes-nil, Consumes-trans}
@@ -7,36 +7,37 @@ use Rattle.std.proofs.lemmas.List.{append-nil}
 use Rattle.vc_object.proofs.Texts.{agreeing}
 use Rattle.vc_pkt.specs.Faults.{FaultAt}
 use Rattle.vc_pkt.specs.Line.{LineText, IsLine, IsLines, IsPart, short, begun}
-use Rattle.vc_pkt.specs.Message.{Stepped, onward, complete, Steps, going, run, IsOwnFault, IsSpelledBy, GivenBy, cut}
+use Rattle.vc_pkt.specs.Message.{Stepped, onward, complete, Steps, going, run, IsOwnFault, GivenBy, cut}
 use Rattle.vc_pkt.specs.StepView.{Gives}
 use Rattle.vc_pkt.specs.declared.fault.PktFault.{PktFault}
 use Rattle.vc_pkt.specs.declared.fault.PktFault.TheVariants.{CutMessage}
 use Rattle.vc_pkt.specs.declared.fault.PktError.{PktError}
 use Rattle.vc_pkt.specs.declared.fault.PktError.TheVariants as errors
 use Rattle.vc_pkt.proofs.LineLaws.{line_no_bad, line_no_part, line_once, part_no_bad}
-use Rattle.vc_pkt.proofs.MessageLaws.{SoFar, at_start, line_length, not_cut, on_done, on_error, on_more, on_no_line}
-use Rattle.vc_message.proofs.IncomingLines.{read_behind}
-use Rattle.vc_message.specs.Incoming.{IsBegun, IsLineOf, whole, wrong, ended, IsLoss, IsWithinLine, Takes, TakesFault, TakesWithinLine, Fails}
+use Rattle.vc_pkt.proofs.MessageLaws.{SoFar, at_start, not_cut, on_done, on_error, on_more, on_no_line}
+use Rattle.vc_message.specs.Incoming.{IsBegun, IsLineOf, whole, wrong, ended, IsLoss, IsWithinLine, Takes, TakesFault, TakesText, TakesWithinLine, Fails}
 use Rattle.vc_message.specs.IncomingFault.{of_pkt}
 use Rattle.vc_message.specs.declared.incoming_fault.IncomingFault.{IncomingFault}
 use Rattle.vc_message.specs.declared.incoming_fault.IncomingFault.TheVariants.{Failed, Memory, Unread}
 
-nil_right : (x y : List ℕ) → x ++ y ≡ [] → y ≡ []
-nil_right [] y e = e
-nil_right (b ∷ x) y e = cc e
+no_length : (xs : List ℕ) → length xs ≡ 0 → xs ≡ []
+no_length [] e = refl
+no_length (x ∷ xs) e = absurd (omega (arith, e))
 
 -- the bytes of a line are that line
-line_here : (new : Option (List ℕ)) (line : LineText) (read spelled more : List ℕ) → IsLineOf new read → IsLine line spelled → read ≡ spelled ++ more → IsLine line read
+pub line_here : (new : Option (List ℕ)) (line : LineText) (read spelled more : List ℕ) → IsLineOf new read → IsLine line spelled → read ≡ spelled ++ more → IsLine line read
 line_here new line read spelled more (whole other is) h e =
     subst (λ t. IsLine line t) (line_once line other spelled read more [] h is (sym e ∙ sym (append-nil read))).1 h
 line_here new line read spelled more (wrong bad) h e = absurd (line_no_bad line spelled more read h e bad)
 line_here new line read spelled more (ended part end) h e = absurd (line_no_part line spelled more read h e part)
 
--- the same where it is found behind what there was before
-pub line_behind : (new : Option (List ℕ)) (line : LineText) (before read now behind spelled more : List ℕ) (start : ℕ) → start ≡ length before → behind ≡ drop start now → now ≡ before ++ read
-    → IsLineOf new read → IsLine line spelled → behind ≡ spelled ++ more → IsLine line read
-line_behind new line before read now behind spelled more start here is e l h found =
-    line_here new line read spelled more l h (sym (read_behind before read now behind start here is e) ∙ found)
+-- in a buffer that was empty, what was read is all
+pub in_empty : (before read now : List ℕ) → before ≡ [] → now ≡ before ++ read → now ≡ read
+in_empty before read now none e = e ∙ ap (λ t. t ++ read) none
+
+-- the place behind what was read
+pub end_is : (place end len : ℕ) (now read : List ℕ) → end ≡ place + len → len ≡ length now → now ≡ read → end ≡ place + length read
+end_is place end len now read e long same = e ∙ ap (λ n. place + n) (long ∙ ap length same)
 
 -- where less than a line was read, the reader has no more
 at_end : (new : Option (List ℕ)) (read : List ℕ) → IsLineOf new read → IsPart read → IsAtEnd new
@@ -103,14 +104,15 @@ module _ {S M : Type 0} (step : Steps S M) (line_faults : (number : ℕ) (state 
       (step number s l) refl goes
 
   module _ (start : S) where
-    -- the lines that were taken lead to the state
-    pub record TakenSoFar (old now : Option (List ℕ)) (bytes : List ℕ) (number : ℕ) (s : S) : Type 0 where
+    -- the bytes that were taken are lines, which lead to the state
+    pub record TakenSoFar (old now : Option (List ℕ)) (place number : ℕ) (s : S) : Type 0 where
+      pub bytes : List ℕ
+      pub here : place ≡ length bytes
       pub so : SoFar step start bytes [] number s
       pub consumed : Consumes old now bytes
 
-    pub none_taken : (old : Option (List ℕ)) (bytes : List ℕ) (s : S) → bytes ≡ [] → s ≡ start → TakenSoFar old old bytes 0 s
-    none_taken old bytes s none is =
-        subst (λ t. TakenSoFar old old bytes 0 t) (sym is) (subst (λ t. TakenSoFar old old t 0 start) (sym none) (record { so = at_start step start []; consumed = Consumes-nil old }))
+    pub none_taken : (old : Option (List ℕ)) (s : S) → s ≡ start → TakenSoFar old old 0 0 s
+    none_taken old s is = subst (λ t. TakenSoFar old old 0 0 t) (sym is) (record { bytes = []; here = refl; so = at_start step start []; consumed = Consumes-nil old })
 
     widened : (bytes read : List ℕ) (number : ℕ) (s : S) → SoFar step start bytes [] number s → SoFar step start (bytes ++ read) read number s
     widened bytes read number s so = record {
@@ -127,64 +129,71 @@ module _ {S M : Type 0} (step : Steps S M) (line_faults : (number : ℕ) (state 
         let c = cut_before so.lines 0 start so.begins.front read front more so.begins.each within goes (ap (λ t. t ++ read) (sym (so.begins.whole ∙ append-nil so.begins.front)) ∙ e) some in
         cut c.lines c.rest (record { front = c.front; each = c.each; whole = c.is }) c.goes c.part refl
 
-    module _ (old now new : Option (List ℕ)) (bytes read all : List ℕ) (number : ℕ) (s : S) (so : TakenSoFar old now bytes number s) (took : TakesWithinLine now new read) where
-      takes_more : Takes step start old new (bytes ++ read)
-      takes_more = record { consumed = Consumes-trans old now new bytes read so.consumed took.0; needed = needed bytes read number s so.so took.1 }
+    module _ (old now new : Option (List ℕ)) (read : List ℕ) (place number : ℕ) (s : S) (so : TakenSoFar old now place number s) (took : TakesWithinLine now new read) where
+      abbrev all : List ℕ
+      all = so.bytes ++ read
+
+      takes_more : Takes step start old new all
+      takes_more = record { consumed = Consumes-trans old now new so.bytes read so.consumed took.0; needed = needed so.bytes read number s so.so took.1 }
 
       -- the reader failed, or memory was short
       pub on_loss : (e : IncomingFault) → IsLoss e → Fails step start old new e
-      on_loss Memory lost = (bytes ++ read, takes_more)
-      on_loss Failed lost = (bytes ++ read, takes_more)
+      on_loss Memory lost = (all, takes_more)
+      on_loss Failed lost = (all, takes_more)
       on_loss (Unread f) lost = absurd lost
 
-      module _ (is : all ≡ bytes ++ read) (line : IsLineOf new read) where
-        takes_all : Takes step start old new all
-        takes_all = subst (λ t. Takes step start old new t) (sym is) takes_more
+      there : SoFar step start all read number s
+      there = widened so.bytes read number s so.so
 
-        there : SoFar step start all read number s
-        there = subst (λ t. SoFar step start t read number s) (sym is) (widened bytes read number s so.so)
+      long : length all ≡ place + length read
+      long = length-append so.bytes read ∙ ap (λ n. n + length read) (sym so.here)
 
-        place_is : length all - length read ≡ length bytes
-        place_is = let len = ap length is ∙ length-append bytes read in omega (arith, len)
+      -- as many lines as came are no more than the bytes that came
+      pub few_lines : number ≤ place
+      few_lines = let room = so.so.room in let here = so.here in omega (arith, room, here)
 
+      module _ (line : IsLineOf new read) where
         -- nothing came
-        pub on_nothing : all ≡ [] → Consumes old new [] × IsAtEnd new
+        pub on_nothing : place + length read ≡ 0 → Consumes old new [] × IsAtEnd new
         on_nothing none =
-            let no_read = nil_right bytes read (sym is ∙ none) in
-            (subst (λ t. Consumes old new t) none takes_all.consumed, at_end new read line (subst IsPart (sym no_read) (short (omega arith))))
+            let empty = no_length all (long ∙ none) in
+            (subst (λ t. Consumes old new t) empty takes_more.consumed, at_end new read line (short (omega (arith, none))))
 
-        -- what came is no line
-        pub on_no_line_read : (place : ℕ) (f : PktFault) → place ≡ length bytes → all ≢ [] → FaultAt place read f → TakesFault step start old new f
-        on_no_line_read place f here some h = record {
-          bytes = all;
-          taken = takes_all;
-          some = some;
-          first = on_no_line step start all read number s there f (subst (λ n. FaultAt n read f) (here ∙ sym place_is) h);
-          end = λ e. at_end new read line (subst (λ g. FaultAt place read g) e h);
-        }
+        module _ (some : place + length read ≢ 0) where
+          some_bytes : all ≢ []
+          some_bytes none = some (sym long ∙ ap length none)
 
-        module _ (l : LineText) (h : IsLine l read) where
-          whole_line : read ≡ read ++ []
-          whole_line = sym (append-nil read)
+          -- what came is no line
+          pub on_no_line_read : (f : PktFault) → FaultAt place read f → TakesFault step start old new f
+          on_no_line_read f h =
+              let same : place ≡ length all - length read = omega (arith, long) in
+              record {
+                bytes = all;
+                taken = takes_more;
+                some = some_bytes;
+                first = on_no_line step start all read number s there f (subst (λ n. FaultAt n read f) same h);
+                end = λ e. at_end new read line (subst (λ g. FaultAt place read g) e h);
+              }
 
-          some_read : all ≢ []
-          some_read none = let four = line_length l read h in let len = ap length (nil_right bytes read (sym is ∙ none)) in omega (arith, four, len)
+          module _ (l : LineText) (h : IsLine l read) where
+            whole_line : read ≡ read ++ []
+            whole_line = sym (append-nil read)
 
-          -- the line is refused, or memory is short
-          pub on_refusal : {X : Type 0} (view : X → Stepped S M) (e : PktError) → Gives view (Err e) (step number s l) → Fails step start old new (of_pkt e)
-          on_refusal view errors.Memory g = (all, takes_all)
-          on_refusal view (errors.Refused f) g = record {
-            bytes = all;
-            taken = takes_all;
-            some = some_read;
-            first = on_error step start all read number s there l read [] h whole_line line_faults view (errors.Refused f) g;
-            end = λ e. absurd (not_cut step f (subst IsOwnFault g (line_faults number s l)) e);
-          }
+            -- the line is refused, or memory is short
+            pub on_refusal : {X : Type 0} (view : X → Stepped S M) (e : PktError) → Gives view (Err e) (step number s l) → Fails step start old new (of_pkt e)
+            on_refusal view errors.Memory g = (all, takes_more)
+            on_refusal view (errors.Refused f) g = record {
+              bytes = all;
+              taken = takes_more;
+              some = some_bytes;
+              first = on_error step start all read number s there l read [] h whole_line line_faults view (errors.Refused f) g;
+              end = λ e. absurd (not_cut step f (subst IsOwnFault g (line_faults number s l)) e);
+            }
 
-          -- the message is whole
-          pub on_last : (m : M) → step number s l ≡ Ok (complete m) → Takes step start old new all × ((message : M) × IsSpelledBy (GivenBy step start) message all)
-          on_last m e = (takes_all, (m, on_done step start all read number s there l read [] h whole_line m e refl))
+            -- the message is whole
+            pub on_last : (m : M) → step number s l ≡ Ok (complete m) → TakesText step start (GivenBy step start) old new m
+            on_last m e = (all, takes_more, on_done step start all read number s there l read [] h whole_line m e refl)
 
-          -- more lines are to come
-          pub on_next : (t : S) → step number s l ≡ Ok (onward t) → TakenSoFar old new all (number + 1) t
-          on_next t e = record { so = on_more step start all read number s there l read [] h whole_line t e; consumed = takes_all.consumed }
+            -- more lines are to come
+            pub on_next : (t : S) → step number s l ≡ Ok (onward t) → TakenSoFar old new (place + length read) (number + 1) t
+            on_next t e = record { bytes = all; here = sym long; so = on_more step start all read number s there l read [] h whole_line t e; consumed = takes_more.consumed }

@@ -1,16 +1,17 @@
 -- One message from a reader: what is taken of the reader's bytes, and why no message came.
-use Rattle.std.specs.Global.{Global}
-use Rattle.std.specs.Prelude.{Vec, ◌≡◌, ◌≢◌, ◌+◌, ◌<◌, ◌≤◌, ℕ, List, [], ◌++◌, length, Option, Some, None, Result, Ok, Err}
+use Rattle.std.specs.Prelude.{◌≡◌, ◌≢◌, ◌+◌, ◌<◌, ◌≤◌, ℕ, List, [], ◌++◌, length, Option, Some, None, Result, Ok, Err}
 use Rattle.std.specs.Io.KnownBytes.{Consumes, IsAtEnd}
 use Rattle.vc_pkt.specs.Line.{LineText, IsBad, IsLength, IsLine, IsPart}
-use Rattle.vc_pkt.specs.Message.{FirstFault, Steps}
+use Rattle.vc_pkt.specs.Message.{FirstFault, IsSpelledBy, Steps}
 use Rattle.vc_pkt.specs.declared.fault.PktFault.{PktFault}
 use Rattle.vc_pkt.specs.declared.fault.PktFault.TheVariants.{CutMessage}
-use Rattle.vc_model.specs.Message.{Message}
-use Rattle.vc_message.specs.AnyMessage.{any_step, beginning}
-use Rattle.vc_message.specs.Machine.{Reads}
+use Rattle.vc_model.specs.Message.{Message as Sent}
+use Rattle.vc_message.specs.AnyMessage.{MessageText, SpellsMessage, any_step, beginning}
+use Rattle.vc_message.specs.AnyView.{message_text}
+use Rattle.vc_message.specs.Machine.{TextOf}
 use Rattle.vc_message.specs.declared.incoming_fault.IncomingFault.{IncomingFault}
 use Rattle.vc_message.specs.declared.incoming_fault.IncomingFault.TheVariants.{Failed, Memory, Unread}
+use Rattle.vc_message.specs.declared.message.Message.{Message}
 
 -- ---- a line
 -- how many bytes a line has behind these, the first four of it; none where they are fewer, a line, or no line's
@@ -68,16 +69,20 @@ module _ {S M : Type 0} (step : Steps S M) (start : S) where
   Fails old new Failed = (bytes : List ℕ) × Takes old new bytes
   Fails old new Memory = (bytes : List ℕ) × Takes old new bytes
 
--- a message of any kind was taken
-abbrev pub TakesMessage : Option (List ℕ) → Option (List ℕ) → List ℕ → Type 0
-TakesMessage old new bytes = Takes any_step beginning old new bytes × ((m : Message) × Reads bytes m)
+-- the reader gave bytes, each was needed, and they spell the message
+abbrev pub TakesText : {S M : Type 0} (step : Steps S M) (start : S) → (M → List LineText → Type 0) → Option (List ℕ) → Option (List ℕ) → M → Type 0
+TakesText step start Spells old new text = (bytes : List ℕ) × Takes step start old new bytes × IsSpelledBy Spells text bytes
 
--- the answer where these bytes are a message and the reader has them first: they are taken and what is behind them is left, or the
--- reader failed, or memory was short
-abbrev pub GivesMessage : List ℕ → List ℕ → Option (List ℕ) → Result (Option (Vec ℕ Global)) IncomingFault → Type 0
-GivesMessage bytes rest new (Ok (Some taken)) = (taken.items ≡ bytes) × (new ≡ Some rest)
-GivesMessage bytes rest new (Ok None) = ⊥
-GivesMessage bytes rest new (Err fault) = IsLoss fault
+-- a message of any kind was taken, which is one of the machine
+abbrev pub TakesMessage : Option (List ℕ) → Option (List ℕ) → MessageText → Type 0
+TakesMessage old new text = TakesText any_step beginning SpellsMessage old new text × ((m : Sent) × TextOf m text)
+
+-- the answer where a message is what the reader has first: it is given and what is behind it is left, or the reader failed, or memory
+-- was short
+abbrev pub GivesMessage : Sent → List ℕ → Option (List ℕ) → Result (Option Message) IncomingFault → Type 0
+GivesMessage m rest new (Ok (Some message)) = TextOf m (message_text message) × (new ≡ Some rest)
+GivesMessage m rest new (Ok None) = ⊥
+GivesMessage m rest new (Err fault) = IsLoss fault
 
 -- where the bytes of the reader are known, a fault is the first of all of them
 abbrev pub IsFaultOf : Option (List ℕ) → IncomingFault → Type 0

@@ -5,14 +5,16 @@ ghost use Rattle.std.specs.Io.KnownBytes.{Consumes, IsAtEnd, Keeps};
 ghost use Rattle.vc_pkt.specs.Faults.{FaultAt};
 ghost use Rattle.vc_pkt.specs.Line.{IsLength, IsLine};
 ghost use Rattle.vc_pkt.specs.LineView.{line_text};
-ghost use Rattle.vc_pkt.specs.Message.{GivenBy, IsSpelledBy};
-ghost use Rattle.vc_model.specs.Message.{Message};
+ghost use Rattle.vc_pkt.specs.Message.{GivenBy};
+ghost use Rattle.vc_model.specs.Message.{Message as Sent};
 ghost use Rattle.vc_message.specs.AnyMessage.{any_step, beginning};
+ghost use Rattle.vc_message.specs.AnyView.{message_text};
 ghost use Rattle.vc_message.specs.Machine.{Reads};
-ghost use Rattle.vc_message.specs.Incoming.{Fails, IsLineOf, IsLoss, IsRest, IsWithinLine, GivesMessage, IsFaultOf, Takes, TakesMessage, TakesNothing, TakesWithinLine};
+ghost use Rattle.vc_message.specs.Incoming.{Fails, GivesMessage, IsFaultOf, IsLineOf, IsLoss, IsRest, TakesMessage, TakesNothing, TakesText, TakesWithinLine};
 ghost use Rattle.vc_message.specs.declared.incoming_fault.IncomingFault.TheVariants.{Failed};
 
 use crate::incoming_fault::IncomingFault;
+use crate::message::Message;
 use crate::reader::AnyReader;
 use hex::FromHex;
 use std::alloc::Global;
@@ -153,47 +155,53 @@ fn line_at(bytes: &[u8], place: u64) -> Result<Line<'_>, PktFault>
     }
 }
 
-/// Takes the bytes of one message that this kind of reader reads.
+/// Takes one message that this kind of reader reads. Of its bytes one line is held at a time.
 fn take_message<M: MessageReader, R: Read>(
     alloc: Global,
     reader: &mut R,
-) -> Result<Option<Vec<u8>>, IncomingFault>
-    ensures message { IfOk result (λ taken. IfSome taken (λ bytes. Takes M.step M.start (R.remaining reader.old) (R.remaining reader.new) bytes.items × ((message : M.Text) × IsSpelledBy (GivenBy M.step M.start) message bytes.items))) }
+) -> Result<Option<M::Message>, IncomingFault>
+    ensures message { IfOk result (λ taken. IfSome taken (λ message. TakesText M.step M.start (GivenBy M.step M.start) (R.remaining reader.old) (R.remaining reader.new) (M.text_of message))) }
     ensures end { IfOk result (λ taken. IfNone taken (TakesNothing (R.remaining reader.old) (R.remaining reader.new))) }
     ensures fault { IfErr result (Fails M.step M.start (R.remaining reader.old) (R.remaining reader.new)) }
 {
-    let mut bytes = Vec::new(alloc);
+    let mut line = Vec::new(alloc);
+    let mut place = 0u64;
     let mut number = 0u64;
     let mut state = M::new(alloc);
     'lines: loop {
-        let start = bytes.len();
-        push_line(reader, &mut bytes)?;
-        if bytes.is_empty() {
+        line.clear();
+        push_line(reader, &mut line)?;
+        let Some(end) = place.checked_add(line.len() as u64) else {
+            return Err(IncomingFault::Failed);
+        };
+        if end == 0 {
             return Ok(None);
         }
-        let line = line_at(behind(&bytes, start), start as u64)?;
-        match state.take(alloc, line, number)? {
+        let found = line_at(line.as_slice(), place)?;
+        match state.take(alloc, found, number)? {
             Step::More(next) => state = next,
-            Step::Done(_) => return Ok(Some(bytes)),
+            Step::Done(message) => return Ok(Some(message)),
         }
+        place = end;
         number += 1;
     }
 }
 
-/// The bytes of the next message, and no byte behind it is taken from the reader; none where the reader is at its end before the
-/// first byte. However the reader cuts the bytes, the answer is the same. Each line is asked for in two reads, its first four bytes
-/// and its rest, so that a reader to which a read is dear should be buffered.
+/// The next message, and no byte behind it is taken from the reader; none where the reader is at its end before the first byte.
+/// However the reader cuts the bytes, the answer is the same. Each line is asked for in two reads, its first four bytes and its
+/// rest, so that a reader to which a read is dear should be buffered.
 ///
 /// Bytes that are no message are refused with their first fault as soon as it has come, and 83 where the reader ends before the
-/// message: what is held is no more than a message may have, and one line. What was read of a message that isn't given is lost.
+/// message: what is held is what was read of the message so far, and the bytes of one line. What was read of a message that isn't
+/// given is lost.
 pub fn read_message<R: Read>(
     alloc: Global,
     reader: &mut R,
-) -> Result<Option<Vec<u8>>, IncomingFault>
-    ensures message { IfOk result (λ taken. IfSome taken (λ bytes. TakesMessage (R.remaining reader.old) (R.remaining reader.new) bytes.items)) }
+) -> Result<Option<Message>, IncomingFault>
+    ensures message { IfOk result (λ taken. IfSome taken (λ message. TakesMessage (R.remaining reader.old) (R.remaining reader.new) (message_text message))) }
     ensures end { IfOk result (λ taken. IfNone taken (TakesNothing (R.remaining reader.old) (R.remaining reader.new))) }
     ensures fault { IfErr result (Fails any_step beginning (R.remaining reader.old) (R.remaining reader.new)) }
-    ensures known { (m : Message) (bytes rest : List ℕ) → R.remaining reader.old ≡ Some (bytes ++ rest) → Reads bytes m → GivesMessage bytes rest (R.remaining reader.new) result }
+    ensures known { (m : Sent) (bytes rest : List ℕ) → R.remaining reader.old ≡ Some (bytes ++ rest) → Reads bytes m → GivesMessage m rest (R.remaining reader.new) result }
     ensures unread { IfErr result (IsFaultOf (R.remaining reader.old)) }
 {
     take_message::<AnyReader, R>(alloc, reader)

@@ -1,7 +1,6 @@
 -- What a call of a clone leads to that sends or takes messages or asks for a value: at a node that is down, for a fault, a refusal
--- and a message that is sent; and a fault that went through the call that takes the node down.
-use Rattle.std.proofs.Common.{◌≡◌, ◌≢◌, ℕ, Bool, true, false, List, Option, Some, None, Result, Err, refl, sym, subst, ◌⊎◌, inl, inr}
-use Rattle.vc_files.specs.Failures.{Wears}
+-- and a message that is sent.
+use Rattle.std.proofs.Common.{◌≡◌, ◌≢◌, ℕ, Bool, true, false, List, Option, Some, None, refl, sym, subst}
 use Rattle.vc_files.specs.FileMap.{FileMap}
 use Rattle.vc_files.specs.declared.faults.Fault.{Fault as FilesFault}
 use Rattle.vc_message.specs.Machine.{IsWritten}
@@ -18,12 +17,10 @@ use Rattle.vc_rules.proofs.JoinLemmas.{none_added}
 use Rattle.vc_rules.specs.Git.{git}
 use Rattle.vc_rules.specs.OpenPushes.{HoldsContent}
 use Rattle.vc_node.specs.Awaited.{AwaitedText, IsAwaited}
-use Rattle.vc_node.specs.Clean.{KeepsClean}
 use Rattle.vc_node.specs.CloneCalls.{AnswersClone, Quietly, SendsBytes}
-use Rattle.vc_node.specs.CloneFaults.{IsOfDevice, fault_answer, of_device}
+use Rattle.vc_node.specs.CloneFaults.{fault_answer, of_device}
 use Rattle.vc_node.specs.Machine.{HoldsNode, Spells, failure_of}
 use Rattle.vc_node.specs.Shown.{shown}
-use Rattle.vc_node.specs.declared.clone_fault.CloneFault.{CloneFault}
 
 -- what is shown of a repository is its content
 pub held_content : (content : FileMap) (r : Repository) → Spells (shown content) r → HoldsContent content r
@@ -102,22 +99,3 @@ down_clone call other old new waits after was_up is_up files same up was =
         λ sound. CloneAnswers.down held.shows.live other refl refl refl,
       );
     })
-
--- ---- a fault went through the call that takes the node down
-module _ {T : Type 0} (call : CloneCall) (Shows : Result T CloneFault → Answer → Option Message → Type 0) (old mid new : FileMap) (waits mids after : AwaitedText) (was_up is_up : Bool) where
-  pub answers_through : (e told : CloneFault) → told ≡ e → new ≡ mid → after ≡ mids → AnswersClone call (Shows (Err e)) old mid waits mids was_up is_up → AnswersClone call (Shows (Err told)) old new waits after was_up is_up
-  answers_through e told is files same answers =
-      subst (λ (f : CloneFault). AnswersClone call (Shows (Err f)) old new waits after was_up is_up) (sym is)
-      (as_told call (Shows (Err e)) old mid new waits mids after was_up is_up was_up is_up files same refl refl answers)
-
-pub told_as : (P : CloneFault → Type 0) (e told : CloneFault) → told ≡ e → P e → P told
-told_as P e told is holds = subst P (sym is) holds
-
-pub clean_through : (old mid new : FileMap) → new ≡ mid → KeepsClean old mid → KeepsClean old new
-clean_through old mid new files keeps = subst (λ (m : FileMap). KeepsClean old m) (sym files) keeps
-
-module _ {D : Type 0} {failed : D → ℕ} {can_fail : D → Type 0} {left : D → Option ℕ} {old mid new : D} {May : Type 0} (e told : CloneFault) (is : told ≡ e) (files : new ≡ mid) where
-  pub looks_through : May ⊎ Wears failed can_fail left old mid (IsOfDevice e) → May ⊎ Wears failed can_fail left old new (IsOfDevice told)
-  looks_through (inl may) = inl may
-  looks_through (inr looks) =
-      inr (subst (λ (f : CloneFault). Wears failed can_fail left old new (IsOfDevice f)) (sym is) (subst (λ (d : D). Wears failed can_fail left old d (IsOfDevice e)) (sym files) looks))

@@ -21,6 +21,7 @@ pub mod ReceivingClone
 pub mod ReceivingFaults
 pub mod RefusalLemmas
 pub mod RestartLemmas
+pub mod SettledLemmas
 pub mod ShownLemmas
 pub mod SoundAnswers
 pub mod StartLemmas

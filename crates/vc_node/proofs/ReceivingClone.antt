@@ -6,7 +6,6 @@ use Rattle.std.specs.FinMap.{get}
 use Rattle.vc_exchange.specs.Deeds.{HoldsHead, IsCutShort, IsReceived}
 use Rattle.vc_exchange.specs.Deeds.IsCutShort.{at_first, within}
 use Rattle.vc_exchange.specs.Storing.{KeepsBeside}
-use Rattle.vc_files.specs.Failures.{Wears}
 use Rattle.vc_files.specs.FileMap.{FileMap, SameOutside}
 use Rattle.vc_format.specs.Git.{bytes_of_id, id_of_bytes}
 use Rattle.vc_model.specs.Clone.{Awaited, CloneNode}
@@ -27,11 +26,11 @@ use Rattle.vc_refs.specs.declared.heads.Head.TheVariants as heads
 use Rattle.vc_rules.specs.OpenPushes.{HoldsContent}
 use Rattle.vc_session.proofs.FrameLemmas.{head-same}
 use Rattle.vc_session.specs.Clean.{MakesNoneBad}
-use Rattle.vc_node.proofs.CloneCallLemmas.{Leads, looks_through}
+use Rattle.vc_node.proofs.CloneCallLemmas.{Leads}
 use Rattle.vc_node.specs.Awaited.{AwaitedText, IsAwaited}
 use Rattle.vc_node.specs.Clean.{IsClean, KeepsClean}
 use Rattle.vc_node.specs.CloneCalls.{AnswersUp, MayOr, ReceivedAs}
-use Rattle.vc_node.specs.CloneFaults.{IsOfDevice, up_after}
+use Rattle.vc_node.specs.CloneFaults.{up_after}
 use Rattle.vc_node.specs.IndexFile.{index_bytes}
 use Rattle.vc_node.specs.Machine.{HoldsNode, Spells, machine_head}
 use Rattle.vc_node.specs.Receipts.{IsOfMessage}
@@ -162,13 +161,6 @@ answers_as call old new waits after result told same answers = subst (λ (r : Re
 -- ---- what a method tells of it
 pub may_up : {IsLook : Type 0} (call : CloneCall) (waits : AwaitedText) (content : FileMap) (up : Bool) → up ≡ true → MayOr call waits true content IsLook → MayOr call waits up content IsLook
 may_up call waits content up is may awaited n waiting held = may awaited n waiting (subst (λ (b : Bool). HoldsNode content b awaited n) is held)
-
-pub may_through : {D : Type 0} {failed : D → ℕ} {can_fail : D → Type 0} {left : D → Option ℕ} {old mid new : D} (call : CloneCall) (waits : AwaitedText) (content : FileMap) (up : Bool) (e told : CloneFault) → told ≡ e → new ≡ mid → up ≡ true
-    → MayOr call waits true content (Wears failed can_fail left old mid (IsOfDevice e)) → MayOr call waits up content (Wears failed can_fail left old new (IsOfDevice told))
-may_through call waits content up e told is files was may awaited n waiting held = looks_through e told is files (may_up call waits content up was may awaited n waiting held)
-
-pub kept_through : {P Q : Type 0} (e told : CloneFault) → told ≡ e → (P → Q) → (IsOfMessage e → P) → IsOfMessage told → Q
-kept_through e told is on kept of_message = on (kept (subst IsOfMessage is of_message))
 
 -- where nothing changed
 pub kept_here : {P : Type 0} (q : Result Received CloneFault) → P → IfErr q (λ e. IsOfMessage e → P)

@@ -4,7 +4,6 @@ use Rattle.std.specs.Prelude.{◌≡◌, ◌⊎◌, ℕ, Bool, true, List, Optio
 use Rattle.std.specs.Global.{Global}
 use Rattle.vc_files.specs.FileMap.{FileMap}
 use Rattle.vc_format.specs.Git.{bytes_of_id}
-use Rattle.vc_message.specs.AnyMessage.{MessageText, SpellsMessage}
 use Rattle.vc_message.specs.Machine.{IsWritten}
 use Rattle.vc_model.specs.Clone.{Awaited, CloneNode}
 use Rattle.vc_model.specs.CloneCall.{CloneAnswers, CloneCall}
@@ -15,7 +14,6 @@ use Rattle.vc_model.specs.Node.Answer.{Did}
 use Rattle.vc_model.specs.Node.Reply.{Found, Sends, Stored, Moved as MovedRefs, Reported as ReportedRefs}
 use Rattle.vc_model.specs.Repository.{IsSound}
 use Rattle.vc_object.specs.declared.id.ObjectId.{ObjectId}
-use Rattle.vc_pkt.specs.Message.{IsSpelledBy}
 use Rattle.vc_rules.proofs.GitLaws.{git_rules}
 use Rattle.vc_rules.specs.Git.{git}
 use Rattle.vc_node.specs.Awaited.{AwaitedText, IsAwaited}
@@ -73,7 +71,3 @@ MayOr call waits was_up old IsLook = (awaited : Awaited) (n : CloneNode) → IsA
 -- of a node that is up, whatever state it is in then
 abbrev pub AnswersUp : CloneCall → Result Received CloneFault → FileMap → FileMap → AwaitedText → AwaitedText → Type 0
 AnswersUp call result old new waits after = (was_up is_up : Bool) → was_up ≡ true → is_up ≡ up_after result → AnswersClone call (ReceivedAs result) old new waits after was_up is_up
-
--- some bytes are read as it
-abbrev pub WasRead : MessageText → Type 0
-WasRead text = (bytes : List ℕ) × IsSpelledBy SpellsMessage text bytes

@@ -12,7 +12,7 @@ ghost use Rattle.vc_model.specs.Question.Question.{Unread};
 ghost use Rattle.vc_push.specs.ReportView.{report_text};
 ghost use Rattle.vc_session.specs.Clean.{MakesNoneBad};
 ghost use Rattle.vc_node.specs.Awaited.{awaited_text};
-ghost use Rattle.vc_node.specs.CloneCalls.{AnswersUp, MayOr, WasRead};
+ghost use Rattle.vc_node.specs.CloneCalls.{AnswersUp, MayOr};
 ghost use Rattle.vc_node.specs.CloneFaults.{TellsDevice};
 ghost use Rattle.vc_node.specs.Receipts.{IsOfMessage, IsRefusedBytes, IsRefusedMessage};
 
@@ -95,8 +95,8 @@ fn take_pack<F: Files>(
     })
 }
 
-// The report on a push, at any time.
-fn take_report<F: Files>(
+/// The report on a push, at any time.
+pub(crate) fn take_report<F: Files>(
     alloc: Global,
     files: &mut F,
     awaited: &mut Awaited,
@@ -117,14 +117,13 @@ fn take_report<F: Files>(
     })
 }
 
-// A message that was read. What it takes is awaited no longer; a refusal leaves it awaited.
-fn take<F: Files>(
+/// A message that was read. What it takes is awaited no longer; a refusal leaves it awaited.
+pub(crate) fn take<F: Files>(
     alloc: Global,
     files: &mut F,
     awaited: &mut Awaited,
     message: Message,
 ) -> Result<Received, CloneFault>
-    requires read { WasRead (message_text message) }
     ensures answers { F.honest → (m : Sent) → TextOf m (message_text message) → AnswersUp (Receive m) result (F.content files.old) (F.content files.new) (awaited_text awaited.old) (awaited_text awaited.new) }
     ensures unchanged { OnErr result (awaited_text awaited.new ≡ awaited_text awaited.old) }
     ensures refused { F.honest → IfErr result (IsRefusedMessage (F.content files.old) (awaited_text awaited.old) (message_text message)) }

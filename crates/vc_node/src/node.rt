@@ -9,20 +9,23 @@ ghost use Rattle.vc_object.specs.Object.{object_name};
 ghost use Rattle.vc_refs.specs.Head.{IsHeadInRefs};
 ghost use Rattle.vc_exchange.specs.Sending.{machine_items};
 ghost use Rattle.vc_files.specs.declared.faults.Fault.TheVariants.{Memory};
-ghost use Rattle.vc_message.specs.Machine.{IsUnread, Reads};
+ghost use Rattle.vc_message.specs.AnyMessage.{a_report};
+ghost use Rattle.vc_message.specs.AnyView.{message_text};
+ghost use Rattle.vc_message.specs.Machine.{IsUnread, Reads, TextOf};
 ghost use Rattle.vc_model.specs.Clone.{IsItemId};
 ghost use Rattle.vc_model.specs.Clone.Task.{StartFetch, StartPush};
 ghost use Rattle.vc_model.specs.CloneCall.CloneCall.{Asks, Command, Open, Receive};
-ghost use Rattle.vc_model.specs.Message.{Message};
+ghost use Rattle.vc_model.specs.Message.{Message as Sent};
 ghost use Rattle.vc_model.specs.Object.{zero_id};
 ghost use Rattle.vc_model.specs.Question.Question.{Resolve, Unread};
+ghost use Rattle.vc_push.specs.ReportView.{report_text};
 ghost use Rattle.vc_repository.specs.Resolving.{DenotesIn};
 ghost use Rattle.vc_rev.specs.Grammar.{IsExpr};
 ghost use Rattle.vc_rev.specs.Views.{expr_view};
 ghost use Rattle.vc_node.specs.Awaited.{nothing};
 ghost use Rattle.vc_node.specs.CloneCalls.{AnswersClone, FoundAs, MayOr, ReceivedAs, RestartedAs, SentAs};
 ghost use Rattle.vc_node.specs.CloneFaults.{TellsDevice as CloneTellsDevice, is_fault as is_clone_fault, of_device, up_after as clone_up_after};
-ghost use Rattle.vc_node.specs.Receipts.{IsOfMessage, IsRefusedBytes, IsRefusedStart, IsRefusedValue};
+ghost use Rattle.vc_node.specs.Receipts.{IsOfMessage, IsRefusedBytes, IsRefusedMessage, IsRefusedStart, IsRefusedValue};
 ghost use Rattle.vc_node.specs.Blames.{BlamesLoad, BlamesOpen, IsLocalHead};
 ghost use Rattle.vc_files.specs.FileMap.{SameOutside};
 ghost use Rattle.vc_node.specs.Clean.{KeepsClean};
@@ -43,7 +46,9 @@ use std::alloc::Global;
 use std::marker::Model;
 use vc_exchange::{PushItem, list_message, push_message};
 use vc_files::{Fault, Files, FusedFiles};
+use vc_message::Message;
 use vc_object::{Kind, Mode, ObjectId};
+use vc_push::Report;
 use vc_refname::RefName;
 use vc_refs::Head;
 use vc_rev::Expr;
@@ -367,6 +372,19 @@ impl<F: Files> CloneNode<F> {
         fault
     }
 
+    // What came of a message, after which the node is down if it is a fault.
+    fn settle(&mut self, received: Result<Received, CloneFault>) -> Result<Received, CloneFault>
+        ensures received { result ≡ received }
+        ensures files { self.new.files ≡ self.old.files }
+        ensures awaits { self.new.awaited ≡ self.old.awaited }
+        ensures up { self.old.is_up ≡ true → self.new.is_up ≡ clone_up_after result }
+    {
+        match received {
+            Ok(received) => Ok(received),
+            Err(fault) => Err(self.fail_exchange(fault)),
+        }
+    }
+
     /// The message that asks the shared node for its refs. They are awaited then, and what was awaited before is forgotten.
     pub fn start_fetch(&mut self) -> Result<Vec<u8>, CloneFault>
         ensures answers { F.honest → AnswersClone (Command StartFetch) (SentAs result) (F.content self.old.files) (F.content self.new.files) self.old.awaited self.new.awaited self.old.is_up self.new.is_up }
@@ -420,7 +438,7 @@ impl<F: Files> CloneNode<F> {
     /// which not all is there that was asked for (92); nothing is changed then, and what was awaited stays so. What was taken is
     /// awaited no longer; where ids are asked for, their pack is awaited.
     pub fn receive(&mut self, bytes: &[u8]) -> Result<Received, CloneFault>
-        ensures answers { F.honest → (m : Message) → Reads bytes.now m → AnswersClone (Receive m) (ReceivedAs result) (F.content self.old.files) (F.content self.new.files) self.old.awaited self.new.awaited self.old.is_up self.new.is_up }
+        ensures answers { F.honest → (m : Sent) → Reads bytes.now m → AnswersClone (Receive m) (ReceivedAs result) (F.content self.old.files) (F.content self.new.files) self.old.awaited self.new.awaited self.old.is_up self.new.is_up }
         ensures unread { F.honest → (n : ℕ) → IsUnread bytes.now n → AnswersClone (Asks (Unread n)) (ReceivedAs result) (F.content self.old.files) (F.content self.new.files) self.old.awaited self.new.awaited self.old.is_up self.new.is_up }
         ensures bad_file { F.honest → IfErr result (λ e. (e ≡ CloneFault.Node NodeFault.Down) ⊎ IsRefusedBytes (F.content self.old.files) self.old.awaited bytes.now e) }
         ensures err { F.honest → IfErr result (λ e. IsOfMessage e → F.content self.new.files ≡ F.content self.old.files) }
@@ -429,15 +447,56 @@ impl<F: Files> CloneNode<F> {
         ensures up { self.old.is_up ≡ true → self.new.is_up ≡ clone_up_after result }
         ensures clean { F.honest → KeepsClean (F.content self.old.files) (F.content self.new.files) }
         ensures wear { Writes F.honest F.content F.failed F.can_fail F.left self.old.files self.new.files (CloneTellsDevice result) }
-        ensures looks { F.honest → (m : Message) → Reads bytes.now m → MayOr (Receive m) self.old.awaited self.old.is_up (F.content self.old.files) (Wears F.failed F.can_fail F.left self.old.files self.new.files (CloneTellsDevice result)) }
+        ensures looks { F.honest → (m : Sent) → Reads bytes.now m → MayOr (Receive m) self.old.awaited self.old.is_up (F.content self.old.files) (Wears F.failed F.can_fail F.left self.old.files self.new.files (CloneTellsDevice result)) }
     {
         if !self.is_up {
             return Err(CloneFault::Node(NodeFault::Down));
         }
-        match exchanging::receive(self.alloc, &mut self.files, &mut self.awaited, bytes) {
-            Ok(received) => Ok(received),
-            Err(fault) => Err(self.fail_exchange(fault)),
+        let received = exchanging::receive(self.alloc, &mut self.files, &mut self.awaited, bytes);
+        self.settle(received)
+    }
+
+    /// The same of a message that was read already.
+    pub fn receive_message(&mut self, message: Message) -> Result<Received, CloneFault>
+        ensures answers { F.honest → (m : Sent) → TextOf m (message_text message) → AnswersClone (Receive m) (ReceivedAs result) (F.content self.old.files) (F.content self.new.files) self.old.awaited self.new.awaited self.old.is_up self.new.is_up }
+        ensures bad_file { F.honest → IfErr result (λ e. (e ≡ CloneFault.Node NodeFault.Down) ⊎ IsRefusedMessage (F.content self.old.files) self.old.awaited (message_text message) e) }
+        ensures err { F.honest → IfErr result (λ e. IsOfMessage e → F.content self.new.files ≡ F.content self.old.files) }
+        ensures awaits { OnErr result (self.new.awaited ≡ self.old.awaited) }
+        ensures down { self.old.is_up ≡ false → result ≡ Err (CloneFault.Node NodeFault.Down) }
+        ensures up { self.old.is_up ≡ true → self.new.is_up ≡ clone_up_after result }
+        ensures clean { F.honest → KeepsClean (F.content self.old.files) (F.content self.new.files) }
+        ensures wear { Writes F.honest F.content F.failed F.can_fail F.left self.old.files self.new.files (CloneTellsDevice result) }
+        ensures looks { F.honest → (m : Sent) → TextOf m (message_text message) → MayOr (Receive m) self.old.awaited self.old.is_up (F.content self.old.files) (Wears F.failed F.can_fail F.left self.old.files self.new.files (CloneTellsDevice result)) }
+    {
+        if !self.is_up {
+            return Err(CloneFault::Node(NodeFault::Down));
         }
+        let received = exchanging::take(self.alloc, &mut self.files, &mut self.awaited, message);
+        self.settle(received)
+    }
+
+    /// The same of a report that was read already, which stays the caller's.
+    pub fn receive_report(&mut self, report: &Report) -> Result<Received, CloneFault>
+        ensures answers { F.honest → (m : Sent) → TextOf m (a_report (report_text report.now)) → AnswersClone (Receive m) (ReceivedAs result) (F.content self.old.files) (F.content self.new.files) self.old.awaited self.new.awaited self.old.is_up self.new.is_up }
+        ensures bad_file { F.honest → IfErr result (λ e. (e ≡ CloneFault.Node NodeFault.Down) ⊎ IsRefusedMessage (F.content self.old.files) self.old.awaited (a_report (report_text report.now)) e) }
+        ensures err { F.honest → IfErr result (λ e. IsOfMessage e → F.content self.new.files ≡ F.content self.old.files) }
+        ensures awaits { OnErr result (self.new.awaited ≡ self.old.awaited) }
+        ensures down { self.old.is_up ≡ false → result ≡ Err (CloneFault.Node NodeFault.Down) }
+        ensures up { self.old.is_up ≡ true → self.new.is_up ≡ clone_up_after result }
+        ensures clean { F.honest → KeepsClean (F.content self.old.files) (F.content self.new.files) }
+        ensures wear { Writes F.honest F.content F.failed F.can_fail F.left self.old.files self.new.files (CloneTellsDevice result) }
+        ensures looks { F.honest → (m : Sent) → TextOf m (a_report (report_text report.now)) → MayOr (Receive m) self.old.awaited self.old.is_up (F.content self.old.files) (Wears F.failed F.can_fail F.left self.old.files self.new.files (CloneTellsDevice result)) }
+    {
+        if !self.is_up {
+            return Err(CloneFault::Node(NodeFault::Down));
+        }
+        let received = exchanging::take_report(
+            self.alloc,
+            &mut self.files,
+            &mut self.awaited,
+            report,
+        );
+        self.settle(received)
     }
 
     /// The object that an expression names at the clone: 51 to 56 where it names none.

@@ -3,12 +3,13 @@ use Rattle.std.proofs.Common.{◌≡◌, ℕ, true, Bool, List, Option, Ok, Err,
 use Rattle.std.specs.Global.{Global}
 use Rattle.std.specs.Prelude.{IfErr, Result, Vec}
 use Rattle.vc_files.specs.FileMap.{FileMap}
+use Rattle.vc_message.specs.AnyMessage.{MessageText}
 use Rattle.vc_model.specs.Repository.{Repository}
 use Rattle.vc_model.specs.SharedCall.{SharedCall}
 use Rattle.vc_node.specs.Clean.{KeepsClean}
 use Rattle.vc_remote.specs.Answering.{AnswersOnce, IsRefusedOnce, opened_shared}
 use Rattle.vc_session.specs.Session.{SessionText}
-use Rattle.vc_server.specs.Refusals.{IsRefusedAnswer}
+use Rattle.vc_server.specs.Refusals.{IsRefusedMessageAnswer}
 use Rattle.vc_server.specs.Serving.{Serves}
 use Rattle.vc_shared.proofs.RestartLemmas.{held_open}
 use Rattle.vc_shared.specs.Holding.{HoldsShared}
@@ -30,7 +31,7 @@ served_once call r result old opened new slots after was_up is_up up holds serve
     })
 
 -- its refusal
-pub refused_once : (old opened : FileMap) (slots : List (Option SessionText)) (bytes : List ℕ) (result : Result (Vec ℕ Global) SharedFault)
-    → KeepsClean old opened → IfErr result (IsRefusedAnswer opened slots bytes) → IfErr result (IsRefusedOnce old bytes)
-refused_once old opened slots bytes (Ok reply) clean refused = refused
-refused_once old opened slots bytes (Err e) clean refused = inr (opened, slots, clean, refused)
+pub refused_once : (old opened : FileMap) (slots : List (Option SessionText)) (text : MessageText) (result : Result (Vec ℕ Global) SharedFault)
+    → KeepsClean old opened → IfErr result (IsRefusedMessageAnswer opened slots text) → IfErr result (IsRefusedOnce old text)
+refused_once old opened slots text (Ok reply) clean refused = refused
+refused_once old opened slots text (Err e) clean refused = inr (opened, slots, clean, refused)

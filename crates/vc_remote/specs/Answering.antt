@@ -3,6 +3,7 @@ use Rattle.std.specs.FinMap.{empty}
 use Rattle.std.specs.Global.{Global}
 use Rattle.std.specs.Prelude.{◌⊎◌, ℕ, List, Option, Some, Result, Err, Vec, true}
 use Rattle.vc_files.specs.FileMap.{FileMap}
+use Rattle.vc_message.specs.AnyMessage.{MessageText}
 use Rattle.vc_model.specs.Message.{Message}
 use Rattle.vc_model.specs.Node.{Answer}
 use Rattle.vc_model.specs.Repository.{Repository}
@@ -12,7 +13,7 @@ use Rattle.vc_node.specs.Blames.{BlamesOpen}
 use Rattle.vc_node.specs.Clean.{KeepsClean}
 use Rattle.vc_node.specs.Opening.{IsOpenable}
 use Rattle.vc_session.specs.Session.{SessionText}
-use Rattle.vc_server.specs.Refusals.{IsRefusedAnswer}
+use Rattle.vc_server.specs.Refusals.{IsRefusedMessageAnswer}
 use Rattle.vc_server.specs.Serving.{ServedAs, ServesOn}
 use Rattle.vc_shared.specs.Holding.{HoldsShared}
 use Rattle.vc_shared.specs.declared.fault.SharedFault.{SharedFault}
@@ -49,5 +50,5 @@ IsUnopened old (Node fault) = BlamesOpen old fault
 IsUnopened old _ = ⊥
 
 -- why there is no reply, whatever the files are: they were not opened, or, opened, they have no bad file more, and the node refuses
-abbrev pub IsRefusedOnce : FileMap → List ℕ → SharedFault → Type 0
-IsRefusedOnce old bytes e = IsUnopened old e ⊎ ((opened : FileMap) × (slots : List (Option SessionText)) × KeepsClean old opened × IsRefusedAnswer opened slots bytes e)
+abbrev pub IsRefusedOnce : FileMap → MessageText → SharedFault → Type 0
+IsRefusedOnce old text e = IsUnopened old e ⊎ ((opened : FileMap) × (slots : List (Option SessionText)) × KeepsClean old opened × IsRefusedMessageAnswer opened slots text e)

@@ -4,17 +4,15 @@ ghost use Rattle.vc_model.specs.Node.Answer.{Declined};
 use crate::fault::RemoteFault;
 use crate::progress::{Counted, Progress};
 use crate::serving::local;
-use std::alloc::{AllocError, Global};
+use std::alloc::Global;
 use std::fs::File;
 use std::io::{self, BufReader, Read, Write};
 use std::net::{Net, OpenStream};
 use std::rt;
-use vc_fetch::Error;
 use vc_files::Fault;
 use vc_folder::FolderLock;
-use vc_message::{IncomingFault, read_message};
-use vc_pkt::PktError;
-use vc_world::Peer;
+use vc_message::{IncomingFault, Message, read_message};
+use vc_world::{Peer, Reply};
 
 /// The shared node at a port of this machine. The right to write to the clone is let go while an answer is waited for, and
 /// taken again before the clone sees the answer: a server that is silent stops no other command on the clone.
@@ -75,7 +73,7 @@ where
     }
 
     // Sends a message, and reads the one that answers it.
-    fn exchange(&mut self, alloc: Global, bytes: &[u8]) -> Result<Vec<u8>, RemoteFault> {
+    fn exchange(&mut self, alloc: Global, bytes: &[u8]) -> Result<Message, RemoteFault> {
         self.connect()?;
         let Some(stream) = &mut self.stream else {
             return Err(RemoteFault::WriteFailed);
@@ -84,16 +82,13 @@ where
         let answered = receive(alloc, stream, &mut *self.progress);
         if sent.is_ok() {
             return match answered? {
-                Some(bytes) => Ok(bytes),
+                Some(message) => Ok(message),
                 None => Err(RemoteFault::ReadFailed),
             };
         }
         // A server that refuses hears no message to its end: what it said is worth more than that it heard no more.
         match answered {
-            Ok(Some(bytes)) => match refused(alloc, &bytes)? {
-                Some(text) => Err(RemoteFault::Refused(text)),
-                None => Err(RemoteFault::WriteFailed),
-            },
+            Ok(Some(Message::Error(error))) => Err(RemoteFault::Refused(error.text)),
             _ => Err(RemoteFault::WriteFailed),
         }
     }
@@ -115,19 +110,10 @@ fn receive<S: Read, W: Write>(
     alloc: Global,
     stream: &mut S,
     progress: &mut Progress<W>,
-) -> Result<Option<Vec<u8>>, IncomingFault> {
+) -> Result<Option<Message>, IncomingFault> {
     let read = read_message(alloc, &mut Counted { stream, progress });
     progress.end();
     read
-}
-
-// The text of an Error message; none where the bytes are another message.
-fn refused(alloc: Global, bytes: &[u8]) -> Result<Option<Vec<u8>>, AllocError> {
-    match Error::read(alloc, bytes) {
-        Ok(error) => Ok(Some(error.text)),
-        Err(PktError::Refused(_)) => Ok(None),
-        Err(PktError::Memory) => Err(AllocError),
-    }
 }
 
 impl<'a, R, W> Peer for Server<'a, R, W>
@@ -144,15 +130,14 @@ where
 
     ghost told = { λ _. Declined 115 };
 
-    fn ask(&mut self, bytes: &[u8]) -> Result<Vec<u8>, RemoteFault> {
+    fn ask(&mut self, bytes: &[u8]) -> Result<Reply, RemoteFault> {
         let alloc = self.rt.alloc();
         self.lock = None;
         let answered = self.exchange(alloc, bytes);
         self.lock = Some(FolderLock::take(&self.rt, self.store.as_str())?);
-        let bytes = answered?;
-        match refused(alloc, &bytes)? {
-            Some(text) => Err(RemoteFault::Refused(text)),
-            None => Ok(bytes),
+        match answered? {
+            Message::Error(error) => Err(RemoteFault::Refused(error.text)),
+            message => Ok(Reply::Message(message)),
         }
     }
 }

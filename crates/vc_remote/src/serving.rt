@@ -1,5 +1,7 @@
 //! The server of a shared node: one connection after the other, and on each one message after the other.
 ghost use Rattle.std.specs.Prelude.{◌≡◌};
+ghost use Rattle.vc_message.specs.AnyView.{message_text};
+ghost use Rattle.vc_message.specs.Machine.{WasRead};
 ghost use Rattle.vc_remote.specs.Turns.{going_on};
 
 use crate::answering::answer_message;
@@ -10,7 +12,7 @@ use std::rt;
 use std::thread::Threads;
 use vc_files::Fault;
 use vc_folder::{FolderFiles, FolderLock};
-use vc_message::{IncomingFault, read_message};
+use vc_message::{IncomingFault, Message, read_message};
 use vc_server::{ServeFault, Served, tell};
 use vc_shared::SharedFault;
 
@@ -97,7 +99,7 @@ where
     R: rt::Files<File = File> + Threads + Net + AllocGlobal + Clone + Drop,
 {
     let answered = match read_message(rt.alloc(), stream) {
-        Ok(Some(bytes)) => match answer_in(rt, store, &bytes) {
+        Ok(Some(message)) => match answer_in(rt, store, message) {
             Ok(answered) => answered,
             Err(fault) => return Err(ServeFault::Fault(fault)),
         },
@@ -110,14 +112,19 @@ where
 }
 
 // Answers a message at the store in this folder, whose lock is held meanwhile. All that the node stored is durable then.
-fn answer_in<R>(rt: &R, store: &str, bytes: &[u8]) -> Result<Result<Vec<u8>, SharedFault>, Fault>
+fn answer_in<R>(
+    rt: &R,
+    store: &str,
+    message: Message,
+) -> Result<Result<Vec<u8>, SharedFault>, Fault>
 where
     R: rt::Files<File = File> + Threads + AllocGlobal + Clone + Drop,
+    requires { WasRead (message_text message) }
 {
     let alloc = rt.alloc();
     let _lock = FolderLock::take(rt, store)?;
     let root = String::from_str(alloc, store)?;
-    let (mut files, answered) = answer_message(alloc, FolderFiles::new(rt.clone()?, root), bytes);
+    let (mut files, answered) = answer_message(alloc, FolderFiles::new(rt.clone()?, root), message);
     files.sync(alloc)?;
     Ok(answered)
 }

@@ -29,7 +29,6 @@ use Rattle.vc_session.specs.declared.stage.Stepped.TheVariants as session
 use Rattle.vc_shared.proofs.HoldingLemmas.{slot_set}
 use Rattle.vc_shared.proofs.SlotLemmas.{open_within, told_at}
 use Rattle.vc_shared.proofs.SteppingLaws.{pushes_of}
-use Rattle.vc_shared.specs.Accepting.{IsRefusedBytes}
 use Rattle.vc_shared.specs.Calls.{AcceptedAs, AnswersShared, Quietly, SendsBytes, SteppedAs}
 use Rattle.vc_shared.specs.Faults.{fault_answer}
 use Rattle.vc_shared.specs.Holding.{HoldsShared, HoldsSlot, HoldsSlots}
@@ -43,7 +42,7 @@ use Rattle.vc_shared.specs.declared.stepping.Stepped.{Stepped}
 use Rattle.vc_shared.specs.declared.stepping.Stepped.TheVariants.{Checked, Migrated, Updated, Finished}
 use Rattle.vc_store.specs.declared.faults.StoreFault.TheVariants as store
 use Rattle.vc_server.proofs.StepsLeft.{IsBefore, few_left, fewer_left, one_left, steps_left}
-use Rattle.vc_server.specs.Refusals.{IsRefusedAnswer, IsRefusedOnTheWay}
+use Rattle.vc_server.specs.Refusals.{IsRefusedFor, IsRefusedOnTheWay}
 use Rattle.vc_server.specs.Serving.{MayAnswer, Serves, ServesOn, StepsOn, StepsToEnd, report_of}
 
 -- ---- what stands in the slot of a node that is up
@@ -217,7 +216,7 @@ never_so_long old new slots after k taken result is_up long so = record {
 
 -- ---- what comes to the node
 -- a node that took it is up
-up_then : (accepted : Accepted) (e : SharedFault) (was_up is_up : Bool) → (was_up ≡ false → ◌≡◌ {A = Result Accepted SharedFault} (Ok accepted) (Err e)) → (was_up ≡ true → is_up ≡ true) → is_up ≡ true
+pub up_then : (accepted : Accepted) (e : SharedFault) (was_up is_up : Bool) → (was_up ≡ false → ◌≡◌ {A = Result Accepted SharedFault} (Ok accepted) (Err e)) → (was_up ≡ true → is_up ≡ true) → is_up ≡ true
 up_then accepted e true is_up down up = up refl
 up_then accepted e false is_up down up = absurd (let never = down refl in cc never)
 
@@ -239,15 +238,14 @@ module _ (call : SharedCall) (old new : FileMap) (slots after : List (Option Ses
   }
 
 module _ (call : SharedCall) (old mid new : FileMap) (slots mids after : List (Option SessionText)) (was_up mid_up is_up : Bool) where
-  pub served_by_steps : (accepted : Accepted) (k : ℕ) (e : SharedFault) (result : Result (Vec ℕ Global) SharedFault) → accepted ≡ Slot k
-      → (was_up ≡ false → ◌≡◌ {A = Result Accepted SharedFault} (Ok accepted) (Err e)) → (was_up ≡ true → mid_up ≡ true)
+  pub served_by_steps : (accepted : Accepted) (k : ℕ) (result : Result (Vec ℕ Global) SharedFault) → accepted ≡ Slot k → mid_up ≡ true
       → AnswersShared call (AcceptedAs (Ok accepted)) old mid slots mids was_up mid_up → StepsToEnd k result mid new mids after is_up
       → Serves call result old new slots after was_up is_up
-  served_by_steps accepted k e result is down up opened stepped = record {
+  served_by_steps accepted k result is up opened stepped = record {
     each = λ n held.
         let first = opened.each n held in
         let shows : (k < 8) × Quietly (Did (Opened k)) first.1 first.2 = subst (λ (x : Accepted). AcceptedAs (Ok x) first.1 first.2) is first.4 in
-        let last = stepped.each first.0 (subst (λ (b : Bool). HoldsShared mid mids b first.0) (up_then accepted e was_up mid_up down up) first.3) in
+        let last = stepped.each first.0 (subst (λ (b : Bool). HoldsShared mid mids b first.0) up first.3) in
         (last.0, last.1, last.2, last.3, last.4, ServesOn.stepped k shows.0 (quietly n first.0 call first.1 (Did (Opened k)) first.2 shows.1 first.5) last.5);
   }
 
@@ -263,12 +261,16 @@ module _ (call : SharedCall) (Shows : Answer → Option Message → Type 0) (old
   pub stays_up : is_up ≡ true → AnswersShared call Shows old new slots after was_up is_up → AnswersShared call Shows old new slots after was_up true
   stays_up up answered = subst (λ (b : Bool). AnswersShared call Shows old new slots after was_up b) up answered
 
--- ---- why there is no reply
-pub by_bytes : (old : FileMap) (slots : List (Option SessionText)) (bytes : List ℕ) (e : SharedFault) → (e ≡ Node Down) ⊎ IsRefusedBytes old slots bytes e → IsRefusedAnswer old slots bytes e
-by_bytes old slots bytes e (inl down) = inl down
-by_bytes old slots bytes e (inr why) = inr (inl why)
+pub stays_as : {call : SharedCall} {Shows : Answer → Option Message → Type 0} {old new : FileMap} {slots after : List (Option SessionText)} {was_up mid_up is_up : Bool} → mid_up ≡ true → is_up ≡ true
+    → AnswersShared call Shows old new slots after was_up mid_up → AnswersShared call Shows old new slots after was_up is_up
+stays_as {call} {Shows} {old} {new} {slots} {after} {was_up} was is answered = subst (λ (b : Bool). AnswersShared call Shows old new slots after was_up b) (was ∙ sym is) answered
 
-pub on_the_way : (old mid : FileMap) (slots : List (Option SessionText)) (bytes : List ℕ) (result : Result (Vec ℕ Global) SharedFault) → KeepsClean old mid → IfErr result (IsRefusedOnTheWay mid)
-    → IfErr result (IsRefusedAnswer old slots bytes)
-on_the_way old mid slots bytes (Ok reply) clean refused = tt
-on_the_way old mid slots bytes (Err e) clean (content, slot, keeps, why) = inr (inr (content, slot, clean_then old mid content clean keeps, why))
+-- ---- why there is no reply
+module _ (Refuses : SharedFault → Type 0) where
+  pub by_itself : (old : FileMap) (e : SharedFault) → (e ≡ Node Down) ⊎ Refuses e → IsRefusedFor Refuses old e
+  by_itself old e (inl down) = inl down
+  by_itself old e (inr why) = inr (inl why)
+
+  pub on_the_way : (old mid : FileMap) (result : Result (Vec ℕ Global) SharedFault) → KeepsClean old mid → IfErr result (IsRefusedOnTheWay mid) → IfErr result (IsRefusedFor Refuses old)
+  on_the_way old mid (Ok reply) clean refused = tt
+  on_the_way old mid (Err e) clean (content, slot, keeps, why) = inr (inr (content, slot, clean_then old mid content clean keeps, why))

@@ -1,6 +1,6 @@
 -- One message served to its end: the node's answer to it and, where it opened a push, the steps of that push up to its report.
 use Rattle.std.specs.Global.{Global}
-use Rattle.std.specs.Prelude.{◌<◌, ℕ, Bool, true, Vec, List, Option, Some, None, Result, Ok, Err}
+use Rattle.std.specs.Prelude.{◌≡◌, ◌<◌, ℕ, Bool, true, Vec, List, Option, Some, None, Result, Ok, Err}
 use Rattle.vc_files.specs.FileMap.{FileMap}
 use Rattle.vc_model.specs.Exchange.{IsUndone, OpensNone}
 use Rattle.vc_model.specs.Message.{Message}
@@ -14,9 +14,10 @@ use Rattle.vc_model.specs.SharedCall.SharedCall.{StepOf}
 use Rattle.vc_rules.proofs.GitLaws.{git_rules}
 use Rattle.vc_rules.specs.Git.{git}
 use Rattle.vc_session.specs.Session.{SessionText}
-use Rattle.vc_shared.specs.Calls.{Quietly, SendsBytes}
+use Rattle.vc_shared.specs.Calls.{AcceptedAs, AnswersShared, Quietly, SendsBytes}
 use Rattle.vc_shared.specs.Faults.{fault_answer}
 use Rattle.vc_shared.specs.Holding.{HoldsShared}
+use Rattle.vc_shared.specs.declared.accepting.Accepted.{Accepted}
 use Rattle.vc_shared.specs.declared.fault.SharedFault.{SharedFault}
 use Rattle.vc_shared.specs.declared.stepping.Stepped.{Stepped}
 use Rattle.vc_shared.specs.declared.stepping.Stepped.TheVariants.{Finished}
@@ -53,6 +54,11 @@ pub record Serves (call : SharedCall) (result : Result (Vec ℕ Global) SharedFa
 pub record StepsToEnd (slot : ℕ) (result : Result (Vec ℕ Global) SharedFault) (old new : FileMap) (slots after : List (Option SessionText)) (is_up : Bool) : Type 0 where
   pub each : (n : SharedNode) → HoldsShared old slots true n → (t : SharedNode) × (a : Answer) × (sends : Option Message) × HoldsShared new after is_up t
       × ServedAs result a sends × StepsOn slot n a t sends
+
+-- whatever call was answered so at a node that is up then, it is served with this
+pub record RepliesTo (accepted : Accepted) (result : Result (Vec ℕ Global) SharedFault) (mid new : FileMap) (mids after : List (Option SessionText)) (is_up : Bool) : Type 0 where
+  pub serves : (call : SharedCall) (old : FileMap) (slots : List (Option SessionText)) (was_up mid_up : Bool) → mid_up ≡ true → AnswersShared call (AcceptedAs (Ok accepted)) old mid slots mids was_up mid_up
+      → Serves call result old new slots after was_up is_up
 
 -- the report's bytes, where the step was the last
 abbrev pub report_of : Stepped → Option (Vec ℕ Global)

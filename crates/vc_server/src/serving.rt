@@ -6,7 +6,7 @@ ghost use Rattle.vc_model.specs.Message.{Message};
 ghost use Rattle.vc_node.specs.Clean.{KeepsClean};
 ghost use Rattle.vc_server.specs.Turn.{LeavesRest, TakesTurn, up_after};
 
-use crate::answering::answer;
+use crate::answering::answer_message;
 use crate::serve_fault::ServeFault;
 use crate::telling::{Served, refuse, tell};
 use std::alloc::Global;
@@ -38,9 +38,9 @@ pub fn serve_message<F: Files, R: Read, W: Write>(
         Err(IncomingFault::Failed) => return Err(ServeFault::ReadFailed),
         Err(IncomingFault::Memory) => return Err(ServeFault::Memory),
     };
-    let Some(bytes) = taken else {
+    let Some(message) = taken else {
         return Ok(Served::End);
     };
-    let answered = answer(shared, &bytes);
+    let answered = answer_message(shared, message);
     tell(alloc, writer, &answered)
 }

@@ -11,7 +11,7 @@ use Rattle.vc_message.proofs.Readings.{one_refusal}
 use Rattle.vc_message.proofs.AnyLaws.{any_given}
 use Rattle.vc_message.specs.AnyMessage.{MessageText, SpellsMessage, a_list, a_pack, a_push, a_report, a_want, an_advert, an_error, any_step, beginning}
 use Rattle.vc_message.specs.AnyView.{message_text}
-use Rattle.vc_message.specs.Machine.{IsUnread, Reads, TextOf, pkt_number}
+use Rattle.vc_message.specs.Machine.{IsUnread, Reads, TextOf, WasRead, pkt_number}
 use Rattle.vc_model.specs.Message.{Message}
 use Rattle.vc_model.specs.Node.{Answer}
 use Rattle.vc_model.specs.Node.Answer.{Declined, Fault}
@@ -35,7 +35,7 @@ use Rattle.vc_session.specs.Clean.{MakesNoneBad}
 use Rattle.vc_shared.proofs.PushingLemmas.{push_answers}
 use Rattle.vc_shared.proofs.ServingLaws.{list_answers, want_answers}
 use Rattle.vc_shared.proofs.SteppingLaws.{held_still, pushes_of}
-use Rattle.vc_shared.specs.Accepting.{AnswersUp, IsRefusedBytes, IsRefusedMessage, IsToWrite, WasRead}
+use Rattle.vc_shared.specs.Accepting.{AnswersUp, IsRefusedBytes, IsRefusedMessage, IsToWrite}
 use Rattle.vc_shared.specs.Calls.{Quietly}
 use Rattle.vc_shared.specs.Faults.{IsOfDevice, TellsDevice, of_device, of_pkt, up_after}
 use Rattle.vc_shared.specs.Holding.{HoldsShared, IsLive}

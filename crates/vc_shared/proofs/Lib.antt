@@ -12,6 +12,7 @@ pub mod ServingFaults
 pub mod ServingLaws
 pub mod ServingPacks
 pub mod ServingRefs
+pub mod SettledLemmas
 pub mod SlotLemmas
 pub mod SteppedLemmas
 pub mod SteppingLaws

@@ -17,10 +17,6 @@ use Rattle.vc_shared.specs.declared.accepting.Accepted.{Accepted}
 use Rattle.vc_shared.specs.declared.fault.SharedFault.{SharedFault}
 use Rattle.vc_shared.specs.declared.fault.SharedFault.TheVariants.{Unexpected, Unread}
 
--- some bytes are read as it
-abbrev pub WasRead : MessageText → Type 0
-WasRead text = (bytes : List ℕ) × IsSpelledBy SpellsMessage text bytes
-
 -- at a node that is up, whatever node was held, what is told is the machine's answer to the call
 abbrev pub AnswersUp : SharedCall → Result Accepted SharedFault → FileMap → FileMap → List (Option SessionText) → List (Option SessionText) → Type 0
 AnswersUp call result old new slots after =

@@ -2,12 +2,12 @@
 ghost use Rattle.std.specs.Prelude.{◌≡◌, ◌⊎◌, ℕ, IfErr, OnErr};
 ghost use Rattle.vc_files.specs.Failures.{Wears, Writes};
 ghost use Rattle.vc_message.specs.AnyView.{message_text};
-ghost use Rattle.vc_message.specs.Machine.{IsUnread, Reads, TextOf};
+ghost use Rattle.vc_message.specs.Machine.{IsUnread, Reads, TextOf, WasRead};
 ghost use Rattle.vc_model.specs.Message.{Message as Sent};
 ghost use Rattle.vc_model.specs.Question.Question.{Unread};
 ghost use Rattle.vc_model.specs.SharedCall.SharedCall.{Accept, Asks};
 ghost use Rattle.vc_session.specs.Clean.{MakesNoneBad};
-ghost use Rattle.vc_shared.specs.Accepting.{AnswersUp, IsRefusedBytes, IsRefusedMessage, IsToWrite, WasRead};
+ghost use Rattle.vc_shared.specs.Accepting.{AnswersUp, IsRefusedBytes, IsRefusedMessage, IsToWrite};
 ghost use Rattle.vc_shared.specs.Faults.{TellsDevice};
 ghost use Rattle.vc_shared.specs.Pushing.{slot_reply};
 ghost use Rattle.vc_shared.specs.Serving.{reply_of};
@@ -48,8 +48,8 @@ fn opened(slot: Result<u8, SharedFault>) -> Result<Accepted, SharedFault>
     }
 }
 
-// A message that was read. Only a list, a want and a push are for the shared node.
-fn take<F: Files>(
+/// A message that was read. Only a list, a want and a push are for the shared node.
+pub(crate) fn take<F: Files>(
     alloc: Global,
     files: &mut F,
     slots: &mut [Option<PushSession>; 8],

@@ -2,8 +2,9 @@
 ghost use Rattle.std.specs.Prelude.{◌≡◌, ◌⊎◌, ℕ, IfErr, IfOk, OnErr, Ok, None, Some, List, is_ok, not, false, true};
 ghost use Rattle.std.specs.FinMap.{empty};
 ghost use Rattle.vc_files.specs.Failures.{Wears, Writes};
-ghost use Rattle.vc_message.specs.Machine.{IsUnread, Reads};
-ghost use Rattle.vc_model.specs.Message.{Message};
+ghost use Rattle.vc_message.specs.AnyView.{message_text};
+ghost use Rattle.vc_message.specs.Machine.{IsUnread, Reads, TextOf, WasRead};
+ghost use Rattle.vc_model.specs.Message.{Message as Sent};
 ghost use Rattle.vc_model.specs.Question.Question.{Resolve, Unread};
 ghost use Rattle.vc_model.specs.Repository.{Repository};
 ghost use Rattle.vc_model.specs.SharedCall.SharedCall.{Accept, Asks, Open, StepOf};
@@ -14,7 +15,7 @@ ghost use Rattle.vc_node.specs.Opening.{IsOpenable};
 ghost use Rattle.vc_repository.specs.Resolving.{DenotesIn};
 ghost use Rattle.vc_rev.specs.Grammar.{IsExpr};
 ghost use Rattle.vc_rev.specs.Views.{expr_view};
-ghost use Rattle.vc_shared.specs.Accepting.{IsRefusedBytes, IsToWrite};
+ghost use Rattle.vc_shared.specs.Accepting.{IsRefusedBytes, IsRefusedMessage, IsToWrite};
 ghost use Rattle.vc_shared.specs.Calls.{AcceptedAs, AnswersShared, RestartedAs, SteppedAs};
 ghost use Rattle.vc_shared.specs.Faults.{TellsDevice, fault_answer, is_fault, up_after};
 ghost use Rattle.vc_shared.specs.Holding.{HoldsShared};
@@ -27,6 +28,7 @@ use crate::{Accepted, SharedFault, Stepped, accepting, stepping};
 use std::alloc::Global;
 use std::marker::Model;
 use vc_files::{Files, FusedFiles};
+use vc_message::Message;
 use vc_node::NodeFault;
 use vc_object::ObjectId;
 use vc_rev::Expr;
@@ -134,6 +136,19 @@ impl<F: Files> Shared<F> {
         fault
     }
 
+    // What came of a message, after which the node is down if it is a fault.
+    fn settle(&mut self, accepted: Result<Accepted, SharedFault>) -> Result<Accepted, SharedFault>
+        ensures accepted { result ≡ accepted }
+        ensures files { self.new.files ≡ self.old.files }
+        ensures slots { self.new.slots ≡ self.old.slots }
+        ensures up { self.old.is_up ≡ true → self.new.is_up ≡ up_after result }
+    {
+        match accepted {
+            Ok(accepted) => Ok(accepted),
+            Err(fault) => Err(self.fail(fault)),
+        }
+    }
+
     /// The next step of the push in this slot: the check of all its commands, the storing of what it carries, the update of
     /// one ref, or its report, after which the slot is free. 111 where no push is open there.
     pub fn step(&mut self, slot: u8) -> Result<Stepped, SharedFault>
@@ -159,7 +174,7 @@ impl<F: Files> Shared<F> {
     /// lowest free slot. Refused are bytes that are no message (80 to 84, or 3), a message that a clone takes (91), a want of
     /// what no ref reaches (90), and a push where eight are open (110); nothing is changed then.
     pub fn accept(&mut self, bytes: &[u8]) -> Result<Accepted, SharedFault>
-        ensures answers { F.honest → (m : Message) → Reads bytes.now m → AnswersShared (Accept m) (AcceptedAs result) (F.content self.old.files) (F.content self.new.files) self.old.slots self.new.slots self.old.is_up self.new.is_up }
+        ensures answers { F.honest → (m : Sent) → Reads bytes.now m → AnswersShared (Accept m) (AcceptedAs result) (F.content self.old.files) (F.content self.new.files) self.old.slots self.new.slots self.old.is_up self.new.is_up }
         ensures unread { F.honest → (n : ℕ) → IsUnread bytes.now n → AnswersShared (Asks (Unread n)) (AcceptedAs result) (F.content self.old.files) (F.content self.new.files) self.old.slots self.new.slots self.old.is_up self.new.is_up }
         ensures bad_file { F.honest → IfErr result (λ e. (e ≡ SharedFault.Node NodeFault.Down) ⊎ IsRefusedBytes (F.content self.old.files) self.old.slots bytes.now e) }
         ensures err { OnErr result (self.new.slots ≡ self.old.slots) }
@@ -168,15 +183,33 @@ impl<F: Files> Shared<F> {
         ensures up { self.old.is_up ≡ true → self.new.is_up ≡ up_after result }
         ensures clean { F.honest → KeepsClean (F.content self.old.files) (F.content self.new.files) }
         ensures wear { Writes F.honest F.content F.failed F.can_fail F.left self.old.files self.new.files (TellsDevice result) }
-        ensures looks { (m : Message) → Reads bytes.now m → IsToWrite m ⊎ Wears F.failed F.can_fail F.left self.old.files self.new.files (TellsDevice result) }
+        ensures looks { (m : Sent) → Reads bytes.now m → IsToWrite m ⊎ Wears F.failed F.can_fail F.left self.old.files self.new.files (TellsDevice result) }
     {
         if !self.is_up {
             return Err(SharedFault::Node(NodeFault::Down));
         }
-        match accepting::accept(self.alloc, &mut self.files, &mut self.slots, bytes) {
-            Ok(accepted) => Ok(accepted),
-            Err(fault) => Err(self.fail(fault)),
+        let accepted = accepting::accept(self.alloc, &mut self.files, &mut self.slots, bytes);
+        self.settle(accepted)
+    }
+
+    /// The same of a message that was read already.
+    pub fn accept_message(&mut self, message: Message) -> Result<Accepted, SharedFault>
+        requires read { WasRead (message_text message) }
+        ensures answers { F.honest → (m : Sent) → TextOf m (message_text message) → AnswersShared (Accept m) (AcceptedAs result) (F.content self.old.files) (F.content self.new.files) self.old.slots self.new.slots self.old.is_up self.new.is_up }
+        ensures bad_file { F.honest → IfErr result (λ e. (e ≡ SharedFault.Node NodeFault.Down) ⊎ IsRefusedMessage (F.content self.old.files) self.old.slots (message_text message) e) }
+        ensures err { OnErr result (self.new.slots ≡ self.old.slots) }
+        ensures tellable { AreTellable self.new.slots }
+        ensures down { self.old.is_up ≡ false → result ≡ Err (SharedFault.Node NodeFault.Down) }
+        ensures up { self.old.is_up ≡ true → self.new.is_up ≡ up_after result }
+        ensures clean { F.honest → KeepsClean (F.content self.old.files) (F.content self.new.files) }
+        ensures wear { Writes F.honest F.content F.failed F.can_fail F.left self.old.files self.new.files (TellsDevice result) }
+        ensures looks { (m : Sent) → TextOf m (message_text message) → IsToWrite m ⊎ Wears F.failed F.can_fail F.left self.old.files self.new.files (TellsDevice result) }
+    {
+        if !self.is_up {
+            return Err(SharedFault::Node(NodeFault::Down));
         }
+        let accepted = accepting::take(self.alloc, &mut self.files, &mut self.slots, message);
+        self.settle(accepted)
     }
 
     /// The object that an expression names at the node: 51 to 56 where it names none.

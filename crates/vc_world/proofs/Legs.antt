@@ -1,7 +1,5 @@
 -- The calls of an exchange, as real nodes tell of them.
-use Rattle.std.proofs.Common.{ℕ, Option, Ok, Err}
-use Rattle.std.specs.Global.{Global}
-use Rattle.std.specs.Prelude.{Vec}
+use Rattle.std.proofs.Common.{◌≡◌, Option, Some, Ok, Err, subst}
 use Rattle.vc_files.specs.FileMap.{FileMap}
 use Rattle.vc_model.specs.Clone.{CloneNode}
 use Rattle.vc_model.specs.CloneCall.{CloneCall}
@@ -12,8 +10,10 @@ use Rattle.vc_node.specs.CloneCalls.{AnswersClone}
 use Rattle.vc_node.specs.Held.{Held}
 use Rattle.vc_rules.proofs.GitLaws.{git_rules}
 use Rattle.vc_rules.specs.Git.{git}
-use Rattle.vc_world.specs.Chains.{CloneMayAnswer, MayServe}
-use Rattle.vc_world.specs.Exchanging.{AnswersPeer, AskedAs, HoldsClone}
+use Rattle.vc_world.specs.Chains.{CloneMayAnswer, MayServe, SharedMaySend}
+use Rattle.vc_world.specs.Exchanging.{AnswersPeer, AskedAs, Brings, HoldsClone}
+use Rattle.vc_world.specs.declared.peer.Reply.{Reply}
+use Rattle.vc_world.specs.declared.peer.Reply.TheVariants as replies
 
 -- ---- the clone's calls
 
@@ -49,6 +49,21 @@ pub record Asked {P : Type 0} (holds : P → SharedNode → Type 0) (shows : Ans
 pub refused : {P R : Type 0} (holds : P → SharedNode → Type 0) (told : R → Answer) (m : Message) (refusal : R) (old new : P) (s : SharedNode) → AnswersPeer holds told m (Err refusal) old new → holds old s → Asked holds (AskedAs told (Err refusal)) m s new
 refused holds told m refusal old new s k h = let w = k.each s h in record { node = w.0; answer = w.1; sends = w.2; held = w.3; shown = w.4; may = w.5 }
 
+-- what came back is a message of the machine's
+came : {R : Type 0} (told : R → Answer) (reply : Reply) (a : Answer) (sends : Option Message) → AskedAs told (Ok reply) a sends → (q : Message) × Brings reply q × (sends ≡ Some q)
+came told (replies.Bytes bytes) a sends h = (h.message, h.written.reads, h.sent)
+came told (replies.Message message) a sends h = (h.message, h.is, h.sent)
+
+pub record Answered {P : Type 0} (holds : P → SharedNode → Type 0) (reply : Reply) (m : Message) (s : SharedNode) (new : P) : Type 0 where
+  pub node : SharedNode
+  pub held : holds new node
+  pub message : Message
+  pub brings : Brings reply message
+  pub tells : SharedMaySend git git_rules s m node message
+
 -- it answered
-pub answered : {P R : Type 0} (holds : P → SharedNode → Type 0) (told : R → Answer) (m : Message) (bytes : Vec ℕ Global) (old new : P) (s : SharedNode) → AnswersPeer holds told m (Ok bytes) old new → holds old s → Asked holds (AskedAs told (Ok bytes)) m s new
-answered holds told m bytes old new s k h = let w = k.each s h in record { node = w.0; answer = w.1; sends = w.2; held = w.3; shown = w.4; may = w.5 }
+pub answered : {P R : Type 0} (holds : P → SharedNode → Type 0) (told : R → Answer) (m : Message) (reply : Reply) (old new : P) (s : SharedNode) → AnswersPeer holds told m (Ok reply) old new → holds old s → Answered holds reply m s new
+answered holds told m reply old new s k h =
+    let w = k.each s h in
+    let q = came told reply w.1 w.2 w.4 in
+    record { node = w.0; held = w.3; message = q.0; brings = q.1; tells = (w.1, subst (λ sends. MayServe git git_rules m s w.1 w.0 sends) q.2 w.5) }

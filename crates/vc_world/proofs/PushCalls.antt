@@ -35,10 +35,11 @@ use Rattle.vc_rules.proofs.GitLaws.{git_rules}
 use Rattle.vc_rules.specs.Git.{git}
 use Rattle.vc_world.specs.Chains.{CloneMayAnswer, CloneMaySend, MayServe}
 use Rattle.vc_world.specs.Chains.MayPushRun.{reported, unreported, unsent}
-use Rattle.vc_world.specs.Exchanging.{AnswersPeer, EndsInFault, HoldsClone, IsNoReport, IsOkReport, IsPush, Leads, PushedAs, PushesOne, ReportsNone}
-use Rattle.vc_world.specs.Pushing.{IsUnreadReport, taken}
+use Rattle.vc_world.specs.Exchanging.{AnswersPeer, Brings, EndsInFault, HoldsClone, IsNoReport, IsOkReport, IsPush, Leads, PushedAs, PushesOne, ReportsNone}
+use Rattle.vc_world.specs.Pushing.{IsUnreadReport, TakesAnswer, taken}
 use Rattle.vc_world.specs.declared.ending.ExchangeEnd.{ExchangeEnd}
 use Rattle.vc_world.specs.declared.ending.ExchangeEnd.TheVariants.{Clone, Memory, Shared, Stray}
+use Rattle.vc_world.specs.declared.peer.Reply.{Reply}
 use Rattle.vc_world.proofs.FetchRounds.{clone_undone, did_no_fault, undone_did}
 use Rattle.vc_world.proofs.Legs.{Calls, answered, led, refused}
 use Rattle.vc_world.proofs.Pushes.{push_comes}
@@ -50,15 +51,44 @@ same_message m n e = cc
 end_same : {R : Type 0} (x y : ExchangeEnd R) → ◌≡◌ {A = Result (Unit {0}) (ExchangeEnd R)} (Err x) (Err y) → x ≡ y
 end_same x y e = cc
 
+-- ---- what comes of the message that came
+module _ {R : Type 0} (told : R → Answer) where
+  abbrev pub Tells : Message → Result Received CloneFault → Result PushReport (ExchangeEnd R) → Type 0
+  Tells m received result = (a : Answer) (sends : Option Message) → ReceivedAs received a sends → PushedAs told result a (Some m)
+
+  -- no report was taken
+  pub tells_none : (m : Message) (received : Result Received CloneFault) (end : ExchangeEnd R) → taken received ≡ Err end → Tells m received (Err end)
+  tells_none m (Ok (Send bytes)) end e a sends shown = subst (λ x. PushedAs told (Err x) a (Some m)) (end_same Stray end e) (inl (inl shown.answer))
+  tells_none m (Ok (Moved moved left)) end e a sends shown = subst (λ x. PushedAs told (Err x) a (Some m)) (end_same Stray end e) (inl (inr (moved, left, shown.answer)))
+  tells_none m (Ok (Reported moved reasons)) end e a sends shown = absurd (cc)
+  tells_none m (Err fault) end e a sends shown = subst (λ x. PushedAs told (Err x) a (Some m)) (end_same (Clone fault) end e) shown.answer
+
+  -- a report was taken
+  reports : (received : Result Received CloneFault) → taken {R = R} received ≡ Ok tt → (a : Answer) (sends : Option Message) → ReceivedAs received a sends → (moved : ℕ) × (refused : List ℕ) × (a ≡ Did (ReportedRefs moved refused))
+  reports (Ok (Send bytes)) e a sends shown = absurd (cc)
+  reports (Ok (Moved moved left)) e a sends shown = absurd (cc)
+  reports (Ok (Reported moved reasons)) e a sends shown = (moved, reasons.items, shown.answer)
+  reports (Err fault) e a sends shown = absurd (cc)
+
+  pub tells_report : (m : Message) (received : Result Received CloneFault) (result : Result PushReport (ExchangeEnd R)) → taken {R = R} received ≡ Ok tt
+      → IfOk result (λ report. IsReport m (report_text report)) → IfErr result (IsUnreadReport m) → Tells m received result
+  tells_report m received (Ok report) e is none a sends shown = let r = reports received e a sends shown in (r.0, r.1, r.2, (m, refl, is))
+  tells_report m received (Err Memory) e is none a sends shown = reports received e a sends shown
+  tells_report m received (Err Stray) e is none a sends shown = let r = reports received e a sends shown in inr (r.0, r.1, r.2, (m, refl, none))
+  tells_report m received (Err (Clone fault)) e is none a sends shown = absurd none
+  tells_report m received (Err (Shared refusal)) e is none a sends shown = absurd none
+
+  -- it was no report
+  pub tells_stray : (m : Message) (received : Result Received CloneFault) → taken {R = R} received ≡ Ok tt → IsNoReport m → Tells m received (Err Stray)
+  tells_stray m received e other = tells_report m received (Err Stray) e tt other
+
+-- ---- the calls
 module _ {P R F : Type 0} (holds : P → SharedNode → Type 0) (told : R → Answer) (content : F → FileMap) (items : List PushItem) where
-  -- the clone's call with the push's items, with the message of these bytes, and the peer's
+  -- the clone's call with the push's items, and the peer's with the message of these bytes
   abbrev pub Starts : Result (Vec ℕ Global) CloneFault → Held F → Held F → Type 0
   Starts result was is = Calls content (Command (StartPush false (machine_items items))) (SentAs result) was is
 
-  abbrev pub Takes : List ℕ → Result Received CloneFault → Held F → Held F → Type 0
-  Takes bytes received was is = (m : Message) → Reads bytes m → Calls content (Receive m) (ReceivedAs received) was is
-
-  abbrev pub Answers : List ℕ → Result (Vec ℕ Global) R → P → P → Type 0
+  abbrev pub Answers : List ℕ → Result Reply R → P → P → Type 0
   Answers bytes result old new = (m : Message) → Reads bytes m → AnswersPeer holds told m result old new
 
   abbrev Begins : CloneNode → CloneNode → Message → Type 0
@@ -119,54 +149,22 @@ module _ {P R F : Type 0} (holds : P → SharedNode → Type 0) (told : R → An
         );
   }
 
-  -- what comes of the message that came
-  abbrev pub Tells : Message → Result Received CloneFault → Result PushReport (ExchangeEnd R) → Type 0
-  Tells m received result = (a : Answer) (sends : Option Message) → ReceivedAs received a sends → PushedAs told result a (Some m)
-
-  pub comes : (push answer : Vec ℕ Global) (sent got : List ℕ) (received : Result Received CloneFault) (result : Result PushReport (ExchangeEnd R)) (old new : P) (was is after : Held F)
-      → Starts (Ok push) was is → sent ≡ push.items → Answers sent (Ok answer) old new → got ≡ answer.items → Takes got received is after
-      → ((m : Message) → Reads got m → Tells m received result) → Leads holds (HoldsClone content) old new was after (IsPush told items result)
-  comes push answer sent got received result old new was is after k same asks same_too takes tells = record {
+  pub comes : (push : Vec ℕ Global) (sent : List ℕ) (answer : Reply) (result : Result PushReport (ExchangeEnd R)) (old new : P) (was is after : Held F)
+      → Starts (Ok push) was is → sent ≡ push.items → Answers sent (Ok answer) old new → ((m : Message) → Brings answer m → TakesAnswer content m result is after)
+      → Leads holds (HoldsClone content) old new was after (IsPush told items result)
+  comes push sent answer result old new was is after k same asks takes = record {
     each = λ s c hs hc.
         let v = begun push was is c k hc in
         let w = answered holds told v.push answer old new s (asks v.push (subst (λ b. Reads b v.push) (sym same) v.reads)) hs in
-        let q = w.shown.message in
-        let read : Reads got q = subst (λ b. Reads b q) (sym same_too) w.shown.written.reads in
-        let u = led content (Receive q) (ReceivedAs received) is after v.node (takes q read) v.held in (
+        let q = takes w.message w.brings in
+        let u = led content (Receive w.message) (ReceivedAs q.received) is after v.node q.receives v.held in (
           w.node,
           u.node,
           w.held,
           u.held,
-          (
-            u.answer,
-            Some q,
-            tells q read u.answer u.sends u.shown,
-            reported v.node v.push q u.sends v.sends (w.answer, subst (λ sends. MayServe git git_rules v.push s w.answer w.node sends) w.shown.sent w.may) u.may refl,
-          ),
+          (u.answer, Some w.message, q.tells told u.answer u.sends u.shown, reported v.node v.push w.message u.sends v.sends w.tells u.may refl),
         );
   }
-
-  -- no report was taken
-  pub tells_none : (m : Message) (received : Result Received CloneFault) (end : ExchangeEnd R) → taken received ≡ Err end → Tells m received (Err end)
-  tells_none m (Ok (Send bytes)) end e a sends shown = subst (λ x. PushedAs told (Err x) a (Some m)) (end_same Stray end e) (inl (inl shown.answer))
-  tells_none m (Ok (Moved moved left)) end e a sends shown = subst (λ x. PushedAs told (Err x) a (Some m)) (end_same Stray end e) (inl (inr (moved, left, shown.answer)))
-  tells_none m (Ok (Reported moved reasons)) end e a sends shown = absurd (cc)
-  tells_none m (Err fault) end e a sends shown = subst (λ x. PushedAs told (Err x) a (Some m)) (end_same (Clone fault) end e) shown.answer
-
-  -- a report was taken
-  reports : (received : Result Received CloneFault) → taken {R = R} received ≡ Ok tt → (a : Answer) (sends : Option Message) → ReceivedAs received a sends → (moved : ℕ) × (refused : List ℕ) × (a ≡ Did (ReportedRefs moved refused))
-  reports (Ok (Send bytes)) e a sends shown = absurd (cc)
-  reports (Ok (Moved moved left)) e a sends shown = absurd (cc)
-  reports (Ok (Reported moved reasons)) e a sends shown = (moved, reasons.items, shown.answer)
-  reports (Err fault) e a sends shown = absurd (cc)
-
-  pub tells_report : (m : Message) (received : Result Received CloneFault) (result : Result PushReport (ExchangeEnd R)) → taken {R = R} received ≡ Ok tt
-      → IfOk result (λ report. IsReport m (report_text report)) → IfErr result (IsUnreadReport m) → Tells m received result
-  tells_report m received (Ok report) e is none a sends shown = let r = reports received e a sends shown in (r.0, r.1, r.2, (m, refl, is))
-  tells_report m received (Err Memory) e is none a sends shown = reports received e a sends shown
-  tells_report m received (Err Stray) e is none a sends shown = let r = reports received e a sends shown in inr (r.0, r.1, r.2, (m, refl, none))
-  tells_report m received (Err (Clone fault)) e is none a sends shown = absurd none
-  tells_report m received (Err (Shared refusal)) e is none a sends shown = absurd none
 
   -- ---- between nodes that are ready
 

@@ -23,10 +23,11 @@ use Rattle.vc_world.specs.Chains.MayRound.{advertised, unasked, unlisted, packed
 use Rattle.vc_world.specs.Fetching.{next_of, settled}
 use Rattle.vc_world.specs.declared.fetching.Next.{Next}
 use Rattle.vc_world.specs.declared.fetching.Next.TheVariants.{Ask, End}
-use Rattle.vc_world.specs.Exchanging.{AnswersPeer, HoldsClone, IsRest, IsRound, Leads, RoundAs}
+use Rattle.vc_world.specs.Exchanging.{AnswersPeer, Brings, HoldsClone, IsRest, IsRound, Leads, RoundAs}
 use Rattle.vc_world.specs.declared.ending.ExchangeEnd.{ExchangeEnd}
 use Rattle.vc_world.specs.declared.ending.ExchangeEnd.TheVariants.{Clone, Shared, Stray}
 use Rattle.vc_world.specs.declared.fetching.Fetched.{Fetched}
+use Rattle.vc_world.specs.declared.peer.Reply.{Reply}
 use Rattle.vc_world.proofs.Legs.{Calls, Led, answered, led, refused}
 
 end_same : {R : Type 0} (x y : Result Fetched (ExchangeEnd R)) → ◌≡◌ {A = Next R} (End x) (End y) → x ≡ y
@@ -50,21 +51,21 @@ module _ {P R F : Type 0} (holds : P → SharedNode → Type 0) (told : R → An
         (w.node, c, w.held, hc, (w.answer, (w.shown.0.answer, w.shown.1), unpacked (subst (λ sends. MayServe git git_rules m s w.answer w.node sends) w.shown.0.sent w.may) refl));
   }
 
-  -- the clone's call with the message of these bytes
-  abbrev pub Takes : List ℕ → Result Received CloneFault → Held F → Held F → Type 0
-  Takes bytes received was is = (m : Message) → Reads bytes m → Calls content (Receive m) (ReceivedAs received) was is
+  -- the clone's call with the message that came back
+  abbrev pub Takes : Reply → Result Received CloneFault → Held F → Held F → Type 0
+  Takes reply received was is = (m : Message) → Brings reply m → Calls content (Receive m) (ReceivedAs received) was is
 
   -- what is received ends the round so
   abbrev pub Settles : Result Received CloneFault → Result Fetched (ExchangeEnd R) → Type 0
   Settles received result = (a : Answer) (sends : Option Message) → ReceivedAs received a sends → RoundAs told result a
 
-  pub with_pack : (m : Message) (pack : Vec ℕ Global) (bytes : List ℕ) (received : Result Received CloneFault) (result : Result Fetched (ExchangeEnd R)) (old new : P) (was is : Held F)
-      → AnswersPeer holds told m (Ok pack) old new → bytes ≡ pack.items → Takes bytes received was is → Settles received result → Leads holds (HoldsClone content) old new was is (IsRest told m result)
-  with_pack m pack bytes received result old new was is k same takes settles = record {
+  pub with_pack : (m : Message) (pack : Reply) (received : Result Received CloneFault) (result : Result Fetched (ExchangeEnd R)) (old new : P) (was is : Held F)
+      → AnswersPeer holds told m (Ok pack) old new → Takes pack received was is → Settles received result → Leads holds (HoldsClone content) old new was is (IsRest told m result)
+  with_pack m pack received result old new was is k takes settles = record {
     each = λ s c hs hc.
         let w = answered holds told m pack old new s k hs in
-        let q = w.shown.message in
-        let v = led content (Receive q) (ReceivedAs received) was is c (takes q (subst (λ b. Reads b q) (sym same) w.shown.written.reads)) hc in (
+        let q = w.message in
+        let v = led content (Receive q) (ReceivedAs received) was is c (takes q w.brings) hc in (
           w.node,
           v.node,
           w.held,
@@ -72,7 +73,7 @@ module _ {P R F : Type 0} (holds : P → SharedNode → Type 0) (told : R → An
           (
             v.answer,
             settles v.answer v.sends v.shown,
-            packed q v.sends (w.answer, subst (λ sends. MayServe git git_rules m s w.answer w.node sends) w.shown.sent w.may) v.may,
+            packed q v.sends w.tells v.may,
           ),
         );
   }
@@ -83,9 +84,9 @@ module _ {P R F : Type 0} (holds : P → SharedNode → Type 0) (told : R → An
   settles (Ok (Reported moved reasons)) a sends shown = inr (moved, reasons.items, shown.answer)
   settles (Err fault) a sends shown = shown.answer
 
-  pub pack_comes : (m : Message) (pack : Vec ℕ Global) (bytes : List ℕ) (received : Result Received CloneFault) (result : Result Fetched (ExchangeEnd R)) (old new : P) (was is : Held F)
-      → AnswersPeer holds told m (Ok pack) old new → bytes ≡ pack.items → Takes bytes received was is → result ≡ settled received → Leads holds (HoldsClone content) old new was is (IsRest told m result)
-  pack_comes m pack bytes received result old new was is k same takes e = with_pack m pack bytes received result old new was is k same takes (subst (Settles received) (sym e) (settles received))
+  pub pack_comes : (m : Message) (pack : Reply) (received : Result Received CloneFault) (result : Result Fetched (ExchangeEnd R)) (old new : P) (was is : Held F)
+      → AnswersPeer holds told m (Ok pack) old new → Takes pack received was is → result ≡ settled received → Leads holds (HoldsClone content) old new was is (IsRest told m result)
+  pack_comes m pack received result old new was is k takes e = with_pack m pack received result old new was is k takes (subst (Settles received) (sym e) (settles received))
 
   -- ---- a whole round
 
@@ -116,7 +117,7 @@ module _ {P R F : Type 0} (holds : P → SharedNode → Type 0) (told : R → An
       }
 
   -- what the peer answers to the message of these bytes
-  abbrev pub Answers : List ℕ → Result (Vec ℕ Global) R → P → P → Type 0
+  abbrev pub Answers : List ℕ → Result Reply R → P → P → Type 0
   Answers bytes result old new = (m : Message) → Reads bytes m → AnswersPeer holds told m result old new
 
   pub unanswered : (list : Vec ℕ Global) (sent : List ℕ) (refusal : R) (old new : P) (was is : Held F) → Calls content (Command StartFetch) (SentAs (Ok list)) was is → sent ≡ list.items
@@ -139,13 +140,13 @@ module _ {P R F : Type 0} (holds : P → SharedNode → Type 0) (told : R → An
     tells : SharedMaySend git git_rules s list shared advert
     led_to : Led content (Receive advert) (ReceivedAs received) middle then
 
-  come : (list advert : Vec ℕ Global) (sent got : List ℕ) (received : Result Received CloneFault) (old new : P) (was is then : Held F) (s : SharedNode) (c : CloneNode)
-      → Calls content (Command StartFetch) (SentAs (Ok list)) was is → sent ≡ list.items → Answers sent (Ok advert) old new → got ≡ advert.items → Takes got received is then
+  come : (list : Vec ℕ Global) (advert : Reply) (sent : List ℕ) (received : Result Received CloneFault) (old new : P) (was is then : Held F) (s : SharedNode) (c : CloneNode)
+      → Calls content (Command StartFetch) (SentAs (Ok list)) was is → sent ≡ list.items → Answers sent (Ok advert) old new → Takes advert received is then
       → holds old s → HoldsClone content was c → Told s c received new then
-  come list advert sent got received old new was is then s c k same asks same_too takes hs hc =
+  come list advert sent received old new was is then s c k same asks takes hs hc =
       let v = listed list was is c k hc in
       let w = answered holds told v.list advert old new s (asks v.list (subst (λ b. Reads b v.list) (sym same) v.reads)) hs in
-      let q = w.shown.message in
+      let q = w.message in
       record {
         middle = v.node;
         list = v.list;
@@ -153,8 +154,8 @@ module _ {P R F : Type 0} (holds : P → SharedNode → Type 0) (told : R → An
         lists = v.sends;
         shared = w.node;
         held = w.held;
-        tells = (w.answer, subst (λ sends. MayServe git git_rules v.list s w.answer w.node sends) w.shown.sent w.may);
-        led_to = led content (Receive q) (ReceivedAs received) is then v.node (takes q (subst (λ b. Reads b q) (sym same_too) w.shown.written.reads)) v.held;
+        tells = w.tells;
+        led_to = led content (Receive q) (ReceivedAs received) is then v.node (takes q w.brings) v.held;
       }
 
   -- what ends a round here sends nothing, and is told so
@@ -165,12 +166,12 @@ module _ {P R F : Type 0} (holds : P → SharedNode → Type 0) (told : R → An
   ends_so (Ok (Reported moved reasons)) result e a sends shown = (shown.sent, subst (λ r. RoundAs told r a) (end_same (Err Stray) result e) (inr (moved, reasons.items, shown.answer)))
   ends_so (Err fault) result e a sends shown = (shown.sent, subst (λ r. RoundAs told r a) (end_same (Err (Clone fault)) result e) shown.answer)
 
-  pub ended : (list advert : Vec ℕ Global) (sent got : List ℕ) (received : Result Received CloneFault) (result : Result Fetched (ExchangeEnd R)) (old new : P) (was is then : Held F)
-      → Calls content (Command StartFetch) (SentAs (Ok list)) was is → sent ≡ list.items → Answers sent (Ok advert) old new → got ≡ advert.items → Takes got received is then → next_of received ≡ End result
+  pub ended : (list : Vec ℕ Global) (advert : Reply) (sent : List ℕ) (received : Result Received CloneFault) (result : Result Fetched (ExchangeEnd R)) (old new : P) (was is then : Held F)
+      → Calls content (Command StartFetch) (SentAs (Ok list)) was is → sent ≡ list.items → Answers sent (Ok advert) old new → Takes advert received is then → next_of received ≡ End result
       → Leads holds (HoldsClone content) old new was then (IsRound told result)
-  ended list advert sent got received result old new was is then k same asks same_too takes e = record {
+  ended list advert sent received result old new was is then k same asks takes e = record {
     each = λ s c hs hc.
-        let w = come list advert sent got received old new was is then s c k same asks same_too takes hs hc in
+        let w = come list advert sent received old new was is then s c k same asks takes hs hc in
         let v = w.led_to in
         let r = ends_so received result e v.answer v.sends v.shown in (
           w.shared,
@@ -188,12 +189,12 @@ module _ {P R F : Type 0} (holds : P → SharedNode → Type 0) (told : R → An
   asks_so (Ok (Reported moved reasons)) want e = absurd (cc)
   asks_so (Err fault) want e = absurd (cc)
 
-  pub wanted : (list advert want : Vec ℕ Global) (sent got asked : List ℕ) (received : Result Received CloneFault) (result : Result Fetched (ExchangeEnd R)) (old new last : P) (was is then end : Held F)
-      → Calls content (Command StartFetch) (SentAs (Ok list)) was is → sent ≡ list.items → Answers sent (Ok advert) old new → got ≡ advert.items → Takes got received is then → next_of {R = R} received ≡ Ask want
+  pub wanted : (list : Vec ℕ Global) (advert : Reply) (want : Vec ℕ Global) (sent asked : List ℕ) (received : Result Received CloneFault) (result : Result Fetched (ExchangeEnd R)) (old new last : P) (was is then end : Held F)
+      → Calls content (Command StartFetch) (SentAs (Ok list)) was is → sent ≡ list.items → Answers sent (Ok advert) old new → Takes advert received is then → next_of {R = R} received ≡ Ask want
       → asked ≡ want.items → ((m : Message) → Reads asked m → Leads holds (HoldsClone content) new last then end (IsRest told m result)) → Leads holds (HoldsClone content) old last was end (IsRound told result)
-  wanted list advert want sent got asked received result old new last was is then end k same asks same_too takes e same_want rest = record {
+  wanted list advert want sent asked received result old new last was is then end k same asks takes e same_want rest = record {
     each = λ s c hs hc.
-        let w = come list advert sent got received old new was is then s c k same asks same_too takes hs hc in
+        let w = come list advert sent received old new was is then s c k same asks takes hs hc in
         let v = w.led_to in
         let q : SendsBytes want.items v.answer v.sends = subst (λ r. ReceivedAs r v.answer v.sends) (asks_so received want e) v.shown in
         let r = (rest q.message (subst (λ b. Reads b q.message) (sym same_want) q.written.reads)).each w.shared v.node w.held v.held in (

@@ -22,6 +22,8 @@ use Rattle.vc_world.specs.Chains.{MayServe, MayStep}
 use Rattle.vc_world.specs.Chains.MayServe.{at_once, stepped}
 use Rattle.vc_world.specs.Chains.MayStep.{further, sent, undone}
 use Rattle.vc_world.specs.Exchanging.{AnswersPeer, AskedAs}
+use Rattle.vc_world.specs.declared.peer.Reply.{Reply}
+use Rattle.vc_world.specs.declared.peer.Reply.TheVariants as replies
 use Rattle.vc_world.proofs.FetchRounds.{node_undone}
 
 -- a refusal is no deed
@@ -43,14 +45,19 @@ may_serve_of : (m : Message) (n t : SharedNode) (a : Answer) (sends : Option Mes
 may_serve_of m n t a sends (served_at_once k none) = at_once k none
 may_serve_of m n t a sends (served_stepped {u = u} slot small k rest) = stepped u slot k (may_step_of slot u t a sends rest)
 
+-- what is answered as bytes
+abbrev pub in_bytes : Result (Vec ℕ Global) SharedFault → Result Reply SharedFault
+in_bytes (Ok bytes) = Ok (replies.Bytes bytes)
+in_bytes (Err e) = Err e
+
 -- the two words for what a call tells are one
-asked_as : (result : Result (Vec ℕ Global) SharedFault) (a : Answer) (sends : Option Message) → ServedAs result a sends → AskedAs fault_answer result a sends
+asked_as : (result : Result (Vec ℕ Global) SharedFault) (a : Answer) (sends : Option Message) → ServedAs result a sends → AskedAs fault_answer (in_bytes result) a sends
 asked_as (Ok bytes) a sends h = record { message = h.message; written = h.written; answer = h.answer; sent = h.sent }
 asked_as (Err e) a sends h = (record { answer = h.answer; sent = h.sent }, shared_undone e)
 
 pub peer_answers : {S : Type 0} (content : S → FileMap) (slots : S → List (Option SessionText)) (is_up : S → Bool) (m : Message) (result : Result (Vec ℕ Global) SharedFault) (old new : S)
     → Serves (Accept m) result (content old) (content new) (slots old) (slots new) (is_up old) (is_up new)
-    → AnswersPeer (λ shared n. HoldsShared (content shared) (slots shared) (is_up shared) n) fault_answer m result old new
+    → AnswersPeer (λ shared n. HoldsShared (content shared) (slots shared) (is_up shared) n) fault_answer m (in_bytes result) old new
 peer_answers content slots is_up m result old new k = record {
   each = λ n h.
       let w = k.each n h in

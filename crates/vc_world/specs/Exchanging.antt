@@ -1,11 +1,12 @@
 -- What an exchange over real nodes says: whatever nodes were held before it, some are held after it, and its calls are a chain.
-use Rattle.std.specs.Global.{Global}
-use Rattle.std.specs.Prelude.{◌≡◌, ◌⊎◌, ℕ, false, List, [], ◌∷◌, Option, Some, None, Result, Ok, Err, IfOk, IfErr, Vec}
+use Rattle.std.specs.Prelude.{◌≡◌, ◌⊎◌, ℕ, false, List, [], ◌∷◌, Option, Some, None, Result, Ok, Err, IfOk, IfErr}
 use Rattle.vc_exchange.specs.Sending.{machine_items}
 use Rattle.vc_exchange.specs.declared.item.PushItem.{PushItem}
 use Rattle.vc_files.specs.FileMap.{FileMap}
 use Rattle.vc_format.specs.Git.{bytes_of_id}
-use Rattle.vc_message.specs.Machine.{IsReport}
+use Rattle.vc_message.specs.AnyMessage.{MessageText}
+use Rattle.vc_message.specs.AnyView.{message_text}
+use Rattle.vc_message.specs.Machine.{IsReport, Reads, TextOf, WasRead}
 use Rattle.vc_model.specs.Clone.{Awaited, CloneNode}
 use Rattle.vc_model.specs.Exchange.{AreReady, AreUp, IsCaughtUp, IsUndone, MayPush, one_item}
 use Rattle.vc_model.specs.Message.{Message}
@@ -30,6 +31,8 @@ use Rattle.vc_world.specs.Chains.{MayFetch, MayPushRun, MayRest, MayRound, MaySe
 use Rattle.vc_world.specs.declared.ending.ExchangeEnd.{ExchangeEnd}
 use Rattle.vc_world.specs.declared.ending.ExchangeEnd.TheVariants as of
 use Rattle.vc_world.specs.declared.fetching.Fetched.{Fetched}
+use Rattle.vc_world.specs.declared.peer.Reply.{Reply}
+use Rattle.vc_world.specs.declared.peer.Reply.TheVariants as replies
 
 -- ---- who answers
 
@@ -39,13 +42,27 @@ pub record HoldsClone {F : Type 0} (content : F → FileMap) (held : Held F) (c 
   pub is_awaited : IsAwaited held.awaited awaited
   pub holds : HoldsNode (content held.files) held.is_up awaited c
 
+-- what came back is read as the message
+abbrev pub Brings : Reply → Message → Type 0
+Brings (replies.Bytes bytes) m = Reads bytes.items m
+Brings (replies.Message message) m = TextOf m (message_text message)
+
+-- a message is sent that says what the text says, and that was read
+pub record SendsText (text : MessageText) (a : Answer) (sends : Option Message) : Type 0 where
+  pub message : Message
+  pub is : TextOf message text
+  pub was_read : WasRead text
+  pub answer : a ≡ Did Sends
+  pub sent : sends ≡ Some message
+
 -- the shared node's answer, as it is told to who asked
-abbrev pub AskedAs : {R : Type 0} → (R → Answer) → Result (Vec ℕ Global) R → Answer → Option Message → Type 0
-AskedAs told (Ok bytes) a sends = SendsBytes bytes.items a sends
+abbrev pub AskedAs : {R : Type 0} → (R → Answer) → Result Reply R → Answer → Option Message → Type 0
+AskedAs told (Ok (replies.Bytes bytes)) a sends = SendsBytes bytes.items a sends
+AskedAs told (Ok (replies.Message message)) a sends = SendsText (message_text message) a sends
 AskedAs told (Err refusal) a sends = Quietly (told refusal) a sends × IsUndone (told refusal)
 
 -- Whichever shared node was asked with the message, some node is there after it, and its calls are the machine's where it was sound.
-pub record AnswersPeer {P R : Type 0} (holds : P → SharedNode → Type 0) (told : R → Answer) (m : Message) (result : Result (Vec ℕ Global) R) (old new : P) : Type 0 where
+pub record AnswersPeer {P R : Type 0} (holds : P → SharedNode → Type 0) (told : R → Answer) (m : Message) (result : Result Reply R) (old new : P) : Type 0 where
   pub each : (s : SharedNode) → holds old s → (t : SharedNode) × (a : Answer) × (sends : Option Message) × holds new t × AskedAs told result a sends × MayServe git git_rules m s a t sends
 
 -- ---- how an exchange ends

@@ -1,13 +1,18 @@
 -- What a clone does with the answer to a push.
-use Rattle.std.specs.Prelude.{Result, Ok, Err}
+use Rattle.std.specs.Prelude.{Option, Some, Result, Ok, Err}
+use Rattle.vc_files.specs.FileMap.{FileMap}
 use Rattle.vc_message.specs.declared.message.Message.{Message as AnyMessage}
 use Rattle.vc_message.specs.declared.message.Message.TheVariants as of
+use Rattle.vc_model.specs.CloneCall.CloneCall.{Receive}
 use Rattle.vc_model.specs.Message.{Message}
+use Rattle.vc_model.specs.Node.{Answer}
+use Rattle.vc_node.specs.CloneCalls.{AnswersClone, ReceivedAs}
+use Rattle.vc_node.specs.Held.{Held}
 use Rattle.vc_node.specs.declared.clone_fault.CloneFault.{CloneFault}
 use Rattle.vc_node.specs.declared.exchanging.Received.{Received}
 use Rattle.vc_node.specs.declared.exchanging.Received.TheVariants.{Moved, Reported, Send}
 use Rattle.vc_push.specs.declared.report.Report.{Report}
-use Rattle.vc_world.specs.Exchanging.{IsNoReport}
+use Rattle.vc_world.specs.Exchanging.{IsNoReport, PushedAs}
 use Rattle.vc_world.specs.declared.ending.ExchangeEnd.{ExchangeEnd}
 use Rattle.vc_world.specs.declared.ending.ExchangeEnd.TheVariants.{Clone, Memory, Stray}
 
@@ -28,3 +33,9 @@ abbrev pub IsUnreadReport : {R : Type 0} → Message → ExchangeEnd R → Type 
 IsUnreadReport m Memory = Unit {0}
 IsUnreadReport m Stray = IsNoReport m
 IsUnreadReport m _ = ⊥
+
+-- The clone takes the message that came to its push, and what the push answers is what that comes to, whoever sent it.
+pub record TakesAnswer {F R : Type 0} (content : F → FileMap) (m : Message) (result : Result Report (ExchangeEnd R)) (was is : Held F) : Type 0 where
+  pub received : Result Received CloneFault
+  pub receives : AnswersClone (Receive m) (ReceivedAs received) (content was.files) (content is.files) was.awaited is.awaited was.is_up is.is_up
+  pub tells : (told : R → Answer) (a : Answer) (sends : Option Message) → ReceivedAs received a sends → PushedAs told result a (Some m)

@@ -2,7 +2,7 @@
 ghost use Rattle.vc_shared.specs.Faults.{fault_answer};
 ghost use Rattle.vc_shared.specs.Holding.{HoldsShared};
 
-use crate::Peer;
+use crate::{Peer, Reply};
 use vc_files::Files;
 use vc_shared::{Shared, SharedFault};
 
@@ -15,7 +15,10 @@ impl<F: Files> Peer for Shared<F> {
 
     ghost told = { fault_answer };
 
-    fn ask(&mut self, bytes: &[u8]) -> Result<Vec<u8>, SharedFault> {
-        vc_server::answer(self, bytes)
+    fn ask(&mut self, bytes: &[u8]) -> Result<Reply, SharedFault> {
+        match vc_server::answer(self, bytes) {
+            Ok(reply) => Ok(Reply::Bytes(reply)),
+            Err(fault) => Err(fault),
+        }
     }
 }

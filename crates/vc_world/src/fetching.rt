@@ -1,12 +1,14 @@
 // A whole fetch.
 ghost use Rattle.std.specs.Prelude.{◌≡◌, ◌≢◌, ◌⊎◌, None, false, true};
 ghost use Rattle.vc_message.specs.Machine.{Reads};
+ghost use Rattle.vc_model.specs.CloneCall.CloneCall.{Receive};
 ghost use Rattle.vc_model.specs.Exchange.{IsFewer};
 ghost use Rattle.vc_model.specs.Message.{Message as Sent};
+ghost use Rattle.vc_node.specs.CloneCalls.{AnswersClone, ReceivedAs};
 ghost use Rattle.vc_world.specs.Fetching.{next_of, settled};
-ghost use Rattle.vc_world.specs.Exchanging.{CatchesUp, HoldsClone, IsFetch, IsRest, IsRound, Leads};
+ghost use Rattle.vc_world.specs.Exchanging.{Brings, CatchesUp, HoldsClone, IsFetch, IsRest, IsRound, Leads};
 
-use crate::{ExchangeEnd, Peer};
+use crate::{ExchangeEnd, Peer, Reply};
 use vc_files::Files;
 use vc_node::{CloneFault, CloneNode, Received};
 
@@ -26,6 +28,16 @@ enum Next<R> {
     Ask(Vec<u8>),
     // The round is at its end.
     End(Result<Fetched, ExchangeEnd<R>>),
+}
+
+// The clone takes the message that came back.
+fn receive<F: Files>(clone: &mut CloneNode<F>, reply: Reply) -> Result<Received, CloneFault>
+    ensures answers { F.honest → (m : Sent) → Brings reply m → AnswersClone (Receive m) (ReceivedAs result) (F.content clone.old.files) (F.content clone.new.files) clone.old.awaited clone.new.awaited clone.old.is_up clone.new.is_up }
+{
+    match reply {
+        Reply::Bytes(bytes) => clone.receive(&bytes),
+        Reply::Message(message) => clone.receive_message(message),
+    }
 }
 
 // What comes of the refs of the shared node.
@@ -64,7 +76,7 @@ fn fetch_pack<P: Peer, F: Files>(
         Ok(pack) => pack,
         Err(refusal) => return Err(ExchangeEnd::Shared(refusal)),
     };
-    let received = clone.receive(&pack);
+    let received = receive(clone, pack);
     settle(received)
 }
 
@@ -83,7 +95,7 @@ fn fetch_round<P: Peer, F: Files>(
         Ok(advert) => advert,
         Err(refusal) => return Err(ExchangeEnd::Shared(refusal)),
     };
-    let received = clone.receive(&advert);
+    let received = receive(clone, advert);
     match go_on(received) {
         Next::Ask(want) => fetch_pack(shared, clone, &want),
         Next::End(end) => end,

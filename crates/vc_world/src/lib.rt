@@ -17,5 +17,5 @@ pub use laws::{
     a_branch_that_may_be_pushed_can_be_tracked, a_chain_of_calls_is_a_fetch,
     a_chain_of_calls_is_a_push,
 };
-pub use peer::Peer;
+pub use peer::{Peer, Reply};
 pub use pushing::exchange_push;

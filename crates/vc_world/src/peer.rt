@@ -1,9 +1,20 @@
 // Whom a clone asks.
 ghost use Rattle.vc_message.specs.Machine.{Reads};
-ghost use Rattle.vc_model.specs.Message.{Message};
+ghost use Rattle.vc_model.specs.Message.{Message as Sent};
 ghost use Rattle.vc_model.specs.Node.{Answer};
 ghost use Rattle.vc_model.specs.Shared.{SharedNode};
 ghost use Rattle.vc_world.specs.Exchanging.{AnswersPeer};
+
+use vc_message::Message;
+
+/// An answer, as bytes or read already.
+#[derive(Drop)]
+pub enum Reply {
+    /// The message that is all of the bytes.
+    Bytes(Vec<u8>),
+    /// The message that was read.
+    Message(Message),
+}
 
 /// The shared node as a clone meets it: it is sent a message, and answers with one.
 pub trait Peer {
@@ -20,6 +31,6 @@ pub trait Peer {
     ghost told: { Self.Refusal → Answer };
 
     /// Sends the message that is all of the bytes, and gives the one that comes back.
-    fn ask(&mut self, bytes: &[u8]) -> Result<Vec<u8>, Self::Refusal>
-        ensures answers { honest → (m : Message) → Reads bytes.now m → AnswersPeer holds told m result self.old self.new };
+    fn ask(&mut self, bytes: &[u8]) -> Result<Reply, Self::Refusal>
+        ensures answers { honest → (m : Sent) → Reads bytes.now m → AnswersPeer holds told m result self.old self.new };
 }

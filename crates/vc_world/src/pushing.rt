@@ -1,15 +1,16 @@
 // A whole push.
 ghost use Rattle.std.specs.Prelude.{◌≡◌, ◌≢◌, ◌⊎◌, [], IfErr, IfOk};
 ghost use Rattle.vc_exchange.specs.Sending.{machine_items};
-ghost use Rattle.vc_message.specs.Machine.{IsReport, Reads};
+ghost use Rattle.vc_message.specs.AnyView.{message_text};
+ghost use Rattle.vc_message.specs.Machine.{IsReport, Reads, TextOf};
 ghost use Rattle.vc_model.specs.Clone.{IsItemId};
 ghost use Rattle.vc_model.specs.Message.{Message as Sent};
 ghost use Rattle.vc_model.specs.Object.{zero_id};
 ghost use Rattle.vc_push.specs.ReportView.{report_text};
-ghost use Rattle.vc_world.specs.Exchanging.{HoldsClone, IsNoReport, IsPush, Leads, PushesOne};
-ghost use Rattle.vc_world.specs.Pushing.{IsUnreadReport, report_in, taken};
+ghost use Rattle.vc_world.specs.Exchanging.{Brings, HoldsClone, IsNoReport, IsPush, Leads, PushesOne};
+ghost use Rattle.vc_world.specs.Pushing.{IsUnreadReport, TakesAnswer, report_in, taken};
 
-use crate::{ExchangeEnd, Peer};
+use crate::{ExchangeEnd, Peer, Reply};
 use std::alloc::Global;
 use vc_exchange::PushItem;
 use vc_files::Files;
@@ -58,6 +59,76 @@ fn take<R: Drop>(received: Result<Received, CloneFault>) -> Result<(), ExchangeE
     }
 }
 
+// The clone takes the bytes that came back, and it is the report that they are that is answered.
+fn take_bytes<F: Files, R: Drop>(
+    alloc: Global,
+    clone: &mut CloneNode<F>,
+    answer: &[u8],
+) -> Result<Report, ExchangeEnd<R>>
+    ensures takes { F.honest → (m : Sent) → Reads answer.now m → TakesAnswer F.content m result clone.old clone.new }
+{
+    let received = clone.receive(answer);
+    if let Err(end) = take(received) {
+        return Err(end);
+    }
+    read_report(alloc, answer)
+}
+
+// The clone takes a report that came back, which is answered.
+fn take_report<F: Files, R: Drop>(
+    clone: &mut CloneNode<F>,
+    report: Report,
+) -> Result<Report, ExchangeEnd<R>>
+    ensures takes { F.honest → (m : Sent) → IsReport m (report_text report) → TakesAnswer F.content m result clone.old clone.new }
+{
+    let received = clone.receive_report(&report);
+    if let Err(end) = take(received) {
+        return Err(end);
+    }
+    Ok(report)
+}
+
+// The clone takes a message that is no report. Whatever it makes of that, the push has no report.
+fn take_other<F: Files, R: Drop>(
+    clone: &mut CloneNode<F>,
+    message: Message,
+) -> Result<Report, ExchangeEnd<R>>
+    ensures takes { F.honest → (m : Sent) → TextOf m (message_text message) → IsNoReport m → TakesAnswer F.content m result clone.old clone.new }
+{
+    let received = clone.receive_message(message);
+    if let Err(end) = take(received) {
+        return Err(end);
+    }
+    Err(ExchangeEnd::Stray)
+}
+
+// The same of any message that was read.
+fn take_message<F: Files, R: Drop>(
+    clone: &mut CloneNode<F>,
+    message: Message,
+) -> Result<Report, ExchangeEnd<R>>
+    ensures takes { F.honest → (m : Sent) → TextOf m (message_text message) → TakesAnswer F.content m result clone.old clone.new }
+{
+    match message {
+        Message::Report(report) => take_report(clone, report),
+        other => take_other(clone, other),
+    }
+}
+
+// The clone takes what came back to its push, and it is the report that is answered.
+fn take_reply<F: Files, R: Drop>(
+    alloc: Global,
+    clone: &mut CloneNode<F>,
+    reply: Reply,
+) -> Result<Report, ExchangeEnd<R>>
+    ensures takes { F.honest → (m : Sent) → Brings reply m → TakesAnswer F.content m result clone.old clone.new }
+{
+    match reply {
+        Reply::Bytes(answer) => take_bytes(alloc, clone, &answer),
+        Reply::Message(message) => take_message(clone, message),
+    }
+}
+
 /// A push of the items, of which there is at least one: the clone sends it, and takes the report. It is the report that is answered.
 pub fn exchange_push<P: Peer, F: Files>(
     alloc: Global,
@@ -73,13 +144,9 @@ pub fn exchange_push<P: Peer, F: Files>(
         Ok(push) => push,
         Err(fault) => return Err(ExchangeEnd::Clone(fault)),
     };
-    let answer = match shared.ask(&push) {
-        Ok(answer) => answer,
+    let reply = match shared.ask(&push) {
+        Ok(reply) => reply,
         Err(refusal) => return Err(ExchangeEnd::Shared(refusal)),
     };
-    let received = clone.receive(&answer);
-    if let Err(end) = take(received) {
-        return Err(end);
-    }
-    read_report(alloc, &answer)
+    take_reply(alloc, clone, reply)
 }

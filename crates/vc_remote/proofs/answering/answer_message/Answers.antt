@@ -6,10 +6,6 @@ pub returns-clause-answers : goal.returns-clause-answers
 returns-clause-answers g c = λ honest r openable m reads.
     rw c.close.ensures (served_once _ r _ _ _ _ _ _ _ _ c.in-Ok.ensures.up (c.in-Ok.ensures.opens honest r openable) (c.answer-answered.ensures.answers honest m reads))
 
-pub returns-clause-unread : goal.returns-clause-unread
-returns-clause-unread g c = λ honest r openable n unread.
-    rw c.close.ensures (served_once _ r _ _ _ _ _ _ _ _ c.in-Ok.ensures.up (c.in-Ok.ensures.opens honest r openable) (c.answer-answered.ensures.unread honest n unread))
-
 pub returns-clause-refused : goal.returns-clause-refused
 returns-clause-refused g c = λ honest. refused_once _ _ _ _ c.answer-answered.result (c.in-Ok.ensures.clean honest) (c.answer-answered.ensures.bad_file honest)
 

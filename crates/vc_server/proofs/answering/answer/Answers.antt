@@ -1,34 +1,29 @@
 use Rattle.vc_files.proofs.WearLemmas.{writes_both}
-use Rattle.vc_server.proofs.ServingLemmas.{by_bytes, err_is, on_the_way, refused_at_once, replied_at_once, served_by_steps}
+use Rattle.vc_model.specs.Question.Question.{Unread}
+use Rattle.vc_model.specs.SharedCall.SharedCall.{Accept, Asks}
+use Rattle.vc_server.proofs.ServingLemmas.{by_itself, err_is, on_the_way, refused_at_once, up_then}
+use Rattle.vc_shared.specs.Accepting.{IsRefusedBytes}
 use Rattle.vc_server.proofs.answering.answer.Goals as goal
 
 pub returns-in_err-accepted-clause-answers : goal.returns-in_err-accepted-clause-answers
 returns-in_err-accepted-clause-answers g c = λ honest m reads.
     rw (err_is _ _ c.from_residual.ensures.1) (refused_at_once _ _ _ _ _ _ _ c.in_err-accepted.field-0.0 (c.in_err-accepted.ensures.answers honest m reads))
 
+pub returns-clause-answers : goal.returns-clause-answers
+returns-clause-answers g c = λ honest m reads. (c.reply_to.ensures.replies honest).serves (Accept m) _ _ _ _ (up_then _ _ _ _ c.in_ok-accepted.ensures.down c.in_ok-accepted.ensures.up) (c.in_ok-accepted.ensures.answers honest m reads)
+
 pub returns-in_err-accepted-clause-unread : goal.returns-in_err-accepted-clause-unread
 returns-in_err-accepted-clause-unread g c = λ honest n unread.
     rw (err_is _ _ c.from_residual.ensures.1) (refused_at_once _ _ _ _ _ _ _ c.in_err-accepted.field-0.0 (c.in_err-accepted.ensures.unread honest n unread))
 
-pub returns-in-Reply-clause-answers : goal.returns-in-Reply-clause-answers
-returns-in-Reply-clause-answers g c = λ honest m reads. replied_at_once _ _ _ _ _ _ _ _ _ c.in-Reply.is (c.in_ok-accepted.ensures.answers honest m reads)
-
-pub returns-in-Reply-clause-unread : goal.returns-in-Reply-clause-unread
-returns-in-Reply-clause-unread g c = λ honest n unread. replied_at_once _ _ _ _ _ _ _ _ _ c.in-Reply.is (c.in_ok-accepted.ensures.unread honest n unread)
-
-pub returns-in-Slot-clause-answers : goal.returns-in-Slot-clause-answers
-returns-in-Slot-clause-answers g c = λ honest m reads.
-    served_by_steps _ _ _ _ _ _ _ _ _ _ _ _ _ _ c.in-Slot.is c.in_ok-accepted.ensures.down c.in_ok-accepted.ensures.up (c.in_ok-accepted.ensures.answers honest m reads) (c.finish.ensures.steps honest)
-
-pub returns-in-Slot-clause-unread : goal.returns-in-Slot-clause-unread
-returns-in-Slot-clause-unread g c = λ honest n unread.
-    served_by_steps _ _ _ _ _ _ _ _ _ _ _ _ _ _ c.in-Slot.is c.in_ok-accepted.ensures.down c.in_ok-accepted.ensures.up (c.in_ok-accepted.ensures.unread honest n unread) (c.finish.ensures.steps honest)
-
-pub returns-in-Slot-clause-wear : goal.returns-in-Slot-clause-wear
-returns-in-Slot-clause-wear g c = writes_both c.in_ok-accepted.ensures.wear (λ never. never) c.finish.ensures.wear
+pub returns-clause-unread : goal.returns-clause-unread
+returns-clause-unread g c = λ honest n unread. (c.reply_to.ensures.replies honest).serves (Asks (Unread n)) _ _ _ _ (up_then _ _ _ _ c.in_ok-accepted.ensures.down c.in_ok-accepted.ensures.up) (c.in_ok-accepted.ensures.unread honest n unread)
 
 pub returns-in_err-accepted-clause-bad_file : goal.returns-in_err-accepted-clause-bad_file
-returns-in_err-accepted-clause-bad_file g c = λ honest. rw (err_is _ _ c.from_residual.ensures.1) (by_bytes _ _ _ _ (c.in_err-accepted.ensures.bad_file honest))
+returns-in_err-accepted-clause-bad_file g c = λ honest. rw (err_is _ _ c.from_residual.ensures.1) (by_itself (IsRefusedBytes (g.F.Files.content c.args.shared.now.files) c.args.shared.now.slots c.args.bytes.now) _ _ (c.in_err-accepted.ensures.bad_file honest))
 
-pub returns-in-Slot-clause-bad_file : goal.returns-in-Slot-clause-bad_file
-returns-in-Slot-clause-bad_file g c = λ honest. on_the_way _ _ _ _ c.finish.result (c.in_ok-accepted.ensures.clean honest) (c.finish.ensures.bad_file honest)
+pub returns-clause-bad_file : goal.returns-clause-bad_file
+returns-clause-bad_file g c = λ honest. on_the_way (IsRefusedBytes (g.F.Files.content c.args.shared.now.files) c.args.shared.now.slots c.args.bytes.now) _ _ c.reply_to.result (c.in_ok-accepted.ensures.clean honest) (c.reply_to.ensures.bad_file honest)
+
+pub returns-clause-wear : goal.returns-clause-wear
+returns-clause-wear g c = writes_both c.in_ok-accepted.ensures.wear (λ never. never) c.reply_to.ensures.wear

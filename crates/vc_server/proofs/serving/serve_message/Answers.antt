@@ -14,14 +14,14 @@ returns-in-Err-Unread-clause-wear g c = writes_none (λ device. unread_no_device
 
 pub returns-in_default-clause-known : goal.returns-in_default-clause-known
 returns-in_default-clause-known g c = λ m bytes rest is reads.
-    subst (λ taken. GivesMessage bytes rest (g.R.Read.remaining c.read_message.new.reader) (Ok taken)) c.in_default.is (c.in-Ok.ensures.known m bytes rest is reads)
+    subst (λ taken. GivesMessage m rest (g.R.Read.remaining c.read_message.new.reader) (Ok taken)) c.in_default.is (c.in-Ok.ensures.known m bytes rest is reads)
 
 pub returns-clause-known : goal.returns-clause-known
 returns-clause-known g c = λ m bytes rest is reads.
-    let gives = subst (λ taken. GivesMessage bytes rest (g.R.Read.remaining c.read_message.new.reader) (Ok taken)) c.in-Some.is (c.in-Ok.ensures.known m bytes rest is reads) in
-    answer_leaves g.W.Write.contents _ _ rest _ c.answer-answered.result c.tell.result c.tell.ensures gives.1
+    let gives = subst (λ taken. GivesMessage m rest (g.R.Read.remaining c.read_message.new.reader) (Ok taken)) c.in-Some.is (c.in-Ok.ensures.known m bytes rest is reads) in
+    answer_leaves g.W.Write.contents _ _ rest _ c.answer_message-answered.result c.tell.result c.tell.ensures gives.1
 
 pub returns-clause-wear : goal.returns-clause-wear
 returns-clause-wear g c =
-    writes_told c.answer-answered.ensures.wear (device_to g.W.Write.contents _ _ c.answer-answered.result c.tell.result c.tell.ensures)
-    (device_from g.W.Write.contents _ _ c.answer-answered.result c.tell.result c.tell.ensures)
+    writes_told c.answer_message-answered.ensures.wear (device_to g.W.Write.contents _ _ c.answer_message-answered.result c.tell.result c.tell.ensures)
+    (device_from g.W.Write.contents _ _ c.answer_message-answered.result c.tell.result c.tell.ensures)

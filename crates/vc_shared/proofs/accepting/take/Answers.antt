@@ -4,13 +4,13 @@ use Rattle.vc_files.proofs.WearLemmas.{wears_writes}
 use Rattle.std.specs.Prelude.{IfErr}
 use Rattle.vc_message.specs.AnyMessage.{SpellsMessage}
 use Rattle.vc_message.specs.AnyView.{message_text}
-use Rattle.vc_message.specs.Machine.{TextOf}
+use Rattle.vc_message.specs.Machine.{TextOf, WasRead}
 use Rattle.vc_message.specs.declared.message.Message.{Message}
 use Rattle.vc_pkt.specs.Message.{IsSpelledBy}
 use Rattle.vc_push.specs.PushView.{push_text}
 use Rattle.vc_shared.proofs.AcceptingLemmas.{advert_declined, error_declined, list_told, pack_declined, push_told, reply_wears, report_declined, slot_refused, want_told}
 use Rattle.vc_shared.proofs.PushingTexts.{reads_tellable}
-use Rattle.vc_shared.specs.Accepting.{IsRefusedMessage, WasRead}
+use Rattle.vc_shared.specs.Accepting.{IsRefusedMessage}
 use Rattle.vc_shared.specs.Pushing.{IsRefusedPush}
 use Rattle.vc_shared.proofs.accepting.take.Goals as goal
 

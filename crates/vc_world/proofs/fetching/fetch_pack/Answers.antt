@@ -8,6 +8,6 @@ returns-in-Err g c = record {
 
 pub returns : goal.returns
 returns g c = record {
-  rest = λ p f m reads. pack_comes g.P.Peer.holds g.P.Peer.told g.F.Files.content m c.in-Ok.pack c.deref.result.now c.receive-received.result c.settle.result c.args.shared.now c.ask.new.self c.args.clone.now
-      c.receive-received.new.self (c.in-Ok.ensures.answers p m reads) c.deref.ensures.value (c.receive-received.ensures.answers f) c.settle.ensures;
+  rest = λ p f m reads. pack_comes g.P.Peer.holds g.P.Peer.told g.F.Files.content m c.in-Ok.pack c.receive-received.result c.settle.result c.args.shared.now c.ask.new.self c.args.clone.now
+      c.receive-received.new.clone (c.in-Ok.ensures.answers p m reads) (c.receive-received.ensures.answers f) c.settle.ensures;
 }

@@ -1,0 +1,39 @@
+//! A shared node whose answers come read, as from a connection.
+ghost use Rattle.vc_shared.specs.Faults.{fault_answer};
+
+use crate::site::Device;
+use std::alloc::Global;
+use vc_files::Fault;
+use vc_message::Message;
+use vc_node::NodeFault;
+use vc_server::answer;
+use vc_shared::{Shared, SharedFault};
+use vc_store::StoreFault;
+use vc_world::{Peer, Reply};
+
+/// The shared node of the rows, whose answers are read before the clone has them.
+#[derive(Drop)]
+pub struct Reading<'a> {
+    pub alloc: Global,
+    pub shared: &'a mut Shared<Device>,
+}
+
+impl<'a> Peer for Reading<'a> {
+    type Refusal = SharedFault;
+
+    // It stands for the other end of a connection, of which nothing is claimed.
+    ghost honest = { ⊥ };
+
+    ghost holds = { λ _ _. ⊥ };
+
+    ghost told = { fault_answer };
+
+    fn ask(&mut self, bytes: &[u8]) -> Result<Reply, SharedFault> {
+        let answered = answer(&mut *self.shared, bytes)?;
+        match Message::read(self.alloc, &answered) {
+            Ok(message) => Ok(Reply::Message(message)),
+            // A node's answer is a message, so it was memory.
+            Err(_) => Err(SharedFault::Node(NodeFault::Store(StoreFault::Fault(Fault::Memory)))),
+        }
+    }
+}

@@ -1,0 +1,57 @@
+use Rattle.std.proofs.Common.{inl, inr, refl, rules}
+use Rattle.vc_message.specs.AnyMessage.{a_report}
+use Rattle.vc_model.specs.CloneCall.CloneCall.{Receive}
+use Rattle.vc_node.proofs.CleanLemmas.{clean_same}
+use Rattle.vc_node.proofs.CloneCallLemmas.{down_clone}
+use Rattle.vc_node.proofs.LookLemmas.{looks_none}
+use Rattle.vc_node.proofs.SettledLemmas.{settled_answers, settled_awaits, settled_clean, settled_err, settled_looks, settled_refusal, settled_wear}
+use Rattle.vc_node.specs.Awaited.{awaited_text}
+use Rattle.vc_node.specs.Receipts.{IsRefusedMessage}
+use Rattle.vc_push.specs.ReportView.{report_text}
+use Rattle.vc_node.proofs.node.CloneNode.receive_report.Goals as goal
+
+pub returns-then-not-self-clause-answers : goal.returns-then-not-self-clause-answers
+returns-then-not-self-clause-answers g c = λ honest m reads. down_clone (Receive m) (λ never. cc never) _ _ _ _ _ _ refl refl refl (search rules)
+
+pub returns-then-not-self-clause-bad_file : goal.returns-then-not-self-clause-bad_file
+returns-then-not-self-clause-bad_file g c = λ honest. inl refl
+
+pub returns-then-not-self-clause-clean : goal.returns-then-not-self-clause-clean
+returns-then-not-self-clause-clean g c = λ honest. clean_same _ _ refl
+
+pub returns-then-not-self-clause-looks : goal.returns-then-not-self-clause-looks
+returns-then-not-self-clause-looks g c = λ honest m reads awaited n waiting held. inr (looks_none (λ told. told))
+
+pub returns-clause-answers : goal.returns-clause-answers
+returns-clause-answers g c = λ honest.
+    rw (← c.self.view_is) (λ m reads. settled_answers g.F.Files.content c.self.inside.files c.take_report-received.new.files c.settle.new.self.files (awaited_text c.self.inside.awaited) (awaited_text c.take_report-received.new.awaited) c.settle.new.self.awaited c.self.inside.is_up c.settle.new.self.is_up c.take_report-received.result c.settle.result
+    c.settle.ensures.received c.settle.ensures.files c.settle.ensures.awaits (Receive m) c.if-not-self.false (c.settle.ensures.up c.if-not-self.false) (c.take_report-received.ensures.answers honest m reads))
+
+pub returns-clause-bad_file : goal.returns-clause-bad_file
+returns-clause-bad_file g c = λ honest.
+    rw (← c.self.view_is) (settled_refusal (IsRefusedMessage (g.F.Files.content c.self.inside.files) (awaited_text c.self.inside.awaited) (a_report (report_text c.args.report.now))) c.take_report-received.result c.settle.result c.settle.ensures.received (c.take_report-received.ensures.refused honest))
+
+pub returns-clause-err : goal.returns-clause-err
+returns-clause-err g c = λ honest.
+    rw (← c.self.view_is) (settled_err g.F.Files.content c.self.inside.files c.take_report-received.new.files c.settle.new.self.files (awaited_text c.self.inside.awaited) (awaited_text c.take_report-received.new.awaited) c.settle.new.self.awaited c.self.inside.is_up c.settle.new.self.is_up c.take_report-received.result c.settle.result
+    c.settle.ensures.received c.settle.ensures.files c.settle.ensures.awaits (c.take_report-received.ensures.kept honest))
+
+pub returns-clause-awaits : goal.returns-clause-awaits
+returns-clause-awaits g c =
+    rw (← c.self.view_is) (settled_awaits g.F.Files.content c.self.inside.files c.take_report-received.new.files c.settle.new.self.files (awaited_text c.self.inside.awaited) (awaited_text c.take_report-received.new.awaited) c.settle.new.self.awaited c.self.inside.is_up c.settle.new.self.is_up c.take_report-received.result c.settle.result
+    c.settle.ensures.received c.settle.ensures.files c.settle.ensures.awaits c.take_report-received.ensures.unchanged)
+
+pub returns-clause-clean : goal.returns-clause-clean
+returns-clause-clean g c = λ honest.
+    rw (← c.self.view_is) (settled_clean g.F.Files.content c.self.inside.files c.take_report-received.new.files c.settle.new.self.files (awaited_text c.self.inside.awaited) (awaited_text c.take_report-received.new.awaited) c.settle.new.self.awaited c.self.inside.is_up c.settle.new.self.is_up c.take_report-received.result c.settle.result
+    c.settle.ensures.received c.settle.ensures.files c.settle.ensures.awaits (c.take_report-received.ensures.bad honest))
+
+pub returns-clause-wear : goal.returns-clause-wear
+returns-clause-wear g c =
+    rw (← c.self.view_is) (settled_wear g.F.Files.content c.self.inside.files c.take_report-received.new.files c.settle.new.self.files (awaited_text c.self.inside.awaited) (awaited_text c.take_report-received.new.awaited) c.settle.new.self.awaited c.self.inside.is_up c.settle.new.self.is_up c.take_report-received.result c.settle.result
+    c.settle.ensures.received c.settle.ensures.files c.settle.ensures.awaits c.take_report-received.ensures.wear)
+
+pub returns-clause-looks : goal.returns-clause-looks
+returns-clause-looks g c = λ honest.
+    rw (← c.self.view_is) (λ m reads. settled_looks g.F.Files.content c.self.inside.files c.take_report-received.new.files c.settle.new.self.files (awaited_text c.self.inside.awaited) (awaited_text c.take_report-received.new.awaited) c.settle.new.self.awaited c.self.inside.is_up c.settle.new.self.is_up c.take_report-received.result c.settle.result
+    c.settle.ensures.received c.settle.ensures.files c.settle.ensures.awaits (Receive m) c.if-not-self.false (c.take_report-received.ensures.looks honest m reads))

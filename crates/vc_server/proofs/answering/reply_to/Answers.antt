@@ -1,0 +1,22 @@
+use Rattle.std.proofs.Common.{refl, sym, subst}
+use Rattle.std.specs.Prelude.{Bool}
+use Rattle.vc_files.proofs.WearLemmas.{writes_none}
+use Rattle.vc_node.proofs.CleanLemmas.{clean_same}
+use Rattle.vc_server.proofs.ServingLemmas.{replied_at_once, served_by_steps, stays_as}
+use Rattle.vc_server.proofs.answering.reply_to.Goals as goal
+
+pub returns-in-Reply-clause-replies : goal.returns-in-Reply-clause-replies
+returns-in-Reply-clause-replies g c = λ honest. record {
+  serves = λ call old slots was_up mid_up up answered. replied_at_once call old _ slots _ was_up _ _ _ c.in-Reply.is (stays_as up c.requires.up answered);
+}
+
+pub returns-in-Reply-clause-clean : goal.returns-in-Reply-clause-clean
+returns-in-Reply-clause-clean g c = λ honest. clean_same _ _ refl
+
+pub returns-in-Reply-clause-wear : goal.returns-in-Reply-clause-wear
+returns-in-Reply-clause-wear g c = writes_none (λ never. never)
+
+pub returns-in-Slot-clause-replies : goal.returns-in-Slot-clause-replies
+returns-in-Slot-clause-replies g c = λ honest. record {
+  serves = λ call old slots was_up mid_up up answered. served_by_steps call old _ _ slots _ _ was_up mid_up _ _ _ _ c.in-Slot.is up answered (c.finish.ensures.steps honest);
+}

@@ -1,0 +1,50 @@
+use Rattle.std.proofs.Common.{inl, inr, refl, rules}
+use Rattle.vc_message.specs.AnyView.{message_text}
+use Rattle.vc_model.specs.SharedCall.SharedCall.{Accept}
+use Rattle.vc_node.proofs.CleanLemmas.{clean_same}
+use Rattle.vc_node.proofs.LookLemmas.{looks_none}
+use Rattle.vc_shared.proofs.SettledLemmas.{settled_answers, settled_clean, settled_err, settled_looks, settled_refusal, settled_wear}
+use Rattle.vc_shared.proofs.SteppingLaws.{down_answers}
+use Rattle.vc_shared.specs.Accepting.{IsRefusedMessage}
+use Rattle.vc_shared.proofs.shared.Shared.accept_message.Goals as goal
+
+pub returns-then-not-self-clause-answers : goal.returns-then-not-self-clause-answers
+returns-then-not-self-clause-answers g c = λ honest m reads. down_answers (Accept m) _ (λ never. cc never) (record { answer = refl; sent = refl }) _ _ _ _ _ _ refl refl refl (search rules)
+
+pub returns-then-not-self-clause-bad_file : goal.returns-then-not-self-clause-bad_file
+returns-then-not-self-clause-bad_file g c = λ honest. inl refl
+
+pub returns-then-not-self-clause-clean : goal.returns-then-not-self-clause-clean
+returns-then-not-self-clause-clean g c = λ honest. clean_same _ _ refl
+
+pub returns-then-not-self-clause-looks : goal.returns-then-not-self-clause-looks
+returns-then-not-self-clause-looks g c = λ m reads. inr (looks_none (λ told. told))
+
+pub returns-clause-answers : goal.returns-clause-answers
+returns-clause-answers g c = λ honest.
+    rw (← c.self.view_is) (λ m reads. settled_answers g.F.Files.content c.self.inside.files c.take-accepted.new.files c.settle.new.self.files c.self.inside.slots c.take-accepted.new.slots c.settle.new.self.slots c.self.inside.is_up c.settle.new.self.is_up c.take-accepted.result c.settle.result
+    c.settle.ensures.accepted c.settle.ensures.files c.settle.ensures.slots (Accept m) c.if-not-self.false (c.settle.ensures.up c.if-not-self.false) (c.take-accepted.ensures.answers honest m reads))
+
+pub returns-clause-bad_file : goal.returns-clause-bad_file
+returns-clause-bad_file g c = λ honest.
+    rw (← c.self.view_is) (settled_refusal (IsRefusedMessage (g.F.Files.content c.self.inside.files) c.self.inside.slots (message_text c.args.message)) c.take-accepted.result c.settle.result c.settle.ensures.accepted (c.take-accepted.ensures.refused honest))
+
+pub returns-clause-err : goal.returns-clause-err
+returns-clause-err g c =
+    rw (← c.self.view_is) (settled_err g.F.Files.content c.self.inside.files c.take-accepted.new.files c.settle.new.self.files c.self.inside.slots c.take-accepted.new.slots c.settle.new.self.slots c.self.inside.is_up c.settle.new.self.is_up c.take-accepted.result c.settle.result
+    c.settle.ensures.accepted c.settle.ensures.files c.settle.ensures.slots c.take-accepted.ensures.unchanged)
+
+pub returns-clause-clean : goal.returns-clause-clean
+returns-clause-clean g c = λ honest.
+    rw (← c.self.view_is) (settled_clean g.F.Files.content c.self.inside.files c.take-accepted.new.files c.settle.new.self.files c.self.inside.slots c.take-accepted.new.slots c.settle.new.self.slots c.self.inside.is_up c.settle.new.self.is_up c.take-accepted.result c.settle.result
+    c.settle.ensures.accepted c.settle.ensures.files c.settle.ensures.slots (c.take-accepted.ensures.bad honest))
+
+pub returns-clause-wear : goal.returns-clause-wear
+returns-clause-wear g c =
+    rw (← c.self.view_is) (settled_wear g.F.Files.content c.self.inside.files c.take-accepted.new.files c.settle.new.self.files c.self.inside.slots c.take-accepted.new.slots c.settle.new.self.slots c.self.inside.is_up c.settle.new.self.is_up c.take-accepted.result c.settle.result
+    c.settle.ensures.accepted c.settle.ensures.files c.settle.ensures.slots c.take-accepted.ensures.wear)
+
+pub returns-clause-looks : goal.returns-clause-looks
+returns-clause-looks g c =
+    rw (← c.self.view_is) (λ m reads. settled_looks g.F.Files.content c.self.inside.files c.take-accepted.new.files c.settle.new.self.files c.self.inside.slots c.take-accepted.new.slots c.settle.new.self.slots c.self.inside.is_up c.settle.new.self.is_up c.take-accepted.result c.settle.result
+    c.settle.ensures.accepted c.settle.ensures.files c.settle.ensures.slots (c.take-accepted.ensures.looks m reads))

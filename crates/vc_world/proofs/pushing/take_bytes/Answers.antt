@@ -1,0 +1,21 @@
+use Rattle.std.proofs.Common.{sym, ◌∙◌}
+use Rattle.vc_world.proofs.PushCalls.{tells_none, tells_report}
+use Rattle.vc_world.proofs.pushing.take_bytes.Goals as goal
+
+pub returns-in-Err : goal.returns-in-Err
+returns-in-Err g c = record {
+  takes = λ f m reads. record {
+    received = c.receive-received.result;
+    receives = c.receive-received.ensures.answers f m reads;
+    tells = λ told. tells_none told m c.receive-received.result c.in-Err.end (sym c.take.ensures ∙ c.in-Err.is);
+  };
+}
+
+pub returns : goal.returns
+returns g c = record {
+  takes = λ f m reads. record {
+    received = c.receive-received.result;
+    receives = c.receive-received.ensures.answers f m reads;
+    tells = λ told. tells_report told m c.receive-received.result c.read_report.result (sym c.take.ensures ∙ c.in_default.is) (c.read_report.ensures.report m reads) (c.read_report.ensures.unread m reads);
+  };
+}
