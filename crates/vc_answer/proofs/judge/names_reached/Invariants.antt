@@ -8,6 +8,6 @@ abbrev pub invariant-loop-id : goal.invariant-loop-id
 invariant-loop-id g l = record {
   kept : g.O.Objects.state_of l.objects ≡ g.O.Objects.state_of l.initial.objects;
   wear : Wears g.O.Objects.failed g.O.Objects.can_fail g.O.Objects.left l.initial.objects l.objects ⊥;
-  closed : g.O.Objects.is_honest → IsClosedUnder (links_in (g.O.Objects.objects (g.O.Objects.state_of l.initial.objects))) (take l.id-index l.wants);
-  met : g.O.Objects.is_honest → IsClosedUnder (links_in (g.O.Objects.objects (g.O.Objects.state_of l.initial.objects))) l.met.keys;
+  closed : g.O.Objects.is_honest → IsClosedUnder (links_in (g.O.Objects.objects (g.O.Objects.state_of l.initial.objects))) l.fn.known.keys → IsClosedUnder (links_in (g.O.Objects.objects (g.O.Objects.state_of l.initial.objects))) (take l.id-index l.wants);
+  met : g.O.Objects.is_honest → IsClosedUnder (links_in (g.O.Objects.objects (g.O.Objects.state_of l.initial.objects))) l.fn.known.keys → IsClosedUnder (links_in (g.O.Objects.objects (g.O.Objects.state_of l.initial.objects))) l.met.keys;
 }

@@ -37,4 +37,4 @@ returns-clause-sent g c honest =
     let content = g.F.Files.content c.args.files.now in
     let object = stored_object c.in-Some.stored.kind c.in-Some.stored.body.items in
     let found : objects content c.args.id.now ≡ Some object = search (rules, c.in_ok-stored.ensures.found honest, c.in-Some.is) in
-    (object, found, c.in_ok-add.ensures.ok)
+    (object, found, c.in_ok-add_named.ensures.ok)
