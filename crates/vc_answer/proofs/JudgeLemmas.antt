@@ -1,6 +1,7 @@
 -- What is judged want by want: all that the first of them reach is there.
-use Rattle.std.proofs.Common.{◌≡◌, ℕ, ◌+◌, ◌<◌, ⊎_elim, List, [], ◌∷◌, length, take, get_or, Option, Some, None, IsSome, Result, Ok, Err, IfOk, IfErr, OnOk, Contains, refl, sym, ap, ◌∙◌, subst, arith}
-use Rattle.std.proofs.lemmas.List.{get_or_default, take_more}
+use Rattle.std.proofs.Common.{◌≡◌, ℕ, ◌+◌, ◌<◌, ⊎_elim, List, [], ◌∷◌, ◌++◌, append_assoc, length, drop, take, get_or, Option, Some, None, IsSome, Result, Ok, Err, IfOk, IfErr, OnOk, Contains, refl, sym, ap, ◌∙◌, subst, arith}
+use Rattle.std.proofs.Math.Seq.{take-append_seam}
+use Rattle.std.proofs.lemmas.List.{get_or_default, take-append-drop, take_more}
 use Rattle.std.proofs.lemmas.List.Elements.{Contains-push_cases}
 use Rattle.std.specs.Option.{option_or}
 use Rattle.vc_graph.proofs.OverlayLemmas.{links_in-with_carried}
@@ -25,6 +26,15 @@ module _ {Id : Type 0} (links : Id → Option (List Id)) where
     reached_wants y h =
         let is : get_or wants n d ≡ h.root = ⊎_elim (λ none. absurd (omega (arith, none.1))) (λ e. e) (Contains-push_cases [] (get_or wants n d) h.root h.is_root) in
         record { root = get_or wants n d; is_root = (n, within, get_or_default wants n (get_or wants n d) d within); reaches = subst (λ r. Reaches links r y) (sym is) h.reaches }
+
+-- what stands in front of a list stands in front of one that begins with that list
+pub front_then : {X : Type 0} (a b c : List X) → take (length a) b ≡ a → take (length b) c ≡ b → take (length a) c ≡ a
+front_then a b c first second =
+    let later = drop (length a) b in
+    let last = drop (length b) c in
+    let of_b : b ≡ a ++ later = sym (ap (λ l. l ++ later) (sym first) ∙ take-append-drop (length a) b) in
+    let of_c : c ≡ b ++ last = sym (ap (λ l. l ++ last) (sym second) ∙ take-append-drop (length b) c) in
+    ap (take (length a)) (of_c ∙ ap (λ l. l ++ last) of_b ∙ append_assoc a later last) ∙ take-append_seam a (later ++ last)
 
 -- ---- what is said under a premise, of an answer
 module _ {A E H : Type 0} where

@@ -1,5 +1,5 @@
 //! Whether a pack brings all that was asked for.
-ghost use Rattle.std.specs.Prelude.{◌≡◌, IfOk, IfErr, IsErrOf, OnOk};
+ghost use Rattle.std.specs.Prelude.{◌≡◌, length, take, IfOk, IfErr, IsErrOf, OnOk};
 ghost use Rattle.vc_answer.specs.AnswerFault.{IsRefusedPack};
 ghost use Rattle.vc_fetch.specs.PackObjects.{objects_in};
 ghost use Rattle.vc_files.specs.Failures.{Wears};
@@ -29,6 +29,7 @@ fn names_reached<O: Objects>(
 ) -> Result<Result<IndexSet<ObjectId>, ObjectId>, StoreFault>
     ensures complete { IfOk result (λ found. IfOk found (λ met. O.is_honest → IsClosedUnder (links_in (O.objects (O.state_of objects.old))) known.keys → IsClosedUnder (links_in (O.objects (O.state_of objects.old))) wants.now)) }
     ensures met { IfOk result (λ found. IfOk found (λ met. O.is_honest → IsClosedUnder (links_in (O.objects (O.state_of objects.old))) known.keys → IsClosedUnder (links_in (O.objects (O.state_of objects.old))) met.keys)) }
+    ensures front { IfOk result (λ found. IfOk found (λ met. take (length known.keys) met.keys ≡ known.keys)) }
     ensures first { IfOk result (λ found. IfErr found (λ id. O.is_honest → IsFirstIncomplete (links_in (O.objects (O.state_of objects.old))) wants.now id)) }
     ensures refused { IfErr result (λ e. O.is_honest → IsMet (ReachedFrom (links_in (O.objects (O.state_of objects.old))) wants.now) (O.damaged (O.state_of objects.old)) e) }
     ensures kept { O.state_of objects.new ≡ O.state_of objects.old }
@@ -58,6 +59,7 @@ fn names_met<O: Objects>(
 ) -> Result<Result<IndexSet<ObjectId>, ObjectId>, StoreFault>
     ensures complete { IfOk result (λ found. IfOk found (λ met. O.is_honest → IsClosedUnder (links_in (with_carried (O.objects (O.state_of stored.old)) (objects_in (carried_objects carried.now.objects.now)))) known.keys → IsClosedUnder (links_in (with_carried (O.objects (O.state_of stored.old)) (objects_in (carried_objects carried.now.objects.now)))) wants.now)) }
     ensures met { IfOk result (λ found. IfOk found (λ met. O.is_honest → IsClosedUnder (links_in (with_carried (O.objects (O.state_of stored.old)) (objects_in (carried_objects carried.now.objects.now)))) known.keys → IsClosedUnder (links_in (with_carried (O.objects (O.state_of stored.old)) (objects_in (carried_objects carried.now.objects.now)))) met.keys)) }
+    ensures front { IfOk result (λ found. IfOk found (λ met. take (length known.keys) met.keys ≡ known.keys)) }
     ensures first { IfOk result (λ found. IfErr found (λ id. O.is_honest → IsFirstIncomplete (links_in (with_carried (O.objects (O.state_of stored.old)) (objects_in (carried_objects carried.now.objects.now)))) wants.now id)) }
     ensures refused { IfErr result (λ e. O.is_honest → IsMet (ReachedFrom (links_in (with_carried (O.objects (O.state_of stored.old)) (objects_in (carried_objects carried.now.objects.now)))) wants.now) (O.damaged (O.state_of stored.old)) e) }
     ensures kept { O.state_of stored.new ≡ O.state_of stored.old }
@@ -82,6 +84,7 @@ fn names_met_in_files<F: Files>(
 ) -> Result<Result<IndexSet<ObjectId>, ObjectId>, StoreFault>
     ensures complete { F.honest → IsClosedUnder (links_in (objects (F.content files.old))) known.keys → IfOk result (λ found. OnOk found (IsClosedUnder (links_in (with_carried (objects (F.content files.old)) (objects_in (carried_objects carried.now.objects.now)))) wants.now)) }
     ensures met { F.honest → IsClosedUnder (links_in (objects (F.content files.old))) known.keys → IfOk result (λ found. IfOk found (λ met. IsClosedUnder (links_in (with_carried (objects (F.content files.old)) (objects_in (carried_objects carried.now.objects.now)))) met.keys)) }
+    ensures front { IfOk result (λ found. IfOk found (λ met. take (length known.keys) met.keys ≡ known.keys)) }
     ensures first { F.honest → IfOk result (λ found. IfErr found (IsFirstIncomplete (links_in (with_carried (objects (F.content files.old)) (objects_in (carried_objects carried.now.objects.now)))) wants.now)) }
     ensures refused { F.honest → IfErr result (IsMet (ReachedFrom (links_in (with_carried (objects (F.content files.old)) (objects_in (carried_objects carried.now.objects.now)))) wants.now) (IsDamaged (F.content files.old))) }
     ensures same { F.content files.new ≡ F.content files.old }
@@ -105,6 +108,7 @@ pub fn judge_pack<F: Files>(
 ) -> Result<IndexSet<ObjectId>, AnswerFault>
     ensures complete { F.honest → IsClosedUnder (links_in (objects (F.content files.old))) known.keys → OnOk result (IsClosedUnder (links_in (with_carried (objects (F.content files.old)) (objects_in (carried_objects pack.now.objects)))) wants.now) }
     ensures met { F.honest → IsClosedUnder (links_in (objects (F.content files.old))) known.keys → IfOk result (λ met. IsClosedUnder (links_in (with_carried (objects (F.content files.old)) (objects_in (carried_objects pack.now.objects)))) met.keys) }
+    ensures front { IfOk result (λ met. take (length known.keys) met.keys ≡ known.keys) }
     ensures refused { F.honest → IfErr result (IsRefusedPack (F.content files.old) (objects_in (carried_objects pack.now.objects)) wants.now) }
 
     ensures same { F.content files.new ≡ F.content files.old }

@@ -1,6 +1,7 @@
 use Rattle.std.proofs.Common.{◌∙◌, ◌∷◌, [], arith, get_or, refl, rules, subst}
+use Rattle.std.proofs.Math.Seq.{take-length}
 use Rattle.std.proofs.lemmas.List.{take_all}
-use Rattle.vc_answer.proofs.JudgeLemmas.{closed_next, closed_none, reached_wants}
+use Rattle.vc_answer.proofs.JudgeLemmas.{closed_next, closed_none, front_then, reached_wants}
 use Rattle.vc_graph.proofs.FaultLemmas.{IsMet-more}
 use Rattle.vc_graph.specs.Graph.{IsClosedUnder, ReachedFrom}
 use Rattle.vc_graph.specs.GraphFault.{IsMet}
@@ -14,6 +15,7 @@ loop-id-init g c = record {
   wear = search rules;
   closed = λ honest whole. closed_none (links_in (g.O.Objects.objects (g.O.Objects.state_of c.args.objects.now))) c.args.wants.now;
   met = λ honest whole. whole;
+  front = take-length c.args.known.keys;
 }
 
 pub loop-id-preserved : goal.loop-id-preserved
@@ -29,6 +31,7 @@ loop-id-preserved g c =
           let complete = rw before.kept at (c.in_ok-is_complete_beyond.ensures.complete honest) in
           closed_next links wants c.loop-id.id-index none c.loop-id-test.true (before.closed honest whole) ((complete (before.met honest whole)).0 c.if-not-branch.false);
       met = λ honest whole. (rw before.kept at (c.in_ok-is_complete_beyond.ensures.known honest)) (before.met honest whole);
+      front = front_then c.args.known.keys c.loop-id.met.keys c.is_complete_beyond.new.known.keys before.front c.in_ok-is_complete_beyond.ensures.front;
     }
 
 pub returns-in_err-is_complete_beyond-clause-refused : goal.returns-in_err-is_complete_beyond-clause-refused
@@ -68,3 +71,6 @@ returns-clause-complete g c honest whole =
 
 pub returns-clause-met : goal.returns-clause-met
 returns-clause-met g c honest whole = c.loop-id.invariant.met honest whole
+
+pub returns-in-None-clause-front : goal.returns-in-None-clause-front
+returns-in-None-clause-front g c = front_then c.args.known.keys c.loop-id.met.keys c.is_complete_beyond.new.known.keys c.loop-id.invariant.front c.in_ok-is_complete_beyond.ensures.front
