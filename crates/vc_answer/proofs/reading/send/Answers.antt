@@ -1,5 +1,4 @@
-use Rattle.std.proofs.Common.{rules, ◌≡◌, [], ◌∷◌, Some, None, arith}
-use Rattle.std.proofs.lemmas.Grind.{common_steps}
+use Rattle.std.proofs.Common.{rules, ◌≡◌, [], ◌∷◌, Some, None}
 use Rattle.vc_answer.proofs.reading.send.Goals as goal
 use Rattle.vc_graph.proofs.FaultLemmas.{IsMet-from_refused}
 use Rattle.vc_graph.proofs.WalkLemmas.{ReachedFrom-one}
