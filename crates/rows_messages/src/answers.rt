@@ -2,6 +2,7 @@
 
 use crate::messages::object_of;
 use crate::spelling::{ids_of, push_bytes, push_id, spelled};
+use indexmap::IndexSet;
 use std::alloc::{AllocError, Global};
 use std::fmt::Write;
 use vc_answer::{AnswerFault, answer_want, judge_pack};
@@ -90,27 +91,55 @@ fn push_verdict(
     out: &mut String,
     alloc: Global,
     files: &mut MemoryFiles,
+    known: &[ObjectId],
     wants: &[ObjectId],
     pack: &Pack,
 ) -> Result<(), AllocError> {
-    match judge_pack(alloc, files, wants, pack) {
+    let mut whole = IndexSet::new(alloc);
+    for id in known {
+        whole.insert(*id)?;
+    }
+    match judge_pack(alloc, files, whole, wants, pack) {
         Ok(_) => out.push_str("ok"),
         Err(fault) => push_refusal(out, &fault),
     }
 }
 
-/// Whether the files and the pack together have all that the wants reach.
-pub fn judge(
+// The same beyond the known names.
+fn judge_beyond(
     out: &mut String,
     alloc: Global,
     files: &mut MemoryFiles,
+    known: &[ObjectId],
     text: &str,
 ) -> Result<(), AllocError> {
     let (wants, pack) = text.split_once(' ').unwrap_or((text, ""));
     let wants = ids_of(alloc, wants)?;
     let pack = spelled(alloc, pack)?;
     match Pack::read(alloc, &pack) {
-        Ok(pack) => push_verdict(out, alloc, files, &wants, &pack),
+        Ok(pack) => push_verdict(out, alloc, files, known, &wants, &pack),
         Err(fault) => write!(out, "{fault}"),
     }
+}
+
+/// Whether the files and the pack together have all that the wants reach, where nothing is known.
+pub fn judge(
+    out: &mut String,
+    alloc: Global,
+    files: &mut MemoryFiles,
+    text: &str,
+) -> Result<(), AllocError> {
+    judge_beyond(out, alloc, files, &[], text)
+}
+
+/// The same beyond names that are known to be whole, which the row gives first.
+pub fn beyond(
+    out: &mut String,
+    alloc: Global,
+    files: &mut MemoryFiles,
+    text: &str,
+) -> Result<(), AllocError> {
+    let (known, text) = text.split_once(' ').unwrap_or((text, ""));
+    let known = ids_of(alloc, known)?;
+    judge_beyond(out, alloc, files, &known, text)
 }

@@ -43,6 +43,7 @@ fn answer(
         "file" => answers::file(out, alloc, files, text),
         "answer" => answers::answer(out, alloc, files, text),
         "judge" => answers::judge(out, alloc, files, text),
+        "beyond" => answers::beyond(out, alloc, files, text),
         "open" => sessions::open_push(out, alloc, files, pushes, text),
         "step" => sessions::step(out, alloc, files, pushes, text),
         "run" => sessions::run(out, alloc, files, text),

@@ -1,5 +1,5 @@
 -- What walks and their refusals say of a node's refs.
-use Rattle.std.proofs.Common.{◌≡◌, ◌⊎◌, inl, inr, ⊎_elim, List, [], ◌∷◌, ◌++◌, Option, Some, None, is_some, IsSome, Contains, ◌↔◌, sym, ap, subst, ◌∙◌, refl, true≢false, arith, slice_get}
+use Rattle.std.proofs.Common.{◌≡◌, ⊎_elim, List, [], ◌∷◌, ◌++◌, Option, Some, None, is_some, IsSome, Contains, ◌↔◌, sym, ap, subst, ◌∙◌, refl, true≢false, arith, slice_get}
 use Rattle.std.proofs.lemmas.List.Elements.{Contains-append_cases, Contains-append_left, Contains-append_right}
 use Rattle.std.specs.Option.{option_map}
 use Rattle.std.specs.Prelude.{⊤}
@@ -9,18 +9,17 @@ use Rattle.vc_answer.specs.Picked.{IsFirst, IsPicked, BeginsWithFirst}
 use Rattle.vc_answer.specs.declared.fault.AnswerFault.{AnswerFault}
 use Rattle.vc_answer.specs.declared.fault.AnswerFault.TheVariants.{NotOurs, Incomplete, Refs, Graph, Fault}
 use Rattle.vc_files.specs.FileMap.{FileMap}
-use Rattle.vc_graph.specs.Graph.{ReachedFrom, IsClosedUnder, itself}
+use Rattle.vc_graph.specs.Graph.{ReachedFrom, itself}
 use Rattle.vc_graph.specs.GraphFault.{IsMet, IsTold}
 use Rattle.vc_graph.specs.Overlay.{with_carried}
 use Rattle.vc_graph.specs.declared.fault.GraphFault.{GraphFault}
 use Rattle.vc_graph.specs.declared.fault.GraphFault.TheVariants as graph
-use Rattle.vc_graph.proofs.WalkLemmas.{Reaches-trans, ReachedFrom-append_left}
+use Rattle.vc_graph.proofs.WalkLemmas.{Reaches-trans}
 use Rattle.vc_object.specs.Decoding.{StoredObject}
 use Rattle.vc_object.specs.Links.{links_of}
 use Rattle.vc_object.specs.ObjectMap.{ObjectMap, links_in}
 use Rattle.vc_object.specs.declared.id.ObjectId.{ObjectId}
 use Rattle.vc_store.specs.Store.{objects, IsDamaged}
-use Rattle.vc_store.specs.StoreFault.{IsFault}
 use Rattle.vc_store.specs.declared.faults.StoreFault.{StoreFault}
 use Rattle.vc_store.specs.declared.faults.StoreFault.TheVariants as store
 

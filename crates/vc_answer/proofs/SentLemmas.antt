@@ -1,8 +1,7 @@
 -- The walk that keeps what it reads: what stays true of it, step by step, and what it has kept at its end.
-use Rattle.std.proofs.Common.{◌≡◌, ℕ, ◌+◌, ◌<◌, ◌≤◌, ⊎_elim, List, [], ◌∷◌, ◌++◌, length, take, get_or, Option, Some, None, IsSome, is_some, Contains, ◌↔◌, sym, ap, subst, ◌∙◌, refl, true≢false, arith, append_assoc, length-append}
-use Rattle.std.proofs.lemmas.Grind.{common_steps}
+use Rattle.std.proofs.Common.{◌≡◌, ℕ, ◌+◌, ◌<◌, ◌≤◌, ⊎_elim, List, [], ◌∷◌, ◌++◌, length, take, get_or, Option, Some, None, is_some, Contains, ◌↔◌, sym, ap, subst, ◌∙◌, refl, true≢false, arith, append_assoc}
 use Rattle.std.proofs.lemmas.List.{append-nil, take_all, take-append-le}
-use Rattle.std.proofs.lemmas.List.Elements.{Contains-append_left, Contains-append_right, Contains-append_cases}
+use Rattle.std.proofs.lemmas.List.Elements.{Contains-append_right, Contains-append_cases}
 use Rattle.std.proofs.Math.Seq.{take-append_seam}
 use Rattle.std.specs.List.{IsDistinct}
 use Rattle.vc_answer.proofs.PickedLemmas.{front_grows}
@@ -10,7 +9,7 @@ use Rattle.vc_answer.proofs.ReadingLemmas.{HasRead, HasRead-none, HasRead-push}
 use Rattle.vc_files.specs.FileMap.{FileMap}
 use Rattle.vc_graph.proofs.NamesLemmas.{Contains-apart}
 use Rattle.vc_graph.proofs.WalkLemmas.{Reaches-from_one, Reaches-trans, ReachedFrom-trans}
-use Rattle.vc_graph.specs.Graph.{Reaches, ReachedFrom, IsClosedUnder, IsFollowed, itself, onward}
+use Rattle.vc_graph.specs.Graph.{ReachedFrom, IsClosedUnder, IsFollowed, onward}
 use Rattle.vc_object.proofs.IdLemmas.{id_eq_equiv}
 use Rattle.vc_object.specs.Decoding.{StoredObject}
 use Rattle.vc_object.specs.ObjectId.{id_eq}

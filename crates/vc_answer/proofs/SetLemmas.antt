@@ -1,5 +1,5 @@
 -- A set that is made of a list of names.
-use Rattle.std.proofs.Common.{◌≡◌, ◌⊎◌, ⊎_elim, List, [], Contains, ◌↔◌, sym, subst, arith}
+use Rattle.std.proofs.Common.{◌≡◌, ⊎_elim, List, [], Contains, ◌↔◌, sym, subst, arith}
 use Rattle.indexmap.specs.IndexSet.{insert_all}
 use Rattle.vc_graph.proofs.WalkLemmas.{Contains-insert_all_cases, Contains-insert_all_new}
 use Rattle.vc_object.proofs.IdLemmas.{id_eq-same}

@@ -20,7 +20,7 @@ use Rattle.vc_model.specs.Node.Reply.{Moved}
 use Rattle.vc_model.specs.Object.{Id, Lookup, Objects, over, stored}
 use Rattle.vc_model.specs.Reach.{IsClosed}
 use Rattle.vc_model.specs.Refs.{RefName, Refs}
-use Rattle.vc_model.specs.Repository.{Change, Repository, changed_all, with_objects}
+use Rattle.vc_model.specs.Repository.{Change, IsSound, Repository, changed_all, with_objects}
 use Rattle.vc_object.specs.Decoding.{StoredObject}
 use Rattle.vc_object.specs.ObjectMap.{links_in}
 use Rattle.vc_object.specs.declared.id.ObjectId.{ObjectId}
@@ -85,10 +85,10 @@ module _ (old : FileMap) (r : Repository) (held : HoldsContent old r) (brought :
         among : (wants before after : List ObjectId) (id : ObjectId) → wants ≡ before ++ id ∷ after → Contains (map bytes_of_id wants) id.0
         among wants before after id place = subst (λ (l : List ObjectId). Contains (map bytes_of_id l) id.0) (sym place) (placed before after id)
 
-    module _ (told : List Told) (same : AreRefs refs told) (closed : graph.IsClosedUnder (links_in (with_carried (objects old) (objects_in brought))) wants) where
-      receives : (changes : List Change) → MovesBy All (with_objects r (joined r.objects s)) told changes → (ids : List Id) → AreOpen git (stored (joined r.objects s)) [] (machine_refs told) ids
+    module _ (told : List Told) (same : AreRefs refs told) (closed : IsSound git r → graph.IsClosedUnder (links_in (with_carried (objects old) (objects_in brought))) wants) where
+      receives : IsSound git r → (changes : List Change) → MovesBy All (with_objects r (joined r.objects s)) told changes → (ids : List Id) → AreOpen git (stored (joined r.objects s)) [] (machine_refs told) ids
           → Receives git r (awaited_pack wants refs) m (quietly Nothing (record { objects = s; changes = changes }) (Moved (length changes) (length ids)))
-      receives changes moves ids still =
+      receives sound changes moves ids still =
           let there : stored (joined r.objects s) ≡ over r.objects s = all_is old r held brought s are in
           let moves_over : Moves (MovesAny git (over r.objects s)) r.refs (machine_refs told) changes = subst (λ (at : Lookup). Moves (MovesAny git at) r.refs (machine_refs told) changes) there moves in
           let open_over : AreOpen git (over r.objects s) [] (machine_refs told) ids = subst (λ (at : Lookup). AreOpen git at [] (machine_refs told) ids) there still in
@@ -96,7 +96,7 @@ module _ (old : FileMap) (r : Repository) (held : HoldsContent old r) (brought :
             map bytes_of_id wants,
             refs,
             refl,
-            wants_closed old r held brought s are wants closed,
+            wants_closed old r held brought s are wants (closed sound),
             record {
               changes = changes;
               open_ids = ids;
@@ -106,18 +106,18 @@ module _ (old : FileMap) (r : Repository) (held : HoldsContent old r) (brought :
             },
           )
 
-      module _ (known : Type 0) (so : known) where
+      module _ (known : Type 0) (so : IsSound git r → known) where
         -- all is done
-        pub pack_taken : (new : FileMap) (n : ℕ) (ids : List ObjectId) → AreMoved known All told (with_objects r (joined r.objects s)) new n → AreOpenTold (with_objects r (joined r.objects s)) told ids
+        pub pack_taken : (new : FileMap) (n : ℕ) (ids : List ObjectId) → AreMoved known All told (with_objects r (joined r.objects s)) new n → (IsSound git r → AreOpenTold (with_objects r (joined r.objects s)) told ids)
             → IsReceived r (awaited_pack wants refs) m new Nothing None (Moved n (length ids))
         pack_taken new n ids moved still =
-            let deed = receives moved.changes (moved.moves so) (map bytes_of_id ids) still in
-            let counted : Receives git r (awaited_pack wants refs) m (quietly Nothing (record { objects = s; changes = moved.changes }) (Moved n (length (map bytes_of_id ids)))) =
-            subst (λ (k : ℕ). Receives git r (awaited_pack wants refs) m (quietly Nothing (record { objects = s; changes = moved.changes }) (Moved k (length (map bytes_of_id ids))))) (sym moved.counted) deed in
+            let deed = λ (sound : IsSound git r). receives sound moved.changes (moved.moves (so sound)) (map bytes_of_id ids) (still sound) in
+            let counted : IsSound git r → Receives git r (awaited_pack wants refs) m (quietly Nothing (record { objects = s; changes = moved.changes }) (Moved n (length (map bytes_of_id ids)))) = λ sound.
+            subst (λ (k : ℕ). Receives git r (awaited_pack wants refs) m (quietly Nothing (record { objects = s; changes = moved.changes }) (Moved k (length (map bytes_of_id ids))))) (sym moved.counted) (deed sound) in
             record {
               effect = record { objects = s; changes = moved.changes };
               after = changed_all moved.changes (with_objects r (joined r.objects s));
-              receives = λ _. subst (λ (k : ℕ). Receives git r (awaited_pack wants refs) m (quietly Nothing (record { objects = s; changes = moved.changes }) (Moved n k))) (length-map ids bytes_of_id) counted;
+              receives = λ sound. subst (λ (k : ℕ). Receives git r (awaited_pack wants refs) m (quietly Nothing (record { objects = s; changes = moved.changes }) (Moved n k))) (length-map ids bytes_of_id) (counted sound);
               done = (joined r.objects s, joined_all r.objects s, refl);
               content = moved.content;
               head = set_head moved.changes (with_objects r (joined r.objects s)) moved.set;
@@ -131,7 +131,7 @@ module _ (old : FileMap) (r : Repository) (held : HoldsContent old r) (brought :
             within (record {
               deed = quietly Nothing (record { objects = s; changes = f.changes }) (Moved (length f.changes) (length still.0));
               after = changed_all (take f.done f.changes) (with_objects r (joined r.objects s));
-              receives = λ _. receives f.changes (f.moves so) still.0 still.1;
+              receives = λ sound. receives sound f.changes (f.moves (so sound)) still.0 still.1;
               stops = inr (joined r.objects s, f.done, joined_all r.objects s, refl);
               content = f.content;
               head = set_head (take f.done f.changes) (with_objects r (joined r.objects s)) (set_front f.done f.changes f.set);
@@ -142,7 +142,7 @@ module _ (old : FileMap) (r : Repository) (held : HoldsContent old r) (brought :
       pub pack_stored : (new : FileMap) → HoldsContent new (with_objects r (joined r.objects s)) → IsCutShort r (awaited_pack wants refs) m new
       pack_stored new content =
           let changes = changes_all (machine_refs told) in
-          pack_moving (Unit {0}) tt new (record {
+          pack_moving (Unit {0}) (λ _. tt) new (record {
             changes = changes.0;
             done = 0;
             set = moves_set (rule_of All git (stored (joined r.objects s))) (machine_refs told) r.refs changes.0 changes.1;
@@ -158,7 +158,7 @@ module _ (old : FileMap) (r : Repository) (held : HoldsContent old r) (brought :
           within (record {
             deed = quietly Nothing (record { objects = s; changes = changes.0 }) (Moved (length changes.0) (length still.0));
             after = with_objects r (some_of old r held brought s are new outside);
-            receives = λ _. receives changes.0 changes.1 still.0 still.1;
+            receives = λ sound. receives sound changes.0 changes.1 still.0 still.1;
             stops = inl (some_of old r held brought s are new outside, some_added old r held brought s are new outside, refl);
             content = some_content old r held brought s are new outside some;
             head = refl;

@@ -22,7 +22,7 @@ use Rattle.vc_object.specs.Decoding.{StoredObject, decoded}
 use Rattle.vc_object.specs.Header.{header}
 use Rattle.vc_object.specs.Kind.{front}
 use Rattle.vc_object.specs.Object.{IsObject, object_bytes}
-use Rattle.vc_object.specs.ObjectMap.{ObjectMap, links_in}
+use Rattle.vc_object.specs.ObjectMap.{ObjectMap, links_in, parents_in}
 use Rattle.vc_object.specs.declared.id.ObjectId.{ObjectId}
 use Rattle.vc_object.specs.declared.kind.Kind.{Kind}
 use Rattle.vc_object.specs.declared.kind.Kind.TheVariants.{Blob, Tree, Commit, Tag}
@@ -34,6 +34,7 @@ use Rattle.vc_rules.specs.Git.{git, stored_of}
 use Rattle.vc_rules.specs.OpenPushes.{AreBrought, HoldsContent}
 use Rattle.vc_pkt.specs.Carried.{object_named}
 use Rattle.vc_session.proofs.FrameLemmas.{refs-of_objects}
+use Rattle.vc_session.proofs.KnownLemmas.{AreWhole-with_carried}
 use Rattle.vc_session.specs.Carrying.{objects_in}
 use Rattle.vc_session.specs.Known.{AreWhole}
 use Rattle.vc_session.specs.declared.known.Known.{Known}
@@ -174,8 +175,11 @@ module _ (old : FileMap) (r : Repository) (held : HoldsContent old r) (brought :
         by x (inr h) = inr (h ∙ seen_is x)
 
 -- ---- the same over the files at each step
-pub brought_closed : (old : FileMap) (brought : List StoredObject) (ids : List ObjectId) → graph.IsClosedUnder (links_in (with_carried (objects old) (fetch.objects_in brought))) ids → graph.IsClosedUnder (links_in (with_carried (objects old) (objects_in brought))) ids
-brought_closed old brought ids closed = subst (λ (o : ObjectMap). graph.IsClosedUnder (links_in (with_carried (objects old) o)) ids) (brought_same brought) closed
+pub brought_closed : (old read : FileMap) (brought : List StoredObject) (ids : List ObjectId) → read ≡ old → graph.IsClosedUnder (links_in (with_carried (objects read) (fetch.objects_in brought))) ids
+    → graph.IsClosedUnder (links_in (with_carried (objects old) (objects_in brought))) ids
+brought_closed old read brought ids at closed =
+    subst (λ (f : FileMap). graph.IsClosedUnder (links_in (with_carried (objects f) (objects_in brought))) ids) at
+    (subst (λ (o : ObjectMap). graph.IsClosedUnder (links_in (with_carried (objects read) o)) ids) (brought_same brought) closed)
 
 pub stored_outside : (old first mid : FileMap) → first ≡ old → SameOutside (codes "objects/") first mid → SameOutside (codes "objects/") old mid
 stored_outside old first mid at outside = subst (λ (f : FileMap). SameOutside (codes "objects/") f mid) at outside
@@ -192,8 +196,15 @@ stored_met old new brought st ids closed =
     let same : objects new ≡ with_carried (objects old) (objects_in brought) = λ i id. st.each id i in
     subst (λ (o : ObjectMap). graph.IsClosedUnder (links_in o) ids) (sym same) closed
 
-pub whole_after : (mid seen : FileMap) → seen ≡ mid → (known : Known) → graph.IsClosedUnder (links_in (objects mid)) known.objects.keys → known.histories.keys ≡ [] → AreWhole (objects seen) known
-whole_after mid seen same known closed none = record {
+-- and the histories that are known stay so
+pub histories_met : (old read new : FileMap) (brought : List StoredObject) → read ≡ old → AreStored old new brought → (known : Known) → AreWhole (objects read) known → graph.IsClosedUnder (parents_in (objects new)) known.histories.keys
+histories_met old read new brought at st known whole =
+    let same : objects new ≡ with_carried (objects old) (objects_in brought) = λ i id. st.each id i in
+    let there : AreWhole (objects old) known = subst (λ (f : FileMap). AreWhole (objects f) known) at whole in
+    subst (λ (o : ObjectMap). graph.IsClosedUnder (parents_in o) known.histories.keys) (sym same) (AreWhole-with_carried (objects old) (objects_in brought) known there).histories
+
+pub whole_after : (mid seen : FileMap) → seen ≡ mid → (known : Known) → graph.IsClosedUnder (links_in (objects mid)) known.objects.keys → graph.IsClosedUnder (parents_in (objects mid)) known.histories.keys → AreWhole (objects seen) known
+whole_after mid seen same known closed histories = record {
   closed = subst (λ (f : FileMap). graph.IsClosedUnder (links_in (objects f)) known.objects.keys) (sym same) closed;
-  histories = λ y h. contained_none h.root (subst (λ (l : List ObjectId). Contains l h.root) none h.is_root);
+  histories = subst (λ (f : FileMap). graph.IsClosedUnder (parents_in (objects f)) known.histories.keys) (sym same) histories;
 }

@@ -27,7 +27,6 @@ use crate::ExchangeFault;
 use crate::moving::{Followed, move_refs};
 use crate::storing::store_all;
 use crate::wanting::{first_ids, open_ids, want_message};
-use indexmap::IndexSet;
 use std::alloc::{AllocError, Global};
 use std::collections::BTreeMap;
 use vc_answer::judge_pack;
@@ -117,9 +116,9 @@ pub fn receive_advert<F: Files>(
 }
 
 /// Takes the pack that brings these wants, which were asked for when these refs were advertised: its objects are stored, and then
-/// the refs follow. With the pack all must be there that the wants reach (92), and nothing is stored before that is seen. A call
-/// that ends early has stored some objects, or all of them and moved some first refs. No file becomes bad, and only objects and
-/// refs change.
+/// the refs follow. With the pack all must be there that the wants reach (92), and nothing is stored before that is seen. What the
+/// clone's own refs reach is taken as there, as it is in a sound repository, and not read, unless a want is refused. A call that ends
+/// early has stored some objects, or all of them and moved some first refs. No file becomes bad, and only objects and refs change.
 pub fn receive_pack<F: Files>(
     files: &mut F,
     alloc: Global,
@@ -135,10 +134,11 @@ pub fn receive_pack<F: Files>(
     ensures bad { F.honest → MakesNoneBad (F.content files.old) (F.content files.new) }
     ensures wear { Writes F.honest F.content F.failed F.can_fail F.left files.old files.new (IsErrOf result (ExchangeFault.Fault Fault.Device)) }
 {
-    let objects = judge_pack(alloc, files, wants, pack)?;
+    let known = Known::by_good_refs(files, alloc)?;
+    let objects = judge_pack(alloc, files, known.objects, wants, pack)?;
     let mut known = Known {
         objects,
-        histories: IndexSet::new(alloc),
+        histories: known.histories,
     };
     store_all(files, alloc, &pack.objects)?;
     let open = open_ids(files, alloc, &mut known.objects, told)?;

@@ -17,7 +17,7 @@ pub returns-in-Err-clause-refused : goal.returns-in-Err-clause-refused
 returns-in-Err-clause-refused g c honest = rw c.in-Err.is at (c.in_ok-found.ensures.first honest)
 
 pub returns-in-Ok-clause-complete : goal.returns-in-Ok-clause-complete
-returns-in-Ok-clause-complete g c honest = rw c.in-Ok.is at (c.in_ok-found.ensures.complete honest)
+returns-in-Ok-clause-complete g c honest whole = rw c.in-Ok.is at (c.in_ok-found.ensures.complete honest whole)
 
 pub returns-in-Ok-clause-met : goal.returns-in-Ok-clause-met
-returns-in-Ok-clause-met g c honest = rw c.in-Ok.is at (c.in_ok-found.ensures.met honest)
+returns-in-Ok-clause-met g c honest whole = rw c.in-Ok.is at (c.in_ok-found.ensures.met honest whole)

@@ -1,6 +1,7 @@
 use Rattle.std.proofs.Common.{◌∙◌, ◌∷◌, [], arith, get_or, refl, rules, subst}
+use Rattle.std.proofs.Math.Seq.{take-length}
 use Rattle.std.proofs.lemmas.List.{take_all}
-use Rattle.vc_answer.proofs.JudgeLemmas.{closed_next, closed_none, closed_nothing, reached_wants}
+use Rattle.vc_answer.proofs.JudgeLemmas.{closed_next, closed_none, front_then, reached_wants}
 use Rattle.vc_graph.proofs.FaultLemmas.{IsMet-more}
 use Rattle.vc_graph.specs.Graph.{IsClosedUnder, ReachedFrom}
 use Rattle.vc_graph.specs.GraphFault.{IsMet}
@@ -12,8 +13,9 @@ pub loop-id-init : goal.loop-id-init
 loop-id-init g c = record {
   kept = refl;
   wear = search rules;
-  closed = λ honest. closed_none (links_in (g.O.Objects.objects (g.O.Objects.state_of c.args.objects.now))) c.args.wants.now;
-  met = λ honest. closed_nothing (links_in (g.O.Objects.objects (g.O.Objects.state_of c.args.objects.now))) c.new-met.result.keys c.new-met.ensures.empty;
+  closed = λ honest whole. closed_none (links_in (g.O.Objects.objects (g.O.Objects.state_of c.args.objects.now))) c.args.wants.now;
+  met = λ honest whole. whole;
+  front = take-length c.args.known.keys;
 }
 
 pub loop-id-preserved : goal.loop-id-preserved
@@ -25,10 +27,11 @@ loop-id-preserved g c =
     record {
       kept = c.in_ok-is_complete_beyond.ensures.kept ∙ before.kept;
       wear = search rules;
-      closed = λ honest.
+      closed = λ honest whole.
           let complete = rw before.kept at (c.in_ok-is_complete_beyond.ensures.complete honest) in
-          closed_next links wants c.loop-id.id-index none c.loop-id-test.true (before.closed honest) ((complete (before.met honest)).0 c.if-not-branch.false);
-      met = λ honest. (rw before.kept at (c.in_ok-is_complete_beyond.ensures.known honest)) (before.met honest);
+          closed_next links wants c.loop-id.id-index none c.loop-id-test.true (before.closed honest whole) ((complete (before.met honest whole)).0 c.if-not-branch.false);
+      met = λ honest whole. (rw before.kept at (c.in_ok-is_complete_beyond.ensures.known honest)) (before.met honest whole);
+      front = front_then c.args.known.keys c.loop-id.met.keys c.is_complete_beyond.new.known.keys before.front c.in_ok-is_complete_beyond.ensures.front;
     }
 
 pub returns-in_err-is_complete_beyond-clause-refused : goal.returns-in_err-is_complete_beyond-clause-refused
@@ -56,15 +59,18 @@ pub returns-in-Some-clause-first : goal.returns-in-Some-clause-first
 returns-in-Some-clause-first g c honest = rw (c.in-Some.is, c.in_ok-is_complete_beyond.ensures.kept, c.loop-id.invariant.kept) at (c.in_ok-first.ensures.first honest)
 
 pub returns-in-None-clause-complete : goal.returns-in-None-clause-complete
-returns-in-None-clause-complete g c honest = rw (c.in-None.is, c.in_ok-is_complete_beyond.ensures.kept, c.loop-id.invariant.kept) at (c.in_ok-first.ensures.first honest)
+returns-in-None-clause-complete g c honest whole = rw (c.in-None.is, c.in_ok-is_complete_beyond.ensures.kept, c.loop-id.invariant.kept) at (c.in_ok-first.ensures.first honest)
 
 pub returns-in-None-clause-met : goal.returns-in-None-clause-met
-returns-in-None-clause-met g c honest = rw c.loop-id.invariant.kept at (c.in_ok-is_complete_beyond.ensures.known honest (rw (← c.loop-id.invariant.kept) at (c.loop-id.invariant.met honest)))
+returns-in-None-clause-met g c honest whole = rw c.loop-id.invariant.kept at (c.in_ok-is_complete_beyond.ensures.known honest (rw (← c.loop-id.invariant.kept) at (c.loop-id.invariant.met honest whole)))
 
 pub returns-clause-complete : goal.returns-clause-complete
-returns-clause-complete g c honest =
+returns-clause-complete g c honest whole =
     let wants = c.args.wants.now in
-    subst (IsClosedUnder (links_in (g.O.Objects.objects (g.O.Objects.state_of c.args.objects.now)))) (take_all c.loop-id.id-index wants (omega (arith, c.loop-id-test.false))) (c.loop-id.invariant.closed honest)
+    subst (IsClosedUnder (links_in (g.O.Objects.objects (g.O.Objects.state_of c.args.objects.now)))) (take_all c.loop-id.id-index wants (omega (arith, c.loop-id-test.false))) (c.loop-id.invariant.closed honest whole)
 
 pub returns-clause-met : goal.returns-clause-met
-returns-clause-met g c honest = c.loop-id.invariant.met honest
+returns-clause-met g c honest whole = c.loop-id.invariant.met honest whole
+
+pub returns-in-None-clause-front : goal.returns-in-None-clause-front
+returns-in-None-clause-front g c = front_then c.args.known.keys c.loop-id.met.keys c.is_complete_beyond.new.known.keys c.loop-id.invariant.front c.in_ok-is_complete_beyond.ensures.front

@@ -2,7 +2,7 @@ use Rattle.std.proofs.Common.{◌≡◌, ◌≤◌, [], ◌∷◌, ◌++◌, len
 use Rattle.indexmap.specs.IndexSet.{insert_all}
 use Rattle.std.proofs.lemmas.Option.{get_or_from_slice_get, slice_get_within}
 use Rattle.vc_answer.proofs.ReadingLemmas.{HasRead-exact, HasRead-sorted}
-use Rattle.vc_answer.proofs.SentLemmas.{ReachedFrom-onward, Keeps, Keeps-start, Keeps-step, Keeps-end}
+use Rattle.vc_answer.proofs.SentLemmas.{ReachedFrom-onward, Keeps-start, Keeps-step, Keeps-end}
 use Rattle.vc_graph.proofs.FaultLemmas.{IsTold-more}
 use Rattle.vc_graph.proofs.WalkLemmas.{Walks, Walks-start, Walks-step, Contains-from_slice_get, insert_all-prefix, walked, walked-closed}
 use Rattle.vc_object.proofs.IdLemmas.{id_eq-same}

@@ -1,9 +1,8 @@
-use Rattle.std.proofs.Common.{◌≡◌, ◌++◌, ◌-◌, ◌^◌, List}
+use Rattle.std.proofs.Common.{◌≡◌, ◌++◌, ◌-◌, ◌^◌}
 use Rattle.vc_answer.proofs.SentLemmas.{Keeps}
 use Rattle.vc_files.specs.Failures.{Wears}
 use Rattle.vc_graph.proofs.WalkLemmas.{Walks}
 use Rattle.vc_object.specs.ObjectMap.{links_in}
-use Rattle.vc_object.specs.declared.id.ObjectId.{ObjectId as Id}
 use Rattle.vc_pkt.specs.StreamObjectView.{objects_of}
 use Rattle.vc_store.specs.Store.{objects}
 use Rattle.vc_answer.proofs.reading.sent_beyond.Given as goal

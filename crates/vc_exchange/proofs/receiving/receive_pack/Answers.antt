@@ -6,22 +6,29 @@ use Rattle.vc_answer.specs.declared.fault.AnswerFault.TheVariants as answer
 use Rattle.vc_fetch.specs.PackObjects as fetch
 use Rattle.vc_files.specs.FileMap.{FileMap}
 use Rattle.vc_files.proofs.WearLemmas.{wears_then, wears_writes, writes_both, writes_told}
+use Rattle.vc_graph.specs.Graph.{IsClosedUnder}
+use Rattle.vc_graph.specs.Overlay.{with_carried}
 use Rattle.vc_graph.specs.declared.fault.GraphFault.TheVariants as of_graph
-use Rattle.vc_model.specs.Repository.{with_objects}
-use Rattle.vc_object.specs.ObjectMap.{ObjectMap}
+use Rattle.vc_model.specs.Repository.{IsSound, with_objects}
+use Rattle.vc_object.specs.ObjectMap.{ObjectMap, links_in}
+use Rattle.vc_object.specs.declared.id.ObjectId.{ObjectId}
 use Rattle.vc_pkt.specs.ObjectStreamView.{carried}
 use Rattle.vc_rules.proofs.JoinLemmas.{joined}
+use Rattle.vc_rules.specs.Git.{git}
 use Rattle.vc_rules.specs.OpenPushes.{HoldsContent}
+use Rattle.vc_session.specs.Carrying.{objects_in}
 use Rattle.vc_session.specs.Known.{AreWhole}
+use Rattle.vc_session.specs.declared.known.Known.{Known}
 use Rattle.vc_store.specs.Store.{objects}
-use Rattle.vc_exchange.specs.Faults.{from_answer}
+use Rattle.vc_exchange.specs.Faults.{from_answer, from_store}
 use Rattle.vc_exchange.specs.Moving.{told_in}
 use Rattle.vc_exchange.specs.Receiving.{BlamesPack}
 use Rattle.vc_exchange.specs.Storing.{AreSomeStored}
 use Rattle.vc_exchange.specs.declared.fault.ExchangeFault.TheVariants as exchange
 use Rattle.vc_files.specs.declared.faults.Fault.TheVariants.{Device}
-use Rattle.vc_exchange.proofs.PackDeeds.{judge_blames, pack_moving, pack_storing, pack_stored, pack_taken}
-use Rattle.vc_exchange.proofs.PackLemmas.{brought_closed, brought_same, stored_content, stored_met, stored_outside, stored_since, some_since, whole_after}
+use Rattle.vc_exchange.proofs.MovingLoops.{whole_refs}
+use Rattle.vc_exchange.proofs.PackDeeds.{judge_blames, pack_moving, pack_storing, pack_stored, pack_taken, store_other}
+use Rattle.vc_exchange.proofs.PackLemmas.{brought_closed, brought_same, histories_met, stored_content, stored_met, stored_outside, stored_since, some_since, whole_after}
 use Rattle.vc_exchange.proofs.receiving.receive_pack.Goals as goal
 
 on_err : {A E : Type 0} (r : Result A E) (X : Type 0) → X → OnErr r X
@@ -35,13 +42,21 @@ told_err : {A E : Type 0} (r : Result A E) (e : E) (P : E → Type 0) → r ≡ 
 told_err (Ok a) e P is p = absurd (cc is)
 told_err (Err f) e P is p = let same : f ≡ e = cc in subst P (sym same) p
 
+pub returns-in_err-known-clause-wear : goal.returns-in_err-known-clause-wear
+returns-in_err-known-clause-wear g c = writes_told (wears_writes c.in_err-known.ensures.wear (λ _. c.in_err-known.ensures.same)) (search rules) (search rules)
+
 pub returns-in_err-objects-clause-refused : goal.returns-in_err-objects-clause-refused
 returns-in_err-objects-clause-refused g c = λ honest m p.
-    let old = g.F.Files.content c.args.files.now in
+    let content = g.F.Files.content in
+    let old = content c.args.files.now in
+    let read = content c.by_good_refs.new.files in
     let brought = carried c.args.pack.now.objects in
-    let why : IsRefusedPack old (fetch.objects_in brought) c.args.wants.now c.in_err-objects.field-0.0 = search (rules, c.in_err-objects.ensures.refused honest) in
-    let blamed : BlamesPack old c.args.wants.now m (from_answer c.in_err-objects.field-0.0) = judge_blames old brought c.args.wants.now m p.objects _ c.in_err-objects.field-0.0 p.brought p.is (subst (λ (o : ObjectMap). IsRefusedPack old o c.args.wants.now c.in_err-objects.field-0.0) (brought_same brought) why) in
-    told_err c.from_residual.result (from_answer c.in_err-objects.field-0.0) (BlamesPack old c.args.wants.now m) (search rules) blamed
+    let wants = c.args.wants.now in
+    let e = c.in_err-objects.field-0.0 in
+    let why : IsRefusedPack read (fetch.objects_in brought) wants e = search (rules, c.in_err-objects.ensures.refused honest) in
+    let at : IsRefusedPack old (objects_in brought) wants e = subst (λ (f : FileMap). IsRefusedPack f (objects_in brought) wants e) c.in_ok-known.ensures.same (subst (λ (o : ObjectMap). IsRefusedPack read o wants e) (brought_same brought) why) in
+    let blamed : BlamesPack old wants m (from_answer e) = judge_blames old brought wants m p.objects _ e p.brought p.is at in
+    told_err c.from_residual-in_err-objects.result (from_answer e) (BlamesPack old wants m) (search rules) blamed
 
 -- no other refusal becomes a fault of the device
 plain : (e : AnswerFault) → from_answer e ≡ exchange.Fault Device → e ≡ answer.Fault Device
@@ -55,95 +70,129 @@ plain (answer.Fault fault) h = cc h
 pub returns-in_err-objects-clause-wear : goal.returns-in_err-objects-clause-wear
 returns-in_err-objects-clause-wear g c =
     let e = c.in_err-objects.field-0.0 in
-    let is : c.from_residual.result ≡ Err (from_answer e) = search rules in
-    writes_told (wears_writes c.in_err-objects.ensures.wear (λ _. c.in_err-objects.ensures.same))
+    let is : c.from_residual-in_err-objects.result ≡ Err (from_answer e) = search rules in
+    wears_then c.in_ok-known.ensures.wear (λ _. c.in_ok-known.ensures.same) (search rules)
+    (writes_told (wears_writes c.in_err-objects.ensures.wear (λ _. c.in_err-objects.ensures.same))
     (λ told. let same : e ≡ answer.Fault Device = cc in is ∙ ap (λ (x : AnswerFault). Err (from_answer x)) same)
-    (λ told. let same : from_answer e ≡ exchange.Fault Device = err_same (sym is ∙ told) in ap Err (plain e same))
+    (λ told. let same : from_answer e ≡ exchange.Fault Device = err_same (sym is ∙ told) in ap Err (plain e same)))
 
 pub returns-in_err-store_all-clause-cut : goal.returns-in_err-store_all-clause-cut
 returns-in_err-store_all-clause-cut g c = λ honest r p m pack refs same.
     let content = g.F.Files.content in
     let old = content c.args.files.now in
+    let read = content c.by_good_refs.new.files in
     let first = content c.judge_pack.new.files in
     let mid = content c.store_all.new.files in
     let brought = carried c.args.pack.now.objects in
-    let at : first ≡ old = c.in_ok-objects.ensures.same in
-    let closed = brought_closed old brought c.args.wants.now (c.in_ok-objects.ensures.complete honest) in
+    let wants = c.args.wants.now in
+    let seen_at : read ≡ old = c.in_ok-known.ensures.same in
+    let at : first ≡ old = c.in_ok-objects.ensures.same ∙ seen_at in
+    let by_refs : IsSound git r → AreWhole (objects read) c.in_ok-known.known = whole_refs old read c.in_ok-known.known r seen_at (c.in_ok-known.ensures.whole honest) p in
+    let closed : IsSound git r → IsClosedUnder (links_in (with_carried (objects old) (objects_in brought))) wants = λ is. brought_closed old read brought wants seen_at (c.in_ok-objects.ensures.complete honest (by_refs is).closed) in
     let outside = stored_outside old first mid at (c.in_err-store_all.ensures.outside honest) in
     let some : AreSomeStored first mid brought = search (rules, c.in_err-store_all.ensures.left honest) in
-    on_err c.from_residual-in_err-store_all.result _ (pack_storing old r p brought pack.objects pack.brought m _ pack.is c.args.wants.now refs (told_in c.args.told.now) same closed mid outside (some_since old first mid brought at some))
+    on_err c.from_residual-in_err-store_all.result _ (pack_storing old r p brought pack.objects pack.brought m _ pack.is wants refs (told_in c.args.told.now) same closed mid outside (some_since old first mid brought at some))
 
 pub returns-in_err-store_all-clause-wear : goal.returns-in_err-store_all-clause-wear
 returns-in_err-store_all-clause-wear g c =
-    wears_then c.in_ok-objects.ensures.wear (λ _. c.in_ok-objects.ensures.same) (search rules) (writes_told c.in_err-store_all.ensures.wear (search rules) (search rules))
+    wears_then c.in_ok-known.ensures.wear (λ _. c.in_ok-known.ensures.same) (search rules)
+    (wears_then c.in_ok-objects.ensures.wear (λ _. c.in_ok-objects.ensures.same) (search rules) (writes_told c.in_err-store_all.ensures.wear (search rules) (search rules)))
+
+pub returns-in_err-store_all-clause-unchanged : goal.returns-in_err-store_all-clause-unchanged
+returns-in_err-store_all-clause-unchanged g c = λ honest.
+    let content = g.F.Files.content in
+    let e = c.in_err-store_all.field-0.0 in
+    told_err c.from_residual-in_err-store_all.result (from_store e) (λ x. (id : ObjectId) → x ≡ exchange.Incomplete id → content c.store_all.new.files ≡ content c.args.files.now) (search rules) (λ id is. absurd (store_other e id is))
 
 pub returns-in_err-open-clause-cut : goal.returns-in_err-open-clause-cut
 returns-in_err-open-clause-cut g c = λ honest r p m pack refs same.
     let content = g.F.Files.content in
     let old = content c.args.files.now in
+    let read = content c.by_good_refs.new.files in
     let first = content c.judge_pack.new.files in
     let mid = content c.store_all.new.files in
     let brought = carried c.args.pack.now.objects in
-    let at : first ≡ old = c.in_ok-objects.ensures.same in
-    let closed = brought_closed old brought c.args.wants.now (c.in_ok-objects.ensures.complete honest) in
+    let wants = c.args.wants.now in
+    let seen_at : read ≡ old = c.in_ok-known.ensures.same in
+    let at : first ≡ old = c.in_ok-objects.ensures.same ∙ seen_at in
+    let by_refs : IsSound git r → AreWhole (objects read) c.in_ok-known.known = whole_refs old read c.in_ok-known.known r seen_at (c.in_ok-known.ensures.whole honest) p in
+    let closed : IsSound git r → IsClosedUnder (links_in (with_carried (objects old) (objects_in brought))) wants = λ is. brought_closed old read brought wants seen_at (c.in_ok-objects.ensures.complete honest (by_refs is).closed) in
     let outside = stored_outside old first mid at (c.in_ok-store_all.ensures.outside honest) in
     let st = stored_since old first mid brought at (c.in_ok-store_all.ensures.stored honest) in
     let held = stored_content old r p brought pack.objects pack.brought mid outside st in
     let now : HoldsContent (content c.open_ids.new.files) (with_objects r (joined r.objects pack.objects)) = subst (λ (f : FileMap). HoldsContent f (with_objects r (joined r.objects pack.objects))) (sym c.in_err-open.ensures.same) held in
-    on_err c.from_residual-in_err-open.result _ (pack_stored old r p brought pack.objects pack.brought m _ pack.is c.args.wants.now refs (told_in c.args.told.now) same closed (content c.open_ids.new.files) now)
+    on_err c.from_residual-in_err-open.result _ (pack_stored old r p brought pack.objects pack.brought m _ pack.is wants refs (told_in c.args.told.now) same closed (content c.open_ids.new.files) now)
 
 pub returns-in_err-open-clause-wear : goal.returns-in_err-open-clause-wear
 returns-in_err-open-clause-wear g c =
-    wears_then c.in_ok-objects.ensures.wear (λ _. c.in_ok-objects.ensures.same) (search rules)
-    (writes_both c.in_ok-store_all.ensures.wear (search rules) (writes_told (wears_writes c.in_err-open.ensures.wear (λ _. c.in_err-open.ensures.same)) (search rules) (search rules)))
+    wears_then c.in_ok-known.ensures.wear (λ _. c.in_ok-known.ensures.same) (search rules)
+    (wears_then c.in_ok-objects.ensures.wear (λ _. c.in_ok-objects.ensures.same) (search rules)
+    (writes_both c.in_ok-store_all.ensures.wear (search rules) (writes_told (wears_writes c.in_err-open.ensures.wear (λ _. c.in_err-open.ensures.same)) (search rules) (search rules))))
 
 pub returns-in_err-moved-clause-cut : goal.returns-in_err-moved-clause-cut
 returns-in_err-moved-clause-cut g c = λ honest r p m pack refs same.
     let content = g.F.Files.content in
     let old = content c.args.files.now in
+    let read = content c.by_good_refs.new.files in
     let first = content c.judge_pack.new.files in
     let mid = content c.store_all.new.files in
     let seen = content c.open_ids.new.files in
     let brought = carried c.args.pack.now.objects in
-    let at : first ≡ old = c.in_ok-objects.ensures.same in
-    let closed = brought_closed old brought c.args.wants.now (c.in_ok-objects.ensures.complete honest) in
-    let outside = stored_outside old first mid at (c.in_ok-store_all.ensures.outside honest) in
-    let st = stored_since old first mid brought at (c.in_ok-store_all.ensures.stored honest) in
-    let held = stored_content old r p brought pack.objects pack.brought mid outside st in
-    let now : HoldsContent seen (with_objects r (joined r.objects pack.objects)) = subst (λ (f : FileMap). HoldsContent f (with_objects r (joined r.objects pack.objects))) (sym c.in_ok-open.ensures.same) held in
-    let met = stored_met old mid brought st c.in_ok-objects.objects.keys (brought_closed old brought c.in_ok-objects.objects.keys (c.in_ok-objects.ensures.met honest)) in
-    let whole = whole_after mid seen c.in_ok-open.ensures.same (record { objects = c.open_ids.new.known; histories = c.new.result }) (c.in_ok-open.ensures.known honest met) c.new.ensures.empty in
-    on_err c.from_residual-in_err-moved.result _ (pack_moving old r p brought pack.objects pack.brought m _ pack.is c.args.wants.now refs (told_in c.args.told.now) same closed (AreWhole (objects seen) (record { objects = c.open_ids.new.known; histories = c.new.result })) whole (content c.move_refs.new.files) (search (rules, c.in_err-moved.ensures.left honest (with_objects r (joined r.objects pack.objects)) now)))
-
-pub returns-in_err-moved-clause-wear : goal.returns-in_err-moved-clause-wear
-returns-in_err-moved-clause-wear g c =
-    wears_then c.in_ok-objects.ensures.wear (λ _. c.in_ok-objects.ensures.same) (search rules)
-    (writes_both c.in_ok-store_all.ensures.wear (search rules)
-    (wears_then c.in_ok-open.ensures.wear (λ _. c.in_ok-open.ensures.same) (search rules) (writes_told c.in_err-moved.ensures.wear (search rules) (search rules))))
-
-pub returns-clause-taken : goal.returns-clause-taken
-returns-clause-taken g c = λ honest r p m pack refs same.
-    let content = g.F.Files.content in
-    let old = content c.args.files.now in
-    let first = content c.judge_pack.new.files in
-    let mid = content c.store_all.new.files in
-    let seen = content c.open_ids.new.files in
-    let brought = carried c.args.pack.now.objects in
-    let at : first ≡ old = c.in_ok-objects.ensures.same in
-    let closed = brought_closed old brought c.args.wants.now (c.in_ok-objects.ensures.complete honest) in
+    let wants = c.args.wants.now in
+    let known = c.in_ok-known.known in
+    let keys = c.in_ok-objects.objects.keys in
+    let seen_at : read ≡ old = c.in_ok-known.ensures.same in
+    let at : first ≡ old = c.in_ok-objects.ensures.same ∙ seen_at in
+    let by_refs : IsSound git r → AreWhole (objects read) known = whole_refs old read known r seen_at (c.in_ok-known.ensures.whole honest) p in
+    let closed : IsSound git r → IsClosedUnder (links_in (with_carried (objects old) (objects_in brought))) wants = λ is. brought_closed old read brought wants seen_at (c.in_ok-objects.ensures.complete honest (by_refs is).closed) in
     let outside = stored_outside old first mid at (c.in_ok-store_all.ensures.outside honest) in
     let st = stored_since old first mid brought at (c.in_ok-store_all.ensures.stored honest) in
     let held = stored_content old r p brought pack.objects pack.brought mid outside st in
     let all = with_objects r (joined r.objects pack.objects) in
     let now : HoldsContent seen all = subst (λ (f : FileMap). HoldsContent f all) (sym c.in_ok-open.ensures.same) held in
-    let met = stored_met old mid brought st c.in_ok-objects.objects.keys (brought_closed old brought c.in_ok-objects.objects.keys (c.in_ok-objects.ensures.met honest)) in
-    let whole = whole_after mid seen c.in_ok-open.ensures.same (record { objects = c.open_ids.new.known; histories = c.new.result }) (c.in_ok-open.ensures.known honest met) c.new.ensures.empty in
-    let done = pack_taken old r p brought pack.objects pack.brought m _ pack.is c.args.wants.now refs (told_in c.args.told.now) same closed (AreWhole (objects seen) (record { objects = c.open_ids.new.known; histories = c.new.result })) whole (content c.move_refs.new.files) c.in_ok-moved.moved c.in_ok-open.open.items
-    (c.in_ok-moved.ensures.moved honest all now) (c.in_ok-open.ensures.wanted honest met all held) in
+    let met : IsSound git r → IsClosedUnder (links_in (objects mid)) keys = λ is. stored_met old mid brought st keys (brought_closed old read brought keys seen_at (c.in_ok-objects.ensures.met honest (by_refs is).closed)) in
+    let more : Known = record { objects = c.open_ids.new.known; histories = known.histories } in
+    let whole : IsSound git r → AreWhole (objects seen) more = λ is. whole_after mid seen c.in_ok-open.ensures.same more (c.in_ok-open.ensures.known honest (met is)) (histories_met old read mid brought seen_at st known (by_refs is)) in
+    on_err c.from_residual-in_err-moved.result _ (pack_moving old r p brought pack.objects pack.brought m _ pack.is wants refs (told_in c.args.told.now) same closed (AreWhole (objects seen) more) whole (content c.move_refs.new.files) (search (rules, c.in_err-moved.ensures.left honest all now)))
+
+pub returns-in_err-moved-clause-wear : goal.returns-in_err-moved-clause-wear
+returns-in_err-moved-clause-wear g c =
+    wears_then c.in_ok-known.ensures.wear (λ _. c.in_ok-known.ensures.same) (search rules)
+    (wears_then c.in_ok-objects.ensures.wear (λ _. c.in_ok-objects.ensures.same) (search rules)
+    (writes_both c.in_ok-store_all.ensures.wear (search rules)
+    (wears_then c.in_ok-open.ensures.wear (λ _. c.in_ok-open.ensures.same) (search rules) (writes_told c.in_err-moved.ensures.wear (search rules) (search rules)))))
+
+pub returns-clause-taken : goal.returns-clause-taken
+returns-clause-taken g c = λ honest r p m pack refs same.
+    let content = g.F.Files.content in
+    let old = content c.args.files.now in
+    let read = content c.by_good_refs.new.files in
+    let first = content c.judge_pack.new.files in
+    let mid = content c.store_all.new.files in
+    let seen = content c.open_ids.new.files in
+    let brought = carried c.args.pack.now.objects in
+    let wants = c.args.wants.now in
+    let known = c.in_ok-known.known in
+    let keys = c.in_ok-objects.objects.keys in
+    let seen_at : read ≡ old = c.in_ok-known.ensures.same in
+    let at : first ≡ old = c.in_ok-objects.ensures.same ∙ seen_at in
+    let by_refs : IsSound git r → AreWhole (objects read) known = whole_refs old read known r seen_at (c.in_ok-known.ensures.whole honest) p in
+    let closed : IsSound git r → IsClosedUnder (links_in (with_carried (objects old) (objects_in brought))) wants = λ is. brought_closed old read brought wants seen_at (c.in_ok-objects.ensures.complete honest (by_refs is).closed) in
+    let outside = stored_outside old first mid at (c.in_ok-store_all.ensures.outside honest) in
+    let st = stored_since old first mid brought at (c.in_ok-store_all.ensures.stored honest) in
+    let held = stored_content old r p brought pack.objects pack.brought mid outside st in
+    let all = with_objects r (joined r.objects pack.objects) in
+    let now : HoldsContent seen all = subst (λ (f : FileMap). HoldsContent f all) (sym c.in_ok-open.ensures.same) held in
+    let met : IsSound git r → IsClosedUnder (links_in (objects mid)) keys = λ is. stored_met old mid brought st keys (brought_closed old read brought keys seen_at (c.in_ok-objects.ensures.met honest (by_refs is).closed)) in
+    let more : Known = record { objects = c.open_ids.new.known; histories = known.histories } in
+    let whole : IsSound git r → AreWhole (objects seen) more = λ is. whole_after mid seen c.in_ok-open.ensures.same more (c.in_ok-open.ensures.known honest (met is)) (histories_met old read mid brought seen_at st known (by_refs is)) in
+    let done = pack_taken old r p brought pack.objects pack.brought m _ pack.is wants refs (told_in c.args.told.now) same closed (AreWhole (objects seen) more) whole (content c.move_refs.new.files) c.in_ok-moved.moved c.in_ok-open.open.items
+    (c.in_ok-moved.ensures.moved honest all now) (λ is. c.in_ok-open.ensures.wanted honest (met is) all held) in
     search (rules, done, c.len.ensures)
 
 pub returns-clause-wear : goal.returns-clause-wear
 returns-clause-wear g c =
-    wears_then c.in_ok-objects.ensures.wear (λ _. c.in_ok-objects.ensures.same) (search rules)
+    wears_then c.in_ok-known.ensures.wear (λ _. c.in_ok-known.ensures.same) (search rules)
+    (wears_then c.in_ok-objects.ensures.wear (λ _. c.in_ok-objects.ensures.same) (search rules)
     (writes_both c.in_ok-store_all.ensures.wear (search rules)
-    (wears_then c.in_ok-open.ensures.wear (λ _. c.in_ok-open.ensures.same) (search rules) (writes_told c.in_ok-moved.ensures.wear (search rules) (search rules))))
+    (wears_then c.in_ok-open.ensures.wear (λ _. c.in_ok-open.ensures.same) (search rules) (writes_told c.in_ok-moved.ensures.wear (search rules) (search rules)))))
