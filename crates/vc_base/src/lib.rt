@@ -5,7 +5,9 @@
 mod ancestry;
 mod bases;
 mod fault;
+mod generations;
 mod known;
+mod numbering;
 mod overlay;
 mod selection;
 mod source;
@@ -15,6 +17,7 @@ mod walk;
 pub use ancestry::{is_ancestor, is_history};
 pub use bases::{common_ancestors, merge_bases};
 pub use fault::BaseFault;
+pub use generations::Generations;
 pub use known::is_history_beyond;
 pub use selection::commits;
 pub use source::{Commits, Parents};
