@@ -60,46 +60,50 @@ pub record NumbersHistory (met : List ObjectId) (read : List (List ObjectId)) (k
 abbrev pub IsLast : (ObjectId → Option ℕ) → ObjectId → Type 0
 IsLast known y = (m : ℕ) × (known y ≡ Some m) × (2 ^ 64 ≤ m + 1)
 
--- ---- one look at a commit, while others wait each for a parent: `waiting` gives for each place of the walk those that
--- wait for what was met there, and `looks` are those that are to be looked at
--- no list lost a name
-pub record Keeps (waiting later : List (List ObjectId)) : Type 0 where
+-- ---- one look at a commit, by its place in the walk, while others wait each for a parent: `waiting` gives for each place
+-- those that wait for what was met there, and `looks` are those that are to be looked at
+-- no list lost a place
+pub record Keeps (waiting later : List (List ℕ)) : Type 0 where
   pub long : length later ≡ length waiting
-  pub stays : (k : ℕ) (x : ObjectId) → Contains (get_or waiting k []) x → Contains (get_or later k []) x
+  pub stays : (k place : ℕ) → Contains (get_or waiting k []) place → Contains (get_or later k []) place
 
--- the commit x waits for y, wherever that was met
-abbrev pub WaitsFor : List ObjectId → List (List ObjectId) → ObjectId → ObjectId → Type 0
-WaitsFor met waiting y x = (k : ℕ) → position (id_eq y) met ≡ Some k → Contains (get_or waiting k []) x
+-- what was met at the place waits for y, wherever that was met
+abbrev pub WaitsFor : List ObjectId → List (List ℕ) → ObjectId → ℕ → Type 0
+WaitsFor met waiting y place = (k : ℕ) → position (id_eq y) met ≡ Some k → Contains (get_or waiting k []) place
 
--- it has a number, or never gets one
-pub record LeavesIt (known now : ObjectId → Option ℕ) (parents : List ObjectId) (waiting later : List (List ObjectId)) (looks more : List ObjectId) (x : ObjectId) : Type 0 where
-  pub same : (y : ObjectId) → now y ≡ known y
-  pub same_waiting : later ≡ waiting
-  pub same_looks : more ≡ looks
-  pub why : IsSome (known x) ⊎ ((y : ObjectId) × Contains parents y × IsLast known y)
+module _ (met : List ObjectId) (read : List (List ObjectId)) (known now : ObjectId → Option ℕ) (waiting later : List (List ℕ)) (looks more : List ℕ) (place : ℕ) where
+  -- it has a number, or never gets one
+  pub record LeavesIt : Type 0 where
+    pub same : (y : ObjectId) → now y ≡ known y
+    pub same_waiting : later ≡ waiting
+    pub same_looks : more ≡ looks
+    pub why : (x : ObjectId) → slice_get met place ≡ Some x → IsSome (known x) ⊎ ((y : ObjectId) × Contains (parents_read met read x) y × IsLast known y)
 
--- it waits for a parent that has no number
-pub record LetsItWait (met : List ObjectId) (known now : ObjectId → Option ℕ) (parents : List ObjectId) (waiting later : List (List ObjectId)) (looks more : List ObjectId) (x : ObjectId) : Type 0 where
-  pub same : (y : ObjectId) → now y ≡ known y
-  pub kept : Keeps waiting later
-  pub same_looks : more ≡ looks
-  pub parent : ObjectId
-  pub is_parent : Contains parents parent
-  pub without : known parent ≡ None
-  pub waits : WaitsFor met later parent x
+  -- it waits for a parent that has no number
+  pub record LetsItWait : Type 0 where
+    pub same : (y : ObjectId) → now y ≡ known y
+    pub kept : Keeps waiting later
+    pub same_looks : more ≡ looks
+    pub x : ObjectId
+    pub at : slice_get met place ≡ Some x
+    pub parent : ObjectId
+    pub is_parent : Contains (parents_read met read x) parent
+    pub without : known parent ≡ None
+    pub waits : WaitsFor met later parent place
 
--- it gets its number, and those that waited for it are to be looked at
-pub record NumbersIt (met : List ObjectId) (known now : ObjectId → Option ℕ) (parents : List ObjectId) (waiting later : List (List ObjectId)) (looks more : List ObjectId) (x : ObjectId) : Type 0 where
-  pub number : ℕ
-  pub was : known x ≡ None
-  pub over : IsOver known parents number
-  pub is : now x ≡ Some number
-  pub others : (y : ObjectId) → id_eq x y ≡ false → now y ≡ known y
-  pub same_waiting : later ≡ waiting
-  pub woken : List ObjectId
-  pub looks_woken : more ≡ looks ++ woken
-  pub all_woken : (k : ℕ) → position (id_eq x) met ≡ Some k → woken ≡ get_or waiting k []
+  -- it gets its number, and those that waited for it are to be looked at
+  pub record NumbersIt : Type 0 where
+    pub x : ObjectId
+    pub at : slice_get met place ≡ Some x
+    pub number : ℕ
+    pub was : known x ≡ None
+    pub over : IsOver known (parents_read met read x) number
+    pub is : now x ≡ Some number
+    pub others : (y : ObjectId) → id_eq x y ≡ false → now y ≡ known y
+    pub same_waiting : later ≡ waiting
+    pub woken : List ℕ
+    pub looks_woken : more ≡ looks ++ woken
+    pub all_woken : (k : ℕ) → position (id_eq x) met ≡ Some k → woken ≡ get_or waiting k []
 
-abbrev pub LooksAt : List ObjectId → (ObjectId → Option ℕ) → (ObjectId → Option ℕ) → List ObjectId → List (List ObjectId) → List (List ObjectId) → List ObjectId → List ObjectId → ObjectId → Type 0
-LooksAt met known now parents waiting later looks more x =
-    LeavesIt known now parents waiting later looks more x ⊎ LetsItWait met known now parents waiting later looks more x ⊎ NumbersIt met known now parents waiting later looks more x
+  abbrev pub LooksAt : Type 0
+  LooksAt = LeavesIt ⊎ LetsItWait ⊎ NumbersIt

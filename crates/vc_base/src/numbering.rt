@@ -21,10 +21,11 @@ use vc_files::Fault;
 use vc_object::ObjectId;
 use vc_store::StoreFault;
 
-// A commit to be looked at, and the place among its parents at which to begin: those before it had numbers at the last look.
+// A commit to be looked at, by its place in the walk, and the place among its parents at which to begin: those before it had
+// numbers at the last look.
 #[derive(Clone, Copy)]
 struct Look {
-    id: ObjectId,
+    place: usize,
     from: usize,
 }
 
@@ -108,7 +109,7 @@ pub(crate) fn number_history(
     ensures front { (more : _) × (known.new.entries ≡ known.old.entries ++ more) }
 {
     let mut waiting = no_lists(alloc, walk.met.len())?;
-    let mut looks = first_looks(alloc, &walk.met)?;
+    let mut looks = first_looks(alloc, walk.met.len())?;
     let mut next = 0;
     while next < looks.len() {
         let look = looks[next];
@@ -123,24 +124,21 @@ fn no_lists(alloc: Global, count: usize) -> Result<Vec<Vec<Look>>, AllocError>
     ensures { IfOk result (λ lists. length lists.items ≡ count) }
 {
     let mut lists = Vec::new(alloc);
-    while lists.len() < count {
+    for _ in 0..count {
         lists.push(Vec::new(alloc))?;
     }
     Ok(lists)
 }
 
-// A look at each commit that was met. The last are the first to be looked at: most parents are met after their children.
-fn first_looks(alloc: Global, met: &IndexSet<ObjectId>) -> Result<Vec<Look>, AllocError>
-    ensures { IfOk result (λ looks. (id : Id) → Contains met.now.keys id → Contains (map (λ l. l.id) looks.items) id) }
+// A look at each of the places. The last are the first to be looked at: most parents are met after their children.
+fn first_looks(alloc: Global, count: usize) -> Result<Vec<Look>, AllocError>
+    ensures { IfOk result (λ looks. (k : ℕ) → k < count → Contains (map (λ l. l.place) looks.items) k) }
 {
     let mut looks = Vec::new(alloc);
-    let mut place = met.len();
+    let mut place = count;
     while place > 0 {
         place -= 1;
-        looks.push(Look {
-            id: met[place],
-            from: 0,
-        })?;
+        looks.push(Look { place, from: 0 })?;
     }
     Ok(looks)
 }
@@ -154,20 +152,23 @@ fn look_at(
     look: Look,
 ) -> Result<(), AllocError>
     requires { length waiting.old.items ≡ length walk.now.met.keys }
-    ensures looked { OnOk result (LooksAt walk.now.met.keys (get id_eq known.old) (get id_eq known.new) (parents_read walk.now.met.keys (map (λ v. v.items) walk.now.parents.items) look.id) (map (λ v. map (λ l. l.id) v.items) waiting.old.items) (map (λ v. map (λ l. l.id) v.items) waiting.new.items) (map (λ l. l.id) looks.old.items) (map (λ l. l.id) looks.new.items) look.id) }
+    ensures looked { OnOk result (LooksAt walk.now.met.keys (map (λ v. v.items) walk.now.parents.items) (get id_eq known.old) (get id_eq known.new) (map (λ v. map (λ l. l.place) v.items) waiting.old.items) (map (λ v. map (λ l. l.place) v.items) waiting.new.items) (map (λ l. l.place) looks.old.items) (map (λ l. l.place) looks.new.items) look.place) }
     ensures front { (more : _) × (known.new.entries ≡ known.old.entries ++ more) }
 {
-    if known.contains_key(&look.id) {
+    let place = look.place;
+    let Some(id) = walk.met.get_index(place) else {
+        return Ok(());
+    };
+    if known.contains_key(id) {
         return Ok(());
     }
-    let parents = walk.parents_of(&look.id);
+    let parents = walk.parents_of(id);
     if let Some(from) = first_without(known, parents, look.from) {
-        let id = look.id;
-        return wait_for(&walk.met, waiting, &parents[from], Look { id, from });
+        return wait_for(&walk.met, waiting, &parents[from], Look { place, from });
     }
     if let Some(number) = number_over(known, parents) {
-        known.insert(look.id, number)?;
-        wake(&walk.met, waiting, &look.id, looks)?;
+        known.insert(*id, number)?;
+        wake(&walk.met, waiting, id, looks)?;
     }
     Ok(())
 }
@@ -229,8 +230,8 @@ fn wait_for(
     look: Look,
 ) -> Result<(), AllocError>
     requires { length waiting.old.items ≡ length met.now.keys }
-    ensures waits { OnOk result (WaitsFor met.now.keys (map (λ v. map (λ l. l.id) v.items) waiting.new.items) name.now look.id) }
-    ensures kept { OnOk result (Keeps (map (λ v. map (λ l. l.id) v.items) waiting.old.items) (map (λ v. map (λ l. l.id) v.items) waiting.new.items)) }
+    ensures waits { OnOk result (WaitsFor met.now.keys (map (λ v. map (λ l. l.place) v.items) waiting.new.items) name.now look.place) }
+    ensures kept { OnOk result (Keeps (map (λ v. map (λ l. l.place) v.items) waiting.old.items) (map (λ v. map (λ l. l.place) v.items) waiting.new.items)) }
 {
     if let Some(place) = met.get_index_of(name) {
         waiting[place].push(look)?;
@@ -245,7 +246,7 @@ fn wake(
     name: &ObjectId,
     looks: &mut Vec<Look>,
 ) -> Result<(), AllocError>
-    ensures { OnOk result ((more : _) × (map (λ l. l.id) looks.new.items ≡ map (λ l. l.id) looks.old.items ++ more) × ((k : ℕ) → position (id_eq name.now) met.now.keys ≡ Some k → more ≡ get_or (map (λ v. map (λ l. l.id) v.items) waiting.now) k [])) }
+    ensures { OnOk result ((more : _) × (map (λ l. l.place) looks.new.items ≡ map (λ l. l.place) looks.old.items ++ more) × ((k : ℕ) → position (id_eq name.now) met.now.keys ≡ Some k → more ≡ get_or (map (λ v. map (λ l. l.place) v.items) waiting.now) k [])) }
 {
     if let Some(place) = met.get_index_of(name) {
         if let Some(list) = waiting.get(place) {
