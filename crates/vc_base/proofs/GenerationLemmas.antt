@@ -54,14 +54,14 @@ module _ {Id : Type 0} (parents : Id → Option (List Id)) where
       made k last longest one_more = record { whole = whole; length_of_longest = k; last = last; longest = longest; one_more = one_more; none_longer = none_longer }
 
   -- a list of links from an ancestor that is another commit is at least one shorter than the commit's generation less one
-  shorter : {x y : Id} (n : ℕ) → HasGeneration parents x n → Reaches parents x y → (k : ℕ) (z : Id) → Leads parents k y z → (x ≡ y) ⊎ (k + 1 < n)
-  shorter n g itself k z h = inl refl
-  shorter {x} n g (onward {y} {w} way link) k z h = ⊎_elim
+  shorter : {x y : Id} (n : ℕ) → HasGeneration parents x n → Reaches parents x y → (k : ℕ) (last : Id) → Leads parents k y last → (x ≡ y) ⊎ (k + 1 < n)
+  shorter n g itself k last h = inl refl
+  shorter {x} n g (onward {y} {z} way link) k last h = ⊎_elim
       (λ (same : x ≡ y).
-      let less : suc k < n = g.none_longer (suc k) z (w, subst (λ a. LinksTo parents a w) (sym same) link, h) in
+      let less : suc k < n = g.none_longer (suc k) last (z, subst (λ a. LinksTo parents a z) (sym same) link, h) in
       inr (omega (arith, less)))
       (λ (less : suc k + 1 < n). inr (omega (arith, less)))
-      (shorter n g way (suc k) z (w, link, h))
+      (shorter n g way (suc k) last (z, link, h))
 
   -- an ancestor other than the commit itself has a smaller generation
   pub HasGeneration-ancestor : (a b : Id) (n m : ℕ) → IsAncestor parents a b → a ≢ b → HasGeneration parents a n → HasGeneration parents b m → n < m

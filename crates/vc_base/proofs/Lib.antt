@@ -1,4 +1,5 @@
 pub mod BestLemmas
+pub mod BeyondLemmas
 pub mod GatheredLemmas
 pub mod GenerationLemmas
 pub mod HistoryLemmas

@@ -6,7 +6,7 @@ use Rattle.vc_graph.specs.Graph.{IsClosed, LinksTo}
 
 module _ {Id : Type 0} (parents : Id → Option (List Id)) where
   -- a list of n parent links leads from x to y
-  pub Leads : ℕ → Id → Id → Type 0
+  abbrev pub Leads : ℕ → Id → Id → Type 0
   Leads zero x y = x ≡ y
   Leads (suc n) x y = (z : Id) × LinksTo parents x z × Leads n z y
 

@@ -164,7 +164,8 @@ fn look_at(
     }
     let parents = walk.parents_of(id);
     if let Some(from) = first_without(known, parents, look.from) {
-        return wait_for(&walk.met, waiting, &parents[from], Look { place, from });
+        wait_for(&walk.met, waiting, &parents[from], Look { place, from })?;
+        return Ok(());
     }
     if let Some(number) = number_over(known, parents) {
         known.insert(*id, number)?;
@@ -180,6 +181,7 @@ fn first_without(
     from: usize,
 ) -> Option<usize>
     ensures found { IfSome result (λ at. (id : Id) × (slice_get parents.now at ≡ Some id) × (get id_eq known.now id ≡ None)) }
+    ensures within { IfSome result (λ at. at < length parents.now) }
     ensures none { IfNone result ((id : Id) → Contains parents.now id → IsSome (get id_eq known.now id)) }
 {
     match first_without_from(known, parents, from) {
@@ -195,6 +197,7 @@ fn first_without_from(
     from: usize,
 ) -> Option<usize>
     ensures found { IfSome result (λ at. (id : Id) × (slice_get parents.now at ≡ Some id) × (get id_eq known.now id ≡ None)) }
+    ensures within { IfSome result (λ at. at < length parents.now) }
     ensures none { IfNone result ((k : ℕ) (d : Id) → from ≤ k → k < length parents.now → IsSome (get id_eq known.now (get_or parents.now k d))) }
 {
     let mut at = from;
