@@ -22,9 +22,9 @@ module _ (objects : ObjectMap) (known : ObjectId → Option ℕ) (root : ObjectI
   -- what the root reaches was met or is known
   pub met_or_known : {x : ObjectId} → Reaches (parents_in objects) root x → Contains met x ⊎ IsSome (known x)
   met_or_known itself = inl gathers.rooted
-  met_or_known (onward {y} {x} way link) = ⊎_elim
-      (λ at. gathers.onward y x at (Contains-from_LinksTo (parents_in objects) y x (parents_read met read y) (gathers.parents y at) link))
-      (λ some. inr (agrees.onward y x some link))
+  met_or_known (onward {y} {z} way link) = ⊎_elim
+      (λ at. gathers.onward y z at (Contains-from_LinksTo (parents_in objects) y z (parents_read met read y) (gathers.parents y at) link))
+      (λ some. inr (agrees.onward y z some link))
       (met_or_known way)
 
   pub all_there : IsClosed (parents_in objects) root
@@ -87,3 +87,21 @@ module _ (objects : ObjectMap) (known : ObjectId → Option ℕ) (root : ObjectI
           m.1 ∙ ap Some (HasGeneration-one (parents_in objects) x m.0 n (Agrees-now.generation x m.0 m.1) l.1))
           h,
     )
+
+-- where the root has a number, so has all that it reaches
+module _ (parents : ObjectId → Option (List ObjectId)) (known : ObjectId → Option ℕ) (root : ObjectId) (agrees : Agrees parents known) (some : IsSome (known root)) where
+  pub known_below : {x : ObjectId} → Reaches parents root x → IsSome (known x)
+  known_below itself = some
+  known_below (onward {y} {z} way link) = agrees.onward y z (known_below way) link
+
+  pub closed_below : IsClosed parents root
+  closed_below x way = let n = value_of (known x) (known_below way) in (agrees.generation x n.0 n.1).whole x itself
+
+  pub learnt_before : (x : ObjectId) (n : ℕ) → known x ≡ Some n ↔ ((known x ≡ Some n) ⊎ (IsAncestor parents x root × HasGeneration parents x n × (n < 2 ^ 64)))
+  learnt_before x n = (
+    inl,
+    ⊎_elim (λ is. is)
+        (λ (h : IsAncestor parents x root × HasGeneration parents x n × (n < 2 ^ 64)).
+        let m = value_of (known x) (known_below h.0) in
+        m.1 ∙ ap Some (HasGeneration-one parents x m.0 n (agrees.generation x m.0 m.1) h.1)),
+  )

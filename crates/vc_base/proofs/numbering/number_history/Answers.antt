@@ -1,7 +1,7 @@
 use Rattle.std.proofs.Common.{◌≡◌, ◌++◌, [], map, length, ap, sym, ◌∙◌, refl, rules, arith, slice_get, append_assoc, Some}
 use Rattle.std.proofs.Math.ListN.{length-map}
 use Rattle.std.proofs.lemmas.Grind.{common_steps}
-use Rattle.std.proofs.lemmas.Option.{slice_get-map}
+use Rattle.std.proofs.lemmas.Option.{slice_get-map, slice_get_read}
 use Rattle.std.specs.Option.{option_map}
 use Rattle.indexmap.specs.IndexMap.{get}
 use Rattle.vc_object.specs.ObjectId.{id_eq}
@@ -25,7 +25,7 @@ loop-next-preserved c =
     let read = map (λ v. v.items) c.args.walk.now.parents.items in
     let before = c.loop-next.invariant in
     let more = c.in_ok-look_at.ensures.front in
-    let at : slice_get (map (λ l. l.place) c.loop-next.looks.items) c.loop-next.next ≡ Some c.index-look.result.now.place = slice_get-map (λ l. l.place) c.loop-next.looks.items c.loop-next.next ∙ ap (option_map (λ l. l.place)) c.index-look.ensures in
+    let at : slice_get (map (λ l. l.place) c.loop-next.looks.items) c.loop-next.next ≡ Some c.index-look.result.now.place = slice_get-map (λ l. l.place) c.loop-next.looks.items c.loop-next.next ∙ ap (option_map (λ l. l.place)) (slice_get_read c.loop-next.looks.items (length c.loop-next.looks.items) c.loop-next.next c.index-look.result.now refl (omega arith) c.index-look.ensures) in
     record {
       goes = Goes-step met read (get id_eq c.args.known.now) (get id_eq c.loop-next.known) (get id_eq c.look_at.new.known) _ _ _ _ c.loop-next.next c.index-look.result.now.place before.goes at c.in_ok-look_at.ensures.looked;
       front = (before.front.0 ++ more.0, more.1 ∙ ap (λ l. l ++ more.0) before.front.1 ∙ append_assoc c.args.known.now.entries before.front.0 more.0);
