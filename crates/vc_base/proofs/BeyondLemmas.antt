@@ -1,5 +1,5 @@
 -- The walk over a history that ends at names with a number.
-use Rattle.std.proofs.Common.{◌≡◌, ℕ, ◌+◌, ◌<◌, ◌≤◌, ◌⊎◌, inl, inr, ⊎_elim, Bool, true, false, List, [], ◌∷◌, ◌++◌, length, get_or, filter, is_none, if◌then◌else◌, position, Option, Some, None, IsSome, Contains, MatchOption, sym, ap, subst, ◌∙◌, refl, true≢false, arith, length-append}
+use Rattle.std.proofs.Common.{◌≡◌, ℕ, ◌+◌, ◌<◌, ◌≤◌, ◌⊎◌, inl, inr, ⊎_elim, Bool, true, false, List, [], ◌∷◌, length, get_or, filter, is_none, if◌then◌else◌, Option, Some, None, IsSome, Contains, MatchOption, sym, ap, subst, ◌∙◌, refl, true≢false, arith, length-append}
 use Rattle.std.specs.Option.{option_map}
 use Rattle.std.proofs.Math.ListN.{get_or-append}
 use Rattle.std.proofs.Math.Seq.{get_or-append_seam}
@@ -14,7 +14,7 @@ use Rattle.vc_object.specs.declared.id.ObjectId.{ObjectId}
 use Rattle.vc_object.proofs.IdLemmas.{id_eq-same, id_eq_equiv}
 use Rattle.vc_object.proofs.ObjectMaps.{parents_in-none}
 use Rattle.vc_graph.specs.Graph.{LinksTo, Reaches, ReachedFrom, itself, onward}
-use Rattle.vc_graph.proofs.WalkLemmas.{Walks, Walks-start, Walks-step, insert_all-prefix, Contains-insert_all_old, Contains-from_slice_get, IsFollowed-none, Reaches-from_one, ReachedFrom-one}
+use Rattle.vc_graph.proofs.WalkLemmas.{Walks, Walks-start, Walks-step, insert_all-prefix, Contains-insert_all_old, Contains-from_slice_get, IsFollowed-none, Reaches-from_one}
 use Rattle.vc_base.specs.BaseFault.{IsTold}
 use Rattle.vc_base.specs.Generation.{Agrees}
 use Rattle.vc_base.specs.Numbering.{GathersBeyond, ReadsBeyond, unnumbered}

@@ -1,11 +1,11 @@
 -- What a history that was read and numbered says of generations.
-use Rattle.std.proofs.Common.{◌≡◌, ℕ, zero, suc, ◌+◌, ◌<◌, ◌≤◌, ◌^◌, ◌⊎◌, inl, inr, ⊎_elim, List, Option, Some, None, IsSome, Contains, ◌↔◌, sym, ap, subst, ◌∙◌, refl, arith, true≢false}
+use Rattle.std.proofs.Common.{◌≡◌, ℕ, zero, suc, ◌+◌, ◌<◌, ◌^◌, ◌⊎◌, inl, inr, ⊎_elim, List, Option, Some, None, IsSome, Contains, ◌↔◌, sym, ap, subst, ◌∙◌, refl, arith, true≢false}
 use Rattle.vc_graph.specs.Graph.{LinksTo, Reaches, IsClosed, itself, onward}
 use Rattle.vc_object.specs.ObjectMap.{ObjectMap, parents_in}
 use Rattle.vc_object.specs.declared.id.ObjectId.{ObjectId}
 use Rattle.vc_base.specs.Generation.{Agrees, HasGeneration, Leads}
 use Rattle.vc_base.specs.History.{IsAncestor}
-use Rattle.vc_base.specs.Numbering.{GathersBeyond, IsBlocked, IsHeld, IsOver, NumbersHistory}
+use Rattle.vc_base.specs.Numbering.{GathersBeyond, IsHeld, IsOver, NumbersHistory}
 use Rattle.vc_base.specs.Walk.{parents_read}
 use Rattle.vc_base.proofs.GenerationLemmas.{Contains-from_LinksTo, HasGeneration-one, HasGeneration-over}
 
@@ -48,13 +48,13 @@ module _ (objects : ObjectMap) (known : ObjectId → Option ℕ) (root : ObjectI
       onward = λ x y some link.
           let n = value_of (now x) some in
           ⊎_elim
-              (λ old.
-              let m = value_of (known y) (agrees.onward x y (some_of (known x) n.0 old) link) in
-              some_of (now y) m.0 (numbered.grown y m.0 m.1))
-              (λ (h : Contains met x × IsOver now (parents_read met read x) n.0).
-              let m = h.1.greater y (Contains-from_LinksTo (parents_in objects) x y (parents_read met read x) (gathers.parents x h.0) link) in
-              some_of (now y) m.0 m.1)
-              (numbered.added x n.0 n.1);
+          (λ old.
+          let m = value_of (known y) (agrees.onward x y (some_of (known x) n.0 old) link) in
+          some_of (now y) m.0 (numbered.grown y m.0 m.1))
+          (λ (h : Contains met x × IsOver now (parents_read met read x) n.0).
+          let m = h.1.greater y (Contains-from_LinksTo (parents_in objects) x y (parents_read met read x) (gathers.parents x h.0) link) in
+          some_of (now y) m.0 m.1)
+          (numbered.added x n.0 n.1);
     }
 
     -- a commit that was met, and from which no list of links is too long, has a number
@@ -65,9 +65,9 @@ module _ (objects : ObjectMap) (known : ObjectId → Option ℕ) (root : ObjectI
         let y = h.0 in
         let link : LinksTo (parents_in objects) x y = (parents_read met read x, gathers.parents x at, h.1) in
         let some : IsSome (now y) = ⊎_elim
-            (λ there. complete bound y (omega (arith, fits)) there (λ k z way. let less : suc k < suc bound = short (suc k) z (y, link, way) in omega (arith, less)))
-            (λ old. let m = value_of (known y) old in some_of (now y) m.0 (numbered.grown y m.0 m.1))
-            (gathers.onward x y at h.1) in
+        (λ there. complete bound y (omega (arith, fits)) there (λ k z way. let less : suc k < suc bound = short (suc k) z (y, link, way) in omega (arith, less)))
+        (λ old. let m = value_of (known y) old in some_of (now y) m.0 (numbered.grown y m.0 m.1))
+        (gathers.onward x y at h.1) in
         let n = value_of (now y) some in
         let g = Agrees-now.generation y n.0 n.1 in
         let less : suc g.length_of_longest < suc bound = short (suc g.length_of_longest) g.last (y, link, g.longest) in
@@ -81,8 +81,8 @@ module _ (objects : ObjectMap) (known : ObjectId → Option ℕ) (root : ObjectI
       λ h. ⊎_elim (numbered.grown x n)
           (λ (l : IsAncestor (parents_in objects) x root × HasGeneration (parents_in objects) x n × (n < 2 ^ 64)).
           let some : IsSome (now x) = ⊎_elim (λ at. complete n x l.2 at l.1.none_longer)
-              (λ old. let m = value_of (known x) old in some_of (now x) m.0 (numbered.grown x m.0 m.1))
-              (met_or_known l.0) in
+          (λ old. let m = value_of (known x) old in some_of (now x) m.0 (numbered.grown x m.0 m.1))
+          (met_or_known l.0) in
           let m = value_of (now x) some in
           m.1 ∙ ap Some (HasGeneration-one (parents_in objects) x m.0 n (Agrees-now.generation x m.0 m.1) l.1))
           h,

@@ -1,6 +1,6 @@
 -- The greatest number of some parents, step by step; the lists of those that wait; and the commits of a walk on the way to
 -- their numbers.
-use Rattle.std.proofs.Common.{◌≡◌, ℕ, ◌+◌, ◌<◌, ◌≤◌, ◌^◌, ◌≢◌, ◌⊎◌, inl, inr, ⊎_elim, List, [], ◌∷◌, ◌++◌, map, set, length, get_or, take, drop, position, Option, Some, None, IsSome, IfSome, SomeIff, Contains, Bool, true, false, sym, ap, subst, ◌∙◌, refl, arith, slice_get, true≢false}
+use Rattle.std.proofs.Common.{◌≡◌, ℕ, ◌+◌, ◌<◌, ◌≤◌, ◌^◌, ◌≢◌, ◌⊎◌, inl, inr, ⊎_elim, List, [], ◌∷◌, ◌++◌, map, set, length, get_or, drop, position, Option, Some, None, IsSome, IfSome, SomeIff, Contains, Bool, true, false, sym, ap, subst, ◌∙◌, refl, arith, slice_get, true≢false}
 use Rattle.std.proofs.Math.ListN.{length-map, length-set}
 use Rattle.std.proofs.lemmas.Bool.{cases_lt}
 use Rattle.std.proofs.lemmas.List.{get_or-map, map-set, get_or-set_same, get_or-set_other, drop_more, drop_all, drop-append-le}
@@ -153,8 +153,8 @@ module _ (met : List ObjectId) (read : List (List ObjectId)) where
           by p x at (waits y is none w) = waits y is (l.same y ∙ none) (subst (λ w. WaitsFor met w y p) (sym l.same_waiting) w)
           by p x at (awaits_look h) = ⊎_elim
               (λ here. ⊎_elim (λ some. numbered (subst (λ o. IsSome o) (sym (l.same x)) some))
-                  (λ (s : (y : ObjectId) × Contains (parents_read met read x) y × IsLast known y). stuck s.0 s.1 (s.2.0, l.same s.0 ∙ s.2.1, s.2.2))
-                  (l.why x (ap (slice_get met) here ∙ at)))
+              (λ (s : (y : ObjectId) × Contains (parents_read met read x) y × IsLast known y). stuck s.0 s.1 (s.2.0, l.same s.0 ∙ s.2.1, s.2.2))
+              (l.why x (ap (slice_get met) here ∙ at)))
               (λ later_on. awaits_look (rest p later_on))
               (rest_cases p h)
 
@@ -175,7 +175,7 @@ module _ (met : List ObjectId) (read : List (List ObjectId)) where
           by p x at (waits y is none w) = waits y is (l.same y ∙ none) (λ k is_at. l.kept.stays k p (w k is_at))
           by p x at (awaits_look h) = ⊎_elim
               (λ here. waits l.parent (subst (λ a. Contains (parents_read met read a) l.parent) (same_met p l.x x here l.at at) l.is_parent) (l.same l.parent ∙ l.without)
-                  (subst (WaitsFor met later l.parent) here l.waits))
+              (subst (WaitsFor met later l.parent) here l.waits))
               (λ later_on. awaits_look (rest p later_on))
               (rest_cases p h)
 

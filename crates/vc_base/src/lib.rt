@@ -20,8 +20,6 @@ pub use bases::{common_ancestors, merge_bases};
 pub use fault::BaseFault;
 pub use generations::Generations;
 pub use known::is_history_beyond;
-pub use laws::{
-    ancestors_come_before, more_objects_agree, one_generation, parents_come_before,
-};
+pub use laws::{ancestors_come_before, more_objects_agree, one_generation, parents_come_before};
 pub use selection::commits;
 pub use source::{Commits, Parents};

@@ -1,4 +1,4 @@
-use Rattle.std.proofs.Common.{◌≡◌, ◌++◌, ◌∷◌, [], List, None, Some, IsSome, Contains, inl, inr, ap, sym, subst, ◌∙◌, map, refl, rules, arith, slice_get, get_or}
+use Rattle.std.proofs.Common.{◌≡◌, ◌∷◌, [], None, Some, IsSome, Contains, inl, inr, sym, subst, ◌∙◌, map, refl, rules, slice_get}
 use Rattle.std.proofs.lemmas.Option.{get_or_from_slice_get}
 use Rattle.indexmap.specs.IndexMap.{get}
 use Rattle.indexmap.proofs.CallerLemmas.{insert_entry-new}

@@ -1,4 +1,4 @@
-use Rattle.std.proofs.Common.{◌≡◌, ◌++◌, [], map, length, ap, sym, ◌∙◌, refl, rules, arith, slice_get, append_assoc, Some}
+use Rattle.std.proofs.Common.{◌≡◌, ◌++◌, [], map, length, ap, ◌∙◌, refl, arith, slice_get, append_assoc, Some}
 use Rattle.std.proofs.Math.ListN.{length-map}
 use Rattle.std.proofs.lemmas.Grind.{common_steps}
 use Rattle.std.proofs.lemmas.Option.{slice_get-map, slice_get_read}

@@ -1,6 +1,5 @@
-use Rattle.std.proofs.Common.{◌≡◌, ◌<◌, ◌++◌, ◌∷◌, [], ap, sym, ◌∙◌, map, arith, rules, length, get_or, position, Some}
+use Rattle.std.proofs.Common.{◌∷◌, [], ap, ◌∙◌, map, rules}
 use Rattle.std.proofs.lemmas.List.{map-append}
-use Rattle.vc_object.specs.ObjectId.{id_eq}
 use Rattle.vc_base.proofs.NumberingLemmas.{Keeps-one_more, WaitsFor-one_more}
 use Rattle.vc_base.proofs.numbering.wait_for.Goals as goal
 

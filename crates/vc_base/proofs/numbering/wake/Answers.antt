@@ -1,4 +1,4 @@
-use Rattle.std.proofs.Common.{◌≡◌, ◌<◌, ◌++◌, ◌∷◌, [], ap, sym, ◌∙◌, map, arith, rules, length, get_or, position, Some}
+use Rattle.std.proofs.Common.{◌≡◌, ◌<◌, ◌++◌, [], ap, sym, ◌∙◌, map, rules, length, get_or, position, Some}
 use Rattle.std.proofs.lemmas.List.{map-append, get_or-map}
 use Rattle.vc_object.specs.ObjectId.{id_eq}
 use Rattle.vc_base.proofs.numbering.wake.Goals as goal
