@@ -1,7 +1,8 @@
 -- The generation of a commit, by which a walk can tell that one commit is no ancestor of another without reading what lies
 -- between them (gitformat-commit-graph calls it the topological level). `parents` gives the parents of a commit that is
 -- there, and none for any other name.
-use Rattle.std.specs.Prelude.{◌≡◌, ◌+◌, ◌<◌, ℕ, zero, suc, List, Option, Some, IsSome}
+use Rattle.std.specs.Prelude.{◌≡◌, ◌↔◌, ◌⊎◌, ◌+◌, ◌<◌, ◌^◌, ℕ, zero, suc, List, Option, Some, IsSome}
+use Rattle.vc_base.specs.History.{IsAncestor}
 use Rattle.vc_graph.specs.Graph.{IsClosed, LinksTo}
 
 module _ {Id : Type 0} (parents : Id → Option (List Id)) where
@@ -24,3 +25,8 @@ module _ {Id : Type 0} (parents : Id → Option (List Id)) where
   pub record Agrees (numbers : Id → Option ℕ) : Type 0 where
     pub generation : (x : Id) (n : ℕ) → numbers x ≡ Some n → HasGeneration x n
     pub onward : (x y : Id) → IsSome (numbers x) → LinksTo parents x y → IsSome (numbers y)
+
+  -- what is known once the root's history was learnt: what was known before, and the generation of each commit that the root
+  -- reaches, where 64 bits hold it
+  abbrev pub Learns : Id → (Id → Option ℕ) → (Id → Option ℕ) → Type 0
+  Learns root known now = (x : Id) (n : ℕ) → now x ≡ Some n ↔ ((known x ≡ Some n) ⊎ (IsAncestor parents x root × HasGeneration x n × (n < 2 ^ 64)))

@@ -1,9 +1,8 @@
 //! Generation numbers: one more than the length of the longest list of parent links from a commit. An ancestor of a commit,
 //! other than the commit itself, has a smaller one.
-ghost use Rattle.std.specs.Prelude.{◌≡◌, ◌↔◌, ◌⊎◌, ◌∷◌, ◌<◌, ◌^◌, [], ℕ, None, Some, IfOk, IfErr, IsErrOf, OnOk, OnErr};
+ghost use Rattle.std.specs.Prelude.{◌≡◌, ◌∷◌, [], None, IfErr, IsErrOf, OnOk, OnErr};
 ghost use Rattle.vc_base.specs.BaseFault.{IsTold};
-ghost use Rattle.vc_base.specs.Generation.{Agrees, HasGeneration};
-ghost use Rattle.vc_base.specs.History.{IsAncestor};
+ghost use Rattle.vc_base.specs.Generation.{Agrees, Learns};
 ghost use Rattle.vc_base.specs.Numbering.{numbers};
 ghost use Rattle.vc_files.specs.Failures.{Wears};
 ghost use Rattle.vc_graph.specs.Graph.{IsClosed};
@@ -52,7 +51,7 @@ impl Generations {
         root: &ObjectId,
     ) -> Result<(), BaseFault>
         ensures agrees { OnOk result (C.is_honest → Agrees (parents_in (C.objects (C.state_of commits.old))) (numbers self.old) → Agrees (parents_in (C.objects (C.state_of commits.old))) (numbers self.new)) }
-        ensures learnt { OnOk result (C.is_honest → Agrees (parents_in (C.objects (C.state_of commits.old))) (numbers self.old) → (id : Id) (n : ℕ) → numbers self.new id ≡ Some n ↔ ((numbers self.old id ≡ Some n) ⊎ (IsAncestor (parents_in (C.objects (C.state_of commits.old))) id root.now × HasGeneration (parents_in (C.objects (C.state_of commits.old))) id n × (n < 2 ^ 64)))) }
+        ensures learnt { OnOk result (C.is_honest → Agrees (parents_in (C.objects (C.state_of commits.old))) (numbers self.old) → Learns (parents_in (C.objects (C.state_of commits.old))) root.now (numbers self.old) (numbers self.new)) }
         ensures closed { OnOk result (C.is_honest → Agrees (parents_in (C.objects (C.state_of commits.old))) (numbers self.old) → IsClosed (parents_in (C.objects (C.state_of commits.old))) root.now) }
         ensures refused { IfErr result (λ e. C.is_honest → Agrees (parents_in (C.objects (C.state_of commits.old))) (numbers self.old) → IsTold (C.objects (C.state_of commits.old)) (C.damaged (C.state_of commits.old)) (root.now ∷ []) e) }
         ensures err { OnErr result ((id : Id) → numbers self.new id ≡ numbers self.old id) }
