@@ -1,5 +1,6 @@
 //! Rows on what objects reach, and on ancestry.
 use crate::answers::{Answer, id_or_none, listed, yes_or_no};
+use crate::generation_rows;
 use crate::ids::{Shown, ids_of};
 use crate::verdict_rows;
 use anyhow::bail;
@@ -40,6 +41,9 @@ impl Sides {
 pub fn obey_commits<C: Commits>(source: &mut C, alloc: Global, verb: &str, rest: &str) -> Answer {
     if verb == "verdict" {
         return verdict_rows::obey(source, alloc, rest);
+    }
+    if verb == "generations" {
+        return generation_rows::obey(source, alloc, rest);
     }
     let sides = Sides::new(alloc, rest)?;
     let (a, b) = (sides.at(0), sides.at(1));
@@ -106,7 +110,7 @@ fn told<T>(answer: Result<T, GraphFault>) -> anyhow::Result<T> {
     }
 }
 
-fn told_base<T>(answer: Result<T, BaseFault>) -> anyhow::Result<T> {
+pub fn told_base<T>(answer: Result<T, BaseFault>) -> anyhow::Result<T> {
     match answer {
         Ok(value) => Ok(value),
         Err(fault) => match fault {

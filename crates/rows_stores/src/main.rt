@@ -4,6 +4,7 @@
 mod answers;
 mod devices;
 mod file_rows;
+mod generation_rows;
 mod graph_rows;
 mod ids;
 mod lock_rows;
