@@ -4,3 +4,4 @@ pub mod PathLemmas
 pub mod WayLemmas
 pub mod HeadLemmas
 pub mod ListingLemmas
+pub mod PackedLemmas
