@@ -1,10 +1,10 @@
 -- For the readers and the changes of packed refs: lines, names that stand once, and a map seen without its memory.
 use Rattle.std.proofs.Common.{◌≡◌, ◌≢◌, ℕ, Bool, true, false, cond, ◌&&◌, List, [], ◌∷◌, ◌++◌, map, length, Option, Some, None, is_none, sym, ap, refl, ◌∙◌, subst, arith, append_assoc, append-nil, true≢false}
-use Rattle.std.specs.Prelude.{IfSome, is_some, option_map, option_and_then, if◌then◌else◌}
+use Rattle.std.specs.Prelude.{IfSome, T, is_some, option_map, option_and_then, if◌then◌else◌}
 use Rattle.std.specs.BTreeMap.{BTreeMap, get_by, is_at, UpdatesBy, IsOrdered}
-use Rattle.std.specs.FinMap.{from_entries, get, insert, remove, empty, get-from_entries, get-insert, get-remove, same_map, len-entries, len-empty, entries, entries-insert, slice_cmp-IsAntisymmetric, nat_cmp-IsAntisymmetric}
-use Rattle.std.specs.FinMap.Entries.{find, find-append, put, by_order}
-use Rattle.std.specs.Ordering.{nat_cmp, is_eq, eq_by_cmp}
+use Rattle.std.specs.FinMap.{from_entries, from_entries_push, get, insert, remove, empty, get-from_entries, get-insert, get-remove, same_map, len-entries, len-empty, entries, entries_sorted, get-entries, entries-insert, slice_cmp-IsAntisymmetric, nat_cmp-IsAntisymmetric}
+use Rattle.std.specs.FinMap.Entries.{find, find-append, put, by_order, below_all, is_sorted}
+use Rattle.std.specs.Ordering.{nat_cmp, is_eq, is_lt, eq_by_cmp}
 use Rattle.std.specs.declared.cmp.Ordering.{Ordering}
 use Rattle.std.specs.declared.cmp.Ordering.TheVariants.{Less, Equal, Greater}
 use Rattle.std.specs.Cmp.{eq_by_cmp_equiv, tied_itself}
@@ -160,7 +160,8 @@ first_in : (k : List ℕ) (v : ObjectId) (es : List PackedRef) → AllByRecursio
 first_in k v [] below = refl
 first_in k v (e ∷ es) below = ap (λ r. by_order r ((k, v) ∷ e ∷ es) ((e.0, v) ∷ es) (e ∷ put by_bytes k v es)) below.0
 
-no_entries : {A : Type 0} (es : List A) → length es ≡ 0 → es ≡ []
+-- a list of no length
+pub no_entries : {A : Type 0} (es : List A) → length es ≡ 0 → es ≡ []
 no_entries [] e = refl
 no_entries (x ∷ es) e = absurd (omega arith)
 
@@ -209,3 +210,104 @@ from_entries-IsPackedMap [] all = empty-IsPackedMap
 from_entries-IsPackedMap (e ∷ es) all =
     let parts = and_parts (may_be_packed e) (list_all may_be_packed es) all in
     insert-IsPackedMap e.0 e.1 parts.0 (from_entries es) (from_entries-IsPackedMap es parts.1)
+
+of_T : (b : Bool) → T b → b ≡ true
+of_T true h = refl
+of_T false h = absurd h
+
+not_equal : (o : Ordering) → is_lt o ≡ true → is_eq o ≡ false
+not_equal Less e = refl
+not_equal Equal e = absurd (cc e)
+not_equal Greater e = absurd (cc e)
+
+find_below : (x : List ℕ) (es : List PackedRef) → below_all by_bytes x es ≡ true → find by_bytes x es ≡ None
+find_below x [] below = refl
+find_below x (e ∷ es) below =
+    let parts = and_parts (is_lt (by_bytes x e.0)) (below_all by_bytes x es) below in
+    ap (λ b. cond b (Some e.1) (find by_bytes x es)) (not_equal (by_bytes x e.0) parts.0) ∙ find_below x es parts.1
+
+nothing : (v : ObjectId) → None ≡ Some v → ⊥
+nothing v e = cc e
+
+same_id : (v w : ObjectId) → Some v ≡ Some w → v ≡ w
+same_id v w e = cc e
+
+-- what is found passes where all do
+all_found : (q : List ℕ) (v : ObjectId) (es : List PackedRef) → list_all may_be_packed es ≡ true → find by_bytes q es ≡ Some v → may_be_packed (q, v) ≡ true
+all_found q v [] all is = absurd (nothing v is)
+all_found q v (e ∷ es) all is =
+    let parts = and_parts (may_be_packed e) (list_all may_be_packed es) all in
+    elim (is_eq (by_bytes q e.0)) as (λ b. is_eq (by_bytes q e.0) ≡ b → cond b (Some e.1) (find by_bytes q es) ≡ Some v → may_be_packed (q, v) ≡ true) [
+      | true ↦ λ same found. ap (λ (n : List ℕ). may_be_packed (n, v)) (same_name q e.0 same) ∙ ap (λ (i : ObjectId). may_be_packed (e.0, i)) (sym (same_id e.1 v found)) ∙ parts.0
+      | false ↦ λ other later. all_found q v es parts.1 later
+    ] refl is
+
+-- all pass where each that is found does
+found_all : (es : List PackedRef) → is_sorted by_bytes es ≡ true → ((q : List ℕ) (v : ObjectId) → find by_bytes q es ≡ Some v → may_be_packed (q, v) ≡ true) → list_all may_be_packed es ≡ true
+found_all [] sorted each = refl
+found_all (e ∷ es) sorted each =
+    let parts = and_parts (below_all by_bytes e.0 es) (is_sorted by_bytes es) sorted in
+    and_from _ _ (each e.0 e.1 (ap (λ b. cond b (Some e.1) (find by_bytes e.0 es)) (is_eq-same e.0))) (found_all es parts.1 (λ q v is. each q v (later parts.0 q v is)))
+  where
+    later : below_all by_bytes e.0 es ≡ true → (q : List ℕ) (v : ObjectId) → find by_bytes q es ≡ Some v → find by_bytes q (e ∷ es) ≡ Some v
+    later below q v is =
+        elim (is_eq (by_bytes q e.0)) as (λ b. is_eq (by_bytes q e.0) ≡ b → cond b (Some e.1) (find by_bytes q es) ≡ Some v) [
+          | true ↦ λ same. absurd (nothing v (sym (find_below e.0 es below) ∙ ap (λ (n : List ℕ). find by_bytes n es) (sym (same_name q e.0 same)) ∙ is))
+          | false ↦ λ other. is
+        ] refl
+
+of_kept : (b : Bool) (o : Option ObjectId) (v : ObjectId) → cond b None o ≡ Some v → o ≡ Some v
+of_kept true o v is = absurd (nothing v is)
+of_kept false o v is = is
+
+-- a ref less
+pub remove-IsPackedMap : (m : PackedMap) (k : List ℕ) → IsPackedMap m → IsPackedMap (remove m k)
+remove-IsPackedMap m k all =
+    found_all (entries (remove m k)) (of_T _ (entries_sorted (remove m k)))
+    (λ q v is. all_found q v (entries m) all
+    (sym (get-entries m q) ∙ of_kept (eq_by_cmp by_bytes q k) (get m q) v (sym (get-remove nat_list_cmp_total m k q) ∙ get-entries (remove m k) q ∙ is)))
+
+-- ---- a tree that is made ref by ref
+pub no_value : (o : Option ObjectId) → is_some o ≡ false → o ≡ None
+no_value None e = refl
+no_value (Some v) e = absurd (cc e)
+
+pub record IsMade (all : List PackedRef) (m : BTreeMap (List ℕ) ObjectId) (left : List PackedRef) : Type 0 where
+  pub done : List PackedRef
+  pub whole : all ≡ done ++ left
+  pub once : names_once done ≡ true
+  pub made : packed_of m ≡ from_entries done
+
+pub none_made : (all : List PackedRef) (m : BTreeMap (List ℕ) ObjectId) (left : List PackedRef) → m.entries ≡ [] → left ≡ all → IsMade all m left
+none_made all m left none is = record { done = []; whole = sym is; once = refl; made = packed_of-new m none }
+
+module _ (all : List PackedRef) (m : BTreeMap (List ℕ) ObjectId) (left : List PackedRef) (so_far : IsMade all m left) where
+  found_done : (k : List ℕ) → get_by (by_bytes k) m ≡ find by_bytes k so_far.done
+  found_done k = sym (get-packed_of m k) ∙ ap (λ (n : PackedMap). get n k) so_far.made ∙ get-from_entries nat_list_cmp_total so_far.done k
+
+  -- a name that wasn't there
+  pub one_made : (n : BTreeMap (List ℕ) ObjectId) (k : List ℕ) (v : ObjectId) (after : List PackedRef) → left ≡ (k, v) ∷ after → get_by (by_bytes k) m ≡ None → UpdatesBy by_bytes (by_bytes k) m n (Some v) → IsMade all n after
+  one_made n k v after is none change =
+      let new : find by_bytes k so_far.done ≡ None = sym (found_done k) ∙ none in record {
+        done = so_far.done ++ (k, v) ∷ [];
+        whole = so_far.whole ∙ ap (λ (l : List PackedRef). so_far.done ++ l) is ∙ sym (append_assoc so_far.done ((k, v) ∷ []) after);
+        once = once_more so_far.done k v so_far.once new;
+        made =
+            packed_of-set m n k v change ∙ ap (λ (p : PackedMap). insert p k v) so_far.made
+            ∙ sym (from_entries_push nat_list_cmp_total (slice_cmp-IsAntisymmetric nat_cmp-IsAntisymmetric) so_far.done k v new);
+      }
+
+  -- a name that was
+  pub made_twice : (k : List ℕ) (v : ObjectId) (after : List PackedRef) → left ≡ (k, v) ∷ after → is_some (get_by (by_bytes k) m) ≡ true → map_of all ≡ None
+  made_twice k v after is some =
+      map_of-twice all (ap names_once (so_far.whole ∙ ap (λ (l : List PackedRef). so_far.done ++ l) is) ∙ not_once so_far.done k v after (ap is_some (sym (found_done k)) ∙ some))
+
+  all_done : left ≡ [] → all ≡ so_far.done
+  all_done none = so_far.whole ∙ ap (λ (l : List PackedRef). so_far.done ++ l) none ∙ append-nil so_far.done
+
+  -- nothing is left
+  pub all_made : left ≡ [] → map_of all ≡ Some (packed_of m)
+  all_made none = ap map_of (all_done none) ∙ map_of-once so_far.done so_far.once ∙ ap Some (sym so_far.made)
+
+  pub made-IsPackedMap : left ≡ [] → list_all may_be_packed all ≡ true → IsPackedMap (packed_of m)
+  made-IsPackedMap none valid = subst IsPackedMap (ap from_entries (all_done none) ∙ sym so_far.made) (from_entries-IsPackedMap all valid)

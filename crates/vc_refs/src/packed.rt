@@ -93,6 +93,7 @@ impl PackedRefs {
         ensures ok { OnOk result (self.new ≡ names.insert self.old name id) }
         ensures err { OnErr result (self.new ≡ self.old) }
     {
+        let name = legal(name);
         let id = id.named();
         self.by_name.insert(name, id)?;
         Ok(())
@@ -104,6 +105,16 @@ impl PackedRefs {
     {
         let _ = self.by_name.remove(name);
     }
+}
+
+// The name itself. The caller learns that its bytes are those of a text.
+fn legal(name: RefName) -> RefName
+    requires { IsInRefs name }
+    ensures same { result ≡ name }
+    ensures valid { is_packed_name name ≡ true }
+{
+    let _ = name.as_str();
+    name
 }
 
 // What stands between line feeds.
