@@ -5,3 +5,4 @@ pub mod WayLemmas
 pub mod HeadLemmas
 pub mod ListingLemmas
 pub mod PackedLemmas
+pub mod PackedTextLemmas

@@ -1,6 +1,6 @@
 -- For the readers and the changes of packed refs: lines, names that stand once, and a map seen without its memory.
 use Rattle.std.proofs.Common.{◌≡◌, ◌≢◌, ℕ, Bool, true, false, cond, ◌&&◌, List, [], ◌∷◌, ◌++◌, map, length, Option, Some, None, is_none, sym, ap, refl, ◌∙◌, subst, arith, append_assoc, append-nil, true≢false}
-use Rattle.std.specs.Prelude.{IfSome, T, is_some, option_map, option_and_then, if◌then◌else◌}
+use Rattle.std.specs.Prelude.{IfSome, IfNone, T, is_some, option_map, option_and_then, if◌then◌else◌}
 use Rattle.std.specs.BTreeMap.{BTreeMap, get_by, is_at, UpdatesBy, IsOrdered}
 use Rattle.std.specs.FinMap.{from_entries, from_entries_push, get, insert, remove, empty, get-from_entries, get-insert, get-remove, same_map, len-entries, len-empty, entries, entries_sorted, get-entries, entries-insert, slice_cmp-IsAntisymmetric, nat_cmp-IsAntisymmetric}
 use Rattle.std.specs.FinMap.Entries.{find, find-append, put, by_order, below_all, is_sorted}
@@ -17,7 +17,7 @@ use Rattle.std.proofs.lemmas.Bool.{and_parts, and_from, and_left, and_right, fal
 use Rattle.std.proofs.lemmas.List.Folds.{list_all-append}
 use Rattle.vc_object.specs.ObjectId.{is_id}
 use Rattle.vc_object.specs.declared.id.ObjectId.{ObjectId}
-use Rattle.vc_refs.specs.Packed.{PackedMap, PackedRef, IsPackedMap, is_comment, is_packed_name, is_peeled, map_of, may_be_packed, names_once, packed_name, ref_in, refs_in, with_ref_first}
+use Rattle.vc_refs.specs.Packed.{PackedMap, PackedRef, IsBadPacked, IsPackedMap, is_comment, is_packed_name, is_peeled, lines, map_of, may_be_packed, names_once, packed_name, packed_refs, ref_in, refs_in, with_ref_first}
 use Rattle.vc_refs.specs.PackedView.{packed_of}
 use Rattle.vc_refs.specs.RefMap.{is_ref}
 
@@ -211,7 +211,7 @@ from_entries-IsPackedMap (e ∷ es) all =
     let parts = and_parts (may_be_packed e) (list_all may_be_packed es) all in
     insert-IsPackedMap e.0 e.1 parts.0 (from_entries es) (from_entries-IsPackedMap es parts.1)
 
-of_T : (b : Bool) → T b → b ≡ true
+pub of_T : (b : Bool) → T b → b ≡ true
 of_T true h = refl
 of_T false h = absurd h
 
@@ -220,7 +220,8 @@ not_equal Less e = refl
 not_equal Equal e = absurd (cc e)
 not_equal Greater e = absurd (cc e)
 
-find_below : (x : List ℕ) (es : List PackedRef) → below_all by_bytes x es ≡ true → find by_bytes x es ≡ None
+-- a name below all others is not among them
+pub find_below : (x : List ℕ) (es : List PackedRef) → below_all by_bytes x es ≡ true → find by_bytes x es ≡ None
 find_below x [] below = refl
 find_below x (e ∷ es) below =
     let parts = and_parts (is_lt (by_bytes x e.0)) (below_all by_bytes x es) below in
@@ -311,3 +312,12 @@ module _ (all : List PackedRef) (m : BTreeMap (List ℕ) ObjectId) (left : List 
 
   pub made-IsPackedMap : left ≡ [] → list_all may_be_packed all ≡ true → IsPackedMap (packed_of m)
   made-IsPackedMap none valid = subst IsPackedMap (ap from_entries (all_done none) ∙ sym so_far.made) (from_entries-IsPackedMap all valid)
+
+-- ---- the whole text
+pub read_lines : (text : List ℕ) (found_lines : List (List ℕ)) (found : Option (List PackedRef)) → found_lines ≡ lines text → found ≡ refs_in false found_lines → packed_refs text ≡ option_and_then map_of found
+unfolding packed_refs
+read_lines text found_lines found e f = ap (λ l. option_and_then map_of (refs_in false l)) (sym e) ∙ ap (option_and_then map_of) (sym f)
+
+pub bad_where_none : (text : List ℕ) (found : Option PackedMap) → found ≡ packed_refs text → IfNone found (IsBadPacked text)
+bad_where_none text None e = sym e
+bad_where_none text (Some m) e = tt
