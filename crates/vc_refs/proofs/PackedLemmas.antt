@@ -110,7 +110,7 @@ once_more (ref ∷ refs) name id once none =
     let parts = and_parts (is_none (find by_bytes ref.0 refs)) (names_once refs) once in
     let apart = none_parts (is_eq (by_bytes name ref.0)) ref.1 (find by_bytes name refs) none in
     let same : find by_bytes ref.0 (refs ++ (name, id) ∷ []) ≡ find by_bytes ref.0 refs =
-        find-append by_bytes nat_list_cmp_total refs name id ref.0 apart.1 ∙ ap (λ b. cond b (Some id) (find by_bytes ref.0 refs)) (flipped name ref.0 apart.0) in
+    find-append by_bytes nat_list_cmp_total refs name id ref.0 apart.1 ∙ ap (λ b. cond b (Some id) (find by_bytes ref.0 refs)) (flipped name ref.0 apart.0) in
     and_from _ _ (ap is_none same ∙ parts.0) (once_more refs name id parts.1 apart.1)
 
 found_later : (q : List ℕ) (front : List PackedRef) (name : List ℕ) (id : ObjectId) (rest : List PackedRef) → is_eq (by_bytes q name) ≡ true → is_none (find by_bytes q (front ++ (name, id) ∷ rest)) ≡ false

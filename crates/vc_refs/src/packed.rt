@@ -193,10 +193,7 @@ fn ref_in(alloc: Global, line: &[u8]) -> Result<Option<(RefName, ObjectId)>, All
 }
 
 // The refs of the lines, in the order of the lines.
-fn refs_in(
-    alloc: Global,
-    lines: &[&[u8]],
-) -> Result<Option<Vec<(RefName, ObjectId)>>, AllocError>
+fn refs_in(alloc: Global, lines: &[&[u8]]) -> Result<Option<Vec<(RefName, ObjectId)>>, AllocError>
     ensures refs { IfOk result (λ found. option_map (λ refs. refs.items) found ≡ refs_in false (texts lines.now)) }
     ensures valid { IfOk result (λ found. IfSome found (λ refs. list_all may_be_packed refs.items ≡ true)) }
 {
@@ -225,10 +222,7 @@ fn refs_in(
 }
 
 // The map of the refs, where no name stands twice.
-fn map_of(
-    alloc: Global,
-    refs: Vec<(RefName, ObjectId)>,
-) -> Result<Option<PackedRefs>, AllocError>
+fn map_of(alloc: Global, refs: Vec<(RefName, ObjectId)>) -> Result<Option<PackedRefs>, AllocError>
     requires { list_all may_be_packed refs.items ≡ true }
     ensures { IfOk result (λ found. found ≡ map_of refs.items) }
 {

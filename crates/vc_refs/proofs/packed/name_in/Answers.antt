@@ -20,5 +20,5 @@ pub returns-clause-valid : goal.returns-clause-valid
 returns-clause-valid c =
     let text = c.args.text.now in
     let name : c.in_ok-name.name ≡ packed_name text =
-        c.in_ok-name.ensures ∙ ap (λ (t : List ℕ). cond (is_ref t) (Some t) None) c.in-Ok.ensures.cases.0 ∙ sym (packed_name-text text (is_utf8-from_IsUtf8 text c.in-Ok.ensures.cases.1)) in
+    c.in_ok-name.ensures ∙ ap (λ (t : List ℕ). cond (is_ref t) (Some t) None) c.in-Ok.ensures.cases.0 ∙ sym (packed_name-text text (is_utf8-from_IsUtf8 text c.in-Ok.ensures.cases.1)) in
     packed_name-valid text c.in_ok-name.name name
