@@ -51,6 +51,7 @@ impl PackedRefs {
     pub fn read(alloc: Global, text: &[u8]) -> Result<Option<PackedRefs>, AllocError>
         ensures found { IfOk result (λ found. found ≡ packed_refs text.now) }
         ensures bad { IfOk result (λ found. IfNone found (IsBadPacked text.now)) }
+        ensures packed { IfOk result (λ found. IfSome found IsPackedMap) }
     {
         let lines = lines_of(alloc, text)?;
         let Some(refs) = refs_in(alloc, &lines)? else {
@@ -224,7 +225,8 @@ fn refs_in(alloc: Global, lines: &[&[u8]]) -> Result<Option<Vec<(RefName, Object
 // The map of the refs, where no name stands twice.
 fn map_of(alloc: Global, refs: Vec<(RefName, ObjectId)>) -> Result<Option<PackedRefs>, AllocError>
     requires { list_all may_be_packed refs.items ≡ true }
-    ensures { IfOk result (λ found. found ≡ map_of refs.items) }
+    ensures found { IfOk result (λ found. found ≡ map_of refs.items) }
+    ensures packed { IfOk result (λ found. IfSome found IsPackedMap) }
 {
     let mut by_name = BTreeMap::new(alloc);
     for (name, id) in refs {

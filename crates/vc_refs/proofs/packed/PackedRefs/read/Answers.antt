@@ -14,11 +14,11 @@ returns-in_default-clause-bad c =
 
 pub returns-clause-found : goal.returns-clause-found
 returns-clause-found c =
-    c.in_ok-found.ensures
+    c.in_ok-found.ensures.found
     ∙ sym (read_lines c.args.text.now (texts c.deref.result.now) (Some c.in-Some.refs.items) (ap texts c.deref.ensures.value ∙ c.in_ok-lines.ensures) (rw c.in-Some.is at c.in_ok-refs.ensures.refs))
 
 pub returns-clause-bad : goal.returns-clause-bad
 returns-clause-bad c =
     bad_where_none c.args.text.now c.in_ok-found.found
-    (c.in_ok-found.ensures
+    (c.in_ok-found.ensures.found
     ∙ sym (read_lines c.args.text.now (texts c.deref.result.now) (Some c.in-Some.refs.items) (ap texts c.deref.ensures.value ∙ c.in_ok-lines.ensures) (rw c.in-Some.is at c.in_ok-refs.ensures.refs)))
