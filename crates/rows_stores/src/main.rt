@@ -9,6 +9,7 @@ mod graph_rows;
 mod ids;
 mod lock_rows;
 mod object_rows;
+mod packed_rows;
 mod random;
 mod raw;
 mod recorder;
@@ -53,6 +54,7 @@ fn obey<R: Host>(rt: &R, held: &mut Held<R>, row: &str) -> Answer {
     let (verb, rest) = two(row);
     match verb {
         "files" => devices::open_all(rt, &mut held.devices, rest),
+        "packed" | "packed-text" => packed_rows::obey(rt.alloc(), verb, rest),
         "random" => random::agreements(rt.alloc(), rest),
         "lock" | "try-lock" | "unlock" => lock_rows::obey(rt, &mut held.locks, verb, rest),
         _ if verb.starts_with("raw-") => raw::obey(rt, verb, rest),

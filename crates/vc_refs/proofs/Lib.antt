@@ -4,3 +4,5 @@ pub mod PathLemmas
 pub mod WayLemmas
 pub mod HeadLemmas
 pub mod ListingLemmas
+pub mod PackedLemmas
+pub mod PackedTextLemmas

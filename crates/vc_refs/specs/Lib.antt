@@ -4,3 +4,5 @@ pub mod Refs
 pub mod Head
 pub mod Way
 pub mod RefFault
+pub mod Packed
+pub mod PackedView

@@ -1,0 +1,24 @@
+use Rattle.std.proofs.Common.{◌≡◌, List, ℕ, Option, Some, None, sym, ap, ◌∙◌}
+use Rattle.std.specs.Prelude.{option_map, option_and_then}
+use Rattle.vc_refs.specs.Packed.{PackedRef, lines, map_of, packed_refs, refs_in, texts}
+use Rattle.vc_refs.proofs.PackedLemmas.{read_lines, bad_where_none}
+use Rattle.vc_refs.proofs.packed.PackedRefs.read.Goals as goal
+
+pub returns-in_default-clause-found : goal.returns-in_default-clause-found
+returns-in_default-clause-found c =
+    sym (read_lines c.args.text.now (texts c.deref.result.now) None (ap texts c.deref.ensures.value ∙ c.in_ok-lines.ensures) (rw c.in_default.is at c.in_ok-refs.ensures.refs))
+
+pub returns-in_default-clause-bad : goal.returns-in_default-clause-bad
+returns-in_default-clause-bad c =
+    read_lines c.args.text.now (texts c.deref.result.now) None (ap texts c.deref.ensures.value ∙ c.in_ok-lines.ensures) (rw c.in_default.is at c.in_ok-refs.ensures.refs)
+
+pub returns-clause-found : goal.returns-clause-found
+returns-clause-found c =
+    c.in_ok-found.ensures.found
+    ∙ sym (read_lines c.args.text.now (texts c.deref.result.now) (Some c.in-Some.refs.items) (ap texts c.deref.ensures.value ∙ c.in_ok-lines.ensures) (rw c.in-Some.is at c.in_ok-refs.ensures.refs))
+
+pub returns-clause-bad : goal.returns-clause-bad
+returns-clause-bad c =
+    bad_where_none c.args.text.now c.in_ok-found.found
+    (c.in_ok-found.ensures.found
+    ∙ sym (read_lines c.args.text.now (texts c.deref.result.now) (Some c.in-Some.refs.items) (ap texts c.deref.ensures.value ∙ c.in_ok-lines.ensures) (rw c.in-Some.is at c.in_ok-refs.ensures.refs)))
