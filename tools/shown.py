@@ -72,6 +72,8 @@ def lines_of(lines, first):
     indent = re.match(" *", head)[0]
     for at in range(first, len(lines) + 1):
         line = lines[at - 1]
+        if line == indent + "{}":
+            return at, at
         if line == indent + "{" or line.endswith("{") and (at == first or line.startswith(indent + ")")):
             return at, next(end for end in range(at + 1, len(lines) + 1) if lines[end - 1] == indent + "}")
         if line.endswith(";"):
@@ -151,8 +153,8 @@ def modules_around(crate, path):
 
 @dataclass(frozen=True)
 class Piece:
-    """A piece of what a crate shows: it counts where one of the words `any_of` is said, or all of `all_of`, and always where it
-    has neither. Then what it leads to is said, too."""
+    """A piece of what a crate shows: it counts where one of the words `any_of` is said, if it has such, and all of `all_of`. Then
+    what it leads to is said, too."""
 
     key: tuple
     any_of: frozenset
@@ -160,7 +162,7 @@ class Piece:
     leads: frozenset
 
     def counts(self, said):
-        return not self.any_of.isdisjoint(said) or (self.all_of <= said if self.all_of else not self.any_of)
+        return self.all_of <= said and not (self.any_of and self.any_of.isdisjoint(said))
 
 
 @dataclass(frozen=True)
@@ -177,7 +179,8 @@ def piece(crate, path, text, any_of=(), all_of=(), said_here=None):
     tokens = TOKEN.findall(text)
     leads = {*tokens, *cited_in(text, crate.name)}
     if path.startswith("src/"):
-        leads |= {*modules_around(crate, path), *((crate.name, path, it) for it in (tokens if said_here is None else said_here))}
+        said_here = tokens if said_here is None else said_here
+        leads |= {*modules_around(crate, path), *((crate.name, it) for it in tokens), *((crate.name, path, it) for it in said_here)}
     return Piece((crate.name, path, text), frozenset(any_of), frozenset(all_of), frozenset(leads))
 
 
@@ -246,8 +249,9 @@ def imports_of(crate, path, head, is_local):
         yield piece(crate, path, text, all_of={(crate.name, path, it) for it in tokens} if is_own else tokens, said_here=said_here)
 
 
-def names_of(item, types):
-    """The names by which an item is reached, any of them; none where they are not known."""
+def names_of(crate, item, types):
+    """The names by which an item is reached, any of them; none where they are not known. What isn't `pub` is reached from its own
+    crate alone."""
     head, text = head_of(item), "\n".join(item)
     if found := IMPL.fullmatch(header_of(item)):
         parameters = re.findall(r"[<,] *(?:const )?(\w+)", found[1] or "")
@@ -256,9 +260,10 @@ def names_of(item, types):
     name = ITEM.match(head)
     if not name:
         return set()
+    names = {name[1]}
     if re.match(rf"{PUB}enum ", head):
-        return {name[1], *(re.findall(r"^ {4}(\w+)", text, re.M) or re.findall(r"\w+", text))}
-    return {name[1]}
+        names |= {*(re.findall(r"^ {4}(\w+)", text, re.M) or re.findall(r"\w+", text))}
+    return names if head.startswith(("pub ", "macro_rules!")) else {(crate.name, it) for it in names}
 
 
 def end_of_header(item):
@@ -273,6 +278,13 @@ def header_of(item):
 def is_inherent(item):
     found = IMPL.fullmatch(header_of(item))
     return found and " for " not in found[2] and end_of_header(item) < len(item) and item[-1] == "}"
+
+
+def owner_of(item, types):
+    """The type whose members an `impl` of no trait has; nothing where it isn't known. Nobody has a value of it without its name, or
+    that of something that says it."""
+    words = re.findall(r"\w+", IMPL.fullmatch(header_of(item))[2])
+    return {*words[:1]} & types
 
 
 def is_import(item):
@@ -296,9 +308,10 @@ def pieces_of_item(crate, path, item, types, is_local):
             if is_import(member):
                 yield from imports_of(crate, path, head_of(member), is_local)
             else:
-                yield with_contracts(crate, piece(crate, path, "\n".join([*item[:start], *member]), names_of(member, types)))
+                text = "\n".join([*item[:start], *member])
+                yield with_contracts(crate, piece(crate, path, text, names_of(crate, member, types), owner_of(item, types)))
     else:
-        yield with_contracts(crate, piece(crate, path, text, names_of(item, types)))
+        yield with_contracts(crate, piece(crate, path, text, names_of(crate, item, types)))
 
 
 def with_contracts(crate, it):
