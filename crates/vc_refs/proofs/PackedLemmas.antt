@@ -180,6 +180,10 @@ entries_kept (e ∷ es) sorted =
 pub entries-packed_of : (m : BTreeMap (List ℕ) ObjectId) → IsOrdered by_bytes m → entries (packed_of m) ≡ m.entries
 entries-packed_of m ordered = entries_kept m.entries ordered
 
+-- what is listed are the refs of the map
+pub iter_refs : (m : BTreeMap (List ℕ) ObjectId) (refs : PackedMap) (listed : List PackedRef) → packed_of m ≡ refs → IsOrdered by_bytes m → listed ≡ m.entries → listed ≡ entries refs
+iter_refs m refs listed seen ordered is = is ∙ sym (entries-packed_of m ordered) ∙ ap entries seen
+
 pub packed_of-new : (m : BTreeMap (List ℕ) ObjectId) → m.entries ≡ [] → packed_of m ≡ empty
 packed_of-new m none = ap (λ es. from_entries es) none
 

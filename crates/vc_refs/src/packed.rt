@@ -81,6 +81,7 @@ impl PackedRefs {
     }
 
     /// The refs in the order of the names' bytes.
+    #[tactic(auto, using(crate::proofs::PackedLemmas::iter_refs))]
     pub fn iter(&self) -> Iter<'_, RefName, ObjectId>
         ensures refs { result ≡ names.entries self.now }
         ensures packed { IsPackedMap self.now }
