@@ -4,3 +4,4 @@ pub mod Machine
 pub mod Laws
 pub mod IncomingFault
 pub mod Incoming
+pub mod Read

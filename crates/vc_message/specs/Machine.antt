@@ -117,7 +117,3 @@ abbrev pub IsPlain : Message → Type 0
 IsPlain (Push atomic refusal commands objects) = refusal ≡ None
 IsPlain (Report refusal told) = (refusal ≢ Some 0) × AllByRecursion (λ t. t.outcome ≢ Err 0) told
 IsPlain _ = Unit {0}
-
--- some bytes are read as it
-abbrev pub WasRead : MessageText → Type 0
-WasRead text = (bytes : List ℕ) × IsSpelledBy SpellsMessage text bytes

@@ -2,7 +2,8 @@
 ghost use Rattle.std.specs.Prelude.{IfErr, OnErr, OnOk};
 ghost use Rattle.vc_files.specs.Failures.{Writes};
 ghost use Rattle.vc_message.specs.AnyView.{message_text};
-ghost use Rattle.vc_message.specs.Machine.{TextOf, WasRead};
+ghost use Rattle.vc_message.specs.Machine.{TextOf};
+ghost use Rattle.vc_message.specs.Read.{WasRead};
 ghost use Rattle.vc_model.specs.Message.{Message as Sent};
 ghost use Rattle.vc_model.specs.Repository.{Repository};
 ghost use Rattle.vc_model.specs.SharedCall.SharedCall.{Accept};

@@ -1,7 +1,7 @@
 //! The server of a shared node: one connection after the other, and on each one message after the other.
 ghost use Rattle.std.specs.Prelude.{◌≡◌};
 ghost use Rattle.vc_message.specs.AnyView.{message_text};
-ghost use Rattle.vc_message.specs.Machine.{WasRead};
+ghost use Rattle.vc_message.specs.Read.{WasRead};
 ghost use Rattle.vc_remote.specs.Turns.{going_on};
 
 use crate::answering::answer_message;

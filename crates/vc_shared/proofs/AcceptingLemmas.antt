@@ -11,7 +11,8 @@ use Rattle.vc_message.proofs.Readings.{one_refusal}
 use Rattle.vc_message.proofs.AnyLaws.{any_given}
 use Rattle.vc_message.specs.AnyMessage.{MessageText, SpellsMessage, a_list, a_pack, a_push, a_report, a_want, an_advert, an_error, any_step, beginning}
 use Rattle.vc_message.specs.AnyView.{message_text}
-use Rattle.vc_message.specs.Machine.{IsUnread, Reads, TextOf, WasRead, pkt_number}
+use Rattle.vc_message.specs.Machine.{IsUnread, Reads, TextOf, pkt_number}
+use Rattle.vc_message.specs.Read.{WasRead}
 use Rattle.vc_model.specs.Message.{Message}
 use Rattle.vc_model.specs.Node.{Answer}
 use Rattle.vc_model.specs.Node.Answer.{Declined, Fault}

@@ -2,7 +2,8 @@
 ghost use Rattle.std.specs.Prelude.{◌≡◌, ◌⊎◌, ℕ, IfErr, OnErr};
 ghost use Rattle.vc_files.specs.Failures.{Wears, Writes};
 ghost use Rattle.vc_message.specs.AnyView.{message_text};
-ghost use Rattle.vc_message.specs.Machine.{IsUnread, Reads, TextOf, WasRead};
+ghost use Rattle.vc_message.specs.Machine.{IsUnread, Reads, TextOf};
+ghost use Rattle.vc_message.specs.Read.{WasRead};
 ghost use Rattle.vc_model.specs.Message.{Message as Sent};
 ghost use Rattle.vc_model.specs.Question.Question.{Unread};
 ghost use Rattle.vc_model.specs.SharedCall.SharedCall.{Accept, Asks};

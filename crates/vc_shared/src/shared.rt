@@ -3,7 +3,8 @@ ghost use Rattle.std.specs.Prelude.{◌≡◌, ◌⊎◌, ℕ, IfErr, IfOk, OnEr
 ghost use Rattle.std.specs.FinMap.{empty};
 ghost use Rattle.vc_files.specs.Failures.{Wears, Writes};
 ghost use Rattle.vc_message.specs.AnyView.{message_text};
-ghost use Rattle.vc_message.specs.Machine.{IsUnread, Reads, TextOf, WasRead};
+ghost use Rattle.vc_message.specs.Machine.{IsUnread, Reads, TextOf};
+ghost use Rattle.vc_message.specs.Read.{WasRead};
 ghost use Rattle.vc_model.specs.Message.{Message as Sent};
 ghost use Rattle.vc_model.specs.Question.Question.{Resolve, Unread};
 ghost use Rattle.vc_model.specs.Repository.{Repository};

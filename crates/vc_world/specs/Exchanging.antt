@@ -6,7 +6,8 @@ use Rattle.vc_files.specs.FileMap.{FileMap}
 use Rattle.vc_format.specs.Git.{bytes_of_id}
 use Rattle.vc_message.specs.AnyMessage.{MessageText}
 use Rattle.vc_message.specs.AnyView.{message_text}
-use Rattle.vc_message.specs.Machine.{IsReport, Reads, TextOf, WasRead}
+use Rattle.vc_message.specs.Machine.{IsReport, Reads, TextOf}
+use Rattle.vc_message.specs.Read.{WasRead}
 use Rattle.vc_model.specs.Clone.{Awaited, CloneNode}
 use Rattle.vc_model.specs.Exchange.{AreReady, AreUp, IsCaughtUp, IsUndone, MayPush, one_item}
 use Rattle.vc_model.specs.Message.{Message}

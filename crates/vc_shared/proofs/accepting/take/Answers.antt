@@ -4,7 +4,8 @@ use Rattle.vc_files.proofs.WearLemmas.{wears_writes}
 use Rattle.std.specs.Prelude.{IfErr}
 use Rattle.vc_message.specs.AnyMessage.{SpellsMessage}
 use Rattle.vc_message.specs.AnyView.{message_text}
-use Rattle.vc_message.specs.Machine.{TextOf, WasRead}
+use Rattle.vc_message.specs.Machine.{TextOf}
+use Rattle.vc_message.specs.Read.{WasRead}
 use Rattle.vc_message.specs.declared.message.Message.{Message}
 use Rattle.vc_pkt.specs.Message.{IsSpelledBy}
 use Rattle.vc_push.specs.PushView.{push_text}
