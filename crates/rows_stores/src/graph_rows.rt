@@ -1,8 +1,7 @@
 //! Rows on what objects reach, and on ancestry.
 use crate::answers::{Answer, id_or_none, listed, yes_or_no};
-use crate::generation_rows;
 use crate::ids::{Shown, ids_of};
-use crate::verdict_rows;
+use crate::{generation_rows, verdict_rows};
 use anyhow::bail;
 use indexmap::IndexSet;
 use std::alloc::{AllocError, Global};
