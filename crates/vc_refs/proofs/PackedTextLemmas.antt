@@ -1,8 +1,8 @@
 -- What is written for packed refs is read as the same refs.
-use Rattle.std.proofs.Common.{◌≡◌, ℕ, zero, suc, ◌+◌, ◌*◌, ◌<◌, ◌==◌, Bool, true, false, cond, ◌&&◌, ◌||◌, List, [], ◌∷◌, ◌++◌, take, drop, length, Option, Some, None, is_none, sym, ap, refl, ◌∙◌, subst, arith, rules, append_assoc, append-nil, length-append, true≢false, nat_eq}
-use Rattle.std.specs.Prelude.{codes, map, is_some, nat_lt, option_map, option_and_then}
-use Rattle.std.specs.FinMap.{from_entries, get, entries, entries_sorted, get-entries, get-from_entries, same_map, slice_cmp-IsAntisymmetric, nat_cmp-IsAntisymmetric}
-use Rattle.std.specs.FinMap.Entries.{find, below_all, is_sorted}
+use Rattle.std.proofs.Common.{◌≡◌, ℕ, zero, suc, ◌==◌, Bool, true, false, cond, List, [], ◌∷◌, ◌++◌, length, Some, is_none, sym, ap, refl, ◌∙◌, arith, append_assoc, append-nil, length-append, true≢false, nat_eq}
+use Rattle.std.specs.Prelude.{codes, map, nat_lt, option_and_then}
+use Rattle.std.specs.FinMap.{from_entries, entries, entries_sorted, get-entries, get-from_entries, same_map, slice_cmp-IsAntisymmetric, nat_cmp-IsAntisymmetric}
+use Rattle.std.specs.FinMap.Entries.{below_all, is_sorted}
 use Rattle.std.specs.Ordering.{nat_cmp}
 use Rattle.std.specs.declared.cmp.Ordering.{Ordering}
 use Rattle.std.specs.Cmp.Lexicographic.{slice_cmp, nat_list_cmp_total}
@@ -13,7 +13,7 @@ use Rattle.std.proofs.lemmas.Bool.Decides.{nat_tests, Decides-eqb}
 use Rattle.std.proofs.lemmas.List.{take_at, drop_at}
 use Rattle.std.proofs.lemmas.List.Splits.{slice_split_none, slice_split_at}
 use Rattle.std.proofs.lemmas.List.Elements.{All-append}
-use Rattle.hex.specs.Hex.{encode_lower, decode_sized, is_hex_digit}
+use Rattle.hex.specs.Hex.{encode_lower, is_hex_digit}
 use Rattle.vc_object.specs.Items.{◌>>=◌}
 use Rattle.vc_object.specs.Lines.{after_word, split}
 use Rattle.vc_object.specs.ObjectId.{is_id}
@@ -23,7 +23,7 @@ use Rattle.vc_refname.specs.RefName.{is_bad_byte, is_ref_name}
 use Rattle.vc_refname.specs.declared.fault.NameFault.TheVariants as broken
 use Rattle.vc_refname.proofs.BrokenRules.{legal_from_is_ref_name}
 use Rattle.vc_refs.specs.Packed.{PackedMap, PackedRef, IsPackedMap, hex_id, is_comment, is_packed_name, is_peeled, lines, map_of, may_be_packed, names_once, packed_name, packed_refs, packed_text, parts, ref_in, ref_line, ref_text, refs_in, with_ref_first}
-use Rattle.vc_refs.specs.RefFile.{id_of, without_lf}
+use Rattle.vc_refs.specs.RefFile.{without_lf}
 use Rattle.vc_refs.specs.RefMap.{is_ref}
 use Rattle.vc_refs.proofs.PackedLemmas.{find_below, map_of-once, of_T}
 use Rattle.vc_refs.proofs.RefFileLemmas.{digits_of, id_in-id_text, without_lf-line}

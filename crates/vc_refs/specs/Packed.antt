@@ -34,7 +34,7 @@ PackedRef = List ℕ × ObjectId
 abbrev pub parts : List ℕ → List (List ℕ)
 parts text = slice_split (λ byte. byte == 10) text
 
--- Each line ends in a line feed, which the last one may lack.
+-- Each line ends in a line feed; own: the last one may lack it.
 abbrev pub lines : List ℕ → List (List ℕ)
 lines text = if length text == 0 then [] else parts (without_lf text)
 
@@ -46,7 +46,7 @@ texts lent = map (λ text. text.now) lent
 abbrev pub hex_id : List ℕ → Option ObjectId
 hex_id digits = option_map id_of (result_ok (decode_sized digits 20))
 
--- a line that is passed over wherever it stands
+-- a line that is passed over; own: wherever it stands
 abbrev pub is_comment : List ℕ → Bool
 is_comment line = starts_with nat_eq line (codes "#")
 
@@ -54,7 +54,7 @@ is_comment line = starts_with nat_eq line (codes "#")
 abbrev pub is_peeled : List ℕ → Bool
 is_peeled line = is_some (option_and_then hex_id (after_word (codes "^") line))
 
--- a legal name in `refs/`
+-- own: each name is legal and in `refs/`
 abbrev pub is_packed_name : List ℕ → Bool
 is_packed_name name = is_utf8 name && is_ref name
 
@@ -85,7 +85,7 @@ refs_in behind (line ∷ others) =
     else if is_peeled line then (if behind then refs_in false others else None)
     else with_ref_first (ref_in line) (refs_in true others)
 
--- no name stands twice
+-- own: no name stands twice
 abbrev pub names_once : List PackedRef → Bool
 names_once [] = true
 names_once (ref ∷ refs) = is_none (find (slice_cmp nat_cmp) ref.0 refs) && names_once refs

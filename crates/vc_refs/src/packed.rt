@@ -2,7 +2,6 @@
 ghost use Rattle.std.specs.Prelude.{◌≡◌, ◌++◌, option_map, true, false, Some, IfOk, IfSome, IfNone, OnOk, OnErr};
 ghost use Rattle.std.specs.FinMap as names;
 ghost use Rattle.std.specs.List.{list_all};
-ghost use Rattle.vc_object.specs.ObjectId.{is_id};
 ghost use Rattle.vc_refs.specs.Packed.{hex_id, is_comment, is_packed_name, is_peeled, lines, map_of, may_be_packed, packed_name, packed_refs, packed_text, parts, ref_in, ref_line, refs_in, texts, IsBadPacked, IsPackedMap};
 ghost use Rattle.vc_refs.specs.PackedView.{packed_of};
 ghost use Rattle.vc_refs.specs.RefMap.{IsInRefs};

@@ -1,8 +1,7 @@
-use Rattle.std.proofs.Common.{rules, ◌≡◌, ◌∷◌, [], true, None, Some, sym, ap, ◌∙◌, List}
+use Rattle.std.proofs.Common.{rules, ◌≡◌, ◌∷◌, [], sym, ap, ◌∙◌}
 use Rattle.std.specs.Prelude.{is_some}
 use Rattle.std.specs.Vec.Iter.{into_iter_items}
-use Rattle.vc_refs.specs.Packed.{PackedRef}
-use Rattle.vc_refs.proofs.PackedLemmas.{one_made, made_twice, all_made, made-IsPackedMap, no_entries, no_value}
+use Rattle.vc_refs.proofs.PackedLemmas.{one_made, made_twice, made-IsPackedMap, no_entries, no_value}
 use Rattle.vc_refs.proofs.packed.map_of.Goals as goal
 
 pub returns-then-is_some-clause-found : goal.returns-then-is_some-clause-found

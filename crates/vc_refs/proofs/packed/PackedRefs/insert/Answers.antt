@@ -1,9 +1,9 @@
-use Rattle.std.proofs.Common.{◌≡◌, true, rules, subst, sym, ap, ◌∙◌, List, ℕ}
+use Rattle.std.proofs.Common.{◌≡◌, true, subst, sym, ap, ◌∙◌, List, ℕ}
 use Rattle.std.specs.FinMap as names
 use Rattle.std.proofs.lemmas.Bool.{and_from}
 use Rattle.vc_object.specs.ObjectId.{is_id}
 use Rattle.vc_object.specs.declared.id.ObjectId.{ObjectId}
-use Rattle.vc_refs.specs.Packed.{IsPackedMap, PackedMap, is_packed_name, may_be_packed}
+use Rattle.vc_refs.specs.Packed.{IsPackedMap, PackedMap, is_packed_name}
 use Rattle.vc_refs.specs.PackedView.{packed_of}
 use Rattle.vc_refs.proofs.PackedLemmas.{packed_of-set, insert-IsPackedMap}
 use Rattle.vc_refs.proofs.packed.PackedRefs.insert.Goals as goal

@@ -1,6 +1,5 @@
-use Rattle.std.proofs.Common.{◌≡◌, List, ℕ, Option, Some, None, sym, ap, ◌∙◌}
-use Rattle.std.specs.Prelude.{option_map, option_and_then}
-use Rattle.vc_refs.specs.Packed.{PackedRef, lines, map_of, packed_refs, refs_in, texts}
+use Rattle.std.proofs.Common.{Some, None, sym, ap, ◌∙◌}
+use Rattle.vc_refs.specs.Packed.{texts}
 use Rattle.vc_refs.proofs.PackedLemmas.{read_lines, bad_where_none}
 use Rattle.vc_refs.proofs.packed.PackedRefs.read.Goals as goal
 

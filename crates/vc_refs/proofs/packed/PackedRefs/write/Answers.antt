@@ -1,5 +1,4 @@
 use Rattle.std.proofs.Common.{◌++◌, subst, sym, ap, ◌∙◌}
-use Rattle.std.specs.FinMap.{entries}
 use Rattle.std.specs.List.{flat_map}
 use Rattle.vc_refs.specs.Packed.{IsPackedMap, packed_text, ref_line}
 use Rattle.vc_refs.proofs.PackedLemmas.{entries-packed_of}
