@@ -10,7 +10,7 @@ returns-in-Report g c = record {
   takes = λ f m is. c.take_report.ensures.takes f m (subst (λ (x : Message). TextOf m (message_text x)) c.in-Report.is is);
 }
 
-pub returns : goal.returns
-returns g c = record {
+pub returns-in_default : goal.returns-in_default
+returns-in_default g c = record {
   takes = λ f m is. c.take_other.ensures.takes f m is (no_report_here m c.args.message c.in_default.not-Report is);
 }
