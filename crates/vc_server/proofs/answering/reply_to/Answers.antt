@@ -1,5 +1,4 @@
-use Rattle.std.proofs.Common.{refl, sym, subst}
-use Rattle.std.specs.Prelude.{Bool}
+use Rattle.std.proofs.Common.{refl}
 use Rattle.vc_files.proofs.WearLemmas.{writes_none}
 use Rattle.vc_node.proofs.CleanLemmas.{clean_same}
 use Rattle.vc_server.proofs.ServingLemmas.{replied_at_once, served_by_steps, stays_as}
