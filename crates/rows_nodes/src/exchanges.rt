@@ -8,7 +8,7 @@ use std::alloc::{AllocError, Global};
 use std::fmt::Write;
 use vc_push::{Report, Told};
 use vc_shared::SharedFault;
-use vc_world::{ExchangeEnd, exchange_fetch, exchange_push};
+use vc_world::{ExchangeEnd, Fetched, exchange_fetch, exchange_push};
 
 // Tells why an exchange came to no end of its own.
 fn push_end(out: &mut String, end: &ExchangeEnd<SharedFault>) -> Result<(), AllocError> {
@@ -51,13 +51,22 @@ fn push_report(out: &mut String, report: &Report) -> Result<(), AllocError> {
     Ok(())
 }
 
-/// A whole fetch. The clone gets the answers as bytes, or read already.
+// Tells what came of a fetch.
+fn push_fetched(
+    out: &mut String,
+    fetched: Result<Fetched, ExchangeEnd<SharedFault>>,
+) -> Result<(), AllocError> {
+    match fetched {
+        Ok(fetched) => write!(out, "moved {} left {}", fetched.moved, fetched.left),
+        Err(end) => push_end(out, &end),
+    }
+}
+
+/// A whole fetch.
 pub fn fetch(
     out: &mut String,
-    alloc: Global,
     shared: &mut SharedSite,
     clone: &mut CloneSite,
-    is_read: bool,
 ) -> Result<(), AllocError> {
     let Some(shared) = &mut shared.node else {
         return out.push_str("closed");
@@ -65,25 +74,53 @@ pub fn fetch(
     let Some(clone) = &mut clone.node else {
         return out.push_str("closed");
     };
-    let fetched = if is_read {
-        exchange_fetch(&mut Reading { alloc, shared }, clone)
-    } else {
-        exchange_fetch(shared, clone)
+    push_fetched(out, exchange_fetch(shared, clone))
+}
+
+/// A whole fetch, of which the clone gets the answers read already.
+pub fn fetch_read(
+    out: &mut String,
+    alloc: Global,
+    shared: &mut SharedSite,
+    clone: &mut CloneSite,
+) -> Result<(), AllocError> {
+    let Some(clone) = &mut clone.node else {
+        return out.push_str("closed");
     };
-    match fetched {
-        Ok(fetched) => write!(out, "moved {} left {}", fetched.moved, fetched.left),
+    let Some(node) = shared.node.take() else {
+        return out.push_str("closed");
+    };
+    let mut reading = Reading {
+        alloc,
+        shared: node,
+    };
+    let fetched = exchange_fetch(&mut reading, clone);
+    let Reading {
+        alloc: _,
+        shared: node,
+    } = reading;
+    shared.node = Some(node);
+    push_fetched(out, fetched)
+}
+
+// Tells what came of a push.
+fn push_pushed(
+    out: &mut String,
+    pushed: Result<Report, ExchangeEnd<SharedFault>>,
+) -> Result<(), AllocError> {
+    match pushed {
+        Ok(report) => push_report(out, &report),
         Err(end) => push_end(out, &end),
     }
 }
 
-/// A whole push of the items. The clone gets the answer as bytes, or read already.
+/// A whole push of the items.
 pub fn push(
     out: &mut String,
     alloc: Global,
     shared: &mut SharedSite,
     clone: &mut CloneSite,
     text: &str,
-    is_read: bool,
 ) -> Result<(), AllocError> {
     let items = items_of(alloc, text)?;
     if items.is_empty() {
@@ -95,13 +132,36 @@ pub fn push(
     let Some(clone) = &mut clone.node else {
         return out.push_str("closed");
     };
-    let pushed = if is_read {
-        exchange_push(alloc, &mut Reading { alloc, shared }, clone, &items)
-    } else {
-        exchange_push(alloc, shared, clone, &items)
-    };
-    match pushed {
-        Ok(report) => push_report(out, &report),
-        Err(end) => push_end(out, &end),
+    push_pushed(out, exchange_push(alloc, shared, clone, &items))
+}
+
+/// A whole push of the items, of which the clone gets the answer read already.
+pub fn push_read(
+    out: &mut String,
+    alloc: Global,
+    shared: &mut SharedSite,
+    clone: &mut CloneSite,
+    text: &str,
+) -> Result<(), AllocError> {
+    let items = items_of(alloc, text)?;
+    if items.is_empty() {
+        return out.push_str("no items");
     }
+    let Some(clone) = &mut clone.node else {
+        return out.push_str("closed");
+    };
+    let Some(node) = shared.node.take() else {
+        return out.push_str("closed");
+    };
+    let mut reading = Reading {
+        alloc,
+        shared: node,
+    };
+    let pushed = exchange_push(alloc, &mut reading, clone, &items);
+    let Reading {
+        alloc: _,
+        shared: node,
+    } = reading;
+    shared.node = Some(node);
+    push_pushed(out, pushed)
 }

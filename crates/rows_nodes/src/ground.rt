@@ -74,35 +74,39 @@ impl Ground {
     }
 
     // A whole fetch by the clone that is named.
-    fn fetch(&mut self, out: &mut String, name: &str, is_read: bool) -> Result<(), AllocError> {
+    fn fetch(&mut self, out: &mut String, name: &str) -> Result<(), AllocError> {
+        match name {
+            "c1" => exchanges::fetch(out, &mut self.shared, &mut self.second),
+            _ => exchanges::fetch(out, &mut self.shared, &mut self.first),
+        }
+    }
+
+    // The same, where the answers come read.
+    fn fetch_read(&mut self, out: &mut String, name: &str) -> Result<(), AllocError> {
         let alloc = self.alloc;
         match name {
-            "c1" => exchanges::fetch(out, alloc, &mut self.shared, &mut self.second, is_read),
-            _ => exchanges::fetch(out, alloc, &mut self.shared, &mut self.first, is_read),
+            "c1" => exchanges::fetch_read(out, alloc, &mut self.shared, &mut self.second),
+            _ => exchanges::fetch_read(out, alloc, &mut self.shared, &mut self.first),
         }
     }
 
     // A whole push by the clone that is named first, of the items behind it.
-    fn push(&mut self, out: &mut String, text: &str, is_read: bool) -> Result<(), AllocError> {
+    fn push(&mut self, out: &mut String, text: &str) -> Result<(), AllocError> {
         let alloc = self.alloc;
         let (name, items) = text.split_once(' ').unwrap_or((text, ""));
         match name {
-            "c1" => exchanges::push(
-                out,
-                alloc,
-                &mut self.shared,
-                &mut self.second,
-                items,
-                is_read,
-            ),
-            _ => exchanges::push(
-                out,
-                alloc,
-                &mut self.shared,
-                &mut self.first,
-                items,
-                is_read,
-            ),
+            "c1" => exchanges::push(out, alloc, &mut self.shared, &mut self.second, items),
+            _ => exchanges::push(out, alloc, &mut self.shared, &mut self.first, items),
+        }
+    }
+
+    // The same, where the answer comes read.
+    fn push_read(&mut self, out: &mut String, text: &str) -> Result<(), AllocError> {
+        let alloc = self.alloc;
+        let (name, items) = text.split_once(' ').unwrap_or((text, ""));
+        match name {
+            "c1" => exchanges::push_read(out, alloc, &mut self.shared, &mut self.second, items),
+            _ => exchanges::push_read(out, alloc, &mut self.shared, &mut self.first, items),
         }
     }
 
@@ -111,10 +115,10 @@ impl Ground {
         let (verb, text) = row.split_once(' ').unwrap_or((row, ""));
         match verb {
             "world" => self.world(out),
-            "fetch" => self.fetch(out, text, false),
-            "push" => self.push(out, text, false),
-            "fetch-read" => self.fetch(out, text, true),
-            "push-read" => self.push(out, text, true),
+            "fetch" => self.fetch(out, text),
+            "push" => self.push(out, text),
+            "fetch-read" => self.fetch_read(out, text),
+            "push-read" => self.push_read(out, text),
             "c0" => clones::row(out, self.alloc, &mut self.first, &mut self.sent, text),
             "c1" => clones::row(out, self.alloc, &mut self.second, &mut self.sent, text),
             _ => self.shared_row(out, verb, text),

@@ -13,12 +13,12 @@ use vc_world::{Peer, Reply};
 
 /// The shared node of the rows, whose answers are read before the clone has them.
 #[derive(Drop)]
-pub struct Reading<'a> {
+pub struct Reading {
     pub alloc: Global,
-    pub shared: &'a mut Shared<Device>,
+    pub shared: Shared<Device>,
 }
 
-impl<'a> Peer for Reading<'a> {
+impl Peer for Reading {
     type Refusal = SharedFault;
 
     // It stands for the other end of a connection, of which nothing is claimed.
@@ -29,7 +29,7 @@ impl<'a> Peer for Reading<'a> {
     ghost told = { fault_answer };
 
     fn ask(&mut self, bytes: &[u8]) -> Result<Reply, SharedFault> {
-        let answered = answer(&mut *self.shared, bytes)?;
+        let answered = answer(&mut self.shared, bytes)?;
         match Message::read(self.alloc, &answered) {
             Ok(message) => Ok(Reply::Message(message)),
             // A node's answer is a message, so it was memory.
