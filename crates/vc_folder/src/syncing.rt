@@ -9,11 +9,11 @@ use std::thread::{JoinHandle, Threads, spawn};
 use std::{io, mem};
 
 // How many files a thread is given. Fewer are synced by the thread that asks.
-const SHARE: usize = 16;
+const SHARE: usize = 8;
 
-// How many threads sync at once, at most. With their shares and one that fills up, some 140 files are open at once: more threads
-// are no quicker, and a process may be allowed no more than 256.
-const MOST_THREADS: usize = 8;
+// How many threads sync at once, at most. Each waits for the disk and hardly works. With their shares and one that fills up, some
+// 200 files are open at once: a process may be allowed no more than 256.
+const MOST_THREADS: usize = 24;
 
 /// What makes files of this type durable.
 pub trait Syncs<T> {
