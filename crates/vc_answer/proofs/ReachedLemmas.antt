@@ -1,11 +1,10 @@
 -- Walks down to names that are known: what they have met at their end, and what stands then for other roots.
-use Rattle.std.proofs.Common.{◌≡◌, Bool, true, false, ◌⊎◌, inl, inr, ⊎_elim, List, [], ◌++◌, Option, Some, None, IsSome, Contains, ◌↔◌, sym, ap, subst, ◌∙◌, refl, if◌then◌else◌, ℕ, ◌≤◌, length, arith}
+use Rattle.std.proofs.Common.{◌≡◌, Bool, true, false, ◌⊎◌, inl, inr, ⊎_elim, List, [], ◌++◌, Option, Some, IsSome, Contains, ◌↔◌, sym, ap, subst, ◌∙◌, refl, if◌then◌else◌, ℕ, ◌≤◌, length, arith}
 use Rattle.indexmap.specs.IndexSet.{insert_all}
 use Rattle.std.proofs.lemmas.List.Elements.{Contains-append_cases}
 use Rattle.std.proofs.lemmas.Map.Views.{Contains-from_any}
 use Rattle.std.specs.List.{list_any}
-use Rattle.vc_answer.specs.Reached.{IsMetDownTo, KeepsObjects, Stands, links_beyond}
-use Rattle.vc_files.specs.FileMap.{FileMap}
+use Rattle.vc_answer.specs.Reached.{IsMetDownTo, Stands, links_beyond}
 use Rattle.vc_graph.proofs.WalkLemmas.{Contains-insert_all_cases, Contains-insert_all_new, Contains-insert_all_old, Contains-reached, IsFollowed-none, ReachedFrom-trans, Walks, Walks-start, walked-followed}
 use Rattle.vc_graph.specs.Graph.{IsClosedUnder, IsFollowed, LinksTo, Reaches, ReachedFrom, itself, onward}
 use Rattle.vc_object.proofs.IdLemmas.{id_eq-same}

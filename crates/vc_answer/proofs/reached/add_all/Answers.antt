@@ -1,5 +1,4 @@
 use Rattle.std.proofs.Common.{◌∙◌, length, take, ap}
-use Rattle.indexmap.specs.IndexSet.{insert_all}
 use Rattle.std.proofs.Math.Seq.{take-append_seam}
 use Rattle.vc_graph.proofs.WalkLemmas.{insert_all-prefix}
 use Rattle.vc_object.specs.ObjectId.{id_eq}

@@ -1,4 +1,4 @@
-use Rattle.std.proofs.Common.{rules, ◌≡◌, ◌∙◌, [], Contains, get_or, sym, true}
+use Rattle.std.proofs.Common.{rules, ◌≡◌, [], Contains, get_or, true}
 use Rattle.std.proofs.lemmas.Map.Views.{Contains-from_any}
 use Rattle.std.specs.List.{list_any}
 use Rattle.vc_answer.proofs.PickedLemmas.{all_more}

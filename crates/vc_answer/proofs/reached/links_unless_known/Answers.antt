@@ -1,13 +1,10 @@
-use Rattle.std.proofs.Common.{rules, ◌≡◌, ◌∙◌, [], ◌∷◌, Some, None, ap, sym, true, false}
-use Rattle.std.specs.List.{list_any}
+use Rattle.std.proofs.Common.{rules, ◌≡◌, ◌∙◌, [], ◌∷◌, Some, None, ap, sym}
 use Rattle.vc_answer.proofs.ReachedLemmas.{links_beyond-known, links_beyond-new}
-use Rattle.vc_answer.specs.Reached.{links_beyond}
 use Rattle.vc_graph.proofs.FaultLemmas.{IsMet-from_refused}
 use Rattle.vc_graph.proofs.WalkLemmas.{ReachedFrom-one}
 use Rattle.vc_graph.specs.Graph.{ReachedFrom, itself}
 use Rattle.vc_object.proofs.ObjectMaps.{links_in-none, links_in-some}
 use Rattle.vc_object.specs.Decoding.{stored_object}
-use Rattle.vc_object.specs.ObjectId.{id_eq}
 use Rattle.vc_object.specs.ObjectMap.{links_in}
 use Rattle.vc_store.specs.Store.{objects, IsDamaged}
 use Rattle.vc_answer.proofs.reached.links_unless_known.Goals as goal

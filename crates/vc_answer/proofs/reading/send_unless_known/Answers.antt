@@ -1,4 +1,4 @@
-use Rattle.std.proofs.Common.{rules, inl, inr, ◌∙◌, Some, Contains, ap, refl, sym, true≢false}
+use Rattle.std.proofs.Common.{inl, inr, ◌∙◌, Some, Contains, ap, refl, sym, true≢false}
 use Rattle.std.proofs.lemmas.Map.Views.{Contains-from_any, list_any-from_Contains}
 use Rattle.vc_answer.proofs.ReachedLemmas.{links_beyond-known, links_beyond-new}
 use Rattle.vc_object.proofs.IdLemmas.{id_eq-same, id_eq_equiv}
