@@ -1,3 +1,4 @@
 pub mod Answer
 pub mod AnswerFault
 pub mod Picked
+pub mod Reached

@@ -9,6 +9,7 @@ mod counting;
 mod fault;
 mod judge;
 mod pack_objects;
+mod reached;
 mod reading;
 mod values;
 
@@ -16,4 +17,5 @@ pub use answer::answer_want;
 pub use fault::AnswerFault;
 pub use judge::judge_pack;
 pub use pack_objects::PackObjects;
-pub use reading::sent_objects;
+pub use reached::{Reached, what_is_reached_stands_while_objects_stay};
+pub use reading::{sent_beyond, sent_objects};

@@ -1,6 +1,7 @@
 pub mod AdvertDeeds
 pub mod DeedLemmas
 mod EmptyLists
+pub mod KeptLemmas
 pub mod MovingDecisions
 pub mod MovingFronts
 pub mod MovingLemmas

@@ -1,6 +1,7 @@
 //! What a clone makes of a message from the shared node.
 ghost use Rattle.std.specs.Prelude.{◌≡◌, ◌⊎◌, ◌++◌, ◌∷◌, [], IfOk, IfErr, OnOk, OnErr, IsErrOf, codes, map, length};
 ghost use Rattle.std.specs.FinMap.{entries};
+ghost use Rattle.vc_answer.specs.Reached.{KeepsObjects};
 ghost use Rattle.vc_exchange.specs.Deeds.{ChangesAt, HoldsHead, IsCutShort, IsReceived};
 ghost use Rattle.vc_exchange.specs.Faults.{BlamesFiles};
 ghost use Rattle.vc_exchange.specs.Moving.{told_in};
@@ -118,7 +119,8 @@ pub fn receive_advert<F: Files>(
 /// Takes the pack that brings these wants, which were asked for when these refs were advertised: its objects are stored, and then
 /// the refs follow. With the pack all must be there that the wants reach (92), and nothing is stored before that is seen. What the
 /// clone's own refs reach is taken as there, as it is in a sound repository, and not read, unless a want is refused. A call that ends
-/// early has stored some objects, or all of them and moved some first refs. No file becomes bad, and only objects and refs change.
+/// early has stored some objects, or all of them and moved some first refs. No file becomes bad, only objects and refs
+/// change, and each object that was stored stays.
 pub fn receive_pack<F: Files>(
     files: &mut F,
     alloc: Global,
@@ -131,6 +133,7 @@ pub fn receive_pack<F: Files>(
     ensures refused { F.honest → (m : Message) → IsPack m (pack_text pack.now) → IfErr result (BlamesPack (F.content files.old) wants.now m) }
     ensures unchanged { F.honest → IfErr result (λ e. (id : Name) → e ≡ ExchangeFault.Incomplete id → F.content files.new ≡ F.content files.old) }
     ensures beside { F.honest → KeepsBeside (F.content files.old) (F.content files.new) }
+    ensures objects { F.honest → KeepsObjects (F.content files.old) (F.content files.new) }
     ensures bad { F.honest → MakesNoneBad (F.content files.old) (F.content files.new) }
     ensures wear { Writes F.honest F.content F.failed F.can_fail F.left files.old files.new (IsErrOf result (ExchangeFault.Fault Fault.Device)) }
 {

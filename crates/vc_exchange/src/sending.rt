@@ -1,6 +1,7 @@
 //! The two messages by which a clone begins: the list of a fetch, and a push.
 ghost use Rattle.std.specs.Prelude.{◌≡◌, ◌≢◌, [], ◌↔◌, nat_eq, codes, Contains, IfOk, IfErr, IsErrOf, OnOk, filter_map, length, map};
 ghost use Rattle.std.specs.List.{All, starts_with};
+ghost use Rattle.vc_answer.specs.Reached.{StandsIn};
 ghost use Rattle.vc_exchange.specs.SendFault.{BlamesRefFile, IsRefusedPush, IsRefusedSend};
 ghost use Rattle.vc_exchange.specs.Sending.{AreSent, IsPushOf, IsTracked, command_for, item_ids, known_value, tracked_in};
 ghost use Rattle.vc_exchange.specs.SentPush.{DeclinesPush, SendsPush};
@@ -19,7 +20,7 @@ ghost use Rattle.vc_store.specs.Store.{objects};
 
 use crate::{PushItem, SendFault};
 use std::alloc::{AllocError, Global};
-use vc_answer::sent_objects;
+use vc_answer::{Reached, sent_beyond};
 use vc_fetch::List;
 use vc_files::{Fault, Files};
 use vc_graph::first_incomplete;
@@ -151,21 +152,25 @@ fn refuse_incomplete<F: Files>(
     }
 }
 
-// The objects that the ids reach and the tracking refs do not. Each object that either reaches is read once.
+// The objects that the ids reach and the tracking refs do not. What is kept of the tracking refs' reach is renewed, and each object
+// is read that lies beyond it.
 fn untracked_objects<F: Files>(
     alloc: Global,
     files: &mut F,
+    reached: &mut Reached,
     ids: &[ObjectId],
 ) -> Result<CarriedObjects, SendFault>
-    ensures sent { F.honest → IfOk result (λ sent. AreSent (F.content files.old) ids.now (carried sent)) }
+    ensures sent { F.honest → StandsIn (F.content files.old) reached.old → IfOk result (λ sent. AreSent (F.content files.old) ids.now (carried sent)) }
     ensures sorted { F.honest → IfOk result (λ sent. IsSortedByName (map stored_name (carried sent))) }
-    ensures complete { F.honest → OnOk result (IsClosedUnder (links_in (objects (F.content files.old))) ids.now) }
+    ensures complete { F.honest → StandsIn (F.content files.old) reached.old → OnOk result (IsClosedUnder (links_in (objects (F.content files.old))) ids.now) }
+    ensures stands { F.honest → StandsIn (F.content files.old) reached.old → StandsIn (F.content files.old) reached.new }
     ensures refused { F.honest → IsClosedUnder (links_in (objects (F.content files.old))) ids.now → IfErr result (IsRefusedSend (F.content files.old) ids.now) }
     ensures same { F.content files.new ≡ F.content files.old }
     ensures wear { Wears F.failed F.can_fail F.left files.old files.new (IsErrOf result (SendFault.Fault Fault.Device)) }
 {
     let tracked = tracked_values(alloc, files)?;
-    let objects = sent_objects(alloc, files, ids, &tracked)?;
+    reached.renew(alloc, files, &tracked)?;
+    let objects = sent_beyond(alloc, files, reached, ids)?;
     Ok(objects)
 }
 
@@ -174,11 +179,13 @@ fn untracked_objects<F: Files>(
 fn objects_for<F: Files>(
     alloc: Global,
     files: &mut F,
+    reached: &mut Reached,
     ids: &[ObjectId],
 ) -> Result<CarriedObjects, SendFault>
-    ensures sent { F.honest → IfOk result (λ sent. AreSent (F.content files.old) ids.now (carried sent)) }
+    ensures sent { F.honest → StandsIn (F.content files.old) reached.old → IfOk result (λ sent. AreSent (F.content files.old) ids.now (carried sent)) }
     ensures sorted { F.honest → IfOk result (λ sent. IsSortedByName (map stored_name (carried sent))) }
-    ensures complete { F.honest → OnOk result (IsClosedUnder (links_in (objects (F.content files.old))) ids.now) }
+    ensures complete { F.honest → StandsIn (F.content files.old) reached.old → OnOk result (IsClosedUnder (links_in (objects (F.content files.old))) ids.now) }
+    ensures stands { F.honest → StandsIn (F.content files.old) reached.old → StandsIn (F.content files.old) reached.new }
     ensures refused { F.honest → IfErr result (IsRefusedSend (F.content files.old) ids.now) }
     ensures same { F.content files.new ≡ F.content files.old }
     ensures wear { Wears F.failed F.can_fail F.left files.old files.new (IsErrOf result (SendFault.Fault Fault.Device)) }
@@ -186,7 +193,7 @@ fn objects_for<F: Files>(
     if ids.is_empty() {
         return Ok(CarriedObjects::new(alloc));
     }
-    match untracked_objects(alloc, files, ids) {
+    match untracked_objects(alloc, files, reached, ids) {
         Ok(objects) => Ok(objects),
         Err(SendFault::Fault(fault)) => Err(SendFault::Fault(fault)),
         Err(fault) => {
@@ -197,15 +204,21 @@ fn objects_for<F: Files>(
 }
 
 // The push of the items.
-fn push_for<F: Files>(alloc: Global, files: &mut F, items: &[PushItem]) -> Result<Push, SendFault>
-    ensures push { F.honest → IfOk result (λ push. IsPushOf (F.content files.old) items.now (push_text push)) }
+fn push_for<F: Files>(
+    alloc: Global,
+    files: &mut F,
+    reached: &mut Reached,
+    items: &[PushItem],
+) -> Result<Push, SendFault>
+    ensures push { F.honest → StandsIn (F.content files.old) reached.old → IfOk result (λ push. IsPushOf (F.content files.old) items.now (push_text push)) }
     ensures legal { IfOk result (λ push. All (λ command. IsRefName command.name.items) push.commands.items) }
+    ensures stands { F.honest → StandsIn (F.content files.old) reached.old → StandsIn (F.content files.old) reached.new }
     ensures refused { F.honest → IfErr result (IsRefusedSend (F.content files.old) (item_ids items.now)) }
     ensures same { F.content files.new ≡ F.content files.old }
     ensures wear { Wears F.failed F.can_fail F.left files.old files.new (IsErrOf result (SendFault.Fault Fault.Device)) }
 {
     let ids = item_ids(alloc, items)?;
-    let objects = objects_for(alloc, files, &ids)?;
+    let objects = objects_for(alloc, files, reached, &ids)?;
     let commands = commands_for(alloc, files, items)?;
     Ok(Push {
         commands,
@@ -228,24 +241,27 @@ pub fn list_message(alloc: Global) -> Result<Vec<u8>, AllocError>
 /// More than 256 items are refused (84), and then the first id of which not all is there (40). The clone's files stay as
 /// they are.
 ///
-/// Each object that the ids or the tracking refs reach is read once. Only where that is refused are the ids walked by
-/// themselves, to find the first of which not all is there.
+/// What is reached from the tracking refs is kept from one push to the next, and stands then for these refs; what it says is right
+/// where it stood for its roots before. Each object is read once that lies beyond it. Only where that is refused are the ids walked
+/// by themselves, to find the first of which not all is there.
 pub fn push_message<F: Files>(
     alloc: Global,
     files: &mut F,
+    reached: &mut Reached,
     items: &[PushItem],
 ) -> Result<Vec<u8>, SendFault>
     requires some { items.now ≢ [] }
-    ensures sent { F.honest → IfOk result (λ bytes. SendsPush (F.content files.old) items.now bytes.items) }
+    ensures sent { F.honest → StandsIn (F.content files.old) reached.old → IfOk result (λ bytes. SendsPush (F.content files.old) items.now bytes.items) }
     ensures refused { F.honest → IfErr result (IsRefusedPush (F.content files.old) items.now) }
     ensures declined { F.honest → IfErr result (DeclinesPush (F.content files.old) items.now) }
+    ensures stands { F.honest → StandsIn (F.content files.old) reached.old → StandsIn (F.content files.old) reached.new }
     ensures same { F.content files.new ≡ F.content files.old }
     ensures wear { Wears F.failed F.can_fail F.left files.old files.new (IsErrOf result (SendFault.Fault Fault.Device)) }
 {
     if items.len() > MAX_COMMANDS {
         return Err(SendFault::TooMany);
     }
-    let push = push_for(alloc, files, items)?;
+    let push = push_for(alloc, files, reached, items)?;
     let bytes = push.write(alloc)?;
     Ok(bytes)
 }

@@ -11,6 +11,7 @@ pub mod CommitReads
 pub mod DenotingLemmas
 pub mod ExchangingLemmas
 pub mod IndexLemmas
+pub mod KeepingLemmas
 pub mod LookLemmas
 pub mod MakingLemmas
 pub mod MayLemmas

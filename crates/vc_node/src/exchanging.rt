@@ -1,5 +1,6 @@
 // What a clone makes of a message that it awaits.
 ghost use Rattle.std.specs.Prelude.{◌≡◌, ◌⊎◌, ℕ, IfErr, IfOk, OnErr, true};
+ghost use Rattle.vc_answer.specs.Reached.{KeepsObjects};
 ghost use Rattle.vc_files.specs.Failures.{Wears, Writes};
 ghost use Rattle.vc_fetch.specs.AdvertView.{advert_text};
 ghost use Rattle.vc_fetch.specs.PackView.{pack_text};
@@ -47,6 +48,7 @@ fn take_advert<F: Files>(
     ensures unchanged { OnErr result (awaited_text awaited.new ≡ awaited_text awaited.old) }
     ensures refused { F.honest → IfErr result (IsRefusedMessage (F.content files.old) (awaited_text awaited.old) (an_advert (advert_text advert))) }
     ensures kept { F.honest → IfErr result (λ e. IsOfMessage e → F.content files.new ≡ F.content files.old) }
+    ensures objects { F.honest → KeepsObjects (F.content files.old) (F.content files.new) }
     ensures bad { F.honest → MakesNoneBad (F.content files.old) (F.content files.new) }
     ensures wear { Writes F.honest F.content F.failed F.can_fail F.left files.old files.new (TellsDevice result) }
     ensures looks { F.honest → (m : Sent) → TextOf m (an_advert (advert_text advert)) → MayOr (Receive m) (awaited_text awaited.old) true (F.content files.old) (Wears F.failed F.can_fail F.left files.old files.new (TellsDevice result)) }
@@ -80,6 +82,7 @@ fn take_pack<F: Files>(
     ensures unchanged { OnErr result (awaited_text awaited.new ≡ awaited_text awaited.old) }
     ensures refused { F.honest → IfErr result (IsRefusedMessage (F.content files.old) (awaited_text awaited.old) (a_pack (pack_text pack.now))) }
     ensures kept { F.honest → IfErr result (λ e. IsOfMessage e → F.content files.new ≡ F.content files.old) }
+    ensures objects { F.honest → KeepsObjects (F.content files.old) (F.content files.new) }
     ensures bad { F.honest → MakesNoneBad (F.content files.old) (F.content files.new) }
     ensures wear { Writes F.honest F.content F.failed F.can_fail F.left files.old files.new (TellsDevice result) }
     ensures looks { F.honest → (m : Sent) → TextOf m (a_pack (pack_text pack.now)) → MayOr (Receive m) (awaited_text awaited.old) true (F.content files.old) (Wears F.failed F.can_fail F.left files.old files.new (TellsDevice result)) }
@@ -106,6 +109,7 @@ pub(crate) fn take_report<F: Files>(
     ensures unchanged { OnErr result (awaited_text awaited.new ≡ awaited_text awaited.old) }
     ensures refused { F.honest → IfErr result (IsRefusedMessage (F.content files.old) (awaited_text awaited.old) (a_report (report_text report.now))) }
     ensures kept { F.honest → IfErr result (λ e. IsOfMessage e → F.content files.new ≡ F.content files.old) }
+    ensures objects { F.honest → KeepsObjects (F.content files.old) (F.content files.new) }
     ensures bad { F.honest → MakesNoneBad (F.content files.old) (F.content files.new) }
     ensures wear { Writes F.honest F.content F.failed F.can_fail F.left files.old files.new (TellsDevice result) }
     ensures looks { F.honest → (m : Sent) → TextOf m (a_report (report_text report.now)) → MayOr (Receive m) (awaited_text awaited.old) true (F.content files.old) (Wears F.failed F.can_fail F.left files.old files.new (TellsDevice result)) }
@@ -128,6 +132,7 @@ pub(crate) fn take<F: Files>(
     ensures unchanged { OnErr result (awaited_text awaited.new ≡ awaited_text awaited.old) }
     ensures refused { F.honest → IfErr result (IsRefusedMessage (F.content files.old) (awaited_text awaited.old) (message_text message)) }
     ensures kept { F.honest → IfErr result (λ e. IsOfMessage e → F.content files.new ≡ F.content files.old) }
+    ensures objects { F.honest → KeepsObjects (F.content files.old) (F.content files.new) }
     ensures bad { F.honest → MakesNoneBad (F.content files.old) (F.content files.new) }
     ensures wear { Writes F.honest F.content F.failed F.can_fail F.left files.old files.new (TellsDevice result) }
     ensures looks { F.honest → (m : Sent) → TextOf m (message_text message) → MayOr (Receive m) (awaited_text awaited.old) true (F.content files.old) (Wears F.failed F.can_fail F.left files.old files.new (TellsDevice result)) }
@@ -155,6 +160,7 @@ pub(crate) fn receive<F: Files>(
     ensures unchanged { OnErr result (awaited_text awaited.new ≡ awaited_text awaited.old) }
     ensures refused { F.honest → IfErr result (IsRefusedBytes (F.content files.old) (awaited_text awaited.old) bytes.now) }
     ensures kept { F.honest → IfErr result (λ e. IsOfMessage e → F.content files.new ≡ F.content files.old) }
+    ensures objects { F.honest → KeepsObjects (F.content files.old) (F.content files.new) }
     ensures bad { F.honest → MakesNoneBad (F.content files.old) (F.content files.new) }
     ensures wear { Writes F.honest F.content F.failed F.can_fail F.left files.old files.new (TellsDevice result) }
     ensures looks { F.honest → (m : Sent) → Reads bytes.now m → MayOr (Receive m) (awaited_text awaited.old) true (F.content files.old) (Wears F.failed F.can_fail F.left files.old files.new (TellsDevice result)) }

@@ -2,6 +2,7 @@
 // names it.
 ghost use Rattle.std.specs.Prelude.{◌≡◌, ◌≢◌, ◌⊎◌, IfOk, IfErr, OnOk, OnErr, IsErrOf, IsErrAnd, IsOk, codes, true, false};
 ghost use Rattle.std.specs.FinMap as paths;
+ghost use Rattle.vc_answer.specs.Reached.{KeepsObjects};
 ghost use Rattle.vc_files.specs.Failures.{Wears, Writes};
 ghost use Rattle.vc_index.specs.IndexMap.{IndexMap, HasConflict, index_entry};
 ghost use Rattle.vc_index.specs.IndexText.{index_text};
@@ -63,6 +64,7 @@ pub(crate) fn unstage<F: Files>(alloc: Global, files: &mut F, path: &[u8]) -> Re
     ensures removed { F.honest → (m : IndexMap) → SpellsIndex (F.content files.old) m → OnOk result (shown (F.content files.new) ≡ with_index_shown (shown (F.content files.old)) (index_text (paths.remove m path.now))) }
     ensures refused { F.honest → IfErr result (BlamesIndex (F.content files.old)) }
     ensures err { F.honest → OnErr result (F.content files.new ≡ F.content files.old) }
+    ensures objects { F.honest → OnOk result (KeepsObjects (F.content files.old) (F.content files.new)) }
     ensures clean { F.honest → OnOk result (KeepsClean (F.content files.old) (F.content files.new)) }
     ensures file { IfErr result (TellsRead NoneRead NoneRead) }
     ensures wear { Writes F.honest F.content F.failed F.can_fail F.left files.old files.new (TellsDevice result) }
@@ -87,6 +89,7 @@ pub(crate) fn add<F: Files>(
     ensures refused { F.honest → (m : IndexMap) → SpellsIndex (F.content files.old) m → IfErr result (BlamesAdd (F.content files.old) m path.now bytes.now) }
     ensures damaged { F.honest → IfErr result (TellsDamage (F.content files.old)) }
     ensures left { F.honest → (m : IndexMap) → SpellsIndex (F.content files.old) m → IfErr result (λ e. (F.content files.new ≡ F.content files.old) ⊎ ((is_fault e ≡ true) × MayStage m path.now bytes.now × (shown (F.content files.new) ≡ with_objects_shown (shown (F.content files.old)) (with_object (objects (F.content files.old)) (object_name Blob bytes.now) (stored_object Blob bytes.now))))) }
+    ensures objects { F.honest → KeepsObjects (F.content files.old) (F.content files.new) }
     ensures clean { F.honest → KeepsClean (F.content files.old) (F.content files.new) }
     ensures file { IfErr result (TellsRead (λ id. id ≡ object_name Blob bytes.now) NoneRead) }
     ensures wear { Writes F.honest F.content F.failed F.can_fail F.left files.old files.new (TellsDevice result) }

@@ -44,6 +44,7 @@ use crate::index_file::read_index;
 use crate::{CloneFault, NodeFault, Received, commit, exchanging, local};
 use std::alloc::Global;
 use std::marker::Model;
+use vc_answer::Reached;
 use vc_exchange::{PushItem, list_message, push_message};
 use vc_files::{Fault, Files, FusedFiles};
 use vc_message::Message;
@@ -55,22 +56,28 @@ use vc_rev::Expr;
 use vc_store::StoreFault;
 
 /// A clone over files: objects, refs, HEAD and an index. Once a call has ended in a fault, each later one but
-/// [`close`](CloneNode::close) is refused (112), until the files are opened again.
+/// [`close`](CloneNode::close) is refused (112), until the files are opened again. After a push it keeps in memory the names of what
+/// its tracking refs reach, some 20 to 50 bytes for each, so that the next push reads what is new alone.
 #[derive(Drop)]
-pub struct CloneNode<F> {
+pub struct CloneNode<F: Files> {
     files: F,
     alloc: Global,
     awaited: Awaited,
     is_up: bool,
+    // What the tracking refs reached at the last push. No call takes an object away, so it stands for them until the next one.
+    reached: Reached,
 }
 
-impl<F> Model for CloneNode<F> {
+impl<F: Files> Model for CloneNode<F> {
+    ghost use Rattle.vc_answer.specs.Reached.{StandsIn};
     ghost use Rattle.vc_node.specs.Awaited.{awaited_text};
     ghost use Rattle.vc_node.specs.Held.{Held};
 
     ghost Value = { Held F };
 
     ghost view = { λ s. record { files = s.files; awaited = awaited_text s.awaited; is_up = s.is_up } };
+
+    ghost invariant = { λ s. F.honest → StandsIn (F.content s.files) s.reached };
 }
 
 impl<F: Files> CloneNode<F> {
@@ -94,6 +101,7 @@ impl<F: Files> CloneNode<F> {
                 alloc,
                 awaited: Awaited::Nothing,
                 is_up: true,
+                reached: Reached::new(alloc),
             }),
             Err(fault) => Err((files, fault)),
         }
@@ -108,6 +116,7 @@ impl<F: Files> CloneNode<F> {
             alloc: _,
             awaited: _,
             is_up: _,
+            reached: _,
         } = self;
         files
     }
@@ -133,6 +142,7 @@ impl<F: Files> CloneNode<F> {
         let made = make_ready(self.alloc, &mut self.files);
         self.awaited = Awaited::Nothing;
         self.is_up = made.is_ok();
+        self.reached = Reached::new(self.alloc);
         made
     }
 
@@ -424,7 +434,7 @@ impl<F: Files> CloneNode<F> {
         if !self.is_up {
             return Err(CloneFault::Node(NodeFault::Down));
         }
-        match push_message(self.alloc, &mut self.files, items) {
+        match push_message(self.alloc, &mut self.files, &mut self.reached, items) {
             Ok(bytes) => Ok(bytes),
             Err(fault) => {
                 let fault = CloneFault::from(fault);

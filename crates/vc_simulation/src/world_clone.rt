@@ -35,7 +35,7 @@ const MOST_ITEMS: usize = 256;
 
 /// A clone of a world.
 #[derive(Drop)]
-pub struct WorldClone<F> {
+pub struct WorldClone<F: Files> {
     pub(crate) node: CloneNode<F>,
 }
 

@@ -1,5 +1,6 @@
-use Rattle.std.proofs.Common.{◌≡◌, ◌++◌, ◌-◌, ◌^◌}
+use Rattle.std.proofs.Common.{◌≡◌, ◌-◌, ◌^◌}
 use Rattle.vc_answer.proofs.SentLemmas.{Keeps}
+use Rattle.vc_answer.specs.Reached.{links_beyond}
 use Rattle.vc_files.specs.Failures.{Wears}
 use Rattle.vc_graph.proofs.WalkLemmas.{Walks}
 use Rattle.vc_object.specs.ObjectMap.{links_in}
@@ -11,8 +12,8 @@ abbrev pub invariant-loop-next : goal.invariant-loop-next
 invariant-loop-next g l = record {
   same : g.F.Files.content l.files ≡ g.F.Files.content l.fn.files;
   wear : Wears g.F.Files.failed g.F.Files.can_fail g.F.Files.left l.fn.files l.files ⊥;
-  walks : g.F.Files.honest → Walks (links_in (objects (g.F.Files.content l.fn.files))) (l.fn.known.keys ++ l.wants) l.met.keys l.next;
-  keeps : g.F.Files.honest → Keeps (g.F.Files.content l.fn.files) l.fn.known.keys l.met.keys l.next (objects_of l.sent.by_name.entries);
+  walks : g.F.Files.honest → Walks (links_beyond (links_in (objects (g.F.Files.content l.fn.files))) l.fn.reached.names.keys) l.wants l.met.keys l.next;
+  keeps : g.F.Files.honest → Keeps (g.F.Files.content l.fn.files) l.fn.reached.names.keys l.met.keys l.next (objects_of l.sent.by_name.entries);
 }
 
 abbrev pub decreases-loop-next : goal.decreases-loop-next

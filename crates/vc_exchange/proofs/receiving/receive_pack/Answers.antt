@@ -1,5 +1,6 @@
 use Rattle.std.proofs.Common.{rules, ◌≡◌, Result, Ok, Err, OnErr, sym, ap, ◌∙◌, subst}
 use Rattle.std.specs.Prelude.{IfErr}
+use Rattle.vc_answer.proofs.KeepsLemmas.{keeps_same, keeps_then}
 use Rattle.vc_answer.specs.AnswerFault.{IsRefusedPack}
 use Rattle.vc_answer.specs.declared.fault.AnswerFault.{AnswerFault}
 use Rattle.vc_answer.specs.declared.fault.AnswerFault.TheVariants as answer
@@ -29,6 +30,7 @@ use Rattle.vc_files.specs.declared.faults.Fault.TheVariants.{Device}
 use Rattle.vc_exchange.proofs.MovingLoops.{whole_refs}
 use Rattle.vc_exchange.proofs.PackDeeds.{judge_blames, pack_moving, pack_storing, pack_stored, pack_taken, store_other}
 use Rattle.vc_exchange.proofs.PackLemmas.{brought_closed, brought_same, histories_met, stored_content, stored_met, stored_outside, stored_since, some_since, whole_after}
+use Rattle.vc_exchange.proofs.KeptLemmas.{keeps_beside_refs, keeps_some, keeps_stored}
 use Rattle.vc_exchange.proofs.receiving.receive_pack.Goals as goal
 
 on_err : {A E : Type 0} (r : Result A E) (X : Type 0) → X → OnErr r X
@@ -196,3 +198,38 @@ returns-clause-wear g c =
     (wears_then c.in_ok-objects.ensures.wear (λ _. c.in_ok-objects.ensures.same) (search rules)
     (writes_both c.in_ok-store_all.ensures.wear (search rules)
     (wears_then c.in_ok-open.ensures.wear (λ _. c.in_ok-open.ensures.same) (search rules) (writes_told c.in_ok-moved.ensures.wear (search rules) (search rules)))))
+
+pub returns-in_err-known-clause-objects : goal.returns-in_err-known-clause-objects
+returns-in_err-known-clause-objects g c = λ honest. keeps_same _ _ c.in_err-known.ensures.same
+
+pub returns-in_err-objects-clause-objects : goal.returns-in_err-objects-clause-objects
+returns-in_err-objects-clause-objects g c = λ honest. keeps_same _ _ (c.in_err-objects.ensures.same ∙ c.in_ok-known.ensures.same)
+
+pub returns-in_err-store_all-clause-objects : goal.returns-in_err-store_all-clause-objects
+returns-in_err-store_all-clause-objects g c = λ honest.
+    let content = g.F.Files.content in
+    let first = content c.judge_pack.new.files in
+    let mid = content c.store_all.new.files in
+    let brought = carried c.args.pack.now.objects in
+    let some : AreSomeStored first mid brought = search (rules, c.in_err-store_all.ensures.left honest) in
+    keeps_then _ _ _ (keeps_same _ _ (c.in_ok-objects.ensures.same ∙ c.in_ok-known.ensures.same)) (keeps_some first mid brought some)
+
+pub returns-in_err-open-clause-objects : goal.returns-in_err-open-clause-objects
+returns-in_err-open-clause-objects g c = λ honest.
+    let content = g.F.Files.content in
+    let stored = keeps_stored (content c.judge_pack.new.files) (content c.store_all.new.files) (carried c.args.pack.now.objects) (c.in_ok-store_all.ensures.stored honest) in
+    keeps_then _ _ _ (keeps_same _ _ (c.in_ok-objects.ensures.same ∙ c.in_ok-known.ensures.same)) (keeps_then _ _ _ stored (keeps_same _ _ c.in_err-open.ensures.same))
+
+pub returns-in_err-moved-clause-objects : goal.returns-in_err-moved-clause-objects
+returns-in_err-moved-clause-objects g c = λ honest.
+    let content = g.F.Files.content in
+    let stored = keeps_stored (content c.judge_pack.new.files) (content c.store_all.new.files) (carried c.args.pack.now.objects) (c.in_ok-store_all.ensures.stored honest) in
+    keeps_then _ _ _ (keeps_same _ _ (c.in_ok-objects.ensures.same ∙ c.in_ok-known.ensures.same))
+    (keeps_then _ _ _ stored (keeps_then _ _ _ (keeps_same _ _ c.in_ok-open.ensures.same) (keeps_beside_refs _ _ (c.in_err-moved.ensures.outside honest))))
+
+pub returns-clause-objects : goal.returns-clause-objects
+returns-clause-objects g c = λ honest.
+    let content = g.F.Files.content in
+    let stored = keeps_stored (content c.judge_pack.new.files) (content c.store_all.new.files) (carried c.args.pack.now.objects) (c.in_ok-store_all.ensures.stored honest) in
+    keeps_then _ _ _ (keeps_same _ _ (c.in_ok-objects.ensures.same ∙ c.in_ok-known.ensures.same))
+    (keeps_then _ _ _ stored (keeps_then _ _ _ (keeps_same _ _ c.in_ok-open.ensures.same) (keeps_beside_refs _ _ (c.in_ok-moved.ensures.outside honest))))

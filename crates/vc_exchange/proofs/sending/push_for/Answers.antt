@@ -8,12 +8,12 @@ use Rattle.vc_store.specs.Store.{objects}
 use Rattle.vc_exchange.proofs.sending.push_for.Goals as goal
 
 pub returns-clause-push : goal.returns-clause-push
-returns-clause-push g c honest =
+returns-clause-push g c honest stands =
     let content = g.F.Files.content c.args.files.now in
     let items = c.args.items.now in
     let ids : c.in_ok-ids.ids.items ≡ item_ids items = c.in_ok-ids.ensures in
-    let closed : IsClosedUnder (links_in (objects content)) (item_ids items) = rw (c.deref.ensures.value, ids) at (c.in_ok-objects.ensures.complete honest) in
-    let sent : AreSent content (item_ids items) (carried c.in_ok-objects.objects) = rw (c.deref.ensures.value, ids) at (c.in_ok-objects.ensures.sent honest) in
+    let closed : IsClosedUnder (links_in (objects content)) (item_ids items) = rw (c.deref.ensures.value, ids) at (c.in_ok-objects.ensures.complete honest stands) in
+    let sent : AreSent content (item_ids items) (carried c.in_ok-objects.objects) = rw (c.deref.ensures.value, ids) at (c.in_ok-objects.ensures.sent honest stands) in
     let commands : commands_of c.in_ok-commands.commands.items ≡ map (command_for content) items =
     rw c.in_ok-objects.ensures.same at (c.in_ok-commands.ensures.commands honest) in
     record {

@@ -17,9 +17,9 @@ pub write-requires : goal.write-requires
 write-requires g c = record { short = short_commands c.in_ok-push.push.commands.items c.in_ok-push.ensures.legal }
 
 pub returns-clause-sent : goal.returns-clause-sent
-returns-clause-sent g c honest =
+returns-clause-sent g c honest stands =
     let content = g.F.Files.content c.args.files.now in
     let items = c.args.items.now in
     let few : length items ≤ 256 = omega (arith, c.if-items-gt-MAX_COMMANDS.false) in
-    sends_made content items c.in_ok-push.push.commands.items (push_text c.in_ok-push.push) c.in_ok-bytes.bytes.items c.requires.some few (c.in_ok-push.ensures.push honest) refl
+    sends_made content items c.in_ok-push.push.commands.items (push_text c.in_ok-push.push) c.in_ok-bytes.bytes.items c.requires.some few (c.in_ok-push.ensures.push honest stands) refl
     c.in_ok-push.ensures.legal c.in_ok-bytes.ensures

@@ -1,4 +1,5 @@
 use Rattle.std.proofs.Common.{inr, refl}
+use Rattle.vc_answer.proofs.KeepsLemmas.{keeps_same}
 use Rattle.vc_files.proofs.WearLemmas.{writes_none}
 use Rattle.vc_message.specs.AnyView.{message_text}
 use Rattle.vc_node.proofs.LookLemmas.{looks_none}
@@ -42,3 +43,6 @@ returns-clause-refused g c = λ honest.
 pub returns-clause-looks : goal.returns-clause-looks
 returns-clause-looks g c = λ honest m reads.
     c.take.ensures.looks honest m (text_here (g.F.Files.content c.args.files.now) (awaited_text c.args.awaited.now) c.args.bytes.now m (message_text c.in_ok-message.message) reads c.in_ok-message.ensures.read)
+
+pub returns-in_err-message-clause-objects : goal.returns-in_err-message-clause-objects
+returns-in_err-message-clause-objects g c = λ honest. keeps_same _ _ refl

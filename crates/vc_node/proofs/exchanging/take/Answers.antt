@@ -1,4 +1,5 @@
-use Rattle.std.proofs.Common.{subst}
+use Rattle.std.proofs.Common.{refl, subst}
+use Rattle.vc_answer.proofs.KeepsLemmas.{keeps_same}
 use Rattle.vc_message.specs.AnyView.{message_text}
 use Rattle.vc_message.specs.Machine.{TextOf}
 use Rattle.vc_message.specs.declared.message.Message.{Message}
@@ -26,3 +27,15 @@ returns-in-Push-clause-answers g c = λ honest m is. other_told (g.F.Files.conte
 
 pub returns-clause-answers : goal.returns-clause-answers
 returns-clause-answers g c = λ honest m is. other_told (g.F.Files.content c.args.files.now) (awaited_text c.args.awaited.now) m _ _ c.in-Error.is tt is
+
+pub returns-in-List-clause-objects : goal.returns-in-List-clause-objects
+returns-in-List-clause-objects g c = λ honest. keeps_same _ _ refl
+
+pub returns-in-Want-clause-objects : goal.returns-in-Want-clause-objects
+returns-in-Want-clause-objects g c = λ honest. keeps_same _ _ refl
+
+pub returns-in-Push-clause-objects : goal.returns-in-Push-clause-objects
+returns-in-Push-clause-objects g c = λ honest. keeps_same _ _ refl
+
+pub returns-clause-objects : goal.returns-clause-objects
+returns-clause-objects g c = λ honest. keeps_same _ _ refl

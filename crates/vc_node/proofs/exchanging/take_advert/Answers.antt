@@ -1,4 +1,6 @@
 use Rattle.std.proofs.Common.{Ok, ap, inr, refl, subst}
+use Rattle.vc_answer.proofs.KeepsLemmas.{keeps_same}
+use Rattle.vc_exchange.proofs.KeptLemmas.{keeps_beside_refs}
 use Rattle.vc_exchange.specs.Moving.{told_in}
 use Rattle.vc_exchange.specs.Receiving.{IsAdvertTaken}
 use Rattle.vc_exchange.specs.declared.receiving.Advertised.{Advertised}
@@ -19,6 +21,7 @@ returns-in_default g c = record {
   unchanged = refl;
   refused = λ honest. advert_refused (g.F.Files.content c.args.files.now) c.args.awaited.now (advert_text c.args.advert) c.in_default.not-Advert;
   kept = λ honest told. refl;
+  objects = λ honest. keeps_same _ _ refl;
   bad = λ honest. bad_same (g.F.Files.content c.args.files.now);
   wear = writes_none (λ never. never);
   looks = λ honest m is awaited n waiting held. inr (looks_none (λ never. never));
@@ -57,3 +60,12 @@ returns-in-Followed-clause-answers g c = λ honest m is.
 pub returns-in-Followed-clause-looks : goal.returns-in-Followed-clause-looks
 returns-in-Followed-clause-looks g c = λ honest m is.
     advert_may (g.F.Files.content c.args.files.now) m (awaited_text c.args.awaited.now) (ap awaited_text c.in-Advert.is) (λ r holds. or_told (c.in_ok-asked.ensures.looks honest r holds m is) (λ may. may) (λ never. absurd never))
+
+pub returns-in-Followed-clause-objects : goal.returns-in-Followed-clause-objects
+returns-in-Followed-clause-objects g c = λ honest. keeps_beside_refs _ _ (c.receive_advert.ensures.outside honest)
+
+pub returns-in-Wanted-clause-objects : goal.returns-in-Wanted-clause-objects
+returns-in-Wanted-clause-objects g c = λ honest. keeps_beside_refs _ _ (c.receive_advert.ensures.outside honest)
+
+pub returns-in_err-asked-clause-objects : goal.returns-in_err-asked-clause-objects
+returns-in_err-asked-clause-objects g c = λ honest. keeps_beside_refs _ _ (c.receive_advert.ensures.outside honest)

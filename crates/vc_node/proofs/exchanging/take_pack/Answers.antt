@@ -1,4 +1,5 @@
 use Rattle.std.proofs.Common.{Ok, ap, inr, refl, sym, ◌∙◌}
+use Rattle.vc_answer.proofs.KeepsLemmas.{keeps_same}
 use Rattle.vc_exchange.specs.Moving.{told_in}
 use Rattle.vc_fetch.specs.PackView.{pack_text}
 use Rattle.vc_files.proofs.WearLemmas.{writes_none}
@@ -16,6 +17,7 @@ returns-in_default g c = record {
   unchanged = refl;
   refused = λ honest. pack_refused (g.F.Files.content c.args.files.now) c.args.awaited.now (pack_text c.args.pack.now) c.in_default.not-Pack;
   kept = λ honest told. refl;
+  objects = λ honest. keeps_same _ _ refl;
   bad = λ honest. bad_same (g.F.Files.content c.args.files.now);
   wear = writes_none (λ never. never);
   looks = λ honest m is awaited n waiting held. inr (looks_none (λ never. never));

@@ -1,3 +1,4 @@
+use Rattle.vc_exchange.proofs.KeptLemmas.{keeps_beside_refs}
 use Rattle.vc_node.proofs.ExchangingLemmas.{report_failed, report_may, report_taken}
 use Rattle.vc_node.proofs.LookLemmas.{or_told}
 use Rattle.vc_node.proofs.ReceivingFaults.{device_from, files_no_message, kept_as}
@@ -31,3 +32,9 @@ pub returns-clause-looks : goal.returns-clause-looks
 returns-clause-looks g c = λ honest m is.
     report_may (g.F.Files.content c.args.files.now) (awaited_text c.args.awaited.now) m (report_text c.args.report.now) is (λ r holds awaits.
     or_told (c.in_ok-told.ensures.looks honest r holds m is awaits) (λ may. may) (λ never. absurd never))
+
+pub returns-in_err-told-clause-objects : goal.returns-in_err-told-clause-objects
+returns-in_err-told-clause-objects g c = λ honest. keeps_beside_refs _ _ (c.receive_report.ensures.outside honest)
+
+pub returns-clause-objects : goal.returns-clause-objects
+returns-clause-objects g c = λ honest. keeps_beside_refs _ _ (c.receive_report.ensures.outside honest)

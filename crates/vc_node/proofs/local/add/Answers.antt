@@ -1,6 +1,6 @@
 use Rattle.vc_node.proofs.LookLemmas.{looks_told, or_told, looks_or}
 use Rattle.vc_files.proofs.WearLemmas.{wears_then, wears_writes, writes_both, writes_told}
-use Rattle.std.proofs.Common.{◌≡◌, ap, ◌∙◌, rules, sym, subst, true, inr, inl}
+use Rattle.std.proofs.Common.{◌≡◌, ap, ◌∙◌, refl, rules, sym, subst, true, inr, inl}
 use Rattle.std.specs.FinMap as paths
 use Rattle.vc_index.specs.IndexMap.{IndexMap, HasConflict, index_entry}
 use Rattle.vc_index.specs.IndexText.{index_text}
@@ -15,6 +15,8 @@ use Rattle.vc_node.specs.Blames.{BlamesAdd, MayStage}
 use Rattle.vc_node.proofs.ShownLemmas.{shown_index, shown_objects_from}
 use Rattle.vc_node.proofs.IndexLemmas.{index_add_blamed}
 use Rattle.vc_node.proofs.CleanLemmas.{clean_from, clean_on, clean_then, clean_put, clean_index}
+use Rattle.vc_answer.proofs.KeepsLemmas.{keeps_put, keeps_same, keeps_then}
+use Rattle.vc_node.proofs.KeepingLemmas.{keeps_index}
 use Rattle.vc_node.proofs.local.add.Goals as goal
 
 pub returns-clause-added : goal.returns-clause-added
@@ -113,3 +115,22 @@ returns-clause-looks g c = λ honest m spells.
       id = subst (λ (n : ObjectId). is_id n ≡ true) c.name_of-name.ensures.name c.name_of-name.ensures.valid;
     } in
     inl may
+
+pub returns-in_err-index-clause-objects : goal.returns-in_err-index-clause-objects
+returns-in_err-index-clause-objects g c = λ honest. keeps_same _ _ c.in_err-index.ensures.same
+
+pub returns-in_err-add-clause-objects : goal.returns-in_err-add-clause-objects
+returns-in_err-add-clause-objects g c = λ honest. keeps_same _ _ c.in_ok-index.ensures.same
+
+pub returns-in_err-put-clause-objects : goal.returns-in_err-put-clause-objects
+returns-in_err-put-clause-objects g c = λ honest. keeps_then _ _ _ (keeps_same _ _ c.in_ok-index.ensures.same) (keeps_same _ _ (search (rules, c.in_err-put.ensures.err honest)))
+
+pub returns-in_err-write_index-clause-objects : goal.returns-in_err-write_index-clause-objects
+returns-in_err-write_index-clause-objects g c = λ honest.
+    keeps_then _ _ _ (keeps_same _ _ c.in_ok-index.ensures.same)
+    (keeps_then _ _ _ (keeps_put _ _ c.in_ok-put.field-0 _ (c.in_ok-put.ensures.objects honest)) (keeps_same _ _ (c.in_err-write_index.ensures.err honest)))
+
+pub returns-clause-objects : goal.returns-clause-objects
+returns-clause-objects g c = λ honest.
+    keeps_then _ _ _ (keeps_same _ _ c.in_ok-index.ensures.same)
+    (keeps_then _ _ _ (keeps_put _ _ c.in_ok-put.field-0 _ (c.in_ok-put.ensures.objects honest)) (keeps_index _ _ _ _ refl (c.in_ok-write_index.ensures.written honest)))

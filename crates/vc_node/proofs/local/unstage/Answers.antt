@@ -5,6 +5,7 @@ use Rattle.vc_index.specs.IndexMap.{IndexMap}
 use Rattle.vc_index.specs.IndexText.{index_text}
 use Rattle.vc_node.proofs.ShownLemmas.{shown_index_from}
 use Rattle.vc_node.proofs.CleanLemmas.{clean_from, clean_index}
+use Rattle.vc_node.proofs.KeepingLemmas.{keeps_index}
 use Rattle.vc_node.proofs.local.unstage.Goals as goal
 
 pub returns-clause-removed : goal.returns-clause-removed
@@ -21,3 +22,6 @@ returns-in_err-index-clause-wear g c = writes_told (wears_writes c.in_err-index.
 
 pub returns-clause-wear : goal.returns-clause-wear
 returns-clause-wear g c = wears_then c.in_ok-index.ensures.wear (search rules) (search rules) (writes_told c.in_ok-write_index.ensures.wear (search rules) (search rules))
+
+pub returns-clause-objects : goal.returns-clause-objects
+returns-clause-objects g c = λ honest. keeps_index _ _ _ _ c.in_ok-index.ensures.same (c.in_ok-write_index.ensures.written honest)

@@ -9,6 +9,7 @@ use Rattle.vc_node.specs.IndexFile.{SpellsIndex}
 use Rattle.vc_node.proofs.AnswerLemmas.{answers_down, answers_from, failed, held, held_failed}
 use Rattle.vc_node.proofs.IndexLemmas.{LeftByAdd, add_done, add_failed, spells_index}
 use Rattle.vc_node.proofs.CleanLemmas.{clean_same}
+use Rattle.vc_answer.proofs.KeepsLemmas.{StandsIn-kept}
 use Rattle.vc_node.proofs.node.CloneNode.add.Goals as goal
 
 pub returns-then-not-self-clause-bad_file : goal.returns-then-not-self-clause-bad_file
@@ -45,3 +46,9 @@ returns-in-Ok-clause-looks g c = λ honest. rw (← c.self.view_is) (may_or (Sta
 
 pub returns-in-Err-clause-looks : goal.returns-in-Err-clause-looks
 returns-in-Err-clause-looks g c = λ honest. rw (← c.self.view_is) (may_or (Stage c.args.path.now (mode_number c.args.mode) c.args.bytes.now) _ _ (search rules) (λ awaited r p. or_failed (c.in-Err.ensures.looks honest p.map (spells_index _ r p)) (λ may. add_may _ awaited r p c.args.path.now c.args.bytes.now c.args.mode may) c.fail.ensures.files c.fail.ensures.fault))
+
+pub invariant_of-self : goal.invariant_of-self
+invariant_of-self g c = λ honest. StandsIn-kept _ _ c.self.inside.reached (c.in-Ok.ensures.objects honest) (c.self.invariant honest)
+
+pub invariant_of-self-in-Err : goal.invariant_of-self-in-Err
+invariant_of-self-in-Err g c = λ honest. StandsIn-kept _ _ c.self.inside.reached (c.in-Err.ensures.objects honest) (c.self.invariant honest)

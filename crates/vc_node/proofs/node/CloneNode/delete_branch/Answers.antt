@@ -5,6 +5,8 @@ use Rattle.std.proofs.Common.{refl, rules, ap, ◌∙◌, inr, inl}
 use Rattle.vc_node.proofs.AnswerLemmas.{answers_down, answers_from, failed, held, held_failed, or_unchanged}
 use Rattle.vc_node.proofs.BranchLemmas.{delete_done, delete_failed}
 use Rattle.vc_node.proofs.CleanLemmas.{clean_same}
+use Rattle.vc_answer.proofs.KeepsLemmas.{StandsIn-kept, keeps_same}
+use Rattle.vc_node.proofs.KeepingLemmas.{keeps_shown}
 use Rattle.vc_node.proofs.node.CloneNode.delete_branch.Goals as goal
 
 pub returns-then-not-self-clause-bad_file : goal.returns-then-not-self-clause-bad_file
@@ -36,3 +38,9 @@ returns-in-Ok-clause-looks g c = λ honest. rw (← c.self.view_is) (may_or (Del
 
 pub returns-in-Err-clause-looks : goal.returns-in-Err-clause-looks
 returns-in-Err-clause-looks g c = λ honest. rw (← c.self.view_is) (may_or (DeleteBranch c.args.branch.now) _ _ (search rules) (λ awaited r p. inl (delete_may c.args.branch.now (search rules) awaited r)))
+
+pub invariant_of-self : goal.invariant_of-self
+invariant_of-self g c = λ honest. StandsIn-kept _ _ c.self.inside.reached (keeps_shown _ _ _ (c.in-Ok.ensures.removed honest) refl) (c.self.invariant honest)
+
+pub invariant_of-self-in-Err : goal.invariant_of-self-in-Err
+invariant_of-self-in-Err g c = λ honest. StandsIn-kept _ _ c.self.inside.reached (keeps_same _ _ (c.in-Err.ensures.err honest)) (c.self.invariant honest)

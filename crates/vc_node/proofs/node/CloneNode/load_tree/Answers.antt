@@ -5,6 +5,8 @@ use Rattle.std.proofs.Common.{refl, rules, ap, ◌∙◌, inr}
 use Rattle.vc_node.proofs.AnswerLemmas.{answers_down, answers_from, failed, held, held_failed, or_unchanged}
 use Rattle.vc_node.proofs.TreeLemmas.{load_done, load_failed}
 use Rattle.vc_node.proofs.CleanLemmas.{clean_same}
+use Rattle.vc_answer.proofs.KeepsLemmas.{StandsIn-kept, keeps_same}
+use Rattle.vc_node.proofs.KeepingLemmas.{keeps_shown}
 use Rattle.vc_node.proofs.node.CloneNode.load_tree.Goals as goal
 
 pub returns-in-Ok-clause-loaded : goal.returns-in-Ok-clause-loaded
@@ -42,3 +44,9 @@ returns-in-Ok-clause-looks g c = λ honest. rw (← c.self.view_is) (may_or (Loa
 
 pub returns-in-Err-clause-looks : goal.returns-in-Err-clause-looks
 returns-in-Err-clause-looks g c = λ honest. rw (← c.self.view_is) (may_or (LoadTree c.args.id.now.0) _ _ (search rules) (λ awaited r p. or_failed (c.in-Err.ensures.looks honest) (λ may. load_may _ awaited r p c.args.id.now may) c.fail.ensures.files c.fail.ensures.fault))
+
+pub invariant_of-self : goal.invariant_of-self
+invariant_of-self g c = λ honest. StandsIn-kept _ _ c.self.inside.reached (keeps_shown _ _ _ (c.in-Ok.ensures.loaded honest).is refl) (c.self.invariant honest)
+
+pub invariant_of-self-in-Err : goal.invariant_of-self-in-Err
+invariant_of-self-in-Err g c = λ honest. StandsIn-kept _ _ c.self.inside.reached (keeps_same _ _ (c.in-Err.ensures.err honest)) (c.self.invariant honest)

@@ -7,6 +7,7 @@ use Rattle.vc_node.proofs.LookLemmas.{looks_none}
 use Rattle.vc_node.proofs.SettledLemmas.{settled_answers, settled_awaits, settled_clean, settled_err, settled_looks, settled_refusal, settled_wear}
 use Rattle.vc_node.specs.Awaited.{awaited_text}
 use Rattle.vc_node.specs.Receipts.{IsRefusedBytes}
+use Rattle.vc_answer.proofs.KeepsLemmas.{StandsIn-kept}
 use Rattle.vc_node.proofs.node.CloneNode.receive.Goals as goal
 
 pub returns-then-not-self-clause-answers : goal.returns-then-not-self-clause-answers
@@ -62,3 +63,6 @@ pub returns-clause-looks : goal.returns-clause-looks
 returns-clause-looks g c = λ honest.
     rw (← c.self.view_is) (λ m reads. settled_looks g.F.Files.content c.self.inside.files c.receive-received.new.files c.settle.new.self.files (awaited_text c.self.inside.awaited) (awaited_text c.receive-received.new.awaited) c.settle.new.self.awaited c.self.inside.is_up c.settle.new.self.is_up c.receive-received.result c.settle.result
     c.settle.ensures.received c.settle.ensures.files c.settle.ensures.awaits (Receive m) c.if-not-self.false (c.receive-received.ensures.looks honest m reads))
+
+pub invariant_of-self : goal.invariant_of-self
+invariant_of-self g c = λ honest. StandsIn-kept _ _ c.self.inside.reached (c.receive-received.ensures.objects honest) (c.self.invariant honest)

@@ -8,6 +8,7 @@ use Rattle.vc_node.proofs.SettledLemmas.{settled_answers, settled_awaits, settle
 use Rattle.vc_node.specs.Awaited.{awaited_text}
 use Rattle.vc_node.specs.Receipts.{IsRefusedMessage}
 use Rattle.vc_push.specs.ReportView.{report_text}
+use Rattle.vc_answer.proofs.KeepsLemmas.{StandsIn-kept}
 use Rattle.vc_node.proofs.node.CloneNode.receive_report.Goals as goal
 
 pub returns-then-not-self-clause-answers : goal.returns-then-not-self-clause-answers
@@ -55,3 +56,6 @@ pub returns-clause-looks : goal.returns-clause-looks
 returns-clause-looks g c = λ honest.
     rw (← c.self.view_is) (λ m reads. settled_looks g.F.Files.content c.self.inside.files c.take_report-received.new.files c.settle.new.self.files (awaited_text c.self.inside.awaited) (awaited_text c.take_report-received.new.awaited) c.settle.new.self.awaited c.self.inside.is_up c.settle.new.self.is_up c.take_report-received.result c.settle.result
     c.settle.ensures.received c.settle.ensures.files c.settle.ensures.awaits (Receive m) c.if-not-self.false (c.take_report-received.ensures.looks honest m reads))
+
+pub invariant_of-self : goal.invariant_of-self
+invariant_of-self g c = λ honest. StandsIn-kept _ _ c.self.inside.reached (c.take_report-received.ensures.objects honest) (c.self.invariant honest)

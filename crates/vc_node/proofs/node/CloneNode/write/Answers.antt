@@ -3,10 +3,11 @@ use Rattle.vc_model.specs.Clone.Task.{Write}
 use Rattle.vc_node.proofs.MayLemmas.{may_or, write_may}
 use Rattle.vc_node.proofs.LookLemmas.{looks_none, or_told, or_failed}
 use Rattle.std.proofs.Common.{refl, rules, ap, ◌∙◌, inr}
-use Rattle.vc_node.specs.Shown.{shown}
+use Rattle.vc_node.specs.Shown.{Shown, shown}
 use Rattle.vc_node.proofs.AnswerLemmas.{answers_down, answers_from, failed, held, held_failed, or_unchanged}
 use Rattle.vc_node.proofs.WriteLemmas.{write_done, write_failed}
 use Rattle.vc_node.proofs.CleanLemmas.{clean_same}
+use Rattle.vc_answer.proofs.KeepsLemmas.{StandsIn-kept, keeps_put, keeps_same}
 use Rattle.vc_node.proofs.node.CloneNode.write.Goals as goal
 
 pub returns-then-not-self-clause-bad_file : goal.returns-then-not-self-clause-bad_file
@@ -38,3 +39,9 @@ returns-in-Ok-clause-looks g c = λ honest. rw (← c.self.view_is) (may_or (Wri
 
 pub returns-in-Err-clause-looks : goal.returns-in-Err-clause-looks
 returns-in-Err-clause-looks g c = λ honest. rw (← c.self.view_is) (may_or (Write (machine_object c.args.kind c.args.body.now)) _ _ (search rules) (λ awaited r p. or_failed (c.in-Err.ensures.looks) (λ may. write_may c.args.kind c.args.body.now may awaited r) c.fail.ensures.files c.fail.ensures.fault))
+
+pub invariant_of-self : goal.invariant_of-self
+invariant_of-self g c = λ honest. StandsIn-kept _ _ c.self.inside.reached (keeps_put _ _ c.in-Ok.id _ (ap (λ (x : Shown). x.objects) (c.in-Ok.ensures.stored honest))) (c.self.invariant honest)
+
+pub invariant_of-self-in-Err : goal.invariant_of-self-in-Err
+invariant_of-self-in-Err g c = λ honest. StandsIn-kept _ _ c.self.inside.reached (keeps_same _ _ (c.in-Err.ensures.err honest)) (c.self.invariant honest)

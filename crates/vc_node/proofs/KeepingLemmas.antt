@@ -1,0 +1,67 @@
+-- What a clone's calls leave of its objects: each stays. For what is kept of the tracking refs' reach.
+use Rattle.std.proofs.Common.{◌≡◌, ⊎_elim, List, Some, refl, ap, ◌∙◌, map, ◌++◌, ◌∷◌, [], ℕ}
+use Rattle.std.specs.Prelude.{codes}
+use Rattle.std.specs.FinMap as files
+use Rattle.vc_answer.proofs.KeepsLemmas.{keeps_map, keeps_same, keeps_then, with_object-keeps, with_objects-keeps}
+use Rattle.vc_answer.specs.Reached.{KeepsObjects}
+use Rattle.vc_files.specs.FileMap.{FileMap}
+use Rattle.vc_index.specs.IndexMap.{IndexMap}
+use Rattle.vc_index.specs.WrittenTrees.{IsBegun, IsWritten, tree_object}
+use Rattle.vc_object.specs.Decoding.{StoredObject, stored_object}
+use Rattle.vc_object.specs.ObjectMap.{ObjectMap}
+use Rattle.vc_object.specs.declared.id.ObjectId.{ObjectId}
+use Rattle.vc_object.specs.declared.kind.Kind.TheVariants as kinds
+use Rattle.vc_refs.specs.declared.heads.Head.{Head}
+use Rattle.vc_refs.specs.declared.heads.Head.TheVariants as heads
+use Rattle.vc_store.specs.Store.{objects}
+use Rattle.vc_node.proofs.ShownLemmas.{shown_index}
+use Rattle.vc_node.specs.Commit.{IsCommitted, WritesCommit, made_body, moved}
+use Rattle.vc_node.specs.Making.{IsCut, LeftByCommit, StoresTrees}
+use Rattle.vc_node.specs.Shown.{Shown, shown, with_index_shown}
+
+-- what is shown tells the objects
+pub keeps_shown : (old new : FileMap) (s : Shown) → shown new ≡ s → s.objects ≡ objects old → KeepsObjects old new
+keeps_shown old new s is same = keeps_map old new (ap (λ (x : Shown). x.objects) is ∙ same)
+
+pub keeps_index : (old mid new : FileMap) (text : List ℕ) → mid ≡ old → new ≡ files.insert mid (codes "index") text → KeepsObjects old new
+keeps_index old mid new text same put = keeps_then old mid new (keeps_same old mid same) (keeps_shown mid new (with_index_shown (shown mid) text) (shown_index mid new text put) refl)
+
+-- ---- a commit
+abbrev Keeps : ObjectMap → ObjectMap → Type 0
+Keeps f g = (id : ObjectId) (o : StoredObject) → f id ≡ Some o → g id ≡ Some o
+
+begun : (m : IndexMap) (f g : ObjectMap) → IsBegun (Unit {0}) m f g → Keeps f g
+begun m f g b id o is = ap (λ (x : ObjectMap). x id) (b.stored tt) ∙ with_objects-keeps f (map tree_object b.trees) id o is
+
+written : (m : IndexMap) (f g : ObjectMap) (tree : ObjectId) → IsWritten (Unit {0}) m f g tree → Keeps f g
+written m f g tree w id o is = ap (λ (x : ObjectMap). x id) (w.stored tt) ∙ with_objects-keeps f (map tree_object (w.lower ++ w.root ∷ [])) id o is
+
+module _ (m : IndexMap) (parents : List ObjectId) (author committer message : List ℕ) where
+  trees : (f g : ObjectMap) → StoresTrees (Unit {0}) m f g → Keeps f g
+  trees f g = ⊎_elim (begun m f g) (λ (w : (tree : ObjectId) × IsWritten (Unit {0}) m f g tree). written m f g w.0 w.1)
+
+  committed : (f g : ObjectMap) (name : ObjectId) → WritesCommit (Unit {0}) m parents author committer message f g name → Keeps f g
+  committed f g name w id o is =
+      let body = made_body w.tree parents author committer message in
+      ap (λ (x : ObjectMap). x id) (w.commit tt) ∙ with_object-keeps w.between name (stored_object kinds.Commit body) id o (written m f w.between w.tree (w.trees tt) id o is)
+
+moved_objects : (head : Head) (id : ObjectId) (s : Shown) → (moved head id s).objects ≡ s.objects
+moved_objects (heads.Branch name) id s = refl
+moved_objects (heads.Id was) id s = refl
+
+pub keeps_committed : (old new : FileMap) (extra : List ObjectId) (author committer message : List ℕ) (id : ObjectId) → IsCommitted old extra author committer message id new → KeepsObjects old new
+keeps_committed old new extra author committer message id c = record {
+  at = λ q o is.
+      ap (λ (x : Shown). x.objects q) c.is ∙ ap (λ (x : ObjectMap). x q) (moved_objects c.head id (record (shown old) { objects = c.after }))
+      ∙ committed c.map _ author committer message (objects old) c.after id c.writes q o is;
+}
+
+pub keeps_left : (old new : FileMap) (extra : List ObjectId) (author committer message : List ℕ) → LeftByCommit old extra author committer message new → KeepsObjects old new
+keeps_left old new extra author committer message = ⊎_elim (keeps_same old new) cut
+  where
+    cut : IsCut old extra author committer message new → KeepsObjects old new
+    cut c = record {
+      at = λ q o is.
+          ap (λ (x : Shown). x.objects q) c.is
+          ∙ ⊎_elim (λ some. trees c.map [] author committer message (objects old) c.after some q o is) (λ all. committed c.map _ author committer message (objects old) c.after all.0 all.1 q o is) c.some;
+    }
