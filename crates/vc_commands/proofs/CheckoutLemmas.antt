@@ -18,7 +18,6 @@ use Rattle.vc_checkout.proofs.LeavingLemmas.{or_true}
 use Rattle.vc_checkout.proofs.PathSetLemmas.{is_listed, is_same}
 use Rattle.vc_checkout.specs.CheckoutFault.{IsOfCheckout, IsOfStatus, TellsFirstListed, told_fault}
 use Rattle.vc_checkout.specs.declared.faults.CheckoutFault.{CheckoutFault}
-use Rattle.vc_checkout.specs.declared.faults.CheckoutFault.TheVariants.{Index}
 use Rattle.vc_node.specs.IndexFile.{SpellsIndex}
 use Rattle.vc_node.specs.NodeFault.{of_index}
 use Rattle.vc_refs.specs.declared.heads.Head.{Head}
