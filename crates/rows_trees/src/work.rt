@@ -7,6 +7,8 @@ use anyhow::{Result, bail};
 use std::alloc::Global;
 use std::{fs, io};
 use vc_checkout::{Change, CheckoutFault, IndexChange, MemoryTree, WorkChange, WorkTree};
+use vc_index::Index;
+use vc_object::ObjectId;
 
 pub fn row(bench: &mut Bench, row: &str) -> Result<String> {
     let alloc = bench.alloc;
@@ -105,17 +107,25 @@ fn passed<T>(alloc: Global, done: Result<T, CheckoutFault>) -> Result<T> {
     bail!("{word} {path}")
 }
 
-// Brings the work tree to a tree, and answers which files it then has, also where it was refused or a call failed.
-fn checkout(bench: &mut Bench, tree: &str) -> Result<String> {
+// Brings the work tree to the files that a tree lists, and answers these.
+fn bring(bench: &mut Bench, tree: &ObjectId) -> Result<Index, CheckoutFault> {
     let alloc = bench.alloc;
-    let tree = id_of(&bench.names, tree)?;
-    let done = vc_checkout::checkout(
+    let tree = Index::list_tree(alloc, &mut bench.files, tree)?;
+    vc_checkout::checkout(
         alloc,
         &mut bench.ground,
         &mut bench.files,
         &bench.index,
         &tree,
-    );
+    )?;
+    Ok(tree)
+}
+
+// Brings the work tree to a tree, and answers which files it then has, also where it was refused or a call failed.
+fn checkout(bench: &mut Bench, tree: &str) -> Result<String> {
+    let alloc = bench.alloc;
+    let tree = id_of(&bench.names, tree)?;
+    let done = bring(bench, &tree);
     bench.ground.fail_after(u64::MAX);
     let files = files(alloc, &mut bench.ground)?;
     match passed(alloc, done) {

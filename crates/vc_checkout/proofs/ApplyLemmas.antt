@@ -15,17 +15,7 @@ use Rattle.vc_object.specs.declared.mode.Mode.TheVariants as modes
 use Rattle.vc_index.specs.IndexMap.{IndexMap}
 use Rattle.vc_index.specs.declared.entry.IndexEntry.{IndexEntry}
 use Rattle.vc_index.proofs.MapLemmas.{same_text}
-use Rattle.vc_checkout.specs.Heads.{IsIndexOf}
 use Rattle.vc_checkout.specs.CheckedOut.{IsCheckedOut, IsCleared, IsOldOrCheckedOut, IsWritten, StepAt, StepOrNone, file_of, left_of}
-use Rattle.vc_store.specs.Store.{objects, IsDamaged}
-use Rattle.vc_store.specs.StoreFault.{IsRefused}
-use Rattle.vc_store.specs.declared.faults.StoreFault.{StoreFault}
-use Rattle.vc_store.specs.declared.faults.StoreFault.TheVariants.{BadObject, Absent, Damaged, Fault}
-use Rattle.vc_store.proofs.StoreLemmas.{objects-absent}
-use Rattle.vc_index.specs.Loading.{IsBlobIfDue}
-use Rattle.vc_index.specs.declared.faults.IndexFault.TheVariants.{Store}
-use Rattle.vc_checkout.specs.declared.faults.CheckoutFault.TheVariants.{Index}
-use Rattle.vc_checkout.specs.CheckoutFault.{IsFault}
 use Rattle.vc_checkout.specs.WorkTree.{HasTextPaths}
 use Rattle.vc_checkout.proofs.PathSetLemmas.{is_same, is_listed, entry_paths}
 
@@ -236,18 +226,6 @@ file_blob objects modes.SharedFile id body other is = sym is
 file_blob objects modes.Executable id body other is = sym is
 file_blob objects modes.Link id body other is = sym is
 
-pub has_blob : (objects : ObjectMap) (entry : IndexEntry) → IsBlobIfDue objects entry → entry.mode ≢ modes.Commit → IsSome (objects entry.id)
-has_blob objects entry blob other = let (body, is) = blob other in rw is refl
-
-gone_object : (content : FileMap) (id : ObjectId) → IsDamaged content id → IsSome (objects content id) → ⊥
-gone_object content id damaged some = let none = objects-absent content id (Damaged id) damaged in cc (none, some)
-
-pub find_fault : (content : FileMap) (id : ObjectId) (honest : Type 0) (fault : StoreFault) → IsRefused id (honest → IsDamaged content id) fault → honest → IsSome (objects content id) → IsFault (Index (Store fault))
-find_fault content id honest (BadObject fault) refused h some = absurd refused
-find_fault content id honest (Absent absent) refused h some = absurd refused
-find_fault content id honest (Damaged damaged) refused h some = absurd (gone_object content id (refused.1 h) some)
-find_fault content id honest (Fault fault) refused h some = (fault, refl)
-
 pub written_due : (objects : ObjectMap) (old new : Option IndexEntry) (entry : IndexEntry) (file after : Option (List ℕ)) → new ≡ Some entry → old ≢ new → after ≡ file_of objects entry.mode entry.id → IsWritten objects old new file after
 written_due objects old new entry file after is apart wrote = record {
   due = λ e known _. wrote ∙ ap (λ (x : IndexEntry). file_of objects x.mode x.id) (one_entry new entry e is known);
@@ -291,13 +269,9 @@ pub written_or_old : (objects : ObjectMap) (i t : Option IndexEntry) (a b c : Op
 written_or_old objects i t a b c cleared (inr written) = inr (checked_out objects i t a b c cleared written)
 written_or_old objects i t a b c cleared (inl same) = subst (λ (x : Option (List ℕ)). (x ≡ a) ⊎ IsCheckedOut objects i t a x) (sym same) (cleared_or_old objects i t a b (inr cleared))
 
-module _ (objects : ObjectMap) (root : ObjectId) (index tree : IndexMap) (is : IsIndexOf objects root tree) where
-  told : (old now : FileMap) (q : List ℕ) → (get now q ≡ get old q) ⊎ IsCheckedOut objects (get index q) (get tree q) (get old q) (get now q) → IsOldOrCheckedOut objects root index old now q
-  told old now q (inl same) = inl same
-  told old now q (inr after) = inr (tree, is, after)
+module _ (objects : ObjectMap) (index tree : IndexMap) (old : FileMap) where
+  pub old_or_cleared : (now : FileMap) → ((q : List ℕ) → (get now q ≡ get old q) ⊎ IsCleared (get index q) (get tree q) (get old q) (get now q)) → (q : List ℕ) → IsOldOrCheckedOut objects index tree old now q
+  old_or_cleared now so q = cleared_or_old objects (get index q) (get tree q) (get old q) (get now q) (so q)
 
-  pub old_or_cleared : (old now : FileMap) → ((q : List ℕ) → (get now q ≡ get old q) ⊎ IsCleared (get index q) (get tree q) (get old q) (get now q)) → (q : List ℕ) → IsOldOrCheckedOut objects root index old now q
-  old_or_cleared old now so q = told old now q (cleared_or_old objects (get index q) (get tree q) (get old q) (get now q) (so q))
-
-  pub old_or_written : (old mid now : FileMap) → ((q : List ℕ) → IsCleared (get index q) (get tree q) (get old q) (get mid q)) → ((q : List ℕ) → (get now q ≡ get mid q) ⊎ IsWritten objects (get index q) (get tree q) (get mid q) (get now q)) → (q : List ℕ) → IsOldOrCheckedOut objects root index old now q
-  old_or_written old mid now cleared so q = told old now q (written_or_old objects (get index q) (get tree q) (get old q) (get mid q) (get now q) (cleared q) (so q))
+  pub old_or_written : (mid now : FileMap) → ((q : List ℕ) → IsCleared (get index q) (get tree q) (get old q) (get mid q)) → ((q : List ℕ) → (get now q ≡ get mid q) ⊎ IsWritten objects (get index q) (get tree q) (get mid q) (get now q)) → (q : List ℕ) → IsOldOrCheckedOut objects index tree old now q
+  old_or_written mid now cleared so q = written_or_old objects (get index q) (get tree q) (get old q) (get mid q) (get now q) (cleared q) (so q)

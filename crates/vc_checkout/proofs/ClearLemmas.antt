@@ -14,10 +14,8 @@ use Rattle.vc_index.specs.declared.entry.IndexEntry.{IndexEntry}
 use Rattle.vc_index.proofs.MapLemmas.{same_text}
 use Rattle.vc_checkout.specs.Refusal.{IsClear, IsDue, IsHindered, IsInTheWay, IsRefused, RefusedAt}
 use Rattle.vc_checkout.specs.WorkTree.{IsUntracked, has_path}
-use Rattle.vc_checkout.specs.CheckoutFault.{IsAgainst, IsFault, IsOfCheckout, TellsFirst, told_fault}
-use Rattle.vc_index.specs.TreeReading.{ReadsAs}
-use Rattle.vc_object.specs.ObjectMap.{ObjectMap}
-use Rattle.vc_object.specs.declared.id.ObjectId.{ObjectId}
+use Rattle.vc_checkout.specs.Blobs.{HasDueBlobs}
+use Rattle.vc_checkout.specs.CheckoutFault.{IsAgainst, IsFault, IsOfCheckout}
 use Rattle.vc_store.specs.Store.{objects}
 use Rattle.vc_checkout.specs.declared.faults.CheckoutFault.{CheckoutFault}
 use Rattle.vc_checkout.specs.declared.faults.CheckoutFault.TheVariants.{LocalChange, InTheWay, NotText, Index}
@@ -95,16 +93,17 @@ holds_more P before rest k first one so = record {
 pub holds_all : (P : List ℕ → Type 0) (rest : List (List ℕ)) → rest ≡ [] → Holds P rest → (q : List ℕ) → P q
 holds_all P rest none so q = so.at q (ap (is_listed q) none)
 
+-- what holds of each path that is not left holds of each before the first that is
+pub holds_before : (P : List ℕ → Type 0) (before rest : List (List ℕ)) (k : List ℕ) → before ≡ k ∷ rest → IsStrictlySortedBy (slice_cmp nat_cmp) before → Holds P before
+    → (q : List ℕ) → slice_cmp nat_cmp q k ≡ Less → P q
+holds_before P before rest k first sorted so q less =
+    let after = (sorted_rest k rest (subst (IsStrictlySortedBy (slice_cmp nat_cmp)) first sorted)).0 in
+    so.at q (ap (is_listed q) first ∙ none_before q (k ∷ rest) (less, later q k rest less after))
+
 -- the first path that is refused
 pub first_refused : (index tree : IndexMap) (work : FileMap) (before rest : List (List ℕ)) (k : List ℕ) (fault : CheckoutFault) → before ≡ k ∷ rest → IsStrictlySortedBy (slice_cmp nat_cmp) before
     → Holds (IsClear index tree work) before → RefusedAt index tree work k fault → IsRefused index tree work fault
-first_refused index tree work before rest k fault first sorted so refused = (
-  k,
-  refused,
-  λ q less.
-      let after = (sorted_rest k rest (subst (IsStrictlySortedBy (slice_cmp nat_cmp)) first sorted)).0 in
-      so.at q (ap (is_listed q) first ∙ none_before q (k ∷ rest) (less, later q k rest less after)),
-)
+first_refused index tree work before rest k fault first sorted so refused = (k, refused, holds_before (IsClear index tree work) before rest k first sorted so)
 
 -- ---- results
 pub if_err : {T E : Type 0} (r : Result T E) (e : E) (P : E → Type 0) → r ≡ Err e → P e → IfErr r P
@@ -121,24 +120,11 @@ no_fault (InTheWay at) against (cause, is) = cc is
 no_fault (NotText at) against (cause, is) = cc is
 no_fault (Index fault) against told = absurd against
 
-pub of_check : (work_honest files_honest : Type 0) (work content : FileMap) (index tree : IndexMap) (root : ObjectId) (e : CheckoutFault) → ReadsAs (objects content) root (Ok tree)
-    → IsFault e ⊎ IsAgainst e → (work_honest → IsFault e ⊎ IsRefused index tree work e) → IsOfCheckout work_honest files_honest work content index root e
-of_check work_honest files_honest work content index tree root e of_tree (inl fault) told = inl fault
-of_check work_honest files_honest work content index tree root e of_tree (inr against) told = inr (inr (against, λ honest. (tree, of_tree, refused (told honest))))
+pub of_check : (honest : Type 0) (work content : FileMap) (index tree : IndexMap) (e : CheckoutFault) → HasDueBlobs (objects content) index tree
+    → IsFault e ⊎ IsAgainst e → (honest → IsFault e ⊎ IsRefused index tree work e) → IsOfCheckout honest work content index tree e
+of_check honest work content index tree e blobs (inl fault) told = inl fault
+of_check honest work content index tree e blobs (inr against) told = inr (inr (against, blobs, λ h. refused (told h)))
   where
     refused : IsFault e ⊎ IsRefused index tree work e → IsRefused index tree work e
     refused (inl fault) = absurd (no_fault e against fault)
     refused (inr is) = is
-
--- ---- what tells no fault of a tree
-pub fault_tells : (e : CheckoutFault) → IsFault e → told_fault e ≡ None
-fault_tells e (cause, is) = ap told_fault is
-
-pub against_tells : (e : CheckoutFault) → IsAgainst e → told_fault e ≡ None
-against_tells (LocalChange at) against = refl
-against_tells (InTheWay at) against = refl
-against_tells (NotText at) against = refl
-against_tells (Index fault) against = absurd against
-
-pub tells_none : (objects : ObjectMap) (root : ObjectId) (e : CheckoutFault) → told_fault e ≡ None → TellsFirst objects root e
-tells_none objects root e none = λ fault told. absurd (cc (none, told))

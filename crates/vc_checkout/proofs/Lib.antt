@@ -3,6 +3,7 @@ pub mod StatusLemmas
 pub mod WayLemmas
 pub mod ClearLemmas
 pub mod ApplyLemmas
+pub mod BlobLemmas
 pub mod FolderLemmas
 pub mod HeldLemmas
 pub mod LeavingLemmas

@@ -12,6 +12,7 @@ use Rattle.vc_index.specs.Loading.{IsBlobIfDue}
 use Rattle.vc_index.specs.Path.{IsAbove}
 use Rattle.vc_index.specs.declared.entry.IndexEntry.{IndexEntry}
 use Rattle.vc_index.proofs.MapLemmas.{is_eq-same}
+use Rattle.vc_checkout.specs.Blobs.{HasDueBlob}
 use Rattle.vc_checkout.specs.CheckedOut.{IsWritten, StepAt, file_of}
 use Rattle.vc_checkout.specs.Folders.{AreFolders, Folders, IsAtOrIn, IsFolder, IsFolderBy}
 use Rattle.vc_checkout.specs.FoldersAfter.{AreBetween, GivesWay, GivesWayBy, IsFolderAfter, IsFolderFor, IsLeftBy, IsLink, IsLinked, IsMadeBy, IsMadeFor, Stays, TakesPlace}
@@ -176,14 +177,14 @@ module _ (i t : Option IndexEntry) (path : List ℕ) where
   way_filed d (entry, is, apart, place) = (entry, is, apart, place.0)
 
   -- the files after a path was written
-  module _ (objects : ObjectMap) (blobs : (entry : IndexEntry) → t ≡ Some entry → IsBlobIfDue objects entry) (mid now : FileMap) (step : StepAt (IsWritten objects i t) path mid now) where
+  module _ (objects : ObjectMap) (blobs : HasDueBlob objects i t) (mid now : FileMap) (step : StepAt (IsWritten objects i t) path mid now) where
     some_blob : (entry : IndexEntry) (o : Option (List ℕ)) → IsBlobIfDue objects entry → entry.mode ≢ modes.Commit → o ≡ file_of objects entry.mode entry.id → IsSome o
     some_blob entry o blob file is =
         let (body, stored) = blob file in
         subst IsSome (sym (is ∙ sym (file_blob objects entry.mode entry.id body file (ap (option_map (λ object. object.body)) stored)))) refl
 
     pub filed_there : Filed → IsSome (get now path)
-    filed_there (entry, is, apart, file) = some_blob entry (get now path) (blobs entry is) file (step.at.due entry is apart)
+    filed_there (entry, is, apart, file) = some_blob entry (get now path) (blobs entry is apart) file (step.at.due entry is apart)
 
     pub written_lost : ((i ≡ t) ⊎ (t ≡ None)) ⊎ (IsLinked i t ⊎ Filed) → (r : List ℕ) → IsSome (get mid r) → IsSome (get now r) ⊎ ((r ≡ path) × IsLinked i t)
     written_lost how r some = by (same_or_not r path) how

@@ -7,7 +7,6 @@ use Rattle.vc_object.specs.declared.id.ObjectId.{ObjectId}
 use Rattle.vc_object.specs.declared.mode.Mode.{Mode}
 use Rattle.vc_object.specs.declared.mode.Mode.TheVariants as modes
 use Rattle.vc_index.specs.declared.entry.IndexEntry.{IndexEntry}
-use Rattle.vc_checkout.specs.Heads.{IsIndexOf}
 use Rattle.vc_index.specs.IndexMap.{IndexMap}
 
 -- what is left of a file whose entry goes: a commit of another repository had none
@@ -39,9 +38,8 @@ pub record IsCheckedOut (objects : ObjectMap) (old new : Option IndexEntry) (fil
   pub gone : (entry : IndexEntry) → old ≡ Some entry → new ≡ None → after ≡ left_of entry.mode file
 
 -- after a fault a path has the file that it had, or the one that it was to have
-abbrev pub IsOldOrCheckedOut : ObjectMap → ObjectId → IndexMap → FileMap → FileMap → List ℕ → Type 0
-IsOldOrCheckedOut objects root index old now path =
-    (get now path ≡ get old path) ⊎ ((tree : IndexMap) × IsIndexOf objects root tree × IsCheckedOut objects (get index path) (get tree path) (get old path) (get now path))
+abbrev pub IsOldOrCheckedOut : ObjectMap → IndexMap → IndexMap → FileMap → FileMap → List ℕ → Type 0
+IsOldOrCheckedOut objects index tree old now path = (get now path ≡ get old path) ⊎ IsCheckedOut objects (get index path) (get tree path) (get old path) (get now path)
 
 -- one path changed as told, and no other
 pub record StepAt (IsStep : Option (List ℕ) → Option (List ℕ) → Type 0) (path : List ℕ) (old new : FileMap) : Type 0 where

@@ -1,17 +1,18 @@
 -- What a refusal of a checkout says.
-use Rattle.std.specs.Prelude.{◌≡◌, ◌⊎◌, Option, Some, None, Ok, Err}
+use Rattle.std.specs.Prelude.{◌≡◌, ◌⊎◌, Option, Some, None, Err}
 use Rattle.vc_files.specs.FileMap.{FileMap}
 use Rattle.vc_object.specs.declared.id.ObjectId.{ObjectId}
 use Rattle.vc_files.specs.declared.faults.Fault.{Fault as FileFault}
 use Rattle.vc_object.specs.ObjectMap.{ObjectMap}
 use Rattle.vc_store.specs.Store.{objects}
 use Rattle.vc_index.specs.IndexMap.{IndexMap}
+use Rattle.vc_checkout.specs.Blobs.{BlamesBlobs, HasDueBlobs}
 use Rattle.vc_checkout.specs.Refusal.{IsRefused}
 use Rattle.vc_store.specs.declared.faults.StoreFault.TheVariants.{Fault}
 use Rattle.vc_index.specs.declared.faults.IndexFault.{IndexFault}
 use Rattle.vc_index.specs.declared.faults.IndexFault.TheVariants.{Store}
-use Rattle.vc_index.specs.Loading.{IsOfList, IsOfLoad}
-use Rattle.vc_index.specs.TreeReading.{ListsAs, ReadsAs, TreeFault, tree_fault}
+use Rattle.vc_index.specs.Loading.{IsOfList}
+use Rattle.vc_index.specs.TreeReading.{ListsAs, TreeFault, tree_fault}
 use Rattle.vc_checkout.specs.declared.faults.CheckoutFault.{CheckoutFault}
 use Rattle.vc_checkout.specs.declared.faults.CheckoutFault.TheVariants.{Index}
 
@@ -34,17 +35,14 @@ abbrev pub told_fault : CheckoutFault → Option TreeFault
 told_fault (Index cause) = tree_fault cause
 told_fault _ = None
 
--- a fault of the tree that is told is the first one that its reading meets
-abbrev pub TellsFirst : ObjectMap → ObjectId → CheckoutFault → Type 0
-TellsFirst objects root refusal = (fault : TreeFault) → told_fault refusal ≡ Some fault → ReadsAs objects root (Err fault)
-
--- the same where the trees alone are read
+-- a fault of the tree that is told is the first one that its listing meets
 abbrev pub TellsFirstListed : ObjectMap → ObjectId → CheckoutFault → Type 0
 TellsFirstListed objects root refusal = (fault : TreeFault) → told_fault refusal ≡ Some fault → ListsAs objects root (Err fault)
 
--- why a work tree was not checked out: a fault, or the tree was not read, or what is against it at the first path
-abbrev pub IsOfCheckout : Type 0 → Type 0 → FileMap → FileMap → IndexMap → ObjectId → CheckoutFault → Type 0
-IsOfCheckout work_honest files_honest work content index root fault =
+-- why a work tree was not checked out: a fault, or the first blob that is due and not there, or, where each is there, what is
+-- against it at the first path
+abbrev pub IsOfCheckout : Type 0 → FileMap → FileMap → IndexMap → IndexMap → CheckoutFault → Type 0
+IsOfCheckout honest work content index tree fault =
     IsFault fault
-    ⊎ (((cause : IndexFault) × (fault ≡ Index cause) × IsOfLoad files_honest content root cause)
-    ⊎ (IsAgainst fault × (work_honest → (tree : IndexMap) × ReadsAs (objects content) root (Ok tree) × IsRefused index tree work fault)))
+    ⊎ (((cause : IndexFault) × (fault ≡ Index cause) × BlamesBlobs content index tree cause)
+    ⊎ (IsAgainst fault × HasDueBlobs (objects content) index tree × (honest → IsRefused index tree work fault)))

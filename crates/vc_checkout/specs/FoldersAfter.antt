@@ -1,13 +1,10 @@
 -- The folders of a work tree after a checkout.
-use Rattle.std.specs.Prelude.{◌≡◌, ◌≢◌, ◌⊎◌, ℕ, List, Option, Some, None, Ok, IsUtf8}
+use Rattle.std.specs.Prelude.{◌≡◌, ◌≢◌, ◌⊎◌, ℕ, List, Option, Some, None, IsUtf8}
 use Rattle.std.specs.FinMap.{get}
 use Rattle.vc_files.specs.FileMap.{FileMap}
-use Rattle.vc_object.specs.ObjectMap.{ObjectMap}
-use Rattle.vc_object.specs.declared.id.ObjectId.{ObjectId}
 use Rattle.vc_object.specs.declared.mode.Mode.TheVariants as modes
 use Rattle.vc_index.specs.IndexMap.{IndexMap}
 use Rattle.vc_index.specs.Path.{IsAbove}
-use Rattle.vc_index.specs.TreeReading.{ReadsAs}
 use Rattle.vc_index.specs.declared.entry.IndexEntry.{IndexEntry}
 use Rattle.vc_checkout.specs.Folders.{Folders, IsAtOrIn, IsFolder}
 
@@ -62,9 +59,7 @@ pub record AreBetween (work : FileMap) (folders : Folders) (Least Most : List �
   pub least : (folder : List ℕ) → Least folder → IsFolder work folders folder
   pub most : (folder : List ℕ) → IsFolder work folders folder → Most folder
 
--- after a fault: nothing changed, or a folder that was to stay is there, and each that is there was there or is there for
--- an entry that was to be written
-abbrev pub AreFoldersBegun : ObjectMap → ObjectId → IndexMap → FileMap → Folders → FileMap → Folders → Type 0
-AreFoldersBegun objects root index old was new folders =
-    ((new ≡ old) × (folders ≡ was))
-    ⊎ ((tree : IndexMap) × ReadsAs objects root (Ok tree) × AreBetween new folders (Stays index tree (IsFolder old was)) (λ one. IsFolder old was one ⊎ IsMadeBy index tree one))
+-- after a fault: a folder that was to stay is there, and each that is there was there or is there for an entry that was to be
+-- written
+abbrev pub AreFoldersBegun : IndexMap → IndexMap → FileMap → Folders → FileMap → Folders → Type 0
+AreFoldersBegun index tree old was new folders = AreBetween new folders (Stays index tree (IsFolder old was)) (λ one. IsFolder old was one ⊎ IsMadeBy index tree one)

@@ -1,6 +1,7 @@
 pub mod WorkTree
 pub mod Folders
 pub mod Status
+pub mod Blobs
 pub mod CheckoutFault
 pub mod Devices
 pub mod Heads

@@ -1,21 +1,21 @@
 // Bringing a work tree to the files of a tree.
-ghost use Rattle.std.specs.Prelude.{◌≡◌, ◌≢◌, ◌⊎◌, ◌↔◌, ℕ, List, Option, Some, None, Ok, IfOk, IfErr, OnOk, OnErr, IsErrOf, IsSome, IsUtf8, option_map};
+ghost use Rattle.std.specs.Prelude.{◌≡◌, ◌⊎◌, ℕ, List, None, IfErr, OnOk, OnErr, IsErrOf, IsUtf8};
 ghost use Rattle.std.specs.FinMap as maps;
 ghost use Rattle.vc_files.specs.FileMap.{FileMap};
 ghost use Rattle.vc_files.specs.Failures.{Wears, unstopped};
-ghost use Rattle.vc_object.specs.declared.id.ObjectId.{ObjectId as Id};
 ghost use Rattle.vc_store.specs.Store.{objects};
-ghost use Rattle.vc_index.specs.Loading.{HasBlobs, IsBlobIfDue};
+ghost use Rattle.vc_index.specs.Loading.{IsBlobIfDue};
 ghost use Rattle.vc_index.specs.Path.{IsAbove};
+ghost use Rattle.vc_checkout.specs.Blobs.{HasDueBlob, HasDueBlobs};
 ghost use Rattle.vc_checkout.specs.CheckedOut.{IsCheckedOut, IsCleared, IsOldOrCheckedOut, IsWritten, StepAt, StepOrNone, file_of, left_of};
-ghost use Rattle.vc_index.specs.TreeReading.{ReadsAs};
-ghost use Rattle.vc_checkout.specs.CheckoutFault.{IsFault, IsOfCheckout, TellsFirst};
+ghost use Rattle.vc_checkout.specs.CheckoutFault.{IsFault, IsOfCheckout};
 ghost use Rattle.vc_checkout.specs.Devices.{WearsEither};
 ghost use Rattle.vc_checkout.specs.Folders.{AreFolders, Folders, IsFolder};
 ghost use Rattle.vc_checkout.specs.FoldersAfter.{AreBetween, AreFoldersBegun, GivesWay, GivesWayBy, IsFolderAfter, IsFolderFor, IsLeft, IsLeftBy, IsLink, IsLinked, IsMadeBy, IsMadeFor, TakesPlace};
 ghost use Rattle.vc_checkout.specs.Refusal.{IsClear, IsDue};
 ghost use Rattle.vc_checkout.specs.WorkTree.{HasTextPaths};
 
+use crate::blobs::{blob_of, check_blobs};
 use crate::clear::check_all;
 use crate::paths::folder_of;
 use crate::{CheckoutFault, WorkTree};
@@ -23,7 +23,7 @@ use std::alloc::Global;
 use std::str;
 use vc_files::{Fault, Files};
 use vc_index::{Index, IndexEntry, IndexFault};
-use vc_object::{Mode, ObjectId};
+use vc_object::Mode;
 use vc_store::StoreFault;
 
 // Takes the folders above a path away, from the lowest on, as long as nothing is in them.
@@ -122,20 +122,6 @@ fn clear_all<T: WorkTree>(
     Ok(())
 }
 
-// The content of the blob with this name.
-fn blob_of<F: Files>(alloc: Global, files: &mut F, id: &ObjectId) -> Result<Vec<u8>, CheckoutFault>
-    ensures body { F.honest → IfOk result (λ body. option_map (λ object. object.body) (objects (F.content files.old) id.now) ≡ Some body.items) }
-    ensures refused { IfErr result (λ e. F.honest → IsSome (objects (F.content files.old) id.now) → IsFault e) }
-    ensures same { F.content files.new ≡ F.content files.old }
-    ensures wear { Wears F.failed F.can_fail F.left files.old files.new (IsErrOf result (CheckoutFault.Index (IndexFault.Store (StoreFault.Fault Fault.Device)))) }
-{
-    match vc_store::find(files, alloc, id) {
-        Ok(Some(stored)) => Ok(stored.body),
-        Ok(None) => Err(CheckoutFault::Index(IndexFault::Missing(*id))),
-        Err(fault) => Err(CheckoutFault::Index(IndexFault::Store(fault))),
-    }
-}
-
 // Writes the file of an entry, or makes the empty folder of a commit of another repository.
 fn put_in<T: WorkTree, F: Files>(
     alloc: Global,
@@ -162,7 +148,7 @@ fn put_in<T: WorkTree, F: Files>(
         work.make_folder(alloc, text)?;
         return Ok(());
     }
-    let body = blob_of(alloc, files, &entry.id)?;
+    let body = blob_of(alloc, files, path, &entry.id)?;
     work.write(alloc, text, &body)?;
     Ok(())
 }
@@ -177,7 +163,7 @@ fn write_path<T: WorkTree, F: Files>(
     path: &[u8],
 ) -> Result<(), CheckoutFault>
     requires text { IsDue (maps.get index.now path.now) (maps.get tree.now path.now) → IsUtf8 path.now }
-    requires blobs { F.honest → HasBlobs (objects (F.content files.old)) tree.now }
+    requires blob { F.honest → HasDueBlob (objects (F.content files.old)) (maps.get index.now path.now) (maps.get tree.now path.now) }
     ensures done { T.honest → F.honest → OnOk result (StepAt (IsWritten (objects (F.content files.old)) (maps.get index.now path.now) (maps.get tree.now path.now)) path.now (T.content work.old) (T.content work.new)) }
     ensures begun { T.honest → F.honest → OnErr result (StepOrNone (IsWritten (objects (F.content files.old)) (maps.get index.now path.now) (maps.get tree.now path.now)) path.now (T.content work.old) (T.content work.new)) }
     ensures refused { IfErr result (λ e. F.honest → IsFault e) }
@@ -206,7 +192,7 @@ fn write_all<T: WorkTree, F: Files>(
     tree: &Index,
 ) -> Result<(), CheckoutFault>
     requires text { (path : List ℕ) → IsDue (maps.get index.now path) (maps.get tree.now path) → IsUtf8 path }
-    requires blobs { F.honest → HasBlobs (objects (F.content files.old)) tree.now }
+    requires blobs { F.honest → HasDueBlobs (objects (F.content files.old)) index.now tree.now }
     ensures done { T.honest → F.honest → OnOk result ((path : List ℕ) → IsWritten (objects (F.content files.old)) (maps.get index.now path) (maps.get tree.now path) (maps.get (T.content work.old) path) (maps.get (T.content work.new) path)) }
     ensures begun { T.honest → F.honest → (path : List ℕ) → (maps.get (T.content work.new) path ≡ maps.get (T.content work.old) path) ⊎ IsWritten (objects (F.content files.old)) (maps.get index.now path) (maps.get tree.now path) (maps.get (T.content work.old) path) (maps.get (T.content work.new) path) }
     ensures refused { IfErr result (λ e. F.honest → IsFault e) }
@@ -221,17 +207,18 @@ fn write_all<T: WorkTree, F: Files>(
     Ok(())
 }
 
-/// Brings the work tree from the files of the index to those of a tree, and answers the index of the tree.
+/// Brings the work tree from the files of an index to those of another one, such as `Index::list_tree` answers of a tree.
 ///
-/// A path of the tree is due if the index has nothing there, or something else. Before the first write, over the paths
-/// of both in the order of their bytes, and at each path in this order: 72 is a due path that is not UTF-8; 70 is a
-/// file that the index has and the tree lacks or has otherwise, and whose content is neither of the two; 71 is a file
-/// that the index lacks, where a due path is to be written: at the path with another content, above it or below it.
-/// Contents are compared by the names that they have as blobs. Where all is clear, files of the index that the tree
-/// lacks are removed, then what is due is written: a link as a file that holds its text, an executable without the
-/// right to be run, a commit of another repository as an empty folder. A folder that an entry which goes lies in, or
-/// that is its own, goes if nothing is left in it; every other folder stays, but where a file is written in its place.
-/// What isn't due stays as it is.
+/// A path of the tree is due if the index has nothing there, or something else. Before the first write, over the paths of
+/// the tree in the order of their bytes: 40 and 63 are a file or a link that is due and whose blob is absent or no blob, 12
+/// one whose blob is damaged; no other blob is opened. Then, over the paths of both in that order, and at each path in this
+/// one: 72 is a due path that is not UTF-8; 70 is a file that the index has and the tree lacks or has otherwise, and whose
+/// content is neither of the two; 71 is a file that the index lacks, where a due path is to be written: at the path with
+/// another content, above it or below it. Contents are compared by the names that they have as blobs. Where all is clear,
+/// files of the index that the tree lacks are removed, then what is due is written: a link as a file that holds its text,
+/// an executable without the right to be run, a commit of another repository as an empty folder. A folder that an entry
+/// which goes lies in, or that is its own, goes if nothing is left in it; every other folder stays, but where a file is
+/// written in its place. What isn't due stays as it is.
 ///
 /// A fault may leave any part of this done; each path then has its old file or its new one, and no folder is gone or
 /// made that would not have been.
@@ -240,27 +227,23 @@ pub fn checkout<T: WorkTree, F: Files>(
     work: &mut T,
     files: &mut F,
     index: &Index,
-    tree: &ObjectId,
-) -> Result<Index, CheckoutFault>
-    ensures index { F.honest → IfOk result (λ new. ReadsAs (objects (F.content files.old)) tree.now (Ok new)) }
-    ensures work { T.honest → F.honest → IfOk result (λ new. (path : List ℕ) → IsCheckedOut (objects (F.content files.old)) (maps.get index.now path) (maps.get new path) (maps.get (T.content work.old) path) (maps.get (T.content work.new) path)) }
-    ensures clear { T.honest → IfOk result (λ new. (path : List ℕ) → IsClear index.now new (T.content work.old) path) }
-    ensures refused { F.honest → IfErr result (IsOfCheckout T.honest F.honest (T.content work.old) (F.content files.old) index.now tree.now) }
-    ensures tree { F.honest → IfErr result (TellsFirst (objects (F.content files.old)) tree.now) }
+    tree: &Index,
+) -> Result<(), CheckoutFault>
+    ensures work { T.honest → F.honest → OnOk result ((path : List ℕ) → IsCheckedOut (objects (F.content files.old)) (maps.get index.now path) (maps.get tree.now path) (maps.get (T.content work.old) path) (maps.get (T.content work.new) path)) }
+    ensures blobs { F.honest → OnOk result (HasDueBlobs (objects (F.content files.old)) index.now tree.now) }
+    ensures clear { T.honest → OnOk result ((path : List ℕ) → IsClear index.now tree.now (T.content work.old) path) }
+    ensures refused { F.honest → IfErr result (IsOfCheckout T.honest (T.content work.old) (F.content files.old) index.now tree.now) }
     ensures unchanged { F.honest → IfErr result (λ e. IsFault e ⊎ (T.content work.new ≡ T.content work.old)) }
     ensures unmoved { F.honest → IfErr result (λ e. IsFault e ⊎ (T.folders work.new ≡ T.folders work.old)) }
-    ensures fault { T.honest → F.honest → OnErr result ((path : List ℕ) → IsOldOrCheckedOut (objects (F.content files.old)) tree.now index.now (T.content work.old) (T.content work.new) path) }
-    ensures folders { T.honest → F.honest → IfOk result (λ new. AreFolders (T.content work.new) (T.folders work.new) (IsFolderAfter index.now new (IsFolder (T.content work.old) (T.folders work.old)))) }
-    ensures begun { T.honest → F.honest → OnErr result (AreFoldersBegun (objects (F.content files.old)) tree.now index.now (T.content work.old) (T.folders work.old) (T.content work.new) (T.folders work.new)) }
+    ensures fault { T.honest → F.honest → OnErr result ((path : List ℕ) → IsOldOrCheckedOut (objects (F.content files.old)) index.now tree.now (T.content work.old) (T.content work.new) path) }
+    ensures folders { T.honest → F.honest → OnOk result (AreFolders (T.content work.new) (T.folders work.new) (IsFolderAfter index.now tree.now (IsFolder (T.content work.old) (T.folders work.old)))) }
+    ensures begun { T.honest → F.honest → OnErr result (AreFoldersBegun index.now tree.now (T.content work.old) (T.folders work.old) (T.content work.new) (T.folders work.new)) }
     ensures files { F.content files.new ≡ F.content files.old }
     ensures wear { WearsEither T.failed T.can_fail F.failed F.can_fail F.left work.old work.new files.old files.new (IsErrOf result (CheckoutFault.Index (IndexFault.Store (StoreFault.Fault Fault.Device)))) }
 {
-    let new = match Index::from_tree(alloc, files, tree) {
-        Ok(new) => new,
-        Err(fault) => return Err(CheckoutFault::Index(fault)),
-    };
-    check_all(alloc, work, index, &new)?;
-    clear_all(alloc, work, index, &new)?;
-    write_all(alloc, work, files, index, &new)?;
-    Ok(new)
+    check_blobs(alloc, files, index, tree)?;
+    check_all(alloc, work, index, tree)?;
+    clear_all(alloc, work, index, tree)?;
+    write_all(alloc, work, files, index, tree)?;
+    Ok(())
 }

@@ -2,6 +2,7 @@
 #![tactic(auto)]
 
 mod apply;
+mod blobs;
 mod change;
 mod clear;
 mod compare;

@@ -8,18 +8,16 @@ use Rattle.vc_object.specs.declared.id.ObjectId.{ObjectId}
 use Rattle.vc_store.specs.Store.{objects}
 use Rattle.vc_store.specs.declared.faults.StoreFault.TheVariants as stores
 use Rattle.vc_index.specs.IndexMap.{IndexMap}
-use Rattle.vc_index.specs.Loading.{IsOfList, IsOfLoad}
-use Rattle.vc_index.specs.TreeReading.{TreeFault, ReadsAs, tree_fault}
+use Rattle.vc_index.specs.Loading.{IsOfList}
+use Rattle.vc_index.specs.TreeReading.{ListsAs, TreeFault, tree_fault}
 use Rattle.vc_index.specs.declared.entry.IndexEntry.{IndexEntry}
 use Rattle.vc_index.specs.declared.faults.IndexFault.{IndexFault}
 use Rattle.vc_index.specs.declared.faults.IndexFault.TheVariants.{BadPath, PathConflict, BadIndex, WrongEntry, Missing, Store}
 use Rattle.vc_index.proofs.MapLemmas.{is_eq-same, same_text}
 use Rattle.vc_checkout.proofs.LeavingLemmas.{or_true}
 use Rattle.vc_checkout.proofs.PathSetLemmas.{is_listed, is_same}
-use Rattle.vc_checkout.specs.CheckoutFault.{IsOfCheckout, IsOfStatus, TellsFirst, TellsFirstListed, told_fault}
+use Rattle.vc_checkout.specs.CheckoutFault.{IsOfCheckout, IsOfStatus, TellsFirstListed, told_fault}
 use Rattle.vc_checkout.specs.declared.faults.CheckoutFault.{CheckoutFault}
-use Rattle.vc_checkout.specs.declared.faults.CheckoutFault.TheVariants.{Index}
-use Rattle.vc_node.specs.Blames.{BlamesLoad}
 use Rattle.vc_node.specs.IndexFile.{SpellsIndex}
 use Rattle.vc_node.specs.NodeFault.{of_index}
 use Rattle.vc_refs.specs.declared.heads.Head.{Head}
@@ -30,14 +28,14 @@ use Rattle.vc_refs.specs.RefFault.{IsFault as IsRefFault, IsGoodHeadValue}
 use Rattle.vc_refs.specs.Refs.{refs}
 use Rattle.vc_refs.specs.declared.faults.RefFault.{RefFault}
 use Rattle.vc_refs.specs.declared.faults.RefFault.TheVariants as ref
-use Rattle.vc_commands.specs.declared.failure.Failure.TheVariants.{Refs}
+use Rattle.vc_commands.specs.declared.failure.Failure.TheVariants.{Node, Refs}
 use Rattle.vc_commands.specs.CloneWords.{branch_ref}
-use Rattle.vc_commands.specs.Checkout.{HasOwn, IsDetached, IsOfCommit, IsOfDetached, IsOfTarget, IsOfTreeRead, IsOnBranch, IsReadable, IsTarget, MayBring, RefusesCheckout, peeled}
+use Rattle.vc_commands.specs.Checkout.{HasOwn, IsDetached, IsOfCommit, IsOfDetached, IsOfTarget, IsOfTreeList, IsOnBranch, IsReadable, IsTarget, MayBring, RefusesCheckout, peeled}
 use Rattle.vc_commands.specs.Revisions.{Denoted}
 use Rattle.vc_commands.specs.declared.failure.Failure.{Failure}
 use Rattle.vc_commands.specs.Checkout.RefusesCheckout.{of_fault, of_work}
 use Rattle.vc_commands.specs.Failure.{of_checkout, status_of}
-use Rattle.vc_commands.specs.StatusLines.{IsHeadTree, IsOfTreeList, RefusesStatus}
+use Rattle.vc_commands.specs.StatusLines.{IsHeadTree, RefusesStatus}
 use Rattle.vc_commands.specs.StatusLines.RefusesStatus.{by_fault, by_tree}
 
 -- one path less is left
@@ -61,47 +59,36 @@ listed_first first before rest is = ap (is_listed first) is ∙ ap (λ b. b || i
 pub listed_more : (first : List ℕ) (before rest : List (List ℕ)) → before ≡ first ∷ rest → (q : List ℕ) → is_listed q rest ≡ true → is_listed q before ≡ true
 listed_more first before rest is q there = ap (is_listed q) is ∙ (ap (λ b. is_same q first || b) there ∙ or_true (is_same q first))
 
--- what honest files say of a tree that was not read, or not listed
-load_is : (honest : Type 0) → honest → (content : FileMap) (root : ObjectId) (e : IndexFault) → (IsOfLoad honest content root e → IsOfLoad (Unit {0}) content root e) × (IsOfList honest content root e → IsOfList (Unit {0}) content root e)
-load_is honest h content root BadPath = (λ is u. is h, λ is u. is h)
-load_is honest h content root PathConflict = (λ is u. is h, λ is u. is h)
-load_is honest h content root (BadIndex place) = (λ is. is, λ is. is)
-load_is honest h content root (WrongEntry at) = (λ is u. is h, λ is u. is h)
-load_is honest h content root (Missing id) = (λ is u. is h, λ is u. is h)
-load_is honest h content root (Store (stores.BadObject fault)) = (λ is. is, λ is. is)
-load_is honest h content root (Store (stores.Absent id)) = (λ is. is, λ is. is)
-load_is honest h content root (Store (stores.Damaged id)) = (λ is u. is h, λ is u. is h)
-load_is honest h content root (Store (stores.Fault fault)) = (λ is. tt, λ is. tt)
+-- what honest files say of a tree that was not listed
+list_is : (honest : Type 0) → honest → (content : FileMap) (root : ObjectId) (e : IndexFault) → IsOfList honest content root e → IsOfList (Unit {0}) content root e
+list_is honest h content root BadPath = λ is _. is h
+list_is honest h content root PathConflict = λ is _. is h
+list_is honest h content root (BadIndex place) = λ is. is
+list_is honest h content root (WrongEntry at) = λ is _. is h
+list_is honest h content root (Missing id) = λ is _. is h
+list_is honest h content root (Store (stores.BadObject fault)) = λ is. is
+list_is honest h content root (Store (stores.Absent id)) = λ is. is
+list_is honest h content root (Store (stores.Damaged id)) = λ is _. is h
+list_is honest h content root (Store (stores.Fault fault)) = λ is. tt
 
-pub load_blames : (honest : Type 0) → honest → (content : FileMap) (root : ObjectId) (e : IndexFault) → IsOfLoad honest content root e → ((fault : TreeFault) → tree_fault e ≡ Some fault → ReadsAs (objects content) root (Err fault))
-    → BlamesLoad content root (of_index e)
-load_blames honest h content root e is first = inl (e, refl, (load_is honest h content root e).0 is, first)
+pub list_blames : (honest : Type 0) → honest → (content : FileMap) (root : ObjectId) (e : IndexFault) → IsOfList honest content root e → ((fault : TreeFault) → tree_fault e ≡ Some fault → ListsAs (objects content) root (Err fault))
+    → IsOfTreeList content root (Node (of_index e))
+list_blames honest h content root e is first = (e, refl, list_is honest h content root e is, first)
 
--- the same, as a command tells it
-read_blames : (honest : Type 0) → honest → (content : FileMap) (root : ObjectId) (cause : CheckoutFault) (e : IndexFault) → cause ≡ Index e → IsOfLoad honest content root e → TellsFirst (objects content) root cause
-    → IsOfTreeRead content root (of_checkout cause)
-read_blames honest h content root cause e at load told =
-    subst (λ (c : CheckoutFault). IsOfTreeRead content root (of_checkout c)) (sym at) (load_blames honest h content root e load (λ fault tells. told fault (ap told_fault at ∙ tells)))
-
-list_blames : (honest : Type 0) → honest → (content : FileMap) (root : ObjectId) (cause : CheckoutFault) (e : IndexFault) → cause ≡ Index e → IsOfList honest content root e → TellsFirstListed (objects content) root cause
-    → IsOfTreeList content root (of_checkout cause)
-list_blames honest h content root cause e at load told =
-    subst (λ (c : CheckoutFault). IsOfTreeList content root (of_checkout c)) (sym at) (e, refl, (load_is honest h content root e).1 load, λ fault tells. told fault (ap told_fault at ∙ tells))
-
--- an own file of the index that a tree was read as is one of the tree
-pub own_of_tree : (objects : ObjectMap) (root : ObjectId) (own : List ℕ) (tree : IndexMap) → ReadsAs objects root (Ok tree)
+-- an own file of the index that a tree lists is one of the tree
+pub own_of_tree : (objects : ObjectMap) (root : ObjectId) (own : List ℕ) (tree : IndexMap) → ListsAs objects root (Ok tree)
     → (path : List ℕ) → is_some (get tree path) ≡ true → meets_own own path ≡ true → HasOwn objects root own
-own_of_tree objects root own tree reads path some meets = by (get tree path) refl some
+own_of_tree objects root own tree lists path some meets = by (get tree path) refl some
   where
     by : (found : Option IndexEntry) → get tree path ≡ found → is_some found ≡ true → HasOwn objects root own
     by None at e = cc e
     by (Some entry) at e = record {
       tree = tree;
-      reads = reads;
+      lists = lists;
       path = path;
       mode = entry.mode;
       id = entry.id;
-      is = (reads.1 path entry.mode entry.id).1 at;
+      is = (lists.1 path entry.mode entry.id).1 at;
       meets = meets;
     }
 
@@ -137,19 +124,14 @@ head_tree_is content tree commit root readable value told is = record {
 }
 
 -- what refuses a checkout of the work tree, where all that comes before was good
-pub refused_work : (honest files_honest : Type 0) → files_honest → (own revision : List ℕ) (content m work : FileMap) (index : IndexMap) (head : Head) (root : ObjectId) (cause : CheckoutFault)
-    → MayBring own revision content index head root → m ≡ content → IsOfCheckout honest files_honest work m index root cause → TellsFirst (objects m) root cause
-    → RefusesCheckout honest own revision content work (of_checkout cause)
-refused_work honest files_honest h own revision content m work index head root cause may same is first =
-    by (subst (λ (f : FileMap). IsOfCheckout honest files_honest work f index root cause) same is)
+pub refused_work : (honest : Type 0) (own revision : List ℕ) (content m work : FileMap) (index tree : IndexMap) (head : Head) (cause : CheckoutFault)
+    → MayBring own revision content index head tree → m ≡ content → IsOfCheckout honest work m index tree cause → RefusesCheckout honest own revision content work (of_checkout cause)
+refused_work honest own revision content m work index tree head cause may same is = by (subst (λ (f : FileMap). IsOfCheckout honest work f index tree cause) same is)
   where
-    told : TellsFirst (objects content) root cause
-    told = subst (λ (f : FileMap). TellsFirst (objects f) root cause) same first
-
-    by : IsOfCheckout honest files_honest work content index root cause → RefusesCheckout honest own revision content work (of_checkout cause)
+    by : IsOfCheckout honest work content index tree cause → RefusesCheckout honest own revision content work (of_checkout cause)
     by (inl (fault, at)) = of_fault (ap (λ (c : CheckoutFault). status_of (of_checkout c)) at)
-    by (inr (inl (e, at, load))) = of_work index head root may (inl (read_blames files_honest h content root cause e at load told))
-    by (inr (inr against)) = of_work index head root may (inr (cause, refl, against.0, against.1))
+    by (inr (inl (e, at, blames))) = of_work index head tree may (inl (e, ap of_checkout at, blames))
+    by (inr (inr against)) = of_work index head tree may (inr (cause, refl, against.0, against.1, against.2))
 
 -- what refuses a status behind HEAD's tree
 pub refused_status : (honest : Type 0) → honest → (content m : FileMap) (index : IndexMap) (tree : Option ObjectId) (cause : CheckoutFault)
@@ -163,7 +145,7 @@ refused_status honest h content m index (Some root) cause spelled is same becaus
 
     by : IsOfStatus honest content (Some root) cause → RefusesStatus content (of_checkout cause)
     by (inl (fault, at)) = by_fault (ap (λ (c : CheckoutFault). status_of (of_checkout c)) at)
-    by (inr (e, at, load)) = by_tree index root spelled is (list_blames honest h content root cause e at load told)
+    by (inr (e, at, list)) = by_tree index root spelled is (subst (λ (c : CheckoutFault). IsOfTreeList content root (of_checkout c)) (sym at) (list_blames honest h content root e list (λ fault tells. told fault (ap told_fault at ∙ tells))))
 
 -- a fault of refs ends in 3
 pub refs_status : (e : RefFault) → IsRefFault e → status_of (Refs e) ≡ 3

@@ -1,5 +1,5 @@
 -- What a checkout brings, what it leaves, and why it is refused.
-use Rattle.std.specs.Prelude.{◌≡◌, ◌⊎◌, ℕ, List, [], ◌∷◌, ◌++◌, ⊤, Ok, MatchOption, codes, true, false}
+use Rattle.std.specs.Prelude.{◌≡◌, ◌⊎◌, ℕ, List, [], ◌∷◌, ◌++◌, ⊤, Some, Ok, Err, MatchOption, codes, true, false}
 use Rattle.std.specs.FinMap.{get, insert}
 use Rattle.hex.specs.Hex.{encode_lower}
 use Rattle.vc_files.specs.FileMap.{FileMap}
@@ -17,15 +17,19 @@ use Rattle.vc_refs.specs.declared.heads.Head.TheVariants as heads
 use Rattle.vc_store.specs.Store.{objects}
 use Rattle.vc_index.specs.IndexMap.{IndexMap, IsIndex}
 use Rattle.vc_index.specs.IndexText.{index_text}
+use Rattle.vc_index.specs.Loading.{IsOfList}
 use Rattle.vc_index.specs.TreeFiles.{IsFileOfTree}
-use Rattle.vc_index.specs.TreeReading.{ReadsAs}
+use Rattle.vc_index.specs.TreeReading.{ListsAs, TreeFault, tree_fault}
+use Rattle.vc_index.specs.declared.faults.IndexFault.{IndexFault}
+use Rattle.vc_checkout.specs.Blobs.{BlamesBlobs, HasDueBlobs}
 use Rattle.vc_checkout.specs.CheckedOut.{IsCheckedOut}
 use Rattle.vc_checkout.specs.CheckoutFault.{IsAgainst}
 use Rattle.vc_checkout.specs.Refusal.{IsRefused}
 use Rattle.vc_checkout.specs.declared.faults.CheckoutFault.{CheckoutFault}
 use Rattle.vc_work_folder.specs.Own.{meets_own}
-use Rattle.vc_node.specs.Blames.{BlamesHead as BlamesNewHead, BlamesLoad, MayHead}
+use Rattle.vc_node.specs.Blames.{BlamesHead as BlamesNewHead, MayHead}
 use Rattle.vc_node.specs.IndexFile.{BlamesIndex, SpellsIndex}
+use Rattle.vc_node.specs.NodeFault.{of_index as node_fault}
 use Rattle.vc_node.specs.Shown.{shown, with_head_shown, with_index_shown}
 use Rattle.vc_node.specs.declared.fault.NodeFault.TheVariants.{BadPath}
 use Rattle.vc_commands.specs.CloneWords.{branch_ref}
@@ -75,22 +79,23 @@ pub record IsStarted (content : FileMap) (index : IndexMap) : Type 0 where
   pub spelled : SpellsIndex content index
   pub readable : IsGoodHead content
 
--- all that is looked at before the work tree: besides, the revision leads to this HEAD and this tree, HEAD may be that, and the
--- tree keeps away from the store's own folder
-pub record MayBring (own revision : List ℕ) (content : FileMap) (index : IndexMap) (head : Head) (root : ObjectId) : Type 0 where
+-- all that is looked at before the blobs and the work tree: besides, the revision leads to this HEAD and to a tree that lists
+-- these files, HEAD may be that, and the tree keeps away from the store's own folder
+pub record MayBring (own revision : List ℕ) (content : FileMap) (index : IndexMap) (head : Head) (tree : IndexMap) : Type 0 where
   pub started : IsStarted content index
+  pub root : ObjectId
   pub target : IsTarget content revision head root
   pub may : MayHead content head
+  pub lists : ListsAs (objects content) root (Ok tree)
   pub apart : IsApart (objects content) root own
 
 -- The work tree has the files of the tree as a checkout brings them, the index is the tree's, and HEAD is the target.
 pub record ChecksOut (own revision : List ℕ) (old new was now : FileMap) : Type 0 where
   pub index : IndexMap
   pub head : Head
-  pub root : ObjectId
-  pub before : MayBring own revision old index head root
   pub tree : IndexMap
-  pub reads : ReadsAs (objects old) root (Ok tree)
+  pub before : MayBring own revision old index head tree
+  pub blobs : HasDueBlobs (objects old) index tree
   pub files : (path : List ℕ) → IsCheckedOut (objects old) (get index path) (get tree path) (get was path) (get now path)
   pub sound : IsIndex tree
   pub shows : shown new ≡ with_head_shown (with_index_shown (shown old) (index_text tree)) head
@@ -99,10 +104,9 @@ pub record ChecksOut (own revision : List ℕ) (old new was now : FileMap) : Typ
 pub record LeavesHead (honest : Type 0) (own revision : List ℕ) (old new was now : FileMap) : Type 0 where
   pub index : IndexMap
   pub head : Head
-  pub root : ObjectId
-  pub before : MayBring own revision old index head root
   pub tree : IndexMap
-  pub reads : ReadsAs (objects old) root (Ok tree)
+  pub before : MayBring own revision old index head tree
+  pub blobs : HasDueBlobs (objects old) index tree
   pub files : honest → (path : List ℕ) → IsCheckedOut (objects old) (get index path) (get tree path) (get was path) (get now path)
   pub written : new ≡ insert old (codes "index") (index_text tree)
 
@@ -143,15 +147,16 @@ abbrev pub IsOfNewHead : FileMap → Head → Failure → Type 0
 IsOfNewHead content head (Node fault) = BlamesNewHead content head fault
 IsOfNewHead content head _ = ⊥
 
--- the tree is not read as an index
-abbrev pub IsOfTreeRead : FileMap → ObjectId → Failure → Type 0
-IsOfTreeRead content root (Node fault) = BlamesLoad content root fault
-IsOfTreeRead content root _ = ⊥
+-- the files of the tree are not listed: for the first fault of it and of the trees below it, for the file of one that is
+-- damaged, or for a failure
+abbrev pub IsOfTreeList : FileMap → ObjectId → Failure → Type 0
+IsOfTreeList content root (Node fault) = (cause : IndexFault) × (fault ≡ node_fault cause) × IsOfList (Unit {0}) content root cause × ((told : TreeFault) → tree_fault cause ≡ Some told → ListsAs (objects content) root (Err told))
+IsOfTreeList content root _ = ⊥
 
--- a tree that was read has a file in the store's own folder, or in the place of a folder above it
+-- a tree that was listed has a file in the store's own folder, or in the place of a folder above it
 pub record HasOwn (objects : ObjectMap) (root : ObjectId) (own : List ℕ) : Type 0 where
   pub tree : IndexMap
-  pub reads : ReadsAs objects root (Ok tree)
+  pub lists : ListsAs objects root (Ok tree)
   pub path : List ℕ
   pub mode : Mode
   pub id : ObjectId
@@ -163,12 +168,16 @@ abbrev pub IsOfOwn : FileMap → ObjectId → List ℕ → Failure → Type 0
 IsOfOwn content root own (Node fault) = (fault ≡ BadPath) × HasOwn (objects content) root own
 IsOfOwn content root own _ = ⊥
 
+-- a file or a link that is due has no blob: it is absent (40), of another kind (63), or its file is damaged (12), as at the first
+-- path
+abbrev pub IsOfBlobs : FileMap → IndexMap → IndexMap → Failure → Type 0
+IsOfBlobs content index tree e = (cause : IndexFault) × (e ≡ Node (node_fault cause)) × BlamesBlobs content index tree cause
+
 -- what is in the work tree is against the tree: a path that is no text (72), a change (70), or a file in the way (71), as the
 -- first cause at the first path
-abbrev pub IsOfWork : Type 0 → FileMap → IndexMap → ObjectId → FileMap → Failure → Type 0
-IsOfWork honest content index root work e =
-    (against : CheckoutFault) × (e ≡ of_checkout against) × IsAgainst against
-    × (honest → (tree : IndexMap) × ReadsAs (objects content) root (Ok tree) × IsRefused index tree work against)
+abbrev pub IsOfWork : Type 0 → FileMap → IndexMap → IndexMap → FileMap → Failure → Type 0
+IsOfWork honest content index tree work e =
+    (against : CheckoutFault) × (e ≡ of_checkout against) × IsAgainst against × HasDueBlobs (objects content) index tree × (honest → IsRefused index tree work against)
 
 -- Why nothing is brought, by what is looked at before the work tree. What comes first was good where a later thing is blamed.
 pub data RefusesLook (own revision : List ℕ) (content : FileMap) (e : Failure) : Type 0 where
@@ -177,12 +186,12 @@ pub data RefusesLook (own revision : List ℕ) (content : FileMap) (e : Failure)
   of_head : (index : IndexMap) → SpellsIndex content index → IsOfHead content e → RefusesLook own revision content e
   of_target : (index : IndexMap) → IsStarted content index → IsOfTarget content revision e → RefusesLook own revision content e
   of_new_head : (index : IndexMap) (head : Head) (root : ObjectId) → IsStarted content index → IsTarget content revision head root → IsOfNewHead content head e → RefusesLook own revision content e
-  of_tree : (index : IndexMap) (head : Head) (root : ObjectId) → IsStarted content index → IsTarget content revision head root → MayHead content head → IsOfTreeRead content root e ⊎ IsOfOwn content root own e
+  of_tree : (index : IndexMap) (head : Head) (root : ObjectId) → IsStarted content index → IsTarget content revision head root → MayHead content head → IsOfTreeList content root e ⊎ IsOfOwn content root own e
       → RefusesLook own revision content e
 
--- The same of the whole: a tree that the look didn't have to read is read now, and then the work tree is looked at.
+-- The same of the whole: behind the look the blobs that are due are looked at, and then the work tree.
 pub data RefusesCheckout (honest : Type 0) (own revision : List ℕ) (content work : FileMap) (e : Failure) : Type 0 where
   of_fault : status_of e ≡ 3 → RefusesCheckout honest own revision content work e
   of_look : RefusesLook own revision content e → RefusesCheckout honest own revision content work e
-  of_work : (index : IndexMap) (head : Head) (root : ObjectId) → MayBring own revision content index head root → IsOfTreeRead content root e ⊎ IsOfWork honest content index root work e
+  of_work : (index : IndexMap) (head : Head) (tree : IndexMap) → MayBring own revision content index head tree → IsOfBlobs content index tree e ⊎ IsOfWork honest content index tree work e
       → RefusesCheckout honest own revision content work e

@@ -1,6 +1,6 @@
 -- What `status` prints, and why it prints nothing. A line is how the index differs from HEAD's tree, how the file differs from the index, a space, the
 -- path and LF, in the letters of `git status --porcelain`.
-use Rattle.std.specs.Prelude.{◌≡◌, ◌⊎◌, ℕ, List, [], ◌∷◌, ◌++◌, Option, Some, None, Ok, Err, MatchOption, if◌then◌else◌}
+use Rattle.std.specs.Prelude.{◌≡◌, ◌⊎◌, ℕ, List, [], ◌∷◌, ◌++◌, Option, Some, None, Ok, MatchOption, if◌then◌else◌}
 use Rattle.std.specs.List.{flat_map}
 use Rattle.std.specs.Io.KnownBytes.{Appends}
 use Rattle.vc_files.specs.FileMap.{FileMap}
@@ -11,9 +11,6 @@ use Rattle.vc_refs.specs.RefFault.{BlamesHeadValue, IsGoodHeadValue}
 use Rattle.vc_refs.specs.Refs.{refs}
 use Rattle.vc_store.specs.Store.{objects}
 use Rattle.vc_index.specs.IndexMap.{IndexMap}
-use Rattle.vc_index.specs.Loading.{IsOfList}
-use Rattle.vc_index.specs.TreeReading.{ListsAs, TreeFault, tree_fault}
-use Rattle.vc_index.specs.declared.faults.IndexFault.{IndexFault}
 use Rattle.vc_checkout.specs.Heads.{IsIndexOfHead}
 use Rattle.vc_checkout.specs.Status.{IsStatus, Seen}
 use Rattle.vc_checkout.specs.declared.change.IndexChange.{IndexChange}
@@ -22,12 +19,11 @@ use Rattle.vc_checkout.specs.declared.change.WorkChange.{WorkChange}
 use Rattle.vc_checkout.specs.declared.change.WorkChange.TheVariants as work
 use Rattle.vc_work_folder.specs.Own.{is_own}
 use Rattle.vc_node.specs.IndexFile.{SpellsIndex}
-use Rattle.vc_node.specs.NodeFault.{of_index}
-use Rattle.vc_commands.specs.Checkout.{IsOfIndex, peeled}
+use Rattle.vc_commands.specs.Checkout.{IsOfIndex, IsOfTreeList, peeled}
 use Rattle.vc_commands.specs.Failure.{status_of}
 use Rattle.vc_commands.specs.Revisions.{Denoted, IsOfRevision}
 use Rattle.vc_commands.specs.declared.failure.Failure.{Failure}
-use Rattle.vc_commands.specs.declared.failure.Failure.TheVariants.{Node, Refs}
+use Rattle.vc_commands.specs.declared.failure.Failure.TheVariants.{Refs}
 
 -- ` `, `A`, `D`, `M`
 abbrev pub index_letter : IndexChange → ℕ
@@ -87,12 +83,6 @@ abbrev pub IsOfHeadTree : FileMap → Failure → Type 0
 IsOfHeadTree content e =
     IsOfHeadValue content e
     ⊎ (IsGoodHeadValue content × (commit : ObjectId) × (head_value (refs content) (head_of content) ≡ Some commit) × IsOfRevision content (peeled commit kinds.Tree) e)
-
--- the files of the tree are not listed: for the first fault of it and of the trees below it, for the file of one that is
--- damaged, or for a failure
-abbrev pub IsOfTreeList : FileMap → ObjectId → Failure → Type 0
-IsOfTreeList content root (Node fault) = (cause : IndexFault) × (fault ≡ of_index cause) × IsOfList (Unit {0}) content root cause × ((told : TreeFault) → tree_fault cause ≡ Some told → ListsAs (objects content) root (Err told))
-IsOfTreeList content root _ = ⊥
 
 -- Why nothing is printed: the index, HEAD and its commit, and the tree are looked at in this order. Of what the tree's entries
 -- name the trees alone are looked at: a file of the tree that is absent refuses nothing.

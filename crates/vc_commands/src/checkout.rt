@@ -3,9 +3,10 @@ ghost use Rattle.std.specs.Prelude.{◌≡◌, ◌⊎◌, ℕ, List, Some, None,
 ghost use Rattle.std.specs.FinMap as maps;
 ghost use Rattle.vc_node.specs.Blames.{IsLocalHead, MayHead};
 ghost use Rattle.vc_refs.specs.Refs.{refs};
+ghost use Rattle.vc_index.specs.TreeReading.{ListsAs};
 ghost use Rattle.vc_store.specs.Store.{objects};
 ghost use Rattle.vc_work_folder.specs.Own.{meets_own};
-ghost use Rattle.vc_commands.specs.Checkout.{ChecksOut, IsApart, IsCommitTree, IsOfCommit, IsOfNewHead, IsOfOwn, IsOfRef, IsOfTarget, IsOfTreeRead, IsReadable, IsTarget, LeavesHead, MayBring, RefusesCheckout, RefusesLook, peeled};
+ghost use Rattle.vc_commands.specs.Checkout.{ChecksOut, IsApart, IsCommitTree, IsOfCommit, IsOfNewHead, IsOfOwn, IsOfRef, IsOfTarget, IsOfTreeList, IsReadable, IsTarget, LeavesHead, MayBring, RefusesCheckout, RefusesLook, peeled};
 ghost use Rattle.vc_commands.specs.CloneWords.{branch_ref};
 ghost use Rattle.vc_commands.specs.Failure.{status_of};
 ghost use Rattle.vc_commands.specs.Revisions.{Denoted, IsOfRevision};
@@ -133,52 +134,35 @@ fn has_own(index: &Index, own: &[u8]) -> bool
     false
 }
 
-// Whether the tree can be listed, and no file that it lists is in the store's own folder or in the place of one above it.
-fn lists_apart<F: Files>(alloc: Global, files: &mut F, own: &[u8], tree: &ObjectId) -> bool
-    ensures apart { F.honest → result ≡ true → IsApart (objects (F.content files.old)) tree.now own.now }
-    ensures same { F.content files.new ≡ F.content files.old }
-{
-    match Index::list_tree(alloc, files, tree) {
-        Ok(index) => !has_own(&index, own),
-        Err(_) => false,
-    }
-}
-
-// Refuses a tree with a file in the store's own folder, or in the place of one above it. A good tree is known by its
-// listing; only another is read whole here, since a file of it that is absent may be the first fault.
-fn refuse_own<F: Files>(
+// The files that the tree lists, where none is in the store's own folder or in the place of one above it.
+fn list_apart<F: Files>(
     alloc: Global,
     files: &mut F,
     own: &[u8],
-    tree: &ObjectId,
-) -> Result<(), Failure>
-    ensures apart { F.honest → OnOk result (IsApart (objects (F.content files.old)) tree.now own.now) }
-    ensures refused { F.honest → IfErr result (λ e. IsOfTreeRead (F.content files.old) tree.now e ⊎ IsOfOwn (F.content files.old) tree.now own.now e) }
+    root: &ObjectId,
+) -> Result<Index, Failure>
+    ensures lists { F.honest → IfOk result (λ tree. ListsAs (objects (F.content files.old)) root.now (Ok tree)) }
+    ensures apart { F.honest → OnOk result (IsApart (objects (F.content files.old)) root.now own.now) }
+    ensures refused { F.honest → IfErr result (λ e. IsOfTreeList (F.content files.old) root.now e ⊎ IsOfOwn (F.content files.old) root.now own.now e) }
     ensures same { F.content files.new ≡ F.content files.old }
 {
-    if own.is_empty() {
-        return Ok(());
-    }
-    if lists_apart(alloc, files, own, tree) {
-        return Ok(());
-    }
-    let index = match Index::from_tree(alloc, files, tree) {
-        Ok(index) => index,
+    let tree = match Index::list_tree(alloc, files, root) {
+        Ok(tree) => tree,
         Err(fault) => return Err(Failure::Node(NodeFault::from(fault))),
     };
-    if has_own(&index, own) {
+    if has_own(&tree, own) {
         return Err(Failure::Node(NodeFault::BadPath));
     }
-    Ok(())
+    Ok(tree)
 }
 
-// What a checkout needs: the index, the HEAD that it leaves and the tree that it brings. Nothing is written.
+// What a checkout needs: the index, the HEAD that it leaves and the files of the tree that it brings. Nothing is written.
 fn look<F: Files>(
     alloc: Global,
     files: &mut F,
     own: &[u8],
     revision: &str,
-) -> Result<(Index, Head, ObjectId), Failure>
+) -> Result<(Index, Head, Index), Failure>
     ensures may { F.honest → IfOk result (λ found. MayBring own.now revision.now (F.content files.old) found.0 found.1 found.2) }
     ensures local { IfOk result (λ found. IsLocalHead found.1) }
     ensures refused { F.honest → IfErr result (RefusesLook own.now revision.now (F.content files.old)) }
@@ -186,9 +170,9 @@ fn look<F: Files>(
 {
     let index = read_index(alloc, files)?;
     vc_refs::head(files, alloc)?;
-    let (aim, tree) = target(alloc, files, revision)?;
+    let (aim, root) = target(alloc, files, revision)?;
     refuse_bad_head(alloc, files, &aim)?;
-    refuse_own(alloc, files, own, &tree)?;
+    let tree = list_apart(alloc, files, own, &root)?;
     Ok((index, aim, tree))
 }
 
@@ -197,8 +181,9 @@ fn look<F: Files>(
 ///
 /// Before the first write these are looked at, and the first that is at fault is told: the file of the index (62), HEAD's
 /// (33, 34), that of the branch of that name (33), the revision (50 to 56), what it names as a commit and its tree (51, 55),
-/// all that a commit reaches which HEAD is to be (40), and the commits along its parent links (41), all of the tree (40, 60,
-/// 63), its paths, none of which may be own (60), and the work tree, where nothing may be lost that is not stored (70, 71, 72).
+/// all that a commit reaches which HEAD is to be (40), and the commits along its parent links (41), the tree and those below it
+/// (40, 60, 63), its paths, none of which may be own (60), the blobs of what the index has otherwise or not at all (40, 63), and
+/// the work tree, where nothing may be lost that is not stored (70, 71, 72). Of the tree's other blobs none is opened for that.
 ///
 /// A fault may leave part of the work tree brought, or all of it and the index; HEAD moves last.
 pub fn check_out<F: Files, W: WorkTree>(
@@ -215,8 +200,8 @@ pub fn check_out<F: Files, W: WorkTree>(
     ensures folders { F.honest → IfErr result (λ e. (status_of e ≡ 3) ⊎ (W.folders work.new ≡ W.folders work.old)) }
 {
     let (index, aim, tree) = look(alloc, files, own, revision)?;
-    let new = vc_checkout::checkout(alloc, work, files, &index, &tree)?;
-    write_index(alloc, files, &new)?;
+    vc_checkout::checkout(alloc, work, files, &index, &tree)?;
+    write_index(alloc, files, &tree)?;
     vc_refs::set_head(files, alloc, &aim)?;
     Ok(())
 }

@@ -1,11 +1,16 @@
 use Rattle.std.proofs.Common.{rules, ◌≡◌, ◌≢◌, ◌⊎◌, ap, ◌∙◌, subst, inl, inr, Option, List, ℕ}
 use Rattle.std.specs.FinMap as files
+use Rattle.std.specs.Prelude.{option_map}
 use Rattle.vc_object.specs.declared.mode.Mode.TheVariants as modes
 use Rattle.vc_store.specs.Store.{objects}
+use Rattle.vc_index.specs.declared.faults.IndexFault.{IndexFault}
+use Rattle.vc_checkout.specs.Blobs.{BlamesBlob}
 use Rattle.vc_checkout.specs.CheckedOut.{file_of}
 use Rattle.vc_checkout.specs.CheckoutFault.{IsFault}
 use Rattle.vc_checkout.specs.declared.faults.CheckoutFault.{CheckoutFault}
-use Rattle.vc_checkout.proofs.ApplyLemmas.{step_removed, step_put, file_commit, file_blob, has_blob}
+use Rattle.vc_checkout.specs.declared.faults.CheckoutFault.TheVariants.{Index}
+use Rattle.vc_checkout.proofs.ApplyLemmas.{step_removed, step_put, file_commit, file_blob}
+use Rattle.vc_checkout.proofs.BlobLemmas.{no_blame}
 use Rattle.vc_checkout.specs.Folders.{AreFolders, IsAtOrIn, IsFolder}
 use Rattle.vc_checkout.proofs.LeavingLemmas.{kept_removed, keeps_same, moved_folders}
 use Rattle.vc_checkout.proofs.MakingLemmas.{lost_between, put_between, put_file, put_folder, was_or_put}
@@ -31,7 +36,14 @@ returns-then-eq-clause-done g c = λ honest stored.
 pub returns-in_err-body-clause-refused : goal.returns-in_err-body-clause-refused
 returns-in_err-body-clause-refused g c =
     let other : c.args.entry.mode ≢ modes.Commit = search rules in
-    if_err c.from_residual-in_err-body.result c.in_err-body.field-0.0 (λ (e : CheckoutFault). g.F.Files.honest → IsFault e) (search rules) (λ stored. c.in_err-body.ensures.refused stored (has_blob (objects (g.F.Files.content c.args.files.now)) c.args.entry (c.requires.blob stored) other))
+    if_err c.from_residual-in_err-body.result c.in_err-body.field-0.0 (λ (e : CheckoutFault). g.F.Files.honest → IsFault e) (search rules) (λ stored.
+    let blob = c.requires.blob stored other in
+    let e = c.in_err-body.field-0.0 in
+    let told : IsFault e ⊎ ((cause : IndexFault) × (e ≡ Index cause) × BlamesBlob (g.F.Files.content c.args.files.now) c.args.path.now c.args.entry.id cause) = c.in_err-body.ensures.refused stored in
+    elim told [
+      | inl fault ↦ fault
+      | inr at ↦ absurd (no_blame (g.F.Files.content c.args.files.now) c.args.path.now c.args.entry.id blob.0 at.0 blob.1 at.2)
+    ])
 
 pub returns-clause-done : goal.returns-clause-done
 returns-clause-done g c = λ honest stored.
@@ -41,7 +53,7 @@ returns-clause-done g c = λ honest stored.
     let bytes : c.deref.result.now ≡ c.in_ok-body.body.items = search rules in
     let other : c.args.entry.mode ≢ modes.Commit = search rules in
     step_put (λ (_ after : Option (List ℕ)). after ≡ file_of all c.args.entry.mode c.args.entry.id) c.args.path.now c.in_ok-body.body.items old _
-    (c.in_ok-write.ensures.ok honest ∙ ap (λ p. files.insert old p c.deref.result.now) text ∙ ap (files.insert old c.args.path.now) bytes) (file_blob all c.args.entry.mode c.args.entry.id c.in_ok-body.body.items other (c.in_ok-body.ensures.body stored))
+    (c.in_ok-write.ensures.ok honest ∙ ap (λ p. files.insert old p c.deref.result.now) text ∙ ap (files.insert old c.args.path.now) bytes) (file_blob all c.args.entry.mode c.args.entry.id c.in_ok-body.body.items other (ap (option_map (λ object. object.body)) (c.in_ok-body.ensures.blob stored)))
 
 pub returns-then-eq-clause-folders : goal.returns-then-eq-clause-folders
 returns-then-eq-clause-folders g c = λ honest.

@@ -1,0 +1,99 @@
+-- The blobs that are due, path by path.
+use Rattle.std.proofs.Common.{◌≡◌, ℕ, Bool, true, false, ◌&&◌, List, [], ◌∷◌, map, Option, Some, None, sym, ap, refl, ◌∙◌, subst}
+use Rattle.std.specs.Prelude.{T, Vec}
+use Rattle.std.specs.Global.{Global}
+use Rattle.std.specs.Cmp.Lexicographic.{slice_cmp}
+use Rattle.std.specs.FinMap.{entries, entries_sorted, get, is_sorted}
+use Rattle.std.specs.FinMap.Entries.{below_all}
+use Rattle.std.specs.List.{AllByRecursion}
+use Rattle.std.specs.List.Sorted.{IsStrictlySortedBy}
+use Rattle.std.specs.Ordering.{is_lt, nat_cmp}
+use Rattle.std.specs.declared.cmp.Ordering.{Ordering}
+use Rattle.std.specs.declared.cmp.Ordering.TheVariants.{Less, Equal, Greater}
+use Rattle.vc_files.specs.FileMap.{FileMap}
+use Rattle.vc_object.specs.Decoding.{StoredObject, stored_object}
+use Rattle.vc_object.specs.ObjectMap.{ObjectMap}
+use Rattle.vc_object.specs.declared.id.ObjectId.{ObjectId}
+use Rattle.vc_object.specs.declared.kind.Kind.TheVariants as kinds
+use Rattle.vc_object.specs.declared.mode.Mode.TheVariants as modes
+use Rattle.vc_store.specs.Store.{objects}
+use Rattle.vc_store.specs.declared.faults.StoreFault.TheVariants.{Absent, BadObject, Damaged, Fault}
+use Rattle.vc_store.proofs.StoreLemmas.{objects-absent}
+use Rattle.vc_index.specs.IndexMap.{IndexMap}
+use Rattle.vc_index.specs.declared.entry.IndexEntry.{IndexEntry}
+use Rattle.vc_index.specs.declared.faults.IndexFault.{IndexFault}
+use Rattle.vc_index.specs.declared.faults.IndexFault.TheVariants.{BadPath, PathConflict, BadIndex, WrongEntry, Missing, Store}
+use Rattle.vc_checkout.specs.Blobs.{BlamesBlob, BlamesBlobs, BlamesDue, HasDueBlob}
+use Rattle.vc_checkout.proofs.ClearLemmas.{Holds, holds_before}
+
+-- ---- one blob
+other_kind : (o : Option StoredObject) (object : StoredObject) (body : List ℕ) → o ≡ Some object → o ≡ Some (stored_object kinds.Blob body) → object.kind ≡ kinds.Blob
+other_kind o object body is there = ap (λ (x : StoredObject). x.kind) (same object (stored_object kinds.Blob body) (sym is ∙ there))
+  where
+    same : (x y : StoredObject) → Some x ≡ Some y → x ≡ y
+    same x y e = cc e
+
+-- one that is there is not to blame
+pub no_blame : (content : FileMap) (path : List ℕ) (id : ObjectId) (body : List ℕ) (e : IndexFault) → objects content id ≡ Some (stored_object kinds.Blob body) → BlamesBlob content path id e → ⊥
+no_blame content path id body BadPath there told = told
+no_blame content path id body PathConflict there told = told
+no_blame content path id body (BadIndex place) there told = told
+no_blame content path id body (WrongEntry at) there (same, object, is, other) = other (other_kind (objects content id) object body is there)
+no_blame content path id body (Missing absent) there (same, none) = cc (none, there)
+no_blame content path id body (Store (BadObject fault)) there told = told
+no_blame content path id body (Store (Absent absent)) there told = told
+no_blame content path id body (Store (Damaged damaged)) there (same, is) = let none = objects-absent content id (Damaged id) is in cc (none, there)
+no_blame content path id body (Store (Fault fault)) there told = told
+
+-- ---- one path
+module _ (objects : ObjectMap) (old new : Option IndexEntry) where
+  pub no_due : new ≡ None → HasDueBlob objects old new
+  no_due none entry is apart file = absurd (cc (none, is))
+
+  pub same_due : old ≡ new → HasDueBlob objects old new
+  same_due same entry is apart file = absurd (apart same)
+
+  same_entry : (x y : IndexEntry) → new ≡ Some x → new ≡ Some y → x ≡ y
+  same_entry x y p q = cc (p, q)
+
+  pub commit_due : (entry : IndexEntry) → new ≡ Some entry → entry.mode ≡ modes.Commit → HasDueBlob objects old new
+  commit_due entry at commit other is apart file = absurd (file (subst (λ (e : IndexEntry). e.mode ≡ modes.Commit) (same_entry entry other at is) commit))
+
+  pub blob_due : (entry : IndexEntry) (body : List ℕ) → new ≡ Some entry → objects entry.id ≡ Some (stored_object kinds.Blob body) → HasDueBlob objects old new
+  blob_due entry body at there other is apart file = (body, subst (λ (e : IndexEntry). objects e.id ≡ Some (stored_object kinds.Blob body)) (same_entry entry other at is) there)
+
+-- ---- all paths
+both_first : (a b : Bool) → T (a && b) → T a
+both_first true b p = tt
+both_first false b p = absurd p
+
+both_second : (a b : Bool) → T (a && b) → T b
+both_second true b p = p
+both_second false b p = absurd p
+
+less : (o : Ordering) → T (is_lt o) → o ≡ Less
+less Less p = refl
+less Equal p = absurd p
+less Greater p = absurd p
+
+keys_below : (k : List ℕ) (es : List (List ℕ × IndexEntry)) → T (below_all (slice_cmp nat_cmp) k es) → AllByRecursion (λ q. slice_cmp nat_cmp k q ≡ Less) (map (λ e. e.0) es)
+keys_below k [] h = tt
+keys_below k (e ∷ es) h = (less _ (both_first _ _ h), keys_below k es (both_second _ _ h))
+
+keys_rise : (es : List (List ℕ × IndexEntry)) → T (is_sorted (slice_cmp nat_cmp) es) → IsStrictlySortedBy (slice_cmp nat_cmp) (map (λ e. e.0) es)
+unfolding IsStrictlySortedBy
+keys_rise [] h = tt
+keys_rise (e ∷ es) h = (keys_below e.0 es (both_first _ _ h), keys_rise es (both_second _ _ h))
+
+-- the paths of an index are in order
+pub paths_rise : (es : List (Vec ℕ Global × IndexEntry)) (m : IndexMap) → map (λ e. (e.0.items, e.1)) es ≡ entries m → IsStrictlySortedBy (slice_cmp nat_cmp) (map (λ e. e.0.items) es)
+paths_rise es m is = subst (IsStrictlySortedBy (slice_cmp nat_cmp)) (sym (firsts es ∙ ap (map (λ (e : List ℕ × IndexEntry). e.0)) is)) (keys_rise (entries m) (entries_sorted m))
+  where
+    firsts : (es : List (Vec ℕ Global × IndexEntry)) → map (λ e. e.0.items) es ≡ map (λ (e : List ℕ × IndexEntry). e.0) (map (λ e. (e.0.items, e.1)) es)
+    firsts [] = refl
+    firsts (e ∷ es) = ap (λ rest. e.0.items ∷ rest) (firsts es)
+
+-- the first blob that is not there
+pub first_blamed : (content : FileMap) (index tree : IndexMap) (before rest : List (List ℕ)) (k : List ℕ) (cause : IndexFault) → before ≡ k ∷ rest → IsStrictlySortedBy (slice_cmp nat_cmp) before
+    → Holds (λ q. HasDueBlob (objects content) (get index q) (get tree q)) before → BlamesDue content (get index k) (get tree k) k cause → BlamesBlobs content index tree cause
+first_blamed content index tree before rest k cause first sorted so blames = (k, blames, holds_before (λ q. HasDueBlob (objects content) (get index q) (get tree q)) before rest k first sorted so)
