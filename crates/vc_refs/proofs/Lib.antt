@@ -6,3 +6,7 @@ pub mod HeadLemmas
 pub mod ListingLemmas
 pub mod PackedLemmas
 pub mod PackedTextLemmas
+pub mod LayeredLemmas
+pub mod LayeredWayLemmas
+pub mod LayeredListingLemmas
+pub mod LayeredChangeLemmas

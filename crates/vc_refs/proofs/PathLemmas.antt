@@ -74,7 +74,7 @@ found_above P q (k ∷ ks) all h =
 not_greater : (o : Ordering) → o ≡ Less → o ≢ Greater
 not_greater o less greater = cc
 
-not_above_itself : (x : List ℕ) → path_cmp x x ≢ Greater
+pub not_above_itself : (x : List ℕ) → path_cmp x x ≢ Greater
 not_above_itself x greater =
     let equal : is_eq (path_cmp x x) ≡ true = is_eq-slice_cmp x x ∙ (bytes_eq-Decides x x).1 refl in
     let other : is_eq (path_cmp x x) ≡ false = ap is_eq greater in

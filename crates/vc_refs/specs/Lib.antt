@@ -6,3 +6,5 @@ pub mod Way
 pub mod RefFault
 pub mod Packed
 pub mod PackedView
+pub mod Layered
+pub mod LayeredFault

@@ -9,6 +9,7 @@
 mod faults;
 mod head_file;
 mod heads;
+pub mod layered;
 mod listing;
 mod loose;
 mod packed;

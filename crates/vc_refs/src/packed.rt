@@ -88,6 +88,17 @@ impl PackedRefs {
         self.by_name.iter()
     }
 
+    /// The refs in the order of the names' bytes, by value.
+    pub(crate) fn into_vec(self, alloc: Global) -> Result<Vec<(RefName, ObjectId)>, AllocError>
+        ensures { IfOk result (λ refs. refs.items ≡ names.entries self) }
+    {
+        let mut refs = Vec::new(alloc);
+        for entry in self.by_name {
+            refs.push(entry)?;
+        }
+        Ok(refs)
+    }
+
     /// Sets a ref, in place of what its name stood for. If memory is short, nothing changes.
     pub fn insert(&mut self, name: RefName, id: ObjectId) -> Result<(), AllocError>
         requires { IsInRefs name }

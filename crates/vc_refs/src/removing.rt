@@ -40,7 +40,7 @@ pub fn remove<F: Files>(
 }
 
 // Removes the file of a ref.
-fn take_away<F: Files>(files: &mut F, alloc: Global, name: &RefName) -> Result<(), Fault>
+pub(crate) fn take_away<F: Files>(files: &mut F, alloc: Global, name: &RefName) -> Result<(), Fault>
     requires { IsInRefs name.now }
     ensures removed { F.honest → OnOk result (refs (F.content files.new) ≡ without_ref (refs (F.content files.old)) name.now) }
     ensures gone { F.honest → OnOk result (IsBadRef (F.content files.new) name.now → ⊥) }

@@ -40,7 +40,12 @@ pub fn set<F: Files>(
 }
 
 // Writes the file of a ref.
-fn put<F: Files>(files: &mut F, alloc: Global, name: &RefName, id: ObjectId) -> Result<(), Fault>
+pub(crate) fn put<F: Files>(
+    files: &mut F,
+    alloc: Global,
+    name: &RefName,
+    id: ObjectId,
+) -> Result<(), Fault>
     requires { IsInRefs name.now }
     ensures legal { OnOk result (is_ref name.now ≡ true) }
     ensures set { F.honest → OnOk result (refs (F.content files.new) ≡ with_ref (refs (F.content files.old)) name.now id) }

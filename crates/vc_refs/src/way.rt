@@ -35,7 +35,7 @@ fn taken_folder<'a, F: Files>(
 }
 
 // The first path, by its bytes, of a file that stands in the way of a ref at this path.
-fn first_in_the_way<F: Files>(
+pub(crate) fn first_in_the_way<F: Files>(
     files: &mut F,
     alloc: Global,
     path: &str,

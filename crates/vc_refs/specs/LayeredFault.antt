@@ -1,0 +1,94 @@
+-- When a call on layered refs succeeds, and what each refusal blames.
+use Rattle.std.specs.Prelude.{◌≡◌, ◌≢◌, ◌⊎◌, ⊤, ℕ, true, List, Option, Some, is_some, codes, string_bytes}
+use Rattle.vc_files.specs.FileMap.{FileMap}
+use Rattle.vc_object.specs.declared.id.ObjectId.{ObjectId}
+use Rattle.vc_refs.specs.Head.{IsHeadLoop, IsBadHead, head_of}
+use Rattle.vc_refs.specs.Layered.{packed_path, layered_refs, deciding_file, IsBadPackedFile, IsGoodPackedFile, IsBadFile, IsFirstBadFile, IsFirstInTheWay, IsFree}
+use Rattle.vc_refs.specs.RefFault.{IsGoodHead}
+use Rattle.vc_refs.specs.Refs.{IsBadRef}
+use Rattle.vc_refs.specs.declared.heads.Head.TheVariants.{Branch}
+use Rattle.vc_refs.specs.declared.faults.RefFault.{RefFault}
+use Rattle.vc_refs.specs.declared.faults.RefFault.TheVariants.{Stale, Conflict, BadRefFile, HeadLoop, Fault}
+
+-- a look at the packed file is refused for that file
+abbrev pub BlamesPacked : FileMap → RefFault → Type 0
+BlamesPacked content (Stale current) = ⊥
+BlamesPacked content (Conflict other) = ⊥
+BlamesPacked content (BadRefFile path) = (string_bytes path ≡ packed_path) × IsBadPackedFile content
+BlamesPacked content HeadLoop = ⊥
+BlamesPacked content (Fault fault) = ⊤
+
+-- a look at one ref is refused for the file that decides
+abbrev pub BlamesRef : FileMap → List ℕ → RefFault → Type 0
+BlamesRef content name (Stale current) = ⊥
+BlamesRef content name (Conflict other) = ⊥
+BlamesRef content name (BadRefFile path) = (string_bytes path ≡ deciding_file content name) × IsBadFile content (string_bytes path)
+BlamesRef content name HeadLoop = ⊥
+BlamesRef content name (Fault fault) = ⊤
+
+-- the ref may be changed: its value is the expected one, and the packed file and its own can be read
+pub record HasExpected (content : FileMap) (name : List ℕ) (expected : Option ObjectId) : Type 0 where
+  pub packed : IsGoodPackedFile content
+  pub current : layered_refs content name ≡ expected
+  pub good : IsBadRef content name → ⊥
+
+-- the ref may be set: besides, nothing stands in its way
+pub record MaySet (content : FileMap) (name : List ℕ) (expected : Option ObjectId) : Type 0 where
+  pub free : IsFree content name
+  pub value : HasExpected content name expected
+
+-- the value is another than the expected one, and the packed file and its own can be read
+pub record IsStale (content : FileMap) (name : List ℕ) (expected current : Option ObjectId) : Type 0 where
+  pub packed : IsGoodPackedFile content
+  pub is : layered_refs content name ≡ current
+  pub other : current ≢ expected
+  pub good : IsBadRef content name → ⊥
+
+-- the packed file comes first, and then the ref's own file or value
+abbrev pub BlamesRemove : FileMap → List ℕ → Option ObjectId → RefFault → Type 0
+BlamesRemove content name expected (Stale current) = IsStale content name expected current
+BlamesRemove content name expected (Conflict other) = ⊥
+BlamesRemove content name expected (BadRefFile path) = ((string_bytes path ≡ packed_path) × IsBadPackedFile content) ⊎ (IsGoodPackedFile content × (string_bytes path ≡ name) × IsBadRef content name)
+BlamesRemove content name expected HeadLoop = ⊥
+BlamesRemove content name expected (Fault fault) = ⊤
+
+-- between the two comes what stands in the way: a ref there is a conflict, another file a bad one
+abbrev pub BlamesSet : FileMap → List ℕ → Option ObjectId → RefFault → Type 0
+BlamesSet content name expected (Stale current) = IsFree content name × IsStale content name expected current
+BlamesSet content name expected (Conflict other) = IsGoodPackedFile content × IsFirstInTheWay content name other × (is_some (layered_refs content other) ≡ true)
+BlamesSet content name expected (BadRefFile path) =
+    ((string_bytes path ≡ packed_path) × IsBadPackedFile content)
+    ⊎ (IsGoodPackedFile content × IsBadRef content (string_bytes path) × (IsFirstInTheWay content name (string_bytes path) ⊎ ((string_bytes path ≡ name) × IsFree content name)))
+BlamesSet content name expected HeadLoop = ⊥
+BlamesSet content name expected (Fault fault) = ⊤
+
+-- the packed file comes first, and then what stands in the way
+abbrev pub BlamesWay : FileMap → List ℕ → RefFault → Type 0
+BlamesWay content name (Stale current) = ⊥
+BlamesWay content name (Conflict other) = IsGoodPackedFile content × IsFirstInTheWay content name other × (is_some (layered_refs content other) ≡ true)
+BlamesWay content name (BadRefFile path) = ((string_bytes path ≡ packed_path) × IsBadPackedFile content) ⊎ (IsGoodPackedFile content × IsBadRef content (string_bytes path) × IsFirstInTheWay content name (string_bytes path))
+BlamesWay content name HeadLoop = ⊥
+BlamesWay content name (Fault fault) = ⊤
+
+-- a listing is refused for the first bad file
+abbrev pub BlamesList : FileMap → RefFault → Type 0
+BlamesList content (Stale current) = ⊥
+BlamesList content (Conflict other) = ⊥
+BlamesList content (BadRefFile path) = IsFirstBadFile content (string_bytes path)
+BlamesList content HeadLoop = ⊥
+BlamesList content (Fault fault) = ⊤
+
+-- a look at the ref that HEAD names is refused for HEAD's own file, or for the file that decides for that ref
+abbrev pub BlamesHeadValue : FileMap → RefFault → Type 0
+BlamesHeadValue content (Stale current) = ⊥
+BlamesHeadValue content (Conflict other) = ⊥
+BlamesHeadValue content (BadRefFile path) =
+    ((string_bytes path ≡ codes "HEAD") × IsBadHead content)
+    ⊎ ((name : List ℕ) × (head_of content ≡ Some (Branch name)) × (string_bytes path ≡ deciding_file content name) × IsBadFile content (string_bytes path))
+BlamesHeadValue content HeadLoop = IsHeadLoop content
+BlamesHeadValue content (Fault fault) = ⊤
+
+-- HEAD can be read, and so can the ref that it names
+pub record IsGoodHeadValue (content : FileMap) : Type 0 where
+  pub head : IsGoodHead content
+  pub good : (name : List ℕ) → head_of content ≡ Some (Branch name) → IsBadFile content (deciding_file content name) → ⊥

@@ -1,0 +1,20 @@
+//! Refs over one packed file and the loose files over it. A name stands for what its own file spells, where that file
+//! is there, and else for what the line of `packed-refs` says. The calls have the names and the clauses of those over
+//! loose files alone, and [`pack`] beside them.
+
+mod getting;
+mod head_value;
+mod listing;
+mod packed_file;
+mod packing;
+mod removing;
+mod setting;
+mod way;
+
+pub use getting::get;
+pub use head_value::resolve_head;
+pub use listing::list;
+pub use packing::pack;
+pub use removing::remove;
+pub use setting::set;
+pub use way::refuse_conflict;

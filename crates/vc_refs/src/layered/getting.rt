@@ -1,0 +1,58 @@
+// A look at one ref.
+ghost use Rattle.std.specs.Prelude.{◌≡◌, Some, IfOk, IfErr, OnOk, IsErrOf};
+ghost use Rattle.vc_files.specs.Failures.{Wears};
+ghost use Rattle.vc_refs.specs.Layered.{deciding_file, layered_refs, packed_map, IsBadFile};
+ghost use Rattle.vc_refs.specs.LayeredFault.{BlamesRef, BlamesRemove, HasExpected};
+ghost use Rattle.vc_refs.specs.RefMap.{IsInRefs};
+ghost use Rattle.vc_refs.specs.Refs.{is_taken};
+
+use super::packed_file::read_packed;
+use crate::{PackedRefs, RefFault, loose};
+use std::alloc::Global;
+use vc_files::{Fault, Files};
+use vc_object::ObjectId;
+use vc_refname::RefName;
+
+/// The id that the ref stands for, or none where there is no such ref. The packed file is read only where no file of
+/// the ref's own is there.
+pub fn get<F: Files>(
+    files: &mut F,
+    alloc: Global,
+    name: &RefName,
+) -> Result<Option<ObjectId>, RefFault>
+    requires { IsInRefs name.now }
+    ensures found { F.honest → IfOk result (λ id. id ≡ layered_refs (F.content files.old) name.now) }
+    ensures good { F.honest → OnOk result (IsBadFile (F.content files.old) (deciding_file (F.content files.old) name.now) → ⊥) }
+    ensures refused { F.honest → IfErr result (BlamesRef (F.content files.old) name.now) }
+    ensures same { F.content files.new ≡ F.content files.old }
+    ensures wear { Wears F.failed F.can_fail F.left files.old files.new (IsErrOf result (RefFault.Fault Fault.Device)) }
+{
+    if let Some(id) = loose::get(files, alloc, name)? {
+        return Ok(Some(id));
+    }
+    let packed = read_packed(files, alloc)?;
+    Ok(packed.get(name))
+}
+
+// Refuses where the ref's value is not the expected one, and else tells whether a file of its own says it.
+pub(super) fn expect_value<F: Files>(
+    files: &mut F,
+    alloc: Global,
+    packed: &PackedRefs,
+    name: &RefName,
+    expected: Option<ObjectId>,
+) -> Result<bool, RefFault>
+    requires { IsInRefs name.now }
+    ensures loose { F.honest → IfOk result (λ loose. loose ≡ is_taken (F.content files.old) name.now) }
+    ensures allowed { F.honest → packed_map (F.content files.old) ≡ Some packed.now → OnOk result (HasExpected (F.content files.old) name.now expected) }
+    ensures refused { F.honest → packed_map (F.content files.old) ≡ Some packed.now → IfErr result (BlamesRemove (F.content files.old) name.now expected) }
+    ensures same { F.content files.new ≡ F.content files.old }
+    ensures wear { Wears F.failed F.can_fail F.left files.old files.new (IsErrOf result (RefFault.Fault Fault.Device)) }
+{
+    let loose = loose::get(files, alloc, name)?;
+    let current = loose.or(packed.get(name));
+    if current != expected {
+        return Err(RefFault::Stale(current));
+    }
+    Ok(loose.is_some())
+}

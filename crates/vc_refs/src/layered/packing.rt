@@ -1,0 +1,47 @@
+// Packing all refs.
+ghost use Rattle.std.specs.Prelude.{◌≡◌, ◌⊎◌, IfErr, OnOk, IsErrOf, codes, map, string_bytes};
+ghost use Rattle.vc_files.specs.FileMap.{paths_under};
+ghost use Rattle.vc_files.specs.Failures.{Wears, Writes};
+ghost use Rattle.vc_refs.specs.Layered.{layered_refs, AreGone, HasLoose, IsPackedFrom, KeepsOutside, LosesSome, SpellsRefs};
+ghost use Rattle.vc_refs.specs.LayeredFault.{BlamesList};
+ghost use Rattle.vc_refs.specs.RefFault.{IsFault};
+
+use super::listing::all_refs;
+use super::packed_file::write_packed;
+use crate::RefFault;
+use std::alloc::Global;
+use vc_files::{Fault, Files};
+
+/// Puts all refs into the packed file, and removes their own files then. The packed file has each ref before the first
+/// of these goes, so wherever it stops, the refs are as before. Where no file is in `refs/`, it writes nothing.
+pub fn pack<F: Files>(files: &mut F, alloc: Global) -> Result<(), RefFault>
+    ensures packed { F.honest → OnOk result (IsPackedFrom (F.content files.old) (F.content files.new)) }
+    ensures good { F.honest → OnOk result (SpellsRefs (F.content files.old)) }
+    ensures refused { F.honest → IfErr result (BlamesList (F.content files.old)) }
+    ensures kept { F.honest → layered_refs (F.content files.new) ≡ layered_refs (F.content files.old) }
+    ensures rest { F.honest → KeepsOutside (F.content files.old) (F.content files.new) }
+    ensures err { F.honest → IfErr result (λ e. IsFault e ⊎ (F.content files.new ≡ F.content files.old)) }
+    ensures wear { Writes F.honest F.content F.failed F.can_fail F.left files.old files.new (IsErrOf result (RefFault.Fault Fault.Device)) }
+    ensures looks { F.honest → HasLoose (F.content files.old) ⊎ Wears F.failed F.can_fail F.left files.old files.new (IsErrOf result (RefFault.Fault Fault.Device)) }
+{
+    let paths = files.list(alloc, "refs/")?;
+    let refs = all_refs(files, alloc, &paths)?;
+    if paths.is_empty() {
+        return Ok(());
+    }
+    write_packed(files, alloc, &refs)?;
+    remove_all(files, alloc, &paths)?;
+    Ok(())
+}
+
+// Removes the files at these paths.
+fn remove_all<F: Files>(files: &mut F, alloc: Global, paths: &[String]) -> Result<(), Fault>
+    ensures lost { F.honest → LosesSome (map string_bytes paths.now) (F.content files.old) (F.content files.new) }
+    ensures gone { F.honest → OnOk result (AreGone (map string_bytes paths.now) (F.content files.new)) }
+    ensures wear { Writes F.honest F.content F.failed F.can_fail F.left files.old files.new (IsErrOf result Fault.Device) }
+{
+    for path in paths {
+        files.remove(alloc, path.as_str())?;
+    }
+    Ok(())
+}
