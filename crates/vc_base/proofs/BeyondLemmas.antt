@@ -1,5 +1,5 @@
 -- The walk over a history that ends at names with a number.
-use Rattle.std.proofs.Common.{◌≡◌, ℕ, ◌+◌, ◌<◌, ◌≤◌, ◌⊎◌, inl, inr, ⊎_elim, Bool, true, false, List, [], ◌∷◌, length, get_or, filter, is_none, if◌then◌else◌, Option, Some, None, IsSome, Contains, MatchOption, sym, ap, subst, ◌∙◌, refl, true≢false, arith, length-append}
+use Rattle.std.proofs.Common.{◌≡◌, ◌≢◌, ℕ, ◌+◌, ◌<◌, ◌≤◌, ◌⊎◌, inl, inr, ⊎_elim, Bool, true, false, List, [], ◌∷◌, length, get_or, filter, is_none, if◌then◌else◌, Option, Some, None, IsSome, Contains, MatchOption, sym, ap, subst, ◌∙◌, refl, true≢false, arith, length-append}
 use Rattle.std.specs.Option.{option_map}
 use Rattle.std.proofs.Math.ListN.{get_or-append}
 use Rattle.std.proofs.Math.Seq.{get_or-append_seam}
@@ -106,6 +106,17 @@ module _ (objects : ObjectMap) (known : ObjectId → Option ℕ) where
         | inl b ↦ before k b
         | inr l ↦ let is : length read ≡ k = omega (arith, l, below, read-more) in subst P is last
       ]
+
+      -- where no other object was met by now, none was met before, and the next is a commit
+      pub other-before_next : other_after ≡ None → (other ≡ None) × IsSome (parents_in objects id)
+      other-before_next none = ⊎_elim (λ c. (sym c.1 ∙ none, subst (λ p. IsSome p) (sym c.0) refl))
+          (λ o. let not_none : None ≡ Some id = sym none ∙ o.2 in absurd (cc)) step.kind
+
+      -- a name that was not read before, and is not the next, was not read
+      pub unread-after : (a : ObjectId) → ((k : ℕ) (d : ObjectId) → k < length read → get_or met k d ≢ a) → id ≢ a → (k : ℕ) (d : ObjectId) → k < length read_after → get_or met_after k d ≢ a
+      unread-after a unread differs k d = read-cases (λ k. get_or met_after k d ≢ a)
+          (λ k below is. unread k d below (sym (met-stays k d (omega (arith, below, read-within))) ∙ is))
+          (λ is. differs (sym (read-next d) ∙ is)) k
 
       pub MeetsBeyond-reads : MeetsBeyond met read other → MeetsBeyond met_after read_after other_after
       MeetsBeyond-reads meets = record {

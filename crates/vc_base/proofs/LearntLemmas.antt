@@ -14,7 +14,7 @@ pub value_of : {X : Type 0} (o : Option X) → IsSome o → (x : X) × (o ≡ So
 value_of None h = absurd (true≢false (sym h))
 value_of (Some x) h = (x, refl)
 
-some_of : {X : Type 0} (o : Option X) (x : X) → o ≡ Some x → IsSome o
+pub some_of : {X : Type 0} (o : Option X) (x : X) → o ≡ Some x → IsSome o
 some_of o x e = subst (λ p. IsSome p) (sym e) refl
 
 module _ (objects : ObjectMap) (known : ObjectId → Option ℕ) (root : ObjectId) (met : List ObjectId) (read : List (List ObjectId))

@@ -7,3 +7,4 @@ pub mod LearntLemmas
 pub mod NumberingLemmas
 pub mod PassedLemmas
 pub mod OverlayLemmas
+pub mod TowardLemmas

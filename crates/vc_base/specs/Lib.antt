@@ -4,4 +4,5 @@ pub mod History
 pub mod Numbering
 pub mod Parents
 pub mod Passed
+pub mod Toward
 pub mod Walk
