@@ -11,6 +11,7 @@ mod laws;
 pub mod numbered;
 mod numbering;
 mod overlay;
+mod part;
 mod selection;
 mod source;
 mod store;

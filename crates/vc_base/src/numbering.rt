@@ -36,7 +36,7 @@ pub(crate) fn read_beyond_known<C: Commits>(
     known: &IndexMap<ObjectId, u64>,
     root: &ObjectId,
 ) -> Result<Walk, BaseFault>
-    ensures gathered { IfOk result (λ w. C.is_honest → GathersBeyond (C.objects (C.state_of commits.old)) (get id_eq known.now) root.now w.met.keys (map (λ v. v.items) w.parents.items)) }
+    ensures gathered { IfOk result (λ w. C.is_honest → GathersBeyond (C.objects (C.state_of commits.old)) (get id_eq known.now) (root.now ∷ []) w.met.keys (map (λ v. v.items) w.parents.items)) }
     ensures refused { IfErr result (λ e. C.is_honest → Agrees (parents_in (C.objects (C.state_of commits.old))) (get id_eq known.now) → IsTold (C.objects (C.state_of commits.old)) (C.damaged (C.state_of commits.old)) (root.now ∷ []) e) }
 
     ensures kept { C.state_of commits.new ≡ C.state_of commits.old }

@@ -51,7 +51,7 @@ returns-in_err-id-clause-refused g c =
     let damaged = g.C.Objects.damaged (g.C.Objects.state_of c.args.commits.now) in
     let b = c.args.b.now in
     let h = rw before.kept at c.in_err-id.ensures.refused in
-    let told = λ (honest : g.C.Objects.is_honest). IsTold-from_next objects (b ∷ []) damaged _ (λ id at. MeetsBeyond-reached objects _ b _ _ _ (before.meets honest) id (Contains-from_slice_get _ _ id at)) _ (h honest) in
+    let told = λ (honest : g.C.Objects.is_honest). IsTold-from_next objects (b ∷ []) damaged _ (λ id at. MeetsBeyond-reached objects _ (b ∷ []) _ _ _ (before.meets honest) id (Contains-from_slice_get _ _ id at)) _ (h honest) in
     grind (arith, common_steps, told)
 
 pub returns-then-is_none-clause-answer : goal.returns-then-is_none-clause-answer
@@ -62,7 +62,7 @@ returns-then-is_none-clause-answer g c honest agrees =
     let id : ObjectId = c.in_ok-id.id in
     let a : ObjectId = c.args.a.now in
     let same : id ≡ a = id_eq-same id a (sym c.eq.ensures ∙ c.if-eq.true) in
-    let reached = MeetsBeyond-reached objects _ c.args.b.now _ _ _ (before.meets honest) id (Contains-from_slice_get _ _ id step.next) in
+    let reached = MeetsBeyond-reached objects _ (c.args.b.now ∷ []) _ _ _ (before.meets honest) id (Contains-from_slice_get _ _ id step.next) in
     (λ yes. subst (λ (x : ObjectId). IsAncestor (parents_in objects) x c.args.b.now) same (Reaches-from_one (parents_in objects) c.args.b.now id reached), λ r. refl)
 
 pub returns-then-is_none-clause-commit : goal.returns-then-is_none-clause-commit
@@ -74,7 +74,7 @@ returns-then-is_none-clause-commit g c honest agrees positive =
     let a : ObjectId = c.args.a.now in
     let same : id ≡ a = id_eq-same id a (sym c.eq.ensures ∙ c.if-eq.true) in
     let none : c.read_next_toward.new.walk.other ≡ None = is_none-same c.read_next_toward.new.walk.other (search (rules, c.is_none.ensures, c.if-is_none.true)) in
-    subst (λ (x : ObjectId). IsSome (parents_in objects x)) same (other-before_next objects _ c.args.b.now _ _ _ _ _ _ _ step none).1
+    subst (λ (x : ObjectId). IsSome (parents_in objects x)) same (other-before_next objects _ (c.args.b.now ∷ []) _ _ _ _ _ _ _ step none).1
 
 pub reading-preserved : goal.reading-preserved
 reading-preserved g c =
@@ -90,12 +90,12 @@ reading-preserved g c =
           MeetsBeyond-reads _ _ _ _ _ _ _ _ _ _ step (before.meets honest);
       unmet = λ honest other.
           let step = rw before.kept at (c.in_ok-id.ensures.reads honest) in
-          let was = other-before_next objects _ c.args.b.now _ _ _ _ _ _ _ step other in
+          let was = other-before_next objects _ (c.args.b.now ∷ []) _ _ _ _ _ _ _ step other in
           let differs : id ≢ a = elim c.else-eq.branch [
             | else-eq-via-then-eq+else-is_none w ↦ λ is. let h : is_none c.read_next_toward.new.walk.other ≡ false = search (rules, w.is_none.ensures, w.if-is_none.false) in true≢false (sym (ap is_none other) ∙ h)
             | else-eq-via-else-eq w ↦ λ is. true≢false (sym (id_eq_equiv.refl a) ∙ ap (λ (x : ObjectId). id_eq x a) (sym is) ∙ sym c.eq.ensures ∙ w.if-eq.false)
           ] in
-          unread-after objects _ c.args.b.now _ _ _ _ _ _ _ step a (before.unmet honest was.0) differs;
+          unread-after objects _ (c.args.b.now ∷ []) _ _ _ _ _ _ _ step a (before.unmet honest was.0) differs;
     }
 
 pub returns-in-Some-clause-refused : goal.returns-in-Some-clause-refused
