@@ -1,10 +1,10 @@
 -- The walk over a history that ends at names with a number.
-use Rattle.std.proofs.Common.{◌≡◌, ℕ, ◌+◌, ◌<◌, ◌≤◌, ◌⊎◌, inl, inr, ⊎_elim, Bool, true, false, List, [], ◌∷◌, length, get_or, filter, is_none, if◌then◌else◌, Option, Some, None, IsSome, Contains, MatchOption, sym, ap, subst, ◌∙◌, refl, true≢false, arith, length-append}
+use Rattle.std.proofs.Common.{◌≡◌, ◌≢◌, ℕ, ◌+◌, ◌<◌, ◌≤◌, ◌⊎◌, inl, inr, ⊎_elim, Bool, true, false, List, [], ◌∷◌, length, get_or, filter, is_none, if◌then◌else◌, Option, Some, None, IsSome, Contains, MatchOption, sym, ap, subst, ◌∙◌, refl, true≢false, arith, length-append}
 use Rattle.std.specs.Option.{option_map}
 use Rattle.std.proofs.Math.ListN.{get_or-append}
 use Rattle.std.proofs.Math.Seq.{get_or-append_seam}
 use Rattle.std.proofs.lemmas.Bool.{cases_lt}
-use Rattle.std.proofs.lemmas.List.Elements.{Contains-append_cases, Contains-append_left, Contains-append_right, Contains-push_cases, Contains-push}
+use Rattle.std.proofs.lemmas.List.Elements.{All-contains, filter_passes, Contains-append_cases, Contains-append_left, Contains-append_right, Contains-push_cases, Contains-push}
 use Rattle.std.proofs.lemmas.List.Quantifiers.{position-Some}
 use Rattle.std.proofs.lemmas.Option.{get_or_from_slice_get, slice_get_within}
 use Rattle.indexmap.specs.IndexSet.{insert_all}
@@ -14,7 +14,7 @@ use Rattle.vc_object.specs.declared.id.ObjectId.{ObjectId}
 use Rattle.vc_object.proofs.IdLemmas.{id_eq-same, id_eq_equiv}
 use Rattle.vc_object.proofs.ObjectMaps.{parents_in-none}
 use Rattle.vc_graph.specs.Graph.{LinksTo, Reaches, ReachedFrom, itself, onward}
-use Rattle.vc_graph.proofs.WalkLemmas.{Walks, Walks-start, Walks-step, insert_all-prefix, Contains-insert_all_old, Contains-from_slice_get, IsFollowed-none, Reaches-from_one}
+use Rattle.vc_graph.proofs.WalkLemmas.{Walks, Walks-start, Walks-step, insert_all-prefix, Contains-insert_all_old, Contains-from_slice_get, IsFollowed-none}
 use Rattle.vc_base.specs.BaseFault.{IsTold}
 use Rattle.vc_base.specs.Generation.{Agrees}
 use Rattle.vc_base.specs.Numbering.{GathersBeyond, ReadsBeyond, unnumbered}
@@ -66,17 +66,31 @@ module _ (objects : ObjectMap) (known : ObjectId → Option ℕ) where
           let same : unnumbered known ys ≡ h.0 = cc in
           (ys, e, Contains-from_filter (λ id. is_none (known id)) ys y (subst (λ l. Contains l y) (sym same) h.2))
 
-  module _ (root : ObjectId) where
+  LinksTo-unnumbered : (x y : ObjectId) → LinksTo steps_beyond x y → known y ≡ None
+  unfolding steps_beyond
+  LinksTo-unnumbered x y h = by (steps_in objects x) refl h.1
+    where
+      none : (o : Option ℕ) → is_none o ≡ true → o ≡ None
+      none None e = refl
+      none (Some n) e = absurd (true≢false (sym e))
+
+      by : (o : Option (List ObjectId)) → steps_in objects x ≡ o → option_map (unnumbered known) o ≡ Some h.0 → known y ≡ None
+      by None e is = absurd (cc)
+      by (Some ys) e is =
+          let same : unnumbered known ys ≡ h.0 = cc in
+          none (known y) (All-contains (λ z. is_none (known z) ≡ true) (unnumbered known ys) y (filter_passes (λ id. is_none (known id)) ys) (subst (λ l. Contains l y) (sym same) h.2))
+
+  module _ (roots : List ObjectId) where
     -- the walk so far: the parents of the first names are read, and where no other object was met, these are commits
     pub record MeetsBeyond (met : List ObjectId) (read : List (List ObjectId)) (other : Option ObjectId) : Type 0 where
-      pub walks : Walks steps_beyond (root ∷ []) met (length read)
+      pub walks : Walks steps_beyond roots met (length read)
       pub stands : (k : ℕ) (d : ObjectId) → k < length read → steps_in objects (get_or met k d) ≡ Some (get_or read k [])
       pub others : MatchOption other ((k : ℕ) (d : ObjectId) → k < length read → IsSome (parents_in objects (get_or met k d))) (λ id. Contains met id × IsOther objects id)
 
-    pub MeetsBeyond-start : (met : List ObjectId) (read : List (List ObjectId)) (other : Option ObjectId) → met ≡ insert_all id_eq [] (root ∷ []) → read ≡ [] → other ≡ None → MeetsBeyond met read other
+    pub MeetsBeyond-start : (met : List ObjectId) (read : List (List ObjectId)) (other : Option ObjectId) → met ≡ insert_all id_eq [] roots → read ≡ [] → other ≡ None → MeetsBeyond met read other
     MeetsBeyond-start met read other added none no_other =
         let start : MeetsBeyond met [] None = record {
-          walks = Walks-start steps_beyond [] (root ∷ []) id_eq id_eq-same met (IsFollowed-none steps_beyond [] refl) added;
+          walks = Walks-start steps_beyond [] roots id_eq id_eq-same met (IsFollowed-none steps_beyond [] refl) added;
           stands = λ k d below. absurd (omega (arith, below));
           others = λ k d below. absurd (omega (arith, below));
         } in
@@ -107,10 +121,21 @@ module _ (objects : ObjectMap) (known : ObjectId → Option ℕ) where
         | inr l ↦ let is : length read ≡ k = omega (arith, l, below, read-more) in subst P is last
       ]
 
+      -- where no other object was met by now, none was met before, and the next is a commit
+      pub other-before_next : other_after ≡ None → (other ≡ None) × IsSome (parents_in objects id)
+      other-before_next none = ⊎_elim (λ c. (sym c.1 ∙ none, subst (λ p. IsSome p) (sym c.0) refl))
+          (λ o. let not_none : None ≡ Some id = sym none ∙ o.2 in absurd (cc)) step.kind
+
+      -- a name that was not read before, and is not the next, was not read
+      pub unread-after : (a : ObjectId) → ((k : ℕ) (d : ObjectId) → k < length read → get_or met k d ≢ a) → id ≢ a → (k : ℕ) (d : ObjectId) → k < length read_after → get_or met_after k d ≢ a
+      unread-after a unread differs k d = read-cases (λ k. get_or met_after k d ≢ a)
+          (λ k below is. unread k d below (sym (met-stays k d (omega (arith, below, read-within))) ∙ is))
+          (λ is. differs (sym (read-next d) ∙ is)) k
+
       pub MeetsBeyond-reads : MeetsBeyond met read other → MeetsBeyond met_after read_after other_after
       MeetsBeyond-reads meets = record {
-        walks = subst (λ n. Walks steps_beyond (root ∷ []) met_after n) (sym read-more)
-            (Walks-step steps_beyond (root ∷ []) id_eq id_eq-same met met_after (unnumbered known step.own) (length read) id meets.walks step.next (steps_beyond-is id step.own goes) step.met_own);
+        walks = subst (λ n. Walks steps_beyond roots met_after n) (sym read-more)
+            (Walks-step steps_beyond roots id_eq id_eq-same met met_after (unnumbered known step.own) (length read) id meets.walks step.next (steps_beyond-is id step.own goes) step.met_own);
         stands = λ k d. read-cases (λ k. steps_in objects (get_or met_after k d) ≡ Some (get_or read_after k []))
             (λ k below. ap (steps_in objects) (met-stays k d (omega (arith, below, read-within))) ∙ meets.stands k d below
             ∙ ap Some (sym (ap (λ l. get_or l k []) step.read_own ∙ get_or-append read (step.own ∷ []) [] k below)))
@@ -135,15 +160,12 @@ module _ (objects : ObjectMap) (known : ObjectId → Option ℕ) where
 
     module _ (met : List ObjectId) (read : List (List ObjectId)) (other : Option ObjectId) (meets : MeetsBeyond met read other) where
       -- each name that was met is reached
-      pub MeetsBeyond-reached : (id : ObjectId) → Contains met id → ReachedFrom (parents_in objects) (root ∷ []) id
+      pub MeetsBeyond-reached : (id : ObjectId) → Contains met id → ReachedFrom (parents_in objects) roots id
       MeetsBeyond-reached id at =
           let h = meets.walks.reached id at in
           record { root = h.root; is_root = h.is_root; reaches = Reaches-same _ _ (LinksTo-steps objects) (Reaches-same _ _ LinksTo-beyond h.reaches) }
 
       module _ (end : length met ≤ length read) where
-        root_met : Contains met root
-        root_met = meets.walks.rooted root (0, omega arith, refl)
-
         -- at its end the walk has read what it has met
         stood : (x : ObjectId) → Contains met x → steps_in objects x ≡ Some (parents_read met read x)
         stood x at =
@@ -166,14 +188,19 @@ module _ (objects : ObjectMap) (known : ObjectId → Option ℕ) where
                 inl (f.2 y (subst (λ l. Contains l y) (sym same) (Contains-filter (λ id. is_none (known id)) (parents_read met read x) y is (ap is_none e))))
 
         -- where no other object was met, it has gathered the history
-        pub gathered_beyond : other ≡ None → GathersBeyond objects known root met read
+        pub gathered_beyond : other ≡ None → GathersBeyond objects known roots met read
         gathered_beyond none = record {
-          reached = λ x at. Reaches-from_one (parents_in objects) root x (MeetsBeyond-reached x at);
-          rooted = root_met;
+          reached = MeetsBeyond-reached;
+          rooted = meets.walks.rooted;
+          beyond = λ x at. let r = meets.walks.reached x at in unnumbered_or_root r.root r.is_root r.reaches;
           parents = λ x at. commit x at (parents_in objects x) refl (subst (λ y. IsSome (parents_in objects y)) at.2 (commits other none meets.others at.0 x (omega (arith, at.1, end))));
           onward = onward_read;
         }
           where
+            unnumbered_or_root : (r : ObjectId) → Contains roots r → {x : ObjectId} → Reaches steps_beyond r x → Contains roots x ⊎ (known x ≡ None)
+            unnumbered_or_root r is_root itself = inl is_root
+            unnumbered_or_root r is_root (onward {y} {z} way link) = inr (LinksTo-unnumbered y z link)
+
             commits : (o : Option ObjectId) → o ≡ None → MatchOption o ((k : ℕ) (d : ObjectId) → k < length read → IsSome (parents_in objects (get_or met k d))) (λ id. Contains met id × IsOther objects id)
                 → (k : ℕ) (d : ObjectId) → k < length read → IsSome (parents_in objects (get_or met k d))
             commits None e h = h
@@ -184,15 +211,15 @@ module _ (objects : ObjectMap) (known : ObjectId → Option ℕ) where
             commit x at (Some ys) e some = e ∙ sym (steps_in-commit objects x ys e) ∙ stood x at
 
         module _ (agrees : Agrees (parents_in objects) known) where
-          met_or_known : {x : ObjectId} → Reaches (parents_in objects) root x → Contains met x ⊎ IsSome (known x)
-          met_or_known itself = inl root_met
-          met_or_known (onward {y} {z} way link) = ⊎_elim
+          met_or_known : (r : ObjectId) → Contains roots r → {x : ObjectId} → Reaches (parents_in objects) r x → Contains met x ⊎ IsSome (known x)
+          met_or_known r is_root itself = inl (meets.walks.rooted r is_root)
+          met_or_known r is_root (onward {y} {z} way link) = ⊎_elim
               (λ at.
               let linked = LinksTo-parents objects y z link in
               let same : linked.0 ≡ parents_read met read y = let e : Some linked.0 ≡ Some (parents_read met read y) = sym linked.1 ∙ stood y at in cc in
               onward_read y z at (subst (λ ys. Contains ys z) same linked.2))
               (λ some. inr (agrees.onward y z some link))
-              (met_or_known way)
+              (met_or_known r is_root way)
 
           there : (x : ObjectId) (o : Option ℕ) → known x ≡ o → IsSome o → IsSome (objects x)
           there x None e h = absurd (true≢false (sym h))
@@ -202,17 +229,17 @@ module _ (objects : ObjectMap) (known : ObjectId → Option ℕ) where
               commit_there x None e h = absurd (true≢false (sym (subst (λ p. IsSome p) (parents_in-none objects x e) h)))
               commit_there x (Some o) e h = refl
 
-          all_there : (y : ObjectId) → ReachedFrom (parents_in objects) (root ∷ []) y → IsSome (objects y)
+          all_there : (y : ObjectId) → ReachedFrom (parents_in objects) roots y → IsSome (objects y)
           all_there y r = ⊎_elim (λ at. there-from_steps objects y (subst (λ o. IsSome o) (sym (stood y at)) refl))
               (λ some. there y (known y) refl some)
-              (met_or_known (Reaches-from_one (parents_in objects) root y r))
+              (met_or_known r.root r.is_root r.reaches)
 
           -- an other object is told
-          pub other_told : (IsDamaged : ObjectId → Type 0) (id : ObjectId) → other ≡ Some id → IsTold objects IsDamaged (root ∷ []) (NotACommit id)
+          pub other_told : (IsDamaged : ObjectId → Type 0) (id : ObjectId) → other ≡ Some id → IsTold objects IsDamaged roots (NotACommit id)
           other_told IsDamaged id is = by other is meets.others
             where
               by : (o : Option ObjectId) → o ≡ Some id → MatchOption o ((k : ℕ) (d : ObjectId) → k < length read → IsSome (parents_in objects (get_or met k d))) (λ x. Contains met x × IsOther objects x)
-                  → IsTold objects IsDamaged (root ∷ []) (NotACommit id)
+                  → IsTold objects IsDamaged roots (NotACommit id)
               by None e h = absurd (cc)
               by (Some x) e h =
                   let same : x ≡ id = cc in

@@ -9,7 +9,7 @@ use Rattle.vc_object.specs.declared.id.ObjectId.{ObjectId}
 use Rattle.vc_graph.specs.Graph.{LinksTo, Reaches, ReachedFrom, itself, onward}
 use Rattle.vc_graph.proofs.WalkLemmas.{Reaches-trans}
 use Rattle.vc_base.proofs.HistoryLemmas.{Reaches-same}
-use Rattle.vc_base.specs.History.{IsCommonAncestor, IsBestCommonAncestor, IsSelected}
+use Rattle.vc_base.specs.History.{IsCommonAncestor, IsSelected}
 use Rattle.vc_base.specs.Walk.{Gathers, graph_read, parents_read, read_at}
 
 module _ (objects : ObjectMap) (roots met : List ObjectId) (read : List (List ObjectId)) (all : Gathers objects roots met read) where
@@ -47,7 +47,7 @@ module _ (objects : ObjectMap) (roots met : List ObjectId) (read : List (List Ob
   Reaches-read at itself = itself
   Reaches-read {x} at (onward {y} {z} r l) = onward (Reaches-read at r) (parents_read met read y, refl, (all.parents y z (reached-met x y at r)).1 l)
 
-  -- common ancestors of two roots, and the best of them, are the same in what was read
+  -- common ancestors of two roots are the same in what was read
   module _ (a b : ObjectId) (is_a : Contains roots a) (is_b : Contains roots b) where
     common-read : (c : ObjectId) → IsCommonAncestor (parents_in objects) a b c → IsCommonAncestor (graph_read met read) a b c
     common-read c h = (Reaches-read (root-met a is_a) h.0, Reaches-read (root-met b is_b) h.1)
@@ -57,18 +57,6 @@ module _ (objects : ObjectMap) (roots met : List ObjectId) (read : List (List Ob
 
     pub same-common : (c : ObjectId) → IsCommonAncestor (graph_read met read) a b c ↔ IsCommonAncestor (parents_in objects) a b c
     same-common c = (common-from_read c, common-read c)
-
-    pub best-read : (c : ObjectId) → IsBestCommonAncestor (graph_read met read) a b c ↔ IsBestCommonAncestor (parents_in objects) a b c
-    best-read c = (
-      λ h. record {
-        common = common-from_read c h.common;
-        best = λ d shared differs back. h.best d (common-read d shared) differs (Reaches-read (reached-met a d (root-met a is_a) shared.0) back);
-      },
-      λ h. record {
-        common = common-read c h.common;
-        best = λ d shared differs back. h.best d (common-from_read d shared) differs (Reaches-from_read d c back);
-      },
-    )
 
 -- what was met and is no ancestor of an excluded commit is selected
 module _ (objects : ObjectMap) (include exclude met : List ObjectId) (read : List (List ObjectId)) (all : Gathers objects (include ++ exclude) met read)

@@ -21,6 +21,13 @@ module _ {Id : Type 0} (parents : Id → Option (List Id)) where
   HasGeneration-one x n m g h =
       omega (arith, g.one_more, h.one_more, h.none_longer g.length_of_longest g.last g.longest, g.none_longer h.length_of_longest h.last h.longest)
 
+  -- where nothing has a number, no number is wrong
+  pub agrees_where_none : (numbers : Id → Option ℕ) → ((x : Id) → numbers x ≡ None) → Agrees parents numbers
+  agrees_where_none numbers none = record {
+    generation = λ x n is. let no : None ≡ Some n = sym (none x) ∙ is in absurd (cc);
+    onward = λ x y some link. absurd (true≢false (sym (subst (λ o. IsSome o) (none x) some)));
+  }
+
   -- a parent's is less than its child's
   pub HasGeneration-parent : (x y : Id) (n m : ℕ) → HasGeneration parents x n → HasGeneration parents y m → LinksTo parents x y → m < n
   HasGeneration-parent x y n m g h link =

@@ -1,6 +1,7 @@
 -- What a history that was read and numbered says of generations.
-use Rattle.std.proofs.Common.{◌≡◌, ℕ, zero, suc, ◌+◌, ◌<◌, ◌^◌, ◌⊎◌, inl, inr, ⊎_elim, List, Option, Some, None, IsSome, Contains, ◌↔◌, sym, ap, subst, ◌∙◌, refl, arith, true≢false}
+use Rattle.std.proofs.Common.{◌≡◌, ℕ, zero, suc, ◌+◌, ◌<◌, ◌^◌, ◌⊎◌, inl, inr, ⊎_elim, List, [], ◌∷◌, Option, Some, None, IsSome, Contains, ◌↔◌, sym, ap, subst, ◌∙◌, refl, arith, true≢false}
 use Rattle.vc_graph.specs.Graph.{LinksTo, Reaches, IsClosed, itself, onward}
+use Rattle.vc_graph.proofs.WalkLemmas.{Reaches-from_one}
 use Rattle.vc_object.specs.ObjectMap.{ObjectMap, parents_in}
 use Rattle.vc_object.specs.declared.id.ObjectId.{ObjectId}
 use Rattle.vc_base.specs.Generation.{Agrees, HasGeneration, Leads}
@@ -14,14 +15,14 @@ pub value_of : {X : Type 0} (o : Option X) → IsSome o → (x : X) × (o ≡ So
 value_of None h = absurd (true≢false (sym h))
 value_of (Some x) h = (x, refl)
 
-some_of : {X : Type 0} (o : Option X) (x : X) → o ≡ Some x → IsSome o
+pub some_of : {X : Type 0} (o : Option X) (x : X) → o ≡ Some x → IsSome o
 some_of o x e = subst (λ p. IsSome p) (sym e) refl
 
 module _ (objects : ObjectMap) (known : ObjectId → Option ℕ) (root : ObjectId) (met : List ObjectId) (read : List (List ObjectId))
-    (gathers : GathersBeyond objects known root met read) (agrees : Agrees (parents_in objects) known) where
+    (gathers : GathersBeyond objects known (root ∷ []) met read) (agrees : Agrees (parents_in objects) known) where
   -- what the root reaches was met or is known
   pub met_or_known : {x : ObjectId} → Reaches (parents_in objects) root x → Contains met x ⊎ IsSome (known x)
-  met_or_known itself = inl gathers.rooted
+  met_or_known itself = inl (gathers.rooted root (0, omega arith, refl))
   met_or_known (onward {y} {z} way link) = ⊎_elim
       (λ at. gathers.onward y z at (Contains-from_LinksTo (parents_in objects) y z (parents_read met read y) (gathers.parents y at) link))
       (λ some. inr (agrees.onward y z some link))
@@ -77,7 +78,7 @@ module _ (objects : ObjectMap) (known : ObjectId → Option ℕ) (root : ObjectI
     -- the numbers are those that were known, and the generations of what the root reaches
     pub learnt : (x : ObjectId) (n : ℕ) → now x ≡ Some n ↔ ((known x ≡ Some n) ⊎ (IsAncestor (parents_in objects) x root × HasGeneration (parents_in objects) x n × (n < 2 ^ 64)))
     learnt x n = (
-      λ is. ⊎_elim inl (λ (h : Contains met x × IsOver now (parents_read met read x) n). inr (gathers.reached x h.0, Agrees-now.generation x n is, h.1.fits)) (numbered.added x n is),
+      λ is. ⊎_elim inl (λ (h : Contains met x × IsOver now (parents_read met read x) n). inr (Reaches-from_one (parents_in objects) root x (gathers.reached x h.0), Agrees-now.generation x n is, h.1.fits)) (numbered.added x n is),
       λ h. ⊎_elim (numbered.grown x n)
           (λ (l : IsAncestor (parents_in objects) x root × HasGeneration (parents_in objects) x n × (n < 2 ^ 64)).
           let some : IsSome (now x) = ⊎_elim (λ at. complete n x l.2 at l.1.none_longer)

@@ -5,5 +5,7 @@ pub mod GenerationLemmas
 pub mod HistoryLemmas
 pub mod LearntLemmas
 pub mod NumberingLemmas
+pub mod PartLemmas
 pub mod PassedLemmas
 pub mod OverlayLemmas
+pub mod TowardLemmas

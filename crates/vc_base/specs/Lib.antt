@@ -3,5 +3,7 @@ pub mod Generation
 pub mod History
 pub mod Numbering
 pub mod Parents
+pub mod Part
 pub mod Passed
+pub mod Toward
 pub mod Walk

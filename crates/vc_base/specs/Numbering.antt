@@ -2,9 +2,8 @@
 use Rattle.std.specs.Prelude.{◌≡◌, ◌⊎◌, ◌++◌, ◌+◌, ◌≤◌, ◌<◌, ◌^◌, ℕ, false, List, [], ◌∷◌, Option, Some, None, IsSome, Contains, is_none, filter, length, get_or, slice_get, position}
 use Rattle.indexmap.specs.IndexMap.{get}
 use Rattle.indexmap.specs.IndexSet.{insert_all}
-use Rattle.vc_base.specs.History.{IsAncestor}
-use Rattle.vc_base.specs.Parents.{IsOther}
-use Rattle.vc_base.specs.Walk.{parents_read}
+use Rattle.vc_graph.specs.Graph.{ReachedFrom}
+use Rattle.vc_base.specs.Walk.{IsReadOf, parents_read}
 use Rattle.vc_base.specs.declared.generations.Generations.{Generations}
 use Rattle.vc_object.specs.ObjectId.{id_eq}
 use Rattle.vc_object.specs.ObjectMap.{ObjectMap, parents_in}
@@ -19,19 +18,20 @@ abbrev pub unnumbered : (ObjectId → Option ℕ) → List ObjectId → List Obj
 unnumbered known ids = filter (λ id. is_none (known id)) ids
 
 -- one step of a walk that ends at names with a number: the next of the names that were met is read, and those of its
--- parents that have no number are met. An object that is no commit has none, and is kept in mind.
+-- parents that have no number are met
 pub record ReadsBeyond (objects : ObjectMap) (known : ObjectId → Option ℕ) (met met_after : List ObjectId) (read read_after : List (List ObjectId)) (other other_after : Option ObjectId) (id : ObjectId) : Type 0 where
   pub own : List ObjectId
   pub next : slice_get met (length read) ≡ Some id
   pub met_own : met_after ≡ insert_all id_eq met (unnumbered known own)
   pub read_own : read_after ≡ read ++ own ∷ []
-  pub kind : ((parents_in objects id ≡ Some own) × (other_after ≡ other)) ⊎ (IsOther objects id × (own ≡ []) × (other_after ≡ Some id))
+  pub kind : IsReadOf objects id own other other_after
 
--- a walk from the root that ends at names with a number: it has met the root and no name that the root does not reach, has
+-- a walk from the roots that ends at names with a number: it has met the roots and names without a number that they reach, has
 -- read the parents of each, and each of these was met too or has a number
-pub record GathersBeyond (objects : ObjectMap) (known : ObjectId → Option ℕ) (root : ObjectId) (met : List ObjectId) (read : List (List ObjectId)) : Type 0 where
-  pub reached : (x : ObjectId) → Contains met x → IsAncestor (parents_in objects) x root
-  pub rooted : Contains met root
+pub record GathersBeyond (objects : ObjectMap) (known : ObjectId → Option ℕ) (roots met : List ObjectId) (read : List (List ObjectId)) : Type 0 where
+  pub reached : (x : ObjectId) → Contains met x → ReachedFrom (parents_in objects) roots x
+  pub rooted : (x : ObjectId) → Contains roots x → Contains met x
+  pub beyond : (x : ObjectId) → Contains met x → Contains roots x ⊎ (known x ≡ None)
   pub parents : (x : ObjectId) → Contains met x → parents_in objects x ≡ Some (parents_read met read x)
   pub onward : (x y : ObjectId) → Contains met x → Contains (parents_read met read x) y → Contains met y ⊎ IsSome (known y)
 

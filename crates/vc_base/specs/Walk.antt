@@ -20,14 +20,17 @@ parents_read met read id = read_at read (position (id_eq id) met)
 abbrev pub graph_read : List ObjectId → List (List ObjectId) → ObjectId → Option (List ObjectId)
 graph_read met read id = Some (parents_read met read id)
 
--- one step of the walk: the next of the names that were met is read, and its parents are met. An object that is no
--- commit has none, and is kept in mind.
+-- what is read of a name: a commit's parents, or nothing of an object that is no commit, which is kept in mind
+abbrev pub IsReadOf : ObjectMap → ObjectId → List ObjectId → Option ObjectId → Option ObjectId → Type 0
+IsReadOf objects id own other other_after = ((parents_in objects id ≡ Some own) × (other_after ≡ other)) ⊎ (IsOther objects id × (own ≡ []) × (other_after ≡ Some id))
+
+-- one step of the walk: the next of the names that were met is read, and its parents are met
 pub record Reads (objects : ObjectMap) (met met_after : List ObjectId) (read read_after : List (List ObjectId)) (other other_after : Option ObjectId) (id : ObjectId) : Type 0 where
   pub own : List ObjectId
   pub next : slice_get met (length read) ≡ Some id
   pub met_own : met_after ≡ insert_all id_eq met own
   pub read_own : read_after ≡ read ++ own ∷ []
-  pub kind : ((parents_in objects id ≡ Some own) × (other_after ≡ other)) ⊎ (IsOther objects id × (own ≡ []) × (other_after ≡ Some id))
+  pub kind : IsReadOf objects id own other other_after
 
 -- a walk that has met the ancestors of the roots and no other name, and has read the parents of each
 pub record Gathers (objects : ObjectMap) (roots met : List ObjectId) (read : List (List ObjectId)) : Type 0 where

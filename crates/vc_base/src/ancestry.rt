@@ -7,8 +7,8 @@ ghost use Rattle.vc_graph.specs.Graph.{IsClosed, ReachedFrom};
 ghost use Rattle.vc_graph.specs.GraphFault.{IsMet};
 ghost use Rattle.vc_object.specs.ObjectMap.{parents_in};
 
-use crate::walk::{Walk, read_history};
-use crate::{BaseFault, Commits};
+use crate::walk::read_history;
+use crate::{BaseFault, Commits, Generations, numbered};
 use std::alloc::Global;
 use vc_files::Fault;
 use vc_object::ObjectId;
@@ -31,17 +31,9 @@ pub fn is_ancestor<C: Commits>(
     ensures kept { C.state_of commits.new ≡ C.state_of commits.old }
     ensures wear { Wears C.failed C.can_fail C.left commits.old commits.new (IsErrOf result (BaseFault.Store (StoreFault.Fault Fault.Device))) }
 {
-    let mut walk = Walk::from_roots(alloc, &[*b])?;
-    'reading: while walk.parents.len() < walk.met.len() {
-        let id = walk.read_next(alloc, commits)?;
-        if id == *a && walk.other.is_none() {
-            return Ok(true);
-        }
-    }
-    match walk.other {
-        Some(id) => Err(BaseFault::NotACommit(id)),
-        None => Ok(false),
-    }
+    let generations = Generations::new(alloc);
+    let yes = numbered::is_ancestor(alloc, commits, a, b, &generations)?;
+    Ok(yes)
 }
 
 /// Whether the root is a commit that is there, and every name that parent links lead to from it is one. The whole history

@@ -1,8 +1,9 @@
 //! The common ancestors of two commits, and the best of them.
-ghost use Rattle.std.specs.Prelude.{◌≡◌, ◌↔◌, ◌∷◌, [], map, filter, not, IfOk, IfErr, IsErrOf, OnOk, Contains};
+ghost use Rattle.std.specs.Prelude.{◌≡◌, ◌↔◌, ◌∷◌, [], map, filter, not, IfSome, OnSome, IfOk, IfErr, IsErrOf, OnOk, Contains};
 ghost use Rattle.indexmap.specs.IndexSet.{insert_all};
 ghost use Rattle.vc_base.specs.BaseFault.{IsTold};
 ghost use Rattle.vc_base.specs.History.{IsCommonAncestor, IsBestCommonAncestor};
+ghost use Rattle.vc_base.specs.Part.{IsSettledBelow};
 ghost use Rattle.vc_base.specs.Passed.{IsPassed};
 ghost use Rattle.vc_base.specs.Walk.{graph_read};
 ghost use Rattle.vc_files.specs.Failures.{Wears};
@@ -11,8 +12,9 @@ ghost use Rattle.vc_object.specs.ObjectId.{id_eq, IsSortedByName};
 ghost use Rattle.vc_object.specs.ObjectMap.{parents_in};
 ghost use Rattle.vc_object.specs.declared.id.ObjectId.{ObjectId as Id};
 
+use crate::part::each_is_among;
 use crate::walk::{Walk, read_history};
-use crate::{BaseFault, Commits};
+use crate::{BaseFault, Commits, Generations, numbered};
 use indexmap::IndexSet;
 use std::alloc::{AllocError, Global};
 use vc_files::Fault;
@@ -36,8 +38,9 @@ pub fn merge_bases<C: Commits>(
     ensures kept { C.state_of commits.new ≡ C.state_of commits.old }
     ensures wear { Wears C.failed C.can_fail C.left commits.old commits.new (IsErrOf result (BaseFault.Store (StoreFault.Fault Fault.Device))) }
 {
-    let walk = read_history(alloc, commits, &[*a, *b])?;
-    Ok(best_common(alloc, &walk, a, b)?)
+    let generations = Generations::new(alloc);
+    let bases = numbered::merge_bases(alloc, commits, a, b, &generations)?;
+    Ok(bases)
 }
 
 /// The commits that are ancestors of both `a` and `b`, sorted by name: what gitrevisions excludes from `a...b`. A commit is
@@ -62,8 +65,31 @@ pub fn common_ancestors<C: Commits>(
     Ok(sorted_from(alloc, &common, 0)?)
 }
 
+// The best common ancestors in a part of a history, where each name that was met and not read lies below a common ancestor:
+// then they are those of the whole.
+pub(crate) fn settled_best(
+    alloc: Global,
+    walk: &Walk,
+    a: &ObjectId,
+    b: &ObjectId,
+) -> Result<Option<Vec<ObjectId>>, AllocError>
+    ensures best { IfOk result (λ found. IfSome found (λ ids. (id : Id) → Contains ids.items id ↔ IsBestCommonAncestor (graph_read walk.now.met.keys (map (λ v. v.items) walk.now.parents.items)) a.now b.now id)) }
+    ensures sorted { IfOk result (λ found. IfSome found (λ ids. IsSortedByName ids.items)) }
+    ensures settled { IfOk result (λ found. OnSome found (IsSettledBelow walk.now.met.keys (map (λ v. v.items) walk.now.parents.items) a.now b.now)) }
+{
+    let common = common_in_history(alloc, walk, a, b)?;
+    let passed = parents_of_all(alloc, walk, common.as_slice())?;
+    let below = walk.ancestors(alloc, passed.as_slice())?;
+    let reached = walk.ancestors(alloc, &[*a, *b])?;
+    if !each_is_among(reached.as_slice(), &walk.met, &below) {
+        return Ok(None);
+    }
+    let bases = sorted_difference(alloc, &common, &passed)?;
+    Ok(Some(bases))
+}
+
 // The best common ancestors in a history that was read.
-fn best_common(
+pub(crate) fn best_common(
     alloc: Global,
     walk: &Walk,
     a: &ObjectId,

@@ -41,6 +41,11 @@ impl Generations {
         self.numbers.get(id).copied()
     }
 
+    // How many commits have one. None has a greater one.
+    pub(crate) fn count(&self) -> u64 {
+        self.numbers.len() as u64
+    }
+
     /// Learns the generation of the root and of each of its ancestors. A commit that is known is not read again, nor is what
     /// lies below it. A commit whose history comes back to itself, or whose number would need more than 64 bits, stays
     /// without. At an error nothing is learnt.

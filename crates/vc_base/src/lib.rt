@@ -8,11 +8,14 @@ mod fault;
 mod generations;
 mod known;
 mod laws;
+pub mod numbered;
 mod numbering;
 mod overlay;
+mod part;
 mod selection;
 mod source;
 mod store;
+mod toward;
 mod walk;
 
 pub use ancestry::{is_ancestor, is_history};

@@ -13,8 +13,8 @@ ghost use Rattle.vc_object.specs.ObjectId.{id_eq};
 ghost use Rattle.vc_object.specs.ObjectMap.{parents_in};
 ghost use Rattle.vc_object.specs.declared.id.ObjectId.{ObjectId as Id};
 
-use crate::walk::Walk;
-use crate::{BaseFault, Commits, Parents};
+use crate::walk::{Walk, parents_of_commit};
+use crate::{BaseFault, Commits};
 use indexmap::{IndexMap, IndexSet};
 use std::alloc::{AllocError, Global};
 use vc_files::Fault;
@@ -36,7 +36,7 @@ pub(crate) fn read_beyond_known<C: Commits>(
     known: &IndexMap<ObjectId, u64>,
     root: &ObjectId,
 ) -> Result<Walk, BaseFault>
-    ensures gathered { IfOk result (λ w. C.is_honest → GathersBeyond (C.objects (C.state_of commits.old)) (get id_eq known.now) root.now w.met.keys (map (λ v. v.items) w.parents.items)) }
+    ensures gathered { IfOk result (λ w. C.is_honest → GathersBeyond (C.objects (C.state_of commits.old)) (get id_eq known.now) (root.now ∷ []) w.met.keys (map (λ v. v.items) w.parents.items)) }
     ensures refused { IfErr result (λ e. C.is_honest → Agrees (parents_in (C.objects (C.state_of commits.old))) (get id_eq known.now) → IsTold (C.objects (C.state_of commits.old)) (C.damaged (C.state_of commits.old)) (root.now ∷ []) e) }
 
     ensures kept { C.state_of commits.new ≡ C.state_of commits.old }
@@ -68,16 +68,7 @@ fn read_next_beyond<C: Commits>(
     ensures wear { Wears C.failed C.can_fail C.left commits.old commits.new (IsErrOf result (BaseFault.Store (StoreFault.Fault Fault.Device))) }
 {
     let id = walk.met[walk.parents.len()];
-    let Some(found) = commits.parents(&id)? else {
-        return Err(BaseFault::Missing(id));
-    };
-    let parents = match found {
-        Parents::Of(parents) => parents,
-        Parents::NotCommit => {
-            walk.other = Some(id);
-            Vec::new(alloc)
-        }
-    };
+    let parents = parents_of_commit(alloc, commits, &id, &mut walk.other)?;
     add_unnumbered(&mut walk.met, known, &parents)?;
     walk.parents.push(parents)?;
     Ok(())

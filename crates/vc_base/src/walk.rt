@@ -2,7 +2,7 @@
 ghost use Rattle.std.specs.Prelude.{◌≡◌, ◌↔◌, ◌+◌, ◌<◌, [], None, length, map, slice_get, IfOk, IfErr, IsErrOf, OnOk, Contains};
 ghost use Rattle.indexmap.specs.IndexSet.{insert_all};
 ghost use Rattle.vc_base.specs.BaseFault.{IsOfNext, IsTold};
-ghost use Rattle.vc_base.specs.Walk.{Gathers, Reads, graph_read, parents_read};
+ghost use Rattle.vc_base.specs.Walk.{Gathers, IsReadOf, Reads, graph_read, parents_read};
 ghost use Rattle.vc_files.specs.Failures.{Wears};
 ghost use Rattle.vc_graph.specs.Graph.{ReachedFrom, IsClosedUnder};
 ghost use Rattle.vc_object.specs.ObjectId.{id_eq};
@@ -58,16 +58,7 @@ impl Walk {
         ensures wear { Wears C.failed C.can_fail C.left commits.old commits.new (IsErrOf result (BaseFault.Store (StoreFault.Fault Fault.Device))) }
     {
         let id = self.met[self.parents.len()];
-        let Some(found) = commits.parents(&id)? else {
-            return Err(BaseFault::Missing(id));
-        };
-        let parents = match found {
-            Parents::Of(parents) => parents,
-            Parents::NotCommit => {
-                self.other = Some(id);
-                Vec::new(alloc)
-            }
-        };
+        let parents = parents_of_commit(alloc, commits, &id, &mut self.other)?;
         self.met.extend(parents.as_slice())?;
         self.parents.push(parents)?;
         Ok(id)
@@ -103,6 +94,31 @@ impl Walk {
             next += 1;
         }
         Ok(found)
+    }
+}
+
+// The parents of a commit. An object that is no commit has none, and is kept in mind.
+pub(crate) fn parents_of_commit<C: Commits>(
+    alloc: Global,
+    commits: &mut C,
+    id: &ObjectId,
+    other: &mut Option<ObjectId>,
+) -> Result<Vec<ObjectId>, BaseFault>
+    ensures read { IfOk result (λ own. C.is_honest → IsReadOf (C.objects (C.state_of commits.old)) id.now own.items other.old other.new) }
+    ensures refused { IfErr result (λ e. C.is_honest → IsOfNext (C.objects (C.state_of commits.old)) (C.damaged (C.state_of commits.old)) (λ x. x ≡ id.now) e) }
+
+    ensures kept { C.state_of commits.new ≡ C.state_of commits.old }
+    ensures wear { Wears C.failed C.can_fail C.left commits.old commits.new (IsErrOf result (BaseFault.Store (StoreFault.Fault Fault.Device))) }
+{
+    let Some(found) = commits.parents(id)? else {
+        return Err(BaseFault::Missing(*id));
+    };
+    match found {
+        Parents::Of(parents) => Ok(parents),
+        Parents::NotCommit => {
+            *other = Some(*id);
+            Ok(Vec::new(alloc))
+        }
     }
 }
 

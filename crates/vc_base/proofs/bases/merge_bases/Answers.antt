@@ -1,14 +1,23 @@
-use Rattle.std.proofs.Common.{[], ◌∷◌, map, refl, arith}
-use Rattle.vc_base.proofs.GatheredLemmas.{best-read}
-use Rattle.vc_object.specs.declared.id.ObjectId.{ObjectId}
+use Rattle.std.proofs.Common.{arith}
+use Rattle.std.proofs.lemmas.Grind.{common_steps}
+use Rattle.vc_base.specs.Numbering.{numbers}
+use Rattle.vc_base.proofs.GenerationLemmas.{agrees_where_none}
+use Rattle.vc_object.specs.ObjectMap.{parents_in}
 use Rattle.vc_base.proofs.bases.merge_bases.Goals as goal
 
 pub returns-clause-best : goal.returns-clause-best
-returns-clause-best g c honest id =
-    let a : ObjectId = c.args.a.now in
-    let b : ObjectId = c.args.b.now in
-    let met = c.in_ok-walk.walk.met.keys in
-    let read = map (λ v. v.items) c.in_ok-walk.walk.parents.items in
-    let best = c.in_ok-best_common.ensures.best id in
-    let same = best-read (g.C.Objects.objects (g.C.Objects.state_of c.args.commits.now)) (a ∷ b ∷ []) met read (c.in_ok-walk.ensures.gathered honest) a b (0, omega arith, refl) (1, omega arith, refl) id in
-    (λ h. same.0 (best.0 h), λ h. best.1 (same.1 h))
+returns-clause-best g c honest =
+    let parents = parents_in (g.C.Objects.objects (g.C.Objects.state_of c.args.commits.now)) in
+    c.in_ok-bases.ensures.best honest (agrees_where_none parents (numbers c.new-generations.result) c.new-generations.ensures.none)
+
+pub returns-clause-closed : goal.returns-clause-closed
+returns-clause-closed g c honest =
+    let parents = parents_in (g.C.Objects.objects (g.C.Objects.state_of c.args.commits.now)) in
+    c.in_ok-bases.ensures.closed honest (agrees_where_none parents (numbers c.new-generations.result) c.new-generations.ensures.none)
+
+pub returns-in_err-bases-clause-refused : goal.returns-in_err-bases-clause-refused
+returns-in_err-bases-clause-refused g c =
+    let parents = parents_in (g.C.Objects.objects (g.C.Objects.state_of c.args.commits.now)) in
+    let agrees = agrees_where_none parents (numbers c.new-generations.result) c.new-generations.ensures.none in
+    let told = λ (honest : g.C.Objects.is_honest). c.in_err-bases.ensures.refused honest agrees in
+    grind (arith, common_steps, told)

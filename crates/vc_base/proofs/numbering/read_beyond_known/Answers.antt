@@ -30,7 +30,7 @@ returns-in_err-read_next_beyond-clause-refused g c =
     let objects = g.C.Objects.objects (g.C.Objects.state_of c.args.commits.now) in
     let damaged = g.C.Objects.damaged (g.C.Objects.state_of c.args.commits.now) in
     let h = rw before.kept at c.in_err-read_next_beyond.ensures.refused in
-    let told = λ (honest : g.C.Objects.is_honest). IsTold-from_next objects (c.args.root.now ∷ []) damaged _ (λ id at. MeetsBeyond-reached objects _ c.args.root.now _ _ _ (before.meets honest) id (Contains-from_slice_get _ _ id at)) _ (h honest) in
+    let told = λ (honest : g.C.Objects.is_honest). IsTold-from_next objects (c.args.root.now ∷ []) damaged _ (λ id at. MeetsBeyond-reached objects _ (c.args.root.now ∷ []) _ _ _ (before.meets honest) id (Contains-from_slice_get _ _ id at)) _ (h honest) in
     grind (arith, common_steps, told)
 
 pub returns-in-Some-clause-refused : goal.returns-in-Some-clause-refused

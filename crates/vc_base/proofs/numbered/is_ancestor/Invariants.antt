@@ -1,14 +1,16 @@
-use Rattle.std.proofs.Common.{◌≡◌, ◌≢◌, ◌∷◌, [], ◌-◌, ◌^◌, ◌<◌, ℕ, None, map, length, get_or}
-use Rattle.vc_base.proofs.HistoryLemmas.{Meets}
+use Rattle.std.proofs.Common.{◌≡◌, ◌∷◌, [], ◌≢◌, ◌-◌, ◌^◌, ◌<◌, ℕ, None, map, length, get_or}
+use Rattle.vc_base.proofs.BeyondLemmas.{MeetsBeyond}
+use Rattle.vc_base.specs.Numbering.{numbers}
+use Rattle.vc_base.specs.Toward.{ruled_out}
 use Rattle.vc_files.specs.Failures.{Wears}
 use Rattle.vc_object.specs.declared.id.ObjectId.{ObjectId as Id}
-use Rattle.vc_base.proofs.ancestry.is_ancestor.Given as goal
+use Rattle.vc_base.proofs.numbered.is_ancestor.Given as goal
 
 abbrev pub invariant-reading : goal.invariant-reading
 invariant-reading g l = record {
   kept : g.C.Objects.state_of l.commits ≡ g.C.Objects.state_of l.initial.commits;
   wear : Wears g.C.Objects.failed g.C.Objects.can_fail g.C.Objects.left l.initial.commits l.commits ⊥;
-  meets : g.C.Objects.is_honest → Meets (g.C.Objects.objects (g.C.Objects.state_of l.initial.commits)) (l.b ∷ []) l.walk.met.keys (map (λ v. v.items) l.walk.parents.items) l.walk.other;
+  meets : g.C.Objects.is_honest → MeetsBeyond (g.C.Objects.objects (g.C.Objects.state_of l.initial.commits)) (ruled_out (numbers l.generations) l.a) (l.b ∷ []) l.walk.met.keys (map (λ v. v.items) l.walk.parents.items) l.walk.other;
   unmet : g.C.Objects.is_honest → l.walk.other ≡ None → (k : ℕ) (d : Id) → k < length (map (λ v. v.items) l.walk.parents.items) → get_or l.walk.met.keys k d ≢ l.a;
 }
 

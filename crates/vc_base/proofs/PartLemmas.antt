@@ -1,0 +1,165 @@
+-- What the part of a history above a floor says of the whole.
+use Rattle.std.proofs.Common.{◌≡◌, ◌≢◌, ℕ, ◌<◌, ◌≤◌, ◌⊎◌, inl, inr, ⊎_elim, Bool, true, false, if◌then◌else◌, List, [], Option, Some, None, IsSome, Contains, get_or, position, sym, ap, subst, ◌∙◌, refl, true≢false, arith, nat_le}
+use Rattle.std.proofs.lemmas.Bool.{le-leb, leb-true}
+use Rattle.std.proofs.lemmas.List.Quantifiers.{position-Some}
+use Rattle.vc_graph.specs.Graph.{LinksTo, Reaches, IsClosedUnder, itself, onward}
+use Rattle.vc_graph.proofs.WalkLemmas.{Reaches-trans}
+use Rattle.vc_object.proofs.IdLemmas.{id_eq-same, id_eq_equiv}
+use Rattle.vc_object.specs.ObjectId.{id_eq}
+use Rattle.vc_object.specs.ObjectMap.{ObjectMap, parents_in}
+use Rattle.vc_object.specs.declared.id.ObjectId.{ObjectId}
+use Rattle.vc_base.specs.Generation.{Agrees}
+use Rattle.vc_base.specs.History.{IsCommonAncestor, IsBestCommonAncestor}
+use Rattle.vc_base.specs.Numbering.{GathersBeyond}
+use Rattle.vc_base.specs.Part.{under, IsSettledBelow}
+use Rattle.vc_base.specs.Toward.{not_above}
+use Rattle.vc_base.specs.Walk.{graph_read, parents_read, read_at}
+use Rattle.vc_base.proofs.GenerationLemmas.{Contains-from_LinksTo, HasGeneration-parent}
+use Rattle.vc_base.proofs.HistoryLemmas.{Reaches-same}
+use Rattle.vc_base.proofs.LearntLemmas.{known_below, some_of, value_of}
+
+module _ (known : ObjectId → Option ℕ) (floor : ℕ) where
+  from_under : (x : ObjectId) (n : ℕ) → under known floor x ≡ Some n → (known x ≡ Some n) × (n ≤ floor)
+  from_under x n = by (known x) refl
+    where
+      compared : (k : ℕ) (b : Bool) → nat_le k floor ≡ b → known x ≡ Some k → (if b then Some k else None) ≡ Some n → (known x ≡ Some n) × (n ≤ floor)
+      compared k true le at h = (at ∙ h, (let k_is : k ≡ n = cc in omega (arith, k_is, leb-true k floor le)))
+      compared k false le at h = absurd (cc)
+
+      by : (o : Option ℕ) → known x ≡ o → not_above o (Some floor) ≡ Some n → (known x ≡ Some n) × (n ≤ floor)
+      by None at h = absurd (cc)
+      by (Some k) at h = compared k (nat_le k floor) refl at h
+
+  to_under : (x : ObjectId) (n : ℕ) → known x ≡ Some n → n ≤ floor → under known floor x ≡ Some n
+  to_under x n is low = ap (λ o. not_above o (Some floor)) is ∙ ap (λ b. if b then Some n else None) (le-leb n floor low)
+
+  module _ (parents : ObjectId → Option (List ObjectId)) (agrees : Agrees parents known) where
+    -- what is below a commit under the floor is under it
+    pub Agrees-under : Agrees parents (under known floor)
+    Agrees-under = record {
+      generation = λ x n is. agrees.generation x n (from_under x n is).0;
+      onward = λ x y some link.
+          let n = value_of (under known floor x) some in
+          let low = from_under x n.0 n.1 in
+          let m = value_of (known y) (agrees.onward x y (some_of (known x) n.0 low.0) link) in
+          let less : m.0 < n.0 = HasGeneration-parent parents x y n.0 m.0 (agrees.generation x n.0 low.0) (agrees.generation y m.0 m.1) link in
+          some_of (under known floor y) m.0 (to_under y m.0 m.1 (omega (arith, less, low.1)));
+    }
+
+module _ (met : List ObjectId) (read : List (List ObjectId)) where
+  -- a link that was read is one of a commit that was read
+  pub LinksTo-part : (x y : ObjectId) → LinksTo (graph_read met read) x y → Contains met x × Contains (parents_read met read x) y
+  LinksTo-part x y l = by (position (id_eq x) met) refl
+    where
+      same : parents_read met read x ≡ l.0
+      same = let e : Some (parents_read met read x) ≡ Some l.0 = l.1 in cc
+
+      linked : Contains (parents_read met read x) y
+      linked = subst (λ ys. Contains ys y) (sym same) l.2
+
+      by : (p : Option _) → position (id_eq x) met ≡ p → Contains met x × Contains (parents_read met read x) y
+      by None e = let none : Contains [] y = subst (λ p. Contains (read_at read p) y) e linked in absurd (omega (arith, none.1))
+      by (Some k) e = let found = position-Some (id_eq x) met k x e in ((k, found.0, sym (id_eq-same x (get_or met k x) found.1)), linked)
+
+module _ (objects : ObjectMap) (known : ObjectId → Option ℕ) (floor : ℕ) (roots met : List ObjectId) (read : List (List ObjectId))
+    (gathers : GathersBeyond objects (under known floor) roots met read) (agrees : Agrees (parents_in objects) known)
+    (above : (r : ObjectId) (n : ℕ) → Contains roots r → known r ≡ Some n → floor < n) where
+  abbrev IsUnder : ObjectId → Type 0
+  IsUnder y = IsSome (under known floor y)
+
+  -- what was read is not under the floor
+  not_under : (x : ObjectId) → Contains met x → ¬ IsUnder x
+  not_under x at some = ⊎_elim
+      (λ (root : Contains roots x).
+      let n = value_of (under known floor x) some in
+      let low = from_under known floor x n.0 n.1 in
+      absurd (omega (arith, low.1, above x n.0 root low.0)))
+      (λ (none : under known floor x ≡ None). absurd (true≢false (sym (subst (λ o. IsSome o) none some))))
+      (gathers.beyond x at)
+
+  below_under : {x y : ObjectId} → IsUnder x → Reaches (parents_in objects) x y → IsUnder y
+  below_under {x} some way = known_below (parents_in objects) (under known floor) x (Agrees-under known floor (parents_in objects) agrees) some way
+
+  LinksTo-whole : (x y : ObjectId) → LinksTo (graph_read met read) x y → LinksTo (parents_in objects) x y
+  LinksTo-whole x y l = let h = LinksTo-part met read x y l in (parents_read met read x, gathers.parents x h.0, h.1)
+
+  whole_way : {x y : ObjectId} → Reaches (graph_read met read) x y → Reaches (parents_in objects) x y
+  whole_way r = Reaches-same (graph_read met read) (parents_in objects) LinksTo-whole r
+
+  -- a way from a commit that was read was read to its end, or to a commit under the floor
+  way_read : {x y : ObjectId} → Contains met x → Reaches (parents_in objects) x y
+      → (Reaches (graph_read met read) x y × Contains met y) ⊎ ((z : ObjectId) × Reaches (graph_read met read) x z × IsUnder z × Reaches (parents_in objects) z y)
+  way_read at itself = inl (itself, at)
+  way_read {x} at (onward {y} {z} way link) = ⊎_elim
+      (λ (h : Reaches (graph_read met read) x y × Contains met y).
+      let linked : Contains (parents_read met read y) z = Contains-from_LinksTo (parents_in objects) y z (parents_read met read y) (gathers.parents y h.1) link in
+      let further : Reaches (graph_read met read) x z = onward h.0 (parents_read met read y, refl, linked) in
+      ⊎_elim (λ here. inl (further, here)) (λ under. inr (z, further, under, itself)) (gathers.onward y z h.1 linked))
+      (λ s. inr (s.0, s.1, s.2, onward s.3 link))
+      (way_read at way)
+
+  -- a way to a commit that was read was read
+  way_to_read : {x y : ObjectId} → Contains met x → Contains met y → Reaches (parents_in objects) x y → Reaches (graph_read met read) x y
+  way_to_read {x} {y} at end way = ⊎_elim (λ h. h.0) (λ s. absurd (not_under y end (below_under s.2 s.3))) (way_read at way)
+
+  -- all that the roots reach is there
+  pub part_closed : IsClosedUnder (parents_in objects) roots
+  part_closed y r = ⊎_elim (λ h. some_of (parents_in objects y) (parents_read met read y) (gathers.parents y h.1))
+      (λ s.
+      let below = below_under s.2 s.3 in
+      let n = value_of (under known floor y) below in
+      ((Agrees-under known floor (parents_in objects) agrees).generation y n.0 n.1).whole y itself)
+      (way_read (gathers.rooted r.root r.is_root) r.reaches)
+
+  -- where the floor is 0, all that was met was read
+  pub all_was_read : floor ≡ 0 → {x y : ObjectId} → Contains met x → Reaches (graph_read met read) x y → Contains met y
+  all_was_read zero at itself = at
+  all_was_read zero at (onward {y} {z} way link) =
+      let h = LinksTo-part met read y z link in
+      ⊎_elim (λ here. here)
+      (λ some.
+      let n = value_of (under known floor z) some in
+      let low = from_under known floor z n.0 n.1 in
+      absurd (omega (arith, zero, low.1, (agrees.generation z n.0 low.0).one_more)))
+      (gathers.onward y z h.0 h.1)
+
+  module _ (a b : ObjectId) (is_a : Contains roots a) (is_b : Contains roots b) (settled : IsSettledBelow met read a b) where
+    -- a way from one of the two to a best common ancestor was read
+    way_to_best : (c x : ObjectId) → Contains roots x → ((y : ObjectId) → Reaches (graph_read met read) x y → Reaches (graph_read met read) a y ⊎ Reaches (graph_read met read) b y)
+        → IsBestCommonAncestor (parents_in objects) a b c → Reaches (parents_in objects) x c → Reaches (graph_read met read) x c
+    way_to_best c x is_x sides best way = ⊎_elim (λ h. h.0)
+        (λ s. ⊎_elim (λ here. absurd (not_under s.0 here s.2))
+        (λ d.
+        let differs : d.0 ≢ c = λ is. not_under c (subst (Contains met) is d.2) (below_under s.2 s.3) in
+        absurd (best.best d.0 (whole_way d.1.0, whole_way d.1.1) differs (Reaches-trans (parents_in objects) (whole_way d.3) s.3)))
+        (settled s.0 (sides s.0 s.1)))
+        (way_read (gathers.rooted x is_x) way)
+
+    pub best_in_part : (c : ObjectId) → IsBestCommonAncestor (parents_in objects) a b c → IsBestCommonAncestor (graph_read met read) a b c
+    best_in_part c best = record {
+      common = (way_to_best c a is_a (λ y r. inl r) best best.common.0, way_to_best c b is_b (λ y r. inr r) best best.common.1);
+      best = λ d shared differs back. best.best d (whole_way shared.0, whole_way shared.1) differs (whole_way back);
+    }
+
+    -- a best one of the part was read
+    best_was_read : (c : ObjectId) → IsBestCommonAncestor (graph_read met read) a b c → Contains met c
+    best_was_read c best = ⊎_elim (λ here. here) (λ d. by d.0 d.1 d.2 d.3 (id_eq d.0 c) refl) (settled c (inl best.common.0))
+      where
+        by : (d : ObjectId) → IsCommonAncestor (graph_read met read) a b d → Contains met d → Reaches (graph_read met read) d c → (same : Bool) → id_eq d c ≡ same → Contains met c
+        by d shared here way true e = subst (Contains met) (id_eq-same d c e) here
+        by d shared here way false e = absurd (best.best d shared (λ is. true≢false (sym (id_eq_equiv.refl d) ∙ ap (id_eq d) is ∙ e)) way)
+
+    pub best_of_part : (c : ObjectId) → IsBestCommonAncestor (graph_read met read) a b c → IsBestCommonAncestor (parents_in objects) a b c
+    best_of_part c best =
+        let here = best_was_read c best in
+        record {
+          common = (whole_way best.common.0, whole_way best.common.1);
+          best = λ d shared differs back.
+              let from_a = way_here a d is_a here shared.0 back in
+              let from_b = way_here b d is_b here shared.1 back in
+              best.best d (from_a.0, from_b.0) differs (way_to_read from_a.1 here back);
+        }
+      where
+        -- a name on a way to what was read was read
+        way_here : (x d : ObjectId) → Contains roots x → Contains met c → Reaches (parents_in objects) x d → Reaches (parents_in objects) d c → Reaches (graph_read met read) x d × Contains met d
+        way_here x d is_x here to back = ⊎_elim (λ h. h) (λ s. absurd (not_under c here (below_under s.2 (Reaches-trans (parents_in objects) s.3 back)))) (way_read (gathers.rooted x is_x) to)
