@@ -1,17 +1,24 @@
-"""What a crate leads to in the crates below it, and a hash of all that decides what is proved of it: tools/rounds tells of both."""
+"""What a wrong body leads to in its crate and in those below it, and a hash of all that decides what is proved of it: tools/rounds tells
+of both."""
+import functools
 import hashlib
 import os
 import re
 from dataclasses import dataclass
 
 # What of a crate's folder a check depends on.
-PARTS = ("src", "specs", "proofs", "wrong")
+PARTS = ("src", "specs", "proofs")
 # The files in which a function's own proof stands.
 OWN_PROOFS = ("Answers.antt", "Proof.antt")
 # What a text cites of the specs and proofs of a crate, as they and as sources name it: modules, and behind them perhaps a name.
 CITED = re.compile(r"\b(\w+)(?:\.|::)(specs|proofs)\b((?:(?:\.|::)\w+)*)")
 # A word, or a sign that is part of none.
 TOKEN = re.compile(r"\w+|[^\w\s]")
+# A path of a source.
+PATH = re.compile(r"\w+(?:::\w+)+")
+# How a definition or a lemma begins, by its name, perhaps in a module with parameters; and a line that is of none.
+DEFINED = re.compile(r" *(?:(?:pub|abbrev|unfoldable|opaque) )*(\S+) :(?: |$)|(?:pub )?(?:record|data) (\S+)")
+NOT_DEFINED = re.compile(r"(?:pub )?(?:use|mod|module|infix\w*) ")
 # How an item begins: one that has a name, an import, a module in a file of its own, and an `impl` with its parameters.
 PUB = r"(?:pub(?:\([^)]*\))? )?"
 FN = r'(?:const |unsafe |async |extern "\w*" )*fn'
@@ -151,7 +158,7 @@ def modules_around(crate, path):
     return ["::".join(["", crate.name, *parts[:end]]) for end in range(len(parts) + 1)]
 
 
-@dataclass(frozen=True)
+@dataclass(frozen=True, eq=False)
 class Piece:
     """A piece of what a crate shows: it counts where one of the words `any_of` is said, if it has such, and all of `all_of`. Then
     what it leads to is said, too."""
@@ -174,14 +181,28 @@ class Shown:
     has_macros: bool
 
 
-def piece(crate, path, text, any_of=(), all_of=(), said_here=None):
-    """A piece of a file; `said_here` are the words that may be names of the file's own imports, where not all are."""
+def steps_of(text):
+    """Each step of the paths in a text of a source, as `a::b`."""
+    for path in PATH.findall(text):
+        parts = path.split("::")
+        yield from map("::".join, zip(parts, parts[1:]))
+
+
+def leads_of(crate, path, text, said_here=None):
+    """What a text of a file says, and so leads to; `said_here` are the words that may be names of the file's own imports, where not all
+    are."""
     tokens = TOKEN.findall(text)
     leads = {*tokens, *cited_in(text, crate.name)}
     if path.startswith("src/"):
         said_here = tokens if said_here is None else said_here
         leads |= {*modules_around(crate, path), *((crate.name, it) for it in tokens), *((crate.name, path, it) for it in said_here)}
-    return Piece((crate.name, path, text), frozenset(any_of), frozenset(all_of), frozenset(leads))
+        leads |= {*steps_of(text), *((crate.name, "type", it) for it in TYPE.findall(text))}
+    return leads
+
+
+def piece(crate, path, text, any_of=(), all_of=(), said_here=None):
+    """A piece of a file, with what it leads to."""
+    return Piece((crate.name, path, text), frozenset(any_of), frozenset(all_of), frozenset(leads_of(crate, path, text, said_here)))
 
 
 def is_head(line):
@@ -243,27 +264,42 @@ def imports_of(crate, path, head, is_local):
     for full in imported(paths):
         tokens = brought_by(full)
         text = f"{head[: head.index('use ')]}use {full};"
-        is_own = not pub and is_local(tokens)
         # (an import may begin at what another brings, and says no more of what the file imports)
         said_here = TOKEN.findall(full)[:1]
-        yield piece(crate, path, text, all_of={(crate.name, path, it) for it in tokens} if is_own else tokens, said_here=said_here)
+        if not pub and is_local(tokens):
+            yield piece(crate, path, text, all_of={(crate.name, path, it) for it in tokens}, said_here=said_here)
+        elif pub.strip() == "pub" and len(tokens) == 1:
+            yield piece(crate, path, text, paths_to(crate, path, tokens), said_here=said_here)
+        else:
+            yield piece(crate, path, text, all_of=tokens, said_here=said_here)
 
 
-def names_of(crate, item, types):
+def paths_to(crate, path, names):
+    """How a source says a public name of one: plainly in its own crate, elsewhere behind the crate's name or that of a module."""
+    modules = modules_around(crate, path)[-1].split("::")[1:]
+    return {*((crate.name, it) for it in names), *(f"{module}::{it}" for module in modules for it in names)}
+
+
+def names_of(crate, path, item, types, is_member=False):
     """The names by which an item is reached, any of them; none where they are not known. What isn't `pub` is reached from its own
-    crate alone."""
+    crate alone, a member of a type by its name, and anything else by a path or as specs cite it."""
     head, text = head_of(item), "\n".join(item)
     if found := IMPL.fullmatch(header_of(item)):
         parameters = re.findall(r"[<,] *(?:const )?(\w+)", found[1] or "")
         words = {*re.findall(r"\w+", found[2].partition(" for ")[2])} - {*parameters}
-        return words & types
+        return {it for it in types if it[2] in words}
     name = ITEM.match(head)
     if not name:
         return set()
     names = {name[1]}
     if re.match(rf"{PUB}enum ", head):
         names |= {*(re.findall(r"^ {4}(\w+)", text, re.M) or re.findall(r"\w+", text))}
-    return names if head.startswith(("pub ", "macro_rules!")) else {(crate.name, it) for it in names}
+    if head.startswith("macro_rules!") or is_member and head.startswith("pub "):
+        return names
+    if not head.startswith("pub "):
+        return {(crate.name, it) for it in names}
+    module = modules_around(crate, path)[-1].split("::")[2:]
+    return paths_to(crate, path, names) | ways_to(".".join(["Rattle", crate.name, "specs.declared", *module, name[1]]))
 
 
 def end_of_header(item):
@@ -280,11 +316,11 @@ def is_inherent(item):
     return found and " for " not in found[2] and end_of_header(item) < len(item) and item[-1] == "}"
 
 
-def owner_of(item, types):
-    """The type whose members an `impl` of no trait has; nothing where it isn't known. Nobody has a value of it without its name, or
-    that of something that says it."""
+def owner_of(crate, item, types):
+    """The type whose members an `impl` of no trait has; nothing where it isn't known. Nobody has a value of it unless something that
+    counts leads to it."""
     words = re.findall(r"\w+", IMPL.fullmatch(header_of(item))[2])
-    return {*words[:1]} & types
+    return {(crate.name, "type", it) for it in words[:1]} & types
 
 
 def is_import(item):
@@ -309,9 +345,10 @@ def pieces_of_item(crate, path, item, types, is_local):
                 yield from imports_of(crate, path, head_of(member), is_local)
             else:
                 text = "\n".join([*item[:start], *member])
-                yield with_contracts(crate, piece(crate, path, text, names_of(crate, member, types), owner_of(item, types)))
+                names = names_of(crate, path, member, types, is_member=True)
+                yield with_contracts(crate, piece(crate, path, text, names, owner_of(crate, item, types)))
     else:
-        yield with_contracts(crate, piece(crate, path, text, names_of(crate, item, types)))
+        yield with_contracts(crate, piece(crate, path, text, names_of(crate, path, item, types)))
 
 
 def with_contracts(crate, it):
@@ -320,11 +357,46 @@ def with_contracts(crate, it):
     return Piece(it.key, it.any_of | ways_to(module), it.all_of, it.leads) if it.any_of else it
 
 
+def said_for(name):
+    """The word of a definition's name that a text has to say, if it says the name: the longest, or a sign where it has none."""
+    return max(TOKEN.findall(name.replace("◌", "")), key=len, default=name)
+
+
+def definitions_in(text):
+    """The parts of a file of specs/ or proofs/, each with the names by which it is reached: a definition or a lemma by its own, a module
+    with parameters by those of all in it, and what is neither by none."""
+    parts = []
+    for line in text.split("\n"):
+        begins = NOT_DEFINED.match(line)
+        defined = None if begins else DEFINED.match(line)
+        is_inside = line.startswith("  ") and parts and parts[-1][1][0].startswith("module ")
+        if begins or not parts or defined and not line.startswith(" ") or not line.startswith(" ") and NOT_DEFINED.match(parts[-1][1][0]):
+            parts.append((set(), []))
+        names, lines = parts[-1]
+        if defined and (is_inside or not lines):
+            names.add(defined[1] or defined[2])
+        lines.append(line)
+    return [(names, "\n".join(lines)) for names, lines in parts]
+
+
+def pieces_of_definitions(crate, path, text):
+    """The pieces of a file of specs/ or proofs/: each counts where a text cites the file and says one of its names."""
+    module = module_of(crate, path)
+    cited = (crate.name, "cited", module)
+    yield Piece((crate.name, path, ""), frozenset(ways_to(module)), frozenset(), frozenset({cited}))
+    for names, part in definitions_in(text):
+        if found := re.fullmatch(r"((?:pub )?use )(.*)", " ".join(it.strip() for it in part.split("\n"))):
+            for full in imported(found[2]):
+                yield piece(crate, path, f"{found[1]}{full}", all_of={cited, *brought_by(full)})
+        else:
+            yield piece(crate, path, part, {said_for(it) for it in names}, {cited})
+
+
 def pieces_of_specs(crate, path, text):
-    """The pieces of a file of specs/: it is whole, but for the list of the modules, of which each line counts with its module."""
+    """The pieces of a file of specs/ or proofs/; of the list of the modules each line counts with its module."""
     folder, name = os.path.split(path)
     if name != "Lib.antt":
-        return [piece(crate, path, text, ways_to(module_of(crate, path)))]
+        return [*pieces_of_definitions(crate, path, text)]
     found = [(line, re.fullmatch(r"(?:pub )?mod (\w+)", line)) for line in text.split("\n")]
     return [piece(crate, path, line, ways_to(module_of(crate, f"{folder}/{it[1]}.antt")) if it else ()) for line, it in found]
 
@@ -345,7 +417,7 @@ def shown_by(crate, shown):
         return shown[crate.name]
     below = [shown_by(it, shown) for it in crate.below()]
     sources = [it for it in parts_of(crate, "src") if it[0].endswith(".rt")]
-    types = frozenset(name for _, text in sources for name in TYPE.findall(text)).union(*(it.types for it in below))
+    types = frozenset((crate.name, "type", name) for _, text in sources for name in TYPE.findall(text)).union(*(it.types for it in below))
     has_macros = any(it.has_macros for it in below) or any("macro_rules!" in text for _, text in sources)
     taken = {path: taken_in(crate, text) for path, text in sources}
     # (any other file counts always: a table, say)
@@ -361,39 +433,95 @@ def shown_by(crate, shown):
         pieces += pieces_of_specs(crate, path, text) if path.endswith(".antt") else []
     for path, text in parts_of(crate, "proofs"):
         if os.path.basename(path) not in OWN_PROOFS:
-            pieces.append(piece(crate, path, text, ways_to(module_of(crate, path))))
+            pieces += pieces_of_specs(crate, path, text)
     shown[crate.name] = Shown(tuple(pieces), types, has_macros)
     return shown[crate.name]
 
 
-def texts_for(crate, shown):
-    """The texts that decide what is proved of a crate, each behind the name of a crate and a path: its own; and of the crates
-    below it what the words of its own texts lead to, as the docstring of this file tells."""
-    texts, said = set(), set()
-    for file in (file for part in PARTS for file in files_below(f"{crate.folder}/{part}")):
-        path = os.path.relpath(file, crate.folder)
-        text = text_of(crate, path)
-        texts.add((crate.name, path, text))
-        said |= {*TOKEN.findall(without_comments(text)), *cited_in(without_comments(text), crate.name)}
-    left = [it for below in crate.below() for it in shown_by(below, shown).pieces]
-    new = True
-    while new:
-        new = [it for it in left if it.counts(said)]
-        left = [it for it in left if not it.counts(said)]
-        texts.update(it.key for it in new)
-        said.update(*(it.leads for it in new))
-    return {it for it in texts if it[2]}
+class Reach:
+    """What texts of some crates lead to in them. Each piece waits behind a word that it needs, until that is said."""
+
+    def __init__(self, crates):
+        self.shown = {}
+        self.behind, self.always = {}, {}
+        for crate in crates:
+            for it in shown_by(crate, self.shown).pieces:
+                if not it.any_of and not it.all_of:
+                    self.always.setdefault(crate.name, []).append(it)
+                for word in awaited(it, it.all_of):
+                    self.behind.setdefault(word, []).append(it)
+
+    def texts(self, crate, said):
+        """The texts that count in the crate and those below it where this is said, each behind the name of a crate and a path."""
+        names = {crate.name, *(it.name for it in crate.below())}
+        said, new, found, behind = set(), {*said}, set(), {}
+        ready = [it for name in names for it in self.always.get(name, ())]
+        while new or ready:
+            for it in ready:
+                found.add(it)
+                new |= it.leads
+            new -= said
+            said |= new
+            waiting = [it for word in new for there in (self.behind, behind) for it in there.get(word, ())]
+            new, ready = set(), []
+            for it in waiting:
+                if it.key[0] not in names:
+                    continue
+                if it.counts(said):
+                    ready.append(it)
+                else:
+                    for word in awaited(it, it.all_of - said):
+                        behind.setdefault(word, []).append(it)
+            ready = [it for it in ready if it not in found]
+        return {it.key for it in found if it.key[2]}
 
 
-def hash_of(logic, crate, shown):
-    """A hash of all that decides what is proved of a crate: the logic, the texts, and the lines of crates.txt of the crates that
-    have these. What the crates below show is kept in `shown`, for the next crate."""
-    said = hashlib.sha256(logic.encode())
-    texts = texts_for(crate, shown)
+def awaited(it, lacking):
+    """The words of which a piece that does not count yet has to hear one: one that it lacks of all that it needs, or else any."""
+    # (a name that only one file may say is said last)
+    return [max(lacking, key=lambda word: isinstance(word, tuple))] if lacking else it.any_of
+
+
+def parts_for(crate, edit, function):
+    """The texts of a crate, by path, that stand for themselves in what is proved of a wrong body: the edit, and its function with what
+    proves it. An edit that is not of one function has all of the crate."""
+    own = {f"wrong/{edit}": text_of(crate, f"wrong/{edit}")}
+    if not function:
+        return {**own, **{path: text_of(crate, path) for path in paths_in(crate, PARTS)}}
+    lines = text_of(crate, function.file).split("\n")
+    texts = [*header_above(lines, function), *lines[function.first - 1 : function.last]]
+    proofs = {path: text_of(crate, path) for path in paths_in(crate, ["proofs"]) if function.owns(path)}
+    return {**own, function.file: "\n".join(texts), **proofs}
+
+
+def header_above(lines, function):
+    """The first line of the `impl` or `trait` in which a function stands, if it stands in one."""
+    if lines[function.head - 1].startswith(" "):
+        yield from [it for it in lines[: function.first - 1] if re.match(r"(?:pub(?:\([^)]*\))? )?(?:unsafe )?(?:impl|trait)\b", it)][-1:]
+
+
+def paths_in(crate, parts):
+    return [os.path.relpath(file, crate.folder) for part in parts for file in files_below(f"{crate.folder}/{part}")]
+
+
+def hash_of(logic, crate, edit, function, reach):
+    """A hash of all that decides what is proved of a wrong body: the logic, the texts, and the lines of crates.txt of the crates that have
+    these."""
+    parts = {path: without_comments(text) for path, text in parts_for(crate, edit, function).items()}
+    # (what an edit writes is said in the file that it edits)
+    places = {path: path if path.startswith(("src/", "proofs/")) or not function else function.file for path in parts}
+    led = set().union(*(leads_of(crate, places[path], text) for path, text in parts.items()))
+    texts = {*reach.texts(crate, led), *((crate.name, path, text) for path, text in parts.items())}
     names = {crate.name, *(name for name, _, _ in texts)}
+    said = hashlib.sha256(logic.encode())
     for it in sorted([*crate.below(), crate], key=lambda it: it.name):
         if it.name in names:
             said.update(f"\0{it.name}: {' '.join(sorted([*it.of_kit, *(dep.name for dep in it.deps)]))}".encode())
-    for name, path, text in sorted(texts):
-        said.update(f"\0{name}/{path}:{len(text)}\0{text}".encode())
-    return said.hexdigest()
+    said.update(b"".join(sorted(map(digest_of, texts))))
+    return said.hexdigest()[:32]
+
+
+@functools.cache
+def digest_of(text):
+    """A digest of a text and of where it stands."""
+    return hashlib.sha256("\0".join(text).encode()).digest()
