@@ -7,6 +7,7 @@ mod file_rows;
 mod generation_rows;
 mod graph_rows;
 mod ids;
+mod layered_rows;
 mod lock_rows;
 mod object_rows;
 mod packed_rows;
