@@ -8,8 +8,17 @@ use vc_base::{Commits, Generations};
 /// Learns from nothing what the first ids lead to, one after the other, and answers each refusal, and then what is known of
 /// the ids behind the word `of`.
 pub fn obey<C: Commits>(source: &mut C, alloc: Global, rest: &str) -> Answer {
+    learn(source, alloc, &mut Generations::new(alloc), rest)
+}
+
+/// The same beside what is known before.
+pub fn learn<C: Commits>(
+    source: &mut C,
+    alloc: Global,
+    generations: &mut Generations,
+    rest: &str,
+) -> Answer {
     let (roots, names) = rest.split_once(" of ").unwrap_or((rest, rest));
-    let mut generations = Generations::new(alloc);
     let mut texts = Vec::new(alloc);
     for root in ids_of(alloc, roots)? {
         if let Err(refusal) = told_base(generations.learn(alloc, source, &root)) {

@@ -7,7 +7,9 @@ mod file_rows;
 mod generation_rows;
 mod graph_rows;
 mod ids;
+mod layered_rows;
 mod lock_rows;
+mod numbered_rows;
 mod object_rows;
 mod packed_rows;
 mod random;
@@ -55,7 +57,7 @@ fn obey<R: Host>(rt: &R, held: &mut Held<R>, row: &str) -> Answer {
     match verb {
         "files" => devices::open_all(rt, &mut held.devices, rest),
         "packed" | "packed-text" => packed_rows::obey(rt.alloc(), verb, rest),
-        "random" => random::agreements(rt.alloc(), rest),
+        "random" | "random-numbered" => random::agreements(rt.alloc(), verb, rest),
         "lock" | "try-lock" | "unlock" => lock_rows::obey(rt, &mut held.locks, verb, rest),
         _ if verb.starts_with("raw-") => raw::obey(rt, verb, rest),
         _ => devices::obey_all(rt.alloc(), &mut held.devices, verb, rest),

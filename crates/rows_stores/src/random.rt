@@ -4,7 +4,9 @@ use crate::answers::Answer;
 use crate::ids::lettered;
 use crate::tables::Table;
 use std::alloc::{AllocError, Global};
-use vc_base::{BaseFault, commits, common_ancestors, is_ancestor, merge_bases};
+use vc_base::{
+    BaseFault, Generations, commits, common_ancestors, is_ancestor, merge_bases, numbered,
+};
 use vc_object::ObjectId;
 
 // A generator of numbers, told by its seed.
@@ -166,12 +168,54 @@ fn agrees(alloc: Global, seed: u64) -> Result<bool, BaseFault> {
     )
 }
 
+// Whether the bases and the ancestry of two commits are answered so where the generations of some commits are known.
+fn agrees_where_known(
+    alloc: Global,
+    table: &mut Table,
+    parents: &[u32],
+    roots: u32,
+    a: u8,
+    b: u8,
+) -> Result<bool, BaseFault> {
+    let mut known = Generations::new(alloc);
+    for root in names(alloc, roots)? {
+        known.learn(alloc, table, &root)?;
+    }
+    let of_a = ancestors(parents, bit(a));
+    let of_b = ancestors(parents, bit(b));
+    let (left, right) = (lettered(a), lettered(b));
+    let bases = numbered::merge_bases(alloc, table, &left, &right, &known)?;
+    let descends = numbered::is_ancestor(alloc, table, &left, &right, &known)?;
+    Ok(bases == names(alloc, best(parents, of_a & of_b))? && descends == has(of_b, a))
+}
+
+// Whether they are where nothing is known of the graph of a seed, where all is, and where a part is.
+fn agrees_numbered(alloc: Global, seed: u64) -> Result<bool, BaseFault> {
+    let mut numbers = Numbers(seed.wrapping_mul(0x9e37_79b9_7f4a_7c15));
+    let count = numbers.below(11).wrapping_add(2);
+    let parents = random_graph(alloc, &mut numbers, count)?;
+    let mut table = table_of(alloc, &parents)?;
+    let (a, b) = (numbers.below(count), numbers.below(count));
+    let all = bit(count).wrapping_sub(1);
+    let part = numbers.next() & numbers.next() & all;
+    Ok(
+        agrees_where_known(alloc, &mut table, &parents, 0, a, b)?
+            && agrees_where_known(alloc, &mut table, &parents, all, a, b)?
+            && agrees_where_known(alloc, &mut table, &parents, part, a, b)?,
+    )
+}
+
 /// About how many of so many random graphs all is answered as the definitions have it.
-pub fn agreements(alloc: Global, text: &str) -> Answer {
+pub fn agreements(alloc: Global, verb: &str, text: &str) -> Answer {
     let seeds: u64 = text.parse()?;
     let mut agreed = 0_u64;
     for seed in 0..seeds {
-        agreed = agreed.wrapping_add(u64::from(agrees(alloc, seed)?));
+        let same = if verb == "random" {
+            agrees(alloc, seed)?
+        } else {
+            agrees_numbered(alloc, seed)?
+        };
+        agreed = agreed.wrapping_add(u64::from(same));
     }
     Ok(format!(in alloc; "{agreed} agree")?)
 }

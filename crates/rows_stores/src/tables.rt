@@ -3,12 +3,12 @@ ghost use Rattle.std.specs.Prelude.{None};
 ghost use Rattle.vc_files.specs.Failures.{unstopped};
 
 use crate::answers::{Answer, done};
-use crate::graph_rows;
 use crate::ids::{bytes_of, id_of, ids_of, lettered, numbered, two};
+use crate::{generation_rows, graph_rows, numbered_rows};
 use anyhow::bail;
 use indexmap::IndexMap;
 use std::alloc::{AllocError, Global};
-use vc_base::{Commits, Parents};
+use vc_base::{Commits, Generations, Parents};
 use vc_graph::{Objects, Overlay};
 use vc_object::{Kind, Object, ObjectId, check};
 use vc_store::StoreFault;
@@ -92,6 +92,8 @@ pub struct Drawn {
     carried: Vec<(ObjectId, Vec<u8>)>,
     // The last layer that was added.
     top: Vec<ObjectId>,
+    // What rows have learned of the table's commits.
+    known: Generations,
 }
 
 impl Drawn {
@@ -102,6 +104,7 @@ impl Drawn {
             table: Table::new(alloc),
             carried: Vec::new(alloc),
             top: Vec::new(alloc),
+            known: Generations::new(alloc),
         };
         for word in text.split(' ') {
             drawn.add(word)?;
@@ -137,6 +140,12 @@ impl Drawn {
                 self.carried.push((id_of(self.alloc, id)?, body))?;
             }
             "layers" => self.add_layers(rest)?,
+            "know" => {
+                return generation_rows::learn(&mut self.table, self.alloc, &mut self.known, rest);
+            }
+            "numbered" => {
+                return numbered_rows::obey(&mut self.table, self.alloc, &self.known, rest);
+            }
             _ => return self.ask(verb, rest),
         }
         done(self.alloc)
