@@ -130,15 +130,25 @@ some_value : (o : Option IndexEntry) → IsSome o → (v : IndexEntry) × (o ≡
 some_value None h = absurd (cc h)
 some_value (Some v) h = (v, refl)
 
-module _ (content : FileMap) (path bytes : List ℕ) (mode : Mode) (r : Repository) (p : Spells (shown content) r) where
-  -- where no file of the index conflicts, none of the machine's does
-  free_path : ¬ HasConflict p.map path → IsFreePath r.index path
-  free_path free q e found conflict = free (q, some_under (get p.map q) e (sym (p.index q) ∙ found), conflict)
+-- an index of the machine that has what the map has
+abbrev pub IsMachineIndex : Index → IndexMap → Type 0
+IsMachineIndex i m = (q : List ℕ) → get i q ≡ option_map machine_entry (get m q)
 
-  not_free_path : HasConflict p.map path → ¬ IsFreePath r.index path
+module _ (i : Index) (m : IndexMap) (path : List ℕ) (rel : IsMachineIndex i m) where
+  -- where no file of the index conflicts, none of the machine's does
+  pub free_path : ¬ HasConflict m path → IsFreePath i path
+  free_path free q e found conflict = free (q, some_under (get m q) e (sym (rel q) ∙ found), conflict)
+
+  pub not_free_path : HasConflict m path → ¬ IsFreePath i path
   not_free_path h free =
-      let v = some_value (get p.map h.0) h.1 in
-      free h.0 (machine_entry v.0) (p.index h.0 ∙ ap (option_map machine_entry) v.1) h.2
+      let v = some_value (get m h.0) h.1 in
+      free h.0 (machine_entry v.0) (rel h.0 ∙ ap (option_map machine_entry) v.1) h.2
+
+  -- the same of both with a file put into them
+  pub machine_index_put : (v : IndexEntry) → IsMachineIndex (insert i path (machine_entry v)) (insert m path v)
+  machine_index_put v q =
+      get-put i path q (machine_entry v) ∙ ap (cond (bytes_eq q path) (Some (machine_entry v))) (rel q) ∙ map_cond machine_entry (bytes_eq q path) (Some v) (get m q)
+      ∙ ap (option_map machine_entry) (sym (get-put m path q v))
 
 abbrev pub staged_objects : FileMap → List ℕ → Shown
 staged_objects content bytes = with_objects_shown (shown content) (with_object (objects content) (object_name kinds.Blob bytes) (stored_object kinds.Blob bytes))
@@ -155,7 +165,7 @@ staged_deed awaited r path mode bytes = quietly awaited (record { objects = only
 pub staged_obeyed : (content : FileMap) (path bytes : List ℕ) (mode : Mode) (awaited : Awaited) (r : Repository) → (p : Spells (shown content) r) → MayStage p.map path bytes
     → Obeys git git_rules r awaited (Stage path (mode_number mode) bytes) (staged_deed awaited r path mode bytes)
 staged_obeyed content path bytes mode awaited r p may =
-    (may.legal, free_path content path bytes mode r p may.free, may.object, refl)
+    (may.legal, free_path r.index p.map path p.index may.free, may.object, refl)
 
 pub add_done : (content : FileMap) (path bytes : List ℕ) (mode : Mode) (new : Shown) → mode ≢ modes.Tree
     → ((m : IndexMap) → SpellsIndex content m → new ≡ with_index_shown (staged_objects content bytes) (index_text (staged_map m path mode bytes)))
@@ -168,8 +178,7 @@ add_done content path bytes mode new file is may = record {
       let ok = may p.map (spells_index content r p) in
       let v = index_entry mode (object_name kinds.Blob bytes) in
       let i = staged_index r path mode bytes in
-      let rel : (q : List ℕ) → get i q ≡ option_map machine_entry (get (staged_map p.map path mode bytes) q) =
-      λ q. get-put r.index path q (machine_entry v) ∙ ap (cond (bytes_eq q path) (Some (machine_entry v))) (p.index q) ∙ map_cond machine_entry (bytes_eq q path) (Some v) (get p.map q) ∙ ap (option_map machine_entry) (sym (get-put p.map path q v)) in
+      let rel : IsMachineIndex i (staged_map p.map path mode bytes) = machine_index_put r.index p.map path p.index v in
       let sound = insert-IsIndex p.map path v p.map_sound (record { legal = ok.legal; mode = file; id = ok.id }) ok.free in
       let stored = with_objects r (added r.objects k o) in
       let after = record stored { index = i } in (
@@ -205,7 +214,7 @@ pub add_failed : (content : FileMap) (path bytes : List ℕ) (mode : Mode) (e : 
 add_failed content path bytes mode (Store (store.BadObject f)) new blames damage left =
     inr (add_declined content path bytes mode (Store (store.BadObject f)) (object_number f) new refl refl left (λ r p.
     let b = blames p.map (spells_index content r p) in
-    inr (b.0, inr (free_path content path bytes mode r p b.1, (f, b.2, refl)))))
+    inr (b.0, inr (free_path r.index p.map path p.index b.1, (f, b.2, refl)))))
 add_failed content path bytes mode (Store (store.Absent id)) new blames damage left = inr (record { goes = λ awaited r p. absurd (blames p.map (spells_index content r p)) })
 add_failed content path bytes mode (Store (store.Damaged id)) new blames damage left = inl damage
 add_failed content path bytes mode (Store (store.Fault f)) new blames damage left = inr (record {
@@ -226,7 +235,7 @@ add_failed content path bytes mode BadPath new blames damage left =
 add_failed content path bytes mode PathConflict new blames damage left =
     inr (add_declined content path bytes mode PathConflict 61 new refl refl left (λ r p.
     let b = blames p.map (spells_index content r p) in
-    inr (b.0, inl (not_free_path content path bytes mode r p b.1, refl))))
+    inr (b.0, inl (not_free_path r.index p.map path p.index b.1, refl))))
 add_failed content path bytes mode (BadIndex place) new blames damage left = inr (record { goes = λ awaited r p. absurd (blames p.map (spells_index content r p)) })
 add_failed content path bytes mode (Ref e) new blames damage left = inr (record { goes = λ awaited r p. absurd (blames p.map (spells_index content r p)) })
 add_failed content path bytes mode (Missing id) new blames damage left = inr (record { goes = λ awaited r p. absurd (blames p.map (spells_index content r p)) })

@@ -25,6 +25,7 @@ pub mod RestartLemmas
 pub mod SettledLemmas
 pub mod ShownLemmas
 pub mod SoundAnswers
+pub mod StagingLemmas
 pub mod StartLemmas
 pub mod StoringLemmas
 pub mod TreeLemmas

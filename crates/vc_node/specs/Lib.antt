@@ -16,4 +16,5 @@ pub mod Printed
 pub mod Reads
 pub mod Receipts
 pub mod Shown
+pub mod Staging
 pub mod Values

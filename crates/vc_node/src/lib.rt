@@ -15,6 +15,7 @@ mod index_file;
 mod local;
 mod node;
 mod opened;
+mod staging;
 
 pub use burning::{
     a_call_spends_what_the_machine_allows, an_exchange_spends_what_the_machine_allows,
@@ -26,3 +27,4 @@ pub use fault::NodeFault;
 pub use index_file::{read_index, write_index};
 pub use node::{CloneNode, make_ready};
 pub use opened::{a_held_node_can_be_opened, new_files_can_be_opened};
+pub use staging::Staged;

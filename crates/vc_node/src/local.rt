@@ -4,6 +4,7 @@ ghost use Rattle.std.specs.Prelude.{◌≡◌, ◌≢◌, ◌⊎◌, IfOk, IfErr
 ghost use Rattle.std.specs.FinMap as paths;
 ghost use Rattle.vc_answer.specs.Reached.{KeepsObjects};
 ghost use Rattle.vc_files.specs.Failures.{Wears, Writes};
+ghost use Rattle.vc_files.specs.FileMap.{SameOutside};
 ghost use Rattle.vc_index.specs.IndexMap.{IndexMap, HasConflict, index_entry};
 ghost use Rattle.vc_index.specs.IndexText.{index_text};
 ghost use Rattle.vc_index.specs.Path.{IsPath};
@@ -48,6 +49,7 @@ pub(crate) fn write<F: Files>(
     ensures name { IfOk result (λ id. id ≡ object_name kind body.now) }
     ensures legal { IsOk result → IsObject kind body.now }
     ensures stored { F.honest → IfOk result (λ id. shown (F.content files.new) ≡ with_objects_shown (shown (F.content files.old)) (with_object (objects (F.content files.old)) id (stored_object kind body.now))) }
+    ensures outside { F.honest → SameOutside (codes "objects/") (F.content files.old) (F.content files.new) }
     ensures refused { F.honest → IfErr result (BlamesWrite (F.content files.old) kind body.now) }
     ensures err { F.honest → OnErr result (F.content files.new ≡ F.content files.old) }
     ensures clean { F.honest → OnOk result (KeepsClean (F.content files.old) (F.content files.new)) }

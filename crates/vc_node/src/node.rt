@@ -1,6 +1,6 @@
 // A clone.
 ghost use Rattle.std.specs.Prelude.{◌≡◌, ◌≢◌, ◌⊎◌, ℕ, List, [], Ok, Err, OnOk, OnErr, IfOk, IfErr, IsErrOf, is_ok, true, false, not, nat_eq, map, codes};
-ghost use Rattle.std.specs.List.{starts_with};
+ghost use Rattle.std.specs.List.{All, starts_with};
 ghost use Rattle.vc_format.specs.Git.{bytes_of_id};
 ghost use Rattle.vc_model.specs.Clone.Task.{Write, Stage, Unstage, LoadTree, MakeCommit, SetBranch, DeleteBranch, MoveHead};
 ghost use Rattle.vc_model.specs.Clone.Awaited.{Nothing};
@@ -26,10 +26,12 @@ ghost use Rattle.vc_node.specs.Awaited.{nothing};
 ghost use Rattle.vc_node.specs.CloneCalls.{AnswersClone, FoundAs, MayOr, ReceivedAs, RestartedAs, SentAs};
 ghost use Rattle.vc_node.specs.CloneFaults.{TellsDevice as CloneTellsDevice, is_fault as is_clone_fault, of_device, up_after as clone_up_after};
 ghost use Rattle.vc_node.specs.Receipts.{IsOfMessage, IsRefusedBytes, IsRefusedMessage, IsRefusedStart, IsRefusedValue};
-ghost use Rattle.vc_node.specs.Blames.{BlamesLoad, BlamesOpen, IsLocalHead};
+ghost use Rattle.vc_node.specs.Blames.{BlamesLoad, BlamesOpen, BlamesWrite, IsLocalHead};
 ghost use Rattle.vc_files.specs.FileMap.{SameOutside};
+ghost use Rattle.vc_index.specs.IndexMap.{IndexMap};
 ghost use Rattle.vc_node.specs.Clean.{KeepsClean};
 ghost use Rattle.vc_node.specs.Commit.{IsCommitted};
+ghost use Rattle.vc_node.specs.IndexFile.{BlamesIndex, SpellsIndex};
 ghost use Rattle.vc_rules.specs.Git.{machine_object, mode_number};
 ghost use Rattle.vc_node.specs.Machine.{Answers, AnswersIfSound, AnswersShown, AnswersShownIfSound, HoldsNode, MayWriteIfSoundOr, MayWriteOr, OrBadFile, machine_head, made_answer, done_answer, up_after};
 ghost use Rattle.vc_files.specs.Failures.{Wears, Writes};
@@ -37,16 +39,19 @@ ghost use Rattle.vc_node.specs.NodeFault.{is_fault, IsOfDevice, TellsDevice};
 ghost use Rattle.vc_node.specs.Opening.{IsOpenable, opened_node};
 ghost use Rattle.vc_node.specs.Reads.{IsAtHead, IsAtName, IsBelow, IsOfCommit, IsReached, IsReachedByHead, NoneRead, TellsRead};
 ghost use Rattle.vc_node.specs.Shown.{IsLoaded, IsReady, shown};
+ghost use Rattle.vc_node.specs.Staging.{BlamesStaging, StagesAllOr, StagesHeld, StagesShown, placed};
 
 use crate::awaited::Awaited;
 use crate::commit::Words;
 use crate::index_file::read_index;
-use crate::{CloneFault, NodeFault, Received, commit, exchanging, local};
+use crate::staging::Staged;
+use crate::{CloneFault, NodeFault, Received, commit, exchanging, local, staging};
 use std::alloc::Global;
 use std::marker::Model;
 use vc_answer::Reached;
 use vc_exchange::{PushItem, list_message, push_message};
 use vc_files::{Fault, Files, FusedFiles};
+use vc_index::Index;
 use vc_message::Message;
 use vc_object::{Kind, Mode, ObjectId};
 use vc_push::Report;
@@ -172,6 +177,9 @@ impl<F: Files> CloneNode<F> {
     pub fn write(&mut self, kind: Kind, body: &[u8]) -> Result<ObjectId, NodeFault>
         ensures answers { F.honest → Answers (Write (machine_object kind body.now)) (made_answer result) self.old.is_up self.new.is_up (F.content self.old.files) (F.content self.new.files) }
         ensures bad_file { F.honest → OrBadFile (F.content self.old.files) result (AnswersShown (Write (machine_object kind body.now)) (made_answer result) self.old.is_up self.new.is_up (shown (F.content self.old.files)) (shown (F.content self.new.files))) }
+        ensures name { IfOk result (λ id. id ≡ object_name kind body.now) }
+        ensures refused { F.honest → self.old.is_up ≡ true → IfErr result (BlamesWrite (F.content self.old.files) kind body.now) }
+        ensures outside { F.honest → SameOutside (codes "objects/") (F.content self.old.files) (F.content self.new.files) }
         ensures down { self.old.is_up ≡ false → result ≡ Err NodeFault.Down }
         ensures err { F.honest → OnErr result (F.content self.new.files ≡ F.content self.old.files) }
         ensures up { self.old.is_up ≡ true → self.new.is_up ≡ up_after result }
@@ -231,6 +239,54 @@ impl<F: Files> CloneNode<F> {
         }
         match local::add(self.alloc, &mut self.files, path, mode, bytes) {
             Ok(()) => Ok(()),
+            Err(fault) => Err(self.fail(fault)),
+        }
+    }
+
+    /// Puts files into the index, in their order, whose blobs are stored already. Of the first file at fault, a path that may
+    /// not stand there (60) is refused before one that conflicts with a file of the index as the files before it have made it
+    /// (61), and nothing is changed then. The index is read and written once; with no files neither is done.
+    pub fn stage_all(&mut self, files: &[Staged]) -> Result<(), NodeFault>
+        requires { All (λ file. file.mode ≢ Mode.Tree) files.now }
+        ensures answers { F.honest → StagesHeld files.now (done_answer result) self.old.is_up self.new.is_up (F.content self.old.files) (F.content self.new.files) }
+        ensures shown { F.honest → StagesShown files.now (done_answer result) self.old.is_up self.new.is_up (shown (F.content self.old.files)) (shown (F.content self.new.files)) }
+        ensures refused { F.honest → self.old.is_up ≡ true → (m : IndexMap) → SpellsIndex (F.content self.old.files) m → IfErr result (BlamesStaging m (map placed files.now)) }
+        ensures none { self.old.is_up ≡ true → files.now ≡ [] → (result ≡ Ok tt) × (self.new.files ≡ self.old.files) }
+        ensures down { self.old.is_up ≡ false → result ≡ Err NodeFault.Down }
+        ensures err { F.honest → OnErr result (F.content self.new.files ≡ F.content self.old.files) }
+        ensures up { self.old.is_up ≡ true → self.new.is_up ≡ up_after result }
+        ensures awaits { self.new.awaited ≡ self.old.awaited }
+        ensures clean { F.honest → KeepsClean (F.content self.old.files) (F.content self.new.files) }
+        ensures file { IfErr result (TellsRead NoneRead NoneRead) }
+        ensures wear { Writes F.honest F.content F.failed F.can_fail F.left self.old.files self.new.files (TellsDevice result) }
+        ensures looks { F.honest → StagesAllOr files.now self.old.is_up (F.content self.old.files) (Wears F.failed F.can_fail F.left self.old.files self.new.files (TellsDevice result)) }
+    {
+        if !self.is_up {
+            return Err(NodeFault::Down);
+        }
+        match staging::stage_all(self.alloc, &mut self.files, files) {
+            Ok(()) => Ok(()),
+            Err(fault) => Err(self.fail(fault)),
+        }
+    }
+
+    /// The index, which a file that spells none (62) refuses.
+    pub fn index(&mut self) -> Result<Index, NodeFault>
+        ensures spelled { F.honest → IfOk result (SpellsIndex (F.content self.old.files)) }
+        ensures again { F.honest → (m : IndexMap) → SpellsIndex (F.content self.old.files) m → IfOk result (λ index. index ≡ m) }
+        ensures refused { F.honest → self.old.is_up ≡ true → IfErr result (BlamesIndex (F.content self.old.files)) }
+        ensures down { self.old.is_up ≡ false → result ≡ Err NodeFault.Down }
+        ensures same { F.content self.new.files ≡ F.content self.old.files }
+        ensures up { self.old.is_up ≡ true → self.new.is_up ≡ up_after result }
+        ensures awaits { self.new.awaited ≡ self.old.awaited }
+        ensures file { IfErr result (TellsRead NoneRead NoneRead) }
+        ensures wear { Wears F.failed F.can_fail F.left self.old.files self.new.files (TellsDevice result) }
+    {
+        if !self.is_up {
+            return Err(NodeFault::Down);
+        }
+        match read_index(self.alloc, &mut self.files) {
+            Ok(index) => Ok(index),
             Err(fault) => Err(self.fail(fault)),
         }
     }

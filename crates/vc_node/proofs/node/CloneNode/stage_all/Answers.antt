@@ -1,0 +1,48 @@
+use Rattle.std.proofs.Common.{refl, rules, ap, ◌∙◌, inr}
+use Rattle.vc_answer.proofs.KeepsLemmas.{StandsIn-kept}
+use Rattle.vc_node.proofs.CleanLemmas.{clean_same}
+use Rattle.vc_node.proofs.IndexLemmas.{spells_index}
+use Rattle.vc_node.proofs.LookLemmas.{looks_none, or_told, or_failed}
+use Rattle.vc_node.proofs.StagingLemmas.{staging_done, staging_down, staging_failed, staging_held, staging_may}
+use Rattle.vc_node.proofs.node.CloneNode.stage_all.Goals as goal
+
+pub returns-then-not-self-clause-shown : goal.returns-then-not-self-clause-shown
+returns-then-not-self-clause-shown g c = λ honest. staging_down _ _ _ (search rules)
+
+pub returns-in-Ok-clause-shown : goal.returns-in-Ok-clause-shown
+returns-in-Ok-clause-shown g c = λ honest. rw (← c.self.view_is) (staging_done _ c.args.files.now _ _ _ c.requires (c.in-Ok.ensures.staged honest) (c.in-Ok.ensures.may honest) (search rules) (search rules))
+
+pub returns-in-Err-clause-shown : goal.returns-in-Err-clause-shown
+returns-in-Err-clause-shown g c = λ honest.
+    let content = g.F.Files.content in
+    let same = ap content c.fail.ensures.files ∙ c.in-Err.ensures.err honest in
+    rw (← c.self.view_is) (staging_failed (content c.self.inside.files) c.args.files.now _ _ (search rules) c.in-Err.fault _ (content c.fail.new.self.files) c.fail.ensures.fault same (c.in-Err.ensures.refused honest) (c.fail.ensures.up (search rules)))
+
+pub returns-then-not-self-clause-answers : goal.returns-then-not-self-clause-answers
+returns-then-not-self-clause-answers g c = λ honest. staging_held _ _ _ _ _ _ (returns-then-not-self-clause-shown g c honest) (clean_same _ _ refl)
+
+pub returns-in-Ok-clause-answers : goal.returns-in-Ok-clause-answers
+returns-in-Ok-clause-answers g c = λ honest. staging_held _ _ _ _ _ _ (returns-in-Ok-clause-shown g c honest) (search rules)
+
+pub returns-in-Err-clause-answers : goal.returns-in-Err-clause-answers
+returns-in-Err-clause-answers g c = λ honest. staging_held _ _ _ _ _ _ (returns-in-Err-clause-shown g c honest) (search rules)
+
+pub returns-in-Err-clause-refused : goal.returns-in-Err-clause-refused
+returns-in-Err-clause-refused g c = rw (← c.self.view_is, c.fail.ensures.fault) (λ honest up m spells. c.in-Err.ensures.refused honest m spells)
+
+pub returns-then-not-self-clause-looks : goal.returns-then-not-self-clause-looks
+returns-then-not-self-clause-looks g c = λ honest awaited n files holds are. inr (looks_none (λ told. told))
+
+pub returns-in-Ok-clause-looks : goal.returns-in-Ok-clause-looks
+returns-in-Ok-clause-looks g c = λ honest. rw (← c.self.view_is) (λ awaited n files holds are.
+    or_told (c.in-Ok.ensures.looks honest holds.shows.spells.map (spells_index _ n.repository holds.shows.spells)) (λ may. staging_may _ c.args.files.now _ (search rules) awaited n files holds are may) (search rules))
+
+pub returns-in-Err-clause-looks : goal.returns-in-Err-clause-looks
+returns-in-Err-clause-looks g c = λ honest. rw (← c.self.view_is) (λ awaited n files holds are.
+    or_failed (c.in-Err.ensures.looks honest holds.shows.spells.map (spells_index _ n.repository holds.shows.spells)) (λ may. staging_may _ c.args.files.now _ (search rules) awaited n files holds are may) c.fail.ensures.files c.fail.ensures.fault)
+
+pub invariant_of-self : goal.invariant_of-self
+invariant_of-self g c = λ honest. StandsIn-kept _ _ c.self.inside.reached (c.in-Ok.ensures.objects honest) (c.self.invariant honest)
+
+pub invariant_of-self-in-Err : goal.invariant_of-self-in-Err
+invariant_of-self-in-Err g c = λ honest. StandsIn-kept _ _ c.self.inside.reached (c.in-Err.ensures.objects honest) (c.self.invariant honest)
