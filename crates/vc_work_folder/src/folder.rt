@@ -19,7 +19,8 @@ use vc_files::Fault;
 /// No link in the work tree is followed. A link that somebody placed there by hand is a file whose content is the
 /// text of the link: it is listed and read so, a write in its place puts a file there and leaves what it leads to
 /// alone, and a write below it is a fault. The folder's own path may lead through links. Each call looks at the folders above a
-/// path anew, but for a read of a file that is the very one that the last listing found there.
+/// path anew, but for reads of files that a listing found: these look at each folder once, while each file is still the very
+/// one that was found.
 ///
 /// A file is written whole into the folder of the store, as `checkout.lock`, and then renamed onto its path, which replaces
 /// a file or a link at once. So whenever a process is killed, no file of the work tree is cut short, and a write that fails
@@ -48,7 +49,7 @@ impl<R: rt::Files + AllocGlobal + Clone + Drop> FolderTree<R> {
     pub fn new(rt: R, path: String, own: String, store: String) -> Self
         ensures { result ≡ 0 }
     {
-        let listed = Listed::new(Vec::new(rt.alloc()));
+        let listed = Listed::new(rt.alloc(), Vec::new(rt.alloc()));
         FolderTree {
             ground: Ground {
                 rt,

@@ -59,14 +59,18 @@ impl<R: rt::Files + AllocGlobal + Clone + Drop> Ground<R> {
         }
     }
 
-    // Whether each folder above the path is one, and none is the store.
-    fn is_open(&self, alloc: Global, path: &str) -> io::Result<bool> {
+    // Whether each folder above the path is one, and none is the store. Those above `known` need no look.
+    fn is_open(&self, alloc: Global, path: &str, known: &str) -> io::Result<bool> {
         if self.is_store(path) {
             return Ok(false);
         }
         for (i, byte) in path.as_bytes().iter().enumerate() {
             if *byte == b'/' {
-                match self.kind_at(alloc, path.split_at(i).0)? {
+                let folder = path.split_at(i).0;
+                if is_above(folder, known) {
+                    continue;
+                }
+                match self.kind_at(alloc, folder)? {
                     Some(kind) if kind.is_dir() => {}
                     _ => return Ok(false),
                 }
@@ -75,17 +79,24 @@ impl<R: rt::Files + AllocGlobal + Clone + Drop> Ground<R> {
         Ok(true)
     }
 
-    // What stands at a path that leads through no link, or none. The folders above needn't be looked at where the file is the
-    // very one that the last listing found there.
+    // What stands at a path that leads through no link, or none.
+    //
+    // A file that the last listing found may have been found through a link, where one stood in the place of a folder for a moment.
+    // Where the folders above were such behind the listing, it was not; and while it is the very same file, they need no further
+    // look.
     fn find(&mut self, alloc: Global, path: &str, place: &str) -> io::Result<Option<Metadata>> {
         if let Some(mark) = self.listed.mark_of(path) {
+            if !self.is_open(alloc, path, self.listed.way.as_str())? {
+                return Ok(None);
+            }
+            self.listed.set_way(path)?;
             match self.look(place) {
                 Ok(Some(found)) if mark.is_of(&found) => return Ok(Some(found)),
-                // Something changed since, and what came may be a link.
+                // Something changed since the listing, and what came may be a link.
                 _ => {}
             }
         }
-        if !self.is_open(alloc, path)? {
+        if !self.is_open(alloc, path, "")? {
             return Ok(None);
         }
         self.look(place)
@@ -217,7 +228,7 @@ impl<R: rt::Files + AllocGlobal + Clone + Drop> Ground<R> {
 
     /// Takes a file or a link away. A folder stays.
     pub fn remove(&self, alloc: Global, path: &str) -> io::Result<()> {
-        if !self.is_open(alloc, path)? {
+        if !self.is_open(alloc, path, "")? {
             return Ok(());
         }
         let place = self.place(alloc, path)?;
@@ -229,7 +240,7 @@ impl<R: rt::Files + AllocGlobal + Clone + Drop> Ground<R> {
 
     /// Takes a folder away if it is empty, and says whether none is there now.
     pub fn remove_folder(&self, alloc: Global, path: &str) -> io::Result<bool> {
-        if !self.is_open(alloc, path)? {
+        if !self.is_open(alloc, path, "")? {
             return Ok(true);
         }
         let place = self.place(alloc, path)?;
@@ -271,20 +282,14 @@ impl<R: rt::Files + AllocGlobal + Clone + Drop> Ground<R> {
             let Some(folder) = folders.pop() else {
                 break;
             };
-            let (files_before, folders_before) = (found.len(), folders.len());
             self.names_in(alloc, folder.as_str(), &mut found, &mut folders)?;
-            // Where a link came in the place of the folder or of one above it, this may be what lies where the link leads.
-            if !self.is_open(alloc, folder.as_str())? {
-                found.truncate(files_before);
-                folders.truncate(folders_before);
-            }
         }
         found.sort()?;
         let mut names = Vec::new(alloc);
         for (path, _) in &found {
             names.push(path.clone()?)?;
         }
-        self.listed = Listed::new(found);
+        self.listed = Listed::new(alloc, found);
         Ok(names)
     }
 
@@ -327,6 +332,14 @@ impl<R: rt::Files + AllocGlobal + Clone + Drop> Ground<R> {
             }
         }
         Ok(())
+    }
+}
+
+// Whether the folder is one of those above the path.
+fn is_above(folder: &str, path: &str) -> bool {
+    match path.strip_prefix(folder) {
+        Some(rest) => rest.starts_with('/'),
+        None => false,
     }
 }
 

@@ -1,4 +1,5 @@
 // What a listing found, by which a file is known again.
+use std::alloc::{AllocError, Global};
 use std::cmp::Ordering;
 use std::fs::Metadata;
 use std::os::unix::fs::MetadataExt;
@@ -34,13 +35,24 @@ impl Mark {
 pub(crate) struct Listed {
     // The next one stands last.
     left: Vec<(String, Mark)>,
+    /// A path of which each folder above was one when it was looked at behind the listing, or none yet.
+    pub way: String,
 }
 
 impl Listed {
     /// What a listing found, in the order of the paths.
-    pub fn new(mut found: Vec<(String, Mark)>) -> Listed {
+    pub fn new(alloc: Global, mut found: Vec<(String, Mark)>) -> Listed {
         found.reverse();
-        Listed { left: found }
+        Listed {
+            left: found,
+            way: String::new(alloc),
+        }
+    }
+
+    /// Keeps a path of which each folder above was looked at.
+    pub fn set_way(&mut self, path: &str) -> Result<(), AllocError> {
+        self.way.clear();
+        self.way.push_str(path)
     }
 
     /// The mark of the file with this path, or none where it wasn't listed or is passed. All that stand before it are passed then.
