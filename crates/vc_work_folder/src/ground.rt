@@ -26,14 +26,12 @@ pub(crate) struct Ground<R> {
 impl<R: rt::Files + AllocGlobal + Clone + Drop> Ground<R> {
     // Where a path lies.
     fn place(&self, alloc: Global, path: &str) -> io::Result<String> {
-        let top = self.path.as_str();
-        Ok(format!(in alloc; "{top}/{path}")?)
+        joined(alloc, self.path.as_str(), "/", path)
     }
 
     // Where a file is written before it has its place.
     fn draft(&self, alloc: Global) -> io::Result<String> {
-        let store = self.store.as_str();
-        Ok(format!(in alloc; "{store}/{DRAFT}")?)
+        joined(alloc, self.store.as_str(), "/", DRAFT)
     }
 
     // Whether the path is that of a store, or lies in it: its first part is `.git`, or it is the store's own.
@@ -254,7 +252,7 @@ impl<R: rt::Files + AllocGlobal + Clone + Drop> Ground<R> {
 
     // Removes a folder with all folders in it. One that holds anything else stays, and is an error.
     fn remove_empty(&self, alloc: Global, path: &str) -> io::Result<()> {
-        let mut found = vec![in alloc; format!(in alloc; "{path}/")?]?;
+        let mut found = vec![in alloc; joined(alloc, path, "/", "")?]?;
         let mut next = 0;
         for _ in 0..u64::MAX {
             if next >= found.len() {
@@ -285,7 +283,7 @@ impl<R: rt::Files + AllocGlobal + Clone + Drop> Ground<R> {
             self.names_in(alloc, folder.as_str(), &mut found, &mut folders)?;
         }
         found.sort()?;
-        let mut names = Vec::new(alloc);
+        let mut names = Vec::with_capacity(alloc, found.len())?;
         for (path, _) in &found {
             names.push(path.clone()?)?;
         }
@@ -321,18 +319,28 @@ impl<R: rt::Files + AllocGlobal + Clone + Drop> Ground<R> {
             };
             let kind = metadata.file_type();
             let name = entry.file_name();
-            let path = format!(in alloc; "{folder}{name}")?;
+            let path = joined(alloc, folder, name, "")?;
             if self.is_store(path.as_str()) {
                 continue;
             }
             if kind.is_dir() {
-                folders.push(format!(in alloc; "{folder}{name}/")?)?;
+                folders.push(joined(alloc, folder, name, "/")?)?;
             } else if kind.is_file() || kind.is_symlink() {
                 found.push((path, Mark::of(&metadata)))?;
             }
         }
         Ok(())
     }
+}
+
+// Three texts in a row. A path is made for each call, so it is made with one piece of memory.
+fn joined(alloc: Global, first: &str, second: &str, third: &str) -> io::Result<String> {
+    let length = first.len().saturating_add(second.len());
+    let mut whole = String::with_capacity(alloc, length.saturating_add(third.len()))?;
+    whole.push_str(first)?;
+    whole.push_str(second)?;
+    whole.push_str(third)?;
+    Ok(whole)
 }
 
 // Whether the folder is one of those above the path.
