@@ -3,6 +3,7 @@ ghost use Rattle.std.specs.Prelude.{◌≡◌, ◌≤◌, IsErrOf};
 ghost use Rattle.vc_files.specs.Failures.{HasFailed};
 
 use crate::ground::Ground;
+use crate::listed::Listed;
 use std::alloc::Global;
 use std::io::{self, ErrorKind};
 use std::marker::Model;
@@ -17,7 +18,9 @@ use vc_files::Fault;
 ///
 /// No link in the work tree is followed. A link that somebody placed there by hand is a file whose content is the
 /// text of the link: it is listed and read so, a write in its place puts a file there and leaves what it leads to
-/// alone, and a write below it is a fault. The folder's own path may lead through links.
+/// alone, and a write below it is a fault. The folder's own path may lead through links. Each call looks at the folders above a
+/// path anew, but for reads of files that a listing found: these look at each folder once, while each file is still the very
+/// one that was found.
 ///
 /// A file is written whole into the folder of the store, as `checkout.lock`, and then renamed onto its path, which replaces
 /// a file or a link at once. So whenever a process is killed, no file of the work tree is cut short, and a write that fails
@@ -46,12 +49,14 @@ impl<R: rt::Files + AllocGlobal + Clone + Drop> FolderTree<R> {
     pub fn new(rt: R, path: String, own: String, store: String) -> Self
         ensures { result ≡ 0 }
     {
+        let listed = Listed::new(rt.alloc(), Vec::new(rt.alloc()));
         FolderTree {
             ground: Ground {
                 rt,
                 path,
                 own,
                 store,
+                listed,
             },
             failed: 0,
         }

@@ -1,7 +1,8 @@
 // The system's calls on the files of a folder, none of which follows a link below it.
+use crate::listed::{Listed, Mark};
 use crate::own::is_own;
 use std::alloc::Global;
-use std::fs::{self, File, FileType, OpenFile};
+use std::fs::{self, File, FileType, Metadata};
 use std::io::{self, ErrorKind, Read, Write};
 use std::rt;
 
@@ -18,19 +19,19 @@ pub(crate) struct Ground<R> {
     pub own: String,
     /// Where the store's folder is.
     pub store: String,
+    /// What the last listing found.
+    pub listed: Listed,
 }
 
 impl<R: rt::Files + AllocGlobal + Clone + Drop> Ground<R> {
     // Where a path lies.
     fn place(&self, alloc: Global, path: &str) -> io::Result<String> {
-        let top = self.path.as_str();
-        Ok(format!(in alloc; "{top}/{path}")?)
+        joined(alloc, self.path.as_str(), "/", path)
     }
 
     // Where a file is written before it has its place.
     fn draft(&self, alloc: Global) -> io::Result<String> {
-        let store = self.store.as_str();
-        Ok(format!(in alloc; "{store}/{DRAFT}")?)
+        joined(alloc, self.store.as_str(), "/", DRAFT)
     }
 
     // Whether the path is that of a store, or lies in it: its first part is `.git`, or it is the store's own.
@@ -38,24 +39,36 @@ impl<R: rt::Files + AllocGlobal + Clone + Drop> Ground<R> {
         is_git(path) || is_own(self.own.as_str().as_bytes(), path.as_bytes())
     }
 
-    // What stands at a path, or none where nothing does. A link is a link.
-    fn kind_at(&self, alloc: Global, path: &str) -> io::Result<Option<FileType>> {
-        let place = self.place(alloc, path)?;
-        match fs::symlink_metadata(&self.rt, place.as_str()) {
-            Ok(metadata) => Ok(Some(metadata.file_type())),
+    // What stands at a place, or none where nothing does. A link is a link.
+    fn look(&self, place: &str) -> io::Result<Option<Metadata>> {
+        match fs::symlink_metadata(&self.rt, place) {
+            Ok(found) => Ok(Some(found)),
             Err(e) if is_absence(&e) => Ok(None),
             Err(e) => Err(e),
         }
     }
 
-    // Whether each folder above the path is one, and none is the store.
-    fn is_open(&self, alloc: Global, path: &str) -> io::Result<bool> {
+    // The kind of what stands at a path, or none where nothing does.
+    fn kind_at(&self, alloc: Global, path: &str) -> io::Result<Option<FileType>> {
+        let place = self.place(alloc, path)?;
+        match self.look(place.as_str())? {
+            Some(found) => Ok(Some(found.file_type())),
+            None => Ok(None),
+        }
+    }
+
+    // Whether each folder above the path is one, and none is the store. Those above `known` need no look.
+    fn is_open(&self, alloc: Global, path: &str, known: &str) -> io::Result<bool> {
         if self.is_store(path) {
             return Ok(false);
         }
         for (i, byte) in path.as_bytes().iter().enumerate() {
             if *byte == b'/' {
-                match self.kind_at(alloc, path.split_at(i).0)? {
+                let folder = path.split_at(i).0;
+                if is_above(folder, known) {
+                    continue;
+                }
+                match self.kind_at(alloc, folder)? {
                     Some(kind) if kind.is_dir() => {}
                     _ => return Ok(false),
                 }
@@ -64,15 +77,36 @@ impl<R: rt::Files + AllocGlobal + Clone + Drop> Ground<R> {
         Ok(true)
     }
 
-    /// The bytes of a file or the text of a link, or none where neither stands.
-    pub fn read(&self, alloc: Global, path: &str) -> io::Result<Option<Vec<u8>>> {
-        if !self.is_open(alloc, path)? {
+    // What stands at a path that leads through no link, or none.
+    //
+    // A file that the last listing found may have been found through a link, where one stood in the place of a folder for a moment.
+    // Where the folders above were such behind the listing, it was not; and while it is the very same file, they need no further
+    // look.
+    fn find(&mut self, alloc: Global, path: &str, place: &str) -> io::Result<Option<Metadata>> {
+        if let Some(mark) = self.listed.mark_of(path) {
+            if !self.is_open(alloc, path, self.listed.way.as_str())? {
+                return Ok(None);
+            }
+            self.listed.set_way(path)?;
+            match self.look(place) {
+                Ok(Some(found)) if mark.is_of(&found) => return Ok(Some(found)),
+                // Something changed since the listing, and what came may be a link.
+                _ => {}
+            }
+        }
+        if !self.is_open(alloc, path, "")? {
             return Ok(None);
         }
-        let Some(kind) = self.kind_at(alloc, path)? else {
+        self.look(place)
+    }
+
+    /// The bytes of a file or the text of a link, or none where neither stands.
+    pub fn read(&mut self, alloc: Global, path: &str) -> io::Result<Option<Vec<u8>>> {
+        let place = self.place(alloc, path)?;
+        let Some(found) = self.find(alloc, path, place.as_str())? else {
             return Ok(None);
         };
-        let place = self.place(alloc, path)?;
+        let kind = found.file_type();
         if kind.is_symlink() {
             let text = self.rt.read_link(alloc, place.as_str())?;
             return Ok(Some(text.into_string().into_bytes()));
@@ -80,14 +114,30 @@ impl<R: rt::Files + AllocGlobal + Clone + Drop> Ground<R> {
         if !kind.is_file() {
             return Ok(None);
         }
-        self.read_whole(alloc, place.as_str()).map(Some)
+        self.read_whole(alloc, place.as_str(), found.len())
+            .map(Some)
     }
 
-    fn read_whole(&self, alloc: Global, place: &str) -> io::Result<Vec<u8>> {
+    // The bytes of a regular file that had this size a moment ago.
+    //
+    // A read that brings fewer bytes than there was room for has not always met the end: the system brings 2 GiB at most, and a
+    // signal or a bad disk may cut a read short. But where it brings the size that was told, and the room for one byte more stays
+    // empty, these are all bytes that the file had then, whatever somebody appends now. After any other count (the file grew, it
+    // shrank, or its size was never told) reads go on until one brings none.
+    fn read_whole(&self, alloc: Global, place: &str, size: u64) -> io::Result<Vec<u8>> {
+        let size = usize::try_from(size).unwrap_or(0);
         let mut file = File::open(&self.rt, place)?;
-        let size = usize::try_from(file.metadata()?.len()).unwrap_or(0);
-        // Room for one byte more, so that the end is found without a second buffer.
-        let mut bytes = Vec::with_capacity(alloc, size.saturating_add(1))?;
+        let mut bytes = vec![in alloc; 0; size.saturating_add(1)]?;
+        match file.read(bytes.as_mut_slice()) {
+            Ok(count) => {
+                bytes.truncate(count);
+                if count == size {
+                    return Ok(bytes);
+                }
+            }
+            Err(e) if e.kind() == ErrorKind::Interrupted => bytes.clear(),
+            Err(e) => return Err(e),
+        }
         file.read_to_end(&mut bytes)?;
         Ok(bytes)
     }
@@ -176,7 +226,7 @@ impl<R: rt::Files + AllocGlobal + Clone + Drop> Ground<R> {
 
     /// Takes a file or a link away. A folder stays.
     pub fn remove(&self, alloc: Global, path: &str) -> io::Result<()> {
-        if !self.is_open(alloc, path)? {
+        if !self.is_open(alloc, path, "")? {
             return Ok(());
         }
         let place = self.place(alloc, path)?;
@@ -188,7 +238,7 @@ impl<R: rt::Files + AllocGlobal + Clone + Drop> Ground<R> {
 
     /// Takes a folder away if it is empty, and says whether none is there now.
     pub fn remove_folder(&self, alloc: Global, path: &str) -> io::Result<bool> {
-        if !self.is_open(alloc, path)? {
+        if !self.is_open(alloc, path, "")? {
             return Ok(true);
         }
         let place = self.place(alloc, path)?;
@@ -202,7 +252,7 @@ impl<R: rt::Files + AllocGlobal + Clone + Drop> Ground<R> {
 
     // Removes a folder with all folders in it. One that holds anything else stays, and is an error.
     fn remove_empty(&self, alloc: Global, path: &str) -> io::Result<()> {
-        let mut found = vec![in alloc; format!(in alloc; "{path}/")?]?;
+        let mut found = vec![in alloc; joined(alloc, path, "/", "")?]?;
         let mut next = 0;
         for _ in 0..u64::MAX {
             if next >= found.len() {
@@ -210,9 +260,9 @@ impl<R: rt::Files + AllocGlobal + Clone + Drop> Ground<R> {
             }
             let folder = found[next].clone()?;
             next += 1;
-            let mut names = Vec::new(alloc);
-            self.names_in(alloc, folder.as_str(), &mut names, &mut found)?;
-            if !names.is_empty() {
+            let mut files = Vec::new(alloc);
+            self.names_in(alloc, folder.as_str(), &mut files, &mut found)?;
+            if !files.is_empty() {
                 return Err(io::Error::from(ErrorKind::DirectoryNotEmpty));
             }
         }
@@ -223,25 +273,30 @@ impl<R: rt::Files + AllocGlobal + Clone + Drop> Ground<R> {
     }
 
     /// The paths of all files and links, sorted.
-    pub fn list(&self, alloc: Global) -> io::Result<Vec<String>> {
-        let mut names = Vec::new(alloc);
+    pub fn list(&mut self, alloc: Global) -> io::Result<Vec<String>> {
+        let mut found = Vec::new(alloc);
         let mut folders = vec![in alloc; String::new(alloc)]?;
         for _ in 0..u64::MAX {
             let Some(folder) = folders.pop() else {
                 break;
             };
-            self.names_in(alloc, folder.as_str(), &mut names, &mut folders)?;
+            self.names_in(alloc, folder.as_str(), &mut found, &mut folders)?;
         }
-        names.sort()?;
+        found.sort()?;
+        let mut names = Vec::with_capacity(alloc, found.len())?;
+        for (path, _) in &found {
+            names.push(path.clone()?)?;
+        }
+        self.listed = Listed::new(alloc, found);
         Ok(names)
     }
 
-    // Adds the files and links of one folder to the names, and its folders to those that are left.
+    // Adds the files and links of one folder to those that were found, and its folders to those that are left.
     fn names_in(
         &self,
         alloc: Global,
         folder: &str,
-        names: &mut Vec<String>,
+        found: &mut Vec<(String, Mark)>,
         folders: &mut Vec<String>,
     ) -> io::Result<()> {
         let place = self.place(alloc, folder)?;
@@ -256,24 +311,43 @@ impl<R: rt::Files + AllocGlobal + Clone + Drop> Ground<R> {
                 Err(e) if e.kind() == ErrorKind::InvalidFilename => continue,
                 Err(e) => return Err(e),
             };
-            let kind = match entry.file_type() {
-                Ok(kind) => kind,
+            let metadata = match entry.metadata() {
+                Ok(metadata) => metadata,
                 // Somebody took it away meanwhile.
                 Err(e) if is_absence(&e) => continue,
                 Err(e) => return Err(e),
             };
+            let kind = metadata.file_type();
             let name = entry.file_name();
-            let path = format!(in alloc; "{folder}{name}")?;
+            let path = joined(alloc, folder, name, "")?;
             if self.is_store(path.as_str()) {
                 continue;
             }
             if kind.is_dir() {
-                folders.push(format!(in alloc; "{folder}{name}/")?)?;
+                folders.push(joined(alloc, folder, name, "/")?)?;
             } else if kind.is_file() || kind.is_symlink() {
-                names.push(path)?;
+                found.push((path, Mark::of(&metadata)))?;
             }
         }
         Ok(())
+    }
+}
+
+// Three texts in a row. A path is made for each call, so it is made with one piece of memory.
+fn joined(alloc: Global, first: &str, second: &str, third: &str) -> io::Result<String> {
+    let length = first.len().saturating_add(second.len());
+    let mut whole = String::with_capacity(alloc, length.saturating_add(third.len()))?;
+    whole.push_str(first)?;
+    whole.push_str(second)?;
+    whole.push_str(third)?;
+    Ok(whole)
+}
+
+// Whether the folder is one of those above the path.
+fn is_above(folder: &str, path: &str) -> bool {
+    match path.strip_prefix(folder) {
+        Some(rest) => rest.starts_with('/'),
+        None => false,
     }
 }
 

@@ -3,6 +3,7 @@
 
 mod folder;
 mod ground;
+mod listed;
 mod own;
 
 pub use folder::FolderTree;
