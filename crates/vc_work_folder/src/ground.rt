@@ -79,9 +79,9 @@ impl<R: rt::Files + AllocGlobal + Clone + Drop> Ground<R> {
 
     // What stands at a path that leads through no link, or none.
     //
-    // A file that the last listing found may have been found through a link, where one stood in the place of a folder for a moment.
-    // Where the folders above were such behind the listing, it was not; and while it is the very same file, they need no further
-    // look.
+    // Above the files that the last listing found each folder is looked at once, behind that listing, and not anew for each file.
+    // If all were folders then, the listing went through no link that came in the place of one, and what it found lay in the work
+    // tree. As long as the mark is the same this is that file, whatever came in a folder's place since.
     fn find(&mut self, alloc: Global, path: &str, place: &str) -> io::Result<Option<Metadata>> {
         if let Some(mark) = self.listed.mark_of(path) {
             if !self.is_open(alloc, path, self.listed.way.as_str())? {
