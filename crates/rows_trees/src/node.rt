@@ -9,7 +9,7 @@ use crate::words::{Names, bytes, cut, digits, file_mode, id_of};
 use anyhow::{Context, Result, bail};
 use std::alloc::Global;
 use std::mem;
-use vc_node::CloneNode;
+use vc_node::{CloneNode, Staged};
 use vc_refname::RefName;
 use vc_refs::Head;
 
@@ -49,6 +49,7 @@ fn call(bench: &mut Bench, verb: &str, rest: &str) -> Result<String> {
     match verb {
         "write" => return write(alloc, node, rest),
         "add" => add(alloc, node, rest)?,
+        "stage" => stage(alloc, node, names, rest)?,
         "unstage" => node.unstage(&bytes(alloc, rest)?)?,
         "load" => node.load_tree(&id_of(names, rest)?)?,
         "head" => node.set_head(&head_of(alloc, names, rest)?)?,
@@ -73,6 +74,20 @@ fn add(alloc: Global, node: &mut CloneNode<Device>, rest: &str) -> Result<()> {
     let (path, text) = cut(rest);
     let (path, text) = (bytes(alloc, path)?, bytes(alloc, text)?);
     node.add(&path, file_mode(mode)?, &text)?;
+    Ok(())
+}
+
+// Puts files into the index at once, with one mode: of each stands its path, `=` and the id of its blob.
+fn stage(alloc: Global, node: &mut CloneNode<Device>, names: &Names, rest: &str) -> Result<()> {
+    let (mode, words) = cut(rest);
+    let mode = file_mode(mode)?;
+    let mut files = Vec::new(alloc);
+    for word in words.split_whitespace() {
+        let (path, id) = word.split_once('=').context("no id of a blob")?;
+        let (path, id) = (bytes(alloc, path)?, id_of(names, id)?);
+        files.push(Staged { path, mode, id })?;
+    }
+    node.stage_all(&files)?;
     Ok(())
 }
 
