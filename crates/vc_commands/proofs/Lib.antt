@@ -1,7 +1,9 @@
 pub mod AddLemmas
+pub mod AddedLemmas
 pub mod BodyLemmas
 pub mod CheckoutLemmas
 pub mod CloneLemmas
+pub mod NamedLemmas
 pub mod PieceLemmas
 pub mod PushLemmas
 pub mod StepLemmas

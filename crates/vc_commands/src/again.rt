@@ -19,6 +19,8 @@ pub struct Lists<'a> {
     pub parents: &'a [&'a str],
     /// What a push asks for.
     pub items: &'a [&'a str],
+    /// What is to be added.
+    pub paths: &'a [&'a str],
 }
 
 /// The line of what a refusal is about: what it names itself, else the word of the command line that was refused, if there is one.
@@ -78,6 +80,7 @@ where
         },
         Task::CatFile { revision, .. } => Ok(Some(revision.as_bytes())),
         Task::RevParse { revision } => Ok(Some(revision.as_bytes())),
+        Task::Local(LocalTask::Add { .. }) => Ok(only_word(lists.paths)),
         Task::Local(task) => Ok(local_word(task, failure)),
         // A push may have many items, and which one was refused isn't looked up again.
         Task::Remote(_) => Ok(None),
@@ -98,10 +101,18 @@ fn long_name<'a>(author: &'a [u8], committer: &'a [u8]) -> Option<&'a [u8]> {
     }
 }
 
+// The only one of the words; none where there are others, since which one was refused isn't looked up again.
+fn only_word<'a>(words: &[&'a str]) -> Option<&'a [u8]> {
+    match words {
+        [word] => Some(word.as_bytes()),
+        _ => None,
+    }
+}
+
 // The one word of a clone's subcommand that can be refused so.
 fn local_word<'a>(task: LocalTask<'a>, failure: &Failure) -> Option<&'a [u8]> {
     match task {
-        LocalTask::Add { path, .. } => Some(path.as_bytes()),
+        LocalTask::Add { .. } => None,
         LocalTask::Unstage { path } => Some(path.as_bytes()),
         LocalTask::Branch { name, revision } => match failure {
             Failure::Name(_) => Some(name.as_bytes()),

@@ -86,31 +86,16 @@ pub enum RemoteTask {
 /// A subcommand of a clone: of its index, branches, HEAD and work tree.
 #[derive(Clone, Copy)]
 pub enum LocalTask<'a> {
-    Add {
-        mode: FileMode,
-        work: &'a str,
-        path: &'a str,
-    },
-    Unstage {
-        path: &'a str,
-    },
+    /// Its paths are told by [`list_of`].
+    Add { mode: FileMode, work: &'a str },
+    Unstage { path: &'a str },
     WriteTree,
     /// Its extra parents are told by [`list_of`].
     Commit(Words<'a>),
-    Branch {
-        name: &'a str,
-        revision: &'a str,
-    },
-    BranchDelete {
-        name: &'a str,
-    },
-    Checkout {
-        work: &'a str,
-        revision: &'a str,
-    },
-    Status {
-        work: &'a str,
-    },
+    Branch { name: &'a str, revision: &'a str },
+    BranchDelete { name: &'a str },
+    Checkout { work: &'a str, revision: &'a str },
+    Status { work: &'a str },
 }
 
 impl Task<'_> {
@@ -363,8 +348,10 @@ fn said<'a>(alloc: Global, id: &'a str, help: &'a str) -> Arg<'a> {
 
 fn add<'a>(alloc: Global) -> Result<Command<'a>, AllocError> {
     Command::new(alloc, "add")
-        .about("Put a file of the work tree into the index")
-        .after_help("Example: vcs add src/lib.rs")
+        .about("Put files of the work tree into the index")
+        .after_help(
+            "A folder stands for all files in it, and . for the whole work tree; where one can't be put there, none is. A file that is\ngone from the work tree stays in the index: see unstage.\n\nExample: vcs add src/lib.rs README.md, or vcs add src, or vcs add .",
+        )
         .arg(store(alloc))?
         .arg(work(alloc))?
         .arg(
@@ -373,13 +360,15 @@ fn add<'a>(alloc: Global) -> Result<Command<'a>, AllocError> {
                 .value_name("mode")
                 .value_parser(MODES.as_slice())
                 .default_value("100644")
-                .help("A file, a file that may be run, or a link whose text the file holds"),
+                .help("Files, files that may be run, or links whose texts the files hold"),
         )?
-        .arg(word(
-            alloc,
-            "path",
-            "The file's path, from the work tree's folder",
-        ))
+        .arg(
+            Arg::new(alloc, "paths")
+                .value_name("path")
+                .required(true)
+                .num_args(1..)
+                .help("The path of a file or a folder, from the work tree's folder"),
+        )
 }
 
 fn unstage<'a>(alloc: Global) -> Result<Command<'a>, AllocError> {
@@ -641,7 +630,6 @@ fn local_task_of<'a>(name: &str, words: &ArgMatches<'a>) -> Option<LocalTask<'a>
         "add" => LocalTask::Add {
             mode: mode_named(words.get_str("mode")?)?,
             work: words.get_str("work")?,
-            path: words.get_str("path")?,
         },
         "unstage" => LocalTask::Unstage {
             path: words.get_str("path")?,

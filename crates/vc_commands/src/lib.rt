@@ -14,6 +14,7 @@ mod hash_object;
 mod init;
 mod input;
 mod merge_base;
+mod named_files;
 mod nearby;
 mod output;
 mod own_folder;

@@ -80,6 +80,7 @@ where
     let terms = terms_of(rt.alloc(), &matches)?;
     let parents = list_of(rt.alloc(), &matches, "parent")?;
     let items = list_of(rt.alloc(), &matches, "item")?;
+    let paths = list_of(rt.alloc(), &matches, "paths")?;
     let Some(request) = request_of(&matches) else {
         return Ok(2);
     };
@@ -87,6 +88,7 @@ where
         terms: terms.as_str(),
         parents: &parents,
         items: &items,
+        paths: &paths,
     };
     if !request.is_named && request.task.needs_store() {
         refuse_second_store(rt)?;
@@ -206,7 +208,7 @@ where
         Task::MergeBase { first, second } => {
             return merge_base(rt, store, first, second, output);
         }
-        Task::Local(task) => work_on(rt, store, task, lists.parents, output, faults)?,
+        Task::Local(task) => work_on(rt, store, task, lists, output, faults)?,
         Task::Remote(_) => {}
         Task::World { file } => world(rt, file, output)?,
     }
@@ -246,7 +248,7 @@ fn work_on<R, O, E>(
     rt: &R,
     store: &str,
     task: LocalTask<'_>,
-    parents: &[&str],
+    lists: Lists<'_>,
     output: &mut O,
     faults: &mut Faults<E>,
 ) -> Result<(), Failure>
@@ -256,10 +258,10 @@ where
     E: Write,
 {
     match task {
-        LocalTask::Add { mode, work, path } => add(rt, store, work, mode, path),
+        LocalTask::Add { mode, work } => add(rt, store, work, mode, lists.paths),
         LocalTask::Unstage { path } => unstage(rt, store, path),
         LocalTask::WriteTree => write_tree(rt, store, output),
-        LocalTask::Commit(words) => commit(rt, store, words, parents, output),
+        LocalTask::Commit(words) => commit(rt, store, words, lists.parents, output),
         LocalTask::Branch { name, revision } => branch(rt, store, name, revision, faults),
         LocalTask::BranchDelete { name } => branch_delete(rt, store, name, faults),
         LocalTask::Checkout { work, revision } => checkout(rt, store, work, revision),

@@ -1,6 +1,6 @@
 //! The subcommands that look at the work tree, over real folders: `add`, `checkout` and `status`.
 
-use crate::add::add_file;
+use crate::add::add_all;
 use crate::arguments::FileMode;
 use crate::checkout::check_out;
 use crate::clone::open_clone;
@@ -24,21 +24,27 @@ where
     Ok(FolderTree::new(rt.clone()?, path, own, store))
 }
 
-/// Puts a file of the work tree into the index. A path that no index may have is refused before the file is looked for.
-pub fn add<R>(rt: &R, store: &str, work: &str, mode: FileMode, path: &str) -> Result<(), Failure>
+/// Puts the files of the work tree that the paths name into the index.
+pub fn add<R>(
+    rt: &R,
+    store: &str,
+    work: &str,
+    mode: FileMode,
+    paths: &[&str],
+) -> Result<(), Failure>
 where
     R: rt::Files + Syncs<R::File> + AllocGlobal + Clone + Drop,
 {
     let own = own_folder(rt, store, work)?;
     let mut ground = open_work(rt, store, work, own.as_str())?;
     let mut node = open_clone(rt, store)?;
-    add_file(
+    add_all(
         rt.alloc(),
         &mut node,
         &mut ground,
         own.as_str().as_bytes(),
         mode,
-        path,
+        paths,
     )
 }
 
