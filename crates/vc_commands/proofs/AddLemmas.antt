@@ -1,5 +1,5 @@
 -- For `add`: the files that may be staged one behind the other, and the machine's commands by which they are.
-use Rattle.std.proofs.Common.{arith, ◌≡◌, ◌⊎◌, inl, inr, ℕ, zero, suc, ◌+◌, ◌<◌, length, take, drop, get_or, Bool, true, false, cond, List, [], ◌∷◌, ◌++◌, map, Option, Some, None, Ok, Err, refl, sym, ap, ◌∙◌, subst}
+use Rattle.std.proofs.Common.{arith, ◌≡◌, inl, inr, ℕ, zero, suc, ◌+◌, ◌<◌, length, take, drop, get_or, Bool, true, false, cond, List, [], ◌∷◌, ◌++◌, map, Option, Some, None, Ok, Err, refl, sym, ap, ◌∙◌, subst}
 use Rattle.std.specs.Prelude.{Result, IfErr, IsErrAnd, IsSome, is_some, bytes_eq, codes, unwrap_or, String, string_bytes}
 use Rattle.std.specs.FinMap.{get, insert, empty}
 use Rattle.std.specs.Global.{Global}
@@ -9,7 +9,7 @@ use Rattle.std.proofs.lemmas.List.{drop_more, map-append, take_more}
 use Rattle.std.proofs.lemmas.Slice.Eq.{bytes_eq-Decides}
 use Rattle.vc_files.specs.FileMap.{FileMap, SameOutside}
 use Rattle.vc_files.proofs.FileMapLemmas.{outside_then}
-use Rattle.vc_index.specs.IndexMap.{IndexMap, HasConflict, index_entry}
+use Rattle.vc_index.specs.IndexMap.{IndexMap, HasConflict}
 use Rattle.vc_index.specs.Path.{IsPath}
 use Rattle.vc_index.specs.declared.entry.IndexEntry.{IndexEntry}
 use Rattle.vc_model.specs.Clone.{Awaited, CloneNode, only_object}

@@ -1,42 +1,37 @@
 -- For `add` as a whole: the files that words name are there, and what each of its parts says is said of all of it.
-use Rattle.std.proofs.Common.{arith, ◌≡◌, ◌≢◌, ◌⊎◌, inl, inr, ℕ, zero, suc, ◌<◌, Bool, true, false, cond, List, [], ◌∷◌, ◌++◌, map, filter, length, get_or, Option, Some, Ok, Err, refl, sym, ap, ◌∙◌, subst}
-use Rattle.std.specs.Prelude.{Result, IsSome, is_some, bytes_eq, codes, not, option_map, String, string_bytes, unwrap_or}
-use Rattle.std.specs.Cmp.Lexicographic.{slice_cmp, nat_list_cmp_total}
+use Rattle.std.proofs.Common.{arith, ◌≡◌, inl, inr, ℕ, zero, suc, ◌<◌, Bool, true, false, cond, List, [], ◌∷◌, ◌++◌, map, filter, length, Option, Ok, Err, refl, sym, ap, ◌∙◌, subst}
+use Rattle.std.specs.Prelude.{Result, IsSome, is_some, bytes_eq, codes, not, String, string_bytes, unwrap_or}
+use Rattle.std.specs.Cmp.Lexicographic.{nat_list_cmp_total}
 use Rattle.std.specs.FinMap.{get, insert, entries, keys}
 use Rattle.std.specs.Global.{Global}
 use Rattle.std.specs.List.{All, AllByRecursion, flat_map}
-use Rattle.std.specs.Ordering.{nat_cmp}
 use Rattle.vc_files.specs.FileMap.{FileMap, SameOutside}
-use Rattle.vc_files.proofs.FileMapLemmas.{outside_then}
-use Rattle.vc_index.specs.IndexMap.{IndexMap, index_entry}
+use Rattle.vc_index.specs.IndexMap.{IndexMap}
 use Rattle.vc_index.specs.declared.entry.IndexEntry.{IndexEntry}
-use Rattle.vc_index.specs.declared.faults.IndexFault.{IndexFault}
 use Rattle.vc_index.specs.declared.faults.IndexFault.TheVariants as index
 use Rattle.vc_model.proofs.Entries.{all_entries}
-use Rattle.vc_model.specs.Clone.{Awaited, CloneNode}
 use Rattle.vc_model.specs.CloneCall.{Refuses}
 use Rattle.vc_model.specs.Node.Answer.{Did}
 use Rattle.vc_model.specs.Node.Reply.{Stored}
 use Rattle.vc_model.specs.Repository.{Repository}
 use Rattle.vc_object.specs.Object.{object_name}
-use Rattle.vc_object.specs.declared.id.ObjectId.{ObjectId}
 use Rattle.vc_object.specs.declared.kind.Kind.TheVariants.{Blob}
 use Rattle.vc_object.specs.declared.mode.Mode.{Mode}
 use Rattle.vc_rules.specs.Faults.{object_number}
 use Rattle.vc_rules.specs.Git.{git}
 use Rattle.vc_rules.proofs.GitLaws.{git_rules}
 use Rattle.vc_store.specs.declared.faults.StoreFault.TheVariants as store
-use Rattle.vc_node.specs.IndexFile.{BlamesIndex, SpellsIndex, index_bytes}
-use Rattle.vc_node.specs.Machine.{HoldsNode, live_of}
+use Rattle.vc_node.specs.IndexFile.{BlamesIndex, SpellsIndex}
+use Rattle.vc_node.specs.Machine.{live_of}
 use Rattle.vc_node.specs.NodeFault.{is_fault}
 use Rattle.vc_node.specs.Staging.{BlamesStaging, File, MayStandAll, RefusesFirst, StagesAll, StagesHeld, file_placed, placed, staging}
 use Rattle.vc_node.specs.declared.fault.NodeFault.{NodeFault}
 use Rattle.vc_node.specs.declared.fault.NodeFault.TheVariants as node
 use Rattle.vc_node.specs.declared.staging.Staged.{Staged}
 use Rattle.vc_node.proofs.IndexLemmas.{IsMachineIndex, spells_index}
-use Rattle.vc_commands.specs.Adding.{AddsFiles, AreBlobs, AreNamed, IsOfFile, IsOfStoring, IsUnchanged, Names, RefusesAdd, RefusesFiles, RefusesOneNamed, StoresFiles, WritesAll, file_at, files_at, files_below, files_named, files_named_by, is_below, spelled_path}
+use Rattle.vc_commands.specs.Adding.{AddsFiles, AreBlobs, AreNamed, IsOfFile, Names, RefusesAdd, RefusesFiles, RefusesOneNamed, StoresFiles, WritesAll, file_at, files_at, files_below, files_named, files_named_by, is_below, spelled_path}
 use Rattle.vc_commands.specs.declared.failure.Failure.{Failure}
-use Rattle.vc_commands.specs.declared.failure.Failure.TheVariants.{Node, NoSuchPath, Object, Fault}
+use Rattle.vc_commands.specs.declared.failure.Failure.TheVariants.{Node, Object, Fault}
 use Rattle.vc_commands.proofs.AddLemmas.{refuses_bad_path, refuses_body, refuses_conflict, refuses_one, staged_of}
 
 -- ---- the files are there

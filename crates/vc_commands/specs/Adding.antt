@@ -1,5 +1,5 @@
 -- What `add` does to a node: the files of the work tree that the words name are staged.
-use Rattle.std.specs.Prelude.{◌≡◌, ◌≢◌, ◌⊎◌, ◌++◌, ⊤, ℕ, Bool, true, false, not, ◌&&◌, ◌-◌, nat_eq, List, [], ◌∷◌, Vec, String, length, take, map, filter, codes, bytes_eq, string_bytes, Option, Some, None, is_some, unwrap_or, Result, if◌then◌else◌}
+use Rattle.std.specs.Prelude.{◌≡◌, ◌≢◌, ◌⊎◌, ◌++◌, ⊤, ℕ, Bool, true, false, not, ◌&&◌, ◌-◌, nat_eq, List, [], ◌∷◌, Vec, String, length, take, map, filter, codes, bytes_eq, string_bytes, Option, Some, None, is_some, unwrap_or, if◌then◌else◌}
 use Rattle.std.specs.FinMap.{get, insert, keys}
 use Rattle.std.specs.Global.{Global}
 use Rattle.std.specs.List.{AllByRecursion, ends_with, flat_map, starts_with}
@@ -27,7 +27,6 @@ use Rattle.vc_work_folder.specs.Own.{is_own}
 use Rattle.vc_node.specs.IndexFile.{index_bytes}
 use Rattle.vc_node.specs.Machine.{HoldsNode}
 use Rattle.vc_node.specs.Staging.{File, RefusesOne, StagesAll, file_placed}
-use Rattle.vc_node.specs.declared.fault.NodeFault.{NodeFault}
 use Rattle.vc_node.specs.declared.fault.NodeFault.TheVariants as node
 use Rattle.vc_node.specs.declared.staging.Staged.{Staged}
 use Rattle.vc_commands.specs.declared.failure.Failure.{Failure}

@@ -1,15 +1,13 @@
 use Rattle.std.proofs.Common.{rules, ◌≡◌, Bool, List, Err, true, map, sym, subst, ◌∙◌}
-use Rattle.std.specs.Prelude.{codes, string_bytes}
-use Rattle.std.specs.List.{flat_map}
+use Rattle.std.specs.Prelude.{codes}
 use Rattle.vc_files.specs.FileMap.{FileMap, SameOutside}
-use Rattle.vc_index.specs.IndexMap.{IndexMap}
 use Rattle.vc_node.specs.IndexFile.{SpellsIndex}
 use Rattle.vc_model.specs.Node.Answer.{Did}
 use Rattle.vc_model.specs.Node.Reply.{Stored}
 use Rattle.vc_node.specs.Staging.{BlamesStaging, File, MayStandAll, StagesHeld, file_placed, placed}
 use Rattle.vc_node.specs.declared.fault.NodeFault.TheVariants.{Down}
 use Rattle.vc_node.specs.declared.staging.Staged.{Staged}
-use Rattle.vc_commands.specs.Adding.{AreBlobs, AreNamed, IsOfStoring, RefusesAdd, RefusesFiles, StoresFiles, files_at, files_named, files_named_by}
+use Rattle.vc_commands.specs.Adding.{AreBlobs, AreNamed, RefusesAdd, RefusesFiles, StoresFiles, files_at, files_named}
 use Rattle.vc_commands.specs.CloneWords.{mode_of}
 use Rattle.vc_commands.specs.declared.failure.Failure.TheVariants.{Node}
 use Rattle.vc_commands.proofs.AddLemmas.{handed_on}

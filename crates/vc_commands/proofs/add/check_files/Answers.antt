@@ -1,13 +1,13 @@
-use Rattle.std.proofs.Common.{rules, ◌≡◌, ℕ, ◌+◌, List, drop, sym, ap, subst, ◌∙◌}
+use Rattle.std.proofs.Common.{◌≡◌, ℕ, ◌+◌, List, drop, ap, subst, ◌∙◌}
 use Rattle.std.specs.Prelude.{string_bytes}
 use Rattle.std.specs.FinMap.{insert}
-use Rattle.vc_index.specs.IndexMap.{HasConflict, IndexMap, index_entry}
+use Rattle.vc_index.specs.IndexMap.{HasConflict, index_entry}
 use Rattle.vc_index.specs.Path.{IsPath}
 use Rattle.vc_files.specs.FileMap.{FileMap}
 use Rattle.vc_object.specs.Object.{IsObject}
 use Rattle.vc_object.specs.declared.kind.Kind.TheVariants.{Blob}
 use Rattle.vc_commands.specs.Adding.{file_at, files_at}
-use Rattle.vc_commands.proofs.AddLemmas.{leads_begin, leads_more, rest_at}
+use Rattle.vc_commands.proofs.AddLemmas.{leads_more, rest_at}
 use Rattle.vc_commands.proofs.add.check_files.Goals as goal
 
 pub loop-path-preserved : goal.loop-path-preserved

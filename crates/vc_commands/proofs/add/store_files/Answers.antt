@@ -1,8 +1,7 @@
 use Rattle.std.proofs.Common.{rules, refl, ◌≡◌, ◌≢◌, ℕ, ◌+◌, List, [], ◌∷◌, ◌++◌, take, sym, ap, subst, ◌∙◌}
-use Rattle.std.specs.Prelude.{codes, string_bytes}
-use Rattle.std.specs.List.{All}
+use Rattle.std.specs.Prelude.{string_bytes}
 use Rattle.std.proofs.lemmas.List.Elements.{All-push}
-use Rattle.vc_files.specs.FileMap.{FileMap, SameOutside}
+use Rattle.vc_files.specs.FileMap.{FileMap}
 use Rattle.vc_files.specs.declared.faults.Fault.TheVariants.{Memory}
 use Rattle.vc_files.proofs.FileMapLemmas.{outside_then}
 use Rattle.vc_object.specs.Object.{IsObject}
@@ -10,7 +9,7 @@ use Rattle.vc_object.specs.declared.kind.Kind.TheVariants.{Blob}
 use Rattle.vc_object.specs.declared.mode.Mode.TheVariants.{Tree}
 use Rattle.vc_node.specs.declared.staging.Staged.{Staged}
 use Rattle.vc_node.proofs.CleanLemmas.{clean_same, clean_then}
-use Rattle.vc_commands.specs.Adding.{AreNamed, IsNamed, IsOfStoring, StoresFiles, file_at, files_at}
+use Rattle.vc_commands.specs.Adding.{IsNamed, IsOfStoring, StoresFiles, file_at, files_at}
 use Rattle.vc_commands.specs.declared.failure.Failure.TheVariants.{Fault}
 use Rattle.vc_commands.proofs.AddLemmas.{blob_at, done_at, handed_on, named_more, storing_from, stores_more, stores_none}
 use Rattle.vc_commands.proofs.add.store_files.Goals as goal
