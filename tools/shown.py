@@ -283,7 +283,7 @@ def paths_to(crate, path, names):
 def names_of(crate, path, item, types, is_member=False):
     """The names by which an item is reached, any of them; none where they are not known. What isn't `pub` is reached from its own
     crate alone, a member of a type by its name, and anything else by a path or as specs cite it."""
-    head, text = head_of(item), "\n".join(item)
+    head = head_of(item)
     if found := IMPL.fullmatch(header_of(item)):
         parameters = re.findall(r"[<,] *(?:const )?(\w+)", found[1] or "")
         words = {*re.findall(r"\w+", found[2].partition(" for ")[2])} - {*parameters}
@@ -291,9 +291,8 @@ def names_of(crate, path, item, types, is_member=False):
     name = ITEM.match(head)
     if not name:
         return set()
+    # (who says a variant of an enum says the enum, there or where it is imported)
     names = {name[1]}
-    if re.match(rf"{PUB}enum ", head):
-        names |= {*(re.findall(r"^ {4}(\w+)", text, re.M) or re.findall(r"\w+", text))}
     if head.startswith("macro_rules!") or is_member and head.startswith("pub "):
         return names
     if not head.startswith("pub "):
