@@ -134,6 +134,10 @@ unchanged task a old new follows same = subst (λ (m : FileMap). Follows task a 
 pub or_unchanged : (Bad : Type 0) (task : Task) (a : Answer) (old new : FileMap) → Bad ⊎ Follows task a (shown old) (shown old) → new ≡ old → Bad ⊎ Follows task a (shown old) (shown new)
 or_unchanged Bad task a old new cases same = elim cases [ inl bad ↦ inl bad | inr follows ↦ inr (unchanged task a old new follows same) ]
 
+-- the same where only what is shown is as it was
+pub or_unshown : (Bad : Type 0) (task : Task) (a : Answer) (old new : FileMap) → Bad ⊎ Follows task a (shown old) (shown old) → shown new ≡ shown old → Bad ⊎ Follows task a (shown old) (shown new)
+or_unshown Bad task a old new cases same = elim cases [ inl bad ↦ inl bad | inr follows ↦ inr (subst (λ (s : Shown). Follows task a (shown old) s) (sym same) follows) ]
+
 -- a refusal, and a fault before anything was done
 pub declines : (task : Task) (n : ℕ) (s : Shown) → ((r : Repository) → Spells s r → Refuses git git_rules r task n) → Follows task (Declined n) s s
 declines task n s h = record { goes = λ awaited r spells. (r, spells, (h r spells, refl)) }

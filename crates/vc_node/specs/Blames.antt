@@ -63,7 +63,7 @@ IsOfMemory (Store (store.Fault fault)) = Unit {0}
 IsOfMemory (Ref (ref.Fault fault)) = Unit {0}
 IsOfMemory _ = ⊥
 
--- a look at refs is refused for what stands in the way of the name, or for the ref's own file
+-- a look at refs is refused for what stands in the way of the name, or for the file that says the ref's value
 abbrev pub BlamesName : FileMap → List ℕ → RefFault → Type 0
 BlamesName content name (ref.Stale current) = ⊥
 BlamesName content name (ref.Conflict other) = BlamesWay content name (ref.Conflict other)

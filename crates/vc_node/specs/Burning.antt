@@ -9,7 +9,9 @@ use Rattle.vc_model.specs.ExactWorld.{MayClone}
 use Rattle.vc_model.specs.Fuse.{Burns}
 use Rattle.vc_model.specs.Message.{Message}
 use Rattle.vc_model.specs.Node.{Answer}
+use Rattle.vc_model.specs.Refs.{RefName}
 use Rattle.vc_model.specs.Repository.{IsSound}
+use Rattle.vc_refs.specs.Packing.{UnpacksOnly}
 use Rattle.vc_rules.specs.Git.{git}
 use Rattle.vc_rules.proofs.GitLaws.{git_rules}
 use Rattle.vc_node.specs.Awaited.{AwaitedText, IsAwaited}
@@ -20,7 +22,7 @@ use Rattle.vc_node.specs.NodeFault.{TellsDevice}
 use Rattle.vc_node.specs.declared.clone_fault.CloneFault.{CloneFault}
 use Rattle.vc_node.specs.declared.fault.NodeFault.{NodeFault}
 
--- A call of a held node that says what it answers, what it wears, and where it only looks, is a step of the machine that ends
+-- A call of a held node that says what it answers, what it wears, which one ref it may take out of the packed file, and where it only looks, is a step of the machine that ends
 -- with the writes left which the machine allows: one for each place that changed, none where the command may not write, and a
 -- fault of the device only where none was left for a write that it wanted. `frail` says whether the device may fail without a stop.
 abbrev pub CallsBurn : {D T : Type 0} → (honest : Type 0) → (D → FileMap) → (D → ℕ) → (D → Type 0) → (D → Option ℕ) → (Result T NodeFault → Answer) → Type 0
@@ -28,6 +30,7 @@ CallsBurn {D} {T} honest content failed can_fail left answer_of =
     (old new : D) (result : Result T NodeFault) (frail : Bool) (task : Task) (was_up is_up : Bool) (awaited : Awaited) (n : CloneNode)
     → honest → (can_fail old → IsTrue frail)
     → Writes honest content failed can_fail left old new (TellsDevice result)
+    → (name : RefName) → UnpacksOnly name (content old) (content new)
     → MayWriteOr task was_up (content old) (Wears failed can_fail left old new (TellsDevice result))
     → Answers task (answer_of result) was_up is_up (content old) (content new)
     → HoldsNode (content old) was_up awaited n
@@ -41,6 +44,7 @@ SoundCallsBurn {D} {T} honest content failed can_fail left answer_of =
     (old new : D) (result : Result T NodeFault) (frail : Bool) (task : Task) (was_up is_up : Bool) (awaited : Awaited) (n : CloneNode)
     → honest → (can_fail old → IsTrue frail)
     → Writes honest content failed can_fail left old new (TellsDevice result)
+    → (name : RefName) → UnpacksOnly name (content old) (content new)
     → MayWriteIfSoundOr task was_up (content old) (Wears failed can_fail left old new (TellsDevice result))
     → AnswersIfSound task (answer_of result) was_up is_up (content old) (content new)
     → HoldsNode (content old) was_up awaited n
@@ -54,6 +58,7 @@ ExchangesBurn {D} {T} honest content failed can_fail left shows =
     (old new : D) (result : Result T CloneFault) (frail : Bool) (call : CloneCall) (waits after : AwaitedText) (was_up is_up : Bool) (awaited : Awaited) (n : CloneNode)
     → honest → (can_fail old → IsTrue frail)
     → Writes honest content failed can_fail left old new (CloneTellsDevice result)
+    → (name : RefName) → UnpacksOnly name (content old) (content new)
     → MayOr call waits was_up (content old) (Wears failed can_fail left old new (CloneTellsDevice result))
     → AnswersClone call (shows result) (content old) (content new) waits after was_up is_up
     → IsAwaited waits awaited → HoldsNode (content old) was_up awaited n

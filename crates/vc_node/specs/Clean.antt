@@ -6,7 +6,7 @@ use Rattle.vc_object.specs.declared.id.ObjectId.{ObjectId}
 use Rattle.vc_refs.specs.Refs.{IsBadRef, SpellsRefs}
 use Rattle.vc_store.specs.Store.{IsDamaged}
 
--- Each file in an object's place is that object, and each file in refs/ stands for a ref.
+-- Each file in an object's place is that object, and each file of the refs can be read.
 pub record IsClean (content : FileMap) : Type 0 where
   pub objects : (id : ObjectId) → ¬ IsDamaged content id
   pub refs : SpellsRefs content

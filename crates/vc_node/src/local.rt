@@ -10,6 +10,7 @@ ghost use Rattle.vc_index.specs.Path.{IsPath};
 ghost use Rattle.vc_object.specs.Decoding.{stored_object};
 ghost use Rattle.vc_object.specs.Object.{object_name, IsObject};
 ghost use Rattle.vc_refs.specs.RefMap.{IsInRefs, is_ref, with_ref, without_ref};
+ghost use Rattle.vc_refs.specs.Packing.{UnpacksOnly};
 ghost use Rattle.vc_refs.specs.Refs.{refs};
 ghost use Rattle.vc_refs.specs.Way.{IsFree};
 ghost use Rattle.vc_store.specs.Store.{objects, with_object};
@@ -24,7 +25,7 @@ ghost use Rattle.vc_node.specs.Clean.{KeepsClean};
 ghost use Rattle.vc_node.specs.GoodCommit.{IsGoodBeyondRefs};
 ghost use Rattle.vc_node.specs.IndexFile.{SpellsIndex, BlamesIndex};
 ghost use Rattle.vc_node.specs.NodeFault.{is_fault, TellsDevice};
-ghost use Rattle.vc_node.specs.Reads.{IsAtName, IsBelow, IsReached, IsReachedByHead, NoneRead, TellsRead};
+ghost use Rattle.vc_node.specs.Reads.{IsAtName, IsBelow, IsItsFile, IsReached, IsReachedByHead, NoneRead, TellsRead};
 ghost use Rattle.vc_node.specs.Shown.{IsLoaded, shown, with_objects_shown, with_refs_shown, with_head_shown, with_index_shown};
 
 use crate::NodeFault;
@@ -187,7 +188,7 @@ pub(crate) fn set_branch<F: Files>(
     Ok(())
 }
 
-/// Removes a ref, whatever it is.
+/// Removes a ref, whatever it is. Where it ends early, a line of the packed file may be gone, and each ref is as before.
 pub(crate) fn remove_ref<F: Files>(
     alloc: Global,
     files: &mut F,
@@ -196,9 +197,10 @@ pub(crate) fn remove_ref<F: Files>(
     requires { IsInRefs name.now }
     ensures removed { F.honest → OnOk result (shown (F.content files.new) ≡ with_refs_shown (shown (F.content files.old)) (without_ref (refs (F.content files.old)) name.now)) }
     ensures refused { F.honest → IfErr result (BlamesRemoved (F.content files.old)) }
-    ensures err { F.honest → OnErr result (F.content files.new ≡ F.content files.old) }
-    ensures clean { F.honest → OnOk result (KeepsClean (F.content files.old) (F.content files.new)) }
-    ensures file { F.honest → IfErr result (TellsRead NoneRead (λ path. path ≡ name.now)) }
+    ensures err { F.honest → OnErr result (shown (F.content files.new) ≡ shown (F.content files.old)) }
+    ensures clean { F.honest → KeepsClean (F.content files.old) (F.content files.new) }
+    ensures unpacks { F.honest → UnpacksOnly name.now (F.content files.old) (F.content files.new) }
+    ensures file { F.honest → IfErr result (TellsRead NoneRead (IsItsFile name.now)) }
     ensures wear { Writes F.honest F.content F.failed F.can_fail F.left files.old files.new (TellsDevice result) }
 {
     let current = vc_refs::get(files, alloc, name)?;

@@ -7,6 +7,7 @@ ghost use Rattle.vc_model.specs.Clone.Awaited.{Nothing};
 ghost use Rattle.vc_model.specs.Repository.{Repository};
 ghost use Rattle.vc_object.specs.Object.{object_name};
 ghost use Rattle.vc_refs.specs.Head.{IsHeadInRefs};
+ghost use Rattle.vc_refs.specs.Packing.{UnpacksOnly};
 ghost use Rattle.vc_exchange.specs.Sending.{machine_items};
 ghost use Rattle.vc_files.specs.declared.faults.Fault.TheVariants.{Memory};
 ghost use Rattle.vc_message.specs.AnyMessage.{a_report};
@@ -35,7 +36,7 @@ ghost use Rattle.vc_node.specs.Machine.{Answers, AnswersIfSound, AnswersShown, A
 ghost use Rattle.vc_files.specs.Failures.{Wears, Writes};
 ghost use Rattle.vc_node.specs.NodeFault.{is_fault, IsOfDevice, TellsDevice};
 ghost use Rattle.vc_node.specs.Opening.{IsOpenable, opened_node};
-ghost use Rattle.vc_node.specs.Reads.{IsAtHead, IsAtName, IsBelow, IsOfCommit, IsReached, IsReachedByHead, NoneRead, TellsRead};
+ghost use Rattle.vc_node.specs.Reads.{IsAtHead, IsAtName, IsBelow, IsItsFile, IsOfCommit, IsReached, IsReachedByHead, NoneRead, TellsRead};
 ghost use Rattle.vc_node.specs.Shown.{IsLoaded, IsReady, shown};
 
 use crate::awaited::Awaited;
@@ -241,11 +242,12 @@ impl<F: Files> CloneNode<F> {
         ensures answers { F.honest → Answers (DeleteBranch branch.now) (done_answer result) self.old.is_up self.new.is_up (F.content self.old.files) (F.content self.new.files) }
         ensures bad_file { F.honest → OrBadFile (F.content self.old.files) result (AnswersShown (DeleteBranch branch.now) (done_answer result) self.old.is_up self.new.is_up (shown (F.content self.old.files)) (shown (F.content self.new.files))) }
         ensures down { self.old.is_up ≡ false → result ≡ Err NodeFault.Down }
-        ensures err { F.honest → OnErr result (F.content self.new.files ≡ F.content self.old.files) }
+        ensures err { F.honest → OnErr result (shown (F.content self.new.files) ≡ shown (F.content self.old.files)) }
         ensures up { self.old.is_up ≡ true → self.new.is_up ≡ up_after result }
         ensures awaits { self.new.awaited ≡ self.old.awaited }
         ensures clean { F.honest → KeepsClean (F.content self.old.files) (F.content self.new.files) }
-        ensures file { F.honest → IfErr result (TellsRead NoneRead (λ path. path ≡ branch.now)) }
+        ensures unpacks { F.honest → UnpacksOnly branch.now (F.content self.old.files) (F.content self.new.files) }
+        ensures file { F.honest → IfErr result (TellsRead NoneRead (IsItsFile branch.now)) }
         ensures wear { Writes F.honest F.content F.failed F.can_fail F.left self.old.files self.new.files (TellsDevice result) }
         ensures looks { F.honest → MayWriteOr (DeleteBranch branch.now) self.old.is_up (F.content self.old.files) (Wears F.failed F.can_fail F.left self.old.files self.new.files (TellsDevice result)) }
     {

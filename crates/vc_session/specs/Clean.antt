@@ -1,4 +1,4 @@
--- What no step of a push makes: a bad file in the place of an object, in `refs/` or in a quarantine.
+-- What no step of a push makes: a bad file in the place of an object, of the refs or in a quarantine.
 use Rattle.std.specs.Prelude.{ℕ, ◌<◌, ◌^◌, List}
 use Rattle.vc_files.specs.FileMap.{FileMap}
 use Rattle.vc_object.specs.declared.id.ObjectId.{ObjectId}

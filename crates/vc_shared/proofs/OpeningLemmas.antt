@@ -28,7 +28,7 @@ use Rattle.vc_refs.proofs.WayLemmas.{split_from_starts}
 use Rattle.vc_refs.specs.Head.{read_head, head_of}
 use Rattle.vc_refs.specs.RefFault.{BlamesHead}
 use Rattle.vc_refs.specs.RefMap.{RefMap}
-use Rattle.vc_refs.specs.Refs.{refs}
+use Rattle.vc_refs.specs.Refs.{packed_path, refs}
 use Rattle.vc_refs.specs.declared.faults.RefFault.{RefFault}
 use Rattle.vc_refs.specs.declared.faults.RefFault.TheVariants.{Stale, Conflict, BadRefFile, HeadLoop, Fault}
 use Rattle.vc_refs.specs.declared.heads.Head.{Head}
@@ -108,7 +108,7 @@ module _ (old new : FileMap) (loses : LosesPushes old new) where
   pub shown_kept : shown new ≡ shown old
   shown_kept =
       same_shown (objects new) (objects old) (refs new) (refs old) (head_of new) (head_of old) (index_bytes new) (index_bytes old) objects_kept
-      (refs-kept old new (λ q h. loses.outside.at q (no_push q h)))
+      (refs-kept old new (λ q h. loses.outside.at q (no_push q h)) (loses.outside.at packed_path refl))
       (head-same old new (loses.outside.at (codes "HEAD") refl)) index_kept
 
   pub openable_kept : (r : Repository) → IsOpenable old r → IsOpenable new r

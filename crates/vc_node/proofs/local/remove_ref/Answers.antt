@@ -3,9 +3,10 @@ use Rattle.std.proofs.Common.{rules, ◌≡◌, subst}
 use Rattle.vc_files.specs.FileMap.{FileMap}
 use Rattle.vc_refs.specs.RefMap.{without_ref}
 use Rattle.vc_refs.specs.Refs.{refs}
+use Rattle.vc_refs.proofs.LayeredChangeLemmas.{unpacks_same}
 use Rattle.vc_node.specs.Shown.{shown, with_refs_shown}
 use Rattle.vc_node.proofs.ShownLemmas.{shown_refs}
-use Rattle.vc_node.proofs.CleanLemmas.{clean_from, clean_ref}
+use Rattle.vc_node.proofs.CleanLemmas.{clean_from, clean_ref, clean_same}
 use Rattle.vc_node.proofs.local.remove_ref.Goals as goal
 
 pub returns-clause-removed : goal.returns-clause-removed
@@ -15,8 +16,30 @@ returns-clause-removed g c = λ honest.
     subst (λ (m : FileMap). shown (content c.remove.new.files) ≡ with_refs_shown (shown m) (without_ref (refs m) name)) c.in_ok-current.ensures.same
     (shown_refs _ _ name _ (c.in_ok-remove.ensures.rest honest) (c.in_ok-remove.ensures.removed honest))
 
+pub returns-in_err-current-clause-clean : goal.returns-in_err-current-clause-clean
+returns-in_err-current-clause-clean g c = λ honest. clean_same _ _ c.in_err-current.ensures.same
+
+pub returns-in_err-remove-clause-clean : goal.returns-in_err-remove-clause-clean
+returns-in_err-remove-clause-clean g c = λ honest. clean_from _ _ _ c.in_ok-current.ensures.same (clean_ref _ _ c.args.name.now (c.in_err-remove.ensures.rest honest))
+
+pub returns-in_err-current-clause-unpacks : goal.returns-in_err-current-clause-unpacks
+returns-in_err-current-clause-unpacks g c = λ honest. unpacks_same _ _ _ c.in_err-current.ensures.same
+
+pub returns-in_err-remove-clause-unpacks : goal.returns-in_err-remove-clause-unpacks
+returns-in_err-remove-clause-unpacks g c = λ honest. rw c.in_ok-current.ensures.same at (c.in_err-remove.ensures.unpacks honest)
+
+pub returns-clause-unpacks : goal.returns-clause-unpacks
+returns-clause-unpacks g c = λ honest. rw c.in_ok-current.ensures.same at (c.in_ok-remove.ensures.unpacks honest)
+
+-- the refs are as before, and so is all else that is shown
+pub returns-in_err-remove-clause-err : goal.returns-in_err-remove-clause-err
+returns-in_err-remove-clause-err g c = λ honest.
+    let content = g.F.Files.content in
+    subst (λ (m : FileMap). shown (content c.remove.new.files) ≡ shown m) c.in_ok-current.ensures.same
+    (shown_refs _ _ c.args.name.now _ (c.in_err-remove.ensures.rest honest) (c.in_err-remove.ensures.err honest))
+
 pub returns-clause-clean : goal.returns-clause-clean
-returns-clause-clean g c = λ honest. clean_from _ _ _ c.in_ok-current.ensures.same (clean_ref _ _ c.args.name.now (c.in_ok-remove.ensures.rest honest) (c.in_ok-remove.ensures.gone honest))
+returns-clause-clean g c = λ honest. clean_from _ _ _ c.in_ok-current.ensures.same (clean_ref _ _ c.args.name.now (c.in_ok-remove.ensures.rest honest))
 
 pub returns-in_err-current-clause-wear : goal.returns-in_err-current-clause-wear
 returns-in_err-current-clause-wear g c = writes_told (wears_writes c.in_err-current.ensures.wear (search rules)) (search rules) (search rules)

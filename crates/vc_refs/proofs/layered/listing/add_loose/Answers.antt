@@ -4,17 +4,17 @@ use Rattle.std.specs.FinMap.{insert}
 use Rattle.std.specs.List.{starts_with}
 use Rattle.std.proofs.lemmas.Bool.{and_parts}
 use Rattle.vc_refname.specs.RefName.{is_ref_name}
-use Rattle.vc_refs.specs.Layered.{with_loose}
+use Rattle.vc_refs.specs.Packing.{with_loose}
+use Rattle.vc_refs.specs.Refs.{loose_refs}
 use Rattle.vc_refs.specs.RefMap.{IsInRefs, is_ref}
-use Rattle.vc_refs.specs.Refs.{refs}
-use Rattle.vc_refs.proofs.RefsLemmas.{refs-none}
+use Rattle.vc_refs.proofs.RefsLemmas.{loose-none}
 use Rattle.vc_refs.proofs.HeadLemmas.{named_ref, no_named_ref}
 use Rattle.vc_refs.proofs.layered.listing.add_loose.Goals as goal
 
 pub returns-in_default-clause-refused : goal.returns-in_default-clause-refused
 returns-in_default-clause-refused g c = λ honest.
     let other : is_ref c.args.path.now ≡ false = no_named_ref c.args.path.now (rw c.in_default.is at c.in_ok-name.ensures) in
-    (search rules, refs-none _ _ other)
+    (search rules, loose-none _ _ other)
 
 pub get-requires : goal.get-requires
 get-requires g c =
@@ -29,8 +29,8 @@ insert-requires g c =
 pub returns-in_default-2-clause-added : goal.returns-in_default-2-clause-added
 returns-in_default-2-clause-added g c = λ honest.
     let named = named_ref c.args.path.now c.in-Some.name (rw c.in-Some.is at c.in_ok-name.ensures) in
-    let found : None ≡ refs (g.F.Files.content c.args.files.now) c.in-Some.name = rw c.in_default-2.is at (c.in_ok-id.ensures.found honest) in
-    ap (with_loose c.args.merged.now c.args.path.now) (found ∙ ap (refs (g.F.Files.content c.args.files.now)) named.0)
+    let found : None ≡ loose_refs (g.F.Files.content c.args.files.now) c.in-Some.name = rw c.in_default-2.is at (c.in_ok-id.ensures.found honest) in
+    ap (with_loose c.args.merged.now c.args.path.now) (found ∙ ap (loose_refs (g.F.Files.content c.args.files.now)) named.0)
 
 pub returns-in_default-2-clause-good : goal.returns-in_default-2-clause-good
 returns-in_default-2-clause-good g c = λ honest.
@@ -40,8 +40,8 @@ returns-in_default-2-clause-good g c = λ honest.
 pub returns-clause-added : goal.returns-clause-added
 returns-clause-added g c = λ honest.
     let named = named_ref c.args.path.now c.in-Some.name (rw c.in-Some.is at c.in_ok-name.ensures) in
-    let found : Some c.in-Some-2.id ≡ refs (g.F.Files.content c.args.files.now) c.in-Some.name = rw c.in-Some-2.is at (c.in_ok-id.ensures.found honest) in
-    c.in_ok-insert.ensures.ok ∙ ap (λ n. insert c.args.merged.now n c.in-Some-2.id) named.0 ∙ ap (with_loose c.args.merged.now c.args.path.now) (found ∙ ap (refs (g.F.Files.content c.args.files.now)) named.0)
+    let found : Some c.in-Some-2.id ≡ loose_refs (g.F.Files.content c.args.files.now) c.in-Some.name = rw c.in-Some-2.is at (c.in_ok-id.ensures.found honest) in
+    c.in_ok-insert.ensures.ok ∙ ap (λ n. insert c.args.merged.now n c.in-Some-2.id) named.0 ∙ ap (with_loose c.args.merged.now c.args.path.now) (found ∙ ap (loose_refs (g.F.Files.content c.args.files.now)) named.0)
 
 pub returns-clause-good : goal.returns-clause-good
 returns-clause-good g c = λ honest.

@@ -1,10 +1,10 @@
 use Rattle.std.proofs.Common.{rules, ◌≡◌, suc, ◌∷◌, ◌++◌, take, drop, map, sym, ◌∙◌}
 use Rattle.std.specs.Prelude.{codes, string_bytes}
 use Rattle.vc_files.specs.FileMap.{paths_under}
-use Rattle.vc_refs.specs.Layered.{with_loose}
-use Rattle.vc_refs.specs.LayeredFault.{BlamesList}
-use Rattle.vc_refs.specs.Refs.{refs, IsBadRef}
-use Rattle.vc_refs.specs.RefFault.{BlamesPath}
+use Rattle.vc_refs.specs.LooseFault.{BlamesPath}
+use Rattle.vc_refs.specs.Packing.{with_loose}
+use Rattle.vc_refs.specs.RefFault.{BlamesList}
+use Rattle.vc_refs.specs.Refs.{loose_refs, IsBadLoose}
 use Rattle.vc_refs.proofs.LayeredLemmas.{good_packed_file}
 use Rattle.vc_refs.proofs.LayeredListingLemmas.{all_merged, all_spelled, list_blames_loose, list_blames_packed, none_merged, one_merged}
 use Rattle.vc_refs.proofs.ListingLemmas.{none_good_yet, of_list, one_more_good, paths_more, paths_split, paths_all}
@@ -47,10 +47,10 @@ loop-path-preserved g c =
     let more = paths_more items c.loop-path.path-index c.path-item.result c.loop-path-test.true c.path-item.is in
     record {
       merged = λ honest.
-          let added : c.add_loose.new.merged ≡ with_loose c.loop-path.refs path (refs content path) = rw (← c.loop-path.invariant.same, ← c.as_str.ensures.value) (c.in_ok-add_loose.ensures.added honest) in
+          let added : c.add_loose.new.merged ≡ with_loose c.loop-path.refs path (loose_refs content path) = rw (← c.loop-path.invariant.same, ← c.as_str.ensures.value) (c.in_ok-add_loose.ensures.added honest) in
           rw more (one_merged content (map string_bytes (take c.loop-path.path-index items)) path c.loop-path.refs (c.loop-path.invariant.merged honest) c.add_loose.new.merged added);
       good = λ honest.
-          let good : IsBadRef content path → ⊥ = rw (← c.loop-path.invariant.same, ← c.as_str.ensures.value) (c.in_ok-add_loose.ensures.good honest) in
+          let good : IsBadLoose content path → ⊥ = rw (← c.loop-path.invariant.same, ← c.as_str.ensures.value) (c.in_ok-add_loose.ensures.good honest) in
           rw more (one_more_good content _ path (c.loop-path.invariant.good honest) good);
       same = search rules;
       wear = search rules;
