@@ -106,7 +106,7 @@ no_bad content (WrongEntry at) clean bad = bad
 no_bad content Down clean bad = bad
 
 -- what a call answers over any files it does over clean ones, where it tells no fault or that the node is down
-pub held : (task : Task) (a : Answer) (was is : Bool) (old new : FileMap) → ⊥ ⊎ AnswersShown task a was is (shown old) (shown new) → KeepsClean old new → Answers task a was is old new
+pub held : {name : List ℕ} (task : Task) (a : Answer) (was is : Bool) (old new : FileMap) → ⊥ ⊎ AnswersShown task a was is (shown old) (shown new) → KeepsCleanBut name old new → Answers task a was is old new
 held task a was is old new cases keeps = record {
   each = λ awaited n holds. elim cases [
     | inl none ↦ absurd none
@@ -117,7 +117,7 @@ held task a was is old new cases keeps = record {
 }
 
 -- and where it tells a fault, which is for no bad file then; the equation is there to read off what was told
-pub held_failed : (task : Task) (e told : NodeFault) (was is : Bool) (old new : FileMap) → told ≡ e → IsBadFile old told ⊎ AnswersShown task (fault_answer told) was is (shown old) (shown new) → KeepsClean old new
+pub held_failed : {name : List ℕ} (task : Task) (e told : NodeFault) (was is : Bool) (old new : FileMap) → told ≡ e → IsBadFile old told ⊎ AnswersShown task (fault_answer told) was is (shown old) (shown new) → KeepsCleanBut name old new
     → Answers task (fault_answer told) was is old new
 held_failed task e told was is old new same cases keeps = record {
   each = λ awaited n holds. elim cases [

@@ -302,23 +302,23 @@ module _ {D : Type 0} (honest : Type 0) (content : D → FileMap) (failed : D �
 
 calls_burn : {D T : Type 0} (honest : Type 0) (content : D → FileMap) (failed : D → ℕ) (can_fail : D → Type 0) (left : D → Option ℕ) (answer_of : Result T NodeFault → Answer)
     → ((r : Result T NodeFault) → answer_of r ≡ Fault Device → TellsDevice r) → CallsBurn honest content failed can_fail left answer_of
-calls_burn honest content failed can_fail left answer_of tells old new result frail task was_up is_up awaited n is_honest can wear name packed looks answers holds =
+calls_burn honest content failed can_fail left answer_of tells old new result frail task was_up is_up awaited n is_honest can wear name keeps looks answers holds =
     let step = answers.each awaited n holds in (
       step.0,
       step.1,
       step.2,
-      burns honest content failed can_fail left old new (TellsDevice result) frail (MayClone git git_rules n (Command task)) (answer_of result) n.repository step.0.repository is_honest (tells result) can wear (looks awaited n holds) name packed holds.shows.spells step.1.shows.spells,
+      burns honest content failed can_fail left old new (TellsDevice result) frail (MayClone git git_rules n (Command task)) (answer_of result) n.repository step.0.repository is_honest (tells result) can wear (looks awaited n holds) name keeps.packed holds.shows.spells step.1.shows.spells,
     )
 
 -- the same of a command that takes it that all is there that refs reach
 sound_calls_burn : {D T : Type 0} (honest : Type 0) (content : D → FileMap) (failed : D → ℕ) (can_fail : D → Type 0) (left : D → Option ℕ) (answer_of : Result T NodeFault → Answer)
     → ((r : Result T NodeFault) → answer_of r ≡ Fault Device → TellsDevice r) → SoundCallsBurn honest content failed can_fail left answer_of
-sound_calls_burn honest content failed can_fail left answer_of tells old new result frail task was_up is_up awaited n is_honest can wear name packed looks answers holds =
+sound_calls_burn honest content failed can_fail left answer_of tells old new result frail task was_up is_up awaited n is_honest can wear name keeps looks answers holds =
     let step = answers.each awaited n holds in (
       step.0,
       step.1,
       step.2,
-      burns honest content failed can_fail left old new (TellsDevice result) frail (IsSound git n.repository → MayClone git git_rules n (Command task)) (answer_of result) n.repository step.0.repository is_honest (tells result) can wear (looks awaited n holds) name packed holds.shows.spells step.1.shows.spells,
+      burns honest content failed can_fail left old new (TellsDevice result) frail (IsSound git n.repository → MayClone git git_rules n (Command task)) (answer_of result) n.repository step.0.repository is_honest (tells result) can wear (looks awaited n holds) name keeps.packed holds.shows.spells step.1.shows.spells,
     )
 
 -- ---- what is told
@@ -373,7 +373,7 @@ of_clone_fault _ is = absurd (cc is)
 
 exchanges_burn : {D T : Type 0} (honest : Type 0) (content : D → FileMap) (failed : D → ℕ) (can_fail : D → Type 0) (left : D → Option ℕ) (shows : Result T CloneFault → Answer → Option Message → Type 0)
     → ((r : Result T CloneFault) (a : Answer) (sends : Option Message) → shows r a sends → a ≡ Fault Device → CloneTellsDevice r) → ExchangesBurn honest content failed can_fail left shows
-exchanges_burn honest content failed can_fail left shows tells old new result frail call waits after was_up is_up awaited n is_honest can wear name packed looks answers is holds =
+exchanges_burn honest content failed can_fail left shows tells old new result frail call waits after was_up is_up awaited n is_honest can wear name keeps looks answers is holds =
     let step = answers.each awaited n is holds in (
       step.0,
       step.1,
@@ -383,7 +383,7 @@ exchanges_burn honest content failed can_fail left shows tells old new result fr
       step.5,
       step.6,
       step.7,
-      burns honest content failed can_fail left old new (CloneTellsDevice result) frail (IsSound git n.repository → MayClone git git_rules n call) step.2 n.repository step.1.repository is_honest (tells result step.2 step.3 step.6) can wear (looks awaited n is holds) name packed holds.shows.spells step.5.shows.spells,
+      burns honest content failed can_fail left old new (CloneTellsDevice result) frail (IsSound git n.repository → MayClone git git_rules n call) step.2 n.repository step.1.repository is_honest (tells result step.2 step.3 step.6) can wear (looks awaited n is holds) name keeps.packed holds.shows.spells step.5.shows.spells,
     )
 
 received_tells : (r : Result Received CloneFault) (a : Answer) (sends : Option Message) → ReceivedAs r a sends → a ≡ Fault Device → CloneTellsDevice r

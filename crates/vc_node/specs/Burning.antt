@@ -11,10 +11,10 @@ use Rattle.vc_model.specs.Message.{Message}
 use Rattle.vc_model.specs.Node.{Answer}
 use Rattle.vc_model.specs.Refs.{RefName}
 use Rattle.vc_model.specs.Repository.{IsSound}
-use Rattle.vc_refs.specs.Packing.{UnpacksOnly}
 use Rattle.vc_rules.specs.Git.{git}
 use Rattle.vc_rules.proofs.GitLaws.{git_rules}
 use Rattle.vc_node.specs.Awaited.{AwaitedText, IsAwaited}
+use Rattle.vc_node.specs.Clean.{KeepsCleanBut}
 use Rattle.vc_node.specs.CloneCalls.{AnswersClone, MayOr}
 use Rattle.vc_node.specs.CloneFaults.{TellsDevice as CloneTellsDevice}
 use Rattle.vc_node.specs.Machine.{Answers, AnswersIfSound, HoldsNode, MayWriteIfSoundOr, MayWriteOr}
@@ -30,7 +30,7 @@ CallsBurn {D} {T} honest content failed can_fail left answer_of =
     (old new : D) (result : Result T NodeFault) (frail : Bool) (task : Task) (was_up is_up : Bool) (awaited : Awaited) (n : CloneNode)
     → honest → (can_fail old → IsTrue frail)
     → Writes honest content failed can_fail left old new (TellsDevice result)
-    → (name : RefName) → UnpacksOnly name (content old) (content new)
+    → (name : RefName) → KeepsCleanBut name (content old) (content new)
     → MayWriteOr task was_up (content old) (Wears failed can_fail left old new (TellsDevice result))
     → Answers task (answer_of result) was_up is_up (content old) (content new)
     → HoldsNode (content old) was_up awaited n
@@ -44,7 +44,7 @@ SoundCallsBurn {D} {T} honest content failed can_fail left answer_of =
     (old new : D) (result : Result T NodeFault) (frail : Bool) (task : Task) (was_up is_up : Bool) (awaited : Awaited) (n : CloneNode)
     → honest → (can_fail old → IsTrue frail)
     → Writes honest content failed can_fail left old new (TellsDevice result)
-    → (name : RefName) → UnpacksOnly name (content old) (content new)
+    → (name : RefName) → KeepsCleanBut name (content old) (content new)
     → MayWriteIfSoundOr task was_up (content old) (Wears failed can_fail left old new (TellsDevice result))
     → AnswersIfSound task (answer_of result) was_up is_up (content old) (content new)
     → HoldsNode (content old) was_up awaited n
@@ -58,7 +58,7 @@ ExchangesBurn {D} {T} honest content failed can_fail left shows =
     (old new : D) (result : Result T CloneFault) (frail : Bool) (call : CloneCall) (waits after : AwaitedText) (was_up is_up : Bool) (awaited : Awaited) (n : CloneNode)
     → honest → (can_fail old → IsTrue frail)
     → Writes honest content failed can_fail left old new (CloneTellsDevice result)
-    → (name : RefName) → UnpacksOnly name (content old) (content new)
+    → (name : RefName) → KeepsCleanBut name (content old) (content new)
     → MayOr call waits was_up (content old) (Wears failed can_fail left old new (CloneTellsDevice result))
     → AnswersClone call (shows result) (content old) (content new) waits after was_up is_up
     → IsAwaited waits awaited → HoldsNode (content old) was_up awaited n

@@ -10,7 +10,6 @@ ghost use Rattle.vc_index.specs.Path.{IsPath};
 ghost use Rattle.vc_object.specs.Decoding.{stored_object};
 ghost use Rattle.vc_object.specs.Object.{object_name, IsObject};
 ghost use Rattle.vc_refs.specs.RefMap.{IsInRefs, is_ref, with_ref, without_ref};
-ghost use Rattle.vc_refs.specs.Packing.{UnpacksOnly};
 ghost use Rattle.vc_refs.specs.Refs.{refs};
 ghost use Rattle.vc_refs.specs.Way.{IsFree};
 ghost use Rattle.vc_store.specs.Store.{objects, with_object};
@@ -21,7 +20,7 @@ ghost use Rattle.vc_object.specs.declared.id.ObjectId.{ObjectId as Id};
 ghost use Rattle.vc_object.specs.declared.kind.Kind.TheVariants.{Blob};
 ghost use Rattle.vc_refs.specs.Head.{IsHeadInRefs, IsLegalHead};
 ghost use Rattle.vc_node.specs.Blames.{BlamesWrite, BlamesAdd, BlamesBranch, BlamesPut, BlamesHead, BlamesLoad, BlamesRemoved, MayLoad, MayStage, MayHead, TellsDamage};
-ghost use Rattle.vc_node.specs.Clean.{KeepsClean};
+ghost use Rattle.vc_node.specs.Clean.{KeepsClean, KeepsCleanBut};
 ghost use Rattle.vc_node.specs.GoodCommit.{IsGoodBeyondRefs};
 ghost use Rattle.vc_node.specs.IndexFile.{SpellsIndex, BlamesIndex};
 ghost use Rattle.vc_node.specs.NodeFault.{is_fault, TellsDevice};
@@ -198,8 +197,7 @@ pub(crate) fn remove_ref<F: Files>(
     ensures removed { F.honest → OnOk result (shown (F.content files.new) ≡ with_refs_shown (shown (F.content files.old)) (without_ref (refs (F.content files.old)) name.now)) }
     ensures refused { F.honest → IfErr result (BlamesRemoved (F.content files.old)) }
     ensures err { F.honest → OnErr result (shown (F.content files.new) ≡ shown (F.content files.old)) }
-    ensures clean { F.honest → KeepsClean (F.content files.old) (F.content files.new) }
-    ensures unpacks { F.honest → UnpacksOnly name.now (F.content files.old) (F.content files.new) }
+    ensures clean { F.honest → KeepsCleanBut name.now (F.content files.old) (F.content files.new) }
     ensures file { F.honest → IfErr result (TellsRead NoneRead (IsItsFile name.now)) }
     ensures wear { Writes F.honest F.content F.failed F.can_fail F.left files.old files.new (TellsDevice result) }
 {

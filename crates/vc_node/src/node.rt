@@ -7,7 +7,6 @@ ghost use Rattle.vc_model.specs.Clone.Awaited.{Nothing};
 ghost use Rattle.vc_model.specs.Repository.{Repository};
 ghost use Rattle.vc_object.specs.Object.{object_name};
 ghost use Rattle.vc_refs.specs.Head.{IsHeadInRefs};
-ghost use Rattle.vc_refs.specs.Packing.{UnpacksOnly};
 ghost use Rattle.vc_exchange.specs.Sending.{machine_items};
 ghost use Rattle.vc_files.specs.declared.faults.Fault.TheVariants.{Memory};
 ghost use Rattle.vc_message.specs.AnyMessage.{a_report};
@@ -29,7 +28,7 @@ ghost use Rattle.vc_node.specs.CloneFaults.{TellsDevice as CloneTellsDevice, is_
 ghost use Rattle.vc_node.specs.Receipts.{IsOfMessage, IsRefusedBytes, IsRefusedMessage, IsRefusedStart, IsRefusedValue};
 ghost use Rattle.vc_node.specs.Blames.{BlamesLoad, BlamesOpen, IsLocalHead};
 ghost use Rattle.vc_files.specs.FileMap.{SameOutside};
-ghost use Rattle.vc_node.specs.Clean.{KeepsClean};
+ghost use Rattle.vc_node.specs.Clean.{KeepsClean, KeepsCleanBut};
 ghost use Rattle.vc_node.specs.Commit.{IsCommitted};
 ghost use Rattle.vc_rules.specs.Git.{machine_object, mode_number};
 ghost use Rattle.vc_node.specs.Machine.{Answers, AnswersIfSound, AnswersShown, AnswersShownIfSound, HoldsNode, MayWriteIfSoundOr, MayWriteOr, OrBadFile, machine_head, made_answer, done_answer, up_after};
@@ -245,8 +244,7 @@ impl<F: Files> CloneNode<F> {
         ensures err { F.honest → OnErr result (shown (F.content self.new.files) ≡ shown (F.content self.old.files)) }
         ensures up { self.old.is_up ≡ true → self.new.is_up ≡ up_after result }
         ensures awaits { self.new.awaited ≡ self.old.awaited }
-        ensures clean { F.honest → KeepsClean (F.content self.old.files) (F.content self.new.files) }
-        ensures unpacks { F.honest → UnpacksOnly branch.now (F.content self.old.files) (F.content self.new.files) }
+        ensures clean { F.honest → KeepsCleanBut branch.now (F.content self.old.files) (F.content self.new.files) }
         ensures file { F.honest → IfErr result (TellsRead NoneRead (IsItsFile branch.now)) }
         ensures wear { Writes F.honest F.content F.failed F.can_fail F.left self.old.files self.new.files (TellsDevice result) }
         ensures looks { F.honest → MayWriteOr (DeleteBranch branch.now) self.old.is_up (F.content self.old.files) (Wears F.failed F.can_fail F.left self.old.files self.new.files (TellsDevice result)) }

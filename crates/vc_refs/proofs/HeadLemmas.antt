@@ -8,7 +8,7 @@ use Rattle.std.proofs.lemmas.Bool.{and_parts, false_from_ne_true}
 use Rattle.std.proofs.lemmas.List.Elements.{All-head}
 use Rattle.hex.specs.Hex.{encode_lower, is_hex_digit}
 use Rattle.vc_files.specs.FileMap.{FileMap}
-use Rattle.vc_files.proofs.FileMapLemmas.{get-put, outside_same}
+use Rattle.vc_files.proofs.FileMapLemmas.{get-put}
 use Rattle.vc_object.specs.declared.id.ObjectId.{ObjectId}
 use Rattle.vc_object.specs.ObjectId.{is_id}
 use Rattle.vc_refname.specs.RefName.{is_ref_name}
@@ -17,10 +17,9 @@ use Rattle.vc_refs.specs.declared.heads.Head.TheVariants as head
 use Rattle.vc_refs.specs.declared.heads.HeadText.TheVariants.{Says, NamesHead, SaysNothing}
 use Rattle.vc_refs.specs.RefFile.{id_in, id_text, without_lf}
 use Rattle.vc_refs.specs.RefMap.{IsInRefs, is_ref}
-use Rattle.vc_refs.specs.Head.{head_of, head_text, id_said, name_said, read_head, said, IsHeadInRefs, IsLegalHead, KeepsTheRest}
-use Rattle.vc_refs.specs.Refs.{loose_refs, ChangesOnly}
+use Rattle.vc_refs.specs.Head.{head_of, head_text, id_said, name_said, read_head, said, IsHeadInRefs, IsLegalHead}
+use Rattle.vc_refs.specs.Refs.{ChangesOnly}
 use Rattle.vc_refs.proofs.RefFileLemmas.{without_lf-line, id_in-id_text, digits_of}
-use Rattle.vc_refs.proofs.RefsLemmas.{only_put, only_unput, outside_from_only}
 use Rattle.vc_refs.proofs.WayLemmas.{split_from_starts}
 
 -- what a name says

@@ -1,5 +1,5 @@
 -- What a ref that is set or removed does to the layered refs.
-use Rattle.std.proofs.Common.{◌≡◌, ℕ, Bool, true, false, cond, ◌&&◌, ◌||◌, inl, inr, true≢false, nat_eq, List, Option, Some, None, sym, ap, refl, ◌∙◌, subst}
+use Rattle.std.proofs.Common.{◌≡◌, ℕ, Bool, true, false, cond, ◌||◌, inl, inr, true≢false, nat_eq, List, Option, Some, None, sym, ap, refl, ◌∙◌, subst}
 use Rattle.std.specs.Prelude.{bytes_eq, codes, is_none, is_some}
 use Rattle.std.specs.List.{starts_with}
 use Rattle.std.specs.FinMap.{get-remove, insert, remove}
@@ -11,7 +11,7 @@ use Rattle.std.proofs.lemmas.Slice.Eq.{bytes_eq-Decides}
 use Rattle.vc_files.specs.FileMap.{FileMap}
 use Rattle.vc_files.proofs.FileMapLemmas.{get-put}
 use Rattle.vc_object.specs.declared.id.ObjectId.{ObjectId}
-use Rattle.vc_refs.specs.Head.{head_of, KeepsTheRest}
+use Rattle.vc_refs.specs.Head.{KeepsTheRest}
 use Rattle.vc_refs.specs.Packing.{IsUnpacked, UnpacksOnly}
 use Rattle.vc_refs.specs.RefFault.{BlamesPacked, BlamesRemove, BlamesSet, BlamesWay}
 use Rattle.vc_refs.specs.Refs.{deciding_file, is_taken, loose_refs, packed_at, packed_map, packed_path, refs, ChangesOnly, IsBadLoose, IsBadRef, IsGoodPackedFile}

@@ -13,7 +13,7 @@ use Rattle.vc_object.specs.Lines.{IsId}
 use Rattle.vc_object.specs.ObjectId.{is_id}
 use Rattle.vc_object.specs.declared.id.ObjectId.{ObjectId}
 use Rattle.vc_refs.specs.RefFault.{BlamesPacked, BlamesRemove}
-use Rattle.vc_refs.specs.Refs.{deciding_file, is_taken, loose_refs, packed_at, packed_in, packed_map, packed_path, refs, IsBadLoose, IsBadRef, IsGoodPackedFile}
+use Rattle.vc_refs.specs.Refs.{deciding_file, is_taken, loose_refs, packed_at, packed_in, packed_map, packed_path, refs, ChangesOnly, IsBadLoose, IsBadRef, IsGoodPackedFile}
 use Rattle.vc_refs.specs.Packed.{PackedMap, IsPackedMap, is_packed_name, packed_refs}
 use Rattle.vc_refs.specs.RefFile.{id_in}
 use Rattle.vc_refs.specs.RefMap.{IsInRefs, is_ref}

@@ -1,28 +1,21 @@
 -- A listing of paths, read one after the other, gives the list of the refs.
-use Rattle.std.proofs.Common.{◌≡◌, ℕ, zero, suc, ◌+◌, ◌<◌, ◌≤◌, Bool, true, false, cond, ◌||◌, ◌⊎◌, inl, inr, List, [], ◌∷◌, ◌++◌, map, take, drop, length, get_or, Option, Some, None, sym, ap, refl, ◌∙◌, subst, arith, append-nil, drop-cons}
-use Rattle.std.specs.Prelude.{◌≢◌, codes, option_map, filter_map, String, string_bytes}
+use Rattle.std.proofs.Common.{◌≡◌, ℕ, zero, suc, ◌+◌, ◌<◌, ◌≤◌, Bool, true, false, ◌||◌, ◌⊎◌, inl, inr, List, [], ◌∷◌, ◌++◌, map, take, drop, length, get_or, None, sym, ap, refl, ◌∙◌, subst, arith, drop-cons}
+use Rattle.std.specs.Prelude.{◌≢◌, codes, String, string_bytes}
 use Rattle.std.specs.Global.{Global}
-use Rattle.std.specs.List.{AllByRecursion, cons_option}
+use Rattle.std.specs.List.{AllByRecursion}
 use Rattle.std.specs.List.Sorted.{IsStrictlySortedBy}
-use Rattle.std.specs.Ordering.{nat_cmp, is_lt, eq_by_cmp}
+use Rattle.std.specs.Ordering.{nat_cmp, eq_by_cmp}
 use Rattle.std.specs.declared.cmp.Ordering.{Ordering}
-use Rattle.std.specs.declared.cmp.Ordering.TheVariants.{Less, Greater}
+use Rattle.std.specs.declared.cmp.Ordering.TheVariants.{Greater}
 use Rattle.std.specs.Cmp.Lexicographic.{slice_cmp}
-use Rattle.std.specs.FinMap.{find, is_sorted}
-use Rattle.std.specs.FinMap.Entries.{below_all}
-use Rattle.std.proofs.lemmas.Bool.{and_from}
 use Rattle.std.proofs.lemmas.List.{map_more, map-append, take-append-drop}
 use Rattle.std.proofs.lemmas.List.Folds.{list_any-append}
-use Rattle.std.proofs.lemmas.List.Elements.{filter_map-append}
 use Rattle.vc_files.specs.FileMap.{FileMap, paths_under}
-use Rattle.vc_object.specs.declared.id.ObjectId.{ObjectId}
-use Rattle.vc_refs.specs.RefMap.{RefMap, IsListOf, entry_at}
 use Rattle.vc_refs.specs.LooseFault.{BlamesList, BlamesPath, IsFirstBadLoose}
 use Rattle.vc_refs.specs.Refs.{is_taken, loose_refs, IsBadLoose, SpellsLoose}
 use Rattle.vc_refs.specs.declared.faults.RefFault.{RefFault}
 use Rattle.vc_refs.specs.declared.faults.RefFault.TheVariants.{Stale, Conflict, BadRefFile, HeadLoop, Fault}
-use Rattle.vc_refs.proofs.RefsLemmas.{loose-untaken}
-use Rattle.vc_refs.proofs.PathLemmas.{paths_rise, is_among, is_among-paths_under, same_path, found_above, first_among, head_among}
+use Rattle.vc_refs.proofs.PathLemmas.{paths_rise, is_among, is_among-paths_under, found_above, first_among, head_among}
 
 abbrev path_cmp : List ℕ → List ℕ → Ordering
 path_cmp = slice_cmp nat_cmp

@@ -1,10 +1,8 @@
 -- What a text of packed refs stands for has legal names in `refs/` and whole ids: for those who hold the text alone.
 use Rattle.std.proofs.Common.{◌≡◌, ◌<◌, ◌==◌, ℕ, suc, Bool, true, false, nat_lt, List, [], ◌∷◌, length, Option, Some, None, Result, Ok, Err, sym, ap, refl, ◌∙◌, subst, arith, rules}
 use Rattle.std.specs.Prelude.{codes, option_map, option_and_then, if◌then◌else◌}
-use Rattle.std.specs.Cmp.Lexicographic.{slice_cmp}
-use Rattle.std.specs.FinMap.{entries, find, from_entries, get, get-entries}
+use Rattle.std.specs.FinMap.{entries, from_entries, get, get-entries}
 use Rattle.std.specs.List.{list_all}
-use Rattle.std.specs.Ordering.{nat_cmp}
 use Rattle.std.specs.Result.{result_ok}
 use Rattle.std.proofs.lemmas.Bool.{and_from, and_parts, eq-eqb}
 use Rattle.hex.specs.declared.error.FromHexError.{FromHexError}
@@ -70,7 +68,7 @@ ref_in-valid line ref e =
 -- so do all lines
 refs_in-valid : (lines : List (List ℕ)) (behind : Bool) (refs : List PackedRef) → refs_in behind lines ≡ Some refs → list_all may_be_packed refs ≡ true
 refs_in-valid [] behind refs e = let none : refs ≡ [] = cc e in ap (list_all may_be_packed) none
-refs_in-valid (line ∷ others) behind refs e = by (is_comment line) (is_peeled line) behind e
+refs_in-valid (line ∷ others) behind refs e = by (is_comment line) (is_peeled line) behind (refs_in-valid others false) (refs_in-valid others true) e
   where
     none_is : {A : Type 0} (x : A) → ◌≡◌ {A = Option A} None (Some x) → ⊥
     none_is x h = cc h
@@ -83,12 +81,13 @@ refs_in-valid (line ∷ others) behind refs e = by (is_comment line) (is_peeled 
     one (Some ref) None first later h = absurd (none_is refs h)
     one None more first later h = absurd (none_is refs h)
 
-    by : (comment peeled behind : Bool) → (if comment then refs_in false others else if peeled then (if behind then refs_in false others else None) else with_ref_first (ref_in line) (refs_in true others)) ≡ Some refs
+    by : (comment peeled behind : Bool) → ((rs : List PackedRef) → refs_in false others ≡ Some rs → list_all may_be_packed rs ≡ true) → ((rs : List PackedRef) → refs_in true others ≡ Some rs → list_all may_be_packed rs ≡ true)
+        → (if comment then refs_in false others else if peeled then (if behind then refs_in false others else None) else with_ref_first (ref_in line) (refs_in true others)) ≡ Some refs
         → list_all may_be_packed refs ≡ true
-    by true peeled behind h = refs_in-valid others false refs h
-    by false true true h = refs_in-valid others false refs h
-    by false true false h = absurd (none_is refs h)
-    by false false behind h = one (ref_in line) (refs_in true others) (λ ref is. ref_in-valid line ref is) (λ rs is. refs_in-valid others true rs is) h
+    by true peeled behind apart after h = apart refs h
+    by false true true apart after h = apart refs h
+    by false true false apart after h = absurd (none_is refs h)
+    by false false behind apart after h = one (ref_in line) (refs_in true others) (ref_in-valid line) after h
 
 map_of-valid : (refs : List PackedRef) (m : PackedMap) → list_all may_be_packed refs ≡ true → map_of refs ≡ Some m → IsPackedMap m
 map_of-valid refs m all e = by (names_once refs) e

@@ -16,7 +16,7 @@ use Rattle.std.proofs.lemmas.Bool.{and_parts, and_from, false_from_ne_true, case
 use Rattle.vc_files.specs.FileMap.{FileMap, paths_under}
 use Rattle.vc_refs.specs.RefMap.{IsInRefs, is_folder_of, conflicts}
 use Rattle.vc_refs.specs.LooseWay.{IsFirstInTheWay, IsFree, IsFreeAbove, IsInTheWay}
-use Rattle.vc_refs.specs.Refs.{is_taken, loose_refs}
+use Rattle.vc_refs.specs.Refs.{is_taken}
 use Rattle.vc_refs.proofs.PathLemmas.{paths_rise, is_among, is_among-paths_under, first_among, head_among}
 
 -- a text begins with its front

@@ -54,7 +54,7 @@ module _ (old new : FileMap) (slots after : List (Option SessionText)) (was_up :
           None,
           record {
             spells = subst (λ (s : Shown). Spells s n.repository) (sym (shown_kept old new loses)) held.spells;
-            clean = clean_on old new (bad_loses old new loses.left) held.clean;
+            clean = clean_on old new (bad_loses old new loses.left (loses.outside.at packed_path refl)) held.clean;
             live = tt;
           },
           record { answer = sym why.1; sent = refl },

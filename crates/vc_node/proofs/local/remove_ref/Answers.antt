@@ -3,7 +3,6 @@ use Rattle.std.proofs.Common.{rules, ◌≡◌, subst}
 use Rattle.vc_files.specs.FileMap.{FileMap}
 use Rattle.vc_refs.specs.RefMap.{without_ref}
 use Rattle.vc_refs.specs.Refs.{refs}
-use Rattle.vc_refs.proofs.LayeredChangeLemmas.{unpacks_same}
 use Rattle.vc_node.specs.Shown.{shown, with_refs_shown}
 use Rattle.vc_node.proofs.ShownLemmas.{shown_refs}
 use Rattle.vc_node.proofs.CleanLemmas.{clean_from, clean_ref, clean_same}
@@ -20,16 +19,7 @@ pub returns-in_err-current-clause-clean : goal.returns-in_err-current-clause-cle
 returns-in_err-current-clause-clean g c = λ honest. clean_same _ _ c.in_err-current.ensures.same
 
 pub returns-in_err-remove-clause-clean : goal.returns-in_err-remove-clause-clean
-returns-in_err-remove-clause-clean g c = λ honest. clean_from _ _ _ c.in_ok-current.ensures.same (clean_ref _ _ c.args.name.now (c.in_err-remove.ensures.rest honest))
-
-pub returns-in_err-current-clause-unpacks : goal.returns-in_err-current-clause-unpacks
-returns-in_err-current-clause-unpacks g c = λ honest. unpacks_same _ _ _ c.in_err-current.ensures.same
-
-pub returns-in_err-remove-clause-unpacks : goal.returns-in_err-remove-clause-unpacks
-returns-in_err-remove-clause-unpacks g c = λ honest. rw c.in_ok-current.ensures.same at (c.in_err-remove.ensures.unpacks honest)
-
-pub returns-clause-unpacks : goal.returns-clause-unpacks
-returns-clause-unpacks g c = λ honest. rw c.in_ok-current.ensures.same at (c.in_ok-remove.ensures.unpacks honest)
+returns-in_err-remove-clause-clean g c = λ honest. clean_from _ _ _ c.in_ok-current.ensures.same (clean_ref _ _ c.args.name.now (c.in_err-remove.ensures.rest honest) (c.in_err-remove.ensures.unpacks honest))
 
 -- the refs are as before, and so is all else that is shown
 pub returns-in_err-remove-clause-err : goal.returns-in_err-remove-clause-err
@@ -39,7 +29,7 @@ returns-in_err-remove-clause-err g c = λ honest.
     (shown_refs _ _ c.args.name.now _ (c.in_err-remove.ensures.rest honest) (c.in_err-remove.ensures.err honest))
 
 pub returns-clause-clean : goal.returns-clause-clean
-returns-clause-clean g c = λ honest. clean_from _ _ _ c.in_ok-current.ensures.same (clean_ref _ _ c.args.name.now (c.in_ok-remove.ensures.rest honest))
+returns-clause-clean g c = λ honest. clean_from _ _ _ c.in_ok-current.ensures.same (clean_ref _ _ c.args.name.now (c.in_ok-remove.ensures.rest honest) (c.in_ok-remove.ensures.unpacks honest))
 
 pub returns-in_err-current-clause-wear : goal.returns-in_err-current-clause-wear
 returns-in_err-current-clause-wear g c = writes_told (wears_writes c.in_err-current.ensures.wear (search rules)) (search rules) (search rules)

@@ -1,5 +1,6 @@
-use Rattle.std.proofs.Common.{rules, ◌≡◌, ◌&&◌, ℕ, List, Option, None, Result, false, is_some, inl, inr, sym, refl, ◌∙◌, subst}
-use Rattle.std.specs.Prelude.{IfOk, IfErr, IsErrOf}
+use Rattle.std.proofs.Common.{rules, ◌≡◌, ◌&&◌, ℕ, List, Option, None, Result, true, false, nat_eq, is_some, inl, inr, sym, refl, ◌∙◌, subst}
+use Rattle.std.specs.Prelude.{IfOk, IfErr, IsErrOf, codes}
+use Rattle.std.specs.List.{starts_with}
 use Rattle.std.specs.Str.{is_utf8}
 use Rattle.vc_files.proofs.WearLemmas.{wears_then, wears_writes, writes_told}
 use Rattle.vc_files.specs.Failures.{Writes}
@@ -53,7 +54,9 @@ returns-in-Ok-clause-rest g c = λ honest.
     moved (λ files name value. KeepsTheRest name files (content c.set.new.files)) {e = None} c.in_ok-is_standing_tag.ensures.same named refl (c.in-Ok.ensures.rest honest)
 
 pub returns-in-Ok-clause-bad : goal.returns-in-Ok-clause-bad
-returns-in-Ok-clause-bad g c = λ honest. bad_from c.in_ok-is_standing_tag.ensures.same (bad_ref _ _ c.in-Some.name (c.in-Ok.ensures.rest honest))
+returns-in-Ok-clause-bad g c = λ honest.
+    let inside : starts_with nat_eq c.in-Some.name (codes "refs/") ≡ true = search rules in
+    bad_from c.in_ok-is_standing_tag.ensures.same (bad_ref _ _ c.in-Some.name inside (c.in-Ok.ensures.rest honest) (c.in-Ok.ensures.only honest))
 
 pub returns-in-Ok-clause-wear : goal.returns-in-Ok-clause-wear
 returns-in-Ok-clause-wear g c = wears_then c.in_ok-is_standing_tag.ensures.wear (λ _. c.in_ok-is_standing_tag.ensures.same) (search rules) (writes_told c.in-Ok.ensures.wear (search rules) (search rules))
