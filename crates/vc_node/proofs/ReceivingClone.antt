@@ -20,7 +20,7 @@ use Rattle.vc_model.specs.Refs.{Head as MachineHead}
 use Rattle.vc_model.specs.Refs.Head.{Detached, OnBranch}
 use Rattle.vc_model.specs.Repository.{Index, Repository}
 use Rattle.vc_refs.specs.Head.{head_of, head_value}
-use Rattle.vc_refs.specs.Refs.{refs}
+use Rattle.vc_refs.specs.Refs.{packed_at, refs}
 use Rattle.vc_refs.specs.declared.heads.Head.{Head}
 use Rattle.vc_refs.specs.declared.heads.Head.TheVariants as heads
 use Rattle.vc_rules.specs.OpenPushes.{HoldsContent}

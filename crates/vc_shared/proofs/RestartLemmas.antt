@@ -16,6 +16,7 @@ use Rattle.vc_node.specs.Machine.{Spells, fault_answer, failure_of}
 use Rattle.vc_node.specs.Opening.{opened_node}
 use Rattle.vc_node.specs.Shown.{Shown}
 use Rattle.vc_node.specs.declared.fault.NodeFault.{NodeFault}
+use Rattle.vc_refs.specs.Refs.{packed_path}
 use Rattle.vc_session.proofs.CleanLemmas.{bad_loses}
 use Rattle.vc_session.specs.Session.{SessionText}
 use Rattle.vc_shared.proofs.HoldingLemmas.{clean_on}
