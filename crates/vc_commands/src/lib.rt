@@ -24,6 +24,7 @@ mod remote;
 mod repository;
 mod rev_list;
 mod rev_parse;
+mod pack_refs;
 mod show_ref;
 mod status;
 mod work;

@@ -19,6 +19,7 @@ use crate::nearby::refuse_second_store;
 use crate::remote::{fetch, push, serve};
 use crate::rev_list::rev_list;
 use crate::rev_parse::rev_parse;
+use crate::pack_refs::pack_refs;
 use crate::show_ref::show_ref;
 use crate::work::{add, checkout, status};
 use crate::world::world;
@@ -262,6 +263,7 @@ where
         LocalTask::Commit(words) => commit(rt, store, words, parents, output),
         LocalTask::Branch { name, revision } => branch(rt, store, name, revision, faults),
         LocalTask::BranchDelete { name } => branch_delete(rt, store, name, faults),
+        LocalTask::PackRefs => pack_refs(rt, store),
         LocalTask::Checkout { work, revision } => checkout(rt, store, work, revision),
         LocalTask::Status { work } => status(rt, store, work, output),
     }

@@ -14,7 +14,7 @@ use Rattle.vc_object.specs.Object.{object_name}
 use Rattle.vc_object.specs.ObjectId.{is_id}
 use Rattle.vc_object.specs.declared.id.ObjectId.{ObjectId}
 use Rattle.vc_object.specs.declared.kind.Kind.{Kind}
-use Rattle.vc_refs.specs.Head.{KeepsTheRest}
+use Rattle.vc_refs.specs.Head.{KeepsOutside, KeepsTheRest}
 use Rattle.vc_refs.specs.Packing.{UnpacksOnly}
 use Rattle.vc_refs.specs.RefMap.{IsInRefs}
 use Rattle.vc_refs.specs.Refs.{IsBadRef, ChangesOnly, packed_at, packed_path}
@@ -76,6 +76,13 @@ clean_ref old new name rest packed = record { damage = damage_at old new (λ n. 
 
 pub clean_set : (old new : FileMap) (name : List ℕ) → IsInRefs name → KeepsTheRest name old new → ChangesOnly name old new → KeepsClean old new
 clean_set old new name inside rest only = clean_ref old new name rest (packed_file old new (only.at packed_path (ap (λ n. bytes_eq packed_path n) (split_from_starts name (codes "refs/") inside))))
+
+-- refs that are packed
+pub still_clean_packed : (old new : FileMap) → KeepsOutside old new → IsClean old → IsClean new
+still_clean_packed old new rest clean = record {
+  objects = λ id damaged. clean.objects id ((damage_at old new (λ n. rest.at (object_path n) refl refl)).before id damaged);
+  refs = λ path bad. clean.refs path (rest.good path bad);
+}
 
 -- HEAD and the index
 pub clean_head : (old new : FileMap) → ChangesOnly (codes "HEAD") old new → KeepsClean old new

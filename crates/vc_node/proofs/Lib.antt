@@ -22,6 +22,7 @@ pub mod ReceivingClone
 pub mod ReceivingFaults
 pub mod RefusalLemmas
 pub mod RestartLemmas
+pub mod PackingLemmas
 pub mod SettledLemmas
 pub mod ShownLemmas
 pub mod SoundAnswers

@@ -11,7 +11,7 @@ use Rattle.vc_object.specs.ObjectMap.{ObjectMap}
 use Rattle.vc_object.specs.declared.id.ObjectId.{ObjectId}
 use Rattle.vc_refs.specs.RefMap.{RefMap}
 use Rattle.vc_refs.specs.Refs.{packed_path, refs, ChangesOnly}
-use Rattle.vc_refs.specs.Head.{head_of, read_head, said, KeepsTheRest}
+use Rattle.vc_refs.specs.Head.{head_of, read_head, said, KeepsOutside, KeepsTheRest}
 use Rattle.vc_refs.specs.declared.heads.Head.{Head}
 use Rattle.vc_refs.proofs.LayeredLemmas.{refs-of_files}
 use Rattle.vc_refs.proofs.WayLemmas.{split_from_starts}
@@ -63,6 +63,13 @@ shown_refs old new name r rest is =
     same_shown (objects new) (objects old) (refs new) r (head_of new) (head_of old) (index_bytes new) (index_bytes old)
     (objects_same old new (λ n. rest.outside.at (object_path n) refl refl)) is rest.outside.head
     (ap (λ found. unwrap_or found []) (rest.outside.at (codes "index") refl refl))
+
+-- refs that are packed show as they did
+pub shown_packed : (old new : FileMap) → KeepsOutside old new → refs new ≡ refs old → shown new ≡ shown old
+shown_packed old new rest is =
+    same_shown (objects new) (objects old) (refs new) (refs old) (head_of new) (head_of old) (index_bytes new) (index_bytes old)
+    (objects_same old new (λ n. rest.at (object_path n) refl refl)) is rest.head
+    (ap (λ found. unwrap_or found []) (rest.at (codes "index") refl refl))
 
 -- a change of HEAD shows as another HEAD
 pub shown_head : (old new : FileMap) (h : Head) → ChangesOnly (codes "HEAD") old new → refs new ≡ refs old → head_of new ≡ Some h → shown new ≡ with_head_shown (shown old) h

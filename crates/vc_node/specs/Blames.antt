@@ -14,7 +14,7 @@ use Rattle.vc_object.specs.ObjectFault.{BodyFault}
 use Rattle.vc_object.specs.declared.id.ObjectId.{ObjectId}
 use Rattle.vc_object.specs.declared.kind.Kind.{Kind}
 use Rattle.vc_object.specs.declared.kind.Kind.TheVariants as kinds
-use Rattle.vc_refs.specs.RefFault.{BlamesWay, BlamesRef, BlamesHead as BlamesHeadFile}
+use Rattle.vc_refs.specs.RefFault.{IsFirstBadRef, BlamesWay, BlamesRef, BlamesHead as BlamesHeadFile}
 use Rattle.vc_refs.specs.Refs.{IsBadRef}
 use Rattle.vc_refs.specs.Way.{IsFree}
 use Rattle.vc_refs.specs.declared.heads.Head.{Head}
@@ -114,6 +114,12 @@ abbrev pub BlamesRemoved : FileMap → NodeFault → Type 0
 BlamesRemoved content (Ref (ref.BadRefFile path)) = IsBadRef content (string_bytes path)
 BlamesRemoved content (Ref (ref.Fault fault)) = Unit {0}
 BlamesRemoved content _ = ⊥
+
+-- refs are packed where each of their files can be read
+abbrev pub BlamesPacking : FileMap → NodeFault → Type 0
+BlamesPacking content (Ref (ref.BadRefFile path)) = IsFirstBadRef content (string_bytes path)
+BlamesPacking content (Ref (ref.Fault fault)) = Unit {0}
+BlamesPacking content _ = ⊥
 
 -- a damaged file is damaged
 abbrev pub IsOfStoredDamage : FileMap → StoreFault → Type 0

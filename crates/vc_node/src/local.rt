@@ -19,8 +19,8 @@ ghost use Rattle.vc_object.specs.declared.mode.Mode.{Mode as ModeValue};
 ghost use Rattle.vc_object.specs.declared.id.ObjectId.{ObjectId as Id};
 ghost use Rattle.vc_object.specs.declared.kind.Kind.TheVariants.{Blob};
 ghost use Rattle.vc_refs.specs.Head.{IsHeadInRefs, IsLegalHead};
-ghost use Rattle.vc_node.specs.Blames.{BlamesWrite, BlamesAdd, BlamesBranch, BlamesPut, BlamesHead, BlamesLoad, BlamesRemoved, MayLoad, MayStage, MayHead, TellsDamage};
-ghost use Rattle.vc_node.specs.Clean.{KeepsClean, KeepsCleanBut};
+ghost use Rattle.vc_node.specs.Blames.{BlamesPacking, BlamesWrite, BlamesAdd, BlamesBranch, BlamesPut, BlamesHead, BlamesLoad, BlamesRemoved, MayLoad, MayStage, MayHead, TellsDamage};
+ghost use Rattle.vc_node.specs.Clean.{IsClean, KeepsClean, KeepsCleanBut};
 ghost use Rattle.vc_node.specs.GoodCommit.{IsGoodBeyondRefs};
 ghost use Rattle.vc_node.specs.IndexFile.{SpellsIndex, BlamesIndex};
 ghost use Rattle.vc_node.specs.NodeFault.{is_fault, TellsDevice};
@@ -203,5 +203,16 @@ pub(crate) fn remove_ref<F: Files>(
 {
     let current = vc_refs::get(files, alloc, name)?;
     vc_refs::remove(files, alloc, name, current)?;
+    Ok(())
+}
+
+/// Puts all refs into the packed file. Nothing that is shown changes, wherever it stops.
+pub(crate) fn pack_refs<F: Files>(alloc: Global, files: &mut F) -> Result<(), NodeFault>
+    ensures kept { F.honest → shown (F.content files.new) ≡ shown (F.content files.old) }
+    ensures refused { F.honest → IfErr result (BlamesPacking (F.content files.old)) }
+    ensures clean { F.honest → IsClean (F.content files.old) → IsClean (F.content files.new) }
+    ensures wear { Writes F.honest F.content F.failed F.can_fail F.left files.old files.new (TellsDevice result) }
+{
+    vc_refs::pack(files, alloc)?;
     Ok(())
 }

@@ -1,0 +1,51 @@
+-- What a clone answers to the question to pack its refs is the machine's answer: it is the node that it was, or one that is down.
+use Rattle.std.proofs.Common.{◌≡◌, Bool, true, false, Option, None, Result, Ok, Err, refl, sym, ap, ◌∙◌, subst}
+use Rattle.std.specs.Prelude.{IfErr, not}
+use Rattle.vc_files.specs.FileMap.{FileMap}
+use Rattle.vc_files.specs.declared.faults.Fault.{Fault as FilesFault}
+use Rattle.vc_model.specs.Clone.{Awaited, CloneNode}
+use Rattle.vc_model.specs.CloneCall.{CloneAnswers}
+use Rattle.vc_model.specs.CloneCall.CloneCall.{Asks}
+use Rattle.vc_model.specs.Node.Answer.{Did, Fault}
+use Rattle.vc_model.specs.Node.Reply.{Stored}
+use Rattle.vc_model.specs.Question.Question.{PackRefs}
+use Rattle.vc_refs.specs.declared.faults.RefFault.TheVariants as ref
+use Rattle.vc_node.specs.Awaited.{AwaitedText, IsAwaited}
+use Rattle.vc_node.specs.Blames.{BlamesPacking}
+use Rattle.vc_node.specs.Clean.{IsClean}
+use Rattle.vc_node.specs.CloneCalls.{AnswersClone, RestartedAs}
+use Rattle.vc_node.specs.Machine.{HoldsNode, Spells, failure_of, fault_answer}
+use Rattle.vc_node.specs.NodeFault.{is_fault}
+use Rattle.vc_node.specs.Shown.{Shown, shown}
+use Rattle.vc_node.specs.declared.fault.NodeFault.{NodeFault}
+use Rattle.vc_node.specs.declared.fault.NodeFault.TheVariants.{Ref}
+
+module _ (old new : FileMap) (waits : AwaitedText) (kept : shown new ≡ shown old) (clean : IsClean old → IsClean new) where
+  pub packed_answers : AnswersClone (Asks PackRefs) (RestartedAs (Ok tt)) old new waits waits true true
+  packed_answers = record {
+    each = λ awaited n waited held. (
+      awaited,
+      n,
+      Did Stored,
+      None,
+      waited,
+      record { shows = record { spells = subst (λ (s : Shown). Spells s n.repository) (sym kept) held.shows.spells; live = held.shows.live }; clean = clean held.clean },
+      record { answer = refl; sent = refl },
+      λ sound. CloneAnswers.asked awaited PackRefs held.shows.live refl refl refl refl,
+    );
+  }
+
+  -- clean files are not to blame, so a refusal is a fault
+  pub unpacked_answers : (f : FilesFault) → AnswersClone (Asks PackRefs) (RestartedAs (Err (Ref (ref.Fault f)))) old new waits waits true false
+  unpacked_answers f = record {
+    each = λ awaited n waited held. (
+      awaited,
+      record { repository = n.repository; live = None },
+      Fault (failure_of f),
+      None,
+      waited,
+      record { shows = record { spells = subst (λ (s : Shown). Spells s n.repository) (sym kept) held.shows.spells; live = refl }; clean = clean held.clean },
+      record { answer = refl; sent = refl },
+      λ sound. CloneAnswers.faulted awaited (failure_of f) held.shows.live (λ never. cc never) refl refl refl,
+    );
+  }
