@@ -1,6 +1,6 @@
 -- What a clone answers to the question to pack its refs is the machine's answer: it is the node that it was, or one that is down.
 use Rattle.std.proofs.Common.{◌≡◌, Bool, true, false, Option, None, Result, Ok, Err, refl, sym, ap, ◌∙◌, subst}
-use Rattle.std.specs.Prelude.{IfErr, not}
+use Rattle.std.specs.Prelude.{IfErr}
 use Rattle.vc_files.specs.FileMap.{FileMap}
 use Rattle.vc_files.specs.declared.faults.Fault.{Fault as FilesFault}
 use Rattle.vc_model.specs.Clone.{Awaited, CloneNode}
@@ -14,11 +14,10 @@ use Rattle.vc_node.specs.Awaited.{AwaitedText, IsAwaited}
 use Rattle.vc_node.specs.Blames.{BlamesPacking}
 use Rattle.vc_node.specs.Clean.{IsClean}
 use Rattle.vc_node.specs.CloneCalls.{AnswersClone, RestartedAs}
-use Rattle.vc_node.specs.Machine.{HoldsNode, Spells, failure_of, fault_answer}
-use Rattle.vc_node.specs.NodeFault.{is_fault}
+use Rattle.vc_node.specs.Machine.{HoldsNode, Spells, failure_of, up_after}
 use Rattle.vc_node.specs.Shown.{Shown, shown}
 use Rattle.vc_node.specs.declared.fault.NodeFault.{NodeFault}
-use Rattle.vc_node.specs.declared.fault.NodeFault.TheVariants.{Ref}
+use Rattle.vc_node.specs.declared.fault.NodeFault.TheVariants.{BadIndex, BadPath, Down, Missing, NotACommit, PathConflict, Ref, Store, WrongEntry}
 
 module _ (old new : FileMap) (waits : AwaitedText) (kept : shown new ≡ shown old) (clean : IsClean old → IsClean new) where
   pub packed_answers : AnswersClone (Asks PackRefs) (RestartedAs (Ok tt)) old new waits waits true true
@@ -49,3 +48,20 @@ module _ (old new : FileMap) (waits : AwaitedText) (kept : shown new ≡ shown o
       λ sound. CloneAnswers.faulted awaited (failure_of f) held.shows.live (λ never. cc never) refl refl refl,
     );
   }
+
+  -- whatever it tells
+  pub packing_answers : (result : Result (Unit {0}) NodeFault) → IfErr result (BlamesPacking old) → AnswersClone (Asks PackRefs) (RestartedAs result) old new waits waits true (up_after result)
+  packing_answers (Ok u) told = packed_answers
+  packing_answers (Err (Ref (ref.Fault f))) told = unpacked_answers f
+  packing_answers (Err (Ref (ref.BadRefFile path))) first = record { each = λ awaited n waited held. absurd (held.clean.refs _ first.bad) }
+  packing_answers (Err (Ref (ref.Stale current))) told = absurd told
+  packing_answers (Err (Ref (ref.Conflict other))) told = absurd told
+  packing_answers (Err (Ref ref.HeadLoop)) told = absurd told
+  packing_answers (Err (Store e)) told = absurd told
+  packing_answers (Err (Missing id)) told = absurd told
+  packing_answers (Err (NotACommit id)) told = absurd told
+  packing_answers (Err BadPath) told = absurd told
+  packing_answers (Err PathConflict) told = absurd told
+  packing_answers (Err (BadIndex place)) told = absurd told
+  packing_answers (Err (WrongEntry at)) told = absurd told
+  packing_answers (Err Down) told = absurd told
