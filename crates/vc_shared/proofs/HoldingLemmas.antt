@@ -82,7 +82,7 @@ steps_beside old new s t (session.Finished report) h = beside_slot s.slot old ne
 abbrev SameThere : FileMap → FileMap → ℕ → Type 0
 SameThere old new slot = (path : List ℕ) → starts_with nat_eq path (quarantine_folder slot) ≡ true → files.get new path ≡ files.get old path
 
-dropped_on : (old new : FileMap) (slot : ℕ) → SameThere old new slot → IsDropped slot old → IsDropped slot new
+pub dropped_on : (old new : FileMap) (slot : ℕ) → SameThere old new slot → IsDropped slot old → IsDropped slot new
 dropped_on old new slot same dropped path h = same path h ∙ dropped path h
 
 beyond : (prefix : List ℕ) (slot : ℕ) → ((rest : List ℕ) → starts_with nat_eq (quarantine_folder slot ++ rest) prefix ≡ false) → (old new : FileMap) → SameOutside prefix old new → SameThere old new slot
@@ -90,7 +90,7 @@ beyond prefix slot apart old new same path h =
     same.at path (ap (λ p. starts_with nat_eq p prefix) (split_from_starts path (quarantine_folder slot) h) ∙ apart _)
 
 -- a change of a ref is none there
-beyond_refs : (slot : ℕ) (old new : FileMap) → KeepsOutside old new → SameThere old new slot
+pub beyond_refs : (slot : ℕ) (old new : FileMap) → KeepsOutside old new → SameThere old new slot
 beyond_refs slot old new same path h =
     let is = split_from_starts path (quarantine_folder slot) h in
     same.at path (ap (λ p. starts_with nat_eq p (codes "refs/")) is) (ap (λ p. bytes_eq p packed_path) is)

@@ -1,0 +1,14 @@
+use Rattle.std.proofs.Common.{Ok, Err, inl, inr, refl, rules}
+use Rattle.vc_model.specs.Question.Question.{PackRefs}
+use Rattle.vc_model.specs.SharedCall.SharedCall.{Asks}
+use Rattle.vc_shared.proofs.PackingLemmas.{packing_answers}
+use Rattle.vc_shared.proofs.ResolvingLemmas.{down_declines}
+use Rattle.vc_shared.proofs.shared.Shared.pack_refs.Goals as goal
+
+pub returns-then-not-self-clause-answers : goal.returns-then-not-self-clause-answers
+returns-then-not-self-clause-answers g c = λ honest. down_declines _ _ _ _ (Asks PackRefs) _ _ (λ never. cc never) refl refl refl (search rules)
+
+pub returns-in-Ok-clause-answers : goal.returns-in-Ok-clause-answers
+returns-in-Ok-clause-answers g c = λ honest.
+    let content = g.F.Files.content in
+    rw (← c.self.view_is, c.if-not-self.false) (packing_answers (content c.self.inside.files) (content c.pack.new.files) (c.in-Ok.ensures.rest honest) (c.in-Ok.ensures.kept honest) c.self.inside.slots (Ok tt) tt)
