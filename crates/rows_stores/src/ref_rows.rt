@@ -24,6 +24,10 @@ pub fn obey<F: Files>(files: &mut F, alloc: Global, verb: &str, rest: &str) -> A
             told(refs.set_head(&head_of(alloc, rest)?))?;
             done(alloc)
         }
+        "pack-refs" => {
+            told(refs.pack())?;
+            done(alloc)
+        }
         "ref" | "conflict" | "set" | "delete" => obey_named(&mut refs, alloc, verb, rest),
         _ => graph_rows::obey_commits(&mut Store::new(alloc, files), alloc, verb, rest),
     }
