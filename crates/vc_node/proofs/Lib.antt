@@ -8,6 +8,7 @@ pub mod CommitAnswers
 pub mod CommitFailures
 pub mod CommitLemmas
 pub mod CommitReads
+pub mod RefBlames
 pub mod DenotingLemmas
 pub mod ExchangingLemmas
 pub mod IndexLemmas

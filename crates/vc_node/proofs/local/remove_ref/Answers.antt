@@ -1,5 +1,10 @@
 use Rattle.vc_files.proofs.WearLemmas.{wears_then, wears_writes, writes_told}
-use Rattle.std.proofs.Common.{rules, ◌≡◌, subst}
+use Rattle.std.proofs.Common.{rules, ◌≡◌, subst, sym}
+use Rattle.vc_refs.specs.RefFault.{BlamesRemove}
+use Rattle.vc_node.specs.Blames.{BlamesRemoved}
+use Rattle.vc_node.specs.Reads.{IsItsFile, NoneRead, TellsRead}
+use Rattle.vc_node.specs.declared.fault.NodeFault.TheVariants.{Ref}
+use Rattle.vc_node.proofs.RefBlames.{look_file, look_removed, remove_file, remove_removed}
 use Rattle.vc_files.specs.FileMap.{FileMap}
 use Rattle.vc_refs.specs.RefMap.{without_ref}
 use Rattle.vc_refs.specs.Refs.{refs}
@@ -39,3 +44,25 @@ returns-in_err-remove-clause-wear g c = wears_then c.in_ok-current.ensures.wear 
 
 pub returns-clause-wear : goal.returns-clause-wear
 returns-clause-wear g c = wears_then c.in_ok-current.ensures.wear (search rules) (search rules) (writes_told c.in_ok-remove.ensures.wear (search rules) (search rules))
+
+pub returns-in_err-current-clause-refused : goal.returns-in_err-current-clause-refused
+returns-in_err-current-clause-refused g c = λ honest.
+    let told : BlamesRemoved (g.F.Files.content c.args.files.now) (Ref c.in_err-current.field-0.0) = look_removed _ c.args.name.now _ (c.in_err-current.ensures.refused honest) in
+    search (rules, told)
+
+pub returns-in_err-remove-clause-refused : goal.returns-in_err-remove-clause-refused
+returns-in_err-remove-clause-refused g c = λ honest.
+    let content = g.F.Files.content c.args.files.now in
+    let blames : BlamesRemove content c.args.name.now c.in_ok-current.current c.in_err-remove.field-0.0 = rw c.in_ok-current.ensures.same at (c.in_err-remove.ensures.refused honest) in
+    let told : BlamesRemoved content (Ref c.in_err-remove.field-0.0) = remove_removed _ c.args.name.now _ (sym (c.in_ok-current.ensures.found honest)) _ blames in
+    search (rules, told)
+
+pub returns-in_err-current-clause-file : goal.returns-in_err-current-clause-file
+returns-in_err-current-clause-file g c = λ honest.
+    let told : TellsRead NoneRead (IsItsFile c.args.name.now) (Ref c.in_err-current.field-0.0) = look_file _ _ _ (c.in_err-current.ensures.refused honest) in
+    search (rules, told)
+
+pub returns-in_err-remove-clause-file : goal.returns-in_err-remove-clause-file
+returns-in_err-remove-clause-file g c = λ honest.
+    let told : TellsRead NoneRead (IsItsFile c.args.name.now) (Ref c.in_err-remove.field-0.0) = remove_file _ _ c.in_ok-current.current _ (c.in_err-remove.ensures.refused honest) in
+    search (rules, told)
