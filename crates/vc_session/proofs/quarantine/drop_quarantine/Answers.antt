@@ -1,4 +1,4 @@
-use Rattle.std.proofs.Common.{arith, rules, ◌≡◌, ℕ, ◌+◌, ◌++◌, List, [], ◌∷◌, take, map, sym, ap, ◌∙◌, subst}
+use Rattle.std.proofs.Common.{arith, rules, ◌≡◌, ℕ, ◌+◌, ◌++◌, List, [], ◌∷◌, take, map, sym, ap, ◌∙◌, subst, refl}
 use Rattle.std.specs.Prelude.{string_bytes}
 use Rattle.std.specs.FinMap as files
 use Rattle.std.proofs.lemmas.List.{map_more, take_all}
