@@ -7,12 +7,12 @@ mod file_rows;
 mod generation_rows;
 mod graph_rows;
 mod ids;
-mod layered_rows;
 mod lock_rows;
 mod numbered_rows;
 mod object_rows;
 mod packed_rows;
 mod random;
+mod random_refs;
 mod raw;
 mod recorder;
 mod ref_rows;
@@ -57,6 +57,7 @@ fn obey<R: Host>(rt: &R, held: &mut Held<R>, row: &str) -> Answer {
     match verb {
         "files" => devices::open_all(rt, &mut held.devices, rest),
         "packed" | "packed-text" => packed_rows::obey(rt.alloc(), verb, rest),
+        "random-refs" => random_refs::agreements(rt.alloc(), rest),
         "random" | "random-numbered" => random::agreements(rt.alloc(), verb, rest),
         "lock" | "try-lock" | "unlock" => lock_rows::obey(rt, &mut held.locks, verb, rest),
         _ if verb.starts_with("raw-") => raw::obey(rt, verb, rest),

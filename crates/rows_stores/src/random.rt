@@ -9,11 +9,16 @@ use vc_base::{
 };
 use vc_object::ObjectId;
 
-// A generator of numbers, told by its seed.
+/// A generator of numbers, told by its seed.
 #[derive(Drop)]
-struct Numbers(u64);
+pub struct Numbers(u64);
 
 impl Numbers {
+    /// That of a seed; seeds that follow each other give others that don't.
+    pub fn of(seed: u64) -> Numbers {
+        Numbers(seed.wrapping_mul(0x9e37_79b9_7f4a_7c15))
+    }
+
     fn next(&mut self) -> u32 {
         self.0 = self
             .0
@@ -22,8 +27,8 @@ impl Numbers {
         (self.0 >> 40) as u32
     }
 
-    // A number below the bound.
-    fn below(&mut self, bound: u8) -> u8 {
+    /// A number below the bound.
+    pub fn below(&mut self, bound: u8) -> u8 {
         let number = self.next().checked_rem(u32::from(bound)).unwrap_or(0);
         u8::try_from(number).unwrap_or(0)
     }
@@ -154,7 +159,7 @@ fn agrees_on_sets(
 
 // Whether all that is asked about the graph of a seed is answered so.
 fn agrees(alloc: Global, seed: u64) -> Result<bool, BaseFault> {
-    let mut numbers = Numbers(seed.wrapping_mul(0x9e37_79b9_7f4a_7c15));
+    let mut numbers = Numbers::of(seed);
     let count = numbers.below(11).wrapping_add(2);
     let parents = random_graph(alloc, &mut numbers, count)?;
     let mut table = table_of(alloc, &parents)?;
@@ -191,7 +196,7 @@ fn agrees_where_known(
 
 // Whether they are where nothing is known of the graph of a seed, where all is, and where a part is.
 fn agrees_numbered(alloc: Global, seed: u64) -> Result<bool, BaseFault> {
-    let mut numbers = Numbers(seed.wrapping_mul(0x9e37_79b9_7f4a_7c15));
+    let mut numbers = Numbers::of(seed);
     let count = numbers.below(11).wrapping_add(2);
     let parents = random_graph(alloc, &mut numbers, count)?;
     let mut table = table_of(alloc, &parents)?;

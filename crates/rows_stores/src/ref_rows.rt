@@ -4,8 +4,8 @@ ghost use Rattle.vc_refs.specs.Head.{IsHeadInRefs};
 ghost use Rattle.vc_refs.specs.RefMap.{IsInRefs};
 
 use crate::answers::{Answer, done, id_or_none, joined, word};
+use crate::graph_rows;
 use crate::ids::{Shown, id_in, id_of, two};
-use crate::{graph_rows, layered_rows};
 use anyhow::bail;
 use std::alloc::Global;
 use vc_files::Files;
@@ -15,9 +15,6 @@ use vc_refs::{Head, RefFault, Refs};
 use vc_store::Store;
 
 pub fn obey<F: Files>(files: &mut F, alloc: Global, verb: &str, rest: &str) -> Answer {
-    if verb == "layered" {
-        return layered_rows::obey(files, alloc, rest);
-    }
     let mut refs = Refs::new(alloc, files);
     match verb {
         "refs" => listed(alloc, &told(refs.list())?),
@@ -25,6 +22,10 @@ pub fn obey<F: Files>(files: &mut F, alloc: Global, verb: &str, rest: &str) -> A
         "resolve-head" => id_or_none(alloc, told(refs.resolve_head())?),
         "set-head" => {
             told(refs.set_head(&head_of(alloc, rest)?))?;
+            done(alloc)
+        }
+        "pack-refs" => {
+            told(refs.pack())?;
             done(alloc)
         }
         "ref" | "conflict" | "set" | "delete" => obey_named(&mut refs, alloc, verb, rest),
@@ -48,8 +49,8 @@ fn obey_named<F: Files>(refs: &mut Refs<'_, F>, alloc: Global, verb: &str, rest:
     done(alloc)
 }
 
-/// What a call gave, or its refusal with what it tells.
-pub fn told<T>(answer: Result<T, RefFault>) -> anyhow::Result<T> {
+// What a call gave, or its refusal with what it tells.
+fn told<T>(answer: Result<T, RefFault>) -> anyhow::Result<T> {
     let fault = match answer {
         Ok(value) => return Ok(value),
         Err(fault) => fault,
@@ -93,7 +94,7 @@ fn head_text(alloc: Global, head: Option<Head>) -> Answer {
     }
 }
 
-pub fn listed(alloc: Global, refs: &[(RefName, ObjectId)]) -> Answer {
+fn listed(alloc: Global, refs: &[(RefName, ObjectId)]) -> Answer {
     let mut lines = Vec::new(alloc);
     for (name, id) in refs {
         lines.push(format!(in alloc; "{name} {}", Shown(*id))?)?;

@@ -30,10 +30,6 @@ module _ (test : List ℕ → Bool) (all : List (String Global)) (i : ℕ) (path
       same ∙ begun
       ∙ ap (λ (xs : List (List ℕ)). start ++ xs) (sym (one_more ∙ ap (λ (b : Bool). filter test (map string_bytes (take i all)) ++ cond b (string_bytes path ∷ []) []) fails ∙ append-nil (filter test (map string_bytes (take i all)))))
 
--- a path more, as it is pushed
-pub push_more : (paths after : List (String Global)) (path : String Global) → after ≡ paths ++ path ∷ [] → map string_bytes after ≡ map string_bytes paths ++ string_bytes path ∷ []
-push_more paths after path added = ap (map string_bytes) added ∙ map-append string_bytes paths (path ∷ [])
-
 -- ---- whether any was added
 
 pub none_added : (paths after : List (String Global)) (more : List (List ℕ)) → map string_bytes after ≡ map string_bytes paths ++ more → length after ≡ length paths → more ≡ []
@@ -64,14 +60,6 @@ named_more work own words i d lt before after begun added =
     added ∙ ap (λ (xs : List (List ℕ)). xs ++ files_named_by work own word) begun
     ∙ ap (λ (xs : List (List ℕ)). flat_map (files_named_by work own) front ++ xs) (sym (append-nil (files_named_by work own word)))
     ∙ sym (ap (flat_map (files_named_by work own)) (front_more words i d lt) ∙ flat_map-append (files_named_by work own) front (word ∷ []))
-
-all_next : (P : List ℕ → Type 0) (xs : List (List ℕ)) (x : List ℕ) → AllByRecursion P xs → P x → AllByRecursion P (xs ++ x ∷ [])
-all_next P [] x each is = (is, tt)
-all_next P (y ∷ xs) x each is = (each.0, all_next P xs x each.1 is)
-
-pub names_more : (work : FileMap) (own : List ℕ) (words : List (Bor (List ℕ))) (i : ℕ) (d : Bor (List ℕ)) → i < length words → AllByRecursion (Names work own) (map word_bytes (take i words)) → Names work own (get_or words i d).now
-    → AllByRecursion (Names work own) (map word_bytes (take (i + 1) words))
-names_more work own words i d lt each is = subst (AllByRecursion (Names work own)) (sym (front_more words i d lt)) (all_next (Names work own) (map word_bytes (take i words)) (get_or words i d).now each is)
 
 module _ (work : FileMap) (own : List ℕ) where
   first_word : (IsSo : List ℕ → Type 0) (words : List (Bor (List ℕ))) (i : ℕ) (d : Bor (List ℕ)) → i < length words → AllByRecursion (Names work own) (map word_bytes (take i words)) → IsSo (get_or words i d).now

@@ -16,19 +16,11 @@ pub record HasRead (known now : Option (List ℕ)) (hasher : NameHasher) (kind :
   pub hashed : HasTaken hasher kind size front
   pub rest : length front + left ≡ size
 
-Consumes-none : (known : Option (List ℕ)) → Consumes known known []
-Consumes-none None = tt
-Consumes-none (Some xs) = refl
-
 Consumes-both : (a b c : Option (List ℕ)) (xs ys : List ℕ) → Consumes a b xs → Consumes b c ys → Consumes a c (xs ++ ys)
 Consumes-both None b c xs ys p q = tt
 Consumes-both (Some ws) None c xs ys p q = absurd p
 Consumes-both (Some ws) (Some bs) None xs ys p q = absurd q
 Consumes-both (Some ws) (Some bs) (Some cs) xs ys p q = p ∙ ap (λ zs. xs ++ zs) q ∙ sym (append_assoc xs ys cs)
-
--- before the first piece
-pub HasRead-start : (known : Option (List ℕ)) (hasher : NameHasher) (kind : Kind) (size : ℕ) → HasTaken hasher kind size [] → HasRead known known hasher kind size size
-HasRead-start known hasher kind size h = record { front = []; taken = Consumes-none known; hashed = h; rest = omega arith }
 
 -- one more piece
 pub HasRead-piece : (known old now : Option (List ℕ)) (hasher after : NameHasher) (kind : Kind) (size left count : ℕ) (buffer : List ℕ) → HasRead known old hasher kind size left

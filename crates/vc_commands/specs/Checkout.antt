@@ -11,7 +11,7 @@ use Rattle.vc_object.specs.declared.kind.Kind.TheVariants as kinds
 use Rattle.vc_object.specs.declared.mode.Mode.{Mode}
 use Rattle.vc_refs.specs.RefFault.{BlamesHead, BlamesRef, IsGoodHead}
 use Rattle.vc_refs.specs.RefMap.{is_ref}
-use Rattle.vc_refs.specs.Refs.{IsBadRef, refs}
+use Rattle.vc_refs.specs.Refs.{IsBadRef, deciding_file, refs}
 use Rattle.vc_refs.specs.declared.heads.Head.{Head}
 use Rattle.vc_refs.specs.declared.heads.Head.TheVariants as heads
 use Rattle.vc_store.specs.Store.{objects}
@@ -61,9 +61,9 @@ pub record IsOnBranch (content : FileMap) (revision : List ℕ) (head : Head) (r
   pub tree : IsCommitTree content named commit root
   pub head_is : head ≡ heads.Branch (branch_ref revision)
 
--- a ref of this name could be read: if there is a file, it spells an id
+-- a ref of this name could be read, in its own file or the packed one
 abbrev pub IsReadable : FileMap → List ℕ → Type 0
-IsReadable content name = is_ref name ≡ true → ¬ IsBadRef content name
+IsReadable content name = is_ref name ≡ true → ¬ IsBadRef content (deciding_file content name)
 
 -- the HEAD that a checkout of the revision leaves, and the tree that it brings
 pub record IsTarget (content : FileMap) (revision : List ℕ) (head : Head) (root : ObjectId) : Type 0 where

@@ -43,7 +43,7 @@ pub record PrintsRefs (refs : RefMap) (old new : Option (List ℕ)) : Type 0 whe
   pub all : IsListOf refs listed
   pub text : Appends old new (flat_map ref_line listed)
 
--- why no ref is printed: a file below `refs/` is none, or a fault
+-- why no ref is printed, and why none is packed: a file of the refs can't be read, or a fault
 abbrev pub IsOfList : FileMap → Failure → Type 0
 IsOfList content (Refs fault) = BlamesList content fault
 IsOfList content (Fault fault) = ⊤

@@ -6,7 +6,7 @@ use Rattle.vc_index.specs.IndexMap.{IndexMap}
 use Rattle.vc_index.specs.WrittenTrees.{IsOfWrite, IsWritten}
 use Rattle.vc_index.specs.declared.faults.IndexFault.{IndexFault}
 use Rattle.vc_model.specs.Clone.{Task}
-use Rattle.vc_model.specs.Clone.Task.{MakeCommit, MoveHead, SetBranch}
+use Rattle.vc_model.specs.Clone.Task.{DeleteBranch, MakeCommit, MoveHead, SetBranch}
 use Rattle.vc_node.specs.Blames.{BlamesOpen}
 use Rattle.vc_node.specs.Commit.{IsCommitted}
 use Rattle.vc_model.specs.Node.{Answer}
@@ -29,6 +29,7 @@ use Rattle.vc_commands.specs.declared.failure.Failure.TheVariants.{Node, Revisio
 -- what a refused task leaves: the files as they were, but for objects where it was a commit
 abbrev pub LeavesAt : Task → FileMap → FileMap → Type 0
 LeavesAt (MakeCommit extra author committer message) old new = SameOutside (codes "objects/") old new
+LeavesAt (DeleteBranch name) old new = shown new ≡ shown old
 LeavesAt _ old new = new ≡ old
 
 -- the machine answers the command so; where it is looked at a commit, at a sound clone, since all is taken to be there that refs reach

@@ -120,6 +120,7 @@ fn local_word<'a>(task: LocalTask<'a>, failure: &Failure) -> Option<&'a [u8]> {
         },
         LocalTask::BranchDelete { name } => Some(name.as_bytes()),
         LocalTask::Checkout { revision, .. } => Some(revision.as_bytes()),
+        LocalTask::PackRefs => None,
         LocalTask::WriteTree => None,
         LocalTask::Commit(_) => None,
         LocalTask::Status { .. } => None,

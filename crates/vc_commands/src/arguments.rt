@@ -94,6 +94,7 @@ pub enum LocalTask<'a> {
     Commit(Words<'a>),
     Branch { name: &'a str, revision: &'a str },
     BranchDelete { name: &'a str },
+    PackRefs,
     Checkout { work: &'a str, revision: &'a str },
     Status { work: &'a str },
 }
@@ -148,6 +149,7 @@ impl LocalTask<'_> {
             LocalTask::Commit(_) => true,
             LocalTask::Branch { .. } => true,
             LocalTask::BranchDelete { .. } => true,
+            LocalTask::PackRefs => true,
             LocalTask::Checkout { .. } => true,
             LocalTask::Status { .. } => false,
         }
@@ -204,6 +206,7 @@ pub fn command<'a>(alloc: Global) -> Result<Command<'a>, AllocError> {
         .subcommand(commit(alloc)?)?
         .subcommand(branch(alloc)?)?
         .subcommand(branch_delete(alloc)?)?
+        .subcommand(pack_refs(alloc)?)?
         .subcommand(checkout(alloc)?)?
         .subcommand(status(alloc)?)?
         .subcommand(serve(alloc)?)?
@@ -433,6 +436,13 @@ fn branch_delete<'a>(alloc: Global) -> Result<Command<'a>, AllocError> {
         .arg(word(alloc, "name", "The branch, without refs/heads/"))
 }
 
+fn pack_refs<'a>(alloc: Global) -> Result<Command<'a>, AllocError> {
+    Command::new(alloc, "pack-refs")
+        .about("Put all refs into one file, so that many are read at once; none of them changes")
+        .after_help("Example: vcs pack-refs --store .vcs")
+        .arg(store(alloc))
+}
+
 fn checkout<'a>(alloc: Global) -> Result<Command<'a>, AllocError> {
     Command::new(alloc, "checkout")
         .about("Bring work tree, index and HEAD to a commit; a change that is not staged stops it")
@@ -647,6 +657,7 @@ fn local_task_of<'a>(name: &str, words: &ArgMatches<'a>) -> Option<LocalTask<'a>
         "branch-delete" => LocalTask::BranchDelete {
             name: words.get_str("name")?,
         },
+        "pack-refs" => LocalTask::PackRefs,
         "checkout" => LocalTask::Checkout {
             work: words.get_str("work")?,
             revision: words.get_str("rev")?,

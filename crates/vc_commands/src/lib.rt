@@ -18,6 +18,7 @@ mod named_files;
 mod nearby;
 mod output;
 mod own_folder;
+mod pack_refs;
 mod pieces;
 mod program;
 mod push_items;

@@ -16,6 +16,7 @@ use crate::init::init;
 use crate::input::Input;
 use crate::merge_base::merge_base;
 use crate::nearby::refuse_second_store;
+use crate::pack_refs::pack_refs;
 use crate::remote::{fetch, push, serve};
 use crate::rev_list::rev_list;
 use crate::rev_parse::rev_parse;
@@ -264,6 +265,7 @@ where
         LocalTask::Commit(words) => commit(rt, store, words, lists.parents, output),
         LocalTask::Branch { name, revision } => branch(rt, store, name, revision, faults),
         LocalTask::BranchDelete { name } => branch_delete(rt, store, name, faults),
+        LocalTask::PackRefs => pack_refs(rt, store),
         LocalTask::Checkout { work, revision } => checkout(rt, store, work, revision),
         LocalTask::Status { work } => status(rt, store, work, output),
     }

@@ -69,6 +69,7 @@ honest_event (event.Order c o) = tt
 honest_event (event.Deliver k) = tt
 honest_event (event.Step s) = tt
 honest_event (event.Compare p first second) = tt
+honest_event (event.Pack p) = tt
 honest_event (event.Restart p) = tt
 
 honest_more : (start : FusedWorld) (h : ExactHistory) (es : List Event) (said : List WorldAnswer) (k : ExactHistory) → IsLengthened start h es said k → NothingForgedExactly git message_wire h → NothingForgedExactly git message_wire k

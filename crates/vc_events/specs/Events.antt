@@ -3,7 +3,7 @@ use Rattle.std.specs.Global.{Global}
 use Rattle.std.specs.List.{starts_with}
 use Rattle.std.specs.Prelude.{◌≡◌, ◌≢◌, ◌<◌, ℕ, true, false, nat_eq, List, [], map, option_map, Vec, codes}
 use Rattle.vc_model.specs.ExactWorld.{WorldEvent}
-use Rattle.vc_model.specs.ExactWorld.WorldEvent.{Compares, Delivers, Orders, Restarts, Steps}
+use Rattle.vc_model.specs.ExactWorld.WorldEvent.{Compares, Delivers, Orders, Packs, Restarts, Steps}
 use Rattle.vc_model.specs.Order.{Expression, NamedItem as MachineItem, Order as MachineOrder}
 use Rattle.vc_model.specs.Order.Order.{BranchAt, CommitIndex, DropBranch, Fetch, HeadAt, HeadOn, LoadIndex, PushItems, StageFile, StoreObject, UnstageFile}
 use Rattle.vc_model.specs.World.{Party as MachineParty}
@@ -46,6 +46,7 @@ event_of (event.Order c o) = Orders c (order_of o)
 event_of (event.Deliver k) = Delivers k
 event_of (event.Step s) = Steps s
 event_of (event.Compare p first second) = Compares (party_of p) first.items second.items
+event_of (event.Pack p) = Packs (party_of p)
 event_of (event.Restart p) = Restarts (party_of p)
 
 -- ---- which events a world of n clones has
@@ -70,5 +71,6 @@ IsParty n (party.Clone c) = c < n
 abbrev pub IsInWorld : ℕ → Event → Type 0
 IsInWorld n (event.Order c o) = (c < n) × IsInOrder o
 IsInWorld n (event.Compare p first second) = IsParty n p
+IsInWorld n (event.Pack p) = IsParty n p
 IsInWorld n (event.Restart p) = IsParty n p
 IsInWorld n _ = Unit {0}

@@ -4,7 +4,7 @@ ghost use Rattle.vc_message.specs.Machine.{Reads};
 ghost use Rattle.vc_model.specs.Clone.{CloneNode};
 ghost use Rattle.vc_model.specs.CloneCall.CloneCall.{Asks, Open, Receive};
 ghost use Rattle.vc_model.specs.Message.{Message};
-ghost use Rattle.vc_model.specs.Question.Question.{Compare};
+ghost use Rattle.vc_model.specs.Question.Question.{Compare, PackRefs};
 ghost use Rattle.vc_model.specs.Shared.{SharedNode};
 ghost use Rattle.vc_model.specs.SharedCall.SharedCall.{Accept, Asks as AsksShared, Open as OpenShared, StepOf};
 ghost use Rattle.vc_events.specs.Answers.{Shows};
@@ -34,6 +34,10 @@ pub trait SharedCalls {
     fn compare(&mut self, alloc: Global, first: &[u8], second: &[u8]) -> Result<Told, Ended>
         ensures answers { honest → SharedCalled holds (AsksShared (Compare first.now second.now)) (Shows result) self.old self.new };
 
+    /// It puts its refs into one file.
+    fn pack(&mut self) -> Result<Told, Ended>
+        ensures answers { honest → SharedCalled holds (AsksShared PackRefs) (Shows result) self.old self.new };
+
     /// It starts anew over what it has stored.
     fn reopen(&mut self) -> Result<Told, Ended>
         ensures answers { honest → SharedCalled holds OpenShared (Shows result) self.old self.new };
@@ -59,6 +63,10 @@ pub trait CloneCalls {
     /// Whether two expressions have one value.
     fn compare(&mut self, alloc: Global, first: &[u8], second: &[u8]) -> Result<Told, Ended>
         ensures answers { honest → CloneCalled holds (IsOnly (Asks (Compare first.now second.now))) (Shows result) self.old self.new };
+
+    /// It puts its refs into one file.
+    fn pack(&mut self) -> Result<Told, Ended>
+        ensures answers { honest → CloneCalled holds (IsOnly (Asks PackRefs)) (Shows result) self.old self.new };
 
     /// It starts anew over what it has stored.
     fn reopen(&mut self) -> Result<Told, Ended>

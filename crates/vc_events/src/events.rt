@@ -52,6 +52,8 @@ pub enum Event {
     Step(usize),
     /// A node is asked whether two expressions have one value.
     Compare(Party, Vec<u8>, Vec<u8>),
+    /// A node puts its refs into one file.
+    Pack(Party),
     /// A node starts anew over what it has stored.
     Restart(Party),
 }

@@ -1,7 +1,7 @@
 // The world and its events.
 ghost use Rattle.std.specs.Prelude.{◌≡◌, ◌<◌, All, IfOk, OnErr, OnOk, vec_len, vec_capacity, length};
 ghost use Rattle.std.specs.List.{AllByRecursion};
-ghost use Rattle.vc_model.specs.ExactWorld.WorldEvent.{Orders, Delivers, Steps as StepsPush, Compares, Restarts};
+ghost use Rattle.vc_model.specs.ExactWorld.WorldEvent.{Orders, Delivers, Steps as StepsPush, Compares, Packs, Restarts};
 ghost use Rattle.vc_events.specs.Events.{event_of, order_of, party_of, IsInOrder, IsInWorld, IsParty};
 ghost use Rattle.vc_events.specs.Running.{GoesOn, Lengthens, RunsSafely, done_of, said_of};
 ghost use Rattle.vc_events.specs.World.{Steps, IsSame, IsNewWorld, fresh_shared, fresh_clone};
@@ -106,6 +106,7 @@ impl<S: SharedCalls, C: CloneCalls> World<S, C> {
             Event::Deliver(message) => self.deliver(*message),
             Event::Step(slot) => self.advance(*slot),
             Event::Compare(party, first, second) => self.compare(alloc, *party, first, second),
+            Event::Pack(party) => self.pack(*party),
             Event::Restart(party) => self.restart(*party),
         }
     }
@@ -173,6 +174,25 @@ impl<S: SharedCalls, C: CloneCalls> World<S, C> {
             }
             Party::Clone(clone) => {
                 let called = self.clones[clone].compare(alloc, first, second);
+                from_clone(&mut self.letters, clone, called)
+            }
+        }
+    }
+
+    // A node puts its refs into one file.
+    fn pack(&mut self, party: Party) -> Answer
+        requires there { IsParty (vec_len self.old.clones) party }
+        requires room { vec_len self.old.letters < vec_capacity self.old.letters }
+        ensures steps { S.honest → C.honest → Steps S.holds C.holds self.old (Packs (party_of party)) result self.new }
+        ensures clones { vec_len self.new.clones ≡ vec_len self.old.clones }
+    {
+        match party {
+            Party::Shared => {
+                let called = self.shared.pack();
+                from_shared(&mut self.letters, &mut self.senders, 0, called)
+            }
+            Party::Clone(clone) => {
+                let called = self.clones[clone].pack();
                 from_clone(&mut self.letters, clone, called)
             }
         }

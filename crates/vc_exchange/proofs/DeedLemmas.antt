@@ -34,9 +34,6 @@ stops_with r s after cs k added = inr (after, k, added, refl)
 pub done_changes : (r : Repository) (cs : List Change) → Done r (only_changes cs) (changed_all cs r)
 done_changes r cs = done_with r empty r.objects cs (added_none r.objects)
 
-pub stops_changes : (r : Repository) (cs : List Change) (k : ℕ) → StopsWithin r (only_changes cs) (changed_all (take k cs) r)
-stops_changes r cs k = stops_with r empty r.objects cs k (added_none r.objects)
-
 -- ---- deeds
 -- Objects are added, of which `after` holds all, and then refs follow what is told. Where nothing is added, `s` is empty, `after`
 -- is what is there, `added` is `added_none _` and `is` is `refl`; else `is` is `all_added_is` of the model. Over a sound repository

@@ -1,14 +1,13 @@
 -- What refuses the value of a ref that moves, and what is left then.
-use Rattle.std.proofs.Common.{◌≡◌, ℕ, Bool, true, false, cond, List, Option, Some, None, Result, Err, sym, ap, refl, ◌∙◌, subst, true≢false}
+use Rattle.std.proofs.Common.{◌≡◌, ℕ, Bool, true, false, cond, inl, inr, List, Option, Some, None, Result, Err, sym, ap, refl, ◌∙◌, subst, true≢false}
 use Rattle.std.specs.Prelude.{IfErr, IfOk, IsErrOf}
-use Rattle.std.proofs.lemmas.Bool.{false_from_ne_true}
 use Rattle.vc_files.specs.FileMap.{FileMap}
 use Rattle.vc_files.specs.declared.faults.Fault.TheVariants.{Device}
 use Rattle.vc_graph.specs.GraphFault.{IsMet}
 use Rattle.vc_object.specs.declared.id.ObjectId.{ObjectId}
-use Rattle.vc_refs.proofs.RefsLemmas.{taken_from_ref}
+use Rattle.vc_refs.proofs.LayeredChangeLemmas.{refs_free}
 use Rattle.vc_refs.specs.RefFault.{BlamesRef, BlamesSet}
-use Rattle.vc_refs.specs.Refs.{IsBadRef, refs}
+use Rattle.vc_refs.specs.Refs.{refs}
 use Rattle.vc_refs.specs.Way.{IsFree}
 use Rattle.vc_refs.specs.declared.faults.RefFault.{RefFault}
 use Rattle.vc_refs.specs.declared.faults.RefFault.TheVariants as fault
@@ -21,12 +20,12 @@ use Rattle.vc_exchange.specs.declared.moving.Followed.{Followed}
 
 -- a name that no file is in the way of is free
 pub free_among : (content : FileMap) (to : List ℕ) → IsFree content to → IsFreeAmong (refs content) to
-free_among content to free other there = false_from_ne_true _ (λ conflict. free other (record { taken = taken_from_ref content other there; conflict = conflict }))
+free_among content to free = refs_free content to free
 
 module _ (content : FileMap) (to : List ℕ) (current : Option ObjectId) where
   pub passed_set : (now : FileMap) (id : ObjectId) (e : RefFault) → now ≡ content → BlamesSet content to current e → IfOk (passed_over e) (IsSetWhereFree content now to id)
   passed_set now id (fault.Stale other) same b = tt
-  passed_set now id (fault.Conflict other) same b = ((λ free. true≢false (sym b.0.here.conflict ∙ free other b.1)), same)
+  passed_set now id (fault.Conflict other) same b = ((λ free. true≢false (sym b.1.here.conflict ∙ free other b.2)), same)
   passed_set now id (fault.BadRefFile path) same b = tt
   passed_set now id fault.HeadLoop same b = tt
   passed_set now id (fault.Fault f) same b = tt
@@ -34,7 +33,7 @@ module _ (content : FileMap) (to : List ℕ) (current : Option ObjectId) where
   pub passed_blames : (e : RefFault) → refs content to ≡ current → BlamesSet content to current e → IfErr (passed_over e) (BlamesRefs content)
   passed_blames (fault.Stale other) is b = b.1.other (sym b.1.is ∙ is)
   passed_blames (fault.Conflict other) is b = tt
-  passed_blames (fault.BadRefFile path) is b = b.0
+  passed_blames (fault.BadRefFile path) is b = elim b [ inl packed ↦ inr packed | inr own ↦ inl own.1 ]
   passed_blames fault.HeadLoop is b = b
   passed_blames (fault.Fault f) is b = tt
 
@@ -55,27 +54,6 @@ device_meant T fault.HeadLoop h = absurd (cc h)
 device_meant T (fault.Fault f) h =
     let same : f ≡ Device = cc in
     ap (λ x. Err (fault.Fault x)) same
-
--- ---- as refusals of this crate
-pub read_blames : (content : FileMap) (name : List ℕ) (e : RefFault) → BlamesRef content name e → BlamesFiles content (from_refs e)
-read_blames content name (fault.Stale current) b = b
-read_blames content name (fault.Conflict other) b = b
-read_blames content name (fault.BadRefFile path) b = subst (IsBadRef content) (sym b.0) b.1
-read_blames content name fault.HeadLoop b = b
-read_blames content name (fault.Fault f) b = tt
-
-pub refs_blames : (content : FileMap) (e : RefFault) → BlamesRefs content e → BlamesFiles content (from_refs e)
-refs_blames content (fault.Stale current) b = b
-refs_blames content (fault.Conflict other) b = b
-refs_blames content (fault.BadRefFile path) b = b
-refs_blames content fault.HeadLoop b = b
-refs_blames content (fault.Fault f) b = tt
-
-pub walk_blames : (content : FileMap) (Meets : ObjectId → Type 0) (e : StoreFault) → IsMet Meets (IsDamaged content) e → BlamesFiles content (from_store e)
-walk_blames content Meets (of_store.BadObject fault) b = b
-walk_blames content Meets (of_store.Absent id) b = b
-walk_blames content Meets (of_store.Damaged id) b = b.1
-walk_blames content Meets (of_store.Fault fault) b = tt
 
 -- ---- what was found
 pub legal_found : (b : Bool) (n m : List ℕ) → ◌≡◌ {A = Option (List ℕ)} (Some m) (cond b (Some n) None) → (b ≡ true) × (m ≡ n)

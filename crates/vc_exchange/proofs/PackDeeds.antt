@@ -178,24 +178,9 @@ judge_blames old brought wants m s ack (answer.Graph (of_graph.Store (of_store.D
 judge_blames old brought wants m s ack (answer.Graph (of_graph.Store (of_store.Fault fault))) are is b = tt
 judge_blames old brought wants m s ack (answer.Fault fault) are is b = tt
 
-pub store_blames : (old : FileMap) (wants : List ObjectId) (m : Message) (e : StoreFault) → BlamesObjects old e → BlamesPack old wants m (from_store e)
-store_blames old wants m (of_store.BadObject fault) b = b
-store_blames old wants m (of_store.Absent id) b = b
-store_blames old wants m (of_store.Damaged id) b = b
-store_blames old wants m (of_store.Fault fault) b = tt
-
-pub files_blames : (old : FileMap) (wants : List ObjectId) (m : Message) (e : ExchangeFault) → BlamesFiles old e → BlamesPack old wants m e
-files_blames old wants m (exchange.Store fault) b = b
-files_blames old wants m (exchange.Refs fault) b = b
-files_blames old wants m (exchange.Incomplete id) b = absurd b
-files_blames old wants m (exchange.Fault fault) b = tt
-
 -- none of these two is a want that is incomplete
 pub store_other : (e : StoreFault) (id : ObjectId) → from_store e ≡ exchange.Incomplete id → ⊥
 store_other (of_store.BadObject fault) id h = cc h
 store_other (of_store.Absent absent) id h = cc h
 store_other (of_store.Damaged damaged) id h = cc h
 store_other (of_store.Fault fault) id h = cc h
-
-pub files_other : (old : FileMap) (e : ExchangeFault) (id : ObjectId) → BlamesFiles old e → e ≡ exchange.Incomplete id → ⊥
-files_other old e id b h = subst (BlamesFiles old) h b

@@ -66,7 +66,7 @@ use Rattle.vc_refname.specs.RefName.{IsRefName, breaks, is_bad_byte, tracking_na
 use Rattle.vc_refname.specs.declared.fault.NameFault.TheVariants as rules
 use Rattle.vc_refs.proofs.RefFileLemmas.{id_in-id_text}
 use Rattle.vc_refs.specs.RefFile.{id_in, id_of, id_text, without_lf}
-use Rattle.vc_refs.specs.RefMap.{is_ref}
+use Rattle.vc_refs.proofs.LayeredLemmas.{ref_whole}
 use Rattle.vc_refs.specs.Refs.{refs}
 use Rattle.vc_rules.proofs.CarriedLemmas.{each_is_brought}
 use Rattle.vc_rules.proofs.ReachLemmas.{closed_from, closed_to, path_from, path_to}
@@ -105,15 +105,6 @@ spelled_id text id = by (decode_sized (without_lf text) 20) refl
     by (Ok bytes) is e = sized_id (without_lf text) id (is ∙ ap (λ (i : ObjectId). Ok i.0) (same_Some (id_of bytes) id e))
     by (Err x) is e = absurd (none-some id e)
 
-ref_id : (content : FileMap) (name : List ℕ) (id : ObjectId) → refs content name ≡ Some id → IsId id
-unfolding refs
-ref_id content name id = by (is_ref name) (files.get content name)
-  where
-    by : (b : Bool) (found : Option (List ℕ)) → cond b (option_and_then id_in found) None ≡ Some id → IsId id
-    by true None e = absurd (none-some id e)
-    by true (Some text) e = spelled_id text id e
-    by false found e = absurd (none-some id e)
-
 zeros_at : (n i : ℕ) → ◌≡◌ {A = ℕ} (get_or (replicate n 0) i 0) 0
 zeros_at zero i = refl
 zeros_at (suc n) zero = refl
@@ -131,7 +122,7 @@ known_id : (content : FileMap) (name : List ℕ) → IsId (known_value content n
 known_id content name = by (starts_with nat_eq name (codes "refs/heads/"))
   where
     by : (b : Bool) → IsId (cond b (unwrap_or (refs content (tracking_name name)) zero_id) zero_id)
-    by true = id_or_zero (refs content (tracking_name name)) (ref_id content (tracking_name name))
+    by true = id_or_zero (refs content (tracking_name name)) (ref_whole content (tracking_name name))
     by false = zero_is_id
 
 -- what names an object is an id

@@ -6,7 +6,7 @@ use Rattle.std.specs.FinMap.{find}
 use Rattle.std.specs.List.{AllByRecursion, starts_with, cons_option}
 use Rattle.std.specs.Ordering.{eq_by_cmp, nat_cmp}
 use Rattle.std.specs.Cmp.Lexicographic.{slice_cmp}
-use Rattle.std.proofs.lemmas.Bool.{ltb-false}
+use Rattle.std.proofs.lemmas.Bool.{and_parts, ltb-false}
 use Rattle.std.proofs.lemmas.Bool.Decides.{Decides-eqb}
 use Rattle.std.proofs.lemmas.List.{length-drop, map_more, map-append, take_more, append-nil}
 use Rattle.std.proofs.lemmas.List.Elements.{Contains-append_cases, Contains-append_left, Contains-append_right, Contains-push_cases, filter_map-append}
@@ -34,10 +34,10 @@ use Rattle.vc_push.specs.declared.command.Command.{Command}
 use Rattle.vc_refname.proofs.BrokenRules.{legal_from_is_ref_name}
 use Rattle.vc_refname.specs.RefName.{is_ref_name, tracking_name}
 use Rattle.vc_refname.specs.declared.fault.NameFault.TheVariants as rules
+use Rattle.vc_refs.proofs.LayeredLemmas.{ref_legal}
 use Rattle.vc_refs.specs.RefFault.{BlamesList, BlamesRef}
-use Rattle.vc_refs.specs.RefFile.{id_in}
 use Rattle.vc_refs.specs.RefMap.{IsListOf}
-use Rattle.vc_refs.specs.Refs.{IsBadRef, refs}
+use Rattle.vc_refs.specs.Refs.{refs}
 use Rattle.vc_refs.specs.declared.faults.RefFault.{RefFault}
 use Rattle.vc_refs.specs.declared.faults.RefFault.TheVariants as of_refs
 use Rattle.vc_store.specs.Store.{IsDamaged, objects}
@@ -45,8 +45,11 @@ use Rattle.vc_store.specs.declared.faults.StoreFault.TheVariants as of_store
 
 -- ---- what the clone knows of a ref
 no_ref : (content : FileMap) (name : List ℕ) → is_ref_name name ≡ false → refs content name ≡ None
-unfolding refs
-no_ref content name e = ap (λ b. cond (b && starts_with nat_eq name (codes "refs/")) (option_and_then id_in (files.get content name)) None) e
+no_ref content name e = by (refs content name) refl
+  where
+    by : (o : Option ObjectId) → refs content name ≡ o → o ≡ None
+    by None is = refl
+    by (Some id) is = absurd (true≢false (sym (and_parts (is_ref_name name) (starts_with nat_eq name (codes "refs/")) (ref_legal content name id is)).0 ∙ e))
 
 too_long : (name : List ℕ) → 255 < length name → is_ref_name name ≡ false
 too_long name long = by (is_ref_name name) refl
@@ -94,7 +97,7 @@ module _ {X Y : Type 0} (f : X → Option Y) (xs : List X) (i : ℕ) (x : X) (in
 pub blamed_file : (content : FileMap) (name : List ℕ) (e : RefFault) → BlamesRef content name e → BlamesRefFile content e
 blamed_file content name (of_refs.Stale current) h = h
 blamed_file content name (of_refs.Conflict other) h = h
-blamed_file content name (of_refs.BadRefFile path) h = subst (IsBadRef content) (sym h.0) h.1
+blamed_file content name (of_refs.BadRefFile path) h = h.1
 blamed_file content name of_refs.HeadLoop h = h
 blamed_file content name (of_refs.Fault fault) h = h
 

@@ -1,6 +1,6 @@
 -- What a clone says that it has: the values of its refs in order, then HEAD's; and the message that asks for what it wants.
-use Rattle.std.proofs.Common.{◌≡◌, ◌≢◌, ◌≤◌, ◌<◌, ◌+◌, ◌&&◌, ℕ, Bool, true, false, cond, T, List, [], ◌∷◌, ◌++◌, length, get_or, take, map, option_to_list, Option, Some, None, refl, sym, ap, ◌∙◌, subst}
-use Rattle.std.specs.Prelude.{option_map}
+use Rattle.std.proofs.Common.{◌≡◌, ◌≢◌, ◌≤◌, ◌<◌, ◌+◌, ◌&&◌, inl, inr, ℕ, Bool, true, false, cond, T, List, [], ◌∷◌, ◌++◌, length, get_or, take, map, option_to_list, Option, Some, None, refl, sym, ap, ◌∙◌, subst}
+use Rattle.std.specs.Prelude.{option_map, string_bytes}
 use Rattle.std.specs.FinMap.{entries, entries_sorted, find, get, get-entries, is_sorted, values}
 use Rattle.std.specs.FinMap.Entries.{below_all, same_entries}
 use Rattle.std.specs.List.{AllByRecursion, flat_map}
@@ -26,10 +26,14 @@ use Rattle.vc_refs.proofs.RefFileLemmas.{id_in-id_text}
 use Rattle.vc_refs.specs.Head.{head_of, head_value}
 use Rattle.vc_refs.specs.RefFile.{id_text}
 use Rattle.vc_refs.specs.RefMap.{IsListOf}
-use Rattle.vc_refs.specs.Refs.{refs}
+use Rattle.vc_refs.specs.RefFault.{BlamesHeadValue}
+use Rattle.vc_refs.specs.Refs.{SpellsRefs, refs}
+use Rattle.vc_refs.specs.declared.faults.RefFault.{RefFault}
+use Rattle.vc_refs.specs.declared.faults.RefFault.TheVariants as ref
 use Rattle.vc_rules.specs.OpenPushes.{HoldsContent}
 use Rattle.vc_exchange.specs.Moving.{Told, machine_refs}
-use Rattle.vc_exchange.specs.Wanting.{AreHaves}
+use Rattle.vc_exchange.specs.Faults.{from_refs}
+use Rattle.vc_exchange.specs.Wanting.{AreHaves, BlamesWanting}
 use Rattle.vc_exchange.proofs.SendingLaws.{positive, spelled_id, written_so}
 
 -- ---- refs in order
@@ -73,6 +77,14 @@ module _ (content : FileMap) (r : Repository) (held : HoldsContent content r) wh
   listed_values told list = sym (values_of_machine told) ∙ ap (map (λ e. e.1)) (listed_entries told list)
 
 -- ---- the refs and HEAD
+-- where each file of the refs can be read, a look at HEAD's ref is refused for HEAD's own file alone
+pub heads_blames : (content : FileMap) → SpellsRefs content → (e : RefFault) → BlamesHeadValue content e → BlamesWanting content (from_refs e)
+heads_blames content spells (ref.Stale current) b = absurd b
+heads_blames content spells (ref.Conflict other) b = absurd b
+heads_blames content spells (ref.BadRefFile path) b = elim b [ inl head ↦ inr head | inr named ↦ absurd (spells (string_bytes path) named.3) ]
+heads_blames content spells ref.HeadLoop b = b
+heads_blames content spells (ref.Fault f) b = tt
+
 -- what HEAD adds
 abbrev pub value_found : Option ObjectId → List Id
 value_found found = option_to_list (option_map bytes_of_id found)

@@ -19,15 +19,6 @@ pub record FilledTo (old now : Option (List ℕ)) (before buffer : List ℕ) (at
   pub front : take at buffer ≡ take at before
   pub consumed : Consumes old now (drop at (take filled buffer))
 
-pub filled_start : (old : Option (List ℕ)) (before : List ℕ) (at : ℕ) → at ≤ length before → FilledTo old old before before at at
-filled_start old before at within = record {
-  from = le_refl at;
-  within = within;
-  long = refl;
-  front = refl;
-  consumed = subst (λ t. Consumes old old t) (sym (drop_of_length-le (take at before) (let len = length-take-le at before within in omega (arith, len)))) (Consumes-nil old);
-}
-
 module _ (old now new : Option (List ℕ)) (before buffer after : List ℕ) (at filled : ℕ) (so : FilledTo old now before buffer at filled) (long : length after ≡ length buffer) (same : take filled after ≡ take filled buffer) where
   fronts : take at after ≡ take at before
   fronts = sym (take-take at filled after so.from) ∙ ap (take at) same ∙ take-take at filled buffer so.from ∙ so.front

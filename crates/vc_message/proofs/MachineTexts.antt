@@ -182,15 +182,6 @@ text_is (a_report t) lines s = a_report_is t
 text_is (an_error words) lines s = (Error words, refl)
 
 -- ---- as nodes have them
--- what a body is refused by is told by its number
-pub refusal_of_fault : (t : PushText) (lines : List LineText) (fault : Option ObjectFault) → SpellsPush t lines → FaultOf t.carried fault → IsRefusalOf t.carried (option_map fault_number fault)
-refusal_of_fault t lines fault s is = let r = refusal_is (only_deletes t.commands) t.carried s.stream s.carries in by t.carried r.0 r.1 fault is
-  where
-    by : (c : Carried) (r : Option ℕ) → IsRefusalOf c r → (fault : Option ObjectFault) → FaultOf c fault → IsRefusalOf c (option_map fault_number fault)
-    by (Ok objects) r refused fault is = ap (option_map fault_number) is
-    by (Err bad) r refused None is = absurd (no_body_fault bad.kind bad.body refused.0 is refused.1)
-    by (Err bad) r refused (Some e) is = (e, is, refl)
-
 -- of objects that all pass, what is found is what is brought
 pub all_in : (objects : List StoredObject) (id : ObjectId) → AllByRecursion (λ o. is_object o ≡ true) objects → object_named id objects ≡ objects_in objects id
 unfolding objects_in
@@ -200,9 +191,6 @@ all_in (o ∷ os) id all = by (is_eq (id_cmp id (stored_name o))) (all_in os id 
     by : (b : Bool) → object_named id os ≡ objects_in os id → cond b (Some o) (object_named id os) ≡ option_and_then (λ q. cond (is_object q) (Some q) None) (cond b (Some o) (object_named id os))
     by true later = sym (ap (λ c. cond c (Some o) None) all.0)
     by false later = later
-
-pub brought_all : (objects : List StoredObject) (s : Objects) → AllByRecursion (λ o. is_object o ≡ true) objects → ((x : Id) → option_map stored_of (get s x) ≡ object_named (id_of_bytes x) objects) → AreBrought (Ok objects) s
-brought_all objects s all same x = same x ∙ all_in objects (id_of_bytes x) all
 
 outcome_is : (text : Result ObjectId (List ℕ)) (outcome : Result Id ℕ) → IsOutcomeAs text outcome → outcome ≡ machine_outcome text
 outcome_is text outcome (inl (id, is, at)) = at ∙ ap machine_outcome (sym is)

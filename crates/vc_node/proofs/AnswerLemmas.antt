@@ -1,5 +1,5 @@
 -- From what is shown before and after a call to the machine's answers.
-use Rattle.std.proofs.Common.{◌≡◌, ◌⊎◌, inl, inr, ℕ, Bool, true, false, Option, Some, None, refl, sym, ap, ◌∙◌, subst}
+use Rattle.std.proofs.Common.{◌≡◌, ◌⊎◌, inl, inr, ℕ, Bool, true, false, List, [], Option, Some, None, refl, sym, ap, ◌∙◌, subst}
 use Rattle.std.specs.Prelude.{string_bytes, not}
 use Rattle.vc_files.specs.FileMap.{FileMap}
 use Rattle.vc_model.specs.Repository.{Repository}
@@ -13,7 +13,7 @@ use Rattle.vc_refs.specs.declared.faults.RefFault.TheVariants as ref
 use Rattle.vc_store.specs.declared.faults.StoreFault.TheVariants as store
 use Rattle.vc_node.specs.declared.fault.NodeFault.{NodeFault}
 use Rattle.vc_node.specs.declared.fault.NodeFault.TheVariants.{Store, Ref, Missing, NotACommit, BadPath, PathConflict, BadIndex, WrongEntry, Down}
-use Rattle.vc_node.specs.Clean.{IsClean, KeepsClean}
+use Rattle.vc_node.specs.Clean.{IsClean, KeepsClean, KeepsCleanBut}
 use Rattle.vc_node.specs.NodeFault.{is_fault}
 use Rattle.vc_node.specs.Shown.{Shown, shown}
 use Rattle.vc_rules.specs.Git.{git}
@@ -106,8 +106,8 @@ no_bad content (WrongEntry at) clean bad = bad
 no_bad content Down clean bad = bad
 
 -- what a call answers over any files it does over clean ones, where it tells no fault or that the node is down
-pub held : (task : Task) (a : Answer) (was is : Bool) (old new : FileMap) → ⊥ ⊎ AnswersShown task a was is (shown old) (shown new) → KeepsClean old new → Answers task a was is old new
-held task a was is old new cases keeps = record {
+pub held_but : (name : List ℕ) (task : Task) (a : Answer) (was is : Bool) (old new : FileMap) → ⊥ ⊎ AnswersShown task a was is (shown old) (shown new) → KeepsCleanBut name old new → Answers task a was is old new
+held_but name task a was is old new cases keeps = record {
   each = λ awaited n holds. elim cases [
     | inl none ↦ absurd none
     | inr answers ↦
@@ -116,15 +116,22 @@ held task a was is old new cases keeps = record {
   ];
 }
 
+pub held : (task : Task) (a : Answer) (was is : Bool) (old new : FileMap) → ⊥ ⊎ AnswersShown task a was is (shown old) (shown new) → KeepsClean old new → Answers task a was is old new
+held = held_but []
+
 -- and where it tells a fault, which is for no bad file then; the equation is there to read off what was told
-pub held_failed : (task : Task) (e told : NodeFault) (was is : Bool) (old new : FileMap) → told ≡ e → IsBadFile old told ⊎ AnswersShown task (fault_answer told) was is (shown old) (shown new) → KeepsClean old new
+pub held_failed_but : (name : List ℕ) (task : Task) (e told : NodeFault) (was is : Bool) (old new : FileMap) → told ≡ e → IsBadFile old told ⊎ AnswersShown task (fault_answer told) was is (shown old) (shown new) → KeepsCleanBut name old new
     → Answers task (fault_answer told) was is old new
-held_failed task e told was is old new same cases keeps = record {
+held_failed_but name task e told was is old new same cases keeps = record {
   each = λ awaited n holds. elim cases [
     | inl bad ↦ absurd (no_bad old told holds.clean bad)
-    | inr answers ↦ (held task (fault_answer told) was is old new (inr answers) keeps).each awaited n holds
+    | inr answers ↦ (held_but name task (fault_answer told) was is old new (inr answers) keeps).each awaited n holds
   ];
 }
+
+pub held_failed : (task : Task) (e told : NodeFault) (was is : Bool) (old new : FileMap) → told ≡ e → IsBadFile old told ⊎ AnswersShown task (fault_answer told) was is (shown old) (shown new) → KeepsClean old new
+    → Answers task (fault_answer told) was is old new
+held_failed = held_failed_but []
 
 -- ---- what is left as it was
 
@@ -133,6 +140,10 @@ unchanged task a old new follows same = subst (λ (m : FileMap). Follows task a 
 
 pub or_unchanged : (Bad : Type 0) (task : Task) (a : Answer) (old new : FileMap) → Bad ⊎ Follows task a (shown old) (shown old) → new ≡ old → Bad ⊎ Follows task a (shown old) (shown new)
 or_unchanged Bad task a old new cases same = elim cases [ inl bad ↦ inl bad | inr follows ↦ inr (unchanged task a old new follows same) ]
+
+-- the same where only what is shown is as it was
+pub or_unshown : (Bad : Type 0) (task : Task) (a : Answer) (old new : FileMap) → Bad ⊎ Follows task a (shown old) (shown old) → shown new ≡ shown old → Bad ⊎ Follows task a (shown old) (shown new)
+or_unshown Bad task a old new cases same = elim cases [ inl bad ↦ inl bad | inr follows ↦ inr (subst (λ (s : Shown). Follows task a (shown old) s) (sym same) follows) ]
 
 -- a refusal, and a fault before anything was done
 pub declines : (task : Task) (n : ℕ) (s : Shown) → ((r : Repository) → Spells s r → Refuses git git_rules r task n) → Follows task (Declined n) s s

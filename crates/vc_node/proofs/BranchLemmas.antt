@@ -19,11 +19,11 @@ use Rattle.vc_model.specs.Clone.{Awaited, quietly}
 use Rattle.vc_model.specs.Clone.Task.{DeleteBranch, SetBranch, MoveHead}
 use Rattle.vc_object.specs.declared.id.ObjectId.{ObjectId}
 use Rattle.vc_refs.specs.RefMap.{RefMap, conflicts, with_ref, without_ref}
-use Rattle.vc_refs.specs.Refs.{refs, IsBadRef}
+use Rattle.vc_refs.specs.Refs.{refs}
 use Rattle.vc_refs.specs.Way.{IsFree as IsFreeName}
 use Rattle.vc_refs.specs.declared.heads.Head.{Head as RefsHead}
 use Rattle.vc_refs.specs.declared.heads.Head.TheVariants as heads
-use Rattle.vc_refs.proofs.RefsLemmas.{taken_from_ref}
+use Rattle.vc_refs.proofs.LayeredChangeLemmas.{held_from_ref}
 use Rattle.vc_store.specs.Store.{objects}
 use Rattle.vc_store.specs.declared.faults.StoreFault.TheVariants as store
 use Rattle.vc_refs.specs.declared.faults.RefFault.TheVariants as ref
@@ -99,7 +99,7 @@ delete_failed content name Down blames = absurd blames
 pub free_from : (content : FileMap) (r : Repository) (name : List ℕ) → Spells (shown content) r → IsFreeName content name → IsFree r.refs name
 free_from content r name p free m x found conflict =
     let there : is_some (refs content m) ≡ true = ap is_some (p.refs m) ∙ some_id (get r.refs m) x found in
-    free m (record { taken = taken_from_ref content m there; conflict = conflicts_to m name conflict })
+    free.none m (record { held = held_from_ref content m there; conflict = conflicts_to m name conflict })
 
 -- one that a ref is in the way of isn't
 pub not_free : (content : FileMap) (r : Repository) (name other : List ℕ) → Spells (shown content) r → conflicts other name ≡ true → is_some (refs content other) ≡ true → ¬ IsFree r.refs name
@@ -145,8 +145,8 @@ set_branch_done content name id new begins is free good = record {
 
 pub set_branch_failed : (content : FileMap) (name : List ℕ) (id : ObjectId) (e : NodeFault) → BlamesBranch content name id e → IsBadFile content e ⊎ FollowsIf (AreRefsWhole content) (SetBranch name id.0) (fault_answer e) (shown content) (shown content)
 set_branch_failed content name id (Ref (ref.Stale current)) blames = absurd blames
-set_branch_failed content name id (Ref (ref.Conflict other)) blames = inr (declines_if (AreRefsWhole content) (SetBranch name id.0) 32 (shown content) (λ r p whole. inl (not_free content r name other p blames.0.here.conflict blames.1, refl)))
-set_branch_failed content name id (Ref (ref.BadRefFile path)) blames = inl (elim blames [ inl way ↦ way.0 | inr own ↦ subst (λ (n : List ℕ). IsBadRef content n) (sym own.0) own.1 ])
+set_branch_failed content name id (Ref (ref.Conflict other)) blames = inr (declines_if (AreRefsWhole content) (SetBranch name id.0) 32 (shown content) (λ r p whole. inl (not_free content r name other p blames.1.here.conflict blames.2, refl)))
+set_branch_failed content name id (Ref (ref.BadRefFile path)) blames = inl (elim blames [ inl way ↦ elim way [ inl packed ↦ inr packed | inr first ↦ inl first.1 ] | inr own ↦ own.1 ])
 set_branch_failed content name id (Ref ref.HeadLoop) blames = absurd blames
 set_branch_failed content name id (Ref (ref.Fault f)) blames = inr (faults_if (AreRefsWhole content) (SetBranch name id.0) (failure_of f) (shown content))
 set_branch_failed content name id (Missing absent) blames =

@@ -1,4 +1,4 @@
--- What a call spends is what the machine allows: one write for each place that changed.
+-- What a call spends is what the machine allows: one write for each place that changed. The packed file is the place of one ref.
 use Rattle.std.proofs.Common.{Vec, ◌≡◌, ◌⊎◌, inl, inr, ℕ, ◌-◌, ◌≤◌, Bool, true, false, cond, List, [], ◌∷◌, Option, Some, None, Result, Ok, Err, IsTrue, Contains, map, nat_eq, codes, refl, sym, ap, ◌∙◌, subst, arith}
 use Rattle.std.specs.Prelude.{bytes_eq, option_map, option_and_then, unwrap_or}
 use Rattle.std.specs.FinMap.{get, same_map}
@@ -20,22 +20,24 @@ use Rattle.vc_model.specs.Object.{Id, Kind, Object}
 use Rattle.vc_model.specs.Object.Kind.{Blob, Tree, Commit, Tag}
 use Rattle.vc_model.specs.Refs.{RefName}
 use Rattle.vc_model.specs.Repository.{IsSound, Repository}
-use Rattle.vc_model.specs.CloneCall.CloneCall.{Command}
+use Rattle.vc_model.specs.CloneCall.CloneCall.{Asks, Command}
 use Rattle.vc_model.specs.ExactWorld.{MayClone}
 use Rattle.vc_model.specs.Fuse.{Burns, DiffersAt, Place, WritesSuffice}
 use Rattle.vc_model.specs.Fuse.Place.{AnObject, ARef, TheRefs, TheHead, TheIndex}
 use Rattle.vc_model.specs.Message.{Message}
 use Rattle.vc_model.specs.Node.{Answer}
 use Rattle.vc_model.specs.Node.Answer.{Fault}
+use Rattle.vc_model.specs.Question.Question.{PackRefs}
 use Rattle.vc_model.specs.Node.Failure.{Device}
 use Rattle.vc_model.proofs.Maps.{bytes_same}
 use Rattle.vc_object.specs.ObjectId.{is_name}
 use Rattle.vc_object.specs.declared.id.ObjectId.{ObjectId}
 use Rattle.vc_refname.specs.RefName.{is_ref_name}
 use Rattle.vc_refs.specs.Head.{head_of}
-use Rattle.vc_refs.specs.RefFile.{id_in}
 use Rattle.vc_refs.specs.RefMap.{is_ref}
-use Rattle.vc_refs.specs.Refs.{refs}
+use Rattle.vc_refs.specs.Packing.{UnpacksOnly}
+use Rattle.vc_refs.specs.Refs.{packed_path, refs}
+use Rattle.vc_refs.proofs.LayeredLemmas.{ref_legal, refs-same, value_same}
 use Rattle.vc_refs.specs.declared.faults.RefFault.{RefFault}
 use Rattle.vc_refs.specs.declared.faults.RefFault.TheVariants as ref
 use Rattle.vc_refs.specs.declared.heads.Head.{Head as RefsHead}
@@ -45,12 +47,12 @@ use Rattle.vc_store.specs.declared.faults.StoreFault.TheVariants as store
 use Rattle.vc_store.proofs.PathLemmas.{name_in-some, name_in-object_path}
 use Rattle.vc_rules.specs.Git.{git, machine_entry, machine_kind, stored_of}
 use Rattle.vc_rules.proofs.GitLaws.{git_rules}
-use Rattle.vc_node.specs.Burning.{CallsBurn, ExchangesBurn, SoundCallsBurn}
-use Rattle.vc_node.specs.CloneCalls.{FoundAs, ReceivedAs, SentAs}
+use Rattle.vc_node.specs.Burning.{CallsBurn, ExchangesBurn, PacksBurn, SoundCallsBurn}
+use Rattle.vc_node.specs.CloneCalls.{FoundAs, ReceivedAs, RestartedAs, SentAs}
 use Rattle.vc_node.specs.CloneFaults.{IsOfDevice as IsOfClonesDevice, TellsDevice as CloneTellsDevice, fault_answer as clone_answer}
 use Rattle.vc_node.specs.Machine.{Spells, done_answer, fault_answer, failure_of, machine_head, made_answer, ref_answer, store_answer}
 use Rattle.vc_node.specs.NodeFault.{IsOfDevice, TellsDevice}
-use Rattle.vc_node.specs.Shown.{shown}
+use Rattle.vc_node.specs.Shown.{Shown, shown}
 use Rattle.vc_node.specs.declared.clone_fault.CloneFault.{CloneFault}
 use Rattle.vc_node.specs.declared.clone_fault.CloneFault.TheVariants as of_clone
 use Rattle.vc_node.specs.declared.exchanging.Received.{Received}
@@ -60,19 +62,19 @@ use Rattle.vc_node.specs.declared.fault.NodeFault.TheVariants.{Store, Ref}
 
 -- ---- the place of a path
 
-abbrev named_place : List ℕ → Option ObjectId → Place
-named_place path (Some id) = AnObject id.0
-named_place path None = cond (bytes_eq path (codes "HEAD")) TheHead (cond (bytes_eq path (codes "index")) TheIndex (ARef path))
+abbrev named_place : RefName → List ℕ → Option ObjectId → Place
+named_place name path (Some id) = AnObject id.0
+named_place name path None = cond (bytes_eq path (codes "HEAD")) TheHead (cond (bytes_eq path (codes "index")) TheIndex (cond (bytes_eq path packed_path) (ARef name) (ARef path)))
 
--- the one place that a file of this path shows
-abbrev place : List ℕ → Place
-place path = named_place path (name_in path)
+-- the one place that a file of this path shows, where the packed file shows no other ref than this one
+abbrev place : RefName → List ℕ → Place
+place name path = named_place name path (name_in path)
 
-object_place : (x : Id) → is_name x ≡ true → place (object_path x) ≡ AnObject x
-object_place x valid = ap (named_place (object_path x)) (name_in-object_path x valid)
+object_place : (name : RefName) (x : Id) → is_name x ≡ true → place name (object_path x) ≡ AnObject x
+object_place name x valid = ap (named_place name (object_path x)) (name_in-object_path x valid)
 
-ref_place : (n : RefName) → is_ref n ≡ true → place n ≡ ARef n
-ref_place n is = by (name_in n) refl
+ref_place : (name n : RefName) → is_ref n ≡ true → place name n ≡ ARef n
+ref_place name n is = by (name_in n) refl
   where
     begins : starts_with nat_eq n (codes "refs/") ≡ true
     begins = (and_parts (is_ref_name n) (starts_with nat_eq n (codes "refs/")) is).1
@@ -84,25 +86,27 @@ ref_place n is = by (name_in n) refl
         no true e = absurd (cc (sym (ap (λ m. starts_with nat_eq m (codes "refs/")) ((bytes_eq-Decides n other).0 e)) ∙ begins, begins_not))
         no false e = e
 
-    by : (o : Option ObjectId) → name_in n ≡ o → place n ≡ ARef n
+    by : (o : Option ObjectId) → name_in n ≡ o → place name n ≡ ARef n
     by (Some id) e = absurd (cc (sym (ap (λ m. starts_with nat_eq m (codes "refs/")) (name_in-some n id e).0) ∙ begins))
     by None e =
-        ap (named_place n) e
-        ∙ ap (λ b. cond b TheHead (cond (bytes_eq n (codes "index")) TheIndex (ARef n))) (is_not (codes "HEAD") refl)
-        ∙ ap (λ b. cond b TheIndex (ARef n)) (is_not (codes "index") refl)
+        ap (named_place name n) e
+        ∙ ap (λ b. cond b TheHead (cond (bytes_eq n (codes "index")) TheIndex (cond (bytes_eq n packed_path) (ARef name) (ARef n)))) (is_not (codes "HEAD") refl)
+        ∙ ap (λ b. cond b TheIndex (cond (bytes_eq n packed_path) (ARef name) (ARef n))) (is_not (codes "index") refl)
+        ∙ ap (λ b. cond b (ARef name) (ARef n)) (is_not packed_path refl)
 
 -- no file is the place of all refs at once
-no_place_of_all : (path : List ℕ) → place path ≡ TheRefs → ⊥
-no_place_of_all path = by (name_in path)
+no_place_of_all : (name : RefName) (path : List ℕ) → place name path ≡ TheRefs → ⊥
+no_place_of_all name path = by (name_in path)
   where
-    else_ref : (b c : Bool) → cond b TheHead (cond c TheIndex (ARef path)) ≡ TheRefs → ⊥
-    else_ref true c e = cc e
-    else_ref false true e = cc e
-    else_ref false false e = cc e
+    else_ref : (b c d : Bool) → cond b TheHead (cond c TheIndex (cond d (ARef name) (ARef path))) ≡ TheRefs → ⊥
+    else_ref true c d e = cc e
+    else_ref false true d e = cc e
+    else_ref false false true e = cc e
+    else_ref false false false e = cc e
 
-    by : (o : Option ObjectId) → named_place path o ≡ TheRefs → ⊥
+    by : (o : Option ObjectId) → named_place name path o ≡ TheRefs → ⊥
     by (Some id) e = cc e
-    by None e = else_ref (bytes_eq path (codes "HEAD")) (bytes_eq path (codes "index")) e
+    by None e = else_ref (bytes_eq path (codes "HEAD")) (bytes_eq path (codes "index")) (bytes_eq path packed_path) e
 
 -- ---- lists of images
 
@@ -162,52 +166,60 @@ object_at old new x same = by (is_name x) refl
     by true e = ap (λ f. result_ok (stored_in (id_of_bytes x) f)) (same e)
     by false e = refl
 
-ref_at : (old new : FileMap) (n : RefName) → (is_ref n ≡ true → get new n ≡ get old n) → refs new n ≡ refs old n
-unfolding refs
-ref_at old new n same = by (is_ref n) refl
+-- a name that is no ref's stands for nothing
+no_ref_at : (content : FileMap) (n : RefName) → is_ref n ≡ false → refs content n ≡ None
+no_ref_at content n other = by (refs content n) refl
   where
-    by : (b : Bool) → is_ref n ≡ b → cond b (option_and_then id_in (get new n)) None ≡ cond b (option_and_then id_in (get old n)) None
-    by true e = ap (λ f. option_and_then id_in f) (same e)
-    by false e = refl
+    by : (o : Option ObjectId) → refs content n ≡ o → o ≡ None
+    by None is = refl
+    by (Some id) is = absurd (cc (sym (ref_legal content n id is) ∙ other))
 
 head_at : (old new : FileMap) → get new (codes "HEAD") ≡ get old (codes "HEAD") → head_of new ≡ head_of old
 unfolding head_of
 head_at old new same = search same
 
-module _ (old new : FileMap) (r s : Repository) (p : Spells (shown old) r) (q : Spells (shown new) s) (paths : List (List ℕ)) (each : (path : List ℕ) → (get new path ≡ get old path) ⊎ Contains paths path) where
-  at : (path : List ℕ) → (get new path ≡ get old path) ⊎ Contains (map place paths) (place path)
+module _ (old new : FileMap) (r s : Repository) (p : Spells (shown old) r) (q : Spells (shown new) s) (name : RefName) (packed : UnpacksOnly name old new) (paths : List (List ℕ)) (each : (path : List ℕ) → (get new path ≡ get old path) ⊎ Contains paths path) where
+  at : (path : List ℕ) → (get new path ≡ get old path) ⊎ Contains (map (place name) paths) (place name path)
   at path = elim (each path) [
     | inl same ↦ inl same
-    | inr there ↦ inr (mapped place paths path there)
+    | inr there ↦ inr (mapped (place name) paths path there)
   ]
 
-  objects_differ : (x : Id) → (get s.objects x ≡ get r.objects x) ⊎ Contains (map place paths) (AnObject x)
+  objects_differ : (x : Id) → (get s.objects x ≡ get r.objects x) ⊎ Contains (map (place name) paths) (AnObject x)
   objects_differ x = by (is_name x) refl
     where
       same_as : (is_name x ≡ true → get new (object_path x) ≡ get old (object_path x)) → get s.objects x ≡ get r.objects x
       same_as same = some_once (get s.objects x) (get r.objects x) (sym (q.objects x) ∙ object_at old new x same ∙ p.objects x)
 
-      by : (b : Bool) → is_name x ≡ b → (get s.objects x ≡ get r.objects x) ⊎ Contains (map place paths) (AnObject x)
+      by : (b : Bool) → is_name x ≡ b → (get s.objects x ≡ get r.objects x) ⊎ Contains (map (place name) paths) (AnObject x)
       by true valid = elim (at (object_path x)) [
         | inl same ↦ inl (same_as (λ _. same))
-        | inr there ↦ inr (subst (λ y. Contains (map place paths) y) (object_place x valid) there)
+        | inr there ↦ inr (subst (λ y. Contains (map (place name) paths) y) (object_place name x valid) there)
       ]
       by false valid = inl (same_as (λ e. absurd (cc (e, valid))))
 
-  refs_differ : (n : RefName) → (get s.refs n ≡ get r.refs n) ⊎ Contains (map place paths) (ARef n)
+  refs_differ : (n : RefName) → (get s.refs n ≡ get r.refs n) ⊎ Contains (map (place name) paths) (ARef n)
   refs_differ n = by (is_ref n) refl
     where
-      same_as : (is_ref n ≡ true → get new n ≡ get old n) → get s.refs n ≡ get r.refs n
-      same_as same = id_once (get s.refs n) (get r.refs n) (sym (q.refs n) ∙ ref_at old new n same ∙ p.refs n)
+      same_as : refs new n ≡ refs old n → get s.refs n ≡ get r.refs n
+      same_as same = id_once (get s.refs n) (get r.refs n) (sym (q.refs n) ∙ same ∙ p.refs n)
 
-      by : (b : Bool) → is_ref n ≡ b → (get s.refs n ≡ get r.refs n) ⊎ Contains (map place paths) (ARef n)
+      -- its own file is as it was, and the packed one isn't: then it is that one ref, or the packed file says of it what it said
+      by_name : get new n ≡ get old n → Contains (map (place name) paths) (ARef name) → (b : Bool) → bytes_eq n name ≡ b → (get s.refs n ≡ get r.refs n) ⊎ Contains (map (place name) paths) (ARef n)
+      by_name same there true is = inr (subst (λ (m : RefName). Contains (map (place name) paths) (ARef m)) (sym ((bytes_eq-Decides n name).0 is)) there)
+      by_name same there false other = inl (same_as (value_same old new n same (packed.at n other)))
+
+      by : (b : Bool) → is_ref n ≡ b → (get s.refs n ≡ get r.refs n) ⊎ Contains (map (place name) paths) (ARef n)
       by true is = elim (at n) [
-        | inl same ↦ inl (same_as (λ _. same))
-        | inr there ↦ inr (subst (λ y. Contains (map place paths) y) (ref_place n is) there)
+        | inl same ↦ elim (at packed_path) [
+          | inl line ↦ inl (same_as (refs-same old new n same line))
+          | inr there ↦ by_name same there (bytes_eq n name) refl
+        ]
+        | inr there ↦ inr (subst (λ y. Contains (map (place name) paths) y) (ref_place name n is) there)
       ]
-      by false is = inl (same_as (λ e. absurd (cc (e, is))))
+      by false is = inl (same_as (no_ref_at new n is ∙ sym (no_ref_at old n is)))
 
-  head_differs : (s.head ≡ r.head) ⊎ Contains (map place paths) TheHead
+  head_differs : (s.head ≡ r.head) ⊎ Contains (map (place name) paths) TheHead
   head_differs = elim (at (codes "HEAD")) [
     | inl same ↦ inl (
         let heads : ◌≡◌ {A = Option RefsHead} (Some q.head) (Some p.head) = sym q.head_shown ∙ head_at old new same ∙ p.head_shown in
@@ -215,7 +227,7 @@ module _ (old new : FileMap) (r s : Repository) (p : Spells (shown old) r) (q : 
     | inr there ↦ inr there
   ]
 
-  index_differs : (s.index ≡ r.index) ⊎ Contains (map place paths) TheIndex
+  index_differs : (s.index ≡ r.index) ⊎ Contains (map (place name) paths) TheIndex
   index_differs = elim (at (codes "index")) [
     | inl same ↦ inl (
         let maps : q.map ≡ p.map = one_index q.map p.map q.map_sound p.map_sound (sym q.map_shown ∙ ap (λ f. unwrap_or f []) same ∙ p.map_shown) in
@@ -223,7 +235,7 @@ module _ (old new : FileMap) (r s : Repository) (p : Spells (shown old) r) (q : 
     | inr there ↦ inr there
   ]
 
-  differs : DiffersAt (map place paths) r s
+  differs : DiffersAt (map (place name) paths) r s
   differs = record {
     objects = objects_differ;
     refs = λ n. elim (refs_differ n) [
@@ -235,20 +247,40 @@ module _ (old new : FileMap) (r s : Repository) (p : Spells (shown old) r) (q : 
   }
 
 -- one write a path suffices in the machine
-suffices : (old new : FileMap) (r s : Repository) (k : ℕ) → Spells (shown old) r → Spells (shown new) s → DifferAtMost k old new → WritesSuffice ⊥ k r s
-suffices old new r s k p q d = (
-  map place d.0,
-  subst (λ l. l ≤ k) (sym (length-map d.0 place)) d.1,
-  λ all. let image = image_of place d.0 TheRefs all in no_place_of_all image.0 image.1,
-  differs old new r s p q d.0 d.2,
+suffices : (old new : FileMap) (r s : Repository) → Spells (shown old) r → Spells (shown new) s → (name : RefName) → UnpacksOnly name old new → (k : ℕ) → DifferAtMost k old new → WritesSuffice ⊥ k r s
+suffices old new r s p q name packed k d = (
+  map (place name) d.0,
+  subst (λ l. l ≤ k) (sym (length-map d.0 (place name))) d.1,
+  λ all. let image = image_of (place name) d.0 TheRefs all in no_place_of_all name image.0 image.1,
+  differs old new r s p q name packed d.0 d.2,
 )
+
+-- and any number of them where what is shown is as it was
+suffices_unchanged : (old new : FileMap) (r s : Repository) → Spells (shown old) r → Spells (shown new) s → shown new ≡ shown old → (k : ℕ) → DifferAtMost k old new → WritesSuffice ⊥ k r s
+suffices_unchanged old new r s p shows same k d = (
+  [],
+  omega arith,
+  λ all. absurd (let here = all.1 in omega arith),
+  record {
+    objects = λ x. inl (some_once (get s.objects x) (get r.objects x) (sym (q.objects x) ∙ p.objects x));
+    refs = λ n. inl (id_once (get s.refs n) (get r.refs n) (sym (q.refs n) ∙ p.refs n));
+    head = inl (q.head_is ∙ ap machine_head (ap (λ h. unwrap_or h p.head) (sym q.head_shown ∙ p.head_shown)) ∙ sym p.head_is);
+    index = inl (same_map nat_list_cmp_total bytes_same s.index r.index (λ path. q.index path ∙ ap (λ m. option_map machine_entry (get m path)) maps ∙ sym (p.index path)));
+  },
+)
+  where
+    q : Spells (shown old) s
+    q = subst (λ (t : Shown). Spells t s) same shows
+
+    maps : q.map ≡ p.map
+    maps = one_index q.map p.map q.map_sound p.map_sound (sym q.map_shown ∙ p.map_shown)
 
 -- ---- the call
 
 module _ {D : Type 0} (honest : Type 0) (content : D → FileMap) (failed : D → ℕ) (can_fail : D → Type 0) (left : D → Option ℕ) (old new : D) (IsDevice : Type 0) (frail : Bool) (may : Type 0) (a : Answer) (r s : Repository) where
   burns : honest → (a ≡ Fault Device → IsDevice) → (can_fail old → IsTrue frail) → Writes honest content failed can_fail left old new IsDevice → may ⊎ Wears failed can_fail left old new IsDevice
-      → Spells (shown (content old)) r → Spells (shown (content new)) s → Burns frail (left old) may ⊥ r s a (left new)
-  burns is_honest tells can w looks p q = by (left old) refl
+      → ((k : ℕ) → DifferAtMost k (content old) (content new) → WritesSuffice ⊥ k r s) → Burns frail (left old) may ⊥ r s a (left new)
+  burns is_honest tells can w looks enough = by (left old) refl
     where
       none_left : (made : ℕ) → ◌≡◌ {A = Option ℕ} None (Some made) → ⊥
       none_left made e = cc e
@@ -266,7 +298,7 @@ module _ {D : Type 0} (honest : Type 0) (content : D → FileMap) (failed : D �
           w.made,
           spent.0,
           λ not. absurd (not wants),
-          suffices (content old) (content new) r s w.made p q (w.differ is_honest),
+          enough w.made (w.differ is_honest),
           spent.1,
           λ is. elim (w.could (tells is)) [
             | inl could ↦ inl (can could)
@@ -280,7 +312,7 @@ module _ {D : Type 0} (honest : Type 0) (content : D → FileMap) (failed : D �
               0,
               omega arith,
               λ _. refl,
-              suffices (content old) (content new) r s 0 p q (subst (λ k. DifferAtMost k (content old) (content new)) none (w.differ is_honest)),
+              enough 0 (subst (λ k. DifferAtMost k (content old) (content new)) none (w.differ is_honest)),
               look.unspent ∙ e ∙ ap Some whole,
               λ is. inl (can (look.could (tells is))),
             )
@@ -291,23 +323,23 @@ module _ {D : Type 0} (honest : Type 0) (content : D → FileMap) (failed : D �
 
 calls_burn : {D T : Type 0} (honest : Type 0) (content : D → FileMap) (failed : D → ℕ) (can_fail : D → Type 0) (left : D → Option ℕ) (answer_of : Result T NodeFault → Answer)
     → ((r : Result T NodeFault) → answer_of r ≡ Fault Device → TellsDevice r) → CallsBurn honest content failed can_fail left answer_of
-calls_burn honest content failed can_fail left answer_of tells old new result frail task was_up is_up awaited n is_honest can wear looks answers holds =
+calls_burn honest content failed can_fail left answer_of tells old new result frail task was_up is_up awaited n is_honest can wear name keeps looks answers holds =
     let step = answers.each awaited n holds in (
       step.0,
       step.1,
       step.2,
-      burns honest content failed can_fail left old new (TellsDevice result) frail (MayClone git git_rules n (Command task)) (answer_of result) n.repository step.0.repository is_honest (tells result) can wear (looks awaited n holds) holds.shows.spells step.1.shows.spells,
+      burns honest content failed can_fail left old new (TellsDevice result) frail (MayClone git git_rules n (Command task)) (answer_of result) n.repository step.0.repository is_honest (tells result) can wear (looks awaited n holds) (suffices (content old) (content new) n.repository step.0.repository holds.shows.spells step.1.shows.spells name keeps.packed),
     )
 
 -- the same of a command that takes it that all is there that refs reach
 sound_calls_burn : {D T : Type 0} (honest : Type 0) (content : D → FileMap) (failed : D → ℕ) (can_fail : D → Type 0) (left : D → Option ℕ) (answer_of : Result T NodeFault → Answer)
     → ((r : Result T NodeFault) → answer_of r ≡ Fault Device → TellsDevice r) → SoundCallsBurn honest content failed can_fail left answer_of
-sound_calls_burn honest content failed can_fail left answer_of tells old new result frail task was_up is_up awaited n is_honest can wear looks answers holds =
+sound_calls_burn honest content failed can_fail left answer_of tells old new result frail task was_up is_up awaited n is_honest can wear name keeps looks answers holds =
     let step = answers.each awaited n holds in (
       step.0,
       step.1,
       step.2,
-      burns honest content failed can_fail left old new (TellsDevice result) frail (IsSound git n.repository → MayClone git git_rules n (Command task)) (answer_of result) n.repository step.0.repository is_honest (tells result) can wear (looks awaited n holds) holds.shows.spells step.1.shows.spells,
+      burns honest content failed can_fail left old new (TellsDevice result) frail (IsSound git n.repository → MayClone git git_rules n (Command task)) (answer_of result) n.repository step.0.repository is_honest (tells result) can wear (looks awaited n holds) (suffices (content old) (content new) n.repository step.0.repository holds.shows.spells step.1.shows.spells name keeps.packed),
     )
 
 -- ---- what is told
@@ -362,7 +394,7 @@ of_clone_fault _ is = absurd (cc is)
 
 exchanges_burn : {D T : Type 0} (honest : Type 0) (content : D → FileMap) (failed : D → ℕ) (can_fail : D → Type 0) (left : D → Option ℕ) (shows : Result T CloneFault → Answer → Option Message → Type 0)
     → ((r : Result T CloneFault) (a : Answer) (sends : Option Message) → shows r a sends → a ≡ Fault Device → CloneTellsDevice r) → ExchangesBurn honest content failed can_fail left shows
-exchanges_burn honest content failed can_fail left shows tells old new result frail call waits after was_up is_up awaited n is_honest can wear looks answers is holds =
+exchanges_burn honest content failed can_fail left shows tells old new result frail call waits after was_up is_up awaited n is_honest can wear name keeps looks answers is holds =
     let step = answers.each awaited n is holds in (
       step.0,
       step.1,
@@ -372,7 +404,7 @@ exchanges_burn honest content failed can_fail left shows tells old new result fr
       step.5,
       step.6,
       step.7,
-      burns honest content failed can_fail left old new (CloneTellsDevice result) frail (IsSound git n.repository → MayClone git git_rules n call) step.2 n.repository step.1.repository is_honest (tells result step.2 step.3 step.6) can wear (looks awaited n is holds) holds.shows.spells step.5.shows.spells,
+      burns honest content failed can_fail left old new (CloneTellsDevice result) frail (IsSound git n.repository → MayClone git git_rules n call) step.2 n.repository step.1.repository is_honest (tells result step.2 step.3 step.6) can wear (looks awaited n is holds) (suffices (content old) (content new) n.repository step.1.repository holds.shows.spells step.5.shows.spells name keeps.packed),
     )
 
 received_tells : (r : Result Received CloneFault) (a : Answer) (sends : Option Message) → ReceivedAs r a sends → a ≡ Fault Device → CloneTellsDevice r
@@ -397,3 +429,24 @@ sent_burns honest content failed can_fail left = exchanges_burn honest content f
 
 pub found_burns : {D : Type 0} (honest : Type 0) (content : D → FileMap) (failed : D → ℕ) (can_fail : D → Type 0) (left : D → Option ℕ) → ExchangesBurn honest content failed can_fail left FoundAs
 found_burns honest content failed can_fail left = exchanges_burn honest content failed can_fail left FoundAs found_tells
+
+-- ---- packing the refs
+
+packed_tells : (r : Result (Unit {0}) NodeFault) (a : Answer) (sends : Option Message) → RestartedAs r a sends → a ≡ Fault Device → TellsDevice r
+packed_tells (Ok u) a sends told is = absurd (cc (sym told.answer ∙ is))
+packed_tells (Err e) a sends told is = of_fault e (sym told.answer ∙ is)
+
+pub packs_burn : {D : Type 0} (honest : Type 0) (content : D → FileMap) (failed : D → ℕ) (can_fail : D → Type 0) (left : D → Option ℕ) → PacksBurn honest content failed can_fail left
+packs_burn honest content failed can_fail left old new result frail waits after was_up is_up awaited n is_honest can wear same looks answers is holds =
+    let step = answers.each awaited n is holds in (
+      step.0,
+      step.1,
+      step.2,
+      step.3,
+      step.4,
+      step.5,
+      step.6,
+      step.7,
+      burns honest content failed can_fail left old new (TellsDevice result) frail (IsSound git n.repository → MayClone git git_rules n (Asks PackRefs)) step.2 n.repository step.1.repository is_honest (packed_tells result step.2 step.3 step.6) can wear (looks awaited n is holds)
+      (suffices_unchanged (content old) (content new) n.repository step.1.repository holds.shows.spells step.5.shows.spells same),
+    )

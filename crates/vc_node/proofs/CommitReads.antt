@@ -1,5 +1,5 @@
 -- A bad file that a commit tells is one that it had to read.
-use Rattle.std.proofs.Common.{◌≡◌, inl, inr, ℕ, ◌<◌, List, Some, get_or, length, refl, ap, ◌∙◌, subst}
+use Rattle.std.proofs.Common.{◌≡◌, inl, inr, ℕ, Bool, true, false, ◌<◌, List, Some, get_or, length, refl, ap, ◌∙◌, subst}
 use Rattle.std.specs.Prelude.{codes, string_bytes}
 use Rattle.std.proofs.lemmas.List.Elements.{Contains-get_or}
 use Rattle.vc_files.specs.FileMap.{FileMap, SameOutside}
@@ -12,7 +12,9 @@ use Rattle.vc_object.specs.ObjectMap.{links_in}
 use Rattle.vc_object.specs.declared.id.ObjectId.{ObjectId}
 use Rattle.vc_object.specs.declared.kind.Kind.TheVariants as kinds
 use Rattle.vc_refs.specs.Head.{head_of}
+use Rattle.vc_refs.proofs.LayeredLemmas.{decides-loose, decides-packed}
 use Rattle.vc_refs.specs.RefFault.{BlamesHead, BlamesHeadValue, BlamesWay, IsFault}
+use Rattle.vc_refs.specs.Refs.{deciding_file, is_taken}
 use Rattle.vc_refs.specs.declared.faults.RefFault.{RefFault}
 use Rattle.vc_refs.specs.declared.faults.RefFault.TheVariants as ref
 use Rattle.vc_refs.specs.declared.heads.Head.{Head}
@@ -25,11 +27,11 @@ use Rattle.vc_node.specs.Commit.{IsFreeHead, made_body, parents_of_commit}
 use Rattle.vc_node.specs.IndexFile.{SpellsIndex}
 use Rattle.vc_node.specs.Making.{HasRoot}
 use Rattle.vc_node.specs.NodeFault.{of_index}
-use Rattle.vc_node.specs.Reads.{IsAtBranch, IsAtHead, IsMade, IsOfCommit, IsReached, IsReachedByOne, NoneRead, TellsRead}
+use Rattle.vc_node.specs.Reads.{IsAtBranch, IsAtHead, IsMade, IsOfCommit, IsReached, IsItsFile, IsReachedByOne, NoneRead, TellsRead}
 use Rattle.vc_node.specs.declared.fault.NodeFault.{NodeFault}
 use Rattle.vc_node.specs.declared.fault.NodeFault.TheVariants.{Store, Ref, Missing, NotACommit, BadPath, PathConflict, BadIndex, WrongEntry, Down}
 use Rattle.vc_node.proofs.CommitLemmas.{only_root}
-use Rattle.vc_node.proofs.RefusalLemmas.{taken_before}
+use Rattle.vc_node.proofs.RefusalLemmas.{held_before}
 
 -- what is one of these files is one of those
 module _ (Objects Wider : ObjectId → Type 0) (Paths Further : List ℕ → Type 0) (objects_too : (id : ObjectId) → Objects id → Wider id) (paths_too : (path : List ℕ) → Paths path → Further path) where
@@ -60,10 +62,18 @@ head_read content (ref.BadRefFile path) blames = inl blames.0
 head_read content ref.HeadLoop blames = tt
 head_read content (ref.Fault f) blames = tt
 
+-- the file that decides for a ref
+pub its_file : (content : FileMap) (name path : List ℕ) → path ≡ deciding_file content name → IsItsFile name path
+its_file content name path is = by (is_taken content name) refl
+  where
+    by : (b : Bool) → is_taken content name ≡ b → IsItsFile name path
+    by true taken = inl (is ∙ decides-loose content name taken)
+    by false free = inr (is ∙ decides-packed content name free)
+
 pub value_read : (content : FileMap) (e : RefFault) → BlamesHeadValue content e → TellsRead NoneRead (IsAtHead content) (Ref e)
 value_read content (ref.Stale current) blames = tt
 value_read content (ref.Conflict other) blames = tt
-value_read content (ref.BadRefFile path) blames = elim blames [ inl head ↦ inl head.0 | inr named ↦ inr (heads.Branch (string_bytes path), named.0, inl refl) ]
+value_read content (ref.BadRefFile path) blames = elim blames [ inl head ↦ inl head.0 | inr named ↦ inr (heads.Branch named.0, named.1, inl (its_file content named.0 (string_bytes path) named.2)) ]
 value_read content ref.HeadLoop blames = tt
 value_read content (ref.Fault f) blames = tt
 
@@ -71,7 +81,7 @@ value_read content (ref.Fault f) blames = tt
 pub way_read : (content : FileMap) (name : List ℕ) (e : RefFault) → head_of content ≡ Some (heads.Branch name) → BlamesWay content name e → TellsRead NoneRead (IsAtHead content) (Ref e)
 way_read content name (ref.Stale current) head blames = tt
 way_read content name (ref.Conflict other) head blames = tt
-way_read content name (ref.BadRefFile path) head blames = inr (heads.Branch name, head, inr blames.1)
+way_read content name (ref.BadRefFile path) head blames = inr (heads.Branch name, head, elim blames [ inl packed ↦ inl (inr packed.0) | inr first ↦ inr first.2 ])
 way_read content name ref.HeadLoop head blames = tt
 way_read content name (ref.Fault f) head blames = tt
 
@@ -86,7 +96,7 @@ none_read content head (ref.Fault f) fault = tt
 module _ (old new : FileMap) (outside : SameOutside (codes "objects/") old new) where
   at_branch_before : (head : Head) → IsFreeHead old head → (path : List ℕ) → IsAtBranch new head path → IsAtBranch old head path
   at_branch_before (heads.Branch name) free path (inl own) = inl own
-  at_branch_before (heads.Branch name) free path (inr way) = absurd (free path (record { taken = taken_before old new outside path way.here.taken; conflict = way.here.conflict }))
+  at_branch_before (heads.Branch name) free path (inr way) = absurd (free.none path (record { held = held_before old new outside path way.here.held; conflict = way.here.conflict }))
   at_branch_before (heads.Id id) free path never = never
 
   pub moving_read : (head : Head) → head_of old ≡ Some head → IsFreeHead old head → (e : NodeFault) → TellsRead NoneRead (IsAtBranch new head) e → TellsRead NoneRead (IsAtHead old) e

@@ -8,6 +8,7 @@ pub mod CommitAnswers
 pub mod CommitFailures
 pub mod CommitLemmas
 pub mod CommitReads
+pub mod RefBlames
 pub mod DenotingLemmas
 pub mod ExchangingLemmas
 pub mod IndexLemmas
@@ -22,6 +23,7 @@ pub mod ReceivingClone
 pub mod ReceivingFaults
 pub mod RefusalLemmas
 pub mod RestartLemmas
+pub mod PackingLemmas
 pub mod SettledLemmas
 pub mod ShownLemmas
 pub mod SoundAnswers

@@ -12,7 +12,7 @@ use Rattle.vc_refs.specs.RefMap.{RefMap, is_ref, with_ref}
 use Rattle.vc_refs.specs.Refs.{refs}
 use Rattle.vc_refs.specs.declared.heads.Head.TheVariants as heads
 use Rattle.vc_refs.proofs.HeadLemmas.{head_of-legal}
-use Rattle.vc_refs.proofs.RefsLemmas.{ref_legal}
+use Rattle.vc_refs.proofs.LayeredLemmas.{ref_legal}
 use Rattle.vc_node.specs.Shown.{Shown, shown, with_refs_shown}
 
 pub legal_of : (name : List ℕ) → is_ref name ≡ true → is_ref_name name ≡ true

@@ -1,5 +1,5 @@
 -- What can be opened.
-use Rattle.std.proofs.Common.{◌≡◌, ℕ, Bool, true, false, cond, List, [], Option, Some, None, refl, sym, ap, subst, ◌∙◌}
+use Rattle.std.proofs.Common.{◌≡◌, ℕ, Bool, true, false, cond, ◌&&◌, List, [], Option, Some, None, refl, sym, ap, subst, ◌∙◌}
 use Rattle.std.specs.Prelude.{Err, codes, is_some, nat_eq, option_map}
 use Rattle.std.specs.Prelude.{unwrap_or}
 use Rattle.std.specs.List.{flat_map}
@@ -11,7 +11,6 @@ use Rattle.std.specs.List.{starts_with}
 use Rattle.std.specs.FinMap.{get-empty}
 use Rattle.std.specs.Ordering.{nat_cmp}
 use Rattle.std.specs.Cmp.Lexicographic.{slice_cmp}
-use Rattle.std.proofs.lemmas.Bool.{and_parts}
 use Rattle.std.specs.FinMap as files
 use Rattle.vc_files.specs.FileMap.{FileMap}
 use Rattle.vc_model.specs.Repository.{Repository}
@@ -19,9 +18,8 @@ use Rattle.vc_model.specs.World.{empty_repository}
 use Rattle.vc_object.specs.ObjectId.{is_id}
 use Rattle.vc_object.specs.declared.id.ObjectId.{ObjectId}
 use Rattle.vc_refs.specs.Head.{head_of, read_head, said}
-use Rattle.vc_refs.specs.RefFile.{id_in}
-use Rattle.vc_refs.specs.RefMap.{is_ref}
-use Rattle.vc_refs.specs.Refs.{refs, IsBadRef}
+use Rattle.vc_refs.proofs.LayeredLemmas.{good_absent, packed_map-absent, refs-packed}
+use Rattle.vc_refs.specs.Refs.{is_taken, packed_at, packed_path, refs, IsBadRef}
 use Rattle.vc_store.specs.Store.{objects, object_path, stored, stored_in, IsDamaged}
 use Rattle.vc_store.specs.declared.faults.StoreFault.TheVariants.{Absent}
 use Rattle.vc_index.specs.IndexMap.{IsIndex}
@@ -64,8 +62,14 @@ unfolding objects
 no_object id = none_by (is_id id) _ (ap (λ found. result_ok (stored_in id found)) (nothing (object_path id.0)))
 
 no_ref : (name : List ℕ) → refs files.empty name ≡ None
-unfolding refs
-no_ref name = none_by (is_ref name) _ (ap (λ found. option_and_then id_in found) (nothing name))
+no_ref name = refs-packed files.empty name free ∙ ap (λ m. packed_at m name) (packed_map-absent files.empty (nothing packed_path)) ∙ get-empty (slice_cmp nat_cmp) name
+  where
+    begins_not : (b : Bool) → (b && false) ≡ false
+    begins_not true = refl
+    begins_not false = refl
+
+    free : is_taken files.empty name ≡ false
+    free = ap (λ found. starts_with nat_eq name (codes "refs/") && is_some found) (nothing name) ∙ begins_not (starts_with nat_eq name (codes "refs/"))
 
 no_head : head_of files.empty ≡ None
 unfolding head_of
@@ -77,9 +81,7 @@ not_damaged id damaged =
     cc (absent, damaged)
 
 not_bad : (path : List ℕ) → IsBadRef files.empty path → ⊥
-not_bad path bad =
-    let free : is_some (files.get files.empty path) ≡ false = ap is_some (nothing path) in
-    cc (free, (and_parts (starts_with nat_eq path (codes "refs/")) (is_some (files.get files.empty path)) bad.taken).1)
+not_bad path bad = good_absent files.empty path (nothing path) bad
 
 new_is_index : IsIndex files.empty
 new_is_index = record {

@@ -19,12 +19,6 @@ use Rattle.vc_node.specs.Reads.{NoneRead, TellsRead, IsReached, IsBelow}
 use Rattle.vc_node.specs.declared.fault.NodeFault.TheVariants.{Store}
 use Rattle.vc_node.proofs.CommitLemmas.{reach_parents}
 
-pub met_read : (content : FileMap) (id : ObjectId) (e : StoreFault) → IsMet (ReachedFrom (links_in (objects content)) (id ∷ [])) (IsDamaged content) e → TellsRead (IsReached content id) NoneRead (Store e)
-met_read content id (store.BadObject f) met = tt
-met_read content id (store.Absent x) met = tt
-met_read content id (store.Damaged x) met = met.0
-met_read content id (store.Fault f) met = tt
-
 -- what a commit descends from it reaches
 pub parent_read : (content : FileMap) (id : ObjectId) (e : StoreFault) → IsMet (ReachedFrom (parents_in (objects content)) (id ∷ [])) (IsDamaged content) e → TellsRead (IsReached content id) NoneRead (Store e)
 parent_read content id (store.BadObject f) met = tt
@@ -36,14 +30,3 @@ pub told_read : (content : FileMap) (id : ObjectId) (e : BaseFault) → IsTold (
 told_read content id (base.Missing x) told = tt
 told_read content id (base.NotACommit x) told = tt
 told_read content id (base.Store e) told = parent_read content id e told
-
-pub load_read : (content : FileMap) (id : ObjectId) (e : IndexFault) → IsOfLoad (Unit {0}) content id e → TellsRead (IsBelow content id) NoneRead (of_index e)
-load_read content id index.BadPath why = tt
-load_read content id index.PathConflict why = tt
-load_read content id (index.BadIndex place) why = tt
-load_read content id (index.WrongEntry at) why = tt
-load_read content id (index.Missing x) why = tt
-load_read content id (index.Store (store.BadObject f)) why = tt
-load_read content id (index.Store (store.Absent x)) why = tt
-load_read content id (index.Store (store.Damaged x)) why = (why tt).1
-load_read content id (index.Store (store.Fault f)) why = tt

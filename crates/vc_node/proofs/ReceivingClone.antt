@@ -20,7 +20,7 @@ use Rattle.vc_model.specs.Refs.{Head as MachineHead}
 use Rattle.vc_model.specs.Refs.Head.{Detached, OnBranch}
 use Rattle.vc_model.specs.Repository.{Index, Repository}
 use Rattle.vc_refs.specs.Head.{head_of, head_value}
-use Rattle.vc_refs.specs.Refs.{refs}
+use Rattle.vc_refs.specs.Refs.{packed_at, refs}
 use Rattle.vc_refs.specs.declared.heads.Head.{Head}
 use Rattle.vc_refs.specs.declared.heads.Head.TheVariants as heads
 use Rattle.vc_rules.specs.OpenPushes.{HoldsContent}
@@ -86,11 +86,11 @@ clean_on : (old new : FileMap) → MakesNoneBad old new → IsClean old → IsCl
 clean_on old new bad clean = record { objects = λ id damaged. clean.objects id (bad.objects id damaged); refs = λ path wrong. clean.refs path (bad.refs path wrong) }
 
 pub bad_same : (content : FileMap) → MakesNoneBad content content
-bad_same content = record { objects = λ id bad. bad; refs = λ path bad. bad; quarantines = λ slot fits id bad. bad }
+bad_same content = record { objects = λ id bad. bad; refs = λ path bad. bad; quarantines = λ slot fits id bad. bad; packed = refl }
 
 -- what is made bad by nothing is kept clean
 pub clean_by : (old new : FileMap) → MakesNoneBad old new → KeepsClean old new
-clean_by old new bad = record { damage = record { before = bad.objects }; refs = bad.refs }
+clean_by old new bad = record { damage = record { before = bad.objects }; refs = bad.refs; packed = record { at = λ n other. ap (λ m. packed_at m n) bad.packed } }
 
 -- ---- what a held node leads to
 module _ (old : FileMap) (waits : AwaitedText) (awaited : Awaited) (n : CloneNode) (is : IsAwaited waits awaited) (held : HoldsNode old true awaited n) where

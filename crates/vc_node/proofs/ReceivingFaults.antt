@@ -110,10 +110,6 @@ incomplete_alone (exchange.Fault f) is = absurd is
 pub files_no_message : (content : FileMap) (fault : ExchangeFault) → BlamesFiles content fault → IsOfMessage (of_exchange fault) → ⊥
 files_no_message content fault why is = let one = incomplete_alone fault is in subst (BlamesFiles content) one.1 why
 
-pub advert_no_message : (content : FileMap) (fault : ExchangeFault) → BlamesAdvert content fault → IsOfMessage (of_exchange fault) → ⊥
-advert_no_message content fault (inl why) is = let one = incomplete_alone fault is in subst (BlamesWanting content) one.1 why
-advert_no_message content fault (inr why) is = files_no_message content fault why is
-
 -- what holds after a refusal of the message holds where no other fault is one
 pub kept_as : {T P : Type 0} (fault : ExchangeFault) (q : Result T CloneFault) → IsErrAnd q (λ x. x ≡ of_exchange fault) → (IsOfMessage (of_exchange fault) → P) → IfErr q (λ e. IsOfMessage e → P)
 kept_as fault (Ok x) is holds = tt

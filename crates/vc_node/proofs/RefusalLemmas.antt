@@ -1,5 +1,5 @@
 -- What refuses a commit, from what its calls tell.
-use Rattle.std.proofs.Common.{◌≡◌, inl, inr, ℕ, List, [], ◌∷◌, ◌++◌, map, Option, Some, None, true, nat_eq, refl, sym, ap, ◌∙◌, subst}
+use Rattle.std.proofs.Common.{◌≡◌, ◌||◌, inl, inr, ℕ, Bool, false, List, [], ◌∷◌, ◌++◌, map, Option, Some, None, true, nat_eq, refl, sym, ap, ◌∙◌, subst}
 use Rattle.std.specs.Prelude.{option_map, option_and_then, option_to_list, unwrap_or, is_some, string_bytes, codes, ◌&&◌}
 use Rattle.std.specs.List.{AllByRecursion, starts_with}
 use Rattle.std.proofs.lemmas.Bool.{and_parts}
@@ -16,9 +16,8 @@ use Rattle.vc_model.specs.Repository.{Repository}
 use Rattle.vc_model.specs.Shared.{head_value as machine_value}
 use Rattle.vc_object.specs.declared.id.ObjectId.{ObjectId}
 use Rattle.vc_refs.specs.Head.{IsBadHead, IsHeadLoop, head_of, head_value, read_head, said}
-use Rattle.vc_refs.specs.RefMap.{RefMap}
-use Rattle.vc_refs.specs.Refs.{refs, is_taken, IsBadRef}
-use Rattle.vc_refs.specs.Way.{IsFree as IsFreeName}
+use Rattle.vc_refs.specs.Refs.{is_taken, packed_at, packed_map, packed_path, refs, IsBadRef}
+use Rattle.vc_refs.specs.Way.{is_held, IsFree as IsFreeName}
 use Rattle.vc_refs.specs.RefFault.{BlamesHead, BlamesHeadValue, BlamesWay}
 use Rattle.vc_refs.specs.declared.faults.RefFault.{RefFault}
 use Rattle.vc_refs.specs.declared.faults.RefFault.TheVariants as ref
@@ -35,7 +34,9 @@ use Rattle.vc_node.specs.Making.{IsOfLook, BlamesLook, BlamesFreeHead, BlamesMov
 use Rattle.vc_node.specs.Shown.{Shown, shown}
 use Rattle.vc_node.specs.declared.fault.NodeFault.{NodeFault}
 use Rattle.vc_node.specs.declared.fault.NodeFault.TheVariants.{Store, Ref, Missing, NotACommit, BadPath, PathConflict, BadIndex, WrongEntry, Down}
-use Rattle.vc_node.proofs.ShownLemmas.{ref_no_object, shown_objects}
+use Rattle.vc_refs.proofs.LayeredLemmas.{bad-same, packed_map-same}
+use Rattle.vc_node.proofs.CleanLemmas.{bad_no_object}
+use Rattle.vc_node.proofs.ShownLemmas.{ref_no_object}
 use Rattle.vc_node.proofs.BranchLemmas.{closed, good_here, not_closed, history, not_history, free_from, not_free}
 
 -- ---- a look at HEAD
@@ -62,17 +63,9 @@ of_head content (ref.Fault fault) blames = tt
 pub of_head_value : (content : FileMap) (e : RefFault) → BlamesHeadValue content e → IsOfLook content e
 of_head_value content (ref.Stale current) blames = absurd blames
 of_head_value content (ref.Conflict other) blames = absurd blames
-of_head_value content (ref.BadRefFile path) blames = elim blames [ inl head ↦ inl (bad_head content head.1) | inr named ↦ inr named.1 ]
+of_head_value content (ref.BadRefFile path) blames = elim blames [ inl head ↦ inl (bad_head content head.1) | inr named ↦ inr named.3 ]
 of_head_value content ref.HeadLoop blames = looped_head content blames
 of_head_value content (ref.Fault fault) blames = tt
-
--- what is in the way of HEAD's branch
-pub of_way : (content : FileMap) (name : List ℕ) (e : RefFault) → head_of content ≡ Some (heads.Branch name) → BlamesWay content name e → BlamesFreeHead content (Ref e)
-of_way content name (ref.Stale current) head blames = absurd blames
-of_way content name (ref.Conflict other) head blames = inr (record { name = name; other = other; head = head; is = refl; first = blames.0; there = blames.1 })
-of_way content name (ref.BadRefFile path) head blames = inl (inr blames.0)
-of_way content name ref.HeadLoop head blames = absurd blames
-of_way content name (ref.Fault fault) head blames = inl tt
 
 -- ---- a commit's refusals, as the machine has them
 
@@ -141,23 +134,35 @@ module _ (content : FileMap) (r : Repository) (p : Spells (shown content) r) whe
 -- ---- HEAD is not moved, after objects alone were stored
 
 module _ (old new : FileMap) (outside : SameOutside (codes "objects/") old new) where
-  pub taken_before : (path : List ℕ) → is_taken new path ≡ true → is_taken old path ≡ true
+  taken_before : (path : List ℕ) → is_taken new path ≡ true → is_taken old path ≡ true
   taken_before path taken =
       let inside : starts_with nat_eq path (codes "refs/") ≡ true = (and_parts (starts_with nat_eq path (codes "refs/")) (is_some (get new path)) taken).0 in
       ap (λ (found : Option (List ℕ)). starts_with nat_eq path (codes "refs/") && is_some found) (sym (outside.at path (ref_no_object path inside))) ∙ taken
 
-  refs_before : refs new ≡ refs old
-  refs_before = ap (λ (s : Shown). s.refs) (shown_objects old new (objects new) outside refl)
+  -- what is held then was so before
+  pub held_before : (path : List ℕ) → is_held new path ≡ true → is_held old path ≡ true
+  held_before path held = by (is_taken new path) refl held
+    where
+      packed : packed_at (packed_map new) path ≡ packed_at (packed_map old) path
+      packed = ap (λ m. packed_at m path) (packed_map-same old new (outside.at packed_path refl))
+
+      or_right : (b c : Bool) → c ≡ true → (b || c) ≡ true
+      or_right true c h = refl
+      or_right false c h = h
+
+      by : (b : Bool) → is_taken new path ≡ b → (b || is_some (packed_at (packed_map new) path)) ≡ true → is_held old path ≡ true
+      by true taken h = ap (λ b. b || is_some (packed_at (packed_map old) path)) (taken_before path taken)
+      by false free h = or_right (is_taken old path) _ (ap is_some (sym packed) ∙ h)
 
   bad_before : (path : List ℕ) → IsBadRef new path → IsBadRef old path
-  bad_before path bad = record { taken = taken_before path bad.taken; none = ap (λ (m : RefMap). m path) (sym refs_before) ∙ bad.none }
+  bad_before path bad = bad-same old new path (outside.at path (bad_no_object new path bad)) bad
 
   name_blamed : (name : List ℕ) → IsFreeName old name → (f : RefFault) → BlamesName new name f → IsOfLook old f
   name_blamed name free (ref.Stale current) blames = absurd blames
-  name_blamed name free (ref.Conflict other) blames = absurd (free other (record { taken = taken_before other blames.0.here.taken; conflict = blames.0.here.conflict }))
+  name_blamed name free (ref.Conflict other) blames = absurd (free.none other (record { held = held_before other blames.1.here.held; conflict = blames.1.here.conflict }))
   name_blamed name free (ref.BadRefFile path) blames = elim blames [
-    | inl way ↦ inr (bad_before (string_bytes path) way.0)
-    | inr own ↦ inr (bad_before (string_bytes path) (subst (IsBadRef new) (sym own.0) own.1))
+    | inl way ↦ inr (bad_before (string_bytes path) (elim way [ inl packed ↦ inr packed | inr first ↦ inl first.1 ]))
+    | inr own ↦ inr (bad_before (string_bytes path) own.1)
   ]
   name_blamed name free ref.HeadLoop blames = absurd blames
   name_blamed name free (ref.Fault fault) blames = tt

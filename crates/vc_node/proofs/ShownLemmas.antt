@@ -3,19 +3,17 @@ use Rattle.std.proofs.Common.{◌≡◌, ℕ, true, false, cond, nat_eq, List, [
 use Rattle.std.specs.Prelude.{bytes_eq, is_some, codes, option_and_then, unwrap_or}
 use Rattle.std.specs.List.{starts_with}
 use Rattle.std.specs.FinMap as files
-use Rattle.std.proofs.lemmas.Bool.{and_parts}
 use Rattle.std.specs.Result.{result_ok}
 use Rattle.vc_files.specs.FileMap.{FileMap, SameOutside}
 use Rattle.vc_files.proofs.FileMapLemmas.{get-put}
 use Rattle.vc_object.specs.ObjectId.{is_id}
 use Rattle.vc_object.specs.ObjectMap.{ObjectMap}
 use Rattle.vc_object.specs.declared.id.ObjectId.{ObjectId}
-use Rattle.vc_refname.specs.RefName.{is_ref_name}
-use Rattle.vc_refs.specs.RefFile.{id_in}
-use Rattle.vc_refs.specs.RefMap.{RefMap, is_ref}
-use Rattle.vc_refs.specs.Refs.{refs, ChangesOnly}
-use Rattle.vc_refs.specs.Head.{head_of, read_head, said, KeepsTheRest}
+use Rattle.vc_refs.specs.RefMap.{RefMap}
+use Rattle.vc_refs.specs.Refs.{packed_path, refs, ChangesOnly}
+use Rattle.vc_refs.specs.Head.{head_of, read_head, said, KeepsOutside, KeepsTheRest}
 use Rattle.vc_refs.specs.declared.heads.Head.{Head}
+use Rattle.vc_refs.proofs.LayeredLemmas.{refs-of_files}
 use Rattle.vc_refs.proofs.WayLemmas.{split_from_starts}
 use Rattle.vc_object.specs.Decoding.{StoredObject}
 use Rattle.vc_store.specs.Store.{objects, object_path, stored_in, with_object}
@@ -36,16 +34,9 @@ objects_at old new same id = ap (λ found. cond (is_id id) (result_ok (stored_in
 objects_same : (old new : FileMap) → ((name : List ℕ) → files.get new (object_path name) ≡ files.get old (object_path name)) → objects new ≡ objects old
 objects_same old new same i id = objects_at old new same id i
 
--- refs are what stands at paths in refs/
-refs_at : (old new : FileMap) → ((q : List ℕ) → starts_with nat_eq q (codes "refs/") ≡ true → files.get new q ≡ files.get old q) → (q : List ℕ) → refs new q ≡ refs old q
-unfolding refs
-refs_at old new same q = elim (is_ref q) as (λ b. is_ref q ≡ b → cond b (option_and_then id_in (files.get new q)) None ≡ cond b (option_and_then id_in (files.get old q)) None) [
-  | true ↦ λ legal. ap (option_and_then id_in) (same q (and_parts (is_ref_name q) (starts_with nat_eq q (codes "refs/")) legal).1)
-  | false ↦ λ _. refl
-] refl
-
-refs_same : (old new : FileMap) → ((q : List ℕ) → starts_with nat_eq q (codes "refs/") ≡ true → files.get new q ≡ files.get old q) → refs new ≡ refs old
-refs_same old new same i q = refs_at old new same q i
+-- refs are what stands at paths in refs/ and in the packed file
+refs_same : (old new : FileMap) → ((q : List ℕ) → starts_with nat_eq q (codes "refs/") ≡ true → files.get new q ≡ files.get old q) → files.get new packed_path ≡ files.get old packed_path → refs new ≡ refs old
+refs_same old new same packed = refs-of_files old new same packed
 
 -- HEAD is what its file says
 head_same : (old new : FileMap) → files.get new (codes "HEAD") ≡ files.get old (codes "HEAD") → head_of new ≡ head_of old
@@ -62,7 +53,7 @@ ref_no_index q h = ap (λ p. bytes_eq p (codes "index")) (split_from_starts q (c
 pub shown_objects : (old new : FileMap) (o : ObjectMap) → SameOutside (codes "objects/") old new → objects new ≡ o → shown new ≡ with_objects_shown (shown old) o
 shown_objects old new o outside is =
     same_shown (objects new) o (refs new) (refs old) (head_of new) (head_of old) (index_bytes new) (index_bytes old) is
-    (refs_same old new (λ q h. outside.at q (ref_no_object q h)))
+    (refs_same old new (λ q h. outside.at q (ref_no_object q h)) (outside.at packed_path refl))
     (head_same old new (outside.at (codes "HEAD") refl))
     (ap (λ found. unwrap_or found []) (outside.at (codes "index") refl))
 
@@ -70,8 +61,15 @@ shown_objects old new o outside is =
 pub shown_refs : (old new : FileMap) (name : List ℕ) (r : RefMap) → KeepsTheRest name old new → refs new ≡ r → shown new ≡ with_refs_shown (shown old) r
 shown_refs old new name r rest is =
     same_shown (objects new) (objects old) (refs new) r (head_of new) (head_of old) (index_bytes new) (index_bytes old)
-    (objects_same old new (λ n. rest.outside.at (object_path n) refl)) is rest.head
-    (ap (λ found. unwrap_or found []) (rest.outside.at (codes "index") refl))
+    (objects_same old new (λ n. rest.outside.at (object_path n) refl refl)) is rest.outside.head
+    (ap (λ found. unwrap_or found []) (rest.outside.at (codes "index") refl refl))
+
+-- refs that are packed show as they did
+pub shown_packed : (old new : FileMap) → KeepsOutside old new → refs new ≡ refs old → shown new ≡ shown old
+shown_packed old new rest is =
+    same_shown (objects new) (objects old) (refs new) (refs old) (head_of new) (head_of old) (index_bytes new) (index_bytes old)
+    (objects_same old new (λ n. rest.at (object_path n) refl refl)) is rest.head
+    (ap (λ found. unwrap_or found []) (rest.at (codes "index") refl refl))
 
 -- a change of HEAD shows as another HEAD
 pub shown_head : (old new : FileMap) (h : Head) → ChangesOnly (codes "HEAD") old new → refs new ≡ refs old → head_of new ≡ Some h → shown new ≡ with_head_shown (shown old) h
@@ -86,7 +84,7 @@ shown_index old new text e =
     let put : (q : List ℕ) → files.get new q ≡ cond (bytes_eq q (codes "index")) (Some text) (files.get old q) = λ q. ap (λ (m : FileMap). files.get m q) e ∙ get-put old (codes "index") text q in
     same_shown (objects new) (objects old) (refs new) (refs old) (head_of new) (head_of old) (index_bytes new) text
     (objects_same old new (λ n. put (object_path n)))
-    (refs_same old new (λ q h. put q ∙ ap (λ b. cond b (Some text) (files.get old q)) (ref_no_index q h)))
+    (refs_same old new (λ q h. put q ∙ ap (λ b. cond b (Some text) (files.get old q)) (ref_no_index q h)) (put packed_path))
     (head_same old new (put (codes "HEAD")))
     (ap (λ found. unwrap_or found []) (put (codes "index")))
 

@@ -139,7 +139,7 @@ module _ (content : FileMap) (r : Repository) (clean : IsClean content) (spells 
   ref_fails : (name : List ℕ) (e : RefFault) → BlamesRef content name e → (f : FilesFault) × (e ≡ ref.Fault f)
   ref_fails name (ref.Stale current) never = absurd never
   ref_fails name (ref.Conflict other) never = absurd never
-  ref_fails name (ref.BadRefFile path) (same, bad) = absurd (clean.refs name bad)
+  ref_fails name (ref.BadRefFile path) (same, bad) = absurd (clean.refs _ bad)
   ref_fails name ref.HeadLoop never = absurd never
   ref_fails name (ref.Fault f) look = (f, refl)
 

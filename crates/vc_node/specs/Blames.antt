@@ -14,7 +14,7 @@ use Rattle.vc_object.specs.ObjectFault.{BodyFault}
 use Rattle.vc_object.specs.declared.id.ObjectId.{ObjectId}
 use Rattle.vc_object.specs.declared.kind.Kind.{Kind}
 use Rattle.vc_object.specs.declared.kind.Kind.TheVariants as kinds
-use Rattle.vc_refs.specs.RefFault.{BlamesWay, BlamesRef, BlamesHead as BlamesHeadFile}
+use Rattle.vc_refs.specs.RefFault.{IsFirstBadRef, BlamesWay, BlamesRef, BlamesHead as BlamesHeadFile}
 use Rattle.vc_refs.specs.Refs.{IsBadRef}
 use Rattle.vc_refs.specs.Way.{IsFree}
 use Rattle.vc_refs.specs.declared.heads.Head.{Head}
@@ -63,7 +63,7 @@ IsOfMemory (Store (store.Fault fault)) = Unit {0}
 IsOfMemory (Ref (ref.Fault fault)) = Unit {0}
 IsOfMemory _ = ⊥
 
--- a look at refs is refused for what stands in the way of the name, or for the ref's own file
+-- a look at refs is refused for what stands in the way of the name, or for the file that says the ref's value
 abbrev pub BlamesName : FileMap → List ℕ → RefFault → Type 0
 BlamesName content name (ref.Stale current) = ⊥
 BlamesName content name (ref.Conflict other) = BlamesWay content name (ref.Conflict other)
@@ -114,6 +114,12 @@ abbrev pub BlamesRemoved : FileMap → NodeFault → Type 0
 BlamesRemoved content (Ref (ref.BadRefFile path)) = IsBadRef content (string_bytes path)
 BlamesRemoved content (Ref (ref.Fault fault)) = Unit {0}
 BlamesRemoved content _ = ⊥
+
+-- refs are packed where each of their files can be read
+abbrev pub BlamesPacking : FileMap → NodeFault → Type 0
+BlamesPacking content (Ref (ref.BadRefFile path)) = IsFirstBadRef content (string_bytes path)
+BlamesPacking content (Ref (ref.Fault fault)) = Unit {0}
+BlamesPacking content _ = ⊥
 
 -- a damaged file is damaged
 abbrev pub IsOfStoredDamage : FileMap → StoreFault → Type 0

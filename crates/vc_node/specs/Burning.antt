@@ -1,33 +1,39 @@
 -- What a call spends of the writes left before a stop, as the machine says it.
-use Rattle.std.specs.Prelude.{ℕ, Bool, IsTrue, Option, None, Result}
+use Rattle.std.specs.Prelude.{◌≡◌, ℕ, Bool, IsTrue, Option, None, Result}
 use Rattle.vc_files.specs.FileMap.{FileMap}
 use Rattle.vc_files.specs.Failures.{Wears, Writes}
 use Rattle.vc_model.specs.Clone.{Awaited, CloneNode, Task}
 use Rattle.vc_model.specs.CloneCall.{CloneAnswers, CloneCall}
-use Rattle.vc_model.specs.CloneCall.CloneCall.{Command}
+use Rattle.vc_model.specs.CloneCall.CloneCall.{Asks, Command}
 use Rattle.vc_model.specs.ExactWorld.{MayClone}
 use Rattle.vc_model.specs.Fuse.{Burns}
 use Rattle.vc_model.specs.Message.{Message}
 use Rattle.vc_model.specs.Node.{Answer}
+use Rattle.vc_model.specs.Question.Question.{PackRefs}
+use Rattle.vc_model.specs.Refs.{RefName}
 use Rattle.vc_model.specs.Repository.{IsSound}
 use Rattle.vc_rules.specs.Git.{git}
 use Rattle.vc_rules.proofs.GitLaws.{git_rules}
 use Rattle.vc_node.specs.Awaited.{AwaitedText, IsAwaited}
-use Rattle.vc_node.specs.CloneCalls.{AnswersClone, MayOr}
+use Rattle.vc_node.specs.Clean.{KeepsCleanBut}
+use Rattle.vc_node.specs.CloneCalls.{AnswersClone, MayOr, RestartedAs}
 use Rattle.vc_node.specs.CloneFaults.{TellsDevice as CloneTellsDevice}
 use Rattle.vc_node.specs.Machine.{Answers, AnswersIfSound, HoldsNode, MayWriteIfSoundOr, MayWriteOr}
 use Rattle.vc_node.specs.NodeFault.{TellsDevice}
+use Rattle.vc_node.specs.Shown.{shown}
 use Rattle.vc_node.specs.declared.clone_fault.CloneFault.{CloneFault}
 use Rattle.vc_node.specs.declared.fault.NodeFault.{NodeFault}
 
--- A call of a held node that says what it answers, what it wears, and where it only looks, is a step of the machine that ends
--- with the writes left which the machine allows: one for each place that changed, none where the command may not write, and a
--- fault of the device only where none was left for a write that it wanted. `frail` says whether the device may fail without a stop.
+-- A call of a held node that says what it answers, what it wears, which one ref it may take out of the packed file, and where it
+-- only looks, is a step of the machine that ends with the writes left which the machine allows: one for each place that changed,
+-- none where the command may not write, and a fault of the device only where none was left for a write that it wanted. `frail` says
+-- whether the device may fail without a stop.
 abbrev pub CallsBurn : {D T : Type 0} → (honest : Type 0) → (D → FileMap) → (D → ℕ) → (D → Type 0) → (D → Option ℕ) → (Result T NodeFault → Answer) → Type 0
 CallsBurn {D} {T} honest content failed can_fail left answer_of =
     (old new : D) (result : Result T NodeFault) (frail : Bool) (task : Task) (was_up is_up : Bool) (awaited : Awaited) (n : CloneNode)
     → honest → (can_fail old → IsTrue frail)
     → Writes honest content failed can_fail left old new (TellsDevice result)
+    → (name : RefName) → KeepsCleanBut name (content old) (content new)
     → MayWriteOr task was_up (content old) (Wears failed can_fail left old new (TellsDevice result))
     → Answers task (answer_of result) was_up is_up (content old) (content new)
     → HoldsNode (content old) was_up awaited n
@@ -41,6 +47,7 @@ SoundCallsBurn {D} {T} honest content failed can_fail left answer_of =
     (old new : D) (result : Result T NodeFault) (frail : Bool) (task : Task) (was_up is_up : Bool) (awaited : Awaited) (n : CloneNode)
     → honest → (can_fail old → IsTrue frail)
     → Writes honest content failed can_fail left old new (TellsDevice result)
+    → (name : RefName) → KeepsCleanBut name (content old) (content new)
     → MayWriteIfSoundOr task was_up (content old) (Wears failed can_fail left old new (TellsDevice result))
     → AnswersIfSound task (answer_of result) was_up is_up (content old) (content new)
     → HoldsNode (content old) was_up awaited n
@@ -54,9 +61,24 @@ ExchangesBurn {D} {T} honest content failed can_fail left shows =
     (old new : D) (result : Result T CloneFault) (frail : Bool) (call : CloneCall) (waits after : AwaitedText) (was_up is_up : Bool) (awaited : Awaited) (n : CloneNode)
     → honest → (can_fail old → IsTrue frail)
     → Writes honest content failed can_fail left old new (CloneTellsDevice result)
+    → (name : RefName) → KeepsCleanBut name (content old) (content new)
     → MayOr call waits was_up (content old) (Wears failed can_fail left old new (CloneTellsDevice result))
     → AnswersClone call (shows result) (content old) (content new) waits after was_up is_up
     → IsAwaited waits awaited → HoldsNode (content old) was_up awaited n
     → (later : Awaited) × (m : CloneNode) × (a : Answer) × (sends : Option Message) × IsAwaited after later × HoldsNode (content new) is_up later m × shows result a sends
     × (IsSound git n.repository → CloneAnswers git git_rules n call a m sends)
     × Burns frail (left old) (IsSound git n.repository → MayClone git git_rules n call) ⊥ n.repository m.repository a (left new)
+
+-- The same of packing the refs: it writes files, and changes no place of the repository.
+abbrev pub PacksBurn : {D : Type 0} → (honest : Type 0) → (D → FileMap) → (D → ℕ) → (D → Type 0) → (D → Option ℕ) → Type 0
+PacksBurn {D} honest content failed can_fail left =
+    (old new : D) (result : Result (Unit {0}) NodeFault) (frail : Bool) (waits after : AwaitedText) (was_up is_up : Bool) (awaited : Awaited) (n : CloneNode)
+    → honest → (can_fail old → IsTrue frail)
+    → Writes honest content failed can_fail left old new (TellsDevice result)
+    → shown (content new) ≡ shown (content old)
+    → MayOr (Asks PackRefs) waits was_up (content old) (Wears failed can_fail left old new (TellsDevice result))
+    → AnswersClone (Asks PackRefs) (RestartedAs result) (content old) (content new) waits after was_up is_up
+    → IsAwaited waits awaited → HoldsNode (content old) was_up awaited n
+    → (later : Awaited) × (m : CloneNode) × (a : Answer) × (sends : Option Message) × IsAwaited after later × HoldsNode (content new) is_up later m × RestartedAs result a sends
+    × (IsSound git n.repository → CloneAnswers git git_rules n (Asks PackRefs) a m sends)
+    × Burns frail (left old) (IsSound git n.repository → MayClone git git_rules n (Asks PackRefs)) ⊥ n.repository m.repository a (left new)

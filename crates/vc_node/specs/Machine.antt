@@ -106,7 +106,7 @@ abbrev pub done_answer : Result (Unit {0}) NodeFault → Answer
 done_answer (Ok u) = Did Stored
 done_answer (Err e) = fault_answer e
 
--- the refusal is for a damaged file of an object, or for a file in refs/ that stands for no ref
+-- the refusal is for a damaged file of an object, or for one of the refs that can't be read
 abbrev pub IsBadStored : FileMap → StoreFault → Type 0
 IsBadStored content (store.Damaged id) = IsDamaged content id
 IsBadStored content _ = ⊥

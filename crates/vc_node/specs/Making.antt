@@ -39,7 +39,7 @@ AreLines author committer = (¬ Contains author 10) × (¬ Contains committer 10
 abbrev pub BlamesLines : List ℕ → List ℕ → NodeFault → Type 0
 BlamesLines author committer e = (e ≡ Store (store.BadObject BadCommit)) × ¬ AreLines author committer
 
--- HEAD says nothing, or a file in refs/ stands for no ref; or a fault
+-- HEAD says nothing, or a file of the refs can't be read; or a fault
 abbrev pub IsOfLook : FileMap → RefFault → Type 0
 IsOfLook content (ref.Stale current) = ⊥
 IsOfLook content (ref.Conflict other) = ⊥

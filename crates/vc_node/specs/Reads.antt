@@ -11,6 +11,7 @@ use Rattle.vc_object.specs.declared.id.ObjectId.{ObjectId}
 use Rattle.vc_object.specs.declared.kind.Kind.TheVariants as kinds
 use Rattle.vc_object.specs.declared.mode.Mode.{Mode}
 use Rattle.vc_refs.specs.Head.{head_of}
+use Rattle.vc_refs.specs.Refs.{packed_path}
 use Rattle.vc_refs.specs.Way.{IsFirstInTheWay}
 use Rattle.vc_refs.specs.declared.faults.RefFault.{RefFault}
 use Rattle.vc_refs.specs.declared.faults.RefFault.TheVariants as ref
@@ -60,9 +61,13 @@ abbrev pub IsReachedByHead : FileMap → Head → ObjectId → Type 0
 IsReachedByHead content (heads.Branch name) = NoneRead
 IsReachedByHead content (heads.Id id) = IsReached content id
 
--- the ref's own file, or the first that is in its way
+-- the ref's own file, or the packed one
+abbrev pub IsItsFile : List ℕ → List ℕ → Type 0
+IsItsFile name path = (path ≡ name) ⊎ (path ≡ packed_path)
+
+-- or the first that is in its way
 abbrev pub IsAtName : FileMap → List ℕ → List ℕ → Type 0
-IsAtName content name path = (path ≡ name) ⊎ IsFirstInTheWay content name path
+IsAtName content name path = IsItsFile name path ⊎ IsFirstInTheWay content name path
 
 -- of a HEAD that names a branch, what is at that name
 abbrev pub IsAtBranch : FileMap → Head → List ℕ → Type 0

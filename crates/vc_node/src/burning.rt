@@ -1,5 +1,5 @@
 // What a call spends of the writes left before a stop.
-ghost use Rattle.vc_node.specs.Burning.{CallsBurn, ExchangesBurn, SoundCallsBurn};
+ghost use Rattle.vc_node.specs.Burning.{CallsBurn, ExchangesBurn, PacksBurn, SoundCallsBurn};
 ghost use Rattle.vc_node.specs.CloneCalls.{FoundAs, ReceivedAs, SentAs};
 ghost use Rattle.vc_node.specs.Machine.{done_answer, made_answer};
 
@@ -20,4 +20,9 @@ pub fn an_exchange_spends_what_the_machine_allows<F: Files>()
     ensures received { ExchangesBurn F.honest F.content F.failed F.can_fail F.left ReceivedAs }
     ensures sent { ExchangesBurn F.honest F.content F.failed F.can_fail F.left SentAs }
     ensures found { ExchangesBurn F.honest F.content F.failed F.can_fail F.left FoundAs }
+{}
+
+/// The same of packing the refs, which changes no place of the repository.
+pub fn a_packing_spends_what_the_machine_allows<F: Files>()
+    ensures packed { PacksBurn F.honest F.content F.failed F.can_fail F.left }
 {}

@@ -18,7 +18,8 @@ mod opened;
 mod staging;
 
 pub use burning::{
-    a_call_spends_what_the_machine_allows, an_exchange_spends_what_the_machine_allows,
+    a_call_spends_what_the_machine_allows, a_packing_spends_what_the_machine_allows,
+    an_exchange_spends_what_the_machine_allows,
 };
 pub use checks::refuse_bad_commit;
 pub use clone_fault::CloneFault;

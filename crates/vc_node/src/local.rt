@@ -20,12 +20,12 @@ ghost use Rattle.vc_object.specs.declared.mode.Mode.{Mode as ModeValue};
 ghost use Rattle.vc_object.specs.declared.id.ObjectId.{ObjectId as Id};
 ghost use Rattle.vc_object.specs.declared.kind.Kind.TheVariants.{Blob};
 ghost use Rattle.vc_refs.specs.Head.{IsHeadInRefs, IsLegalHead};
-ghost use Rattle.vc_node.specs.Blames.{BlamesWrite, BlamesAdd, BlamesBranch, BlamesPut, BlamesHead, BlamesLoad, BlamesRemoved, MayLoad, MayStage, MayHead, TellsDamage};
-ghost use Rattle.vc_node.specs.Clean.{KeepsClean};
+ghost use Rattle.vc_node.specs.Blames.{BlamesPacking, BlamesWrite, BlamesAdd, BlamesBranch, BlamesPut, BlamesHead, BlamesLoad, BlamesRemoved, MayLoad, MayStage, MayHead, TellsDamage};
+ghost use Rattle.vc_node.specs.Clean.{IsClean, KeepsClean, KeepsCleanBut};
 ghost use Rattle.vc_node.specs.GoodCommit.{IsGoodBeyondRefs};
 ghost use Rattle.vc_node.specs.IndexFile.{SpellsIndex, BlamesIndex};
 ghost use Rattle.vc_node.specs.NodeFault.{is_fault, TellsDevice};
-ghost use Rattle.vc_node.specs.Reads.{IsAtName, IsBelow, IsReached, IsReachedByHead, NoneRead, TellsRead};
+ghost use Rattle.vc_node.specs.Reads.{IsAtName, IsBelow, IsItsFile, IsReached, IsReachedByHead, NoneRead, TellsRead};
 ghost use Rattle.vc_node.specs.Shown.{IsLoaded, shown, with_objects_shown, with_refs_shown, with_head_shown, with_index_shown};
 
 use crate::NodeFault;
@@ -189,7 +189,7 @@ pub(crate) fn set_branch<F: Files>(
     Ok(())
 }
 
-/// Removes a ref, whatever it is.
+/// Removes a ref, whatever it is. Where it ends early, a line of the packed file may be gone, and each ref is as before.
 pub(crate) fn remove_ref<F: Files>(
     alloc: Global,
     files: &mut F,
@@ -198,12 +198,23 @@ pub(crate) fn remove_ref<F: Files>(
     requires { IsInRefs name.now }
     ensures removed { F.honest → OnOk result (shown (F.content files.new) ≡ with_refs_shown (shown (F.content files.old)) (without_ref (refs (F.content files.old)) name.now)) }
     ensures refused { F.honest → IfErr result (BlamesRemoved (F.content files.old)) }
-    ensures err { F.honest → OnErr result (F.content files.new ≡ F.content files.old) }
-    ensures clean { F.honest → OnOk result (KeepsClean (F.content files.old) (F.content files.new)) }
-    ensures file { F.honest → IfErr result (TellsRead NoneRead (λ path. path ≡ name.now)) }
+    ensures err { F.honest → OnErr result (shown (F.content files.new) ≡ shown (F.content files.old)) }
+    ensures clean { F.honest → KeepsCleanBut name.now (F.content files.old) (F.content files.new) }
+    ensures file { F.honest → IfErr result (TellsRead NoneRead (IsItsFile name.now)) }
     ensures wear { Writes F.honest F.content F.failed F.can_fail F.left files.old files.new (TellsDevice result) }
 {
     let current = vc_refs::get(files, alloc, name)?;
     vc_refs::remove(files, alloc, name, current)?;
+    Ok(())
+}
+
+/// Puts all refs into the packed file. Nothing that is shown changes, wherever it stops.
+pub(crate) fn pack_refs<F: Files>(alloc: Global, files: &mut F) -> Result<(), NodeFault>
+    ensures kept { F.honest → shown (F.content files.new) ≡ shown (F.content files.old) }
+    ensures refused { F.honest → IfErr result (BlamesPacking (F.content files.old)) }
+    ensures clean { F.honest → IsClean (F.content files.old) → IsClean (F.content files.new) }
+    ensures wear { Writes F.honest F.content F.failed F.can_fail F.left files.old files.new (TellsDevice result) }
+{
+    vc_refs::pack(files, alloc)?;
     Ok(())
 }

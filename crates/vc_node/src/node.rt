@@ -17,7 +17,7 @@ ghost use Rattle.vc_model.specs.Clone.Task.{StartFetch, StartPush};
 ghost use Rattle.vc_model.specs.CloneCall.CloneCall.{Asks, Command, Open, Receive};
 ghost use Rattle.vc_model.specs.Message.{Message as Sent};
 ghost use Rattle.vc_model.specs.Object.{zero_id};
-ghost use Rattle.vc_model.specs.Question.Question.{Resolve, Unread};
+ghost use Rattle.vc_model.specs.Question.Question.{PackRefs, Resolve, Unread};
 ghost use Rattle.vc_push.specs.ReportView.{report_text};
 ghost use Rattle.vc_repository.specs.Resolving.{DenotesIn};
 ghost use Rattle.vc_rev.specs.Grammar.{IsExpr};
@@ -26,10 +26,10 @@ ghost use Rattle.vc_node.specs.Awaited.{nothing};
 ghost use Rattle.vc_node.specs.CloneCalls.{AnswersClone, FoundAs, MayOr, ReceivedAs, RestartedAs, SentAs};
 ghost use Rattle.vc_node.specs.CloneFaults.{TellsDevice as CloneTellsDevice, is_fault as is_clone_fault, of_device, up_after as clone_up_after};
 ghost use Rattle.vc_node.specs.Receipts.{IsOfMessage, IsRefusedBytes, IsRefusedMessage, IsRefusedStart, IsRefusedValue};
-ghost use Rattle.vc_node.specs.Blames.{BlamesLoad, BlamesOpen, BlamesWrite, IsLocalHead};
+ghost use Rattle.vc_node.specs.Blames.{BlamesLoad, BlamesOpen, BlamesPacking, BlamesWrite, IsLocalHead};
 ghost use Rattle.vc_files.specs.FileMap.{SameOutside};
 ghost use Rattle.vc_index.specs.IndexMap.{IndexMap};
-ghost use Rattle.vc_node.specs.Clean.{KeepsClean};
+ghost use Rattle.vc_node.specs.Clean.{IsClean, KeepsClean, KeepsCleanBut};
 ghost use Rattle.vc_node.specs.Commit.{IsCommitted};
 ghost use Rattle.vc_node.specs.IndexFile.{BlamesIndex, SpellsIndex};
 ghost use Rattle.vc_rules.specs.Git.{machine_object, mode_number};
@@ -37,7 +37,7 @@ ghost use Rattle.vc_node.specs.Machine.{Answers, AnswersIfSound, AnswersShown, A
 ghost use Rattle.vc_files.specs.Failures.{Wears, Writes};
 ghost use Rattle.vc_node.specs.NodeFault.{is_fault, IsOfDevice, TellsDevice};
 ghost use Rattle.vc_node.specs.Opening.{IsOpenable, opened_node};
-ghost use Rattle.vc_node.specs.Reads.{IsAtHead, IsAtName, IsBelow, IsOfCommit, IsReached, IsReachedByHead, NoneRead, TellsRead};
+ghost use Rattle.vc_node.specs.Reads.{IsAtHead, IsAtName, IsBelow, IsItsFile, IsOfCommit, IsReached, IsReachedByHead, NoneRead, TellsRead};
 ghost use Rattle.vc_node.specs.Shown.{IsLoaded, IsReady, shown};
 ghost use Rattle.vc_node.specs.Staging.{BlamesStaging, StagesAllOr, StagesHeld, StagesShown, placed};
 
@@ -297,11 +297,11 @@ impl<F: Files> CloneNode<F> {
         ensures answers { F.honest → Answers (DeleteBranch branch.now) (done_answer result) self.old.is_up self.new.is_up (F.content self.old.files) (F.content self.new.files) }
         ensures bad_file { F.honest → OrBadFile (F.content self.old.files) result (AnswersShown (DeleteBranch branch.now) (done_answer result) self.old.is_up self.new.is_up (shown (F.content self.old.files)) (shown (F.content self.new.files))) }
         ensures down { self.old.is_up ≡ false → result ≡ Err NodeFault.Down }
-        ensures err { F.honest → OnErr result (F.content self.new.files ≡ F.content self.old.files) }
+        ensures err { F.honest → OnErr result (shown (F.content self.new.files) ≡ shown (F.content self.old.files)) }
         ensures up { self.old.is_up ≡ true → self.new.is_up ≡ up_after result }
         ensures awaits { self.new.awaited ≡ self.old.awaited }
-        ensures clean { F.honest → KeepsClean (F.content self.old.files) (F.content self.new.files) }
-        ensures file { F.honest → IfErr result (TellsRead NoneRead (λ path. path ≡ branch.now)) }
+        ensures clean { F.honest → KeepsCleanBut branch.now (F.content self.old.files) (F.content self.new.files) }
+        ensures file { F.honest → IfErr result (TellsRead NoneRead (IsItsFile branch.now)) }
         ensures wear { Writes F.honest F.content F.failed F.can_fail F.left self.old.files self.new.files (TellsDevice result) }
         ensures looks { F.honest → MayWriteOr (DeleteBranch branch.now) self.old.is_up (F.content self.old.files) (Wears F.failed F.can_fail F.left self.old.files self.new.files (TellsDevice result)) }
     {
@@ -563,6 +563,28 @@ impl<F: Files> CloneNode<F> {
             report,
         );
         self.settle(received)
+    }
+
+    /// Puts all refs into one file. Nothing else is written, and no ref changes, wherever it stops. 33 where one of their files
+    /// can't be read.
+    pub fn pack_refs(&mut self) -> Result<(), NodeFault>
+        ensures answers { F.honest → AnswersClone (Asks PackRefs) (RestartedAs result) (F.content self.old.files) (F.content self.new.files) self.old.awaited self.new.awaited self.old.is_up self.new.is_up }
+        ensures kept { F.honest → shown (F.content self.new.files) ≡ shown (F.content self.old.files) }
+        ensures refused { F.honest → IfErr result (λ e. (e ≡ NodeFault.Down) ⊎ BlamesPacking (F.content self.old.files) e) }
+        ensures down { self.old.is_up ≡ false → result ≡ Err NodeFault.Down }
+        ensures up { self.old.is_up ≡ true → self.new.is_up ≡ up_after result }
+        ensures awaits { self.new.awaited ≡ self.old.awaited }
+        ensures clean { F.honest → IsClean (F.content self.old.files) → IsClean (F.content self.new.files) }
+        ensures wear { Writes F.honest F.content F.failed F.can_fail F.left self.old.files self.new.files (TellsDevice result) }
+        ensures looks { F.honest → MayOr (Asks PackRefs) self.old.awaited self.old.is_up (F.content self.old.files) (Wears F.failed F.can_fail F.left self.old.files self.new.files (TellsDevice result)) }
+    {
+        if !self.is_up {
+            return Err(NodeFault::Down);
+        }
+        match local::pack_refs(self.alloc, &mut self.files) {
+            Ok(()) => Ok(()),
+            Err(fault) => Err(self.fail(fault)),
+        }
     }
 
     /// The object that an expression names at the clone: 51 to 56 where it names none.

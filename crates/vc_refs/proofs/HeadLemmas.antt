@@ -8,7 +8,7 @@ use Rattle.std.proofs.lemmas.Bool.{and_parts, false_from_ne_true}
 use Rattle.std.proofs.lemmas.List.Elements.{All-head}
 use Rattle.hex.specs.Hex.{encode_lower, is_hex_digit}
 use Rattle.vc_files.specs.FileMap.{FileMap}
-use Rattle.vc_files.proofs.FileMapLemmas.{get-put, outside_same}
+use Rattle.vc_files.proofs.FileMapLemmas.{get-put}
 use Rattle.vc_object.specs.declared.id.ObjectId.{ObjectId}
 use Rattle.vc_object.specs.ObjectId.{is_id}
 use Rattle.vc_refname.specs.RefName.{is_ref_name}
@@ -17,10 +17,9 @@ use Rattle.vc_refs.specs.declared.heads.Head.TheVariants as head
 use Rattle.vc_refs.specs.declared.heads.HeadText.TheVariants.{Says, NamesHead, SaysNothing}
 use Rattle.vc_refs.specs.RefFile.{id_in, id_text, without_lf}
 use Rattle.vc_refs.specs.RefMap.{IsInRefs, is_ref}
-use Rattle.vc_refs.specs.Head.{read_head, name_said, id_said, said, head_of, head_text, IsHeadInRefs, IsLegalHead, KeepsTheRest}
-use Rattle.vc_refs.specs.Refs.{refs, ChangesOnly}
+use Rattle.vc_refs.specs.Head.{head_of, head_text, id_said, name_said, read_head, said, IsHeadInRefs, IsLegalHead}
+use Rattle.vc_refs.specs.Refs.{ChangesOnly}
 use Rattle.vc_refs.proofs.RefFileLemmas.{without_lf-line, id_in-id_text, digits_of}
-use Rattle.vc_refs.proofs.RefsLemmas.{only_put, only_unput, outside_from_only}
 use Rattle.vc_refs.proofs.WayLemmas.{split_from_starts}
 
 -- what a name says
@@ -87,22 +86,12 @@ pub head_of-put : (content : FileMap) (text : List ℕ) (h : Head) → read_head
 head_of-put content text h says =
     head_of-there (files.insert content (codes "HEAD") text) text (get-put content (codes "HEAD") text (codes "HEAD")) ∙ ap said says
 
--- a change at a ref keeps HEAD, and one of HEAD keeps the refs
+-- a change at a ref keeps HEAD
 pub head_of-kept : (path : List ℕ) (old new : FileMap) → IsInRefs path → ChangesOnly path old new → head_of new ≡ head_of old
 unfolding head_of
 head_of-kept path old new inside only =
     let other : bytes_eq (codes "HEAD") path ≡ false = ap (λ p. bytes_eq (codes "HEAD") p) (split_from_starts path (codes "refs/") inside) in
     ap (option_and_then (λ text. said (read_head text))) (only.at (codes "HEAD") other)
-
-kept_at : (old new : FileMap) → ChangesOnly (codes "HEAD") old new → (q : List ℕ) → refs new q ≡ refs old q
-unfolding refs
-kept_at old new only q = elim (is_ref q) as (λ b. is_ref q ≡ b → cond b (option_and_then id_in (files.get new q)) None ≡ cond b (option_and_then id_in (files.get old q)) None) [
-  | true ↦ λ legal. ap (option_and_then id_in) (only.at q (ref_is_not_head q (and_parts (is_ref_name q) (starts_with nat_eq q (codes "refs/")) legal).1))
-  | false ↦ λ _. refl
-] refl
-
-pub refs-kept_head : (old new : FileMap) → ChangesOnly (codes "HEAD") old new → refs new ≡ refs old
-refs-kept_head old new only i q = kept_at old new only q i
 
 -- a branch that HEAD names has a ref's name
 pub head_legal : (text : List ℕ) (h : Head) → read_head text ≡ Says h → IsLegalHead h
@@ -140,19 +129,3 @@ head_of-legal content h = by (files.get content (codes "HEAD"))
     by : (found : Option (List ℕ)) → option_and_then (λ text. said (read_head text)) found ≡ Some h → IsLegalHead h
     by None is = cc
     by (Some text) is = by_text text (read_head text) refl is
-
--- no change, a write and a removal keep the rest
-pub rest_same : (name : List ℕ) (content : FileMap) → KeepsTheRest name content content
-rest_same name content = record { only = record { at = λ q other. refl }; outside = outside_same (codes "refs/") content; head = refl }
-
-rest_of : (name : List ℕ) (old new : FileMap) → IsInRefs name → ChangesOnly name old new → KeepsTheRest name old new
-rest_of name old new inside only = record { only = only; outside = outside_from_only (codes "refs/") only inside; head = head_of-kept name old new inside only }
-
-pub rest_put : (content : FileMap) (name bytes : List ℕ) → IsInRefs name → KeepsTheRest name content (files.insert content name bytes)
-rest_put content name bytes inside = rest_of name content (files.insert content name bytes) inside (only_put content name bytes)
-
-pub rest_unput : (content : FileMap) (name : List ℕ) → IsInRefs name → KeepsTheRest name content (files.remove content name)
-rest_unput content name inside = rest_of name content (files.remove content name) inside (only_unput content name)
-
-pub rest_from_same : (name : List ℕ) (old new : FileMap) → new ≡ old → KeepsTheRest name old new
-rest_from_same name old new same = subst (λ (m : FileMap). KeepsTheRest name old m) (sym same) (rest_same name old)

@@ -1,5 +1,5 @@
 -- What a ref that is set or removed does to the layered refs.
-use Rattle.std.proofs.Common.{◌≡◌, ℕ, Bool, true, false, cond, ◌&&◌, ◌||◌, inl, inr, true≢false, nat_eq, List, Option, Some, None, sym, ap, refl, ◌∙◌, subst}
+use Rattle.std.proofs.Common.{◌≡◌, ℕ, Bool, true, false, cond, ◌||◌, inl, inr, true≢false, nat_eq, List, Option, Some, None, sym, ap, refl, ◌∙◌, subst}
 use Rattle.std.specs.Prelude.{bytes_eq, codes, is_none, is_some}
 use Rattle.std.specs.List.{starts_with}
 use Rattle.std.specs.FinMap.{get-remove, insert, remove}
@@ -11,28 +11,19 @@ use Rattle.std.proofs.lemmas.Slice.Eq.{bytes_eq-Decides}
 use Rattle.vc_files.specs.FileMap.{FileMap}
 use Rattle.vc_files.proofs.FileMapLemmas.{get-put}
 use Rattle.vc_object.specs.declared.id.ObjectId.{ObjectId}
-use Rattle.vc_refs.specs.Head.{head_of}
-use Rattle.vc_refs.specs.Layered.{packed_path, packed_map, packed_at, layered_refs, deciding_file, IsBadFile, IsFree, IsGoodPackedFile, IsUnpacked, KeepsTheOthers}
-use Rattle.vc_refs.specs.LayeredFault.{BlamesPacked, BlamesRemove, BlamesSet, BlamesWay}
+use Rattle.vc_refs.specs.Head.{KeepsTheRest}
+use Rattle.vc_refs.specs.Packing.{IsUnpacked, UnpacksOnly}
+use Rattle.vc_refs.specs.RefFault.{BlamesPacked, BlamesRemove, BlamesSet, BlamesWay}
+use Rattle.vc_refs.specs.Refs.{deciding_file, is_taken, loose_refs, packed_at, packed_map, packed_path, refs, ChangesOnly, IsBadLoose, IsBadRef, IsGoodPackedFile}
+use Rattle.vc_refs.specs.Way.{is_held, IsFree}
 use Rattle.vc_refs.specs.Packed.{PackedMap, packed_refs, packed_text}
 use Rattle.vc_refs.specs.RefMap.{RefMap, IsInRefs, conflicts, with_ref, without_ref}
-use Rattle.vc_refs.specs.Refs.{refs, is_taken, ChangesOnly, IsBadRef}
 use Rattle.vc_refs.specs.declared.faults.RefFault.{RefFault}
 use Rattle.vc_refs.specs.declared.faults.RefFault.TheVariants.{Stale, Conflict, BadRefFile, HeadLoop, Fault}
-use Rattle.vc_refs.proofs.LayeredLemmas.{good_loose, good_packed, good_packed_file, layered-loose, layered-packed, other_than_packed, packed_map-same, packed_map-there, packed_untaken, taken_from_value, taken_inside, untaken_from_none}
+use Rattle.vc_refs.proofs.HeadLemmas.{head_of-kept}
+use Rattle.vc_refs.proofs.LayeredLemmas.{good_loose, good_packed, good_packed_file, refs-loose, refs-packed, other_than_packed, packed_map-same, packed_map-there, packed_untaken, taken_from_value, taken_inside, taken_same, untaken_from_none, value_same}
 use Rattle.vc_refs.proofs.LayeredListingLemmas.{head_of-same}
-use Rattle.vc_refs.proofs.RefsLemmas.{refs-same}
-
--- what one file leaves alone at another path
-taken_same : (old new : FileMap) (q : List ℕ) → files.get new q ≡ files.get old q → is_taken new q ≡ is_taken old q
-taken_same old new q same = ap (λ o. starts_with nat_eq q (codes "refs/") && is_some o) same
-
-value_same : (old new : FileMap) (q : List ℕ) → files.get new q ≡ files.get old q → packed_at (packed_map new) q ≡ packed_at (packed_map old) q → layered_refs new q ≡ layered_refs old q
-value_same old new q file line = by (is_taken new q) refl
-  where
-    by : (b : Bool) → is_taken new q ≡ b → layered_refs new q ≡ layered_refs old q
-    by true taken = layered-loose new q taken ∙ refs-same old new q file ∙ sym (layered-loose old q (sym (taken_same old new q file) ∙ taken))
-    by false free = layered-packed new q free ∙ line ∙ sym (layered-packed old q (sym (taken_same old new q file) ∙ free))
+use Rattle.vc_refs.proofs.RefsLemmas.{loose-same}
 
 packed_other : (name : List ℕ) → IsInRefs name → bytes_eq packed_path name ≡ false
 packed_other name inside = false_from_ne_true _ (λ same.
@@ -51,43 +42,54 @@ with_other : (map : RefMap) (name : List ℕ) (id : ObjectId) (q : List ℕ) →
 unfolding with_ref
 with_other map name id q other = ap (λ b. cond b (Some id) (map q)) other
 
-set_at : (name : List ℕ) (id : ObjectId) (old new : FileMap) → IsInRefs name → refs new ≡ with_ref (refs old) name id → ChangesOnly name old new → (q : List ℕ) → layered_refs new q ≡ with_ref (layered_refs old) name id q
+set_at : (name : List ℕ) (id : ObjectId) (old new : FileMap) → IsInRefs name → loose_refs new ≡ with_ref (loose_refs old) name id → ChangesOnly name old new → (q : List ℕ) → refs new q ≡ with_ref (refs old) name id q
 set_at name id old new inside own only q = by (bytes_eq q name) refl
   where
-    by : (b : Bool) → bytes_eq q name ≡ b → layered_refs new q ≡ with_ref (layered_refs old) name id q
+    by : (b : Bool) → bytes_eq q name ≡ b → refs new q ≡ with_ref (refs old) name id q
     by true same =
-        let value : refs new q ≡ Some id = ap (λ (m : RefMap). m q) own ∙ with_here (refs old) name id q same in
-        layered-loose new q (taken_from_value new q id value) ∙ value ∙ sym (with_here (layered_refs old) name id q same)
+        let value : loose_refs new q ≡ Some id = ap (λ (m : RefMap). m q) own ∙ with_here (loose_refs old) name id q same in
+        refs-loose new q (taken_from_value new q id value) ∙ value ∙ sym (with_here (refs old) name id q same)
     by false other =
-        value_same old new q (only.at q other) (ap (λ m. packed_at m q) (packed_stays name old new inside only)) ∙ sym (with_other (layered_refs old) name id q other)
+        value_same old new q (only.at q other) (ap (λ m. packed_at m q) (packed_stays name old new inside only)) ∙ sym (with_other (refs old) name id q other)
 
-pub layered-set : (name : List ℕ) (id : ObjectId) (old new : FileMap) → IsInRefs name → refs new ≡ with_ref (refs old) name id → ChangesOnly name old new → layered_refs new ≡ with_ref (layered_refs old) name id
-layered-set name id old new inside own only i q = set_at name id old new inside own only q i
+pub refs-set : (name : List ℕ) (id : ObjectId) (old new : FileMap) → IsInRefs name → loose_refs new ≡ with_ref (loose_refs old) name id → ChangesOnly name old new → refs new ≡ with_ref (refs old) name id
+refs-set name id old new inside own only i q = set_at name id old new inside own only q i
 
 -- a file that is set is not bad
-pub set_good : (name : List ℕ) (id : ObjectId) (old new : FileMap) → IsInRefs name → refs new ≡ with_ref (refs old) name id → ChangesOnly name old new → (path : List ℕ) → IsBadFile new path → IsBadFile old path
+set_good : (name : List ℕ) (id : ObjectId) (old new : FileMap) → IsInRefs name → loose_refs new ≡ with_ref (loose_refs old) name id → ChangesOnly name old new → (path : List ℕ) → IsBadRef new path → IsBadRef old path
 set_good name id old new inside own only path (inr line) = inr (line.0, sym (packed_stays name old new inside only) ∙ line.1)
 set_good name id old new inside own only path (inl bad) = by (bytes_eq path name) refl
   where
     nothing : (o : Option ObjectId) → o ≡ None → o ≡ Some id → ⊥
     nothing o none some = cc
 
-    by : (b : Bool) → bytes_eq path name ≡ b → IsBadFile old path
-    by true same = absurd (nothing (refs new path) bad.none (ap (λ (m : RefMap). m path) own ∙ with_here (refs old) name id path same))
+    by : (b : Bool) → bytes_eq path name ≡ b → IsBadRef old path
+    by true same = absurd (nothing (loose_refs new path) bad.none (ap (λ (m : RefMap). m path) own ∙ with_here (loose_refs old) name id path same))
     by false other =
         let file = only.at path other in
-        inl (record { taken = sym (taken_same old new path file) ∙ bad.taken; none = sym (refs-same old new path file) ∙ bad.none })
+        inl (record { taken = sym (taken_same old new path file) ∙ bad.taken; none = sym (loose-same old new path file) ∙ bad.none })
 
-pub good_same : (old new : FileMap) → new ≡ old → (path : List ℕ) → IsBadFile new path → IsBadFile old path
-good_same old new same path bad = subst (λ (m : FileMap). IsBadFile m path) same bad
+not_inside : (name : List ℕ) → IsInRefs name → (path : List ℕ) → starts_with nat_eq path (codes "refs/") ≡ false → bytes_eq path name ≡ false
+not_inside name inside path outside = false_from_ne_true _ (λ same. true≢false (sym inside ∙ ap (λ n. starts_with nat_eq n (codes "refs/")) (sym ((bytes_eq-Decides path name).0 same)) ∙ outside))
 
--- where nothing is in the way, no ref of the map conflicts
-pub layered_free : (content : FileMap) (name : List ℕ) → IsFree content name → (q : List ℕ) → is_some (layered_refs content q) ≡ true → conflicts q name ≡ false
-layered_free content name free q there = false_from_ne_true _ (λ conflict. free.none q (record { held = by (is_taken content q) refl; conflict = conflict }))
+-- and all else is as it was
+pub rest_set : (name : List ℕ) (id : ObjectId) (old new : FileMap) → IsInRefs name → loose_refs new ≡ with_ref (loose_refs old) name id → ChangesOnly name old new → KeepsTheRest name old new
+rest_set name id old new inside own only = record {
+  only = λ path other beside. only.at path other;
+  outside = record { at = λ path outside beside. only.at path (not_inside name inside path outside); head = head_of-kept name old new inside only; good = set_good name id old new inside own only };
+}
+
+-- a ref that is there is held
+pub held_from_ref : (content : FileMap) (q : List ℕ) → is_some (refs content q) ≡ true → is_held content q ≡ true
+held_from_ref content q there = by (is_taken content q) refl
   where
     by : (b : Bool) → is_taken content q ≡ b → (is_taken content q || is_some (packed_at (packed_map content) q)) ≡ true
     by true taken = ap (λ b. b || is_some (packed_at (packed_map content) q)) taken
-    by false free = ap (λ b. b || is_some (packed_at (packed_map content) q)) free ∙ ap is_some (sym (layered-packed content q free)) ∙ there
+    by false free = ap (λ b. b || is_some (packed_at (packed_map content) q)) free ∙ ap is_some (sym (refs-packed content q free)) ∙ there
+
+-- where nothing is in the way, no ref of the map conflicts
+pub refs_free : (content : FileMap) (name : List ℕ) → IsFree content name → (q : List ℕ) → is_some (refs content q) ≡ true → conflicts q name ≡ false
+refs_free content name free q there = false_from_ne_true _ (λ conflict. free.none q (record { held = held_from_ref content q there; conflict = conflict }))
 
 pub set_blames_packed : (content : FileMap) (name : List ℕ) (expected : Option ObjectId) (e : RefFault) → BlamesPacked content e → BlamesSet content name expected e
 set_blames_packed content name expected (Stale current) h = absurd h
@@ -108,7 +110,7 @@ pub set_blames_value : (content : FileMap) (name : List ℕ) (expected : Option 
 set_blames_value content name expected free (Stale current) h = (free, h)
 set_blames_value content name expected free (Conflict other) h = absurd h
 set_blames_value content name expected free (BadRefFile path) (inl line) = inl line
-set_blames_value content name expected free (BadRefFile path) (inr own) = inr (own.0, subst (IsBadRef content) (sym own.1) own.2, inr (own.1, free))
+set_blames_value content name expected free (BadRefFile path) (inr own) = inr (own.0, subst (IsBadLoose content) (sym own.1) own.2, inr (own.1, free))
 set_blames_value content name expected free HeadLoop h = h
 set_blames_value content name expected free (Fault fault) h = tt
 
@@ -174,103 +176,110 @@ module _ (name : List ℕ) (old mid : FileMap) (inside : IsInRefs name) (change 
       by true same = ap (is_taken mid) ((bytes_eq-Decides q packed_path).0 same) ∙ packed_untaken mid ∙ sym (ap (is_taken old) ((bytes_eq-Decides q packed_path).0 same) ∙ packed_untaken old)
       by false other = taken_same old mid q (file_same q other)
 
-  own_stays : (q : List ℕ) → is_taken old q ≡ true → refs mid q ≡ refs old q
-  own_stays q taken = refs-same old mid q (file_same q (in_refs_other q taken))
+  own_stays : (q : List ℕ) → is_taken old q ≡ true → loose_refs mid q ≡ loose_refs old q
+  own_stays q taken = loose-same old mid q (file_same q (in_refs_other q taken))
 
   -- where the ref has a file of its own, all refs are as before
-  pub kept_by_file : is_taken old name ≡ true → layered_refs mid ≡ layered_refs old
+  pub kept_by_file : is_taken old name ≡ true → refs mid ≡ refs old
   kept_by_file own i q = at q i
     where
       free : (q : List ℕ) → is_taken old q ≡ false → bytes_eq q name ≡ false
       free q untaken = false_from_ne_true _ (λ same. true≢false (sym own ∙ ap (is_taken old) (sym ((bytes_eq-Decides q name).0 same)) ∙ untaken))
 
-      by : (q : List ℕ) (b : Bool) → is_taken old q ≡ b → layered_refs mid q ≡ layered_refs old q
-      by q true taken = layered-loose mid q (taken_stays q ∙ taken) ∙ own_stays q taken ∙ sym (layered-loose old q taken)
+      by : (q : List ℕ) (b : Bool) → is_taken old q ≡ b → refs mid q ≡ refs old q
+      by q true taken = refs-loose mid q (taken_stays q ∙ taken) ∙ own_stays q taken ∙ sym (refs-loose old q taken)
       by q false untaken =
-          layered-packed mid q (taken_stays q ∙ untaken) ∙ change.packed q ∙ without_other (packed_at (packed_map old)) name q (free q untaken) ∙ sym (layered-packed old q untaken)
+          refs-packed mid q (taken_stays q ∙ untaken) ∙ change.packed q ∙ without_other (packed_at (packed_map old)) name q (free q untaken) ∙ sym (refs-packed old q untaken)
 
-      at : (q : List ℕ) → layered_refs mid q ≡ layered_refs old q
+      at : (q : List ℕ) → refs mid q ≡ refs old q
       at q = by q (is_taken old q) refl
 
   -- where it has none, it is gone
-  pub gone_with_line : is_taken old name ≡ false → layered_refs mid ≡ without_ref (layered_refs old) name
+  pub gone_with_line : is_taken old name ≡ false → refs mid ≡ without_ref (refs old) name
   gone_with_line own i q = at q (bytes_eq q name) refl i
     where
-      by : (q : List ℕ) (b : Bool) → is_taken old q ≡ b → bytes_eq q name ≡ false → layered_refs mid q ≡ layered_refs old q
-      by q true taken other = layered-loose mid q (taken_stays q ∙ taken) ∙ own_stays q taken ∙ sym (layered-loose old q taken)
-      by q false untaken other = layered-packed mid q (taken_stays q ∙ untaken) ∙ change.packed q ∙ without_other (packed_at (packed_map old)) name q other ∙ sym (layered-packed old q untaken)
+      by : (q : List ℕ) (b : Bool) → is_taken old q ≡ b → bytes_eq q name ≡ false → refs mid q ≡ refs old q
+      by q true taken other = refs-loose mid q (taken_stays q ∙ taken) ∙ own_stays q taken ∙ sym (refs-loose old q taken)
+      by q false untaken other = refs-packed mid q (taken_stays q ∙ untaken) ∙ change.packed q ∙ without_other (packed_at (packed_map old)) name q other ∙ sym (refs-packed old q untaken)
 
-      at : (q : List ℕ) (b : Bool) → bytes_eq q name ≡ b → layered_refs mid q ≡ without_ref (layered_refs old) name q
+      at : (q : List ℕ) (b : Bool) → bytes_eq q name ≡ b → refs mid q ≡ without_ref (refs old) name q
       at q true same =
           let untaken : is_taken mid q ≡ false = taken_stays q ∙ ap (is_taken old) ((bytes_eq-Decides q name).0 same) ∙ own in
-          layered-packed mid q untaken ∙ change.packed q ∙ without_here (packed_at (packed_map old)) name q same ∙ sym (without_here (layered_refs old) name q same)
-      at q false other = by q (is_taken old q) refl other ∙ sym (without_other (layered_refs old) name q other)
+          refs-packed mid q untaken ∙ change.packed q ∙ without_here (packed_at (packed_map old)) name q same ∙ sym (without_here (refs old) name q same)
+      at q false other = by q (is_taken old q) refl other ∙ sym (without_other (refs old) name q other)
 
   -- its own file goes then
-  module _ (new : FileMap) (own : refs new ≡ without_ref (refs mid) name) (gone : IsBadRef new name → ⊥) (only : ChangesOnly name mid new) where
+  module _ (new : FileMap) (own : loose_refs new ≡ without_ref (loose_refs mid) name) (gone : IsBadLoose new name → ⊥) (only : ChangesOnly name mid new) where
     untaken_here : is_taken new name ≡ false
-    untaken_here = untaken_from_none new name (ap (λ (m : RefMap). m name) own ∙ without_here (refs mid) name name ((bytes_eq-Decides name name).1 refl)) gone
+    untaken_here = untaken_from_none new name (ap (λ (m : RefMap). m name) own ∙ without_here (loose_refs mid) name name ((bytes_eq-Decides name name).1 refl)) gone
 
     packed_new : packed_map new ≡ packed_map mid
     packed_new = packed_stays name mid new inside only
 
-    pub gone_with_file : is_taken old name ≡ true → layered_refs new ≡ without_ref (layered_refs old) name
+    pub gone_with_file : is_taken old name ≡ true → refs new ≡ without_ref (refs old) name
     gone_with_file taken i q = at q (bytes_eq q name) refl i
       where
-        at : (q : List ℕ) (b : Bool) → bytes_eq q name ≡ b → layered_refs new q ≡ without_ref (layered_refs old) name q
+        at : (q : List ℕ) (b : Bool) → bytes_eq q name ≡ b → refs new q ≡ without_ref (refs old) name q
         at q true same =
             let untaken : is_taken new q ≡ false = ap (is_taken new) ((bytes_eq-Decides q name).0 same) ∙ untaken_here in
-            layered-packed new q untaken ∙ ap (λ m. packed_at m q) packed_new ∙ change.packed q ∙ without_here (packed_at (packed_map old)) name q same ∙ sym (without_here (layered_refs old) name q same)
+            refs-packed new q untaken ∙ ap (λ m. packed_at m q) packed_new ∙ change.packed q ∙ without_here (packed_at (packed_map old)) name q same ∙ sym (without_here (refs old) name q same)
         at q false other =
-            value_same mid new q (only.at q other) (ap (λ m. packed_at m q) packed_new) ∙ ap (λ (m : RefMap). m q) (kept_by_file taken) ∙ sym (without_other (layered_refs old) name q other)
+            value_same mid new q (only.at q other) (ap (λ m. packed_at m q) packed_new) ∙ ap (λ (m : RefMap). m q) (kept_by_file taken) ∙ sym (without_other (refs old) name q other)
 
-    pub good_gone : IsBadFile new (deciding_file new name) → ⊥
+    pub good_gone : IsBadRef new (deciding_file new name) → ⊥
     good_gone = good_packed new name untaken_here (λ bad. change.good (sym packed_new ∙ bad))
 
-  pub good_unpacked : is_taken old name ≡ false → IsBadFile mid (deciding_file mid name) → ⊥
+  pub good_unpacked : is_taken old name ≡ false → IsBadRef mid (deciding_file mid name) → ⊥
   good_unpacked own = good_packed mid name (taken_stays name ∙ own) change.good
 
   -- all the others stay
-  good_mid : (path : List ℕ) → IsBadFile mid path → IsBadFile old path
+  good_mid : (path : List ℕ) → IsBadRef mid path → IsBadRef old path
   good_mid path (inl bad) =
       let taken : is_taken old path ≡ true = sym (taken_stays path) ∙ bad.taken in
       inl (record { taken = taken; none = sym (own_stays path taken) ∙ bad.none })
   good_mid path (inr line) = absurd (change.good line.1)
 
-  pub others_unpacked : KeepsTheOthers name old mid
-  others_unpacked = record {
+  pub rest_unpacked : KeepsTheRest name old mid
+  rest_unpacked = record {
     only = λ path own other. file_same path other;
-    outside = record { outside = λ path outside other. file_same path other; head = head_of-same old mid (file_same (codes "HEAD") refl); good = good_mid };
+    outside = record { at = λ path outside other. file_same path other; head = head_of-same old mid (file_same (codes "HEAD") refl); good = good_mid };
   }
 
-  pub others_gone : (new : FileMap) → ChangesOnly name mid new → head_of new ≡ head_of mid → (IsBadRef new name → ⊥) → KeepsTheOthers name old new
-  others_gone new only head gone = record {
+  -- and the packed file says of the others what it said
+  pub unpacks_line : UnpacksOnly name old mid
+  unpacks_line = record { at = λ q other. change.packed q ∙ without_other (packed_at (packed_map old)) name q other }
+
+  pub unpacks_gone : (new : FileMap) → ChangesOnly name mid new → UnpacksOnly name old new
+  unpacks_gone new only = record { at = λ q other. ap (λ m. packed_at m q) (packed_stays name mid new inside only) ∙ change.packed q ∙ without_other (packed_at (packed_map old)) name q other }
+
+  pub rest_gone : (new : FileMap) → ChangesOnly name mid new → (IsBadLoose new name → ⊥) → KeepsTheRest name old new
+  rest_gone new only gone = record {
     only = λ path own other. only.at path own ∙ file_same path other;
-    outside = record { outside = λ path outside other. only.at path (not_inside path outside) ∙ file_same path other; head = head ∙ head_of-same old mid (file_same (codes "HEAD") refl); good = good };
+    outside = record { at = λ path outside other. only.at path (not_inside name inside path outside) ∙ file_same path other; head = head_of-kept name mid new inside only ∙ head_of-same old mid (file_same (codes "HEAD") refl); good = good };
   }
     where
-      not_inside : (path : List ℕ) → starts_with nat_eq path (codes "refs/") ≡ false → bytes_eq path name ≡ false
-      not_inside path outside = false_from_ne_true _ (λ same. true≢false (sym inside ∙ ap (λ n. starts_with nat_eq n (codes "refs/")) (sym ((bytes_eq-Decides path name).0 same)) ∙ outside))
-
-      good : (path : List ℕ) → IsBadFile new path → IsBadFile old path
+      good : (path : List ℕ) → IsBadRef new path → IsBadRef old path
       good path (inr line) = absurd (change.good (sym (packed_stays name mid new inside only) ∙ line.1))
       good path (inl bad) = by (bytes_eq path name) refl
         where
-          by : (b : Bool) → bytes_eq path name ≡ b → IsBadFile old path
-          by true same = absurd (gone (subst (IsBadRef new) ((bytes_eq-Decides path name).0 same) bad))
+          by : (b : Bool) → bytes_eq path name ≡ b → IsBadRef old path
+          by true same = absurd (gone (subst (IsBadLoose new) ((bytes_eq-Decides path name).0 same) bad))
           by false other =
               let file = only.at path other in
-              good_mid path (inl (record { taken = sym (taken_same mid new path file) ∙ bad.taken; none = sym (refs-same mid new path file) ∙ bad.none }))
+              good_mid path (inl (record { taken = sym (taken_same mid new path file) ∙ bad.taken; none = sym (loose-same mid new path file) ∙ bad.none }))
 
-pub others_same : (name : List ℕ) (old new : FileMap) → new ≡ old → KeepsTheOthers name old new
-others_same name old new same = subst (λ (m : FileMap). KeepsTheOthers name old m) (sym same) (record {
+pub rest_same : (name : List ℕ) (old new : FileMap) → new ≡ old → KeepsTheRest name old new
+rest_same name old new same = subst (λ (m : FileMap). KeepsTheRest name old m) (sym same) (record {
   only = λ path own other. refl;
-  outside = record { outside = λ path outside other. refl; head = refl; good = λ path bad. bad };
+  outside = record { at = λ path outside other. refl; head = refl; good = λ path bad. bad };
 })
 
-pub good_allowed : (content : FileMap) (name : List ℕ) → IsGoodPackedFile content → (IsBadRef content name → ⊥) → IsBadFile content (deciding_file content name) → ⊥
+pub unpacks_same : (name : List ℕ) (old new : FileMap) → new ≡ old → UnpacksOnly name old new
+unpacks_same name old new same = subst (λ (m : FileMap). UnpacksOnly name old m) (sym same) (record { at = λ q other. refl })
+
+pub good_allowed : (content : FileMap) (name : List ℕ) → IsGoodPackedFile content → (IsBadLoose content name → ⊥) → IsBadRef content (deciding_file content name) → ⊥
 good_allowed content name line own = by (is_taken content name) refl
   where
-    by : (b : Bool) → is_taken content name ≡ b → IsBadFile content (deciding_file content name) → ⊥
+    by : (b : Bool) → is_taken content name ≡ b → IsBadRef content (deciding_file content name) → ⊥
     by true taken = good_loose content name taken own
     by false free = good_packed content name free line

@@ -17,20 +17,20 @@ use Rattle.std.proofs.lemmas.Slice.Eq.{bytes_eq-Decides}
 use Rattle.vc_files.specs.FileMap.{FileMap, paths_under}
 use Rattle.vc_files.proofs.FileMapLemmas.{get-put, get-unput}
 use Rattle.vc_object.specs.declared.id.ObjectId.{ObjectId}
-use Rattle.vc_refs.specs.Head.{head_of, read_head, said}
-use Rattle.vc_refs.specs.Layered.{packed_path, packed_map, packed_at, layered_refs, is_one_of, with_loose, AreGone, HasLoose, HasNoLoose, IsBadFile, IsFirstBadFile, IsGoodPackedFile, IsMapOf, IsPackedFrom, KeepsOutside, LosesSome, SpellsRefs}
-use Rattle.vc_refs.specs.LayeredFault.{BlamesList, BlamesPacked}
+use Rattle.vc_refs.specs.Head.{head_of, read_head, said, KeepsOutside}
+use Rattle.vc_refs.specs.LooseFault as loose
+use Rattle.vc_refs.specs.Packing.{is_one_of, with_loose, AreGone, HasLoose, HasNoLoose, IsMapOf, IsPackedFrom, LosesSome}
+use Rattle.vc_refs.specs.RefFault.{BlamesList, BlamesPacked, BlamesRef, IsFirstBadRef}
+use Rattle.vc_refs.specs.Refs.{deciding_file, is_taken, loose_refs, packed_at, packed_map, packed_path, refs, IsBadLoose, IsBadRef, IsGoodPackedFile, SpellsRefs}
 use Rattle.vc_refs.specs.Packed.{PackedMap, packed_refs, packed_text}
-use Rattle.vc_refs.specs.RefFault as loose
 use Rattle.vc_refs.specs.RefMap.{IsListOf}
-use Rattle.vc_refs.specs.Refs.{refs, is_taken}
 use Rattle.vc_refs.specs.declared.faults.RefFault.{RefFault}
 use Rattle.vc_refs.specs.declared.faults.RefFault.TheVariants.{Stale, Conflict, BadRefFile, HeadLoop, Fault}
-use Rattle.vc_refs.proofs.LayeredLemmas.{good_packed_file, layered-loose, layered-packed, packed_map-there, packed_untaken, taken_inside}
+use Rattle.vc_refs.proofs.LayeredLemmas.{decides-loose, good_packed_file, refs-loose, refs-packed, packed_map-there, packed_untaken, taken_inside}
 use Rattle.vc_refs.proofs.ListingLemmas.{AllGood, spells_refs}
 use Rattle.vc_refs.proofs.PackedLemmas.{of_T}
 use Rattle.vc_refs.proofs.PathLemmas.{is_among-paths_under, same_path, head_among, not_above_itself}
-use Rattle.vc_refs.proofs.RefsLemmas.{bad_from_none, refs-same}
+use Rattle.vc_refs.proofs.RefsLemmas.{bad_from_none, loose-same}
 use Rattle.vc_refs.proofs.WayLemmas.{split_from_starts}
 
 abbrev by_bytes : List ℕ → List ℕ → Ordering
@@ -39,7 +39,7 @@ by_bytes = slice_cmp nat_cmp
 -- ---- all refs in one map
 -- the packed refs, and over them the loose ones of these paths
 pub record IsMerged (content : FileMap) (paths : List (List ℕ)) (packed : PackedMap) : Type 0 where
-  pub at : (q : List ℕ) → files.get packed q ≡ option_or (cond (is_one_of q paths) (refs content q) None) (packed_at (packed_map content) q)
+  pub at : (q : List ℕ) → files.get packed q ≡ option_or (cond (is_one_of q paths) (loose_refs content q) None) (packed_at (packed_map content) q)
 
 pub none_merged : (content : FileMap) (packed : PackedMap) → packed_map content ≡ Some packed → IsMerged content [] packed
 none_merged content packed read = record { at = λ q. ap (λ m. packed_at m q) (sym read) }
@@ -61,7 +61,7 @@ or_true false = refl
 
 module _ (content : FileMap) (paths : List (List ℕ)) (p : List ℕ) (packed : PackedMap) (so_far : IsMerged content paths packed) where
   abbrev Goal : (q : List ℕ) → PackedMap → Type 0
-  Goal q m = files.get m q ≡ option_or (cond (is_one_of q (paths ++ p ∷ [])) (refs content q) None) (packed_at (packed_map content) q)
+  Goal q m = files.get m q ≡ option_or (cond (is_one_of q (paths ++ p ∷ [])) (loose_refs content q) None) (packed_at (packed_map content) q)
 
   told : (q : List ℕ) (b : Bool) → eq_by_cmp by_bytes q p ≡ b → is_one_of q (paths ++ p ∷ []) ≡ (is_one_of q paths || b)
   told q b is = one_of_more q p paths ∙ ap (λ c. is_one_of q paths || c) (or_nothing (eq_by_cmp by_bytes q p) ∙ is)
@@ -70,47 +70,69 @@ module _ (content : FileMap) (paths : List (List ℕ)) (p : List ℕ) (packed : 
   elsewhere q other = told q false other ∙ or_nothing (is_one_of q paths)
 
   as_before : (q : List ℕ) → eq_by_cmp by_bytes q p ≡ false → Goal q packed
-  as_before q other = so_far.at q ∙ ap (λ b. option_or (cond b (refs content q) None) (packed_at (packed_map content) q)) (sym (elsewhere q other))
+  as_before q other = so_far.at q ∙ ap (λ b. option_or (cond b (loose_refs content q) None) (packed_at (packed_map content) q)) (sym (elsewhere q other))
 
-  none_here : (q : List ℕ) → refs content q ≡ None → Goal q packed
+  none_here : (q : List ℕ) → loose_refs content q ≡ None → Goal q packed
   none_here q none =
       so_far.at q ∙ ap (λ o. option_or (cond (is_one_of q paths) o None) (packed_at (packed_map content) q)) none
       ∙ ap (λ o. option_or o (packed_at (packed_map content) q)) (either_none (is_one_of q paths) ∙ sym (either_none (is_one_of q (paths ++ p ∷ []))))
       ∙ ap (λ o. option_or (cond (is_one_of q (paths ++ p ∷ [])) o None) (packed_at (packed_map content) q)) (sym none)
 
-  some_here : (q : List ℕ) (id : ObjectId) → refs content p ≡ Some id → (b : Bool) → eq_by_cmp by_bytes q p ≡ b → cond b (Some id) (files.get packed q) ≡ option_or (cond (is_one_of q (paths ++ p ∷ [])) (refs content q) None) (packed_at (packed_map content) q)
+  some_here : (q : List ℕ) (id : ObjectId) → loose_refs content p ≡ Some id → (b : Bool) → eq_by_cmp by_bytes q p ≡ b → cond b (Some id) (files.get packed q) ≡ option_or (cond (is_one_of q (paths ++ p ∷ [])) (loose_refs content q) None) (packed_at (packed_map content) q)
   some_here q id is true same =
-      ap (λ o. option_or o (packed_at (packed_map content) q)) (sym (ap (refs content) (same_path q p same) ∙ is))
-      ∙ ap (λ b. option_or (cond b (refs content q) None) (packed_at (packed_map content) q)) (sym (told q true same ∙ or_true (is_one_of q paths)))
+      ap (λ o. option_or o (packed_at (packed_map content) q)) (sym (ap (loose_refs content) (same_path q p same) ∙ is))
+      ∙ ap (λ b. option_or (cond b (loose_refs content q) None) (packed_at (packed_map content) q)) (sym (told q true same ∙ or_true (is_one_of q paths)))
   some_here q id is false other = as_before q other
 
-  by_value : (o : Option ObjectId) → refs content p ≡ o → (q : List ℕ) → Goal q (with_loose packed p o)
+  by_value : (o : Option ObjectId) → loose_refs content p ≡ o → (q : List ℕ) → Goal q (with_loose packed p o)
   by_value None is q = elim (eq_by_cmp by_bytes q p) as (λ b. eq_by_cmp by_bytes q p ≡ b → Goal q packed) [
-    | true ↦ λ same. none_here q (ap (refs content) (same_path q p same) ∙ is)
+    | true ↦ λ same. none_here q (ap (loose_refs content) (same_path q p same) ∙ is)
     | false ↦ λ other. as_before q other
   ] refl
   by_value (Some id) is q = get-insert nat_list_cmp_total packed p id q ∙ some_here q id is (eq_by_cmp by_bytes q p) refl
 
   -- one path more
-  pub one_merged : (new : PackedMap) → new ≡ with_loose packed p (refs content p) → IsMerged content (paths ++ p ∷ []) new
-  one_merged new is = record { at = λ q. ap (λ (m : PackedMap). files.get m q) is ∙ by_value (refs content p) refl q }
+  pub one_merged : (new : PackedMap) → new ≡ with_loose packed p (loose_refs content p) → IsMerged content (paths ++ p ∷ []) new
+  one_merged new is = record { at = λ q. ap (λ (m : PackedMap). files.get m q) is ∙ by_value (loose_refs content p) refl q }
 
 -- all paths
-pub all_merged : (content : FileMap) (packed : PackedMap) → AllGood content (paths_under content (codes "refs/")) → IsMerged content (paths_under content (codes "refs/")) packed → IsMapOf (layered_refs content) packed
+pub all_merged : (content : FileMap) (packed : PackedMap) → AllGood content (paths_under content (codes "refs/")) → IsMerged content (paths_under content (codes "refs/")) packed → IsMapOf (refs content) packed
 all_merged content packed good so_far q =
-    so_far.at q ∙ ap (λ b. option_or (cond b (refs content q) None) (packed_at (packed_map content) q)) (is_among-paths_under content (codes "refs/") q) ∙ by (is_taken content q) refl (refs content q) refl
+    so_far.at q ∙ ap (λ b. option_or (cond b (loose_refs content q) None) (packed_at (packed_map content) q)) (is_among-paths_under content (codes "refs/") q) ∙ by (is_taken content q) refl (loose_refs content q) refl
   where
-    by : (b : Bool) → is_taken content q ≡ b → (o : Option ObjectId) → refs content q ≡ o → option_or (cond b o None) (packed_at (packed_map content) q) ≡ layered_refs content q
-    by true taken (Some id) is = sym (layered-loose content q taken ∙ is)
+    by : (b : Bool) → is_taken content q ≡ b → (o : Option ObjectId) → loose_refs content q ≡ o → option_or (cond b o None) (packed_at (packed_map content) q) ≡ refs content q
+    by true taken (Some id) is = sym (refs-loose content q taken ∙ is)
     by true taken None is = absurd (spells_refs content good q (bad_from_none content q taken is))
-    by false free o is = sym (layered-packed content q free)
+    by false free o is = sym (refs-packed content q free)
 
 pub all_spelled : (content : FileMap) → IsGoodPackedFile content → AllGood content (paths_under content (codes "refs/")) → SpellsRefs content
 all_spelled content packed good path (inl own) = spells_refs content good path own
 all_spelled content packed good path (inr line) = packed line.1
 
-pub listed_map : (content : FileMap) (packed : PackedMap) → IsMapOf (layered_refs content) packed → IsListOf (layered_refs content) (entries packed)
+pub listed_map : (content : FileMap) (packed : PackedMap) → IsMapOf (refs content) packed → IsListOf (refs content) (entries packed)
 listed_map content packed all = record { sorted = of_T _ (entries_sorted packed); each = λ q. sym (get-entries packed q) ∙ all q }
+
+-- ---- a path that was listed
+pub listed_there : (content : FileMap) (front : List (List ℕ)) (path : List ℕ) (back : List (List ℕ)) → paths_under content (codes "refs/") ≡ front ++ path ∷ back → is_taken content path ≡ true
+listed_there content front path back listed =
+    sym (is_among-paths_under content (codes "refs/") path) ∙ ap (is_one_of path) listed ∙ list_any-append (eq_by_cmp by_bytes path) front (path ∷ back)
+    ∙ ap (λ b. is_one_of path front || b) (head_among path back) ∙ or_true (is_one_of path front)
+
+-- its own file decides
+pub listed_good : (content : FileMap) (name : List ℕ) → is_taken content name ≡ true → (IsBadRef content (deciding_file content name) → ⊥) → IsBadLoose content name → ⊥
+listed_good content name taken good bad = good (subst (IsBadRef content) (sym (decides-loose content name taken)) (inl bad))
+
+pub listed_blames : (content : FileMap) (name : List ℕ) → is_taken content name ≡ true → (e : RefFault) → BlamesRef content name e → loose.BlamesPath content name e
+listed_blames content name taken (Stale current) h = h
+listed_blames content name taken (Conflict other) h = h
+listed_blames content name taken (BadRefFile path) h =
+    let at : string_bytes path ≡ name = h.0 ∙ decides-loose content name taken in
+    (at, elim h.1 [
+      | inl own ↦ ap (loose_refs content) (sym at) ∙ own.none
+      | inr line ↦ absurd (true≢false (sym taken ∙ ap (is_taken content) (sym at ∙ line.0) ∙ packed_untaken content))
+    ])
+listed_blames content name taken HeadLoop h = h
+listed_blames content name taken (Fault fault) h = tt
 
 -- ---- the first bad file
 packed_first : (q : List ℕ) → starts_with nat_eq q (codes "refs/") ≡ true → by_bytes packed_path q ≢ Greater
@@ -119,9 +141,9 @@ packed_first q inside = subst (λ n. by_bytes packed_path n ≢ Greater) (sym (s
 pub list_blames_packed : (content : FileMap) (e : RefFault) → BlamesPacked content e → BlamesList content e
 list_blames_packed content (Stale current) h = h
 list_blames_packed content (Conflict other) h = h
-list_blames_packed content (BadRefFile path) h = subst (IsFirstBadFile content) (sym h.0) (record { bad = inr (refl, h.1); first = first })
+list_blames_packed content (BadRefFile path) h = subst (IsFirstBadRef content) (sym h.0) (record { bad = inr (refl, h.1); first = first })
   where
-    first : (q : List ℕ) → IsBadFile content q → by_bytes packed_path q ≢ Greater
+    first : (q : List ℕ) → IsBadRef content q → by_bytes packed_path q ≢ Greater
     first q (inl own) = packed_first q (taken_inside content q own.taken)
     first q (inr line) = subst (λ n. by_bytes packed_path n ≢ Greater) (sym line.0) (not_above_itself packed_path)
 list_blames_packed content HeadLoop h = h
@@ -132,7 +154,7 @@ list_blames_loose content good (Stale current) h = h
 list_blames_loose content good (Conflict other) h = h
 list_blames_loose content good (BadRefFile path) h = record { bad = inl h.bad; first = first }
   where
-    first : (q : List ℕ) → IsBadFile content q → by_bytes (string_bytes path) q ≢ Greater
+    first : (q : List ℕ) → IsBadRef content q → by_bytes (string_bytes path) q ≢ Greater
     first q (inl own) = h.first q own
     first q (inr line) = absurd (good line.1)
 list_blames_loose content good HeadLoop h = h
@@ -180,10 +202,10 @@ unfolding head_of
 head_of-same old new same = ap (option_and_then (λ text. said (read_head text))) same
 
 pub keeps_same : (old new : FileMap) → new ≡ old → KeepsOutside old new
-keeps_same old new same = subst (λ (m : FileMap). KeepsOutside old m) (sym same) (record { outside = λ path outside other. refl; head = refl; good = λ path bad. bad })
+keeps_same old new same = subst (λ (m : FileMap). KeepsOutside old m) (sym same) (record { at = λ path outside other. refl; head = refl; good = λ path bad. bad })
 
 module _ (old : FileMap) (packed : PackedMap) (paths : List (List ℕ)) (new : FileMap)
-    (all : IsMapOf (layered_refs old) packed) (read : packed_refs (packed_text packed) ≡ Some packed) (listed : paths ≡ paths_under old (codes "refs/"))
+    (all : IsMapOf (refs old) packed) (read : packed_refs (packed_text packed) ≡ Some packed) (listed : paths ≡ paths_under old (codes "refs/"))
     (lost : LosesSome paths (insert old packed_path (packed_text packed)) new) where
   abbrev written : FileMap
   written = insert old packed_path (packed_text packed)
@@ -220,11 +242,11 @@ module _ (old : FileMap) (packed : PackedMap) (paths : List (List ℕ)) (new : F
       let parts = and_parts (starts_with nat_eq q (codes "refs/")) (is_some (files.get new q)) taken in
       and_from (starts_with nat_eq q (codes "refs/")) (is_some (files.get old q)) parts.0 (ap is_some (sym (there_before q taken)) ∙ parts.1)
 
-  value_kept : (q : List ℕ) (b : Bool) → is_taken new q ≡ b → layered_refs new q ≡ layered_refs old q
-  value_kept q true taken = layered-loose new q taken ∙ refs-same old new q (there_before q taken) ∙ sym (layered-loose old q (taken_before q taken))
-  value_kept q false free = layered-packed new q free ∙ ap (λ m. packed_at m q) packed_again ∙ all q
+  value_kept : (q : List ℕ) (b : Bool) → is_taken new q ≡ b → refs new q ≡ refs old q
+  value_kept q true taken = refs-loose new q taken ∙ loose-same old new q (there_before q taken) ∙ sym (refs-loose old q (taken_before q taken))
+  value_kept q false free = refs-packed new q free ∙ ap (λ m. packed_at m q) packed_again ∙ all q
 
-  pub refs_kept : layered_refs new ≡ layered_refs old
+  pub refs_kept : refs new ≡ refs old
   refs_kept i q = value_kept q (is_taken new q) refl i
 
   outside_kept : (q : List ℕ) → starts_with nat_eq q (codes "refs/") ≡ false → bytes_eq q packed_path ≡ false → files.get new q ≡ files.get old q
@@ -233,12 +255,12 @@ module _ (old : FileMap) (packed : PackedMap) (paths : List (List ℕ)) (new : F
     | inr gone ↦ absurd (true≢false (sym (taken_inside old q (sym (listed_taken q) ∙ gone.0)) ∙ outside))
   ]
 
-  good_kept : (path : List ℕ) → IsBadFile new path → IsBadFile old path
-  good_kept path (inl own) = inl (record { taken = taken_before path own.taken; none = sym (refs-same old new path (there_before path own.taken)) ∙ own.none })
+  good_kept : (path : List ℕ) → IsBadRef new path → IsBadRef old path
+  good_kept path (inl own) = inl (record { taken = taken_before path own.taken; none = sym (loose-same old new path (there_before path own.taken)) ∙ own.none })
   good_kept path (inr line) = absurd (good_packed_file new packed packed_again line.1)
 
   pub rest_kept : KeepsOutside old new
-  rest_kept = record { outside = outside_kept; head = head_of-same old new (outside_kept (codes "HEAD") refl refl); good = good_kept }
+  rest_kept = record { at = outside_kept; head = head_of-same old new (outside_kept (codes "HEAD") refl refl); good = good_kept }
 
   pub all_packed : AreGone paths new → IsPackedFrom old new
   all_packed gone = record { loose = none; packed = inr (packed, all, packed_there) }

@@ -15,16 +15,16 @@ use Rattle.std.proofs.lemmas.Bool.Decides.{Decides-eqb}
 use Rattle.std.proofs.lemmas.Slice.Eq.{starts_is}
 use Rattle.vc_files.specs.FileMap.{FileMap}
 use Rattle.vc_object.specs.declared.id.ObjectId.{ObjectId}
-use Rattle.vc_refs.specs.Layered.{packed_map, packed_at, layered_refs, ComesFirst, IsBehindLoose, IsFirstInTheWay, IsFirstPackedInTheWay, IsFree, IsFreeOfPacked, IsInTheWay, IsPackedInTheWay}
-use Rattle.vc_refs.specs.LayeredFault.{BlamesWay}
+use Rattle.vc_refs.specs.LooseFault as loose_fault
+use Rattle.vc_refs.specs.LooseWay as loose
+use Rattle.vc_refs.specs.RefFault.{BlamesWay}
+use Rattle.vc_refs.specs.Refs.{is_taken, packed_at, packed_map, refs}
+use Rattle.vc_refs.specs.Way.{ComesFirst, IsBehindLoose, IsFirstInTheWay, IsFirstPackedInTheWay, IsFree, IsFreeOfPacked, IsInTheWay, IsPackedInTheWay}
 use Rattle.vc_refs.specs.Packed.{PackedMap, PackedRef}
-use Rattle.vc_refs.specs.RefFault as loose_fault
 use Rattle.vc_refs.specs.RefMap.{conflicts, is_folder_of}
-use Rattle.vc_refs.specs.Refs.{is_taken}
-use Rattle.vc_refs.specs.Way as loose
 use Rattle.vc_refs.specs.declared.faults.RefFault.{RefFault}
 use Rattle.vc_refs.specs.declared.faults.RefFault.TheVariants.{Stale, Conflict, BadRefFile, HeadLoop, Fault}
-use Rattle.vc_refs.proofs.LayeredLemmas.{good_packed_file, layered-loose, layered-packed}
+use Rattle.vc_refs.proofs.LayeredLemmas.{good_packed_file, refs-loose, refs-packed}
 use Rattle.vc_refs.proofs.PackedLemmas.{of_T, same_name}
 use Rattle.vc_refs.proofs.RefsLemmas.{taken_from_ref}
 
@@ -209,8 +209,8 @@ module _ (content : FileMap) (packed : PackedMap) (name : List ℕ) (read : pack
       free : is_taken content other ≡ false
       free = false_from_ne_true _ (λ taken. not_below_itself other (before other (record { taken = taken; conflict = way.here.conflict })))
 
-      value : is_some (layered_refs content other) ≡ true
-      value = ap is_some (layered-packed content other free ∙ ap (λ m. packed_at m other) read) ∙ way.here.held
+      value : is_some (refs content other) ≡ true
+      value = ap is_some (refs-packed content other free ∙ ap (λ m. packed_at m other) read) ∙ way.here.held
 
   -- a loose file that comes first of those comes first of all
   first_of_all : IsBehindLoose content packed name → (p : List ℕ) → loose.IsFirstInTheWay content name p → IsFirstInTheWay content name p
@@ -224,7 +224,7 @@ module _ (content : FileMap) (packed : PackedMap) (name : List ℕ) (read : pack
 
   pub way_blames_loose : IsBehindLoose content packed name → (e : RefFault) → loose_fault.BlamesWay content name e → BlamesWay content name e
   way_blames_loose behind (Stale current) h = h
-  way_blames_loose behind (Conflict other) h = (good_packed_file content packed read, first_of_all behind other h.0, ap is_some (layered-loose content other (taken_from_ref content other h.1)) ∙ h.1)
+  way_blames_loose behind (Conflict other) h = (good_packed_file content packed read, first_of_all behind other h.0, ap is_some (refs-loose content other (taken_from_ref content other h.1)) ∙ h.1)
   way_blames_loose behind (BadRefFile path) h = inr (good_packed_file content packed read, h.0, first_of_all behind (string_bytes path) h.1)
   way_blames_loose behind HeadLoop h = h
   way_blames_loose behind (Fault fault) h = tt

@@ -6,6 +6,7 @@ pub mod HeadLemmas
 pub mod ListingLemmas
 pub mod PackedLemmas
 pub mod PackedTextLemmas
+pub mod PackedLaws
 pub mod LayeredLemmas
 pub mod LayeredWayLemmas
 pub mod LayeredListingLemmas

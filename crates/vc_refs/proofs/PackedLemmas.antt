@@ -237,7 +237,7 @@ same_id : (v w : ObjectId) → Some v ≡ Some w → v ≡ w
 same_id v w e = cc e
 
 -- what is found passes where all do
-all_found : (q : List ℕ) (v : ObjectId) (es : List PackedRef) → list_all may_be_packed es ≡ true → find by_bytes q es ≡ Some v → may_be_packed (q, v) ≡ true
+pub all_found : (q : List ℕ) (v : ObjectId) (es : List PackedRef) → list_all may_be_packed es ≡ true → find by_bytes q es ≡ Some v → may_be_packed (q, v) ≡ true
 all_found q v [] all is = absurd (nothing v is)
 all_found q v (e ∷ es) all is =
     let parts = and_parts (may_be_packed e) (list_all may_be_packed es) all in

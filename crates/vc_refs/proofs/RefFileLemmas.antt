@@ -26,7 +26,7 @@ id_from_hex t None value found =
     let told : IsSome {T = ObjectId} None = found.1 ((IsOk-decode_sized t 20).0 ok) in
     cc)
 
-all_bytes : (xs : List ℕ) → list_all (λ b. nat_lt b 256) xs ≡ true → (i : ℕ) → slice_index xs i < 256
+pub all_bytes : (xs : List ℕ) → list_all (λ b. nat_lt b 256) xs ≡ true → (i : ℕ) → slice_index xs i < 256
 all_bytes [] h i = lit< tt
 all_bytes (x ∷ xs) h zero = let p = (and_parts (nat_lt x 256) (list_all (λ b. nat_lt b 256) xs) h).0 in search rules
 all_bytes (x ∷ xs) h (suc i) = all_bytes xs (and_parts (nat_lt x 256) (list_all (λ b. nat_lt b 256) xs) h).1 i

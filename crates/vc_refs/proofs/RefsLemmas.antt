@@ -13,7 +13,7 @@ use Rattle.vc_refname.specs.RefName.{IsRefName, is_ref_name}
 use Rattle.vc_refname.proofs.BrokenRules.{is_ref_name-from_legal}
 use Rattle.vc_refs.specs.RefFile.{id_in, id_text}
 use Rattle.vc_refs.specs.RefMap.{RefMap, IsRefMap, IsInRefs, is_ref, is_folder_of, conflicts, entry_at, with_ref, without_ref}
-use Rattle.vc_refs.specs.Refs.{refs, is_taken, IsBadRef, ChangesOnly}
+use Rattle.vc_refs.specs.Refs.{is_taken, loose_refs, ChangesOnly, IsBadLoose}
 use Rattle.vc_refs.proofs.RefFileLemmas.{id_in-id_text}
 
 -- a legal name in `refs/` is a ref's
@@ -21,51 +21,51 @@ pub is_ref-from_legal : (name : List ℕ) → IsRefName name → IsInRefs name �
 is_ref-from_legal name legal inside = and_from (is_ref_name name) (starts_with nat_eq name (codes "refs/")) (is_ref_name-from_legal name legal) inside
 
 -- at a ref's name stands what its file says
-pub refs-at : (content : FileMap) (name : List ℕ) → is_ref name ≡ true → refs content name ≡ option_and_then id_in (files.get content name)
-unfolding refs
-refs-at content name legal = ap (λ b. cond b (option_and_then id_in (files.get content name)) None) legal
+pub loose-at : (content : FileMap) (name : List ℕ) → is_ref name ≡ true → loose_refs content name ≡ option_and_then id_in (files.get content name)
+unfolding loose_refs
+loose-at content name legal = ap (λ b. cond b (option_and_then id_in (files.get content name)) None) legal
 
 -- what stands at a name depends on its file alone
-pub refs-same : (old new : FileMap) (q : List ℕ) → files.get new q ≡ files.get old q → refs new q ≡ refs old q
-unfolding refs
-refs-same old new q same = ap (λ found. cond (is_ref q) (option_and_then id_in found) None) same
+pub loose-same : (old new : FileMap) (q : List ℕ) → files.get new q ≡ files.get old q → loose_refs new q ≡ loose_refs old q
+unfolding loose_refs
+loose-same old new q same = ap (λ found. cond (is_ref q) (option_and_then id_in found) None) same
 
 bytes_eq_same : (xs : List ℕ) → bytes_eq xs xs ≡ true
 bytes_eq_same xs = (bytes_eq-Decides xs xs).1 refl
 
 set_at : (content : FileMap) (name : List ℕ) (id : ObjectId) → is_ref name ≡ true → is_id id ≡ true
-    → (q : List ℕ) → refs (files.insert content name (id_text id)) q ≡ with_ref (refs content) name id q
+    → (q : List ℕ) → loose_refs (files.insert content name (id_text id)) q ≡ with_ref (loose_refs content) name id q
 unfolding with_ref
 set_at content name id legal valid q =
     let new : FileMap = files.insert content name (id_text id) in
-    elim (bytes_eq q name) as (λ b. bytes_eq q name ≡ b → refs new q ≡ cond b (Some id) (refs content q)) [
+    elim (bytes_eq q name) as (λ b. bytes_eq q name ≡ b → loose_refs new q ≡ cond b (Some id) (loose_refs content q)) [
       | true ↦ λ same.
-          ap (refs new) ((bytes_eq-Decides q name).0 same)
-          ∙ refs-at new name legal
+          ap (loose_refs new) ((bytes_eq-Decides q name).0 same)
+          ∙ loose-at new name legal
           ∙ ap (option_and_then id_in) (get-put content name (id_text id) name ∙ ap (λ b. cond b (Some (id_text id)) (files.get content name)) (bytes_eq_same name))
           ∙ id_in-id_text id valid
-      | false ↦ λ other. refs-same content new q (get-put content name (id_text id) q ∙ ap (λ b. cond b (Some (id_text id)) (files.get content q)) other)
+      | false ↦ λ other. loose-same content new q (get-put content name (id_text id) q ∙ ap (λ b. cond b (Some (id_text id)) (files.get content q)) other)
     ] refl
 
 -- a ref's file that is written sets the ref
-pub refs-put : (content : FileMap) (name : List ℕ) (id : ObjectId) → is_ref name ≡ true → is_id id ≡ true → refs (files.insert content name (id_text id)) ≡ with_ref (refs content) name id
-refs-put content name id legal valid i q = set_at content name id legal valid q i
+pub loose-put : (content : FileMap) (name : List ℕ) (id : ObjectId) → is_ref name ≡ true → is_id id ≡ true → loose_refs (files.insert content name (id_text id)) ≡ with_ref (loose_refs content) name id
+loose-put content name id legal valid i q = set_at content name id legal valid q i
 
-removed_at : (content : FileMap) (name : List ℕ) → is_ref name ≡ true → (q : List ℕ) → refs (files.remove content name) q ≡ without_ref (refs content) name q
+removed_at : (content : FileMap) (name : List ℕ) → is_ref name ≡ true → (q : List ℕ) → loose_refs (files.remove content name) q ≡ without_ref (loose_refs content) name q
 unfolding without_ref
 removed_at content name legal q =
     let new : FileMap = files.remove content name in
-    elim (bytes_eq q name) as (λ b. bytes_eq q name ≡ b → refs new q ≡ cond b None (refs content q)) [
+    elim (bytes_eq q name) as (λ b. bytes_eq q name ≡ b → loose_refs new q ≡ cond b None (loose_refs content q)) [
       | true ↦ λ same.
-          ap (refs new) ((bytes_eq-Decides q name).0 same)
-          ∙ refs-at new name legal
+          ap (loose_refs new) ((bytes_eq-Decides q name).0 same)
+          ∙ loose-at new name legal
           ∙ ap (option_and_then id_in) (get-unput content name name ∙ ap (λ b. cond b None (files.get content name)) (bytes_eq_same name))
-      | false ↦ λ other. refs-same content new q (get-unput content name q ∙ ap (λ b. cond b None (files.get content q)) other)
+      | false ↦ λ other. loose-same content new q (get-unput content name q ∙ ap (λ b. cond b None (files.get content q)) other)
     ] refl
 
 -- a ref's file that is removed removes the ref
-pub refs-unput : (content : FileMap) (name : List ℕ) → is_ref name ≡ true → refs (files.remove content name) ≡ without_ref (refs content) name
-refs-unput content name legal i q = removed_at content name legal q i
+pub loose-unput : (content : FileMap) (name : List ℕ) → is_ref name ≡ true → loose_refs (files.remove content name) ≡ without_ref (loose_refs content) name
+loose-unput content name legal i q = removed_at content name legal q i
 
 -- a write and a removal change one file
 pub only_put : (content : FileMap) (path bytes : List ℕ) → ChangesOnly path content (files.insert content path bytes)
@@ -83,9 +83,9 @@ outside_from_only {path = path} prefix only under = record {
 }
 
 -- a ref whose file is absent isn't there, and its file isn't bad
-pub refs-absent : (content : FileMap) (name : List ℕ) → files.get content name ≡ None → refs content name ≡ None
-unfolding refs
-refs-absent content name none = elim (is_ref name) as (λ b. cond b (option_and_then id_in (files.get content name)) None ≡ None) [
+pub loose-absent : (content : FileMap) (name : List ℕ) → files.get content name ≡ None → loose_refs content name ≡ None
+unfolding loose_refs
+loose-absent content name none = elim (is_ref name) as (λ b. cond b (option_and_then id_in (files.get content name)) None ≡ None) [
   | true ↦ ap (option_and_then id_in) none
   | false ↦ refl
 ]
@@ -93,34 +93,34 @@ refs-absent content name none = elim (is_ref name) as (λ b. cond b (option_and_
 pub get-unput_here : (content : FileMap) (name : List ℕ) → files.get (files.remove content name) name ≡ None
 get-unput_here content name = get-unput content name name ∙ ap (λ b. cond b None (files.get content name)) ((bytes_eq-Decides name name).1 refl)
 
-pub good_absent : (content : FileMap) (name : List ℕ) → files.get content name ≡ None → IsBadRef content name → ⊥
-good_absent content name none bad =
+pub loose_absent : (content : FileMap) (name : List ℕ) → files.get content name ≡ None → IsBadLoose content name → ⊥
+loose_absent content name none bad =
     let there : is_some (files.get content name) ≡ true = (and_parts (starts_with nat_eq name (codes "refs/")) (is_some (files.get content name)) bad.taken).1 in
     let absent : is_some (files.get content name) ≡ false = ap is_some none in
     cc
 
 -- what its file spells is the ref's value
-pub refs-there : (content : FileMap) (name text : List ℕ) → is_ref name ≡ true → files.get content name ≡ Some text → refs content name ≡ id_in text
-refs-there content name text legal there = refs-at content name legal ∙ ap (option_and_then id_in) there
+pub loose-there : (content : FileMap) (name text : List ℕ) → is_ref name ≡ true → files.get content name ≡ Some text → loose_refs content name ≡ id_in text
+loose-there content name text legal there = loose-at content name legal ∙ ap (option_and_then id_in) there
 
 -- one that has a value has a ref's name
-pub ref_legal : (content : FileMap) (name : List ℕ) (id : ObjectId) → refs content name ≡ Some id → is_ref name ≡ true
-unfolding refs
-ref_legal content name id = by (is_ref name) refl
+pub loose_legal : (content : FileMap) (name : List ℕ) (id : ObjectId) → loose_refs content name ≡ Some id → is_ref name ≡ true
+unfolding loose_refs
+loose_legal content name id = by (is_ref name) refl
   where
     by : (b : Bool) → is_ref name ≡ b → cond b (option_and_then id_in (files.get content name)) None ≡ Some id → is_ref name ≡ true
     by true e there = e
     by false e there = cc
 
 -- one that has a value isn't bad
-pub good_there : (content : FileMap) (name : List ℕ) (id : ObjectId) → refs content name ≡ Some id → IsBadRef content name → ⊥
-good_there content name id there bad = let none : refs content name ≡ None = bad.none in cc
+pub loose_good : (content : FileMap) (name : List ℕ) (id : ObjectId) → loose_refs content name ≡ Some id → IsBadLoose content name → ⊥
+loose_good content name id there bad = let none : loose_refs content name ≡ None = bad.none in cc
 
 -- a file that spells no id is bad
-pub bad_there : (content : FileMap) (name text : List ℕ) → is_ref name ≡ true → files.get content name ≡ Some text → id_in text ≡ None → IsBadRef content name
+pub bad_there : (content : FileMap) (name text : List ℕ) → is_ref name ≡ true → files.get content name ≡ Some text → id_in text ≡ None → IsBadLoose content name
 bad_there content name text legal there none = record {
   taken = and_from (starts_with nat_eq name (codes "refs/")) (is_some (files.get content name)) (and_parts (is_ref_name name) (starts_with nat_eq name (codes "refs/")) legal).1 (ap is_some there);
-  none = refs-there content name text legal there ∙ none;
+  none = loose-there content name text legal there ∙ none;
 }
 
 -- a ref that is set keeps the map free of conflicts, where nothing of the map conflicts with it
@@ -173,9 +173,9 @@ IsRefMap-without_ref refs name map = record { legal = λ q h. map.legal q (at q 
     ] h
 
 -- at what is no ref's name stands nothing
-pub refs-none : (content : FileMap) (q : List ℕ) → is_ref q ≡ false → refs content q ≡ None
-unfolding refs
-refs-none content q other = ap (λ b. cond b (option_and_then id_in (files.get content q)) None) other
+pub loose-none : (content : FileMap) (q : List ℕ) → is_ref q ≡ false → loose_refs content q ≡ None
+unfolding loose_refs
+loose-none content q other = ap (λ b. cond b (option_and_then id_in (files.get content q)) None) other
 
 -- a ref that is there has a file
 ref_taken : (b : Bool) (file : Option (List ℕ)) → is_some (cond b (option_and_then id_in file) None) ≡ true → (b ≡ true) × (is_some file ≡ true)
@@ -183,8 +183,8 @@ ref_taken true (Some text) h = (refl, refl)
 ref_taken true None h = cc
 ref_taken false file h = cc
 
-pub taken_from_ref : (content : FileMap) (q : List ℕ) → is_some (refs content q) ≡ true → is_taken content q ≡ true
-unfolding refs
+pub taken_from_ref : (content : FileMap) (q : List ℕ) → is_some (loose_refs content q) ≡ true → is_taken content q ≡ true
+unfolding loose_refs
 taken_from_ref content q h =
     let parts = ref_taken (is_ref q) (files.get content q) h in
     and_from (starts_with nat_eq q (codes "refs/")) (is_some (files.get content q)) (and_parts (is_ref_name q) (starts_with nat_eq q (codes "refs/")) parts.0).1 parts.1
@@ -194,8 +194,8 @@ none_from None not = refl
 none_from (Some x) not = absurd (not refl)
 
 -- where no file is, no ref is
-pub refs-untaken : (content : FileMap) (q : List ℕ) → is_taken content q ≡ false → refs content q ≡ None
-refs-untaken content q free = none_from (refs content q) (λ some. let is : is_taken content q ≡ true = taken_from_ref content q some in cc)
+pub loose-untaken : (content : FileMap) (q : List ℕ) → is_taken content q ≡ false → loose_refs content q ≡ None
+loose-untaken content q free = none_from (loose_refs content q) (λ some. let is : is_taken content q ≡ true = taken_from_ref content q some in cc)
 
 -- what one look at a path gave
 pub entry_parts : (map : RefMap) (path name : List ℕ) (id : ObjectId) → ◌≡◌ {A = Option (List ℕ × ObjectId)} (Some (name, id)) (entry_at map path) → (name ≡ path) × (map path ≡ Some id)
@@ -213,7 +213,7 @@ no_entry map path = by (map path)
     by None e = refl
 
 -- a file that stands for no ref is bad
-pub bad_from_none : (content : FileMap) (q : List ℕ) → is_taken content q ≡ true → refs content q ≡ None → IsBadRef content q
+pub bad_from_none : (content : FileMap) (q : List ℕ) → is_taken content q ≡ true → loose_refs content q ≡ None → IsBadLoose content q
 bad_from_none content q is none = record { taken = is; none = none }
 
 without_at : (map : RefMap) (name : List ℕ) → map name ≡ None → (q : List ℕ) → map q ≡ without_ref map name q

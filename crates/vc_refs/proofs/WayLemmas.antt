@@ -15,9 +15,8 @@ use Rattle.std.proofs.lemmas.Slice.Eq.{bytes_eq-Decides}
 use Rattle.std.proofs.lemmas.Bool.{and_parts, and_from, false_from_ne_true, cases_lt}
 use Rattle.vc_files.specs.FileMap.{FileMap, paths_under}
 use Rattle.vc_refs.specs.RefMap.{IsInRefs, is_folder_of, conflicts}
-use Rattle.vc_refs.specs.Refs.{refs, is_taken}
-use Rattle.vc_refs.specs.Way.{IsInTheWay, IsFirstInTheWay, IsFree, IsFreeAbove}
-use Rattle.vc_refs.proofs.RefsLemmas.{taken_from_ref}
+use Rattle.vc_refs.specs.LooseWay.{IsFirstInTheWay, IsFree, IsFreeAbove, IsInTheWay}
+use Rattle.vc_refs.specs.Refs.{is_taken}
 use Rattle.vc_refs.proofs.PathLemmas.{paths_rise, is_among, is_among-paths_under, first_among, head_among}
 
 -- a text begins with its front
@@ -192,10 +191,6 @@ first_listed f content name items rest (Some p) inside free listed is variant =
     first_below content name (f p) (map f rest) inside free (sym listed ∙ ap (map f) is)
 first_listed {A = A} f content name items rest None inside free listed is variant =
     free_below content name free (sym listed ∙ ap (map f) (no_items items (λ some. let told : is_some {T = A} None ≡ true = variant.1 some in cc)))
-
--- where nothing is in the way, no ref conflicts
-pub free_map : (content : FileMap) (name : List ℕ) → IsFree content name → (q : List ℕ) → is_some (refs content q) ≡ true → conflicts q name ≡ false
-free_map content name free q there = false_from_ne_true _ (λ conflict. free q (record { taken = taken_from_ref content q there; conflict = conflict }))
 
 -- a name isn't its own folder
 pub no_own_folder : (name : List ℕ) → conflicts name name ≡ false

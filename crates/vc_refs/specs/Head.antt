@@ -1,13 +1,13 @@
 -- HEAD: the ref that is checked out, or an id.
-use Rattle.std.specs.Prelude.{◌≡◌, ℕ, true, ◌&&◌, nat_eq, bytes_eq, List, [], ◌∷◌, ◌++◌, drop, Option, Some, None, if◌then◌else◌, codes, option_map, option_and_then}
+use Rattle.std.specs.Prelude.{◌≡◌, ℕ, true, false, ◌&&◌, nat_eq, bytes_eq, List, [], ◌∷◌, ◌++◌, drop, Option, Some, None, if◌then◌else◌, codes, option_map, option_and_then}
 use Rattle.std.specs.List.{starts_with}
 use Rattle.std.specs.Str.{is_utf8}
 use Rattle.std.specs.FinMap as files
-use Rattle.vc_files.specs.FileMap.{FileMap, SameOutside}
+use Rattle.vc_files.specs.FileMap.{FileMap}
 use Rattle.vc_object.specs.declared.id.ObjectId.{ObjectId}
 use Rattle.vc_refs.specs.RefFile.{without_lf, id_in, id_text}
 use Rattle.vc_refs.specs.RefMap.{RefMap, IsInRefs, is_ref}
-use Rattle.vc_refs.specs.Refs.{ChangesOnly}
+use Rattle.vc_refs.specs.Refs.{packed_path, IsBadRef}
 use Rattle.vc_refs.specs.declared.heads.Head.{Head}
 use Rattle.vc_refs.specs.declared.heads.Head.TheVariants as head
 use Rattle.vc_refs.specs.declared.heads.HeadText.{HeadText}
@@ -67,8 +67,15 @@ abbrev pub IsLegalHead : Head → Type 0
 IsLegalHead (head.Branch name) = is_ref name ≡ true
 IsLegalHead (head.Id id) = Unit {0}
 
--- after a change of this ref each other file, all that lies outside `refs/`, and HEAD are as before
-pub record KeepsTheRest (name : List ℕ) (old new : FileMap) : Type 0 where
-  pub only : ChangesOnly name old new
-  pub outside : SameOutside (codes "refs/") old new
+-- ---- what a change of refs keeps
+
+-- all that lies outside `refs/` but for the packed file, and HEAD, are as before, and no file is bad that wasn't
+pub record KeepsOutside (old new : FileMap) : Type 0 where
+  pub at : (path : List ℕ) → starts_with nat_eq path (codes "refs/") ≡ false → bytes_eq path packed_path ≡ false → files.get new path ≡ files.get old path
   pub head : head_of new ≡ head_of old
+  pub good : (path : List ℕ) → IsBadRef new path → IsBadRef old path
+
+-- so they are after a change of this ref, and each other file in `refs/`, too
+pub record KeepsTheRest (name : List ℕ) (old new : FileMap) : Type 0 where
+  pub only : (path : List ℕ) → bytes_eq path name ≡ false → bytes_eq path packed_path ≡ false → files.get new path ≡ files.get old path
+  pub outside : KeepsOutside old new

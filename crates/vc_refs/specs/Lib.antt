@@ -1,10 +1,11 @@
 pub mod RefFile
 pub mod RefMap
-pub mod Refs
-pub mod Head
-pub mod Way
-pub mod RefFault
 pub mod Packed
 pub mod PackedView
-pub mod Layered
-pub mod LayeredFault
+pub mod Refs
+pub mod Head
+pub mod LooseWay
+pub mod Way
+pub mod LooseFault
+pub mod RefFault
+pub mod Packing

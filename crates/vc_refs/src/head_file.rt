@@ -1,18 +1,17 @@
-// HEAD: look, resolve and set.
+// HEAD: look and set.
 ghost use Rattle.std.specs.Prelude.{◌≡◌, ◌⊎◌, Some, IfOk, IfErr, IfSome, OnOk, OnErr, IsErrOf, codes, string_bytes};
 ghost use Rattle.vc_files.specs.Failures.{Wears, Writes};
 ghost use Rattle.vc_refs.specs.declared.heads.HeadText.TheVariants.{Says};
-ghost use Rattle.vc_refs.specs.Head.{read_head, name_said, head_of, head_text, head_value, IsHeadInRefs, IsLegalHead};
+ghost use Rattle.vc_refs.specs.Head.{head_of, head_text, name_said, read_head, IsHeadInRefs, IsLegalHead};
+ghost use Rattle.vc_refs.specs.RefFault.{BlamesHead, IsFault, IsGoodHead};
 ghost use Rattle.vc_refs.specs.Refs.{refs, ChangesOnly};
-ghost use Rattle.vc_refs.specs.RefFault.{BlamesHead, BlamesHeadValue, IsGoodHead, IsGoodHeadValue, IsFault};
 
 use crate::RefFault;
 use crate::heads::{Head, HeadText};
-use crate::loose::{get, name_at};
+use crate::loose::name_at;
 use crate::text::{id_in, id_text, without_lf};
 use std::alloc::{AllocError, Global};
 use vc_files::{Fault, Files};
-use vc_object::ObjectId;
 
 // The path of HEAD's file.
 const HEAD: &str = "HEAD";
@@ -83,26 +82,6 @@ pub fn head<F: Files>(files: &mut F, alloc: Global) -> Result<Option<Head>, RefF
         HeadText::Says(head) => Ok(Some(head)),
         HeadText::NamesHead => Err(RefFault::HeadLoop),
         HeadText::SaysNothing => Err(RefFault::BadRefFile(String::from_str(alloc, HEAD)?)),
-    }
-}
-
-/// The id that HEAD leads to: its own, or that of the ref that it names. None where HEAD or that ref isn't there.
-pub fn resolve_head<F: Files>(files: &mut F, alloc: Global) -> Result<Option<ObjectId>, RefFault>
-    ensures found { F.honest → IfOk result (λ id. id ≡ head_value (refs (F.content files.old)) (head_of (F.content files.old))) }
-    ensures good { F.honest → OnOk result (IsGoodHeadValue (F.content files.old)) }
-    ensures refused { F.honest → IfErr result (BlamesHeadValue (F.content files.old)) }
-    ensures same { F.content files.new ≡ F.content files.old }
-    ensures wear { Wears F.failed F.can_fail F.left files.old files.new (IsErrOf result (RefFault.Fault Fault.Device)) }
-{
-    let Some(head) = head(files, alloc)? else {
-        return Ok(None);
-    };
-    match head {
-        Head::Branch(name) => {
-            let id = get(files, alloc, &name)?;
-            Ok(id)
-        }
-        Head::Id(id) => Ok(Some(id)),
     }
 }
 

@@ -1,6 +1,5 @@
 //! Refs over one packed file and the loose files over it. A name stands for what its own file spells, where that file
-//! is there, and else for what the line of `packed-refs` says. The calls have the names and the clauses of those over
-//! loose files alone, and [`pack`] beside them.
+//! is there, and else for what the line of `packed-refs` says.
 
 mod getting;
 mod head_value;

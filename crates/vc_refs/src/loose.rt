@@ -1,9 +1,9 @@
-// A look at one ref.
+// A look at a ref's own file.
 ghost use Rattle.std.specs.Prelude.{◌≡◌, true, Some, None, if◌then◌else◌, IfOk, IfErr, OnOk, IsErrOf};
 ghost use Rattle.vc_files.specs.Failures.{Wears};
 ghost use Rattle.vc_refs.specs.RefMap.{IsInRefs, is_ref, entry_at};
-ghost use Rattle.vc_refs.specs.Refs.{refs, IsBadRef};
-ghost use Rattle.vc_refs.specs.RefFault.{BlamesRef, BlamesPath, BlamesRemove, HasExpected};
+ghost use Rattle.vc_refs.specs.LooseFault.{BlamesPath, BlamesRef};
+ghost use Rattle.vc_refs.specs.Refs.{loose_refs, IsBadLoose};
 
 use crate::RefFault;
 use crate::text::id_in;
@@ -19,8 +19,8 @@ pub(crate) fn read<F: Files>(
     path: &str,
 ) -> Result<Option<ObjectId>, RefFault>
     requires { is_ref path.now ≡ true }
-    ensures found { F.honest → IfOk result (λ id. id ≡ refs (F.content files.old) path.now) }
-    ensures good { F.honest → OnOk result (IsBadRef (F.content files.old) path.now → ⊥) }
+    ensures found { F.honest → IfOk result (λ id. id ≡ loose_refs (F.content files.old) path.now) }
+    ensures good { F.honest → OnOk result (IsBadLoose (F.content files.old) path.now → ⊥) }
     ensures refused { F.honest → IfErr result (BlamesRef (F.content files.old) path.now) }
     ensures same { F.content files.new ≡ F.content files.old }
     ensures wear { Wears F.failed F.can_fail F.left files.old files.new (IsErrOf result (RefFault.Fault Fault.Device)) }
@@ -34,15 +34,15 @@ pub(crate) fn read<F: Files>(
     }
 }
 
-/// The id that the ref stands for, or none where there is no such ref.
-pub fn get<F: Files>(
+// The id that the file of this ref spells, or none where there is no such file.
+pub(crate) fn get<F: Files>(
     files: &mut F,
     alloc: Global,
     name: &RefName,
 ) -> Result<Option<ObjectId>, RefFault>
     requires { IsInRefs name.now }
-    ensures found { F.honest → IfOk result (λ id. id ≡ refs (F.content files.old) name.now) }
-    ensures good { F.honest → OnOk result (IsBadRef (F.content files.old) name.now → ⊥) }
+    ensures found { F.honest → IfOk result (λ id. id ≡ loose_refs (F.content files.old) name.now) }
+    ensures good { F.honest → OnOk result (IsBadLoose (F.content files.old) name.now → ⊥) }
     ensures refused { F.honest → IfErr result (BlamesRef (F.content files.old) name.now) }
     ensures same { F.content files.new ≡ F.content files.old }
     ensures wear { Wears F.failed F.can_fail F.left files.old files.new (IsErrOf result (RefFault.Fault Fault.Device)) }
@@ -68,8 +68,8 @@ pub(crate) fn ref_at<F: Files>(
     alloc: Global,
     path: &str,
 ) -> Result<Option<(RefName, ObjectId)>, RefFault>
-    ensures found { F.honest → IfOk result (λ found. found ≡ entry_at (refs (F.content files.old)) path.now) }
-    ensures good { F.honest → OnOk result (IsBadRef (F.content files.old) path.now → ⊥) }
+    ensures found { F.honest → IfOk result (λ found. found ≡ entry_at (loose_refs (F.content files.old)) path.now) }
+    ensures good { F.honest → OnOk result (IsBadLoose (F.content files.old) path.now → ⊥) }
     ensures refused { F.honest → IfErr result (BlamesPath (F.content files.old) path.now) }
     ensures same { F.content files.new ≡ F.content files.old }
     ensures wear { Wears F.failed F.can_fail F.left files.old files.new (IsErrOf result (RefFault.Fault Fault.Device)) }
@@ -81,24 +81,4 @@ pub(crate) fn ref_at<F: Files>(
         Some(id) => Ok(Some((name, id))),
         None => Ok(None),
     }
-}
-
-// Refuses where the ref's value is not the expected one.
-pub(crate) fn expect_value<F: Files>(
-    files: &mut F,
-    alloc: Global,
-    name: &RefName,
-    expected: Option<ObjectId>,
-) -> Result<(), RefFault>
-    requires { IsInRefs name.now }
-    ensures allowed { F.honest → OnOk result (HasExpected (F.content files.old) name.now expected) }
-    ensures refused { F.honest → IfErr result (BlamesRemove (F.content files.old) name.now expected) }
-    ensures same { F.content files.new ≡ F.content files.old }
-    ensures wear { Wears F.failed F.can_fail F.left files.old files.new (IsErrOf result (RefFault.Fault Fault.Device)) }
-{
-    let current = get(files, alloc, name)?;
-    if current != expected {
-        return Err(RefFault::Stale(current));
-    }
-    Ok(())
 }

@@ -2,12 +2,13 @@
 ghost use Rattle.std.specs.Prelude.{◌≡◌, ◌⊎◌, true, Some, IsSome, IfOk, IfErr, IfSome, OnOk, OnErr, IsErrOf, codes};
 ghost use Rattle.vc_files.specs.Failures.{Wears, Writes};
 ghost use Rattle.vc_refs.specs.RefMap.{IsInRefs, IsRefMap, IsListOf, is_ref, with_ref, without_ref};
-ghost use Rattle.vc_refs.specs.Refs.{refs, IsBadRef, SpellsRefs, ChangesOnly};
-ghost use Rattle.vc_refs.specs.Head.{head_of, head_value, IsHeadInRefs, IsLegalHead, KeepsTheRest};
+ghost use Rattle.vc_refs.specs.Refs.{deciding_file, refs, ChangesOnly, IsBadRef, SpellsRefs};
+ghost use Rattle.vc_refs.specs.Head.{head_of, head_value, IsHeadInRefs, IsLegalHead, KeepsOutside, KeepsTheRest};
+ghost use Rattle.vc_refs.specs.Packing.{HasLoose, IsPackedFrom, UnpacksOnly};
 ghost use Rattle.vc_refs.specs.Way.{IsFree};
 ghost use Rattle.vc_refs.specs.RefFault.{BlamesRef, BlamesRemove, BlamesSet, BlamesWay, BlamesList, BlamesHead, BlamesHeadValue, HasExpected, MaySet, IsGoodHead, IsGoodHeadValue, IsFault};
 
-use crate::{Head, RefFault, head_file, listing, loose, removing, setting, way};
+use crate::{Head, RefFault, head_file, layered};
 use std::alloc::Global;
 use vc_files::{Fault, Files};
 use vc_object::ObjectId;
@@ -34,12 +35,12 @@ impl<'a, F: Files> Refs<'a, F> {
         requires { IsInRefs name.now }
         ensures same_files { self.new.files.ghost_name ≡ self.old.files.ghost_name }
         ensures found { F.honest → IfOk result (λ id. id ≡ refs (F.content self.old.files.now) name.now) }
-        ensures good { F.honest → OnOk result (IsBadRef (F.content self.old.files.now) name.now → ⊥) }
+        ensures good { F.honest → OnOk result (IsBadRef (F.content self.old.files.now) (deciding_file (F.content self.old.files.now) name.now) → ⊥) }
         ensures refused { F.honest → IfErr result (BlamesRef (F.content self.old.files.now) name.now) }
         ensures same { F.content self.new.files.now ≡ F.content self.old.files.now }
         ensures wear { Wears F.failed F.can_fail F.left self.old.files.now self.new.files.now (IsErrOf result (RefFault.Fault Fault.Device)) }
     {
-        loose::get(self.files, self.alloc, name)
+        layered::get(self.files, self.alloc, name)
     }
 
     /// Sets the ref, if its value is the expected one. See [`set`](crate::set).
@@ -56,11 +57,12 @@ impl<'a, F: Files> Refs<'a, F> {
         ensures refused { F.honest → IfErr result (BlamesSet (F.content self.old.files.now) name.now expected) }
         ensures kept { F.honest → IsRefMap (refs (F.content self.old.files.now)) → IsRefMap (refs (F.content self.new.files.now)) }
         ensures rest { F.honest → KeepsTheRest name.now (F.content self.old.files.now) (F.content self.new.files.now) }
+        ensures only { F.honest → ChangesOnly name.now (F.content self.old.files.now) (F.content self.new.files.now) }
         ensures err { F.honest → OnErr result (F.content self.new.files.now ≡ F.content self.old.files.now) }
         ensures wear { Writes F.honest F.content F.failed F.can_fail F.left self.old.files.now self.new.files.now (IsErrOf result (RefFault.Fault Fault.Device)) }
         ensures looks { F.honest → ((is_ref name.now ≡ true) × MaySet (F.content self.old.files.now) name.now expected) ⊎ Wears F.failed F.can_fail F.left self.old.files.now self.new.files.now (IsErrOf result (RefFault.Fault Fault.Device)) }
     {
-        setting::set(self.files, self.alloc, name, expected, new)
+        layered::set(self.files, self.alloc, name, expected, new)
     }
 
     /// Refuses a name that no ref may have beside those that are there. See
@@ -73,7 +75,7 @@ impl<'a, F: Files> Refs<'a, F> {
         ensures same { F.content self.new.files.now ≡ F.content self.old.files.now }
         ensures wear { Wears F.failed F.can_fail F.left self.old.files.now self.new.files.now (IsErrOf result (RefFault.Fault Fault.Device)) }
     {
-        way::refuse_conflict(self.files, self.alloc, name)
+        layered::refuse_conflict(self.files, self.alloc, name)
     }
 
     /// Removes the ref, if its value is the expected one. See [`remove`](crate::remove).
@@ -81,16 +83,32 @@ impl<'a, F: Files> Refs<'a, F> {
         requires { IsInRefs name.now }
         ensures same_files { self.new.files.ghost_name ≡ self.old.files.ghost_name }
         ensures removed { F.honest → OnOk result (refs (F.content self.new.files.now) ≡ without_ref (refs (F.content self.old.files.now)) name.now) }
-        ensures gone { F.honest → OnOk result (IsBadRef (F.content self.new.files.now) name.now → ⊥) }
+        ensures gone { F.honest → OnOk result (IsBadRef (F.content self.new.files.now) (deciding_file (F.content self.new.files.now) name.now) → ⊥) }
         ensures allowed { F.honest → OnOk result (HasExpected (F.content self.old.files.now) name.now expected) }
         ensures refused { F.honest → IfErr result (BlamesRemove (F.content self.old.files.now) name.now expected) }
         ensures kept { F.honest → IsRefMap (refs (F.content self.old.files.now)) → IsRefMap (refs (F.content self.new.files.now)) }
         ensures rest { F.honest → KeepsTheRest name.now (F.content self.old.files.now) (F.content self.new.files.now) }
-        ensures err { F.honest → OnErr result (F.content self.new.files.now ≡ F.content self.old.files.now) }
+        ensures unpacks { F.honest → UnpacksOnly name.now (F.content self.old.files.now) (F.content self.new.files.now) }
+        ensures err { F.honest → OnErr result (refs (F.content self.new.files.now) ≡ refs (F.content self.old.files.now)) }
         ensures wear { Writes F.honest F.content F.failed F.can_fail F.left self.old.files.now self.new.files.now (IsErrOf result (RefFault.Fault Fault.Device)) }
         ensures looks { F.honest → (IsSome expected × HasExpected (F.content self.old.files.now) name.now expected) ⊎ Wears F.failed F.can_fail F.left self.old.files.now self.new.files.now (IsErrOf result (RefFault.Fault Fault.Device)) }
     {
-        removing::remove(self.files, self.alloc, name, expected)
+        layered::remove(self.files, self.alloc, name, expected)
+    }
+
+    /// Puts all refs into the packed file. See [`pack`](crate::pack).
+    pub fn pack(&mut self) -> Result<(), RefFault>
+        ensures same_files { self.new.files.ghost_name ≡ self.old.files.ghost_name }
+        ensures packed { F.honest → OnOk result (IsPackedFrom (F.content self.old.files.now) (F.content self.new.files.now)) }
+        ensures good { F.honest → OnOk result (SpellsRefs (F.content self.old.files.now)) }
+        ensures refused { F.honest → IfErr result (BlamesList (F.content self.old.files.now)) }
+        ensures kept { F.honest → refs (F.content self.new.files.now) ≡ refs (F.content self.old.files.now) }
+        ensures rest { F.honest → KeepsOutside (F.content self.old.files.now) (F.content self.new.files.now) }
+        ensures err { F.honest → IfErr result (λ e. IsFault e ⊎ (F.content self.new.files.now ≡ F.content self.old.files.now)) }
+        ensures wear { Writes F.honest F.content F.failed F.can_fail F.left self.old.files.now self.new.files.now (IsErrOf result (RefFault.Fault Fault.Device)) }
+        ensures looks { F.honest → HasLoose (F.content self.old.files.now) ⊎ Wears F.failed F.can_fail F.left self.old.files.now self.new.files.now (IsErrOf result (RefFault.Fault Fault.Device)) }
+    {
+        layered::pack(self.files, self.alloc)
     }
 
     /// The refs with their ids, in the order of the names' bytes. See [`list`](crate::list).
@@ -102,7 +120,7 @@ impl<'a, F: Files> Refs<'a, F> {
         ensures same { F.content self.new.files.now ≡ F.content self.old.files.now }
         ensures wear { Wears F.failed F.can_fail F.left self.old.files.now self.new.files.now (IsErrOf result (RefFault.Fault Fault.Device)) }
     {
-        listing::list(self.files, self.alloc)
+        layered::list(self.files, self.alloc)
     }
 
     /// What HEAD is, or none where it isn't there. See [`head`](crate::head).
@@ -127,7 +145,7 @@ impl<'a, F: Files> Refs<'a, F> {
         ensures same { F.content self.new.files.now ≡ F.content self.old.files.now }
         ensures wear { Wears F.failed F.can_fail F.left self.old.files.now self.new.files.now (IsErrOf result (RefFault.Fault Fault.Device)) }
     {
-        head_file::resolve_head(self.files, self.alloc)
+        layered::resolve_head(self.files, self.alloc)
     }
 
     /// Makes HEAD this ref or this id. See [`set_head`](crate::set_head).

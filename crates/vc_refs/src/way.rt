@@ -2,8 +2,8 @@
 ghost use Rattle.std.specs.Prelude.{◌≡◌, IfOk, IfErr, OnOk, IsErrOf, MatchOption, string_bytes};
 ghost use Rattle.vc_files.specs.Failures.{Wears};
 ghost use Rattle.vc_refs.specs.RefMap.{IsInRefs};
-ghost use Rattle.vc_refs.specs.Way.{IsFirstInTheWay, IsFree, IsFreeAbove};
-ghost use Rattle.vc_refs.specs.RefFault.{BlamesWay};
+ghost use Rattle.vc_refs.specs.LooseFault.{BlamesWay};
+ghost use Rattle.vc_refs.specs.LooseWay.{IsFirstInTheWay, IsFree, IsFreeAbove};
 
 use crate::RefFault;
 use crate::loose::ref_at;

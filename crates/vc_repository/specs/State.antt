@@ -7,7 +7,7 @@ use Rattle.vc_index.specs.declared.entry.IndexEntry.{IndexEntry}
 use Rattle.vc_object.specs.declared.id.ObjectId.{ObjectId}
 use Rattle.vc_refs.specs.Head.{head_of, head_value}
 use Rattle.vc_refs.specs.RefFault.{BlamesHeadValue, BlamesRef, IsGoodHeadValue}
-use Rattle.vc_refs.specs.Refs.{IsBadRef, refs}
+use Rattle.vc_refs.specs.Refs.{IsBadRef, deciding_file, refs}
 use Rattle.vc_refs.specs.declared.faults.RefFault.{RefFault}
 use Rattle.vc_repository.specs.Faults.{of_refs}
 use Rattle.vc_rev.specs.Question.{Question, Head, Ref, Entry, Prefix, Object}
@@ -42,7 +42,7 @@ HasFileIn s id = HasFile s.content id
 -- what has to be read to answer the question is in its form: HEAD and the ref that it names, the ref, the object
 abbrev pub IsGood : State → Question → Type 0
 IsGood s Head = IsGoodHeadValue s.content
-IsGood s (Ref name) = IsBadRef s.content name → ⊥
+IsGood s (Ref name) = IsBadRef s.content (deciding_file s.content name) → ⊥
 IsGood s (Entry path) = ⊤
 IsGood s (Prefix digits) = ⊤
 IsGood s (Object id) = IsDamaged s.content id → ⊥
@@ -55,7 +55,7 @@ abbrev pub IsOfStore : (StoreFault → Type 0) → SourceFault → Type 0
 IsOfStore Blames fault = (e : StoreFault) × Blames e × (fault ≡ Store e)
 
 -- The fault has its cause in a file that has to be read to answer the question: HEAD's or that of the branch that it names,
--- the ref's own, the object's own. The index was read before, so it answers without a fault, and a listing of names reads no
+-- the one that says the ref's value, the object's own. The index was read before, so it answers without a fault, and a listing of names reads no
 -- file. A fault of memory or device needs no cause in the files.
 abbrev pub IsCause : State → Question → SourceFault → Type 0
 IsCause s Head fault = IsOfRefs (BlamesHeadValue s.content) fault

@@ -59,12 +59,6 @@ pub cut_last-at : (byte : ℕ) (front rest : List ℕ) → cut_last byte rest �
 cut_last-at byte [] rest none = rw (none, same_byte byte) refl
 cut_last-at byte (b ∷ front) rest none = ap (cut_at byte b (front ++ byte ∷ rest)) (cut_last-at byte front rest none)
 
-other_byte : (b byte : ℕ) → b ≢ byte → (b == byte) ≡ false
-other_byte b byte ne = grind (arith, nat_tests)
-
-pub cut_last-none : (byte b : ℕ) (rest : List ℕ) → b ≢ byte → cut_last byte rest ≡ None → cut_last byte (b ∷ rest) ≡ None
-cut_last-none byte b rest ne none = rw (none, other_byte b byte ne) refl
-
 -- ---- numbers
 
 -- the greatest number of so many digits more

@@ -1,7 +1,7 @@
 -- What some lines and scripts say, read by hand.
 use Rattle.std.specs.Prelude.{◌≡◌, ℕ, false, List, [], ◌∷◌, codes, Some, None}
 use Rattle.vc_model.specs.ExactWorld.{WorldEvent}
-use Rattle.vc_model.specs.ExactWorld.WorldEvent.{Compares, Delivers, Orders, Restarts, Steps}
+use Rattle.vc_model.specs.ExactWorld.WorldEvent.{Compares, Delivers, Orders, Packs, Restarts, Steps}
 use Rattle.vc_model.specs.Order.{Order}
 use Rattle.vc_model.specs.Order.Order.{BranchAt, CommitIndex, DropBranch, Fetch, HeadAt, HeadOn, LoadIndex, PushItems, StageFile, StoreObject, UnstageFile}
 use Rattle.vc_model.specs.World.Party.{TheClone, TheShared}
@@ -51,6 +51,8 @@ EventsByHand =
     × Tells (codes "restart shared") (Restarts TheShared)
     × Tells (codes "restart c11") (Restarts (TheClone 11))
     × Tells (codes "shared same r s") (Compares TheShared (codes "r") (codes "s"))
+    × Tells (codes "c0 pack") (Packs (TheClone 0))
+    × Tells (codes "shared pack") (Packs TheShared)
 
 abbrev pub RefusedByHand : Type 0
 RefusedByHand =
@@ -59,6 +61,7 @@ RefusedByHand =
     × TellsNothing (codes "shared fetch")
     × TellsNothing (codes "c0  fetch")
     × TellsNothing (codes "c0 push")
+    × TellsNothing (codes "c0 pack all")
     × TellsNothing (codes "c0 head b..c")
     × TellsNothing (codes "c0 write blob 4a6")
     × TellsNothing (codes "step 1234567890")

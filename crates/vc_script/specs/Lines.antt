@@ -3,7 +3,7 @@ use Rattle.std.specs.Prelude.{◌++◌, ℕ, false, List, [], ◌∷◌, codes, 
 use Rattle.std.specs.Str.{bytes_eq}
 use Rattle.hex.specs.Hex.{decode_of}
 use Rattle.vc_model.specs.ExactWorld.{WorldEvent}
-use Rattle.vc_model.specs.ExactWorld.WorldEvent.{Compares, Delivers, Orders, Restarts, Steps}
+use Rattle.vc_model.specs.ExactWorld.WorldEvent.{Compares, Delivers, Orders, Packs, Restarts, Steps}
 use Rattle.vc_model.specs.Order.{Order}
 use Rattle.vc_model.specs.Order.Order.{BranchAt, CommitIndex, DropBranch, Fetch, HeadAt, HeadOn, LoadIndex, PushItems, StageFile, StoreObject, UnstageFile}
 use Rattle.vc_model.specs.World.{Party}
@@ -148,6 +148,10 @@ compare_in party words = do
   parts ← pair words
   Some (Compares party parts.0 parts.1)
 
+unfoldable pub pack_in : Party → List (List ℕ) → Option WorldEvent
+pack_in party [] = Some (Packs party)
+pack_in party (word ∷ others) = None
+
 -- the shared node takes no orders
 unfoldable pub ordered : Party → List ℕ → List (List ℕ) → Option WorldEvent
 ordered TheShared verb others = None
@@ -155,7 +159,10 @@ ordered (TheClone c) verb others = option_map (Orders c) (order_in verb others)
 
 unfoldable pub asked_in : Party → List (List ℕ) → Option WorldEvent
 asked_in party [] = None
-asked_in party (verb ∷ others) = if bytes_eq verb (codes "same") then compare_in party others else ordered party verb others
+asked_in party (verb ∷ others) =
+    if bytes_eq verb (codes "same") then compare_in party others
+    else if bytes_eq verb (codes "pack") then pack_in party others
+    else ordered party verb others
 
 unfoldable pub node_event : ℕ → List ℕ → List (List ℕ) → Option WorldEvent
 node_event n name others = do

@@ -1,7 +1,7 @@
 //! The event that a line tells.
 ghost use Rattle.std.specs.Prelude.{◌≡◌, ℕ, option_map, IfOk, IfSome};
 ghost use Rattle.vc_events.specs.Events.{event_of, IsInWorld, IsParty, party_of};
-ghost use Rattle.vc_script.specs.Lines.{asked_in, compare_in, deliver_in, event_in, line_event, node_event, ordered, restart_in, step_in};
+ghost use Rattle.vc_script.specs.Lines.{asked_in, compare_in, deliver_in, event_in, line_event, node_event, ordered, pack_in, restart_in, step_in};
 ghost use Rattle.vc_script.specs.Words.{texts};
 
 use crate::orders::order_in;
@@ -34,6 +34,18 @@ fn restart_in(clones: usize, words: &[&[u8]]) -> Option<Event>
 {
     let party = party_in(clones, sole(words)?)?;
     Some(Event::Restart(party))
+}
+
+// The node puts its refs into one file.
+#[tactic(auto, unfolding(crate::specs::Lines::pack_in))]
+fn pack_in(party: Party, words: &[&[u8]]) -> Option<Event>
+    ensures event { option_map event_of result ≡ pack_in (party_of party) (texts words.now) }
+    ensures in_world { (n : ℕ) → IsParty n party → IfSome result (IsInWorld n) }
+{
+    if !words.is_empty() {
+        return None;
+    }
+    Some(Event::Pack(party))
 }
 
 // Whether two expressions have one value at the node.
@@ -82,6 +94,9 @@ fn asked_in(alloc: Global, party: Party, words: &[&[u8]]) -> Result<Option<Event
     if verb == b"same".as_slice() {
         let found = compare_in(alloc, party, others)?;
         return Ok(found);
+    }
+    if verb == b"pack".as_slice() {
+        return Ok(pack_in(party, others));
     }
     let found = ordered(alloc, party, verb, others)?;
     Ok(found)

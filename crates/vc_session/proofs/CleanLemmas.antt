@@ -14,10 +14,10 @@ use Rattle.vc_object.specs.Object.{object_bytes, object_name, IsObject}
 use Rattle.vc_object.specs.ObjectId.{is_id}
 use Rattle.vc_object.specs.declared.id.ObjectId.{ObjectId}
 use Rattle.vc_object.specs.declared.kind.Kind.{Kind}
-use Rattle.vc_refs.proofs.RefsLemmas.{good_absent, good_there, refs-same}
+use Rattle.vc_refs.proofs.LayeredLemmas.{bad-same, bad_place, good_absent, packed_map-same}
+use Rattle.vc_refs.proofs.WayLemmas.{split_from_starts}
 use Rattle.vc_refs.specs.Head.{KeepsTheRest}
-use Rattle.vc_refs.specs.RefMap.{RefMap, with_ref}
-use Rattle.vc_refs.specs.Refs.{IsBadRef, refs}
+use Rattle.vc_refs.specs.Refs.{IsBadRef, ChangesOnly, packed_map, packed_path}
 use Rattle.vc_store.proofs.PathLemmas.{named_by_path}
 use Rattle.vc_store.specs.Store.{IsDamaged, object_path, stored_in}
 use Rattle.vc_store.specs.declared.faults.StoreFault.{StoreFault}
@@ -33,6 +33,7 @@ bad_same old new same = record {
   objects = λ id bad. subst (λ (m : FileMap). IsDamaged m id) same bad;
   refs = λ path bad. subst (λ (m : FileMap). IsBadRef m path) same bad;
   quarantines = λ slot small id bad. subst (λ (m : FileMap). IsDamagedThere m slot id) same bad;
+  packed = ap packed_map same;
 }
 
 pub bad_then : {old mid new : FileMap} → MakesNoneBad old mid → MakesNoneBad mid new → MakesNoneBad old new
@@ -40,6 +41,7 @@ bad_then first second = record {
   objects = λ id bad. first.objects id (second.objects id bad);
   refs = λ path bad. first.refs path (second.refs path bad);
   quarantines = λ slot small id bad. first.quarantines slot small id (second.quarantines slot small id bad);
+  packed = second.packed ∙ first.packed;
 }
 
 -- after a call that changed nothing, and before one
@@ -50,17 +52,21 @@ pub bad_on : {old mid new : FileMap} → MakesNoneBad old mid → new ≡ mid �
 bad_on {old = old} none same = subst (λ (m : FileMap). MakesNoneBad old m) (sym same) none
 
 -- ---- a file is bad by itself alone
-bad_ref-same : (old new : FileMap) (path : List ℕ) → files.get new path ≡ files.get old path → IsBadRef new path → IsBadRef old path
-bad_ref-same old new path same bad = record {
-  taken = ap (λ (found : Option (List ℕ)). starts_with nat_eq path (codes "refs/") && is_some found) (sym same) ∙ bad.taken;
-  none = sym (refs-same old new path same) ∙ bad.none;
-}
-
 damage_there-same : (old new : FileMap) (slot : ℕ) (id : ObjectId) → files.get new (quarantine_path slot id.0) ≡ files.get old (quarantine_path slot id.0) → IsDamagedThere new slot id → IsDamagedThere old slot id
 damage_there-same old new slot id same bad = ap (stored_in id) (sym same) ∙ bad
 
-in_refs : (content : FileMap) (path : List ℕ) → IsBadRef content path → starts_with nat_eq path (codes "refs/") ≡ true
-in_refs content path bad = (and_parts (starts_with nat_eq path (codes "refs/")) (is_some (files.get content path)) bad.taken).0
+-- it is none of an object, and of no quarantine
+bad_no_object : (content : FileMap) (path : List ℕ) → IsBadRef content path → starts_with nat_eq path (codes "objects/") ≡ false
+bad_no_object content path bad = elim (bad_place content path bad) [
+  | inl inside ↦ ref_no_object path inside
+  | inr packed ↦ ap (λ p. starts_with nat_eq p (codes "objects/")) packed
+]
+
+bad_not_there : (slot : ℕ) (content : FileMap) (path : List ℕ) → IsBadRef content path → starts_with nat_eq path (quarantine_folder slot) ≡ false
+bad_not_there slot content path bad = elim (bad_place content path bad) [
+  | inl inside ↦ ref_not_there slot path inside
+  | inr packed ↦ ap (λ p. starts_with nat_eq p (quarantine_folder slot)) packed
+]
 
 -- and one that is gone isn't
 not_gone : (id : ObjectId) (found : Option (List ℕ)) → found ≡ None → stored_in id found ≡ Err (Damaged id) → ⊥
@@ -69,44 +75,35 @@ not_gone id found gone bad =
     cc no
 
 -- ---- files that are taken away
-pub bad_loses : (old new : FileMap) → OnlyLoses old new → MakesNoneBad old new
-bad_loses old new lost = record {
+pub bad_loses : (old new : FileMap) → OnlyLoses old new → files.get new packed_path ≡ files.get old packed_path → MakesNoneBad old new
+bad_loses old new lost packed = record {
   objects = λ id bad. elim (lost.at (object_path id.0)) [ inl same ↦ damage-same old new id same bad | inr gone ↦ absurd (not_gone id (files.get new (object_path id.0)) gone bad) ];
-  refs = λ path bad. elim (lost.at path) [ inl same ↦ bad_ref-same old new path same bad | inr gone ↦ absurd (good_absent new path gone bad) ];
+  refs = λ path bad. elim (lost.at path) [ inl same ↦ bad-same old new path same bad | inr gone ↦ absurd (good_absent new path gone bad) ];
   quarantines = λ slot small id bad.
       elim (lost.at (quarantine_path slot id.0)) [
         | inl same ↦ damage_there-same old new slot id same bad
         | inr gone ↦ absurd (not_gone id (files.get new (quarantine_path slot id.0)) gone bad)
       ];
+  packed = packed_map-same old new packed;
 }
 
 -- ---- objects that are stored, of which none becomes damaged
 pub bad_objects : (old new : FileMap) → SameOutside (codes "objects/") old new → ((id : ObjectId) → IsDamaged new id → IsDamaged old id) → MakesNoneBad old new
 bad_objects old new outside undamaged = record {
   objects = undamaged;
-  refs = λ path bad. bad_ref-same old new path (outside.at path (ref_no_object path (in_refs new path bad))) bad;
+  refs = λ path bad. bad-same old new path (outside.at path (bad_no_object new path bad)) bad;
   quarantines = λ slot small id bad. damage_there-same old new slot id (outside.at (quarantine_path slot id.0) refl) bad;
+  packed = packed_map-same old new (outside.at packed_path refl);
 }
 
--- ---- a ref that is set, and is no bad file then
-pub bad_ref : (old new : FileMap) (name : List ℕ) → KeepsTheRest name old new → (IsBadRef new name → ⊥) → MakesNoneBad old new
-bad_ref old new name rest good = record {
+-- ---- a ref that is set
+pub bad_ref : (old new : FileMap) (name : List ℕ) → starts_with nat_eq name (codes "refs/") ≡ true → KeepsTheRest name old new → ChangesOnly name old new → MakesNoneBad old new
+bad_ref old new name inside rest only = record {
   objects = damage-of_ref name old new rest;
-  refs = λ path bad. by path (bytes_eq path name) refl bad;
-  quarantines = λ slot small id bad. damage_there-same old new slot id (rest.outside.at (quarantine_path slot id.0) refl) bad;
+  refs = rest.outside.good;
+  quarantines = λ slot small id bad. damage_there-same old new slot id (rest.outside.at (quarantine_path slot id.0) refl refl) bad;
+  packed = packed_map-same old new (only.at packed_path (ap (λ n. bytes_eq packed_path n) (split_from_starts name (codes "refs/") inside)));
 }
-  where
-    by : (path : List ℕ) (b : Bool) → bytes_eq path name ≡ b → IsBadRef new path → IsBadRef old path
-    by path true e bad = absurd (good (subst (IsBadRef new) ((bytes_eq-Decides path name).0 e) bad))
-    by path false e bad = bad_ref-same old new path (rest.only.at path e) bad
-
--- what is set is there
-pub with_ref-same : (map : RefMap) (name : List ℕ) (id : ObjectId) → with_ref map name id name ≡ Some id
-unfolding with_ref
-with_ref-same map name id = ap (λ b. cond b (Some id) (map name)) ((bytes_eq-Decides name name).1 refl)
-
-pub bad_set : (old new : FileMap) (name : List ℕ) (id : ObjectId) → KeepsTheRest name old new → refs new ≡ with_ref (refs old) name id → MakesNoneBad old new
-bad_set old new name id rest set = bad_ref old new name rest (good_there new name id (ap (λ (map : RefMap). map name) set ∙ with_ref-same (refs old) name id))
 
 -- ---- a quarantine with no bad file
 pub clean_dropped : (content : FileMap) (slot : ℕ) → IsDropped slot content → IsQuarantineClean content slot
@@ -155,6 +152,7 @@ module _ (old : FileMap) (slot : ℕ) (id : ObjectId) (kind : Kind) (body : List
   pub bad_put : MakesNoneBad old new
   bad_put = record {
     objects = damage-of_slot slot old new (outside_put_there old slot id.0 (object_bytes kind body));
-    refs = λ q bad. bad_ref-same old new q ((outside_put_there old slot id.0 (object_bytes kind body)).at q (ref_not_there slot q (in_refs new q bad))) bad;
+    refs = λ q bad. bad-same old new q ((outside_put_there old slot id.0 (object_bytes kind body)).at q (bad_not_there slot new q bad)) bad;
     quarantines = λ other fits q bad. by other q (bytes_eq (quarantine_path other q.0) path) fits refl bad;
+    packed = packed_map-same old new ((outside_put_there old slot id.0 (object_bytes kind body)).at packed_path refl);
   }

@@ -16,12 +16,10 @@ use Rattle.vc_object.proofs.IdLemmas.{id_eq_equiv}
 use Rattle.vc_object.specs.Decoding.{StoredObject}
 use Rattle.vc_object.specs.ObjectId.{id_eq, is_id}
 use Rattle.vc_object.specs.declared.id.ObjectId.{ObjectId}
-use Rattle.vc_refname.specs.RefName.{is_ref_name}
+use Rattle.vc_refs.proofs.LayeredLemmas.{refs-of_files}
 use Rattle.vc_refs.proofs.WayLemmas.{split_from_starts}
 use Rattle.vc_refs.specs.Head.{KeepsTheRest, head_of, read_head, said}
-use Rattle.vc_refs.specs.RefFile.{id_in}
-use Rattle.vc_refs.specs.RefMap.{is_ref}
-use Rattle.vc_refs.specs.Refs.{refs}
+use Rattle.vc_refs.specs.Refs.{packed_path, refs}
 use Rattle.vc_store.specs.Store.{IsDamaged, object_path, objects, stored_in}
 use Rattle.vc_session.proofs.QuarantineLemmas.{begins, quarantined-none, same_at}
 use Rattle.vc_session.specs.Carrying.{HoldsNames}
@@ -37,16 +35,9 @@ objects-same old new id same = ap (λ found. cond (is_id id) (result_ok (stored_
 pub damage-same : (old new : FileMap) (id : ObjectId) → files.get new (object_path id.0) ≡ files.get old (object_path id.0) → IsDamaged new id → IsDamaged old id
 damage-same old new id same damaged = ap (stored_in id) (sym same) ∙ damaged
 
--- the refs, from the files in `refs/`
-refs_at : (old new : FileMap) → ((q : List ℕ) → starts_with nat_eq q (codes "refs/") ≡ true → files.get new q ≡ files.get old q) → (q : List ℕ) → refs new q ≡ refs old q
-unfolding refs
-refs_at old new same q = elim (is_ref q) as (λ b. is_ref q ≡ b → cond b (option_and_then id_in (files.get new q)) None ≡ cond b (option_and_then id_in (files.get old q)) None) [
-  | true ↦ λ legal. ap (option_and_then id_in) (same q (and_parts (is_ref_name q) (starts_with nat_eq q (codes "refs/")) legal).1)
-  | false ↦ λ _. refl
-] refl
-
-pub refs-kept : (old new : FileMap) → ((q : List ℕ) → starts_with nat_eq q (codes "refs/") ≡ true → files.get new q ≡ files.get old q) → refs new ≡ refs old
-refs-kept old new same i q = refs_at old new same q i
+-- the refs, from the files in `refs/` and the packed one
+pub refs-kept : (old new : FileMap) → ((q : List ℕ) → starts_with nat_eq q (codes "refs/") ≡ true → files.get new q ≡ files.get old q) → files.get new packed_path ≡ files.get old packed_path → refs new ≡ refs old
+refs-kept old new same packed = refs-of_files old new same packed
 
 -- HEAD, from its file
 pub head-same : (old new : FileMap) → files.get new (codes "HEAD") ≡ files.get old (codes "HEAD") → head_of new ≡ head_of old
@@ -90,7 +81,7 @@ module _ (slot : ℕ) (old new : FileMap) (same : SameOutside (quarantine_folder
   damage-of_slot id = damage-same old new id (same.at (object_path id.0) refl)
 
   pub refs-of_slot : refs new ≡ refs old
-  refs-of_slot = refs-kept old new (λ q h. same.at q (ref_not_there slot q h))
+  refs-of_slot = refs-kept old new (λ q h. same.at q (ref_not_there slot q h)) (same.at packed_path refl)
 
   pub head_file-of_slot : files.get new (codes "HEAD") ≡ files.get old (codes "HEAD")
   head_file-of_slot = same.at (codes "HEAD") refl
@@ -103,7 +94,7 @@ module _ (slot : ℕ) (old new : FileMap) (same : SameOutside (quarantine_folder
 -- ---- a change of stored objects, which keeps every quarantine by quarantined-same
 module _ (old new : FileMap) (same : SameOutside (codes "objects/") old new) where
   pub refs-of_objects : refs new ≡ refs old
-  refs-of_objects = refs-kept old new (λ q h. same.at q (ref_no_object q h))
+  refs-of_objects = refs-kept old new (λ q h. same.at q (ref_no_object q h)) (same.at packed_path refl)
 
   pub head_file-of_objects : files.get new (codes "HEAD") ≡ files.get old (codes "HEAD")
   head_file-of_objects = same.at (codes "HEAD") refl
@@ -111,13 +102,13 @@ module _ (old new : FileMap) (same : SameOutside (codes "objects/") old new) whe
 -- ---- a change of a ref
 module _ (name : List ℕ) (old new : FileMap) (rest : KeepsTheRest name old new) where
   pub objects-of_ref : (id : ObjectId) → objects new id ≡ objects old id
-  objects-of_ref id = objects-same old new id (rest.outside.at (object_path id.0) refl)
+  objects-of_ref id = objects-same old new id (rest.outside.at (object_path id.0) refl refl)
 
   pub damage-of_ref : (id : ObjectId) → IsDamaged new id → IsDamaged old id
-  damage-of_ref id = damage-same old new id (rest.outside.at (object_path id.0) refl)
+  damage-of_ref id = damage-same old new id (rest.outside.at (object_path id.0) refl refl)
 
   pub quarantined-of_ref : (slot : ℕ) (id : ObjectId) → quarantined new slot id ≡ quarantined old slot id
-  quarantined-of_ref slot id = same_at old new slot id (λ _. rest.outside.at (quarantine_path slot id.0) refl)
+  quarantined-of_ref slot id = same_at old new slot id (λ _. rest.outside.at (quarantine_path slot id.0) refl refl)
 
 -- ---- what a push carries
 module _ (content : FileMap) (slot : ℕ) where
@@ -156,7 +147,3 @@ module _ (content : FileMap) (slot : ℕ) where
 
 pub front-some : (old new : FileMap) (slot : ℕ) (names : List ObjectId) → IsFrontMigrated old slot names new → (id : ObjectId) → (objects new id ≡ objects old id) ⊎ (objects new id ≡ objects_seen old slot id)
 front-some old new slot names f id = elim (migrated-some old slot f.front id) [ inl is ↦ inl (f.stored id ∙ is) | inr is ↦ inr (f.stored id ∙ is) ]
-
--- what is left of a quarantine that lost files is as it was, or is gone
-pub quarantined-left : (old new : FileMap) (slot : ℕ) → OnlyLoses old new → (id : ObjectId) → (quarantined new slot id ≡ quarantined old slot id) ⊎ (quarantined new slot id ≡ None)
-quarantined-left old new slot lost id = elim (lost.at (quarantine_path slot id.0)) [ inl same ↦ inl (same_at old new slot id (λ _. same)) | inr gone ↦ inr (quarantined-none new slot id gone) ]

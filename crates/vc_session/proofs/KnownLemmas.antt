@@ -103,13 +103,6 @@ AreWhole-by_refs content known values others whole = record {
   histories = λ y h. let v = others.each h.root h.is_root in whole.history v.0 h.root v.1 v.2 y h.reaches;
 }
 
--- and nothing is whole for nothing
-pub AreWhole-nothing : (o : ObjectMap) (known : Known) → known.objects.keys ≡ [] → known.histories.keys ≡ [] → AreWhole o known
-AreWhole-nothing o known none nor = record {
-  closed = λ y r. absurd (omega (arith, r.is_root.1, ap length none));
-  histories = λ y r. absurd (omega (arith, r.is_root.1, ap length nor));
-}
-
 -- ---- the entries of a list of refs
 same_some : {X : Type 0} (x y : X) → ◌≡◌ {A = Option X} (Some x) (Some y) → x ≡ y
 same_some x y e = cc e

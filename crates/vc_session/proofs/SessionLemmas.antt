@@ -103,13 +103,6 @@ refused_migration content s (of_store.Absent id) h = h
 refused_migration content s (of_store.Damaged id) h = h
 refused_migration content s (of_store.Fault fault) h = tt
 
-pub refused_update : (content : FileMap) (s : SessionText) (name : List ℕ) (e : RefFault) → BlamesUpdate content name e → IsRefusedStep content s Migrated (from_refs e)
-refused_update content s name (of_refs.Stale current) h = h
-refused_update content s name (of_refs.Conflict other) h = h
-refused_update content s name (of_refs.BadRefFile path) h = h.0
-refused_update content s name of_refs.HeadLoop h = h
-refused_update content s name (of_refs.Fault fault) h = tt
-
 -- what an error leaves, from what it is
 pub on_err : {A E : Type 0} (r : Result A E) (X : Type 0) → X → OnErr r X
 on_err (Ok a) X x = tt

@@ -1,6 +1,6 @@
 -- The verdict on a command at its update, from what its ref's files are.
-use Rattle.std.proofs.Common.{arith, ◌≡◌, ℕ, Bool, true, false, cond, subst, ◌&&◌, ◌||◌, nat_eq, List, [], ◌∷◌, ◌++◌, inl, inr, Option, Some, None, is_some, sym, ap, refl, ◌∙◌, true≢false}
-use Rattle.std.specs.Prelude.{codes, Result, Err, IfOk, IfErr, IsErrOf}
+use Rattle.std.proofs.Common.{arith, ◌≡◌, ℕ, Bool, true, false, cond, subst, ◌&&◌, ◌||◌, ◌⊎◌, nat_eq, List, [], ◌∷◌, ◌++◌, inl, inr, Option, Some, None, is_some, sym, ap, refl, ◌∙◌, true≢false}
+use Rattle.std.specs.Prelude.{codes, string_bytes, Result, Err, IfOk, IfErr, IsErrOf}
 use Rattle.std.specs.List.{starts_with}
 use Rattle.std.proofs.lemmas.Bool.{and_from, and_parts, false_from_ne_true}
 use Rattle.vc_files.proofs.WearLemmas.{fails_later}
@@ -9,12 +9,13 @@ use Rattle.vc_files.specs.FileMap.{FileMap}
 use Rattle.vc_object.specs.declared.id.ObjectId.{ObjectId}
 use Rattle.vc_push.specs.Push.{CommandText}
 use Rattle.vc_push.specs.declared.reason.Reason.TheVariants.{AlreadyExists, NameConflict, Stale}
-use Rattle.vc_refs.proofs.RefsLemmas.{taken_from_ref}
+use Rattle.vc_refs.proofs.LayeredChangeLemmas.{refs_free}
+use Rattle.vc_refs.proofs.LayeredLemmas.{decides-loose, decides-packed}
 use Rattle.vc_files.specs.declared.faults.Fault.TheVariants.{Device}
-use Rattle.vc_refs.specs.RefFault.{BlamesSet, IsStale, MaySet}
+use Rattle.vc_refs.specs.RefFault.{BlamesRef, BlamesSet, IsStale, MaySet}
 use Rattle.vc_refs.specs.declared.faults.RefFault.{RefFault}
 use Rattle.vc_refs.specs.declared.faults.RefFault.TheVariants as fault
-use Rattle.vc_refs.specs.Refs.{refs}
+use Rattle.vc_refs.specs.Refs.{is_taken, packed_path, refs}
 use Rattle.vc_refs.specs.Way.{IsFirstInTheWay, IsFree}
 use Rattle.vc_session.specs.Updating.{BlamesUpdate, reason_of}
 use Rattle.vc_session.specs.Verdict.{refs_after, IsVerdictAtUpdate, MayBeSet, UpdateNeeds, expected, is_branch, is_tag}
@@ -30,10 +31,6 @@ shorter (x ∷ xs) (b ∷ front) back h =
 in_refs : (name : List ℕ) (branch : Bool) → is_branch name ≡ branch → (branch || is_tag name) ≡ true → starts_with nat_eq name (codes "refs/") ≡ true
 in_refs name true is inside = shorter name (codes "refs/") (codes "heads/") is
 in_refs name false is inside = shorter name (codes "refs/") (codes "tags/") inside
-
--- a branch or a tag lies in `refs/`
-pub may_in_refs : (name : List ℕ) → MayBeSet name → starts_with nat_eq name (codes "refs/") ≡ true
-may_in_refs name may = in_refs name (is_branch name) refl may.inside
 
 none_there : (o : Option ObjectId) → is_some o ≡ true → o ≡ None → ⊥
 none_there None some none = true≢false (sym some)
@@ -58,7 +55,7 @@ module _ (content : FileMap) (c : CommandText) where
     in_the_way other first some = inr (absent, inl ((λ needs. true≢false (sym first.here.conflict ∙ needs other some)), refl))
 
     free : IsFree content c.name → UpdateNeeds (refs content) c NameConflict
-    free is = λ other some. false_from_ne_true _ (λ conflict. is other (record { taken = taken_from_ref content other some; conflict = conflict }))
+    free is = refs_free content c.name is
 
     pub stale : (current : Option ObjectId) → IsFree content c.name → IsStale content c.name (expected c.old) current → IsVerdictAtUpdate (refs content) c (Some Stale)
     stale current is s = inr (absent, inr (free is, inl ((λ needs. s.other (sym s.is ∙ needs)), refl)))
@@ -69,7 +66,7 @@ module _ (content : FileMap) (c : CommandText) where
     -- what refuses the value of the ref gives the verdict
     pub refused_verdict : (e : RefFault) → BlamesSet content c.name (expected c.old) e → IfOk (reason_of e) (IsVerdictAtUpdate (refs content) c)
     refused_verdict (fault.Stale current) b = stale current b.0 b.1
-    refused_verdict (fault.Conflict other) b = in_the_way other b.0 b.1
+    refused_verdict (fault.Conflict other) b = in_the_way other b.1 b.2
     refused_verdict (fault.BadRefFile path) b = tt
     refused_verdict fault.HeadLoop b = tt
     refused_verdict (fault.Fault f) b = tt
@@ -77,7 +74,10 @@ module _ (content : FileMap) (c : CommandText) where
   pub refused_blames : (e : RefFault) → BlamesSet content c.name (expected c.old) e → IfErr (reason_of e) (BlamesUpdate content c.name)
   refused_blames (fault.Stale current) b = tt
   refused_blames (fault.Conflict other) b = tt
-  refused_blames (fault.BadRefFile path) b = (b.0, elim b.1 [ inl first ↦ inl first | inr own ↦ inr own.0 ])
+  refused_blames (fault.BadRefFile path) b = elim b [
+    | inl packed ↦ (inr packed, inr (inr packed.0))
+    | inr own ↦ (inl own.1, elim own.2 [ inl first ↦ inl first | inr is ↦ inr (inl is.0) ])
+  ]
   refused_blames fault.HeadLoop b = b
   refused_blames (fault.Fault f) b = tt
 
@@ -89,13 +89,17 @@ module _ (content : FileMap) (c : CommandText) where
   refused_refs now fault.HeadLoop same = tt
   refused_refs now (fault.Fault f) same = tt
 
--- a refusal is no pass
-pub refused_no_pass : (P : Type 0) (e : RefFault) → IfOk (reason_of e) (λ found. found ≡ None → P)
-refused_no_pass P (fault.Stale current) = λ h. absurd (cc h)
-refused_no_pass P (fault.Conflict other) = λ h. absurd (cc h)
-refused_no_pass P (fault.BadRefFile path) = tt
-refused_no_pass P fault.HeadLoop = tt
-refused_no_pass P (fault.Fault f) = tt
+-- what refuses the look at a tag
+pub tag_blames : (content : FileMap) (name : List ℕ) (e : RefFault) → BlamesRef content name e → BlamesUpdate content name e
+tag_blames content name (fault.Stale current) b = b
+tag_blames content name (fault.Conflict other) b = b
+tag_blames content name (fault.BadRefFile path) b = (b.1, inr (by (is_taken content name) refl))
+  where
+    by : (t : Bool) → is_taken content name ≡ t → (string_bytes path ≡ name) ⊎ (string_bytes path ≡ packed_path)
+    by true taken = inl (b.0 ∙ decides-loose content name taken)
+    by false free = inr (b.0 ∙ decides-packed content name free)
+tag_blames content name fault.HeadLoop b = b
+tag_blames content name (fault.Fault f) b = tt
 
 pub device_told : (T : Type 0) (e : RefFault) → ◌≡◌ {A = Result T RefFault} (Err e) (Err (fault.Fault Device)) → IsErrOf (reason_of e) (fault.Fault Device)
 device_told T (fault.Stale current) h = absurd (cc h)

@@ -43,7 +43,7 @@ BlamesMigration content slot names (of_store.Absent id) = Contains names id × (
 BlamesMigration content slot names (of_store.Damaged id) = Contains names id × IsDamagedSeen content slot id
 BlamesMigration content slot names (of_store.Fault fault) = ⊤
 
--- a file in `refs/` is none of a ref
+-- a file of the refs can't be read
 abbrev pub BlamesRefs : FileMap → RefFault → Type 0
 BlamesRefs content (of_refs.Stale current) = ⊥
 BlamesRefs content (of_refs.Conflict name) = ⊥

@@ -3,16 +3,16 @@ use Rattle.std.specs.Prelude.{◌≡◌, ◌⊎◌, ⊤, ℕ, List, Option, Some
 use Rattle.vc_files.specs.FileMap.{FileMap}
 use Rattle.vc_push.specs.declared.reason.Reason.{Reason}
 use Rattle.vc_push.specs.declared.reason.Reason.TheVariants as reason
-use Rattle.vc_refs.specs.Refs.{IsBadRef}
+use Rattle.vc_refs.specs.Refs.{packed_path, IsBadRef}
 use Rattle.vc_refs.specs.Way.{IsFirstInTheWay}
 use Rattle.vc_refs.specs.declared.faults.RefFault.{RefFault}
 use Rattle.vc_refs.specs.declared.faults.RefFault.TheVariants.{Stale, Conflict, BadRefFile, HeadLoop, Fault}
 
--- a file in `refs/` that stands for no ref: the ref's own, or the first that stands in its way
+-- a file of the refs that can't be read: the packed one, the first that stands in the ref's way, or its own
 abbrev pub BlamesUpdate : FileMap → List ℕ → RefFault → Type 0
 BlamesUpdate content name (Stale current) = ⊥
 BlamesUpdate content name (Conflict other) = ⊥
-BlamesUpdate content name (BadRefFile path) = IsBadRef content (string_bytes path) × (IsFirstInTheWay content name (string_bytes path) ⊎ (string_bytes path ≡ name))
+BlamesUpdate content name (BadRefFile path) = IsBadRef content (string_bytes path) × (IsFirstInTheWay content name (string_bytes path) ⊎ ((string_bytes path ≡ name) ⊎ (string_bytes path ≡ packed_path)))
 BlamesUpdate content name HeadLoop = ⊥
 BlamesUpdate content name (Fault fault) = ⊤
 

@@ -13,7 +13,7 @@ use vc_store::StoreFault;
 pub enum SessionFault {
     /// 12: the file of an object is damaged, in the store or in the quarantine; 11: a carried object is gone from there.
     Store(StoreFault),
-    /// 33: a file in `refs/` stands for no ref.
+    /// 33: a file in `refs/` stands for no ref, or the packed file can't be read.
     Refs(RefFault),
     /// Want of memory, or a device that failed. It stands here alone, and in neither of the variants above.
     Fault(Fault),

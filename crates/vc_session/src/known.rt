@@ -37,7 +37,7 @@ impl Known {
         }
     }
 
-    /// The values of all refs, and as commits those of all but the tags. Each file in `refs/` is read once.
+    /// The values of all refs, and as commits those of all but the tags. The packed file and each file in `refs/` are read once.
     pub fn by_refs<F: Files>(files: &mut F, alloc: Global) -> Result<Known, RefFault>
         ensures whole { F.honest → IfOk result (λ known. AreRefsWhole (F.content files.old) → AreWhole (objects (F.content files.old)) known) }
         ensures refused { F.honest → IfErr result (BlamesList (F.content files.old)) }

@@ -156,9 +156,6 @@ module _ (m : Message) (old new : FileMap) (slots after : List (Option SessionTe
       answers_as (Accept m) old new slots after result (slot_reply r) told
       (λ was_up is_up was up. push_answers old new slots after push m was_up is_up r is opened unchanged refused outside bad was (up ∙ up_of_slot r))
 
-pub to_write : (m : Message) (push : PushText) → TextOf m (a_push push) → IsToWrite m
-to_write m push is = subst (λ (s : Message). IsToWrite s) (sym is.is) tt
-
 -- ---- why it is refused, and what the device did, told in other words
 module _ (P : SharedFault → Type 0) where
   pub reply_refused : (r : Result (Vec ℕ Global) SharedFault) (result : Result Accepted SharedFault) → result ≡ reply_of r → IfErr r P → IfErr result P
@@ -168,10 +165,6 @@ module _ (P : SharedFault → Type 0) where
   pub slot_refused : (r : Result ℕ SharedFault) (result : Result Accepted SharedFault) → result ≡ slot_reply r → IfErr r P → IfErr result P
   slot_refused (Ok k) result is h = subst (λ (q : Result Accepted SharedFault). IfErr q P) (sym is) tt
   slot_refused (Err e) result is h = subst (λ (q : Result Accepted SharedFault). IfErr q P) (sym is) h
-
-pub slot_unchanged_as : (Q : Type 0) (r : Result ℕ SharedFault) (result : Result Accepted SharedFault) → result ≡ slot_reply r → OnErr r Q → OnErr result Q
-slot_unchanged_as Q (Ok k) result is h = subst (λ (q : Result Accepted SharedFault). OnErr q Q) (sym is) tt
-slot_unchanged_as Q (Err e) result is h = subst (λ (q : Result Accepted SharedFault). OnErr q Q) (sym is) h
 
 reply_device : (r : Result (Vec ℕ Global) SharedFault) → TellsDevice (reply_of r) ≡ TellsDevice r
 reply_device (Ok bytes) = refl

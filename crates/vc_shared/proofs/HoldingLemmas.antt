@@ -1,6 +1,6 @@
 -- What stays of a held node where files change.
 use Rattle.std.proofs.Common.{◌≡◌, ◌≢◌, ◌<◌, ◌^◌, ◌++◌, arith, ℕ, true, false, nat_eq, length, List, [], Option, Some, None, refl, sym, ap, ◌∙◌, subst}
-use Rattle.std.specs.Prelude.{codes, slice_set, unwrap_or}
+use Rattle.std.specs.Prelude.{bytes_eq, codes, slice_set, unwrap_or}
 use Rattle.std.specs.FinMap as files
 use Rattle.std.specs.FinMap.{get}
 use Rattle.std.specs.List.{starts_with}
@@ -14,7 +14,8 @@ use Rattle.vc_node.specs.IndexFile.{index_bytes}
 use Rattle.vc_node.specs.Machine.{Spells}
 use Rattle.vc_node.specs.Shown.{shown}
 use Rattle.vc_refs.proofs.WayLemmas.{split_from_starts}
-use Rattle.vc_refs.specs.Head.{KeepsTheRest, head_of}
+use Rattle.vc_refs.specs.Head.{KeepsOutside, KeepsTheRest, head_of}
+use Rattle.vc_refs.specs.Refs.{packed_path}
 use Rattle.vc_rules.proofs.OpenPushLaws.{others_stay}
 use Rattle.vc_rules.specs.OpenPushes.{HoldsContent}
 use Rattle.vc_session.specs.Clean.{MakesNoneBad}
@@ -69,7 +70,7 @@ pub beside_objects : (old new : FileMap) → SameOutside (codes "objects/") old 
 beside_objects old new same = beside_by old new (same.at (codes "HEAD") refl) (same.at (codes "index") refl)
 
 pub beside_ref : (name : List ℕ) (old new : FileMap) → KeepsTheRest name old new → SameBeside old new
-beside_ref name old new rest = beside_by old new (rest.outside.at (codes "HEAD") refl) (rest.outside.at (codes "index") refl)
+beside_ref name old new rest = beside_by old new (rest.outside.at (codes "HEAD") refl refl) (rest.outside.at (codes "index") refl refl)
 
 pub steps_beside : (old new : FileMap) (s t : SessionText) (did : SessionStep) → Steps old new s t did → SameBeside old new
 steps_beside old new s t (session.Checked n) h = beside_same old new h.files
@@ -81,17 +82,23 @@ steps_beside old new s t (session.Finished report) h = beside_slot s.slot old ne
 abbrev SameThere : FileMap → FileMap → ℕ → Type 0
 SameThere old new slot = (path : List ℕ) → starts_with nat_eq path (quarantine_folder slot) ≡ true → files.get new path ≡ files.get old path
 
-dropped_on : (old new : FileMap) (slot : ℕ) → SameThere old new slot → IsDropped slot old → IsDropped slot new
+pub dropped_on : (old new : FileMap) (slot : ℕ) → SameThere old new slot → IsDropped slot old → IsDropped slot new
 dropped_on old new slot same dropped path h = same path h ∙ dropped path h
 
 beyond : (prefix : List ℕ) (slot : ℕ) → ((rest : List ℕ) → starts_with nat_eq (quarantine_folder slot ++ rest) prefix ≡ false) → (old new : FileMap) → SameOutside prefix old new → SameThere old new slot
 beyond prefix slot apart old new same path h =
     same.at path (ap (λ p. starts_with nat_eq p prefix) (split_from_starts path (quarantine_folder slot) h) ∙ apart _)
 
+-- a change of a ref is none there
+pub beyond_refs : (slot : ℕ) (old new : FileMap) → KeepsOutside old new → SameThere old new slot
+beyond_refs slot old new same path h =
+    let is = split_from_starts path (quarantine_folder slot) h in
+    same.at path (ap (λ p. starts_with nat_eq p (codes "refs/")) is) (ap (λ p. bytes_eq p packed_path) is)
+
 pub steps_dropped : (old new : FileMap) (s t : SessionText) (did : SessionStep) (slot : ℕ) → s.slot < 2 ^ 64 → slot < 2 ^ 64 → slot ≢ s.slot → Steps old new s t did → IsDropped slot old → IsDropped slot new
 steps_dropped old new s t (session.Checked n) slot small fits apart h dropped = subst (IsDropped slot) (sym h.files) dropped
 steps_dropped old new s t session.Migrated slot small fits apart h dropped = dropped_on old new slot (beyond (codes "objects/") slot (λ rest. refl) old new h.outside) dropped
-steps_dropped old new s t (session.Updated name found) slot small fits apart h dropped = dropped_on old new slot (beyond (codes "refs/") slot (λ rest. refl) old new h.rest.outside) dropped
+steps_dropped old new s t (session.Updated name found) slot small fits apart h dropped = dropped_on old new slot (beyond_refs slot old new h.rest.outside) dropped
 steps_dropped old new s t (session.Finished report) slot small fits apart h dropped =
     dropped_on old new slot (beyond (quarantine_folder s.slot) slot (λ rest. other_slot s.slot slot rest small fits apart) old new h.outside) dropped
 

@@ -28,7 +28,7 @@ use Rattle.vc_refs.proofs.WayLemmas.{split_from_starts}
 use Rattle.vc_refs.specs.Head.{read_head, head_of}
 use Rattle.vc_refs.specs.RefFault.{BlamesHead}
 use Rattle.vc_refs.specs.RefMap.{RefMap}
-use Rattle.vc_refs.specs.Refs.{refs}
+use Rattle.vc_refs.specs.Refs.{packed_at, packed_path, refs}
 use Rattle.vc_refs.specs.declared.faults.RefFault.{RefFault}
 use Rattle.vc_refs.specs.declared.faults.RefFault.TheVariants.{Stale, Conflict, BadRefFile, HeadLoop, Fault}
 use Rattle.vc_refs.specs.declared.heads.Head.{Head}
@@ -85,10 +85,10 @@ loses_on old mid now loses same = subst (λ (m : FileMap). LosesPushes old m) (s
 
 -- what was bad before a call is all that is bad after it
 pub clean_by : (old new : FileMap) → MakesNoneBad old new → KeepsClean old new
-clean_by old new bad = record { damage = record { before = bad.objects }; refs = bad.refs }
+clean_by old new bad = record { damage = record { before = bad.objects }; refs = bad.refs; packed = record { at = λ n other. ap (λ m. packed_at m n) bad.packed } }
 
 pub clean_lost : (old new : FileMap) → LosesPushes old new → KeepsClean old new
-clean_lost old new loses = clean_by old new (bad_loses old new loses.left)
+clean_lost old new loses = clean_by old new (bad_loses old new loses.left (loses.outside.at packed_path refl))
 
 -- ---- what files show that lost pushes
 no_push : (q : List ℕ) → starts_with nat_eq q (codes "refs/") ≡ true → starts_with nat_eq q quarantines ≡ false
@@ -108,13 +108,13 @@ module _ (old new : FileMap) (loses : LosesPushes old new) where
   pub shown_kept : shown new ≡ shown old
   shown_kept =
       same_shown (objects new) (objects old) (refs new) (refs old) (head_of new) (head_of old) (index_bytes new) (index_bytes old) objects_kept
-      (refs-kept old new (λ q h. loses.outside.at q (no_push q h)))
+      (refs-kept old new (λ q h. loses.outside.at q (no_push q h)) (loses.outside.at packed_path refl))
       (head-same old new (loses.outside.at (codes "HEAD") refl)) index_kept
 
   pub openable_kept : (r : Repository) → IsOpenable old r → IsOpenable new r
   openable_kept r can = record {
     spells = subst (λ (s : Shown). Spells (opened s.head s) r) (sym shown_kept) can.spells;
-    clean = clean_on old new (bad_loses old new loses.left) can.clean;
+    clean = clean_on old new (bad_loses old new loses.left (loses.outside.at packed_path refl)) can.clean;
   }
 
   -- a refusal is for the same files

@@ -16,6 +16,7 @@ use Rattle.vc_node.specs.Machine.{Spells, fault_answer, failure_of}
 use Rattle.vc_node.specs.Opening.{opened_node}
 use Rattle.vc_node.specs.Shown.{Shown}
 use Rattle.vc_node.specs.declared.fault.NodeFault.{NodeFault}
+use Rattle.vc_refs.specs.Refs.{packed_path}
 use Rattle.vc_session.proofs.CleanLemmas.{bad_loses}
 use Rattle.vc_session.specs.Session.{SessionText}
 use Rattle.vc_shared.proofs.HoldingLemmas.{clean_on}
@@ -54,7 +55,7 @@ module _ (old new : FileMap) (slots after : List (Option SessionText)) (was_up :
           None,
           record {
             spells = subst (λ (s : Shown). Spells s n.repository) (sym (shown_kept old new loses)) held.spells;
-            clean = clean_on old new (bad_loses old new loses.left) held.clean;
+            clean = clean_on old new (bad_loses old new loses.left (loses.outside.at packed_path refl)) held.clean;
             live = tt;
           },
           record { answer = sym why.1; sent = refl },

@@ -3,15 +3,18 @@ use Rattle.std.proofs.Common.{◌≡◌, inl, inr, ℕ, List, Option, Some, None
 use Rattle.std.specs.Prelude.{IfErr, IsErrAnd, codes, option_and_then, option_map}
 use Rattle.std.specs.FinMap.{get}
 use Rattle.std.proofs.lemmas.Option.{none-some, same_Some}
-use Rattle.vc_answer.specs.AnswerFault.{BlamesRefs}
+use Rattle.vc_answer.specs.AnswerFault.{BlamesRefs, from_refs}
 use Rattle.vc_answer.specs.declared.fault.AnswerFault.{AnswerFault}
 use Rattle.vc_files.specs.FileMap.{FileMap}
 use Rattle.vc_node.specs.Clean.{IsClean}
 use Rattle.vc_refs.specs.Head.{IsBadHead, IsHeadLoop, head_of, read_head, said}
+use Rattle.vc_refs.specs.RefFault.{BlamesHeadValue}
+use Rattle.vc_refs.specs.Refs.{SpellsRefs}
 use Rattle.vc_refs.specs.declared.faults.RefFault.{RefFault}
 use Rattle.vc_refs.specs.declared.faults.RefFault.TheVariants as ref
 use Rattle.vc_refs.specs.declared.heads.Head.{Head}
 use Rattle.vc_shared.specs.Faults.{of_answer}
+use Rattle.vc_shared.specs.Serving.{IsRefusedList}
 use Rattle.vc_shared.specs.declared.fault.SharedFault.{SharedFault}
 
 -- ---- what is refused
@@ -19,6 +22,14 @@ pub refuses : {T : Type 0} (Blames : AnswerFault → Type 0) (f : AnswerFault) (
     → IfErr q (λ e. (g : AnswerFault) × (e ≡ of_answer g) × Blames g)
 refuses Blames f (Ok x) is why = tt
 refuses Blames f (Err e) is why = (f, is, why)
+
+-- where each file of the refs can be read, a look at HEAD's ref is refused for HEAD's own file alone
+pub head_blames : (content : FileMap) → SpellsRefs content → (e : RefFault) → BlamesHeadValue content e → IsRefusedList content (from_refs e)
+head_blames content spells (ref.Stale current) b = absurd b
+head_blames content spells (ref.Conflict other) b = absurd b
+head_blames content spells (ref.BadRefFile path) b = elim b [ inl head ↦ inr head | inr named ↦ absurd (spells _ named.3) ]
+head_blames content spells ref.HeadLoop b = b
+head_blames content spells (ref.Fault f) b = tt
 
 -- ---- clean files with a HEAD are not to blame
 -- a file that says nothing says no HEAD

@@ -45,7 +45,7 @@ use Rattle.vc_refs.specs.RefMap.{is_ref}
 use Rattle.vc_refs.specs.Refs.{refs}
 use Rattle.vc_refs.specs.declared.heads.Head.{Head}
 use Rattle.vc_refs.specs.declared.heads.Head.TheVariants as head
-use Rattle.vc_refs.proofs.RefsLemmas.{ref_legal, refs-at}
+use Rattle.vc_refs.proofs.LayeredLemmas.{ref_legal, ref_whole}
 use Rattle.vc_shared.specs.Serving.{TellsRefs}
 
 -- ---- refs that are set one after another
@@ -117,14 +117,6 @@ spelled_id text id = by (decode_sized (without_lf text) 20) refl
     by : (r : Result (List ℕ) FromHexError) → decode_sized (without_lf text) 20 ≡ r → option_map id_of (result_ok r) ≡ Some id → IsId id
     by (Ok bytes) is e = sized_id (without_lf text) id (is ∙ ap (λ (i : ObjectId). Ok i.0) (same_Some (id_of bytes) id e))
     by (Err x) is e = absurd (none-some id e)
-
--- a ref's value is one
-ref_id : (content : FileMap) (name : List ℕ) (id : ObjectId) → refs content name ≡ Some id → IsId id
-ref_id content name id e = by (finite.get content name) (sym (refs-at content name (ref_legal content name id e)) ∙ e)
-  where
-    by : (found : Option (List ℕ)) → option_and_then id_in found ≡ Some id → IsId id
-    by None is = absurd (none-some id is)
-    by (Some text) is = spelled_id text id is
 
 -- a text that names a branch, or nothing, says no id
 no_id_named : {H : Type 0} (says : H → Option Head) (named : List ℕ) (itself branch nothing : H) (self legal : Bool) (id : ObjectId) → says (cond self itself (cond legal branch nothing)) ≡ Some (head.Id id)
@@ -206,14 +198,14 @@ few_bytes name legal = let few : length name ≤ 255 = ltb-false 255 (length nam
 written_ref : (content : FileMap) (name : List ℕ) (id : ObjectId) → refs content name ≡ Some id → IsWrittenRef (name, id)
 written_ref content name id e =
     let legal = ref_legal content name id e in
-    record { name = is_name name legal; counts = counts name legal; id = ref_id content name id e; short = few_bytes name (keeps name legal) }
+    record { name = is_name name legal; counts = counts name legal; id = ref_whole content name id e; short = few_bytes name (keeps name legal) }
 
 -- ---- what is told
 module _ (content : FileMap) (t : AdvertText) (tells : TellsRefs content t) where
   head_is_id : (at : Option Head) → head_of content ≡ at → (value : Option ObjectId) → head_value (refs content) at ≡ value → IsHeadId value
   head_is_id at is None e = tt
   head_is_id None is (Some id) e = absurd (none-some id e)
-  head_is_id (Some (head.Branch name)) is (Some id) e = ref_id content name id e
+  head_is_id (Some (head.Branch name)) is (Some id) e = ref_whole content name id e
   head_is_id (Some (head.Id x)) is (Some id) e = head_id content id (is ∙ ap (λ y. Some (head.Id y)) (same_Some x id e))
 
   -- it is read as it is written

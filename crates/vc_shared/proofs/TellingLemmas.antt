@@ -120,20 +120,3 @@ short_report s (session.Finished report) tells h =
 -- of commands that stay the same, all can be told as before
 pub told_on : (s t : SessionText) → t.commands ≡ s.commands → AreToldInOne s → AreToldInOne t
 told_on s t same h = record { each = subst (All IsTellable) (sym same) h.each; few = subst (λ (cs : List CommandText). length cs ≤ 256) (sym same) h.few }
-
--- ---- as the machine has it
--- the bytes of a finished push are those of the machine's report
-pub finished_written : (s : SessionText) (report : ReportText) (bytes : List ℕ) (fault : Option ℕ) (told : List MachineTold) → IsReport s report → AreToldInOne s
-    → bytes ≡ flat_map spelling (report_lines report) → fault ≡ option_map fault_number s.fault → report.unpack ≡ option_map unpack_error fault → AreToldAs report.told told
-    → IsWritten (MachineReport fault told) bytes
-finished_written s report bytes fault told is h spelled fault_is unpack told_as =
-    let written = written_report s report is h in
-    let text = subst (λ f. IsMachineReport (MachineReport f told) report) (sym fault_is)
-    (report_of report s.fault told (unpack ∙ ap (option_map unpack_error) fault_is) told_as) in
-    record {
-      text = a_report report;
-      is = text;
-      written = written;
-      spelled = spelled;
-      reads = record { text = a_report report; is = text; spelled = subst (λ b. IsSpelledBy SpellsMessage (a_report report) b) (sym spelled) (written_message (a_report report) written) };
-    }

@@ -6,13 +6,16 @@ ghost use Rattle.vc_message.specs.AnyView.{message_text};
 ghost use Rattle.vc_message.specs.Machine.{IsUnread, Reads, TextOf};
 ghost use Rattle.vc_message.specs.Read.{WasRead};
 ghost use Rattle.vc_model.specs.Message.{Message as Sent};
-ghost use Rattle.vc_model.specs.Question.Question.{Resolve, Unread};
+ghost use Rattle.vc_model.specs.Question.Question.{PackRefs, Resolve, Unread};
 ghost use Rattle.vc_model.specs.Repository.{Repository};
 ghost use Rattle.vc_model.specs.SharedCall.SharedCall.{Accept, Asks, Open, StepOf};
-ghost use Rattle.vc_node.specs.Blames.{BlamesOpen};
+ghost use Rattle.vc_node.specs.Blames.{BlamesOpen, BlamesPacking};
+ghost use Rattle.vc_node.specs.Machine.{up_after as node_up_after};
 ghost use Rattle.vc_node.specs.Clean.{KeepsClean};
 ghost use Rattle.vc_node.specs.NodeFault.{IsOfDevice as IsNodeDevice, TellsDevice as TellsNodeDevice};
 ghost use Rattle.vc_node.specs.Opening.{IsOpenable};
+ghost use Rattle.vc_refs.specs.Head.{KeepsOutside};
+ghost use Rattle.vc_refs.specs.Refs.{refs};
 ghost use Rattle.vc_repository.specs.Resolving.{DenotesIn};
 ghost use Rattle.vc_rev.specs.Grammar.{IsExpr};
 ghost use Rattle.vc_rev.specs.Views.{expr_view};
@@ -211,6 +214,31 @@ impl<F: Files> Shared<F> {
         }
         let accepted = accepting::take(self.alloc, &mut self.files, &mut self.slots, message);
         self.settle(accepted)
+    }
+
+    /// Puts all refs into one file. Nothing else is written, no ref changes and each open push stays, wherever it stops. 33 where
+    /// one of their files can't be read.
+    pub fn pack_refs(&mut self) -> Result<(), NodeFault>
+        ensures answers { F.honest → AnswersShared (Asks PackRefs) (RestartedAs result) (F.content self.old.files) (F.content self.new.files) self.old.slots self.new.slots self.old.is_up self.new.is_up }
+        ensures kept { F.honest → refs (F.content self.new.files) ≡ refs (F.content self.old.files) }
+        ensures refused { F.honest → IfErr result (λ e. (e ≡ NodeFault.Down) ⊎ BlamesPacking (F.content self.old.files) e) }
+        ensures down { self.old.is_up ≡ false → result ≡ Err NodeFault.Down }
+        ensures up { self.old.is_up ≡ true → self.new.is_up ≡ node_up_after result }
+        ensures slots { self.new.slots ≡ self.old.slots }
+        ensures rest { F.honest → KeepsOutside (F.content self.old.files) (F.content self.new.files) }
+        ensures wear { Writes F.honest F.content F.failed F.can_fail F.left self.old.files self.new.files (TellsNodeDevice result) }
+    {
+        if !self.is_up {
+            return Err(NodeFault::Down);
+        }
+        match vc_refs::pack(&mut self.files, self.alloc) {
+            Ok(()) => Ok(()),
+            Err(fault) => {
+                let fault = NodeFault::from(fault);
+                self.is_up = !fault.is_fault();
+                Err(fault)
+            }
+        }
     }
 
     /// The object that an expression names at the node: 51 to 56 where it names none.

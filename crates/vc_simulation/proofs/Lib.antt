@@ -1,4 +1,3 @@
-pub mod EndLemmas
 pub mod SteadyLemmas
 pub mod ValueLemmas
 pub mod SharedLemmas

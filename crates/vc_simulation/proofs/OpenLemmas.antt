@@ -35,9 +35,6 @@ use Rattle.vc_store.specs.declared.faults.StoreFault.TheVariants as store
 pub in_ok : {T E : Type 0} (P : T → Type 0) (r : Result T E) (x : T) → r ≡ Ok x → IfOk r P → P x
 in_ok {T} {E} P r x is holds = subst (λ (r : Result T E). IfOk r P) is holds
 
-pub in_err : {T E : Type 0} (P : E → Type 0) (r : Result T E) (e : E) → r ≡ Err e → IfErr r P → P e
-in_err {T} {E} P r e is holds = subst (λ (r : Result T E). IfErr r P) is holds
-
 -- ---- no files refuse nothing
 
 none_found : (path : List ℕ) → get (empty {X = List ℕ} {R = slice_cmp nat_cmp}) path ≡ None

@@ -103,7 +103,7 @@ pub(crate) fn shared_value(called: Result<ObjectId, SharedFault>) -> Result<Obje
     }
 }
 
-/// What the shared node said of its restart.
+/// What the shared node said of its restart, or of packing its refs.
 pub(crate) fn shared_restarted(called: Result<(), NodeFault>) -> Result<Told, Ended>
     ensures { IsRetold (SharedRestartedAs called) (NodeTellsDevice called) result }
 {
@@ -124,7 +124,7 @@ pub(crate) fn clone_value(called: Result<ObjectId, CloneFault>) -> Result<Object
     }
 }
 
-/// What a clone said of its restart.
+/// What a clone said of its restart, or of packing its refs.
 pub(crate) fn clone_restarted(called: Result<(), NodeFault>) -> Result<Told, Ended>
     ensures { IsRetold (RestartedAs called) (NodeTellsDevice called) result }
 {

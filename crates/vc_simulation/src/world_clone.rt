@@ -383,6 +383,11 @@ impl<F: Files> CloneCalls for WorldClone<F> {
         }
     }
 
+    fn pack(&mut self) -> Result<Told, Ended> {
+        let called = self.node.pack_refs();
+        clone_restarted(called)
+    }
+
     fn reopen(&mut self) -> Result<Told, Ended> {
         let called = self.node.restart();
         clone_restarted(called)

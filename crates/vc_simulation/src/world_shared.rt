@@ -103,6 +103,11 @@ impl<F: Files> SharedCalls for WorldShared<F> {
         }
     }
 
+    fn pack(&mut self) -> Result<Told, Ended> {
+        let called = self.node.pack_refs();
+        shared_restarted(called)
+    }
+
     fn reopen(&mut self) -> Result<Told, Ended> {
         let called = self.node.restart();
         shared_restarted(called)

@@ -1,10 +1,9 @@
 // A look at one ref.
 ghost use Rattle.std.specs.Prelude.{◌≡◌, Some, IfOk, IfErr, OnOk, IsErrOf};
 ghost use Rattle.vc_files.specs.Failures.{Wears};
-ghost use Rattle.vc_refs.specs.Layered.{deciding_file, layered_refs, packed_map, IsBadFile};
-ghost use Rattle.vc_refs.specs.LayeredFault.{BlamesRef, BlamesRemove, HasExpected};
+ghost use Rattle.vc_refs.specs.RefFault.{BlamesRef, BlamesRemove, HasExpected};
+ghost use Rattle.vc_refs.specs.Refs.{deciding_file, is_taken, packed_map, refs, IsBadRef};
 ghost use Rattle.vc_refs.specs.RefMap.{IsInRefs};
-ghost use Rattle.vc_refs.specs.Refs.{is_taken};
 
 use super::packed_file::read_packed;
 use crate::{PackedRefs, RefFault, loose};
@@ -21,8 +20,8 @@ pub fn get<F: Files>(
     name: &RefName,
 ) -> Result<Option<ObjectId>, RefFault>
     requires { IsInRefs name.now }
-    ensures found { F.honest → IfOk result (λ id. id ≡ layered_refs (F.content files.old) name.now) }
-    ensures good { F.honest → OnOk result (IsBadFile (F.content files.old) (deciding_file (F.content files.old) name.now) → ⊥) }
+    ensures found { F.honest → IfOk result (λ id. id ≡ refs (F.content files.old) name.now) }
+    ensures good { F.honest → OnOk result (IsBadRef (F.content files.old) (deciding_file (F.content files.old) name.now) → ⊥) }
     ensures refused { F.honest → IfErr result (BlamesRef (F.content files.old) name.now) }
     ensures same { F.content files.new ≡ F.content files.old }
     ensures wear { Wears F.failed F.can_fail F.left files.old files.new (IsErrOf result (RefFault.Fault Fault.Device)) }

@@ -2,8 +2,8 @@
 ghost use Rattle.std.specs.Prelude.{◌≡◌, IfOk, IfErr, OnOk, IsErrOf};
 ghost use Rattle.vc_files.specs.Failures.{Wears};
 ghost use Rattle.vc_refs.specs.Head.{head_of, head_value};
-ghost use Rattle.vc_refs.specs.Layered.{layered_refs};
-ghost use Rattle.vc_refs.specs.LayeredFault.{BlamesHeadValue, IsGoodHeadValue};
+ghost use Rattle.vc_refs.specs.RefFault.{BlamesHeadValue, IsGoodHeadValue};
+ghost use Rattle.vc_refs.specs.Refs.{refs};
 
 use super::getting::get;
 use crate::{Head, RefFault, head};
@@ -13,7 +13,7 @@ use vc_object::ObjectId;
 
 /// The id that HEAD leads to: its own, or that of the ref that it names. None where HEAD or that ref isn't there.
 pub fn resolve_head<F: Files>(files: &mut F, alloc: Global) -> Result<Option<ObjectId>, RefFault>
-    ensures found { F.honest → IfOk result (λ id. id ≡ head_value (layered_refs (F.content files.old)) (head_of (F.content files.old))) }
+    ensures found { F.honest → IfOk result (λ id. id ≡ head_value (refs (F.content files.old)) (head_of (F.content files.old))) }
     ensures good { F.honest → OnOk result (IsGoodHeadValue (F.content files.old)) }
     ensures refused { F.honest → IfErr result (BlamesHeadValue (F.content files.old)) }
     ensures same { F.content files.new ≡ F.content files.old }

@@ -2,8 +2,8 @@
 ghost use Rattle.std.specs.Prelude.{◌≡◌, Some, IfOk, IfErr, OnOk, OnErr, IsErrOf};
 ghost use Rattle.std.specs.FinMap as names;
 ghost use Rattle.vc_files.specs.Failures.{Wears, Writes};
-ghost use Rattle.vc_refs.specs.Layered.{packed_path, packed_map};
-ghost use Rattle.vc_refs.specs.LayeredFault.{BlamesPacked};
+ghost use Rattle.vc_refs.specs.RefFault.{BlamesPacked};
+ghost use Rattle.vc_refs.specs.Refs.{packed_map, packed_path};
 ghost use Rattle.vc_refs.specs.Packed.{packed_refs, packed_text};
 
 use crate::{PackedRefs, RefFault};

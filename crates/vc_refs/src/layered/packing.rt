@@ -2,9 +2,10 @@
 ghost use Rattle.std.specs.Prelude.{◌≡◌, ◌⊎◌, IfErr, OnOk, IsErrOf, codes, map, string_bytes};
 ghost use Rattle.vc_files.specs.FileMap.{paths_under};
 ghost use Rattle.vc_files.specs.Failures.{Wears, Writes};
-ghost use Rattle.vc_refs.specs.Layered.{layered_refs, AreGone, HasLoose, IsPackedFrom, KeepsOutside, LosesSome, SpellsRefs};
-ghost use Rattle.vc_refs.specs.LayeredFault.{BlamesList};
-ghost use Rattle.vc_refs.specs.RefFault.{IsFault};
+ghost use Rattle.vc_refs.specs.Head.{KeepsOutside};
+ghost use Rattle.vc_refs.specs.Packing.{AreGone, HasLoose, IsPackedFrom, LosesSome};
+ghost use Rattle.vc_refs.specs.RefFault.{BlamesList, IsFault};
+ghost use Rattle.vc_refs.specs.Refs.{refs, SpellsRefs};
 
 use super::listing::all_refs;
 use super::packed_file::write_packed;
@@ -18,7 +19,7 @@ pub fn pack<F: Files>(files: &mut F, alloc: Global) -> Result<(), RefFault>
     ensures packed { F.honest → OnOk result (IsPackedFrom (F.content files.old) (F.content files.new)) }
     ensures good { F.honest → OnOk result (SpellsRefs (F.content files.old)) }
     ensures refused { F.honest → IfErr result (BlamesList (F.content files.old)) }
-    ensures kept { F.honest → layered_refs (F.content files.new) ≡ layered_refs (F.content files.old) }
+    ensures kept { F.honest → refs (F.content files.new) ≡ refs (F.content files.old) }
     ensures rest { F.honest → KeepsOutside (F.content files.old) (F.content files.new) }
     ensures err { F.honest → IfErr result (λ e. IsFault e ⊎ (F.content files.new ≡ F.content files.old)) }
     ensures wear { Writes F.honest F.content F.failed F.can_fail F.left files.old files.new (IsErrOf result (RefFault.Fault Fault.Device)) }

@@ -2,8 +2,8 @@
 ghost use Rattle.std.specs.Prelude.{◌≡◌, ◌⊎◌, true, IfErr, OnOk, OnErr, IsErrOf};
 ghost use Rattle.vc_files.specs.Failures.{Wears, Writes};
 ghost use Rattle.vc_refs.specs.Head.{KeepsTheRest};
-ghost use Rattle.vc_refs.specs.Layered.{layered_refs, IsBadFile};
-ghost use Rattle.vc_refs.specs.LayeredFault.{BlamesSet, MaySet};
+ghost use Rattle.vc_refs.specs.RefFault.{BlamesSet, MaySet};
+ghost use Rattle.vc_refs.specs.Refs.{refs, ChangesOnly};
 ghost use Rattle.vc_refs.specs.RefMap.{IsInRefs, IsRefMap, is_ref, with_ref};
 
 use super::getting::expect_value;
@@ -26,12 +26,12 @@ pub fn set<F: Files>(
     new: ObjectId,
 ) -> Result<(), RefFault>
     requires { IsInRefs name.now }
-    ensures set { F.honest → OnOk result (layered_refs (F.content files.new) ≡ with_ref (layered_refs (F.content files.old)) name.now new) }
+    ensures set { F.honest → OnOk result (refs (F.content files.new) ≡ with_ref (refs (F.content files.old)) name.now new) }
     ensures allowed { F.honest → OnOk result (MaySet (F.content files.old) name.now expected) }
     ensures refused { F.honest → IfErr result (BlamesSet (F.content files.old) name.now expected) }
-    ensures kept { F.honest → IsRefMap (layered_refs (F.content files.old)) → IsRefMap (layered_refs (F.content files.new)) }
+    ensures kept { F.honest → IsRefMap (refs (F.content files.old)) → IsRefMap (refs (F.content files.new)) }
     ensures rest { F.honest → KeepsTheRest name.now (F.content files.old) (F.content files.new) }
-    ensures good { F.honest → (path : _) → IsBadFile (F.content files.new) path → IsBadFile (F.content files.old) path }
+    ensures only { F.honest → ChangesOnly name.now (F.content files.old) (F.content files.new) }
     ensures err { F.honest → OnErr result (F.content files.new ≡ F.content files.old) }
     ensures wear { Writes F.honest F.content F.failed F.can_fail F.left files.old files.new (IsErrOf result (RefFault.Fault Fault.Device)) }
     ensures looks { F.honest → ((is_ref name.now ≡ true) × MaySet (F.content files.old) name.now expected) ⊎ Wears F.failed F.can_fail F.left files.old files.new (IsErrOf result (RefFault.Fault Fault.Device)) }

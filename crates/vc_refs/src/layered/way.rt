@@ -1,8 +1,9 @@
 // What stands in the way of a ref: loose files and packed refs alike.
 ghost use Rattle.std.specs.Prelude.{◌≡◌, Some, IfOk, IfErr, OnOk, IsErrOf, MatchOption};
 ghost use Rattle.vc_files.specs.Failures.{Wears};
-ghost use Rattle.vc_refs.specs.Layered.{packed_map, ComesFirst, IsBehindLoose, IsFirstPackedInTheWay, IsFree, IsFreeOfPacked, IsPackedFirst};
-ghost use Rattle.vc_refs.specs.LayeredFault.{BlamesWay};
+ghost use Rattle.vc_refs.specs.RefFault.{BlamesWay};
+ghost use Rattle.vc_refs.specs.Refs.{packed_map};
+ghost use Rattle.vc_refs.specs.Way.{ComesFirst, IsBehindLoose, IsFirstPackedInTheWay, IsFree, IsFreeOfPacked, IsPackedFirst};
 ghost use Rattle.vc_refs.specs.RefMap.{conflicts, is_folder_of, IsInRefs};
 
 use super::packed_file::read_packed;

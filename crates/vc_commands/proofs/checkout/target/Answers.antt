@@ -1,13 +1,22 @@
-use Rattle.std.proofs.Common.{rules, ◌≡◌, ◌∙◌, Ok, Some, None, ap, inr, refl, subst}
+use Rattle.std.proofs.Common.{rules, ◌≡◌, ◌∙◌, Ok, Some, None, ap, inl, inr, refl, subst}
 use Rattle.vc_files.specs.FileMap.{FileMap}
 use Rattle.vc_refs.specs.Refs.{refs}
 use Rattle.vc_refs.specs.declared.heads.Head.TheVariants as heads
 use Rattle.vc_commands.specs.Checkout.{IsCommitTree, IsOfCommit, IsOfTarget}
 use Rattle.vc_commands.specs.CloneWords.{branch_ref}
-use Rattle.vc_commands.specs.Revisions.{Denoted}
+use Rattle.vc_commands.specs.Revisions.{Denoted, IsOfRevision}
 use Rattle.vc_commands.proofs.AddLemmas.{handed_on}
 use Rattle.vc_commands.proofs.CheckoutLemmas.{no_branch, no_detached, target_branch, target_detached, value_found}
 use Rattle.vc_commands.proofs.checkout.target.Goals as goal
+
+pub returns-in_err-named-clause-refused : goal.returns-in_err-named-clause-refused
+returns-in_err-named-clause-refused g c = λ honest.
+    let old = g.F.Files.content c.args.files.now in
+    let revision = c.args.revision.now in
+    let e = c.in_err-named.field-0.0 in
+    let none : refs old (branch_ref revision) ≡ None = search (rules, c.in_ok-branch.ensures.found honest) in
+    handed_on (IsOfTarget old revision) e c.from_residual-in_err-named.result c.from_residual-in_err-named.ensures.1
+    (no_detached old revision (c.in_ok-branch.ensures.good honest) e none (inl (subst (λ (m : FileMap). IsOfRevision m revision e) c.in_ok-branch.ensures.same (c.in_err-named.ensures.refused honest))))
 
 pub returns-in_err-commit-clause-refused : goal.returns-in_err-commit-clause-refused
 returns-in_err-commit-clause-refused g c = λ honest.

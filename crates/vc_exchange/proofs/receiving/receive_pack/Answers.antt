@@ -17,7 +17,9 @@ use Rattle.vc_pkt.specs.ObjectStreamView.{carried}
 use Rattle.vc_rules.proofs.JoinLemmas.{joined}
 use Rattle.vc_rules.specs.Git.{git}
 use Rattle.vc_rules.specs.OpenPushes.{HoldsContent}
+use Rattle.vc_session.proofs.CleanLemmas.{bad_then}
 use Rattle.vc_session.specs.Carrying.{objects_in}
+use Rattle.vc_session.specs.Clean.{MakesNoneBad}
 use Rattle.vc_session.specs.Known.{AreWhole}
 use Rattle.vc_session.specs.declared.known.Known.{Known}
 use Rattle.vc_store.specs.Store.{objects}
@@ -233,3 +235,17 @@ returns-clause-objects g c = λ honest.
     let stored = keeps_stored (content c.judge_pack.new.files) (content c.store_all.new.files) (carried c.args.pack.now.objects) (c.in_ok-store_all.ensures.stored honest) in
     keeps_then _ _ _ (keeps_same _ _ (c.in_ok-objects.ensures.same ∙ c.in_ok-known.ensures.same))
     (keeps_then _ _ _ stored (keeps_then _ _ _ (keeps_same _ _ c.in_ok-open.ensures.same) (keeps_beside_refs _ _ (c.in_ok-moved.ensures.outside honest))))
+
+pub returns-in_err-moved-clause-bad : goal.returns-in_err-moved-clause-bad
+returns-in_err-moved-clause-bad g c = λ honest.
+    let content = g.F.Files.content in
+    let stored : MakesNoneBad (content c.args.files.now) (content c.store_all.new.files) = rw (c.in_ok-objects.ensures.same, c.in_ok-known.ensures.same) at (c.in_ok-store_all.ensures.bad honest) in
+    let moved : MakesNoneBad (content c.store_all.new.files) (content c.move_refs.new.files) = rw c.in_ok-open.ensures.same at (c.in_err-moved.ensures.bad honest) in
+    bad_then stored moved
+
+pub returns-clause-bad : goal.returns-clause-bad
+returns-clause-bad g c = λ honest.
+    let content = g.F.Files.content in
+    let stored : MakesNoneBad (content c.args.files.now) (content c.store_all.new.files) = rw (c.in_ok-objects.ensures.same, c.in_ok-known.ensures.same) at (c.in_ok-store_all.ensures.bad honest) in
+    let moved : MakesNoneBad (content c.store_all.new.files) (content c.move_refs.new.files) = rw c.in_ok-open.ensures.same at (c.in_ok-moved.ensures.bad honest) in
+    bad_then stored moved

@@ -1,7 +1,6 @@
 use Rattle.std.proofs.Common.{rules, ◌<◌, length, arith}
 use Rattle.vc_exchange.proofs.SendingLemmas.{blamed_file, known_long}
 use Rattle.vc_exchange.specs.SendFault.{BlamesRefFile}
-use Rattle.vc_refname.specs.RefName.{tracking_name}
 use Rattle.vc_exchange.proofs.sending.known_value.Goals as goal
 
 pub returns-then-as_str-gt-MAX_TRACKED-clause-known : goal.returns-then-as_str-gt-MAX_TRACKED-clause-known
@@ -12,5 +11,5 @@ returns-then-as_str-gt-MAX_TRACKED-clause-known g c honest =
 pub returns-in_err-id-clause-refused : goal.returns-in_err-id-clause-refused
 returns-in_err-id-clause-refused g c honest =
     let content = g.F.Files.content c.args.files.now in
-    let own : BlamesRefFile content c.in_err-id.field-0.0 = blamed_file content (tracking_name c.args.name.now) c.in_err-id.field-0.0 (search (rules, c.in_err-id.ensures.refused honest)) in
+    let own : BlamesRefFile content c.in_err-id.field-0.0 = blamed_file content c.in_ok-tracking.tracking c.in_err-id.field-0.0 (c.in_err-id.ensures.refused honest) in
     search (rules, own)

@@ -5,9 +5,12 @@ use Rattle.vc_format.specs.Git.{bytes_of_id}
 use Rattle.vc_model.specs.Clone.{once}
 use Rattle.vc_object.specs.declared.id.ObjectId.{ObjectId}
 use Rattle.vc_refs.specs.Head.{head_of, head_value}
+use Rattle.vc_refs.specs.RefFault.{BlamesHeadValue}
 use Rattle.vc_refs.specs.Refs.{refs}
+use Rattle.vc_exchange.specs.Faults.{from_refs}
+use Rattle.vc_exchange.specs.Wanting.{BlamesWanting}
 use Rattle.vc_exchange.proofs.OnceLemmas.{inserted_once}
-use Rattle.vc_exchange.proofs.WantingHaves.{are_haves, no_head, none_taken, value_found, values_told}
+use Rattle.vc_exchange.proofs.WantingHaves.{are_haves, heads_blames, no_head, none_taken, value_found, values_told}
 use Rattle.vc_exchange.proofs.wanting.haves.Goals.{in-Some+in_ok-insert-2, in_default}
 use Rattle.vc_exchange.proofs.wanting.haves.Goals as goal
 
@@ -21,6 +24,13 @@ loop-id-preserved g c =
     let item = c.loop-id-item.result in
     inserted_once (values_told (take i items)) c.loop-id.ids.keys c.insert.new.self.keys item.1 c.in_ok-insert.ensures.keys c.loop-id.invariant
     ∙ ap (once []) (ap (λ (x : ObjectId). values_told (take i items) ++ x.0 ∷ []) (ap (λ t. t.1) c.loop-id-item.is) ∙ sym (map_more (λ t. bytes_of_id t.1) items i item c.loop-id-test.true))
+
+pub returns-in_err-id-clause-refused : goal.returns-in_err-id-clause-refused
+returns-in_err-id-clause-refused g c honest =
+    let content = g.F.Files.content c.args.files.now in
+    let blames : BlamesHeadValue content c.in_err-id.field-0.0 = rw c.in_ok-list.ensures.same at (c.in_err-id.ensures.refused honest) in
+    let told : BlamesWanting content (from_refs c.in_err-id.field-0.0) = heads_blames content (c.in_ok-list.ensures.good honest) c.in_err-id.field-0.0 blames in
+    search (rules, told)
 
 pub returns-clause-haves : goal.returns-clause-haves
 returns-clause-haves g c honest =

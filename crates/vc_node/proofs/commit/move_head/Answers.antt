@@ -1,3 +1,4 @@
+use Rattle.vc_node.proofs.CleanLemmas.{clean_head}
 use Rattle.vc_node.proofs.ShownLemmas.{shown_head}
 use Rattle.vc_node.proofs.commit.move_head.Goals as goal
 
@@ -5,3 +6,6 @@ pub returns-in_ok-set_head-in-Id-clause-moved : goal.returns-in_ok-set_head-in-I
 returns-in_ok-set_head-in-Id-clause-moved g c = λ honest.
     let is = shown_head _ _ _ (c.in_ok-set_head-in-Id.ensures.only honest) (c.in_ok-set_head-in-Id.ensures.refs honest) (c.in_ok-set_head-in-Id.ensures.set honest) in
     rw c.in-Id.is is
+
+pub returns-in_ok-set_head-in-Id-clause-clean : goal.returns-in_ok-set_head-in-Id-clause-clean
+returns-in_ok-set_head-in-Id-clause-clean g c = λ honest. clean_head _ _ (c.in_ok-set_head-in-Id.ensures.only honest)

@@ -4,6 +4,9 @@ use Rattle.vc_refs.specs.Way.{IsFree}
 use Rattle.vc_node.proofs.LookLemmas.{looks_told, looks_then, or_told, looks_or}
 use Rattle.std.proofs.Common.{◌≡◌, rules, inr, subst}
 use Rattle.vc_files.proofs.WearLemmas.{wears_then, wears_writes, writes_told}
+use Rattle.vc_node.specs.Reads.{IsAtName, NoneRead, TellsRead}
+use Rattle.vc_node.specs.declared.fault.NodeFault.TheVariants.{Ref}
+use Rattle.vc_node.proofs.RefBlames.{way_at_name}
 use Rattle.vc_node.proofs.local.set_branch.Goals as goal
 
 pub returns-in_err-refuse_conflict-clause-wear : goal.returns-in_err-refuse_conflict-clause-wear
@@ -41,3 +44,8 @@ returns-clause-looks g c = λ honest.
     let same : content c.refuse_conflict.new.files ≡ content c.args.files.now = c.in_ok-refuse_conflict.ensures.same in
     let good : IsGoodBeyondRefs (content c.args.files.now) c.args.id.now = subst (λ (m : FileMap). IsGoodBeyondRefs m c.args.id.now) same (λ whole. (c.in_ok-refuse_bad_commit.ensures.complete honest whole, c.in_ok-refuse_bad_commit.ensures.history honest whole)) in
     looks_or c.in_ok-refuse_conflict.ensures.wear (looks_or c.in_ok-refuse_bad_commit.ensures.wear (or_told (c.in_ok-put_ref.ensures.looks honest) (λ may. may) (search rules)) (λ may. may)) (λ may. (may.0, free, good))
+
+pub returns-in_err-refuse_conflict-clause-file : goal.returns-in_err-refuse_conflict-clause-file
+returns-in_err-refuse_conflict-clause-file g c = λ honest.
+    let told : TellsRead NoneRead (IsAtName (g.F.Files.content c.args.files.now) c.args.branch.now) (Ref c.in_err-refuse_conflict.field-0.0) = way_at_name _ _ _ (c.in_err-refuse_conflict.ensures.refused honest) in
+    search (rules, told)

@@ -2,6 +2,7 @@ use Rattle.vc_files.proofs.WearLemmas.{wears_then, wears_writes, writes_told}
 use Rattle.std.proofs.Common.{◌≡◌, rules, ap, ◌∙◌, true, false}
 use Rattle.std.specs.Prelude.{is_some}
 use Rattle.vc_refs.specs.Head.{head_of}
+use Rattle.vc_node.proofs.CleanLemmas.{clean_from, clean_head}
 use Rattle.vc_node.proofs.ShownLemmas.{ready_there, ready_made}
 use Rattle.vc_node.proofs.node.make_ready.Goals as goal
 
@@ -39,3 +40,6 @@ returns-clause-wear g c = wears_then c.in_ok-read_index.ensures.wear (search rul
 
 pub returns-in_err-set_head-clause-wear : goal.returns-in_err-set_head-clause-wear
 returns-in_err-set_head-clause-wear g c = wears_then c.in_ok-read_index.ensures.wear (search rules) (search rules) (wears_then c.in_ok-head.ensures.wear (search rules) (search rules) (writes_told c.in_err-set_head.ensures.wear (search rules) (search rules)))
+
+pub returns-clause-clean : goal.returns-clause-clean
+returns-clause-clean g c = λ honest. clean_from _ _ _ (c.in_ok-head.ensures.same ∙ c.in_ok-read_index.ensures.same) (clean_head _ _ (c.in_ok-set_head.ensures.only honest))

@@ -2,7 +2,8 @@ use Rattle.std.proofs.Common.{rules, ◌≡◌}
 use Rattle.std.specs.Prelude.{codes, string_bytes}
 use Rattle.std.specs.FinMap as files
 use Rattle.vc_refs.proofs.RefsLemmas.{only_put}
-use Rattle.vc_refs.proofs.HeadLemmas.{head_of-put, refs-kept_head}
+use Rattle.vc_refs.proofs.HeadLemmas.{head_of-put}
+use Rattle.vc_refs.proofs.LayeredLemmas.{refs-kept_head}
 use Rattle.vc_refs.proofs.head_file.set_head.Goals as goal
 
 pub returns-clause-set : goal.returns-clause-set

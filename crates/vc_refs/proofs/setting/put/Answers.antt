@@ -5,8 +5,7 @@ use Rattle.vc_object.proofs.IdLemmas.{is_id-from_array}
 use Rattle.vc_refname.specs.RefName.{IsRefName}
 use Rattle.vc_refs.specs.RefFile.{id_text}
 use Rattle.vc_refs.specs.RefMap.{is_ref}
-use Rattle.vc_refs.proofs.RefsLemmas.{is_ref-from_legal, refs-put}
-use Rattle.vc_refs.proofs.HeadLemmas.{rest_put}
+use Rattle.vc_refs.proofs.RefsLemmas.{is_ref-from_legal, loose-put, only_put}
 use Rattle.vc_refs.proofs.setting.put.Goals as goal
 
 pub returns-clause-legal : goal.returns-clause-legal
@@ -18,13 +17,13 @@ returns-clause-set g c = λ honest.
     let legal : is_ref c.args.name.now ≡ true = is_ref-from_legal c.args.name.now (subst IsRefName c.as_str.ensures.text c.as_str.ensures.legal) c.requires in
     let valid : is_id c.args.id ≡ true = is_id-from_array c.args.id (search rules) (λ i. search rules) in
     let made : content c.put.new.self ≡ files.insert (content c.args.files.now) c.args.name.now (id_text c.args.id) = search (rules, c.in_ok-put.ensures.ok honest) in
-    rw made (refs-put (content c.args.files.now) c.args.name.now c.args.id legal valid)
+    rw made (loose-put (content c.args.files.now) c.args.name.now c.args.id legal valid)
 
-pub returns-clause-rest : goal.returns-clause-rest
-returns-clause-rest g c = λ honest.
+pub returns-clause-only : goal.returns-clause-only
+returns-clause-only g c = λ honest.
     let content = g.F.Files.content in
     let made : content c.put.new.self ≡ files.insert (content c.args.files.now) c.args.name.now (id_text c.args.id) = search (rules, c.in_ok-put.ensures.ok honest) in
-    rw made (rest_put (content c.args.files.now) c.args.name.now (id_text c.args.id) c.requires)
+    rw made (only_put (content c.args.files.now) c.args.name.now (id_text c.args.id))
 
 pub returns-in_err-put-clause-looks : goal.returns-in_err-put-clause-looks
 returns-in_err-put-clause-looks g c = inl (is_ref-from_legal c.args.name.now (subst IsRefName c.as_str.ensures.text c.as_str.ensures.legal) c.requires)

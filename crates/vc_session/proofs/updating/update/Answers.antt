@@ -1,5 +1,6 @@
-use Rattle.std.proofs.Common.{rules, ◌≡◌, ◌&&◌, ℕ, List, Option, None, Result, false, is_some, inl, inr, sym, refl, ◌∙◌, subst}
-use Rattle.std.specs.Prelude.{IfOk, IfErr, IsErrOf}
+use Rattle.std.proofs.Common.{rules, ◌≡◌, ◌&&◌, ℕ, List, Option, None, Result, true, false, nat_eq, is_some, inl, inr, sym, refl, ◌∙◌, subst}
+use Rattle.std.specs.Prelude.{IfOk, IfErr, IsErrOf, codes}
+use Rattle.std.specs.List.{starts_with}
 use Rattle.std.specs.Str.{is_utf8}
 use Rattle.vc_files.proofs.WearLemmas.{wears_then, wears_writes, writes_told}
 use Rattle.vc_files.specs.Failures.{Writes}
@@ -8,18 +9,26 @@ use Rattle.vc_push.specs.PushView.{command_of}
 use Rattle.vc_push.specs.declared.reason.Reason.{Reason}
 use Rattle.vc_refname.specs.RefName.{is_ref_name}
 use Rattle.vc_refs.specs.Head.{KeepsTheRest}
-use Rattle.vc_refs.specs.RefFault.{BlamesSet, MaySet}
+use Rattle.vc_refs.specs.RefFault.{BlamesRef, BlamesSet, MaySet}
 use Rattle.vc_refs.specs.Refs.{refs}
 use Rattle.vc_refs.specs.declared.faults.RefFault.{RefFault}
 use Rattle.vc_refs.specs.declared.faults.RefFault.TheVariants.{Fault}
 use Rattle.vc_session.specs.Updating.{BlamesUpdate}
 use Rattle.vc_session.specs.Verdict.{IsVerdictAtUpdate, is_tag}
-use Rattle.vc_session.proofs.CleanLemmas.{bad_from, bad_set}
-use Rattle.vc_session.proofs.UpdateLemmas.{device_meant, device_told, moved, only_name, passes, refused_blames, refused_verdict, wears_both}
+use Rattle.vc_session.proofs.CleanLemmas.{bad_from, bad_ref}
+use Rattle.vc_session.proofs.UpdateLemmas.{device_meant, device_told, moved, only_name, passes, refused_blames, refused_verdict, tag_blames, wears_both}
 use Rattle.vc_session.proofs.updating.update.Goals as goal
 
 pub returns-in_err-is_standing_tag-clause-wear : goal.returns-in_err-is_standing_tag-clause-wear
 returns-in_err-is_standing_tag-clause-wear g c = writes_told (wears_writes c.in_err-is_standing_tag.ensures.wear (λ _. c.in_err-is_standing_tag.ensures.same)) (search rules) (search rules)
+
+pub returns-in_err-is_standing_tag-clause-refused : goal.returns-in_err-is_standing_tag-clause-refused
+returns-in_err-is_standing_tag-clause-refused g c = λ honest.
+    let content = g.F.Files.content c.args.files.now in
+    let named : c.in-Some.name ≡ c.args.command.now.name.items = only_name (is_utf8 c.deref.result.now && is_ref_name c.deref.result.now) c.deref.result.now c.in-Some.name (sym c.in-Some.is ∙ c.in_ok-name.ensures) ∙ c.deref.ensures.value in
+    let blames : BlamesRef content c.args.command.now.name.items c.in_err-is_standing_tag.field-0.0 = subst (λ (n : List ℕ). BlamesRef content n c.in_err-is_standing_tag.field-0.0) named (c.in_err-is_standing_tag.ensures.refused honest) in
+    let told : BlamesUpdate content c.args.command.now.name.items c.in_err-is_standing_tag.field-0.0 = tag_blames content c.args.command.now.name.items c.in_err-is_standing_tag.field-0.0 blames in
+    search (rules, told)
 
 pub returns-then-branch-clause-wear : goal.returns-then-branch-clause-wear
 returns-then-branch-clause-wear g c = writes_told (wears_writes c.in_ok-is_standing_tag.ensures.wear (λ _. c.in_ok-is_standing_tag.ensures.same)) (search rules) (search rules)
@@ -45,7 +54,9 @@ returns-in-Ok-clause-rest g c = λ honest.
     moved (λ files name value. KeepsTheRest name files (content c.set.new.files)) {e = None} c.in_ok-is_standing_tag.ensures.same named refl (c.in-Ok.ensures.rest honest)
 
 pub returns-in-Ok-clause-bad : goal.returns-in-Ok-clause-bad
-returns-in-Ok-clause-bad g c = λ honest. bad_from c.in_ok-is_standing_tag.ensures.same (bad_set _ _ c.in-Some.name c.args.command.now.new (c.in-Ok.ensures.rest honest) (c.in-Ok.ensures.set honest))
+returns-in-Ok-clause-bad g c = λ honest.
+    let inside : starts_with nat_eq c.in-Some.name (codes "refs/") ≡ true = search rules in
+    bad_from c.in_ok-is_standing_tag.ensures.same (bad_ref _ _ c.in-Some.name inside (c.in-Ok.ensures.rest honest) (c.in-Ok.ensures.only honest))
 
 pub returns-in-Ok-clause-wear : goal.returns-in-Ok-clause-wear
 returns-in-Ok-clause-wear g c = wears_then c.in_ok-is_standing_tag.ensures.wear (λ _. c.in_ok-is_standing_tag.ensures.same) (search rules) (writes_told c.in-Ok.ensures.wear (search rules) (search rules))

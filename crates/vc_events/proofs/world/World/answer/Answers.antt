@@ -20,5 +20,8 @@ returns-in-Compare-clause-steps g c shared clone = other_event g.S.SharedCalls.h
     ∙ ap (λ (b : List ℕ). Compares (party_of c.in-Compare.party) c.deref.result.now b) (sym c.deref-in-Compare.ensures.value)))
     (c.compare.ensures.steps shared clone)
 
+pub returns-in-Pack-clause-steps : goal.returns-in-Pack-clause-steps
+returns-in-Pack-clause-steps g c shared clone = other_event g.S.SharedCalls.holds g.C.CloneCalls.holds _ _ _ _ _ (ap event_of c.in-Pack.is) (c.pack.ensures.steps shared clone)
+
 pub returns-in-Restart-clause-steps : goal.returns-in-Restart-clause-steps
 returns-in-Restart-clause-steps g c shared clone = other_event g.S.SharedCalls.holds g.C.CloneCalls.holds _ _ _ _ _ (ap event_of c.in-Restart.is) (c.restart.ensures.steps shared clone)

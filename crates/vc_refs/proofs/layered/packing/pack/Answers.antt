@@ -3,8 +3,9 @@ use Rattle.std.specs.FinMap.{insert}
 use Rattle.std.specs.Prelude.{codes, string_bytes}
 use Rattle.vc_files.specs.FileMap.{paths_under}
 use Rattle.vc_files.proofs.WearLemmas.{wears_then, wears_writes, writes_both, writes_told}
-use Rattle.vc_refs.specs.Layered.{layered_refs, packed_path, HasNoLoose, IsMapOf, LosesSome, SpellsRefs}
-use Rattle.vc_refs.specs.LayeredFault.{BlamesList}
+use Rattle.vc_refs.specs.Packing.{HasNoLoose, IsMapOf, LosesSome}
+use Rattle.vc_refs.specs.RefFault.{BlamesList}
+use Rattle.vc_refs.specs.Refs.{packed_path, refs, SpellsRefs}
 use Rattle.vc_refs.specs.Packed.{packed_text}
 use Rattle.vc_refs.proofs.LayeredListingLemmas.{all_packed, keeps_same, none_listed, refs_kept, rest_kept, some_listed}
 use Rattle.vc_refs.proofs.layered.packing.pack.Goals as goal
@@ -71,7 +72,7 @@ returns-in_err-remove_all-clause-kept g c = λ honest.
     let paths = map string_bytes c.deref-2.result.now in
     let listed : map string_bytes c.deref.result.now ≡ paths_under old (codes "refs/") = ap (map string_bytes) c.deref.ensures.value ∙ c.in_ok-paths.ensures.listed honest in
     let again : paths ≡ paths_under old (codes "refs/") = ap (map string_bytes) c.deref-2.ensures.value ∙ c.in_ok-paths.ensures.listed honest in
-    let all : IsMapOf (layered_refs old) c.in_ok-refs.refs = rw c.in_ok-paths.ensures.same at (c.in_ok-refs.ensures.found honest (rw c.in_ok-paths.ensures.same listed)) in
+    let all : IsMapOf (refs old) c.in_ok-refs.refs = rw c.in_ok-paths.ensures.same at (c.in_ok-refs.ensures.found honest (rw c.in_ok-paths.ensures.same listed)) in
     let written : content c.write_packed.new.files ≡ insert old packed_path (packed_text c.in_ok-refs.refs) = rw (c.in_ok-refs.ensures.same ∙ c.in_ok-paths.ensures.same) at (c.in_ok-write_packed.ensures.written honest) in
     let lost : LosesSome paths (insert old packed_path (packed_text c.in_ok-refs.refs)) (content c.remove_all.new.files) = rw written at (c.in_err-remove_all.ensures.lost honest) in
     refs_kept old c.in_ok-refs.refs paths (content c.remove_all.new.files) all c.in_ok-write_packed.ensures.read again lost
@@ -83,7 +84,7 @@ returns-in_err-remove_all-clause-rest g c = λ honest.
     let paths = map string_bytes c.deref-2.result.now in
     let listed : map string_bytes c.deref.result.now ≡ paths_under old (codes "refs/") = ap (map string_bytes) c.deref.ensures.value ∙ c.in_ok-paths.ensures.listed honest in
     let again : paths ≡ paths_under old (codes "refs/") = ap (map string_bytes) c.deref-2.ensures.value ∙ c.in_ok-paths.ensures.listed honest in
-    let all : IsMapOf (layered_refs old) c.in_ok-refs.refs = rw c.in_ok-paths.ensures.same at (c.in_ok-refs.ensures.found honest (rw c.in_ok-paths.ensures.same listed)) in
+    let all : IsMapOf (refs old) c.in_ok-refs.refs = rw c.in_ok-paths.ensures.same at (c.in_ok-refs.ensures.found honest (rw c.in_ok-paths.ensures.same listed)) in
     let written : content c.write_packed.new.files ≡ insert old packed_path (packed_text c.in_ok-refs.refs) = rw (c.in_ok-refs.ensures.same ∙ c.in_ok-paths.ensures.same) at (c.in_ok-write_packed.ensures.written honest) in
     let lost : LosesSome paths (insert old packed_path (packed_text c.in_ok-refs.refs)) (content c.remove_all.new.files) = rw written at (c.in_err-remove_all.ensures.lost honest) in
     rest_kept old c.in_ok-refs.refs paths (content c.remove_all.new.files) all c.in_ok-write_packed.ensures.read again lost
@@ -106,7 +107,7 @@ returns-clause-packed g c = λ honest.
     let paths = map string_bytes c.deref-2.result.now in
     let listed : map string_bytes c.deref.result.now ≡ paths_under old (codes "refs/") = ap (map string_bytes) c.deref.ensures.value ∙ c.in_ok-paths.ensures.listed honest in
     let again : paths ≡ paths_under old (codes "refs/") = ap (map string_bytes) c.deref-2.ensures.value ∙ c.in_ok-paths.ensures.listed honest in
-    let all : IsMapOf (layered_refs old) c.in_ok-refs.refs = rw c.in_ok-paths.ensures.same at (c.in_ok-refs.ensures.found honest (rw c.in_ok-paths.ensures.same listed)) in
+    let all : IsMapOf (refs old) c.in_ok-refs.refs = rw c.in_ok-paths.ensures.same at (c.in_ok-refs.ensures.found honest (rw c.in_ok-paths.ensures.same listed)) in
     let written : content c.write_packed.new.files ≡ insert old packed_path (packed_text c.in_ok-refs.refs) = rw (c.in_ok-refs.ensures.same ∙ c.in_ok-paths.ensures.same) at (c.in_ok-write_packed.ensures.written honest) in
     let lost : LosesSome paths (insert old packed_path (packed_text c.in_ok-refs.refs)) (content c.remove_all.new.files) = rw written at (c.in_ok-remove_all.ensures.lost honest) in
     all_packed old c.in_ok-refs.refs paths (content c.remove_all.new.files) all c.in_ok-write_packed.ensures.read again lost (c.in_ok-remove_all.ensures.gone honest)
@@ -125,7 +126,7 @@ returns-clause-kept g c = λ honest.
     let paths = map string_bytes c.deref-2.result.now in
     let listed : map string_bytes c.deref.result.now ≡ paths_under old (codes "refs/") = ap (map string_bytes) c.deref.ensures.value ∙ c.in_ok-paths.ensures.listed honest in
     let again : paths ≡ paths_under old (codes "refs/") = ap (map string_bytes) c.deref-2.ensures.value ∙ c.in_ok-paths.ensures.listed honest in
-    let all : IsMapOf (layered_refs old) c.in_ok-refs.refs = rw c.in_ok-paths.ensures.same at (c.in_ok-refs.ensures.found honest (rw c.in_ok-paths.ensures.same listed)) in
+    let all : IsMapOf (refs old) c.in_ok-refs.refs = rw c.in_ok-paths.ensures.same at (c.in_ok-refs.ensures.found honest (rw c.in_ok-paths.ensures.same listed)) in
     let written : content c.write_packed.new.files ≡ insert old packed_path (packed_text c.in_ok-refs.refs) = rw (c.in_ok-refs.ensures.same ∙ c.in_ok-paths.ensures.same) at (c.in_ok-write_packed.ensures.written honest) in
     let lost : LosesSome paths (insert old packed_path (packed_text c.in_ok-refs.refs)) (content c.remove_all.new.files) = rw written at (c.in_ok-remove_all.ensures.lost honest) in
     refs_kept old c.in_ok-refs.refs paths (content c.remove_all.new.files) all c.in_ok-write_packed.ensures.read again lost
@@ -137,7 +138,7 @@ returns-clause-rest g c = λ honest.
     let paths = map string_bytes c.deref-2.result.now in
     let listed : map string_bytes c.deref.result.now ≡ paths_under old (codes "refs/") = ap (map string_bytes) c.deref.ensures.value ∙ c.in_ok-paths.ensures.listed honest in
     let again : paths ≡ paths_under old (codes "refs/") = ap (map string_bytes) c.deref-2.ensures.value ∙ c.in_ok-paths.ensures.listed honest in
-    let all : IsMapOf (layered_refs old) c.in_ok-refs.refs = rw c.in_ok-paths.ensures.same at (c.in_ok-refs.ensures.found honest (rw c.in_ok-paths.ensures.same listed)) in
+    let all : IsMapOf (refs old) c.in_ok-refs.refs = rw c.in_ok-paths.ensures.same at (c.in_ok-refs.ensures.found honest (rw c.in_ok-paths.ensures.same listed)) in
     let written : content c.write_packed.new.files ≡ insert old packed_path (packed_text c.in_ok-refs.refs) = rw (c.in_ok-refs.ensures.same ∙ c.in_ok-paths.ensures.same) at (c.in_ok-write_packed.ensures.written honest) in
     let lost : LosesSome paths (insert old packed_path (packed_text c.in_ok-refs.refs)) (content c.remove_all.new.files) = rw written at (c.in_ok-remove_all.ensures.lost honest) in
     rest_kept old c.in_ok-refs.refs paths (content c.remove_all.new.files) all c.in_ok-write_packed.ensures.read again lost

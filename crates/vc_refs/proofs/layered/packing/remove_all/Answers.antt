@@ -2,7 +2,7 @@ use Rattle.std.proofs.Common.{rules, ◌≡◌, suc, ◌∷◌, List, ℕ, take,
 use Rattle.std.specs.FinMap as files
 use Rattle.std.specs.Prelude.{string_bytes}
 use Rattle.vc_files.proofs.WearLemmas.{writes_both, writes_none, writes_told}
-use Rattle.vc_refs.specs.Layered.{AreGone, LosesSome}
+use Rattle.vc_refs.specs.Packing.{AreGone, LosesSome}
 use Rattle.vc_refs.proofs.LayeredListingLemmas.{more_lost, none_gone, none_lost, one_gone, one_lost}
 use Rattle.vc_refs.proofs.ListingLemmas.{paths_all, paths_more, paths_split}
 use Rattle.vc_refs.proofs.layered.packing.remove_all.Goals as goal

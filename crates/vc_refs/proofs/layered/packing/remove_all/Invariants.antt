@@ -1,7 +1,7 @@
 use Rattle.std.proofs.Common.{take, map}
 use Rattle.std.specs.Prelude.{string_bytes}
 use Rattle.vc_files.specs.Failures.{Writes}
-use Rattle.vc_refs.specs.Layered.{AreGone, LosesSome}
+use Rattle.vc_refs.specs.Packing.{AreGone, LosesSome}
 use Rattle.vc_refs.proofs.layered.packing.remove_all.Given as goal
 
 abbrev pub invariant-loop-path : goal.invariant-loop-path

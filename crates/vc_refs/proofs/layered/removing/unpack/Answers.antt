@@ -2,7 +2,7 @@ use Rattle.std.proofs.Common.{rules, ◌≡◌, true, refl}
 use Rattle.std.specs.FinMap.{insert}
 use Rattle.std.specs.FinMap as files
 use Rattle.std.specs.Prelude.{is_none}
-use Rattle.vc_refs.specs.Layered.{packed_path}
+use Rattle.vc_refs.specs.Refs.{packed_path}
 use Rattle.vc_refs.specs.Packed.{packed_text}
 use Rattle.vc_refs.proofs.LayeredChangeLemmas.{unpacked, unpacked_absent}
 use Rattle.vc_refs.proofs.layered.removing.unpack.Goals as goal

@@ -1,11 +1,10 @@
 use Rattle.std.proofs.Common.{rules, ◌≡◌, Some, ◌∙◌}
 use Rattle.vc_files.proofs.WearLemmas.{wears_writes, wears_then, writes_told}
-use Rattle.vc_refs.specs.Head.{KeepsTheRest}
-use Rattle.vc_refs.specs.Layered.{layered_refs, packed_map, IsFree}
-use Rattle.vc_refs.specs.LayeredFault.{BlamesRemove, BlamesSet, BlamesWay, HasExpected}
+use Rattle.vc_refs.specs.RefFault.{BlamesRemove, BlamesSet, BlamesWay, HasExpected}
+use Rattle.vc_refs.specs.Refs.{loose_refs, packed_map, refs, ChangesOnly}
+use Rattle.vc_refs.specs.Way.{IsFree}
 use Rattle.vc_refs.specs.RefMap.{with_ref}
-use Rattle.vc_refs.specs.Refs.{refs}
-use Rattle.vc_refs.proofs.LayeredChangeLemmas.{good_same, layered-set, layered_free, set_blames_packed, set_blames_value, set_blames_way, set_good}
+use Rattle.vc_refs.proofs.LayeredChangeLemmas.{refs-set, refs_free, rest_same, rest_set, set_blames_packed, set_blames_value, set_blames_way}
 use Rattle.vc_refs.proofs.RefsLemmas.{IsRefMap-with_ref}
 use Rattle.vc_refs.proofs.WayLemmas.{no_own_folder}
 use Rattle.vc_refs.proofs.layered.setting.set.Goals as goal
@@ -16,8 +15,8 @@ returns-in_err-packed-clause-refused g c = λ honest.
     let told : BlamesSet content c.args.name.now c.args.expected c.in_err-packed.field-0.0 = set_blames_packed content c.args.name.now c.args.expected c.in_err-packed.field-0.0 (c.in_err-packed.ensures.refused honest) in
     search (rules, told)
 
-pub returns-in_err-packed-clause-good : goal.returns-in_err-packed-clause-good
-returns-in_err-packed-clause-good g c = λ honest path bad. good_same _ _ c.in_err-packed.ensures.same path bad
+pub returns-in_err-packed-clause-rest : goal.returns-in_err-packed-clause-rest
+returns-in_err-packed-clause-rest g c = λ honest. rest_same _ _ _ c.in_err-packed.ensures.same
 
 pub returns-in_err-packed-clause-wear : goal.returns-in_err-packed-clause-wear
 returns-in_err-packed-clause-wear g c = writes_told (wears_writes c.in_err-packed.ensures.wear (search rules)) (search rules) (search rules)
@@ -30,8 +29,8 @@ returns-in_err-refuse_beside-clause-refused g c = λ honest.
     let told : BlamesSet content c.args.name.now c.args.expected c.in_err-refuse_beside.field-0.0 = set_blames_way content c.args.name.now c.args.expected c.in_err-refuse_beside.field-0.0 blames in
     search (rules, told)
 
-pub returns-in_err-refuse_beside-clause-good : goal.returns-in_err-refuse_beside-clause-good
-returns-in_err-refuse_beside-clause-good g c = λ honest path bad. good_same _ _ (c.in_err-refuse_beside.ensures.same ∙ c.in_ok-packed.ensures.same) path bad
+pub returns-in_err-refuse_beside-clause-rest : goal.returns-in_err-refuse_beside-clause-rest
+returns-in_err-refuse_beside-clause-rest g c = λ honest. rest_same _ _ _ (c.in_err-refuse_beside.ensures.same ∙ c.in_ok-packed.ensures.same)
 
 pub returns-in_err-refuse_beside-clause-wear : goal.returns-in_err-refuse_beside-clause-wear
 returns-in_err-refuse_beside-clause-wear g c =
@@ -47,18 +46,18 @@ returns-in_err-expect_value-clause-refused g c = λ honest.
     let told : BlamesSet content c.args.name.now c.args.expected c.in_err-expect_value.field-0.0 = set_blames_value content c.args.name.now c.args.expected free c.in_err-expect_value.field-0.0 blames in
     search (rules, told)
 
-pub returns-in_err-expect_value-clause-good : goal.returns-in_err-expect_value-clause-good
-returns-in_err-expect_value-clause-good g c = λ honest path bad. good_same _ _ (c.in_err-expect_value.ensures.same ∙ c.in_ok-refuse_beside.ensures.same ∙ c.in_ok-packed.ensures.same) path bad
+pub returns-in_err-expect_value-clause-rest : goal.returns-in_err-expect_value-clause-rest
+returns-in_err-expect_value-clause-rest g c = λ honest. rest_same _ _ _ (c.in_err-expect_value.ensures.same ∙ c.in_ok-refuse_beside.ensures.same ∙ c.in_ok-packed.ensures.same)
 
 pub returns-in_err-expect_value-clause-wear : goal.returns-in_err-expect_value-clause-wear
 returns-in_err-expect_value-clause-wear g c =
     wears_then c.in_ok-packed.ensures.wear (search rules) (search rules)
     (wears_then c.in_ok-refuse_beside.ensures.wear (search rules) (search rules) (writes_told (wears_writes c.in_err-expect_value.ensures.wear (search rules)) (search rules) (search rules)))
 
-pub returns-in_err-put-clause-good : goal.returns-in_err-put-clause-good
-returns-in_err-put-clause-good g c = λ honest path bad.
+pub returns-in_err-put-clause-rest : goal.returns-in_err-put-clause-rest
+returns-in_err-put-clause-rest g c = λ honest.
     let same : g.F.Files.content c.put.new.files ≡ g.F.Files.content c.expect_value.new.files = search (rules, c.in_err-put.ensures.err honest) in
-    good_same _ _ (same ∙ c.in_ok-expect_value.ensures.same ∙ c.in_ok-refuse_beside.ensures.same ∙ c.in_ok-packed.ensures.same) path bad
+    rest_same _ _ _ (same ∙ c.in_ok-expect_value.ensures.same ∙ c.in_ok-refuse_beside.ensures.same ∙ c.in_ok-packed.ensures.same)
 
 pub returns-in_err-put-clause-wear : goal.returns-in_err-put-clause-wear
 returns-in_err-put-clause-wear g c =
@@ -70,21 +69,21 @@ pub returns-clause-set : goal.returns-clause-set
 returns-clause-set g c = λ honest.
     let content = g.F.Files.content in
     let sames = c.in_ok-expect_value.ensures.same ∙ c.in_ok-refuse_beside.ensures.same ∙ c.in_ok-packed.ensures.same in
-    let own : refs (content c.put.new.files) ≡ with_ref (refs (content c.args.files.now)) c.args.name.now c.args.new = rw sames at (c.in_ok-put.ensures.set honest) in
-    let rest : KeepsTheRest c.args.name.now (content c.args.files.now) (content c.put.new.files) = rw sames at (c.in_ok-put.ensures.rest honest) in
-    layered-set c.args.name.now c.args.new (content c.args.files.now) (content c.put.new.files) c.requires own rest.only
-
-pub returns-clause-good : goal.returns-clause-good
-returns-clause-good g c = λ honest path bad.
-    let content = g.F.Files.content in
-    let sames = c.in_ok-expect_value.ensures.same ∙ c.in_ok-refuse_beside.ensures.same ∙ c.in_ok-packed.ensures.same in
-    let own : refs (content c.put.new.files) ≡ with_ref (refs (content c.args.files.now)) c.args.name.now c.args.new = rw sames at (c.in_ok-put.ensures.set honest) in
-    let rest : KeepsTheRest c.args.name.now (content c.args.files.now) (content c.put.new.files) = rw sames at (c.in_ok-put.ensures.rest honest) in
-    set_good c.args.name.now c.args.new (content c.args.files.now) (content c.put.new.files) c.requires own rest.only path bad
+    let own : loose_refs (content c.put.new.files) ≡ with_ref (loose_refs (content c.args.files.now)) c.args.name.now c.args.new = rw sames at (c.in_ok-put.ensures.set honest) in
+    let only : ChangesOnly c.args.name.now (content c.args.files.now) (content c.put.new.files) = rw sames at (c.in_ok-put.ensures.only honest) in
+    refs-set c.args.name.now c.args.new (content c.args.files.now) (content c.put.new.files) c.requires own only
 
 pub returns-clause-rest : goal.returns-clause-rest
 returns-clause-rest g c = λ honest.
-    rw (c.in_ok-expect_value.ensures.same ∙ c.in_ok-refuse_beside.ensures.same ∙ c.in_ok-packed.ensures.same) at (c.in_ok-put.ensures.rest honest)
+    let content = g.F.Files.content in
+    let sames = c.in_ok-expect_value.ensures.same ∙ c.in_ok-refuse_beside.ensures.same ∙ c.in_ok-packed.ensures.same in
+    let own : loose_refs (content c.put.new.files) ≡ with_ref (loose_refs (content c.args.files.now)) c.args.name.now c.args.new = rw sames at (c.in_ok-put.ensures.set honest) in
+    let only : ChangesOnly c.args.name.now (content c.args.files.now) (content c.put.new.files) = rw sames at (c.in_ok-put.ensures.only honest) in
+    rest_set c.args.name.now c.args.new (content c.args.files.now) (content c.put.new.files) c.requires own only
+
+pub returns-clause-only : goal.returns-clause-only
+returns-clause-only g c = λ honest.
+    rw (c.in_ok-expect_value.ensures.same ∙ c.in_ok-refuse_beside.ensures.same ∙ c.in_ok-packed.ensures.same) at (c.in_ok-put.ensures.only honest)
 
 pub returns-clause-allowed : goal.returns-clause-allowed
 returns-clause-allowed g c = λ honest.
@@ -100,7 +99,7 @@ returns-clause-kept g c = λ honest map.
     let content = g.F.Files.content c.args.files.now in
     let read : packed_map content ≡ Some c.in_ok-packed.packed = c.in_ok-packed.ensures.found honest in
     let free : IsFree content c.args.name.now = rw c.in_ok-packed.ensures.same at (c.in_ok-refuse_beside.ensures.free honest (rw c.in_ok-packed.ensures.same read)) in
-    rw (returns-clause-set g c honest) (IsRefMap-with_ref (layered_refs content) c.args.name.now c.args.new c.in_ok-put.ensures.legal (layered_free content c.args.name.now free) (no_own_folder c.args.name.now) map)
+    rw (returns-clause-set g c honest) (IsRefMap-with_ref (refs content) c.args.name.now c.args.new c.in_ok-put.ensures.legal (refs_free content c.args.name.now free) (no_own_folder c.args.name.now) map)
 
 pub returns-clause-wear : goal.returns-clause-wear
 returns-clause-wear g c =

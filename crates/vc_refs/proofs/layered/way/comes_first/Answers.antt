@@ -2,7 +2,7 @@ use Rattle.std.proofs.Common.{rules, ◌≡◌}
 use Rattle.std.specs.Cmp.Lexicographic.{slice_cmp}
 use Rattle.std.specs.Ordering.{is_lt, nat_cmp}
 use Rattle.std.specs.Prelude.{string_bytes}
-use Rattle.vc_refs.specs.Way.{IsFirstInTheWay, IsFree}
+use Rattle.vc_refs.specs.LooseWay.{IsFirstInTheWay, IsFree}
 use Rattle.vc_refs.proofs.LayeredWayLemmas.{comes_first_none, comes_first_some}
 use Rattle.vc_refs.proofs.layered.way.comes_first.Goals as goal
 

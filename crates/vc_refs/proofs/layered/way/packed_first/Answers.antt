@@ -1,5 +1,5 @@
 use Rattle.std.proofs.Common.{false}
-use Rattle.vc_refs.specs.Layered.{ComesFirst, IsFirstPackedInTheWay}
+use Rattle.vc_refs.specs.Way.{ComesFirst, IsFirstPackedInTheWay}
 use Rattle.vc_refs.proofs.LayeredWayLemmas.{behind_loose}
 use Rattle.vc_refs.proofs.layered.way.packed_first.Goals as goal
 

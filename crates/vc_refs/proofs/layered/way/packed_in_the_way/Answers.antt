@@ -1,7 +1,7 @@
 use Rattle.std.proofs.Common.{rules, ◌≡◌, true, false, sym, subst}
 use Rattle.std.specs.Map.Iter.{deref_pair}
 use Rattle.std.proofs.lemmas.Map.Iter.{rest_more, rest_all}
-use Rattle.vc_refs.specs.Layered.{IsFirstPackedInTheWay}
+use Rattle.vc_refs.specs.Way.{IsFirstPackedInTheWay}
 use Rattle.vc_refs.specs.RefMap.{conflicts}
 use Rattle.vc_refs.proofs.LayeredWayLemmas.{first_conflict, looks_further, none_conflicts}
 use Rattle.vc_refs.proofs.layered.way.packed_in_the_way.Goals as goal

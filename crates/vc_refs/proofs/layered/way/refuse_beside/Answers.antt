@@ -1,8 +1,8 @@
 use Rattle.std.proofs.Common.{rules}
-use Rattle.vc_refs.specs.Layered.{IsBehindLoose, IsPackedFirst}
-use Rattle.vc_refs.specs.LayeredFault.{BlamesWay}
-use Rattle.vc_refs.specs.RefFault as loose_fault
-use Rattle.vc_refs.specs.Way as loose
+use Rattle.vc_refs.specs.LooseFault as loose_fault
+use Rattle.vc_refs.specs.LooseWay as loose
+use Rattle.vc_refs.specs.RefFault.{BlamesWay}
+use Rattle.vc_refs.specs.Way.{IsBehindLoose, IsPackedFirst}
 use Rattle.vc_refs.proofs.LayeredWayLemmas.{conflict_packed, way_blames_loose, way_free}
 use Rattle.vc_refs.proofs.layered.way.refuse_beside.Goals as goal
 

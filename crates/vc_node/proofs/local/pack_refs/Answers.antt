@@ -1,0 +1,24 @@
+use Rattle.std.proofs.Common.{rules}
+use Rattle.vc_node.specs.Blames.{BlamesPacking}
+use Rattle.vc_node.specs.declared.fault.NodeFault.TheVariants.{Ref}
+use Rattle.vc_node.proofs.RefBlames.{packing_blames}
+use Rattle.vc_node.proofs.CleanLemmas.{still_clean_packed}
+use Rattle.vc_node.proofs.ShownLemmas.{shown_packed}
+use Rattle.vc_node.proofs.local.pack_refs.Goals as goal
+
+pub returns-in_err-pack-clause-kept : goal.returns-in_err-pack-clause-kept
+returns-in_err-pack-clause-kept g c = λ honest. shown_packed _ _ (c.in_err-pack.ensures.rest honest) (c.in_err-pack.ensures.kept honest)
+
+pub returns-in_err-pack-clause-clean : goal.returns-in_err-pack-clause-clean
+returns-in_err-pack-clause-clean g c = λ honest clean. still_clean_packed _ _ (c.in_err-pack.ensures.rest honest) clean
+
+pub returns-clause-kept : goal.returns-clause-kept
+returns-clause-kept g c = λ honest. shown_packed _ _ (c.in_ok-pack.ensures.rest honest) (c.in_ok-pack.ensures.kept honest)
+
+pub returns-clause-clean : goal.returns-clause-clean
+returns-clause-clean g c = λ honest clean. still_clean_packed _ _ (c.in_ok-pack.ensures.rest honest) clean
+
+pub returns-in_err-pack-clause-refused : goal.returns-in_err-pack-clause-refused
+returns-in_err-pack-clause-refused g c = λ honest.
+    let told : BlamesPacking (g.F.Files.content c.args.files.now) (Ref c.in_err-pack.field-0.0) = packing_blames _ _ (c.in_err-pack.ensures.refused honest) in
+    search (rules, told)

@@ -1,0 +1,117 @@
+-- What the shared node answers to the question to pack its refs is the machine's answer: each open push stays, or the node is down.
+use Rattle.std.proofs.Common.{◌≡◌, ℕ, ◌<◌, Bool, true, false, List, Option, Some, None, Result, Ok, Err, refl, sym, ap, ◌∙◌, subst}
+use Rattle.std.specs.Prelude.{IfErr}
+use Rattle.std.specs.FinMap.{get}
+use Rattle.vc_files.specs.FileMap.{FileMap}
+use Rattle.vc_files.specs.declared.faults.Fault.{Fault as FilesFault}
+use Rattle.vc_model.specs.Message.{Message}
+use Rattle.vc_model.specs.Node.{Answer}
+use Rattle.vc_model.specs.Node.Answer.{Did, Fault}
+use Rattle.vc_model.specs.Node.Reply.{Stored}
+use Rattle.vc_model.specs.Push.{OpenPush, Slots}
+use Rattle.vc_model.specs.Question.Question.{PackRefs}
+use Rattle.vc_model.specs.Repository.{IsBare, IsSound}
+use Rattle.vc_model.specs.Shared.{SharedNode}
+use Rattle.vc_model.specs.SharedCall.{SharedAnswers}
+use Rattle.vc_model.specs.SharedCall.SharedCall.{Asks}
+use Rattle.vc_node.proofs.CleanLemmas.{still_clean_packed}
+use Rattle.vc_node.proofs.ShownLemmas.{shown_packed}
+use Rattle.vc_node.specs.Blames.{BlamesPacking}
+use Rattle.vc_node.specs.Machine.{Spells, failure_of, up_after}
+use Rattle.vc_node.specs.Shown.{Shown, shown}
+use Rattle.vc_node.specs.declared.fault.NodeFault.{NodeFault}
+use Rattle.vc_node.specs.declared.fault.NodeFault.TheVariants.{BadIndex, BadPath, Down, Missing, NotACommit, PathConflict, Ref, Store, WrongEntry}
+use Rattle.vc_object.specs.declared.id.ObjectId.{ObjectId}
+use Rattle.vc_refs.specs.Head.{KeepsOutside}
+use Rattle.vc_refs.specs.Refs.{refs}
+use Rattle.vc_refs.specs.declared.faults.RefFault.TheVariants as ref
+use Rattle.vc_rules.proofs.GitLaws.{git_rules}
+use Rattle.vc_rules.proofs.OpenPushLaws.{push_kept}
+use Rattle.vc_rules.specs.Git.{git}
+use Rattle.vc_session.proofs.QuarantineLemmas.{same_at}
+use Rattle.vc_session.specs.Quarantine.{quarantine_path, quarantined}
+use Rattle.vc_session.specs.Session.{SessionText}
+use Rattle.vc_store.specs.Store.{stored_in}
+use Rattle.vc_shared.proofs.HoldingLemmas.{beyond_refs, dropped_on}
+use Rattle.vc_shared.specs.Calls.{AnswersShared, RestartedAs}
+use Rattle.vc_shared.specs.Holding.{HoldsShared, HoldsSlot, IsLive}
+use Rattle.vc_shared.specs.Slots.{slot_of}
+
+module _ (old new : FileMap) (rest : KeepsOutside old new) where
+  quarantine_kept : (slot : ℕ) (id : ObjectId) → quarantined new slot id ≡ quarantined old slot id
+  quarantine_kept slot id = same_at old new slot id (λ _. rest.at (quarantine_path slot id.0) refl refl)
+
+  slot_kept : (k : ℕ) (v : Option SessionText) (q : Option OpenPush) → HoldsSlot old k v q → HoldsSlot new k v q
+  slot_kept k None None dropped = dropped_on old new k (beyond_refs k old new rest) dropped
+  slot_kept k (Some s) (Some p) (at, push, clean) = (
+    at,
+    push_kept old new s p (quarantine_kept s.slot) push,
+    λ id damaged. clean id (ap (stored_in id) (sym (rest.at (quarantine_path k id.0) refl refl)) ∙ damaged),
+  )
+  slot_kept k None (Some p) never = never
+  slot_kept k (Some s) None never = never
+
+  live_kept : (slots : List (Option SessionText)) (up : Bool) (l : Option Slots) → IsLive old slots up l → IsLive new slots up l
+  live_kept slots true (Some pushes) held = record {
+    eight = held.eight;
+    each = λ k small. slot_kept k (slot_of slots k) (get pushes k) (held.each k small);
+    others = held.others;
+  }
+  live_kept slots false None held = held
+  live_kept slots true None never = never
+  live_kept slots false (Some pushes) never = never
+
+  module _ (kept : refs new ≡ refs old) (slots : List (Option SessionText)) where
+    spelled : (n : SharedNode) → HoldsShared old slots true n → Spells (shown new) n.repository
+    spelled n held = subst (λ (s : Shown). Spells s n.repository) (sym (shown_packed old new rest kept)) held.spells
+
+    -- the pushes that are open
+    live_of : (n : SharedNode) → HoldsShared old slots true n → (w : Slots) × (n.live ≡ Some w)
+    live_of n held = by n.live refl held.live
+      where
+        by : (l : Option Slots) → n.live ≡ l → IsLive old slots true l → (w : Slots) × (n.live ≡ Some w)
+        by (Some w) is live = (w, is)
+        by None is never = absurd never
+
+    packed : AnswersShared (Asks PackRefs) (RestartedAs (Ok tt)) old new slots slots true true
+    packed = record {
+      each = λ n held.
+          let w = live_of n held in (
+            n,
+            Did Stored,
+            None,
+            record { spells = spelled n held; clean = still_clean_packed old new rest held.clean; live = live_kept slots true n.live held.live },
+            record { answer = refl; sent = refl },
+            λ sound bare. SharedAnswers.asked w.0 PackRefs w.1 refl refl refl refl,
+          );
+    }
+
+    unpacked : (f : FilesFault) → AnswersShared (Asks PackRefs) (RestartedAs (Err (Ref (ref.Fault f)))) old new slots slots true false
+    unpacked f = record {
+      each = λ n held.
+          let w = live_of n held in (
+            record { repository = n.repository; live = None },
+            Fault (failure_of f),
+            None,
+            record { spells = spelled n held; clean = still_clean_packed old new rest held.clean; live = tt },
+            record { answer = refl; sent = refl },
+            λ sound bare. SharedAnswers.faulted w.0 (failure_of f) w.1 (λ never. cc never) refl refl refl,
+          );
+    }
+
+    -- clean files are not to blame, so a refusal is a fault
+    pub packing_answers : (result : Result (Unit {0}) NodeFault) → IfErr result (BlamesPacking old) → AnswersShared (Asks PackRefs) (RestartedAs result) old new slots slots true (up_after result)
+    packing_answers (Ok u) told = packed
+    packing_answers (Err (Ref (ref.Fault f))) told = unpacked f
+    packing_answers (Err (Ref (ref.BadRefFile path))) first = record { each = λ n held. absurd (held.clean.refs _ first.bad) }
+    packing_answers (Err (Ref (ref.Stale current))) told = absurd told
+    packing_answers (Err (Ref (ref.Conflict other))) told = absurd told
+    packing_answers (Err (Ref ref.HeadLoop)) told = absurd told
+    packing_answers (Err (Store e)) told = absurd told
+    packing_answers (Err (Missing id)) told = absurd told
+    packing_answers (Err (NotACommit id)) told = absurd told
+    packing_answers (Err BadPath) told = absurd told
+    packing_answers (Err PathConflict) told = absurd told
+    packing_answers (Err (BadIndex place)) told = absurd told
+    packing_answers (Err (WrongEntry at)) told = absurd told
+    packing_answers (Err Down) told = absurd told

@@ -1,0 +1,32 @@
+use Rattle.std.proofs.Common.{Ok, Err, inl, inr, refl, rules}
+use Rattle.vc_files.proofs.WearLemmas.{writes_told}
+use Rattle.vc_model.specs.Question.Question.{PackRefs}
+use Rattle.vc_model.specs.SharedCall.SharedCall.{Asks}
+use Rattle.vc_node.specs.declared.fault.NodeFault.TheVariants.{Ref}
+use Rattle.vc_node.proofs.RefBlames.{packing_blames}
+use Rattle.vc_shared.proofs.PackingLemmas.{packing_answers}
+use Rattle.vc_shared.proofs.ResolvingLemmas.{down_declines}
+use Rattle.vc_shared.proofs.shared.Shared.pack_refs.Goals as goal
+
+pub returns-then-not-self-clause-answers : goal.returns-then-not-self-clause-answers
+returns-then-not-self-clause-answers g c = λ honest. down_declines _ _ _ _ (Asks PackRefs) _ _ (λ never. cc never) refl refl refl (search rules)
+
+pub returns-in-Ok-clause-answers : goal.returns-in-Ok-clause-answers
+returns-in-Ok-clause-answers g c = λ honest.
+    let content = g.F.Files.content in
+    rw (← c.self.view_is, c.if-not-self.false) (packing_answers (content c.self.inside.files) (content c.pack.new.files) (c.in-Ok.ensures.rest honest) (c.in-Ok.ensures.kept honest) c.self.inside.slots (Ok tt) tt)
+
+pub returns-in-Err-clause-answers : goal.returns-in-Err-clause-answers
+returns-in-Err-clause-answers g c = λ honest.
+    let content = g.F.Files.content in
+    rw (← c.self.view_is, c.if-not-self.false, c.is_fault.ensures, c.from-fault.ensures)
+    (packing_answers (content c.self.inside.files) (content c.pack.new.files) (c.in-Err.ensures.rest honest) (c.in-Err.ensures.kept honest) c.self.inside.slots (Err (Ref c.in-Err.fault)) (packing_blames _ _ (c.in-Err.ensures.refused honest)))
+
+pub returns-in-Err-clause-refused : goal.returns-in-Err-clause-refused
+returns-in-Err-clause-refused g c = λ honest. rw (← c.self.view_is, c.from-fault.ensures) (inr (packing_blames _ _ (c.in-Err.ensures.refused honest)))
+
+pub returns-in-Ok-clause-wear : goal.returns-in-Ok-clause-wear
+returns-in-Ok-clause-wear g c = rw (← c.self.view_is) (writes_told c.in-Ok.ensures.wear (search rules) (search rules))
+
+pub returns-in-Err-clause-wear : goal.returns-in-Err-clause-wear
+returns-in-Err-clause-wear g c = rw (← c.self.view_is) (writes_told c.in-Err.ensures.wear (search rules) (search rules))
