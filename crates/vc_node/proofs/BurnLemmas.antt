@@ -448,5 +448,5 @@ packs_burn honest content failed can_fail left old new result frail waits after 
       step.6,
       step.7,
       burns honest content failed can_fail left old new (TellsDevice result) frail (IsSound git n.repository → MayClone git git_rules n (Asks PackRefs)) step.2 n.repository step.1.repository is_honest (packed_tells result step.2 step.3 step.6) can wear (looks awaited n is holds)
-      (suffices_unchanged (content old) (content new) n.repository step.1.repository holds.shows.spells step.5.shows.spells same),
+          (suffices_unchanged (content old) (content new) n.repository step.1.repository holds.shows.spells step.5.shows.spells same),
     )

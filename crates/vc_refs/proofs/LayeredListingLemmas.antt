@@ -126,11 +126,13 @@ pub listed_blames : (content : FileMap) (name : List ℕ) → is_taken content n
 listed_blames content name taken (Stale current) h = h
 listed_blames content name taken (Conflict other) h = h
 listed_blames content name taken (BadRefFile path) h =
-    let at : string_bytes path ≡ name = h.0 ∙ decides-loose content name taken in
-    (at, elim h.1 [
-      | inl own ↦ ap (loose_refs content) (sym at) ∙ own.none
-      | inr line ↦ absurd (true≢false (sym taken ∙ ap (is_taken content) (sym at ∙ line.0) ∙ packed_untaken content))
-    ])
+    let at : string_bytes path ≡ name = h.0 ∙ decides-loose content name taken in (
+      at,
+      elim h.1 [
+        | inl own ↦ ap (loose_refs content) (sym at) ∙ own.none
+        | inr line ↦ absurd (true≢false (sym taken ∙ ap (is_taken content) (sym at ∙ line.0) ∙ packed_untaken content))
+      ],
+    )
 listed_blames content name taken HeadLoop h = h
 listed_blames content name taken (Fault fault) h = tt
 
