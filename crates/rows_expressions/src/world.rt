@@ -10,6 +10,7 @@ use std::mem;
 use vc_files::{FailOnce, Files, MemoryFiles};
 use vc_index::Index;
 use vc_object::{Kind, ObjectId};
+use vc_refs::PackedCache;
 use vc_repository::FileRepository;
 use vc_rev::{RevFault, SourceFault, parse, parse_set, resolve, resolve_set};
 use vc_store::Store;
@@ -19,6 +20,7 @@ pub struct World {
     alloc: Global,
     files: FailOnce<MemoryFiles>,
     index: Index,
+    packed: PackedCache,
     replaced: IndexMap<ObjectId, ObjectId>,
 }
 
@@ -29,6 +31,7 @@ impl World {
             alloc,
             files: FailOnce::new(MemoryFiles::new(alloc), u64::MAX),
             index: Index::new(alloc),
+            packed: PackedCache::new(alloc),
             replaced: IndexMap::new(alloc),
         }
     }
@@ -53,7 +56,7 @@ impl World {
 
     fn repository(&mut self) -> Lying<'_> {
         Lying {
-            real: FileRepository::new(self.alloc, &mut self.files, &self.index),
+            real: FileRepository::new(self.alloc, &mut self.files, &self.index, &mut self.packed),
             replaced: &self.replaced,
         }
     }

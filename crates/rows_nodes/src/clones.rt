@@ -173,6 +173,7 @@ fn call(
         }
         "resolve" => resolve(out, alloc, node, text),
         "restart" => push_restarted(out, &node.restart(), node.is_up()),
+        "pack" => push_done(out, &node.pack_refs()),
         _ => out.push_str("no such verb"),
     }
 }
@@ -193,6 +194,7 @@ pub fn row(
         }
         "open" => site.open(out, rest),
         "file" => site.file(out, rest),
+        "text" => site.text(out, rest),
         "count" => site.count(out, rest),
         _ => match &mut site.node {
             Some(node) => call(out, alloc, node, sent, verb, rest),

@@ -66,8 +66,10 @@ impl Ground {
             }
             "step" => shared::step(out, &mut self.shared, &mut self.sent, text),
             "restart" => shared::restart(out, &mut self.shared),
+            "pack" => shared::pack(out, &mut self.shared),
             "resolve" => shared::resolve(out, self.alloc, &mut self.shared, text),
             "file" => self.shared.file(out, text),
+            "text" => self.shared.text(out, text),
             "count" => self.shared.count(out, text),
             _ => out.push_str("no such verb"),
         }

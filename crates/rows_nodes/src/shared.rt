@@ -1,7 +1,7 @@
 //! Rows about the shared node.
 
 use crate::site::{Device, Site};
-use crate::words::{push_bytes, push_found, push_restarted};
+use crate::words::{push_bytes, push_done, push_found, push_restarted};
 use std::alloc::{AllocError, Global};
 use std::fmt::Write;
 use vc_push::Reason;
@@ -92,6 +92,14 @@ pub fn restart(out: &mut String, site: &mut SharedSite) -> Result<(), AllocError
         return out.push_str("closed");
     };
     push_restarted(out, &node.restart(), node.is_up())
+}
+
+/// Puts all refs of the node into one file.
+pub fn pack(out: &mut String, site: &mut SharedSite) -> Result<(), AllocError> {
+    match &mut site.node {
+        Some(node) => push_done(out, &node.pack_refs()),
+        None => out.push_str("closed"),
+    }
 }
 
 /// What an expression names at the node.

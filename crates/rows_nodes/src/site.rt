@@ -1,5 +1,6 @@
 //! A node of the rows, or its files while it is closed.
 
+use crate::words::push_bytes;
 use bstr::ByteVec;
 use std::alloc::{AllocError, Global};
 use std::fmt::Write;
@@ -144,6 +145,16 @@ impl<N: Opened> Site<N> {
         let bytes = Vec::unescape_bytes(self.alloc, words)?;
         match self.files.put(self.alloc, path, &bytes) {
             Ok(()) => out.push_str("ok"),
+            Err(fault) => write!(out, "{fault}"),
+        }
+    }
+
+    /// What the file below the node holds, by escapes; the node is closed for it.
+    pub fn text(&mut self, out: &mut String, path: &str) -> Result<(), AllocError> {
+        self.close();
+        match self.files.get(self.alloc, path) {
+            Ok(Some(bytes)) => push_bytes(out, &bytes),
+            Ok(None) => out.push_str("no file"),
             Err(fault) => write!(out, "{fault}"),
         }
     }

@@ -2,6 +2,7 @@
 use crate::bench::Bench;
 use crate::words::{digits, or_word, push_item};
 use anyhow::Result;
+use vc_refs::PackedCache;
 use vc_repository::{FileRepository, read_index};
 use vc_rev::{parse, parse_set, resolve, resolve_set};
 
@@ -10,7 +11,8 @@ pub fn value(bench: &mut Bench, source: &str) -> Result<String> {
     let alloc = bench.alloc;
     let expr = parse(alloc, source.as_bytes())?;
     let index = read_index(alloc, &mut bench.files)?;
-    let mut repository = FileRepository::new(alloc, &mut bench.files, &index);
+    let mut packed = PackedCache::new(alloc);
+    let mut repository = FileRepository::new(alloc, &mut bench.files, &index, &mut packed);
     Ok(digits(alloc, resolve(alloc, &mut repository, &expr)?)?)
 }
 
@@ -19,7 +21,8 @@ pub fn set(bench: &mut Bench, source: &str) -> Result<String> {
     let alloc = bench.alloc;
     let terms = parse_set(alloc, source.as_bytes())?;
     let index = read_index(alloc, &mut bench.files)?;
-    let mut repository = FileRepository::new(alloc, &mut bench.files, &index);
+    let mut packed = PackedCache::new(alloc);
+    let mut repository = FileRepository::new(alloc, &mut bench.files, &index, &mut packed);
     let mut list = String::new(alloc);
     for id in &resolve_set(alloc, &mut repository, &terms)? {
         push_item(&mut list, " | ", digits(alloc, *id)?.as_str())?;

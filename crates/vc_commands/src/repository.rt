@@ -11,6 +11,7 @@ use vc_files::Files;
 use vc_folder::{FolderFiles, Syncs};
 use vc_index::Index;
 use vc_object::ObjectId;
+use vc_refs::PackedCache;
 use vc_repository::FileRepository;
 use vc_rev::{parse, parse_set, resolve_set};
 
@@ -94,7 +95,8 @@ pub fn select<F: Files>(
         Err(fault) => return Err(Failure::Syntax(fault)),
     };
     let index = Index::new(alloc);
-    let mut repository = FileRepository::new(alloc, files, &index);
+    let mut packed = PackedCache::new(alloc);
+    let mut repository = FileRepository::new(alloc, files, &index, &mut packed);
     match resolve_set(alloc, &mut repository, &set) {
         Ok(ids) => Ok(ids),
         Err(fault) => Err(Failure::Revision(fault)),

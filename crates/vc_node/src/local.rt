@@ -19,7 +19,8 @@ ghost use Rattle.vc_index.specs.TreeFiles.{IsFileOfTree};
 ghost use Rattle.vc_object.specs.declared.mode.Mode.{Mode as ModeValue};
 ghost use Rattle.vc_object.specs.declared.id.ObjectId.{ObjectId as Id};
 ghost use Rattle.vc_object.specs.declared.kind.Kind.TheVariants.{Blob};
-ghost use Rattle.vc_refs.specs.Head.{IsHeadInRefs, IsLegalHead};
+ghost use Rattle.vc_refs.specs.Head.{IsHeadInRefs, IsLegalHead, KeepsOutside};
+ghost use Rattle.vc_refs.specs.Packing.{IsPackedFrom};
 ghost use Rattle.vc_node.specs.Blames.{BlamesPacking, BlamesWrite, BlamesAdd, BlamesBranch, BlamesPut, BlamesHead, BlamesLoad, BlamesRemoved, MayLoad, MayStage, MayHead, TellsDamage};
 ghost use Rattle.vc_node.specs.Clean.{IsClean, KeepsClean, KeepsCleanBut};
 ghost use Rattle.vc_node.specs.GoodCommit.{IsGoodBeyondRefs};
@@ -210,6 +211,8 @@ pub(crate) fn remove_ref<F: Files>(
 
 /// Puts all refs into the packed file. Nothing that is shown changes, wherever it stops.
 pub(crate) fn pack_refs<F: Files>(alloc: Global, files: &mut F) -> Result<(), NodeFault>
+    ensures packed { F.honest → OnOk result (IsPackedFrom (F.content files.old) (F.content files.new)) }
+    ensures rest { F.honest → KeepsOutside (F.content files.old) (F.content files.new) }
     ensures kept { F.honest → shown (F.content files.new) ≡ shown (F.content files.old) }
     ensures refused { F.honest → IfErr result (BlamesPacking (F.content files.old)) }
     ensures clean { F.honest → IsClean (F.content files.old) → IsClean (F.content files.new) }

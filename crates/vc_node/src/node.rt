@@ -6,7 +6,8 @@ ghost use Rattle.vc_model.specs.Clone.Task.{Write, Stage, Unstage, LoadTree, Mak
 ghost use Rattle.vc_model.specs.Clone.Awaited.{Nothing};
 ghost use Rattle.vc_model.specs.Repository.{Repository};
 ghost use Rattle.vc_object.specs.Object.{object_name};
-ghost use Rattle.vc_refs.specs.Head.{IsHeadInRefs};
+ghost use Rattle.vc_refs.specs.Head.{IsHeadInRefs, KeepsOutside};
+ghost use Rattle.vc_refs.specs.Packing.{IsPackedFrom};
 ghost use Rattle.vc_exchange.specs.Sending.{machine_items};
 ghost use Rattle.vc_files.specs.declared.faults.Fault.TheVariants.{Memory};
 ghost use Rattle.vc_message.specs.AnyMessage.{a_report};
@@ -569,6 +570,8 @@ impl<F: Files> CloneNode<F> {
     /// can't be read.
     pub fn pack_refs(&mut self) -> Result<(), NodeFault>
         ensures answers { F.honest → AnswersClone (Asks PackRefs) (RestartedAs result) (F.content self.old.files) (F.content self.new.files) self.old.awaited self.new.awaited self.old.is_up self.new.is_up }
+        ensures packed { F.honest → OnOk result (IsPackedFrom (F.content self.old.files) (F.content self.new.files)) }
+        ensures rest { F.honest → KeepsOutside (F.content self.old.files) (F.content self.new.files) }
         ensures kept { F.honest → shown (F.content self.new.files) ≡ shown (F.content self.old.files) }
         ensures refused { F.honest → IfErr result (λ e. (e ≡ NodeFault.Down) ⊎ BlamesPacking (F.content self.old.files) e) }
         ensures down { self.old.is_up ≡ false → result ≡ Err NodeFault.Down }

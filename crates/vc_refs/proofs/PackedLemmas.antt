@@ -1,20 +1,23 @@
 -- For the readers and the changes of packed refs: lines, names that stand once, and a map seen without its memory.
-use Rattle.std.proofs.Common.{◌≡◌, ℕ, Bool, true, false, cond, List, [], ◌∷◌, ◌++◌, length, Option, Some, None, is_none, sym, ap, refl, ◌∙◌, subst, arith, append_assoc, append-nil}
-use Rattle.std.specs.Prelude.{IfSome, IfNone, T, is_some, option_map, option_and_then}
-use Rattle.std.specs.BTreeMap.{BTreeMap, get_by, is_at, UpdatesBy, IsOrdered}
-use Rattle.std.specs.FinMap.{from_entries, from_entries_push, get, insert, remove, empty, get-from_entries, get-insert, get-remove, same_map, len-entries, len-empty, entries, entries_sorted, get-entries, entries-insert, slice_cmp-IsAntisymmetric, nat_cmp-IsAntisymmetric}
-use Rattle.std.specs.FinMap.Entries.{find, find-append, put, by_order, below_all, is_sorted}
+use Rattle.std.proofs.Common.{◌≡◌, ◌≢◌, ℕ, Bool, true, false, cond, List, [], ◌∷◌, ◌++◌, length, Option, Some, None, is_none, sym, ap, refl, ◌∙◌, subst, arith, append_assoc, append-nil}
+use Rattle.std.specs.Prelude.{IfSome, IfNone, T, option_map, option_and_then}
+use Rattle.std.specs.BTreeMap.{BTreeMap, get_by, is_at, UpdatesBy, IsFromIterResult, IsOrdered}
+use Rattle.std.specs.FinMap.{from_entries, get, insert, remove, empty, get-from_entries, get-insert, get-remove, same_map, len-entries, len-empty, entries, entries_sorted, get-entries, entries-insert, slice_cmp-IsAntisymmetric, nat_cmp-IsAntisymmetric}
+use Rattle.std.specs.FinMap.Entries.{find, put, by_order, below_all, is_sorted}
 use Rattle.std.specs.Ordering.{nat_cmp, is_eq, is_lt, eq_by_cmp}
 use Rattle.std.specs.declared.cmp.Ordering.{Ordering}
 use Rattle.std.specs.declared.cmp.Ordering.TheVariants.{Less, Equal, Greater}
 use Rattle.std.specs.Cmp.{eq_by_cmp_equiv, tied_itself}
 use Rattle.std.specs.Cmp.Lexicographic.{slice_cmp, nat_list_cmp_total}
 use Rattle.std.specs.Map.{lookup, keys_of}
-use Rattle.std.specs.List.{AllByRecursion, list_all}
+use Rattle.std.specs.List.{AllByRecursion, IsDistinct, list_all}
 use Rattle.std.specs.List.Sorted.{IsStrictlySortedBy}
 use Rattle.std.specs.Str.{is_utf8}
-use Rattle.std.proofs.lemmas.Bool.{and_parts, and_from, and_left, and_right}
+use Rattle.std.proofs.lemmas.Bool.{and_parts, and_from}
 use Rattle.std.proofs.lemmas.List.Folds.{list_all-append}
+use Rattle.std.proofs.lemmas.Map.Entries.{length-keys_of}
+use Rattle.std.proofs.lemmas.Map.Made.{IsDistinct-from_count, distinct_count-from_IsDistinct, update_all_none}
+use Rattle.std.proofs.lemmas.Map.Views.{btree_map_len-from_list}
 use Rattle.vc_object.specs.declared.id.ObjectId.{ObjectId}
 use Rattle.vc_refs.specs.Packed.{PackedMap, PackedRef, IsBadPacked, IsPackedMap, is_comment, is_packed_name, is_peeled, lines, map_of, may_be_packed, names_once, packed_name, packed_refs, ref_in, refs_in, with_ref_first}
 use Rattle.vc_refs.specs.PackedView.{packed_of}
@@ -99,31 +102,6 @@ is_eq-same a = ap is_eq (tied_itself nat_list_cmp_total a)
 none_parts : (b : Bool) (v : ObjectId) (r : Option ObjectId) → cond b (Some v) r ≡ None → (b ≡ false) × (r ≡ None)
 none_parts true v r e = absurd (cc e)
 none_parts false v r e = (refl, e)
-
-flipped : (a b : List ℕ) → is_eq (by_bytes a b) ≡ false → is_eq (by_bytes b a) ≡ false
-flipped a b e = (eq_by_cmp_equiv nat_list_cmp_total).symm b a ∙ e
-
-pub once_more : (refs : List PackedRef) (name : List ℕ) (id : ObjectId) → names_once refs ≡ true → find by_bytes name refs ≡ None → names_once (refs ++ (name, id) ∷ []) ≡ true
-once_more [] name id once none = refl
-once_more (ref ∷ refs) name id once none =
-    let parts = and_parts (is_none (find by_bytes ref.0 refs)) (names_once refs) once in
-    let apart = none_parts (is_eq (by_bytes name ref.0)) ref.1 (find by_bytes name refs) none in
-    let same : find by_bytes ref.0 (refs ++ (name, id) ∷ []) ≡ find by_bytes ref.0 refs =
-    find-append by_bytes nat_list_cmp_total refs name id ref.0 apart.1 ∙ ap (λ b. cond b (Some id) (find by_bytes ref.0 refs)) (flipped name ref.0 apart.0) in
-    and_from _ _ (ap is_none same ∙ parts.0) (once_more refs name id parts.1 apart.1)
-
-found_later : (q : List ℕ) (front : List PackedRef) (name : List ℕ) (id : ObjectId) (rest : List PackedRef) → is_eq (by_bytes q name) ≡ true → is_none (find by_bytes q (front ++ (name, id) ∷ rest)) ≡ false
-found_later q [] name id rest e = rw e refl
-found_later q (ref ∷ front) name id rest e = elim (is_eq (by_bytes q ref.0)) as (λ b. is_none (cond b (Some ref.1) (find by_bytes q (front ++ (name, id) ∷ rest))) ≡ false) [ true ↦ refl | false ↦ found_later q front name id rest e ]
-
--- a name that stood before
-pub not_once : (front : List PackedRef) (name : List ℕ) (id : ObjectId) (rest : List PackedRef) → is_some (find by_bytes name front) ≡ true → names_once (front ++ (name, id) ∷ rest) ≡ false
-not_once [] name id rest some = absurd (cc some)
-not_once (ref ∷ front) name id rest some =
-    elim (is_eq (by_bytes name ref.0)) as (λ b. is_eq (by_bytes name ref.0) ≡ b → is_some (cond b (Some ref.1) (find by_bytes name front)) ≡ true → names_once (ref ∷ front ++ (name, id) ∷ rest) ≡ false) [
-      | true ↦ λ same _. and_left _ _ (found_later ref.0 front name id rest ((eq_by_cmp_equiv nat_list_cmp_total).symm ref.0 name ∙ same))
-      | false ↦ λ other later. and_right _ _ (not_once front name id rest later)
-    ] refl some
 
 pub map_of-once : (refs : List PackedRef) → names_once refs ≡ true → map_of refs ≡ Some (from_entries refs)
 map_of-once refs once = rw once refl
@@ -271,50 +249,58 @@ remove-IsPackedMap m k all =
     (λ q v is. all_found q v (entries m) all
     (sym (get-entries m q) ∙ of_kept (eq_by_cmp by_bytes q k) (get m q) v (sym (get-remove nat_list_cmp_total m k q) ∙ get-entries (remove m k) q ∙ is)))
 
--- ---- a tree that is made ref by ref
-pub no_value : (o : Option ObjectId) → is_some o ≡ false → o ≡ None
+-- ---- a tree that is made of all refs at once
+absent_apart : (name : List ℕ) (refs : List PackedRef) → find by_bytes name refs ≡ None → AllByRecursion (λ other. eq_by_cmp by_bytes name other ≡ false) (keys_of refs)
+absent_apart name [] none = tt
+absent_apart name (ref ∷ refs) none =
+    let apart = none_parts (is_eq (by_bytes name ref.0)) ref.1 (find by_bytes name refs) none in
+    (apart.0, absent_apart name refs apart.1)
+
+apart_absent : (name : List ℕ) (refs : List PackedRef) → AllByRecursion (λ other. eq_by_cmp by_bytes name other ≡ false) (keys_of refs) → is_none (find by_bytes name refs) ≡ true
+apart_absent name [] apart = refl
+apart_absent name (ref ∷ refs) apart = ap (λ b. is_none (cond b (Some ref.1) (find by_bytes name refs))) apart.0 ∙ apart_absent name refs apart.1
+
+no_value : (o : Option ObjectId) → is_none o ≡ true → o ≡ None
 no_value None e = refl
 no_value (Some v) e = absurd (cc e)
 
-pub record IsMade (all : List PackedRef) (m : BTreeMap (List ℕ) ObjectId) (left : List PackedRef) : Type 0 where
-  pub done : List PackedRef
-  pub whole : all ≡ done ++ left
-  pub once : names_once done ≡ true
-  pub made : packed_of m ≡ from_entries done
+-- names that stand once are keys of which no two are equal
+once_distinct : (refs : List PackedRef) → names_once refs ≡ true → IsDistinct (eq_by_cmp by_bytes) (keys_of refs)
+unfolding IsDistinct
+once_distinct [] once = tt
+once_distinct (ref ∷ refs) once =
+    let parts = and_parts (is_none (find by_bytes ref.0 refs)) (names_once refs) once in
+    (absent_apart ref.0 refs (no_value _ parts.0), once_distinct refs parts.1)
 
-pub none_made : (all : List PackedRef) (m : BTreeMap (List ℕ) ObjectId) (left : List PackedRef) → m.entries ≡ [] → left ≡ all → IsMade all m left
-none_made all m left none is = record { done = []; whole = sym is; once = refl; made = packed_of-new m none }
+distinct_once : (refs : List PackedRef) → IsDistinct (eq_by_cmp by_bytes) (keys_of refs) → names_once refs ≡ true
+unfolding IsDistinct
+distinct_once [] distinct = refl
+distinct_once (ref ∷ refs) distinct = and_from _ _ (apart_absent ref.0 refs distinct.0) (distinct_once refs distinct.1)
 
-module _ (all : List PackedRef) (m : BTreeMap (List ℕ) ObjectId) (left : List PackedRef) (so_far : IsMade all m left) where
-  found_done : (k : List ℕ) → get_by (by_bytes k) m ≡ find by_bytes k so_far.done
-  found_done k = sym (get-packed_of m k) ∙ ap (λ (n : PackedMap). get n k) so_far.made ∙ get-from_entries nat_list_cmp_total so_far.done k
+module _ (refs : List PackedRef) (m : BTreeMap (List ℕ) ObjectId) (made : IsFromIterResult by_bytes refs m) where
+  collected_once : length m.entries ≡ length refs → names_once refs ≡ true
+  collected_once same = distinct_once refs (IsDistinct-from_count (eq_by_cmp_equiv nat_list_cmp_total) (keys_of refs) (sym (btree_map_len-from_list nat_list_cmp_total refs m made) ∙ same ∙ sym (length-keys_of refs)))
 
-  -- a name that wasn't there
-  pub one_made : (n : BTreeMap (List ℕ) ObjectId) (k : List ℕ) (v : ObjectId) (after : List PackedRef) → left ≡ (k, v) ∷ after → get_by (by_bytes k) m ≡ None → UpdatesBy by_bytes (by_bytes k) m n (Some v) → IsMade all n after
-  one_made n k v after is none change =
-      let new : find by_bytes k so_far.done ≡ None = sym (found_done k) ∙ none in record {
-        done = so_far.done ++ (k, v) ∷ [];
-        whole = so_far.whole ∙ ap (λ (l : List PackedRef). so_far.done ++ l) is ∙ sym (append_assoc so_far.done ((k, v) ∷ []) after);
-        once = once_more so_far.done k v so_far.once new;
-        made =
-            packed_of-set m n k v change ∙ ap (λ (p : PackedMap). insert p k v) so_far.made
-            ∙ sym (from_entries_push nat_list_cmp_total (slice_cmp-IsAntisymmetric nat_cmp-IsAntisymmetric) so_far.done k v new);
-      }
+  -- fewer entries than refs: a name stands twice
+  pub collected_twice : length m.entries ≢ length refs → map_of refs ≡ None
+  collected_twice fewer = elim (names_once refs) as (λ b. names_once refs ≡ b → map_of refs ≡ None) [
+    | true ↦ λ once. absurd (fewer (btree_map_len-from_list nat_list_cmp_total refs m made ∙ distinct_count-from_IsDistinct (eq_by_cmp_equiv nat_list_cmp_total) (keys_of refs) (once_distinct refs once) ∙ length-keys_of refs))
+    | false ↦ λ twice. map_of-twice refs twice
+  ] refl
 
-  -- a name that was
-  pub made_twice : (k : List ℕ) (v : ObjectId) (after : List PackedRef) → left ≡ (k, v) ∷ after → is_some (get_by (by_bytes k) m) ≡ true → map_of all ≡ None
-  made_twice k v after is some =
-      map_of-twice all (ap names_once (so_far.whole ∙ ap (λ (l : List PackedRef). so_far.done ++ l) is) ∙ not_once so_far.done k v after (ap is_some (sym (found_done k)) ∙ some))
+  same_refs : names_once refs ≡ true → packed_of m ≡ from_entries refs
+  same_refs once =
+      same_packed (packed_of m) (from_entries refs) (λ q.
+      get-packed_of m q ∙ made.0 q
+      ∙ update_all_none (eq_by_cmp_equiv nat_list_cmp_total) (eq_by_cmp by_bytes) (λ a b. refl) refs q (once_distinct refs once)
+      ∙ sym (find_view q refs) ∙ sym (get-from_entries nat_list_cmp_total refs q))
 
-  all_done : left ≡ [] → all ≡ so_far.done
-  all_done none = so_far.whole ∙ ap (λ (l : List PackedRef). so_far.done ++ l) none ∙ append-nil so_far.done
+  -- as many: each stands once
+  pub all_collected : length m.entries ≡ length refs → map_of refs ≡ Some (packed_of m)
+  all_collected same = map_of-once refs (collected_once same) ∙ ap Some (sym (same_refs (collected_once same)))
 
-  -- nothing is left
-  pub all_made : left ≡ [] → map_of all ≡ Some (packed_of m)
-  all_made none = ap map_of (all_done none) ∙ map_of-once so_far.done so_far.once ∙ ap Some (sym so_far.made)
-
-  pub made-IsPackedMap : left ≡ [] → list_all may_be_packed all ≡ true → IsPackedMap (packed_of m)
-  made-IsPackedMap none valid = subst IsPackedMap (ap from_entries (all_done none) ∙ sym so_far.made) (from_entries-IsPackedMap all valid)
+  pub collected-IsPackedMap : length m.entries ≡ length refs → list_all may_be_packed refs ≡ true → IsPackedMap (packed_of m)
+  collected-IsPackedMap same valid = subst IsPackedMap (sym (same_refs (collected_once same))) (from_entries-IsPackedMap refs valid)
 
 -- ---- the whole text
 pub read_lines : (text : List ℕ) (found_lines : List (List ℕ)) (found : Option (List PackedRef)) → found_lines ≡ lines text → found ≡ refs_in false found_lines → packed_refs text ≡ option_and_then map_of found

@@ -1,7 +1,7 @@
 -- What is written for packed refs is read as the same refs.
 use Rattle.std.proofs.Common.{◌≡◌, ℕ, zero, suc, ◌==◌, Bool, true, false, cond, List, [], ◌∷◌, ◌++◌, length, Some, is_none, sym, ap, refl, ◌∙◌, arith, append_assoc, append-nil, length-append, true≢false, nat_eq}
 use Rattle.std.specs.Prelude.{codes, map, nat_lt, option_and_then}
-use Rattle.std.specs.FinMap.{from_entries, entries, entries_sorted, get-entries, get-from_entries, same_map, slice_cmp-IsAntisymmetric, nat_cmp-IsAntisymmetric}
+use Rattle.std.specs.FinMap.{empty, from_entries, entries, entries_sorted, get-entries, get-from_entries, same_map, slice_cmp-IsAntisymmetric, nat_cmp-IsAntisymmetric}
 use Rattle.std.specs.FinMap.Entries.{below_all, is_sorted}
 use Rattle.std.specs.Ordering.{nat_cmp}
 use Rattle.std.specs.declared.cmp.Ordering.{Ordering}
@@ -162,3 +162,8 @@ written_refs_are_read m valid =
     ap (option_and_then map_of) (lines_again (entries m) valid)
     ∙ map_of-once (entries m) (sorted_once (entries m) (of_T _ (entries_sorted m)))
     ∙ ap Some (same_again m)
+
+-- no text stands for no refs
+pub no_text : packed_refs [] ≡ Some empty
+unfolding packed_refs
+no_text = refl

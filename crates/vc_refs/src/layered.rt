@@ -10,9 +10,10 @@ mod removing;
 mod setting;
 mod way;
 
-pub use getting::get;
-pub use head_value::resolve_head;
+pub use getting::{get, get_with};
+pub use head_value::{resolve_head, resolve_head_with};
 pub use listing::list;
+pub use packed_file::PackedCache;
 pub use packing::pack;
 pub use removing::remove;
 pub use setting::set;

@@ -22,6 +22,9 @@ mod way;
 pub use faults::RefFault;
 pub use head_file::{head, set_head};
 pub use heads::Head;
-pub use layered::{get, list, pack, refuse_conflict, remove, resolve_head, set};
+pub use layered::{
+    PackedCache, get, get_with, list, pack, refuse_conflict, remove, resolve_head,
+    resolve_head_with, set,
+};
 pub use packed::PackedRefs;
 pub use view::Refs;

@@ -239,11 +239,11 @@ fn map_of(alloc: Global, refs: Vec<(RefName, ObjectId)>) -> Result<Option<Packed
     ensures found { IfOk result (λ found. found ≡ map_of refs.items) }
     ensures packed { IfOk result (λ found. IfSome found IsPackedMap) }
 {
-    let mut by_name = BTreeMap::new(alloc);
-    for (name, id) in refs {
-        if by_name.insert(name, id)?.is_some() {
-            return Ok(None);
-        }
+    let count = refs.len();
+    let by_name: BTreeMap<RefName, ObjectId> = refs.into_iter().collect(alloc)?;
+    // Of a name that stands twice the map has one.
+    if by_name.len() != count {
+        return Ok(None);
     }
     Ok(Some(PackedRefs { by_name }))
 }

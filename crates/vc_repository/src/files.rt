@@ -9,7 +9,7 @@ use vc_graph::Objects;
 use vc_index::Index;
 use vc_object::ObjectId;
 use vc_refname::RefName;
-use vc_refs::Refs;
+use vc_refs::PackedCache;
 use vc_rev::{Repository, SourceFault};
 use vc_store::{Store, StoreFault, Stored};
 
@@ -23,11 +23,19 @@ pub struct FileRepository<'a, F> {
     pub index: &'a Index,
     /// What its calls allocate with.
     pub alloc: Global,
+    // What was read of the packed refs last.
+    packed: &'a mut PackedCache,
 }
 
 impl<'a, F: Files> FileRepository<'a, F> {
-    /// The repository of these files, with this index.
-    pub fn new(alloc: Global, files: &'a mut F, index: &'a Index) -> FileRepository<'a, F>
+    /// The repository of these files, with this index. In `packed` it keeps what it reads of the packed refs, so that they are
+    /// parsed once, however many names are looked up.
+    pub fn new(
+        alloc: Global,
+        files: &'a mut F,
+        index: &'a Index,
+        packed: &'a mut PackedCache,
+    ) -> FileRepository<'a, F>
         ensures same_files { result.files.ghost_name ≡ files.entry.ghost_name }
         ensures files { result.files.now ≡ files.old }
         ensures index { result.index.now ≡ index.now }
@@ -36,6 +44,7 @@ impl<'a, F: Files> FileRepository<'a, F> {
             files,
             index,
             alloc,
+            packed,
         }
     }
 }
@@ -89,14 +98,14 @@ impl<F: Files> Repository for FileRepository<'_, F> {
     ghost follows = { λ x y same. same };
 
     fn head(&mut self) -> Result<Option<ObjectId>, SourceFault> {
-        match Refs::new(self.alloc, self.files).resolve_head() {
+        match vc_refs::resolve_head_with(self.files, self.alloc, self.packed) {
             Ok(found) => Ok(found),
             Err(fault) => Err(refs_fault(fault)),
         }
     }
 
     fn ref_value(&mut self, name: &RefName) -> Result<Option<ObjectId>, SourceFault> {
-        match Refs::new(self.alloc, self.files).get(name) {
+        match vc_refs::get_with(self.files, self.alloc, self.packed, name) {
             Ok(found) => Ok(found),
             Err(fault) => Err(refs_fault(fault)),
         }

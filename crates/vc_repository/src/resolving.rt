@@ -10,6 +10,7 @@ use std::alloc::Global;
 use vc_files::{Fault, Files};
 use vc_index::Index;
 use vc_object::ObjectId;
+use vc_refs::PackedCache;
 use vc_rev::{Expr, RevFault, SourceFault};
 use vc_store::StoreFault;
 
@@ -45,7 +46,8 @@ pub fn resolve<F: Files>(
         Ok(index) => index,
         Err(fault) => return Err(RevFault::Source(fault)),
     };
-    let mut repository = FileRepository::new(alloc, files, &index);
+    let mut packed = PackedCache::new(alloc);
+    let mut repository = FileRepository::new(alloc, files, &index, &mut packed);
     match vc_rev::resolve(alloc, &mut repository, expr) {
         Ok(id) => Ok(id),
         Err(fault) => Err(fault),

@@ -1,5 +1,5 @@
 // The shared node.
-ghost use Rattle.std.specs.Prelude.{◌≡◌, ◌⊎◌, ℕ, IfErr, IfOk, OnErr, Ok, None, Some, List, is_ok, not, false, true};
+ghost use Rattle.std.specs.Prelude.{◌≡◌, ◌⊎◌, ℕ, IfErr, IfOk, OnErr, OnOk, Ok, None, Some, List, is_ok, not, false, true};
 ghost use Rattle.std.specs.FinMap.{empty};
 ghost use Rattle.vc_files.specs.Failures.{Wears, Writes};
 ghost use Rattle.vc_message.specs.AnyView.{message_text};
@@ -15,6 +15,7 @@ ghost use Rattle.vc_node.specs.Clean.{KeepsClean};
 ghost use Rattle.vc_node.specs.NodeFault.{IsOfDevice as IsNodeDevice, TellsDevice as TellsNodeDevice};
 ghost use Rattle.vc_node.specs.Opening.{IsOpenable};
 ghost use Rattle.vc_refs.specs.Head.{KeepsOutside};
+ghost use Rattle.vc_refs.specs.Packing.{IsPackedFrom};
 ghost use Rattle.vc_refs.specs.Refs.{refs};
 ghost use Rattle.vc_repository.specs.Resolving.{DenotesIn};
 ghost use Rattle.vc_rev.specs.Grammar.{IsExpr};
@@ -220,6 +221,7 @@ impl<F: Files> Shared<F> {
     /// one of their files can't be read.
     pub fn pack_refs(&mut self) -> Result<(), NodeFault>
         ensures answers { F.honest → AnswersShared (Asks PackRefs) (RestartedAs result) (F.content self.old.files) (F.content self.new.files) self.old.slots self.new.slots self.old.is_up self.new.is_up }
+        ensures packed { F.honest → OnOk result (IsPackedFrom (F.content self.old.files) (F.content self.new.files)) }
         ensures kept { F.honest → refs (F.content self.new.files) ≡ refs (F.content self.old.files) }
         ensures refused { F.honest → IfErr result (λ e. (e ≡ NodeFault.Down) ⊎ BlamesPacking (F.content self.old.files) e) }
         ensures down { self.old.is_up ≡ false → result ≡ Err NodeFault.Down }

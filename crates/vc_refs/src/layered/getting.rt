@@ -5,7 +5,7 @@ ghost use Rattle.vc_refs.specs.RefFault.{BlamesRef, BlamesRemove, HasExpected};
 ghost use Rattle.vc_refs.specs.Refs.{deciding_file, is_taken, packed_map, refs, IsBadRef};
 ghost use Rattle.vc_refs.specs.RefMap.{IsInRefs};
 
-use super::packed_file::read_packed;
+use super::packed_file::PackedCache;
 use crate::{PackedRefs, RefFault, loose};
 use std::alloc::Global;
 use vc_files::{Fault, Files};
@@ -26,10 +26,29 @@ pub fn get<F: Files>(
     ensures same { F.content files.new ≡ F.content files.old }
     ensures wear { Wears F.failed F.can_fail F.left files.old files.new (IsErrOf result (RefFault.Fault Fault.Device)) }
 {
+    let mut packed = PackedCache::new(alloc);
+    get_with(files, alloc, &mut packed, name)
+}
+
+/// The same, for one who looks up several refs and keeps in `packed` what was read of the packed file.
+pub fn get_with<F: Files>(
+    files: &mut F,
+    alloc: Global,
+    packed: &mut PackedCache,
+    name: &RefName,
+) -> Result<Option<ObjectId>, RefFault>
+    requires { IsInRefs name.now }
+    ensures found { F.honest → IfOk result (λ id. id ≡ refs (F.content files.old) name.now) }
+    ensures good { F.honest → OnOk result (IsBadRef (F.content files.old) (deciding_file (F.content files.old) name.now) → ⊥) }
+    ensures refused { F.honest → IfErr result (BlamesRef (F.content files.old) name.now) }
+    ensures same { F.content files.new ≡ F.content files.old }
+    ensures wear { Wears F.failed F.can_fail F.left files.old files.new (IsErrOf result (RefFault.Fault Fault.Device)) }
+{
+    // The ref's own file first: it goes once the packed file has the ref.
     if let Some(id) = loose::get(files, alloc, name)? {
         return Ok(Some(id));
     }
-    let packed = read_packed(files, alloc)?;
+    packed.refresh(files, alloc)?;
     Ok(packed.get(name))
 }
 

@@ -5,7 +5,8 @@ ghost use Rattle.vc_refs.specs.Head.{head_of, head_value};
 ghost use Rattle.vc_refs.specs.RefFault.{BlamesHeadValue, IsGoodHeadValue};
 ghost use Rattle.vc_refs.specs.Refs.{refs};
 
-use super::getting::get;
+use super::getting::get_with;
+use super::packed_file::PackedCache;
 use crate::{Head, RefFault, head};
 use std::alloc::Global;
 use vc_files::{Fault, Files};
@@ -19,12 +20,28 @@ pub fn resolve_head<F: Files>(files: &mut F, alloc: Global) -> Result<Option<Obj
     ensures same { F.content files.new ≡ F.content files.old }
     ensures wear { Wears F.failed F.can_fail F.left files.old files.new (IsErrOf result (RefFault.Fault Fault.Device)) }
 {
+    let mut packed = PackedCache::new(alloc);
+    resolve_head_with(files, alloc, &mut packed)
+}
+
+/// The same, for one who looks up other refs, too, and keeps in `packed` what was read of the packed file.
+pub fn resolve_head_with<F: Files>(
+    files: &mut F,
+    alloc: Global,
+    packed: &mut PackedCache,
+) -> Result<Option<ObjectId>, RefFault>
+    ensures found { F.honest → IfOk result (λ id. id ≡ head_value (refs (F.content files.old)) (head_of (F.content files.old))) }
+    ensures good { F.honest → OnOk result (IsGoodHeadValue (F.content files.old)) }
+    ensures refused { F.honest → IfErr result (BlamesHeadValue (F.content files.old)) }
+    ensures same { F.content files.new ≡ F.content files.old }
+    ensures wear { Wears F.failed F.can_fail F.left files.old files.new (IsErrOf result (RefFault.Fault Fault.Device)) }
+{
     let Some(head) = head(files, alloc)? else {
         return Ok(None);
     };
     match head {
         Head::Branch(name) => {
-            let id = get(files, alloc, &name)?;
+            let id = get_with(files, alloc, packed, &name)?;
             Ok(id)
         }
         Head::Id(id) => Ok(Some(id)),

@@ -1,4 +1,4 @@
-use Rattle.std.proofs.Common.{rules, ◌≡◌, false, true, Some, None, sym, ap, ◌∙◌, subst}
+use Rattle.std.proofs.Common.{rules, ◌≡◌, false, Some, None, sym, ap, ◌∙◌, subst}
 use Rattle.std.specs.Prelude.{codes, nat_eq}
 use Rattle.std.specs.FinMap.{insert}
 use Rattle.std.specs.List.{starts_with}
