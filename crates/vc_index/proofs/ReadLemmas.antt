@@ -19,7 +19,7 @@ use Rattle.vc_index.specs.IndexMap.{IndexMap, IsIndex, IsFile, HasConflict, HasF
 use Rattle.vc_index.specs.IndexText.{entry_text, index_text, entry_at, MayFollow, TextFault}
 use Rattle.vc_index.specs.declared.entry.IndexEntry.{IndexEntry}
 use Rattle.vc_index.proofs.MapLemmas.{insert-IsIndex, empty-IsIndex, entries-empty, get-insert_same}
-use Rattle.vc_index.proofs.ConflictLemmas.{not_after}
+use Rattle.vc_index.proofs.ConflictLemmas.{not_after, none_above_nothing}
 use Rattle.vc_index.proofs.EntriesLemmas.{AllBefore, entries_last, get_all, le_less, All_weaker, All_last}
 use Rattle.vc_index.proofs.TextLemmas.{IsSpelt, entry_again, entry_some}
 
@@ -99,6 +99,13 @@ module _ (bytes rest last : List ℕ) (m : IndexMap) (so_far : ReadSoFar bytes r
             (All_last _ (entries m) (path, entry) (All_weaker _ _ (λ e l. less_is_no_more e.0 path l) (entries m) before) (ap is_gt (tied_itself nat_list_cmp_total path)));
         is_last = inr (some_at _ entry (get-insert_same m path entry));
       })
+
+  -- no folder above the last path is a file
+  pub none_above_last : ¬ (HasFileAbove m last)
+  none_above_last (other, some, above) = elim so_far.is_last [
+    | inl first ↦ none_above_nothing m (other, some, (above.0, sym first ∙ above.1))
+    | inr there ↦ so_far.sound.apart other last some there above
+  ]
 
   pub read_less : (path : List ℕ) (entry : IndexEntry) (after : List ℕ) → entry_at rest ≡ Some (path, entry, after) → length after < length rest
   read_less path entry after found =

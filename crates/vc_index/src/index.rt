@@ -1,5 +1,5 @@
 // The index as a finite map from paths to modes and ids.
-ghost use Rattle.std.specs.Prelude.{◌≡◌, ◌≢◌, ◌↔◌, OnOk, OnErr, IfOk, IfErr, IsOk, IsTrue, MatchResult, Result, ◌⊎◌, IsSome, Some, IsErrOf, map, codes, ℕ, List};
+ghost use Rattle.std.specs.Prelude.{◌≡◌, ◌≢◌, ◌↔◌, ◌≤◌, length, take, OnOk, OnErr, IfOk, IfErr, IsOk, IsTrue, MatchResult, Result, ◌⊎◌, IsSome, Some, IsErrOf, map, codes, ℕ, List};
 ghost use Rattle.std.specs.FinMap as paths;
 ghost use Rattle.vc_files.specs.Failures.{Wears, Writes};
 ghost use Rattle.vc_files.specs.FileMap.{SameOutside};
@@ -191,12 +191,26 @@ impl Index {
     }
 }
 
-// Whether a folder above the path is a file of the map.
-fn has_file_above(map: &BTreeMap<Vec<u8>, IndexEntry>, path: &[u8]) -> bool
+// How many bytes two texts have in common at their fronts.
+fn shared_front(a: &[u8], b: &[u8]) -> usize
+    ensures inside { result ≤ length a.now }
+    ensures shared { take result a.now ≡ take result b.now }
+{
+    let mut count = 0;
+    while count < a.len() && count < b.len() && a[count] == b[count] {
+        count += 1;
+    }
+    count
+}
+
+// Whether a folder above the path is a file of the map. No folder above `other` is: those that stand above both aren't looked up.
+fn has_file_above(map: &BTreeMap<Vec<u8>, IndexEntry>, other: &[u8], path: &[u8]) -> bool
+    requires { ¬ (HasFileAbove (index_of map.now) other.now) }
     ensures { IsTrue result ↔ HasFileAbove (index_of map.now) path.now }
 {
+    let shared = shared_front(other, path);
     for (i, byte) in path.iter().enumerate() {
-        if *byte == b'/' && map.contains_key(&path[..i]) {
+        if *byte == b'/' && shared <= i && map.contains_key(&path[..i]) {
             return true;
         }
     }
@@ -205,12 +219,13 @@ fn has_file_above(map: &BTreeMap<Vec<u8>, IndexEntry>, path: &[u8]) -> bool
 
 // Whether a path may stand behind all paths of the map, of which `last` is the last.
 fn may_follow(map: &BTreeMap<Vec<u8>, IndexEntry>, last: &[u8], path: &[u8]) -> bool
+    requires { ¬ (HasFileAbove (index_of map.now) last.now) }
     ensures { IsTrue result ↔ ((slice_cmp nat_cmp last.now path.now ≡ Ordering.Less) × IsPath path.now × ¬ (HasFileAbove (index_of map.now) path.now)) }
 {
     if last.cmp(path) != Ordering::Less || !is_path(path) {
         return false;
     }
-    !has_file_above(map, path)
+    !has_file_above(map, last, path)
 }
 
 // Whether a file of the map lies in the path as a folder.
@@ -240,7 +255,7 @@ fn has_conflict(
 ) -> Result<bool, AllocError>
     ensures { IfOk result (λ conflict. IsTrue conflict ↔ HasConflict (index_of map.now) path.now) }
 {
-    if has_file_above(map, path) {
+    if has_file_above(map, b"", path) {
         return Ok(true);
     }
     let below = has_file_below(alloc, map, path)?;
@@ -248,6 +263,7 @@ fn has_conflict(
 }
 
 // The index that a text stands for.
+#[tactic(auto, using(crate::proofs::ReadLemmas::none_above_last))]
 fn read_text(alloc: Global, bytes: &[u8]) -> Result<Index, IndexFault>
     ensures ok { IfOk result (λ index. bytes.now ≡ index_text index) }
     ensures index { IfOk result IsIndex }
