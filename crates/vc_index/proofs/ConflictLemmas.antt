@@ -1,5 +1,5 @@
 -- When a path conflicts with a file of an index.
-use Rattle.std.proofs.Common.{◌≡◌, ℕ, ◌<◌, ◌≤◌, Bool, false, zero, suc, List, [], ◌∷◌, ◌++◌, Option, Some, None, sym, ap, refl, ◌∙◌, subst, length, take, drop, get_or, arith, append_assoc, length-append, nat_eq, ◌↔◌, IsTrue}
+use Rattle.std.proofs.Common.{◌≡◌, ℕ, ◌<◌, Bool, false, zero, suc, List, [], ◌∷◌, ◌++◌, Option, Some, None, sym, ap, refl, ◌∙◌, subst, length, take, drop, get_or, arith, append_assoc, length-append, nat_eq, ◌↔◌, IsTrue}
 use Rattle.std.specs.Prelude.{Vec, IsSome}
 use Rattle.std.specs.Global.{Global}
 use Rattle.std.specs.BTreeMap.{BTreeMap, get_by, is_at}
@@ -14,8 +14,8 @@ use Rattle.std.proofs.lemmas.Cmp.{tied_itself, nat_cmp_total, ranked, by_ranked}
 use Rattle.std.proofs.lemmas.Map.Entries.{place_from_lookup}
 use Rattle.std.proofs.lemmas.Slice.Eq.{starts_is}
 use Rattle.std.proofs.lemmas.Bool.Decides.{Decides-eqb}
-use Rattle.std.proofs.lemmas.List.{get_or-take, take-take, take_at}
-use Rattle.vc_index.specs.IndexMap.{HasFileAbove, IndexMap, index_of}
+use Rattle.std.proofs.lemmas.List.{take_at}
+use Rattle.vc_index.specs.IndexMap.{index_of}
 use Rattle.vc_index.specs.Path.{IsAbove}
 use Rattle.vc_index.specs.declared.entry.IndexEntry.{IndexEntry}
 use Rattle.vc_index.proofs.MapLemmas.{key_cmp, Entries, get-index_of, same_text, no_some}
@@ -61,29 +61,8 @@ cut_above (x ∷ path) (suc i) inside is =
     let r = cut_above path i (omega arith) is in
     (r.0, ap (λ t. x ∷ t) r.1)
 
-no_other : (o : Option IndexEntry) → (IsSome o → ⊥) → o ≡ None
-no_other None none = refl
-no_other (Some v) none = absurd (none refl)
-
--- a folder above two paths is no file where none above the other is
-pub shared_folder : (m : IndexMap) (other path : List ℕ) (n i : ℕ) → ¬ (HasFileAbove m other) → n ≤ length other → take n other ≡ take n path → i < n → get_or path i 0 ≡ 47 → paths.get m (take i path) ≡ None
-shared_folder m other path n i none inside same less slash =
-    let at : get_or other i 0 ≡ get_or path i 0 = sym (get_or-take n other i 0 less) ∙ ap (λ (l : List ℕ). get_or l i 0) same ∙ get_or-take n path i 0 less in
-    let front : take i other ≡ take i path = sym (take-take i n other (omega arith)) ∙ ap (take i) same ∙ take-take i n path (omega arith) in
-    let above : IsAbove (take i path) other = subst (λ (f : List ℕ). IsAbove f other) front (cut_above other i (omega arith) (at ∙ slash)) in
-    no_other _ (λ some. none (take i path, some, above))
-
--- no folder stands above no path
-pub none_above_nothing : (m : IndexMap) → ¬ (HasFileAbove m [])
-none_above_nothing m (other, some, (rest, is)) = absurd (by other is)
-  where
-    by : (other : List ℕ) → [] ≡ other ++ 47 ∷ rest → ⊥
-    by [] e = cc e
-    by (x ∷ other) e = cc e
-
-
 -- ---- a file below
-key_of : (m : BTreeMap (Vec ℕ Global) IndexEntry) (other : List ℕ) → IsSome (paths.get (index_of m) other) → (k : Vec ℕ Global) × (k.items ≡ other) × IsSome (get_by (key_cmp k) m)
+pub key_of : (m : BTreeMap (Vec ℕ Global) IndexEntry) (other : List ℕ) → IsSome (paths.get (index_of m) other) → (k : Vec ℕ Global) × (k.items ≡ other) × IsSome (get_by (key_cmp k) m)
 key_of m other some =
     let found = some_value (get_by (λ k. slice_cmp nat_cmp other k.items) m) (subst IsSome (get-index_of m other) some) in
     let place = place_from_lookup (is_at (λ k. slice_cmp nat_cmp other k.items)) m.entries found.0 found.1 in

@@ -15,7 +15,7 @@ use Rattle.vc_index.proofs.MapLemmas.{same_text, is_eq-same}
 abbrev pub AllBefore : List ℕ → List (List ℕ × IndexEntry) → Type 0
 AllBefore path es = AllByRecursion (λ (e : List ℕ × IndexEntry). slice_cmp nat_cmp e.0 path ≡ Less) es
 
-back : (a b : List ℕ) → slice_cmp nat_cmp a b ≡ Less → slice_cmp nat_cmp b a ≡ Greater
+pub back : (a b : List ℕ) → slice_cmp nat_cmp a b ≡ Less → slice_cmp nat_cmp b a ≡ Greater
 back a b e = nat_list_cmp_total.antisymm b a ∙ ap ordering_reverse e
 
 -- an entry behind all others is pushed
@@ -60,11 +60,11 @@ All_last P [] x all p = (p, tt)
 All_last P (y ∷ xs) x all p = (all.0, All_last P xs x all.1 p)
 
 -- ---- lists in order
-both_parts : (a b : Bool) → T (a && b) → T a × T b
+pub both_parts : (a b : Bool) → T (a && b) → T a × T b
 both_parts true b h = (tt, h)
 both_parts false b h = absurd h
 
-less_of : (o : Ordering) → T (is_lt o) → o ≡ Less
+pub less_of : (o : Ordering) → T (is_lt o) → o ≡ Less
 less_of Less h = refl
 less_of Equal h = absurd h
 less_of Greater h = absurd h

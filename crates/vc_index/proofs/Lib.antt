@@ -6,6 +6,8 @@ pub mod ConflictLemmas
 pub mod TextLemmas
 pub mod EntriesLemmas
 pub mod ReadLemmas
+pub mod FrontLemmas
+pub mod CollectLemmas
 pub mod AgainLemmas
 pub mod FileLemmas
 pub mod PlaceLemmas

@@ -1,8 +1,8 @@
 -- How an index is read from its text, entry by entry.
 use Rattle.std.proofs.Common.{◌≡◌, ◌≢◌, ℕ, suc, ◌<◌, ◌-◌, true, false, List, [], ◌∷◌, ◌++◌, Option, Some, None, sym, ap, refl, ◌∙◌, subst, length, arith, append_assoc, length-append, append-nil, ◌⊎◌, inl, inr, ⊎_elim}
-use Rattle.std.specs.Prelude.{IsSome, is_some, unwrap_or, ◌==◌}
+use Rattle.std.specs.Prelude.{IsSome, IsTrue, is_some, unwrap_or, ◌==◌}
 use Rattle.std.specs.List.{AllByRecursion, flat_map, join_with_byte}
-use Rattle.std.specs.FinMap.{get, insert, empty, entries}
+use Rattle.std.specs.FinMap.{get, get-empty, insert, empty, entries}
 use Rattle.std.specs.Ordering.{nat_cmp, is_gt}
 use Rattle.std.specs.declared.cmp.Ordering.TheVariants.{Less}
 use Rattle.std.specs.Cmp.{tied_itself}
@@ -18,8 +18,10 @@ use Rattle.vc_index.specs.Path.{IsPath, names_in}
 use Rattle.vc_index.specs.IndexMap.{IndexMap, IsIndex, IsFile, HasConflict, HasFileAbove}
 use Rattle.vc_index.specs.IndexText.{entry_text, index_text, entry_at, MayFollow, TextFault}
 use Rattle.vc_index.specs.declared.entry.IndexEntry.{IndexEntry}
-use Rattle.vc_index.proofs.MapLemmas.{insert-IsIndex, empty-IsIndex, entries-empty, get-insert_same}
-use Rattle.vc_index.proofs.ConflictLemmas.{not_after, none_above_nothing}
+use Rattle.vc_index.specs.Reading.{IsFront, IsReadTo, has_front}
+use Rattle.vc_index.proofs.FrontLemmas.{begins_last, front_cases, front_last, front_more, value_of}
+use Rattle.vc_index.proofs.MapLemmas.{insert-IsIndex, empty-IsIndex, entries-empty, get-insert_same, got, no_some}
+use Rattle.vc_index.proofs.ConflictLemmas.{not_after}
 use Rattle.vc_index.proofs.EntriesLemmas.{AllBefore, entries_last, get_all, le_less, All_weaker, All_last}
 use Rattle.vc_index.proofs.TextLemmas.{IsSpelt, entry_again, entry_some}
 
@@ -42,19 +44,36 @@ pub spelt : (path : List ℕ) (entry : IndexEntry) → IsFile path entry → IsS
 spelt path entry f = record { no_nul = path_no_nul path f.legal; mode = f.mode; id = f.id }
 
 -- ---- what has been read so far
-pub record ReadSoFar (bytes rest last : List ℕ) (m : IndexMap) : Type 0 where
+pub record ReadSoFar (bytes rest last : List ℕ) (fronts : List (List ℕ)) (m : IndexMap) : Type 0 where
   pub is : bytes ≡ index_text m ++ rest
-  pub sound : IsIndex m
-  pub below : AllByRecursion (λ (e : List ℕ × IndexEntry). is_gt (slice_cmp nat_cmp e.0 last) ≡ false) (entries m)
-  pub is_last : (last ≡ []) ⊎ IsSome (get m last)
+  pub to : IsReadTo m last fronts
 
-pub read_nothing : (bytes : List ℕ) (m : IndexMap) → m ≡ empty → ReadSoFar bytes bytes [] m
-read_nothing bytes m none = subst (λ (n : IndexMap). ReadSoFar bytes bytes [] n) (sym none) (record {
+pub read_nothing : (bytes : List ℕ) (fronts : List (List ℕ)) (m : IndexMap) → fronts ≡ [] → m ≡ empty → ReadSoFar bytes bytes [] fronts m
+read_nothing bytes fronts m no_fronts none = subst (λ (n : IndexMap). ReadSoFar bytes bytes [] fronts n) (sym none) (record {
   is = ap (λ es. flat_map (λ (e : List ℕ × IndexEntry). entry_text e.0 e.1) es ++ bytes) (sym entries-empty);
-  sound = empty-IsIndex;
-  below = subst (AllByRecursion (λ (e : List ℕ × IndexEntry). is_gt (slice_cmp nat_cmp e.0 []) ≡ false)) (sym entries-empty) tt;
-  is_last = inl refl;
+  to = record {
+    sound = empty-IsIndex;
+    below = subst (AllByRecursion (λ (e : List ℕ × IndexEntry). is_gt (slice_cmp nat_cmp e.0 []) ≡ false)) (sym entries-empty) tt;
+    is_last = inl refl;
+    some = λ front h. absurd (let z : false ≡ true = ap (λ l. has_front l front) (sym no_fronts) ∙ h in cc z);
+    all = λ front some begins. absurd (no_some _ (get-empty (slice_cmp nat_cmp) front) some);
+  };
 })
+
+pub some_at : {A : Type 0} (o : Option A) (x : A) → o ≡ Some x → IsSome o
+some_at o x e = ap is_some e
+
+-- of these fronts, those that the path begins with
+abbrev pub FrontsKept : List (List ℕ) → List ℕ → List (List ℕ) → Type 0
+FrontsKept fronts path kept =
+    ((front : List ℕ) → IsTrue (has_front kept front) → IsTrue (has_front fronts front))
+    × ((front : List ℕ) → IsFront front path → IsTrue (has_front fronts front) → IsTrue (has_front kept front))
+
+insert_some : (m : IndexMap) (path : List ℕ) (entry : IndexEntry) (q : List ℕ) → IsSome (get m q) → IsSome (get (insert m path entry) q)
+insert_some m path entry q some = elim (got m path q entry) [
+  | inl same ↦ some_at _ entry (ap (get (insert m path entry)) same ∙ get-insert_same m path entry)
+  | inr old ↦ subst IsSome (sym old) some
+]
 
 text_last : (m : IndexMap) (path : List ℕ) (entry : IndexEntry) → AllBefore path (entries m) → index_text (insert m path entry) ≡ index_text m ++ entry_text path entry
 text_last m path entry before =
@@ -62,19 +81,12 @@ text_last m path entry before =
     ∙ flat_map-append (λ (e : List ℕ × IndexEntry). entry_text e.0 e.1) (entries m) ((path, entry) ∷ [])
     ∙ ap (λ t. index_text m ++ t) (append-nil (entry_text path entry))
 
-pub some_at : {A : Type 0} (o : Option A) (x : A) → o ≡ Some x → IsSome o
-some_at o x e = ap is_some e
-
-pub value_of : (o : Option IndexEntry) → IsSome o → (v : IndexEntry) × (o ≡ Some v)
-value_of None s = absurd (cc s)
-value_of (Some v) s = (v, refl)
-
 less_is_no_more : (a b : List ℕ) → slice_cmp nat_cmp a b ≡ Less → is_gt (slice_cmp nat_cmp a b) ≡ false
 less_is_no_more a b e = ap is_gt e
 
-module _ (bytes rest last : List ℕ) (m : IndexMap) (so_far : ReadSoFar bytes rest last m) where
-  all_before : (path : List ℕ) → slice_cmp nat_cmp last path ≡ Less → AllBefore path (entries m)
-  all_before path less = All_weaker _ _ (λ e le. le_less e.0 last path le less) (entries m) so_far.below
+module _ (bytes rest last : List ℕ) (fronts : List (List ℕ)) (m : IndexMap) (so_far : ReadSoFar bytes rest last fronts m) where
+  pub all_before : (path : List ℕ) → slice_cmp nat_cmp last path ≡ Less → AllBefore path (entries m)
+  all_before path less = All_weaker _ _ (λ e le. le_less e.0 last path le less) (entries m) so_far.to.below
 
   -- no file of the index lies below a path that comes behind all
   free : (path : List ℕ) → slice_cmp nat_cmp last path ≡ Less → ¬ (HasFileAbove m path) → ¬ (HasConflict m path)
@@ -87,25 +99,38 @@ module _ (bytes rest last : List ℕ) (m : IndexMap) (so_far : ReadSoFar bytes r
       let same = tied_itself nat_list_cmp_total path in
       absurd (cc (back, same))
 
+  -- what comes before the path isn't there
+  absent : (path : List ℕ) → slice_cmp nat_cmp last path ≡ Less → get m path ≡ None
+  absent path less = by (get m path) refl
+    where
+      by : (o : Option IndexEntry) → get m path ≡ o → get m path ≡ None
+      by None e = e
+      by (Some v) e = let z : slice_cmp nat_cmp path path ≡ Less = get_all (λ e. slice_cmp nat_cmp e.0 path ≡ Less) m path v (all_before path less) e in let same = tied_itself nat_list_cmp_total path in absurd (cc (z, same))
+
   pub read_more : (path : List ℕ) (entry : IndexEntry) (after : List ℕ) → entry_at rest ≡ Some (path, entry, after) → is_id entry.id ≡ true
-      → slice_cmp nat_cmp last path ≡ Less → IsPath path → ¬ (HasFileAbove m path) → (n : IndexMap) → n ≡ insert m path entry → ReadSoFar bytes after path n
-  read_more path entry after found id less legal none n new =
+      → slice_cmp nat_cmp last path ≡ Less → IsPath path → ¬ (HasFileAbove m path) → (kept new : List (List ℕ)) → FrontsKept fronts path kept → new ≡ kept ++ path ∷ [] → ReadSoFar bytes after path new (insert m path entry)
+  read_more path entry after found id less legal none kept new keeps is =
       let s = entry_some rest path entry after found in
       let before = all_before path less in
-      subst (λ (k : IndexMap). ReadSoFar bytes after path k) (sym new) (record {
+      record {
         is = so_far.is ∙ ap (λ r. index_text m ++ r) s.0 ∙ sym (append_assoc (index_text m) (entry_text path entry) after) ∙ ap (λ t. t ++ after) (sym (text_last m path entry before));
-        sound = insert-IsIndex m path entry so_far.sound (record { legal = legal; mode = s.2; id = id }) (free path less none);
-        below = subst (AllByRecursion (λ (e : List ℕ × IndexEntry). is_gt (slice_cmp nat_cmp e.0 path) ≡ false)) (sym (entries_last m path entry before))
-            (All_last _ (entries m) (path, entry) (All_weaker _ _ (λ e l. less_is_no_more e.0 path l) (entries m) before) (ap is_gt (tied_itself nat_list_cmp_total path)));
-        is_last = inr (some_at _ entry (get-insert_same m path entry));
-      })
-
-  -- no folder above the last path is a file
-  pub none_above_last : ¬ (HasFileAbove m last)
-  none_above_last (other, some, above) = elim so_far.is_last [
-    | inl first ↦ none_above_nothing m (other, some, (above.0, sym first ∙ above.1))
-    | inr there ↦ so_far.sound.apart other last some there above
-  ]
+        to = record {
+          sound = insert-IsIndex m path entry so_far.to.sound (record { legal = legal; mode = s.2; id = id }) (free path less none);
+          below = subst (AllByRecursion (λ (e : List ℕ × IndexEntry). is_gt (slice_cmp nat_cmp e.0 path) ≡ false)) (sym (entries_last m path entry before))
+              (All_last _ (entries m) (path, entry) (All_weaker _ _ (λ e l. less_is_no_more e.0 path l) (entries m) before) (ap is_gt (tied_itself nat_list_cmp_total path)));
+          is_last = inr (some_at _ entry (get-insert_same m path entry));
+          some = λ front h. elim (front_cases kept path front (subst (λ l. IsTrue (has_front l front)) is h)) [
+            | inl there ↦ insert_some m path entry front (so_far.to.some front (keeps.0 front there))
+            | inr same ↦ some_at _ entry (ap (get (insert m path entry)) (sym same) ∙ get-insert_same m path entry)
+          ];
+          all = λ front there begins. subst (λ l. IsTrue (has_front l front)) (sym is) (elim (got m path front entry) [
+            | inl same ↦ subst (λ (f : List ℕ). IsTrue (has_front (kept ++ path ∷ []) f)) (sym same) (front_last kept path)
+            | inr old ↦
+                let some = subst IsSome old there in
+                front_more kept path front (keeps.1 front begins (so_far.to.all front some (begins_last m last path fronts so_far.to less front some begins)))
+          ]);
+        };
+      }
 
   pub read_less : (path : List ℕ) (entry : IndexEntry) (after : List ℕ) → entry_at rest ≡ Some (path, entry, after) → length after < length rest
   read_less path entry after found =
@@ -124,7 +149,7 @@ module _ (bytes rest last : List ℕ) (m : IndexMap) (so_far : ReadSoFar bytes r
   fault_at : rest ≢ [] → ((path : List ℕ) (entry : IndexEntry) (more : List ℕ) → MayFollow m path entry → entry_at rest ≢ Some (path, entry, more)) → TextFault bytes (length bytes - length rest)
   fault_at some none = record {
     before = m;
-    sound = so_far.sound;
+    sound = so_far.to.sound;
     rest = rest;
     is = so_far.is;
     at = place_is;
@@ -140,7 +165,7 @@ module _ (bytes rest last : List ℕ) (m : IndexMap) (so_far : ReadSoFar bytes r
   comes_next path entry may = ⊎_elim
       (λ none. subst (λ (l : List ℕ). slice_cmp nat_cmp l path ≡ Less) (sym none) (first path (path_some path may.file.legal)))
       (λ some. let found = value_of (get m last) some in get_all (λ e. slice_cmp nat_cmp e.0 path ≡ Less) m last found.0 may.last found.1)
-      so_far.is_last
+      so_far.to.is_last
     where
       first : (p : List ℕ) → p ≢ [] → slice_cmp nat_cmp [] p ≡ Less
       first [] n = absurd (n refl)

@@ -11,3 +11,4 @@ pub mod Building
 pub mod Damage
 pub mod Loading
 pub mod TreeReading
+pub mod Reading

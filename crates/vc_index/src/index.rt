@@ -1,5 +1,5 @@
 // The index as a finite map from paths to modes and ids.
-ghost use Rattle.std.specs.Prelude.{◌≡◌, ◌≢◌, ◌↔◌, ◌≤◌, length, take, OnOk, OnErr, IfOk, IfErr, IsOk, IsTrue, MatchResult, Result, ◌⊎◌, IsSome, Some, IsErrOf, map, codes, ℕ, List};
+ghost use Rattle.std.specs.Prelude.{◌≡◌, ◌≢◌, ◌↔◌, OnOk, OnErr, IfOk, IfErr, IsOk, IsTrue, MatchResult, Result, ◌⊎◌, IsSome, Some, IsErrOf, map, codes, ℕ, List};
 ghost use Rattle.std.specs.FinMap as paths;
 ghost use Rattle.vc_files.specs.Failures.{Wears, Writes};
 ghost use Rattle.vc_files.specs.FileMap.{SameOutside};
@@ -14,13 +14,15 @@ ghost use Rattle.vc_index.specs.Path.{IsPath, IsAbove};
 ghost use Rattle.vc_index.specs.Damage.{KeepsDamage};
 ghost use Rattle.vc_index.specs.IndexMap.{HasConflict, HasFileAbove, IndexMap, IsIndex, index_entry, index_of};
 ghost use Rattle.vc_index.specs.IndexFault.{IsOfAdd, IsMemory};
+ghost use Rattle.vc_index.specs.Reading.{AreInOrder, index_with};
 ghost use Rattle.vc_index.specs.IndexText.{index_text, IsOfRead, TextFault};
 ghost use Rattle.std.specs.Ordering.{nat_cmp};
 ghost use Rattle.std.specs.Cmp.Lexicographic.{slice_cmp};
 
 use crate::loading::{Look, load};
 use crate::path::is_path;
-use crate::text::{entry_at, push_entry};
+use crate::reading::read_text;
+use crate::text::push_entry;
 use crate::trees::write_trees;
 use crate::{IndexEntry, IndexFault};
 use std::alloc::{AllocError, Global};
@@ -59,6 +61,19 @@ impl Index {
         Index {
             map: BTreeMap::new(alloc),
         }
+    }
+
+    // The index of these files.
+    pub(crate) fn of_files(
+        alloc: Global,
+        files: Vec<(Vec<u8>, IndexEntry)>,
+    ) -> Result<Index, AllocError>
+        requires order { AreInOrder files.items }
+        requires index { IsIndex (index_with files.items) }
+        ensures { IfOk result (λ index. index ≡ index_with files.items) }
+    {
+        let map = files.into_iter().collect(alloc)?;
+        Ok(Index { map })
     }
 
     /// The index that a text stands for: an entry for each file, `mode SP id SP 0 TAB path NUL`, in the order of the
@@ -191,41 +206,16 @@ impl Index {
     }
 }
 
-// How many bytes two texts have in common at their fronts.
-fn shared_front(a: &[u8], b: &[u8]) -> usize
-    ensures inside { result ≤ length a.now }
-    ensures shared { take result a.now ≡ take result b.now }
-{
-    let mut count = 0;
-    while count < a.len() && count < b.len() && a[count] == b[count] {
-        count += 1;
-    }
-    count
-}
-
-// Whether a folder above the path is a file of the map. No folder above `other` is: those that stand above both aren't looked up.
-fn has_file_above(map: &BTreeMap<Vec<u8>, IndexEntry>, other: &[u8], path: &[u8]) -> bool
-    requires { ¬ (HasFileAbove (index_of map.now) other.now) }
+// Whether a folder above the path is a file of the map.
+fn has_file_above(map: &BTreeMap<Vec<u8>, IndexEntry>, path: &[u8]) -> bool
     ensures { IsTrue result ↔ HasFileAbove (index_of map.now) path.now }
 {
-    let shared = shared_front(other, path);
     for (i, byte) in path.iter().enumerate() {
-        if *byte == b'/' && shared <= i && map.contains_key(&path[..i]) {
+        if *byte == b'/' && map.contains_key(&path[..i]) {
             return true;
         }
     }
     false
-}
-
-// Whether a path may stand behind all paths of the map, of which `last` is the last.
-fn may_follow(map: &BTreeMap<Vec<u8>, IndexEntry>, last: &[u8], path: &[u8]) -> bool
-    requires { ¬ (HasFileAbove (index_of map.now) last.now) }
-    ensures { IsTrue result ↔ ((slice_cmp nat_cmp last.now path.now ≡ Ordering.Less) × IsPath path.now × ¬ (HasFileAbove (index_of map.now) path.now)) }
-{
-    if last.cmp(path) != Ordering::Less || !is_path(path) {
-        return false;
-    }
-    !has_file_above(map, last, path)
 }
 
 // Whether a file of the map lies in the path as a folder.
@@ -255,34 +245,9 @@ fn has_conflict(
 ) -> Result<bool, AllocError>
     ensures { IfOk result (λ conflict. IsTrue conflict ↔ HasConflict (index_of map.now) path.now) }
 {
-    if has_file_above(map, b"", path) {
+    if has_file_above(map, path) {
         return Ok(true);
     }
     let below = has_file_below(alloc, map, path)?;
     Ok(below)
-}
-
-// The index that a text stands for.
-#[tactic(auto, using(crate::proofs::ReadLemmas::none_above_last))]
-fn read_text(alloc: Global, bytes: &[u8]) -> Result<Index, IndexFault>
-    ensures ok { IfOk result (λ index. bytes.now ≡ index_text index) }
-    ensures index { IfOk result IsIndex }
-    ensures refused { IfErr result (IsOfRead bytes.now) }
-{
-    let mut map = BTreeMap::new(alloc);
-    let mut last: &[u8] = b"";
-    let mut rest = bytes;
-    while !rest.is_empty() {
-        let place = bytes.len() - rest.len();
-        let Some((path, entry, after)) = entry_at(rest) else {
-            return Err(IndexFault::BadIndex(place));
-        };
-        if !may_follow(&map, last, path) {
-            return Err(IndexFault::BadIndex(place));
-        }
-        map.insert(path.to_vec(alloc)?, entry)?;
-        last = path;
-        rest = after;
-    }
-    Ok(Index { map })
 }

@@ -7,6 +7,7 @@ mod index;
 pub mod laws;
 mod loading;
 mod path;
+mod reading;
 mod text;
 mod trees;
 

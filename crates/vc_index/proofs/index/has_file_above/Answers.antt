@@ -2,8 +2,8 @@ use Rattle.std.proofs.Common.{rules, take, length, below_more, sym, ap, ◌∙�
 use Rattle.std.specs.FinMap as paths
 use Rattle.vc_index.specs.IndexMap.{index_of}
 use Rattle.vc_index.proofs.MapLemmas.{get-index_of, no_some, none_of_test}
-use Rattle.vc_index.proofs.ConflictLemmas.{above_cut, cut_above, shared_folder}
-use Rattle.vc_index.proofs.index.has_file_above.Goals.{else-byte-eq47-via-then-byte-eq47+then-shared-i+else-contains_key, else-byte-eq47-via-then-byte-eq47+else-shared-i, else-byte-eq47-via-else-byte-eq47}
+use Rattle.vc_index.proofs.ConflictLemmas.{above_cut, cut_above}
+use Rattle.vc_index.proofs.index.has_file_above.Goals.{else-byte-eq47-via-then-byte-eq47+else-contains_key, else-byte-eq47-via-else-byte-eq47}
 use Rattle.vc_index.proofs.index.has_file_above.Goals as goal
 
 pub returns-then-contains_key : goal.returns-then-contains_key
@@ -12,8 +12,7 @@ returns-then-contains_key c =
 
 pub loop-i-preserved : goal.loop-i-preserved
 loop-i-preserved c = below_more _ _ c.loop-i.invariant (λ slash. elim c.else-byte-eq47.branch [
-  | else-byte-eq47-via-then-byte-eq47+then-shared-i+else-contains_key w ↦ rw get-index_of (none_of_test _ (search rules))
-  | else-byte-eq47-via-then-byte-eq47+else-shared-i w ↦ shared_folder (index_of c.args.map.now) c.args.other.now c.args.path.now c.shared_front-shared.result c.loop-i.i c.requires c.shared_front-shared.ensures.inside c.shared_front-shared.ensures.shared (search rules) slash
+  | else-byte-eq47-via-then-byte-eq47+else-contains_key w ↦ rw get-index_of (none_of_test _ (search rules))
   | else-byte-eq47-via-else-byte-eq47 w ↦ absurd (w.if-byte-eq47.false slash)
 ])
 
