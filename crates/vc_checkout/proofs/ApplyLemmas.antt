@@ -16,8 +16,8 @@ use Rattle.vc_index.specs.IndexMap.{IndexMap}
 use Rattle.vc_index.specs.declared.entry.IndexEntry.{IndexEntry}
 use Rattle.vc_index.proofs.MapLemmas.{same_text}
 use Rattle.vc_checkout.specs.CheckedOut.{IsCheckedOut, IsCleared, IsOldOrCheckedOut, IsWritten, StepAt, StepOrNone, file_of, left_of}
-use Rattle.vc_checkout.specs.WorkTree.{HasTextPaths}
-use Rattle.vc_checkout.proofs.PathSetLemmas.{is_same, is_listed, entry_paths}
+use Rattle.vc_checkout.specs.WorkTree.{HasTextPaths, is_same, is_listed}
+use Rattle.vc_checkout.proofs.PathSetLemmas.{entry_paths}
 
 abbrev pub Step : Type 1
 Step = Option (List ℕ) → Option (List ℕ) → Type 0

@@ -8,7 +8,7 @@ ghost use Rattle.vc_checkout.specs.Refusal.{HasLocalChange, IsClear, IsDue, IsHi
 ghost use Rattle.vc_checkout.specs.WorkTree.{HasTextPaths, IsUntracked, has_path};
 
 use crate::compare::file_name;
-use crate::paths::{add_paths, untracked_paths};
+use crate::paths::{all_paths, untracked_paths};
 use crate::way::is_hindered;
 use crate::{CheckoutFault, WorkTree};
 use std::alloc::Global;
@@ -116,9 +116,7 @@ pub(crate) fn check_all<T: WorkTree>(
     ensures wear { Wears T.failed T.can_fail unstopped work.old work.new (IsErrOf result (CheckoutFault.Index (IndexFault.Store (StoreFault.Fault Fault.Device)))) }
 {
     let untracked = untracked_paths(alloc, work, index)?;
-    let mut paths = BTreeSet::new(alloc);
-    add_paths(alloc, &mut paths, index)?;
-    add_paths(alloc, &mut paths, tree)?;
+    let paths = all_paths(alloc, &BTreeSet::new(alloc), index, tree)?;
     for path in &paths {
         check_path(alloc, work, &untracked, index, tree, path)?;
     }

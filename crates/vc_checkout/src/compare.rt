@@ -1,5 +1,5 @@
 // What differs between a tree, the index and the work tree.
-ghost use Rattle.std.specs.Prelude.{◌≡◌, ◌↔◌, ◌||◌, ℕ, List, Option, Some, None, IfOk, IfErr, OnOk, IsErrOf, IsTrue, is_some, map, option_map};
+ghost use Rattle.std.specs.Prelude.{◌≡◌, ◌↔◌, ℕ, List, Option, Some, None, IfOk, IfErr, OnOk, IsErrOf, IsTrue, is_some, map, option_map};
 ghost use Rattle.std.specs.FinMap as maps;
 ghost use Rattle.vc_files.specs.Failures.{Wears, unstopped};
 ghost use Rattle.vc_object.specs.declared.id.ObjectId.{ObjectId as Id};
@@ -12,9 +12,9 @@ ghost use Rattle.vc_checkout.specs.Status.{IsWorkChange, IsChangeAt, IsStatus, s
 ghost use Rattle.vc_checkout.specs.WorkTree.{HasTextPaths, IsUntracked, blob_name, has_path};
 
 use crate::change::index_change;
-use crate::paths::{add_paths, copy_paths, untracked_paths};
+use crate::paths::{all_paths, untracked_paths};
 use crate::{Change, CheckoutFault, IndexChange, WorkChange, WorkTree};
-use std::alloc::{AllocError, Global};
+use std::alloc::Global;
 use std::collections::BTreeSet;
 use std::str;
 use vc_files::{Fault, Files};
@@ -107,22 +107,6 @@ fn change_at<T: WorkTree>(
         index: staged,
         work: unstaged,
     }))
-}
-
-// The paths of an index and of a tree, and those of the files that the index lacks.
-fn all_paths(
-    alloc: Global,
-    untracked: &BTreeSet<Vec<u8>>,
-    index: &Index,
-    tree: &Index,
-) -> Result<BTreeSet<Vec<u8>>, AllocError>
-    ensures { IfOk result (λ all. (path : List ℕ) → has_path all path ≡ ((has_path untracked.now path || is_some (maps.get index.now path)) || is_some (maps.get tree.now path))) }
-{
-    let mut all = BTreeSet::new(alloc);
-    copy_paths(alloc, &mut all, untracked)?;
-    add_paths(alloc, &mut all, index)?;
-    add_paths(alloc, &mut all, tree)?;
-    Ok(all)
 }
 
 // The changes of all paths at which something differs.

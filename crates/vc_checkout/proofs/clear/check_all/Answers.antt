@@ -12,8 +12,7 @@ use Rattle.vc_checkout.proofs.clear.check_all.Goals as goal
 pub loop-path-init : goal.loop-path-init
 loop-path-init g c =
     let keys = c.into_iter-path-iterator.ensures.into_iter_gives.0 in
-    let whole = λ (q : List ℕ). c.in_ok-add_paths-2.ensures q ∙ ap (λ b. b || is_some (get c.args.tree.now q)) (c.in_ok-add_paths.ensures q) in
-    let apart = elsewhere c.into_iter-path-iterator.result c.add_paths-2.new.paths c.new-paths.result c.args.index.now c.args.tree.now keys (has_path-none c.new-paths.result c.new-paths.ensures.empty) whole in
+    let apart = elsewhere c.into_iter-path-iterator.result c.in_ok-paths.paths c.new.result c.args.index.now c.args.tree.now keys (has_path-none c.new.result c.new.ensures.empty) c.in_ok-paths.ensures in
     record {
       can = tt;
       finite = tt;
