@@ -8,6 +8,7 @@ pub mod EntriesLemmas
 pub mod ReadLemmas
 pub mod FrontLemmas
 pub mod CollectLemmas
+pub mod ApartLemmas
 pub mod AgainLemmas
 pub mod FileLemmas
 pub mod PlaceLemmas

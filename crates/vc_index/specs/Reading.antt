@@ -1,12 +1,16 @@
 -- How far an index was read: the files so far, the last path, and the files whose paths that begins with.
 use Rattle.std.specs.Prelude.{◌≡◌, ◌⊎◌, ℕ, Bool, false, bytes_eq, List, [], ◌++◌, map, Vec, IsSome, IsTrue}
-use Rattle.std.specs.FinMap.{entries, from_entries, get}
+use Rattle.std.specs.FinMap.{empty, entries, from_entries, get, insert}
 use Rattle.std.specs.Global.{Global}
-use Rattle.std.specs.List.{AllByRecursion, list_any}
+use Rattle.std.specs.List.{AllByRecursion, fold, list_any}
 use Rattle.std.specs.Ordering.{nat_cmp, is_gt}
 use Rattle.std.specs.Cmp.Lexicographic.{slice_cmp}
+use Rattle.vc_files.specs.declared.faults.Fault.TheVariants.{Memory}
+use Rattle.vc_store.specs.declared.faults.StoreFault.TheVariants.{Fault}
 use Rattle.vc_index.specs.IndexMap.{IndexMap, IsIndex}
 use Rattle.vc_index.specs.declared.entry.IndexEntry.{IndexEntry}
+use Rattle.vc_index.specs.declared.faults.IndexFault.{IndexFault}
+use Rattle.vc_index.specs.declared.faults.IndexFault.TheVariants.{PathConflict, Store}
 
 -- files by their paths, without where these lie in memory
 abbrev pub pairs : List (Vec ℕ Global × IndexEntry) → List (List ℕ × IndexEntry)
@@ -15,6 +19,16 @@ pairs files = map (λ e. (e.0.items, e.1)) files
 -- the index of these files
 abbrev pub index_with : List (Vec ℕ Global × IndexEntry) → IndexMap
 index_with files = from_entries (pairs files)
+
+-- the index after the files were put in, one after the other
+abbrev pub with_files : List (List ℕ × IndexEntry) → IndexMap
+with_files files = fold (λ m e. insert m e.0 e.1) empty files
+
+-- why files make no index: one lies in another, or memory runs out
+abbrev pub IsOfFiles : IndexMap → IndexFault → Type 0
+IsOfFiles m PathConflict = IsIndex m → ⊥
+IsOfFiles m (Store fault) = fault ≡ Fault Memory
+IsOfFiles m _ = ⊥
 
 -- the files are in the order of their paths, and no path stands twice
 abbrev pub AreInOrder : List (Vec ℕ Global × IndexEntry) → Type 0

@@ -12,16 +12,17 @@ ghost use Rattle.vc_index.specs.TreeReading.{ListsAs, ReadsAs, TreeFault, tree_f
 ghost use Rattle.vc_index.specs.WrittenTrees.{IsWritten, IsBegun, IsOfWrite};
 ghost use Rattle.vc_index.specs.Path.{IsPath, IsAbove};
 ghost use Rattle.vc_index.specs.Damage.{KeepsDamage};
-ghost use Rattle.vc_index.specs.IndexMap.{HasConflict, HasFileAbove, IndexMap, IsIndex, index_entry, index_of};
+ghost use Rattle.vc_index.specs.IndexMap.{HasConflict, HasFileAbove, IndexMap, IsFile, IsIndex, index_entry, index_of};
+ghost use Rattle.std.specs.List.{AllByRecursion};
 ghost use Rattle.vc_index.specs.IndexFault.{IsOfAdd, IsMemory};
-ghost use Rattle.vc_index.specs.Reading.{AreInOrder, index_with};
+ghost use Rattle.vc_index.specs.Reading.{AreInOrder, IsOfFiles, index_with, pairs, with_files};
 ghost use Rattle.vc_index.specs.IndexText.{index_text, IsOfRead, TextFault};
 ghost use Rattle.std.specs.Ordering.{nat_cmp};
 ghost use Rattle.std.specs.Cmp.Lexicographic.{slice_cmp};
 
 use crate::loading::{Look, load};
 use crate::path::is_path;
-use crate::reading::read_text;
+use crate::reading::{are_apart, read_text};
 use crate::text::push_entry;
 use crate::trees::write_trees;
 use crate::{IndexEntry, IndexFault};
@@ -73,6 +74,22 @@ impl Index {
         ensures { IfOk result (λ index. index ≡ index_with files.items) }
     {
         let map = files.into_iter().collect(alloc)?;
+        Ok(Index { map })
+    }
+
+    // The index of these files in any order, or 61 where one of them lies in another.
+    pub(crate) fn from_files(
+        alloc: Global,
+        files: Vec<(Vec<u8>, IndexEntry)>,
+    ) -> Result<Index, IndexFault>
+        requires { AllByRecursion (λ e. IsFile e.0 e.1) (pairs files.items) }
+        ensures ok { IfOk result (λ index. index ≡ with_files (pairs files.items)) }
+        ensures refused { IfErr result (IsOfFiles (with_files (pairs files.items))) }
+    {
+        let map: BTreeMap<Vec<u8>, IndexEntry> = files.into_iter().collect(alloc)?;
+        if !are_apart(alloc, &map)? {
+            return Err(IndexFault::PathConflict);
+        }
         Ok(Index { map })
     }
 

@@ -1,8 +1,10 @@
 // The index that a text stands for.
-ghost use Rattle.std.specs.Prelude.{◌≡◌, ◌≢◌, ◌↔◌, ◌<◌, ◌≤◌, ℕ, List, IfOk, IfErr, IsTrue, length, take, map, slice_index_or};
+ghost use Rattle.std.specs.Prelude.{◌≡◌, ◌≢◌, ◌↔◌, ◌<◌, ◌≤◌, ℕ, List, IfOk, IfErr, IsTrue, Some, length, take, map, slice_index_or};
 ghost use Rattle.std.specs.Ordering.{nat_cmp};
 ghost use Rattle.std.specs.Cmp.Lexicographic.{slice_cmp};
-ghost use Rattle.vc_index.specs.IndexMap.{HasFileAbove, IndexMap, IsIndex};
+ghost use Rattle.vc_index.specs.IndexMap.{HasFileAbove, IndexMap, IsFile, IsIndex, index_of};
+ghost use Rattle.vc_index.specs.declared.entry.IndexEntry.{IndexEntry as Entry};
+ghost use Rattle.std.specs.FinMap as paths;
 ghost use Rattle.vc_index.specs.IndexText.{index_text, IsOfRead};
 ghost use Rattle.vc_index.specs.Path.{IsPath};
 ghost use Rattle.vc_index.specs.Reading.{IsFront, IsReadTo, has_front};
@@ -10,8 +12,9 @@ ghost use Rattle.vc_index.specs.Reading.{IsFront, IsReadTo, has_front};
 use crate::path::is_path;
 use crate::text::entry_at;
 use crate::{Index, IndexEntry, IndexFault};
-use std::alloc::Global;
+use std::alloc::{AllocError, Global};
 use std::cmp::Ordering;
+use std::collections::BTreeMap;
 
 // How many bytes two texts have in common at their fronts.
 fn shared_front(a: &[u8], b: &[u8]) -> usize
@@ -64,6 +67,27 @@ fn keep_fronts(fronts: &mut Vec<&[u8]>, path: &[u8])
         }
         fronts.pop();
     }
+}
+
+/// Whether no file of the map lies in another.
+pub(crate) fn are_apart(
+    alloc: Global,
+    map: &BTreeMap<Vec<u8>, IndexEntry>,
+) -> Result<bool, AllocError>
+    requires { (path : List ℕ) (entry : Entry) → paths.get (index_of map.now) path ≡ Some entry → IsFile path entry }
+    ensures { IfOk result (λ yes. IsTrue yes ↔ IsIndex (index_of map.now)) }
+{
+    let mut fronts: Vec<&[u8]> = Vec::new(alloc);
+    let mut last: &[u8] = b"";
+    for (path, _) in map {
+        if lies_in_file(&fronts, last, path) {
+            return Ok(false);
+        }
+        keep_fronts(&mut fronts, path);
+        fronts.push(path)?;
+        last = path;
+    }
+    Ok(true)
 }
 
 /// The index that a text stands for.

@@ -34,7 +34,7 @@ loop-last-preserved c =
     let to : IsReadTo m c.loop-last.last.now (map (λ f. f.now) c.deref.result.now) = subst (λ l. IsReadTo m c.loop-last.last.now (map (λ f. f.now) l)) (sym c.deref.ensures.value) c.loop-last.invariant.0.to in
     let follows = (c.if-not-may_follow.ensures m to).0 refl in
     let key : c.in_ok-to_vec.field-0.items ≡ c.in-Some.path.now = search rules in
-    let before = all_before _ _ _ _ _ c.loop-last.invariant.0 c.in-Some.path.now follows.0 in
+    let before = all_before m c.loop-last.last.now (map (λ f. f.now) c.loop-last.fronts.items) c.loop-last.invariant.0.to c.in-Some.path.now follows.0 in
     let files : c.push.new.self.items ≡ c.loop-last.files.items ++ (c.in_ok-to_vec.field-0, c.in-Some.entry) ∷ [] = search rules in
     let fronts : map (λ f. f.now) c.push-in-loop-last.new.self.items ≡ map (λ f. f.now) c.keep_fronts.new.fronts.items ++ c.in-Some.path.now ∷ [] =
     ap (map (λ f. f.now)) c.in_ok-push-2.ensures.items ∙ map-append (λ f. f.now) c.keep_fronts.new.fronts.items (c.in-Some.path ∷ []) in
