@@ -80,9 +80,9 @@ folds : (es : Entries) (f : Vec ℕ Global → Option IndexEntry) (m : IndexMap)
 folds [] f m same k = same k
 folds (e ∷ es) f m same k =
     folds es (update (eq_by_cmp key_cmp) f e.0 (Some e.1)) (insert m e.0.items e.1) (λ j.
-      ap (λ b. cond b (Some e.1) (f j)) ((eq_by_cmp_equiv nat_list_cmp_total).symm e.0.items j.items)
-      ∙ ap (cond (eq_by_cmp (slice_cmp nat_cmp) j.items e.0.items) (Some e.1)) (same j)
-      ∙ sym (get-insert nat_list_cmp_total m e.0.items e.1 j.items)) k
+    ap (λ b. cond b (Some e.1) (f j)) ((eq_by_cmp_equiv nat_list_cmp_total).symm e.0.items j.items)
+    ∙ ap (cond (eq_by_cmp (slice_cmp nat_cmp) j.items e.0.items) (Some e.1)) (same j)
+    ∙ sym (get-insert nat_list_cmp_total m e.0.items e.1 j.items)) k
 
 -- a path that is there was there before, or is that of a file
 key_in : (es : Entries) (m : IndexMap) (q : List ℕ) → IsSome (get (fold (λ m e. insert m e.0 e.1) m (pairs es)) q) → IsSome (get m q) ⊎ ((k : Vec ℕ Global) × (k.items ≡ q))
@@ -125,6 +125,9 @@ module _ (es : Entries) (m : BTreeMap (Vec ℕ Global) IndexEntry) (made : IsFro
   index_of-put = same_map nat_list_cmp_total (slice_cmp-IsAntisymmetric nat_cmp-IsAntisymmetric) _ _ (λ q. by_cases q (get (index_of m) q) (get (with_files (pairs es)) q) refl refl)
 
 -- one more
+pub pairs_push : (es : Entries) (key : Vec ℕ Global) (entry : IndexEntry) → pairs (es ++ (key, entry) ∷ []) ≡ pairs es ++ (key.items, entry) ∷ []
+pairs_push es key entry = map-append (λ (e : Vec ℕ Global × IndexEntry). (e.0.items, e.1)) es ((key, entry) ∷ [])
+
 pub with_files-more : (es : Entries) (key : Vec ℕ Global) (entry : IndexEntry) → with_files (pairs (es ++ (key, entry) ∷ [])) ≡ insert (with_files (pairs es)) key.items entry
 with_files-more es key entry =
     ap (λ l. with_files l) (map-append (λ (e : Vec ℕ Global × IndexEntry). (e.0.items, e.1)) es ((key, entry) ∷ []))
