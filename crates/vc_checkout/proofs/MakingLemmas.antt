@@ -100,9 +100,6 @@ module _ (i t : Option IndexEntry) (path : List ℕ) where
   same_entry : (x y : IndexEntry) → Some x ≡ Some y → x ≡ y
   same_entry x y e = cc e
 
-  pub linked_as : (entry : IndexEntry) → t ≡ Some entry → i ≢ t → entry.mode ≡ modes.Commit → IsLinked i t
-  linked_as entry is apart commit = (entry, is, apart, commit)
-
   module _ (entry : IndexEntry) (is : t ≡ Some entry) (apart : i ≢ t) (work : FileMap) (held : Folders) (Was : Those) where
     pub gives_as : (d : List ℕ) → TakesPlace entry path d → GivesWay i t path d
     gives_as d place = (entry, is, apart, place)

@@ -54,9 +54,6 @@ or_false : (a : Bool) → (a || false) ≡ a
 or_false true = refl
 or_false false = refl
 
-pub or-nothing : (a : Bool) (q : List ℕ) (paths : List (List ℕ)) → paths ≡ [] → (a || is_listed q paths) ≡ a
-or-nothing a q paths none = ap (λ ps. a || is_listed q ps) none ∙ or_false a
-
 -- one path more of those that are listed
 pub listed_more : (all : List (String Global)) (i : ℕ) (path : String Global) → i < length all → path ≡ get_or all i path → (q : List ℕ)
     → is_listed q (map string_bytes (take (i + 1) all)) ≡ (is_listed q (map string_bytes (take i all)) || is_same q (string_bytes path))

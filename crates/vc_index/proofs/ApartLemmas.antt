@@ -62,6 +62,3 @@ module _ (all : BTreeMap (Vec ℕ Global) IndexEntry) (ordered : IsOrdered key_c
       let found = value_of (get (index_with so_far.done) other) some in
       let there : get (index_of all) other ≡ Some found.0 = get_front (index_of all) (pairs so_far.done) (pairs rest) key.items entry parted other found.0 (sym (get-from_entries nat_list_cmp_total (pairs so_far.done) other) ∙ found.1) in
       sound.apart other key.items (some_at _ found.0 there) (some_at _ entry here) above
-
-pub apart_ends : (all : BTreeMap (Vec ℕ Global) IndexEntry) (rest : Entries) (last : List ℕ) (fronts : List (List ℕ)) → rest ≡ [] → ApartSoFar all rest last fronts → IsIndex (index_of all)
-apart_ends all rest last fronts none so_far = subst (λ (l : Entries). IsIndex (index_with l)) (sym (so_far.whole ∙ ap (λ l. so_far.done ++ l) none ∙ append-nil so_far.done)) so_far.to.sound

@@ -296,15 +296,6 @@ long_first look content root items path entry w long fault is =
     let told : LongPath ≡ fault = let e : Some LongPath ≡ Some fault = is in cc e in
     subst (λ (f : TreeFault). ReadsIn look (objects content) root (Err f)) told (walk_fault look (objects content) root items path entry w LongPath long)
 
--- no entry that is added is refused for its own sake
-pub add_first : (look : Look) (objects : ObjectMap) (root : ObjectId) (m : IndexMap) (path : List ℕ) → IsPath path → (e : IndexFault) → IsOfAdd m path e → (fault : TreeFault) → tree_fault e ≡ Some fault → ReadsIn look objects root (Err fault)
-add_first look objects root m path legal BadPath why fault is = absurd (why legal)
-add_first look objects root m path legal PathConflict why fault is = absurd (let e : None ≡ Some fault = is in cc e)
-add_first look objects root m path legal (BadIndex place) why fault is = absurd why
-add_first look objects root m path legal (WrongEntry at) why fault is = absurd why
-add_first look objects root m path legal (Missing id) why fault is = absurd why
-add_first look objects root m path legal (Store f) why fault is = absurd (let e : None ≡ Some fault = is in cc e)
-
 -- a folder was opened
 pub walk_opened : (look : Look) (honest : Type 0) (content : FileMap) (root : ObjectId) (item : Item) (items new : List Item) → IsOpened honest content item items new → honest → item.entry.mode ≡ modes.Tree → length item.path.items ≤ 4096
     → Walks look (objects content) root (map item_pair items ++ item_pair item ∷ []) → Walks look (objects content) root (map item_pair new)

@@ -22,8 +22,8 @@ use Rattle.vc_index.specs.Reading.{pairs, with_files}
 use Rattle.vc_index.specs.Loading.{IsOfLook, IsOfLoadIn, IsOpened, IsBlobIfDue, HasBlobs, item_pair}
 use Rattle.vc_index.specs.declared.loading.Item.{Item}
 use Rattle.vc_index.specs.declared.loading.Look.TheVariants as looks
-use Rattle.vc_index.proofs.LoadLemmas.{Loading, IsNamed, work_less, load_start, load_ends, load_file, item_entry, no_conflict, opened_named, opened_less, opened_loading, look_load, add_load, due_tree, due_blob, blobs_start, blobs_more, taken, rest_named, item_legal}
-use Rattle.vc_index.proofs.ReadingLemmas.{Walks, walk_start, walk_ends, walk_file, walk_opened, sound_file, look_first, long_first, add_first}
+use Rattle.vc_index.proofs.LoadLemmas.{Loading, IsNamed, work_less, load_start, load_ends, load_file, item_entry, no_conflict, opened_named, opened_less, opened_loading, look_load, due_tree, due_blob, blobs_start, blobs_more, taken, rest_named, item_legal}
+use Rattle.vc_index.proofs.ReadingLemmas.{Walks, walk_start, walk_ends, walk_file, walk_opened, sound_file, look_first, long_first}
 use Rattle.vc_index.proofs.loading.load.Goals as goal
 
 pub loop-item-init : goal.loop-item-init

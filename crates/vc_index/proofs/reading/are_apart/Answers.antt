@@ -7,7 +7,7 @@ use Rattle.std.specs.declared.cmp.Ordering.TheVariants.{Less}
 use Rattle.std.proofs.lemmas.List.{map-append}
 use Rattle.vc_index.specs.IndexMap.{HasFileAbove, IsFile}
 use Rattle.vc_index.specs.Reading.{IsFront, IsReadTo, index_with}
-use Rattle.vc_index.proofs.ApartLemmas.{ApartSoFar, apart_ends, apart_file, apart_less, apart_more, apart_not, apart_start}
+use Rattle.vc_index.proofs.ApartLemmas.{ApartSoFar, apart_file, apart_less, apart_more, apart_not, apart_start}
 use Rattle.vc_index.proofs.MapLemmas.{key_cmp}
 use Rattle.vc_index.proofs.reading.are_apart.Goals as goal
 
