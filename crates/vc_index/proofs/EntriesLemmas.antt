@@ -29,7 +29,7 @@ pub entries_last : (m : IndexMap) (k : List ℕ) (v : IndexEntry) → AllBefore 
 entries_last m k v before = entries-insert nat_list_cmp_total m k v ∙ put_last k v (entries m) before
 
 -- what holds of all entries holds of the one that is found
-find_all : (P : List ℕ × IndexEntry → Type 0) (q : List ℕ) (v : IndexEntry) (es : List (List ℕ × IndexEntry)) → AllByRecursion P es → find (slice_cmp nat_cmp) q es ≡ Some v → P (q, v)
+pub find_all : (P : List ℕ × IndexEntry → Type 0) (q : List ℕ) (v : IndexEntry) (es : List (List ℕ × IndexEntry)) → AllByRecursion P es → find (slice_cmp nat_cmp) q es ≡ Some v → P (q, v)
 find_all P q v [] all is = absurd (cc is)
 find_all P q v (e ∷ es) all is =
     elim (is_eq (slice_cmp nat_cmp q e.0)) as (λ b. is_eq (slice_cmp nat_cmp q e.0) ≡ b → cond b (Some e.1) (find (slice_cmp nat_cmp) q es) ≡ Some v → P (q, v)) [

@@ -9,6 +9,7 @@ pub mod ReadLemmas
 pub mod FrontLemmas
 pub mod CollectLemmas
 pub mod ApartLemmas
+pub mod CursorLemmas
 pub mod AgainLemmas
 pub mod FileLemmas
 pub mod PlaceLemmas

@@ -12,3 +12,4 @@ pub mod Damage
 pub mod Loading
 pub mod TreeReading
 pub mod Reading
+pub mod Cursor

@@ -1,6 +1,7 @@
 //! The index: the files of the next commit, by their paths, and how trees stand for them.
 #![tactic(auto)]
 
+mod cursor;
 mod entry;
 mod faults;
 mod index;
@@ -11,6 +12,7 @@ mod reading;
 mod text;
 mod trees;
 
+pub use cursor::IndexCursor;
 pub use entry::IndexEntry;
 pub use faults::IndexFault;
 pub use index::Index;
