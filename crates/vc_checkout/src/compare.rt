@@ -18,7 +18,7 @@ use std::alloc::Global;
 use std::collections::BTreeSet;
 use std::str;
 use vc_files::{Fault, Files};
-use vc_index::{Index, IndexEntry, IndexFault};
+use vc_index::{Index, IndexCursor, IndexEntry, IndexFault};
 use vc_object::{Kind, Mode, ObjectId, name_of};
 use vc_store::StoreFault;
 
@@ -83,13 +83,14 @@ fn change_at<T: WorkTree>(
     alloc: Global,
     work: &mut T,
     untracked: &BTreeSet<Vec<u8>>,
-    index: &Index,
-    tree: &Index,
+    index: &mut IndexCursor<'_>,
+    tree: &mut IndexCursor<'_>,
     path: &[u8],
 ) -> Result<Option<Change>, CheckoutFault>
     requires texts { T.honest → HasTextPaths (T.content work.old) }
-    requires untracked { T.honest → IsTrue (has_path untracked.now path.now) ↔ IsUntracked index.now (T.content work.old) path.now }
-    ensures change { T.honest → IfOk result (IsChangeAt tree.now index.now (T.content work.old) path.now) }
+    requires untracked { T.honest → IsTrue (has_path untracked.now path.now) ↔ IsUntracked index.old (T.content work.old) path.now }
+    ensures change { T.honest → IfOk result (IsChangeAt tree.old index.old (T.content work.old) path.now) }
+    ensures cursors { (index.new ≡ index.old) × (tree.new ≡ tree.old) }
     ensures fault { IfErr result IsFault }
     ensures same { T.content work.new ≡ T.content work.old }
     ensures folders { T.folders work.new ≡ T.folders work.old }
@@ -125,8 +126,10 @@ fn changes<T: WorkTree>(
     let untracked = untracked_paths(alloc, work, index)?;
     let paths = all_paths(alloc, &untracked, index, tree)?;
     let mut changes = Vec::new(alloc);
+    let (mut staged, mut listed) = (IndexCursor::new(index), IndexCursor::new(tree));
     for path in &paths {
-        let Some(change) = change_at(alloc, work, &untracked, index, tree, path)? else {
+        let Some(change) = change_at(alloc, work, &untracked, &mut staged, &mut listed, path)?
+        else {
             continue;
         };
         changes.push(change)?;

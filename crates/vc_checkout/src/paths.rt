@@ -11,7 +11,7 @@ use crate::{CheckoutFault, WorkTree};
 use std::alloc::{AllocError, Global};
 use std::collections::BTreeSet;
 use vc_files::Fault;
-use vc_index::{Index, IndexFault};
+use vc_index::{Index, IndexCursor, IndexFault};
 use vc_store::StoreFault;
 
 /// The path of the folder that a path lies in, or none where it lies in none.
@@ -74,9 +74,10 @@ pub(crate) fn untracked_paths<T: WorkTree>(
 {
     let listed = work.list(alloc)?;
     let mut found = BTreeSet::new(alloc);
+    let mut known = IndexCursor::new(index);
     for path in &listed {
         let path = path.as_bytes();
-        if index.get(path).is_none() {
+        if known.get(path).is_none() {
             found.insert(path.to_vec(alloc)?)?;
         }
     }

@@ -16,6 +16,8 @@ loop-path-init g c =
     record {
       can = tt;
       finite = tt;
+      old = search rules;
+      new = search rules;
       sorted = set_sorted c.into_iter-path-iterator.result (rw keys c.into_iter-path-iterator.ensures.into_iter_gives.4);
       clear = λ honest. record { at = λ q lacks. let none = apart q lacks in clear_elsewhere c.args.index.now c.args.tree.now (g.T.WorkTree.content c.args.work.now) q none.0 none.1 };
       text = record { at = λ q lacks due. absurd (nothing_due (get c.args.index.now q) (get c.args.tree.now q) (apart q lacks).1 due) };
@@ -31,9 +33,11 @@ loop-path-preserved g c =
     record {
       can = tt;
       finite = tt;
+      old = search rules;
+      new = search rules;
       sorted = rest_of _ _ path first c.loop-path.invariant.sorted;
-      clear = λ honest. holds_more _ _ _ path first (subst (λ (w : FileMap). IsClear c.args.index.now c.args.tree.now w path) c.loop-path.invariant.same (c.in_ok-check_path.ensures.clear honest)) (c.loop-path.invariant.clear honest);
-      text = holds_more _ _ _ path first c.in_ok-check_path.ensures.text c.loop-path.invariant.text;
+      clear = λ honest. holds_more _ _ _ path first (subst (λ (w : FileMap). IsClear c.args.index.now c.args.tree.now w path) c.loop-path.invariant.same (rw (← c.loop-path.invariant.old, ← c.loop-path.invariant.new) (c.in_ok-check_path.ensures.clear honest))) (c.loop-path.invariant.clear honest);
+      text = holds_more _ _ _ path first (rw (← c.loop-path.invariant.old, ← c.loop-path.invariant.new) c.in_ok-check_path.ensures.text) c.loop-path.invariant.text;
       same = search rules;
       folders = search rules;
       wear = search rules;
@@ -43,7 +47,7 @@ pub returns-in_err-check_path-clause-refused : goal.returns-in_err-check_path-cl
 returns-in_err-check_path-clause-refused g c = λ honest.
     let path = c.deref.result.now in
     let first : map (λ k. k.items) c.loop-path.path-iterator ≡ path ∷ map (λ k. k.items) c.next.new.self = search rules in
-    let told = subst (λ (w : FileMap). IsFault c.in_err-check_path.field-0.0 ⊎ RefusedAt c.args.index.now c.args.tree.now w path c.in_err-check_path.field-0.0) c.loop-path.invariant.same (c.in_err-check_path.ensures.refused honest) in
+    let told = subst (λ (w : FileMap). IsFault c.in_err-check_path.field-0.0 ⊎ RefusedAt c.args.index.now c.args.tree.now w path c.in_err-check_path.field-0.0) c.loop-path.invariant.same (rw (← c.loop-path.invariant.old, ← c.loop-path.invariant.new) (c.in_err-check_path.ensures.refused honest)) in
     let answer : IsFault c.in_err-check_path.field-0.0 ⊎ IsRefused c.args.index.now c.args.tree.now (g.T.WorkTree.content c.args.work.now) c.in_err-check_path.field-0.0 = elim told [
       | inl fault ↦ inl fault
       | inr at ↦ inr (first_refused c.args.index.now c.args.tree.now (g.T.WorkTree.content c.args.work.now) _ _ path _ first c.loop-path.invariant.sorted (c.loop-path.invariant.clear honest) at)
