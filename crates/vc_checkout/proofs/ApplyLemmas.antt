@@ -1,6 +1,6 @@
 -- The work tree, one path after another.
-use Rattle.std.proofs.Common.{◌≡◌, ◌≢◌, ℕ, true, false, cond, ◌||◌, List, [], ◌∷◌, map, Option, Some, None, sym, ap, refl, ◌∙◌, subst, ◌⊎◌, inl, inr}
-use Rattle.std.specs.Prelude.{Vec, IsSome, is_some, IsUtf8, bytes_eq, option_map}
+use Rattle.std.proofs.Common.{◌≡◌, ◌≢◌, ℕ, true, false, cond, ◌||◌, List, ◌∷◌, map, Option, Some, None, sym, ap, refl, ◌∙◌, subst, ◌⊎◌, inl, inr}
+use Rattle.std.specs.Prelude.{Vec, IsSome, is_some, bytes_eq, option_map}
 use Rattle.std.specs.Global.{Global}
 use Rattle.std.specs.FinMap as files
 use Rattle.std.specs.FinMap.{get}

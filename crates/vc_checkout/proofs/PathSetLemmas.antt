@@ -7,7 +7,7 @@ use Rattle.std.specs.BTreeMap.{is_at}
 use Rattle.std.specs.Set.{KeepsOthers}
 use Rattle.std.specs.FinMap as maps
 use Rattle.std.specs.FinMap.{contains_key-keys}
-use Rattle.std.specs.Ordering.{nat_cmp, is_eq, eq_by_cmp}
+use Rattle.std.specs.Ordering.{nat_cmp, is_eq}
 use Rattle.std.specs.declared.cmp.Ordering.TheVariants.{Less}
 use Rattle.std.specs.Cmp.{eq_by_cmp_equiv}
 use Rattle.std.specs.Cmp.Lexicographic.{slice_cmp, nat_list_cmp_total}

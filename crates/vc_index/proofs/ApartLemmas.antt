@@ -1,9 +1,9 @@
 -- A tree of paths, looked through in the order of the paths for a file that lies in another.
-use Rattle.std.proofs.Common.{◌≡◌, ◌≢◌, ℕ, List, [], ◌∷◌, ◌++◌, map, Option, Some, None, sym, ap, refl, ◌∙◌, subst, append_assoc, append-nil}
-use Rattle.std.specs.Prelude.{Vec, IsSome}
+use Rattle.std.proofs.Common.{◌≡◌, ℕ, List, [], ◌∷◌, ◌++◌, Some, sym, ap, refl, ◌∙◌, subst, append_assoc}
+use Rattle.std.specs.Prelude.{Vec}
 use Rattle.std.specs.Global.{Global}
 use Rattle.std.specs.BTreeMap.{BTreeMap, IsOrdered}
-use Rattle.std.specs.FinMap.{entries, find, get, get-from_entries, insert}
+use Rattle.std.specs.FinMap.{entries, get, get-from_entries}
 use Rattle.std.specs.Ordering.{nat_cmp}
 use Rattle.std.specs.declared.cmp.Ordering.TheVariants.{Less}
 use Rattle.std.specs.Cmp.Lexicographic.{slice_cmp, nat_list_cmp_total}

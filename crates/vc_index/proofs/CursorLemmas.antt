@@ -1,5 +1,5 @@
 -- A cursor that moves on, and what it finds.
-use Rattle.std.proofs.Common.{◌≡◌, ℕ, T, true, false, cond, List, [], ◌∷◌, ◌++◌, Option, Some, None, sym, ap, refl, ◌∙◌, subst, append_assoc, append-nil}
+use Rattle.std.proofs.Common.{◌≡◌, ℕ, T, false, cond, List, [], ◌∷◌, ◌++◌, Option, Some, None, sym, ap, refl, ◌∙◌, subst, append_assoc, append-nil}
 use Rattle.std.specs.Prelude.{MatchOption, Vec}
 use Rattle.std.specs.Global.{Global}
 use Rattle.std.specs.FinMap.{entries, entries_sorted, find, get, get-entries, is_sorted}
@@ -62,12 +62,12 @@ module _ (m : IndexMap) (last path : List ℕ) (rest : List (Vec ℕ Global × I
         let after = sorted_after at.passed (pairs rest) key.now.items entry.now (subst (λ l. T (is_sorted (slice_cmp nat_cmp) l)) whole (entries_sorted m)) in
         let back : slice_cmp nat_cmp path key.now.items ≡ Less = nat_list_cmp_total.antisymm path key.now.items ∙ ap ordering_reverse greater in
         sym (no_entry (get m path) (λ v found.
-          let later : find (slice_cmp nat_cmp) path (pairs rest) ≡ Some v =
-          sym (ap (λ o. cond (is_eq o) (Some entry.now) (find (slice_cmp nat_cmp) path (pairs rest))) back)
-          ∙ sym (find_past path at.passed ((key.now.items, entry.now) ∷ pairs rest) (passed_before here at))
-          ∙ ap (find (slice_cmp nat_cmp) path) (sym whole) ∙ sym (get-entries m path) ∙ found in
-          let less_too : slice_cmp nat_cmp key.now.items path ≡ Less = find_all (λ e. slice_cmp nat_cmp key.now.items e.0 ≡ Less) path v (pairs rest) after later in
-          cc (greater, less_too)))
+        let later : find (slice_cmp nat_cmp) path (pairs rest) ≡ Some v =
+        sym (ap (λ o. cond (is_eq o) (Some entry.now) (find (slice_cmp nat_cmp) path (pairs rest))) back)
+        ∙ sym (find_past path at.passed ((key.now.items, entry.now) ∷ pairs rest) (passed_before here at))
+        ∙ ap (find (slice_cmp nat_cmp) path) (sym whole) ∙ sym (get-entries m path) ∙ found in
+        let less_too : slice_cmp nat_cmp key.now.items path ≡ Less = find_all (λ e. slice_cmp nat_cmp key.now.items e.0 ≡ Less) path v (pairs rest) after later in
+        cc (greater, less_too)))
 
     passed_on : AllByRecursion (λ (e : List ℕ × IndexEntry). is_gt (slice_cmp nat_cmp e.0 key.now.items) ≡ false) (at.passed ++ (key.now.items, entry.now) ∷ [])
     passed_on =

@@ -1,5 +1,5 @@
 -- The files that the last path begins with, and which file the next path may lie in.
-use Rattle.std.proofs.Common.{◌≡◌, ◌≢◌, ℕ, ◌<◌, ◌≤◌, Bool, true, false, ◌||◌, List, [], ◌∷◌, ◌++◌, Option, Some, None, suc, ◌+◌, sym, ap, refl, ◌∙◌, subst, length, take, get_or, arith, append_assoc, length-append, ◌⊎◌, inl, inr, ⊎_elim}
+use Rattle.std.proofs.Common.{◌≡◌, ◌≢◌, ℕ, ◌<◌, ◌≤◌, Bool, true, false, ◌||◌, List, [], ◌∷◌, ◌++◌, Option, Some, None, suc, ◌+◌, sym, ap, refl, ◌∙◌, subst, length, take, get_or, arith, length-append, ◌⊎◌, inl, inr}
 use Rattle.std.specs.Prelude.{IsSome, IsTrue, bytes_eq, map, nat_eq}
 use Rattle.std.specs.List.{list_any, starts_with}
 use Rattle.std.specs.FinMap.{get}

@@ -26,7 +26,6 @@ use Rattle.vc_store.specs.declared.faults.StoreFault.{StoreFault}
 use Rattle.vc_store.specs.declared.faults.StoreFault.TheVariants.{BadObject, Absent, Damaged, Fault}
 use Rattle.vc_index.specs.declared.faults.IndexFault.{IndexFault}
 use Rattle.vc_index.specs.declared.faults.IndexFault.TheVariants.{BadPath, PathConflict, BadIndex, WrongEntry, Missing, Store}
-use Rattle.vc_index.specs.IndexFault.{IsOfAdd}
 use Rattle.vc_index.specs.Loading.{ReachesEntry, IsEntryOfTree, IsOpened, IsDue, IsDueIn, IsSought, IsBlobIfDue, HasBlobs, IsOfLook, IsOfLoadIn, IsOfLoadStored, item_pair}
 use Rattle.vc_index.specs.declared.loading.Item.{Item}
 use Rattle.vc_index.specs.declared.loading.Look.{Look}

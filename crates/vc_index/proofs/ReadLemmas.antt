@@ -1,5 +1,5 @@
 -- How an index is read from its text, entry by entry.
-use Rattle.std.proofs.Common.{◌≡◌, ◌≢◌, ℕ, suc, ◌<◌, ◌-◌, true, false, List, [], ◌∷◌, ◌++◌, Option, Some, None, sym, ap, refl, ◌∙◌, subst, length, arith, append_assoc, length-append, append-nil, ◌⊎◌, inl, inr, ⊎_elim}
+use Rattle.std.proofs.Common.{◌≡◌, ◌≢◌, ℕ, suc, ◌<◌, ◌-◌, true, false, List, [], ◌∷◌, ◌++◌, Option, Some, None, sym, ap, refl, ◌∙◌, subst, length, arith, append_assoc, length-append, append-nil, inl, inr, ⊎_elim}
 use Rattle.std.specs.Prelude.{IsSome, IsTrue, is_some, unwrap_or, ◌==◌}
 use Rattle.std.specs.List.{AllByRecursion, flat_map, join_with_byte}
 use Rattle.std.specs.FinMap.{get, get-empty, insert, empty, entries}
@@ -15,7 +15,7 @@ use Rattle.vc_object.specs.ObjectId.{is_id}
 use Rattle.vc_object.specs.Tree.{IsName}
 use Rattle.vc_object.proofs.Texts.{Without-append}
 use Rattle.vc_index.specs.Path.{IsPath, names_in}
-use Rattle.vc_index.specs.IndexMap.{IndexMap, IsIndex, IsFile, HasConflict, HasFileAbove}
+use Rattle.vc_index.specs.IndexMap.{IndexMap, IsFile, HasConflict, HasFileAbove}
 use Rattle.vc_index.specs.IndexText.{entry_text, index_text, entry_at, MayFollow, TextFault}
 use Rattle.vc_index.specs.declared.entry.IndexEntry.{IndexEntry}
 use Rattle.vc_index.specs.Reading.{IsFront, IsReadTo, has_front}

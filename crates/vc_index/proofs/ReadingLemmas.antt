@@ -17,10 +17,8 @@ use Rattle.vc_object.specs.declared.mode.Mode.{Mode}
 use Rattle.vc_object.specs.declared.mode.Mode.TheVariants as modes
 use Rattle.vc_store.specs.Store.{objects}
 use Rattle.vc_index.specs.HeldFiles.{Pair, under, placed}
-use Rattle.vc_index.specs.IndexFault.{IsOfAdd}
 use Rattle.vc_index.specs.IndexMap.{IndexMap, index_entry}
 use Rattle.vc_index.specs.Loading.{ReachesEntry, IsEntryOfTree, IsOpened, IsDue, IsDueIn, IsSought, IsBlobIfDue, IsOfLook, item_pair}
-use Rattle.vc_index.specs.Path.{IsPath}
 use Rattle.vc_index.specs.TreeFiles.{IsTreeAt, HasEntry, IsFileOfTree}
 use Rattle.vc_index.specs.TreeReading.{TreeFault, HasFaultIn, IsSoundIn, AreInside, MeetsFaultIn, IsCompleteIn, ReadsIn, ReadsAs, tree_fault}
 use Rattle.vc_index.specs.TreeReading.TreeFault.{LongPath, OtherKind, NoObject}

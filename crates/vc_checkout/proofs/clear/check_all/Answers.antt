@@ -1,5 +1,4 @@
-use Rattle.std.proofs.Common.{rules, ◌≡◌, ◌||◌, ◌⊎◌, [], ◌∷◌, map, ap, ◌∙◌, subst, List, ℕ, inl, inr}
-use Rattle.std.specs.Prelude.{is_some}
+use Rattle.std.proofs.Common.{rules, ◌≡◌, ◌⊎◌, [], ◌∷◌, map, ap, subst, inl, inr}
 use Rattle.std.specs.FinMap.{get}
 use Rattle.vc_files.specs.FileMap.{FileMap}
 use Rattle.vc_checkout.specs.CheckoutFault.{IsAgainst, IsFault}

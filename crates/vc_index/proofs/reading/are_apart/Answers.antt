@@ -1,11 +1,10 @@
-use Rattle.std.proofs.Common.{rules, ◌≡◌, ℕ, List, [], ◌∷◌, ◌++◌, map, refl, sym, ap, ◌∙◌, subst, ◌↔◌, true}
-use Rattle.std.specs.Prelude.{IsTrue}
+use Rattle.std.proofs.Common.{rules, ◌≡◌, ℕ, List, [], ◌∷◌, ◌++◌, map, refl, sym, ap, ◌∙◌, subst}
 use Rattle.std.specs.BTreeMap.{IsOrdered}
 use Rattle.std.specs.Cmp.Lexicographic.{slice_cmp}
 use Rattle.std.specs.Ordering.{nat_cmp}
 use Rattle.std.specs.declared.cmp.Ordering.TheVariants.{Less}
 use Rattle.std.proofs.lemmas.List.{map-append}
-use Rattle.vc_index.specs.IndexMap.{HasFileAbove, IsFile}
+use Rattle.vc_index.specs.IndexMap.{HasFileAbove}
 use Rattle.vc_index.specs.Reading.{IsFront, IsReadTo, index_with}
 use Rattle.vc_index.proofs.ApartLemmas.{ApartSoFar, apart_file, apart_less, apart_more, apart_not, apart_start}
 use Rattle.vc_index.proofs.MapLemmas.{key_cmp}

@@ -1,5 +1,4 @@
-use Rattle.std.proofs.Common.{rules, ◌≡◌, ◌<◌, map, length, get_or, take, ap, sym, ◌∙◌, subst}
-use Rattle.std.specs.Prelude.{IsTrue}
+use Rattle.std.proofs.Common.{rules, ◌≡◌, ◌<◌, map, length, get_or, take, sym, ◌∙◌}
 use Rattle.vc_index.specs.Reading.{has_front}
 use Rattle.vc_index.proofs.FrontLemmas.{lies_from, lies_to}
 use Rattle.vc_index.proofs.reading.lies_in_file.Goals.{then-shared-path, else-shared-path}

@@ -1,5 +1,4 @@
 use Rattle.std.proofs.Common.{rules, ◌≡◌, ◌++◌, ◌∷◌, [], map, sym, ap, ◌∙◌, refl, subst}
-use Rattle.std.specs.FinMap as paths
 use Rattle.std.proofs.lemmas.List.{map-append}
 use Rattle.vc_index.specs.Reading.{AreInOrder, IsReadTo, index_with}
 use Rattle.vc_index.proofs.CollectLemmas.{index_more, order_more}
