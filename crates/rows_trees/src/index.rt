@@ -4,7 +4,7 @@ use crate::words::{Names, bytes, cut, digits, escaped, file_mode, id_of, or_word
 use anyhow::{Error, Result, anyhow, bail};
 use std::alloc::Global;
 use std::collections::BTreeMap;
-use vc_index::{Index, IndexFault};
+use vc_index::{Index, IndexCursor, IndexFault};
 use vc_node::NodeFault;
 use vc_object::Mode;
 
@@ -22,6 +22,7 @@ pub fn row(bench: &mut Bench, row: &str) -> Result<String> {
         "tree" => return tree(bench, rest),
         "write" => return write(bench),
         "read" => return read(bench, rest),
+        "seek" => return seek(bench, rest),
         "cuts" => return cuts(alloc, rest),
         "change" => return change(alloc, rest),
         _ => bail!("no such row"),
@@ -113,6 +114,20 @@ fn read(bench: &mut Bench, text: &str) -> Result<String> {
     let text = bytes(bench.alloc, text)?;
     bench.index = given(bench.alloc, Index::read(bench.alloc, &text))?;
     write(bench)
+}
+
+// What stands at each of the paths, looked up one after the other.
+fn seek(bench: &Bench, paths: &str) -> Result<String> {
+    let mut cursor = IndexCursor::new(&bench.index);
+    let mut list = String::new(bench.alloc);
+    for path in paths.split(" | ") {
+        let item = match cursor.get(&bytes(bench.alloc, path)?) {
+            Some(entry) => digits(bench.alloc, entry.id)?,
+            None => String::from_str(bench.alloc, "none")?,
+        };
+        push_item(&mut list, " | ", item.as_str())?;
+    }
+    Ok(list)
 }
 
 // Which texts were read, and where others are at fault.

@@ -1,6 +1,6 @@
 -- The work tree, one path after another.
-use Rattle.std.proofs.Common.{◌≡◌, ◌≢◌, ℕ, true, false, cond, ◌||◌, List, [], ◌∷◌, map, Option, Some, None, sym, ap, refl, ◌∙◌, subst, ◌⊎◌, inl, inr}
-use Rattle.std.specs.Prelude.{Vec, IsSome, is_some, IsUtf8, bytes_eq, option_map}
+use Rattle.std.proofs.Common.{◌≡◌, ◌≢◌, ℕ, true, false, cond, ◌||◌, List, ◌∷◌, map, Option, Some, None, sym, ap, refl, ◌∙◌, subst, ◌⊎◌, inl, inr}
+use Rattle.std.specs.Prelude.{Vec, IsSome, is_some, bytes_eq, option_map}
 use Rattle.std.specs.Global.{Global}
 use Rattle.std.specs.FinMap as files
 use Rattle.std.specs.FinMap.{get}
@@ -16,8 +16,8 @@ use Rattle.vc_index.specs.IndexMap.{IndexMap}
 use Rattle.vc_index.specs.declared.entry.IndexEntry.{IndexEntry}
 use Rattle.vc_index.proofs.MapLemmas.{same_text}
 use Rattle.vc_checkout.specs.CheckedOut.{IsCheckedOut, IsCleared, IsOldOrCheckedOut, IsWritten, StepAt, StepOrNone, file_of, left_of}
-use Rattle.vc_checkout.specs.WorkTree.{HasTextPaths}
-use Rattle.vc_checkout.proofs.PathSetLemmas.{is_same, is_listed, entry_paths}
+use Rattle.vc_checkout.specs.WorkTree.{HasTextPaths, is_same, is_listed}
+use Rattle.vc_checkout.proofs.PathSetLemmas.{entry_paths}
 
 abbrev pub Step : Type 1
 Step = Option (List ℕ) → Option (List ℕ) → Type 0
@@ -58,14 +58,6 @@ pub step_or_none_map : (R S : Step) (path : List ℕ) (m n : FileMap) → (R (ge
 step_or_none_map R S path m n f (inl same) = inl same
 step_or_none_map R S path m n f (inr s) = inr (step_map R S path m n f s)
 
--- the text of a path that holds a file
-pub no_file : (work : FileMap) (path : List ℕ) → HasTextPaths work → (IsUtf8 path → ⊥) → get work path ≡ None
-no_file work path texts no_text = by_option (get work path) (λ some. no_text (texts path some))
-  where
-    by_option : (o : Option (List ℕ)) → (IsSome o → ⊥) → o ≡ None
-    by_option None f = refl
-    by_option (Some x) f = absurd (f refl)
-
 -- ---- what becomes of an entry that goes
 pub left_other : (mode : Mode) (file : Option (List ℕ)) → mode ≢ modes.Commit → left_of mode file ≡ None
 left_other modes.Commit file other = absurd (other refl)
@@ -82,14 +74,6 @@ left_commit modes.File file is = cc is
 left_commit modes.SharedFile file is = cc is
 left_commit modes.Executable file is = cc is
 left_commit modes.Link file is = cc is
-
-pub left_none : (mode : Mode) (file : Option (List ℕ)) → file ≡ None → file ≡ left_of mode file
-left_none modes.Commit file is = refl
-left_none modes.Tree file is = is
-left_none modes.File file is = is
-left_none modes.SharedFile file is = is
-left_none modes.Executable file is = is
-left_none modes.Link file is = is
 
 left_again : (mode : Mode) (file : Option (List ℕ)) → left_of mode (left_of mode file) ≡ left_of mode file
 left_again modes.Commit file = refl
@@ -108,9 +92,6 @@ none_some o x n s = cc (n, s)
 none_is_some : (o : Option IndexEntry) → o ≡ None → IsSome o → ⊥
 none_is_some o n s = cc (n, s)
 
-some_is_some : (o : Option IndexEntry) (x : IndexEntry) → o ≡ Some x → IsSome o
-some_is_some o x s = cc s
-
 pub cleared_gone : (old new : Option IndexEntry) (entry : IndexEntry) (file after : Option (List ℕ)) → old ≡ Some entry → new ≡ None → after ≡ left_of entry.mode file → IsCleared old new file after
 cleared_gone old new entry file after is none left = record {
   gone = λ e known _. left ∙ ap (λ (x : IndexEntry). left_of x.mode file) (one_entry old entry e is known);
@@ -120,9 +101,6 @@ cleared_gone old new entry file after is none left = record {
 
 pub cleared_unknown : (old new : Option IndexEntry) (file : Option (List ℕ)) → old ≡ None → IsCleared old new file file
 cleared_unknown old new file none = record { gone = λ e known _. absurd (none_some old e none known); unknown = λ _. refl; kept = λ _. refl }
-
-pub cleared_kept : (old new : Option IndexEntry) (file : Option (List ℕ)) → IsSome new → IsCleared old new file file
-cleared_kept old new file some = record { gone = λ e _ none. absurd (none_is_some new none some); unknown = λ _. refl; kept = λ _. refl }
 
 pub cleared_again : (old new : Option IndexEntry) (a b c : Option (List ℕ)) → IsCleared old new a b → IsCleared old new b c → IsCleared old new a c
 cleared_again old new a b c first second = record {
@@ -180,9 +158,6 @@ module _ (R : List ℕ → Step) (again : (q : List ℕ) (a b c : Option (List �
   working_stop old mid now before k (inl same) so q = at_other old mid now q (ap (λ w. get w q) same) (so.between q)
   working_stop old mid now before k (inr step) so q = step_between old mid now k step so.between q
 
-  pub working_ends : (old now : FileMap) (rest : List (List ℕ)) → rest ≡ [] → Working R old now rest → (q : List ℕ) → R q (get old q) (get now q)
-  working_ends old now rest none so q = so.done q (ap (is_listed q) none)
-
 -- a path that no entry has
 pub no_entry : (es : List (Vec ℕ Global × IndexEntry)) (m : IndexMap) → map (λ e. (e.0.items, e.1)) es ≡ files.entries m → (q : List ℕ) → is_listed q (map (λ e. e.0.items) es) ≡ false → get m q ≡ None
 no_entry es m is q lacks = by_option (get m q) (sym (entry_paths es m is q) ∙ lacks)
@@ -232,9 +207,6 @@ written_due objects old new entry file after is apart wrote = record {
   same = λ same. absurd (apart same);
   none = λ no. absurd (none_some new entry no is);
 }
-
-pub written_same : (objects : ObjectMap) (old new : Option IndexEntry) (file : Option (List ℕ)) → old ≡ new → IsWritten objects old new file file
-written_same objects old new file same = record { due = λ e _ apart. absurd (apart same); same = λ _. refl; none = λ _. refl }
 
 pub written_none : (objects : ObjectMap) (old new : Option IndexEntry) (file : Option (List ℕ)) → new ≡ None → IsWritten objects old new file file
 written_none objects old new file none = record { due = λ e known _. absurd (none_some new e none known); same = λ _. refl; none = λ _. refl }

@@ -15,7 +15,6 @@ use Rattle.vc_object.specs.Decoding.{StoredObject, stored_object}
 use Rattle.vc_object.specs.ObjectMap.{ObjectMap}
 use Rattle.vc_object.specs.declared.id.ObjectId.{ObjectId}
 use Rattle.vc_object.specs.declared.kind.Kind.TheVariants as kinds
-use Rattle.vc_object.specs.declared.mode.Mode.TheVariants as modes
 use Rattle.vc_store.specs.Store.{objects}
 use Rattle.vc_store.specs.declared.faults.StoreFault.TheVariants.{Absent, BadObject, Damaged, Fault}
 use Rattle.vc_store.proofs.StoreLemmas.{objects-absent}
@@ -50,17 +49,8 @@ module _ (objects : ObjectMap) (old new : Option IndexEntry) where
   pub no_due : new ≡ None → HasDueBlob objects old new
   no_due none entry is apart file = absurd (cc (none, is))
 
-  pub same_due : old ≡ new → HasDueBlob objects old new
-  same_due same entry is apart file = absurd (apart same)
-
   same_entry : (x y : IndexEntry) → new ≡ Some x → new ≡ Some y → x ≡ y
   same_entry x y p q = cc (p, q)
-
-  pub commit_due : (entry : IndexEntry) → new ≡ Some entry → entry.mode ≡ modes.Commit → HasDueBlob objects old new
-  commit_due entry at commit other is apart file = absurd (file (subst (λ (e : IndexEntry). e.mode ≡ modes.Commit) (same_entry entry other at is) commit))
-
-  pub blob_due : (entry : IndexEntry) (body : List ℕ) → new ≡ Some entry → objects entry.id ≡ Some (stored_object kinds.Blob body) → HasDueBlob objects old new
-  blob_due entry body at there other is apart file = (body, subst (λ (e : IndexEntry). objects e.id ≡ Some (stored_object kinds.Blob body)) (same_entry entry other at is) there)
 
 -- ---- all paths
 both_first : (a b : Bool) → T (a && b) → T a

@@ -13,13 +13,13 @@ use Rattle.vc_index.specs.IndexMap.{IndexMap}
 use Rattle.vc_index.specs.declared.entry.IndexEntry.{IndexEntry}
 use Rattle.vc_index.proofs.MapLemmas.{same_text}
 use Rattle.vc_checkout.specs.Refusal.{IsClear, IsDue, IsHindered, IsInTheWay, IsRefused, RefusedAt}
-use Rattle.vc_checkout.specs.WorkTree.{IsUntracked, has_path}
+use Rattle.vc_checkout.specs.WorkTree.{IsUntracked, has_path, is_same, is_listed}
 use Rattle.vc_checkout.specs.Blobs.{HasDueBlobs}
 use Rattle.vc_checkout.specs.CheckoutFault.{IsAgainst, IsFault, IsOfCheckout}
 use Rattle.vc_store.specs.Store.{objects}
 use Rattle.vc_checkout.specs.declared.faults.CheckoutFault.{CheckoutFault}
 use Rattle.vc_checkout.specs.declared.faults.CheckoutFault.TheVariants.{LocalChange, InTheWay, NotText, Index}
-use Rattle.vc_checkout.proofs.PathSetLemmas.{Paths, is_same, is_listed, set_paths}
+use Rattle.vc_checkout.proofs.PathSetLemmas.{Paths, set_paths}
 
 -- ---- one path
 module _ (index tree : IndexMap) (work : FileMap) (path : List ℕ) (entry : IndexEntry) (untracked : Paths) (exact : (other : List ℕ) → IsTrue (has_path untracked other) ↔ IsUntracked index work other) where

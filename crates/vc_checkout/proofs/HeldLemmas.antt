@@ -22,8 +22,8 @@ use Rattle.vc_files.proofs.MemoryLemmas.{get-files_of, keys-files_of}
 use Rattle.vc_index.specs.Path.{IsAbove}
 use Rattle.vc_index.proofs.MapLemmas.{same_text, is_eq-same}
 use Rattle.vc_checkout.specs.Folders.{AreFolders, Folders, HoldsFile, IsAtOrIn, IsFolder, IsFolderBy, IsLowestAbove, IsNoted, folders_of, is_above}
-use Rattle.vc_checkout.proofs.PathSetLemmas.{is_same, is_listed}
 use Rattle.vc_checkout.proofs.ApplyLemmas.{put_at, put_others, removed_at, removed_others}
+use Rattle.vc_checkout.specs.WorkTree.{is_same, is_listed}
 use Rattle.vc_checkout.proofs.FolderLemmas.{above_itself, above_then, are_folders, folder_above, folder_itself, in_either, same_or_not}
 
 abbrev Held : Type 0

@@ -17,9 +17,9 @@ use Rattle.vc_checkout.specs.CheckedOut.{IsWritten, StepAt, file_of}
 use Rattle.vc_checkout.specs.Folders.{AreFolders, Folders, IsAtOrIn, IsFolder, IsFolderBy}
 use Rattle.vc_checkout.specs.FoldersAfter.{AreBetween, GivesWay, GivesWayBy, IsFolderAfter, IsFolderFor, IsLeftBy, IsLink, IsLinked, IsMadeBy, IsMadeFor, Stays, TakesPlace}
 use Rattle.vc_checkout.specs.Refusal.{IsDue}
-use Rattle.vc_checkout.proofs.PathSetLemmas.{is_same, is_listed}
 use Rattle.vc_checkout.proofs.ApplyLemmas.{file_blob, put_others}
 use Rattle.vc_checkout.proofs.FolderLemmas.{folder_above, folder_itself, in_either, in_or_not, same_or_not, still_folders}
+use Rattle.vc_checkout.specs.WorkTree.{is_same, is_listed}
 use Rattle.vc_checkout.proofs.LeavingLemmas.{are_same, covered, exact_between, is_folder, or_true, same_or_before, unnot}
 
 abbrev Those : Type 1
@@ -99,9 +99,6 @@ was_or_put old now path bytes is r some = by (same_or_not r path)
 module _ (i t : Option IndexEntry) (path : List ℕ) where
   same_entry : (x y : IndexEntry) → Some x ≡ Some y → x ≡ y
   same_entry x y e = cc e
-
-  pub linked_as : (entry : IndexEntry) → t ≡ Some entry → i ≢ t → entry.mode ≡ modes.Commit → IsLinked i t
-  linked_as entry is apart commit = (entry, is, apart, commit)
 
   module _ (entry : IndexEntry) (is : t ≡ Some entry) (apart : i ≢ t) (work : FileMap) (held : Folders) (Was : Those) where
     pub gives_as : (d : List ℕ) → TakesPlace entry path d → GivesWay i t path d

@@ -2,12 +2,12 @@
 use Rattle.std.proofs.Common.{◌≡◌, ℕ, ◌<◌, ◌+◌, Bool, true, false, not, ◌||◌, ◌&&◌, List, [], ◌∷◌, ◌++◌, map, take, length, get_or, Option, Some, None, sym, ap, refl, ◌∙◌, subst, IsTrue, ◌↔◌, ◌⊎◌, inl, inr}
 use Rattle.std.specs.Prelude.{Vec, String, string_bytes, IsSome, is_some, IsUtf8}
 use Rattle.std.specs.Global.{Global}
-use Rattle.std.specs.BTreeSet.{BTreeSet, UpdatesBy}
+use Rattle.std.specs.BTreeSet.{BTreeSet, UpdatesBy, IsFromIterResult}
 use Rattle.std.specs.BTreeMap.{is_at}
 use Rattle.std.specs.Set.{KeepsOthers}
 use Rattle.std.specs.FinMap as maps
 use Rattle.std.specs.FinMap.{contains_key-keys}
-use Rattle.std.specs.Ordering.{nat_cmp, is_eq, eq_by_cmp}
+use Rattle.std.specs.Ordering.{nat_cmp, is_eq}
 use Rattle.std.specs.declared.cmp.Ordering.TheVariants.{Less}
 use Rattle.std.specs.Cmp.{eq_by_cmp_equiv}
 use Rattle.std.specs.Cmp.Lexicographic.{slice_cmp, nat_list_cmp_total}
@@ -21,18 +21,10 @@ use Rattle.vc_files.specs.FileMap.{FileMap}
 use Rattle.vc_index.specs.IndexMap.{IndexMap}
 use Rattle.vc_index.specs.declared.entry.IndexEntry.{IndexEntry}
 use Rattle.vc_index.proofs.MapLemmas.{key_cmp, same_text, is_eq-same}
-use Rattle.vc_checkout.specs.WorkTree.{has_path, HasTextPaths, IsUntracked}
+use Rattle.vc_checkout.specs.WorkTree.{has_path, is_listed, is_same, HasTextPaths, IsUntracked}
 
 abbrev pub Paths : Type 0
 Paths = BTreeSet (Vec ℕ Global)
-
--- whether two paths are the same
-abbrev pub is_same : List ℕ → List ℕ → Bool
-is_same = eq_by_cmp (slice_cmp nat_cmp)
-
--- whether a path is one of the list
-abbrev pub is_listed : List ℕ → List (List ℕ) → Bool
-is_listed path paths = list_any (is_same path) paths
 
 pub has_path-none : (paths : Paths) → paths.keys ≡ [] → (q : List ℕ) → has_path paths q ≡ false
 has_path-none paths none q = ap (λ keys. list_any (is_at (λ (k : Vec ℕ Global). slice_cmp nat_cmp q k.items)) keys) none
@@ -62,9 +54,6 @@ or_false : (a : Bool) → (a || false) ≡ a
 or_false true = refl
 or_false false = refl
 
-pub or-nothing : (a : Bool) (q : List ℕ) (paths : List (List ℕ)) → paths ≡ [] → (a || is_listed q paths) ≡ a
-or-nothing a q paths none = ap (λ ps. a || is_listed q ps) none ∙ or_false a
-
 -- one path more of those that are listed
 pub listed_more : (all : List (String Global)) (i : ℕ) (path : String Global) → i < length all → path ≡ get_or all i path → (q : List ℕ)
     → is_listed q (map string_bytes (take (i + 1) all)) ≡ (is_listed q (map string_bytes (take i all)) || is_same q (string_bytes path))
@@ -86,18 +75,34 @@ text_paths work all is path some =
     ] refl e
 
 -- the paths of an index's entries
-pub entry_paths : (es : List (Vec ℕ Global × IndexEntry)) (m : IndexMap) → map (λ e. (e.0.items, e.1)) es ≡ maps.entries m → (q : List ℕ) → is_listed q (map (λ e. e.0.items) es) ≡ is_some (maps.get m q)
-entry_paths es m is q = ap (is_listed q) (firsts es ∙ ap (map (λ (e : List ℕ × IndexEntry). e.0)) is) ∙ sym (contains_key-keys m q)
+pub entry_keys : (es : List (Vec ℕ Global × IndexEntry)) (m : IndexMap) → map (λ e. (e.0.items, e.1)) es ≡ maps.entries m → map (λ e. e.0.items) es ≡ maps.keys m
+entry_keys es m is = firsts es ∙ ap (map (λ (e : List ℕ × IndexEntry). e.0)) is
   where
     firsts : (es : List (Vec ℕ Global × IndexEntry)) → map (λ e. e.0.items) es ≡ map (λ (e : List ℕ × IndexEntry). e.0) (map (λ e. (e.0.items, e.1)) es)
     firsts [] = refl
     firsts (e ∷ es) = ap (λ rest. e.0.items ∷ rest) (firsts es)
 
--- one path goes from the rest into the set
-pub path_moved : (m n : Paths) (k : List ℕ) (before rest : List (List ℕ)) → UpdatesBy key_cmp (λ s. slice_cmp nat_cmp k s.items) m n true → before ≡ k ∷ rest → (q : List ℕ)
-    → (has_path n q || is_listed q rest) ≡ (has_path m q || is_listed q before)
-path_moved m n k before rest change first q =
-    ap (λ b. b || is_listed q rest) (has_path-more m n k change q) ∙ moved (has_path m q) (is_same q k) (is_listed q rest) ∙ ap (λ ps. has_path m q || is_listed q ps) (sym first)
+pub entry_paths : (es : List (Vec ℕ Global × IndexEntry)) (m : IndexMap) → map (λ e. (e.0.items, e.1)) es ≡ maps.entries m → (q : List ℕ) → is_listed q (map (λ e. e.0.items) es) ≡ is_some (maps.get m q)
+entry_paths es m is q = ap (is_listed q) (entry_keys es m is) ∙ sym (contains_key-keys m q)
+
+tests : (q : List ℕ) (ks : List (Vec ℕ Global)) → is_listed q (map (λ k. k.items) ks) ≡ list_any (is_at (λ (k : Vec ℕ Global). slice_cmp nat_cmp q k.items)) ks
+tests q [] = refl
+tests q (k ∷ ks) = ap (λ b. is_same q k.items || b) (tests q ks)
+
+-- the paths of a set
+pub set_paths : (ks : List (Vec ℕ Global)) (paths : Paths) → ks ≡ paths.keys → (q : List ℕ) → is_listed q (map (λ k. k.items) ks) ≡ has_path paths q
+set_paths ks paths is q = tests q ks ∙ ap (λ l. list_any (is_at (λ (k : Vec ℕ Global). slice_cmp nat_cmp q k.items)) l) is
+
+-- the paths of a set and of two indexes
+pub listed_all : (others : Paths) (index tree : IndexMap) (set : Paths) (all : List (List ℕ)) → all ≡ (map (λ k. k.items) others.keys ++ maps.keys index) ++ maps.keys tree → ((q : List ℕ) → has_path set q ≡ is_listed q all)
+    → (q : List ℕ) → has_path set q ≡ ((has_path others q || is_some (maps.get index q)) || is_some (maps.get tree q))
+listed_all others index tree set all is listed q =
+    listed q ∙ ap (is_listed q) is
+    ∙ list_any-append (is_same q) (map (λ k. k.items) others.keys ++ maps.keys index) (maps.keys tree)
+    ∙ ap (λ b. b || is_listed q (maps.keys tree)) (list_any-append (is_same q) (map (λ k. k.items) others.keys) (maps.keys index))
+    ∙ ap (λ b. (b || is_listed q (maps.keys index)) || is_listed q (maps.keys tree)) (set_paths others.keys others refl q)
+    ∙ ap (λ b. (has_path others q || b) || is_listed q (maps.keys tree)) (sym (contains_key-keys index q))
+    ∙ ap (λ b. (has_path others q || is_some (maps.get index q)) || b) (sym (contains_key-keys tree q))
 
 -- a listed path that the index lacks is one more that was found
 pub found_more : (m n : Paths) (index : IndexMap) (all : List (String Global)) (i : ℕ) (path : String Global) → i < length all → path ≡ get_or all i path → is_some (maps.get index (string_bytes path)) ≡ false
@@ -145,13 +150,29 @@ all_found found index work all i whole is so_far q =
     by_options (Some w) (Some e) b h = (λ t. cc (h, t), λ (s, n). cc n)
     by_options None e b h = (λ t. cc (h, t), λ (s, n). cc s)
 
--- the paths of a set
-pub set_paths : (ks : List (Vec ℕ Global)) (paths : Paths) → ks ≡ paths.keys → (q : List ℕ) → is_listed q (map (λ k. k.items) ks) ≡ has_path paths q
-set_paths ks paths is q = test_of ks ∙ ap (λ l. list_any (is_at (λ (k : Vec ℕ Global). slice_cmp nat_cmp q k.items)) l) is
-  where
-    test_of : (ks : List (Vec ℕ Global)) → is_listed q (map (λ k. k.items) ks) ≡ list_any (is_at (λ (k : Vec ℕ Global). slice_cmp nat_cmp q k.items)) ks
-    test_of [] = refl
-    test_of (k ∷ ks) = ap (λ b. is_same q k.items || b) (test_of ks)
+-- a set that is made of a list
+module _ (xs : List (Vec ℕ Global)) (set : Paths) (made : IsFromIterResult key_cmp xs set) where
+  at_key : (k : Vec ℕ Global) → has_path set k.items ≡ is_listed k.items (map (λ p. p.items) xs)
+  at_key k = made.0 k ∙ sym (tests k.items xs)
+
+  key_of : (q : List ℕ) (ks : List (Vec ℕ Global)) → list_any (is_at (λ (k : Vec ℕ Global). slice_cmp nat_cmp q k.items)) ks ≡ true → (k : Vec ℕ Global) × (k.items ≡ q)
+  key_of q [] h = absurd (cc h)
+  key_of q (k ∷ ks) h = elim (is_same q k.items) as (λ b. is_same q k.items ≡ b → (b || list_any (is_at (λ (k : Vec ℕ Global). slice_cmp nat_cmp q k.items)) ks) ≡ true → (k : Vec ℕ Global) × (k.items ≡ q)) [
+    | true ↦ λ same _. (k, sym (same_text q k.items same))
+    | false ↦ λ _ later. key_of q ks later
+  ] refl h
+
+  by_tests : (q : List ℕ) (b c : Bool) → has_path set q ≡ b → is_listed q (map (λ p. p.items) xs) ≡ c → has_path set q ≡ is_listed q (map (λ p. p.items) xs)
+  by_tests q true c here there =
+      let k = key_of q set.keys here in
+      subst (λ (t : List ℕ). has_path set t ≡ is_listed t (map (λ p. p.items) xs)) k.1 (at_key k.0)
+  by_tests q false true here there =
+      let k = key_of q xs (sym (tests q xs) ∙ there) in
+      subst (λ (t : List ℕ). has_path set t ≡ is_listed t (map (λ p. p.items) xs)) k.1 (at_key k.0)
+  by_tests q false false here there = here ∙ sym there
+
+  pub has_path-listed : (q : List ℕ) → has_path set q ≡ is_listed q (map (λ p. p.items) xs)
+  has_path-listed q = by_tests q (has_path set q) (is_listed q (map (λ p. p.items) xs)) refl refl
 
 -- the paths of a set are in order
 pub set_sorted : (ks : List (Vec ℕ Global)) → IsStrictlySortedBy key_cmp ks → IsStrictlySortedBy (slice_cmp nat_cmp) (map (λ k. k.items) ks)

@@ -16,12 +16,11 @@ use Rattle.vc_index.proofs.MapLemmas.{same_text}
 use Rattle.vc_index.proofs.PartLemmas.{all_map}
 use Rattle.vc_checkout.specs.Status.{IsIndexChange, IsWorkChange, Differs, IsStatus, Seen, seen}
 use Rattle.vc_checkout.specs.declared.change.Change.{Change}
-use Rattle.vc_checkout.specs.WorkTree.{IsUntracked}
+use Rattle.vc_checkout.specs.WorkTree.{IsUntracked, is_same, is_listed}
 use Rattle.vc_checkout.specs.declared.change.IndexChange.{IndexChange}
 use Rattle.vc_checkout.specs.declared.change.IndexChange.TheVariants as of_index
 use Rattle.vc_checkout.specs.declared.change.WorkChange.{WorkChange}
 use Rattle.vc_checkout.specs.declared.change.WorkChange.TheVariants as of_work
-use Rattle.vc_checkout.proofs.PathSetLemmas.{is_same, is_listed}
 
 -- ---- one path has one pair of changes
 pub one_index_change : (t i : Option IndexEntry) (x y : IndexChange) → IsIndexChange t i x → IsIndexChange t i y → x ≡ y

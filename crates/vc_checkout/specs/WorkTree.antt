@@ -4,7 +4,8 @@ use Rattle.std.specs.BTreeSet.{BTreeSet, contains_by}
 use Rattle.std.specs.Cmp.Lexicographic.{slice_cmp}
 use Rattle.std.specs.FinMap.{get}
 use Rattle.std.specs.Global.{Global}
-use Rattle.std.specs.Ordering.{nat_cmp}
+use Rattle.std.specs.List.{list_any}
+use Rattle.std.specs.Ordering.{nat_cmp, eq_by_cmp}
 use Rattle.vc_files.specs.FileMap.{FileMap}
 use Rattle.vc_object.specs.Object.{object_name}
 use Rattle.vc_object.specs.declared.id.ObjectId.{ObjectId}
@@ -22,6 +23,14 @@ HasTextPaths work = (path : List ℕ) → IsSome (get work path) → IsUtf8 path
 -- the work tree has a file at the path, and the index has no entry there
 abbrev pub IsUntracked : IndexMap → FileMap → List ℕ → Type 0
 IsUntracked index work path = IsSome (get work path) × (get index path ≡ None)
+
+-- whether two paths are the same
+abbrev pub is_same : List ℕ → List ℕ → Bool
+is_same = eq_by_cmp (slice_cmp nat_cmp)
+
+-- whether a path is one of the list
+abbrev pub is_listed : List ℕ → List (List ℕ) → Bool
+is_listed path paths = list_any (is_same path) paths
 
 -- whether a set of paths has the path
 abbrev pub has_path : BTreeSet (Vec ℕ Global) → List ℕ → Bool

@@ -22,7 +22,7 @@ use crate::{CheckoutFault, WorkTree};
 use std::alloc::Global;
 use std::str;
 use vc_files::{Fault, Files};
-use vc_index::{Index, IndexEntry, IndexFault};
+use vc_index::{Index, IndexCursor, IndexEntry, IndexFault};
 use vc_object::Mode;
 use vc_store::StoreFault;
 
@@ -79,16 +79,17 @@ fn take_out<T: WorkTree>(
 fn clear_path<T: WorkTree>(
     alloc: Global,
     work: &mut T,
-    index: &Index,
-    tree: &Index,
+    index: &mut IndexCursor<'_>,
+    tree: &mut IndexCursor<'_>,
     path: &[u8],
 ) -> Result<(), CheckoutFault>
     requires { T.honest → HasTextPaths (T.content work.old) }
-    ensures done { T.honest → OnOk result (StepAt (IsCleared (maps.get index.now path.now) (maps.get tree.now path.now)) path.now (T.content work.old) (T.content work.new)) }
-    ensures begun { T.honest → OnErr result (StepOrNone (IsCleared (maps.get index.now path.now) (maps.get tree.now path.now)) path.now (T.content work.old) (T.content work.new)) }
+    ensures done { T.honest → OnOk result (StepAt (IsCleared (maps.get index.old path.now) (maps.get tree.old path.now)) path.now (T.content work.old) (T.content work.new)) }
+    ensures begun { T.honest → OnErr result (StepOrNone (IsCleared (maps.get index.old path.now) (maps.get tree.old path.now)) path.now (T.content work.old) (T.content work.new)) }
     ensures fault { IfErr result IsFault }
-    ensures folders { T.honest → OnOk result (AreFolders (T.content work.new) (T.folders work.new) (λ one. IsFolder (T.content work.old) (T.folders work.old) one × ¬ (IsLeft (maps.get index.now path.now) (maps.get tree.now path.now) path.now one))) }
-    ensures between { T.honest → AreBetween (T.content work.new) (T.folders work.new) (λ one. IsFolder (T.content work.old) (T.folders work.old) one × ¬ (IsLeft (maps.get index.now path.now) (maps.get tree.now path.now) path.now one)) (IsFolder (T.content work.old) (T.folders work.old)) }
+    ensures folders { T.honest → OnOk result (AreFolders (T.content work.new) (T.folders work.new) (λ one. IsFolder (T.content work.old) (T.folders work.old) one × ¬ (IsLeft (maps.get index.old path.now) (maps.get tree.old path.now) path.now one))) }
+    ensures between { T.honest → AreBetween (T.content work.new) (T.folders work.new) (λ one. IsFolder (T.content work.old) (T.folders work.old) one × ¬ (IsLeft (maps.get index.old path.now) (maps.get tree.old path.now) path.now one)) (IsFolder (T.content work.old) (T.folders work.old)) }
+    ensures cursors { (index.new ≡ index.old) × (tree.new ≡ tree.old) }
     ensures wear { Wears T.failed T.can_fail unstopped work.old work.new (IsErrOf result (CheckoutFault.Index (IndexFault.Store (StoreFault.Fault Fault.Device)))) }
 {
     let Some(old) = index.get(path) else {
@@ -116,8 +117,9 @@ fn clear_all<T: WorkTree>(
     ensures between { T.honest → AreBetween (T.content work.new) (T.folders work.new) (λ one. IsFolder (T.content work.old) (T.folders work.old) one × ¬ (IsLeftBy index.now tree.now one)) (IsFolder (T.content work.old) (T.folders work.old)) }
     ensures wear { Wears T.failed T.can_fail unstopped work.old work.new (IsErrOf result (CheckoutFault.Index (IndexFault.Store (StoreFault.Fault Fault.Device)))) }
 {
+    let (mut old, mut new) = (IndexCursor::new(index), IndexCursor::new(tree));
     for (path, _) in index.iter() {
-        clear_path(alloc, work, index, tree, path)?;
+        clear_path(alloc, work, &mut old, &mut new, path)?;
     }
     Ok(())
 }
@@ -158,19 +160,20 @@ fn write_path<T: WorkTree, F: Files>(
     alloc: Global,
     work: &mut T,
     files: &mut F,
-    index: &Index,
-    tree: &Index,
+    index: &mut IndexCursor<'_>,
+    tree: &mut IndexCursor<'_>,
     path: &[u8],
 ) -> Result<(), CheckoutFault>
-    requires text { IsDue (maps.get index.now path.now) (maps.get tree.now path.now) → IsUtf8 path.now }
-    requires blob { F.honest → HasDueBlob (objects (F.content files.old)) (maps.get index.now path.now) (maps.get tree.now path.now) }
-    ensures done { T.honest → F.honest → OnOk result (StepAt (IsWritten (objects (F.content files.old)) (maps.get index.now path.now) (maps.get tree.now path.now)) path.now (T.content work.old) (T.content work.new)) }
-    ensures begun { T.honest → F.honest → OnErr result (StepOrNone (IsWritten (objects (F.content files.old)) (maps.get index.now path.now) (maps.get tree.now path.now)) path.now (T.content work.old) (T.content work.new)) }
+    requires text { IsDue (maps.get index.old path.now) (maps.get tree.old path.now) → IsUtf8 path.now }
+    requires blob { F.honest → HasDueBlob (objects (F.content files.old)) (maps.get index.old path.now) (maps.get tree.old path.now) }
+    ensures done { T.honest → F.honest → OnOk result (StepAt (IsWritten (objects (F.content files.old)) (maps.get index.old path.now) (maps.get tree.old path.now)) path.now (T.content work.old) (T.content work.new)) }
+    ensures begun { T.honest → F.honest → OnErr result (StepOrNone (IsWritten (objects (F.content files.old)) (maps.get index.old path.now) (maps.get tree.old path.now)) path.now (T.content work.old) (T.content work.new)) }
     ensures refused { IfErr result (λ e. F.honest → IsFault e) }
     ensures same { F.content files.new ≡ F.content files.old }
-    ensures folders { T.honest → OnOk result (AreFolders (T.content work.new) (T.folders work.new) (λ one. ((one ≡ path.now) × IsLinked (maps.get index.now path.now) (maps.get tree.now path.now)) ⊎ (IsFolder (T.content work.old) (T.folders work.old) one × ¬ (GivesWay (maps.get index.now path.now) (maps.get tree.now path.now) path.now one)))) }
-    ensures between { T.honest → AreBetween (T.content work.new) (T.folders work.new) (λ one. IsFolder (T.content work.old) (T.folders work.old) one × ¬ (GivesWay (maps.get index.now path.now) (maps.get tree.now path.now) path.now one)) (λ one. IsFolder (T.content work.old) (T.folders work.old) one ⊎ IsMadeFor (maps.get index.now path.now) (maps.get tree.now path.now) path.now one) }
-    ensures due { OnOk result (((maps.get index.now path.now ≡ maps.get tree.now path.now) ⊎ (maps.get tree.now path.now ≡ None)) ⊎ IsDue (maps.get index.now path.now) (maps.get tree.now path.now)) }
+    ensures folders { T.honest → OnOk result (AreFolders (T.content work.new) (T.folders work.new) (λ one. ((one ≡ path.now) × IsLinked (maps.get index.old path.now) (maps.get tree.old path.now)) ⊎ (IsFolder (T.content work.old) (T.folders work.old) one × ¬ (GivesWay (maps.get index.old path.now) (maps.get tree.old path.now) path.now one)))) }
+    ensures between { T.honest → AreBetween (T.content work.new) (T.folders work.new) (λ one. IsFolder (T.content work.old) (T.folders work.old) one × ¬ (GivesWay (maps.get index.old path.now) (maps.get tree.old path.now) path.now one)) (λ one. IsFolder (T.content work.old) (T.folders work.old) one ⊎ IsMadeFor (maps.get index.old path.now) (maps.get tree.old path.now) path.now one) }
+    ensures due { OnOk result (((maps.get index.old path.now ≡ maps.get tree.old path.now) ⊎ (maps.get tree.old path.now ≡ None)) ⊎ IsDue (maps.get index.old path.now) (maps.get tree.old path.now)) }
+    ensures cursors { (index.new ≡ index.old) × (tree.new ≡ tree.old) }
     ensures wear { WearsEither T.failed T.can_fail F.failed F.can_fail F.left work.old work.new files.old files.new (IsErrOf result (CheckoutFault.Index (IndexFault.Store (StoreFault.Fault Fault.Device)))) }
 {
     let Some(new) = tree.get(path) else {
@@ -201,8 +204,9 @@ fn write_all<T: WorkTree, F: Files>(
     ensures between { T.honest → AreBetween (T.content work.new) (T.folders work.new) (λ one. IsFolder (T.content work.old) (T.folders work.old) one × ¬ (GivesWayBy index.now tree.now one)) (λ one. IsFolder (T.content work.old) (T.folders work.old) one ⊎ IsMadeBy index.now tree.now one) }
     ensures wear { WearsEither T.failed T.can_fail F.failed F.can_fail F.left work.old work.new files.old files.new (IsErrOf result (CheckoutFault.Index (IndexFault.Store (StoreFault.Fault Fault.Device)))) }
 {
+    let (mut old, mut new) = (IndexCursor::new(index), IndexCursor::new(tree));
     for (path, _) in tree.iter() {
-        write_path(alloc, work, files, index, tree, path)?;
+        write_path(alloc, work, files, &mut old, &mut new, path)?;
     }
     Ok(())
 }

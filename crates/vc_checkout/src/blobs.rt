@@ -11,7 +11,7 @@ ghost use Rattle.vc_checkout.specs.CheckoutFault.{IsFault};
 use crate::CheckoutFault;
 use std::alloc::Global;
 use vc_files::{Fault, Files};
-use vc_index::{Index, IndexFault};
+use vc_index::{Index, IndexCursor, IndexFault};
 use vc_object::{Kind, Mode, ObjectId};
 use vc_store::StoreFault;
 
@@ -41,13 +41,14 @@ pub(crate) fn blob_of<F: Files>(
 fn check_due<F: Files>(
     alloc: Global,
     files: &mut F,
-    index: &Index,
-    tree: &Index,
+    index: &mut IndexCursor<'_>,
+    tree: &mut IndexCursor<'_>,
     path: &[u8],
 ) -> Result<(), CheckoutFault>
-    ensures blob { F.honest → OnOk result (HasDueBlob (objects (F.content files.old)) (maps.get index.now path.now) (maps.get tree.now path.now)) }
-    ensures refused { F.honest → IfErr result (λ e. IsFault e ⊎ ((cause : Cause) × (e ≡ CheckoutFault.Index cause) × BlamesDue (F.content files.old) (maps.get index.now path.now) (maps.get tree.now path.now) path.now cause)) }
+    ensures blob { F.honest → OnOk result (HasDueBlob (objects (F.content files.old)) (maps.get index.old path.now) (maps.get tree.old path.now)) }
+    ensures refused { F.honest → IfErr result (λ e. IsFault e ⊎ ((cause : Cause) × (e ≡ CheckoutFault.Index cause) × BlamesDue (F.content files.old) (maps.get index.old path.now) (maps.get tree.old path.now) path.now cause)) }
     ensures same { F.content files.new ≡ F.content files.old }
+    ensures cursors { (index.new ≡ index.old) × (tree.new ≡ tree.old) }
     ensures wear { Wears F.failed F.can_fail F.left files.old files.new (IsErrOf result (CheckoutFault.Index (IndexFault.Store (StoreFault.Fault Fault.Device)))) }
 {
     let Some(new) = tree.get(path) else {
@@ -76,8 +77,9 @@ pub(crate) fn check_blobs<F: Files>(
     ensures same { F.content files.new ≡ F.content files.old }
     ensures wear { Wears F.failed F.can_fail F.left files.old files.new (IsErrOf result (CheckoutFault.Index (IndexFault.Store (StoreFault.Fault Fault.Device)))) }
 {
+    let (mut old, mut new) = (IndexCursor::new(index), IndexCursor::new(tree));
     for (path, _) in tree.iter() {
-        check_due(alloc, files, index, tree, path)?;
+        check_due(alloc, files, &mut old, &mut new, path)?;
     }
     Ok(())
 }

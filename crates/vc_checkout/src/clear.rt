@@ -8,14 +8,14 @@ ghost use Rattle.vc_checkout.specs.Refusal.{HasLocalChange, IsClear, IsDue, IsHi
 ghost use Rattle.vc_checkout.specs.WorkTree.{HasTextPaths, IsUntracked, has_path};
 
 use crate::compare::file_name;
-use crate::paths::{add_paths, untracked_paths};
+use crate::paths::{all_paths, untracked_paths};
 use crate::way::is_hindered;
 use crate::{CheckoutFault, WorkTree};
 use std::alloc::Global;
 use std::collections::BTreeSet;
 use std::str;
 use vc_files::Fault;
-use vc_index::{Index, IndexEntry, IndexFault};
+use vc_index::{Index, IndexCursor, IndexEntry, IndexFault};
 use vc_object::{Mode, ObjectId};
 use vc_store::StoreFault;
 
@@ -65,16 +65,17 @@ fn check_path<T: WorkTree>(
     alloc: Global,
     work: &mut T,
     untracked: &BTreeSet<Vec<u8>>,
-    index: &Index,
-    tree: &Index,
+    index: &mut IndexCursor<'_>,
+    tree: &mut IndexCursor<'_>,
     path: &[u8],
 ) -> Result<(), CheckoutFault>
     requires texts { T.honest → HasTextPaths (T.content work.old) }
-    requires untracked { T.honest → (other : List ℕ) → IsTrue (has_path untracked.now other) ↔ IsUntracked index.now (T.content work.old) other }
-    ensures clear { T.honest → OnOk result (IsClear index.now tree.now (T.content work.old) path.now) }
-    ensures refused { T.honest → IfErr result (λ e. IsFault e ⊎ RefusedAt index.now tree.now (T.content work.old) path.now e) }
+    requires untracked { T.honest → (other : List ℕ) → IsTrue (has_path untracked.now other) ↔ IsUntracked index.old (T.content work.old) other }
+    ensures clear { T.honest → OnOk result (IsClear index.old tree.old (T.content work.old) path.now) }
+    ensures refused { T.honest → IfErr result (λ e. IsFault e ⊎ RefusedAt index.old tree.old (T.content work.old) path.now e) }
     ensures kind { IfErr result (λ e. IsFault e ⊎ IsAgainst e) }
-    ensures text { OnOk result (IsDue (maps.get index.now path.now) (maps.get tree.now path.now) → IsUtf8 path.now) }
+    ensures text { OnOk result (IsDue (maps.get index.old path.now) (maps.get tree.old path.now) → IsUtf8 path.now) }
+    ensures cursors { (index.new ≡ index.old) × (tree.new ≡ tree.old) }
     ensures same { T.content work.new ≡ T.content work.old }
     ensures folders { T.folders work.new ≡ T.folders work.old }
     ensures wear { Wears T.failed T.can_fail unstopped work.old work.new (IsErrOf result (CheckoutFault.Index (IndexFault.Store (StoreFault.Fault Fault.Device)))) }
@@ -116,11 +117,10 @@ pub(crate) fn check_all<T: WorkTree>(
     ensures wear { Wears T.failed T.can_fail unstopped work.old work.new (IsErrOf result (CheckoutFault.Index (IndexFault.Store (StoreFault.Fault Fault.Device)))) }
 {
     let untracked = untracked_paths(alloc, work, index)?;
-    let mut paths = BTreeSet::new(alloc);
-    add_paths(alloc, &mut paths, index)?;
-    add_paths(alloc, &mut paths, tree)?;
+    let paths = all_paths(alloc, &BTreeSet::new(alloc), index, tree)?;
+    let (mut old, mut new) = (IndexCursor::new(index), IndexCursor::new(tree));
     for path in &paths {
-        check_path(alloc, work, &untracked, index, tree, path)?;
+        check_path(alloc, work, &untracked, &mut old, &mut new, path)?;
     }
     Ok(())
 }

@@ -1,5 +1,5 @@
 // What differs between a tree, the index and the work tree.
-ghost use Rattle.std.specs.Prelude.{◌≡◌, ◌↔◌, ◌||◌, ℕ, List, Option, Some, None, IfOk, IfErr, OnOk, IsErrOf, IsTrue, is_some, map, option_map};
+ghost use Rattle.std.specs.Prelude.{◌≡◌, ◌↔◌, ℕ, List, Option, Some, None, IfOk, IfErr, OnOk, IsErrOf, IsTrue, is_some, map, option_map};
 ghost use Rattle.std.specs.FinMap as maps;
 ghost use Rattle.vc_files.specs.Failures.{Wears, unstopped};
 ghost use Rattle.vc_object.specs.declared.id.ObjectId.{ObjectId as Id};
@@ -12,13 +12,13 @@ ghost use Rattle.vc_checkout.specs.Status.{IsWorkChange, IsChangeAt, IsStatus, s
 ghost use Rattle.vc_checkout.specs.WorkTree.{HasTextPaths, IsUntracked, blob_name, has_path};
 
 use crate::change::index_change;
-use crate::paths::{add_paths, copy_paths, untracked_paths};
+use crate::paths::{all_paths, untracked_paths};
 use crate::{Change, CheckoutFault, IndexChange, WorkChange, WorkTree};
-use std::alloc::{AllocError, Global};
+use std::alloc::Global;
 use std::collections::BTreeSet;
 use std::str;
 use vc_files::{Fault, Files};
-use vc_index::{Index, IndexEntry, IndexFault};
+use vc_index::{Index, IndexCursor, IndexEntry, IndexFault};
 use vc_object::{Kind, Mode, ObjectId, name_of};
 use vc_store::StoreFault;
 
@@ -83,13 +83,14 @@ fn change_at<T: WorkTree>(
     alloc: Global,
     work: &mut T,
     untracked: &BTreeSet<Vec<u8>>,
-    index: &Index,
-    tree: &Index,
+    index: &mut IndexCursor<'_>,
+    tree: &mut IndexCursor<'_>,
     path: &[u8],
 ) -> Result<Option<Change>, CheckoutFault>
     requires texts { T.honest → HasTextPaths (T.content work.old) }
-    requires untracked { T.honest → IsTrue (has_path untracked.now path.now) ↔ IsUntracked index.now (T.content work.old) path.now }
-    ensures change { T.honest → IfOk result (IsChangeAt tree.now index.now (T.content work.old) path.now) }
+    requires untracked { T.honest → IsTrue (has_path untracked.now path.now) ↔ IsUntracked index.old (T.content work.old) path.now }
+    ensures change { T.honest → IfOk result (IsChangeAt tree.old index.old (T.content work.old) path.now) }
+    ensures cursors { (index.new ≡ index.old) × (tree.new ≡ tree.old) }
     ensures fault { IfErr result IsFault }
     ensures same { T.content work.new ≡ T.content work.old }
     ensures folders { T.folders work.new ≡ T.folders work.old }
@@ -109,22 +110,6 @@ fn change_at<T: WorkTree>(
     }))
 }
 
-// The paths of an index and of a tree, and those of the files that the index lacks.
-fn all_paths(
-    alloc: Global,
-    untracked: &BTreeSet<Vec<u8>>,
-    index: &Index,
-    tree: &Index,
-) -> Result<BTreeSet<Vec<u8>>, AllocError>
-    ensures { IfOk result (λ all. (path : List ℕ) → has_path all path ≡ ((has_path untracked.now path || is_some (maps.get index.now path)) || is_some (maps.get tree.now path))) }
-{
-    let mut all = BTreeSet::new(alloc);
-    copy_paths(alloc, &mut all, untracked)?;
-    add_paths(alloc, &mut all, index)?;
-    add_paths(alloc, &mut all, tree)?;
-    Ok(all)
-}
-
 // The changes of all paths at which something differs.
 fn changes<T: WorkTree>(
     alloc: Global,
@@ -141,8 +126,10 @@ fn changes<T: WorkTree>(
     let untracked = untracked_paths(alloc, work, index)?;
     let paths = all_paths(alloc, &untracked, index, tree)?;
     let mut changes = Vec::new(alloc);
+    let (mut staged, mut listed) = (IndexCursor::new(index), IndexCursor::new(tree));
     for path in &paths {
-        let Some(change) = change_at(alloc, work, &untracked, index, tree, path)? else {
+        let Some(change) = change_at(alloc, work, &untracked, &mut staged, &mut listed, path)?
+        else {
             continue;
         };
         changes.push(change)?;

@@ -1,17 +1,17 @@
 // Sets of paths.
-ghost use Rattle.std.specs.Prelude.{◌≡◌, ◌↔◌, ◌||◌, ℕ, List, IfOk, IfErr, OnOk, IsErrOf, IsTrue, is_some, MatchOption};
+ghost use Rattle.std.specs.Prelude.{◌≡◌, ◌↔◌, ◌++◌, ◌||◌, ℕ, map, List, IfOk, IfErr, OnOk, IsErrOf, IsTrue, is_some, MatchOption};
 ghost use Rattle.std.specs.FinMap as maps;
 ghost use Rattle.vc_files.specs.Failures.{Wears, unstopped};
 ghost use Rattle.vc_index.specs.Path.{IsAbove};
 ghost use Rattle.vc_checkout.specs.CheckoutFault.{IsFault};
 ghost use Rattle.vc_checkout.specs.Folders.{IsLowestAbove};
-ghost use Rattle.vc_checkout.specs.WorkTree.{has_path, HasTextPaths, IsUntracked};
+ghost use Rattle.vc_checkout.specs.WorkTree.{has_path, is_listed, HasTextPaths, IsUntracked};
 
 use crate::{CheckoutFault, WorkTree};
 use std::alloc::{AllocError, Global};
 use std::collections::BTreeSet;
 use vc_files::Fault;
-use vc_index::{Index, IndexFault};
+use vc_index::{Index, IndexCursor, IndexFault};
 use vc_store::StoreFault;
 
 /// The path of the folder that a path lies in, or none where it lies in none.
@@ -22,32 +22,41 @@ pub(crate) fn folder_of(path: &str) -> Option<&str>
     Some(path.split_at(end).0)
 }
 
-/// Adds the paths of an index to a set.
-pub(crate) fn add_paths(
-    alloc: Global,
-    paths: &mut BTreeSet<Vec<u8>>,
-    index: &Index,
-) -> Result<(), AllocError>
-    ensures { OnOk result ((path : List ℕ) → has_path paths.new path ≡ (has_path paths.old path || is_some (maps.get index.now path))) }
+// Adds the paths of an index to a list.
+fn push_paths(alloc: Global, paths: &mut Vec<Vec<u8>>, index: &Index) -> Result<(), AllocError>
+    ensures { OnOk result (map (λ p. p.items) paths.new.items ≡ map (λ p. p.items) paths.old.items ++ maps.keys index.now) }
 {
     for (path, _) in index.iter() {
-        paths.insert(path.as_slice().to_vec(alloc)?)?;
+        paths.push(path.as_slice().to_vec(alloc)?)?;
     }
     Ok(())
 }
 
-/// Adds the paths of one set to another.
-pub(crate) fn copy_paths(
-    alloc: Global,
-    paths: &mut BTreeSet<Vec<u8>>,
-    more: &BTreeSet<Vec<u8>>,
-) -> Result<(), AllocError>
-    ensures { OnOk result ((path : List ℕ) → has_path paths.new path ≡ (has_path paths.old path || has_path more.now path)) }
+// The paths of a list as a set.
+fn path_set(alloc: Global, paths: Vec<Vec<u8>>) -> Result<BTreeSet<Vec<u8>>, AllocError>
+    ensures { IfOk result (λ set. (path : List ℕ) → has_path set path ≡ is_listed path (map (λ p. p.items) paths.items)) }
 {
-    for path in more {
-        paths.insert(path.as_slice().to_vec(alloc)?)?;
+    let set = paths.into_iter().collect(alloc)?;
+    Ok(set)
+}
+
+/// The paths of a set and of two indexes.
+pub(crate) fn all_paths(
+    alloc: Global,
+    others: &BTreeSet<Vec<u8>>,
+    index: &Index,
+    tree: &Index,
+) -> Result<BTreeSet<Vec<u8>>, AllocError>
+    ensures { IfOk result (λ all. (path : List ℕ) → has_path all path ≡ ((has_path others.now path || is_some (maps.get index.now path)) || is_some (maps.get tree.now path))) }
+{
+    let mut paths = Vec::new(alloc);
+    for path in others {
+        paths.push(path.as_slice().to_vec(alloc)?)?;
     }
-    Ok(())
+    push_paths(alloc, &mut paths, index)?;
+    push_paths(alloc, &mut paths, tree)?;
+    let all = path_set(alloc, paths)?;
+    Ok(all)
 }
 
 /// The paths of the files of the work tree that the index lacks.
@@ -65,9 +74,10 @@ pub(crate) fn untracked_paths<T: WorkTree>(
 {
     let listed = work.list(alloc)?;
     let mut found = BTreeSet::new(alloc);
+    let mut known = IndexCursor::new(index);
     for path in &listed {
         let path = path.as_bytes();
-        if index.get(path).is_none() {
+        if known.get(path).is_none() {
             found.insert(path.to_vec(alloc)?)?;
         }
     }

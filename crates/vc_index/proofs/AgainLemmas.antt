@@ -13,7 +13,8 @@ use Rattle.vc_index.specs.declared.entry.IndexEntry.{IndexEntry}
 use Rattle.vc_index.specs.declared.faults.IndexFault.{IndexFault}
 use Rattle.vc_index.specs.declared.faults.IndexFault.TheVariants.{BadPath, PathConflict, BadIndex, WrongEntry, Missing, Store}
 use Rattle.vc_index.proofs.EntriesLemmas.{mid_before, get_mid, get_front, all_from_get}
-use Rattle.vc_index.proofs.ReadLemmas.{spelt, value_of, some_at}
+use Rattle.vc_index.proofs.ReadLemmas.{spelt, some_at}
+use Rattle.vc_index.proofs.FrontLemmas.{value_of}
 use Rattle.vc_index.proofs.TextLemmas.{IsSpelt, entry_again}
 
 abbrev Pair : Type 0

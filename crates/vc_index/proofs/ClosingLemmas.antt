@@ -329,15 +329,6 @@ inside_last parts last next at begun front part is =
     let begins = (starts_is Decides-eqb next last.folder.now true (sym begun)).0 refl in
     subst (λ (p : Part). Begins p.folder.now next) (sym eq) (drop (length last.folder.now) next, begins)
 
-pub inside_none : (parts : List Part) (next : List ℕ) → slice_get parts (length parts - 1) ≡ None → IsInside next parts
-inside_none parts next none front part is = absurd (let z : None ≡ Some part = sym none ∙ ap (λ (l : List Part). slice_get l (length l - 1)) is ∙ last_get front part in cc z)
-
-pub top_is : (parts : List Part) (last : Part) → slice_get parts (length parts - 1) ≡ Some last → option_map (λ (p : Part). p.folder.now) (slice_get parts (length parts - 1)) ≡ Some last.folder.now
-top_is parts last at = ap (option_map (λ (p : Part). p.folder.now)) at
-
-pub open_is : (parts : List Part) (last : Part) → slice_get parts (length parts - 1) ≡ Some last → open_length parts ≡ length last.folder.now
-open_is parts last at = ap (λ (o : Option Part). option_map_or (λ (p : Part). length p.folder.now) o 0) at
-
 pub not_begun : (next folder : List ℕ) → starts_with nat_eq next folder ≡ false → 0 < length folder
 not_begun next [] e = absurd (cc e)
 not_begun next (x ∷ folder) e = omega arith

@@ -62,7 +62,7 @@ cut_above (x ∷ path) (suc i) inside is =
     (r.0, ap (λ t. x ∷ t) r.1)
 
 -- ---- a file below
-key_of : (m : BTreeMap (Vec ℕ Global) IndexEntry) (other : List ℕ) → IsSome (paths.get (index_of m) other) → (k : Vec ℕ Global) × (k.items ≡ other) × IsSome (get_by (key_cmp k) m)
+pub key_of : (m : BTreeMap (Vec ℕ Global) IndexEntry) (other : List ℕ) → IsSome (paths.get (index_of m) other) → (k : Vec ℕ Global) × (k.items ≡ other) × IsSome (get_by (key_cmp k) m)
 key_of m other some =
     let found = some_value (get_by (λ k. slice_cmp nat_cmp other k.items) m) (subst IsSome (get-index_of m other) some) in
     let place = place_from_lookup (is_at (λ k. slice_cmp nat_cmp other k.items)) m.entries found.0 found.1 in

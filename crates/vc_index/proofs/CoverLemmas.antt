@@ -56,10 +56,6 @@ pub over_parts : (xs ys : List Pair) (path : List ℕ) → HasOver (xs ++ ys) pa
 over_parts [] ys path h = inr h
 over_parts (x ∷ xs) ys path h = ⊎_elim (λ a. inl (inl a)) (λ a. ⊎_elim (λ b. inl (inr b)) (λ b. inr b) (over_parts xs ys path a)) h
 
-over_none : (es : List Pair) (path : List ℕ) → AllByRecursion (λ e. IsOver e path → ⊥) es → HasOver es path → ⊥
-over_none [] path none h = h
-over_none (e ∷ es) path none h = ⊎_elim (λ a. none.0 a) (λ a. over_none es path none.1 a) h
-
 -- each file of an index is one of its entries
 pub over_entries : (files : IndexMap) (path : List ℕ) → IsSome (get files path) → HasOver (entries files) path
 over_entries files path some = found (entries files) (subst IsSome (get-entries files path) some)

@@ -15,7 +15,7 @@ use Rattle.vc_index.proofs.MapLemmas.{same_text, is_eq-same}
 abbrev pub AllBefore : List ℕ → List (List ℕ × IndexEntry) → Type 0
 AllBefore path es = AllByRecursion (λ (e : List ℕ × IndexEntry). slice_cmp nat_cmp e.0 path ≡ Less) es
 
-back : (a b : List ℕ) → slice_cmp nat_cmp a b ≡ Less → slice_cmp nat_cmp b a ≡ Greater
+pub back : (a b : List ℕ) → slice_cmp nat_cmp a b ≡ Less → slice_cmp nat_cmp b a ≡ Greater
 back a b e = nat_list_cmp_total.antisymm b a ∙ ap ordering_reverse e
 
 -- an entry behind all others is pushed
@@ -29,7 +29,7 @@ pub entries_last : (m : IndexMap) (k : List ℕ) (v : IndexEntry) → AllBefore 
 entries_last m k v before = entries-insert nat_list_cmp_total m k v ∙ put_last k v (entries m) before
 
 -- what holds of all entries holds of the one that is found
-find_all : (P : List ℕ × IndexEntry → Type 0) (q : List ℕ) (v : IndexEntry) (es : List (List ℕ × IndexEntry)) → AllByRecursion P es → find (slice_cmp nat_cmp) q es ≡ Some v → P (q, v)
+pub find_all : (P : List ℕ × IndexEntry → Type 0) (q : List ℕ) (v : IndexEntry) (es : List (List ℕ × IndexEntry)) → AllByRecursion P es → find (slice_cmp nat_cmp) q es ≡ Some v → P (q, v)
 find_all P q v [] all is = absurd (cc is)
 find_all P q v (e ∷ es) all is =
     elim (is_eq (slice_cmp nat_cmp q e.0)) as (λ b. is_eq (slice_cmp nat_cmp q e.0) ≡ b → cond b (Some e.1) (find (slice_cmp nat_cmp) q es) ≡ Some v → P (q, v)) [
@@ -60,11 +60,11 @@ All_last P [] x all p = (p, tt)
 All_last P (y ∷ xs) x all p = (all.0, All_last P xs x all.1 p)
 
 -- ---- lists in order
-both_parts : (a b : Bool) → T (a && b) → T a × T b
+pub both_parts : (a b : Bool) → T (a && b) → T a × T b
 both_parts true b h = (tt, h)
 both_parts false b h = absurd h
 
-less_of : (o : Ordering) → T (is_lt o) → o ≡ Less
+pub less_of : (o : Ordering) → T (is_lt o) → o ≡ Less
 less_of Less h = refl
 less_of Equal h = absurd h
 less_of Greater h = absurd h

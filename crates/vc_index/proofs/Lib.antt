@@ -6,6 +6,10 @@ pub mod ConflictLemmas
 pub mod TextLemmas
 pub mod EntriesLemmas
 pub mod ReadLemmas
+pub mod FrontLemmas
+pub mod CollectLemmas
+pub mod ApartLemmas
+pub mod CursorLemmas
 pub mod AgainLemmas
 pub mod FileLemmas
 pub mod PlaceLemmas

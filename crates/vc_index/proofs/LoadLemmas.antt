@@ -26,7 +26,6 @@ use Rattle.vc_store.specs.declared.faults.StoreFault.{StoreFault}
 use Rattle.vc_store.specs.declared.faults.StoreFault.TheVariants.{BadObject, Absent, Damaged, Fault}
 use Rattle.vc_index.specs.declared.faults.IndexFault.{IndexFault}
 use Rattle.vc_index.specs.declared.faults.IndexFault.TheVariants.{BadPath, PathConflict, BadIndex, WrongEntry, Missing, Store}
-use Rattle.vc_index.specs.IndexFault.{IsOfAdd}
 use Rattle.vc_index.specs.Loading.{ReachesEntry, IsEntryOfTree, IsOpened, IsDue, IsDueIn, IsSought, IsBlobIfDue, HasBlobs, IsOfLook, IsOfLoadIn, IsOfLoadStored, item_pair}
 use Rattle.vc_index.specs.declared.loading.Item.{Item}
 use Rattle.vc_index.specs.declared.loading.Look.{Look}
@@ -410,14 +409,6 @@ look_load look honest content root item kind there due (Missing id) h = λ hn. (
   h.1 hn,
 )
 look_load look honest content root item kind there due (Store fault) h = stored_load honest content root item there fault h
-
-pub add_load : (look : Look) (honest : Type 0) (content : FileMap) (root : ObjectId) (m : IndexMap) (path : List ℕ) → IsPath path → (honest → HasConflict m path → ⊥) → (e : IndexFault) → IsOfAdd m path e → IsOfLoadIn look honest content root e
-add_load look honest content root m path legal free BadPath h = absurd (h legal)
-add_load look honest content root m path legal free PathConflict h = λ hn. free hn h.1
-add_load look honest content root m path legal free (BadIndex place) h = h
-add_load look honest content root m path legal free (WrongEntry at) h = absurd h
-add_load look honest content root m path legal free (Missing id) h = absurd h
-add_load look honest content root m path legal free (Store fault) h = subst (IsOfLoadStored honest content root) (sym h.1) tt
 
 -- ---- the items, before and after one is taken
 pub taken : (all rest : List Item) (item : Item) → all ≡ rest ++ item ∷ [] → map item_pair all ≡ map item_pair rest ++ item_pair item ∷ []

@@ -36,7 +36,7 @@ same_text a b e = slice_cmp-IsAntisymmetric nat_cmp-IsAntisymmetric a b (equal _
 pub is_eq-same : (a : List ℕ) → is_eq (slice_cmp nat_cmp a a) ≡ true
 is_eq-same a = ap is_eq (tied_itself nat_list_cmp_total a)
 
-find_view : (q : List ℕ) (es : Entries) → find (slice_cmp nat_cmp) q (map (λ e. (e.0.items, e.1)) es) ≡ lookup (is_at (λ k. slice_cmp nat_cmp q k.items)) es
+pub find_view : (q : List ℕ) (es : Entries) → find (slice_cmp nat_cmp) q (map (λ e. (e.0.items, e.1)) es) ≡ lookup (is_at (λ k. slice_cmp nat_cmp q k.items)) es
 find_view q [] = refl
 find_view q (e ∷ es) = ap (cond (is_eq (slice_cmp nat_cmp q e.0.items)) (Some e.1)) (find_view q es)
 

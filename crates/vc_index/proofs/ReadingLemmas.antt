@@ -17,10 +17,8 @@ use Rattle.vc_object.specs.declared.mode.Mode.{Mode}
 use Rattle.vc_object.specs.declared.mode.Mode.TheVariants as modes
 use Rattle.vc_store.specs.Store.{objects}
 use Rattle.vc_index.specs.HeldFiles.{Pair, under, placed}
-use Rattle.vc_index.specs.IndexFault.{IsOfAdd}
 use Rattle.vc_index.specs.IndexMap.{IndexMap, index_entry}
 use Rattle.vc_index.specs.Loading.{ReachesEntry, IsEntryOfTree, IsOpened, IsDue, IsDueIn, IsSought, IsBlobIfDue, IsOfLook, item_pair}
-use Rattle.vc_index.specs.Path.{IsPath}
 use Rattle.vc_index.specs.TreeFiles.{IsTreeAt, HasEntry, IsFileOfTree}
 use Rattle.vc_index.specs.TreeReading.{TreeFault, HasFaultIn, IsSoundIn, AreInside, MeetsFaultIn, IsCompleteIn, ReadsIn, ReadsAs, tree_fault}
 use Rattle.vc_index.specs.TreeReading.TreeFault.{LongPath, OtherKind, NoObject}
@@ -295,15 +293,6 @@ pub long_first : (look : Look) (content : FileMap) (root : ObjectId) (items : Li
 long_first look content root items path entry w long fault is =
     let told : LongPath ≡ fault = let e : Some LongPath ≡ Some fault = is in cc e in
     subst (λ (f : TreeFault). ReadsIn look (objects content) root (Err f)) told (walk_fault look (objects content) root items path entry w LongPath long)
-
--- no entry that is added is refused for its own sake
-pub add_first : (look : Look) (objects : ObjectMap) (root : ObjectId) (m : IndexMap) (path : List ℕ) → IsPath path → (e : IndexFault) → IsOfAdd m path e → (fault : TreeFault) → tree_fault e ≡ Some fault → ReadsIn look objects root (Err fault)
-add_first look objects root m path legal BadPath why fault is = absurd (why legal)
-add_first look objects root m path legal PathConflict why fault is = absurd (let e : None ≡ Some fault = is in cc e)
-add_first look objects root m path legal (BadIndex place) why fault is = absurd why
-add_first look objects root m path legal (WrongEntry at) why fault is = absurd why
-add_first look objects root m path legal (Missing id) why fault is = absurd why
-add_first look objects root m path legal (Store f) why fault is = absurd (let e : None ≡ Some fault = is in cc e)
 
 -- a folder was opened
 pub walk_opened : (look : Look) (honest : Type 0) (content : FileMap) (root : ObjectId) (item : Item) (items new : List Item) → IsOpened honest content item items new → honest → item.entry.mode ≡ modes.Tree → length item.path.items ≤ 4096

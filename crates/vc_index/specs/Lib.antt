@@ -11,3 +11,5 @@ pub mod Building
 pub mod Damage
 pub mod Loading
 pub mod TreeReading
+pub mod Reading
+pub mod Cursor

@@ -12,15 +12,18 @@ ghost use Rattle.vc_index.specs.TreeReading.{ListsAs, ReadsAs, TreeFault, tree_f
 ghost use Rattle.vc_index.specs.WrittenTrees.{IsWritten, IsBegun, IsOfWrite};
 ghost use Rattle.vc_index.specs.Path.{IsPath, IsAbove};
 ghost use Rattle.vc_index.specs.Damage.{KeepsDamage};
-ghost use Rattle.vc_index.specs.IndexMap.{HasConflict, HasFileAbove, IndexMap, IsIndex, index_entry, index_of};
+ghost use Rattle.vc_index.specs.IndexMap.{HasConflict, HasFileAbove, IndexMap, IsFile, IsIndex, index_entry, index_of};
+ghost use Rattle.std.specs.List.{AllByRecursion};
 ghost use Rattle.vc_index.specs.IndexFault.{IsOfAdd, IsMemory};
+ghost use Rattle.vc_index.specs.Reading.{AreInOrder, IsOfFiles, index_with, pairs, with_files};
 ghost use Rattle.vc_index.specs.IndexText.{index_text, IsOfRead, TextFault};
 ghost use Rattle.std.specs.Ordering.{nat_cmp};
 ghost use Rattle.std.specs.Cmp.Lexicographic.{slice_cmp};
 
 use crate::loading::{Look, load};
 use crate::path::is_path;
-use crate::text::{entry_at, push_entry};
+use crate::reading::{are_apart, read_text};
+use crate::text::push_entry;
 use crate::trees::write_trees;
 use crate::{IndexEntry, IndexFault};
 use std::alloc::{AllocError, Global};
@@ -59,6 +62,35 @@ impl Index {
         Index {
             map: BTreeMap::new(alloc),
         }
+    }
+
+    // The index of these files.
+    pub(crate) fn of_files(
+        alloc: Global,
+        files: Vec<(Vec<u8>, IndexEntry)>,
+    ) -> Result<Index, AllocError>
+        requires order { AreInOrder files.items }
+        requires index { IsIndex (index_with files.items) }
+        ensures { IfOk result (λ index. index ≡ index_with files.items) }
+    {
+        let map = files.into_iter().collect(alloc)?;
+        Ok(Index { map })
+    }
+
+    // The index of these files in any order, or 61 where one of them lies in another.
+    pub(crate) fn from_files(
+        alloc: Global,
+        files: Vec<(Vec<u8>, IndexEntry)>,
+    ) -> Result<Index, IndexFault>
+        requires { AllByRecursion (λ e. IsFile e.0 e.1) (pairs files.items) }
+        ensures ok { IfOk result (λ index. index ≡ with_files (pairs files.items)) }
+        ensures refused { IfErr result (IsOfFiles (with_files (pairs files.items))) }
+    {
+        let map: BTreeMap<Vec<u8>, IndexEntry> = files.into_iter().collect(alloc)?;
+        if !are_apart(alloc, &map)? {
+            return Err(IndexFault::PathConflict);
+        }
+        Ok(Index { map })
     }
 
     /// The index that a text stands for: an entry for each file, `mode SP id SP 0 TAB path NUL`, in the order of the
@@ -203,16 +235,6 @@ fn has_file_above(map: &BTreeMap<Vec<u8>, IndexEntry>, path: &[u8]) -> bool
     false
 }
 
-// Whether a path may stand behind all paths of the map, of which `last` is the last.
-fn may_follow(map: &BTreeMap<Vec<u8>, IndexEntry>, last: &[u8], path: &[u8]) -> bool
-    ensures { IsTrue result ↔ ((slice_cmp nat_cmp last.now path.now ≡ Ordering.Less) × IsPath path.now × ¬ (HasFileAbove (index_of map.now) path.now)) }
-{
-    if last.cmp(path) != Ordering::Less || !is_path(path) {
-        return false;
-    }
-    !has_file_above(map, path)
-}
-
 // Whether a file of the map lies in the path as a folder.
 fn has_file_below(
     alloc: Global,
@@ -245,28 +267,4 @@ fn has_conflict(
     }
     let below = has_file_below(alloc, map, path)?;
     Ok(below)
-}
-
-// The index that a text stands for.
-fn read_text(alloc: Global, bytes: &[u8]) -> Result<Index, IndexFault>
-    ensures ok { IfOk result (λ index. bytes.now ≡ index_text index) }
-    ensures index { IfOk result IsIndex }
-    ensures refused { IfErr result (IsOfRead bytes.now) }
-{
-    let mut map = BTreeMap::new(alloc);
-    let mut last: &[u8] = b"";
-    let mut rest = bytes;
-    while !rest.is_empty() {
-        let place = bytes.len() - rest.len();
-        let Some((path, entry, after)) = entry_at(rest) else {
-            return Err(IndexFault::BadIndex(place));
-        };
-        if !may_follow(&map, last, path) {
-            return Err(IndexFault::BadIndex(place));
-        }
-        map.insert(path.to_vec(alloc)?, entry)?;
-        last = path;
-        rest = after;
-    }
-    Ok(Index { map })
 }

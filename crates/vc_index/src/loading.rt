@@ -148,7 +148,7 @@ pub(crate) fn load<F: Files>(
     ensures same { F.content files.new ≡ F.content files.old }
     ensures wear { Wears F.failed F.can_fail F.left files.old files.new (IsErrOf result (IndexFault.Store (StoreFault.Fault Fault.Device))) }
 {
-    let mut index = Index::new(alloc);
+    let mut found = Vec::new(alloc);
     let mut items = Vec::new(alloc);
     let (top, mode, id) = (Vec::new(alloc), Mode::Tree, *root);
     items.push(Item {
@@ -156,16 +156,18 @@ pub(crate) fn load<F: Files>(
         entry: IndexEntry { mode, id },
     })?;
     while let Some(item) = items.pop() {
-        let path = item.path.as_slice();
-        if path.len() > MAX_PATH {
+        if item.path.len() > MAX_PATH {
             return Err(IndexFault::BadPath);
         }
         if item.entry.mode == Mode::Tree {
             open_folder(alloc, files, &mut items, &item)?;
         } else {
             look_for_blob(alloc, files, look, &item)?;
-            index.add(alloc, path, item.entry.mode, item.entry.id)?;
+            let Item { path, entry } = item;
+            let (mode, id) = (entry.mode, entry.id.named());
+            found.push((path, IndexEntry { mode, id }))?;
         }
     }
+    let index = Index::from_files(alloc, found)?;
     Ok(index)
 }

@@ -1,4 +1,4 @@
-use Rattle.std.proofs.Common.{map}
+use Rattle.std.proofs.Common.{◌≡◌, map}
 use Rattle.std.specs.FinMap.{get}
 use Rattle.vc_files.specs.Failures.{Wears, unstopped}
 use Rattle.vc_checkout.specs.CheckedOut.{IsCleared}
@@ -11,6 +11,8 @@ use Rattle.vc_checkout.proofs.apply.clear_all.Given as goal
 
 abbrev pub invariant-loop-path : goal.invariant-loop-path
 invariant-loop-path g l = record {
+  old : l.old ≡ l.index;
+  new : l.new ≡ l.tree;
   working : g.T.WorkTree.honest → Working (λ q. IsCleared (get l.index q) (get l.tree q)) (g.T.WorkTree.content l.fn.work) (g.T.WorkTree.content l.work) (map (λ e. e.0.items) l.path-iterator);
   texts : g.T.WorkTree.honest → HasTextPaths (g.T.WorkTree.content l.work);
   leaving : g.T.WorkTree.honest → Leaving (IsFolder (g.T.WorkTree.content l.fn.work) (g.T.WorkTree.folders l.fn.work)) (λ q. IsLeft (get l.index q) (get l.tree q) q) (g.T.WorkTree.content l.work) (g.T.WorkTree.folders l.work) (map (λ e. e.0.items) l.path-iterator);

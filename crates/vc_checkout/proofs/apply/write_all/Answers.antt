@@ -17,6 +17,8 @@ loop-path-init g c =
     let was = g.T.WorkTree.folders c.args.work.now in
     let all = objects (g.F.Files.content c.args.files.now) in
     record {
+      old = search rules;
+      new = search rules;
       working = λ honest stored. working_start (λ q. IsWritten all (i q) (t q)) (λ q. written_again all (i q) (t q)) old old _ refl
           (λ q lacks. written_none all (i q) (t q) (get old q) (no_entry c.into_iter-path-iterator.result c.args.tree.now (search rules) q lacks));
       making = λ _ _. making_start c.args.index.now c.args.tree.now old was _ (no_entry c.into_iter-path-iterator.result c.args.tree.now (search rules));
@@ -40,14 +42,16 @@ loop-path-preserved g c =
     let path = c.deref.result.now in
     let first : map (λ e. e.0.items) c.loop-path.path-iterator ≡ path ∷ map (λ e. e.0.items) c.next.new.self = search rules in
     record {
+      old = search rules;
+      new = search rules;
       working = λ honest stored. working_more (λ q. IsWritten all (i q) (t q)) (λ q. written_again all (i q) (t q)) old mid now _ _ path first
-          (subst (λ (f : FileMap). StepAt (IsWritten (objects f) (get c.args.index.now path) (get c.args.tree.now path)) path mid now) c.loop-path.invariant.same (c.in_ok-write_path.ensures.done honest stored)) (c.loop-path.invariant.working honest stored);
+          (subst (λ (f : FileMap). StepAt (IsWritten (objects f) (get c.args.index.now path) (get c.args.tree.now path)) path mid now) c.loop-path.invariant.same (rw (← c.loop-path.invariant.old, ← c.loop-path.invariant.new) (c.in_ok-write_path.ensures.done honest stored))) (c.loop-path.invariant.working honest stored);
       making = λ honest stored.
-          let step : StepAt (IsWritten all (i path) (t path)) path mid now = (subst (λ (f : FileMap). StepAt (IsWritten (objects f) (get c.args.index.now path) (get c.args.tree.now path)) path mid now) c.loop-path.invariant.same (c.in_ok-write_path.ensures.done honest stored)) in
-          let how = cases (i path) (t path) path c.in_ok-write_path.ensures.due in
+          let step : StepAt (IsWritten all (i path) (t path)) path mid now = (subst (λ (f : FileMap). StepAt (IsWritten (objects f) (get c.args.index.now path) (get c.args.tree.now path)) path mid now) c.loop-path.invariant.same (rw (← c.loop-path.invariant.old, ← c.loop-path.invariant.new) (c.in_ok-write_path.ensures.done honest stored))) in
+          let how = cases (i path) (t path) path (rw (← c.loop-path.invariant.old, ← c.loop-path.invariant.new) c.in_ok-write_path.ensures.due) in
           making_more c.args.index.now c.args.tree.now old was mid now held new _ _ path index first (written_lost (i path) (t path) path all (c.requires.blobs stored path) mid now step how) (filed_there (i path) (t path) path all (c.requires.blobs stored path) mid now step)
-          (not_filed c.args.index.now c.args.tree.now path how) (c.in_ok-write_path.ensures.folders honest) (c.loop-path.invariant.making honest stored);
-      between = λ honest. making_between c.args.index.now c.args.tree.now (IsFolder old was) mid now held new path (c.loop-path.invariant.between honest) (c.write_path.ensures.between honest);
+          (not_filed c.args.index.now c.args.tree.now path how) (rw (← c.loop-path.invariant.old, ← c.loop-path.invariant.new) (c.in_ok-write_path.ensures.folders honest)) (c.loop-path.invariant.making honest stored);
+      between = λ honest. making_between c.args.index.now c.args.tree.now (IsFolder old was) mid now held new path (c.loop-path.invariant.between honest) (rw (← c.loop-path.invariant.old, ← c.loop-path.invariant.new) (c.write_path.ensures.between honest));
       same = search rules;
       wear = search rules;
     }
@@ -59,12 +63,12 @@ returns-in_err-write_path-clause-begun g c = λ honest stored.
     let all = objects (g.F.Files.content c.args.files.now) in
     let path = c.deref.result.now in
     working_stop (λ q. IsWritten all (get c.args.index.now q) (get c.args.tree.now q)) (λ q. written_again all (get c.args.index.now q) (get c.args.tree.now q)) (g.T.WorkTree.content c.args.work.now) mid now _ path
-    (subst (λ (f : FileMap). StepOrNone (IsWritten (objects f) (get c.args.index.now path) (get c.args.tree.now path)) path mid now) c.loop-path.invariant.same (c.in_err-write_path.ensures.begun honest stored)) (c.loop-path.invariant.working honest stored)
+    (subst (λ (f : FileMap). StepOrNone (IsWritten (objects f) (get c.args.index.now path) (get c.args.tree.now path)) path mid now) c.loop-path.invariant.same (rw (← c.loop-path.invariant.old, ← c.loop-path.invariant.new) (c.in_err-write_path.ensures.begun honest stored))) (c.loop-path.invariant.working honest stored)
 
 pub returns-in_err-write_path-clause-between : goal.returns-in_err-write_path-clause-between
 returns-in_err-write_path-clause-between g c = λ honest.
     making_between c.args.index.now c.args.tree.now (IsFolder (g.T.WorkTree.content c.args.work.now) (g.T.WorkTree.folders c.args.work.now)) (g.T.WorkTree.content c.loop-path.work) (g.T.WorkTree.content c.write_path.new.work) (g.T.WorkTree.folders c.loop-path.work) (g.T.WorkTree.folders c.write_path.new.work) c.deref.result.now
-    (c.loop-path.invariant.between honest) (c.write_path.ensures.between honest)
+    (c.loop-path.invariant.between honest) (rw (← c.loop-path.invariant.old, ← c.loop-path.invariant.new) (c.write_path.ensures.between honest))
 
 pub returns-clause-folders : goal.returns-clause-folders
 returns-clause-folders g c = λ honest stored.

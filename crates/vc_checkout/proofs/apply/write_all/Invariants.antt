@@ -11,6 +11,8 @@ use Rattle.vc_checkout.proofs.apply.write_all.Given as goal
 
 abbrev pub invariant-loop-path : goal.invariant-loop-path
 invariant-loop-path g l = record {
+  old : l.old ≡ l.index;
+  new : l.new ≡ l.tree;
   working : g.T.WorkTree.honest → g.F.Files.honest → Working (λ q. IsWritten (objects (g.F.Files.content l.fn.files)) (get l.index q) (get l.tree q)) (g.T.WorkTree.content l.fn.work) (g.T.WorkTree.content l.work) (map (λ e. e.0.items) l.path-iterator);
   making : g.T.WorkTree.honest → g.F.Files.honest → Making l.index l.tree (g.T.WorkTree.content l.fn.work) (g.T.WorkTree.folders l.fn.work) (g.T.WorkTree.content l.work) (g.T.WorkTree.folders l.work) (map (λ e. e.0.items) l.path-iterator);
   between : g.T.WorkTree.honest → AreBetween (g.T.WorkTree.content l.work) (g.T.WorkTree.folders l.work) (λ d. IsFolder (g.T.WorkTree.content l.fn.work) (g.T.WorkTree.folders l.fn.work) d × (GivesWayBy l.index l.tree d → ⊥)) (λ d. IsFolder (g.T.WorkTree.content l.fn.work) (g.T.WorkTree.folders l.fn.work) d ⊎ IsMadeBy l.index l.tree d);

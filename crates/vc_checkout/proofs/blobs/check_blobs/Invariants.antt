@@ -11,6 +11,8 @@ use Rattle.vc_checkout.proofs.blobs.check_blobs.Given as goal
 
 abbrev pub invariant-loop-path : goal.invariant-loop-path
 invariant-loop-path g l = record {
+  old : l.old ≡ l.index;
+  new : l.new ≡ l.tree;
   sorted : IsStrictlySortedBy (slice_cmp nat_cmp) (map (λ e. e.0.items) l.path-iterator);
   blobs : g.F.Files.honest → Holds (λ q. HasDueBlob (objects (g.F.Files.content l.fn.files)) (get l.index q) (get l.tree q)) (map (λ e. e.0.items) l.path-iterator);
   same : g.F.Files.content l.files ≡ g.F.Files.content l.fn.files;

@@ -13,6 +13,8 @@ abbrev pub invariant-loop-path : goal.invariant-loop-path
 invariant-loop-path g l = record {
   can : (goal.iterator-loop-path g).can_next l.path-iterator;
   finite : (goal.iterator-loop-path g).is_finite l.path-iterator;
+  old : l.old ≡ l.index;
+  new : l.new ≡ l.tree;
   sorted : IsStrictlySortedBy (slice_cmp nat_cmp) (map (λ k. k.items) l.path-iterator);
   clear : g.T.WorkTree.honest → Holds (IsClear l.index l.tree (g.T.WorkTree.content l.fn.work)) (map (λ k. k.items) l.path-iterator);
   text : Holds (λ path. IsDue (get l.index path) (get l.tree path) → IsUtf8 path) (map (λ k. k.items) l.path-iterator);

@@ -11,6 +11,8 @@ loop-path-init g c =
     record {
       can = tt;
       finite = tt;
+      staged = search rules;
+      listed = search rules;
       so_far = λ honest. status_start c.args.tree.now c.args.index.now (g.T.WorkTree.content c.args.work.now) _ _ (ap (map seen) c.new-changes.ensures.items)
           (set_sorted c.into_iter-path-iterator.result (rw keys c.into_iter-path-iterator.ensures.into_iter_gives.4))
           (all_listed c.into_iter-path-iterator.result c.in_ok-paths.paths c.in_ok-untracked.untracked c.args.index.now c.args.tree.now (g.T.WorkTree.content c.args.work.now) keys c.in_ok-paths.ensures (c.in_ok-untracked.ensures.untracked honest));
@@ -24,11 +26,13 @@ loop-path-preserved-in_default g c =
     record {
       can = tt;
       finite = tt;
+      staged = search rules;
+      listed = search rules;
       so_far = λ honest.
           let work = g.T.WorkTree.content c.args.work.now in
           let path = c.deref.result.now in
           let none : c.in_ok-change.field-0 ≡ None = search rules in
-          let told = subst (λ (w : FileMap). IsChangeAt c.args.tree.now c.args.index.now w path c.in_ok-change.field-0) c.loop-path.invariant.same (c.in_ok-change.ensures.change honest) in
+          let told = subst (λ (w : FileMap). IsChangeAt c.args.tree.now c.args.index.now w path c.in_ok-change.field-0) c.loop-path.invariant.same (rw (← c.loop-path.invariant.staged, ← c.loop-path.invariant.listed) (c.in_ok-change.ensures.change honest)) in
           let first : map (λ k. k.items) c.loop-path.path-iterator ≡ path ∷ map (λ k. k.items) c.next.new.self = search rules in
           status_same c.args.tree.now c.args.index.now work _ _ _ path first (subst (IsChangeAt c.args.tree.now c.args.index.now work path) none told) (c.loop-path.invariant.so_far honest);
       same = search rules;
@@ -41,12 +45,14 @@ loop-path-preserved g c =
     record {
       can = tt;
       finite = tt;
+      staged = search rules;
+      listed = search rules;
       so_far = λ honest.
           let work = g.T.WorkTree.content c.args.work.now in
           let path = c.deref.result.now in
           let change = c.in-Some-2.change in
           let some : c.in_ok-change.field-0 ≡ Some change = search rules in
-          let told = subst (λ (w : FileMap). IsChangeAt c.args.tree.now c.args.index.now w path c.in_ok-change.field-0) c.loop-path.invariant.same (c.in_ok-change.ensures.change honest) in
+          let told = subst (λ (w : FileMap). IsChangeAt c.args.tree.now c.args.index.now w path c.in_ok-change.field-0) c.loop-path.invariant.same (rw (← c.loop-path.invariant.staged, ← c.loop-path.invariant.listed) (c.in_ok-change.ensures.change honest)) in
           let at = subst (IsChangeAt c.args.tree.now c.args.index.now work path) some told in
           let first : map (λ k. k.items) c.loop-path.path-iterator ≡ path ∷ map (λ k. k.items) c.next.new.self = search rules in
           status_more c.args.tree.now c.args.index.now work (map seen c.loop-path.changes.items) (map seen c.push.new.self.items) _ _ (seen change) (first ∙ ap (λ (p : List ℕ). p ∷ map (λ k. k.items) c.next.new.self) (sym at.0))
