@@ -1,5 +1,5 @@
 -- The step of the loop that gathers the parents of some commits.
-use Rattle.std.proofs.Common.{◌≡◌, ℕ, ◌+◌, ◌<◌, Bool, true, false, not, cond, ⊎_elim, List, [], ◌∷◌, ◌++◌, length, get_or, take, filter, Option, Some, Contains, ◌↔◌, Result, Ok, Err, IfErr, IsErrAnd, sym, ap, subst, ◌∙◌, refl, true≢false, arith}
+use Rattle.std.proofs.Common.{◌≡◌, ℕ, ◌+◌, ◌<◌, Bool, true, false, not, cond, ⊎_elim, List, [], ◌∷◌, ◌++◌, length, get_or, take, filter, Option, Some, Contains, ◌↔◌, sym, ap, subst, ◌∙◌, refl, true≢false, arith}
 use Rattle.std.proofs.lemmas.List.{take_more}
 use Rattle.std.proofs.lemmas.List.Elements.{All-contains, All-filter, All-contains_itself, filter_passes, Contains-append_left, Contains-append_right, Contains-append_cases, Contains-push, Contains-push_cases}
 use Rattle.std.specs.Cmp.{IsEquivalence}
@@ -9,9 +9,6 @@ use Rattle.vc_graph.proofs.WalkLemmas.{Contains-insert_all_cases, Contains-inser
 use Rattle.vc_base.specs.Passed.{IsPassed}
 use Rattle.vc_base.specs.Walk.{graph_read, parents_read}
 use Rattle.vc_object.specs.declared.id.ObjectId.{ObjectId}
-use Rattle.vc_base.specs.declared.fault.BaseFault.{BaseFault}
-use Rattle.vc_base.specs.declared.fault.BaseFault.TheVariants.{Store}
-use Rattle.vc_store.specs.declared.faults.StoreFault.{StoreFault}
 
 module _ {X : Type 0} (test : X → Bool) where
   pub Contains-from_filter : (xs : List X) (x : X) → Contains (filter test xs) x → Contains xs x × (test x ≡ true)
@@ -80,11 +77,6 @@ module _ {Id : Type 0} (parents : Id → Option (List Id)) (eq : Id → Id → B
           apart : (b : Bool) → eq p id ≡ b → id ≡ h.child → not (eq p id) ≡ true
           apart true e is = absurd (h.differs (sym is ∙ sym (same p id e)))
           apart false e is = ap not e
-
--- what holds of a store's fault holds of the fault that `?` makes of it
-pub IfErr-store : {A : Type 0} (Q : BaseFault → Type 0) (r : Result A BaseFault) (fault : StoreFault) → IsErrAnd r (λ e. e ≡ Store fault) → Q (Store fault) → IfErr r Q
-IfErr-store Q (Ok v) fault h q = tt
-IfErr-store Q (Err e) fault h q = subst Q (sym h) q
 
 -- the links of what was read are the parents that were read
 pub LinksTo-graph_read : (met : List ObjectId) (read : List (List ObjectId)) (x y : ObjectId) (own : List ObjectId) → own ≡ parents_read met read x → Contains own y ↔ LinksTo (graph_read met read) x y

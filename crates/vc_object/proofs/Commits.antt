@@ -146,9 +146,6 @@ module _ (bytes b w d n r : List ℕ) (object : ObjectId) (k : Kind) where
   unfolding made_tag tag_of
   tag_steps x y k z some = rw (x, y, k, z, some) refl
 
-same_tag : (bytes : List ℕ) (c d : TagText) → Some c ≡ Some d → ReadsTag bytes c → ReadsTag bytes d
-same_tag bytes c d e h = subst (λ (x : TagText). ReadsTag bytes x) (ap (λ o. unwrap_or {T = TagText} o c) e) h
-
 some_name : (n : List ℕ) → (length n == 0) ≡ false → n ≢ []
 some_name n e z = true≢false (sym (ap (λ x. length x == 0) z) ∙ e)
 

@@ -1,6 +1,6 @@
 -- Bodies cut into data lines. The bound is a variable: a tactic would count a numeral down.
 use Rattle.std.proofs.Common.{◌≡◌, ◌≢◌, ℕ, ◌-◌, ◌<◌, ◌≤◌, min, List, [], ◌∷◌, ◌++◌, length, take, drop, refl, ap, sym, ◌∙◌, subst, arith, append_assoc, length-drop}
-use Rattle.std.proofs.lemmas.List.{append-nil, take-append-drop, length-take, take_min, drop_min, take_at}
+use Rattle.std.proofs.lemmas.List.{append-nil, take-append-drop, length-take, take_min, drop_min}
 use Rattle.std.specs.List.{AllByRecursion, flat_map}
 use Rattle.vc_pkt.specs.Line.{text, spelling, IsWritable}
 use Rattle.vc_pkt.specs.ObjectStream.{IsData}
@@ -64,10 +64,6 @@ done old out body e = e
 pub positive : (xs : List ℕ) → (xs ≡ [] → ⊥) → 0 < length xs
 positive [] h = absurd (h refl)
 positive (b ∷ bs) h = omega arith
-
--- what was written stays in front
-pub front_stays : (old now : List ℕ) → (more : List ℕ) × (now ≡ old ++ more) → take (length old) now ≡ old
-front_stays old now (more, e) = ap (take (length old)) e ∙ take_at old more (length old) refl
 
 pub grown_twice : (old now new : List ℕ) → (more : List ℕ) × (now ≡ old ++ more) → (more : List ℕ) × (new ≡ now ++ more) → (more : List ℕ) × (new ≡ old ++ more)
 grown_twice old now new (a, e) (b, f) = (a ++ b, f ∙ ap (λ t. t ++ b) e ∙ append_assoc old a b)

@@ -58,10 +58,6 @@ splits_line bytes (m ∷ ms) r l a more s la e =
     let h0 = head.0 in
     (ms, cc, record { front = each.1; each = each.3; part = s.part; whole = sym head.2 })
 
--- where less than a line is held no line waits
-pub splits_part : (bytes : List ℕ) (ls : List LineText) (r : List ℕ) → IsLineList bytes ls r → IsPart bytes → (ls ≡ []) × (r ≡ bytes)
-splits_part bytes ls r s p = splits_once bytes ls [] r bytes s (record { front = []; each = refl; part = p; whole = refl })
-
 -- a bad length isn't at the front of a line list
 pub splits_front : (bytes : List ℕ) (ls : List LineText) (r : List ℕ) → IsLineList bytes ls r → IsBad bytes → ⊥
 splits_front bytes ls r s b = splits_no_bad bytes ls r 0 s (record { lines = []; front = []; more = bytes; each = refl; bad = b; whole = refl; here = refl })

@@ -1,13 +1,14 @@
 -- What a text of packed refs stands for has legal names in `refs/` and whole ids: for those who hold the text alone.
-use Rattle.std.proofs.Common.{◌≡◌, ◌<◌, ◌==◌, ℕ, suc, Bool, true, false, nat_lt, List, [], ◌∷◌, length, Option, Some, None, Result, Ok, Err, sym, ap, refl, ◌∙◌, subst, arith, rules}
+use Rattle.std.proofs.Common.{◌≡◌, ◌<◌, ◌==◌, ℕ, Bool, true, false, nat_lt, List, [], ◌∷◌, length, Option, Some, None, Result, Ok, Err, sym, ap, refl, ◌∙◌, subst, arith, rules}
 use Rattle.std.specs.Prelude.{codes, option_map, option_and_then, if◌then◌else◌}
 use Rattle.std.specs.FinMap.{entries, from_entries, get, get-entries}
 use Rattle.std.specs.List.{list_all}
 use Rattle.std.specs.Result.{result_ok}
-use Rattle.std.proofs.lemmas.Bool.{and_from, and_parts, eq-eqb}
+use Rattle.std.proofs.lemmas.Bool.{and_from, and_parts}
 use Rattle.hex.specs.declared.error.FromHexError.{FromHexError}
-use Rattle.hex.specs.Hex.{decode_sized, IsBytes}
+use Rattle.hex.specs.Hex.{decode_sized}
 use Rattle.hex.proofs.HexLemmas.{decode_of-ok, decode_sized-ok, decode_sized-twice}
+use Rattle.vc_object.proofs.IdLemmas.{is_id-from_array}
 use Rattle.vc_object.proofs.Items.{bind_some}
 use Rattle.vc_object.specs.Lines.{after_word, split, IsId}
 use Rattle.vc_object.specs.ObjectId.{is_id}
@@ -16,13 +17,6 @@ use Rattle.vc_refs.specs.Packed.{PackedMap, PackedRef, IsPackedMap, hex_id, is_c
 use Rattle.vc_refs.specs.RefFile.{id_in, id_of, without_lf}
 use Rattle.vc_refs.proofs.PackedLemmas.{all_found, from_entries-IsPackedMap, packed_name-valid}
 use Rattle.vc_refs.proofs.RefFileLemmas.{all_bytes}
-
-all_from_bytes : (xs : List ℕ) → IsBytes xs → list_all (λ b. nat_lt b 256) xs ≡ true
-all_from_bytes [] h = refl
-all_from_bytes (x ∷ xs) h =
-    let here : x < 256 = h 0 in
-    let first : nat_lt x 256 ≡ true = search rules in
-    and_from (nat_lt x 256) (list_all (λ b. nat_lt b 256) xs) first (all_from_bytes xs (λ i. h (suc i)))
 
 same_id : (bytes : List ℕ) (id : ObjectId) → Some (id_of bytes) ≡ Some id → bytes ≡ id.0
 same_id bytes id e = cc e
@@ -37,7 +31,7 @@ hex_id-valid digits id e = by (decode_sized digits 20) refl e
         let read = decode_of-ok digits bytes (sym (decode_sized-twice digits 20 long) ∙ is) in
         let size : length bytes ≡ 20 = omega (arith, long, read.2) in
         subst (λ (b : List ℕ). is_id (id_of b) ≡ true → is_id id ≡ true) (sym (same_id bytes id found)) (λ h. h)
-        (and_from (length bytes == 20) (list_all (λ b. nat_lt b 256) bytes) (eq-eqb (length bytes) 20 size) (all_from_bytes bytes read.3))
+        (is_id-from_array (id_of bytes) size (λ i. let small = read.3 i in search rules))
     by (Err x) is found = absurd (cc found)
 
 same_ref : (ref found : PackedRef) → Some ref ≡ Some found → ref ≡ found

@@ -78,11 +78,6 @@ module _ (done : List PackedRef) where
   pub lines-end : (behind : Bool) → behind_refs (refs_in behind []) ≡ Some done
   lines-end behind = ap Some (append-nil done)
 
--- nothing is done
-pub lines-start : (rest : Option (List PackedRef)) → option_map (λ (refs : List PackedRef). refs) rest ≡ rest
-lines-start None = refl
-lines-start (Some refs) = refl
-
 pub all_more : (done : List PackedRef) (ref : PackedRef) → list_all may_be_packed done ≡ true → may_be_packed ref ≡ true → list_all may_be_packed (done ++ ref ∷ []) ≡ true
 all_more done ref all one = list_all-append may_be_packed done (ref ∷ []) ∙ and_from _ _ all (and_from _ _ one refl)
 

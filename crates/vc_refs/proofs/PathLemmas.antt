@@ -19,10 +19,6 @@ use Rattle.vc_files.specs.FileMap.{FileMap, paths_under}
 abbrev path_cmp : List ℕ → List ℕ → Ordering
 path_cmp = slice_cmp nat_cmp
 
-pub is_true : (b : Bool) → T b → b ≡ true
-is_true true h = refl
-is_true false h = absurd h
-
 front : (a b : Bool) → T (a && b) → T a
 front true b p = tt
 front false b p = p

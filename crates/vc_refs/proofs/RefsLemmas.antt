@@ -189,14 +189,6 @@ taken_from_ref content q h =
     let parts = ref_taken (is_ref q) (files.get content q) h in
     and_from (starts_with nat_eq q (codes "refs/")) (is_some (files.get content q)) (and_parts (is_ref_name q) (starts_with nat_eq q (codes "refs/")) parts.0).1 parts.1
 
-none_from : {A : Type 0} (o : Option A) → (is_some o ≡ true → ⊥) → o ≡ None
-none_from None not = refl
-none_from (Some x) not = absurd (not refl)
-
--- where no file is, no ref is
-pub loose-untaken : (content : FileMap) (q : List ℕ) → is_taken content q ≡ false → loose_refs content q ≡ None
-loose-untaken content q free = none_from (loose_refs content q) (λ some. let is : is_taken content q ≡ true = taken_from_ref content q some in cc)
-
 -- what one look at a path gave
 pub entry_parts : (map : RefMap) (path name : List ℕ) (id : ObjectId) → ◌≡◌ {A = Option (List ℕ × ObjectId)} (Some (name, id)) (entry_at map path) → (name ≡ path) × (map path ≡ Some id)
 entry_parts map path name id = by (map path)

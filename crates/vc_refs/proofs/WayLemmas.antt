@@ -84,9 +84,6 @@ or_right false b h = h
 pub record NoneShorter (content : FileMap) (name : List ℕ) (i : ℕ) : Type 0 where
   pub at : (k : ℕ) → 5 ≤ k → k < i → get_or name k 0 ≡ 47 → is_some (files.get content (take k name)) ≡ false
 
-pub none_shorter_yet : (content : FileMap) (name : List ℕ) → NoneShorter content name 5
-none_shorter_yet content name = record { at = λ k long short _. absurd (omega arith) }
-
 -- a folder that holds a file is not among those
 folder_is_longer : (content : FileMap) (name q : List ℕ) (i : ℕ) → NoneShorter content name i → is_taken content q ≡ true → (rest : List ℕ) → name ≡ q ++ 47 ∷ rest → length q < i → ⊥
 folder_is_longer content name q i none is rest whole short =

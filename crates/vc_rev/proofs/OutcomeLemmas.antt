@@ -14,11 +14,6 @@ pub next_bad : {A B : Type 0} (source : List ℕ) (First : Outcome A → Type 0)
 next_bad source First next a rest (faults.BadSyntax place) r f = (f.0, (Read a rest, r, f.1), f.2)
 next_bad source First next a rest faults.Memory r f = tt
 
--- a fault of one reading is that of another of the same outcomes
-pub fault_weaker : {A B : Type 0} (source : List ℕ) (P : Outcome A → Type 0) (Q : Outcome B → Type 0) (e : ParseFault) → ((rest : List ℕ) → P (Bad rest) → Q (Bad rest)) → FaultAt source P e → FaultAt source Q e
-fault_weaker source P Q (faults.BadSyntax place) go f = (f.0, go f.0 f.1, f.2)
-fault_weaker source P Q faults.Memory go f = tt
-
 onward_same : {A B : Type 0} (next : A → List ℕ → Outcome B → Type 0) (f : Outcome A) (o p : Outcome B) → ((a : A) (rest : List ℕ) (x y : Outcome B) → next a rest x → next a rest y → x ≡ y) → Onward next o f → Onward next p f → o ≡ p
 onward_same next (Read a rest) o p same n m = same a rest o p n m
 onward_same next (Bad rest) o p same n m = n ∙ sym m

@@ -1,6 +1,6 @@
 -- Ends of a source, and slices of it.
-use Rattle.std.proofs.Common.{◌≡◌, ◌⊎◌, inl, inr, ℕ, ◌+◌, ◌-◌, codes, List, [], ◌∷◌, ◌++◌, length, take, drop, refl, sym, ap, subst, ◌∙◌, append_assoc, arith}
-use Rattle.std.proofs.lemmas.List.{length-append, take_at, drop_at}
+use Rattle.std.proofs.Common.{◌≡◌, ◌⊎◌, inl, inr, ℕ, ◌+◌, ◌-◌, codes, List, [], ◌∷◌, ◌++◌, length, take, refl, sym, ap, subst, ◌∙◌, append_assoc, arith}
+use Rattle.std.proofs.lemmas.List.{length-append, take_at}
 use Rattle.vc_rev.specs.Grammar.{IsStep, IsPlainPath}
 use Rattle.vc_rev.specs.Views.{IsEnd, StandsSteps}
 use Rattle.vc_rev.specs.declared.token.StepToken.{StepToken}
@@ -12,11 +12,6 @@ end_on source text front rest i e = (i.0 ++ front, i.1 ∙ ap (λ t. i.0 ++ t) e
 
 pub end_short : (source text : List ℕ) (i : IsEnd text source) → length source ≡ length i.0 + length text
 end_short source text i = ap length i.1 ∙ length-append i.0 text
-
-pub drop_end : (source text : List ℕ) → IsEnd text source → drop (length source - length text) source ≡ text
-drop_end source text i =
-    let sized : length i.0 ≡ length source - length text = omega (arith, end_short source text i) in
-    ap (λ s. drop (length source - length text) s) i.1 ∙ drop_at i.0 text (length source - length text) sized
 
 pub front_taken : (text a rest : List ℕ) → text ≡ a ++ rest → take (length text - length rest) text ≡ a
 front_taken text a rest e =

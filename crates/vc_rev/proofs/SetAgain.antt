@@ -130,10 +130,6 @@ two_dots (b ∷ bs) n =
     let three : starts_with nat_eq (codes ".." ++ (b ∷ bs)) (codes "...") ≡ false = no_front (codes ".." ++ (b ∷ bs)) (codes "...") (λ rest e. let same : b ≡ 46 = cc e in true≢false (rw same at n)) in
     rw three refl
 
-dots_again : (dots : Dots) (t : List ℕ) → NoDot t → dots_at (dots_text dots ++ t) ≡ Some (dots, t)
-dots_again Two t n = two_dots t n
-dots_again Three t n = refl
-
 dots_behind : (dots : Dots) (t : List ℕ) → NoDot t → behind_at (dots_text dots ++ t) ≡ UpTo dots t
 dots_behind Two t n = rw (two_dots t n) refl
 dots_behind Three t n = refl

@@ -53,10 +53,6 @@ pub ancestor_some : (s : Source) (n : ℕ) (x : ObjectId) (answer : Answer) → 
 ancestor_some s zero x answer some h = absurd (some refl)
 ancestor_some s (suc n) x answer some h = h
 
-pub ancestor_none : (s : Source) (n : ℕ) (x : ObjectId) (answer : Answer) → n ≡ 0 → PicksFrom s (steps.Parent 0) x answer → AncestorGives s n x answer
-ancestor_none s zero x answer e h = h
-ancestor_none s (suc n) x answer e h = absurd (omega arith)
-
 -- what a step tells is told of all steps
 pub steps_told : (s : Source) (Blames : Question → SourceFault → Type 0) (xs : List StepToken) (i : ℕ) (d : StepToken) (x start : ObjectId) (e : RevFault) → i < length xs → ((question : Question) → StepsAsk s (map (λ (t : StepToken). t.step) (drop i xs)) x question → StepsAsk s (map (λ (t : StepToken). t.step) xs) start question)
     → ((answer : Answer) → StepsGive s (map (λ (t : StepToken). t.step) (drop i xs)) x answer → StepsGive s (map (λ (t : StepToken). t.step) xs) start answer) → IsTold Blames (StepAsks s (get_or xs i d).step x) (StepGives s (get_or xs i d).step x) e → IsTold Blames (StepsAsk s (map (λ (t : StepToken). t.step) xs) start) (StepsGive s (map (λ (t : StepToken). t.step) xs) start) e
@@ -65,10 +61,6 @@ steps_told s Blames xs i d x start e lt asked go t =
     (λ question h. asked question (subst (λ (ts : List StepToken). StepsAsk s (map (λ (u : StepToken). u.step) ts) x question) (sym (drop_more xs i d lt)) (inl h)))
     (λ r h. go (Err r) (subst (λ (ts : List StepToken). StepsGive s (map (λ (u : StepToken). u.step) ts) x (Err r)) (sym (drop_more xs i d lt)) (Err r, h, refl))) t
 
--- what is asked behind a step is asked from it on
-pub steps_asked : (s : Source) (xs : List StepToken) (i : ℕ) (d : StepToken) (x y : ObjectId) (question : Question) → i < length xs → StepGives s (get_or xs i d).step x (Ok y) → StepsAsk s (map (λ (t : StepToken). t.step) (drop (i + 1) xs)) y question → StepsAsk s (map (λ (t : StepToken). t.step) (drop i xs)) x question
-steps_asked s xs i d x y question lt gives h = subst (λ (ts : List StepToken). StepsAsk s (map (λ (u : StepToken). u.step) ts) x question) (sym (drop_more xs i d lt)) (inr (y, gives, h))
-
 -- what a component tells is told of all components
 pub entries_told : (s : Source) (Blames : Question → SourceFault → Type 0) (xs : List (Bor (List ℕ))) (i : ℕ) (d : Bor (List ℕ)) (mode : Mode) (x : ObjectId) (start : Mode) (tree : ObjectId) (e : RevFault) → i < length xs → ((question : Question) → EntryAsks s (map (λ (t : Bor (List ℕ)). t.now) (drop i xs)) mode x question → EntryAsks s (map (λ (t : Bor (List ℕ)). t.now) xs) start tree question)
     → ((answer : Answer) → EntryGives s (map (λ (t : Bor (List ℕ)). t.now) (drop i xs)) mode x answer → EntryGives s (map (λ (t : Bor (List ℕ)). t.now) xs) start tree answer) → IsTold Blames (ChildAsks mode x) (λ a. a ≡ child_at s (get_or xs i d).now mode x) e → IsTold Blames (EntryAsks s (map (λ (t : Bor (List ℕ)). t.now) xs) start tree) (EntryGives s (map (λ (t : Bor (List ℕ)). t.now) xs) start tree) e
@@ -76,10 +68,6 @@ entries_told s Blames xs i d mode x start tree e lt asked go t =
     told_same Blames (ChildAsks mode x) (EntryAsks s (map (λ (u : Bor (List ℕ)). u.now) xs) start tree) (λ a. a ≡ child_at s (get_or xs i d).now mode x) (EntryGives s (map (λ (u : Bor (List ℕ)). u.now) xs) start tree) e
     (λ question h. asked question (subst (λ (ts : List (Bor (List ℕ))). EntryAsks s (map (λ (u : Bor (List ℕ)). u.now) ts) mode x question) (sym (drop_more xs i d lt)) (inl h)))
     (λ r h. go (Err r) (subst (λ (ts : List (Bor (List ℕ))). EntryGives s (map (λ (u : Bor (List ℕ)). u.now) ts) mode x (Err r)) (sym (drop_more xs i d lt)) (Err r, h, refl))) t
-
--- what is asked behind a component is asked from it on
-pub entries_asked : (s : Source) (xs : List (Bor (List ℕ))) (i : ℕ) (d : Bor (List ℕ)) (mode : Mode) (x : ObjectId) (child : Mode × ObjectId) (question : Question) → i < length xs → child_at s (get_or xs i d).now mode x ≡ Ok child → EntryAsks s (map (λ (t : Bor (List ℕ)). t.now) (drop (i + 1) xs)) child.0 child.1 question → EntryAsks s (map (λ (t : Bor (List ℕ)). t.now) (drop i xs)) mode x question
-entries_asked s xs i d mode x child question lt gives h = subst (λ (ts : List (Bor (List ℕ))). EntryAsks s (map (λ (u : Bor (List ℕ)). u.now) ts) mode x question) (sym (drop_more xs i d lt)) (inr (child, sym gives, h))
 
 -- one more first parent is asked for
 pub parents_asked : (s : Source) (n : ℕ) (x y : ObjectId) (question : Question) → n ≢ 0 → PicksFrom s (steps.Parent 1) x (Ok y) → FirstParentsAsk s (n - 1) y question → FirstParentsAsk s n x question
@@ -93,7 +81,3 @@ parents_asked-first s (suc n) x question some h = inl h
 pub ancestor_asked : (s : Source) (n : ℕ) (x : ObjectId) (question : Question) → n ≢ 0 → FirstParentsAsk s n x question → AncestorAsks s n x question
 ancestor_asked s zero x question some h = absurd (some refl)
 ancestor_asked s (suc n) x question some h = h
-
-pub ancestor_asked-none : (s : Source) (n : ℕ) (x : ObjectId) (question : Question) → n ≡ 0 → PeelingAsks s x question → AncestorAsks s n x question
-ancestor_asked-none s zero x question e h = h
-ancestor_asked-none s (suc n) x question e h = absurd (omega arith)

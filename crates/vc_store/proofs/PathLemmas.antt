@@ -17,6 +17,7 @@ use Rattle.std.proofs.lemmas.Bool.Decides.{nat_tests}
 use Rattle.hex.specs.declared.error.FromHexError.{FromHexError}
 use Rattle.hex.specs.Hex.{encode_lower, encode_with, lower_digits, decode_sized, IsBytes}
 use Rattle.hex.proofs.HexLemmas.{decode_of-ok, decode_sized-twice, decode_sized-ok, decode_sized-encode_lower, length-encode_with}
+use Rattle.vc_object.proofs.IdLemmas.{is_id-from_array}
 use Rattle.vc_object.specs.ObjectId.{is_name, is_id}
 use Rattle.vc_object.specs.declared.id.ObjectId.{ObjectId}
 use Rattle.vc_store.specs.Store.{object_path, name_in, digits_in, prefix_path, has_digits}
@@ -35,15 +36,8 @@ is_name-bytes name h = bytes_from_all name (and_parts (length name == 20) (list_
 is_name-length : (name : List ℕ) → is_name name ≡ true → length name ≡ 20
 is_name-length name h = eqb-true (length name) 20 (and_parts (length name == 20) (list_all (λ b. nat_lt b 256) name) h).0
 
-all_from_bytes : (xs : List ℕ) → IsBytes xs → list_all (λ b. nat_lt b 256) xs ≡ true
-all_from_bytes [] h = refl
-all_from_bytes (x ∷ xs) h =
-    let here : x < 256 = h 0 in
-    let first : nat_lt x 256 ≡ true = search rules in
-    and_from (nat_lt x 256) (list_all (λ b. nat_lt b 256) xs) first (all_from_bytes xs (λ i. h (suc i)))
-
 is_name-from : (name : List ℕ) → length name ≡ 20 → IsBytes name → is_name name ≡ true
-is_name-from name long bytes = and_from (length name == 20) (list_all (λ b. nat_lt b 256) name) (eq-eqb (length name) 20 long) (all_from_bytes name bytes)
+is_name-from name long bytes = let id : ObjectId = record { 0 = name } in is_id-from_array id long (λ i. let small = bytes i in search rules)
 
 abbrev placed : List ℕ → List ℕ → Option ObjectId
 placed path name = if bytes_eq (object_path name) path then Some (record { 0 = name }) else None

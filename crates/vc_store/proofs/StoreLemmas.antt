@@ -129,13 +129,6 @@ outside-put content name bytes = outside_put (codes "objects/") content (object_
 no_ref : (q : List ℕ) → starts_with nat_eq (object_path q) (codes "refs/") ≡ false
 no_ref q = refl
 
--- what changes refs alone keeps the objects
-kept_at : (old new : FileMap) → SameOutside (codes "refs/") old new → (q : ObjectId) → objects new q ≡ objects old q
-kept_at old new same q = same_at old new q (λ _. same.at (object_path q.0) (no_ref q.0))
-
-pub objects-kept : (old new : FileMap) → SameOutside (codes "refs/") old new → objects new ≡ objects old
-objects-kept old new same i q = kept_at old new same q i
-
 -- ---- what a put does to the files
 
 named_no_absence : (id : ObjectId) (object : StoredObject) (b : Bool) → ◌≡◌ {A = Result StoredObject StoreFault} (cond b (Ok object) (Err (Damaged id))) (Err (Absent id)) → ⊥

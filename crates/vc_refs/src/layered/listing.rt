@@ -8,8 +8,8 @@ ghost use Rattle.vc_refs.specs.RefFault.{BlamesList};
 ghost use Rattle.vc_refs.specs.Refs.{is_taken, loose_refs, refs, IsBadLoose, SpellsRefs};
 ghost use Rattle.vc_refs.specs.RefMap.{IsListOf};
 
-use super::getting::get;
-use super::packed_file::read_packed;
+use super::getting::get_with;
+use super::packed_file::{PackedCache, read_packed};
 use crate::loose::name_at;
 use crate::{PackedRefs, RefFault};
 use std::alloc::Global;
@@ -45,18 +45,20 @@ pub(super) fn all_refs<F: Files>(
     ensures wear { Wears F.failed F.can_fail F.left files.old files.new (IsErrOf result (RefFault.Fault Fault.Device)) }
 {
     let mut refs = read_packed(files, alloc)?;
+    let mut packed = PackedCache::new(alloc);
     for path in paths {
-        add_loose(files, alloc, path.as_str(), &mut refs)?;
+        add_loose(files, alloc, path.as_str(), &mut packed, &mut refs)?;
     }
     Ok(refs)
 }
 
 // Puts the ref whose file has this path over the packed one. Where another process packs the refs meanwhile, the file may be
-// gone since it was listed: the packed file, read anew, has the ref then.
+// gone since it was listed: the packed file, read anew, has the ref then. What was so read is kept in `packed`.
 fn add_loose<F: Files>(
     files: &mut F,
     alloc: Global,
     path: &str,
+    packed: &mut PackedCache,
     merged: &mut PackedRefs,
 ) -> Result<(), RefFault>
     ensures added { F.honest → is_taken (F.content files.old) path.now ≡ true → OnOk result (merged.new ≡ with_loose merged.old path.now (loose_refs (F.content files.old) path.now)) }
@@ -68,7 +70,7 @@ fn add_loose<F: Files>(
     let Some(name) = name_at(alloc, path)? else {
         return Err(RefFault::BadRefFile(String::from_str(alloc, path)?));
     };
-    let Some(id) = get(files, alloc, &name)? else {
+    let Some(id) = get_with(files, alloc, packed, &name)? else {
         return Ok(());
     };
     merged.insert(name, id)?;

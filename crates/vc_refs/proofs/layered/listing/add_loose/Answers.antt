@@ -20,8 +20,8 @@ returns-in_default-clause-refused g c = λ honest taken.
     let other : is_ref c.args.path.now ≡ false = no_named_ref c.args.path.now (rw c.in_default.is at c.in_ok-name.ensures) in
     (search rules, loose-none _ _ other)
 
-pub get-requires : goal.get-requires
-get-requires g c =
+pub get_with-requires : goal.get_with-requires
+get_with-requires g c =
     let named = named_ref c.args.path.now c.in-Some.name (rw c.in-Some.is at c.in_ok-name.ensures) in
     subst IsInRefs (sym named.0) (and_parts (is_ref_name c.args.path.now) (starts_with nat_eq c.args.path.now (codes "refs/")) named.1).1
 
