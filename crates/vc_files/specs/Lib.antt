@@ -3,4 +3,3 @@ pub mod FailingOnce
 pub mod FileMap
 pub mod Fused
 pub mod Memory
-pub mod Outcome

@@ -1,4 +1,4 @@
--- How far an index was read: the files so far, the last path, and the files whose paths that begins with.
+-- How far an index was read: the files so far, the path of the last one, and those with whose paths it begins.
 use Rattle.std.specs.Prelude.{◌≡◌, ◌⊎◌, ℕ, Bool, false, bytes_eq, List, [], ◌++◌, map, Vec, IsSome, IsTrue}
 use Rattle.std.specs.FinMap.{empty, entries, from_entries, get, insert}
 use Rattle.std.specs.Global.{Global}
@@ -42,8 +42,8 @@ IsFront front path = (rest : List ℕ) × (path ≡ front ++ rest)
 abbrev pub has_front : List (List ℕ) → List ℕ → Bool
 has_front fronts path = list_any (λ front. bytes_eq front path) fronts
 
--- an index whose files come not behind the last path, which is one of them or empty where there is none; the fronts are
--- files of it, and each file is one of them that the last path begins with
+-- an index of which no file comes behind the last path, which is one of its files, or empty where it has none; the fronts
+-- are its files, and each of its files with which the last path begins is one of the fronts
 pub record IsReadTo (m : IndexMap) (last : List ℕ) (fronts : List (List ℕ)) : Type 0 where
   pub sound : IsIndex m
   pub below : AllByRecursion (λ (e : List ℕ × IndexEntry). is_gt (slice_cmp nat_cmp e.0 last) ≡ false) (entries m)

@@ -62,15 +62,6 @@ ReadsIn look objects root (Err fault) = (passed : List Pair) × MeetsFaultIn loo
 
 -- ---- where all that the entries name is looked for
 
-abbrev pub HasFault : ObjectMap → Pair → TreeFault → Type 0
-HasFault objects e fault = HasFaultIn looks.All objects e fault
-
-abbrev pub IsSoundEntry : ObjectMap → Pair → Type 0
-IsSoundEntry objects e = IsSoundIn looks.All objects e
-
-abbrev pub MeetsFault : ObjectMap → (passed : List Pair) → (entries : List Pair) → TreeFault → Type 0
-MeetsFault objects passed entries fault = MeetsFaultIn looks.All objects passed entries fault
-
 abbrev pub IsComplete : ObjectMap → ObjectId → Type 0
 IsComplete objects root = IsCompleteIn looks.All objects root
 

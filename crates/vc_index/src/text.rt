@@ -1,13 +1,11 @@
 // The text of an index, read and written.
 ghost use Rattle.std.specs.Prelude.{◌≡◌, ◌++◌, ◌∷◌, ◌↔◌, ℕ, true, codes, OnOk, IfOk, IfErr, IfSome, IsTrue, MatchOption, option_map};
 ghost use Rattle.vc_object.specs.Bytes.{cut};
-ghost use Rattle.vc_object.specs.Lines.{lower_id};
 ghost use Rattle.vc_object.specs.ObjectId.{is_id};
 ghost use Rattle.vc_index.specs.IndexMap.{index_of};
 ghost use Rattle.vc_index.specs.IndexText.{entry_text, mode_at, id_at, entry_at};
 
 use crate::IndexEntry;
-use hex::FromHex;
 use std::alloc::AllocError;
 use vc_object::{Mode, ObjectId};
 
@@ -21,23 +19,6 @@ fn cut_at_nul(text: &[u8]) -> Option<(&[u8], &[u8])>
         }
     }
     None
-}
-
-// The id that forty digits write, where they are in lower case.
-#[tactic(auto, unfolding(vc_object::specs::Lines::lower_id))]
-fn lower_id(digits: &[u8]) -> Option<ObjectId>
-    ensures value { result ≡ lower_id digits.now }
-    ensures valid { IfSome result (λ id. is_id id ≡ true) }
-{
-    let Ok(bytes) = <[u8; 20] as FromHex>::from_hex(digits) else {
-        return None;
-    };
-    let id = ObjectId(bytes).named();
-    if id.to_hex().as_slice() == digits {
-        Some(id)
-    } else {
-        None
-    }
 }
 
 // The mode at the front, and what follows its space.
@@ -58,7 +39,7 @@ fn id_at(bytes: &[u8]) -> Option<(ObjectId, &[u8])>
     ensures valid { IfSome result (λ found. is_id found.0 ≡ true) }
 {
     let (digits, rest) = bytes.split_at_checked(40)?;
-    let id = lower_id(digits)?;
+    let id = ObjectId::from_lower_hex(digits)?;
     let rest = rest.strip_prefix(b" 0\t")?;
     Some((id, rest))
 }

@@ -15,9 +15,6 @@ use Rattle.vc_model.proofs.Reaching.{reaches-steps}
 use Rattle.vc_model.proofs.Sound.{named_over}
 use Rattle.vc_model.proofs.Kept.{Kept, StepKeeps, kept_new, kept_weaker, ever_self, ever_trans, ever_more, occurs_now, world_step}
 
-some_apart : {X : Type 0} (x : X) → None ≡ Some x → ⊥
-some_apart x e = absurd (cc)
-
 -- what is found in a store over what a push carries is in one of them
 pub found_over : (s c : Objects) (x : Id) (o : Object) → over s c x ≡ Some o → (get s x ≡ Some o) ⊎ (get c x ≡ Some o)
 found_over s c x o h = go (get s x) (get c x) h

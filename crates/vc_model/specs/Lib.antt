@@ -11,7 +11,6 @@ pub mod World
 pub mod Run
 pub mod Safe
 pub mod Apart
-pub mod Codes
 pub mod Desk
 pub mod Keeping
 pub mod Graph

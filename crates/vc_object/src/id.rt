@@ -3,7 +3,7 @@
 ghost use Rattle.std.specs.Prelude.{◌≡◌, ◌↔◌, true, length, replicate, Some, IsSome, IfSome};
 ghost use Rattle.std.specs.List.{AllPass, IsDistinct};
 ghost use Rattle.hex.specs.Hex.{decode_of, encode_lower, is_hex_digit};
-ghost use Rattle.vc_object.specs.Lines.{IsId};
+ghost use Rattle.vc_object.specs.Lines.{IsId, lower_id};
 ghost use Rattle.vc_object.specs.declared.id.ObjectId.{ObjectId};
 ghost use Rattle.vc_object.specs.ObjectId.{is_id, id_eq, IsSortedByName, HasSameNames};
 
@@ -26,6 +26,23 @@ impl ObjectId {
         match <[u8; 20] as FromHex>::from_hex(text) {
             Ok(bytes) => Some(ObjectId(bytes)),
             Err(_) => None,
+        }
+    }
+
+    /// The id that forty lower-case hex digits write, as objects and the index spell ids; none for any other text.
+    #[tactic(auto, unfolding(crate::specs::Lines::lower_id))]
+    pub fn from_lower_hex(text: &[u8]) -> Option<ObjectId>
+        ensures value { result ≡ lower_id text.now }
+        ensures valid { IfSome result (λ id. is_id id ≡ true) }
+    {
+        let Ok(bytes) = <[u8; 20] as FromHex>::from_hex(text) else {
+            return None;
+        };
+        let id = ObjectId(bytes).named();
+        if id.to_hex().as_slice() == text {
+            Some(id)
+        } else {
+            None
         }
     }
 

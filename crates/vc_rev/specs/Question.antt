@@ -12,10 +12,6 @@ pub data Question : Type 0 where
   Prefix : List ℕ → Question
   Object : ObjectId → Question
 
--- nothing is asked
-abbrev pub AsksNothing : Question → Type 0
-AsksNothing question = ⊥
-
 -- what the first answer takes asking, or what the next one does from its value
 abbrev pub AsksAfter : {A : Type 0} → (Question → Type 0) → (Result A Refusal → Type 0) → (A → Question → Type 0) → Question → Type 0
 AsksAfter {A} Asks First next question = Asks question ⊎ ((a : A) × First (Ok a) × next a question)

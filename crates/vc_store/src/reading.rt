@@ -1,8 +1,8 @@
 // Looking objects up by name.
-ghost use Rattle.std.specs.Prelude.{◌≡◌, ◌⊎◌, Some, None, IfOk, IfErr, IfSome, IfNone, IsErrAnd, IsErrOf, option_map, is_ok, true, false};
+ghost use Rattle.std.specs.Prelude.{◌≡◌, ◌⊎◌, ◌≤◌, drop, length, Some, None, IfOk, IfErr, IfSome, IfNone, IsErrAnd, IsErrOf, option_map, is_ok, true, false};
 ghost use Rattle.vc_files.specs.Failures.{Wears};
 ghost use Rattle.vc_object.specs.Decoding.{stored_object};
-ghost use Rattle.vc_object.specs.Object.{object_name};
+ghost use Rattle.vc_object.specs.Object.{object_bytes, object_name};
 ghost use Rattle.vc_object.specs.ObjectId.{is_id};
 ghost use Rattle.vc_store.specs.Store.{stored, stored_in, IsAbsent, IsDamaged, objects};
 ghost use Rattle.vc_store.specs.StoreFault.{IsFault, IsOfName, IsRefused};
@@ -17,6 +17,7 @@ use vc_object::{Object, ObjectId};
 fn named_in<'a>(id: &ObjectId, bytes: &'a [u8]) -> Result<Object<'a>, StoreFault>
     ensures found { IfOk result (λ o. stored_in id.now (Some bytes.now) ≡ Ok (stored_object o.kind o.body.now)) }
     ensures own { IfOk result (λ o. object_name o.kind o.body.now ≡ id.now) }
+    ensures bytes { IfOk result (λ o. bytes.now ≡ object_bytes o.kind o.body.now) }
     ensures refused { IfErr result (λ e. (e ≡ StoreFault.Damaged id.now) × (stored_in id.now (Some bytes.now) ≡ Err e)) }
 {
     let Ok(object) = vc_object::decode(bytes) else {
@@ -72,11 +73,22 @@ fn read_stored<F: Files>(
         return Ok(None);
     };
     let object = named_in(id, &bytes)?;
-    let body = object.body.to_vec(alloc)?;
-    Ok(Some(Stored {
-        kind: object.kind,
-        body,
-    }))
+    let kind = object.kind;
+    let front = bytes.len() - object.body.len();
+    let body = without_front(bytes, front);
+    Ok(Some(Stored { kind, body }))
+}
+
+// The bytes without so many at their front. They stay where they lie in memory, so what was read is held once.
+fn without_front(bytes: Vec<u8>, front: usize) -> Vec<u8>
+    requires { front ≤ length bytes.items }
+    ensures { result.items ≡ drop front bytes.items }
+{
+    let mut rest = bytes;
+    let size = rest.len() - front;
+    rest.copy_within(front.., 0);
+    rest.truncate(size);
+    rest
 }
 
 /// The object with this name. The file is read whole, and what it holds must have the name: 11 where there is no
