@@ -1,15 +1,16 @@
 -- What refuses the change of a ref at a node, from what refuses it over its files: for the calls that set and remove refs whatever they are.
-use Rattle.std.proofs.Common.{◌≡◌, Bool, true, false, ℕ, List, Option, inl, inr, refl, sym, ◌∙◌, subst}
+use Rattle.std.proofs.Common.{◌≡◌, ◌⊎◌, Bool, true, false, ℕ, List, Option, inl, inr, refl, sym, ◌∙◌, subst}
 use Rattle.std.specs.Prelude.{string_bytes}
 use Rattle.vc_files.specs.FileMap.{FileMap}
 use Rattle.vc_object.specs.declared.id.ObjectId.{ObjectId}
 use Rattle.vc_refs.proofs.LayeredLemmas.{decides-loose}
-use Rattle.vc_refs.specs.RefFault.{BlamesList, BlamesRef, BlamesRemove, BlamesSet, BlamesWay}
+use Rattle.vc_refs.specs.RefFault.{BlamesList, BlamesRef, BlamesRemove, BlamesSet, BlamesWay, IsFault}
 use Rattle.vc_refs.specs.Refs.{IsBadRef, is_taken, refs}
 use Rattle.vc_refs.specs.declared.faults.RefFault.{RefFault}
 use Rattle.vc_refs.specs.declared.faults.RefFault.TheVariants as ref
 use Rattle.vc_node.proofs.CommitReads.{its_file}
 use Rattle.vc_node.specs.Blames.{BlamesName, BlamesPacking, BlamesPut, BlamesRemoved}
+use Rattle.vc_node.specs.NodeFault.{is_fault}
 use Rattle.vc_node.specs.Reads.{IsAtName, IsItsFile, NoneRead, TellsRead}
 use Rattle.vc_node.specs.declared.fault.NodeFault.TheVariants.{Ref}
 
@@ -95,3 +96,12 @@ packing_blames content (ref.Conflict other) b = absurd b
 packing_blames content (ref.BadRefFile path) b = b
 packing_blames content ref.HeadLoop b = absurd b
 packing_blames content (ref.Fault f) b = tt
+
+-- a packing that is refused, and did not fail, wrote nothing
+pub packing_unwritten : {Same : Type 0} (e : RefFault) → IsFault e ⊎ Same → (is_fault (Ref e) ≡ true) ⊎ Same
+packing_unwritten e (inr same) = inr same
+packing_unwritten (ref.Fault f) (inl fault) = inl refl
+packing_unwritten (ref.Stale current) (inl never) = absurd never
+packing_unwritten (ref.Conflict other) (inl never) = absurd never
+packing_unwritten (ref.BadRefFile path) (inl never) = absurd never
+packing_unwritten ref.HeadLoop (inl never) = absurd never

@@ -209,12 +209,13 @@ pub(crate) fn remove_ref<F: Files>(
     Ok(())
 }
 
-/// Puts all refs into the packed file. Nothing that is shown changes, wherever it stops.
+/// Puts all refs into the packed file. Nothing that is shown changes, wherever it stops, and a refusal writes nothing.
 pub(crate) fn pack_refs<F: Files>(alloc: Global, files: &mut F) -> Result<(), NodeFault>
     ensures packed { F.honest → OnOk result (IsPackedFrom (F.content files.old) (F.content files.new)) }
     ensures rest { F.honest → KeepsOutside (F.content files.old) (F.content files.new) }
     ensures kept { F.honest → shown (F.content files.new) ≡ shown (F.content files.old) }
     ensures refused { F.honest → IfErr result (BlamesPacking (F.content files.old)) }
+    ensures err { F.honest → IfErr result (λ e. (is_fault e ≡ true) ⊎ (F.content files.new ≡ F.content files.old)) }
     ensures clean { F.honest → IsClean (F.content files.old) → IsClean (F.content files.new) }
     ensures wear { Writes F.honest F.content F.failed F.can_fail F.left files.old files.new (TellsDevice result) }
 {

@@ -567,13 +567,14 @@ impl<F: Files> CloneNode<F> {
     }
 
     /// Puts all refs into one file. Nothing else is written, and no ref changes, wherever it stops. 33 where one of their files
-    /// can't be read.
+    /// can't be read: then nothing is written.
     pub fn pack_refs(&mut self) -> Result<(), NodeFault>
         ensures answers { F.honest → AnswersClone (Asks PackRefs) (RestartedAs result) (F.content self.old.files) (F.content self.new.files) self.old.awaited self.new.awaited self.old.is_up self.new.is_up }
         ensures packed { F.honest → OnOk result (IsPackedFrom (F.content self.old.files) (F.content self.new.files)) }
         ensures rest { F.honest → KeepsOutside (F.content self.old.files) (F.content self.new.files) }
         ensures kept { F.honest → shown (F.content self.new.files) ≡ shown (F.content self.old.files) }
         ensures refused { F.honest → IfErr result (λ e. (e ≡ NodeFault.Down) ⊎ BlamesPacking (F.content self.old.files) e) }
+        ensures err { F.honest → OnErr result ((self.new.is_up ≡ false) ⊎ (F.content self.new.files ≡ F.content self.old.files)) }
         ensures down { self.old.is_up ≡ false → result ≡ Err NodeFault.Down }
         ensures up { self.old.is_up ≡ true → self.new.is_up ≡ up_after result }
         ensures awaits { self.new.awaited ≡ self.old.awaited }

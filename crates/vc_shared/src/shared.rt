@@ -15,7 +15,7 @@ ghost use Rattle.vc_node.specs.Clean.{KeepsClean};
 ghost use Rattle.vc_node.specs.NodeFault.{IsOfDevice as IsNodeDevice, TellsDevice as TellsNodeDevice};
 ghost use Rattle.vc_node.specs.Opening.{IsOpenable};
 ghost use Rattle.vc_refs.specs.Head.{KeepsOutside};
-ghost use Rattle.vc_refs.specs.Packing.{IsPackedFrom};
+ghost use Rattle.vc_refs.specs.Packing.{HasLoose, IsPackedFrom};
 ghost use Rattle.vc_refs.specs.Refs.{refs};
 ghost use Rattle.vc_repository.specs.Resolving.{DenotesIn};
 ghost use Rattle.vc_rev.specs.Grammar.{IsExpr};
@@ -218,17 +218,19 @@ impl<F: Files> Shared<F> {
     }
 
     /// Puts all refs into one file. Nothing else is written, no ref changes and each open push stays, wherever it stops. 33 where
-    /// one of their files can't be read.
+    /// one of their files can't be read: then nothing is written. Nor is anything where no ref has a file of its own.
     pub fn pack_refs(&mut self) -> Result<(), NodeFault>
         ensures answers { F.honest → AnswersShared (Asks PackRefs) (RestartedAs result) (F.content self.old.files) (F.content self.new.files) self.old.slots self.new.slots self.old.is_up self.new.is_up }
         ensures packed { F.honest → OnOk result (IsPackedFrom (F.content self.old.files) (F.content self.new.files)) }
         ensures kept { F.honest → refs (F.content self.new.files) ≡ refs (F.content self.old.files) }
         ensures refused { F.honest → IfErr result (λ e. (e ≡ NodeFault.Down) ⊎ BlamesPacking (F.content self.old.files) e) }
+        ensures err { F.honest → OnErr result ((self.new.is_up ≡ false) ⊎ (F.content self.new.files ≡ F.content self.old.files)) }
         ensures down { self.old.is_up ≡ false → result ≡ Err NodeFault.Down }
         ensures up { self.old.is_up ≡ true → self.new.is_up ≡ node_up_after result }
         ensures slots { self.new.slots ≡ self.old.slots }
         ensures rest { F.honest → KeepsOutside (F.content self.old.files) (F.content self.new.files) }
         ensures wear { Writes F.honest F.content F.failed F.can_fail F.left self.old.files self.new.files (TellsNodeDevice result) }
+        ensures looks { F.honest → HasLoose (F.content self.old.files) ⊎ Wears F.failed F.can_fail F.left self.old.files self.new.files (TellsNodeDevice result) }
     {
         if !self.is_up {
             return Err(NodeFault::Down);

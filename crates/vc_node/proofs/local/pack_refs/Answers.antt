@@ -1,7 +1,7 @@
 use Rattle.std.proofs.Common.{rules}
 use Rattle.vc_node.specs.Blames.{BlamesPacking}
 use Rattle.vc_node.specs.declared.fault.NodeFault.TheVariants.{Ref}
-use Rattle.vc_node.proofs.RefBlames.{packing_blames}
+use Rattle.vc_node.proofs.RefBlames.{packing_blames, packing_unwritten}
 use Rattle.vc_node.proofs.CleanLemmas.{still_clean_packed}
 use Rattle.vc_node.proofs.ShownLemmas.{shown_packed}
 use Rattle.vc_node.proofs.local.pack_refs.Goals as goal
@@ -22,3 +22,6 @@ pub returns-in_err-pack-clause-refused : goal.returns-in_err-pack-clause-refused
 returns-in_err-pack-clause-refused g c = λ honest.
     let told : BlamesPacking (g.F.Files.content c.args.files.now) (Ref c.in_err-pack.field-0.0) = packing_blames _ _ (c.in_err-pack.ensures.refused honest) in
     search (rules, told)
+
+pub returns-in_err-pack-clause-err : goal.returns-in_err-pack-clause-err
+returns-in_err-pack-clause-err g c = λ honest. packing_unwritten _ (c.in_err-pack.ensures.err honest)

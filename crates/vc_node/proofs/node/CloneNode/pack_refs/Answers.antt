@@ -1,4 +1,5 @@
 use Rattle.std.proofs.Common.{Ok, Err, ap, inl, inr, refl, rules, ◌∙◌, subst, sym}
+use Rattle.std.specs.Prelude.{not}
 use Rattle.vc_files.specs.FileMap.{FileMap}
 use Rattle.vc_model.specs.CloneCall.CloneCall.{Asks}
 use Rattle.vc_model.specs.Question.Question.{PackRefs}
@@ -37,3 +38,9 @@ returns-in-Ok-clause-looks g c = λ honest. packing_may _ _ _ (search rules)
 
 pub returns-in-Err-clause-looks : goal.returns-in-Err-clause-looks
 returns-in-Err-clause-looks g c = λ honest. packing_may _ _ _ (search rules)
+
+pub returns-in-Err-clause-err : goal.returns-in-Err-clause-err
+returns-in-Err-clause-err g c = λ honest.
+    let content = g.F.Files.content in
+    rw (← c.self.view_is, ap content c.fail.ensures.files, c.fail.ensures.up c.if-not-self.false)
+    (elim (c.in-Err.ensures.err honest) [ inl fault ↦ inl (ap not fault) | inr same ↦ inr same ])

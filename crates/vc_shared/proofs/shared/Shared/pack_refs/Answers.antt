@@ -1,9 +1,11 @@
-use Rattle.std.proofs.Common.{Ok, Err, inl, inr, refl, rules}
+use Rattle.std.proofs.Common.{Ok, Err, ap, inl, inr, refl, rules}
+use Rattle.std.specs.Prelude.{not}
 use Rattle.vc_files.proofs.WearLemmas.{writes_told}
 use Rattle.vc_model.specs.Question.Question.{PackRefs}
 use Rattle.vc_model.specs.SharedCall.SharedCall.{Asks}
 use Rattle.vc_node.specs.declared.fault.NodeFault.TheVariants.{Ref}
-use Rattle.vc_node.proofs.RefBlames.{packing_blames}
+use Rattle.vc_node.proofs.LookLemmas.{looks_none, or_told}
+use Rattle.vc_node.proofs.RefBlames.{packing_blames, packing_unwritten}
 use Rattle.vc_shared.proofs.PackingLemmas.{packing_answers}
 use Rattle.vc_shared.proofs.ResolvingLemmas.{down_declines}
 use Rattle.vc_shared.proofs.shared.Shared.pack_refs.Goals as goal
@@ -30,3 +32,17 @@ returns-in-Ok-clause-wear g c = rw (← c.self.view_is) (writes_told c.in-Ok.ens
 
 pub returns-in-Err-clause-wear : goal.returns-in-Err-clause-wear
 returns-in-Err-clause-wear g c = rw (← c.self.view_is) (writes_told c.in-Err.ensures.wear (search rules) (search rules))
+
+pub returns-in-Err-clause-err : goal.returns-in-Err-clause-err
+returns-in-Err-clause-err g c = λ honest.
+    rw (← c.self.view_is, c.is_fault.ensures, c.from-fault.ensures)
+    (elim (packing_unwritten c.in-Err.fault (c.in-Err.ensures.err honest)) [ inl fault ↦ inl (ap not fault) | inr same ↦ inr same ])
+
+pub returns-then-not-self-clause-looks : goal.returns-then-not-self-clause-looks
+returns-then-not-self-clause-looks g c = λ honest. inr (looks_none (λ told. told))
+
+pub returns-in-Ok-clause-looks : goal.returns-in-Ok-clause-looks
+returns-in-Ok-clause-looks g c = λ honest. rw (← c.self.view_is) (or_told (c.in-Ok.ensures.looks honest) (λ there. there) (search rules))
+
+pub returns-in-Err-clause-looks : goal.returns-in-Err-clause-looks
+returns-in-Err-clause-looks g c = λ honest. rw (← c.self.view_is) (or_told (c.in-Err.ensures.looks honest) (λ there. there) (search rules))
