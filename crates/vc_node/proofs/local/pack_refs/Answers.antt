@@ -1,5 +1,6 @@
-use Rattle.std.proofs.Common.{rules}
+use Rattle.std.proofs.Common.{◌≡◌, ◌⊎◌, true, rules}
 use Rattle.vc_node.specs.Blames.{BlamesPacking}
+use Rattle.vc_node.specs.NodeFault.{is_fault}
 use Rattle.vc_node.specs.declared.fault.NodeFault.TheVariants.{Ref}
 use Rattle.vc_node.proofs.RefBlames.{packing_blames, packing_unwritten}
 use Rattle.vc_node.proofs.CleanLemmas.{still_clean_packed}
@@ -24,4 +25,8 @@ returns-in_err-pack-clause-refused g c = λ honest.
     search (rules, told)
 
 pub returns-in_err-pack-clause-err : goal.returns-in_err-pack-clause-err
-returns-in_err-pack-clause-err g c = λ honest. packing_unwritten _ (c.in_err-pack.ensures.err honest)
+returns-in_err-pack-clause-err g c = λ honest.
+    let content = g.F.Files.content in
+    let fault = c.in_err-pack.field-0.0 in
+    let unwritten : (is_fault (Ref fault) ≡ true) ⊎ (content c.pack.new.files ≡ content c.args.files.now) = packing_unwritten fault (c.in_err-pack.ensures.err honest) in
+    search (rules, unwritten)
