@@ -15,7 +15,7 @@ use Rattle.vc_index.specs.declared.faults.IndexFault.{IndexFault}
 use Rattle.vc_index.specs.declared.faults.IndexFault.TheVariants.{BadPath, PathConflict, BadIndex, WrongEntry, Missing, Store}
 use Rattle.vc_index.proofs.MapLemmas.{is_eq-same, same_text}
 use Rattle.vc_checkout.proofs.LeavingLemmas.{or_true}
-use Rattle.vc_checkout.proofs.PathSetLemmas.{is_listed, is_same}
+use Rattle.vc_checkout.specs.WorkTree.{is_listed, is_same}
 use Rattle.vc_checkout.specs.CheckoutFault.{IsOfCheckout, IsOfStatus, TellsFirstListed, told_fault}
 use Rattle.vc_checkout.specs.declared.faults.CheckoutFault.{CheckoutFault}
 use Rattle.vc_node.specs.IndexFile.{SpellsIndex}

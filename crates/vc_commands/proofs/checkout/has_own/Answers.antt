@@ -2,7 +2,8 @@ use Rattle.std.proofs.Common.{rules, ◌≡◌, [], ◌∷◌, map, ap, sym, sub
 use Rattle.std.specs.Prelude.{IsSome}
 use Rattle.std.specs.FinMap as maps
 use Rattle.vc_checkout.proofs.ApplyLemmas.{no_entry}
-use Rattle.vc_checkout.proofs.PathSetLemmas.{entry_paths, is_listed}
+use Rattle.vc_checkout.proofs.PathSetLemmas.{entry_paths}
+use Rattle.vc_checkout.specs.WorkTree.{is_listed}
 use Rattle.vc_commands.proofs.CheckoutLemmas.{listed_first, listed_more, unmet_more, unmet_none}
 use Rattle.vc_commands.proofs.checkout.has_own.Goals as goal
 
