@@ -3,6 +3,10 @@ use Rattle.std.proofs.Common.{◌≡◌, ⊎_elim, List, Option, Some, refl, ap,
 use Rattle.std.specs.Prelude.{codes}
 use Rattle.std.specs.Option.{option_or}
 use Rattle.vc_answer.specs.Reached.{KeepsObjects}
+use Rattle.vc_base.proofs.StoredLemmas.{Agrees-more}
+use Rattle.vc_base.specs.Numbering.{numbers}
+use Rattle.vc_base.specs.Stored.{AgreesIn}
+use Rattle.vc_base.specs.declared.generations.Generations.{Generations}
 use Rattle.vc_files.specs.FileMap.{FileMap, SameOutside}
 use Rattle.vc_graph.specs.Overlay.{with_carried}
 use Rattle.vc_object.specs.Decoding.{StoredObject}
@@ -29,3 +33,7 @@ module _ (old new : FileMap) where
     -- or some of it
     pub keeps_some : AreSomeStored old new brought → KeepsObjects old new
     keeps_some some = record { at = λ id o is. ⊎_elim (λ same. same ∙ is) (λ added. added ∙ there id o is) (some.each id) }
+
+-- numbers that agree with what was stored agree with what is stored
+pub agrees_kept : (old new : FileMap) (generations : Generations) → KeepsObjects old new → AgreesIn old generations → AgreesIn new generations
+agrees_kept old new generations keeps agrees = Agrees-more (objects old) (objects new) (numbers generations) keeps.at agrees

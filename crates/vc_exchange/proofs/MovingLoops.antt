@@ -4,6 +4,10 @@ use Rattle.std.proofs.Common.{◌≡◌, ℕ, suc, ◌<◌, ◌+◌, List, [], �
 use Rattle.std.specs.Prelude.{Vec, codes}
 use Rattle.std.specs.Global.{Global}
 use Rattle.std.proofs.lemmas.List.{take-append-drop, take_more}
+use Rattle.vc_base.specs.Generation.{Agrees}
+use Rattle.vc_base.specs.Numbering.{numbers}
+use Rattle.vc_base.specs.Stored.{AgreesIn}
+use Rattle.vc_base.specs.declared.generations.Generations.{Generations}
 use Rattle.vc_files.specs.FileMap.{FileMap, SameOutside}
 use Rattle.vc_graph.specs.Graph.{IsClosedUnder}
 use Rattle.vc_model.specs.Repository.{IsSound, Repository}
@@ -65,6 +69,13 @@ objects_stay old new outside i id = objects-same old new id (outside.at (object_
 
 pub whole_after : (old new : FileMap) (known : Known) → SameOutside (codes "refs/") old new → AreWhole (objects old) known → AreWhole (objects new) known
 whole_after old new known outside whole = subst (λ (o : ObjectMap). AreWhole o known) (sym (objects_stay old new outside)) whole
+
+-- and so are the numbers that agree
+pub agrees_after : (old new : FileMap) (generations : Generations) → SameOutside (codes "refs/") old new → AgreesIn old generations → AgreesIn new generations
+agrees_after old new generations outside agrees = subst (λ (o : ObjectMap). Agrees (parents_in o) (numbers generations)) (sym (objects_stay old new outside)) agrees
+
+pub agrees_same : (old new : FileMap) (generations : Generations) → new ≡ old → AgreesIn old generations → AgreesIn new generations
+agrees_same old new generations same agrees = subst (λ (f : FileMap). AgreesIn f generations) (sym same) agrees
 
 -- what is found to be whole is so beside what was known
 pub whole_more : (old new : FileMap) (known more : Known) → new ≡ old → more.histories ≡ known.histories → (IsClosedUnder (links_in (objects old)) known.objects.keys → IsClosedUnder (links_in (objects old)) more.objects.keys) → AreWhole (objects old) known → AreWhole (objects new) more

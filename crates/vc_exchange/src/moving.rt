@@ -2,6 +2,9 @@
 //! descendants of its value alone, and a tag by itself, which is set once. Nothing is followed to an id of which not all is
 //! there.
 ghost use Rattle.std.specs.Prelude.{◌≡◌, ◌⊎◌, ◌∷◌, [], ℕ, List, true, None, Some, if◌then◌else◌, IfOk, IfErr, IfSome, OnErr, IsErrOf, codes};
+ghost use Rattle.vc_base.specs.Generation.{Agrees};
+ghost use Rattle.vc_base.specs.Numbering.{numbers};
+ghost use Rattle.vc_base.specs.Stored.{AgreesIn};
 ghost use Rattle.vc_files.specs.Failures.{Wears, Writes};
 ghost use Rattle.vc_files.specs.FileMap.{SameOutside};
 ghost use Rattle.vc_format.specs.Git.{git_is_legal};
@@ -22,7 +25,7 @@ ghost use Rattle.vc_exchange.specs.Moving.{AreFrontMoved, AreMoved, Descends, Is
 use crate::ExchangeFault;
 use indexmap::IndexSet;
 use std::alloc::{AllocError, Global};
-use vc_base::{BaseFault, Commits, is_ancestor, is_history_beyond};
+use vc_base::{BaseFault, Commits, Generations, is_ancestor, is_history_beyond};
 use vc_files::{Fault, Files};
 use vc_graph::is_complete_beyond;
 use vc_object::ObjectId;
@@ -91,10 +94,11 @@ fn is_forward<C: Commits>(
     histories: &mut IndexSet<ObjectId>,
     current: Option<ObjectId>,
     id: &ObjectId,
+    generations: &Generations,
 ) -> Result<bool, StoreFault>
-    ensures forward { IfOk result (λ yes. C.is_honest → IsClosedUnder (parents_in (C.objects (C.state_of commits.old))) histories.old.keys → IsDecided yes (HasHistory (C.objects (C.state_of commits.old)) id.now × Descends (C.objects (C.state_of commits.old)) current id.now)) }
+    ensures forward { IfOk result (λ yes. C.is_honest → Agrees (parents_in (C.objects (C.state_of commits.old))) (numbers generations.now) → IsClosedUnder (parents_in (C.objects (C.state_of commits.old))) histories.old.keys → IsDecided yes (HasHistory (C.objects (C.state_of commits.old)) id.now × Descends (C.objects (C.state_of commits.old)) current id.now)) }
     ensures known { C.is_honest → IsClosedUnder (parents_in (C.objects (C.state_of commits.old))) histories.old.keys → IsClosedUnder (parents_in (C.objects (C.state_of commits.old))) histories.new.keys }
-    ensures refused { IfErr result (λ e. C.is_honest → IsMet (ReachedFrom (parents_in (C.objects (C.state_of commits.old))) (id.now ∷ [])) (C.damaged (C.state_of commits.old)) e) }
+    ensures refused { IfErr result (λ e. C.is_honest → Agrees (parents_in (C.objects (C.state_of commits.old))) (numbers generations.now) → IsMet (ReachedFrom (parents_in (C.objects (C.state_of commits.old))) (id.now ∷ [])) (C.damaged (C.state_of commits.old)) e) }
     ensures kept { C.state_of commits.new ≡ C.state_of commits.old }
     ensures wear { Wears C.failed C.can_fail C.left commits.old commits.new (IsErrOf result (StoreFault.Fault Fault.Device)) }
 {
@@ -104,7 +108,7 @@ fn is_forward<C: Commits>(
     let Some(current) = current else {
         return Ok(true);
     };
-    match is_ancestor(alloc, commits, &current, id) {
+    match is_ancestor(alloc, commits, &current, id, generations) {
         Ok(yes) => Ok(yes),
         // Its history was just read, and is whole.
         Err(BaseFault::Missing(_)) => Ok(false),
@@ -122,10 +126,11 @@ fn may_take<C: Commits>(
     is_branch: bool,
     current: Option<ObjectId>,
     id: &ObjectId,
+    generations: &Generations,
 ) -> Result<bool, StoreFault>
-    ensures takes { IfOk result (λ yes. C.is_honest → AreWhole (C.objects (C.state_of commits.old)) known.old → IsDecided yes (MayTake (C.objects (C.state_of commits.old)) is_branch current id.now)) }
+    ensures takes { IfOk result (λ yes. C.is_honest → Agrees (parents_in (C.objects (C.state_of commits.old))) (numbers generations.now) → AreWhole (C.objects (C.state_of commits.old)) known.old → IsDecided yes (MayTake (C.objects (C.state_of commits.old)) is_branch current id.now)) }
     ensures known { C.is_honest → AreWhole (C.objects (C.state_of commits.old)) known.old → AreWhole (C.objects (C.state_of commits.old)) known.new }
-    ensures refused { IfErr result (λ e. C.is_honest → IsMet (λ x. ReachedFrom (links_in (C.objects (C.state_of commits.old))) (id.now ∷ []) x ⊎ ReachedFrom (parents_in (C.objects (C.state_of commits.old))) (id.now ∷ []) x) (C.damaged (C.state_of commits.old)) e) }
+    ensures refused { IfErr result (λ e. C.is_honest → Agrees (parents_in (C.objects (C.state_of commits.old))) (numbers generations.now) → IsMet (λ x. ReachedFrom (links_in (C.objects (C.state_of commits.old))) (id.now ∷ []) x ⊎ ReachedFrom (parents_in (C.objects (C.state_of commits.old))) (id.now ∷ []) x) (C.damaged (C.state_of commits.old)) e) }
     ensures kept { C.state_of commits.new ≡ C.state_of commits.old }
     ensures wear { Wears C.failed C.can_fail C.left commits.old commits.new (IsErrOf result (StoreFault.Fault Fault.Device)) }
 {
@@ -138,7 +143,14 @@ fn may_take<C: Commits>(
     if !is_branch {
         return Ok(true);
     }
-    let forward = is_forward(alloc, commits, &mut known.histories, current, id)?;
+    let forward = is_forward(
+        alloc,
+        commits,
+        &mut known.histories,
+        current,
+        id,
+        generations,
+    )?;
     Ok(forward)
 }
 
@@ -150,12 +162,13 @@ fn find_follower<F: Files>(
     followed: Followed,
     name: &[u8],
     id: &ObjectId,
+    generations: &Generations,
 ) -> Result<Option<(RefName, Option<ObjectId>)>, ExchangeFault>
-    ensures found { F.honest → AreWhole (objects (F.content files.old)) known.old → IfOk result (IsFound followed (F.content files.old) name.now id.now) }
+    ensures found { F.honest → AgreesIn (F.content files.old) generations.now → AreWhole (objects (F.content files.old)) known.old → IfOk result (IsFound followed (F.content files.old) name.now id.now) }
     ensures known { F.honest → AreWhole (objects (F.content files.old)) known.old → AreWhole (objects (F.content files.old)) known.new }
     ensures value { F.honest → IfOk result (λ found. IfSome found (λ f. refs (F.content files.old) f.0 ≡ f.1)) }
     ensures inside { IfOk result (λ found. IfSome found (λ f. IsInRefs f.0)) }
-    ensures refused { F.honest → IfErr result (BlamesFiles (F.content files.old)) }
+    ensures refused { F.honest → AgreesIn (F.content files.old) generations.now → IfErr result (BlamesFiles (F.content files.old)) }
     ensures same { F.content files.new ≡ F.content files.old }
     ensures wear { Wears F.failed F.can_fail F.left files.old files.new (IsErrOf result (ExchangeFault.Fault Fault.Device)) }
 {
@@ -168,7 +181,15 @@ fn find_follower<F: Files>(
     };
     let current = get(files, alloc, &to)?;
     let mut store = Store::new(alloc, files);
-    if !may_take(alloc, &mut store, known, is_branch, current, id)? {
+    if !may_take(
+        alloc,
+        &mut store,
+        known,
+        is_branch,
+        current,
+        id,
+        generations,
+    )? {
         return Ok(None);
     }
     Ok(Some((to, current)))
@@ -222,17 +243,19 @@ fn move_ref<F: Files>(
     followed: Followed,
     name: &[u8],
     id: &ObjectId,
+    generations: &Generations,
 ) -> Result<bool, ExchangeFault>
-    ensures moved { F.honest → IfOk result (IsMove (AreWhole (objects (F.content files.old)) known.old) followed (F.content files.old) (F.content files.new) name.now id.now) }
+    ensures moved { F.honest → AgreesIn (F.content files.old) generations.now → IfOk result (IsMove (AreWhole (objects (F.content files.old)) known.old) followed (F.content files.old) (F.content files.new) name.now id.now) }
     ensures known { F.honest → AreWhole (objects (F.content files.old)) known.old → AreWhole (objects (F.content files.old)) known.new }
-    ensures refused { F.honest → IfErr result (BlamesFiles (F.content files.old)) }
+    ensures refused { F.honest → AgreesIn (F.content files.old) generations.now → IfErr result (BlamesFiles (F.content files.old)) }
     ensures outside { F.honest → SameOutside (codes "refs/") (F.content files.old) (F.content files.new) }
     ensures err { F.honest → OnErr result (F.content files.new ≡ F.content files.old) }
     ensures bad { F.honest → MakesNoneBad (F.content files.old) (F.content files.new) }
     ensures wear { Writes F.honest F.content F.failed F.can_fail F.left files.old files.new (IsErrOf result (ExchangeFault.Fault Fault.Device)) }
-    ensures looks { F.honest → (AreWhole (objects (F.content files.old)) known.old → (to : List ℕ) × MayMove followed (F.content files.old) name.now id.now to) ⊎ Wears F.failed F.can_fail F.left files.old files.new (IsErrOf result (ExchangeFault.Fault Fault.Device)) }
+    ensures looks { F.honest → AgreesIn (F.content files.old) generations.now → (AreWhole (objects (F.content files.old)) known.old → (to : List ℕ) × MayMove followed (F.content files.old) name.now id.now to) ⊎ Wears F.failed F.can_fail F.left files.old files.new (IsErrOf result (ExchangeFault.Fault Fault.Device)) }
 {
-    let Some((to, current)) = find_follower(files, alloc, known, followed, name, id)? else {
+    let Some((to, current)) = find_follower(files, alloc, known, followed, name, id, generations)?
+    else {
         return Ok(false);
     };
     let moved = set_where_free(files, alloc, &to, current, *id)?;
@@ -242,25 +265,26 @@ fn move_ref<F: Files>(
 /// Moves the refs that follow these, in their order, and counts those that moved. A call that ends early has moved some first
 /// of them. Each object is read once for all of them to see that it is whole, and none of which that is known. Where what is known
 /// is so, the right refs move, and more is known after the call; in any case refs alone are set, no file becomes bad, and none
-/// outside `refs/` changes.
+/// outside `refs/` changes. The generations must agree with what is stored.
 pub(crate) fn move_refs<F: Files>(
     files: &mut F,
     alloc: Global,
     known: &mut Known,
     followed: Followed,
     told: &[(Vec<u8>, ObjectId)],
+    generations: &Generations,
 ) -> Result<usize, ExchangeFault>
-    ensures moved { F.honest → (r : Repository) → HoldsContent (F.content files.old) r → IfOk result (AreMoved (AreWhole (objects (F.content files.old)) known.old) followed (told_in told.now) r (F.content files.new)) }
-    ensures refused { F.honest → IfErr result (BlamesFiles (F.content files.old)) }
+    ensures moved { F.honest → AgreesIn (F.content files.old) generations.now → (r : Repository) → HoldsContent (F.content files.old) r → IfOk result (AreMoved (AreWhole (objects (F.content files.old)) known.old) followed (told_in told.now) r (F.content files.new)) }
+    ensures refused { F.honest → AgreesIn (F.content files.old) generations.now → IfErr result (BlamesFiles (F.content files.old)) }
     ensures outside { F.honest → SameOutside (codes "refs/") (F.content files.old) (F.content files.new) }
-    ensures left { F.honest → (r : Repository) → HoldsContent (F.content files.old) r → OnErr result (AreFrontMoved (AreWhole (objects (F.content files.old)) known.old) followed (told_in told.now) r (F.content files.new)) }
+    ensures left { F.honest → AgreesIn (F.content files.old) generations.now → (r : Repository) → HoldsContent (F.content files.old) r → OnErr result (AreFrontMoved (AreWhole (objects (F.content files.old)) known.old) followed (told_in told.now) r (F.content files.new)) }
     ensures bad { F.honest → MakesNoneBad (F.content files.old) (F.content files.new) }
     ensures wear { Writes F.honest F.content F.failed F.can_fail F.left files.old files.new (IsErrOf result (ExchangeFault.Fault Fault.Device)) }
-    ensures looks { F.honest → (r : Repository) → HoldsContent (F.content files.old) r → (AreWhole (objects (F.content files.old)) known.old → MovesSome followed (told_in told.now) r) ⊎ Wears F.failed F.can_fail F.left files.old files.new (IsErrOf result (ExchangeFault.Fault Fault.Device)) }
+    ensures looks { F.honest → AgreesIn (F.content files.old) generations.now → (r : Repository) → HoldsContent (F.content files.old) r → (AreWhole (objects (F.content files.old)) known.old → MovesSome followed (told_in told.now) r) ⊎ Wears F.failed F.can_fail F.left files.old files.new (IsErrOf result (ExchangeFault.Fault Fault.Device)) }
 {
     let mut moved = 0;
     for (name, id) in told {
-        if move_ref(files, alloc, known, followed, name, id)? {
+        if move_ref(files, alloc, known, followed, name, id, generations)? {
             moved += 1;
         }
     }

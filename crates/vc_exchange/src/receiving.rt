@@ -2,6 +2,7 @@
 ghost use Rattle.std.specs.Prelude.{◌≡◌, ◌⊎◌, ◌++◌, ◌∷◌, [], IfOk, IfErr, OnOk, OnErr, IsErrOf, codes, map, length};
 ghost use Rattle.std.specs.FinMap.{entries};
 ghost use Rattle.vc_answer.specs.Reached.{KeepsObjects};
+ghost use Rattle.vc_base.specs.Stored.{AgreesIn};
 ghost use Rattle.vc_exchange.specs.Deeds.{ChangesAt, HoldsHead, IsCutShort, IsReceived};
 ghost use Rattle.vc_exchange.specs.Faults.{BlamesFiles};
 ghost use Rattle.vc_exchange.specs.Moving.{told_in};
@@ -31,6 +32,7 @@ use crate::wanting::{first_ids, open_ids, want_message};
 use std::alloc::{AllocError, Global};
 use std::collections::BTreeMap;
 use vc_answer::judge_pack;
+use vc_base::Generations;
 use vc_fetch::{Advert, Pack};
 use vc_files::{Fault, Files};
 use vc_object::ObjectId;
@@ -95,20 +97,21 @@ pub fn receive_advert<F: Files>(
     files: &mut F,
     alloc: Global,
     advert: Advert,
+    generations: &Generations,
 ) -> Result<Advertised, ExchangeFault>
-    ensures taken { F.honest → (r : Repository) → HoldsContent (F.content files.old) r → HoldsHead (F.content files.old) r → (m : Message) → IsAdvert m (advert_text advert) → IfOk result (IsAdvertTaken r m (F.content files.new)) }
-    ensures cut { F.honest → (r : Repository) → HoldsContent (F.content files.old) r → (m : Message) → IsAdvert m (advert_text advert) → OnErr result (IsCutShort r AnAdvert m (F.content files.new)) }
-    ensures refused { F.honest → IfErr result (BlamesAdvert (F.content files.old)) }
+    ensures taken { F.honest → AgreesIn (F.content files.old) generations.now → (r : Repository) → HoldsContent (F.content files.old) r → HoldsHead (F.content files.old) r → (m : Message) → IsAdvert m (advert_text advert) → IfOk result (IsAdvertTaken r m (F.content files.new)) }
+    ensures cut { F.honest → AgreesIn (F.content files.old) generations.now → (r : Repository) → HoldsContent (F.content files.old) r → (m : Message) → IsAdvert m (advert_text advert) → OnErr result (IsCutShort r AnAdvert m (F.content files.new)) }
+    ensures refused { F.honest → AgreesIn (F.content files.old) generations.now → IfErr result (BlamesAdvert (F.content files.old)) }
     ensures outside { F.honest → SameOutside (codes "refs/") (F.content files.old) (F.content files.new) }
     ensures bad { F.honest → MakesNoneBad (F.content files.old) (F.content files.new) }
     ensures wear { Writes F.honest F.content F.failed F.can_fail F.left files.old files.new (IsErrOf result (ExchangeFault.Fault Fault.Device)) }
-    ensures looks { F.honest → (r : Repository) → HoldsContent (F.content files.old) r → (m : Message) → IsAdvert m (advert_text advert) → (IsSound git r → ChangesAt r AnAdvert m) ⊎ Wears F.failed F.can_fail F.left files.old files.new (IsErrOf result (ExchangeFault.Fault Fault.Device)) }
+    ensures looks { F.honest → AgreesIn (F.content files.old) generations.now → (r : Repository) → HoldsContent (F.content files.old) r → (m : Message) → IsAdvert m (advert_text advert) → (IsSound git r → ChangesAt r AnAdvert m) ⊎ Wears F.failed F.can_fail F.left files.old files.new (IsErrOf result (ExchangeFault.Fault Fault.Device)) }
 {
     let refs = listed(alloc, advert.refs)?;
     let mut known = Known::by_good_refs(files, alloc)?;
     let open = open_ids(files, alloc, &mut known.objects, &refs)?;
     if open.is_empty() {
-        let moved = move_refs(files, alloc, &mut known, Followed::All, &refs)?;
+        let moved = move_refs(files, alloc, &mut known, Followed::All, &refs, generations)?;
         return Ok(Advertised::Followed(Moves { moved, left: 0 }));
     }
     let wants = first_ids(alloc, &open)?;
@@ -127,10 +130,11 @@ pub fn receive_pack<F: Files>(
     wants: &[ObjectId],
     told: &[(Vec<u8>, ObjectId)],
     pack: &Pack,
+    generations: &Generations,
 ) -> Result<Moves, ExchangeFault>
-    ensures taken { F.honest → (r : Repository) → HoldsContent (F.content files.old) r → (m : Message) → IsPack m (pack_text pack.now) → (refs : Refs) → AreRefs refs (told_in told.now) → IfOk result (λ moves. IsReceived r (awaited_pack wants.now refs) m (F.content files.new) Nothing None (MovedRefs moves.moved moves.left)) }
-    ensures cut { F.honest → (r : Repository) → HoldsContent (F.content files.old) r → (m : Message) → IsPack m (pack_text pack.now) → (refs : Refs) → AreRefs refs (told_in told.now) → OnErr result (IsCutShort r (awaited_pack wants.now refs) m (F.content files.new)) }
-    ensures refused { F.honest → (m : Message) → IsPack m (pack_text pack.now) → IfErr result (BlamesPack (F.content files.old) wants.now m) }
+    ensures taken { F.honest → AgreesIn (F.content files.old) generations.now → (r : Repository) → HoldsContent (F.content files.old) r → (m : Message) → IsPack m (pack_text pack.now) → (refs : Refs) → AreRefs refs (told_in told.now) → IfOk result (λ moves. IsReceived r (awaited_pack wants.now refs) m (F.content files.new) Nothing None (MovedRefs moves.moved moves.left)) }
+    ensures cut { F.honest → AgreesIn (F.content files.old) generations.now → (r : Repository) → HoldsContent (F.content files.old) r → (m : Message) → IsPack m (pack_text pack.now) → (refs : Refs) → AreRefs refs (told_in told.now) → OnErr result (IsCutShort r (awaited_pack wants.now refs) m (F.content files.new)) }
+    ensures refused { F.honest → AgreesIn (F.content files.old) generations.now → (m : Message) → IsPack m (pack_text pack.now) → IfErr result (BlamesPack (F.content files.old) wants.now m) }
     ensures unchanged { F.honest → IfErr result (λ e. (id : Name) → e ≡ ExchangeFault.Incomplete id → F.content files.new ≡ F.content files.old) }
     ensures beside { F.honest → KeepsBeside (F.content files.old) (F.content files.new) }
     ensures objects { F.honest → KeepsObjects (F.content files.old) (F.content files.new) }
@@ -145,7 +149,7 @@ pub fn receive_pack<F: Files>(
     };
     store_all(files, alloc, &pack.objects)?;
     let open = open_ids(files, alloc, &mut known.objects, told)?;
-    let moved = move_refs(files, alloc, &mut known, Followed::All, told)?;
+    let moved = move_refs(files, alloc, &mut known, Followed::All, told, generations)?;
     Ok(Moves {
         moved,
         left: open.len(),
@@ -200,19 +204,27 @@ pub fn receive_report<F: Files>(
     files: &mut F,
     alloc: Global,
     report: &Report,
+    generations: &Generations,
 ) -> Result<Reported, ExchangeFault>
-    ensures taken { F.honest → (r : Repository) → HoldsContent (F.content files.old) r → (m : Message) → IsReport m (report_text report.now) → (awaits : Awaited) → IfOk result (λ did. IsReceived r awaits m (F.content files.new) awaits None (ReportedRefs did.moved did.refused.items)) }
-    ensures cut { F.honest → (r : Repository) → HoldsContent (F.content files.old) r → (m : Message) → IsReport m (report_text report.now) → (awaits : Awaited) → OnErr result (IsCutShort r awaits m (F.content files.new)) }
-    ensures refused { F.honest → IfErr result (BlamesFiles (F.content files.old)) }
+    ensures taken { F.honest → AgreesIn (F.content files.old) generations.now → (r : Repository) → HoldsContent (F.content files.old) r → (m : Message) → IsReport m (report_text report.now) → (awaits : Awaited) → IfOk result (λ did. IsReceived r awaits m (F.content files.new) awaits None (ReportedRefs did.moved did.refused.items)) }
+    ensures cut { F.honest → AgreesIn (F.content files.old) generations.now → (r : Repository) → HoldsContent (F.content files.old) r → (m : Message) → IsReport m (report_text report.now) → (awaits : Awaited) → OnErr result (IsCutShort r awaits m (F.content files.new)) }
+    ensures refused { F.honest → AgreesIn (F.content files.old) generations.now → IfErr result (BlamesFiles (F.content files.old)) }
     ensures outside { F.honest → SameOutside (codes "refs/") (F.content files.old) (F.content files.new) }
     ensures bad { F.honest → MakesNoneBad (F.content files.old) (F.content files.new) }
     ensures wear { Writes F.honest F.content F.failed F.can_fail F.left files.old files.new (IsErrOf result (ExchangeFault.Fault Fault.Device)) }
-    ensures looks { F.honest → (r : Repository) → HoldsContent (F.content files.old) r → (m : Message) → IsReport m (report_text report.now) → (awaits : Awaited) → (IsSound git r → ChangesAt r awaits m) ⊎ Wears F.failed F.can_fail F.left files.old files.new (IsErrOf result (ExchangeFault.Fault Fault.Device)) }
+    ensures looks { F.honest → AgreesIn (F.content files.old) generations.now → (r : Repository) → HoldsContent (F.content files.old) r → (m : Message) → IsReport m (report_text report.now) → (awaits : Awaited) → (IsSound git r → ChangesAt r awaits m) ⊎ Wears F.failed F.can_fail F.left files.old files.new (IsErrOf result (ExchangeFault.Fault Fault.Device)) }
 {
     let refused = refused_numbers(alloc, &report.told)?;
     let refs = accepted(alloc, &report.told)?;
     let mut known = Known::by_good_refs(files, alloc)?;
-    let moved = move_refs(files, alloc, &mut known, Followed::Branches, &refs)?;
+    let moved = move_refs(
+        files,
+        alloc,
+        &mut known,
+        Followed::Branches,
+        &refs,
+        generations,
+    )?;
     Ok(Reported { moved, refused })
 }
 

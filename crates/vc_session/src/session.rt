@@ -1,5 +1,6 @@
 //! One open push.
 ghost use Rattle.std.specs.Prelude.{◌≡◌, ◌⊎◌, ◌<◌, Option, length, slice_set, IfOk, IfErr, OnErr, IsErrOf};
+ghost use Rattle.vc_base.specs.Stored.{AgreesIn};
 ghost use Rattle.vc_files.specs.FileMap.{SameOutside};
 ghost use Rattle.vc_files.specs.Failures.{Wears, Writes};
 ghost use Rattle.vc_object.specs.declared.fault.ObjectFault.{ObjectFault as Refusal};
@@ -22,6 +23,7 @@ use crate::stage::{Stage, Stepped, Verdict};
 use crate::updating::update;
 use std::alloc::Global;
 use std::marker::Model;
+use vc_base::Generations;
 use vc_files::{Fault, Files};
 use vc_object::{ObjectFault, ObjectId};
 use vc_push::{Command, Push};
@@ -111,19 +113,31 @@ impl PushSession {
     }
 
     // The check: 100 to 105, over what is stored and carried now.
-    fn check<F: Files>(&mut self, files: &mut F, alloc: Global) -> Result<Stepped, SessionFault>
+    fn check<F: Files>(
+        &mut self,
+        files: &mut F,
+        alloc: Global,
+        generations: &Generations,
+    ) -> Result<Stepped, SessionFault>
         requires stage { self.old.stage ≡ Stage.Unpacked }
-        ensures steps { F.honest → IfOk result (Steps (F.content files.old) (F.content files.new) self.old self.new) }
+        ensures steps { F.honest → AgreesIn (F.content files.old) generations.now → IfOk result (Steps (F.content files.old) (F.content files.new) self.old self.new) }
         ensures session { IsSession self.new }
         ensures unchanged { OnErr result (self.new ≡ self.old) }
         ensures commands { self.new.commands ≡ self.old.commands }
         ensures told { IfOk result (TellsReport self.old) }
         ensures same { F.content files.new ≡ F.content files.old }
-        ensures refused { F.honest → IfErr result (IsRefusedStep (F.content files.old) self.old Stage.Unpacked) }
+        ensures refused { F.honest → AgreesIn (F.content files.old) generations.now → IfErr result (IsRefusedStep (F.content files.old) self.old Stage.Unpacked) }
         ensures bad { F.honest → MakesNoneBad (F.content files.old) (F.content files.new) }
         ensures wear { Wears F.failed F.can_fail F.left files.old files.new (IsErrOf result (SessionFault.Fault Fault.Device)) }
     {
-        let verdicts = check_in_files(alloc, files, self.slot, &self.commands, &self.verdicts)?;
+        let verdicts = check_in_files(
+            alloc,
+            files,
+            self.slot,
+            &self.commands,
+            &self.verdicts,
+            generations,
+        )?;
         let passed = count_passing(&verdicts);
         self.stage = stage_while(&verdicts, Stage::Checked);
         self.verdicts = verdicts;
@@ -195,21 +209,27 @@ impl PushSession {
 
     /// The next step: the check of all commands, the storing of what is carried, the update of one command, or the end. After
     /// an error the session is as it was, and of what the step was to store some may be there; no ref has changed. Once
-    /// it has told its report the session is at its end, and its slot is free. No step makes a file bad.
-    pub fn step<F: Files>(&mut self, files: &mut F, alloc: Global) -> Result<Stepped, SessionFault>
-        ensures steps { F.honest → HoldsNames (F.content files.old) self.old.slot self.old.names → IfOk result (Steps (F.content files.old) (F.content files.new) self.old self.new) }
+    /// it has told its report the session is at its end, and its slot is free. No step makes a file bad. The check looks at no
+    /// commit whose number rules out that an old value is its ancestor, where the numbers agree with what is stored.
+    pub fn step<F: Files>(
+        &mut self,
+        files: &mut F,
+        alloc: Global,
+        generations: &Generations,
+    ) -> Result<Stepped, SessionFault>
+        ensures steps { F.honest → AgreesIn (F.content files.old) generations.now → HoldsNames (F.content files.old) self.old.slot self.old.names → IfOk result (Steps (F.content files.old) (F.content files.new) self.old self.new) }
         ensures session { IsSession self.new }
         ensures unchanged { OnErr result (self.new ≡ self.old) }
         ensures commands { self.new.commands ≡ self.old.commands }
         ensures told { IfOk result (TellsReport self.old) }
         ensures early { F.honest → OnErr result (EndsEarly (F.content files.old) (F.content files.new) self.old self.old.stage) }
-        ensures refused { F.honest → IfErr result (IsRefusedStep (F.content files.old) self.old self.old.stage) }
+        ensures refused { F.honest → AgreesIn (F.content files.old) generations.now → IfErr result (IsRefusedStep (F.content files.old) self.old self.old.stage) }
         ensures bad { F.honest → MakesNoneBad (F.content files.old) (F.content files.new) }
         ensures wear { Writes F.honest F.content F.failed F.can_fail F.left files.old files.new (IsErrOf result (SessionFault.Fault Fault.Device)) }
         ensures looks { F.honest → MayWrite (F.content files.old) self.old self.old.stage ⊎ Wears F.failed F.can_fail F.left files.old files.new (IsErrOf result (SessionFault.Fault Fault.Device)) }
     {
         match self.stage {
-            Stage::Unpacked => self.check(files, alloc),
+            Stage::Unpacked => self.check(files, alloc, generations),
             Stage::Checked => self.migrate(files, alloc),
             Stage::Migrated => self.update(files, alloc),
             Stage::Done => self.finish(files, alloc),

@@ -14,7 +14,7 @@ follower-requires g c =
     subst (λ (n : List ℕ). git_is_legal n ≡ true) (sym found.1) found.0
 
 pub returns-then-not-branch-clause-found : goal.returns-then-not-branch-clause-found
-returns-then-not-branch-clause-found g c honest whole to may =
+returns-then-not-branch-clause-found g c honest agrees whole to may =
     let content = g.F.Files.content c.args.files.now in
     let named : c.in-Some.name ≡ c.args.name.now = (legal_found (git_is_legal c.args.name.now) c.args.name.now c.in-Some.name (sym c.in-Some.is ∙ c.in_ok-name.ensures)).1 in
     let is : c.in-Some-2.to ≡ to = same_follower c.in-Some-2.to to (sym c.in-Some-2.is ∙ c.in_ok-to.ensures.name ∙ ap (λ (n : List ℕ). follower c.args.followed n) named ∙ may.follows) in

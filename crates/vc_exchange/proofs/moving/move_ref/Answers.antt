@@ -22,31 +22,31 @@ pub returns-clause-wear : goal.returns-clause-wear
 returns-clause-wear g c = wears_then c.in_ok-to.ensures.wear (λ _. c.in_ok-to.ensures.same) (search rules) (writes_told c.in_ok-moved.ensures.wear (search rules) (search rules))
 
 pub returns-in_err-moved-clause-looks : goal.returns-in_err-moved-clause-looks
-returns-in_err-moved-clause-looks g c = λ honest.
+returns-in_err-moved-clause-looks g c = λ honest agrees.
     let content = g.F.Files.content in
     let old = content c.args.files.now in
     let Whole : Type 0 = AreWhole (objects old) c.args.known.now in
-    let may : Whole → IsFound c.args.followed old c.args.name.now c.args.id.now (Some (c.in-Some.to, c.in-Some.current)) = λ whole. search (rules, c.in_ok-to.ensures.found honest whole) in
+    let may : Whole → IsFound c.args.followed old c.args.name.now c.args.id.now (Some (c.in-Some.to, c.in-Some.current)) = λ whole. search (rules, c.in_ok-to.ensures.found honest agrees whole) in
     elim (c.in_err-moved.ensures.looks honest) [
       | inl free ↦ inl (free_moves Whole c.args.followed old c.args.name.now c.args.id.now c.in-Some.to may (subst (λ (f : FileMap). IsFreeAmong (refs f) c.in-Some.to) c.in_ok-to.ensures.same free))
       | inr wears ↦ inr (wears_both c.in_ok-to.ensures.wear wears (search rules))
     ]
 
 pub returns-clause-moved : goal.returns-clause-moved
-returns-clause-moved g c = λ honest.
+returns-clause-moved g c = λ honest agrees.
     let content = g.F.Files.content in
     let old = content c.args.files.now in
     let Whole : Type 0 = AreWhole (objects old) c.args.known.now in
-    let may : Whole → IsFound c.args.followed old c.args.name.now c.args.id.now (Some (c.in-Some.to, c.in-Some.current)) = λ whole. search (rules, c.in_ok-to.ensures.found honest whole) in
+    let may : Whole → IsFound c.args.followed old c.args.name.now c.args.id.now (Some (c.in-Some.to, c.in-Some.current)) = λ whole. search (rules, c.in_ok-to.ensures.found honest agrees whole) in
     set_moves Whole c.args.followed old c.args.name.now c.args.id.now c.in-Some.to may (content c.set_where_free.new.files) c.in_ok-moved.moved
     (subst (λ (f : FileMap). IsSetWhereFree f (content c.set_where_free.new.files) c.in-Some.to c.args.id.now c.in_ok-moved.moved) c.in_ok-to.ensures.same (search (rules, c.in_ok-moved.ensures.set honest)))
 
 pub returns-clause-looks : goal.returns-clause-looks
-returns-clause-looks g c = λ honest.
+returns-clause-looks g c = λ honest agrees.
     let content = g.F.Files.content in
     let old = content c.args.files.now in
     let Whole : Type 0 = AreWhole (objects old) c.args.known.now in
-    let may : Whole → IsFound c.args.followed old c.args.name.now c.args.id.now (Some (c.in-Some.to, c.in-Some.current)) = λ whole. search (rules, c.in_ok-to.ensures.found honest whole) in
+    let may : Whole → IsFound c.args.followed old c.args.name.now c.args.id.now (Some (c.in-Some.to, c.in-Some.current)) = λ whole. search (rules, c.in_ok-to.ensures.found honest agrees whole) in
     elim (c.in_ok-moved.ensures.looks honest) [
       | inl free ↦ inl (free_moves Whole c.args.followed old c.args.name.now c.args.id.now c.in-Some.to may (subst (λ (f : FileMap). IsFreeAmong (refs f) c.in-Some.to) c.in_ok-to.ensures.same free))
       | inr wears ↦ inr (wears_both c.in_ok-to.ensures.wear wears (search rules))

@@ -11,7 +11,7 @@ use Rattle.vc_session.specs.Known.{AreWhole}
 use Rattle.vc_store.specs.Store.{objects}
 use Rattle.vc_exchange.specs.Moving.{AreFrontMoved, AreMoved, IsMove, MayMove, MovesSome, Told, told_in}
 use Rattle.vc_exchange.proofs.MovingFronts.{front_moved, more_moved, move_where, next_moves, none_moved, one_moved, some_moved}
-use Rattle.vc_exchange.proofs.MovingLoops.{front_more, front_next, front_rest, told_of, whole_after}
+use Rattle.vc_exchange.proofs.MovingLoops.{agrees_after, front_more, front_next, front_rest, told_of, whole_after}
 use Rattle.vc_exchange.proofs.moving.move_refs.Goals.{then-branch, else-branch}
 use Rattle.vc_exchange.proofs.moving.move_refs.Goals as goal
 
@@ -28,12 +28,12 @@ on_err (Err e) X x = x
 
 pub loop-name-init : goal.loop-name-init
 loop-name-init g c = record {
-  moves = λ honest r p. none_moved c.args.followed (AreWhole (objects (g.F.Files.content c.args.files.now)) c.args.known.now) (g.F.Files.content c.args.files.now) r p;
+  moves = λ honest agrees r p. none_moved c.args.followed (AreWhole (objects (g.F.Files.content c.args.files.now)) c.args.known.now) (g.F.Files.content c.args.files.now) r p;
   known = λ honest whole. whole;
   outside = λ honest. outside_same _ _;
   bad = λ honest. bad_same _ _ refl;
   counted = omega arith;
-  looked = λ honest none. inr (record { later = omega arith; calm = λ can. can; could = λ never. absurd never; failed_now = λ never. absurd never; unspent = refl });
+  looked = λ honest agrees none. inr (record { later = omega arith; calm = λ can. can; could = λ never. absurd never; failed_now = λ never. absurd never; unspent = refl });
   wear = search rules;
 }
 
@@ -53,11 +53,12 @@ loop-name-preserved g c =
     ] in
     let Whole : Type 0 = AreWhole (objects (content c.args.files.now)) c.args.known.now in
     record {
-      moves = λ honest r p.
-          let so_far = before.moves honest r p in
+      moves = λ honest agrees r p.
+          let there = agrees_after (content c.args.files.now) (content c.loop-name.files) c.args.generations.now (before.outside honest) agrees in
+          let so_far = before.moves honest agrees r p in
           let step : IsMove Whole followed (content c.loop-name.files) (content c.move_ref.new.files) item.0.items item.1 yes =
           subst (λ (name : List ℕ). IsMove Whole followed (content c.loop-name.files) (content c.move_ref.new.files) name item.1 yes) c.deref.ensures.value
-          (move_where (before.known honest) followed (content c.loop-name.files) (content c.move_ref.new.files) c.deref.result.now item.1 yes (c.in_ok-move_ref.ensures.moved honest)) in
+          (move_where (before.known honest) followed (content c.loop-name.files) (content c.move_ref.new.files) c.deref.result.now item.1 yes (c.in_ok-move_ref.ensures.moved honest there)) in
           let one = one_moved followed Whole (content c.loop-name.files) (changed_all so_far.changes r) so_far.content (content c.move_ref.new.files) (c.in_ok-move_ref.ensures.outside honest) item.0.items item.1 yes step in
           let both = more_moved followed Whole (told_in (take i told)) (told_of item ∷ []) r (content c.loop-name.files) (content c.move_ref.new.files) n (count yes) so_far one in
           subst (λ (k : ℕ). AreMoved Whole followed (told_in (take (i + 1) told)) r (content c.move_ref.new.files) k) (sym counts)
@@ -69,16 +70,17 @@ loop-name-preserved g c =
         | then-branch w ↦ let is = w.moved-is in omega (arith, is, before.counted)
         | else-branch w ↦ let is = w.moved-is in omega (arith, is, before.counted)
       ];
-      looked = λ honest none. elim c.if-branch.branch [
+      looked = λ honest agrees none. elim c.if-branch.branch [
         | then-branch w ↦ absurd (let is = w.moved-is in omega (arith, is, none))
         | else-branch w ↦
             let is = w.moved-is in
+            let there = agrees_after (content c.args.files.now) (content c.loop-name.files) c.args.generations.now (before.outside honest) agrees in
             let stayed : n ≡ 0 = omega (arith, is, none) in
             let step : IsMove (AreWhole (objects (content c.loop-name.files)) c.loop-name.known) followed (content c.loop-name.files) (content c.move_ref.new.files) c.deref.result.now item.1 false =
-            subst (λ (b : Bool). IsMove (AreWhole (objects (content c.loop-name.files)) c.loop-name.known) followed (content c.loop-name.files) (content c.move_ref.new.files) c.deref.result.now item.1 b) w.if-branch.false (c.in_ok-move_ref.ensures.moved honest) in
-            elim (before.looked honest stayed) [
+            subst (λ (b : Bool). IsMove (AreWhole (objects (content c.loop-name.files)) c.loop-name.known) followed (content c.loop-name.files) (content c.move_ref.new.files) c.deref.result.now item.1 b) w.if-branch.false (c.in_ok-move_ref.ensures.moved honest there) in
+            elim (before.looked honest agrees stayed) [
               | inl never ↦ inl never
-              | inr worn ↦ elim (c.in_ok-move_ref.ensures.looks honest) [
+              | inr worn ↦ elim (c.in_ok-move_ref.ensures.looks honest there) [
                 | inl may ↦ inl (λ whole. let so = before.known honest whole in let m = may so in step.0 so m.0 m.1)
                 | inr wears ↦ inr (wears_both worn wears (λ never. absurd never))
               ]
@@ -88,13 +90,13 @@ loop-name-preserved g c =
     }
 
 pub returns-in_err-move_ref-clause-left : goal.returns-in_err-move_ref-clause-left
-returns-in_err-move_ref-clause-left g c = λ honest r p.
+returns-in_err-move_ref-clause-left g c = λ honest agrees r p.
     let content = g.F.Files.content in
     let Whole : Type 0 = AreWhole (objects (content c.args.files.now)) c.args.known.now in
     let told = c.args.told.now in
     let i = c.loop-name.name-index in
     let same : content c.move_ref.new.files ≡ content c.loop-name.files = search (rules, c.in_err-move_ref.ensures.err honest) in
-    let front = front_moved c.args.followed Whole (told_in (take i told)) (told_in (drop i told)) (content c.args.files.now) r p (content c.loop-name.files) c.loop-name.moved (c.loop-name.invariant.moves honest r p) in
+    let front = front_moved c.args.followed Whole (told_in (take i told)) (told_in (drop i told)) (content c.args.files.now) r p (content c.loop-name.files) c.loop-name.moved (c.loop-name.invariant.moves honest agrees r p) in
     let left : AreFrontMoved Whole c.args.followed (told_in told) r (content c.loop-name.files) = subst (λ (l : List Told). AreFrontMoved Whole c.args.followed l r (content c.loop-name.files)) (front_rest told i) front in
     on_err c.from_residual.result _ (subst (AreFrontMoved Whole c.args.followed (told_in told) r) (sym same) left)
 
@@ -102,20 +104,20 @@ pub returns-in_err-move_ref-clause-wear : goal.returns-in_err-move_ref-clause-we
 returns-in_err-move_ref-clause-wear g c = writes_both c.loop-name.invariant.wear (λ never. never) (writes_told c.in_err-move_ref.ensures.wear (search rules) (search rules))
 
 pub returns-in_err-move_ref-clause-looks : goal.returns-in_err-move_ref-clause-looks
-returns-in_err-move_ref-clause-looks g c = λ honest r p.
+returns-in_err-move_ref-clause-looks g c = λ honest agrees r p.
     let content = g.F.Files.content in
     let Whole : Type 0 = AreWhole (objects (content c.args.files.now)) c.args.known.now in
     let followed = c.args.followed in
     let told = c.args.told.now in
     let i = c.loop-name.name-index in
     let item = c.loop-name-item.result in
-    let so_far = c.loop-name.invariant.moves honest r p in
+    let so_far = c.loop-name.invariant.moves honest agrees r p in
     elim (zero_or c.loop-name.moved) [
       | inr some ↦ inl (λ whole. subst (λ (l : List Told). MovesSome followed l r) (front_rest told i)
           (some_moved followed Whole (told_in (take i told)) (told_in (drop i told)) (content c.args.files.now) r p (content c.loop-name.files) c.loop-name.moved so_far some whole))
-      | inl none ↦ elim (c.loop-name.invariant.looked honest none) [
+      | inl none ↦ elim (c.loop-name.invariant.looked honest agrees none) [
         | inl never ↦ inl (λ whole. absurd (never whole))
-        | inr worn ↦ elim (c.in_err-move_ref.ensures.looks honest) [
+        | inr worn ↦ elim (c.in_err-move_ref.ensures.looks honest (agrees_after (content c.args.files.now) (content c.loop-name.files) c.args.generations.now (c.loop-name.invariant.outside honest) agrees)) [
           | inl may ↦ inl (λ whole.
               let m = may (c.loop-name.invariant.known honest whole) in
               let next : MayMove followed (content c.loop-name.files) item.0.items item.1 m.0 = subst (λ (name : List ℕ). MayMove followed (content c.loop-name.files) name item.1 m.0) c.deref.ensures.value m.1 in
@@ -127,20 +129,20 @@ returns-in_err-move_ref-clause-looks g c = λ honest r p.
     ]
 
 pub returns-clause-moved : goal.returns-clause-moved
-returns-clause-moved g c = λ honest r p.
+returns-clause-moved g c = λ honest agrees r p.
     let Whole : Type 0 = AreWhole (objects (g.F.Files.content c.args.files.now)) c.args.known.now in
     let told = c.args.told.now in
     let all : take c.loop-name.name-index told ≡ told = take_all c.loop-name.name-index told (omega (arith, c.loop-name-test.false)) in
-    subst (λ l. AreMoved Whole c.args.followed (told_in l) r (g.F.Files.content c.loop-name.files) c.loop-name.moved) all (c.loop-name.invariant.moves honest r p)
+    subst (λ l. AreMoved Whole c.args.followed (told_in l) r (g.F.Files.content c.loop-name.files) c.loop-name.moved) all (c.loop-name.invariant.moves honest agrees r p)
 
 pub returns-clause-looks : goal.returns-clause-looks
-returns-clause-looks g c = λ honest r p.
+returns-clause-looks g c = λ honest agrees r p.
     let content = g.F.Files.content in
     let Whole : Type 0 = AreWhole (objects (content c.args.files.now)) c.args.known.now in
     let told = c.args.told.now in
     let i = c.loop-name.name-index in
     elim (zero_or c.loop-name.moved) [
       | inr some ↦ inl (λ whole. subst (λ (l : List Told). MovesSome c.args.followed l r) (front_rest told i)
-          (some_moved c.args.followed Whole (told_in (take i told)) (told_in (drop i told)) (content c.args.files.now) r p (content c.loop-name.files) c.loop-name.moved (c.loop-name.invariant.moves honest r p) some whole))
-      | inl none ↦ elim (c.loop-name.invariant.looked honest none) [ inl never ↦ inl (λ whole. absurd (never whole)) | inr worn ↦ inr (wears_told worn (search rules)) ]
+          (some_moved c.args.followed Whole (told_in (take i told)) (told_in (drop i told)) (content c.args.files.now) r p (content c.loop-name.files) c.loop-name.moved (c.loop-name.invariant.moves honest agrees r p) some whole))
+      | inl none ↦ elim (c.loop-name.invariant.looked honest agrees none) [ inl never ↦ inl (λ whole. absurd (never whole)) | inr worn ↦ inr (wears_told worn (search rules)) ]
     ]

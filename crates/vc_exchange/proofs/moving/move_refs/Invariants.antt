@@ -1,5 +1,6 @@
 use Rattle.std.proofs.Common.{◌≡◌, ◌⊎◌, ◌≤◌, take}
 use Rattle.std.specs.Prelude.{codes}
+use Rattle.vc_base.specs.Stored.{AgreesIn}
 use Rattle.vc_files.specs.FileMap.{SameOutside}
 use Rattle.vc_files.specs.Failures.{Wears, Writes}
 use Rattle.vc_model.specs.Repository.{Repository}
@@ -12,11 +13,11 @@ use Rattle.vc_exchange.proofs.moving.move_refs.Given as goal
 
 abbrev pub invariant-loop-name : goal.invariant-loop-name
 invariant-loop-name g l = record {
-  moves : g.F.Files.honest → (r : Repository) → HoldsContent (g.F.Files.content l.initial.files) r → AreMoved (AreWhole (objects (g.F.Files.content l.initial.files)) l.initial.known) l.fn.followed (told_in (take l.name-index l.told)) r (g.F.Files.content l.files) l.moved;
+  moves : g.F.Files.honest → AgreesIn (g.F.Files.content l.initial.files) l.generations → (r : Repository) → HoldsContent (g.F.Files.content l.initial.files) r → AreMoved (AreWhole (objects (g.F.Files.content l.initial.files)) l.initial.known) l.fn.followed (told_in (take l.name-index l.told)) r (g.F.Files.content l.files) l.moved;
   known : g.F.Files.honest → AreWhole (objects (g.F.Files.content l.initial.files)) l.initial.known → AreWhole (objects (g.F.Files.content l.files)) l.known;
   outside : g.F.Files.honest → SameOutside (codes "refs/") (g.F.Files.content l.initial.files) (g.F.Files.content l.files);
   bad : g.F.Files.honest → MakesNoneBad (g.F.Files.content l.initial.files) (g.F.Files.content l.files);
   counted : l.moved ≤ l.name-index;
-  looked : g.F.Files.honest → l.moved ≡ 0 → (¬ AreWhole (objects (g.F.Files.content l.initial.files)) l.initial.known) ⊎ Wears g.F.Files.failed g.F.Files.can_fail g.F.Files.left l.initial.files l.files ⊥;
+  looked : g.F.Files.honest → AgreesIn (g.F.Files.content l.initial.files) l.generations → l.moved ≡ 0 → (¬ AreWhole (objects (g.F.Files.content l.initial.files)) l.initial.known) ⊎ Wears g.F.Files.failed g.F.Files.can_fail g.F.Files.left l.initial.files l.files ⊥;
   wear : Writes g.F.Files.honest g.F.Files.content g.F.Files.failed g.F.Files.can_fail g.F.Files.left l.initial.files l.files ⊥;
 }

@@ -32,7 +32,7 @@ use Rattle.vc_files.specs.declared.faults.Fault.TheVariants.{Device}
 use Rattle.vc_exchange.proofs.MovingLoops.{whole_refs}
 use Rattle.vc_exchange.proofs.PackDeeds.{judge_blames, pack_moving, pack_storing, pack_stored, pack_taken, store_other}
 use Rattle.vc_exchange.proofs.PackLemmas.{brought_closed, brought_same, histories_met, stored_content, stored_met, stored_outside, stored_since, some_since, whole_after}
-use Rattle.vc_exchange.proofs.KeptLemmas.{keeps_beside_refs, keeps_some, keeps_stored}
+use Rattle.vc_exchange.proofs.KeptLemmas.{agrees_kept, keeps_beside_refs, keeps_some, keeps_stored}
 use Rattle.vc_exchange.proofs.receiving.receive_pack.Goals as goal
 
 on_err : {A E : Type 0} (r : Result A E) (X : Type 0) → X → OnErr r X
@@ -50,7 +50,7 @@ pub returns-in_err-known-clause-wear : goal.returns-in_err-known-clause-wear
 returns-in_err-known-clause-wear g c = writes_told (wears_writes c.in_err-known.ensures.wear (λ _. c.in_err-known.ensures.same)) (search rules) (search rules)
 
 pub returns-in_err-objects-clause-refused : goal.returns-in_err-objects-clause-refused
-returns-in_err-objects-clause-refused g c = λ honest m p.
+returns-in_err-objects-clause-refused g c = λ honest agrees m p.
     let content = g.F.Files.content in
     let old = content c.args.files.now in
     let read = content c.by_good_refs.new.files in
@@ -81,7 +81,7 @@ returns-in_err-objects-clause-wear g c =
     (λ told. let same : from_answer e ≡ exchange.Fault Device = err_same (sym is ∙ told) in ap Err (plain e same)))
 
 pub returns-in_err-store_all-clause-cut : goal.returns-in_err-store_all-clause-cut
-returns-in_err-store_all-clause-cut g c = λ honest r p m pack refs same.
+returns-in_err-store_all-clause-cut g c = λ honest agrees r p m pack refs same.
     let content = g.F.Files.content in
     let old = content c.args.files.now in
     let read = content c.by_good_refs.new.files in
@@ -109,7 +109,7 @@ returns-in_err-store_all-clause-unchanged g c = λ honest.
     told_err c.from_residual-in_err-store_all.result (from_store e) (λ x. (id : ObjectId) → x ≡ exchange.Incomplete id → content c.store_all.new.files ≡ content c.args.files.now) (search rules) (λ id is. absurd (store_other e id is))
 
 pub returns-in_err-open-clause-cut : goal.returns-in_err-open-clause-cut
-returns-in_err-open-clause-cut g c = λ honest r p m pack refs same.
+returns-in_err-open-clause-cut g c = λ honest agrees r p m pack refs same.
     let content = g.F.Files.content in
     let old = content c.args.files.now in
     let read = content c.by_good_refs.new.files in
@@ -134,7 +134,7 @@ returns-in_err-open-clause-wear g c =
     (writes_both c.in_ok-store_all.ensures.wear (search rules) (writes_told (wears_writes c.in_err-open.ensures.wear (λ _. c.in_err-open.ensures.same)) (search rules) (search rules))))
 
 pub returns-in_err-moved-clause-cut : goal.returns-in_err-moved-clause-cut
-returns-in_err-moved-clause-cut g c = λ honest r p m pack refs same.
+returns-in_err-moved-clause-cut g c = λ honest agrees r p m pack refs same.
     let content = g.F.Files.content in
     let old = content c.args.files.now in
     let read = content c.by_good_refs.new.files in
@@ -155,9 +155,10 @@ returns-in_err-moved-clause-cut g c = λ honest r p m pack refs same.
     let all = with_objects r (joined r.objects pack.objects) in
     let now : HoldsContent seen all = subst (λ (f : FileMap). HoldsContent f all) (sym c.in_ok-open.ensures.same) held in
     let met : IsSound git r → IsClosedUnder (links_in (objects mid)) keys = λ is. stored_met old mid brought st keys (brought_closed old read brought keys seen_at (c.in_ok-objects.ensures.met honest (by_refs is).closed)) in
+    let there = agrees_kept (g.F.Files.content c.args.files.now) (g.F.Files.content c.open_ids.new.files) c.args.generations.now (keeps_then _ _ _ (keeps_same _ _ (c.in_ok-objects.ensures.same ∙ c.in_ok-known.ensures.same)) (keeps_then _ _ _ (keeps_stored (g.F.Files.content c.judge_pack.new.files) (g.F.Files.content c.store_all.new.files) (carried c.args.pack.now.objects) (c.in_ok-store_all.ensures.stored honest)) (keeps_same _ _ c.in_ok-open.ensures.same))) agrees in
     let more : Known = record { objects = c.open_ids.new.known; histories = known.histories } in
     let whole : IsSound git r → AreWhole (objects seen) more = λ is. whole_after mid seen c.in_ok-open.ensures.same more (c.in_ok-open.ensures.known honest (met is)) (histories_met old read mid brought seen_at st known (by_refs is)) in
-    on_err c.from_residual-in_err-moved.result _ (pack_moving old r p brought pack.objects pack.brought m _ pack.is wants refs (told_in c.args.told.now) same closed (AreWhole (objects seen) more) whole (content c.move_refs.new.files) (search (rules, c.in_err-moved.ensures.left honest all now)))
+    on_err c.from_residual-in_err-moved.result _ (pack_moving old r p brought pack.objects pack.brought m _ pack.is wants refs (told_in c.args.told.now) same closed (AreWhole (objects seen) more) whole (content c.move_refs.new.files) (search (rules, c.in_err-moved.ensures.left honest there all now)))
 
 pub returns-in_err-moved-clause-wear : goal.returns-in_err-moved-clause-wear
 returns-in_err-moved-clause-wear g c =
@@ -167,7 +168,7 @@ returns-in_err-moved-clause-wear g c =
     (wears_then c.in_ok-open.ensures.wear (λ _. c.in_ok-open.ensures.same) (search rules) (writes_told c.in_err-moved.ensures.wear (search rules) (search rules)))))
 
 pub returns-clause-taken : goal.returns-clause-taken
-returns-clause-taken g c = λ honest r p m pack refs same.
+returns-clause-taken g c = λ honest agrees r p m pack refs same.
     let content = g.F.Files.content in
     let old = content c.args.files.now in
     let read = content c.by_good_refs.new.files in
@@ -188,10 +189,11 @@ returns-clause-taken g c = λ honest r p m pack refs same.
     let all = with_objects r (joined r.objects pack.objects) in
     let now : HoldsContent seen all = subst (λ (f : FileMap). HoldsContent f all) (sym c.in_ok-open.ensures.same) held in
     let met : IsSound git r → IsClosedUnder (links_in (objects mid)) keys = λ is. stored_met old mid brought st keys (brought_closed old read brought keys seen_at (c.in_ok-objects.ensures.met honest (by_refs is).closed)) in
+    let there = agrees_kept (g.F.Files.content c.args.files.now) (g.F.Files.content c.open_ids.new.files) c.args.generations.now (keeps_then _ _ _ (keeps_same _ _ (c.in_ok-objects.ensures.same ∙ c.in_ok-known.ensures.same)) (keeps_then _ _ _ (keeps_stored (g.F.Files.content c.judge_pack.new.files) (g.F.Files.content c.store_all.new.files) (carried c.args.pack.now.objects) (c.in_ok-store_all.ensures.stored honest)) (keeps_same _ _ c.in_ok-open.ensures.same))) agrees in
     let more : Known = record { objects = c.open_ids.new.known; histories = known.histories } in
     let whole : IsSound git r → AreWhole (objects seen) more = λ is. whole_after mid seen c.in_ok-open.ensures.same more (c.in_ok-open.ensures.known honest (met is)) (histories_met old read mid brought seen_at st known (by_refs is)) in
     let done = pack_taken old r p brought pack.objects pack.brought m _ pack.is wants refs (told_in c.args.told.now) same closed (AreWhole (objects seen) more) whole (content c.move_refs.new.files) c.in_ok-moved.moved c.in_ok-open.open.items
-    (c.in_ok-moved.ensures.moved honest all now) (λ is. c.in_ok-open.ensures.wanted honest (met is) all held) in
+    (c.in_ok-moved.ensures.moved honest there all now) (λ is. c.in_ok-open.ensures.wanted honest (met is) all held) in
     search (rules, done, c.len.ensures)
 
 pub returns-clause-wear : goal.returns-clause-wear

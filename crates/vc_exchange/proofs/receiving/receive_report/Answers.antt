@@ -11,7 +11,7 @@ use Rattle.vc_model.specs.Clone.{refused_reasons}
 use Rattle.vc_push.specs.ReportView.{report_text, told_of}
 use Rattle.vc_push.specs.declared.report.Told.{Told}
 use Rattle.vc_session.proofs.UpdateLemmas.{wears_both}
-use Rattle.vc_exchange.proofs.MovingLoops.{whole_refs}
+use Rattle.vc_exchange.proofs.MovingLoops.{agrees_same, whole_refs}
 use Rattle.vc_exchange.proofs.ReceivingLemmas.{report_changes, report_cut, report_received}
 use Rattle.vc_exchange.proofs.receiving.receive_report.Goals as goal
 
@@ -23,7 +23,7 @@ pub returns-in_err-known-clause-wear : goal.returns-in_err-known-clause-wear
 returns-in_err-known-clause-wear g c = writes_told (wears_writes c.in_err-known.ensures.wear (λ _. c.in_err-known.ensures.same)) (search rules) (search rules)
 
 pub returns-in_err-moved-clause-cut : goal.returns-in_err-moved-clause-cut
-returns-in_err-moved-clause-cut g c = λ honest r p m report awaits.
+returns-in_err-moved-clause-cut g c = λ honest agrees r p m report awaits.
     let content = g.F.Files.content in
     let t = report_text c.args.report.now in
     let seen = content c.by_good_refs.new.files in
@@ -33,10 +33,10 @@ returns-in_err-moved-clause-cut g c = λ honest r p m report awaits.
     let sound = whole_refs (content c.args.files.now) seen c.in_ok-known.known r same (c.in_ok-known.ensures.whole honest) p in
     let is : told_in c.deref-3.result.now ≡ accepted t.told = ap told_in c.deref-3.ensures.value ∙ c.in_ok-refs.ensures ∙ ap (λ (l : List Told). accepted (map told_of l)) c.deref-2.ensures.value in
     let are : c.in_ok-refused.refused.items ≡ refused_reasons (map machine_told t.told) = c.in_ok-refused.ensures ∙ ap (λ (l : List Told). refused_reasons (map machine_told (map told_of l))) c.deref.ensures.value in
-    on_err c.from_residual-in_err-moved.result _ (report_cut r Whole sound awaits m t report (told_in c.deref-3.result.now) is c.in_ok-refused.refused.items are (content c.move_refs.new.files) (search (rules, c.in_err-moved.ensures.left honest r held)))
+    on_err c.from_residual-in_err-moved.result _ (report_cut r Whole sound awaits m t report (told_in c.deref-3.result.now) is c.in_ok-refused.refused.items are (content c.move_refs.new.files) (search (rules, c.in_err-moved.ensures.left honest (agrees_same (g.F.Files.content c.args.files.now) seen c.args.generations.now same agrees) r held)))
 
 pub returns-in_err-moved-clause-looks : goal.returns-in_err-moved-clause-looks
-returns-in_err-moved-clause-looks g c = λ honest r p m report awaits.
+returns-in_err-moved-clause-looks g c = λ honest agrees r p m report awaits.
     let content = g.F.Files.content in
     let t = report_text c.args.report.now in
     let seen = content c.by_good_refs.new.files in
@@ -46,10 +46,10 @@ returns-in_err-moved-clause-looks g c = λ honest r p m report awaits.
     let sound = whole_refs (content c.args.files.now) seen c.in_ok-known.known r same (c.in_ok-known.ensures.whole honest) p in
     let is : told_in c.deref-3.result.now ≡ accepted t.told = ap told_in c.deref-3.ensures.value ∙ c.in_ok-refs.ensures ∙ ap (λ (l : List Told). accepted (map told_of l)) c.deref-2.ensures.value in
     let are : c.in_ok-refused.refused.items ≡ refused_reasons (map machine_told t.told) = c.in_ok-refused.ensures ∙ ap (λ (l : List Told). refused_reasons (map machine_told (map told_of l))) c.deref.ensures.value in
-    elim (c.in_err-moved.ensures.looks honest r held) [ inl some ↦ inl (report_changes r Whole sound awaits m t report (told_in c.deref-3.result.now) is c.in_ok-refused.refused.items are some) | inr wears ↦ inr (wears_both c.in_ok-known.ensures.wear wears (search rules)) ]
+    elim (c.in_err-moved.ensures.looks honest (agrees_same (g.F.Files.content c.args.files.now) seen c.args.generations.now same agrees) r held) [ inl some ↦ inl (report_changes r Whole sound awaits m t report (told_in c.deref-3.result.now) is c.in_ok-refused.refused.items are some) | inr wears ↦ inr (wears_both c.in_ok-known.ensures.wear wears (search rules)) ]
 
 pub returns-clause-taken : goal.returns-clause-taken
-returns-clause-taken g c = λ honest r p m report awaits.
+returns-clause-taken g c = λ honest agrees r p m report awaits.
     let content = g.F.Files.content in
     let t = report_text c.args.report.now in
     let seen = content c.by_good_refs.new.files in
@@ -59,10 +59,10 @@ returns-clause-taken g c = λ honest r p m report awaits.
     let sound = whole_refs (content c.args.files.now) seen c.in_ok-known.known r same (c.in_ok-known.ensures.whole honest) p in
     let is : told_in c.deref-3.result.now ≡ accepted t.told = ap told_in c.deref-3.ensures.value ∙ c.in_ok-refs.ensures ∙ ap (λ (l : List Told). accepted (map told_of l)) c.deref-2.ensures.value in
     let are : c.in_ok-refused.refused.items ≡ refused_reasons (map machine_told t.told) = c.in_ok-refused.ensures ∙ ap (λ (l : List Told). refused_reasons (map machine_told (map told_of l))) c.deref.ensures.value in
-    report_received r Whole sound awaits m t report (told_in c.deref-3.result.now) is c.in_ok-refused.refused.items are (content c.move_refs.new.files) c.in_ok-moved.moved (c.in_ok-moved.ensures.moved honest r held)
+    report_received r Whole sound awaits m t report (told_in c.deref-3.result.now) is c.in_ok-refused.refused.items are (content c.move_refs.new.files) c.in_ok-moved.moved (c.in_ok-moved.ensures.moved honest (agrees_same (g.F.Files.content c.args.files.now) seen c.args.generations.now same agrees) r held)
 
 pub returns-clause-looks : goal.returns-clause-looks
-returns-clause-looks g c = λ honest r p m report awaits.
+returns-clause-looks g c = λ honest agrees r p m report awaits.
     let content = g.F.Files.content in
     let t = report_text c.args.report.now in
     let seen = content c.by_good_refs.new.files in
@@ -72,7 +72,7 @@ returns-clause-looks g c = λ honest r p m report awaits.
     let sound = whole_refs (content c.args.files.now) seen c.in_ok-known.known r same (c.in_ok-known.ensures.whole honest) p in
     let is : told_in c.deref-3.result.now ≡ accepted t.told = ap told_in c.deref-3.ensures.value ∙ c.in_ok-refs.ensures ∙ ap (λ (l : List Told). accepted (map told_of l)) c.deref-2.ensures.value in
     let are : c.in_ok-refused.refused.items ≡ refused_reasons (map machine_told t.told) = c.in_ok-refused.ensures ∙ ap (λ (l : List Told). refused_reasons (map machine_told (map told_of l))) c.deref.ensures.value in
-    elim (c.in_ok-moved.ensures.looks honest r held) [ inl some ↦ inl (report_changes r Whole sound awaits m t report (told_in c.deref-3.result.now) is c.in_ok-refused.refused.items are some) | inr wears ↦ inr (wears_both c.in_ok-known.ensures.wear wears (search rules)) ]
+    elim (c.in_ok-moved.ensures.looks honest (agrees_same (g.F.Files.content c.args.files.now) seen c.args.generations.now same agrees) r held) [ inl some ↦ inl (report_changes r Whole sound awaits m t report (told_in c.deref-3.result.now) is c.in_ok-refused.refused.items are some) | inr wears ↦ inr (wears_both c.in_ok-known.ensures.wear wears (search rules)) ]
 
 pub returns-in_err-moved-clause-wear : goal.returns-in_err-moved-clause-wear
 returns-in_err-moved-clause-wear g c = wears_then c.in_ok-known.ensures.wear (λ _. c.in_ok-known.ensures.same) (search rules) (writes_told c.in_err-moved.ensures.wear (search rules) (search rules))

@@ -1,5 +1,7 @@
 use Rattle.std.proofs.Common.{Ok, ap, inr, refl, subst}
 use Rattle.vc_answer.proofs.KeepsLemmas.{keeps_same}
+use Rattle.vc_base.proofs.GenerationLemmas.{agrees_where_none}
+use Rattle.vc_base.specs.Numbering.{numbers}
 use Rattle.vc_exchange.proofs.KeptLemmas.{keeps_beside_refs}
 use Rattle.vc_exchange.specs.Moving.{told_in}
 use Rattle.vc_exchange.specs.Receiving.{IsAdvertTaken}
@@ -31,12 +33,12 @@ pub returns-in_err-asked-clause-answers : goal.returns-in_err-asked-clause-answe
 returns-in_err-asked-clause-answers g c = λ honest m is.
     still_awaiting (Receive m) _ _ _ _ _ (ap awaited_text c.in-Advert.is)
     (advert_failed (g.F.Files.content c.args.files.now) (g.F.Files.content c.receive_advert.new.files) m (advert_text c.args.advert) is (c.receive_advert.ensures.outside honest) (c.receive_advert.ensures.bad honest)
-    c.in_err-asked.field-0.0 c.from_residual.result c.from_residual.ensures.1 (c.in_err-asked.ensures.refused honest) (c.in_err-asked.ensures.cut honest))
+    c.in_err-asked.field-0.0 c.from_residual.result c.from_residual.ensures.1 (c.in_err-asked.ensures.refused honest (agrees_where_none _ (numbers c.new-generations.result) c.new-generations.ensures.none)) (c.in_err-asked.ensures.cut honest (agrees_where_none _ (numbers c.new-generations.result) c.new-generations.ensures.none)))
 
 pub returns-in_err-asked-clause-looks : goal.returns-in_err-asked-clause-looks
 returns-in_err-asked-clause-looks g c = λ honest m is.
     advert_may (g.F.Files.content c.args.files.now) m (awaited_text c.args.awaited.now) (ap awaited_text c.in-Advert.is) (λ r holds.
-    or_told (c.receive_advert.ensures.looks honest r holds m is) (λ may. may)
+    or_told (c.receive_advert.ensures.looks honest (agrees_where_none _ (numbers c.new-generations.result) c.new-generations.ensures.none) r holds m is) (λ may. may)
     (device_from c.receive_advert.result c.in_err-asked.field-0.0 c.in_err-asked.was c.from_residual.result c.from_residual.ensures.1))
 
 pub returns-in-Wanted-clause-answers : goal.returns-in-Wanted-clause-answers
@@ -44,22 +46,22 @@ returns-in-Wanted-clause-answers g c = λ honest m is.
     awaiting (Receive m) (Ok (Send c.in-Wanted.asked.bytes)) _ _ _ _ (ap awaited_text c.in-Advert.is) _
     (advert_wanted (g.F.Files.content c.args.files.now) (g.F.Files.content c.receive_advert.new.files) m (advert_text c.args.advert) is (c.receive_advert.ensures.outside honest) (c.receive_advert.ensures.bad honest)
     c.in-Wanted.asked.wants.items (told_in c.in-Wanted.asked.refs.items) c.in-Wanted.asked.bytes
-    (λ r holds head k advert. subst (λ (x : Advertised). IsAdvertTaken r k (g.F.Files.content c.receive_advert.new.files) x) c.in-Wanted.is (c.in_ok-asked.ensures.taken honest r holds head k advert)))
+    (λ r holds head k advert. subst (λ (x : Advertised). IsAdvertTaken r k (g.F.Files.content c.receive_advert.new.files) x) c.in-Wanted.is (c.in_ok-asked.ensures.taken honest (agrees_where_none _ (numbers c.new-generations.result) c.new-generations.ensures.none) r holds head k advert)))
 
 pub returns-in-Wanted-clause-looks : goal.returns-in-Wanted-clause-looks
 returns-in-Wanted-clause-looks g c = λ honest m is.
-    advert_may (g.F.Files.content c.args.files.now) m (awaited_text c.args.awaited.now) (ap awaited_text c.in-Advert.is) (λ r holds. or_told (c.in_ok-asked.ensures.looks honest r holds m is) (λ may. may) (λ never. absurd never))
+    advert_may (g.F.Files.content c.args.files.now) m (awaited_text c.args.awaited.now) (ap awaited_text c.in-Advert.is) (λ r holds. or_told (c.in_ok-asked.ensures.looks honest (agrees_where_none _ (numbers c.new-generations.result) c.new-generations.ensures.none) r holds m is) (λ may. may) (λ never. absurd never))
 
 pub returns-in-Followed-clause-answers : goal.returns-in-Followed-clause-answers
 returns-in-Followed-clause-answers g c = λ honest m is.
     awaiting (Receive m) (Ok (Moved c.in-Followed.moves.moved c.in-Followed.moves.left)) _ _ _ _ (ap awaited_text c.in-Advert.is) _
     (advert_followed (g.F.Files.content c.args.files.now) (g.F.Files.content c.receive_advert.new.files) m (advert_text c.args.advert) is (c.receive_advert.ensures.outside honest) (c.receive_advert.ensures.bad honest)
     c.in-Followed.moves.moved c.in-Followed.moves.left
-    (λ r holds head k advert. subst (λ (x : Advertised). IsAdvertTaken r k (g.F.Files.content c.receive_advert.new.files) x) c.in-Followed.is (c.in_ok-asked.ensures.taken honest r holds head k advert)))
+    (λ r holds head k advert. subst (λ (x : Advertised). IsAdvertTaken r k (g.F.Files.content c.receive_advert.new.files) x) c.in-Followed.is (c.in_ok-asked.ensures.taken honest (agrees_where_none _ (numbers c.new-generations.result) c.new-generations.ensures.none) r holds head k advert)))
 
 pub returns-in-Followed-clause-looks : goal.returns-in-Followed-clause-looks
 returns-in-Followed-clause-looks g c = λ honest m is.
-    advert_may (g.F.Files.content c.args.files.now) m (awaited_text c.args.awaited.now) (ap awaited_text c.in-Advert.is) (λ r holds. or_told (c.in_ok-asked.ensures.looks honest r holds m is) (λ may. may) (λ never. absurd never))
+    advert_may (g.F.Files.content c.args.files.now) m (awaited_text c.args.awaited.now) (ap awaited_text c.in-Advert.is) (λ r holds. or_told (c.in_ok-asked.ensures.looks honest (agrees_where_none _ (numbers c.new-generations.result) c.new-generations.ensures.none) r holds m is) (λ may. may) (λ never. absurd never))
 
 pub returns-in-Followed-clause-objects : goal.returns-in-Followed-clause-objects
 returns-in-Followed-clause-objects g c = λ honest. keeps_beside_refs _ _ (c.receive_advert.ensures.outside honest)
