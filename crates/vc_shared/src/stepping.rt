@@ -8,6 +8,7 @@ ghost use Rattle.vc_shared.specs.Stepping.{EndsSlotEarly, HasShortReport, IsEnd,
 
 use crate::SharedFault;
 use std::alloc::{AllocError, Global};
+use vc_base::Generations;
 use vc_files::Files;
 use vc_push::Reason;
 use vc_session::{PushSession, Stepped as SessionStep};
@@ -55,7 +56,8 @@ fn step_push<F: Files>(
     ensures wear { Writes F.honest F.content F.failed F.can_fail F.left files.old files.new (TellsDevice result) }
     ensures looks { F.honest → IsHeldThere (F.content files.old) (Some push.old) → MayWriteIn (F.content files.old) (Some push.old) ⊎ Wears F.failed F.can_fail F.left files.old files.new (TellsDevice result) }
 {
-    let did = push.step(files, alloc)?;
+    let generations = Generations::new(alloc);
+    let did = push.step(files, alloc, &generations)?;
     Ok(told(alloc, did)?)
 }
 

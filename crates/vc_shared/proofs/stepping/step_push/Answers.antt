@@ -1,4 +1,6 @@
 use Rattle.std.proofs.Common.{Some, refl}
+use Rattle.vc_base.proofs.GenerationLemmas.{agrees_where_none}
+use Rattle.vc_base.specs.Numbering.{numbers}
 use Rattle.vc_files.specs.declared.faults.Fault.TheVariants.{Memory}
 use Rattle.vc_session.specs.declared.fault.SessionFault.TheVariants as session
 use Rattle.vc_shared.specs.Faults.{of_device}
@@ -21,7 +23,7 @@ pub returns-in_err-told-clause-early : goal.returns-in_err-told-clause-early
 returns-in_err-told-clause-early g c honest held =
     let old = g.F.Files.content c.args.files.now in
     let new = g.F.Files.content c.step.new.files in
-    on_err c.from_residual-in_err-told.result (end_early old new c.args.push.now c.step.new.self c.in_ok-did.did c.in_err-told.ensures.fault (c.in_ok-did.ensures.steps honest held))
+    on_err c.from_residual-in_err-told.result (end_early old new c.args.push.now c.step.new.self c.in_ok-did.did c.in_err-told.ensures.fault (c.in_ok-did.ensures.steps honest (agrees_where_none _ (numbers c.new-generations.result) c.new-generations.ensures.none) held))
 
 pub returns-in_err-told-clause-refused : goal.returns-in_err-told-clause-refused
 returns-in_err-told-clause-refused g c honest =
@@ -30,4 +32,4 @@ returns-in_err-told-clause-refused g c honest =
     (session.Fault Memory, refl, memory_refused old c.args.push.now c.args.push.now.stage)
 
 pub returns-clause-steps : goal.returns-clause-steps
-returns-clause-steps g c honest held = record { did = c.in_ok-did.did; is_session = c.step.ensures.session; steps = c.in_ok-did.ensures.steps honest held; tells = c.in_ok-told.ensures.told }
+returns-clause-steps g c honest held = record { did = c.in_ok-did.did; is_session = c.step.ensures.session; steps = c.in_ok-did.ensures.steps honest (agrees_where_none _ (numbers c.new-generations.result) c.new-generations.ensures.none) held; tells = c.in_ok-told.ensures.told }
