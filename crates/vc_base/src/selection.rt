@@ -88,11 +88,7 @@ fn settled_selection(
 }
 
 // What was met that no excluded commit reaches by what was read.
-fn outside(
-    alloc: Global,
-    walk: &Walk,
-    exclude: &[ObjectId],
-) -> Result<Vec<ObjectId>, AllocError>
+fn outside(alloc: Global, walk: &Walk, exclude: &[ObjectId]) -> Result<Vec<ObjectId>, AllocError>
     ensures outside { IfOk result (λ ids. (id : Id) → Contains ids.items id ↔ (Contains walk.now.met.keys id × ¬ ReachedFrom (graph_read walk.now.met.keys (map (λ v. v.items) walk.now.parents.items)) exclude.now id)) }
     ensures sorted { IfOk result (λ ids. IsSortedByName ids.items) }
 {
