@@ -1,4 +1,4 @@
-use Rattle.std.proofs.Common.{◌≡◌, ◌∙◌, ap, sym, subst}
+use Rattle.std.proofs.Common.{rules, ◌≡◌, ◌∙◌, ap, sym, subst}
 use Rattle.std.specs.Prelude.{List, ℕ, length, ◌==◌, not, ◌↔◌, Contains}
 use Rattle.std.specs.List.{flat_map}
 use Rattle.std.specs.Io.KnownBytes.{Appends}
@@ -25,3 +25,8 @@ returns-clause-printed g c = λ honest.
       text = subst (λ (text : List ℕ). Appends (contents c.args.output.now) (contents c.print_text.new.output) text) (c.deref-2.ensures.value ∙ lines) c.in_ok-print_text.ensures.text;
       told = ap not (c.is_empty.ensures ∙ ap (λ (n : ℕ). n == 0) len);
     }
+
+pub returns-in-Err-clause-refused : goal.returns-in-Err-clause-refused
+returns-in-Err-clause-refused g c = λ honest.
+    let told = c.in-Err.ensures.refused honest (agrees_where_none _ (numbers c.new-generations.result) c.new-generations.ensures.none) in
+    search (rules, told)

@@ -9,9 +9,10 @@ use Rattle.vc_session.proofs.SessionLemmas.{wears_told}
 use Rattle.vc_session.proofs.UpdateLemmas.{wears_both}
 use Rattle.vc_session.specs.Known.{AreWhole}
 use Rattle.vc_store.specs.Store.{objects}
+use Rattle.vc_exchange.specs.Faults.{BlamesFiles}
 use Rattle.vc_exchange.specs.Moving.{AreFrontMoved, AreMoved, IsMove, MayMove, MovesSome, Told, told_in}
 use Rattle.vc_exchange.proofs.MovingFronts.{front_moved, more_moved, move_where, next_moves, none_moved, one_moved, some_moved}
-use Rattle.vc_exchange.proofs.MovingLoops.{agrees_after, front_more, front_next, front_rest, told_of, whole_after}
+use Rattle.vc_exchange.proofs.MovingLoops.{agrees_after, blames_before, front_more, front_next, front_rest, told_of, whole_after}
 use Rattle.vc_exchange.proofs.moving.move_refs.Goals.{then-branch, else-branch}
 use Rattle.vc_exchange.proofs.moving.move_refs.Goals as goal
 
@@ -146,3 +147,14 @@ returns-clause-looks g c = λ honest agrees r p.
           (some_moved c.args.followed Whole (told_in (take i told)) (told_in (drop i told)) (content c.args.files.now) r p (content c.loop-name.files) c.loop-name.moved (c.loop-name.invariant.moves honest agrees r p) some whole))
       | inl none ↦ elim (c.loop-name.invariant.looked honest agrees none) [ inl never ↦ inl (λ whole. absurd (never whole)) | inr worn ↦ inr (wears_told worn (search rules)) ]
     ]
+
+pub returns-in_err-move_ref-clause-refused : goal.returns-in_err-move_ref-clause-refused
+returns-in_err-move_ref-clause-refused g c = λ honest agrees.
+    let content = g.F.Files.content in
+    let old = content c.args.files.now in
+    let held = content c.loop-name.files in
+    let e = c.in_err-move_ref.field-0.0 in
+    let there = agrees_after old held c.args.generations.now (c.loop-name.invariant.outside honest) agrees in
+    let told : BlamesFiles held e = c.in_err-move_ref.ensures.refused honest there in
+    let before : BlamesFiles old e = blames_before old held (c.loop-name.invariant.bad honest) e told in
+    search (rules, before)

@@ -216,3 +216,10 @@ returns-clause-bad g c = λ honest. bad_same (g.F.Files.content c.args.files.now
 
 pub returns-clause-looks : goal.returns-clause-looks
 returns-clause-looks g c = λ honest agrees r p m advert. inr (wears_both c.in_ok-known.ensures.wear (wears_both c.in_ok-open.ensures.wear c.in_ok-bytes.ensures.wear (search rules)) (λ told. told))
+
+pub returns-in_err-moved-clause-refused : goal.returns-in_err-moved-clause-refused
+returns-in_err-moved-clause-refused g c = λ honest agrees.
+    let content = g.F.Files.content in
+    let there = agrees_same (content c.args.files.now) (content c.open_ids.new.files) c.args.generations.now (c.in_ok-open.ensures.same ∙ c.in_ok-known.ensures.same) agrees in
+    let told = c.in_err-moved.ensures.refused honest there in
+    search (rules, told)

@@ -79,3 +79,10 @@ returns-in_err-moved-clause-wear g c = wears_then c.in_ok-known.ensures.wear (λ
 
 pub returns-clause-wear : goal.returns-clause-wear
 returns-clause-wear g c = wears_then c.in_ok-known.ensures.wear (λ _. c.in_ok-known.ensures.same) (search rules) (writes_told c.in_ok-moved.ensures.wear (search rules) (search rules))
+
+pub returns-in_err-moved-clause-refused : goal.returns-in_err-moved-clause-refused
+returns-in_err-moved-clause-refused g c = λ honest agrees.
+    let content = g.F.Files.content in
+    let there = agrees_same (content c.args.files.now) (content c.by_good_refs.new.files) c.args.generations.now c.in_ok-known.ensures.same agrees in
+    let told = c.in_err-moved.ensures.refused honest there in
+    search (rules, told)

@@ -1,4 +1,4 @@
-use Rattle.std.proofs.Common.{Ok, ap, inr, refl, subst}
+use Rattle.std.proofs.Common.{rules, Ok, ap, inr, refl, subst}
 use Rattle.vc_answer.proofs.KeepsLemmas.{keeps_same}
 use Rattle.vc_base.proofs.GenerationLemmas.{agrees_where_none}
 use Rattle.vc_base.specs.Numbering.{numbers}
@@ -71,3 +71,13 @@ returns-in-Wanted-clause-objects g c = λ honest. keeps_beside_refs _ _ (c.recei
 
 pub returns-in_err-asked-clause-objects : goal.returns-in_err-asked-clause-objects
 returns-in_err-asked-clause-objects g c = λ honest. keeps_beside_refs _ _ (c.receive_advert.ensures.outside honest)
+
+pub returns-in_err-asked-clause-refused : goal.returns-in_err-asked-clause-refused
+returns-in_err-asked-clause-refused g c = λ honest.
+    let told = c.in_err-asked.ensures.refused honest (agrees_where_none _ (numbers c.new-generations.result) c.new-generations.ensures.none) in
+    search (rules, told)
+
+pub returns-in_err-asked-clause-kept : goal.returns-in_err-asked-clause-kept
+returns-in_err-asked-clause-kept g c = λ honest.
+    let told = c.in_err-asked.ensures.refused honest (agrees_where_none _ (numbers c.new-generations.result) c.new-generations.ensures.none) in
+    search (rules, told)

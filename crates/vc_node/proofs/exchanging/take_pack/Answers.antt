@@ -1,4 +1,4 @@
-use Rattle.std.proofs.Common.{Ok, ap, inr, refl, sym, ◌∙◌}
+use Rattle.std.proofs.Common.{rules, Ok, ap, inr, refl, sym, ◌∙◌}
 use Rattle.vc_answer.proofs.KeepsLemmas.{keeps_same}
 use Rattle.vc_base.proofs.GenerationLemmas.{agrees_where_none}
 use Rattle.vc_base.specs.Numbering.{numbers}
@@ -38,3 +38,13 @@ returns-clause-answers g c = λ honest m is.
     awaiting (Receive m) (Ok (Moved c.in_ok-moves.moves.moved c.in_ok-moves.moves.left)) _ _ _ _ (ap awaited_text c.in-Pack.is ∙ same_pack _ _ _ _ (sym c.deref.ensures.value) (sym c.deref-2.ensures.value)) _
     (pack_taken (g.F.Files.content c.args.files.now) (g.F.Files.content c.receive_pack.new.files) c.deref.result.now (told_in c.deref-2.result.now) m (pack_text c.args.pack.now) is
     (c.receive_pack.ensures.beside honest) (c.receive_pack.ensures.bad honest) c.in_ok-moves.moves.moved c.in_ok-moves.moves.left (c.in_ok-moves.ensures.taken honest (agrees_where_none _ (numbers c.new-generations.result) c.new-generations.ensures.none)))
+
+pub returns-in_err-moves-clause-refused : goal.returns-in_err-moves-clause-refused
+returns-in_err-moves-clause-refused g c = λ honest.
+    let told = c.in_err-moves.ensures.refused honest (agrees_where_none _ (numbers c.new-generations.result) c.new-generations.ensures.none) in
+    search (rules, told)
+
+pub returns-in_err-moves-clause-kept : goal.returns-in_err-moves-clause-kept
+returns-in_err-moves-clause-kept g c = λ honest.
+    let told = c.in_err-moves.ensures.refused honest (agrees_where_none _ (numbers c.new-generations.result) c.new-generations.ensures.none) in
+    search (rules, told)

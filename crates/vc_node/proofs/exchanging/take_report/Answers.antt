@@ -1,3 +1,4 @@
+use Rattle.std.proofs.Common.{rules}
 use Rattle.vc_base.proofs.GenerationLemmas.{agrees_where_none}
 use Rattle.vc_base.specs.Numbering.{numbers}
 use Rattle.vc_exchange.proofs.KeptLemmas.{keeps_beside_refs}
@@ -40,3 +41,8 @@ returns-in_err-told-clause-objects g c = λ honest. keeps_beside_refs _ _ (c.rec
 
 pub returns-clause-objects : goal.returns-clause-objects
 returns-clause-objects g c = λ honest. keeps_beside_refs _ _ (c.receive_report.ensures.outside honest)
+
+pub returns-in_err-told-clause-refused : goal.returns-in_err-told-clause-refused
+returns-in_err-told-clause-refused g c = λ honest.
+    let told = c.in_err-told.ensures.refused honest (agrees_where_none _ (numbers c.new-generations.result) c.new-generations.ensures.none) in
+    search (rules, told)

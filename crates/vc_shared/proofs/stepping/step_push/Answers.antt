@@ -1,4 +1,4 @@
-use Rattle.std.proofs.Common.{Some, refl}
+use Rattle.std.proofs.Common.{rules, Some, refl}
 use Rattle.vc_base.proofs.GenerationLemmas.{agrees_where_none}
 use Rattle.vc_base.specs.Numbering.{numbers}
 use Rattle.vc_files.specs.declared.faults.Fault.TheVariants.{Memory}
@@ -33,3 +33,8 @@ returns-in_err-told-clause-refused g c honest =
 
 pub returns-clause-steps : goal.returns-clause-steps
 returns-clause-steps g c honest held = record { did = c.in_ok-did.did; is_session = c.step.ensures.session; steps = c.in_ok-did.ensures.steps honest (agrees_where_none _ (numbers c.new-generations.result) c.new-generations.ensures.none) held; tells = c.in_ok-told.ensures.told }
+
+pub returns-in_err-did-clause-refused : goal.returns-in_err-did-clause-refused
+returns-in_err-did-clause-refused g c honest =
+    let told = c.in_err-did.ensures.refused honest (agrees_where_none _ (numbers c.new-generations.result) c.new-generations.ensures.none) in
+    search (rules, told)
