@@ -142,9 +142,10 @@ fn selects(
     alloc: Global,
     table: &mut Table,
     parents: &[u32],
-    (include, exclude): (u32, u32),
+    sets: (u32, u32),
     known: &Generations,
 ) -> Result<bool, BaseFault> {
+    let (include, exclude) = sets;
     let selected = ancestors(parents, include) & !ancestors(parents, exclude);
     let (include, exclude) = (names(alloc, include)?, names(alloc, exclude)?);
     let found = commits(alloc, table, &include, &exclude, known)?;
@@ -187,8 +188,9 @@ fn agrees_where_known(
     table: &mut Table,
     parents: &[u32],
     roots: u32,
-    (a, b): (u8, u8),
+    pair: (u8, u8),
 ) -> Result<bool, BaseFault> {
+    let (a, b) = pair;
     let mut known = Generations::new(alloc);
     for root in names(alloc, roots)? {
         known.learn(alloc, table, &root)?;

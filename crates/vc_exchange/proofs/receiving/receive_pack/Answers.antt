@@ -1,7 +1,8 @@
-use Rattle.std.proofs.Common.{rules, ◌≡◌, Result, Ok, Err, OnErr, sym, ap, ◌∙◌, subst}
+use Rattle.std.proofs.Common.{rules, ◌≡◌, List, Result, Ok, Err, OnErr, sym, ap, ◌∙◌, subst}
 use Rattle.std.specs.Prelude.{IfErr}
 use Rattle.vc_answer.proofs.KeepsLemmas.{keeps_same, keeps_then}
 use Rattle.vc_answer.specs.AnswerFault.{IsRefusedPack}
+use Rattle.vc_answer.specs.Reached.{KeepsObjects}
 use Rattle.vc_answer.specs.declared.fault.AnswerFault.{AnswerFault}
 use Rattle.vc_answer.specs.declared.fault.AnswerFault.TheVariants as answer
 use Rattle.vc_fetch.specs.PackObjects as fetch
@@ -10,6 +11,7 @@ use Rattle.vc_files.proofs.WearLemmas.{wears_then, wears_writes, writes_both, wr
 use Rattle.vc_graph.specs.Graph.{IsClosedUnder}
 use Rattle.vc_graph.specs.Overlay.{with_carried}
 use Rattle.vc_graph.specs.declared.fault.GraphFault.TheVariants as of_graph
+use Rattle.vc_model.specs.Message.{Message}
 use Rattle.vc_model.specs.Repository.{IsSound, with_objects}
 use Rattle.vc_object.specs.ObjectMap.{ObjectMap, links_in}
 use Rattle.vc_object.specs.declared.id.ObjectId.{ObjectId}
@@ -23,13 +25,14 @@ use Rattle.vc_session.specs.Clean.{MakesNoneBad}
 use Rattle.vc_session.specs.Known.{AreWhole}
 use Rattle.vc_session.specs.declared.known.Known.{Known}
 use Rattle.vc_store.specs.Store.{objects}
-use Rattle.vc_exchange.specs.Faults.{from_answer, from_store}
+use Rattle.vc_exchange.specs.Faults.{BlamesFiles, from_answer, from_store}
 use Rattle.vc_exchange.specs.Moving.{told_in}
 use Rattle.vc_exchange.specs.Receiving.{BlamesPack}
 use Rattle.vc_exchange.specs.Storing.{AreSomeStored}
+use Rattle.vc_exchange.specs.declared.fault.ExchangeFault.{ExchangeFault}
 use Rattle.vc_exchange.specs.declared.fault.ExchangeFault.TheVariants as exchange
 use Rattle.vc_files.specs.declared.faults.Fault.TheVariants.{Device}
-use Rattle.vc_exchange.proofs.MovingLoops.{whole_refs}
+use Rattle.vc_exchange.proofs.MovingLoops.{blames_before, whole_refs}
 use Rattle.vc_exchange.proofs.PackDeeds.{judge_blames, pack_moving, pack_storing, pack_stored, pack_taken, store_other}
 use Rattle.vc_exchange.proofs.PackLemmas.{brought_closed, brought_same, histories_met, stored_content, stored_met, stored_outside, stored_since, some_since, whole_after}
 use Rattle.vc_exchange.proofs.KeptLemmas.{agrees_kept, keeps_beside_refs, keeps_some, keeps_stored}
@@ -251,3 +254,24 @@ returns-clause-bad g c = λ honest.
     let stored : MakesNoneBad (content c.args.files.now) (content c.store_all.new.files) = rw (c.in_ok-objects.ensures.same, c.in_ok-known.ensures.same) at (c.in_ok-store_all.ensures.bad honest) in
     let moved : MakesNoneBad (content c.store_all.new.files) (content c.move_refs.new.files) = rw c.in_ok-open.ensures.same at (c.in_ok-moved.ensures.bad honest) in
     bad_then stored moved
+
+-- what refuses a move of refs refuses the pack
+as_pack : (content : FileMap) (wants : List ObjectId) (m : Message) (e : ExchangeFault) → BlamesFiles content e → BlamesPack content wants m e
+as_pack content wants m (exchange.Store fault) b = b
+as_pack content wants m (exchange.Refs fault) b = b
+as_pack content wants m (exchange.Incomplete id) never = absurd never
+as_pack content wants m (exchange.Fault fault) b = tt
+
+pub returns-in_err-moved-clause-refused : goal.returns-in_err-moved-clause-refused
+returns-in_err-moved-clause-refused g c = λ honest agrees m p.
+    let content = g.F.Files.content in
+    let old = content c.args.files.now in
+    let mid = content c.store_all.new.files in
+    let seen = content c.open_ids.new.files in
+    let e = c.in_err-moved.field-0.0 in
+    let read : KeepsObjects old (content c.judge_pack.new.files) = keeps_same _ _ (c.in_ok-objects.ensures.same ∙ c.in_ok-known.ensures.same) in
+    let kept : KeepsObjects old seen = keeps_then _ _ _ read (keeps_then _ _ _ (keeps_stored (content c.judge_pack.new.files) mid (carried c.args.pack.now.objects) (c.in_ok-store_all.ensures.stored honest)) (keeps_same _ _ c.in_ok-open.ensures.same)) in
+    let told : BlamesFiles seen e = c.in_err-moved.ensures.refused honest (agrees_kept old seen c.args.generations.now kept agrees) in
+    let stored : MakesNoneBad old mid = rw (c.in_ok-objects.ensures.same, c.in_ok-known.ensures.same) at (c.in_ok-store_all.ensures.bad honest) in
+    let none : MakesNoneBad old seen = subst (λ (f : FileMap). MakesNoneBad old f) (sym c.in_ok-open.ensures.same) stored in
+    told_err c.from_residual-in_err-moved.result e (BlamesPack old c.args.wants.now m) (search rules) (as_pack old c.args.wants.now m e (blames_before old seen none e told))
