@@ -1,5 +1,6 @@
--- Numbers that agree with objects agree with more of them: for who keeps numbers while objects are added.
-use Rattle.std.proofs.Common.{◌≡◌, ℕ, List, Option, Some, None, ap, ◌∙◌, refl}
+-- Numbers that agree with objects agree with more of them, and the same numbers agree again: for who keeps numbers while objects
+-- are added.
+use Rattle.std.proofs.Common.{◌≡◌, ℕ, List, Option, Some, None, IsSome, ap, ◌∙◌, refl, subst, sym}
 use Rattle.std.specs.Option.{option_and_then}
 use Rattle.vc_object.specs.Decoding.{StoredObject}
 use Rattle.vc_object.specs.Links.{parents_of}
@@ -19,3 +20,9 @@ parents_stay objects more stays id ys is = by (objects id) (more id) (stays id) 
 
 pub Agrees-more : (objects more : ObjectMap) (numbers : ObjectId → Option ℕ) → ((id : ObjectId) (o : StoredObject) → objects id ≡ Some o → more id ≡ Some o) → Agrees (parents_in objects) numbers → Agrees (parents_in more) numbers
 Agrees-more objects more numbers stays agrees = Agrees-stays (parents_in objects) (parents_in more) (parents_stay objects more stays) numbers agrees
+
+pub Agrees-same : (parents : ObjectId → Option (List ObjectId)) (known now : ObjectId → Option ℕ) → ((id : ObjectId) → now id ≡ known id) → Agrees parents known → Agrees parents now
+Agrees-same parents known now same agrees = record {
+  generation = λ x n is. agrees.generation x n (sym (same x) ∙ is);
+  onward = λ x y some link. subst (λ o. IsSome o) (sym (same y)) (agrees.onward x y (subst (λ o. IsSome o) (same x) some) link);
+}

@@ -9,3 +9,7 @@ use Rattle.vc_store.specs.Store.{objects}
 -- the numbers agree with what is stored
 abbrev pub AgreesIn : FileMap → Generations → Type 0
 AgreesIn content generations = Agrees (parents_in (objects content)) (numbers generations)
+
+-- numbers that agreed with what was stored agree with what is stored
+abbrev pub KeepsAgreement : FileMap → FileMap → Type 0
+KeepsAgreement old new = (generations : Generations) → AgreesIn old generations → AgreesIn new generations

@@ -26,7 +26,7 @@ use vc_store::StoreFault;
 const MAX_BRANCH: usize = 246;
 
 // Whether it names a branch.
-fn is_branch(name: &[u8]) -> bool
+pub(crate) fn is_branch(name: &[u8]) -> bool
     ensures { result ≡ is_branch name.now }
 {
     name.starts_with(b"refs/heads/")

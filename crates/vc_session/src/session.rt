@@ -1,6 +1,6 @@
 //! One open push.
 ghost use Rattle.std.specs.Prelude.{◌≡◌, ◌⊎◌, ◌<◌, Option, length, slice_set, IfOk, IfErr, OnErr, IsErrOf};
-ghost use Rattle.vc_base.specs.Stored.{AgreesIn};
+ghost use Rattle.vc_base.specs.Stored.{AgreesIn, KeepsAgreement};
 ghost use Rattle.vc_files.specs.FileMap.{SameOutside};
 ghost use Rattle.vc_files.specs.Failures.{Wears, Writes};
 ghost use Rattle.vc_object.specs.declared.fault.ObjectFault.{ObjectFault as Refusal};
@@ -15,6 +15,7 @@ ghost use Rattle.vc_session.specs.Steps.{EndsEarly, IsOpened, MayWrite, Steps, T
 
 use crate::checking::{check_in_files, count_passing, next_passing};
 use crate::fault::SessionFault;
+use crate::learning::learn_olds;
 use crate::migrating::migrate;
 use crate::opening::{fresh, put_all};
 use crate::quarantine::drop_quarantine;
@@ -87,6 +88,7 @@ impl PushSession {
         ensures carried { F.honest → IfOk result (λ s. Carries (F.content files.new) slot s.names (objects_of_push (push_text push).carried)) }
         ensures session { IfOk result IsSession }
         ensures outside { F.honest → SameOutside (quarantine_folder slot) (F.content files.old) (F.content files.new) }
+        ensures agrees { F.honest → KeepsAgreement (F.content files.old) (F.content files.new) }
         ensures bad { F.honest → MakesNoneBad (F.content files.old) (F.content files.new) }
         ensures clean { F.honest → IfOk result (λ s. IsQuarantineClean (F.content files.new) slot) }
         ensures wear { Writes F.honest F.content F.failed F.can_fail F.left files.old files.new (IsErrOf result Fault.Device) }
@@ -127,6 +129,7 @@ impl PushSession {
         ensures told { IfOk result (TellsReport self.old) }
         ensures same { F.content files.new ≡ F.content files.old }
         ensures refused { F.honest → AgreesIn (F.content files.old) generations.now → IfErr result (IsRefusedStep (F.content files.old) self.old Stage.Unpacked) }
+        ensures agrees { F.honest → KeepsAgreement (F.content files.old) (F.content files.new) }
         ensures bad { F.honest → MakesNoneBad (F.content files.old) (F.content files.new) }
         ensures wear { Wears F.failed F.can_fail F.left files.old files.new (IsErrOf result (SessionFault.Fault Fault.Device)) }
     {
@@ -154,6 +157,7 @@ impl PushSession {
         ensures told { IfOk result (TellsReport self.old) }
         ensures early { F.honest → OnErr result (EndsEarly (F.content files.old) (F.content files.new) self.old Stage.Checked) }
         ensures refused { F.honest → IfErr result (IsRefusedStep (F.content files.old) self.old Stage.Checked) }
+        ensures agrees { F.honest → KeepsAgreement (F.content files.old) (F.content files.new) }
         ensures bad { F.honest → MakesNoneBad (F.content files.old) (F.content files.new) }
         ensures wear { Writes F.honest F.content F.failed F.can_fail F.left files.old files.new (IsErrOf result (SessionFault.Fault Fault.Device)) }
         ensures looks { MayWrite (F.content files.old) self.old Stage.Checked ⊎ Wears F.failed F.can_fail F.left files.old files.new (IsErrOf result (SessionFault.Fault Fault.Device)) }
@@ -174,6 +178,7 @@ impl PushSession {
         ensures told { IfOk result (TellsReport self.old) }
         ensures err { F.honest → OnErr result (F.content files.new ≡ F.content files.old) }
         ensures refused { F.honest → IfErr result (IsRefusedStep (F.content files.old) self.old Stage.Migrated) }
+        ensures agrees { F.honest → KeepsAgreement (F.content files.old) (F.content files.new) }
         ensures bad { F.honest → MakesNoneBad (F.content files.old) (F.content files.new) }
         ensures wear { Writes F.honest F.content F.failed F.can_fail F.left files.old files.new (IsErrOf result (SessionFault.Fault Fault.Device)) }
         ensures looks { F.honest → MayWrite (F.content files.old) self.old Stage.Migrated ⊎ Wears F.failed F.can_fail F.left files.old files.new (IsErrOf result (SessionFault.Fault Fault.Device)) }
@@ -199,12 +204,34 @@ impl PushSession {
         ensures told { IfOk result (TellsReport self.now) }
         ensures early { F.honest → OnErr result (EndsEarly (F.content files.old) (F.content files.new) self.now Stage.Done) }
         ensures refused { F.honest → IfErr result (IsRefusedStep (F.content files.old) self.now Stage.Done) }
+        ensures agrees { F.honest → KeepsAgreement (F.content files.old) (F.content files.new) }
         ensures bad { F.honest → MakesNoneBad (F.content files.old) (F.content files.new) }
         ensures wear { Writes F.honest F.content F.failed F.can_fail F.left files.old files.new (IsErrOf result (SessionFault.Fault Fault.Device)) }
     {
         let report = report(alloc, self.fault, &self.commands, &self.verdicts)?;
         drop_quarantine(files, alloc, self.slot)?;
         Ok(Stepped::Finished(report))
+    }
+
+    /// Learns the generations of the commits from which its commands move branches, where it is still to be checked, so that the
+    /// check passes over what their numbers rule out. What can't be learnt is passed over: an absent, a damaged or another
+    /// object is no refusal here.
+    pub fn learn<F: Files>(
+        &self,
+        files: &mut F,
+        alloc: Global,
+        generations: &mut Generations,
+    ) -> Result<(), Fault>
+        ensures agrees { F.honest → AgreesIn (F.content files.old) generations.old → AgreesIn (F.content files.old) generations.new }
+        ensures same { F.content files.new ≡ F.content files.old }
+        ensures wear { Wears F.failed F.can_fail F.left files.old files.new (IsErrOf result Fault.Device) }
+    {
+        match self.stage {
+            Stage::Unpacked => learn_olds(files, alloc, &self.commands, generations),
+            Stage::Checked => Ok(()),
+            Stage::Migrated => Ok(()),
+            Stage::Done => Ok(()),
+        }
     }
 
     /// The next step: the check of all commands, the storing of what is carried, the update of one command, or the end. After
@@ -224,6 +251,7 @@ impl PushSession {
         ensures told { IfOk result (TellsReport self.old) }
         ensures early { F.honest → OnErr result (EndsEarly (F.content files.old) (F.content files.new) self.old self.old.stage) }
         ensures refused { F.honest → AgreesIn (F.content files.old) generations.now → IfErr result (IsRefusedStep (F.content files.old) self.old self.old.stage) }
+        ensures agrees { F.honest → KeepsAgreement (F.content files.old) (F.content files.new) }
         ensures bad { F.honest → MakesNoneBad (F.content files.old) (F.content files.new) }
         ensures wear { Writes F.honest F.content F.failed F.can_fail F.left files.old files.new (IsErrOf result (SessionFault.Fault Fault.Device)) }
         ensures looks { F.honest → MayWrite (F.content files.old) self.old self.old.stage ⊎ Wears F.failed F.can_fail F.left files.old files.new (IsErrOf result (SessionFault.Fault Fault.Device)) }
