@@ -6,6 +6,7 @@ use crate::spelling::{push_bytes, push_id};
 use std::alloc::{AllocError, Global};
 use std::collections::BTreeMap;
 use std::fmt::Write;
+use vc_base::Generations;
 use vc_files::{Fault, Files, MemoryFiles};
 use vc_push::{Push, ReportReader};
 use vc_refs::Refs;
@@ -106,7 +107,7 @@ pub fn step(
     let Some(session) = pushes.by_slot.get_mut(&slot) else {
         return out.push_str("no push");
     };
-    let did = session.step(files, alloc);
+    let did = session.step(files, alloc, &Generations::new(alloc));
     push_step(out, &did)
 }
 
@@ -121,7 +122,7 @@ fn push_steps(
         if number > 0 {
             out.push_str("; ")?;
         }
-        let did = session.step(files, alloc);
+        let did = session.step(files, alloc, &Generations::new(alloc));
         push_step(out, &did)?;
         if !goes_on(&did) {
             break;
@@ -194,7 +195,7 @@ fn push_end(
     let Some(mut session) = turn else {
         return Ok(None);
     };
-    let did = session.step(files, alloc);
+    let did = session.step(files, alloc, &Generations::new(alloc));
     if goes_on(&did) {
         return Ok(Some(session));
     }

@@ -90,16 +90,22 @@ fn with_failure(alloc: Global, opening: &str) -> Result<Failed, AllocError> {
     if !run(alloc, &mut ground, &EXCHANGE)? && !at_opening {
         return Ok(Failed::Never);
     }
-    run(alloc, &mut ground, &OPENED)?;
-    if !ground.is_whole() {
-        return Ok(Failed::Broken);
+    if is_whole_again(alloc, &mut ground)? {
+        Ok(Failed::Whole)
+    } else {
+        Ok(Failed::Broken)
     }
-    run(alloc, &mut ground, &OPENED)?;
-    repeat_all(alloc, &mut ground)?;
+}
+
+// Opens the nodes anew, and repeats the exchange: whether they are whole then, and were before it.
+fn is_whole_again(alloc: Global, ground: &mut Ground) -> Result<bool, AllocError> {
+    run(alloc, ground, &OPENED)?;
     if !ground.is_whole() {
-        return Ok(Failed::Broken);
+        return Ok(false);
     }
-    Ok(Failed::Whole)
+    run(alloc, ground, &OPENED)?;
+    repeat_all(alloc, ground)?;
+    Ok(ground.is_whole())
 }
 
 // Tries the exchange with a failure after 0, 1, 2 .. writes or calls at a node, which the words name that open it, until it comes

@@ -6,8 +6,8 @@ use anyhow::bail;
 use indexmap::IndexSet;
 use std::alloc::{AllocError, Global};
 use vc_base::{
-    BaseFault, Commits, commits, common_ancestors, is_ancestor, is_history, is_history_beyond,
-    merge_bases,
+    BaseFault, Commits, Generations, commits, common_ancestors, is_ancestor, is_history,
+    is_history_beyond, merge_bases,
 };
 use vc_graph::{
     GraphFault, Objects, closure, difference, first_incomplete, is_complete, is_complete_beyond,
@@ -37,9 +37,16 @@ impl Sides {
     }
 }
 
-pub fn obey_commits<C: Commits>(source: &mut C, alloc: Global, verb: &str, rest: &str) -> Answer {
+/// A row on commits, where the generations of some may be known.
+pub fn obey_commits<C: Commits>(
+    source: &mut C,
+    alloc: Global,
+    verb: &str,
+    rest: &str,
+    generations: &Generations,
+) -> Answer {
     if verb == "verdict" {
-        return verdict_rows::obey(source, alloc, rest);
+        return verdict_rows::obey(source, alloc, rest, generations);
     }
     if verb == "generations" {
         return generation_rows::obey(source, alloc, rest);
@@ -47,16 +54,19 @@ pub fn obey_commits<C: Commits>(source: &mut C, alloc: Global, verb: &str, rest:
     let sides = Sides::new(alloc, rest)?;
     let (a, b) = (sides.at(0), sides.at(1));
     let found = match verb {
-        "ancestor" => return yes_or_no(alloc, told_base(is_ancestor(alloc, source, &a, &b))?),
+        "ancestor" => {
+            let yes = is_ancestor(alloc, source, &a, &b, generations);
+            return yes_or_no(alloc, told_base(yes)?);
+        }
         "history" => return yes_or_no(alloc, is_history(alloc, source, &a)?),
         "history-beyond" => {
             let mut known = set_of(alloc, &sides.exclude)?;
             let whole = is_history_beyond(source, &mut known, &a)?;
             return beyond(alloc, whole, &known);
         }
-        "bases" => merge_bases(alloc, source, &a, &b),
+        "bases" => merge_bases(alloc, source, &a, &b, generations),
         "common" => common_ancestors(alloc, source, &a, &b),
-        "commits" => commits(alloc, source, &sides.include, &sides.exclude),
+        "commits" => commits(alloc, source, &sides.include, &sides.exclude, generations),
         _ => return obey(source, alloc, verb, &sides),
     };
     listed(alloc, &told_base(found)?)

@@ -8,7 +8,6 @@ mod generation_rows;
 mod graph_rows;
 mod ids;
 mod lock_rows;
-mod numbered_rows;
 mod object_rows;
 mod packed_rows;
 mod random;

@@ -4,9 +4,7 @@ use crate::answers::Answer;
 use crate::ids::lettered;
 use crate::tables::Table;
 use std::alloc::{AllocError, Global};
-use vc_base::{
-    BaseFault, Generations, commits, common_ancestors, is_ancestor, merge_bases, numbered,
-};
+use vc_base::{BaseFault, Generations, commits, common_ancestors, is_ancestor, merge_bases};
 use vc_object::ObjectId;
 
 /// A generator of numbers, told by its seed.
@@ -126,10 +124,11 @@ fn agrees_on_pair(
     let of_b = ancestors(parents, bit(b));
     let (left, right) = (lettered(a), lettered(b));
     table.reads = 0;
-    let bases = merge_bases(alloc, table, &left, &right)?;
+    let none = Generations::new(alloc);
+    let bases = merge_bases(alloc, table, &left, &right, &none)?;
     let reads = table.reads;
     let common = common_ancestors(alloc, table, &left, &right)?;
-    let descends = is_ancestor(alloc, table, &left, &right)?;
+    let descends = is_ancestor(alloc, table, &left, &right, &none)?;
     Ok(
         bases == names(alloc, best(parents, of_a & of_b))?
             && reads == u64::from((of_a | of_b).count_ones())
@@ -138,23 +137,32 @@ fn agrees_on_pair(
     )
 }
 
-// The same of a selection of commits.
+// Whether the commits are selected that the definition has, with these generations known.
+fn selects(
+    alloc: Global,
+    table: &mut Table,
+    parents: &[u32],
+    sets: (u32, u32),
+    known: &Generations,
+) -> Result<bool, BaseFault> {
+    let (include, exclude) = sets;
+    let selected = ancestors(parents, include) & !ancestors(parents, exclude);
+    let (include, exclude) = (names(alloc, include)?, names(alloc, exclude)?);
+    let found = commits(alloc, table, &include, &exclude, known)?;
+    Ok(found == names(alloc, selected)?)
+}
+
+// The same with nothing known: then no commit is read twice.
 fn agrees_on_sets(
     alloc: Global,
     table: &mut Table,
     parents: &[u32],
-    include: u32,
-    exclude: u32,
+    sets: (u32, u32),
 ) -> Result<bool, BaseFault> {
-    let included = ancestors(parents, include);
-    let excluded = ancestors(parents, exclude);
-    let (include, exclude) = (names(alloc, include)?, names(alloc, exclude)?);
+    let all = ancestors(parents, sets.0 | sets.1);
     table.reads = 0;
-    let found = commits(alloc, table, &include, &exclude)?;
-    Ok(
-        found == names(alloc, included & !excluded)?
-            && table.reads == u64::from((included | excluded).count_ones()),
-    )
+    let same = selects(alloc, table, parents, sets, &Generations::new(alloc))?;
+    Ok(same && table.reads == u64::from(all.count_ones()))
 }
 
 // Whether all that is asked about the graph of a seed is answered so.
@@ -169,19 +177,20 @@ fn agrees(alloc: Global, seed: u64) -> Result<bool, BaseFault> {
     let exclude = numbers.next() & numbers.next() & all;
     Ok(
         agrees_on_pair(alloc, &mut table, &parents, a, b)?
-            && agrees_on_sets(alloc, &mut table, &parents, include, exclude)?,
+            && agrees_on_sets(alloc, &mut table, &parents, (include, exclude))?,
     )
 }
 
-// Whether the bases and the ancestry of two commits are answered so where the generations of some commits are known.
+// Whether the bases and the ancestry of two commits are answered so, and what one has beyond the other and some more, where
+// the generations of some commits are known.
 fn agrees_where_known(
     alloc: Global,
     table: &mut Table,
     parents: &[u32],
     roots: u32,
-    a: u8,
-    b: u8,
+    pair: (u8, u8),
 ) -> Result<bool, BaseFault> {
+    let (a, b) = pair;
     let mut known = Generations::new(alloc);
     for root in names(alloc, roots)? {
         known.learn(alloc, table, &root)?;
@@ -189,12 +198,18 @@ fn agrees_where_known(
     let of_a = ancestors(parents, bit(a));
     let of_b = ancestors(parents, bit(b));
     let (left, right) = (lettered(a), lettered(b));
-    let bases = numbered::merge_bases(alloc, table, &left, &right, &known)?;
-    let descends = numbered::is_ancestor(alloc, table, &left, &right, &known)?;
-    Ok(bases == names(alloc, best(parents, of_a & of_b))? && descends == has(of_b, a))
+    let bases = merge_bases(alloc, table, &left, &right, &known)?;
+    let descends = is_ancestor(alloc, table, &left, &right, &known)?;
+    Ok(
+        bases == names(alloc, best(parents, of_a & of_b))?
+            && descends == has(of_b, a)
+            && selects(alloc, table, parents, (bit(a), bit(b)), &known)?
+            && selects(alloc, table, parents, (bit(a) | roots, bit(b)), &known)?
+            && selects(alloc, table, parents, (bit(a), bit(b) | roots), &known)?,
+    )
 }
 
-// Whether they are where nothing is known of the graph of a seed, where all is, and where a part is.
+// Whether all is answered so where nothing is known of the graph of a seed, where all is, and where a part is.
 fn agrees_numbered(alloc: Global, seed: u64) -> Result<bool, BaseFault> {
     let mut numbers = Numbers::of(seed);
     let count = numbers.below(11).wrapping_add(2);
@@ -204,9 +219,9 @@ fn agrees_numbered(alloc: Global, seed: u64) -> Result<bool, BaseFault> {
     let all = bit(count).wrapping_sub(1);
     let part = numbers.next() & numbers.next() & all;
     Ok(
-        agrees_where_known(alloc, &mut table, &parents, 0, a, b)?
-            && agrees_where_known(alloc, &mut table, &parents, all, a, b)?
-            && agrees_where_known(alloc, &mut table, &parents, part, a, b)?,
+        agrees_where_known(alloc, &mut table, &parents, 0, (a, b))?
+            && agrees_where_known(alloc, &mut table, &parents, all, (a, b))?
+            && agrees_where_known(alloc, &mut table, &parents, part, (a, b))?,
     )
 }
 

@@ -8,6 +8,7 @@ use crate::graph_rows;
 use crate::ids::{Shown, id_in, id_of, two};
 use anyhow::bail;
 use std::alloc::Global;
+use vc_base::Generations;
 use vc_files::Files;
 use vc_object::ObjectId;
 use vc_refname::RefName;
@@ -29,7 +30,10 @@ pub fn obey<F: Files>(files: &mut F, alloc: Global, verb: &str, rest: &str) -> A
             done(alloc)
         }
         "ref" | "conflict" | "set" | "delete" => obey_named(&mut refs, alloc, verb, rest),
-        _ => graph_rows::obey_commits(&mut Store::new(alloc, files), alloc, verb, rest),
+        _ => {
+            let none = Generations::new(alloc);
+            graph_rows::obey_commits(&mut Store::new(alloc, files), alloc, verb, rest, &none)
+        }
     }
 }
 

@@ -4,7 +4,7 @@ ghost use Rattle.vc_files.specs.Failures.{unstopped};
 
 use crate::answers::{Answer, done};
 use crate::ids::{bytes_of, id_of, ids_of, lettered, numbered, two};
-use crate::{generation_rows, graph_rows, numbered_rows};
+use crate::{generation_rows, graph_rows};
 use anyhow::bail;
 use indexmap::IndexMap;
 use std::alloc::{AllocError, Global};
@@ -144,7 +144,14 @@ impl Drawn {
                 return generation_rows::learn(&mut self.table, self.alloc, &mut self.known, rest);
             }
             "numbered" => {
-                return numbered_rows::obey(&mut self.table, self.alloc, &self.known, rest);
+                let (verb, rest) = two(rest);
+                return graph_rows::obey_commits(
+                    &mut self.table,
+                    self.alloc,
+                    verb,
+                    rest,
+                    &self.known,
+                );
             }
             _ => return self.ask(verb, rest),
         }
@@ -152,8 +159,9 @@ impl Drawn {
     }
 
     fn ask(&mut self, verb: &str, rest: &str) -> Answer {
+        let none = Generations::new(self.alloc);
         if self.carried.is_empty() {
-            return graph_rows::obey_commits(&mut self.table, self.alloc, verb, rest);
+            return graph_rows::obey_commits(&mut self.table, self.alloc, verb, rest, &none);
         }
         let carried = lent(self.alloc, &self.carried)?;
         let mut objects = Overlay {
@@ -161,7 +169,7 @@ impl Drawn {
             carried: &carried,
             alloc: self.alloc,
         };
-        graph_rows::obey_commits(&mut objects, self.alloc, verb, rest)
+        graph_rows::obey_commits(&mut objects, self.alloc, verb, rest, &none)
     }
 
     // Adds so many layers of so many commits, each of which has all of the layer below as its parents: the one that was

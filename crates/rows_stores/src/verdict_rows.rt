@@ -3,14 +3,19 @@ use crate::answers::{Answer, word};
 use crate::ids::{bytes_of, id_in, two};
 use bstr::ByteSlice;
 use std::alloc::Global;
-use vc_base::Commits;
+use vc_base::{Commits, Generations};
 use vc_object::ObjectId;
 use vc_push::Command;
 use vc_session::{Known, judge};
 
 /// A row has the old id, the new one and the name; `-` stands for no value. The answer is the number of the reason for which
 /// the command is refused, and its text, or that it passes.
-pub fn obey<C: Commits>(commits: &mut C, alloc: Global, rest: &str) -> Answer {
+pub fn obey<C: Commits>(
+    commits: &mut C,
+    alloc: Global,
+    rest: &str,
+    generations: &Generations,
+) -> Answer {
     let (old, rest) = two(rest);
     let (new, name) = two(rest);
     let command = Command {
@@ -18,7 +23,8 @@ pub fn obey<C: Commits>(commits: &mut C, alloc: Global, rest: &str) -> Answer {
         new: id_in(alloc, new)?.unwrap_or(ObjectId::ZERO),
         name: bytes_of(alloc, name)?,
     };
-    let Some(reason) = judge(alloc, commits, &mut Known::nothing(alloc), &command)? else {
+    let mut known = Known::nothing(alloc);
+    let Some(reason) = judge(alloc, commits, &mut known, &command, generations)? else {
         return word(alloc, "passes");
     };
     let text = reason.text().as_bstr();

@@ -1,15 +1,14 @@
 -- What was read of a history agrees with the history, for names that were met.
-use Rattle.std.proofs.Common.{◌≡◌, List, [], ◌++◌, get_or, Option, Some, None, position, Contains, ◌↔◌, ⊎_elim, sym, subst, refl, arith}
-use Rattle.std.proofs.lemmas.List.Elements.{Contains-append_left, Contains-append_right, Contains-append_cases}
+use Rattle.std.proofs.Common.{◌≡◌, List, [], get_or, Option, Some, None, position, Contains, ◌↔◌, sym, subst, refl, arith}
 use Rattle.std.proofs.lemmas.List.Quantifiers.{position-Some}
 use Rattle.vc_object.proofs.IdLemmas.{id_eq-same}
 use Rattle.vc_object.specs.ObjectId.{id_eq}
 use Rattle.vc_object.specs.ObjectMap.{ObjectMap, parents_in}
 use Rattle.vc_object.specs.declared.id.ObjectId.{ObjectId}
-use Rattle.vc_graph.specs.Graph.{LinksTo, Reaches, ReachedFrom, itself, onward}
+use Rattle.vc_graph.specs.Graph.{LinksTo, Reaches, itself, onward}
 use Rattle.vc_graph.proofs.WalkLemmas.{Reaches-trans}
 use Rattle.vc_base.proofs.HistoryLemmas.{Reaches-same}
-use Rattle.vc_base.specs.History.{IsCommonAncestor, IsSelected}
+use Rattle.vc_base.specs.History.{IsCommonAncestor}
 use Rattle.vc_base.specs.Walk.{Gathers, graph_read, parents_read, read_at}
 
 module _ (objects : ObjectMap) (roots met : List ObjectId) (read : List (List ObjectId)) (all : Gathers objects roots met read) where
@@ -57,30 +56,3 @@ module _ (objects : ObjectMap) (roots met : List ObjectId) (read : List (List Ob
 
     pub same-common : (c : ObjectId) → IsCommonAncestor (graph_read met read) a b c ↔ IsCommonAncestor (parents_in objects) a b c
     same-common c = (common-from_read c, common-read c)
-
--- what was met and is no ancestor of an excluded commit is selected
-module _ (objects : ObjectMap) (include exclude met : List ObjectId) (read : List (List ObjectId)) (all : Gathers objects (include ++ exclude) met read)
-    (excluded : List ObjectId) (is : (y : ObjectId) → Contains excluded y ↔ ReachedFrom (graph_read met read) exclude y) where
-  excluded-exactly : (y : ObjectId) → Contains excluded y ↔ ReachedFrom (parents_in objects) exclude y
-  excluded-exactly y = (
-    λ h. let r = (is y).0 h in record { root = r.root; is_root = r.is_root; reaches = Reaches-from_read objects (include ++ exclude) met read all r.root y r.reaches },
-    λ r.
-        (is y).1 (record {
-          root = r.root;
-          is_root = r.is_root;
-          reaches = Reaches-read objects (include ++ exclude) met read all (root-met objects (include ++ exclude) met read all r.root (Contains-append_right include exclude r.root r.is_root)) r.reaches;
-        }),
-  )
-
-  pub selected-read : (y : ObjectId) → (Contains met y × ¬ Contains excluded y) ↔ IsSelected (parents_in objects) include exclude y
-  selected-read y = (
-    λ h.
-        let out : ¬ ReachedFrom (parents_in objects) exclude y = λ r. h.1 ((excluded-exactly y).1 r) in
-        let r = (all.reached y).0 h.0 in (
-          ⊎_elim (λ root. record { root = r.root; is_root = root; reaches = r.reaches }) (λ root. absurd (out (record { root = r.root; is_root = root; reaches = r.reaches })))
-              (Contains-append_cases include exclude r.root r.is_root),
-          out,
-        ),
-    λ h.
-        ((all.reached y).1 (record { root = h.0.root; is_root = Contains-append_left include exclude h.0.root h.0.is_root; reaches = h.0.reaches }), λ e. h.1 ((excluded-exactly y).0 e)),
-  )

@@ -8,4 +8,5 @@ pub mod NumberingLemmas
 pub mod PartLemmas
 pub mod PassedLemmas
 pub mod OverlayLemmas
+pub mod StoredLemmas
 pub mod TowardLemmas

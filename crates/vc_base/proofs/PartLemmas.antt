@@ -1,17 +1,18 @@
 -- What the part of a history above a floor says of the whole.
-use Rattle.std.proofs.Common.{◌≡◌, ◌≢◌, ℕ, ◌<◌, ◌≤◌, ◌⊎◌, inl, inr, ⊎_elim, Bool, true, false, if◌then◌else◌, List, [], Option, Some, None, IsSome, Contains, get_or, position, sym, ap, subst, ◌∙◌, refl, true≢false, arith, nat_le}
+use Rattle.std.proofs.Common.{◌≡◌, ◌≢◌, ℕ, ◌<◌, ◌≤◌, ◌⊎◌, inl, inr, ⊎_elim, Bool, true, false, if◌then◌else◌, List, [], ◌++◌, Option, Some, None, IsSome, Contains, ◌↔◌, get_or, position, sym, ap, subst, ◌∙◌, refl, true≢false, arith, nat_le}
 use Rattle.std.proofs.lemmas.Bool.{le-leb, leb-true}
+use Rattle.std.proofs.lemmas.List.Elements.{Contains-append_left, Contains-append_right, Contains-append_cases}
 use Rattle.std.proofs.lemmas.List.Quantifiers.{position-Some}
-use Rattle.vc_graph.specs.Graph.{LinksTo, Reaches, IsClosedUnder, itself, onward}
+use Rattle.vc_graph.specs.Graph.{LinksTo, Reaches, ReachedFrom, IsClosedUnder, itself, onward}
 use Rattle.vc_graph.proofs.WalkLemmas.{Reaches-trans}
 use Rattle.vc_object.proofs.IdLemmas.{id_eq-same, id_eq_equiv}
 use Rattle.vc_object.specs.ObjectId.{id_eq}
 use Rattle.vc_object.specs.ObjectMap.{ObjectMap, parents_in}
 use Rattle.vc_object.specs.declared.id.ObjectId.{ObjectId}
 use Rattle.vc_base.specs.Generation.{Agrees}
-use Rattle.vc_base.specs.History.{IsCommonAncestor, IsBestCommonAncestor}
+use Rattle.vc_base.specs.History.{IsCommonAncestor, IsBestCommonAncestor, IsSelected}
 use Rattle.vc_base.specs.Numbering.{GathersBeyond}
-use Rattle.vc_base.specs.Part.{under, IsSettledBelow}
+use Rattle.vc_base.specs.Part.{under, IsSettledBelow, IsSettledOutside}
 use Rattle.vc_base.specs.Toward.{not_above}
 use Rattle.vc_base.specs.Walk.{graph_read, parents_read, read_at}
 use Rattle.vc_base.proofs.GenerationLemmas.{Contains-from_LinksTo, HasGeneration-parent}
@@ -163,3 +164,40 @@ module _ (objects : ObjectMap) (known : ObjectId → Option ℕ) (floor : ℕ) (
         -- a name on a way to what was read was read
         way_here : (x d : ObjectId) → Contains roots x → Contains met c → Reaches (parents_in objects) x d → Reaches (parents_in objects) d c → Reaches (graph_read met read) x d × Contains met d
         way_here x d is_x here to back = ⊎_elim (λ h. h) (λ s. absurd (not_under c here (below_under s.2 (Reaches-trans (parents_in objects) s.3 back)))) (way_read (gathers.rooted x is_x) to)
+
+  -- what was met and no excluded commit reaches is selected, where what was met and not read lies below an excluded one
+  module _ (include exclude : List ObjectId) (are : roots ≡ include ++ exclude) (settled : IsSettledOutside met read include exclude) where
+    included_met : (r : ObjectId) → Contains include r → Contains met r
+    included_met r at = gathers.rooted r (subst (λ l. Contains l r) (sym are) (Contains-append_left include exclude r at))
+
+    excluded_met : (r : ObjectId) → Contains exclude r → Contains met r
+    excluded_met r at = gathers.rooted r (subst (λ l. Contains l r) (sym are) (Contains-append_right include exclude r at))
+
+    -- that an excluded commit reaches what was met was read
+    excluded_read : (y : ObjectId) → Contains met y → ReachedFrom (parents_in objects) exclude y → ReachedFrom (graph_read met read) exclude y
+    excluded_read y at r = record { root = r.root; is_root = r.is_root; reaches = way_to_read (excluded_met r.root r.is_root) at r.reaches }
+
+    -- and what lies below a name that an excluded commit reaches by what was read is excluded
+    excluded_below : (z y : ObjectId) → ReachedFrom (graph_read met read) exclude z → Reaches (parents_in objects) z y → ReachedFrom (parents_in objects) exclude y
+    excluded_below z y r way = record { root = r.root; is_root = r.is_root; reaches = Reaches-trans (parents_in objects) (whole_way r.reaches) way }
+
+    pub selected_in_part : (y : ObjectId) → (Contains met y × ¬ ReachedFrom (graph_read met read) exclude y) ↔ IsSelected (parents_in objects) include exclude y
+    selected_in_part y = (to, from)
+      where
+        to : Contains met y × ¬ ReachedFrom (graph_read met read) exclude y → IsSelected (parents_in objects) include exclude y
+        to h =
+            let out : ¬ ReachedFrom (parents_in objects) exclude y = λ r. h.1 (excluded_read y h.0 r) in
+            let r = gathers.reached y h.0 in (
+              ⊎_elim (λ root. record { root = r.root; is_root = root; reaches = r.reaches }) (λ root. absurd (out (record { root = r.root; is_root = root; reaches = r.reaches })))
+                  (Contains-append_cases include exclude r.root (subst (λ l. Contains l r.root) are r.is_root)),
+              out,
+            )
+
+        from : IsSelected (parents_in objects) include exclude y → Contains met y × ¬ ReachedFrom (graph_read met read) exclude y
+        from h = (
+          ⊎_elim (λ k. k.1)
+              (λ s. ⊎_elim (λ here. absurd (not_under s.0 here s.2)) (λ e. absurd (h.1 (excluded_below s.0 y e s.3)))
+              (settled s.0 (record { root = h.0.root; is_root = h.0.is_root; reaches = s.1 })))
+              (way_read (included_met h.0.root h.0.is_root) h.0.reaches),
+          λ e. h.1 (excluded_below y y e itself),
+        )

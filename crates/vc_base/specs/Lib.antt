@@ -5,5 +5,6 @@ pub mod Numbering
 pub mod Parents
 pub mod Part
 pub mod Passed
+pub mod Stored
 pub mod Toward
 pub mod Walk

@@ -2,7 +2,9 @@
 ghost use Rattle.std.specs.Prelude.{◌≡◌, ◌↔◌, ◌∷◌, [], map, filter, not, IfSome, OnSome, IfOk, IfErr, IsErrOf, OnOk, Contains};
 ghost use Rattle.indexmap.specs.IndexSet.{insert_all};
 ghost use Rattle.vc_base.specs.BaseFault.{IsTold};
+ghost use Rattle.vc_base.specs.Generation.{Agrees};
 ghost use Rattle.vc_base.specs.History.{IsCommonAncestor, IsBestCommonAncestor};
+ghost use Rattle.vc_base.specs.Numbering.{numbers};
 ghost use Rattle.vc_base.specs.Part.{IsSettledBelow};
 ghost use Rattle.vc_base.specs.Passed.{IsPassed};
 ghost use Rattle.vc_base.specs.Walk.{graph_read};
@@ -12,9 +14,9 @@ ghost use Rattle.vc_object.specs.ObjectId.{id_eq, IsSortedByName};
 ghost use Rattle.vc_object.specs.ObjectMap.{parents_in};
 ghost use Rattle.vc_object.specs.declared.id.ObjectId.{ObjectId as Id};
 
-use crate::part::each_is_among;
+use crate::part::{each_is_among, first_floor, lower_floor, read_above};
 use crate::walk::{Walk, read_history};
-use crate::{BaseFault, Commits, Generations, numbered};
+use crate::{BaseFault, Commits, Generations};
 use indexmap::IndexSet;
 use std::alloc::{AllocError, Global};
 use vc_files::Fault;
@@ -22,24 +24,36 @@ use vc_graph::{sorted_difference, sorted_from};
 use vc_object::ObjectId;
 use vc_store::StoreFault;
 
-/// The common ancestors of `a` and `b` that are ancestors of no other one, sorted by name. There may be several, or none.
-/// The history of both is read, each commit once.
+/// The common ancestors of `a` and `b` that are ancestors of no other one, sorted by name. There may be several, or none. The
+/// history of both is read down to a floor, which is lowered until each name that was met and not read lies below a common
+/// ancestor: a commit whose number is not above the floor is not read.
 pub fn merge_bases<C: Commits>(
     alloc: Global,
     commits: &mut C,
     a: &ObjectId,
     b: &ObjectId,
+    generations: &Generations,
 ) -> Result<Vec<ObjectId>, BaseFault>
-    ensures best { IfOk result (λ ids. C.is_honest → (id : Id) → Contains ids.items id ↔ IsBestCommonAncestor (parents_in (C.objects (C.state_of commits.old))) a.now b.now id) }
+    ensures best { IfOk result (λ ids. C.is_honest → Agrees (parents_in (C.objects (C.state_of commits.old))) (numbers generations.now) → (id : Id) → Contains ids.items id ↔ IsBestCommonAncestor (parents_in (C.objects (C.state_of commits.old))) a.now b.now id) }
     ensures sorted { IfOk result (λ ids. IsSortedByName ids.items) }
-    ensures closed { OnOk result (C.is_honest → IsClosedUnder (parents_in (C.objects (C.state_of commits.old))) (a.now ∷ b.now ∷ [])) }
-    ensures refused { IfErr result (λ e. C.is_honest → IsTold (C.objects (C.state_of commits.old)) (C.damaged (C.state_of commits.old)) (a.now ∷ b.now ∷ []) e) }
+    ensures closed { OnOk result (C.is_honest → Agrees (parents_in (C.objects (C.state_of commits.old))) (numbers generations.now) → IsClosedUnder (parents_in (C.objects (C.state_of commits.old))) (a.now ∷ b.now ∷ [])) }
+    ensures refused { IfErr result (λ e. C.is_honest → Agrees (parents_in (C.objects (C.state_of commits.old))) (numbers generations.now) → IsTold (C.objects (C.state_of commits.old)) (C.damaged (C.state_of commits.old)) (a.now ∷ b.now ∷ []) e) }
 
     ensures kept { C.state_of commits.new ≡ C.state_of commits.old }
     ensures wear { Wears C.failed C.can_fail C.left commits.old commits.new (IsErrOf result (BaseFault.Store (StoreFault.Fault Fault.Device))) }
 {
-    let generations = Generations::new(alloc);
-    let bases = numbered::merge_bases(alloc, commits, a, b, &generations)?;
+    let mut floor = first_floor(generations, &[*a, *b]);
+    let mut step: u64 = 1;
+    'lowering: while floor > 0 {
+        let walk = read_above(alloc, commits, &[*a, *b], generations, floor)?;
+        if let Some(bases) = settled_best(alloc, &walk, a, b)? {
+            return Ok(bases);
+        }
+        floor = lower_floor(&walk, generations, floor, step);
+        step = step.saturating_mul(2);
+    }
+    let walk = read_above(alloc, commits, &[*a, *b], generations, 0)?;
+    let bases = best_common(alloc, &walk, a, b)?;
     Ok(bases)
 }
 
@@ -67,7 +81,7 @@ pub fn common_ancestors<C: Commits>(
 
 // The best common ancestors in a part of a history, where each name that was met and not read lies below a common ancestor:
 // then they are those of the whole.
-pub(crate) fn settled_best(
+fn settled_best(
     alloc: Global,
     walk: &Walk,
     a: &ObjectId,
@@ -89,7 +103,7 @@ pub(crate) fn settled_best(
 }
 
 // The best common ancestors in a history that was read.
-pub(crate) fn best_common(
+fn best_common(
     alloc: Global,
     walk: &Walk,
     a: &ObjectId,

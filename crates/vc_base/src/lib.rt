@@ -8,7 +8,6 @@ mod fault;
 mod generations;
 mod known;
 mod laws;
-pub mod numbered;
 mod numbering;
 mod overlay;
 mod part;

@@ -12,7 +12,7 @@ use crate::repository::{open_store, resolve};
 use std::alloc::Global;
 use std::io::Write;
 use std::rt;
-use vc_base::merge_bases;
+use vc_base::{Generations, merge_bases};
 use vc_files::Files;
 use vc_folder::Syncs;
 use vc_object::ObjectId;
@@ -49,8 +49,9 @@ pub fn print_bases<F: Files, O: Write>(
     ensures nothing_printed { IfErr result (λ e. IsFault e ⊎ Keeps (O.contents output.old) (O.contents output.new)) }
     ensures same { F.content files.new ≡ F.content files.old }
 {
+    let generations = Generations::new(alloc);
     let mut commits = Store::new(alloc, files);
-    let bases = match merge_bases(alloc, &mut commits, first, second) {
+    let bases = match merge_bases(alloc, &mut commits, first, second, &generations) {
         Ok(bases) => bases,
         Err(fault) => return Err(Failure::Base(fault)),
     };

@@ -22,7 +22,7 @@ ghost use Rattle.vc_exchange.specs.Moving.{AreFrontMoved, AreMoved, Descends, Is
 use crate::ExchangeFault;
 use indexmap::IndexSet;
 use std::alloc::{AllocError, Global};
-use vc_base::{BaseFault, Commits, is_ancestor, is_history_beyond};
+use vc_base::{BaseFault, Commits, Generations, is_ancestor, is_history_beyond};
 use vc_files::{Fault, Files};
 use vc_graph::is_complete_beyond;
 use vc_object::ObjectId;
@@ -104,7 +104,8 @@ fn is_forward<C: Commits>(
     let Some(current) = current else {
         return Ok(true);
     };
-    match is_ancestor(alloc, commits, &current, id) {
+    let generations = Generations::new(alloc);
+    match is_ancestor(alloc, commits, &current, id, &generations) {
         Ok(yes) => Ok(yes),
         // Its history was just read, and is whole.
         Err(BaseFault::Missing(_)) => Ok(false),

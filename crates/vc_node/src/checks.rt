@@ -9,7 +9,7 @@ ghost use Rattle.vc_store.specs.Store.{objects};
 
 use crate::NodeFault;
 use std::alloc::Global;
-use vc_base::{commits, is_history_beyond};
+use vc_base::{Generations, commits, is_history_beyond};
 use vc_files::{Fault, Files};
 use vc_graph::is_complete_beyond;
 use vc_object::ObjectId;
@@ -59,6 +59,7 @@ pub(crate) fn refuse_beyond<F: Files>(
         return Ok(());
     }
     // The walk that says which object is no commit starts anew.
-    commits(alloc, &mut store, &[*id], &[])?;
+    let generations = Generations::new(alloc);
+    commits(alloc, &mut store, &[*id], &[], &generations)?;
     Err(NodeFault::NotACommit(*id))
 }

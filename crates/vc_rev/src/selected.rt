@@ -17,7 +17,7 @@ use crate::roots::Roots;
 use crate::terms::set_roots;
 use crate::token::SetExpr;
 use std::alloc::Global;
-use vc_base::{commits, common_ancestors};
+use vc_base::{Generations, commits, common_ancestors};
 use vc_files::Fault;
 use vc_object::ObjectId;
 use vc_store::StoreFault;
@@ -61,7 +61,8 @@ fn selected<R: Repository>(
 {
     let mut exclude = common_of_pairs(alloc, repo, &roots.apart)?;
     exclude.extend_from_slice(&roots.exclude)?;
-    let found = commits(alloc, repo, &roots.include, &exclude)?;
+    let generations = Generations::new(alloc);
+    let found = commits(alloc, repo, &roots.include, &exclude, &generations)?;
     Ok(found)
 }
 

@@ -15,6 +15,8 @@ use Rattle.std.proofs.lemmas.List.{take-append-drop}
 use Rattle.std.proofs.lemmas.List.Elements.{Contains-append_right, Contains-push_cases}
 use Rattle.std.proofs.lemmas.Map.Views.{Contains-from_any}
 use Rattle.indexmap.specs.IndexSet.{insert_key}
+use Rattle.vc_base.proofs.GenerationLemmas.{Agrees-stays}
+use Rattle.vc_base.specs.Generation.{Agrees}
 use Rattle.vc_files.specs.FileMap.{FileMap}
 use Rattle.vc_graph.proofs.WalkLemmas.{Contains-insert_key_cases}
 use Rattle.vc_graph.specs.Graph.{IsClosed, IsClosedUnder, Reaches, itself, onward}
@@ -80,6 +82,10 @@ module _ (stored carried : ObjectMap) where
     closed = IsClosedUnder-more (links_in stored) (links_in (with_carried stored carried)) links_more known.objects.keys whole.closed;
     histories = IsClosedUnder-more (parents_in stored) (parents_in (with_carried stored carried)) parents_more known.histories.keys whole.histories;
   }
+
+  -- numbers that agree with what is stored agree with it and what is carried
+  pub Agrees-with_carried : (numbers : ObjectId → Option ℕ) → Agrees (parents_in stored) numbers → Agrees (parents_in (with_carried stored carried)) numbers
+  Agrees-with_carried numbers agrees = Agrees-stays (parents_in stored) (parents_in (with_carried stored carried)) parents_more numbers agrees
 
 -- ---- the values of refs
 -- each of the ids is the value of a ref whose name is of that kind

@@ -1,5 +1,6 @@
 pub mod JudgeLemmas
 pub mod NameLemmas
+pub mod NumberLemmas
 pub mod QuarantineLemmas
 pub mod SeenLemmas
 pub mod UpdateLemmas

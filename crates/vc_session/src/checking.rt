@@ -1,8 +1,12 @@
 //! The check of all commands of a push.
 ghost use Rattle.std.specs.Prelude.{◌≡◌, Some, None, true, false, ⊤, length, slice_get, take, count_by, IfOk, IfErr, IfSome, IfNone, IsErrOf};
 ghost use Rattle.std.specs.List.{list_any};
+ghost use Rattle.vc_base.specs.Generation.{Agrees};
+ghost use Rattle.vc_base.specs.Numbering.{numbers};
+ghost use Rattle.vc_base.specs.Stored.{AgreesIn};
 ghost use Rattle.vc_files.specs.Failures.{Wears};
 ghost use Rattle.vc_graph.specs.GraphFault.{IsMet};
+ghost use Rattle.vc_object.specs.ObjectMap.{parents_in};
 ghost use Rattle.vc_push.specs.PushView.{command_of, commands_of};
 ghost use Rattle.vc_session.specs.Known.{AreRefsWhole, AreWhole};
 ghost use Rattle.vc_session.specs.Quarantine.{objects_seen};
@@ -17,7 +21,7 @@ use crate::known::Known;
 use crate::seen::PushObjects;
 use crate::stage::Verdict;
 use std::alloc::Global;
-use vc_base::Commits;
+use vc_base::{Commits, Generations};
 use vc_files::{Fault, Files};
 use vc_push::Command;
 use vc_store::StoreFault;
@@ -29,18 +33,19 @@ fn checked<C: Commits>(
     known: &mut Known,
     command: &Command,
     verdict: Verdict,
+    generations: &Generations,
 ) -> Result<Verdict, StoreFault>
-    ensures checks { IfOk result (λ after. C.is_honest → AreWhole (C.objects (C.state_of commits.old)) known.old → Checks (C.objects (C.state_of commits.old)) (command_of command.now) verdict after) }
+    ensures checks { IfOk result (λ after. C.is_honest → Agrees (parents_in (C.objects (C.state_of commits.old))) (numbers generations.now) → AreWhole (C.objects (C.state_of commits.old)) known.old → Checks (C.objects (C.state_of commits.old)) (command_of command.now) verdict after) }
     ensures legal { IfOk result (λ after. verdict ≡ Verdict.Passing → is_passing after ≡ true → MayBeSet command.now.name.items) }
     ensures settled { IfOk result (λ after. is_passing verdict ≡ false → after ≡ verdict) }
     ensures known { C.is_honest → AreWhole (C.objects (C.state_of commits.old)) known.old → AreWhole (C.objects (C.state_of commits.old)) known.new }
-    ensures refused { IfErr result (λ e. C.is_honest → IsMet (λ id. ⊤) (C.damaged (C.state_of commits.old)) e) }
+    ensures refused { IfErr result (λ e. C.is_honest → Agrees (parents_in (C.objects (C.state_of commits.old))) (numbers generations.now) → IsMet (λ id. ⊤) (C.damaged (C.state_of commits.old)) e) }
     ensures kept { C.state_of commits.new ≡ C.state_of commits.old }
     ensures wear { Wears C.failed C.can_fail C.left commits.old commits.new (IsErrOf result (StoreFault.Fault Fault.Device)) }
 {
     match verdict {
         Verdict::Passing => {
-            let found = judge(alloc, commits, known, command)?;
+            let found = judge(alloc, commits, known, command, generations)?;
             match found {
                 None => Ok(Verdict::Passing),
                 Some(reason) => Ok(Verdict::Refused(reason)),
@@ -59,18 +64,26 @@ fn check_all<C: Commits>(
     known: &mut Known,
     commands: &[Command],
     verdicts: &[Verdict],
+    generations: &Generations,
 ) -> Result<Vec<Verdict>, StoreFault>
     requires paired { length verdicts.now ≡ length commands.now }
-    ensures checks { IfOk result (λ after. C.is_honest → AreWhole (C.objects (C.state_of commits.old)) known.old → ChecksAll (C.objects (C.state_of commits.old)) (commands_of commands.now) verdicts.now after.items) }
+    ensures checks { IfOk result (λ after. C.is_honest → Agrees (parents_in (C.objects (C.state_of commits.old))) (numbers generations.now) → AreWhole (C.objects (C.state_of commits.old)) known.old → ChecksAll (C.objects (C.state_of commits.old)) (commands_of commands.now) verdicts.now after.items) }
     ensures legal { IfOk result (λ after. MayBeSetWhere (commands_of commands.now) after.items) }
     ensures paired { IfOk result (λ after. length after.items ≡ length commands.now) }
-    ensures refused { IfErr result (λ e. C.is_honest → IsMet (λ id. ⊤) (C.damaged (C.state_of commits.old)) e) }
+    ensures refused { IfErr result (λ e. C.is_honest → Agrees (parents_in (C.objects (C.state_of commits.old))) (numbers generations.now) → IsMet (λ id. ⊤) (C.damaged (C.state_of commits.old)) e) }
     ensures kept { C.state_of commits.new ≡ C.state_of commits.old }
     ensures wear { Wears C.failed C.can_fail C.left commits.old commits.new (IsErrOf result (StoreFault.Fault Fault.Device)) }
 {
     let mut after = Vec::new(alloc);
     for i in 0..commands.len() {
-        let verdict = checked(alloc, commits, known, &commands[i], verdicts[i])?;
+        let verdict = checked(
+            alloc,
+            commits,
+            known,
+            &commands[i],
+            verdicts[i],
+            generations,
+        )?;
         after.push(verdict)?;
     }
     Ok(after)
@@ -84,19 +97,27 @@ pub(crate) fn check_in_files<F: Files>(
     slot: u8,
     commands: &[Command],
     verdicts: &[Verdict],
+    generations: &Generations,
 ) -> Result<Vec<Verdict>, SessionFault>
     requires paired { length verdicts.now ≡ length commands.now }
-    ensures checks { F.honest → AreRefsWhole (F.content files.old) → IfOk result (λ after. ChecksAll (objects_seen (F.content files.old) slot) (commands_of commands.now) verdicts.now after.items) }
+    ensures checks { F.honest → AgreesIn (F.content files.old) generations.now → AreRefsWhole (F.content files.old) → IfOk result (λ after. ChecksAll (objects_seen (F.content files.old) slot) (commands_of commands.now) verdicts.now after.items) }
     ensures legal { IfOk result (λ after. MayBeSetWhere (commands_of commands.now) after.items) }
     ensures paired { IfOk result (λ after. length after.items ≡ length commands.now) }
-    ensures refused { F.honest → IfErr result (IsRefusedCheck (F.content files.old) slot) }
+    ensures refused { F.honest → AgreesIn (F.content files.old) generations.now → IfErr result (IsRefusedCheck (F.content files.old) slot) }
     ensures same { F.content files.new ≡ F.content files.old }
     ensures wear { Wears F.failed F.can_fail F.left files.old files.new (IsErrOf result (SessionFault.Fault Fault.Device)) }
 {
     let mut known = Known::by_refs(files, alloc)?;
     let mut seen = PushObjects { files, slot, alloc };
     known.learn_tips(alloc, &mut seen, commands)?;
-    let after = check_all(alloc, &mut seen, &mut known, commands, verdicts)?;
+    let after = check_all(
+        alloc,
+        &mut seen,
+        &mut known,
+        commands,
+        verdicts,
+        generations,
+    )?;
     Ok(after)
 }
 

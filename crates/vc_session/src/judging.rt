@@ -1,5 +1,7 @@
 //! The verdict on one command at the check.
 ghost use Rattle.std.specs.Prelude.{◌≡◌, ◌⊎◌, ◌∷◌, [], true, None, IfOk, IfErr, IsErrOf};
+ghost use Rattle.vc_base.specs.Generation.{Agrees};
+ghost use Rattle.vc_base.specs.Numbering.{numbers};
 ghost use Rattle.vc_files.specs.Failures.{Wears};
 ghost use Rattle.vc_format.specs.Git.{git_is_legal};
 ghost use Rattle.vc_graph.specs.Graph.{IsClosed, IsClosedUnder, ReachedFrom};
@@ -12,7 +14,7 @@ ghost use Rattle.vc_session.specs.Verdict.{CheckNeeds, IsVerdict, IsVerdictAtChe
 use crate::known::Known;
 use indexmap::IndexSet;
 use std::alloc::Global;
-use vc_base::{BaseFault, Commits, is_ancestor, is_history_beyond};
+use vc_base::{BaseFault, Commits, Generations, is_ancestor, is_history_beyond};
 use vc_files::Fault;
 use vc_graph::is_complete_beyond;
 use vc_object::ObjectId;
@@ -72,10 +74,11 @@ fn history_reason<C: Commits>(
     commits: &mut C,
     histories: &mut IndexSet<ObjectId>,
     command: &Command,
+    generations: &Generations,
 ) -> Result<Option<Reason>, StoreFault>
-    ensures verdict { IfOk result (λ found. C.is_honest → IsClosedUnder (parents_in (C.objects (C.state_of commits.old))) histories.old.keys → IsVerdict (CheckNeeds (C.objects (C.state_of commits.old)) (command_of command.now)) history_reasons found) }
+    ensures verdict { IfOk result (λ found. C.is_honest → Agrees (parents_in (C.objects (C.state_of commits.old))) (numbers generations.now) → IsClosedUnder (parents_in (C.objects (C.state_of commits.old))) histories.old.keys → IsVerdict (CheckNeeds (C.objects (C.state_of commits.old)) (command_of command.now)) history_reasons found) }
     ensures known { C.is_honest → IsClosedUnder (parents_in (C.objects (C.state_of commits.old))) histories.old.keys → IsClosedUnder (parents_in (C.objects (C.state_of commits.old))) histories.new.keys }
-    ensures refused { IfErr result (λ e. C.is_honest → IsMet (ReachedFrom (parents_in (C.objects (C.state_of commits.old))) (command.now.new ∷ [])) (C.damaged (C.state_of commits.old)) e) }
+    ensures refused { IfErr result (λ e. C.is_honest → Agrees (parents_in (C.objects (C.state_of commits.old))) (numbers generations.now) → IsMet (ReachedFrom (parents_in (C.objects (C.state_of commits.old))) (command.now.new ∷ [])) (C.damaged (C.state_of commits.old)) e) }
     ensures kept { C.state_of commits.new ≡ C.state_of commits.old }
     ensures wear { Wears C.failed C.can_fail C.left commits.old commits.new (IsErrOf result (StoreFault.Fault Fault.Device)) }
 {
@@ -88,7 +91,7 @@ fn history_reason<C: Commits>(
     if command.old == ObjectId::ZERO {
         return Ok(None);
     }
-    match is_ancestor(alloc, commits, &command.old, &command.new) {
+    match is_ancestor(alloc, commits, &command.old, &command.new, generations) {
         Ok(true) => Ok(None),
         Ok(false) => Ok(Some(Reason::NonFastForward)),
         // Its history was just read, and is whole.
@@ -101,17 +104,19 @@ fn history_reason<C: Commits>(
 /// The first of the reasons 100 to 105 for which a command is refused at its check, over the objects that are stored or
 /// carried at this moment, where what is known to be whole is so; none where it passes. No object is changed. The walk stops
 /// at what is known, and what it finds to be whole is known from then on. Every object that the new id reaches before that
-/// is read once, of a branch every commit of them once more, and those down to the old id a third time.
+/// is read once, of a branch every commit of them once more, and those down to the old id a third time, but for those whose
+/// numbers rule out that the old id is their ancestor.
 pub fn judge<C: Commits>(
     alloc: Global,
     commits: &mut C,
     known: &mut Known,
     command: &Command,
+    generations: &Generations,
 ) -> Result<Option<Reason>, StoreFault>
-    ensures verdict { IfOk result (λ found. C.is_honest → AreWhole (C.objects (C.state_of commits.old)) known.old → IsVerdictAtCheck (C.objects (C.state_of commits.old)) (command_of command.now) found) }
+    ensures verdict { IfOk result (λ found. C.is_honest → Agrees (parents_in (C.objects (C.state_of commits.old))) (numbers generations.now) → AreWhole (C.objects (C.state_of commits.old)) known.old → IsVerdictAtCheck (C.objects (C.state_of commits.old)) (command_of command.now) found) }
     ensures legal { IfOk result (λ found. found ≡ None → MayBeSet command.now.name.items) }
     ensures known { C.is_honest → AreWhole (C.objects (C.state_of commits.old)) known.old → AreWhole (C.objects (C.state_of commits.old)) known.new }
-    ensures refused { IfErr result (λ e. C.is_honest → IsMet (λ id. ReachedFrom (links_in (C.objects (C.state_of commits.old))) (command.now.new ∷ []) id ⊎ ReachedFrom (parents_in (C.objects (C.state_of commits.old))) (command.now.new ∷ []) id) (C.damaged (C.state_of commits.old)) e) }
+    ensures refused { IfErr result (λ e. C.is_honest → Agrees (parents_in (C.objects (C.state_of commits.old))) (numbers generations.now) → IsMet (λ id. ReachedFrom (links_in (C.objects (C.state_of commits.old))) (command.now.new ∷ []) id ⊎ ReachedFrom (parents_in (C.objects (C.state_of commits.old))) (command.now.new ∷ []) id) (C.damaged (C.state_of commits.old)) e) }
 
     ensures kept { C.state_of commits.new ≡ C.state_of commits.old }
     ensures wear { Wears C.failed C.can_fail C.left commits.old commits.new (IsErrOf result (StoreFault.Fault Fault.Device)) }
@@ -122,6 +127,6 @@ pub fn judge<C: Commits>(
     if !is_complete_beyond(commits, &mut known.objects, &command.new)? {
         return Ok(Some(Reason::MissingObjects));
     }
-    let found = history_reason(alloc, commits, &mut known.histories, command)?;
+    let found = history_reason(alloc, commits, &mut known.histories, command, generations)?;
     Ok(found)
 }

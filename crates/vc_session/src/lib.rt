@@ -6,6 +6,7 @@ mod checking;
 mod fault;
 mod judging;
 mod known;
+mod learning;
 mod migrating;
 mod opening;
 mod quarantine;

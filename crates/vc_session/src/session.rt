@@ -1,5 +1,6 @@
 //! One open push.
 ghost use Rattle.std.specs.Prelude.{◌≡◌, ◌⊎◌, ◌<◌, Option, length, slice_set, IfOk, IfErr, OnErr, IsErrOf};
+ghost use Rattle.vc_base.specs.Stored.{AgreesIn, KeepsAgreement};
 ghost use Rattle.vc_files.specs.FileMap.{SameOutside};
 ghost use Rattle.vc_files.specs.Failures.{Wears, Writes};
 ghost use Rattle.vc_object.specs.declared.fault.ObjectFault.{ObjectFault as Refusal};
@@ -14,6 +15,7 @@ ghost use Rattle.vc_session.specs.Steps.{EndsEarly, IsOpened, MayWrite, Steps, T
 
 use crate::checking::{check_in_files, count_passing, next_passing};
 use crate::fault::SessionFault;
+use crate::learning::learn_refused;
 use crate::migrating::migrate;
 use crate::opening::{fresh, put_all};
 use crate::quarantine::drop_quarantine;
@@ -22,6 +24,7 @@ use crate::stage::{Stage, Stepped, Verdict};
 use crate::updating::update;
 use std::alloc::Global;
 use std::marker::Model;
+use vc_base::Generations;
 use vc_files::{Fault, Files};
 use vc_object::{ObjectFault, ObjectId};
 use vc_push::{Command, Push};
@@ -111,19 +114,32 @@ impl PushSession {
     }
 
     // The check: 100 to 105, over what is stored and carried now.
-    fn check<F: Files>(&mut self, files: &mut F, alloc: Global) -> Result<Stepped, SessionFault>
+    fn check<F: Files>(
+        &mut self,
+        files: &mut F,
+        alloc: Global,
+        generations: &Generations,
+    ) -> Result<Stepped, SessionFault>
         requires stage { self.old.stage ≡ Stage.Unpacked }
-        ensures steps { F.honest → IfOk result (Steps (F.content files.old) (F.content files.new) self.old self.new) }
+        ensures steps { F.honest → AgreesIn (F.content files.old) generations.now → IfOk result (Steps (F.content files.old) (F.content files.new) self.old self.new) }
         ensures session { IsSession self.new }
         ensures unchanged { OnErr result (self.new ≡ self.old) }
         ensures commands { self.new.commands ≡ self.old.commands }
         ensures told { IfOk result (TellsReport self.old) }
         ensures same { F.content files.new ≡ F.content files.old }
-        ensures refused { F.honest → IfErr result (IsRefusedStep (F.content files.old) self.old Stage.Unpacked) }
+        ensures refused { F.honest → AgreesIn (F.content files.old) generations.now → IfErr result (IsRefusedStep (F.content files.old) self.old Stage.Unpacked) }
+        ensures agrees { F.honest → KeepsAgreement (F.content files.old) (F.content files.new) }
         ensures bad { F.honest → MakesNoneBad (F.content files.old) (F.content files.new) }
         ensures wear { Wears F.failed F.can_fail F.left files.old files.new (IsErrOf result (SessionFault.Fault Fault.Device)) }
     {
-        let verdicts = check_in_files(alloc, files, self.slot, &self.commands, &self.verdicts)?;
+        let verdicts = check_in_files(
+            alloc,
+            files,
+            self.slot,
+            &self.commands,
+            &self.verdicts,
+            generations,
+        )?;
         let passed = count_passing(&verdicts);
         self.stage = stage_while(&verdicts, Stage::Checked);
         self.verdicts = verdicts;
@@ -140,6 +156,7 @@ impl PushSession {
         ensures told { IfOk result (TellsReport self.old) }
         ensures early { F.honest → OnErr result (EndsEarly (F.content files.old) (F.content files.new) self.old Stage.Checked) }
         ensures refused { F.honest → IfErr result (IsRefusedStep (F.content files.old) self.old Stage.Checked) }
+        ensures agrees { F.honest → KeepsAgreement (F.content files.old) (F.content files.new) }
         ensures bad { F.honest → MakesNoneBad (F.content files.old) (F.content files.new) }
         ensures wear { Writes F.honest F.content F.failed F.can_fail F.left files.old files.new (IsErrOf result (SessionFault.Fault Fault.Device)) }
         ensures looks { MayWrite (F.content files.old) self.old Stage.Checked ⊎ Wears F.failed F.can_fail F.left files.old files.new (IsErrOf result (SessionFault.Fault Fault.Device)) }
@@ -160,6 +177,7 @@ impl PushSession {
         ensures told { IfOk result (TellsReport self.old) }
         ensures err { F.honest → OnErr result (F.content files.new ≡ F.content files.old) }
         ensures refused { F.honest → IfErr result (IsRefusedStep (F.content files.old) self.old Stage.Migrated) }
+        ensures agrees { F.honest → KeepsAgreement (F.content files.old) (F.content files.new) }
         ensures bad { F.honest → MakesNoneBad (F.content files.old) (F.content files.new) }
         ensures wear { Writes F.honest F.content F.failed F.can_fail F.left files.old files.new (IsErrOf result (SessionFault.Fault Fault.Device)) }
         ensures looks { F.honest → MayWrite (F.content files.old) self.old Stage.Migrated ⊎ Wears F.failed F.can_fail F.left files.old files.new (IsErrOf result (SessionFault.Fault Fault.Device)) }
@@ -185,6 +203,7 @@ impl PushSession {
         ensures told { IfOk result (TellsReport self.now) }
         ensures early { F.honest → OnErr result (EndsEarly (F.content files.old) (F.content files.new) self.now Stage.Done) }
         ensures refused { F.honest → IfErr result (IsRefusedStep (F.content files.old) self.now Stage.Done) }
+        ensures agrees { F.honest → KeepsAgreement (F.content files.old) (F.content files.new) }
         ensures bad { F.honest → MakesNoneBad (F.content files.old) (F.content files.new) }
         ensures wear { Writes F.honest F.content F.failed F.can_fail F.left files.old files.new (IsErrOf result (SessionFault.Fault Fault.Device)) }
     {
@@ -193,23 +212,56 @@ impl PushSession {
         Ok(Stepped::Finished(report))
     }
 
+    /// Learns the generations of the commits from which its commands were refused to move branches, since the new ones did not
+    /// descend from them. That took a walk over their whole history, which the next check of such a push is spared. It is
+    /// learnt once the check is through. What can't be learnt is passed over: an absent, a damaged or another object is no
+    /// refusal here.
+    pub fn learn<F: Files>(
+        &self,
+        files: &mut F,
+        alloc: Global,
+        generations: &mut Generations,
+    ) -> Result<(), Fault>
+        ensures agrees { F.honest → AgreesIn (F.content files.old) generations.old → AgreesIn (F.content files.old) generations.new }
+        ensures same { F.content files.new ≡ F.content files.old }
+        ensures wear { Wears F.failed F.can_fail F.left files.old files.new (IsErrOf result Fault.Device) }
+    {
+        match self.stage {
+            Stage::Checked | Stage::Done => learn_refused(
+                files,
+                alloc,
+                &self.commands,
+                &self.verdicts,
+                generations,
+            ),
+            Stage::Unpacked | Stage::Migrated => Ok(()),
+        }
+    }
+
     /// The next step: the check of all commands, the storing of what is carried, the update of one command, or the end. After
     /// an error the session is as it was, and of what the step was to store some may be there; no ref has changed. Once
-    /// it has told its report the session is at its end, and its slot is free. No step makes a file bad.
-    pub fn step<F: Files>(&mut self, files: &mut F, alloc: Global) -> Result<Stepped, SessionFault>
-        ensures steps { F.honest → HoldsNames (F.content files.old) self.old.slot self.old.names → IfOk result (Steps (F.content files.old) (F.content files.new) self.old self.new) }
+    /// it has told its report the session is at its end, and its slot is free. No step makes a file bad. The check looks at no
+    /// commit whose number rules out that an old value is its ancestor, where the numbers agree with what is stored.
+    pub fn step<F: Files>(
+        &mut self,
+        files: &mut F,
+        alloc: Global,
+        generations: &Generations,
+    ) -> Result<Stepped, SessionFault>
+        ensures steps { F.honest → AgreesIn (F.content files.old) generations.now → HoldsNames (F.content files.old) self.old.slot self.old.names → IfOk result (Steps (F.content files.old) (F.content files.new) self.old self.new) }
         ensures session { IsSession self.new }
         ensures unchanged { OnErr result (self.new ≡ self.old) }
         ensures commands { self.new.commands ≡ self.old.commands }
         ensures told { IfOk result (TellsReport self.old) }
         ensures early { F.honest → OnErr result (EndsEarly (F.content files.old) (F.content files.new) self.old self.old.stage) }
-        ensures refused { F.honest → IfErr result (IsRefusedStep (F.content files.old) self.old self.old.stage) }
+        ensures refused { F.honest → AgreesIn (F.content files.old) generations.now → IfErr result (IsRefusedStep (F.content files.old) self.old self.old.stage) }
+        ensures agrees { F.honest → KeepsAgreement (F.content files.old) (F.content files.new) }
         ensures bad { F.honest → MakesNoneBad (F.content files.old) (F.content files.new) }
         ensures wear { Writes F.honest F.content F.failed F.can_fail F.left files.old files.new (IsErrOf result (SessionFault.Fault Fault.Device)) }
         ensures looks { F.honest → MayWrite (F.content files.old) self.old self.old.stage ⊎ Wears F.failed F.can_fail F.left files.old files.new (IsErrOf result (SessionFault.Fault Fault.Device)) }
     {
         match self.stage {
-            Stage::Unpacked => self.check(files, alloc),
+            Stage::Unpacked => self.check(files, alloc, generations),
             Stage::Checked => self.migrate(files, alloc),
             Stage::Migrated => self.update(files, alloc),
             Stage::Done => self.finish(files, alloc),

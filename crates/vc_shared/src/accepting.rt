@@ -1,5 +1,6 @@
 //! A message that comes to the shared node.
 ghost use Rattle.std.specs.Prelude.{◌≡◌, ◌⊎◌, ℕ, IfErr, OnErr};
+ghost use Rattle.vc_base.specs.Stored.{KeepsAgreement};
 ghost use Rattle.vc_files.specs.Failures.{Wears, Writes};
 ghost use Rattle.vc_message.specs.AnyView.{message_text};
 ghost use Rattle.vc_message.specs.Machine.{IsUnread, Reads, TextOf};
@@ -62,6 +63,7 @@ pub(crate) fn take<F: Files>(
     ensures answers { F.honest → (m : Sent) → TextOf m (message_text message) → AnswersUp (Accept m) result (F.content files.old) (F.content files.new) slots.old slots.new }
     ensures unchanged { OnErr result (slots.new ≡ slots.old) }
     ensures refused { F.honest → IfErr result (IsRefusedMessage (F.content files.old) slots.old (message_text message)) }
+    ensures agrees { F.honest → KeepsAgreement (F.content files.old) (F.content files.new) }
     ensures bad { F.honest → MakesNoneBad (F.content files.old) (F.content files.new) }
     ensures wear { Writes F.honest F.content F.failed F.can_fail F.left files.old files.new (TellsDevice result) }
     ensures looks { (m : Sent) → TextOf m (message_text message) → IsToWrite m ⊎ Wears F.failed F.can_fail F.left files.old files.new (TellsDevice result) }
@@ -90,6 +92,7 @@ pub(crate) fn accept<F: Files>(
     ensures unread { F.honest → (n : ℕ) → IsUnread bytes.now n → AnswersUp (Asks (Unread n)) result (F.content files.old) (F.content files.new) slots.old slots.new }
     ensures unchanged { OnErr result (slots.new ≡ slots.old) }
     ensures refused { F.honest → IfErr result (IsRefusedBytes (F.content files.old) slots.old bytes.now) }
+    ensures agrees { F.honest → KeepsAgreement (F.content files.old) (F.content files.new) }
     ensures bad { F.honest → MakesNoneBad (F.content files.old) (F.content files.new) }
     ensures wear { Writes F.honest F.content F.failed F.can_fail F.left files.old files.new (TellsDevice result) }
     ensures looks { (m : Sent) → Reads bytes.now m → IsToWrite m ⊎ Wears F.failed F.can_fail F.left files.old files.new (TellsDevice result) }

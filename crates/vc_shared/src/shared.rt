@@ -32,6 +32,7 @@ use crate::opening::open_files;
 use crate::{Accepted, SharedFault, Stepped, accepting, stepping};
 use std::alloc::Global;
 use std::marker::Model;
+use vc_base::Generations;
 use vc_files::{Files, FusedFiles};
 use vc_message::Message;
 use vc_node::NodeFault;
@@ -39,17 +40,21 @@ use vc_object::ObjectId;
 use vc_rev::Expr;
 use vc_session::PushSession;
 
-/// The shared node over files: one bare repository, and the pushes that are open in its eight slots. Once a call has ended
+/// The shared node over files: one bare repository, the pushes that are open in its eight slots, and what it has learnt of the
+/// generations of commits, some 30 bytes for each. Once a call has ended
 /// in a fault, each later one but [`close`](Shared::close) is refused (112), until the files are opened again.
 #[derive(Drop)]
-pub struct Shared<F> {
+pub struct Shared<F: Files> {
     files: F,
     alloc: Global,
     slots: [Option<PushSession>; 8],
     is_up: bool,
+    // What is known of the generations of commits. No call takes an object away, so it stands until the files are opened again.
+    generations: Generations,
 }
 
-impl<F> Model for Shared<F> {
+impl<F: Files> Model for Shared<F> {
+    ghost use Rattle.vc_base.specs.Stored.{AgreesIn};
     ghost use Rattle.vc_shared.specs.Holding.{SharedText};
     ghost use Rattle.vc_shared.specs.Slots.{AreTellable};
 
@@ -57,7 +62,7 @@ impl<F> Model for Shared<F> {
 
     ghost view = { λ s. record { files = s.files; slots = s.slots; is_up = s.is_up } };
 
-    ghost invariant = { λ s. AreTellable s.slots };
+    ghost invariant = { λ s. AreTellable s.slots × (F.honest → AgreesIn (F.content s.files) s.generations) };
 }
 
 impl<F: Files> Shared<F> {
@@ -79,6 +84,7 @@ impl<F: Files> Shared<F> {
                 alloc,
                 slots: [None, None, None, None, None, None, None, None],
                 is_up: true,
+                generations: Generations::new(alloc),
             }),
             Err(fault) => Err((files, fault)),
         }
@@ -93,6 +99,7 @@ impl<F: Files> Shared<F> {
             alloc: _,
             slots: _,
             is_up: _,
+            generations: _,
         } = self;
         files
     }
@@ -116,6 +123,7 @@ impl<F: Files> Shared<F> {
         let opened = open_files(self.alloc, &mut self.files);
         self.slots = [None, None, None, None, None, None, None, None];
         self.is_up = opened.is_ok();
+        self.generations = Generations::new(self.alloc);
         opened
     }
 
@@ -169,7 +177,13 @@ impl<F: Files> Shared<F> {
         if !self.is_up {
             return Err(SharedFault::Node(NodeFault::Down));
         }
-        match stepping::step(self.alloc, &mut self.files, &mut self.slots, slot) {
+        match stepping::step(
+            self.alloc,
+            &mut self.files,
+            &mut self.slots,
+            slot,
+            &mut self.generations,
+        ) {
             Ok(told) => Ok(told),
             Err(fault) => Err(self.fail(fault)),
         }

@@ -1,5 +1,6 @@
 //! A step of the push in a slot.
 ghost use Rattle.std.specs.Prelude.{◌≡◌, ◌⊎◌, ◌<◌, IfOk, IfErr, OnErr, Err, None, Some, false, length, slice_set};
+ghost use Rattle.vc_base.specs.Stored.{AgreesIn};
 ghost use Rattle.vc_files.specs.Failures.{Wears, Writes};
 ghost use Rattle.vc_session.specs.Clean.{MakesNoneBad};
 ghost use Rattle.vc_shared.specs.Faults.{TellsDevice, is_fault};
@@ -8,9 +9,10 @@ ghost use Rattle.vc_shared.specs.Stepping.{EndsSlotEarly, HasShortReport, IsEnd,
 
 use crate::SharedFault;
 use std::alloc::{AllocError, Global};
+use vc_base::Generations;
 use vc_files::Files;
 use vc_push::Reason;
-use vc_session::{PushSession, Stepped as SessionStep};
+use vc_session::{PushSession, SessionFault, Stepped as SessionStep};
 
 /// What a step did.
 #[derive(Drop)]
@@ -40,13 +42,16 @@ fn told(alloc: Global, did: SessionStep) -> Result<Stepped, AllocError>
 }
 
 // The next step of a push.
-fn step_push<F: Files>(
+fn take_step<F: Files>(
     alloc: Global,
     files: &mut F,
     push: &mut PushSession,
+    generations: &Generations,
 ) -> Result<Stepped, SharedFault>
     requires tellable { AreToldInOne push.old }
+    requires agrees { F.honest → AgreesIn (F.content files.old) generations.now }
     ensures tellable { AreToldInOne push.new }
+    ensures agrees { F.honest → AgreesIn (F.content files.new) generations.now }
     ensures steps { F.honest → IsHeldThere (F.content files.old) (Some push.old) → IfOk result (StepsPush (F.content files.old) (F.content files.new) push.old push.new) }
     ensures unchanged { IfErr result (λ e. is_fault e ≡ false → push.new ≡ push.old) }
     ensures early { F.honest → IsHeldThere (F.content files.old) (Some push.old) → OnErr result (EndsSlotEarly (F.content files.old) (F.content files.new) (Some push.old)) }
@@ -55,8 +60,33 @@ fn step_push<F: Files>(
     ensures wear { Writes F.honest F.content F.failed F.can_fail F.left files.old files.new (TellsDevice result) }
     ensures looks { F.honest → IsHeldThere (F.content files.old) (Some push.old) → MayWriteIn (F.content files.old) (Some push.old) ⊎ Wears F.failed F.can_fail F.left files.old files.new (TellsDevice result) }
 {
-    let did = push.step(files, alloc)?;
+    let did = push.step(files, alloc, generations)?;
     Ok(told(alloc, did)?)
+}
+
+// The same. Before it the generations are learnt that would have spared the check a walk, so that the next is.
+fn step_push<F: Files>(
+    alloc: Global,
+    files: &mut F,
+    push: &mut PushSession,
+    generations: &mut Generations,
+) -> Result<Stepped, SharedFault>
+    requires tellable { AreToldInOne push.old }
+    requires agrees { F.honest → AgreesIn (F.content files.old) generations.old }
+    ensures tellable { AreToldInOne push.new }
+    ensures agrees { F.honest → AgreesIn (F.content files.new) generations.new }
+    ensures steps { F.honest → IsHeldThere (F.content files.old) (Some push.old) → IfOk result (StepsPush (F.content files.old) (F.content files.new) push.old push.new) }
+    ensures unchanged { IfErr result (λ e. is_fault e ≡ false → push.new ≡ push.old) }
+    ensures early { F.honest → IsHeldThere (F.content files.old) (Some push.old) → OnErr result (EndsSlotEarly (F.content files.old) (F.content files.new) (Some push.old)) }
+    ensures refused { F.honest → IfErr result (IsRefusedIn (F.content files.old) (Some push.old)) }
+    ensures bad { F.honest → MakesNoneBad (F.content files.old) (F.content files.new) }
+    ensures wear { Writes F.honest F.content F.failed F.can_fail F.left files.old files.new (TellsDevice result) }
+    ensures looks { F.honest → IsHeldThere (F.content files.old) (Some push.old) → MayWriteIn (F.content files.old) (Some push.old) ⊎ Wears F.failed F.can_fail F.left files.old files.new (TellsDevice result) }
+{
+    if let Err(fault) = push.learn(files, alloc, generations) {
+        return Err(SharedFault::from(SessionFault::Fault(fault)));
+    }
+    take_step(alloc, files, push, generations)
 }
 
 // The push in this slot is taken out of it.
@@ -96,9 +126,12 @@ pub(crate) fn step<F: Files>(
     files: &mut F,
     slots: &mut [Option<PushSession>; 8],
     slot: u8,
+    generations: &mut Generations,
 ) -> Result<Stepped, SharedFault>
     requires tellable { AreTellable slots.old }
+    requires agrees { F.honest → AgreesIn (F.content files.old) generations.old }
     ensures tellable { AreTellable slots.new }
+    ensures agrees { F.honest → AgreesIn (F.content files.new) generations.new }
     ensures none { slot_of slots.old slot ≡ None → result ≡ Err SharedFault.NoSuchSlot }
     ensures steps { F.honest → IsHeldThere (F.content files.old) (slot_of slots.old slot) → IfOk result (StepsSlot (F.content files.old) (F.content files.new) slots.old slots.new slot) }
     ensures unchanged { IfErr result (λ e. is_fault e ≡ false → slots.new ≡ slots.old) }
@@ -111,7 +144,7 @@ pub(crate) fn step<F: Files>(
     let Some(mut push) = take(slots, slot) else {
         return Err(SharedFault::NoSuchSlot);
     };
-    let did = step_push(alloc, files, &mut push);
+    let did = step_push(alloc, files, &mut push, generations);
     let left = left(&did, push);
     put(slots, slot, left);
     did

@@ -26,7 +26,7 @@ const NO_SLOT: u8 = 8;
 
 /// The shared node of a world.
 #[derive(Drop)]
-pub struct WorldShared<F> {
+pub struct WorldShared<F: Files> {
     pub(crate) node: Shared<F>,
 }
 

@@ -1,20 +1,5 @@
-use Rattle.std.proofs.Common.{◌≡◌, List, Option, Some, None, ap, ◌∙◌, refl}
-use Rattle.std.specs.Option.{option_and_then}
-use Rattle.vc_object.specs.Decoding.{StoredObject}
-use Rattle.vc_object.specs.Links.{parents_of}
-use Rattle.vc_object.specs.ObjectMap.{ObjectMap, parents_in}
-use Rattle.vc_object.specs.declared.id.ObjectId.{ObjectId}
-use Rattle.vc_base.proofs.GenerationLemmas.{Agrees-stays}
+use Rattle.vc_base.proofs.StoredLemmas.{Agrees-more}
 use Rattle.vc_base.proofs.laws.more_objects_agree.Goals as goal
 
-parents_stay : (objects more : ObjectMap) → ((id : ObjectId) (o : StoredObject) → objects id ≡ Some o → more id ≡ Some o) → (id : ObjectId) (ys : List ObjectId) → parents_in objects id ≡ Some ys → parents_in more id ≡ Some ys
-unfolding parents_in
-parents_stay objects more stays id ys is = by (objects id) (more id) (stays id) is
-  where
-    by : (o p : Option StoredObject) → ((x : StoredObject) → o ≡ Some x → p ≡ Some x) → option_and_then (λ (o : StoredObject). parents_of o.kind o.body) o ≡ Some ys
-        → option_and_then (λ (o : StoredObject). parents_of o.kind o.body) p ≡ Some ys
-    by None p s h = absurd (cc)
-    by (Some x) p s h = let same : p ≡ Some x = s x refl in ap (option_and_then (λ (o : StoredObject). parents_of o.kind o.body)) same ∙ h
-
 pub returns : goal.returns
-returns c objects more numbers stays agrees = Agrees-stays (parents_in objects) (parents_in more) (parents_stay objects more stays) numbers agrees
+returns c = Agrees-more

@@ -1,5 +1,7 @@
 use Rattle.std.proofs.Common.{◌≡◌, [], ◌∷◌, sym, ap, ◌∙◌, rules, subst}
+use Rattle.vc_base.proofs.GenerationLemmas.{agrees_where_none}
 use Rattle.vc_base.specs.BaseFault.{IsTold}
+use Rattle.vc_base.specs.Numbering.{numbers}
 use Rattle.vc_files.specs.FileMap.{FileMap}
 use Rattle.vc_graph.specs.Graph.{IsClosedUnder, ReachedFrom}
 use Rattle.vc_graph.specs.GraphFault.{IsMet}
@@ -45,7 +47,7 @@ returns-in_err-commits-clause-refused g c = λ honest.
     let first : content c.new-store.result.files.now ≡ content c.args.files.now = ap content c.new-store.ensures.files in
     let second : content c.is_complete_beyond.new.objects.files.now ≡ content c.args.files.now = ap (λ (s : StoreState). s.content) c.is_complete_beyond.ensures.kept ∙ first in
     let same : content c.is_history_beyond.new.commits.files.now ≡ content c.args.files.now = ap (λ (s : StoreState). s.content) c.is_history_beyond.ensures.kept ∙ second in
-    let told = subst (λ (m : FileMap). IsTold (objects m) (IsDamaged m) (id ∷ []) e) same (c.in_err-commits.ensures.refused honest) in
+    let told = subst (λ (m : FileMap). IsTold (objects m) (IsDamaged m) (id ∷ []) e) same (c.in_err-commits.ensures.refused honest (agrees_where_none _ (numbers c.new-generations.result) c.new-generations.ensures.none)) in
     let complete : AreWhole (objects (content c.args.files.now)) known → IsComplete (content c.args.files.now) id = λ whole.
     subst (λ (m : FileMap). IsComplete m id) first
     ((c.in_ok-is_complete_beyond.ensures.complete honest (subst (λ (m : FileMap). IsClosedUnder (links_in (objects m)) known.objects.keys) (sym first) whole.closed)).0 (search rules)) in
@@ -71,7 +73,7 @@ returns-in_err-commits-clause-file g c = λ honest.
     let first : content c.new-store.result.files.now ≡ content c.args.files.now = ap content c.new-store.ensures.files in
     let second : content c.is_complete_beyond.new.objects.files.now ≡ content c.args.files.now = ap (λ (s : StoreState). s.content) c.is_complete_beyond.ensures.kept ∙ first in
     let same : content c.is_history_beyond.new.commits.files.now ≡ content c.args.files.now = ap (λ (s : StoreState). s.content) c.is_history_beyond.ensures.kept ∙ second in
-    let told = subst (λ (m : FileMap). IsTold (objects m) (IsDamaged m) (id ∷ []) e) same (c.in_err-commits.ensures.refused honest) in
+    let told = subst (λ (m : FileMap). IsTold (objects m) (IsDamaged m) (id ∷ []) e) same (c.in_err-commits.ensures.refused honest (agrees_where_none _ (numbers c.new-generations.result) c.new-generations.ensures.none)) in
     let read : TellsRead (IsReached (content c.args.files.now) id) NoneRead (of_base e) = told_read (content c.args.files.now) id e told in
     search (rules, read)
 

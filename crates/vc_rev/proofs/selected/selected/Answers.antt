@@ -1,5 +1,8 @@
 use Rattle.std.proofs.Common.{◌≡◌, ◌∙◌, ◌++◌, ap, inr}
 use Rattle.std.proofs.lemmas.Result.{err_from_is_err_and}
+use Rattle.vc_base.proofs.GenerationLemmas.{agrees_where_none}
+use Rattle.vc_base.specs.Numbering.{numbers}
+use Rattle.vc_object.specs.ObjectMap.{parents_in}
 use Rattle.vc_rev.specs.RootsView.{roots_view}
 use Rattle.vc_rev.specs.Selection.{IsMetBy, IsMetByPairs}
 use Rattle.vc_rev.proofs.SelectionLemmas.{selected_same, walked_all, met_same, walk_more, walk_told}
@@ -22,9 +25,10 @@ returns-in_err-found-clause-refused g c =
     let are = rw c.deref.ensures.value at c.in_ok-exclude.ensures.common in
     let is : all ≡ common ++ chosen.exclude = c.in_ok-extend_from_slice.ensures.items ∙ ap (λ l. common ++ l) c.deref-2.ensures.value in
     let damaged = g.R.Objects.damaged (g.R.Objects.state_of c.args.repo.now) in
+    let agrees = agrees_where_none (parents_in objects) (numbers c.new-generations.result) c.new-generations.ensures.none in
     let told = rw (c.in_ok-exclude.ensures.kept, c.deref-3.ensures.value, c.deref-4.ensures.value) at c.in_err-found.ensures.refused in
     let p = err_from_is_err_and c.from_residual-in_err-found.result c.from_residual-in_err-found.ensures.1 in
-    rw (p.1, p.2) (λ honest. walk_told objects damaged (chosen.include ++ all) (IsMetBy objects chosen) (met_same objects chosen common all (are honest) is) c.in_err-found.field-0.0 (told honest))
+    rw (p.1, p.2) (λ honest. walk_told objects damaged (chosen.include ++ all) (IsMetBy objects chosen) (met_same objects chosen common all (are honest) is) c.in_err-found.field-0.0 (told honest agrees))
 
 pub returns-clause-selected : goal.returns-clause-selected
 returns-clause-selected g c honest id =
@@ -34,9 +38,10 @@ returns-clause-selected g c honest id =
     let all = c.extend_from_slice.new.self.items in
     let are = rw c.deref.ensures.value at c.in_ok-exclude.ensures.common in
     let is : all ≡ common ++ chosen.exclude = c.in_ok-extend_from_slice.ensures.items ∙ ap (λ l. common ++ l) c.deref-2.ensures.value in
+    let agrees = agrees_where_none (parents_in objects) (numbers c.new-generations.result) c.new-generations.ensures.none in
     let found = rw (c.in_ok-exclude.ensures.kept, c.deref-3.ensures.value, c.deref-4.ensures.value) at (c.in_ok-found.ensures.selected honest) in
     let same = selected_same objects chosen common all (are honest) is id in
-    (λ h. same.0 ((found id).0 h), λ h. (found id).1 (same.1 h))
+    (λ h. same.0 ((found agrees id).0 h), λ h. (found agrees id).1 (same.1 h))
 
 pub returns-clause-closed : goal.returns-clause-closed
 returns-clause-closed g c honest =
@@ -47,5 +52,6 @@ returns-clause-closed g c honest =
     let are = rw c.deref.ensures.value at c.in_ok-exclude.ensures.common in
     let is : all ≡ common ++ chosen.exclude = c.in_ok-extend_from_slice.ensures.items ∙ ap (λ l. common ++ l) c.deref-2.ensures.value in
     let pairs = rw c.deref.ensures.value at c.in_ok-exclude.ensures.closed in
+    let agrees = agrees_where_none (parents_in objects) (numbers c.new-generations.result) c.new-generations.ensures.none in
     let closed = rw (c.in_ok-exclude.ensures.kept, c.deref-3.ensures.value, c.deref-4.ensures.value) at (c.in_ok-found.ensures.closed honest) in
-    walked_all objects chosen common all (are honest) is closed (pairs honest)
+    walked_all objects chosen common all (are honest) is (closed agrees) (pairs honest)

@@ -1,3 +1,4 @@
+use Rattle.vc_session.proofs.NumberLemmas.{agreement_quarantine}
 use Rattle.vc_shared.proofs.PushingLemmas.{changes_free}
 use Rattle.vc_shared.proofs.pushing.open_push.Goals as goal
 
@@ -6,3 +7,9 @@ returns-in-Ok-clause-outside g c = λ honest. changes_free _ _ _ _ c.in-Some.ens
 
 pub returns-in-Err-clause-outside : goal.returns-in-Err-clause-outside
 returns-in-Err-clause-outside g c = λ honest. changes_free _ _ _ _ c.in-Some.ensures (c.new.ensures.outside honest)
+
+pub returns-in-Ok-clause-agrees : goal.returns-in-Ok-clause-agrees
+returns-in-Ok-clause-agrees g c = λ honest. agreement_quarantine _ _ _ (c.new.ensures.outside honest)
+
+pub returns-in-Err-clause-agrees : goal.returns-in-Err-clause-agrees
+returns-in-Err-clause-agrees g c = λ honest. agreement_quarantine _ _ _ (c.new.ensures.outside honest)

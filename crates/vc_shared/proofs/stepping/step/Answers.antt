@@ -8,7 +8,7 @@ pub returns-in_default-clause-unchanged : goal.returns-in_default-clause-unchang
 returns-in_default-clause-unchanged g c = λ refusal. c.take.ensures.left ∙ same_slot c.args.slots.now c.args.slot None (sym c.take.ensures.push ∙ c.in_default.is)
 
 pub step_push-did-requires : goal.step_push-did-requires
-step_push-did-requires g c = record { tellable = told_at c.args.slots.now c.args.slot c.in-Some.push (sym c.take.ensures.push ∙ c.in-Some.is) c.requires.tellable }
+step_push-did-requires g c = record { tellable = told_at c.args.slots.now c.args.slot c.in-Some.push (sym c.take.ensures.push ∙ c.in-Some.is) c.requires.tellable; agrees = c.requires.agrees }
 
 pub put-requires : goal.put-requires
 put-requires g c =

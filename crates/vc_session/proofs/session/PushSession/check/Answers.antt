@@ -3,12 +3,19 @@ use Rattle.vc_session.proofs.SessionLemmas.{refused_check}
 use Rattle.vc_session.specs.Session.{SessionText}
 use Rattle.vc_session.specs.SessionFault.{IsRefusedCheck, IsRefusedStep}
 use Rattle.vc_session.specs.declared.stage.Stage.TheVariants.{Unpacked}
+use Rattle.vc_session.proofs.NumberLemmas.{agreement_same}
 use Rattle.vc_session.proofs.session.PushSession.check.Goals as goal
 
 pub returns-in_err-verdicts-clause-refused : goal.returns-in_err-verdicts-clause-refused
-returns-in_err-verdicts-clause-refused g c = λ honest.
+returns-in_err-verdicts-clause-refused g c = λ honest agrees.
     let content = g.F.Files.content c.args.files.now in
     let e = c.in_err-verdicts.field-0.0 in
     let slot = ap (λ (s : SessionText). s.slot) c.self.view_is in
-    let told : IsRefusedStep content c.args.self.now Unpacked e = refused_check content c.args.self.now e (subst (λ (n : ℕ). IsRefusedCheck content n e) slot (c.in_err-verdicts.ensures.refused honest)) in
+    let told : IsRefusedStep content c.args.self.now Unpacked e = refused_check content c.args.self.now e (subst (λ (n : ℕ). IsRefusedCheck content n e) slot (c.in_err-verdicts.ensures.refused honest agrees)) in
     search (rules, told)
+
+pub returns-in_err-verdicts-clause-agrees : goal.returns-in_err-verdicts-clause-agrees
+returns-in_err-verdicts-clause-agrees g c = λ honest. agreement_same _ _ c.in_err-verdicts.ensures.same
+
+pub returns-clause-agrees : goal.returns-clause-agrees
+returns-clause-agrees g c = λ honest. agreement_same _ _ c.in_ok-verdicts.ensures.same

@@ -9,6 +9,7 @@ use Rattle.vc_session.specs.Steps.{EndsEarly}
 use Rattle.vc_session.specs.declared.stage.Stage.TheVariants.{Checked, Migrated}
 use Rattle.vc_session.proofs.FrameLemmas.{front-some, migrated-all}
 use Rattle.vc_session.proofs.SessionLemmas.{on_err, refused_migration}
+use Rattle.vc_session.proofs.NumberLemmas.{agreement_front, agreement_migrated}
 use Rattle.vc_session.proofs.session.PushSession.migrate.Goals as goal
 
 pub returns-clause-steps : goal.returns-clause-steps
@@ -49,3 +50,9 @@ returns-in_err-migrate-clause-refused g c = λ honest.
     let blames = subst (λ (n : ℕ). BlamesMigration content n s.names e) slot (subst (λ (ids : List ObjectId). BlamesMigration content c.self.inside.slot ids e) names (c.in_err-migrate.ensures.refused honest)) in
     let told : IsRefusedStep content s Checked (from_store e) = refused_migration content s e blames in
     search (rules, told)
+
+pub returns-in_err-migrate-clause-agrees : goal.returns-in_err-migrate-clause-agrees
+returns-in_err-migrate-clause-agrees g c = λ honest. agreement_front _ _ c.self.inside.slot c.deref.result.now (c.in_err-migrate.ensures.left honest)
+
+pub returns-clause-agrees : goal.returns-clause-agrees
+returns-clause-agrees g c = λ honest. agreement_migrated _ _ c.self.inside.slot c.deref.result.now (c.in_ok-migrate.ensures.stored honest)

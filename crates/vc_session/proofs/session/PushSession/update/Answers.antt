@@ -1,4 +1,4 @@
-use Rattle.std.proofs.Common.{rules, ◌≡◌, false, length, get_or, take, List, Some, Option, ap, sym, ◌∙◌, subst, slice_set, ℕ}
+use Rattle.std.proofs.Common.{rules, ◌≡◌, false, length, get_or, take, List, Some, Option, ap, sym, ◌∙◌, refl, subst, slice_set, ℕ}
 use Rattle.std.specs.Prelude.{slice_get}
 use Rattle.std.specs.List.{list_any}
 use Rattle.std.proofs.lemmas.List.{length-set}
@@ -16,6 +16,7 @@ use Rattle.vc_session.specs.declared.stage.Stage.TheVariants.{Migrated}
 use Rattle.vc_session.specs.declared.stage.Verdict.{Verdict}
 use Rattle.vc_session.specs.declared.stage.Verdict.TheVariants.{Passing}
 use Rattle.vc_session.proofs.SessionLemmas.{command_there, either, in_stage, may_after, may_at, may_set_next, same_there, settled_verdict, updates_next, wears_told}
+use Rattle.vc_session.proofs.NumberLemmas.{agreement_rest, agreement_same}
 use Rattle.vc_session.proofs.session.PushSession.update.Goals as goal
 use Rattle.vc_session.proofs.session.PushSession.update.Goals.{in-None, in-Some-found}
 
@@ -114,3 +115,12 @@ returns-clause-looks g c = λ honest.
 
 pub returns-clause-session : goal.returns-clause-session
 returns-clause-session g c = invariant_of-self g c
+
+pub returns-in_err-name-clause-agrees : goal.returns-in_err-name-clause-agrees
+returns-in_err-name-clause-agrees g c = λ honest. agreement_same _ _ refl
+
+pub returns-in_err-found-clause-agrees : goal.returns-in_err-found-clause-agrees
+returns-in_err-found-clause-agrees g c = λ honest. agreement_rest _ _ _ (c.in_err-found.ensures.rest honest)
+
+pub returns-clause-agrees : goal.returns-clause-agrees
+returns-clause-agrees g c = λ honest. agreement_rest _ _ _ (c.in_ok-found.ensures.rest honest)

@@ -56,3 +56,6 @@ pub returns-clause-looks : goal.returns-clause-looks
 returns-clause-looks g c =
     rw (← c.self.view_is) (λ m reads. settled_looks g.F.Files.content c.self.inside.files c.accept-accepted.new.files c.settle.new.self.files c.self.inside.slots c.accept-accepted.new.slots c.settle.new.self.slots c.self.inside.is_up c.settle.new.self.is_up c.accept-accepted.result c.settle.result
     c.settle.ensures.accepted c.settle.ensures.files c.settle.ensures.slots (c.accept-accepted.ensures.looks m reads))
+
+pub invariant_of-self : goal.invariant_of-self
+invariant_of-self g c = (c.accept-accepted.ensures.tellable, λ honest. c.accept-accepted.ensures.agrees honest c.self.inside.generations (c.self.invariant.1 honest))

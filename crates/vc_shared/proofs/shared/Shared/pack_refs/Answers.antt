@@ -6,6 +6,7 @@ use Rattle.vc_model.specs.SharedCall.SharedCall.{Asks}
 use Rattle.vc_node.specs.declared.fault.NodeFault.TheVariants.{Ref}
 use Rattle.vc_node.proofs.LookLemmas.{looks_none, or_told}
 use Rattle.vc_node.proofs.RefBlames.{packing_blames, packing_unwritten}
+use Rattle.vc_session.proofs.NumberLemmas.{agreement_outside}
 use Rattle.vc_shared.proofs.PackingLemmas.{packing_answers}
 use Rattle.vc_shared.proofs.ResolvingLemmas.{down_declines}
 use Rattle.vc_shared.proofs.shared.Shared.pack_refs.Goals as goal
@@ -46,3 +47,9 @@ returns-in-Ok-clause-looks g c = λ honest. rw (← c.self.view_is) (or_told (c.
 
 pub returns-in-Err-clause-looks : goal.returns-in-Err-clause-looks
 returns-in-Err-clause-looks g c = λ honest. rw (← c.self.view_is) (or_told (c.in-Err.ensures.looks honest) (λ there. there) (search rules))
+
+pub invariant_of-self : goal.invariant_of-self
+invariant_of-self g c = (c.self.invariant.0, λ honest. agreement_outside _ _ (c.in-Ok.ensures.rest honest) c.self.inside.generations (c.self.invariant.1 honest))
+
+pub invariant_of-self-in-Err : goal.invariant_of-self-in-Err
+invariant_of-self-in-Err g c = (c.self.invariant.0, λ honest. agreement_outside _ _ (c.in-Err.ensures.rest honest) c.self.inside.generations (c.self.invariant.1 honest))

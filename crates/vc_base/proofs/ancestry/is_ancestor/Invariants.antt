@@ -4,7 +4,7 @@ use Rattle.vc_base.specs.Numbering.{numbers}
 use Rattle.vc_base.specs.Toward.{ruled_out}
 use Rattle.vc_files.specs.Failures.{Wears}
 use Rattle.vc_object.specs.declared.id.ObjectId.{ObjectId as Id}
-use Rattle.vc_base.proofs.numbered.is_ancestor.Given as goal
+use Rattle.vc_base.proofs.ancestry.is_ancestor.Given as goal
 
 abbrev pub invariant-reading : goal.invariant-reading
 invariant-reading g l = record {
