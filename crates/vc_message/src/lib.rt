@@ -9,6 +9,7 @@ mod incoming_fault;
 mod laws;
 mod message;
 mod reader;
+mod streaming;
 
 pub use incoming::read_message;
 pub use incoming_fault::IncomingFault;
@@ -18,3 +19,4 @@ pub use laws::{
 };
 pub use message::Message;
 pub use reader::AnyReader;
+pub use streaming::{Taken, next_object};

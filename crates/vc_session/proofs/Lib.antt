@@ -1,3 +1,4 @@
+pub mod BringingLemmas
 pub mod JudgeLemmas
 pub mod NameLemmas
 pub mod NumberLemmas

@@ -1,11 +1,12 @@
 //! One open push.
 ghost use Rattle.std.specs.Prelude.{◌≡◌, ◌⊎◌, ◌<◌, Option, length, slice_set, IfOk, IfErr, OnErr, IsErrOf};
 ghost use Rattle.vc_base.specs.Stored.{AgreesIn, KeepsAgreement};
-ghost use Rattle.vc_files.specs.FileMap.{SameOutside};
+ghost use Rattle.vc_files.specs.FileMap.{FileMap, SameOutside};
 ghost use Rattle.vc_files.specs.Failures.{Wears, Writes};
 ghost use Rattle.vc_object.specs.declared.fault.ObjectFault.{ObjectFault as Refusal};
-ghost use Rattle.vc_push.specs.Push.{FaultOf};
-ghost use Rattle.vc_push.specs.PushView.{push_text};
+ghost use Rattle.vc_push.specs.Push.{Carried, FaultOf};
+ghost use Rattle.vc_push.specs.PushView.{commands_of, push_text};
+ghost use Rattle.vc_session.specs.Bringing.{IsBrought};
 ghost use Rattle.vc_session.specs.Carrying.{Carries, HoldsNames, objects_of_push};
 ghost use Rattle.vc_session.specs.Clean.{IsQuarantineClean, MakesNoneBad};
 ghost use Rattle.vc_session.specs.Quarantine.{quarantine_folder};
@@ -13,6 +14,7 @@ ghost use Rattle.vc_session.specs.Session.{IsSession, stage_while};
 ghost use Rattle.vc_session.specs.SessionFault.{IsRefusedStep};
 ghost use Rattle.vc_session.specs.Steps.{EndsEarly, IsOpened, MayWrite, Steps, TellsReport};
 
+use crate::bringing::Arriving;
 use crate::checking::{check_in_files, count_passing, next_passing};
 use crate::fault::SessionFault;
 use crate::learning::learn_refused;
@@ -22,7 +24,7 @@ use crate::quarantine::drop_quarantine;
 use crate::reporting::report;
 use crate::stage::{Stage, Stepped, Verdict};
 use crate::updating::update;
-use std::alloc::Global;
+use std::alloc::{AllocError, Global};
 use std::marker::Model;
 use vc_base::Generations;
 use vc_files::{Fault, Files};
@@ -103,6 +105,30 @@ impl PushSession {
             commands,
             carried: _,
         } = push;
+        Ok(PushSession {
+            slot,
+            fault,
+            commands,
+            verdicts,
+            names,
+            stage: Stage::Unpacked,
+        })
+    }
+
+    /// Opens a push of which all has come: what it carries stands in the quarantine of its slot.
+    pub fn arrived(
+        alloc: Global,
+        arriving: Arriving,
+        commands: Vec<Command>,
+    ) -> Result<PushSession, AllocError>
+        ensures opened { IfOk result (IsOpened arriving.slot arriving.fault (commands_of commands.items)) }
+        ensures fault { (content : FileMap) (carried : Carried) → IsBrought content arriving.slot arriving.names.keys arriving.fault carried → FaultOf carried arriving.fault }
+        ensures carried { IfOk result (λ s. (content : FileMap) (carried : Carried) → IsBrought content arriving.slot arriving.names.keys arriving.fault carried → Carries content arriving.slot s.names (objects_of_push carried)) }
+        ensures session { IfOk result IsSession }
+    {
+        let Arriving { slot, names, fault } = arriving;
+        let names = names.as_slice().to_vec(alloc)?;
+        let verdicts = fresh(alloc, &commands, fault)?;
         Ok(PushSession {
             slot,
             fault,
