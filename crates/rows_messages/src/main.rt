@@ -46,6 +46,7 @@ fn answer(
         "beyond" => answers::beyond(out, alloc, files, text),
         "open" => sessions::open_push(out, alloc, files, pushes, text),
         "step" => sessions::step(out, alloc, files, pushes, text),
+        "learn" => sessions::learn(out, alloc, files, pushes, text),
         "run" => sessions::run(out, alloc, files, text),
         "orders" => sessions::orders(out, alloc, files, text),
         "refs" => sessions::refs(out, alloc, files),

@@ -2,7 +2,7 @@
 
 use crate::messages::Telling;
 use crate::pushes;
-use crate::spelling::{push_bytes, push_id};
+use crate::spelling::{ids_of, push_bytes, push_id};
 use std::alloc::{AllocError, Global};
 use std::collections::BTreeMap;
 use std::fmt::Write;
@@ -109,6 +109,45 @@ pub fn step(
     };
     let did = session.step(files, alloc, &Generations::new(alloc));
     push_step(out, &did)
+}
+
+/// What is learnt from nothing of the push in a slot: its number, and the names whose generations are told then, where they have one.
+pub fn learn(
+    out: &mut String,
+    alloc: Global,
+    files: &mut MemoryFiles,
+    pushes: &OpenPushes,
+    text: &str,
+) -> Result<(), AllocError> {
+    let (slot, names) = text.split_once(' ').unwrap_or((text, ""));
+    let slot = slot.parse::<u8>().unwrap_or(0);
+    let Some(session) = pushes.by_slot.get(&slot) else {
+        return out.push_str("no push");
+    };
+    let mut known = Generations::new(alloc);
+    if let Err(fault) = session.learn(files, alloc, &mut known) {
+        return write!(out, "{fault}");
+    }
+    push_generations(out, alloc, &known, names)
+}
+
+// The generations of these names, where they are known.
+fn push_generations(
+    out: &mut String,
+    alloc: Global,
+    known: &Generations,
+    names: &str,
+) -> Result<(), AllocError> {
+    for (place, id) in ids_of(alloc, names)?.iter().enumerate() {
+        if place > 0 {
+            out.push_str(" ")?;
+        }
+        match known.get(id) {
+            Some(number) => write!(out, "{number}")?,
+            None => out.push_str("-")?,
+        }
+    }
+    Ok(())
 }
 
 // Its next steps, until one is its last. No push has more commands than 256.
