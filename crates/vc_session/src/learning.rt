@@ -1,4 +1,4 @@
-//! What is learnt where a push was refused: the generations of the commits from which it did not descend.
+//! What is learnt of a command that was refused as no fast-forward: the generations of its old id's history.
 ghost use Rattle.std.specs.Prelude.{◌≡◌, length, IsErrOf};
 ghost use Rattle.vc_base.specs.Stored.{AgreesIn};
 ghost use Rattle.vc_files.specs.Failures.{Wears};

@@ -212,9 +212,9 @@ impl PushSession {
         Ok(Stepped::Finished(report))
     }
 
-    /// Learns the generations of the commits from which its commands were refused to move branches, since the new ones did not
-    /// descend from them. That took a walk over their whole history, which the next check of such a push is spared. It is
-    /// learnt once the check is through. What can't be learnt is passed over: an absent, a damaged or another object is no
+    /// Learns the generations of the old ids of its commands that were refused since the new ones do not descend from them, and of
+    /// what lies below, once the check is through. To tell so the check read the whole history of each new id; a later check
+    /// stops at what is numbered of it. What can't be learnt is passed over: an absent, a damaged or another object is no
     /// refusal here.
     pub fn learn<F: Files>(
         &self,

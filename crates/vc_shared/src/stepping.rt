@@ -64,7 +64,7 @@ fn take_step<F: Files>(
     Ok(told(alloc, did)?)
 }
 
-// The same. Before it the generations are learnt that would have spared the check a walk, so that the next is.
+// The same. Before it the generations are learnt at which a later check can stop.
 fn step_push<F: Files>(
     alloc: Global,
     files: &mut F,
