@@ -7,6 +7,7 @@
 mod answers;
 mod lines;
 mod messages;
+mod pieces;
 mod pushes;
 mod reading;
 mod sessions;
@@ -37,6 +38,9 @@ fn answer(
         "changed" => reading::changed(out, alloc, text),
         "take" => taking::take(out, alloc, text),
         "broken" => taking::broken(out, alloc, text),
+        "pieces" => pieces::pieces(out, alloc, text),
+        "skip" => pieces::skip(out, alloc, text),
+        "fronts" => pieces::fronts(out, alloc, text),
         "write" => writing::write(out, alloc, text),
         "empty" => answers::empty(out, alloc, files),
         "put" => answers::put(out, alloc, files, text),
@@ -45,6 +49,7 @@ fn answer(
         "judge" => answers::judge(out, alloc, files, text),
         "beyond" => answers::beyond(out, alloc, files, text),
         "open" => sessions::open_push(out, alloc, files, pushes, text),
+        "arrive" => sessions::arrive(out, alloc, files, pushes, text),
         "step" => sessions::step(out, alloc, files, pushes, text),
         "learn" => sessions::learn(out, alloc, files, pushes, text),
         "run" => sessions::run(out, alloc, files, text),

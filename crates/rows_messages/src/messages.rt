@@ -77,21 +77,26 @@ impl Telling for AnyReader {
     }
 }
 
-// An id that may be absent.
-fn push_found(out: &mut String, id: Option<ObjectId>) -> Result<(), AllocError> {
+/// Tells an id that may be absent.
+pub fn push_found(out: &mut String, id: Option<ObjectId>) -> Result<(), AllocError> {
     match id {
         Some(id) => push_id(out, id),
         None => out.push('-'),
     }
 }
 
+/// Tells `kind:body` of an object.
+pub fn push_object(out: &mut String, object: &StreamObject) -> Result<(), AllocError> {
+    push_bytes(out, object.kind.word(), "")?;
+    out.push(':')?;
+    push_bytes(out, &object.body, "\\x20")
+}
+
 /// Tells a space and `kind:body` for each object.
 pub fn push_objects(out: &mut String, objects: &CarriedObjects) -> Result<(), AllocError> {
     for object in objects.by_name.values() {
         out.push(' ')?;
-        push_bytes(out, object.kind.word(), "")?;
-        out.push(':')?;
-        push_bytes(out, &object.body, "\\x20")?;
+        push_object(out, object)?;
     }
     Ok(())
 }

@@ -19,14 +19,19 @@ use vc_object::ObjectId;
 use vc_pkt::{CarriedObjects, StreamObject};
 use vc_push::{Command, Push, PushReader, Reason, Report, ReportReader, Told};
 
+/// Tells a command.
+pub fn push_command(out: &mut String, command: &Command) -> Result<(), AllocError> {
+    push_id(out, command.old)?;
+    out.push_str("..")?;
+    push_id(out, command.new)?;
+    out.push('=')?;
+    push_bytes(out, &command.name, "\\x20")
+}
+
 impl Telling for PushReader {
     fn tell(out: &mut String, push: &Push) -> Result<(), AllocError> {
         for command in &push.commands {
-            push_id(out, command.old)?;
-            out.push_str("..")?;
-            push_id(out, command.new)?;
-            out.push('=')?;
-            push_bytes(out, &command.name, "\\x20")?;
+            push_command(out, command)?;
             out.push(' ')?;
         }
         out.push('|')?;

@@ -1,16 +1,20 @@
 //! Rows about pushes, many at once, from the moment that they are taken to their reports.
 
+ghost use Rattle.std.specs.Prelude.{◌≤◌};
+
 use crate::messages::Telling;
 use crate::pushes;
-use crate::spelling::{ids_of, push_bytes, push_id};
+use crate::spelling::{ids_of, push_bytes, push_id, push_ids, spelled};
 use std::alloc::{AllocError, Global};
 use std::collections::BTreeMap;
 use std::fmt::Write;
+use std::io::Read;
 use vc_base::Generations;
 use vc_files::{Fault, Files, MemoryFiles};
-use vc_push::{Push, ReportReader};
+use vc_message::{Head, Taken, next_object, read_head};
+use vc_push::{Command, Push, ReportReader};
 use vc_refs::Refs;
-use vc_session::{PushSession, SessionFault, Stepped};
+use vc_session::{Arriving, PushSession, SessionFault, Stepped};
 
 /// The pushes that are open, by their slots.
 #[derive(Drop)]
@@ -95,6 +99,94 @@ pub fn open_push(
     Ok(())
 }
 
+// The objects that come, each put where it belongs, and how many files stand in quarantine behind each. Whether all came, or why
+// not.
+fn take_objects<R: Read>(
+    out: &mut String,
+    alloc: Global,
+    files: &mut MemoryFiles,
+    reader: &mut R,
+    taken: Taken,
+    arriving: &mut Arriving,
+) -> Result<bool, AllocError>
+    requires few { taken.lines ≤ taken.bytes }
+{
+    let mut taken = taken;
+    'objects: for _ in 0..1000u32 {
+        let object = match next_object(alloc, reader, &mut taken) {
+            Ok(Some((_, object))) => object,
+            Ok(None) => return Ok(true),
+            Err(fault) => {
+                write!(out, "{fault}")?;
+                return Ok(false);
+            }
+        };
+        if let Err(fault) = arriving.take(files, alloc, &object) {
+            write!(out, "{fault}")?;
+            return Ok(false);
+        }
+        count(out, alloc, files, "quarantine/")?;
+        out.push(' ')?;
+    }
+    Ok(false)
+}
+
+// The push of which this has come, once the rest has. None where it is refused, and then it is told why.
+fn arrived(
+    out: &mut String,
+    alloc: Global,
+    files: &mut MemoryFiles,
+    slot: u8,
+    rest: &[u8],
+    taken: Taken,
+    commands: Vec<Command>,
+) -> Result<Option<PushSession>, AllocError>
+    requires few { taken.lines ≤ taken.bytes }
+{
+    let mut reader = rest;
+    let mut arriving = match Arriving::begin(files, alloc, slot) {
+        Ok(arriving) => arriving,
+        Err(fault) => {
+            write!(out, "{fault}")?;
+            return Ok(None);
+        }
+    };
+    count(out, alloc, files, "quarantine/")?;
+    out.push(' ')?;
+    if !take_objects(out, alloc, files, &mut reader, taken, &mut arriving)? {
+        return Ok(None);
+    }
+    Ok(Some(PushSession::arrived(alloc, arriving, commands)?))
+}
+
+/// Opens a push in a slot as it comes, object by object: its number, and its bytes. Told is how many files stand in quarantine at
+/// first, and behind each object.
+pub fn arrive(
+    out: &mut String,
+    alloc: Global,
+    files: &mut MemoryFiles,
+    pushes: &mut OpenPushes,
+    text: &str,
+) -> Result<(), AllocError> {
+    let (slot, message) = text.split_once(' ').unwrap_or((text, ""));
+    let slot = slot.parse::<u8>().unwrap_or(0);
+    let bytes = spelled(alloc, message)?;
+    let mut reader = bytes.as_slice();
+    let (head, taken) = match read_head(alloc, &mut reader) {
+        Ok(Some((head, taken))) => (head, taken),
+        Ok(None) => return out.push_str("end"),
+        Err(fault) => return write!(out, "{fault}"),
+    };
+    let Head::Push(commands) = head else {
+        return out.push_str("no push with objects");
+    };
+    if let Some(session) = arrived(out, alloc, files, slot, reader, taken, commands)? {
+        pushes.by_slot.insert(slot, session)?;
+        out.push_str("ok")?;
+    }
+    Ok(())
+}
+
 /// One step of the push in this slot.
 pub fn step(
     out: &mut String,
@@ -111,7 +203,8 @@ pub fn step(
     push_step(out, &did)
 }
 
-/// What is learnt from nothing of the push in a slot: its number, and the names whose generations are told then, where they have one.
+/// What the push in a slot learns from nothing: its number, the ids that are due, and those whose generations are told then, where they
+/// have one; and what is due then.
 pub fn learn(
     out: &mut String,
     alloc: Global,
@@ -119,16 +212,20 @@ pub fn learn(
     pushes: &OpenPushes,
     text: &str,
 ) -> Result<(), AllocError> {
-    let (slot, names) = text.split_once(' ').unwrap_or((text, ""));
+    let (slot, text) = text.split_once(' ').unwrap_or((text, "-"));
+    let (due, names) = text.split_once(' ').unwrap_or((text, "-"));
     let slot = slot.parse::<u8>().unwrap_or(0);
     let Some(session) = pushes.by_slot.get(&slot) else {
         return out.push_str("no push");
     };
+    let mut due = ids_of(alloc, due)?;
     let mut known = Generations::new(alloc);
-    if let Err(fault) = session.learn(files, alloc, &mut known) {
+    if let Err(fault) = session.learn(files, alloc, &mut due, &mut known) {
         return write!(out, "{fault}");
     }
-    push_generations(out, alloc, &known, names)
+    push_generations(out, alloc, &known, names)?;
+    out.push_str(", due ")?;
+    push_ids(out, &due)
 }
 
 // The generations of these names, where they are known.

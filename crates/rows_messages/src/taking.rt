@@ -7,11 +7,11 @@ use std::fmt::Write;
 use std::io::{self, ErrorKind, Read};
 use vc_message::{AnyReader, IncomingFault, Message, read_message};
 
-// A reader that gives one byte at a time, after a read that is interrupted.
+/// A reader that gives one byte at a time, after a read that is interrupted.
 #[derive(Drop)]
-struct Dripping<'a> {
-    rest: &'a [u8],
-    is_ready: bool,
+pub struct Dripping<'a> {
+    pub rest: &'a [u8],
+    pub is_ready: bool,
 }
 
 impl<'a> Read for Dripping<'a> {
@@ -25,9 +25,9 @@ impl<'a> Read for Dripping<'a> {
     }
 }
 
-// A reader that fails.
+/// A reader that fails.
 #[derive(Drop)]
-struct Failing;
+pub struct Failing;
 
 impl Read for Failing {
     fn read(&mut self, _: &mut [u8]) -> io::Result<usize> {

@@ -1,10 +1,10 @@
 //! The shared node and two clones, and what they sent.
 
 use crate::clones::{self, CloneSite};
-use crate::exchanges;
 use crate::shared::{self, SharedSite};
 use crate::site::Site;
 use crate::words::taken;
+use crate::{arriving, exchanges};
 use bstr::ByteVec;
 use std::alloc::{AllocError, Global};
 
@@ -60,6 +60,8 @@ impl Ground {
                 let bytes = taken(self.alloc, &self.sent, text)?;
                 shared::accept(out, &mut self.shared, &mut self.sent, &bytes)
             }
+            "from" => arriving::from(out, self.alloc, &mut self.shared, &mut self.sent, text),
+            "recorded" => arriving::recorded(out, self.alloc, text),
             "serve" => {
                 let bytes = Vec::unescape_bytes(self.alloc, text)?;
                 shared::serve(out, self.alloc, &mut self.shared, &bytes)

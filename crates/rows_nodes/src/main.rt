@@ -4,10 +4,12 @@
 //! A row that is misspelled ends nothing: it gets an answer that nobody expects.
 #![tactic(auto)]
 
+mod arriving;
 mod clones;
 mod exchanges;
 mod ground;
 mod reading;
+mod recording;
 mod shared;
 mod site;
 mod trials;

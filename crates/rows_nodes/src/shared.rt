@@ -12,8 +12,8 @@ use vc_shared::{Accepted, Shared, SharedFault, Stepped};
 /// The shared node of the rows.
 pub type SharedSite = Site<Shared<Device>>;
 
-// Tells what came of a message, and keeps what is sent.
-fn push_accepted(
+/// Tells what came of a message, and keeps what is sent.
+pub fn push_accepted(
     out: &mut String,
     sent: &mut Vec<Vec<u8>>,
     accepted: Result<Accepted, SharedFault>,

@@ -9,4 +9,5 @@ pub mod Readings
 pub mod IncomingLines
 pub mod IncomingReads
 pub mod IncomingLaws
+pub mod StreamingLaws
 pub mod IncomingFronts

@@ -4,4 +4,5 @@ pub mod Machine
 pub mod Laws
 pub mod IncomingFault
 pub mod Incoming
+pub mod Streaming
 pub mod Read

@@ -127,7 +127,7 @@ fn behind(bytes: &Vec<u8>, start: usize) -> &[u8]
 
 /// Adds the reader's next line, and no byte behind it. Where no line begins with the next four bytes it adds these, and where the
 /// reader comes to its end before the line does, what there is of it.
-fn push_line<R: Read>(reader: &mut R, bytes: &mut Vec<u8>) -> Result<(), IncomingFault>
+pub(crate) fn push_line<R: Read>(reader: &mut R, bytes: &mut Vec<u8>) -> Result<(), IncomingFault>
     ensures ok { OnOk result ((read : List ℕ) × (bytes.new.items ≡ bytes.old.items ++ read) × TakesWithinLine (R.remaining reader.old) (R.remaining reader.new) read × IsLineOf (R.remaining reader.new) read) }
     ensures err { OnErr result ((read : List ℕ) × TakesWithinLine (R.remaining reader.old) (R.remaining reader.new) read) }
     ensures fault { IfErr result IsLoss }
@@ -143,7 +143,7 @@ fn push_line<R: Read>(reader: &mut R, bytes: &mut Vec<u8>) -> Result<(), Incomin
 }
 
 /// The line that the bytes at this place are, or why they are none.
-fn line_at(bytes: &[u8], place: u64) -> Result<Line<'_>, PktFault>
+pub(crate) fn line_at(bytes: &[u8], place: u64) -> Result<Line<'_>, PktFault>
     ensures { MatchResult result (λ line. (spelled : List ℕ) × (more : List ℕ) × IsLine (line_text line) spelled × (bytes.now ≡ spelled ++ more)) (FaultAt place bytes.now) }
 {
     match parse_line(bytes) {

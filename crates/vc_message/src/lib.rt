@@ -9,6 +9,8 @@ mod incoming_fault;
 mod laws;
 mod message;
 mod reader;
+mod skipping;
+mod streaming;
 
 pub use incoming::read_message;
 pub use incoming_fault::IncomingFault;
@@ -18,3 +20,5 @@ pub use laws::{
 };
 pub use message::Message;
 pub use reader::AnyReader;
+pub use skipping::{skip_message, skip_pack, skip_push};
+pub use streaming::{Head, Taken, next_object, read_head};

@@ -1,3 +1,4 @@
+pub mod BringingLemmas
 pub mod JudgeLemmas
 pub mod NameLemmas
 pub mod NumberLemmas
@@ -13,3 +14,4 @@ pub mod CleanLemmas
 pub mod CarryingLemmas
 pub mod CheckingLemmas
 pub mod KnownLemmas
+pub mod LearningLemmas

@@ -4,8 +4,10 @@ pub mod Clean
 pub mod PushState
 pub mod Updating
 pub mod Migrating
+pub mod Bringing
 pub mod Carrying
 pub mod Known
 pub mod Session
 pub mod Steps
 pub mod SessionFault
+pub mod Learning

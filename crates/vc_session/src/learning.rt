@@ -1,10 +1,12 @@
-//! What is learnt of a command that was refused as no fast-forward: the generations of its old id's history.
-ghost use Rattle.std.specs.Prelude.{◌≡◌, length, IsErrOf};
+//! What is learnt of the generations of commits, at which a later check of a branch with their history can stop.
+ghost use Rattle.std.specs.Prelude.{◌≡◌, ◌++◌, ◌∷◌, [], length, IsErrOf, OnOk};
 ghost use Rattle.vc_base.specs.Stored.{AgreesIn};
 ghost use Rattle.vc_files.specs.Failures.{Wears};
+ghost use Rattle.vc_push.specs.PushView.{command_of, commands_of};
+ghost use Rattle.vc_session.specs.Learning.{IsLearnt, tip_of, tips_of};
 
 use crate::stage::Verdict;
-use std::alloc::Global;
+use std::alloc::{AllocError, Global};
 use vc_base::{BaseFault, Generations};
 use vc_files::{Fault, Files};
 use vc_object::ObjectId;
@@ -12,19 +14,20 @@ use vc_push::{Command, Reason};
 use vc_store::{Store, StoreFault};
 
 // Learns the generations below a commit. Where one of them is absent, damaged or no commit, nothing is learnt, and that is no
-// refusal: what it is to the push, the check has told.
+// refusal: what it is to a push, its check tells.
 fn learn_history<F: Files>(
     files: &mut F,
     alloc: Global,
-    id: &ObjectId,
+    tip: &ObjectId,
     generations: &mut Generations,
 ) -> Result<(), Fault>
     ensures agrees { F.honest → AgreesIn (F.content files.old) generations.old → AgreesIn (F.content files.old) generations.new }
+    ensures learnt { F.honest → AgreesIn (F.content files.old) generations.old → OnOk result (IsLearnt (F.content files.old) (tip.now ∷ []) generations.old generations.new) }
     ensures same { F.content files.new ≡ F.content files.old }
     ensures wear { Wears F.failed F.can_fail F.left files.old files.new (IsErrOf result Fault.Device) }
 {
     let mut store = Store::new(alloc, files);
-    let Err(told) = generations.learn(alloc, &mut store, id) else {
+    let Err(told) = generations.learn(alloc, &mut store, tip) else {
         return Ok(());
     };
     match told {
@@ -39,39 +42,47 @@ fn learn_history<F: Files>(
     }
 }
 
-// The same of the old id of a command whose new one did not descend from it.
-fn learn_old<F: Files>(
+/// The same of some commits.
+pub(crate) fn learn_all<F: Files>(
     files: &mut F,
     alloc: Global,
-    command: &Command,
-    verdict: Verdict,
+    tips: &[ObjectId],
     generations: &mut Generations,
 ) -> Result<(), Fault>
     ensures agrees { F.honest → AgreesIn (F.content files.old) generations.old → AgreesIn (F.content files.old) generations.new }
+    ensures learnt { F.honest → AgreesIn (F.content files.old) generations.old → OnOk result (IsLearnt (F.content files.old) tips.now generations.old generations.new) }
     ensures same { F.content files.new ≡ F.content files.old }
     ensures wear { Wears F.failed F.can_fail F.left files.old files.new (IsErrOf result Fault.Device) }
 {
-    if !matches!(verdict, Verdict::Refused(Reason::NonFastForward)) {
-        return Ok(());
+    for i in 0..tips.len() {
+        learn_history(files, alloc, &tips[i], generations)?;
     }
-    learn_history(files, alloc, &command.old, generations)
+    Ok(())
+}
+
+// Adds the value that a command leaves its ref with, where a later check may have to walk its history.
+fn add_tip(command: &Command, verdict: Verdict, tips: &mut Vec<ObjectId>) -> Result<(), AllocError>
+    ensures { OnOk result (tips.new.items ≡ tips.old.items ++ tip_of (command_of command.now) verdict) }
+{
+    match verdict {
+        Verdict::Accepted => tips.push(command.new)?,
+        Verdict::Refused(Reason::NonFastForward) => tips.push(command.old)?,
+        _ => {}
+    }
+    Ok(())
 }
 
 /// The same of all commands of a push, by the verdicts on them.
-pub(crate) fn learn_refused<F: Files>(
-    files: &mut F,
-    alloc: Global,
+pub(crate) fn add_tips(
     commands: &[Command],
     verdicts: &[Verdict],
-    generations: &mut Generations,
-) -> Result<(), Fault>
+    tips: &mut Vec<ObjectId>,
+) -> Result<(), AllocError>
     requires paired { length verdicts.now ≡ length commands.now }
-    ensures agrees { F.honest → AgreesIn (F.content files.old) generations.old → AgreesIn (F.content files.old) generations.new }
-    ensures same { F.content files.new ≡ F.content files.old }
-    ensures wear { Wears F.failed F.can_fail F.left files.old files.new (IsErrOf result Fault.Device) }
+    ensures { OnOk result (tips.new.items ≡ tips.old.items ++ tips_of (commands_of commands.now) verdicts.now) }
 {
     for i in 0..commands.len() {
-        learn_old(files, alloc, &commands[i], verdicts[i], generations)?;
+        add_tip(&commands[i], verdicts[i], tips)?;
     }
     Ok(())
 }

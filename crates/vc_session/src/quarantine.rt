@@ -1,11 +1,11 @@
 //! The quarantine: where what an open push carries stands until it is stored.
-ghost use Rattle.std.specs.Prelude.{◌≡◌, ◌⊎◌, IfOk, IfErr, OnOk, OnErr, IsErrAnd, IsErrOf, option_map, string_bytes, if◌then◌else◌, Some};
+ghost use Rattle.std.specs.Prelude.{◌≡◌, ◌⊎◌, IfOk, IfErr, OnOk, OnErr, IsErrAnd, IsErrOf, option_map, string_bytes, if◌then◌else◌, Some, true};
 ghost use Rattle.std.specs.FinMap.{insert};
 ghost use Rattle.vc_files.specs.FileMap.{SameOutside};
 ghost use Rattle.vc_files.specs.Failures.{Wears, Writes};
 ghost use Rattle.vc_object.specs.Decoding.{stored_object};
 ghost use Rattle.vc_object.specs.Object.{object_bytes, object_name};
-ghost use Rattle.vc_object.specs.ObjectId.{id_eq};
+ghost use Rattle.vc_object.specs.ObjectId.{id_eq, is_id};
 ghost use Rattle.vc_object.specs.declared.id.ObjectId.{ObjectId as Id};
 ghost use Rattle.vc_store.specs.StoreFault.{IsFault, IsRefused};
 ghost use Rattle.vc_session.specs.Clean.{MakesNoneBad};
@@ -78,6 +78,28 @@ pub(crate) fn put_at<F: Files>(
     Ok(())
 }
 
+/// Puts an object whose name is known into a slot's quarantine. One write of one file does it. No file becomes bad.
+pub(crate) fn put_named<F: Files>(
+    files: &mut F,
+    alloc: Global,
+    slot: u8,
+    id: &ObjectId,
+    object: &Object<'_>,
+) -> Result<(), Fault>
+    requires named { id.now ≡ object_name object.now.kind object.now.body.now }
+    requires valid { is_id id.now ≡ true }
+    ensures ok { F.honest → OnOk result (F.content files.new ≡ insert (F.content files.old) (quarantine_path slot id.now.0) (object_bytes object.now.kind object.now.body.now)) }
+    ensures objects { F.honest → OnOk result ((q : Id) → quarantined (F.content files.new) slot q ≡ (if id_eq q id.now then Some (stored_object object.now.kind object.now.body.now) else quarantined (F.content files.old) slot q)) }
+    ensures outside { F.honest → SameOutside (quarantine_folder slot) (F.content files.old) (F.content files.new) }
+    ensures err { F.honest → OnErr result (F.content files.new ≡ F.content files.old) }
+    ensures bad { F.honest → MakesNoneBad (F.content files.old) (F.content files.new) }
+    ensures wear { Writes F.honest F.content F.failed F.can_fail F.left files.old files.new (IsErrOf result Fault.Device) }
+{
+    let bytes = encode(alloc, object)?;
+    put_at(files, alloc, slot, id, &bytes)?;
+    Ok(())
+}
+
 /// Puts an object into a slot's quarantine, and answers its name. One write of one file does it. No file becomes bad.
 pub fn put_in_quarantine<F: Files>(
     files: &mut F,
@@ -94,8 +116,7 @@ pub fn put_in_quarantine<F: Files>(
     ensures wear { Writes F.honest F.content F.failed F.can_fail F.left files.old files.new (IsErrOf result Fault.Device) }
 {
     let id = name_of(object.kind, object.body);
-    let bytes = encode(alloc, object)?;
-    put_at(files, alloc, slot, &id, &bytes)?;
+    put_named(files, alloc, slot, &id, object)?;
     Ok(id)
 }
 

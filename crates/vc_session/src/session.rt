@@ -1,28 +1,31 @@
 //! One open push.
-ghost use Rattle.std.specs.Prelude.{◌≡◌, ◌⊎◌, ◌<◌, Option, length, slice_set, IfOk, IfErr, OnErr, IsErrOf};
+ghost use Rattle.std.specs.Prelude.{◌≡◌, ◌⊎◌, ◌<◌, Option, length, slice_set, IfOk, IfErr, OnErr, OnOk, IsErrOf};
 ghost use Rattle.vc_base.specs.Stored.{AgreesIn, KeepsAgreement};
-ghost use Rattle.vc_files.specs.FileMap.{SameOutside};
+ghost use Rattle.vc_files.specs.FileMap.{FileMap, SameOutside};
 ghost use Rattle.vc_files.specs.Failures.{Wears, Writes};
 ghost use Rattle.vc_object.specs.declared.fault.ObjectFault.{ObjectFault as Refusal};
-ghost use Rattle.vc_push.specs.Push.{FaultOf};
-ghost use Rattle.vc_push.specs.PushView.{push_text};
+ghost use Rattle.vc_push.specs.Push.{Carried, FaultOf};
+ghost use Rattle.vc_push.specs.PushView.{commands_of, push_text};
+ghost use Rattle.vc_session.specs.Bringing.{IsBrought};
 ghost use Rattle.vc_session.specs.Carrying.{Carries, HoldsNames, objects_of_push};
 ghost use Rattle.vc_session.specs.Clean.{IsQuarantineClean, MakesNoneBad};
+ghost use Rattle.vc_session.specs.Learning.{LearnsAt};
 ghost use Rattle.vc_session.specs.Quarantine.{quarantine_folder};
 ghost use Rattle.vc_session.specs.Session.{IsSession, stage_while};
 ghost use Rattle.vc_session.specs.SessionFault.{IsRefusedStep};
 ghost use Rattle.vc_session.specs.Steps.{EndsEarly, IsOpened, MayWrite, Steps, TellsReport};
 
+use crate::bringing::Arriving;
 use crate::checking::{check_in_files, count_passing, next_passing};
 use crate::fault::SessionFault;
-use crate::learning::learn_refused;
+use crate::learning::{add_tips, learn_all};
 use crate::migrating::migrate;
 use crate::opening::{fresh, put_all};
 use crate::quarantine::drop_quarantine;
 use crate::reporting::report;
 use crate::stage::{Stage, Stepped, Verdict};
 use crate::updating::update;
-use std::alloc::Global;
+use std::alloc::{AllocError, Global};
 use std::marker::Model;
 use vc_base::Generations;
 use vc_files::{Fault, Files};
@@ -103,6 +106,30 @@ impl PushSession {
             commands,
             carried: _,
         } = push;
+        Ok(PushSession {
+            slot,
+            fault,
+            commands,
+            verdicts,
+            names,
+            stage: Stage::Unpacked,
+        })
+    }
+
+    /// Opens a push of which all has come: what it carries stands in the quarantine of its slot.
+    pub fn arrived(
+        alloc: Global,
+        arriving: Arriving,
+        commands: Vec<Command>,
+    ) -> Result<PushSession, AllocError>
+        ensures opened { IfOk result (IsOpened arriving.slot arriving.fault (commands_of commands.items)) }
+        ensures fault { (content : FileMap) (carried : Carried) → IsBrought content arriving.slot arriving.names.keys arriving.fault carried → FaultOf carried arriving.fault }
+        ensures carried { IfOk result (λ s. (content : FileMap) (carried : Carried) → IsBrought content arriving.slot arriving.names.keys arriving.fault carried → Carries content arriving.slot s.names (objects_of_push carried)) }
+        ensures session { IfOk result IsSession }
+    {
+        let Arriving { slot, names, fault } = arriving;
+        let names = names.as_slice().to_vec(alloc)?;
+        let verdicts = fresh(alloc, &commands, fault)?;
         Ok(PushSession {
             slot,
             fault,
@@ -212,29 +239,34 @@ impl PushSession {
         Ok(Stepped::Finished(report))
     }
 
-    /// Learns the generations of the old ids of its commands that were refused since the new ones do not descend from them, and of
-    /// what lies below, once the check is through. To tell so the check read the whole history of each new id; a later check
-    /// stops at what is numbered of it. What can't be learnt is passed over: an absent, a damaged or another object is no
-    /// refusal here.
+    /// Learns what its stage is for. Before the check these are the generations of the commits that are due, and of all below them, so
+    /// that the check stops at them; none is due then. Once all commands are judged the values are due that their refs are left with:
+    /// the new id of each that was set, and the old id of each that was refused since its new one does not descend from it. A node that
+    /// ends with its message so learns nothing, which would cost it a whole history. Of a history that isn't whole nothing is learnt,
+    /// and that is no refusal here. After an error some may be due twice.
     pub fn learn<F: Files>(
         &self,
         files: &mut F,
         alloc: Global,
+        due: &mut Vec<ObjectId>,
         generations: &mut Generations,
     ) -> Result<(), Fault>
         ensures agrees { F.honest → AgreesIn (F.content files.old) generations.old → AgreesIn (F.content files.old) generations.new }
+        ensures learnt { F.honest → AgreesIn (F.content files.old) generations.old → OnOk result (LearnsAt (F.content files.old) self.now due.old.items due.new.items generations.old generations.new self.now.stage) }
         ensures same { F.content files.new ≡ F.content files.old }
         ensures wear { Wears F.failed F.can_fail F.left files.old files.new (IsErrOf result Fault.Device) }
     {
         match self.stage {
-            Stage::Checked | Stage::Done => learn_refused(
-                files,
-                alloc,
-                &self.commands,
-                &self.verdicts,
-                generations,
-            ),
-            Stage::Unpacked | Stage::Migrated => Ok(()),
+            Stage::Unpacked => {
+                learn_all(files, alloc, due, generations)?;
+                due.clear();
+                Ok(())
+            }
+            Stage::Checked | Stage::Migrated => Ok(()),
+            Stage::Done => {
+                add_tips(&self.commands, &self.verdicts, due)?;
+                Ok(())
+            }
         }
     }
 

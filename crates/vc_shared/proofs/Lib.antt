@@ -18,3 +18,6 @@ pub mod SlotLemmas
 pub mod SteppedLemmas
 pub mod SteppingLaws
 pub mod TellingLemmas
+pub mod ArrivingLemmas
+pub mod ComingLemmas
+pub mod NextLemmas

@@ -45,7 +45,7 @@ use Rattle.vc_shared.specs.declared.fault.SharedFault.TheVariants.{Busy}
 
 -- ---- slots
 -- one slot at most is the lowest that is free
-one_lowest : (slots : List (Option SessionText)) (j k : ℕ) → IsLowest slots j → IsLowest slots k → j ≡ k
+pub one_lowest : (slots : List (Option SessionText)) (j k : ℕ) → IsLowest slots j → IsLowest slots k → j ≡ k
 one_lowest slots j k a b = by (less_or j k) (less_or k j)
   where
     by : (j < k) ⊎ (k ≤ j) → (k < j) ⊎ (j ≤ k) → j ≡ k
@@ -59,7 +59,7 @@ changes_free old new slots k l same = record {
   outside = λ j other. subst (λ (i : ℕ). SameOutside (quarantine_folder i) old new) (one_lowest slots k j l other) same;
 }
 
-free_there : (content : FileMap) (k : ℕ) (q : Option OpenPush) → HoldsSlot content k None q → q ≡ None
+pub free_there : (content : FileMap) (k : ℕ) (q : Option OpenPush) → HoldsSlot content k None q → q ≡ None
 free_there content k None h = refl
 free_there content k (Some p) never = absurd never
 
@@ -87,7 +87,7 @@ module _ (k : ℕ) (small : k < 8) (old new : FileMap) (same : SameOutside (quar
   dropped_beside j fits apart dropped path h =
       same.at path (ap (λ p. starts_with nat_eq p (quarantine_folder k)) (split_from_starts path (quarantine_folder j) h) ∙ other_slot k j _ (omega (arith, small)) (omega (arith, fits)) apart) ∙ dropped path h
 
-  slot_beside : (j : ℕ) → j < 8 → j ≢ k → (v : Option SessionText) (q : Option OpenPush) → HoldsSlot old j v q → HoldsSlot new j v q
+  pub slot_beside : (j : ℕ) → j < 8 → j ≢ k → (v : Option SessionText) (q : Option OpenPush) → HoldsSlot old j v q → HoldsSlot new j v q
   slot_beside j fits apart None None dropped = dropped_beside j fits apart dropped
   slot_beside j fits apart (Some u) (Some q) (at, push, clean) = (
     at,

@@ -9,3 +9,5 @@ pub mod Resolving
 pub mod Serving
 pub mod Slots
 pub mod Stepping
+pub mod AcceptFault
+pub mod Arriving

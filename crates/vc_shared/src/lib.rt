@@ -4,7 +4,9 @@
 //! the open pushes hold a node of the machine, and a call is a step of it.
 #![tactic(auto)]
 
+mod accept_fault;
 mod accepting;
+mod arriving;
 mod fault;
 mod laws;
 mod opening;
@@ -14,6 +16,7 @@ mod serving;
 mod shared;
 mod stepping;
 
+pub use accept_fault::AcceptFault;
 pub use accepting::Accepted;
 pub use fault::SharedFault;
 pub use laws::{a_held_shared_node_can_be_opened, a_step_in_a_slot_is_the_machines};

@@ -14,8 +14,8 @@ use vc_files::Files;
 use vc_push::Push;
 use vc_session::{PushSession, SessionFault};
 
-// The lowest slot in which no push is open.
-fn lowest_free(slots: &[Option<PushSession>; 8]) -> Option<u8>
+/// The lowest slot in which no push is open.
+pub(crate) fn lowest_free(slots: &[Option<PushSession>; 8]) -> Option<u8>
     ensures { FindsFree slots.now result }
 {
     for slot in 0u8..8 {

@@ -1,5 +1,5 @@
 // The shared node.
-ghost use Rattle.std.specs.Prelude.{◌≡◌, ◌⊎◌, ℕ, IfErr, IfOk, OnErr, OnOk, Ok, None, Some, List, is_ok, not, false, true};
+ghost use Rattle.std.specs.Prelude.{◌≡◌, ◌⊎◌, ℕ, IfErr, IfNone, IfOk, OnErr, OnOk, Ok, None, Some, List, is_ok, not, false, true};
 ghost use Rattle.std.specs.FinMap.{empty};
 ghost use Rattle.vc_files.specs.Failures.{Wears, Writes};
 ghost use Rattle.vc_message.specs.AnyView.{message_text};
@@ -20,7 +20,9 @@ ghost use Rattle.vc_refs.specs.Refs.{refs};
 ghost use Rattle.vc_repository.specs.Resolving.{DenotesIn};
 ghost use Rattle.vc_rev.specs.Grammar.{IsExpr};
 ghost use Rattle.vc_rev.specs.Views.{expr_view};
+ghost use Rattle.vc_shared.specs.AcceptFault.{TellsDevice as TellsAcceptDevice, is_fault as is_accept_fault, up_after as accept_up_after};
 ghost use Rattle.vc_shared.specs.Accepting.{IsRefusedBytes, IsRefusedMessage, IsToWrite};
+ghost use Rattle.vc_shared.specs.Arriving.{AcceptsFrom, AnswersKnown, KeepsHeld};
 ghost use Rattle.vc_shared.specs.Calls.{AcceptedAs, AnswersShared, RestartedAs, SteppedAs};
 ghost use Rattle.vc_shared.specs.Faults.{TellsDevice, fault_answer, is_fault, up_after};
 ghost use Rattle.vc_shared.specs.Holding.{HoldsShared};
@@ -28,13 +30,15 @@ ghost use Rattle.vc_shared.specs.Resolving.{FoundAs, IsRefusedValue};
 ghost use Rattle.vc_shared.specs.Slots.{AreTellable, slot_of};
 ghost use Rattle.vc_shared.specs.Stepping.{IsHeldThere, IsRefusedIn, MayWriteIn, StepsSlot};
 
+use crate::arriving::refuse_down;
 use crate::opening::open_files;
-use crate::{Accepted, SharedFault, Stepped, accepting, stepping};
+use crate::{AcceptFault, Accepted, SharedFault, Stepped, accepting, arriving, stepping};
 use std::alloc::Global;
+use std::io::Read;
 use std::marker::Model;
 use vc_base::Generations;
 use vc_files::{Files, FusedFiles};
-use vc_message::Message;
+use vc_message::{Message, skip_message};
 use vc_node::NodeFault;
 use vc_object::ObjectId;
 use vc_rev::Expr;
@@ -51,6 +55,8 @@ pub struct Shared<F: Files> {
     is_up: bool,
     // What is known of the generations of commits. No call takes an object away, so it stands until the files are opened again.
     generations: Generations,
+    // The commits whose histories are learnt before the next check.
+    due: Vec<ObjectId>,
 }
 
 impl<F: Files> Model for Shared<F> {
@@ -85,6 +91,7 @@ impl<F: Files> Shared<F> {
                 slots: [None, None, None, None, None, None, None, None],
                 is_up: true,
                 generations: Generations::new(alloc),
+                due: Vec::new(alloc),
             }),
             Err(fault) => Err((files, fault)),
         }
@@ -100,6 +107,7 @@ impl<F: Files> Shared<F> {
             slots: _,
             is_up: _,
             generations: _,
+            due: _,
         } = self;
         files
     }
@@ -124,6 +132,7 @@ impl<F: Files> Shared<F> {
         self.slots = [None, None, None, None, None, None, None, None];
         self.is_up = opened.is_ok();
         self.generations = Generations::new(self.alloc);
+        self.due = Vec::new(self.alloc);
         opened
     }
 
@@ -162,6 +171,34 @@ impl<F: Files> Shared<F> {
         }
     }
 
+    // The same of what ended the taking of a message from a reader.
+    fn fail_next(&mut self, fault: AcceptFault) -> AcceptFault
+        ensures fault { result ≡ fault }
+        ensures files { self.new.files ≡ self.old.files }
+        ensures slots { self.new.slots ≡ self.old.slots }
+        ensures up { self.old.is_up ≡ true → self.new.is_up ≡ not (is_accept_fault fault) }
+    {
+        if fault.is_fault() {
+            self.is_up = false;
+        }
+        fault
+    }
+
+    fn settle_next(
+        &mut self,
+        accepted: Result<Option<Accepted>, AcceptFault>,
+    ) -> Result<Option<Accepted>, AcceptFault>
+        ensures accepted { result ≡ accepted }
+        ensures files { self.new.files ≡ self.old.files }
+        ensures slots { self.new.slots ≡ self.old.slots }
+        ensures up { self.old.is_up ≡ true → self.new.is_up ≡ accept_up_after result }
+    {
+        match accepted {
+            Ok(found) => Ok(found),
+            Err(fault) => Err(self.fail_next(fault)),
+        }
+    }
+
     /// The next step of the push in this slot: the check of all its commands, the storing of what it carries, the update of
     /// one ref, or its report, after which the slot is free. 111 where no push is open there.
     pub fn step(&mut self, slot: u8) -> Result<Stepped, SharedFault>
@@ -182,6 +219,7 @@ impl<F: Files> Shared<F> {
             &mut self.files,
             &mut self.slots,
             slot,
+            &mut self.due,
             &mut self.generations,
         ) {
             Ok(told) => Ok(told),
@@ -229,6 +267,34 @@ impl<F: Files> Shared<F> {
         }
         let accepted = accepting::take(self.alloc, &mut self.files, &mut self.slots, message);
         self.settle(accepted)
+    }
+
+    /// Takes the next message of the reader, and no byte behind it; none where the reader is at its end before the first byte. It is
+    /// answered as [`accept`](Shared::accept) answers it, however the reader cuts the bytes. The objects of a push are put into the
+    /// quarantine one by one as they come, and its slot is taken once all of it has come: of the message the commands of a push are
+    /// held, one line, and one object's body. Each line is asked for in two reads, so that a reader to which a read is dear should be
+    /// buffered.
+    ///
+    /// A message that is refused (90, 91, 110, 112) is read to its end. Bytes that are no message are refused with their first fault
+    /// (80 to 84, or 3) as soon as it has come, and a reader that fails with 115. In none of these is anything changed: what was put
+    /// into the quarantine is gone again. Want of memory takes the node down, as a device that fails does.
+    pub fn accept_from<R: Read>(&mut self, reader: &mut R) -> Result<Option<Accepted>, AcceptFault>
+        ensures accepts { AcceptsFrom F.honest (R.remaining reader.old) (R.remaining reader.new) (F.content self.old.files) (F.content self.new.files) self.old.slots self.new.slots self.old.is_up self.new.is_up result }
+        ensures known { AnswersKnown F.honest (R.remaining reader.old) (R.remaining reader.new) (F.content self.old.files) (F.content self.new.files) self.old.slots self.new.slots self.old.is_up self.new.is_up result }
+        ensures none { IfOk result (λ found. IfNone found (self.new ≡ self.old)) }
+        ensures lost { F.honest → IfErr result (λ e. e ≡ AcceptFault.ReadFailed → KeepsHeld (F.content self.old.files) (F.content self.new.files) self.old.slots self.new.slots self.old.is_up self.new.is_up) }
+        ensures err { OnErr result (self.new.slots ≡ self.old.slots) }
+        ensures tellable { AreTellable self.new.slots }
+        ensures down { self.old.is_up ≡ false → self.new ≡ self.old }
+        ensures up { self.old.is_up ≡ true → self.new.is_up ≡ accept_up_after result }
+        ensures clean { F.honest → KeepsClean (F.content self.old.files) (F.content self.new.files) }
+        ensures wear { Writes F.honest F.content F.failed F.can_fail F.left self.old.files self.new.files (TellsAcceptDevice result) }
+    {
+        if !self.is_up {
+            return refuse_down(skip_message(self.alloc, reader));
+        }
+        let accepted = arriving::take_next(self.alloc, &mut self.files, &mut self.slots, reader);
+        self.settle_next(accepted)
     }
 
     /// Puts all refs into one file. Nothing else is written, no ref changes and each open push stays, wherever it stops. 33 where

@@ -11,6 +11,7 @@ use crate::SharedFault;
 use std::alloc::{AllocError, Global};
 use vc_base::Generations;
 use vc_files::Files;
+use vc_object::ObjectId;
 use vc_push::Reason;
 use vc_session::{PushSession, SessionFault, Stepped as SessionStep};
 
@@ -41,34 +42,12 @@ fn told(alloc: Global, did: SessionStep) -> Result<Stepped, AllocError>
     }
 }
 
-// The next step of a push.
-fn take_step<F: Files>(
-    alloc: Global,
-    files: &mut F,
-    push: &mut PushSession,
-    generations: &Generations,
-) -> Result<Stepped, SharedFault>
-    requires tellable { AreToldInOne push.old }
-    requires agrees { F.honest → AgreesIn (F.content files.old) generations.now }
-    ensures tellable { AreToldInOne push.new }
-    ensures agrees { F.honest → AgreesIn (F.content files.new) generations.now }
-    ensures steps { F.honest → IsHeldThere (F.content files.old) (Some push.old) → IfOk result (StepsPush (F.content files.old) (F.content files.new) push.old push.new) }
-    ensures unchanged { IfErr result (λ e. is_fault e ≡ false → push.new ≡ push.old) }
-    ensures early { F.honest → IsHeldThere (F.content files.old) (Some push.old) → OnErr result (EndsSlotEarly (F.content files.old) (F.content files.new) (Some push.old)) }
-    ensures refused { F.honest → IfErr result (IsRefusedIn (F.content files.old) (Some push.old)) }
-    ensures bad { F.honest → MakesNoneBad (F.content files.old) (F.content files.new) }
-    ensures wear { Writes F.honest F.content F.failed F.can_fail F.left files.old files.new (TellsDevice result) }
-    ensures looks { F.honest → IsHeldThere (F.content files.old) (Some push.old) → MayWriteIn (F.content files.old) (Some push.old) ⊎ Wears F.failed F.can_fail F.left files.old files.new (TellsDevice result) }
-{
-    let did = push.step(files, alloc, generations)?;
-    Ok(told(alloc, did)?)
-}
-
-// The same. Before it the generations are learnt at which a later check can stop.
+// The next step of a push. Before it the node learns what is due, or what will be due is noted.
 fn step_push<F: Files>(
     alloc: Global,
     files: &mut F,
     push: &mut PushSession,
+    due: &mut Vec<ObjectId>,
     generations: &mut Generations,
 ) -> Result<Stepped, SharedFault>
     requires tellable { AreToldInOne push.old }
@@ -83,10 +62,11 @@ fn step_push<F: Files>(
     ensures wear { Writes F.honest F.content F.failed F.can_fail F.left files.old files.new (TellsDevice result) }
     ensures looks { F.honest → IsHeldThere (F.content files.old) (Some push.old) → MayWriteIn (F.content files.old) (Some push.old) ⊎ Wears F.failed F.can_fail F.left files.old files.new (TellsDevice result) }
 {
-    if let Err(fault) = push.learn(files, alloc, generations) {
+    if let Err(fault) = push.learn(files, alloc, due, generations) {
         return Err(SharedFault::from(SessionFault::Fault(fault)));
     }
-    take_step(alloc, files, push, generations)
+    let did = push.step(files, alloc, generations)?;
+    Ok(told(alloc, did)?)
 }
 
 // The push in this slot is taken out of it.
@@ -126,6 +106,7 @@ pub(crate) fn step<F: Files>(
     files: &mut F,
     slots: &mut [Option<PushSession>; 8],
     slot: u8,
+    due: &mut Vec<ObjectId>,
     generations: &mut Generations,
 ) -> Result<Stepped, SharedFault>
     requires tellable { AreTellable slots.old }
@@ -144,7 +125,7 @@ pub(crate) fn step<F: Files>(
     let Some(mut push) = take(slots, slot) else {
         return Err(SharedFault::NoSuchSlot);
     };
-    let did = step_push(alloc, files, &mut push, generations);
+    let did = step_push(alloc, files, &mut push, due, generations);
     let left = left(&did, push);
     put(slots, slot, left);
     did

@@ -1,0 +1,181 @@
+//! Rows about messages that are taken object by object.
+
+ghost use Rattle.std.specs.Prelude.{◌≤◌};
+
+use crate::messages::{Telling, push_found, push_object};
+use crate::pushes::push_command;
+use crate::spelling::spelled;
+use crate::taking::{Dripping, Failing};
+use std::alloc::{AllocError, Global};
+use std::collections::BTreeMap;
+use std::fmt::Write;
+use std::io::Read;
+use vc_message::{AnyReader, Head, IncomingFault, Taken, next_object, read_head, skip_message};
+
+// Why nothing more comes. Want of memory ends the row.
+fn push_fault(out: &mut String, fault: IncomingFault) -> Result<(), AllocError> {
+    match fault {
+        IncomingFault::Memory => Err(AllocError),
+        _ => write!(out, "{fault}"),
+    }
+}
+
+// What comes first of a message.
+fn push_head(out: &mut String, head: &Head) -> Result<(), AllocError> {
+    match head {
+        Head::Message(message) => AnyReader::tell(out, message),
+        Head::Push(commands) => {
+            out.push_str("push")?;
+            for command in commands {
+                out.push(' ')?;
+                push_command(out, command)?;
+            }
+            Ok(())
+        }
+        Head::Pack(ack) => {
+            out.push_str("pack ")?;
+            push_found(out, *ack)
+        }
+    }
+}
+
+// Tells ` | `, the number of its first line and `kind:body` for each object that comes, and why no more come, unless they have
+// ended. Whether they have.
+fn push_rest<R: Read>(
+    out: &mut String,
+    alloc: Global,
+    reader: &mut R,
+    taken: Taken,
+    most: usize,
+) -> Result<bool, AllocError>
+    requires few { taken.lines ≤ taken.bytes }
+{
+    let mut taken = taken;
+    'objects: for _ in 0..=most {
+        match next_object(alloc, reader, &mut taken) {
+            Ok(Some((line, object))) => {
+                write!(out, " | {line} ")?;
+                push_object(out, &object)?;
+            }
+            Ok(None) => return Ok(true),
+            Err(fault) => {
+                out.push_str(" | ")?;
+                push_fault(out, fault)?;
+                return Ok(false);
+            }
+        }
+    }
+    Ok(false)
+}
+
+// The next message, or why none comes. Whether it came whole.
+fn push_next<R: Read>(
+    out: &mut String,
+    alloc: Global,
+    reader: &mut R,
+    most: usize,
+) -> Result<bool, AllocError> {
+    match read_head(alloc, reader) {
+        Ok(Some((head, taken))) => {
+            push_head(out, &head)?;
+            match head {
+                Head::Message(_) => Ok(true),
+                _ => push_rest(out, alloc, reader, taken, most),
+            }
+        }
+        Ok(None) => {
+            out.push_str("end")?;
+            Ok(false)
+        }
+        Err(fault) => {
+            push_fault(out, fault)?;
+            Ok(false)
+        }
+    }
+}
+
+// The messages that the reader gives, `;` behind each, and why no more come.
+fn told<R: Read>(alloc: Global, reader: &mut R, most: usize) -> Result<String, AllocError> {
+    let mut out = String::new(alloc);
+    for _ in 0..=most {
+        if !push_next(&mut out, alloc, reader, most)? {
+            break;
+        }
+        out.push_str("; ")?;
+    }
+    Ok(out)
+}
+
+/// The messages of a reader that gives the bytes at once, each taken object by object; and where one that cuts them at some place,
+/// or gives them one by one, gives others, these too.
+pub fn pieces(out: &mut String, alloc: Global, text: &str) -> Result<(), AllocError> {
+    let bytes = spelled(alloc, text)?;
+    let mut whole_reader = bytes.as_slice();
+    let whole = told(alloc, &mut whole_reader, bytes.len())?;
+    out.push_str(whole.as_str())?;
+    let mut dripping = Dripping {
+        rest: &bytes,
+        is_ready: false,
+    };
+    let other = told(alloc, &mut dripping, bytes.len())?;
+    if other.as_str() != whole.as_str() {
+        write!(out, ", but byte by byte {other}")?;
+    }
+    for place in 0..bytes.len() {
+        let front = &bytes[..place];
+        let mut reader = front.chain(&bytes[place..]);
+        let other = told(alloc, &mut reader, bytes.len())?;
+        if other.as_str() != whole.as_str() {
+            write!(out, ", but cut at {place} {other}")?;
+        }
+    }
+    Ok(())
+}
+
+/// Passes over the first message of a reader that gives the bytes one by one: the messages behind it, or why it has no end.
+pub fn skip(out: &mut String, alloc: Global, text: &str) -> Result<(), AllocError> {
+    let bytes = spelled(alloc, text)?;
+    let mut reader = Dripping {
+        rest: &bytes,
+        is_ready: false,
+    };
+    match skip_message(alloc, &mut reader) {
+        Ok(Some(_)) => out.push_str(told(alloc, &mut reader, bytes.len())?.as_str()),
+        Ok(None) => out.push_str("none"),
+        Err(fault) => push_fault(out, fault),
+    }
+}
+
+// Counts what is told last once more.
+fn count_last(
+    alloc: Global,
+    ends: &mut BTreeMap<String, u32>,
+    told: &str,
+) -> Result<(), AllocError> {
+    let (_, last) = told.rsplit_once(" | ").unwrap_or(("", told));
+    let end = String::from_str(alloc, last)?;
+    let times = ends.get(&end).copied().unwrap_or(0).wrapping_add(1);
+    ends.insert(end, times)?;
+    Ok(())
+}
+
+/// Each front of a message, behind which the reader ends, and behind which it fails: what is told last, and how often.
+pub fn fronts(out: &mut String, alloc: Global, text: &str) -> Result<(), AllocError> {
+    let bytes = spelled(alloc, text)?;
+    let mut ends = BTreeMap::<String, u32>::new(alloc);
+    for place in 0..bytes.len() {
+        let mut ending = &bytes[..place];
+        let cut = told(alloc, &mut ending, place)?;
+        count_last(alloc, &mut ends, cut.as_str())?;
+        let mut failing = (&bytes[..place]).chain(Failing);
+        let broken = told(alloc, &mut failing, place)?;
+        count_last(alloc, &mut ends, broken.as_str())?;
+    }
+    for (end, times) in &ends {
+        if !out.is_empty() {
+            out.push_str("; ")?;
+        }
+        write!(out, "{times}: {end}")?;
+    }
+    Ok(())
+}

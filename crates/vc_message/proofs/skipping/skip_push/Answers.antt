@@ -1,0 +1,38 @@
+use Rattle.std.proofs.Common.{arith, refl}
+use Rattle.std.proofs.lemmas.Result.{err_from_is_err_and}
+use Rattle.vc_pkt.specs.StreamObjectView.{stored}
+use Rattle.vc_push.specs.Push.{carry}
+use Rattle.vc_message.specs.Streaming.{of_push}
+use Rattle.vc_message.proofs.skipping.skip_push.Goals as goal
+
+pub returns-in_err-next_object-clause-fault : goal.returns-in_err-next_object-clause-fault
+returns-in_err-next_object-clause-fault g c =
+    let p = err_from_is_err_and c.from_residual.result c.from_residual.ensures.1 in
+    rw (p.1, p.2) (λ before commands so. let at = c.objects.invariant.leads before commands so in c.in_err-next_object.ensures.fault before (of_push commands at.0) at.1)
+
+pub returns-in_default-clause-end : goal.returns-in_default-clause-end
+returns-in_default-clause-end g c = λ before commands so.
+    let at = c.objects.invariant.leads before commands so in
+    (at.0, (rw c.in_default.is at c.in_ok-next_object.ensures.end) before (of_push commands at.0) at.1)
+
+pub objects-preserved : goal.objects-preserved
+objects-preserved g c =
+    let next = rw c.in-Some.is at c.in_ok-next_object.ensures.object in
+    record {
+      leads = λ before commands so. let at = c.objects.invariant.leads before commands so in (carry (stored c.in-Some.field-0.1) at.0, next before (of_push commands at.0) at.1 refl);
+      few = c.in_ok-next_object.ensures.few;
+    }
+
+pub objects-preserved-in-Some : goal.objects-preserved-in-Some
+objects-preserved-in-Some g c =
+    let next = rw c.in-Some.is at c.in_ok-next_object.ensures.object in
+    record {
+      leads = λ before commands so. let at = c.objects.invariant.leads before commands so in (carry (stored c.in-Some.field-0.1) at.0, next before (of_push commands at.0) at.1 refl);
+      few = c.in_ok-next_object.ensures.few;
+    }
+
+pub objects-smaller : goal.objects-smaller
+objects-smaller g c = let more = c.in_ok-next_object.ensures.more in omega (arith, more.0, more.1)
+
+pub objects-smaller-in-Some : goal.objects-smaller-in-Some
+objects-smaller-in-Some g c = let more = c.in_ok-next_object.ensures.more in omega (arith, more.0, more.1)

@@ -1,0 +1,75 @@
+use Rattle.std.proofs.Common.{arith, rules, ◌≡◌, ◌+◌, sym, ◌∙◌, ap, subst}
+use Rattle.std.proofs.lemmas.Result.{err_from_is_err_and}
+use Rattle.vc_pkt.proofs.MessageLaws.{line_length}
+use Rattle.vc_pkt.specs.LineView.{line_text}
+use Rattle.vc_pkt.specs.StepView.{stepped}
+use Rattle.vc_message.specs.AnyMessage.{AnyState, any_step, beginning}
+use Rattle.vc_message.specs.AnyView.{message_text, reader_state}
+use Rattle.vc_message.specs.Incoming.{whole}
+use Rattle.vc_message.specs.Streaming.{LeadsTo}
+use Rattle.vc_message.proofs.IncomingLaws.{line_here}
+use Rattle.vc_message.proofs.StreamingLaws.{head_taken, on_failed_line, on_lost_line, on_message, on_refused, onward_to}
+use Rattle.vc_message.proofs.streaming.read_head.Goals as goal
+
+pub returns-in_err-end-clause-fault : goal.returns-in_err-end-clause-fault
+returns-in_err-end-clause-fault g c =
+    let p = err_from_is_err_and c.from_residual.result c.from_residual.ensures.1 in
+    rw (p.1, p.2) (on_failed_line (g.R.Read.remaining c.args.reader.now) (g.R.Read.remaining c.lines.reader) (g.R.Read.remaining c.take_line.new.reader) c.lines.bytes c.lines.lines (reader_state c.lines.state) c.lines.invariant.leads _ c.in_err-end.ensures.fault)
+
+pub returns-in_default-parse_line-clause-fault : goal.returns-in_default-parse_line-clause-fault
+returns-in_default-parse_line-clause-fault g c =
+    let took = rw c.in-Some.is at c.in_ok-end.ensures.line in
+    on_lost_line (g.R.Read.remaining c.args.reader.now) (g.R.Read.remaining c.lines.reader) (g.R.Read.remaining c.take_line.new.reader) c.lines.bytes c.lines.lines (reader_state c.lines.state) c.lines.invariant.leads _ _ took
+
+pub returns-in_err-step-clause-fault : goal.returns-in_err-step-clause-fault
+returns-in_err-step-clause-fault g c =
+    let took = rw c.in-Some.is at c.in_ok-end.ensures.line in
+    let found = c.in-Ok.ensures in
+    let line = line_here (g.R.Read.remaining c.take_line.new.reader) (line_text c.in-Ok.found) _ found.0 _ (whole took.line took.is) found.1 (sym c.deref.ensures.value ∙ found.2) in
+    let p = err_from_is_err_and c.from_residual-in_err-step.result c.from_residual-in_err-step.ensures.1 in
+    rw (p.1, p.2) (on_refused (g.R.Read.remaining c.args.reader.now) (g.R.Read.remaining c.lines.reader) (g.R.Read.remaining c.take_line.new.reader) c.lines.bytes c.lines.lines (reader_state c.lines.state) c.lines.invariant.leads _ _ took (line_text c.in-Ok.found) line (stepped reader_state message_text) c.in_err-step.field-0.0 c.in_err-step.ensures)
+
+pub returns-in-Done-clause-head : goal.returns-in-Done-clause-head
+returns-in-Done-clause-head g c =
+    let took = rw c.in-Some.is at c.in_ok-end.ensures.line in
+    let found = c.in-Ok.ensures in
+    let line = line_here (g.R.Read.remaining c.take_line.new.reader) (line_text c.in-Ok.found) _ found.0 _ (whole took.line took.is) found.1 (sym c.deref.ensures.value ∙ found.2) in
+    on_message (g.R.Read.remaining c.args.reader.now) (g.R.Read.remaining c.lines.reader) (g.R.Read.remaining c.take_line.new.reader) c.lines.bytes c.lines.lines (reader_state c.lines.state) c.lines.invariant.leads _ _ took (line_text c.in-Ok.found) line (message_text c.in-Done.message) (rw c.in-Done.is at c.in_ok-step.ensures)
+
+pub returns-in-Done-clause-few : goal.returns-in-Done-clause-few
+returns-in-Done-clause-few g c =
+    let took = rw c.in-Some.is at c.in_ok-end.ensures.line in
+    let four = line_length took.line _ took.is in
+    let behind = took.behind in
+    let few = c.lines.invariant.few in
+    omega (arith, four, behind, few)
+
+pub returns-in-Ok-head_of-clause-head : goal.returns-in-Ok-head_of-clause-head
+returns-in-Ok-head_of-clause-head g c =
+    let took = rw c.in-Some.is at c.in_ok-end.ensures.line in
+    let found = c.in-Ok.ensures in
+    let line = line_here (g.R.Read.remaining c.take_line.new.reader) (line_text c.in-Ok.found) _ found.0 _ (whole took.line took.is) found.1 (sym c.deref.ensures.value ∙ found.2) in
+    head_taken _ _ c.in-Ok-head_of.head _ _ (reader_state c.in-More.next) c.in-Ok-head_of.ensures
+    (onward_to (g.R.Read.remaining c.args.reader.now) (g.R.Read.remaining c.lines.reader) (g.R.Read.remaining c.take_line.new.reader) c.lines.bytes c.lines.lines (reader_state c.lines.state) c.lines.invariant.leads _ _ took (line_text c.in-Ok.found) line (reader_state c.in-More.next) (rw c.in-More.is at c.in_ok-step.ensures))
+
+pub returns-in-Ok-head_of-clause-few : goal.returns-in-Ok-head_of-clause-few
+returns-in-Ok-head_of-clause-few g c =
+    let took = rw c.in-Some.is at c.in_ok-end.ensures.line in
+    let four = line_length took.line _ took.is in
+    let behind = took.behind in
+    let few = c.lines.invariant.few in
+    omega (arith, four, behind, few)
+
+pub lines-preserved : goal.lines-preserved
+lines-preserved g c =
+    let took = rw c.in-Some.is at c.in_ok-end.ensures.line in
+    let found = c.in-Ok.ensures in
+    let line = line_here (g.R.Read.remaining c.take_line.new.reader) (line_text c.in-Ok.found) _ found.0 _ (whole took.line took.is) found.1 (sym c.deref.ensures.value ∙ found.2) in
+    let four = line_length took.line _ took.is in
+    let behind = took.behind in
+    let few = c.lines.invariant.few in
+    record {
+      leads = subst (λ (s : AnyState). LeadsTo any_step beginning (g.R.Read.remaining c.args.reader.now) (g.R.Read.remaining c.take_line.new.reader) c.in-Some.end (c.lines.lines + 1) s) (sym c.in-Err.ensures)
+          (onward_to (g.R.Read.remaining c.args.reader.now) (g.R.Read.remaining c.lines.reader) (g.R.Read.remaining c.take_line.new.reader) c.lines.bytes c.lines.lines (reader_state c.lines.state) c.lines.invariant.leads _ _ took (line_text c.in-Ok.found) line (reader_state c.in-More.next) (rw c.in-More.is at c.in_ok-step.ensures));
+      few = omega (arith, four, behind, few);
+    }

@@ -1,0 +1,106 @@
+-- A message that carries objects, taken object by object.
+use Rattle.std.specs.Prelude.{◌≡◌, ◌≢◌, ◌+◌, ◌⊎◌, ℕ, Bool, true, List, [], ◌++◌, length, Option, Some, None, Result, Ok, Err}
+use Rattle.std.specs.Io.KnownBytes.{Consumes}
+use Rattle.vc_object.specs.Decoding.{StoredObject}
+use Rattle.vc_object.specs.declared.id.ObjectId.{ObjectId}
+use Rattle.vc_pkt.specs.Carried.{with_object}
+use Rattle.vc_pkt.specs.Faults.{FaultAt}
+use Rattle.vc_pkt.specs.Line.{LineText, IsLine, IsLines}
+use Rattle.vc_pkt.specs.Message.{GivenBy, Steps, run}
+use Rattle.vc_pkt.specs.ObjectStream.{Progress, between}
+use Rattle.vc_pkt.specs.declared.fault.PktFault.{PktFault}
+use Rattle.vc_fetch.specs.Pack.{is_object}
+use Rattle.vc_fetch.specs.Pack as pack
+use Rattle.vc_push.specs.Push.{Carried, CommandText, carry}
+use Rattle.vc_push.specs.Push as push
+use Rattle.vc_push.specs.PushView.{commands_of}
+use Rattle.vc_message.specs.AnyMessage.{AnyState, MessageText, a_pack, a_push, any_step, beginning, in_pack, in_push}
+use Rattle.vc_message.specs.AnyView.{message_text}
+use Rattle.vc_message.specs.Incoming.{IsLineOf, IsLoss, TakesText, TakesWithinLine}
+use Rattle.vc_message.specs.declared.incoming_fault.IncomingFault.{IncomingFault}
+use Rattle.vc_message.specs.declared.incoming_fault.IncomingFault.TheVariants.{Unread}
+use Rattle.vc_message.specs.declared.streaming.Head.{Head}
+use Rattle.vc_message.specs.declared.streaming.Head.TheVariants as heads
+
+-- ---- a line
+-- a line was taken, the next behind so many bytes
+pub record TakesLine (old new : Option (List ℕ)) (place end : ℕ) (bytes : List ℕ) : Type 0 where
+  pub line : LineText
+  pub is : IsLine line bytes
+  pub taken : TakesWithinLine old new bytes
+  pub behind : end ≡ place + length bytes
+
+-- the reader was at its end, and nothing came before
+abbrev pub IsBeforeAll : Option (List ℕ) → Option (List ℕ) → ℕ → Type 0
+IsBeforeAll old new place = (bytes : List ℕ) × TakesWithinLine old new bytes × IsLineOf new bytes × (place + length bytes ≡ 0)
+
+-- why no line was taken, and what was taken of it
+pub record FailsAtLine (old new : Option (List ℕ)) (place : ℕ) (e : IncomingFault) : Type 0 where
+  pub bytes : List ℕ
+  pub taken : TakesWithinLine old new bytes
+  pub why : IsLoss e ⊎ ((f : PktFault) × (e ≡ Unread f) × IsLineOf new bytes × (place + length bytes ≢ 0) × FaultAt place bytes f)
+
+-- ---- a message so far
+-- the bytes that a reader gave are so many lines, which lead a message to the state
+pub record LeadsTo {S M : Type 0} (step : Steps S M) (start : S) (old now : Option (List ℕ)) (place number : ℕ) (s : S) : Type 0 where
+  pub bytes : List ℕ
+  pub lines : List LineText
+  pub each : IsLines lines bytes
+  pub here : place ≡ length bytes
+  pub count : number ≡ length lines
+  pub goes : (others : List LineText) → run step 0 start (lines ++ others) ≡ run step number s others
+  pub consumed : Consumes old now bytes
+
+-- ---- objects
+-- what came of a message that carries objects
+pub data Carrier : Type 0 where
+  of_push : List CommandText → Carried → Carrier
+  of_pack : Option ObjectId → List StoredObject → Carrier
+
+-- what its next line finds, where the stream of its objects stands so
+abbrev pub state_at : Carrier → Progress → AnyState
+state_at (of_push commands carried) progress = in_push (push.streaming commands (record { set = carried; progress = progress }))
+state_at (of_pack ack objects) progress = in_pack (pack.streaming ack (record { set = objects; progress = progress }))
+
+-- whether an object may come in it
+abbrev pub may_carry : Carrier → StoredObject → Bool
+may_carry (of_push commands carried) object = true
+may_carry (of_pack ack objects) object = is_object object
+
+abbrev pub with_more : StoredObject → Carrier → Carrier
+with_more object (of_push commands carried) = of_push commands (carry object carried)
+with_more object (of_pack ack objects) = of_pack ack (with_object object objects)
+
+-- the message, once its stream has ended
+abbrev pub text_of : Carrier → MessageText
+text_of (of_push commands carried) = a_push (record { commands = commands; carried = carried })
+text_of (of_pack ack objects) = a_pack (record { ack = ack; objects = objects })
+
+-- what stands before the objects of a message, with none of them yet; none for one that carries none
+abbrev pub carrier_of : Head → Option Carrier
+carrier_of (heads.Message message) = None
+carrier_of (heads.Push commands) = Some (of_push (commands_of commands.items) (Ok []))
+carrier_of (heads.Pack ack) = Some (of_pack ack [])
+
+-- the state is that of its next line
+abbrev pub IsHeadAt : Head → AnyState → Type 0
+IsHeadAt head s = (c : Carrier) × (carrier_of head ≡ Some c) × (s ≡ state_at c between)
+
+-- a whole message was taken, or what stands before its objects, so many bytes and lines
+abbrev pub TakesHead : Option (List ℕ) → Option (List ℕ) → Head → ℕ → ℕ → Type 0
+TakesHead old new (heads.Message message) bytes lines = TakesText any_step beginning (GivenBy any_step beginning) old new (message_text message)
+TakesHead old new (heads.Push commands) bytes lines = LeadsTo any_step beginning old new bytes lines (state_at (of_push (commands_of commands.items) (Ok [])) between)
+TakesHead old new (heads.Pack ack) bytes lines = LeadsTo any_step beginning old new bytes lines (state_at (of_pack ack []) between)
+
+-- ---- messages that came whole, as they are known
+-- the reader gave a message, whichever
+abbrev pub TakesSome : Option (List ℕ) → Option (List ℕ) → Type 0
+TakesSome old new = (text : MessageText) × TakesText any_step beginning (GivenBy any_step beginning) old new text
+
+-- a push with these commands, whatever it carries
+abbrev pub TakesPush : Option (List ℕ) → Option (List ℕ) → List CommandText → Type 0
+TakesPush old new commands = (carried : Carried) × TakesText any_step beginning (GivenBy any_step beginning) old new (text_of (of_push commands carried))
+
+-- a pack with this first line, whatever objects it brings
+abbrev pub TakesPack : Option (List ℕ) → Option (List ℕ) → Option ObjectId → Type 0
+TakesPack old new ack = (objects : List StoredObject) × TakesText any_step beginning (GivenBy any_step beginning) old new (text_of (of_pack ack objects))

@@ -1,0 +1,51 @@
+-- What is learnt of the generations of commits, so that a later check of a branch with their history can stop at them.
+use Rattle.std.specs.Prelude.{◌≡◌, ◌↔◌, ◌⊎◌, ◌<◌, ◌^◌, ◌++◌, ◌∷◌, [], ℕ, List, Some, Contains}
+use Rattle.vc_base.specs.Generation.{HasGeneration}
+use Rattle.vc_base.specs.History.{IsAncestor}
+use Rattle.vc_base.specs.Numbering.{numbers}
+use Rattle.vc_base.specs.declared.generations.Generations.{Generations}
+use Rattle.vc_files.specs.FileMap.{FileMap}
+use Rattle.vc_graph.specs.Graph.{IsClosed}
+use Rattle.vc_object.specs.ObjectMap.{parents_in}
+use Rattle.vc_object.specs.declared.id.ObjectId.{ObjectId}
+use Rattle.vc_push.specs.Push.{CommandText}
+use Rattle.vc_push.specs.declared.reason.Reason.TheVariants.{NonFastForward}
+use Rattle.vc_session.specs.Session.{SessionText}
+use Rattle.vc_session.specs.declared.stage.Stage.{Stage}
+use Rattle.vc_session.specs.declared.stage.Stage.TheVariants.{Unpacked, Checked, Migrated, Done}
+use Rattle.vc_session.specs.declared.stage.Verdict.{Verdict}
+use Rattle.vc_session.specs.declared.stage.Verdict.TheVariants.{Accepted, Refused}
+use Rattle.vc_store.specs.Store.{objects}
+
+-- x is an ancestor of one of these commits of which the whole history is stored, and n is its generation, which 64 bits hold
+pub record IsOfWhole (content : FileMap) (tips : List ObjectId) (x : ObjectId) (n : ℕ) : Type 0 where
+  pub tip : ObjectId
+  pub is_tip : Contains tips tip
+  pub whole : IsClosed (parents_in (objects content)) tip
+  pub ancestor : IsAncestor (parents_in (objects content)) x tip
+  pub generation : HasGeneration (parents_in (objects content)) x n
+  pub fits : n < 2 ^ 64
+
+-- what is known then is what was known before, and the generations in the whole histories of these commits
+abbrev pub IsLearnt : FileMap → List ObjectId → Generations → Generations → Type 0
+IsLearnt content tips known now = (x : ObjectId) (n : ℕ) → numbers now x ≡ Some n ↔ ((numbers known x ≡ Some n) ⊎ IsOfWhole content tips x n)
+
+-- the value that a command leaves its ref with, so far as a later check may have to walk its history: the new id, where the ref was
+-- set, and the old one, where the new one doesn't descend from it
+abbrev pub tip_of : CommandText → Verdict → List ObjectId
+tip_of command Accepted = command.new ∷ []
+tip_of command (Refused NonFastForward) = command.old ∷ []
+tip_of command _ = []
+
+-- the same of all commands, in their order
+abbrev pub tips_of : List CommandText → List Verdict → List ObjectId
+tips_of (c ∷ cs) (v ∷ vs) = tip_of c v ++ tips_of cs vs
+tips_of _ _ = []
+
+-- what a session learns at its stage, and whose histories are due then: before the check those that were due are learnt, and once all
+-- is judged its own tips are due
+abbrev pub LearnsAt : FileMap → SessionText → List ObjectId → List ObjectId → Generations → Generations → Stage → Type 0
+LearnsAt content s due left known now Unpacked = IsLearnt content due known now × (left ≡ [])
+LearnsAt content s due left known now Checked = (now ≡ known) × (left ≡ due)
+LearnsAt content s due left known now Migrated = (now ≡ known) × (left ≡ due)
+LearnsAt content s due left known now Done = (now ≡ known) × (left ≡ due ++ tips_of s.commands s.verdicts)

@@ -1,0 +1,34 @@
+-- What a fault is of that ends the taking of a message from a reader, and which are no refusals.
+use Rattle.std.specs.Prelude.{Bool, true, false, not, Result, Ok, Err}
+use Rattle.vc_files.specs.declared.faults.Fault.TheVariants.{Memory}
+use Rattle.vc_message.specs.declared.incoming_fault.IncomingFault.{IncomingFault}
+use Rattle.vc_message.specs.declared.incoming_fault.IncomingFault.TheVariants as incoming
+use Rattle.vc_shared.specs.Faults.{IsOfDevice as IsNodeDevice, is_fault as is_node_fault, of_device}
+use Rattle.vc_shared.specs.declared.accept_fault.AcceptFault.{AcceptFault}
+use Rattle.vc_shared.specs.declared.accept_fault.AcceptFault.TheVariants.{Node, ReadFailed}
+use Rattle.vc_shared.specs.declared.fault.SharedFault.TheVariants.{Unread}
+
+-- why no message came, as the node tells it
+abbrev pub of_incoming : IncomingFault → AcceptFault
+of_incoming incoming.Memory = Node (of_device Memory)
+of_incoming incoming.Failed = ReadFailed
+of_incoming (incoming.Unread fault) = Node (Unread fault)
+
+-- it is no refusal
+abbrev pub is_fault : AcceptFault → Bool
+is_fault ReadFailed = false
+is_fault (Node fault) = is_node_fault fault
+
+abbrev pub IsOfDevice : AcceptFault → Type 0
+IsOfDevice ReadFailed = ⊥
+IsOfDevice (Node fault) = IsNodeDevice fault
+
+-- the call tells a fault of the device
+abbrev pub TellsDevice : {T : Type 0} → Result T AcceptFault → Type 0
+TellsDevice (Ok x) = ⊥
+TellsDevice (Err e) = IsOfDevice e
+
+-- whether the node is up after a call: a fault takes it down
+abbrev pub up_after : {T : Type 0} → Result T AcceptFault → Bool
+up_after (Ok x) = true
+up_after (Err e) = not (is_fault e)

@@ -1,0 +1,182 @@
+-- A message that a reader brings to the shared node, taken as it comes: what came of it, and what the node makes of it.
+use Rattle.std.specs.Prelude.{◌≡◌, ◌≢◌, ◌⊎◌, ◌++◌, ⊤, ℕ, Bool, true, false, List, [], Option, Some, None, Result, Ok, Err}
+use Rattle.vc_files.specs.FileMap.{FileMap}
+use Rattle.vc_files.specs.declared.faults.Fault.{Fault as FilesFault}
+use Rattle.vc_files.specs.declared.faults.Fault.TheVariants.{Memory}
+use Rattle.vc_message.specs.AnyMessage.{MessageText, a_push, any_step, beginning}
+use Rattle.vc_message.specs.Incoming.{Takes, TakesFault, TakesMessage, TakesNothing, TakesText}
+use Rattle.vc_message.specs.Machine.{Reads, TextOf, pkt_number}
+use Rattle.vc_message.specs.Streaming.{LeadsTo, of_push, state_at}
+use Rattle.vc_message.specs.declared.incoming_fault.IncomingFault.{IncomingFault}
+use Rattle.vc_message.specs.declared.incoming_fault.IncomingFault.TheVariants as incoming
+use Rattle.vc_message.specs.declared.streaming.Taken.{Taken}
+use Rattle.vc_model.specs.Message.{Message}
+use Rattle.vc_model.specs.Node.{Answer}
+use Rattle.vc_model.specs.Question.Question.{Unread as AsksUnread}
+use Rattle.vc_model.specs.Shared.{SharedNode}
+use Rattle.vc_model.specs.SharedCall.{SharedCall}
+use Rattle.vc_model.specs.SharedCall.SharedCall.{Accept, Asks, Open}
+use Rattle.vc_node.specs.declared.fault.NodeFault.TheVariants.{Down}
+use Rattle.vc_object.specs.declared.fault.ObjectFault.{ObjectFault}
+use Rattle.vc_pkt.specs.Message.{GivenBy}
+use Rattle.vc_pkt.specs.ObjectStream.{between}
+use Rattle.vc_pkt.specs.declared.fault.PktFault.{PktFault}
+use Rattle.vc_push.specs.Push.{CommandText, FaultOf, PushText}
+use Rattle.vc_session.specs.Carrying.{Carries, objects_of_push}
+use Rattle.vc_session.specs.Quarantine.{IsDropped}
+use Rattle.vc_session.specs.Session.{SessionText}
+use Rattle.vc_session.specs.Steps.{IsOpened}
+use Rattle.vc_shared.specs.AcceptFault.{is_fault, up_after}
+use Rattle.vc_shared.specs.Accepting.{IsRefusedMessage}
+use Rattle.vc_shared.specs.Calls.{AcceptedAs, AnswersShared}
+use Rattle.vc_shared.specs.Faults.{of_device}
+use Rattle.vc_shared.specs.Holding.{HoldsShared}
+use Rattle.vc_shared.specs.Pushing.{AreTaken, IsLowest, OpensSlot}
+use Rattle.vc_shared.specs.declared.accept_fault.AcceptFault.{AcceptFault}
+use Rattle.vc_shared.specs.declared.accept_fault.AcceptFault.TheVariants.{Node, ReadFailed}
+use Rattle.vc_shared.specs.declared.accepting.Accepted.{Accepted}
+use Rattle.vc_shared.specs.declared.accepting.Accepted.TheVariants.{Slot}
+use Rattle.vc_shared.specs.declared.fault.SharedFault.{SharedFault}
+use Rattle.vc_shared.specs.declared.fault.SharedFault.TheVariants as shared
+
+-- ---- a push
+-- of a push with these commands what stands before its objects was taken, so many bytes and lines
+abbrev pub BeginsPush : Option (List ℕ) → Option (List ℕ) → ℕ → ℕ → List CommandText → Type 0
+BeginsPush before now place number commands = LeadsTo any_step beginning before now place number (state_at (of_push commands (Ok [])) between)
+
+-- so it is, whatever the reader had before
+abbrev pub FromHead : Option (List ℕ) → Taken → List CommandText → (Option (List ℕ) → Type 0) → Type 0
+FromHead now taken commands Holds = (before : Option (List ℕ)) → BeginsPush before now taken.bytes taken.lines commands → Holds before
+
+-- the reader gave the message, and nothing else
+abbrev pub TakesAll : Option (List ℕ) → Option (List ℕ) → MessageText → Type 0
+TakesAll before new text = TakesText any_step beginning (GivenBy any_step beginning) before new text
+
+-- it gave some of a message, or bytes that are none, and each was needed to tell
+abbrev pub TakesPart : Option (List ℕ) → Option (List ℕ) → Type 0
+TakesPart before new = (bytes : List ℕ) × Takes any_step beginning before new bytes
+
+-- All of the push came. The session has its commands, and what it carries stands in the slot's quarantine.
+pub record Arrives (honest : Type 0) (before new : Option (List ℕ)) (content : FileMap) (slot : ℕ) (s : SessionText) : Type 0 where
+  pub push : PushText
+  pub taken : TakesAll before new (a_push push)
+  pub fault : Option ObjectFault
+  pub fault_is : honest → FaultOf push.carried fault
+  pub opened : IsOpened slot fault push.commands s
+  pub carries : honest → Carries content slot s.names (objects_of_push push.carried)
+
+-- why it didn't all come: the bytes are no message, the reader failed, or the node did
+pub data IsStopped (before new : Option (List ℕ)) (e : AcceptFault) : Type 0 where
+  by_bytes : (fault : PktFault) → TakesFault any_step beginning before new fault → e ≡ Node (shared.Unread fault) → IsStopped before new e
+  by_reader : TakesPart before new → e ≡ ReadFailed → IsStopped before new e
+  by_node : TakesPart before new → (fault : FilesFault) → e ≡ Node (of_device fault) → IsStopped before new e
+
+-- All of the push came, and it is open in this slot.
+pub record OpensFrom (honest : Type 0) (before new : Option (List ℕ)) (content : FileMap) (slots after : List (Option SessionText)) (k : ℕ) : Type 0 where
+  pub push : PushText
+  pub taken : TakesAll before new (a_push push)
+  pub opens : honest → OpensSlot content slots after push k
+
+-- why none is opened: it didn't all come, or it did, and all slots are taken
+pub data IsTurnedAway (before new : Option (List ℕ)) (slots : List (Option SessionText)) (e : AcceptFault) : Type 0 where
+  stopped : IsStopped before new e → IsTurnedAway before new slots e
+  busy : (push : PushText) → TakesAll before new (a_push push) → AreTaken slots → e ≡ Node shared.Busy → IsTurnedAway before new slots e
+
+-- after a refusal nothing stands in the quarantine of the lowest free slot
+abbrev pub IsCleared : FileMap → List (Option SessionText) → AcceptFault → Type 0
+IsCleared content slots e = is_fault e ≡ false → (k : ℕ) → IsLowest slots k → IsDropped k content
+
+-- ---- any message
+-- what is told of a push
+abbrev pub slot_told : Result ℕ AcceptFault → Result (Option Accepted) AcceptFault
+slot_told (Ok k) = Ok (Some (Slot k))
+slot_told (Err e) = Err e
+
+-- what came of the reader: a message, nothing, bytes that are no message, or some of one, where the reader failed, or the node did
+pub data Came : Type 0 where
+  a_message : MessageText → Came
+  nothing : Came
+  no_message : PktFault → Came
+  lost : Came
+  cut_short : Came
+
+abbrev pub IsCome : Option (List ℕ) → Option (List ℕ) → Came → Type 0
+IsCome before new (a_message text) = TakesMessage before new text
+IsCome before new nothing = TakesNothing before new
+IsCome before new (no_message fault) = TakesFault any_step beginning before new fault
+IsCome before new lost = TakesPart before new
+IsCome before new cut_short = TakesPart before new
+
+-- The calls of the machine that the event can be. A fault of the node comes before it is known which message it is.
+abbrev pub IsCallOf : Bool → Came → SharedCall → Type 0
+IsCallOf was_up (a_message text) call = (m : Message) × TextOf m text × (call ≡ Accept m)
+IsCallOf was_up (no_message fault) call = call ≡ Asks (AsksUnread (pkt_number fault))
+IsCallOf true cut_short call = call ≢ Open
+IsCallOf was_up _ call = ⊥
+
+-- what is told of it, by a node that is up, or down
+abbrev pub IsTold : Bool → Came → Result (Option Accepted) AcceptFault → Type 0
+IsTold true (a_message text) (Ok (Some accepted)) = ⊤
+IsTold true (a_message text) (Err (Node e)) = ⊤
+IsTold true (no_message fault) (Err (Node e)) = e ≡ shared.Unread fault
+IsTold true cut_short (Err (Node e)) = (fault : FilesFault) × (e ≡ of_device fault)
+IsTold false (a_message text) (Err (Node e)) = e ≡ shared.Node Down
+IsTold false (no_message fault) (Err (Node e)) = e ≡ shared.Node Down
+IsTold false cut_short (Err (Node e)) = e ≡ of_device Memory
+IsTold was_up nothing (Ok None) = ⊤
+IsTold was_up lost (Err ReadFailed) = ⊤
+IsTold was_up _ _ = ⊥
+
+-- why a message is refused by a node that is up
+abbrev pub IsRefusedThere : Came → FileMap → List (Option SessionText) → Result (Option Accepted) AcceptFault → Type 0
+IsRefusedThere (a_message text) content slots (Err (Node e)) = IsRefusedMessage content slots text e
+IsRefusedThere _ content slots _ = ⊤
+
+-- the machine's answer to it
+abbrev pub ToldAs : Result (Option Accepted) AcceptFault → Answer → Option Message → Type 0
+ToldAs (Ok (Some accepted)) a sends = AcceptedAs (Ok accepted) a sends
+ToldAs (Err (Node e)) a sends = AcceptedAs (Err e) a sends
+ToldAs _ a sends = ⊥
+
+-- A message was taken of the reader, or not, and what is told of it is the machine's answer to the call that it is.
+pub record AcceptsFrom (honest : Type 0) (before rest : Option (List ℕ)) (old new : FileMap) (slots after : List (Option SessionText)) (was_up is_up : Bool) (result : Result (Option Accepted) AcceptFault) : Type 0 where
+  pub came : Came
+  pub is_come : IsCome before rest came
+  pub told : IsTold was_up came result
+  pub refused : honest → was_up ≡ true → IsRefusedThere came old slots result
+  pub answers : honest → (call : SharedCall) → IsCallOf was_up came call → AnswersShared call (ToldAs result) old new slots after was_up is_up
+
+-- the same of a node that is up
+abbrev pub AcceptsUp : Type 0 → Option (List ℕ) → Option (List ℕ) → FileMap → FileMap → List (Option SessionText) → List (Option SessionText) → Result (Option Accepted) AcceptFault → Type 0
+AcceptsUp honest before rest old new slots after result = (is_up : Bool) → is_up ≡ up_after result → AcceptsFrom honest before rest old new slots after true is_up result
+
+-- whatever node was held is held
+abbrev pub KeepsHeld : FileMap → FileMap → List (Option SessionText) → List (Option SessionText) → Bool → Bool → Type 0
+KeepsHeld old new slots after was_up is_up = (n : SharedNode) → HoldsShared old slots was_up n → HoldsShared new after is_up n
+
+-- what is told of a message that came whole
+abbrev pub message_told : Result Accepted SharedFault → Result (Option Accepted) AcceptFault
+message_told (Ok accepted) = Ok (Some accepted)
+message_told (Err e) = Err (Node e)
+
+-- what a node that is down tells of what came
+abbrev pub down_told : Result (Option (Unit {0})) IncomingFault → Result (Option Accepted) AcceptFault
+down_told (Ok (Some u)) = Err (Node (shared.Node Down))
+down_told (Ok None) = Ok None
+down_told (Err incoming.Failed) = Err ReadFailed
+down_told (Err incoming.Memory) = Err (Node (of_device Memory))
+down_told (Err (incoming.Unread fault)) = Err (Node (shared.Node Down))
+
+-- Where a message is the first that the reader has, what is told is the machine's answer to it, and what is behind it is left; or the
+-- reader failed, or a fault came.
+abbrev pub IsKnown : Type 0 → Bool → Message → List ℕ → Option (List ℕ) → (SharedCall → Type 0) → Result (Option Accepted) AcceptFault → Type 0
+IsKnown honest was_up m rest left Answers (Ok (Some accepted)) = (left ≡ Some rest) × (honest → Answers (Accept m))
+IsKnown honest was_up m rest left Answers (Ok None) = ⊥
+IsKnown honest was_up m rest left Answers (Err ReadFailed) = ⊤
+IsKnown honest was_up m rest left Answers (Err (Node e)) =
+    ((left ≡ Some rest) ⊎ (is_fault (Node e) ≡ true)) × (honest → (was_up ≡ true) ⊎ (is_fault (Node e) ≡ false) → Answers (Accept m))
+
+-- so it is of each message that may stand there
+abbrev pub AnswersKnown : Type 0 → Option (List ℕ) → Option (List ℕ) → FileMap → FileMap → List (Option SessionText) → List (Option SessionText) → Bool → Bool → Result (Option Accepted) AcceptFault → Type 0
+AnswersKnown honest before left old new slots after was_up is_up result =
+    (m : Message) (bytes rest : List ℕ) → before ≡ Some (bytes ++ rest) → Reads bytes m → IsKnown honest was_up m rest left (λ call. AnswersShared call (ToldAs result) old new slots after was_up is_up) result
