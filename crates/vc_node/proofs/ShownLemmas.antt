@@ -115,6 +115,14 @@ ready_there old new (Some x) is there same index = record {
   index = index;
 }
 
+-- the index that they spell is the one that they spelled
+pub ready_spells : (old new : FileMap) (m : IndexMap) → IsReady old new → SpellsIndex old m → SpellsIndex new m
+ready_spells old new m ready spelled = record { sound = spelled.sound; text = ap (λ (s : Shown). s.index) ready.is ∙ kept (head_of old) ∙ spelled.text }
+  where
+    kept : (h : Option Head) → (opened h (shown old)).index ≡ index_bytes old
+    kept None = refl
+    kept (Some head) = refl
+
 pub ready_made : (old mid new : FileMap) (h : Option Head) (main : List ℕ) → h ≡ head_of old → is_some h ≡ false → mid ≡ old → main ≡ codes "refs/heads/main" → ChangesOnly (codes "HEAD") mid new → refs new ≡ refs mid → head_of new ≡ Some (heads.Branch main)
     → (m : IndexMap) × SpellsIndex old m → IsReady old new
 ready_made old mid new (Some x) main is none same named only kept head index = cc

@@ -1,5 +1,5 @@
 // What a commit does to files: it looks for what refuses it, writes the trees and the commit, and then moves HEAD.
-ghost use Rattle.std.specs.Prelude.{◌≡◌, ◌⊎◌, ◌++◌, IfOk, IfErr, OnOk, OnErr, Contains, codes};
+ghost use Rattle.std.specs.Prelude.{◌≡◌, ◌⊎◌, ◌++◌, IfOk, IfErr, IfSome, OnOk, OnErr, Contains, codes};
 ghost use Rattle.std.specs.List.{AllByRecursion};
 ghost use Rattle.vc_files.specs.Failures.{Wears, Writes};
 ghost use Rattle.vc_files.specs.FileMap.{SameOutside};
@@ -8,6 +8,7 @@ ghost use Rattle.vc_refs.specs.Head.{IsHeadInRefs, head_of};
 ghost use Rattle.vc_store.specs.Store.{objects};
 ghost use Rattle.vc_node.specs.Clean.{KeepsClean};
 ghost use Rattle.vc_node.specs.Commit.{IsGoodParent, IsFreeHead, IsCommitted, WritesCommit, made_body, moved, parents_of_commit};
+ghost use Rattle.vc_node.specs.IndexFile.{SpellsIndex};
 ghost use Rattle.vc_node.specs.Making.{AreLines, BlamesLines, BlamesFreeHead, BlamesParents, BlamesLook, BlamesObjects, BlamesMaking, BlamesMoving, LeftByCommit, MayMake, StoresTrees};
 ghost use Rattle.vc_node.specs.NodeFault.{TellsDevice};
 ghost use Rattle.vc_node.specs.Reads.{IsAtBranch, IsAtHead, IsMade, IsOfCommit, IsReachedByOne, NoneRead, TellsRead};
@@ -15,7 +16,7 @@ ghost use Rattle.vc_node.specs.Shown.{shown};
 
 use crate::NodeFault;
 use crate::checks::refuse_beyond;
-use crate::index_file::read_index;
+use crate::index_file::kept_or_read;
 use crate::local::put_ref;
 use std::alloc::{AllocError, Global};
 use vc_files::{Files, MemoryFiles};
@@ -195,14 +196,17 @@ fn move_head<F: Files>(
     }
 }
 
-/// Commits the index: its trees and the commit are stored, and then HEAD is moved. The objects are first written to files
-/// in memory, so that what refuses one of them is found before anything is written here.
+/// Commits the index, which is read from its file where none is kept: its trees and the commit are stored, and then HEAD is
+/// moved. The objects are first written to files in memory, so that what refuses one of them is found before anything is written
+/// here.
 pub(crate) fn commit<F: Files>(
     alloc: Global,
     files: &mut F,
+    kept: Option<Index>,
     extra: &[ObjectId],
     words: Words<'_>,
 ) -> Result<ObjectId, NodeFault>
+    requires { F.honest → IfSome kept (SpellsIndex (F.content files.old)) }
     ensures committed { F.honest → IfOk result (λ id. IsCommitted (F.content files.old) extra.now words.entry.author.now words.entry.committer.now words.entry.message.now id (F.content files.new)) }
     ensures lines { OnOk result (AreLines words.entry.author.now words.entry.committer.now) }
     ensures refused { F.honest → IfErr result (BlamesMaking (F.content files.old) extra.now words.entry.author.now words.entry.committer.now words.entry.message.now) }
@@ -217,7 +221,7 @@ pub(crate) fn commit<F: Files>(
     let head = free_head(alloc, files)?;
     refuse_bad_parents(alloc, files, extra)?;
     let parents = parents_with(alloc, files, extra)?;
-    let index = read_index(alloc, files)?;
+    let index = kept_or_read(alloc, files, kept)?;
     let mut memory = MemoryFiles::new(alloc);
     write_objects(alloc, &mut memory, &index, &parents, words)?;
     let id = write_objects(alloc, files, &index, &parents, words)?;

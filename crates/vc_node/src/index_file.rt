@@ -1,5 +1,5 @@
 // The file of a clone's index.
-ghost use Rattle.std.specs.Prelude.{◌≡◌, IfOk, IfErr, OnOk, OnErr, IsErrOf, MatchResult, IsTrue, codes};
+ghost use Rattle.std.specs.Prelude.{◌≡◌, IfOk, IfErr, IfSome, OnOk, OnErr, IsErrOf, MatchResult, IsTrue, codes};
 ghost use Rattle.std.specs.FinMap as paths;
 ghost use Rattle.vc_files.specs.Failures.{Wears, Writes};
 ghost use Rattle.vc_index.specs.IndexMap.{IndexMap, IsIndex};
@@ -41,6 +41,28 @@ pub fn read_index<F: Files>(alloc: Global, files: &mut F) -> Result<Index, NodeF
     let bytes = index_bytes(alloc, files)?;
     let index = Index::read(alloc, &bytes)?;
     Ok(index)
+}
+
+/// The index that is kept, and where there is none the one that the file spells.
+pub(crate) fn kept_or_read<F: Files>(
+    alloc: Global,
+    files: &mut F,
+    kept: Option<Index>,
+) -> Result<Index, NodeFault>
+    requires { F.honest → IfSome kept (SpellsIndex (F.content files.old)) }
+    ensures spelled { F.honest → IfOk result (SpellsIndex (F.content files.old)) }
+    ensures refused { F.honest → IfErr result (BlamesIndex (F.content files.old)) }
+    ensures same { F.content files.new ≡ F.content files.old }
+    ensures file { IfErr result (TellsRead NoneRead NoneRead) }
+    ensures wear { Wears F.failed F.can_fail F.left files.old files.new (TellsDevice result) }
+{
+    match kept {
+        Some(index) => Ok(index),
+        None => {
+            let index = read_index(alloc, files)?;
+            Ok(index)
+        }
+    }
 }
 
 /// Writes the file of the index.

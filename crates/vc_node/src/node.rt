@@ -63,7 +63,9 @@ use vc_store::StoreFault;
 
 /// A clone over files: objects, refs, HEAD and an index. Once a call has ended in a fault, each later one but
 /// [`close`](CloneNode::close) is refused (112), until the files are opened again. After a push it keeps in memory the names of what
-/// its tracking refs reach, some 20 to 50 bytes for each, so that the next push reads what is new alone.
+/// its tracking refs reach, some 20 to 50 bytes for each, so that the next push reads what is new alone. The index that was read at
+/// the opening is kept in memory until the first call that reads or writes files: a [`commit`](CloneNode::commit) takes it, and any
+/// other drops it.
 #[derive(Drop)]
 pub struct CloneNode<F: Files> {
     files: F,
@@ -72,18 +74,22 @@ pub struct CloneNode<F: Files> {
     is_up: bool,
     // What the tracking refs reached at the last push. No call takes an object away, so it stands for them until the next one.
     reached: Reached,
+    // The index as the opening has read it, where no call has used the files since.
+    index: Option<Index>,
 }
 
 impl<F: Files> Model for CloneNode<F> {
+    ghost use Rattle.std.specs.Prelude.{IfSome};
     ghost use Rattle.vc_answer.specs.Reached.{StandsIn};
     ghost use Rattle.vc_node.specs.Awaited.{awaited_text};
     ghost use Rattle.vc_node.specs.Held.{Held};
+    ghost use Rattle.vc_node.specs.IndexFile.{SpellsIndex};
 
     ghost Value = { Held F };
 
     ghost view = { λ s. record { files = s.files; awaited = awaited_text s.awaited; is_up = s.is_up } };
 
-    ghost invariant = { λ s. F.honest → StandsIn (F.content s.files) s.reached };
+    ghost invariant = { λ s. F.honest → StandsIn (F.content s.files) s.reached × IfSome s.index (SpellsIndex (F.content s.files)) };
 }
 
 impl<F: Files> CloneNode<F> {
@@ -101,13 +107,14 @@ impl<F: Files> CloneNode<F> {
         ensures wear { IfOk result (λ node. Writes F.honest F.content F.failed F.can_fail F.left files node.files ⊥) }
         ensures wear_err { IfErr result (λ e. Writes F.honest F.content F.failed F.can_fail F.left files e.0 (IsOfDevice e.1)) }
     {
-        match make_ready(alloc, &mut files) {
-            Ok(()) => Ok(CloneNode {
+        match ready_index(alloc, &mut files) {
+            Ok(index) => Ok(CloneNode {
                 files,
                 alloc,
                 awaited: Awaited::Nothing,
                 is_up: true,
                 reached: Reached::new(alloc),
+                index: Some(index),
             }),
             Err(fault) => Err((files, fault)),
         }
@@ -123,6 +130,7 @@ impl<F: Files> CloneNode<F> {
             awaited: _,
             is_up: _,
             reached: _,
+            index: _,
         } = self;
         files
     }
@@ -145,11 +153,18 @@ impl<F: Files> CloneNode<F> {
         ensures clean { F.honest → KeepsClean (F.content self.old.files) (F.content self.new.files) }
         ensures wear { Writes F.honest F.content F.failed F.can_fail F.left self.old.files self.new.files (TellsDevice result) }
     {
-        let made = make_ready(self.alloc, &mut self.files);
         self.awaited = Awaited::Nothing;
-        self.is_up = made.is_ok();
         self.reached = Reached::new(self.alloc);
-        made
+        self.index = None;
+        self.is_up = false;
+        match ready_index(self.alloc, &mut self.files) {
+            Ok(index) => {
+                self.index = Some(index);
+                self.is_up = true;
+                Ok(())
+            }
+            Err(fault) => Err(fault),
+        }
     }
 
     /// Takes the node down, as a fault of its own does: for whoever runs out of memory between two of its calls.
@@ -193,6 +208,7 @@ impl<F: Files> CloneNode<F> {
         if !self.is_up {
             return Err(NodeFault::Down);
         }
+        self.index = None;
         match local::write(self.alloc, &mut self.files, kind, body) {
             Ok(id) => Ok(id),
             Err(fault) => Err(self.fail(fault)),
@@ -215,6 +231,8 @@ impl<F: Files> CloneNode<F> {
         if !self.is_up {
             return Err(NodeFault::Down);
         }
+        // What is kept is the index as it was before.
+        self.index = None;
         match local::unstage(self.alloc, &mut self.files, path) {
             Ok(()) => Ok(()),
             Err(fault) => Err(self.fail(fault)),
@@ -238,6 +256,7 @@ impl<F: Files> CloneNode<F> {
         if !self.is_up {
             return Err(NodeFault::Down);
         }
+        self.index = None;
         match local::add(self.alloc, &mut self.files, path, mode, bytes) {
             Ok(()) => Ok(()),
             Err(fault) => Err(self.fail(fault)),
@@ -265,6 +284,7 @@ impl<F: Files> CloneNode<F> {
         if !self.is_up {
             return Err(NodeFault::Down);
         }
+        self.index = None;
         match staging::stage_all(self.alloc, &mut self.files, files) {
             Ok(()) => Ok(()),
             Err(fault) => Err(self.fail(fault)),
@@ -286,6 +306,7 @@ impl<F: Files> CloneNode<F> {
         if !self.is_up {
             return Err(NodeFault::Down);
         }
+        self.index = None;
         match read_index(self.alloc, &mut self.files) {
             Ok(index) => Ok(index),
             Err(fault) => Err(self.fail(fault)),
@@ -309,6 +330,7 @@ impl<F: Files> CloneNode<F> {
         if !self.is_up {
             return Err(NodeFault::Down);
         }
+        self.index = None;
         match local::remove_ref(self.alloc, &mut self.files, branch) {
             Ok(()) => Ok(()),
             Err(fault) => Err(self.fail(fault)),
@@ -334,6 +356,7 @@ impl<F: Files> CloneNode<F> {
         if !self.is_up {
             return Err(NodeFault::Down);
         }
+        self.index = None;
         match local::set_branch(self.alloc, &mut self.files, branch, id) {
             Ok(()) => Ok(()),
             Err(fault) => Err(self.fail(fault)),
@@ -358,6 +381,7 @@ impl<F: Files> CloneNode<F> {
         if !self.is_up {
             return Err(NodeFault::Down);
         }
+        self.index = None;
         match local::set_head(self.alloc, &mut self.files, head) {
             Ok(()) => Ok(()),
             Err(fault) => Err(self.fail(fault)),
@@ -383,6 +407,7 @@ impl<F: Files> CloneNode<F> {
         if !self.is_up {
             return Err(NodeFault::Down);
         }
+        self.index = None;
         match local::load_tree(self.alloc, &mut self.files, id) {
             Ok(()) => Ok(()),
             Err(fault) => Err(self.fail(fault)),
@@ -422,7 +447,8 @@ impl<F: Files> CloneNode<F> {
             committer,
             message,
         };
-        match commit::commit(self.alloc, &mut self.files, extra_parents, words) {
+        let kept = self.index.take();
+        match commit::commit(self.alloc, &mut self.files, kept, extra_parents, words) {
             Ok(id) => Ok(id),
             Err(fault) => Err(self.fail(fault)),
         }
@@ -491,6 +517,7 @@ impl<F: Files> CloneNode<F> {
         if !self.is_up {
             return Err(CloneFault::Node(NodeFault::Down));
         }
+        self.index = None;
         match push_message(self.alloc, &mut self.files, &mut self.reached, items) {
             Ok(bytes) => Ok(bytes),
             Err(fault) => {
@@ -519,6 +546,7 @@ impl<F: Files> CloneNode<F> {
         if !self.is_up {
             return Err(CloneFault::Node(NodeFault::Down));
         }
+        self.index = None;
         let received = exchanging::receive(self.alloc, &mut self.files, &mut self.awaited, bytes);
         self.settle(received)
     }
@@ -538,6 +566,7 @@ impl<F: Files> CloneNode<F> {
         if !self.is_up {
             return Err(CloneFault::Node(NodeFault::Down));
         }
+        self.index = None;
         let received = exchanging::take(self.alloc, &mut self.files, &mut self.awaited, message);
         self.settle(received)
     }
@@ -557,6 +586,7 @@ impl<F: Files> CloneNode<F> {
         if !self.is_up {
             return Err(CloneFault::Node(NodeFault::Down));
         }
+        self.index = None;
         let received = exchanging::take_report(
             self.alloc,
             &mut self.files,
@@ -585,6 +615,7 @@ impl<F: Files> CloneNode<F> {
         if !self.is_up {
             return Err(NodeFault::Down);
         }
+        self.index = None;
         match local::pack_refs(self.alloc, &mut self.files) {
             Ok(()) => Ok(()),
             Err(fault) => Err(self.fail(fault)),
@@ -605,6 +636,7 @@ impl<F: Files> CloneNode<F> {
         if !self.is_up {
             return Err(CloneFault::Node(NodeFault::Down));
         }
+        self.index = None;
         match vc_repository::resolve(self.alloc, &mut self.files, expr) {
             Ok(id) => Ok(id),
             Err(fault) => {
@@ -624,16 +656,29 @@ pub fn make_ready<F: Files>(alloc: Global, files: &mut F) -> Result<(), NodeFaul
     ensures clean { F.honest → OnOk result (KeepsClean (F.content files.old) (F.content files.new)) }
     ensures wear { Writes F.honest F.content F.failed F.can_fail F.left files.old files.new (TellsDevice result) }
 {
-    read_index(alloc, files)?;
+    ready_index(alloc, files)?;
+    Ok(())
+}
+
+// The same, and the index that the files spell then.
+fn ready_index<F: Files>(alloc: Global, files: &mut F) -> Result<Index, NodeFault>
+    ensures ready { F.honest → OnOk result (IsReady (F.content files.old) (F.content files.new)) }
+    ensures spelled { F.honest → IfOk result (SpellsIndex (F.content files.new)) }
+    ensures refused { F.honest → IfErr result (BlamesOpen (F.content files.old)) }
+    ensures err { F.honest → OnErr result (F.content files.new ≡ F.content files.old) }
+    ensures clean { F.honest → OnOk result (KeepsClean (F.content files.old) (F.content files.new)) }
+    ensures wear { Writes F.honest F.content F.failed F.can_fail F.left files.old files.new (TellsDevice result) }
+{
+    let index = read_index(alloc, files)?;
     if vc_refs::head(files, alloc)?.is_some() {
-        return Ok(());
+        return Ok(index);
     }
     let Ok(main) = RefName::new(alloc, "refs/heads/main") else {
         // The text is a legal name, so it was memory.
         return Err(NodeFault::Store(StoreFault::Fault(Fault::Memory)));
     };
     vc_refs::set_head(files, alloc, &Head::Branch(main))?;
-    Ok(())
+    Ok(index)
 }
 
 impl<F: Files> CloneNode<FusedFiles<F>> {

@@ -2,7 +2,7 @@ use Rattle.vc_node.proofs.LookLemmas.{looks_none, looks_then, looks_told}
 use Rattle.vc_files.proofs.WearLemmas.{wears_then, wears_writes, writes_both, writes_none, writes_told}
 use Rattle.std.proofs.Common.{◌≡◌, ◌∙◌, List, rules, inl, inr, sym, ap, subst}
 use Rattle.std.specs.List.{AllByRecursion}
-use Rattle.std.specs.Prelude.{codes}
+use Rattle.std.specs.Prelude.{IfSome, codes}
 use Rattle.vc_files.specs.FileMap.{FileMap, SameOutside}
 use Rattle.vc_object.specs.Object.{IsObject}
 use Rattle.vc_object.specs.declared.id.ObjectId.{ObjectId}
@@ -20,6 +20,12 @@ use Rattle.vc_node.specs.Reads.{IsAtHead, IsOfCommit, IsReachedByOne, NoneRead, 
 use Rattle.vc_node.proofs.CommitReads.{at_head_read, made_read, moving_read, nothing_read, reached_read}
 use Rattle.vc_node.proofs.commit.commit.Goals as goal
 
+pub kept_or_read-requires : goal.kept_or_read-requires
+kept_or_read-requires g c = λ honest.
+    let content = g.F.Files.content in
+    let third : content c.parents_with.new.files ≡ content c.args.files.now = c.in_ok-parents.ensures.same ∙ c.in_ok-refuse_bad_parents.ensures.same ∙ c.in_ok-head.ensures.same in
+    subst (λ (m : FileMap). IfSome c.args.kept (SpellsIndex m)) (sym third) (c.requires honest)
+
 pub returns-clause-committed : goal.returns-clause-committed
 returns-clause-committed g c = λ honest.
     let content = g.F.Files.content in
@@ -27,7 +33,7 @@ returns-clause-committed g c = λ honest.
     let first : content c.free_head.new.files ≡ content c.args.files.now = c.in_ok-head.ensures.same in
     let second : content c.refuse_bad_parents.new.files ≡ content c.args.files.now = c.in_ok-refuse_bad_parents.ensures.same ∙ first in
     let third : content c.parents_with.new.files ≡ content c.args.files.now = c.in_ok-parents.ensures.same ∙ second in
-    let fourth : content c.read_index.new.files ≡ content c.args.files.now = c.in_ok-index.ensures.same ∙ third in
+    let fourth : content c.kept_or_read.new.files ≡ content c.args.files.now = c.in_ok-index.ensures.same ∙ third in
     let parents = c.deref-2.ensures.value ∙ c.in_ok-parents.ensures.parents honest ∙ ap (λ (m : FileMap). parents_of_commit m extra) second in
     record {
       head = c.in_ok-head.head;
@@ -119,7 +125,7 @@ returns-in_err-id-clause-refused g c = λ honest.
     let first : content c.free_head.new.files ≡ content c.args.files.now = c.in_ok-head.ensures.same in
     let second : content c.refuse_bad_parents.new.files ≡ content c.args.files.now = c.in_ok-refuse_bad_parents.ensures.same ∙ first in
     let third : content c.parents_with.new.files ≡ content c.args.files.now = c.in_ok-parents.ensures.same ∙ second in
-    let fourth : content c.read_index.new.files ≡ content c.args.files.now = c.in_ok-index.ensures.same ∙ third in
+    let fourth : content c.kept_or_read.new.files ≡ content c.args.files.now = c.in_ok-index.ensures.same ∙ third in
     let parents = c.deref-2.ensures.value ∙ c.in_ok-parents.ensures.parents honest ∙ ap (λ (m : FileMap). parents_of_commit m extra) second in
     let may : MayCommit (content c.args.files.now) extra w.author.now w.committer.now = record {
       lines = (c.in_ok-refuse_lines.ensures.author, c.in_ok-refuse_lines.ensures.committer);
@@ -139,7 +145,7 @@ returns-in_err-move_head-clause-refused g c = λ honest.
     let w = c.args.words in
     let content = g.F.Files.content in
     let e = c.in_err-move_head.field-0.0 in
-    let fourth : content c.read_index.new.files ≡ content c.args.files.now = c.in_ok-index.ensures.same ∙ c.in_ok-parents.ensures.same ∙ c.in_ok-refuse_bad_parents.ensures.same ∙ c.in_ok-head.ensures.same in
+    let fourth : content c.kept_or_read.new.files ≡ content c.args.files.now = c.in_ok-index.ensures.same ∙ c.in_ok-parents.ensures.same ∙ c.in_ok-refuse_bad_parents.ensures.same ∙ c.in_ok-head.ensures.same in
     let outside = subst (λ (m : FileMap). SameOutside (codes "objects/") m (content c.write_objects-2.new.files)) fourth (c.in_ok-id.ensures.outside honest) in
     let blames : BlamesMaking (content c.args.files.now) c.args.extra.now w.author.now w.committer.now w.message.now e =
     of_look (moving_blamed (content c.args.files.now) (content c.write_objects-2.new.files) outside c.in_ok-head.head (c.in_ok-head.ensures.free honest) e (c.in_err-move_head.ensures.refused honest)) in
@@ -155,7 +161,7 @@ returns-in_err-id-clause-left g c = λ honest.
     let first : content c.free_head.new.files ≡ content c.args.files.now = c.in_ok-head.ensures.same in
     let second : content c.refuse_bad_parents.new.files ≡ content c.args.files.now = c.in_ok-refuse_bad_parents.ensures.same ∙ first in
     let third : content c.parents_with.new.files ≡ content c.args.files.now = c.in_ok-parents.ensures.same ∙ second in
-    let fourth : content c.read_index.new.files ≡ content c.args.files.now = c.in_ok-index.ensures.same ∙ third in
+    let fourth : content c.kept_or_read.new.files ≡ content c.args.files.now = c.in_ok-index.ensures.same ∙ third in
     let parents = c.deref.ensures.value ∙ c.in_ok-parents.ensures.parents honest ∙ ap (λ (m : FileMap). parents_of_commit m extra) second in
     let made = c.in_ok-write_objects.ensures.written in
     let cut : IsCut (content c.args.files.now) extra w.author.now w.committer.now w.message.now (content c.write_objects-2.new.files) = record {
@@ -173,7 +179,7 @@ returns-in_err-id-clause-left g c = λ honest.
       legal = subst (λ (ps : List ObjectId). IsObject kinds.Commit (made_body made.tree ps w.author.now w.committer.now w.message.now)) parents made.legal;
       after = objects (content c.write_objects-2.new.files);
       some = inl (trees_there g.F.Files.honest c.in_ok-index.index _ _ _ honest (ap objects fourth) c.in_err-id.ensures.left);
-      is = stored_shown (content c.args.files.now) (content c.read_index.new.files) (content c.write_objects-2.new.files) fourth (c.in_err-id.ensures.outside honest);
+      is = stored_shown (content c.args.files.now) (content c.kept_or_read.new.files) (content c.write_objects-2.new.files) fourth (c.in_err-id.ensures.outside honest);
     } in
     let left : LeftByCommit (content c.args.files.now) extra w.author.now w.committer.now w.message.now (content c.write_objects-2.new.files) = inr cut in
     left_on _ c.in_err-id.field-0.0 c.from_residual-in_err-id.result c.from_residual-in_err-id.ensures.1 left
@@ -186,7 +192,7 @@ returns-in_err-move_head-clause-left g c = λ honest.
     let first : content c.free_head.new.files ≡ content c.args.files.now = c.in_ok-head.ensures.same in
     let second : content c.refuse_bad_parents.new.files ≡ content c.args.files.now = c.in_ok-refuse_bad_parents.ensures.same ∙ first in
     let third : content c.parents_with.new.files ≡ content c.args.files.now = c.in_ok-parents.ensures.same ∙ second in
-    let fourth : content c.read_index.new.files ≡ content c.args.files.now = c.in_ok-index.ensures.same ∙ third in
+    let fourth : content c.kept_or_read.new.files ≡ content c.args.files.now = c.in_ok-index.ensures.same ∙ third in
     let parents = c.deref-2.ensures.value ∙ c.in_ok-parents.ensures.parents honest ∙ ap (λ (m : FileMap). parents_of_commit m extra) second in
     let made = writes_there g.F.Files.honest c.in_ok-index.index _ (parents_of_commit (content c.args.files.now) extra) w.author.now w.committer.now w.message.now _ (objects (content c.args.files.now)) _ c.in_ok-id.id honest parents (ap objects fourth) c.in_ok-id.ensures.written in
     let cut : IsCut (content c.args.files.now) extra w.author.now w.committer.now w.message.now (content c.move_head.new.files) = record {
@@ -204,7 +210,7 @@ returns-in_err-move_head-clause-left g c = λ honest.
       legal = made.legal;
       after = objects (content c.write_objects-2.new.files);
       some = inr (c.in_ok-id.id, made);
-      is = ap shown (c.in_err-move_head.ensures.err honest) ∙ stored_shown (content c.args.files.now) (content c.read_index.new.files) (content c.write_objects-2.new.files) fourth (c.in_ok-id.ensures.outside honest);
+      is = ap shown (c.in_err-move_head.ensures.err honest) ∙ stored_shown (content c.args.files.now) (content c.kept_or_read.new.files) (content c.write_objects-2.new.files) fourth (c.in_ok-id.ensures.outside honest);
     } in
     let left : LeftByCommit (content c.args.files.now) extra w.author.now w.committer.now w.message.now (content c.move_head.new.files) = inr cut in
     left_on _ c.in_err-move_head.field-0.0 c.from_residual-in_err-move_head.result c.from_residual-in_err-move_head.ensures.1 left
@@ -311,7 +317,7 @@ returns-in_err-move_head-clause-file g c = λ honest.
     let first : content c.free_head.new.files ≡ old = c.in_ok-head.ensures.same in
     let second : content c.refuse_bad_parents.new.files ≡ old = c.in_ok-refuse_bad_parents.ensures.same ∙ first in
     let third : content c.parents_with.new.files ≡ old = c.in_ok-parents.ensures.same ∙ second in
-    let fourth : content c.read_index.new.files ≡ old = c.in_ok-index.ensures.same ∙ third in
+    let fourth : content c.kept_or_read.new.files ≡ old = c.in_ok-index.ensures.same ∙ third in
     let outside = subst (λ (m : FileMap). SameOutside (codes "objects/") m (content c.write_objects-2.new.files)) fourth (c.in_ok-id.ensures.outside honest) in
     told_on (TellsRead (IsOfCommit old extra w.author.now w.committer.now w.message.now) (IsAtHead old)) e c.from_residual-in_err-move_head.result c.from_residual-in_err-move_head.ensures.1
     (at_head_read old extra w.author.now w.committer.now w.message.now e (moving_read old (content c.write_objects-2.new.files) outside c.in_ok-head.head (c.in_ok-head.ensures.found honest) (c.in_ok-head.ensures.free honest) e (c.in_err-move_head.ensures.file honest)))

@@ -48,7 +48,7 @@ pub returns-in-Err-clause-looks : goal.returns-in-Err-clause-looks
 returns-in-Err-clause-looks g c = λ honest. rw (← c.self.view_is) (may_or (Stage c.args.path.now (mode_number c.args.mode) c.args.bytes.now) _ _ (search rules) (λ awaited r p. or_failed (c.in-Err.ensures.looks honest p.map (spells_index _ r p)) (λ may. add_may _ awaited r p c.args.path.now c.args.bytes.now c.args.mode may) c.fail.ensures.files c.fail.ensures.fault))
 
 pub invariant_of-self : goal.invariant_of-self
-invariant_of-self g c = λ honest. StandsIn-kept _ _ c.self.inside.reached (c.in-Ok.ensures.objects honest) (c.self.invariant honest)
+invariant_of-self g c = λ honest. (StandsIn-kept _ _ c.self.inside.reached (c.in-Ok.ensures.objects honest) (c.self.invariant honest).0, tt)
 
 pub invariant_of-self-in-Err : goal.invariant_of-self-in-Err
-invariant_of-self-in-Err g c = λ honest. StandsIn-kept _ _ c.self.inside.reached (c.in-Err.ensures.objects honest) (c.self.invariant honest)
+invariant_of-self-in-Err g c = λ honest. (StandsIn-kept _ _ c.self.inside.reached (c.in-Err.ensures.objects honest) (c.self.invariant honest).0, tt)

@@ -14,6 +14,9 @@ use Rattle.vc_answer.proofs.KeepsLemmas.{StandsIn-kept}
 use Rattle.vc_node.proofs.KeepingLemmas.{keeps_committed, keeps_left}
 use Rattle.vc_node.proofs.node.CloneNode.commit.Goals as goal
 
+pub commit-requires : goal.commit-requires
+commit-requires g c = λ honest. rw c.take-kept.ensures.value (c.self.invariant honest).1
+
 pub returns-then-not-self-clause-bad_file : goal.returns-then-not-self-clause-bad_file
 returns-then-not-self-clause-bad_file g c = λ honest. inr (answers_too _ _ _ _ _ _ (answers_down _ _ _ (search rules)))
 
@@ -55,7 +58,7 @@ pub returns-in-Err-clause-looks : goal.returns-in-Err-clause-looks
 returns-in-Err-clause-looks g c = λ honest. rw (← c.self.view_is) (may_if_sound (MakeCommit (map bytes_of_id c.args.extra_parents.now) c.args.author.now c.args.committer.now c.args.message.now) _ _ (search rules) (λ awaited r p. or_failed (c.in-Err.ensures.looks honest) (λ may. commit_may _ awaited r p c.args.extra_parents.now c.args.author.now c.args.committer.now c.args.message.now may) c.fail.ensures.files c.fail.ensures.fault))
 
 pub invariant_of-self : goal.invariant_of-self
-invariant_of-self g c = λ honest. StandsIn-kept _ _ c.self.inside.reached (keeps_committed _ _ _ _ _ _ c.in-Ok.id (c.in-Ok.ensures.committed honest)) (c.self.invariant honest)
+invariant_of-self g c = λ honest. (StandsIn-kept _ _ c.self.inside.reached (keeps_committed _ _ _ _ _ _ c.in-Ok.id (c.in-Ok.ensures.committed honest)) (c.self.invariant honest).0, rw c.take-kept.ensures.after tt)
 
 pub invariant_of-self-in-Err : goal.invariant_of-self-in-Err
-invariant_of-self-in-Err g c = λ honest. StandsIn-kept _ _ c.self.inside.reached (keeps_left (g.F.Files.content c.self.inside.files) (g.F.Files.content c.commit.new.files) c.args.extra_parents.now c.args.author.now c.args.committer.now c.args.message.now (c.in-Err.ensures.left honest)) (c.self.invariant honest)
+invariant_of-self-in-Err g c = λ honest. (StandsIn-kept _ _ c.self.inside.reached (keeps_left (g.F.Files.content c.self.inside.files) (g.F.Files.content c.commit.new.files) c.args.extra_parents.now c.args.author.now c.args.committer.now c.args.message.now (c.in-Err.ensures.left honest)) (c.self.invariant honest).0, rw c.take-kept.ensures.after tt)

@@ -46,7 +46,7 @@ pub returns-in-Err-clause-looks : goal.returns-in-Err-clause-looks
 returns-in-Err-clause-looks g c = λ honest. rw (← c.self.view_is) (may_or (LoadTree c.args.id.now.0) _ _ (search rules) (λ awaited r p. or_failed (c.in-Err.ensures.looks honest) (λ may. load_may _ awaited r p c.args.id.now may) c.fail.ensures.files c.fail.ensures.fault))
 
 pub invariant_of-self : goal.invariant_of-self
-invariant_of-self g c = λ honest. StandsIn-kept _ _ c.self.inside.reached (keeps_shown _ _ _ (c.in-Ok.ensures.loaded honest).is refl) (c.self.invariant honest)
+invariant_of-self g c = λ honest. (StandsIn-kept _ _ c.self.inside.reached (keeps_shown _ _ _ (c.in-Ok.ensures.loaded honest).is refl) (c.self.invariant honest).0, tt)
 
 pub invariant_of-self-in-Err : goal.invariant_of-self-in-Err
-invariant_of-self-in-Err g c = λ honest. StandsIn-kept _ _ c.self.inside.reached (keeps_same _ _ (c.in-Err.ensures.err honest)) (c.self.invariant honest)
+invariant_of-self-in-Err g c = λ honest. (StandsIn-kept _ _ c.self.inside.reached (keeps_same _ _ (c.in-Err.ensures.err honest)) (c.self.invariant honest).0, tt)

@@ -6,4 +6,4 @@ pub returns-in-Ok-clause-opens : goal.returns-in-Ok-clause-opens
 returns-in-Ok-clause-opens g c = λ honest r can. made_ready _ _ r (c.in-Ok.ensures.ready honest) (c.in-Ok.ensures.clean honest) can
 
 pub invariant_of-result : goal.invariant_of-result
-invariant_of-result g c = λ honest. Stands-none _ c.new.result.roots.items c.new.result.names.keys c.new.ensures.roots c.new.ensures.names
+invariant_of-result g c = λ honest. (Stands-none _ c.new.result.roots.items c.new.result.names.keys c.new.ensures.roots c.new.ensures.names, c.in-Ok.ensures.spelled honest)

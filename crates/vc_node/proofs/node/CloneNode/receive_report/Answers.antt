@@ -58,4 +58,4 @@ returns-clause-looks g c = λ honest.
     c.settle.ensures.received c.settle.ensures.files c.settle.ensures.awaits (Receive m) c.if-not-self.false (c.take_report-received.ensures.looks honest m reads))
 
 pub invariant_of-self : goal.invariant_of-self
-invariant_of-self g c = λ honest. StandsIn-kept _ _ c.self.inside.reached (c.take_report-received.ensures.objects honest) (c.self.invariant honest)
+invariant_of-self g c = λ honest. (StandsIn-kept _ _ c.self.inside.reached (c.take_report-received.ensures.objects honest) (c.self.invariant honest).0, tt)

@@ -39,7 +39,7 @@ returns-in-Err-clause-wear g c =
     rw (← c.self.view_is) (no_value_wears c.in-Err.fault c.fail_exchange.result c.resolve.result (c.fail_exchange.ensures.fault ∙ c.from-fault.ensures) c.in-Err.is c.fail_exchange.ensures.files c.resolve.ensures.wear)
 
 pub invariant_of-self : goal.invariant_of-self
-invariant_of-self g c = λ honest. rw c.resolve.ensures.same (c.self.invariant honest)
+invariant_of-self g c = λ honest. (rw c.resolve.ensures.same (c.self.invariant honest).0, tt)
 
 pub invariant_of-self-in-Err : goal.invariant_of-self-in-Err
-invariant_of-self-in-Err g c = λ honest. rw c.resolve.ensures.same (c.self.invariant honest)
+invariant_of-self-in-Err g c = λ honest. (rw c.resolve.ensures.same (c.self.invariant honest).0, tt)

@@ -42,7 +42,7 @@ returns-in-Err-clause-looks g c = λ honest. rw (← c.self.view_is) (λ awaited
     or_failed (c.in-Err.ensures.looks honest holds.shows.spells.map (spells_index _ n.repository holds.shows.spells)) (λ may. staging_may _ c.args.files.now _ (search rules) awaited n files holds are may) c.fail.ensures.files c.fail.ensures.fault)
 
 pub invariant_of-self : goal.invariant_of-self
-invariant_of-self g c = λ honest. StandsIn-kept _ _ c.self.inside.reached (c.in-Ok.ensures.objects honest) (c.self.invariant honest)
+invariant_of-self g c = λ honest. (StandsIn-kept _ _ c.self.inside.reached (c.in-Ok.ensures.objects honest) (c.self.invariant honest).0, tt)
 
 pub invariant_of-self-in-Err : goal.invariant_of-self-in-Err
-invariant_of-self-in-Err g c = λ honest. StandsIn-kept _ _ c.self.inside.reached (c.in-Err.ensures.objects honest) (c.self.invariant honest)
+invariant_of-self-in-Err g c = λ honest. (StandsIn-kept _ _ c.self.inside.reached (c.in-Err.ensures.objects honest) (c.self.invariant honest).0, tt)

@@ -39,7 +39,7 @@ pub returns-in-Err-clause-looks : goal.returns-in-Err-clause-looks
 returns-in-Err-clause-looks g c = λ honest. rw (← c.self.view_is) (may_or (Unstage c.args.path.now) _ _ (search rules) (λ awaited r p. inl (unstage_may c.args.path.now awaited r)))
 
 pub invariant_of-self : goal.invariant_of-self
-invariant_of-self g c = λ honest. StandsIn-kept _ _ c.self.inside.reached (c.in-Ok.ensures.objects honest) (c.self.invariant honest)
+invariant_of-self g c = λ honest. (StandsIn-kept _ _ c.self.inside.reached (c.in-Ok.ensures.objects honest) (c.self.invariant honest).0, tt)
 
 pub invariant_of-self-in-Err : goal.invariant_of-self-in-Err
-invariant_of-self-in-Err g c = λ honest. StandsIn-kept _ _ c.self.inside.reached (keeps_same _ _ (c.in-Err.ensures.err honest)) (c.self.invariant honest)
+invariant_of-self-in-Err g c = λ honest. (StandsIn-kept _ _ c.self.inside.reached (keeps_same _ _ (c.in-Err.ensures.err honest)) (c.self.invariant honest).0, tt)
