@@ -1,6 +1,6 @@
 pub mod PathSetLemmas
 pub mod StatusLemmas
-pub mod WayLemmas
+pub mod HindranceLemmas
 pub mod ClearLemmas
 pub mod ApplyLemmas
 pub mod BlobLemmas

@@ -8,8 +8,8 @@ ghost use Rattle.vc_checkout.specs.Refusal.{HasLocalChange, IsClear, IsDue, IsHi
 ghost use Rattle.vc_checkout.specs.WorkTree.{HasTextPaths, IsUntracked, has_path};
 
 use crate::compare::file_name;
+use crate::hindrance::is_hindered;
 use crate::paths::{all_paths, untracked_paths};
-use crate::way::is_hindered;
 use crate::{CheckoutFault, WorkTree};
 use std::alloc::Global;
 use std::collections::BTreeSet;

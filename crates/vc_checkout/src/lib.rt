@@ -7,9 +7,9 @@ mod change;
 mod clear;
 mod compare;
 mod faults;
+mod hindrance;
 mod memory;
 mod paths;
-mod way;
 mod work;
 
 pub use apply::checkout;

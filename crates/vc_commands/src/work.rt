@@ -36,12 +36,12 @@ where
     R: rt::Files + Syncs<R::File> + AllocGlobal + Clone + Drop,
 {
     let own = own_folder(rt, store, work)?;
-    let mut ground = open_work(rt, store, work, own.as_str())?;
+    let mut folder = open_work(rt, store, work, own.as_str())?;
     let mut node = open_clone(rt, store)?;
     add_all(
         rt.alloc(),
         &mut node,
-        &mut ground,
+        &mut folder,
         own.as_str().as_bytes(),
         mode,
         paths,
@@ -55,12 +55,12 @@ where
     R: rt::Files + Syncs<R::File> + AllocGlobal + Clone + Drop,
 {
     let own = own_folder(rt, store, work)?;
-    let mut ground = open_work(rt, store, work, own.as_str())?;
+    let mut folder = open_work(rt, store, work, own.as_str())?;
     let mut files = open_store(rt, store)?;
     check_out(
         rt.alloc(),
         &mut files,
-        &mut ground,
+        &mut folder,
         own.as_str().as_bytes(),
         revision,
     )
@@ -73,12 +73,12 @@ where
     O: Write,
 {
     let own = own_folder(rt, store, work)?;
-    let mut ground = open_work(rt, store, work, own.as_str())?;
+    let mut folder = open_work(rt, store, work, own.as_str())?;
     let mut files = open_store(rt, store)?;
     print_status(
         rt.alloc(),
         &mut files,
-        &mut ground,
+        &mut folder,
         own.as_str().as_bytes(),
         output,
     )

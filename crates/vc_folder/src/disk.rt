@@ -18,22 +18,22 @@ const MOST_OF_A_FILE: u64 = 4_294_967_296;
 
 // When a file is made durable.
 #[derive(Clone, Copy, PartialEq, Eq)]
-enum Care {
+enum Durable {
     // Before the call returns, and all that was written before it first.
     Now,
-    // With the next file that is written with care, or at a sync. Until then it waits under its lock name.
+    // With the next file that is made durable at once, or at a sync. Until then it waits under its lock name.
     Later,
     // Never: what a stop leaves of it is removed unread.
     Never,
 }
 
-fn care_of(path: &str) -> Care {
+fn when_durable(path: &str) -> Durable {
     if path.starts_with("objects/") {
-        Care::Later
+        Durable::Later
     } else if path.starts_with("quarantine/") {
-        Care::Never
+        Durable::Never
     } else {
-        Care::Now
+        Durable::Now
     }
 }
 
@@ -142,12 +142,12 @@ impl<R: rt::Files + Syncs<R::File> + AllocGlobal + Clone + Drop> Disk<R> {
     pub fn put(&mut self, alloc: Global, path: &str, bytes: &[u8]) -> io::Result<()> {
         // Nothing but a file is replaced.
         self.look(alloc, path)?;
-        match care_of(path) {
-            Care::Now => self.put_now(alloc, path, bytes),
-            Care::Later => self.put_later(alloc, path, bytes),
-            Care::Never => {
-                self.write_lock(alloc, path, bytes, Care::Never)?;
-                self.bring(alloc, path)
+        match when_durable(path) {
+            Durable::Now => self.put_now(alloc, path, bytes),
+            Durable::Later => self.put_later(alloc, path, bytes),
+            Durable::Never => {
+                self.write_lock(alloc, path, bytes, Durable::Never)?;
+                self.put_in_place(alloc, path)
             }
         }
     }
@@ -155,8 +155,8 @@ impl<R: rt::Files + Syncs<R::File> + AllocGlobal + Clone + Drop> Disk<R> {
     // All that was put before, then the content, then the name.
     fn put_now(&mut self, alloc: Global, path: &str, bytes: &[u8]) -> io::Result<()> {
         self.sync(alloc)?;
-        self.write_lock(alloc, path, bytes, Care::Now)?;
-        self.bring(alloc, path)?;
+        self.write_lock(alloc, path, bytes, Durable::Now)?;
+        self.put_in_place(alloc, path)?;
         self.note_folder(alloc, path)?;
         self.sync_folders(alloc)
     }
@@ -167,7 +167,7 @@ impl<R: rt::Files + Syncs<R::File> + AllocGlobal + Clone + Drop> Disk<R> {
             self.sync(alloc)?;
         }
         let key = String::from_str(alloc, path)?;
-        let file = self.write_lock(alloc, path, bytes, Care::Later)?;
+        let file = self.write_lock(alloc, path, bytes, Durable::Later)?;
         if let Err(e) = self.waiting.insert(key) {
             let lock = self.root.lock(alloc, path)?;
             self.root.remove(lock.as_str())?;
@@ -183,15 +183,15 @@ impl<R: rt::Files + Syncs<R::File> + AllocGlobal + Clone + Drop> Disk<R> {
         alloc: Global,
         path: &str,
         bytes: &[u8],
-        care: Care,
+        when: Durable,
     ) -> io::Result<R::File> {
         let lock = self.root.lock(alloc, path)?;
         let (mut file, has_new_folders) = self.root.create(lock.as_str())?;
         let mut written = file.write_all(bytes);
-        if written.is_ok() && care == Care::Now {
+        if written.is_ok() && when == Durable::Now {
             written = file.sync_all();
         }
-        if written.is_ok() && has_new_folders && care != Care::Never {
+        if written.is_ok() && has_new_folders && when != Durable::Never {
             written = self.note_folders_above(alloc, path);
         }
         match written {
@@ -205,7 +205,7 @@ impl<R: rt::Files + Syncs<R::File> + AllocGlobal + Clone + Drop> Disk<R> {
     }
 
     // Renames a lock file into its place, or removes it.
-    fn bring(&mut self, alloc: Global, path: &str) -> io::Result<()> {
+    fn put_in_place(&mut self, alloc: Global, path: &str) -> io::Result<()> {
         let renamed = self.rename(alloc, path);
         if renamed.is_err() {
             let lock = self.root.lock(alloc, path)?;
@@ -226,10 +226,10 @@ impl<R: rt::Files + Syncs<R::File> + AllocGlobal + Clone + Drop> Disk<R> {
     }
 
     pub fn remove(&mut self, alloc: Global, path: &str) -> io::Result<()> {
-        let care = care_of(path);
+        let when = when_durable(path);
         // Nothing but a file is removed.
         self.look(alloc, path)?;
-        if care == Care::Now {
+        if when == Durable::Now {
             self.sync(alloc)?;
         }
         let place = self.root.place(alloc, path)?;
@@ -243,7 +243,7 @@ impl<R: rt::Files + Syncs<R::File> + AllocGlobal + Clone + Drop> Disk<R> {
             return Ok(());
         }
         let folder = left_over::remove_empty(&self.root, &self.waiting, alloc, path)?;
-        if care == Care::Now {
+        if when == Durable::Now {
             self.folders.insert(folder)?;
             self.sync_folders(alloc)?;
         }
@@ -269,7 +269,7 @@ impl<R: rt::Files + Syncs<R::File> + AllocGlobal + Clone + Drop> Disk<R> {
     pub fn sync(&mut self, alloc: Global) -> io::Result<()> {
         self.sync_contents(alloc)?;
         self.note_waiting_folders(alloc)?;
-        self.bring_all(alloc)?;
+        self.put_all_in_place(alloc)?;
         self.waiting.clear();
         self.sync_folders(alloc)
     }
@@ -298,15 +298,15 @@ impl<R: rt::Files + Syncs<R::File> + AllocGlobal + Clone + Drop> Disk<R> {
         Ok(())
     }
 
-    fn bring_all(&self, alloc: Global) -> io::Result<()> {
+    fn put_all_in_place(&self, alloc: Global) -> io::Result<()> {
         for path in &self.waiting {
-            self.bring_waiting(alloc, path.as_str())?;
+            self.put_waiting_in_place(alloc, path.as_str())?;
         }
         Ok(())
     }
 
     // Where the lock file is gone, another process has brought the same file into place.
-    fn bring_waiting(&self, alloc: Global, path: &str) -> io::Result<()> {
+    fn put_waiting_in_place(&self, alloc: Global, path: &str) -> io::Result<()> {
         match self.rename(alloc, path) {
             Err(e) if is_absence(&e) => {
                 let place = self.root.place(alloc, path)?;

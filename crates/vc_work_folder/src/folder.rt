@@ -2,7 +2,7 @@
 ghost use Rattle.std.specs.Prelude.{◌≡◌, ◌≤◌, IsErrOf};
 ghost use Rattle.vc_files.specs.Failures.{HasFailed};
 
-use crate::ground::Ground;
+use crate::disk::Disk;
 use crate::listed::Listed;
 use std::alloc::Global;
 use std::io::{self, ErrorKind};
@@ -31,7 +31,7 @@ use vc_files::Fault;
 /// stood there was removed, and a write that fails may leave none, or a part. Nothing is made durable.
 #[derive(Drop)]
 pub struct FolderTree<R: rt::Files + AllocGlobal + Clone + Drop> {
-    ground: Ground<R>,
+    disk: Disk<R>,
     failed: u64,
 }
 
@@ -51,7 +51,7 @@ impl<R: rt::Files + AllocGlobal + Clone + Drop> FolderTree<R> {
     {
         let listed = Listed::new(rt.alloc(), Vec::new(rt.alloc()));
         FolderTree {
-            ground: Ground {
+            disk: Disk {
                 rt,
                 path,
                 own,
@@ -101,32 +101,32 @@ impl<R: rt::Files + AllocGlobal + Clone + Drop> WorkTree for FolderTree<R> {
     ghost can_fail = { λ _. ⊤ };
 
     fn read(&mut self, alloc: Global, path: &str) -> Result<Option<Vec<u8>>, Fault> {
-        let done = self.ground.read(alloc, path);
+        let done = self.disk.read(alloc, path);
         self.settle(done)
     }
 
     fn write(&mut self, alloc: Global, path: &str, bytes: &[u8]) -> Result<(), Fault> {
-        let done = self.ground.write(alloc, path, bytes);
+        let done = self.disk.write(alloc, path, bytes);
         self.settle(done)
     }
 
     fn remove(&mut self, alloc: Global, path: &str) -> Result<(), Fault> {
-        let done = self.ground.remove(alloc, path);
+        let done = self.disk.remove(alloc, path);
         self.settle(done)
     }
 
     fn make_folder(&mut self, alloc: Global, path: &str) -> Result<(), Fault> {
-        let done = self.ground.make_folder(alloc, path);
+        let done = self.disk.make_folder(alloc, path);
         self.settle(done)
     }
 
     fn remove_folder(&mut self, alloc: Global, path: &str) -> Result<bool, Fault> {
-        let done = self.ground.remove_folder(alloc, path);
+        let done = self.disk.remove_folder(alloc, path);
         self.settle(done)
     }
 
     fn list(&mut self, alloc: Global) -> Result<Vec<String>, Fault> {
-        let done = self.ground.list(alloc);
+        let done = self.disk.list(alloc);
         self.settle(done)
     }
 

@@ -1,8 +1,8 @@
 //! The work tree in a real folder. Nothing is claimed of a disk: that it is a map of paths to bytes is tested.
 #![tactic(auto)]
 
+mod disk;
 mod folder;
-mod ground;
 mod listed;
 mod own;
 

@@ -12,6 +12,7 @@ pub(crate) struct Mark {
     number: u64,
     seconds: i64,
     nanos: i64,
+    is_file: bool,
 }
 
 impl Mark {
@@ -21,7 +22,13 @@ impl Mark {
             number: found.ino(),
             seconds: found.ctime(),
             nanos: found.ctime_nsec(),
+            is_file: found.file_type().is_file(),
         }
+    }
+
+    /// Whether it is that of a regular file.
+    pub fn is_file(self) -> bool {
+        self.is_file
     }
 
     /// Whether this was found: the same file, and nothing changed in it. A file system that has no numbers tells nothing.
@@ -36,7 +43,7 @@ pub(crate) struct Listed {
     // The next one stands last.
     left: Vec<(String, Mark)>,
     /// A path of which each folder above was one when it was looked at behind the listing, or none yet.
-    pub way: String,
+    pub checked: String,
 }
 
 impl Listed {
@@ -45,14 +52,14 @@ impl Listed {
         found.reverse();
         Listed {
             left: found,
-            way: String::new(alloc),
+            checked: String::new(alloc),
         }
     }
 
     /// Keeps a path of which each folder above was looked at.
-    pub fn set_way(&mut self, path: &str) -> Result<(), AllocError> {
-        self.way.clear();
-        self.way.push_str(path)
+    pub fn set_checked(&mut self, path: &str) -> Result<(), AllocError> {
+        self.checked.clear();
+        self.checked.push_str(path)
     }
 
     /// The mark of the file with this path, or none where it wasn't listed or is passed. All that stand before it are passed then.

@@ -3,8 +3,8 @@ use Rattle.std.specs.Prelude.{option_map}
 use Rattle.std.specs.FinMap.{get}
 use Rattle.vc_object.specs.declared.mode.Mode.TheVariants as modes
 use Rattle.vc_checkout.specs.WorkTree.{has_path, blob_name}
-use Rattle.vc_checkout.proofs.WayLemmas.{hindered_there, hindered_at, not_wanted_of, wanted_of}
-use Rattle.vc_checkout.proofs.way.is_hindered.Goals as goal
+use Rattle.vc_checkout.proofs.HindranceLemmas.{hindered_there, hindered_at, not_wanted_of, wanted_of}
+use Rattle.vc_checkout.proofs.hindrance.is_hindered.Goals as goal
 
 pub returns-then-eq-clause-hindered : goal.returns-then-eq-clause-hindered
 returns-then-eq-clause-hindered g c = λ honest. hindered_there c.args.others.now (g.T.WorkTree.content c.args.work.now) c.args.path.now c.args.entry (search rules) (search rules)

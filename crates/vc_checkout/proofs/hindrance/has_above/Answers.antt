@@ -1,8 +1,8 @@
 use Rattle.std.proofs.Common.{rules, take, length, below_more, sym, ap, ◌∙◌}
 use Rattle.vc_index.proofs.ConflictLemmas.{above_cut, cut_above}
 use Rattle.vc_checkout.specs.WorkTree.{has_path}
-use Rattle.vc_checkout.proofs.way.has_above.Goals.{else-byte-eq47-via-then-byte-eq47+else-contains, else-byte-eq47-via-else-byte-eq47}
-use Rattle.vc_checkout.proofs.way.has_above.Goals as goal
+use Rattle.vc_checkout.proofs.hindrance.has_above.Goals.{else-byte-eq47-via-then-byte-eq47+else-contains, else-byte-eq47-via-else-byte-eq47}
+use Rattle.vc_checkout.proofs.hindrance.has_above.Goals as goal
 
 pub returns-then-contains : goal.returns-then-contains
 returns-then-contains c =

@@ -1,6 +1,6 @@
 use Rattle.std.proofs.Common.{rules, ◌≡◌, ◌∷◌, ◌++◌, []}
-use Rattle.vc_checkout.proofs.WayLemmas.{first_below, none_below}
-use Rattle.vc_checkout.proofs.way.has_below.Goals as goal
+use Rattle.vc_checkout.proofs.HindranceLemmas.{first_below, none_below}
+use Rattle.vc_checkout.proofs.hindrance.has_below.Goals as goal
 
 pub returns-in-Some : goal.returns-in-Some
 returns-in-Some c =

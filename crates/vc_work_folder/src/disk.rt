@@ -2,7 +2,7 @@
 use crate::listed::{Listed, Mark};
 use crate::own::is_own;
 use std::alloc::Global;
-use std::fs::{self, File, FileType, Metadata};
+use std::fs::{self, File, FileType, Metadata, OpenFile};
 use std::io::{self, ErrorKind, Read, Write};
 use std::rt;
 
@@ -12,7 +12,7 @@ const DRAFT: &str = "checkout.lock";
 
 /// A folder, and what its files are reached by.
 #[derive(Drop)]
-pub(crate) struct Ground<R> {
+pub(crate) struct Disk<R> {
     pub rt: R,
     pub path: String,
     /// The path of the store's folder in this one, where it lies in it; else empty.
@@ -23,7 +23,7 @@ pub(crate) struct Ground<R> {
     pub listed: Listed,
 }
 
-impl<R: rt::Files + AllocGlobal + Clone + Drop> Ground<R> {
+impl<R: rt::Files + AllocGlobal + Clone + Drop> Disk<R> {
     // Where a path lies.
     fn place(&self, alloc: Global, path: &str) -> io::Result<String> {
         joined(alloc, self.path.as_str(), "/", path)
@@ -84,10 +84,10 @@ impl<R: rt::Files + AllocGlobal + Clone + Drop> Ground<R> {
     // tree. As long as the mark is the same this is that file, whatever came in a folder's place since.
     fn find(&mut self, alloc: Global, path: &str, place: &str) -> io::Result<Option<Metadata>> {
         if let Some(mark) = self.listed.mark_of(path) {
-            if !self.is_open(alloc, path, self.listed.way.as_str())? {
+            if !self.is_open(alloc, path, self.listed.checked.as_str())? {
                 return Ok(None);
             }
-            self.listed.set_way(path)?;
+            self.listed.set_checked(path)?;
             match self.look(place) {
                 Ok(Some(found)) if mark.is_of(&found) => return Ok(Some(found)),
                 // Something changed since the listing, and what came may be a link.
@@ -103,6 +103,9 @@ impl<R: rt::Files + AllocGlobal + Clone + Drop> Ground<R> {
     /// The bytes of a file or the text of a link, or none where neither stands.
     pub fn read(&mut self, alloc: Global, path: &str) -> io::Result<Option<Vec<u8>>> {
         let place = self.place(alloc, path)?;
+        if let Some(bytes) = self.read_listed(alloc, path, place.as_str())? {
+            return Ok(Some(bytes));
+        }
         let Some(found) = self.find(alloc, path, place.as_str())? else {
             return Ok(None);
         };
@@ -114,32 +117,36 @@ impl<R: rt::Files + AllocGlobal + Clone + Drop> Ground<R> {
         if !kind.is_file() {
             return Ok(None);
         }
-        self.read_whole(alloc, place.as_str(), found.len())
-            .map(Some)
+        let file = File::open(&self.rt, place.as_str())?;
+        read_whole(alloc, file, found.len()).map(Some)
     }
 
-    // The bytes of a regular file that had this size a moment ago.
+    // The bytes of a regular file that the last listing found, or none where that isn't what stands there: then it is looked for by
+    // [`find`](Disk::find), which tells what went wrong, too.
     //
-    // A read that brings fewer bytes than there was room for has not always met the end: the system brings 2 GiB at most, and a
-    // signal or a bad disk may cut a read short. But where it brings the size that was told, and the room for one byte more stays
-    // empty, these are all bytes that the file had then, whatever somebody appends now. After any other count (the file grew, it
-    // shrank, or its size was never told) reads go on until one brings none.
-    fn read_whole(&self, alloc: Global, place: &str, size: u64) -> io::Result<Vec<u8>> {
-        let size = usize::try_from(size).unwrap_or(0);
-        let mut file = File::open(&self.rt, place)?;
-        let mut bytes = vec![in alloc; 0; size.saturating_add(1)]?;
-        match file.read(bytes.as_mut_slice()) {
-            Ok(count) => {
-                bytes.truncate(count);
-                if count == size {
-                    return Ok(bytes);
-                }
-            }
-            Err(e) if e.kind() == ErrorKind::Interrupted => bytes.clear(),
-            Err(e) => return Err(e),
+    // It is opened without a look, which for many small files would take a fifth of the time, and known by its mark behind that. So
+    // a link that came in its place is followed, to be closed again unread.
+    fn read_listed(
+        &mut self,
+        alloc: Global,
+        path: &str,
+        place: &str,
+    ) -> io::Result<Option<Vec<u8>>> {
+        let Some(mark) = self.listed.mark_of(path) else {
+            return Ok(None);
+        };
+        if !mark.is_file() || !self.is_open(alloc, path, self.listed.checked.as_str())? {
+            return Ok(None);
         }
-        file.read_to_end(&mut bytes)?;
-        Ok(bytes)
+        let Ok(file) = File::open(&self.rt, place) else {
+            return Ok(None);
+        };
+        let found = file.metadata()?;
+        if !mark.is_of(&found) {
+            return Ok(None);
+        }
+        self.listed.set_checked(path)?;
+        read_whole(alloc, file, found.len()).map(Some)
     }
 
     /// Writes a file in place of a file, a link, or a folder in which no file is. It is whole before it has its place.
@@ -148,7 +155,7 @@ impl<R: rt::Files + AllocGlobal + Clone + Drop> Ground<R> {
         let draft = self.draft(alloc)?;
         let mut done = self.write_draft(draft.as_str(), bytes);
         if done.is_ok() {
-            done = self.bring(alloc, draft.as_str(), path);
+            done = self.put_in_place(alloc, draft.as_str(), path);
         }
         let Err(e) = done else {
             return Ok(());
@@ -174,7 +181,7 @@ impl<R: rt::Files + AllocGlobal + Clone + Drop> Ground<R> {
     }
 
     // Gives the draft its place. A folder in which no file is gives way.
-    fn bring(&self, alloc: Global, draft: &str, path: &str) -> io::Result<()> {
+    fn put_in_place(&self, alloc: Global, draft: &str, path: &str) -> io::Result<()> {
         let place = self.place(alloc, path)?;
         match fs::rename(&self.rt, draft, place.as_str()) {
             Err(e) if e.kind() == ErrorKind::IsADirectory => {}
@@ -331,6 +338,29 @@ impl<R: rt::Files + AllocGlobal + Clone + Drop> Ground<R> {
         }
         Ok(())
     }
+}
+
+// The bytes of an open regular file that had this size a moment ago.
+//
+// A read that brings fewer bytes than there was room for has not always met the end: the system brings 2 GiB at most, and a
+// signal or a bad disk may cut a read short. But where it brings the size that was told, and the room for one byte more stays
+// empty, these are all bytes that the file had then, whatever somebody appends now. After any other count (the file grew, it
+// shrank, or its size was never told) reads go on until one brings none.
+fn read_whole<T: Read + Drop>(alloc: Global, mut file: T, size: u64) -> io::Result<Vec<u8>> {
+    let size = usize::try_from(size).unwrap_or(0);
+    let mut bytes = vec![in alloc; 0; size.saturating_add(1)]?;
+    match file.read(bytes.as_mut_slice()) {
+        Ok(count) => {
+            bytes.truncate(count);
+            if count == size {
+                return Ok(bytes);
+            }
+        }
+        Err(e) if e.kind() == ErrorKind::Interrupted => bytes.clear(),
+        Err(e) => return Err(e),
+    }
+    file.read_to_end(&mut bytes)?;
+    Ok(bytes)
 }
 
 // Three texts in a row. A path is made for each call, so it is made with one piece of memory.

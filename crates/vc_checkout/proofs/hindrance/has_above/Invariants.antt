@@ -1,6 +1,6 @@
 use Rattle.std.proofs.Common.{◌≡◌, ℕ, ◌<◌, get_or, take, false}
 use Rattle.vc_checkout.specs.WorkTree.{has_path}
-use Rattle.vc_checkout.proofs.way.has_above.Given as goal
+use Rattle.vc_checkout.proofs.hindrance.has_above.Given as goal
 
 -- no folder so far is one of the paths
 abbrev pub invariant-loop-i : goal.invariant-loop-i
