@@ -1,5 +1,5 @@
 // A clone.
-ghost use Rattle.std.specs.Prelude.{◌≡◌, ◌≢◌, ◌⊎◌, ℕ, List, [], Ok, Err, OnOk, OnErr, IfOk, IfErr, IsErrOf, is_ok, true, false, not, nat_eq, map, codes};
+ghost use Rattle.std.specs.Prelude.{◌≡◌, ◌≢◌, ◌⊎◌, ◌++◌, ℕ, List, [], Some, Ok, Err, OnOk, OnErr, IfNone, IfOk, IfErr, IsErrOf, is_ok, true, false, not, nat_eq, map, codes};
 ghost use Rattle.std.specs.List.{All, starts_with};
 ghost use Rattle.vc_format.specs.Git.{bytes_of_id};
 ghost use Rattle.vc_model.specs.Clone.Task.{Write, Stage, Unstage, LoadTree, MakeCommit, SetBranch, DeleteBranch, MoveHead};
@@ -27,6 +27,10 @@ ghost use Rattle.vc_node.specs.Awaited.{nothing};
 ghost use Rattle.vc_node.specs.CloneCalls.{AnswersClone, FoundAs, MayOr, ReceivedAs, RestartedAs, SentAs};
 ghost use Rattle.vc_node.specs.CloneFaults.{TellsDevice as CloneTellsDevice, is_fault as is_clone_fault, of_device, up_after as clone_up_after};
 ghost use Rattle.vc_node.specs.Receipts.{IsOfMessage, IsRefusedBytes, IsRefusedMessage, IsRefusedStart, IsRefusedValue};
+ghost use Rattle.vc_node.specs.Arriving.{IsKnown, KeepsHeld, ReceivesFrom, ToldAs};
+ghost use Rattle.vc_node.specs.ReceiveFault.{TellsDevice as ReceiveTellsDevice, is_fault as is_receive_fault, up_after as receive_up_after};
+ghost use Rattle.vc_session.specs.Quarantine.{IsDropped};
+ghost use Rattle.vc_node.specs.Emptying.{AreEmpty, IsOpened, LosesCarried};
 ghost use Rattle.vc_node.specs.Blames.{BlamesLoad, BlamesOpen, BlamesPacking, BlamesWrite, IsLocalHead};
 ghost use Rattle.vc_files.specs.FileMap.{SameOutside};
 ghost use Rattle.vc_index.specs.IndexMap.{IndexMap};
@@ -42,18 +46,23 @@ ghost use Rattle.vc_node.specs.Reads.{IsAtHead, IsAtName, IsBelow, IsItsFile, Is
 ghost use Rattle.vc_node.specs.Shown.{IsLoaded, IsReady, shown};
 ghost use Rattle.vc_node.specs.Staging.{BlamesStaging, StagesAllOr, StagesHeld, StagesShown, placed};
 
+use crate::arriving::refuse_down;
 use crate::awaited::Awaited;
 use crate::commit::Words;
 use crate::index_file::read_index;
+use crate::opening::open_files;
 use crate::staging::Staged;
-use crate::{CloneFault, NodeFault, Received, commit, exchanging, local, staging};
+use crate::{
+    CloneFault, NodeFault, ReceiveFault, Received, arriving, commit, exchanging, local, staging,
+};
 use std::alloc::Global;
+use std::io::Read;
 use std::marker::Model;
 use vc_answer::Reached;
 use vc_exchange::{PushItem, list_message, push_message};
 use vc_files::{Fault, Files, FusedFiles};
 use vc_index::Index;
-use vc_message::Message;
+use vc_message::{Message, skip_message};
 use vc_object::{Kind, Mode, ObjectId};
 use vc_push::Report;
 use vc_refname::RefName;
@@ -93,28 +102,28 @@ impl<F: Files> Model for CloneNode<F> {
 }
 
 impl<F: Files> CloneNode<F> {
-    /// The clone that the files hold, with nothing awaited. In a new one HEAD names the branch `main`, and the index has
-    /// no files. Where the files are none of a clone's (33 and 34: HEAD, 62: the index), or a fault comes, they are handed
-    /// back.
+    /// The clone that the files hold, with nothing awaited and nothing in quarantine. In a new one HEAD names the branch `main`, and
+    /// the index has no files. Where the files are none of a clone's (33 and 34: HEAD, 62: the index), or a fault comes, they are
+    /// handed back, and what stood in quarantine may be gone.
     pub fn open(alloc: Global, mut files: F) -> Result<CloneNode<F>, (F, NodeFault)>
-        ensures ready { F.honest → IfOk result (λ node. IsReady (F.content files) (F.content node.files)) }
+        ensures opened { F.honest → IfOk result (λ node. IsOpened (F.content files) (F.content node.files)) }
         ensures up { IfOk result (λ node. node.is_up ≡ true) }
         ensures awaits { IfOk result (λ node. node.awaited ≡ nothing) }
         ensures opens { F.honest → (r : Repository) → IsOpenable (F.content files) r → IfOk result (λ node. HoldsNode (F.content node.files) true Nothing (opened_node r)) }
         ensures refused { F.honest → IfErr result (λ e. BlamesOpen (F.content files) e.1) }
-        ensures err { F.honest → IfErr result (λ e. F.content e.0 ≡ F.content files) }
+        ensures err { F.honest → IfErr result (λ e. LosesCarried (F.content files) (F.content e.0)) }
         ensures clean { F.honest → IfOk result (λ node. KeepsClean (F.content files) (F.content node.files)) }
         ensures wear { IfOk result (λ node. Writes F.honest F.content F.failed F.can_fail F.left files node.files ⊥) }
         ensures wear_err { IfErr result (λ e. Writes F.honest F.content F.failed F.can_fail F.left files e.0 (IsOfDevice e.1)) }
     {
-        match ready_index(alloc, &mut files) {
-            Ok(index) => Ok(CloneNode {
+        match open_files(alloc, &mut files) {
+            Ok(()) => Ok(CloneNode {
                 files,
                 alloc,
                 awaited: Awaited::Nothing,
                 is_up: true,
                 reached: Reached::new(alloc),
-                index: Some(index),
+                index: None,
             }),
             Err(fault) => Err((files, fault)),
         }
@@ -142,29 +151,24 @@ impl<F: Files> CloneNode<F> {
         self.is_up
     }
 
-    /// Opens the files again, in place: the node is up then, whatever it was before, and nothing is awaited. Where that fails (see
-    /// [`open`](CloneNode::open)) it is down, and the files are as they were.
+    /// Opens the files again, in place: the node is up then, whatever it was before, nothing is awaited, and nothing is in quarantine.
+    /// Where that fails (see [`open`](CloneNode::open)) it is down, and the files are as they were but for the quarantine.
     pub fn restart(&mut self) -> Result<(), NodeFault>
         ensures answers { F.honest → AnswersClone Open (RestartedAs result) (F.content self.old.files) (F.content self.new.files) self.old.awaited self.new.awaited self.old.is_up self.new.is_up }
         ensures refused { F.honest → IfErr result (BlamesOpen (F.content self.old.files)) }
-        ensures err { F.honest → OnErr result (F.content self.new.files ≡ F.content self.old.files) }
+        ensures err { F.honest → OnErr result (LosesCarried (F.content self.old.files) (F.content self.new.files)) }
+        ensures empty { F.honest → OnOk result (AreEmpty (F.content self.new.files)) }
         ensures up { self.new.is_up ≡ is_ok result }
         ensures awaits { self.new.awaited ≡ nothing }
         ensures clean { F.honest → KeepsClean (F.content self.old.files) (F.content self.new.files) }
         ensures wear { Writes F.honest F.content F.failed F.can_fail F.left self.old.files self.new.files (TellsDevice result) }
     {
+        let made = open_files(self.alloc, &mut self.files);
         self.awaited = Awaited::Nothing;
         self.reached = Reached::new(self.alloc);
         self.index = None;
-        self.is_up = false;
-        match ready_index(self.alloc, &mut self.files) {
-            Ok(index) => {
-                self.index = Some(index);
-                self.is_up = true;
-                Ok(())
-            }
-            Err(fault) => Err(fault),
-        }
+        self.is_up = made.is_ok();
+        made
     }
 
     /// Takes the node down, as a fault of its own does: for whoever runs out of memory between two of its calls.
@@ -549,6 +553,63 @@ impl<F: Files> CloneNode<F> {
         self.index = None;
         let received = exchanging::receive(self.alloc, &mut self.files, &mut self.awaited, bytes);
         self.settle(received)
+    }
+
+    // The fault, after which the node is down if it is no refusal.
+    fn fail_next(&mut self, fault: ReceiveFault) -> ReceiveFault
+        ensures fault { result ≡ fault }
+        ensures files { self.new.files ≡ self.old.files }
+        ensures awaits { self.new.awaited ≡ self.old.awaited }
+        ensures up { self.old.is_up ≡ true → self.new.is_up ≡ not (is_receive_fault fault) }
+    {
+        self.is_up &= !fault.is_fault();
+        fault
+    }
+
+    // What came of the reader, after which the node is down if it is a fault.
+    fn settle_next(
+        &mut self,
+        received: Result<Option<Received>, ReceiveFault>,
+    ) -> Result<Option<Received>, ReceiveFault>
+        ensures received { result ≡ received }
+        ensures files { self.new.files ≡ self.old.files }
+        ensures awaits { self.new.awaited ≡ self.old.awaited }
+        ensures up { self.old.is_up ≡ true → self.new.is_up ≡ receive_up_after result }
+    {
+        match received {
+            Ok(found) => Ok(found),
+            Err(fault) => Err(self.fail_next(fault)),
+        }
+    }
+
+    /// Takes the next message from a reader, and no byte behind it, as [`receive`](CloneNode::receive) takes its bytes; none where the
+    /// reader is at its end before the first byte. The objects of a pack that is awaited go into the quarantine as they come, and are
+    /// judged there, so that one line and one body are held at a time.
+    ///
+    /// A message that isn't awaited (91, and 112 where the node is down) is read to its end. Bytes that are no message are refused with
+    /// their first fault (80 to 84, or 3) as soon as it has come, and a reader that fails with 115. In none of these is anything changed,
+    /// nor is it where not all is there that was asked for (92): what was put into the quarantine is gone again. Want of memory takes the
+    /// node down, as a device that fails does.
+    pub fn receive_from<R: Read>(
+        &mut self,
+        reader: &mut R,
+    ) -> Result<Option<Received>, ReceiveFault>
+        ensures receives { ReceivesFrom F.honest (R.remaining reader.old) (R.remaining reader.new) (F.content self.old.files) (F.content self.new.files) self.old.awaited self.new.awaited self.old.is_up self.new.is_up result }
+        ensures known { (m : Sent) (bytes rest : List ℕ) → R.remaining reader.old ≡ Some (bytes ++ rest) → Reads bytes m → IsKnown F.honest self.old.is_up m rest (R.remaining reader.new) (λ call. AnswersClone call (ToldAs result) (F.content self.old.files) (F.content self.new.files) self.old.awaited self.new.awaited self.old.is_up self.new.is_up) result }
+        ensures none { IfOk result (λ found. IfNone found (self.new ≡ self.old)) }
+        ensures lost { F.honest → IfErr result (λ e. e ≡ ReceiveFault.ReadFailed → KeepsHeld (F.content self.old.files) (F.content self.new.files) self.old.awaited self.new.awaited self.old.is_up self.new.is_up) }
+        ensures cleared { F.honest → self.new.is_up ≡ true → IsDropped 0 (F.content self.old.files) → IsDropped 0 (F.content self.new.files) }
+        ensures awaits { OnErr result (self.new.awaited ≡ self.old.awaited) }
+        ensures down { self.old.is_up ≡ false → self.new ≡ self.old }
+        ensures up { self.old.is_up ≡ true → self.new.is_up ≡ receive_up_after result }
+        ensures clean { F.honest → KeepsClean (F.content self.old.files) (F.content self.new.files) }
+        ensures wear { Writes F.honest F.content F.failed F.can_fail F.left self.old.files self.new.files (ReceiveTellsDevice result) }
+    {
+        if !self.is_up {
+            return refuse_down(skip_message(self.alloc, reader));
+        }
+        let received = arriving::take_next(self.alloc, &mut self.files, &mut self.awaited, reader);
+        self.settle_next(received)
     }
 
     /// The same of a message that was read already.
