@@ -2,6 +2,7 @@
 ghost use Rattle.std.specs.List.{starts_with};
 ghost use Rattle.std.specs.Prelude.{◌≡◌, ◌≢◌, [], IfOk, IfSome, true, nat_eq, codes};
 
+use crate::arriving;
 use crate::site::{Device, Site};
 use crate::words::{push_bytes, push_done, push_found, push_restarted, taken};
 use bstr::ByteVec;
@@ -19,8 +20,8 @@ pub type CloneSite = Site<CloneNode<Device>>;
 // The author and the committer of each commit.
 const SIGNATURE: &[u8] = b"a <a> 0 +0000";
 
-// Tells the bytes that are to be sent, and keeps them.
-fn push_sent(
+/// Tells the bytes that are to be sent, and keeps them.
+pub fn push_sent(
     out: &mut String,
     sent: &mut Vec<Vec<u8>>,
     started: Result<Vec<u8>, CloneFault>,
@@ -36,8 +37,8 @@ fn push_sent(
     }
 }
 
-// Tells what came of a message, and keeps what is to be sent.
-fn push_received(
+/// Tells what came of a message, and keeps what is to be sent.
+pub fn push_received(
     out: &mut String,
     sent: &mut Vec<Vec<u8>>,
     received: Result<Received, CloneFault>,
@@ -171,6 +172,8 @@ fn call(
             let bytes = taken(alloc, sent, text)?;
             push_received(out, sent, node.receive(&bytes))
         }
+        "from" => arriving::take_from(out, alloc, sent, node, text),
+        "next" => arriving::take_first(out, alloc, sent, node, text),
         "resolve" => resolve(out, alloc, node, text),
         "restart" => push_restarted(out, &node.restart(), node.is_up()),
         "pack" => push_done(out, &node.pack_refs()),
@@ -196,6 +199,7 @@ pub fn row(
         "file" => site.file(out, rest),
         "text" => site.text(out, rest),
         "count" => site.count(out, rest),
+        "recorded" => arriving::recorded_fetch(out, alloc, rest),
         _ => match &mut site.node {
             Some(node) => call(out, alloc, node, sent, verb, rest),
             None => out.push_str("closed"),

@@ -1,7 +1,7 @@
 //! Rows about a whole exchange of a clone with the shared node.
 
 use crate::clones::{CloneSite, items_of};
-use crate::reading::Reading;
+use crate::reading::{Coming, Reading};
 use crate::shared::SharedSite;
 use crate::words::push_bytes;
 use std::alloc::{AllocError, Global};
@@ -77,10 +77,11 @@ pub fn fetch(
     push_fetched(out, exchange_fetch(shared, clone))
 }
 
-/// A whole fetch, of which the clone gets the answers read already.
-pub fn fetch_read(
+/// A whole fetch, of which the clone gets no answer as bytes.
+pub fn fetch_coming(
     out: &mut String,
     alloc: Global,
+    coming: Coming,
     shared: &mut SharedSite,
     clone: &mut CloneSite,
 ) -> Result<(), AllocError> {
@@ -92,11 +93,13 @@ pub fn fetch_read(
     };
     let mut reading = Reading {
         alloc,
+        coming,
         shared: node,
     };
     let fetched = exchange_fetch(&mut reading, clone);
     let Reading {
         alloc: _,
+        coming: _,
         shared: node,
     } = reading;
     shared.node = Some(node);
@@ -135,10 +138,11 @@ pub fn push(
     push_pushed(out, exchange_push(alloc, shared, clone, &items))
 }
 
-/// A whole push of the items, of which the clone gets the answer read already.
-pub fn push_read(
+/// A whole push of the items, of which the clone doesn't get the answer as bytes.
+pub fn push_coming(
     out: &mut String,
     alloc: Global,
+    coming: Coming,
     shared: &mut SharedSite,
     clone: &mut CloneSite,
     text: &str,
@@ -155,11 +159,13 @@ pub fn push_read(
     };
     let mut reading = Reading {
         alloc,
+        coming,
         shared: node,
     };
     let pushed = exchange_push(alloc, &mut reading, clone, &items);
     let Reading {
         alloc: _,
+        coming: _,
         shared: node,
     } = reading;
     shared.node = Some(node);

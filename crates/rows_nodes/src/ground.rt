@@ -1,6 +1,7 @@
 //! The shared node and two clones, and what they sent.
 
 use crate::clones::{self, CloneSite};
+use crate::reading::Coming;
 use crate::shared::{self, SharedSite};
 use crate::site::Site;
 use crate::words::taken;
@@ -61,6 +62,7 @@ impl Ground {
                 shared::accept(out, &mut self.shared, &mut self.sent, &bytes)
             }
             "from" => arriving::from(out, self.alloc, &mut self.shared, &mut self.sent, text),
+            "next" => arriving::next(out, self.alloc, &mut self.shared, &mut self.sent, text),
             "recorded" => arriving::recorded(out, self.alloc, text),
             "serve" => {
                 let bytes = Vec::unescape_bytes(self.alloc, text)?;
@@ -85,12 +87,19 @@ impl Ground {
         }
     }
 
-    // The same, where the answers come read.
-    fn fetch_read(&mut self, out: &mut String, name: &str) -> Result<(), AllocError> {
+    // The same, where no answer comes as bytes.
+    fn fetch_coming(
+        &mut self,
+        out: &mut String,
+        coming: Coming,
+        name: &str,
+    ) -> Result<(), AllocError> {
         let alloc = self.alloc;
         match name {
-            "c1" => exchanges::fetch_read(out, alloc, &mut self.shared, &mut self.second),
-            _ => exchanges::fetch_read(out, alloc, &mut self.shared, &mut self.first),
+            "c1" => {
+                exchanges::fetch_coming(out, alloc, coming, &mut self.shared, &mut self.second)
+            }
+            _ => exchanges::fetch_coming(out, alloc, coming, &mut self.shared, &mut self.first),
         }
     }
 
@@ -104,14 +113,46 @@ impl Ground {
         }
     }
 
-    // The same, where the answer comes read.
-    fn push_read(&mut self, out: &mut String, text: &str) -> Result<(), AllocError> {
+    // The same, where the answer doesn't come as bytes.
+    fn push_coming(
+        &mut self,
+        out: &mut String,
+        coming: Coming,
+        text: &str,
+    ) -> Result<(), AllocError> {
         let alloc = self.alloc;
         let (name, items) = text.split_once(' ').unwrap_or((text, ""));
         match name {
-            "c1" => exchanges::push_read(out, alloc, &mut self.shared, &mut self.second, items),
-            _ => exchanges::push_read(out, alloc, &mut self.shared, &mut self.first, items),
+            "c1" => {
+                exchanges::push_coming(
+                    out,
+                    alloc,
+                    coming,
+                    &mut self.shared,
+                    &mut self.second,
+                    items,
+                )
+            }
+            _ => exchanges::push_coming(
+                out,
+                alloc,
+                coming,
+                &mut self.shared,
+                &mut self.first,
+                items,
+            ),
         }
+    }
+
+    // Whether both clones, which are closed for it, hold the same files: how many, and how many of them in a quarantine.
+    fn alike(&mut self, out: &mut String) -> Result<(), AllocError> {
+        if !self.first.is_like(&mut self.second) {
+            return out.push_str("not alike");
+        }
+        self.first.count(out, "")?;
+        out.push_str(" files, ")?;
+        self.first.count(out, "quarantine/")?;
+        out.push_str(" in quarantine")
     }
 
     /// What a node answers to a row.
@@ -121,12 +162,22 @@ impl Ground {
             "world" => self.world(out),
             "fetch" => self.fetch(out, text),
             "push" => self.push(out, text),
-            "fetch-read" => self.fetch_read(out, text),
-            "push-read" => self.push_read(out, text),
+            "fetch-read" => self.fetch_coming(out, Coming::Read, text),
+            "push-read" => self.push_coming(out, Coming::Read, text),
+            "fetch-from" => self.fetch_coming(out, Coming::Unread, text),
+            "push-from" => self.push_coming(out, Coming::Unread, text),
+            "alike" => self.alike(out),
             "c0" => clones::row(out, self.alloc, &mut self.first, &mut self.sent, text),
             "c1" => clones::row(out, self.alloc, &mut self.second, &mut self.sent, text),
             _ => self.shared_row(out, verb, text),
         }
+    }
+
+    /// Whether each node holds the same files as in the other. The nodes are closed for it.
+    pub fn is_like(&mut self, other: &mut Ground) -> bool {
+        self.shared.is_like(&mut other.shared)
+            && self.first.is_like(&mut other.first)
+            && self.second.is_like(&mut other.second)
     }
 
     /// Whether at each node all is there that its refs reach. The nodes are closed for it.

@@ -1,5 +1,6 @@
 //! Reads rows, one a line, about the shared node and two clones, and prints each with what the node answers. A row about a clone
 //! begins with its name, `c0` or `c1`. The verb `take` brings a node a message that any node sent, by its number, or the last one.
+//! The row `alike` tells whether both clones hold the same files, for which it closes them.
 //!
 //! A row that is misspelled ends nothing: it gets an answer that nobody expects.
 #![tactic(auto)]

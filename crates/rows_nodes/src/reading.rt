@@ -1,8 +1,9 @@
-//! A shared node whose answers come read, as from a connection.
+//! A shared node whose answers come as from a connection.
 ghost use Rattle.vc_shared.specs.Faults.{fault_answer};
 
 use crate::site::Device;
 use std::alloc::Global;
+use std::io::Cursor;
 use vc_files::Fault;
 use vc_message::Message;
 use vc_node::NodeFault;
@@ -11,15 +12,27 @@ use vc_shared::{Shared, SharedFault};
 use vc_store::StoreFault;
 use vc_world::{Peer, Reply};
 
-/// The shared node of the rows, whose answers are read before the clone has them.
+/// How answers come to a clone that asks.
+#[derive(Clone, Copy)]
+pub enum Coming {
+    /// Read already.
+    Read,
+    /// Still to be read.
+    Unread,
+}
+
+/// The shared node of the rows, whose answers don't come as bytes.
 #[derive(Drop)]
 pub struct Reading {
     pub alloc: Global,
+    pub coming: Coming,
     pub shared: Shared<Device>,
 }
 
 impl Peer for Reading {
     type Refusal = SharedFault;
+
+    type Answer = Cursor<Vec<u8>>;
 
     // It stands for the other end of a connection, of which nothing is claimed.
     ghost honest = { ⊥ };
@@ -28,8 +41,11 @@ impl Peer for Reading {
 
     ghost told = { fault_answer };
 
-    fn ask(&mut self, bytes: &[u8]) -> Result<Reply, SharedFault> {
+    fn ask(&mut self, bytes: &[u8]) -> Result<Reply<Cursor<Vec<u8>>>, SharedFault> {
         let answered = answer(&mut self.shared, bytes)?;
+        if let Coming::Unread = self.coming {
+            return Ok(Reply::Reader(Cursor::new(answered)));
+        }
         match Message::read(self.alloc, &answered) {
             Ok(message) => Ok(Reply::Message(message)),
             // A node's answer is a message, so it was memory.

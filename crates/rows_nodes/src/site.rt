@@ -5,7 +5,7 @@ use bstr::ByteVec;
 use std::alloc::{AllocError, Global};
 use std::fmt::Write;
 use std::mem;
-use vc_files::{FailOnce, Files, FusedFiles, MemoryFiles};
+use vc_files::{FailOnce, Fault, Files, FusedFiles, MemoryFiles};
 use vc_graph::first_incomplete;
 use vc_node::{CloneNode, NodeFault};
 use vc_object::ObjectId;
@@ -156,6 +156,32 @@ impl<N: Opened> Site<N> {
             Ok(Some(bytes)) => push_bytes(out, &bytes),
             Ok(None) => out.push_str("no file"),
             Err(fault) => write!(out, "{fault}"),
+        }
+    }
+
+    // All files below the node, which is closed for it, on a line each: the path, and the bytes by escapes.
+    fn spelled(&mut self) -> Result<String, Fault> {
+        self.close();
+        let mut text = String::new(self.alloc);
+        for path in &self.files.list(self.alloc, "")? {
+            text.push_str(path.as_str())?;
+            text.push(' ')?;
+            if let Some(bytes) = self.files.get(self.alloc, path.as_str())? {
+                push_bytes(&mut text, &bytes)?;
+            }
+            text.push('\n')?;
+        }
+        Ok(text)
+    }
+
+    /// Whether both nodes, which are closed for it, hold the same files.
+    pub fn is_like(&mut self, other: &mut Self) -> bool {
+        let Ok(files) = self.spelled() else {
+            return false;
+        };
+        match other.spelled() {
+            Ok(others) => files.as_str() == others.as_str(),
+            Err(_) => false,
         }
     }
 

@@ -1,7 +1,9 @@
-//! One exchange of two clones, tried with a stop after each number of writes, with each call of a device failing alone, and with
-//! its messages cut and changed.
+//! One exchange of two clones, tried with a stop after each number of writes, with each call of a device failing alone, with its
+//! messages cut and changed, and with readers that bring them.
 
 use crate::ground::Ground;
+use crate::words::push_bytes;
+use bstr::ByteVec;
 use std::alloc::{AllocError, Global};
 use std::fmt::Write;
 
@@ -145,8 +147,8 @@ fn faults(out: &mut String, alloc: Global, node: &str) -> Result<(), AllocError>
 #[derive(Drop)]
 struct Coming {
     ground: Ground,
-    // The words that bring the node the last message.
-    taker: &'static str,
+    // What begins a row about the node.
+    node: &'static str,
     bytes: Vec<u8>,
 }
 
@@ -157,19 +159,19 @@ enum Answered {
     Broken,
 }
 
-// The words that begin a row that brings a message.
-fn taker_of(row: &str) -> &'static str {
+// What begins a row about the node that this row is about.
+fn node_of(row: &str) -> &'static str {
     if row.starts_with("c0 ") {
-        return "c0 take";
+        return "c0 ";
     }
     if row.starts_with("c1 ") {
-        return "c1 take";
+        return "c1 ";
     }
-    "take"
+    ""
 }
 
-// Runs the exchange up to the row that brings the message of this number: the words that bring the node the last message, and the
-// message.
+// Runs the exchange up to the row that brings the message of this number: what begins a row about the node that it comes to, and
+// the message.
 fn run_up_to(
     alloc: Global,
     ground: &mut Ground,
@@ -181,7 +183,7 @@ fn run_up_to(
     for row in &EXCHANGE {
         if row.ends_with(taking.as_str()) {
             return match ground.sent.get(number) {
-                Some(bytes) => Ok(Some((taker_of(row), bytes.to_vec(alloc)?))),
+                Some(bytes) => Ok(Some((node_of(row), bytes.to_vec(alloc)?))),
                 None => Ok(None),
             };
         }
@@ -194,21 +196,28 @@ fn run_up_to(
 fn up_to(alloc: Global, number: usize) -> Result<Option<Coming>, AllocError> {
     let mut ground = Ground::empty(alloc);
     match run_up_to(alloc, &mut ground, number)? {
-        Some((taker, bytes)) => Ok(Some(Coming {
+        Some((node, bytes)) => Ok(Some(Coming {
             ground,
-            taker,
+            node,
             bytes,
         })),
         None => Ok(None),
     }
 }
 
+// What the node answers to a verb, and to what stands behind it.
+fn asked(alloc: Global, coming: &mut Coming, text: &str) -> Result<String, AllocError> {
+    let mut row = String::from_str(alloc, coming.node)?;
+    row.push_str(text)?;
+    let mut answer = String::new(alloc);
+    coming.ground.row(&mut answer, row.as_str())?;
+    Ok(answer)
+}
+
 // What the node answers to these bytes.
 fn brought(alloc: Global, coming: &mut Coming, bytes: Vec<u8>) -> Result<String, AllocError> {
     coming.ground.sent.push(bytes)?;
-    let mut answer = String::new(alloc);
-    coming.ground.row(&mut answer, coming.taker)?;
-    Ok(answer)
+    asked(alloc, coming, "take")
 }
 
 // What the node answers to the message itself.
@@ -332,6 +341,150 @@ fn damaged(out: &mut String, alloc: Global, verb: &str, text: &str) -> Result<()
     }
 }
 
+// What the node answers where a reader gives so many bytes of the message, behind which it `fail`s or is at its `end`.
+fn answer_to_broken(
+    alloc: Global,
+    at: &mut Coming,
+    way: &str,
+    length: usize,
+) -> Result<String, AllocError> {
+    let mut text = String::new(alloc);
+    write!(text, "from {way} {length} ")?;
+    push_bytes(&mut text, &at.bytes)?;
+    asked(alloc, at, text.as_str())
+}
+
+// What is to be answered there.
+fn told_of_broken(way: &str, length: usize) -> &'static str {
+    match way {
+        "fail" => "115 ReadFailed",
+        _ if length == 0 => "none",
+        _ => "83 CutMessage",
+    }
+}
+
+// Tries that at a node to which nothing came before. What it answers, where that is something else or a file is not as it was.
+fn try_broken(
+    alloc: Global,
+    number: usize,
+    way: &str,
+    length: usize,
+    before: &mut Ground,
+) -> Result<Option<String>, AllocError> {
+    let Some(mut at) = up_to(alloc, number)? else {
+        return Ok(Some(String::from_str(alloc, "no such message")?));
+    };
+    let mut answer = answer_to_broken(alloc, &mut at, way, length)?;
+    if answer.as_str() == told_of_broken(way, length) {
+        if at.ground.is_like(before) {
+            return Ok(None);
+        }
+        answer.push_str(", and files changed")?;
+    }
+    Ok(Some(answer))
+}
+
+// Whether the message, of which every proper beginning came from such a reader, is taken from one that gives it whole, as it is
+// where it comes at once and nothing came before it.
+fn is_taken_after(
+    alloc: Global,
+    at: &mut Coming,
+    way: &str,
+    number: usize,
+) -> Result<bool, AllocError> {
+    for length in 0..at.bytes.len() {
+        answer_to_broken(alloc, at, way, length)?;
+    }
+    let mut text = String::from_str(alloc, "next whole ")?;
+    push_bytes(&mut text, &at.bytes)?;
+    let answer = asked(alloc, at, text.as_str())?;
+    let Some(mut whole) = up_to(alloc, number)? else {
+        return Ok(false);
+    };
+    let mut expected = answer_to_whole(alloc, &mut whole)?;
+    expected.push_str(" | ")?;
+    Ok(answer.as_str() == expected.as_str() && at.ground.is_like(&mut whole.ground))
+}
+
+// Brings a node each proper beginning of a message of the exchange by a reader that fails behind it, or ends. How many left the
+// files as they were, if all did and the message was taken after them.
+fn try_beginnings(
+    out: &mut String,
+    alloc: Global,
+    at: &mut Coming,
+    way: &str,
+    number: usize,
+) -> Result<(), AllocError> {
+    let Some(mut before) = up_to(alloc, number)? else {
+        return out.push_str("no such message");
+    };
+    let count = before.bytes.len();
+    for length in 0..count {
+        if let Some(answer) = try_broken(alloc, number, way, length, &mut before.ground)? {
+            return write!(out, "{} after {length} bytes", answer.as_str());
+        }
+    }
+    if !is_taken_after(alloc, at, way, number)? {
+        return out.push_str("not as before");
+    }
+    write!(out, "{count} beginnings left nothing")
+}
+
+// How many bytes a reader has taken of so many, where the words spell the rest.
+fn taken_of(alloc: Global, count: usize, words: &str) -> Result<usize, AllocError> {
+    let rest = Vec::unescape_bytes(alloc, words)?;
+    Ok(count.saturating_sub(rest.len()))
+}
+
+// Whether what a reader brings, of which one byte is changed at this place, is answered as it is where it comes at once, with the same
+// files. Where it ends sooner than the message did, so much of it comes at once.
+fn is_read_alike(alloc: Global, number: usize, place: usize) -> Result<bool, AllocError> {
+    let Some(mut at) = up_to(alloc, number)? else {
+        return Ok(false);
+    };
+    let Some(mut whole) = up_to(alloc, number)? else {
+        return Ok(false);
+    };
+    let mut bytes = changed(alloc, &at.bytes, place)?;
+    let mut text = String::from_str(alloc, "next drip ")?;
+    push_bytes(&mut text, &bytes)?;
+    let answer = asked(alloc, &mut at, text.as_str())?;
+    let (answer, rest) = answer.as_str().split_once(" | ").unwrap_or(("", ""));
+    // Of bytes that are no message the first fault is told, whatever is behind it.
+    if !answer.starts_with('8') && !answer.starts_with("3 ") {
+        bytes.truncate(taken_of(alloc, bytes.len(), rest)?);
+    }
+    let expected = brought(alloc, &mut whole, bytes)?;
+    Ok(answer == expected.as_str() && at.ground.is_like(&mut whole.ground))
+}
+
+// A reader brings a node a message of the exchange with one byte changed, for each byte. How many there are, if each is answered as
+// one that comes at once.
+fn try_readings(
+    out: &mut String,
+    alloc: Global,
+    number: usize,
+    count: usize,
+) -> Result<(), AllocError> {
+    for place in 0..count {
+        if !is_read_alike(alloc, number, place)? {
+            return write!(out, "not alike with byte {place} changed");
+        }
+    }
+    write!(out, "{count} changes read alike")
+}
+
+// What a node makes of a message of the exchange that a reader brings.
+fn read(out: &mut String, alloc: Global, verb: &str, text: &str) -> Result<(), AllocError> {
+    let number = text.parse::<usize>().unwrap_or(1000);
+    match up_to(alloc, number)? {
+        Some(mut at) if verb == "fails" => try_beginnings(out, alloc, &mut at, "fail", number),
+        Some(mut at) if verb == "ends" => try_beginnings(out, alloc, &mut at, "end", number),
+        Some(at) => try_readings(out, alloc, number, at.bytes.len()),
+        None => out.push_str("no such message"),
+    }
+}
+
 /// A row about the exchange.
 pub fn row(out: &mut String, alloc: Global, text: &str) -> Result<(), AllocError> {
     let (verb, rest) = text.split_once(' ').unwrap_or((text, ""));
@@ -339,6 +492,7 @@ pub fn row(out: &mut String, alloc: Global, text: &str) -> Result<(), AllocError
         "stops" => stops(out, alloc, rest),
         "faults" => faults(out, alloc, rest),
         "cuts" | "changes" => damaged(out, alloc, verb, rest),
+        "fails" | "ends" | "reads" => read(out, alloc, verb, rest),
         _ => out.push_str("no such trial"),
     }
 }

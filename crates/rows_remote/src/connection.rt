@@ -5,10 +5,10 @@ use std::io::{self, BufReader, ErrorKind, Read, Write};
 use std::mem;
 use std::net::{Net, OpenListener, OpenStream};
 use vc_files::MemoryFiles;
-use vc_message::{IncomingFault, read_message};
-use vc_remote::{answer_message, bind, make_shared};
+use vc_message::read_message;
+use vc_remote::{answer_from, bind, make_shared};
 use vc_server::tell;
-use vc_shared::SharedFault;
+use vc_shared::AcceptFault;
 
 /// A shared node, and a connection to it.
 #[derive(Drop)]
@@ -62,7 +62,7 @@ impl<R: Net + AllocGlobal> Connection<R> {
     /// these are the bytes.
     pub fn exchange(&mut self, alloc: Global, bytes: &[u8]) -> io::Result<Vec<u8>> {
         self.client.get_mut().write_all(bytes)?;
-        let answered = self.answer(alloc)?;
+        let answered = self.answer(alloc);
         if tell(alloc, self.server.get_mut(), &answered).is_err() {
             return Err(broken());
         }
@@ -77,15 +77,10 @@ impl<R: Net + AllocGlobal> Connection<R> {
     }
 
     // What the node answers to the next message that comes.
-    fn answer(&mut self, alloc: Global) -> io::Result<Result<Vec<u8>, SharedFault>> {
-        let message = match read_message(alloc, &mut self.server) {
-            Ok(Some(message)) => message,
-            Err(IncomingFault::Unread(fault)) => return Ok(Err(SharedFault::Unread(fault))),
-            _ => return Err(broken()),
-        };
+    fn answer(&mut self, alloc: Global) -> Result<Option<Vec<u8>>, AcceptFault> {
         let files = mem::replace(&mut self.files, MemoryFiles::new(alloc));
-        let (files, answered) = answer_message(alloc, files, message);
+        let (files, answered) = answer_from(alloc, files, &mut self.server);
         self.files = files;
-        Ok(answered)
+        answered
     }
 }

@@ -20,8 +20,9 @@ use vc_graph::{Objects, Overlay, first_incomplete, is_complete_beyond};
 use vc_object::ObjectId;
 use vc_store::{Store, StoreFault};
 
-// The known names and what the wants reach beyond them, where all of it is there; or the first want of which that isn't so.
-fn names_reached<O: Objects>(
+/// The known names and what the wants reach beyond them, where all of it is there; or the first want of which that isn't so, and
+/// that whatever is known. Each object that is met is read once, and what the wants reach once more where one is told.
+pub fn names_reached<O: Objects>(
     alloc: Global,
     objects: &mut O,
     known: IndexSet<ObjectId>,

@@ -10,7 +10,8 @@ use Rattle.vc_model.specs.Clone.Task.{SetBranch}
 use Rattle.vc_model.specs.Node.{Answer}
 use Rattle.vc_node.specs.Commit.{IsCommitted}
 use Rattle.vc_node.specs.Machine.{AnswersIfSound, AnswersShownIfSound, OrBadFile, done_answer, made_answer, up_after}
-use Rattle.vc_node.specs.Shown.{IsReady, shown}
+use Rattle.vc_node.specs.Emptying.{IsOpened}
+use Rattle.vc_node.specs.Shown.{shown}
 use Rattle.vc_node.specs.declared.fault.NodeFault.{NodeFault}
 use Rattle.vc_object.specs.declared.id.ObjectId.{ObjectId}
 use Rattle.vc_refname.specs.RefName.{IsRefName}
@@ -38,12 +39,12 @@ module _ {T : Type 0} (told : Result T NodeFault → Answer) (task : Task) (r s 
 
 -- such an answer is a step
 pub step_of : (task : Task) (r s : Result (Unit {0}) NodeFault) (was is : Bool) (old between new closed : FileMap)
-    → IsReady old between → was ≡ true → is ≡ up_after r → r ≡ s → new ≡ closed
+    → IsOpened old between → was ≡ true → is ≡ up_after r → r ≡ s → new ≡ closed
     → AnswersBy task (done_answer r) was is between new → OrBadFile between r (AnswersShownBy task (done_answer r) was is (shown between) (shown new)) → OnErr r (LeavesAt task between new)
     → StepsTo task s old closed
-step_of task r s was is old between new closed ready up after same end answers bad left = record {
+step_of task r s was is old between new closed opened up after same end answers bad left = record {
   between = between;
-  ready = ready;
+  opened = opened;
   answers = answers_of done_answer task r s was is between new closed up after same end answers;
   bad_file = bad_file_of done_answer task r s was is between new closed up after same end bad;
   left = left_of done_answer task r s was is between new closed up after same end left;
@@ -51,12 +52,12 @@ step_of task r s was is old between new closed ready up after same end answers b
 
 -- a refused commit is one
 pub refused_of : (task : Task) (r : Result ObjectId NodeFault) (fault : NodeFault) (was is : Bool) (old between new closed : FileMap)
-    → IsReady old between → was ≡ true → is ≡ up_after r → r ≡ Err fault → new ≡ closed
+    → IsOpened old between → was ≡ true → is ≡ up_after r → r ≡ Err fault → new ≡ closed
     → AnswersBy task (made_answer r) was is between new → OrBadFile between r (AnswersShownBy task (made_answer r) was is (shown between) (shown new)) → OnErr r (LeavesAt task between new)
     → StepsTo task (Err fault) old closed
-refused_of task r fault was is old between new closed ready up after same end answers bad left = record {
+refused_of task r fault was is old between new closed opened up after same end answers bad left = record {
   between = between;
-  ready = ready;
+  opened = opened;
   answers = answers_of made_answer task r (Err fault) was is between new closed up after same end answers;
   bad_file = bad_file_of made_answer task r (Err fault) was is between new closed up after same end bad;
   left = left_of made_answer task r (Err fault) was is between new closed up after same end left;
@@ -69,14 +70,14 @@ none_told content x (inr p) = p
 
 -- a commit that a node answered
 pub made_of : (extra : List ObjectId) (author committer message : List ℕ) (r : Result ObjectId NodeFault) (id : ObjectId) (was is : Bool) (old between new closed : FileMap)
-    → IsReady old between → was ≡ true → is ≡ up_after r → r ≡ Ok id → new ≡ closed
+    → IsOpened old between → was ≡ true → is ≡ up_after r → r ≡ Ok id → new ≡ closed
     → AnswersIfSound (committing extra author committer message) (made_answer r) was is between new
     → OrBadFile between r (AnswersShownIfSound (committing extra author committer message) (made_answer r) was is (shown between) (shown new))
     → IsCommitted between extra author committer message id new
     → MakesCommit old extra author committer message id closed
-made_of extra author committer message r id was is old between new closed ready up after same end answers bad committed = record {
+made_of extra author committer message r id was is old between new closed opened up after same end answers bad committed = record {
   between = between;
-  ready = ready;
+  opened = opened;
   committed = subst (λ m. IsCommitted between extra author committer message id m) end committed;
   answers = answers_of made_answer (committing extra author committer message) r (Ok id) was is between new closed up after same end answers;
   answers_shown = none_told between id (bad_file_of made_answer (committing extra author committer message) r (Ok id) was is between new closed up after same end bad);

@@ -12,7 +12,8 @@ use Rattle.vc_node.specs.Commit.{IsCommitted}
 use Rattle.vc_model.specs.Node.{Answer}
 use Rattle.vc_node.specs.Machine.{Answers, AnswersIfSound, AnswersShown, AnswersShownIfSound, OrBadFile, done_answer, made_answer, up_after}
 use Rattle.vc_node.specs.NodeFault.{of_index}
-use Rattle.vc_node.specs.Shown.{IsReady, Shown, shown}
+use Rattle.vc_node.specs.Emptying.{IsOpened, LosesCarried}
+use Rattle.vc_node.specs.Shown.{Shown, shown}
 use Rattle.vc_node.specs.declared.fault.NodeFault.{NodeFault}
 use Rattle.vc_object.specs.declared.id.ObjectId.{ObjectId}
 use Rattle.vc_refname.specs.RefName.{IsRefName}
@@ -50,14 +51,14 @@ AnswersShownBy task = AnswersShown task
 -- by what they show, or a bad one is told
 pub record StepsTo (task : Task) (answer : Result (Unit {0}) NodeFault) (old new : FileMap) : Type 0 where
   pub between : FileMap
-  pub ready : IsReady old between
+  pub opened : IsOpened old between
   pub answers : AnswersBy task (done_answer answer) true (up_after answer) between new
   pub bad_file : OrBadFile between answer (AnswersShownBy task (done_answer answer) true (up_after answer) (shown between) (shown new))
   pub left : OnErr answer (LeavesAt task between new)
 
--- why a command gives no answer: the files are no clone's, and stay; or the machine answers so
+-- why a command gives no answer: the files are no clone's, and stay but for what stood in quarantine; or the machine answers so
 abbrev pub IsOfStep : Task → FileMap → FileMap → Failure → Type 0
-IsOfStep task old new (Node fault) = (BlamesOpen old fault × (new ≡ old)) ⊎ StepsTo task (Err fault) old new
+IsOfStep task old new (Node fault) = (BlamesOpen old fault × LosesCarried old new) ⊎ StepsTo task (Err fault) old new
 IsOfStep task old new _ = ⊥
 
 -- the branch of that name is set to what the revision has
@@ -105,7 +106,7 @@ committing extra author committer message = MakeCommit (map (λ (id : ObjectId).
 -- clone was sound, and its answer is the commit's id
 pub record MakesCommit (old : FileMap) (extra : List ObjectId) (author committer message : List ℕ) (id : ObjectId) (new : FileMap) : Type 0 where
   pub between : FileMap
-  pub ready : IsReady old between
+  pub opened : IsOpened old between
   pub committed : IsCommitted between extra author committer message id new
   pub answers : AnswersIfSound (committing extra author committer message) (made_answer (Ok id)) true true between new
   pub answers_shown : AnswersShownIfSound (committing extra author committer message) (made_answer (Ok id)) true true (shown between) (shown new)

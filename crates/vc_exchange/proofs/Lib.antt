@@ -11,6 +11,7 @@ pub mod MovingRules
 pub mod OnceLemmas
 pub mod PackDeeds
 pub mod PackLemmas
+pub mod QuarantinedLemmas
 pub mod ReceivingLemmas
 pub mod RefEntries
 pub mod SendingLaws

@@ -1,6 +1,7 @@
 pub mod Deeds
 pub mod Faults
 pub mod Moving
+pub mod Quarantined
 pub mod Receiving
 pub mod SendFault
 pub mod Sending

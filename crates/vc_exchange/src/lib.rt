@@ -4,6 +4,7 @@
 mod fault;
 mod item;
 mod moving;
+mod quarantined;
 mod receiving;
 mod send_fault;
 mod sending;
@@ -12,6 +13,7 @@ mod wanting;
 
 pub use fault::ExchangeFault;
 pub use item::PushItem;
+pub use quarantined::receive_quarantined;
 pub use receiving::{
     Advertised, Asked, Moves, Reported, receive_advert, receive_pack, receive_report,
     what_a_report_accepts_is_the_machines,

@@ -100,7 +100,7 @@ abbrev TakesGiven : Option (List ℕ) → Option (List ℕ) → Answer → Type 
 TakesGiven old new r = IfOk r (λ taken. IfSome taken (λ message. TakesText any_step beginning (GivenBy any_step beginning) old new (message_text message)))
 
 -- bytes that are given by lines of a message are a message of the machine
-taken_as : (old new : Option (List ℕ)) (t : MessageText) → TakesText any_step beginning (GivenBy any_step beginning) old new t → TakesMessage old new t
+pub taken_as : (old new : Option (List ℕ)) (t : MessageText) → TakesText any_step beginning (GivenBy any_step beginning) old new t → TakesMessage old new t
 taken_as old new t (bytes, taken, (lines, each, e)) =
     let s = any_spelled t lines e in
     ((bytes, taken, (lines, each, s)), text_is t lines s)

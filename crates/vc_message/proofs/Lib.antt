@@ -11,3 +11,4 @@ pub mod IncomingReads
 pub mod IncomingLaws
 pub mod StreamingLaws
 pub mod IncomingFronts
+pub mod ComingLaws

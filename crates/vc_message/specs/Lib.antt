@@ -4,5 +4,6 @@ pub mod Machine
 pub mod Laws
 pub mod IncomingFault
 pub mod Incoming
+pub mod Coming
 pub mod Streaming
 pub mod Read

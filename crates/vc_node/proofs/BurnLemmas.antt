@@ -1,6 +1,6 @@
 -- What a call spends is what the machine allows: one write for each place that changed. The packed file is the place of one ref.
 use Rattle.std.proofs.Common.{Vec, ◌≡◌, ◌⊎◌, inl, inr, ℕ, ◌-◌, ◌≤◌, Bool, true, false, cond, List, [], ◌∷◌, Option, Some, None, Result, Ok, Err, IsTrue, Contains, map, nat_eq, codes, refl, sym, ap, ◌∙◌, subst, arith}
-use Rattle.std.specs.Prelude.{bytes_eq, option_map, option_and_then, unwrap_or}
+use Rattle.std.specs.Prelude.{bytes_eq, option_map, unwrap_or}
 use Rattle.std.specs.FinMap.{get, same_map}
 use Rattle.std.specs.Global.{Global}
 use Rattle.std.specs.List.{starts_with}

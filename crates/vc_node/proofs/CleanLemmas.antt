@@ -1,10 +1,8 @@
 -- What changes of files make no file bad.
-use Rattle.std.proofs.Common.{◌≡◌, ℕ, Bool, true, false, cond, inl, inr, nat_eq, List, Option, Some, refl, sym, ap, ◌∙◌, subst}
-use Rattle.std.specs.Prelude.{bytes_eq, codes, is_some, ◌&&◌}
+use Rattle.std.proofs.Common.{◌≡◌, ℕ, true, false, cond, inl, inr, nat_eq, List, Some, refl, sym, ap, ◌∙◌, subst}
+use Rattle.std.specs.Prelude.{bytes_eq, codes}
 use Rattle.std.specs.FinMap as files
 use Rattle.std.specs.List.{starts_with}
-use Rattle.std.proofs.lemmas.Bool.{and_parts}
-use Rattle.std.proofs.lemmas.Slice.Eq.{bytes_eq-Decides}
 use Rattle.vc_files.specs.FileMap.{FileMap, SameOutside}
 use Rattle.vc_files.proofs.FileMapLemmas.{get-put}
 use Rattle.vc_index.specs.Damage.{KeepsDamage}

@@ -3,7 +3,6 @@ use Rattle.std.proofs.Common.{◌≡◌, ◌⊎◌, inl, inr, ℕ, List, [], ◌
 use Rattle.vc_files.specs.FileMap.{FileMap}
 use Rattle.vc_index.specs.IndexMap.{IndexMap}
 use Rattle.vc_model.specs.Clone.{IsHeadFree}
-use Rattle.vc_model.specs.Clone.Awaited.{Nothing}
 use Rattle.vc_model.specs.CloneCall.{Refuses}
 use Rattle.vc_model.specs.Node.{Answer, Failure}
 use Rattle.vc_model.specs.Node.Answer.{Declined, Fault}

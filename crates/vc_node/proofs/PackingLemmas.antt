@@ -1,20 +1,19 @@
 -- What a clone answers to the question to pack its refs is the machine's answer: it is the node that it was, or one that is down.
-use Rattle.std.proofs.Common.{◌≡◌, inl, Bool, true, false, Option, None, Result, Ok, Err, refl, sym, ap, ◌∙◌, subst}
+use Rattle.std.proofs.Common.{◌≡◌, inl, Bool, true, false, None, Result, Ok, Err, refl, sym, ap, ◌∙◌, subst}
 use Rattle.std.specs.Prelude.{IfErr}
 use Rattle.vc_files.specs.FileMap.{FileMap}
 use Rattle.vc_files.specs.declared.faults.Fault.{Fault as FilesFault}
-use Rattle.vc_model.specs.Clone.{Awaited, CloneNode}
 use Rattle.vc_model.specs.CloneCall.{CloneAnswers}
 use Rattle.vc_model.specs.CloneCall.CloneCall.{Asks}
 use Rattle.vc_model.specs.Node.Answer.{Did, Fault}
 use Rattle.vc_model.specs.Node.Reply.{Stored}
 use Rattle.vc_model.specs.Question.Question.{PackRefs}
 use Rattle.vc_refs.specs.declared.faults.RefFault.TheVariants as ref
-use Rattle.vc_node.specs.Awaited.{AwaitedText, IsAwaited}
+use Rattle.vc_node.specs.Awaited.{AwaitedText}
 use Rattle.vc_node.specs.Blames.{BlamesPacking}
 use Rattle.vc_node.specs.Clean.{IsClean}
 use Rattle.vc_node.specs.CloneCalls.{AnswersClone, MayOr, RestartedAs}
-use Rattle.vc_node.specs.Machine.{HoldsNode, Spells, failure_of, live_of, up_after}
+use Rattle.vc_node.specs.Machine.{Spells, failure_of, live_of, up_after}
 use Rattle.vc_node.specs.Shown.{Shown, shown}
 use Rattle.vc_node.specs.declared.fault.NodeFault.{NodeFault}
 use Rattle.vc_node.specs.declared.fault.NodeFault.TheVariants.{BadIndex, BadPath, Down, Missing, NotACommit, PathConflict, Ref, Store, WrongEntry}

@@ -6,16 +6,14 @@ use Rattle.vc_base.specs.declared.fault.BaseFault.TheVariants as base
 use Rattle.vc_files.specs.FileMap.{FileMap}
 use Rattle.vc_graph.specs.Graph.{ReachedFrom}
 use Rattle.vc_graph.specs.GraphFault.{IsMet}
-use Rattle.vc_index.specs.Loading.{IsOfLoad}
-use Rattle.vc_index.specs.declared.faults.IndexFault.{IndexFault}
 use Rattle.vc_index.specs.declared.faults.IndexFault.TheVariants as index
-use Rattle.vc_object.specs.ObjectMap.{links_in, parents_in}
+use Rattle.vc_object.specs.ObjectMap.{parents_in}
 use Rattle.vc_object.specs.declared.id.ObjectId.{ObjectId}
 use Rattle.vc_store.specs.Store.{objects, IsDamaged}
 use Rattle.vc_store.specs.declared.faults.StoreFault.{StoreFault}
 use Rattle.vc_store.specs.declared.faults.StoreFault.TheVariants as store
-use Rattle.vc_node.specs.NodeFault.{of_base, of_index}
-use Rattle.vc_node.specs.Reads.{NoneRead, TellsRead, IsReached, IsBelow}
+use Rattle.vc_node.specs.NodeFault.{of_base}
+use Rattle.vc_node.specs.Reads.{NoneRead, TellsRead, IsReached}
 use Rattle.vc_node.specs.declared.fault.NodeFault.TheVariants.{Store}
 use Rattle.vc_node.proofs.CommitLemmas.{reach_parents}
 

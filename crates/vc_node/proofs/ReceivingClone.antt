@@ -73,7 +73,7 @@ spells_on old new r after spells content beside head index = record {
   index = λ p. ap (λ (i : Index). get i p) index ∙ spells.index p;
 }
 
-beside_by : (old new : FileMap) → files.get new (codes "HEAD") ≡ files.get old (codes "HEAD") → files.get new (codes "index") ≡ files.get old (codes "index") → SameBeside old new
+pub beside_by : (old new : FileMap) → files.get new (codes "HEAD") ≡ files.get old (codes "HEAD") → files.get new (codes "index") ≡ files.get old (codes "index") → SameBeside old new
 beside_by old new head index = record { head = head-same old new head; index = ap (λ found. unwrap_or found []) index }
 
 pub beside_refs : (old new : FileMap) → SameOutside (codes "refs/") old new → SameBeside old new
@@ -82,7 +82,14 @@ beside_refs old new same = beside_by old new (same.at (codes "HEAD") refl) (same
 pub beside_kept : (old new : FileMap) → KeepsBeside old new → SameBeside old new
 beside_kept old new kept = beside_by old new (kept.at (codes "HEAD") refl refl) (kept.at (codes "index") refl refl)
 
-clean_on : (old new : FileMap) → MakesNoneBad old new → IsClean old → IsClean new
+-- nothing changed, or refs alone
+pub nothing_beside : (content : FileMap) → KeepsBeside content content
+nothing_beside content = record { at = λ path object ref. refl }
+
+pub refs_beside : (old new : FileMap) → SameOutside (codes "refs/") old new → KeepsBeside old new
+refs_beside old new same = record { at = λ path object ref. same.at path ref }
+
+pub clean_on : (old new : FileMap) → MakesNoneBad old new → IsClean old → IsClean new
 clean_on old new bad clean = record { objects = λ id damaged. clean.objects id (bad.objects id damaged); refs = λ path wrong. clean.refs path (bad.refs path wrong) }
 
 pub bad_same : (content : FileMap) → MakesNoneBad content content

@@ -1,5 +1,5 @@
 -- What refuses the change of a ref at a node, from what refuses it over its files: for the calls that set and remove refs whatever they are.
-use Rattle.std.proofs.Common.{◌≡◌, ◌⊎◌, Bool, true, false, ℕ, List, Option, inl, inr, refl, sym, ◌∙◌, subst}
+use Rattle.std.proofs.Common.{◌≡◌, ◌⊎◌, true, ℕ, List, Option, inl, inr, refl, sym, ◌∙◌, subst}
 use Rattle.std.specs.Prelude.{string_bytes}
 use Rattle.vc_files.specs.FileMap.{FileMap}
 use Rattle.vc_object.specs.declared.id.ObjectId.{ObjectId}
@@ -9,7 +9,7 @@ use Rattle.vc_refs.specs.Refs.{IsBadRef, is_taken, refs}
 use Rattle.vc_refs.specs.declared.faults.RefFault.{RefFault}
 use Rattle.vc_refs.specs.declared.faults.RefFault.TheVariants as ref
 use Rattle.vc_node.proofs.CommitReads.{its_file}
-use Rattle.vc_node.specs.Blames.{BlamesName, BlamesPacking, BlamesPut, BlamesRemoved}
+use Rattle.vc_node.specs.Blames.{BlamesPacking, BlamesPut, BlamesRemoved}
 use Rattle.vc_node.specs.NodeFault.{is_fault}
 use Rattle.vc_node.specs.Reads.{IsAtName, IsItsFile, NoneRead, TellsRead}
 use Rattle.vc_node.specs.declared.fault.NodeFault.TheVariants.{Ref}

@@ -18,7 +18,7 @@ use Rattle.vc_object.specs.declared.id.ObjectId.{ObjectId}
 use Rattle.vc_refs.specs.Head.{IsBadHead, IsHeadLoop, head_of, head_value, read_head, said}
 use Rattle.vc_refs.specs.Refs.{is_taken, packed_at, packed_map, packed_path, refs, IsBadRef}
 use Rattle.vc_refs.specs.Way.{is_held, IsFree as IsFreeName}
-use Rattle.vc_refs.specs.RefFault.{BlamesHead, BlamesHeadValue, BlamesWay}
+use Rattle.vc_refs.specs.RefFault.{BlamesHead, BlamesHeadValue}
 use Rattle.vc_refs.specs.declared.faults.RefFault.{RefFault}
 use Rattle.vc_refs.specs.declared.faults.RefFault.TheVariants as ref
 use Rattle.vc_refs.specs.declared.heads.Head.{Head}
@@ -30,8 +30,8 @@ use Rattle.vc_node.specs.Blames.{BlamesName, BlamesPut, IsOfMemory}
 use Rattle.vc_node.specs.Commit.{IsGoodParent, IsFreeHead, made_body, parents_of_commit}
 use Rattle.vc_rules.specs.Git.{git}
 use Rattle.vc_node.specs.Machine.{machine_head, Spells}
-use Rattle.vc_node.specs.Making.{IsOfLook, BlamesLook, BlamesFreeHead, BlamesMoving, BlamesParents, HasHeadConflict}
-use Rattle.vc_node.specs.Shown.{Shown, shown}
+use Rattle.vc_node.specs.Making.{IsOfLook, BlamesLook, BlamesMoving, BlamesParents, HasHeadConflict}
+use Rattle.vc_node.specs.Shown.{shown}
 use Rattle.vc_node.specs.declared.fault.NodeFault.{NodeFault}
 use Rattle.vc_node.specs.declared.fault.NodeFault.TheVariants.{Store, Ref, Missing, NotACommit, BadPath, PathConflict, BadIndex, WrongEntry, Down}
 use Rattle.vc_refs.proofs.LayeredLemmas.{bad-same, packed_map-same}

@@ -15,14 +15,17 @@ use Rattle.vc_refs.specs.declared.faults.RefFault.TheVariants as ref
 use Rattle.vc_store.specs.declared.faults.StoreFault.{StoreFault}
 use Rattle.vc_store.specs.declared.faults.StoreFault.TheVariants as store
 use Rattle.vc_node.proofs.IndexLemmas.{no_bad_index, spells_index}
-use Rattle.vc_node.proofs.OpeningLaws.{held_nodes_open, made_ready}
+use Rattle.vc_node.proofs.CleanLemmas.{still_clean}
+use Rattle.vc_node.proofs.EmptyingLemmas.{clean_lost, opened_holds, shown_kept}
+use Rattle.vc_node.proofs.OpeningLaws.{held_nodes_open}
 use Rattle.vc_node.proofs.RefusalLemmas.{of_head}
 use Rattle.vc_node.specs.Awaited.{AwaitedText, IsAwaited, nothing}
 use Rattle.vc_node.specs.Blames.{BlamesOpen}
-use Rattle.vc_node.specs.Clean.{IsClean, KeepsClean}
+use Rattle.vc_node.specs.Clean.{IsClean}
 use Rattle.vc_node.specs.CloneCalls.{AnswersClone, Quietly, RestartedAs}
-use Rattle.vc_node.specs.Machine.{HoldsNode, Spells, fault_answer, failure_of}
-use Rattle.vc_node.specs.Shown.{IsReady, shown}
+use Rattle.vc_node.specs.Machine.{Spells, fault_answer, failure_of}
+use Rattle.vc_node.specs.Emptying.{IsOpened, LosesCarried}
+use Rattle.vc_node.specs.Shown.{Shown, shown}
 use Rattle.vc_node.specs.declared.fault.NodeFault.{NodeFault}
 use Rattle.vc_node.specs.declared.fault.NodeFault.TheVariants.{Store, Ref, Missing, NotACommit, BadPath, PathConflict, BadIndex, WrongEntry, Down}
 
@@ -59,24 +62,24 @@ module _ (content : FileMap) (r : Repository) (spells : Spells (shown content) r
   opening_fails (WrongEntry at) never = absurd never
   opening_fails Down never = absurd never
 
-restarted : (old new : FileMap) (waits after : AwaitedText) (was_up : Bool) → IsReady old new → KeepsClean old new → after ≡ nothing
+restarted : (old new : FileMap) (waits after : AwaitedText) (was_up : Bool) → IsOpened old new → after ≡ nothing
     → AnswersClone Open (Quietly (Did Stored)) old new waits after was_up true
-restarted old new waits after was_up ready keeps none = record {
+restarted old new waits after was_up opened none = record {
   each = λ awaited n waited held. (
     Nothing,
     record { repository = n.repository; live = Some Nothing },
     Did Stored,
     None,
     subst (λ (w : AwaitedText). IsAwaited w Nothing) (sym none) refl,
-    made_ready old new n.repository ready keeps (held_nodes_open old was_up awaited n held),
+    opened_holds old new n.repository opened (held_nodes_open old was_up awaited n held),
     record { answer = refl; sent = refl },
     λ sound. CloneAnswers.opened refl (refl, refl) refl,
   );
 }
 
-failed : (old new : FileMap) (waits after : AwaitedText) (was_up : Bool) (e : NodeFault) → new ≡ old → BlamesOpen old e → after ≡ nothing
+failed : (old new : FileMap) (waits after : AwaitedText) (was_up : Bool) (e : NodeFault) → LosesCarried old new → BlamesOpen old e → after ≡ nothing
     → AnswersClone Open (Quietly (fault_answer e)) old new waits after was_up false
-failed old new waits after was_up e same blames none = record {
+failed old new waits after was_up e loses blames none = record {
   each = λ awaited n waited held.
       let why = opening_fails old n.repository held.shows.spells held.clean e blames in (
         Nothing,
@@ -84,16 +87,19 @@ failed old new waits after was_up e same blames none = record {
         Fault (failure_of why.0),
         None,
         subst (λ (w : AwaitedText). IsAwaited w Nothing) (sym none) refl,
-        subst (λ (c : FileMap). HoldsNode c false Nothing (record { repository = n.repository; live = None })) (sym same) (record { shows = record { spells = held.shows.spells; live = refl }; clean = held.clean }),
+        record {
+          shows = record { spells = subst (λ (s : Shown). Spells s n.repository) (sym (shown_kept old new loses)) held.shows.spells; live = refl };
+          clean = still_clean old new (clean_lost old new loses) held.clean;
+        },
         record { answer = sym why.1; sent = refl },
         λ sound. CloneAnswers.opened refl refl refl,
       );
 }
 
 -- whatever node was held
-pub restart_answers : (old new : FileMap) (waits after : AwaitedText) (was_up is_up : Bool) (result : Result (Unit {0}) NodeFault) → OnOk result (IsReady old new) → OnOk result (KeepsClean old new)
-    → OnErr result (new ≡ old) → IfErr result (BlamesOpen old) → after ≡ nothing → is_up ≡ is_ok result → AnswersClone Open (RestartedAs result) old new waits after was_up is_up
-restart_answers old new waits after was_up is_up (Ok u) ready keeps same blames none up =
-    subst (λ (b : Bool). AnswersClone Open (Quietly (Did Stored)) old new waits after was_up b) (sym up) (restarted old new waits after was_up ready keeps none)
-restart_answers old new waits after was_up is_up (Err e) ready keeps same blames none up =
-    subst (λ (b : Bool). AnswersClone Open (Quietly (fault_answer e)) old new waits after was_up b) (sym up) (failed old new waits after was_up e same blames none)
+pub restart_answers : (old new : FileMap) (waits after : AwaitedText) (was_up is_up : Bool) (result : Result (Unit {0}) NodeFault) → OnOk result (IsOpened old new)
+    → OnErr result (LosesCarried old new) → IfErr result (BlamesOpen old) → after ≡ nothing → is_up ≡ is_ok result → AnswersClone Open (RestartedAs result) old new waits after was_up is_up
+restart_answers old new waits after was_up is_up (Ok u) opened loses blames none up =
+    subst (λ (b : Bool). AnswersClone Open (Quietly (Did Stored)) old new waits after was_up b) (sym up) (restarted old new waits after was_up opened none)
+restart_answers old new waits after was_up is_up (Err e) opened loses blames none up =
+    subst (λ (b : Bool). AnswersClone Open (Quietly (fault_answer e)) old new waits after was_up b) (sym up) (failed old new waits after was_up e loses blames none)

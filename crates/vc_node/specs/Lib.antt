@@ -1,3 +1,4 @@
+pub mod Arriving
 pub mod Awaited
 pub mod Blames
 pub mod Burning
@@ -5,6 +6,7 @@ pub mod Clean
 pub mod CloneCalls
 pub mod CloneFaults
 pub mod Commit
+pub mod Emptying
 pub mod GoodCommit
 pub mod Held
 pub mod IndexFile
@@ -15,6 +17,7 @@ pub mod Opening
 pub mod Printed
 pub mod Reads
 pub mod Receipts
+pub mod ReceiveFault
 pub mod Shown
 pub mod Staging
 pub mod Values

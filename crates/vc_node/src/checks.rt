@@ -10,11 +10,11 @@ ghost use Rattle.vc_store.specs.Store.{objects};
 use crate::NodeFault;
 use std::alloc::Global;
 use vc_base::{Generations, commits, is_history_beyond};
-use vc_files::{Fault, Files};
+use vc_files::Files;
 use vc_graph::is_complete_beyond;
 use vc_object::ObjectId;
 use vc_session::Known;
-use vc_store::{Store, StoreFault};
+use vc_store::Store;
 
 /// Refuses an id of which not all is there that it reaches (40), and then one that is no commit, or that has an object
 /// of another kind along its parent links (41). What the values of refs reach is taken to be there, as it is in a sound

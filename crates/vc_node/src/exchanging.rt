@@ -1,6 +1,7 @@
 // What a clone makes of a message that it awaits.
-ghost use Rattle.std.specs.Prelude.{◌≡◌, ◌⊎◌, ℕ, IfErr, IfOk, OnErr, true};
+ghost use Rattle.std.specs.Prelude.{◌≡◌, ℕ, IfErr, OnErr, true};
 ghost use Rattle.vc_answer.specs.Reached.{KeepsObjects};
+ghost use Rattle.vc_exchange.specs.Storing.{KeepsBeside};
 ghost use Rattle.vc_files.specs.Failures.{Wears, Writes};
 ghost use Rattle.vc_fetch.specs.AdvertView.{advert_text};
 ghost use Rattle.vc_fetch.specs.PackView.{pack_text};
@@ -49,6 +50,7 @@ fn take_advert<F: Files>(
     ensures refused { F.honest → IfErr result (IsRefusedMessage (F.content files.old) (awaited_text awaited.old) (an_advert (advert_text advert))) }
     ensures kept { F.honest → IfErr result (λ e. IsOfMessage e → F.content files.new ≡ F.content files.old) }
     ensures objects { F.honest → KeepsObjects (F.content files.old) (F.content files.new) }
+    ensures beside { F.honest → KeepsBeside (F.content files.old) (F.content files.new) }
     ensures bad { F.honest → MakesNoneBad (F.content files.old) (F.content files.new) }
     ensures wear { Writes F.honest F.content F.failed F.can_fail F.left files.old files.new (TellsDevice result) }
     ensures looks { F.honest → (m : Sent) → TextOf m (an_advert (advert_text advert)) → MayOr (Receive m) (awaited_text awaited.old) true (F.content files.old) (Wears F.failed F.can_fail F.left files.old files.new (TellsDevice result)) }
@@ -83,6 +85,7 @@ fn take_pack<F: Files>(
     ensures refused { F.honest → IfErr result (IsRefusedMessage (F.content files.old) (awaited_text awaited.old) (a_pack (pack_text pack.now))) }
     ensures kept { F.honest → IfErr result (λ e. IsOfMessage e → F.content files.new ≡ F.content files.old) }
     ensures objects { F.honest → KeepsObjects (F.content files.old) (F.content files.new) }
+    ensures beside { F.honest → KeepsBeside (F.content files.old) (F.content files.new) }
     ensures bad { F.honest → MakesNoneBad (F.content files.old) (F.content files.new) }
     ensures wear { Writes F.honest F.content F.failed F.can_fail F.left files.old files.new (TellsDevice result) }
     ensures looks { F.honest → (m : Sent) → TextOf m (a_pack (pack_text pack.now)) → MayOr (Receive m) (awaited_text awaited.old) true (F.content files.old) (Wears F.failed F.can_fail F.left files.old files.new (TellsDevice result)) }
@@ -110,6 +113,7 @@ pub(crate) fn take_report<F: Files>(
     ensures refused { F.honest → IfErr result (IsRefusedMessage (F.content files.old) (awaited_text awaited.old) (a_report (report_text report.now))) }
     ensures kept { F.honest → IfErr result (λ e. IsOfMessage e → F.content files.new ≡ F.content files.old) }
     ensures objects { F.honest → KeepsObjects (F.content files.old) (F.content files.new) }
+    ensures beside { F.honest → KeepsBeside (F.content files.old) (F.content files.new) }
     ensures bad { F.honest → MakesNoneBad (F.content files.old) (F.content files.new) }
     ensures wear { Writes F.honest F.content F.failed F.can_fail F.left files.old files.new (TellsDevice result) }
     ensures looks { F.honest → (m : Sent) → TextOf m (a_report (report_text report.now)) → MayOr (Receive m) (awaited_text awaited.old) true (F.content files.old) (Wears F.failed F.can_fail F.left files.old files.new (TellsDevice result)) }
@@ -133,6 +137,7 @@ pub(crate) fn take<F: Files>(
     ensures refused { F.honest → IfErr result (IsRefusedMessage (F.content files.old) (awaited_text awaited.old) (message_text message)) }
     ensures kept { F.honest → IfErr result (λ e. IsOfMessage e → F.content files.new ≡ F.content files.old) }
     ensures objects { F.honest → KeepsObjects (F.content files.old) (F.content files.new) }
+    ensures beside { F.honest → KeepsBeside (F.content files.old) (F.content files.new) }
     ensures bad { F.honest → MakesNoneBad (F.content files.old) (F.content files.new) }
     ensures wear { Writes F.honest F.content F.failed F.can_fail F.left files.old files.new (TellsDevice result) }
     ensures looks { F.honest → (m : Sent) → TextOf m (message_text message) → MayOr (Receive m) (awaited_text awaited.old) true (F.content files.old) (Wears F.failed F.can_fail F.left files.old files.new (TellsDevice result)) }

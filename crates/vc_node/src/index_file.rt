@@ -1,18 +1,17 @@
 // The file of a clone's index.
-ghost use Rattle.std.specs.Prelude.{◌≡◌, IfOk, IfErr, IfSome, OnOk, OnErr, IsErrOf, MatchResult, IsTrue, codes};
+ghost use Rattle.std.specs.Prelude.{◌≡◌, IfOk, IfErr, IfSome, OnOk, OnErr, IsErrOf, codes};
 ghost use Rattle.std.specs.FinMap as paths;
 ghost use Rattle.vc_files.specs.Failures.{Wears, Writes};
 ghost use Rattle.vc_index.specs.IndexMap.{IndexMap, IsIndex};
 ghost use Rattle.vc_index.specs.IndexText.{index_text};
 ghost use Rattle.vc_node.specs.IndexFile.{SpellsIndex, BlamesIndex, index_bytes};
-ghost use Rattle.vc_node.specs.NodeFault.{is_fault, TellsDevice};
+ghost use Rattle.vc_node.specs.NodeFault.{TellsDevice};
 ghost use Rattle.vc_node.specs.Reads.{NoneRead, TellsRead};
 
 use crate::NodeFault;
 use std::alloc::Global;
 use vc_files::{Fault, Files};
 use vc_index::Index;
-use vc_store::StoreFault;
 
 // The path of the file.
 const INDEX: &str = "index";

@@ -4,6 +4,7 @@
 //! `vc_model`'s machine at Git's object format (`vc_format`): the files spell a repository, and a call is a step of it.
 #![tactic(auto)]
 
+mod arriving;
 mod awaited;
 mod burning;
 mod checks;
@@ -15,6 +16,8 @@ mod index_file;
 mod local;
 mod node;
 mod opened;
+mod opening;
+mod receive_fault;
 mod staging;
 
 pub use burning::{
@@ -26,6 +29,8 @@ pub use clone_fault::CloneFault;
 pub use exchanging::Received;
 pub use fault::NodeFault;
 pub use index_file::{read_index, write_index};
-pub use node::{CloneNode, make_ready};
+pub use node::CloneNode;
 pub use opened::{a_held_node_can_be_opened, new_files_can_be_opened};
+pub use opening::open_files;
+pub use receive_fault::ReceiveFault;
 pub use staging::Staged;

@@ -1,22 +1,18 @@
 // What the local commands do to files: each looks for what refuses it before it writes, and writes an object before what
 // names it.
-ghost use Rattle.std.specs.Prelude.{◌≡◌, ◌≢◌, ◌⊎◌, IfOk, IfErr, OnOk, OnErr, IsErrOf, IsErrAnd, IsOk, codes, true, false};
+ghost use Rattle.std.specs.Prelude.{◌≡◌, ◌≢◌, ◌⊎◌, IfOk, IfErr, OnOk, OnErr, IsOk, codes, true};
 ghost use Rattle.std.specs.FinMap as paths;
 ghost use Rattle.vc_answer.specs.Reached.{KeepsObjects};
 ghost use Rattle.vc_files.specs.Failures.{Wears, Writes};
 ghost use Rattle.vc_files.specs.FileMap.{SameOutside};
-ghost use Rattle.vc_index.specs.IndexMap.{IndexMap, HasConflict, index_entry};
+ghost use Rattle.vc_index.specs.IndexMap.{IndexMap, index_entry};
 ghost use Rattle.vc_index.specs.IndexText.{index_text};
-ghost use Rattle.vc_index.specs.Path.{IsPath};
 ghost use Rattle.vc_object.specs.Decoding.{stored_object};
 ghost use Rattle.vc_object.specs.Object.{object_name, IsObject};
 ghost use Rattle.vc_refs.specs.RefMap.{IsInRefs, is_ref, with_ref, without_ref};
 ghost use Rattle.vc_refs.specs.Refs.{refs};
 ghost use Rattle.vc_refs.specs.Way.{IsFree};
 ghost use Rattle.vc_store.specs.Store.{objects, with_object};
-ghost use Rattle.vc_index.specs.Loading.{HasBlobs};
-ghost use Rattle.vc_index.specs.TreeFiles.{IsFileOfTree};
-ghost use Rattle.vc_object.specs.declared.mode.Mode.{Mode as ModeValue};
 ghost use Rattle.vc_object.specs.declared.id.ObjectId.{ObjectId as Id};
 ghost use Rattle.vc_object.specs.declared.kind.Kind.TheVariants.{Blob};
 ghost use Rattle.vc_refs.specs.Head.{IsHeadInRefs, IsLegalHead, KeepsOutside};
@@ -33,12 +29,11 @@ use crate::NodeFault;
 use crate::checks::refuse_bad_commit;
 use crate::index_file::{read_index, write_index};
 use std::alloc::Global;
-use vc_files::{Fault, Files};
+use vc_files::Files;
 use vc_index::Index;
 use vc_object::{Kind, Mode, ObjectId};
 use vc_refname::RefName;
-use vc_refs::{Head, RefFault, refuse_conflict};
-use vc_store::StoreFault;
+use vc_refs::{Head, refuse_conflict};
 
 /// Stores an object.
 pub(crate) fn write<F: Files>(

@@ -1,12 +1,12 @@
 // A clone.
-ghost use Rattle.std.specs.Prelude.{◌≡◌, ◌≢◌, ◌⊎◌, ℕ, List, [], Ok, Err, OnOk, OnErr, IfOk, IfErr, IsErrOf, is_ok, true, false, not, nat_eq, map, codes};
+ghost use Rattle.std.specs.Prelude.{◌≡◌, ◌≢◌, ◌⊎◌, ◌++◌, ℕ, List, [], Some, Ok, Err, OnOk, OnErr, IfNone, IfOk, IfErr, is_ok, true, false, not, nat_eq, map, codes};
 ghost use Rattle.std.specs.List.{All, starts_with};
 ghost use Rattle.vc_format.specs.Git.{bytes_of_id};
 ghost use Rattle.vc_model.specs.Clone.Task.{Write, Stage, Unstage, LoadTree, MakeCommit, SetBranch, DeleteBranch, MoveHead};
 ghost use Rattle.vc_model.specs.Clone.Awaited.{Nothing};
 ghost use Rattle.vc_model.specs.Repository.{Repository};
 ghost use Rattle.vc_object.specs.Object.{object_name};
-ghost use Rattle.vc_refs.specs.Head.{IsHeadInRefs, KeepsOutside};
+ghost use Rattle.vc_refs.specs.Head.{KeepsOutside};
 ghost use Rattle.vc_refs.specs.Packing.{IsPackedFrom};
 ghost use Rattle.vc_exchange.specs.Sending.{machine_items};
 ghost use Rattle.vc_files.specs.declared.faults.Fault.TheVariants.{Memory};
@@ -27,6 +27,10 @@ ghost use Rattle.vc_node.specs.Awaited.{nothing};
 ghost use Rattle.vc_node.specs.CloneCalls.{AnswersClone, FoundAs, MayOr, ReceivedAs, RestartedAs, SentAs};
 ghost use Rattle.vc_node.specs.CloneFaults.{TellsDevice as CloneTellsDevice, is_fault as is_clone_fault, of_device, up_after as clone_up_after};
 ghost use Rattle.vc_node.specs.Receipts.{IsOfMessage, IsRefusedBytes, IsRefusedMessage, IsRefusedStart, IsRefusedValue};
+ghost use Rattle.vc_node.specs.Arriving.{IsKnown, KeepsHeld, ReceivesFrom, ToldAs};
+ghost use Rattle.vc_node.specs.ReceiveFault.{TellsDevice as ReceiveTellsDevice, is_fault as is_receive_fault, up_after as receive_up_after};
+ghost use Rattle.vc_session.specs.Quarantine.{IsDropped};
+ghost use Rattle.vc_node.specs.Emptying.{AreEmpty, IsOpened, LosesCarried};
 ghost use Rattle.vc_node.specs.Blames.{BlamesLoad, BlamesOpen, BlamesPacking, BlamesWrite, IsLocalHead};
 ghost use Rattle.vc_files.specs.FileMap.{SameOutside};
 ghost use Rattle.vc_index.specs.IndexMap.{IndexMap};
@@ -39,27 +43,31 @@ ghost use Rattle.vc_files.specs.Failures.{Wears, Writes};
 ghost use Rattle.vc_node.specs.NodeFault.{is_fault, IsOfDevice, TellsDevice};
 ghost use Rattle.vc_node.specs.Opening.{IsOpenable, opened_node};
 ghost use Rattle.vc_node.specs.Reads.{IsAtHead, IsAtName, IsBelow, IsItsFile, IsOfCommit, IsReached, IsReachedByHead, NoneRead, TellsRead};
-ghost use Rattle.vc_node.specs.Shown.{IsLoaded, IsReady, shown};
+ghost use Rattle.vc_node.specs.Shown.{IsLoaded, shown};
 ghost use Rattle.vc_node.specs.Staging.{BlamesStaging, StagesAllOr, StagesHeld, StagesShown, placed};
 
+use crate::arriving::refuse_down;
 use crate::awaited::Awaited;
 use crate::commit::Words;
 use crate::index_file::read_index;
+use crate::opening::open_files;
 use crate::staging::Staged;
-use crate::{CloneFault, NodeFault, Received, commit, exchanging, local, staging};
+use crate::{
+    CloneFault, NodeFault, ReceiveFault, Received, arriving, commit, exchanging, local, staging,
+};
 use std::alloc::Global;
+use std::io::Read;
 use std::marker::Model;
 use vc_answer::Reached;
 use vc_exchange::{PushItem, list_message, push_message};
-use vc_files::{Fault, Files, FusedFiles};
+use vc_files::{Files, FusedFiles};
 use vc_index::Index;
-use vc_message::Message;
+use vc_message::{Message, skip_message};
 use vc_object::{Kind, Mode, ObjectId};
 use vc_push::Report;
 use vc_refname::RefName;
 use vc_refs::Head;
 use vc_rev::Expr;
-use vc_store::StoreFault;
 
 /// A clone over files: objects, refs, HEAD and an index. Once a call has ended in a fault, each later one but
 /// [`close`](CloneNode::close) is refused (112), until the files are opened again. After a push it keeps in memory the names of what
@@ -93,21 +101,21 @@ impl<F: Files> Model for CloneNode<F> {
 }
 
 impl<F: Files> CloneNode<F> {
-    /// The clone that the files hold, with nothing awaited. In a new one HEAD names the branch `main`, and the index has
-    /// no files. Where the files are none of a clone's (33 and 34: HEAD, 62: the index), or a fault comes, they are handed
-    /// back.
+    /// The clone that the files hold, with nothing awaited and nothing in quarantine. In a new one HEAD names the branch `main`, and
+    /// the index has no files. Where the files are none of a clone's (33 and 34: HEAD, 62: the index), or a fault comes, they are
+    /// handed back, and what stood in quarantine may be gone.
     pub fn open(alloc: Global, mut files: F) -> Result<CloneNode<F>, (F, NodeFault)>
-        ensures ready { F.honest → IfOk result (λ node. IsReady (F.content files) (F.content node.files)) }
+        ensures opened { F.honest → IfOk result (λ node. IsOpened (F.content files) (F.content node.files)) }
         ensures up { IfOk result (λ node. node.is_up ≡ true) }
         ensures awaits { IfOk result (λ node. node.awaited ≡ nothing) }
         ensures opens { F.honest → (r : Repository) → IsOpenable (F.content files) r → IfOk result (λ node. HoldsNode (F.content node.files) true Nothing (opened_node r)) }
         ensures refused { F.honest → IfErr result (λ e. BlamesOpen (F.content files) e.1) }
-        ensures err { F.honest → IfErr result (λ e. F.content e.0 ≡ F.content files) }
+        ensures err { F.honest → IfErr result (λ e. LosesCarried (F.content files) (F.content e.0)) }
         ensures clean { F.honest → IfOk result (λ node. KeepsClean (F.content files) (F.content node.files)) }
         ensures wear { IfOk result (λ node. Writes F.honest F.content F.failed F.can_fail F.left files node.files ⊥) }
         ensures wear_err { IfErr result (λ e. Writes F.honest F.content F.failed F.can_fail F.left files e.0 (IsOfDevice e.1)) }
     {
-        match ready_index(alloc, &mut files) {
+        match open_files(alloc, &mut files) {
             Ok(index) => Ok(CloneNode {
                 files,
                 alloc,
@@ -142,12 +150,13 @@ impl<F: Files> CloneNode<F> {
         self.is_up
     }
 
-    /// Opens the files again, in place: the node is up then, whatever it was before, and nothing is awaited. Where that fails (see
-    /// [`open`](CloneNode::open)) it is down, and the files are as they were.
+    /// Opens the files again, in place: the node is up then, whatever it was before, nothing is awaited, and nothing is in quarantine.
+    /// Where that fails (see [`open`](CloneNode::open)) it is down, and the files are as they were but for the quarantine.
     pub fn restart(&mut self) -> Result<(), NodeFault>
         ensures answers { F.honest → AnswersClone Open (RestartedAs result) (F.content self.old.files) (F.content self.new.files) self.old.awaited self.new.awaited self.old.is_up self.new.is_up }
         ensures refused { F.honest → IfErr result (BlamesOpen (F.content self.old.files)) }
-        ensures err { F.honest → OnErr result (F.content self.new.files ≡ F.content self.old.files) }
+        ensures err { F.honest → OnErr result (LosesCarried (F.content self.old.files) (F.content self.new.files)) }
+        ensures empty { F.honest → OnOk result (AreEmpty (F.content self.new.files)) }
         ensures up { self.new.is_up ≡ is_ok result }
         ensures awaits { self.new.awaited ≡ nothing }
         ensures clean { F.honest → KeepsClean (F.content self.old.files) (F.content self.new.files) }
@@ -157,7 +166,7 @@ impl<F: Files> CloneNode<F> {
         self.reached = Reached::new(self.alloc);
         self.index = None;
         self.is_up = false;
-        match ready_index(self.alloc, &mut self.files) {
+        match open_files(self.alloc, &mut self.files) {
             Ok(index) => {
                 self.index = Some(index);
                 self.is_up = true;
@@ -551,6 +560,64 @@ impl<F: Files> CloneNode<F> {
         self.settle(received)
     }
 
+    // The fault, after which the node is down if it is no refusal.
+    fn fail_next(&mut self, fault: ReceiveFault) -> ReceiveFault
+        ensures fault { result ≡ fault }
+        ensures files { self.new.files ≡ self.old.files }
+        ensures awaits { self.new.awaited ≡ self.old.awaited }
+        ensures up { self.old.is_up ≡ true → self.new.is_up ≡ not (is_receive_fault fault) }
+    {
+        self.is_up = self.is_up && !fault.is_fault();
+        fault
+    }
+
+    // What came of the reader, after which the node is down if it is a fault.
+    fn settle_next(
+        &mut self,
+        received: Result<Option<Received>, ReceiveFault>,
+    ) -> Result<Option<Received>, ReceiveFault>
+        ensures received { result ≡ received }
+        ensures files { self.new.files ≡ self.old.files }
+        ensures awaits { self.new.awaited ≡ self.old.awaited }
+        ensures up { self.old.is_up ≡ true → self.new.is_up ≡ receive_up_after result }
+    {
+        match received {
+            Ok(found) => Ok(found),
+            Err(fault) => Err(self.fail_next(fault)),
+        }
+    }
+
+    /// Takes the next message from a reader, and no byte behind it, as [`receive`](CloneNode::receive) takes its bytes; none where the
+    /// reader is at its end before the first byte. The objects of a pack that is awaited go into the quarantine as they come, and are
+    /// judged there, so that one line and one body are held at a time.
+    ///
+    /// A message that isn't awaited (91) is read to its end. Bytes that are no message are refused with their first fault (80 to 84, or 3)
+    /// as soon as it has come, and a reader that fails with 115. In none of these is anything changed, nor is it where not all is there
+    /// that was asked for (92): what was put into the quarantine is gone again. A node that is down refuses a message and bytes that are
+    /// none (112), and takes as much of the reader. Want of memory takes the node down, as a device that fails does.
+    pub fn receive_from<R: Read>(
+        &mut self,
+        reader: &mut R,
+    ) -> Result<Option<Received>, ReceiveFault>
+        ensures receives { ReceivesFrom F.honest (R.remaining reader.old) (R.remaining reader.new) (F.content self.old.files) (F.content self.new.files) self.old.awaited self.new.awaited self.old.is_up self.new.is_up result }
+        ensures known { (m : Sent) (bytes rest : List ℕ) → R.remaining reader.old ≡ Some (bytes ++ rest) → Reads bytes m → IsKnown F.honest self.old.is_up m rest (R.remaining reader.new) (λ call. AnswersClone call (ToldAs result) (F.content self.old.files) (F.content self.new.files) self.old.awaited self.new.awaited self.old.is_up self.new.is_up) result }
+        ensures none { IfOk result (λ found. IfNone found (self.new ≡ self.old)) }
+        ensures lost { F.honest → IfErr result (λ e. e ≡ ReceiveFault.ReadFailed → KeepsHeld (F.content self.old.files) (F.content self.new.files) self.old.awaited self.new.awaited self.old.is_up self.new.is_up) }
+        ensures cleared { F.honest → self.new.is_up ≡ true → IsDropped 0 (F.content self.old.files) → IsDropped 0 (F.content self.new.files) }
+        ensures awaits { OnErr result (self.new.awaited ≡ self.old.awaited) }
+        ensures down { self.old.is_up ≡ false → self.new ≡ self.old }
+        ensures up { self.old.is_up ≡ true → self.new.is_up ≡ receive_up_after result }
+        ensures clean { F.honest → KeepsClean (F.content self.old.files) (F.content self.new.files) }
+        ensures wear { Writes F.honest F.content F.failed F.can_fail F.left self.old.files self.new.files (ReceiveTellsDevice result) }
+    {
+        if !self.is_up {
+            return refuse_down(skip_message(self.alloc, reader));
+        }
+        self.index = None;
+        let received = arriving::take_next(self.alloc, &mut self.files, &mut self.awaited, reader);
+        self.settle_next(received)
+    }
+
     /// The same of a message that was read already.
     pub fn receive_message(&mut self, message: Message) -> Result<Received, CloneFault>
         ensures answers { F.honest → (m : Sent) → TextOf m (message_text message) → AnswersClone (Receive m) (ReceivedAs result) (F.content self.old.files) (F.content self.new.files) self.old.awaited self.new.awaited self.old.is_up self.new.is_up }
@@ -645,40 +712,6 @@ impl<F: Files> CloneNode<F> {
             }
         }
     }
-}
-
-/// Makes the files those of a node: HEAD, where there is none, names the branch `main`. Where they are none of a node's (33
-/// and 34: HEAD, 62: the index), or a fault comes, they stay as they are.
-pub fn make_ready<F: Files>(alloc: Global, files: &mut F) -> Result<(), NodeFault>
-    ensures ready { F.honest → OnOk result (IsReady (F.content files.old) (F.content files.new)) }
-    ensures refused { F.honest → IfErr result (BlamesOpen (F.content files.old)) }
-    ensures err { F.honest → OnErr result (F.content files.new ≡ F.content files.old) }
-    ensures clean { F.honest → OnOk result (KeepsClean (F.content files.old) (F.content files.new)) }
-    ensures wear { Writes F.honest F.content F.failed F.can_fail F.left files.old files.new (TellsDevice result) }
-{
-    ready_index(alloc, files)?;
-    Ok(())
-}
-
-// The same, and the index that the files spell then.
-fn ready_index<F: Files>(alloc: Global, files: &mut F) -> Result<Index, NodeFault>
-    ensures ready { F.honest → OnOk result (IsReady (F.content files.old) (F.content files.new)) }
-    ensures spelled { F.honest → IfOk result (SpellsIndex (F.content files.new)) }
-    ensures refused { F.honest → IfErr result (BlamesOpen (F.content files.old)) }
-    ensures err { F.honest → OnErr result (F.content files.new ≡ F.content files.old) }
-    ensures clean { F.honest → OnOk result (KeepsClean (F.content files.old) (F.content files.new)) }
-    ensures wear { Writes F.honest F.content F.failed F.can_fail F.left files.old files.new (TellsDevice result) }
-{
-    let index = read_index(alloc, files)?;
-    if vc_refs::head(files, alloc)?.is_some() {
-        return Ok(index);
-    }
-    let Ok(main) = RefName::new(alloc, "refs/heads/main") else {
-        // The text is a legal name, so it was memory.
-        return Err(NodeFault::Store(StoreFault::Fault(Fault::Memory)));
-    };
-    vc_refs::set_head(files, alloc, &Head::Branch(main))?;
-    Ok(index)
 }
 
 impl<F: Files> CloneNode<FusedFiles<F>> {

@@ -1,9 +1,9 @@
 -- One message at the shared node that files hold: the node is opened, serves the message to its end, and is closed.
 use Rattle.std.specs.FinMap.{empty}
 use Rattle.std.specs.Global.{Global}
-use Rattle.std.specs.Prelude.{◌⊎◌, ℕ, List, Option, Some, Result, Err, Vec, true}
+use Rattle.std.specs.Prelude.{◌⊎◌, ⊤, ℕ, List, Option, Some, None, Result, Ok, Err, Vec, true}
 use Rattle.vc_files.specs.FileMap.{FileMap}
-use Rattle.vc_message.specs.AnyMessage.{MessageText}
+use Rattle.vc_message.specs.Coming.{Came, IsCome}
 use Rattle.vc_model.specs.Message.{Message}
 use Rattle.vc_model.specs.Node.{Answer}
 use Rattle.vc_model.specs.Repository.{Repository}
@@ -13,9 +13,10 @@ use Rattle.vc_node.specs.Blames.{BlamesOpen}
 use Rattle.vc_node.specs.Clean.{KeepsClean}
 use Rattle.vc_node.specs.Opening.{IsOpenable}
 use Rattle.vc_session.specs.Session.{SessionText}
-use Rattle.vc_server.specs.Refusals.{IsRefusedMessageAnswer}
+use Rattle.vc_server.specs.Coming.{IsRefusedThere, Reply}
 use Rattle.vc_server.specs.Serving.{ServedAs, ServesOn}
 use Rattle.vc_shared.specs.Holding.{HoldsShared}
+use Rattle.vc_shared.specs.declared.accept_fault.AcceptFault.TheVariants.{Node as OfNode, ReadFailed}
 use Rattle.vc_shared.specs.declared.fault.SharedFault.{SharedFault}
 use Rattle.vc_shared.specs.declared.fault.SharedFault.TheVariants.{Node}
 
@@ -44,11 +45,28 @@ pub record ServesOnce (call : SharedCall) (r : Repository) (new : FileMap) (resu
 abbrev pub AnswersOnce : SharedCall → Repository → FileMap → FileMap → Result (Vec ℕ Global) SharedFault → Type 0
 AnswersOnce call r old new result = StaysClosed old new r result ⊎ ServesOnce call r new result
 
+-- what is told of a message that is first of what the reader has; nothing of the node where the reader failed
+abbrev pub AnswersRead : SharedCall → Repository → FileMap → FileMap → Reply → Type 0
+AnswersRead call r old new (Ok (Some reply)) = AnswersOnce call r old new (Ok reply)
+AnswersRead call r old new (Ok None) = ⊥
+AnswersRead call r old new (Err ReadFailed) = ⊤
+AnswersRead call r old new (Err (OfNode e)) = AnswersOnce call r old new (Err e)
+
 -- the files are no shared node's
 abbrev pub IsUnopened : FileMap → SharedFault → Type 0
 IsUnopened old (Node fault) = BlamesOpen old fault
 IsUnopened old _ = ⊥
 
--- why there is no reply, whatever the files are: they were not opened, or, opened, they have no bad file more, and the node refuses
-abbrev pub IsRefusedOnce : FileMap → MessageText → SharedFault → Type 0
-IsRefusedOnce old text e = IsUnopened old e ⊎ ((opened : FileMap) × (slots : List (Option SessionText)) × KeepsClean old opened × IsRefusedMessageAnswer opened slots text e)
+-- This came of the reader, and the node that was opened refuses it. The files that it was opened over have no bad file more.
+pub record IsRefusedBy (before rest : Option (List ℕ)) (old : FileMap) (result : Reply) : Type 0 where
+  pub came : Came
+  pub is_come : IsCome before rest came
+  pub opened : FileMap
+  pub slots : List (Option SessionText)
+  pub keeps : KeepsClean old opened
+  pub refused : IsRefusedThere came opened slots result
+
+-- why there is no reply, whatever the files are: they were not opened, or the node that was opened refuses
+abbrev pub IsRefusedOnce : Option (List ℕ) → Option (List ℕ) → FileMap → Reply → Type 0
+IsRefusedOnce before rest old (Err (OfNode e)) = IsUnopened old e ⊎ IsRefusedBy before rest old (Err (OfNode e))
+IsRefusedOnce before rest old _ = ⊤

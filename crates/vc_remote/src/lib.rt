@@ -11,9 +11,10 @@ mod peer;
 mod progress;
 mod report;
 mod serving;
+mod spool;
 mod words;
 
-pub use answering::{answer_message, make_shared};
+pub use answering::{answer_from, make_shared};
 pub use exchanging::{fetch, push};
 pub use fault::RemoteFault;
 pub use progress::Progress;

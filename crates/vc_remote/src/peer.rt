@@ -4,6 +4,7 @@ ghost use Rattle.vc_model.specs.Node.Answer.{Declined};
 use crate::fault::RemoteFault;
 use crate::progress::{Counted, Progress};
 use crate::serving::local;
+use crate::spool::{Copying, Spool, Spooled};
 use std::alloc::Global;
 use std::fs::File;
 use std::io::{self, BufReader, Read, Write};
@@ -11,11 +12,12 @@ use std::net::{Net, OpenStream};
 use std::rt;
 use vc_files::Fault;
 use vc_folder::FolderLock;
-use vc_message::{IncomingFault, Message, read_message};
+use vc_message::{Message, read_message, skip_message};
 use vc_world::{Peer, Reply};
 
-/// The shared node at a port of this machine. The right to write to the clone is let go while an answer is waited for, and
-/// taken again before the clone sees the answer: a server that is silent stops no other command on the clone.
+/// The shared node at a port of this machine. The right to write to the clone is let go while an answer comes, and taken again
+/// before the clone sees the answer: a server that is silent stops no other command on the clone. An answer that is long is kept in a
+/// file meanwhile, from which the clone takes it object by object.
 #[derive(Drop)]
 pub(crate) struct Server<'a, R: rt::Files + Net + AllocGlobal + Clone + Drop, W> {
     rt: R,
@@ -72,23 +74,23 @@ where
         }
     }
 
-    // Sends a message, and reads the one that answers it.
-    fn exchange(&mut self, alloc: Global, bytes: &[u8]) -> Result<Message, RemoteFault> {
+    // Sends a message, and keeps the one that answers it.
+    fn exchange(&mut self, bytes: &[u8]) -> Result<Spooled<File>, RemoteFault> {
         self.connect()?;
         let Some(stream) = &mut self.stream else {
             return Err(RemoteFault::WriteFailed);
         };
         let sent = send(stream.get_mut(), bytes, &mut *self.progress);
-        let answered = receive(alloc, stream, &mut *self.progress);
+        let answered = receive(&self.rt, self.store.as_str(), stream, &mut *self.progress);
         if sent.is_ok() {
             return match answered? {
-                Some(message) => Ok(message),
+                Some(answer) => Ok(answer),
                 None => Err(RemoteFault::ReadFailed),
             };
         }
         // A server that refuses hears no message to its end: what it said is worth more than that it heard no more.
         match answered {
-            Ok(Some(Message::Error(error))) => Err(RemoteFault::Refused(error.text)),
+            Ok(Some(answer)) => Err(refusal_in(self.rt.alloc(), answer)),
             _ => Err(RemoteFault::WriteFailed),
         }
     }
@@ -105,15 +107,62 @@ fn send<S: Write, W: Write>(
     sent
 }
 
-// Reads a message, and tells how much of it came.
-fn receive<S: Read, W: Write>(
-    alloc: Global,
+// Keeps the next message, and tells how much of it came; none where the stream is at its end.
+fn receive<R, S, W>(
+    rt: &R,
+    store: &str,
     stream: &mut S,
     progress: &mut Progress<W>,
-) -> Result<Option<Message>, IncomingFault> {
-    let read = read_message(alloc, &mut Counted { stream, progress });
+) -> Result<Option<Spooled<File>>, RemoteFault>
+where
+    R: rt::Files<File = File> + AllocGlobal + Clone + Drop,
+    S: Read,
+    W: Write,
+{
+    let counted = Counted {
+        stream,
+        progress: &mut *progress,
+    };
+    let kept = keep(rt, store, counted);
     progress.end();
-    read
+    kept
+}
+
+// The same of any stream.
+fn keep<R, S>(rt: &R, store: &str, stream: S) -> Result<Option<Spooled<File>>, RemoteFault>
+where
+    R: rt::Files<File = File> + AllocGlobal + Clone + Drop,
+    S: Read + Drop,
+{
+    let spool = Spool::new(rt, store)?;
+    let mut copying = Copying { stream, spool };
+    let skipped = skip_message(rt.alloc(), &mut copying);
+    let answer = copying.spool.finish()?;
+    match skipped? {
+        Some(_) => Ok(Some(answer)),
+        None => Ok(None),
+    }
+}
+
+// What the server said where it refused; else that it heard no more.
+fn refusal_in(alloc: Global, answer: Spooled<File>) -> RemoteFault {
+    match read(alloc, answer) {
+        Err(RemoteFault::Refused(text)) => RemoteFault::Refused(text),
+        _ => RemoteFault::WriteFailed,
+    }
+}
+
+// The answer, read where it is short; or what the server said where it refused, which is always short.
+fn read(alloc: Global, answer: Spooled<File>) -> Result<Reply<Spooled<File>>, RemoteFault> {
+    let mut short = match answer {
+        Spooled::Memory(short) => short,
+        long => return Ok(Reply::Reader(long)),
+    };
+    match read_message(alloc, &mut short)? {
+        Some(Message::Error(error)) => Err(RemoteFault::Refused(error.text)),
+        Some(message) => Ok(Reply::Message(message)),
+        None => Err(RemoteFault::ReadFailed),
+    }
 }
 
 impl<'a, R, W> Peer for Server<'a, R, W>
@@ -123,6 +172,8 @@ where
 {
     type Refusal = RemoteFault;
 
+    type Answer = Spooled<File>;
+
     // What stands at the other end of a connection may be no shared node, so nothing is claimed of it.
     ghost honest = { ⊥ };
 
@@ -130,14 +181,10 @@ where
 
     ghost told = { λ _. Declined 115 };
 
-    fn ask(&mut self, bytes: &[u8]) -> Result<Reply, RemoteFault> {
-        let alloc = self.rt.alloc();
+    fn ask(&mut self, bytes: &[u8]) -> Result<Reply<Spooled<File>>, RemoteFault> {
         self.lock = None;
-        let answered = self.exchange(alloc, bytes);
+        let answered = self.exchange(bytes);
         self.lock = Some(FolderLock::take(&self.rt, self.store.as_str())?);
-        match answered? {
-            Message::Error(error) => Err(RemoteFault::Refused(error.text)),
-            message => Ok(Reply::Message(message)),
-        }
+        read(self.rt.alloc(), answered?)
     }
 }

@@ -1,10 +1,9 @@
 //! The server of a shared node: one connection after the other, and on each one message after the other.
 ghost use Rattle.std.specs.Prelude.{◌≡◌};
-ghost use Rattle.vc_message.specs.AnyView.{message_text};
-ghost use Rattle.vc_message.specs.Read.{WasRead};
-ghost use Rattle.vc_remote.specs.Turns.{going_on};
+ghost use Rattle.vc_remote.specs.Turns.{going_on, has_come};
 
-use crate::answering::answer_message;
+use crate::answering::answer_from;
+use crate::spool::{Copying, Spool, Spooled, fault_of};
 use std::fs::File;
 use std::io::{self, BufReader, ErrorKind};
 use std::net::{Ipv4Addr, Net, OpenListener, OpenStream, SocketAddr};
@@ -12,9 +11,9 @@ use std::rt;
 use std::thread::Threads;
 use vc_files::Fault;
 use vc_folder::{FolderFiles, FolderLock};
-use vc_message::{IncomingFault, Message, read_message};
+use vc_message::{IncomingFault, skip_message};
 use vc_server::{ServeFault, Served, tell};
-use vc_shared::SharedFault;
+use vc_shared::AcceptFault;
 
 /// Opens a port of this machine, which no other machine reaches.
 pub fn bind<R: Net>(rt: &R, port: u16) -> io::Result<R::Listener> {
@@ -46,8 +45,7 @@ fn pass_over(error: &io::Error) -> Result<(), Fault> {
     match error.kind() {
         ErrorKind::ConnectionAborted => Ok(()),
         ErrorKind::ConnectionReset => Ok(()),
-        ErrorKind::OutOfMemory => Err(Fault::Memory),
-        _ => Err(Fault::Device),
+        _ => Err(fault_of(error)),
     }
 }
 
@@ -89,7 +87,7 @@ fn goes_on(served: Result<Served, ServeFault>) -> Result<bool, Fault>
 }
 
 // Takes the next message, and answers it. The store's lock is held while the node works on a message, and neither while one
-// is waited for nor while the answer goes out.
+// comes nor while the answer goes out.
 fn serve_next<R>(
     rt: &R,
     store: &str,
@@ -98,33 +96,69 @@ fn serve_next<R>(
 where
     R: rt::Files<File = File> + Threads + Net + AllocGlobal + Clone + Drop,
 {
-    let answered = match read_message(rt.alloc(), stream) {
-        Ok(Some(message)) => match answer_in(rt, store, message) {
-            Ok(answered) => answered,
-            Err(fault) => return Err(ServeFault::Fault(fault)),
-        },
-        Ok(None) => return Ok(Served::End),
-        Err(IncomingFault::Unread(fault)) => Err(SharedFault::Unread(fault)),
-        Err(IncomingFault::Failed) => return Err(ServeFault::ReadFailed),
-        Err(IncomingFault::Memory) => return Err(ServeFault::Memory),
+    let Some(message) = receive(rt, store, stream)? else {
+        return Ok(Served::End);
     };
-    tell(rt.alloc(), stream.get_mut(), &answered)
+    match answer_in(rt, store, message) {
+        Ok(answered) => tell(rt.alloc(), stream.get_mut(), &answered),
+        Err(fault) => Err(ServeFault::Fault(fault)),
+    }
 }
 
-// Answers a message at the store in this folder, whose lock is held meanwhile. All that the node stored is durable then.
+// Keeps what comes of the next message, and takes no byte behind it; none where the stream is at its end. Of bytes that are no
+// message it keeps those up to their first fault.
+fn receive<R>(
+    rt: &R,
+    store: &str,
+    stream: &mut BufReader<R::Stream>,
+) -> Result<Option<Spooled<File>>, ServeFault>
+where
+    R: rt::Files<File = File> + Net + AllocGlobal + Clone + Drop,
+{
+    let spool = Spool::new(rt, store)?;
+    let mut copying = Copying { stream, spool };
+    let skipped = skip_message(rt.alloc(), &mut copying);
+    let spooled = match copying.spool.finish() {
+        Ok(spooled) => spooled,
+        Err(fault) => return Err(ServeFault::Fault(fault)),
+    };
+    if has_come(skipped)? {
+        Ok(Some(spooled))
+    } else {
+        Ok(None)
+    }
+}
+
+// Whether there is something that the node answers: a message, or bytes that are none, which it refuses by their first fault.
+fn has_come(skipped: Result<Option<()>, IncomingFault>) -> Result<bool, ServeFault>
+    ensures { result ≡ has_come skipped }
+{
+    match skipped {
+        Ok(found) => Ok(found.is_some()),
+        Err(IncomingFault::Unread(_)) => Ok(true),
+        Err(IncomingFault::Failed) => Err(ServeFault::ReadFailed),
+        Err(IncomingFault::Memory) => Err(ServeFault::Memory),
+    }
+}
+
+// Answers what was kept at the store in this folder, whose lock is held meanwhile. All that the node stored is durable then.
 fn answer_in<R>(
     rt: &R,
     store: &str,
-    message: Message,
-) -> Result<Result<Vec<u8>, SharedFault>, Fault>
+    mut message: Spooled<File>,
+) -> Result<Result<Option<Vec<u8>>, AcceptFault>, Fault>
 where
     R: rt::Files<File = File> + Threads + AllocGlobal + Clone + Drop,
-    requires { WasRead (message_text message) }
 {
     let alloc = rt.alloc();
     let _lock = FolderLock::take(rt, store)?;
     let root = String::from_str(alloc, store)?;
-    let (mut files, answered) = answer_message(alloc, FolderFiles::new(rt.clone()?, root), message);
+    let files = FolderFiles::new(rt.clone()?, root);
+    let (mut files, answered) = answer_from(alloc, files, &mut message);
     files.sync(alloc)?;
-    Ok(answered)
+    match answered {
+        // It is the disk that wasn't read: all that the connection gave was kept before.
+        Err(AcceptFault::ReadFailed) => Err(Fault::Device),
+        answered => Ok(answered),
+    }
 }

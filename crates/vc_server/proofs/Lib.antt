@@ -1,3 +1,4 @@
+pub mod ComingLemmas
 pub mod ServingLemmas
 pub mod StepsLeft
 pub mod TurnLemmas

@@ -1,3 +1,4 @@
+pub mod Coming
 pub mod Refusals
 pub mod Serving
 pub mod Telling

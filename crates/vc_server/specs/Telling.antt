@@ -1,8 +1,7 @@
 -- What is written of an answer: the bytes of a reply, or an Error that tells of a refusal.
-use Rattle.std.specs.Global.{Global}
 use Rattle.std.specs.Io.KnownBytes.{Appends}
 use Rattle.std.specs.List.{flat_map}
-use Rattle.std.specs.Prelude.{◌≡◌, ◌++◌, ℕ, List, Option, Result, Ok, Err, Vec, codes, decimal}
+use Rattle.std.specs.Prelude.{◌≡◌, ◌++◌, ℕ, List, Option, Some, None, Result, Ok, Err, codes, decimal}
 use Rattle.hex.specs.Hex.{encode_lower}
 use Rattle.vc_fetch.specs.ErrorMessage.{error_lines}
 use Rattle.vc_files.specs.declared.faults.Fault.{Fault as FilesFault}
@@ -11,12 +10,14 @@ use Rattle.vc_model.specs.Node.Answer.{Declined, Fault as Failed}
 use Rattle.vc_node.specs.Machine.{failure_of}
 use Rattle.vc_pkt.specs.Line.{spelling}
 use Rattle.vc_shared.specs.Faults.{fault_answer}
+use Rattle.vc_shared.specs.declared.accept_fault.AcceptFault.TheVariants.{Node, ReadFailed as Lost}
 use Rattle.vc_shared.specs.declared.fault.SharedFault.{SharedFault}
 use Rattle.vc_shared.specs.declared.fault.SharedFault.TheVariants.{NotOurs}
+use Rattle.vc_server.specs.Coming.{Reply}
 use Rattle.vc_server.specs.declared.serve_fault.ServeFault.{ServeFault}
-use Rattle.vc_server.specs.declared.serve_fault.ServeFault.TheVariants.{Fault, Memory, WriteFailed}
+use Rattle.vc_server.specs.declared.serve_fault.ServeFault.TheVariants.{Fault, Memory, ReadFailed, WriteFailed}
 use Rattle.vc_server.specs.declared.telling.Served.{Served}
-use Rattle.vc_server.specs.declared.telling.Served.TheVariants.{Answered, Refused}
+use Rattle.vc_server.specs.declared.telling.Served.TheVariants.{Answered, End, Refused}
 
 -- the machine's answer, by the number of a refusal or the fault
 abbrev pub ended_by : Result ℕ FilesFault → Answer
@@ -41,9 +42,11 @@ module _ {W : Type 0} (contents : W → Option (List ℕ)) (old new : W) where
   TellsRefusal e (Err WriteFailed) = (number : ℕ) × (fault_answer e ≡ Declined number)
   TellsRefusal e _ = ⊥
 
-  -- a reply is told by its bytes
-  abbrev pub TellsAnswer : Result (Vec ℕ Global) SharedFault → Result Served ServeFault → Type 0
-  TellsAnswer (Ok reply) (Ok Answered) = Appends (contents old) (contents new) reply.items
-  TellsAnswer (Ok reply) (Err WriteFailed) = Unit {0}
-  TellsAnswer (Ok reply) _ = ⊥
-  TellsAnswer (Err e) result = TellsRefusal e result
+  -- a reply is told by its bytes; where nothing came, or the reader failed, nothing is told
+  abbrev pub TellsAnswer : Reply → Result Served ServeFault → Type 0
+  TellsAnswer (Ok (Some reply)) (Ok Answered) = Appends (contents old) (contents new) reply.items
+  TellsAnswer (Ok (Some reply)) (Err WriteFailed) = Unit {0}
+  TellsAnswer (Ok (Some reply)) _ = ⊥
+  TellsAnswer (Ok None) result = (new ≡ old) × (result ≡ Ok End)
+  TellsAnswer (Err Lost) result = (new ≡ old) × (result ≡ Err ReadFailed)
+  TellsAnswer (Err (Node e)) result = TellsRefusal e result

@@ -1,24 +1,25 @@
 //! One message to the shared node, answered in full.
-ghost use Rattle.std.specs.Prelude.{◌≡◌, ℕ, Err, IfErr, false, true};
+ghost use Rattle.std.specs.Prelude.{◌≡◌, ℕ, Err, IfErr, IfNone, IfOk, false, true};
 ghost use Rattle.vc_files.specs.Failures.{Writes};
-ghost use Rattle.vc_message.specs.AnyView.{message_text};
-ghost use Rattle.vc_message.specs.Machine.{IsUnread, Reads, TextOf};
-ghost use Rattle.vc_message.specs.Read.{WasRead};
+ghost use Rattle.vc_message.specs.Machine.{IsUnread, Reads};
 ghost use Rattle.vc_model.specs.Message.{Message as Sent};
 ghost use Rattle.vc_model.specs.Question.Question.{Unread};
 ghost use Rattle.vc_model.specs.SharedCall.SharedCall.{Accept, Asks};
 ghost use Rattle.vc_node.specs.Clean.{KeepsClean};
 ghost use Rattle.vc_node.specs.declared.fault.NodeFault.TheVariants.{Down};
-ghost use Rattle.vc_server.specs.Refusals.{IsRefusedAnswer, IsRefusedMessageAnswer, IsRefusedOnTheWay};
+ghost use Rattle.vc_server.specs.Coming.{ServesFrom, ServesKnown};
+ghost use Rattle.vc_server.specs.Refusals.{IsRefusedAnswer, IsRefusedOnTheWay};
 ghost use Rattle.vc_server.specs.Serving.{RepliesTo, Serves, StepsToEnd, report_of};
+ghost use Rattle.vc_shared.specs.AcceptFault.{TellsDevice as TellsAcceptDevice, up_after as accept_up_after};
+ghost use Rattle.vc_shared.specs.Arriving.{KeepsHeld};
 ghost use Rattle.vc_shared.specs.Faults.{TellsDevice, up_after};
 ghost use Rattle.vc_shared.specs.Slots.{AreTellable};
 ghost use Rattle.vc_shared.specs.declared.fault.SharedFault.TheVariants.{Node};
 
+use std::io::Read;
 use vc_files::Files;
-use vc_message::Message;
 use vc_push::MAX_COMMANDS;
-use vc_shared::{Accepted, Shared, SharedFault, Stepped};
+use vc_shared::{AcceptFault, Accepted, Shared, SharedFault, Stepped};
 
 // The steps that a push takes at most: its check, the storing of what it carries, an update of each command, and its report.
 const MAX_STEPS: usize = MAX_COMMANDS + 3;
@@ -86,19 +87,26 @@ pub fn answer<F: Files>(shared: &mut Shared<F>, bytes: &[u8]) -> Result<Vec<u8>,
     reply_to(shared, accepted)
 }
 
-/// The same of a message that was read already.
-pub fn answer_message<F: Files>(
+/// Takes the next message of the reader, and no byte behind it, and answers with the bytes of the reply, as [`answer`] does with all of
+/// the bytes; none where the reader is at its end before the first byte. A message that is refused is read to its end, bytes that are
+/// none as far as their first fault, and a reader that fails is 115, which changes nothing. Of a push no more is held than its commands,
+/// one line and one object's body. Want of memory takes the node down, as a device that fails does.
+pub fn answer_from<F: Files, R: Read>(
     shared: &mut Shared<F>,
-    message: Message,
-) -> Result<Vec<u8>, SharedFault>
-    requires read { WasRead (message_text message) }
-    ensures answers { F.honest → (m : Sent) → TextOf m (message_text message) → Serves (Accept m) result (F.content shared.old.files) (F.content shared.new.files) shared.old.slots shared.new.slots shared.old.is_up shared.new.is_up }
-    ensures bad_file { F.honest → IfErr result (IsRefusedMessageAnswer (F.content shared.old.files) shared.old.slots (message_text message)) }
-    ensures down { shared.old.is_up ≡ false → result ≡ Err (Node Down) }
-    ensures up { shared.old.is_up ≡ true → shared.new.is_up ≡ up_after result }
+    reader: &mut R,
+) -> Result<Option<Vec<u8>>, AcceptFault>
+    ensures serves { ServesFrom F.honest (R.remaining reader.old) (R.remaining reader.new) (F.content shared.old.files) (F.content shared.new.files) shared.old.slots shared.new.slots shared.old.is_up shared.new.is_up result }
+    ensures known { ServesKnown F.honest (R.remaining reader.old) (R.remaining reader.new) (F.content shared.old.files) (F.content shared.new.files) shared.old.slots shared.new.slots shared.old.is_up shared.new.is_up result }
+    ensures none { IfOk result (λ found. IfNone found (shared.new ≡ shared.old)) }
+    ensures lost { F.honest → IfErr result (λ e. e ≡ AcceptFault.ReadFailed → KeepsHeld (F.content shared.old.files) (F.content shared.new.files) shared.old.slots shared.new.slots shared.old.is_up shared.new.is_up) }
+    ensures down { shared.old.is_up ≡ false → shared.new ≡ shared.old }
+    ensures up { shared.old.is_up ≡ true → shared.new.is_up ≡ accept_up_after result }
     ensures clean { F.honest → KeepsClean (F.content shared.old.files) (F.content shared.new.files) }
-    ensures wear { Writes F.honest F.content F.failed F.can_fail F.left shared.old.files shared.new.files (TellsDevice result) }
+    ensures wear { Writes F.honest F.content F.failed F.can_fail F.left shared.old.files shared.new.files (TellsAcceptDevice result) }
 {
-    let accepted = shared.accept_message(message)?;
-    reply_to(shared, accepted)
+    let Some(accepted) = shared.accept_from(reader)? else {
+        return Ok(None);
+    };
+    let reply = reply_to(shared, accepted)?;
+    Ok(Some(reply))
 }

@@ -7,7 +7,7 @@ mod serve_fault;
 mod serving;
 mod telling;
 
-pub use answering::{answer, answer_message};
+pub use answering::{answer, answer_from};
 pub use ending::{node_ending, shared_ending, unread_number, value_number};
 pub use serve_fault::ServeFault;
 pub use serving::serve_message;

@@ -10,12 +10,11 @@ use vc_files::Fault;
 /// Why a message was not served to its end.
 #[derive(Clone, Copy, Debug)]
 pub enum ServeFault {
-    /// 115: the reader failed. The node saw nothing of the message, and nothing was written.
+    /// 115: the reader failed. The node is as it was, and nothing was written.
     ReadFailed,
     /// 116: the writer failed. The node stands as after the message; how much of the answer went out isn't told.
     WriteFailed,
-    /// There was no memory for the message's bytes, which the node saw nothing of, or for the line of an Error. Nothing was
-    /// written, and the node isn't down.
+    /// There was no memory for the line of an Error. Nothing was written, and the node isn't down.
     Memory,
     /// A fault of the node, which is down. Nothing was written.
     Fault(Fault),

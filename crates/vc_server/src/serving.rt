@@ -6,18 +6,18 @@ ghost use Rattle.vc_model.specs.Message.{Message};
 ghost use Rattle.vc_node.specs.Clean.{KeepsClean};
 ghost use Rattle.vc_server.specs.Turn.{LeavesRest, TakesTurn, up_after};
 
-use crate::answering::answer_message;
+use crate::answering::answer_from;
 use crate::serve_fault::ServeFault;
-use crate::telling::{Served, refuse, tell};
+use crate::telling::{Served, tell};
 use std::alloc::Global;
 use std::io::{Read, Write};
 use vc_files::{Fault, Files};
-use vc_message::{IncomingFault, read_message};
-use vc_shared::{Shared, SharedFault};
+use vc_shared::Shared;
 
 /// Takes the next message of the reader, and no byte behind it, and writes the reply, and flushes it. Where the message is refused,
 /// or the bytes that came are none, what is written is an Error: `ERR not our ref <id>` for a wanted id that no ref reaches (90),
-/// and `ERR refused <number>` for whatever else. The answer is the same however the reader cuts the bytes.
+/// and `ERR refused <number>` for whatever else. The answer is the same however the reader cuts the bytes. Of a push no more is held
+/// than its commands, one line and one object's body.
 pub fn serve_message<F: Files, R: Read, W: Write>(
     shared: &mut Shared<F>,
     alloc: Global,
@@ -30,17 +30,6 @@ pub fn serve_message<F: Files, R: Read, W: Write>(
     ensures clean { F.honest → KeepsClean (F.content shared.old.files) (F.content shared.new.files) }
     ensures wear { Writes F.honest F.content F.failed F.can_fail F.left shared.old.files shared.new.files (IsErrOf result (ServeFault.Fault Fault.Device)) }
 {
-    let taken = match read_message(alloc, reader) {
-        Ok(taken) => taken,
-        Err(IncomingFault::Unread(fault)) => {
-            return refuse(alloc, writer, &SharedFault::Unread(fault));
-        }
-        Err(IncomingFault::Failed) => return Err(ServeFault::ReadFailed),
-        Err(IncomingFault::Memory) => return Err(ServeFault::Memory),
-    };
-    let Some(message) = taken else {
-        return Ok(Served::End);
-    };
-    let answered = answer_message(shared, message);
+    let answered = answer_from(shared, reader);
     tell(alloc, writer, &answered)
 }

@@ -1,5 +1,5 @@
 // What is written of an answer: the reply, or the line of an Error.
-ghost use Rattle.std.specs.Prelude.{◌≡◌, ◌≤◌, IfErr, IfOk, OnErr, OnOk, length};
+ghost use Rattle.std.specs.Prelude.{◌≡◌, ◌≤◌, IfErr, IfOk, OnOk, length};
 ghost use Rattle.std.specs.Io.KnownBytes.{Appends};
 ghost use Rattle.vc_server.specs.Telling.{TellsAnswer, TellsRefusal, error_bytes, refusal_words};
 
@@ -9,7 +9,7 @@ use std::alloc::{AllocError, Global};
 use std::io::Write;
 use vc_fetch::Error;
 use vc_object::ObjectId;
-use vc_shared::SharedFault;
+use vc_shared::{AcceptFault, SharedFault};
 
 /// What came of one turn at a connection.
 #[derive(Clone, Copy, Debug, PartialEq, Eq)]
@@ -80,8 +80,8 @@ fn send<W: Write>(writer: &mut W, bytes: &[u8]) -> Result<(), ServeFault>
     Ok(())
 }
 
-/// A refusal is told by an Error, and a fault not at all.
-pub(crate) fn refuse<W: Write>(
+// A refusal is told by an Error, and a fault not at all.
+fn refuse<W: Write>(
     alloc: Global,
     writer: &mut W,
     fault: &SharedFault,
@@ -98,19 +98,21 @@ pub(crate) fn refuse<W: Write>(
 }
 
 /// Tells what a node answered: a reply by its bytes, a refusal by the line of an Error, and a fault not at all. What was written is
-/// flushed; a writer that fails is 116.
+/// flushed; a writer that fails is 116. Where nothing came, or the reader failed (115), nothing is written.
 pub fn tell<W: Write>(
     alloc: Global,
     writer: &mut W,
-    answered: &Result<Vec<u8>, SharedFault>,
+    answered: &Result<Option<Vec<u8>>, AcceptFault>,
 ) -> Result<Served, ServeFault>
     ensures { TellsAnswer W.contents writer.old writer.new answered.now result }
 {
     match answered {
-        Ok(reply) => {
+        Ok(Some(reply)) => {
             send(writer, reply)?;
             Ok(Served::Answered)
         }
-        Err(fault) => refuse(alloc, writer, fault),
+        Ok(None) => Ok(Served::End),
+        Err(AcceptFault::ReadFailed) => Err(ServeFault::ReadFailed),
+        Err(AcceptFault::Node(fault)) => refuse(alloc, writer, fault),
     }
 }

@@ -1,5 +1,5 @@
 //! A push that comes: its objects go into the quarantine of its slot one by one.
-ghost use Rattle.std.specs.Prelude.{◌≡◌, ◌++◌, ◌∷◌, [], List, Ok, IfOk, IfSome, IfNone, IsErrOf, OnOk, true, false};
+ghost use Rattle.std.specs.Prelude.{◌≡◌, ◌++◌, ◌∷◌, [], List, None, Ok, IfOk, IfSome, IfNone, IsErrOf, OnOk, true, false};
 ghost use Rattle.vc_fetch.specs.Pack.{is_object};
 ghost use Rattle.vc_files.specs.FileMap.{FileMap, SameOutside};
 ghost use Rattle.vc_files.specs.Failures.{Writes};
@@ -63,6 +63,7 @@ impl Arriving {
     /// Nothing came yet. What stood in the slot's quarantine is gone, so that it has no bad file. No file becomes bad.
     pub fn begin<F: Files>(files: &mut F, alloc: Global, slot: u8) -> Result<Arriving, Fault>
         ensures slot { IfOk result (λ arriving. arriving.slot ≡ slot) }
+        ensures calm { IfOk result (λ arriving. arriving.fault ≡ None) }
         ensures none { F.honest → IfOk result (λ arriving. IsBrought (F.content files.new) slot arriving.names.keys arriving.fault (Ok [])) }
         ensures clean { F.honest → OnOk result (IsQuarantineClean (F.content files.new) slot) }
         ensures outside { F.honest → SameOutside (quarantine_folder slot) (F.content files.old) (F.content files.new) }
@@ -86,6 +87,8 @@ impl Arriving {
         object: &StreamObject,
     ) -> Result<(), Fault>
         ensures slot { self.new.slot ≡ self.old.slot }
+        ensures good { OnOk result (self.old.fault ≡ None → IfNone self.new.fault (is_object (stored object.now) ≡ true)) }
+        ensures wrong { OnOk result (self.old.fault ≡ None → IfSome self.new.fault (λ fault. is_object (stored object.now) ≡ false)) }
         ensures brought { F.honest → OnOk result ((carried : Carried) → IsBrought (F.content files.old) self.old.slot self.old.names.keys self.old.fault carried → IsBrought (F.content files.new) self.new.slot self.new.names.keys self.new.fault (carry (stored object.now) carried)) }
         ensures outside { F.honest → SameOutside (quarantine_folder self.old.slot) (F.content files.old) (F.content files.new) }
         ensures bad { F.honest → MakesNoneBad (F.content files.old) (F.content files.new) }

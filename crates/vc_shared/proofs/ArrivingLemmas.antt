@@ -1,18 +1,14 @@
 -- A push that comes from a reader: what came of it so far, and why it didn't all come.
-use Rattle.std.proofs.Common.{◌≡◌, ◌≢◌, ℕ, List, [], ◌∷◌, ◌++◌, Option, Result, Ok, Err, refl, sym, subst, false, true≢false}
+use Rattle.std.proofs.Common.{◌≡◌, ◌≢◌, ℕ, List, Option, Result, Ok, Err, refl, sym, subst, false, true≢false}
 use Rattle.std.specs.Prelude.{IsErrAnd, IsErrOf}
-use Rattle.std.proofs.KnownBytes.{Consumes-nil}
 use Rattle.vc_files.proofs.FileMapLemmas.{outside_same}
 use Rattle.vc_files.proofs.WearLemmas.{writes_told}
 use Rattle.vc_files.specs.Failures.{Writes}
 use Rattle.vc_files.specs.FileMap.{FileMap}
 use Rattle.vc_files.specs.declared.faults.Fault.{Fault as FilesFault}
 use Rattle.vc_files.specs.declared.faults.Fault.TheVariants.{Device, Memory}
-use Rattle.vc_message.proofs.IncomingLaws.{on_loss}
-use Rattle.vc_message.proofs.StreamingLaws.{so_far}
-use Rattle.vc_message.specs.AnyMessage.{AnyState, any_step, any_step_own, beginning}
-use Rattle.vc_message.specs.Incoming.{Fails, IsWithinLine}
-use Rattle.vc_message.specs.Streaming.{LeadsTo}
+use Rattle.vc_message.specs.AnyMessage.{any_step, beginning}
+use Rattle.vc_message.specs.Incoming.{Fails}
 use Rattle.vc_message.specs.declared.incoming_fault.IncomingFault.{IncomingFault}
 use Rattle.vc_message.specs.declared.incoming_fault.IncomingFault.TheVariants as incoming
 use Rattle.vc_node.specs.NodeFault.{IsOfDevice as IsNodeDevice, is_fault as is_node_fault}
@@ -23,7 +19,8 @@ use Rattle.vc_session.specs.Quarantine.{IsDropped, quarantine_folder}
 use Rattle.vc_session.specs.Session.{SessionText}
 use Rattle.vc_shared.proofs.PushingLemmas.{one_lowest}
 use Rattle.vc_shared.specs.AcceptFault.{IsOfDevice, TellsDevice, is_fault, of_incoming}
-use Rattle.vc_shared.specs.Arriving.{IsCleared, IsStopped, TakesPart, by_bytes, by_node, by_reader}
+use Rattle.vc_message.specs.Coming.{TakesPart}
+use Rattle.vc_shared.specs.Arriving.{IsCleared, IsStopped, by_bytes, by_node, by_reader}
 use Rattle.vc_shared.specs.Faults.{of_device}
 use Rattle.vc_shared.specs.Pushing.{AreTaken, ChangesFree, IsLowest}
 use Rattle.vc_shared.specs.declared.accept_fault.AcceptFault.{AcceptFault}
@@ -32,19 +29,6 @@ use Rattle.vc_shared.specs.declared.fault.SharedFault.TheVariants as shared
 use Rattle.vc_store.specs.declared.faults.StoreFault.TheVariants as store
 
 -- ---- what came so far
-nil_right : (x y : List ℕ) → [] ≡ x ++ y → y ≡ []
-nil_right [] y e = sym e
-nil_right (b ∷ x) y e = absurd (cc e)
-
--- nothing more is within any line
-nothing_within : IsWithinLine []
-nothing_within front more e some = absurd (some (nil_right front more e))
-
--- where a message is begun, some of it was taken
-pub part_taken : (before now : Option (List ℕ)) (place number : ℕ) (s : AnyState) → LeadsTo any_step beginning before now place number s → TakesPart before now
-part_taken before now place number s leads =
-    on_loss any_step any_step_own beginning before now now [] place number s (so_far any_step any_step_own beginning before now place number s leads) (Consumes-nil now, nothing_within) incoming.Failed tt
-
 -- why the reader gave no more
 pub stopped_by : (before new : Option (List ℕ)) (e : IncomingFault) → Fails any_step beginning before new e → IsStopped before new (of_incoming e)
 stopped_by before new incoming.Memory fails = by_node fails Memory refl

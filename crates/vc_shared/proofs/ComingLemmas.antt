@@ -6,10 +6,10 @@ use Rattle.std.specs.FinMap.{get, nat_cmp-IsAntisymmetric}
 use Rattle.vc_files.specs.Failures.{Writes}
 use Rattle.vc_files.specs.FileMap.{FileMap, SameOutside}
 use Rattle.vc_message.proofs.AnyLaws.{any_spelled}
-use Rattle.vc_message.proofs.MachineTexts.{text_is}
+use Rattle.vc_message.proofs.IncomingFronts.{taken_as}
 use Rattle.vc_message.proofs.Totals.{less_or}
 use Rattle.vc_message.specs.AnyMessage.{MessageText, a_push}
-use Rattle.vc_message.specs.Incoming.{TakesMessage, TakesNothing}
+use Rattle.vc_message.specs.Incoming.{TakesNothing}
 use Rattle.vc_message.specs.Machine.{TextOf, pkt_number}
 use Rattle.vc_message.specs.Read.{WasRead}
 use Rattle.vc_model.proofs.Maps.{same_key}
@@ -28,12 +28,14 @@ use Rattle.vc_session.specs.Clean.{MakesNoneBad}
 use Rattle.vc_session.specs.Quarantine.{IsDropped, quarantine_folder}
 use Rattle.vc_session.specs.Session.{SessionText}
 use Rattle.vc_shared.proofs.AcceptingLemmas.{faulted_answers, unread_answers}
-use Rattle.vc_shared.proofs.HoldingLemmas.{beside_slot, clean_on, content_of, spells_on}
+use Rattle.vc_shared.proofs.HoldingLemmas.{beside_slot, content_of, spells_on}
+use Rattle.vc_node.proofs.ReceivingClone.{clean_on}
 use Rattle.vc_shared.proofs.PushingLemmas.{free_there, push_answers, slot_beside}
 use Rattle.vc_shared.proofs.PushingTexts.{reads_tellable}
 use Rattle.vc_shared.specs.AcceptFault.{TellsDevice, is_fault, up_after}
 use Rattle.vc_shared.specs.Accepting.{AnswersUp, IsRefusedMessage}
-use Rattle.vc_shared.specs.Arriving.{AcceptsUp, BeginsPush, IsCleared, IsRefusedThere, IsStopped, IsTold, KeepsHeld, OpensFrom, TakesAll, ToldAs, a_message, by_bytes, by_node, by_reader, cut_short, lost, message_told, no_message, nothing, slot_told}
+use Rattle.vc_message.specs.Coming.{TakesAll, a_message, cut_short, lost, no_message, nothing_came}
+use Rattle.vc_shared.specs.Arriving.{AcceptsUp, BeginsPush, IsCleared, IsRefusedThere, IsStopped, IsTold, KeepsHeld, OpensFrom, ToldAs, by_bytes, by_node, by_reader, message_told, slot_told}
 use Rattle.vc_shared.specs.Arriving.IsTurnedAway.{busy, stopped}
 use Rattle.vc_shared.specs.Arriving.{IsTurnedAway}
 use Rattle.vc_shared.specs.Calls.{AcceptedAs, AnswersShared}
@@ -56,12 +58,6 @@ head_tellable before now place number commands l =
     let lines = l.lines ++ flush ∷ [] in
     let given = l.goes (flush ∷ []) in
     reads_tellable push (l.bytes ++ spelling flush) (lines, IsLines-push l.lines flush l.bytes (spelling flush) l.each (line_written flush tt), any_spelled (a_push push) lines given)
-
--- what was taken is a message of the machine
-pub message_come : (before new : Option (List ℕ)) (text : MessageText) → TakesAll before new text → TakesMessage before new text
-message_come before new text (bytes, taken, (lines, each, given)) =
-    let spelled = any_spelled text lines given in
-    ((bytes, taken, (lines, each, spelled)), text_is text lines spelled)
 
 pub was_read : (before new : Option (List ℕ)) (text : MessageText) → TakesAll before new text → WasRead text
 was_read before new text (bytes, taken, (lines, each, given)) = (bytes, (lines, each, any_spelled text lines given))
@@ -145,10 +141,10 @@ module _ (honest : Type 0) (before rest : Option (List ℕ)) (old new : FileMap)
   -- nothing came
   pub nothing_accepts : TakesNothing before rest → result ≡ Ok None → AcceptsUp honest before rest old new slots after result
   nothing_accepts none is is_up up = record {
-    came = nothing;
+    came = nothing_came;
     is_come = none;
-    told = subst (IsTold true nothing) (sym is) tt;
-    refused = λ h was. subst (IsRefusedThere nothing old slots) (sym is) tt;
+    told = subst (IsTold true nothing_came) (sym is) tt;
+    refused = λ h was. subst (IsRefusedThere nothing_came old slots) (sym is) tt;
     answers = λ h call never. absurd never;
   }
 
@@ -173,7 +169,7 @@ module _ (honest : Type 0) (before rest : Option (List ℕ)) (old new : FileMap)
     pub message_accepts : (honest → IfErr told (IsRefusedMessage old slots text)) → (honest → (m : Message) → TextOf m text → AnswersUp (Accept m) told old new slots after) → AcceptsUp honest before rest old new slots after result
     message_accepts refused answers is_up up = record {
       came = a_message text;
-      is_come = message_come before rest text taken;
+      is_come = taken_as before rest text taken;
       told = subst (IsTold true (a_message text)) (sym is) (is_told told);
       refused = λ h was. subst (IsRefusedThere (a_message text) old slots) (sym is) (refused_there told (refused h));
       answers = λ h call which.
@@ -192,7 +188,7 @@ module _ (honest : Type 0) (before rest : Option (List ℕ)) (old new : FileMap)
   stopped_accepts (by_bytes fault taken is) is_up up = record {
     came = no_message fault;
     is_come = taken;
-    told = subst (λ (x : AcceptFault). IsTold true (no_message fault) (Err x)) (sym is) refl;
+    told = subst (λ (x : AcceptFault). IsTold {T = Accepted} true (no_message fault) (Err x)) (sym is) refl;
     refused = λ h was. subst (λ (x : AcceptFault). IsRefusedThere (no_message fault) old slots (Err x)) (sym is) tt;
     answers = λ h call which.
         subst (λ (x : AcceptFault). AnswersShared call (ToldAs (Err x)) old new slots slots true is_up) (sym is)
@@ -203,14 +199,14 @@ module _ (honest : Type 0) (before rest : Option (List ℕ)) (old new : FileMap)
   stopped_accepts (by_reader part is) is_up up = record {
     came = lost;
     is_come = part;
-    told = subst (λ (x : AcceptFault). IsTold true lost (Err x)) (sym is) tt;
+    told = subst (λ (x : AcceptFault). IsTold {T = Accepted} true lost (Err x)) (sym is) tt;
     refused = λ h was. subst (λ (x : AcceptFault). IsRefusedThere lost old slots (Err x)) (sym is) tt;
     answers = λ h call never. absurd never;
   }
   stopped_accepts (by_node part fault is) is_up up = record {
     came = cut_short;
     is_come = part;
-    told = subst (λ (x : AcceptFault). IsTold true cut_short (Err x)) (sym is) (fault, refl);
+    told = subst (λ (x : AcceptFault). IsTold {T = Accepted} true cut_short (Err x)) (sym is) (fault, refl);
     refused = λ h was. subst (λ (x : AcceptFault). IsRefusedThere cut_short old slots (Err x)) (sym is) tt;
     answers = λ h call never.
         subst (λ (x : AcceptFault). AnswersShared call (ToldAs (Err x)) old new slots slots true is_up) (sym is)

@@ -9,7 +9,6 @@ use Rattle.std.proofs.lemmas.Option.{unwrap_or-slice_get}
 use Rattle.vc_files.specs.FileMap.{FileMap, SameOutside}
 use Rattle.vc_model.specs.Push.{OpenPush}
 use Rattle.vc_model.specs.Repository.{Index, Repository}
-use Rattle.vc_node.specs.Clean.{IsClean}
 use Rattle.vc_node.specs.IndexFile.{index_bytes}
 use Rattle.vc_node.specs.Machine.{Spells}
 use Rattle.vc_node.specs.Shown.{shown}
@@ -110,7 +109,3 @@ slot_stays old new s t did slot small fits apart h bad (Some u) (Some q) (at, pu
     (at, others_stay old new s t u did q (omega (arith, small)) (omega (arith, fits, at)) (λ same. apart (sym at ∙ same)) h push, λ id damaged. clean id (bad.quarantines slot (omega (arith, fits)) id damaged))
 slot_stays old new s t did slot small fits apart h bad None (Some q) never = never
 slot_stays old new s t did slot small fits apart h bad (Some u) None never = never
-
--- what was clean is so
-pub clean_on : (old new : FileMap) → MakesNoneBad old new → IsClean old → IsClean new
-clean_on old new bad clean = record { objects = λ id damaged. clean.objects id (bad.objects id damaged); refs = λ path wrong. clean.refs path (bad.refs path wrong) }

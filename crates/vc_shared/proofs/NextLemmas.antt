@@ -4,11 +4,11 @@ use Rattle.std.proofs.Common.{◌≡◌, inl, inr, ℕ, Bool, true, false, List,
 use Rattle.std.specs.Prelude.{IfErr, IfNone, IfOk, IfSome, OnErr}
 use Rattle.vc_files.specs.Failures.{Writes}
 use Rattle.vc_files.specs.FileMap.{FileMap}
-use Rattle.vc_message.proofs.AnyLaws.{any_given}
-use Rattle.vc_message.proofs.IncomingFronts.{no_fault_taken, not_nothing, one_message_taken}
-use Rattle.vc_message.specs.AnyMessage.{MessageText, any_step, beginning}
+use Rattle.vc_message.proofs.ComingLaws.{none_wrong, some_taken, text_taken}
+use Rattle.vc_message.proofs.IncomingFronts.{taken_as}
+use Rattle.vc_message.specs.AnyMessage.{any_step, beginning}
 use Rattle.vc_message.specs.Incoming.{Fails, TakesNothing}
-use Rattle.vc_message.specs.Machine.{Reads, TextOf, pkt_number}
+use Rattle.vc_message.specs.Machine.{Reads, pkt_number}
 use Rattle.vc_message.specs.Streaming.{TakesSome}
 use Rattle.vc_message.specs.declared.incoming_fault.IncomingFault.{IncomingFault}
 use Rattle.vc_message.specs.declared.incoming_fault.IncomingFault.TheVariants as incoming
@@ -18,15 +18,13 @@ use Rattle.vc_model.specs.SharedCall.{SharedCall}
 use Rattle.vc_model.specs.SharedCall.SharedCall.{Accept, Asks}
 use Rattle.vc_node.specs.Clean.{KeepsClean}
 use Rattle.vc_node.specs.declared.fault.NodeFault.TheVariants.{Down}
-use Rattle.vc_pkt.proofs.FaultLaws.{one_message}
-use Rattle.vc_pkt.specs.Message.{GivenBy, IsSpelledBy}
 use Rattle.vc_session.specs.Clean.{MakesNoneBad}
 use Rattle.vc_session.specs.Session.{SessionText}
-use Rattle.vc_shared.proofs.ComingLemmas.{message_come}
-use Rattle.vc_shared.proofs.OpeningLemmas.{clean_by}
+use Rattle.vc_node.proofs.ReceivingClone.{clean_by}
 use Rattle.vc_shared.proofs.SteppingLaws.{down_answers}
 use Rattle.vc_shared.specs.AcceptFault.{TellsDevice, is_fault, up_after}
-use Rattle.vc_shared.specs.Arriving.{AcceptsFrom, AcceptsUp, Came, IsCallOf, IsCome, IsKnown, IsTold, KeepsHeld, ToldAs, a_message, cut_short, down_told, lost, no_message, nothing}
+use Rattle.vc_message.specs.Coming.{Came, IsCome, a_message, cut_short, lost, no_message, nothing_came}
+use Rattle.vc_shared.specs.Arriving.{AcceptsFrom, AcceptsUp, IsCallOf, IsKnown, IsTold, KeepsHeld, ToldAs, down_told}
 use Rattle.vc_shared.specs.Calls.{AcceptedAs, AnswersShared}
 use Rattle.vc_shared.specs.declared.accept_fault.AcceptFault.{AcceptFault}
 use Rattle.vc_shared.specs.declared.accept_fault.AcceptFault.TheVariants.{Node, ReadFailed}
@@ -104,12 +102,12 @@ module _ (honest : Type 0) (before rest : Option (List ℕ)) (content : FileMap)
   down_by : (s : Skipped) → IfOk s (λ found. IfSome found (λ u. TakesSome before rest)) → IfOk s (λ found. IfNone found (TakesNothing before rest)) → IfErr s (Fails any_step beginning before rest) → Accepts (down_told s)
   down_by (Ok (Some u)) some none fails = record {
     came = a_message some.0;
-    is_come = message_come before rest some.0 some.1;
+    is_come = taken_as before rest some.0 some.1;
     told = refl;
     refused = λ h was. absurd (true≢false (sym was));
     answers = λ h call which. down_call call which.0 which.2;
   }
-  down_by (Ok None) some none fails = record { came = nothing; is_come = none; told = tt; refused = λ h was. absurd (true≢false (sym was)); answers = λ h call never. absurd never }
+  down_by (Ok None) some none fails = record { came = nothing_came; is_come = none; told = tt; refused = λ h was. absurd (true≢false (sym was)); answers = λ h call never. absurd never }
   down_by (Err incoming.Failed) some none fails = record { came = lost; is_come = fails; told = tt; refused = λ h was. absurd (true≢false (sym was)); answers = λ h call never. absurd never }
   down_by (Err incoming.Memory) some none fails = record { came = cut_short; is_come = fails; told = refl; refused = λ h was. absurd (true≢false (sym was)); answers = λ h call never. absurd never }
   down_by (Err (incoming.Unread fault)) some none fails = record {
@@ -141,40 +139,26 @@ module _ (honest : Type 0) (left : Option (List ℕ)) (old new : FileMap) (slots
   abbrev before : Option (List ℕ)
   before = Some (bytes ++ rest)
 
-  given : IsSpelledBy (GivenBy any_step beginning) reads.text bytes
-  given = let s = reads.spelled in (s.0, s.1, any_given reads.text s.0 s.2)
-
   abbrev Answered : Bool → Result (Option Accepted) AcceptFault → SharedCall → Type 0
   Answered was_up result call = AnswersShared call (ToldAs result) old new slots after was_up is_up
 
   abbrev Known : Bool → Result (Option Accepted) AcceptFault → Type 0
   Known was_up result = IsKnown honest was_up m rest left (Answered was_up result) result
 
-  -- it is what was taken
-  text_taken : (text : MessageText) → IsCome before left (a_message text) → TextOf m text × (left ≡ Some rest)
-  text_taken text ((taken, takes, (lines, each, spelled)), named) =
-      let g = given in
-      let end = one_message_taken any_step beginning bytes rest reads.text g.0 g.1 g.2 left taken text takes (lines, each, any_given text lines spelled) in
-      let same = one_message any_step beginning bytes reads.text g.0 g.1 g.2 text (subst (λ (b : List ℕ). IsSpelledBy (GivenBy any_step beginning) text b) end.0 (lines, each, any_given text lines spelled)) in
-      (subst (TextOf m) same reads.is, end.1)
-
-  no_end : IsCome before left nothing → ⊥
-  no_end none = let g = given in not_nothing any_step beginning bytes rest reads.text g.0 g.1 g.2 left none
-
   abbrev Answers : Bool → Came → Result (Option Accepted) AcceptFault → Type 0
   Answers was_up came result = honest → (call : SharedCall) → IsCallOf was_up came call → Answered was_up result call
 
   known_by : (was_up : Bool) (came : Came) (result : Result (Option Accepted) AcceptFault) → IsCome before left came → IsTold was_up came result → Answers was_up came result → Known was_up result
-  known_by true (a_message text) (Ok (Some accepted)) come told answers = let at = text_taken text come in (at.1, λ h. answers h (Accept m) (m, at.0, refl))
+  known_by true (a_message text) (Ok (Some accepted)) come told answers = let at = text_taken left bytes rest m reads text come in (at.1, λ h. answers h (Accept m) (m, at.0, refl))
   known_by true (a_message text) (Ok None) come told answers = absurd told
-  known_by true (a_message text) (Err (Node e)) come told answers = let at = text_taken text come in (inl at.1, λ h which. answers h (Accept m) (m, at.0, refl))
+  known_by true (a_message text) (Err (Node e)) come told answers = let at = text_taken left bytes rest m reads text come in (inl at.1, λ h which. answers h (Accept m) (m, at.0, refl))
   known_by true (a_message text) (Err ReadFailed) come told answers = tt
   known_by false (a_message text) (Ok (Some accepted)) come told answers = absurd told
   known_by false (a_message text) (Ok None) come told answers = absurd told
-  known_by false (a_message text) (Err (Node e)) come told answers = let at = text_taken text come in (inl at.1, λ h which. answers h (Accept m) (m, at.0, refl))
+  known_by false (a_message text) (Err (Node e)) come told answers = let at = text_taken left bytes rest m reads text come in (inl at.1, λ h which. answers h (Accept m) (m, at.0, refl))
   known_by false (a_message text) (Err ReadFailed) come told answers = tt
-  known_by was_up nothing result come told answers = absurd (no_end come)
-  known_by was_up (no_message fault) result come told answers = let g = given in absurd (no_fault_taken any_step beginning bytes rest reads.text g.0 g.1 g.2 left fault come)
+  known_by was_up nothing_came result come told answers = absurd (some_taken left bytes rest m reads come)
+  known_by was_up (no_message fault) result come told answers = absurd (none_wrong left bytes rest m reads fault come)
   known_by true lost (Ok (Some accepted)) come told answers = absurd told
   known_by true lost (Ok None) come told answers = absurd told
   known_by true lost (Err (Node e)) come told answers = absurd told

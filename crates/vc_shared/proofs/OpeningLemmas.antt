@@ -1,145 +1,20 @@
 -- What opening the files of a shared node leaves of them.
-use Rattle.std.proofs.Common.{inl, suc, zero, ◌≡◌, ℕ, Bool, true, false, cond, ◌&&◌, ◌||◌, nat_eq, List, [], ◌∷◌, ◌++◌, drop, take, map, Option, Some, None, sym, ap, refl, ◌∙◌, subst}
-use Rattle.std.specs.Prelude.{bytes_eq, codes, is_some, unwrap_or, String, string_bytes, option_map}
+use Rattle.std.proofs.Common.{suc, zero, ◌≡◌, ℕ, true, List, [], ◌∷◌, Option, Some, None, sym, refl, subst}
 use Rattle.std.specs.FinMap as files
 use Rattle.std.specs.FinMap.{empty, get-empty}
-use Rattle.std.specs.Global.{Global}
-use Rattle.std.specs.List.{AllByRecursion, starts_with}
-use Rattle.std.specs.Ordering.{nat_cmp, eq_by_cmp}
-use Rattle.std.specs.Cmp.Lexicographic.{slice_cmp}
-use Rattle.std.proofs.lemmas.List.{map-append, take-append-drop}
-use Rattle.std.proofs.lemmas.List.Folds.{list_any-append}
-use Rattle.vc_files.specs.FileMap.{FileMap, paths_under}
-use Rattle.vc_index.specs.IndexText.{TextFault}
+use Rattle.std.specs.List.{AllByRecursion}
+use Rattle.std.specs.Ordering.{nat_cmp}
+use Rattle.vc_files.specs.FileMap.{FileMap}
 use Rattle.vc_model.specs.Push.{OpenPush}
 use Rattle.vc_model.specs.Repository.{Repository}
+use Rattle.vc_node.proofs.EmptyingLemmas.{empty_slot, openable_kept, opened_empty}
 use Rattle.vc_node.proofs.OpeningLaws.{made_ready}
-use Rattle.vc_node.specs.Blames.{BlamesOpen}
-use Rattle.vc_node.specs.Clean.{KeepsClean}
-use Rattle.vc_node.specs.IndexFile.{index_bytes}
-use Rattle.vc_node.specs.Machine.{Spells}
+use Rattle.vc_node.specs.Emptying.{IsOpened}
 use Rattle.vc_node.specs.Opening.{IsOpenable}
-use Rattle.vc_node.specs.Shown.{Shown, opened, shown}
-use Rattle.vc_node.specs.declared.fault.NodeFault.{NodeFault}
-use Rattle.vc_node.specs.declared.fault.NodeFault.TheVariants.{Store, Ref, Missing, NotACommit, BadPath, PathConflict, BadIndex, WrongEntry, Down}
-use Rattle.vc_object.specs.ObjectMap.{ObjectMap}
-use Rattle.vc_refs.proofs.PathLemmas.{is_among, is_among-paths_under}
-use Rattle.vc_refs.proofs.WayLemmas.{split_from_starts}
-use Rattle.vc_refs.specs.Head.{read_head, head_of}
-use Rattle.vc_refs.specs.RefFault.{BlamesHead}
-use Rattle.vc_refs.specs.RefMap.{RefMap}
-use Rattle.vc_refs.specs.Refs.{packed_at, packed_path, refs}
-use Rattle.vc_refs.specs.declared.faults.RefFault.{RefFault}
-use Rattle.vc_refs.specs.declared.faults.RefFault.TheVariants.{Stale, Conflict, BadRefFile, HeadLoop, Fault}
-use Rattle.vc_refs.specs.declared.heads.Head.{Head}
-use Rattle.vc_session.proofs.CleanLemmas.{bad_loses}
-use Rattle.vc_session.proofs.FrameLemmas.{head-same, objects-same, refs-kept}
-use Rattle.vc_session.proofs.QuarantineLemmas.{Taken, taken_left}
-use Rattle.vc_session.specs.Clean.{MakesNoneBad}
-use Rattle.vc_session.specs.Quarantine.{quarantine_folder}
 use Rattle.vc_session.specs.Session.{SessionText}
-use Rattle.vc_shared.proofs.HoldingLemmas.{clean_on}
 use Rattle.vc_shared.specs.Holding.{HoldsShared, HoldsSlot}
-use Rattle.vc_shared.specs.Opening.{AreDropped, IsOpened, LosesPushes, quarantines}
 use Rattle.vc_shared.specs.Slots.{slot_of}
-use Rattle.vc_store.specs.Store.{object_path, objects}
 
--- ---- files that are taken away
-none_left : (o : Option (List ℕ)) → cond (is_some o) None o ≡ None
-none_left None = refl
-none_left (Some x) = refl
-
-pub all_dropped : (old now : FileMap) → Taken old now (paths_under old quarantines) → AreDropped now
-all_dropped old now t path under =
-    t.at path
-    ∙ ap (λ b. cond b None (files.get old path)) (is_among-paths_under old quarantines path ∙ ap (λ b. b && is_some (files.get old path)) under)
-    ∙ none_left (files.get old path)
-
-first_no : (a b : Bool) → (a || b) ≡ false → a ≡ false
-first_no true b e = cc
-first_no false b e = refl
-
--- as some of the paths are taken away, what is outside stays
-pub taken_loses : (old now : FileMap) (items : List (String Global)) (i : ℕ) → map string_bytes items ≡ paths_under old quarantines → Taken old now (map string_bytes (take i items)) → LosesPushes old now
-taken_loses old now items i listed t = record {
-  outside = record {
-    at = λ path outside.
-        let front = map string_bytes (take i items) in
-        let back = map string_bytes (drop i items) in
-        let whole : front ++ back ≡ paths_under old quarantines = sym (map-append string_bytes (take i items) (drop i items)) ∙ ap (map string_bytes) (take-append-drop i items) ∙ listed in
-        let none : is_among path (front ++ back) ≡ false = ap (is_among path) whole ∙ is_among-paths_under old quarantines path ∙ ap (λ b. b && is_some (files.get old path)) outside in
-        let no : is_among path front ≡ false = first_no _ _ (sym (list_any-append (eq_by_cmp (slice_cmp nat_cmp) path) front back) ∙ none) in
-        t.at path ∙ ap (λ b. cond b None (files.get old path)) no;
-  };
-  left = taken_left t;
-}
-
-pub loses_none : (old now : FileMap) → now ≡ old → LosesPushes old now
-loses_none old now same = record {
-  outside = record { at = λ path outside. ap (λ (m : FileMap). files.get m path) same };
-  left = record { at = λ path. inl (ap (λ (m : FileMap). files.get m path) same) };
-}
-
-pub loses_on : (old mid now : FileMap) → LosesPushes old mid → now ≡ mid → LosesPushes old now
-loses_on old mid now loses same = subst (λ (m : FileMap). LosesPushes old m) (sym same) loses
-
--- what was bad before a call is all that is bad after it
-pub clean_by : (old new : FileMap) → MakesNoneBad old new → KeepsClean old new
-clean_by old new bad = record { damage = record { before = bad.objects }; refs = bad.refs; packed = record { at = λ n other. ap (λ m. packed_at m n) bad.packed } }
-
-pub clean_lost : (old new : FileMap) → LosesPushes old new → KeepsClean old new
-clean_lost old new loses = clean_by old new (bad_loses old new loses.left (loses.outside.at packed_path refl))
-
--- ---- what files show that lost pushes
-no_push : (q : List ℕ) → starts_with nat_eq q (codes "refs/") ≡ true → starts_with nat_eq q quarantines ≡ false
-no_push q h = ap (λ p. starts_with nat_eq p quarantines) (split_from_starts q (codes "refs/") h)
-
-same_shown : (o p : ObjectMap) (r s : RefMap) (h k : Option Head) (t u : List ℕ) → o ≡ p → r ≡ s → h ≡ k → t ≡ u
-    → ◌≡◌ {A = Shown} (record { objects = o; refs = r; head = h; index = t }) (record { objects = p; refs = s; head = k; index = u })
-same_shown o p r s h k t u a b c d i = record { objects = a i; refs = b i; head = c i; index = d i }
-
-module _ (old new : FileMap) (loses : LosesPushes old new) where
-  index_kept : index_bytes new ≡ index_bytes old
-  index_kept = ap (λ found. unwrap_or found []) (loses.outside.at (codes "index") refl)
-
-  objects_kept : objects new ≡ objects old
-  objects_kept i id = objects-same old new id (loses.outside.at (object_path id.0) refl) i
-
-  pub shown_kept : shown new ≡ shown old
-  shown_kept =
-      same_shown (objects new) (objects old) (refs new) (refs old) (head_of new) (head_of old) (index_bytes new) (index_bytes old) objects_kept
-      (refs-kept old new (λ q h. loses.outside.at q (no_push q h)) (loses.outside.at packed_path refl))
-      (head-same old new (loses.outside.at (codes "HEAD") refl)) index_kept
-
-  pub openable_kept : (r : Repository) → IsOpenable old r → IsOpenable new r
-  openable_kept r can = record {
-    spells = subst (λ (s : Shown). Spells (opened s.head s) r) (sym shown_kept) can.spells;
-    clean = clean_on old new (bad_loses old new loses.left (loses.outside.at packed_path refl)) can.clean;
-  }
-
-  -- a refusal is for the same files
-  head_text : option_map read_head (files.get new (codes "HEAD")) ≡ option_map read_head (files.get old (codes "HEAD"))
-  head_text = ap (option_map read_head) (loses.outside.at (codes "HEAD") refl)
-
-  blames_head : (e : RefFault) → BlamesHead new e → BlamesHead old e
-  blames_head (Stale current) h = h
-  blames_head (Conflict other) h = h
-  blames_head (BadRefFile path) h = (h.0, sym head_text ∙ h.1)
-  blames_head HeadLoop h = sym head_text ∙ h
-  blames_head (Fault fault) h = h
-
-  pub blames_kept : (e : NodeFault) → BlamesOpen new e → BlamesOpen old e
-  blames_kept (Store fault) h = h
-  blames_kept (BadIndex place) h = subst (λ (text : List ℕ). TextFault text place) index_kept h
-  blames_kept (Ref fault) h = blames_head fault h
-  blames_kept (Missing id) h = h
-  blames_kept (NotACommit id) h = h
-  blames_kept BadPath h = h
-  blames_kept PathConflict h = h
-  blames_kept (WrongEntry at) h = h
-  blames_kept Down h = h
-
--- ---- the node that is opened
 -- eight slots, all free
 abbrev pub free_slots : List (Option SessionText)
 free_slots = None ∷ None ∷ None ∷ None ∷ None ∷ None ∷ None ∷ None ∷ []
@@ -152,12 +27,6 @@ slot_none (v ∷ vs) free (suc k) = slot_none vs free.1 k
 all_free : AllByRecursion (λ v. v ≡ None) free_slots
 all_free = (refl, (refl, (refl, (refl, (refl, (refl, (refl, (refl, tt))))))))
 
-in_quarantines : (k : ℕ) (path : List ℕ) → starts_with nat_eq path (quarantine_folder k) ≡ true → starts_with nat_eq path quarantines ≡ true
-in_quarantines k path h = ap (λ p. starts_with nat_eq p quarantines) (split_from_starts path (quarantine_folder k) h)
-
-not_head : (path : List ℕ) → starts_with nat_eq path quarantines ≡ true → bytes_eq path (codes "HEAD") ≡ false
-not_head path h = ap (λ p. bytes_eq p (codes "HEAD")) (split_from_starts path quarantines h)
-
 pub held_opened : (old new : FileMap) (r : Repository) → IsOpened old new → IsOpenable old r → HoldsShared new free_slots true (record { repository = r; live = Some empty })
 held_opened old new r o can =
     let held = made_ready o.mid new r o.ready o.keeps (openable_kept old o.mid o.loses r can) in
@@ -169,7 +38,7 @@ held_opened old new r o can =
         each = λ k fits.
             subst (λ (v : Option SessionText). HoldsSlot new k v (files.get {R = nat_cmp} empty k)) (sym (slot_none free_slots all_free k))
             (subst (λ (q : Option OpenPush). HoldsSlot new k None q) (sym (get-empty nat_cmp k))
-            (λ path h. o.ready.only.at path (not_head path (in_quarantines k path h)) ∙ o.dropped path (in_quarantines k path h)));
+            (empty_slot k new (opened_empty old new o)));
         others = λ k past. get-empty nat_cmp k;
       };
     }

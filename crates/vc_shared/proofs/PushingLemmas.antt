@@ -34,7 +34,8 @@ use Rattle.vc_session.specs.Clean.{MakesNoneBad}
 use Rattle.vc_session.specs.Quarantine.{IsDropped, quarantine_folder}
 use Rattle.vc_session.specs.Session.{SessionText}
 use Rattle.vc_session.specs.Steps.{fault_number}
-use Rattle.vc_shared.proofs.HoldingLemmas.{beside_slot, clean_on, content_of, slot_other, slot_set, spells_on}
+use Rattle.vc_shared.proofs.HoldingLemmas.{beside_slot, content_of, slot_other, slot_set, spells_on}
+use Rattle.vc_node.proofs.ReceivingClone.{clean_on}
 use Rattle.vc_shared.specs.Calls.{AcceptedAs, Quietly}
 use Rattle.vc_shared.specs.Faults.{is_fault, of_device, up_after}
 use Rattle.vc_shared.specs.Holding.{HoldsShared, HoldsSlot, HoldsSlots, IsLive}

@@ -1,5 +1,5 @@
 -- A restart: what holds a node is opened unless a fault comes.
-use Rattle.std.proofs.Common.{◌≡◌, ℕ, Bool, true, false, List, Option, Some, None, Result, Ok, Err, refl, sym, subst, ap}
+use Rattle.std.proofs.Common.{◌≡◌, Bool, true, false, List, Option, Some, None, Result, Ok, Err, refl, sym, subst}
 use Rattle.std.specs.Prelude.{IfErr, OnErr, OnOk, is_ok}
 use Rattle.std.specs.FinMap.{empty}
 use Rattle.vc_files.specs.FileMap.{FileMap}
@@ -9,9 +9,12 @@ use Rattle.vc_model.specs.Shared.{SharedNode}
 use Rattle.vc_model.specs.SharedCall.{SharedAnswers}
 use Rattle.vc_model.specs.SharedCall.SharedCall.{Open}
 use Rattle.vc_model.specs.Clone.Awaited.{Nothing}
+use Rattle.vc_node.proofs.EmptyingLemmas.{shown_kept}
 use Rattle.vc_node.proofs.OpeningLaws.{held_nodes_open}
+use Rattle.vc_node.proofs.ReceivingClone.{clean_on}
 use Rattle.vc_node.proofs.RestartLemmas.{opening_fails}
 use Rattle.vc_node.specs.Blames.{BlamesOpen}
+use Rattle.vc_node.specs.Emptying.{IsOpened, LosesCarried}
 use Rattle.vc_node.specs.Machine.{Spells, fault_answer, failure_of}
 use Rattle.vc_node.specs.Opening.{opened_node}
 use Rattle.vc_node.specs.Shown.{Shown}
@@ -19,12 +22,10 @@ use Rattle.vc_node.specs.declared.fault.NodeFault.{NodeFault}
 use Rattle.vc_refs.specs.Refs.{packed_path}
 use Rattle.vc_session.proofs.CleanLemmas.{bad_loses}
 use Rattle.vc_session.specs.Session.{SessionText}
-use Rattle.vc_shared.proofs.HoldingLemmas.{clean_on}
-use Rattle.vc_shared.proofs.OpeningLemmas.{free_slots, held_opened, shown_kept}
+use Rattle.vc_shared.proofs.OpeningLemmas.{free_slots, held_opened}
 use Rattle.vc_shared.specs.Calls.{AnswersShared, Quietly, RestartedAs}
 use Rattle.vc_shared.specs.Holding.{HoldsShared}
 use Rattle.vc_shared.specs.Laws.{HeldSharedOpen}
-use Rattle.vc_shared.specs.Opening.{IsOpened, LosesPushes}
 
 -- a repository that is held can be opened, whatever pushes are open
 pub held_open : HeldSharedOpen
@@ -45,7 +46,7 @@ module _ (old new : FileMap) (slots after : List (Option SessionText)) (was_up :
         );
   }
 
-  failed : (e : NodeFault) → LosesPushes old new → BlamesOpen old e → AnswersShared Open (Quietly (fault_answer e)) old new slots after was_up false
+  failed : (e : NodeFault) → LosesCarried old new → BlamesOpen old e → AnswersShared Open (Quietly (fault_answer e)) old new slots after was_up false
   failed e loses blames = record {
     each = λ n held.
         let why = opening_fails old n.repository held.spells held.clean e blames in
@@ -64,7 +65,7 @@ module _ (old new : FileMap) (slots after : List (Option SessionText)) (was_up :
   }
 
   -- whatever node was held
-  pub restart_answers : (is_up : Bool) (result : Result (Unit {0}) NodeFault) → OnOk result (IsOpened old new) → OnErr result (LosesPushes old new) → IfErr result (BlamesOpen old)
+  pub restart_answers : (is_up : Bool) (result : Result (Unit {0}) NodeFault) → OnOk result (IsOpened old new) → OnErr result (LosesCarried old new) → IfErr result (BlamesOpen old)
       → after ≡ free_slots → is_up ≡ is_ok result → AnswersShared Open (RestartedAs result) old new slots after was_up is_up
   restart_answers is_up (Ok u) opened loses blames free up =
       subst (λ (b : Bool). AnswersShared Open (Quietly (Did Stored)) old new slots after was_up b) (sym up) (restarted opened free)

@@ -9,7 +9,7 @@ use Rattle.vc_node.specs.Clean.{KeepsClean}
 use Rattle.vc_node.specs.declared.fault.NodeFault.TheVariants.{Down}
 use Rattle.vc_session.specs.Clean.{MakesNoneBad}
 use Rattle.vc_session.specs.Session.{SessionText}
-use Rattle.vc_shared.proofs.OpeningLemmas.{clean_by}
+use Rattle.vc_node.proofs.ReceivingClone.{clean_by}
 use Rattle.vc_shared.specs.Accepting.{AnswersUp}
 use Rattle.vc_shared.specs.Calls.{AcceptedAs, AnswersShared}
 use Rattle.vc_shared.specs.Faults.{TellsDevice, up_after}

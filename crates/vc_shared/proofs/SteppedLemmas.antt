@@ -38,7 +38,8 @@ use Rattle.vc_session.specs.Session.{IsSession, SessionText}
 use Rattle.vc_session.specs.Steps.{IsReport, Steps, fault_number}
 use Rattle.vc_session.specs.declared.stage.Stepped.{Stepped as SessionStep}
 use Rattle.vc_session.specs.declared.stage.Stepped.TheVariants as session
-use Rattle.vc_shared.proofs.HoldingLemmas.{slot_set, slot_other, slot_stays, content_of, spells_on, steps_beside, clean_on}
+use Rattle.vc_shared.proofs.HoldingLemmas.{slot_set, slot_other, slot_stays, content_of, spells_on, steps_beside}
+use Rattle.vc_node.proofs.ReceivingClone.{clean_on}
 use Rattle.vc_shared.specs.Calls.{Quietly, SendsBytes, SteppedAs}
 use Rattle.vc_shared.specs.Holding.{HoldsShared, HoldsSlot, HoldsSlots}
 use Rattle.vc_shared.specs.Slots.{slot_of}

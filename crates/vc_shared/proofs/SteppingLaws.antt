@@ -40,7 +40,8 @@ use Rattle.vc_session.specs.declared.fault.SessionFault.TheVariants as refusal
 use Rattle.vc_session.specs.declared.stage.Stage.{Stage}
 use Rattle.vc_session.specs.declared.stage.Stage.TheVariants as stages
 use Rattle.vc_store.specs.declared.faults.StoreFault.TheVariants as store
-use Rattle.vc_shared.proofs.HoldingLemmas.{SameBeside, beside_objects, beside_same, beside_slot, content_of, spells_on, clean_on}
+use Rattle.vc_shared.proofs.HoldingLemmas.{SameBeside, beside_objects, beside_same, beside_slot, content_of, spells_on}
+use Rattle.vc_node.proofs.ReceivingClone.{clean_on}
 use Rattle.vc_shared.proofs.SteppedLemmas.{Leads, stepped}
 use Rattle.vc_shared.specs.Calls.{AnswersShared, Quietly, SteppedAs}
 use Rattle.vc_shared.specs.Faults.{fault_answer, is_fault, of_device, of_session, up_after}

@@ -3,8 +3,9 @@ use Rattle.std.specs.Prelude.{◌≡◌, ◌≢◌, ◌⊎◌, ◌++◌, ⊤, �
 use Rattle.vc_files.specs.FileMap.{FileMap}
 use Rattle.vc_files.specs.declared.faults.Fault.{Fault as FilesFault}
 use Rattle.vc_files.specs.declared.faults.Fault.TheVariants.{Memory}
-use Rattle.vc_message.specs.AnyMessage.{MessageText, a_push, any_step, beginning}
-use Rattle.vc_message.specs.Incoming.{Takes, TakesFault, TakesMessage, TakesNothing, TakesText}
+use Rattle.vc_message.specs.Coming.{Came, IsCome, TakesAll, TakesPart, a_message, cut_short, lost, no_message, nothing_came}
+use Rattle.vc_message.specs.AnyMessage.{a_push, any_step, beginning}
+use Rattle.vc_message.specs.Incoming.{TakesFault}
 use Rattle.vc_message.specs.Machine.{Reads, TextOf, pkt_number}
 use Rattle.vc_message.specs.Streaming.{LeadsTo, of_push, state_at}
 use Rattle.vc_message.specs.declared.incoming_fault.IncomingFault.{IncomingFault}
@@ -18,7 +19,6 @@ use Rattle.vc_model.specs.SharedCall.{SharedCall}
 use Rattle.vc_model.specs.SharedCall.SharedCall.{Accept, Asks, Open}
 use Rattle.vc_node.specs.declared.fault.NodeFault.TheVariants.{Down}
 use Rattle.vc_object.specs.declared.fault.ObjectFault.{ObjectFault}
-use Rattle.vc_pkt.specs.Message.{GivenBy}
 use Rattle.vc_pkt.specs.ObjectStream.{between}
 use Rattle.vc_pkt.specs.declared.fault.PktFault.{PktFault}
 use Rattle.vc_push.specs.Push.{CommandText, FaultOf, PushText}
@@ -47,14 +47,6 @@ BeginsPush before now place number commands = LeadsTo any_step beginning before 
 -- so it is, whatever the reader had before
 abbrev pub FromHead : Option (List ℕ) → Taken → List CommandText → (Option (List ℕ) → Type 0) → Type 0
 FromHead now taken commands Holds = (before : Option (List ℕ)) → BeginsPush before now taken.bytes taken.lines commands → Holds before
-
--- the reader gave the message, and nothing else
-abbrev pub TakesAll : Option (List ℕ) → Option (List ℕ) → MessageText → Type 0
-TakesAll before new text = TakesText any_step beginning (GivenBy any_step beginning) before new text
-
--- it gave some of a message, or bytes that are none, and each was needed to tell
-abbrev pub TakesPart : Option (List ℕ) → Option (List ℕ) → Type 0
-TakesPart before new = (bytes : List ℕ) × Takes any_step beginning before new bytes
 
 -- All of the push came. The session has its commands, and what it carries stands in the slot's quarantine.
 pub record Arrives (honest : Type 0) (before new : Option (List ℕ)) (content : FileMap) (slot : ℕ) (s : SessionText) : Type 0 where
@@ -92,21 +84,6 @@ abbrev pub slot_told : Result ℕ AcceptFault → Result (Option Accepted) Accep
 slot_told (Ok k) = Ok (Some (Slot k))
 slot_told (Err e) = Err e
 
--- what came of the reader: a message, nothing, bytes that are no message, or some of one, where the reader failed, or the node did
-pub data Came : Type 0 where
-  a_message : MessageText → Came
-  nothing : Came
-  no_message : PktFault → Came
-  lost : Came
-  cut_short : Came
-
-abbrev pub IsCome : Option (List ℕ) → Option (List ℕ) → Came → Type 0
-IsCome before new (a_message text) = TakesMessage before new text
-IsCome before new nothing = TakesNothing before new
-IsCome before new (no_message fault) = TakesFault any_step beginning before new fault
-IsCome before new lost = TakesPart before new
-IsCome before new cut_short = TakesPart before new
-
 -- The calls of the machine that the event can be. A fault of the node comes before it is known which message it is.
 abbrev pub IsCallOf : Bool → Came → SharedCall → Type 0
 IsCallOf was_up (a_message text) call = (m : Message) × TextOf m text × (call ≡ Accept m)
@@ -115,15 +92,15 @@ IsCallOf true cut_short call = call ≢ Open
 IsCallOf was_up _ call = ⊥
 
 -- what is told of it, by a node that is up, or down
-abbrev pub IsTold : Bool → Came → Result (Option Accepted) AcceptFault → Type 0
-IsTold true (a_message text) (Ok (Some accepted)) = ⊤
+abbrev pub IsTold : {T : Type 0} → Bool → Came → Result (Option T) AcceptFault → Type 0
+IsTold true (a_message text) (Ok (Some told)) = ⊤
 IsTold true (a_message text) (Err (Node e)) = ⊤
 IsTold true (no_message fault) (Err (Node e)) = e ≡ shared.Unread fault
 IsTold true cut_short (Err (Node e)) = (fault : FilesFault) × (e ≡ of_device fault)
 IsTold false (a_message text) (Err (Node e)) = e ≡ shared.Node Down
 IsTold false (no_message fault) (Err (Node e)) = e ≡ shared.Node Down
 IsTold false cut_short (Err (Node e)) = e ≡ of_device Memory
-IsTold was_up nothing (Ok None) = ⊤
+IsTold was_up nothing_came (Ok None) = ⊤
 IsTold was_up lost (Err ReadFailed) = ⊤
 IsTold was_up _ _ = ⊥
 
@@ -169,8 +146,8 @@ down_told (Err (incoming.Unread fault)) = Err (Node (shared.Node Down))
 
 -- Where a message is the first that the reader has, what is told is the machine's answer to it, and what is behind it is left; or the
 -- reader failed, or a fault came.
-abbrev pub IsKnown : Type 0 → Bool → Message → List ℕ → Option (List ℕ) → (SharedCall → Type 0) → Result (Option Accepted) AcceptFault → Type 0
-IsKnown honest was_up m rest left Answers (Ok (Some accepted)) = (left ≡ Some rest) × (honest → Answers (Accept m))
+abbrev pub IsKnown : {T : Type 0} → Type 0 → Bool → Message → List ℕ → Option (List ℕ) → (SharedCall → Type 0) → Result (Option T) AcceptFault → Type 0
+IsKnown honest was_up m rest left Answers (Ok (Some told)) = (left ≡ Some rest) × (honest → Answers (Accept m))
 IsKnown honest was_up m rest left Answers (Ok None) = ⊥
 IsKnown honest was_up m rest left Answers (Err ReadFailed) = ⊤
 IsKnown honest was_up m rest left Answers (Err (Node e)) =

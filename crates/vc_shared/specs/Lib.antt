@@ -3,7 +3,6 @@ pub mod Calls
 pub mod Faults
 pub mod Holding
 pub mod Laws
-pub mod Opening
 pub mod Pushing
 pub mod Resolving
 pub mod Serving

@@ -9,7 +9,6 @@ mod accepting;
 mod arriving;
 mod fault;
 mod laws;
-mod opening;
 mod pushing;
 mod resolving;
 mod serving;

@@ -2,9 +2,7 @@
 ghost use Rattle.std.specs.Prelude.{◌≡◌, ◌⊎◌, ℕ, IfErr, IfNone, IfOk, OnErr, OnOk, Ok, None, Some, List, is_ok, not, false, true};
 ghost use Rattle.std.specs.FinMap.{empty};
 ghost use Rattle.vc_files.specs.Failures.{Wears, Writes};
-ghost use Rattle.vc_message.specs.AnyView.{message_text};
-ghost use Rattle.vc_message.specs.Machine.{IsUnread, Reads, TextOf};
-ghost use Rattle.vc_message.specs.Read.{WasRead};
+ghost use Rattle.vc_message.specs.Machine.{IsUnread, Reads};
 ghost use Rattle.vc_model.specs.Message.{Message as Sent};
 ghost use Rattle.vc_model.specs.Question.Question.{PackRefs, Resolve, Unread};
 ghost use Rattle.vc_model.specs.Repository.{Repository};
@@ -21,7 +19,7 @@ ghost use Rattle.vc_repository.specs.Resolving.{DenotesIn};
 ghost use Rattle.vc_rev.specs.Grammar.{IsExpr};
 ghost use Rattle.vc_rev.specs.Views.{expr_view};
 ghost use Rattle.vc_shared.specs.AcceptFault.{TellsDevice as TellsAcceptDevice, is_fault as is_accept_fault, up_after as accept_up_after};
-ghost use Rattle.vc_shared.specs.Accepting.{IsRefusedBytes, IsRefusedMessage, IsToWrite};
+ghost use Rattle.vc_shared.specs.Accepting.{IsRefusedBytes, IsToWrite};
 ghost use Rattle.vc_shared.specs.Arriving.{AcceptsFrom, AnswersKnown, KeepsHeld};
 ghost use Rattle.vc_shared.specs.Calls.{AcceptedAs, AnswersShared, RestartedAs, SteppedAs};
 ghost use Rattle.vc_shared.specs.Faults.{TellsDevice, fault_answer, is_fault, up_after};
@@ -31,15 +29,14 @@ ghost use Rattle.vc_shared.specs.Slots.{AreTellable, slot_of};
 ghost use Rattle.vc_shared.specs.Stepping.{IsHeldThere, IsRefusedIn, MayWriteIn, StepsSlot};
 
 use crate::arriving::refuse_down;
-use crate::opening::open_files;
 use crate::{AcceptFault, Accepted, SharedFault, Stepped, accepting, arriving, stepping};
 use std::alloc::Global;
 use std::io::Read;
 use std::marker::Model;
 use vc_base::Generations;
 use vc_files::{Files, FusedFiles};
-use vc_message::{Message, skip_message};
-use vc_node::NodeFault;
+use vc_message::skip_message;
+use vc_node::{NodeFault, open_files};
 use vc_object::ObjectId;
 use vc_rev::Expr;
 use vc_session::PushSession;
@@ -85,7 +82,7 @@ impl<F: Files> Shared<F> {
         ensures wear_err { IfErr result (λ e. Writes F.honest F.content F.failed F.can_fail F.left files e.0 (IsNodeDevice e.1)) }
     {
         match open_files(alloc, &mut files) {
-            Ok(()) => Ok(Shared {
+            Ok(_) => Ok(Shared {
                 files,
                 alloc,
                 slots: [None, None, None, None, None, None, None, None],
@@ -128,12 +125,17 @@ impl<F: Files> Shared<F> {
         ensures clean { F.honest → KeepsClean (F.content self.old.files) (F.content self.new.files) }
         ensures wear { Writes F.honest F.content F.failed F.can_fail F.left self.old.files self.new.files (TellsNodeDevice result) }
     {
-        let opened = open_files(self.alloc, &mut self.files);
         self.slots = [None, None, None, None, None, None, None, None];
-        self.is_up = opened.is_ok();
+        self.is_up = false;
         self.generations = Generations::new(self.alloc);
         self.due = Vec::new(self.alloc);
-        opened
+        match open_files(self.alloc, &mut self.files) {
+            Ok(_) => {
+                self.is_up = true;
+                Ok(())
+            }
+            Err(fault) => Err(fault),
+        }
     }
 
     /// Takes the node down, as a fault of its own does: for whoever runs out of memory between two of its calls.
@@ -246,26 +248,6 @@ impl<F: Files> Shared<F> {
             return Err(SharedFault::Node(NodeFault::Down));
         }
         let accepted = accepting::accept(self.alloc, &mut self.files, &mut self.slots, bytes);
-        self.settle(accepted)
-    }
-
-    /// The same of a message that was read already.
-    pub fn accept_message(&mut self, message: Message) -> Result<Accepted, SharedFault>
-        requires read { WasRead (message_text message) }
-        ensures answers { F.honest → (m : Sent) → TextOf m (message_text message) → AnswersShared (Accept m) (AcceptedAs result) (F.content self.old.files) (F.content self.new.files) self.old.slots self.new.slots self.old.is_up self.new.is_up }
-        ensures bad_file { F.honest → IfErr result (λ e. (e ≡ SharedFault.Node NodeFault.Down) ⊎ IsRefusedMessage (F.content self.old.files) self.old.slots (message_text message) e) }
-        ensures err { OnErr result (self.new.slots ≡ self.old.slots) }
-        ensures tellable { AreTellable self.new.slots }
-        ensures down { self.old.is_up ≡ false → result ≡ Err (SharedFault.Node NodeFault.Down) }
-        ensures up { self.old.is_up ≡ true → self.new.is_up ≡ up_after result }
-        ensures clean { F.honest → KeepsClean (F.content self.old.files) (F.content self.new.files) }
-        ensures wear { Writes F.honest F.content F.failed F.can_fail F.left self.old.files self.new.files (TellsDevice result) }
-        ensures looks { (m : Sent) → TextOf m (message_text message) → IsToWrite m ⊎ Wears F.failed F.can_fail F.left self.old.files self.new.files (TellsDevice result) }
-    {
-        if !self.is_up {
-            return Err(SharedFault::Node(NodeFault::Down));
-        }
-        let accepted = accepting::take(self.alloc, &mut self.files, &mut self.slots, message);
         self.settle(accepted)
     }
 

@@ -54,13 +54,14 @@ fn has_zero(items: &[PushItem]) -> bool
 
 impl<F: Files> WorldClone<F> {
     /// The clone that these files hold, up and awaiting nothing. Where there are none yet, it is a new one. Files that are none of a
-    /// clone's (33 and 34: HEAD, 62: the index) are handed back as they were, and so are they where a fault comes.
+    /// clone's (33 and 34: HEAD, 62: the index) are handed back, and so are they where a fault comes: what
+    /// could be opened can be then too.
     pub fn open(alloc: Global, files: F) -> Result<WorldClone<F>, (F, NodeFault)>
         ensures opens { F.honest → IsSteady F.can_fail F.left files → (r : Repository) → IsOpenable (F.content files) r → IfOk result (λ clone. HoldsClone F.content F.can_fail F.left clone.node (opened_node r)) }
         ensures new { F.honest → IsSteady F.can_fail F.left files → F.content files ≡ no_files → IfOk result (λ clone. HoldsClone F.content F.can_fail F.left clone.node fresh_clone) }
         ensures refused { F.honest → IfErr result (λ e. BlamesOpen (F.content files) e.1) }
         ensures memory { F.honest → IsSteady F.can_fail F.left files → F.content files ≡ no_files → IfErr result (λ e. IsWantOfMemory e.1) }
-        ensures err { F.honest → IfErr result (λ e. F.content e.0 ≡ F.content files) }
+        ensures err { F.honest → (r : Repository) → IsOpenable (F.content files) r → IfErr result (λ e. IsOpenable (F.content e.0) r) }
     {
         match CloneNode::open(alloc, files) {
             Ok(node) => Ok(WorldClone { node }),

@@ -1,5 +1,5 @@
 -- The calls of an exchange, as real nodes tell of them.
-use Rattle.std.proofs.Common.{◌≡◌, Option, Some, Ok, Err, subst}
+use Rattle.std.proofs.Common.{◌≡◌, ℕ, List, Option, Some, Ok, Err, subst}
 use Rattle.vc_files.specs.FileMap.{FileMap}
 use Rattle.vc_model.specs.Clone.{CloneNode}
 use Rattle.vc_model.specs.CloneCall.{CloneCall}
@@ -46,24 +46,25 @@ pub record Asked {P : Type 0} (holds : P → SharedNode → Type 0) (shows : Ans
   pub may : MayServe git git_rules m s answer node sends
 
 -- it refused, or a fault ended its call
-pub refused : {P R : Type 0} (holds : P → SharedNode → Type 0) (told : R → Answer) (m : Message) (refusal : R) (old new : P) (s : SharedNode) → AnswersPeer holds told m (Err refusal) old new → holds old s → Asked holds (AskedAs told (Err refusal)) m s new
-refused holds told m refusal old new s k h = let w = k.each s h in record { node = w.0; answer = w.1; sends = w.2; held = w.3; shown = w.4; may = w.5 }
+pub refused : {P R A : Type 0} (holds : P → SharedNode → Type 0) (told : R → Answer) (remaining : A → Option (List ℕ)) (m : Message) (refusal : R) (old new : P) (s : SharedNode) → AnswersPeer holds told remaining m (Err refusal) old new → holds old s → Asked holds (AskedAs told remaining (Err refusal)) m s new
+refused holds told remaining m refusal old new s k h = let w = k.each s h in record { node = w.0; answer = w.1; sends = w.2; held = w.3; shown = w.4; may = w.5 }
 
 -- what came back is a message of the machine's
-came : {R : Type 0} (told : R → Answer) (reply : Reply) (a : Answer) (sends : Option Message) → AskedAs told (Ok reply) a sends → (q : Message) × Brings reply q × (sends ≡ Some q)
-came told (replies.Bytes bytes) a sends h = (h.message, h.written.reads, h.sent)
-came told (replies.Message message) a sends h = (h.message, h.is, h.sent)
+came : {R A : Type 0} (told : R → Answer) (remaining : A → Option (List ℕ)) (reply : Reply A) (a : Answer) (sends : Option Message) → AskedAs told remaining (Ok reply) a sends → (q : Message) × Brings remaining reply q × (sends ≡ Some q)
+came told remaining (replies.Bytes bytes) a sends h = (h.message, h.written.reads, h.sent)
+came told remaining (replies.Message message) a sends h = (h.message, h.is, h.sent)
+came told remaining (replies.Reader reader) a sends h = (h.message, h.begins, h.sent)
 
-pub record Answered {P : Type 0} (holds : P → SharedNode → Type 0) (reply : Reply) (m : Message) (s : SharedNode) (new : P) : Type 0 where
+pub record Answered {P A : Type 0} (holds : P → SharedNode → Type 0) (remaining : A → Option (List ℕ)) (reply : Reply A) (m : Message) (s : SharedNode) (new : P) : Type 0 where
   pub node : SharedNode
   pub held : holds new node
   pub message : Message
-  pub brings : Brings reply message
+  pub brings : Brings remaining reply message
   pub tells : SharedMaySend git git_rules s m node message
 
 -- it answered
-pub answered : {P R : Type 0} (holds : P → SharedNode → Type 0) (told : R → Answer) (m : Message) (reply : Reply) (old new : P) (s : SharedNode) → AnswersPeer holds told m (Ok reply) old new → holds old s → Answered holds reply m s new
-answered holds told m reply old new s k h =
+pub answered : {P R A : Type 0} (holds : P → SharedNode → Type 0) (told : R → Answer) (remaining : A → Option (List ℕ)) (m : Message) (reply : Reply A) (old new : P) (s : SharedNode) → AnswersPeer holds told remaining m (Ok reply) old new → holds old s → Answered holds remaining reply m s new
+answered holds told remaining m reply old new s k h =
     let w = k.each s h in
-    let q = came told reply w.1 w.2 w.4 in
+    let q = came told remaining reply w.1 w.2 w.4 in
     record { node = w.0; held = w.3; message = q.0; brings = q.1; tells = (w.1, subst (λ sends. MayServe git git_rules m s w.1 w.0 sends) q.2 w.5) }

@@ -2,6 +2,7 @@ pub mod Sent
 pub mod Rounds
 pub mod Pushes
 pub mod Legs
+pub mod LosingLemmas
 pub mod RoundCalls
 pub mod Tracked
 pub mod FetchRounds

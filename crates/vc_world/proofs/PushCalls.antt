@@ -83,13 +83,13 @@ module _ {R : Type 0} (told : R → Answer) where
   tells_stray m received e other = tells_report m received (Err Stray) e tt other
 
 -- ---- the calls
-module _ {P R F : Type 0} (holds : P → SharedNode → Type 0) (told : R → Answer) (content : F → FileMap) (items : List PushItem) where
+module _ {P R F A : Type 0} (holds : P → SharedNode → Type 0) (told : R → Answer) (remaining : A → Option (List ℕ)) (content : F → FileMap) (items : List PushItem) where
   -- the clone's call with the push's items, and the peer's with the message of these bytes
   abbrev pub Starts : Result (Vec ℕ Global) CloneFault → Held F → Held F → Type 0
   Starts result was is = Calls content (Command (StartPush false (machine_items items))) (SentAs result) was is
 
-  abbrev pub Answers : List ℕ → Result Reply R → P → P → Type 0
-  Answers bytes result old new = (m : Message) → Reads bytes m → AnswersPeer holds told m result old new
+  abbrev pub Answers : List ℕ → Result (Reply A) R → P → P → Type 0
+  Answers bytes result old new = (m : Message) → Reads bytes m → AnswersPeer holds told remaining m result old new
 
   abbrev Begins : CloneNode → CloneNode → Message → Type 0
   Begins c d m = CloneMaySend git git_rules c (Command (StartPush false (machine_items items))) d m
@@ -135,7 +135,7 @@ module _ {P R F : Type 0} (holds : P → SharedNode → Type 0) (told : R → An
   not_answered push sent refusal old new was is k same asks = record {
     each = λ s c hs hc.
         let v = begun push was is c k hc in
-        let w = refused holds told v.push refusal old new s (asks v.push (subst (λ b. Reads b v.push) (sym same) v.reads)) hs in (
+        let w = refused holds told remaining v.push refusal old new s (asks v.push (subst (λ b. Reads b v.push) (sym same) v.reads)) hs in (
           w.node,
           v.node,
           w.held,
@@ -149,13 +149,13 @@ module _ {P R F : Type 0} (holds : P → SharedNode → Type 0) (told : R → An
         );
   }
 
-  pub comes : (push : Vec ℕ Global) (sent : List ℕ) (answer : Reply) (result : Result PushReport (ExchangeEnd R)) (old new : P) (was is after : Held F)
-      → Starts (Ok push) was is → sent ≡ push.items → Answers sent (Ok answer) old new → ((m : Message) → Brings answer m → TakesAnswer content m result is after)
+  pub comes : (push : Vec ℕ Global) (sent : List ℕ) (answer : Reply A) (result : Result PushReport (ExchangeEnd R)) (old new : P) (was is after : Held F)
+      → Starts (Ok push) was is → sent ≡ push.items → Answers sent (Ok answer) old new → ((m : Message) → Brings remaining answer m → TakesAnswer content m result is after)
       → Leads holds (HoldsClone content) old new was after (IsPush told items result)
   comes push sent answer result old new was is after k same asks takes = record {
     each = λ s c hs hc.
         let v = begun push was is c k hc in
-        let w = answered holds told v.push answer old new s (asks v.push (subst (λ b. Reads b v.push) (sym same) v.reads)) hs in
+        let w = answered holds told remaining v.push answer old new s (asks v.push (subst (λ b. Reads b v.push) (sym same) v.reads)) hs in
         let q = takes w.message w.brings in
         let u = led content (Receive w.message) (ReceivedAs q.received) is after v.node q.receives v.held in (
           w.node,

@@ -42,28 +42,28 @@ round_rest : (s : SharedNode) (c e f : CloneNode) (u t : SharedNode) (d : CloneN
 round_rest s c e f u t d list advert want a lists tells asks (unpacked k same) = round_unpacked e u list advert want lists tells (subst (λ d. CloneMaySend git git_rules e (Receive advert) d want) (sym same) asks) k
 round_rest s c e f u t d list advert want a lists tells asks (packed pack sends gives k) = round_packed e f u list advert want pack sends lists tells asks gives k
 
-module _ {P R F : Type 0} (holds : P → SharedNode → Type 0) (told : R → Answer) (content : F → FileMap) where
-  pub no_pack : (m : Message) (refusal : R) (old new : P) (was : Held F) → AnswersPeer holds told m (Err refusal) old new
+module _ {P R F A : Type 0} (holds : P → SharedNode → Type 0) (told : R → Answer) (remaining : A → Option (List ℕ)) (content : F → FileMap) where
+  pub no_pack : (m : Message) (refusal : R) (old new : P) (was : Held F) → AnswersPeer holds told remaining m (Err refusal) old new
       → Leads holds (HoldsClone content) old new was was (IsRest told m (Err (Shared refusal)))
   no_pack m refusal old new was k = record {
     each = λ s c hs hc.
-        let w = refused holds told m refusal old new s k hs in
+        let w = refused holds told remaining m refusal old new s k hs in
         (w.node, c, w.held, hc, (w.answer, (w.shown.0.answer, w.shown.1), unpacked (subst (λ sends. MayServe git git_rules m s w.answer w.node sends) w.shown.0.sent w.may) refl));
   }
 
   -- the clone's call with the message that came back
-  abbrev pub Takes : Reply → Result Received CloneFault → Held F → Held F → Type 0
-  Takes reply received was is = (m : Message) → Brings reply m → Calls content (Receive m) (ReceivedAs received) was is
+  abbrev pub Takes : Reply A → Result Received CloneFault → Held F → Held F → Type 0
+  Takes reply received was is = (m : Message) → Brings remaining reply m → Calls content (Receive m) (ReceivedAs received) was is
 
   -- what is received ends the round so
   abbrev pub Settles : Result Received CloneFault → Result Fetched (ExchangeEnd R) → Type 0
   Settles received result = (a : Answer) (sends : Option Message) → ReceivedAs received a sends → RoundAs told result a
 
-  pub with_pack : (m : Message) (pack : Reply) (received : Result Received CloneFault) (result : Result Fetched (ExchangeEnd R)) (old new : P) (was is : Held F)
-      → AnswersPeer holds told m (Ok pack) old new → Takes pack received was is → Settles received result → Leads holds (HoldsClone content) old new was is (IsRest told m result)
+  pub with_pack : (m : Message) (pack : Reply A) (received : Result Received CloneFault) (result : Result Fetched (ExchangeEnd R)) (old new : P) (was is : Held F)
+      → AnswersPeer holds told remaining m (Ok pack) old new → Takes pack received was is → Settles received result → Leads holds (HoldsClone content) old new was is (IsRest told m result)
   with_pack m pack received result old new was is k takes settles = record {
     each = λ s c hs hc.
-        let w = answered holds told m pack old new s k hs in
+        let w = answered holds told remaining m pack old new s k hs in
         let q = w.message in
         let v = led content (Receive q) (ReceivedAs received) was is c (takes q w.brings) hc in (
           w.node,
@@ -84,8 +84,8 @@ module _ {P R F : Type 0} (holds : P → SharedNode → Type 0) (told : R → An
   settles (Ok (Reported moved reasons)) a sends shown = inr (moved, reasons.items, shown.answer)
   settles (Err fault) a sends shown = shown.answer
 
-  pub pack_comes : (m : Message) (pack : Reply) (received : Result Received CloneFault) (result : Result Fetched (ExchangeEnd R)) (old new : P) (was is : Held F)
-      → AnswersPeer holds told m (Ok pack) old new → Takes pack received was is → result ≡ settled received → Leads holds (HoldsClone content) old new was is (IsRest told m result)
+  pub pack_comes : (m : Message) (pack : Reply A) (received : Result Received CloneFault) (result : Result Fetched (ExchangeEnd R)) (old new : P) (was is : Held F)
+      → AnswersPeer holds told remaining m (Ok pack) old new → Takes pack received was is → result ≡ settled received → Leads holds (HoldsClone content) old new was is (IsRest told m result)
   pack_comes m pack received result old new was is k takes e = with_pack m pack received result old new was is k takes (subst (Settles received) (sym e) (settles received))
 
   -- ---- a whole round
@@ -117,15 +117,15 @@ module _ {P R F : Type 0} (holds : P → SharedNode → Type 0) (told : R → An
       }
 
   -- what the peer answers to the message of these bytes
-  abbrev pub Answers : List ℕ → Result Reply R → P → P → Type 0
-  Answers bytes result old new = (m : Message) → Reads bytes m → AnswersPeer holds told m result old new
+  abbrev pub Answers : List ℕ → Result (Reply A) R → P → P → Type 0
+  Answers bytes result old new = (m : Message) → Reads bytes m → AnswersPeer holds told remaining m result old new
 
   pub unanswered : (list : Vec ℕ Global) (sent : List ℕ) (refusal : R) (old new : P) (was is : Held F) → Calls content (Command StartFetch) (SentAs (Ok list)) was is → sent ≡ list.items
       → Answers sent (Err refusal) old new → Leads holds (HoldsClone content) old new was is (IsRound told (Err (Shared refusal)))
   unanswered list sent refusal old new was is k same asks = record {
     each = λ s c hs hc.
         let v = listed list was is c k hc in
-        let w = refused holds told v.list refusal old new s (asks v.list (subst (λ b. Reads b v.list) (sym same) v.reads)) hs in
+        let w = refused holds told remaining v.list refusal old new s (asks v.list (subst (λ b. Reads b v.list) (sym same) v.reads)) hs in
         (w.node, v.node, w.held, v.held, (w.answer, (w.shown.0.answer, w.shown.1), unlisted v.list v.sends (subst (λ sends. MayServe git git_rules v.list s w.answer w.node sends) w.shown.0.sent w.may)));
   }
 
@@ -140,12 +140,12 @@ module _ {P R F : Type 0} (holds : P → SharedNode → Type 0) (told : R → An
     tells : SharedMaySend git git_rules s list shared advert
     led_to : Led content (Receive advert) (ReceivedAs received) middle then
 
-  come : (list : Vec ℕ Global) (advert : Reply) (sent : List ℕ) (received : Result Received CloneFault) (old new : P) (was is then : Held F) (s : SharedNode) (c : CloneNode)
+  come : (list : Vec ℕ Global) (advert : Reply A) (sent : List ℕ) (received : Result Received CloneFault) (old new : P) (was is then : Held F) (s : SharedNode) (c : CloneNode)
       → Calls content (Command StartFetch) (SentAs (Ok list)) was is → sent ≡ list.items → Answers sent (Ok advert) old new → Takes advert received is then
       → holds old s → HoldsClone content was c → Told s c received new then
   come list advert sent received old new was is then s c k same asks takes hs hc =
       let v = listed list was is c k hc in
-      let w = answered holds told v.list advert old new s (asks v.list (subst (λ b. Reads b v.list) (sym same) v.reads)) hs in
+      let w = answered holds told remaining v.list advert old new s (asks v.list (subst (λ b. Reads b v.list) (sym same) v.reads)) hs in
       let q = w.message in
       record {
         middle = v.node;
@@ -166,7 +166,7 @@ module _ {P R F : Type 0} (holds : P → SharedNode → Type 0) (told : R → An
   ends_so (Ok (Reported moved reasons)) result e a sends shown = (shown.sent, subst (λ r. RoundAs told r a) (end_same (Err Stray) result e) (inr (moved, reasons.items, shown.answer)))
   ends_so (Err fault) result e a sends shown = (shown.sent, subst (λ r. RoundAs told r a) (end_same (Err (Clone fault)) result e) shown.answer)
 
-  pub ended : (list : Vec ℕ Global) (advert : Reply) (sent : List ℕ) (received : Result Received CloneFault) (result : Result Fetched (ExchangeEnd R)) (old new : P) (was is then : Held F)
+  pub ended : (list : Vec ℕ Global) (advert : Reply A) (sent : List ℕ) (received : Result Received CloneFault) (result : Result Fetched (ExchangeEnd R)) (old new : P) (was is then : Held F)
       → Calls content (Command StartFetch) (SentAs (Ok list)) was is → sent ≡ list.items → Answers sent (Ok advert) old new → Takes advert received is then → next_of received ≡ End result
       → Leads holds (HoldsClone content) old new was then (IsRound told result)
   ended list advert sent received result old new was is then k same asks takes e = record {
@@ -189,7 +189,7 @@ module _ {P R F : Type 0} (holds : P → SharedNode → Type 0) (told : R → An
   asks_so (Ok (Reported moved reasons)) want e = absurd (cc)
   asks_so (Err fault) want e = absurd (cc)
 
-  pub wanted : (list : Vec ℕ Global) (advert : Reply) (want : Vec ℕ Global) (sent asked : List ℕ) (received : Result Received CloneFault) (result : Result Fetched (ExchangeEnd R)) (old new last : P) (was is then end : Held F)
+  pub wanted : (list : Vec ℕ Global) (advert : Reply A) (want : Vec ℕ Global) (sent asked : List ℕ) (received : Result Received CloneFault) (result : Result Fetched (ExchangeEnd R)) (old new last : P) (was is then end : Held F)
       → Calls content (Command StartFetch) (SentAs (Ok list)) was is → sent ≡ list.items → Answers sent (Ok advert) old new → Takes advert received is then → next_of {R = R} received ≡ Ask want
       → asked ≡ want.items → ((m : Message) → Reads asked m → Leads holds (HoldsClone content) new last then end (IsRest told m result)) → Leads holds (HoldsClone content) old last was end (IsRound told result)
   wanted list advert want sent asked received result old new last was is then end k same asks takes e same_want rest = record {

@@ -46,20 +46,20 @@ may_serve_of m n t a sends (served_at_once k none) = at_once k none
 may_serve_of m n t a sends (served_stepped {u = u} slot small k rest) = stepped u slot k (may_step_of slot u t a sends rest)
 
 -- what is answered as bytes
-abbrev pub in_bytes : Result (Vec ℕ Global) SharedFault → Result Reply SharedFault
+abbrev pub in_bytes : {A : Type 0} → Result (Vec ℕ Global) SharedFault → Result (Reply A) SharedFault
 in_bytes (Ok bytes) = Ok (replies.Bytes bytes)
 in_bytes (Err e) = Err e
 
 -- the two words for what a call tells are one
-asked_as : (result : Result (Vec ℕ Global) SharedFault) (a : Answer) (sends : Option Message) → ServedAs result a sends → AskedAs fault_answer (in_bytes result) a sends
-asked_as (Ok bytes) a sends h = record { message = h.message; written = h.written; answer = h.answer; sent = h.sent }
-asked_as (Err e) a sends h = (record { answer = h.answer; sent = h.sent }, shared_undone e)
+asked_as : {A : Type 0} (remaining : A → Option (List ℕ)) (result : Result (Vec ℕ Global) SharedFault) (a : Answer) (sends : Option Message) → ServedAs result a sends → AskedAs fault_answer remaining (in_bytes result) a sends
+asked_as remaining (Ok bytes) a sends h = record { message = h.message; written = h.written; answer = h.answer; sent = h.sent }
+asked_as remaining (Err e) a sends h = (record { answer = h.answer; sent = h.sent }, shared_undone e)
 
-pub peer_answers : {S : Type 0} (content : S → FileMap) (slots : S → List (Option SessionText)) (is_up : S → Bool) (m : Message) (result : Result (Vec ℕ Global) SharedFault) (old new : S)
+pub peer_answers : {S A : Type 0} (remaining : A → Option (List ℕ)) (content : S → FileMap) (slots : S → List (Option SessionText)) (is_up : S → Bool) (m : Message) (result : Result (Vec ℕ Global) SharedFault) (old new : S)
     → Serves (Accept m) result (content old) (content new) (slots old) (slots new) (is_up old) (is_up new)
-    → AnswersPeer (λ shared n. HoldsShared (content shared) (slots shared) (is_up shared) n) fault_answer m (in_bytes result) old new
-peer_answers content slots is_up m result old new k = record {
+    → AnswersPeer (λ shared n. HoldsShared (content shared) (slots shared) (is_up shared) n) fault_answer remaining m (in_bytes result) old new
+peer_answers remaining content slots is_up m result old new k = record {
   each = λ n h.
       let w = k.each n h in
-      (w.0, w.1, w.2, w.3, asked_as result w.1 w.2 w.4, may_serve_of m n w.0 w.1 w.2 w.5);
+      (w.0, w.1, w.2, w.3, asked_as remaining result w.1 w.2 w.4, may_serve_of m n w.0 w.1 w.2 w.5);
 }

@@ -1,5 +1,5 @@
 -- What an exchange over real nodes says: whatever nodes were held before it, some are held after it, and its calls are a chain.
-use Rattle.std.specs.Prelude.{◌≡◌, ◌⊎◌, ℕ, false, List, [], ◌∷◌, Option, Some, None, Result, Ok, Err, IfOk, IfErr}
+use Rattle.std.specs.Prelude.{◌≡◌, ◌⊎◌, ◌++◌, ℕ, false, List, [], ◌∷◌, Option, Some, None, Result, Ok, Err, IfOk, IfErr}
 use Rattle.vc_exchange.specs.Sending.{machine_items}
 use Rattle.vc_exchange.specs.declared.item.PushItem.{PushItem}
 use Rattle.vc_files.specs.FileMap.{FileMap}
@@ -43,10 +43,15 @@ pub record HoldsClone {F : Type 0} (content : F → FileMap) (held : Held F) (c 
   pub is_awaited : IsAwaited held.awaited awaited
   pub holds : HoldsNode (content held.files) held.is_up awaited c
 
+-- bytes that are the message are first
+abbrev pub Begins : Option (List ℕ) → Message → Type 0
+Begins bytes m = (front : List ℕ) × (rest : List ℕ) × (bytes ≡ Some (front ++ rest)) × Reads front m
+
 -- what came back is read as the message
-abbrev pub Brings : Reply → Message → Type 0
-Brings (replies.Bytes bytes) m = Reads bytes.items m
-Brings (replies.Message message) m = TextOf m (message_text message)
+abbrev pub Brings : {A : Type 0} → (A → Option (List ℕ)) → Reply A → Message → Type 0
+Brings remaining (replies.Bytes bytes) m = Reads bytes.items m
+Brings remaining (replies.Message message) m = TextOf m (message_text message)
+Brings remaining (replies.Reader reader) m = Begins (remaining reader) m
 
 -- a message is sent that says what the text says, and that was read
 pub record SendsText (text : MessageText) (a : Answer) (sends : Option Message) : Type 0 where
@@ -56,15 +61,23 @@ pub record SendsText (text : MessageText) (a : Answer) (sends : Option Message) 
   pub answer : a ≡ Did Sends
   pub sent : sends ≡ Some message
 
+-- a message is sent that is first of these bytes
+pub record SendsFirst (bytes : Option (List ℕ)) (a : Answer) (sends : Option Message) : Type 0 where
+  pub message : Message
+  pub begins : Begins bytes message
+  pub answer : a ≡ Did Sends
+  pub sent : sends ≡ Some message
+
 -- the shared node's answer, as it is told to who asked
-abbrev pub AskedAs : {R : Type 0} → (R → Answer) → Result Reply R → Answer → Option Message → Type 0
-AskedAs told (Ok (replies.Bytes bytes)) a sends = SendsBytes bytes.items a sends
-AskedAs told (Ok (replies.Message message)) a sends = SendsText (message_text message) a sends
-AskedAs told (Err refusal) a sends = Quietly (told refusal) a sends × IsUndone (told refusal)
+abbrev pub AskedAs : {R A : Type 0} → (R → Answer) → (A → Option (List ℕ)) → Result (Reply A) R → Answer → Option Message → Type 0
+AskedAs told remaining (Ok (replies.Bytes bytes)) a sends = SendsBytes bytes.items a sends
+AskedAs told remaining (Ok (replies.Message message)) a sends = SendsText (message_text message) a sends
+AskedAs told remaining (Ok (replies.Reader reader)) a sends = SendsFirst (remaining reader) a sends
+AskedAs told remaining (Err refusal) a sends = Quietly (told refusal) a sends × IsUndone (told refusal)
 
 -- Whichever shared node was asked with the message, some node is there after it, and its calls are the machine's where it was sound.
-pub record AnswersPeer {P R : Type 0} (holds : P → SharedNode → Type 0) (told : R → Answer) (m : Message) (result : Result Reply R) (old new : P) : Type 0 where
-  pub each : (s : SharedNode) → holds old s → (t : SharedNode) × (a : Answer) × (sends : Option Message) × holds new t × AskedAs told result a sends × MayServe git git_rules m s a t sends
+pub record AnswersPeer {P R A : Type 0} (holds : P → SharedNode → Type 0) (told : R → Answer) (remaining : A → Option (List ℕ)) (m : Message) (result : Result (Reply A) R) (old new : P) : Type 0 where
+  pub each : (s : SharedNode) → holds old s → (t : SharedNode) × (a : Answer) × (sends : Option Message) × holds new t × AskedAs told remaining result a sends × MayServe git git_rules m s a t sends
 
 -- ---- how an exchange ends
 

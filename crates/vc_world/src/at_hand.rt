@@ -9,13 +9,16 @@ use vc_shared::{Shared, SharedFault};
 impl<F: Files> Peer for Shared<F> {
     type Refusal = SharedFault;
 
+    // Its answers are bytes.
+    type Answer = &'static [u8];
+
     ghost honest = { F.honest };
 
     ghost holds = { λ shared n. HoldsShared (F.content shared.files) shared.slots shared.is_up n };
 
     ghost told = { fault_answer };
 
-    fn ask(&mut self, bytes: &[u8]) -> Result<Reply, SharedFault> {
+    fn ask(&mut self, bytes: &[u8]) -> Result<Reply<&'static [u8]>, SharedFault> {
         match vc_server::answer(self, bytes) {
             Ok(reply) => Ok(Reply::Bytes(reply)),
             Err(fault) => Err(fault),

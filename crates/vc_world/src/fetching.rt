@@ -6,11 +6,13 @@ ghost use Rattle.vc_model.specs.Exchange.{IsFewer};
 ghost use Rattle.vc_model.specs.Message.{Message as Sent};
 ghost use Rattle.vc_node.specs.CloneCalls.{AnswersClone, ReceivedAs};
 ghost use Rattle.vc_world.specs.Fetching.{next_of, settled};
-ghost use Rattle.vc_world.specs.Exchanging.{Brings, CatchesUp, HoldsClone, IsFetch, IsRest, IsRound, Leads};
+ghost use Rattle.vc_world.specs.Exchanging.{Begins, Brings, CatchesUp, HoldsClone, IsFetch, IsRest, IsRound, Leads};
 
+use crate::losing::lose;
 use crate::{ExchangeEnd, Peer, Reply};
-use vc_files::Files;
-use vc_node::{CloneFault, CloneNode, Received};
+use std::io::Read;
+use vc_files::{Fault, Files};
+use vc_node::{CloneFault, CloneNode, NodeFault, ReceiveFault, Received};
 
 /// What came of a fetch.
 #[derive(Clone, Copy)]
@@ -30,13 +32,35 @@ enum Next<R> {
     End(Result<Fetched, ExchangeEnd<R>>),
 }
 
+// The clone takes the message that is first of what the reader has. One that fails, or has none, is a device that failed.
+fn receive_from<F: Files, A: Read>(
+    clone: &mut CloneNode<F>,
+    reader: &mut A,
+) -> Result<Received, CloneFault>
+    ensures answers { F.honest → (m : Sent) → Begins (A.remaining reader.old) m → AnswersClone (Receive m) (ReceivedAs result) (F.content clone.old.files) (F.content clone.new.files) clone.old.awaited clone.new.awaited clone.old.is_up clone.new.is_up }
+{
+    if !clone.is_up() {
+        return Err(CloneFault::Node(NodeFault::Down));
+    }
+    match clone.receive_from(reader) {
+        Ok(Some(received)) => Ok(received),
+        Err(ReceiveFault::Node(fault)) => Err(fault),
+        Ok(None) => Err(lose(clone, Fault::Device)),
+        Err(ReceiveFault::ReadFailed) => Err(lose(clone, Fault::Device)),
+    }
+}
+
 // The clone takes the message that came back.
-fn receive<F: Files>(clone: &mut CloneNode<F>, reply: Reply) -> Result<Received, CloneFault>
-    ensures answers { F.honest → (m : Sent) → Brings reply m → AnswersClone (Receive m) (ReceivedAs result) (F.content clone.old.files) (F.content clone.new.files) clone.old.awaited clone.new.awaited clone.old.is_up clone.new.is_up }
+fn receive<F: Files, A: Read + Drop>(
+    clone: &mut CloneNode<F>,
+    reply: Reply<A>,
+) -> Result<Received, CloneFault>
+    ensures answers { F.honest → (m : Sent) → Brings A.remaining reply m → AnswersClone (Receive m) (ReceivedAs result) (F.content clone.old.files) (F.content clone.new.files) clone.old.awaited clone.new.awaited clone.old.is_up clone.new.is_up }
 {
     match reply {
         Reply::Bytes(bytes) => clone.receive(&bytes),
         Reply::Message(message) => clone.receive_message(message),
+        Reply::Reader(mut reader) => receive_from(clone, &mut reader),
     }
 }
 

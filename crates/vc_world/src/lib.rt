@@ -8,6 +8,7 @@ mod at_hand;
 mod ending;
 mod fetching;
 mod laws;
+mod losing;
 mod peer;
 mod pushing;
 

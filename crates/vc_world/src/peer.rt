@@ -5,21 +5,27 @@ ghost use Rattle.vc_model.specs.Node.{Answer};
 ghost use Rattle.vc_model.specs.Shared.{SharedNode};
 ghost use Rattle.vc_world.specs.Exchanging.{AnswersPeer};
 
+use std::io::Read;
 use vc_message::Message;
 
-/// An answer, as bytes or read already.
+/// An answer: as bytes, read already, or still to be read.
 #[derive(Drop)]
-pub enum Reply {
+pub enum Reply<A> {
     /// The message that is all of the bytes.
     Bytes(Vec<u8>),
     /// The message that was read.
     Message(Message),
+    /// The message that is first of what the reader has.
+    Reader(A),
 }
 
 /// The shared node as a clone meets it: it is sent a message, and answers with one.
 pub trait Peer {
     /// Why there is no message.
     type Refusal: Drop;
+
+    /// What an answer that is long is read from.
+    type Answer: Read + Drop;
 
     /// Whether it is a shared node. What stands at the other end of a connection may be none.
     ghost honest: { Type 0 };
@@ -31,6 +37,6 @@ pub trait Peer {
     ghost told: { Self.Refusal → Answer };
 
     /// Sends the message that is all of the bytes, and gives the one that comes back.
-    fn ask(&mut self, bytes: &[u8]) -> Result<Reply, Self::Refusal>
-        ensures answers { honest → (m : Sent) → Reads bytes.now m → AnswersPeer holds told m result self.old self.new };
+    fn ask(&mut self, bytes: &[u8]) -> Result<Reply<Self::Answer>, Self::Refusal>
+        ensures answers { honest → (m : Sent) → Reads bytes.now m → AnswersPeer holds told Self.Answer.remaining m result self.old self.new };
 }

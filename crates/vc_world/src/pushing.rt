@@ -7,15 +7,17 @@ ghost use Rattle.vc_model.specs.Clone.{IsItemId};
 ghost use Rattle.vc_model.specs.Message.{Message as Sent};
 ghost use Rattle.vc_model.specs.Object.{zero_id};
 ghost use Rattle.vc_push.specs.ReportView.{report_text};
-ghost use Rattle.vc_world.specs.Exchanging.{Brings, HoldsClone, IsNoReport, IsPush, Leads, PushesOne};
+ghost use Rattle.vc_world.specs.Exchanging.{Begins, Brings, HoldsClone, IsNoReport, IsPush, Leads, PushesOne};
 ghost use Rattle.vc_world.specs.Pushing.{IsUnreadReport, TakesAnswer, report_in, taken};
 
+use crate::losing::lose;
 use crate::{ExchangeEnd, Peer, Reply};
 use std::alloc::Global;
+use std::io::Read;
 use vc_exchange::PushItem;
-use vc_files::Files;
-use vc_message::Message;
-use vc_node::{CloneFault, CloneNode, Received};
+use vc_files::{Fault, Files};
+use vc_message::{IncomingFault, Message, read_message};
+use vc_node::{CloneFault, CloneNode, NodeFault, Received};
 use vc_pkt::PktError;
 use vc_push::Report;
 
@@ -115,17 +117,37 @@ fn take_message<F: Files, R: Drop>(
     }
 }
 
-// The clone takes what came back to its push, and it is the report that is answered.
-fn take_reply<F: Files, R: Drop>(
+// The same of the message that is first of what the reader has. One that fails, or has none, is a device that failed.
+fn take_from<F: Files, A: Read, R: Drop>(
     alloc: Global,
     clone: &mut CloneNode<F>,
-    reply: Reply,
+    reader: &mut A,
 ) -> Result<Report, ExchangeEnd<R>>
-    ensures takes { F.honest → (m : Sent) → Brings reply m → TakesAnswer F.content m result clone.old clone.new }
+    ensures takes { F.honest → (m : Sent) → Begins (A.remaining reader.old) m → TakesAnswer F.content m result clone.old clone.new }
+{
+    if !clone.is_up() {
+        return Err(ExchangeEnd::Clone(CloneFault::Node(NodeFault::Down)));
+    }
+    let fault = match read_message(alloc, reader) {
+        Ok(Some(message)) => return take_message(clone, message),
+        Err(IncomingFault::Memory) => Fault::Memory,
+        _ => Fault::Device,
+    };
+    Err(ExchangeEnd::Clone(lose(clone, fault)))
+}
+
+// The clone takes what came back to its push, and it is the report that is answered.
+fn take_reply<F: Files, A: Read + Drop, R: Drop>(
+    alloc: Global,
+    clone: &mut CloneNode<F>,
+    reply: Reply<A>,
+) -> Result<Report, ExchangeEnd<R>>
+    ensures takes { F.honest → (m : Sent) → Brings A.remaining reply m → TakesAnswer F.content m result clone.old clone.new }
 {
     match reply {
         Reply::Bytes(answer) => take_bytes(alloc, clone, &answer),
         Reply::Message(message) => take_message(clone, message),
+        Reply::Reader(mut reader) => take_from(alloc, clone, &mut reader),
     }
 }
 

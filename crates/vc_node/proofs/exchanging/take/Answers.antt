@@ -4,6 +4,7 @@ use Rattle.vc_message.specs.AnyView.{message_text}
 use Rattle.vc_message.specs.Machine.{TextOf}
 use Rattle.vc_message.specs.declared.message.Message.{Message}
 use Rattle.vc_node.proofs.ExchangingLemmas.{other_told}
+use Rattle.vc_node.proofs.ReceivingClone.{nothing_beside}
 use Rattle.vc_node.specs.Awaited.{awaited_text}
 use Rattle.vc_node.proofs.exchanging.take.Goals as goal
 
@@ -39,3 +40,15 @@ returns-in-Push-clause-objects g c = λ honest. keeps_same _ _ refl
 
 pub returns-clause-objects : goal.returns-clause-objects
 returns-clause-objects g c = λ honest. keeps_same _ _ refl
+
+pub returns-in-List-clause-beside : goal.returns-in-List-clause-beside
+returns-in-List-clause-beside g c = λ honest. nothing_beside _
+
+pub returns-in-Want-clause-beside : goal.returns-in-Want-clause-beside
+returns-in-Want-clause-beside g c = λ honest. nothing_beside _
+
+pub returns-in-Push-clause-beside : goal.returns-in-Push-clause-beside
+returns-in-Push-clause-beside g c = λ honest. nothing_beside _
+
+pub returns-clause-beside : goal.returns-clause-beside
+returns-clause-beside g c = λ honest. nothing_beside _

@@ -9,7 +9,7 @@ use Rattle.vc_files.proofs.WearLemmas.{writes_none}
 use Rattle.vc_model.specs.CloneCall.CloneCall.{Receive}
 use Rattle.vc_node.proofs.ExchangingLemmas.{advert_failed, advert_followed, advert_may, advert_refused, advert_unexpected, advert_wanted, awaiting, still_awaiting}
 use Rattle.vc_node.proofs.LookLemmas.{looks_none, or_told}
-use Rattle.vc_node.proofs.ReceivingClone.{bad_same}
+use Rattle.vc_node.proofs.ReceivingClone.{bad_same, nothing_beside, refs_beside}
 use Rattle.vc_node.proofs.ReceivingFaults.{device_from}
 use Rattle.vc_node.specs.Awaited.{awaited_text}
 use Rattle.vc_node.specs.declared.exchanging.Received.TheVariants.{Moved, Send}
@@ -22,6 +22,7 @@ returns-in_default g c = record {
   refused = λ honest. advert_refused (g.F.Files.content c.args.files.now) c.args.awaited.now (advert_text c.args.advert) c.in_default.not-Advert;
   kept = λ honest told. refl;
   objects = λ honest. keeps_same _ _ refl;
+  beside = λ honest. nothing_beside (g.F.Files.content c.args.files.now);
   bad = λ honest. bad_same (g.F.Files.content c.args.files.now);
   wear = writes_none (λ never. never);
   looks = λ honest m is awaited n waiting held. inr (looks_none (λ never. never));
@@ -69,3 +70,12 @@ returns-in-Wanted-clause-objects g c = λ honest. keeps_beside_refs _ _ (c.recei
 
 pub returns-in_err-asked-clause-objects : goal.returns-in_err-asked-clause-objects
 returns-in_err-asked-clause-objects g c = λ honest. keeps_beside_refs _ _ (c.receive_advert.ensures.outside honest)
+
+pub returns-in-Followed-clause-beside : goal.returns-in-Followed-clause-beside
+returns-in-Followed-clause-beside g c = λ honest. refs_beside _ _ (c.receive_advert.ensures.outside honest)
+
+pub returns-in-Wanted-clause-beside : goal.returns-in-Wanted-clause-beside
+returns-in-Wanted-clause-beside g c = λ honest. refs_beside _ _ (c.receive_advert.ensures.outside honest)
+
+pub returns-in_err-asked-clause-beside : goal.returns-in_err-asked-clause-beside
+returns-in_err-asked-clause-beside g c = λ honest. refs_beside _ _ (c.receive_advert.ensures.outside honest)

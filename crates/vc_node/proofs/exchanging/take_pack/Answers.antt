@@ -6,7 +6,7 @@ use Rattle.vc_files.proofs.WearLemmas.{writes_none}
 use Rattle.vc_model.specs.CloneCall.CloneCall.{Receive}
 use Rattle.vc_node.proofs.ExchangingLemmas.{awaiting, pack_failed, pack_refused, pack_taken, pack_unexpected, same_pack, still_awaiting}
 use Rattle.vc_node.proofs.LookLemmas.{looks_none}
-use Rattle.vc_node.proofs.ReceivingClone.{bad_same}
+use Rattle.vc_node.proofs.ReceivingClone.{bad_same, nothing_beside}
 use Rattle.vc_node.specs.Awaited.{awaited_text}
 use Rattle.vc_node.specs.declared.exchanging.Received.TheVariants.{Moved}
 use Rattle.vc_node.proofs.exchanging.take_pack.Goals as goal
@@ -18,6 +18,7 @@ returns-in_default g c = record {
   refused = λ honest. pack_refused (g.F.Files.content c.args.files.now) c.args.awaited.now (pack_text c.args.pack.now) c.in_default.not-Pack;
   kept = λ honest told. refl;
   objects = λ honest. keeps_same _ _ refl;
+  beside = λ honest. nothing_beside (g.F.Files.content c.args.files.now);
   bad = λ honest. bad_same (g.F.Files.content c.args.files.now);
   wear = writes_none (λ never. never);
   looks = λ honest m is awaited n waiting held. inr (looks_none (λ never. never));

@@ -4,6 +4,7 @@ use Rattle.vc_node.proofs.LookLemmas.{or_told}
 use Rattle.vc_node.proofs.ReceivingFaults.{device_from, files_no_message, kept_as}
 use Rattle.vc_node.specs.Awaited.{awaited_text}
 use Rattle.vc_push.specs.ReportView.{report_text}
+use Rattle.vc_node.proofs.ReceivingClone.{refs_beside}
 use Rattle.vc_node.proofs.exchanging.take_report.Goals as goal
 
 pub returns-in_err-told-clause-answers : goal.returns-in_err-told-clause-answers
@@ -38,3 +39,9 @@ returns-in_err-told-clause-objects g c = λ honest. keeps_beside_refs _ _ (c.rec
 
 pub returns-clause-objects : goal.returns-clause-objects
 returns-clause-objects g c = λ honest. keeps_beside_refs _ _ (c.receive_report.ensures.outside honest)
+
+pub returns-in_err-told-clause-beside : goal.returns-in_err-told-clause-beside
+returns-in_err-told-clause-beside g c = λ honest. refs_beside _ _ (c.receive_report.ensures.outside honest)
+
+pub returns-clause-beside : goal.returns-clause-beside
+returns-clause-beside g c = λ honest. refs_beside _ _ (c.receive_report.ensures.outside honest)

@@ -13,7 +13,8 @@ use Rattle.vc_session.specs.Bringing.{IsBrought}
 use Rattle.vc_session.specs.Carrying.{Carries, objects_of_push}
 use Rattle.vc_session.specs.Quarantine.{quarantine_folder}
 use Rattle.vc_session.specs.Steps.{IsOpened}
-use Rattle.vc_shared.proofs.ArrivingLemmas.{no_device, part_taken, stopped_by, writes_as}
+use Rattle.vc_message.proofs.ComingLaws.{part_taken}
+use Rattle.vc_shared.proofs.ArrivingLemmas.{no_device, stopped_by, writes_as}
 use Rattle.vc_shared.specs.Arriving.{by_node}
 use Rattle.vc_shared.proofs.arriving.arrive.Goals as goal
 

@@ -1,9 +1,9 @@
 use Rattle.vc_answer.proofs.ReachedLemmas.{Stands-none}
-use Rattle.vc_node.proofs.OpeningLaws.{made_ready}
+use Rattle.vc_node.proofs.EmptyingLemmas.{opened_holds}
 use Rattle.vc_node.proofs.node.CloneNode.open.Goals as goal
 
 pub returns-in-Ok-clause-opens : goal.returns-in-Ok-clause-opens
-returns-in-Ok-clause-opens g c = λ honest r can. made_ready _ _ r (c.in-Ok.ensures.ready honest) (c.in-Ok.ensures.clean honest) can
+returns-in-Ok-clause-opens g c = λ honest r can. opened_holds _ _ r (c.in-Ok.ensures.opened honest) can
 
 pub invariant_of-result : goal.invariant_of-result
 invariant_of-result g c = λ honest. (Stands-none _ c.new.result.roots.items c.new.result.names.keys c.new.ensures.roots c.new.ensures.names, c.in-Ok.ensures.spelled honest)

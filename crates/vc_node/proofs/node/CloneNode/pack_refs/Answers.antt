@@ -1,6 +1,5 @@
-use Rattle.std.proofs.Common.{Ok, Err, ap, inl, inr, refl, rules, ◌∙◌, subst, sym}
+use Rattle.std.proofs.Common.{Ok, Err, ap, inl, inr, refl, rules}
 use Rattle.std.specs.Prelude.{not}
-use Rattle.vc_files.specs.FileMap.{FileMap}
 use Rattle.vc_model.specs.CloneCall.CloneCall.{Asks}
 use Rattle.vc_model.specs.Question.Question.{PackRefs}
 use Rattle.vc_answer.proofs.KeepsLemmas.{StandsIn-kept}

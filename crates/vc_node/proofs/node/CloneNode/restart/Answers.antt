@@ -1,13 +1,17 @@
-use Rattle.std.proofs.Common.{Ok, Err, refl, rules}
-use Rattle.vc_node.proofs.RestartLemmas.{restart_answers}
+use Rattle.std.proofs.Common.{Ok, Err, refl}
 use Rattle.vc_answer.proofs.ReachedLemmas.{Stands-none}
+use Rattle.vc_node.proofs.EmptyingLemmas.{opened_empty}
+use Rattle.vc_node.proofs.RestartLemmas.{restart_answers}
 use Rattle.vc_node.proofs.node.CloneNode.restart.Goals as goal
 
 pub returns-in-Ok-clause-answers : goal.returns-in-Ok-clause-answers
-returns-in-Ok-clause-answers g c = λ honest. rw (← c.self.view_is) (restart_answers _ _ _ _ _ _ (Ok tt) (c.in-Ok.ensures.ready honest) (c.in-Ok.ensures.clean honest) tt tt refl refl)
+returns-in-Ok-clause-answers g c = λ honest. rw (← c.self.view_is) (restart_answers _ _ _ _ _ _ (Ok tt) (c.in-Ok.ensures.opened honest) tt tt refl refl)
 
 pub returns-in-Err-clause-answers : goal.returns-in-Err-clause-answers
-returns-in-Err-clause-answers g c = λ honest. rw (← c.self.view_is) (restart_answers _ _ _ _ _ _ (Err c.in-Err.fault) tt tt (c.in-Err.ensures.err honest) (c.in-Err.ensures.refused honest) refl refl)
+returns-in-Err-clause-answers g c = λ honest. rw (← c.self.view_is) (restart_answers _ _ _ _ _ _ (Err c.in-Err.fault) tt (c.in-Err.ensures.err honest) (c.in-Err.ensures.refused honest) refl refl)
+
+pub returns-in-Ok-clause-empty : goal.returns-in-Ok-clause-empty
+returns-in-Ok-clause-empty g c = λ honest. opened_empty _ _ (c.in-Ok.ensures.opened honest)
 
 pub invariant_of-self : goal.invariant_of-self
 invariant_of-self g c = λ honest. (Stands-none _ c.new.result.roots.items c.new.result.names.keys c.new.ensures.roots c.new.ensures.names, c.in-Ok.ensures.spelled honest)

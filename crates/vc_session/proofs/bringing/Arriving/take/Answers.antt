@@ -1,5 +1,6 @@
-use Rattle.std.proofs.Common.{rules, ◌≡◌, List, [], Some, None, IsSome, sym, subst}
+use Rattle.std.proofs.Common.{rules, ◌≡◌, List, [], Option, Some, None, IsSome, sym, subst, true≢false}
 use Rattle.vc_files.proofs.WearLemmas.{writes_both, writes_told}
+use Rattle.vc_object.specs.declared.fault.ObjectFault.{ObjectFault}
 use Rattle.vc_object.specs.declared.id.ObjectId.{ObjectId}
 use Rattle.vc_pkt.specs.StreamObjectView.{stored}
 use Rattle.vc_push.specs.Push.{carry}
@@ -34,3 +35,22 @@ returns-clause-brought g c = λ honest carried brought.
 
 pub returns-clause-wear : goal.returns-clause-wear
 returns-clause-wear g c = writes_both c.in_ok-fault.ensures.wear (λ never. absurd (cc never)) (writes_told c.in_ok-drop_quarantine.ensures.wear (λ never. absurd (cc never)) (λ never. absurd (cc never)))
+
+pub returns-then-is_some-clause-good : goal.returns-then-is_some-clause-good
+returns-then-is_some-clause-good g c = λ none.
+    let some : IsSome c.args.self.now.fault = search rules in
+    absurd (true≢false (sym (subst (λ (found : Option ObjectFault). IsSome found) none some)))
+
+pub returns-then-is_some-clause-wrong : goal.returns-then-is_some-clause-wrong
+returns-then-is_some-clause-wrong g c = λ none.
+    let some : IsSome c.args.self.now.fault = search rules in
+    absurd (true≢false (sym (subst (λ (found : Option ObjectFault). IsSome found) none some)))
+
+pub returns-in_default-clause-good : goal.returns-in_default-clause-good
+returns-in_default-clause-good g c = λ none. rw none (rw c.in_default.is at c.in_ok-fault.ensures.good)
+
+pub returns-in_default-clause-wrong : goal.returns-in_default-clause-wrong
+returns-in_default-clause-wrong g c = λ none. rw none tt
+
+pub returns-clause-wrong : goal.returns-clause-wrong
+returns-clause-wrong g c = λ none. (rw c.in-Some.is at c.in_ok-fault.ensures.bad_body).0

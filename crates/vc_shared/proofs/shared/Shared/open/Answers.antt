@@ -1,14 +1,15 @@
 use Rattle.std.proofs.Common.{rules}
 use Rattle.vc_base.proofs.GenerationLemmas.{agrees_where_none}
 use Rattle.vc_base.specs.Numbering.{numbers}
-use Rattle.vc_shared.proofs.OpeningLemmas.{held_opened, openable_kept}
+use Rattle.vc_node.proofs.EmptyingLemmas.{openable_kept}
+use Rattle.vc_shared.proofs.OpeningLemmas.{held_opened}
 use Rattle.vc_shared.proofs.shared.Shared.open.Goals as goal
 
 pub returns-in-Ok-clause-opens : goal.returns-in-Ok-clause-opens
 returns-in-Ok-clause-opens g c = λ honest r can. held_opened _ _ r (c.in-Ok.ensures.opened honest) can
 
-pub returns-in-Err-clause-err : goal.returns-in-Err-clause-err
-returns-in-Err-clause-err g c = λ honest r can. openable_kept _ _ (c.in-Err.ensures.err honest) r can
+pub returns-clause-err : goal.returns-clause-err
+returns-clause-err g c = λ honest r can. openable_kept _ _ (c.in-Err.ensures.err honest) r can
 
 pub invariant_of-result : goal.invariant_of-result
 invariant_of-result g c = (search rules, λ honest. agrees_where_none _ (numbers c.new.result) c.new.ensures.none)

@@ -1,11 +1,17 @@
-use Rattle.std.proofs.Common.{refl, rules}
+use Rattle.std.proofs.Common.{Ok, Err, refl, rules}
 use Rattle.vc_base.proofs.GenerationLemmas.{agrees_where_none}
 use Rattle.vc_base.specs.Numbering.{numbers}
 use Rattle.vc_shared.proofs.RestartLemmas.{restart_answers}
 use Rattle.vc_shared.proofs.shared.Shared.restart.Goals as goal
 
+pub returns-in-Ok-clause-answers : goal.returns-in-Ok-clause-answers
+returns-in-Ok-clause-answers g c = λ honest. rw (← c.self.view_is) (restart_answers _ _ _ _ _ _ (Ok tt) (c.in-Ok.ensures.opened honest) tt tt refl refl)
+
 pub returns-clause-answers : goal.returns-clause-answers
-returns-clause-answers g c = λ honest. rw (← c.self.view_is) (restart_answers _ _ _ _ _ _ c.open_files-opened.result (c.open_files-opened.ensures.opened honest) (c.open_files-opened.ensures.err honest) (c.open_files-opened.ensures.refused honest) refl (search rules))
+returns-clause-answers g c = λ honest. rw (← c.self.view_is) (restart_answers _ _ _ _ _ _ (Err c.in-Err.fault) tt (c.in-Err.ensures.err honest) (c.in-Err.ensures.refused honest) refl refl)
 
 pub invariant_of-self : goal.invariant_of-self
 invariant_of-self g c = (search rules, λ honest. agrees_where_none _ (numbers c.new.result) c.new.ensures.none)
+
+pub invariant_of-self-in-Err : goal.invariant_of-self-in-Err
+invariant_of-self-in-Err g c = (search rules, λ honest. agrees_where_none _ (numbers c.new.result) c.new.ensures.none)

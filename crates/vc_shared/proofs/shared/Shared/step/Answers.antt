@@ -3,7 +3,7 @@ use Rattle.vc_model.specs.SharedCall.SharedCall.{StepOf}
 use Rattle.vc_node.proofs.CleanLemmas.{clean_same}
 use Rattle.vc_node.proofs.LookLemmas.{looks_none}
 use Rattle.vc_shared.proofs.CallLemmas.{answers_through, clean_through, looks_through, told_as}
-use Rattle.vc_shared.proofs.OpeningLemmas.{clean_by}
+use Rattle.vc_node.proofs.ReceivingClone.{clean_by}
 use Rattle.vc_shared.proofs.SteppingLaws.{stepped_answers, stepped_down}
 use Rattle.vc_shared.proofs.TellingLemmas.{written_report}
 use Rattle.vc_shared.specs.Calls.{SteppedAs}

@@ -1,6 +1,7 @@
 use Rattle.std.proofs.Common.{true, rules}
 use Rattle.vc_model.specs.Clone.Awaited.{Nothing}
 use Rattle.vc_model.specs.World.{empty_repository}
+use Rattle.vc_node.proofs.EmptyingLemmas.{openable_kept}
 use Rattle.vc_node.specs.Machine.{HoldsNode}
 use Rattle.vc_node.specs.Opening.{opened_node}
 use Rattle.vc_simulation.proofs.OpenLemmas.{clone_opened, in_ok, new_openable, want_of_memory}
@@ -16,3 +17,6 @@ returns-in-Ok-clause-new g c honest steady none = returns-in-Ok-clause-opens g c
 
 pub returns-in-Err-clause-memory : goal.returns-in-Err-clause-memory
 returns-in-Err-clause-memory g c honest steady none = want_of_memory g.F.Files.content g.F.Files.can_fail g.F.Files.left g.F.Files.honest g.F.Files.failed c.args.files c.in-Err.back.0 c.in-Err.back.1 (search rules) (search rules) steady none
+
+pub returns-in-Err-clause-err : goal.returns-in-Err-clause-err
+returns-in-Err-clause-err g c honest r can = openable_kept (g.F.Files.content c.args.files) (g.F.Files.content c.in-Err.back.0) (search rules) r can

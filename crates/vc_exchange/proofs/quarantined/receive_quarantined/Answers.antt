@@ -1,0 +1,314 @@
+use Rattle.std.proofs.Common.{rules, ◌≡◌, Result, Ok, Err, OnErr, sym, ◌∙◌, subst}
+use Rattle.std.specs.Prelude.{IfErr}
+use Rattle.vc_answer.proofs.KeepsLemmas.{keeps_same, keeps_then}
+use Rattle.vc_files.specs.FileMap.{FileMap}
+use Rattle.vc_files.proofs.WearLemmas.{wears_then, wears_writes, writes_both, writes_told}
+use Rattle.vc_graph.specs.Graph.{IsClosedUnder}
+use Rattle.vc_graph.specs.Overlay.{with_carried}
+use Rattle.vc_model.specs.Repository.{IsSound, with_objects}
+use Rattle.vc_object.specs.ObjectMap.{links_in}
+use Rattle.vc_object.specs.declared.id.ObjectId.{ObjectId}
+use Rattle.vc_rules.proofs.JoinLemmas.{joined}
+use Rattle.vc_rules.specs.Git.{git}
+use Rattle.vc_rules.specs.OpenPushes.{HoldsContent}
+use Rattle.vc_session.proofs.CleanLemmas.{bad_then}
+use Rattle.vc_session.specs.Carrying.{objects_in}
+use Rattle.vc_session.specs.Clean.{MakesNoneBad}
+use Rattle.vc_session.specs.Known.{AreWhole}
+use Rattle.vc_session.specs.Migrating.{IsFrontMigrated, migrated}
+use Rattle.vc_session.specs.declared.known.Known.{Known}
+use Rattle.vc_store.specs.Store.{objects}
+use Rattle.vc_exchange.specs.Faults.{from_store}
+use Rattle.vc_exchange.specs.Moving.{told_in}
+use Rattle.vc_exchange.specs.Quarantined.{BlamesSeen}
+use Rattle.vc_exchange.specs.Receiving.{BlamesPack}
+use Rattle.vc_exchange.specs.declared.fault.ExchangeFault.TheVariants as exchange
+use Rattle.vc_exchange.proofs.MovingLoops.{whole_refs}
+use Rattle.vc_exchange.proofs.PackDeeds.{pack_moving, pack_storing, pack_stored, pack_taken, store_other}
+use Rattle.vc_exchange.proofs.PackLemmas.{histories_met, stored_content, stored_met, stored_outside, whole_after}
+use Rattle.vc_exchange.proofs.KeptLemmas.{keeps_beside_refs}
+use Rattle.vc_exchange.proofs.QuarantinedLemmas.{all_stored, cut_beside, front_keeps, keeps_beside_slot, migrated_keeps, migration_blames, others_objects, others_refs, others_same, others_slot, others_then, pack_blames, received_beside, received_cut, seen_at, seen_blames, some_stored}
+use Rattle.vc_exchange.proofs.quarantined.receive_quarantined.Goals as goal
+
+on_err : {A E : Type 0} (r : Result A E) (X : Type 0) → X → OnErr r X
+on_err (Ok a) X x = tt
+on_err (Err e) X x = x
+
+told_err : {A E : Type 0} (r : Result A E) (e : E) (P : E → Type 0) → r ≡ Err e → P e → IfErr r P
+told_err (Ok a) e P is p = absurd (cc is)
+told_err (Err f) e P is p = let same : f ≡ e = cc in subst P (sym same) p
+
+-- ---- the device
+pub returns-in_err-known-clause-wear : goal.returns-in_err-known-clause-wear
+returns-in_err-known-clause-wear g c = writes_told (wears_writes c.in_err-known.ensures.wear (λ _. c.in_err-known.ensures.same)) (search rules) (search rules)
+
+pub returns-in_err-objects-clause-wear : goal.returns-in_err-objects-clause-wear
+returns-in_err-objects-clause-wear g c =
+    wears_then c.in_ok-known.ensures.wear (λ _. c.in_ok-known.ensures.same) (search rules)
+    (writes_told (wears_writes c.in_err-objects.ensures.wear (λ _. c.in_err-objects.ensures.same)) (search rules) (search rules))
+
+pub returns-in_err-migrate-clause-wear : goal.returns-in_err-migrate-clause-wear
+returns-in_err-migrate-clause-wear g c =
+    wears_then c.in_ok-known.ensures.wear (λ _. c.in_ok-known.ensures.same) (search rules)
+    (wears_then c.in_ok-objects.ensures.wear (λ _. c.in_ok-objects.ensures.same) (search rules)
+    (writes_told c.in_err-migrate.ensures.wear (search rules) (search rules)))
+
+pub returns-in_err-open-clause-wear : goal.returns-in_err-open-clause-wear
+returns-in_err-open-clause-wear g c =
+    wears_then c.in_ok-known.ensures.wear (λ _. c.in_ok-known.ensures.same) (search rules)
+    (wears_then c.in_ok-objects.ensures.wear (λ _. c.in_ok-objects.ensures.same) (search rules)
+    (writes_both c.in_ok-migrate.ensures.wear (search rules) (writes_told (wears_writes c.in_err-open.ensures.wear (λ _. c.in_err-open.ensures.same)) (search rules) (search rules))))
+
+pub returns-in_err-moved-clause-wear : goal.returns-in_err-moved-clause-wear
+returns-in_err-moved-clause-wear g c =
+    wears_then c.in_ok-known.ensures.wear (λ _. c.in_ok-known.ensures.same) (search rules)
+    (wears_then c.in_ok-objects.ensures.wear (λ _. c.in_ok-objects.ensures.same) (search rules)
+    (writes_both c.in_ok-migrate.ensures.wear (search rules)
+    (wears_then c.in_ok-open.ensures.wear (λ _. c.in_ok-open.ensures.same) (search rules) (writes_told c.in_err-moved.ensures.wear (search rules) (search rules)))))
+
+pub returns-in_err-drop_quarantine-clause-wear : goal.returns-in_err-drop_quarantine-clause-wear
+returns-in_err-drop_quarantine-clause-wear g c =
+    wears_then c.in_ok-known.ensures.wear (λ _. c.in_ok-known.ensures.same) (search rules)
+    (wears_then c.in_ok-objects.ensures.wear (λ _. c.in_ok-objects.ensures.same) (search rules)
+    (writes_both c.in_ok-migrate.ensures.wear (search rules)
+    (wears_then c.in_ok-open.ensures.wear (λ _. c.in_ok-open.ensures.same) (search rules)
+    (writes_both c.in_ok-moved.ensures.wear (search rules) (writes_told c.in_err-drop_quarantine.ensures.wear (search rules) (search rules))))))
+
+pub returns-clause-wear : goal.returns-clause-wear
+returns-clause-wear g c =
+    wears_then c.in_ok-known.ensures.wear (λ _. c.in_ok-known.ensures.same) (search rules)
+    (wears_then c.in_ok-objects.ensures.wear (λ _. c.in_ok-objects.ensures.same) (search rules)
+    (writes_both c.in_ok-migrate.ensures.wear (search rules)
+    (wears_then c.in_ok-open.ensures.wear (λ _. c.in_ok-open.ensures.same) (search rules)
+    (writes_both c.in_ok-moved.ensures.wear (search rules) (writes_told c.in_ok-drop_quarantine.ensures.wear (search rules) (search rules))))))
+
+-- ---- refusals
+pub returns-in_err-objects-clause-refused : goal.returns-in_err-objects-clause-refused
+returns-in_err-objects-clause-refused g c = λ honest pack holds m is.
+    let content = g.F.Files.content in
+    let old = content c.args.files.now in
+    let wants = c.args.wants.now in
+    let e = c.in_err-objects.field-0.0 in
+    let why : BlamesSeen old wants e = rw c.in_ok-known.ensures.same at (c.in_err-objects.ensures.refused honest) in
+    told_err c.from_residual-in_err-objects.result e (BlamesPack old wants m) (search rules) (seen_blames old c.args.names.now pack holds wants m is e why)
+
+pub returns-in_err-migrate-clause-refused : goal.returns-in_err-migrate-clause-refused
+returns-in_err-migrate-clause-refused g c = λ honest pack holds m is.
+    let content = g.F.Files.content in
+    let old = content c.args.files.now in
+    let wants = c.args.wants.now in
+    let e = c.in_err-migrate.field-0.0 in
+    let why = rw (c.in_ok-objects.ensures.same, c.in_ok-known.ensures.same) at (c.in_err-migrate.ensures.refused honest) in
+    told_err c.from_residual-in_err-migrate.result (from_store e) (BlamesPack old wants m) (search rules) (pack_blames old c.args.names.now pack holds wants m e (migration_blames old c.args.names.now pack holds e why))
+
+pub returns-in_err-migrate-clause-unchanged : goal.returns-in_err-migrate-clause-unchanged
+returns-in_err-migrate-clause-unchanged g c = λ honest.
+    let content = g.F.Files.content in
+    let e = c.in_err-migrate.field-0.0 in
+    told_err c.from_residual-in_err-migrate.result (from_store e) (λ x. (id : ObjectId) → x ≡ exchange.Incomplete id → content c.migrate.new.files ≡ content c.args.files.now) (search rules) (λ id is. absurd (store_other e id is))
+
+-- ---- what is done, or some of it
+pub returns-in_err-migrate-clause-cut : goal.returns-in_err-migrate-clause-cut
+returns-in_err-migrate-clause-cut g c = λ honest pack holds r p m is refs same.
+    let content = g.F.Files.content in
+    let old = content c.args.files.now in
+    let read = content c.by_good_refs.new.files in
+    let first = content c.judge_quarantined.new.files in
+    let mid = content c.migrate.new.files in
+    let brought = pack.objects in
+    let names = c.args.names.now in
+    let wants = c.args.wants.now in
+    let known = c.in_ok-known.known in
+    let read_at : read ≡ old = c.in_ok-known.ensures.same in
+    let at : first ≡ old = c.in_ok-objects.ensures.same ∙ read_at in
+    let by_refs : IsSound git r → AreWhole (objects read) known = whole_refs old read known r read_at (c.in_ok-known.ensures.whole honest) p in
+    let closed : IsSound git r → IsClosedUnder (links_in (with_carried (objects old) (objects_in brought))) wants = λ so. seen_at old names pack holds read read_at wants (c.in_ok-objects.ensures.complete honest (by_refs so).closed) in
+    let outside = stored_outside old first mid at (c.in_err-migrate.ensures.outside honest) in
+    let front : IsFrontMigrated first 0 names mid = search (rules, c.in_err-migrate.ensures.left honest) in
+    let some = some_stored old names pack holds mid (subst (λ (f : FileMap). IsFrontMigrated f 0 names mid) at front) in
+    on_err c.from_residual-in_err-migrate.result _ (pack_storing old r p brought is.objects is.brought m _ is.is wants refs (told_in c.args.told.now) same closed mid outside some)
+
+pub returns-in_err-open-clause-cut : goal.returns-in_err-open-clause-cut
+returns-in_err-open-clause-cut g c = λ honest pack holds r p m is refs same.
+    let content = g.F.Files.content in
+    let old = content c.args.files.now in
+    let read = content c.by_good_refs.new.files in
+    let first = content c.judge_quarantined.new.files in
+    let mid = content c.migrate.new.files in
+    let brought = pack.objects in
+    let names = c.args.names.now in
+    let wants = c.args.wants.now in
+    let known = c.in_ok-known.known in
+    let read_at : read ≡ old = c.in_ok-known.ensures.same in
+    let at : first ≡ old = c.in_ok-objects.ensures.same ∙ read_at in
+    let by_refs : IsSound git r → AreWhole (objects read) known = whole_refs old read known r read_at (c.in_ok-known.ensures.whole honest) p in
+    let closed : IsSound git r → IsClosedUnder (links_in (with_carried (objects old) (objects_in brought))) wants = λ so. seen_at old names pack holds read read_at wants (c.in_ok-objects.ensures.complete honest (by_refs so).closed) in
+    let outside = stored_outside old first mid at (c.in_ok-migrate.ensures.outside honest) in
+    let st = all_stored old names pack holds mid (subst (λ (f : FileMap). (q : ObjectId) → objects mid q ≡ migrated f 0 names q) at (c.in_ok-migrate.ensures.stored honest)) in
+    let held = stored_content old r p brought is.objects is.brought mid outside st in
+    let all = with_objects r (joined r.objects is.objects) in
+    let now : HoldsContent (content c.open_ids.new.files) all = subst (λ (f : FileMap). HoldsContent f all) (sym c.in_err-open.ensures.same) held in
+    on_err c.from_residual-in_err-open.result _ (pack_stored old r p brought is.objects is.brought m _ is.is wants refs (told_in c.args.told.now) same closed (content c.open_ids.new.files) now)
+
+pub returns-in_err-moved-clause-cut : goal.returns-in_err-moved-clause-cut
+returns-in_err-moved-clause-cut g c = λ honest pack holds r p m is refs same.
+    let content = g.F.Files.content in
+    let old = content c.args.files.now in
+    let read = content c.by_good_refs.new.files in
+    let first = content c.judge_quarantined.new.files in
+    let mid = content c.migrate.new.files in
+    let brought = pack.objects in
+    let names = c.args.names.now in
+    let wants = c.args.wants.now in
+    let known = c.in_ok-known.known in
+    let read_at : read ≡ old = c.in_ok-known.ensures.same in
+    let at : first ≡ old = c.in_ok-objects.ensures.same ∙ read_at in
+    let by_refs : IsSound git r → AreWhole (objects read) known = whole_refs old read known r read_at (c.in_ok-known.ensures.whole honest) p in
+    let closed : IsSound git r → IsClosedUnder (links_in (with_carried (objects old) (objects_in brought))) wants = λ so. seen_at old names pack holds read read_at wants (c.in_ok-objects.ensures.complete honest (by_refs so).closed) in
+    let outside = stored_outside old first mid at (c.in_ok-migrate.ensures.outside honest) in
+    let st = all_stored old names pack holds mid (subst (λ (f : FileMap). (q : ObjectId) → objects mid q ≡ migrated f 0 names q) at (c.in_ok-migrate.ensures.stored honest)) in
+    let held = stored_content old r p brought is.objects is.brought mid outside st in
+    let all = with_objects r (joined r.objects is.objects) in
+    let seen = content c.open_ids.new.files in
+    let now : HoldsContent seen all = subst (λ (f : FileMap). HoldsContent f all) (sym c.in_ok-open.ensures.same) held in
+    let keys = c.in_ok-objects.objects.keys in
+    let met : IsSound git r → IsClosedUnder (links_in (objects mid)) keys = λ so. stored_met old mid brought st keys (seen_at old names pack holds read read_at keys (c.in_ok-objects.ensures.met honest (by_refs so).closed)) in
+    let more : Known = record { objects = c.open_ids.new.known; histories = known.histories } in
+    let whole : IsSound git r → AreWhole (objects seen) more = λ so. whole_after mid seen c.in_ok-open.ensures.same more (c.in_ok-open.ensures.known honest (met so)) (histories_met old read mid brought read_at st known (by_refs so)) in
+    on_err c.from_residual-in_err-moved.result _ (pack_moving old r p brought is.objects is.brought m _ is.is wants refs (told_in c.args.told.now) same closed (AreWhole (objects seen) more) whole (content c.move_refs.new.files) (search (rules, c.in_err-moved.ensures.left honest all now)))
+
+pub returns-in_err-drop_quarantine-clause-cut : goal.returns-in_err-drop_quarantine-clause-cut
+returns-in_err-drop_quarantine-clause-cut g c = λ honest pack holds r p m is refs same.
+    let content = g.F.Files.content in
+    let old = content c.args.files.now in
+    let read = content c.by_good_refs.new.files in
+    let first = content c.judge_quarantined.new.files in
+    let mid = content c.migrate.new.files in
+    let brought = pack.objects in
+    let names = c.args.names.now in
+    let wants = c.args.wants.now in
+    let known = c.in_ok-known.known in
+    let read_at : read ≡ old = c.in_ok-known.ensures.same in
+    let at : first ≡ old = c.in_ok-objects.ensures.same ∙ read_at in
+    let by_refs : IsSound git r → AreWhole (objects read) known = whole_refs old read known r read_at (c.in_ok-known.ensures.whole honest) p in
+    let closed : IsSound git r → IsClosedUnder (links_in (with_carried (objects old) (objects_in brought))) wants = λ so. seen_at old names pack holds read read_at wants (c.in_ok-objects.ensures.complete honest (by_refs so).closed) in
+    let outside = stored_outside old first mid at (c.in_ok-migrate.ensures.outside honest) in
+    let st = all_stored old names pack holds mid (subst (λ (f : FileMap). (q : ObjectId) → objects mid q ≡ migrated f 0 names q) at (c.in_ok-migrate.ensures.stored honest)) in
+    let held = stored_content old r p brought is.objects is.brought mid outside st in
+    let all = with_objects r (joined r.objects is.objects) in
+    let seen = content c.open_ids.new.files in
+    let now : HoldsContent seen all = subst (λ (f : FileMap). HoldsContent f all) (sym c.in_ok-open.ensures.same) held in
+    let keys = c.in_ok-objects.objects.keys in
+    let met : IsSound git r → IsClosedUnder (links_in (objects mid)) keys = λ so. stored_met old mid brought st keys (seen_at old names pack holds read read_at keys (c.in_ok-objects.ensures.met honest (by_refs so).closed)) in
+    let more : Known = record { objects = c.open_ids.new.known; histories = known.histories } in
+    let whole : IsSound git r → AreWhole (objects seen) more = λ so. whole_after mid seen c.in_ok-open.ensures.same more (c.in_ok-open.ensures.known honest (met so)) (histories_met old read mid brought read_at st known (by_refs so)) in
+    let done = pack_taken old r p brought is.objects is.brought m _ is.is wants refs (told_in c.args.told.now) same closed (AreWhole (objects seen) more) whole (content c.move_refs.new.files) c.in_ok-moved.moved c.in_ok-open.open.items
+    (c.in_ok-moved.ensures.moved honest all now) (λ so. c.in_ok-open.ensures.wanted honest (met so) all held) in
+    on_err c.from_residual-in_err-drop_quarantine.result _ (cut_beside (content c.move_refs.new.files) (content c.drop_quarantine.new.files) (c.in_err-drop_quarantine.ensures.outside honest) r _ m (received_cut r _ m (content c.move_refs.new.files) _ _ _ done))
+
+pub returns-clause-taken : goal.returns-clause-taken
+returns-clause-taken g c = λ honest pack holds r p m is refs same.
+    let content = g.F.Files.content in
+    let old = content c.args.files.now in
+    let read = content c.by_good_refs.new.files in
+    let first = content c.judge_quarantined.new.files in
+    let mid = content c.migrate.new.files in
+    let brought = pack.objects in
+    let names = c.args.names.now in
+    let wants = c.args.wants.now in
+    let known = c.in_ok-known.known in
+    let read_at : read ≡ old = c.in_ok-known.ensures.same in
+    let at : first ≡ old = c.in_ok-objects.ensures.same ∙ read_at in
+    let by_refs : IsSound git r → AreWhole (objects read) known = whole_refs old read known r read_at (c.in_ok-known.ensures.whole honest) p in
+    let closed : IsSound git r → IsClosedUnder (links_in (with_carried (objects old) (objects_in brought))) wants = λ so. seen_at old names pack holds read read_at wants (c.in_ok-objects.ensures.complete honest (by_refs so).closed) in
+    let outside = stored_outside old first mid at (c.in_ok-migrate.ensures.outside honest) in
+    let st = all_stored old names pack holds mid (subst (λ (f : FileMap). (q : ObjectId) → objects mid q ≡ migrated f 0 names q) at (c.in_ok-migrate.ensures.stored honest)) in
+    let held = stored_content old r p brought is.objects is.brought mid outside st in
+    let all = with_objects r (joined r.objects is.objects) in
+    let seen = content c.open_ids.new.files in
+    let now : HoldsContent seen all = subst (λ (f : FileMap). HoldsContent f all) (sym c.in_ok-open.ensures.same) held in
+    let keys = c.in_ok-objects.objects.keys in
+    let met : IsSound git r → IsClosedUnder (links_in (objects mid)) keys = λ so. stored_met old mid brought st keys (seen_at old names pack holds read read_at keys (c.in_ok-objects.ensures.met honest (by_refs so).closed)) in
+    let more : Known = record { objects = c.open_ids.new.known; histories = known.histories } in
+    let whole : IsSound git r → AreWhole (objects seen) more = λ so. whole_after mid seen c.in_ok-open.ensures.same more (c.in_ok-open.ensures.known honest (met so)) (histories_met old read mid brought read_at st known (by_refs so)) in
+    let done = pack_taken old r p brought is.objects is.brought m _ is.is wants refs (told_in c.args.told.now) same closed (AreWhole (objects seen) more) whole (content c.move_refs.new.files) c.in_ok-moved.moved c.in_ok-open.open.items
+    (c.in_ok-moved.ensures.moved honest all now) (λ so. c.in_ok-open.ensures.wanted honest (met so) all held) in
+    let after = received_beside (content c.move_refs.new.files) (content c.drop_quarantine.new.files) (c.in_ok-drop_quarantine.ensures.outside honest) r _ m _ _ _ done in
+    search (rules, after, c.len.ensures)
+
+-- ---- the objects stay
+pub returns-in_err-known-clause-objects : goal.returns-in_err-known-clause-objects
+returns-in_err-known-clause-objects g c = λ honest. keeps_same _ _ c.in_err-known.ensures.same
+
+pub returns-in_err-objects-clause-objects : goal.returns-in_err-objects-clause-objects
+returns-in_err-objects-clause-objects g c = λ honest. keeps_same _ _ (c.in_err-objects.ensures.same ∙ c.in_ok-known.ensures.same)
+
+pub returns-in_err-migrate-clause-objects : goal.returns-in_err-migrate-clause-objects
+returns-in_err-migrate-clause-objects g c = λ honest.
+    let content = g.F.Files.content in
+    let front : IsFrontMigrated (content c.judge_quarantined.new.files) 0 c.args.names.now (content c.migrate.new.files) = search (rules, c.in_err-migrate.ensures.left honest) in
+    keeps_then _ _ _ (keeps_same _ _ (c.in_ok-objects.ensures.same ∙ c.in_ok-known.ensures.same)) (front_keeps _ 0 _ c.args.names.now front)
+
+pub returns-in_err-open-clause-objects : goal.returns-in_err-open-clause-objects
+returns-in_err-open-clause-objects g c = λ honest.
+    keeps_then _ _ _ (keeps_same _ _ (c.in_ok-objects.ensures.same ∙ c.in_ok-known.ensures.same))
+    (keeps_then _ _ _ (migrated_keeps (g.F.Files.content c.judge_quarantined.new.files) 0 (g.F.Files.content c.migrate.new.files) c.args.names.now (c.in_ok-migrate.ensures.stored honest)) (keeps_same _ _ c.in_err-open.ensures.same))
+
+pub returns-in_err-moved-clause-objects : goal.returns-in_err-moved-clause-objects
+returns-in_err-moved-clause-objects g c = λ honest.
+    keeps_then _ _ _ (keeps_same _ _ (c.in_ok-objects.ensures.same ∙ c.in_ok-known.ensures.same))
+    (keeps_then _ _ _ (migrated_keeps (g.F.Files.content c.judge_quarantined.new.files) 0 (g.F.Files.content c.migrate.new.files) c.args.names.now (c.in_ok-migrate.ensures.stored honest)) (keeps_then _ _ _ (keeps_same _ _ c.in_ok-open.ensures.same) (keeps_beside_refs _ _ (c.in_err-moved.ensures.outside honest))))
+
+pub returns-in_err-drop_quarantine-clause-objects : goal.returns-in_err-drop_quarantine-clause-objects
+returns-in_err-drop_quarantine-clause-objects g c = λ honest.
+    keeps_then _ _ _ (keeps_same _ _ (c.in_ok-objects.ensures.same ∙ c.in_ok-known.ensures.same))
+    (keeps_then _ _ _ (migrated_keeps (g.F.Files.content c.judge_quarantined.new.files) 0 (g.F.Files.content c.migrate.new.files) c.args.names.now (c.in_ok-migrate.ensures.stored honest)) (keeps_then _ _ _ (keeps_same _ _ c.in_ok-open.ensures.same) (keeps_then _ _ _ (keeps_beside_refs _ _ (c.in_ok-moved.ensures.outside honest)) (keeps_beside_slot _ _ (c.in_err-drop_quarantine.ensures.outside honest)))))
+
+pub returns-clause-objects : goal.returns-clause-objects
+returns-clause-objects g c = λ honest.
+    keeps_then _ _ _ (keeps_same _ _ (c.in_ok-objects.ensures.same ∙ c.in_ok-known.ensures.same))
+    (keeps_then _ _ _ (migrated_keeps (g.F.Files.content c.judge_quarantined.new.files) 0 (g.F.Files.content c.migrate.new.files) c.args.names.now (c.in_ok-migrate.ensures.stored honest)) (keeps_then _ _ _ (keeps_same _ _ c.in_ok-open.ensures.same) (keeps_then _ _ _ (keeps_beside_refs _ _ (c.in_ok-moved.ensures.outside honest)) (keeps_beside_slot _ _ (c.in_ok-drop_quarantine.ensures.outside honest)))))
+
+-- ---- and so does all else
+pub returns-in_err-known-clause-beside : goal.returns-in_err-known-clause-beside
+returns-in_err-known-clause-beside g c = λ honest. (others_same _ _ c.in_err-known.ensures.same)
+
+pub returns-in_err-objects-clause-beside : goal.returns-in_err-objects-clause-beside
+returns-in_err-objects-clause-beside g c = λ honest. (others_same _ _ (c.in_err-objects.ensures.same ∙ c.in_ok-known.ensures.same))
+
+pub returns-in_err-migrate-clause-beside : goal.returns-in_err-migrate-clause-beside
+returns-in_err-migrate-clause-beside g c = λ honest. (others_then _ _ _ (others_same _ _ (c.in_ok-objects.ensures.same ∙ c.in_ok-known.ensures.same)) (others_objects _ _ (c.in_err-migrate.ensures.outside honest)))
+
+pub returns-in_err-open-clause-beside : goal.returns-in_err-open-clause-beside
+returns-in_err-open-clause-beside g c = λ honest. (others_then _ _ _ (others_same _ _ (c.in_ok-objects.ensures.same ∙ c.in_ok-known.ensures.same)) (others_then _ _ _ (others_objects _ _ (c.in_ok-migrate.ensures.outside honest)) (others_same _ _ c.in_err-open.ensures.same)))
+
+pub returns-in_err-moved-clause-beside : goal.returns-in_err-moved-clause-beside
+returns-in_err-moved-clause-beside g c = λ honest. (others_then _ _ _ (others_same _ _ (c.in_ok-objects.ensures.same ∙ c.in_ok-known.ensures.same)) (others_then _ _ _ (others_objects _ _ (c.in_ok-migrate.ensures.outside honest)) (others_then _ _ _ (others_same _ _ c.in_ok-open.ensures.same) (others_refs _ _ (c.in_err-moved.ensures.outside honest)))))
+
+pub returns-in_err-drop_quarantine-clause-beside : goal.returns-in_err-drop_quarantine-clause-beside
+returns-in_err-drop_quarantine-clause-beside g c = λ honest. (others_then _ _ _ (others_same _ _ (c.in_ok-objects.ensures.same ∙ c.in_ok-known.ensures.same)) (others_then _ _ _ (others_objects _ _ (c.in_ok-migrate.ensures.outside honest)) (others_then _ _ _ (others_same _ _ c.in_ok-open.ensures.same) (others_then _ _ _ (others_refs _ _ (c.in_ok-moved.ensures.outside honest)) (others_slot _ _ (c.in_err-drop_quarantine.ensures.outside honest))))))
+
+pub returns-clause-beside : goal.returns-clause-beside
+returns-clause-beside g c = λ honest. (others_then _ _ _ (others_same _ _ (c.in_ok-objects.ensures.same ∙ c.in_ok-known.ensures.same)) (others_then _ _ _ (others_objects _ _ (c.in_ok-migrate.ensures.outside honest)) (others_then _ _ _ (others_same _ _ c.in_ok-open.ensures.same) (others_then _ _ _ (others_refs _ _ (c.in_ok-moved.ensures.outside honest)) (others_slot _ _ (c.in_ok-drop_quarantine.ensures.outside honest))))))
+
+-- ---- no file becomes bad
+pub returns-in_err-moved-clause-bad : goal.returns-in_err-moved-clause-bad
+returns-in_err-moved-clause-bad g c = λ honest.
+    let content = g.F.Files.content in
+    let stored : MakesNoneBad (content c.args.files.now) (content c.migrate.new.files) = rw (c.in_ok-objects.ensures.same, c.in_ok-known.ensures.same) at (c.in_ok-migrate.ensures.bad honest) in
+    let moved : MakesNoneBad (content c.migrate.new.files) (content c.move_refs.new.files) = rw c.in_ok-open.ensures.same at (c.in_err-moved.ensures.bad honest) in
+    bad_then stored moved
+
+pub returns-in_err-drop_quarantine-clause-bad : goal.returns-in_err-drop_quarantine-clause-bad
+returns-in_err-drop_quarantine-clause-bad g c = λ honest.
+    let content = g.F.Files.content in
+    let stored : MakesNoneBad (content c.args.files.now) (content c.migrate.new.files) = rw (c.in_ok-objects.ensures.same, c.in_ok-known.ensures.same) at (c.in_ok-migrate.ensures.bad honest) in
+    let moved : MakesNoneBad (content c.migrate.new.files) (content c.move_refs.new.files) = rw c.in_ok-open.ensures.same at (c.in_ok-moved.ensures.bad honest) in
+    bad_then stored (bad_then moved (c.in_err-drop_quarantine.ensures.bad honest))
+
+pub returns-clause-bad : goal.returns-clause-bad
+returns-clause-bad g c = λ honest.
+    let content = g.F.Files.content in
+    let stored : MakesNoneBad (content c.args.files.now) (content c.migrate.new.files) = rw (c.in_ok-objects.ensures.same, c.in_ok-known.ensures.same) at (c.in_ok-migrate.ensures.bad honest) in
+    let moved : MakesNoneBad (content c.migrate.new.files) (content c.move_refs.new.files) = rw c.in_ok-open.ensures.same at (c.in_ok-moved.ensures.bad honest) in
+    bad_then stored (bad_then moved (c.in_ok-drop_quarantine.ensures.bad honest))

@@ -1,0 +1,121 @@
+//! A pack whose objects stand in the clone's quarantine, the first slot's, until it is judged.
+ghost use Rattle.std.specs.Prelude.{◌≡◌, IfErr, IfOk, IsErrOf, OnErr, OnOk};
+ghost use Rattle.vc_answer.specs.Reached.{KeepsObjects};
+ghost use Rattle.vc_exchange.specs.Deeds.{IsCutShort, IsReceived};
+ghost use Rattle.vc_exchange.specs.Moving.{told_in};
+ghost use Rattle.vc_exchange.specs.Quarantined.{BlamesSeen, HoldsPack, KeepsOthers};
+ghost use Rattle.vc_exchange.specs.Receiving.{AreRefs, BlamesPack, awaited_pack};
+ghost use Rattle.vc_fetch.specs.Pack.{PackText};
+ghost use Rattle.vc_files.specs.Failures.{Wears, Writes};
+ghost use Rattle.vc_graph.specs.Graph.{IsClosedUnder, ReachedFrom};
+ghost use Rattle.vc_graph.specs.GraphFault.{IsMet};
+ghost use Rattle.vc_graph.specs.Incomplete.{IsFirstIncomplete};
+ghost use Rattle.vc_message.specs.Machine.{IsPack};
+ghost use Rattle.vc_model.specs.Clone.Awaited.{Nothing};
+ghost use Rattle.vc_model.specs.Message.{Message};
+ghost use Rattle.vc_model.specs.Node.Reply.{Moved as MovedRefs};
+ghost use Rattle.vc_model.specs.Refs.{Refs};
+ghost use Rattle.vc_model.specs.Repository.{Repository};
+ghost use Rattle.vc_object.specs.ObjectMap.{links_in};
+ghost use Rattle.vc_object.specs.declared.id.ObjectId.{ObjectId as Name};
+ghost use Rattle.vc_rules.specs.OpenPushes.{HoldsContent};
+ghost use Rattle.vc_session.specs.Clean.{MakesNoneBad};
+ghost use Rattle.vc_session.specs.PushState.{IsDamagedSeen};
+ghost use Rattle.vc_session.specs.Quarantine.{IsDropped, objects_seen};
+ghost use Rattle.vc_store.specs.Store.{objects};
+
+use crate::ExchangeFault;
+use crate::moving::{Followed, move_refs};
+use crate::receiving::Moves;
+use crate::wanting::open_ids;
+use indexmap::IndexSet;
+use std::alloc::Global;
+use vc_answer::names_reached;
+use vc_files::{Fault, Files};
+use vc_object::ObjectId;
+use vc_session::{Known, PushObjects, drop_quarantine, migrate};
+use vc_store::StoreFault;
+
+// The known names and what the wants reach beyond them, where all of it is stored or stands in the quarantine; or the first want
+// of which that isn't so.
+fn names_seen<F: Files>(
+    files: &mut F,
+    alloc: Global,
+    known: IndexSet<ObjectId>,
+    wants: &[ObjectId],
+) -> Result<Result<IndexSet<ObjectId>, ObjectId>, StoreFault>
+    ensures complete { F.honest → IsClosedUnder (links_in (objects (F.content files.old))) known.keys → IfOk result (λ found. OnOk found (IsClosedUnder (links_in (objects_seen (F.content files.old) 0)) wants.now)) }
+    ensures met { F.honest → IsClosedUnder (links_in (objects (F.content files.old))) known.keys → IfOk result (λ found. IfOk found (λ met. IsClosedUnder (links_in (objects_seen (F.content files.old) 0)) met.keys)) }
+    ensures first { F.honest → IfOk result (λ found. IfErr found (IsFirstIncomplete (links_in (objects_seen (F.content files.old) 0)) wants.now)) }
+    ensures refused { F.honest → IfErr result (IsMet (ReachedFrom (links_in (objects_seen (F.content files.old) 0)) wants.now) (IsDamagedSeen (F.content files.old) 0)) }
+    ensures same { F.content files.new ≡ F.content files.old }
+    ensures wear { Wears F.failed F.can_fail F.left files.old files.new (IsErrOf result (StoreFault.Fault Fault.Device)) }
+{
+    let mut seen = PushObjects {
+        files,
+        slot: 0,
+        alloc,
+    };
+    let found = names_reached(alloc, &mut seen, known, wants)?;
+    Ok(found)
+}
+
+// Whether store and quarantine together have all that the wants reach, where all that the known names reach is stored: then the
+// known names and those that were met beyond them, of all of which the same is so. The first want of which it isn't so is refused.
+fn judge_quarantined<F: Files>(
+    files: &mut F,
+    alloc: Global,
+    known: IndexSet<ObjectId>,
+    wants: &[ObjectId],
+) -> Result<IndexSet<ObjectId>, ExchangeFault>
+    ensures complete { F.honest → IsClosedUnder (links_in (objects (F.content files.old))) known.keys → OnOk result (IsClosedUnder (links_in (objects_seen (F.content files.old) 0)) wants.now) }
+    ensures met { F.honest → IsClosedUnder (links_in (objects (F.content files.old))) known.keys → IfOk result (λ met. IsClosedUnder (links_in (objects_seen (F.content files.old) 0)) met.keys) }
+    ensures refused { F.honest → IfErr result (BlamesSeen (F.content files.old) wants.now) }
+    ensures same { F.content files.new ≡ F.content files.old }
+    ensures wear { Wears F.failed F.can_fail F.left files.old files.new (IsErrOf result (ExchangeFault.Fault Fault.Device)) }
+{
+    let found = names_seen(files, alloc, known, wants)?;
+    match found {
+        Ok(met) => Ok(met),
+        Err(id) => Err(ExchangeFault::Incomplete(id)),
+    }
+}
+
+/// Takes the pack that brings these wants, which were asked for when these refs were advertised, where its objects stand in the
+/// quarantine under these names: they are stored, then the refs follow, and then the quarantine is emptied. With them all must be
+/// there that the wants reach (92), and nothing is stored before that is seen. What the clone's own refs reach is taken as there,
+/// as it is in a sound repository, and not read, unless a want is refused. A call that ends early has stored some objects, or all
+/// of them and moved some first refs, and emptied the quarantine in part or not at all. No file becomes bad, only objects, refs
+/// and the quarantine change, and each object that was stored stays.
+pub fn receive_quarantined<F: Files>(
+    files: &mut F,
+    alloc: Global,
+    wants: &[ObjectId],
+    told: &[(Vec<u8>, ObjectId)],
+    names: &[ObjectId],
+) -> Result<Moves, ExchangeFault>
+    ensures taken { F.honest → (pack : PackText) → HoldsPack (F.content files.old) names.now pack → (r : Repository) → HoldsContent (F.content files.old) r → (m : Message) → IsPack m pack → (refs : Refs) → AreRefs refs (told_in told.now) → IfOk result (λ moves. IsReceived r (awaited_pack wants.now refs) m (F.content files.new) Nothing None (MovedRefs moves.moved moves.left)) }
+    ensures cut { F.honest → (pack : PackText) → HoldsPack (F.content files.old) names.now pack → (r : Repository) → HoldsContent (F.content files.old) r → (m : Message) → IsPack m pack → (refs : Refs) → AreRefs refs (told_in told.now) → OnErr result (IsCutShort r (awaited_pack wants.now refs) m (F.content files.new)) }
+    ensures refused { F.honest → (pack : PackText) → HoldsPack (F.content files.old) names.now pack → (m : Message) → IsPack m pack → IfErr result (BlamesPack (F.content files.old) wants.now m) }
+    ensures unchanged { F.honest → IfErr result (λ e. (id : Name) → e ≡ ExchangeFault.Incomplete id → F.content files.new ≡ F.content files.old) }
+    ensures dropped { F.honest → OnOk result (IsDropped 0 (F.content files.new)) }
+    ensures beside { F.honest → KeepsOthers (F.content files.old) (F.content files.new) }
+    ensures objects { F.honest → KeepsObjects (F.content files.old) (F.content files.new) }
+    ensures bad { F.honest → MakesNoneBad (F.content files.old) (F.content files.new) }
+    ensures wear { Writes F.honest F.content F.failed F.can_fail F.left files.old files.new (IsErrOf result (ExchangeFault.Fault Fault.Device)) }
+{
+    let known = Known::by_good_refs(files, alloc)?;
+    let objects = judge_quarantined(files, alloc, known.objects, wants)?;
+    let mut known = Known {
+        objects,
+        histories: known.histories,
+    };
+    migrate(files, alloc, 0, names)?;
+    let open = open_ids(files, alloc, &mut known.objects, told)?;
+    let moved = move_refs(files, alloc, &mut known, Followed::All, told)?;
+    drop_quarantine(files, alloc, 0)?;
+    Ok(Moves {
+        moved,
+        left: open.len(),
+    })
+}

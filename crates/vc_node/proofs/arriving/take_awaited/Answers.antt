@@ -1,0 +1,82 @@
+use Rattle.std.proofs.Common.{List, refl, sym, subst}
+use Rattle.std.proofs.lemmas.Result.{err_from_is_err_and}
+use Rattle.vc_answer.proofs.KeepsLemmas.{keeps_then}
+use Rattle.vc_exchange.proofs.QuarantinedLemmas.{held_beside, keeps_beside_slot, others_slot, others_then}
+use Rattle.vc_exchange.specs.Quarantined.{HoldsPack}
+use Rattle.vc_files.proofs.WearLemmas.{writes_both, writes_told}
+use Rattle.vc_files.specs.FileMap.{FileMap, SameOutside}
+use Rattle.vc_object.specs.declared.id.ObjectId.{ObjectId}
+use Rattle.vc_session.proofs.CleanLemmas.{bad_then}
+use Rattle.vc_session.specs.Quarantine.{quarantine_folder}
+use Rattle.vc_node.proofs.ArrivedLemmas.{blames_before, exchange_writes}
+use Rattle.vc_node.specs.Arriving.{all_of_it, not_all}
+use Rattle.vc_node.proofs.arriving.take_awaited.Goals as goal
+
+pub returns-in_err-arrived-clause-left : goal.returns-in_err-arrived-clause-left
+returns-in_err-arrived-clause-left g c =
+    let p = err_from_is_err_and c.from_residual.result c.from_residual.ensures.1 in
+    rw (p.1, p.2) (λ before ack so. not_all (c.in_err-arrived.ensures.stopped before ack so) c.in_err-arrived.ensures.outside)
+
+pub returns-in_err-arrived-clause-beside : goal.returns-in_err-arrived-clause-beside
+returns-in_err-arrived-clause-beside g c = λ honest. others_slot _ _ (c.in_err-arrived.ensures.outside honest)
+
+pub returns-in_err-arrived-clause-objects : goal.returns-in_err-arrived-clause-objects
+returns-in_err-arrived-clause-objects g c = λ honest. keeps_beside_slot _ _ (c.in_err-arrived.ensures.outside honest)
+
+pub returns-in_err-moves-clause-left : goal.returns-in_err-moves-clause-left
+returns-in_err-moves-clause-left g c =
+    let content = g.F.Files.content in
+    let old = content c.args.files.now in
+    let mid = content c.arrive.new.files in
+    let new = content c.receive_quarantined.new.files in
+    let outside = c.in_ok-arrived.ensures.outside in
+    let p = err_from_is_err_and c.from_residual-in_err-moves.result c.from_residual-in_err-moves.ensures.1 in
+    rw (p.1, p.2) (λ before ack so.
+    let a = c.in_ok-arrived.ensures.arrived before ack so in
+    let holds : g.F.Files.honest → HoldsPack mid c.as_slice.result.now a.pack = λ honest. subst (λ (names : List ObjectId). HoldsPack mid names a.pack) (sym c.as_slice.ensures.keys) (a.holds honest) in
+    all_of_it c.in_err-moves.field-0.0 refl (record {
+      pack = a.pack;
+      taken = a.taken;
+      blames = λ honest m is. blames_before old mid (outside honest) (c.in_ok-arrived.ensures.bad honest) c.args.wants.now m _ (c.in_err-moves.ensures.refused honest a.pack (holds honest) m is);
+      same = λ honest id lacks. subst (λ (f : FileMap). SameOutside (quarantine_folder 0) old f) (sym (c.in_err-moves.ensures.unchanged honest id lacks)) (outside honest);
+      cut = λ honest r held m is refs same. c.in_err-moves.ensures.cut honest a.pack (holds honest) r (held_beside old mid (outside honest) r held) m is refs same;
+    }))
+
+pub returns-in_err-moves-clause-beside : goal.returns-in_err-moves-clause-beside
+returns-in_err-moves-clause-beside g c = λ honest. others_then _ _ _ (others_slot _ _ (c.in_ok-arrived.ensures.outside honest)) (c.in_err-moves.ensures.beside honest)
+
+pub returns-in_err-moves-clause-objects : goal.returns-in_err-moves-clause-objects
+returns-in_err-moves-clause-objects g c = λ honest. keeps_then _ _ _ (keeps_beside_slot _ _ (c.in_ok-arrived.ensures.outside honest)) (c.in_err-moves.ensures.objects honest)
+
+pub returns-in_err-moves-clause-bad : goal.returns-in_err-moves-clause-bad
+returns-in_err-moves-clause-bad g c = λ honest. bad_then (c.in_ok-arrived.ensures.bad honest) (c.in_err-moves.ensures.bad honest)
+
+pub returns-in_err-moves-clause-wear : goal.returns-in_err-moves-clause-wear
+returns-in_err-moves-clause-wear g c =
+    writes_both c.in_ok-arrived.ensures.wear (λ never. never) (exchange_writes c.in_err-moves.field-0.0 c.from_residual-in_err-moves.result c.from_residual-in_err-moves.ensures.1 c.in_err-moves.ensures.wear)
+
+pub returns-clause-taken : goal.returns-clause-taken
+returns-clause-taken g c = λ before ack so.
+    let content = g.F.Files.content in
+    let old = content c.args.files.now in
+    let mid = content c.arrive.new.files in
+    let outside = c.in_ok-arrived.ensures.outside in
+    let a = c.in_ok-arrived.ensures.arrived before ack so in
+    let holds : g.F.Files.honest → HoldsPack mid c.as_slice.result.now a.pack = λ honest. subst (λ (names : List ObjectId). HoldsPack mid names a.pack) (sym c.as_slice.ensures.keys) (a.holds honest) in
+    record {
+      pack = a.pack;
+      taken = a.taken;
+      received = λ honest r held m is refs same. c.in_ok-moves.ensures.taken honest a.pack (holds honest) r (held_beside old mid (outside honest) r held) m is refs same;
+    }
+
+pub returns-clause-beside : goal.returns-clause-beside
+returns-clause-beside g c = λ honest. others_then _ _ _ (others_slot _ _ (c.in_ok-arrived.ensures.outside honest)) (c.in_ok-moves.ensures.beside honest)
+
+pub returns-clause-objects : goal.returns-clause-objects
+returns-clause-objects g c = λ honest. keeps_then _ _ _ (keeps_beside_slot _ _ (c.in_ok-arrived.ensures.outside honest)) (c.in_ok-moves.ensures.objects honest)
+
+pub returns-clause-bad : goal.returns-clause-bad
+returns-clause-bad g c = λ honest. bad_then (c.in_ok-arrived.ensures.bad honest) (c.in_ok-moves.ensures.bad honest)
+
+pub returns-clause-wear : goal.returns-clause-wear
+returns-clause-wear g c = writes_both c.in_ok-arrived.ensures.wear (λ never. never) (writes_told c.in_ok-moves.ensures.wear (λ never. absurd (cc never)) (λ never. absurd never))

@@ -1,0 +1,85 @@
+use Rattle.std.proofs.Common.{refl}
+use Rattle.std.proofs.lemmas.Result.{err_from_is_err_and}
+use Rattle.vc_answer.proofs.KeepsLemmas.{keeps_same}
+use Rattle.vc_exchange.proofs.QuarantinedLemmas.{others_same}
+use Rattle.vc_files.proofs.FileMapLemmas.{outside_same}
+use Rattle.vc_files.proofs.WearLemmas.{writes_none}
+use Rattle.vc_session.proofs.CleanLemmas.{bad_same}
+use Rattle.vc_node.proofs.ArrivingLemmas.{no_device, stopped_by}
+use Rattle.vc_node.proofs.ComingLemmas.{comes_lost, comes_receives, nothing_receives, stopped_receives, told_cleared, told_err, told_none, told_receives, told_lost, told_writes}
+use Rattle.vc_node.specs.Awaited.{awaited_text}
+use Rattle.vc_node.specs.ReceiveFault.{of_incoming}
+use Rattle.vc_node.proofs.arriving.take_next.Goals as goal
+
+-- ---- no message
+pub returns-in_err-found-clause-receives : goal.returns-in_err-found-clause-receives
+returns-in_err-found-clause-receives g c =
+    let content = g.F.Files.content c.args.files.now in
+    let p = err_from_is_err_and c.from_residual.result c.from_residual.ensures.1 in
+    rw (p.1, p.2) (stopped_receives g.F.Files.honest (g.R.Read.remaining c.args.reader.now) (g.R.Read.remaining c.read_head.new.reader) content content (awaited_text c.args.awaited.now) (λ honest. bad_same _ _ refl) (λ honest. outside_same _ _)
+    (of_incoming c.in_err-found.field-0.0) (stopped_by _ _ c.in_err-found.field-0.0 c.in_err-found.ensures.fault))
+
+pub returns-in_err-found-clause-lost : goal.returns-in_err-found-clause-lost
+returns-in_err-found-clause-lost g c = λ honest.
+    let p = err_from_is_err_and c.from_residual.result c.from_residual.ensures.1 in
+    rw (p.1, p.2) (λ which awaited n waiting held. (waiting, held))
+
+pub returns-in_err-found-clause-cleared : goal.returns-in_err-found-clause-cleared
+returns-in_err-found-clause-cleared g c = λ honest up dropped. dropped
+
+pub returns-in_err-found-clause-beside : goal.returns-in_err-found-clause-beside
+returns-in_err-found-clause-beside g c = λ honest. others_same _ _ refl
+
+pub returns-in_err-found-clause-objects : goal.returns-in_err-found-clause-objects
+returns-in_err-found-clause-objects g c = λ honest. keeps_same _ _ refl
+
+pub returns-in_err-found-clause-bad : goal.returns-in_err-found-clause-bad
+returns-in_err-found-clause-bad g c = λ honest. bad_same _ _ refl
+
+pub returns-in_err-found-clause-wear : goal.returns-in_err-found-clause-wear
+returns-in_err-found-clause-wear g c = writes_none (no_device c.in_err-found.field-0.0 c.from_residual.result c.from_residual.ensures.1)
+
+pub returns-in_default-clause-receives : goal.returns-in_default-clause-receives
+returns-in_default-clause-receives g c = nothing_receives g.F.Files.honest _ _ (g.F.Files.content c.args.files.now) (awaited_text c.args.awaited.now) (rw c.in_default.is at c.in_ok-found.ensures.end)
+
+pub returns-in_default-clause-cleared : goal.returns-in_default-clause-cleared
+returns-in_default-clause-cleared g c = λ honest up dropped. dropped
+
+pub returns-in_default-clause-beside : goal.returns-in_default-clause-beside
+returns-in_default-clause-beside g c = λ honest. others_same _ _ refl
+
+pub returns-in_default-clause-objects : goal.returns-in_default-clause-objects
+returns-in_default-clause-objects g c = λ honest. keeps_same _ _ refl
+
+pub returns-in_default-clause-bad : goal.returns-in_default-clause-bad
+returns-in_default-clause-bad g c = λ honest. bad_same _ _ refl
+
+pub returns-in_default-clause-wear : goal.returns-in_default-clause-wear
+returns-in_default-clause-wear g c = writes_none (λ device. device)
+
+-- ---- at least some of one
+pub returns-clause-receives : goal.returns-clause-receives
+returns-clause-receives g c =
+    let content = g.F.Files.content in
+    let head = rw c.in-Some.is at c.in_ok-found.ensures.head in
+    told_receives g.F.Files.honest (g.R.Read.remaining c.args.reader.now) (g.R.Read.remaining c.take_rest-received.new.reader) (content c.args.files.now) (content c.take_rest-received.new.files) (awaited_text c.args.awaited.now) (awaited_text c.take_rest-received.new.awaited)
+    c.take_rest-received.result c.told.result c.told.ensures (comes_receives g.F.Files.honest _ _ _ _ _ c.take_rest-received.ensures.bad _ c.take_rest-received.result (c.take_rest-received.ensures.comes (g.R.Read.remaining c.args.reader.now) head))
+
+pub returns-clause-none : goal.returns-clause-none
+returns-clause-none g c = told_none _ c.take_rest-received.result c.told.result c.told.ensures
+
+pub returns-clause-lost : goal.returns-clause-lost
+returns-clause-lost g c = λ honest.
+    let content = g.F.Files.content in
+    let head = rw c.in-Some.is at c.in_ok-found.ensures.head in
+    told_lost (content c.args.files.now) (content c.take_rest-received.new.files) (awaited_text c.args.awaited.now) (awaited_text c.take_rest-received.new.awaited) c.take_rest-received.result c.told.result c.told.ensures
+    (comes_lost g.F.Files.honest _ _ _ _ _ c.take_rest-received.ensures.bad honest _ c.take_rest-received.result (c.take_rest-received.ensures.comes (g.R.Read.remaining c.args.reader.now) head))
+
+pub returns-clause-unchanged : goal.returns-clause-unchanged
+returns-clause-unchanged g c = told_err _ c.take_rest-received.result c.told.result c.told.ensures c.take_rest-received.ensures.unchanged
+
+pub returns-clause-cleared : goal.returns-clause-cleared
+returns-clause-cleared g c = λ honest. told_cleared c.take_rest-received.result c.told.result c.told.ensures (c.take_rest-received.ensures.cleared honest)
+
+pub returns-clause-wear : goal.returns-clause-wear
+returns-clause-wear g c = told_writes c.take_rest-received.result c.told.result c.told.ensures c.take_rest-received.ensures.wear

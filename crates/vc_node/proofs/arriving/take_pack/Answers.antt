@@ -1,0 +1,142 @@
+use Rattle.std.proofs.Common.{true, false, not, Err, refl, sym, ap, ◌∙◌, true≢false}
+use Rattle.std.proofs.lemmas.Result.{err_from_is_err_and}
+use Rattle.vc_answer.proofs.KeepsLemmas.{keeps_same, keeps_then}
+use Rattle.vc_exchange.proofs.QuarantinedLemmas.{keeps_beside_slot, others_same, others_slot, others_then}
+use Rattle.vc_exchange.specs.Moving.{told_in}
+use Rattle.vc_files.proofs.FileMapLemmas.{outside_same}
+use Rattle.vc_files.proofs.WearLemmas.{writes_both, writes_none, writes_told}
+use Rattle.vc_message.specs.AnyMessage.{a_pack as pack_message}
+use Rattle.vc_session.proofs.CleanLemmas.{bad_same, bad_then}
+use Rattle.vc_node.proofs.ArrivedLemmas.{left_comes, left_failing, left_then, taken_comes}
+use Rattle.vc_node.proofs.ArrivingLemmas.{files_writes, no_device, refusal_no_device, stopped_by}
+use Rattle.vc_node.proofs.ExchangingLemmas.{pack_refused, pack_unexpected, same_pack}
+use Rattle.vc_node.specs.Arriving.{stopped, whole}
+use Rattle.vc_node.specs.Awaited.{awaited_text}
+use Rattle.vc_node.specs.declared.clone_fault.CloneFault.TheVariants.{Unexpected}
+use Rattle.vc_node.proofs.arriving.take_pack.Goals as goal
+
+-- ---- not awaited
+pub returns-in_err-skip_pack-clause-comes : goal.returns-in_err-skip_pack-clause-comes
+returns-in_err-skip_pack-clause-comes g c =
+    let p = err_from_is_err_and c.from_residual.result c.from_residual.ensures.1 in
+    rw (p.1, p.2) (λ before ack so. stopped _ refl (stopped_by before _ c.in_err-skip_pack.field-0.0 (c.in_err-skip_pack.ensures.fault before ack so)) (λ honest. outside_same _ _) refl)
+
+pub returns-in_err-skip_pack-clause-cleared : goal.returns-in_err-skip_pack-clause-cleared
+returns-in_err-skip_pack-clause-cleared g c = λ honest up dropped. dropped
+
+pub returns-in_err-skip_pack-clause-beside : goal.returns-in_err-skip_pack-clause-beside
+returns-in_err-skip_pack-clause-beside g c = λ honest. others_same _ _ refl
+
+pub returns-in_err-skip_pack-clause-objects : goal.returns-in_err-skip_pack-clause-objects
+returns-in_err-skip_pack-clause-objects g c = λ honest. keeps_same _ _ refl
+
+pub returns-in_err-skip_pack-clause-bad : goal.returns-in_err-skip_pack-clause-bad
+returns-in_err-skip_pack-clause-bad g c = λ honest. bad_same _ _ refl
+
+pub returns-in_err-skip_pack-clause-wear : goal.returns-in_err-skip_pack-clause-wear
+returns-in_err-skip_pack-clause-wear g c = writes_none (no_device c.in_err-skip_pack.field-0.0 c.from_residual.result c.from_residual.ensures.1)
+
+pub returns-in_default-clause-comes : goal.returns-in_default-clause-comes
+returns-in_default-clause-comes g c = λ before ack so.
+    let content = g.F.Files.content c.args.files.now in
+    let all = c.in_ok-skip_pack.ensures.end before ack so in
+    whole (pack_message (record { ack = ack; objects = all.0 })) all.1 (Err Unexpected) refl (λ honest. pack_refused content c.args.awaited.now _ c.in_default.not-Pack) (λ honest m is. pack_unexpected content m c.args.awaited.now _ is c.in_default.not-Pack)
+
+pub returns-in_default-clause-cleared : goal.returns-in_default-clause-cleared
+returns-in_default-clause-cleared g c = λ honest up dropped. dropped
+
+pub returns-in_default-clause-beside : goal.returns-in_default-clause-beside
+returns-in_default-clause-beside g c = λ honest. others_same _ _ refl
+
+pub returns-in_default-clause-objects : goal.returns-in_default-clause-objects
+returns-in_default-clause-objects g c = λ honest. keeps_same _ _ refl
+
+pub returns-in_default-clause-bad : goal.returns-in_default-clause-bad
+returns-in_default-clause-bad g c = λ honest. bad_same _ _ refl
+
+pub returns-in_default-clause-wear : goal.returns-in_default-clause-wear
+returns-in_default-clause-wear g c = writes_none (λ device. device)
+
+-- ---- taken
+pub returns-in-Ok-clause-comes : goal.returns-in-Ok-clause-comes
+returns-in-Ok-clause-comes g c = λ before ack so.
+    let content = g.F.Files.content in
+    let waits = ap awaited_text c.in-Pack.is ∙ same_pack _ _ _ _ (sym c.deref.ensures.value) (sym c.deref-2.ensures.value) in
+    taken_comes g.F.Files.honest before _ (content c.args.files.now) (content c.take_awaited.new.files) c.deref.result.now (told_in c.deref-2.result.now) _ waits c.take_awaited.ensures.beside c.take_awaited.ensures.bad
+    c.in-Ok.moves.moved c.in-Ok.moves.left _ refl (c.in-Ok.ensures.taken before ack so)
+
+pub returns-in-Ok-clause-cleared : goal.returns-in-Ok-clause-cleared
+returns-in-Ok-clause-cleared g c = λ honest up dropped. c.in-Ok.ensures.dropped honest
+
+-- ---- a fault
+pub returns-then-is_fault-clause-comes : goal.returns-then-is_fault-clause-comes
+returns-then-is_fault-clause-comes g c = λ before ack so.
+    let content = g.F.Files.content in
+    let waits = ap awaited_text c.in-Pack.is ∙ same_pack _ _ _ _ (sym c.deref.ensures.value) (sym c.deref-2.ensures.value) in
+    left_comes g.F.Files.honest before _ (content c.args.files.now) (content c.take_awaited.new.files) c.deref.result.now (told_in c.deref-2.result.now) _ waits c.take_awaited.ensures.beside c.take_awaited.ensures.bad
+    c.in-Err.fault _ (sym (ap awaited_text c.in-Pack.is)) (c.in-Err.ensures.left before ack so)
+
+pub returns-then-is_fault-clause-cleared : goal.returns-then-is_fault-clause-cleared
+returns-then-is_fault-clause-cleared g c = λ honest up. absurd (true≢false (sym up ∙ ap not (sym c.is_fault.ensures ∙ c.if-is_fault.true)))
+
+-- ---- a refusal, behind which the quarantine is emptied
+pub returns-in_err-drop_quarantine-in-Err-clause-comes : goal.returns-in_err-drop_quarantine-in-Err-clause-comes
+returns-in_err-drop_quarantine-in-Err-clause-comes g c =
+    let content = g.F.Files.content in
+    let old = content c.args.files.now in
+    let mid = content c.take_awaited.new.files in
+    let new = content c.drop_quarantine.new.files in
+    let waits = ap awaited_text c.in-Pack.is ∙ same_pack _ _ _ _ (sym c.deref.ensures.value) (sym c.deref-2.ensures.value) in
+    let outside = c.in_err-drop_quarantine-in-Err.ensures.outside in
+    let p = err_from_is_err_and c.from_residual-in_err-drop_quarantine-in-Err.result c.from_residual-in_err-drop_quarantine-in-Err.ensures.1 in
+    rw (p.1, p.2) (λ before ack so.
+    left_comes g.F.Files.honest before _ old new c.deref.result.now (told_in c.deref-2.result.now) _ waits (λ honest. others_then _ _ _ (c.take_awaited.ensures.beside honest) (others_slot _ _ (outside honest))) (λ honest. bad_then (c.take_awaited.ensures.bad honest) (c.in_err-drop_quarantine-in-Err.ensures.bad honest))
+    _ _ (sym (ap awaited_text c.in-Pack.is)) (left_failing g.F.Files.honest before _ old mid c.deref.result.now (told_in c.deref-2.result.now) c.in-Err.fault new outside c.in_err-drop_quarantine-in-Err.field-0.0 (c.in-Err.ensures.left before ack so)))
+
+pub returns-in_err-drop_quarantine-in-Err-clause-cleared : goal.returns-in_err-drop_quarantine-in-Err-clause-cleared
+returns-in_err-drop_quarantine-in-Err-clause-cleared g c = λ honest.
+    let p = err_from_is_err_and c.from_residual-in_err-drop_quarantine-in-Err.result c.from_residual-in_err-drop_quarantine-in-Err.ensures.1 in
+    rw (p.1, p.2) (λ up. absurd (true≢false (sym up)))
+
+pub returns-in_err-drop_quarantine-in-Err-clause-beside : goal.returns-in_err-drop_quarantine-in-Err-clause-beside
+returns-in_err-drop_quarantine-in-Err-clause-beside g c = λ honest. others_then _ _ _ (c.take_awaited.ensures.beside honest) (others_slot _ _ (c.in_err-drop_quarantine-in-Err.ensures.outside honest))
+
+pub returns-in_err-drop_quarantine-in-Err-clause-objects : goal.returns-in_err-drop_quarantine-in-Err-clause-objects
+returns-in_err-drop_quarantine-in-Err-clause-objects g c = λ honest. keeps_then _ _ _ (c.take_awaited.ensures.objects honest) (keeps_beside_slot _ _ (c.in_err-drop_quarantine-in-Err.ensures.outside honest))
+
+pub returns-in_err-drop_quarantine-in-Err-clause-bad : goal.returns-in_err-drop_quarantine-in-Err-clause-bad
+returns-in_err-drop_quarantine-in-Err-clause-bad g c = λ honest. bad_then (c.take_awaited.ensures.bad honest) (c.in_err-drop_quarantine-in-Err.ensures.bad honest)
+
+pub returns-in_err-drop_quarantine-in-Err-clause-wear : goal.returns-in_err-drop_quarantine-in-Err-clause-wear
+returns-in_err-drop_quarantine-in-Err-clause-wear g c =
+    writes_both c.in-Err.ensures.wear (refusal_no_device c.in-Err.fault (sym c.is_fault.ensures ∙ c.if-is_fault.false))
+    (files_writes c.in_err-drop_quarantine-in-Err.field-0.0 c.from_residual-in_err-drop_quarantine-in-Err.result c.from_residual-in_err-drop_quarantine-in-Err.ensures.1 c.in_err-drop_quarantine-in-Err.ensures.wear)
+
+pub returns-in_ok-drop_quarantine-in-Err-clause-comes : goal.returns-in_ok-drop_quarantine-in-Err-clause-comes
+returns-in_ok-drop_quarantine-in-Err-clause-comes g c = λ before ack so.
+    let content = g.F.Files.content in
+    let old = content c.args.files.now in
+    let mid = content c.take_awaited.new.files in
+    let new = content c.drop_quarantine.new.files in
+    let waits = ap awaited_text c.in-Pack.is ∙ same_pack _ _ _ _ (sym c.deref.ensures.value) (sym c.deref-2.ensures.value) in
+    let outside = c.in_ok-drop_quarantine-in-Err.ensures.outside in
+    left_comes g.F.Files.honest before _ old new c.deref.result.now (told_in c.deref-2.result.now) _ waits (λ honest. others_then _ _ _ (c.take_awaited.ensures.beside honest) (others_slot _ _ (outside honest))) (λ honest. bad_then (c.take_awaited.ensures.bad honest) (c.in_ok-drop_quarantine-in-Err.ensures.bad honest))
+    _ _ (sym (ap awaited_text c.in-Pack.is)) (left_then g.F.Files.honest before _ old mid c.deref.result.now (told_in c.deref-2.result.now) c.in-Err.fault new outside (c.in-Err.ensures.left before ack so))
+
+pub returns-in_ok-drop_quarantine-in-Err-clause-cleared : goal.returns-in_ok-drop_quarantine-in-Err-clause-cleared
+returns-in_ok-drop_quarantine-in-Err-clause-cleared g c = λ honest up dropped. c.in_ok-drop_quarantine-in-Err.ensures.dropped honest
+
+pub returns-in_ok-drop_quarantine-in-Err-clause-beside : goal.returns-in_ok-drop_quarantine-in-Err-clause-beside
+returns-in_ok-drop_quarantine-in-Err-clause-beside g c = λ honest. others_then _ _ _ (c.take_awaited.ensures.beside honest) (others_slot _ _ (c.in_ok-drop_quarantine-in-Err.ensures.outside honest))
+
+pub returns-in_ok-drop_quarantine-in-Err-clause-objects : goal.returns-in_ok-drop_quarantine-in-Err-clause-objects
+returns-in_ok-drop_quarantine-in-Err-clause-objects g c = λ honest. keeps_then _ _ _ (c.take_awaited.ensures.objects honest) (keeps_beside_slot _ _ (c.in_ok-drop_quarantine-in-Err.ensures.outside honest))
+
+pub returns-in_ok-drop_quarantine-in-Err-clause-bad : goal.returns-in_ok-drop_quarantine-in-Err-clause-bad
+returns-in_ok-drop_quarantine-in-Err-clause-bad g c = λ honest. bad_then (c.take_awaited.ensures.bad honest) (c.in_ok-drop_quarantine-in-Err.ensures.bad honest)
+
+pub returns-in_ok-drop_quarantine-in-Err-clause-wear : goal.returns-in_ok-drop_quarantine-in-Err-clause-wear
+returns-in_ok-drop_quarantine-in-Err-clause-wear g c =
+    let calm = sym c.is_fault.ensures ∙ c.if-is_fault.false in
+    writes_both c.in-Err.ensures.wear (refusal_no_device c.in-Err.fault calm)
+    (writes_told c.in_ok-drop_quarantine-in-Err.ensures.wear (λ never. absurd (cc never)) (λ device. absurd (refusal_no_device c.in-Err.fault calm device)))

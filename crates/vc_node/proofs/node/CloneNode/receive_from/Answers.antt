@@ -1,0 +1,70 @@
+use Rattle.std.proofs.Common.{refl, rules}
+use Rattle.vc_answer.proofs.KeepsLemmas.{StandsIn-kept}
+use Rattle.vc_files.proofs.WearLemmas.{writes_none}
+use Rattle.vc_node.proofs.CleanLemmas.{clean_same}
+use Rattle.vc_node.proofs.ComingLemmas.{down_no_device, down_receives, known_receives, next_awaits, next_clean, next_cleared, next_lost, next_none, next_receives, next_wear}
+use Rattle.vc_node.specs.Awaited.{awaited_text}
+use Rattle.vc_node.proofs.node.CloneNode.receive_from.Goals as goal
+
+-- ---- down
+pub returns-then-not-self-clause-receives : goal.returns-then-not-self-clause-receives
+returns-then-not-self-clause-receives g c =
+    down_receives g.F.Files.honest (g.R.Read.remaining c.args.reader.now) (g.R.Read.remaining c.skip_message.new.reader) (g.F.Files.content c.args.self.now.files) c.args.self.now.awaited c.skip_message.result c.refuse_down.result c.args.self.now.is_up
+    (search rules) c.refuse_down.ensures c.skip_message.ensures.message c.skip_message.ensures.end c.skip_message.ensures.fault
+
+pub returns-then-not-self-clause-known : goal.returns-then-not-self-clause-known
+returns-then-not-self-clause-known g c = λ m bytes rest is reads.
+    known_receives g.F.Files.honest (g.R.Read.remaining c.args.reader.now) (g.R.Read.remaining c.skip_message.new.reader) (g.F.Files.content c.args.self.now.files) (g.F.Files.content c.args.self.now.files) c.args.self.now.awaited c.args.self.now.awaited
+    c.args.self.now.is_up c.args.self.now.is_up c.refuse_down.result (returns-then-not-self-clause-receives g c) m bytes rest is reads
+
+pub returns-then-not-self-clause-clean : goal.returns-then-not-self-clause-clean
+returns-then-not-self-clause-clean g c = λ honest. clean_same _ _ refl
+
+pub returns-then-not-self-clause-wear : goal.returns-then-not-self-clause-wear
+returns-then-not-self-clause-wear g c = writes_none (down_no_device c.skip_message.result c.refuse_down.result c.refuse_down.ensures)
+
+-- ---- up
+pub returns-clause-receives : goal.returns-clause-receives
+returns-clause-receives g c =
+    rw (← c.self.view_is) (next_receives g.F.Files.content c.self.inside.files c.take_next-received.new.files c.settle_next.new.self.files (awaited_text c.self.inside.awaited) (awaited_text c.take_next-received.new.awaited) c.settle_next.new.self.awaited c.settle_next.new.self.is_up
+    c.take_next-received.result c.settle_next.result c.settle_next.ensures.received c.settle_next.ensures.files c.settle_next.ensures.awaits g.F.Files.honest (g.R.Read.remaining c.args.reader.now)
+    (g.R.Read.remaining c.take_next-received.new.reader) c.self.inside.is_up c.if-not-self.false (c.settle_next.ensures.up c.if-not-self.false) c.take_next-received.ensures.receives)
+
+pub returns-clause-known : goal.returns-clause-known
+returns-clause-known g c = λ m bytes rest is reads.
+    known_receives g.F.Files.honest (g.R.Read.remaining c.args.reader.now) (g.R.Read.remaining c.take_next-received.new.reader) (g.F.Files.content c.args.self.now.files) (g.F.Files.content c.settle_next.new.self.files) c.args.self.now.awaited
+    c.settle_next.new.self.awaited c.args.self.now.is_up c.settle_next.new.self.is_up c.settle_next.result (returns-clause-receives g c) m bytes rest is reads
+
+pub returns-clause-none : goal.returns-clause-none
+returns-clause-none g c =
+    rw (← c.self.view_is) (next_none g.F.Files.content c.self.inside.files c.take_next-received.new.files c.settle_next.new.self.files (awaited_text c.self.inside.awaited) (awaited_text c.take_next-received.new.awaited) c.settle_next.new.self.awaited c.settle_next.new.self.is_up
+    c.take_next-received.result c.settle_next.result c.settle_next.ensures.received c.settle_next.ensures.files c.settle_next.ensures.awaits (λ d w b. record { files = d; awaited = w; is_up = b }) c.self.inside.is_up c.if-not-self.false
+    (c.settle_next.ensures.up c.if-not-self.false) c.take_next-received.ensures.none)
+
+pub returns-clause-lost : goal.returns-clause-lost
+returns-clause-lost g c = λ honest.
+    rw (← c.self.view_is) (next_lost g.F.Files.content c.self.inside.files c.take_next-received.new.files c.settle_next.new.self.files (awaited_text c.self.inside.awaited) (awaited_text c.take_next-received.new.awaited) c.settle_next.new.self.awaited c.settle_next.new.self.is_up
+    c.take_next-received.result c.settle_next.result c.settle_next.ensures.received c.settle_next.ensures.files c.settle_next.ensures.awaits c.self.inside.is_up c.if-not-self.false (c.settle_next.ensures.up c.if-not-self.false) (c.take_next-received.ensures.lost honest))
+
+pub returns-clause-cleared : goal.returns-clause-cleared
+returns-clause-cleared g c = λ honest.
+    rw (← c.self.view_is) (next_cleared g.F.Files.content c.self.inside.files c.take_next-received.new.files c.settle_next.new.self.files (awaited_text c.self.inside.awaited) (awaited_text c.take_next-received.new.awaited) c.settle_next.new.self.awaited c.settle_next.new.self.is_up
+    c.take_next-received.result c.settle_next.result c.settle_next.ensures.received c.settle_next.ensures.files c.settle_next.ensures.awaits c.self.inside.is_up c.if-not-self.false (c.settle_next.ensures.up c.if-not-self.false) (c.take_next-received.ensures.cleared honest))
+
+pub returns-clause-awaits : goal.returns-clause-awaits
+returns-clause-awaits g c =
+    rw (← c.self.view_is) (next_awaits g.F.Files.content c.self.inside.files c.take_next-received.new.files c.settle_next.new.self.files (awaited_text c.self.inside.awaited) (awaited_text c.take_next-received.new.awaited) c.settle_next.new.self.awaited c.settle_next.new.self.is_up
+    c.take_next-received.result c.settle_next.result c.settle_next.ensures.received c.settle_next.ensures.files c.settle_next.ensures.awaits c.take_next-received.ensures.unchanged)
+
+pub returns-clause-clean : goal.returns-clause-clean
+returns-clause-clean g c = λ honest.
+    rw (← c.self.view_is) (next_clean g.F.Files.content c.self.inside.files c.take_next-received.new.files c.settle_next.new.self.files (awaited_text c.self.inside.awaited) (awaited_text c.take_next-received.new.awaited) c.settle_next.new.self.awaited c.settle_next.new.self.is_up
+    c.take_next-received.result c.settle_next.result c.settle_next.ensures.received c.settle_next.ensures.files c.settle_next.ensures.awaits (c.take_next-received.ensures.bad honest))
+
+pub returns-clause-wear : goal.returns-clause-wear
+returns-clause-wear g c =
+    rw (← c.self.view_is) (next_wear g.F.Files.content c.self.inside.files c.take_next-received.new.files c.settle_next.new.self.files (awaited_text c.self.inside.awaited) (awaited_text c.take_next-received.new.awaited) c.settle_next.new.self.awaited c.settle_next.new.self.is_up
+    c.take_next-received.result c.settle_next.result c.settle_next.ensures.received c.settle_next.ensures.files c.settle_next.ensures.awaits c.take_next-received.ensures.wear)
+
+pub invariant_of-self : goal.invariant_of-self
+invariant_of-self g c = λ honest. (StandsIn-kept _ _ c.self.inside.reached (c.take_next-received.ensures.objects honest) (c.self.invariant honest).0, tt)

@@ -1,0 +1,88 @@
+use Rattle.std.proofs.Common.{Ok, Err, Option, subst}
+use Rattle.std.proofs.lemmas.Result.{err_from_is_err_and}
+use Rattle.vc_files.proofs.WearLemmas.{writes_both}
+use Rattle.vc_shared.specs.Arriving.{AnswersKnown}
+use Rattle.vc_shared.specs.declared.accepting.Accepted.{Accepted}
+use Rattle.vc_server.proofs.ComingLemmas.{fault_known, fault_served, none_known, none_served, reply_known, reply_served, taken_up}
+use Rattle.vc_server.proofs.answering.answer_from.Goals as goal
+
+-- ---- no message
+pub returns-in_err-accepted-clause-serves : goal.returns-in_err-accepted-clause-serves
+returns-in_err-accepted-clause-serves g c =
+    let p = err_from_is_err_and c.from_residual.result c.from_residual.ensures.1 in
+    rw (p.1, p.2) (fault_served _ _ _ _ _ _ _ _ _ c.in_err-accepted.field-0.0 c.in_err-accepted.ensures.accepts)
+
+pub returns-in_err-accepted-clause-known : goal.returns-in_err-accepted-clause-known
+returns-in_err-accepted-clause-known g c =
+    let p = err_from_is_err_and c.from_residual.result c.from_residual.ensures.1 in
+    rw (p.1, p.2) (fault_known _ _ _ _ _ _ _ _ _ c.in_err-accepted.field-0.0 c.in_err-accepted.ensures.known)
+
+pub returns-in_default-clause-serves : goal.returns-in_default-clause-serves
+returns-in_default-clause-serves g c = none_served _ _ _ _ _ _ _ _ _ (rw c.in_default.is at c.in_ok-accepted.ensures.accepts)
+
+pub returns-in_default-clause-known : goal.returns-in_default-clause-known
+returns-in_default-clause-known g c =
+    let content = g.F.Files.content in
+    let was = c.args.shared.now in
+    let now = c.accept_from.new.self in
+    let before = g.R.Read.remaining c.args.reader.now in
+    let rest = g.R.Read.remaining c.accept_from.new.reader in
+    none_known g.F.Files.honest before rest (content was.files) (content now.files) was.slots now.slots was.is_up now.is_up
+    (subst (λ (found : Option Accepted). AnswersKnown g.F.Files.honest before rest (content was.files) (content now.files) was.slots now.slots was.is_up now.is_up (Ok found)) c.in_default.is c.in_ok-accepted.ensures.known)
+
+-- ---- a message
+pub reply_to-requires : goal.reply_to-requires
+reply_to-requires g c =
+    let accepts = rw c.in-Some.is at c.in_ok-accepted.ensures.accepts in
+    record { up = c.in_ok-accepted.ensures.up (taken_up _ accepts.came c.in-Some.accepted accepts.told); tellable = c.in_ok-accepted.ensures.tellable }
+
+pub returns-clause-serves : goal.returns-clause-serves
+returns-clause-serves g c =
+    let accepts = rw c.in-Some.is at c.in_ok-accepted.ensures.accepts in
+    reply_served _ _ _ _ _ _ _ _ _ _ _ _ c.in-Some.accepted (Ok c.in_ok-reply.reply) (c.in_ok-accepted.ensures.up (taken_up _ accepts.came c.in-Some.accepted accepts.told)) c.in_ok-reply.ensures.replies
+    c.in_ok-accepted.ensures.clean c.in_ok-reply.ensures.bad_file accepts
+
+pub returns-clause-known : goal.returns-clause-known
+returns-clause-known g c =
+    let content = g.F.Files.content in
+    let was = c.args.shared.now in
+    let mid = c.accept_from.new.self in
+    let before = g.R.Read.remaining c.args.reader.now in
+    let rest = g.R.Read.remaining c.accept_from.new.reader in
+    let accepts = rw c.in-Some.is at c.in_ok-accepted.ensures.accepts in
+    reply_known _ _ _ _ _ _ _ _ _ _ _ _ c.in-Some.accepted (Ok c.in_ok-reply.reply) (c.in_ok-accepted.ensures.up (taken_up _ accepts.came c.in-Some.accepted accepts.told)) c.in_ok-reply.ensures.replies
+    (subst (λ (found : Option Accepted). AnswersKnown g.F.Files.honest before rest (content was.files) (content mid.files) was.slots mid.slots was.is_up mid.is_up (Ok found)) c.in-Some.is c.in_ok-accepted.ensures.known)
+
+pub returns-in_err-reply-clause-serves : goal.returns-in_err-reply-clause-serves
+returns-in_err-reply-clause-serves g c =
+    let p = err_from_is_err_and c.from_residual-in_err-reply.result c.from_residual-in_err-reply.ensures.1 in
+    let accepts = rw c.in-Some.is at c.in_ok-accepted.ensures.accepts in
+    rw (p.1, p.2)
+    (reply_served _ _ _ _ _ _ _ _ _ _ _ _ c.in-Some.accepted (Err c.in_err-reply.field-0.0) (c.in_ok-accepted.ensures.up (taken_up _ accepts.came c.in-Some.accepted accepts.told)) c.in_err-reply.ensures.replies
+    c.in_ok-accepted.ensures.clean c.in_err-reply.ensures.bad_file accepts)
+
+pub returns-in_err-reply-clause-known : goal.returns-in_err-reply-clause-known
+returns-in_err-reply-clause-known g c =
+    let content = g.F.Files.content in
+    let was = c.args.shared.now in
+    let mid = c.accept_from.new.self in
+    let before = g.R.Read.remaining c.args.reader.now in
+    let rest = g.R.Read.remaining c.accept_from.new.reader in
+    let p = err_from_is_err_and c.from_residual-in_err-reply.result c.from_residual-in_err-reply.ensures.1 in
+    let accepts = rw c.in-Some.is at c.in_ok-accepted.ensures.accepts in
+    rw (p.1, p.2)
+    (reply_known _ _ _ _ _ _ _ _ _ _ _ _ c.in-Some.accepted (Err c.in_err-reply.field-0.0) (c.in_ok-accepted.ensures.up (taken_up _ accepts.came c.in-Some.accepted accepts.told)) c.in_err-reply.ensures.replies
+    (subst (λ (found : Option Accepted). AnswersKnown g.F.Files.honest before rest (content was.files) (content mid.files) was.slots mid.slots was.is_up mid.is_up (Ok found)) c.in-Some.is c.in_ok-accepted.ensures.known))
+
+pub returns-in_err-reply-clause-lost : goal.returns-in_err-reply-clause-lost
+returns-in_err-reply-clause-lost g c = λ honest.
+    let p = err_from_is_err_and c.from_residual-in_err-reply.result c.from_residual-in_err-reply.ensures.1 in
+    rw (p.1, p.2) (λ never. absurd (cc never))
+
+pub returns-clause-wear : goal.returns-clause-wear
+returns-clause-wear g c = writes_both c.in_ok-accepted.ensures.wear (λ never. never) c.in_ok-reply.ensures.wear
+
+pub returns-in_err-reply-clause-wear : goal.returns-in_err-reply-clause-wear
+returns-in_err-reply-clause-wear g c =
+    let p = err_from_is_err_and c.from_residual-in_err-reply.result c.from_residual-in_err-reply.ensures.1 in
+    rw (p.1, p.2) (writes_both c.in_ok-accepted.ensures.wear (λ never. never) c.in_err-reply.ensures.wear)
