@@ -15,6 +15,10 @@ use vc_folder::FolderLock;
 use vc_message::{Message, read_message, skip_message};
 use vc_world::{Peer, Reply};
 
+// How many bytes of an answer are kept in memory at most: an object with the longest body, and a mebibyte beside it. A longer answer
+// is read back from a file, and each of its objects is written twice, since it stands in the quarantine before it is stored.
+const SHORT: usize = 17_825_792;
+
 /// The shared node at a port of this machine. The right to write to the clone is let go while an answer comes, and taken again
 /// before the clone sees the answer: a server that is silent stops no other command on the clone. An answer that is long is kept in a
 /// file meanwhile, from which the clone takes it object by object.
@@ -134,7 +138,7 @@ where
     R: rt::Files<File = File> + AllocGlobal + Clone + Drop,
     S: Read + Drop,
 {
-    let spool = Spool::new(rt, store)?;
+    let spool = Spool::new(rt, store, SHORT)?;
     let mut copying = Copying { stream, spool };
     let skipped = skip_message(rt.alloc(), &mut copying);
     let answer = copying.spool.finish()?;

@@ -15,6 +15,9 @@ use vc_message::{IncomingFault, skip_message};
 use vc_server::{ServeFault, Served, tell};
 use vc_shared::AcceptFault;
 
+// How many bytes of a message are kept in memory at most, a mebibyte: what a client sends must not fill the memory.
+const SHORT: usize = 1_048_576;
+
 /// Opens a port of this machine, which no other machine reaches.
 pub fn bind<R: Net>(rt: &R, port: u16) -> io::Result<R::Listener> {
     rt.bind(local(port))
@@ -115,7 +118,7 @@ fn receive<R>(
 where
     R: rt::Files<File = File> + Net + AllocGlobal + Clone + Drop,
 {
-    let spool = Spool::new(rt, store)?;
+    let spool = Spool::new(rt, store, SHORT)?;
     let mut copying = Copying { stream, spool };
     let skipped = skip_message(rt.alloc(), &mut copying);
     let spooled = match copying.spool.finish() {

@@ -8,9 +8,6 @@ use std::io::{self, BufReader, BufWriter, Cursor, ErrorKind, Read, Seek, Write};
 use std::rt;
 use vc_files::Fault;
 
-// How many bytes are kept in memory at most. What is longer goes to a file, and of that no more than a piece is in memory.
-const SHORT: usize = 1_048_576;
-
 // How many bytes go to a file with one write, where they come in small parts: a line of a message, and a little more.
 const PIECE: usize = 65_536;
 
@@ -27,18 +24,21 @@ pub(crate) struct Spool<R: rt::Files> {
     rt: R,
     // The store's folder.
     folder: String,
+    // How many bytes are kept in memory at most. What is longer goes to a file, and of that no more than a piece is in memory.
+    short: usize,
     place: Place<R::File>,
     // Why bytes were lost, if any were.
     fault: Option<Fault>,
 }
 
 impl<R: rt::Files + AllocGlobal + Clone + Drop> Spool<R> {
-    /// Nothing has come yet.
-    pub(crate) fn new(rt: &R, folder: &str) -> Result<Spool<R>, AllocError> {
+    /// Nothing has come yet. What is longer than so many bytes will go to a file.
+    pub(crate) fn new(rt: &R, folder: &str, short: usize) -> Result<Spool<R>, AllocError> {
         let alloc = rt.alloc();
         Ok(Spool {
             rt: rt.clone()?,
             folder: String::from_str(alloc, folder)?,
+            short,
             place: Place::Memory(Vec::new(alloc)),
             fault: None,
         })
@@ -54,7 +54,7 @@ impl<R: rt::Files + AllocGlobal + Clone + Drop> Spool<R> {
     fn add(&mut self, bytes: &[u8]) -> io::Result<()> {
         match &mut self.place {
             Place::Memory(held) => {
-                if held.len().saturating_add(bytes.len()) <= SHORT {
+                if held.len().saturating_add(bytes.len()) <= self.short {
                     held.extend_from_slice(bytes)?;
                     return Ok(());
                 }
@@ -74,6 +74,7 @@ impl<R: rt::Files + AllocGlobal + Clone + Drop> Spool<R> {
         let Spool {
             rt,
             folder: _,
+            short: _,
             place,
             fault,
         } = self;

@@ -1,23 +1,20 @@
 -- Why a migration is refused, and that none of its writes damages an object.
-use Rattle.std.proofs.Common.{arith, ◌≡◌, ℕ, zero, suc, Bool, true, false, cond, List, [], ◌∷◌, Option, Some, None, refl, sym, ap, ◌∙◌, subst, inl, inr}
+use Rattle.std.proofs.Common.{arith, ◌≡◌, ℕ, zero, suc, Bool, true, false, cond, List, [], ◌∷◌, Option, Some, None, refl, sym, ap, ◌∙◌, subst, ◌⊎◌, inl, inr}
 use Rattle.std.specs.Prelude.{Contains, bytes_eq, codes, is_some, unwrap_or}
 use Rattle.std.specs.FinMap as files
-use Rattle.std.proofs.Math.Logic.{∥∥₁_elim}
 use Rattle.std.proofs.lemmas.Bool.{false_from_ne_true}
 use Rattle.std.proofs.lemmas.Slice.Eq.{bytes_eq-Decides}
 use Rattle.vc_files.proofs.FileMapLemmas.{get-put}
 use Rattle.vc_files.specs.FileMap.{FileMap, SameOutside}
-use Rattle.vc_object.proofs.OneFault.{no_body_fault}
 use Rattle.vc_object.specs.Decoding.{StoredObject}
-use Rattle.vc_object.specs.Object.{IsObject, object_bytes, object_name}
+use Rattle.vc_object.specs.Object.{object_bytes, object_name}
 use Rattle.vc_object.specs.ObjectId.{is_id}
 use Rattle.vc_object.specs.ObjectMap.{ObjectMap}
 use Rattle.vc_object.specs.declared.id.ObjectId.{ObjectId}
-use Rattle.vc_object.specs.declared.kind.Kind.{Kind}
 use Rattle.vc_store.proofs.PathLemmas.{name_in-object_path, named_by_path}
 use Rattle.vc_store.proofs.StoreLemmas.{objects-absent}
 use Rattle.vc_store.specs.Store.{IsDamaged, name_in, object_path, objects, stored_in, with_file, with_object}
-use Rattle.vc_store.specs.StoreFault.{IsOfDamage, IsOfPut, IsRefused}
+use Rattle.vc_store.specs.StoreFault.{IsFault, IsOfDamage, IsRefused}
 use Rattle.vc_store.specs.declared.faults.StoreFault.{StoreFault}
 use Rattle.vc_store.specs.declared.faults.StoreFault.TheVariants.{Absent, BadObject, Damaged, Fault}
 use Rattle.vc_session.proofs.QuarantineLemmas.{quarantined-same}
@@ -75,13 +72,13 @@ carried_blames content slot id (Damaged damaged) h b =
     subst (λ (n : ObjectId). BlamesMigration content slot (id ∷ []) (Damaged n)) (sym b.0) (itself id, inr (b.1 h))
 carried_blames content slot id (Fault fault) h b = tt
 
--- by its file in the store: what is carried is an object, so its body is not at fault
-pub put_blames : (content : FileMap) (slot : ℕ) (id : ObjectId) (kind : Kind) (body : List ℕ) (e : StoreFault) → ∥ IsObject kind body ∥₁ → object_name kind body ≡ id → IsOfPut kind body e → IsOfDamage content e → BlamesMigration content slot (id ∷ []) e
-put_blames content slot id kind body (BadObject fault) object is of damage = ∥∥₁_elim object (λ x. absurd x) (λ o. no_body_fault kind body fault o of)
-put_blames content slot id kind body (Absent absent) object is of damage = absurd of
-put_blames content slot id kind body (Damaged damaged) object is of damage =
-    (subst (Contains (id ∷ [])) (sym (of.1 ∙ is)) (itself id), inl damage)
-put_blames content slot id kind body (Fault fault) object is of damage = tt
+-- by its file in the store
+pub put_blames : (content : FileMap) (slot : ℕ) (id : ObjectId) (e : StoreFault) → IsFault e ⊎ (e ≡ Damaged id) → IsOfDamage content e → BlamesMigration content slot (id ∷ []) e
+put_blames content slot id (BadObject fault) of damage = elim of [ inl fault_of ↦ absurd fault_of | inr is ↦ absurd (cc is) ]
+put_blames content slot id (Absent absent) of damage = elim of [ inl fault_of ↦ absurd fault_of | inr is ↦ absurd (cc is) ]
+put_blames content slot id (Damaged damaged) of damage =
+    elim of [ inl fault_of ↦ absurd fault_of | inr is ↦ (let same : damaged ≡ id = cc is in (subst (Contains (id ∷ [])) (sym same) (itself id), inl damage)) ]
+put_blames content slot id (Fault fault) of damage = tt
 
 -- ---- after those before it
 only_one : (names : List ObjectId) (id found : ObjectId) → Contains names id → Contains (id ∷ []) found → Contains names found

@@ -12,7 +12,7 @@ use crate::quarantine::find_in_quarantine;
 use std::alloc::Global;
 use vc_files::{Fault, Files};
 use vc_object::ObjectId;
-use vc_store::{StoreFault, put};
+use vc_store::{StoreFault, put_named};
 
 // Stores the object of a slot's quarantine that has this name.
 fn migrate_one<F: Files>(
@@ -31,7 +31,7 @@ fn migrate_one<F: Files>(
     let Some(carried) = find_in_quarantine(files, alloc, slot, id)? else {
         return Err(StoreFault::Absent(*id));
     };
-    put(files, alloc, carried.kind, &carried.body)?;
+    put_named(files, alloc, id, &carried.object())?;
     Ok(())
 }
 

@@ -1,5 +1,5 @@
 //! The quarantine: where what an open push carries stands until it is stored.
-ghost use Rattle.std.specs.Prelude.{◌≡◌, ◌⊎◌, IfOk, IfErr, OnOk, OnErr, IsErrAnd, IsErrOf, option_map, string_bytes, if◌then◌else◌, Some, true};
+ghost use Rattle.std.specs.Prelude.{◌≡◌, ◌⊎◌, IfOk, IfErr, IfSome, OnOk, OnErr, IsErrAnd, IsErrOf, option_map, string_bytes, if◌then◌else◌, Some, true};
 ghost use Rattle.std.specs.FinMap.{insert};
 ghost use Rattle.vc_files.specs.FileMap.{SameOutside};
 ghost use Rattle.vc_files.specs.Failures.{Wears, Writes};
@@ -14,7 +14,7 @@ ghost use Rattle.vc_session.specs.Quarantine.{IsDamagedThere, IsDropped, OnlyLos
 use std::alloc::{AllocError, Global};
 use vc_files::{Fault, Files};
 use vc_object::{Object, ObjectId, encode, name_of};
-use vc_store::{StoreFault, Stored, object_in};
+use vc_store::{StoreFault, Stored, object_from};
 
 // The folder of a slot's quarantine, with its slash.
 fn quarantine_folder(alloc: Global, slot: u8) -> Result<String, AllocError>
@@ -34,7 +34,8 @@ fn quarantine_path(alloc: Global, slot: u8, id: &ObjectId) -> Result<String, All
     format!(in alloc; "{folder}{first}/{rest}")
 }
 
-/// The object with this name in a slot's quarantine, or none where it is not there; 12 where its file is damaged.
+/// The object with this name in a slot's quarantine, or none where it is not there; 12 where its file is damaged. What is found has
+/// the name whatever the device does, so that nobody need name it again.
 pub fn find_in_quarantine<F: Files>(
     files: &mut F,
     alloc: Global,
@@ -42,6 +43,7 @@ pub fn find_in_quarantine<F: Files>(
     id: &ObjectId,
 ) -> Result<Option<Stored>, StoreFault>
     ensures found { F.honest → IfOk result (λ found. option_map (λ s. stored_object s.kind s.body.items) found ≡ quarantined (F.content files.old) slot id.now) }
+    ensures own { IfOk result (λ found. IfSome found (λ s. object_name s.kind s.body.items ≡ id.now)) }
     ensures damaged { F.honest → IsDamagedThere (F.content files.old) slot id.now → IsErrAnd result (λ e. IsFault e ⊎ (e ≡ StoreFault.Damaged id.now)) }
     ensures refused { IfErr result (IsRefused id.now (F.honest → IsDamagedThere (F.content files.old) slot id.now)) }
     ensures same { F.content files.new ≡ F.content files.old }
@@ -52,12 +54,8 @@ pub fn find_in_quarantine<F: Files>(
     let Some(bytes) = files.get(alloc, path.as_str())? else {
         return Ok(None);
     };
-    let object = object_in(id, &bytes)?;
-    let body = object.body.to_vec(alloc)?;
-    Ok(Some(Stored {
-        kind: object.kind,
-        body,
-    }))
+    let object = object_from(id, bytes)?;
+    Ok(Some(object))
 }
 
 /// Writes a file in the place of an object of a slot's quarantine, whatever it holds.

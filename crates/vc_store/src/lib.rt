@@ -14,7 +14,7 @@ mod writing;
 
 pub use faults::StoreFault;
 pub use listing::{by_prefix, names};
-pub use reading::{find, find_named, get, has, object_in};
+pub use reading::{find, find_named, get, has, object_from};
 pub use stored::Stored;
 pub use view::Store;
 pub use writing::{put, put_named};

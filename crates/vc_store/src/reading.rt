@@ -13,8 +13,8 @@ use std::alloc::Global;
 use vc_files::{Fault, Files};
 use vc_object::{Object, ObjectId};
 
-// The object that the bytes of a file give to the name. It has that name.
-fn named_in<'a>(id: &ObjectId, bytes: &'a [u8]) -> Result<Object<'a>, StoreFault>
+// The object that the bytes of a file give to the name: 12 where they are none, or one of another name.
+fn object_in<'a>(id: &ObjectId, bytes: &'a [u8]) -> Result<Object<'a>, StoreFault>
     ensures found { IfOk result (λ o. stored_in id.now (Some bytes.now) ≡ Ok (stored_object o.kind o.body.now)) }
     ensures own { IfOk result (λ o. object_name o.kind o.body.now ≡ id.now) }
     ensures bytes { IfOk result (λ o. bytes.now ≡ object_bytes o.kind o.body.now) }
@@ -29,12 +29,30 @@ fn named_in<'a>(id: &ObjectId, bytes: &'a [u8]) -> Result<Object<'a>, StoreFault
     Ok(object)
 }
 
-/// The object that the bytes of a file give to the name: 12 where they are none, or one of another name.
-pub fn object_in<'a>(id: &ObjectId, bytes: &'a [u8]) -> Result<Object<'a>, StoreFault>
-    ensures found { IfOk result (λ o. stored_in id.now (Some bytes.now) ≡ Ok (stored_object o.kind o.body.now)) }
-    ensures refused { IfErr result (λ e. (e ≡ StoreFault.Damaged id.now) × (stored_in id.now (Some bytes.now) ≡ Err e)) }
+/// The object that the bytes of a file give to the name: 12 where they are none, or one of another name. Its body stays where it
+/// lies in memory, so what was read is held once.
+pub fn object_from(id: &ObjectId, bytes: Vec<u8>) -> Result<Stored, StoreFault>
+    ensures found { IfOk result (λ s. stored_in id.now (Some bytes.items) ≡ Ok (stored_object s.kind s.body.items)) }
+    ensures own { IfOk result (λ s. object_name s.kind s.body.items ≡ id.now) }
+    ensures refused { IfErr result (λ e. (e ≡ StoreFault.Damaged id.now) × (stored_in id.now (Some bytes.items) ≡ Err e)) }
 {
-    named_in(id, bytes)
+    let object = object_in(id, &bytes)?;
+    let kind = object.kind;
+    let front = bytes.len() - object.body.len();
+    let body = without_front(bytes, front);
+    Ok(Stored { kind, body })
+}
+
+// The bytes without so many at their front.
+fn without_front(bytes: Vec<u8>, front: usize) -> Vec<u8>
+    requires { front ≤ length bytes.items }
+    ensures { result.items ≡ drop front bytes.items }
+{
+    let mut rest = bytes;
+    let size = rest.len() - front;
+    rest.copy_within(front.., 0);
+    rest.truncate(size);
+    rest
 }
 
 // The bytes of the file in the place of the object with this name.
@@ -72,23 +90,8 @@ fn read_stored<F: Files>(
     let Some(bytes) = read_file(files, alloc, id)? else {
         return Ok(None);
     };
-    let object = named_in(id, &bytes)?;
-    let kind = object.kind;
-    let front = bytes.len() - object.body.len();
-    let body = without_front(bytes, front);
-    Ok(Some(Stored { kind, body }))
-}
-
-// The bytes without so many at their front. They stay where they lie in memory, so what was read is held once.
-fn without_front(bytes: Vec<u8>, front: usize) -> Vec<u8>
-    requires { front ≤ length bytes.items }
-    ensures { result.items ≡ drop front bytes.items }
-{
-    let mut rest = bytes;
-    let size = rest.len() - front;
-    rest.copy_within(front.., 0);
-    rest.truncate(size);
-    rest
+    let object = object_from(id, bytes)?;
+    Ok(Some(object))
 }
 
 /// The object with this name. The file is read whole, and what it holds must have the name: 11 where there is no

@@ -12,7 +12,7 @@ pub returns-clause-found : goal.returns-clause-found
 returns-clause-found g c = λ honest.
     let content = g.F.Files.content c.args.files.now in
     let id = c.args.id.now in
-    let object = stored_object c.in_ok-object.object.kind c.in_ok-body.body.items in
+    let object = stored_object c.in_ok-object.object.kind c.in_ok-object.object.body.items in
     let read : stored_in id (files.get content (quarantine_path c.args.slot id.0)) ≡ Ok object = search (rules, c.in_ok-bytes.ensures.found honest) in
     sym (quarantined-found content c.args.slot id object (search rules) read)
 
@@ -27,7 +27,7 @@ pub returns-clause-damaged : goal.returns-clause-damaged
 returns-clause-damaged g c = λ honest damaged.
     let content = g.F.Files.content c.args.files.now in
     let id = c.args.id.now in
-    let object = stored_object c.in_ok-object.object.kind c.in_ok-body.body.items in
+    let object = stored_object c.in_ok-object.object.kind c.in_ok-object.object.body.items in
     let read : stored_in id (files.get content (quarantine_path c.args.slot id.0)) ≡ Ok object = search (rules, c.in_ok-bytes.ensures.found honest) in
     let no : ◌≡◌ {A = Result StoredObject StoreFault} (Ok object) (Err (Damaged id)) = sym read ∙ damaged in
     absurd (cc no)
