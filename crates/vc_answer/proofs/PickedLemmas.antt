@@ -1,25 +1,18 @@
 -- Picking elements of a list one by one.
-use Rattle.std.proofs.Common.{◌≡◌, ℕ, suc, ◌+◌, ◌<◌, ◌≤◌, ⊎_elim, List, [], ◌∷◌, ◌++◌, length, take, drop, get_or, Contains, ◌↔◌, sym, ap, subst, ◌∙◌, refl, arith, append_assoc}
-use Rattle.std.proofs.Math.Seq.{take-suc}
-use Rattle.std.proofs.lemmas.List.{take_all, take-append-drop}
+use Rattle.std.proofs.Common.{◌≡◌, ℕ, ◌+◌, ◌<◌, ◌≤◌, ⊎_elim, List, [], ◌∷◌, ◌++◌, length, take, drop, get_or, Contains, ◌↔◌, sym, ap, subst, ◌∙◌, refl, arith, append_assoc}
+use Rattle.std.proofs.lemmas.List.{take_all, take-append-drop, take_more}
 use Rattle.std.proofs.lemmas.List.Elements.{Contains-append_left, Contains-append_right, Contains-push_cases}
 use Rattle.vc_answer.specs.Picked.{IsFirst, IsPicked, BeginsWithFirst}
 
--- one element more
-pub front_grows : {X : Type 0} (xs : List X) (n : ℕ) (d : X) → n < length xs → take (n + 1) xs ≡ take n xs ++ get_or xs n d ∷ []
-front_grows xs n d here =
-    let place : n + 1 ≡ suc n = omega arith in
-    ap (λ i. take i xs) place ∙ take-suc xs n d here
-
 pub parted_at : {X : Type 0} (xs : List X) (n : ℕ) (d : X) → n < length xs → xs ≡ take n xs ++ get_or xs n d ∷ drop (n + 1) xs
 parted_at xs n d here =
-    sym (take-append-drop (n + 1) xs) ∙ ap (λ l. l ++ drop (n + 1) xs) (front_grows xs n d here) ∙ append_assoc (take n xs) (get_or xs n d ∷ []) (drop (n + 1) xs)
+    sym (take-append-drop (n + 1) xs) ∙ ap (λ l. l ++ drop (n + 1) xs) (take_more xs n d here) ∙ append_assoc (take n xs) (get_or xs n d ∷ []) (drop (n + 1) xs)
 
 module _ {X : Type 0} (P : X → Type 0) where
   -- what holds of the elements so far, and of the next, holds of those up to the next
   pub all_more : (xs : List X) (n : ℕ) (d : X) → n < length xs → ((y : X) → Contains (take n xs) y → P y) → P (get_or xs n d) → (y : X) → Contains (take (n + 1) xs) y → P y
   all_more xs n d here before next y h =
-      ⊎_elim (before y) (λ e. subst P e next) (Contains-push_cases (take n xs) (get_or xs n d) y (subst (λ l. Contains l y) (front_grows xs n d here) h))
+      ⊎_elim (before y) (λ e. subst P e next) (Contains-push_cases (take n xs) (get_or xs n d) y (subst (λ l. Contains l y) (take_more xs n d here) h))
 
   pub all_whole : (xs : List X) (n : ℕ) → length xs ≤ n → ((y : X) → Contains (take n xs) y → P y) → (y : X) → Contains xs y → P y
   all_whole xs n end all y h = all y (subst (λ l. Contains l y) (sym (take_all n xs end)) h)
@@ -80,11 +73,11 @@ module _ {X : Type 0} (P : X → Type 0) where
 
   -- the elements up to the next
   pub IsPicked-next_passed : (xs ys : List X) (n : ℕ) (d : X) → n < length xs → IsPicked P (take n xs) ys → ¬ P (get_or xs n d) → IsPicked P (take (n + 1) xs) ys
-  IsPicked-next_passed xs ys n d here picked not = subst (λ l. IsPicked P l ys) (sym (front_grows xs n d here)) (IsPicked-passed (take n xs) ys (get_or xs n d) picked not)
+  IsPicked-next_passed xs ys n d here picked not = subst (λ l. IsPicked P l ys) (sym (take_more xs n d here)) (IsPicked-passed (take n xs) ys (get_or xs n d) picked not)
 
   pub IsPicked-next : (xs ys now : List X) (n : ℕ) (d : X) → n < length xs → IsPicked P (take n xs) ys → P (get_or xs n d) → now ≡ ys ++ get_or xs n d ∷ [] → IsPicked P (take (n + 1) xs) now
   IsPicked-next xs ys now n d here picked is pushed =
-      subst (λ l. IsPicked P (take (n + 1) xs) l) (sym pushed) (subst (λ l. IsPicked P l (ys ++ get_or xs n d ∷ [])) (sym (front_grows xs n d here)) (IsPicked-more (take n xs) ys (get_or xs n d) picked is))
+      subst (λ l. IsPicked P (take (n + 1) xs) l) (sym pushed) (subst (λ l. IsPicked P l (ys ++ get_or xs n d ∷ [])) (sym (take_more xs n d here)) (IsPicked-more (take n xs) ys (get_or xs n d) picked is))
 
   pub IsPicked-whole : (xs ys : List X) (n : ℕ) → length xs ≤ n → IsPicked P (take n xs) ys → IsPicked P xs ys
   IsPicked-whole xs ys n end picked = subst (λ l. IsPicked P l ys) (take_all n xs end) picked

@@ -1,8 +1,7 @@
 -- The walk that keeps what it reads: what stays true of it, step by step, and what it has kept at its end.
 use Rattle.std.proofs.Common.{◌≡◌, ℕ, ◌+◌, ◌<◌, ◌≤◌, ◌⊎◌, inl, inr, ⊎_elim, List, [], ◌∷◌, ◌++◌, length, take, get_or, Option, Some, Contains, ◌↔◌, sym, ap, subst, ◌∙◌, arith}
-use Rattle.std.proofs.lemmas.List.{take_all, take-append-le}
+use Rattle.std.proofs.lemmas.List.{take_all, take-append-le, take_more}
 use Rattle.std.proofs.lemmas.List.Elements.{Contains-append_left, Contains-append_right, Contains-push_cases}
-use Rattle.vc_answer.proofs.PickedLemmas.{front_grows}
 use Rattle.vc_answer.proofs.ReadingLemmas.{HasRead, HasRead-none, HasRead-push}
 use Rattle.vc_answer.specs.Reached.{IsSentUnlessKnown}
 use Rattle.vc_files.specs.FileMap.{FileMap}
@@ -34,7 +33,7 @@ module _ (content : FileMap) (known : List ObjectId) where
 
   module _ (met now more : List ObjectId) (next : ℕ) (id : ObjectId) (here : next < length met) (at : get_or met next id ≡ id) (grown : now ≡ met ++ more) where
     front : take (next + 1) now ≡ take next met ++ id ∷ []
-    front = ap (take (next + 1)) grown ∙ take-append-le (next + 1) met more (omega (arith, here)) ∙ front_grows met next id here ∙ ap (λ x. take next met ++ x ∷ []) at
+    front = ap (take (next + 1)) grown ∙ take-append-le (next + 1) met more (omega (arith, here)) ∙ take_more met next id here ∙ ap (λ x. take next met ++ x ∷ []) at
 
     in_front : (y : ObjectId) → Contains (take next met) y ⊎ (id ≡ y) → Contains (take (next + 1) now) y
     in_front y h = subst (λ l. Contains l y) (sym front) (⊎_elim (Contains-append_left (take next met) (id ∷ []) y)

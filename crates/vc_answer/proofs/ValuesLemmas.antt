@@ -1,5 +1,5 @@
 -- The values of listed refs, with HEAD where it is an id.
-use Rattle.std.proofs.Common.{◌≡◌, ℕ, Bool, true, false, cond, ◌&&◌, inl, inr, ⊎_elim, List, [], ◌∷◌, ◌++◌, Option, Some, None, is_some, Contains, ◌↔◌, sym, ap, ◌∙◌, refl, arith, true≢false}
+use Rattle.std.proofs.Common.{◌≡◌, ℕ, Bool, true, false, cond, inl, inr, ⊎_elim, List, [], ◌∷◌, ◌++◌, Option, Some, None, is_some, Contains, ◌↔◌, sym, ap, ◌∙◌, refl, arith, true≢false}
 use Rattle.std.proofs.lemmas.List.Elements.{Contains-append_left, Contains-append_right, Contains-push_cases, Contains-append_cases}
 use Rattle.std.proofs.lemmas.Cmp.{nat_list_cmp_total}
 use Rattle.std.specs.Cmp.{eq_by_cmp_equiv}
@@ -11,6 +11,7 @@ use Rattle.std.specs.Map.{values_of}
 use Rattle.std.specs.Ordering.{nat_cmp, eq_by_cmp, is_eq, is_lt, ordering_reverse}
 use Rattle.std.specs.declared.cmp.Ordering.{Ordering}
 use Rattle.std.specs.declared.cmp.Ordering.TheVariants.{Less, Equal, Greater}
+use Rattle.std.proofs.lemmas.Bool.{and_parts}
 use Rattle.vc_answer.specs.Answer.{IsRefValue}
 use Rattle.vc_files.specs.FileMap.{FileMap}
 use Rattle.vc_object.specs.declared.id.ObjectId.{ObjectId}
@@ -19,10 +20,6 @@ use Rattle.vc_refs.specs.RefMap.{RefMap, IsListOf}
 use Rattle.vc_refs.specs.Refs.{refs}
 use Rattle.vc_refs.specs.declared.heads.Head.{Head}
 use Rattle.vc_refs.specs.declared.heads.Head.TheVariants as head
-
-both : (a b : Bool) → (a && b) ≡ true → (a ≡ true) × (b ≡ true)
-both true b h = (refl, h)
-both false b h = absurd (true≢false (sym h))
 
 some_same : {A : Type 0} (x y : A) → ◌≡◌ {A = Option A} (Some x) (Some y) → x ≡ y
 some_same x y e = cc e
@@ -48,14 +45,14 @@ Entries = List (List ℕ × ObjectId)
 lift : (e : List ℕ × ObjectId) (es ys : Entries) → below_all name_cmp e.0 ys ≡ true → AllByRecursion (λ x. find name_cmp x.0 es ≡ Some x.1) ys → AllByRecursion (λ x. find name_cmp x.0 (e ∷ es) ≡ Some x.1) ys
 lift e es [] below h = tt
 lift e es (y ∷ ys) below h =
-    let parts = both (is_lt (name_cmp e.0 y.0)) (below_all name_cmp e.0 ys) below in
+    let parts = and_parts (is_lt (name_cmp e.0 y.0)) (below_all name_cmp e.0 ys) below in
     (ap (λ t. cond t (Some e.1) (find name_cmp y.0 es)) (above e.0 y.0 parts.0) ∙ h.0, lift e es ys parts.1 h.1)
 
 -- each entry of a sorted list is found under its name
 pub each_found : (es : Entries) → is_sorted name_cmp es ≡ true → AllByRecursion (λ x. find name_cmp x.0 es ≡ Some x.1) es
 each_found [] sorted = tt
 each_found (e ∷ es) sorted =
-    let parts = both (below_all name_cmp e.0 es) (is_sorted name_cmp es) sorted in
+    let parts = and_parts (below_all name_cmp e.0 es) (is_sorted name_cmp es) sorted in
     (ap (λ t. cond t (Some e.1) (find name_cmp e.0 es)) ((eq_by_cmp_equiv nat_list_cmp_total).refl e.0), lift e es es parts.0 (each_found es parts.1))
 
 value_found : (f : RefMap) (all es : Entries) → ((name : List ℕ) → find name_cmp name all ≡ f name) → AllByRecursion (λ x. find name_cmp x.0 all ≡ Some x.1) es

@@ -1,10 +1,10 @@
 -- The walk over a history that ends at names with a number.
-use Rattle.std.proofs.Common.{◌≡◌, ◌≢◌, ℕ, ◌+◌, ◌<◌, ◌≤◌, ◌⊎◌, inl, inr, ⊎_elim, Bool, true, false, List, [], ◌∷◌, length, get_or, filter, is_none, if◌then◌else◌, Option, Some, None, IsSome, Contains, MatchOption, sym, ap, subst, ◌∙◌, refl, true≢false, arith, length-append}
+use Rattle.std.proofs.Common.{◌≡◌, ◌≢◌, ℕ, ◌+◌, ◌<◌, ◌≤◌, ◌⊎◌, inl, inr, ⊎_elim, true, List, [], ◌∷◌, length, get_or, is_none, Option, Some, None, IsSome, Contains, MatchOption, sym, ap, subst, ◌∙◌, refl, true≢false, arith, length-append}
 use Rattle.std.specs.Option.{option_map}
 use Rattle.std.proofs.Math.ListN.{get_or-append}
 use Rattle.std.proofs.Math.Seq.{get_or-append_seam}
 use Rattle.std.proofs.lemmas.Bool.{cases_lt}
-use Rattle.std.proofs.lemmas.List.Elements.{All-contains, filter_passes, Contains-append_cases, Contains-append_left, Contains-append_right, Contains-push_cases, Contains-push}
+use Rattle.std.proofs.lemmas.List.Elements.{All-contains, filter_passes}
 use Rattle.std.proofs.lemmas.List.Quantifiers.{position-Some}
 use Rattle.std.proofs.lemmas.Option.{get_or_from_slice_get, slice_get_within}
 use Rattle.indexmap.specs.IndexSet.{insert_all}
@@ -22,30 +22,7 @@ use Rattle.vc_base.specs.Parents.{IsOther}
 use Rattle.vc_base.specs.Walk.{parents_read, read_at}
 use Rattle.vc_base.specs.declared.fault.BaseFault.TheVariants.{NotACommit}
 use Rattle.vc_base.proofs.HistoryLemmas.{Reaches-same, LinksTo-steps, LinksTo-parents, steps_in, steps_in-commit, steps_in-other, there-from_steps, position-from_Contains}
-
--- ---- the names that a test picks from a list
-Contains-filter : {X : Type 0} (test : X → Bool) (xs : List X) (x : X) → Contains xs x → test x ≡ true → Contains (filter test xs) x
-Contains-filter test [] x h passes = absurd (omega (arith, h.1))
-Contains-filter {X} test (a ∷ xs) x h passes = ⊎_elim
-    (λ one. let same : a ≡ x = ⊎_elim (λ none. absurd (omega (arith, none.1))) (λ e. e) (Contains-push_cases [] a x one) in first (test a) (ap test same ∙ passes) same)
-    (λ later. rest (test a) (Contains-filter test xs x later passes))
-    (Contains-append_cases (a ∷ []) xs x h)
-  where
-    first : (b : Bool) → b ≡ true → a ≡ x → Contains (if b then a ∷ filter test xs else filter test xs) x
-    first true e same = Contains-append_left (a ∷ []) (filter test xs) x (subst (Contains (a ∷ [])) same (Contains-push [] a))
-    first false e same = absurd (true≢false (sym e))
-
-    rest : (b : Bool) → Contains (filter test xs) x → Contains (if b then a ∷ filter test xs else filter test xs) x
-    rest true h = Contains-append_right (a ∷ []) (filter test xs) x h
-    rest false h = h
-
-Contains-from_filter : {X : Type 0} (test : X → Bool) (xs : List X) (x : X) → Contains (filter test xs) x → Contains xs x
-Contains-from_filter test [] x h = h
-Contains-from_filter {X} test (a ∷ xs) x h = by (test a) (λ later. Contains-from_filter test xs x later) h
-  where
-    by : (b : Bool) → (Contains (filter test xs) x → Contains xs x) → Contains (if b then a ∷ filter test xs else filter test xs) x → Contains (a ∷ xs) x
-    by true rest h = ⊎_elim (Contains-append_left (a ∷ []) xs x) (λ later. Contains-append_right (a ∷ []) xs x (rest later)) (Contains-append_cases (a ∷ []) (filter test xs) x h)
-    by false rest h = Contains-append_right (a ∷ []) xs x (rest h)
+use Rattle.vc_base.proofs.PassedLemmas.{Contains-filter, Contains-from_filter}
 
 module _ (objects : ObjectMap) (known : ObjectId → Option ℕ) where
   -- where the walk goes from a name
@@ -64,7 +41,7 @@ module _ (objects : ObjectMap) (known : ObjectId → Option ℕ) where
       by None e is = absurd (cc)
       by (Some ys) e is =
           let same : unnumbered known ys ≡ h.0 = cc in
-          (ys, e, Contains-from_filter (λ id. is_none (known id)) ys y (subst (λ l. Contains l y) (sym same) h.2))
+          (ys, e, (Contains-from_filter (λ id. is_none (known id)) ys y (subst (λ l. Contains l y) (sym same) h.2)).0)
 
   LinksTo-unnumbered : (x y : ObjectId) → LinksTo steps_beyond x y → known y ≡ None
   unfolding steps_beyond

@@ -1,7 +1,7 @@
 -- Lines of refs, as the functions that read them see them.
 use Rattle.std.proofs.Common.{◌≡◌, ℕ, ◌==◌, ◌||◌, Bool, true, false, cond, not, List, [], ◌∷◌, ◌++◌, Option, Some, None, refl, ap, ◌∙◌, subst, arith}
 use Rattle.std.specs.List.{list_any}
-use Rattle.std.proofs.lemmas.Bool.{eq-eqb}
+use Rattle.std.proofs.lemmas.Bool.{eq-eqb, or_parts}
 use Rattle.std.proofs.lemmas.Bool.Decides.{nat_tests}
 use Rattle.hex.proofs.HexLemmas.{decode_sized-ok}
 use Rattle.vc_object.specs.Bytes.{Without}
@@ -47,17 +47,13 @@ nul_cut (b ∷ words) = by (b == 0) refl (nul_cut words)
     by true e r = (b ∷ words, grind (arith, nat_tests), refl)
     by false e r = (r.0, r.1, ap (λ t. b ∷ t) r.2)
 
-either_false : (a b : Bool) → (a || b) ≡ false → (a ≡ false) × (b ≡ false)
-either_false true b e = cc e
-either_false false b e = (refl, e)
-
 -- the name is found again before the capabilities
 pub name_before : (name tail : List ℕ) → list_any is_break name ≡ false → IsCapabilities tail → before_nul (name ++ tail) ≡ name
 name_before [] [] plain passed = refl
 name_before [] (b ∷ bs) plain passed = ap (λ t. cond t [] (b ∷ before_nul bs)) (eq-eqb b 0 passed)
 name_before (b ∷ name) tail plain passed =
-    let p = either_false (is_break b) (list_any is_break name) plain in
-    let q = either_false (b == 0) (b == 10 || b == 32) p.0 in
+    let p = or_parts (is_break b) (list_any is_break name) plain in
+    let q = or_parts (b == 0) (b == 10 || b == 32) p.0 in
     ap (λ t. cond t [] (b ∷ before_nul (name ++ tail))) q.0 ∙ ap (λ t. b ∷ t) (name_before name tail p.1 passed)
 
 -- ---- lines

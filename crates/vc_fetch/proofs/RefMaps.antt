@@ -14,6 +14,7 @@ use Rattle.std.specs.Map.{lookup, keys_of, KeepsOthers}
 use Rattle.std.specs.List.{AllByRecursion}
 use Rattle.std.specs.List.Sorted.{IsStrictlySortedBy}
 use Rattle.std.proofs.lemmas.Bool.{false_from_ne_true}
+use Rattle.std.proofs.lemmas.List.{nil_from_length}
 use Rattle.vc_object.specs.declared.id.ObjectId.{ObjectId}
 use Rattle.vc_pkt.specs.Message.{onward}
 use Rattle.vc_pkt.specs.declared.fault.PktFault.TheVariants.{BadRecord}
@@ -106,12 +107,8 @@ first_in : (k : List ℕ) (v : ObjectId) (es : Entries) → AllByRecursion (λ s
 first_in k v [] below = refl
 first_in k v (e ∷ es) below = ap (λ r. by_order r ((k, v) ∷ (e.0.items, e.1) ∷ seen es) ((e.0.items, v) ∷ seen es) ((e.0.items, e.1) ∷ put by_bytes k v (seen es))) below.0
 
-no_entries : {A : Type 0} (es : List A) → length es ≡ 0 → es ≡ []
-no_entries [] e = refl
-no_entries (x ∷ es) e = absurd (omega arith)
-
 pub entries-empty : entries (empty {X = ObjectId} {R = slice_cmp nat_cmp}) ≡ []
-entries-empty = no_entries _ (sym (len-entries (empty {X = ObjectId} {R = slice_cmp nat_cmp})) ∙ len-empty (slice_cmp nat_cmp) ObjectId)
+entries-empty = nil_from_length _ (sym (len-entries (empty {X = ObjectId} {R = slice_cmp nat_cmp})) ∙ len-empty (slice_cmp nat_cmp) ObjectId)
 
 entries_kept : (es : Entries) → IsStrictlySortedBy key_cmp (keys_of es) → entries (from_entries {R = slice_cmp nat_cmp} (seen es)) ≡ seen es
 unfolding IsStrictlySortedBy

@@ -11,7 +11,7 @@ use Rattle.std.specs.List.{AllByRecursion, starts_with}
 use Rattle.std.specs.Prelude.{nat_eq}
 use Rattle.std.proofs.lemmas.Slice.Eq.{starts_is}
 use Rattle.std.proofs.lemmas.Bool.Decides.{Decides-eqb}
-use Rattle.std.proofs.lemmas.List.{take-append-drop, take_at, length-take-le}
+use Rattle.std.proofs.lemmas.List.{take-append-drop, take_at, length-take-le, same_from_push}
 use Rattle.vc_object.specs.Bytes.{Without}
 use Rattle.vc_object.specs.Decoding.{StoredObject, stored_object}
 use Rattle.vc_object.specs.Object.{object_name}
@@ -45,12 +45,6 @@ use Rattle.vc_index.proofs.MapLemmas.{same_text}
 use Rattle.vc_index.proofs.PlaceLemmas.{file_place, front_places, files_order}
 use Rattle.vc_index.proofs.PartLemmas.{by_last, last_get, got_last, folder_begins, nested_push, nested_last, holds_parts, run_tree, placed_run, all_parts, all_join, all_map, all_over, map_join, begins_trans, tree, run_of_folder, of_one_folder, below_new, building_new}
 use Rattle.vc_index.proofs.TextLemmas.{id_of_test}
-
--- the last elements of one list
-pub push_same : {X : Type 0} (xs ys : List X) (x y : X) → xs ++ x ∷ [] ≡ ys ++ y ∷ [] → x ≡ y
-push_same xs ys x y e =
-    let same : Some x ≡ Some y = sym (last_get xs x) ∙ ap (λ (l : List _). slice_get l (length l - 1)) e ∙ last_get ys y in
-    cc same
 
 pub open_length-push : (parts : List Part) (part : Part) → open_length (parts ++ part ∷ []) ≡ length part.folder.now
 open_length-push parts part = ap (λ (o : Option Part). option_map_or (λ (p : Part). length p.folder.now) o 0) (last_get parts part)
@@ -108,7 +102,7 @@ module _ (files : IndexMap) (trees : List (List Entry)) (rest : List Pair) (part
         let all : take start parts ≡ last.0 ++ last.1 ∷ [] = sym (append-nil (take start parts)) ∙ ap (λ r. take start parts ++ r) (sym none) ∙ take-append-drop start parts ∙ last.2 in
         absurd (above last.0 last.1 all (ap length last.3)))
         (λ l.
-        let same : l.1 ≡ last.1 = push_same (take start parts ++ l.0) last.0 l.1 last.1 (append_assoc (take start parts) l.0 (l.1 ∷ []) ∙ ap (λ r. take start parts ++ r) (sym l.2) ∙ take-append-drop start parts ∙ last.2) in
+        let same : l.1 ≡ last.1 = (same_from_push (take start parts ++ l.0) last.0 l.1 last.1 (append_assoc (take start parts) l.0 (l.1 ∷ []) ∙ ap (λ r. take start parts ++ r) (sym l.2) ∙ take-append-drop start parts ∙ last.2)).1 in
         (l.0, l.2 ∙ ap (λ x. l.0 ++ x ∷ []) same))
         (by_last (drop start parts))
 

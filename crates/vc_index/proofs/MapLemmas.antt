@@ -14,6 +14,7 @@ use Rattle.std.specs.Map.{lookup, keys_of, KeepsOthers}
 use Rattle.std.specs.List.{AllByRecursion}
 use Rattle.std.specs.List.Sorted.{IsStrictlySortedBy}
 use Rattle.std.proofs.lemmas.Bool.{false_from_ne_true}
+use Rattle.std.proofs.lemmas.List.{nil_from_length}
 use Rattle.vc_index.specs.IndexMap.{IndexMap, index_of, IsIndex, IsFile, HasConflict}
 use Rattle.vc_index.specs.Path.{IsAbove}
 use Rattle.vc_index.specs.declared.entry.IndexEntry.{IndexEntry}
@@ -74,12 +75,8 @@ first_in k v [] below = refl
 first_in k v (e ∷ es) below =
     ap (λ r. by_order r ((k, v) ∷ (e.0.items, e.1) ∷ map (λ e. (e.0.items, e.1)) es) ((e.0.items, v) ∷ map (λ e. (e.0.items, e.1)) es) ((e.0.items, e.1) ∷ put (slice_cmp nat_cmp) k v (map (λ e. (e.0.items, e.1)) es))) below.0
 
-no_entries : {A : Type 0} (es : List A) → length es ≡ 0 → es ≡ []
-no_entries [] e = refl
-no_entries (x ∷ es) e = absurd (omega arith)
-
 pub entries-empty : entries (empty {X = IndexEntry} {R = slice_cmp nat_cmp}) ≡ []
-entries-empty = no_entries _ (sym (len-entries (empty {X = IndexEntry} {R = slice_cmp nat_cmp})) ∙ len-empty (slice_cmp nat_cmp) IndexEntry)
+entries-empty = nil_from_length _ (sym (len-entries (empty {X = IndexEntry} {R = slice_cmp nat_cmp})) ∙ len-empty (slice_cmp nat_cmp) IndexEntry)
 
 entries_kept : (es : Entries) → IsStrictlySortedBy key_cmp (keys_of es) → entries (from_entries {R = slice_cmp nat_cmp} (map (λ e. (e.0.items, e.1)) es)) ≡ map (λ e. (e.0.items, e.1)) es
 unfolding IsStrictlySortedBy

@@ -1,5 +1,5 @@
 -- A pack that comes from a reader to a clone: what came of it so far, why it didn't all come, and what is told of it then.
-use Rattle.std.proofs.Common.{◌≡◌, ◌≢◌, ℕ, Bool, true, false, cond, List, Option, Some, None, IsSome, Result, Ok, Err, refl, sym, subst, true≢false}
+use Rattle.std.proofs.Common.{◌≡◌, ℕ, Bool, true, false, cond, List, Option, Some, None, IsSome, Result, Ok, Err, refl, sym, subst, true≢false}
 use Rattle.std.specs.Prelude.{IfNone, IfSome, IsErrAnd, IsErrOf}
 use Rattle.vc_fetch.specs.Pack.{is_object}
 use Rattle.vc_files.proofs.WearLemmas.{writes_told}

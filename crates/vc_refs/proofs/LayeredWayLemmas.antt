@@ -10,7 +10,7 @@ use Rattle.std.specs.Cmp.Lexicographic.{slice_cmp, nat_list_cmp_total}
 use Rattle.std.specs.FinMap.{entries, entries_sorted, find, get-entries}
 use Rattle.std.specs.FinMap as files
 use Rattle.std.specs.FinMap.Entries.{below_all, is_sorted}
-use Rattle.std.proofs.lemmas.Bool.{and_parts, false_from_ne_true}
+use Rattle.std.proofs.lemmas.Bool.{and_parts, false_from_ne_true, or_right}
 use Rattle.std.proofs.lemmas.Bool.Decides.{Decides-eqb}
 use Rattle.std.proofs.lemmas.Slice.Eq.{starts_is}
 use Rattle.vc_files.specs.FileMap.{FileMap}
@@ -188,10 +188,6 @@ module _ (content : FileMap) (packed : PackedMap) (name : List ℕ) (read : pack
 
   held_loose : (q : List ℕ) → loose.IsInTheWay content name q → IsInTheWay content name q
   held_loose q way = record { held = ap (λ b. b || is_some (packed_at (packed_map content) q)) way.taken; conflict = way.conflict }
-
-  or_right : (a b : Bool) → b ≡ true → (a || b) ≡ true
-  or_right true b h = refl
-  or_right false b h = h
 
   held_packed : (q : List ℕ) → IsPackedInTheWay packed name q → IsInTheWay content name q
   held_packed q way = record { held = or_right (is_taken content q) _ (ap (λ m. is_some (packed_at m q)) read ∙ way.held); conflict = way.conflict }

@@ -1,5 +1,5 @@
 -- What a text of packed refs stands for has legal names in `refs/` and whole ids: for those who hold the text alone.
-use Rattle.std.proofs.Common.{◌≡◌, ◌<◌, ◌==◌, ℕ, Bool, true, false, nat_lt, List, [], ◌∷◌, length, Option, Some, None, Result, Ok, Err, sym, ap, refl, ◌∙◌, subst, arith, rules}
+use Rattle.std.proofs.Common.{◌≡◌, ◌==◌, ℕ, Bool, true, false, nat_lt, List, [], ◌∷◌, length, Option, Some, None, Result, Ok, Err, sym, ap, refl, ◌∙◌, subst, arith, rules}
 use Rattle.std.specs.Prelude.{codes, option_map, option_and_then, if◌then◌else◌}
 use Rattle.std.specs.FinMap.{entries, from_entries, get, get-entries}
 use Rattle.std.specs.List.{list_all}

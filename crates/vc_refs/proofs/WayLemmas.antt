@@ -1,5 +1,5 @@
 -- What stands in the way of a ref: the folders of its name, and the paths in its own folder.
-use Rattle.std.proofs.Common.{◌≡◌, ℕ, suc, ◌+◌, ◌-◌, true≢false, ◌<◌, ◌≤◌, Bool, true, false, ◌&&◌, ◌||◌, ◌⊎◌, inl, inr, nat_eq, List, [], ◌∷◌, ◌++◌, take, drop, length, get_or, Option, Some, None, sym, ap, refl, ◌∙◌, subst, arith, append_assoc, length-append, drop-cons}
+use Rattle.std.proofs.Common.{◌≡◌, ℕ, suc, ◌+◌, ◌-◌, true≢false, ◌<◌, ◌≤◌, true, false, ◌&&◌, ◌||◌, ◌⊎◌, inl, inr, nat_eq, List, [], ◌∷◌, ◌++◌, take, drop, length, get_or, Option, Some, None, sym, ap, refl, ◌∙◌, subst, arith, append_assoc, length-append, drop-cons}
 use Rattle.std.specs.List.Sorted.{IsStrictlySortedBy}
 use Rattle.std.specs.Prelude.{◌≢◌, codes, is_some, option_map, MatchOption, map}
 use Rattle.std.specs.Option.{option_to_list}
@@ -12,7 +12,7 @@ use Rattle.std.specs.FinMap as files
 use Rattle.std.proofs.Math.Seq.{take-append_seam, take-append-add, get_or-append_seam}
 use Rattle.std.proofs.lemmas.List.{take-append-drop, take-append-le}
 use Rattle.std.proofs.lemmas.Slice.Eq.{bytes_eq-Decides}
-use Rattle.std.proofs.lemmas.Bool.{and_parts, and_from, false_from_ne_true, cases_lt}
+use Rattle.std.proofs.lemmas.Bool.{and_parts, and_from, false_from_ne_true, cases_lt, or_cases, or_left, or_right}
 use Rattle.vc_files.specs.FileMap.{FileMap, paths_under}
 use Rattle.vc_refs.specs.RefMap.{IsInRefs, is_folder_of, conflicts}
 use Rattle.vc_refs.specs.LooseWay.{IsFirstInTheWay, IsFree, IsFreeAbove, IsInTheWay}
@@ -67,18 +67,6 @@ taken content path inside there = and_from (starts_with nat_eq path (codes "refs
 
 taken_inside : (content : FileMap) (path : List ℕ) → is_taken content path ≡ true → IsInRefs path × (is_some (files.get content path) ≡ true)
 taken_inside content path h = and_parts (starts_with nat_eq path (codes "refs/")) (is_some (files.get content path)) h
-
-or_cases : (a b : Bool) → (a || b) ≡ true → (a ≡ true) ⊎ (b ≡ true)
-or_cases true b h = inl refl
-or_cases false b h = inr h
-
-or_left : (a b : Bool) → a ≡ true → (a || b) ≡ true
-or_left true b h = refl
-or_left false b h = cc
-
-or_right : (a b : Bool) → b ≡ true → (a || b) ≡ true
-or_right true b h = refl
-or_right false b h = h
 
 -- no file stands at the folders of the name that are shorter than i bytes
 pub record NoneShorter (content : FileMap) (name : List ℕ) (i : ℕ) : Type 0 where
