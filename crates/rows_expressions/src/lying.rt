@@ -4,9 +4,9 @@ ghost use Rattle.vc_files.specs.Failures.{greatest_count, unstopped};
 ghost use Rattle.vc_rev.specs.Source.{Names};
 
 use indexmap::IndexMap;
-use vc_base::{Commits, Parents};
 use vc_files::{FailOnce, Fault, MemoryFiles};
 use vc_graph::Objects;
+use vc_history::{Commits, Parents};
 use vc_object::ObjectId;
 use vc_refname::RefName;
 use vc_repository::FileRepository;

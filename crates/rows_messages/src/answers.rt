@@ -5,11 +5,11 @@ use crate::spelling::{ids_of, push_bytes, push_id, spelled};
 use indexmap::IndexSet;
 use std::alloc::{AllocError, Global};
 use std::fmt::Write;
-use vc_answer::{AnswerFault, answer_want, judge_pack};
 use vc_fetch::{Pack, Want};
 use vc_files::{Files, MemoryFiles};
 use vc_graph::GraphFault;
 use vc_object::ObjectId;
+use vc_pack::{AnswerFault, answer_want, judge_pack};
 use vc_store::Store;
 
 /// From here on there are no files.

@@ -8,21 +8,21 @@
 mod arriving;
 mod clones;
 mod exchanges;
-mod ground;
 mod reading;
 mod recording;
+mod scene;
 mod shared;
 mod site;
 mod trials;
 mod words;
 
-use crate::ground::Ground;
+use crate::scene::Scene;
 use std::alloc::{AllocError, Global};
 use std::io;
 use std::io::{BufRead, BufReader};
 
 // The row with its answer; a comment and a blank line as they are.
-fn answered(alloc: Global, ground: &mut Ground, row: &str) -> Result<String, AllocError> {
+fn answered(alloc: Global, scene: &mut Scene, row: &str) -> Result<String, AllocError> {
     let mut line = String::from_str(alloc, row)?;
     if row.is_empty() || row.starts_with('#') {
         return Ok(line);
@@ -30,22 +30,22 @@ fn answered(alloc: Global, ground: &mut Ground, row: &str) -> Result<String, All
     line.push_str(" = ")?;
     match row.strip_prefix("try ") {
         Some(text) => trials::row(&mut line, alloc, text)?,
-        None => ground.row(&mut line, row)?,
+        None => scene.row(&mut line, row)?,
     }
     Ok(line)
 }
 
 // Answers the rows of the input in their order.
-fn answer_all(rt: &HostRuntime, ground: &mut Ground) -> io::Result<()> {
+fn answer_all(rt: &HostRuntime, scene: &mut Scene) -> io::Result<()> {
     let alloc = rt.alloc();
     for row in BufReader::new(alloc, rt.reader())?.lines(alloc) {
-        let line = answered(alloc, ground, row?.as_str())?;
+        let line = answered(alloc, scene, row?.as_str())?;
         rt.println(line)?;
     }
     Ok(())
 }
 
 fn main(rt: HostRuntime) -> io::Result<()> {
-    let mut ground = Ground::empty(rt.alloc());
-    answer_all(&rt, &mut ground)
+    let mut scene = Scene::empty(rt.alloc());
+    answer_all(&rt, &mut scene)
 }

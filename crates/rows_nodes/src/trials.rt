@@ -1,7 +1,7 @@
 //! One exchange of two clones, tried with a stop after each number of writes, with each call of a device failing alone, with its
 //! messages cut and changed, and with readers that bring them.
 
-use crate::ground::Ground;
+use crate::scene::Scene;
 use crate::words::push_bytes;
 use bstr::ByteVec;
 use std::alloc::{AllocError, Global};
@@ -49,11 +49,11 @@ const EXCHANGE: [&str; 37] = [
 ];
 
 // Runs rows. Whether a device failed in one of them.
-fn run(alloc: Global, ground: &mut Ground, rows: &[&str]) -> Result<bool, AllocError> {
+fn run(alloc: Global, scene: &mut Scene, rows: &[&str]) -> Result<bool, AllocError> {
     let mut failed = false;
     for row in rows {
         let mut answer = String::new(alloc);
-        ground.row(&mut answer, row)?;
+        scene.row(&mut answer, row)?;
         if answer.as_str().contains("device") {
             failed = true;
         }
@@ -62,13 +62,13 @@ fn run(alloc: Global, ground: &mut Ground, rows: &[&str]) -> Result<bool, AllocE
 }
 
 // Brings every message that was sent to every node once more.
-fn repeat_all(alloc: Global, ground: &mut Ground) -> Result<(), AllocError> {
-    for number in 0..ground.sent.len() {
+fn repeat_all(alloc: Global, scene: &mut Scene) -> Result<(), AllocError> {
+    for number in 0..scene.sent.len() {
         for node in ["", "c0 ", "c1 "] {
             let mut row = String::from_str(alloc, node)?;
             write!(row, "take {number}")?;
             let mut answer = String::new(alloc);
-            ground.row(&mut answer, row.as_str())?;
+            scene.row(&mut answer, row.as_str())?;
         }
     }
     Ok(())
@@ -87,12 +87,12 @@ const OPENED: [&str; 3] = ["open", "c0 open", "c1 open"];
 
 // The exchange, after a row that opens a node over a device that fails.
 fn with_failure(alloc: Global, opening: &str) -> Result<Failed, AllocError> {
-    let mut ground = Ground::empty(alloc);
-    let at_opening = run(alloc, &mut ground, &["world", opening])?;
-    if !run(alloc, &mut ground, &EXCHANGE)? && !at_opening {
+    let mut scene = Scene::empty(alloc);
+    let at_opening = run(alloc, &mut scene, &["world", opening])?;
+    if !run(alloc, &mut scene, &EXCHANGE)? && !at_opening {
         return Ok(Failed::Never);
     }
-    if is_whole_again(alloc, &mut ground)? {
+    if is_whole_again(alloc, &mut scene)? {
         Ok(Failed::Whole)
     } else {
         Ok(Failed::Broken)
@@ -100,14 +100,14 @@ fn with_failure(alloc: Global, opening: &str) -> Result<Failed, AllocError> {
 }
 
 // Opens the nodes anew, and repeats the exchange: whether they are whole then, and were before it.
-fn is_whole_again(alloc: Global, ground: &mut Ground) -> Result<bool, AllocError> {
-    run(alloc, ground, &OPENED)?;
-    if !ground.is_whole() {
+fn is_whole_again(alloc: Global, scene: &mut Scene) -> Result<bool, AllocError> {
+    run(alloc, scene, &OPENED)?;
+    if !scene.is_whole() {
         return Ok(false);
     }
-    run(alloc, ground, &OPENED)?;
-    repeat_all(alloc, ground)?;
-    Ok(ground.is_whole())
+    run(alloc, scene, &OPENED)?;
+    repeat_all(alloc, scene)?;
+    Ok(scene.is_whole())
 }
 
 // Tries the exchange with a failure after 0, 1, 2 .. writes or calls at a node, which the words name that open it, until it comes
@@ -146,7 +146,7 @@ fn faults(out: &mut String, alloc: Global, node: &str) -> Result<(), AllocError>
 // The message of a number of the exchange, as it comes to a node, with all that went before.
 #[derive(Drop)]
 struct Coming {
-    ground: Ground,
+    scene: Scene,
     // What begins a row about the node.
     node: &'static str,
     bytes: Vec<u8>,
@@ -174,33 +174,29 @@ fn node_of(row: &str) -> &'static str {
 // the message.
 fn run_up_to(
     alloc: Global,
-    ground: &mut Ground,
+    scene: &mut Scene,
     number: usize,
 ) -> Result<Option<(&'static str, Vec<u8>)>, AllocError> {
     let mut taking = String::new(alloc);
     write!(taking, "take {number}")?;
-    run(alloc, ground, &["world"])?;
+    run(alloc, scene, &["world"])?;
     for row in &EXCHANGE {
         if row.ends_with(taking.as_str()) {
-            return match ground.sent.get(number) {
+            return match scene.sent.get(number) {
                 Some(bytes) => Ok(Some((node_of(row), bytes.to_vec(alloc)?))),
                 None => Ok(None),
             };
         }
-        run(alloc, ground, &[*row])?;
+        run(alloc, scene, &[*row])?;
     }
     Ok(None)
 }
 
 // The exchange up to the row that brings the message of this number.
 fn up_to(alloc: Global, number: usize) -> Result<Option<Coming>, AllocError> {
-    let mut ground = Ground::empty(alloc);
-    match run_up_to(alloc, &mut ground, number)? {
-        Some((node, bytes)) => Ok(Some(Coming {
-            ground,
-            node,
-            bytes,
-        })),
+    let mut scene = Scene::empty(alloc);
+    match run_up_to(alloc, &mut scene, number)? {
+        Some((node, bytes)) => Ok(Some(Coming { scene, node, bytes })),
         None => Ok(None),
     }
 }
@@ -210,13 +206,13 @@ fn asked(alloc: Global, coming: &mut Coming, text: &str) -> Result<String, Alloc
     let mut row = String::from_str(alloc, coming.node)?;
     row.push_str(text)?;
     let mut answer = String::new(alloc);
-    coming.ground.row(&mut answer, row.as_str())?;
+    coming.scene.row(&mut answer, row.as_str())?;
     Ok(answer)
 }
 
 // What the node answers to these bytes.
 fn brought(alloc: Global, coming: &mut Coming, bytes: Vec<u8>) -> Result<String, AllocError> {
-    coming.ground.sent.push(bytes)?;
+    coming.scene.sent.push(bytes)?;
     asked(alloc, coming, "take")
 }
 
@@ -287,7 +283,7 @@ fn answer_to_changed(alloc: Global, at: &mut Coming, place: usize) -> Result<Ans
     {
         return Ok(Answered::Refused);
     }
-    if at.ground.is_whole() {
+    if at.scene.is_whole() {
         Ok(Answered::Taken)
     } else {
         Ok(Answered::Broken)
@@ -369,14 +365,14 @@ fn try_broken(
     number: usize,
     way: &str,
     length: usize,
-    before: &mut Ground,
+    before: &mut Scene,
 ) -> Result<Option<String>, AllocError> {
     let Some(mut at) = up_to(alloc, number)? else {
         return Ok(Some(String::from_str(alloc, "no such message")?));
     };
     let mut answer = answer_to_broken(alloc, &mut at, way, length)?;
     if answer.as_str() == told_of_broken(way, length) {
-        if at.ground.is_like(before) {
+        if at.scene.is_like(before) {
             return Ok(None);
         }
         answer.push_str(", and files changed")?;
@@ -403,7 +399,7 @@ fn is_taken_after(
     };
     let mut expected = answer_to_whole(alloc, &mut whole)?;
     expected.push_str(" | ")?;
-    Ok(answer.as_str() == expected.as_str() && at.ground.is_like(&mut whole.ground))
+    Ok(answer.as_str() == expected.as_str() && at.scene.is_like(&mut whole.scene))
 }
 
 // Brings a node each proper beginning of a message of the exchange by a reader that fails behind it, or ends. How many left the
@@ -420,7 +416,7 @@ fn try_beginnings(
     };
     let count = before.bytes.len();
     for length in 0..count {
-        if let Some(answer) = try_broken(alloc, number, way, length, &mut before.ground)? {
+        if let Some(answer) = try_broken(alloc, number, way, length, &mut before.scene)? {
             return write!(out, "{} after {length} bytes", answer.as_str());
         }
     }
@@ -455,7 +451,7 @@ fn is_read_alike(alloc: Global, number: usize, place: usize) -> Result<bool, All
         bytes.truncate(taken_of(alloc, bytes.len(), rest)?);
     }
     let expected = brought(alloc, &mut whole, bytes)?;
-    Ok(answer == expected.as_str() && at.ground.is_like(&mut whole.ground))
+    Ok(answer == expected.as_str() && at.scene.is_like(&mut whole.scene))
 }
 
 // A reader brings a node a message of the exchange with one byte changed, for each byte. How many there are, if each is answered as

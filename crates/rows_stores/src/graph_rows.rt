@@ -5,13 +5,13 @@ use crate::{generation_rows, verdict_rows};
 use anyhow::bail;
 use indexmap::IndexSet;
 use std::alloc::{AllocError, Global};
-use vc_base::{
-    BaseFault, Commits, Generations, commits, common_ancestors, is_ancestor, is_history,
-    is_history_beyond, merge_bases,
-};
 use vc_graph::{
     GraphFault, Objects, closure, difference, first_incomplete, is_complete, is_complete_beyond,
     learn_links,
+};
+use vc_history::{
+    BaseFault, Commits, Generations, commits, common_ancestors, is_ancestor, is_history,
+    is_history_beyond, merge_bases,
 };
 use vc_object::ObjectId;
 

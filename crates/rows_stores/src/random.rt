@@ -4,7 +4,7 @@ use crate::answers::Answer;
 use crate::ids::lettered;
 use crate::tables::Table;
 use std::alloc::{AllocError, Global};
-use vc_base::{BaseFault, Generations, commits, common_ancestors, is_ancestor, merge_bases};
+use vc_history::{BaseFault, Generations, commits, common_ancestors, is_ancestor, merge_bases};
 use vc_object::ObjectId;
 
 /// A generator of numbers, told by its seed.

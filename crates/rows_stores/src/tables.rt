@@ -8,8 +8,8 @@ use crate::{generation_rows, graph_rows};
 use anyhow::bail;
 use indexmap::IndexMap;
 use std::alloc::{AllocError, Global};
-use vc_base::{Commits, Generations, Parents};
 use vc_graph::{Objects, Overlay};
+use vc_history::{Commits, Generations, Parents};
 use vc_object::{Kind, Object, ObjectId, check};
 use vc_store::StoreFault;
 

@@ -3,7 +3,7 @@ use crate::answers::{Answer, word};
 use crate::ids::{bytes_of, id_in, two};
 use bstr::ByteSlice;
 use std::alloc::Global;
-use vc_base::{Commits, Generations};
+use vc_history::{Commits, Generations};
 use vc_object::ObjectId;
 use vc_push::Command;
 use vc_session::{Known, judge};

@@ -1,12 +1,12 @@
 //! Rows about the real folder that the rows run in: what lies there is made and looked at behind the work tree's back.
-use crate::bench::Bench;
+use crate::bench::{Bench, Host};
 use crate::words::{bytes, cut, escaped};
 use anyhow::{Result, bail};
 use std::fs;
 use std::io::ErrorKind;
 use std::os::unix::fs::symlink;
 
-pub fn row(bench: &mut Bench, row: &str) -> Result<String> {
+pub fn row<R: Host>(bench: &mut Bench<R>, row: &str) -> Result<String> {
     let (alloc, rt) = (bench.alloc, &bench.rt);
     let (verb, rest) = cut(row);
     let (path, text) = cut(rest);
@@ -23,7 +23,7 @@ pub fn row(bench: &mut Bench, row: &str) -> Result<String> {
 }
 
 // What lies at a path.
-fn kind(rt: &HostRuntime, path: &str) -> Result<&'static str> {
+fn kind<R: Host>(rt: &R, path: &str) -> Result<&'static str> {
     match fs::symlink_metadata(rt, path) {
         Ok(found) if found.is_dir() => Ok("folder"),
         Ok(found) if found.is_symlink() => Ok("link"),

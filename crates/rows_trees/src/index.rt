@@ -1,5 +1,5 @@
 //! Rows about an index: its files, its text and its trees.
-use crate::bench::Bench;
+use crate::bench::{Bench, Host};
 use crate::words::{Names, bytes, cut, digits, escaped, file_mode, id_of, or_word, push_item};
 use anyhow::{Error, Result, anyhow, bail};
 use std::alloc::Global;
@@ -8,7 +8,7 @@ use vc_index::{Index, IndexCursor, IndexFault};
 use vc_node::NodeFault;
 use vc_object::Mode;
 
-pub fn row(bench: &mut Bench, row: &str) -> Result<String> {
+pub fn row<R: Host>(bench: &mut Bench<R>, row: &str) -> Result<String> {
     let alloc = bench.alloc;
     let (verb, rest) = cut(row);
     match verb {
@@ -63,7 +63,7 @@ fn index_of(alloc: Global, names: &Names, items: &str) -> Result<Index> {
 }
 
 // Adds so many files, whose paths are the first numbers with four digits, and 4,092 times `a`.
-fn fill(bench: &mut Bench, rest: &str) -> Result<()> {
+fn fill<R: Host>(bench: &mut Bench<R>, rest: &str) -> Result<()> {
     let (count, id) = cut(rest);
     let id = id_of(&bench.names, id)?;
     let long = bytes(bench.alloc, "{a*4092}")?;
@@ -76,7 +76,7 @@ fn fill(bench: &mut Bench, rest: &str) -> Result<()> {
     Ok(())
 }
 
-fn load(bench: &mut Bench, root: &str) -> Result<()> {
+fn load<R: Host>(bench: &mut Bench<R>, root: &str) -> Result<()> {
     let root = id_of(&bench.names, root)?;
     bench.index = given(
         bench.alloc,
@@ -86,7 +86,7 @@ fn load(bench: &mut Bench, root: &str) -> Result<()> {
 }
 
 // Makes the index that of the files that a tree lists, whether they are there or not.
-fn list(bench: &mut Bench, root: &str) -> Result<()> {
+fn list<R: Host>(bench: &mut Bench<R>, root: &str) -> Result<()> {
     let root = id_of(&bench.names, root)?;
     bench.index = given(
         bench.alloc,
@@ -96,7 +96,7 @@ fn list(bench: &mut Bench, root: &str) -> Result<()> {
 }
 
 // Writes the trees of an index of some items alone, and gives the root's a name.
-fn tree(bench: &mut Bench, rest: &str) -> Result<String> {
+fn tree<R: Host>(bench: &mut Bench<R>, rest: &str) -> Result<String> {
     let (name, items) = cut(rest);
     let index = index_of(bench.alloc, &bench.names, items)?;
     let id = given(bench.alloc, index.write_tree(bench.alloc, &mut bench.files))?;
@@ -104,20 +104,20 @@ fn tree(bench: &mut Bench, rest: &str) -> Result<String> {
 }
 
 // Writes the trees of the index.
-fn write(bench: &mut Bench) -> Result<String> {
+fn write<R: Host>(bench: &mut Bench<R>) -> Result<String> {
     let written = bench.index.write_tree(bench.alloc, &mut bench.files);
     Ok(digits(bench.alloc, given(bench.alloc, written)?)?)
 }
 
 // Makes the index that of a text, and answers the tree that stands for it.
-fn read(bench: &mut Bench, text: &str) -> Result<String> {
+fn read<R: Host>(bench: &mut Bench<R>, text: &str) -> Result<String> {
     let text = bytes(bench.alloc, text)?;
     bench.index = given(bench.alloc, Index::read(bench.alloc, &text))?;
     write(bench)
 }
 
 // What stands at each of the paths, looked up one after the other.
-fn seek(bench: &Bench, paths: &str) -> Result<String> {
+fn seek<R: Host>(bench: &Bench<R>, paths: &str) -> Result<String> {
     let mut cursor = IndexCursor::new(&bench.index);
     let mut list = String::new(bench.alloc);
     for path in paths.split(" | ") {

@@ -3,26 +3,30 @@
 
 mod bench;
 mod disk;
-mod ground;
 mod index;
 mod node;
 mod revision;
+mod scene;
 mod store;
 mod words;
 mod work;
 
-use crate::bench::Bench;
+use crate::bench::{Bench, Host};
 use anyhow::{Result, bail};
 use std::alloc::AllocError;
-use std::io::{self, BufRead, BufReader};
+use std::io::{self, BufRead, BufReader, Read};
 
 fn main(rt: HostRuntime) -> io::Result<()> {
     let mut bench = Bench::new(rt.clone()?)?;
-    print_all(&rt, &mut bench)
+    print_all(&rt, rt.reader(), &mut bench)
 }
 
-fn print_all(rt: &HostRuntime, bench: &mut Bench) -> io::Result<()> {
-    for line in BufReader::new(rt.alloc(), rt.reader())?.lines(rt.alloc()) {
+fn print_all<R: Host + Print, I: Read + Drop>(
+    rt: &R,
+    input: I,
+    bench: &mut Bench<R>,
+) -> io::Result<()> {
+    for line in BufReader::new(rt.alloc(), input)?.lines(rt.alloc()) {
         let text = transcript(bench, line?.as_str())?;
         println!(rt; "{text}")?;
     }
@@ -30,7 +34,7 @@ fn print_all(rt: &HostRuntime, bench: &mut Bench) -> io::Result<()> {
 }
 
 // A row and its answers; a comment and an empty line stay as they are.
-fn transcript(bench: &mut Bench, row: &str) -> Result<String, AllocError> {
+fn transcript<R: Host>(bench: &mut Bench<R>, row: &str) -> Result<String, AllocError> {
     if row.is_empty() || row.starts_with('#') {
         return String::from_str(bench.alloc, row);
     }
@@ -39,7 +43,7 @@ fn transcript(bench: &mut Bench, row: &str) -> Result<String, AllocError> {
 }
 
 // What the steps of a row answer, but for those that have nothing to tell.
-fn answers(bench: &mut Bench, row: &str) -> Result<String, AllocError> {
+fn answers<R: Host>(bench: &mut Bench<R>, row: &str) -> Result<String, AllocError> {
     let mut list = String::new(bench.alloc);
     for step in row.split(" ; ") {
         let answer = match obey(bench, step) {
@@ -53,7 +57,7 @@ fn answers(bench: &mut Bench, row: &str) -> Result<String, AllocError> {
     words::or_word(list, "done")
 }
 
-fn obey(bench: &mut Bench, step: &str) -> Result<String> {
+fn obey<R: Host>(bench: &mut Bench<R>, step: &str) -> Result<String> {
     let (group, rest) = words::cut(step);
     match group {
         "index" => index::row(bench, rest),

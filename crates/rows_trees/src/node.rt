@@ -3,7 +3,7 @@ ghost use Rattle.std.specs.Prelude.{◌≡◌, IfOk, true, nat_eq, codes};
 ghost use Rattle.std.specs.List.{starts_with};
 ghost use Rattle.vc_node.specs.Blames.{IsLocalHead};
 
-use crate::bench::{Bench, Device, no_files};
+use crate::bench::{Bench, Device, Host, no_files};
 use crate::store::kind_of;
 use crate::words::{Names, bytes, cut, digits, file_mode, id_of};
 use anyhow::{Context, Result, bail};
@@ -15,7 +15,7 @@ use vc_refs::Head;
 
 const NONE: &str = "no node is open";
 
-pub fn row(bench: &mut Bench, row: &str) -> Result<String> {
+pub fn row<R: Host>(bench: &mut Bench<R>, row: &str) -> Result<String> {
     let (verb, rest) = cut(row);
     match verb {
         "open" => open(bench)?,
@@ -28,7 +28,7 @@ pub fn row(bench: &mut Bench, row: &str) -> Result<String> {
     Ok(String::new(bench.alloc))
 }
 
-fn open(bench: &mut Bench) -> Result<()> {
+fn open<R: Host>(bench: &mut Bench<R>) -> Result<()> {
     let files = mem::replace(&mut bench.files, no_files(bench.alloc));
     match CloneNode::open(bench.alloc, files) {
         Ok(node) => {
@@ -43,7 +43,7 @@ fn open(bench: &mut Bench) -> Result<()> {
 }
 
 // A call of the node, but for a commit.
-fn call(bench: &mut Bench, verb: &str, rest: &str) -> Result<String> {
+fn call<R: Host>(bench: &mut Bench<R>, verb: &str, rest: &str) -> Result<String> {
     let (alloc, names) = (bench.alloc, &bench.names);
     let node = bench.node.as_mut().context(NONE)?;
     match verb {
@@ -92,7 +92,7 @@ fn stage(alloc: Global, node: &mut CloneNode<Device>, names: &Names, rest: &str)
 }
 
 // Commits the index with a message, and further parents behind HEAD's commit.
-fn commit(bench: &mut Bench, rest: &str) -> Result<String> {
+fn commit<R: Host>(bench: &mut Bench<R>, rest: &str) -> Result<String> {
     let (message, words) = cut(rest);
     let message = bytes(bench.alloc, message)?;
     let mut parents = Vec::new(bench.alloc);

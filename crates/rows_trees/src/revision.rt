@@ -1,5 +1,5 @@
 //! Rows about what revisions stand for over the files of a repository.
-use crate::bench::Bench;
+use crate::bench::{Bench, Host};
 use crate::words::{digits, or_word, push_item};
 use anyhow::Result;
 use vc_refs::PackedCache;
@@ -7,7 +7,7 @@ use vc_repository::{FileRepository, read_index};
 use vc_rev::{parse, parse_set, resolve, resolve_set};
 
 /// The object that an expression names.
-pub fn value(bench: &mut Bench, source: &str) -> Result<String> {
+pub fn value<R: Host>(bench: &mut Bench<R>, source: &str) -> Result<String> {
     let alloc = bench.alloc;
     let expr = parse(alloc, source.as_bytes())?;
     let index = read_index(alloc, &mut bench.files)?;
@@ -17,7 +17,7 @@ pub fn value(bench: &mut Bench, source: &str) -> Result<String> {
 }
 
 /// The commits that some terms select.
-pub fn set(bench: &mut Bench, source: &str) -> Result<String> {
+pub fn set<R: Host>(bench: &mut Bench<R>, source: &str) -> Result<String> {
     let alloc = bench.alloc;
     let terms = parse_set(alloc, source.as_bytes())?;
     let index = read_index(alloc, &mut bench.files)?;

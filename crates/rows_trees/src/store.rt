@@ -1,5 +1,5 @@
 //! Rows about the files of a store: its objects, its refs and HEAD, and files as such.
-use crate::bench::{Bench, no_files};
+use crate::bench::{Bench, Host, no_files};
 use crate::words::{bytes, cut, digits, id_of, or_word, push_item};
 use anyhow::{Context, Result, bail};
 use std::alloc::AllocError;
@@ -10,7 +10,7 @@ use vc_object::{Kind, ObjectId};
 use vc_refs::Head;
 use vc_store::Store;
 
-pub fn row(bench: &mut Bench, row: &str) -> Result<String> {
+pub fn row<R: Host>(bench: &mut Bench<R>, row: &str) -> Result<String> {
     let (verb, rest) = cut(row);
     let (name, text) = cut(rest);
     match verb {
@@ -31,7 +31,7 @@ pub fn row(bench: &mut Bench, row: &str) -> Result<String> {
 }
 
 // Opens the files again, after a stop.
-fn restart(bench: &mut Bench) {
+fn restart<R: Host>(bench: &mut Bench<R>) {
     let stopped = mem::replace(&mut bench.files, no_files(bench.alloc));
     bench.files = FusedFiles::new(stopped.into_inner());
 }
@@ -42,7 +42,7 @@ pub fn kind_of(word: &str) -> Result<Kind> {
 }
 
 // Stores an object of a kind and a body, and gives it a name.
-fn put(bench: &mut Bench, name: &str, text: &str) -> Result<String> {
+fn put<R: Host>(bench: &mut Bench<R>, name: &str, text: &str) -> Result<String> {
     let (kind, body) = cut(text);
     let body = bytes(bench.alloc, body)?;
     let id = vc_store::put(&mut bench.files, bench.alloc, kind_of(kind)?, &body)?;
@@ -59,7 +59,7 @@ fn push_entry(body: &mut Vec<u8>, mode: &str, name: &[u8], id: ObjectId) -> Resu
 }
 
 // Stores a tree of some entries, each a mode, a name and a name of an object, and gives it a name.
-fn tree(bench: &mut Bench, name: &str, entries: &str) -> Result<String> {
+fn tree<R: Host>(bench: &mut Bench<R>, name: &str, entries: &str) -> Result<String> {
     let alloc = bench.alloc;
     let mut body = Vec::new(alloc);
     for entry in entries.split(" | ") {
@@ -77,7 +77,7 @@ fn tree(bench: &mut Bench, name: &str, entries: &str) -> Result<String> {
 }
 
 // Lays a tree into a tree as the folder `d`, that one into another, and so on so often.
-fn nest(bench: &mut Bench, name: &str, rest: &str) -> Result<String> {
+fn nest<R: Host>(bench: &mut Bench<R>, name: &str, rest: &str) -> Result<String> {
     let (count, inner) = cut(rest);
     let mut id = id_of(&bench.names, inner)?;
     for _ in 0..count.parse::<u32>()? {
@@ -89,7 +89,7 @@ fn nest(bench: &mut Bench, name: &str, rest: &str) -> Result<String> {
 }
 
 // The refs, their values, and whether all is there that each reaches.
-fn refs(bench: &mut Bench) -> Result<String> {
+fn refs<R: Host>(bench: &mut Bench<R>) -> Result<String> {
     let alloc = bench.alloc;
     let mut list = String::new(alloc);
     for (name, id) in &vc_refs::list(&mut bench.files, alloc)? {
@@ -109,7 +109,7 @@ fn refs(bench: &mut Bench) -> Result<String> {
     Ok(or_word(list, "none")?)
 }
 
-fn head(bench: &mut Bench) -> Result<String> {
+fn head<R: Host>(bench: &mut Bench<R>) -> Result<String> {
     match vc_refs::head(&mut bench.files, bench.alloc)? {
         None => bail!("none"),
         Some(Head::Branch(name)) => Ok(format!(in bench.alloc; "{name}")?),

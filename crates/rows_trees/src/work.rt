@@ -1,8 +1,8 @@
 //! Rows about a work tree: its files and folders, checkouts and what differs.
-use crate::bench::Bench;
-use crate::ground::Ground;
+use crate::bench::{Bench, Host};
 use crate::index::given;
-use crate::words::{bytes, cut, escaped, id_of, or_word, push_item};
+use crate::scene::Scene;
+use crate::words::{bytes, cut, digits, escaped, id_of, or_word, push_item};
 use anyhow::{Result, bail};
 use std::alloc::Global;
 use std::{fs, io};
@@ -10,35 +10,39 @@ use vc_checkout::{Change, CheckoutFault, IndexChange, MemoryTree, WorkChange, Wo
 use vc_index::Index;
 use vc_object::ObjectId;
 
-pub fn row(bench: &mut Bench, row: &str) -> Result<String> {
+pub fn row<R: Host>(bench: &mut Bench<R>, row: &str) -> Result<String> {
     let alloc = bench.alloc;
     let (verb, rest) = cut(row);
     match verb {
         "memory" => start(bench, false, rest)?,
         "folder" => start(bench, true, rest)?,
-        "fail-after" => bench.ground.fail_after(rest.parse::<u64>()?),
+        "fail-after" => bench.scene.fail_after(rest.parse::<u64>()?),
         "checkout" => return checkout(bench, rest),
         "status" => return status(bench, rest),
-        "files" => return files(alloc, &mut bench.ground),
-        "has-folder" => return truth(alloc, bench.ground.has_folder(rest)),
-        "failures" => return failures(alloc, &bench.ground),
-        _ => return call(alloc, &mut bench.ground, verb, rest),
+        "files" => return files(alloc, &mut bench.scene),
+        "has-folder" => return truth(alloc, bench.scene.has_folder(rest)),
+        "failures" => return failures(alloc, &bench.scene),
+        _ => return call(alloc, &mut bench.scene, verb, rest),
     }
     Ok(String::new(alloc))
 }
 
 // A call of the work tree.
-fn call(alloc: Global, ground: &mut Ground, verb: &str, rest: &str) -> Result<String> {
+fn call<R: Host>(alloc: Global, scene: &mut Scene<R>, verb: &str, rest: &str) -> Result<String> {
     let (path, text) = cut(rest);
     match verb {
-        "read" => match ground.read(alloc, path)? {
+        "read" => match scene.read(alloc, path)? {
             Some(text) => return Ok(escaped(alloc, &text)?),
             None => bail!("none"),
         },
-        "remove-folder" => return truth(alloc, ground.remove_folder(alloc, path)?),
-        "write" => ground.write(alloc, path, &bytes(alloc, text)?)?,
-        "remove" => ground.remove(alloc, path)?,
-        "make-folder" => ground.make_folder(alloc, path)?,
+        "name" => match scene.name(alloc, path)? {
+            Some(id) => return Ok(digits(alloc, id)?),
+            None => bail!("none"),
+        },
+        "remove-folder" => return truth(alloc, scene.remove_folder(alloc, path)?),
+        "write" => scene.write(alloc, path, &bytes(alloc, text)?)?,
+        "remove" => scene.remove(alloc, path)?,
+        "make-folder" => scene.make_folder(alloc, path)?,
         _ => bail!("no such row"),
     }
     Ok(String::new(alloc))
@@ -49,7 +53,7 @@ fn truth(alloc: Global, holds: bool) -> Result<String> {
 }
 
 // Makes the folder `work`, in place of what it was.
-fn new_folder(rt: &HostRuntime) -> io::Result<()> {
+fn new_folder<R: Host>(rt: &R) -> io::Result<()> {
     if fs::exists(rt, "work")? {
         fs::remove_dir_all(rt, "work")?;
     }
@@ -57,31 +61,31 @@ fn new_folder(rt: &HostRuntime) -> io::Result<()> {
 }
 
 // A new work tree with some files, each a path, `=` and the content.
-fn start(bench: &mut Bench, on_disk: bool, items: &str) -> Result<()> {
+fn start<R: Host>(bench: &mut Bench<R>, on_disk: bool, items: &str) -> Result<()> {
     if on_disk {
         new_folder(&bench.rt)?;
     }
-    bench.ground.start(bench.alloc, on_disk);
+    bench.scene.start(bench.alloc, on_disk);
     for item in items.split(" | ") {
         if let Some((path, text)) = item.split_once('=') {
             let text = bytes(bench.alloc, text)?;
-            bench.ground.write(bench.alloc, path, &text)?;
+            bench.scene.write(bench.alloc, path, &text)?;
         }
     }
     Ok(())
 }
 
 // How often calls failed, and how often the folder did.
-fn failures(alloc: Global, ground: &Ground) -> Result<String> {
-    let (all, disk) = (ground.failures(), ground.folder_failures());
+fn failures<R: Host>(alloc: Global, scene: &Scene<R>) -> Result<String> {
+    let (all, disk) = (scene.failures(), scene.folder_failures());
     Ok(format!(in alloc; "{all}, and {disk} in the folder")?)
 }
 
 // The files of the work tree and their contents.
-fn files(alloc: Global, ground: &mut Ground) -> Result<String> {
+fn files<R: Host>(alloc: Global, scene: &mut Scene<R>) -> Result<String> {
     let mut list = String::new(alloc);
-    for path in &ground.list(alloc)? {
-        let Some(text) = ground.read(alloc, path.as_str())? else {
+    for path in &scene.list(alloc)? {
+        let Some(text) = scene.read(alloc, path.as_str())? else {
             bail!("{path} is listed and not there");
         };
         let text = escaped(alloc, &text)?;
@@ -108,12 +112,12 @@ fn passed<T>(alloc: Global, done: Result<T, CheckoutFault>) -> Result<T> {
 }
 
 // Brings the work tree to the files that a tree lists, and answers these.
-fn bring(bench: &mut Bench, tree: &ObjectId) -> Result<Index, CheckoutFault> {
+fn check_out<R: Host>(bench: &mut Bench<R>, tree: &ObjectId) -> Result<Index, CheckoutFault> {
     let alloc = bench.alloc;
     let tree = Index::list_tree(alloc, &mut bench.files, tree)?;
     vc_checkout::checkout(
         alloc,
-        &mut bench.ground,
+        &mut bench.scene,
         &mut bench.files,
         &bench.index,
         &tree,
@@ -122,12 +126,12 @@ fn bring(bench: &mut Bench, tree: &ObjectId) -> Result<Index, CheckoutFault> {
 }
 
 // Brings the work tree to a tree, and answers which files it then has, also where it was refused or a call failed.
-fn checkout(bench: &mut Bench, tree: &str) -> Result<String> {
+fn checkout<R: Host>(bench: &mut Bench<R>, tree: &str) -> Result<String> {
     let alloc = bench.alloc;
     let tree = id_of(&bench.names, tree)?;
-    let done = bring(bench, &tree);
-    bench.ground.fail_after(u64::MAX);
-    let files = files(alloc, &mut bench.ground)?;
+    let done = check_out(bench, &tree);
+    bench.scene.fail_after(u64::MAX);
+    let files = files(alloc, &mut bench.scene)?;
     match passed(alloc, done) {
         Ok(index) => {
             bench.index = index;
@@ -137,7 +141,7 @@ fn checkout(bench: &mut Bench, tree: &str) -> Result<String> {
     }
 }
 
-fn status(bench: &mut Bench, tree: &str) -> Result<String> {
+fn status<R: Host>(bench: &mut Bench<R>, tree: &str) -> Result<String> {
     let alloc = bench.alloc;
     let tree = match tree {
         "" => None,
@@ -145,7 +149,7 @@ fn status(bench: &mut Bench, tree: &str) -> Result<String> {
     };
     let done = vc_checkout::status(
         alloc,
-        &mut bench.ground,
+        &mut bench.scene,
         &mut bench.files,
         &bench.index,
         tree,

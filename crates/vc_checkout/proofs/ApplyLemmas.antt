@@ -14,7 +14,7 @@ use Rattle.vc_object.specs.declared.mode.Mode.{Mode}
 use Rattle.vc_object.specs.declared.mode.Mode.TheVariants as modes
 use Rattle.vc_index.specs.IndexMap.{IndexMap}
 use Rattle.vc_index.specs.declared.entry.IndexEntry.{IndexEntry}
-use Rattle.vc_index.proofs.MapLemmas.{same_text}
+use Rattle.vc_index.proofs.MapLemmas.{same_text, no_some}
 use Rattle.vc_checkout.specs.CheckedOut.{IsCheckedOut, IsCleared, IsOldOrCheckedOut, IsWritten, StepAt, StepOrNone, file_of, left_of}
 use Rattle.vc_checkout.specs.WorkTree.{HasTextPaths, is_same, is_listed}
 use Rattle.vc_checkout.proofs.PathSetLemmas.{entry_paths}
@@ -86,17 +86,14 @@ left_again modes.Link file = refl
 one_entry : (o : Option IndexEntry) (x y : IndexEntry) → o ≡ Some x → o ≡ Some y → x ≡ y
 one_entry o x y p q = cc (p, q)
 
-none_some : (o : Option IndexEntry) (x : IndexEntry) → o ≡ None → o ≡ Some x → ⊥
+pub none_some : (o : Option IndexEntry) (x : IndexEntry) → o ≡ None → o ≡ Some x → ⊥
 none_some o x n s = cc (n, s)
-
-none_is_some : (o : Option IndexEntry) → o ≡ None → IsSome o → ⊥
-none_is_some o n s = cc (n, s)
 
 pub cleared_gone : (old new : Option IndexEntry) (entry : IndexEntry) (file after : Option (List ℕ)) → old ≡ Some entry → new ≡ None → after ≡ left_of entry.mode file → IsCleared old new file after
 cleared_gone old new entry file after is none left = record {
   gone = λ e known _. left ∙ ap (λ (x : IndexEntry). left_of x.mode file) (one_entry old entry e is known);
   unknown = λ no. absurd (none_some old entry no is);
-  kept = λ some. absurd (none_is_some new none some);
+  kept = λ some. absurd (no_some new none some);
 }
 
 pub cleared_unknown : (old new : Option IndexEntry) (file : Option (List ℕ)) → old ≡ None → IsCleared old new file file

@@ -1,6 +1,6 @@
 -- What is against a checkout, path by path.
 use Rattle.std.proofs.Common.{◌≡◌, ◌≢◌, ℕ, true, false, ◌||◌, List, [], ◌∷◌, map, Option, Some, None, sym, ap, refl, ◌∙◌, subst, ◌↔◌, IsTrue, ◌⊎◌, inl, inr, Result, Ok, Err}
-use Rattle.std.specs.Prelude.{Vec, IsSome, is_some, IfErr, OnErr}
+use Rattle.std.specs.Prelude.{Vec, is_some, IfErr, OnErr}
 use Rattle.std.specs.Global.{Global}
 use Rattle.std.specs.FinMap.{get}
 use Rattle.std.specs.List.{AllByRecursion}
@@ -11,7 +11,7 @@ use Rattle.std.specs.declared.cmp.Ordering.TheVariants.{Less}
 use Rattle.vc_files.specs.FileMap.{FileMap}
 use Rattle.vc_index.specs.IndexMap.{IndexMap}
 use Rattle.vc_index.specs.declared.entry.IndexEntry.{IndexEntry}
-use Rattle.vc_index.proofs.MapLemmas.{same_text}
+use Rattle.vc_index.proofs.MapLemmas.{same_text, no_some}
 use Rattle.vc_checkout.specs.Refusal.{IsClear, IsDue, IsHindered, IsInTheWay, IsRefused, RefusedAt}
 use Rattle.vc_checkout.specs.WorkTree.{IsUntracked, has_path, is_same, is_listed}
 use Rattle.vc_checkout.specs.Blobs.{HasDueBlobs}
@@ -20,6 +20,7 @@ use Rattle.vc_store.specs.Store.{objects}
 use Rattle.vc_checkout.specs.declared.faults.CheckoutFault.{CheckoutFault}
 use Rattle.vc_checkout.specs.declared.faults.CheckoutFault.TheVariants.{LocalChange, InTheWay, NotText, Index}
 use Rattle.vc_checkout.proofs.PathSetLemmas.{Paths, set_paths}
+use Rattle.vc_checkout.proofs.ApplyLemmas.{none_some}
 
 -- ---- one path
 module _ (index tree : IndexMap) (work : FileMap) (path : List ℕ) (entry : IndexEntry) (untracked : Paths) (exact : (other : List ℕ) → IsTrue (has_path untracked other) ↔ IsUntracked index work other) where
@@ -33,15 +34,9 @@ module _ (index tree : IndexMap) (work : FileMap) (path : List ℕ) (entry : Ind
       same_some : (x y : IndexEntry) → Some x ≡ Some y → x ≡ y
       same_some x y e = cc e
 
-none_some : (o : Option IndexEntry) (x : IndexEntry) → o ≡ None → o ≡ Some x → ⊥
-none_some o x n s = cc (n, s)
-
-none_is_some : (o : Option IndexEntry) → o ≡ None → IsSome o → ⊥
-none_is_some o n s = cc (n, s)
-
 -- nothing is against a path of neither
 pub nothing_due : (old new : Option IndexEntry) → new ≡ None → IsDue old new → ⊥
-nothing_due old new none due = none_is_some new none due.0
+nothing_due old new none due = no_some new none due.0
 
 pub clear_elsewhere : (index tree : IndexMap) (work : FileMap) (path : List ℕ) → get index path ≡ None → get tree path ≡ None → IsClear index tree work path
 clear_elsewhere index tree work path no_index no_tree = record {
@@ -59,7 +54,8 @@ later : (before k : List ℕ) (rest : List (List ℕ)) → slice_cmp nat_cmp bef
 later before k [] less all = tt
 later before k (y ∷ rest) less all = (nat_list_cmp_total.trans before k y less all.0, later before k rest less all.1)
 
-sorted_rest : (k : List ℕ) (rest : List (List ℕ)) → IsStrictlySortedBy (slice_cmp nat_cmp) (k ∷ rest) → AllByRecursion (λ y. slice_cmp nat_cmp k y ≡ Less) rest × IsStrictlySortedBy (slice_cmp nat_cmp) rest
+-- what comes behind the first of a sorted list
+pub sorted_rest : (k : List ℕ) (rest : List (List ℕ)) → IsStrictlySortedBy (slice_cmp nat_cmp) (k ∷ rest) → AllByRecursion (λ y. slice_cmp nat_cmp k y ≡ Less) rest × IsStrictlySortedBy (slice_cmp nat_cmp) rest
 unfolding IsStrictlySortedBy
 sorted_rest k rest sorted = sorted
 

@@ -1,5 +1,5 @@
 -- The folders that a work tree in memory holds.
-use Rattle.std.proofs.Common.{◌≡◌, ◌≢◌, ℕ, Bool, true, false, not, cond, Option, ◌||◌, ◌&&◌, List, [], ◌∷◌, ◌++◌, map, length, drop, Some, None, sym, ap, refl, ◌∙◌, subst, append_assoc, nat_eq, ◌↔◌, IsTrue, ◌⊎◌, inl, inr}
+use Rattle.std.proofs.Common.{◌≡◌, ◌≢◌, ℕ, Bool, true, false, not, cond, Option, ◌||◌, ◌&&◌, List, [], ◌∷◌, map, Some, None, sym, ap, refl, ◌∙◌, subst, ◌↔◌, IsTrue, ◌⊎◌, inl, inr}
 use Rattle.std.specs.Prelude.{String, Vec, is_some, option_map, IsSome, bytes_eq, string_bytes, string_cmp, filter}
 use Rattle.std.specs.Global.{Global}
 use Rattle.std.specs.BTreeMap.{BTreeMap, IsOrdered, get_by_text, is_at, keys}
@@ -8,20 +8,22 @@ use Rattle.std.specs.Set.{KeepsOthers}
 use Rattle.std.specs.FinMap as files
 use Rattle.std.specs.FinMap.{get, contains_key-keys, same_map, slice_cmp-IsAntisymmetric, nat_cmp-IsAntisymmetric}
 use Rattle.std.specs.FinSet.{contains, contains-from_list}
-use Rattle.std.specs.List.{list_any, starts_with}
+use Rattle.std.specs.List.{list_any}
 use Rattle.std.specs.Ordering.{nat_cmp, is_eq}
 use Rattle.std.specs.Cmp.{eq_by_cmp_equiv}
 use Rattle.std.specs.Cmp.Lexicographic.{slice_cmp, nat_list_cmp_total}
 use Rattle.std.proofs.lemmas.Bool.{false_from_ne_true}
-use Rattle.std.proofs.lemmas.Bool.Decides.{Decides-eqb}
 use Rattle.std.proofs.lemmas.Map.Views.{any-filter_same}
-use Rattle.std.proofs.lemmas.Slice.Eq.{bytes_eq-Decides, starts_is}
+use Rattle.std.proofs.lemmas.Slice.Eq.{bytes_eq-Decides}
+use Rattle.std.proofs.Math.Bool.{or-true}
 use Rattle.vc_files.specs.FileMap.{FileMap}
 use Rattle.vc_files.specs.Memory.{files_of}
 use Rattle.vc_files.proofs.MemoryLemmas.{get-files_of, keys-files_of}
+use Rattle.vc_files.specs.Path.{is_above}
+use Rattle.vc_files.proofs.PathLemmas.{is_above-append, is_above-parts}
 use Rattle.vc_index.specs.Path.{IsAbove}
 use Rattle.vc_index.proofs.MapLemmas.{same_text, is_eq-same}
-use Rattle.vc_checkout.specs.Folders.{AreFolders, Folders, HoldsFile, IsAtOrIn, IsFolder, IsFolderBy, IsLowestAbove, IsNoted, folders_of, is_above}
+use Rattle.vc_checkout.specs.Folders.{AreFolders, Folders, HoldsFile, IsAtOrIn, IsFolder, IsFolderBy, IsLowestAbove, IsNoted, folders_of}
 use Rattle.vc_checkout.proofs.ApplyLemmas.{put_at, put_others, removed_at, removed_others}
 use Rattle.vc_checkout.specs.WorkTree.{is_same, is_listed}
 use Rattle.vc_checkout.proofs.FolderLemmas.{above_itself, above_then, are_folders, folder_above, folder_itself, in_either, same_or_not}
@@ -31,39 +33,22 @@ Held = BTreeSet (String Global)
 
 -- ---- the test of a folder above
 pub above_test : (folder path : List ℕ) → (is_above folder path ≡ true → IsAbove folder path) × (IsAbove folder path → is_above folder path ≡ true)
-above_test folder path =
-    let is = starts_is Decides-eqb path (folder ++ 47 ∷ []) (is_above folder path) refl in
-    (λ t. (drop (length (folder ++ 47 ∷ [])) path, is.0 t ∙ append_assoc folder (47 ∷ []) (drop (length (folder ++ 47 ∷ [])) path)), λ (rest, e). is.1 rest (e ∙ sym (append_assoc folder (47 ∷ []) rest)))
-
-pub above_behind : (folder rest : List ℕ) → starts_with nat_eq rest (47 ∷ []) ≡ is_above folder (folder ++ rest)
-above_behind [] rest = refl
-above_behind (x ∷ folder) rest = above_behind folder rest ∙ ap (λ b. b && is_above folder (folder ++ rest)) (sym ((Decides-eqb x x).1 refl))
-
-pub above_never : (folder path : List ℕ) → ((rest : List ℕ) → path ≢ folder ++ rest) → false ≡ is_above folder path
-above_never folder path never = sym (false_from_ne_true _ (λ t. let above = (above_test folder path).0 t in never (47 ∷ above.0) above.1))
+above_test folder path = (is_above-parts folder path, λ (rest, e). ap (is_above folder) e ∙ is_above-append folder rest)
 
 -- ---- what a list of texts has below a folder
 pub any_below : (folder : List ℕ) (ks : List (String Global)) → list_any (λ k. is_above folder (string_bytes k)) ks ≡ true → (path : List ℕ) × IsAbove folder path × (is_listed path (map string_bytes ks) ≡ true)
 any_below folder [] e = cc e
 any_below folder (k ∷ ks) e = elim (is_above folder (string_bytes k)) as (λ b. is_above folder (string_bytes k) ≡ b → (b || list_any (λ k. is_above folder (string_bytes k)) ks) ≡ true → (path : List ℕ) × IsAbove folder path × (is_listed path (map string_bytes (k ∷ ks)) ≡ true)) [
   | true ↦ λ is _. (string_bytes k, (above_test folder (string_bytes k)).0 is, ap (λ b. b || is_listed (string_bytes k) (map string_bytes ks)) (is_eq-same (string_bytes k)))
-  | false ↦ λ _ later. let found = any_below folder ks later in (found.0, found.1, ap (λ b. is_same found.0 (string_bytes k) || b) found.2 ∙ or_true (is_same found.0 (string_bytes k)))
+  | false ↦ λ _ later. let found = any_below folder ks later in (found.0, found.1, ap (λ b. is_same found.0 (string_bytes k) || b) found.2 ∙ or-true (is_same found.0 (string_bytes k)))
 ] refl e
-  where
-    or_true : (b : Bool) → (b || true) ≡ true
-    or_true true = refl
-    or_true false = refl
 
 pub below_any : (folder : List ℕ) (ks : List (String Global)) (path : List ℕ) → IsAbove folder path → is_listed path (map string_bytes ks) ≡ true → list_any (λ k. is_above folder (string_bytes k)) ks ≡ true
 below_any folder [] path above e = cc e
 below_any folder (k ∷ ks) path above e = elim (is_same path (string_bytes k)) as (λ b. is_same path (string_bytes k) ≡ b → (b || is_listed path (map string_bytes ks)) ≡ true → list_any (λ k. is_above folder (string_bytes k)) (k ∷ ks) ≡ true) [
   | true ↦ λ same _. ap (λ b. b || list_any (λ k. is_above folder (string_bytes k)) ks) ((above_test folder (string_bytes k)).1 (subst (IsAbove folder) (same_text path (string_bytes k) same) above))
-  | false ↦ λ _ later. ap (λ b. is_above folder (string_bytes k) || b) (below_any folder ks path above later) ∙ or_true (is_above folder (string_bytes k))
+  | false ↦ λ _ later. ap (λ b. is_above folder (string_bytes k) || b) (below_any folder ks path above later) ∙ or-true (is_above folder (string_bytes k))
 ] refl e
-  where
-    or_true : (b : Bool) → (b || true) ≡ true
-    or_true true = refl
-    or_true false = refl
 
 pub any_first : (folder : List ℕ) (k : String Global) (rest all : List (String Global)) → all ≡ k ∷ rest → is_above folder (string_bytes k) ≡ true → true ≡ list_any (λ k. is_above folder (string_bytes k)) all
 any_first folder k rest all first below = sym (ap (list_any (λ k. is_above folder (string_bytes k))) first ∙ ap (λ b. b || list_any (λ k. is_above folder (string_bytes k)) rest) below)

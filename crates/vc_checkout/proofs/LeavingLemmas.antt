@@ -3,6 +3,7 @@ use Rattle.std.proofs.Common.{◌≡◌, ◌≢◌, ℕ, Bool, true, false, not,
 use Rattle.std.specs.Prelude.{IsSome, IsUtf8}
 use Rattle.std.specs.FinMap as files
 use Rattle.std.specs.FinMap.{get}
+use Rattle.std.proofs.Math.Bool.{or-true}
 use Rattle.vc_files.specs.FileMap.{FileMap}
 use Rattle.vc_object.specs.declared.mode.Mode.TheVariants as modes
 use Rattle.vc_index.specs.Path.{IsAbove}
@@ -283,10 +284,6 @@ pub unnot : (b : Bool) → not b ≡ true → b ≡ false
 unnot true e = cc e
 unnot false e = refl
 
-pub or_true : (b : Bool) → (b || true) ≡ true
-or_true true = refl
-or_true false = refl
-
 pub same_or_before : (q k : List ℕ) (done : Bool) → (is_same q k || done) ≡ true → (q ≡ k) ⊎ (done ≡ true)
 same_or_before q k done e = by (is_same q k) refl e
   where
@@ -326,7 +323,7 @@ module _ (Was : Those) (L : List ℕ → Those) where
     folders = are_same now new (λ d. Still so.done d × (L k d → ⊥)) (λ d. Was d × ((q : List ℕ) → (is_same q k || so.done q) ≡ true → L q d → ⊥))
         (less mid now held new (Still so.done) (L k) lost up so.folders step)
         (λ d is. (is.0.0, λ q e l. after d is.0.1 is.1 q l (same_or_before q k (so.done q) e)))
-        (λ d is. ((is.0, λ q e l. is.1 q (ap (λ b. is_same q k || b) e ∙ or_true (is_same q k)) l), λ l. is.1 k (ap (λ b. b || so.done k) (is_eq-same k)) l));
+        (λ d is. ((is.0, λ q e l. is.1 q (ap (λ b. is_same q k || b) e ∙ or-true (is_same q k)) l), λ l. is.1 k (ap (λ b. b || so.done k) (is_eq-same k)) l));
   }
     where
       after : (d : List ℕ) → ((q : List ℕ) → so.done q ≡ true → L q d → ⊥) → (L k d → ⊥) → (q : List ℕ) → L q d → (q ≡ k) ⊎ (so.done q ≡ true) → ⊥

@@ -3,6 +3,7 @@ use Rattle.std.proofs.Common.{◌≡◌, ◌≢◌, ℕ, Bool, true, false, not,
 use Rattle.std.specs.Prelude.{IsSome, option_map}
 use Rattle.std.specs.FinMap as files
 use Rattle.std.specs.FinMap.{get}
+use Rattle.std.proofs.Math.Bool.{or-true}
 use Rattle.vc_files.specs.FileMap.{FileMap}
 use Rattle.vc_object.specs.ObjectMap.{ObjectMap}
 use Rattle.vc_object.specs.declared.mode.Mode.{Mode}
@@ -20,7 +21,7 @@ use Rattle.vc_checkout.specs.Refusal.{IsDue}
 use Rattle.vc_checkout.proofs.ApplyLemmas.{file_blob, put_others}
 use Rattle.vc_checkout.proofs.FolderLemmas.{folder_above, folder_itself, in_either, in_or_not, same_or_not, still_folders}
 use Rattle.vc_checkout.specs.WorkTree.{is_same, is_listed}
-use Rattle.vc_checkout.proofs.LeavingLemmas.{are_same, covered, exact_between, is_folder, or_true, same_or_before, unnot}
+use Rattle.vc_checkout.proofs.LeavingLemmas.{are_same, covered, exact_between, is_folder, same_or_before, unnot}
 
 abbrev Those : Type 1
 Those = List ℕ → Type 0
@@ -204,15 +205,15 @@ module _ (index tree : IndexMap) where
   abbrev Link : Those
   Link d = IsLinked (get index d) (get tree d)
 
-  abbrev Way : List ℕ → Those
-  Way q = GivesWay (get index q) (get tree q) q
+  abbrev Obstacle : List ℕ → Those
+  Obstacle q = GivesWay (get index q) (get tree q) q
 
   -- of these folders, those that the paths so far take the place of are gone, and their links are made
   abbrev pub So : Those → (List ℕ → Bool) → Those
-  So A done d = (Link d × (done d ≡ true)) ⊎ (A d × ((q : List ℕ) → done q ≡ true → Way q d → ⊥))
+  So A done d = (Link d × (done d ≡ true)) ⊎ (A d × ((q : List ℕ) → done q ≡ true → Obstacle q d → ⊥))
 
   -- two entries of a tree are no folder of each other
-  pub apart : IsIndex tree → (k d : List ℕ) → Link d → Way k d → ⊥
+  pub apart : IsIndex tree → (k d : List ℕ) → Link d → Obstacle k d → ⊥
   apart is k d (entry, at_d, differs, commit) (other, at_k, differs_k, (file, at)) = by at
     where
       by : IsAtOrIn k d → ⊥
@@ -227,27 +228,27 @@ module _ (index tree : IndexMap) where
     More q = is_same q k || done q
 
     pub so_more : ((r : List ℕ) → IsSome (get mid r) → IsSome (get now r) ⊎ ((r ≡ k) × Link k)) → (Filed (get index k) (get tree k) k → IsSome (get now k)) → Filed (get index k) (get tree k) k ⊎ (Filed (get index k) (get tree k) k → ⊥)
-        → AreFolders mid held (So A done) → AreFolders now new (λ d. ((d ≡ k) × Link k) ⊎ (IsFolder mid held d × (Way k d → ⊥))) → AreFolders now new (So A More)
+        → AreFolders mid held (So A done) → AreFolders now new (λ d. ((d ≡ k) × Link k) ⊎ (IsFolder mid held d × (Obstacle k d → ⊥))) → AreFolders now new (So A More)
     so_more lost file filed first second = record { exact = λ d. (λ f. there d ((second.exact d).0 f), λ f. (second.exact d).1 (back d f)) }
       where
         more_done : (q : List ℕ) → done q ≡ true → More q ≡ true
-        more_done q e = ap (λ b. is_same q k || b) e ∙ or_true (is_same q k)
+        more_done q e = ap (λ b. is_same q k || b) e ∙ or-true (is_same q k)
 
         here : More k ≡ true
         here = ap (λ b. b || done k) (is_eq-same k)
 
-        no_more : (d : List ℕ) → ((q : List ℕ) → done q ≡ true → Way q d → ⊥) → (Way k d → ⊥) → (q : List ℕ) → Way q d → (q ≡ k) ⊎ (done q ≡ true) → ⊥
-        no_more d before last q way (inl same) = last (subst (λ (p : List ℕ). Way p d) same way)
+        no_more : (d : List ℕ) → ((q : List ℕ) → done q ≡ true → Obstacle q d → ⊥) → (Obstacle k d → ⊥) → (q : List ℕ) → Obstacle q d → (q ≡ k) ⊎ (done q ≡ true) → ⊥
+        no_more d before last q way (inl same) = last (subst (λ (p : List ℕ). Obstacle p d) same way)
         no_more d before last q way (inr e) = before q e way
 
-        kept : (d : List ℕ) → A d → ((q : List ℕ) → done q ≡ true → Way q d → ⊥) → (Way k d → ⊥) → IsFolderBy now (So A More) d
+        kept : (d : List ℕ) → A d → ((q : List ℕ) → done q ≡ true → Obstacle q d → ⊥) → (Obstacle k d → ⊥) → IsFolderBy now (So A More) d
         kept d a before last = folder_itself now (So A More) d (inr (a, λ q e way. no_more d before last q way (same_or_before q k (done q) e)))
 
         linked : Link k → IsFolderBy now (So A More) k
         linked link = folder_itself now (So A More) k (inl (link, here))
 
         -- a folder in which one lies whose place is taken
-        taken : (one two : List ℕ) → (Way k one → ⊥) → A two → ((q : List ℕ) → done q ≡ true → Way q two → ⊥) → IsAtOrIn one two → Filed (get index k) (get tree k) k → IsAtOrIn k two ⊎ (IsAtOrIn k two → ⊥) → IsFolderBy now (So A More) one
+        taken : (one two : List ℕ) → (Obstacle k one → ⊥) → A two → ((q : List ℕ) → done q ≡ true → Obstacle q two → ⊥) → IsAtOrIn one two → Filed (get index k) (get tree k) k → IsAtOrIn k two ⊎ (IsAtOrIn k two → ⊥) → IsFolderBy now (So A More) one
         taken one two free a before at f (inr out) = folder_above now (So A More) one two at (kept two a before (λ way. out way.3.1))
         taken one two free a before at f (inl in_k) = by (in_either one k two at in_k)
           where
@@ -259,7 +260,7 @@ module _ (index tree : IndexMap) where
         lost_in one r above (inl still) = inl (r, above, still)
         lost_in one r above (inr (same, link)) = folder_above now (So A More) one k (inr (subst (IsAbove one) same above)) (linked link)
 
-        stays : (one : List ℕ) → (Way k one → ⊥) → IsFolderBy mid (So A done) one → IsFolderBy now (So A More) one
+        stays : (one : List ℕ) → (Obstacle k one → ⊥) → IsFolderBy mid (So A done) one → IsFolderBy now (So A More) one
         stays one free (inl (r, above, some)) = lost_in one r above (lost r some)
         stays one free (inr (two, inl link, at)) = folder_above now (So A More) one two at (folder_itself now (So A More) two (inl (link.0, more_done two link.1)))
         stays one free (inr (two, inr a, at)) = by filed
@@ -268,20 +269,20 @@ module _ (index tree : IndexMap) where
             by (inl f) = taken one two free a.0 a.1 at f (in_or_not k two)
             by (inr none) = folder_above now (So A More) one two at (kept two a.0 a.1 (λ way. none (way_filed (get index k) (get tree k) k two way)))
 
-        there : (d : List ℕ) → IsFolderBy now (λ d. ((d ≡ k) × Link k) ⊎ (IsFolder mid held d × (Way k d → ⊥))) d → IsFolderBy now (So A More) d
+        there : (d : List ℕ) → IsFolderBy now (λ d. ((d ≡ k) × Link k) ⊎ (IsFolder mid held d × (Obstacle k d → ⊥))) d → IsFolderBy now (So A More) d
         there d (inl f) = inl f
         there d (inr (one, inl (same, link), at)) = folder_above now (So A More) d one at (subst (IsFolderBy now (So A More)) (sym same) (linked link))
         there d (inr (one, inr (f, free), at)) = folder_above now (So A More) d one at (stays one free ((first.exact one).0 f))
 
-        one_back : (one : List ℕ) → So A More one → ((one ≡ k) × Link k) ⊎ (IsFolder mid held one × (Way k one → ⊥))
+        one_back : (one : List ℕ) → So A More one → ((one ≡ k) × Link k) ⊎ (IsFolder mid held one × (Obstacle k one → ⊥))
         one_back one (inl (link, e)) = by (same_or_before one k (done one) e)
           where
-            by : (one ≡ k) ⊎ (done one ≡ true) → ((one ≡ k) × Link k) ⊎ (IsFolder mid held one × (Way k one → ⊥))
+            by : (one ≡ k) ⊎ (done one ≡ true) → ((one ≡ k) × Link k) ⊎ (IsFolder mid held one × (Obstacle k one → ⊥))
             by (inl same) = inl (same, subst Link same link)
             by (inr before) = inr (is_folder mid held (So A done) one first (inl (link, before)), λ way. apart is k one link way)
         one_back one (inr (a, never)) = inr (is_folder mid held (So A done) one first (inr (a, λ q e way. never q (more_done q e) way)), λ way. never k here way)
 
-        back : (d : List ℕ) → IsFolderBy now (So A More) d → IsFolderBy now (λ d. ((d ≡ k) × Link k) ⊎ (IsFolder mid held d × (Way k d → ⊥))) d
+        back : (d : List ℕ) → IsFolderBy now (So A More) d → IsFolderBy now (λ d. ((d ≡ k) × Link k) ⊎ (IsFolder mid held d × (Obstacle k d → ⊥))) d
         back d (inl f) = inl f
         back d (inr (one, s, at)) = inr (one, one_back one s, at)
 
@@ -308,7 +309,7 @@ module _ (index tree : IndexMap) where
 
   pub making_more : (begin : FileMap) (begun : Folders) (mid now : FileMap) (held new : Folders) (before rest : List (List ℕ)) (k : List ℕ) → IsIndex tree → before ≡ k ∷ rest
       → ((r : List ℕ) → IsSome (get mid r) → IsSome (get now r) ⊎ ((r ≡ k) × Link k)) → (Filed (get index k) (get tree k) k → IsSome (get now k)) → Filed (get index k) (get tree k) k ⊎ (Filed (get index k) (get tree k) k → ⊥)
-      → AreFolders now new (λ d. ((d ≡ k) × Link k) ⊎ (IsFolder mid held d × (Way k d → ⊥))) → Making begin begun mid held before → Making begin begun now new rest
+      → AreFolders now new (λ d. ((d ≡ k) × Link k) ⊎ (IsFolder mid held d × (Obstacle k d → ⊥))) → Making begin begun mid held before → Making begin begun now new rest
   making_more begin begun mid now held new before rest k is first lost file filed step so = record {
     done = λ q. is_same q k || so.done q;
     covers = covered so.done before rest k first so.covers;
@@ -339,7 +340,7 @@ module _ (index tree : IndexMap) where
 
   -- between what was and what is made
   pub making_between : (begin : Those) (mid now : FileMap) (held new : Folders) (k : List ℕ) → AreBetween mid held (λ d. begin d × (GivesWayBy index tree d → ⊥)) (λ d. begin d ⊎ IsMadeBy index tree d)
-      → AreBetween now new (λ d. IsFolder mid held d × (Way k d → ⊥)) (λ d. IsFolder mid held d ⊎ IsMadeFor (get index k) (get tree k) k d) → AreBetween now new (λ d. begin d × (GivesWayBy index tree d → ⊥)) (λ d. begin d ⊎ IsMadeBy index tree d)
+      → AreBetween now new (λ d. IsFolder mid held d × (Obstacle k d → ⊥)) (λ d. IsFolder mid held d ⊎ IsMadeFor (get index k) (get tree k) k d) → AreBetween now new (λ d. begin d × (GivesWayBy index tree d → ⊥)) (λ d. begin d ⊎ IsMadeBy index tree d)
   making_between begin mid now held new k first second = record {
     least = λ d is. second.least d (first.least d is, λ way. is.1 (k, way));
     most = λ d f. by d (second.most d f);

@@ -17,6 +17,7 @@ use Rattle.std.proofs.lemmas.Bool.{false_from_ne_true}
 use Rattle.std.proofs.lemmas.List.{map_more}
 use Rattle.std.proofs.lemmas.List.Folds.{list_any-append}
 use Rattle.std.proofs.lemmas.Str.{IsUtf8-string_bytes}
+use Rattle.std.proofs.Math.Bool.{or-false}
 use Rattle.vc_files.specs.FileMap.{FileMap}
 use Rattle.vc_index.specs.IndexMap.{IndexMap}
 use Rattle.vc_index.specs.declared.entry.IndexEntry.{IndexEntry}
@@ -50,17 +51,13 @@ moved true true c = refl
 moved true false c = refl
 moved false b c = elim b as (λ b. ((b || false) || c) ≡ (b || c)) [ true ↦ refl | false ↦ refl ]
 
-or_false : (a : Bool) → (a || false) ≡ a
-or_false true = refl
-or_false false = refl
-
 -- one path more of those that are listed
 pub listed_more : (all : List (String Global)) (i : ℕ) (path : String Global) → i < length all → path ≡ get_or all i path → (q : List ℕ)
     → is_listed q (map string_bytes (take (i + 1) all)) ≡ (is_listed q (map string_bytes (take i all)) || is_same q (string_bytes path))
 listed_more all i path inside is q =
     ap (is_listed q) (map_more string_bytes all i path inside ∙ ap (λ s. map string_bytes (take i all) ++ string_bytes s ∷ []) (sym is))
     ∙ list_any-append (is_same q) (map string_bytes (take i all)) (string_bytes path ∷ [])
-    ∙ ap (λ b. is_listed q (map string_bytes (take i all)) || b) (or_false (is_same q (string_bytes path)))
+    ∙ ap (λ b. is_listed q (map string_bytes (take i all)) || b) (or-false (is_same q (string_bytes path)))
 
 -- the paths of a map are text, where they are those of strings
 pub text_paths : (work : FileMap) (all : List (String Global)) → map string_bytes all ≡ maps.keys work → HasTextPaths work

@@ -10,10 +10,10 @@ use Rattle.std.specs.declared.cmp.Ordering.TheVariants.{Less}
 use Rattle.std.specs.declared.cmp.Ordering.{Ordering}
 use Rattle.std.proofs.lemmas.List.Elements.{Contains-append_left, Contains-append_right, Contains-append_cases}
 use Rattle.vc_files.specs.FileMap.{FileMap}
+use Rattle.vc_object.proofs.Order.{All-map, All-push}
 use Rattle.vc_index.specs.IndexMap.{IndexMap}
 use Rattle.vc_index.specs.declared.entry.IndexEntry.{IndexEntry}
 use Rattle.vc_index.proofs.MapLemmas.{same_text}
-use Rattle.vc_index.proofs.PartLemmas.{all_map}
 use Rattle.vc_checkout.specs.Status.{IsIndexChange, IsWorkChange, Differs, IsStatus, Seen, seen}
 use Rattle.vc_checkout.specs.declared.change.Change.{Change}
 use Rattle.vc_checkout.specs.WorkTree.{IsUntracked, is_same, is_listed}
@@ -21,6 +21,7 @@ use Rattle.vc_checkout.specs.declared.change.IndexChange.{IndexChange}
 use Rattle.vc_checkout.specs.declared.change.IndexChange.TheVariants as of_index
 use Rattle.vc_checkout.specs.declared.change.WorkChange.{WorkChange}
 use Rattle.vc_checkout.specs.declared.change.WorkChange.TheVariants as of_work
+use Rattle.vc_checkout.proofs.ClearLemmas.{sorted_rest}
 
 -- ---- one path has one pair of changes
 pub one_index_change : (t i : Option IndexEntry) (x y : IndexChange) → IsIndexChange t i x → IsIndexChange t i y → x ≡ y
@@ -92,19 +93,7 @@ one_contains x = (0, omega arith, refl)
 sorted_more : {X : Type 0} (order : X → X → Ordering) (xs : List X) (y : X) → IsStrictlySortedBy order xs → AllByRecursion (λ x. order x y ≡ Less) xs → IsStrictlySortedBy order (xs ++ y ∷ [])
 unfolding IsStrictlySortedBy
 sorted_more order [] y sorted below = (tt, tt)
-sorted_more order (x ∷ xs) y sorted below = (all_more _ xs y sorted.0 below.0, sorted_more order xs y sorted.1 below.1)
-  where
-    all_more : {X : Type 0} (P : X → Type 0) (xs : List X) (y : X) → AllByRecursion P xs → P y → AllByRecursion P (xs ++ y ∷ [])
-    all_more P [] y all one = (one, tt)
-    all_more P (x ∷ xs) y all one = (all.0, all_more P xs y all.1 one)
-
-pub all_end : {X : Type 0} (P : X → Type 0) (xs : List X) (y : X) → AllByRecursion P xs → P y → AllByRecursion P (xs ++ y ∷ [])
-all_end P [] y all one = (one, tt)
-all_end P (x ∷ xs) y all one = (all.0, all_end P xs y all.1 one)
-
-sorted_rest : (k : List ℕ) (rest : List (List ℕ)) → IsStrictlySortedBy (slice_cmp nat_cmp) (k ∷ rest) → AllByRecursion (λ y. slice_cmp nat_cmp k y ≡ Less) rest × IsStrictlySortedBy (slice_cmp nat_cmp) rest
-unfolding IsStrictlySortedBy
-sorted_rest k rest sorted = sorted
+sorted_more order (x ∷ xs) y sorted below = (All-push _ xs y sorted.0 below.0, sorted_more order xs y sorted.1 below.1)
 
 sorted_none : {X : Type 0} (order : X → X → Ordering) → IsStrictlySortedBy order []
 unfolding IsStrictlySortedBy
@@ -159,7 +148,7 @@ module _ (tree index : IndexMap) (work : FileMap) where
       record {
         sorted = old.sorted;
         rest_sorted = (sorted_rest k rest old.rest_sorted).1;
-        below = all_map _ _ changes (λ x all. all.1) old.below;
+        below = All-map _ _ changes (λ x all. all.1) old.below;
         sound = old.sound;
         complete = λ x differs. elim (old.complete x differs) [
           | inl has ↦ inl has
@@ -175,9 +164,9 @@ module _ (tree index : IndexMap) (work : FileMap) where
   status_more changes after rest before x first more differs so =
       let old = subst (SoFar changes) first so in
       subst (λ l. SoFar l rest) (sym more) (record {
-        sorted = sorted_more order changes x old.sorted (all_map _ _ changes (λ y all. all.0) old.below);
+        sorted = sorted_more order changes x old.sorted (All-map _ _ changes (λ y all. all.0) old.below);
         rest_sorted = (sorted_rest x.0 rest old.rest_sorted).1;
-        below = all_end _ changes x (all_map _ _ changes (λ y all. all.1) old.below) (sorted_rest x.0 rest old.rest_sorted).0;
+        below = All-push _ changes x (All-map _ _ changes (λ y all. all.1) old.below) (sorted_rest x.0 rest old.rest_sorted).0;
         sound = λ y has. elim (Contains-append_cases changes (x ∷ []) y has) [
           | inl was ↦ old.sound y was
           | inr new ↦ subst DiffersSo (contains_one y x new) differs

@@ -1,11 +1,10 @@
 -- The folders of a work tree.
-use Rattle.std.specs.Prelude.{◌≡◌, ◌⊎◌, ◌↔◌, ℕ, Bool, List, [], ◌∷◌, ◌++◌, String, map, nat_eq, string_bytes, IsSome, IsTrue}
+use Rattle.std.specs.Prelude.{◌≡◌, ◌⊎◌, ◌↔◌, ℕ, List, String, map, string_bytes, IsSome, IsTrue}
 use Rattle.std.specs.BTreeSet.{BTreeSet}
 use Rattle.std.specs.Cmp.Lexicographic.{slice_cmp}
 use Rattle.std.specs.FinMap.{get}
 use Rattle.std.specs.FinSet.{FinSet, contains, from_list}
 use Rattle.std.specs.Global.{Global}
-use Rattle.std.specs.List.{starts_with}
 use Rattle.std.specs.Ordering.{nat_cmp}
 use Rattle.vc_files.specs.FileMap.{FileMap}
 use Rattle.vc_index.specs.Path.{IsAbove}
@@ -38,10 +37,6 @@ pub record AreFolders (work : FileMap) (folders : Folders) (IsOne : List ℕ →
 pub record IsLowestAbove (folder path : List ℕ) : Type 0 where
   pub above : IsAbove folder path
   pub lowest : (other : List ℕ) → IsAbove other path → IsAtOrIn other folder
-
--- whether the first path is that of a folder above the second
-abbrev pub is_above : List ℕ → List ℕ → Bool
-is_above folder path = starts_with nat_eq path (folder ++ 47 ∷ [])
 
 -- the folders that a set of texts holds, by the bytes of the texts
 abbrev pub folders_of : BTreeSet (String Global) → Folders

@@ -19,7 +19,7 @@ use std::collections::BTreeSet;
 use std::str;
 use vc_files::{Fault, Files};
 use vc_index::{Index, IndexCursor, IndexEntry, IndexFault};
-use vc_object::{Kind, Mode, ObjectId, name_of};
+use vc_object::{Mode, ObjectId};
 use vc_store::StoreFault;
 
 /// The name that the content of the file at a path has as a blob, or none where there is no file.
@@ -38,10 +38,8 @@ pub(crate) fn file_name<T: WorkTree>(
     let Ok(text) = str::from_utf8(path) else {
         return Ok(None);
     };
-    let Some(bytes) = work.read(alloc, text)? else {
-        return Ok(None);
-    };
-    Ok(Some(name_of(Kind::Blob, &bytes)))
+    let name = work.name(alloc, text)?;
+    Ok(name)
 }
 
 // How the file at a path differs from what the index has there. Only a file that the index has is read.

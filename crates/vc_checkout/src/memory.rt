@@ -3,15 +3,17 @@ ghost use Rattle.std.specs.Prelude.{◌≡◌, ◌↔◌, ◌⊎◌, ◌||◌, n
 ghost use Rattle.std.specs.FinMap as files;
 ghost use Rattle.std.specs.FinSet as set;
 ghost use Rattle.vc_files.specs.Memory.{files_of};
+ghost use Rattle.vc_files.specs.Path.{is_above};
 ghost use Rattle.vc_index.specs.Path.{IsAbove};
-ghost use Rattle.vc_checkout.specs.Folders.{HoldsFile, IsFolder, IsNoted, folders_of, is_above};
+ghost use Rattle.vc_checkout.specs.Folders.{HoldsFile, IsFolder, IsNoted, folders_of};
 
 use crate::WorkTree;
 use crate::paths::folder_of;
 use std::alloc::Global;
 use std::collections::{BTreeMap, BTreeSet};
 use std::marker::Model;
-use vc_files::Fault;
+use vc_files::{Fault, is_above};
+use vc_object::{Kind, ObjectId, name_of};
 
 /// A work tree in memory, which is a finite map and never answers `Device`.
 #[derive(Drop)]
@@ -59,10 +61,7 @@ impl MemoryTree {
 fn is_below(path: &str, folder: &str) -> bool
     ensures { result ≡ is_above folder.now path.now }
 {
-    match path.as_bytes().strip_prefix(folder.as_bytes()) {
-        Some(rest) => rest.starts_with(b"/"),
-        None => false,
-    }
+    is_above(folder.as_bytes(), path.as_bytes())
 }
 
 // Whether the path is neither that of the folder nor below it.
@@ -136,6 +135,13 @@ impl WorkTree for MemoryTree {
             return Ok(None);
         };
         Ok(Some(bytes.as_slice().to_vec(alloc)?))
+    }
+
+    fn name(&mut self, _alloc: Global, path: &str) -> Result<Option<ObjectId>, Fault> {
+        let Some(bytes) = self.files.get(path) else {
+            return Ok(None);
+        };
+        Ok(Some(name_of(Kind::Blob, bytes)))
     }
 
     fn write(&mut self, alloc: Global, path: &str, bytes: &[u8]) -> Result<(), Fault> {

@@ -4,9 +4,11 @@ ghost use Rattle.std.specs.FinMap as files;
 ghost use Rattle.vc_files.specs.FileMap.{FileMap};
 ghost use Rattle.vc_files.specs.Failures.{Wears, unstopped};
 ghost use Rattle.vc_checkout.specs.Folders.{AreFolders, Folders, IsAtOrIn, IsFolder};
+ghost use Rattle.vc_checkout.specs.WorkTree.{blob_name};
 
 use std::alloc::Global;
 use vc_files::Fault;
+use vc_object::ObjectId;
 
 /// The files that a person works on, by their paths, which are text. Each call is safe and ends, whatever the tree
 /// does. What the clauses under `honest` say, a real disk doesn't promise.
@@ -31,6 +33,13 @@ pub trait WorkTree {
     /// The bytes of a file, or none where no file has the path.
     fn read(&mut self, alloc: Global, path: &str) -> Result<Option<Vec<u8>>, Fault>
         ensures found { honest → IfOk result (λ found. option_map (λ bytes. bytes.items) found ≡ files.get (content self.old) path.now) }
+        ensures same { content self.new ≡ content self.old }
+        ensures folders { folders self.new ≡ folders self.old }
+        ensures wear { Wears failed can_fail unstopped self.old self.new (IsErrOf result Fault.Device) };
+
+    /// The name that the bytes of a file have as a blob, or none where no file has the path.
+    fn name(&mut self, alloc: Global, path: &str) -> Result<Option<ObjectId>, Fault>
+        ensures named { honest → IfOk result (λ name. name ≡ option_map blob_name (files.get (content self.old) path.now)) }
         ensures same { content self.new ≡ content self.old }
         ensures folders { folders self.new ≡ folders self.old }
         ensures wear { Wears failed can_fail unstopped self.old self.new (IsErrOf result Fault.Device) };

@@ -14,7 +14,7 @@ use Rattle.vc_index.specs.declared.entry.IndexEntry.{IndexEntry}
 use Rattle.vc_index.specs.declared.faults.IndexFault.{IndexFault}
 use Rattle.vc_index.specs.declared.faults.IndexFault.TheVariants.{BadPath, PathConflict, BadIndex, WrongEntry, Missing, Store}
 use Rattle.vc_index.proofs.MapLemmas.{is_eq-same, same_text}
-use Rattle.vc_checkout.proofs.LeavingLemmas.{or_true}
+use Rattle.std.proofs.Math.Bool.{or-true}
 use Rattle.vc_checkout.specs.WorkTree.{is_listed, is_same}
 use Rattle.vc_checkout.specs.CheckoutFault.{IsOfCheckout, IsOfStatus, TellsFirstListed, told_fault}
 use Rattle.vc_checkout.specs.declared.faults.CheckoutFault.{CheckoutFault}
@@ -57,7 +57,7 @@ pub listed_first : (first : List ℕ) (before rest : List (List ℕ)) → before
 listed_first first before rest is = ap (is_listed first) is ∙ ap (λ b. b || is_listed first rest) (is_eq-same first)
 
 pub listed_more : (first : List ℕ) (before rest : List (List ℕ)) → before ≡ first ∷ rest → (q : List ℕ) → is_listed q rest ≡ true → is_listed q before ≡ true
-listed_more first before rest is q there = ap (is_listed q) is ∙ (ap (λ b. is_same q first || b) there ∙ or_true (is_same q first))
+listed_more first before rest is q there = ap (is_listed q) is ∙ (ap (λ b. is_same q first || b) there ∙ or-true (is_same q first))
 
 -- what honest files say of a tree that was not listed
 list_is : (honest : Type 0) → honest → (content : FileMap) (root : ObjectId) (e : IndexFault) → IsOfList honest content root e → IsOfList (Unit {0}) content root e

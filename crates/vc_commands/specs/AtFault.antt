@@ -3,8 +3,8 @@ use Rattle.std.specs.Prelude.{◌≡◌, ◌==◌, ◌||◌, ◌+◌, ◌-◌, �
 use Rattle.std.specs.Global.{Global}
 use Rattle.std.specs.List.{flat_map}
 use Rattle.hex.specs.Hex.{encode_lower}
-use Rattle.vc_base.specs.declared.fault.BaseFault.{BaseFault}
-use Rattle.vc_base.specs.declared.fault.BaseFault.TheVariants as bases
+use Rattle.vc_history.specs.declared.fault.BaseFault.{BaseFault}
+use Rattle.vc_history.specs.declared.fault.BaseFault.TheVariants as bases
 use Rattle.vc_node.specs.declared.fault.NodeFault.{NodeFault}
 use Rattle.vc_node.specs.declared.fault.NodeFault.TheVariants as nodes
 use Rattle.vc_refs.specs.declared.faults.RefFault.{RefFault}

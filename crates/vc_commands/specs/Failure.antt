@@ -1,6 +1,6 @@
 -- What a failure of a command means for its exit status.
 use Rattle.std.specs.Prelude.{ℕ, ⊤, if◌then◌else◌}
-use Rattle.vc_base.specs.declared.fault.BaseFault.TheVariants.{Store as BaseStore}
+use Rattle.vc_history.specs.declared.fault.BaseFault.TheVariants.{Store as BaseStore}
 use Rattle.vc_refs.specs.declared.faults.RefFault.TheVariants.{Fault as RefFaulted}
 use Rattle.vc_rev.specs.declared.fault.ParseFault.TheVariants.{Memory}
 use Rattle.vc_rev.specs.declared.refusal.RevFault.{RevFault}

@@ -3,8 +3,8 @@ use Rattle.std.specs.Prelude.{◌≡◌, ◌⊎◌, ◌↔◌, ℕ, Bool, not, �
 use Rattle.std.specs.List.{flat_map}
 use Rattle.std.specs.Io.KnownBytes.{Appends}
 use Rattle.hex.specs.Hex.{encode_lower}
-use Rattle.vc_base.specs.BaseFault.{IsTold}
-use Rattle.vc_base.specs.History.{IsBestCommonAncestor}
+use Rattle.vc_history.specs.BaseFault.{IsTold}
+use Rattle.vc_history.specs.History.{IsBestCommonAncestor}
 use Rattle.vc_files.specs.FileMap.{FileMap}
 use Rattle.vc_object.specs.Decoding.{StoredObject}
 use Rattle.vc_object.specs.Kind.{word}

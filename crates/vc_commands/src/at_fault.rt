@@ -5,7 +5,7 @@ ghost use Rattle.vc_commands.specs.AtFault.{IsPlace, at_line, named, octal, of_b
 
 use crate::failure::Failure;
 use std::alloc::{AllocError, Global};
-use vc_base::BaseFault;
+use vc_history::BaseFault;
 use vc_node::NodeFault;
 use vc_object::ObjectId;
 use vc_refs::RefFault;

@@ -11,16 +11,17 @@ use crate::faults::Faults;
 use std::alloc::{AllocError, AllocFailed};
 use std::fmt;
 use std::io::{self, ErrorKind, Write};
-use vc_base::BaseFault;
 use vc_checkout::CheckoutFault;
 use vc_files::Fault;
+use vc_history::BaseFault;
 use vc_index::IndexFault;
 use vc_node::NodeFault;
 use vc_object::ObjectFault;
 use vc_refname::{NameFault, NewNameError};
 use vc_refs::RefFault;
 use vc_remote::RemoteFault;
-use vc_rev::{ParseFault, RevFault, SourceFault};
+use vc_rev::{ParseFault, Refusal, RevFault, SourceFault};
+use vc_script::ScriptFault;
 use vc_store::StoreFault;
 
 /// What stands in the way of an answer. Its text is what a person reads behind `vcs: `.
@@ -73,14 +74,14 @@ impl fmt::Display for Failure {
             Failure::LocalChange(_) => f.write_str("70 LocalChange"),
             Failure::InTheWay(_) => f.write_str("71 InTheWay"),
             Failure::NotText(_) => f.write_str("72 NotText"),
-            Failure::NoSuchPath => f.write_str("56 NoSuchPath"),
+            Failure::NoSuchPath => fmt::Display::fmt(&Refusal::NoSuchPath, f),
             Failure::Object(fault) => fmt::Display::fmt(fault, f),
             Failure::Store(fault) => fmt::Display::fmt(fault, f),
             Failure::Base(fault) => fmt::Display::fmt(fault, f),
             Failure::Name(fault) => fmt::Display::fmt(fault, f),
             Failure::Refs(fault) => fmt::Display::fmt(fault, f),
             Failure::Remote(fault) => fmt::Display::fmt(fault, f),
-            Failure::BadScript => f.write_str("114 BadScript"),
+            Failure::BadScript => fmt::Display::fmt(&ScriptFault::BadScript, f),
             Failure::Usage(text) => f.write_str(text.as_str()),
             Failure::Fault(fault) => fmt::Display::fmt(fault, f),
         }

@@ -12,9 +12,9 @@ use crate::repository::{open_store, resolve};
 use std::alloc::Global;
 use std::io::Write;
 use std::rt;
-use vc_base::{Generations, merge_bases};
 use vc_files::Files;
 use vc_folder::Syncs;
+use vc_history::{Generations, merge_bases};
 use vc_object::ObjectId;
 use vc_store::Store;
 

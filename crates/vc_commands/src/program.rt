@@ -35,6 +35,7 @@ use std::rt;
 use std::thread::Threads;
 use vc_files::Fault;
 use vc_folder::Syncs;
+use vc_work_folder::Beside;
 
 /// Does what the words ask for and gives the exit status: 0 done, 1 refused, 2 a command line that is off, 3 a
 /// fault. Answers go to `output`, everything else to `faults`. The first word is the program's name. A command that writes
@@ -48,7 +49,7 @@ pub fn run<R, S, I, O, E>(
 ) -> u8
 where
     S: AsStr,
-    R: rt::Files<File = File> + Threads + Net + AllocGlobal + Clone + Drop,
+    R: rt::Files<File = File> + Threads + Net + Beside<R> + AllocGlobal + Clone + Drop,
     I: Read + Drop,
     O: Write,
     E: Write,
@@ -68,7 +69,7 @@ fn obey<R, S, I, O, E>(
 ) -> Result<u8, Failure>
 where
     S: AsStr,
-    R: rt::Files<File = File> + Threads + Net + AllocGlobal + Clone + Drop,
+    R: rt::Files<File = File> + Threads + Net + Beside<R> + AllocGlobal + Clone + Drop,
     I: Read + Drop,
     O: Write,
     E: Write,
@@ -173,7 +174,7 @@ fn perform<R, I, O, E>(
     faults: &mut Faults<E>,
 ) -> Result<bool, Failure>
 where
-    R: rt::Files<File = File> + Threads + Net + AllocGlobal + Clone + Drop,
+    R: rt::Files<File = File> + Threads + Net + Beside<R> + AllocGlobal + Clone + Drop,
     I: Read + Drop,
     O: Write,
     E: Write,
@@ -227,7 +228,7 @@ fn exchange<R, O, E>(
     faults: &mut Faults<E>,
 ) -> Result<bool, Failure>
 where
-    R: rt::Files<File = File> + Threads + Net + AllocGlobal + Clone + Drop,
+    R: rt::Files<File = File> + Threads + Net + Beside<R> + AllocGlobal + Clone + Drop,
     O: Write,
     E: Write,
 {
@@ -254,7 +255,7 @@ fn work_on<R, O, E>(
     faults: &mut Faults<E>,
 ) -> Result<(), Failure>
 where
-    R: rt::Files + Syncs<R::File> + AllocGlobal + Clone + Drop,
+    R: rt::Files + Syncs<R::File> + Beside<R> + AllocGlobal + Clone + Drop,
     O: Write,
     E: Write,
 {

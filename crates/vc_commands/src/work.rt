@@ -11,12 +11,12 @@ use crate::status::print_status;
 use std::io::Write;
 use std::rt;
 use vc_folder::Syncs;
-use vc_work_folder::FolderTree;
+use vc_work_folder::{Beside, FolderTree};
 
 // The work tree in this folder, of which the folder of the store is no part.
 fn open_work<R>(rt: &R, store: &str, work: &str, own: &str) -> Result<FolderTree<R>, Failure>
 where
-    R: rt::Files + Syncs<R::File> + AllocGlobal + Clone + Drop,
+    R: rt::Files + Syncs<R::File> + Beside<R> + AllocGlobal + Clone + Drop,
 {
     let path = String::from_str(rt.alloc(), work)?;
     let own = String::from_str(rt.alloc(), own)?;
@@ -33,7 +33,7 @@ pub fn add<R>(
     paths: &[&str],
 ) -> Result<(), Failure>
 where
-    R: rt::Files + Syncs<R::File> + AllocGlobal + Clone + Drop,
+    R: rt::Files + Syncs<R::File> + Beside<R> + AllocGlobal + Clone + Drop,
 {
     let own = own_folder(rt, store, work)?;
     let mut folder = open_work(rt, store, work, own.as_str())?;
@@ -52,7 +52,7 @@ where
 /// where a change that is not stored would be lost.
 pub fn checkout<R>(rt: &R, store: &str, work: &str, revision: &str) -> Result<(), Failure>
 where
-    R: rt::Files + Syncs<R::File> + AllocGlobal + Clone + Drop,
+    R: rt::Files + Syncs<R::File> + Beside<R> + AllocGlobal + Clone + Drop,
 {
     let own = own_folder(rt, store, work)?;
     let mut folder = open_work(rt, store, work, own.as_str())?;
@@ -69,7 +69,7 @@ where
 /// Prints a line for each path at which HEAD's tree, the index and the work tree differ, in the order of the paths.
 pub fn status<R, O>(rt: &R, store: &str, work: &str, output: &mut O) -> Result<(), Failure>
 where
-    R: rt::Files + Syncs<R::File> + AllocGlobal + Clone + Drop,
+    R: rt::Files + Syncs<R::File> + Beside<R> + AllocGlobal + Clone + Drop,
     O: Write,
 {
     let own = own_folder(rt, store, work)?;

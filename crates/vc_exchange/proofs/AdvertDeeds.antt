@@ -17,12 +17,13 @@ use Rattle.vc_model.specs.Repository.{Change, IsSound, Repository, no_effect, on
 use Rattle.vc_object.specs.declared.id.ObjectId.{ObjectId}
 use Rattle.vc_rules.specs.Git.{git}
 use Rattle.vc_rules.specs.OpenPushes.{HoldsContent}
+use Rattle.vc_rules.proofs.JoinLemmas.{none_added}
 use Rattle.vc_exchange.specs.Deeds.{ChangesAt, IsCutShort, IsReceived}
 use Rattle.vc_exchange.specs.Moving.{AreFrontMoved, AreMoved, MovesSome, Told, machine_refs}
 use Rattle.vc_exchange.specs.Receiving.{AreRefs, awaited_pack}
 use Rattle.vc_exchange.specs.Wanting.{AreOpenTold}
 use Rattle.vc_exchange.specs.declared.moving.Followed.TheVariants.{All}
-use Rattle.vc_exchange.proofs.DeedLemmas.{added_none, all_received, done_changes, front_received, some_received}
+use Rattle.vc_exchange.proofs.DeedLemmas.{all_received, done_changes, front_received, some_received}
 use Rattle.vc_exchange.proofs.RefEntries.{entries_machine}
 
 take_bytes : (n : ℕ) (ids : List ObjectId) → map bytes_of_id (take n ids) ≡ take n (map bytes_of_id ids)
@@ -66,13 +67,13 @@ module _ (r : Repository) (m : Message) (t : AdvertText) (advert : IsAdvert m t)
         )
 
     pub advert_followed : (new : FileMap) (moved : ℕ) → AreMoved known All told r new moved → IsReceived r AnAdvert m new Nothing None (Moved moved 0)
-    advert_followed = all_received All told r empty r.objects (added_none r.objects) (stored r.objects) refl AnAdvert m Nothing (λ n. Moved n 0) known sound takes
+    advert_followed = all_received All told r empty r.objects (none_added r.objects) (stored r.objects) refl AnAdvert m Nothing (λ n. Moved n 0) known sound takes
 
     pub advert_cut : (new : FileMap) → AreFrontMoved known All told r new → IsCutShort r AnAdvert m new
-    advert_cut = front_received All told r empty r.objects (added_none r.objects) (stored r.objects) refl AnAdvert m Nothing (λ n. Moved n 0) known sound takes
+    advert_cut = front_received All told r empty r.objects (none_added r.objects) (stored r.objects) refl AnAdvert m Nothing (λ n. Moved n 0) known sound takes
 
     pub advert_changes : (known → MovesSome All told r) → IsSound git r → ChangesAt r AnAdvert m
-    advert_changes = some_received All told r empty r.objects (added_none r.objects) (stored r.objects) refl AnAdvert m Nothing (λ n. Moved n 0) known sound takes
+    advert_changes = some_received All told r empty r.objects (none_added r.objects) (stored r.objects) refl AnAdvert m Nothing (λ n. Moved n 0) known sound takes
 
   -- ---- something is
   pub advert_asked : (opened wants : List ObjectId) → opened ≢ [] → (IsSound git r → AreOpenTold r told opened) → wants ≡ take 256 opened → (new : FileMap) → HoldsContent new r

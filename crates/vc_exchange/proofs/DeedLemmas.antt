@@ -1,16 +1,15 @@
 -- From the refs that followed to what the machine's clone does of a message: done whole, cut short, or not yet begun.
-use Rattle.std.proofs.Common.{◌≡◌, ℕ, nat_cmp, List, length, take, Option, Some, None, inr, refl, sym, ap, subst}
-use Rattle.std.specs.FinMap.{get, empty, get-empty}
-use Rattle.std.specs.Option.{option_or}
-use Rattle.std.specs.Cmp.Lexicographic.{slice_cmp}
+use Rattle.std.proofs.Common.{◌≡◌, ℕ, List, length, take, None, inr, refl, sym, ap, subst}
+use Rattle.std.specs.FinMap.{empty}
 use Rattle.vc_files.specs.FileMap.{FileMap}
 use Rattle.vc_model.specs.Clone.{Awaited, Moves, Receives, quietly}
 use Rattle.vc_model.specs.Message.{Message}
 use Rattle.vc_model.specs.Node.{Reply}
-use Rattle.vc_model.specs.Object.{Id, Lookup, Object, Objects, stored}
+use Rattle.vc_model.specs.Object.{Lookup, Objects, stored}
 use Rattle.vc_model.specs.Repository.{AllAdded, Change, Done, Effect, IsSound, Repository, StopsWithin, changed_all, only_changes, with_objects}
 use Rattle.vc_rules.specs.Git.{git}
 use Rattle.vc_rules.specs.OpenPushes.{HoldsContent}
+use Rattle.vc_rules.proofs.JoinLemmas.{none_added}
 use Rattle.vc_exchange.specs.Deeds.{ChangesAt, IsCutShort, IsReceived}
 use Rattle.vc_exchange.specs.Deeds.IsCutShort.{at_first, within}
 use Rattle.vc_exchange.specs.Moving.{AreFrontMoved, AreMoved, MovesBy, MovesSome, Told, machine_refs, rule_of}
@@ -18,13 +17,6 @@ use Rattle.vc_exchange.specs.declared.moving.Followed.{Followed}
 use Rattle.vc_exchange.proofs.SetRefs.{set_front, set_head, set_index}
 
 -- ---- effects
-or_none : (a : Option Object) (x : Id) → a ≡ option_or a (get (empty {X = Object} {R = slice_cmp nat_cmp}) x)
-or_none None x = sym (get-empty (slice_cmp nat_cmp) x)
-or_none (Some o) x = refl
-
-pub added_none : (s : Objects) → AllAdded s empty s
-added_none s = record { each = λ x. or_none (get s x) x }
-
 pub done_with : (r : Repository) (s after : Objects) (cs : List Change) → AllAdded r.objects s after → Done r (record { objects = s; changes = cs }) (changed_all cs (with_objects r after))
 done_with r s after cs added = (after, added, refl)
 
@@ -32,11 +24,11 @@ pub stops_with : (r : Repository) (s after : Objects) (cs : List Change) (k : �
 stops_with r s after cs k added = inr (after, k, added, refl)
 
 pub done_changes : (r : Repository) (cs : List Change) → Done r (only_changes cs) (changed_all cs r)
-done_changes r cs = done_with r empty r.objects cs (added_none r.objects)
+done_changes r cs = done_with r empty r.objects cs (none_added r.objects)
 
 -- ---- deeds
 -- Objects are added, of which `after` holds all, and then refs follow what is told. Where nothing is added, `s` is empty, `after`
--- is what is there, `added` is `added_none _` and `is` is `refl`; else `is` is `all_added_is` of the model. Over a sound repository
+-- is what is there, `added` is `none_added _` and `is` is `refl`; else `is` is `all_added_is` of the model. Over a sound repository
 -- what was known is so, and the machine's clone may do it.
 module _ (followed : Followed) (told : List Told) (r : Repository) (s after : Objects) (added : AllAdded r.objects s after) (at : Lookup) (is : stored after ≡ at) (awaits : Awaited) (m : Message) (left : Awaited) (reply : ℕ → Reply) where
   -- the machine's clone may do it with these changes

@@ -2,7 +2,7 @@
 use Rattle.std.proofs.Common.{◌≡◌, ⊎_elim, List, Option, Some, refl, ap, ◌∙◌}
 use Rattle.std.specs.Prelude.{codes}
 use Rattle.std.specs.Option.{option_or}
-use Rattle.vc_answer.specs.Reached.{KeepsObjects}
+use Rattle.vc_pack.specs.Reached.{KeepsObjects}
 use Rattle.vc_files.specs.FileMap.{FileMap, SameOutside}
 use Rattle.vc_graph.specs.Overlay.{with_carried}
 use Rattle.vc_object.specs.Decoding.{StoredObject}

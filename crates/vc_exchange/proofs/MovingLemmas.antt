@@ -8,7 +8,7 @@ use Rattle.vc_object.specs.declared.id.ObjectId.{ObjectId}
 use Rattle.vc_refs.proofs.LayeredChangeLemmas.{refs_free}
 use Rattle.vc_refs.specs.RefFault.{BlamesRef, BlamesSet}
 use Rattle.vc_refs.specs.Refs.{refs}
-use Rattle.vc_refs.specs.Way.{IsFree}
+use Rattle.vc_refs.specs.Obstacle.{IsFree}
 use Rattle.vc_refs.specs.declared.faults.RefFault.{RefFault}
 use Rattle.vc_refs.specs.declared.faults.RefFault.TheVariants as fault
 use Rattle.vc_store.specs.Store.{IsDamaged, objects}

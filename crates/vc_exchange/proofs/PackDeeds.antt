@@ -3,9 +3,9 @@ use Rattle.std.proofs.Common.{◌≡◌, inl, inr, ℕ, List, [], ◌∷◌, ◌
 use Rattle.std.specs.Prelude.{Contains, codes, option_map}
 use Rattle.std.specs.FinMap.{get}
 use Rattle.std.proofs.lemmas.List.{length-map}
-use Rattle.vc_answer.specs.AnswerFault.{IsRefusedPack}
-use Rattle.vc_answer.specs.declared.fault.AnswerFault.{AnswerFault}
-use Rattle.vc_answer.specs.declared.fault.AnswerFault.TheVariants as answer
+use Rattle.vc_pack.specs.AnswerFault.{IsRefusedPack}
+use Rattle.vc_pack.specs.declared.fault.AnswerFault.{AnswerFault}
+use Rattle.vc_pack.specs.declared.fault.AnswerFault.TheVariants as answer
 use Rattle.vc_files.specs.FileMap.{FileMap, SameOutside}
 use Rattle.vc_format.specs.Git.{bytes_of_id, id_of_bytes}
 use Rattle.vc_graph.specs.Graph as graph

@@ -17,6 +17,7 @@ use Rattle.vc_push.specs.Report.{ReportText, ToldText}
 use Rattle.vc_push.specs.ReportView.{told_of}
 use Rattle.vc_push.specs.declared.report.Told.{Told as Command}
 use Rattle.vc_rules.specs.Git.{git}
+use Rattle.vc_rules.proofs.JoinLemmas.{none_added}
 use Rattle.vc_exchange.specs.Deeds.{ChangesAt, IsCutShort, IsReceived}
 use Rattle.vc_exchange.specs.Moving.{AreFrontMoved, AreMoved, MovesSome, Told, machine_refs, told_in}
 use Rattle.vc_exchange.specs.Receiving.{AcceptedAgree, BlamesAdvert, accepted}
@@ -24,7 +25,7 @@ use Rattle.vc_exchange.specs.Wanting.{BlamesWanting}
 use Rattle.vc_exchange.specs.declared.fault.ExchangeFault.{ExchangeFault}
 use Rattle.vc_exchange.specs.declared.moving.Followed.TheVariants.{Branches}
 use Rattle.vc_exchange.specs.declared.receiving.Advertised.{Advertised}
-use Rattle.vc_exchange.proofs.DeedLemmas.{added_none, all_received, front_received, some_received}
+use Rattle.vc_exchange.proofs.DeedLemmas.{all_received, front_received, some_received}
 use Rattle.vc_exchange.proofs.MovingLoops.{Item, told_append}
 
 pub accepted_agree : AcceptedAgree
@@ -91,13 +92,13 @@ module _ (r : Repository) (known : Type 0) (sound : IsSound git r → known) (aw
   )
 
   pub report_received : (new : FileMap) (moved : ℕ) → AreMoved known Branches told r new moved → IsReceived r awaits m new awaits None (Reported moved numbers)
-  report_received = all_received Branches told r empty r.objects (added_none r.objects) (stored r.objects) refl awaits m awaits (λ n. Reported n numbers) known sound takes
+  report_received = all_received Branches told r empty r.objects (none_added r.objects) (stored r.objects) refl awaits m awaits (λ n. Reported n numbers) known sound takes
 
   pub report_cut : (new : FileMap) → AreFrontMoved known Branches told r new → IsCutShort r awaits m new
-  report_cut = front_received Branches told r empty r.objects (added_none r.objects) (stored r.objects) refl awaits m awaits (λ n. Reported n numbers) known sound takes
+  report_cut = front_received Branches told r empty r.objects (none_added r.objects) (stored r.objects) refl awaits m awaits (λ n. Reported n numbers) known sound takes
 
   pub report_changes : (known → MovesSome Branches told r) → IsSound git r → ChangesAt r awaits m
-  report_changes = some_received Branches told r empty r.objects (added_none r.objects) (stored r.objects) refl awaits m awaits (λ n. Reported n numbers) known sound takes
+  report_changes = some_received Branches told r empty r.objects (none_added r.objects) (stored r.objects) refl awaits m awaits (λ n. Reported n numbers) known sound takes
 
 -- ---- where nothing is changed
 pub outside_kept : {prefix : List ℕ} (old new : FileMap) → new ≡ old → SameOutside prefix old new

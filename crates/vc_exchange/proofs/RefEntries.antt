@@ -17,7 +17,7 @@ use Rattle.vc_exchange.specs.Receiving.{AreRefs}
 abbrev by_bytes : List ℕ → List ℕ → Ordering
 by_bytes = slice_cmp nat_cmp
 
-find_machine : (told : List Told) (name : RefName) → find by_bytes name (machine_refs told) ≡ option_map bytes_of_id (find by_bytes name told)
+pub find_machine : (told : List Told) (name : RefName) → find by_bytes name (machine_refs told) ≡ option_map bytes_of_id (find by_bytes name told)
 find_machine [] name = refl
 find_machine (t ∷ told) name = by (is_eq (by_bytes name t.0)) (find by_bytes name told) (find_machine told name)
   where
@@ -29,7 +29,7 @@ below_machine : (name : RefName) (told : List Told) → below_all by_bytes name 
 below_machine name [] = refl
 below_machine name (t ∷ told) = ap (λ b. is_lt (by_bytes name t.0) && b) (below_machine name told)
 
-sorted_machine : (told : List Told) → is_sorted by_bytes (machine_refs told) ≡ is_sorted by_bytes told
+pub sorted_machine : (told : List Told) → is_sorted by_bytes (machine_refs told) ≡ is_sorted by_bytes told
 sorted_machine [] = refl
 sorted_machine (t ∷ told) = ap (λ b. b && is_sorted by_bytes (machine_refs told)) (below_machine t.0 told) ∙ ap (λ b. below_all by_bytes t.0 told && b) (sorted_machine told)
 

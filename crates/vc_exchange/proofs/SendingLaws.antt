@@ -18,7 +18,7 @@ use Rattle.std.proofs.lemmas.Slice.Eq.{starts_is}
 use Rattle.hex.proofs.HexLemmas.{decode_of-ok, decode_sized-ok, decode_sized-twice}
 use Rattle.hex.specs.Hex.{decode_sized}
 use Rattle.hex.specs.declared.error.FromHexError.{FromHexError}
-use Rattle.vc_answer.proofs.AnswerLemmas.{there_from_links}
+use Rattle.vc_pack.proofs.AnswerLemmas.{there_from_links}
 use Rattle.vc_exchange.specs.SendFault.{IsRefusedPush, IsRefusedSend}
 use Rattle.vc_exchange.specs.Sending.{AreSent, IsKnown, IsPushOf, command_for, item_ids, known_value, machine_item, machine_items}
 use Rattle.vc_exchange.specs.SentPush.{DeclinesPush, IsSentPush, SendsPush}

@@ -12,8 +12,8 @@ use Rattle.std.proofs.lemmas.List.{length-drop, map_more, map-append, take_more,
 use Rattle.std.proofs.lemmas.List.Elements.{Contains-append_cases, Contains-append_left, Contains-append_right, Contains-push_cases, filter_map-append}
 use Rattle.std.proofs.lemmas.Option.{none-some, same_Some}
 use Rattle.std.proofs.lemmas.Slice.Eq.{starts_is}
-use Rattle.vc_answer.proofs.AnswerLemmas.{absent_from_links}
-use Rattle.vc_answer.proofs.ValuesLemmas.{each_found}
+use Rattle.vc_pack.proofs.AnswerLemmas.{absent_from_links}
+use Rattle.vc_pack.proofs.ValuesLemmas.{each_found}
 use Rattle.vc_exchange.specs.SendFault.{BlamesRefFile, IsRefusedSend, from_graph}
 use Rattle.vc_exchange.specs.Sending.{AreSent, IsKnown, IsTracked, command_for, known_value, tracked_in}
 use Rattle.vc_exchange.specs.declared.item.PushItem.{PushItem}

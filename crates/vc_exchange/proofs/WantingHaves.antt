@@ -1,10 +1,10 @@
 -- What a clone says that it has: the values of its refs in order, then HEAD's; and the message that asks for what it wants.
-use Rattle.std.proofs.Common.{◌≡◌, ◌≢◌, ◌≤◌, ◌<◌, ◌+◌, ◌&&◌, inl, inr, ℕ, Bool, true, false, cond, T, List, [], ◌∷◌, ◌++◌, length, get_or, take, map, option_to_list, Option, Some, None, refl, sym, ap, ◌∙◌, subst}
+use Rattle.std.proofs.Common.{◌≡◌, ◌≢◌, ◌≤◌, ◌<◌, ◌+◌, inl, inr, ℕ, true, T, List, [], ◌∷◌, ◌++◌, length, get_or, take, map, option_to_list, Option, Some, None, refl, sym, ap, ◌∙◌, subst}
 use Rattle.std.specs.Prelude.{option_map, string_bytes}
-use Rattle.std.specs.FinMap.{entries, entries_sorted, find, get, get-entries, is_sorted, values}
-use Rattle.std.specs.FinMap.Entries.{below_all, same_entries}
+use Rattle.std.specs.FinMap.{entries, entries_sorted, get, get-entries, values}
+use Rattle.std.specs.FinMap.Entries.{same_entries}
 use Rattle.std.specs.List.{AllByRecursion, flat_map}
-use Rattle.std.specs.Ordering.{eq_by_cmp, is_lt, nat_cmp}
+use Rattle.std.specs.Ordering.{nat_cmp}
 use Rattle.std.specs.Cmp.Lexicographic.{nat_list_cmp_total, slice_cmp}
 use Rattle.std.proofs.lemmas.List.{append-nil, take-map, take_more}
 use Rattle.vc_fetch.specs.Want.{want_lines}
@@ -35,26 +35,9 @@ use Rattle.vc_exchange.specs.Moving.{Told, machine_refs}
 use Rattle.vc_exchange.specs.Faults.{from_refs}
 use Rattle.vc_exchange.specs.Wanting.{AreHaves, BlamesWanting}
 use Rattle.vc_exchange.proofs.SendingLaws.{positive, spelled_id, written_so}
+use Rattle.vc_exchange.proofs.RefEntries.{find_machine, sorted_machine}
 
 -- ---- refs in order
-below_machine : (name : List ℕ) (told : List Told) → below_all (slice_cmp nat_cmp) name (machine_refs told) ≡ below_all (slice_cmp nat_cmp) name told
-below_machine name [] = refl
-below_machine name (t ∷ ts) = ap (λ b. is_lt (slice_cmp nat_cmp name t.0) && b) (below_machine name ts)
-
-machine_rise : (told : List Told) → is_sorted (slice_cmp nat_cmp) (machine_refs told) ≡ is_sorted (slice_cmp nat_cmp) told
-machine_rise [] = refl
-machine_rise (t ∷ ts) =
-    ap (λ b. b && is_sorted (slice_cmp nat_cmp) (machine_refs ts)) (below_machine t.0 ts) ∙ ap (λ b. below_all (slice_cmp nat_cmp) t.0 ts && b) (machine_rise ts)
-
-found_bytes : (name : List ℕ) (told : List Told) → find (slice_cmp nat_cmp) name (machine_refs told) ≡ option_map bytes_of_id (find (slice_cmp nat_cmp) name told)
-found_bytes name [] = refl
-found_bytes name (t ∷ ts) = by (eq_by_cmp (slice_cmp nat_cmp) name t.0) (found_bytes name ts)
-  where
-    by : (same : Bool) → find (slice_cmp nat_cmp) name (machine_refs ts) ≡ option_map bytes_of_id (find (slice_cmp nat_cmp) name ts)
-        → cond same (Some t.1.0) (find (slice_cmp nat_cmp) name (machine_refs ts)) ≡ option_map bytes_of_id (cond same (Some t.1) (find (slice_cmp nat_cmp) name ts))
-    by true rest = refl
-    by false rest = rest
-
 bytes_back : (found : Option Id) → option_map bytes_of_id (option_map id_of_bytes found) ≡ found
 bytes_back None = refl
 bytes_back (Some x) = refl
@@ -70,8 +53,8 @@ values_of_machine (t ∷ ts) = ap (λ (l : List Id). t.1.0 ∷ l) (values_of_mac
 module _ (content : FileMap) (r : Repository) (held : HoldsContent content r) where
   listed_entries : (told : List Told) → IsListOf (refs content) told → machine_refs told ≡ entries r.refs
   listed_entries told list =
-      same_entries (slice_cmp nat_cmp) nat_list_cmp_total bytes_same (machine_refs told) (entries r.refs) (subst T (sym (machine_rise told ∙ list.sorted)) tt) (entries_sorted r.refs)
-      (λ n. found_bytes n told ∙ ap (option_map bytes_of_id) (list.each n ∙ held.refs_are n) ∙ bytes_back (get r.refs n) ∙ get-entries r.refs n)
+      same_entries (slice_cmp nat_cmp) nat_list_cmp_total bytes_same (machine_refs told) (entries r.refs) (subst T (sym (sorted_machine told ∙ list.sorted)) tt) (entries_sorted r.refs)
+      (λ n. find_machine told n ∙ ap (option_map bytes_of_id) (list.each n ∙ held.refs_are n) ∙ bytes_back (get r.refs n) ∙ get-entries r.refs n)
 
   listed_values : (told : List Told) → IsListOf (refs content) told → values_told told ≡ values r.refs
   listed_values told list = sym (values_of_machine told) ∙ ap (map (λ e. e.1)) (listed_entries told list)

@@ -1,7 +1,7 @@
 -- What an exchange is refused for.
 use Rattle.std.specs.Prelude.{⊤, string_bytes}
-use Rattle.vc_answer.specs.declared.fault.AnswerFault.{AnswerFault}
-use Rattle.vc_answer.specs.declared.fault.AnswerFault.TheVariants as answer
+use Rattle.vc_pack.specs.declared.fault.AnswerFault.{AnswerFault}
+use Rattle.vc_pack.specs.declared.fault.AnswerFault.TheVariants as answer
 use Rattle.vc_files.specs.FileMap.{FileMap}
 use Rattle.vc_graph.specs.declared.fault.GraphFault.{GraphFault}
 use Rattle.vc_graph.specs.declared.fault.GraphFault.TheVariants as graph

@@ -5,10 +5,10 @@ ghost use Rattle.vc_exchange.specs.Faults.{from_graph};
 use std::alloc::{AllocError, AllocFailed};
 use std::error::Error;
 use std::fmt;
-use vc_answer::AnswerFault;
 use vc_files::Fault;
 use vc_graph::GraphFault;
 use vc_object::ObjectId;
+use vc_pack::AnswerFault;
 use vc_refs::RefFault;
 use vc_store::StoreFault;
 
@@ -30,7 +30,7 @@ impl fmt::Display for ExchangeFault {
         match self {
             ExchangeFault::Store(fault) => fmt::Display::fmt(fault, f),
             ExchangeFault::Refs(fault) => fmt::Display::fmt(fault, f),
-            ExchangeFault::Incomplete(_) => f.write_str("92 Incomplete"),
+            ExchangeFault::Incomplete(id) => fmt::Display::fmt(&AnswerFault::Incomplete(*id), f),
             ExchangeFault::Fault(fault) => fmt::Display::fmt(fault, f),
         }
     }

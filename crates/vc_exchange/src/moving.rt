@@ -22,9 +22,9 @@ ghost use Rattle.vc_exchange.specs.Moving.{AreFrontMoved, AreMoved, Descends, Is
 use crate::ExchangeFault;
 use indexmap::IndexSet;
 use std::alloc::{AllocError, Global};
-use vc_base::{BaseFault, Commits, Generations, is_ancestor, is_history_beyond};
 use vc_files::{Fault, Files};
 use vc_graph::is_complete_beyond;
+use vc_history::{BaseFault, Commits, Generations, is_ancestor, is_history_beyond};
 use vc_object::ObjectId;
 use vc_refname::{NewNameError, RefName};
 use vc_refs::{RefFault, get, set};

@@ -1,6 +1,6 @@
 //! A pack whose objects stand in the clone's quarantine, the first slot's, until it is judged.
 ghost use Rattle.std.specs.Prelude.{◌≡◌, IfErr, IfOk, IsErrOf, OnErr, OnOk};
-ghost use Rattle.vc_answer.specs.Reached.{KeepsObjects};
+ghost use Rattle.vc_pack.specs.Reached.{KeepsObjects};
 ghost use Rattle.vc_exchange.specs.Deeds.{IsCutShort, IsReceived};
 ghost use Rattle.vc_exchange.specs.Moving.{told_in};
 ghost use Rattle.vc_exchange.specs.Quarantined.{BlamesSeen, HoldsPack, KeepsOthers};
@@ -30,9 +30,9 @@ use crate::receiving::Moves;
 use crate::wanting::open_ids;
 use indexmap::IndexSet;
 use std::alloc::Global;
-use vc_answer::names_reached;
 use vc_files::{Fault, Files};
 use vc_object::ObjectId;
+use vc_pack::names_reached;
 use vc_session::{Known, PushObjects, drop_quarantine, migrate};
 use vc_store::StoreFault;
 

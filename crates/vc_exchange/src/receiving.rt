@@ -1,7 +1,7 @@
 //! What a clone makes of a message from the shared node.
 ghost use Rattle.std.specs.Prelude.{◌≡◌, ◌⊎◌, ◌++◌, ◌∷◌, [], IfOk, IfErr, OnOk, OnErr, IsErrOf, codes, map, length};
 ghost use Rattle.std.specs.FinMap.{entries};
-ghost use Rattle.vc_answer.specs.Reached.{KeepsObjects};
+ghost use Rattle.vc_pack.specs.Reached.{KeepsObjects};
 ghost use Rattle.vc_exchange.specs.Deeds.{ChangesAt, HoldsHead, IsCutShort, IsReceived};
 ghost use Rattle.vc_exchange.specs.Faults.{BlamesFiles};
 ghost use Rattle.vc_exchange.specs.Moving.{told_in};
@@ -30,10 +30,10 @@ use crate::storing::store_all;
 use crate::wanting::{first_ids, open_ids, want_message};
 use std::alloc::{AllocError, Global};
 use std::collections::BTreeMap;
-use vc_answer::judge_pack;
 use vc_fetch::{Advert, Pack};
 use vc_files::{Fault, Files};
 use vc_object::ObjectId;
+use vc_pack::judge_pack;
 use vc_push::{Reason, Report, Told};
 use vc_session::Known;
 

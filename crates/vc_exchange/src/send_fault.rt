@@ -8,8 +8,9 @@ use std::alloc::AllocError;
 use std::error::Error;
 use std::fmt;
 use vc_files::Fault;
-use vc_graph::GraphFault;
+use vc_graph::{GraphFault, MISSING};
 use vc_object::ObjectId;
+use vc_pkt::PktFault;
 use vc_refs::RefFault;
 use vc_store::StoreFault;
 
@@ -31,8 +32,8 @@ pub enum SendFault {
 impl fmt::Display for SendFault {
     fn fmt<W: fmt::Write>(&self, f: &mut fmt::Formatter<W>) -> fmt::Result {
         match self {
-            SendFault::TooMany => f.write_str("84 TooMany"),
-            SendFault::Missing(_) => f.write_str("40 Missing"),
+            SendFault::TooMany => fmt::Display::fmt(&PktFault::TooMany, f),
+            SendFault::Missing(_) => f.write_str(MISSING),
             SendFault::Refs(fault) => fmt::Display::fmt(fault, f),
             SendFault::Graph(fault) => fmt::Display::fmt(fault, f),
             SendFault::Fault(fault) => fmt::Display::fmt(fault, f),

@@ -1,7 +1,7 @@
 //! The two messages by which a clone begins: the list of a fetch, and a push.
 ghost use Rattle.std.specs.Prelude.{◌≡◌, ◌≢◌, [], ◌↔◌, nat_eq, codes, Contains, IfOk, IfErr, IsErrOf, OnOk, filter_map, length, map};
 ghost use Rattle.std.specs.List.{All, starts_with};
-ghost use Rattle.vc_answer.specs.Reached.{StandsIn};
+ghost use Rattle.vc_pack.specs.Reached.{StandsIn};
 ghost use Rattle.vc_exchange.specs.SendFault.{BlamesRefFile, IsRefusedPush, IsRefusedSend};
 ghost use Rattle.vc_exchange.specs.Sending.{AreSent, IsPushOf, IsTracked, command_for, item_ids, known_value, tracked_in};
 ghost use Rattle.vc_exchange.specs.SentPush.{DeclinesPush, SendsPush};
@@ -20,11 +20,11 @@ ghost use Rattle.vc_store.specs.Store.{objects};
 
 use crate::{PushItem, SendFault};
 use std::alloc::{AllocError, Global};
-use vc_answer::{Reached, sent_beyond};
 use vc_fetch::List;
 use vc_files::{Fault, Files};
 use vc_graph::first_incomplete;
 use vc_object::ObjectId;
+use vc_pack::{Reached, sent_beyond};
 use vc_pkt::CarriedObjects;
 use vc_push::{Command, MAX_COMMANDS, Push};
 use vc_refname::RefName;

@@ -16,12 +16,10 @@ use Rattle.vc_pkt.specs.Line.{LineText, flush, text}
 use Rattle.vc_pkt.specs.Message.{Stepped, onward, complete, going, run, GivenBy}
 use Rattle.vc_pkt.specs.declared.fault.PktFault.{PktFault}
 use Rattle.vc_pkt.specs.declared.fault.PktFault.TheVariants.{BadRecord}
+use Rattle.vc_pkt.proofs.StreamLaws.{ok_same}
 use Rattle.vc_fetch.specs.Advert.{RefIds, Ref, AdvertText, AreRefLines, SpellsAdvert, advert_of, ref_line, one_more_ref, advert_step}
 use Rattle.vc_fetch.proofs.RefLines.{ref_some, ref_again, first_ref_some, first_ref_again}
 use Rattle.vc_fetch.proofs.RefMaps.{by_bytes, total, same_name, is_eq-same}
-
-ok_same : {A : Type 0} (x y : A) → ◌≡◌ {A = Result A PktFault} (Ok x) (Ok y) → x ≡ y
-ok_same x y e = cc e
 
 abbrev ids_of : List Ref → RefIds
 ids_of refs = from_entries refs

@@ -1,9 +1,7 @@
 -- Lines with an id, as the functions that read them see them.
-use Rattle.std.proofs.Common.{◌≡◌, ℕ, ◌≤◌, Bool, true, false, cond, List, [], ◌∷◌, ◌++◌, length, take, drop, Option, Some, None, Result, Ok, Err, refl, ap, sym, ◌∙◌, arith, length-append}
-use Rattle.std.specs.Prelude.{nat_lt}
+use Rattle.std.proofs.Common.{◌≡◌, ℕ, Bool, true, false, cond, List, [], ◌∷◌, ◌++◌, Option, Some, None, Result, Ok, Err, refl, ap, ◌∙◌, arith}
 use Rattle.std.proofs.lemmas.Bool.{eq-eqb}
 use Rattle.std.proofs.lemmas.Bool.Decides.{nat_tests}
-use Rattle.std.proofs.lemmas.List.{take-append-drop, take_at, drop_at}
 use Rattle.hex.specs.Hex.{decode_sized, encode_lower}
 use Rattle.hex.specs.declared.error.FromHexError.{FromHexError}
 use Rattle.hex.proofs.HexLemmas.{decode_sized-ok, decode_sized-encode_lower}
@@ -11,7 +9,7 @@ use Rattle.vc_object.specs.Items.{◌>>=◌}
 use Rattle.vc_object.specs.Lines.{IsId, after_word, split}
 use Rattle.vc_object.specs.declared.id.ObjectId.{ObjectId}
 use Rattle.vc_object.proofs.Items.{bind_some}
-use Rattle.vc_object.proofs.LineTexts.{after_word_some, after_word_again}
+use Rattle.vc_object.proofs.LineTexts.{after_word_some, after_word_again, split_some, split_again}
 use Rattle.vc_pkt.specs.TextLine.{without_lf}
 use Rattle.vc_pkt.proofs.TextLaws.{with_lf}
 use Rattle.vc_fetch.specs.Ids.{WritesId, IsIdLine, IsTail, IsFirstIdLine, id_from, id_of, id_line, is_tail, first_id_line}
@@ -60,21 +58,6 @@ tail_again : (tail : List ℕ) → IsTail tail → is_tail tail ≡ true
 tail_again [] h = refl
 tail_again (b ∷ bs) h = eq-eqb b 32 h
 
-pub split_is : (m : ℕ) (text : List ℕ) (parts : List ℕ × List ℕ) → split m text ≡ Some parts → text ≡ parts.0 ++ parts.1
-split_is m text parts e = by (nat_lt (length text) m) e
-  where
-    by : (b : Bool) → cond b None (Some (take m text, drop m text)) ≡ Some parts → text ≡ parts.0 ++ parts.1
-    by true e = absurd (cc e)
-    by false e =
-        let p = some_same (take m text, drop m text) parts e in
-        sym (take-append-drop m text) ∙ ap (λ (q : List ℕ × List ℕ). q.0 ++ q.1) p
-
-pub split_again : (m : ℕ) (a b : List ℕ) → length a ≡ m → split m (a ++ b) ≡ Some (a, b)
-split_again m a b h =
-    let len = length-append a b in
-    let fits : nat_lt (length (a ++ b)) m ≡ false = let l : m ≤ length (a ++ b) = omega arith in grind (arith, nat_tests) in
-    ap (λ t. cond t None (Some (take m (a ++ b), drop m (a ++ b)))) fits ∙ ap (λ t. Some (t, drop m (a ++ b))) (take_at a b m h) ∙ ap (λ t. Some (a, t)) (drop_at a b m h)
-
 tail_some : (tail : List ℕ) (i id : ObjectId) (b : Bool) → is_tail tail ≡ b → cond b (Some i) None ≡ Some id → IsTail tail × (i ≡ id)
 tail_some tail i id true is e = (tail_is tail is, some_same i id e)
 tail_some tail i id false is e = absurd (cc e)
@@ -91,7 +74,7 @@ first_some word line id e =
       tail = b.0.1;
       writes = id_some b.0.0 id (c.1 ∙ ap Some d.1);
       passed = d.0;
-      spelled = after_word_some word (without_lf line) a.0 a.1 ∙ ap (λ t. word ++ t) (split_is 40 a.0 b.0 b.1);
+      spelled = after_word_some word (without_lf line) a.0 a.1 ∙ ap (λ t. word ++ t) (split_some 40 a.0 b.0 b.1);
     }
 
 pub first_again : (word line : List ℕ) (id : ObjectId) → IsFirstIdLine word id line → first_id_line word line ≡ Some id

@@ -10,11 +10,9 @@ use Rattle.vc_pkt.specs.TextLine.{without_lf}
 use Rattle.vc_pkt.specs.Message.{Stepped, onward, complete, going, run, GivenBy}
 use Rattle.vc_pkt.specs.declared.fault.PktFault.{PktFault}
 use Rattle.vc_pkt.specs.declared.fault.PktFault.TheVariants.{BadRecord}
+use Rattle.vc_pkt.proofs.StreamLaws.{ok_same}
 use Rattle.vc_fetch.specs.ListMessage.{ListText, list, SpellsList, list_step}
 use Rattle.vc_fetch.specs.ErrorMessage.{SpellsError, error_of, error_step}
-
-ok_same : {A : Type 0} (x y : A) → ◌≡◌ {A = Result A PktFault} (Ok x) (Ok y) → x ≡ y
-ok_same x y e = cc e
 
 -- ---- List
 abbrev worded_or : Bool → Result (Stepped Bool ListText) PktFault

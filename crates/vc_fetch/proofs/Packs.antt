@@ -15,10 +15,10 @@ use Rattle.vc_pkt.specs.TextLine.{without_lf}
 use Rattle.vc_pkt.specs.Message.{Stepped, onward, complete, going, run, GivenBy}
 use Rattle.vc_pkt.specs.ObjectStream.{SetState, set_step, no_objects}
 use Rattle.vc_pkt.specs.declared.fault.PktFault.{PktFault}
-use Rattle.vc_pkt.proofs.StreamLaws.{means, stream_runs}
+use Rattle.vc_pkt.proofs.StreamLaws.{means, stream_runs, ok_same}
 use Rattle.vc_fetch.specs.Ids.{id_line}
 use Rattle.vc_fetch.specs.Pack.{PackText, is_object, IsAckLine, SpellsPack, PackState, starting, streaming, ack_line, ack_stepped, with_ack, pack_step}
-use Rattle.vc_fetch.proofs.IdLines.{line_some, line_again}
+use Rattle.vc_fetch.proofs.IdLines.{some_same, line_some, line_again}
 
 -- ---- objects
 object_again : (kind : Kind) (body : List ℕ) → IsObject kind body → is_object (stored_object kind body) ≡ true
@@ -48,12 +48,6 @@ err_object kind body fits none = sym (by (is_some (decoded (object_bytes kind bo
     by false e = refl
 
 -- ---- lines
-ok_same : {A : Type 0} (x y : A) → ◌≡◌ {A = Result A PktFault} (Ok x) (Ok y) → x ≡ y
-ok_same x y e = cc e
-
-some_same : {A : Type 0} (x y : A) → ◌≡◌ {A = Option A} (Some x) (Some y) → x ≡ y
-some_same x y e = cc e
-
 abbrev with_pack : Option ObjectId → Result (List StoredObject) PktFault → Result PackText PktFault
 with_pack ack (Ok objects) = Ok (record { ack = ack; objects = objects })
 with_pack ack (Err f) = Err f

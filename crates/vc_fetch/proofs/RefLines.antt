@@ -1,7 +1,7 @@
 -- Lines of refs, as the functions that read them see them.
 use Rattle.std.proofs.Common.{◌≡◌, ℕ, ◌==◌, ◌||◌, Bool, true, false, cond, not, List, [], ◌∷◌, ◌++◌, Option, Some, None, refl, ap, ◌∙◌, subst, arith}
 use Rattle.std.specs.List.{list_any}
-use Rattle.std.proofs.lemmas.Bool.{eq-eqb}
+use Rattle.std.proofs.lemmas.Bool.{eq-eqb, or_parts}
 use Rattle.std.proofs.lemmas.Bool.Decides.{nat_tests}
 use Rattle.hex.proofs.HexLemmas.{decode_sized-ok}
 use Rattle.vc_object.specs.Bytes.{Without}
@@ -9,12 +9,12 @@ use Rattle.vc_object.specs.Items.{◌>>=◌}
 use Rattle.vc_object.specs.Lines.{after_word, split}
 use Rattle.vc_object.specs.declared.id.ObjectId.{ObjectId}
 use Rattle.vc_object.proofs.Items.{bind_some}
-use Rattle.vc_object.proofs.LineTexts.{after_word_some, after_word_again}
+use Rattle.vc_object.proofs.LineTexts.{after_word_some, after_word_again, split_some, split_again}
 use Rattle.vc_object.proofs.Texts.{ne-eqb}
 use Rattle.vc_pkt.specs.TextLine.{without_lf}
 use Rattle.vc_fetch.specs.Ids.{WritesId, id_of}
 use Rattle.vc_fetch.specs.Advert.{Ref, IsName, IsRefLine, IsCapabilities, IsFirstRefLine, is_break, is_name, before_nul, named_ref, ref_line}
-use Rattle.vc_fetch.proofs.IdLines.{some_same, id_some, id_again, split_is, split_again}
+use Rattle.vc_fetch.proofs.IdLines.{some_same, id_some, id_again}
 
 -- ---- names
 pub name_is : (name : List ℕ) → is_name name ≡ true → IsName name
@@ -47,17 +47,13 @@ nul_cut (b ∷ words) = by (b == 0) refl (nul_cut words)
     by true e r = (b ∷ words, grind (arith, nat_tests), refl)
     by false e r = (r.0, r.1, ap (λ t. b ∷ t) r.2)
 
-either_false : (a b : Bool) → (a || b) ≡ false → (a ≡ false) × (b ≡ false)
-either_false true b e = cc e
-either_false false b e = (refl, e)
-
 -- the name is found again before the capabilities
 pub name_before : (name tail : List ℕ) → list_any is_break name ≡ false → IsCapabilities tail → before_nul (name ++ tail) ≡ name
 name_before [] [] plain passed = refl
 name_before [] (b ∷ bs) plain passed = ap (λ t. cond t [] (b ∷ before_nul bs)) (eq-eqb b 0 passed)
 name_before (b ∷ name) tail plain passed =
-    let p = either_false (is_break b) (list_any is_break name) plain in
-    let q = either_false (b == 0) (b == 10 || b == 32) p.0 in
+    let p = or_parts (is_break b) (list_any is_break name) plain in
+    let q = or_parts (b == 0) (b == 10 || b == 32) p.0 in
     ap (λ t. cond t [] (b ∷ before_nul (name ++ tail))) q.0 ∙ ap (λ t. b ∷ t) (name_before name tail p.1 passed)
 
 -- ---- lines
@@ -96,7 +92,7 @@ parts_some is_first line ref e =
       writes = id_some a.0.0 ref.1 (b.1 ∙ ap (λ (r : Ref). Some r.1) d.1);
       name = subst (λ (r : Ref). IsName r.0) d.1 d.0;
       front = ap (λ (r : Ref). r.0) d.1;
-      spelled = split_is 40 (without_lf line) a.0 a.1 ∙ ap (λ t. a.0.0 ++ t) (after_word_some (32 ∷ []) a.0.1 c.0 c.1);
+      spelled = split_some 40 (without_lf line) a.0 a.1 ∙ ap (λ t. a.0.0 ++ t) (after_word_some (32 ∷ []) a.0.1 c.0 c.1);
     }
 
 parts_again : (is_first : Bool) (line : List ℕ) (ref : Ref) → Parts is_first ref line → ref_line is_first line ≡ Some ref

@@ -8,12 +8,13 @@ use Rattle.std.specs.FinMap.Entries.{put, by_order, where_key, find-where_key}
 use Rattle.std.specs.Ordering.{nat_cmp, is_eq, eq_by_cmp}
 use Rattle.std.specs.declared.cmp.Ordering.{Ordering}
 use Rattle.std.specs.declared.cmp.Ordering.TheVariants.{Less, Equal, Greater}
-use Rattle.std.specs.Cmp.{IsTotalOrder, eq_by_cmp_equiv, tied_itself}
+use Rattle.std.specs.Cmp.{Equal-is, IsTotalOrder, eq_by_cmp_equiv, tied_itself}
 use Rattle.std.specs.Cmp.Lexicographic.{slice_cmp, nat_list_cmp_total}
 use Rattle.std.specs.Map.{lookup, keys_of, KeepsOthers}
 use Rattle.std.specs.List.{AllByRecursion}
 use Rattle.std.specs.List.Sorted.{IsStrictlySortedBy}
 use Rattle.std.proofs.lemmas.Bool.{false_from_ne_true}
+use Rattle.std.proofs.lemmas.List.{nil_from_length}
 use Rattle.vc_object.specs.declared.id.ObjectId.{ObjectId}
 use Rattle.vc_pkt.specs.Message.{onward}
 use Rattle.vc_pkt.specs.declared.fault.PktFault.TheVariants.{BadRecord}
@@ -35,17 +36,12 @@ key_cmp x y = by_bytes x.items y.items
 pub total : IsTotalOrder by_bytes
 total = nat_list_cmp_total
 
-equal : (o : Ordering) → is_eq o ≡ true → o ≡ Equal
-equal Less e = cc e
-equal Equal e = refl
-equal Greater e = cc e
-
 pub tied_same : (a b : List ℕ) → by_bytes a b ≡ Equal → a ≡ b
 tied_same a b e = slice_cmp-IsAntisymmetric nat_cmp-IsAntisymmetric a b e
 
 -- two names that compare equal are the same
 pub same_name : (a b : List ℕ) → is_eq (by_bytes a b) ≡ true → a ≡ b
-same_name a b e = tied_same a b (equal _ e)
+same_name a b e = tied_same a b ((Equal-is _).0 e)
 
 pub is_eq-same : (a : List ℕ) → is_eq (by_bytes a a) ≡ true
 is_eq-same a = ap is_eq (tied_itself nat_list_cmp_total a)
@@ -106,12 +102,8 @@ first_in : (k : List ℕ) (v : ObjectId) (es : Entries) → AllByRecursion (λ s
 first_in k v [] below = refl
 first_in k v (e ∷ es) below = ap (λ r. by_order r ((k, v) ∷ (e.0.items, e.1) ∷ seen es) ((e.0.items, v) ∷ seen es) ((e.0.items, e.1) ∷ put by_bytes k v (seen es))) below.0
 
-no_entries : {A : Type 0} (es : List A) → length es ≡ 0 → es ≡ []
-no_entries [] e = refl
-no_entries (x ∷ es) e = absurd (omega arith)
-
 pub entries-empty : entries (empty {X = ObjectId} {R = slice_cmp nat_cmp}) ≡ []
-entries-empty = no_entries _ (sym (len-entries (empty {X = ObjectId} {R = slice_cmp nat_cmp})) ∙ len-empty (slice_cmp nat_cmp) ObjectId)
+entries-empty = nil_from_length _ (sym (len-entries (empty {X = ObjectId} {R = slice_cmp nat_cmp})) ∙ len-empty (slice_cmp nat_cmp) ObjectId)
 
 entries_kept : (es : Entries) → IsStrictlySortedBy key_cmp (keys_of es) → entries (from_entries {R = slice_cmp nat_cmp} (seen es)) ≡ seen es
 unfolding IsStrictlySortedBy

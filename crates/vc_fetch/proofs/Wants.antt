@@ -11,12 +11,10 @@ use Rattle.vc_pkt.specs.TextLine.{without_lf}
 use Rattle.vc_pkt.specs.Message.{Stepped, onward, complete, going, run, GivenBy}
 use Rattle.vc_pkt.specs.declared.fault.PktFault.{PktFault}
 use Rattle.vc_pkt.specs.declared.fault.PktFault.TheVariants.{TooMany}
+use Rattle.vc_pkt.proofs.StreamLaws.{ok_same}
 use Rattle.vc_fetch.specs.Ids.{IsIdLine, id_line, first_id_line}
 use Rattle.vc_fetch.specs.Want.{WantText, AreIdLines, SpellsWant, WantState, wanting, having, one_more, want_step}
 use Rattle.vc_fetch.proofs.IdLines.{line_some, line_again, first_some, first_again}
-
-ok_same : {A : Type 0} (x y : A) → ◌≡◌ {A = Result A PktFault} (Ok x) (Ok y) → x ≡ y
-ok_same x y e = cc e
 
 abbrev Step : Type 0
 Step = Result (Stepped WantState WantText) PktFault

@@ -3,3 +3,4 @@ pub mod FailingOnce
 pub mod FileMap
 pub mod Fused
 pub mod Memory
+pub mod Path

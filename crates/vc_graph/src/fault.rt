@@ -8,6 +8,9 @@ use vc_files::Fault;
 use vc_object::ObjectId;
 use vc_store::StoreFault;
 
+/// What is printed where a name that is reached is absent.
+pub const MISSING: &str = "40 Missing";
+
 /// Why a question about a graph has no answer.
 #[derive(Clone, Copy, Debug)]
 pub enum GraphFault {
@@ -20,7 +23,7 @@ pub enum GraphFault {
 impl fmt::Display for GraphFault {
     fn fmt<W: fmt::Write>(&self, f: &mut fmt::Formatter<W>) -> fmt::Result {
         match self {
-            GraphFault::Missing(_) => f.write_str("40 Missing"),
+            GraphFault::Missing(_) => f.write_str(MISSING),
             GraphFault::Store(fault) => fmt::Display::fmt(fault, f),
         }
     }

@@ -11,7 +11,7 @@ mod source;
 mod store;
 mod walk;
 
-pub use fault::GraphFault;
+pub use fault::{GraphFault, MISSING};
 pub use incomplete::first_incomplete;
 pub use known::{add_names, is_complete_beyond, learn_links};
 pub use names::{sorted_difference, sorted_from};

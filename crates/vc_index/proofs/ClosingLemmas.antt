@@ -11,7 +11,7 @@ use Rattle.std.specs.List.{AllByRecursion, starts_with}
 use Rattle.std.specs.Prelude.{nat_eq}
 use Rattle.std.proofs.lemmas.Slice.Eq.{starts_is}
 use Rattle.std.proofs.lemmas.Bool.Decides.{Decides-eqb}
-use Rattle.std.proofs.lemmas.List.{take-append-drop, take_at, length-take-le}
+use Rattle.std.proofs.lemmas.List.{take-append-drop, take_at, length-take-le, same_from_push}
 use Rattle.vc_object.specs.Bytes.{Without}
 use Rattle.vc_object.specs.Decoding.{StoredObject, stored_object}
 use Rattle.vc_object.specs.Object.{object_name}
@@ -21,6 +21,8 @@ use Rattle.vc_object.specs.declared.id.ObjectId.{ObjectId}
 use Rattle.vc_object.specs.declared.kind.Kind.TheVariants as kinds
 use Rattle.vc_object.specs.declared.mode.Mode.{Mode}
 use Rattle.vc_object.specs.declared.mode.Mode.TheVariants as modes
+use Rattle.vc_object.proofs.IdLemmas.{IsId-from_is_id}
+use Rattle.vc_object.proofs.Order.{All-map}
 use Rattle.vc_store.specs.Store.{IsDamaged, with_object, with_objects}
 use Rattle.vc_store.specs.StoreFault.{IsOfDamage}
 use Rattle.vc_files.specs.FileMap.{FileMap}
@@ -43,14 +45,7 @@ use Rattle.vc_index.proofs.FileLemmas.{opened, closed}
 use Rattle.vc_index.proofs.FolderLemmas.{joined_push, joined_entries}
 use Rattle.vc_index.proofs.MapLemmas.{same_text}
 use Rattle.vc_index.proofs.PlaceLemmas.{file_place, front_places, files_order}
-use Rattle.vc_index.proofs.PartLemmas.{by_last, last_get, got_last, folder_begins, nested_push, nested_last, holds_parts, run_tree, placed_run, all_parts, all_join, all_map, all_over, map_join, begins_trans, tree, run_of_folder, of_one_folder, below_new, building_new}
-use Rattle.vc_index.proofs.TextLemmas.{id_of_test}
-
--- the last elements of one list
-pub push_same : {X : Type 0} (xs ys : List X) (x y : X) → xs ++ x ∷ [] ≡ ys ++ y ∷ [] → x ≡ y
-push_same xs ys x y e =
-    let same : Some x ≡ Some y = sym (last_get xs x) ∙ ap (λ (l : List _). slice_get l (length l - 1)) e ∙ last_get ys y in
-    cc same
+use Rattle.vc_index.proofs.PartLemmas.{by_last, last_get, got_last, folder_begins, nested_push, nested_last, holds_parts, run_tree, placed_run, all_parts, all_join, all_over, map_join, begins_trans, tree, run_of_folder, of_one_folder, below_new, building_new}
 
 pub open_length-push : (parts : List Part) (part : Part) → open_length (parts ++ part ∷ []) ≡ length part.folder.now
 open_length-push parts part = ap (λ (o : Option Part). option_map_or (λ (p : Part). length p.folder.now) o 0) (last_get parts part)
@@ -108,7 +103,7 @@ module _ (files : IndexMap) (trees : List (List Entry)) (rest : List Pair) (part
         let all : take start parts ≡ last.0 ++ last.1 ∷ [] = sym (append-nil (take start parts)) ∙ ap (λ r. take start parts ++ r) (sym none) ∙ take-append-drop start parts ∙ last.2 in
         absurd (above last.0 last.1 all (ap length last.3)))
         (λ l.
-        let same : l.1 ≡ last.1 = push_same (take start parts ++ l.0) last.0 l.1 last.1 (append_assoc (take start parts) l.0 (l.1 ∷ []) ∙ ap (λ r. take start parts ++ r) (sym l.2) ∙ take-append-drop start parts ∙ last.2) in
+        let same : l.1 ≡ last.1 = (same_from_push (take start parts ++ l.0) last.0 l.1 last.1 (append_assoc (take start parts) l.0 (l.1 ∷ []) ∙ ap (λ r. take start parts ++ r) (sym l.2) ∙ take-append-drop start parts ∙ last.2)).1 in
         (l.0, l.2 ∙ ap (λ x. l.0 ++ x ∷ []) same))
         (by_last (drop start parts))
 
@@ -181,7 +176,7 @@ pushed files trees front parts new path entry more sound at b inside is plain en
       names = subst (λ (p : List ℕ). AllByRecursion IsName (names_in p)) is file.legal.names;
       plain = plain;
       ends = ends;
-      id = subst (λ (e : IndexEntry). length e.id.0 ≡ 20) (sym same) (id_of_test entry.id file.id).sized;
+      id = subst (λ (e : IndexEntry). length e.id.0 ≡ 20) (sym same) (IsId-from_is_id entry.id file.id).sized;
       of_folder = inl of_new;
       leads = inr (subst (λ (e : IndexEntry). (e.mode ≢ modes.Tree) × ((p : List ℕ) × (get files p ≡ Some (index_entry e.mode e.id)))) (sym same) (file.mode, (path, there)));
     },
@@ -195,7 +190,7 @@ pushed files trees front parts new path entry more sound at b inside is plain en
       let first : Begins l.1.folder.now new.folder.now = folder_begins l.1.folder.now into.0 new.folder.now new.name.now last_ends (sym into.1 ∙ is) plain in
       subst (AllByRecursion (λ (g : Part). Begins g.folder.now new.folder.now)) (sym l.2)
       (all_join (λ (g : Part). Begins g.folder.now new.folder.now) l.0 (l.1 ∷ [])
-      (all_map (λ g. Begins g.folder.now l.1.folder.now) (λ g. Begins g.folder.now new.folder.now) l.0 (λ g h. begins_trans g.folder.now l.1.folder.now new.folder.now h first) (nested_last l.0 l.1 (subst Nested l.2 b.nested)))
+      (All-map (λ g. Begins g.folder.now l.1.folder.now) (λ g. Begins g.folder.now new.folder.now) l.0 (λ g h. begins_trans g.folder.now l.1.folder.now new.folder.now h first) (nested_last l.0 l.1 (subst Nested l.2 b.nested)))
       (first, tt)))
       (by_last parts));
   order = subst InPlaces (sym regrouped) b.order;
@@ -266,7 +261,7 @@ root_folders parts nested inside = ⊎_elim
     let top : l.1.folder.now ≡ [] = nothing_begins l.1.folder.now [] (inside l.0 l.1 l.2) refl in
     subst (AllByRecursion (λ (g : Part). g.folder.now ≡ [])) (sym l.2)
     (all_join (λ (g : Part). g.folder.now ≡ []) l.0 (l.1 ∷ [])
-    (all_map (λ g. Begins g.folder.now l.1.folder.now) (λ g. g.folder.now ≡ []) l.0 (λ g h. nothing_begins g.folder.now l.1.folder.now h top) (nested_last l.0 l.1 (subst Nested l.2 nested)))
+    (All-map (λ g. Begins g.folder.now l.1.folder.now) (λ g. g.folder.now ≡ []) l.0 (λ g h. nothing_begins g.folder.now l.1.folder.now h top) (nested_last l.0 l.1 (subst Nested l.2 nested)))
     (top, tt)))
     (by_last parts)
   where
@@ -279,7 +274,7 @@ module _ (files : IndexMap) (lower : List (List Entry)) (parts : List Part) (b :
   root_tree = run_tree files lower [] parts b.each (root_folders parts b.nested inside) (front_places (map part_pair parts) [] b.order)
 
   root_parts : AllByRecursion (IsPart files lower) (map part_entry parts)
-  root_parts = all_over part_entry (IsPart files lower) parts (all_map (IsSoundPart files lower) (λ g. IsPart files lower (part_entry g)) parts (λ g s. s.leads) b.each)
+  root_parts = all_over part_entry (IsPart files lower) parts (All-map (IsSoundPart files lower) (λ g. IsPart files lower (part_entry g)) parts (λ g s. s.leads) b.each)
 
   pub root_each : AllByRecursion (IsOfFolder files []) (map part_entry parts)
   root_each = of_one_folder files lower [] parts b.each (root_folders parts b.nested inside)

@@ -5,7 +5,7 @@ use Rattle.std.specs.List.{AllByRecursion, starts_with}
 use Rattle.std.specs.Int.{to_be_bytes, bytes_high_first, w32}
 use Rattle.std.specs.FinMap.{entries}
 use Rattle.std.proofs.lemmas.Bool.Decides.{Decides-eqb}
-use Rattle.std.proofs.lemmas.List.{take_at, drop_at}
+use Rattle.std.proofs.lemmas.List.{take_at, drop_at, same_from_push}
 use Rattle.sha1.specs.Sha1.{sha1, digest_bytes}
 use Rattle.vc_object.specs.Bytes.{Without}
 use Rattle.vc_object.specs.Object.{object_name, object_bytes}
@@ -19,7 +19,7 @@ use Rattle.vc_index.specs.IndexMap.{IndexMap, IsIndex, index_entry}
 use Rattle.vc_index.specs.Part.{EndsInSlash, part_entry}
 use Rattle.vc_index.specs.declared.entry.IndexEntry.{IndexEntry}
 use Rattle.vc_index.specs.declared.trees.Part.{Part}
-use Rattle.vc_index.proofs.ClosingLemmas.{push_same, open_length-push, closing, closing_shorter, pushed, building_starts, root_listed, inside_last, left_of, not_begun, next_is}
+use Rattle.vc_index.proofs.ClosingLemmas.{open_length-push, closing, closing_shorter, pushed, building_starts, root_listed, inside_last, left_of, not_begun, next_is}
 use Rattle.vc_index.proofs.PartLemmas.{by_last, last_get}
 
 -- ---- a name of an object has twenty bytes
@@ -106,7 +106,7 @@ run_of (p ∷ parts) n = more (run_of parts n)
         run = run;
         is = ap (λ (l : List Part). p ∷ l) is;
         inside = inside;
-        above = λ fs g e. subst (λ (h : Part). length h.folder.now ≢ n) (push_same [] fs p g e) (λ k. no_test (sym other ∙ (Decides-eqb (length p.folder.now) n).1 k));
+        above = λ fs g e. subst (λ (h : Part). length h.folder.now ≢ n) (same_from_push [] fs p g e).1 (λ k. no_test (sym other ∙ (Decides-eqb (length p.folder.now) n).1 k));
       }
     ] refl
       where

@@ -10,7 +10,7 @@ use Rattle.vc_object.specs.Bytes.{Without}
 use Rattle.vc_object.specs.Tree.{Entry, IsEntry, HasName, tail}
 use Rattle.vc_object.specs.declared.id.ObjectId.{ObjectId}
 use Rattle.vc_object.specs.declared.mode.Mode.TheVariants as modes
-use Rattle.vc_object.proofs.Texts.{agreeing}
+use Rattle.vc_object.proofs.Texts.{agreeing, no_cut}
 use Rattle.vc_index.specs.Building.{Begins, place, ComesFirst, HasOver}
 use Rattle.vc_index.specs.FolderTrees.{IsFirstName}
 use Rattle.vc_index.specs.HeldFiles.{Pair, placed}
@@ -24,10 +24,6 @@ abbrev IsOver : Pair → List ℕ → Type 0
 IsOver e path = (e.0 ≡ path) ⊎ IsAbove e.0 path
 
 -- ---- texts
-pub no_byte : (a b : List ℕ) → Without 47 (a ++ 47 ∷ b) → ⊥
-no_byte [] b w = w.0 refl
-no_byte (x ∷ a) b w = no_byte a b w.1
-
 pub same_back : (f a b : List ℕ) → f ++ a ≡ f ++ b → a ≡ b
 same_back [] a b e = e
 same_back (x ∷ f) a b e = let t : f ++ a ≡ f ++ b = cc e in same_back f a b t
@@ -41,7 +37,7 @@ same_front a b x y plain also e = ⊎_elim
   where
     cut : (f t z u v : List ℕ) → Without 47 f → Without 47 t → t ≡ f ++ z → 47 ∷ u ≡ z ++ 47 ∷ v → t ≡ f
     cut f t [] u v p q is rest = is ∙ append-nil f
-    cut f t (c ∷ z) u v p q is rest = let slash : 47 ≡ c = cc rest in absurd (no_byte f z (subst (Without 47) (is ∙ ap (λ s. f ++ s ∷ z) (sym slash)) q))
+    cut f t (c ∷ z) u v p q is rest = let slash : 47 ≡ c = cc rest in absurd (no_cut 47 _ f z q (is ∙ ap (λ s. f ++ s ∷ z) (sym slash)))
 
 -- ---- lists
 pub over_front : (xs ys : List Pair) (path : List ℕ) → HasOver xs path → HasOver (xs ++ ys) path
@@ -131,12 +127,12 @@ over_named folder path name (e ∷ es) legal first h = ⊎_elim
     let is : e.name ≡ path = same_back folder e.name path same in
     ⊎_elim
     (λ whole. is ∙ whole)
-    (λ above. absurd (no_byte name above.0 (subst (Without 47) (is ∙ above.1) legal.0.name.no_slash)))
+    (λ above. absurd (no_cut 47 _ name above.0 legal.0.name.no_slash (is ∙ above.1)))
     first.1)
     (λ above.
     let is : path ≡ e.name ++ 47 ∷ above.0 = same_back folder path (e.name ++ 47 ∷ above.0) (above.1 ∙ append_assoc folder e.name (47 ∷ above.0)) in
     ⊎_elim
-    (λ whole. absurd (no_byte e.name above.0 (subst (Without 47) (sym whole ∙ is) first.0)))
+    (λ whole. absurd (no_cut 47 _ e.name above.0 first.0 (sym whole ∙ is)))
     (λ other. same_front e.name name above.0 other.0 legal.0.name.no_slash first.0 (sym is ∙ other.1))
     first.1)
     over))

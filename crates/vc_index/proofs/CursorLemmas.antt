@@ -9,11 +9,12 @@ use Rattle.std.specs.Ordering.{nat_cmp, is_eq, is_gt, ordering_reverse}
 use Rattle.std.specs.declared.cmp.Ordering.TheVariants.{Less, Equal, Greater}
 use Rattle.std.specs.Cmp.{tied_itself}
 use Rattle.std.specs.Cmp.Lexicographic.{slice_cmp, nat_list_cmp_total}
+use Rattle.vc_object.proofs.Order.{All-map, All-push}
 use Rattle.vc_index.specs.Cursor.{IsCursor, ahead}
 use Rattle.vc_index.specs.IndexMap.{IndexMap}
 use Rattle.vc_index.specs.Reading.{pairs}
 use Rattle.vc_index.specs.declared.entry.IndexEntry.{IndexEntry}
-use Rattle.vc_index.proofs.EntriesLemmas.{AllBefore, All_last, All_weaker, both_parts, find_all, get_all, get_mid, le_less, less_of, mid_before}
+use Rattle.vc_index.proofs.EntriesLemmas.{AllBefore, both_parts, find_all, get_all, get_mid, le_less, less_of, mid_before}
 use Rattle.vc_index.proofs.MapLemmas.{same_text}
 use denote.Ref.{Bor}
 
@@ -40,7 +41,7 @@ find_past q (e ∷ es) hs before =
 
 module _ (m : IndexMap) (last path : List ℕ) (rest : List (Vec ℕ Global × IndexEntry)) (less : slice_cmp nat_cmp last path ≡ Less) where
   passed_before : (here : Option (Bor (Vec ℕ Global) × Bor IndexEntry)) (at : IsCursor m last here rest) → AllBefore path at.passed
-  passed_before here at = All_weaker _ _ (λ e le. le_less e.0 last path le less) at.passed at.below
+  passed_before here at = All-map _ _ at.passed (λ e le. le_less e.0 last path le less) at.below
 
   -- behind all
   pub cursor_end : (here : Option (Bor (Vec ℕ Global) × Bor IndexEntry)) → here ≡ None → IsCursor m last here rest → None ≡ get m path
@@ -71,8 +72,8 @@ module _ (m : IndexMap) (last path : List ℕ) (rest : List (Vec ℕ Global × I
 
     passed_on : AllByRecursion (λ (e : List ℕ × IndexEntry). is_gt (slice_cmp nat_cmp e.0 key.now.items) ≡ false) (at.passed ++ (key.now.items, entry.now) ∷ [])
     passed_on =
-        All_last _ at.passed (key.now.items, entry.now)
-        (All_weaker _ _ (λ e before. ap is_gt before) at.passed (mid_before m at.passed (pairs rest) key.now.items entry.now whole))
+        All-push _ at.passed (key.now.items, entry.now)
+        (All-map _ _ at.passed (λ e before. ap is_gt before) (mid_before m at.passed (pairs rest) key.now.items entry.now whole))
         (ap is_gt (tied_itself nat_list_cmp_total key.now.items))
 
     pub cursor_on : (next : Option (Bor (Vec ℕ Global) × Bor IndexEntry)) (others : List (Vec ℕ Global × IndexEntry)) → MatchOption next ((rest ≡ []) × (others ≡ [])) (λ x. rest ≡ (x.0.now, x.1.now) ∷ others) → IsCursor m key.now.items next others

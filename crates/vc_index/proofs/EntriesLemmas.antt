@@ -51,14 +51,6 @@ le_less a b c le less =
       | Greater ↦ λ e no. absurd (cc no)
     ] refl le
 
-pub All_weaker : {X : Type 0} (P Q : X → Type 0) → ((x : X) → P x → Q x) → (xs : List X) → AllByRecursion P xs → AllByRecursion Q xs
-All_weaker P Q f [] all = tt
-All_weaker P Q f (x ∷ xs) all = (f x all.0, All_weaker P Q f xs all.1)
-
-pub All_last : {X : Type 0} (P : X → Type 0) (xs : List X) (x : X) → AllByRecursion P xs → P x → AllByRecursion P (xs ++ x ∷ [])
-All_last P [] x all p = (p, tt)
-All_last P (y ∷ xs) x all p = (all.0, All_last P xs x all.1 p)
-
 -- ---- lists in order
 pub both_parts : (a b : Bool) → T (a && b) → T a × T b
 both_parts true b h = (tt, h)

@@ -16,9 +16,10 @@ use Rattle.vc_index.specs.HeldFiles.{Pair, under, Has, HasFile, placed}
 use Rattle.vc_index.specs.IndexMap.{index_entry}
 use Rattle.vc_index.specs.TreeFiles.{IsTreeAt, HasEntry, LeadsTo, IsFileOfTree}
 
-plain : (es : List Entry) (m : Mode) (name : List ℕ) (i : ObjectId) → AllByRecursion IsEntry es → HasEntry es m name i → IsName name
-plain [] m name i a h = absurd h
-plain (e ∷ es) m name i a h = ⊎_elim (λ here. subst IsName here.1 a.0.name) (λ there. plain es m name i a.1 there) h
+-- an entry of a tree has a good name
+pub name_of_entry : (es : List Entry) (m : Mode) (name : List ℕ) (i : ObjectId) → AllByRecursion IsEntry es → HasEntry es m name i → IsName name
+name_of_entry [] m name i a h = absurd h
+name_of_entry (e ∷ es) m name i a h = ⊎_elim (λ here. subst IsName here.1 a.0.name) (λ there. name_of_entry es m name i a.1 there) h
 
 absent : (e : Entry) (es : List Entry) (m : Mode) (i : ObjectId) → AllByRecursion (λ o. ComesBefore e o) es → HasEntry es m e.name i → ⊥
 absent e [] m i a h = h
@@ -54,10 +55,10 @@ one_end : (objects : ObjectMap) (es : List Entry) (a b : List (List ℕ)) (m n :
 one_end objects es [] b m n i j t p q e = absurd p
 one_end objects es (x ∷ a) [] m n i j t p q e = absurd q
 one_end objects es (x ∷ []) (y ∷ []) m n i j t p q e = one_entry es m n y i j t.order (subst (λ (s : List ℕ). HasEntry es m s i) e p.0) q.0
-one_end objects es (x ∷ []) (y ∷ z ∷ b) m n i j t p q e = absurd (no_cut 47 x y _ (plain es m x i t.legal p.0).no_slash e)
-one_end objects es (x ∷ u ∷ a) (y ∷ []) m n i j t p q e = absurd (no_cut 47 y x _ (plain es n y j t.legal q.0).no_slash (sym e))
+one_end objects es (x ∷ []) (y ∷ z ∷ b) m n i j t p q e = absurd (no_cut 47 x y _ (name_of_entry es m x i t.legal p.0).no_slash e)
+one_end objects es (x ∷ u ∷ a) (y ∷ []) m n i j t p q e = absurd (no_cut 47 y x _ (name_of_entry es n y j t.legal q.0).no_slash (sym e))
 one_end objects es (x ∷ u ∷ a) (y ∷ z ∷ b) m n i j t p q e =
-    let c = cut_once 47 x y (join_with_byte 47 (u ∷ a)) (join_with_byte 47 (z ∷ b)) (plain es modes.Tree x p.0 t.legal p.2).no_slash (plain es modes.Tree y q.0 t.legal q.2).no_slash e in
+    let c = cut_once 47 x y (join_with_byte 47 (u ∷ a)) (join_with_byte 47 (z ∷ b)) (name_of_entry es modes.Tree x p.0 t.legal p.2).no_slash (name_of_entry es modes.Tree y q.0 t.legal q.2).no_slash e in
     let folder = one_entry es modes.Tree modes.Tree y p.0 q.0 t.order (subst (λ (s : List ℕ). HasEntry es modes.Tree s p.0) c.0 p.2) q.2 in
     let other : IsTreeAt objects q.0 p.1 = subst (λ (d : ObjectId). IsTreeAt objects d p.1) folder.1 p.3 in
     let same = one_tree objects q.0 q.1 p.1 q.3 other in
@@ -73,14 +74,14 @@ one_file objects root path m n i j a b =
 no_end : (objects : ObjectMap) (es : List Entry) (a b : List (List ℕ)) (m n : Mode) (i j : ObjectId) (rest : List ℕ) → IsTree es → LeadsTo objects es a m i → LeadsTo objects es b n j → join_with_byte 47 b ≡ join_with_byte 47 a ++ 47 ∷ rest → ⊥
 no_end objects es [] b m n i j rest t p q e = p
 no_end objects es (x ∷ a) [] m n i j rest t p q e = q
-no_end objects es (x ∷ []) (y ∷ []) m n i j rest t p q e = no_cut 47 y x rest (plain es n y j t.legal q.0).no_slash e
+no_end objects es (x ∷ []) (y ∷ []) m n i j rest t p q e = no_cut 47 y x rest (name_of_entry es n y j t.legal q.0).no_slash e
 no_end objects es (x ∷ []) (y ∷ z ∷ b) m n i j rest t p q e =
-    let c = cut_once 47 y x (join_with_byte 47 (z ∷ b)) rest (plain es modes.Tree y q.0 t.legal q.2).no_slash (plain es m x i t.legal p.0).no_slash e in
+    let c = cut_once 47 y x (join_with_byte 47 (z ∷ b)) rest (name_of_entry es modes.Tree y q.0 t.legal q.2).no_slash (name_of_entry es m x i t.legal p.0).no_slash e in
     let both = one_entry es m modes.Tree x i q.0 t.order p.0 (subst (λ (s : List ℕ). HasEntry es modes.Tree s q.0) c.0 q.2) in
     p.1 both.0
-no_end objects es (x ∷ u ∷ a) (y ∷ []) m n i j rest t p q e = no_cut 47 y x _ (plain es n y j t.legal q.0).no_slash (e ∙ append_assoc x (47 ∷ join_with_byte 47 (u ∷ a)) (47 ∷ rest))
+no_end objects es (x ∷ u ∷ a) (y ∷ []) m n i j rest t p q e = no_cut 47 y x _ (name_of_entry es n y j t.legal q.0).no_slash (e ∙ append_assoc x (47 ∷ join_with_byte 47 (u ∷ a)) (47 ∷ rest))
 no_end objects es (x ∷ u ∷ a) (y ∷ z ∷ b) m n i j rest t p q e =
-    let c = cut_once 47 y x (join_with_byte 47 (z ∷ b)) (join_with_byte 47 (u ∷ a) ++ 47 ∷ rest) (plain es modes.Tree y q.0 t.legal q.2).no_slash (plain es modes.Tree x p.0 t.legal p.2).no_slash (e ∙ append_assoc x (47 ∷ join_with_byte 47 (u ∷ a)) (47 ∷ rest)) in
+    let c = cut_once 47 y x (join_with_byte 47 (z ∷ b)) (join_with_byte 47 (u ∷ a) ++ 47 ∷ rest) (name_of_entry es modes.Tree y q.0 t.legal q.2).no_slash (name_of_entry es modes.Tree x p.0 t.legal p.2).no_slash (e ∙ append_assoc x (47 ∷ join_with_byte 47 (u ∷ a)) (47 ∷ rest)) in
     let folder = one_entry es modes.Tree modes.Tree x p.0 q.0 t.order p.2 (subst (λ (s : List ℕ). HasEntry es modes.Tree s q.0) c.0 q.2) in
     let other : IsTreeAt objects q.0 p.1 = subst (λ (d : ObjectId). IsTreeAt objects d p.1) folder.1 p.3 in
     let same = one_tree objects q.0 q.1 p.1 q.3 other in
@@ -141,7 +142,7 @@ module _ (objects : ObjectMap) (path : List ℕ) (mode : Mode) (id : ObjectId) w
               refl,
               (
                 join_with_byte 47 (next ∷ names),
-                e ∙ sym (append_assoc (under top) (name ++ 47 ∷ []) _ ∙ ap (λ t. under top ++ t) (append_assoc name (47 ∷ []) _)) ∙ ap (λ t. t ++ join_with_byte 47 (next ∷ names)) (sym (under_name (under top) name (plain es modes.Tree name l.0 at.tree.legal l.2).some)),
+                e ∙ sym (append_assoc (under top) (name ++ 47 ∷ []) _ ∙ ap (λ t. under top ++ t) (append_assoc name (47 ∷ []) _)) ∙ ap (λ t. t ++ join_with_byte 47 (next ∷ names)) (sym (under_name (under top) name (name_of_entry es modes.Tree name l.0 at.tree.legal l.2).some)),
                 record { entries = l.1; names = next ∷ names; at = l.3; is = refl; leads = l.4 },
               ),
             ))
@@ -173,7 +174,7 @@ module _ (objects : ObjectMap) (path : List ℕ) (mode : Mode) (id : ObjectId) w
           refl,
           (
             e.name ++ 47 ∷ q,
-            is ∙ ap (λ t. t ++ q) (under_name (under top) e.name (plain es modes.Tree e.name e.id at.tree.legal has).some) ∙ append_assoc (under top) (e.name ++ 47 ∷ []) q ∙ ap (λ t. under top ++ t) (append_assoc e.name (47 ∷ []) q),
+            is ∙ ap (λ t. t ++ q) (under_name (under top) e.name (name_of_entry es modes.Tree e.name e.id at.tree.legal has).some) ∙ append_assoc (under top) (e.name ++ 47 ∷ []) q ∙ ap (λ t. under top ++ t) (append_assoc e.name (47 ∷ []) q),
             record { entries = es; names = e.name ∷ name ∷ names; at = at; is = ap (λ t. e.name ++ 47 ∷ t) same; leads = (e.id, inner, has, there, l) },
           ),
         )

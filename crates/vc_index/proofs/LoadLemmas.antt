@@ -4,7 +4,7 @@ use Rattle.std.specs.List.{AllByRecursion, join_with_byte}
 use Rattle.std.specs.FinMap.{get, insert, empty, get-empty}
 use Rattle.std.specs.Ordering.{nat_cmp}
 use Rattle.std.specs.Cmp.Lexicographic.{slice_cmp}
-use Rattle.std.proofs.lemmas.List.{reverse-append}
+use Rattle.std.proofs.lemmas.List.{reverse-append, map-append, length-map}
 use Rattle.vc_object.specs.Decoding.{stored_object}
 use Rattle.vc_object.specs.Object.{object_bytes, IsBody, IsObject}
 use Rattle.vc_object.specs.ObjectMap.{ObjectMap}
@@ -33,9 +33,9 @@ use Rattle.vc_index.specs.declared.loading.Look.TheVariants as looks
 use Rattle.vc_index.specs.Path.{names_in, IsPath}
 use Rattle.vc_index.specs.TreeFiles.{IsTreeAt, HasEntry, IsFileOfTree}
 use Rattle.vc_index.specs.declared.entry.IndexEntry.{IndexEntry}
-use Rattle.vc_index.proofs.FileLemmas.{one_file, no_file_below, has_front, has_back, has_parts, opened, closed}
+use Rattle.vc_index.proofs.FileLemmas.{one_file, no_file_below, has_front, has_back, has_parts, opened, closed, name_of_entry}
 use Rattle.vc_index.proofs.MapLemmas.{got, get-insert_same}
-use Rattle.vc_index.proofs.PartLemmas.{names_plain, names_parted}
+use Rattle.vc_index.proofs.PartLemmas.{names_plain, names_parted, all_parts, all_join}
 use Rattle.std.proofs.Math.Nat.{mul-le-mul_right, suc-mul}
 use Rattle.std.specs.Prelude.{is_some}
 
@@ -50,13 +50,9 @@ join_more : (x : List ℕ) (names : List (List ℕ)) (name : List ℕ) → join_
 join_more x [] name = refl
 join_more x (y ∷ names) name = ap (λ t. x ++ 47 ∷ t) (join_more y names name) ∙ sym (append_assoc x (47 ∷ join_with_byte 47 (y ∷ names)) (47 ∷ name))
 
-entry_name : (es : List Entry) (m : Mode) (name : List ℕ) (i : ObjectId) → AllByRecursion IsEntry es → HasEntry es m name i → IsName name
-entry_name [] m name i a h = absurd h
-entry_name (e ∷ es) m name i a h = ⊎_elim (λ here. subst IsName here.1 a.0.name) (λ there. entry_name es m name i a.1 there) h
-
 first_name : (objects : ObjectMap) (es : List Entry) (x : List ℕ) (names : List (List ℕ)) (mode : Mode) (id : ObjectId) → IsTree es → ReachesEntry objects es (x ∷ names) mode id → IsName x
-first_name objects es x [] mode id t r = entry_name es mode x id t.legal r
-first_name objects es x (y ∷ names) mode id t r = entry_name es modes.Tree x r.0 t.legal r.2
+first_name objects es x [] mode id t r = name_of_entry es mode x id t.legal r
+first_name objects es x (y ∷ names) mode id t r = name_of_entry es modes.Tree x r.0 t.legal r.2
 
 under_join : (x : List ℕ) (names : List (List ℕ)) → x ≢ [] → under (join_with_byte 47 (x ∷ names)) ≡ join_with_byte 47 (x ∷ names) ++ 47 ∷ []
 under_join [] names some = absurd (some refl)
@@ -98,17 +94,9 @@ module _ (objects : ObjectMap) (path : List ℕ) (mode : Mode) (id : ObjectId) w
       (λ x. ⊎_elim (λ y. inl y) (λ y. absurd y) x)
       (has_parts objects path mode id (reverse es) (e ∷ []) (subst (λ (l : List Pair). HasFile objects l path mode id) (reverse-cons e es) h))
 
-pub all_push : {X : Type 0} (P : X → Type 0) (xs ys : List X) → AllByRecursion P xs → AllByRecursion P ys → AllByRecursion P (xs ++ ys)
-all_push P [] ys a b = b
-all_push P (x ∷ xs) ys a b = (a.0, all_push P xs ys a.1 b)
-
 pub all_reverse : {X : Type 0} (P : X → Type 0) (xs : List X) → AllByRecursion P xs → AllByRecursion P (reverse xs)
 all_reverse P [] a = tt
-all_reverse P (x ∷ xs) a = subst (AllByRecursion P) (sym (reverse-cons x xs)) (all_push P (reverse xs) (x ∷ []) (all_reverse P xs a.1) (a.0, tt))
-
-pub all_front : {X : Type 0} (P : X → Type 0) (xs ys : List X) → AllByRecursion P (xs ++ ys) → AllByRecursion P xs × AllByRecursion P ys
-all_front P [] ys a = (tt, a)
-all_front P (x ∷ xs) ys a = let r = all_front P xs ys a.1 in ((a.0, r.0), r.1)
+all_reverse P (x ∷ xs) a = subst (AllByRecursion P) (sym (reverse-cons x xs)) (all_join P (reverse xs) (x ∷ []) (all_reverse P xs a.1) (a.0, tt))
 
 -- ---- what has been read so far
 pub record Loading (objects : ObjectMap) (root : ObjectId) (items : List Pair) (m : IndexMap) : Type 0 where
@@ -138,7 +126,7 @@ load_start objects root = record {
 
 module _ (objects : ObjectMap) (root : ObjectId) (items : List Pair) (path : List ℕ) (entry : IndexEntry) (m : IndexMap) (l : Loading objects root (items ++ (path, entry) ∷ []) m) where
   pub item_entry : IsEntryOfTree objects root path entry.mode entry.id
-  item_entry = (all_front (λ (e : Pair). IsEntryOfTree objects root e.0 e.1.mode e.1.id) items ((path, entry) ∷ []) l.each).1.0
+  item_entry = (all_parts (λ (e : Pair). IsEntryOfTree objects root e.0 e.1.mode e.1.id) items ((path, entry) ∷ []) l.each).1.0
 
   is_file : entry.mode ≢ modes.Tree → IsFileOfTree objects root path entry.mode entry.id
   is_file file = (l.same path entry.mode entry.id).0 (inl (has_back objects path entry.mode entry.id items ((path, entry) ∷ []) (inl (inl (file, refl, refl, refl)))))
@@ -190,7 +178,7 @@ module _ (objects : ObjectMap) (root : ObjectId) (items : List Pair) (path : Lis
           (got m path q entry))
           ((l.same q mode id).1 f),
     );
-    each = (all_front (λ (e : Pair). IsEntryOfTree objects root e.0 e.1.mode e.1.id) items ((path, entry) ∷ []) l.each).0;
+    each = (all_parts (λ (e : Pair). IsEntryOfTree objects root e.0 e.1.mode e.1.id) items ((path, entry) ∷ []) l.each).0;
   }
 
   entries_each : (es gs : List Entry) → IsTreeAt objects entry.id es → entry.mode ≡ modes.Tree → ((e : Entry) → HasEntry gs e.mode e.name e.id → HasEntry es e.mode e.name e.id)
@@ -224,7 +212,7 @@ module _ (objects : ObjectMap) (root : ObjectId) (items : List Pair) (path : Lis
               (λ got. inr got)
               ((l.same q mode id).1 f),
         );
-    each = all_push (λ (e : Pair). IsEntryOfTree objects root e.0 e.1.mode e.1.id) items more (all_front (λ (e : Pair). IsEntryOfTree objects root e.0 e.1.mode e.1.id) items ((path, entry) ∷ []) l.each).0
+    each = all_join (λ (e : Pair). IsEntryOfTree objects root e.0 e.1.mode e.1.id) items more (all_parts (λ (e : Pair). IsEntryOfTree objects root e.0 e.1.mode e.1.id) items ((path, entry) ∷ []) l.each).0
         (subst (AllByRecursion (λ (e : Pair). IsEntryOfTree objects root e.0 e.1.mode e.1.id)) (sym is)
         (all_reverse (λ (e : Pair). IsEntryOfTree objects root e.0 e.1.mode e.1.id) (map (placed (under path)) es) (entries_each es es at tree (λ e h. h))));
   }
@@ -237,7 +225,7 @@ placed_names : (path : List ℕ) (entry : IndexEntry) (name : List ℕ) → IsNa
 placed_names [] entry name n h = subst (AllByRecursion IsName) (sym (names_plain name n.no_slash)) (n, tt)
 placed_names (x ∷ path) entry name n h = ⊎_elim
     (λ none. let e = none.0 in absurd (cc e))
-    (λ all. subst (AllByRecursion IsName) (sym (names_parted (x ∷ path) name n.no_slash)) (all_push IsName (names_in (x ∷ path)) (name ∷ []) all (n, tt)))
+    (λ all. subst (AllByRecursion IsName) (sym (names_parted (x ∷ path) name n.no_slash)) (all_join IsName (names_in (x ∷ path)) (name ∷ []) all (n, tt)))
     h
 
 named_entries : (path : List ℕ) (entry : IndexEntry) (es : List Entry) → IsNamed (path, entry) → AllByRecursion IsEntry es → AllByRecursion IsNamed (map (placed (under path)) es)
@@ -246,8 +234,8 @@ named_entries path entry (e ∷ es) h a = (inr (placed_names path entry e.name a
 
 pub named_more : (path : List ℕ) (entry : IndexEntry) (es : List Entry) (items more : List Pair) → AllByRecursion IsNamed (items ++ (path, entry) ∷ []) → IsTree es → more ≡ reverse (map (placed (under path)) es) → AllByRecursion IsNamed (items ++ more)
 named_more path entry es items more named tree is =
-    let parts = all_front IsNamed items ((path, entry) ∷ []) named in
-    all_push IsNamed items more parts.0 (subst (AllByRecursion IsNamed) (sym is) (all_reverse IsNamed (map (placed (under path)) es) (named_entries path entry es parts.1.0 tree.legal)))
+    let parts = all_parts IsNamed items ((path, entry) ∷ []) named in
+    all_join IsNamed items more parts.0 (subst (AllByRecursion IsNamed) (sym is) (all_reverse IsNamed (map (placed (under path)) es) (named_entries path entry es parts.1.0 tree.legal)))
 
 -- ---- the work that is left: no item can have so many entries below as an item one level up counts for
 weight : ℕ → ℕ
@@ -320,29 +308,21 @@ longer_entries path (e ∷ es) a = (one path e.name a.0.name.some, longer_entrie
 pub longer_more : (path : List ℕ) (es : List Entry) (more : List Pair) → IsTree es → more ≡ reverse (map (placed (under path)) es) → AllByRecursion (λ (g : Pair). length path < length g.0) more
 longer_more path es more tree is = subst (AllByRecursion (λ (g : Pair). length path < length g.0)) (sym is) (all_reverse (λ (g : Pair). length path < length g.0) (map (placed (under path)) es) (longer_entries path es tree.legal))
 
-map_length : {X Y : Type 0} (f : X → Y) (xs : List X) → length (map f xs) ≡ length xs
-map_length f [] = refl
-map_length f (x ∷ xs) = ap suc (map_length f xs)
-
-pub map_more : {X Y : Type 0} (f : X → Y) (xs ys : List X) → map f (xs ++ ys) ≡ map f xs ++ map f ys
-map_more f [] ys = refl
-map_more f (x ∷ xs) ys = ap (λ r. f x ∷ r) (map_more f xs ys)
-
 pub map_reverse : {X Y : Type 0} (f : X → Y) (xs : List X) → map f (reverse xs) ≡ reverse (map f xs)
 map_reverse f [] = refl
-map_reverse f (x ∷ xs) = ap (map f) (reverse-cons x xs) ∙ map_more f (reverse xs) (x ∷ []) ∙ ap (λ r. r ++ f x ∷ []) (map_reverse f xs) ∙ sym (reverse-cons (f x) (map f xs))
+map_reverse f (x ∷ xs) = ap (map f) (reverse-cons x xs) ∙ map-append f (reverse xs) (x ∷ []) ∙ ap (λ r. r ++ f x ∷ []) (map_reverse f xs) ∙ sym (reverse-cons (f x) (map f xs))
 
 -- ---- a folder's item
 module _ (honest : Type 0) (content : FileMap) (root : ObjectId) (item : Item) (items new : List Item) (m : IndexMap) (o : IsOpened honest content item items new) where
   pairs_new : map item_pair new ≡ map item_pair items ++ map item_pair o.more
-  pairs_new = ap (map item_pair) o.is ∙ map_more item_pair items o.more
+  pairs_new = ap (map item_pair) o.is ∙ map-append item_pair items o.more
 
   pub opened_named : AllByRecursion IsNamed (map item_pair items ++ item_pair item ∷ []) → AllByRecursion IsNamed (map item_pair new)
   opened_named named = subst (AllByRecursion IsNamed) (sym pairs_new) (named_more item.path.items item.entry (entries_of o.body) (map item_pair items) (map item_pair o.more) named o.tree o.entries)
 
   pub opened_less : length item.path.items ≤ 4096 → work (map item_pair new) < work (map item_pair items ++ item_pair item ∷ [])
   opened_less short = subst (λ (l : List Pair). work l < work (map item_pair items ++ item_pair item ∷ [])) (sym pairs_new)
-      (work_opened (map item_pair items) (map item_pair o.more) (item_pair item) short (subst (λ (n : ℕ). n ≤ 16777216) (sym (map_length item_pair o.more)) o.few) (longer_more item.path.items (entries_of o.body) (map item_pair o.more) o.tree o.entries))
+      (work_opened (map item_pair items) (map item_pair o.more) (item_pair item) short (subst (λ (n : ℕ). n ≤ 16777216) (sym (length-map o.more item_pair)) o.few) (longer_more item.path.items (entries_of o.body) (map item_pair o.more) o.tree o.entries))
 
   pub opened_loading : honest → item.entry.mode ≡ modes.Tree → Loading (objects content) root (map item_pair items ++ item_pair item ∷ []) m → Loading (objects content) root (map item_pair new) m
   opened_loading h tree l =
@@ -412,16 +392,16 @@ look_load look honest content root item kind there due (Store fault) h = stored_
 
 -- ---- the items, before and after one is taken
 pub taken : (all rest : List Item) (item : Item) → all ≡ rest ++ item ∷ [] → map item_pair all ≡ map item_pair rest ++ item_pair item ∷ []
-taken all rest item is = ap (map item_pair) is ∙ map_more item_pair rest (item ∷ [])
+taken all rest item is = ap (map item_pair) is ∙ map-append item_pair rest (item ∷ [])
 
 pub rest_named : (rest : List Item) (item : Item) → AllByRecursion IsNamed (map item_pair rest ++ item_pair item ∷ []) → AllByRecursion IsNamed (map item_pair rest)
-rest_named rest item n = (all_front IsNamed (map item_pair rest) (item_pair item ∷ []) n).0
+rest_named rest item n = (all_parts IsNamed (map item_pair rest) (item_pair item ∷ []) n).0
 
 pub item_legal : (rest : List Item) (item : Item) → AllByRecursion IsNamed (map item_pair rest ++ item_pair item ∷ []) → item.entry.mode ≢ modes.Tree → length item.path.items ≤ 4096 → IsPath item.path.items
 item_legal rest item n file short = ⊎_elim
     (λ top. absurd (file top.1))
     (λ names. record { names = names; short = short })
-    (all_front IsNamed (map item_pair rest) (item_pair item ∷ []) n).1.0
+    (all_parts IsNamed (map item_pair rest) (item_pair item ∷ []) n).1.0
 
 pub load_ends : (objects : ObjectMap) (root : ObjectId) (items : List Pair) (m : IndexMap) → items ≡ [] → Loading objects root items m
     → (path : List ℕ) (mode : Mode) (id : ObjectId) → IsFileOfTree objects root path mode id ↔ (get m path ≡ Some (index_entry mode id))

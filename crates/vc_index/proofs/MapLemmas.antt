@@ -7,13 +7,14 @@ use Rattle.std.specs.FinMap.{from_entries, find, get, insert, remove, empty, get
 use Rattle.std.specs.FinMap.Entries.{put, by_order}
 use Rattle.std.specs.Ordering.{nat_cmp, is_eq, eq_by_cmp}
 use Rattle.std.specs.declared.cmp.Ordering.{Ordering}
-use Rattle.std.specs.declared.cmp.Ordering.TheVariants.{Less, Equal, Greater}
-use Rattle.std.specs.Cmp.{eq_by_cmp_equiv, tied_itself}
+use Rattle.std.specs.declared.cmp.Ordering.TheVariants.{Less}
+use Rattle.std.specs.Cmp.{Equal-is, eq_by_cmp_equiv, tied_itself}
 use Rattle.std.specs.Cmp.Lexicographic.{slice_cmp, nat_list_cmp_total}
 use Rattle.std.specs.Map.{lookup, keys_of, KeepsOthers}
 use Rattle.std.specs.List.{AllByRecursion}
 use Rattle.std.specs.List.Sorted.{IsStrictlySortedBy}
 use Rattle.std.proofs.lemmas.Bool.{false_from_ne_true}
+use Rattle.std.proofs.lemmas.List.{nil_from_length}
 use Rattle.vc_index.specs.IndexMap.{IndexMap, index_of, IsIndex, IsFile, HasConflict}
 use Rattle.vc_index.specs.Path.{IsAbove}
 use Rattle.vc_index.specs.declared.entry.IndexEntry.{IndexEntry}
@@ -24,14 +25,9 @@ Entries = List (Vec ℕ Global × IndexEntry)
 abbrev pub key_cmp : Vec ℕ Global → Vec ℕ Global → Ordering
 key_cmp x y = slice_cmp nat_cmp x.items y.items
 
-equal : (o : Ordering) → is_eq o ≡ true → o ≡ Equal
-equal Less e = cc e
-equal Equal e = refl
-equal Greater e = cc e
-
 -- two texts that compare equal are the same
 pub same_text : (a b : List ℕ) → is_eq (slice_cmp nat_cmp a b) ≡ true → a ≡ b
-same_text a b e = slice_cmp-IsAntisymmetric nat_cmp-IsAntisymmetric a b (equal _ e)
+same_text a b e = slice_cmp-IsAntisymmetric nat_cmp-IsAntisymmetric a b ((Equal-is _).0 e)
 
 pub is_eq-same : (a : List ℕ) → is_eq (slice_cmp nat_cmp a a) ≡ true
 is_eq-same a = ap is_eq (tied_itself nat_list_cmp_total a)
@@ -74,12 +70,8 @@ first_in k v [] below = refl
 first_in k v (e ∷ es) below =
     ap (λ r. by_order r ((k, v) ∷ (e.0.items, e.1) ∷ map (λ e. (e.0.items, e.1)) es) ((e.0.items, v) ∷ map (λ e. (e.0.items, e.1)) es) ((e.0.items, e.1) ∷ put (slice_cmp nat_cmp) k v (map (λ e. (e.0.items, e.1)) es))) below.0
 
-no_entries : {A : Type 0} (es : List A) → length es ≡ 0 → es ≡ []
-no_entries [] e = refl
-no_entries (x ∷ es) e = absurd (omega arith)
-
 pub entries-empty : entries (empty {X = IndexEntry} {R = slice_cmp nat_cmp}) ≡ []
-entries-empty = no_entries _ (sym (len-entries (empty {X = IndexEntry} {R = slice_cmp nat_cmp})) ∙ len-empty (slice_cmp nat_cmp) IndexEntry)
+entries-empty = nil_from_length _ (sym (len-entries (empty {X = IndexEntry} {R = slice_cmp nat_cmp})) ∙ len-empty (slice_cmp nat_cmp) IndexEntry)
 
 entries_kept : (es : Entries) → IsStrictlySortedBy key_cmp (keys_of es) → entries (from_entries {R = slice_cmp nat_cmp} (map (λ e. (e.0.items, e.1)) es)) ≡ map (λ e. (e.0.items, e.1)) es
 unfolding IsStrictlySortedBy
@@ -113,7 +105,7 @@ empty-IsIndex = record {
 not_above : (path : List ℕ) → IsAbove path path → ⊥
 not_above path above = omega (arith, ap length above.1, length-append path (47 ∷ above.0))
 
-same_some : (x y : IndexEntry) → Some x ≡ Some y → x ≡ y
+pub same_some : (x y : IndexEntry) → Some x ≡ Some y → x ≡ y
 same_some x y e = cc e
 
 module _ (m : IndexMap) (k : List ℕ) where

@@ -12,6 +12,7 @@ use Rattle.vc_object.proofs.Uniqueness.{trees_unique}
 use Rattle.vc_index.specs.FolderTrees.{NamesAll, AreJoined, AreEntryTrees, AreTreesOver, AreFolderTrees, AreIndexTrees}
 use Rattle.vc_index.specs.IndexMap.{IndexMap, IsIndex, index_entry}
 use Rattle.vc_index.specs.declared.entry.IndexEntry.{IndexEntry}
+use Rattle.vc_index.proofs.MapLemmas.{same_some}
 
 -- ---- entries of trees
 named_one : (fs : List Entry) (name : List ℕ) → HasName fs name → (f : Entry) × Contains fs f × (f.name ≡ name)
@@ -54,9 +55,6 @@ folder_filled : (files : IndexMap) (levels : ℕ) → IsFilled files (AreFolderT
 folder_filled files zero folder trees entries h some = absurd h
 folder_filled files (suc levels) folder trees [] h some = absurd (some refl)
 folder_filled files (suc levels) folder trees (e ∷ entries) h some = entry_filled files (AreFolderTrees levels files) (folder_filled files levels) folder e h.joined.0 h.joined.3
-
-same_some : (x y : IndexEntry) → Some x ≡ Some y → x ≡ y
-same_some x y e = cc e
 
 abbrev Agree : (Inner Other : List ℕ → List (List Entry) → List Entry → Type 0) → Type 0
 Agree Inner Other = (folder : List ℕ) (trees others : List (List Entry)) (es fs : List Entry) → Inner folder trees es → Other folder others fs → (trees ≡ others) × (es ≡ fs)

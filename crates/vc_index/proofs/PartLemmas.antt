@@ -12,7 +12,8 @@ use Rattle.vc_object.specs.declared.id.ObjectId.{ObjectId}
 use Rattle.vc_object.specs.declared.kind.Kind.TheVariants as kinds
 use Rattle.vc_object.specs.declared.mode.Mode.{Mode}
 use Rattle.vc_object.specs.declared.mode.Mode.TheVariants as modes
-use Rattle.vc_object.proofs.Texts.{agreeing, ne-eqb}
+use Rattle.vc_object.proofs.Texts.{agreeing, ne-eqb, no_cut}
+use Rattle.vc_object.proofs.Order.{All-map}
 use Rattle.vc_index.specs.Building.{Begins, Nested, place, ComesFirst, InPlaces, IsLeft, IsSoundPart, HasOver, ArePartTrees, Building}
 use Rattle.vc_index.specs.FolderTrees.{NamesAll, AreJoined, AreFolderTrees}
 use Rattle.vc_index.specs.HeldFiles.{Pair, under, HasFile, placed}
@@ -22,7 +23,7 @@ use Rattle.vc_index.specs.Path.{names_in, IsAbove}
 use Rattle.vc_index.specs.TreeFiles.{IsTreeAt}
 use Rattle.vc_index.specs.WrittenTrees.{tree_object, Holds, IsTreeOf, IsOfFolder, IsPart, AreLowerTrees}
 use Rattle.vc_index.specs.declared.trees.Part.{Part}
-use Rattle.vc_index.proofs.CoverLemmas.{no_byte, over_front, over_back, over_parts, over_before, over_after, over_named, over_closed}
+use Rattle.vc_index.proofs.CoverLemmas.{over_front, over_back, over_parts, over_before, over_after, over_named, over_closed}
 use Rattle.vc_index.proofs.FileLemmas.{has_front, has_back, has_parts, opened, closed}
 use Rattle.vc_index.proofs.FolderLemmas.{joined_parts, joined_push, joined_entries, parts_more}
 use Rattle.vc_index.proofs.PlaceLemmas.{entries_order, places_closed, places_parts, part_place, front_places, back_places}
@@ -40,10 +41,6 @@ all_parts P (x ∷ xs) ys a = let r = all_parts P xs ys a.1 in ((a.0, r.0), r.1)
 pub all_join : {X : Type 0} (P : X → Type 0) (xs ys : List X) → AllByRecursion P xs → AllByRecursion P ys → AllByRecursion P (xs ++ ys)
 all_join P [] ys a b = b
 all_join P (x ∷ xs) ys a b = (a.0, all_join P xs ys a.1 b)
-
-pub all_map : {X : Type 0} (P Q : X → Type 0) (xs : List X) → ((x : X) → P x → Q x) → AllByRecursion P xs → AllByRecursion Q xs
-all_map P Q [] f a = tt
-all_map P Q (x ∷ xs) f a = (f x a.0, all_map P Q xs f a.1)
 
 all_both : {X : Type 0} (P Q : X → Type 0) (xs : List X) → AllByRecursion P xs → AllByRecursion Q xs → AllByRecursion (λ x. P x × Q x) xs
 all_both P Q [] a b = tt
@@ -102,7 +99,7 @@ folder_begins f t folder name ends e plain = ⊎_elim
     (λ empty. (folder, ap (λ x. x ++ folder) (sym empty)))
     (λ slash.
     let y = same_end folder h.0 slash.0 (sym h.1 ∙ slash.1) some in
-    absurd (no_byte y.0 t (subst (Without 47) (h.2 ∙ ap (λ z. z ++ t) y.1 ∙ append_assoc y.0 (47 ∷ []) t) plain)))
+    absurd (no_cut 47 _ y.0 t plain (h.2 ∙ ap (λ z. z ++ t) y.1 ∙ append_assoc y.0 (47 ∷ []) t)))
     ends)
     (is_nothing h.0))
     (λ h. (h.0, h.1))
@@ -224,13 +221,13 @@ under_some (x ∷ d) n = refl
 -- the parts of one folder are a tree's entries
 pub run_tree : (files : IndexMap) (trees : List (List Entry)) (folder : List ℕ) (run : List Part) → AllByRecursion (IsSoundPart files trees) run → AllByRecursion (λ g. g.folder.now ≡ folder) run → InPlaces (map part_pair run) → IsTree (map part_entry run)
 run_tree files trees folder run sound at order = record {
-  legal = all_over part_entry IsEntry run (all_map (IsSoundPart files trees) (λ g. IsEntry (part_entry g)) run (part_IsEntry files trees) sound);
+  legal = all_over part_entry IsEntry run (All-map (IsSoundPart files trees) (λ g. IsEntry (part_entry g)) run (part_IsEntry files trees) sound);
   order = entries_order folder run at order;
 }
 
 pub of_one_folder : (files : IndexMap) (trees : List (List Entry)) (folder : List ℕ) (run : List Part) → AllByRecursion (IsSoundPart files trees) run → AllByRecursion (λ g. g.folder.now ≡ folder) run → AllByRecursion (IsOfFolder files folder) (map part_entry run)
 of_one_folder files trees folder run sound at = all_over part_entry (IsOfFolder files folder) run
-    (all_map (λ g. IsSoundPart files trees g × (g.folder.now ≡ folder)) (λ g. IsOfFolder files folder (part_entry g)) run (λ g h. subst (λ (f : List ℕ). IsOfFolder files f (part_entry g)) h.1 h.0.of_folder) (all_both (IsSoundPart files trees) (λ g. g.folder.now ≡ folder) run sound at))
+    (All-map (λ g. IsSoundPart files trees g × (g.folder.now ≡ folder)) (λ g. IsOfFolder files folder (part_entry g)) run (λ g h. subst (λ (f : List ℕ). IsOfFolder files f (part_entry g)) h.1 h.0.of_folder) (all_both (IsSoundPart files trees) (λ g. g.folder.now ≡ folder) run sound at))
 
 module _ (files : IndexMap) (trees : List (List Entry)) (rest : List Pair) (before run : List Part) (front : List Part) (last : Part) (d : List ℕ)
     (b : Building files trees (before ++ run) rest)
@@ -253,7 +250,7 @@ module _ (files : IndexMap) (trees : List (List Entry)) (rest : List Pair) (befo
         l
 
     in_folder : AllByRecursion (λ g. g.folder.now ≡ d ++ 47 ∷ []) run
-    in_folder = all_map (λ g. Begins g.folder.now (d ++ 47 ∷ []) × (length g.folder.now ≡ length (d ++ 47 ∷ []))) (λ g. g.folder.now ≡ d ++ 47 ∷ []) run
+    in_folder = All-map (λ g. Begins g.folder.now (d ++ 47 ∷ []) × (length g.folder.now ≡ length (d ++ 47 ∷ []))) (λ g. g.folder.now ≡ d ++ 47 ∷ []) run
         (λ g h. begins_same g.folder.now (d ++ 47 ∷ []) h.0 h.1)
         (all_both (λ g. Begins g.folder.now (d ++ 47 ∷ [])) (λ g. length g.folder.now ≡ length (d ++ 47 ∷ [])) run (all_parts (λ (g : Part). Begins g.folder.now (d ++ 47 ∷ [])) before run fronts).1 inside)
 
@@ -272,7 +269,7 @@ module _ (files : IndexMap) (trees : List (List Entry)) (rest : List Pair) (befo
         let nest = nested_last l.0 l.1 (subst Nested l.2 (nested_front before run b.nested)) in
         subst (AllByRecursion (λ g. length g.folder.now < length (d ++ 47 ∷ []))) (sym l.2)
         (all_join (λ (g : Part). length g.folder.now < length (d ++ 47 ∷ [])) l.0 (l.1 ∷ [])
-        (all_map (λ g. Begins g.folder.now l.1.folder.now) (λ g. length g.folder.now < length (d ++ 47 ∷ [])) l.0 (λ g h. let k = begins_length g.folder.now l.1.folder.now h in omega (arith, k, less)) nest)
+        (All-map (λ g. Begins g.folder.now l.1.folder.now) (λ g. length g.folder.now < length (d ++ 47 ∷ [])) l.0 (λ g h. let k = begins_length g.folder.now l.1.folder.now h in omega (arith, k, less)) nest)
         (less, tt)))
         (by_last before)
 
@@ -321,7 +318,7 @@ module _ (files : IndexMap) (trees : List (List Entry)) (rest : List Pair) (befo
         last_sound.of_folder
 
     pub run_parts : AllByRecursion (IsPart files trees) es
-    run_parts = all_over part_entry (IsPart files trees) run (all_map (IsSoundPart files trees) (λ g. IsPart files trees (part_entry g)) run (λ g s. s.leads) each_run)
+    run_parts = all_over part_entry (IsPart files trees) run (All-map (IsSoundPart files trees) (λ g. IsPart files trees (part_entry g)) run (λ g s. s.leads) each_run)
 
     pub below_new : AreLowerTrees files [] (trees ++ map part_entry run ∷ [])
     below_new = lower_more files [] trees es b.below run_some tree run_parts
@@ -350,7 +347,7 @@ module _ (files : IndexMap) (trees : List (List Entry)) (rest : List Pair) (befo
 
         nested_new : Nested (before ++ new ∷ [])
         nested_new = nested_push before new (nested_front before run b.nested)
-            (all_map (λ g. (Begins g.folder.now (d ++ 47 ∷ []) × (length g.folder.now < length (d ++ 47 ∷ []))) × IsSoundPart files trees g) (λ g. Begins g.folder.now new.folder.now) before
+            (All-map (λ g. (Begins g.folder.now (d ++ 47 ∷ []) × (length g.folder.now < length (d ++ 47 ∷ []))) × IsSoundPart files trees g) (λ g. Begins g.folder.now new.folder.now) before
             (λ g h.
             let short = shorter_begins g.folder.now d h.0.0 h.0.1 in
             folder_begins g.folder.now short.0 new.folder.now new.name.now h.1.ends (sym short.1 ∙ sym is_new) plain_new)
@@ -364,7 +361,7 @@ module _ (files : IndexMap) (trees : List (List Entry)) (rest : List Pair) (befo
 
         -- what lies before lies not in the folder
         outside : AllByRecursion (λ g. Begins (d ++ 47 ∷ []) (g.folder.now ++ g.name.now) → ⊥) before
-        outside = all_map (λ g. (length g.folder.now < length (d ++ 47 ∷ [])) × IsSoundPart files trees g) (λ g. Begins (d ++ 47 ∷ []) (g.folder.now ++ g.name.now) → ⊥) before
+        outside = All-map (λ g. (length g.folder.now < length (d ++ 47 ∷ [])) × IsSoundPart files trees g) (λ g. Begins (d ++ 47 ∷ []) (g.folder.now ++ g.name.now) → ⊥) before
             (λ g h begins.
             let into = folder_begins (d ++ 47 ∷ []) begins.0 g.folder.now g.name.now (inr (d, refl)) (sym begins.1) h.1.plain in
             let n = begins_length (d ++ 47 ∷ []) g.folder.now into in
@@ -458,7 +455,7 @@ module _ (files : IndexMap) (trees : List (List Entry)) (rest : List Pair) (befo
         building_new = record {
           same_files = new_files;
           below = below_new;
-          each = all_join (IsSoundPart files (trees ++ es ∷ [])) before (new ∷ []) (all_map (IsSoundPart files trees) (IsSoundPart files (trees ++ es ∷ [])) before (λ g s. sound_more files trees (es ∷ []) g s) each_before) (new_sound, tt);
+          each = all_join (IsSoundPart files (trees ++ es ∷ [])) before (new ∷ []) (All-map (IsSoundPart files trees) (IsSoundPart files (trees ++ es ∷ [])) before (λ g s. sound_more files trees (es ∷ []) g s) each_before) (new_sound, tt);
           nested = nested_new;
           order = subst InPlaces (sym grouped_pairs) closed_order;
           levels = suc b.levels;

@@ -18,7 +18,8 @@ use Rattle.vc_index.specs.IndexMap.{IndexMap, IsIndex, index_entry}
 use Rattle.vc_index.specs.Part.{part_entry, part_pair}
 use Rattle.vc_index.specs.declared.trees.Part.{Part}
 use Rattle.vc_object.proofs.Texts.{agreeing}
-use Rattle.vc_index.proofs.EntriesLemmas.{mid_before, get_mid, AllBefore, All_last}
+use Rattle.vc_object.proofs.Order.{All-push}
+use Rattle.vc_index.proofs.EntriesLemmas.{mid_before, get_mid, AllBefore}
 
 -- ---- texts in order
 abbrev IsLess : List ℕ → List ℕ → Type 0
@@ -241,7 +242,7 @@ module _ (files : IndexMap) (sound : IsIndex files) where
   files_from front [] at each order = subst InPlaces (sym (at ∙ append-nil front)) order
   files_from front (f ∷ rest) at each order =
       let there = get_mid files front rest f.0 f.1 at in
-      files_from (front ++ f ∷ []) rest (at ∙ sym (append_assoc front (f ∷ []) rest)) (All_last (λ (e : Pair). get files e.0 ≡ Some e.1) front f each there)
+      files_from (front ++ f ∷ []) rest (at ∙ sym (append_assoc front (f ∷ []) rest)) (All-push (λ (e : Pair). get files e.0 ≡ Some e.1) front f each there)
       (places_join front (f ∷ []) order (files_before front f each there (mid_before files front rest f.0 f.1 at)) (tt, tt))
 
   pub files_order : InPlaces (entries files)

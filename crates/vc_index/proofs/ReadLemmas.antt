@@ -14,6 +14,7 @@ use Rattle.vc_object.specs.Bytes.{Without}
 use Rattle.vc_object.specs.ObjectId.{is_id}
 use Rattle.vc_object.specs.Tree.{IsName}
 use Rattle.vc_object.proofs.Texts.{Without-append}
+use Rattle.vc_object.proofs.Order.{All-map, All-push}
 use Rattle.vc_index.specs.Path.{IsPath, names_in}
 use Rattle.vc_index.specs.IndexMap.{IndexMap, IsFile, HasConflict, HasFileAbove}
 use Rattle.vc_index.specs.IndexText.{entry_text, index_text, entry_at, MayFollow, TextFault}
@@ -22,7 +23,7 @@ use Rattle.vc_index.specs.Reading.{IsFront, IsReadTo, has_front}
 use Rattle.vc_index.proofs.FrontLemmas.{begins_last, front_cases, front_last, front_more, value_of}
 use Rattle.vc_index.proofs.MapLemmas.{insert-IsIndex, empty-IsIndex, entries-empty, get-insert_same, got, no_some}
 use Rattle.vc_index.proofs.ConflictLemmas.{not_after}
-use Rattle.vc_index.proofs.EntriesLemmas.{AllBefore, entries_last, get_all, le_less, All_weaker, All_last}
+use Rattle.vc_index.proofs.EntriesLemmas.{AllBefore, entries_last, get_all, le_less}
 use Rattle.vc_index.proofs.TextLemmas.{IsSpelt, entry_again, entry_some}
 
 -- ---- no path has a NUL
@@ -90,7 +91,7 @@ less_is_no_more a b e = ap is_gt e
 -- ---- one file more, behind all
 module _ (m : IndexMap) (last : List ℕ) (fronts : List (List ℕ)) (so_far : IsReadTo m last fronts) (path : List ℕ) where
   pub all_before : slice_cmp nat_cmp last path ≡ Less → AllBefore path (entries m)
-  all_before less = All_weaker _ _ (λ e le. le_less e.0 last path le less) (entries m) so_far.below
+  all_before less = All-map _ _ (entries m) (λ e le. le_less e.0 last path le less) so_far.below
 
   -- no file of the index lies below a path that comes behind all
   free : slice_cmp nat_cmp last path ≡ Less → ¬ (HasFileAbove m path) → ¬ (HasConflict m path)
@@ -120,7 +121,7 @@ module _ (m : IndexMap) (last : List ℕ) (fronts : List (List ℕ)) (so_far : I
       record {
         sound = insert-IsIndex m path entry so_far.sound file (free less none);
         below = subst (AllByRecursion (λ (e : List ℕ × IndexEntry). is_gt (slice_cmp nat_cmp e.0 path) ≡ false)) (sym (entries_last m path entry before))
-            (All_last _ (entries m) (path, entry) (All_weaker _ _ (λ e l. less_is_no_more e.0 path l) (entries m) before) (ap is_gt (tied_itself nat_list_cmp_total path)));
+            (All-push _ (entries m) (path, entry) (All-map _ _ (entries m) (λ e l. less_is_no_more e.0 path l) before) (ap is_gt (tied_itself nat_list_cmp_total path)));
         is_last = inr (some_at _ entry (get-insert_same m path entry));
         some = λ front h. elim (front_cases kept path front (subst (λ l. IsTrue (has_front l front)) is h)) [
           | inl there ↦ insert_some m path entry front (so_far.some front (keeps.0 front there))

@@ -4,7 +4,7 @@ use Rattle.std.specs.Prelude.{IfOk, IfErr, MatchResult, unwrap_or}
 use Rattle.std.specs.List.{AllByRecursion, join_with_byte}
 use Rattle.std.specs.FinMap.{get, same_map, slice_cmp-IsAntisymmetric, nat_cmp-IsAntisymmetric}
 use Rattle.std.specs.Cmp.Lexicographic.{nat_list_cmp_total}
-use Rattle.std.proofs.lemmas.List.{reverse-append, reverse-reverse}
+use Rattle.std.proofs.lemmas.List.{reverse-append, reverse-reverse, map-append}
 use Rattle.vc_files.specs.FileMap.{FileMap}
 use Rattle.vc_object.specs.Decoding.{StoredObject, stored_object}
 use Rattle.vc_object.specs.Entries.{entries_of}
@@ -29,7 +29,8 @@ use Rattle.vc_index.specs.declared.loading.Item.{Item}
 use Rattle.vc_index.specs.declared.loading.Look.{Look}
 use Rattle.vc_index.specs.declared.loading.Look.TheVariants as looks
 use Rattle.vc_index.proofs.FileLemmas.{one_tree}
-use Rattle.vc_index.proofs.LoadLemmas.{all_reverse, all_front, all_push, entry_below, map_more, sought_if_due}
+use Rattle.vc_index.proofs.LoadLemmas.{all_reverse, entry_below, sought_if_due}
+use Rattle.vc_index.proofs.PartLemmas.{all_parts, all_join}
 
 -- ---- one answer
 
@@ -114,7 +115,7 @@ module _ (look : Look) (objects : ObjectMap) where
         no_fault m.0 f (whole m.0.0 m.0.1.mode m.0.1.id here) m.3
     none_met whole (x ∷ p) es f all m =
         let parts = subst (AllByRecursion IsInTree) m.2 all in
-        none_met whole p (m.0 ++ m.1) f (all_push IsInTree m.0 m.1 (inside x m.0 parts.0 m.4) parts.1) m.5
+        none_met whole p (m.0 ++ m.1) f (all_join IsInTree m.0 m.1 (inside x m.0 parts.0 m.4) parts.1) m.5
       where
         inside : (x : Pair) (l : List Pair) → IsInTree x → AreInside objects x l → AllByRecursion IsInTree l
         inside x l there (inl t) = subst (AllByRecursion IsInTree) (sym t.3) (all_in x.0 x.1.id t.1 t.1 (subst (λ (k : Mode). IsEntryOfTree objects root x.0 k x.1.id) t.0 there) t.2 (λ e h. h))
@@ -195,7 +196,7 @@ module _ (look : Look) (objects : ObjectMap) (root : ObjectId) where
 
     pub walk_file : entry.mode ≢ modes.Tree → IsSoundIn look objects (path, entry) → Walks look objects root items
     walk_file file s = record {
-      whole = λ all. w.whole (all_push (IsWhole look objects) items ((path, entry) ∷ []) all (record { sound = λ q mode id at. ⊎_elim (λ here. itself_sound s q mode id here) (λ tree. absurd (file tree.0)) at }, tt));
+      whole = λ all. w.whole (all_join (IsWhole look objects) items ((path, entry) ∷ []) all (record { sound = λ q mode id at. ⊎_elim (λ here. itself_sound s q mode id here) (λ tree. absurd (file tree.0)) at }, tt));
       meets = λ fault passed m. w.meets fault ((path, entry) ∷ passed) ([], reverse items, turned items (path, entry), s, inr (file, refl), m);
     }
 
@@ -210,9 +211,9 @@ module _ (look : Look) (objects : ObjectMap) (root : ObjectId) where
     pub walk_folder : (es : List Entry) (more : List Pair) → entry.mode ≡ modes.Tree → IsSoundIn look objects (path, entry) → IsTreeAt objects entry.id es → more ≡ reverse (map (placed (under path)) es) → Walks look objects root (items ++ more)
     walk_folder es more tree s at is = record {
       whole = λ all.
-          let parts = all_front (IsWhole look objects) items more all in
+          let parts = all_parts (IsWhole look objects) items more all in
           let inside = subst (AllByRecursion (IsWhole look objects)) back (all_reverse (IsWhole look objects) more parts.1) in
-          w.whole (all_push (IsWhole look objects) items ((path, entry) ∷ []) parts.0 (record { sound = λ q mode id a. ⊎_elim (λ here. itself_sound s q mode id here) (λ t. below inside q mode id t.2 (subst (λ (gs : List Entry). ReachesEntry objects gs t.2 mode id) (one_tree objects entry.id t.1 es t.3 at) t.5) t.4) a }, tt));
+          w.whole (all_join (IsWhole look objects) items ((path, entry) ∷ []) parts.0 (record { sound = λ q mode id a. ⊎_elim (λ here. itself_sound s q mode id here) (λ t. below inside q mode id t.2 (subst (λ (gs : List Entry). ReachesEntry objects gs t.2 mode id) (one_tree objects entry.id t.1 es t.3 at) t.5) t.4) a }, tt));
       meets = λ fault passed m. w.meets fault ((path, entry) ∷ passed)
           (map (placed (under path)) es, reverse items, turned items (path, entry), s, inl (tree, es, at, refl), subst (λ (l : List Pair). MeetsFaultIn look objects passed l fault) (reverse-append items more ∙ ap (λ l. l ++ reverse items) back) m);
     }
@@ -300,5 +301,5 @@ pub walk_opened : (look : Look) (honest : Type 0) (content : FileMap) (root : Ob
 walk_opened look honest content root item items new o h tree short w =
     let at : IsTreeAt (objects content) item.entry.id (entries_of o.body) = record { stored = o.stored h ∙ ap (λ b. Some (stored_object kinds.Tree b)) (sym o.spelled); tree = o.tree } in
     let s = sound_tree look (objects content) item.path.items item.entry o.body (entries_of o.body) short tree (o.stored h) at in
-    subst (Walks look (objects content) root) (sym (ap (map item_pair) o.is ∙ map_more item_pair items o.more))
+    subst (Walks look (objects content) root) (sym (ap (map item_pair) o.is ∙ map-append item_pair items o.more))
     (walk_folder look (objects content) root (map item_pair items) item.path.items item.entry w (entries_of o.body) (map item_pair o.more) tree s at o.entries)

@@ -1,10 +1,8 @@
 -- An index's text is read as it is written, and stands for one index.
-use Rattle.std.proofs.Common.{◌≡◌, ◌≢◌, ℕ, zero, suc, ◌<◌, ◌≤◌, true, false, List, [], ◌∷◌, ◌++◌, Option, Some, sym, ap, refl, ◌∙◌, subst, length, take, drop, arith, append_assoc, length-append, slice_index, lit<, rules}
-use Rattle.std.specs.Prelude.{nat_lt, unwrap_or, ◌==◌}
-use Rattle.std.specs.List.{list_all}
-use Rattle.std.proofs.lemmas.Bool.{and_parts}
-use Rattle.std.proofs.lemmas.Bool.Decides.{nat_tests, Decides-eqb}
-use Rattle.std.proofs.lemmas.List.{take-append-drop, take_at, drop_at, length-take-le}
+use Rattle.std.proofs.Common.{◌≡◌, ◌≢◌, ℕ, ◌≤◌, true, List, [], ◌∷◌, ◌++◌, Option, Some, sym, ap, refl, ◌∙◌, subst, length, arith, append_assoc}
+use Rattle.std.specs.Prelude.{unwrap_or}
+use Rattle.std.proofs.lemmas.Bool.Decides.{nat_tests}
+use Rattle.std.proofs.lemmas.List.{length-take-le}
 use Rattle.std.proofs.lemmas.Option.{some_pair_parts}
 use Rattle.hex.specs.Hex.{encode_lower, lower_digits}
 use Rattle.hex.proofs.HexLemmas.{length-encode_with}
@@ -17,8 +15,9 @@ use Rattle.vc_object.specs.Tree.{mode_text}
 use Rattle.vc_object.specs.declared.id.ObjectId.{ObjectId}
 use Rattle.vc_object.specs.declared.mode.Mode.{Mode}
 use Rattle.vc_object.specs.declared.mode.Mode.TheVariants as modes
+use Rattle.vc_object.proofs.IdLemmas.{IsId-from_is_id}
 use Rattle.vc_object.proofs.Items.{bind_some}
-use Rattle.vc_object.proofs.LineTexts.{after_word_some, after_word_again, lower_id_some, lower_id_again}
+use Rattle.vc_object.proofs.LineTexts.{after_word_some, after_word_again, lower_id_some, lower_id_again, split_some, split_again}
 use Rattle.vc_object.proofs.Reading.{mode_some, mode_again, cond_none}
 use Rattle.vc_object.proofs.Texts.{cut_some, cut_found}
 use Rattle.vc_index.specs.IndexMap.{index_entry}
@@ -31,16 +30,6 @@ pub record IsSpelt (path : List ℕ) (entry : IndexEntry) : Type 0 where
   pub mode : entry.mode ≢ modes.Tree
   pub id : is_id entry.id ≡ true
 
-all_bytes : (xs : List ℕ) → list_all (λ b. nat_lt b 256) xs ≡ true → (i : ℕ) → slice_index xs i < 256
-all_bytes [] h i = lit< tt
-all_bytes (x ∷ xs) h zero = let p = (and_parts (nat_lt x 256) (list_all (λ b. nat_lt b 256) xs) h).0 in search rules
-all_bytes (x ∷ xs) h (suc i) = all_bytes xs (and_parts (nat_lt x 256) (list_all (λ b. nat_lt b 256) xs) h).1 i
-
-pub id_of_test : (id : ObjectId) → is_id id ≡ true → IsId id
-id_of_test id h =
-    let parts = and_parts (length id.0 == 20) (list_all (λ b. nat_lt b 256) id.0) h in
-    record { sized = (Decides-eqb (length id.0) 20).0 parts.0; bytes = all_bytes id.0 parts.1 }
-
 six : (m : Mode) → m ≢ modes.Tree → length (mode_text m) ≡ 6
 six modes.Tree n = absurd (n refl)
 six modes.File n = refl
@@ -52,27 +41,17 @@ six modes.Commit n = refl
 five : (m : Mode) → m ≡ modes.Tree → length (mode_text m) ≡ 5
 five m e = ap (λ n. length (mode_text n)) e
 
-split_again : (a b : List ℕ) (n : ℕ) → length a ≡ n → split n (a ++ b) ≡ Some (a, b)
-split_again a b n long =
-    let enough : nat_lt (length (a ++ b)) n ≡ false = let l = length-append a b in grind (arith, nat_tests) in
-    rw (enough, take_at a b n long, drop_at a b n long) refl
-
 split_length : (n : ℕ) (text a b : List ℕ) → split n text ≡ Some (a, b) → length a ≡ n
 split_length n text a b e =
     let h = cond_none _ _ _ e in
     let long : n ≤ length text = let t = h.0 in grind (arith, nat_tests) in
     sym (ap (λ (p : List ℕ × List ℕ). length p.0) h.1) ∙ length-take-le n text long
 
-split_some : (n : ℕ) (text a b : List ℕ) → split n text ≡ Some (a, b) → (text ≡ a ++ b)
-split_some n text a b e =
-    let pair : ◌≡◌ {A = List ℕ × List ℕ} (take n text, drop n text) (a, b) = (cond_none _ _ _ e).1 in
-    sym (take-append-drop n text) ∙ ap (λ p. p.0 ++ p.1) pair
-
 -- ---- what is spelt is read
 mode_again' : (m : Mode) (r : List ℕ) → m ≢ modes.Tree → mode_at (mode_text m ++ ((32 ∷ []) ++ r)) ≡ Some (m, r)
 unfolding mode_at
 mode_again' m r n =
-    ap (λ o. o >>= (λ digits. mode_of digits.0 >>= (λ mode. after_word (32 ∷ []) digits.1 >>= (λ rest. Some (mode, rest))))) (split_again (mode_text m) ((32 ∷ []) ++ r) 6 (six m n))
+    ap (λ o. o >>= (λ digits. mode_of digits.0 >>= (λ mode. after_word (32 ∷ []) digits.1 >>= (λ rest. Some (mode, rest))))) (split_again 6 (mode_text m) ((32 ∷ []) ++ r) (six m n))
     ∙ ap (λ o. o >>= (λ mode. after_word (32 ∷ []) ((32 ∷ []) ++ r) >>= (λ rest. Some (mode, rest)))) (mode_again m)
     ∙ ap (λ o. o >>= (λ rest. Some (m, rest))) (after_word_again (32 ∷ []) r)
 
@@ -81,7 +60,7 @@ unfolding id_at
 id_again id r i =
     let text = encode_lower id.0 in
     let long : length text ≡ 40 = let l = length-encode_with lower_digits id.0 in let n = i.sized in omega arith in
-    ap (λ o. o >>= (λ digits. lower_id digits.0 >>= (λ found. after_word (32 ∷ 48 ∷ 9 ∷ []) digits.1 >>= (λ rest. Some (found, rest))))) (split_again text ((32 ∷ 48 ∷ 9 ∷ []) ++ r) 40 long)
+    ap (λ o. o >>= (λ digits. lower_id digits.0 >>= (λ found. after_word (32 ∷ 48 ∷ 9 ∷ []) digits.1 >>= (λ rest. Some (found, rest))))) (split_again 40 text ((32 ∷ 48 ∷ 9 ∷ []) ++ r) long)
     ∙ ap (λ o. o >>= (λ found. after_word (32 ∷ 48 ∷ 9 ∷ []) ((32 ∷ 48 ∷ 9 ∷ []) ++ r) >>= (λ rest. Some (found, rest)))) (lower_id_again id i)
     ∙ ap (λ o. o >>= (λ rest. Some (id, rest))) (after_word_again (32 ∷ 48 ∷ 9 ∷ []) r)
 
@@ -94,7 +73,7 @@ unfolding entry_at
 entry_again path entry r s =
     ap entry_at (grouped (mode_text entry.mode) (encode_lower entry.id.0) path r)
     ∙ ap (λ o. o >>= (λ mode. id_at mode.1 >>= (λ id. cut 0 id.1 >>= (λ p. Some (p.0, index_entry mode.0 id.0, p.1))))) (mode_again' entry.mode (encode_lower entry.id.0 ++ ((32 ∷ 48 ∷ 9 ∷ []) ++ (path ++ 0 ∷ r))) s.mode)
-    ∙ ap (λ o. o >>= (λ id. cut 0 id.1 >>= (λ p. Some (p.0, index_entry entry.mode id.0, p.1)))) (id_again entry.id (path ++ 0 ∷ r) (id_of_test entry.id s.id))
+    ∙ ap (λ o. o >>= (λ id. cut 0 id.1 >>= (λ p. Some (p.0, index_entry entry.mode id.0, p.1)))) (id_again entry.id (path ++ 0 ∷ r) (IsId-from_is_id entry.id s.id))
     ∙ ap (λ o. o >>= (λ p. Some (p.0, index_entry entry.mode entry.id, p.1))) (cut_found 0 path r s.no_nul)
 
 -- ---- what is read is spelt so
@@ -109,7 +88,7 @@ mode_some' bytes m r e =
     parts : (f s : List ℕ) (n : Mode) (t : List ℕ) → split 6 bytes ≡ Some (f, s) → f ≡ mode_text n → s ≡ (32 ∷ []) ++ t → ◌≡◌ {A = Option (Mode × List ℕ)} (Some (n, t)) (Some (m, r)) → (bytes ≡ mode_text m ++ ((32 ∷ []) ++ r)) × (m ≢ modes.Tree)
     parts f s n t cut text rest same =
         let pair = some_pair_parts n m t r same in
-        let whole : bytes ≡ mode_text n ++ ((32 ∷ []) ++ t) = split_some 6 bytes f s cut ∙ ap (λ x. x ++ s) text ∙ ap (λ x. mode_text n ++ x) rest in (
+        let whole : bytes ≡ mode_text n ++ ((32 ∷ []) ++ t) = split_some 6 bytes (f, s) cut ∙ ap (λ x. x ++ s) text ∙ ap (λ x. mode_text n ++ x) rest in (
           subst (λ (k : Mode). bytes ≡ mode_text k ++ ((32 ∷ []) ++ r)) pair.0 (whole ∙ ap (λ x. mode_text n ++ ((32 ∷ []) ++ x)) pair.1),
           λ tree. let l = split_length 6 bytes f s cut in omega (arith, l, ap length text, five n (pair.0 ∙ tree)),
         )
@@ -125,7 +104,7 @@ id_some bytes id r e =
     parts : (f s : List ℕ) (i : ObjectId) (t : List ℕ) → split 40 bytes ≡ Some (f, s) → f ≡ encode_lower i.0 → s ≡ (32 ∷ 48 ∷ 9 ∷ []) ++ t → ◌≡◌ {A = Option (ObjectId × List ℕ)} (Some (i, t)) (Some (id, r)) → bytes ≡ encode_lower id.0 ++ ((32 ∷ 48 ∷ 9 ∷ []) ++ r)
     parts f s i t cut text rest same =
         let pair = some_pair_parts i id t r same in
-        let whole : bytes ≡ encode_lower i.0 ++ ((32 ∷ 48 ∷ 9 ∷ []) ++ t) = split_some 40 bytes f s cut ∙ ap (λ x. x ++ s) text ∙ ap (λ x. encode_lower i.0 ++ x) rest in
+        let whole : bytes ≡ encode_lower i.0 ++ ((32 ∷ 48 ∷ 9 ∷ []) ++ t) = split_some 40 bytes (f, s) cut ∙ ap (λ x. x ++ s) text ∙ ap (λ x. encode_lower i.0 ++ x) rest in
         subst (λ (k : ObjectId). bytes ≡ encode_lower k.0 ++ ((32 ∷ 48 ∷ 9 ∷ []) ++ r)) pair.0 (whole ∙ ap (λ x. encode_lower i.0 ++ ((32 ∷ 48 ∷ 9 ∷ []) ++ x)) pair.1)
 
 pub entry_some : (bytes path : List ℕ) (entry : IndexEntry) (r : List ℕ) → entry_at bytes ≡ Some (path, entry, r) → (bytes ≡ entry_text path entry ++ r) × Without 0 path × (entry.mode ≢ modes.Tree)

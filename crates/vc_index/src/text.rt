@@ -1,25 +1,11 @@
 // The text of an index, read and written.
-ghost use Rattle.std.specs.Prelude.{◌≡◌, ◌++◌, ◌∷◌, ◌↔◌, ℕ, true, codes, OnOk, IfOk, IfErr, IfSome, IsTrue, MatchOption, option_map};
-ghost use Rattle.vc_object.specs.Bytes.{cut};
+ghost use Rattle.std.specs.Prelude.{◌≡◌, ◌++◌, true, OnOk, IfSome, option_map};
 ghost use Rattle.vc_object.specs.ObjectId.{is_id};
-ghost use Rattle.vc_index.specs.IndexMap.{index_of};
 ghost use Rattle.vc_index.specs.IndexText.{entry_text, mode_at, id_at, entry_at};
 
 use crate::IndexEntry;
 use std::alloc::AllocError;
-use vc_object::{Mode, ObjectId};
-
-// What comes before the first NUL, and what comes after it.
-fn cut_at_nul(text: &[u8]) -> Option<(&[u8], &[u8])>
-    ensures { option_map (λ parts. (parts.0.now, parts.1.now)) result ≡ cut 0 text.now }
-{
-    for (i, byte) in text.iter().enumerate() {
-        if *byte == 0 {
-            return Some((&text[..i], &text[i + 1..]));
-        }
-    }
-    None
-}
+use vc_object::{Mode, ObjectId, cut_at};
 
 // The mode at the front, and what follows its space.
 #[tactic(auto, unfolding(crate::specs::IndexText::mode_at))]
@@ -52,7 +38,7 @@ pub(crate) fn entry_at(bytes: &[u8]) -> Option<(&[u8], IndexEntry, &[u8])>
 {
     let (mode, rest) = mode_at(bytes)?;
     let (id, rest) = id_at(rest)?;
-    let (path, rest) = cut_at_nul(rest)?;
+    let (path, rest) = cut_at(rest, 0)?;
     Some((path, IndexEntry { mode, id }, rest))
 }
 

@@ -25,12 +25,12 @@ use Rattle.vc_object.specs.declared.kind.Kind.{Kind}
 use Rattle.vc_object.specs.declared.kind.Kind.TheVariants.{Blob, Tree, Commit, Tag}
 use Rattle.vc_object.specs.declared.mode.Mode.{Mode}
 use Rattle.vc_object.proofs.Commits.{commit_again, commit_some, tag_again, tag_some}
+use Rattle.vc_object.proofs.Decoding.{name_decides}
 use Rattle.vc_object.proofs.Faults.{spelling_push}
 use Rattle.vc_object.proofs.OneFault.{no_body_fault}
 use Rattle.vc_object.proofs.Order.{All-push, all_before, order_push}
 use Rattle.vc_object.proofs.Reading.{mode_again, mode_some, regroup}
 use Rattle.vc_object.proofs.Texts.{first_cut}
-use Rattle.vc_index.proofs.PathLemmas.{name_decides}
 use Rattle.vc_fetch.specs.Pack.{is_object}
 use Rattle.vc_fetch.proofs.Packs.{err_object, ok_object}
 use Rattle.vc_message.proofs.Totals.{less_or}

@@ -1,12 +1,13 @@
 -- No two kinds take one first line: the third byte of its text tells the word that it begins with, or is a hex digit; and an
 -- advertisement's name holds no space, where a push has one behind its second id.
-use Rattle.std.proofs.Common.{◌≡◌, ℕ, ◌||◌, Bool, true, false, cond, List, [], ◌∷◌, ◌++◌, length, Option, Some, None, Result, Ok, Err, refl, ap, sym, ◌∙◌, subst, arith}
+use Rattle.std.proofs.Common.{◌≡◌, ℕ, Bool, true, false, cond, List, [], ◌∷◌, ◌++◌, length, Option, Some, None, Result, Ok, Err, refl, ap, sym, ◌∙◌, subst, arith}
 use Rattle.std.specs.Prelude.{codes, slice_index, option_map}
 use Rattle.std.specs.FinMap.{empty}
 use Rattle.std.specs.List.{AllPass, list_any}
 use Rattle.std.specs.Str.{bytes_eq}
 use Rattle.std.proofs.lemmas.List.Elements.{All-head, All-tail}
 use Rattle.std.proofs.lemmas.Slice.Eq.{bytes_eq-Decides}
+use Rattle.std.proofs.lemmas.Bool.{or_parts}
 use Rattle.hex.specs.Hex.{is_hex_digit}
 use Rattle.hex.proofs.HexLemmas.{decode_of-ok, decode_sized-ok, decode_sized-twice}
 use Rattle.vc_object.specs.Lines.{after_word}
@@ -126,10 +127,6 @@ advert_third (text t) x e =
     id_third t h.digits (32 ∷ (p.0.0 ++ h.tail)) p.0.1 h.writes h.spelled
 
 -- ---- a push and an advertisement
-either_false : (a b : Bool) → (a || b) ≡ false → (a ≡ false) × (b ≡ false)
-either_false true b e = cc e
-either_false false b e = (refl, e)
-
 same_head : (a b : ℕ) (as' bs : List ℕ) → a ∷ as' ≡ b ∷ bs → a ≡ b
 same_head a b as' bs e = cc e
 
@@ -144,14 +141,14 @@ space_in_name : (new name tail more : List ℕ) → AllPass is_hex_digit new →
 space_in_name [] [] [] more d plain passed e = cc e
 space_in_name [] [] (b ∷ tail) more d plain passed e = let h = same_head 32 b more tail e in omega (arith, h, passed)
 space_in_name [] (c ∷ name) tail more d plain passed e =
-    let p = either_false (is_break c) (list_any is_break name) plain in
+    let p = or_parts (is_break c) (list_any is_break name) plain in
     let z : is_break 32 ≡ false = subst (λ n. is_break n ≡ false) (sym (same_head 32 c more (name ++ tail) e)) p.0 in
     cc z
 space_in_name (n ∷ new) [] [] more d plain passed e = cc e
 space_in_name (n ∷ new) [] (b ∷ tail) more d plain passed e =
     zero_no_digit n (All-head Digit n new d) (same_head n b (new ++ 32 ∷ more) tail e ∙ passed)
 space_in_name (n ∷ new) (c ∷ name) tail more d plain passed e =
-    space_in_name new name tail more (All-tail Digit n new d) (either_false (is_break c) (list_any is_break name) plain).1 passed (same_rest n c (new ++ 32 ∷ more) (name ++ tail) e)
+    space_in_name new name tail more (All-tail Digit n new d) (or_parts (is_break c) (list_any is_break name) plain).1 passed (same_rest n c (new ++ 32 ∷ more) (name ++ tail) e)
 
 -- behind fronts of one length what follows is one
 same_behind : (a b x y : List ℕ) → length a ≡ length b → a ++ x ≡ b ++ y → x ≡ y

@@ -1,57 +1,48 @@
 -- A message that a reader brought to a clone, once it has come or its reader has stopped: what the clone's node is then.
-use Rattle.std.proofs.Common.{◌≡◌, ◌⊎◌, inl, inr, ℕ, Bool, true, List, ◌++◌, drop, length, nat_eq, Option, None, Result, Ok, Err, refl, sym, ap, ◌∙◌, subst}
+use Rattle.std.proofs.Common.{◌≡◌, ℕ, Bool, true, List, ◌++◌, drop, length, nat_eq, Option, Result, Ok, Err, refl, sym, ap, ◌∙◌, subst}
 use Rattle.std.specs.Prelude.{IsErrAnd, IsErrOf, codes}
 use Rattle.std.specs.List.{starts_with}
 use Rattle.vc_exchange.proofs.QuarantinedLemmas.{cut_beside, held_beside}
-use Rattle.vc_exchange.specs.Deeds.{IsCutShort, IsReceived}
 use Rattle.vc_exchange.specs.Faults.{BlamesObjects, BlamesRefs}
 use Rattle.vc_exchange.specs.Moving.{Told}
 use Rattle.vc_exchange.specs.Quarantined.{KeepsOthers}
-use Rattle.vc_exchange.specs.Receiving.{AreRefs, BlamesPack, DeclinesPack, awaited_pack}
+use Rattle.vc_exchange.specs.Receiving.{BlamesPack}
 use Rattle.vc_exchange.specs.Storing.{KeepsBeside}
 use Rattle.vc_exchange.specs.declared.fault.ExchangeFault.{ExchangeFault}
 use Rattle.vc_exchange.specs.declared.fault.ExchangeFault.TheVariants as exchange
-use Rattle.vc_fetch.specs.Pack.{PackText}
 use Rattle.vc_files.proofs.FileMapLemmas.{outside_then}
 use Rattle.vc_files.specs.Failures.{Writes}
 use Rattle.vc_files.specs.FileMap.{FileMap, SameOutside}
 use Rattle.vc_files.specs.declared.faults.Fault.{Fault as FilesFault}
 use Rattle.vc_files.specs.declared.faults.Fault.TheVariants.{Device}
 use Rattle.vc_message.specs.AnyMessage.{a_pack as pack_message, a_push}
-use Rattle.vc_message.specs.Machine.{IsPack}
-use Rattle.vc_model.specs.Clone.{Awaited, CloneNode, ReceivesNot}
-use Rattle.vc_model.specs.Clone.Awaited.{Nothing}
+use Rattle.vc_model.specs.Clone.{Awaited, CloneNode}
 use Rattle.vc_model.specs.CloneCall.CloneCall.{Receive}
 use Rattle.vc_model.specs.Message.{Message}
-use Rattle.vc_model.specs.Node.Reply.{Moved as MovedRefs}
-use Rattle.vc_model.specs.Refs.{Refs}
-use Rattle.vc_model.specs.Repository.{Repository}
 use Rattle.vc_object.specs.declared.id.ObjectId.{ObjectId}
 use Rattle.vc_push.specs.Push.{PushText}
-use Rattle.vc_refs.proofs.WayLemmas.{split_from_starts}
+use Rattle.vc_refs.proofs.ObstacleLemmas.{split_from_starts}
 use Rattle.vc_refs.specs.declared.faults.RefFault.{RefFault}
 use Rattle.vc_refs.specs.declared.faults.RefFault.TheVariants as refs
-use Rattle.vc_rules.specs.Git.{git}
-use Rattle.vc_rules.specs.OpenPushes.{HoldsContent}
 use Rattle.vc_session.proofs.FrameLemmas.{damage-of_slot}
 use Rattle.vc_session.specs.Clean.{MakesNoneBad}
 use Rattle.vc_session.specs.Quarantine.{IsDropped, quarantine_folder}
 use Rattle.vc_store.specs.declared.faults.StoreFault.{StoreFault}
 use Rattle.vc_store.specs.declared.faults.StoreFault.TheVariants as store
-use Rattle.vc_node.proofs.CloneCallLemmas.{Leads, held_content, refused_leads}
-use Rattle.vc_node.proofs.ReceivingClone.{SameBeside, beside_by, clean_on, cut_leads, received_leads, spells_on, up_answers}
-use Rattle.vc_node.proofs.ReceivingFaults.{IsFailing, pack_fails, writes_as as clone_writes}
+use Rattle.vc_node.proofs.CloneCallLemmas.{held_content}
+use Rattle.vc_node.proofs.ExchangingLemmas.{pack_failed, pack_taken}
+use Rattle.vc_node.proofs.ReceivingClone.{SameBeside, beside_by, clean_on, spells_on}
+use Rattle.vc_node.proofs.ReceivingFaults.{writes_as as clone_writes}
 use Rattle.vc_message.specs.Coming.{TakesPart}
 use Rattle.vc_node.specs.Arriving.{ComesTo, IsPackEnded, IsPackLeft, IsPackTaken, IsStopped, all_of_it, by_bytes, by_node, by_reader, not_all, stopped, whole}
-use Rattle.vc_node.specs.Awaited.{AwaitedText, IsAwaited, a_pack, an_advert, nothing}
-use Rattle.vc_node.specs.CloneCalls.{AnswersUp, ReceivedAs}
-use Rattle.vc_node.specs.CloneFaults.{IsOfDevice as IsCloneDevice, of_device, of_exchange, up_after}
-use Rattle.vc_node.specs.Machine.{HoldsNode, failure_of}
+use Rattle.vc_node.specs.Awaited.{AwaitedText, a_pack, an_advert, nothing}
+use Rattle.vc_node.specs.CloneCalls.{AnswersUp}
+use Rattle.vc_node.specs.CloneFaults.{IsOfDevice as IsCloneDevice, of_device, of_exchange}
+use Rattle.vc_node.specs.Machine.{HoldsNode}
 use Rattle.vc_node.specs.ReceiveFault.{TellsDevice}
 use Rattle.vc_node.specs.Receipts.{IsRefusedMessage}
 use Rattle.vc_node.specs.declared.clone_fault.CloneFault.{CloneFault}
-use Rattle.vc_node.specs.declared.clone_fault.CloneFault.TheVariants.{Incomplete, Unexpected}
-use Rattle.vc_node.specs.declared.exchanging.Received.{Received}
+use Rattle.vc_node.specs.declared.clone_fault.CloneFault.TheVariants.{Unexpected}
 use Rattle.vc_node.specs.declared.exchanging.Received.TheVariants.{Moved}
 use Rattle.vc_node.specs.declared.receive_fault.ReceiveFault.{ReceiveFault}
 use Rattle.vc_node.specs.declared.receive_fault.ReceiveFault.TheVariants.{Node}
@@ -96,50 +87,6 @@ beside_others old new others = beside_by old new (others.at (codes "HEAD") refl 
 pub others_beside : (old new : FileMap) → KeepsBeside old new → KeepsOthers old new
 others_beside old new kept = record { at = λ path object ref there. kept.at path object ref }
 
-module _ (old new : FileMap) (wants : List ObjectId) (told : List Told) (m : Message) (pack : PackText) (is : IsPack m pack) (others : KeepsOthers old new) (bad : MakesNoneBad old new) where
-  pub arrived_taken : (moved left : ℕ)
-      → ((r : Repository) → HoldsContent old r → (k : Message) → IsPack k pack → (refs : Refs) → AreRefs refs told → IsReceived r (awaited_pack wants refs) k new Nothing None (MovedRefs moved left))
-      → AnswersUp (Receive m) (Ok (Moved moved left)) old new (a_pack wants told) nothing
-  arrived_taken moved left taken =
-      up_answers (Receive m) (Ok (Moved moved left)) old new (a_pack wants told) nothing (λ awaited n waiting held.
-      received_leads old (a_pack wants told) awaited n waiting held new m (beside_others old new others) bad (ReceivedAs (Ok (Moved moved left))) nothing Nothing None (MovedRefs moved left)
-      (subst (λ (a : Awaited). IsReceived n.repository a m new Nothing None (MovedRefs moved left)) (sym waiting.2)
-      (taken n.repository (held_content old n.repository held.shows.spells) m is waiting.0 waiting.1)) refl
-      (record { answer = refl; sent = refl }))
-
-  module _ (fault : ExchangeFault) (same : (id : ObjectId) → fault ≡ exchange.Incomplete id → SameOutside (quarantine_folder 0) old new)
-      (cut : (r : Repository) → HoldsContent old r → (k : Message) → IsPack k pack → (refs : Refs) → AreRefs refs told → IsCutShort r (awaited_pack wants refs) k new)
-      (awaited : Awaited) (n : CloneNode) (waiting : IsAwaited (a_pack wants told) awaited) (held : HoldsNode old true awaited n) where
-    abbrev LeadsBy : CloneFault → Type 0
-    LeadsBy e = Leads n (Receive m) new (a_pack wants told) (up_after {T = Received} (Err e)) (ReceivedAs (Err e))
-
-    -- a fault cut it short
-    failing_leads : IsFailing (of_exchange fault) → LeadsBy (of_exchange fault)
-    failing_leads (f, failing) =
-        subst LeadsBy (sym failing)
-        (cut_leads old (a_pack wants told) awaited n waiting held new m (beside_others old new others) bad (ReceivedAs (Err (of_device f))) (failure_of f)
-        (subst (λ (a : Awaited). IsCutShort n.repository a m new) (sym waiting.2) (cut n.repository (held_content old n.repository held.shows.spells) m is waiting.0 waiting.1))
-        (record { answer = refl; sent = refl }))
-
-    -- not all is there that was asked for
-    lacking_leads : (id : ObjectId) → fault ≡ exchange.Incomplete id → DeclinesPack old wants m → LeadsBy (of_exchange fault)
-    lacking_leads id lacks declines =
-        subst (λ (f : ExchangeFault). LeadsBy (of_exchange f)) (sym lacks)
-        (refused_leads (Receive m) new (a_pack wants told) awaited n waiting (node_beside old new (same id lacks) bad true awaited n held) 92
-        (λ sound. subst (λ (a : Awaited). ReceivesNot git n.repository a m 92) (sym waiting.2) (declines n.repository waiting.0 (held_content old n.repository held.shows.spells))))
-
-    ended_leads : IsFailing (of_exchange fault) ⊎ ((id : ObjectId) × (fault ≡ exchange.Incomplete id) × DeclinesPack old wants m) → LeadsBy (of_exchange fault)
-    ended_leads (inl failing) = failing_leads failing
-    ended_leads (inr (id, lacks, declines)) = lacking_leads id lacks declines
-
-  pub arrived_ended : (fault : ExchangeFault) → ((k : Message) → IsPack k pack → BlamesPack old wants k fault)
-      → ((id : ObjectId) → fault ≡ exchange.Incomplete id → SameOutside (quarantine_folder 0) old new)
-      → ((r : Repository) → HoldsContent old r → (k : Message) → IsPack k pack → (refs : Refs) → AreRefs refs told → IsCutShort r (awaited_pack wants refs) k new)
-      → AnswersUp (Receive m) (Err (of_exchange fault)) old new (a_pack wants told) (a_pack wants told)
-  arrived_ended fault blames same cut =
-      up_answers (Receive m) (Err (of_exchange fault)) old new (a_pack wants told) (a_pack wants told) (λ awaited n waiting held.
-      ended_leads fault same cut awaited n waiting held (pack_fails old wants m held.clean fault (blames m is)))
-
 -- ---- what a clone makes of it
 module _ (honest : Type 0) (before rest : Option (List ℕ)) (old mid : FileMap) (wants : List ObjectId) (told : List Told) where
   -- the quarantine was emptied behind it
@@ -182,7 +129,7 @@ module _ (honest : Type 0) (before rest : Option (List ℕ)) (old new : FileMap)
   taken_comes moved left after none taken =
       whole (pack_message taken.pack) taken.taken (Ok (Moved moved left)) refl (λ h. tt) (λ h m pack.
       subst (λ (w : AwaitedText). AnswersUp (Receive m) (Ok (Moved moved left)) old new w after) (sym is)
-      (subst (λ (w : AwaitedText). AnswersUp (Receive m) (Ok (Moved moved left)) old new (a_pack wants told) w) (sym none) (arrived_taken old new wants told m taken.pack pack (others h) (bad h) moved left (taken.received h))))
+      (subst (λ (w : AwaitedText). AnswersUp (Receive m) (Ok (Moved moved left)) old new (a_pack wants told) w) (sym none) (pack_taken old new wants told m taken.pack pack (beside_others old new (others h)) (bad h) moved left (taken.received h))))
 
   -- or not
   pub left_comes : (e : ReceiveFault) (after : AwaitedText) → after ≡ waits → IsPackLeft honest before rest old new wants told e → ComesTo honest before rest old new waits after (Err e)
@@ -191,7 +138,9 @@ module _ (honest : Type 0) (before rest : Option (List ℕ)) (old new : FileMap)
       whole (pack_message ended.pack) ended.taken (Err (of_exchange fault)) (ap Err told_so)
       (λ h. subst (λ (w : AwaitedText). IsRefusedMessage old w (pack_message ended.pack) (of_exchange fault)) (sym is) (fault, refl, ended.blames h)) (λ h m pack.
       subst (λ (w : AwaitedText). AnswersUp (Receive m) (Err (of_exchange fault)) old new waits w) (sym same)
-      (subst (λ (w : AwaitedText). AnswersUp (Receive m) (Err (of_exchange fault)) old new w w) (sym is) (arrived_ended old new wants told m ended.pack pack (others h) (bad h) fault (ended.blames h) (ended.same h) (ended.cut h))))
+      (subst (λ (w : AwaitedText). AnswersUp (Receive m) (Err (of_exchange fault)) old new w w) (sym is)
+      (pack_failed old new wants told m ended.pack pack (beside_others old new (others h)) (bad h) fault (Err (of_exchange fault)) refl (ended.blames h)
+      (λ id lacks. node_beside old new (ended.same h id lacks) (bad h) true) (ended.cut h))))
 
 -- a push is none for a clone
 pub push_refused : (content : FileMap) (waits : AwaitedText) (push : PushText) → IsRefusedMessage content waits (a_push push) Unexpected

@@ -1,5 +1,5 @@
 -- A pack that comes from a reader to a clone: what came of it so far, why it didn't all come, and what is told of it then.
-use Rattle.std.proofs.Common.{◌≡◌, ◌≢◌, ℕ, Bool, true, false, cond, List, Option, Some, None, IsSome, Result, Ok, Err, refl, sym, subst, true≢false}
+use Rattle.std.proofs.Common.{◌≡◌, ℕ, Bool, true, false, cond, List, Option, Some, None, IsSome, Result, Ok, Err, refl, sym, subst, true≢false}
 use Rattle.std.specs.Prelude.{IfNone, IfSome, IsErrAnd, IsErrOf}
 use Rattle.vc_fetch.specs.Pack.{is_object}
 use Rattle.vc_files.proofs.WearLemmas.{writes_told}
@@ -20,7 +20,7 @@ use Rattle.vc_pkt.specs.Carried.{with_object}
 use Rattle.vc_pkt.specs.ObjectStream.{between}
 use Rattle.vc_pkt.specs.declared.fault.PktFault.TheVariants.{BadRecord}
 use Rattle.vc_push.specs.Push.{carry}
-use Rattle.vc_session.specs.Bringing.{IsBrought}
+use Rattle.vc_session.specs.Arrival.{HasArrived}
 use Rattle.vc_message.specs.Coming.{TakesPart}
 use Rattle.vc_node.specs.Arriving.{IsStopped, by_bytes, by_node, by_reader}
 use Rattle.vc_node.specs.CloneFaults.{of_device}
@@ -59,9 +59,9 @@ pub some_there : {T : Type 0} {P : Type 0} (found : Option T) → IsSome found �
 some_there None some so = absurd (true≢false (sym some))
 some_there (Some x) some so = so
 
-pub brought_object : (content : FileMap) (slot : ℕ) (names : List ObjectId) (fault : Option ObjectFault) (objects : List StoredObject) (o : StoredObject) → is_object o ≡ true → IsBrought content slot names fault (carry o (Ok objects))
-    → IsBrought content slot names fault (Ok (with_object o objects))
-brought_object content slot names fault objects o good brought = subst (λ (b : Bool). IsBrought content slot names fault (cond b (Ok (with_object o objects)) (Err o))) good brought
+pub brought_object : (content : FileMap) (slot : ℕ) (names : List ObjectId) (fault : Option ObjectFault) (objects : List StoredObject) (o : StoredObject) → is_object o ≡ true → HasArrived content slot names fault (carry o (Ok objects))
+    → HasArrived content slot names fault (Ok (with_object o objects))
+brought_object content slot names fault objects o good brought = subst (λ (b : Bool). HasArrived content slot names fault (cond b (Ok (with_object o objects)) (Err o))) good brought
 
 -- ---- the device
 module _ {T : Type 0} (f : FilesFault) where

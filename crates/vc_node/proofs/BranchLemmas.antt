@@ -20,14 +20,14 @@ use Rattle.vc_model.specs.Clone.Task.{DeleteBranch, SetBranch, MoveHead}
 use Rattle.vc_object.specs.declared.id.ObjectId.{ObjectId}
 use Rattle.vc_refs.specs.RefMap.{RefMap, conflicts, with_ref, without_ref}
 use Rattle.vc_refs.specs.Refs.{refs}
-use Rattle.vc_refs.specs.Way.{IsFree as IsFreeName}
+use Rattle.vc_refs.specs.Obstacle.{IsFree as IsFreeName}
 use Rattle.vc_refs.specs.declared.heads.Head.{Head as RefsHead}
 use Rattle.vc_refs.specs.declared.heads.Head.TheVariants as heads
 use Rattle.vc_refs.proofs.LayeredChangeLemmas.{held_from_ref}
 use Rattle.vc_store.specs.Store.{objects}
 use Rattle.vc_store.specs.declared.faults.StoreFault.TheVariants as store
 use Rattle.vc_refs.specs.declared.faults.RefFault.TheVariants as ref
-use Rattle.vc_refs.proofs.WayLemmas.{split_from_starts}
+use Rattle.vc_refs.proofs.ObstacleLemmas.{split_from_starts}
 use Rattle.vc_node.specs.declared.fault.NodeFault.{NodeFault}
 use Rattle.vc_node.specs.declared.fault.NodeFault.TheVariants.{Store, Ref, Missing, NotACommit, BadPath, PathConflict, BadIndex, WrongEntry, Down}
 use Rattle.vc_node.specs.Blames.{BlamesRemoved, BlamesBranch, BlamesHead, MayHead, IsLocalHead}

@@ -14,10 +14,10 @@ use Rattle.vc_files.specs.FileMap.{FileMap}
 use Rattle.vc_files.specs.Failures.{DifferAtMost, Spends, Wears, Writes}
 use Rattle.vc_files.specs.declared.faults.Fault.{Fault as FilesFault}
 use Rattle.vc_files.specs.declared.faults.Fault.TheVariants as device
-use Rattle.vc_format.specs.Git.{id_of_bytes, kind_of}
+use Rattle.vc_format.specs.Git.{id_of_bytes}
 use Rattle.vc_index.proofs.AgainLemmas.{one_index}
-use Rattle.vc_model.specs.Object.{Id, Kind, Object}
-use Rattle.vc_model.specs.Object.Kind.{Blob, Tree, Commit, Tag}
+use Rattle.vc_message.proofs.MachineObjects.{some_once}
+use Rattle.vc_model.specs.Object.{Id}
 use Rattle.vc_model.specs.Refs.{RefName}
 use Rattle.vc_model.specs.Repository.{IsSound, Repository}
 use Rattle.vc_model.specs.CloneCall.CloneCall.{Asks, Command}
@@ -33,7 +33,6 @@ use Rattle.vc_model.proofs.Maps.{bytes_same}
 use Rattle.vc_object.specs.ObjectId.{is_name}
 use Rattle.vc_object.specs.declared.id.ObjectId.{ObjectId}
 use Rattle.vc_refname.specs.RefName.{is_ref_name}
-use Rattle.vc_refs.specs.Head.{head_of}
 use Rattle.vc_refs.specs.RefMap.{is_ref}
 use Rattle.vc_refs.specs.Packing.{UnpacksOnly}
 use Rattle.vc_refs.specs.Refs.{packed_path, refs}
@@ -41,11 +40,12 @@ use Rattle.vc_refs.proofs.LayeredLemmas.{ref_legal, refs-same, value_same}
 use Rattle.vc_refs.specs.declared.faults.RefFault.{RefFault}
 use Rattle.vc_refs.specs.declared.faults.RefFault.TheVariants as ref
 use Rattle.vc_refs.specs.declared.heads.Head.{Head as RefsHead}
+use Rattle.vc_session.proofs.FrameLemmas.{head-same}
 use Rattle.vc_store.specs.Store.{name_in, object_path, objects, stored_in}
 use Rattle.vc_store.specs.declared.faults.StoreFault.{StoreFault}
 use Rattle.vc_store.specs.declared.faults.StoreFault.TheVariants as store
 use Rattle.vc_store.proofs.PathLemmas.{name_in-some, name_in-object_path}
-use Rattle.vc_rules.specs.Git.{git, machine_entry, machine_kind, stored_of}
+use Rattle.vc_rules.specs.Git.{git, machine_entry}
 use Rattle.vc_rules.proofs.GitLaws.{git_rules}
 use Rattle.vc_node.specs.Burning.{CallsBurn, ExchangesBurn, PacksBurn, SoundCallsBurn}
 use Rattle.vc_node.specs.CloneCalls.{FoundAs, ReceivedAs, RestartedAs, SentAs}
@@ -130,25 +130,7 @@ image_of f (x ∷ xs) y h = elim (Contains-append_cases (f x ∷ []) (map f xs) 
   | inr later ↦ image_of f xs y later
 ]
 
--- ---- an object of the machine is known by how it is stored
-
-kind_again : (k : Kind) → machine_kind (kind_of k) ≡ k
-kind_again Blob = refl
-kind_again Tree = refl
-kind_again Commit = refl
-kind_again Tag = refl
-
-stored_once : (o p : Object) → stored_of o ≡ stored_of p → o ≡ p
-stored_once o p e =
-    let kinds : o.kind ≡ p.kind = sym (kind_again o.kind) ∙ ap (λ s. machine_kind s.kind) e ∙ kind_again p.kind in
-    let bodies : o.body ≡ p.body = ap (λ s. s.body) e in
-    ap (λ k. record { kind = k; body = o.body }) kinds ∙ ap (λ b. record { kind = p.kind; body = b }) bodies
-
-some_once : (a b : Option Object) → option_map stored_of a ≡ option_map stored_of b → a ≡ b
-some_once None None e = refl
-some_once None (Some p) e = absurd (cc e)
-some_once (Some o) None e = absurd (cc e)
-some_once (Some o) (Some p) e = ap Some (stored_once o p (ap (λ s. unwrap_or s (stored_of o)) e))
+-- ---- a name of the machine is known by its id
 
 id_once : (a b : Option Id) → option_map id_of_bytes a ≡ option_map id_of_bytes b → a ≡ b
 id_once None None e = refl
@@ -173,10 +155,6 @@ no_ref_at content n other = by (refs content n) refl
     by : (o : Option ObjectId) → refs content n ≡ o → o ≡ None
     by None is = refl
     by (Some id) is = absurd (cc (sym (ref_legal content n id is) ∙ other))
-
-head_at : (old new : FileMap) → get new (codes "HEAD") ≡ get old (codes "HEAD") → head_of new ≡ head_of old
-unfolding head_of
-head_at old new same = search same
 
 module _ (old new : FileMap) (r s : Repository) (p : Spells (shown old) r) (q : Spells (shown new) s) (name : RefName) (packed : UnpacksOnly name old new) (paths : List (List ℕ)) (each : (path : List ℕ) → (get new path ≡ get old path) ⊎ Contains paths path) where
   at : (path : List ℕ) → (get new path ≡ get old path) ⊎ Contains (map (place name) paths) (place name path)
@@ -222,7 +200,7 @@ module _ (old new : FileMap) (r s : Repository) (p : Spells (shown old) r) (q : 
   head_differs : (s.head ≡ r.head) ⊎ Contains (map (place name) paths) TheHead
   head_differs = elim (at (codes "HEAD")) [
     | inl same ↦ inl (
-        let heads : ◌≡◌ {A = Option RefsHead} (Some q.head) (Some p.head) = sym q.head_shown ∙ head_at old new same ∙ p.head_shown in
+        let heads : ◌≡◌ {A = Option RefsHead} (Some q.head) (Some p.head) = sym q.head_shown ∙ head-same old new same ∙ p.head_shown in
         q.head_is ∙ ap machine_head (ap (λ h. unwrap_or h p.head) heads) ∙ sym p.head_is)
     | inr there ↦ inr there
   ]

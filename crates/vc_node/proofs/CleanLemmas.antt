@@ -18,10 +18,11 @@ use Rattle.vc_refs.specs.RefMap.{IsInRefs}
 use Rattle.vc_refs.specs.Refs.{IsBadRef, ChangesOnly, packed_at, packed_path}
 use Rattle.vc_refs.proofs.LayeredChangeLemmas.{unpacks_same}
 use Rattle.vc_refs.proofs.LayeredLemmas.{bad-same, bad_place, packed_map-same}
-use Rattle.vc_refs.proofs.WayLemmas.{split_from_starts}
+use Rattle.vc_refs.proofs.ObstacleLemmas.{split_from_starts}
 use Rattle.vc_store.specs.Store.{objects, object_path, stored_in, with_object, with_file}
 use Rattle.vc_node.specs.Clean.{IsClean, KeepsClean, KeepsCleanBut}
-use Rattle.vc_node.proofs.ShownLemmas.{ref_no_object, ref_no_index}
+use Rattle.vc_session.proofs.FrameLemmas.{ref_no_object}
+use Rattle.vc_node.proofs.ShownLemmas.{ref_no_index}
 use Rattle.vc_node.proofs.StoringLemmas.{name_valid}
 
 pub clean_same : {name : List ℕ} (old new : FileMap) → new ≡ old → KeepsCleanBut name old new

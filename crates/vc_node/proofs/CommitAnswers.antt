@@ -43,7 +43,7 @@ use Rattle.vc_rules.proofs.JoinLemmas.{none_added}
 use Rattle.vc_rules.proofs.RefLemmas.{set_rel}
 use Rattle.vc_node.proofs.RefusalLemmas.{same_head, same_body, head_free, parents_good}
 use Rattle.vc_node.proofs.TreeObjects.{with_trees, with_trees_show, with_trees_append, trees_held, trees_over, spells_objects, added_over, Keeps, keeps_added, keeps_trees, some_of_more}
-use Rattle.vc_node.proofs.WriteLemmas.{added, added_shows}
+use Rattle.vc_node.proofs.WriteLemmas.{added_shows}
 
 -- HEAD's branch, or a detached HEAD, is moved to the id
 spells_moved : (s : Shown) (u : Repository) (id : ObjectId) (head : Head) → Spells s u → Spells (moved head id s) (changed (head_to (machine_head head) id.0) u)
@@ -132,7 +132,7 @@ module _ (content : FileMap) (extra : List ObjectId) (author committer message :
         written_root = record { trees = all; root = written.root; listed = written.listed; fits = written.fits; is = written.is }
 
         abbrev stored_all : Objects
-        stored_all = added (with_trees r.objects all) (git_name (commit w.tree)) (commit w.tree)
+        stored_all = with_made (with_trees r.objects all) (git_name (commit w.tree)) (commit w.tree)
 
         pub name_is : git_name (commit w.tree) ≡ id.0
         name_is = named w.tree ∙ ap (λ (i : ObjectId). i.0) (sym w.name)

@@ -3,9 +3,9 @@ use Rattle.std.proofs.Common.{◌≡◌, ℕ, List, [], ◌∷◌, Option, Some,
 use Rattle.std.specs.Prelude.{IsSome}
 use Rattle.std.specs.Option.{option_map}
 use Rattle.std.proofs.lemmas.List.Elements.{Contains-append_right, Contains-push_cases}
-use Rattle.vc_base.specs.BaseFault.{IsTold}
-use Rattle.vc_base.specs.declared.fault.BaseFault.{BaseFault}
-use Rattle.vc_base.specs.declared.fault.BaseFault.TheVariants as base
+use Rattle.vc_history.specs.BaseFault.{IsTold}
+use Rattle.vc_history.specs.declared.fault.BaseFault.{BaseFault}
+use Rattle.vc_history.specs.declared.fault.BaseFault.TheVariants as base
 use Rattle.vc_files.specs.FileMap.{FileMap}
 use Rattle.vc_graph.specs.Graph.{Reaches, ReachedFrom, LinksTo}
 use Rattle.vc_graph.specs.Graph.Reaches.{itself, onward}

@@ -13,7 +13,7 @@ use Rattle.vc_object.specs.declared.id.ObjectId.{ObjectId}
 use Rattle.vc_object.specs.declared.kind.Kind.TheVariants as kinds
 use Rattle.vc_refs.specs.Head.{head_of}
 use Rattle.vc_refs.proofs.LayeredLemmas.{decides-loose, decides-packed}
-use Rattle.vc_refs.specs.RefFault.{BlamesHead, BlamesHeadValue, BlamesWay, IsFault}
+use Rattle.vc_refs.specs.RefFault.{BlamesHead, BlamesHeadValue, BlamesObstacle, IsFault}
 use Rattle.vc_refs.specs.Refs.{deciding_file, is_taken}
 use Rattle.vc_refs.specs.declared.faults.RefFault.{RefFault}
 use Rattle.vc_refs.specs.declared.faults.RefFault.TheVariants as ref
@@ -78,7 +78,7 @@ value_read content ref.HeadLoop blames = tt
 value_read content (ref.Fault f) blames = tt
 
 -- what is in the way of HEAD's branch
-pub way_read : (content : FileMap) (name : List ℕ) (e : RefFault) → head_of content ≡ Some (heads.Branch name) → BlamesWay content name e → TellsRead NoneRead (IsAtHead content) (Ref e)
+pub way_read : (content : FileMap) (name : List ℕ) (e : RefFault) → head_of content ≡ Some (heads.Branch name) → BlamesObstacle content name e → TellsRead NoneRead (IsAtHead content) (Ref e)
 way_read content name (ref.Stale current) head blames = tt
 way_read content name (ref.Conflict other) head blames = tt
 way_read content name (ref.BadRefFile path) head blames = inr (heads.Branch name, head, elim blames [ inl packed ↦ inl (inr packed.0) | inr first ↦ inr first.2 ])

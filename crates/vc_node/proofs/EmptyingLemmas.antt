@@ -1,11 +1,12 @@
 -- What opening the files of a node leaves of them, where their quarantines are emptied first.
-use Rattle.std.proofs.Common.{inl, ◌≡◌, ℕ, Bool, true, false, cond, ◌&&◌, ◌||◌, nat_eq, List, [], ◌++◌, drop, take, map, Option, Some, None, Result, Ok, Err, OnOk, sym, ap, refl, ◌∙◌, subst}
+use Rattle.std.proofs.Common.{inl, ◌≡◌, ℕ, true, false, cond, ◌&&◌, nat_eq, List, [], ◌++◌, drop, take, map, Option, Some, None, Result, Ok, Err, OnOk, sym, ap, refl, ◌∙◌, subst}
 use Rattle.std.specs.Prelude.{IfErr, OnErr, bytes_eq, codes, is_some, unwrap_or, String, string_bytes, option_map}
 use Rattle.std.specs.FinMap as files
 use Rattle.std.specs.Global.{Global}
 use Rattle.std.specs.List.{starts_with}
 use Rattle.std.specs.Ordering.{nat_cmp, eq_by_cmp}
 use Rattle.std.specs.Cmp.Lexicographic.{slice_cmp}
+use Rattle.std.proofs.lemmas.Bool.{or_parts}
 use Rattle.std.proofs.lemmas.List.{map-append, take-append-drop}
 use Rattle.std.proofs.lemmas.List.Folds.{list_any-append}
 use Rattle.vc_files.specs.FileMap.{FileMap, paths_under}
@@ -19,24 +20,22 @@ use Rattle.vc_node.specs.Opening.{IsOpenable, opened_node}
 use Rattle.vc_node.specs.Shown.{IsReady, Shown, opened, shown}
 use Rattle.vc_node.specs.declared.fault.NodeFault.{NodeFault}
 use Rattle.vc_node.specs.declared.fault.NodeFault.TheVariants.{Store, Ref, Missing, NotACommit, BadPath, PathConflict, BadIndex, WrongEntry, Down}
-use Rattle.vc_object.specs.ObjectMap.{ObjectMap}
 use Rattle.vc_refs.proofs.PathLemmas.{is_among, is_among-paths_under}
-use Rattle.vc_refs.proofs.WayLemmas.{split_from_starts}
+use Rattle.vc_refs.proofs.ObstacleLemmas.{split_from_starts}
 use Rattle.vc_refs.specs.Head.{read_head, head_of}
 use Rattle.vc_refs.specs.RefFault.{BlamesHead}
-use Rattle.vc_refs.specs.RefMap.{RefMap}
 use Rattle.vc_refs.specs.Refs.{packed_path, refs}
 use Rattle.vc_refs.specs.declared.faults.RefFault.{RefFault}
 use Rattle.vc_refs.specs.declared.faults.RefFault.TheVariants.{Stale, Conflict, BadRefFile, HeadLoop, Fault}
-use Rattle.vc_refs.specs.declared.heads.Head.{Head}
 use Rattle.vc_session.proofs.CleanLemmas.{bad_loses}
-use Rattle.vc_session.proofs.FrameLemmas.{head-same, objects-same, refs-kept}
+use Rattle.vc_session.proofs.FrameLemmas.{head-same, refs-kept}
 use Rattle.vc_session.proofs.QuarantineLemmas.{Taken, taken_left}
 use Rattle.vc_store.specs.Store.{object_path, objects}
 use Rattle.vc_model.specs.Clone.Awaited.{Nothing}
 use Rattle.vc_node.proofs.CleanLemmas.{clean_on as kept_on, clean_then}
 use Rattle.vc_node.proofs.OpeningLaws.{made_ready}
 use Rattle.vc_node.proofs.ReceivingClone.{clean_by, clean_on}
+use Rattle.vc_node.proofs.ShownLemmas.{objects_same, same_shown}
 use Rattle.vc_node.specs.Emptying.{AreEmpty, IsOpened, LosesCarried, quarantines}
 use Rattle.vc_session.specs.Quarantine.{IsDropped, quarantine_folder}
 
@@ -51,10 +50,6 @@ all_empty old now t path under =
     ∙ ap (λ b. cond b None (files.get old path)) (is_among-paths_under old quarantines path ∙ ap (λ b. b && is_some (files.get old path)) under)
     ∙ none_left (files.get old path)
 
-first_no : (a b : Bool) → (a || b) ≡ false → a ≡ false
-first_no true b e = cc
-first_no false b e = refl
-
 -- as some of the paths are taken away, what is outside stays
 pub taken_loses : (old now : FileMap) (items : List (String Global)) (i : ℕ) → map string_bytes items ≡ paths_under old quarantines → Taken old now (map string_bytes (take i items)) → LosesCarried old now
 taken_loses old now items i listed t = record {
@@ -64,7 +59,7 @@ taken_loses old now items i listed t = record {
         let back = map string_bytes (drop i items) in
         let whole : front ++ back ≡ paths_under old quarantines = sym (map-append string_bytes (take i items) (drop i items)) ∙ ap (map string_bytes) (take-append-drop i items) ∙ listed in
         let none : is_among path (front ++ back) ≡ false = ap (is_among path) whole ∙ is_among-paths_under old quarantines path ∙ ap (λ b. b && is_some (files.get old path)) outside in
-        let no : is_among path front ≡ false = first_no _ _ (sym (list_any-append (eq_by_cmp (slice_cmp nat_cmp) path) front back) ∙ none) in
+        let no : is_among path front ≡ false = (or_parts _ _ (sym (list_any-append (eq_by_cmp (slice_cmp nat_cmp) path) front back) ∙ none)).0 in
         t.at path ∙ ap (λ b. cond b None (files.get old path)) no;
   };
   left = taken_left t;
@@ -87,20 +82,14 @@ clean_lost old new loses = clean_by old new (bad_loses old new loses.left (loses
 no_ref_there : (q : List ℕ) → starts_with nat_eq q (codes "refs/") ≡ true → starts_with nat_eq q quarantines ≡ false
 no_ref_there q h = ap (λ p. starts_with nat_eq p quarantines) (split_from_starts q (codes "refs/") h)
 
-same_shown : (o p : ObjectMap) (r s : RefMap) (h k : Option Head) (t u : List ℕ) → o ≡ p → r ≡ s → h ≡ k → t ≡ u
-    → ◌≡◌ {A = Shown} (record { objects = o; refs = r; head = h; index = t }) (record { objects = p; refs = s; head = k; index = u })
-same_shown o p r s h k t u a b c d i = record { objects = a i; refs = b i; head = c i; index = d i }
-
 module _ (old new : FileMap) (loses : LosesCarried old new) where
   index_kept : index_bytes new ≡ index_bytes old
   index_kept = ap (λ found. unwrap_or found []) (loses.outside.at (codes "index") refl)
 
-  objects_kept : objects new ≡ objects old
-  objects_kept i id = objects-same old new id (loses.outside.at (object_path id.0) refl) i
-
   pub shown_kept : shown new ≡ shown old
   shown_kept =
-      same_shown (objects new) (objects old) (refs new) (refs old) (head_of new) (head_of old) (index_bytes new) (index_bytes old) objects_kept
+      same_shown (objects new) (objects old) (refs new) (refs old) (head_of new) (head_of old) (index_bytes new) (index_bytes old)
+      (objects_same old new (λ name. loses.outside.at (object_path name) refl))
       (refs-kept old new (λ q h. loses.outside.at q (no_ref_there q h)) (loses.outside.at packed_path refl))
       (head-same old new (loses.outside.at (codes "HEAD") refl)) index_kept
 

@@ -6,7 +6,6 @@ use Rattle.vc_exchange.specs.Deeds.{ChangesAt, HoldsHead, IsCutShort, IsReceived
 use Rattle.vc_exchange.specs.Faults.{BlamesFiles}
 use Rattle.vc_exchange.specs.Moving.{Told, told_in}
 use Rattle.vc_exchange.specs.Receiving.{AreRefs, BlamesAdvert, BlamesPack, DeclinesPack, awaited_pack}
-use Rattle.vc_exchange.specs.Storing.{KeepsBeside}
 use Rattle.vc_exchange.specs.declared.fault.ExchangeFault.{ExchangeFault}
 use Rattle.vc_exchange.specs.declared.fault.ExchangeFault.TheVariants as exchange
 use Rattle.vc_fetch.specs.Advert.{AdvertText}
@@ -34,7 +33,7 @@ use Rattle.vc_rules.specs.Git.{git}
 use Rattle.vc_rules.specs.OpenPushes.{HoldsContent}
 use Rattle.vc_session.specs.Clean.{MakesNoneBad}
 use Rattle.vc_node.proofs.CloneCallLemmas.{Leads, held_content, refused_leads}
-use Rattle.vc_node.proofs.ReceivingClone.{SameBeside, beside_kept, beside_refs, cut_leads, head_held, received_leads, up_answers}
+use Rattle.vc_node.proofs.ReceivingClone.{SameBeside, beside_refs, cut_leads, head_held, received_leads, up_answers}
 use Rattle.vc_node.proofs.ReceivingFaults.{IsFailing, advert_fails, files_fail, pack_fails}
 use Rattle.vc_node.specs.Awaited.{AwaitedText, IsAwaited, a_pack, an_advert, awaited_text, nothing}
 use Rattle.vc_node.specs.CloneCalls.{AnswersUp, MayOr, ReceivedAs}
@@ -44,7 +43,7 @@ use Rattle.vc_node.specs.Receipts.{IsRefusedMessage}
 use Rattle.vc_node.specs.declared.awaited.Awaited.{Awaited as Waiting}
 use Rattle.vc_node.specs.declared.awaited.Awaited.TheVariants as of
 use Rattle.vc_node.specs.declared.clone_fault.CloneFault.{CloneFault}
-use Rattle.vc_node.specs.declared.clone_fault.CloneFault.TheVariants.{Incomplete, Unexpected}
+use Rattle.vc_node.specs.declared.clone_fault.CloneFault.TheVariants.{Unexpected}
 use Rattle.vc_node.specs.declared.exchanging.Received.{Received}
 use Rattle.vc_node.specs.declared.exchanging.Received.TheVariants.{Moved, Reported, Send}
 
@@ -121,36 +120,36 @@ module _ (old new : FileMap) (m : Message) (advert : AdvertText) (is : IsAdvert 
       (subst (λ (a : Awaited). IsCutShort n.repository a m new) (sym waiting) (cut n.repository (held_content old n.repository held.shows.spells) m is)))
 
 -- ---- a pack that is awaited
-module _ (old new : FileMap) (wants : List ObjectId) (refs_told : List Told) (m : Message) (pack : PackText) (is : IsPack m pack) (kept : KeepsBeside old new) (bad : MakesNoneBad old new) where
+module _ (old new : FileMap) (wants : List ObjectId) (refs_told : List Told) (m : Message) (pack : PackText) (is : IsPack m pack) (beside : SameBeside old new) (bad : MakesNoneBad old new) where
   pub pack_taken : (moved left : ℕ)
       → ((r : Repository) → HoldsContent old r → (k : Message) → IsPack k pack → (refs : Refs) → AreRefs refs refs_told → IsReceived r (awaited_pack wants refs) k new Nothing None (MovedRefs moved left))
       → AnswersUp (Receive m) (Ok (Moved moved left)) old new (a_pack wants refs_told) nothing
   pack_taken moved left taken =
       up_answers (Receive m) (Ok (Moved moved left)) old new (a_pack wants refs_told) nothing (λ awaited n waiting held.
-      received_leads old (a_pack wants refs_told) awaited n waiting held new m (beside_kept old new kept) bad (ReceivedAs (Ok (Moved moved left))) nothing Nothing None (MovedRefs moved left)
+      received_leads old (a_pack wants refs_told) awaited n waiting held new m beside bad (ReceivedAs (Ok (Moved moved left))) nothing Nothing None (MovedRefs moved left)
       (subst (λ (a : Awaited). IsReceived n.repository a m new Nothing None (MovedRefs moved left)) (sym waiting.2)
       (taken n.repository (held_content old n.repository held.shows.spells) m is waiting.0 waiting.1)) refl
       (record { answer = refl; sent = refl }))
 
-  module _ (fault : ExchangeFault) (q : Result Received CloneFault) (told : q ≡ Err (of_exchange fault)) (same : (id : ObjectId) → fault ≡ exchange.Incomplete id → new ≡ old)
+  module _ (fault : ExchangeFault) (q : Result Received CloneFault) (told : q ≡ Err (of_exchange fault))
+      (same : (id : ObjectId) → fault ≡ exchange.Incomplete id → (awaited : Awaited) (n : CloneNode) → HoldsNode old true awaited n → HoldsNode new true awaited n)
       (cut : (r : Repository) → HoldsContent old r → (k : Message) → IsPack k pack → (refs : Refs) → AreRefs refs refs_told → IsCutShort r (awaited_pack wants refs) k new)
       (awaited : Awaited) (n : CloneNode) (waiting : IsAwaited (a_pack wants refs_told) awaited) (held : HoldsNode old true awaited n) where
     -- not all is there that was asked for
     incomplete : (id : ObjectId) → fault ≡ exchange.Incomplete id → DeclinesPack old wants m → Leads n (Receive m) new (a_pack wants refs_told) (up_after q) (ReceivedAs q)
     incomplete id lacks declines =
         subst (λ (x : Result Received CloneFault). Leads n (Receive m) new (a_pack wants refs_told) (up_after x) (ReceivedAs x)) (sym (told ∙ ap (λ (f : ExchangeFault). Err (of_exchange f)) lacks))
-        (subst (λ (c : FileMap). Leads n (Receive m) c (a_pack wants refs_told) true (ReceivedAs (Err (Incomplete id)))) (sym (same id lacks))
-        (refused_leads (Receive m) old (a_pack wants refs_told) awaited n waiting held 92
-        (λ sound. subst (λ (a : Awaited). ReceivesNot git n.repository a m 92) (sym waiting.2) (declines n.repository waiting.0 (held_content old n.repository held.shows.spells)))))
+        (refused_leads (Receive m) new (a_pack wants refs_told) awaited n waiting (same id lacks awaited n held) 92
+        (λ sound. subst (λ (a : Awaited). ReceivesNot git n.repository a m 92) (sym waiting.2) (declines n.repository waiting.0 (held_content old n.repository held.shows.spells))))
 
     pack_fault : IsFailing (of_exchange fault) ⊎ ((id : ObjectId) × (fault ≡ exchange.Incomplete id) × DeclinesPack old wants m) → Leads n (Receive m) new (a_pack wants refs_told) (up_after q) (ReceivedAs q)
     pack_fault (inl failing) =
-        failed_leads old new (a_pack wants refs_told) awaited n waiting held m (beside_kept old new kept) bad q (of_exchange fault) told failing
+        failed_leads old new (a_pack wants refs_told) awaited n waiting held m beside bad q (of_exchange fault) told failing
         (subst (λ (a : Awaited). IsCutShort n.repository a m new) (sym waiting.2) (cut n.repository (held_content old n.repository held.shows.spells) m is waiting.0 waiting.1))
     pack_fault (inr (id, lacks, declines)) = incomplete id lacks declines
 
   pub pack_failed : (fault : ExchangeFault) (q : Result Received CloneFault) → IsErrAnd q (λ x. x ≡ of_exchange fault) → ((k : Message) → IsPack k pack → BlamesPack old wants k fault)
-      → ((id : ObjectId) → fault ≡ exchange.Incomplete id → new ≡ old)
+      → ((id : ObjectId) → fault ≡ exchange.Incomplete id → (awaited : Awaited) (n : CloneNode) → HoldsNode old true awaited n → HoldsNode new true awaited n)
       → ((r : Repository) → HoldsContent old r → (k : Message) → IsPack k pack → (refs : Refs) → AreRefs refs refs_told → IsCutShort r (awaited_pack wants refs) k new)
       → AnswersUp (Receive m) q old new (a_pack wants refs_told) (a_pack wants refs_told)
   pack_failed fault q told why same cut =

@@ -10,14 +10,16 @@ use Rattle.vc_index.specs.declared.entry.IndexEntry.{IndexEntry}
 use Rattle.vc_index.specs.declared.faults.IndexFault.{IndexFault}
 use Rattle.vc_index.specs.declared.faults.IndexFault.TheVariants as index
 use Rattle.vc_index.proofs.AgainLemmas.{no_text_fault}
+use Rattle.vc_index.proofs.FrontLemmas.{value_of}
 use Rattle.vc_index.proofs.MapLemmas.{insert-IsIndex, remove-IsIndex}
-use Rattle.vc_model.specs.Object.{Objects, blob}
-use Rattle.vc_model.specs.Repository.{Repository, Entry, Index, AllAdded, SomeAdded, with_objects, only_changes}
+use Rattle.vc_model.specs.Object.{blob}
+use Rattle.vc_model.proofs.Sound.{all_is_some}
+use Rattle.vc_model.specs.Repository.{Repository, Entry, Index, with_objects, only_changes}
 use Rattle.vc_model.specs.Repository.Change.{SetIndex}
 use Rattle.vc_model.specs.Node.{Deed}
 use Rattle.vc_model.specs.Node.Answer.{Did, Declined}
 use Rattle.vc_model.specs.Node.Reply.{Stored}
-use Rattle.vc_model.specs.Clone.{Awaited, only_object, quietly}
+use Rattle.vc_model.specs.Clone.{Awaited, only_object, quietly, with_object as added}
 use Rattle.vc_model.specs.Clone.Task.{Stage, Unstage}
 use Rattle.vc_model.specs.CloneCall.{IsFreePath, Obeys, Refuses}
 use Rattle.vc_object.specs.Decoding.{stored_object}
@@ -37,12 +39,13 @@ use Rattle.vc_node.specs.NodeFault.{is_fault, of_index}
 use Rattle.vc_node.specs.Shown.{Shown, shown, with_objects_shown, with_index_shown}
 use Rattle.vc_rules.specs.Git.{git, machine_entry, mode_number}
 use Rattle.vc_rules.specs.Faults.{object_number}
+pub use Rattle.vc_rules.specs.Trees.{ShowsIndex as IsMachineIndex}
 use Rattle.vc_rules.proofs.GitLaws.{git_rules}
 use Rattle.vc_node.specs.Machine.{Spells, Follows, IsBadFile, fault_answer, failure_of}
 use Rattle.vc_node.proofs.AnswerLemmas.{faults}
 use Rattle.vc_rules.proofs.JoinLemmas.{none_added}
 use Rattle.vc_rules.proofs.MapLemmas.{get-put, get-unput, map_cond}
-use Rattle.vc_node.proofs.WriteLemmas.{added, added_all, spells_added}
+use Rattle.vc_node.proofs.WriteLemmas.{added_all, spells_added}
 
 -- what is shown spells the index
 pub spells_index : (content : FileMap) (r : Repository) (p : Spells (shown content) r) → SpellsIndex content p.map
@@ -77,7 +80,7 @@ index_add_blamed content m path body (WrongEntry at) s blames = absurd blames
 index_add_blamed content m path body Down s blames = absurd blames
 
 -- a repository with another index
-pub spells_map : (s : Shown) (r : Repository) (m : IndexMap) (i : Index) → Spells s r → IsIndex m → ((q : List ℕ) → get i q ≡ option_map machine_entry (get m q)) → Spells (with_index_shown s (index_text m)) (record r { index = i })
+pub spells_map : (s : Shown) (r : Repository) (m : IndexMap) (i : Index) → Spells s r → IsIndex m → IsMachineIndex i m → Spells (with_index_shown s (index_text m)) (record r { index = i })
 spells_map s r m i p sound rel = record {
   objects = p.objects;
   refs = p.refs;
@@ -97,7 +100,7 @@ pub unstage_done : (content : FileMap) (path : List ℕ) (new : Shown) → ((m :
 unstage_done content path new is = record {
   goes = λ awaited r p.
       let i = remove r.index path in
-      let rel : (q : List ℕ) → get i q ≡ option_map machine_entry (get (remove p.map path) q) =
+      let rel : IsMachineIndex i (remove p.map path) =
       λ q. get-unput r.index path q ∙ ap (cond (bytes_eq q path) None) (p.index q) ∙ map_cond machine_entry (bytes_eq q path) None (get p.map q) ∙ ap (option_map machine_entry) (sym (get-unput p.map path q)) in
       let after = record r { index = i } in (
         after,
@@ -126,14 +129,6 @@ some_under : (o : Option IndexEntry) (e : Entry) → option_map machine_entry o 
 some_under None e h = cc
 some_under (Some v) e h = refl
 
-some_value : (o : Option IndexEntry) → IsSome o → (v : IndexEntry) × (o ≡ Some v)
-some_value None h = absurd (cc h)
-some_value (Some v) h = (v, refl)
-
--- an index of the machine that has what the map has
-abbrev pub IsMachineIndex : Index → IndexMap → Type 0
-IsMachineIndex i m = (q : List ℕ) → get i q ≡ option_map machine_entry (get m q)
-
 module _ (i : Index) (m : IndexMap) (path : List ℕ) (rel : IsMachineIndex i m) where
   -- where no file of the index conflicts, none of the machine's does
   pub free_path : ¬ HasConflict m path → IsFreePath i path
@@ -141,7 +136,7 @@ module _ (i : Index) (m : IndexMap) (path : List ℕ) (rel : IsMachineIndex i m)
 
   pub not_free_path : HasConflict m path → ¬ IsFreePath i path
   not_free_path h free =
-      let v = some_value (get m h.0) h.1 in
+      let v = value_of (get m h.0) h.1 in
       free h.0 (machine_entry v.0) (rel h.0 ∙ ap (option_map machine_entry) v.1) h.2
 
   -- the same of both with a file put into them
@@ -192,9 +187,6 @@ add_done content path bytes mode new file is may = record {
 abbrev pub LeftByAdd : FileMap → IndexMap → List ℕ → List ℕ → NodeFault → FileMap → Type 0
 LeftByAdd content m path bytes e new = (new ≡ content) ⊎ ((is_fault e ≡ true) × MayStage m path bytes × (shown new ≡ staged_objects content bytes))
 
-some_added : {s c after : Objects} → AllAdded s c after → SomeAdded s c after
-some_added all = record { each = λ x. inr (all.each x) }
-
 -- a refusal, after which nothing has changed
 add_declined : (content : FileMap) (path bytes : List ℕ) (mode : Mode) (e : NodeFault) (n : ℕ) (new : FileMap) → is_fault e ≡ false → fault_answer e ≡ Declined n
     → ((m : IndexMap) → SpellsIndex content m → LeftByAdd content m path bytes e new)
@@ -226,7 +218,7 @@ add_failed content path bytes mode (Store (store.Fault f)) new blames damage lef
         | inr cut ↦ (
           with_objects r (added r.objects k o),
           subst (λ (s : Shown). Spells s (with_objects r (added r.objects k o))) (sym cut.2) (spells_added (shown content) r k o p),
-          inl (staged_deed awaited r path mode bytes, staged_obeyed content path bytes mode awaited r p cut.1, inl (added r.objects k o, some_added (added_all r.objects k o), refl), refl),
+          inl (staged_deed awaited r path mode bytes, staged_obeyed content path bytes mode awaited r p cut.1, inl (added r.objects k o, all_is_some r.objects _ (added r.objects k o) (added_all r.objects k o), refl), refl),
         )
       ];
 })

@@ -2,8 +2,8 @@
 use Rattle.std.proofs.Common.{◌≡◌, ⊎_elim, List, Some, refl, ap, ◌∙◌, map, ◌++◌, ◌∷◌, [], ℕ}
 use Rattle.std.specs.Prelude.{codes}
 use Rattle.std.specs.FinMap as files
-use Rattle.vc_answer.proofs.KeepsLemmas.{keeps_map, keeps_same, keeps_then, with_object-keeps, with_objects-keeps}
-use Rattle.vc_answer.specs.Reached.{KeepsObjects}
+use Rattle.vc_pack.proofs.KeepsLemmas.{keeps_map, keeps_same, keeps_then, with_object-keeps, with_objects-keeps}
+use Rattle.vc_pack.specs.Reached.{KeepsObjects}
 use Rattle.vc_files.specs.FileMap.{FileMap}
 use Rattle.vc_index.specs.IndexMap.{IndexMap}
 use Rattle.vc_index.specs.WrittenTrees.{IsBegun, IsWritten, tree_object}

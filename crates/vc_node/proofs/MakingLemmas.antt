@@ -1,22 +1,27 @@
 -- From the steps of a commit to the whole.
-use Rattle.std.proofs.Common.{◌≡◌, ℕ, ◌+◌, ◌<◌, zero, suc, List, [], ◌∷◌, take, get_or, length, refl, sym, ap, ◌∙◌, subst, add-one, arith, inl, inr}
-use Rattle.std.specs.Prelude.{Result, Ok, Err, IsErrAnd, IfErr, OnErr, codes}
+use Rattle.std.proofs.Common.{◌≡◌, ◌⊎◌, ℕ, ◌+◌, ◌<◌, zero, suc, List, [], ◌∷◌, take, get_or, length, refl, sym, ap, ◌∙◌, subst, add-one, arith, inl, inr}
+use Rattle.std.specs.Prelude.{Result, Ok, Err, Some, IsErrAnd, IfErr, OnErr, codes}
 use Rattle.std.specs.List.{AllByRecursion}
 use Rattle.vc_files.specs.FileMap.{FileMap, SameOutside}
 use Rattle.vc_files.specs.declared.faults.Fault.{Fault as FilesFault}
 use Rattle.vc_index.specs.IndexMap.{IndexMap}
+use Rattle.vc_object.specs.Object.{IsObject}
 use Rattle.vc_object.specs.ObjectMap.{ObjectMap}
 use Rattle.vc_object.specs.declared.id.ObjectId.{ObjectId}
+use Rattle.vc_object.specs.declared.kind.Kind.TheVariants as kinds
+use Rattle.vc_refs.specs.Head.{head_of}
 use Rattle.vc_refs.specs.declared.heads.Head.{Head}
 use Rattle.vc_store.specs.Store.{objects}
 use Rattle.vc_store.specs.declared.faults.StoreFault.TheVariants as store
-use Rattle.vc_node.specs.Commit.{IsGoodParent, WritesCommit, moved}
+use Rattle.vc_node.specs.Commit.{IsFreeHead, IsGoodParent, WritesCommit, made_body, moved, parents_of_commit}
 use Rattle.vc_node.specs.GoodCommit.{BlamesCommit}
-use Rattle.vc_node.specs.Making.{BlamesParents, StoresTrees}
+use Rattle.vc_node.specs.IndexFile.{SpellsIndex}
+use Rattle.vc_node.specs.Making.{AreLines, BlamesParents, LeftByCommit, MayCommit, MayMake, StoresTrees}
 use Rattle.vc_node.specs.declared.fault.NodeFault.{NodeFault}
 use Rattle.vc_node.specs.declared.fault.NodeFault.TheVariants.{Store}
 use Rattle.vc_node.specs.Shown.{shown, with_objects_shown}
 use Rattle.vc_node.proofs.ShownLemmas.{shown_objects}
+use Rattle.vc_node.proofs.StoringLemmas.{root_of}
 
 -- one more at the end of those that were looked at
 all_one_more : {X : Type 0} (P : X → Type 0) (xs : List X) (i : ℕ) (d : X) → i < length xs → AllByRecursion P (take i xs) → P (get_or xs i d) → AllByRecursion P (take (suc i) xs)
@@ -46,6 +51,37 @@ told_on Reason fault (Err e) is reason = subst Reason (sym is) reason
 pub left_on : {T : Type 0} (Left : Type 0) (fault : NodeFault) (r : Result T NodeFault) → IsErrAnd r (λ e. e ≡ fault) → Left → OnErr r Left
 left_on Left fault (Ok x) is left = tt
 left_on Left fault (Err e) is left = left
+
+-- ---- what a commit found before it stored anything, over files that stayed as they were
+pub record Looked (old now : FileMap) (extra parents : List ObjectId) (author committer : List ℕ) (map : IndexMap) : Type 0 where
+  pub may : MayCommit old extra author committer
+  pub spelled : SpellsIndex old map
+  pub parents_are : parents ≡ parents_of_commit old extra
+  pub same : now ≡ old
+
+pub looked : {old first second third now : FileMap} {extra parents : List ObjectId} (author committer : List ℕ) {head : Head} {map : IndexMap} → first ≡ old → second ≡ first → third ≡ second → now ≡ third
+    → AreLines author committer → head_of old ≡ Some head → IsFreeHead old head → AllByRecursion (IsGoodParent first) extra → parents ≡ parents_of_commit second extra → SpellsIndex third map
+    → Looked old now extra parents author committer map
+looked {extra = extra} author committer {head = head} {map = map} one two three four lines is free good are spelled = record {
+  may = record { lines = lines; head = head; head_is = is; free = free; parents = subst (λ (m : FileMap). AllByRecursion (IsGoodParent m) extra) one good };
+  spelled = subst (λ (m : FileMap). SpellsIndex m map) (three ∙ two ∙ one) spelled;
+  parents_are = are ∙ ap (λ (m : FileMap). parents_of_commit m extra) (two ∙ one);
+  same = four ∙ three ∙ two ∙ one;
+}
+
+-- its objects were written to files in memory
+module _ {old now : FileMap} {extra parents : List ObjectId} {author committer : List ℕ} {map : IndexMap} (found : Looked old now extra parents author committer map)
+    {ps : List ObjectId} {message : List ℕ} {empty made : ObjectMap} {id : ObjectId} (lent : ps ≡ parents) (w : WritesCommit (Unit {0}) map ps author committer message empty made id) where
+  legal : IsObject kinds.Commit (made_body w.tree (parents_of_commit old extra) author committer message)
+  legal = subst (λ (qs : List ObjectId). IsObject kinds.Commit (made_body w.tree qs author committer message)) (lent ∙ found.parents_are) w.legal
+
+  pub may_make : MayMake old extra author committer message
+  may_make = record { may = found.may; map = map; spelled = found.spelled; tree = w.tree; root = root_of (w.trees tt); legal = legal }
+
+  -- and then it was cut
+  pub cut_by : (new : FileMap) (after : ObjectMap) → StoresTrees (Unit {0}) map (objects old) after ⊎ ((id : ObjectId) × WritesCommit (Unit {0}) map (parents_of_commit old extra) author committer message (objects old) after id)
+      → shown new ≡ with_objects_shown (shown old) after → LeftByCommit old extra author committer message new
+  cut_by new after some is = inr (record { may = found.may; map = map; spelled = found.spelled; tree = w.tree; root = root_of (w.trees tt); legal = legal; after = after; some = some; is = is })
 
 -- what was written to honest files
 pub writes_there : (honest : Type 0) (m : IndexMap) (ps qs : List ObjectId) (author committer message : List ℕ) (mid old new : ObjectMap) (id : ObjectId) → honest → ps ≡ qs → mid ≡ old

@@ -22,7 +22,7 @@ use Rattle.vc_object.specs.declared.kind.Kind.{Kind as ObjectKind}
 use Rattle.vc_object.specs.declared.mode.Mode.{Mode}
 use Rattle.vc_refs.specs.Head.{IsLegalHead}
 use Rattle.vc_refs.specs.RefMap.{is_ref}
-use Rattle.vc_refs.specs.Way.{IsFree as IsFreeName}
+use Rattle.vc_refs.specs.Obstacle.{IsFree as IsFreeName}
 use Rattle.vc_refs.specs.declared.heads.Head.{Head as RefsHead}
 use Rattle.vc_refs.specs.declared.heads.Head.TheVariants as heads
 use Rattle.vc_session.specs.Known.{AreRefsWhole}

@@ -1,6 +1,6 @@
 -- What can be opened.
 use Rattle.std.proofs.Common.{◌≡◌, ℕ, Bool, true, false, cond, ◌&&◌, List, [], Option, Some, None, refl, sym, ap, subst, ◌∙◌}
-use Rattle.std.specs.Prelude.{Err, codes, is_some, nat_eq, option_map}
+use Rattle.std.specs.Prelude.{codes, is_some, nat_eq, option_map}
 use Rattle.std.specs.Prelude.{unwrap_or}
 use Rattle.std.specs.List.{flat_map}
 use Rattle.std.specs.Result.{result_ok}
@@ -20,14 +20,14 @@ use Rattle.vc_object.specs.declared.id.ObjectId.{ObjectId}
 use Rattle.vc_refs.specs.Head.{head_of, read_head, said}
 use Rattle.vc_refs.proofs.LayeredLemmas.{good_absent, packed_map-absent, refs-packed}
 use Rattle.vc_refs.specs.Refs.{is_taken, packed_at, packed_path, refs, IsBadRef}
-use Rattle.vc_store.specs.Store.{objects, object_path, stored, stored_in, IsDamaged}
-use Rattle.vc_store.specs.declared.faults.StoreFault.TheVariants.{Absent}
+use Rattle.vc_store.specs.Store.{objects, object_path, stored_in}
 use Rattle.vc_index.specs.IndexMap.{IsIndex}
 use Rattle.vc_index.specs.declared.entry.IndexEntry.{IndexEntry}
 use Rattle.vc_format.specs.Git.{id_of_bytes}
 use Rattle.vc_rules.specs.Git.{machine_entry, stored_of}
 use Rattle.vc_node.specs.Clean.{KeepsClean}
 use Rattle.vc_node.proofs.CleanLemmas.{still_clean}
+use Rattle.vc_node.proofs.StoringLemmas.{none_damaged}
 use Rattle.vc_model.specs.Clone.Awaited.{Nothing}
 use Rattle.vc_node.specs.Machine.{Spells, HoldsNode}
 use Rattle.vc_node.specs.Opening.{IsOpenable, HeldNodesOpen, NewFilesOpen, opened_node}
@@ -75,11 +75,6 @@ no_head : head_of files.empty ≡ None
 unfolding head_of
 no_head = ap (λ found. option_and_then (λ text. said (read_head text)) found) (nothing (codes "HEAD"))
 
-not_damaged : (id : ObjectId) → IsDamaged files.empty id → ⊥
-not_damaged id damaged =
-    let absent : stored files.empty id ≡ Err (Absent id) = ap (λ found. stored_in id found) (nothing (object_path id.0)) in
-    cc (absent, damaged)
-
 not_bad : (path : List ℕ) → IsBadRef files.empty path → ⊥
 not_bad path bad = good_absent files.empty path (nothing path) bad
 
@@ -102,5 +97,5 @@ new_files_open = record {
     map_shown = ap (λ found. unwrap_or found []) (nothing (codes "index")) ∙ ap (flat_map (λ (e : List ℕ × IndexEntry). entry_text e.0 e.1)) (sym entries-empty);
     index = λ path. get-empty (slice_cmp nat_cmp) path ∙ ap (λ found. option_map machine_entry found) (sym (get-empty {X = IndexEntry} (slice_cmp nat_cmp) path));
   });
-  clean = record { objects = not_damaged; refs = not_bad };
+  clean = record { objects = none_damaged; refs = not_bad };
 }

@@ -1,12 +1,11 @@
 -- A bad file that is told is one that was read.
 use Rattle.std.proofs.Common.{[], ◌∷◌}
-use Rattle.vc_base.specs.BaseFault.{IsTold}
-use Rattle.vc_base.specs.declared.fault.BaseFault.{BaseFault}
-use Rattle.vc_base.specs.declared.fault.BaseFault.TheVariants as base
+use Rattle.vc_history.specs.BaseFault.{IsTold}
+use Rattle.vc_history.specs.declared.fault.BaseFault.{BaseFault}
+use Rattle.vc_history.specs.declared.fault.BaseFault.TheVariants as base
 use Rattle.vc_files.specs.FileMap.{FileMap}
 use Rattle.vc_graph.specs.Graph.{ReachedFrom}
 use Rattle.vc_graph.specs.GraphFault.{IsMet}
-use Rattle.vc_index.specs.declared.faults.IndexFault.TheVariants as index
 use Rattle.vc_object.specs.ObjectMap.{parents_in}
 use Rattle.vc_object.specs.declared.id.ObjectId.{ObjectId}
 use Rattle.vc_store.specs.Store.{objects, IsDamaged}

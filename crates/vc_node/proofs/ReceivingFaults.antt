@@ -20,7 +20,7 @@ use Rattle.vc_refs.specs.declared.faults.RefFault.TheVariants as refs
 use Rattle.vc_refs.specs.declared.heads.Head.{Head}
 use Rattle.vc_store.specs.declared.faults.StoreFault.{StoreFault}
 use Rattle.vc_store.specs.declared.faults.StoreFault.TheVariants as store
-use Rattle.vc_node.proofs.RefusalLemmas.{of_head_value}
+use Rattle.vc_node.proofs.RefusalLemmas.{no_head, of_head_value}
 use Rattle.vc_node.specs.Clean.{IsClean}
 use Rattle.vc_node.specs.CloneFaults.{IsOfDevice, TellsDevice, of_device, of_exchange, of_refs, of_store}
 use Rattle.vc_node.specs.Receipts.{IsOfMessage}
@@ -58,11 +58,8 @@ pack_fails content wants m clean (exchange.Incomplete id) why = inr (id, refl, w
 pack_fails content wants m clean (exchange.Fault f) why = inl (f, refl)
 
 module _ (content : FileMap) (head : Head) (at : head_of content ≡ Some head) where
-  no_head : head_of content ≡ None → ⊥
-  no_head none = let e : ◌≡◌ {A = Option Head} None (Some head) = sym none ∙ at in cc e
-
   no_loop : IsHeadLoop content → ⊥
-  no_loop loop = no_head (of_head_value content refs.HeadLoop loop)
+  no_loop loop = no_head content head at (of_head_value content refs.HeadLoop loop)
 
   heads_fail : IsClean content → (fault : RefFault) → BlamesHeads content fault → IsFailing (of_refs fault)
   heads_fail clean (refs.Stale current) never = absurd never
@@ -71,7 +68,7 @@ module _ (content : FileMap) (head : Head) (at : head_of content ≡ Some head) 
   heads_fail clean (refs.BadRefFile path) (inr named) = by (of_head_value content (refs.BadRefFile path) (inl named))
     where
       by : (head_of content ≡ None) ⊎ IsBadRef content (string_bytes path) → IsFailing (of_refs (refs.BadRefFile path))
-      by (inl none) = absurd (no_head none)
+      by (inl none) = absurd (no_head content head at none)
       by (inr bad) = absurd (clean.refs _ bad)
   heads_fail clean refs.HeadLoop loop = absurd (no_loop loop)
   heads_fail clean (refs.Fault f) why = (Memory, refl)

@@ -4,7 +4,7 @@ use Rattle.std.specs.Prelude.{string_bytes}
 use Rattle.vc_files.specs.FileMap.{FileMap}
 use Rattle.vc_object.specs.declared.id.ObjectId.{ObjectId}
 use Rattle.vc_refs.proofs.LayeredLemmas.{decides-loose}
-use Rattle.vc_refs.specs.RefFault.{BlamesList, BlamesRef, BlamesRemove, BlamesSet, BlamesWay, IsFault}
+use Rattle.vc_refs.specs.RefFault.{BlamesList, BlamesRef, BlamesRemove, BlamesSet, BlamesObstacle, IsFault}
 use Rattle.vc_refs.specs.Refs.{IsBadRef, is_taken, refs}
 use Rattle.vc_refs.specs.declared.faults.RefFault.{RefFault}
 use Rattle.vc_refs.specs.declared.faults.RefFault.TheVariants as ref
@@ -45,7 +45,7 @@ module _ (content : FileMap) (name : List ℕ) where
   look_at_name (ref.Fault f) b = tt
 
   -- what stands in its way
-  pub way_at_name : (e : RefFault) → BlamesWay content name e → TellsRead NoneRead (IsAtName content name) (Ref e)
+  pub way_at_name : (e : RefFault) → BlamesObstacle content name e → TellsRead NoneRead (IsAtName content name) (Ref e)
   way_at_name (ref.Stale current) b = tt
   way_at_name (ref.Conflict other) b = tt
   way_at_name (ref.BadRefFile path) b = elim b [ inl packed ↦ inl (inr packed.0) | inr first ↦ inr first.2 ]

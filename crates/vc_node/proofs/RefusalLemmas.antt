@@ -2,7 +2,8 @@
 use Rattle.std.proofs.Common.{◌≡◌, ◌||◌, inl, inr, ℕ, Bool, false, List, [], ◌∷◌, ◌++◌, map, Option, Some, None, true, nat_eq, refl, sym, ap, ◌∙◌, subst}
 use Rattle.std.specs.Prelude.{option_map, option_and_then, option_to_list, unwrap_or, is_some, string_bytes, codes, ◌&&◌}
 use Rattle.std.specs.List.{AllByRecursion, starts_with}
-use Rattle.std.proofs.lemmas.Bool.{and_parts}
+use Rattle.std.proofs.lemmas.Bool.{and_parts, or_right}
+use Rattle.std.proofs.lemmas.Option.{none-some}
 use Rattle.std.specs.FinMap.{get}
 use Rattle.vc_files.specs.FileMap.{FileMap, SameOutside}
 use Rattle.vc_format.specs.Git.{bytes_of_id, id_of_bytes}
@@ -17,14 +18,14 @@ use Rattle.vc_model.specs.Shared.{head_value as machine_value}
 use Rattle.vc_object.specs.declared.id.ObjectId.{ObjectId}
 use Rattle.vc_refs.specs.Head.{IsBadHead, IsHeadLoop, head_of, head_value, read_head, said}
 use Rattle.vc_refs.specs.Refs.{is_taken, packed_at, packed_map, packed_path, refs, IsBadRef}
-use Rattle.vc_refs.specs.Way.{is_held, IsFree as IsFreeName}
+use Rattle.vc_refs.specs.Obstacle.{is_held, IsFree as IsFreeName}
 use Rattle.vc_refs.specs.RefFault.{BlamesHead, BlamesHeadValue}
 use Rattle.vc_refs.specs.declared.faults.RefFault.{RefFault}
 use Rattle.vc_refs.specs.declared.faults.RefFault.TheVariants as ref
 use Rattle.vc_refs.specs.declared.heads.Head.{Head}
 use Rattle.vc_refs.specs.declared.heads.Head.TheVariants as heads
+use Rattle.vc_session.proofs.FrameLemmas.{ref_no_object}
 use Rattle.vc_session.specs.Known.{AreRefsWhole}
-use Rattle.vc_store.specs.Store.{objects}
 use Rattle.vc_store.specs.declared.faults.StoreFault.TheVariants as store
 use Rattle.vc_node.specs.Blames.{BlamesName, BlamesPut, IsOfMemory}
 use Rattle.vc_node.specs.Commit.{IsGoodParent, IsFreeHead, made_body, parents_of_commit}
@@ -36,7 +37,6 @@ use Rattle.vc_node.specs.declared.fault.NodeFault.{NodeFault}
 use Rattle.vc_node.specs.declared.fault.NodeFault.TheVariants.{Store, Ref, Missing, NotACommit, BadPath, PathConflict, BadIndex, WrongEntry, Down}
 use Rattle.vc_refs.proofs.LayeredLemmas.{bad-same, packed_map-same}
 use Rattle.vc_node.proofs.CleanLemmas.{bad_no_object}
-use Rattle.vc_node.proofs.ShownLemmas.{ref_no_object}
 use Rattle.vc_node.proofs.BranchLemmas.{closed, good_here, not_closed, history, not_history, free_from, not_free}
 
 -- ---- a look at HEAD
@@ -52,6 +52,10 @@ bad_head content bad = none_said read_head said (get content (codes "HEAD")) _ b
 looped_head : (content : FileMap) → IsHeadLoop content → head_of content ≡ None
 unfolding head_of
 looped_head content loop = none_said read_head said (get content (codes "HEAD")) _ loop refl
+
+-- where a HEAD is shown, there is one
+pub no_head : (content : FileMap) (head : Head) → head_of content ≡ Some head → head_of content ≡ None → ⊥
+no_head content head some none = none-some head (sym none ∙ some)
 
 pub of_head : (content : FileMap) (e : RefFault) → BlamesHead content e → IsOfLook content e
 of_head content (ref.Stale current) blames = absurd blames
@@ -145,10 +149,6 @@ module _ (old new : FileMap) (outside : SameOutside (codes "objects/") old new) 
     where
       packed : packed_at (packed_map new) path ≡ packed_at (packed_map old) path
       packed = ap (λ m. packed_at m path) (packed_map-same old new (outside.at packed_path refl))
-
-      or_right : (b c : Bool) → c ≡ true → (b || c) ≡ true
-      or_right true c h = refl
-      or_right false c h = h
 
       by : (b : Bool) → is_taken new path ≡ b → (b || is_some (packed_at (packed_map new) path)) ≡ true → is_held old path ≡ true
       by true taken h = ap (λ b. b || is_some (packed_at (packed_map old) path)) (taken_before path taken)

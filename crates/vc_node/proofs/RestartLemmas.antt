@@ -1,5 +1,5 @@
 -- A restart: a node that is held is opened unless a fault comes.
-use Rattle.std.proofs.Common.{◌≡◌, Bool, true, false, Some, None, Result, Ok, Err, refl, sym, subst, inl, inr, ◌∙◌}
+use Rattle.std.proofs.Common.{◌≡◌, Bool, true, false, Some, None, Result, Ok, Err, refl, sym, subst, inl, inr}
 use Rattle.std.specs.Prelude.{IfErr, OnErr, OnOk, is_ok}
 use Rattle.vc_files.specs.FileMap.{FileMap}
 use Rattle.vc_files.specs.declared.faults.Fault.{Fault as FilesFault}
@@ -9,7 +9,6 @@ use Rattle.vc_model.specs.CloneCall.CloneCall.{Open}
 use Rattle.vc_model.specs.Node.Answer.{Did, Fault}
 use Rattle.vc_model.specs.Node.Reply.{Stored}
 use Rattle.vc_model.specs.Repository.{Repository}
-use Rattle.vc_refs.specs.Head.{head_of}
 use Rattle.vc_refs.specs.declared.faults.RefFault.{RefFault}
 use Rattle.vc_refs.specs.declared.faults.RefFault.TheVariants as ref
 use Rattle.vc_store.specs.declared.faults.StoreFault.{StoreFault}
@@ -18,7 +17,7 @@ use Rattle.vc_node.proofs.IndexLemmas.{no_bad_index, spells_index}
 use Rattle.vc_node.proofs.CleanLemmas.{still_clean}
 use Rattle.vc_node.proofs.EmptyingLemmas.{clean_lost, opened_holds, shown_kept}
 use Rattle.vc_node.proofs.OpeningLaws.{held_nodes_open}
-use Rattle.vc_node.proofs.RefusalLemmas.{of_head}
+use Rattle.vc_node.proofs.RefusalLemmas.{no_head, of_head}
 use Rattle.vc_node.specs.Awaited.{AwaitedText, IsAwaited, nothing}
 use Rattle.vc_node.specs.Blames.{BlamesOpen}
 use Rattle.vc_node.specs.Clean.{IsClean}
@@ -34,9 +33,6 @@ abbrev pub IsFaultAnswer : NodeFault → Type 0
 IsFaultAnswer e = (f : FilesFault) × (fault_answer e ≡ Fault (failure_of f))
 
 module _ (content : FileMap) (r : Repository) (spells : Spells (shown content) r) (clean : IsClean content) where
-  no_head : head_of content ≡ None → ⊥
-  no_head none = let e : None ≡ Some spells.head = sym none ∙ spells.head_shown in cc e
-
   store_fails : (e : StoreFault) → BlamesOpen content (Store e) → IsFaultAnswer (Store e)
   store_fails (store.BadObject fault) never = absurd never
   store_fails (store.Absent id) never = absurd never
@@ -46,8 +42,8 @@ module _ (content : FileMap) (r : Repository) (spells : Spells (shown content) r
   head_fails : (e : RefFault) → BlamesOpen content (Ref e) → IsFaultAnswer (Ref e)
   head_fails (ref.Stale current) never = absurd never
   head_fails (ref.Conflict other) never = absurd never
-  head_fails (ref.BadRefFile path) blames = elim (of_head content (ref.BadRefFile path) blames) [ inl none ↦ absurd (no_head none) | inr bad ↦ absurd (clean.refs _ bad) ]
-  head_fails ref.HeadLoop blames = absurd (no_head (of_head content ref.HeadLoop blames))
+  head_fails (ref.BadRefFile path) blames = elim (of_head content (ref.BadRefFile path) blames) [ inl none ↦ absurd (no_head content spells.head spells.head_shown none) | inr bad ↦ absurd (clean.refs _ bad) ]
+  head_fails ref.HeadLoop blames = absurd (no_head content spells.head spells.head_shown (of_head content ref.HeadLoop blames))
   head_fails (ref.Fault f) blames = (f, refl)
 
   -- what holds a node is refused for a fault alone

@@ -1,50 +1,32 @@
 -- What changes of files show.
 use Rattle.std.proofs.Common.{◌≡◌, ℕ, true, false, cond, nat_eq, List, [], Option, Some, None, refl, sym, ap, ◌∙◌, subst}
-use Rattle.std.specs.Prelude.{bytes_eq, is_some, codes, option_and_then, unwrap_or}
+use Rattle.std.specs.Prelude.{bytes_eq, is_some, codes, unwrap_or}
 use Rattle.std.specs.List.{starts_with}
 use Rattle.std.specs.FinMap as files
-use Rattle.std.specs.Result.{result_ok}
 use Rattle.vc_files.specs.FileMap.{FileMap, SameOutside}
 use Rattle.vc_files.proofs.FileMapLemmas.{get-put}
-use Rattle.vc_object.specs.ObjectId.{is_id}
 use Rattle.vc_object.specs.ObjectMap.{ObjectMap}
 use Rattle.vc_object.specs.declared.id.ObjectId.{ObjectId}
 use Rattle.vc_refs.specs.RefMap.{RefMap}
 use Rattle.vc_refs.specs.Refs.{packed_path, refs, ChangesOnly}
-use Rattle.vc_refs.specs.Head.{head_of, read_head, said, KeepsOutside, KeepsTheRest}
+use Rattle.vc_refs.specs.Head.{head_of, KeepsOutside, KeepsTheRest}
 use Rattle.vc_refs.specs.declared.heads.Head.{Head}
-use Rattle.vc_refs.proofs.LayeredLemmas.{refs-of_files}
-use Rattle.vc_refs.proofs.WayLemmas.{split_from_starts}
+use Rattle.vc_refs.proofs.ObstacleLemmas.{split_from_starts}
 use Rattle.vc_object.specs.Decoding.{StoredObject}
-use Rattle.vc_store.specs.Store.{objects, object_path, stored_in, with_object}
+use Rattle.vc_session.proofs.FrameLemmas.{head-same, objects-same, ref_no_object, refs-kept}
+use Rattle.vc_store.specs.Store.{objects, object_path, with_object}
 use Rattle.vc_index.specs.IndexMap.{IndexMap}
 use Rattle.vc_refs.specs.declared.heads.Head.TheVariants as heads
 use Rattle.vc_node.specs.IndexFile.{index_bytes, SpellsIndex}
 use Rattle.vc_node.specs.Shown.{Shown, shown, with_objects_shown, with_refs_shown, with_head_shown, with_index_shown, main_head, opened, IsReady}
 
-same_shown : (o p : ObjectMap) (r s : RefMap) (h k : Option Head) (t u : List ℕ) → o ≡ p → r ≡ s → h ≡ k → t ≡ u
+pub same_shown : (o p : ObjectMap) (r s : RefMap) (h k : Option Head) (t u : List ℕ) → o ≡ p → r ≡ s → h ≡ k → t ≡ u
     → ◌≡◌ {A = Shown} (record { objects = o; refs = r; head = h; index = t }) (record { objects = p; refs = s; head = k; index = u })
 same_shown o p r s h k t u a b c d i = record { objects = a i; refs = b i; head = c i; index = d i }
 
 -- objects are what stands at their paths
-objects_at : (old new : FileMap) → ((name : List ℕ) → files.get new (object_path name) ≡ files.get old (object_path name)) → (id : ObjectId) → objects new id ≡ objects old id
-unfolding objects
-objects_at old new same id = ap (λ found. cond (is_id id) (result_ok (stored_in id found)) None) (same id.0)
-
-objects_same : (old new : FileMap) → ((name : List ℕ) → files.get new (object_path name) ≡ files.get old (object_path name)) → objects new ≡ objects old
-objects_same old new same i id = objects_at old new same id i
-
--- refs are what stands at paths in refs/ and in the packed file
-refs_same : (old new : FileMap) → ((q : List ℕ) → starts_with nat_eq q (codes "refs/") ≡ true → files.get new q ≡ files.get old q) → files.get new packed_path ≡ files.get old packed_path → refs new ≡ refs old
-refs_same old new same packed = refs-of_files old new same packed
-
--- HEAD is what its file says
-head_same : (old new : FileMap) → files.get new (codes "HEAD") ≡ files.get old (codes "HEAD") → head_of new ≡ head_of old
-unfolding head_of
-head_same old new same = ap (option_and_then (λ text. said (read_head text))) same
-
-pub ref_no_object : (q : List ℕ) → starts_with nat_eq q (codes "refs/") ≡ true → starts_with nat_eq q (codes "objects/") ≡ false
-ref_no_object q h = ap (λ p. starts_with nat_eq p (codes "objects/")) (split_from_starts q (codes "refs/") h)
+pub objects_same : (old new : FileMap) → ((name : List ℕ) → files.get new (object_path name) ≡ files.get old (object_path name)) → objects new ≡ objects old
+objects_same old new same i id = objects-same old new id (same id.0) i
 
 pub ref_no_index : (q : List ℕ) → starts_with nat_eq q (codes "refs/") ≡ true → bytes_eq q (codes "index") ≡ false
 ref_no_index q h = ap (λ p. bytes_eq p (codes "index")) (split_from_starts q (codes "refs/") h)
@@ -53,8 +35,8 @@ ref_no_index q h = ap (λ p. bytes_eq p (codes "index")) (split_from_starts q (c
 pub shown_objects : (old new : FileMap) (o : ObjectMap) → SameOutside (codes "objects/") old new → objects new ≡ o → shown new ≡ with_objects_shown (shown old) o
 shown_objects old new o outside is =
     same_shown (objects new) o (refs new) (refs old) (head_of new) (head_of old) (index_bytes new) (index_bytes old) is
-    (refs_same old new (λ q h. outside.at q (ref_no_object q h)) (outside.at packed_path refl))
-    (head_same old new (outside.at (codes "HEAD") refl))
+    (refs-kept old new (λ q h. outside.at q (ref_no_object q h)) (outside.at packed_path refl))
+    (head-same old new (outside.at (codes "HEAD") refl))
     (ap (λ found. unwrap_or found []) (outside.at (codes "index") refl))
 
 -- a change of a ref shows as other refs
@@ -84,8 +66,8 @@ shown_index old new text e =
     let put : (q : List ℕ) → files.get new q ≡ cond (bytes_eq q (codes "index")) (Some text) (files.get old q) = λ q. ap (λ (m : FileMap). files.get m q) e ∙ get-put old (codes "index") text q in
     same_shown (objects new) (objects old) (refs new) (refs old) (head_of new) (head_of old) (index_bytes new) text
     (objects_same old new (λ n. put (object_path n)))
-    (refs_same old new (λ q h. put q ∙ ap (λ b. cond b (Some text) (files.get old q)) (ref_no_index q h)) (put packed_path))
-    (head_same old new (put (codes "HEAD")))
+    (refs-kept old new (λ q h. put q ∙ ap (λ b. cond b (Some text) (files.get old q)) (ref_no_index q h)) (put packed_path))
+    (head-same old new (put (codes "HEAD")))
     (ap (λ found. unwrap_or found []) (put (codes "index")))
 
 -- the same after a call that changed nothing

@@ -1,5 +1,5 @@
 -- For files that are put into the index at once: the machine's commands one after the other, and what is shown behind them.
-use Rattle.std.proofs.Common.{◌≡◌, ◌≢◌, inl, inr, ℕ, suc, Bool, true, false, cond, arith, List, [], ◌∷◌, map, length, get_or, drop, ◌<◌, ◌+◌, ◌==◌, Ok, Err, IfErr, Option, Some, None, refl, sym, ap, ◌∙◌, subst}
+use Rattle.std.proofs.Common.{◌≡◌, ◌≢◌, inl, inr, ℕ, suc, Bool, true, false, cond, arith, List, [], ◌∷◌, map, length, get_or, drop, ◌<◌, ◌+◌, ◌==◌, Ok, Err, Option, Some, None, refl, sym, ap, ◌∙◌, subst}
 use Rattle.std.specs.Prelude.{option_map, unwrap_or, bytes_eq, IsSome, not, Result, IsErrAnd}
 use Rattle.std.specs.FinMap.{get, insert}
 use Rattle.std.specs.List.{All, AllByRecursion}
@@ -20,7 +20,7 @@ use Rattle.vc_model.specs.Object.{Object, Objects, Id, blob}
 use Rattle.vc_model.specs.Repository.{Repository, with_objects}
 use Rattle.vc_model.specs.Node.Answer.{Did, Declined}
 use Rattle.vc_model.specs.Node.Reply.{Stored}
-use Rattle.vc_model.specs.Clone.{Awaited, CloneNode}
+use Rattle.vc_model.specs.Clone.{Awaited, CloneNode, with_object as added}
 use Rattle.vc_model.specs.CloneCall.{Refuses}
 use Rattle.vc_model.specs.CloneCall.CloneAnswers.{down, refused, obeyed, faulted}
 use Rattle.vc_object.specs.Object.{IsObject, object_name}
@@ -45,7 +45,7 @@ use Rattle.vc_node.specs.declared.staging.Staged.{Staged}
 use Rattle.vc_node.proofs.CleanLemmas.{still_clean}
 use Rattle.vc_node.proofs.IndexLemmas.{IsMachineIndex, free_path, machine_index_put, no_bad_index, not_free_path, spells_index, staged_deed, staged_index}
 use Rattle.vc_node.proofs.StoringLemmas.{name_valid}
-use Rattle.vc_node.proofs.WriteLemmas.{added, added_all}
+use Rattle.vc_node.proofs.WriteLemmas.{added_all}
 
 -- ---- the machine's commands
 
@@ -404,10 +404,6 @@ leads_end m n es rest leads none =
 pub some_placed : (staged : List Staged) (b : Bool) → b ≡ (length staged == 0) → b ≡ false → map placed staged ≢ []
 some_placed [] b is some e = let bad : true ≡ false = sym is ∙ some in cc
 some_placed (t ∷ ts) b is some e = cc e
-
-pub told_on : {T : Type 0} (P : NodeFault → Type 0) (r : Result T NodeFault) (fault : NodeFault) → IsErrAnd r (λ e. e ≡ fault) → P fault → IfErr r P
-told_on P (Ok x) fault is told = tt
-told_on P (Err e) fault is told = subst P (sym is) told
 
 -- what may not stand in the index tells of no bad file, and of no fault of the device
 pub blamed_reads : (m : IndexMap) (es : List (List ℕ × IndexEntry)) (e : NodeFault) → BlamesStaging m es e → TellsRead NoneRead NoneRead e

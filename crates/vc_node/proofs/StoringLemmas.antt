@@ -71,7 +71,7 @@ module _ (honest : Type 0) (old mid : FileMap) (m : IndexMap) (parents : List Ob
   body_blamed tree root body is (store.Fault g) of damage = tt
 
 -- no file is damaged where there is none, so a commit to files in memory is refused as one to any files is
-none_damaged : (id : ObjectId) → IsDamaged empty id → ⊥
+pub none_damaged : (id : ObjectId) → IsDamaged empty id → ⊥
 none_damaged id damaged = let absent : stored_in id (get empty (object_path id.0)) ≡ Err (store.Absent id) = ap (stored_in id) (get-empty (slice_cmp nat_cmp) (object_path id.0)) in cc (absent, damaged)
 
 module _ (honest : Type 0) (there : honest) (memory content : FileMap) (m : IndexMap) (ps qs : List ObjectId) (author committer message : List ℕ) (new : memory ≡ empty) (same : ps ≡ qs) where

@@ -58,7 +58,7 @@ machine_index_shows m q = get-from_entries nat_list_cmp_total (map entry_pair (e
 -- ---- the objects of the machine
 
 module _ (content : FileMap) (r : Repository) (p : Spells (shown content) r) where
-  same_objects : objects content ≡ layer_objects r.objects
+  pub same_objects : objects content ≡ layer_objects r.objects
   same_objects i id = p.objects id.0 i
 
   pub reads_there : (id : ObjectId) (v : Result IndexMap TreeFault) → ReadsAs (objects content) id v → ReadsAs (layer_objects r.objects) id v

@@ -8,6 +8,7 @@ use Rattle.std.specs.Cmp.Lexicographic.{slice_cmp}
 use Rattle.std.proofs.lemmas.Slice.Eq.{bytes_eq-Decides}
 use Rattle.vc_format.specs.Git.{id_of_bytes}
 use Rattle.vc_index.specs.WrittenTrees.{tree_object}
+use Rattle.vc_model.specs.Clone.{with_object as added}
 use Rattle.vc_model.specs.Object.{Object, Objects, Id}
 use Rattle.vc_model.specs.Repository.{Repository, AllAdded, SomeAdded, with_objects as with_all}
 use Rattle.vc_object.specs.Object.{object_name}
@@ -20,7 +21,7 @@ use Rattle.vc_rules.specs.Trees.{HoldsTrees}
 use Rattle.vc_node.specs.Machine.{Spells}
 use Rattle.vc_node.specs.Shown.{Shown, with_objects_shown}
 use Rattle.vc_rules.proofs.MapLemmas.{get-put}
-use Rattle.vc_node.proofs.WriteLemmas.{added, added_shows}
+use Rattle.vc_node.proofs.WriteLemmas.{added_shows}
 
 abbrev tree_name : List Entry → Id
 tree_name es = (object_name kinds.Tree (spelling es)).0

@@ -16,7 +16,8 @@ use Rattle.vc_model.specs.Refs.{Head as MachineHead}
 use Rattle.vc_model.specs.Refs.Head.{Detached, OnBranch}
 use Rattle.vc_model.specs.Repository.{Entry, Repository}
 use Rattle.vc_node.proofs.IndexLemmas.{no_bad_index, spells_index}
-use Rattle.vc_node.proofs.RefusalLemmas.{of_head_value}
+use Rattle.vc_node.proofs.RefusalLemmas.{no_head, of_head_value}
+use Rattle.vc_node.proofs.TreeLemmas.{same_objects}
 use Rattle.vc_node.specs.Clean.{IsClean}
 use Rattle.vc_node.specs.Machine.{Spells, machine_head}
 use Rattle.vc_node.specs.Making.{IsOfLook}
@@ -88,9 +89,6 @@ module _ (content : FileMap) (r : Repository) (clean : IsClean content) (spells 
       ap (head_value (refs content)) spells.head_shown
       ∙ (value_by spells.head ∙ ap (λ (h : MachineHead). option_map id_of_bytes (elim h [ OnBranch b ↦ get r.refs b | Detached x ↦ Some x ])) (sym spells.head_is))
 
-  same_objects : objects content ≡ layer_objects r.objects
-  same_objects i id = spells.objects id.0 i
-
   -- a file stands in an object's place where it is found, and nowhere else
   stored_there : (id : ObjectId) → HasFile content id → IsSome (objects content id)
   stored_there id has = elim (objects-file content id has) [ inl some ↦ some | inr damaged ↦ absurd (clean.objects id damaged) ]
@@ -122,18 +120,15 @@ module _ (content : FileMap) (r : Repository) (clean : IsClean content) (spells 
       let whole : Denotes (whole_source names (objects content)) e a =
       denotes_on (refs content) (head_value (refs content) (head_of content)) (ids_in s.index) (names_at r).index (objects content) (HasFile content) (λ id. IsSome (objects content id))
       stored_there (file-objects content) e a (index_for e s.index is.index) here in
-      subst (λ (n : Names). Denotes (whole_source n (layer_objects r.objects)) e a) same (subst (λ (o : ObjectMap). Denotes (whole_source names o) e a) same_objects whole)
+      subst (λ (n : Names). Denotes (whole_source n (layer_objects r.objects)) e a) same (subst (λ (o : ObjectMap). Denotes (whole_source names o) e a) (same_objects content r spells) whole)
 
   -- ---- what must be read for an expression gives no answer for a fault alone
-  no_head : head_of content ≡ None → ⊥
-  no_head none = let e : None ≡ Some spells.head = sym none ∙ spells.head_shown in cc e
-
   head_fails : (e : RefFault) → IsOfLook content e → (f : FilesFault) × (e ≡ ref.Fault f)
   head_fails (ref.Stale current) never = absurd never
   head_fails (ref.Conflict other) never = absurd never
-  head_fails (ref.BadRefFile path) (inl none) = absurd (no_head none)
+  head_fails (ref.BadRefFile path) (inl none) = absurd (no_head content spells.head spells.head_shown none)
   head_fails (ref.BadRefFile path) (inr bad) = absurd (clean.refs _ bad)
-  head_fails ref.HeadLoop none = absurd (no_head none)
+  head_fails ref.HeadLoop none = absurd (no_head content spells.head spells.head_shown none)
   head_fails (ref.Fault f) look = (f, refl)
 
   ref_fails : (name : List ℕ) (e : RefFault) → BlamesRef content name e → (f : FilesFault) × (e ≡ ref.Fault f)

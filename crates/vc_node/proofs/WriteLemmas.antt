@@ -12,7 +12,7 @@ use Rattle.vc_model.specs.Object.{Object, Objects, Id}
 use Rattle.vc_model.specs.Repository.{Repository, AllAdded, with_objects}
 use Rattle.vc_model.specs.Node.Answer.{Did}
 use Rattle.vc_model.specs.Node.Reply.{Made}
-use Rattle.vc_model.specs.Clone.{only_object, quietly}
+use Rattle.vc_model.specs.Clone.{only_object, quietly, with_object as added}
 use Rattle.vc_model.specs.Clone.Task.{Write}
 use Rattle.vc_object.specs.Decoding.{StoredObject, stored_object}
 use Rattle.vc_object.specs.Object.{object_name, IsObject}
@@ -32,10 +32,6 @@ use Rattle.vc_node.specs.Machine.{Spells, Follows, IsBadFile, fault_answer, fail
 use Rattle.vc_node.proofs.AnswerLemmas.{declines, faults}
 use Rattle.vc_rules.proofs.CarriedLemmas.{kind_back}
 use Rattle.vc_rules.proofs.MapLemmas.{get-put}
-
--- the objects, with this one too: one that is there stays
-abbrev pub added : Objects → Id → Object → Objects
-added s k o = insert s k (unwrap_or (get s k) o)
 
 kept_inside : (found : Option Object) (o : Object) → unwrap_or (option_map stored_of found) (stored_of o) ≡ stored_of (unwrap_or found o)
 kept_inside None o = refl

@@ -14,9 +14,9 @@ use Rattle.vc_object.specs.ObjectFault.{BodyFault}
 use Rattle.vc_object.specs.declared.id.ObjectId.{ObjectId}
 use Rattle.vc_object.specs.declared.kind.Kind.{Kind}
 use Rattle.vc_object.specs.declared.kind.Kind.TheVariants as kinds
-use Rattle.vc_refs.specs.RefFault.{IsFirstBadRef, BlamesWay, BlamesRef, BlamesHead as BlamesHeadFile}
+use Rattle.vc_refs.specs.RefFault.{IsFirstBadRef, BlamesObstacle, BlamesRef, BlamesHead as BlamesHeadFile}
 use Rattle.vc_refs.specs.Refs.{IsBadRef}
-use Rattle.vc_refs.specs.Way.{IsFree}
+use Rattle.vc_refs.specs.Obstacle.{IsFree}
 use Rattle.vc_refs.specs.declared.heads.Head.{Head}
 use Rattle.vc_refs.specs.declared.heads.Head.TheVariants as head
 use Rattle.vc_refs.specs.declared.faults.RefFault.{RefFault}
@@ -66,8 +66,8 @@ IsOfMemory _ = ⊥
 -- a look at refs is refused for what stands in the way of the name, or for the file that says the ref's value
 abbrev pub BlamesName : FileMap → List ℕ → RefFault → Type 0
 BlamesName content name (ref.Stale current) = ⊥
-BlamesName content name (ref.Conflict other) = BlamesWay content name (ref.Conflict other)
-BlamesName content name (ref.BadRefFile path) = BlamesWay content name (ref.BadRefFile path) ⊎ BlamesRef content name (ref.BadRefFile path)
+BlamesName content name (ref.Conflict other) = BlamesObstacle content name (ref.Conflict other)
+BlamesName content name (ref.BadRefFile path) = BlamesObstacle content name (ref.BadRefFile path) ⊎ BlamesRef content name (ref.BadRefFile path)
 BlamesName content name ref.HeadLoop = ⊥
 BlamesName content name (ref.Fault fault) = Unit {0}
 

@@ -14,7 +14,7 @@ use Rattle.vc_object.specs.declared.kind.Kind.TheVariants as kinds
 use Rattle.vc_object.specs.declared.id.ObjectId.{ObjectId}
 use Rattle.vc_refs.specs.Head.{head_of}
 use Rattle.vc_refs.specs.Refs.{refs, IsBadRef}
-use Rattle.vc_refs.specs.Way.{IsFirstInTheWay}
+use Rattle.vc_refs.specs.Obstacle.{IsFirstInTheWay}
 use Rattle.vc_refs.specs.declared.faults.RefFault.{RefFault}
 use Rattle.vc_refs.specs.declared.faults.RefFault.TheVariants as ref
 use Rattle.vc_refs.specs.declared.heads.Head.{Head}

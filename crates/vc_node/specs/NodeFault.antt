@@ -1,7 +1,7 @@
 -- What a fault of a node is of, and which are no refusals.
 use Rattle.std.specs.Prelude.{Bool, true, false, IsTrue, Result, Ok, Err}
-use Rattle.vc_base.specs.declared.fault.BaseFault.{BaseFault}
-use Rattle.vc_base.specs.declared.fault.BaseFault.TheVariants as base
+use Rattle.vc_history.specs.declared.fault.BaseFault.{BaseFault}
+use Rattle.vc_history.specs.declared.fault.BaseFault.TheVariants as base
 use Rattle.vc_files.specs.declared.faults.Fault.{Fault as FilesFault}
 use Rattle.vc_files.specs.declared.faults.Fault.TheVariants as files
 use Rattle.vc_index.specs.declared.faults.IndexFault.{IndexFault}

@@ -12,7 +12,7 @@ use Rattle.vc_object.specs.declared.kind.Kind.TheVariants as kinds
 use Rattle.vc_object.specs.declared.mode.Mode.{Mode}
 use Rattle.vc_refs.specs.Head.{head_of}
 use Rattle.vc_refs.specs.Refs.{packed_path}
-use Rattle.vc_refs.specs.Way.{IsFirstInTheWay}
+use Rattle.vc_refs.specs.Obstacle.{IsFirstInTheWay}
 use Rattle.vc_refs.specs.declared.faults.RefFault.{RefFault}
 use Rattle.vc_refs.specs.declared.faults.RefFault.TheVariants as ref
 use Rattle.vc_refs.specs.declared.heads.Head.{Head}

@@ -9,9 +9,9 @@ ghost use Rattle.vc_store.specs.Store.{objects};
 
 use crate::NodeFault;
 use std::alloc::Global;
-use vc_base::{Generations, commits, is_history_beyond};
 use vc_files::Files;
 use vc_graph::is_complete_beyond;
+use vc_history::{Generations, commits, is_history_beyond};
 use vc_object::ObjectId;
 use vc_session::Known;
 use vc_store::Store;

@@ -40,8 +40,8 @@ impl fmt::Display for CloneFault {
         match self {
             CloneFault::Unread(fault) => fmt::Display::fmt(fault, f),
             CloneFault::Unexpected => f.write_str("91 NothingAwaited"),
-            CloneFault::TooMany => f.write_str("84 TooMany"),
-            CloneFault::Incomplete(_) => f.write_str("92 Incomplete"),
+            CloneFault::TooMany => fmt::Display::fmt(&PktFault::TooMany, f),
+            CloneFault::Incomplete(id) => fmt::Display::fmt(&ExchangeFault::Incomplete(*id), f),
             CloneFault::NoValue(refusal) => fmt::Display::fmt(refusal, f),
             CloneFault::Node(fault) => fmt::Display::fmt(fault, f),
         }

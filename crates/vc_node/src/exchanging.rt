@@ -1,6 +1,6 @@
 // What a clone makes of a message that it awaits.
 ghost use Rattle.std.specs.Prelude.{◌≡◌, ℕ, IfErr, OnErr, true};
-ghost use Rattle.vc_answer.specs.Reached.{KeepsObjects};
+ghost use Rattle.vc_pack.specs.Reached.{KeepsObjects};
 ghost use Rattle.vc_exchange.specs.Storing.{KeepsBeside};
 ghost use Rattle.vc_files.specs.Failures.{Wears, Writes};
 ghost use Rattle.vc_fetch.specs.AdvertView.{advert_text};

@@ -9,11 +9,13 @@ ghost use Rattle.vc_node.specs.Printed.{node_fault_text};
 use std::alloc::{AllocError, AllocFailed};
 use std::error::Error;
 use std::fmt;
-use vc_base::BaseFault;
 use vc_files::Fault;
+use vc_graph::MISSING;
+use vc_history::{BaseFault, NOT_A_COMMIT};
 use vc_index::IndexFault;
 use vc_object::ObjectId;
 use vc_refs::RefFault;
+use vc_rev::SourceFault;
 use vc_store::StoreFault;
 
 /// What refuses a call of a node, by number, or the fault that ended it. After a fault the node is down.
@@ -47,11 +49,11 @@ impl fmt::Display for NodeFault {
         match self {
             NodeFault::Store(fault) => fmt::Display::fmt(fault, f),
             NodeFault::Ref(fault) => fmt::Display::fmt(fault, f),
-            NodeFault::Missing(_) => f.write_str("40 Missing"),
-            NodeFault::NotACommit(_) => f.write_str("41 NotACommit"),
+            NodeFault::Missing(_) => f.write_str(MISSING),
+            NodeFault::NotACommit(_) => f.write_str(NOT_A_COMMIT),
             NodeFault::BadPath => f.write_str("60 BadPath"),
             NodeFault::PathConflict => f.write_str("61 PathConflict"),
-            NodeFault::BadIndex(_) => f.write_str("62 BadIndex"),
+            NodeFault::BadIndex(place) => fmt::Display::fmt(&SourceFault::BadIndex(*place), f),
             NodeFault::WrongEntry(_) => f.write_str("63 WrongEntry"),
             NodeFault::Down => f.write_str("112 Down"),
         }

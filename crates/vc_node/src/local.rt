@@ -2,7 +2,7 @@
 // names it.
 ghost use Rattle.std.specs.Prelude.{◌≡◌, ◌≢◌, ◌⊎◌, IfOk, IfErr, OnOk, OnErr, IsOk, codes, true};
 ghost use Rattle.std.specs.FinMap as paths;
-ghost use Rattle.vc_answer.specs.Reached.{KeepsObjects};
+ghost use Rattle.vc_pack.specs.Reached.{KeepsObjects};
 ghost use Rattle.vc_files.specs.Failures.{Wears, Writes};
 ghost use Rattle.vc_files.specs.FileMap.{SameOutside};
 ghost use Rattle.vc_index.specs.IndexMap.{IndexMap, index_entry};
@@ -11,7 +11,7 @@ ghost use Rattle.vc_object.specs.Decoding.{stored_object};
 ghost use Rattle.vc_object.specs.Object.{object_name, IsObject};
 ghost use Rattle.vc_refs.specs.RefMap.{IsInRefs, is_ref, with_ref, without_ref};
 ghost use Rattle.vc_refs.specs.Refs.{refs};
-ghost use Rattle.vc_refs.specs.Way.{IsFree};
+ghost use Rattle.vc_refs.specs.Obstacle.{IsFree};
 ghost use Rattle.vc_store.specs.Store.{objects, with_object};
 ghost use Rattle.vc_object.specs.declared.id.ObjectId.{ObjectId as Id};
 ghost use Rattle.vc_object.specs.declared.kind.Kind.TheVariants.{Blob};

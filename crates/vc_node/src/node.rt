@@ -58,12 +58,12 @@ use crate::{
 use std::alloc::Global;
 use std::io::Read;
 use std::marker::Model;
-use vc_answer::Reached;
 use vc_exchange::{PushItem, list_message, push_message};
 use vc_files::{Files, FusedFiles};
 use vc_index::Index;
 use vc_message::{Message, skip_message};
 use vc_object::{Kind, Mode, ObjectId};
+use vc_pack::Reached;
 use vc_push::Report;
 use vc_refname::RefName;
 use vc_refs::Head;
@@ -88,7 +88,7 @@ pub struct CloneNode<F: Files> {
 
 impl<F: Files> Model for CloneNode<F> {
     ghost use Rattle.std.specs.Prelude.{IfSome};
-    ghost use Rattle.vc_answer.specs.Reached.{StandsIn};
+    ghost use Rattle.vc_pack.specs.Reached.{StandsIn};
     ghost use Rattle.vc_node.specs.Awaited.{awaited_text};
     ghost use Rattle.vc_node.specs.Held.{Held};
     ghost use Rattle.vc_node.specs.IndexFile.{SpellsIndex};

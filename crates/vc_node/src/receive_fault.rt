@@ -27,7 +27,7 @@ pub enum ReceiveFault {
 impl fmt::Display for ReceiveFault {
     fn fmt<W: fmt::Write>(&self, f: &mut fmt::Formatter<W>) -> fmt::Result {
         match self {
-            ReceiveFault::ReadFailed => f.write_str("115 ReadFailed"),
+            ReceiveFault::ReadFailed => fmt::Display::fmt(&IncomingFault::Failed, f),
             ReceiveFault::Node(fault) => fmt::Display::fmt(fault, f),
         }
     }

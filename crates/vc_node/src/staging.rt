@@ -1,7 +1,7 @@
 // Putting many files into the index at once: it is read and written once for all of them.
 ghost use Rattle.std.specs.Prelude.{◌≡◌, ◌≢◌, ◌⊎◌, [], Ok, IfErr, OnOk, OnErr, IsOk, map};
 ghost use Rattle.std.specs.List.{All};
-ghost use Rattle.vc_answer.specs.Reached.{KeepsObjects};
+ghost use Rattle.vc_pack.specs.Reached.{KeepsObjects};
 ghost use Rattle.vc_files.specs.Failures.{Wears, Writes};
 ghost use Rattle.vc_index.specs.IndexMap.{IndexMap};
 ghost use Rattle.vc_index.specs.IndexText.{index_text};

@@ -41,14 +41,15 @@ use Rattle.vc_object.proofs.Objects.{decimal_size, digits_no_nul, no_fault}
 differs : (a b : List ℕ) → Decides (not (bytes_eq a b)) (a ≢ b)
 differs a b = Decides-not (bytes_eq a b) (bytes_eq-Decides a b)
 
-each_decides : {X : Type 0} (p : X → Bool) (P : X → Type 0) → ((x : X) → Decides (p x) (P x)) → (xs : List X) → Decides (list_all p xs) (AllByRecursion P xs)
+pub each_decides : {X : Type 0} (p : X → Bool) (P : X → Type 0) → ((x : X) → Decides (p x) (P x)) → (xs : List X) → Decides (list_all p xs) (AllByRecursion P xs)
 each_decides p P each [] = (λ _. tt, λ _. refl)
 each_decides p P each (x ∷ xs) = Decides-and (p x) (list_all p xs) (each x) (each_decides p P each xs)
 
 without_decides : (byte : ℕ) (text : List ℕ) → Decides (is_without byte text) (Without byte text)
 without_decides byte text = each_decides (λ b. not (b == byte)) (λ b. b ≢ byte) (λ b. Decides-not (b == byte) (Decides-eqb b byte)) text
 
-name_decides : (name : List ℕ) → Decides (is_entry_name name) (IsName name)
+-- the test of a name
+pub name_decides : (name : List ℕ) → Decides (is_entry_name name) (IsName name)
 name_decides name = Decides-like (is_entry_name name)
     (λ h. record { some = h.0; no_slash = h.1.0; no_nul = h.1.1.0; not_dot = h.1.1.1.0; not_dots = h.1.1.1.1.0; not_git = h.1.1.1.1.1 })
     (λ (h : IsName name). (h.some, (h.no_slash, (h.no_nul, (h.not_dot, (h.not_dots, h.not_git))))))

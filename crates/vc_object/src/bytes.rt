@@ -16,7 +16,7 @@ pub(crate) enum Start<'a> {
 }
 
 /// What comes before the first such byte, and what comes after it.
-pub(crate) fn cut_at(text: &[u8], byte: u8) -> Option<(&[u8], &[u8])>
+pub fn cut_at(text: &[u8], byte: u8) -> Option<(&[u8], &[u8])>
     ensures parts { MatchOption result (Without byte text.now) (λ parts. Without byte parts.0.now × (text.now ≡ parts.0.now ++ byte ∷ parts.1.now)) }
     ensures value { option_map (λ parts. (parts.0.now, parts.1.now)) result ≡ cut byte text.now }
 {

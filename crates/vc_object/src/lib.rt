@@ -25,6 +25,7 @@ mod tag;
 mod tree;
 mod views;
 
+pub use bytes::cut_at;
 pub use commit::{Commit, Parents};
 pub use entries::{TreeEntries, TreeEntry};
 pub use fault::ObjectFault;

@@ -2,6 +2,7 @@
 use Rattle.std.proofs.Common.{◌≡◌, Bool, true, false, cond, List, [], ◌∷◌, map, Option, Some, None, is_some, ◌||◌, refl, ap, sym, ◌∙◌, true≢false}
 use Rattle.std.specs.List.{AllByRecursion}
 use Rattle.std.specs.List.Sorted.{IsStrictlySortedBy}
+use Rattle.std.specs.Cmp.{Equal-is}
 use Rattle.std.specs.Ordering.{is_eq, match_ordering, ordering_reverse}
 use Rattle.std.specs.declared.cmp.Ordering.{Ordering}
 use Rattle.std.specs.declared.cmp.Ordering.TheVariants.{Less, Equal, Greater}
@@ -18,14 +19,9 @@ abbrev or_some : Option StoredObject → Option StoredObject → Option StoredOb
 or_some (Some x) other = Some x
 or_some None other = other
 
-is_equal : (o : Ordering) → is_eq o ≡ true → o ≡ Equal
-is_equal Less e = absurd (true≢false (sym e))
-is_equal Equal e = refl
-is_equal Greater e = absurd (true≢false (sym e))
-
 -- names that are equal to one name compare alike
 alike : (id : ObjectId) (o p : StoredObject) → passes id o ≡ true → passes id p ≡ is_eq (id_cmp (stored_name o) (stored_name p))
-alike id o p e = ap is_eq (id_cmp_total.congr id (stored_name o) (stored_name p) (is_equal (id_cmp id (stored_name o)) e))
+alike id o p e = ap is_eq (id_cmp_total.congr id (stored_name o) (stored_name p) ((Equal-is (id_cmp id (stored_name o))).0 e))
 
 -- ---- look-ups
 -- an object that passes tells whether another of its name is there

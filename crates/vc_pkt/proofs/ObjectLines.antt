@@ -10,6 +10,7 @@ use Rattle.vc_object.specs.Items.{◌>>=◌}
 use Rattle.vc_object.specs.declared.kind.Kind.{Kind}
 use Rattle.vc_object.specs.declared.kind.Kind.TheVariants.{Blob, Tree, Commit, Tag}
 use Rattle.vc_object.proofs.LineTexts.{after_word_some}
+use Rattle.vc_object.proofs.Reading.{chosen}
 use Rattle.vc_object.proofs.Sizes.{capped, is_size}
 use Rattle.vc_pkt.specs.TextLine.{without_lf}
 use Rattle.vc_pkt.specs.ObjectLine.{IsObjectLine, or_else, kind_at, size_after, size_of, object_line}
@@ -46,10 +47,6 @@ bounds d e = ((grind (arith, nat_tests)), (grind (arith, nat_tests)))
 
 no_bounds : (d : ℕ) → IsDigit d → (nat_lt d 48 || nat_lt 57 d) ≡ false
 no_bounds d h = let l = h.0 in let r = h.1 in grind (arith, nat_tests)
-
-chosen : {A : Type 0} (b : Bool) (x y z : A) → cond b x y ≡ z → ((b ≡ true) × (x ≡ z)) ⊎ ((b ≡ false) × (y ≡ z))
-chosen true x y z e = inl (refl, e)
-chosen false x y z e = inr (refl, e)
 
 some_same : {A : Type 0} (x y : A) → ◌≡◌ {A = Option A} (Some x) (Some y) → x ≡ y
 some_same x y e = cc e

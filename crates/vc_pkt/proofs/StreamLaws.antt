@@ -5,6 +5,7 @@ use Rattle.std.proofs.lemmas.List.{append-nil}
 use Rattle.std.proofs.lemmas.Bool.Decides.{nat_tests}
 use Rattle.vc_object.specs.Decoding.{StoredObject, stored_object}
 use Rattle.vc_object.specs.declared.kind.Kind.{Kind}
+use Rattle.vc_object.proofs.Reading.{chosen}
 use Rattle.vc_pkt.specs.Line.{LineText, flush, text}
 use Rattle.vc_pkt.specs.Message.{Stepped, onward, going, run}
 use Rattle.vc_pkt.specs.ObjectLine.{IsObjectLine, object_line}
@@ -14,12 +15,8 @@ use Rattle.vc_pkt.specs.declared.fault.PktFault.{PktFault}
 use Rattle.vc_pkt.specs.declared.fault.PktFault.TheVariants.{BadRecord}
 use Rattle.vc_pkt.proofs.ObjectLines.{line_of, line_again}
 
--- which way a test went
-pub chosen : {A : Type 0} (b : Bool) (x y z : A) → cond b x y ≡ z → ((b ≡ true) × (x ≡ z)) ⊎ ((b ≡ false) × (y ≡ z))
-chosen true x y z e = inl (refl, e)
-chosen false x y z e = inr (refl, e)
-
-ok_same : {A : Type 0} (x y : A) → ◌≡◌ {A = Result A PktFault} (Ok x) (Ok y) → x ≡ y
+-- what two equal successes hold is the same
+pub ok_same : {A : Type 0} (x y : A) → ◌≡◌ {A = Result A PktFault} (Ok x) (Ok y) → x ≡ y
 ok_same x y e = cc e
 
 so_far_ok : (first : ℕ) (kind : Kind) (size : ℕ) (body : List ℕ) (t : ObjectStepped) → so_far first kind size body ≡ Ok t

@@ -3,6 +3,7 @@
 use std::alloc::{AllocError, AllocFailed};
 use std::error::Error;
 use std::fmt;
+use vc_object::ObjectFault;
 
 /// Why bytes are no lines, or lines no message. Of several causes the first in the bytes is given.
 #[derive(Clone, Copy, Debug)]
@@ -32,7 +33,7 @@ impl fmt::Display for PktFault {
             PktFault::SizeMismatch => f.write_str("82 SizeMismatch"),
             PktFault::CutMessage => f.write_str("83 CutMessage"),
             PktFault::TooMany => f.write_str("84 TooMany"),
-            PktFault::TooLarge => f.write_str("3 TooLarge"),
+            PktFault::TooLarge => fmt::Display::fmt(&ObjectFault::TooLarge, f),
         }
     }
 }

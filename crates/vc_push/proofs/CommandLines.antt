@@ -8,11 +8,11 @@ use Rattle.vc_object.specs.Items.{◌>>=◌}
 use Rattle.vc_object.specs.Lines.{after_word, split}
 use Rattle.vc_object.specs.declared.id.ObjectId.{ObjectId}
 use Rattle.vc_object.proofs.Items.{bind_some}
-use Rattle.vc_object.proofs.LineTexts.{after_word_some, after_word_again}
+use Rattle.vc_object.proofs.LineTexts.{after_word_some, after_word_again, split_some, split_again}
 use Rattle.vc_pkt.specs.TextLine.{without_lf}
 use Rattle.vc_fetch.specs.Ids.{WritesId, id_of}
 use Rattle.vc_fetch.specs.Advert.{IsName, IsCapabilities, is_name, before_nul}
-use Rattle.vc_fetch.proofs.IdLines.{some_same, id_some, id_again, split_is, split_again}
+use Rattle.vc_fetch.proofs.IdLines.{some_same, id_some, id_again}
 use Rattle.vc_fetch.proofs.RefLines.{name_is, name_again, nul_cut, name_before}
 use Rattle.vc_push.specs.Push.{CommandText, IsCommandLine, IsFirstCommandLine, spelled_command, named, name_in, command_line}
 
@@ -103,8 +103,8 @@ parts_some f line command e =
       writes_new = id_some d.0.0 command.new (g.1 ∙ ap (λ (k : CommandText). Some k.new) same);
       front = n.1 ∙ ap (λ (k : CommandText). Some k.name) same;
       spelled =
-          split_is 40 (without_lf line) a.0 a.1
-          ∙ ap (λ t. a.0.0 ++ t) (after_word_some (32 ∷ []) a.0.1 c.0 c.1 ∙ ap (λ t. 32 ∷ t) (split_is 40 c.0 d.0 d.1 ∙ ap (λ t. d.0.0 ++ t) (after_word_some (32 ∷ []) d.0.1 h.0 h.1)));
+          split_some 40 (without_lf line) a.0 a.1
+          ∙ ap (λ t. a.0.0 ++ t) (after_word_some (32 ∷ []) a.0.1 c.0 c.1 ∙ ap (λ t. 32 ∷ t) (split_some 40 c.0 d.0 d.1 ∙ ap (λ t. d.0.0 ++ t) (after_word_some (32 ∷ []) d.0.1 h.0 h.1)));
     }
 
 parts_again : (f : Bool) (line : List ℕ) (command : CommandText) → Parts f command line → command_line f line ≡ Some command

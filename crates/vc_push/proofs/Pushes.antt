@@ -10,13 +10,10 @@ use Rattle.vc_pkt.specs.Message.{Stepped, onward, complete, going, run, GivenBy}
 use Rattle.vc_pkt.specs.ObjectStream.{Gathered, between, gather_step, gather_all, is_any}
 use Rattle.vc_pkt.specs.declared.fault.PktFault.{PktFault}
 use Rattle.vc_pkt.specs.declared.fault.PktFault.TheVariants.{TooMany}
-use Rattle.vc_pkt.proofs.StreamLaws.{gather_means, gather_runs}
+use Rattle.vc_pkt.proofs.StreamLaws.{gather_means, gather_runs, ok_same}
 use Rattle.vc_fetch.specs.Pack.{is_object}
 use Rattle.vc_push.specs.Push.{CommandText, Carried, PushText, AreCommandLines, SpellsCarried, SpellsPush, carried_or, carried_of, only_deletes, command_line, carry, PushState, commanding, streaming, one_more, with_commands, push_step}
 use Rattle.vc_push.proofs.CommandLines.{command_some, command_again, first_command_some, first_command_again}
-
-ok_same : {A : Type 0} (x y : A) → ◌≡◌ {A = Result A PktFault} (Ok x) (Ok y) → x ≡ y
-ok_same x y e = cc e
 
 -- ---- what is carried: the first object at fault, or the set
 abbrev is_bad : StoredObject → Bool

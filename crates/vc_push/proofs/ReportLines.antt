@@ -5,6 +5,7 @@ use Rattle.std.specs.List.{list_any}
 use Rattle.std.specs.Str.{bytes_eq}
 use Rattle.std.proofs.lemmas.Bool.Decides.{nat_tests}
 use Rattle.std.proofs.lemmas.Slice.Eq.{bytes_eq-Decides}
+use Rattle.std.proofs.lemmas.Bool.{or_parts}
 use Rattle.vc_object.specs.Bytes.{Without, cut}
 use Rattle.vc_object.specs.Lines.{after_word}
 use Rattle.vc_object.proofs.LineTexts.{after_word_some, after_word_again}
@@ -17,16 +18,12 @@ use Rattle.vc_push.specs.Report.{IsUnpackLine, IsOkLine, IsNgLine, IsOptionLine,
 use Rattle.vc_push.proofs.CommandLines.{named_some, named_again}
 
 -- ---- a name has no space
-either_false : (a b : Bool) → (a || b) ≡ false → (a ≡ false) × (b ≡ false)
-either_false true b e = cc e
-either_false false b e = (refl, e)
-
 no_space : (name : List ℕ) → list_any is_break name ≡ false → Without 32 name
 no_space [] e = tt
 no_space (b ∷ name) e =
-    let p = either_false (is_break b) (list_any is_break name) e in
-    let q = either_false (b == 0) (b == 10 || b == 32) p.0 in
-    let r = either_false (b == 10) (b == 32) q.1 in
+    let p = or_parts (is_break b) (list_any is_break name) e in
+    let q = or_parts (b == 0) (b == 10 || b == 32) p.0 in
+    let r = or_parts (b == 10) (b == 32) q.1 in
     let other : b ≢ 32 = let f = r.1 in grind (arith, nat_tests) in
     (other, no_space name p.1)
 

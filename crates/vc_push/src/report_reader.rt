@@ -1,17 +1,16 @@
 //! Reading a report line by line.
 
-ghost use Rattle.std.specs.Prelude.{◌≡◌, ◌<◌, [], ◌∷◌, ◌++◌, Some, None, length, map, unwrap_or, OnOk, IfOk, option_map};
+ghost use Rattle.std.specs.Prelude.{◌≡◌, ◌<◌, [], Some, None, map, unwrap_or, OnOk, IfOk, option_map};
 ghost use Rattle.vc_pkt.specs.Message.{onward};
 ghost use Rattle.vc_pkt.specs.StepView.{Gives};
-ghost use Rattle.vc_object.specs.Bytes.{cut, Without};
-ghost use Rattle.vc_push.specs.Report.{ReportState, ReportText, Said, nothing, new_id, ng_said, ok_said, opted, opts, report_step, report_step_own, said, settled, told_by, unpack_line, unpacking};
-ghost use Rattle.vc_push.specs.ReportView.{bytes_of, outcome_of, pending_of, report_state, report_text, telling_state, told_of};
+ghost use Rattle.vc_push.specs.Report.{ReportState, ReportText, Said, new_id, ng_said, ok_said, opted, opts, report_step, report_step_own, said, settled, told_by, unpack_line, unpacking};
+ghost use Rattle.vc_push.specs.ReportView.{bytes_of, pending_of, report_state, report_text, telling_state, told_of};
 ghost use Rattle.vc_push.specs.SaidView.{said_view};
 
 use crate::report::{Report, Told};
 use std::alloc::{AllocError, Global};
 use vc_fetch::{id_line, is_name};
-use vc_object::ObjectId;
+use vc_object::{ObjectId, cut_at};
 use vc_pkt::{Line, MessageReader, PktError, PktFault, Step, without_lf};
 
 /// The commands that one report tells of, at most.
@@ -59,23 +58,11 @@ pub(crate) enum LineSays<'a> {
     Nothing,
 }
 
-/// What stands before the first space, and what stands behind it.
-fn cut_at_space(words: &[u8]) -> Option<(&[u8], &[u8])>
-    ensures { option_map (λ parts. (parts.0.now, parts.1.now)) result ≡ cut 32 words.now }
-{
-    for (i, byte) in words.iter().enumerate() {
-        if *byte == b' ' {
-            return Some((&words[..i], &words[i + 1..]));
-        }
-    }
-    None
-}
-
 /// What `ng` and these words say.
 fn refused_by(words: &[u8]) -> LineSays<'_>
     ensures { said_view result ≡ ng_said words.now }
 {
-    let Some((name, reason)) = cut_at_space(words) else {
+    let Some((name, reason)) = cut_at(words, b' ') else {
         return LineSays::Nothing;
     };
     if !is_name(name) {

@@ -3,6 +3,11 @@
 use std::error::Error;
 use std::fmt;
 
+/// What is printed where a file of refs, or of HEAD, stands for none: of the crates that refuse it neither stands on the other.
+pub const BAD_REF_FILE: &str = "33 BadRefFile";
+/// What is printed where HEAD names HEAD.
+pub const HEAD_LOOP: &str = "34 HeadLoop";
+
 /// The rule that a text breaks. The first rule that is broken is told, by number.
 #[derive(Clone, Copy, Debug)]
 pub enum NameFault {

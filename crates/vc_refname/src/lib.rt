@@ -10,5 +10,5 @@ mod name;
 mod rules;
 mod traits;
 
-pub use fault::{NameFault, NewNameError};
+pub use fault::{BAD_REF_FILE, HEAD_LOOP, NameFault, NewNameError};
 pub use name::RefName;

@@ -20,7 +20,7 @@ use Rattle.vc_refs.specs.RefMap.{IsInRefs, is_ref}
 use Rattle.vc_refs.specs.Head.{head_of, head_text, id_said, name_said, read_head, said, IsHeadInRefs, IsLegalHead}
 use Rattle.vc_refs.specs.Refs.{ChangesOnly}
 use Rattle.vc_refs.proofs.RefFileLemmas.{without_lf-line, id_in-id_text, digits_of}
-use Rattle.vc_refs.proofs.WayLemmas.{split_from_starts}
+use Rattle.vc_refs.proofs.ObstacleLemmas.{split_from_starts}
 
 -- what a name says
 pub name_said-bad : (name : List ℕ) → bytes_eq name (codes "HEAD") ≡ false → is_utf8 name ≡ false → name_said name ≡ SaysNothing

@@ -13,9 +13,9 @@ use Rattle.vc_files.proofs.FileMapLemmas.{get-put}
 use Rattle.vc_object.specs.declared.id.ObjectId.{ObjectId}
 use Rattle.vc_refs.specs.Head.{KeepsTheRest}
 use Rattle.vc_refs.specs.Packing.{IsUnpacked, UnpacksOnly}
-use Rattle.vc_refs.specs.RefFault.{BlamesPacked, BlamesRemove, BlamesSet, BlamesWay}
+use Rattle.vc_refs.specs.RefFault.{BlamesPacked, BlamesRemove, BlamesSet, BlamesObstacle}
 use Rattle.vc_refs.specs.Refs.{deciding_file, is_taken, loose_refs, packed_at, packed_map, packed_path, refs, ChangesOnly, IsBadLoose, IsBadRef, IsGoodPackedFile}
-use Rattle.vc_refs.specs.Way.{is_held, IsFree}
+use Rattle.vc_refs.specs.Obstacle.{is_held, IsFree}
 use Rattle.vc_refs.specs.Packed.{PackedMap, packed_refs, packed_text}
 use Rattle.vc_refs.specs.RefMap.{RefMap, IsInRefs, conflicts, with_ref, without_ref}
 use Rattle.vc_refs.specs.declared.faults.RefFault.{RefFault}
@@ -98,7 +98,7 @@ set_blames_packed content name expected (BadRefFile path) h = inl h
 set_blames_packed content name expected HeadLoop h = h
 set_blames_packed content name expected (Fault fault) h = tt
 
-pub set_blames_way : (content : FileMap) (name : List ℕ) (expected : Option ObjectId) (e : RefFault) → BlamesWay content name e → BlamesSet content name expected e
+pub set_blames_way : (content : FileMap) (name : List ℕ) (expected : Option ObjectId) (e : RefFault) → BlamesObstacle content name e → BlamesSet content name expected e
 set_blames_way content name expected (Stale current) h = absurd h
 set_blames_way content name expected (Conflict other) h = h
 set_blames_way content name expected (BadRefFile path) (inl line) = inl line

@@ -22,7 +22,7 @@ use Rattle.vc_refs.specs.declared.faults.RefFault.TheVariants.{Stale, Conflict, 
 use Rattle.vc_refs.proofs.PackedLaws.{id_in-valid, packed_entry, packed_refs-valid, whole_id}
 use Rattle.vc_refs.proofs.PackedLemmas.{empty-IsPackedMap}
 use Rattle.vc_refs.proofs.RefsLemmas.{loose-at, loose-same, loose_absent, loose_good, loose_legal, taken_from_ref}
-use Rattle.vc_refs.proofs.WayLemmas.{split_from_starts}
+use Rattle.vc_refs.proofs.ObstacleLemmas.{split_from_starts}
 
 -- ---- the packed file
 pub packed_map-absent : (content : FileMap) → files.get content packed_path ≡ None → packed_map content ≡ Some empty

@@ -14,6 +14,7 @@ use Rattle.std.proofs.lemmas.Bool.{and_parts, and_from, false_from_ne_true}
 use Rattle.std.proofs.lemmas.List.Folds.{list_any-append}
 use Rattle.std.proofs.lemmas.Map.Text.{is_eq-slice_cmp}
 use Rattle.std.proofs.lemmas.Slice.Eq.{bytes_eq-Decides}
+use Rattle.std.proofs.Math.Bool.{or-false, or-true}
 use Rattle.vc_files.specs.FileMap.{FileMap, paths_under}
 use Rattle.vc_files.proofs.FileMapLemmas.{get-put, get-unput}
 use Rattle.vc_object.specs.declared.id.ObjectId.{ObjectId}
@@ -31,7 +32,7 @@ use Rattle.vc_refs.proofs.ListingLemmas.{AllGood, spells_refs}
 use Rattle.vc_refs.proofs.PackedLemmas.{of_T}
 use Rattle.vc_refs.proofs.PathLemmas.{is_among-paths_under, same_path, head_among, not_above_itself}
 use Rattle.vc_refs.proofs.RefsLemmas.{bad_from_none, loose-same}
-use Rattle.vc_refs.proofs.WayLemmas.{split_from_starts}
+use Rattle.vc_refs.proofs.ObstacleLemmas.{split_from_starts}
 
 abbrev by_bytes : List ℕ → List ℕ → Ordering
 by_bytes = slice_cmp nat_cmp
@@ -51,23 +52,15 @@ either_none false = refl
 one_of_more : (q p : List ℕ) (paths : List (List ℕ)) → is_one_of q (paths ++ p ∷ []) ≡ (is_one_of q paths || (eq_by_cmp by_bytes q p || false))
 one_of_more q p paths = list_any-append (eq_by_cmp by_bytes q) paths (p ∷ [])
 
-or_nothing : (b : Bool) → (b || false) ≡ b
-or_nothing true = refl
-or_nothing false = refl
-
-or_true : (b : Bool) → (b || true) ≡ true
-or_true true = refl
-or_true false = refl
-
 module _ (content : FileMap) (paths : List (List ℕ)) (p : List ℕ) (packed : PackedMap) (so_far : IsMerged content paths packed) where
   abbrev Goal : (q : List ℕ) → PackedMap → Type 0
   Goal q m = files.get m q ≡ option_or (cond (is_one_of q (paths ++ p ∷ [])) (loose_refs content q) None) (packed_at (packed_map content) q)
 
   told : (q : List ℕ) (b : Bool) → eq_by_cmp by_bytes q p ≡ b → is_one_of q (paths ++ p ∷ []) ≡ (is_one_of q paths || b)
-  told q b is = one_of_more q p paths ∙ ap (λ c. is_one_of q paths || c) (or_nothing (eq_by_cmp by_bytes q p) ∙ is)
+  told q b is = one_of_more q p paths ∙ ap (λ c. is_one_of q paths || c) (or-false (eq_by_cmp by_bytes q p) ∙ is)
 
   elsewhere : (q : List ℕ) → eq_by_cmp by_bytes q p ≡ false → is_one_of q (paths ++ p ∷ []) ≡ is_one_of q paths
-  elsewhere q other = told q false other ∙ or_nothing (is_one_of q paths)
+  elsewhere q other = told q false other ∙ or-false (is_one_of q paths)
 
   as_before : (q : List ℕ) → eq_by_cmp by_bytes q p ≡ false → Goal q packed
   as_before q other = so_far.at q ∙ ap (λ b. option_or (cond b (loose_refs content q) None) (packed_at (packed_map content) q)) (sym (elsewhere q other))
@@ -81,7 +74,7 @@ module _ (content : FileMap) (paths : List (List ℕ)) (p : List ℕ) (packed : 
   some_here : (q : List ℕ) (id : ObjectId) → loose_refs content p ≡ Some id → (b : Bool) → eq_by_cmp by_bytes q p ≡ b → cond b (Some id) (files.get packed q) ≡ option_or (cond (is_one_of q (paths ++ p ∷ [])) (loose_refs content q) None) (packed_at (packed_map content) q)
   some_here q id is true same =
       ap (λ o. option_or o (packed_at (packed_map content) q)) (sym (ap (loose_refs content) (same_path q p same) ∙ is))
-      ∙ ap (λ b. option_or (cond b (loose_refs content q) None) (packed_at (packed_map content) q)) (sym (told q true same ∙ or_true (is_one_of q paths)))
+      ∙ ap (λ b. option_or (cond b (loose_refs content q) None) (packed_at (packed_map content) q)) (sym (told q true same ∙ or-true (is_one_of q paths)))
   some_here q id is false other = as_before q other
 
   by_value : (o : Option ObjectId) → loose_refs content p ≡ o → (q : List ℕ) → Goal q (with_loose packed p o)
@@ -116,7 +109,7 @@ listed_map content packed all = record { sorted = of_T _ (entries_sorted packed)
 pub listed_there : (content : FileMap) (front : List (List ℕ)) (path : List ℕ) (back : List (List ℕ)) → paths_under content (codes "refs/") ≡ front ++ path ∷ back → is_taken content path ≡ true
 listed_there content front path back listed =
     sym (is_among-paths_under content (codes "refs/") path) ∙ ap (is_one_of path) listed ∙ list_any-append (eq_by_cmp by_bytes path) front (path ∷ back)
-    ∙ ap (λ b. is_one_of path front || b) (head_among path back) ∙ or_true (is_one_of path front)
+    ∙ ap (λ b. is_one_of path front || b) (head_among path back) ∙ or-true (is_one_of path front)
 
 -- its own file decides
 pub listed_good : (content : FileMap) (name : List ℕ) → is_taken content name ≡ true → (IsBadRef content (deciding_file content name) → ⊥) → IsBadLoose content name → ⊥
@@ -177,7 +170,7 @@ more_lost front back old new lost = record { at = λ q. elim (lost.at q) [ inl s
 
 module _ (paths : List (List ℕ)) (p : List ℕ) (old mid : FileMap) where
   last_of : (q : List ℕ) → bytes_eq q p ≡ true → is_one_of q (paths ++ p ∷ []) ≡ true
-  last_of q same = one_of_more q p paths ∙ ap (λ b. is_one_of q paths || b) (or_nothing (eq_by_cmp by_bytes q p) ∙ is_eq-slice_cmp q p ∙ same) ∙ or_true (is_one_of q paths)
+  last_of q same = one_of_more q p paths ∙ ap (λ b. is_one_of q paths || b) (or-false (eq_by_cmp by_bytes q p) ∙ is_eq-slice_cmp q p ∙ same) ∙ or-true (is_one_of q paths)
 
   -- one file more
   pub one_lost : LosesSome paths old mid → LosesSome (paths ++ p ∷ []) old (files.remove mid p)
@@ -195,7 +188,7 @@ module _ (paths : List (List ℕ)) (p : List ℕ) (old mid : FileMap) where
       by : (b : Bool) → bytes_eq q p ≡ b → files.get (files.remove mid p) q ≡ None
       by true same = get-unput mid p q ∙ ap (λ b. cond b None (files.get mid q)) same
       by false other =
-          let before : is_one_of q paths ≡ true = sym (one_of_more q p paths ∙ ap (λ b. is_one_of q paths || b) (or_nothing (eq_by_cmp by_bytes q p) ∙ is_eq-slice_cmp q p ∙ other) ∙ or_nothing (is_one_of q paths)) ∙ among in
+          let before : is_one_of q paths ≡ true = sym (one_of_more q p paths ∙ ap (λ b. is_one_of q paths || b) (or-false (eq_by_cmp by_bytes q p) ∙ is_eq-slice_cmp q p ∙ other) ∙ or-false (is_one_of q paths)) ∙ among in
           get-unput mid p q ∙ ap (λ b. cond b None (files.get mid q)) other ∙ gone q before
 
 -- ---- what packing keeps

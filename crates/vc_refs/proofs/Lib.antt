@@ -1,13 +1,13 @@
 pub mod RefFileLemmas
 pub mod RefsLemmas
 pub mod PathLemmas
-pub mod WayLemmas
+pub mod ObstacleLemmas
 pub mod HeadLemmas
 pub mod ListingLemmas
 pub mod PackedLemmas
 pub mod PackedTextLemmas
 pub mod PackedLaws
 pub mod LayeredLemmas
-pub mod LayeredWayLemmas
+pub mod LayeredObstacleLemmas
 pub mod LayeredListingLemmas
 pub mod LayeredChangeLemmas

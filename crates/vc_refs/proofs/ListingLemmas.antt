@@ -1,5 +1,5 @@
 -- A listing of paths, read one after the other, gives the list of the refs.
-use Rattle.std.proofs.Common.{◌≡◌, ℕ, zero, suc, ◌+◌, ◌<◌, ◌≤◌, Bool, true, false, ◌||◌, ◌⊎◌, inl, inr, List, [], ◌∷◌, ◌++◌, map, take, drop, length, get_or, None, sym, ap, refl, ◌∙◌, subst, arith, drop-cons}
+use Rattle.std.proofs.Common.{◌≡◌, ℕ, zero, suc, ◌+◌, ◌<◌, ◌≤◌, true, ◌||◌, inl, inr, List, [], ◌∷◌, ◌++◌, map, take, drop, length, get_or, None, sym, ap, refl, ◌∙◌, subst, arith, drop-cons}
 use Rattle.std.specs.Prelude.{◌≢◌, codes, String, string_bytes}
 use Rattle.std.specs.Global.{Global}
 use Rattle.std.specs.List.{AllByRecursion}
@@ -10,7 +10,9 @@ use Rattle.std.specs.declared.cmp.Ordering.TheVariants.{Greater}
 use Rattle.std.specs.Cmp.Lexicographic.{slice_cmp}
 use Rattle.std.proofs.lemmas.List.{map_more, map-append, take-append-drop}
 use Rattle.std.proofs.lemmas.List.Folds.{list_any-append}
+use Rattle.std.proofs.lemmas.Bool.{or_cases, or_right}
 use Rattle.vc_files.specs.FileMap.{FileMap, paths_under}
+use Rattle.vc_object.proofs.Order.{All-push}
 use Rattle.vc_refs.specs.LooseFault.{BlamesList, BlamesPath, IsFirstBadLoose}
 use Rattle.vc_refs.specs.Refs.{is_taken, loose_refs, IsBadLoose, SpellsLoose}
 use Rattle.vc_refs.specs.declared.faults.RefFault.{RefFault}
@@ -27,12 +29,8 @@ pub record AllGood (content : FileMap) (paths : List (List ℕ)) : Type 0 where
 pub none_good_yet : (content : FileMap) → AllGood content []
 none_good_yet content = record { each = tt }
 
-all_then : {A : Type 0} (P : A → Type 0) (xs : List A) (x : A) → AllByRecursion P xs → P x → AllByRecursion P (xs ++ x ∷ [])
-all_then P [] x all p = (p, tt)
-all_then P (y ∷ ys) x all p = (all.0, all_then P ys x all.1 p)
-
 pub one_more_good : (content : FileMap) (paths : List (List ℕ)) (p : List ℕ) → AllGood content paths → (IsBadLoose content p → ⊥) → AllGood content (paths ++ p ∷ [])
-one_more_good content paths p good here = record { each = all_then (λ p. IsBadLoose content p → ⊥) paths p good.each here }
+one_more_good content paths p good here = record { each = All-push (λ p. IsBadLoose content p → ⊥) paths p good.each here }
 
 -- so nothing in `refs/` is
 pub spells_refs : (content : FileMap) → AllGood content (paths_under content (codes "refs/")) → SpellsLoose content
@@ -43,20 +41,12 @@ unfolding IsStrictlySortedBy
 sorted_back [] ys sorted = sorted
 sorted_back (x ∷ front) ys sorted = sorted_back front ys sorted.1
 
-or_cases : (a b : Bool) → (a || b) ≡ true → (a ≡ true) ⊎ (b ≡ true)
-or_cases true b h = inl refl
-or_cases false b h = inr h
-
 -- a path that stands for no ref, after good ones, is the first bad one
 pub first_bad : (content : FileMap) (front : List (List ℕ)) (p : List ℕ) (rest : List (List ℕ)) → paths_under content (codes "refs/") ≡ front ++ p ∷ rest → AllGood content front → loose_refs content p ≡ None → IsFirstBadLoose content p
 first_bad content front p rest listed good none = record { bad = record { taken = taken; none = none }; first = first }
   where
     member : (q : List ℕ) → (is_among q front || is_among q (p ∷ rest)) ≡ is_taken content q
     member q = sym (list_any-append (eq_by_cmp path_cmp q) front (p ∷ rest)) ∙ ap (is_among q) (sym listed) ∙ is_among-paths_under content (codes "refs/") q
-
-    or_right : (a b : Bool) → b ≡ true → (a || b) ≡ true
-    or_right true b h = refl
-    or_right false b h = h
 
     taken : is_taken content p ≡ true
     taken = sym (member p) ∙ or_right (is_among p front) (is_among p (p ∷ rest)) (head_among p rest)

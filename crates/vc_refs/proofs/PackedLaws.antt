@@ -1,5 +1,5 @@
 -- What a text of packed refs stands for has legal names in `refs/` and whole ids: for those who hold the text alone.
-use Rattle.std.proofs.Common.{◌≡◌, ◌<◌, ◌==◌, ℕ, Bool, true, false, nat_lt, List, [], ◌∷◌, length, Option, Some, None, Result, Ok, Err, sym, ap, refl, ◌∙◌, subst, arith, rules}
+use Rattle.std.proofs.Common.{◌≡◌, ℕ, Bool, true, false, List, [], ◌∷◌, length, Option, Some, None, Result, Ok, Err, sym, ap, refl, ◌∙◌, subst, arith, rules}
 use Rattle.std.specs.Prelude.{codes, option_map, option_and_then, if◌then◌else◌}
 use Rattle.std.specs.FinMap.{entries, from_entries, get, get-entries}
 use Rattle.std.specs.List.{list_all}
@@ -8,7 +8,7 @@ use Rattle.std.proofs.lemmas.Bool.{and_from, and_parts}
 use Rattle.hex.specs.declared.error.FromHexError.{FromHexError}
 use Rattle.hex.specs.Hex.{decode_sized}
 use Rattle.hex.proofs.HexLemmas.{decode_of-ok, decode_sized-ok, decode_sized-twice}
-use Rattle.vc_object.proofs.IdLemmas.{is_id-from_array}
+use Rattle.vc_object.proofs.IdLemmas.{IsId-from_is_id, is_id-from_array}
 use Rattle.vc_object.proofs.Items.{bind_some}
 use Rattle.vc_object.specs.Lines.{after_word, split, IsId}
 use Rattle.vc_object.specs.ObjectId.{is_id}
@@ -16,7 +16,6 @@ use Rattle.vc_object.specs.declared.id.ObjectId.{ObjectId}
 use Rattle.vc_refs.specs.Packed.{PackedMap, PackedRef, IsPackedMap, hex_id, is_comment, is_packed_name, is_peeled, lines, map_of, may_be_packed, names_once, packed_name, packed_refs, ref_in, refs_in, with_ref_first}
 use Rattle.vc_refs.specs.RefFile.{id_in, id_of, without_lf}
 use Rattle.vc_refs.proofs.PackedLemmas.{all_found, from_entries-IsPackedMap, packed_name-valid}
-use Rattle.vc_refs.proofs.RefFileLemmas.{all_bytes}
 
 same_id : (bytes : List ℕ) (id : ObjectId) → Some (id_of bytes) ≡ Some id → bytes ≡ id.0
 same_id bytes id e = cc e
@@ -42,10 +41,7 @@ pub id_in-valid : (text : List ℕ) (id : ObjectId) → id_in text ≡ Some id �
 id_in-valid text id e = hex_id-valid (without_lf text) id e
 
 pub whole_id : (id : ObjectId) → is_id id ≡ true → IsId id
-whole_id id valid =
-    let parts = and_parts (length id.0 == 20) (list_all (λ b. nat_lt b 256) id.0) valid in
-    let size : length id.0 ≡ 20 = search rules in
-    record { sized = size; bytes = all_bytes id.0 parts.1 }
+whole_id = IsId-from_is_id
 
 -- the line of a ref gives one that may be packed
 ref_in-valid : (line : List ℕ) (ref : PackedRef) → ref_in line ≡ Some ref → may_be_packed ref ≡ true

@@ -1,5 +1,5 @@
 -- For the readers and the changes of packed refs: lines, names that stand once, and a map seen without its memory.
-use Rattle.std.proofs.Common.{◌≡◌, ◌≢◌, ℕ, Bool, true, false, cond, List, [], ◌∷◌, ◌++◌, length, Option, Some, None, is_none, sym, ap, refl, ◌∙◌, subst, arith, append_assoc, append-nil}
+use Rattle.std.proofs.Common.{◌≡◌, ◌≢◌, ℕ, Bool, true, false, cond, List, [], ◌∷◌, ◌++◌, length, Option, Some, None, is_none, sym, ap, refl, ◌∙◌, subst, append_assoc, append-nil}
 use Rattle.std.specs.Prelude.{IfSome, IfNone, T, option_map, option_and_then}
 use Rattle.std.specs.BTreeMap.{BTreeMap, get_by, is_at, UpdatesBy, IsFromIterResult, IsOrdered}
 use Rattle.std.specs.FinMap.{from_entries, get, insert, remove, empty, get-from_entries, get-insert, get-remove, same_map, len-entries, len-empty, entries, entries_sorted, get-entries, entries-insert, slice_cmp-IsAntisymmetric, nat_cmp-IsAntisymmetric}
@@ -7,7 +7,7 @@ use Rattle.std.specs.FinMap.Entries.{find, put, by_order, below_all, is_sorted}
 use Rattle.std.specs.Ordering.{nat_cmp, is_eq, is_lt, eq_by_cmp}
 use Rattle.std.specs.declared.cmp.Ordering.{Ordering}
 use Rattle.std.specs.declared.cmp.Ordering.TheVariants.{Less, Equal, Greater}
-use Rattle.std.specs.Cmp.{eq_by_cmp_equiv, tied_itself}
+use Rattle.std.specs.Cmp.{Equal-is, eq_by_cmp_equiv, tied_itself}
 use Rattle.std.specs.Cmp.Lexicographic.{slice_cmp, nat_list_cmp_total}
 use Rattle.std.specs.Map.{lookup, keys_of}
 use Rattle.std.specs.List.{AllByRecursion, IsDistinct, list_all}
@@ -18,6 +18,7 @@ use Rattle.std.proofs.lemmas.List.Folds.{list_all-append}
 use Rattle.std.proofs.lemmas.Map.Entries.{length-keys_of}
 use Rattle.std.proofs.lemmas.Map.Made.{IsDistinct-from_count, distinct_count-from_IsDistinct, update_all_none}
 use Rattle.std.proofs.lemmas.Map.Views.{btree_map_len-from_list}
+use Rattle.std.proofs.lemmas.List.{nil_from_length}
 use Rattle.vc_object.specs.declared.id.ObjectId.{ObjectId}
 use Rattle.vc_refs.specs.Packed.{PackedMap, PackedRef, IsBadPacked, IsPackedMap, is_comment, is_packed_name, is_peeled, lines, map_of, may_be_packed, names_once, packed_name, packed_refs, ref_in, refs_in, with_ref_first}
 use Rattle.vc_refs.specs.PackedView.{packed_of}
@@ -82,14 +83,9 @@ pub all_more : (done : List PackedRef) (ref : PackedRef) → list_all may_be_pac
 all_more done ref all one = list_all-append may_be_packed done (ref ∷ []) ∙ and_from _ _ all (and_from _ _ one refl)
 
 -- ---- names that stand once
-equal : (o : Ordering) → is_eq o ≡ true → o ≡ Equal
-equal Less e = cc e
-equal Equal e = refl
-equal Greater e = cc e
-
 -- two texts that compare equal are the same
 pub same_name : (a b : List ℕ) → is_eq (by_bytes a b) ≡ true → a ≡ b
-same_name a b e = slice_cmp-IsAntisymmetric nat_cmp-IsAntisymmetric a b (equal _ e)
+same_name a b e = slice_cmp-IsAntisymmetric nat_cmp-IsAntisymmetric a b ((Equal-is _).0 e)
 
 is_eq-same : (a : List ℕ) → is_eq (by_bytes a a) ≡ true
 is_eq-same a = ap is_eq (tied_itself nat_list_cmp_total a)
@@ -132,13 +128,8 @@ first_in : (k : List ℕ) (v : ObjectId) (es : List PackedRef) → AllByRecursio
 first_in k v [] below = refl
 first_in k v (e ∷ es) below = ap (λ r. by_order r ((k, v) ∷ e ∷ es) ((e.0, v) ∷ es) (e ∷ put by_bytes k v es)) below.0
 
--- a list of no length
-pub no_entries : {A : Type 0} (es : List A) → length es ≡ 0 → es ≡ []
-no_entries [] e = refl
-no_entries (x ∷ es) e = absurd (omega arith)
-
 pub entries-none : entries (empty {X = ObjectId} {R = by_bytes}) ≡ []
-entries-none = no_entries _ (sym (len-entries (empty {X = ObjectId} {R = by_bytes})) ∙ len-empty by_bytes ObjectId)
+entries-none = nil_from_length _ (sym (len-entries (empty {X = ObjectId} {R = by_bytes})) ∙ len-empty by_bytes ObjectId)
 
 entries_kept : (es : List PackedRef) → IsStrictlySortedBy by_bytes (keys_of es) → entries (from_entries {R = by_bytes} es) ≡ es
 unfolding IsStrictlySortedBy

@@ -1,6 +1,6 @@
 -- What is written for packed refs is read as the same refs.
 use Rattle.std.proofs.Common.{◌≡◌, ℕ, zero, suc, ◌==◌, Bool, true, false, cond, List, [], ◌∷◌, ◌++◌, length, Some, is_none, sym, ap, refl, ◌∙◌, arith, append_assoc, append-nil, length-append, true≢false, nat_eq}
-use Rattle.std.specs.Prelude.{codes, map, nat_lt, option_and_then}
+use Rattle.std.specs.Prelude.{codes, map, option_and_then}
 use Rattle.std.specs.FinMap.{empty, from_entries, entries, entries_sorted, get-entries, get-from_entries, same_map, slice_cmp-IsAntisymmetric, nat_cmp-IsAntisymmetric}
 use Rattle.std.specs.FinMap.Entries.{below_all, is_sorted}
 use Rattle.std.specs.Ordering.{nat_cmp}
@@ -10,15 +10,14 @@ use Rattle.std.specs.List.{All, AllPass, flat_map, list_all, list_any, slice_ind
 use Rattle.std.specs.Str.{is_utf8}
 use Rattle.std.proofs.lemmas.Bool.{and_parts, and_from, or_parts, false_from_ne_true}
 use Rattle.std.proofs.lemmas.Bool.Decides.{nat_tests, Decides-eqb}
-use Rattle.std.proofs.lemmas.List.{take_at, drop_at}
 use Rattle.std.proofs.lemmas.List.Splits.{slice_split_none, slice_split_at}
 use Rattle.std.proofs.lemmas.List.Elements.{All-append}
 use Rattle.hex.specs.Hex.{encode_lower, is_hex_digit}
 use Rattle.vc_object.specs.Items.{◌>>=◌}
-use Rattle.vc_object.specs.Lines.{after_word, split}
+use Rattle.vc_object.specs.Lines.{after_word}
 use Rattle.vc_object.specs.ObjectId.{is_id}
 use Rattle.vc_object.specs.declared.id.ObjectId.{ObjectId}
-use Rattle.vc_object.proofs.LineTexts.{after_word_again}
+use Rattle.vc_object.proofs.LineTexts.{after_word_again, split_again}
 use Rattle.vc_refname.specs.RefName.{is_bad_byte, is_ref_name}
 use Rattle.vc_refname.specs.declared.fault.NameFault.TheVariants as broken
 use Rattle.vc_refname.proofs.BrokenRules.{legal_from_is_ref_name}
@@ -36,11 +35,6 @@ by_bytes = slice_cmp nat_cmp
 id_again : (id : ObjectId) → is_id id ≡ true → hex_id (encode_lower id.0) ≡ Some id
 id_again id valid = ap hex_id (sym (without_lf-line (encode_lower id.0))) ∙ id_in-id_text id valid
 
-split_again : (a b : List ℕ) (n : ℕ) → length a ≡ n → split n (a ++ b) ≡ Some (a, b)
-split_again a b n long =
-    let enough : nat_lt (length (a ++ b)) n ≡ false = let l = length-append a b in grind (arith, nat_tests) in
-    rw (enough, take_at a b n long, drop_at a b n long) refl
-
 name_again : (name : List ℕ) → is_packed_name name ≡ true → packed_name name ≡ Some name
 name_again name valid = rw valid refl
 
@@ -49,7 +43,7 @@ unfolding ref_in
 ref_again ref valid =
     let both = and_parts (is_packed_name ref.0) (is_id ref.1) valid in
     let digits = encode_lower ref.1.0 in
-    ap (λ o. o >>= (λ parts. hex_id parts.0 >>= (λ id. after_word (codes " ") parts.1 >>= (λ rest. packed_name rest >>= (λ name. Some (name, id)))))) (split_again digits (32 ∷ ref.0) 40 (digits_of ref.1 both.1).0)
+    ap (λ o. o >>= (λ parts. hex_id parts.0 >>= (λ id. after_word (codes " ") parts.1 >>= (λ rest. packed_name rest >>= (λ name. Some (name, id)))))) (split_again 40 digits (32 ∷ ref.0) (digits_of ref.1 both.1).0)
     ∙ ap (λ o. o >>= (λ id. after_word (codes " ") (32 ∷ ref.0) >>= (λ rest. packed_name rest >>= (λ name. Some (name, id))))) (id_again ref.1 both.1)
     ∙ ap (λ o. o >>= (λ rest. packed_name rest >>= (λ name. Some (name, ref.1)))) (after_word_again (codes " ") ref.0)
     ∙ ap (λ o. o >>= (λ name. Some (name, ref.1))) (name_again ref.0 both.0)

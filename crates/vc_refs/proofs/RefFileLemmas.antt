@@ -1,5 +1,5 @@
 -- The texts of ref files: what a reader makes of them, and that what is written for an id is read as that id.
-use Rattle.std.proofs.Common.{◌≡◌, ℕ, zero, suc, ◌-◌, ◌<◌, ◌==◌, true, nat_lt, List, [], ◌∷◌, ◌++◌, take, drop, length, slice_index, Option, Some, None, Result, Ok, Err, sym, ap, refl, ◌∙◌, lit<, arith, rules, length-append}
+use Rattle.std.proofs.Common.{◌≡◌, ℕ, zero, suc, ◌-◌, ◌==◌, true, nat_lt, List, [], ◌∷◌, ◌++◌, take, drop, length, Option, Some, None, Result, Ok, Err, sym, ap, refl, ◌∙◌, arith, rules, length-append}
 use Rattle.std.specs.Prelude.{◌↔◌, IsSome, IfSome, is_ok, option_map}
 use Rattle.std.specs.List.{AllPass, list_all}
 use Rattle.std.specs.Result.{result_ok}
@@ -10,6 +10,7 @@ use Rattle.hex.specs.Hex.{decode_of, decode_sized, encode_lower, is_hex_digit}
 use Rattle.hex.proofs.HexLemmas.{decode_sized-twice, IsOk-decode_sized, decode_sized-encode_lower}
 use Rattle.vc_object.specs.declared.id.ObjectId.{ObjectId}
 use Rattle.vc_object.specs.ObjectId.{is_id}
+use Rattle.vc_object.proofs.IdLemmas.{byte_below}
 use Rattle.vc_refs.specs.RefFile.{without_lf, id_of, id_in, id_text}
 
 none_of : (t : List ℕ) (d : Result (List ℕ) FromHexError) → (is_ok d ≡ true → ⊥) → None ≡ option_map id_of (result_ok d)
@@ -25,11 +26,6 @@ id_from_hex t None value found =
     none_of t (decode_sized t 20) (λ ok.
     let told : IsSome {T = ObjectId} None = found.1 ((IsOk-decode_sized t 20).0 ok) in
     cc)
-
-pub all_bytes : (xs : List ℕ) → list_all (λ b. nat_lt b 256) xs ≡ true → (i : ℕ) → slice_index xs i < 256
-all_bytes [] h i = lit< tt
-all_bytes (x ∷ xs) h zero = let p = (and_parts (nat_lt x 256) (list_all (λ b. nat_lt b 256) xs) h).0 in search rules
-all_bytes (x ∷ xs) h (suc i) = all_bytes xs (and_parts (nat_lt x 256) (list_all (λ b. nat_lt b 256) xs) h).1 i
 
 drop_front : (xs : List ℕ) (n : ℕ) (ys : List ℕ) → length xs ≡ n → drop n (xs ++ ys) ≡ ys
 drop_front [] zero ys e = refl
@@ -51,11 +47,11 @@ id_in-id_text id valid =
     let parts = and_parts (length id.0 == 20) (list_all (λ b. nat_lt b 256) id.0) valid in
     let size : length id.0 ≡ 20 = search rules in
     ap (λ t. option_map id_of (result_ok (decode_sized t 20))) (without_lf-line (encode_lower id.0))
-    ∙ ap (λ d. option_map id_of (result_ok d)) (decode_sized-encode_lower id.0 20 size (all_bytes id.0 parts.1))
+    ∙ ap (λ d. option_map id_of (result_ok d)) (decode_sized-encode_lower id.0 20 size (byte_below id.0 parts.1))
 
 -- what is written for an id is forty digits
 pub digits_of : (id : ObjectId) → is_id id ≡ true → (length (encode_lower id.0) ≡ 40) × AllPass is_hex_digit (encode_lower id.0)
 digits_of id valid =
     let parts = and_parts (length id.0 == 20) (list_all (λ b. nat_lt b 256) id.0) valid in
     let size : length id.0 ≡ 20 = search rules in
-    (IsOk-decode_sized (encode_lower id.0) 20).0 (ap is_ok (decode_sized-encode_lower id.0 20 size (all_bytes id.0 parts.1)))
+    (IsOk-decode_sized (encode_lower id.0) 20).0 (ap is_ok (decode_sized-encode_lower id.0 20 size (byte_below id.0 parts.1)))

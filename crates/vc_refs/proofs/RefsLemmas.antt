@@ -7,12 +7,13 @@ use Rattle.std.proofs.lemmas.Slice.Eq.{bytes_eq-Decides}
 use Rattle.std.proofs.lemmas.Bool.{and_parts, and_from, false_from_ne_true}
 use Rattle.vc_files.specs.FileMap.{FileMap, SameOutside}
 use Rattle.vc_files.proofs.FileMapLemmas.{get-put, get-unput}
+use Rattle.vc_files.specs.Path.{is_above}
 use Rattle.vc_object.specs.declared.id.ObjectId.{ObjectId}
 use Rattle.vc_object.specs.ObjectId.{is_id}
 use Rattle.vc_refname.specs.RefName.{IsRefName, is_ref_name}
 use Rattle.vc_refname.proofs.BrokenRules.{is_ref_name-from_legal}
 use Rattle.vc_refs.specs.RefFile.{id_in, id_text}
-use Rattle.vc_refs.specs.RefMap.{RefMap, IsRefMap, IsInRefs, is_ref, is_folder_of, conflicts, entry_at, with_ref, without_ref}
+use Rattle.vc_refs.specs.RefMap.{RefMap, IsRefMap, IsInRefs, is_ref, conflicts, entry_at, with_ref, without_ref}
 use Rattle.vc_refs.specs.Refs.{is_taken, loose_refs, ChangesOnly, IsBadLoose}
 use Rattle.vc_refs.proofs.RefFileLemmas.{id_in-id_text}
 
@@ -148,7 +149,7 @@ IsRefMap-with_ref refs name id legal free itself map = record { legal = names; a
     or_swap false false = refl
 
     conflicts-swap : (a b : List ℕ) → conflicts a b ≡ conflicts b a
-    conflicts-swap a b = or_swap (is_folder_of a b) (is_folder_of b a)
+    conflicts-swap a b = or_swap (is_above a b) (is_above b a)
 
     apart : (a b : List ℕ) → is_some (cond (bytes_eq a name) (Some id) (refs a)) ≡ true → is_some (cond (bytes_eq b name) (Some id) (refs b)) ≡ true → conflicts a b ≡ false
     apart a b p q = elim (at a p) [

@@ -4,8 +4,8 @@ pub mod Packed
 pub mod PackedView
 pub mod Refs
 pub mod Head
-pub mod LooseWay
-pub mod Way
+pub mod LooseObstacle
+pub mod Obstacle
 pub mod LooseFault
 pub mod RefFault
 pub mod Packing

@@ -4,7 +4,7 @@ use Rattle.std.specs.Ordering.{nat_cmp}
 use Rattle.std.specs.declared.cmp.Ordering.TheVariants.{Greater}
 use Rattle.std.specs.Cmp.Lexicographic.{slice_cmp}
 use Rattle.vc_files.specs.FileMap.{FileMap}
-use Rattle.vc_refs.specs.LooseWay.{IsFirstInTheWay}
+use Rattle.vc_refs.specs.LooseObstacle.{IsFirstInTheWay}
 use Rattle.vc_refs.specs.Refs.{loose_refs, IsBadLoose}
 use Rattle.vc_refs.specs.declared.faults.RefFault.{RefFault}
 use Rattle.vc_refs.specs.declared.faults.RefFault.TheVariants.{Stale, Conflict, BadRefFile, HeadLoop, Fault}
@@ -26,12 +26,12 @@ BlamesPath content at HeadLoop = ⊥
 BlamesPath content at (Fault fault) = ⊤
 
 -- what stands in the way is a ref, or a bad file
-abbrev pub BlamesWay : FileMap → List ℕ → RefFault → Type 0
-BlamesWay content name (Stale current) = ⊥
-BlamesWay content name (Conflict other) = IsFirstInTheWay content name other × (is_some (loose_refs content other) ≡ true)
-BlamesWay content name (BadRefFile path) = IsBadLoose content (string_bytes path) × IsFirstInTheWay content name (string_bytes path)
-BlamesWay content name HeadLoop = ⊥
-BlamesWay content name (Fault fault) = ⊤
+abbrev pub BlamesObstacle : FileMap → List ℕ → RefFault → Type 0
+BlamesObstacle content name (Stale current) = ⊥
+BlamesObstacle content name (Conflict other) = IsFirstInTheWay content name other × (is_some (loose_refs content other) ≡ true)
+BlamesObstacle content name (BadRefFile path) = IsBadLoose content (string_bytes path) × IsFirstInTheWay content name (string_bytes path)
+BlamesObstacle content name HeadLoop = ⊥
+BlamesObstacle content name (Fault fault) = ⊤
 
 -- the first bad file in `refs/`, by the bytes of the path
 pub record IsFirstBadLoose (content : FileMap) (path : List ℕ) : Type 0 where

@@ -7,7 +7,7 @@ use Rattle.vc_files.specs.FileMap.{FileMap}
 use Rattle.vc_object.specs.declared.id.ObjectId.{ObjectId}
 use Rattle.vc_refs.specs.Head.{IsHeadLoop, IsBadHead, head_of}
 use Rattle.vc_refs.specs.Refs.{packed_path, refs, deciding_file, IsBadLoose, IsBadPackedFile, IsGoodPackedFile, IsBadRef}
-use Rattle.vc_refs.specs.Way.{IsFirstInTheWay, IsFree}
+use Rattle.vc_refs.specs.Obstacle.{IsFirstInTheWay, IsFree}
 use Rattle.vc_refs.specs.declared.heads.Head.TheVariants.{Branch}
 use Rattle.vc_refs.specs.declared.faults.RefFault.{RefFault}
 use Rattle.vc_refs.specs.declared.faults.RefFault.TheVariants.{Stale, Conflict, BadRefFile, HeadLoop, Fault}
@@ -73,12 +73,12 @@ BlamesSet content name expected HeadLoop = ⊥
 BlamesSet content name expected (Fault fault) = ⊤
 
 -- the packed file comes first, and then what stands in the way
-abbrev pub BlamesWay : FileMap → List ℕ → RefFault → Type 0
-BlamesWay content name (Stale current) = ⊥
-BlamesWay content name (Conflict other) = IsGoodPackedFile content × IsFirstInTheWay content name other × (is_some (refs content other) ≡ true)
-BlamesWay content name (BadRefFile path) = ((string_bytes path ≡ packed_path) × IsBadPackedFile content) ⊎ (IsGoodPackedFile content × IsBadLoose content (string_bytes path) × IsFirstInTheWay content name (string_bytes path))
-BlamesWay content name HeadLoop = ⊥
-BlamesWay content name (Fault fault) = ⊤
+abbrev pub BlamesObstacle : FileMap → List ℕ → RefFault → Type 0
+BlamesObstacle content name (Stale current) = ⊥
+BlamesObstacle content name (Conflict other) = IsGoodPackedFile content × IsFirstInTheWay content name other × (is_some (refs content other) ≡ true)
+BlamesObstacle content name (BadRefFile path) = ((string_bytes path ≡ packed_path) × IsBadPackedFile content) ⊎ (IsGoodPackedFile content × IsBadLoose content (string_bytes path) × IsFirstInTheWay content name (string_bytes path))
+BlamesObstacle content name HeadLoop = ⊥
+BlamesObstacle content name (Fault fault) = ⊤
 
 -- the first file of the refs that can't be read, by the bytes of the path
 pub record IsFirstBadRef (content : FileMap) (path : List ℕ) : Type 0 where

@@ -1,9 +1,10 @@
 -- Refs as a finite map from names to ids, where no name is a folder of another.
-use Rattle.std.specs.Prelude.{◌≡◌, ℕ, Bool, true, false, ◌&&◌, ◌||◌, nat_eq, bytes_eq, List, [], ◌∷◌, ◌++◌, Option, Some, None, is_some, option_map, if◌then◌else◌, codes}
+use Rattle.std.specs.Prelude.{◌≡◌, ℕ, Bool, true, false, ◌&&◌, ◌||◌, nat_eq, bytes_eq, List, Option, Some, None, is_some, option_map, if◌then◌else◌, codes}
 use Rattle.std.specs.List.{starts_with}
 use Rattle.std.specs.Ordering.{nat_cmp}
 use Rattle.std.specs.Cmp.Lexicographic.{slice_cmp}
 use Rattle.std.specs.FinMap.{find, is_sorted}
+use Rattle.vc_files.specs.Path.{is_above}
 use Rattle.vc_object.specs.declared.id.ObjectId.{ObjectId}
 use Rattle.vc_refname.specs.RefName.{is_ref_name}
 
@@ -19,13 +20,9 @@ IsInRefs name = starts_with nat_eq name (codes "refs/") ≡ true
 abbrev pub is_ref : List ℕ → Bool
 is_ref name = is_ref_name name && starts_with nat_eq name (codes "refs/")
 
--- whether the second lies in the folder of the first, as `a/b` in that of `a`
-abbrev pub is_folder_of : List ℕ → List ℕ → Bool
-is_folder_of a b = starts_with nat_eq b (a ++ 47 ∷ [])
-
 -- whether no map may have both names
 abbrev pub conflicts : List ℕ → List ℕ → Bool
-conflicts a b = is_folder_of a b || is_folder_of b a
+conflicts a b = is_above a b || is_above b a
 
 -- legal names in `refs/`, of which none conflicts with another
 pub record IsRefMap (refs : RefMap) : Type 0 where

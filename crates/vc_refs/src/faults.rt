@@ -8,7 +8,7 @@ use std::error::Error;
 use std::fmt;
 use vc_files::Fault;
 use vc_object::ObjectId;
-use vc_refname::RefName;
+use vc_refname::{BAD_REF_FILE, HEAD_LOOP, RefName};
 
 /// What refuses a call on refs, by number, or the fault that ended it.
 #[derive(Debug, Drop)]
@@ -31,8 +31,8 @@ impl fmt::Display for RefFault {
         match self {
             RefFault::Stale(_) => f.write_str("31 Stale"),
             RefFault::Conflict(_) => f.write_str("32 Conflict"),
-            RefFault::BadRefFile(_) => f.write_str("33 BadRefFile"),
-            RefFault::HeadLoop => f.write_str("34 HeadLoop"),
+            RefFault::BadRefFile(_) => f.write_str(BAD_REF_FILE),
+            RefFault::HeadLoop => f.write_str(HEAD_LOOP),
             RefFault::Fault(fault) => fmt::Display::fmt(fault, f),
         }
     }

@@ -4,17 +4,17 @@
 mod getting;
 mod head_value;
 mod listing;
+mod obstacle;
 mod packed_file;
 mod packing;
 mod removing;
 mod setting;
-mod way;
 
 pub use getting::{get, get_with};
 pub use head_value::{resolve_head, resolve_head_with};
 pub use listing::list;
+pub use obstacle::refuse_conflict;
 pub use packed_file::PackedCache;
 pub use packing::pack;
 pub use removing::remove;
 pub use setting::set;
-pub use way::refuse_conflict;

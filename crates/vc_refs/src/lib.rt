@@ -12,12 +12,12 @@ mod head_file;
 mod heads;
 mod layered;
 mod loose;
+mod obstacle;
 mod packed;
 mod removing;
 mod setting;
 mod text;
 mod view;
-mod way;
 
 pub use faults::RefFault;
 pub use head_file::{head, set_head};

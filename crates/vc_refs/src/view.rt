@@ -5,8 +5,8 @@ ghost use Rattle.vc_refs.specs.RefMap.{IsInRefs, IsRefMap, IsListOf, is_ref, wit
 ghost use Rattle.vc_refs.specs.Refs.{deciding_file, refs, ChangesOnly, IsBadRef, SpellsRefs};
 ghost use Rattle.vc_refs.specs.Head.{head_of, head_value, IsHeadInRefs, IsLegalHead, KeepsOutside, KeepsTheRest};
 ghost use Rattle.vc_refs.specs.Packing.{HasLoose, IsPackedFrom, UnpacksOnly};
-ghost use Rattle.vc_refs.specs.Way.{IsFree};
-ghost use Rattle.vc_refs.specs.RefFault.{BlamesRef, BlamesRemove, BlamesSet, BlamesWay, BlamesList, BlamesHead, BlamesHeadValue, HasExpected, MaySet, IsGoodHead, IsGoodHeadValue, IsFault};
+ghost use Rattle.vc_refs.specs.Obstacle.{IsFree};
+ghost use Rattle.vc_refs.specs.RefFault.{BlamesRef, BlamesRemove, BlamesSet, BlamesObstacle, BlamesList, BlamesHead, BlamesHeadValue, HasExpected, MaySet, IsGoodHead, IsGoodHeadValue, IsFault};
 
 use crate::{Head, RefFault, head_file, layered};
 use std::alloc::Global;
@@ -71,7 +71,7 @@ impl<'a, F: Files> Refs<'a, F> {
         requires { IsInRefs name.now }
         ensures same_files { self.new.files.ghost_name ≡ self.old.files.ghost_name }
         ensures free { F.honest → OnOk result (IsFree (F.content self.old.files.now) name.now) }
-        ensures refused { F.honest → IfErr result (BlamesWay (F.content self.old.files.now) name.now) }
+        ensures refused { F.honest → IfErr result (BlamesObstacle (F.content self.old.files.now) name.now) }
         ensures same { F.content self.new.files.now ≡ F.content self.old.files.now }
         ensures wear { Wears F.failed F.can_fail F.left self.old.files.now self.new.files.now (IsErrOf result (RefFault.Fault Fault.Device)) }
     {

@@ -12,6 +12,7 @@ use vc_files::Fault;
 use vc_message::IncomingFault;
 use vc_node::{CloneFault, NodeFault};
 use vc_pkt::PktFault;
+use vc_server::ServeFault;
 use vc_world::ExchangeEnd;
 
 /// Why an exchange with the shared node ended early.
@@ -62,8 +63,8 @@ impl fmt::Display for RemoteFault {
                 }
                 Ok(())
             }
-            RemoteFault::ReadFailed => f.write_str("115 ReadFailed"),
-            RemoteFault::WriteFailed => f.write_str("116 WriteFailed"),
+            RemoteFault::ReadFailed => fmt::Display::fmt(&IncomingFault::Failed, f),
+            RemoteFault::WriteFailed => fmt::Display::fmt(&ServeFault::WriteFailed, f),
             RemoteFault::Unread(fault) => fmt::Display::fmt(fault, f),
             RemoteFault::Clone(fault) => fmt::Display::fmt(fault, f),
             RemoteFault::Fault(fault) => fmt::Display::fmt(fault, f),

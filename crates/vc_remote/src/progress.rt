@@ -18,19 +18,19 @@ const PIECE: usize = 1_048_576;
 
 /// Which way a message goes.
 #[derive(Clone, Copy)]
-pub(crate) enum Way {
+pub(crate) enum Obstacle {
     Sent,
     Received,
 }
 
-impl Way {
+impl Obstacle {
     // The word that tells it.
     fn word(self) -> &'static str
         ensures { result.now ≡ way_word self }
     {
         match self {
-            Way::Sent => "sent",
-            Way::Received => "received",
+            Obstacle::Sent => "sent",
+            Obstacle::Received => "received",
         }
     }
 }
@@ -78,7 +78,7 @@ impl<W: Write> Progress<W> {
     }
 
     // So many bytes more have gone by.
-    fn advance(&mut self, way: Way, bytes: usize)
+    fn advance(&mut self, way: Obstacle, bytes: usize)
         ensures counted { Counts self.old.count bytes self.new.count }
         ensures told { OnOk self.new.told (Appends (W.contents self.old.stream) (W.contents self.new.stream) (told_text self.old.is_terminal way self.old.count self.new.count)) }
         ensures failed { OnErr self.old.told ((self.new.told ≡ self.old.told) × (self.new.stream ≡ self.old.stream)) }
@@ -122,7 +122,7 @@ fn steps(count: u64) -> u64
 }
 
 // Tells how many bytes have gone by, in place of the line before.
-fn tell_count<W: Write>(stream: &mut W, way: Way, count: u64) -> io::Result<()>
+fn tell_count<W: Write>(stream: &mut W, way: Obstacle, count: u64) -> io::Result<()>
     ensures line { OnOk result (Appends (W.contents stream.old) (W.contents stream.new) (progress_line way count)) }
 {
     let mebibytes = steps(count) * STRIDE_MEBIBYTES;
@@ -146,7 +146,7 @@ impl<'a, S: Read, W: Write> Read for Counted<'a, S, W> {
         ensures counted { IfOk result (λ n. Counts self.old.progress.now.count n self.new.progress.now.count) }
     {
         let read = self.stream.read(buf)?;
-        self.progress.advance(Way::Received, read);
+        self.progress.advance(Obstacle::Received, read);
         Ok(read)
     }
 }
@@ -160,7 +160,7 @@ impl<'a, S: Write, W: Write> Write for Counted<'a, S, W> {
         ensures counted { IfOk result (λ n. Counts self.old.progress.now.count n self.new.progress.now.count) }
     {
         let written = self.stream.write(first_piece(buf))?;
-        self.progress.advance(Way::Sent, written);
+        self.progress.advance(Obstacle::Sent, written);
         Ok(written)
     }
 

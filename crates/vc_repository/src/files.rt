@@ -3,9 +3,9 @@ ghost use Rattle.std.specs.Prelude.{◌≡◌};
 
 use crate::faults::refs_fault;
 use std::alloc::Global;
-use vc_base::{Commits, Parents};
 use vc_files::Files;
 use vc_graph::Objects;
+use vc_history::{Commits, Parents};
 use vc_index::Index;
 use vc_object::ObjectId;
 use vc_refname::RefName;

@@ -1,5 +1,5 @@
 -- One answer after another: what is told of it.
-use Rattle.std.proofs.Common.{Option, ◌≡◌, ℕ, inl, inr, Result, Ok, Err, IfErr, refl, subst}
+use Rattle.std.proofs.Common.{Option, ℕ, inl, inr, Result, Ok, Err, refl}
 use Rattle.vc_files.specs.Failures.{Wears}
 use Rattle.vc_rev.specs.Answer.{After, IsTold, IsToldAlone}
 use Rattle.vc_rev.specs.Question.{Question, AsksAfter}
@@ -46,6 +46,3 @@ wears_none failed can_fail left old new P Q w other = record {
   failed_now = λ q. absurd (other q);
   unspent = w.unspent;
 }
-
-pub err_at : {A E : Type 0} (P : E → Type 0) (r : Result A E) (e : E) → IfErr r P → r ≡ Err e → P e
-err_at {A} P r e h is = subst (λ (x : Result A _). IfErr x P) is h

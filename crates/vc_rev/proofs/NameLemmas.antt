@@ -1,7 +1,8 @@
-use Rattle.std.proofs.Common.{◌≡◌, ◌⊎◌, inl, inr, ◌==◌, ◌||◌, nat_eq, codes, true≢false, arith, ℕ, List, [], ◌∷◌, ◌++◌, Bool, true, false, cond, refl, sym, ap, ◌∙◌}
+use Rattle.std.proofs.Common.{◌≡◌, ◌⊎◌, inl, inr, ◌==◌, nat_eq, codes, true≢false, arith, ℕ, List, [], ◌∷◌, ◌++◌, Bool, true, false, cond, refl, sym, ap, ◌∙◌}
 use Rattle.std.specs.List.{list_any, starts_with, ends_with}
 use Rattle.std.proofs.lemmas.Bool.Decides.{nat_tests, Decides-eqb}
 use Rattle.std.proofs.lemmas.Slice.Eq.{ends_is}
+use Rattle.std.proofs.lemmas.Bool.{or_parts}
 use Rattle.vc_refname.specs.RefName.{IsRefName, is_bad_byte, occurs}
 use Rattle.vc_refname.specs.declared.fault.NameFault.TheVariants as rules
 use Rattle.vc_rev.specs.Base.{IsBase, is_stop, name_of, after_name}
@@ -29,14 +30,10 @@ pub record Plain (name : List ℕ) : Type 0 where
   pub dots : occurs (codes "..") name ≡ false
   pub end : (front : List ℕ) → name ≡ front ++ 46 ∷ [] → ⊥
 
-pub or_false : (a b : Bool) → (a || b) ≡ false → (a ≡ false) × (b ≡ false)
-or_false true b h = absurd (true≢false h)
-or_false false b h = (refl, h)
-
 plain_tail : (b : ℕ) (bs : List ℕ) → Plain (b ∷ bs) → Plain bs
 plain_tail b bs p = record {
-  bytes = (or_false (is_bad_byte b) (list_any is_bad_byte bs) p.bytes).1;
-  dots = (or_false (starts_with nat_eq (b ∷ bs) (codes "..")) (occurs (codes "..") bs) p.dots).1;
+  bytes = (or_parts (is_bad_byte b) (list_any is_bad_byte bs) p.bytes).1;
+  dots = (or_parts (starts_with nat_eq (b ∷ bs) (codes "..")) (occurs (codes "..") bs) p.dots).1;
   end = λ front e. p.end (b ∷ front) (ap (λ t. b ∷ t) e);
 }
 
@@ -52,11 +49,11 @@ Stops text = (text ≡ []) ⊎ (is_stop text ≡ true)
 
 no_dots : (b : ℕ) (bs t : List ℕ) → Plain (b ∷ bs) → starts_with nat_eq (b ∷ (bs ++ t)) (codes "..") ≡ false
 no_dots b [] t p = let other : (46 == b) ≡ false = differs 46 b (λ e. p.end [] (ap (λ x. x ∷ []) (sym e))) in rw other refl
-no_dots b (d ∷ ds) t p = (or_false (starts_with nat_eq (b ∷ d ∷ ds) (codes "..")) (occurs (codes "..") (d ∷ ds)) p.dots).0
+no_dots b (d ∷ ds) t p = (or_parts (starts_with nat_eq (b ∷ d ∷ ds) (codes "..")) (occurs (codes "..") (d ∷ ds)) p.dots).0
 
 pub goes_on : (b : ℕ) (bs t : List ℕ) → Plain (b ∷ bs) → is_stop (b ∷ (bs ++ t)) ≡ false
 goes_on b bs t p =
-    let fine : is_bad_byte b ≡ false = (or_false (is_bad_byte b) (list_any is_bad_byte bs) p.bytes).0 in
+    let fine : is_bad_byte b ≡ false = (or_parts (is_bad_byte b) (list_any is_bad_byte bs) p.bytes).0 in
     rw (good b 32 refl fine, good b 94 refl fine, good b 126 refl fine, good b 58 refl fine) (no_dots b bs t p)
 
 plain_again : (name t : List ℕ) → Plain name → Stops t → (name_of (name ++ t) ≡ name) × (after_name (name ++ t) ≡ t)

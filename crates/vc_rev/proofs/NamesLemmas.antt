@@ -13,6 +13,7 @@ use Rattle.vc_object.proofs.IdLemmas.{id_cmp_total}
 use Rattle.vc_object.specs.ObjectId.{id_cmp, IsSortedByName}
 use Rattle.vc_object.specs.declared.id.ObjectId.{ObjectId}
 use Rattle.std.proofs.lemmas.List.{drop_more}
+use Rattle.std.proofs.lemmas.Bool.{and_parts}
 use Rattle.vc_rev.specs.Answer.{IsTold, IsNoAnswer}
 use Rattle.vc_rev.specs.Asking.{FirstValueAsks, RefAsks}
 use Rattle.vc_rev.specs.Question.{Question}
@@ -60,10 +61,6 @@ names_told s Blames xs i d e lt asked t =
     (λ question h. asked question (subst (λ (ts : List (Vec ℕ Global)). FirstValueAsks s (map (λ (v : Vec ℕ Global). v.items) ts) question) (sym (drop_more xs i d lt)) (inl h)))
     (λ r h. h) t
 
-and_both : (a b : Bool) → (a && b) ≡ true → (a ≡ true) × (b ≡ true)
-and_both true b h = (refl, h)
-and_both false b h = absurd (true≢false (sym h))
-
 -- forty digits are read as the id that they write
 pub id_read : (text : List ℕ) (r : Option ObjectId) → IfSome r (λ id. decode_of text ≡ Ok id.0) → IsSome r ↔ ((length text ≡ 40) × AllPass is_hex_digit text) → r ≡ id_of text
 id_read text (Some id) value found =
@@ -75,7 +72,7 @@ id_read text None value found = at_test ((length text == 40) && list_all is_hex_
   where
     at_test : (b : Bool) → ((length text == 40) && list_all is_hex_digit text) ≡ b → ◌≡◌ {A = Option ObjectId} None (cond b (option_map (λ (bytes : List ℕ). let id : ObjectId = record { 0 = bytes } in id) (result_ok (decode_of text))) None)
     at_test true h =
-        let both = and_both (length text == 40) (list_all is_hex_digit text) h in
+        let both = and_parts (length text == 40) (list_all is_hex_digit text) h in
         let long : length text ≡ 40 = let t = both.0 in grind (arith, nat_tests, t) in
         let none = found.1 (long, AllPass-from_list_all is_hex_digit text both.1) in
         absurd (true≢false (sym none))

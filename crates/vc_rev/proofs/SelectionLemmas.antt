@@ -2,10 +2,10 @@
 use Rattle.std.proofs.Common.{◌≡◌, ℕ, ◌+◌, ◌<◌, inl, inr, ⊎_elim, List, [], ◌∷◌, ◌++◌, IsSome, length, drop, take, get_or, map, Result, Ok, Err, IfOk, IfErr, OnOk, MatchResult, Contains, ◌↔◌, refl, sym, ap, subst, arith}
 use Rattle.std.proofs.lemmas.List.{drop_more, take_more, get_or_default}
 use Rattle.std.proofs.lemmas.List.Elements.{Contains-append_left, Contains-append_right, Contains-append_cases, Contains-push, Contains-push_cases}
-use Rattle.vc_base.specs.BaseFault.{IsTold as IsBaseTold}
-use Rattle.vc_base.specs.History.{IsCommonAncestor, IsSelected}
-use Rattle.vc_base.specs.declared.fault.BaseFault.{BaseFault}
-use Rattle.vc_base.specs.declared.fault.BaseFault.TheVariants as bases
+use Rattle.vc_history.specs.BaseFault.{IsTold as IsBaseTold}
+use Rattle.vc_history.specs.History.{IsCommonAncestor, IsSelected}
+use Rattle.vc_history.specs.declared.fault.BaseFault.{BaseFault}
+use Rattle.vc_history.specs.declared.fault.BaseFault.TheVariants as bases
 use Rattle.vc_graph.specs.Graph.{ReachedFrom, IsClosedUnder, itself}
 use Rattle.vc_graph.proofs.FaultLemmas.{IsMet-more}
 use Rattle.vc_graph.proofs.WalkLemmas.{Reaches-trans}

@@ -3,6 +3,7 @@ use Rattle.std.proofs.Common.{◌≡◌, ◌≢◌, inl, inr, ℕ, List, [], ◌
 use Rattle.std.specs.List.{starts_with, AllByRecursion, slice_split, onto_first, list_any}
 use Rattle.std.proofs.lemmas.List.{append-nil}
 use Rattle.std.proofs.lemmas.Bool.Decides.{nat_tests}
+use Rattle.std.proofs.lemmas.Bool.{or_parts}
 use Rattle.vc_refname.specs.RefName.{breaks}
 use Rattle.vc_refname.specs.declared.fault.NameFault.TheVariants as rules
 use Rattle.vc_rev.specs.Base.{IsBase, is_stop, name_of}
@@ -14,7 +15,7 @@ use Rattle.vc_rev.specs.SetGrammar.{TermText, EndsText, Include, Exclude, Parent
 use Rattle.vc_rev.specs.SetReading.{Behind, SinceParent, UpTo, Nothing, dots_at, behind_at, range_view, excluded_at, ReadsBehind, Front, Dotted, Based, front_at, ReadsFront, ReadsTerm, after_spaces, Done, ReadsSet}
 use Rattle.vc_rev.specs.declared.suffix.Dots.{Dots}
 use Rattle.vc_rev.specs.declared.suffix.Dots.TheVariants.{Two, Three}
-use Rattle.vc_rev.proofs.NameLemmas.{plain_base, goes_on, or_false}
+use Rattle.vc_rev.proofs.NameLemmas.{plain_base, goes_on}
 use Rattle.vc_rev.proofs.StepLemmas.{Ends, front_is, counted_again}
 use Rattle.vc_rev.proofs.ExprLemmas.{Tail, tail_none, no_base, rev_again}
 
@@ -55,10 +56,10 @@ no_dots_at text two =
 
 no_stop : (b : ℕ) (bs : List ℕ) → is_stop (b ∷ bs) ≡ false → ((b == 94) ≡ false) × (starts_with nat_eq (b ∷ bs) (codes "..") ≡ false)
 no_stop b bs h =
-    let a = or_false (b == 32) _ h in
-    let c = or_false (b == 94) _ a.1 in
-    let d = or_false (b == 126) _ c.1 in
-    (c.0, (or_false (b == 58) _ d.1).1)
+    let a = or_parts (b == 32) _ h in
+    let c = or_parts (b == 94) _ a.1 in
+    let d = or_parts (b == 126) _ c.1 in
+    (c.0, (or_parts (b == 58) _ d.1).1)
 
 front_based : (b : ℕ) (bs : List ℕ) → is_stop (b ∷ bs) ≡ false → front_at (b ∷ bs) ≡ Based
 front_based b bs h =

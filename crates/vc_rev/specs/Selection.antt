@@ -1,7 +1,7 @@
 -- What a set of terms selects, over refs and objects.
 use Rattle.std.specs.Prelude.{◌≡◌, ◌⊎◌, ◌↔◌, ◌++◌, ℕ, List, [], ◌∷◌, Option, Some, None, IsSome, Result, Ok, Err, Contains, codes}
-use Rattle.vc_base.specs.History.{IsCommonAncestor}
-use Rattle.vc_base.specs.Parents.{IsOther}
+use Rattle.vc_history.specs.History.{IsCommonAncestor}
+use Rattle.vc_history.specs.Parents.{IsOther}
 use Rattle.vc_graph.specs.Graph.{ReachedFrom}
 use Rattle.vc_graph.specs.GraphFault.{IsMet}
 use Rattle.vc_object.specs.Decoding.{StoredObject}

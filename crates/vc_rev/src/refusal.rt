@@ -11,8 +11,10 @@ ghost use Rattle.vc_files.specs.declared.faults.Fault.TheVariants.{Memory};
 use std::alloc::{AllocError, AllocFailed};
 use std::error::Error;
 use std::fmt;
-use vc_base::BaseFault;
+use vc_graph::MISSING;
+use vc_history::{BaseFault, NOT_A_COMMIT};
 use vc_object::ObjectId;
+use vc_refname::{BAD_REF_FILE, HEAD_LOOP};
 use vc_store::StoreFault;
 
 /// Why an expression has no value, though the repository answered.
@@ -77,8 +79,8 @@ impl fmt::Display for SourceFault {
     fn fmt<W: fmt::Write>(&self, f: &mut fmt::Formatter<W>) -> fmt::Result {
         match self {
             SourceFault::Store(fault) => fmt::Display::fmt(fault, f),
-            SourceFault::BadRefFile(_) => f.write_str("33 BadRefFile"),
-            SourceFault::HeadLoop => f.write_str("34 HeadLoop"),
+            SourceFault::BadRefFile(_) => f.write_str(BAD_REF_FILE),
+            SourceFault::HeadLoop => f.write_str(HEAD_LOOP),
             SourceFault::BadIndex(_) => f.write_str("62 BadIndex"),
         }
     }
@@ -105,8 +107,8 @@ impl fmt::Display for RevFault {
     fn fmt<W: fmt::Write>(&self, f: &mut fmt::Formatter<W>) -> fmt::Result {
         match self {
             RevFault::Refused(fault) => fmt::Display::fmt(fault, f),
-            RevFault::Missing(_) => f.write_str("40 Missing"),
-            RevFault::NotACommit(_) => f.write_str("41 NotACommit"),
+            RevFault::Missing(_) => f.write_str(MISSING),
+            RevFault::NotACommit(_) => f.write_str(NOT_A_COMMIT),
             RevFault::Source(fault) => fmt::Display::fmt(fault, f),
         }
     }

@@ -12,8 +12,8 @@ ghost use Rattle.vc_rev.specs.Meaning.{begins_with};
 ghost use Rattle.vc_rev.specs.declared.refusal.SourceFault.{SourceFault as Unanswered};
 
 use crate::refusal::SourceFault;
-use vc_base::Commits;
 use vc_files::Fault;
+use vc_history::Commits;
 use vc_object::ObjectId;
 use vc_refname::RefName;
 use vc_store::{StoreFault, Stored};

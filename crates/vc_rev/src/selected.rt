@@ -17,8 +17,8 @@ use crate::roots::Roots;
 use crate::terms::set_roots;
 use crate::token::SetExpr;
 use std::alloc::Global;
-use vc_base::{Generations, commits, common_ancestors};
 use vc_files::Fault;
+use vc_history::{Generations, commits, common_ancestors};
 use vc_object::ObjectId;
 use vc_store::StoreFault;
 

@@ -2,10 +2,10 @@
 use Rattle.std.proofs.Common.{◌≡◌, inl, inr, ℕ, suc, Bool, true, false, cond, ◌||◌, ◌++◌, ◌+◌, List, [], ◌∷◌, length, drop, Some, None, Ok, Err, refl, ap, sym, ◌∙◌, slice_get}
 use Rattle.std.specs.Prelude.{count_by}
 use Rattle.std.specs.List.{fold, list_any}
+use Rattle.std.proofs.lemmas.Bool.{or_parts, or_from}
 use Rattle.vc_model.specs.Message.{Told}
 use Rattle.vc_model.specs.Object.{Lookup}
 use Rattle.vc_model.specs.Push as machine
-use Rattle.vc_model.specs.Push.{Judged}
 use Rattle.vc_model.specs.Push.Stage.{Finished}
 use Rattle.vc_model.specs.Shared as shared
 use Rattle.vc_object.specs.ObjectMap.{ObjectMap}
@@ -53,23 +53,13 @@ count_from n (c ∷ cs) (v ∷ vs) e =
 pub count_judged : (cs : List CommandText) (vs : List Verdict) → length vs ≡ length cs → count_by machine.is_passing (judged_commands cs vs) ≡ count_by is_passing vs
 count_judged cs vs e = count_from 0 cs vs e
 
-no_first : (a b : Bool) → (a || b) ≡ false → a ≡ false
-no_first true b e = e
-no_first false b e = refl
-
-no_second : (a b : Bool) → (a || b) ≡ false → b ≡ false
-no_second true b e = absurd (cc e)
-no_second false b e = e
-
-both : (a b : Bool) → a ≡ false → b ≡ false → (a || b) ≡ false
-both a b e f = ap (λ x. x || b) e ∙ f
-
 -- where none passes
 pub none_judged : (cs : List CommandText) (vs : List Verdict) → list_any is_passing vs ≡ false → list_any machine.is_passing (judged_commands cs vs) ≡ false
 none_judged [] vs e = refl
 none_judged (c ∷ cs) [] e = refl
 none_judged (c ∷ cs) (v ∷ vs) e =
-    both _ _ (passes c v ∙ no_first (is_passing v) (list_any is_passing vs) e) (none_judged cs vs (no_second (is_passing v) (list_any is_passing vs) e))
+    let none = or_parts (is_passing v) (list_any is_passing vs) e in
+    or_from _ _ (passes c v ∙ none.0) (none_judged cs vs none.1)
 
 -- the stage is the same
 pub stage_judged : (cs : List CommandText) (vs : List Verdict) (stage : Stage) → length vs ≡ length cs → machine.stage_while (judged_commands cs vs) (machine_stage stage) ≡ machine_stage (stage_while vs stage)

@@ -1,34 +1,31 @@
 -- Names that are in each other's way, and values of refs, as the machine has them and as files do.
-use Rattle.std.proofs.Common.{◌≡◌, inl, inr, ℕ, Bool, true, false, cond, nat_eq, append_assoc, List, [], ◌∷◌, ◌++◌, drop, length, Option, Some, None, refl, sym, ap, ◌∙◌}
+use Rattle.std.proofs.Common.{◌≡◌, inl, inr, ℕ, Bool, true, false, cond, List, ◌∷◌, ◌++◌, Option, Some, None, refl, sym, ap, ◌∙◌}
 use Rattle.std.specs.Prelude.{option_map, is_some, bytes_eq, ◌||◌}
 use Rattle.std.specs.FinMap.{get, insert}
-use Rattle.std.specs.List.{starts_with}
+use Rattle.vc_files.specs.Path.{is_above}
+use Rattle.vc_files.proofs.PathLemmas.{is_above-append, is_above-parts}
 use Rattle.vc_format.specs.Git.{bytes_of_id, id_of_bytes}
 use Rattle.vc_model.specs.Object.{Id}
 use Rattle.vc_model.specs.Refs.{Conflicts, RefName, Refs}
 use Rattle.vc_object.specs.declared.id.ObjectId.{ObjectId}
-use Rattle.vc_refs.specs.RefMap.{RefMap, is_folder_of, conflicts, with_ref}
-use Rattle.vc_refs.proofs.WayLemmas.{split_from_starts, starts_with-append}
+use Rattle.vc_refs.specs.RefMap.{RefMap, conflicts, with_ref}
 use Rattle.vc_rules.proofs.MapLemmas.{get-put, map_cond}
 
-conflict_from : (a b : List ℕ) → is_folder_of a b ≡ true → (rest : List ℕ) × (b ≡ a ++ 47 ∷ rest)
-conflict_from a b h = (drop (length (a ++ 47 ∷ [])) b, split_from_starts b (a ++ 47 ∷ []) h ∙ append_assoc a (47 ∷ []) (drop (length (a ++ 47 ∷ [])) b))
-
-folder_from : (a b : List ℕ) → (rest : List ℕ) × (b ≡ a ++ 47 ∷ rest) → is_folder_of a b ≡ true
-folder_from a b h = ap (λ c. starts_with nat_eq c (a ++ 47 ∷ [])) (h.1 ∙ sym (append_assoc a (47 ∷ []) h.0)) ∙ starts_with-append (a ++ 47 ∷ []) h.0
+folder_from : (a b : List ℕ) → (rest : List ℕ) × (b ≡ a ++ 47 ∷ rest) → is_above a b ≡ true
+folder_from a b h = ap (is_above a) h.1 ∙ is_above-append a h.0
 
 pub conflicts_from : (a b : List ℕ) → conflicts a b ≡ true → Conflicts a b
-conflicts_from a b h = by (is_folder_of a b) refl
+conflicts_from a b h = by (is_above a b) refl
   where
-    by : (x : Bool) → is_folder_of a b ≡ x → Conflicts a b
-    by true e = inl (conflict_from a b e)
-    by false e = inr (conflict_from b a (ap (λ x. x || is_folder_of b a) (sym e) ∙ h))
+    by : (x : Bool) → is_above a b ≡ x → Conflicts a b
+    by true e = inl (is_above-parts a b e)
+    by false e = inr (is_above-parts b a (ap (λ x. x || is_above b a) (sym e) ∙ h))
 
 pub conflicts_to : (a b : List ℕ) → Conflicts a b → conflicts a b ≡ true
-conflicts_to a b (inl h) = ap (λ x. x || is_folder_of b a) (folder_from a b h)
-conflicts_to a b (inr h) = by (is_folder_of a b)
+conflicts_to a b (inl h) = ap (λ x. x || is_above b a) (folder_from a b h)
+conflicts_to a b (inr h) = by (is_above a b)
   where
-    by : (x : Bool) → x || is_folder_of b a ≡ true
+    by : (x : Bool) → x || is_above b a ≡ true
     by true = refl
     by false = folder_from b a h
 

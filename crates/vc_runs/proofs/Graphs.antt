@@ -1,9 +1,10 @@
 -- For the run: maps of one entry, what is added to nothing, and paths of graphs, one link at a time.
-use Rattle.std.proofs.Common.{◌≡◌, ◌<◌, List, [], ◌∷◌, Option, Some, None, inl, inr, refl, sym, ap, ◌∙◌, subst, nat_cmp, length, arith, Contains}
+use Rattle.std.proofs.Common.{◌≡◌, ◌<◌, List, [], ◌∷◌, Some, inl, inr, refl, sym, ap, ◌∙◌, subst, nat_cmp, arith, Contains}
 use Rattle.std.specs.FinMap.{get, insert, empty, get-empty, entries, put, entries-insert, len-entries, len-empty}
 use Rattle.std.specs.Option.{option_or}
 use Rattle.std.specs.List.{AllByRecursion}
 use Rattle.std.specs.Cmp.Lexicographic.{slice_cmp, nat_list_cmp_total}
+use Rattle.std.proofs.lemmas.List.{nil_from_length}
 use Rattle.vc_model.specs.Object.{Id, Object, Format, Objects, Lookup}
 use Rattle.vc_model.specs.Object.Kind.{Commit}
 use Rattle.vc_model.specs.Reach.{Path, Links, HasParent, IsClosed, HasHistory}
@@ -17,25 +18,14 @@ use Rattle.vc_model.proofs.Maps.{insert_cases, bytes_same, none_in_empty}
 abbrev pub one_ref : RefName → Id → Refs
 one_ref n x = insert empty n x
 
-nothing_in : {A : Type 0} (xs : List A) → length xs ≡ 0 → xs ≡ []
-nothing_in [] e = refl
-nothing_in (y ∷ ys) e = absurd (omega (arith, e))
-
 pub no_entries : {X : Type 0} → entries (empty {X = X} {R = slice_cmp nat_cmp}) ≡ []
-no_entries {X} = nothing_in (entries (empty {X = X} {R = slice_cmp nat_cmp})) (sym (len-entries (empty {X = X} {R = slice_cmp nat_cmp})) ∙ len-empty (slice_cmp nat_cmp) X)
+no_entries {X} = nil_from_length (entries (empty {X = X} {R = slice_cmp nat_cmp})) (sym (len-entries (empty {X = X} {R = slice_cmp nat_cmp})) ∙ len-empty (slice_cmp nat_cmp) X)
 
 pub entries_of_one : (n : RefName) (x : Id) → entries (one_ref n x) ≡ (n, x) ∷ []
 entries_of_one n x = entries-insert nat_list_cmp_total empty n x ∙ ap (put (slice_cmp nat_cmp) n x) no_entries
 
 pub one_alone : (n : RefName) (x : Id) (m : RefName) (v : Id) → get (one_ref n x) m ≡ Some v → (m ≡ n) × (v ≡ x)
 one_alone n x m v g = elim (insert_cases nat_list_cmp_total bytes_same empty n x m v g) [ inl is ↦ is | inr was ↦ absurd (none_in_empty (slice_cmp nat_cmp) m v was) ]
-
-pub or_none : (a : Option Object) (y : Id) → a ≡ option_or a (get (empty {X = Object} {R = slice_cmp nat_cmp}) y)
-or_none None y = sym (get-empty (slice_cmp nat_cmp) y)
-or_none (Some p) y = refl
-
-pub added_none : (s : Objects) → AllAdded s empty s
-added_none s = record { each = λ y. or_none (get s y) y }
 
 pub added_first : (s : Objects) → AllAdded empty s s
 added_first s = record { each = λ y. sym (ap (λ a. option_or a (get s y)) (get-empty (slice_cmp nat_cmp) y)) }

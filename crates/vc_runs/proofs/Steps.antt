@@ -35,10 +35,12 @@ use Rattle.vc_model.specs.World.{empty_repository}
 use Rattle.vc_model.specs.Wire.{Wire}
 use Rattle.vc_model.proofs.Commits.{all_holds}
 use Rattle.vc_model.proofs.Maps.{insert_same, insert_other, bytes_same, none_in_empty}
+use Rattle.vc_model.proofs.Tracking.{branch_apart}
 use Rattle.std.specs.Prelude.{codes}
+use Rattle.vc_rules.proofs.JoinLemmas.{none_added}
 use Rattle.vc_runs.specs.Names.{plain_file}
 use Rattle.vc_runs.specs.Witness.{main}
-use Rattle.vc_runs.proofs.Graphs.{one_ref, one_alone, no_entries, entries_of_one, added_none, added_first, in_none, in_one}
+use Rattle.vc_runs.proofs.Graphs.{one_ref, one_alone, no_entries, entries_of_one, added_first, in_none, in_one}
 use Rattle.vc_runs.proofs.Stores.{Facts, Setting, index_with}
 use Rattle.vc_runs.proofs.Stores as stores
 
@@ -47,9 +49,6 @@ clone r a = record { repository = r; live = Some a }
 
 abbrev pub up : Repository → Slots → SharedNode
 up r l = record { repository = r; live = Some l }
-
-tracking_is_no_branch : (a b : List ℕ) → tracking a ≡ branch b → ⊥
-tracking_is_no_branch a b e = let h : ◌≡◌ {A = ℕ} 114 104 = ap (λ (xs : List ℕ). get_or xs 5 0) e in omega arith
 
 -- neither is a folder of the other
 no_conflict : (a b : List ℕ) → Conflicts (branch a) (tracking b) → ⊥
@@ -125,10 +124,10 @@ module _ (here : Setting) where
   main_is = insert_same nat_list_cmp_total bytes_same empty (branch main) x
 
   not_known : get on_main.refs (tracking main) ≡ None
-  not_known = insert_other nat_list_cmp_total bytes_same empty (branch main) x (tracking main) (tracking_is_no_branch main main) ∙ get-empty (slice_cmp nat_cmp) (tracking main)
+  not_known = insert_other nat_list_cmp_total bytes_same empty (branch main) x (tracking main) (λ e. branch_apart main main (sym e)) ∙ get-empty (slice_cmp nat_cmp) (tracking main)
 
   nothing_tracked : (y : Id) → IsTrackingValue on_main.refs y → ⊥
-  nothing_tracked y v = tracking_is_no_branch v.0 main (one_alone (branch main) x (tracking v.0) y v.1).0
+  nothing_tracked y v = branch_apart main v.0 (sym (one_alone (branch main) x (tracking v.0) y v.1).0)
 
   pub head_is : head_value on_main ≡ Some x
   head_is = main_is
@@ -168,7 +167,7 @@ module _ (here : Setting) where
   push = Push false None (command ∷ []) all
 
   pub pushes : CloneAnswers fmt wire.rules (clone on_main Nothing) (Commands (StartPush false (item ∷ []))) (Did Sends) (clone on_main Nothing) (Some push)
-  pushes = clone_obeyed Nothing (sending Nothing push) refl (omega arith, items_closed, (command ∷ [], all, (refl, refl, old, tt), carried, refl)) ((all, added_none all, refl), refl, refl) refl
+  pushes = clone_obeyed Nothing (sending Nothing push) refl (omega arith, items_closed, (command ∷ [], all, (refl, refl, old, tt), carried, refl)) ((all, none_added all, refl), refl, refl) refl
     where
       one_item : (y : Id) → IsItemId (item ∷ []) y → y ≡ x
       one_item y i = ap (λ v. unwrap_or v x) (sym i.2 ∙ all_holds (λ (p : PushItem). p.id ≡ Some x) (item ∷ []) i.0 (refl, tt) i.1)
@@ -217,7 +216,7 @@ module _ (here : Setting) where
   pub opens : SharedAnswers fmt wire.rules (up empty_repository empty) (Accept push) (Did (Opened 0)) (up empty_repository l0) None
   opens = obeyed empty (record { effect = no_effect; left = l0; sends = None; reply = Opened 0 }) refl
       (0, record { below = omega arith; free = get-empty nat_cmp 0; lowest = λ n h. absurd (omega arith) }, refl)
-      ((empty, added_none empty, refl), refl, refl) refl
+      ((empty, none_added empty, refl), refl, refl) refl
 
   pub checks : SharedAnswers fmt wire.rules (up empty_repository l0) (StepOf 0) (Did (Passed 1)) (up empty_repository l1) None
   checks = obeyed l0 (record { effect = no_effect; left = l1; sends = None; reply = Passed 1 }) refl (
@@ -236,7 +235,7 @@ module _ (here : Setting) where
       refl,
     ),
   )
-      ((empty, added_none empty, refl), refl, refl) refl
+      ((empty, none_added empty, refl), refl, refl) refl
 
   pub migrates : SharedAnswers fmt wire.rules (up empty_repository l1) (StepOf 0) (Did MigratedAll) (up migrated l2) None
   migrates = obeyed l1 (record { effect = record { objects = all; changes = [] }; left = l2; sends = None; reply = MigratedAll }) refl
@@ -270,7 +269,7 @@ module _ (here : Setting) where
       refl,
     ),
   )
-      ((all, added_none all, refl), refl, refl) refl
+      ((all, none_added all, refl), refl, refl) refl
 
   abbrev pub report : Message
   report = Report None (record { name = branch main; outcome = Ok x } ∷ [])
@@ -278,7 +277,7 @@ module _ (here : Setting) where
   pub reports : SharedAnswers fmt wire.rules (up served l3) (StepOf 0) (Did Sends) (up served l4) (Some report)
   reports = obeyed l3 (record { effect = no_effect; left = l4; sends = Some report; reply = Sends }) refl
       (p3, put l2 p3, inr (record { name = branch main; outcome = Ok x } ∷ [], refl, ((refl, inl (refl, refl)), tt), refl))
-      ((all, added_none all, refl), refl, refl) refl
+      ((all, none_added all, refl), refl, refl) refl
 
   -- ---- tracking refs move
 
@@ -297,7 +296,7 @@ module _ (here : Setting) where
   pub tracks : CloneAnswers fmt wire.rules (clone on_main Nothing) (Receive report) (Did (Reported 1 [])) (clone knowing Nothing) None
   tracks = clone_obeyed Nothing (quietly Nothing (only_changes (SetRefs ((tracking main, x) ∷ []) ∷ [])) (Reported 1 [])) refl
       (SetRefs ((tracking main, x) ∷ []) ∷ [], inl (tracking main, [], moves on_main.refs (λ m v g. (one_alone (branch main) x m v g).0) not_known, refl, refl), refl)
-      ((all, added_none all, refl), refl, refl) refl
+      ((all, none_added all, refl), refl, refl) refl
 
   -- ---- the shared node fails, and restarts
 
@@ -322,16 +321,16 @@ module _ (here : Setting) where
   pack = Pack None all
 
   pub asks : CloneAnswers fmt wire.rules (clone empty_repository Nothing) (Commands StartFetch) (Did Sends) (clone empty_repository AnAdvert) (Some ListRefs)
-  asks = clone_obeyed Nothing (sending AnAdvert ListRefs) refl refl ((empty, added_none empty, refl), refl, refl) refl
+  asks = clone_obeyed Nothing (sending AnAdvert ListRefs) refl refl ((empty, none_added empty, refl), refl, refl) refl
 
   pub lists : SharedAnswers fmt wire.rules (up served empty) (Accept ListRefs) (Did Sends) (up served empty) (Some advert)
-  lists = obeyed empty (record { effect = no_effect; left = empty; sends = Some advert; reply = Sends }) refl refl ((all, added_none all, refl), refl, refl) refl
+  lists = obeyed empty (record { effect = no_effect; left = empty; sends = Some advert; reply = Sends }) refl refl ((all, none_added all, refl), refl, refl) refl
 
   not_closed : ¬ IsClosed fmt (stored empty) x
   not_closed c = let there = c.there x ([], refl) in none_in_empty (slice_cmp nat_cmp) x there.0 there.1
 
   pub wants : CloneAnswers fmt wire.rules (clone empty_repository AnAdvert) (Receive advert) (Did Sends) (clone empty_repository (APack (x ∷ []) served.refs)) (Some want)
-  wants = clone_obeyed AnAdvert (sending (APack (x ∷ []) served.refs) want) refl (refl, x ∷ [], open_ids, inl (some, refl)) ((empty, added_none empty, refl), refl, refl) refl
+  wants = clone_obeyed AnAdvert (sending (APack (x ∷ []) served.refs) want) refl (refl, x ∷ [], open_ids, inl (some, refl)) ((empty, none_added empty, refl), refl, refl) refl
     where
       some : x ∷ [] ≢ []
       some e = absurd (cc)
@@ -348,7 +347,7 @@ module _ (here : Setting) where
   pub packs : SharedAnswers fmt wire.rules (up served empty) (Accept want) (Did Sends) (up served empty) (Some pack)
   packs = obeyed empty (record { effect = no_effect; left = empty; sends = Some pack; reply = Sends }) refl
       ((is_ours, tt), (None, all, subst (λ hs. IsFirstCounted fmt served hs None) (sym no_haves) refl, packed, refl))
-      ((all, added_none all, refl), refl, refl) refl
+      ((all, none_added all, refl), refl, refl) refl
     where
       packed : IsDifference fmt all (Contains (x ∷ [])) (λ h. Contains (haves_of empty_repository) h × IsOurs fmt served h) all
       packed = record {
@@ -391,7 +390,7 @@ module _ (here : Setting) where
   -- ---- questions, and a prune that finds nothing to take away
 
   knowing_head : head_value knowing ≡ Some x
-  knowing_head = insert_other nat_list_cmp_total bytes_same (one_ref (branch main) x) (tracking main) x (branch main) (λ e. tracking_is_no_branch main main (sym e)) ∙ main_is
+  knowing_head = insert_other nat_list_cmp_total bytes_same (one_ref (branch main) x) (tracking main) x (branch main) (branch_apart main main) ∙ main_is
 
   pub compares : CloneAnswers fmt wire.rules (clone knowing Nothing) (AsksClone (Compare (codes "HEAD") (codes "@"))) (Did Same) (clone knowing Nothing) None
   compares = clone_asked Nothing (Compare (codes "HEAD") (codes "@")) refl refl (Ok x, f.head knowing knowing_head, (Ok x, f.head_too knowing knowing_head, inr (inl (refl, refl)))) refl refl

@@ -5,6 +5,7 @@ use Rattle.std.specs.FinMap.{get, insert, empty, get-empty}
 use Rattle.std.specs.Option.{option_or}
 use Rattle.std.specs.List.{AllByRecursion}
 use Rattle.std.specs.Cmp.Lexicographic.{slice_cmp, nat_list_cmp_total}
+use Rattle.vc_rules.proofs.JoinLemmas.{none_added}
 use Rattle.vc_model.specs.Object.{Id, zero_id, Object, blob, Format, Objects, Lookup, IsLine, stored, over}
 use Rattle.vc_model.specs.Object.Kind.{Commit}
 use Rattle.vc_model.specs.Reach.{Reaches, Links, IsClosed, HasHistory}
@@ -16,7 +17,7 @@ use Rattle.vc_model.specs.Wire.{Wire}
 use Rattle.vc_model.proofs.Maps.{insert_cases, insert_same, insert_other, bytes_same, none_in_empty, same_key}
 use Rattle.vc_runs.specs.Names.{plain_file}
 use Rattle.vc_runs.specs.Witness.{main}
-use Rattle.vc_runs.proofs.Graphs.{closed_step, history_step, or_none}
+use Rattle.vc_runs.proofs.Graphs.{closed_step, history_step}
 
 -- the index of one file
 abbrev pub index_with : Format → (path content : List ℕ) → Index
@@ -141,7 +142,7 @@ module _ (here : Setting) where
       go y (inr n) (inr m) =
           let left : get all y ≡ get staged y = other (insert staged t tree) x commit y n ∙ other staged t tree y m in
           let right : get made y ≡ get (empty {X = Object} {R = slice_cmp nat_cmp}) y = other trees x (unwrap_or (get trees x) commit) y n ∙ other empty t tree y m in
-          left ∙ (or_none (get staged y) y ∙ ap (option_or (get staged y)) (sym right))
+          left ∙ ((none_added staged).each y ∙ ap (option_or (get staged y)) (sym right))
 
   -- the three are found
   pub record Finds (at : Lookup) : Type 0 where

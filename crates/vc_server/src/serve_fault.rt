@@ -6,6 +6,7 @@ use std::alloc::AllocError;
 use std::error::Error;
 use std::fmt;
 use vc_files::Fault;
+use vc_message::IncomingFault;
 
 /// Why a message was not served to its end.
 #[derive(Clone, Copy, Debug)]
@@ -23,7 +24,7 @@ pub enum ServeFault {
 impl fmt::Display for ServeFault {
     fn fmt<W: fmt::Write>(&self, f: &mut fmt::Formatter<W>) -> fmt::Result {
         match self {
-            ServeFault::ReadFailed => f.write_str("115 ReadFailed"),
+            ServeFault::ReadFailed => fmt::Display::fmt(&IncomingFault::Failed, f),
             ServeFault::WriteFailed => f.write_str("116 WriteFailed"),
             ServeFault::Memory => f.write_str("memory"),
             ServeFault::Fault(fault) => fmt::Display::fmt(fault, f),

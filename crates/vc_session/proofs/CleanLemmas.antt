@@ -15,7 +15,7 @@ use Rattle.vc_object.specs.ObjectId.{is_id}
 use Rattle.vc_object.specs.declared.id.ObjectId.{ObjectId}
 use Rattle.vc_object.specs.declared.kind.Kind.{Kind}
 use Rattle.vc_refs.proofs.LayeredLemmas.{bad-same, bad_place, good_absent, packed_map-same}
-use Rattle.vc_refs.proofs.WayLemmas.{split_from_starts}
+use Rattle.vc_refs.proofs.ObstacleLemmas.{split_from_starts}
 use Rattle.vc_refs.specs.Head.{KeepsTheRest}
 use Rattle.vc_refs.specs.Refs.{IsBadRef, ChangesOnly, packed_map, packed_path}
 use Rattle.vc_store.proofs.PathLemmas.{named_by_path}

@@ -17,7 +17,7 @@ use Rattle.vc_object.specs.Decoding.{StoredObject}
 use Rattle.vc_object.specs.ObjectId.{id_eq, is_id}
 use Rattle.vc_object.specs.declared.id.ObjectId.{ObjectId}
 use Rattle.vc_refs.proofs.LayeredLemmas.{refs-of_files}
-use Rattle.vc_refs.proofs.WayLemmas.{split_from_starts}
+use Rattle.vc_refs.proofs.ObstacleLemmas.{split_from_starts}
 use Rattle.vc_refs.specs.Head.{KeepsTheRest, head_of, read_head, said}
 use Rattle.vc_refs.specs.Refs.{packed_path, refs}
 use Rattle.vc_store.specs.Store.{IsDamaged, object_path, objects, stored_in}

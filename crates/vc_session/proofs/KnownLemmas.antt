@@ -15,8 +15,8 @@ use Rattle.std.proofs.lemmas.List.{take-append-drop}
 use Rattle.std.proofs.lemmas.List.Elements.{Contains-append_right, Contains-push_cases}
 use Rattle.std.proofs.lemmas.Map.Views.{Contains-from_any}
 use Rattle.indexmap.specs.IndexSet.{insert_key}
-use Rattle.vc_base.proofs.GenerationLemmas.{Agrees-stays}
-use Rattle.vc_base.specs.Generation.{Agrees}
+use Rattle.vc_history.proofs.GenerationLemmas.{Agrees-stays}
+use Rattle.vc_history.specs.Generation.{Agrees}
 use Rattle.vc_files.specs.FileMap.{FileMap}
 use Rattle.vc_graph.proofs.WalkLemmas.{Contains-insert_key_cases}
 use Rattle.vc_graph.specs.Graph.{IsClosed, IsClosedUnder, Reaches, itself, onward}

@@ -5,13 +5,13 @@ use Rattle.std.specs.Result.{result_ok}
 use Rattle.std.proofs.lemmas.List.{append_assoc, append-nil, length-map, length-take-le, map_more, take_more}
 use Rattle.std.proofs.lemmas.Option.{get_or_from_slice_get, slice_get_within}
 use Rattle.std.proofs.lemmas.List.Elements.{Contains-append_left, Contains-append_right, Contains-append_cases, Contains-push, Contains-push_cases}
-use Rattle.vc_base.specs.BaseFault.{IsTold}
-use Rattle.vc_base.specs.Generation.{Learns}
-use Rattle.vc_base.specs.History.{IsAncestor}
-use Rattle.vc_base.specs.Numbering.{numbers}
-use Rattle.vc_base.specs.declared.fault.BaseFault.{BaseFault}
-use Rattle.vc_base.specs.declared.fault.BaseFault.TheVariants.{Missing, NotACommit, Store}
-use Rattle.vc_base.specs.declared.generations.Generations.{Generations}
+use Rattle.vc_history.specs.BaseFault.{IsTold}
+use Rattle.vc_history.specs.Generation.{Learns}
+use Rattle.vc_history.specs.History.{IsAncestor}
+use Rattle.vc_history.specs.Numbering.{numbers}
+use Rattle.vc_history.specs.declared.fault.BaseFault.{BaseFault}
+use Rattle.vc_history.specs.declared.fault.BaseFault.TheVariants.{Missing, NotACommit, Store}
+use Rattle.vc_history.specs.declared.generations.Generations.{Generations}
 use Rattle.vc_files.specs.FileMap.{FileMap}
 use Rattle.vc_files.specs.declared.faults.Fault.{Fault}
 use Rattle.vc_graph.specs.Graph.{IsClosed, ReachedFrom, Reaches}

@@ -1,4 +1,4 @@
-pub mod BringingLemmas
+pub mod ArrivalLemmas
 pub mod JudgeLemmas
 pub mod NameLemmas
 pub mod NumberLemmas

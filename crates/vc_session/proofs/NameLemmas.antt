@@ -1,22 +1,19 @@
 -- What the parts of a ref's name say of it, for the test whether a push may set it.
-use Rattle.std.proofs.Common.{◌≡◌, ◌&&◌, ◌||◌, ℕ, List, Bool, true, false, not, Option, None, is_none, nat_le, length, refl, ap, sym, ◌∙◌}
+use Rattle.std.proofs.Common.{◌≡◌, ◌&&◌, ◌||◌, ℕ, List, Bool, true, false, not, Option, None, is_none, nat_le, length, ap, sym, ◌∙◌}
 use Rattle.std.proofs.lemmas.Str.{is_utf8-from_IsUtf8, IsUtf8-from_is_utf8}
 use Rattle.std.specs.Str.{is_utf8, IsUtf8}
+use Rattle.std.proofs.lemmas.Bool.{false_from_ne_true}
 use Rattle.vc_format.specs.Git.{git_is_legal}
 use Rattle.vc_refname.specs.RefName.{first_broken_rule, is_ref_name}
 use Rattle.vc_refname.specs.declared.fault.NameFault.{NameFault}
 use Rattle.vc_session.specs.Verdict.{is_branch}
-
-never_true : (b : Bool) → (b ≡ true → ⊥) → b ≡ false
-never_true true none = absurd (none refl)
-never_true false none = refl
 
 module _ (name : List ℕ) where
   abbrev fits : Bool
   fits = nat_le (length name) 246
 
   pub not_text : (IsUtf8 name → ⊥) → false ≡ git_is_legal name
-  not_text none = sym (ap (λ b. b && (is_ref_name name && (not (is_branch name) || fits))) (never_true (is_utf8 name) (λ yes. none (IsUtf8-from_is_utf8 name yes))))
+  not_text none = sym (ap (λ b. b && (is_ref_name name && (not (is_branch name) || fits))) (false_from_ne_true (is_utf8 name) (λ yes. none (IsUtf8-from_is_utf8 name yes))))
 
   a_name : IsUtf8 name → first_broken_rule name ≡ None → git_is_legal name ≡ not (is_branch name) || fits
   a_name text unbroken =

@@ -2,9 +2,9 @@
 -- numbers.
 use Rattle.std.proofs.Common.{◌≡◌, ◌⊎◌, ⊎_elim, inl, inr, ℕ, List, Some, Option, refl, ap, ◌∙◌, subst, sym}
 use Rattle.std.specs.Option.{option_or}
-use Rattle.vc_base.proofs.StoredLemmas.{Agrees-more}
-use Rattle.vc_base.specs.Numbering.{numbers}
-use Rattle.vc_base.specs.Stored.{AgreesIn, KeepsAgreement}
+use Rattle.vc_history.proofs.StoredLemmas.{Agrees-more}
+use Rattle.vc_history.specs.Numbering.{numbers}
+use Rattle.vc_history.specs.Stored.{AgreesIn, KeepsAgreement}
 use Rattle.vc_files.specs.FileMap.{FileMap, SameOutside}
 use Rattle.vc_graph.specs.Overlay.{with_carried}
 use Rattle.vc_object.specs.Decoding.{StoredObject}

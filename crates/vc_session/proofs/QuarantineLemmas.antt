@@ -9,7 +9,7 @@ use Rattle.std.specs.Cmp.Lexicographic.{slice_cmp}
 use Rattle.std.proofs.Math.Seq.{drop-append_seam}
 use Rattle.std.proofs.lemmas.List.{map-append, take-append-drop}
 use Rattle.std.specs.Global.{Global}
-use Rattle.std.proofs.lemmas.Bool.{eq-eqb, false_from_ne_true}
+use Rattle.std.proofs.lemmas.Bool.{eq-eqb, false_from_ne_true, or_parts}
 use Rattle.std.proofs.lemmas.List.Folds.{list_any-append}
 use Rattle.std.proofs.lemmas.Map.Text.{is_eq-slice_cmp}
 use Rattle.std.proofs.lemmas.Slice.Eq.{bytes_eq-Decides}
@@ -159,10 +159,6 @@ taken_all old now slot t path under =
     ∙ ap (λ b. cond b None (files.get old path)) (is_among-paths_under old (quarantine_folder slot) path ∙ ap (λ b. b && is_some (files.get old path)) under)
     ∙ none_left (files.get old path)
 
-first_no : (a b : Bool) → (a || b) ≡ false → a ≡ false
-first_no true b e = cc
-first_no false b e = refl
-
 -- as some of the paths of the folder are taken away, what is outside stays
 pub taken_outside : (old now : FileMap) (slot : ℕ) (items : List (String Global)) (i : ℕ) → map string_bytes items ≡ paths_under old (quarantine_folder slot) → Taken old now (map string_bytes (take i items)) → SameOutside (quarantine_folder slot) old now
 taken_outside old now slot items i listed t = record {
@@ -171,7 +167,7 @@ taken_outside old now slot items i listed t = record {
       let back = map string_bytes (drop i items) in
       let whole : front ++ back ≡ paths_under old (quarantine_folder slot) = sym (map-append string_bytes (take i items) (drop i items)) ∙ ap (map string_bytes) (take-append-drop i items) ∙ listed in
       let none : is_among path (front ++ back) ≡ false = ap (is_among path) whole ∙ is_among-paths_under old (quarantine_folder slot) path ∙ ap (λ b. b && is_some (files.get old path)) outside in
-      let no : is_among path front ≡ false = first_no _ _ (sym (list_any-append (eq_by_cmp (slice_cmp nat_cmp) path) front back) ∙ none) in
+      let no : is_among path front ≡ false = (or_parts _ _ (sym (list_any-append (eq_by_cmp (slice_cmp nat_cmp) path) front back) ∙ none)).0 in
       t.at path ∙ ap (λ b. cond b None (files.get old path)) no;
 }
 

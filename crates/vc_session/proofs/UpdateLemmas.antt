@@ -16,7 +16,7 @@ use Rattle.vc_refs.specs.RefFault.{BlamesRef, BlamesSet, IsStale, MaySet}
 use Rattle.vc_refs.specs.declared.faults.RefFault.{RefFault}
 use Rattle.vc_refs.specs.declared.faults.RefFault.TheVariants as fault
 use Rattle.vc_refs.specs.Refs.{is_taken, packed_path, refs}
-use Rattle.vc_refs.specs.Way.{IsFirstInTheWay, IsFree}
+use Rattle.vc_refs.specs.Obstacle.{IsFirstInTheWay, IsFree}
 use Rattle.vc_session.specs.Updating.{BlamesUpdate, reason_of}
 use Rattle.vc_session.specs.Verdict.{refs_after, IsVerdictAtUpdate, MayBeSet, UpdateNeeds, expected, is_branch, is_tag}
 

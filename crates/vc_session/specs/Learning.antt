@@ -1,9 +1,9 @@
 -- What is learnt of the generations of commits, so that a later check of a branch with their history can stop at them.
 use Rattle.std.specs.Prelude.{◌≡◌, ◌↔◌, ◌⊎◌, ◌<◌, ◌^◌, ◌++◌, ◌∷◌, [], ℕ, List, Some, Contains}
-use Rattle.vc_base.specs.Generation.{HasGeneration}
-use Rattle.vc_base.specs.History.{IsAncestor}
-use Rattle.vc_base.specs.Numbering.{numbers}
-use Rattle.vc_base.specs.declared.generations.Generations.{Generations}
+use Rattle.vc_history.specs.Generation.{HasGeneration}
+use Rattle.vc_history.specs.History.{IsAncestor}
+use Rattle.vc_history.specs.Numbering.{numbers}
+use Rattle.vc_history.specs.declared.generations.Generations.{Generations}
 use Rattle.vc_files.specs.FileMap.{FileMap}
 use Rattle.vc_graph.specs.Graph.{IsClosed}
 use Rattle.vc_object.specs.ObjectMap.{parents_in}

@@ -4,7 +4,7 @@ pub mod Clean
 pub mod PushState
 pub mod Updating
 pub mod Migrating
-pub mod Bringing
+pub mod Arrival
 pub mod Carrying
 pub mod Known
 pub mod Session

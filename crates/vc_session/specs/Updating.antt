@@ -4,7 +4,7 @@ use Rattle.vc_files.specs.FileMap.{FileMap}
 use Rattle.vc_push.specs.declared.reason.Reason.{Reason}
 use Rattle.vc_push.specs.declared.reason.Reason.TheVariants as reason
 use Rattle.vc_refs.specs.Refs.{packed_path, IsBadRef}
-use Rattle.vc_refs.specs.Way.{IsFirstInTheWay}
+use Rattle.vc_refs.specs.Obstacle.{IsFirstInTheWay}
 use Rattle.vc_refs.specs.declared.faults.RefFault.{RefFault}
 use Rattle.vc_refs.specs.declared.faults.RefFault.TheVariants.{Stale, Conflict, BadRefFile, HeadLoop, Fault}
 

@@ -1,9 +1,9 @@
 //! The check of all commands of a push.
 ghost use Rattle.std.specs.Prelude.{◌≡◌, Some, None, true, false, ⊤, length, slice_get, take, count_by, IfOk, IfErr, IfSome, IfNone, IsErrOf};
 ghost use Rattle.std.specs.List.{list_any};
-ghost use Rattle.vc_base.specs.Generation.{Agrees};
-ghost use Rattle.vc_base.specs.Numbering.{numbers};
-ghost use Rattle.vc_base.specs.Stored.{AgreesIn};
+ghost use Rattle.vc_history.specs.Generation.{Agrees};
+ghost use Rattle.vc_history.specs.Numbering.{numbers};
+ghost use Rattle.vc_history.specs.Stored.{AgreesIn};
 ghost use Rattle.vc_files.specs.Failures.{Wears};
 ghost use Rattle.vc_graph.specs.GraphFault.{IsMet};
 ghost use Rattle.vc_object.specs.ObjectMap.{parents_in};
@@ -21,8 +21,8 @@ use crate::known::Known;
 use crate::seen::PushObjects;
 use crate::stage::Verdict;
 use std::alloc::Global;
-use vc_base::{Commits, Generations};
 use vc_files::{Fault, Files};
+use vc_history::{Commits, Generations};
 use vc_push::Command;
 use vc_store::StoreFault;
 

@@ -1,7 +1,7 @@
 //! The verdict on one command at the check.
 ghost use Rattle.std.specs.Prelude.{◌≡◌, ◌⊎◌, ◌∷◌, [], true, None, IfOk, IfErr, IsErrOf};
-ghost use Rattle.vc_base.specs.Generation.{Agrees};
-ghost use Rattle.vc_base.specs.Numbering.{numbers};
+ghost use Rattle.vc_history.specs.Generation.{Agrees};
+ghost use Rattle.vc_history.specs.Numbering.{numbers};
 ghost use Rattle.vc_files.specs.Failures.{Wears};
 ghost use Rattle.vc_format.specs.Git.{git_is_legal};
 ghost use Rattle.vc_graph.specs.Graph.{IsClosed, IsClosedUnder, ReachedFrom};
@@ -14,9 +14,9 @@ ghost use Rattle.vc_session.specs.Verdict.{CheckNeeds, IsVerdict, IsVerdictAtChe
 use crate::known::Known;
 use indexmap::IndexSet;
 use std::alloc::Global;
-use vc_base::{BaseFault, Commits, Generations, is_ancestor, is_history_beyond};
 use vc_files::Fault;
 use vc_graph::is_complete_beyond;
+use vc_history::{BaseFault, Commits, Generations, is_ancestor, is_history_beyond};
 use vc_object::ObjectId;
 use vc_push::{Command, Reason};
 use vc_refname::RefName;

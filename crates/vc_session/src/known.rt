@@ -8,9 +8,9 @@ ghost use Rattle.vc_store.specs.Store.{objects};
 
 use indexmap::IndexSet;
 use std::alloc::Global;
-use vc_base::Commits;
 use vc_files::{Fault, Files};
 use vc_graph::learn_links;
+use vc_history::Commits;
 use vc_object::ObjectId;
 use vc_push::Command;
 use vc_refs::{RefFault, list};

@@ -1,14 +1,14 @@
 //! What is learnt of the generations of commits, at which a later check of a branch with their history can stop.
 ghost use Rattle.std.specs.Prelude.{◌≡◌, ◌++◌, ◌∷◌, [], length, IsErrOf, OnOk};
-ghost use Rattle.vc_base.specs.Stored.{AgreesIn};
+ghost use Rattle.vc_history.specs.Stored.{AgreesIn};
 ghost use Rattle.vc_files.specs.Failures.{Wears};
 ghost use Rattle.vc_push.specs.PushView.{command_of, commands_of};
 ghost use Rattle.vc_session.specs.Learning.{IsLearnt, tip_of, tips_of};
 
 use crate::stage::Verdict;
 use std::alloc::{AllocError, Global};
-use vc_base::{BaseFault, Generations};
 use vc_files::{Fault, Files};
+use vc_history::{BaseFault, Generations};
 use vc_object::ObjectId;
 use vc_push::{Command, Reason};
 use vc_store::{Store, StoreFault};

@@ -2,7 +2,7 @@
 //! carries stands until it is stored; and the steps between which other pushes take theirs.
 #![tactic(auto)]
 
-mod bringing;
+mod arrival;
 mod checking;
 mod fault;
 mod judging;
@@ -17,7 +17,7 @@ mod session;
 mod stage;
 mod updating;
 
-pub use bringing::Arriving;
+pub use arrival::Arriving;
 pub use fault::SessionFault;
 pub use judging::{is_legal, judge};
 pub use known::Known;

@@ -8,9 +8,9 @@ ghost use Rattle.vc_session.specs.Quarantine.{objects_seen};
 
 use crate::quarantine::find_in_quarantine;
 use std::alloc::Global;
-use vc_base::{Commits, Parents};
 use vc_files::{Fault, Files};
 use vc_graph::Objects;
+use vc_history::{Commits, Parents};
 use vc_object::ObjectId;
 use vc_store::{StoreFault, Stored, find};
 

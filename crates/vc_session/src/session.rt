@@ -1,12 +1,12 @@
 //! One open push.
 ghost use Rattle.std.specs.Prelude.{◌≡◌, ◌⊎◌, ◌<◌, Option, length, slice_set, IfOk, IfErr, OnErr, OnOk, IsErrOf};
-ghost use Rattle.vc_base.specs.Stored.{AgreesIn, KeepsAgreement};
+ghost use Rattle.vc_history.specs.Stored.{AgreesIn, KeepsAgreement};
 ghost use Rattle.vc_files.specs.FileMap.{FileMap, SameOutside};
 ghost use Rattle.vc_files.specs.Failures.{Wears, Writes};
 ghost use Rattle.vc_object.specs.declared.fault.ObjectFault.{ObjectFault as Refusal};
 ghost use Rattle.vc_push.specs.Push.{Carried, FaultOf};
 ghost use Rattle.vc_push.specs.PushView.{commands_of, push_text};
-ghost use Rattle.vc_session.specs.Bringing.{IsBrought};
+ghost use Rattle.vc_session.specs.Arrival.{HasArrived};
 ghost use Rattle.vc_session.specs.Carrying.{Carries, HoldsNames, objects_of_push};
 ghost use Rattle.vc_session.specs.Clean.{IsQuarantineClean, MakesNoneBad};
 ghost use Rattle.vc_session.specs.Learning.{LearnsAt};
@@ -15,7 +15,7 @@ ghost use Rattle.vc_session.specs.Session.{IsSession, stage_while};
 ghost use Rattle.vc_session.specs.SessionFault.{IsRefusedStep};
 ghost use Rattle.vc_session.specs.Steps.{EndsEarly, IsOpened, MayWrite, Steps, TellsReport};
 
-use crate::bringing::Arriving;
+use crate::arrival::Arriving;
 use crate::checking::{check_in_files, count_passing, next_passing};
 use crate::fault::SessionFault;
 use crate::learning::{add_tips, learn_all};
@@ -27,8 +27,8 @@ use crate::stage::{Stage, Stepped, Verdict};
 use crate::updating::update;
 use std::alloc::{AllocError, Global};
 use std::marker::Model;
-use vc_base::Generations;
 use vc_files::{Fault, Files};
+use vc_history::Generations;
 use vc_object::{ObjectFault, ObjectId};
 use vc_push::{Command, Push};
 
@@ -123,8 +123,8 @@ impl PushSession {
         commands: Vec<Command>,
     ) -> Result<PushSession, AllocError>
         ensures opened { IfOk result (IsOpened arriving.slot arriving.fault (commands_of commands.items)) }
-        ensures fault { (content : FileMap) (carried : Carried) → IsBrought content arriving.slot arriving.names.keys arriving.fault carried → FaultOf carried arriving.fault }
-        ensures carried { IfOk result (λ s. (content : FileMap) (carried : Carried) → IsBrought content arriving.slot arriving.names.keys arriving.fault carried → Carries content arriving.slot s.names (objects_of_push carried)) }
+        ensures fault { (content : FileMap) (carried : Carried) → HasArrived content arriving.slot arriving.names.keys arriving.fault carried → FaultOf carried arriving.fault }
+        ensures carried { IfOk result (λ s. (content : FileMap) (carried : Carried) → HasArrived content arriving.slot arriving.names.keys arriving.fault carried → Carries content arriving.slot s.names (objects_of_push carried)) }
         ensures session { IfOk result IsSession }
     {
         let Arriving { slot, names, fault } = arriving;

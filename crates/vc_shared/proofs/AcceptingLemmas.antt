@@ -1,5 +1,5 @@
 -- A message that comes to the shared node, once its kind is known.
-use Rattle.std.proofs.Common.{◌≡◌, ◌≢◌, ℕ, Bool, true, List, Vec, Option, None, Result, Ok, Err, true≢false, refl, sym, ap, ◌∙◌, subst}
+use Rattle.std.proofs.Common.{◌≡◌, ◌≢◌, ℕ, Bool, true, List, Vec, Option, Result, Ok, Err, true≢false, refl, sym, ap, ◌∙◌, subst}
 use Rattle.std.specs.Global.{Global}
 use Rattle.std.specs.Prelude.{IfErr, IfOk, IsErrAnd, OnErr}
 use Rattle.vc_fetch.specs.Want.{WantText}
@@ -8,38 +8,34 @@ use Rattle.vc_files.specs.FileMap.{FileMap}
 use Rattle.vc_files.specs.declared.faults.Fault.{Fault as FilesFault}
 use Rattle.vc_files.specs.declared.faults.Fault.TheVariants.{Memory}
 use Rattle.vc_message.proofs.Readings.{one_refusal}
-use Rattle.vc_message.proofs.AnyLaws.{any_given}
 use Rattle.vc_message.specs.AnyMessage.{MessageText, SpellsMessage, a_list, a_pack, a_push, a_report, a_want, an_advert, an_error, any_step, beginning}
 use Rattle.vc_message.specs.AnyView.{message_text}
 use Rattle.vc_message.specs.Machine.{IsUnread, Reads, TextOf, pkt_number}
 use Rattle.vc_message.specs.Read.{WasRead}
 use Rattle.vc_model.specs.Message.{Message}
-use Rattle.vc_model.specs.Node.{Answer}
 use Rattle.vc_model.specs.Node.Answer.{Declined, Fault}
 use Rattle.vc_model.specs.Question.Question.{Unread as AsksUnread}
-use Rattle.vc_model.specs.Repository.{IsBare, IsSound}
 use Rattle.vc_model.specs.Shared.{ServesNot, SharedNode}
-use Rattle.vc_model.specs.SharedCall.{SharedAnswers, SharedCall}
+use Rattle.vc_model.specs.SharedCall.{SharedCall}
 use Rattle.vc_model.specs.SharedCall.SharedCall.{Accept, Asks, Open}
 use Rattle.vc_node.specs.Machine.{failure_of}
-use Rattle.vc_pkt.proofs.FaultLaws.{no_fault}
 use Rattle.vc_pkt.specs.Message.{FirstFault, IsSpelledBy, Refuses}
 use Rattle.vc_pkt.specs.StepView.{Gives}
 use Rattle.vc_pkt.specs.declared.fault.PktError.{PktError}
 use Rattle.vc_pkt.specs.declared.fault.PktError.TheVariants as pkt
 use Rattle.vc_pkt.specs.declared.fault.PktFault.{PktFault}
-use Rattle.vc_rules.proofs.GitLaws.{git_rules}
 use Rattle.vc_rules.specs.Git.{git}
 use Rattle.vc_session.specs.Session.{SessionText}
 use Rattle.vc_push.specs.Push.{PushText}
 use Rattle.vc_session.specs.Clean.{MakesNoneBad}
+use Rattle.vc_shared.proofs.CallLemmas.{Leads, asked_leads, fault_leads, refused_leads}
 use Rattle.vc_shared.proofs.PushingLemmas.{push_answers}
 use Rattle.vc_shared.proofs.ServingLaws.{list_answers, want_answers}
 use Rattle.vc_shared.proofs.SteppingLaws.{held_still, pushes_of}
-use Rattle.vc_shared.specs.Accepting.{AnswersUp, IsRefusedBytes, IsRefusedMessage, IsToWrite}
+use Rattle.vc_shared.specs.Accepting.{AnswersUp, IsRefusedBytes, IsRefusedMessage}
 use Rattle.vc_shared.specs.Calls.{Quietly}
 use Rattle.vc_shared.specs.Faults.{IsOfDevice, TellsDevice, of_device, of_pkt, up_after}
-use Rattle.vc_shared.specs.Holding.{HoldsShared, IsLive}
+use Rattle.vc_shared.specs.Holding.{HoldsShared}
 use Rattle.vc_shared.specs.Pushing.{ChangesFree, IsRefusedPush, OpensSlot, slot_reply}
 use Rattle.vc_shared.specs.Serving.{IsAnswered, IsListed, RefusesList, RefusesWant, reply_of}
 use Rattle.vc_shared.specs.declared.accepting.Accepted.{Accepted}
@@ -66,33 +62,19 @@ module _ (content : FileMap) (slots : List (Option SessionText)) where
   pub faulted_answers : (call : SharedCall) (f : FilesFault) → call ≢ Open → AnswersUp call (Err (of_device f)) content content slots slots
   faulted_answers call f never was_up is_up was up = record { each = λ n held. by n (subst (λ (b : Bool). HoldsShared content slots b n) was held) }
     where
-      by : (n : SharedNode) → HoldsShared content slots true n → (m : SharedNode) × (a : Answer) × (sends : Option Message) × HoldsShared content slots is_up m × Quietly (Fault (failure_of f)) a sends
-          × (IsSound git n.repository → IsBare git n.repository → SharedAnswers git git_rules n call a m sends)
+      by : (n : SharedNode) → HoldsShared content slots true n → Leads n call content slots is_up (Quietly (Fault (failure_of f)))
       by n held =
-          let live = pushes_of content slots n.live held.live in (
-            record { repository = n.repository; live = None },
-            Fault (failure_of f),
-            None,
-            record { spells = held.spells; clean = held.clean; live = subst (λ (b : Bool). IsLive content slots b None) (sym up) tt },
-            record { answer = refl; sent = refl },
-            λ sound bare. SharedAnswers.faulted live.0 (failure_of f) live.1 never refl refl refl,
-          )
+          let live = pushes_of content slots n.live held.live in
+          subst (λ (b : Bool). Leads n call content slots b (Quietly (Fault (failure_of f)))) (sym up) (fault_leads call n live.0 live.1 content slots never held.spells held.clean (failure_of f))
 
   -- bytes that are no message
   pub unread_answers : (n : ℕ) (fault : PktFault) → pkt_number fault ≡ n → AnswersUp (Asks (AsksUnread n)) (Err (Unread fault)) content content slots slots
   unread_answers number fault is was_up is_up was up = record { each = λ n held. by n held }
     where
-      by : (n : SharedNode) → HoldsShared content slots was_up n → (m : SharedNode) × (a : Answer) × (sends : Option Message) × HoldsShared content slots is_up m × Quietly (Declined (pkt_number fault)) a sends
-          × (IsSound git n.repository → IsBare git n.repository → SharedAnswers git git_rules n (Asks (AsksUnread number)) a m sends)
+      by : (n : SharedNode) → HoldsShared content slots was_up n → Leads n (Asks (AsksUnread number)) content slots is_up (Quietly (Declined (pkt_number fault)))
       by n held =
-          let live = pushes_of content slots n.live (subst (λ (b : Bool). HoldsShared content slots b n) was held).live in (
-            n,
-            Declined (pkt_number fault),
-            None,
-            held_still content content slots slots was_up is_up n refl refl (up ∙ sym was) held,
-            record { answer = refl; sent = refl },
-            λ sound bare. SharedAnswers.asked live.0 (AsksUnread number) live.1 refl (ap Declined is) refl refl,
-          )
+          let live = pushes_of content slots n.live (subst (λ (b : Bool). HoldsShared content slots b n) was held).live in
+          asked_leads (Asks (AsksUnread number)) n live.0 live.1 content slots is_up (held_still content content slots slots was_up is_up n refl refl (up ∙ sym was) held) (AsksUnread number) refl (Declined (pkt_number fault)) (ap Declined is)
 
   -- a message that is not for the shared node
   abbrev IsOther : MessageText → Type 0
@@ -104,17 +86,10 @@ module _ (content : FileMap) (slots : List (Option SessionText)) where
   declines : (m : Message) → ((n : SharedNode) (w : _) → ServesNot git n.repository w m 91) → AnswersUp (Accept m) (Err Unexpected) content content slots slots
   declines m refuses was_up is_up was up = record { each = λ n held. by n held }
     where
-      by : (n : SharedNode) → HoldsShared content slots was_up n → (k : SharedNode) × (a : Answer) × (sends : Option Message) × HoldsShared content slots is_up k × Quietly (Declined 91) a sends
-          × (IsSound git n.repository → IsBare git n.repository → SharedAnswers git git_rules n (Accept m) a k sends)
+      by : (n : SharedNode) → HoldsShared content slots was_up n → Leads n (Accept m) content slots is_up (Quietly (Declined 91))
       by n held =
-          let live = pushes_of content slots n.live (subst (λ (b : Bool). HoldsShared content slots b n) was held).live in (
-            n,
-            Declined 91,
-            None,
-            held_still content content slots slots was_up is_up n refl refl (up ∙ sym was) held,
-            record { answer = refl; sent = refl },
-            λ sound bare. SharedAnswers.refused live.0 91 live.1 (refuses n live.0) refl refl refl,
-          )
+          let live = pushes_of content slots n.live (subst (λ (b : Bool). HoldsShared content slots b n) was held).live in
+          refused_leads (Accept m) n live.0 live.1 content slots is_up (held_still content content slots slots was_up is_up n refl refl (up ∙ sym was) held) 91 (λ sound bare. refuses n live.0)
 
   pub advert_declined : (m : Message) (t : _) → TextOf m (an_advert t) → AnswersUp (Accept m) (Err Unexpected) content content slots slots
   advert_declined m t is = declines m (λ n w. subst (λ (s : Message). ServesNot git n.repository w s 91) (sym is.is) refl)
@@ -128,12 +103,8 @@ module _ (content : FileMap) (slots : List (Option SessionText)) where
   pub error_declined : (m : Message) (t : List ℕ) → TextOf m (an_error t) → AnswersUp (Accept m) (Err Unexpected) content content slots slots
   error_declined m t is = declines m (λ n w. subst (λ (s : Message). ServesNot git n.repository w s 91) (sym is) refl)
 
--- ---- bytes that are read, or not
--- bytes that are a message have no fault
-pub never_unread : (bytes : List ℕ) (text : MessageText) (n : ℕ) → IsSpelledBy SpellsMessage text bytes → IsUnread bytes n → ⊥
-never_unread bytes text n (lines, each, spells) unread = no_fault any_step beginning bytes text lines each (any_given text lines spells) unread.fault unread.first
-
-pub same_number : (bytes : List ℕ) (fault : PktFault) (n : ℕ) → FirstFault any_step beginning bytes fault → IsUnread bytes n → pkt_number fault ≡ n
+-- ---- bytes that are not read
+same_number : (bytes : List ℕ) (fault : PktFault) (n : ℕ) → FirstFault any_step beginning bytes fault → IsUnread bytes n → pkt_number fault ≡ n
 same_number bytes fault n first unread = one_refusal bytes (pkt_number fault) n (record { fault = fault; first = first; number = refl }) unread
 
 -- ---- kind by kind

@@ -1,5 +1,5 @@
 -- A push that comes from a reader: what came of it so far, and why it didn't all come.
-use Rattle.std.proofs.Common.{◌≡◌, ◌≢◌, ℕ, List, Option, Result, Ok, Err, refl, sym, subst, false, true≢false}
+use Rattle.std.proofs.Common.{◌≡◌, ℕ, List, Option, Result, Ok, Err, refl, sym, subst, false, true≢false}
 use Rattle.std.specs.Prelude.{IsErrAnd, IsErrOf}
 use Rattle.vc_files.proofs.FileMapLemmas.{outside_same}
 use Rattle.vc_files.proofs.WearLemmas.{writes_told}

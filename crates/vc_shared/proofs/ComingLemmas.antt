@@ -28,8 +28,9 @@ use Rattle.vc_session.specs.Clean.{MakesNoneBad}
 use Rattle.vc_session.specs.Quarantine.{IsDropped, quarantine_folder}
 use Rattle.vc_session.specs.Session.{SessionText}
 use Rattle.vc_shared.proofs.AcceptingLemmas.{faulted_answers, unread_answers}
-use Rattle.vc_shared.proofs.HoldingLemmas.{beside_slot, content_of, spells_on}
-use Rattle.vc_node.proofs.ReceivingClone.{clean_on}
+use Rattle.vc_shared.proofs.HoldingLemmas.{beside_slot}
+use Rattle.vc_node.proofs.CloneCallLemmas.{held_content}
+use Rattle.vc_node.proofs.ReceivingClone.{clean_on, spells_on}
 use Rattle.vc_shared.proofs.PushingLemmas.{free_there, push_answers, slot_beside}
 use Rattle.vc_shared.proofs.PushingTexts.{reads_tellable}
 use Rattle.vc_shared.specs.AcceptFault.{TellsDevice, is_fault, up_after}
@@ -108,7 +109,7 @@ module _ (old new : FileMap) (slots : List (Option SessionText)) (bad : MakesNon
 
   kept_beside : (is_up : Bool) → (is_up ≡ true → IsDropped k new) → KeepsHeld old new slots slots is_up is_up
   kept_beside is_up dropped n held = record {
-    spells = spells_on old new n.repository n.repository held.spells (content_beside k old new n.repository same (content_of old n.repository held.spells)) (beside_slot k old new same) refl refl;
+    spells = spells_on old new n.repository n.repository held.spells (content_beside k old new n.repository same (held_content old n.repository held.spells)) (beside_slot k old new same) refl refl;
     clean = clean_on old new bad held.clean;
     live = live_kept is_up n.live dropped held.live;
   }

@@ -1,10 +1,11 @@
 -- A fault of a push's step, as the node tells it: what it says of the device, and what is refused by it.
-use Rattle.std.proofs.Common.{◌≡◌, ℕ, Option, Result, Ok, Err, refl, sym, ap, ◌∙◌, subst, ◌⊎◌, inl, inr, true≢false}
-use Rattle.std.specs.Prelude.{IfErr, IsErrAnd, IsErrOf, OnErr}
+use Rattle.std.proofs.Common.{◌≡◌, ℕ, Option, Result, Ok, Err, refl, sym, ap, ◌∙◌, subst, ◌⊎◌, true≢false}
+use Rattle.std.specs.Prelude.{IfErr, IsErrAnd, IsErrOf}
 use Rattle.vc_files.proofs.WearLemmas.{writes_told}
 use Rattle.vc_files.specs.Failures.{Wears, Writes}
 use Rattle.vc_files.specs.FileMap.{FileMap}
 use Rattle.vc_files.specs.declared.faults.Fault.TheVariants.{Device, Memory}
+use Rattle.vc_node.proofs.LookLemmas.{or_told}
 use Rattle.vc_refs.specs.declared.faults.RefFault.TheVariants as refs
 use Rattle.vc_store.specs.declared.faults.StoreFault.TheVariants as store
 use Rattle.vc_session.specs.Session.{SessionText}
@@ -47,25 +48,11 @@ module _ {X T : Type 0} (r : Result X SessionFault) (e : SessionFault) (was : r 
   writes_as q is w = writes_told w (device_to q is) (device_from q is)
 
   module _ {D : Type 0} {failed : D → ℕ} {can_fail : D → Type 0} {left : D → Option ℕ} {old new : D} where
-    wears_as : (q : Result T SharedFault) → IsErrAnd q (λ x. x ≡ of_session e) → Wears failed can_fail left old new (IsErrOf r (session.Fault Device)) → Wears failed can_fail left old new (TellsDevice q)
-    wears_as q is w = record {
-      later = w.later;
-      calm = w.calm;
-      could = λ device. w.could (device_from q is device);
-      failed_now = λ device. w.failed_now (device_from q is device);
-      unspent = w.unspent;
-    }
-
     pub looks_as : {May : Type 0} (q : Result T SharedFault) → IsErrAnd q (λ x. x ≡ of_session e) → May ⊎ Wears failed can_fail left old new (IsErrOf r (session.Fault Device))
         → May ⊎ Wears failed can_fail left old new (TellsDevice q)
-    looks_as q is (inl may) = inl may
-    looks_as q is (inr w) = inr (wears_as q is w)
+    looks_as q is may = or_told may (λ m. m) (device_from q is)
 
 -- ---- what is told
-pub on_err : {T E : Type 0} {P : Type 0} (r : Result T E) → P → OnErr r P
-on_err (Ok x) holds = tt
-on_err (Err e) holds = holds
-
 pub err_as : {T : Type 0} (P : SharedFault → Type 0) (fault : SharedFault) (r : Result T SharedFault) → IsErrAnd r (λ e. e ≡ fault) → P fault → IfErr r P
 err_as P fault (Ok x) is holds = tt
 err_as P fault (Err e) is holds = subst P (sym is) holds

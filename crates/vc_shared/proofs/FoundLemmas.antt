@@ -7,6 +7,7 @@ use Rattle.vc_files.specs.declared.faults.Fault.TheVariants.{Device, Memory}
 use Rattle.vc_model.specs.Node.{Answer}
 use Rattle.vc_model.specs.Question.Question.{Resolve}
 use Rattle.vc_model.specs.SharedCall.SharedCall.{Asks}
+use Rattle.vc_node.proofs.LookLemmas.{looks_told}
 use Rattle.vc_node.specs.Values.{is_rev_fault, rev_answer}
 use Rattle.vc_repository.specs.Resolving.{IsOfExpr}
 use Rattle.vc_object.specs.declared.id.ObjectId.{ObjectId}
@@ -67,10 +68,4 @@ module _ {D : Type 0} {failed : D → ℕ} {can_fail : D → Type 0} {left : D �
     (is : told ≡ of_rev e) (ends : result ≡ Err e) where
   pub no_value_wears : new ≡ mid → Wears failed can_fail left old mid (IsErrOf result (Source (Store (store.Fault Device)))) → Wears failed can_fail left old new (IsOfDevice told)
   no_value_wears files w =
-      subst (λ (d : D). Wears failed can_fail left old d (IsOfDevice told)) (sym files) (record {
-        later = w.later;
-        calm = w.calm;
-        could = λ device. w.could (device_told e told result is ends device);
-        failed_now = λ device. w.failed_now (device_told e told result is ends device);
-        unspent = w.unspent;
-      })
+      subst (λ (d : D). Wears failed can_fail left old d (IsOfDevice told)) (sym files) (looks_told w (device_told e told result is ends))

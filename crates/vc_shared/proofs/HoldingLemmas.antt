@@ -1,24 +1,20 @@
 -- What stays of a held node where files change.
-use Rattle.std.proofs.Common.{◌≡◌, ◌≢◌, ◌<◌, ◌^◌, ◌++◌, arith, ℕ, true, false, nat_eq, length, List, [], Option, Some, None, refl, sym, ap, ◌∙◌, subst}
-use Rattle.std.specs.Prelude.{bytes_eq, codes, slice_set, unwrap_or}
+use Rattle.std.proofs.Common.{◌≡◌, ◌≢◌, ◌<◌, ◌^◌, ◌++◌, arith, ℕ, true, false, nat_eq, length, List, Option, Some, None, refl, sym, ap, ◌∙◌, subst}
+use Rattle.std.specs.Prelude.{bytes_eq, codes, slice_set}
 use Rattle.std.specs.FinMap as files
-use Rattle.std.specs.FinMap.{get}
 use Rattle.std.specs.List.{starts_with}
 use Rattle.std.proofs.lemmas.List.{get_or-set_same, get_or-set_other}
 use Rattle.std.proofs.lemmas.Option.{unwrap_or-slice_get}
 use Rattle.vc_files.specs.FileMap.{FileMap, SameOutside}
 use Rattle.vc_model.specs.Push.{OpenPush}
-use Rattle.vc_model.specs.Repository.{Index, Repository}
 use Rattle.vc_node.specs.IndexFile.{index_bytes}
-use Rattle.vc_node.specs.Machine.{Spells}
-use Rattle.vc_node.specs.Shown.{shown}
-use Rattle.vc_refs.proofs.WayLemmas.{split_from_starts}
+use Rattle.vc_node.proofs.ReceivingClone.{SameBeside, beside_by}
+use Rattle.vc_refs.proofs.ObstacleLemmas.{split_from_starts}
 use Rattle.vc_refs.specs.Head.{KeepsOutside, KeepsTheRest, head_of}
 use Rattle.vc_refs.specs.Refs.{packed_path}
 use Rattle.vc_rules.proofs.OpenPushLaws.{others_stay}
-use Rattle.vc_rules.specs.OpenPushes.{HoldsContent}
 use Rattle.vc_session.specs.Clean.{MakesNoneBad}
-use Rattle.vc_session.proofs.FrameLemmas.{head-same, other_slot}
+use Rattle.vc_session.proofs.FrameLemmas.{other_slot}
 use Rattle.vc_session.specs.Quarantine.{IsDropped, quarantine_folder}
 use Rattle.vc_session.specs.Session.{SessionText}
 use Rattle.vc_session.specs.Steps.{Steps}
@@ -34,31 +30,7 @@ slot_set slots k v within = unwrap_or-slice_get (slice_set slots k v) k None ∙
 pub slot_other : (slots : List (Option SessionText)) (k j : ℕ) (v : Option SessionText) → j ≢ k → slot_of (slice_set slots k v) j ≡ slot_of slots j
 slot_other slots k j v apart = unwrap_or-slice_get (slice_set slots k v) j None ∙ get_or-set_other slots k j v None apart ∙ sym (unwrap_or-slice_get slots j None)
 
--- ---- the repository
-pub content_of : (content : FileMap) (r : Repository) → Spells (shown content) r → HoldsContent content r
-content_of content r spells = record { objects_are = spells.objects; refs_are = spells.refs }
-
--- HEAD and the index are the same
-pub record SameBeside (old new : FileMap) : Type 0 where
-  pub head : head_of new ≡ head_of old
-  pub index : index_bytes new ≡ index_bytes old
-
-pub spells_on : (old new : FileMap) (r after : Repository) → Spells (shown old) r → HoldsContent new after → SameBeside old new → after.head ≡ r.head → after.index ≡ r.index → Spells (shown new) after
-spells_on old new r after spells content beside head index = record {
-  objects = content.objects_are;
-  refs = content.refs_are;
-  head = spells.head;
-  head_shown = beside.head ∙ spells.head_shown;
-  head_is = head ∙ spells.head_is;
-  map = spells.map;
-  map_sound = spells.map_sound;
-  map_shown = beside.index ∙ spells.map_shown;
-  index = λ p. ap (λ (i : Index). get i p) index ∙ spells.index p;
-}
-
-beside_by : (old new : FileMap) → files.get new (codes "HEAD") ≡ files.get old (codes "HEAD") → files.get new (codes "index") ≡ files.get old (codes "index") → SameBeside old new
-beside_by old new head index = record { head = head-same old new head; index = ap (λ found. unwrap_or found []) index }
-
+-- ---- HEAD and the index are the same
 pub beside_same : (old new : FileMap) → new ≡ old → SameBeside old new
 beside_same old new same = record { head = ap head_of same; index = ap index_bytes same }
 

@@ -1,18 +1,14 @@
 -- What the shared node answers to the question to pack its refs is the machine's answer: each open push stays, or the node is down.
-use Rattle.std.proofs.Common.{◌≡◌, ℕ, ◌<◌, Bool, true, false, List, Option, Some, None, Result, Ok, Err, refl, sym, ap, ◌∙◌, subst}
+use Rattle.std.proofs.Common.{◌≡◌, ℕ, Bool, true, false, List, Option, Some, None, Result, Ok, Err, refl, sym, ap, ◌∙◌, subst}
 use Rattle.std.specs.Prelude.{IfErr}
 use Rattle.std.specs.FinMap.{get}
 use Rattle.vc_files.specs.FileMap.{FileMap}
 use Rattle.vc_files.specs.declared.faults.Fault.{Fault as FilesFault}
-use Rattle.vc_model.specs.Message.{Message}
-use Rattle.vc_model.specs.Node.{Answer}
-use Rattle.vc_model.specs.Node.Answer.{Did, Fault}
+use Rattle.vc_model.specs.Node.Answer.{Did}
 use Rattle.vc_model.specs.Node.Reply.{Stored}
 use Rattle.vc_model.specs.Push.{OpenPush, Slots}
 use Rattle.vc_model.specs.Question.Question.{PackRefs}
-use Rattle.vc_model.specs.Repository.{IsBare, IsSound}
 use Rattle.vc_model.specs.Shared.{SharedNode}
-use Rattle.vc_model.specs.SharedCall.{SharedAnswers}
 use Rattle.vc_model.specs.SharedCall.SharedCall.{Asks}
 use Rattle.vc_node.proofs.CleanLemmas.{still_clean_packed}
 use Rattle.vc_node.proofs.ShownLemmas.{shown_packed}
@@ -25,14 +21,14 @@ use Rattle.vc_object.specs.declared.id.ObjectId.{ObjectId}
 use Rattle.vc_refs.specs.Head.{KeepsOutside}
 use Rattle.vc_refs.specs.Refs.{refs}
 use Rattle.vc_refs.specs.declared.faults.RefFault.TheVariants as ref
-use Rattle.vc_rules.proofs.GitLaws.{git_rules}
 use Rattle.vc_rules.proofs.OpenPushLaws.{push_kept}
-use Rattle.vc_rules.specs.Git.{git}
 use Rattle.vc_session.proofs.QuarantineLemmas.{same_at}
 use Rattle.vc_session.specs.Quarantine.{quarantine_path, quarantined}
 use Rattle.vc_session.specs.Session.{SessionText}
 use Rattle.vc_store.specs.Store.{stored_in}
+use Rattle.vc_shared.proofs.CallLemmas.{asked_leads, fault_leads}
 use Rattle.vc_shared.proofs.HoldingLemmas.{beyond_refs, dropped_on}
+use Rattle.vc_shared.proofs.SteppingLaws.{pushes_of}
 use Rattle.vc_shared.specs.Calls.{AnswersShared, RestartedAs}
 use Rattle.vc_shared.specs.Holding.{HoldsShared, HoldsSlot, IsLive}
 use Rattle.vc_shared.specs.Slots.{slot_of}
@@ -65,38 +61,18 @@ module _ (old new : FileMap) (rest : KeepsOutside old new) where
     spelled : (n : SharedNode) → HoldsShared old slots true n → Spells (shown new) n.repository
     spelled n held = subst (λ (s : Shown). Spells s n.repository) (sym (shown_packed old new rest kept)) held.spells
 
-    -- the pushes that are open
-    live_of : (n : SharedNode) → HoldsShared old slots true n → (w : Slots) × (n.live ≡ Some w)
-    live_of n held = by n.live refl held.live
-      where
-        by : (l : Option Slots) → n.live ≡ l → IsLive old slots true l → (w : Slots) × (n.live ≡ Some w)
-        by (Some w) is live = (w, is)
-        by None is never = absurd never
-
     packed : AnswersShared (Asks PackRefs) (RestartedAs (Ok tt)) old new slots slots true true
     packed = record {
       each = λ n held.
-          let w = live_of n held in (
-            n,
-            Did Stored,
-            None,
-            record { spells = spelled n held; clean = still_clean_packed old new rest held.clean; live = live_kept slots true n.live held.live },
-            record { answer = refl; sent = refl },
-            λ sound bare. SharedAnswers.asked w.0 PackRefs w.1 refl refl refl refl,
-          );
+          let w = pushes_of old slots n.live held.live in
+          asked_leads (Asks PackRefs) n w.0 w.1 new slots true (record { spells = spelled n held; clean = still_clean_packed old new rest held.clean; live = live_kept slots true n.live held.live }) PackRefs refl (Did Stored) refl;
     }
 
     unpacked : (f : FilesFault) → AnswersShared (Asks PackRefs) (RestartedAs (Err (Ref (ref.Fault f)))) old new slots slots true false
     unpacked f = record {
       each = λ n held.
-          let w = live_of n held in (
-            record { repository = n.repository; live = None },
-            Fault (failure_of f),
-            None,
-            record { spells = spelled n held; clean = still_clean_packed old new rest held.clean; live = tt },
-            record { answer = refl; sent = refl },
-            λ sound bare. SharedAnswers.faulted w.0 (failure_of f) w.1 (λ never. cc never) refl refl refl,
-          );
+          let w = pushes_of old slots n.live held.live in
+          fault_leads (Asks PackRefs) n w.0 w.1 new slots (λ never. cc never) (spelled n held) (still_clean_packed old new rest held.clean) (failure_of f);
     }
 
     -- clean files are not to blame, so a refusal is a fault

@@ -10,11 +10,11 @@ use Rattle.vc_message.proofs.Totals.{less_or}
 use Rattle.vc_message.specs.Machine.{IsPush, IsRefusalOf}
 use Rattle.vc_model.proofs.Maps.{insert_other, insert_same, same_key}
 use Rattle.vc_model.specs.Message.{Message}
-use Rattle.vc_model.specs.Node.{Answer, Deed, Failure}
+use Rattle.vc_model.specs.Node.{Deed, Failure}
 use Rattle.vc_model.specs.Node.Answer.{Declined, Did, Fault}
 use Rattle.vc_model.specs.Node.Reply.{Opened}
 use Rattle.vc_model.specs.Push.{OpenPush, Slots}
-use Rattle.vc_model.specs.Repository.{IsBare, IsSound, no_effect}
+use Rattle.vc_model.specs.Repository.{no_effect}
 use Rattle.vc_model.specs.Shared.{IsLowestFree, Serves, ServesNot, SharedNode, opened}
 use Rattle.vc_model.specs.SharedCall.{SharedAnswers}
 use Rattle.vc_model.specs.SharedCall.SharedCall.{Accept}
@@ -22,8 +22,7 @@ use Rattle.vc_node.specs.Machine.{failure_of}
 use Rattle.vc_object.proofs.OneFault.{no_body_fault, two_bodies}
 use Rattle.vc_object.specs.declared.fault.ObjectFault.{ObjectFault}
 use Rattle.vc_push.specs.Push.{Carried, FaultOf, PushText}
-use Rattle.vc_refs.proofs.WayLemmas.{split_from_starts}
-use Rattle.vc_rules.proofs.GitLaws.{git_rules}
+use Rattle.vc_refs.proofs.ObstacleLemmas.{split_from_starts}
 use Rattle.vc_rules.proofs.JoinLemmas.{none_added}
 use Rattle.vc_rules.proofs.OpenPushLaws.{content_beside, opens_agree, push_kept}
 use Rattle.vc_rules.specs.Git.{git}
@@ -34,11 +33,14 @@ use Rattle.vc_session.specs.Clean.{MakesNoneBad}
 use Rattle.vc_session.specs.Quarantine.{IsDropped, quarantine_folder}
 use Rattle.vc_session.specs.Session.{SessionText}
 use Rattle.vc_session.specs.Steps.{fault_number}
-use Rattle.vc_shared.proofs.HoldingLemmas.{beside_slot, content_of, slot_other, slot_set, spells_on}
-use Rattle.vc_node.proofs.ReceivingClone.{clean_on}
+use Rattle.vc_shared.proofs.HoldingLemmas.{beside_slot, slot_other, slot_set}
+use Rattle.vc_node.proofs.CloneCallLemmas.{held_content}
+use Rattle.vc_node.proofs.ReceivingClone.{clean_on, spells_on}
+use Rattle.vc_shared.proofs.CallLemmas.{Leads, fault_leads, refused_leads}
+use Rattle.vc_shared.proofs.SteppingLaws.{pushes_of}
 use Rattle.vc_shared.specs.Calls.{AcceptedAs, Quietly}
 use Rattle.vc_shared.specs.Faults.{is_fault, of_device, up_after}
-use Rattle.vc_shared.specs.Holding.{HoldsShared, HoldsSlot, HoldsSlots, IsLive}
+use Rattle.vc_shared.specs.Holding.{HoldsShared, HoldsSlot, HoldsSlots}
 use Rattle.vc_shared.specs.Pushing.{AreTaken, ChangesFree, IsLowest, IsRefusedPush, OpensSlot, PushAnswers, slot_reply}
 use Rattle.vc_shared.specs.Slots.{slot_of}
 use Rattle.vc_shared.specs.declared.fault.SharedFault.{SharedFault}
@@ -104,12 +106,7 @@ refusal_is (Ok objects) fault refusal none is = is ∙ sym (ap (option_map fault
 refusal_is (Err body) None refusal object (f, faulty, is) = absurd (no_body_fault body.kind body.body f object faulty)
 refusal_is (Err body) (Some fault) refusal other (f, faulty, is) = is ∙ ap (λ (e : ObjectFault). Some (fault_number e)) (two_bodies body.kind body.body f fault faulty other)
 
--- ---- what the message leads to: some node is held then, and where the node before was sound and bare, it is the machine's
-abbrev Leads : SharedNode → Message → FileMap → List (Option SessionText) → Bool → (Answer → Option Message → Type 0) → Type 0
-Leads n m new after is_up shows =
-    (q : SharedNode) × (a : Answer) × (sends : Option Message) × HoldsShared new after is_up q × shows a sends
-    × (IsSound git n.repository → IsBare git n.repository → SharedAnswers git git_rules n (Accept m) a q sends)
-
+-- ---- what the message leads to
 module _ (old new : FileMap) (slots after : List (Option SessionText)) (push : PushText) (m : Message) (n : SharedNode) (pushes : Slots)
     (held : HoldsShared old slots true n) (live : n.live ≡ Some pushes) (holds : HoldsSlots old slots pushes) (is : IsPush m push) (bad : MakesNoneBad old new) where
   -- the push as the machine opens it
@@ -144,14 +141,14 @@ module _ (old new : FileMap) (slots after : List (Option SessionText)) (push : P
         others = λ j past. insert_other nat_cmp_total nat_cmp-IsAntisymmetric pushes k machine_push j (λ e. omega (arith, small, past, e)) ∙ holds.others j past;
       }
 
-      open_there : Leads n m new after true (λ a sends. (k < 8) × Quietly (Did (Opened k)) a sends)
+      open_there : Leads n (Accept m) new after true (λ a sends. (k < 8) × Quietly (Did (Opened k)) a sends)
       open_there =
           let d : Deed Slots = record { effect = no_effect; left = pushes_then; sends = None; reply = Opened k } in (
             record { repository = n.repository; live = Some pushes_then },
             Did (Opened k),
             None,
             record {
-              spells = spells_on old new n.repository n.repository held.spells (content_beside k old new n.repository same (content_of old n.repository held.spells)) (beside_slot k old new same) refl refl;
+              spells = spells_on old new n.repository n.repository held.spells (content_beside k old new n.repository same (held_content old n.repository held.spells)) (beside_slot k old new same) refl refl;
               clean = clean_on old new bad held.clean;
               live = subst (λ (xs : List (Option SessionText)). HoldsSlots new xs pushes_then) (sym o.left) slots_then;
             },
@@ -162,58 +159,39 @@ module _ (old new : FileMap) (slots after : List (Option SessionText)) (push : P
           )
 
     -- a fault came: nothing was done, and what stands in the quarantine is no part of the repository
-    stopped : (f : Failure) → Leads n m new after false (Quietly (Fault f))
-    stopped f = (
-      record { repository = n.repository; live = None },
-      Fault f,
-      None,
-      record {
-        spells = spells_on old new n.repository n.repository held.spells (content_beside k old new n.repository same (content_of old n.repository held.spells)) (beside_slot k old new same) refl refl;
-        clean = clean_on old new bad held.clean;
-        live = tt;
-      },
-      record { answer = refl; sent = refl },
-      λ sound bare. SharedAnswers.faulted pushes f live (λ never. cc never) refl refl refl,
-    )
+    stopped : (f : Failure) → Leads n (Accept m) new after false (Quietly (Fault f))
+    stopped f =
+        fault_leads (Accept m) n pushes live new after (λ never. cc never)
+        (spells_on old new n.repository n.repository held.spells (content_beside k old new n.repository same (held_content old n.repository held.spells)) (beside_slot k old new same) refl refl)
+        (clean_on old new bad held.clean) f
 
   -- all slots are taken
-  busy : new ≡ old → after ≡ slots → AreTaken slots → Leads n m new after true (Quietly (Declined 110))
-  busy files left taken = (
-    n,
-    Declined 110,
-    None,
-    subst (λ (c : FileMap). HoldsShared c after true n) (sym files) (subst (λ (xs : List (Option SessionText)). HoldsShared old xs true n) (sym left) held),
-    record { answer = refl; sent = refl },
-    λ sound bare. SharedAnswers.refused pushes 110 live
-        (subst (λ (x : Message). ServesNot git n.repository pushes x 110) (sym is.is) (refl, λ k within. machine_taken old slots pushes holds k within (taken k within)))
-        refl refl refl,
-  )
+  busy : new ≡ old → after ≡ slots → AreTaken slots → Leads n (Accept m) new after true (Quietly (Declined 110))
+  busy files left taken =
+      refused_leads (Accept m) n pushes live new after true
+      (subst (λ (c : FileMap). HoldsShared c after true n) (sym files) (subst (λ (xs : List (Option SessionText)). HoldsShared old xs true n) (sym left) held)) 110
+      (λ sound bare. subst (λ (x : Message). ServesNot git n.repository pushes x 110) (sym is.is) (refl, λ k within. machine_taken old slots pushes holds k within (taken k within)))
 
-  by_err : (e : SharedFault) (is_up : Bool) → after ≡ slots → IsRefusedPush slots e → ChangesFree old new slots → is_up ≡ not (is_fault e) → Leads n m new after is_up (AcceptedAs (Err e))
+  by_err : (e : SharedFault) (is_up : Bool) → after ≡ slots → IsRefusedPush slots e → ChangesFree old new slots → is_up ≡ not (is_fault e) → Leads n (Accept m) new after is_up (AcceptedAs (Err e))
   by_err e is_up left (inl (taken, why)) changes up =
-      subst (λ (x : SharedFault). Leads n m new after is_up (AcceptedAs (Err x))) (sym why)
-      (subst (λ (b : Bool). Leads n m new after b (AcceptedAs (Err Busy))) (sym (up ∙ ap (λ (x : SharedFault). not (is_fault x)) why)) (busy (changes.none taken) left taken))
+      subst (λ (x : SharedFault). Leads n (Accept m) new after is_up (AcceptedAs (Err x))) (sym why)
+      (subst (λ (b : Bool). Leads n (Accept m) new after b (AcceptedAs (Err Busy))) (sym (up ∙ ap (λ (x : SharedFault). not (is_fault x)) why)) (busy (changes.none taken) left taken))
   by_err e is_up left (inr (k, fault, lowest, why)) changes up =
-      subst (λ (x : SharedFault). Leads n m new after is_up (AcceptedAs (Err x))) (sym why)
-      (subst (λ (b : Bool). Leads n m new after b (AcceptedAs (Err (of_device fault)))) (sym (up ∙ ap (λ (x : SharedFault). not (is_fault x)) why))
+      subst (λ (x : SharedFault). Leads n (Accept m) new after is_up (AcceptedAs (Err x))) (sym why)
+      (subst (λ (b : Bool). Leads n (Accept m) new after b (AcceptedAs (Err (of_device fault)))) (sym (up ∙ ap (λ (x : SharedFault). not (is_fault x)) why))
       (stopped k (changes.outside k lowest) (failure_of fault)))
 
   by_result : (result : Result ℕ SharedFault) (is_up : Bool) → IfOk result (OpensSlot new slots after push) → OnErr result (after ≡ slots) → IfErr result (IsRefusedPush slots)
-      → ChangesFree old new slots → is_up ≡ up_after result → Leads n m new after is_up (AcceptedAs (slot_reply result))
+      → ChangesFree old new slots → is_up ≡ up_after result → Leads n (Accept m) new after is_up (AcceptedAs (slot_reply result))
   by_result (Ok k) is_up o left refused changes up =
-      subst (λ (b : Bool). Leads n m new after b (AcceptedAs (slot_reply (Ok k)))) (sym up) (open_there k (changes.outside k o.lowest) o)
+      subst (λ (b : Bool). Leads n (Accept m) new after b (AcceptedAs (slot_reply (Ok k)))) (sym up) (open_there k (changes.outside k o.lowest) o)
   by_result (Err e) is_up o left refused changes up = by_err e is_up left refused changes up
-
--- the pushes of a node that is up
-pushes_of : (content : FileMap) (slots : List (Option SessionText)) (live : Option Slots) → IsLive content slots true live → (pushes : Slots) × (live ≡ Some pushes) × HoldsSlots content slots pushes
-pushes_of content slots None never = absurd never
-pushes_of content slots (Some pushes) holds = (pushes, refl, holds)
 
 pub push_answers : PushAnswers
 push_answers old new slots after push m was_up is_up result is opens left refused changes bad was up =
     record { each = λ n held. by n (subst (λ (b : Bool). HoldsShared old slots b n) was held) }
   where
-    by : (n : SharedNode) → HoldsShared old slots true n → Leads n m new after is_up (AcceptedAs (slot_reply result))
+    by : (n : SharedNode) → HoldsShared old slots true n → Leads n (Accept m) new after is_up (AcceptedAs (slot_reply result))
     by n held =
         let open_now = pushes_of old slots n.live held.live in
         by_result old new slots after push m n open_now.0 held open_now.1 open_now.2 is bad result is_up opens left refused changes up

@@ -38,7 +38,7 @@ lf_short line = by (slice_index line (length line - 1) == 10)
 ids_long : (digits : List ℕ) (id : ObjectId) → WritesId id digits → length digits ≡ 40
 ids_long digits id w = decode_sized-ok digits 20 id.0 w
 
-read_id : (digits : List ℕ) (id : ObjectId) → WritesId id digits → IsId id
+pub read_id : (digits : List ℕ) (id : ObjectId) → WritesId id digits → IsId id
 read_id digits id w =
     let long = decode_sized-ok digits 20 id.0 w in
     let read = decode_of-ok digits id.0 (sym (decode_sized-twice digits 20 long) ∙ w) in

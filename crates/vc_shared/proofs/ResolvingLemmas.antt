@@ -1,5 +1,5 @@
 -- The value of an expression over a node's files is the machine's answer to the question for it.
-use Rattle.std.proofs.Common.{◌≡◌, ℕ, Bool, true, false, List, Option, Some, None, Result, Ok, Err, refl, sym, ◌∙◌, subst}
+use Rattle.std.proofs.Common.{◌≡◌, ℕ, Bool, true, false, List, Option, Some, Result, Ok, Err, refl, sym, subst}
 use Rattle.vc_files.specs.FileMap.{FileMap}
 use Rattle.vc_files.specs.declared.faults.Fault.{Fault as FilesFault}
 use Rattle.vc_format.specs.Git.{bytes_of_id}
@@ -10,9 +10,8 @@ use Rattle.vc_model.specs.Object.{Id}
 use Rattle.vc_model.specs.Push.{Slots}
 use Rattle.vc_model.specs.Question.{found}
 use Rattle.vc_model.specs.Question.Question.{Resolve}
-use Rattle.vc_model.specs.Repository.{IsBare, IsSound}
 use Rattle.vc_model.specs.Shared.{SharedNode}
-use Rattle.vc_model.specs.SharedCall.{SharedAnswers, SharedCall}
+use Rattle.vc_model.specs.SharedCall.{SharedCall}
 use Rattle.vc_model.specs.SharedCall.SharedCall.{Asks}
 use Rattle.vc_node.proofs.ValueLemmas.{values_are_told}
 use Rattle.vc_node.specs.Values.{TellsValue, rev_answer, up_after_value}
@@ -22,19 +21,14 @@ use Rattle.vc_rev.specs.Value.{refusal_number}
 use Rattle.vc_rev.specs.declared.refusal.RevFault.{RevFault}
 use Rattle.vc_rev.specs.declared.refusal.RevFault.TheVariants.{Missing, NotACommit, Refused, Source}
 use Rattle.vc_rev.specs.declared.refusal.SourceFault.TheVariants.{BadIndex, BadRefFile, HeadLoop, Store}
-use Rattle.vc_rules.proofs.GitLaws.{git_rules}
-use Rattle.vc_rules.specs.Git.{git}
 use Rattle.vc_rules.specs.Values.{DenotesAt}
 use Rattle.vc_session.specs.Session.{SessionText}
 use Rattle.vc_store.specs.declared.faults.StoreFault.TheVariants as store
+use Rattle.vc_shared.proofs.CallLemmas.{Leads, asked_leads, fault_leads}
+use Rattle.vc_shared.proofs.SteppingLaws.{down_answers, pushes_of}
 use Rattle.vc_shared.specs.Calls.{Quietly}
-use Rattle.vc_shared.specs.Holding.{HoldsShared, IsLive}
+use Rattle.vc_shared.specs.Holding.{HoldsShared}
 use Rattle.vc_shared.specs.Resolving.{DownDeclines, FoundAs, ValuesAnswer}
-
-abbrev Leads : SharedNode → SharedCall → FileMap → List (Option SessionText) → Bool → (Answer → Option Message → Type 0) → Type 0
-Leads n call new after is_up shows =
-    (m : SharedNode) × (a : Answer) × (sends : Option Message) × HoldsShared new after is_up m × shows a sends
-    × (IsSound git n.repository → IsBare git n.repository → SharedAnswers git git_rules n call a m sends)
 
 -- what leads somewhere where nothing changed
 leads_same : (old new : FileMap) (slots after : List (Option SessionText)) (n : SharedNode) (call : SharedCall) (is_up up : Bool) (shows : Answer → Option Message → Type 0)
@@ -46,18 +40,10 @@ leads_same old new slots after n call is_up up shows files same is leads =
 
 module _ (content : FileMap) (slots : List (Option SessionText)) (n : SharedNode) (held : HoldsShared content slots true n) (pushes : Slots) (live : n.live ≡ Some pushes) (text : List ℕ) where
   answered : (v : Result Id ℕ) → DenotesAt n.repository text v → Leads n (Asks (Resolve text)) content slots true (Quietly (found v))
-  answered v denotes =
-      (n, found v, None, held, record { answer = refl; sent = refl }, λ sound bare. SharedAnswers.asked pushes (Resolve text) live refl (v, denotes, refl) refl refl)
+  answered v denotes = asked_leads (Asks (Resolve text)) n pushes live content slots true held (Resolve text) refl (found v) (v, denotes, refl)
 
   ended : (f : FilesFault) → Leads n (Asks (Resolve text)) content slots false (Quietly (Fault (failure_of f)))
-  ended f = (
-    record { repository = n.repository; live = None },
-    Fault (failure_of f),
-    None,
-    record { spells = held.spells; clean = held.clean; live = tt },
-    record { answer = refl; sent = refl },
-    λ sound bare. SharedAnswers.faulted pushes (failure_of f) live (λ never. cc never) refl refl refl,
-  )
+  ended f = fault_leads (Asks (Resolve text)) n pushes live content slots (λ never. cc never) held.spells held.clean (failure_of f)
 
   value_leads : (result : Result ObjectId RevFault) → TellsValue n.repository text result → Leads n (Asks (Resolve text)) content slots (up_after_value result) (FoundAs rev_answer result)
   value_leads (Ok id) tells = answered (Ok (bytes_of_id id)) tells
@@ -72,15 +58,6 @@ module _ (content : FileMap) (slots : List (Option SessionText)) (n : SharedNode
   value_leads (Err (Missing id)) never = absurd never
   value_leads (Err (NotACommit id)) never = absurd never
 
--- a node that is up has pushes, and one that is down has none
-pushes_of : (content : FileMap) (slots : List (Option SessionText)) (live : Option Slots) → IsLive content slots true live → (pushes : Slots) × (live ≡ Some pushes)
-pushes_of content slots None never = absurd never
-pushes_of content slots (Some pushes) holds = (pushes, refl)
-
-none_open : (content : FileMap) (slots : List (Option SessionText)) (live : Option Slots) → IsLive content slots false live → live ≡ None
-none_open content slots None is = refl
-none_open content slots (Some pushes) never = absurd never
-
 pub values_answer : ValuesAnswer
 values_answer old new slots after text e was_up is_up result spelled value why files same was up =
     record { each = λ n held. by n (subst (λ (b : Bool). HoldsShared old slots b n) was held) }
@@ -93,9 +70,4 @@ values_answer old new slots after text e was_up is_up result spelled value why f
 
 pub down_declines : DownDeclines
 down_declines old new slots after call was_up is_up other files same up was =
-    record { each = λ n held. by n (subst (λ (b : Bool). HoldsShared old slots b n) was held) }
-  where
-    by : (n : SharedNode) → HoldsShared old slots false n → Leads n call new after is_up (Quietly (Declined 112))
-    by n held =
-        leads_same old new slots after n call is_up false (Quietly (Declined 112)) files same (up ∙ was)
-        (n, Declined 112, None, held, record { answer = refl; sent = refl }, λ sound bare. SharedAnswers.down (none_open old slots n.live held.live) other refl refl refl)
+    down_answers call (Quietly (Declined 112)) other (record { answer = refl; sent = refl }) old new slots after was_up is_up files same up was

@@ -1,10 +1,10 @@
 -- What is refused as an answer is, and what clean files are not refused for.
-use Rattle.std.proofs.Common.{◌≡◌, inl, inr, ℕ, List, Option, Some, None, Result, Ok, Err, refl, sym, ap, ◌∙◌}
+use Rattle.std.proofs.Common.{◌≡◌, inl, inr, ℕ, List, Option, Some, None, Result, refl, sym, ap, ◌∙◌}
 use Rattle.std.specs.Prelude.{IfErr, IsErrAnd, codes, option_and_then, option_map}
 use Rattle.std.specs.FinMap.{get}
 use Rattle.std.proofs.lemmas.Option.{none-some, same_Some}
-use Rattle.vc_answer.specs.AnswerFault.{BlamesRefs, from_refs}
-use Rattle.vc_answer.specs.declared.fault.AnswerFault.{AnswerFault}
+use Rattle.vc_pack.specs.AnswerFault.{BlamesRefs, from_refs}
+use Rattle.vc_pack.specs.declared.fault.AnswerFault.{AnswerFault}
 use Rattle.vc_files.specs.FileMap.{FileMap}
 use Rattle.vc_node.specs.Clean.{IsClean}
 use Rattle.vc_refs.specs.Head.{IsBadHead, IsHeadLoop, head_of, read_head, said}
@@ -13,6 +13,7 @@ use Rattle.vc_refs.specs.Refs.{SpellsRefs}
 use Rattle.vc_refs.specs.declared.faults.RefFault.{RefFault}
 use Rattle.vc_refs.specs.declared.faults.RefFault.TheVariants as ref
 use Rattle.vc_refs.specs.declared.heads.Head.{Head}
+use Rattle.vc_shared.proofs.FaultLemmas.{err_as}
 use Rattle.vc_shared.specs.Faults.{of_answer}
 use Rattle.vc_shared.specs.Serving.{IsRefusedList}
 use Rattle.vc_shared.specs.declared.fault.SharedFault.{SharedFault}
@@ -20,8 +21,7 @@ use Rattle.vc_shared.specs.declared.fault.SharedFault.{SharedFault}
 -- ---- what is refused
 pub refuses : {T : Type 0} (Blames : AnswerFault → Type 0) (f : AnswerFault) (q : Result T SharedFault) → IsErrAnd q (λ e. e ≡ of_answer f) → Blames f
     → IfErr q (λ e. (g : AnswerFault) × (e ≡ of_answer g) × Blames g)
-refuses Blames f (Ok x) is why = tt
-refuses Blames f (Err e) is why = (f, is, why)
+refuses Blames f q is why = err_as (λ e. (g : AnswerFault) × (e ≡ of_answer g) × Blames g) (of_answer f) q is (f, refl, why)
 
 -- where each file of the refs can be read, a look at HEAD's ref is refused for HEAD's own file alone
 pub head_blames : (content : FileMap) → SpellsRefs content → (e : RefFault) → BlamesHeadValue content e → IsRefusedList content (from_refs e)

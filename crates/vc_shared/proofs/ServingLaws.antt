@@ -1,13 +1,13 @@
 -- What is answered to a list and to a want is what the machine answers.
-use Rattle.std.proofs.Common.{◌≡◌, ◌++◌, ◌∷◌, ℕ, arith, Bool, true, false, List, [], map, Option, Some, None, Result, Ok, Err, refl, sym, ap, ◌∙◌, subst, Contains, true≢false}
+use Rattle.std.proofs.Common.{◌≡◌, ◌++◌, ◌∷◌, ℕ, arith, Bool, true, false, List, [], map, Option, Some, Result, Ok, Err, refl, sym, ap, ◌∙◌, subst, Contains, true≢false}
 use Rattle.std.specs.Prelude.{IfErr, IfOk, Vec, is_some, option_map}
 use Rattle.std.specs.Global.{Global}
 use Rattle.std.proofs.lemmas.List.Elements.{Contains-append_right}
-use Rattle.vc_answer.specs.Answer.{IsNotOurs, IsOurs}
-use Rattle.vc_answer.specs.AnswerFault.{IsRefusedAnswer}
-use Rattle.vc_answer.specs.Picked.{IsFirst}
-use Rattle.vc_answer.specs.declared.fault.AnswerFault.{AnswerFault}
-use Rattle.vc_answer.specs.declared.fault.AnswerFault.TheVariants as answer
+use Rattle.vc_pack.specs.Answer.{IsNotOurs, IsOurs}
+use Rattle.vc_pack.specs.AnswerFault.{IsRefusedAnswer}
+use Rattle.vc_pack.specs.Picked.{IsFirst}
+use Rattle.vc_pack.specs.declared.fault.AnswerFault.{AnswerFault}
+use Rattle.vc_pack.specs.declared.fault.AnswerFault.TheVariants as answer
 use Rattle.vc_fetch.specs.Want.{WantText}
 use Rattle.vc_files.specs.FileMap.{FileMap}
 use Rattle.vc_files.specs.declared.faults.Fault.{Fault as FilesFault}
@@ -17,7 +17,7 @@ use Rattle.vc_message.specs.AnyMessage.{SpellsMessage, a_pack, a_want, an_advert
 use Rattle.vc_model.specs.Message.{Message}
 use Rattle.vc_model.specs.Message.Message.{Advert, ListRefs, Pack, Want}
 use Rattle.vc_model.specs.Node.{Answer, Deed}
-use Rattle.vc_model.specs.Node.Answer.{Declined, Did, Fault}
+use Rattle.vc_model.specs.Node.Answer.{Declined, Did}
 use Rattle.vc_model.specs.Node.Reply.{Sends}
 use Rattle.vc_model.specs.Push.{Slots}
 use Rattle.vc_model.specs.Repository.{IsBare, IsSound, no_effect}
@@ -28,10 +28,10 @@ use Rattle.vc_model.specs.SharedCall.SharedCall.{Accept}
 use Rattle.vc_node.specs.Machine.{failure_of}
 use Rattle.vc_object.specs.declared.id.ObjectId.{ObjectId}
 use Rattle.vc_pkt.specs.Message.{IsSpelledBy}
-use Rattle.vc_rules.proofs.GitLaws.{git_rules}
 use Rattle.vc_rules.proofs.JoinLemmas.{none_added}
 use Rattle.vc_rules.specs.Git.{git}
 use Rattle.vc_session.specs.Session.{SessionText}
+use Rattle.vc_shared.proofs.CallLemmas.{Leads, fault_leads, refused_leads}
 use Rattle.vc_shared.proofs.ServingFaults.{no_blame}
 use Rattle.vc_shared.proofs.ServingPacks.{brought, machine_first, machine_pack, machine_sent, machine_wants, not_ours, ours_there, written_pack}
 use Rattle.vc_shared.proofs.ServingRefs.{machine_advert, written_advert}
@@ -47,17 +47,11 @@ use Rattle.vc_store.specs.declared.faults.StoreFault.TheVariants as store
 abbrev machine_want : WantText → Message
 machine_want want = Want (map bytes_of_id want.wants) (map bytes_of_id want.haves)
 
--- what the message leads to: some node is held then, and where the node before was sound and bare, it is the machine's
-abbrev Leads : SharedNode → Message → FileMap → List (Option SessionText) → Bool → (Answer → Option Message → Type 0) → Type 0
-Leads n m content slots is_up shows =
-    (after : SharedNode) × (a : Answer) × (sends : Option Message) × HoldsShared content slots is_up after × shows a sends
-    × (IsSound git n.repository → IsBare git n.repository → SharedAnswers git git_rules n (Accept m) a after sends)
-
 module _ (content : FileMap) (slots : List (Option SessionText)) (n : SharedNode) (pushes : Slots) (held : HoldsShared content slots true n) (live : n.live ≡ Some pushes) where
   -- a message is sent, and nothing changes
   sent : (m reply : Message) (bytes : List ℕ) → SendsBytes bytes (Did Sends) (Some reply)
       → (IsSound git n.repository → IsBare git n.repository → shared.Serves git n.repository pushes m (record { effect = no_effect; left = pushes; sends = Some reply; reply = Sends }))
-      → Leads n m content slots true (SendsBytes bytes)
+      → Leads n (Accept m) content slots true (SendsBytes bytes)
   sent m reply bytes written serves =
       let d : Deed Slots = record { effect = no_effect; left = pushes; sends = Some reply; reply = Sends } in (
         n,
@@ -69,22 +63,15 @@ module _ (content : FileMap) (slots : List (Option SessionText)) (n : SharedNode
       )
 
   -- a fault ended the call, and the node is down
-  stopped : (m : Message) (f : FilesFault) → Leads n m content slots false (Quietly (fault_answer (of_device f)))
-  stopped m f = (
-    record { repository = n.repository; live = None },
-    Fault (failure_of f),
-    None,
-    record { spells = held.spells; clean = held.clean; live = tt },
-    record { answer = refl; sent = refl },
-    λ sound bare. SharedAnswers.faulted pushes (failure_of f) live (λ never. cc never) refl refl refl,
-  )
+  stopped : (m : Message) (f : FilesFault) → Leads n (Accept m) content slots false (Quietly (fault_answer (of_device f)))
+  stopped m f = fault_leads (Accept m) n pushes live content slots (λ never. cc never) held.spells held.clean (failure_of f)
 
   -- a refusal changes nothing
-  refused : (m : Message) (k : ℕ) → (IsSound git n.repository → IsBare git n.repository → shared.ServesNot git n.repository pushes m k) → Leads n m content slots true (Quietly (Declined k))
-  refused m k why = (n, Declined k, None, held, record { answer = refl; sent = refl }, λ sound bare. SharedAnswers.refused pushes k live (why sound bare) refl refl refl)
+  refused : (m : Message) (k : ℕ) → (IsSound git n.repository → IsBare git n.repository → shared.ServesNot git n.repository pushes m k) → Leads n (Accept m) content slots true (Quietly (Declined k))
+  refused m k why = refused_leads (Accept m) n pushes live content slots true held k why
 
   -- ---- a list
-  listed : (bytes : List ℕ) → IsListed content bytes → Leads n ListRefs content slots true (SendsBytes bytes)
+  listed : (bytes : List ℕ) → IsListed content bytes → Leads n (Accept ListRefs) content slots true (SendsBytes bytes)
   listed bytes is =
       let message : Message = Advert (shared.head_value n.repository) n.repository.refs in
       sent ListRefs message bytes
@@ -97,7 +84,7 @@ module _ (content : FileMap) (slots : List (Option SessionText)) (n : SharedNode
       (λ sound bare. refl)
 
   -- over clean files a list is refused for a fault alone
-  unlisted : (f : AnswerFault) → IsRefusedList content f → Leads n ListRefs content slots (up_after {T = Vec ℕ Global} (Err (of_answer f))) (Quietly (fault_answer (of_answer f)))
+  unlisted : (f : AnswerFault) → IsRefusedList content f → Leads n (Accept ListRefs) content slots (up_after {T = Vec ℕ Global} (Err (of_answer f))) (Quietly (fault_answer (of_answer f)))
   unlisted (answer.NotOurs id) why = absurd why
   unlisted (answer.Incomplete id) why = absurd why
   unlisted (answer.Refs e) why = absurd (no_blame content held.clean held.spells.head held.spells.head_shown e why)
@@ -106,7 +93,7 @@ module _ (content : FileMap) (slots : List (Option SessionText)) (n : SharedNode
 
   -- ---- a want
   module _ (want : WantText) where
-    answered : (read bytes : List ℕ) → IsSpelledBy SpellsMessage (a_want want) read → IsAnswered content want bytes → Leads n (machine_want want) content slots true (SendsBytes bytes)
+    answered : (read bytes : List ℕ) → IsSpelledBy SpellsMessage (a_want want) read → IsAnswered content want bytes → Leads n (Accept (machine_want want)) content slots true (SendsBytes bytes)
     answered read bytes (lines, each, spells) is =
         let objects = brought content want is.pack is.answers in
         let ack = option_map bytes_of_id is.pack.ack in
@@ -139,7 +126,7 @@ module _ (content : FileMap) (slots : List (Option SessionText)) (n : SharedNode
 
     -- over clean files of a sound and bare repository nothing else is refused, but for a fault
     unanswered : (f : AnswerFault) → IsRefusedAnswer content want.wants f
-        → Leads n (machine_want want) content slots (up_after {T = Vec ℕ Global} (Err (of_answer f))) (Quietly (fault_answer (of_answer f)))
+        → Leads n (Accept (machine_want want)) content slots (up_after {T = Vec ℕ Global} (Err (of_answer f))) (Quietly (fault_answer (of_answer f)))
     unanswered (answer.NotOurs id) why = refused (machine_want want) 90 (other id why)
     unanswered (answer.Incomplete id) why = absurd why
     unanswered (answer.Refs e) why = absurd (no_blame content held.clean held.spells.head held.spells.head_shown e why)
@@ -160,7 +147,7 @@ module _ (content : FileMap) (slots : List (Option SessionText)) where
   list_leads (Err e) is (f, told, why) = record {
     each = λ n held.
         let up = pushes_of content slots n.live held.live in
-        subst (λ (x : SharedFault). Leads n ListRefs content slots (up_after {T = Vec ℕ Global} (Err x)) (Quietly (fault_answer x))) (sym told) (unlisted content slots n up.0 held up.1 f why);
+        subst (λ (x : SharedFault). Leads n (Accept ListRefs) content slots (up_after {T = Vec ℕ Global} (Err x)) (Quietly (fault_answer x))) (sym told) (unlisted content slots n up.0 held up.1 f why);
   }
 
   want_leads : (want : WantText) (read : List ℕ) → IsSpelledBy SpellsMessage (a_want want) read → (result : Result (Vec ℕ Global) SharedFault)
@@ -171,7 +158,7 @@ module _ (content : FileMap) (slots : List (Option SessionText)) where
     each = λ n held.
         let up = pushes_of content slots n.live held.live in
         subst
-        (λ (x : SharedFault). Leads n (machine_want want) content slots (up_after {T = Vec ℕ Global} (Err x)) (Quietly (fault_answer x)))
+        (λ (x : SharedFault). Leads n (Accept (machine_want want)) content slots (up_after {T = Vec ℕ Global} (Err x)) (Quietly (fault_answer x)))
         (sym told) (unanswered content slots n up.0 held up.1 want f why);
   }
 

@@ -8,22 +8,22 @@ use Rattle.std.specs.List.Sorted.{IsStrictlySortedBy}
 use Rattle.std.specs.Ordering.{is_eq, ordering_reverse}
 use Rattle.std.specs.declared.cmp.Ordering.TheVariants.{Less}
 use Rattle.std.proofs.lemmas.List.Elements.{Contains-append_cases, Contains-append_right, Contains-push_cases}
-use Rattle.std.proofs.lemmas.Option.{none-some, same_Some}
-use Rattle.vc_answer.specs.Answer.{IsFirstCounted, IsNotOurs, IsOurs, IsRefValue, IsSent}
+use Rattle.std.proofs.lemmas.Option.{same_Some}
+use Rattle.vc_pack.specs.Answer.{IsFirstCounted, IsNotOurs, IsOurs, IsRefValue, IsSent}
 use Rattle.vc_fetch.specs.Pack.{IsAckId, IsWrittenPack, PackText, is_object}
 use Rattle.vc_fetch.specs.Want.{AreIdLines, SpellsWant, WantText}
 use Rattle.vc_fetch.proofs.Packs.{ok_object}
 use Rattle.vc_files.specs.FileMap.{FileMap}
-use Rattle.vc_format.specs.Git.{bytes_of_id, id_of_bytes, kind_of}
+use Rattle.vc_format.specs.Git.{bytes_of_id, id_of_bytes}
 use Rattle.vc_graph.specs.Graph as graph
-use Rattle.vc_graph.specs.Graph.Reaches.{itself, onward}
+use Rattle.vc_graph.specs.Graph.Reaches.{itself}
+use Rattle.vc_message.proofs.MachineObjects.{some_once}
 use Rattle.vc_message.proofs.MachineTexts.{all_in}
 use Rattle.vc_message.specs.Machine.{IsPack}
 use Rattle.vc_model.specs.Message.Message.{Pack}
 use Rattle.vc_model.specs.Node.{IsDifference, ReachedFrom}
-use Rattle.vc_model.specs.Object.{Id, Kind, Object, Objects, stored}
-use Rattle.vc_model.specs.Object.Kind.{Blob, Commit, Tag, Tree}
-use Rattle.vc_model.specs.Reach.{Links, Path, Reaches}
+use Rattle.vc_model.specs.Object.{Id, Objects, stored}
+use Rattle.vc_model.specs.Reach.{Links, Reaches}
 use Rattle.vc_model.specs.Refs.{Head as MachineHead}
 use Rattle.vc_model.specs.Refs.Head.{Detached, OnBranch}
 use Rattle.vc_model.specs.Repository.{IsBare, IsSound, Repository}
@@ -32,23 +32,21 @@ use Rattle.vc_node.specs.Machine.{Spells, machine_head}
 use Rattle.vc_node.specs.Shown.{shown}
 use Rattle.vc_object.specs.Decoding.{StoredObject}
 use Rattle.vc_object.specs.Lines.{IsId}
-use Rattle.vc_object.specs.Links.{links_of}
 use Rattle.vc_object.specs.Object.{IsObject}
 use Rattle.vc_object.specs.ObjectId.{IsSortedByName, id_cmp}
 use Rattle.vc_object.specs.ObjectMap.{links_in}
 use Rattle.vc_object.specs.declared.id.ObjectId.{ObjectId}
 use Rattle.vc_object.proofs.IdLemmas.{id_cmp_total}
-use Rattle.vc_object.proofs.ObjectMaps.{links_in-some}
 use Rattle.vc_pkt.specs.Carried.{object_named, stored_name}
 use Rattle.vc_pkt.specs.Line.{LineText, flush, text}
 use Rattle.vc_refs.specs.declared.heads.Head.{Head}
 use Rattle.vc_refs.specs.declared.heads.Head.TheVariants as head
 use Rattle.vc_rules.proofs.CarriedLemmas.{each_is_brought}
-use Rattle.vc_rules.proofs.ReachLemmas.{path_from}
+use Rattle.vc_rules.proofs.ReachLemmas.{path_from, path_to}
 use Rattle.vc_rules.proofs.RefLemmas.{that_id}
 use Rattle.vc_rules.proofs.SoundLemmas.{objects_sound}
-use Rattle.vc_rules.specs.Git.{git, machine_kind, stored_of}
-use Rattle.vc_shared.proofs.ServingRefs.{sized_id}
+use Rattle.vc_rules.specs.Git.{git, stored_of}
+use Rattle.vc_shared.proofs.PushingTexts.{read_id}
 use Rattle.vc_shared.specs.Serving.{IsPackFor}
 use Rattle.vc_store.specs.Store.{objects}
 
@@ -57,7 +55,7 @@ have_ids : (word : List ℕ) (ids : List ObjectId) (lines : List LineText) → A
 have_ids word [] lines h = tt
 have_ids word (id ∷ ids) [] h = absurd h
 have_ids word (id ∷ ids) (flush ∷ lines) h = absurd h
-have_ids word (id ∷ ids) (text line ∷ lines) h = (sized_id h.0.digits id h.0.writes, have_ids word ids lines h.1)
+have_ids word (id ∷ ids) (text line ∷ lines) h = (read_id h.0.digits id h.0.writes, have_ids word ids lines h.1)
 
 one_of : (P : ObjectId → Type 0) (before after : List ObjectId) (id : ObjectId) → AllByRecursion P (before ++ id ∷ after) → P id
 one_of P [] after id h = h.0
@@ -122,24 +120,6 @@ module _ (content : FileMap) (want : WantText) (t : PackText) (answers : IsPackF
   unfolding brought
   brought_is x = (each_is_brought (Ok t.objects)).1 x ∙ sym (all_in t.objects (id_of_bytes x) grammar)
 
--- ---- an object of the machine is known by how it is stored
-kind_once : (k : Kind) → machine_kind (kind_of k) ≡ k
-kind_once Blob = refl
-kind_once Tree = refl
-kind_once Commit = refl
-kind_once Tag = refl
-
-stored_back : StoredObject → Object
-stored_back o = record { kind = machine_kind o.kind; body = o.body }
-
-stored_again : (o : Object) → stored_back (stored_of o) ≡ o
-unfolding stored_back
-stored_again o = ap (λ (k : Kind). record { kind = k; body = o.body }) (kind_once o.kind)
-
-some_stored : (found : Option Object) (o : Object) → option_map stored_of found ≡ Some (stored_of o) → found ≡ Some o
-some_stored None o e = absurd (none-some (stored_of o) e)
-some_stored (Some p) o e = ap Some (sym (stored_again p) ∙ ap stored_back (same_Some (stored_of p) (stored_of o) e) ∙ stored_again o)
-
 -- ---- lists of ids
 pub id_among : (ids : List ObjectId) (x : Id) → Contains (map bytes_of_id ids) x → Contains ids (id_of_bytes x)
 id_among [] x h = absurd (let k = h.1 in omega (arith, k))
@@ -167,18 +147,8 @@ all_bytes P (id ∷ ids) h = (h id (0, omega arith, refl), all_bytes P ids (λ x
 
 -- ---- what is reached
 module _ (content : FileMap) (r : Repository) (spells : Spells (shown content) r) where
-  link_to : (x y : Id) → Links git (stored r.objects) x y → graph.LinksTo (links_in (objects content)) (id_of_bytes x) (id_of_bytes y)
-  link_to x y l =
-      let found : objects content (id_of_bytes x) ≡ Some (stored_of l.object) = spells.objects x ∙ ap (option_map stored_of) l.found in
-      (links_of (kind_of l.object.kind) l.object.body, links_in-some (objects content) (id_of_bytes x) (stored_of l.object) found, id_among (links_of (kind_of l.object.kind) l.object.body) y l.link)
-
-  walk_to : (zs : List Id) (from x y : Id) → graph.Reaches (links_in (objects content)) (id_of_bytes from) (id_of_bytes x) → Path (Links git (stored r.objects)) zs x y
-      → graph.Reaches (links_in (objects content)) (id_of_bytes from) (id_of_bytes y)
-  walk_to [] from x y h p = subst (λ (w : Id). graph.Reaches (links_in (objects content)) (id_of_bytes from) (id_of_bytes w)) p h
-  walk_to (z ∷ zs) from x y h p = walk_to zs from z y (onward h (link_to x z p.0)) p.1
-
   reach_to : (x y : Id) → Reaches (Links git (stored r.objects)) x y → graph.Reaches (links_in (objects content)) (id_of_bytes x) (id_of_bytes y)
-  reach_to x y p = walk_to p.0 x x y itself p.1
+  reach_to x y p = path_to (objects content) (stored r.objects) spells.objects p.0 x x y itself p.1
 
   reach_from : (x y : ObjectId) → graph.Reaches (links_in (objects content)) x y → Reaches (Links git (stored r.objects)) x.0 y.0
   reach_from x y h = path_from (objects content) (stored r.objects) spells.objects x y h
@@ -244,9 +214,9 @@ module _ (content : FileMap) (r : Repository) (spells : Spells (shown content) r
         only = λ x o found.
             let sent = (answers.sent (id_of_bytes x) (stored_of o)).0 (sym (brought_is content want t answers x) ∙ ap (option_map stored_of) found) in
             let reached = sent_to x sent.0 in
-            (some_stored (get r.objects x) o (sym (spells.objects x) ∙ sent.1), reached.0, reached.1);
+            (some_once (get r.objects x) (Some o) (sym (spells.objects x) ∙ sent.1), reached.0, reached.1);
         all = λ x o found wanted lacked.
-            some_stored (get (brought content want t answers) x) o
+            some_once (get (brought content want t answers) x) (Some o)
             (brought_is content want t answers x ∙ (answers.sent (id_of_bytes x) (stored_of o)).1 (sent_from x wanted lacked, spells.objects x ∙ ap (option_map stored_of) found));
       }
 

@@ -1,25 +1,20 @@
 -- The refs that a list is answered with: they are all told, and as the machine tells them.
-use Rattle.std.proofs.Common.{◌≡◌, ◌≢◌, ℕ, ◌≤◌, ◌-◌, ◌==◌, ◌||◌, ◌&&◌, arith, Bool, true, false, cond, nat_eq, List, [], ◌∷◌, ◌++◌, length, take, drop, Option, Some, None, Result, Ok, Err, refl, sym, ap, ◌∙◌, subst, true≢false}
+use Rattle.std.proofs.Common.{◌≡◌, ◌≢◌, ℕ, ◌≤◌, ◌-◌, ◌==◌, ◌||◌, ◌&&◌, arith, Bool, true, false, cond, nat_eq, List, [], ◌∷◌, ◌++◌, length, take, drop, Option, Some, None, refl, sym, ap, ◌∙◌, subst, true≢false}
 use Rattle.std.specs.Prelude.{codes, option_and_then, option_map}
 use Rattle.std.specs.FinMap.{empty, find, get, get-empty, get-insert, insert, is_sorted}
 use Rattle.std.specs.FinMap as finite
 use Rattle.std.specs.FinMap.Entries.{below_all}
 use Rattle.std.specs.List.{ends_with, list_any, starts_with}
 use Rattle.std.specs.Option.{option_or}
-use Rattle.std.specs.Ordering.{eq_by_cmp, is_eq, is_lt, nat_cmp}
-use Rattle.std.specs.Result.{result_ok}
+use Rattle.std.specs.Ordering.{eq_by_cmp, nat_cmp}
 use Rattle.std.specs.Cmp.Lexicographic.{nat_list_cmp_total, slice_cmp}
 use Rattle.std.specs.Str.{bytes_eq, is_utf8}
 use Rattle.std.specs.declared.cmp.Ordering.{Ordering}
-use Rattle.std.specs.declared.cmp.Ordering.TheVariants.{Equal, Greater, Less}
-use Rattle.std.proofs.lemmas.Bool.{and_parts, false_from_ne_true, ltb-false, or_from, or_parts}
+use Rattle.std.proofs.lemmas.Bool.{and_parts, false_from_ne_true, ltb-false, or_from, or_parts, or_right}
 use Rattle.std.proofs.lemmas.Bool.Decides.{Decides-eqb, nat_tests}
 use Rattle.std.proofs.lemmas.List.Folds.{list_any-append}
 use Rattle.std.proofs.lemmas.Option.{none-some, same_Some}
 use Rattle.std.proofs.lemmas.Slice.Eq.{bytes_eq-Decides, ends_is}
-use Rattle.hex.specs.Hex.{decode_sized}
-use Rattle.hex.specs.declared.error.FromHexError.{FromHexError}
-use Rattle.hex.proofs.HexLemmas.{decode_of-ok, decode_sized-ok, decode_sized-twice}
 use Rattle.vc_fetch.specs.Advert.{AdvertText, IsHeadId, IsName, IsWrittenAdvert, IsWrittenRef, Ref, RefIds, is_break}
 use Rattle.vc_fetch.specs.Advert as advert
 use Rattle.vc_fetch.proofs.RefMaps.{same_name}
@@ -40,12 +35,14 @@ use Rattle.vc_refname.specs.RefName.{IsRefName, is_bad_byte, is_ref_name}
 use Rattle.vc_refname.specs.declared.fault.NameFault.TheVariants as rules
 use Rattle.vc_refname.proofs.BrokenRules.{legal_from_is_ref_name}
 use Rattle.vc_refs.specs.Head.{head_of, head_value, id_said, name_said, read_head, said}
-use Rattle.vc_refs.specs.RefFile.{id_in, id_of, without_lf}
+use Rattle.vc_refs.specs.RefFile.{id_in, without_lf}
 use Rattle.vc_refs.specs.RefMap.{is_ref}
 use Rattle.vc_refs.specs.Refs.{refs}
 use Rattle.vc_refs.specs.declared.heads.Head.{Head}
 use Rattle.vc_refs.specs.declared.heads.Head.TheVariants as head
 use Rattle.vc_refs.proofs.LayeredLemmas.{ref_legal, ref_whole}
+use Rattle.vc_refs.proofs.PackedLaws.{id_in-valid, whole_id}
+use Rattle.vc_refs.proofs.PackedLemmas.{find_below}
 use Rattle.vc_shared.specs.Serving.{TellsRefs}
 
 -- ---- refs that are set one after another
@@ -66,18 +63,6 @@ unfolding with_all
 with_all-push ids [] ref = refl
 with_all-push ids (other ∷ refs) ref = with_all-push (insert ids other.0 other.1) refs ref
 
-less_apart : (o : Ordering) → is_lt o ≡ true → is_eq o ≡ false
-less_apart Less h = refl
-less_apart Equal h = absurd (true≢false (sym h))
-less_apart Greater h = refl
-
--- a name that stands before all others is none of them
-none_below : (name : List ℕ) (refs : List Ref) → below_all by_bytes name refs ≡ true → find by_bytes name refs ≡ None
-none_below name [] below = refl
-none_below name (ref ∷ refs) below =
-    let parts = and_parts (is_lt (by_bytes name ref.0)) (below_all by_bytes name refs) below in
-    ap (λ b. cond b (Some ref.1) (find by_bytes name refs)) (less_apart (by_bytes name ref.0) parts.0) ∙ none_below name refs parts.1
-
 -- a list in order has each name once, so it does not matter which ref of a name counts
 pub with_all-found : (refs : List Ref) (ids : RefIds) (name : List ℕ) → is_sorted by_bytes refs ≡ true → get (with_all ids refs) name ≡ option_or (find by_bytes name refs) (get ids name)
 unfolding with_all
@@ -91,7 +76,7 @@ with_all-found (ref ∷ refs) ids name sorted =
     by : (b : Bool) → eq_by_cmp by_bytes name ref.0 ≡ b → below_all by_bytes ref.0 refs ≡ true
         → option_or (find by_bytes name refs) (cond b (Some ref.1) (get ids name)) ≡ option_or (cond b (Some ref.1) (find by_bytes name refs)) (get ids name)
     by true is below =
-        let none : find by_bytes name refs ≡ None = ap (λ n. find by_bytes n refs) (same_name name ref.0 is) ∙ none_below ref.0 refs below in
+        let none : find by_bytes name refs ≡ None = ap (λ n. find by_bytes n refs) (same_name name ref.0 is) ∙ find_below ref.0 refs below in
         ap (λ o. option_or o (Some ref.1)) none
     by false is below = refl
 
@@ -104,20 +89,6 @@ set_all refs name sorted = with_all-found refs empty name sorted ∙ ap (option_
     or_none (Some id) = refl
 
 -- ---- ids of files
-pub sized_id : (digits : List ℕ) (id : ObjectId) → decode_sized digits 20 ≡ Ok id.0 → IsId id
-sized_id digits id e =
-    let long = decode_sized-ok digits 20 id.0 e in
-    let ok = decode_of-ok digits id.0 (sym (decode_sized-twice digits 20 long) ∙ e) in
-    let sized = ok.2 in
-    record { sized = omega (arith, sized, long); bytes = ok.3 }
-
-spelled_id : (text : List ℕ) (id : ObjectId) → id_in text ≡ Some id → IsId id
-spelled_id text id = by (decode_sized (without_lf text) 20) refl
-  where
-    by : (r : Result (List ℕ) FromHexError) → decode_sized (without_lf text) 20 ≡ r → option_map id_of (result_ok r) ≡ Some id → IsId id
-    by (Ok bytes) is e = sized_id (without_lf text) id (is ∙ ap (λ (i : ObjectId). Ok i.0) (same_Some (id_of bytes) id e))
-    by (Err x) is e = absurd (none-some id e)
-
 -- a text that names a branch, or nothing, says no id
 no_id_named : {H : Type 0} (says : H → Option Head) (named : List ℕ) (itself branch nothing : H) (self legal : Bool) (id : ObjectId) → says (cond self itself (cond legal branch nothing)) ≡ Some (head.Id id)
     → says itself ≡ None → says branch ≡ Some (head.Branch named) → says nothing ≡ None → ⊥
@@ -134,7 +105,7 @@ head_id content id = by (finite.get content (codes "HEAD"))
     by_id text None is says = absurd (none-some (head.Id id) says)
     by_id text (Some x) is says =
         let same : x ≡ id = let h : ◌≡◌ {A = Option Head} (Some (head.Id x)) (Some (head.Id id)) = says in cc h in
-        spelled_id text id (is ∙ ap Some same)
+        whole_id id (id_in-valid text id (is ∙ ap Some same))
 
     by_kind : (text : List ℕ) (b : Bool) → said (cond b (name_said (without_lf (drop 5 text))) (id_said (id_in text))) ≡ Some (head.Id id) → IsId id
     by_kind text true says =
@@ -179,12 +150,8 @@ module _ (name : List ℕ) (legal : is_ref name ≡ true) where
       (λ ends.
       let front = take (length name - 3) name in
       let is : name ≡ front ++ codes "^{}" = (ends_is Decides-eqb name (codes "^{}") (ends_with nat_eq name (codes "^{}")) refl).0 ends in
-      let bad : list_any is_bad_byte name ≡ true = ap (list_any is_bad_byte) is ∙ list_any-append is_bad_byte front (codes "^{}") ∙ or_true (list_any is_bad_byte front) in
+      let bad : list_any is_bad_byte name ≡ true = ap (list_any is_bad_byte) is ∙ list_any-append is_bad_byte front (codes "^{}") ∙ or_right (list_any is_bad_byte front) true refl in
       true≢false (sym bad ∙ keeps rules.BadByte))
-    where
-      or_true : (b : Bool) → (b || true) ≡ true
-      or_true true = refl
-      or_true false = refl
 
   counts : advert.is_ref name ≡ true
   counts = rw (no_head, no_peel) refl

@@ -1,7 +1,7 @@
 -- What stands in the slots, before a step of the push in one of them and after it.
-use Rattle.std.proofs.Common.{◌≡◌, ℕ, zero, suc, ◌<◌, ◌≤◌, false, List, [], ◌∷◌, length, Option, Some, None, Result, Ok, Err, refl, sym, ap, ◌∙◌, subst, inl, inr, ◌⊎◌}
+use Rattle.std.proofs.Common.{◌≡◌, ℕ, ◌<◌, ◌≤◌, false, List, length, Option, Some, None, Result, Ok, Err, sym, ap, ◌∙◌, subst, inl, inr, ◌⊎◌}
 use Rattle.std.specs.Prelude.{IfOk, IfErr, slice_set, unwrap_or}
-use Rattle.std.proofs.lemmas.List.{set-get_or}
+use Rattle.std.proofs.lemmas.List.{set-get_or, set-set}
 use Rattle.std.proofs.lemmas.List.Elements.{All-get_or, All-set}
 use Rattle.std.proofs.lemmas.Option.{slice_get_past, unwrap_or-slice_get}
 use Rattle.vc_files.specs.FileMap.{FileMap}
@@ -17,16 +17,10 @@ use Rattle.vc_shared.specs.declared.fault.SharedFault.{SharedFault}
 use Rattle.vc_shared.specs.declared.stepping.Stepped.{Stepped}
 use Rattle.vc_shared.specs.declared.stepping.Stepped.TheVariants.{Checked, Migrated, Updated, Finished}
 
--- what is put in twice is there once
-set_again : {X : Type 0} (xs : List X) (i : ℕ) (x y : X) → slice_set (slice_set xs i x) i y ≡ slice_set xs i y
-set_again [] i x y = refl
-set_again (z ∷ xs) zero x y = refl
-set_again (z ∷ xs) (suc i) x y = ap (λ ys. z ∷ ys) (set_again xs i x y)
-
 -- what comes from a step of the push whose slot was emptied for it
 pub put_back : (slots mid after : List (Option SessionText)) (k : ℕ) (left v : Option SessionText) → mid ≡ slice_set slots k None → after ≡ slice_set mid k left → left ≡ v → after ≡ slice_set slots k v
 put_back slots mid after k left v taken put is =
-    put ∙ ap (λ (m : List (Option SessionText)). slice_set m k left) taken ∙ set_again slots k None left ∙ ap (λ (w : Option SessionText). slice_set slots k w) is
+    put ∙ ap (λ (m : List (Option SessionText)). slice_set m k left) taken ∙ set-set slots k None left ∙ ap (λ (w : Option SessionText). slice_set slots k w) is
 
 module _ (slots : List (Option SessionText)) (k : ℕ) where
   pub same_slot : (v : Option SessionText) → slot_of slots k ≡ v → slice_set slots k v ≡ slots

@@ -1,5 +1,5 @@
 -- A step of the push in a slot that was done is the machine's.
-use Rattle.std.proofs.Common.{◌≡◌, ◌≢◌, ◌<◌, arith, ℕ, Bool, true, cond, List, Option, Some, None, Ok, refl, sym, ap, ◌∙◌, subst, inl, inr}
+use Rattle.std.proofs.Common.{◌≡◌, ◌≢◌, ◌<◌, arith, ℕ, true, cond, List, Option, Some, None, Ok, refl, sym, ap, ◌∙◌, subst, inl, inr}
 use Rattle.std.specs.Prelude.{option_map, slice_set}
 use Rattle.std.specs.Cmp.{nat_cmp_total, eq_by_cmp_equiv}
 use Rattle.std.specs.FinMap.{get, get-remove, insert, remove, nat_cmp-IsAntisymmetric}
@@ -13,11 +13,11 @@ use Rattle.vc_message.specs.Machine.{IsReport as IsMachineReport, IsWritten, Tex
 use Rattle.vc_model.proofs.Maps.{insert_same, insert_other, remove_other, same_key}
 use Rattle.vc_model.specs.Message.{Message, Told}
 use Rattle.vc_model.specs.Message.Message.{Report}
-use Rattle.vc_model.specs.Node.{Answer, Deed, Reply}
+use Rattle.vc_model.specs.Node.{Deed, Reply}
 use Rattle.vc_model.specs.Node.Answer.{Did}
 use Rattle.vc_model.specs.Node.Reply.{MigratedAll, Passed, Sends, Updated as UpdatedOne}
 use Rattle.vc_model.specs.Push.{OpenPush, Slots}
-use Rattle.vc_model.specs.Repository.{IsBare, IsSound, Repository, no_effect}
+use Rattle.vc_model.specs.Repository.{Repository, no_effect}
 use Rattle.vc_model.specs.Shared.{SharedNode}
 use Rattle.vc_model.specs.SharedCall.{SharedAnswers}
 use Rattle.vc_model.specs.SharedCall.SharedCall.{StepOf}
@@ -26,10 +26,8 @@ use Rattle.vc_pkt.specs.Line.{spelling}
 use Rattle.vc_pkt.specs.Message.{IsSpelledBy}
 use Rattle.vc_push.specs.Report.{IsWrittenReport, ReportText, report_lines, unpack_error}
 use Rattle.vc_push.specs.ReportView.{report_text}
-use Rattle.vc_rules.proofs.GitLaws.{git_rules}
 use Rattle.vc_rules.proofs.JoinLemmas.{none_added}
 use Rattle.vc_rules.proofs.OpenPushLaws.{steps_agree}
-use Rattle.vc_rules.specs.Git.{git}
 use Rattle.vc_rules.specs.OpenPushes.{AreToldAs, HoldsContent, HoldsPush, IsPushStep, IsPushEnd, StepsAs}
 use Rattle.vc_rules.specs.Verdicts.{machine_reason}
 use Rattle.vc_session.specs.Clean.{IsQuarantineClean, MakesNoneBad}
@@ -38,20 +36,16 @@ use Rattle.vc_session.specs.Session.{IsSession, SessionText}
 use Rattle.vc_session.specs.Steps.{IsReport, Steps, fault_number}
 use Rattle.vc_session.specs.declared.stage.Stepped.{Stepped as SessionStep}
 use Rattle.vc_session.specs.declared.stage.Stepped.TheVariants as session
-use Rattle.vc_shared.proofs.HoldingLemmas.{slot_set, slot_other, slot_stays, content_of, spells_on, steps_beside}
-use Rattle.vc_node.proofs.ReceivingClone.{clean_on}
+use Rattle.vc_shared.proofs.CallLemmas.{Leads}
+use Rattle.vc_shared.proofs.HoldingLemmas.{slot_set, slot_other, slot_stays, steps_beside}
+use Rattle.vc_node.proofs.CloneCallLemmas.{held_content}
+use Rattle.vc_node.proofs.ReceivingClone.{clean_on, spells_on}
 use Rattle.vc_shared.specs.Calls.{Quietly, SendsBytes, SteppedAs}
 use Rattle.vc_shared.specs.Holding.{HoldsShared, HoldsSlot, HoldsSlots}
 use Rattle.vc_shared.specs.Slots.{slot_of}
 use Rattle.vc_shared.specs.Stepping.{Tells, left_by}
 use Rattle.vc_shared.specs.declared.stepping.Stepped.{Stepped}
 use Rattle.vc_shared.specs.declared.stepping.Stepped.TheVariants.{Checked, Migrated, Updated, Finished}
-
--- what the call leads to: some node is held then, and where the node before was sound and bare, it is the machine's
-abbrev pub Leads : SharedNode → ℕ → FileMap → List (Option SessionText) → Bool → (Answer → Option Message → Type 0) → Type 0
-Leads n k new after is_up shows =
-    (m : SharedNode) × (a : Answer) × (sends : Option Message) × HoldsShared new after is_up m × shows a sends
-    × (IsSound git n.repository → IsBare git n.repository → SharedAnswers git git_rules n (StepOf k) a m sends)
 
 -- ---- what is sent at the end
 pub written_by : (m : Message) (t : MessageText) (bytes : List ℕ) → TextOf m t → IsWrittenMessage t → bytes ≡ flat_map spelling (message_lines t) → IsWritten m bytes
@@ -101,7 +95,7 @@ module _ (old new : FileMap) (slots : List (Option SessionText)) (n : SharedNode
 
   -- a step before the end
   going : (reply : Reply) (is_session : IsSession t) (same : t.slot ≡ k) → IsPushStep new t reply n.repository p
-      → Leads n k new (slice_set slots k (Some t)) true (Quietly (Did reply))
+      → Leads n (StepOf k) new (slice_set slots k (Some t)) true (Quietly (Did reply))
   going reply is_session same step =
       let pushes_then : Slots = insert pushes k step.left in
       let m : SharedNode = record { repository = step.after; live = Some pushes_then } in
@@ -120,7 +114,7 @@ module _ (old new : FileMap) (slots : List (Option SessionText)) (n : SharedNode
 
   -- the end
   ended : (report : ReportText) (bytes : List ℕ) → IsDropped k new → IsPushEnd new report n.repository p → IsWrittenReport report → bytes ≡ flat_map spelling (report_lines report)
-      → Leads n k new (slice_set slots k None) true (SendsBytes bytes)
+      → Leads n (StepOf k) new (slice_set slots k None) true (SendsBytes bytes)
   ended report bytes dropped step written spelled =
       let pushes_then : Slots = remove pushes k in
       let m : SharedNode = record { repository = n.repository; live = Some pushes_then } in
@@ -142,24 +136,24 @@ module _ (old new : FileMap) (slots after : List (Option SessionText)) (n : Shar
     (at : s.slot ≡ k) (push : HoldsPush old s p) (clean : IsQuarantineClean old k) (bad : MakesNoneBad old new) (is_session : IsSession t)
     (written : (report : ReportText) → IsReport s report → IsWrittenReport report) where
   step : (did : SessionStep) → Steps old new s t did → StepsAs did new t n.repository p
-  step did h = steps_agree old new s t did n.repository p (content_of old n.repository held.spells) push h is_session
+  step did h = steps_agree old new s t did n.repository p (held_content old n.repository held.spells) push h is_session
 
-  goes : (did : SessionStep) → Steps old new s t did → (reply : Reply) → t.slot ≡ s.slot → IsPushStep new t reply n.repository p → after ≡ slice_set slots k (Some t) → Leads n k new after true (Quietly (Did reply))
+  goes : (did : SessionStep) → Steps old new s t did → (reply : Reply) → t.slot ≡ s.slot → IsPushStep new t reply n.repository p → after ≡ slice_set slots k (Some t) → Leads n (StepOf k) new after true (Quietly (Did reply))
   goes did h reply same step left =
-      subst (λ (xs : List (Option SessionText)). Leads n k new xs true (Quietly (Did reply))) (sym left)
+      subst (λ (xs : List (Option SessionText)). Leads n (StepOf k) new xs true (Quietly (Did reply))) (sym left)
       (going old new slots n pushes k s t p did held live holds small is at push clean h bad reply is_session (same ∙ at) step)
 
-  pub stepped : (did : SessionStep) (told : Stepped) → Steps old new s t did → Tells did told → after ≡ slice_set slots k (left_by told t) → Leads n k new after true (SteppedAs (Ok told))
+  pub stepped : (did : SessionStep) (told : Stepped) → Steps old new s t did → Tells did told → after ≡ slice_set slots k (left_by told t) → Leads n (StepOf k) new after true (SteppedAs (Ok told))
   stepped (session.Checked c) (Checked passed) h tells left =
-      subst (λ (x : ℕ). Leads n k new after true (Quietly (Did (Passed x)))) (sym tells)
+      subst (λ (x : ℕ). Leads n (StepOf k) new after true (Quietly (Did (Passed x)))) (sym tells)
       (goes (session.Checked c) h (Passed c) (ap (λ (u : SessionText). u.slot) h.session) (step (session.Checked c) h) left)
   stepped session.Migrated Migrated h tells left = goes session.Migrated h MigratedAll (ap (λ (u : SessionText). u.slot) h.session) (step session.Migrated h) left
   stepped (session.Updated name found) (Updated named reason) h tells left =
-      subst (λ (x : List ℕ). Leads n k new after true (Quietly (Did (UpdatedOne x (option_map machine_reason reason))))) (sym (ap (λ v. v.items) tells.0))
-      (subst (λ x. Leads n k new after true (Quietly (Did (UpdatedOne name.items (option_map machine_reason x))))) (sym tells.1)
+      subst (λ (x : List ℕ). Leads n (StepOf k) new after true (Quietly (Did (UpdatedOne x (option_map machine_reason reason))))) (sym (ap (λ v. v.items) tells.0))
+      (subst (λ x. Leads n (StepOf k) new after true (Quietly (Did (UpdatedOne name.items (option_map machine_reason x))))) (sym tells.1)
       (goes (session.Updated name found) h (UpdatedOne name.items (option_map machine_reason found)) (ap (λ (u : SessionText). u.slot) h.session) (step (session.Updated name found) h) left))
   stepped (session.Finished report) (Finished bytes) h tells left =
-      subst (λ (xs : List (Option SessionText)). Leads n k new xs true (SendsBytes bytes.items)) (sym left)
+      subst (λ (xs : List (Option SessionText)). Leads n (StepOf k) new xs true (SendsBytes bytes.items)) (sym left)
       (ended old new slots n pushes k s t p (session.Finished report) held live holds small is at push clean h bad (report_text report) bytes.items
       (subst (λ (j : ℕ). IsDropped j new) at h.dropped) (step (session.Finished report) h) (written (report_text report) h.report_is) tells)
   stepped (session.Checked c) Migrated h tells left = absurd tells

@@ -1,9 +1,8 @@
 -- A step of the push in a slot is the machine's: one that was done, one that a fault ended, and one of a slot where none is.
-use Rattle.std.proofs.Common.{◌≡◌, ◌≢◌, ◌<◌, arith, ℕ, Bool, true, false, length, List, [], Option, Some, None, Result, Ok, Err, IsSome, refl, sym, ap, ◌∙◌, subst, inl, inr, true≢false}
+use Rattle.std.proofs.Common.{◌≡◌, ◌≢◌, ◌<◌, arith, ℕ, Bool, true, false, List, [], Option, Some, None, Result, Ok, Err, IsSome, refl, sym, ap, ◌∙◌, subst, inl, inr, true≢false}
 use Rattle.std.specs.Prelude.{IfErr, IfOk, OnErr, is_some, not, unwrap_or}
 use Rattle.std.specs.FinMap.{get, insert}
-use Rattle.std.proofs.lemmas.List.Elements.{All-get_or}
-use Rattle.std.proofs.lemmas.Option.{slice_get_past, unwrap_or-slice_get}
+use Rattle.std.proofs.lemmas.Option.{slice_get_past}
 use Rattle.vc_files.specs.FileMap.{FileMap}
 use Rattle.vc_files.specs.declared.faults.Fault.{Fault as FilesFault}
 use Rattle.vc_files.specs.declared.faults.Fault.TheVariants.{Memory}
@@ -14,7 +13,7 @@ use Rattle.vc_model.specs.Node.Answer.{Declined, Fault}
 use Rattle.vc_model.specs.Node.Reply.{MigratedAll}
 use Rattle.vc_model.specs.Push.{OpenPush, Slots, Stage as MachineStage}
 use Rattle.vc_model.specs.Push.Stage.{Checked as MachineChecked, Migrated as MachineMigrated}
-use Rattle.vc_model.specs.Repository.{Effect, IsBare, IsSound}
+use Rattle.vc_model.specs.Repository.{Effect}
 use Rattle.vc_model.specs.Shared.{SharedNode, StepsPush as StepsMachine}
 use Rattle.vc_model.specs.SharedCall.{SharedAnswers, SharedCall}
 use Rattle.vc_model.specs.SharedCall.SharedCall.{Open, StepOf}
@@ -25,7 +24,6 @@ use Rattle.vc_object.specs.declared.id.ObjectId.{ObjectId}
 use Rattle.vc_push.specs.Report.{IsWrittenReport, ReportText}
 use Rattle.vc_refs.specs.declared.faults.RefFault.TheVariants as ref
 use Rattle.vc_rules.proofs.OpenPushLaws.{early_agree}
-use Rattle.vc_rules.proofs.GitLaws.{git_rules}
 use Rattle.vc_rules.specs.Git.{git}
 use Rattle.vc_rules.specs.OpenPushes.{EndsEarlyAs, HoldsContent, HoldsPush, IsStop, machine_stage}
 use Rattle.vc_session.specs.Carrying.{HoldsNames}
@@ -40,13 +38,16 @@ use Rattle.vc_session.specs.declared.fault.SessionFault.TheVariants as refusal
 use Rattle.vc_session.specs.declared.stage.Stage.{Stage}
 use Rattle.vc_session.specs.declared.stage.Stage.TheVariants as stages
 use Rattle.vc_store.specs.declared.faults.StoreFault.TheVariants as store
-use Rattle.vc_shared.proofs.HoldingLemmas.{SameBeside, beside_objects, beside_same, beside_slot, content_of, spells_on}
-use Rattle.vc_node.proofs.ReceivingClone.{clean_on}
-use Rattle.vc_shared.proofs.SteppedLemmas.{Leads, stepped}
+use Rattle.vc_shared.proofs.CallLemmas.{Leads, fault_leads, refused_leads}
+use Rattle.vc_shared.proofs.HoldingLemmas.{beside_objects, beside_same, beside_slot}
+use Rattle.vc_node.proofs.CloneCallLemmas.{held_content}
+use Rattle.vc_node.proofs.ReceivingClone.{SameBeside, clean_on, spells_on}
+use Rattle.vc_shared.proofs.SlotLemmas.{told_at}
+use Rattle.vc_shared.proofs.SteppedLemmas.{stepped}
 use Rattle.vc_shared.specs.Calls.{AnswersShared, Quietly, SteppedAs}
-use Rattle.vc_shared.specs.Faults.{fault_answer, is_fault, of_device, of_session, up_after}
+use Rattle.vc_shared.specs.Faults.{is_fault, of_device, of_session, up_after}
 use Rattle.vc_shared.specs.Holding.{HoldsShared, HoldsSlot, HoldsSlots, IsLive}
-use Rattle.vc_shared.specs.Slots.{AreTellable, AreToldInOne, IsSlotTellable, slot_of}
+use Rattle.vc_shared.specs.Slots.{AreTellable, AreToldInOne, slot_of}
 use Rattle.vc_shared.specs.Stepping.{EndsSlotEarly, IsHeldThere, IsRefusedIn, StepsSlot}
 use Rattle.vc_shared.specs.declared.fault.SharedFault.{SharedFault}
 use Rattle.vc_shared.specs.declared.fault.SharedFault.TheVariants.{Node}
@@ -56,18 +57,12 @@ use Rattle.vc_shared.specs.declared.stepping.Stepped.{Stepped}
 module _ (old new : FileMap) (slots after : List (Option SessionText)) (n : SharedNode) (pushes : Slots) (k : ℕ) (s : SessionText) (p : OpenPush)
     (held : HoldsShared old slots true n) (live : n.live ≡ Some pushes) (is : get pushes k ≡ Some p) (push : HoldsPush old s p) (bad : MakesNoneBad old new) (f : Failure) where
   -- nothing was done
-  idle : SameBeside old new → HoldsContent new n.repository → Leads n k new after false (Quietly (Fault f))
-  idle beside content = (
-    record { repository = n.repository; live = None },
-    Fault f,
-    None,
-    record { spells = spells_on old new n.repository n.repository held.spells content beside refl refl; clean = clean_on old new bad held.clean; live = tt },
-    record { answer = refl; sent = refl },
-    λ sound bare. SharedAnswers.faulted pushes f live (λ never. cc never) refl refl refl,
-  )
+  idle : SameBeside old new → HoldsContent new n.repository → Leads n (StepOf k) new after false (Quietly (Fault f))
+  idle beside content =
+      fault_leads (StepOf k) n pushes live new after (λ never. cc never) (spells_on old new n.repository n.repository held.spells content beside refl refl) (clean_on old new bad held.clean) f
 
   -- some of what is carried was stored
-  cut : p.stage ≡ MachineChecked → SameBeside old new → IsStop new n.repository (record { objects = p.carried; changes = [] }) → Leads n k new after false (Quietly (Fault f))
+  cut : p.stage ≡ MachineChecked → SameBeside old new → IsStop new n.repository (record { objects = p.carried; changes = [] }) → Leads n (StepOf k) new after false (Quietly (Fault f))
   cut checked beside stop =
       let effect : Effect = record { objects = p.carried; changes = [] } in
       let q : OpenPush = record p { stage = MachineMigrated } in
@@ -83,9 +78,9 @@ module _ (old new : FileMap) (slots after : List (Option SessionText)) (n : Shar
       )
 
   agrees : (stage : Stage) → EndsEarly old new s stage → EndsEarlyAs stage new n.repository p
-  agrees stage early = early_agree old new s stage n.repository p (content_of old n.repository held.spells) push early
+  agrees stage early = early_agree old new s stage n.repository p (held_content old n.repository held.spells) push early
 
-  stopped : (stage : Stage) → s.stage ≡ stage → EndsEarly old new s stage → Leads n k new after false (Quietly (Fault f))
+  stopped : (stage : Stage) → s.stage ≡ stage → EndsEarly old new s stage → Leads n (StepOf k) new after false (Quietly (Fault f))
   stopped stages.Unpacked at early = idle (beside_same old new early) (agrees stages.Unpacked early)
   stopped stages.Checked at early = cut (push.stage ∙ ap machine_stage at) (beside_objects old new early.1) (agrees stages.Checked early)
   stopped stages.Migrated at early = idle (beside_same old new early) (agrees stages.Migrated early)
@@ -162,36 +157,27 @@ held_still old new slots after was_up is_up n files same up held =
 abbrev pub TellsReports : Type 0
 TellsReports = (s : SessionText) (report : ReportText) → IsReport s report → AreToldInOne s → IsWrittenReport report
 
-told_in : (slots : List (Option SessionText)) (k : ℕ) (s : SessionText) → AreTellable slots → k < length slots → slot_of slots k ≡ Some s → AreToldInOne s
-told_in slots k s tellable within found =
-    subst IsSlotTellable (sym (unwrap_or-slice_get slots k None) ∙ found) (All-get_or IsSlotTellable slots k None within tellable)
-
 module _ (old new : FileMap) (slots after : List (Option SessionText)) (n : SharedNode) (pushes : Slots) (k : ℕ) (is_up : Bool)
     (held : HoldsShared old slots true n) (live : n.live ≡ Some pushes) (holds : HoldsSlots old slots pushes) (bad : MakesNoneBad old new) where
-  by_ok : (told : Stepped) → AreTellable slots → TellsReports → is_up ≡ true → StepsSlot old new slots after k told → Leads n k new after is_up (SteppedAs (Ok told))
+  by_ok : (told : Stepped) → AreTellable slots → TellsReports → is_up ≡ true → StepsSlot old new slots after k told → Leads n (StepOf k) new after is_up (SteppedAs (Ok told))
   by_ok told tellable written up done =
       let there = subst (λ (v : Option SessionText). IsStanding old pushes k v) done.found (standing old slots pushes k holds) in
-      let tells : AreToldInOne done.session = told_in slots k done.session tellable (omega (arith, there.1, holds.eight)) done.found in
-      subst (λ (b : Bool). Leads n k new after b (SteppedAs (Ok told))) (sym up)
+      let tells = told_at slots k done.session done.found tellable in
+      subst (λ (b : Bool). Leads n (StepOf k) new after b (SteppedAs (Ok told))) (sym up)
       (stepped old new slots after n pushes k done.session done.later there.0 held live holds there.1 there.2 there.3 there.4 there.5 bad done.step.is_session
       (λ report is. written done.session report is tells) done.step.did told done.step.steps done.step.tells done.left)
 
   by_err : (e : SharedFault) (v : Option SessionText) → IsStanding old pushes k v → is_up ≡ not (is_fault e) → (is_fault e ≡ false → after ≡ slots) → EndsSlotEarly old new v → IsRefusedIn old v e
-      → Leads n k new after is_up (SteppedAs (Err e))
+      → Leads n (StepOf k) new after is_up (SteppedAs (Err e))
   by_err e None none up unchanged early why =
-      let calm : is_fault e ≡ false = ap is_fault why in (
-        n,
-        Declined 111,
-        None,
-        held_still old new slots after true is_up n early (unchanged calm) (up ∙ ap not calm) held,
-        record { answer = sym (ap fault_answer why); sent = refl },
-        λ sound bare. SharedAnswers.refused pushes 111 live (refl, none) refl refl refl,
-      )
+      let calm : is_fault e ≡ false = ap is_fault why in
+      subst (λ (x : SharedFault). Leads n (StepOf k) new after is_up (SteppedAs (Err x))) (sym why)
+      (refused_leads (StepOf k) n pushes live new after is_up (held_still old new slots after true is_up n early (unchanged calm) (up ∙ ap not calm) held) 111 (λ sound bare. (refl, none)))
   by_err e (Some s) (p, small, is, at, push, clean) up unchanged early (f, told, why) =
       let only = only_faults old s held.clean (subst (λ (j : ℕ). IsQuarantineClean old j) (sym at) clean) push.names s.stage f why in
       let fault : e ≡ of_device only.0 = told ∙ only.1 in
-      subst (λ (b : Bool). Leads n k new after b (SteppedAs (Err e))) (sym (up ∙ ap (λ (x : SharedFault). not (is_fault x)) fault))
-      (subst (λ (x : SharedFault). Leads n k new after false (SteppedAs (Err x))) (sym fault)
+      subst (λ (b : Bool). Leads n (StepOf k) new after b (SteppedAs (Err e))) (sym (up ∙ ap (λ (x : SharedFault). not (is_fault x)) fault))
+      (subst (λ (x : SharedFault). Leads n (StepOf k) new after false (SteppedAs (Err x))) (sym fault)
       (stopped old new slots after n pushes k s p held live is push bad (failure_of only.0) s.stage refl early))
 
   by_result : (result : Result Stepped SharedFault) → AreTellable slots → TellsReports → is_up ≡ up_after result
@@ -199,7 +185,7 @@ module _ (old new : FileMap) (slots after : List (Option SessionText)) (n : Shar
       → IfErr result (λ e. is_fault e ≡ false → after ≡ slots)
       → (IsHeldThere old (slot_of slots k) → OnErr result (EndsSlotEarly old new (slot_of slots k)))
       → IfErr result (IsRefusedIn old (slot_of slots k))
-      → Leads n k new after is_up (SteppedAs result)
+      → Leads n (StepOf k) new after is_up (SteppedAs result)
   by_result (Ok told) tellable written up steps unchanged early refused =
       by_ok told tellable written up (steps (held_there old pushes k (slot_of slots k) (standing old slots pushes k holds)))
   by_result (Err e) tellable written up steps unchanged early refused =
@@ -216,7 +202,7 @@ pub stepped_answers : (old new : FileMap) (slots after : List (Option SessionTex
     → was_up ≡ true → is_up ≡ up_after result → AnswersShared (StepOf k) (SteppedAs result) old new slots after was_up is_up
 stepped_answers old new slots after k was_up is_up result steps unchanged early refused bad tellable written was up = record { each = λ n held. by n (subst (λ (b : Bool). HoldsShared old slots b n) was held) }
   where
-    by : (n : SharedNode) → HoldsShared old slots true n → Leads n k new after is_up (SteppedAs result)
+    by : (n : SharedNode) → HoldsShared old slots true n → Leads n (StepOf k) new after is_up (SteppedAs result)
     by n held =
         let open_now = pushes_of old slots n.live held.live in
         by_result old new slots after n open_now.0 k is_up held open_now.1 open_now.2 bad result tellable written up steps unchanged early refused
@@ -230,8 +216,7 @@ module _ (call : SharedCall) (Shows : Answer → Option Message → Type 0) (nev
       none_open None h = refl
       none_open (Some pushes) h = absurd h
 
-      by : (n : SharedNode) → HoldsShared old slots was_up n → (m : SharedNode) × (a : Answer) × (sends : Option Message) × HoldsShared new after is_up m × Shows a sends
-          × (IsSound git n.repository → IsBare git n.repository → SharedAnswers git git_rules n call a m sends)
+      by : (n : SharedNode) → HoldsShared old slots was_up n → Leads n call new after is_up Shows
       by n held =
           let down : HoldsShared old slots false n = subst (λ (b : Bool). HoldsShared old slots b n) was held in
           (n, Declined 112, None, held_still old new slots after was_up is_up n files same up held, told, λ sound bare. SharedAnswers.down (none_open n.live down.live) never refl refl refl)

@@ -1,28 +1,19 @@
 -- A push whose commands can be told of has a report that is written, and is read as it was.
-use Rattle.std.proofs.Common.{◌≡◌, ◌≢◌, ℕ, suc, ◌≤◌, ◌+◌, arith, List, [], ◌∷◌, length, map, Option, Some, None, refl, sym, ap, ◌∙◌, subst, get_or}
-use Rattle.std.specs.Prelude.{codes, decimal, option_map}
-use Rattle.std.specs.List.{All, AllByRecursion, flat_map}
+use Rattle.std.proofs.Common.{◌≡◌, ◌≢◌, ℕ, suc, ◌≤◌, ◌+◌, arith, List, [], ◌∷◌, length, map, Option, Some, None, refl, sym, ap, subst, get_or}
+use Rattle.std.specs.Prelude.{codes, decimal}
+use Rattle.std.specs.List.{All, AllByRecursion}
 use Rattle.std.proofs.lemmas.Fmt.{length-decimal-le}
 use Rattle.std.proofs.lemmas.List.{length-append}
 use Rattle.std.proofs.lemmas.List.Elements.{All-from_recursion, recursion_from_All}
 use Rattle.vc_object.specs.declared.fault.ObjectFault.{ObjectFault}
 use Rattle.vc_object.specs.declared.fault.ObjectFault.TheVariants as object
-use Rattle.vc_pkt.specs.Line.{spelling}
-use Rattle.vc_pkt.specs.Message.{IsSpelledBy}
 use Rattle.vc_push.specs.Push.{CommandText}
 use Rattle.vc_push.specs.Reason.{reason_text}
-use Rattle.vc_push.specs.Report.{IsShortTold, IsShortUnpack, IsUnpackText, IsWrittenReport, IsWrittenTold, ReportText, ToldText, report_lines, unpack_error}
+use Rattle.vc_push.specs.Report.{IsShortTold, IsShortUnpack, IsUnpackText, IsWrittenReport, IsWrittenTold, ReportText, ToldText, unpack_error}
 use Rattle.vc_push.specs.ReportView.{report_text, told_of}
 use Rattle.vc_push.specs.declared.reason.Reason.{Reason}
 use Rattle.vc_push.specs.declared.reason.Reason.TheVariants as reason
 use Rattle.vc_push.specs.declared.report.Told.{Told}
-use Rattle.vc_message.specs.AnyMessage.{SpellsMessage, a_report}
-use Rattle.vc_message.specs.Machine.{IsReport as IsMachineReport, IsWritten}
-use Rattle.vc_message.proofs.AnyLaws.{written_message}
-use Rattle.vc_message.proofs.MachineTexts.{report_of}
-use Rattle.vc_model.specs.Message.{Told as MachineTold}
-use Rattle.vc_model.specs.Message.Message.{Report as MachineReport}
-use Rattle.vc_rules.specs.OpenPushes.{AreToldAs}
 use Rattle.vc_session.specs.Session.{SessionText}
 use Rattle.vc_session.specs.Steps.{IsReport, Tells, TellsAll, TellsReport, fault_number, unpack_of}
 use Rattle.vc_session.specs.declared.stage.Stepped.{Stepped as SessionStep}

@@ -1,7 +1,7 @@
 -- What a fault of the shared node is of, and which are no refusals.
 use Rattle.std.specs.Prelude.{Bool, true, false, not, Result, Ok, Err}
-use Rattle.vc_answer.specs.declared.fault.AnswerFault.{AnswerFault}
-use Rattle.vc_answer.specs.declared.fault.AnswerFault.TheVariants as answer
+use Rattle.vc_pack.specs.declared.fault.AnswerFault.{AnswerFault}
+use Rattle.vc_pack.specs.declared.fault.AnswerFault.TheVariants as answer
 use Rattle.vc_files.specs.declared.faults.Fault.{Fault as FilesFault}
 use Rattle.vc_files.specs.declared.faults.Fault.TheVariants.{Memory}
 use Rattle.vc_graph.specs.declared.fault.GraphFault.{GraphFault}

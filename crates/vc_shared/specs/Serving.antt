@@ -3,10 +3,10 @@ use Rattle.std.specs.Prelude.{◌≡◌, ◌↔◌, ⊤, ℕ, Bool, true, List, 
 use Rattle.std.specs.FinMap.{get}
 use Rattle.std.specs.Global.{Global}
 use Rattle.std.specs.List.{flat_map}
-use Rattle.vc_answer.specs.Answer.{IsFirstCounted, IsOurs, IsSent}
-use Rattle.vc_answer.specs.AnswerFault.{BlamesRefs, IsRefusedAnswer}
-use Rattle.vc_answer.specs.declared.fault.AnswerFault.{AnswerFault}
-use Rattle.vc_answer.specs.declared.fault.AnswerFault.TheVariants.{Fault, Refs}
+use Rattle.vc_pack.specs.Answer.{IsFirstCounted, IsOurs, IsSent}
+use Rattle.vc_pack.specs.AnswerFault.{BlamesRefs, IsRefusedAnswer}
+use Rattle.vc_pack.specs.declared.fault.AnswerFault.{AnswerFault}
+use Rattle.vc_pack.specs.declared.fault.AnswerFault.TheVariants.{Fault, Refs}
 use Rattle.vc_fetch.specs.Advert.{AdvertText, advert_lines}
 use Rattle.vc_fetch.specs.Pack.{PackText, pack_lines}
 use Rattle.vc_fetch.specs.Want.{WantText}

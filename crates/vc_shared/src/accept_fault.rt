@@ -25,7 +25,7 @@ pub enum AcceptFault {
 impl fmt::Display for AcceptFault {
     fn fmt<W: fmt::Write>(&self, f: &mut fmt::Formatter<W>) -> fmt::Result {
         match self {
-            AcceptFault::ReadFailed => f.write_str("115 ReadFailed"),
+            AcceptFault::ReadFailed => fmt::Display::fmt(&IncomingFault::Failed, f),
             AcceptFault::Node(fault) => fmt::Display::fmt(fault, f),
         }
     }

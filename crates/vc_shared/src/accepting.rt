@@ -1,6 +1,6 @@
 //! A message that comes to the shared node.
 ghost use Rattle.std.specs.Prelude.{◌≡◌, ◌⊎◌, ℕ, IfErr, OnErr};
-ghost use Rattle.vc_base.specs.Stored.{KeepsAgreement};
+ghost use Rattle.vc_history.specs.Stored.{KeepsAgreement};
 ghost use Rattle.vc_files.specs.Failures.{Wears, Writes};
 ghost use Rattle.vc_message.specs.AnyView.{message_text};
 ghost use Rattle.vc_message.specs.Machine.{IsUnread, Reads, TextOf};

@@ -1,6 +1,6 @@
 //! A message that a reader brings to the shared node, whose objects go into the quarantine as they come.
 ghost use Rattle.std.specs.Prelude.{◌≡◌, ◌≤◌, Bool, IfOk, IfErr, IfNone, OnErr, OnOk};
-ghost use Rattle.vc_base.specs.Stored.{KeepsAgreement};
+ghost use Rattle.vc_history.specs.Stored.{KeepsAgreement};
 ghost use Rattle.vc_files.specs.FileMap.{SameOutside};
 ghost use Rattle.vc_files.specs.Failures.{Writes};
 ghost use Rattle.vc_push.specs.PushView.{commands_of};

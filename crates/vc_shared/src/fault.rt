@@ -6,11 +6,11 @@ ghost use Rattle.vc_shared.specs.Faults.{is_fault, of_answer, of_device, of_grap
 use std::alloc::AllocError;
 use std::error::Error;
 use std::fmt;
-use vc_answer::AnswerFault;
 use vc_files::Fault;
 use vc_graph::GraphFault;
-use vc_node::NodeFault;
+use vc_node::{CloneFault, NodeFault};
 use vc_object::ObjectId;
+use vc_pack::AnswerFault;
 use vc_pkt::{PktError, PktFault};
 use vc_refs::RefFault;
 use vc_rev::{Refusal, RevFault, SourceFault};
@@ -40,8 +40,8 @@ impl fmt::Display for SharedFault {
     fn fmt<W: fmt::Write>(&self, f: &mut fmt::Formatter<W>) -> fmt::Result {
         match self {
             SharedFault::Unread(fault) => fmt::Display::fmt(fault, f),
-            SharedFault::NotOurs(_) => f.write_str("90 NotOurs"),
-            SharedFault::Unexpected => f.write_str("91 NothingAwaited"),
+            SharedFault::NotOurs(id) => fmt::Display::fmt(&AnswerFault::NotOurs(*id), f),
+            SharedFault::Unexpected => fmt::Display::fmt(&CloneFault::Unexpected, f),
             SharedFault::Busy => f.write_str("110 Busy"),
             SharedFault::NoSuchSlot => f.write_str("111 NoSuchSlot"),
             SharedFault::NoValue(refusal) => fmt::Display::fmt(refusal, f),

@@ -1,6 +1,6 @@
 //! A push that comes to the shared node is opened in the lowest free slot.
 ghost use Rattle.std.specs.Prelude.{◌≡◌, IfOk, IfErr, OnErr};
-ghost use Rattle.vc_base.specs.Stored.{KeepsAgreement};
+ghost use Rattle.vc_history.specs.Stored.{KeepsAgreement};
 ghost use Rattle.vc_files.specs.Failures.{Writes};
 ghost use Rattle.vc_push.specs.PushView.{push_text};
 ghost use Rattle.vc_session.specs.Clean.{MakesNoneBad};

@@ -12,10 +12,10 @@ ghost use Rattle.vc_shared.specs.Serving.{IsAnswered, IsListed, IsRefusedList, L
 
 use crate::SharedFault;
 use std::alloc::{AllocError, Global};
-use vc_answer::{AnswerFault, answer_want};
 use vc_fetch::{Advert, Want};
 use vc_files::{Fault, Files};
 use vc_object::ObjectId;
+use vc_pack::{AnswerFault, answer_want};
 use vc_refname::RefName;
 use vc_refs::resolve_head;
 
@@ -64,7 +64,7 @@ pub(crate) fn list<F: Files>(alloc: Global, files: &mut F) -> Result<Vec<u8>, Sh
 }
 
 /// The answer to a want: the message that brings what the wants reach and no have that counts does. See
-/// [`answer_want`](vc_answer::answer_want).
+/// [`answer_want`](vc_pack::answer_want).
 pub(crate) fn answer<F: Files>(
     alloc: Global,
     files: &mut F,

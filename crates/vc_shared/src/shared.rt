@@ -33,8 +33,8 @@ use crate::{AcceptFault, Accepted, SharedFault, Stepped, accepting, arriving, st
 use std::alloc::Global;
 use std::io::Read;
 use std::marker::Model;
-use vc_base::Generations;
 use vc_files::{Files, FusedFiles};
+use vc_history::Generations;
 use vc_message::skip_message;
 use vc_node::{NodeFault, open_files};
 use vc_object::ObjectId;
@@ -57,7 +57,7 @@ pub struct Shared<F: Files> {
 }
 
 impl<F: Files> Model for Shared<F> {
-    ghost use Rattle.vc_base.specs.Stored.{AgreesIn};
+    ghost use Rattle.vc_history.specs.Stored.{AgreesIn};
     ghost use Rattle.vc_shared.specs.Holding.{SharedText};
     ghost use Rattle.vc_shared.specs.Slots.{AreTellable};
 

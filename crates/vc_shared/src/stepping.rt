@@ -1,6 +1,6 @@
 //! A step of the push in a slot.
 ghost use Rattle.std.specs.Prelude.{◌≡◌, ◌⊎◌, ◌<◌, IfOk, IfErr, OnErr, Err, None, Some, false, length, slice_set};
-ghost use Rattle.vc_base.specs.Stored.{AgreesIn};
+ghost use Rattle.vc_history.specs.Stored.{AgreesIn};
 ghost use Rattle.vc_files.specs.Failures.{Wears, Writes};
 ghost use Rattle.vc_session.specs.Clean.{MakesNoneBad};
 ghost use Rattle.vc_shared.specs.Faults.{TellsDevice, is_fault};
@@ -9,8 +9,8 @@ ghost use Rattle.vc_shared.specs.Stepping.{EndsSlotEarly, HasShortReport, IsEnd,
 
 use crate::SharedFault;
 use std::alloc::{AllocError, Global};
-use vc_base::Generations;
 use vc_files::Files;
+use vc_history::Generations;
 use vc_object::ObjectId;
 use vc_push::Reason;
 use vc_session::{PushSession, SessionFault, Stepped as SessionStep};

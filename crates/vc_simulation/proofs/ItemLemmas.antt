@@ -1,7 +1,7 @@
 -- The items of a push.
 use Rattle.std.proofs.Common.{◌≡◌, ◌≢◌, ◌<◌, ◌≤◌, ◌+◌, ℕ, zero, suc, List, [], ◌∷◌, ◌++◌, false, Option, Some, None, Result, Ok, Err, Vec, Global, map, take, get_or, length, option_map, inl, inr, refl, sym, ap, ◌∙◌, subst, arith}
 use Rattle.std.proofs.lemmas.List.{take_more}
-use Rattle.std.proofs.lemmas.List.Elements.{Contains-append_cases}
+use Rattle.std.proofs.lemmas.List.Elements.{Contains-append_cases, Contains-get_or}
 use Rattle.std.specs.Prelude.{Contains}
 use Rattle.vc_events.proofs.RunLemmas.{take_whole}
 use Rattle.vc_exchange.specs.declared.item.PushItem.{PushItem}
@@ -28,14 +28,6 @@ pub contains_one : {X : Type 0} (x y : X) → Contains (x ∷ []) y → x ≡ y
 contains_one x y (zero, below, is) = is
 contains_one x y (suc k, below, is) = let f : ⊥ = omega (arith, below) in absurd f
 
-contains_at : {X : Type 0} (xs : List X) (k : ℕ) (d : X) → k < length xs → Contains xs (get_or xs k d)
-contains_at {X} xs k d below = (k, below, same xs k below)
-  where
-    same : (xs : List X) (k : ℕ) → k < length xs → get_or xs k (get_or xs k d) ≡ get_or xs k d
-    same [] k below = let f : ⊥ = omega (arith, below) in absurd f
-    same (x ∷ xs) zero below = refl
-    same (x ∷ xs) (suc k) below = same xs k (omega (arith, below))
-
 pub none_yet : (items : List PushItem) → ¬ HasZero (take 0 items)
 none_yet items h = let below = h.1.1 in let f : ⊥ = omega (arith, below) in absurd f
 
@@ -48,7 +40,7 @@ still_none items k item below other none h =
     ]
 
 pub one_is_zero : (items : List PushItem) (k : ℕ) (item : PushItem) → k < length items → (get_or items k item).id ≡ Some zero_id → HasZero items
-one_is_zero items k item below is = (get_or items k item, contains_at items k item below, is)
+one_is_zero items k item below is = (get_or items k item, Contains-get_or items k item below, is)
 
 pub none_whole : (items : List PushItem) (k : ℕ) → k ≡ length items → ¬ HasZero (take k items) → ¬ HasZero items
 none_whole items k end none = subst (λ (xs : List PushItem). ¬ HasZero xs) (ap (λ (n : ℕ). take n items) end ∙ take_whole items) none

@@ -1,4 +1,3 @@
 pub mod PathLemmas
 pub mod StoreLemmas
 pub mod NamesLemmas
-pub mod PutLemmas

@@ -1,5 +1,5 @@
 -- What a write of an object's file does to the objects.
-use Rattle.std.proofs.Common.{◌≡◌, ℕ, ◌<◌, zero, suc, Bool, true, false, cond, ◌==◌, nat_eq, nat_lt, List, [], ◌∷◌, ◌++◌, take, drop, length, Option, Some, None, Result, Ok, Err, sym, ap, refl, ◌∙◌, subst, lit<, rules, slice_index}
+use Rattle.std.proofs.Common.{◌≡◌, ℕ, Bool, true, false, cond, ◌==◌, nat_eq, nat_lt, List, [], ◌∷◌, ◌++◌, take, drop, length, Option, Some, None, Result, Ok, Err, sym, ap, refl, ◌∙◌, subst}
 use Rattle.std.specs.Prelude.{bytes_eq, is_ok, is_some, codes, unwrap_or}
 use Rattle.std.specs.List.{list_all, starts_with}
 use Rattle.std.specs.Result.{result_ok}
@@ -17,14 +17,10 @@ use Rattle.vc_object.specs.ObjectId.{is_name, is_id}
 use Rattle.vc_object.specs.declared.id.ObjectId.{ObjectId}
 use Rattle.vc_object.specs.declared.kind.Kind.{Kind}
 use Rattle.vc_object.proofs.Decoding.{decoded_again}
+use Rattle.vc_object.proofs.IdLemmas.{byte_below, id_eq-same}
 use Rattle.vc_store.specs.declared.faults.StoreFault.{StoreFault}
 use Rattle.vc_store.specs.declared.faults.StoreFault.TheVariants.{Absent, Damaged}
 use Rattle.vc_store.specs.Store.{object_path, stored, stored_in, named, objects, with_object, with_file}
-
-all_bytes : (xs : List ℕ) → list_all (λ b. nat_lt b 256) xs ≡ true → (i : ℕ) → slice_index xs i < 256
-all_bytes [] h i = lit< tt
-all_bytes (x ∷ xs) h zero = let p = (and_parts (nat_lt x 256) (list_all (λ b. nat_lt b 256) xs) h).0 in search rules
-all_bytes (x ∷ xs) h (suc i) = all_bytes xs (and_parts (nat_lt x 256) (list_all (λ b. nat_lt b 256) xs) h).1 i
 
 ok_inside : Result (List ℕ) FromHexError → List ℕ
 ok_inside (Ok a) = a
@@ -41,7 +37,7 @@ unfolding encode_with
 same_path [] b p q e = cc
 same_path (x ∷ xs) [] p q e = cc
 same_path (x ∷ xs) (y ∷ ys) p q e =
-    let bytes_of : (zs : List ℕ) → is_name zs ≡ true → IsBytes zs = λ zs h. all_bytes zs (and_parts (length zs == 20) (list_all (λ b. nat_lt b 256) zs) h).1 in
+    let bytes_of : (zs : List ℕ) → is_name zs ≡ true → IsBytes zs = λ zs h. byte_below zs (and_parts (length zs == 20) (list_all (λ b. nat_lt b 256) zs) h).1 in
     same_hex (x ∷ xs) (y ∷ ys) (bytes_of (x ∷ xs) p) (bytes_of (y ∷ ys) q) (ap (λ path. take 2 (drop 8 path) ++ drop 11 path) e)
 
 -- an object that is stored is one of the objects
@@ -61,11 +57,6 @@ apart q name other p n = false_from_ne_true _ (λ same.
 
 bytes_eq_same : (xs : List ℕ) → bytes_eq xs xs ≡ true
 bytes_eq_same xs = (bytes_eq-Decides xs xs).1 refl
-
-same_id : (a b : ObjectId) → bytes_eq a.0 b.0 ≡ true → a ≡ b
-same_id a b h =
-    let make : List ℕ → ObjectId = λ bytes. record { 0 = bytes } in
-    ap make ((bytes_eq-Decides a.0 b.0).0 h)
 
 -- what is at a name depends on one file
 same_at : (old new : FileMap) (q : ObjectId) → (is_id q ≡ true → files.get new (object_path q.0) ≡ files.get old (object_path q.0)) → objects new q ≡ objects old q
@@ -89,7 +80,7 @@ unfolding with_object
 put_at content id kind body valid is object absent q =
     let new : FileMap = files.insert content (object_path id.0) (object_bytes kind body) in
     elim (bytes_eq q.0 id.0) as (λ b. bytes_eq q.0 id.0 ≡ b → objects new q ≡ cond b (Some (unwrap_or (objects content id) (stored_object kind body))) (objects content q)) [
-      | true ↦ λ same. ap (objects new) (same_id q id same)
+      | true ↦ λ same. ap (objects new) (id_eq-same q id same)
           ∙ objects-stored new id (stored_object kind body) valid (stored-put content id kind body is object)
           ∙ ap (λ o. Some (unwrap_or o (stored_object kind body))) (sym (objects-absent content id (Absent id) absent))
       | false ↦ λ other. same_at content new q (λ p.
@@ -108,7 +99,7 @@ there_at content id object was valid there q =
     elim (bytes_eq q.0 id.0) as (λ b. bytes_eq q.0 id.0 ≡ b → cond b (Some (unwrap_or (objects content id) object)) (objects content q) ≡ objects content q) [
       | true ↦ λ same.
           let found : objects content id ≡ Some was = objects-stored content id was valid there in
-          ap (λ o. Some (unwrap_or o object)) found ∙ sym found ∙ sym (ap (objects content) (same_id q id same))
+          ap (λ o. Some (unwrap_or o object)) found ∙ sym found ∙ sym (ap (objects content) (id_eq-same q id same))
       | false ↦ λ _. refl
     ] refl
 

@@ -2,14 +2,18 @@
 ghost use Rattle.std.specs.Prelude.{◌≡◌, ◌≤◌, IsErrOf};
 ghost use Rattle.vc_files.specs.Failures.{HasFailed};
 
+use crate::ahead::Ahead;
+use crate::beside::Beside;
 use crate::disk::Disk;
 use crate::listed::Listed;
+use crate::root::Root;
 use std::alloc::Global;
 use std::io::{self, ErrorKind};
 use std::marker::Model;
 use std::rt;
 use vc_checkout::WorkTree;
 use vc_files::Fault;
+use vc_object::ObjectId;
 
 /// The work tree in a folder.
 ///
@@ -21,6 +25,10 @@ use vc_files::Fault;
 /// alone, and a write below it is a fault. The folder's own path may lead through links. Each call looks at the folders above a
 /// path anew, but for reads of files that a listing found: these look at each folder once, while each file is still the very
 /// one that was found.
+///
+/// Where the work tree is large, a few threads list its folders, and name the files behind those whose names were asked for in a
+/// row. So what somebody changes meanwhile may be seen as it was a moment before it was asked for; a write through here is always
+/// seen.
 ///
 /// A file is written whole into the folder of the store, as `checkout.lock`, and then renamed onto its path, which replaces
 /// a file or a link at once. So whenever a process is killed, no file of the work tree is cut short, and a write that fails
@@ -43,20 +51,20 @@ impl<R: rt::Files + AllocGlobal + Clone + Drop> Model for FolderTree<R> {
     ghost view = { λ s. s.failed };
 }
 
-impl<R: rt::Files + AllocGlobal + Clone + Drop> FolderTree<R> {
+impl<R: rt::Files + Beside<R> + AllocGlobal + Clone + Drop> FolderTree<R> {
     /// The work tree in the folder with this path. `own` is the path that the folder of its store has in it, empty where it
     /// lies elsewhere. `store` is where that folder is, and it is there when a file is written.
     pub fn new(rt: R, path: String, own: String, store: String) -> Self
         ensures { result ≡ 0 }
     {
-        let listed = Listed::new(rt.alloc(), Vec::new(rt.alloc()));
+        let alloc = rt.alloc();
+        let listed = Listed::new(alloc, Vec::new(alloc));
         FolderTree {
             disk: Disk {
-                rt,
-                path,
-                own,
+                root: Root { rt, path, own },
                 store,
                 listed,
+                ahead: Ahead::new(alloc),
             },
             failed: 0,
         }
@@ -85,7 +93,7 @@ impl<R: rt::Files + AllocGlobal + Clone + Drop> FolderTree<R> {
     }
 }
 
-impl<R: rt::Files + AllocGlobal + Clone + Drop> WorkTree for FolderTree<R> {
+impl<R: rt::Files + Beside<R> + AllocGlobal + Clone + Drop> WorkTree for FolderTree<R> {
     ghost use Rattle.std.specs.Prelude.{⊤};
     ghost use Rattle.std.specs.FinMap as files;
     ghost use Rattle.std.specs.FinSet as set;
@@ -102,6 +110,11 @@ impl<R: rt::Files + AllocGlobal + Clone + Drop> WorkTree for FolderTree<R> {
 
     fn read(&mut self, alloc: Global, path: &str) -> Result<Option<Vec<u8>>, Fault> {
         let done = self.disk.read(alloc, path);
+        self.settle(done)
+    }
+
+    fn name(&mut self, alloc: Global, path: &str) -> Result<Option<ObjectId>, Fault> {
+        let done = self.disk.name(alloc, path);
         self.settle(done)
     }
 

@@ -7,8 +7,8 @@ ghost use Rattle.vc_refs.specs.Refs.{refs, ChangesOnly};
 ghost use Rattle.vc_refs.specs.RefMap.{IsInRefs, IsRefMap, is_ref, with_ref};
 
 use super::getting::expect_value;
+use super::obstacle::refuse_beside;
 use super::packed_file::read_packed;
-use super::way::refuse_beside;
 use crate::RefFault;
 use crate::setting::put;
 use std::alloc::Global;

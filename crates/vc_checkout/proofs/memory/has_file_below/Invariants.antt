@@ -2,7 +2,7 @@ use Rattle.std.proofs.Common.{◌≡◌}
 use Rattle.std.specs.Prelude.{string_bytes}
 use Rattle.std.specs.BTreeMap.{keys}
 use Rattle.std.specs.List.{list_any}
-use Rattle.vc_checkout.specs.Folders.{is_above}
+use Rattle.vc_files.specs.Path.{is_above}
 use Rattle.vc_checkout.proofs.memory.has_file_below.Given as goal
 
 -- what is left decides

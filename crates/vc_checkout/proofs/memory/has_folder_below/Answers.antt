@@ -1,7 +1,7 @@
 use Rattle.std.proofs.Common.{rules, ◌≡◌, true, false, [], ◌∷◌, sym, ap, ◌∙◌}
 use Rattle.std.specs.Prelude.{string_bytes}
 use Rattle.std.specs.List.{list_any}
-use Rattle.vc_checkout.specs.Folders.{is_above}
+use Rattle.vc_files.specs.Path.{is_above}
 use Rattle.vc_checkout.proofs.HeldLemmas.{any_first, any_rest, holds_any_folder}
 use Rattle.vc_checkout.proofs.memory.has_folder_below.Goals as goal
 

@@ -2,9 +2,9 @@ use Rattle.std.proofs.Common.{rules, ◌≡◌, ◌∙◌, ap, sym, subst}
 use Rattle.std.specs.Prelude.{List, ℕ, length, ◌==◌, not, ◌↔◌, Contains}
 use Rattle.std.specs.List.{flat_map}
 use Rattle.std.specs.Io.KnownBytes.{Appends}
-use Rattle.vc_base.proofs.GenerationLemmas.{agrees_where_none}
-use Rattle.vc_base.specs.History.{IsBestCommonAncestor}
-use Rattle.vc_base.specs.Numbering.{numbers}
+use Rattle.vc_history.proofs.GenerationLemmas.{agrees_where_none}
+use Rattle.vc_history.specs.History.{IsBestCommonAncestor}
+use Rattle.vc_history.specs.Numbering.{numbers}
 use Rattle.vc_files.specs.FileMap.{FileMap}
 use Rattle.vc_object.specs.ObjectMap.{parents_in}
 use Rattle.vc_object.specs.declared.id.ObjectId.{ObjectId}

@@ -1,6 +1,6 @@
 use Rattle.std.proofs.Common.{rules, []}
-use Rattle.vc_base.proofs.GenerationLemmas.{agrees_where_none}
-use Rattle.vc_base.specs.Numbering.{numbers}
+use Rattle.vc_history.proofs.GenerationLemmas.{agrees_where_none}
+use Rattle.vc_history.specs.Numbering.{numbers}
 use Rattle.vc_push.specs.Push.{CommandText}
 use Rattle.vc_session.proofs.JudgeLemmas.{never_missing}
 use Rattle.vc_exchange.proofs.moving.is_forward.Goals as goal

@@ -1,11 +1,11 @@
-use Rattle.std.proofs.Common.{arith, rules, ◌≡◌, ◌⊎◌, inl, inr, ℕ, zero, suc, ◌+◌, Bool, false, cond, List, [], ◌∷◌, Result, Ok, Err, OnErr, take, drop, refl, sym, ap, subst}
+use Rattle.std.proofs.Common.{arith, rules, ◌≡◌, ◌⊎◌, inl, inr, ℕ, zero, suc, ◌+◌, Bool, false, cond, List, [], ◌∷◌, take, drop, refl, sym, ap, subst}
 use Rattle.std.specs.Prelude.{◌≢◌}
 use Rattle.std.proofs.lemmas.List.{take_all}
 use Rattle.vc_files.proofs.FileMapLemmas.{outside_same, outside_then}
 use Rattle.vc_files.proofs.WearLemmas.{writes_both, writes_told}
 use Rattle.vc_model.specs.Repository.{changed_all}
 use Rattle.vc_session.proofs.CleanLemmas.{bad_same, bad_then}
-use Rattle.vc_session.proofs.SessionLemmas.{wears_told}
+use Rattle.vc_session.proofs.SessionLemmas.{wears_told, on_err}
 use Rattle.vc_session.proofs.UpdateLemmas.{wears_both}
 use Rattle.vc_session.specs.Known.{AreWhole}
 use Rattle.vc_store.specs.Store.{objects}
@@ -21,10 +21,6 @@ count moved = cond moved 1 0
 zero_or : (n : ℕ) → (n ≡ 0) ⊎ (n ≢ 0)
 zero_or zero = inl refl
 zero_or (suc n) = inr (λ e. omega (arith, e))
-
-on_err : {A E : Type 0} (r : Result A E) (X : Type 0) → X → OnErr r X
-on_err (Ok a) X x = tt
-on_err (Err e) X x = x
 
 pub loop-name-init : goal.loop-name-init
 loop-name-init g c = record {

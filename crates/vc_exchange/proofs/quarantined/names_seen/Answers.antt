@@ -1,4 +1,4 @@
-use Rattle.vc_answer.proofs.JudgeLemmas.{all_under, closed_carried, err_under, ok_under}
+use Rattle.vc_pack.proofs.JudgeLemmas.{all_under, closed_carried, err_under, ok_under}
 use Rattle.vc_graph.specs.Graph.{IsClosedUnder}
 use Rattle.vc_graph.specs.Incomplete.{IsFirstIncomplete}
 use Rattle.vc_object.specs.ObjectMap.{links_in}

@@ -1,9 +1,9 @@
-use Rattle.std.proofs.Common.{rules, ◌≡◌, Result, Ok, Err, OnErr, sym, ap, ◌∙◌, subst}
+use Rattle.std.proofs.Common.{rules, ◌≡◌, Result, Ok, Err, sym, ap, ◌∙◌, subst}
 use Rattle.std.specs.Prelude.{IfErr}
-use Rattle.vc_answer.proofs.KeepsLemmas.{keeps_same, keeps_then}
-use Rattle.vc_answer.specs.AnswerFault.{IsRefusedPack}
-use Rattle.vc_answer.specs.declared.fault.AnswerFault.{AnswerFault}
-use Rattle.vc_answer.specs.declared.fault.AnswerFault.TheVariants as answer
+use Rattle.vc_pack.proofs.KeepsLemmas.{keeps_same, keeps_then}
+use Rattle.vc_pack.specs.AnswerFault.{IsRefusedPack}
+use Rattle.vc_pack.specs.declared.fault.AnswerFault.{AnswerFault}
+use Rattle.vc_pack.specs.declared.fault.AnswerFault.TheVariants as answer
 use Rattle.vc_fetch.specs.PackObjects as fetch
 use Rattle.vc_files.specs.FileMap.{FileMap}
 use Rattle.vc_files.proofs.WearLemmas.{wears_then, wears_writes, writes_both, writes_told}
@@ -22,6 +22,7 @@ use Rattle.vc_session.specs.Carrying.{objects_in}
 use Rattle.vc_session.specs.Clean.{MakesNoneBad}
 use Rattle.vc_session.specs.Known.{AreWhole}
 use Rattle.vc_session.specs.declared.known.Known.{Known}
+use Rattle.vc_session.proofs.SessionLemmas.{on_err}
 use Rattle.vc_store.specs.Store.{objects}
 use Rattle.vc_exchange.specs.Faults.{from_answer, from_store}
 use Rattle.vc_exchange.specs.Moving.{told_in}
@@ -34,10 +35,6 @@ use Rattle.vc_exchange.proofs.PackDeeds.{judge_blames, pack_moving, pack_storing
 use Rattle.vc_exchange.proofs.PackLemmas.{brought_closed, brought_same, histories_met, stored_content, stored_met, stored_outside, stored_since, some_since, whole_after}
 use Rattle.vc_exchange.proofs.KeptLemmas.{keeps_beside_refs, keeps_some, keeps_stored}
 use Rattle.vc_exchange.proofs.receiving.receive_pack.Goals as goal
-
-on_err : {A E : Type 0} (r : Result A E) (X : Type 0) → X → OnErr r X
-on_err (Ok a) X x = tt
-on_err (Err e) X x = x
 
 err_same : {A E : Type 0} {e f : E} → ◌≡◌ {A = Result A E} (Err e) (Err f) → e ≡ f
 err_same h = cc

@@ -1,4 +1,4 @@
-use Rattle.std.proofs.Common.{rules, ◌≡◌, inl, inr, List, map, Result, Ok, Err, OnErr, sym, ap, ◌∙◌, subst}
+use Rattle.std.proofs.Common.{rules, ◌≡◌, inl, inr, List, map, sym, ap, ◌∙◌, subst}
 use Rattle.vc_files.specs.FileMap.{FileMap}
 use Rattle.vc_files.proofs.WearLemmas.{wears_then, wears_writes, writes_told}
 use Rattle.vc_rules.specs.OpenPushes.{HoldsContent}
@@ -11,13 +11,10 @@ use Rattle.vc_model.specs.Clone.{refused_reasons}
 use Rattle.vc_push.specs.ReportView.{report_text, told_of}
 use Rattle.vc_push.specs.declared.report.Told.{Told}
 use Rattle.vc_session.proofs.UpdateLemmas.{wears_both}
+use Rattle.vc_session.proofs.SessionLemmas.{on_err}
 use Rattle.vc_exchange.proofs.MovingLoops.{whole_refs}
 use Rattle.vc_exchange.proofs.ReceivingLemmas.{report_changes, report_cut, report_received}
 use Rattle.vc_exchange.proofs.receiving.receive_report.Goals as goal
-
-on_err : {A E : Type 0} (r : Result A E) (X : Type 0) → X → OnErr r X
-on_err (Ok a) X x = tt
-on_err (Err e) X x = x
 
 pub returns-in_err-known-clause-wear : goal.returns-in_err-known-clause-wear
 returns-in_err-known-clause-wear g c = writes_told (wears_writes c.in_err-known.ensures.wear (λ _. c.in_err-known.ensures.same)) (search rules) (search rules)

@@ -1,5 +1,5 @@
 use Rattle.std.proofs.Common.{◌≡◌, ◌++◌, ◌∙◌, rules}
-use Rattle.vc_answer.specs.Reached.{StandsIn}
+use Rattle.vc_pack.specs.Reached.{StandsIn}
 use Rattle.vc_exchange.proofs.SendingLemmas.{closed_front, refused_graph, sent_less}
 use Rattle.vc_exchange.specs.SendFault.{IsRefusedSend, from_graph}
 use Rattle.vc_graph.proofs.FaultLemmas.{IsTold-more}

@@ -1,4 +1,4 @@
-use Rattle.std.proofs.Common.{arith, rules, ◌≡◌, ◌∷◌, ℕ, List, map, true, false, sym, subst, refl, ◌∙◌, Result, Ok, Err, OnErr}
+use Rattle.std.proofs.Common.{arith, rules, ◌≡◌, ◌∷◌, ℕ, List, map, true, false, sym, subst, refl, ◌∙◌}
 use Rattle.std.specs.Prelude.{IsOk}
 use Rattle.std.specs.Map.Iter.{deref_pair}
 use Rattle.std.proofs.lemmas.Map.Iter.{rest_more, rest_all}
@@ -17,14 +17,11 @@ use Rattle.vc_pkt.specs.StreamObjectView.{AreNamed, objects_of, stored}
 use Rattle.vc_pkt.specs.declared.carried.StreamObject.{StreamObject}
 use Rattle.vc_session.proofs.CarryingLemmas.{fewer}
 use Rattle.vc_session.proofs.CleanLemmas.{bad_same, bad_then}
+use Rattle.vc_session.proofs.SessionLemmas.{on_err}
 use Rattle.vc_store.specs.Store.{objects, with_file, with_object}
 use Rattle.vc_exchange.specs.Storing.{AreSomeStored}
 use Rattle.vc_exchange.proofs.StoringLemmas.{IsStoring, first_named, later_named, put_bad, storing_all, storing_none, storing_passed, storing_put, storing_some}
 use Rattle.vc_exchange.proofs.storing.store_all.Goals as goal
-
-on_err : {A E : Type 0} (r : Result A E) (X : Type 0) → X → OnErr r X
-on_err (Ok a) X x = tt
-on_err (Err e) X x = x
 
 pub loop-id-init : goal.loop-id-init
 loop-id-init g c =

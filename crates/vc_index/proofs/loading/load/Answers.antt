@@ -15,8 +15,8 @@ use Rattle.vc_index.specs.declared.entry.IndexEntry.{IndexEntry}
 use Rattle.std.specs.Prelude.{Vec}
 use Rattle.std.specs.Global.{Global}
 use Rattle.vc_object.specs.ObjectId.{is_id}
+use Rattle.vc_object.proofs.Order.{All-push}
 use Rattle.vc_index.proofs.CollectLemmas.{pairs_push, with_files-more}
-use Rattle.vc_index.proofs.EntriesLemmas.{All_last}
 use Rattle.vc_index.proofs.MapLemmas.{empty-IsIndex, insert-IsIndex}
 use Rattle.vc_index.specs.Reading.{pairs, with_files}
 use Rattle.vc_index.specs.Loading.{IsOfLook, IsOfLoadIn, IsOpened, IsBlobIfDue, HasBlobs, item_pair}
@@ -136,7 +136,7 @@ loop-item-preserved g c =
           (sound_file c.args.look (objects content) item.path.items item.entry short file (λ all. blob honest all));
       each = subst (λ (l : List (Vec ℕ Global × IndexEntry)). AllByRecursion (λ (e : Pair). IsFile e.0 e.1) (pairs l)) (sym pushed)
           (subst (AllByRecursion (λ (e : Pair). IsFile e.0 e.1)) (sym (pairs_push c.loop-item.found.items item.path (index_entry item.entry.mode c.named-id.result)))
-          (All_last _ (pairs c.loop-item.found.items) (item.path.items, index_entry item.entry.mode c.named-id.result) c.loop-item.invariant.each (subst (IsFile item.path.items) (sym entry) one)));
+          (All-push _ (pairs c.loop-item.found.items) (item.path.items, index_entry item.entry.mode c.named-id.result) c.loop-item.invariant.each (subst (IsFile item.path.items) (sym entry) one)));
       apart = λ honest. subst (λ (n : IndexMap). IsIndex n) (sym new)
           (insert-IsIndex m item.path.items item.entry (c.loop-item.invariant.apart honest) one (no_conflict (objects content) c.args.root.now (map item_pair c.pop.new.self.items) item.path.items item.entry m (loading honest) file));
       same = c.in_ok-look_for_blob.ensures.same ∙ c.loop-item.invariant.same;

@@ -6,6 +6,7 @@ use Rattle.vc_object.specs.Tree.{spelling}
 use Rattle.vc_object.specs.declared.id.ObjectId.{ObjectId}
 use Rattle.vc_object.specs.declared.kind.Kind.TheVariants as kinds
 use Rattle.vc_object.specs.declared.mode.Mode.TheVariants as modes
+use Rattle.vc_object.proofs.IdLemmas.{IsId-from_is_id}
 use Rattle.vc_store.specs.Store.{objects, IsDamaged}
 use Rattle.vc_store.specs.StoreFault.{IsOfPut}
 use Rattle.vc_index.specs.Building.{Building}
@@ -16,7 +17,6 @@ use Rattle.vc_index.specs.declared.faults.IndexFault.TheVariants.{Store}
 use Rattle.vc_index.specs.declared.trees.Part.{Part}
 use Rattle.vc_index.proofs.ClosingLemmas.{closing, closing_shorter, stored_one, handed_on, still_damaged}
 use Rattle.vc_index.proofs.StandingLemmas.{stands_none, closing_refused, closing_stands}
-use Rattle.vc_index.proofs.TextLemmas.{id_of_test}
 use Rattle.vc_index.proofs.DamageLemmas.{damage_put}
 use Rattle.vc_index.proofs.trees.close_folder.Goals as goal
 
@@ -75,7 +75,7 @@ returns-clause-closes g c = λ m trees rest left b.
       building = subst (λ (ps : List Part). Building m (trees ++ es ∷ []) ps rest) (sym pushes) (closing m trees rest parts start folder b c.requires.last c.requires.some inside
           (λ fs p e. c.start_of-start.ensures.above fs p (ap (take start) c.deref.ensures.value ∙ e))
           part c.named-id.result body is (sym c.split_path.ensures.is ∙ c.split_at-2.ensures.front) c.split_path.ensures.name c.split_path.ensures.folder refl
-          (c.named-id.ensures.same ∙ c.in_ok-stored.ensures.name ∙ ap (object_name kinds.Tree) c.deref-2.ensures.value) (id_of_test c.named-id.result (ap is_id c.named-id.ensures.same ∙ c.named-id.ensures.valid)).sized left);
+          (c.named-id.ensures.same ∙ c.in_ok-stored.ensures.name ∙ ap (object_name kinds.Tree) c.deref-2.ensures.value) (IsId-from_is_id c.named-id.result (ap is_id c.named-id.ensures.same ∙ c.named-id.ensures.valid)).sized left);
       fits = (subst (λ (t : List ℕ). length t ≤ 16777216) (c.deref-2.ensures.value ∙ is) (c.in_ok-stored.ensures.legal refl).size, tt);
       stored = λ honest. stored_one (objects (g.F.Files.content c.args.files.now)) (objects (g.F.Files.content c.put.new.files)) c.in_ok-stored.stored c.deref-2.result.now es (c.deref-2.ensures.value ∙ is) c.in_ok-stored.ensures.name (c.in_ok-stored.ensures.objects honest);
     }

@@ -8,9 +8,9 @@ use Rattle.vc_message.specs.Streaming.{of_pack}
 use Rattle.vc_pkt.specs.Carried.{with_object}
 use Rattle.vc_pkt.specs.StreamObjectView.{stored}
 use Rattle.vc_pkt.specs.declared.fault.PktFault.TheVariants.{BadRecord}
-use Rattle.vc_session.proofs.BringingLemmas.{brought_carries}
+use Rattle.vc_session.proofs.ArrivalLemmas.{brought_carries}
 use Rattle.vc_session.proofs.CleanLemmas.{bad_then, clean_after}
-use Rattle.vc_session.specs.Bringing.{IsBrought}
+use Rattle.vc_session.specs.Arrival.{HasArrived}
 use Rattle.vc_session.specs.Carrying.{Carries, objects_of_push}
 use Rattle.vc_session.specs.Quarantine.{quarantine_folder}
 use Rattle.vc_message.proofs.ComingLaws.{part_taken}
@@ -30,7 +30,7 @@ pub objects-init : goal.objects-init
 objects-init g c =
     let a = c.in_ok-arriving.arriving in
     record {
-      leads = λ before ack so. ([], so, λ honest. subst (λ (k : ℕ). IsBrought (g.F.Files.content c.begin.new.files) k a.names.keys a.fault (Ok [])) (sym c.in_ok-arriving.ensures.slot) (c.in_ok-arriving.ensures.none honest));
+      leads = λ before ack so. ([], so, λ honest. subst (λ (k : ℕ). HasArrived (g.F.Files.content c.begin.new.files) k a.names.keys a.fault (Ok [])) (sym c.in_ok-arriving.ensures.slot) (c.in_ok-arriving.ensures.none honest));
       none = c.in_ok-arriving.ensures.calm;
       few = c.requires.few;
       slot = c.in_ok-arriving.ensures.slot;

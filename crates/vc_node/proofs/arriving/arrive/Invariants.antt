@@ -6,7 +6,7 @@ use Rattle.vc_message.specs.Streaming.{LeadsTo, of_pack, state_at}
 use Rattle.vc_object.specs.Decoding.{StoredObject}
 use Rattle.vc_object.specs.declared.id.ObjectId.{ObjectId}
 use Rattle.vc_pkt.specs.ObjectStream.{between}
-use Rattle.vc_session.specs.Bringing.{IsBrought}
+use Rattle.vc_session.specs.Arrival.{HasArrived}
 use Rattle.vc_session.specs.Clean.{IsQuarantineClean, MakesNoneBad}
 use Rattle.vc_session.specs.Quarantine.{quarantine_folder}
 use Rattle.vc_node.specs.Arriving.{BeginsPack}
@@ -16,7 +16,7 @@ abbrev pub invariant-objects : goal.invariant-objects
 invariant-objects g l = record {
   leads : (before : Option (List ℕ)) (ack : Option ObjectId) → BeginsPack before (g.R.Read.remaining l.fn.reader) l.fn.taken.bytes l.fn.taken.lines ack
       → (objects : List StoredObject) × LeadsTo any_step beginning before (g.R.Read.remaining l.reader) l.taken.bytes l.taken.lines (state_at (of_pack ack objects) between)
-      × (g.F.Files.honest → IsBrought (g.F.Files.content l.files) l.arriving.slot l.arriving.names.keys l.arriving.fault (Ok objects));
+      × (g.F.Files.honest → HasArrived (g.F.Files.content l.files) l.arriving.slot l.arriving.names.keys l.arriving.fault (Ok objects));
   none : l.arriving.fault ≡ None;
   few : l.taken.lines ≤ l.taken.bytes;
   slot : l.arriving.slot ≡ 0;

@@ -1,6 +1,6 @@
 use Rattle.std.proofs.Common.{List, refl, sym, subst}
 use Rattle.std.proofs.lemmas.Result.{err_from_is_err_and}
-use Rattle.vc_answer.proofs.KeepsLemmas.{keeps_then}
+use Rattle.vc_pack.proofs.KeepsLemmas.{keeps_then}
 use Rattle.vc_exchange.proofs.QuarantinedLemmas.{held_beside, keeps_beside_slot, others_slot, others_then}
 use Rattle.vc_exchange.specs.Quarantined.{HoldsPack}
 use Rattle.vc_files.proofs.WearLemmas.{writes_both, writes_told}

@@ -1,6 +1,6 @@
-use Rattle.std.proofs.Common.{true, false, not, Err, refl, sym, ap, ◌∙◌, true≢false}
+use Rattle.std.proofs.Common.{not, Err, refl, sym, ap, ◌∙◌, true≢false}
 use Rattle.std.proofs.lemmas.Result.{err_from_is_err_and}
-use Rattle.vc_answer.proofs.KeepsLemmas.{keeps_same, keeps_then}
+use Rattle.vc_pack.proofs.KeepsLemmas.{keeps_same, keeps_then}
 use Rattle.vc_exchange.proofs.QuarantinedLemmas.{keeps_beside_slot, others_same, others_slot, others_then}
 use Rattle.vc_exchange.specs.Moving.{told_in}
 use Rattle.vc_files.proofs.FileMapLemmas.{outside_same}

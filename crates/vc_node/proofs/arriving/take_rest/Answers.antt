@@ -1,6 +1,6 @@
 use Rattle.std.proofs.Common.{Ok, Err, refl}
 use Rattle.std.proofs.lemmas.Result.{err_from_is_err_and}
-use Rattle.vc_answer.proofs.KeepsLemmas.{keeps_same}
+use Rattle.vc_pack.proofs.KeepsLemmas.{keeps_same}
 use Rattle.vc_exchange.proofs.QuarantinedLemmas.{others_same}
 use Rattle.vc_files.proofs.FileMapLemmas.{outside_same}
 use Rattle.vc_files.proofs.WearLemmas.{writes_none}

@@ -1,7 +1,7 @@
 use Rattle.std.proofs.Common.{◌≡◌, [], ◌∷◌, sym, ap, ◌∙◌, rules, subst}
-use Rattle.vc_base.proofs.GenerationLemmas.{agrees_where_none}
-use Rattle.vc_base.specs.BaseFault.{IsTold}
-use Rattle.vc_base.specs.Numbering.{numbers}
+use Rattle.vc_history.proofs.GenerationLemmas.{agrees_where_none}
+use Rattle.vc_history.specs.BaseFault.{IsTold}
+use Rattle.vc_history.specs.Numbering.{numbers}
 use Rattle.vc_files.specs.FileMap.{FileMap}
 use Rattle.vc_graph.specs.Graph.{IsClosedUnder, ReachedFrom}
 use Rattle.vc_graph.specs.GraphFault.{IsMet}

@@ -1,21 +1,17 @@
 use Rattle.vc_node.proofs.LookLemmas.{looks_none, looks_then, looks_told}
 use Rattle.vc_files.proofs.WearLemmas.{wears_then, wears_writes, writes_both, writes_none, writes_told}
-use Rattle.std.proofs.Common.{◌≡◌, ◌∙◌, List, rules, inl, inr, sym, ap, subst}
-use Rattle.std.specs.List.{AllByRecursion}
+use Rattle.std.proofs.Common.{◌≡◌, ◌∙◌, rules, inl, inr, sym, ap, subst}
 use Rattle.std.specs.Prelude.{IfSome, codes}
 use Rattle.vc_files.specs.FileMap.{FileMap, SameOutside}
-use Rattle.vc_object.specs.Object.{IsObject}
-use Rattle.vc_object.specs.declared.id.ObjectId.{ObjectId}
-use Rattle.vc_object.specs.declared.kind.Kind.TheVariants as kinds
 use Rattle.vc_store.specs.Store.{objects}
-use Rattle.vc_node.specs.Commit.{IsGoodParent, made_body, parents_of_commit}
+use Rattle.vc_node.specs.Commit.{parents_of_commit}
 use Rattle.vc_node.specs.IndexFile.{SpellsIndex, BlamesIndex}
-use Rattle.vc_node.specs.Making.{AreLines, BlamesLook, BlamesParents, BlamesMaking, IsCut, LeftByCommit, MayCommit, MayMake}
+use Rattle.vc_node.specs.Making.{AreLines, BlamesLook, BlamesParents, BlamesMaking, LeftByCommit}
 use Rattle.vc_node.specs.Making.BlamesMaking.{of_lines, of_look, of_conflict, of_parents, of_index, of_objects}
 use Rattle.vc_node.specs.Shown.{shown}
-use Rattle.vc_node.proofs.MakingLemmas.{left_on, told_on, writes_there, trees_there, stored_shown, committed_shown}
+use Rattle.vc_node.proofs.MakingLemmas.{cut_by, left_on, looked, may_make, told_on, writes_there, trees_there, stored_shown, committed_shown}
 use Rattle.vc_node.proofs.RefusalLemmas.{moving_blamed}
-use Rattle.vc_node.proofs.StoringLemmas.{root_of, memory_blamed, files_blamed}
+use Rattle.vc_node.proofs.StoringLemmas.{memory_blamed, files_blamed}
 use Rattle.vc_node.specs.Reads.{IsAtHead, IsOfCommit, IsReachedByOne, NoneRead, TellsRead}
 use Rattle.vc_node.proofs.CommitReads.{at_head_read, made_read, moving_read, nothing_read, reached_read}
 use Rattle.vc_node.proofs.commit.commit.Goals as goal
@@ -28,23 +24,21 @@ kept_or_read-requires g c = λ honest.
 
 pub returns-clause-committed : goal.returns-clause-committed
 returns-clause-committed g c = λ honest.
+    let w = c.args.words in
     let content = g.F.Files.content in
-    let extra = c.args.extra.now in
-    let first : content c.free_head.new.files ≡ content c.args.files.now = c.in_ok-head.ensures.same in
-    let second : content c.refuse_bad_parents.new.files ≡ content c.args.files.now = c.in_ok-refuse_bad_parents.ensures.same ∙ first in
-    let third : content c.parents_with.new.files ≡ content c.args.files.now = c.in_ok-parents.ensures.same ∙ second in
-    let fourth : content c.kept_or_read.new.files ≡ content c.args.files.now = c.in_ok-index.ensures.same ∙ third in
-    let parents = c.deref-2.ensures.value ∙ c.in_ok-parents.ensures.parents honest ∙ ap (λ (m : FileMap). parents_of_commit m extra) second in
+    let found = looked w.author.now w.committer.now c.in_ok-head.ensures.same c.in_ok-refuse_bad_parents.ensures.same c.in_ok-parents.ensures.same c.in_ok-index.ensures.same
+    (c.in_ok-refuse_lines.ensures.author, c.in_ok-refuse_lines.ensures.committer) (c.in_ok-head.ensures.found honest) (c.in_ok-head.ensures.free honest) (c.in_ok-refuse_bad_parents.ensures.good honest)
+    (c.in_ok-parents.ensures.parents honest) (c.in_ok-index.ensures.spelled honest) in
     record {
       head = c.in_ok-head.head;
       head_is = c.in_ok-head.ensures.found honest;
       free = c.in_ok-head.ensures.free honest;
       map = c.in_ok-index.index;
-      spelled = subst (λ (m : FileMap). SpellsIndex m c.in_ok-index.index) third (c.in_ok-index.ensures.spelled honest);
-      parents = subst (λ (m : FileMap). AllByRecursion (IsGoodParent m) extra) first (c.in_ok-refuse_bad_parents.ensures.good honest);
+      spelled = found.spelled;
+      parents = found.may.parents;
       after = objects (content c.write_objects-2.new.files);
-      writes = writes_there g.F.Files.honest _ _ _ _ _ _ _ _ _ _ honest parents (ap objects fourth) c.in_ok-id.ensures.written;
-      is = committed_shown _ _ _ _ c.in_ok-head.head c.in_ok-id.id fourth (c.in_ok-id.ensures.outside honest) (c.in_ok-move_head.ensures.moved honest);
+      writes = writes_there g.F.Files.honest _ _ _ _ _ _ _ _ _ _ honest (c.deref-2.ensures.value ∙ found.parents_are) (ap objects found.same) c.in_ok-id.ensures.written;
+      is = committed_shown _ _ _ _ c.in_ok-head.head c.in_ok-id.id found.same (c.in_ok-id.ensures.outside honest) (c.in_ok-move_head.ensures.moved honest);
     }
 
 -- ---- what refuses it
@@ -99,21 +93,12 @@ returns-in_err-write_objects-clause-refused g c = λ honest.
     let content = g.F.Files.content in
     let extra = c.args.extra.now in
     let e = c.in_err-write_objects.field-0.0 in
-    let first : content c.free_head.new.files ≡ content c.args.files.now = c.in_ok-head.ensures.same in
-    let second : content c.refuse_bad_parents.new.files ≡ content c.args.files.now = c.in_ok-refuse_bad_parents.ensures.same ∙ first in
-    let third : content c.parents_with.new.files ≡ content c.args.files.now = c.in_ok-parents.ensures.same ∙ second in
-    let parents = c.deref.ensures.value ∙ c.in_ok-parents.ensures.parents honest ∙ ap (λ (m : FileMap). parents_of_commit m extra) second in
-    let may : MayCommit (content c.args.files.now) extra w.author.now w.committer.now = record {
-      lines = (c.in_ok-refuse_lines.ensures.author, c.in_ok-refuse_lines.ensures.committer);
-      head = c.in_ok-head.head;
-      head_is = c.in_ok-head.ensures.found honest;
-      free = c.in_ok-head.ensures.free honest;
-      parents = subst (λ (m : FileMap). AllByRecursion (IsGoodParent m) extra) first (c.in_ok-refuse_bad_parents.ensures.good honest);
-    } in
-    let spelled = subst (λ (m : FileMap). SpellsIndex m c.in_ok-index.index) third (c.in_ok-index.ensures.spelled honest) in
+    let found = looked w.author.now w.committer.now c.in_ok-head.ensures.same c.in_ok-refuse_bad_parents.ensures.same c.in_ok-parents.ensures.same c.in_ok-index.ensures.same
+    (c.in_ok-refuse_lines.ensures.author, c.in_ok-refuse_lines.ensures.committer) (c.in_ok-head.ensures.found honest) (c.in_ok-head.ensures.free honest) (c.in_ok-refuse_bad_parents.ensures.good honest)
+    (c.in_ok-parents.ensures.parents honest) (c.in_ok-index.ensures.spelled honest) in
     let blames : BlamesMaking (content c.args.files.now) extra w.author.now w.committer.now w.message.now e =
-    of_objects c.in_ok-index.index may spelled
-    (memory_blamed (Unit {0}) tt _ (content c.args.files.now) c.in_ok-index.index _ (parents_of_commit (content c.args.files.now) extra) w.author.now w.committer.now w.message.now c.new-memory.ensures parents e c.in_err-write_objects.ensures.refused) in
+    of_objects c.in_ok-index.index found.may found.spelled
+    (memory_blamed (Unit {0}) tt _ (content c.args.files.now) c.in_ok-index.index _ (parents_of_commit (content c.args.files.now) extra) w.author.now w.committer.now w.message.now c.new-memory.ensures (c.deref.ensures.value ∙ found.parents_are) e c.in_err-write_objects.ensures.refused) in
     told_on (BlamesMaking (content c.args.files.now) c.args.extra.now w.author.now w.committer.now w.message.now) e c.from_residual-in_err-write_objects.result c.from_residual-in_err-write_objects.ensures.1 blames
 
 pub returns-in_err-id-clause-refused : goal.returns-in_err-id-clause-refused
@@ -122,22 +107,12 @@ returns-in_err-id-clause-refused g c = λ honest.
     let content = g.F.Files.content in
     let extra = c.args.extra.now in
     let e = c.in_err-id.field-0.0 in
-    let first : content c.free_head.new.files ≡ content c.args.files.now = c.in_ok-head.ensures.same in
-    let second : content c.refuse_bad_parents.new.files ≡ content c.args.files.now = c.in_ok-refuse_bad_parents.ensures.same ∙ first in
-    let third : content c.parents_with.new.files ≡ content c.args.files.now = c.in_ok-parents.ensures.same ∙ second in
-    let fourth : content c.kept_or_read.new.files ≡ content c.args.files.now = c.in_ok-index.ensures.same ∙ third in
-    let parents = c.deref-2.ensures.value ∙ c.in_ok-parents.ensures.parents honest ∙ ap (λ (m : FileMap). parents_of_commit m extra) second in
-    let may : MayCommit (content c.args.files.now) extra w.author.now w.committer.now = record {
-      lines = (c.in_ok-refuse_lines.ensures.author, c.in_ok-refuse_lines.ensures.committer);
-      head = c.in_ok-head.head;
-      head_is = c.in_ok-head.ensures.found honest;
-      free = c.in_ok-head.ensures.free honest;
-      parents = subst (λ (m : FileMap). AllByRecursion (IsGoodParent m) extra) first (c.in_ok-refuse_bad_parents.ensures.good honest);
-    } in
-    let spelled = subst (λ (m : FileMap). SpellsIndex m c.in_ok-index.index) third (c.in_ok-index.ensures.spelled honest) in
+    let found = looked w.author.now w.committer.now c.in_ok-head.ensures.same c.in_ok-refuse_bad_parents.ensures.same c.in_ok-parents.ensures.same c.in_ok-index.ensures.same
+    (c.in_ok-refuse_lines.ensures.author, c.in_ok-refuse_lines.ensures.committer) (c.in_ok-head.ensures.found honest) (c.in_ok-head.ensures.free honest) (c.in_ok-refuse_bad_parents.ensures.good honest)
+    (c.in_ok-parents.ensures.parents honest) (c.in_ok-index.ensures.spelled honest) in
     let blames : BlamesMaking (content c.args.files.now) extra w.author.now w.committer.now w.message.now e =
-    of_objects c.in_ok-index.index may spelled
-    (files_blamed g.F.Files.honest honest _ (content c.args.files.now) c.in_ok-index.index _ (parents_of_commit (content c.args.files.now) extra) w.author.now w.committer.now w.message.now fourth parents e c.in_err-id.ensures.refused) in
+    of_objects c.in_ok-index.index found.may found.spelled
+    (files_blamed g.F.Files.honest honest _ (content c.args.files.now) c.in_ok-index.index _ (parents_of_commit (content c.args.files.now) extra) w.author.now w.committer.now w.message.now found.same (c.deref-2.ensures.value ∙ found.parents_are) e c.in_err-id.ensures.refused) in
     told_on (BlamesMaking (content c.args.files.now) c.args.extra.now w.author.now w.committer.now w.message.now) e c.from_residual-in_err-id.result c.from_residual-in_err-id.ensures.1 blames
 
 pub returns-in_err-move_head-clause-refused : goal.returns-in_err-move_head-clause-refused
@@ -157,31 +132,13 @@ pub returns-in_err-id-clause-left : goal.returns-in_err-id-clause-left
 returns-in_err-id-clause-left g c = λ honest.
     let w = c.args.words in
     let content = g.F.Files.content in
-    let extra = c.args.extra.now in
-    let first : content c.free_head.new.files ≡ content c.args.files.now = c.in_ok-head.ensures.same in
-    let second : content c.refuse_bad_parents.new.files ≡ content c.args.files.now = c.in_ok-refuse_bad_parents.ensures.same ∙ first in
-    let third : content c.parents_with.new.files ≡ content c.args.files.now = c.in_ok-parents.ensures.same ∙ second in
-    let fourth : content c.kept_or_read.new.files ≡ content c.args.files.now = c.in_ok-index.ensures.same ∙ third in
-    let parents = c.deref.ensures.value ∙ c.in_ok-parents.ensures.parents honest ∙ ap (λ (m : FileMap). parents_of_commit m extra) second in
-    let made = c.in_ok-write_objects.ensures.written in
-    let cut : IsCut (content c.args.files.now) extra w.author.now w.committer.now w.message.now (content c.write_objects-2.new.files) = record {
-      may = record {
-        lines = (c.in_ok-refuse_lines.ensures.author, c.in_ok-refuse_lines.ensures.committer);
-        head = c.in_ok-head.head;
-        head_is = c.in_ok-head.ensures.found honest;
-        free = c.in_ok-head.ensures.free honest;
-        parents = subst (λ (m : FileMap). AllByRecursion (IsGoodParent m) extra) first (c.in_ok-refuse_bad_parents.ensures.good honest);
-      };
-      map = c.in_ok-index.index;
-      spelled = subst (λ (m : FileMap). SpellsIndex m c.in_ok-index.index) third (c.in_ok-index.ensures.spelled honest);
-      tree = made.tree;
-      root = root_of (made.trees tt);
-      legal = subst (λ (ps : List ObjectId). IsObject kinds.Commit (made_body made.tree ps w.author.now w.committer.now w.message.now)) parents made.legal;
-      after = objects (content c.write_objects-2.new.files);
-      some = inl (trees_there g.F.Files.honest c.in_ok-index.index _ _ _ honest (ap objects fourth) c.in_err-id.ensures.left);
-      is = stored_shown (content c.args.files.now) (content c.kept_or_read.new.files) (content c.write_objects-2.new.files) fourth (c.in_err-id.ensures.outside honest);
-    } in
-    let left : LeftByCommit (content c.args.files.now) extra w.author.now w.committer.now w.message.now (content c.write_objects-2.new.files) = inr cut in
+    let found = looked w.author.now w.committer.now c.in_ok-head.ensures.same c.in_ok-refuse_bad_parents.ensures.same c.in_ok-parents.ensures.same c.in_ok-index.ensures.same
+    (c.in_ok-refuse_lines.ensures.author, c.in_ok-refuse_lines.ensures.committer) (c.in_ok-head.ensures.found honest) (c.in_ok-head.ensures.free honest) (c.in_ok-refuse_bad_parents.ensures.good honest)
+    (c.in_ok-parents.ensures.parents honest) (c.in_ok-index.ensures.spelled honest) in
+    let left : LeftByCommit (content c.args.files.now) c.args.extra.now w.author.now w.committer.now w.message.now (content c.write_objects-2.new.files) =
+    cut_by found c.deref.ensures.value c.in_ok-write_objects.ensures.written _ (objects (content c.write_objects-2.new.files))
+    (inl (trees_there g.F.Files.honest c.in_ok-index.index _ _ _ honest (ap objects found.same) c.in_err-id.ensures.left))
+    (stored_shown (content c.args.files.now) (content c.kept_or_read.new.files) (content c.write_objects-2.new.files) found.same (c.in_err-id.ensures.outside honest)) in
     left_on _ c.in_err-id.field-0.0 c.from_residual-in_err-id.result c.from_residual-in_err-id.ensures.1 left
 
 pub returns-in_err-move_head-clause-left : goal.returns-in_err-move_head-clause-left
@@ -189,30 +146,14 @@ returns-in_err-move_head-clause-left g c = λ honest.
     let w = c.args.words in
     let content = g.F.Files.content in
     let extra = c.args.extra.now in
-    let first : content c.free_head.new.files ≡ content c.args.files.now = c.in_ok-head.ensures.same in
-    let second : content c.refuse_bad_parents.new.files ≡ content c.args.files.now = c.in_ok-refuse_bad_parents.ensures.same ∙ first in
-    let third : content c.parents_with.new.files ≡ content c.args.files.now = c.in_ok-parents.ensures.same ∙ second in
-    let fourth : content c.kept_or_read.new.files ≡ content c.args.files.now = c.in_ok-index.ensures.same ∙ third in
-    let parents = c.deref-2.ensures.value ∙ c.in_ok-parents.ensures.parents honest ∙ ap (λ (m : FileMap). parents_of_commit m extra) second in
-    let made = writes_there g.F.Files.honest c.in_ok-index.index _ (parents_of_commit (content c.args.files.now) extra) w.author.now w.committer.now w.message.now _ (objects (content c.args.files.now)) _ c.in_ok-id.id honest parents (ap objects fourth) c.in_ok-id.ensures.written in
-    let cut : IsCut (content c.args.files.now) extra w.author.now w.committer.now w.message.now (content c.move_head.new.files) = record {
-      may = record {
-        lines = (c.in_ok-refuse_lines.ensures.author, c.in_ok-refuse_lines.ensures.committer);
-        head = c.in_ok-head.head;
-        head_is = c.in_ok-head.ensures.found honest;
-        free = c.in_ok-head.ensures.free honest;
-        parents = subst (λ (m : FileMap). AllByRecursion (IsGoodParent m) extra) first (c.in_ok-refuse_bad_parents.ensures.good honest);
-      };
-      map = c.in_ok-index.index;
-      spelled = subst (λ (m : FileMap). SpellsIndex m c.in_ok-index.index) third (c.in_ok-index.ensures.spelled honest);
-      tree = made.tree;
-      root = root_of (made.trees tt);
-      legal = made.legal;
-      after = objects (content c.write_objects-2.new.files);
-      some = inr (c.in_ok-id.id, made);
-      is = ap shown (c.in_err-move_head.ensures.err honest) ∙ stored_shown (content c.args.files.now) (content c.kept_or_read.new.files) (content c.write_objects-2.new.files) fourth (c.in_ok-id.ensures.outside honest);
-    } in
-    let left : LeftByCommit (content c.args.files.now) extra w.author.now w.committer.now w.message.now (content c.move_head.new.files) = inr cut in
+    let found = looked w.author.now w.committer.now c.in_ok-head.ensures.same c.in_ok-refuse_bad_parents.ensures.same c.in_ok-parents.ensures.same c.in_ok-index.ensures.same
+    (c.in_ok-refuse_lines.ensures.author, c.in_ok-refuse_lines.ensures.committer) (c.in_ok-head.ensures.found honest) (c.in_ok-head.ensures.free honest) (c.in_ok-refuse_bad_parents.ensures.good honest)
+    (c.in_ok-parents.ensures.parents honest) (c.in_ok-index.ensures.spelled honest) in
+    let made = writes_there g.F.Files.honest c.in_ok-index.index _ (parents_of_commit (content c.args.files.now) extra) w.author.now w.committer.now w.message.now _ (objects (content c.args.files.now)) _ c.in_ok-id.id honest
+    (c.deref-2.ensures.value ∙ found.parents_are) (ap objects found.same) c.in_ok-id.ensures.written in
+    let left : LeftByCommit (content c.args.files.now) extra w.author.now w.committer.now w.message.now (content c.move_head.new.files) =
+    cut_by found c.deref.ensures.value c.in_ok-write_objects.ensures.written _ (objects (content c.write_objects-2.new.files)) (inr (c.in_ok-id.id, made))
+    (ap shown (c.in_err-move_head.ensures.err honest) ∙ stored_shown (content c.args.files.now) (content c.kept_or_read.new.files) (content c.write_objects-2.new.files) found.same (c.in_ok-id.ensures.outside honest)) in
     left_on _ c.in_err-move_head.field-0.0 c.from_residual-in_err-move_head.result c.from_residual-in_err-move_head.ensures.1 left
 
 pub returns-in_err-head-clause-wear : goal.returns-in_err-head-clause-wear
@@ -284,13 +225,11 @@ returns-in_err-write_objects-clause-file g c = λ honest.
     let old = content c.args.files.now in
     let extra = c.args.extra.now in
     let e = c.in_err-write_objects.field-0.0 in
-    let first : content c.free_head.new.files ≡ old = c.in_ok-head.ensures.same in
-    let second : content c.refuse_bad_parents.new.files ≡ old = c.in_ok-refuse_bad_parents.ensures.same ∙ first in
-    let third : content c.parents_with.new.files ≡ old = c.in_ok-parents.ensures.same ∙ second in
-    let spelled = subst (λ (m : FileMap). SpellsIndex m c.in_ok-index.index) third (c.in_ok-index.ensures.spelled honest) in
-    let parents = c.deref.ensures.value ∙ c.in_ok-parents.ensures.parents honest ∙ ap (λ (m : FileMap). parents_of_commit m extra) second in
+    let found = looked w.author.now w.committer.now c.in_ok-head.ensures.same c.in_ok-refuse_bad_parents.ensures.same c.in_ok-parents.ensures.same c.in_ok-index.ensures.same
+    (c.in_ok-refuse_lines.ensures.author, c.in_ok-refuse_lines.ensures.committer) (c.in_ok-head.ensures.found honest) (c.in_ok-head.ensures.free honest) (c.in_ok-refuse_bad_parents.ensures.good honest)
+    (c.in_ok-parents.ensures.parents honest) (c.in_ok-index.ensures.spelled honest) in
     told_on (TellsRead (IsOfCommit old extra w.author.now w.committer.now w.message.now) (IsAtHead old)) e c.from_residual-in_err-write_objects.result c.from_residual-in_err-write_objects.ensures.1
-    (made_read old extra w.author.now w.committer.now w.message.now c.in_ok-index.index spelled _ parents e c.in_err-write_objects.ensures.file)
+    (made_read old extra w.author.now w.committer.now w.message.now c.in_ok-index.index found.spelled _ (c.deref.ensures.value ∙ found.parents_are) e c.in_err-write_objects.ensures.file)
 
 pub returns-in_err-id-clause-file : goal.returns-in_err-id-clause-file
 returns-in_err-id-clause-file g c = λ honest.
@@ -299,13 +238,11 @@ returns-in_err-id-clause-file g c = λ honest.
     let old = content c.args.files.now in
     let extra = c.args.extra.now in
     let e = c.in_err-id.field-0.0 in
-    let first : content c.free_head.new.files ≡ old = c.in_ok-head.ensures.same in
-    let second : content c.refuse_bad_parents.new.files ≡ old = c.in_ok-refuse_bad_parents.ensures.same ∙ first in
-    let third : content c.parents_with.new.files ≡ old = c.in_ok-parents.ensures.same ∙ second in
-    let spelled = subst (λ (m : FileMap). SpellsIndex m c.in_ok-index.index) third (c.in_ok-index.ensures.spelled honest) in
-    let parents = c.deref-2.ensures.value ∙ c.in_ok-parents.ensures.parents honest ∙ ap (λ (m : FileMap). parents_of_commit m extra) second in
+    let found = looked w.author.now w.committer.now c.in_ok-head.ensures.same c.in_ok-refuse_bad_parents.ensures.same c.in_ok-parents.ensures.same c.in_ok-index.ensures.same
+    (c.in_ok-refuse_lines.ensures.author, c.in_ok-refuse_lines.ensures.committer) (c.in_ok-head.ensures.found honest) (c.in_ok-head.ensures.free honest) (c.in_ok-refuse_bad_parents.ensures.good honest)
+    (c.in_ok-parents.ensures.parents honest) (c.in_ok-index.ensures.spelled honest) in
     told_on (TellsRead (IsOfCommit old extra w.author.now w.committer.now w.message.now) (IsAtHead old)) e c.from_residual-in_err-id.result c.from_residual-in_err-id.ensures.1
-    (made_read old extra w.author.now w.committer.now w.message.now c.in_ok-index.index spelled _ parents e c.in_err-id.ensures.file)
+    (made_read old extra w.author.now w.committer.now w.message.now c.in_ok-index.index found.spelled _ (c.deref-2.ensures.value ∙ found.parents_are) e c.in_err-id.ensures.file)
 
 pub returns-in_err-move_head-clause-file : goal.returns-in_err-move_head-clause-file
 returns-in_err-move_head-clause-file g c = λ honest.
@@ -314,10 +251,7 @@ returns-in_err-move_head-clause-file g c = λ honest.
     let old = content c.args.files.now in
     let extra = c.args.extra.now in
     let e = c.in_err-move_head.field-0.0 in
-    let first : content c.free_head.new.files ≡ old = c.in_ok-head.ensures.same in
-    let second : content c.refuse_bad_parents.new.files ≡ old = c.in_ok-refuse_bad_parents.ensures.same ∙ first in
-    let third : content c.parents_with.new.files ≡ old = c.in_ok-parents.ensures.same ∙ second in
-    let fourth : content c.kept_or_read.new.files ≡ old = c.in_ok-index.ensures.same ∙ third in
+    let fourth : content c.kept_or_read.new.files ≡ old = c.in_ok-index.ensures.same ∙ c.in_ok-parents.ensures.same ∙ c.in_ok-refuse_bad_parents.ensures.same ∙ c.in_ok-head.ensures.same in
     let outside = subst (λ (m : FileMap). SameOutside (codes "objects/") m (content c.write_objects-2.new.files)) fourth (c.in_ok-id.ensures.outside honest) in
     told_on (TellsRead (IsOfCommit old extra w.author.now w.committer.now w.message.now) (IsAtHead old)) e c.from_residual-in_err-move_head.result c.from_residual-in_err-move_head.ensures.1
     (at_head_read old extra w.author.now w.committer.now w.message.now e (moving_read old (content c.write_objects-2.new.files) outside c.in_ok-head.head (c.in_ok-head.ensures.found honest) (c.in_ok-head.ensures.free honest) e (c.in_err-move_head.ensures.file honest)))
@@ -364,77 +298,23 @@ returns-in_err-write_objects-clause-looks g c = λ honest. inr (looks_then c.in_
 pub returns-in_err-id-clause-looks : goal.returns-in_err-id-clause-looks
 returns-in_err-id-clause-looks g c = λ honest.
     let w = c.args.words in
-    let content = g.F.Files.content in
-    let extra = c.args.extra.now in
-    let first : content c.free_head.new.files ≡ content c.args.files.now = c.in_ok-head.ensures.same in
-    let second : content c.refuse_bad_parents.new.files ≡ content c.args.files.now = c.in_ok-refuse_bad_parents.ensures.same ∙ first in
-    let third : content c.parents_with.new.files ≡ content c.args.files.now = c.in_ok-parents.ensures.same ∙ second in
-    let parents = c.deref.ensures.value ∙ c.in_ok-parents.ensures.parents honest ∙ ap (λ (m : FileMap). parents_of_commit m extra) second in
-    let made = c.in_ok-write_objects.ensures.written in
-    let makes : MayMake (content c.args.files.now) extra w.author.now w.committer.now w.message.now = record {
-      may = record {
-        lines = (c.in_ok-refuse_lines.ensures.author, c.in_ok-refuse_lines.ensures.committer);
-        head = c.in_ok-head.head;
-        head_is = c.in_ok-head.ensures.found honest;
-        free = c.in_ok-head.ensures.free honest;
-        parents = subst (λ (m : FileMap). AllByRecursion (IsGoodParent m) extra) first (c.in_ok-refuse_bad_parents.ensures.good honest);
-      };
-      map = c.in_ok-index.index;
-      spelled = subst (λ (m : FileMap). SpellsIndex m c.in_ok-index.index) third (c.in_ok-index.ensures.spelled honest);
-      tree = made.tree;
-      root = root_of (made.trees tt);
-      legal = subst (λ (ps : List ObjectId). IsObject kinds.Commit (made_body made.tree ps w.author.now w.committer.now w.message.now)) parents made.legal;
-    } in
-    inl makes
+    let found = looked w.author.now w.committer.now c.in_ok-head.ensures.same c.in_ok-refuse_bad_parents.ensures.same c.in_ok-parents.ensures.same c.in_ok-index.ensures.same
+    (c.in_ok-refuse_lines.ensures.author, c.in_ok-refuse_lines.ensures.committer) (c.in_ok-head.ensures.found honest) (c.in_ok-head.ensures.free honest) (c.in_ok-refuse_bad_parents.ensures.good honest)
+    (c.in_ok-parents.ensures.parents honest) (c.in_ok-index.ensures.spelled honest) in
+    inl (may_make found c.deref.ensures.value c.in_ok-write_objects.ensures.written)
 
 pub returns-in_err-move_head-clause-looks : goal.returns-in_err-move_head-clause-looks
 returns-in_err-move_head-clause-looks g c = λ honest.
     let w = c.args.words in
-    let content = g.F.Files.content in
-    let extra = c.args.extra.now in
-    let first : content c.free_head.new.files ≡ content c.args.files.now = c.in_ok-head.ensures.same in
-    let second : content c.refuse_bad_parents.new.files ≡ content c.args.files.now = c.in_ok-refuse_bad_parents.ensures.same ∙ first in
-    let third : content c.parents_with.new.files ≡ content c.args.files.now = c.in_ok-parents.ensures.same ∙ second in
-    let parents = c.deref.ensures.value ∙ c.in_ok-parents.ensures.parents honest ∙ ap (λ (m : FileMap). parents_of_commit m extra) second in
-    let made = c.in_ok-write_objects.ensures.written in
-    let makes : MayMake (content c.args.files.now) extra w.author.now w.committer.now w.message.now = record {
-      may = record {
-        lines = (c.in_ok-refuse_lines.ensures.author, c.in_ok-refuse_lines.ensures.committer);
-        head = c.in_ok-head.head;
-        head_is = c.in_ok-head.ensures.found honest;
-        free = c.in_ok-head.ensures.free honest;
-        parents = subst (λ (m : FileMap). AllByRecursion (IsGoodParent m) extra) first (c.in_ok-refuse_bad_parents.ensures.good honest);
-      };
-      map = c.in_ok-index.index;
-      spelled = subst (λ (m : FileMap). SpellsIndex m c.in_ok-index.index) third (c.in_ok-index.ensures.spelled honest);
-      tree = made.tree;
-      root = root_of (made.trees tt);
-      legal = subst (λ (ps : List ObjectId). IsObject kinds.Commit (made_body made.tree ps w.author.now w.committer.now w.message.now)) parents made.legal;
-    } in
-    inl makes
+    let found = looked w.author.now w.committer.now c.in_ok-head.ensures.same c.in_ok-refuse_bad_parents.ensures.same c.in_ok-parents.ensures.same c.in_ok-index.ensures.same
+    (c.in_ok-refuse_lines.ensures.author, c.in_ok-refuse_lines.ensures.committer) (c.in_ok-head.ensures.found honest) (c.in_ok-head.ensures.free honest) (c.in_ok-refuse_bad_parents.ensures.good honest)
+    (c.in_ok-parents.ensures.parents honest) (c.in_ok-index.ensures.spelled honest) in
+    inl (may_make found c.deref.ensures.value c.in_ok-write_objects.ensures.written)
 
 pub returns-clause-looks : goal.returns-clause-looks
 returns-clause-looks g c = λ honest.
     let w = c.args.words in
-    let content = g.F.Files.content in
-    let extra = c.args.extra.now in
-    let first : content c.free_head.new.files ≡ content c.args.files.now = c.in_ok-head.ensures.same in
-    let second : content c.refuse_bad_parents.new.files ≡ content c.args.files.now = c.in_ok-refuse_bad_parents.ensures.same ∙ first in
-    let third : content c.parents_with.new.files ≡ content c.args.files.now = c.in_ok-parents.ensures.same ∙ second in
-    let parents = c.deref.ensures.value ∙ c.in_ok-parents.ensures.parents honest ∙ ap (λ (m : FileMap). parents_of_commit m extra) second in
-    let made = c.in_ok-write_objects.ensures.written in
-    let makes : MayMake (content c.args.files.now) extra w.author.now w.committer.now w.message.now = record {
-      may = record {
-        lines = (c.in_ok-refuse_lines.ensures.author, c.in_ok-refuse_lines.ensures.committer);
-        head = c.in_ok-head.head;
-        head_is = c.in_ok-head.ensures.found honest;
-        free = c.in_ok-head.ensures.free honest;
-        parents = subst (λ (m : FileMap). AllByRecursion (IsGoodParent m) extra) first (c.in_ok-refuse_bad_parents.ensures.good honest);
-      };
-      map = c.in_ok-index.index;
-      spelled = subst (λ (m : FileMap). SpellsIndex m c.in_ok-index.index) third (c.in_ok-index.ensures.spelled honest);
-      tree = made.tree;
-      root = root_of (made.trees tt);
-      legal = subst (λ (ps : List ObjectId). IsObject kinds.Commit (made_body made.tree ps w.author.now w.committer.now w.message.now)) parents made.legal;
-    } in
-    inl makes
+    let found = looked w.author.now w.committer.now c.in_ok-head.ensures.same c.in_ok-refuse_bad_parents.ensures.same c.in_ok-parents.ensures.same c.in_ok-index.ensures.same
+    (c.in_ok-refuse_lines.ensures.author, c.in_ok-refuse_lines.ensures.committer) (c.in_ok-head.ensures.found honest) (c.in_ok-head.ensures.free honest) (c.in_ok-refuse_bad_parents.ensures.good honest)
+    (c.in_ok-parents.ensures.parents honest) (c.in_ok-index.ensures.spelled honest) in
+    inl (may_make found c.deref.ensures.value c.in_ok-write_objects.ensures.written)

@@ -1,5 +1,5 @@
 use Rattle.std.proofs.Common.{inr, refl}
-use Rattle.vc_answer.proofs.KeepsLemmas.{keeps_same}
+use Rattle.vc_pack.proofs.KeepsLemmas.{keeps_same}
 use Rattle.vc_files.proofs.WearLemmas.{writes_none}
 use Rattle.vc_message.specs.AnyView.{message_text}
 use Rattle.vc_node.proofs.LookLemmas.{looks_none}

@@ -1,5 +1,5 @@
 use Rattle.std.proofs.Common.{refl, subst}
-use Rattle.vc_answer.proofs.KeepsLemmas.{keeps_same}
+use Rattle.vc_pack.proofs.KeepsLemmas.{keeps_same}
 use Rattle.vc_message.specs.AnyView.{message_text}
 use Rattle.vc_message.specs.Machine.{TextOf}
 use Rattle.vc_message.specs.declared.message.Message.{Message}

@@ -1,5 +1,5 @@
 use Rattle.std.proofs.Common.{Ok, ap, inr, refl, subst}
-use Rattle.vc_answer.proofs.KeepsLemmas.{keeps_same}
+use Rattle.vc_pack.proofs.KeepsLemmas.{keeps_same}
 use Rattle.vc_exchange.proofs.KeptLemmas.{keeps_beside_refs}
 use Rattle.vc_exchange.specs.Moving.{told_in}
 use Rattle.vc_exchange.specs.Receiving.{IsAdvertTaken}

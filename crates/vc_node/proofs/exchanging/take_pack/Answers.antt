@@ -1,13 +1,15 @@
-use Rattle.std.proofs.Common.{Ok, ap, inr, refl, sym, ◌∙◌}
-use Rattle.vc_answer.proofs.KeepsLemmas.{keeps_same}
+use Rattle.std.proofs.Common.{Ok, ap, inr, refl, subst, sym, true, ◌∙◌}
+use Rattle.vc_pack.proofs.KeepsLemmas.{keeps_same}
 use Rattle.vc_exchange.specs.Moving.{told_in}
 use Rattle.vc_fetch.specs.PackView.{pack_text}
 use Rattle.vc_files.proofs.WearLemmas.{writes_none}
+use Rattle.vc_files.specs.FileMap.{FileMap}
 use Rattle.vc_model.specs.CloneCall.CloneCall.{Receive}
 use Rattle.vc_node.proofs.ExchangingLemmas.{awaiting, pack_failed, pack_refused, pack_taken, pack_unexpected, same_pack, still_awaiting}
 use Rattle.vc_node.proofs.LookLemmas.{looks_none}
-use Rattle.vc_node.proofs.ReceivingClone.{bad_same, nothing_beside}
+use Rattle.vc_node.proofs.ReceivingClone.{bad_same, beside_kept, nothing_beside}
 use Rattle.vc_node.specs.Awaited.{awaited_text}
+use Rattle.vc_node.specs.Machine.{HoldsNode}
 use Rattle.vc_node.specs.declared.exchanging.Received.TheVariants.{Moved}
 use Rattle.vc_node.proofs.exchanging.take_pack.Goals as goal
 
@@ -29,11 +31,11 @@ returns-in_err-moves-clause-answers g c = λ honest m is.
     awaiting (Receive m) _ _ _ _ _ (ap awaited_text c.in-Pack.is) _
     (still_awaiting (Receive m) _ _ _ _ _ (same_pack _ _ _ _ (sym c.deref.ensures.value) (sym c.deref-2.ensures.value))
     (pack_failed (g.F.Files.content c.args.files.now) (g.F.Files.content c.receive_pack.new.files) c.deref.result.now (told_in c.deref-2.result.now) m (pack_text c.args.pack.now) is
-    (c.receive_pack.ensures.beside honest) (c.receive_pack.ensures.bad honest) c.in_err-moves.field-0.0 c.from_residual.result c.from_residual.ensures.1 (c.in_err-moves.ensures.refused honest)
-    (c.in_err-moves.ensures.unchanged honest) (c.in_err-moves.ensures.cut honest)))
+    (beside_kept _ _ (c.receive_pack.ensures.beside honest)) (c.receive_pack.ensures.bad honest) c.in_err-moves.field-0.0 c.from_residual.result c.from_residual.ensures.1 (c.in_err-moves.ensures.refused honest)
+    (λ id lacks awaited n. subst (λ (m : FileMap). HoldsNode m true awaited n) (sym (c.in_err-moves.ensures.unchanged honest id lacks))) (c.in_err-moves.ensures.cut honest)))
 
 pub returns-clause-answers : goal.returns-clause-answers
 returns-clause-answers g c = λ honest m is.
     awaiting (Receive m) (Ok (Moved c.in_ok-moves.moves.moved c.in_ok-moves.moves.left)) _ _ _ _ (ap awaited_text c.in-Pack.is ∙ same_pack _ _ _ _ (sym c.deref.ensures.value) (sym c.deref-2.ensures.value)) _
     (pack_taken (g.F.Files.content c.args.files.now) (g.F.Files.content c.receive_pack.new.files) c.deref.result.now (told_in c.deref-2.result.now) m (pack_text c.args.pack.now) is
-    (c.receive_pack.ensures.beside honest) (c.receive_pack.ensures.bad honest) c.in_ok-moves.moves.moved c.in_ok-moves.moves.left (c.in_ok-moves.ensures.taken honest))
+    (beside_kept _ _ (c.receive_pack.ensures.beside honest)) (c.receive_pack.ensures.bad honest) c.in_ok-moves.moves.moved c.in_ok-moves.moves.left (c.in_ok-moves.ensures.taken honest))

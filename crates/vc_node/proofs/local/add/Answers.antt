@@ -15,7 +15,7 @@ use Rattle.vc_node.specs.Blames.{BlamesAdd, MayStage}
 use Rattle.vc_node.proofs.ShownLemmas.{shown_index, shown_objects_from}
 use Rattle.vc_node.proofs.IndexLemmas.{index_add_blamed}
 use Rattle.vc_node.proofs.CleanLemmas.{clean_from, clean_on, clean_then, clean_put, clean_index}
-use Rattle.vc_answer.proofs.KeepsLemmas.{keeps_put, keeps_same, keeps_then}
+use Rattle.vc_pack.proofs.KeepsLemmas.{keeps_put, keeps_same, keeps_then}
 use Rattle.vc_node.proofs.KeepingLemmas.{keeps_index}
 use Rattle.vc_node.proofs.local.add.Goals as goal
 

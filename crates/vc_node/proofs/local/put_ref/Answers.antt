@@ -1,4 +1,4 @@
-use Rattle.vc_refs.specs.Way.{IsFree}
+use Rattle.vc_refs.specs.Obstacle.{IsFree}
 use Rattle.vc_files.specs.FileMap.{FileMap}
 use Rattle.vc_node.proofs.LookLemmas.{looks_told, or_told, looks_or}
 use Rattle.std.proofs.Common.{rules, inr, subst, sym}

@@ -1,6 +1,6 @@
 use Rattle.vc_files.specs.FileMap.{FileMap}
 use Rattle.vc_node.specs.GoodCommit.{IsGoodBeyondRefs}
-use Rattle.vc_refs.specs.Way.{IsFree}
+use Rattle.vc_refs.specs.Obstacle.{IsFree}
 use Rattle.vc_node.proofs.LookLemmas.{looks_told, looks_then, or_told, looks_or}
 use Rattle.std.proofs.Common.{◌≡◌, rules, inr, subst}
 use Rattle.vc_files.proofs.WearLemmas.{wears_then, wears_writes, writes_told}

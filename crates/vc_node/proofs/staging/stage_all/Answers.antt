@@ -8,15 +8,16 @@ use Rattle.vc_node.specs.Staging.{BlamesStaging, RefusesFirst, placed, with_all}
 use Rattle.vc_node.proofs.CleanLemmas.{clean_from, clean_index}
 use Rattle.vc_node.proofs.KeepingLemmas.{keeps_index}
 use Rattle.vc_node.proofs.LookLemmas.{looks_told}
+use Rattle.vc_node.proofs.MakingLemmas.{told_on}
 use Rattle.vc_node.proofs.ShownLemmas.{shown_index_from}
-use Rattle.vc_node.proofs.StagingLemmas.{blamed_reads, first_blamed, look_blamed, some_placed, told_on, told_quiet}
+use Rattle.vc_node.proofs.StagingLemmas.{blamed_reads, first_blamed, look_blamed, some_placed, told_quiet}
 use Rattle.vc_node.proofs.staging.stage_all.Goals as goal
 
 pub returns-in_err-index-clause-refused : goal.returns-in_err-index-clause-refused
 returns-in_err-index-clause-refused g c = λ honest m spells.
     let es = map placed c.args.staged.now in
     let fault = c.in_err-index.field-0.0 in
-    told_on (BlamesStaging m es) c.from_residual.result fault (search rules)
+    told_on (BlamesStaging m es) fault c.from_residual.result (search rules)
     (look_blamed (g.F.Files.content c.args.files.now) m es fault spells (some_placed c.args.staged.now c.is_empty.result c.is_empty.ensures c.if-is_empty.false) (c.in_err-index.ensures.refused honest))
 
 pub returns-in_err-index-clause-wear : goal.returns-in_err-index-clause-wear
@@ -27,13 +28,13 @@ returns-in_err-put_all-clause-refused g c = λ honest m spells.
     let es = map placed c.args.staged.now in
     let fault = c.in_err-put_all.field-0.0 in
     let first : RefusesFirst m es fault = subst (λ (i : IndexMap). RefusesFirst i es fault) (c.in_ok-index.ensures.again honest m spells) c.in_err-put_all.ensures.refused in
-    told_on (BlamesStaging m es) c.from_residual-in_err-put_all.result (of_index fault) (search rules) (first_blamed m es fault first)
+    told_on (BlamesStaging m es) (of_index fault) c.from_residual-in_err-put_all.result (search rules) (first_blamed m es fault first)
 
 pub returns-in_err-put_all-clause-file : goal.returns-in_err-put_all-clause-file
 returns-in_err-put_all-clause-file g c =
     let es = map placed c.args.staged.now in
     let fault = c.in_err-put_all.field-0.0 in
-    told_on (TellsRead NoneRead NoneRead) c.from_residual-in_err-put_all.result (of_index fault) (search rules) (blamed_reads c.in_ok-index.index es (of_index fault) (first_blamed c.in_ok-index.index es fault c.in_err-put_all.ensures.refused))
+    told_on (TellsRead NoneRead NoneRead) (of_index fault) c.from_residual-in_err-put_all.result (search rules) (blamed_reads c.in_ok-index.index es (of_index fault) (first_blamed c.in_ok-index.index es fault c.in_err-put_all.ensures.refused))
 
 pub returns-in_err-put_all-clause-wear : goal.returns-in_err-put_all-clause-wear
 returns-in_err-put_all-clause-wear g c =

@@ -1,7 +1,7 @@
 use Rattle.std.proofs.Common.{◌≡◌, ◌∙◌, ◌++◌, ap, inr}
 use Rattle.std.proofs.lemmas.Result.{err_from_is_err_and}
-use Rattle.vc_base.proofs.GenerationLemmas.{agrees_where_none}
-use Rattle.vc_base.specs.Numbering.{numbers}
+use Rattle.vc_history.proofs.GenerationLemmas.{agrees_where_none}
+use Rattle.vc_history.specs.Numbering.{numbers}
 use Rattle.vc_object.specs.ObjectMap.{parents_in}
 use Rattle.vc_rev.specs.RootsView.{roots_view}
 use Rattle.vc_rev.specs.Selection.{IsMetBy, IsMetByPairs}

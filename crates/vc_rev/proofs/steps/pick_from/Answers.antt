@@ -1,5 +1,5 @@
-use Rattle.std.proofs.Common.{◌≡◌, Ok, refl, sym}
-use Rattle.std.proofs.lemmas.Result.{err_from_is_err_and, IfOk-weaker, IfErr-weaker}
+use Rattle.std.proofs.Common.{◌≡◌, ◌≢◌, Ok, refl, sym}
+use Rattle.std.proofs.lemmas.Result.{err_from_is_err_and, IfOk-weaker, IfErr-weaker, IfErr-at_err}
 use Rattle.vc_files.specs.declared.faults.Fault.TheVariants as devices
 use Rattle.vc_object.specs.Decoding.{stored_object}
 use Rattle.vc_store.specs.declared.faults.StoreFault.TheVariants as stores
@@ -7,8 +7,9 @@ use Rattle.vc_rev.specs.Asking.{PeelingAsks}
 use Rattle.vc_rev.specs.Meaning.{PeelsTo, pick}
 use Rattle.vc_rev.specs.Source.{source}
 use Rattle.vc_rev.specs.declared.refusal.SourceFault.TheVariants as sources
+use Rattle.vc_rev.specs.declared.refusal.RevFault.{RevFault}
 use Rattle.vc_rev.specs.declared.refusal.RevFault.TheVariants as faults
-use Rattle.vc_rev.proofs.AnswerLemmas.{told_only, told_alone, wears_none, err_at}
+use Rattle.vc_rev.proofs.AnswerLemmas.{told_only, told_alone, wears_none}
 use Rattle.vc_rev.proofs.steps.pick_from.Goals as goal
 
 pub returns-in_err-at-clause-refused : goal.returns-in_err-at-clause-refused
@@ -32,4 +33,4 @@ returns-clause-refused g c =
 pub returns-clause-wear : goal.returns-clause-wear
 returns-clause-wear g c =
     wears_none g.R.Objects.failed g.R.Objects.can_fail g.R.Objects.left c.args.repo.now c.peel.new.repo _ _ c.in_ok-at.ensures.wear
-    (λ is. err_at _ c.pick.result (faults.Source (sources.Store (stores.Fault devices.Device))) c.pick.ensures.memory is refl)
+    (λ is. IfErr-at_err (λ (e : RevFault). e ≢ faults.Source (sources.Store (stores.Fault devices.Device))) is c.pick.ensures.memory refl)

@@ -1,5 +1,5 @@
-use Rattle.std.proofs.Common.{◌≡◌, Ok, refl, sym, rules}
-use Rattle.std.proofs.lemmas.Result.{err_from_is_err_and, IfOk-weaker, IfErr-weaker}
+use Rattle.std.proofs.Common.{◌≡◌, ◌≢◌, Ok, refl, sym, rules}
+use Rattle.std.proofs.lemmas.Result.{err_from_is_err_and, IfOk-weaker, IfErr-weaker, IfErr-at_err}
 use Rattle.vc_files.specs.Failures.{Wears}
 use Rattle.vc_files.specs.declared.faults.Fault.TheVariants as devices
 use Rattle.vc_object.specs.Decoding.{StoredObject, stored_object}
@@ -12,8 +12,9 @@ use Rattle.vc_rev.specs.Selection.{commit_at}
 use Rattle.vc_rev.specs.Source.{source}
 use Rattle.vc_rev.specs.Views.{rev_view}
 use Rattle.vc_rev.specs.declared.refusal.SourceFault.TheVariants as sources
+use Rattle.vc_rev.specs.declared.refusal.RevFault.{RevFault}
 use Rattle.vc_rev.specs.declared.refusal.RevFault.TheVariants as faults
-use Rattle.vc_rev.proofs.AnswerLemmas.{told_first, told_next, told_only, told_alone, wears_none, err_at}
+use Rattle.vc_rev.proofs.AnswerLemmas.{told_first, told_next, told_only, told_alone, wears_none}
 use Rattle.vc_rev.proofs.terms.commit_value.Goals as goal
 
 pub returns-in_err-id-clause-refused : goal.returns-in_err-id-clause-refused
@@ -52,4 +53,4 @@ pub returns-clause-wear : goal.returns-clause-wear
 returns-clause-wear g c =
     let before : Wears g.R.Objects.failed g.R.Objects.can_fail g.R.Objects.left c.args.repo.now c.peel.new.repo ⊥ = search rules in
     wears_none g.R.Objects.failed g.R.Objects.can_fail g.R.Objects.left c.args.repo.now c.peel.new.repo _ _ before
-    (λ is. err_at _ c.commit_at.result (faults.Source (sources.Store (stores.Fault devices.Device))) c.commit_at.ensures.memory is refl)
+    (λ is. IfErr-at_err (λ (e : RevFault). e ≢ faults.Source (sources.Store (stores.Fault devices.Device))) is c.commit_at.ensures.memory refl)

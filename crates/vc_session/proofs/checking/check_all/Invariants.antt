@@ -1,6 +1,6 @@
 use Rattle.std.proofs.Common.{◌≡◌, length, take}
-use Rattle.vc_base.specs.Generation.{Agrees}
-use Rattle.vc_base.specs.Numbering.{numbers}
+use Rattle.vc_history.specs.Generation.{Agrees}
+use Rattle.vc_history.specs.Numbering.{numbers}
 use Rattle.vc_files.specs.Failures.{Wears}
 use Rattle.vc_object.specs.ObjectMap.{parents_in}
 use Rattle.vc_push.specs.PushView.{commands_of}

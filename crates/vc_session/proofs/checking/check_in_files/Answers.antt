@@ -1,6 +1,6 @@
 use Rattle.std.proofs.Common.{rules, ◌≡◌, Err, sym, ap, ◌∙◌, subst}
-use Rattle.vc_base.specs.Generation.{Agrees}
-use Rattle.vc_base.specs.Numbering.{numbers}
+use Rattle.vc_history.specs.Generation.{Agrees}
+use Rattle.vc_history.specs.Numbering.{numbers}
 use Rattle.vc_files.specs.FileMap.{FileMap}
 use Rattle.vc_object.specs.ObjectMap.{ObjectMap, parents_in}
 use Rattle.vc_push.specs.PushView.{commands_of}

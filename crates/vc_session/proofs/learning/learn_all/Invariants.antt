@@ -1,5 +1,5 @@
 use Rattle.std.proofs.Common.{◌≡◌, take}
-use Rattle.vc_base.specs.Stored.{AgreesIn}
+use Rattle.vc_history.specs.Stored.{AgreesIn}
 use Rattle.vc_files.specs.Failures.{Wears}
 use Rattle.vc_session.specs.Learning.{IsLearnt}
 use Rattle.vc_session.proofs.learning.learn_all.Given as goal

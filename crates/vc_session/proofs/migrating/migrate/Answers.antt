@@ -1,4 +1,4 @@
-use Rattle.std.proofs.Common.{arith, rules, ℕ, ◌<◌, ◌≡◌, [], ◌∷◌, List, refl, length, drop, get_or, take, ap, sym, ◌∙◌, subst, Result, Ok, Err, OnErr, ◌⊎◌, inl, inr}
+use Rattle.std.proofs.Common.{arith, rules, ℕ, ◌<◌, ◌≡◌, [], ◌∷◌, List, refl, length, drop, get_or, take, ap, sym, ◌∙◌, subst, ◌⊎◌, inl, inr}
 use Rattle.std.specs.Prelude.{◌≢◌}
 use Rattle.std.proofs.lemmas.List.Elements.{Contains-get_or}
 use Rattle.std.proofs.lemmas.List.{take-append-drop, take_all, take_more}
@@ -14,6 +14,7 @@ use Rattle.vc_session.proofs.DamageLemmas.{blames_before}
 use Rattle.vc_session.specs.Migrating.{IsFrontMigrated, migrated}
 use Rattle.vc_session.proofs.MigratingLemmas.{migrated_more, migrated_none}
 use Rattle.vc_session.proofs.migrating.migrate.Goals as goal
+use Rattle.vc_session.proofs.SessionLemmas.{on_err}
 
 not_below : (ids : List ObjectId) (place : ℕ) → ids ≡ [] → place < length ids → ⊥
 not_below [] place none within = absurd (omega (arith, within))
@@ -70,10 +71,6 @@ returns-in_err-migrate_one-clause-bad g c = λ honest.
 none_or_some : {P : Type 0} (ids : List ObjectId) → (ids ≡ [] → P) → (ids ≢ []) ⊎ P
 none_or_some [] none = inr (none refl)
 none_or_some (id ∷ ids) none = inl (λ e. cc e)
-
-on_err : {A E : Type 0} (r : Result A E) (X : Type 0) → X → OnErr r X
-on_err (Ok a) X x = tt
-on_err (Err e) X x = x
 
 pub returns-in_err-migrate_one-clause-left : goal.returns-in_err-migrate_one-clause-left
 returns-in_err-migrate_one-clause-left g c = λ honest.

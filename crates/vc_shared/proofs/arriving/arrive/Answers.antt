@@ -9,7 +9,7 @@ use Rattle.vc_pkt.specs.StreamObjectView.{stored}
 use Rattle.vc_push.specs.Push.{carry}
 use Rattle.vc_push.specs.PushView.{commands_of}
 use Rattle.vc_session.proofs.CleanLemmas.{bad_then, clean_after}
-use Rattle.vc_session.specs.Bringing.{IsBrought}
+use Rattle.vc_session.specs.Arrival.{HasArrived}
 use Rattle.vc_session.specs.Carrying.{Carries, objects_of_push}
 use Rattle.vc_session.specs.Quarantine.{quarantine_folder}
 use Rattle.vc_session.specs.Steps.{IsOpened}
@@ -30,7 +30,7 @@ pub objects-init : goal.objects-init
 objects-init g c =
     let a = c.in_ok-arriving.arriving in
     record {
-      leads = λ before so. (Ok [], so, λ honest. subst (λ (k : ℕ). IsBrought (g.F.Files.content c.begin.new.files) k a.names.keys a.fault (Ok [])) (sym c.in_ok-arriving.ensures.slot) (c.in_ok-arriving.ensures.none honest));
+      leads = λ before so. (Ok [], so, λ honest. subst (λ (k : ℕ). HasArrived (g.F.Files.content c.begin.new.files) k a.names.keys a.fault (Ok [])) (sym c.in_ok-arriving.ensures.slot) (c.in_ok-arriving.ensures.none honest));
       few = c.requires.few;
       slot = c.in_ok-arriving.ensures.slot;
       outside = λ honest. c.in_ok-arriving.ensures.outside honest;

@@ -6,7 +6,7 @@ use Rattle.vc_message.specs.Streaming.{LeadsTo, of_push, state_at}
 use Rattle.vc_pkt.specs.ObjectStream.{between}
 use Rattle.vc_push.specs.Push.{Carried}
 use Rattle.vc_push.specs.PushView.{commands_of}
-use Rattle.vc_session.specs.Bringing.{IsBrought}
+use Rattle.vc_session.specs.Arrival.{HasArrived}
 use Rattle.vc_session.specs.Clean.{IsQuarantineClean, MakesNoneBad}
 use Rattle.vc_session.specs.Quarantine.{quarantine_folder}
 use Rattle.vc_shared.specs.Arriving.{BeginsPush}
@@ -16,7 +16,7 @@ abbrev pub invariant-objects : goal.invariant-objects
 invariant-objects g l = record {
   leads : (before : Option (List ℕ)) → BeginsPush before (g.R.Read.remaining l.fn.reader) l.fn.taken.bytes l.fn.taken.lines (commands_of l.fn.commands.items)
       → (carried : Carried) × LeadsTo any_step beginning before (g.R.Read.remaining l.reader) l.taken.bytes l.taken.lines (state_at (of_push (commands_of l.fn.commands.items) carried) between)
-      × (g.F.Files.honest → IsBrought (g.F.Files.content l.files) l.arriving.slot l.arriving.names.keys l.arriving.fault carried);
+      × (g.F.Files.honest → HasArrived (g.F.Files.content l.files) l.arriving.slot l.arriving.names.keys l.arriving.fault carried);
   few : l.taken.lines ≤ l.taken.bytes;
   slot : l.arriving.slot ≡ l.fn.slot;
   outside : g.F.Files.honest → SameOutside (quarantine_folder l.fn.slot) (g.F.Files.content l.fn.files) (g.F.Files.content l.files);

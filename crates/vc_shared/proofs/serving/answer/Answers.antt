@@ -1,5 +1,5 @@
-use Rattle.vc_answer.specs.AnswerFault.{IsRefusedAnswer}
-use Rattle.vc_answer.specs.declared.fault.AnswerFault.TheVariants.{Fault}
+use Rattle.vc_pack.specs.AnswerFault.{IsRefusedAnswer}
+use Rattle.vc_pack.specs.declared.fault.AnswerFault.TheVariants.{Fault}
 use Rattle.vc_fetch.specs.PackView.{pack_text}
 use Rattle.vc_files.specs.declared.faults.Fault.TheVariants.{Memory}
 use Rattle.vc_shared.proofs.ServingFaults.{refuses}

@@ -1,4 +1,4 @@
-use Rattle.vc_answer.specs.declared.fault.AnswerFault.TheVariants.{Fault}
+use Rattle.vc_pack.specs.declared.fault.AnswerFault.TheVariants.{Fault}
 use Rattle.vc_fetch.specs.AdvertView.{advert_text}
 use Rattle.vc_files.specs.declared.faults.Fault.TheVariants.{Memory}
 use Rattle.vc_shared.specs.Serving.{IsRefusedList}

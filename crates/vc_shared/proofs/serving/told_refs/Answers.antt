@@ -1,5 +1,5 @@
 use Rattle.std.proofs.Common.{rules}
-use Rattle.vc_answer.specs.AnswerFault.{from_refs}
+use Rattle.vc_pack.specs.AnswerFault.{from_refs}
 use Rattle.vc_refs.specs.RefFault.{BlamesHeadValue}
 use Rattle.vc_shared.proofs.ServingFaults.{head_blames}
 use Rattle.vc_shared.specs.Serving.{IsRefusedList}

@@ -1,12 +1,13 @@
-use Rattle.std.proofs.Common.{◌⊎◌, ⊎_elim, inl, inr, rules, Some, refl, subst}
+use Rattle.std.proofs.Common.{⊎_elim, inl, inr, rules, Some, refl, subst}
 use Rattle.vc_files.proofs.WearLemmas.{wears_then, wears_writes, writes_told}
 use Rattle.vc_files.specs.FileMap.{FileMap}
 use Rattle.vc_files.specs.declared.faults.Fault.TheVariants.{Memory}
 use Rattle.vc_node.proofs.LookLemmas.{looks_then}
+use Rattle.vc_session.proofs.SessionLemmas.{on_err}
 use Rattle.vc_session.specs.declared.fault.SessionFault.TheVariants as session
 use Rattle.vc_shared.specs.Faults.{of_device}
 use Rattle.vc_shared.specs.Stepping.{EndsSlotEarly, IsRefusedIn, MayWriteIn}
-use Rattle.vc_shared.proofs.FaultLemmas.{err_as, looks_as, memory_refused, on_err, writes_as}
+use Rattle.vc_shared.proofs.FaultLemmas.{err_as, looks_as, memory_refused, writes_as}
 use Rattle.vc_shared.proofs.SlotLemmas.{end_early}
 use Rattle.vc_shared.proofs.TellingLemmas.{short_report}
 use Rattle.vc_shared.proofs.stepping.step_push.Goals as goal
@@ -26,7 +27,7 @@ returns-in_err-did-clause-looks g c honest held =
 
 pub returns-in_err-did-clause-early : goal.returns-in_err-did-clause-early
 returns-in_err-did-clause-early g c honest held =
-    on_err c.from_residual.result
+    on_err c.from_residual.result _
     (subst (λ (f : FileMap). EndsSlotEarly f (g.F.Files.content c.step.new.files) (Some c.args.push.now)) c.in_default.ensures.same (c.in_err-did.ensures.early honest))
 
 pub returns-in_err-told-clause-wear : goal.returns-in_err-told-clause-wear
@@ -43,7 +44,7 @@ returns-in_err-told-clause-early g c honest held =
     let old = g.F.Files.content c.args.files.now in
     let new = g.F.Files.content c.step.new.files in
     let steps = rw c.in_default.ensures.same at c.in_ok-did.ensures.steps in
-    on_err c.from_residual-in_err-told.result (end_early old new c.args.push.now c.step.new.self c.in_ok-did.did c.in_err-told.ensures.fault (steps honest (c.in_default.ensures.agrees honest (c.requires.agrees honest)) held))
+    on_err c.from_residual-in_err-told.result _ (end_early old new c.args.push.now c.step.new.self c.in_ok-did.did c.in_err-told.ensures.fault (steps honest (c.in_default.ensures.agrees honest (c.requires.agrees honest)) held))
 
 pub returns-in_err-told-clause-refused : goal.returns-in_err-told-clause-refused
 returns-in_err-told-clause-refused g c honest =

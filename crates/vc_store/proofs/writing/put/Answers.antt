@@ -4,18 +4,18 @@ use Rattle.vc_object.specs.ObjectFault.{BodyFault}
 use Rattle.vc_object.specs.declared.fault.ObjectFault.{ObjectFault}
 use Rattle.vc_object.specs.declared.id.ObjectId.{ObjectId}
 use Rattle.vc_object.specs.declared.kind.Kind.{Kind}
+use Rattle.vc_object.proofs.OneFault.{no_body_fault, two_bodies}
 use Rattle.vc_store.specs.declared.faults.StoreFault.TheVariants.{BadObject}
 use Rattle.vc_store.specs.declared.faults.StoreFault.{StoreFault}
-use Rattle.vc_store.proofs.PutLemmas.{no_body_fault, one_body_fault}
 use Rattle.vc_store.proofs.writing.put.Goals as goal
 
 -- the body was found to be an object's, so it has no fault
 never : (kind : Kind) (body : List ℕ) → IsObject kind body → (r : Result ObjectId StoreFault) (e : ObjectFault) → BodyFault kind body e → r ≡ Err (BadObject e)
-never kind body object r e fault = absurd (no_body_fault kind body e fault object)
+never kind body object r e fault = absurd (no_body_fault kind body e object fault)
 
 pub returns-in_err-object-clause-only : goal.returns-in_err-object-clause-only
 returns-in_err-object-clause-only g c = λ e fault.
-    let same : c.in_err-object.field-0.0 ≡ e = one_body_fault c.args.kind c.args.body.now c.in_err-object.field-0.0 e c.in_err-object.ensures.fault fault in
+    let same : c.in_err-object.field-0.0 ≡ e = two_bodies c.args.kind c.args.body.now c.in_err-object.field-0.0 e c.in_err-object.ensures.fault fault in
     search (rules, same)
 
 pub returns-in_err-put_named-clause-only : goal.returns-in_err-put_named-clause-only

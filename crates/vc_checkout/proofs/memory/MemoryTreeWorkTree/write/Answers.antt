@@ -5,7 +5,8 @@ use Rattle.std.proofs.lemmas.Fn.{filter_same}
 use Rattle.vc_files.specs.FileMap.{FileMap}
 use Rattle.vc_files.specs.Memory.{files_of}
 use Rattle.vc_files.proofs.MemoryLemmas.{files_of-set}
-use Rattle.vc_checkout.specs.Folders.{AreFolders, Folders, IsAtOrIn, IsFolder, folders_of, is_above}
+use Rattle.vc_files.specs.Path.{is_above}
+use Rattle.vc_checkout.specs.Folders.{AreFolders, Folders, IsAtOrIn, IsFolder, folders_of}
 use Rattle.vc_checkout.proofs.HeldLemmas.{folders_put, held_filter, some_put, some_there}
 use Rattle.vc_checkout.proofs.memory.MemoryTreeWorkTree.write.Goals as goal
 

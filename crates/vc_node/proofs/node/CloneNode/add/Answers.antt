@@ -9,7 +9,7 @@ use Rattle.vc_node.specs.IndexFile.{SpellsIndex}
 use Rattle.vc_node.proofs.AnswerLemmas.{answers_down, answers_from, failed, held, held_failed}
 use Rattle.vc_node.proofs.IndexLemmas.{LeftByAdd, add_done, add_failed, spells_index}
 use Rattle.vc_node.proofs.CleanLemmas.{clean_same}
-use Rattle.vc_answer.proofs.KeepsLemmas.{StandsIn-kept}
+use Rattle.vc_pack.proofs.KeepsLemmas.{StandsIn-kept}
 use Rattle.vc_node.proofs.node.CloneNode.add.Goals as goal
 
 pub returns-then-not-self-clause-bad_file : goal.returns-then-not-self-clause-bad_file

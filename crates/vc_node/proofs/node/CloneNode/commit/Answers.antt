@@ -10,7 +10,7 @@ use Rattle.vc_node.proofs.CommitAnswers.{commit_done}
 use Rattle.vc_node.proofs.CommitFailures.{commit_failed}
 use Rattle.vc_node.proofs.CleanLemmas.{clean_same}
 use Rattle.vc_node.proofs.SoundAnswers.{answers_too, may_if_sound, sound_failed, sound_from, sound_held, sound_held_failed}
-use Rattle.vc_answer.proofs.KeepsLemmas.{StandsIn-kept}
+use Rattle.vc_pack.proofs.KeepsLemmas.{StandsIn-kept}
 use Rattle.vc_node.proofs.KeepingLemmas.{keeps_committed, keeps_left}
 use Rattle.vc_node.proofs.node.CloneNode.commit.Goals as goal
 

@@ -5,7 +5,7 @@ use Rattle.std.proofs.Common.{refl, rules, ap, ◌∙◌, inr, inl}
 use Rattle.vc_node.proofs.AnswerLemmas.{answers_down, answers_from, failed, held_but, held_failed_but, or_unshown}
 use Rattle.vc_node.proofs.BranchLemmas.{delete_done, delete_failed}
 use Rattle.vc_node.proofs.CleanLemmas.{clean_same}
-use Rattle.vc_answer.proofs.KeepsLemmas.{StandsIn-kept}
+use Rattle.vc_pack.proofs.KeepsLemmas.{StandsIn-kept}
 use Rattle.vc_node.proofs.KeepingLemmas.{keeps_shown}
 use Rattle.vc_node.specs.Shown.{shown}
 use Rattle.vc_node.proofs.node.CloneNode.delete_branch.Goals as goal

@@ -1,4 +1,4 @@
-use Rattle.vc_answer.proofs.KeepsLemmas.{StandsIn-kept, keeps_same}
+use Rattle.vc_pack.proofs.KeepsLemmas.{StandsIn-kept, keeps_same}
 use Rattle.vc_node.proofs.node.CloneNode.index.Goals as goal
 
 pub invariant_of-self : goal.invariant_of-self

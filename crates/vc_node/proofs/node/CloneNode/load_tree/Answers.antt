@@ -5,7 +5,7 @@ use Rattle.std.proofs.Common.{refl, rules, ap, ◌∙◌, inr}
 use Rattle.vc_node.proofs.AnswerLemmas.{answers_down, answers_from, failed, held, held_failed, or_unchanged}
 use Rattle.vc_node.proofs.TreeLemmas.{load_done, load_failed}
 use Rattle.vc_node.proofs.CleanLemmas.{clean_same}
-use Rattle.vc_answer.proofs.KeepsLemmas.{StandsIn-kept, keeps_same}
+use Rattle.vc_pack.proofs.KeepsLemmas.{StandsIn-kept, keeps_same}
 use Rattle.vc_node.proofs.KeepingLemmas.{keeps_shown}
 use Rattle.vc_node.proofs.node.CloneNode.load_tree.Goals as goal
 

@@ -1,4 +1,4 @@
-use Rattle.vc_answer.proofs.ReachedLemmas.{Stands-none}
+use Rattle.vc_pack.proofs.ReachedLemmas.{Stands-none}
 use Rattle.vc_node.proofs.EmptyingLemmas.{opened_holds}
 use Rattle.vc_node.proofs.node.CloneNode.open.Goals as goal
 

@@ -2,7 +2,7 @@ use Rattle.std.proofs.Common.{Ok, Err, ap, inl, inr, refl, rules}
 use Rattle.std.specs.Prelude.{not}
 use Rattle.vc_model.specs.CloneCall.CloneCall.{Asks}
 use Rattle.vc_model.specs.Question.Question.{PackRefs}
-use Rattle.vc_answer.proofs.KeepsLemmas.{StandsIn-kept}
+use Rattle.vc_pack.proofs.KeepsLemmas.{StandsIn-kept}
 use Rattle.vc_node.proofs.CloneCallLemmas.{down_clone}
 use Rattle.vc_node.proofs.KeepingLemmas.{keeps_shown}
 use Rattle.vc_node.proofs.LookLemmas.{looks_none}

@@ -1,5 +1,5 @@
 use Rattle.std.proofs.Common.{refl, rules}
-use Rattle.vc_answer.proofs.KeepsLemmas.{StandsIn-kept}
+use Rattle.vc_pack.proofs.KeepsLemmas.{StandsIn-kept}
 use Rattle.vc_files.proofs.WearLemmas.{writes_none}
 use Rattle.vc_node.proofs.CleanLemmas.{clean_same}
 use Rattle.vc_node.proofs.ComingLemmas.{down_no_device, down_receives, known_receives, next_awaits, next_clean, next_cleared, next_lost, next_none, next_receives, next_wear}

@@ -6,7 +6,7 @@ use Rattle.vc_node.proofs.AnswerLemmas.{answers_down}
 use Rattle.vc_node.proofs.BranchLemmas.{set_branch_done, set_branch_failed}
 use Rattle.vc_node.proofs.CleanLemmas.{clean_same}
 use Rattle.vc_node.proofs.SoundAnswers.{answers_too, may_if_sound, or_same, sound_failed, sound_from, sound_held, sound_held_failed}
-use Rattle.vc_answer.proofs.KeepsLemmas.{StandsIn-kept, keeps_same}
+use Rattle.vc_pack.proofs.KeepsLemmas.{StandsIn-kept, keeps_same}
 use Rattle.vc_node.proofs.KeepingLemmas.{keeps_shown}
 use Rattle.vc_node.proofs.node.CloneNode.set_branch.Goals as goal
 

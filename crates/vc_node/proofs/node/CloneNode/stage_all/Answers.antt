@@ -1,5 +1,5 @@
 use Rattle.std.proofs.Common.{refl, rules, ap, ◌∙◌, inr}
-use Rattle.vc_answer.proofs.KeepsLemmas.{StandsIn-kept}
+use Rattle.vc_pack.proofs.KeepsLemmas.{StandsIn-kept}
 use Rattle.vc_node.proofs.CleanLemmas.{clean_same}
 use Rattle.vc_node.proofs.IndexLemmas.{spells_index}
 use Rattle.vc_node.proofs.LookLemmas.{looks_none, or_told, or_failed}

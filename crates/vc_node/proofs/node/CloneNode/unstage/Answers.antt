@@ -5,7 +5,7 @@ use Rattle.std.proofs.Common.{refl, rules, ap, ◌∙◌, inr, inl}
 use Rattle.vc_node.proofs.AnswerLemmas.{answers_down, answers_from, failed, held, held_failed, or_unchanged}
 use Rattle.vc_node.proofs.IndexLemmas.{unstage_done, unstage_failed}
 use Rattle.vc_node.proofs.CleanLemmas.{clean_same}
-use Rattle.vc_answer.proofs.KeepsLemmas.{StandsIn-kept, keeps_same}
+use Rattle.vc_pack.proofs.KeepsLemmas.{StandsIn-kept, keeps_same}
 use Rattle.vc_node.proofs.node.CloneNode.unstage.Goals as goal
 
 pub returns-then-not-self-clause-bad_file : goal.returns-then-not-self-clause-bad_file

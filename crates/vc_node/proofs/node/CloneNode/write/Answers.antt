@@ -7,7 +7,7 @@ use Rattle.vc_node.specs.Shown.{Shown, shown}
 use Rattle.vc_node.proofs.AnswerLemmas.{answers_down, answers_from, failed, held, held_failed, or_unchanged}
 use Rattle.vc_node.proofs.WriteLemmas.{write_done, write_failed}
 use Rattle.vc_node.proofs.CleanLemmas.{clean_same}
-use Rattle.vc_answer.proofs.KeepsLemmas.{StandsIn-kept, keeps_put, keeps_same}
+use Rattle.vc_pack.proofs.KeepsLemmas.{StandsIn-kept, keeps_put, keeps_same}
 use Rattle.vc_node.proofs.node.CloneNode.write.Goals as goal
 
 pub returns-then-not-self-clause-bad_file : goal.returns-then-not-self-clause-bad_file

@@ -1,12 +1,12 @@
 use Rattle.std.proofs.Common.{rules, ◌≡◌, Some, ◌∙◌}
 use Rattle.vc_files.proofs.WearLemmas.{wears_writes, wears_then, writes_told}
-use Rattle.vc_refs.specs.RefFault.{BlamesRemove, BlamesSet, BlamesWay, HasExpected}
+use Rattle.vc_refs.specs.RefFault.{BlamesRemove, BlamesSet, BlamesObstacle, HasExpected}
 use Rattle.vc_refs.specs.Refs.{loose_refs, packed_map, refs, ChangesOnly}
-use Rattle.vc_refs.specs.Way.{IsFree}
+use Rattle.vc_refs.specs.Obstacle.{IsFree}
 use Rattle.vc_refs.specs.RefMap.{with_ref}
 use Rattle.vc_refs.proofs.LayeredChangeLemmas.{refs-set, refs_free, rest_same, rest_set, set_blames_packed, set_blames_value, set_blames_way}
 use Rattle.vc_refs.proofs.RefsLemmas.{IsRefMap-with_ref}
-use Rattle.vc_refs.proofs.WayLemmas.{no_own_folder}
+use Rattle.vc_refs.proofs.ObstacleLemmas.{no_own_folder}
 use Rattle.vc_refs.proofs.layered.setting.set.Goals as goal
 
 pub returns-in_err-packed-clause-refused : goal.returns-in_err-packed-clause-refused
@@ -25,7 +25,7 @@ pub returns-in_err-refuse_beside-clause-refused : goal.returns-in_err-refuse_bes
 returns-in_err-refuse_beside-clause-refused g c = λ honest.
     let content = g.F.Files.content c.args.files.now in
     let read : packed_map content ≡ Some c.in_ok-packed.packed = c.in_ok-packed.ensures.found honest in
-    let blames : BlamesWay content c.args.name.now c.in_err-refuse_beside.field-0.0 = rw c.in_ok-packed.ensures.same at (c.in_err-refuse_beside.ensures.refused honest (rw c.in_ok-packed.ensures.same read)) in
+    let blames : BlamesObstacle content c.args.name.now c.in_err-refuse_beside.field-0.0 = rw c.in_ok-packed.ensures.same at (c.in_err-refuse_beside.ensures.refused honest (rw c.in_ok-packed.ensures.same read)) in
     let told : BlamesSet content c.args.name.now c.args.expected c.in_err-refuse_beside.field-0.0 = set_blames_way content c.args.name.now c.args.expected c.in_err-refuse_beside.field-0.0 blames in
     search (rules, told)
 

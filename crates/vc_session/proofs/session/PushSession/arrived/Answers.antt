@@ -3,7 +3,7 @@ use Rattle.vc_object.specs.declared.id.ObjectId.{ObjectId}
 use Rattle.vc_push.specs.declared.command.Command.{Command}
 use Rattle.vc_session.specs.Carrying.{Carries, objects_of_push}
 use Rattle.vc_session.specs.Session.{fresh}
-use Rattle.vc_session.proofs.BringingLemmas.{brought_carries, brought_fault}
+use Rattle.vc_session.proofs.ArrivalLemmas.{brought_carries, brought_fault}
 use Rattle.vc_session.proofs.SessionLemmas.{same_verdicts}
 use Rattle.vc_session.proofs.session.PushSession.arrived.Goals as goal
 

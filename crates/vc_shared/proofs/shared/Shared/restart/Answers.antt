@@ -1,6 +1,6 @@
 use Rattle.std.proofs.Common.{Ok, Err, refl, rules}
-use Rattle.vc_base.proofs.GenerationLemmas.{agrees_where_none}
-use Rattle.vc_base.specs.Numbering.{numbers}
+use Rattle.vc_history.proofs.GenerationLemmas.{agrees_where_none}
+use Rattle.vc_history.specs.Numbering.{numbers}
 use Rattle.vc_shared.proofs.RestartLemmas.{restart_answers}
 use Rattle.vc_shared.proofs.shared.Shared.restart.Goals as goal
 

@@ -1,0 +1,176 @@
+//! The work tree of the rows: in memory or in a real folder, of which a row may have one call fail.
+ghost use Rattle.std.specs.Prelude.{◌≡◌, ◌≤◌, IsErrOf};
+ghost use Rattle.vc_files.specs.Failures.{HasFailed};
+
+use crate::bench::Host;
+use std::alloc::{AllocError, Global};
+use std::marker::Model;
+use vc_checkout::{MemoryTree, WorkTree};
+use vc_files::Fault;
+use vc_object::ObjectId;
+use vc_work_folder::FolderTree;
+
+/// Two work trees, of which one is used. So many calls pass, the next one fails without effect, and all later ones pass.
+#[derive(Drop)]
+pub struct Scene<R: Host> {
+    memory: MemoryTree,
+    folder: FolderTree<R>,
+    on_disk: bool,
+    left: u64,
+    failed: u64,
+}
+
+impl<R: Host> Model for Scene<R> {
+    ghost use Rattle.std.specs.Prelude.{ℕ};
+
+    ghost Value = { ℕ };
+
+    ghost view = { λ s. s.failed };
+}
+
+impl<R: Host> Scene<R> {
+    /// A work tree in memory; the other one is the folder `work`, whose store's folder is `store`.
+    pub fn new(rt: &R) -> Result<Scene<R>, AllocError> {
+        let path = String::from_str(rt.alloc(), "work")?;
+        let store = String::from_str(rt.alloc(), "store")?;
+        Ok(Scene {
+            memory: MemoryTree::new(rt.alloc()),
+            folder: FolderTree::new(rt.clone()?, path, String::new(rt.alloc()), store),
+            on_disk: false,
+            left: u64::MAX,
+            failed: 0,
+        })
+    }
+
+    /// Uses the one in memory, with no files, or the one in the folder as it is.
+    pub fn start(&mut self, alloc: Global, on_disk: bool) {
+        self.memory = MemoryTree::new(alloc);
+        self.on_disk = on_disk;
+    }
+
+    /// The call after so many fails.
+    pub fn fail_after(&mut self, calls: u64) {
+        self.left = calls;
+    }
+
+    /// Whether the tree in memory has a folder at this path.
+    pub fn has_folder(&self, path: &str) -> bool {
+        self.memory.has_folder(path)
+    }
+
+    /// How often the folder has failed.
+    pub fn folder_failures(&self) -> u64 {
+        self.folder.failures()
+    }
+
+    // Counts a call, and refuses the one that is to fail.
+    fn pass(&mut self) -> Result<(), Fault>
+        ensures later { self.old ≤ self.new }
+        ensures device { IsErrOf result Fault.Device → HasFailed self.old self.new }
+    {
+        if self.left > 0 {
+            self.left -= 1;
+            return Ok(());
+        }
+        self.left = u64::MAX;
+        self.settle(Err(Fault::Device))
+    }
+
+    // Counts what the device failed to do.
+    fn settle<T>(&mut self, done: Result<T, Fault>) -> Result<T, Fault>
+        ensures later { self.old ≤ self.new }
+        ensures device { IsErrOf result Fault.Device → HasFailed self.old self.new }
+    {
+        match done {
+            Ok(value) => Ok(value),
+            Err(Fault::Memory) => Err(Fault::Memory),
+            Err(Fault::Device) => {
+                self.failed = self.failed.saturating_add(1);
+                Err(Fault::Device)
+            }
+        }
+    }
+}
+
+impl<R: Host> WorkTree for Scene<R> {
+    ghost use Rattle.std.specs.Prelude.{⊤};
+    ghost use Rattle.std.specs.FinMap as files;
+    ghost use Rattle.std.specs.FinSet as set;
+
+    ghost honest = { ⊥ };
+
+    ghost content = { λ _. files.empty };
+
+    ghost folders = { λ _. set.empty };
+
+    ghost failed = { λ s. s };
+
+    ghost can_fail = { λ _. ⊤ };
+
+    fn read(&mut self, alloc: Global, path: &str) -> Result<Option<Vec<u8>>, Fault> {
+        self.pass()?;
+        let done = match self.on_disk {
+            true => self.folder.read(alloc, path),
+            false => self.memory.read(alloc, path),
+        };
+        self.settle(done)
+    }
+
+    fn name(&mut self, alloc: Global, path: &str) -> Result<Option<ObjectId>, Fault> {
+        self.pass()?;
+        let done = match self.on_disk {
+            true => self.folder.name(alloc, path),
+            false => self.memory.name(alloc, path),
+        };
+        self.settle(done)
+    }
+
+    fn write(&mut self, alloc: Global, path: &str, bytes: &[u8]) -> Result<(), Fault> {
+        self.pass()?;
+        let done = match self.on_disk {
+            true => self.folder.write(alloc, path, bytes),
+            false => self.memory.write(alloc, path, bytes),
+        };
+        self.settle(done)
+    }
+
+    fn remove(&mut self, alloc: Global, path: &str) -> Result<(), Fault> {
+        self.pass()?;
+        let done = match self.on_disk {
+            true => self.folder.remove(alloc, path),
+            false => self.memory.remove(alloc, path),
+        };
+        self.settle(done)
+    }
+
+    fn make_folder(&mut self, alloc: Global, path: &str) -> Result<(), Fault> {
+        self.pass()?;
+        let done = match self.on_disk {
+            true => self.folder.make_folder(alloc, path),
+            false => self.memory.make_folder(alloc, path),
+        };
+        self.settle(done)
+    }
+
+    fn remove_folder(&mut self, alloc: Global, path: &str) -> Result<bool, Fault> {
+        self.pass()?;
+        let done = match self.on_disk {
+            true => self.folder.remove_folder(alloc, path),
+            false => self.memory.remove_folder(alloc, path),
+        };
+        self.settle(done)
+    }
+
+    fn list(&mut self, alloc: Global) -> Result<Vec<String>, Fault> {
+        self.pass()?;
+        let done = match self.on_disk {
+            true => self.folder.list(alloc),
+            false => self.memory.list(alloc),
+        };
+        self.settle(done)
+    }
+
+    fn failures(&self) -> u64 {
+        self.failed
+    }
+}

@@ -1,6 +1,0 @@
-use Rattle.std.proofs.Common.{take, Contains}
-use Rattle.vc_answer.specs.Picked.{IsPicked}
-use Rattle.vc_answer.proofs.counting.counted.Given as goal
-
-abbrev pub invariant-loop-have : goal.invariant-loop-have
-invariant-loop-have l = IsPicked (Contains l.ids) (take l.have-index l.haves) l.counted.items

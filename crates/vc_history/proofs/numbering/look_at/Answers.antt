@@ -1,0 +1,54 @@
+use Rattle.std.proofs.Common.{◌≡◌, ◌∷◌, [], None, Some, IsSome, Contains, inl, inr, sym, subst, ◌∙◌, refl, rules, slice_get}
+use Rattle.std.proofs.lemmas.Option.{get_or_from_slice_get}
+use Rattle.indexmap.specs.IndexMap.{get}
+use Rattle.indexmap.proofs.CallerLemmas.{insert_entry-new}
+use Rattle.vc_graph.proofs.WalkLemmas.{Contains-from_slice_get}
+use Rattle.vc_object.specs.ObjectId.{id_eq}
+use Rattle.vc_object.specs.declared.id.ObjectId.{ObjectId}
+use Rattle.vc_history.specs.Numbering.{WaitsFor, queues}
+use Rattle.vc_history.specs.Walk.{parents_read, read_by}
+use Rattle.vc_history.proofs.numbering.look_at.Goals as goal
+
+pub returns-then-contains_key-clause-looked : goal.returns-then-contains_key-clause-looked
+returns-then-contains_key-clause-looked c =
+    let id : ObjectId = c.in-Some.id.now in
+    let some : IsSome (get id_eq c.args.known.now id) = search rules in
+    let at_place : slice_get c.args.walk.now.met.keys c.args.look.place ≡ Some id = search rules in
+    inl (record {
+      same = λ y. refl;
+      same_waiting = refl;
+      same_looks = refl;
+      why = λ x at. let same : id ≡ x = let e : Some id ≡ Some x = sym at_place ∙ at in cc in inl (subst (λ (y : ObjectId). IsSome (get id_eq c.args.known.now y)) same some);
+    })
+
+pub returns-in-Some-first_without-clause-looked : goal.returns-in-Some-first_without-clause-looked
+returns-in-Some-first_without-clause-looked c =
+    let id : ObjectId = c.in-Some.id.now in
+    let at_place : slice_get c.args.walk.now.met.keys c.args.look.place ≡ Some id = search rules in
+    let found = c.in-Some-first_without.ensures.found in
+    let parent : ObjectId = found.0 in
+    let own = parents_read c.args.walk.now.met.keys (read_by c.args.walk.now) id in
+    let own_is : c.parents_of-parents.result.now ≡ own = c.parents_of-parents.ensures in
+    inr (inl (record {
+      same = λ y. refl;
+      kept = c.in_ok-wait_for.ensures.kept;
+      same_looks = refl;
+      x = id;
+      at = at_place;
+      parent = parent;
+      is_parent = subst (λ l. Contains l parent) own_is (Contains-from_slice_get c.parents_of-parents.result.now c.in-Some-first_without.from parent found.1);
+      without = found.2;
+      waits = subst (λ (y : ObjectId). WaitsFor c.args.walk.now.met.keys (queues c.wait_for.new.waiting.items) y c.args.look.place) (get_or_from_slice_get c.parents_of-parents.result.now c.in-Some-first_without.from parent _ found.1) c.in_ok-wait_for.ensures.waits;
+    }))
+
+pub returns-in_err-wake-clause-front : goal.returns-in_err-wake-clause-front
+returns-in_err-wake-clause-front c =
+    let id : ObjectId = c.in-Some.id.now in
+    let none : get id_eq c.args.known.now id ≡ None = search rules in
+    ((id, c.in-Some-number_over.number) ∷ [], c.in_ok-insert.ensures.entries ∙ insert_entry-new id_eq c.args.known.now id c.in-Some-number_over.number none)
+
+pub returns-in_ok-wake-clause-front : goal.returns-in_ok-wake-clause-front
+returns-in_ok-wake-clause-front c =
+    let id : ObjectId = c.in-Some.id.now in
+    let none : get id_eq c.args.known.now id ≡ None = search rules in
+    ((id, c.in-Some-number_over.number) ∷ [], c.in_ok-insert.ensures.entries ∙ insert_entry-new id_eq c.args.known.now id c.in-Some-number_over.number none)

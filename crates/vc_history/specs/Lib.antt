@@ -1,0 +1,11 @@
+pub mod BaseFault
+pub mod Generation
+pub mod History
+pub mod Numbering
+pub mod Parents
+pub mod Part
+pub mod Passed
+pub mod Stored
+pub mod Toward
+pub mod Walk
+pub mod Whole

@@ -1,0 +1,80 @@
+//! Whether one commit descends from another, and whether a history is one of commits alone.
+ghost use Rattle.std.specs.Prelude.{◌≡◌, ◌↔◌, ◌∷◌, [], IsSome, IsTrue, IfOk, IfErr, IsErrOf, not};
+ghost use Rattle.vc_history.specs.BaseFault.{IsTold};
+ghost use Rattle.vc_history.specs.Generation.{Agrees};
+ghost use Rattle.vc_history.specs.History.{IsAncestor};
+ghost use Rattle.vc_history.specs.Numbering.{numbers};
+ghost use Rattle.vc_files.specs.Failures.{Wears};
+ghost use Rattle.vc_graph.specs.Graph.{IsClosed, ReachedFrom};
+ghost use Rattle.vc_graph.specs.GraphFault.{IsMet};
+ghost use Rattle.vc_object.specs.ObjectMap.{parents_in};
+
+use crate::toward::Toward;
+use crate::walk::{Limit, NoLimit, Walk, read_history};
+use crate::{BaseFault, Commits, Generations};
+use std::alloc::Global;
+use vc_files::Fault;
+use vc_object::ObjectId;
+use vc_store::StoreFault;
+
+/// Whether `a` is an ancestor of `b`. A commit is its own ancestor. The walk goes from `b` and ends where it reads `a`. It
+/// passes over each numbered commit other than `a` where `a` has no number, or one that is not less. What lies beyond may be
+/// absent, or no commit; a `no` is answered only where the whole history of `b` is known to be there. An `a` that no parent
+/// leads to is not looked for.
+pub fn is_ancestor<C: Commits>(
+    alloc: Global,
+    commits: &mut C,
+    a: &ObjectId,
+    b: &ObjectId,
+    generations: &Generations,
+) -> Result<bool, BaseFault>
+    ensures answer { IfOk result (λ yes. C.is_honest → Agrees (parents_in (C.objects (C.state_of commits.old))) (numbers generations.now) → IsTrue yes ↔ IsAncestor (parents_in (C.objects (C.state_of commits.old))) a.now b.now) }
+    ensures commit { IfOk result (λ yes. C.is_honest → Agrees (parents_in (C.objects (C.state_of commits.old))) (numbers generations.now) → IsTrue yes → IsSome (parents_in (C.objects (C.state_of commits.old)) a.now)) }
+    ensures whole { IfOk result (λ yes. C.is_honest → Agrees (parents_in (C.objects (C.state_of commits.old))) (numbers generations.now) → IsTrue (not yes) → IsClosed (parents_in (C.objects (C.state_of commits.old))) b.now) }
+    ensures refused { IfErr result (λ e. C.is_honest → Agrees (parents_in (C.objects (C.state_of commits.old))) (numbers generations.now) → IsTold (C.objects (C.state_of commits.old)) (C.damaged (C.state_of commits.old)) (b.now ∷ []) e) }
+
+    ensures kept { C.state_of commits.new ≡ C.state_of commits.old }
+    ensures wear { Wears C.failed C.can_fail C.left commits.old commits.new (IsErrOf result (BaseFault.Store (StoreFault.Fault Fault.Device))) }
+{
+    let limit = Toward {
+        sought: a,
+        generations,
+    };
+    if limit.is_beyond(b) {
+        return Ok(false);
+    }
+    let mut walk = Walk::from_roots(alloc, &[*b])?;
+    'reading: while walk.parents.len() < walk.met.len() {
+        let id = walk.read_next(alloc, commits, &limit)?;
+        if id == *a && walk.other.is_none() {
+            return Ok(true);
+        }
+    }
+    match walk.other {
+        Some(id) => Err(BaseFault::NotACommit(id)),
+        None => Ok(false),
+    }
+}
+
+/// Whether the root is a commit that is there, and every name that parent links lead to from it is one. The whole history
+/// is read, each commit once.
+pub fn is_history<C: Commits>(
+    alloc: Global,
+    commits: &mut C,
+    root: &ObjectId,
+) -> Result<bool, StoreFault>
+    ensures history { IfOk result (λ yes. C.is_honest → IsTrue yes ↔ IsClosed (parents_in (C.objects (C.state_of commits.old))) root.now) }
+    ensures refused { IfErr result (λ e. C.is_honest → IsMet (ReachedFrom (parents_in (C.objects (C.state_of commits.old))) (root.now ∷ [])) (C.damaged (C.state_of commits.old)) e) }
+
+    ensures kept { C.state_of commits.new ≡ C.state_of commits.old }
+    ensures wear { Wears C.failed C.can_fail C.left commits.old commits.new (IsErrOf result (StoreFault.Fault Fault.Device)) }
+{
+    let Err(told) = read_history(alloc, commits, &[*root], &NoLimit) else {
+        return Ok(true);
+    };
+    match told {
+        BaseFault::Missing(_) => Ok(false),
+        BaseFault::NotACommit(_) => Ok(false),
+        BaseFault::Store(fault) => Err(fault),
+    }
+}

@@ -1,0 +1,63 @@
+//! The refusals of this crate.
+ghost use Rattle.std.specs.Prelude.{◌≡◌};
+ghost use Rattle.vc_history.specs.declared.fault.BaseFault.TheVariants.{Store};
+ghost use Rattle.vc_files.specs.declared.faults.Fault.TheVariants.{Memory};
+ghost use Rattle.vc_store.specs.declared.faults.StoreFault.TheVariants.{Fault};
+
+use std::alloc::{AllocError, AllocFailed};
+use std::error::Error;
+use std::fmt;
+use vc_files::Fault;
+use vc_graph::MISSING;
+use vc_object::ObjectId;
+use vc_store::StoreFault;
+
+/// What is printed where an object that should be a commit is of another kind.
+pub const NOT_A_COMMIT: &str = "41 NotACommit";
+
+/// Why a question about a history has no answer.
+#[derive(Clone, Copy, Debug)]
+pub enum BaseFault {
+    /// 40: a root, or a name that parent links lead to, is absent.
+    Missing(ObjectId),
+    /// 41: a root, or what parent links lead to, is an object of another kind.
+    NotACommit(ObjectId),
+    /// The layers below gave no answer: 12, or want of memory or a device.
+    Store(StoreFault),
+}
+
+impl fmt::Display for BaseFault {
+    fn fmt<W: fmt::Write>(&self, f: &mut fmt::Formatter<W>) -> fmt::Result {
+        match self {
+            BaseFault::Missing(_) => f.write_str(MISSING),
+            BaseFault::NotACommit(_) => f.write_str(NOT_A_COMMIT),
+            BaseFault::Store(fault) => fmt::Display::fmt(fault, f),
+        }
+    }
+}
+
+impl Error for BaseFault {}
+
+impl From<StoreFault> for BaseFault {
+    ghost from_gives = { λ fault e. e ≡ Store fault };
+
+    fn from(fault: StoreFault) -> BaseFault {
+        BaseFault::Store(fault)
+    }
+}
+
+impl From<AllocError> for BaseFault {
+    ghost from_gives = { λ _ e. e ≡ Store (Fault Memory) };
+
+    fn from(_: AllocError) -> BaseFault {
+        BaseFault::Store(StoreFault::Fault(Fault::Memory))
+    }
+}
+
+impl<T: Drop> From<AllocFailed<T>> for BaseFault {
+    ghost from_gives = { λ _ e. e ≡ Store (Fault Memory) };
+
+    fn from(_: AllocFailed<T>) -> BaseFault {
+        BaseFault::Store(StoreFault::Fault(Fault::Memory))
+    }
+}

@@ -1,0 +1,90 @@
+//! Generation numbers: one more than the length of the longest list of parent links from a commit. An ancestor of a commit,
+//! other than the commit itself, has a smaller one.
+ghost use Rattle.std.specs.Prelude.{◌≡◌, ◌∷◌, [], None, IfErr, IsErrOf, OnOk, OnErr};
+ghost use Rattle.vc_history.specs.BaseFault.{IsTold};
+ghost use Rattle.vc_history.specs.Generation.{Agrees, Learns};
+ghost use Rattle.vc_history.specs.Numbering.{numbers};
+ghost use Rattle.vc_files.specs.Failures.{Wears};
+ghost use Rattle.vc_graph.specs.Graph.{IsClosed};
+ghost use Rattle.vc_object.specs.ObjectMap.{parents_in};
+ghost use Rattle.vc_object.specs.declared.id.ObjectId.{ObjectId as Id};
+
+use crate::numbering::number_history;
+use crate::walk::{Limit, read_history};
+use crate::{BaseFault, Commits};
+use indexmap::IndexMap;
+use std::alloc::Global;
+use vc_files::Fault;
+use vc_object::ObjectId;
+use vc_store::StoreFault;
+
+/// Generations of commits, where they are known.
+#[derive(Drop)]
+pub struct Generations {
+    // The number of each commit that has one, in the order in which they were learnt.
+    numbers: IndexMap<ObjectId, u64>,
+}
+
+impl Generations {
+    /// Of no commit is it known.
+    pub fn new(alloc: Global) -> Generations
+        ensures none { (id : Id) → numbers result id ≡ None }
+    {
+        Generations {
+            numbers: IndexMap::new(alloc),
+        }
+    }
+
+    /// The generation of a commit, where it is known: 1 for a commit with no parents.
+    pub fn get(&self, id: &ObjectId) -> Option<u64>
+        ensures number { result ≡ numbers self.now id.now }
+    {
+        self.numbers.get(id).copied()
+    }
+
+    // How many commits have one. None has a greater one.
+    pub(crate) fn count(&self) -> u64 {
+        self.numbers.len() as u64
+    }
+
+    /// Learns the generation of the root and of each of its ancestors. A commit that is known is not read again, nor is what
+    /// lies below it. A commit whose history comes back to itself, or whose number would need more than 64 bits, stays
+    /// without. At an error nothing is learnt.
+    pub fn learn<C: Commits>(
+        &mut self,
+        alloc: Global,
+        commits: &mut C,
+        root: &ObjectId,
+    ) -> Result<(), BaseFault>
+        ensures agrees { OnOk result (C.is_honest → Agrees (parents_in (C.objects (C.state_of commits.old))) (numbers self.old) → Agrees (parents_in (C.objects (C.state_of commits.old))) (numbers self.new)) }
+        ensures learnt { OnOk result (C.is_honest → Agrees (parents_in (C.objects (C.state_of commits.old))) (numbers self.old) → Learns (parents_in (C.objects (C.state_of commits.old))) root.now (numbers self.old) (numbers self.new)) }
+        ensures closed { OnOk result (C.is_honest → Agrees (parents_in (C.objects (C.state_of commits.old))) (numbers self.old) → IsClosed (parents_in (C.objects (C.state_of commits.old))) root.now) }
+        ensures refused { IfErr result (λ e. C.is_honest → Agrees (parents_in (C.objects (C.state_of commits.old))) (numbers self.old) → IsTold (C.objects (C.state_of commits.old)) (C.damaged (C.state_of commits.old)) (root.now ∷ []) e) }
+        ensures err { OnErr result ((id : Id) → numbers self.new id ≡ numbers self.old id) }
+
+        ensures kept { C.state_of commits.new ≡ C.state_of commits.old }
+        ensures wear { Wears C.failed C.can_fail C.left commits.old commits.new (IsErrOf result (BaseFault.Store (StoreFault.Fault Fault.Device))) }
+    {
+        if self.numbers.contains_key(root) {
+            return Ok(());
+        }
+        let walk = read_history(alloc, commits, &[*root], self)?;
+        let before = self.numbers.len();
+        match number_history(alloc, &walk, &mut self.numbers) {
+            Ok(()) => Ok(()),
+            Err(fault) => {
+                self.numbers.truncate(before);
+                Err(BaseFault::from(fault))
+            }
+        }
+    }
+}
+
+// A walk may end at what has a number: its ancestors have theirs.
+impl Limit for Generations {
+    ghost beyond = { numbers };
+
+    fn is_beyond(&self, id: &ObjectId) -> bool {
+        self.numbers.contains_key(id)
+    }
+}

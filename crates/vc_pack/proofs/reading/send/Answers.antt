@@ -1,0 +1,39 @@
+use Rattle.std.proofs.Common.{rules, ◌≡◌, [], ◌∷◌, Some, None}
+use Rattle.vc_pack.proofs.reading.send.Goals as goal
+use Rattle.vc_graph.proofs.FaultLemmas.{IsMet-from_refused}
+use Rattle.vc_graph.proofs.WalkLemmas.{ReachedFrom-one}
+use Rattle.vc_graph.specs.Graph.{ReachedFrom, itself}
+use Rattle.vc_object.proofs.ObjectMaps.{links_in-none, links_in-some}
+use Rattle.vc_object.specs.Decoding.{stored_object}
+use Rattle.vc_object.specs.ObjectMap.{links_in}
+use Rattle.vc_store.specs.Store.{objects, IsDamaged}
+
+pub returns-in_err-stored-clause-refused : goal.returns-in_err-stored-clause-refused
+returns-in_err-stored-clause-refused g c honest =
+    let content = g.F.Files.content c.args.files.now in
+    let links = links_in (objects content) in
+    let id = c.args.id.now in
+    let told = IsMet-from_refused (ReachedFrom links (id ∷ [])) (IsDamaged content) g.F.Files.honest id c.in_err-stored.field-0.0 c.in_err-stored.ensures.refused (ReachedFrom-one links id id itself) honest in
+    search (rules, told)
+
+pub returns-in_default-clause-refused : goal.returns-in_default-clause-refused
+returns-in_default-clause-refused g c honest =
+    let content = g.F.Files.content c.args.files.now in
+    let id = c.args.id.now in
+    let none : objects content id ≡ None = search (rules, c.in_ok-stored.ensures.found honest, c.in_default.is) in
+    (ReachedFrom-one (links_in (objects content)) id id itself, links_in-none (objects content) id none)
+
+pub returns-clause-links : goal.returns-clause-links
+returns-clause-links g c honest =
+    let content = g.F.Files.content c.args.files.now in
+    let object = stored_object c.in-Some.stored.kind c.in-Some.stored.body.items in
+    let found : objects content c.args.id.now ≡ Some object = search (rules, c.in_ok-stored.ensures.found honest, c.in-Some.is) in
+    let read = links_in-some (objects content) c.args.id.now object found in
+    search (rules, read)
+
+pub returns-clause-sent : goal.returns-clause-sent
+returns-clause-sent g c honest =
+    let content = g.F.Files.content c.args.files.now in
+    let object = stored_object c.in-Some.stored.kind c.in-Some.stored.body.items in
+    let found : objects content c.args.id.now ≡ Some object = search (rules, c.in_ok-stored.ensures.found honest, c.in-Some.is) in
+    (object, found, c.in_ok-add_named.ensures.ok)

@@ -1,6 +1,0 @@
-use Rattle.vc_refs.proofs.LayeredWayLemmas.{LooksOn}
-use Rattle.vc_refs.proofs.layered.way.packed_in_the_way.Given as goal
-
--- the refs that were passed by don't conflict
-abbrev pub invariant-loop-other : goal.invariant-loop-other
-invariant-loop-other l = LooksOn l.packed l.name l.other-iterator
