@@ -22,6 +22,7 @@ use std::net::Net;
 use std::thread::Threads;
 use std::{env, fs, rt};
 use vc_commands::{Faults, Input, run};
+use vc_work_folder::Beside;
 
 fn main(rt: HostRuntime) -> io::Result<()> {
     let mut out = BufWriter::new(rt.alloc(), rt.stdout())?;
@@ -35,7 +36,7 @@ fn main(rt: HostRuntime) -> io::Result<()> {
 
 fn run_script<R, W>(rt: &R, script: &str, out: &mut W) -> io::Result<()>
 where
-    R: rt::Files<File = File> + Threads + Net + AllocGlobal + Clone + Drop,
+    R: rt::Files<File = File> + Threads + Net + Beside<R> + AllocGlobal + Clone + Drop,
     W: Write,
 {
     let mut input = Vec::new(rt.alloc());
@@ -53,7 +54,7 @@ where
 // Does what a line says. One that is neither blank nor of a known form is a mistake in the script.
 fn follow<R, W>(rt: &R, line: &str, input: &mut Vec<u8>, out: &mut W) -> io::Result<()>
 where
-    R: rt::Files<File = File> + Threads + Net + AllocGlobal + Clone + Drop,
+    R: rt::Files<File = File> + Threads + Net + Beside<R> + AllocGlobal + Clone + Drop,
     W: Write,
 {
     let Some((form, rest)) = line.split_once(' ') else {
@@ -79,7 +80,7 @@ where
 // Runs a command line over this input, and prints what it printed.
 fn run_words<R, W>(rt: &R, line: &str, input: &[u8], out: &mut W) -> io::Result<()>
 where
-    R: rt::Files<File = File> + Threads + Net + AllocGlobal + Clone + Drop,
+    R: rt::Files<File = File> + Threads + Net + Beside<R> + AllocGlobal + Clone + Drop,
     W: Write,
 {
     let words = words_of(rt, line)?;
