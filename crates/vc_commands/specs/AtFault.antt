@@ -1,4 +1,5 @@
 -- What a refusal is about, and the line that tells it to a person.
+use Rattle.std.specs.Io.KnownBytes.{Appends}
 use Rattle.std.specs.Prelude.{◌≡◌, ◌==◌, ◌||◌, ◌+◌, ◌-◌, ◌/◌, ◌%◌, ℕ, Bool, if◌then◌else◌, nat_le, List, [], ◌∷◌, ◌++◌, Option, None, Some, MatchOption, Vec, codes, get_or, string_bytes}
 use Rattle.std.specs.Global.{Global}
 use Rattle.std.specs.List.{flat_map}
@@ -119,3 +120,7 @@ failure_line text = codes "vcs: " ++ (text ++ 10 ∷ [])
 abbrev pub line_behind : Bool → Option (List ℕ) → List ℕ
 line_behind is_terminal None = []
 line_behind is_terminal (Some line) = if is_terminal then line else []
+
+-- the line of a failure was written, and what stands behind it
+abbrev pub AppendsFailure : Option (List ℕ) → Option (List ℕ) → Bool → Option (List ℕ) → List ℕ → Type 0
+AppendsFailure before after is_terminal behind text = Appends before after (failure_line text ++ line_behind is_terminal behind)
