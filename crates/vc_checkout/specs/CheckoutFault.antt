@@ -1,8 +1,9 @@
 -- What a refusal of a checkout says.
-use Rattle.std.specs.Prelude.{◌≡◌, ◌⊎◌, Option, Some, None, Err}
+use Rattle.std.specs.Prelude.{◌≡◌, ◌⊎◌, Option, Some, None, Result, Err, IsErrOf}
 use Rattle.vc_files.specs.FileMap.{FileMap}
 use Rattle.vc_object.specs.declared.id.ObjectId.{ObjectId}
 use Rattle.vc_files.specs.declared.faults.Fault.{Fault as FileFault}
+use Rattle.vc_files.specs.declared.faults.Fault.TheVariants.{Device}
 use Rattle.vc_object.specs.ObjectMap.{ObjectMap}
 use Rattle.vc_store.specs.Store.{objects}
 use Rattle.vc_index.specs.IndexMap.{IndexMap}
@@ -20,6 +21,14 @@ use Rattle.vc_checkout.specs.declared.faults.CheckoutFault.TheVariants.{Index}
 abbrev pub IsFault : CheckoutFault → Type 0
 IsFault fault = (cause : FileFault) × (fault ≡ Index (Store (Fault cause)))
 
+-- a fault, or what this blames
+abbrev pub IsFaultOr : (IndexFault → Type 0) → CheckoutFault → Type 0
+IsFaultOr Blames fault = IsFault fault ⊎ ((cause : IndexFault) × (fault ≡ Index cause) × Blames cause)
+
+-- a call answers by the fault of a device
+abbrev pub TellsDevice : {T : Type 0} → Result T CheckoutFault → Type 0
+TellsDevice result = IsErrOf result (Index (Store (Fault Device)))
+
 -- something in the work tree is against a checkout
 abbrev pub IsAgainst : CheckoutFault → Type 0
 IsAgainst (Index fault) = ⊥
@@ -28,7 +37,7 @@ IsAgainst _ = Unit {0}
 -- why a status was not told: the tree and those below it were not read, or a fault
 abbrev pub IsOfStatus : Type 0 → FileMap → Option ObjectId → CheckoutFault → Type 0
 IsOfStatus honest content None fault = IsFault fault
-IsOfStatus honest content (Some tree) fault = IsFault fault ⊎ ((cause : IndexFault) × (fault ≡ Index cause) × IsOfList honest content tree cause)
+IsOfStatus honest content (Some tree) fault = IsFaultOr (IsOfList honest content tree) fault
 
 -- the fault of a tree that a refusal tells
 abbrev pub told_fault : CheckoutFault → Option TreeFault

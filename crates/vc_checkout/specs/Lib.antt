@@ -8,3 +8,4 @@ pub mod Heads
 pub mod Refusal
 pub mod CheckedOut
 pub mod FoldersAfter
+pub mod Steps

@@ -5,9 +5,12 @@ use Rattle.std.specs.FinMap.{get}
 use Rattle.std.specs.List.Sorted.{IsStrictlySortedBy}
 use Rattle.std.specs.Ordering.{nat_cmp}
 use Rattle.vc_files.specs.FileMap.{FileMap}
+use Rattle.vc_object.specs.ObjectMap.{ObjectMap}
+use Rattle.vc_object.specs.declared.id.ObjectId.{ObjectId}
 use Rattle.vc_object.specs.declared.mode.Mode.TheVariants as modes
 use Rattle.vc_index.specs.IndexMap.{IndexMap}
 use Rattle.vc_index.specs.declared.entry.IndexEntry.{IndexEntry}
+use Rattle.vc_checkout.specs.Heads.{IsIndexOfHead}
 use Rattle.vc_checkout.specs.WorkTree.{blob_name}
 use Rattle.vc_checkout.specs.declared.change.IndexChange.{IndexChange}
 use Rattle.vc_checkout.specs.declared.change.IndexChange.TheVariants as of_index
@@ -50,6 +53,10 @@ seen change = (change.path.items, change.index, change.work)
 pub record IsStatus (tree index : IndexMap) (work : FileMap) (changes : List Seen) : Type 0 where
   pub sorted : IsStrictlySortedBy (λ (x y : Seen). slice_cmp nat_cmp x.0 y.0) changes
   pub exact : (path : List ℕ) (staged : IndexChange) (unstaged : WorkChange) → Contains changes (path, staged, unstaged) ↔ Differs tree index work path staged unstaged
+
+-- the same of the tree of this id, or of none
+abbrev pub IsStatusOf : ObjectMap → Option ObjectId → IndexMap → FileMap → List Seen → Type 0
+IsStatusOf objects tree index work changes = (head : IndexMap) × IsIndexOfHead objects tree head × IsStatus head index work changes
 
 -- what is told of one path: how it differs, or that it does not
 abbrev pub IsChangeAt : IndexMap → IndexMap → FileMap → List ℕ → Option Change → Type 0

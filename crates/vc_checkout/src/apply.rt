@@ -1,18 +1,17 @@
 // Bringing a work tree to the files of a tree.
-ghost use Rattle.std.specs.Prelude.{◌≡◌, ◌⊎◌, ℕ, List, None, IfErr, OnOk, OnErr, IsErrOf, IsUtf8};
+ghost use Rattle.std.specs.Prelude.{◌≡◌, ◌⊎◌, ℕ, List, None, IfErr, OnOk, OnErr, IsUtf8};
 ghost use Rattle.std.specs.FinMap as maps;
-ghost use Rattle.vc_files.specs.FileMap.{FileMap};
 ghost use Rattle.vc_files.specs.Failures.{Wears, unstopped};
 ghost use Rattle.vc_store.specs.Store.{objects};
 ghost use Rattle.vc_index.specs.Loading.{IsBlobIfDue};
 ghost use Rattle.vc_index.specs.Path.{IsAbove};
 ghost use Rattle.vc_checkout.specs.Blobs.{HasDueBlob, HasDueBlobs};
-ghost use Rattle.vc_checkout.specs.CheckedOut.{IsCheckedOut, IsCleared, IsOldOrCheckedOut, IsWritten, StepAt, StepOrNone, file_of, left_of};
-ghost use Rattle.vc_checkout.specs.CheckoutFault.{IsFault, IsOfCheckout};
+ghost use Rattle.vc_checkout.specs.CheckedOut.{file_of, left_of};
+ghost use Rattle.vc_checkout.specs.CheckoutFault.{IsFault, IsOfCheckout, TellsDevice};
 ghost use Rattle.vc_checkout.specs.Devices.{WearsEither};
-ghost use Rattle.vc_checkout.specs.Folders.{AreFolders, Folders, IsFolder};
-ghost use Rattle.vc_checkout.specs.FoldersAfter.{AreBetween, AreFoldersBegun, GivesWay, GivesWayBy, IsFolderAfter, IsFolderFor, IsLeft, IsLeftBy, IsLink, IsLinked, IsMadeBy, IsMadeFor, TakesPlace};
+ghost use Rattle.vc_checkout.specs.FoldersAfter.{GivesWayBy, IsFolderFor, IsLeftBy, IsLink, IsMadeBy, TakesPlace};
 ghost use Rattle.vc_checkout.specs.Refusal.{IsClear, IsDue};
+ghost use Rattle.vc_checkout.specs.Steps.{Brings, BringsPart, ChangesFolders, Clears, Does, EndsFolders, GivesWayAt, IsClearedAt, IsLeftAt, IsLinkedAt, IsMadeAt, IsUntouched, IsWrittenAt, LosesFolders, MayChangeFolders, MayClear, MayDo, MayLoseFolders, MayWriteDue, WritesDue};
 ghost use Rattle.vc_checkout.specs.WorkTree.{HasTextPaths};
 
 use crate::blobs::{blob_of, check_blobs};
@@ -21,10 +20,9 @@ use crate::paths::folder_of;
 use crate::{CheckoutFault, WorkTree};
 use std::alloc::Global;
 use std::str;
-use vc_files::{Fault, Files};
-use vc_index::{Index, IndexCursor, IndexEntry, IndexFault};
+use vc_files::Files;
+use vc_index::{Index, IndexCursor, IndexEntry};
 use vc_object::Mode;
-use vc_store::StoreFault;
 
 // Takes the folders above a path away, from the lowest on, as long as nothing is in them.
 fn remove_empty_above<T: WorkTree>(
@@ -34,9 +32,9 @@ fn remove_empty_above<T: WorkTree>(
 ) -> Result<(), CheckoutFault>
     ensures fault { IfErr result IsFault }
     ensures same { T.content work.new ≡ T.content work.old }
-    ensures folders { T.honest → OnOk result (AreFolders (T.content work.new) (T.folders work.new) (λ one. IsFolder (T.content work.old) (T.folders work.old) one × ¬ (IsAbove one path.now))) }
-    ensures between { T.honest → AreBetween (T.content work.new) (T.folders work.new) (λ one. IsFolder (T.content work.old) (T.folders work.old) one × ¬ (IsAbove one path.now)) (IsFolder (T.content work.old) (T.folders work.old)) }
-    ensures wear { Wears T.failed T.can_fail unstopped work.old work.new (IsErrOf result (CheckoutFault.Index (IndexFault.Store (StoreFault.Fault Fault.Device)))) }
+    ensures folders { T.honest → OnOk result (LosesFolders T.content T.folders (λ one. IsAbove one path.now) work.old work.new) }
+    ensures between { T.honest → MayLoseFolders T.content T.folders (λ one. IsAbove one path.now) work.old work.new }
+    ensures wear { Wears T.failed T.can_fail unstopped work.old work.new (TellsDevice result) }
 {
     let mut below = path;
     while let Some(folder) = folder_of(below) {
@@ -56,12 +54,12 @@ fn take_out<T: WorkTree>(
     entry: IndexEntry,
 ) -> Result<(), CheckoutFault>
     requires { T.honest → HasTextPaths (T.content work.old) }
-    ensures done { T.honest → OnOk result (StepAt (λ file after. after ≡ left_of entry.mode file) path.now (T.content work.old) (T.content work.new)) }
-    ensures begun { T.honest → OnErr result (StepOrNone (λ file after. after ≡ left_of entry.mode file) path.now (T.content work.old) (T.content work.new)) }
+    ensures done { T.honest → OnOk result (Does T.content (λ file after. after ≡ left_of entry.mode file) path.now work.old work.new) }
+    ensures begun { T.honest → OnErr result (MayDo T.content (λ file after. after ≡ left_of entry.mode file) path.now work.old work.new) }
     ensures fault { IfErr result IsFault }
-    ensures folders { T.honest → OnOk result (AreFolders (T.content work.new) (T.folders work.new) (λ one. IsFolder (T.content work.old) (T.folders work.old) one × ¬ (IsUtf8 path.now × IsFolderFor entry path.now one))) }
-    ensures between { T.honest → AreBetween (T.content work.new) (T.folders work.new) (λ one. IsFolder (T.content work.old) (T.folders work.old) one × ¬ (IsUtf8 path.now × IsFolderFor entry path.now one)) (IsFolder (T.content work.old) (T.folders work.old)) }
-    ensures wear { Wears T.failed T.can_fail unstopped work.old work.new (IsErrOf result (CheckoutFault.Index (IndexFault.Store (StoreFault.Fault Fault.Device)))) }
+    ensures folders { T.honest → OnOk result (LosesFolders T.content T.folders (λ one. IsUtf8 path.now × IsFolderFor entry path.now one) work.old work.new) }
+    ensures between { T.honest → MayLoseFolders T.content T.folders (λ one. IsUtf8 path.now × IsFolderFor entry path.now one) work.old work.new }
+    ensures wear { Wears T.failed T.can_fail unstopped work.old work.new (TellsDevice result) }
 {
     let Ok(text) = str::from_utf8(path) else {
         return Ok(());
@@ -84,13 +82,13 @@ fn clear_path<T: WorkTree>(
     path: &[u8],
 ) -> Result<(), CheckoutFault>
     requires { T.honest → HasTextPaths (T.content work.old) }
-    ensures done { T.honest → OnOk result (StepAt (IsCleared (maps.get index.old path.now) (maps.get tree.old path.now)) path.now (T.content work.old) (T.content work.new)) }
-    ensures begun { T.honest → OnErr result (StepOrNone (IsCleared (maps.get index.old path.now) (maps.get tree.old path.now)) path.now (T.content work.old) (T.content work.new)) }
+    ensures done { T.honest → OnOk result (Does T.content (IsClearedAt index.old tree.old path.now) path.now work.old work.new) }
+    ensures begun { T.honest → OnErr result (MayDo T.content (IsClearedAt index.old tree.old path.now) path.now work.old work.new) }
     ensures fault { IfErr result IsFault }
-    ensures folders { T.honest → OnOk result (AreFolders (T.content work.new) (T.folders work.new) (λ one. IsFolder (T.content work.old) (T.folders work.old) one × ¬ (IsLeft (maps.get index.old path.now) (maps.get tree.old path.now) path.now one))) }
-    ensures between { T.honest → AreBetween (T.content work.new) (T.folders work.new) (λ one. IsFolder (T.content work.old) (T.folders work.old) one × ¬ (IsLeft (maps.get index.old path.now) (maps.get tree.old path.now) path.now one)) (IsFolder (T.content work.old) (T.folders work.old)) }
+    ensures folders { T.honest → OnOk result (LosesFolders T.content T.folders (IsLeftAt index.old tree.old path.now) work.old work.new) }
+    ensures between { T.honest → MayLoseFolders T.content T.folders (IsLeftAt index.old tree.old path.now) work.old work.new }
     ensures cursors { (index.new ≡ index.old) × (tree.new ≡ tree.old) }
-    ensures wear { Wears T.failed T.can_fail unstopped work.old work.new (IsErrOf result (CheckoutFault.Index (IndexFault.Store (StoreFault.Fault Fault.Device)))) }
+    ensures wear { Wears T.failed T.can_fail unstopped work.old work.new (TellsDevice result) }
 {
     let Some(old) = index.get(path) else {
         return Ok(());
@@ -110,12 +108,12 @@ fn clear_all<T: WorkTree>(
     tree: &Index,
 ) -> Result<(), CheckoutFault>
     requires { T.honest → HasTextPaths (T.content work.old) }
-    ensures done { T.honest → OnOk result ((path : List ℕ) → IsCleared (maps.get index.now path) (maps.get tree.now path) (maps.get (T.content work.old) path) (maps.get (T.content work.new) path)) }
-    ensures begun { T.honest → (path : List ℕ) → (maps.get (T.content work.new) path ≡ maps.get (T.content work.old) path) ⊎ IsCleared (maps.get index.now path) (maps.get tree.now path) (maps.get (T.content work.old) path) (maps.get (T.content work.new) path) }
+    ensures done { T.honest → OnOk result (Clears T.content index.now tree.now work.old work.new) }
+    ensures begun { T.honest → MayClear T.content index.now tree.now work.old work.new }
     ensures fault { IfErr result IsFault }
-    ensures folders { T.honest → OnOk result (AreFolders (T.content work.new) (T.folders work.new) (λ one. IsFolder (T.content work.old) (T.folders work.old) one × ¬ (IsLeftBy index.now tree.now one))) }
-    ensures between { T.honest → AreBetween (T.content work.new) (T.folders work.new) (λ one. IsFolder (T.content work.old) (T.folders work.old) one × ¬ (IsLeftBy index.now tree.now one)) (IsFolder (T.content work.old) (T.folders work.old)) }
-    ensures wear { Wears T.failed T.can_fail unstopped work.old work.new (IsErrOf result (CheckoutFault.Index (IndexFault.Store (StoreFault.Fault Fault.Device)))) }
+    ensures folders { T.honest → OnOk result (LosesFolders T.content T.folders (IsLeftBy index.now tree.now) work.old work.new) }
+    ensures between { T.honest → MayLoseFolders T.content T.folders (IsLeftBy index.now tree.now) work.old work.new }
+    ensures wear { Wears T.failed T.can_fail unstopped work.old work.new (TellsDevice result) }
 {
     let (mut old, mut new) = (IndexCursor::new(index), IndexCursor::new(tree));
     for (path, _) in index.iter() {
@@ -134,13 +132,13 @@ fn put_in<T: WorkTree, F: Files>(
 ) -> Result<(), CheckoutFault>
     requires text { IsUtf8 path.now }
     requires blob { F.honest → IsBlobIfDue (objects (F.content files.old)) entry }
-    ensures done { T.honest → F.honest → OnOk result (StepAt (λ _ after. after ≡ file_of (objects (F.content files.old)) entry.mode entry.id) path.now (T.content work.old) (T.content work.new)) }
-    ensures begun { T.honest → F.honest → OnErr result (StepOrNone (λ _ after. after ≡ file_of (objects (F.content files.old)) entry.mode entry.id) path.now (T.content work.old) (T.content work.new)) }
+    ensures done { T.honest → F.honest → OnOk result (Does T.content (λ _ after. after ≡ file_of (objects (F.content files.old)) entry.mode entry.id) path.now work.old work.new) }
+    ensures begun { T.honest → F.honest → OnErr result (MayDo T.content (λ _ after. after ≡ file_of (objects (F.content files.old)) entry.mode entry.id) path.now work.old work.new) }
     ensures refused { IfErr result (λ e. F.honest → IsFault e) }
     ensures same { F.content files.new ≡ F.content files.old }
-    ensures folders { T.honest → OnOk result (AreFolders (T.content work.new) (T.folders work.new) (λ one. IsLink entry path.now one ⊎ (IsFolder (T.content work.old) (T.folders work.old) one × ¬ (TakesPlace entry path.now one)))) }
-    ensures between { T.honest → AreBetween (T.content work.new) (T.folders work.new) (λ one. IsFolder (T.content work.old) (T.folders work.old) one × ¬ (TakesPlace entry path.now one)) (λ one. IsFolder (T.content work.old) (T.folders work.old) one ⊎ IsFolderFor entry path.now one) }
-    ensures wear { WearsEither T.failed T.can_fail F.failed F.can_fail F.left work.old work.new files.old files.new (IsErrOf result (CheckoutFault.Index (IndexFault.Store (StoreFault.Fault Fault.Device)))) }
+    ensures folders { T.honest → OnOk result (ChangesFolders T.content T.folders (IsLink entry path.now) (TakesPlace entry path.now) work.old work.new) }
+    ensures between { T.honest → MayChangeFolders T.content T.folders (IsFolderFor entry path.now) (TakesPlace entry path.now) work.old work.new }
+    ensures wear { WearsEither T.failed T.can_fail F.failed F.can_fail F.left work.old work.new files.old files.new (TellsDevice result) }
 {
     let Ok(text) = str::from_utf8(path) else {
         unreachable!();
@@ -166,15 +164,14 @@ fn write_path<T: WorkTree, F: Files>(
 ) -> Result<(), CheckoutFault>
     requires text { IsDue (maps.get index.old path.now) (maps.get tree.old path.now) → IsUtf8 path.now }
     requires blob { F.honest → HasDueBlob (objects (F.content files.old)) (maps.get index.old path.now) (maps.get tree.old path.now) }
-    ensures done { T.honest → F.honest → OnOk result (StepAt (IsWritten (objects (F.content files.old)) (maps.get index.old path.now) (maps.get tree.old path.now)) path.now (T.content work.old) (T.content work.new)) }
-    ensures begun { T.honest → F.honest → OnErr result (StepOrNone (IsWritten (objects (F.content files.old)) (maps.get index.old path.now) (maps.get tree.old path.now)) path.now (T.content work.old) (T.content work.new)) }
+    ensures done { T.honest → F.honest → OnOk result (Does T.content (IsWrittenAt (objects (F.content files.old)) index.old tree.old path.now) path.now work.old work.new) }
+    ensures begun { T.honest → F.honest → OnErr result (MayDo T.content (IsWrittenAt (objects (F.content files.old)) index.old tree.old path.now) path.now work.old work.new) }
     ensures refused { IfErr result (λ e. F.honest → IsFault e) }
-    ensures same { F.content files.new ≡ F.content files.old }
-    ensures folders { T.honest → OnOk result (AreFolders (T.content work.new) (T.folders work.new) (λ one. ((one ≡ path.now) × IsLinked (maps.get index.old path.now) (maps.get tree.old path.now)) ⊎ (IsFolder (T.content work.old) (T.folders work.old) one × ¬ (GivesWay (maps.get index.old path.now) (maps.get tree.old path.now) path.now one)))) }
-    ensures between { T.honest → AreBetween (T.content work.new) (T.folders work.new) (λ one. IsFolder (T.content work.old) (T.folders work.old) one × ¬ (GivesWay (maps.get index.old path.now) (maps.get tree.old path.now) path.now one)) (λ one. IsFolder (T.content work.old) (T.folders work.old) one ⊎ IsMadeFor (maps.get index.old path.now) (maps.get tree.old path.now) path.now one) }
+    ensures same { (F.content files.new ≡ F.content files.old) × (index.new ≡ index.old) × (tree.new ≡ tree.old) }
+    ensures folders { T.honest → OnOk result (ChangesFolders T.content T.folders (IsLinkedAt index.old tree.old path.now) (GivesWayAt index.old tree.old path.now) work.old work.new) }
+    ensures between { T.honest → MayChangeFolders T.content T.folders (IsMadeAt index.old tree.old path.now) (GivesWayAt index.old tree.old path.now) work.old work.new }
     ensures due { OnOk result (((maps.get index.old path.now ≡ maps.get tree.old path.now) ⊎ (maps.get tree.old path.now ≡ None)) ⊎ IsDue (maps.get index.old path.now) (maps.get tree.old path.now)) }
-    ensures cursors { (index.new ≡ index.old) × (tree.new ≡ tree.old) }
-    ensures wear { WearsEither T.failed T.can_fail F.failed F.can_fail F.left work.old work.new files.old files.new (IsErrOf result (CheckoutFault.Index (IndexFault.Store (StoreFault.Fault Fault.Device)))) }
+    ensures wear { WearsEither T.failed T.can_fail F.failed F.can_fail F.left work.old work.new files.old files.new (TellsDevice result) }
 {
     let Some(new) = tree.get(path) else {
         return Ok(());
@@ -196,13 +193,13 @@ fn write_all<T: WorkTree, F: Files>(
 ) -> Result<(), CheckoutFault>
     requires text { (path : List ℕ) → IsDue (maps.get index.now path) (maps.get tree.now path) → IsUtf8 path }
     requires blobs { F.honest → HasDueBlobs (objects (F.content files.old)) index.now tree.now }
-    ensures done { T.honest → F.honest → OnOk result ((path : List ℕ) → IsWritten (objects (F.content files.old)) (maps.get index.now path) (maps.get tree.now path) (maps.get (T.content work.old) path) (maps.get (T.content work.new) path)) }
-    ensures begun { T.honest → F.honest → (path : List ℕ) → (maps.get (T.content work.new) path ≡ maps.get (T.content work.old) path) ⊎ IsWritten (objects (F.content files.old)) (maps.get index.now path) (maps.get tree.now path) (maps.get (T.content work.old) path) (maps.get (T.content work.new) path) }
+    ensures done { T.honest → F.honest → OnOk result (WritesDue T.content (objects (F.content files.old)) index.now tree.now work.old work.new) }
+    ensures begun { T.honest → F.honest → MayWriteDue T.content (objects (F.content files.old)) index.now tree.now work.old work.new }
     ensures refused { IfErr result (λ e. F.honest → IsFault e) }
     ensures same { F.content files.new ≡ F.content files.old }
-    ensures folders { T.honest → F.honest → OnOk result ((old : FileMap) (was : Folders) → AreFolders (T.content work.old) (T.folders work.old) (λ one. IsFolder old was one × ¬ (IsLeftBy index.now tree.now one)) → AreFolders (T.content work.new) (T.folders work.new) (IsFolderAfter index.now tree.now (IsFolder old was))) }
-    ensures between { T.honest → AreBetween (T.content work.new) (T.folders work.new) (λ one. IsFolder (T.content work.old) (T.folders work.old) one × ¬ (GivesWayBy index.now tree.now one)) (λ one. IsFolder (T.content work.old) (T.folders work.old) one ⊎ IsMadeBy index.now tree.now one) }
-    ensures wear { WearsEither T.failed T.can_fail F.failed F.can_fail F.left work.old work.new files.old files.new (IsErrOf result (CheckoutFault.Index (IndexFault.Store (StoreFault.Fault Fault.Device)))) }
+    ensures folders { T.honest → F.honest → OnOk result (EndsFolders T.content T.folders index.now tree.now work.old work.new) }
+    ensures between { T.honest → MayChangeFolders T.content T.folders (IsMadeBy index.now tree.now) (GivesWayBy index.now tree.now) work.old work.new }
+    ensures wear { WearsEither T.failed T.can_fail F.failed F.can_fail F.left work.old work.new files.old files.new (TellsDevice result) }
 {
     let (mut old, mut new) = (IndexCursor::new(index), IndexCursor::new(tree));
     for (path, _) in tree.iter() {
@@ -233,17 +230,14 @@ pub fn checkout<T: WorkTree, F: Files>(
     index: &Index,
     tree: &Index,
 ) -> Result<(), CheckoutFault>
-    ensures work { T.honest → F.honest → OnOk result ((path : List ℕ) → IsCheckedOut (objects (F.content files.old)) (maps.get index.now path) (maps.get tree.now path) (maps.get (T.content work.old) path) (maps.get (T.content work.new) path)) }
+    ensures brought { T.honest → F.honest → OnOk result (Brings T.content T.folders (objects (F.content files.old)) index.now tree.now work.old work.new) }
     ensures blobs { F.honest → OnOk result (HasDueBlobs (objects (F.content files.old)) index.now tree.now) }
     ensures clear { T.honest → OnOk result ((path : List ℕ) → IsClear index.now tree.now (T.content work.old) path) }
     ensures refused { F.honest → IfErr result (IsOfCheckout T.honest (T.content work.old) (F.content files.old) index.now tree.now) }
-    ensures unchanged { F.honest → IfErr result (λ e. IsFault e ⊎ (T.content work.new ≡ T.content work.old)) }
-    ensures unmoved { F.honest → IfErr result (λ e. IsFault e ⊎ (T.folders work.new ≡ T.folders work.old)) }
-    ensures fault { T.honest → F.honest → OnErr result ((path : List ℕ) → IsOldOrCheckedOut (objects (F.content files.old)) index.now tree.now (T.content work.old) (T.content work.new) path) }
-    ensures folders { T.honest → F.honest → OnOk result (AreFolders (T.content work.new) (T.folders work.new) (IsFolderAfter index.now tree.now (IsFolder (T.content work.old) (T.folders work.old)))) }
-    ensures begun { T.honest → F.honest → OnErr result (AreFoldersBegun index.now tree.now (T.content work.old) (T.folders work.old) (T.content work.new) (T.folders work.new)) }
+    ensures unchanged { F.honest → IfErr result (λ e. IsFault e ⊎ IsUntouched T.content T.folders work.old work.new) }
+    ensures begun { T.honest → F.honest → OnErr result (BringsPart T.content T.folders (objects (F.content files.old)) index.now tree.now work.old work.new) }
     ensures files { F.content files.new ≡ F.content files.old }
-    ensures wear { WearsEither T.failed T.can_fail F.failed F.can_fail F.left work.old work.new files.old files.new (IsErrOf result (CheckoutFault.Index (IndexFault.Store (StoreFault.Fault Fault.Device)))) }
+    ensures wear { WearsEither T.failed T.can_fail F.failed F.can_fail F.left work.old work.new files.old files.new (TellsDevice result) }
 {
     check_blobs(alloc, files, index, tree)?;
     check_all(alloc, work, index, tree)?;

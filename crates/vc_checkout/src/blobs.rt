@@ -1,19 +1,17 @@
 // Whether the blobs that a checkout writes are there.
-ghost use Rattle.std.specs.Prelude.{◌≡◌, ◌⊎◌, Some, IfOk, IfErr, OnOk, IsErrOf};
+ghost use Rattle.std.specs.Prelude.{◌≡◌, Some, IfOk, IfErr, OnOk};
 ghost use Rattle.std.specs.FinMap as maps;
 ghost use Rattle.vc_files.specs.Failures.{Wears};
 ghost use Rattle.vc_object.specs.Decoding.{stored_object};
 ghost use Rattle.vc_store.specs.Store.{objects};
-ghost use Rattle.vc_index.specs.declared.faults.IndexFault.{IndexFault as Cause};
 ghost use Rattle.vc_checkout.specs.Blobs.{BlamesBlob, BlamesBlobs, BlamesDue, HasDueBlob, HasDueBlobs};
-ghost use Rattle.vc_checkout.specs.CheckoutFault.{IsFault};
+ghost use Rattle.vc_checkout.specs.CheckoutFault.{IsFaultOr, TellsDevice};
 
 use crate::CheckoutFault;
 use std::alloc::Global;
-use vc_files::{Fault, Files};
+use vc_files::Files;
 use vc_index::{Index, IndexCursor, IndexFault};
 use vc_object::{Kind, Mode, ObjectId};
-use vc_store::StoreFault;
 
 /// The content of the blob of this name, for the file at the path.
 pub(crate) fn blob_of<F: Files>(
@@ -23,9 +21,9 @@ pub(crate) fn blob_of<F: Files>(
     id: &ObjectId,
 ) -> Result<Vec<u8>, CheckoutFault>
     ensures blob { F.honest → IfOk result (λ body. objects (F.content files.old) id.now ≡ Some (stored_object Kind.Blob body.items)) }
-    ensures refused { F.honest → IfErr result (λ e. IsFault e ⊎ ((cause : Cause) × (e ≡ CheckoutFault.Index cause) × BlamesBlob (F.content files.old) path.now id.now cause)) }
+    ensures refused { F.honest → IfErr result (IsFaultOr (BlamesBlob (F.content files.old) path.now id.now)) }
     ensures same { F.content files.new ≡ F.content files.old }
-    ensures wear { Wears F.failed F.can_fail F.left files.old files.new (IsErrOf result (CheckoutFault.Index (IndexFault.Store (StoreFault.Fault Fault.Device)))) }
+    ensures wear { Wears F.failed F.can_fail F.left files.old files.new (TellsDevice result) }
 {
     let Some(stored) = vc_store::find(files, alloc, id)? else {
         return Err(CheckoutFault::Index(IndexFault::Missing(*id)));
@@ -46,10 +44,10 @@ fn check_due<F: Files>(
     path: &[u8],
 ) -> Result<(), CheckoutFault>
     ensures blob { F.honest → OnOk result (HasDueBlob (objects (F.content files.old)) (maps.get index.old path.now) (maps.get tree.old path.now)) }
-    ensures refused { F.honest → IfErr result (λ e. IsFault e ⊎ ((cause : Cause) × (e ≡ CheckoutFault.Index cause) × BlamesDue (F.content files.old) (maps.get index.old path.now) (maps.get tree.old path.now) path.now cause)) }
+    ensures refused { F.honest → IfErr result (IsFaultOr (BlamesDue (F.content files.old) (maps.get index.old path.now) (maps.get tree.old path.now) path.now)) }
     ensures same { F.content files.new ≡ F.content files.old }
     ensures cursors { (index.new ≡ index.old) × (tree.new ≡ tree.old) }
-    ensures wear { Wears F.failed F.can_fail F.left files.old files.new (IsErrOf result (CheckoutFault.Index (IndexFault.Store (StoreFault.Fault Fault.Device)))) }
+    ensures wear { Wears F.failed F.can_fail F.left files.old files.new (TellsDevice result) }
 {
     let Some(new) = tree.get(path) else {
         return Ok(());
@@ -73,9 +71,9 @@ pub(crate) fn check_blobs<F: Files>(
     tree: &Index,
 ) -> Result<(), CheckoutFault>
     ensures blobs { F.honest → OnOk result (HasDueBlobs (objects (F.content files.old)) index.now tree.now) }
-    ensures refused { F.honest → IfErr result (λ e. IsFault e ⊎ ((cause : Cause) × (e ≡ CheckoutFault.Index cause) × BlamesBlobs (F.content files.old) index.now tree.now cause)) }
+    ensures refused { F.honest → IfErr result (IsFaultOr (BlamesBlobs (F.content files.old) index.now tree.now)) }
     ensures same { F.content files.new ≡ F.content files.old }
-    ensures wear { Wears F.failed F.can_fail F.left files.old files.new (IsErrOf result (CheckoutFault.Index (IndexFault.Store (StoreFault.Fault Fault.Device)))) }
+    ensures wear { Wears F.failed F.can_fail F.left files.old files.new (TellsDevice result) }
 {
     let (mut old, mut new) = (IndexCursor::new(index), IndexCursor::new(tree));
     for (path, _) in tree.iter() {

@@ -1,10 +1,11 @@
 // Whether anything is against a checkout, before the first write.
-ghost use Rattle.std.specs.Prelude.{◌≡◌, ◌≢◌, ◌⊎◌, ◌↔◌, ℕ, List, Some, IfOk, IfErr, OnOk, IsErrOf, IsTrue, IsUtf8};
+ghost use Rattle.std.specs.Prelude.{◌≡◌, ◌≢◌, ◌⊎◌, ◌↔◌, ℕ, List, Some, IfOk, IfErr, OnOk, IsTrue, IsUtf8};
 ghost use Rattle.std.specs.FinMap as maps;
 ghost use Rattle.vc_files.specs.Failures.{Wears, unstopped};
 ghost use Rattle.vc_index.specs.declared.entry.IndexEntry.{IndexEntry as Entry};
-ghost use Rattle.vc_checkout.specs.CheckoutFault.{IsAgainst, IsFault};
+ghost use Rattle.vc_checkout.specs.CheckoutFault.{IsAgainst, IsFault, TellsDevice};
 ghost use Rattle.vc_checkout.specs.Refusal.{HasLocalChange, IsClear, IsDue, IsHindered, IsOther, IsRefused, RefusedAt};
+ghost use Rattle.vc_checkout.specs.Steps.{IsUntouched};
 ghost use Rattle.vc_checkout.specs.WorkTree.{HasTextPaths, IsUntracked, has_path};
 
 use crate::compare::file_name;
@@ -14,10 +15,8 @@ use crate::{CheckoutFault, WorkTree};
 use std::alloc::Global;
 use std::collections::BTreeSet;
 use std::str;
-use vc_files::Fault;
-use vc_index::{Index, IndexCursor, IndexEntry, IndexFault};
+use vc_index::{Index, IndexCursor, IndexEntry};
 use vc_object::{Mode, ObjectId};
-use vc_store::StoreFault;
 
 // Whether the name is not that of what stands there.
 fn is_other(entry: Option<IndexEntry>, name: ObjectId) -> bool
@@ -41,9 +40,8 @@ fn has_local_change<T: WorkTree>(
     requires changes { old ≢ new }
     ensures change { T.honest → IfOk result (λ lost. IsTrue lost ↔ HasLocalChange old new (maps.get (T.content work.old) path.now)) }
     ensures fault { IfErr result IsFault }
-    ensures same { T.content work.new ≡ T.content work.old }
-    ensures folders { T.folders work.new ≡ T.folders work.old }
-    ensures wear { Wears T.failed T.can_fail unstopped work.old work.new (IsErrOf result (CheckoutFault.Index (IndexFault.Store (StoreFault.Fault Fault.Device)))) }
+    ensures untouched { IsUntouched T.content T.folders work.old work.new }
+    ensures wear { Wears T.failed T.can_fail unstopped work.old work.new (TellsDevice result) }
 {
     let Some(entry) = old else {
         return Ok(false);
@@ -76,9 +74,8 @@ fn check_path<T: WorkTree>(
     ensures kind { IfErr result (λ e. IsFault e ⊎ IsAgainst e) }
     ensures text { OnOk result (IsDue (maps.get index.old path.now) (maps.get tree.old path.now) → IsUtf8 path.now) }
     ensures cursors { (index.new ≡ index.old) × (tree.new ≡ tree.old) }
-    ensures same { T.content work.new ≡ T.content work.old }
-    ensures folders { T.folders work.new ≡ T.folders work.old }
-    ensures wear { Wears T.failed T.can_fail unstopped work.old work.new (IsErrOf result (CheckoutFault.Index (IndexFault.Store (StoreFault.Fault Fault.Device)))) }
+    ensures untouched { IsUntouched T.content T.folders work.old work.new }
+    ensures wear { Wears T.failed T.can_fail unstopped work.old work.new (TellsDevice result) }
 {
     let old = index.get(path);
     let new = tree.get(path);
@@ -112,9 +109,8 @@ pub(crate) fn check_all<T: WorkTree>(
     ensures kind { IfErr result (λ e. IsFault e ⊎ IsAgainst e) }
     ensures text { OnOk result ((path : List ℕ) → IsDue (maps.get index.now path) (maps.get tree.now path) → IsUtf8 path) }
     ensures texts { T.honest → OnOk result (HasTextPaths (T.content work.old)) }
-    ensures same { T.content work.new ≡ T.content work.old }
-    ensures folders { T.folders work.new ≡ T.folders work.old }
-    ensures wear { Wears T.failed T.can_fail unstopped work.old work.new (IsErrOf result (CheckoutFault.Index (IndexFault.Store (StoreFault.Fault Fault.Device)))) }
+    ensures untouched { IsUntouched T.content T.folders work.old work.new }
+    ensures wear { Wears T.failed T.can_fail unstopped work.old work.new (TellsDevice result) }
 {
     let untracked = untracked_paths(alloc, work, index)?;
     let paths = all_paths(alloc, &BTreeSet::new(alloc), index, tree)?;

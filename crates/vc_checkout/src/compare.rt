@@ -1,14 +1,14 @@
 // What differs between a tree, the index and the work tree.
-ghost use Rattle.std.specs.Prelude.{◌≡◌, ◌↔◌, ℕ, List, Option, Some, None, IfOk, IfErr, OnOk, IsErrOf, IsTrue, is_some, map, option_map};
+ghost use Rattle.std.specs.Prelude.{◌≡◌, ◌↔◌, ℕ, List, Option, Some, None, IfOk, IfErr, OnOk, IsTrue, is_some, map, option_map};
 ghost use Rattle.std.specs.FinMap as maps;
 ghost use Rattle.vc_files.specs.Failures.{Wears, unstopped};
 ghost use Rattle.vc_object.specs.declared.id.ObjectId.{ObjectId as Id};
 ghost use Rattle.vc_store.specs.Store.{objects};
-ghost use Rattle.vc_index.specs.IndexMap.{IndexMap};
-ghost use Rattle.vc_checkout.specs.CheckoutFault.{IsFault, IsOfStatus, TellsFirstListed};
+ghost use Rattle.vc_checkout.specs.CheckoutFault.{IsFault, IsOfStatus, TellsDevice, TellsFirstListed};
 ghost use Rattle.vc_checkout.specs.Devices.{WearsEither};
 ghost use Rattle.vc_checkout.specs.Heads.{IsIndexOfHead};
-ghost use Rattle.vc_checkout.specs.Status.{IsWorkChange, IsChangeAt, IsStatus, seen};
+ghost use Rattle.vc_checkout.specs.Status.{IsWorkChange, IsChangeAt, IsStatus, IsStatusOf, seen};
+ghost use Rattle.vc_checkout.specs.Steps.{IsUntouched};
 ghost use Rattle.vc_checkout.specs.WorkTree.{HasTextPaths, IsUntracked, blob_name, has_path};
 
 use crate::change::index_change;
@@ -17,10 +17,9 @@ use crate::{Change, CheckoutFault, IndexChange, WorkChange, WorkTree};
 use std::alloc::Global;
 use std::collections::BTreeSet;
 use std::str;
-use vc_files::{Fault, Files};
-use vc_index::{Index, IndexCursor, IndexEntry, IndexFault};
+use vc_files::Files;
+use vc_index::{Index, IndexCursor, IndexEntry};
 use vc_object::{Mode, ObjectId};
-use vc_store::StoreFault;
 
 /// The name that the content of the file at a path has as a blob, or none where there is no file.
 pub(crate) fn file_name<T: WorkTree>(
@@ -31,9 +30,8 @@ pub(crate) fn file_name<T: WorkTree>(
     requires { T.honest → HasTextPaths (T.content work.old) }
     ensures name { T.honest → IfOk result (λ name. name ≡ option_map blob_name (maps.get (T.content work.old) path.now)) }
     ensures fault { IfErr result IsFault }
-    ensures same { T.content work.new ≡ T.content work.old }
-    ensures folders { T.folders work.new ≡ T.folders work.old }
-    ensures wear { Wears T.failed T.can_fail unstopped work.old work.new (IsErrOf result (CheckoutFault.Index (IndexFault.Store (StoreFault.Fault Fault.Device)))) }
+    ensures untouched { IsUntouched T.content T.folders work.old work.new }
+    ensures wear { Wears T.failed T.can_fail unstopped work.old work.new (TellsDevice result) }
 {
     let Ok(text) = str::from_utf8(path) else {
         return Ok(None);
@@ -54,9 +52,8 @@ fn work_change<T: WorkTree>(
     requires untracked { T.honest → entry ≡ None → is_some (maps.get (T.content work.old) path.now) ≡ has_path untracked.now path.now }
     ensures change { T.honest → IfOk result (IsWorkChange entry (maps.get (T.content work.old) path.now)) }
     ensures fault { IfErr result IsFault }
-    ensures same { T.content work.new ≡ T.content work.old }
-    ensures folders { T.folders work.new ≡ T.folders work.old }
-    ensures wear { Wears T.failed T.can_fail unstopped work.old work.new (IsErrOf result (CheckoutFault.Index (IndexFault.Store (StoreFault.Fault Fault.Device)))) }
+    ensures untouched { IsUntouched T.content T.folders work.old work.new }
+    ensures wear { Wears T.failed T.can_fail unstopped work.old work.new (TellsDevice result) }
 {
     let Some(entry) = entry else {
         if untracked.contains(path) {
@@ -90,9 +87,8 @@ fn change_at<T: WorkTree>(
     ensures change { T.honest → IfOk result (IsChangeAt tree.old index.old (T.content work.old) path.now) }
     ensures cursors { (index.new ≡ index.old) × (tree.new ≡ tree.old) }
     ensures fault { IfErr result IsFault }
-    ensures same { T.content work.new ≡ T.content work.old }
-    ensures folders { T.folders work.new ≡ T.folders work.old }
-    ensures wear { Wears T.failed T.can_fail unstopped work.old work.new (IsErrOf result (CheckoutFault.Index (IndexFault.Store (StoreFault.Fault Fault.Device)))) }
+    ensures untouched { IsUntouched T.content T.folders work.old work.new }
+    ensures wear { Wears T.failed T.can_fail unstopped work.old work.new (TellsDevice result) }
 {
     let entry = index.get(path);
     let staged = index_change(tree.get(path), entry);
@@ -117,9 +113,8 @@ fn changes<T: WorkTree>(
 ) -> Result<Vec<Change>, CheckoutFault>
     ensures status { T.honest → IfOk result (λ changes. IsStatus tree.now index.now (T.content work.old) (map seen changes.items)) }
     ensures fault { IfErr result IsFault }
-    ensures same { T.content work.new ≡ T.content work.old }
-    ensures folders { T.folders work.new ≡ T.folders work.old }
-    ensures wear { Wears T.failed T.can_fail unstopped work.old work.new (IsErrOf result (CheckoutFault.Index (IndexFault.Store (StoreFault.Fault Fault.Device)))) }
+    ensures untouched { IsUntouched T.content T.folders work.old work.new }
+    ensures wear { Wears T.failed T.can_fail unstopped work.old work.new (TellsDevice result) }
 {
     let untracked = untracked_paths(alloc, work, index)?;
     let paths = all_paths(alloc, &untracked, index, tree)?;
@@ -145,7 +140,7 @@ fn head_index<F: Files>(
     ensures refused { IfErr result (IsOfStatus F.honest (F.content files.old) tree) }
     ensures tree { F.honest → IfErr result (λ e. (root : Id) → tree ≡ Some root → TellsFirstListed (objects (F.content files.old)) root e) }
     ensures same { F.content files.new ≡ F.content files.old }
-    ensures wear { Wears F.failed F.can_fail F.left files.old files.new (IsErrOf result (CheckoutFault.Index (IndexFault.Store (StoreFault.Fault Fault.Device)))) }
+    ensures wear { Wears F.failed F.can_fail F.left files.old files.new (TellsDevice result) }
 {
     let Some(id) = tree else {
         return Ok(Index::new(alloc));
@@ -167,13 +162,12 @@ pub fn status<T: WorkTree, F: Files>(
     index: &Index,
     tree: Option<ObjectId>,
 ) -> Result<Vec<Change>, CheckoutFault>
-    ensures status { T.honest → F.honest → IfOk result (λ changes. (head : IndexMap) × IsIndexOfHead (objects (F.content files.old)) tree head × IsStatus head index.now (T.content work.old) (map seen changes.items)) }
+    ensures status { T.honest → F.honest → IfOk result (λ changes. IsStatusOf (objects (F.content files.old)) tree index.now (T.content work.old) (map seen changes.items)) }
     ensures refused { IfErr result (IsOfStatus F.honest (F.content files.old) tree) }
     ensures tree { F.honest → IfErr result (λ e. (root : Id) → tree ≡ Some root → TellsFirstListed (objects (F.content files.old)) root e) }
-    ensures work { T.content work.new ≡ T.content work.old }
-    ensures folders { T.folders work.new ≡ T.folders work.old }
+    ensures untouched { IsUntouched T.content T.folders work.old work.new }
     ensures files { F.content files.new ≡ F.content files.old }
-    ensures wear { WearsEither T.failed T.can_fail F.failed F.can_fail F.left work.old work.new files.old files.new (IsErrOf result (CheckoutFault.Index (IndexFault.Store (StoreFault.Fault Fault.Device)))) }
+    ensures wear { WearsEither T.failed T.can_fail F.failed F.can_fail F.left work.old work.new files.old files.new (TellsDevice result) }
 {
     let head = head_index(alloc, files, tree)?;
     let changes = changes(alloc, work, index, &head)?;

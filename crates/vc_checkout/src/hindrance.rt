@@ -1,9 +1,10 @@
 // What stands where a file is to be written.
-ghost use Rattle.std.specs.Prelude.{◌≡◌, ◌↔◌, ℕ, List, IfOk, IfErr, IsErrOf, IsTrue};
+ghost use Rattle.std.specs.Prelude.{◌≡◌, ◌↔◌, ℕ, List, IfOk, IfErr, IsTrue};
 ghost use Rattle.vc_files.specs.Failures.{Wears, unstopped};
 ghost use Rattle.vc_index.specs.Path.{IsAbove};
-ghost use Rattle.vc_checkout.specs.CheckoutFault.{IsFault};
+ghost use Rattle.vc_checkout.specs.CheckoutFault.{IsFault, TellsDevice};
 ghost use Rattle.vc_checkout.specs.Refusal.{IsHindered};
+ghost use Rattle.vc_checkout.specs.Steps.{IsUntouched};
 ghost use Rattle.vc_checkout.specs.WorkTree.{HasTextPaths, has_path};
 
 use crate::compare::file_name;
@@ -11,10 +12,8 @@ use crate::{CheckoutFault, WorkTree};
 use std::alloc::{AllocError, Global};
 use std::collections::BTreeSet;
 use std::ops::Bound;
-use vc_files::Fault;
-use vc_index::{IndexEntry, IndexFault};
+use vc_index::IndexEntry;
 use vc_object::Mode;
-use vc_store::StoreFault;
 
 // Whether a path of the set is that of a folder above the path.
 fn has_above(paths: &BTreeSet<Vec<u8>>, path: &[u8]) -> bool
@@ -54,9 +53,8 @@ pub(crate) fn is_hindered<T: WorkTree>(
     requires { T.honest → HasTextPaths (T.content work.old) }
     ensures hindered { T.honest → IfOk result (λ yes. IsTrue yes ↔ IsHindered (λ other. IsTrue (has_path others.now other)) (T.content work.old) path.now entry) }
     ensures fault { IfErr result IsFault }
-    ensures same { T.content work.new ≡ T.content work.old }
-    ensures folders { T.folders work.new ≡ T.folders work.old }
-    ensures wear { Wears T.failed T.can_fail unstopped work.old work.new (IsErrOf result (CheckoutFault.Index (IndexFault.Store (StoreFault.Fault Fault.Device)))) }
+    ensures untouched { IsUntouched T.content T.folders work.old work.new }
+    ensures wear { Wears T.failed T.can_fail unstopped work.old work.new (TellsDevice result) }
 {
     if has_above(others, path) {
         return Ok(true);

@@ -1,18 +1,17 @@
 // Sets of paths.
-ghost use Rattle.std.specs.Prelude.{◌≡◌, ◌↔◌, ◌++◌, ◌||◌, ℕ, map, List, IfOk, IfErr, OnOk, IsErrOf, IsTrue, is_some, MatchOption};
+ghost use Rattle.std.specs.Prelude.{◌≡◌, ◌↔◌, ◌++◌, ◌||◌, ℕ, map, List, IfOk, IfErr, OnOk, IsTrue, is_some, MatchOption};
 ghost use Rattle.std.specs.FinMap as maps;
 ghost use Rattle.vc_files.specs.Failures.{Wears, unstopped};
 ghost use Rattle.vc_index.specs.Path.{IsAbove};
-ghost use Rattle.vc_checkout.specs.CheckoutFault.{IsFault};
+ghost use Rattle.vc_checkout.specs.CheckoutFault.{IsFault, TellsDevice};
 ghost use Rattle.vc_checkout.specs.Folders.{IsLowestAbove};
+ghost use Rattle.vc_checkout.specs.Steps.{IsUntouched};
 ghost use Rattle.vc_checkout.specs.WorkTree.{has_path, is_listed, HasTextPaths, IsUntracked};
 
 use crate::{CheckoutFault, WorkTree};
 use std::alloc::{AllocError, Global};
 use std::collections::BTreeSet;
-use vc_files::Fault;
-use vc_index::{Index, IndexCursor, IndexFault};
-use vc_store::StoreFault;
+use vc_index::{Index, IndexCursor};
 
 /// The path of the folder that a path lies in, or none where it lies in none.
 pub(crate) fn folder_of(path: &str) -> Option<&str>
@@ -68,9 +67,8 @@ pub(crate) fn untracked_paths<T: WorkTree>(
     ensures untracked { T.honest → IfOk result (λ found. (path : List ℕ) → IsTrue (has_path found path) ↔ IsUntracked index.now (T.content work.old) path) }
     ensures texts { T.honest → OnOk result (HasTextPaths (T.content work.old)) }
     ensures fault { IfErr result IsFault }
-    ensures same { T.content work.new ≡ T.content work.old }
-    ensures folders { T.folders work.new ≡ T.folders work.old }
-    ensures wear { Wears T.failed T.can_fail unstopped work.old work.new (IsErrOf result (CheckoutFault.Index (IndexFault.Store (StoreFault.Fault Fault.Device)))) }
+    ensures untouched { IsUntouched T.content T.folders work.old work.new }
+    ensures wear { Wears T.failed T.can_fail unstopped work.old work.new (TellsDevice result) }
 {
     let listed = work.list(alloc)?;
     let mut found = BTreeSet::new(alloc);

@@ -1,5 +1,5 @@
 -- What `add` does to a node: the files of the work tree that the words name are staged.
-use Rattle.std.specs.Prelude.{◌≡◌, ◌≢◌, ◌⊎◌, ◌++◌, ⊤, ℕ, Bool, true, false, not, ◌&&◌, ◌-◌, nat_eq, List, [], ◌∷◌, Vec, String, length, take, map, filter, codes, bytes_eq, string_bytes, Option, Some, None, is_some, unwrap_or, if◌then◌else◌}
+use Rattle.std.specs.Prelude.{◌≡◌, ◌≢◌, ◌⊎◌, ◌++◌, ⊤, ℕ, Bool, if◌then◌else◌, true, false, not, ◌&&◌, ◌-◌, nat_eq, List, [], ◌∷◌, Vec, String, length, take, map, filter, codes, bytes_eq, string_bytes, Option, Some, None, is_some, unwrap_or}
 use Rattle.std.specs.FinMap.{get, insert, keys}
 use Rattle.std.specs.Global.{Global}
 use Rattle.std.specs.List.{AllByRecursion, ends_with, flat_map, starts_with}
@@ -24,6 +24,7 @@ use Rattle.vc_rules.proofs.GitLaws.{git_rules}
 use Rattle.vc_store.specs.Store.{IsDamaged}
 use Rattle.vc_store.specs.declared.faults.StoreFault.TheVariants as store
 use Rattle.vc_work_folder.specs.Own.{is_own}
+use Rattle.vc_node.specs.Held.{Held}
 use Rattle.vc_node.specs.IndexFile.{index_bytes}
 use Rattle.vc_node.specs.Machine.{HoldsNode}
 use Rattle.vc_node.specs.Staging.{File, RefusesOne, StagesAll, file_placed}
@@ -202,3 +203,14 @@ RefusesAdd work own mode words was_up is_up old new (Object fault) = RefusesOneN
 RefusesAdd work own mode words was_up is_up old new (Node node.Down) = (was_up ≡ false) × (new ≡ old)
 RefusesAdd work own mode words was_up is_up old new (Node (node.BadIndex place)) = TextFault (index_bytes old) place × IsUnchanged was_up is_up old new
 RefusesAdd work own mode words was_up is_up old new e = IsOfStoring old new e
+
+-- ---- of the node as one value
+
+abbrev pub StoresInto : {F : Type 0} → (F → FileMap) → List File → Held F → Held F → Type 0
+StoresInto content files old new = StoresFiles files old.is_up new.is_up (content old.files) (content new.files)
+
+abbrev pub AddsInto : {F : Type 0} → (F → FileMap) → FileMap → List ℕ → Mode → List (List ℕ) → Held F → Held F → Type 0
+AddsInto content work own mode words old new = AddsFiles work own mode words old.is_up new.is_up (content old.files) (content new.files)
+
+abbrev pub RefusesInto : {F : Type 0} → (F → FileMap) → FileMap → List ℕ → Mode → List (List ℕ) → Held F → Held F → Failure → Type 0
+RefusesInto content work own mode words old new e = RefusesAdd work own mode words old.is_up new.is_up (content old.files) (content new.files) e

@@ -1,4 +1,5 @@
 -- What a refusal is about, and the line that tells it to a person.
+use Rattle.std.specs.Io.KnownBytes.{Appends}
 use Rattle.std.specs.Prelude.{◌≡◌, ◌==◌, ◌||◌, ◌+◌, ◌-◌, ◌/◌, ◌%◌, ℕ, Bool, if◌then◌else◌, nat_le, List, [], ◌∷◌, ◌++◌, Option, None, Some, MatchOption, Vec, codes, get_or, string_bytes}
 use Rattle.std.specs.Global.{Global}
 use Rattle.std.specs.List.{flat_map}
@@ -17,6 +18,7 @@ use Rattle.vc_store.specs.declared.faults.StoreFault.{StoreFault}
 use Rattle.vc_store.specs.declared.faults.StoreFault.TheVariants as stores
 use Rattle.vc_commands.specs.declared.failure.Failure.{Failure}
 use Rattle.vc_commands.specs.declared.failure.Failure.TheVariants.{LocalChange, InTheWay, NotText, NoSuchPath, Node, Revision, Store, Base, Refs, Syntax, BadScript, Usage}
+use Rattle.vc_commands.specs.declared.faults.Faults.{Faults}
 use Rattle.vc_node.specs.Printed.{node_fault_text}
 use Rattle.vc_rev.specs.Printed.{parse_fault_text, rev_fault_text}
 
@@ -119,3 +121,7 @@ failure_line text = codes "vcs: " ++ (text ++ 10 ∷ [])
 abbrev pub line_behind : Bool → Option (List ℕ) → List ℕ
 line_behind is_terminal None = []
 line_behind is_terminal (Some line) = if is_terminal then line else []
+
+-- the line of a failure was written, and what stands behind it
+abbrev pub AppendsFailure : {W : Type 0} → (W → Option (List ℕ)) → Faults W → Faults W → Option (List ℕ) → List ℕ → Type 0
+AppendsFailure contents old new behind text = Appends (contents old.stream) (contents new.stream) (failure_line text ++ line_behind old.is_terminal behind)

@@ -195,3 +195,7 @@ pub data RefusesCheckout (honest : Type 0) (own revision : List ℕ) (content wo
   of_look : RefusesLook own revision content e → RefusesCheckout honest own revision content work e
   of_work : (index : IndexMap) (head : Head) (tree : IndexMap) → MayBring own revision content index head tree → IsOfBlobs content index tree e ⊎ IsOfWork honest content index tree work e
       → RefusesCheckout honest own revision content work e
+
+-- what stands after an error: files as they were, or, after a fault, what such a one may leave
+abbrev pub LeavesOrFails : Type 0 → (own revision : List ℕ) → (old new was now : FileMap) → Failure → Type 0
+LeavesOrFails honest own revision old new was now e = (new ≡ old) ⊎ ((status_of e ≡ 3) × LeavesHead honest own revision old new was now)

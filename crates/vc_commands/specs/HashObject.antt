@@ -1,10 +1,13 @@
 -- What `hash-object` prints of a body, and why it may print nothing.
-use Rattle.std.specs.Prelude.{ℕ, ⊤, List, [], ◌∷◌, ◌++◌}
+use Rattle.std.specs.Prelude.{◌≡◌, ℕ, ⊤, List, [], ◌∷◌, ◌++◌}
 use Rattle.hex.specs.Hex.{encode_lower}
+use Rattle.vc_files.specs.FileMap.{FileMap}
+use Rattle.vc_object.specs.Decoding.{stored_object}
 use Rattle.vc_object.specs.ObjectFault.{BodyFault}
 use Rattle.vc_object.specs.declared.id.ObjectId.{ObjectId}
 use Rattle.vc_object.specs.declared.kind.Kind.{Kind}
 use Rattle.vc_commands.specs.declared.failure.Failure.{Failure}
+use Rattle.vc_store.specs.Store.{objects, with_object}
 use Rattle.vc_store.specs.StoreFault.{IsOfPut}
 use Rattle.vc_commands.specs.declared.failure.Failure.TheVariants.{Object, Store, Fault}
 
@@ -23,3 +26,7 @@ abbrev pub IsOfStored : Kind → List ℕ → Failure → Type 0
 IsOfStored kind body (Store fault) = IsOfPut kind body fault
 IsOfStored kind body (Fault fault) = ⊤
 IsOfStored kind body _ = ⊥
+
+-- the object of this body is stored
+abbrev pub StoresBody : FileMap → Kind → List ℕ → FileMap → ObjectId → Type 0
+StoresBody old kind body new id = objects new ≡ with_object (objects old) id (stored_object kind body)

@@ -1,6 +1,7 @@
 -- What the commands of a clone do: its files are opened, and a step of the machine follows.
 use Rattle.std.specs.Prelude.{◌≡◌, ◌⊎◌, ℕ, Bool, true, List, [], ◌∷◌, Option, Result, Ok, Err, OnErr, map, codes}
 use Rattle.std.specs.Io.KnownBytes.{Appends, Keeps}
+use Rattle.vc_commands.specs.declared.clone.Words.{Words}
 use Rattle.vc_files.specs.FileMap.{FileMap, SameOutside}
 use Rattle.vc_index.specs.IndexMap.{IndexMap}
 use Rattle.vc_index.specs.WrittenTrees.{IsOfWrite, IsWritten}
@@ -132,3 +133,23 @@ pub record CommitsIndex (old : FileMap) (revisions : List (List ℕ)) (author co
 pub data IsOfCommit (old : FileMap) (revisions : List (List ℕ)) (author committer message : List ℕ) (new : FileMap) (before after : Option (List ℕ)) (e : Failure) : Type 0 where
   of_revisions : IsOfRevisions old revisions e → new ≡ old → Keeps before after → IsOfCommit old revisions author committer message new before after e
   of_commit : (extra : List ObjectId) → AreDenoted old revisions extra → IsOfCommitOn old extra author committer message new before after e → IsOfCommit old revisions author committer message new before after e
+
+-- ---- with what a commit says as one value
+
+abbrev pub CommitsSaid : FileMap → List (List ℕ) → Words → FileMap → Option (List ℕ) → Option (List ℕ) → Type 0
+CommitsSaid old revisions words new before after = CommitsIndex old revisions words.author.now words.committer.now words.message.now new before after
+
+abbrev pub IsOfSaid : FileMap → List (List ℕ) → Words → FileMap → Option (List ℕ) → Option (List ℕ) → Failure → Type 0
+IsOfSaid old revisions words new before after e = IsOfCommit old revisions words.author.now words.committer.now words.message.now new before after e
+
+abbrev pub CommitsSaidOn : FileMap → List ObjectId → Words → FileMap → Option (List ℕ) → Option (List ℕ) → Type 0
+CommitsSaidOn old extra words new before after = CommitsOn old extra words.author.now words.committer.now words.message.now new before after
+
+abbrev pub IsOfSaidOn : FileMap → List ObjectId → Words → FileMap → Option (List ℕ) → Option (List ℕ) → Failure → Type 0
+IsOfSaidOn old extra words new before after e = IsOfCommitOn old extra words.author.now words.committer.now words.message.now new before after e
+
+-- ---- a branch
+
+-- why none is removed: for its name, before anything is opened, or for what refuses the machine's step
+abbrev pub IsOfDeleting : List ℕ → FileMap → FileMap → Failure → Type 0
+IsOfDeleting name old new e = (IsOfBranch name e × (new ≡ old)) ⊎ IsOfStep (DeleteBranch (branch_ref name)) old new e

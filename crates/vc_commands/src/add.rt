@@ -6,9 +6,10 @@ ghost use Rattle.vc_files.specs.FileMap.{SameOutside};
 ghost use Rattle.vc_index.specs.IndexMap.{HasConflict, index_entry};
 ghost use Rattle.vc_index.specs.Path.{IsPath};
 ghost use Rattle.vc_object.specs.Object.{IsObject};
+ghost use Rattle.vc_checkout.specs.Steps.{IsUntouched};
 ghost use Rattle.vc_node.specs.Clean.{KeepsClean};
 ghost use Rattle.vc_node.specs.Staging.{MayStandAll, file_placed};
-ghost use Rattle.vc_commands.specs.Adding.{AddsFiles, AreBlobs, AreNamed, IsNamed, IsOfFile, IsOfStoring, RefusesAdd, RefusesFiles, StoresFiles, file_at, files_at};
+ghost use Rattle.vc_commands.specs.Adding.{AddsInto, AreBlobs, AreNamed, IsNamed, IsOfFile, IsOfStoring, RefusesFiles, RefusesInto, StoresInto, file_at, files_at};
 ghost use Rattle.vc_commands.specs.CloneWords.{mode_of};
 
 use crate::arguments::FileMode;
@@ -36,8 +37,7 @@ fn check_file<W: WorkTree>(
     ensures free { OnOk result (¬ (HasConflict index.old path.now)) }
     ensures blob { W.honest → OnOk result (IsObject Kind.Blob (file_at (W.content work.old) mode path.now).body) }
     ensures refused { W.honest → IfErr result (IsOfFile index.old (file_at (W.content work.old) mode path.now)) }
-    ensures same { W.content work.new ≡ W.content work.old }
-    ensures folders { W.folders work.new ≡ W.folders work.old }
+    ensures untouched { IsUntouched W.content W.folders work.old work.new }
 {
     index.add(alloc, path.as_bytes(), mode, ObjectId::ZERO)?;
     let Some(bytes) = work.read(alloc, path)? else {
@@ -60,8 +60,7 @@ fn check_files<W: WorkTree>(
     ensures may { W.honest → OnOk result (MayStandAll index.old (map file_placed (files_at (W.content work.old) mode paths.now))) }
     ensures blobs { W.honest → OnOk result (AreBlobs (files_at (W.content work.old) mode paths.now)) }
     ensures refused { W.honest → IfErr result (RefusesFiles index.old (files_at (W.content work.old) mode paths.now)) }
-    ensures same { W.content work.new ≡ W.content work.old }
-    ensures folders { W.folders work.new ≡ W.folders work.old }
+    ensures untouched { IsUntouched W.content W.folders work.old work.new }
 {
     for path in paths {
         check_file(alloc, index, work, mode, path.as_str())?;
@@ -82,13 +81,12 @@ fn store_file<F: Files, W: WorkTree>(
     requires blob { W.honest → IsObject Kind.Blob (file_at (W.content work.old) mode path.now).body }
     ensures named { W.honest → IfOk result (λ staged. IsNamed staged (file_at (W.content work.old) mode path.now)) }
     ensures mode { IfOk result (λ staged. staged.mode ≡ mode) }
-    ensures stored { W.honest → F.honest → OnOk result (StoresFiles (file_at (W.content work.old) mode path.now ∷ []) node.old.is_up node.new.is_up (F.content node.old.files) (F.content node.new.files)) }
+    ensures stored { W.honest → F.honest → OnOk result (StoresInto F.content (file_at (W.content work.old) mode path.now ∷ []) node.old node.new) }
     ensures up { OnOk result (node.new.is_up ≡ true) }
     ensures refused { W.honest → F.honest → IfErr result (IsOfStoring (F.content node.old.files) (F.content node.new.files)) }
     ensures outside { F.honest → SameOutside (codes "objects/") (F.content node.old.files) (F.content node.new.files) }
     ensures clean { F.honest → KeepsClean (F.content node.old.files) (F.content node.new.files) }
-    ensures same { W.content work.new ≡ W.content work.old }
-    ensures folders { W.folders work.new ≡ W.folders work.old }
+    ensures untouched { IsUntouched W.content W.folders work.old work.new }
 {
     let Some(bytes) = work.read(alloc, path)? else {
         return Err(Failure::NoSuchPath);
@@ -112,12 +110,11 @@ fn store_files<F: Files, W: WorkTree>(
     requires blobs { W.honest → AreBlobs (files_at (W.content work.old) mode paths.now) }
     ensures named { W.honest → IfOk result (λ staged. AreNamed staged.items (files_at (W.content work.old) mode paths.now)) }
     ensures files { IfOk result (λ staged. All (λ file. file.mode ≢ Mode.Tree) staged.items) }
-    ensures stored { W.honest → F.honest → OnOk result (StoresFiles (files_at (W.content work.old) mode paths.now) node.old.is_up node.new.is_up (F.content node.old.files) (F.content node.new.files)) }
+    ensures stored { W.honest → F.honest → OnOk result (StoresInto F.content (files_at (W.content work.old) mode paths.now) node.old node.new) }
     ensures up { OnOk result (node.new.is_up ≡ true) }
     ensures refused { W.honest → F.honest → IfErr result (IsOfStoring (F.content node.old.files) (F.content node.new.files)) }
     ensures outside { F.honest → SameOutside (codes "objects/") (F.content node.old.files) (F.content node.new.files) }
-    ensures same { W.content work.new ≡ W.content work.old }
-    ensures folders { W.folders work.new ≡ W.folders work.old }
+    ensures untouched { IsUntouched W.content W.folders work.old work.new }
 {
     let mut staged = Vec::new(alloc);
     for path in paths {
@@ -140,10 +137,9 @@ pub fn add_all<F: Files, W: WorkTree>(
     mode: FileMode,
     words: &[&str],
 ) -> Result<(), Failure>
-    ensures added { W.honest → F.honest → OnOk result (AddsFiles (W.content work.old) own.now (mode_of mode) (map (λ word. word.now) words.now) node.old.is_up node.new.is_up (F.content node.old.files) (F.content node.new.files)) }
-    ensures refused { W.honest → F.honest → IfErr result (RefusesAdd (W.content work.old) own.now (mode_of mode) (map (λ word. word.now) words.now) node.old.is_up node.new.is_up (F.content node.old.files) (F.content node.new.files)) }
-    ensures work { W.content work.new ≡ W.content work.old }
-    ensures folders { W.folders work.new ≡ W.folders work.old }
+    ensures added { W.honest → F.honest → OnOk result (AddsInto F.content (W.content work.old) own.now (mode_of mode) (map (λ word. word.now) words.now) node.old node.new) }
+    ensures refused { W.honest → F.honest → IfErr result (RefusesInto F.content (W.content work.old) own.now (mode_of mode) (map (λ word. word.now) words.now) node.old node.new) }
+    ensures untouched { IsUntouched W.content W.folders work.old work.new }
 {
     let paths = paths_named(alloc, work, own, words)?;
     let mut index = node.index()?;

@@ -1,12 +1,12 @@
 //! What `checkout` does to files and to a work tree: it looks at all that it needs before it writes.
-ghost use Rattle.std.specs.Prelude.{◌≡◌, ◌⊎◌, ℕ, List, Some, None, Ok, IfOk, IfErr, OnOk, IsSome, MatchOption, IsTrue, true, false};
+ghost use Rattle.std.specs.Prelude.{◌≡◌, ◌⊎◌, ℕ, List, Some, None, Ok, IfOk, IfErr, OnOk, IsSome, MatchOption, true, false};
 ghost use Rattle.std.specs.FinMap as maps;
 ghost use Rattle.vc_node.specs.Blames.{IsLocalHead, MayHead};
 ghost use Rattle.vc_refs.specs.Refs.{refs};
 ghost use Rattle.vc_index.specs.TreeReading.{ListsAs};
 ghost use Rattle.vc_store.specs.Store.{objects};
 ghost use Rattle.vc_work_folder.specs.Own.{meets_own};
-ghost use Rattle.vc_commands.specs.Checkout.{ChecksOut, IsApart, IsCommitTree, IsOfCommit, IsOfNewHead, IsOfOwn, IsOfRef, IsOfTarget, IsOfTreeList, IsReadable, IsTarget, LeavesHead, MayBring, RefusesCheckout, RefusesLook, peeled};
+ghost use Rattle.vc_commands.specs.Checkout.{ChecksOut, IsApart, IsCommitTree, IsOfCommit, IsOfNewHead, IsOfOwn, IsOfRef, IsOfTarget, IsOfTreeList, IsReadable, IsTarget, LeavesOrFails, MayBring, RefusesCheckout, RefusesLook, peeled};
 ghost use Rattle.vc_commands.specs.CloneWords.{branch_ref};
 ghost use Rattle.vc_commands.specs.Failure.{status_of};
 ghost use Rattle.vc_commands.specs.Revisions.{Denoted, IsOfRevision};
@@ -195,7 +195,7 @@ pub fn check_out<F: Files, W: WorkTree>(
 ) -> Result<(), Failure>
     ensures done { W.honest → F.honest → OnOk result (ChecksOut own.now revision.now (F.content files.old) (F.content files.new) (W.content work.old) (W.content work.new)) }
     ensures refused { F.honest → IfErr result (RefusesCheckout W.honest own.now revision.now (F.content files.old) (W.content work.old)) }
-    ensures files { F.honest → IfErr result (λ e. (F.content files.new ≡ F.content files.old) ⊎ ((status_of e ≡ 3) × LeavesHead W.honest own.now revision.now (F.content files.old) (F.content files.new) (W.content work.old) (W.content work.new))) }
+    ensures files { F.honest → IfErr result (LeavesOrFails W.honest own.now revision.now (F.content files.old) (F.content files.new) (W.content work.old) (W.content work.new)) }
     ensures work { F.honest → IfErr result (λ e. (status_of e ≡ 3) ⊎ (W.content work.new ≡ W.content work.old)) }
     ensures folders { F.honest → IfErr result (λ e. (status_of e ≡ 3) ⊎ (W.folders work.new ≡ W.folders work.old)) }
 {

@@ -1,13 +1,13 @@
 //! The subcommands that work on a clone's index, branches and HEAD: each is one call of a node.
-ghost use Rattle.std.specs.Prelude.{◌≡◌, ◌⊎◌, Some, Ok, IfSome, IfOk, IfErr, OnOk, true, nat_eq, codes, map};
+ghost use Rattle.std.specs.Prelude.{◌≡◌, Some, Ok, IfSome, IfOk, IfErr, OnOk, true, nat_eq, codes, map};
 ghost use Rattle.std.specs.List.{starts_with};
 ghost use Rattle.vc_files.specs.FileMap.{SameOutside};
 ghost use Rattle.vc_model.specs.Clone.Task.{Unstage, SetBranch, DeleteBranch};
 ghost use Rattle.vc_refname.specs.RefName.{IsRefName};
 ghost use Rattle.vc_refs.specs.Refs.{refs};
 ghost use Rattle.vc_commands.specs.CloneWords.{IsOfBranch, branch_ref};
-ghost use Rattle.vc_commands.specs.Revisions.{Denoted, IsOfRevision};
-ghost use Rattle.vc_commands.specs.Steps.{AreDenoted, CommitsIndex, CommitsOn, IsOfCommit, IsOfCommitOn, IsOfRevisions, IsOfSetting, IsOfStep, IsOfTarget, IsOfTree, SetsBranch, StepsTo, WritesTree};
+ghost use Rattle.vc_commands.specs.Revisions.{Denoted};
+ghost use Rattle.vc_commands.specs.Steps.{AreDenoted, CommitsSaid, CommitsSaidOn, IsOfDeleting, IsOfRevisions, IsOfSaid, IsOfSaidOn, IsOfSetting, IsOfStep, IsOfTarget, IsOfTree, SetsBranch, StepsTo, WritesTree};
 
 use crate::failure::Failure;
 use crate::faults::Faults;
@@ -140,8 +140,8 @@ pub fn commit_index<F: Files, O: Write>(
     revisions: &[&str],
     output: &mut O,
 ) -> (F, Result<(), Failure>)
-    ensures committed { F.honest → OnOk result.1 (CommitsIndex (F.content files) (map (λ revision. revision.now) revisions.now) words.entry.author.now words.entry.committer.now words.entry.message.now (F.content result.0) (O.contents output.old) (O.contents output.new)) }
-    ensures refused { F.honest → IfErr result.1 (IsOfCommit (F.content files) (map (λ revision. revision.now) revisions.now) words.entry.author.now words.entry.committer.now words.entry.message.now (F.content result.0) (O.contents output.old) (O.contents output.new)) }
+    ensures committed { F.honest → OnOk result.1 (CommitsSaid (F.content files) (map (λ r. r.now) revisions.now) words.entry (F.content result.0) (O.contents output.old) (O.contents output.new)) }
+    ensures refused { F.honest → IfErr result.1 (IsOfSaid (F.content files) (map (λ r. r.now) revisions.now) words.entry (F.content result.0) (O.contents output.old) (O.contents output.new)) }
 {
     match parents_named(alloc, &mut files, revisions) {
         Ok(parents) => commit_on(alloc, files, words, &parents, output),
@@ -157,8 +157,8 @@ fn commit_on<F: Files, O: Write>(
     parents: &[ObjectId],
     output: &mut O,
 ) -> (F, Result<(), Failure>)
-    ensures committed { F.honest → OnOk result.1 (CommitsOn (F.content files) parents.now words.entry.author.now words.entry.committer.now words.entry.message.now (F.content result.0) (O.contents output.old) (O.contents output.new)) }
-    ensures refused { F.honest → IfErr result.1 (IsOfCommitOn (F.content files) parents.now words.entry.author.now words.entry.committer.now words.entry.message.now (F.content result.0) (O.contents output.old) (O.contents output.new)) }
+    ensures committed { F.honest → OnOk result.1 (CommitsSaidOn (F.content files) parents.now words.entry (F.content result.0) (O.contents output.old) (O.contents output.new)) }
+    ensures refused { F.honest → IfErr result.1 (IsOfSaidOn (F.content files) parents.now words.entry (F.content result.0) (O.contents output.old) (O.contents output.new)) }
 {
     let mut node = match CloneNode::open(alloc, files) {
         Ok(node) => node,
@@ -297,7 +297,7 @@ where
 /// Removes a branch. Where there is none, nothing changes. The files are handed back.
 pub fn delete_branch<F: Files>(alloc: Global, files: F, name: &str) -> (F, Result<(), Failure>)
     ensures deleted { F.honest → OnOk result.1 (StepsTo (DeleteBranch (branch_ref name.now)) (Ok tt) (F.content files) (F.content result.0)) }
-    ensures refused { F.honest → IfErr result.1 (λ e. (IsOfBranch name.now e × (F.content result.0 ≡ F.content files)) ⊎ IsOfStep (DeleteBranch (branch_ref name.now)) (F.content files) (F.content result.0) e) }
+    ensures refused { F.honest → IfErr result.1 (IsOfDeleting name.now (F.content files) (F.content result.0)) }
 {
     let branch = match branch_of(alloc, name) {
         Ok(branch) => branch,

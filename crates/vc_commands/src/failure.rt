@@ -1,7 +1,8 @@
 //! Why a command ended without its answer: the line that it prints, and its exit status.
-ghost use Rattle.std.specs.Prelude.{◌≡◌, ◌++◌, IfOk, IfErr, IfSome, OnOk};
+ghost use Rattle.std.specs.Prelude.{◌≡◌, IfOk, IfErr, IfSome, OnOk};
 ghost use Rattle.std.specs.Option.{option_map};
 ghost use Rattle.vc_files.specs.declared.faults.Fault.TheVariants.{Memory};
+ghost use Rattle.vc_commands.specs.AtFault.{AppendsFailure};
 ghost use Rattle.vc_commands.specs.declared.failure.Failure.TheVariants.{Object, Store, Base, Refs, Fault, Syntax, Revision, Node, Remote};
 ghost use Rattle.vc_rev.specs.declared.refusal.RevFault.TheVariants.{Source};
 ghost use Rattle.vc_node.specs.NodeFault.{of_index};
@@ -90,7 +91,7 @@ impl fmt::Display for Failure {
 
 impl Failure {
     ghost use Rattle.std.specs.Io.KnownBytes.{Appends};
-    ghost use Rattle.vc_commands.specs.AtFault.{failure_line, failure_text, line_behind};
+    ghost use Rattle.vc_commands.specs.AtFault.{failure_line, failure_text};
     ghost use Rattle.vc_commands.specs.Failure.{IsFault, status_of};
 
     /// The exit status: 1 for a refusal, 2 for a command line that is off, 3 for a fault.
@@ -122,7 +123,7 @@ impl Failure {
         faults: &mut Faults<W>,
     ) -> Result<u8, Failure>
         ensures status { IfOk result (λ status. status ≡ status_of self.now) }
-        ensures told { OnOk result (IfSome (failure_text self.now) (λ text. Appends (W.contents faults.old.stream) (W.contents faults.new.stream) (failure_line text ++ line_behind faults.old.is_terminal (option_map (λ line. line.now) behind.entry)))) }
+        ensures told { OnOk result (IfSome (failure_text self.now) (AppendsFailure W.contents faults.old faults.new (option_map (λ l. l.now) behind.entry))) }
         ensures fault { IfErr result IsFault }
     {
         self.print(&mut faults.stream)?;

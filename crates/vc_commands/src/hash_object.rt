@@ -1,13 +1,11 @@
 //! The subcommand `hash-object`: the name of a body that comes from a file or a stream.
 ghost use Rattle.std.specs.Prelude.{◌≡◌, ◌≤◌, ◌⊎◌, IfSome, IfOk, IfErr, IsOk, OnErr, OnOk};
 ghost use Rattle.std.specs.Io.KnownBytes.{Appends, Keeps};
-ghost use Rattle.vc_object.specs.Decoding.{stored_object};
 ghost use Rattle.vc_object.specs.Object.{object_name, IsObject};
 ghost use Rattle.vc_object.specs.ObjectFault.{BodyFault};
 ghost use Rattle.vc_object.specs.declared.kind.Kind.TheVariants.{Blob};
-ghost use Rattle.vc_store.specs.Store.{objects, with_object};
 ghost use Rattle.vc_commands.specs.Failure.{IsFault};
-ghost use Rattle.vc_commands.specs.HashObject.{id_line, IsOfBody, IsOfStored};
+ghost use Rattle.vc_commands.specs.HashObject.{IsOfBody, IsOfStored, StoresBody, id_line};
 
 use crate::failure::Failure;
 use crate::faults::Faults;
@@ -112,7 +110,7 @@ pub fn store_input<F: Files, I: Read + Drop>(
     input: Input<I>,
 ) -> Result<ObjectId, Failure>
     ensures named { IfOk result (λ id. IfSome (I.remaining input.stream) (λ body. id ≡ object_name kind body)) }
-    ensures stored { F.honest → IfOk result (λ id. IfSome (I.remaining input.stream) (λ body. objects (F.content files.new) ≡ with_object (objects (F.content files.old)) id (stored_object kind body))) }
+    ensures stored { F.honest → IfOk result (λ id. IfSome (I.remaining input.stream) (λ body. StoresBody (F.content files.old) kind body (F.content files.new) id)) }
     ensures legal { OnOk result (IfSome (I.remaining input.stream) (λ body. IsObject kind body)) }
     ensures refused { IfErr result (λ e. IfSome (I.remaining input.stream) (λ body. IsOfStored kind body e)) }
     ensures err { F.honest → OnErr result (F.content files.new ≡ F.content files.old) }

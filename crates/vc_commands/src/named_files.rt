@@ -3,6 +3,7 @@ ghost use Rattle.std.specs.Prelude.{◌≡◌, ◌≢◌, ◌++◌, [], ◌∷�
 ghost use Rattle.std.specs.FinMap as maps;
 ghost use Rattle.std.specs.List.{AllByRecursion, flat_map};
 ghost use Rattle.vc_index.specs.Path.{IsPath};
+ghost use Rattle.vc_checkout.specs.Steps.{IsUntouched};
 ghost use Rattle.vc_work_folder.specs.Own.{is_own};
 ghost use Rattle.vc_commands.specs.Adding.{IsAbsentOr, IsListing, IsListingIf, IsOfPath, Names, RefusesWord, RefusesWords, files_below, files_named_by, is_below, spelled_path};
 
@@ -54,8 +55,7 @@ fn start_of(alloc: Global, word: &[u8]) -> Result<Vec<u8>, AllocError>
 // Whether the work tree has a file at the path.
 fn has_file<W: WorkTree>(alloc: Global, work: &mut W, path: &str) -> Result<bool, Fault>
     ensures found { W.honest → IfOk result (λ found. found ≡ is_some (maps.get (W.content work.old) path.now)) }
-    ensures same { W.content work.new ≡ W.content work.old }
-    ensures folders { W.folders work.new ≡ W.folders work.old }
+    ensures untouched { IsUntouched W.content W.folders work.old work.new }
 {
     let found = work.read(alloc, path)?;
     Ok(found.is_some())
@@ -69,8 +69,7 @@ fn list_once<W: WorkTree>(
 ) -> Result<Vec<String>, Fault>
     requires { W.honest → IsListingIf (W.content work.old) listed }
     ensures all { W.honest → IfOk result (IsListing (W.content work.old)) }
-    ensures same { W.content work.new ≡ W.content work.old }
-    ensures folders { W.folders work.new ≡ W.folders work.old }
+    ensures untouched { IsUntouched W.content W.folders work.old work.new }
 {
     match listed {
         Some(all) => Ok(all),
@@ -120,8 +119,7 @@ fn add_below<W: WorkTree>(
     ensures some { W.honest → OnOk result (files_below (W.content work.old) own.now start.now ≢ []) }
     ensures listed { W.honest → IfOk result (IsListingIf (W.content work.old)) }
     ensures refused { W.honest → IfErr result (λ e. IsAbsentOr (files_below (W.content work.old) own.now start.now) e) }
-    ensures same { W.content work.new ≡ W.content work.old }
-    ensures folders { W.folders work.new ≡ W.folders work.old }
+    ensures untouched { IsUntouched W.content W.folders work.old work.new }
 {
     let before = paths.len();
     let all = list_once(alloc, work, listed)?;
@@ -147,8 +145,7 @@ fn add_named<W: WorkTree>(
     ensures names { W.honest → OnOk result (Names (W.content work.old) own.now word.now) }
     ensures listed { W.honest → IfOk result (IsListingIf (W.content work.old)) }
     ensures refused { W.honest → IfErr result (RefusesWord (W.content work.old) own.now word.now) }
-    ensures same { W.content work.new ≡ W.content work.old }
-    ensures folders { W.folders work.new ≡ W.folders work.old }
+    ensures untouched { IsUntouched W.content W.folders work.old work.new }
 {
     if word == "." {
         return add_below(alloc, work, own, b"", listed, paths);
@@ -175,8 +172,7 @@ pub fn paths_named<W: WorkTree>(
     ensures named { W.honest → IfOk result (λ paths. map string_bytes paths.items ≡ flat_map (files_named_by (W.content work.old) own.now) (map (λ word. word.now) words.now)) }
     ensures names { W.honest → OnOk result (AllByRecursion (Names (W.content work.old) own.now) (map (λ word. word.now) words.now)) }
     ensures refused { W.honest → IfErr result (RefusesWords (W.content work.old) own.now (map (λ word. word.now) words.now)) }
-    ensures same { W.content work.new ≡ W.content work.old }
-    ensures folders { W.folders work.new ≡ W.folders work.old }
+    ensures untouched { IsUntouched W.content W.folders work.old work.new }
 {
     let mut paths = Vec::new(alloc);
     let mut listed = None;

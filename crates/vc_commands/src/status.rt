@@ -1,8 +1,9 @@
 //! What `status` prints of files and of a work tree.
-ghost use Rattle.std.specs.Prelude.{◌≡◌, ◌⊎◌, ◌++◌, ℕ, IfOk, IfErr, OnOk, map};
+ghost use Rattle.std.specs.Prelude.{◌≡◌, ◌⊎◌, ◌++◌, IfOk, IfErr, OnOk, map};
 ghost use Rattle.std.specs.List.{flat_map};
 ghost use Rattle.std.specs.Io.KnownBytes.{Keeps};
 ghost use Rattle.vc_checkout.specs.Status.{seen};
+ghost use Rattle.vc_checkout.specs.Steps.{IsUntouched};
 ghost use Rattle.vc_commands.specs.Failure.{status_of};
 ghost use Rattle.vc_commands.specs.StatusLines.{IsHeadTree, IsOfHeadTree, PrintsStatus, RefusesStatus, change_lines, index_letter, line, lost_line, unknown_line};
 
@@ -122,8 +123,7 @@ pub fn print_status<F: Files, W: WorkTree, O: Write>(
     ensures refused { F.honest → IfErr result (RefusesStatus (F.content files.old)) }
     ensures nothing_printed { IfErr result (λ e. (status_of e ≡ 3) ⊎ Keeps (O.contents output.old) (O.contents output.new)) }
     ensures files { F.content files.new ≡ F.content files.old }
-    ensures work { W.content work.new ≡ W.content work.old }
-    ensures folders { W.folders work.new ≡ W.folders work.old }
+    ensures untouched { IsUntouched W.content W.folders work.old work.new }
 {
     let index = read_index(alloc, files)?;
     let tree = head_tree(alloc, files)?;

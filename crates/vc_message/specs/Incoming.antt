@@ -88,3 +88,11 @@ GivesMessage m rest new (Err fault) = IsLoss fault
 abbrev pub IsFaultOf : Option (List ℕ) → IncomingFault → Type 0
 IsFaultOf (Some bytes) (Unread fault) = FirstFault any_step beginning bytes fault
 IsFaultOf _ _ = Unit {0}
+
+-- so many bytes were read and added, or fewer at the end of the reader
+abbrev pub AddsBytes : Option (List ℕ) → Option (List ℕ) → List ℕ → List ℕ → ℕ → Type 0
+AddsBytes old new before after count = (read : List ℕ) × (after ≡ before ++ read) × Consumes old new read × (length read ≤ count) × (length read < count → IsAtEnd new)
+
+-- a line was
+abbrev pub AddsLine : Option (List ℕ) → Option (List ℕ) → List ℕ → List ℕ → Type 0
+AddsLine old new before after = (read : List ℕ) × (after ≡ before ++ read) × TakesWithinLine old new read × IsLineOf new read

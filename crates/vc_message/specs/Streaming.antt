@@ -1,5 +1,5 @@
 -- A message that carries objects, taken object by object.
-use Rattle.std.specs.Prelude.{◌≡◌, ◌≢◌, ◌+◌, ◌⊎◌, ℕ, Bool, true, List, [], ◌++◌, length, Option, Some, None, Result, Ok, Err}
+use Rattle.std.specs.Prelude.{◌≡◌, ◌≢◌, ◌+◌, ◌⊎◌, ℕ, Bool, true, false, List, [], ◌++◌, length, Option, Some, None, Result, Ok, Err}
 use Rattle.std.specs.Io.KnownBytes.{Consumes}
 use Rattle.vc_object.specs.Decoding.{StoredObject}
 use Rattle.vc_object.specs.declared.id.ObjectId.{ObjectId}
@@ -9,6 +9,7 @@ use Rattle.vc_pkt.specs.Line.{LineText, IsLine, IsLines}
 use Rattle.vc_pkt.specs.Message.{GivenBy, Steps, run}
 use Rattle.vc_pkt.specs.ObjectStream.{Progress, between}
 use Rattle.vc_pkt.specs.declared.fault.PktFault.{PktFault}
+use Rattle.vc_pkt.specs.declared.fault.PktFault.TheVariants.{BadRecord}
 use Rattle.vc_fetch.specs.Pack.{is_object}
 use Rattle.vc_fetch.specs.Pack as pack
 use Rattle.vc_push.specs.Push.{Carried, CommandText, carry}
@@ -16,11 +17,12 @@ use Rattle.vc_push.specs.Push as push
 use Rattle.vc_push.specs.PushView.{commands_of}
 use Rattle.vc_message.specs.AnyMessage.{AnyState, MessageText, a_pack, a_push, any_step, beginning, in_pack, in_push}
 use Rattle.vc_message.specs.AnyView.{message_text}
-use Rattle.vc_message.specs.Incoming.{IsLineOf, IsLoss, TakesText, TakesWithinLine}
+use Rattle.vc_message.specs.Incoming.{Fails, IsLineOf, IsLoss, TakesFault, TakesText, TakesWithinLine}
 use Rattle.vc_message.specs.declared.incoming_fault.IncomingFault.{IncomingFault}
 use Rattle.vc_message.specs.declared.incoming_fault.IncomingFault.TheVariants.{Unread}
 use Rattle.vc_message.specs.declared.streaming.Head.{Head}
 use Rattle.vc_message.specs.declared.streaming.Head.TheVariants as heads
+use Rattle.vc_message.specs.declared.streaming.Taken.{Taken}
 
 -- ---- a line
 -- a line was taken, the next behind so many bytes
@@ -104,3 +106,37 @@ TakesPush old new commands = (carried : Carried) × TakesText any_step beginning
 -- a pack with this first line, whatever objects it brings
 abbrev pub TakesPack : Option (List ℕ) → Option (List ℕ) → Option ObjectId → Type 0
 TakesPack old new ack = (objects : List StoredObject) × TakesText any_step beginning (GivenBy any_step beginning) old new (text_of (of_pack ack objects))
+
+-- ---- from wherever the reader stood before the message, of which so much was taken
+-- what stands before its objects, and those that came, were taken
+abbrev pub StandsAt : Option (List ℕ) → Option (List ℕ) → Taken → Carrier → Type 0
+StandsAt before now taken c = LeadsTo any_step beginning before now taken.bytes taken.lines (state_at c between)
+
+-- one more object came
+abbrev pub TakesMore : Option (List ℕ) → Taken → Option (List ℕ) → Taken → StoredObject → Type 0
+TakesMore old taken new after o = (before : Option (List ℕ)) (c : Carrier) → StandsAt before old taken c → may_carry c o ≡ true → StandsAt before new after (with_more o c)
+
+-- one came that it may not carry, whose first line has this number
+abbrev pub TakesBad : Option (List ℕ) → Taken → Option (List ℕ) → StoredObject → ℕ → Type 0
+TakesBad old taken new o number = (before : Option (List ℕ)) (c : Carrier) → StandsAt before old taken c → may_carry c o ≡ false → TakesFault any_step beginning before new (BadRecord number)
+
+-- it ended
+abbrev pub TakesEnd : Option (List ℕ) → Taken → Option (List ℕ) → Type 0
+TakesEnd old taken new = (before : Option (List ℕ)) (c : Carrier) → StandsAt before old taken c → TakesText any_step beginning (GivenBy any_step beginning) before new (text_of c)
+
+-- it didn't come to its end
+abbrev pub FailsFrom : {C : Type 0} → (C → Carrier) → Option (List ℕ) → Taken → Option (List ℕ) → IncomingFault → Type 0
+FailsFrom {C = C} carrier old taken new e = (before : Option (List ℕ)) (c : C) → StandsAt before old taken (carrier c) → Fails any_step beginning before new e
+
+-- a push, or a pack, none of whose objects was taken yet
+abbrev pub no_push : List CommandText → Carrier
+no_push commands = of_push commands (Ok [])
+
+abbrev pub no_pack : Option ObjectId → Carrier
+no_pack ack = of_pack ack []
+
+abbrev pub EndsPush : Option (List ℕ) → Taken → Option (List ℕ) → Type 0
+EndsPush old taken new = (before : Option (List ℕ)) (commands : List CommandText) → StandsAt before old taken (no_push commands) → TakesPush before new commands
+
+abbrev pub EndsPack : Option (List ℕ) → Taken → Option (List ℕ) → Type 0
+EndsPack old taken new = (before : Option (List ℕ)) (ack : Option ObjectId) → StandsAt before old taken (no_pack ack) → TakesPack before new ack

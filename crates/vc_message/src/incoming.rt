@@ -10,7 +10,7 @@ ghost use Rattle.vc_model.specs.Message.{Message as Sent};
 ghost use Rattle.vc_message.specs.AnyMessage.{any_step, beginning};
 ghost use Rattle.vc_message.specs.AnyView.{message_text};
 ghost use Rattle.vc_message.specs.Machine.{Reads};
-ghost use Rattle.vc_message.specs.Incoming.{Fails, GivesMessage, IsFaultOf, IsLineOf, IsLoss, IsRest, TakesMessage, TakesNothing, TakesText, TakesWithinLine};
+ghost use Rattle.vc_message.specs.Incoming.{AddsBytes, AddsLine, Fails, GivesMessage, IsFaultOf, IsLoss, IsRest, TakesMessage, TakesNothing, TakesText, TakesWithinLine};
 ghost use Rattle.vc_message.specs.declared.incoming_fault.IncomingFault.TheVariants.{Failed};
 
 use crate::incoming_fault::IncomingFault;
@@ -75,7 +75,7 @@ fn push_read<R: Read>(
     count: usize,
 ) -> Result<(), IncomingFault>
     requires { count ≤ 65516 }
-    ensures ok { OnOk result ((read : List ℕ) × (bytes.new.items ≡ bytes.old.items ++ read) × Consumes (R.remaining reader.old) (R.remaining reader.new) read × (length read ≤ count) × (length read < count → IsAtEnd (R.remaining reader.new))) }
+    ensures ok { OnOk result (AddsBytes (R.remaining reader.old) (R.remaining reader.new) bytes.old.items bytes.new.items count) }
     ensures err { OnErr result ((read : List ℕ) × Consumes (R.remaining reader.old) (R.remaining reader.new) read × (length read ≤ count)) }
     ensures fault { IfErr result IsLoss }
 {
@@ -128,7 +128,7 @@ fn behind(bytes: &Vec<u8>, start: usize) -> &[u8]
 /// Adds the reader's next line, and no byte behind it. Where no line begins with the next four bytes it adds these, and where the
 /// reader comes to its end before the line does, what there is of it.
 pub(crate) fn push_line<R: Read>(reader: &mut R, bytes: &mut Vec<u8>) -> Result<(), IncomingFault>
-    ensures ok { OnOk result ((read : List ℕ) × (bytes.new.items ≡ bytes.old.items ++ read) × TakesWithinLine (R.remaining reader.old) (R.remaining reader.new) read × IsLineOf (R.remaining reader.new) read) }
+    ensures ok { OnOk result (AddsLine (R.remaining reader.old) (R.remaining reader.new) bytes.old.items bytes.new.items) }
     ensures err { OnErr result ((read : List ℕ) × TakesWithinLine (R.remaining reader.old) (R.remaining reader.new) read) }
     ensures fault { IfErr result IsLoss }
 {

@@ -1,14 +1,11 @@
 //! What comes of a message that isn't taken, read to its end: one line and one body of it are held at a time.
-ghost use Rattle.std.specs.Prelude.{◌≡◌, ◌≤◌, ℕ, List, Option, [], IfErr, IfNone, IfOk, IfSome, Ok, OnOk, true, false};
+ghost use Rattle.std.specs.Prelude.{◌≡◌, ◌≤◌, [], IfErr, IfNone, IfOk, IfSome, Ok, OnOk, true, false};
 ghost use Rattle.vc_fetch.specs.Pack.{is_object};
-ghost use Rattle.vc_object.specs.declared.id.ObjectId.{ObjectId as Id};
-ghost use Rattle.vc_pkt.specs.ObjectStream.{between};
 ghost use Rattle.vc_pkt.specs.StreamObjectView.{stored};
 ghost use Rattle.vc_pkt.specs.declared.fault.PktFault.TheVariants.{BadRecord};
-ghost use Rattle.vc_push.specs.Push.{CommandText};
 ghost use Rattle.vc_message.specs.AnyMessage.{any_step, beginning};
 ghost use Rattle.vc_message.specs.Incoming.{Fails, TakesNothing};
-ghost use Rattle.vc_message.specs.Streaming.{LeadsTo, TakesPack, TakesPush, TakesSome, of_pack, of_push, state_at};
+ghost use Rattle.vc_message.specs.Streaming.{EndsPack, EndsPush, FailsFrom, TakesSome, no_pack, no_push};
 
 use crate::incoming_fault::IncomingFault;
 use crate::streaming::{Head, Taken, next_object, read_head};
@@ -24,8 +21,8 @@ pub fn skip_push<R: Read>(
     mut taken: Taken,
 ) -> Result<(), IncomingFault>
     requires few { taken.lines ≤ taken.bytes }
-    ensures end { OnOk result ((before : Option (List ℕ)) (commands : List CommandText) → LeadsTo any_step beginning before (R.remaining reader.old) taken.bytes taken.lines (state_at (of_push commands (Ok [])) between) → TakesPush before (R.remaining reader.new) commands) }
-    ensures fault { IfErr result (λ e. (before : Option (List ℕ)) (commands : List CommandText) → LeadsTo any_step beginning before (R.remaining reader.old) taken.bytes taken.lines (state_at (of_push commands (Ok [])) between) → Fails any_step beginning before (R.remaining reader.new) e) }
+    ensures end { OnOk result (EndsPush (R.remaining reader.old) taken (R.remaining reader.new)) }
+    ensures fault { IfErr result (FailsFrom no_push (R.remaining reader.old) taken (R.remaining reader.new)) }
 {
     'objects: loop {
         let Some(_) = next_object(alloc, reader, &mut taken)? else {
@@ -53,8 +50,8 @@ pub fn skip_pack<R: Read>(
     mut taken: Taken,
 ) -> Result<(), IncomingFault>
     requires few { taken.lines ≤ taken.bytes }
-    ensures end { OnOk result ((before : Option (List ℕ)) (ack : Option Id) → LeadsTo any_step beginning before (R.remaining reader.old) taken.bytes taken.lines (state_at (of_pack ack []) between) → TakesPack before (R.remaining reader.new) ack) }
-    ensures fault { IfErr result (λ e. (before : Option (List ℕ)) (ack : Option Id) → LeadsTo any_step beginning before (R.remaining reader.old) taken.bytes taken.lines (state_at (of_pack ack []) between) → Fails any_step beginning before (R.remaining reader.new) e) }
+    ensures end { OnOk result (EndsPack (R.remaining reader.old) taken (R.remaining reader.new)) }
+    ensures fault { IfErr result (FailsFrom no_pack (R.remaining reader.old) taken (R.remaining reader.new)) }
 {
     'objects: loop {
         let Some(found) = next_object(alloc, reader, &mut taken)? else {

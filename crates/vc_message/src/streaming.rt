@@ -1,15 +1,13 @@
 //! A message that carries objects, taken object by object.
-ghost use Rattle.std.specs.Prelude.{◌≡◌, ◌+◌, ◌^◌, ◌≤◌, ◌<◌, ℕ, List, Option, [], IfOk, IfErr, IfSome, IfNone, IsTrue, MatchResult, OnOk, true, false};
+ghost use Rattle.std.specs.Prelude.{◌≡◌, ◌+◌, ◌^◌, ◌≤◌, ◌<◌, [], IfOk, IfErr, IfSome, IfNone, IsTrue, MatchResult, OnOk, false};
 ghost use Rattle.vc_pkt.specs.Incoming.{incoming};
 ghost use Rattle.vc_pkt.specs.ObjectStream.{between};
 ghost use Rattle.vc_pkt.specs.ObjectStreamView.{progress_of};
 ghost use Rattle.vc_pkt.specs.StreamObjectView.{stored};
-ghost use Rattle.vc_pkt.specs.declared.fault.PktFault.TheVariants.{BadRecord};
-ghost use Rattle.vc_pkt.specs.Message.{GivenBy};
 ghost use Rattle.vc_message.specs.AnyMessage.{any_step, beginning};
 ghost use Rattle.vc_message.specs.AnyView.{reader_state};
-ghost use Rattle.vc_message.specs.Incoming.{Fails, TakesFault, TakesNothing, TakesText};
-ghost use Rattle.vc_message.specs.Streaming.{Carrier, FailsAtLine, IsBeforeAll, IsHeadAt, LeadsTo, TakesHead, TakesLine, may_carry, state_at, text_of, with_more};
+ghost use Rattle.vc_message.specs.Incoming.{Fails, TakesNothing};
+ghost use Rattle.vc_message.specs.Streaming.{FailsAtLine, FailsFrom, IsBeforeAll, IsHeadAt, TakesBad, TakesEnd, TakesHead, TakesLine, TakesMore};
 
 use crate::incoming::{line_at, push_line};
 use crate::incoming_fault::IncomingFault;
@@ -167,10 +165,10 @@ pub fn next_object<R: Read>(
     requires few { taken.old.lines ≤ taken.old.bytes }
     ensures few { taken.new.lines ≤ taken.new.bytes }
     ensures more { OnOk result ((taken.old.bytes < taken.new.bytes) × (taken.new.bytes < 2 ^ 64)) }
-    ensures object { IfOk result (λ found. IfSome found (λ f. (before : Option (List ℕ)) (c : Carrier) → LeadsTo any_step beginning before (R.remaining reader.old) taken.old.bytes taken.old.lines (state_at c between) → may_carry c (stored f.1) ≡ true → LeadsTo any_step beginning before (R.remaining reader.new) taken.new.bytes taken.new.lines (state_at (with_more (stored f.1) c) between))) }
-    ensures other { IfOk result (λ found. IfSome found (λ f. (before : Option (List ℕ)) (c : Carrier) → LeadsTo any_step beginning before (R.remaining reader.old) taken.old.bytes taken.old.lines (state_at c between) → may_carry c (stored f.1) ≡ false → TakesFault any_step beginning before (R.remaining reader.new) (BadRecord f.0))) }
-    ensures end { IfOk result (λ found. IfNone found ((before : Option (List ℕ)) (c : Carrier) → LeadsTo any_step beginning before (R.remaining reader.old) taken.old.bytes taken.old.lines (state_at c between) → TakesText any_step beginning (GivenBy any_step beginning) before (R.remaining reader.new) (text_of c))) }
-    ensures fault { IfErr result (λ e. (before : Option (List ℕ)) (c : Carrier) → LeadsTo any_step beginning before (R.remaining reader.old) taken.old.bytes taken.old.lines (state_at c between) → Fails any_step beginning before (R.remaining reader.new) e) }
+    ensures object { IfOk result (λ found. IfSome found (λ f. TakesMore (R.remaining reader.old) taken.old (R.remaining reader.new) taken.new (stored f.1))) }
+    ensures other { IfOk result (λ found. IfSome found (λ f. TakesBad (R.remaining reader.old) taken.old (R.remaining reader.new) (stored f.1) f.0)) }
+    ensures end { IfOk result (λ found. IfNone found (TakesEnd (R.remaining reader.old) taken.old (R.remaining reader.new))) }
+    ensures fault { IfErr result (FailsFrom (λ c. c) (R.remaining reader.old) taken.old (R.remaining reader.new)) }
 {
     let mut progress = StreamProgress::Between;
     'lines: loop {

@@ -1,6 +1,6 @@
 -- From what is shown before and after a call to the machine's answers.
-use Rattle.std.proofs.Common.{◌≡◌, ◌⊎◌, inl, inr, ℕ, Bool, true, false, List, [], Option, Some, None, refl, sym, ap, ◌∙◌, subst}
-use Rattle.std.specs.Prelude.{string_bytes, not}
+use Rattle.std.proofs.Common.{◌≡◌, ◌⊎◌, inl, inr, ℕ, Bool, true, false, List, Option, Some, None, Result, Ok, Err, refl, sym, ap, ◌∙◌, subst}
+use Rattle.std.specs.Prelude.{string_bytes, not, IsErrAnd}
 use Rattle.vc_files.specs.FileMap.{FileMap}
 use Rattle.vc_model.specs.Repository.{Repository}
 use Rattle.vc_model.specs.Node.{Answer, Failure}
@@ -13,12 +13,14 @@ use Rattle.vc_refs.specs.declared.faults.RefFault.TheVariants as ref
 use Rattle.vc_store.specs.declared.faults.StoreFault.TheVariants as store
 use Rattle.vc_node.specs.declared.fault.NodeFault.{NodeFault}
 use Rattle.vc_node.specs.declared.fault.NodeFault.TheVariants.{Store, Ref, Missing, NotACommit, BadPath, PathConflict, BadIndex, WrongEntry, Down}
-use Rattle.vc_node.specs.Clean.{IsClean, KeepsClean, KeepsCleanBut}
+use Rattle.vc_node.specs.Node.{AnswersCommand}
+use Rattle.vc_node.specs.Clean.{IsClean, KeepsCleanBut}
+use Rattle.vc_node.specs.Held.{Held}
 use Rattle.vc_node.specs.NodeFault.{is_fault}
 use Rattle.vc_node.specs.Shown.{Shown, shown}
 use Rattle.vc_rules.specs.Git.{git}
 use Rattle.vc_rules.proofs.GitLaws.{git_rules}
-use Rattle.vc_node.specs.Machine.{live_of, Spells, Follows, Goes, Answers, AnswersShown, IsBadFile, fault_answer}
+use Rattle.vc_node.specs.Machine.{live_of, Spells, Follows, Goes, AnswersShown, IsBadFile, OrBadFile, fault_answer}
 use Rattle.vc_node.proofs.CleanLemmas.{still_clean}
 
 -- a node that is down
@@ -105,33 +107,25 @@ no_bad content (BadIndex place) clean bad = bad
 no_bad content (WrongEntry at) clean bad = bad
 no_bad content Down clean bad = bad
 
--- what a call answers over any files it does over clean ones, where it tells no fault or that the node is down
-pub held_but : (name : List ℕ) (task : Task) (a : Answer) (was is : Bool) (old new : FileMap) → ⊥ ⊎ AnswersShown task a was is (shown old) (shown new) → KeepsCleanBut name old new → Answers task a was is old new
-held_but name task a was is old new cases keeps = record {
-  each = λ awaited n holds. elim cases [
-    | inl none ↦ absurd none
-    | inr answers ↦
-        let g = answers.each awaited n holds.shows in
-        (g.0, record { shows = g.1; clean = still_clean old new keeps holds.clean }, g.2)
-  ];
+pub no_bad_told : {T : Type 0} (content : FileMap) (result : Result T NodeFault) → IsClean content → IsErrAnd result (IsBadFile content) → ⊥
+no_bad_told content (Ok x) clean bad = bad
+no_bad_told content (Err e) clean bad = no_bad content e clean bad
+
+-- what a call answers over any files it does over clean ones, of which none is bad
+pub answered : {F T : Type 0} (name : List ℕ) (content : F → FileMap) (task : Task) (told : Result T NodeFault → Answer) (result : Result T NodeFault) (old new : Held F)
+    → OrBadFile (content old.files) result (AnswersShown task (told result) old.is_up new.is_up (shown (content old.files)) (shown (content new.files))) → KeepsCleanBut name (content old.files) (content new.files)
+    → AnswersCommand content task told result old new
+answered name content task told result old new any keeps = record {
+  held = record {
+    each = λ awaited n holds. elim any [
+      | inl bad ↦ absurd (no_bad_told (content old.files) result holds.clean bad)
+      | inr answers ↦
+          let g = answers.each awaited n holds.shows in
+          (g.0, record { shows = g.1; clean = still_clean (content old.files) (content new.files) keeps holds.clean }, g.2)
+    ];
+  };
+  any = any;
 }
-
-pub held : (task : Task) (a : Answer) (was is : Bool) (old new : FileMap) → ⊥ ⊎ AnswersShown task a was is (shown old) (shown new) → KeepsClean old new → Answers task a was is old new
-held = held_but []
-
--- and where it tells a fault, which is for no bad file then; the equation is there to read off what was told
-pub held_failed_but : (name : List ℕ) (task : Task) (e told : NodeFault) (was is : Bool) (old new : FileMap) → told ≡ e → IsBadFile old told ⊎ AnswersShown task (fault_answer told) was is (shown old) (shown new) → KeepsCleanBut name old new
-    → Answers task (fault_answer told) was is old new
-held_failed_but name task e told was is old new same cases keeps = record {
-  each = λ awaited n holds. elim cases [
-    | inl bad ↦ absurd (no_bad old told holds.clean bad)
-    | inr answers ↦ (held_but name task (fault_answer told) was is old new (inr answers) keeps).each awaited n holds
-  ];
-}
-
-pub held_failed : (task : Task) (e told : NodeFault) (was is : Bool) (old new : FileMap) → told ≡ e → IsBadFile old told ⊎ AnswersShown task (fault_answer told) was is (shown old) (shown new) → KeepsClean old new
-    → Answers task (fault_answer told) was is old new
-held_failed = held_failed_but []
 
 -- ---- what is left as it was
 

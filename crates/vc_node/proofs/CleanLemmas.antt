@@ -15,14 +15,14 @@ use Rattle.vc_object.specs.declared.kind.Kind.{Kind}
 use Rattle.vc_refs.specs.Head.{KeepsOutside, KeepsTheRest}
 use Rattle.vc_refs.specs.Packing.{UnpacksOnly}
 use Rattle.vc_refs.specs.RefMap.{IsInRefs}
-use Rattle.vc_refs.specs.Refs.{IsBadRef, ChangesOnly, packed_at, packed_path}
+use Rattle.vc_refs.specs.Refs.{IsBadRef, ChangesOnly, packed_at, packed_path, refs}
 use Rattle.vc_refs.proofs.LayeredChangeLemmas.{unpacks_same}
 use Rattle.vc_refs.proofs.LayeredLemmas.{bad-same, bad_place, packed_map-same}
 use Rattle.vc_refs.proofs.ObstacleLemmas.{split_from_starts}
 use Rattle.vc_store.specs.Store.{objects, object_path, stored_in, with_object, with_file}
-use Rattle.vc_node.specs.Clean.{IsClean, KeepsClean, KeepsCleanBut}
+use Rattle.vc_node.specs.Clean.{IsClean, KeepsClean, KeepsCleanBut, PacksOnly}
 use Rattle.vc_session.proofs.FrameLemmas.{ref_no_object}
-use Rattle.vc_node.proofs.ShownLemmas.{ref_no_index}
+use Rattle.vc_node.proofs.ShownLemmas.{ref_no_index, shown_packed}
 use Rattle.vc_node.proofs.StoringLemmas.{name_valid}
 
 pub clean_same : {name : List ℕ} (old new : FileMap) → new ≡ old → KeepsCleanBut name old new
@@ -82,6 +82,9 @@ still_clean_packed old new rest clean = record {
   objects = λ id damaged. clean.objects id ((damage_at old new (λ n. rest.at (object_path n) refl refl)).before id damaged);
   refs = λ path bad. clean.refs path (rest.good path bad);
 }
+
+pub packs_only : (old new : FileMap) → KeepsOutside old new → refs new ≡ refs old → PacksOnly old new
+packs_only old new rest is = record { outside = rest; same = shown_packed old new rest is; clean = λ clean. still_clean_packed old new rest clean }
 
 -- HEAD and the index
 pub clean_head : (old new : FileMap) → ChangesOnly (codes "HEAD") old new → KeepsClean old new

@@ -22,21 +22,20 @@ use Rattle.vc_model.specs.Node.Reply.{Stored}
 use Rattle.vc_model.specs.Clone.{Awaited, only_object, quietly, with_object as added}
 use Rattle.vc_model.specs.Clone.Task.{Stage, Unstage}
 use Rattle.vc_model.specs.CloneCall.{IsFreePath, Obeys, Refuses}
-use Rattle.vc_object.specs.Decoding.{stored_object}
 use Rattle.vc_object.specs.Object.{object_name}
 use Rattle.vc_object.specs.declared.kind.Kind.TheVariants as kinds
 use Rattle.vc_object.specs.declared.mode.Mode.{Mode}
 use Rattle.vc_object.specs.declared.mode.Mode.TheVariants as modes
-use Rattle.vc_store.specs.Store.{objects, with_object}
 use Rattle.vc_store.specs.StoreFault.{IsFault as IsStoreFault}
 use Rattle.vc_store.specs.declared.faults.StoreFault.{StoreFault}
 use Rattle.vc_store.specs.declared.faults.StoreFault.TheVariants as store
 use Rattle.vc_node.specs.declared.fault.NodeFault.{NodeFault}
 use Rattle.vc_node.specs.declared.fault.NodeFault.TheVariants.{Store, Ref, Missing, NotACommit, BadPath, PathConflict, BadIndex, WrongEntry, Down}
+use Rattle.vc_node.specs.Adding.{IsAdded, LeftByAdd, with_blob, with_file}
 use Rattle.vc_node.specs.Blames.{BlamesAdd, MayStage, TellsDamage}
 use Rattle.vc_node.specs.IndexFile.{SpellsIndex, BlamesIndex, index_bytes}
 use Rattle.vc_node.specs.NodeFault.{is_fault, of_index}
-use Rattle.vc_node.specs.Shown.{Shown, shown, with_objects_shown, with_index_shown}
+use Rattle.vc_node.specs.Shown.{Shown, shown, with_index_shown}
 use Rattle.vc_rules.specs.Git.{git, machine_entry, mode_number}
 use Rattle.vc_rules.specs.Faults.{object_number}
 pub use Rattle.vc_rules.specs.Trees.{ShowsIndex as IsMachineIndex}
@@ -145,12 +144,6 @@ module _ (i : Index) (m : IndexMap) (path : List ℕ) (rel : IsMachineIndex i m)
       get-put i path q (machine_entry v) ∙ ap (cond (bytes_eq q path) (Some (machine_entry v))) (rel q) ∙ map_cond machine_entry (bytes_eq q path) (Some v) (get m q)
       ∙ ap (option_map machine_entry) (sym (get-put m path q v))
 
-abbrev pub staged_objects : FileMap → List ℕ → Shown
-staged_objects content bytes = with_objects_shown (shown content) (with_object (objects content) (object_name kinds.Blob bytes) (stored_object kinds.Blob bytes))
-
-abbrev pub staged_map : IndexMap → List ℕ → Mode → List ℕ → IndexMap
-staged_map m path mode bytes = insert m path (index_entry mode (object_name kinds.Blob bytes))
-
 abbrev pub staged_index : Repository → List ℕ → Mode → List ℕ → Index
 staged_index r path mode bytes = insert r.index path (record { mode = mode_number mode; id = git_name (blob bytes) })
 
@@ -162,30 +155,25 @@ pub staged_obeyed : (content : FileMap) (path bytes : List ℕ) (mode : Mode) (a
 staged_obeyed content path bytes mode awaited r p may =
     (may.legal, free_path r.index p.map path p.index may.free, may.object, refl)
 
-pub add_done : (content : FileMap) (path bytes : List ℕ) (mode : Mode) (new : Shown) → mode ≢ modes.Tree
-    → ((m : IndexMap) → SpellsIndex content m → new ≡ with_index_shown (staged_objects content bytes) (index_text (staged_map m path mode bytes)))
-    → ((m : IndexMap) → SpellsIndex content m → MayStage m path bytes)
-    → Follows (Stage path (mode_number mode) bytes) (Did Stored) (shown content) new
-add_done content path bytes mode new file is may = record {
+pub add_done : (content : FileMap) (path bytes : List ℕ) (mode : Mode) (new : FileMap) → mode ≢ modes.Tree → ((m : IndexMap) → SpellsIndex content m → IsAdded content m path mode bytes new)
+    → Follows (Stage path (mode_number mode) bytes) (Did Stored) (shown content) (shown new)
+add_done content path bytes mode new file does = record {
   goes = λ awaited r p.
       let o = blob bytes in
       let k = git_name o in
-      let ok = may p.map (spells_index content r p) in
+      let done = does p.map (spells_index content r p) in
+      let ok = done.may in
       let v = index_entry mode (object_name kinds.Blob bytes) in
       let i = staged_index r path mode bytes in
-      let rel : IsMachineIndex i (staged_map p.map path mode bytes) = machine_index_put r.index p.map path p.index v in
+      let rel : IsMachineIndex i (with_file p.map path mode bytes) = machine_index_put r.index p.map path p.index v in
       let sound = insert-IsIndex p.map path v p.map_sound (record { legal = ok.legal; mode = file; id = ok.id }) ok.free in
       let stored = with_objects r (added r.objects k o) in
       let after = record stored { index = i } in (
         after,
-        subst (λ (s : Shown). Spells s after) (sym (is p.map (spells_index content r p))) (spells_map (staged_objects content bytes) stored (staged_map p.map path mode bytes) i (spells_added (shown content) r k o p) sound rel),
+        subst (λ (s : Shown). Spells s after) (sym done.is) (spells_map (with_blob content bytes) stored (with_file p.map path mode bytes) i (spells_added (shown content) r k o p) sound rel),
         (staged_deed awaited r path mode bytes, staged_obeyed content path bytes mode awaited r p ok, (added r.objects k o, added_all r.objects k o, refl), refl, refl, refl),
       );
 }
-
--- what an add left that was cut
-abbrev pub LeftByAdd : FileMap → IndexMap → List ℕ → List ℕ → NodeFault → FileMap → Type 0
-LeftByAdd content m path bytes e new = (new ≡ content) ⊎ ((is_fault e ≡ true) × MayStage m path bytes × (shown new ≡ staged_objects content bytes))
 
 -- a refusal, after which nothing has changed
 add_declined : (content : FileMap) (path bytes : List ℕ) (mode : Mode) (e : NodeFault) (n : ℕ) (new : FileMap) → is_fault e ≡ false → fault_answer e ≡ Declined n

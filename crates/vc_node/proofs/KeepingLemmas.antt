@@ -15,6 +15,8 @@ use Rattle.vc_refs.specs.declared.heads.Head.{Head}
 use Rattle.vc_refs.specs.declared.heads.Head.TheVariants as heads
 use Rattle.vc_store.specs.Store.{objects}
 use Rattle.vc_node.proofs.ShownLemmas.{shown_index}
+use Rattle.vc_session.proofs.CleanLemmas.{bad_same, bad_then}
+use Rattle.vc_node.specs.Clean.{KeepsGood}
 use Rattle.vc_node.specs.Commit.{IsCommitted, WritesCommit, made_body, moved}
 use Rattle.vc_node.specs.Making.{IsCut, LeftByCommit, StoresTrees}
 use Rattle.vc_node.specs.Shown.{Shown, shown, with_index_shown}
@@ -25,6 +27,13 @@ keeps_shown old new s is same = keeps_map old new (ap (λ (x : Shown). x.objects
 
 pub keeps_index : (old mid new : FileMap) (text : List ℕ) → mid ≡ old → new ≡ files.insert mid (codes "index") text → KeepsObjects old new
 keeps_index old mid new text same put = keeps_then old mid new (keeps_same old mid same) (keeps_shown mid new (with_index_shown (shown mid) text) (shown_index mid new text put) refl)
+
+-- ---- an exchange
+pub good_same : (old new : FileMap) → new ≡ old → KeepsGood old new
+good_same old new same = record { objects = keeps_same old new same; bad = bad_same old new same }
+
+pub good_then : {old mid new : FileMap} → KeepsGood old mid → KeepsGood mid new → KeepsGood old new
+good_then {old = old} {mid = mid} {new = new} first second = record { objects = keeps_then old mid new first.objects second.objects; bad = bad_then first.bad second.bad }
 
 -- ---- a commit
 abbrev Keeps : ObjectMap → ObjectMap → Type 0

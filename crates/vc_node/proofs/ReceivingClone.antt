@@ -92,9 +92,6 @@ refs_beside old new same = record { at = λ path object ref. same.at path ref }
 pub clean_on : (old new : FileMap) → MakesNoneBad old new → IsClean old → IsClean new
 clean_on old new bad clean = record { objects = λ id damaged. clean.objects id (bad.objects id damaged); refs = λ path wrong. clean.refs path (bad.refs path wrong) }
 
-pub bad_same : (content : FileMap) → MakesNoneBad content content
-bad_same content = record { objects = λ id bad. bad; refs = λ path bad. bad; quarantines = λ slot fits id bad. bad; packed = refl }
-
 -- what is made bad by nothing is kept clean
 pub clean_by : (old new : FileMap) → MakesNoneBad old new → KeepsClean old new
 clean_by old new bad = record { damage = record { before = bad.objects }; refs = bad.refs; packed = record { at = λ n other. ap (λ m. packed_at m n) bad.packed } }

@@ -1,5 +1,5 @@
 -- The machine's answers to a command that takes it that all is there that refs reach: they are its answers of a sound node.
-use Rattle.std.proofs.Common.{◌≡◌, ◌⊎◌, inl, inr, ℕ, Bool, true, ap, refl, sym, ◌∙◌, subst}
+use Rattle.std.proofs.Common.{◌≡◌, ◌⊎◌, inl, inr, ℕ, Bool, true, Result, ap, refl, sym, ◌∙◌, subst}
 use Rattle.std.specs.Prelude.{not}
 use Rattle.vc_files.specs.FileMap.{FileMap}
 use Rattle.vc_model.specs.Clone.{Awaited, Task}
@@ -13,12 +13,14 @@ use Rattle.vc_rules.specs.Git.{git}
 use Rattle.vc_rules.proofs.GitLaws.{git_rules}
 use Rattle.vc_rules.proofs.WholeLemmas.{refs_whole}
 use Rattle.vc_session.specs.Known.{AreRefsWhole}
+use Rattle.vc_node.specs.Node.{AnswersCommandIfSound}
 use Rattle.vc_node.specs.Clean.{KeepsClean}
-use Rattle.vc_node.specs.Machine.{AnswersIfSound, AnswersShown, AnswersShownIfSound, Follows, FollowsIf, IsBadFile, MayWriteIfSoundOr, Spells, fault_answer, live_of}
+use Rattle.vc_node.specs.Held.{Held}
+use Rattle.vc_node.specs.Machine.{AnswersShown, AnswersShownIfSound, Follows, FollowsIf, IsBadFile, MayWriteIfSoundOr, OrBadFile, Spells, fault_answer, live_of}
 use Rattle.vc_node.specs.NodeFault.{is_fault}
 use Rattle.vc_node.specs.Shown.{Shown, shown}
 use Rattle.vc_node.specs.declared.fault.NodeFault.{NodeFault}
-use Rattle.vc_node.proofs.AnswerLemmas.{faults, no_bad, stays, stays_by_fault, step_of}
+use Rattle.vc_node.proofs.AnswerLemmas.{faults, no_bad_told, stays, stays_by_fault, step_of}
 use Rattle.vc_node.proofs.CleanLemmas.{still_clean}
 
 -- what is shown of a sound repository reaches nothing that is absent
@@ -65,23 +67,19 @@ sound_failed task e told was is content new cases same up after =
 
 -- ---- clean files
 
-pub sound_held : (task : Task) (a : Answer) (was is : Bool) (old new : FileMap) → ⊥ ⊎ AnswersShownIfSound task a was is (shown old) (shown new) → KeepsClean old new → AnswersIfSound task a was is old new
-sound_held task a was is old new cases keeps = record {
-  each = λ awaited n holds. elim cases [
-    | inl none ↦ absurd none
-    | inr answers ↦
-        let g = answers.each awaited n holds.shows in
-        (g.0, record { shows = g.1; clean = still_clean old new keeps holds.clean }, g.2)
-  ];
-}
-
-pub sound_held_failed : (task : Task) (e told : NodeFault) (was is : Bool) (old new : FileMap) → told ≡ e → IsBadFile old told ⊎ AnswersShownIfSound task (fault_answer told) was is (shown old) (shown new) → KeepsClean old new
-    → AnswersIfSound task (fault_answer told) was is old new
-sound_held_failed task e told was is old new same cases keeps = record {
-  each = λ awaited n holds. elim cases [
-    | inl bad ↦ absurd (no_bad old told holds.clean bad)
-    | inr answers ↦ (sound_held task (fault_answer told) was is old new (inr answers) keeps).each awaited n holds
-  ];
+pub answered_if_sound : {F T : Type 0} (content : F → FileMap) (task : Task) (told : Result T NodeFault → Answer) (result : Result T NodeFault) (old new : Held F)
+    → OrBadFile (content old.files) result (AnswersShownIfSound task (told result) old.is_up new.is_up (shown (content old.files)) (shown (content new.files))) → KeepsClean (content old.files) (content new.files)
+    → AnswersCommandIfSound content task told result old new
+answered_if_sound content task told result old new any keeps = record {
+  held = record {
+    each = λ awaited n holds. elim any [
+      | inl bad ↦ absurd (no_bad_told (content old.files) result holds.clean bad)
+      | inr answers ↦
+          let g = answers.each awaited n holds.shows in
+          (g.0, record { shows = g.1; clean = still_clean (content old.files) (content new.files) keeps holds.clean }, g.2)
+    ];
+  };
+  any = any;
 }
 
 -- ---- where the command may write

@@ -32,13 +32,15 @@ use Rattle.vc_rules.specs.Git.{git, stored_of}
 use Rattle.vc_rules.proofs.GitLaws.{git_rules}
 use Rattle.vc_rules.proofs.MapLemmas.{get-put}
 use Rattle.vc_store.specs.declared.faults.StoreFault.TheVariants as store
+use Rattle.vc_node.specs.Node.{AnswersStaging}
 use Rattle.vc_node.specs.Clean.{KeepsClean}
+use Rattle.vc_node.specs.Held.{Held}
 use Rattle.vc_node.specs.IndexFile.{SpellsIndex, BlamesIndex}
-use Rattle.vc_node.specs.Machine.{HoldsNode, Spells, fault_answer, failure_of, live_of}
+use Rattle.vc_node.specs.Machine.{HoldsNode, Spells, done_answer, fault_answer, failure_of, live_of}
 use Rattle.vc_node.specs.NodeFault.{IsOfDevice, TellsDevice, is_fault, of_index}
 use Rattle.vc_node.specs.Reads.{NoneRead, TellsRead}
 use Rattle.vc_node.specs.Shown.{Shown, shown, with_index_shown}
-use Rattle.vc_node.specs.Staging.{AnswersStage, AreOf, BlamesStaging, FailsAtFirst, File, MayStandAll, RefusesFirst, RefusesOne, StagesAll, StagesHeld, StagesShown, file_placed, placed, staging, with_all}
+use Rattle.vc_node.specs.Staging.{AnswersStage, AreOf, AreStaged, BlamesStaging, FailsAtFirst, File, MayStandAll, RefusesFirst, RefusesOne, StagesAll, StagesShown, file_placed, placed, staging, with_all}
 use Rattle.vc_node.specs.declared.fault.NodeFault.{NodeFault}
 use Rattle.vc_node.specs.declared.fault.NodeFault.TheVariants.{Store, Ref, Missing, NotACommit, BadPath, PathConflict, BadIndex, WrongEntry, Down}
 use Rattle.vc_node.specs.declared.staging.Staged.{Staged}
@@ -218,20 +220,19 @@ staging_down staged was s e = record { each = λ awaited n files shows are. (n, 
     by [] n none = (none, refl)
     by (f ∷ fs) n none = inl (down none (λ h. cc h) refl refl refl)
 
-pub staging_done : (content : FileMap) (staged : List Staged) (was is : Bool) (new : Shown) → All IsNoTree staged
-    → ((m : IndexMap) → SpellsIndex content m → new ≡ with_index_shown (shown content) (index_text (with_all m (map placed staged))))
-    → ((m : IndexMap) → SpellsIndex content m → MayStandAll m (map placed staged))
-    → was ≡ true → is ≡ true → StagesShown staged (Did Stored) was is (shown content) new
-staging_done content staged was is new no_trees file may up after = record {
+pub staging_done : (content : FileMap) (staged : List Staged) (was is : Bool) (new : FileMap) → All IsNoTree staged
+    → ((m : IndexMap) → SpellsIndex content m → AreStaged content m (map placed staged) new) → was ≡ true → is ≡ true → StagesShown staged (Did Stored) was is (shown content) (shown new)
+staging_done content staged was is new no_trees does up after = record {
   each = λ awaited n files shows are.
       let p = shows.spells in
       let s = n.repository.objects in
       let spelled = spells_index content n.repository p in
       let same : map placed staged ≡ map file_placed files = placed_same s staged files are in
       let live : n.live ≡ Some awaited = shows.live ∙ ap (λ (u : Bool). live_of u awaited) up in
-      let stand : MayStandAll p.map (map file_placed files) = subst (λ (es : List (List ℕ × IndexEntry)). MayStandAll p.map es) same (may p.map spelled) in
-      let is_new : with_index_shown (shown content) (index_text (with_all p.map (map file_placed files))) ≡ new =
-      sym (file p.map spelled ∙ ap (λ (es : List (List ℕ × IndexEntry)). with_index_shown (shown content) (index_text (with_all p.map es))) same) in (
+      let done = does p.map spelled in
+      let stand : MayStandAll p.map (map file_placed files) = subst (λ (es : List (List ℕ × IndexEntry)). MayStandAll p.map es) same done.may in
+      let is_new : with_index_shown (shown content) (index_text (with_all p.map (map file_placed files))) ≡ shown new =
+      sym (done.is ∙ ap (λ (es : List (List ℕ × IndexEntry)). with_index_shown (shown content) (index_text (with_all p.map es))) same) in (
         node_with_all awaited n files,
         record {
           spells = subst (λ (x : Shown). Spells x (node_with_all awaited n files).repository) is_new
@@ -304,11 +305,15 @@ module _ (content : FileMap) (staged : List Staged) (was is : Bool) (up : was �
       (subst (λ (x : NodeFault). StagesShown staged (fault_answer x) was is (shown content) (shown content)) (sym same) (staging_fails e blames after))
 
 -- what a call answers over any files it does over clean ones
-pub staging_held : (staged : List Staged) (a : _) (was is : Bool) (old new : FileMap) → StagesShown staged a was is (shown old) (shown new) → KeepsClean old new → StagesHeld staged a was is old new
-staging_held staged a was is old new answers keeps = record {
-  each = λ awaited n files holds are.
-      let g = answers.each awaited n files holds.shows are in
-      (g.0, record { shows = g.1; clean = still_clean old new keeps holds.clean }, g.2);
+pub staged : {F : Type 0} (content : F → FileMap) (files : List Staged) (result : Result (Unit {0}) NodeFault) (old new : Held F)
+    → StagesShown files (done_answer result) old.is_up new.is_up (shown (content old.files)) (shown (content new.files)) → KeepsClean (content old.files) (content new.files) → AnswersStaging content files result old new
+staged content files result old new any keeps = record {
+  held = record {
+    each = λ awaited n each holds are.
+        let g = any.each awaited n each holds.shows are in
+        (g.0, record { shows = g.1; clean = still_clean (content old.files) (content new.files) keeps holds.clean }, g.2);
+  };
+  any = any;
 }
 
 -- what may stand in the index of a node that was held, the machine stages

@@ -1,7 +1,8 @@
 -- A message that a reader brings to a clone, taken as it comes: what came of it, and what the clone makes of it.
-use Rattle.std.specs.Prelude.{◌≡◌, ◌≢◌, ◌⊎◌, ⊤, ℕ, Bool, true, false, List, [], Option, Some, None, Result, Ok, Err, IfErr}
+use Rattle.std.specs.Prelude.{◌≡◌, ◌≢◌, ◌⊎◌, ⊤, ℕ, Bool, true, false, List, [], Option, Some, None, Result, Ok, Err, IfErr, Vec, ◌++◌}
+use Rattle.std.specs.Global.{Global}
 use Rattle.vc_exchange.specs.Deeds.{IsCutShort, IsReceived}
-use Rattle.vc_exchange.specs.Moving.{Told}
+use Rattle.vc_exchange.specs.Moving.{Told, told_in}
 use Rattle.vc_exchange.specs.Quarantined.{HoldsPack}
 use Rattle.vc_exchange.specs.Receiving.{AreRefs, BlamesPack, awaited_pack}
 use Rattle.vc_exchange.specs.declared.fault.ExchangeFault.{ExchangeFault}
@@ -14,10 +15,12 @@ use Rattle.vc_files.specs.declared.faults.Fault.TheVariants.{Memory}
 use Rattle.vc_message.specs.Coming.{Came, IsCome, TakesAll, TakesPart, a_message, cut_short, lost, no_message, nothing_came}
 use Rattle.vc_message.specs.AnyMessage.{MessageText, a_pack, any_step, beginning}
 use Rattle.vc_message.specs.Incoming.{TakesFault}
-use Rattle.vc_message.specs.Machine.{IsPack, TextOf, pkt_number}
-use Rattle.vc_message.specs.Streaming.{LeadsTo, of_pack, state_at}
+use Rattle.vc_message.specs.Machine.{IsPack, Reads, TextOf, pkt_number}
+use Rattle.vc_message.specs.Streaming.{LeadsTo, TakesHead, of_pack, state_at}
 use Rattle.vc_message.specs.declared.incoming_fault.IncomingFault.{IncomingFault}
 use Rattle.vc_message.specs.declared.incoming_fault.IncomingFault.TheVariants as incoming
+use Rattle.vc_message.specs.declared.streaming.Head.{Head}
+use Rattle.vc_message.specs.declared.streaming.Taken.{Taken}
 use Rattle.vc_model.specs.Clone.{Awaited, CloneNode}
 use Rattle.vc_model.specs.Clone.Awaited.{Nothing}
 use Rattle.vc_model.specs.CloneCall.{CloneCall}
@@ -33,12 +36,13 @@ use Rattle.vc_pkt.specs.ObjectStream.{between}
 use Rattle.vc_pkt.specs.declared.fault.PktFault.{PktFault}
 use Rattle.vc_rules.specs.OpenPushes.{HoldsContent}
 use Rattle.vc_session.specs.Quarantine.{quarantine_folder}
-use Rattle.vc_node.specs.Awaited.{AwaitedText, IsAwaited}
+use Rattle.vc_node.specs.Awaited.{AwaitedText, IsAwaited, awaited_text}
 use Rattle.vc_node.specs.CloneCalls.{AnswersClone, AnswersUp, ReceivedAs}
 use Rattle.vc_node.specs.CloneFaults.{of_device, of_exchange}
 use Rattle.vc_node.specs.Machine.{HoldsNode}
 use Rattle.vc_node.specs.ReceiveFault.{is_fault, told_of, up_after}
 use Rattle.vc_node.specs.Receipts.{IsRefusedMessage}
+use Rattle.vc_node.specs.declared.awaited.Awaited.{Awaited as Waiting}
 use Rattle.vc_node.specs.declared.clone_fault.CloneFault.{CloneFault}
 use Rattle.vc_node.specs.declared.clone_fault.CloneFault.TheVariants as clone
 use Rattle.vc_node.specs.declared.exchanging.Received.{Received}
@@ -50,6 +54,13 @@ use Rattle.vc_node.specs.declared.receive_fault.ReceiveFault.TheVariants.{Node, 
 -- of a pack what stands before its objects was taken, so many bytes and lines
 abbrev pub BeginsPack : Option (List ℕ) → Option (List ℕ) → ℕ → ℕ → Option ObjectId → Type 0
 BeginsPack before now place number ack = LeadsTo any_step beginning before now place number (state_at (of_pack ack []) between)
+
+-- so it is from where the reader stood before the pack, or before any message, of which so much was taken
+abbrev pub FromPack : Option (List ℕ) → Taken → (Option (List ℕ) → Type 0) → Type 0
+FromPack now taken IsSo = (before : Option (List ℕ)) (ack : Option ObjectId) → BeginsPack before now taken.bytes taken.lines ack → IsSo before
+
+abbrev pub FromStart : Option (List ℕ) → Head → Taken → (Option (List ℕ) → Type 0) → Type 0
+FromStart now head taken IsSo = (before : Option (List ℕ)) → TakesHead before now head taken.bytes taken.lines → IsSo before
 
 -- why it didn't all come: the bytes are no message, the reader failed, or the node did
 pub data IsStopped (before new : Option (List ℕ)) (e : ReceiveFault) : Type 0 where
@@ -84,6 +95,13 @@ pub data IsPackLeft (honest : Type 0) (before new : Option (List ℕ)) (old cont
   not_all : IsStopped before new e → (honest → SameOutside (quarantine_folder 0) old content) → IsPackLeft honest before new old content wants told e
   all_of_it : (fault : ExchangeFault) → e ≡ Node (of_exchange fault) → IsPackEnded honest before new old content wants told fault → IsPackLeft honest before new old content wants told e
 
+-- the same over files
+abbrev pub TakesPack : {F : Type 0} → Type 0 → (F → FileMap) → Option (List ℕ) → F → F → List ObjectId → List (Vec ℕ Global × ObjectId) → Moves → Option (List ℕ) → Type 0
+TakesPack honest content rest old new wants told moves before = IsPackTaken honest before rest (content old) (content new) wants (told_in told) moves
+
+abbrev pub LeavesPack : {F : Type 0} → Type 0 → (F → FileMap) → Option (List ℕ) → F → F → List ObjectId → List (Vec ℕ Global × ObjectId) → ReceiveFault → Option (List ℕ) → Type 0
+LeavesPack honest content rest old new wants told e before = IsPackLeft honest before rest (content old) (content new) wants (told_in told) e
+
 -- ---- any message
 -- What a clone that is up makes of a message: it came whole, and is refused for its causes and answered as the machine answers it;
 -- or it didn't, and all but the quarantine is as it was.
@@ -91,6 +109,10 @@ pub data ComesTo (honest : Type 0) (before new : Option (List ℕ)) (old content
   whole : (text : MessageText) → TakesAll before new text → (told : Result Received CloneFault) → result ≡ told_of told → (honest → IfErr told (IsRefusedMessage old waits text))
       → (honest → (m : Message) → TextOf m text → AnswersUp (Receive m) told old content waits after) → ComesTo honest before new old content waits after result
   stopped : (e : ReceiveFault) → result ≡ Err e → IsStopped before new e → (honest → SameOutside (quarantine_folder 0) old content) → after ≡ waits → ComesTo honest before new old content waits after result
+
+-- the same over files, and what is awaited as it lies in memory
+abbrev pub Comes : {F : Type 0} → Type 0 → (F → FileMap) → Option (List ℕ) → F → F → Waiting → Waiting → Result Received ReceiveFault → Option (List ℕ) → Type 0
+Comes honest content rest old new awaited after result before = ComesTo honest before rest (content old) (content new) (awaited_text awaited) (awaited_text after) result
 
 -- The calls of the machine that the event can be. A fault of the node comes before it is known which message it is.
 abbrev pub IsCallOf : Bool → Came → CloneCall → Type 0
@@ -151,6 +173,10 @@ down_told (Ok None) = Ok None
 down_told (Err incoming.Failed) = Err ReadFailed
 down_told (Err incoming.Memory) = Err (Node (of_device Memory))
 down_told (Err (incoming.Unread fault)) = Err (Node (clone.Node Down))
+
+-- so it is of the message, and of what is behind it, where the reader's bytes begin with one
+abbrev pub FirstRead : Option (List ℕ) → (Message → List ℕ → Type 0) → Type 0
+FirstRead before IsSo = (m : Message) (bytes rest : List ℕ) → before ≡ Some (bytes ++ rest) → Reads bytes m → IsSo m rest
 
 -- Where a message is the first that the reader has, what is told is the machine's answer to it, and what is behind it is left; or the
 -- reader failed, or a fault came.

@@ -15,6 +15,7 @@ use Rattle.vc_object.specs.declared.id.ObjectId.{ObjectId}
 use Rattle.vc_object.specs.declared.kind.Kind.{Kind}
 use Rattle.vc_object.specs.declared.kind.Kind.TheVariants as kinds
 use Rattle.vc_refs.specs.RefFault.{IsFirstBadRef, BlamesObstacle, BlamesRef, BlamesHead as BlamesHeadFile}
+use Rattle.vc_refs.specs.RefMap.{is_ref}
 use Rattle.vc_refs.specs.Refs.{IsBadRef}
 use Rattle.vc_refs.specs.Obstacle.{IsFree}
 use Rattle.vc_refs.specs.declared.heads.Head.{Head}
@@ -90,6 +91,10 @@ pub record MayStage (m : IndexMap) (path body : List ℕ) : Type 0 where
 abbrev pub BlamesPut : FileMap → List ℕ → NodeFault → Type 0
 BlamesPut content name (Ref fault) = BlamesName content name fault
 BlamesPut content name _ = ⊥
+
+-- a ref is set to a good commit, in no way that conflicts
+abbrev pub MayBranch : FileMap → List ℕ → ObjectId → Type 0
+MayBranch content name id = (is_ref name ≡ true) × IsFree content name × IsGoodBeyondRefs content id
 
 -- HEAD becomes any branch, and no id but that of a good commit
 abbrev pub MayHead : FileMap → Head → Type 0

@@ -1,11 +1,15 @@
 -- Files of which none is bad, and that a call makes none bad.
-use Rattle.std.specs.Prelude.{ℕ, List, []}
-use Rattle.vc_files.specs.FileMap.{FileMap}
+use Rattle.std.specs.Prelude.{◌≡◌, ℕ, List, [], Result, OnErr, codes}
+use Rattle.vc_files.specs.FileMap.{FileMap, SameOutside}
 use Rattle.vc_index.specs.Damage.{KeepsDamage}
 use Rattle.vc_object.specs.declared.id.ObjectId.{ObjectId}
+use Rattle.vc_pack.specs.Reached.{KeepsObjects}
+use Rattle.vc_refs.specs.Head.{KeepsOutside}
 use Rattle.vc_refs.specs.Packing.{UnpacksOnly}
 use Rattle.vc_refs.specs.Refs.{IsBadRef, SpellsRefs}
+use Rattle.vc_session.specs.Clean.{MakesNoneBad}
 use Rattle.vc_store.specs.Store.{IsDamaged}
+use Rattle.vc_node.specs.Shown.{shown}
 
 -- Each file in an object's place is that object, and each file of the refs can be read.
 pub record IsClean (content : FileMap) : Type 0 where
@@ -21,3 +25,30 @@ pub record KeepsCleanBut (name : List ℕ) (old new : FileMap) : Type 0 where
 -- What is bad now was so before, and each packed ref is as it was: no ref has no name.
 abbrev pub KeepsClean : FileMap → FileMap → Type 0
 KeepsClean old new = KeepsCleanBut [] old new
+
+-- No object is lost, and no file is made bad.
+pub record KeepsGood (old new : FileMap) : Type 0 where
+  pub objects : KeepsObjects old new
+  pub bad : MakesNoneBad old new
+
+-- the same of a call that stores objects itself
+pub record KeepsStored (old new : FileMap) : Type 0 where
+  pub objects : KeepsObjects old new
+  pub clean : KeepsClean old new
+
+-- an error changes nothing, and no file is made bad
+pub record Spares {T E : Type 0} (result : Result T E) (old new : FileMap) : Type 0 where
+  pub err : OnErr result (new ≡ old)
+  pub clean : KeepsClean old new
+
+-- the same, where nothing but files of objects is written
+pub record StoresOnly {T E : Type 0} (result : Result T E) (old new : FileMap) : Type 0 where
+  pub outside : SameOutside (codes "objects/") old new
+  pub err : OnErr result (new ≡ old)
+  pub clean : KeepsClean old new
+
+-- only how the refs stand in their files is changed
+pub record PacksOnly (old new : FileMap) : Type 0 where
+  pub outside : KeepsOutside old new
+  pub same : shown new ≡ shown old
+  pub clean : IsClean old → IsClean new

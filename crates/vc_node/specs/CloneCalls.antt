@@ -4,9 +4,11 @@ use Rattle.std.specs.Prelude.{◌≡◌, ◌⊎◌, ℕ, Bool, true, List, Optio
 use Rattle.std.specs.Global.{Global}
 use Rattle.vc_files.specs.FileMap.{FileMap}
 use Rattle.vc_format.specs.Git.{bytes_of_id}
-use Rattle.vc_message.specs.Machine.{IsWritten}
+use Rattle.vc_message.specs.AnyMessage.{MessageText}
+use Rattle.vc_message.specs.Machine.{IsWritten, TextOf}
 use Rattle.vc_model.specs.Clone.{Awaited, CloneNode}
 use Rattle.vc_model.specs.CloneCall.{CloneAnswers, CloneCall}
+use Rattle.vc_model.specs.CloneCall.CloneCall.{Receive}
 use Rattle.vc_model.specs.ExactWorld.{MayClone}
 use Rattle.vc_model.specs.Message.{Message}
 use Rattle.vc_model.specs.Node.{Answer}
@@ -16,9 +18,10 @@ use Rattle.vc_model.specs.Repository.{IsSound}
 use Rattle.vc_object.specs.declared.id.ObjectId.{ObjectId}
 use Rattle.vc_rules.proofs.GitLaws.{git_rules}
 use Rattle.vc_rules.specs.Git.{git}
-use Rattle.vc_node.specs.Awaited.{AwaitedText, IsAwaited}
+use Rattle.vc_node.specs.Awaited.{AwaitedText, IsAwaited, awaited_text}
 use Rattle.vc_node.specs.CloneFaults.{fault_answer, up_after}
 use Rattle.vc_node.specs.Machine.{HoldsNode, fault_answer as node_answer}
+use Rattle.vc_node.specs.declared.awaited.Awaited.{Awaited as Waiting}
 use Rattle.vc_node.specs.declared.clone_fault.CloneFault.{CloneFault}
 use Rattle.vc_node.specs.declared.fault.NodeFault.{NodeFault}
 use Rattle.vc_node.specs.declared.exchanging.Received.{Received}
@@ -71,3 +74,18 @@ MayOr call waits was_up old IsLook = (awaited : Awaited) (n : CloneNode) → IsA
 -- of a node that is up, whatever state it is in then
 abbrev pub AnswersUp : CloneCall → Result Received CloneFault → FileMap → FileMap → AwaitedText → AwaitedText → Type 0
 AnswersUp call result old new waits after = (was_up is_up : Bool) → was_up ≡ true → is_up ≡ up_after result → AnswersClone call (ReceivedAs result) old new waits after was_up is_up
+
+-- ---- over files, and what is awaited as it lies in memory
+
+abbrev pub AnswersTaken : {F : Type 0} → (F → FileMap) → CloneCall → Result Received CloneFault → F → F → Waiting → Waiting → Type 0
+AnswersTaken content call result old new awaited after = AnswersUp call result (content old) (content new) (awaited_text awaited) (awaited_text after)
+
+abbrev pub MayTaken : {F : Type 0} → (F → FileMap) → CloneCall → F → Waiting → Type 0 → Type 0
+MayTaken content call old awaited IsLook = MayOr call (awaited_text awaited) true (content old) IsLook
+
+-- the message of this text is taken
+abbrev pub TakesMessage : {F : Type 0} → (F → FileMap) → MessageText → Result Received CloneFault → F → F → Waiting → Waiting → Type 0
+TakesMessage content text result old new awaited after = (m : Message) → TextOf m text → AnswersTaken content (Receive m) result old new awaited after
+
+abbrev pub MayTake : {F : Type 0} → (F → FileMap) → MessageText → F → Waiting → Type 0 → Type 0
+MayTake content text old awaited IsLook = (m : Message) → TextOf m text → MayTaken content (Receive m) old awaited IsLook

@@ -1,3 +1,4 @@
+pub mod Adding
 pub mod Arriving
 pub mod Awaited
 pub mod Blames
@@ -12,6 +13,7 @@ pub mod Held
 pub mod IndexFile
 pub mod Machine
 pub mod Making
+pub mod Node
 pub mod NodeFault
 pub mod Opening
 pub mod Printed

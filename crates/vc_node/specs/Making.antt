@@ -1,7 +1,7 @@
 -- What refuses a commit, in its order, and what one leaves that ended early.
-use Rattle.std.specs.Prelude.{◌≡◌, ◌⊎◌, ℕ, List, [], ◌∷◌, Some, None, true, is_some, string_bytes, Contains}
+use Rattle.std.specs.Prelude.{◌≡◌, ◌⊎◌, ℕ, List, [], ◌∷◌, Some, None, true, is_some, string_bytes, Contains, codes}
 use Rattle.std.specs.List.{AllByRecursion}
-use Rattle.vc_files.specs.FileMap.{FileMap}
+use Rattle.vc_files.specs.FileMap.{FileMap, SameOutside}
 use Rattle.vc_index.specs.FolderTrees.{AllFit, AreIndexTrees}
 use Rattle.vc_index.specs.IndexMap.{IndexMap}
 use Rattle.vc_index.specs.WrittenTrees.{HasTooLarge, IsBegun, IsWritten}
@@ -28,6 +28,7 @@ use Rattle.vc_node.specs.Commit.{IsGoodParent, IsFreeHead, WritesCommit, made_bo
 use Rattle.vc_node.specs.GoodCommit.{BlamesCommit}
 use Rattle.vc_node.specs.IndexFile.{SpellsIndex, BlamesIndex}
 use Rattle.vc_node.specs.Shown.{shown, with_objects_shown}
+use Rattle.vc_node.specs.declared.commit.Words.{Words}
 use Rattle.vc_node.specs.declared.fault.NodeFault.{NodeFault}
 use Rattle.vc_node.specs.declared.fault.NodeFault.TheVariants.{Store, Ref}
 
@@ -139,6 +140,21 @@ pub record IsCut (old : FileMap) (extra : List ObjectId) (author committer messa
 -- what a commit leaves that ended early: all as it was, or a cut
 abbrev pub LeftByCommit : FileMap → List ObjectId → (author committer message : List ℕ) → FileMap → Type 0
 LeftByCommit old extra author committer message new = (new ≡ old) ⊎ IsCut old extra author committer message new
+
+-- ---- with what it says as one value
+
+abbrev pub MayMakeSaid : FileMap → List ObjectId → Words → Type 0
+MayMakeSaid content extra words = MayMake content extra words.author.now words.committer.now words.message.now
+
+abbrev pub WritesSaid : Type 0 → IndexMap → List ObjectId → Words → ObjectMap → ObjectMap → ObjectId → Type 0
+WritesSaid honest m parents words old new id = WritesCommit honest m parents words.author.now words.committer.now words.message.now old new id
+
+-- it ended early, and nothing but files of objects was written
+pub record LeavesSaid (old : FileMap) (extra : List ObjectId) (words : Words) (new : FileMap) : Type 0 where
+  pub left : LeftByCommit old extra words.author.now words.committer.now words.message.now new
+  pub outside : SameOutside (codes "objects/") old new
+
+-- ---- HEAD
 
 -- HEAD's branch is not set for what stands in its way or for its own file, and a detached HEAD for a fault alone
 abbrev pub BlamesMoving : FileMap → Head → NodeFault → Type 0

@@ -16,6 +16,10 @@ pub record IsOpenable (content : FileMap) (r : Repository) : Type 0 where
   pub spells : Spells (opened (head_of content) (shown content)) r
   pub clean : IsClean content
 
+-- so it is of each repository that the files are opened as
+abbrev pub OpenableAs : FileMap → (Repository → Type 0) → Type 0
+OpenableAs content IsSo = (r : Repository) → IsOpenable content r → IsSo r
+
 -- a clone that has just been opened
 abbrev pub opened_node : Repository → CloneNode
 opened_node r = record { repository = r; live = Some Nothing }

@@ -25,6 +25,7 @@ use Rattle.vc_node.specs.IndexFile.{SpellsIndex}
 use Rattle.vc_node.specs.Making.{HasRoot}
 use Rattle.vc_node.specs.declared.fault.NodeFault.{NodeFault}
 use Rattle.vc_node.specs.declared.fault.NodeFault.TheVariants.{Store, Ref}
+use Rattle.vc_node.specs.declared.commit.Words.{Words}
 
 -- no file
 abbrev pub NoneRead : {X : Type 0} → X → Type 0
@@ -87,3 +88,6 @@ IsMade m parents author committer message id =
 abbrev pub IsOfCommit : FileMap → List ObjectId → (author committer message : List ℕ) → ObjectId → Type 0
 IsOfCommit content extra author committer message id =
     IsReachedByOne content extra id ⊎ ((m : IndexMap) × SpellsIndex content m × IsMade m (parents_of_commit content extra) author committer message id)
+
+abbrev pub IsOfSaid : FileMap → List ObjectId → Words → ObjectId → Type 0
+IsOfSaid content extra words id = IsOfCommit content extra words.author.now words.committer.now words.message.now id

@@ -7,6 +7,7 @@ use Rattle.vc_index.specs.IndexText.{index_text}
 use Rattle.vc_index.specs.Loading.{HasBlobs}
 use Rattle.vc_index.specs.TreeFiles.{IsFileOfTree}
 use Rattle.vc_index.specs.TreeReading.{ReadsAs}
+use Rattle.vc_object.specs.Decoding.{StoredObject}
 use Rattle.vc_object.specs.ObjectMap.{ObjectMap}
 use Rattle.vc_object.specs.declared.id.ObjectId.{ObjectId}
 use Rattle.vc_object.specs.declared.mode.Mode.{Mode}
@@ -15,7 +16,7 @@ use Rattle.vc_refs.specs.Refs.{refs, ChangesOnly}
 use Rattle.vc_refs.specs.Head.{head_of}
 use Rattle.vc_refs.specs.declared.heads.Head.{Head}
 use Rattle.vc_refs.specs.declared.heads.Head.TheVariants as heads
-use Rattle.vc_store.specs.Store.{objects}
+use Rattle.vc_store.specs.Store.{objects, with_object}
 use Rattle.vc_node.specs.IndexFile.{index_bytes, SpellsIndex}
 
 -- objects by name, refs, HEAD, and the text of the index
@@ -41,6 +42,13 @@ with_head_shown s head = record s { head = Some head }
 abbrev pub with_index_shown : Shown → List ℕ → Shown
 with_index_shown s text = record s { index = text }
 
+-- the object is there, the index is this, and the rest is as before
+abbrev pub HasObject : FileMap → ObjectId → StoredObject → FileMap → Type 0
+HasObject old id object new = shown new ≡ with_objects_shown (shown old) (with_object (objects old) id object)
+
+abbrev pub HasIndex : FileMap → IndexMap → FileMap → Type 0
+HasIndex old m new = shown new ≡ with_index_shown (shown old) (index_text m)
+
 -- the tree is read as the index, each of whose files has its blob, and the rest is as before
 pub record IsLoaded (old : FileMap) (id : ObjectId) (new : FileMap) : Type 0 where
   pub index : IndexMap
@@ -48,7 +56,7 @@ pub record IsLoaded (old : FileMap) (id : ObjectId) (new : FileMap) : Type 0 whe
   pub blobs : HasBlobs (objects old) index
   pub reads : ReadsAs (objects old) id (Ok index)
   pub sound : IsIndex index
-  pub is : shown new ≡ with_index_shown (shown old) (index_text index)
+  pub is : HasIndex old index new
 
 -- a HEAD that names no branch yet that is there
 abbrev pub main_head : Head

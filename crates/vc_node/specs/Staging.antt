@@ -1,5 +1,5 @@
 -- Many files that are put into the index at once: the machine stages one after the other.
-use Rattle.std.specs.Prelude.{◌≡◌, ◌≢◌, ◌⊎◌, ℕ, Bool, List, [], ◌∷◌, IsSome, None}
+use Rattle.std.specs.Prelude.{◌≡◌, ◌≢◌, ◌⊎◌, ℕ, Bool, List, [], ◌∷◌, IsSome, None, map}
 use Rattle.std.specs.FinMap.{get, insert}
 use Rattle.vc_files.specs.FileMap.{FileMap}
 use Rattle.vc_index.specs.IndexFault.{IsOfAdd}
@@ -23,7 +23,7 @@ use Rattle.vc_rules.specs.Git.{git, mode_number}
 use Rattle.vc_rules.proofs.GitLaws.{git_rules}
 use Rattle.vc_store.specs.StoreFault.{IsFault as IsStoreFault}
 use Rattle.vc_node.specs.Machine.{HoldsNode, ShowsNode}
-use Rattle.vc_node.specs.Shown.{Shown}
+use Rattle.vc_node.specs.Shown.{HasIndex, Shown}
 use Rattle.vc_node.specs.declared.fault.NodeFault.{NodeFault}
 use Rattle.vc_node.specs.declared.fault.NodeFault.TheVariants.{Store, BadPath, PathConflict}
 use Rattle.vc_node.specs.declared.staging.Staged.{Staged}
@@ -34,6 +34,9 @@ use Rattle.vc_node.specs.declared.staging.Staged.{Staged}
 abbrev pub placed : Staged → List ℕ × IndexEntry
 placed s = (s.path.items, index_entry s.mode s.id)
 
+abbrev pub places : List Staged → List (List ℕ × IndexEntry)
+places staged = map placed staged
+
 -- the index with these put into it, one after the other
 abbrev pub with_all : IndexMap → List (List ℕ × IndexEntry) → IndexMap
 with_all m [] = m
@@ -43,6 +46,11 @@ with_all m (e ∷ es) = with_all (insert m e.0 e.1) es
 abbrev pub MayStandAll : IndexMap → List (List ℕ × IndexEntry) → Type 0
 MayStandAll m [] = Unit {0}
 MayStandAll m (e ∷ es) = IsPath e.0 × (¬ HasConflict m e.0) × MayStandAll (insert m e.0 e.1) es
+
+-- each may stand there, they are put into the index, and the rest is as before
+pub record AreStaged (old : FileMap) (m : IndexMap) (es : List (List ℕ × IndexEntry)) (new : FileMap) : Type 0 where
+  pub may : MayStandAll m es
+  pub is : HasIndex old (with_all m es) new
 
 -- those before one may stand there, and that one is refused so
 abbrev pub RefusesFirst : IndexMap → List (List ℕ × IndexEntry) → IndexFault → Type 0

@@ -1,16 +1,13 @@
 // A message that a reader brings to a clone, whose objects go into the quarantine as they come.
-ghost use Rattle.std.specs.Prelude.{◌≡◌, ◌≤◌, ℕ, List, Option, Err, IfErr, IfNone, IfOk, OnErr, OnOk, true};
-ghost use Rattle.vc_pack.specs.Reached.{KeepsObjects};
-ghost use Rattle.vc_exchange.specs.Moving.{told_in};
+ghost use Rattle.std.specs.Prelude.{◌≡◌, ◌≤◌, Err, IfErr, IfNone, IfOk, OnErr, OnOk, true};
 ghost use Rattle.vc_exchange.specs.Quarantined.{KeepsOthers};
 ghost use Rattle.vc_files.specs.FileMap.{SameOutside};
 ghost use Rattle.vc_files.specs.Failures.{Writes};
-ghost use Rattle.vc_message.specs.Streaming.{TakesHead};
-ghost use Rattle.vc_object.specs.declared.id.ObjectId.{ObjectId as Id};
 ghost use Rattle.vc_session.specs.Clean.{MakesNoneBad};
 ghost use Rattle.vc_session.specs.Quarantine.{IsDropped, quarantine_folder};
-ghost use Rattle.vc_node.specs.Arriving.{Arrives, BeginsPack, ComesTo, IsPackLeft, IsPackTaken, IsStopped, KeepsHeld, ReceivesUp, down_told, some_told};
+ghost use Rattle.vc_node.specs.Arriving.{Arrives, Comes, FromPack, FromStart, IsStopped, KeepsHeld, LeavesPack, ReceivesUp, TakesPack, down_told, some_told};
 ghost use Rattle.vc_node.specs.Awaited.{awaited_text};
+ghost use Rattle.vc_node.specs.Clean.{KeepsGood};
 ghost use Rattle.vc_node.specs.ReceiveFault.{TellsDevice, UnlessFault};
 
 use crate::awaited::Awaited;
@@ -35,8 +32,8 @@ fn arrive<F: Files, R: Read>(
     mut taken: Taken,
 ) -> Result<Arriving, ReceiveFault>
     requires few { taken.lines ≤ taken.bytes }
-    ensures arrived { IfOk result (λ arrived. (before : Option (List ℕ)) (ack : Option Id) → BeginsPack before (R.remaining reader.old) taken.bytes taken.lines ack → Arrives F.honest before (R.remaining reader.new) (F.content files.new) arrived.names.keys) }
-    ensures stopped { IfErr result (λ e. (before : Option (List ℕ)) (ack : Option Id) → BeginsPack before (R.remaining reader.old) taken.bytes taken.lines ack → IsStopped before (R.remaining reader.new) e) }
+    ensures arrived { IfOk result (λ arrived. FromPack (R.remaining reader.old) taken (λ before. Arrives F.honest before (R.remaining reader.new) (F.content files.new) arrived.names.keys)) }
+    ensures stopped { IfErr result (λ e. FromPack (R.remaining reader.old) taken (λ before. IsStopped before (R.remaining reader.new) e)) }
     ensures outside { F.honest → SameOutside (quarantine_folder 0) (F.content files.old) (F.content files.new) }
     ensures bad { F.honest → MakesNoneBad (F.content files.old) (F.content files.new) }
     ensures wear { Writes F.honest F.content F.failed F.can_fail F.left files.old files.new (TellsDevice result) }
@@ -65,12 +62,11 @@ fn take_awaited<F: Files, R: Read>(
     taken: Taken,
 ) -> Result<Moves, ReceiveFault>
     requires few { taken.lines ≤ taken.bytes }
-    ensures taken { IfOk result (λ moves. (before : Option (List ℕ)) (ack : Option Id) → BeginsPack before (R.remaining reader.old) taken.bytes taken.lines ack → IsPackTaken F.honest before (R.remaining reader.new) (F.content files.old) (F.content files.new) wants.now (told_in told.now) moves) }
-    ensures left { IfErr result (λ e. (before : Option (List ℕ)) (ack : Option Id) → BeginsPack before (R.remaining reader.old) taken.bytes taken.lines ack → IsPackLeft F.honest before (R.remaining reader.new) (F.content files.old) (F.content files.new) wants.now (told_in told.now) e) }
+    ensures taken { IfOk result (λ moves. FromPack (R.remaining reader.old) taken (TakesPack F.honest F.content (R.remaining reader.new) files.old files.new wants.now told.now moves)) }
+    ensures left { IfErr result (λ e. FromPack (R.remaining reader.old) taken (LeavesPack F.honest F.content (R.remaining reader.new) files.old files.new wants.now told.now e)) }
     ensures dropped { F.honest → OnOk result (IsDropped 0 (F.content files.new)) }
     ensures beside { F.honest → KeepsOthers (F.content files.old) (F.content files.new) }
-    ensures objects { F.honest → KeepsObjects (F.content files.old) (F.content files.new) }
-    ensures bad { F.honest → MakesNoneBad (F.content files.old) (F.content files.new) }
+    ensures good { F.honest → KeepsGood (F.content files.old) (F.content files.new) }
     ensures wear { Writes F.honest F.content F.failed F.can_fail F.left files.old files.new (TellsDevice result) }
 {
     let arrived = arrive(alloc, files, reader, taken)?;
@@ -88,12 +84,11 @@ fn take_pack<F: Files, R: Read>(
     taken: Taken,
 ) -> Result<Received, ReceiveFault>
     requires few { taken.lines ≤ taken.bytes }
-    ensures comes { (before : Option (List ℕ)) (ack : Option Id) → BeginsPack before (R.remaining reader.old) taken.bytes taken.lines ack → ComesTo F.honest before (R.remaining reader.new) (F.content files.old) (F.content files.new) (awaited_text awaited.old) (awaited_text awaited.new) result }
+    ensures comes { FromPack (R.remaining reader.old) taken (Comes F.honest F.content (R.remaining reader.new) files.old files.new awaited.old awaited.new result) }
     ensures unchanged { OnErr result (awaited_text awaited.new ≡ awaited_text awaited.old) }
     ensures cleared { F.honest → UnlessFault result (IsDropped 0 (F.content files.old) → IsDropped 0 (F.content files.new)) }
     ensures beside { F.honest → KeepsOthers (F.content files.old) (F.content files.new) }
-    ensures objects { F.honest → KeepsObjects (F.content files.old) (F.content files.new) }
-    ensures bad { F.honest → MakesNoneBad (F.content files.old) (F.content files.new) }
+    ensures good { F.honest → KeepsGood (F.content files.old) (F.content files.new) }
     ensures wear { Writes F.honest F.content F.failed F.can_fail F.left files.old files.new (TellsDevice result) }
 {
     let Awaited::Pack(wants, refs) = awaited else {
@@ -129,12 +124,11 @@ pub(crate) fn take_rest<F: Files, R: Read>(
     taken: Taken,
 ) -> Result<Received, ReceiveFault>
     requires few { taken.lines ≤ taken.bytes }
-    ensures comes { (before : Option (List ℕ)) → TakesHead before (R.remaining reader.old) head taken.bytes taken.lines → ComesTo F.honest before (R.remaining reader.new) (F.content files.old) (F.content files.new) (awaited_text awaited.old) (awaited_text awaited.new) result }
+    ensures comes { FromStart (R.remaining reader.old) head taken (Comes F.honest F.content (R.remaining reader.new) files.old files.new awaited.old awaited.new result) }
     ensures unchanged { OnErr result (awaited_text awaited.new ≡ awaited_text awaited.old) }
     ensures cleared { F.honest → UnlessFault result (IsDropped 0 (F.content files.old) → IsDropped 0 (F.content files.new)) }
     ensures beside { F.honest → KeepsOthers (F.content files.old) (F.content files.new) }
-    ensures objects { F.honest → KeepsObjects (F.content files.old) (F.content files.new) }
-    ensures bad { F.honest → MakesNoneBad (F.content files.old) (F.content files.new) }
+    ensures good { F.honest → KeepsGood (F.content files.old) (F.content files.new) }
     ensures wear { Writes F.honest F.content F.failed F.can_fail F.left files.old files.new (TellsDevice result) }
 {
     match head {
@@ -174,8 +168,7 @@ pub(crate) fn take_next<F: Files, R: Read>(
     ensures unchanged { OnErr result (awaited_text awaited.new ≡ awaited_text awaited.old) }
     ensures cleared { F.honest → UnlessFault result (IsDropped 0 (F.content files.old) → IsDropped 0 (F.content files.new)) }
     ensures beside { F.honest → KeepsOthers (F.content files.old) (F.content files.new) }
-    ensures objects { F.honest → KeepsObjects (F.content files.old) (F.content files.new) }
-    ensures bad { F.honest → MakesNoneBad (F.content files.old) (F.content files.new) }
+    ensures good { F.honest → KeepsGood (F.content files.old) (F.content files.new) }
     ensures wear { Writes F.honest F.content F.failed F.can_fail F.left files.old files.new (TellsDevice result) }
 {
     let Some(found) = read_head(alloc, reader)? else {

@@ -7,11 +7,11 @@ ghost use Rattle.vc_object.specs.Lines.{id_line, line};
 ghost use Rattle.vc_refs.specs.Head.{IsHeadInRefs, head_of};
 ghost use Rattle.vc_store.specs.Store.{objects};
 ghost use Rattle.vc_node.specs.Clean.{KeepsClean};
-ghost use Rattle.vc_node.specs.Commit.{IsGoodParent, IsFreeHead, IsCommitted, WritesCommit, made_body, moved, parents_of_commit};
+ghost use Rattle.vc_node.specs.Commit.{IsGoodParent, IsFreeHead, IsCommitted, made_body, moved, parents_of_commit};
 ghost use Rattle.vc_node.specs.IndexFile.{SpellsIndex};
-ghost use Rattle.vc_node.specs.Making.{AreLines, BlamesLines, BlamesFreeHead, BlamesParents, BlamesLook, BlamesObjects, BlamesMaking, BlamesMoving, LeftByCommit, MayMake, StoresTrees};
+ghost use Rattle.vc_node.specs.Making.{AreLines, BlamesFreeHead, BlamesLines, BlamesLook, BlamesMaking, BlamesMoving, BlamesObjects, BlamesParents, LeavesSaid, MayMakeSaid, StoresTrees, WritesSaid};
 ghost use Rattle.vc_node.specs.NodeFault.{TellsDevice};
-ghost use Rattle.vc_node.specs.Reads.{IsAtBranch, IsAtHead, IsMade, IsOfCommit, IsReachedByOne, NoneRead, TellsRead};
+ghost use Rattle.vc_node.specs.Reads.{IsAtBranch, IsAtHead, IsMade, IsOfSaid, IsReachedByOne, NoneRead, TellsRead};
 ghost use Rattle.vc_node.specs.Shown.{shown};
 
 use crate::NodeFault;
@@ -157,7 +157,7 @@ fn write_objects<F: Files>(
 ) -> Result<ObjectId, NodeFault>
     ensures refused { IfErr result (BlamesObjects F.honest (F.content files.old) index.now parents.now words.entry.author.now words.entry.committer.now words.entry.message.now) }
     ensures left { OnErr result (StoresTrees F.honest index.now (objects (F.content files.old)) (objects (F.content files.new))) }
-    ensures written { IfOk result (WritesCommit F.honest index.now parents.now words.entry.author.now words.entry.committer.now words.entry.message.now (objects (F.content files.old)) (objects (F.content files.new))) }
+    ensures written { IfOk result (WritesSaid F.honest index.now parents.now words.entry (objects (F.content files.old)) (objects (F.content files.new))) }
     ensures outside { F.honest → SameOutside (codes "objects/") (F.content files.old) (F.content files.new) }
     ensures clean { F.honest → KeepsClean (F.content files.old) (F.content files.new) }
     ensures file { IfErr result (TellsRead (IsMade index.now parents.now words.entry.author.now words.entry.committer.now words.entry.message.now) NoneRead) }
@@ -210,12 +210,11 @@ pub(crate) fn commit<F: Files>(
     ensures committed { F.honest → IfOk result (λ id. IsCommitted (F.content files.old) extra.now words.entry.author.now words.entry.committer.now words.entry.message.now id (F.content files.new)) }
     ensures lines { OnOk result (AreLines words.entry.author.now words.entry.committer.now) }
     ensures refused { F.honest → IfErr result (BlamesMaking (F.content files.old) extra.now words.entry.author.now words.entry.committer.now words.entry.message.now) }
-    ensures left { F.honest → OnErr result (LeftByCommit (F.content files.old) extra.now words.entry.author.now words.entry.committer.now words.entry.message.now (F.content files.new)) }
-    ensures err { F.honest → OnErr result (SameOutside (codes "objects/") (F.content files.old) (F.content files.new)) }
+    ensures left { F.honest → OnErr result (LeavesSaid (F.content files.old) extra.now words.entry (F.content files.new)) }
     ensures clean { F.honest → KeepsClean (F.content files.old) (F.content files.new) }
-    ensures file { F.honest → IfErr result (TellsRead (IsOfCommit (F.content files.old) extra.now words.entry.author.now words.entry.committer.now words.entry.message.now) (IsAtHead (F.content files.old))) }
+    ensures file { F.honest → IfErr result (TellsRead (IsOfSaid (F.content files.old) extra.now words.entry) (IsAtHead (F.content files.old))) }
     ensures wear { Writes F.honest F.content F.failed F.can_fail F.left files.old files.new (TellsDevice result) }
-    ensures looks { F.honest → MayMake (F.content files.old) extra.now words.entry.author.now words.entry.committer.now words.entry.message.now ⊎ Wears F.failed F.can_fail F.left files.old files.new (TellsDevice result) }
+    ensures looks { F.honest → MayMakeSaid (F.content files.old) extra.now words.entry ⊎ Wears F.failed F.can_fail F.left files.old files.new (TellsDevice result) }
 {
     refuse_lines(words)?;
     let head = free_head(alloc, files)?;

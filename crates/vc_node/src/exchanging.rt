@@ -1,20 +1,19 @@
 // What a clone makes of a message that it awaits.
-ghost use Rattle.std.specs.Prelude.{◌≡◌, ℕ, IfErr, OnErr, true};
-ghost use Rattle.vc_pack.specs.Reached.{KeepsObjects};
+ghost use Rattle.std.specs.Prelude.{◌≡◌, ℕ, IfErr, OnErr};
 ghost use Rattle.vc_exchange.specs.Storing.{KeepsBeside};
 ghost use Rattle.vc_files.specs.Failures.{Wears, Writes};
 ghost use Rattle.vc_fetch.specs.AdvertView.{advert_text};
 ghost use Rattle.vc_fetch.specs.PackView.{pack_text};
 ghost use Rattle.vc_message.specs.AnyMessage.{a_pack, a_report, an_advert};
 ghost use Rattle.vc_message.specs.AnyView.{message_text};
-ghost use Rattle.vc_message.specs.Machine.{IsUnread, Reads, TextOf};
+ghost use Rattle.vc_message.specs.Machine.{IsUnread, Reads};
 ghost use Rattle.vc_model.specs.CloneCall.CloneCall.{Asks, Receive};
 ghost use Rattle.vc_model.specs.Message.{Message as Sent};
 ghost use Rattle.vc_model.specs.Question.Question.{Unread};
 ghost use Rattle.vc_push.specs.ReportView.{report_text};
-ghost use Rattle.vc_session.specs.Clean.{MakesNoneBad};
 ghost use Rattle.vc_node.specs.Awaited.{awaited_text};
-ghost use Rattle.vc_node.specs.CloneCalls.{AnswersUp, MayOr};
+ghost use Rattle.vc_node.specs.Clean.{KeepsGood};
+ghost use Rattle.vc_node.specs.CloneCalls.{AnswersTaken, MayTake, MayTaken, TakesMessage};
 ghost use Rattle.vc_node.specs.CloneFaults.{TellsDevice};
 ghost use Rattle.vc_node.specs.Receipts.{IsOfMessage, IsRefusedBytes, IsRefusedMessage};
 
@@ -45,15 +44,14 @@ fn take_advert<F: Files>(
     awaited: &mut Awaited,
     advert: Advert,
 ) -> Result<Received, CloneFault>
-    ensures answers { F.honest → (m : Sent) → TextOf m (an_advert (advert_text advert)) → AnswersUp (Receive m) result (F.content files.old) (F.content files.new) (awaited_text awaited.old) (awaited_text awaited.new) }
+    ensures answers { F.honest → TakesMessage F.content (an_advert (advert_text advert)) result files.old files.new awaited.old awaited.new }
     ensures unchanged { OnErr result (awaited_text awaited.new ≡ awaited_text awaited.old) }
     ensures refused { F.honest → IfErr result (IsRefusedMessage (F.content files.old) (awaited_text awaited.old) (an_advert (advert_text advert))) }
     ensures kept { F.honest → IfErr result (λ e. IsOfMessage e → F.content files.new ≡ F.content files.old) }
-    ensures objects { F.honest → KeepsObjects (F.content files.old) (F.content files.new) }
     ensures beside { F.honest → KeepsBeside (F.content files.old) (F.content files.new) }
-    ensures bad { F.honest → MakesNoneBad (F.content files.old) (F.content files.new) }
+    ensures good { F.honest → KeepsGood (F.content files.old) (F.content files.new) }
     ensures wear { Writes F.honest F.content F.failed F.can_fail F.left files.old files.new (TellsDevice result) }
-    ensures looks { F.honest → (m : Sent) → TextOf m (an_advert (advert_text advert)) → MayOr (Receive m) (awaited_text awaited.old) true (F.content files.old) (Wears F.failed F.can_fail F.left files.old files.new (TellsDevice result)) }
+    ensures looks { F.honest → MayTake F.content (an_advert (advert_text advert)) files.old awaited.old (Wears F.failed F.can_fail F.left files.old files.new (TellsDevice result)) }
 {
     let Awaited::Advert = awaited else {
         return Err(CloneFault::Unexpected);
@@ -80,15 +78,14 @@ fn take_pack<F: Files>(
     awaited: &mut Awaited,
     pack: &Pack,
 ) -> Result<Received, CloneFault>
-    ensures answers { F.honest → (m : Sent) → TextOf m (a_pack (pack_text pack.now)) → AnswersUp (Receive m) result (F.content files.old) (F.content files.new) (awaited_text awaited.old) (awaited_text awaited.new) }
+    ensures answers { F.honest → TakesMessage F.content (a_pack (pack_text pack.now)) result files.old files.new awaited.old awaited.new }
     ensures unchanged { OnErr result (awaited_text awaited.new ≡ awaited_text awaited.old) }
     ensures refused { F.honest → IfErr result (IsRefusedMessage (F.content files.old) (awaited_text awaited.old) (a_pack (pack_text pack.now))) }
     ensures kept { F.honest → IfErr result (λ e. IsOfMessage e → F.content files.new ≡ F.content files.old) }
-    ensures objects { F.honest → KeepsObjects (F.content files.old) (F.content files.new) }
     ensures beside { F.honest → KeepsBeside (F.content files.old) (F.content files.new) }
-    ensures bad { F.honest → MakesNoneBad (F.content files.old) (F.content files.new) }
+    ensures good { F.honest → KeepsGood (F.content files.old) (F.content files.new) }
     ensures wear { Writes F.honest F.content F.failed F.can_fail F.left files.old files.new (TellsDevice result) }
-    ensures looks { F.honest → (m : Sent) → TextOf m (a_pack (pack_text pack.now)) → MayOr (Receive m) (awaited_text awaited.old) true (F.content files.old) (Wears F.failed F.can_fail F.left files.old files.new (TellsDevice result)) }
+    ensures looks { F.honest → MayTake F.content (a_pack (pack_text pack.now)) files.old awaited.old (Wears F.failed F.can_fail F.left files.old files.new (TellsDevice result)) }
 {
     let Awaited::Pack(wants, refs) = awaited else {
         return Err(CloneFault::Unexpected);
@@ -108,15 +105,14 @@ pub(crate) fn take_report<F: Files>(
     awaited: &mut Awaited,
     report: &Report,
 ) -> Result<Received, CloneFault>
-    ensures answers { F.honest → (m : Sent) → TextOf m (a_report (report_text report.now)) → AnswersUp (Receive m) result (F.content files.old) (F.content files.new) (awaited_text awaited.old) (awaited_text awaited.new) }
+    ensures answers { F.honest → TakesMessage F.content (a_report (report_text report.now)) result files.old files.new awaited.old awaited.new }
     ensures unchanged { OnErr result (awaited_text awaited.new ≡ awaited_text awaited.old) }
     ensures refused { F.honest → IfErr result (IsRefusedMessage (F.content files.old) (awaited_text awaited.old) (a_report (report_text report.now))) }
     ensures kept { F.honest → IfErr result (λ e. IsOfMessage e → F.content files.new ≡ F.content files.old) }
-    ensures objects { F.honest → KeepsObjects (F.content files.old) (F.content files.new) }
     ensures beside { F.honest → KeepsBeside (F.content files.old) (F.content files.new) }
-    ensures bad { F.honest → MakesNoneBad (F.content files.old) (F.content files.new) }
+    ensures good { F.honest → KeepsGood (F.content files.old) (F.content files.new) }
     ensures wear { Writes F.honest F.content F.failed F.can_fail F.left files.old files.new (TellsDevice result) }
-    ensures looks { F.honest → (m : Sent) → TextOf m (a_report (report_text report.now)) → MayOr (Receive m) (awaited_text awaited.old) true (F.content files.old) (Wears F.failed F.can_fail F.left files.old files.new (TellsDevice result)) }
+    ensures looks { F.honest → MayTake F.content (a_report (report_text report.now)) files.old awaited.old (Wears F.failed F.can_fail F.left files.old files.new (TellsDevice result)) }
 {
     let told = receive_report(files, alloc, report)?;
     Ok(Received::Reported {
@@ -132,15 +128,14 @@ pub(crate) fn take<F: Files>(
     awaited: &mut Awaited,
     message: Message,
 ) -> Result<Received, CloneFault>
-    ensures answers { F.honest → (m : Sent) → TextOf m (message_text message) → AnswersUp (Receive m) result (F.content files.old) (F.content files.new) (awaited_text awaited.old) (awaited_text awaited.new) }
+    ensures answers { F.honest → TakesMessage F.content (message_text message) result files.old files.new awaited.old awaited.new }
     ensures unchanged { OnErr result (awaited_text awaited.new ≡ awaited_text awaited.old) }
     ensures refused { F.honest → IfErr result (IsRefusedMessage (F.content files.old) (awaited_text awaited.old) (message_text message)) }
     ensures kept { F.honest → IfErr result (λ e. IsOfMessage e → F.content files.new ≡ F.content files.old) }
-    ensures objects { F.honest → KeepsObjects (F.content files.old) (F.content files.new) }
     ensures beside { F.honest → KeepsBeside (F.content files.old) (F.content files.new) }
-    ensures bad { F.honest → MakesNoneBad (F.content files.old) (F.content files.new) }
+    ensures good { F.honest → KeepsGood (F.content files.old) (F.content files.new) }
     ensures wear { Writes F.honest F.content F.failed F.can_fail F.left files.old files.new (TellsDevice result) }
-    ensures looks { F.honest → (m : Sent) → TextOf m (message_text message) → MayOr (Receive m) (awaited_text awaited.old) true (F.content files.old) (Wears F.failed F.can_fail F.left files.old files.new (TellsDevice result)) }
+    ensures looks { F.honest → MayTake F.content (message_text message) files.old awaited.old (Wears F.failed F.can_fail F.left files.old files.new (TellsDevice result)) }
 {
     match message {
         Message::Advert(advert) => take_advert(alloc, files, awaited, advert),
@@ -160,15 +155,14 @@ pub(crate) fn receive<F: Files>(
     awaited: &mut Awaited,
     bytes: &[u8],
 ) -> Result<Received, CloneFault>
-    ensures answers { F.honest → (m : Sent) → Reads bytes.now m → AnswersUp (Receive m) result (F.content files.old) (F.content files.new) (awaited_text awaited.old) (awaited_text awaited.new) }
-    ensures unread { F.honest → (n : ℕ) → IsUnread bytes.now n → AnswersUp (Asks (Unread n)) result (F.content files.old) (F.content files.new) (awaited_text awaited.old) (awaited_text awaited.new) }
+    ensures answers { F.honest → (m : Sent) → Reads bytes.now m → AnswersTaken F.content (Receive m) result files.old files.new awaited.old awaited.new }
+    ensures unread { F.honest → (n : ℕ) → IsUnread bytes.now n → AnswersTaken F.content (Asks (Unread n)) result files.old files.new awaited.old awaited.new }
     ensures unchanged { OnErr result (awaited_text awaited.new ≡ awaited_text awaited.old) }
     ensures refused { F.honest → IfErr result (IsRefusedBytes (F.content files.old) (awaited_text awaited.old) bytes.now) }
     ensures kept { F.honest → IfErr result (λ e. IsOfMessage e → F.content files.new ≡ F.content files.old) }
-    ensures objects { F.honest → KeepsObjects (F.content files.old) (F.content files.new) }
-    ensures bad { F.honest → MakesNoneBad (F.content files.old) (F.content files.new) }
+    ensures good { F.honest → KeepsGood (F.content files.old) (F.content files.new) }
     ensures wear { Writes F.honest F.content F.failed F.can_fail F.left files.old files.new (TellsDevice result) }
-    ensures looks { F.honest → (m : Sent) → Reads bytes.now m → MayOr (Receive m) (awaited_text awaited.old) true (F.content files.old) (Wears F.failed F.can_fail F.left files.old files.new (TellsDevice result)) }
+    ensures looks { F.honest → (m : Sent) → Reads bytes.now m → MayTaken F.content (Receive m) files.old awaited.old (Wears F.failed F.can_fail F.left files.old files.new (TellsDevice result)) }
 {
     let message = Message::read(alloc, bytes)?;
     take(alloc, files, awaited, message)

@@ -1,29 +1,27 @@
 // What the local commands do to files: each looks for what refuses it before it writes, and writes an object before what
 // names it.
-ghost use Rattle.std.specs.Prelude.{◌≡◌, ◌≢◌, ◌⊎◌, IfOk, IfErr, OnOk, OnErr, IsOk, codes, true};
+ghost use Rattle.std.specs.Prelude.{◌≡◌, ◌≢◌, ◌⊎◌, IfOk, IfErr, OnOk, OnErr, IsOk, true};
 ghost use Rattle.std.specs.FinMap as paths;
 ghost use Rattle.vc_pack.specs.Reached.{KeepsObjects};
 ghost use Rattle.vc_files.specs.Failures.{Wears, Writes};
-ghost use Rattle.vc_files.specs.FileMap.{SameOutside};
-ghost use Rattle.vc_index.specs.IndexMap.{IndexMap, index_entry};
-ghost use Rattle.vc_index.specs.IndexText.{index_text};
+ghost use Rattle.vc_index.specs.IndexMap.{IndexMap};
 ghost use Rattle.vc_object.specs.Decoding.{stored_object};
 ghost use Rattle.vc_object.specs.Object.{object_name, IsObject};
 ghost use Rattle.vc_refs.specs.RefMap.{IsInRefs, is_ref, with_ref, without_ref};
 ghost use Rattle.vc_refs.specs.Refs.{refs};
 ghost use Rattle.vc_refs.specs.Obstacle.{IsFree};
-ghost use Rattle.vc_store.specs.Store.{objects, with_object};
-ghost use Rattle.vc_object.specs.declared.id.ObjectId.{ObjectId as Id};
+ghost use Rattle.vc_store.specs.Store.{objects};
 ghost use Rattle.vc_object.specs.declared.kind.Kind.TheVariants.{Blob};
-ghost use Rattle.vc_refs.specs.Head.{IsHeadInRefs, IsLegalHead, KeepsOutside};
+ghost use Rattle.vc_refs.specs.Head.{IsHeadInRefs, IsLegalHead};
 ghost use Rattle.vc_refs.specs.Packing.{IsPackedFrom};
-ghost use Rattle.vc_node.specs.Blames.{BlamesPacking, BlamesWrite, BlamesAdd, BlamesBranch, BlamesPut, BlamesHead, BlamesLoad, BlamesRemoved, MayLoad, MayStage, MayHead, TellsDamage};
-ghost use Rattle.vc_node.specs.Clean.{IsClean, KeepsClean, KeepsCleanBut};
+ghost use Rattle.vc_node.specs.Adding.{IsAdded, LeftByAdd};
+ghost use Rattle.vc_node.specs.Blames.{BlamesAdd, BlamesBranch, BlamesHead, BlamesLoad, BlamesPacking, BlamesPut, BlamesRemoved, BlamesWrite, MayBranch, MayHead, MayLoad, MayStage, TellsDamage};
+ghost use Rattle.vc_node.specs.Clean.{KeepsCleanBut, KeepsStored, PacksOnly, Spares, StoresOnly};
 ghost use Rattle.vc_node.specs.GoodCommit.{IsGoodBeyondRefs};
 ghost use Rattle.vc_node.specs.IndexFile.{SpellsIndex, BlamesIndex};
 ghost use Rattle.vc_node.specs.NodeFault.{is_fault, TellsDevice};
 ghost use Rattle.vc_node.specs.Reads.{IsAtName, IsBelow, IsItsFile, IsReached, IsReachedByHead, NoneRead, TellsRead};
-ghost use Rattle.vc_node.specs.Shown.{IsLoaded, shown, with_objects_shown, with_refs_shown, with_head_shown, with_index_shown};
+ghost use Rattle.vc_node.specs.Shown.{HasIndex, HasObject, IsLoaded, shown, with_head_shown, with_refs_shown};
 
 use crate::NodeFault;
 use crate::checks::refuse_bad_commit;
@@ -44,11 +42,9 @@ pub(crate) fn write<F: Files>(
 ) -> Result<ObjectId, NodeFault>
     ensures name { IfOk result (λ id. id ≡ object_name kind body.now) }
     ensures legal { IsOk result → IsObject kind body.now }
-    ensures stored { F.honest → IfOk result (λ id. shown (F.content files.new) ≡ with_objects_shown (shown (F.content files.old)) (with_object (objects (F.content files.old)) id (stored_object kind body.now))) }
-    ensures outside { F.honest → SameOutside (codes "objects/") (F.content files.old) (F.content files.new) }
+    ensures stored { F.honest → IfOk result (λ id. HasObject (F.content files.old) id (stored_object kind body.now) (F.content files.new)) }
     ensures refused { F.honest → IfErr result (BlamesWrite (F.content files.old) kind body.now) }
-    ensures err { F.honest → OnErr result (F.content files.new ≡ F.content files.old) }
-    ensures clean { F.honest → OnOk result (KeepsClean (F.content files.old) (F.content files.new)) }
+    ensures kept { F.honest → StoresOnly result (F.content files.old) (F.content files.new) }
     ensures file { IfErr result (TellsRead (λ id. id ≡ object_name kind body.now) NoneRead) }
     ensures wear { Writes F.honest F.content F.failed F.can_fail F.left files.old files.new (TellsDevice result) }
     ensures looks { IsObject kind body.now ⊎ Wears F.failed F.can_fail F.left files.old files.new (TellsDevice result) }
@@ -59,11 +55,10 @@ pub(crate) fn write<F: Files>(
 
 /// Takes a path away from the index.
 pub(crate) fn unstage<F: Files>(alloc: Global, files: &mut F, path: &[u8]) -> Result<(), NodeFault>
-    ensures removed { F.honest → (m : IndexMap) → SpellsIndex (F.content files.old) m → OnOk result (shown (F.content files.new) ≡ with_index_shown (shown (F.content files.old)) (index_text (paths.remove m path.now))) }
+    ensures removed { F.honest → (m : IndexMap) → SpellsIndex (F.content files.old) m → OnOk result (HasIndex (F.content files.old) (paths.remove m path.now) (F.content files.new)) }
     ensures refused { F.honest → IfErr result (BlamesIndex (F.content files.old)) }
-    ensures err { F.honest → OnErr result (F.content files.new ≡ F.content files.old) }
+    ensures kept { F.honest → Spares result (F.content files.old) (F.content files.new) }
     ensures objects { F.honest → OnOk result (KeepsObjects (F.content files.old) (F.content files.new)) }
-    ensures clean { F.honest → OnOk result (KeepsClean (F.content files.old) (F.content files.new)) }
     ensures file { IfErr result (TellsRead NoneRead NoneRead) }
     ensures wear { Writes F.honest F.content F.failed F.can_fail F.left files.old files.new (TellsDevice result) }
 {
@@ -82,13 +77,11 @@ pub(crate) fn add<F: Files>(
     bytes: &[u8],
 ) -> Result<(), NodeFault>
     requires { mode ≢ Mode.Tree }
-    ensures added { F.honest → (m : IndexMap) → SpellsIndex (F.content files.old) m → OnOk result (shown (F.content files.new) ≡ with_index_shown (with_objects_shown (shown (F.content files.old)) (with_object (objects (F.content files.old)) (object_name Blob bytes.now) (stored_object Blob bytes.now))) (index_text (paths.insert m path.now (index_entry mode (object_name Blob bytes.now))))) }
-    ensures may { F.honest → (m : IndexMap) → SpellsIndex (F.content files.old) m → OnOk result (MayStage m path.now bytes.now) }
+    ensures added { F.honest → (m : IndexMap) → SpellsIndex (F.content files.old) m → OnOk result (IsAdded (F.content files.old) m path.now mode bytes.now (F.content files.new)) }
     ensures refused { F.honest → (m : IndexMap) → SpellsIndex (F.content files.old) m → IfErr result (BlamesAdd (F.content files.old) m path.now bytes.now) }
     ensures damaged { F.honest → IfErr result (TellsDamage (F.content files.old)) }
-    ensures left { F.honest → (m : IndexMap) → SpellsIndex (F.content files.old) m → IfErr result (λ e. (F.content files.new ≡ F.content files.old) ⊎ ((is_fault e ≡ true) × MayStage m path.now bytes.now × (shown (F.content files.new) ≡ with_objects_shown (shown (F.content files.old)) (with_object (objects (F.content files.old)) (object_name Blob bytes.now) (stored_object Blob bytes.now))))) }
-    ensures objects { F.honest → KeepsObjects (F.content files.old) (F.content files.new) }
-    ensures clean { F.honest → KeepsClean (F.content files.old) (F.content files.new) }
+    ensures left { F.honest → (m : IndexMap) → SpellsIndex (F.content files.old) m → IfErr result (λ e. LeftByAdd (F.content files.old) m path.now bytes.now e (F.content files.new)) }
+    ensures stores { F.honest → KeepsStored (F.content files.old) (F.content files.new) }
     ensures file { IfErr result (TellsRead (λ id. id ≡ object_name Blob bytes.now) NoneRead) }
     ensures wear { Writes F.honest F.content F.failed F.can_fail F.left files.old files.new (TellsDevice result) }
     ensures looks { F.honest → (m : IndexMap) → SpellsIndex (F.content files.old) m → MayStage m path.now bytes.now ⊎ Wears F.failed F.can_fail F.left files.old files.new (TellsDevice result) }
@@ -109,8 +102,7 @@ pub(crate) fn load_tree<F: Files>(
 ) -> Result<(), NodeFault>
     ensures loaded { F.honest → OnOk result (IsLoaded (F.content files.old) id.now (F.content files.new)) }
     ensures refused { F.honest → IfErr result (BlamesLoad (F.content files.old) id.now) }
-    ensures err { F.honest → OnErr result (F.content files.new ≡ F.content files.old) }
-    ensures clean { F.honest → OnOk result (KeepsClean (F.content files.old) (F.content files.new)) }
+    ensures kept { F.honest → Spares result (F.content files.old) (F.content files.new) }
     ensures file { F.honest → IfErr result (TellsRead (IsBelow (F.content files.old) id.now) NoneRead) }
     ensures wear { Writes F.honest F.content F.failed F.can_fail F.left files.old files.new (TellsDevice result) }
     ensures looks { F.honest → MayLoad (F.content files.old) id.now ⊎ Wears F.failed F.can_fail F.left files.old files.new (TellsDevice result) }
@@ -126,8 +118,7 @@ pub(crate) fn set_head<F: Files>(alloc: Global, files: &mut F, head: &Head) -> R
     ensures set { F.honest → OnOk result (shown (F.content files.new) ≡ with_head_shown (shown (F.content files.old)) head.now) }
     ensures may { F.honest → OnOk result (MayHead (F.content files.old) head.now) }
     ensures refused { F.honest → IfErr result (BlamesHead (F.content files.old) head.now) }
-    ensures err { F.honest → OnErr result (F.content files.new ≡ F.content files.old) }
-    ensures clean { F.honest → OnOk result (KeepsClean (F.content files.old) (F.content files.new)) }
+    ensures kept { F.honest → Spares result (F.content files.old) (F.content files.new) }
     ensures file { F.honest → IfErr result (TellsRead (IsReachedByHead (F.content files.old) head.now) NoneRead) }
     ensures wear { Writes F.honest F.content F.failed F.can_fail F.left files.old files.new (TellsDevice result) }
     ensures looks { F.honest → (IsLegalHead head.now × MayHead (F.content files.old) head.now) ⊎ Wears F.failed F.can_fail F.left files.old files.new (TellsDevice result) }
@@ -150,8 +141,7 @@ pub(crate) fn put_ref<F: Files>(
     ensures set { F.honest → OnOk result (shown (F.content files.new) ≡ with_refs_shown (shown (F.content files.old)) (with_ref (refs (F.content files.old)) name.now id)) }
     ensures free { F.honest → OnOk result (IsFree (F.content files.old) name.now) }
     ensures refused { F.honest → IfErr result (BlamesPut (F.content files.old) name.now) }
-    ensures err { F.honest → OnErr result (F.content files.new ≡ F.content files.old) }
-    ensures clean { F.honest → OnOk result (KeepsClean (F.content files.old) (F.content files.new)) }
+    ensures kept { F.honest → Spares result (F.content files.old) (F.content files.new) }
     ensures file { F.honest → IfErr result (TellsRead NoneRead (IsAtName (F.content files.old) name.now)) }
     ensures wear { Writes F.honest F.content F.failed F.can_fail F.left files.old files.new (TellsDevice result) }
     ensures looks { F.honest → ((is_ref name.now ≡ true) × IsFree (F.content files.old) name.now) ⊎ Wears F.failed F.can_fail F.left files.old files.new (TellsDevice result) }
@@ -173,11 +163,10 @@ pub(crate) fn set_branch<F: Files>(
     ensures free { F.honest → OnOk result (IsFree (F.content files.old) branch.now) }
     ensures good { F.honest → OnOk result (IsGoodBeyondRefs (F.content files.old) id.now) }
     ensures refused { F.honest → IfErr result (BlamesBranch (F.content files.old) branch.now id.now) }
-    ensures err { F.honest → OnErr result (F.content files.new ≡ F.content files.old) }
-    ensures clean { F.honest → OnOk result (KeepsClean (F.content files.old) (F.content files.new)) }
+    ensures kept { F.honest → Spares result (F.content files.old) (F.content files.new) }
     ensures file { F.honest → IfErr result (TellsRead (IsReached (F.content files.old) id.now) (IsAtName (F.content files.old) branch.now)) }
     ensures wear { Writes F.honest F.content F.failed F.can_fail F.left files.old files.new (TellsDevice result) }
-    ensures looks { F.honest → ((is_ref branch.now ≡ true) × IsFree (F.content files.old) branch.now × IsGoodBeyondRefs (F.content files.old) id.now) ⊎ Wears F.failed F.can_fail F.left files.old files.new (TellsDevice result) }
+    ensures looks { F.honest → MayBranch (F.content files.old) branch.now id.now ⊎ Wears F.failed F.can_fail F.left files.old files.new (TellsDevice result) }
 {
     refuse_conflict(files, alloc, branch)?;
     refuse_bad_commit(alloc, files, id)?;
@@ -207,11 +196,9 @@ pub(crate) fn remove_ref<F: Files>(
 /// Puts all refs into the packed file. Nothing that is shown changes, wherever it stops, and a refusal writes nothing.
 pub(crate) fn pack_refs<F: Files>(alloc: Global, files: &mut F) -> Result<(), NodeFault>
     ensures packed { F.honest → OnOk result (IsPackedFrom (F.content files.old) (F.content files.new)) }
-    ensures rest { F.honest → KeepsOutside (F.content files.old) (F.content files.new) }
-    ensures kept { F.honest → shown (F.content files.new) ≡ shown (F.content files.old) }
+    ensures kept { F.honest → PacksOnly (F.content files.old) (F.content files.new) }
     ensures refused { F.honest → IfErr result (BlamesPacking (F.content files.old)) }
     ensures err { F.honest → IfErr result (λ e. (is_fault e ≡ true) ⊎ (F.content files.new ≡ F.content files.old)) }
-    ensures clean { F.honest → IsClean (F.content files.old) → IsClean (F.content files.new) }
     ensures wear { Writes F.honest F.content F.failed F.can_fail F.left files.old files.new (TellsDevice result) }
 {
     vc_refs::pack(files, alloc)?;

@@ -1,50 +1,45 @@
 // A clone.
-ghost use Rattle.std.specs.Prelude.{◌≡◌, ◌≢◌, ◌⊎◌, ◌++◌, ℕ, List, [], Some, Ok, Err, OnOk, OnErr, IfNone, IfOk, IfErr, is_ok, true, false, not, nat_eq, map, codes};
+ghost use Rattle.std.specs.Prelude.{◌≡◌, ◌≢◌, ◌⊎◌, ◌++◌, ℕ, List, [], Some, Ok, Err, OnOk, OnErr, IfNone, IfOk, IfErr, is_ok, true, false, not, nat_eq, codes};
 ghost use Rattle.std.specs.List.{All, starts_with};
-ghost use Rattle.vc_format.specs.Git.{bytes_of_id};
-ghost use Rattle.vc_model.specs.Clone.Task.{Write, Stage, Unstage, LoadTree, MakeCommit, SetBranch, DeleteBranch, MoveHead};
+ghost use Rattle.vc_model.specs.Clone.Task.{Write, Stage, Unstage, LoadTree, SetBranch, DeleteBranch, MoveHead};
 ghost use Rattle.vc_model.specs.Clone.Awaited.{Nothing};
-ghost use Rattle.vc_model.specs.Repository.{Repository};
 ghost use Rattle.vc_object.specs.Object.{object_name};
-ghost use Rattle.vc_refs.specs.Head.{KeepsOutside};
 ghost use Rattle.vc_refs.specs.Packing.{IsPackedFrom};
 ghost use Rattle.vc_exchange.specs.Sending.{machine_items};
 ghost use Rattle.vc_files.specs.declared.faults.Fault.TheVariants.{Memory};
 ghost use Rattle.vc_message.specs.AnyMessage.{a_report};
 ghost use Rattle.vc_message.specs.AnyView.{message_text};
-ghost use Rattle.vc_message.specs.Machine.{IsUnread, Reads, TextOf};
-ghost use Rattle.vc_model.specs.Clone.{IsItemId};
+ghost use Rattle.vc_message.specs.Machine.{IsUnread, Reads};
 ghost use Rattle.vc_model.specs.Clone.Task.{StartFetch, StartPush};
 ghost use Rattle.vc_model.specs.CloneCall.CloneCall.{Asks, Command, Open, Receive};
 ghost use Rattle.vc_model.specs.Message.{Message as Sent};
-ghost use Rattle.vc_model.specs.Object.{zero_id};
 ghost use Rattle.vc_model.specs.Question.Question.{PackRefs, Resolve, Unread};
 ghost use Rattle.vc_push.specs.ReportView.{report_text};
 ghost use Rattle.vc_repository.specs.Resolving.{DenotesIn};
 ghost use Rattle.vc_rev.specs.Grammar.{IsExpr};
 ghost use Rattle.vc_rev.specs.Views.{expr_view};
 ghost use Rattle.vc_node.specs.Awaited.{nothing};
-ghost use Rattle.vc_node.specs.CloneCalls.{AnswersClone, FoundAs, MayOr, ReceivedAs, RestartedAs, SentAs};
+ghost use Rattle.vc_node.specs.Node.{AnswersCall, AnswersCommand, AnswersCommandIfSound, AnswersFirst, AnswersStaging, AnswersText, IsFresh, KeepsNode, Looks, MayCall, MayCommand, MayCommandIfSound, MayCommit, MayStaging, MayText, PushesNoZero, ReceivesNext, Settles, SettlesTaken, commit_task};
+ghost use Rattle.vc_node.specs.CloneCalls.{FoundAs, ReceivedAs, RestartedAs, SentAs};
 ghost use Rattle.vc_node.specs.CloneFaults.{TellsDevice as CloneTellsDevice, is_fault as is_clone_fault, of_device, up_after as clone_up_after};
 ghost use Rattle.vc_node.specs.Receipts.{IsOfMessage, IsRefusedBytes, IsRefusedMessage, IsRefusedStart, IsRefusedValue};
-ghost use Rattle.vc_node.specs.Arriving.{IsKnown, KeepsHeld, ReceivesFrom, ToldAs};
 ghost use Rattle.vc_node.specs.ReceiveFault.{TellsDevice as ReceiveTellsDevice, is_fault as is_receive_fault, up_after as receive_up_after};
 ghost use Rattle.vc_session.specs.Quarantine.{IsDropped};
 ghost use Rattle.vc_node.specs.Emptying.{AreEmpty, IsOpened, LosesCarried};
 ghost use Rattle.vc_node.specs.Blames.{BlamesLoad, BlamesOpen, BlamesPacking, BlamesWrite, IsLocalHead};
 ghost use Rattle.vc_files.specs.FileMap.{SameOutside};
 ghost use Rattle.vc_index.specs.IndexMap.{IndexMap};
-ghost use Rattle.vc_node.specs.Clean.{IsClean, KeepsClean, KeepsCleanBut};
+ghost use Rattle.vc_node.specs.Clean.{KeepsClean, KeepsCleanBut, PacksOnly, Spares, StoresOnly};
 ghost use Rattle.vc_node.specs.Commit.{IsCommitted};
 ghost use Rattle.vc_node.specs.IndexFile.{BlamesIndex, SpellsIndex};
 ghost use Rattle.vc_rules.specs.Git.{machine_object, mode_number};
-ghost use Rattle.vc_node.specs.Machine.{Answers, AnswersIfSound, AnswersShown, AnswersShownIfSound, HoldsNode, MayWriteIfSoundOr, MayWriteOr, OrBadFile, machine_head, made_answer, done_answer, up_after};
+ghost use Rattle.vc_node.specs.Machine.{HoldsNode, machine_head, made_answer, done_answer, up_after};
 ghost use Rattle.vc_files.specs.Failures.{Wears, Writes};
 ghost use Rattle.vc_node.specs.NodeFault.{is_fault, IsOfDevice, TellsDevice};
-ghost use Rattle.vc_node.specs.Opening.{IsOpenable, opened_node};
+ghost use Rattle.vc_node.specs.Opening.{OpenableAs, opened_node};
 ghost use Rattle.vc_node.specs.Reads.{IsAtHead, IsAtName, IsBelow, IsItsFile, IsOfCommit, IsReached, IsReachedByHead, NoneRead, TellsRead};
 ghost use Rattle.vc_node.specs.Shown.{IsLoaded, shown};
-ghost use Rattle.vc_node.specs.Staging.{BlamesStaging, StagesAllOr, StagesHeld, StagesShown, placed};
+ghost use Rattle.vc_node.specs.Staging.{BlamesStaging, places};
 
 use crate::arriving::refuse_down;
 use crate::awaited::Awaited;
@@ -106,9 +101,8 @@ impl<F: Files> CloneNode<F> {
     /// handed back, and what stood in quarantine may be gone.
     pub fn open(alloc: Global, mut files: F) -> Result<CloneNode<F>, (F, NodeFault)>
         ensures opened { F.honest → IfOk result (λ node. IsOpened (F.content files) (F.content node.files)) }
-        ensures up { IfOk result (λ node. node.is_up ≡ true) }
-        ensures awaits { IfOk result (λ node. node.awaited ≡ nothing) }
-        ensures opens { F.honest → (r : Repository) → IsOpenable (F.content files) r → IfOk result (λ node. HoldsNode (F.content node.files) true Nothing (opened_node r)) }
+        ensures fresh { IfOk result IsFresh }
+        ensures opens { F.honest → OpenableAs (F.content files) (λ r. IfOk result (λ node. HoldsNode (F.content node.files) true Nothing (opened_node r))) }
         ensures refused { F.honest → IfErr result (λ e. BlamesOpen (F.content files) e.1) }
         ensures err { F.honest → IfErr result (λ e. LosesCarried (F.content files) (F.content e.0)) }
         ensures clean { F.honest → IfOk result (λ node. KeepsClean (F.content files) (F.content node.files)) }
@@ -153,7 +147,7 @@ impl<F: Files> CloneNode<F> {
     /// Opens the files again, in place: the node is up then, whatever it was before, nothing is awaited, and nothing is in quarantine.
     /// Where that fails (see [`open`](CloneNode::open)) it is down, and the files are as they were but for the quarantine.
     pub fn restart(&mut self) -> Result<(), NodeFault>
-        ensures answers { F.honest → AnswersClone Open (RestartedAs result) (F.content self.old.files) (F.content self.new.files) self.old.awaited self.new.awaited self.old.is_up self.new.is_up }
+        ensures answers { F.honest → AnswersCall F.content Open (RestartedAs result) self.old self.new }
         ensures refused { F.honest → IfErr result (BlamesOpen (F.content self.old.files)) }
         ensures err { F.honest → OnErr result (LosesCarried (F.content self.old.files) (F.content self.new.files)) }
         ensures empty { F.honest → OnOk result (AreEmpty (F.content self.new.files)) }
@@ -200,19 +194,14 @@ impl<F: Files> CloneNode<F> {
 
     /// Stores an object, and answers its name. One that is there stays as it is.
     pub fn write(&mut self, kind: Kind, body: &[u8]) -> Result<ObjectId, NodeFault>
-        ensures answers { F.honest → Answers (Write (machine_object kind body.now)) (made_answer result) self.old.is_up self.new.is_up (F.content self.old.files) (F.content self.new.files) }
-        ensures bad_file { F.honest → OrBadFile (F.content self.old.files) result (AnswersShown (Write (machine_object kind body.now)) (made_answer result) self.old.is_up self.new.is_up (shown (F.content self.old.files)) (shown (F.content self.new.files))) }
+        ensures answers { F.honest → AnswersCommand F.content (Write (machine_object kind body.now)) made_answer result self.old self.new }
         ensures name { IfOk result (λ id. id ≡ object_name kind body.now) }
         ensures refused { F.honest → self.old.is_up ≡ true → IfErr result (BlamesWrite (F.content self.old.files) kind body.now) }
-        ensures outside { F.honest → SameOutside (codes "objects/") (F.content self.old.files) (F.content self.new.files) }
-        ensures down { self.old.is_up ≡ false → result ≡ Err NodeFault.Down }
-        ensures err { F.honest → OnErr result (F.content self.new.files ≡ F.content self.old.files) }
-        ensures up { self.old.is_up ≡ true → self.new.is_up ≡ up_after result }
-        ensures awaits { self.new.awaited ≡ self.old.awaited }
-        ensures clean { F.honest → KeepsClean (F.content self.old.files) (F.content self.new.files) }
+        ensures settles { Settles (result ≡ Err NodeFault.Down) (up_after result) self.old self.new }
+        ensures kept { F.honest → StoresOnly result (F.content self.old.files) (F.content self.new.files) }
         ensures file { IfErr result (TellsRead (λ id. id ≡ object_name kind body.now) NoneRead) }
         ensures wear { Writes F.honest F.content F.failed F.can_fail F.left self.old.files self.new.files (TellsDevice result) }
-        ensures looks { F.honest → MayWriteOr (Write (machine_object kind body.now)) self.old.is_up (F.content self.old.files) (Wears F.failed F.can_fail F.left self.old.files self.new.files (TellsDevice result)) }
+        ensures looks { F.honest → MayCommand F.content (Write (machine_object kind body.now)) self.old (Looks F.failed F.can_fail F.left self.old self.new result) }
     {
         if !self.is_up {
             return Err(NodeFault::Down);
@@ -226,16 +215,12 @@ impl<F: Files> CloneNode<F> {
 
     /// Takes a path away from the index. Where nothing stands, nothing changes.
     pub fn unstage(&mut self, path: &[u8]) -> Result<(), NodeFault>
-        ensures answers { F.honest → Answers (Unstage path.now) (done_answer result) self.old.is_up self.new.is_up (F.content self.old.files) (F.content self.new.files) }
-        ensures bad_file { F.honest → OrBadFile (F.content self.old.files) result (AnswersShown (Unstage path.now) (done_answer result) self.old.is_up self.new.is_up (shown (F.content self.old.files)) (shown (F.content self.new.files))) }
-        ensures down { self.old.is_up ≡ false → result ≡ Err NodeFault.Down }
-        ensures err { F.honest → OnErr result (F.content self.new.files ≡ F.content self.old.files) }
-        ensures up { self.old.is_up ≡ true → self.new.is_up ≡ up_after result }
-        ensures awaits { self.new.awaited ≡ self.old.awaited }
-        ensures clean { F.honest → KeepsClean (F.content self.old.files) (F.content self.new.files) }
+        ensures answers { F.honest → AnswersCommand F.content (Unstage path.now) done_answer result self.old self.new }
+        ensures settles { Settles (result ≡ Err NodeFault.Down) (up_after result) self.old self.new }
+        ensures kept { F.honest → Spares result (F.content self.old.files) (F.content self.new.files) }
         ensures file { IfErr result (TellsRead NoneRead NoneRead) }
         ensures wear { Writes F.honest F.content F.failed F.can_fail F.left self.old.files self.new.files (TellsDevice result) }
-        ensures looks { F.honest → MayWriteOr (Unstage path.now) self.old.is_up (F.content self.old.files) (Wears F.failed F.can_fail F.left self.old.files self.new.files (TellsDevice result)) }
+        ensures looks { F.honest → MayCommand F.content (Unstage path.now) self.old (Looks F.failed F.can_fail F.left self.old self.new result) }
     {
         if !self.is_up {
             return Err(NodeFault::Down);
@@ -252,15 +237,12 @@ impl<F: Files> CloneNode<F> {
     /// refused before one that conflicts with a file of the index (61), and that before a body that is too large (3).
     pub fn add(&mut self, path: &[u8], mode: Mode, bytes: &[u8]) -> Result<(), NodeFault>
         requires { mode ≢ Mode.Tree }
-        ensures answers { F.honest → Answers (Stage path.now (mode_number mode) bytes.now) (done_answer result) self.old.is_up self.new.is_up (F.content self.old.files) (F.content self.new.files) }
-        ensures bad_file { F.honest → OrBadFile (F.content self.old.files) result (AnswersShown (Stage path.now (mode_number mode) bytes.now) (done_answer result) self.old.is_up self.new.is_up (shown (F.content self.old.files)) (shown (F.content self.new.files))) }
-        ensures down { self.old.is_up ≡ false → result ≡ Err NodeFault.Down }
-        ensures up { self.old.is_up ≡ true → self.new.is_up ≡ up_after result }
-        ensures awaits { self.new.awaited ≡ self.old.awaited }
+        ensures answers { F.honest → AnswersCommand F.content (Stage path.now (mode_number mode) bytes.now) done_answer result self.old self.new }
+        ensures settles { Settles (result ≡ Err NodeFault.Down) (up_after result) self.old self.new }
         ensures clean { F.honest → KeepsClean (F.content self.old.files) (F.content self.new.files) }
         ensures file { IfErr result (TellsRead (λ id. id ≡ object_name Kind.Blob bytes.now) NoneRead) }
         ensures wear { Writes F.honest F.content F.failed F.can_fail F.left self.old.files self.new.files (TellsDevice result) }
-        ensures looks { F.honest → MayWriteOr (Stage path.now (mode_number mode) bytes.now) self.old.is_up (F.content self.old.files) (Wears F.failed F.can_fail F.left self.old.files self.new.files (TellsDevice result)) }
+        ensures looks { F.honest → MayCommand F.content (Stage path.now (mode_number mode) bytes.now) self.old (Looks F.failed F.can_fail F.left self.old self.new result) }
     {
         if !self.is_up {
             return Err(NodeFault::Down);
@@ -277,18 +259,14 @@ impl<F: Files> CloneNode<F> {
     /// (61), and nothing is changed then. The index is read and written once; with no files neither is done.
     pub fn stage_all(&mut self, files: &[Staged]) -> Result<(), NodeFault>
         requires { All (λ file. file.mode ≢ Mode.Tree) files.now }
-        ensures answers { F.honest → StagesHeld files.now (done_answer result) self.old.is_up self.new.is_up (F.content self.old.files) (F.content self.new.files) }
-        ensures shown { F.honest → StagesShown files.now (done_answer result) self.old.is_up self.new.is_up (shown (F.content self.old.files)) (shown (F.content self.new.files)) }
-        ensures refused { F.honest → self.old.is_up ≡ true → (m : IndexMap) → SpellsIndex (F.content self.old.files) m → IfErr result (BlamesStaging m (map placed files.now)) }
+        ensures answers { F.honest → AnswersStaging F.content files.now result self.old self.new }
+        ensures refused { F.honest → self.old.is_up ≡ true → (m : IndexMap) → SpellsIndex (F.content self.old.files) m → IfErr result (BlamesStaging m (places files.now)) }
         ensures none { self.old.is_up ≡ true → files.now ≡ [] → (result ≡ Ok tt) × (self.new.files ≡ self.old.files) }
-        ensures down { self.old.is_up ≡ false → result ≡ Err NodeFault.Down }
-        ensures err { F.honest → OnErr result (F.content self.new.files ≡ F.content self.old.files) }
-        ensures up { self.old.is_up ≡ true → self.new.is_up ≡ up_after result }
-        ensures awaits { self.new.awaited ≡ self.old.awaited }
-        ensures clean { F.honest → KeepsClean (F.content self.old.files) (F.content self.new.files) }
+        ensures settles { Settles (result ≡ Err NodeFault.Down) (up_after result) self.old self.new }
+        ensures kept { F.honest → Spares result (F.content self.old.files) (F.content self.new.files) }
         ensures file { IfErr result (TellsRead NoneRead NoneRead) }
         ensures wear { Writes F.honest F.content F.failed F.can_fail F.left self.old.files self.new.files (TellsDevice result) }
-        ensures looks { F.honest → StagesAllOr files.now self.old.is_up (F.content self.old.files) (Wears F.failed F.can_fail F.left self.old.files self.new.files (TellsDevice result)) }
+        ensures looks { F.honest → MayStaging F.content files.now self.old (Looks F.failed F.can_fail F.left self.old self.new result) }
     {
         if !self.is_up {
             return Err(NodeFault::Down);
@@ -305,10 +283,8 @@ impl<F: Files> CloneNode<F> {
         ensures spelled { F.honest → IfOk result (SpellsIndex (F.content self.old.files)) }
         ensures again { F.honest → (m : IndexMap) → SpellsIndex (F.content self.old.files) m → IfOk result (λ index. index ≡ m) }
         ensures refused { F.honest → self.old.is_up ≡ true → IfErr result (BlamesIndex (F.content self.old.files)) }
-        ensures down { self.old.is_up ≡ false → result ≡ Err NodeFault.Down }
+        ensures settles { Settles (result ≡ Err NodeFault.Down) (up_after result) self.old self.new }
         ensures same { F.content self.new.files ≡ F.content self.old.files }
-        ensures up { self.old.is_up ≡ true → self.new.is_up ≡ up_after result }
-        ensures awaits { self.new.awaited ≡ self.old.awaited }
         ensures file { IfErr result (TellsRead NoneRead NoneRead) }
         ensures wear { Wears F.failed F.can_fail F.left self.old.files self.new.files (TellsDevice result) }
     {
@@ -325,16 +301,13 @@ impl<F: Files> CloneNode<F> {
     /// Removes a branch. Where there is none, nothing changes.
     pub fn delete_branch(&mut self, branch: &RefName) -> Result<(), NodeFault>
         requires { starts_with nat_eq branch.now (codes "refs/heads/") ≡ true }
-        ensures answers { F.honest → Answers (DeleteBranch branch.now) (done_answer result) self.old.is_up self.new.is_up (F.content self.old.files) (F.content self.new.files) }
-        ensures bad_file { F.honest → OrBadFile (F.content self.old.files) result (AnswersShown (DeleteBranch branch.now) (done_answer result) self.old.is_up self.new.is_up (shown (F.content self.old.files)) (shown (F.content self.new.files))) }
-        ensures down { self.old.is_up ≡ false → result ≡ Err NodeFault.Down }
+        ensures answers { F.honest → AnswersCommand F.content (DeleteBranch branch.now) done_answer result self.old self.new }
+        ensures settles { Settles (result ≡ Err NodeFault.Down) (up_after result) self.old self.new }
         ensures err { F.honest → OnErr result (shown (F.content self.new.files) ≡ shown (F.content self.old.files)) }
-        ensures up { self.old.is_up ≡ true → self.new.is_up ≡ up_after result }
-        ensures awaits { self.new.awaited ≡ self.old.awaited }
         ensures clean { F.honest → KeepsCleanBut branch.now (F.content self.old.files) (F.content self.new.files) }
         ensures file { F.honest → IfErr result (TellsRead NoneRead (IsItsFile branch.now)) }
         ensures wear { Writes F.honest F.content F.failed F.can_fail F.left self.old.files self.new.files (TellsDevice result) }
-        ensures looks { F.honest → MayWriteOr (DeleteBranch branch.now) self.old.is_up (F.content self.old.files) (Wears F.failed F.can_fail F.left self.old.files self.new.files (TellsDevice result)) }
+        ensures looks { F.honest → MayCommand F.content (DeleteBranch branch.now) self.old (Looks F.failed F.can_fail F.left self.old self.new result) }
     {
         if !self.is_up {
             return Err(NodeFault::Down);
@@ -351,16 +324,12 @@ impl<F: Files> CloneNode<F> {
     /// that refs reach, and that branches lead to commits alone, is taken from the refs, as it is so at a sound clone.
     pub fn set_branch(&mut self, branch: &RefName, id: &ObjectId) -> Result<(), NodeFault>
         requires { starts_with nat_eq branch.now (codes "refs/heads/") ≡ true }
-        ensures answers { F.honest → AnswersIfSound (SetBranch branch.now id.now.0) (done_answer result) self.old.is_up self.new.is_up (F.content self.old.files) (F.content self.new.files) }
-        ensures bad_file { F.honest → OrBadFile (F.content self.old.files) result (AnswersShownIfSound (SetBranch branch.now id.now.0) (done_answer result) self.old.is_up self.new.is_up (shown (F.content self.old.files)) (shown (F.content self.new.files))) }
-        ensures down { self.old.is_up ≡ false → result ≡ Err NodeFault.Down }
-        ensures err { F.honest → OnErr result (F.content self.new.files ≡ F.content self.old.files) }
-        ensures up { self.old.is_up ≡ true → self.new.is_up ≡ up_after result }
-        ensures awaits { self.new.awaited ≡ self.old.awaited }
-        ensures clean { F.honest → KeepsClean (F.content self.old.files) (F.content self.new.files) }
+        ensures answers { F.honest → AnswersCommandIfSound F.content (SetBranch branch.now id.now.0) done_answer result self.old self.new }
+        ensures settles { Settles (result ≡ Err NodeFault.Down) (up_after result) self.old self.new }
+        ensures kept { F.honest → Spares result (F.content self.old.files) (F.content self.new.files) }
         ensures file { F.honest → IfErr result (TellsRead (IsReached (F.content self.old.files) id.now) (IsAtName (F.content self.old.files) branch.now)) }
         ensures wear { Writes F.honest F.content F.failed F.can_fail F.left self.old.files self.new.files (TellsDevice result) }
-        ensures looks { F.honest → MayWriteIfSoundOr (SetBranch branch.now id.now.0) self.old.is_up (F.content self.old.files) (Wears F.failed F.can_fail F.left self.old.files self.new.files (TellsDevice result)) }
+        ensures looks { F.honest → MayCommandIfSound F.content (SetBranch branch.now id.now.0) self.old (Looks F.failed F.can_fail F.left self.old self.new result) }
     {
         if !self.is_up {
             return Err(NodeFault::Down);
@@ -376,16 +345,12 @@ impl<F: Files> CloneNode<F> {
     /// [`set_branch`](CloneNode::set_branch).
     pub fn set_head(&mut self, head: &Head) -> Result<(), NodeFault>
         requires { IsLocalHead head.now }
-        ensures answers { F.honest → AnswersIfSound (MoveHead (machine_head head.now)) (done_answer result) self.old.is_up self.new.is_up (F.content self.old.files) (F.content self.new.files) }
-        ensures bad_file { F.honest → OrBadFile (F.content self.old.files) result (AnswersShownIfSound (MoveHead (machine_head head.now)) (done_answer result) self.old.is_up self.new.is_up (shown (F.content self.old.files)) (shown (F.content self.new.files))) }
-        ensures down { self.old.is_up ≡ false → result ≡ Err NodeFault.Down }
-        ensures err { F.honest → OnErr result (F.content self.new.files ≡ F.content self.old.files) }
-        ensures up { self.old.is_up ≡ true → self.new.is_up ≡ up_after result }
-        ensures awaits { self.new.awaited ≡ self.old.awaited }
-        ensures clean { F.honest → KeepsClean (F.content self.old.files) (F.content self.new.files) }
+        ensures answers { F.honest → AnswersCommandIfSound F.content (MoveHead (machine_head head.now)) done_answer result self.old self.new }
+        ensures settles { Settles (result ≡ Err NodeFault.Down) (up_after result) self.old self.new }
+        ensures kept { F.honest → Spares result (F.content self.old.files) (F.content self.new.files) }
         ensures file { F.honest → IfErr result (TellsRead (IsReachedByHead (F.content self.old.files) head.now) NoneRead) }
         ensures wear { Writes F.honest F.content F.failed F.can_fail F.left self.old.files self.new.files (TellsDevice result) }
-        ensures looks { F.honest → MayWriteIfSoundOr (MoveHead (machine_head head.now)) self.old.is_up (F.content self.old.files) (Wears F.failed F.can_fail F.left self.old.files self.new.files (TellsDevice result)) }
+        ensures looks { F.honest → MayCommandIfSound F.content (MoveHead (machine_head head.now)) self.old (Looks F.failed F.can_fail F.left self.old self.new result) }
     {
         if !self.is_up {
             return Err(NodeFault::Down);
@@ -401,17 +366,13 @@ impl<F: Files> CloneNode<F> {
     /// another kind than its mode says, and 40 where it leads to none, as the tree is read in the order of its paths.
     pub fn load_tree(&mut self, id: &ObjectId) -> Result<(), NodeFault>
         ensures loaded { F.honest → OnOk result (IsLoaded (F.content self.old.files) id.now (F.content self.new.files)) }
-        ensures answers { F.honest → Answers (LoadTree id.now.0) (done_answer result) self.old.is_up self.new.is_up (F.content self.old.files) (F.content self.new.files) }
-        ensures bad_file { F.honest → OrBadFile (F.content self.old.files) result (AnswersShown (LoadTree id.now.0) (done_answer result) self.old.is_up self.new.is_up (shown (F.content self.old.files)) (shown (F.content self.new.files))) }
+        ensures answers { F.honest → AnswersCommand F.content (LoadTree id.now.0) done_answer result self.old self.new }
         ensures refused { F.honest → IfErr result (λ e. (e ≡ NodeFault.Down) ⊎ BlamesLoad (F.content self.old.files) id.now e) }
-        ensures down { self.old.is_up ≡ false → result ≡ Err NodeFault.Down }
-        ensures err { F.honest → OnErr result (F.content self.new.files ≡ F.content self.old.files) }
-        ensures up { self.old.is_up ≡ true → self.new.is_up ≡ up_after result }
-        ensures awaits { self.new.awaited ≡ self.old.awaited }
-        ensures clean { F.honest → KeepsClean (F.content self.old.files) (F.content self.new.files) }
+        ensures settles { Settles (result ≡ Err NodeFault.Down) (up_after result) self.old self.new }
+        ensures kept { F.honest → Spares result (F.content self.old.files) (F.content self.new.files) }
         ensures file { F.honest → IfErr result (TellsRead (IsBelow (F.content self.old.files) id.now) NoneRead) }
         ensures wear { Writes F.honest F.content F.failed F.can_fail F.left self.old.files self.new.files (TellsDevice result) }
-        ensures looks { F.honest → MayWriteOr (LoadTree id.now.0) self.old.is_up (F.content self.old.files) (Wears F.failed F.can_fail F.left self.old.files self.new.files (TellsDevice result)) }
+        ensures looks { F.honest → MayCommand F.content (LoadTree id.now.0) self.old (Looks F.failed F.can_fail F.left self.old self.new result) }
     {
         if !self.is_up {
             return Err(NodeFault::Down);
@@ -436,17 +397,14 @@ impl<F: Files> CloneNode<F> {
         committer: &[u8],
         message: &[u8],
     ) -> Result<ObjectId, NodeFault>
-        ensures answers { F.honest → AnswersIfSound (MakeCommit (map bytes_of_id extra_parents.now) author.now committer.now message.now) (made_answer result) self.old.is_up self.new.is_up (F.content self.old.files) (F.content self.new.files) }
-        ensures bad_file { F.honest → OrBadFile (F.content self.old.files) result (AnswersShownIfSound (MakeCommit (map bytes_of_id extra_parents.now) author.now committer.now message.now) (made_answer result) self.old.is_up self.new.is_up (shown (F.content self.old.files)) (shown (F.content self.new.files))) }
+        ensures answers { F.honest → AnswersCommandIfSound F.content (commit_task extra_parents.now author.now committer.now message.now) made_answer result self.old self.new }
         ensures committed { F.honest → IfOk result (λ id. IsCommitted (F.content self.old.files) extra_parents.now author.now committer.now message.now id (F.content self.new.files)) }
-        ensures down { self.old.is_up ≡ false → result ≡ Err NodeFault.Down }
+        ensures settles { Settles (result ≡ Err NodeFault.Down) (up_after result) self.old self.new }
         ensures err { F.honest → OnErr result (SameOutside (codes "objects/") (F.content self.old.files) (F.content self.new.files)) }
-        ensures up { self.old.is_up ≡ true → self.new.is_up ≡ up_after result }
-        ensures awaits { self.new.awaited ≡ self.old.awaited }
         ensures clean { F.honest → KeepsClean (F.content self.old.files) (F.content self.new.files) }
         ensures file { F.honest → IfErr result (TellsRead (IsOfCommit (F.content self.old.files) extra_parents.now author.now committer.now message.now) (IsAtHead (F.content self.old.files))) }
         ensures wear { Writes F.honest F.content F.failed F.can_fail F.left self.old.files self.new.files (TellsDevice result) }
-        ensures looks { F.honest → MayWriteIfSoundOr (MakeCommit (map bytes_of_id extra_parents.now) author.now committer.now message.now) self.old.is_up (F.content self.old.files) (Wears F.failed F.can_fail F.left self.old.files self.new.files (TellsDevice result)) }
+        ensures looks { F.honest → MayCommit F.content extra_parents.now author.now committer.now message.now self.old (Looks F.failed F.can_fail F.left self.old self.new result) }
     {
         if !self.is_up {
             return Err(NodeFault::Down);
@@ -489,10 +447,8 @@ impl<F: Files> CloneNode<F> {
 
     /// The message that asks the shared node for its refs. They are awaited then, and what was awaited before is forgotten.
     pub fn start_fetch(&mut self) -> Result<Vec<u8>, CloneFault>
-        ensures answers { F.honest → AnswersClone (Command StartFetch) (SentAs result) (F.content self.old.files) (F.content self.new.files) self.old.awaited self.new.awaited self.old.is_up self.new.is_up }
-        ensures awaits { OnErr result (self.new.awaited ≡ self.old.awaited) }
-        ensures down { self.old.is_up ≡ false → result ≡ Err (CloneFault.Node NodeFault.Down) }
-        ensures up { self.old.is_up ≡ true → self.new.is_up ≡ clone_up_after result }
+        ensures answers { F.honest → AnswersCall F.content (Command StartFetch) (SentAs result) self.old self.new }
+        ensures settles { SettlesTaken result (result ≡ Err (CloneFault.Node NodeFault.Down)) (clone_up_after result) self.old self.new }
         ensures refused { IfErr result (λ e. (e ≡ CloneFault.Node NodeFault.Down) ⊎ (e ≡ of_device Memory)) }
         ensures same { self.new.files ≡ self.old.files }
     {
@@ -515,11 +471,9 @@ impl<F: Files> CloneNode<F> {
     /// item. More than 256 are refused (84), and then the first id of which not all is there (40). What is awaited stays awaited.
     pub fn start_push(&mut self, items: &[PushItem]) -> Result<Vec<u8>, CloneFault>
         requires some { items.now ≢ [] }
-        ensures answers { F.honest → (¬ IsItemId (machine_items items.now) zero_id) → AnswersClone (Command (StartPush false (machine_items items.now))) (SentAs result) (F.content self.old.files) (F.content self.new.files) self.old.awaited self.new.awaited self.old.is_up self.new.is_up }
+        ensures answers { F.honest → PushesNoZero items.now → AnswersCall F.content (Command (StartPush false (machine_items items.now))) (SentAs result) self.old self.new }
         ensures bad_file { F.honest → IfErr result (λ e. (e ≡ CloneFault.Node NodeFault.Down) ⊎ IsRefusedStart (F.content self.old.files) items.now e) }
-        ensures awaits { self.new.awaited ≡ self.old.awaited }
-        ensures down { self.old.is_up ≡ false → result ≡ Err (CloneFault.Node NodeFault.Down) }
-        ensures up { self.old.is_up ≡ true → self.new.is_up ≡ clone_up_after result }
+        ensures settles { Settles (result ≡ Err (CloneFault.Node NodeFault.Down)) (clone_up_after result) self.old self.new }
         ensures same { F.content self.new.files ≡ F.content self.old.files }
         ensures wear { Wears F.failed F.can_fail F.left self.old.files self.new.files (CloneTellsDevice result) }
     {
@@ -541,16 +495,14 @@ impl<F: Files> CloneNode<F> {
     /// which not all is there that was asked for (92); nothing is changed then, and what was awaited stays so. What was taken is
     /// awaited no longer; where ids are asked for, their pack is awaited.
     pub fn receive(&mut self, bytes: &[u8]) -> Result<Received, CloneFault>
-        ensures answers { F.honest → (m : Sent) → Reads bytes.now m → AnswersClone (Receive m) (ReceivedAs result) (F.content self.old.files) (F.content self.new.files) self.old.awaited self.new.awaited self.old.is_up self.new.is_up }
-        ensures unread { F.honest → (n : ℕ) → IsUnread bytes.now n → AnswersClone (Asks (Unread n)) (ReceivedAs result) (F.content self.old.files) (F.content self.new.files) self.old.awaited self.new.awaited self.old.is_up self.new.is_up }
+        ensures answers { F.honest → (m : Sent) → Reads bytes.now m → AnswersCall F.content (Receive m) (ReceivedAs result) self.old self.new }
+        ensures unread { F.honest → (n : ℕ) → IsUnread bytes.now n → AnswersCall F.content (Asks (Unread n)) (ReceivedAs result) self.old self.new }
         ensures bad_file { F.honest → IfErr result (λ e. (e ≡ CloneFault.Node NodeFault.Down) ⊎ IsRefusedBytes (F.content self.old.files) self.old.awaited bytes.now e) }
         ensures err { F.honest → IfErr result (λ e. IsOfMessage e → F.content self.new.files ≡ F.content self.old.files) }
-        ensures awaits { OnErr result (self.new.awaited ≡ self.old.awaited) }
-        ensures down { self.old.is_up ≡ false → result ≡ Err (CloneFault.Node NodeFault.Down) }
-        ensures up { self.old.is_up ≡ true → self.new.is_up ≡ clone_up_after result }
+        ensures settles { SettlesTaken result (result ≡ Err (CloneFault.Node NodeFault.Down)) (clone_up_after result) self.old self.new }
         ensures clean { F.honest → KeepsClean (F.content self.old.files) (F.content self.new.files) }
         ensures wear { Writes F.honest F.content F.failed F.can_fail F.left self.old.files self.new.files (CloneTellsDevice result) }
-        ensures looks { F.honest → (m : Sent) → Reads bytes.now m → MayOr (Receive m) self.old.awaited self.old.is_up (F.content self.old.files) (Wears F.failed F.can_fail F.left self.old.files self.new.files (CloneTellsDevice result)) }
+        ensures looks { F.honest → (m : Sent) → Reads bytes.now m → MayCall F.content (Receive m) self.old (Wears F.failed F.can_fail F.left self.old.files self.new.files (CloneTellsDevice result)) }
     {
         if !self.is_up {
             return Err(CloneFault::Node(NodeFault::Down));
@@ -599,14 +551,12 @@ impl<F: Files> CloneNode<F> {
         &mut self,
         reader: &mut R,
     ) -> Result<Option<Received>, ReceiveFault>
-        ensures receives { ReceivesFrom F.honest (R.remaining reader.old) (R.remaining reader.new) (F.content self.old.files) (F.content self.new.files) self.old.awaited self.new.awaited self.old.is_up self.new.is_up result }
-        ensures known { (m : Sent) (bytes rest : List ℕ) → R.remaining reader.old ≡ Some (bytes ++ rest) → Reads bytes m → IsKnown F.honest self.old.is_up m rest (R.remaining reader.new) (λ call. AnswersClone call (ToldAs result) (F.content self.old.files) (F.content self.new.files) self.old.awaited self.new.awaited self.old.is_up self.new.is_up) result }
+        ensures receives { ReceivesNext F.honest F.content (R.remaining reader.old) (R.remaining reader.new) self.old self.new result }
+        ensures known { AnswersFirst F.honest F.content (R.remaining reader.old) (R.remaining reader.new) self.old self.new result }
         ensures none { IfOk result (λ found. IfNone found (self.new ≡ self.old)) }
-        ensures lost { F.honest → IfErr result (λ e. e ≡ ReceiveFault.ReadFailed → KeepsHeld (F.content self.old.files) (F.content self.new.files) self.old.awaited self.new.awaited self.old.is_up self.new.is_up) }
+        ensures lost { F.honest → IfErr result (λ e. e ≡ ReceiveFault.ReadFailed → KeepsNode F.content self.old self.new) }
         ensures cleared { F.honest → self.new.is_up ≡ true → IsDropped 0 (F.content self.old.files) → IsDropped 0 (F.content self.new.files) }
-        ensures awaits { OnErr result (self.new.awaited ≡ self.old.awaited) }
-        ensures down { self.old.is_up ≡ false → self.new ≡ self.old }
-        ensures up { self.old.is_up ≡ true → self.new.is_up ≡ receive_up_after result }
+        ensures settles { SettlesTaken result (self.new ≡ self.old) (receive_up_after result) self.old self.new }
         ensures clean { F.honest → KeepsClean (F.content self.old.files) (F.content self.new.files) }
         ensures wear { Writes F.honest F.content F.failed F.can_fail F.left self.old.files self.new.files (ReceiveTellsDevice result) }
     {
@@ -620,15 +570,13 @@ impl<F: Files> CloneNode<F> {
 
     /// The same of a message that was read already.
     pub fn receive_message(&mut self, message: Message) -> Result<Received, CloneFault>
-        ensures answers { F.honest → (m : Sent) → TextOf m (message_text message) → AnswersClone (Receive m) (ReceivedAs result) (F.content self.old.files) (F.content self.new.files) self.old.awaited self.new.awaited self.old.is_up self.new.is_up }
+        ensures answers { F.honest → AnswersText F.content (message_text message) result self.old self.new }
         ensures bad_file { F.honest → IfErr result (λ e. (e ≡ CloneFault.Node NodeFault.Down) ⊎ IsRefusedMessage (F.content self.old.files) self.old.awaited (message_text message) e) }
         ensures err { F.honest → IfErr result (λ e. IsOfMessage e → F.content self.new.files ≡ F.content self.old.files) }
-        ensures awaits { OnErr result (self.new.awaited ≡ self.old.awaited) }
-        ensures down { self.old.is_up ≡ false → result ≡ Err (CloneFault.Node NodeFault.Down) }
-        ensures up { self.old.is_up ≡ true → self.new.is_up ≡ clone_up_after result }
+        ensures settles { SettlesTaken result (result ≡ Err (CloneFault.Node NodeFault.Down)) (clone_up_after result) self.old self.new }
         ensures clean { F.honest → KeepsClean (F.content self.old.files) (F.content self.new.files) }
         ensures wear { Writes F.honest F.content F.failed F.can_fail F.left self.old.files self.new.files (CloneTellsDevice result) }
-        ensures looks { F.honest → (m : Sent) → TextOf m (message_text message) → MayOr (Receive m) self.old.awaited self.old.is_up (F.content self.old.files) (Wears F.failed F.can_fail F.left self.old.files self.new.files (CloneTellsDevice result)) }
+        ensures looks { F.honest → MayText F.content (message_text message) self.old (Wears F.failed F.can_fail F.left self.old.files self.new.files (CloneTellsDevice result)) }
     {
         if !self.is_up {
             return Err(CloneFault::Node(NodeFault::Down));
@@ -640,15 +588,13 @@ impl<F: Files> CloneNode<F> {
 
     /// The same of a report that was read already, which stays the caller's.
     pub fn receive_report(&mut self, report: &Report) -> Result<Received, CloneFault>
-        ensures answers { F.honest → (m : Sent) → TextOf m (a_report (report_text report.now)) → AnswersClone (Receive m) (ReceivedAs result) (F.content self.old.files) (F.content self.new.files) self.old.awaited self.new.awaited self.old.is_up self.new.is_up }
+        ensures answers { F.honest → AnswersText F.content (a_report (report_text report.now)) result self.old self.new }
         ensures bad_file { F.honest → IfErr result (λ e. (e ≡ CloneFault.Node NodeFault.Down) ⊎ IsRefusedMessage (F.content self.old.files) self.old.awaited (a_report (report_text report.now)) e) }
         ensures err { F.honest → IfErr result (λ e. IsOfMessage e → F.content self.new.files ≡ F.content self.old.files) }
-        ensures awaits { OnErr result (self.new.awaited ≡ self.old.awaited) }
-        ensures down { self.old.is_up ≡ false → result ≡ Err (CloneFault.Node NodeFault.Down) }
-        ensures up { self.old.is_up ≡ true → self.new.is_up ≡ clone_up_after result }
+        ensures settles { SettlesTaken result (result ≡ Err (CloneFault.Node NodeFault.Down)) (clone_up_after result) self.old self.new }
         ensures clean { F.honest → KeepsClean (F.content self.old.files) (F.content self.new.files) }
         ensures wear { Writes F.honest F.content F.failed F.can_fail F.left self.old.files self.new.files (CloneTellsDevice result) }
-        ensures looks { F.honest → (m : Sent) → TextOf m (a_report (report_text report.now)) → MayOr (Receive m) self.old.awaited self.old.is_up (F.content self.old.files) (Wears F.failed F.can_fail F.left self.old.files self.new.files (CloneTellsDevice result)) }
+        ensures looks { F.honest → MayText F.content (a_report (report_text report.now)) self.old (Wears F.failed F.can_fail F.left self.old.files self.new.files (CloneTellsDevice result)) }
     {
         if !self.is_up {
             return Err(CloneFault::Node(NodeFault::Down));
@@ -666,18 +612,14 @@ impl<F: Files> CloneNode<F> {
     /// Puts all refs into one file. Nothing else is written, and no ref changes, wherever it stops. 33 where one of their files
     /// can't be read: then nothing is written.
     pub fn pack_refs(&mut self) -> Result<(), NodeFault>
-        ensures answers { F.honest → AnswersClone (Asks PackRefs) (RestartedAs result) (F.content self.old.files) (F.content self.new.files) self.old.awaited self.new.awaited self.old.is_up self.new.is_up }
+        ensures answers { F.honest → AnswersCall F.content (Asks PackRefs) (RestartedAs result) self.old self.new }
         ensures packed { F.honest → OnOk result (IsPackedFrom (F.content self.old.files) (F.content self.new.files)) }
-        ensures rest { F.honest → KeepsOutside (F.content self.old.files) (F.content self.new.files) }
-        ensures kept { F.honest → shown (F.content self.new.files) ≡ shown (F.content self.old.files) }
+        ensures kept { F.honest → PacksOnly (F.content self.old.files) (F.content self.new.files) }
         ensures refused { F.honest → IfErr result (λ e. (e ≡ NodeFault.Down) ⊎ BlamesPacking (F.content self.old.files) e) }
         ensures err { F.honest → OnErr result ((self.new.is_up ≡ false) ⊎ (F.content self.new.files ≡ F.content self.old.files)) }
-        ensures down { self.old.is_up ≡ false → result ≡ Err NodeFault.Down }
-        ensures up { self.old.is_up ≡ true → self.new.is_up ≡ up_after result }
-        ensures awaits { self.new.awaited ≡ self.old.awaited }
-        ensures clean { F.honest → IsClean (F.content self.old.files) → IsClean (F.content self.new.files) }
+        ensures settles { Settles (result ≡ Err NodeFault.Down) (up_after result) self.old self.new }
         ensures wear { Writes F.honest F.content F.failed F.can_fail F.left self.old.files self.new.files (TellsDevice result) }
-        ensures looks { F.honest → MayOr (Asks PackRefs) self.old.awaited self.old.is_up (F.content self.old.files) (Wears F.failed F.can_fail F.left self.old.files self.new.files (TellsDevice result)) }
+        ensures looks { F.honest → MayCall F.content (Asks PackRefs) self.old (Looks F.failed F.can_fail F.left self.old self.new result) }
     {
         if !self.is_up {
             return Err(NodeFault::Down);
@@ -691,12 +633,10 @@ impl<F: Files> CloneNode<F> {
 
     /// The object that an expression names at the clone: 51 to 56 where it names none.
     pub fn resolve(&mut self, expr: &Expr<'_>) -> Result<ObjectId, CloneFault>
-        ensures answers { F.honest → (text : List ℕ) → IsExpr text (expr_view expr.now) → AnswersClone (Asks (Resolve text)) (FoundAs result) (F.content self.old.files) (F.content self.new.files) self.old.awaited self.new.awaited self.old.is_up self.new.is_up }
+        ensures answers { F.honest → (text : List ℕ) → IsExpr text (expr_view expr.now) → AnswersCall F.content (Asks (Resolve text)) (FoundAs result) self.old self.new }
         ensures value { F.honest → IfOk result (λ id. DenotesIn (F.content self.old.files) (expr_view expr.now) (Ok id)) }
         ensures bad_file { F.honest → IfErr result (λ e. (e ≡ CloneFault.Node NodeFault.Down) ⊎ IsRefusedValue (F.content self.old.files) (expr_view expr.now) e) }
-        ensures awaits { self.new.awaited ≡ self.old.awaited }
-        ensures down { self.old.is_up ≡ false → result ≡ Err (CloneFault.Node NodeFault.Down) }
-        ensures up { self.old.is_up ≡ true → self.new.is_up ≡ clone_up_after result }
+        ensures settles { Settles (result ≡ Err (CloneFault.Node NodeFault.Down)) (clone_up_after result) self.old self.new }
         ensures same { F.content self.new.files ≡ F.content self.old.files }
         ensures wear { Wears F.failed F.can_fail F.left self.old.files self.new.files (CloneTellsDevice result) }
     {

@@ -1,16 +1,14 @@
 // Putting many files into the index at once: it is read and written once for all of them.
-ghost use Rattle.std.specs.Prelude.{◌≡◌, ◌≢◌, ◌⊎◌, [], Ok, IfErr, OnOk, OnErr, IsOk, map};
+ghost use Rattle.std.specs.Prelude.{◌≡◌, ◌≢◌, ◌⊎◌, [], Ok, IfErr, OnOk, IsOk};
 ghost use Rattle.std.specs.List.{All};
 ghost use Rattle.vc_pack.specs.Reached.{KeepsObjects};
 ghost use Rattle.vc_files.specs.Failures.{Wears, Writes};
 ghost use Rattle.vc_index.specs.IndexMap.{IndexMap};
-ghost use Rattle.vc_index.specs.IndexText.{index_text};
-ghost use Rattle.vc_node.specs.Clean.{KeepsClean};
+ghost use Rattle.vc_node.specs.Clean.{Spares};
 ghost use Rattle.vc_node.specs.IndexFile.{SpellsIndex};
 ghost use Rattle.vc_node.specs.NodeFault.{TellsDevice};
 ghost use Rattle.vc_node.specs.Reads.{NoneRead, TellsRead};
-ghost use Rattle.vc_node.specs.Shown.{shown, with_index_shown};
-ghost use Rattle.vc_node.specs.Staging.{BlamesStaging, MayStandAll, RefusesFirst, placed, with_all};
+ghost use Rattle.vc_node.specs.Staging.{AreStaged, BlamesStaging, MayStandAll, RefusesFirst, places, with_all};
 
 use crate::NodeFault;
 use crate::index_file::{read_index, write_index};
@@ -30,9 +28,9 @@ pub struct Staged {
 // Puts the files into the index, in their order.
 fn put_all(alloc: Global, index: &mut Index, files: &[Staged]) -> Result<(), IndexFault>
     requires { All (λ file. file.mode ≢ Mode.Tree) files.now }
-    ensures put { OnOk result (index.new ≡ with_all index.old (map placed files.now)) }
-    ensures may { IsOk result → MayStandAll index.old (map placed files.now) }
-    ensures refused { IfErr result (RefusesFirst index.old (map placed files.now)) }
+    ensures put { OnOk result (index.new ≡ with_all index.old (places files.now)) }
+    ensures may { IsOk result → MayStandAll index.old (places files.now) }
+    ensures refused { IfErr result (RefusesFirst index.old (places files.now)) }
 {
     for file in files {
         index.add(alloc, &file.path, file.mode, file.id)?;
@@ -47,16 +45,14 @@ pub(crate) fn stage_all<F: Files>(
     staged: &[Staged],
 ) -> Result<(), NodeFault>
     requires { All (λ file. file.mode ≢ Mode.Tree) staged.now }
-    ensures staged { F.honest → (m : IndexMap) → SpellsIndex (F.content files.old) m → OnOk result (shown (F.content files.new) ≡ with_index_shown (shown (F.content files.old)) (index_text (with_all m (map placed staged.now)))) }
-    ensures may { F.honest → (m : IndexMap) → SpellsIndex (F.content files.old) m → OnOk result (MayStandAll m (map placed staged.now)) }
-    ensures refused { F.honest → (m : IndexMap) → SpellsIndex (F.content files.old) m → IfErr result (BlamesStaging m (map placed staged.now)) }
-    ensures err { F.honest → OnErr result (F.content files.new ≡ F.content files.old) }
+    ensures staged { F.honest → (m : IndexMap) → SpellsIndex (F.content files.old) m → OnOk result (AreStaged (F.content files.old) m (places staged.now) (F.content files.new)) }
+    ensures refused { F.honest → (m : IndexMap) → SpellsIndex (F.content files.old) m → IfErr result (BlamesStaging m (places staged.now)) }
+    ensures kept { F.honest → Spares result (F.content files.old) (F.content files.new) }
     ensures none { staged.now ≡ [] → (result ≡ Ok tt) × (files.new ≡ files.old) }
     ensures objects { F.honest → KeepsObjects (F.content files.old) (F.content files.new) }
-    ensures clean { F.honest → KeepsClean (F.content files.old) (F.content files.new) }
     ensures file { IfErr result (TellsRead NoneRead NoneRead) }
     ensures wear { Writes F.honest F.content F.failed F.can_fail F.left files.old files.new (TellsDevice result) }
-    ensures looks { F.honest → (m : IndexMap) → SpellsIndex (F.content files.old) m → MayStandAll m (map placed staged.now) ⊎ Wears F.failed F.can_fail F.left files.old files.new (TellsDevice result) }
+    ensures looks { F.honest → (m : IndexMap) → SpellsIndex (F.content files.old) m → MayStandAll m (places staged.now) ⊎ Wears F.failed F.can_fail F.left files.old files.new (TellsDevice result) }
 {
     if staged.is_empty() {
         return Ok(());

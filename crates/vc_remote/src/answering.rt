@@ -1,14 +1,13 @@
 //! One message at the shared node that files hold.
-ghost use Rattle.std.specs.Prelude.{◌≡◌, ◌++◌, ℕ, List, Some, IfErr, OnErr, OnOk};
+ghost use Rattle.std.specs.Prelude.{IfErr, OnErr, OnOk};
 ghost use Rattle.vc_files.specs.Failures.{Writes};
-ghost use Rattle.vc_message.specs.Machine.{Reads};
-ghost use Rattle.vc_model.specs.Message.{Message as Sent};
 ghost use Rattle.vc_model.specs.Repository.{Repository};
 ghost use Rattle.vc_model.specs.SharedCall.SharedCall.{Accept};
+ghost use Rattle.vc_node.specs.Arriving.{FirstRead};
 ghost use Rattle.vc_node.specs.Blames.{BlamesOpen};
 ghost use Rattle.vc_node.specs.Clean.{KeepsClean};
 ghost use Rattle.vc_node.specs.NodeFault.{TellsDevice as TellsNodeDevice};
-ghost use Rattle.vc_node.specs.Opening.{IsOpenable};
+ghost use Rattle.vc_node.specs.Opening.{IsOpenable, OpenableAs};
 ghost use Rattle.vc_remote.specs.Answering.{AnswersRead, HoldsOpened, IsRefusedOnce};
 ghost use Rattle.vc_shared.specs.AcceptFault.{TellsDevice};
 
@@ -40,7 +39,7 @@ pub fn answer_from<F: Files, R: Read>(
     files: F,
     reader: &mut R,
 ) -> (F, Result<Option<Vec<u8>>, AcceptFault>)
-    ensures answers { F.honest → (r : Repository) → IsOpenable (F.content files) r → (m : Sent) (bytes rest : List ℕ) → R.remaining reader.old ≡ Some (bytes ++ rest) → Reads bytes m → AnswersRead (Accept m) r (F.content files) (F.content result.0) result.1 }
+    ensures answers { F.honest → OpenableAs (F.content files) (λ r. FirstRead (R.remaining reader.old) (λ m rest. AnswersRead (Accept m) r (F.content files) (F.content result.0) result.1)) }
     ensures refused { F.honest → IsRefusedOnce (R.remaining reader.old) (R.remaining reader.new) (F.content files) result.1 }
     ensures wear { Writes F.honest F.content F.failed F.can_fail F.left files result.0 (TellsDevice result.1) }
 {

@@ -1,15 +1,16 @@
 -- A message that a reader brings to the shared node, served to its end: what came of the reader, and what is told of it.
 use Rattle.std.specs.Global.{Global}
-use Rattle.std.specs.Prelude.{◌≡◌, ◌++◌, ⊤, ℕ, Bool, true, List, Option, Some, Result, Ok, Err, Vec}
+use Rattle.std.specs.Prelude.{◌≡◌, ⊤, ℕ, Bool, true, List, Option, Some, Result, Ok, Err, Vec}
 use Rattle.vc_files.specs.FileMap.{FileMap}
 use Rattle.vc_message.specs.Coming.{Came, IsCome, a_message}
-use Rattle.vc_message.specs.Machine.{Reads}
-use Rattle.vc_model.specs.Message.{Message}
 use Rattle.vc_model.specs.SharedCall.{SharedCall}
+use Rattle.vc_node.specs.Arriving.{FirstRead}
 use Rattle.vc_session.specs.Session.{SessionText}
 use Rattle.vc_shared.specs.Arriving.{IsCallOf, IsKnown, IsTold}
+use Rattle.vc_shared.specs.Holding.{SharedText}
 use Rattle.vc_shared.specs.declared.accept_fault.AcceptFault.{AcceptFault}
 use Rattle.vc_shared.specs.declared.accept_fault.AcceptFault.TheVariants.{Node}
+use Rattle.vc_shared.specs.declared.fault.SharedFault.{SharedFault}
 use Rattle.vc_server.specs.Refusals.{IsRefusedMessageAnswer}
 use Rattle.vc_server.specs.Serving.{Serves}
 
@@ -39,5 +40,15 @@ pub record ServesFrom (honest : Type 0) (before rest : Option (List ℕ)) (old n
 -- Where a message is the first that the reader has, it is what is served, and what is behind it is left; or the reader failed, or a fault
 -- came.
 abbrev pub ServesKnown : Type 0 → Option (List ℕ) → Option (List ℕ) → FileMap → FileMap → List (Option SessionText) → List (Option SessionText) → Bool → Bool → Reply → Type 0
-ServesKnown honest before left old new slots after was_up is_up result =
-    (m : Message) (bytes rest : List ℕ) → before ≡ Some (bytes ++ rest) → Reads bytes m → IsKnown honest was_up m rest left (λ call. ServesAs call result old new slots after was_up is_up) result
+ServesKnown honest before left old new slots after was_up is_up result = FirstRead before (λ m rest. IsKnown honest was_up m rest left (λ call. ServesAs call result old new slots after was_up is_up) result)
+
+-- ---- of the node as one value
+
+abbrev pub ServesCall : {F : Type 0} → (F → FileMap) → SharedCall → Result (Vec ℕ Global) SharedFault → SharedText F → SharedText F → Type 0
+ServesCall content call result old new = Serves call result (content old.files) (content new.files) old.slots new.slots old.is_up new.is_up
+
+abbrev pub ServesNext : {F : Type 0} → Type 0 → (F → FileMap) → Option (List ℕ) → Option (List ℕ) → SharedText F → SharedText F → Reply → Type 0
+ServesNext honest content before rest old new result = ServesFrom honest before rest (content old.files) (content new.files) old.slots new.slots old.is_up new.is_up result
+
+abbrev pub ServesFirst : {F : Type 0} → Type 0 → (F → FileMap) → Option (List ℕ) → Option (List ℕ) → SharedText F → SharedText F → Reply → Type 0
+ServesFirst honest content before left old new result = ServesKnown honest before left (content old.files) (content new.files) old.slots new.slots old.is_up new.is_up result

@@ -7,12 +7,12 @@ ghost use Rattle.vc_model.specs.Question.Question.{Unread};
 ghost use Rattle.vc_model.specs.SharedCall.SharedCall.{Accept, Asks};
 ghost use Rattle.vc_node.specs.Clean.{KeepsClean};
 ghost use Rattle.vc_node.specs.declared.fault.NodeFault.TheVariants.{Down};
-ghost use Rattle.vc_server.specs.Coming.{ServesFrom, ServesKnown};
+ghost use Rattle.vc_server.specs.Coming.{ServesCall, ServesFirst, ServesNext};
 ghost use Rattle.vc_server.specs.Refusals.{IsRefusedAnswer, IsRefusedOnTheWay};
-ghost use Rattle.vc_server.specs.Serving.{RepliesTo, Serves, StepsToEnd, report_of};
+ghost use Rattle.vc_server.specs.Serving.{RepliesTo, StepsToEnd, report_of};
 ghost use Rattle.vc_shared.specs.AcceptFault.{TellsDevice as TellsAcceptDevice, up_after as accept_up_after};
-ghost use Rattle.vc_shared.specs.Arriving.{KeepsHeld};
 ghost use Rattle.vc_shared.specs.Faults.{TellsDevice, up_after};
+ghost use Rattle.vc_shared.specs.Node.{KeepsNode};
 ghost use Rattle.vc_shared.specs.Slots.{AreTellable};
 ghost use Rattle.vc_shared.specs.declared.fault.SharedFault.TheVariants.{Node};
 
@@ -75,8 +75,8 @@ fn reply_to<F: Files>(shared: &mut Shared<F>, accepted: Accepted) -> Result<Vec<
 /// clone takes (91), a want of what no ref reaches (90), and a push where eight are open (110). After a fault the node is down, and
 /// refuses (112).
 pub fn answer<F: Files>(shared: &mut Shared<F>, bytes: &[u8]) -> Result<Vec<u8>, SharedFault>
-    ensures answers { F.honest → (m : Sent) → Reads bytes.now m → Serves (Accept m) result (F.content shared.old.files) (F.content shared.new.files) shared.old.slots shared.new.slots shared.old.is_up shared.new.is_up }
-    ensures unread { F.honest → (n : ℕ) → IsUnread bytes.now n → Serves (Asks (Unread n)) result (F.content shared.old.files) (F.content shared.new.files) shared.old.slots shared.new.slots shared.old.is_up shared.new.is_up }
+    ensures answers { F.honest → (m : Sent) → Reads bytes.now m → ServesCall F.content (Accept m) result shared.old shared.new }
+    ensures unread { F.honest → (n : ℕ) → IsUnread bytes.now n → ServesCall F.content (Asks (Unread n)) result shared.old shared.new }
     ensures bad_file { F.honest → IfErr result (IsRefusedAnswer (F.content shared.old.files) shared.old.slots bytes.now) }
     ensures down { shared.old.is_up ≡ false → result ≡ Err (Node Down) }
     ensures up { shared.old.is_up ≡ true → shared.new.is_up ≡ up_after result }
@@ -95,10 +95,10 @@ pub fn answer_from<F: Files, R: Read>(
     shared: &mut Shared<F>,
     reader: &mut R,
 ) -> Result<Option<Vec<u8>>, AcceptFault>
-    ensures serves { ServesFrom F.honest (R.remaining reader.old) (R.remaining reader.new) (F.content shared.old.files) (F.content shared.new.files) shared.old.slots shared.new.slots shared.old.is_up shared.new.is_up result }
-    ensures known { ServesKnown F.honest (R.remaining reader.old) (R.remaining reader.new) (F.content shared.old.files) (F.content shared.new.files) shared.old.slots shared.new.slots shared.old.is_up shared.new.is_up result }
+    ensures serves { ServesNext F.honest F.content (R.remaining reader.old) (R.remaining reader.new) shared.old shared.new result }
+    ensures known { ServesFirst F.honest F.content (R.remaining reader.old) (R.remaining reader.new) shared.old shared.new result }
     ensures none { IfOk result (λ found. IfNone found (shared.new ≡ shared.old)) }
-    ensures lost { F.honest → IfErr result (λ e. e ≡ AcceptFault.ReadFailed → KeepsHeld (F.content shared.old.files) (F.content shared.new.files) shared.old.slots shared.new.slots shared.old.is_up shared.new.is_up) }
+    ensures lost { F.honest → IfErr result (λ e. e ≡ AcceptFault.ReadFailed → KeepsNode F.content shared.old shared.new) }
     ensures down { shared.old.is_up ≡ false → shared.new ≡ shared.old }
     ensures up { shared.old.is_up ≡ true → shared.new.is_up ≡ accept_up_after result }
     ensures clean { F.honest → KeepsClean (F.content shared.old.files) (F.content shared.new.files) }

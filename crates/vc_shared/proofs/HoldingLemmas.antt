@@ -14,13 +14,15 @@ use Rattle.vc_refs.specs.Head.{KeepsOutside, KeepsTheRest, head_of}
 use Rattle.vc_refs.specs.Refs.{packed_path}
 use Rattle.vc_rules.proofs.OpenPushLaws.{others_stay}
 use Rattle.vc_session.specs.Clean.{MakesNoneBad}
+use Rattle.vc_session.proofs.CleanLemmas.{bad_same}
 use Rattle.vc_session.proofs.FrameLemmas.{other_slot}
+use Rattle.vc_session.proofs.NumberLemmas.{agreement_same}
 use Rattle.vc_session.specs.Quarantine.{IsDropped, quarantine_folder}
 use Rattle.vc_session.specs.Session.{SessionText}
 use Rattle.vc_session.specs.Steps.{Steps}
 use Rattle.vc_session.specs.declared.stage.Stepped.{Stepped as SessionStep}
 use Rattle.vc_session.specs.declared.stage.Stepped.TheVariants as session
-use Rattle.vc_shared.specs.Holding.{HoldsSlot}
+use Rattle.vc_shared.specs.Holding.{HoldsSlot, KeepsGood}
 use Rattle.vc_shared.specs.Slots.{slot_of}
 
 -- ---- slots
@@ -81,3 +83,7 @@ slot_stays old new s t did slot small fits apart h bad (Some u) (Some q) (at, pu
     (at, others_stay old new s t u did q (omega (arith, small)) (omega (arith, fits, at)) (λ same. apart (sym at ∙ same)) h push, λ id damaged. clean id (bad.quarantines slot (omega (arith, fits)) id damaged))
 slot_stays old new s t did slot small fits apart h bad None (Some q) never = never
 slot_stays old new s t did slot small fits apart h bad (Some u) None never = never
+
+-- what changed nothing
+pub good_same : (old new : FileMap) → new ≡ old → KeepsGood old new
+good_same old new same = record { agrees = agreement_same old new same; bad = bad_same old new same }

@@ -6,7 +6,7 @@ use Rattle.vc_files.specs.declared.faults.Fault.TheVariants.{Memory}
 use Rattle.vc_message.specs.Coming.{Came, IsCome, TakesAll, TakesPart, a_message, cut_short, lost, no_message, nothing_came}
 use Rattle.vc_message.specs.AnyMessage.{a_push, any_step, beginning}
 use Rattle.vc_message.specs.Incoming.{TakesFault}
-use Rattle.vc_message.specs.Machine.{Reads, TextOf, pkt_number}
+use Rattle.vc_message.specs.Machine.{TextOf, pkt_number}
 use Rattle.vc_message.specs.Streaming.{LeadsTo, of_push, state_at}
 use Rattle.vc_message.specs.declared.incoming_fault.IncomingFault.{IncomingFault}
 use Rattle.vc_message.specs.declared.incoming_fault.IncomingFault.TheVariants as incoming
@@ -17,6 +17,7 @@ use Rattle.vc_model.specs.Question.Question.{Unread as AsksUnread}
 use Rattle.vc_model.specs.Shared.{SharedNode}
 use Rattle.vc_model.specs.SharedCall.{SharedCall}
 use Rattle.vc_model.specs.SharedCall.SharedCall.{Accept, Asks, Open}
+use Rattle.vc_node.specs.Arriving.{FirstRead}
 use Rattle.vc_node.specs.declared.fault.NodeFault.TheVariants.{Down}
 use Rattle.vc_object.specs.declared.fault.ObjectFault.{ObjectFault}
 use Rattle.vc_pkt.specs.ObjectStream.{between}
@@ -57,6 +58,9 @@ pub record Arrives (honest : Type 0) (before new : Option (List ℕ)) (content :
   pub opened : IsOpened slot fault push.commands s
   pub carries : honest → Carries content slot s.names (objects_of_push push.carried)
 
+abbrev pub ArrivesIn : Type 0 → Option (List ℕ) → FileMap → ℕ → SessionText → Option (List ℕ) → Type 0
+ArrivesIn honest new content slot s before = Arrives honest before new content slot s
+
 -- why it didn't all come: the bytes are no message, the reader failed, or the node did
 pub data IsStopped (before new : Option (List ℕ)) (e : AcceptFault) : Type 0 where
   by_bytes : (fault : PktFault) → TakesFault any_step beginning before new fault → e ≡ Node (shared.Unread fault) → IsStopped before new e
@@ -68,6 +72,9 @@ pub record OpensFrom (honest : Type 0) (before new : Option (List ℕ)) (content
   pub push : PushText
   pub taken : TakesAll before new (a_push push)
   pub opens : honest → OpensSlot content slots after push k
+
+abbrev pub OpensIn : Type 0 → Option (List ℕ) → FileMap → List (Option SessionText) → List (Option SessionText) → ℕ → Option (List ℕ) → Type 0
+OpensIn honest new content slots after k before = OpensFrom honest before new content slots after k
 
 -- why none is opened: it didn't all come, or it did, and all slots are taken
 pub data IsTurnedAway (before new : Option (List ℕ)) (slots : List (Option SessionText)) (e : AcceptFault) : Type 0 where
@@ -155,5 +162,4 @@ IsKnown honest was_up m rest left Answers (Err (Node e)) =
 
 -- so it is of each message that may stand there
 abbrev pub AnswersKnown : Type 0 → Option (List ℕ) → Option (List ℕ) → FileMap → FileMap → List (Option SessionText) → List (Option SessionText) → Bool → Bool → Result (Option Accepted) AcceptFault → Type 0
-AnswersKnown honest before left old new slots after was_up is_up result =
-    (m : Message) (bytes rest : List ℕ) → before ≡ Some (bytes ++ rest) → Reads bytes m → IsKnown honest was_up m rest left (λ call. AnswersShared call (ToldAs result) old new slots after was_up is_up) result
+AnswersKnown honest before left old new slots after was_up is_up result = FirstRead before (λ m rest. IsKnown honest was_up m rest left (λ call. AnswersShared call (ToldAs result) old new slots after was_up is_up) result)

@@ -2,13 +2,14 @@
 use Rattle.std.specs.Prelude.{◌≡◌, ◌<◌, ◌≤◌, ℕ, Bool, true, false, List, length, Option, Some, None}
 use Rattle.std.specs.FinMap.{get}
 use Rattle.vc_files.specs.FileMap.{FileMap}
+use Rattle.vc_history.specs.Stored.{KeepsAgreement}
 use Rattle.vc_model.specs.Push.{OpenPush, Slots}
 use Rattle.vc_model.specs.Shared.{SharedNode}
 use Rattle.vc_node.specs.Clean.{IsClean}
 use Rattle.vc_node.specs.Machine.{Spells}
 use Rattle.vc_node.specs.Shown.{shown}
 use Rattle.vc_rules.specs.OpenPushes.{HoldsPush}
-use Rattle.vc_session.specs.Clean.{IsQuarantineClean}
+use Rattle.vc_session.specs.Clean.{IsQuarantineClean, MakesNoneBad}
 use Rattle.vc_session.specs.Quarantine.{IsDropped}
 use Rattle.vc_session.specs.Session.{SessionText}
 use Rattle.vc_shared.specs.Slots.{slot_of}
@@ -42,3 +43,8 @@ pub record HoldsShared (content : FileMap) (slots : List (Option SessionText)) (
   pub spells : Spells (shown content) n.repository
   pub clean : IsClean content
   pub live : IsLive content slots is_up n.live
+
+-- what is known of generations still agrees, and no file is made bad
+pub record KeepsGood (old new : FileMap) : Type 0 where
+  pub agrees : KeepsAgreement old new
+  pub bad : MakesNoneBad old new

@@ -1,11 +1,14 @@
 -- A step of the push in a slot: that of its session.
-use Rattle.std.specs.Prelude.{◌≡◌, ℕ, List, Option, Some, None, Result, Ok, Err, slice_set}
+use Rattle.std.specs.Prelude.{◌≡◌, ◌⊎◌, ℕ, List, Option, Some, None, Result, Ok, Err, slice_set}
 use Rattle.std.specs.List.{All, flat_map}
 use Rattle.vc_files.specs.FileMap.{FileMap}
+use Rattle.vc_history.specs.Stored.{AgreesIn}
+use Rattle.vc_history.specs.declared.generations.Generations.{Generations}
 use Rattle.vc_pkt.specs.Line.{spelling}
 use Rattle.vc_push.specs.Report.{IsShortTold, IsShortUnpack, report_lines}
 use Rattle.vc_push.specs.ReportView.{bytes_of, report_text, told_of}
 use Rattle.vc_session.specs.Carrying.{HoldsNames}
+use Rattle.vc_session.specs.Clean.{MakesNoneBad}
 use Rattle.vc_session.specs.Session.{IsSession, SessionText}
 use Rattle.vc_session.specs.SessionFault.{IsRefusedStep}
 use Rattle.vc_session.specs.Steps.{EndsEarly, MayWrite, Steps}
@@ -80,3 +83,12 @@ IsRefusedIn content (Some s) e = (f : SessionFault) × (e ≡ of_session f) × I
 abbrev pub MayWriteIn : FileMap → Option SessionText → Type 0
 MayWriteIn content None = ⊥
 MayWriteIn content (Some s) = MayWrite content s s.stage
+
+-- where its quarantine has what it carries, the step may write, or this holds
+abbrev pub MayStepOr : FileMap → Option SessionText → Type 0 → Type 0
+MayStepOr content slot IsLook = IsHeldThere content slot → MayWriteIn content slot ⊎ IsLook
+
+-- what is known of generations agrees then, and no file was made bad
+pub record StepsWell (old new : FileMap) (generations : Generations) : Type 0 where
+  pub agrees : AgreesIn new generations
+  pub bad : MakesNoneBad old new

@@ -1,6 +1,5 @@
 //! A message that a reader brings to the shared node, whose objects go into the quarantine as they come.
 ghost use Rattle.std.specs.Prelude.{◌≡◌, ◌≤◌, Bool, IfOk, IfErr, IfNone, OnErr, OnOk};
-ghost use Rattle.vc_history.specs.Stored.{KeepsAgreement};
 ghost use Rattle.vc_files.specs.FileMap.{SameOutside};
 ghost use Rattle.vc_files.specs.Failures.{Writes};
 ghost use Rattle.vc_push.specs.PushView.{commands_of};
@@ -8,7 +7,8 @@ ghost use Rattle.vc_session.specs.Clean.{IsQuarantineClean, MakesNoneBad};
 ghost use Rattle.vc_session.specs.Quarantine.{quarantine_folder};
 ghost use Rattle.vc_session.specs.Session.{IsSession};
 ghost use Rattle.vc_shared.specs.AcceptFault.{TellsDevice};
-ghost use Rattle.vc_shared.specs.Arriving.{AcceptsUp, Arrives, FromHead, IsCleared, IsStopped, IsTurnedAway, KeepsHeld, OpensFrom, down_told, message_told, slot_told};
+ghost use Rattle.vc_shared.specs.Arriving.{AcceptsUp, ArrivesIn, FromHead, IsCleared, IsStopped, IsTurnedAway, KeepsHeld, OpensIn, down_told, message_told, slot_told};
+ghost use Rattle.vc_shared.specs.Holding.{KeepsGood};
 ghost use Rattle.vc_shared.specs.Pushing.{AreTellableInOne, ChangesFree};
 ghost use Rattle.vc_shared.specs.Slots.{AreTellable};
 ghost use Rattle.vc_shared.specs.declared.accept_fault.AcceptFault.TheVariants.{ReadFailed};
@@ -36,7 +36,7 @@ fn arrive<F: Files, R: Read>(
     commands: Vec<Command>,
 ) -> Result<PushSession, AcceptFault>
     requires few { taken.lines ≤ taken.bytes }
-    ensures arrived { IfOk result (λ s. FromHead (R.remaining reader.old) taken (commands_of commands.items) (λ before. Arrives F.honest before (R.remaining reader.new) (F.content files.new) slot s)) }
+    ensures arrived { IfOk result (λ s. FromHead (R.remaining reader.old) taken (commands_of commands.items) (ArrivesIn F.honest (R.remaining reader.new) (F.content files.new) slot s)) }
     ensures commands { IfOk result (λ s. s.commands ≡ commands_of commands.items) }
     ensures session { IfOk result IsSession }
     ensures clean { F.honest → OnOk result (IsQuarantineClean (F.content files.new) slot) }
@@ -70,13 +70,12 @@ pub(crate) fn take_push<F: Files, R: Read>(
     requires told { AreTellableInOne (commands_of commands.items) }
     requires tellable { AreTellable slots.old }
     ensures tellable { AreTellable slots.new }
-    ensures opened { IfOk result (λ k. FromHead (R.remaining reader.old) taken (commands_of commands.items) (λ before. OpensFrom F.honest before (R.remaining reader.new) (F.content files.new) slots.old slots.new k)) }
+    ensures opened { IfOk result (λ k. FromHead (R.remaining reader.old) taken (commands_of commands.items) (OpensIn F.honest (R.remaining reader.new) (F.content files.new) slots.old slots.new k)) }
     ensures unchanged { OnErr result (slots.new ≡ slots.old) }
     ensures refused { IfErr result (λ e. FromHead (R.remaining reader.old) taken (commands_of commands.items) (λ before. IsTurnedAway before (R.remaining reader.new) slots.old e)) }
     ensures cleared { F.honest → IfErr result (IsCleared (F.content files.new) slots.old) }
     ensures outside { F.honest → ChangesFree (F.content files.old) (F.content files.new) slots.old }
-    ensures agrees { F.honest → KeepsAgreement (F.content files.old) (F.content files.new) }
-    ensures bad { F.honest → MakesNoneBad (F.content files.old) (F.content files.new) }
+    ensures good { F.honest → KeepsGood (F.content files.old) (F.content files.new) }
     ensures wear { Writes F.honest F.content F.failed F.can_fail F.left files.old files.new (TellsDevice result) }
 {
     let Some(slot) = lowest_free(slots) else {
@@ -130,8 +129,7 @@ pub(crate) fn take_next<F: Files, R: Read>(
     ensures none { IfOk result (λ found. IfNone found ((files.new ≡ files.old) × (slots.new ≡ slots.old))) }
     ensures unchanged { OnErr result (slots.new ≡ slots.old) }
     ensures lost { F.honest → IfErr result (λ e. e ≡ ReadFailed → (is_up : Bool) → KeepsHeld (F.content files.old) (F.content files.new) slots.old slots.new is_up is_up) }
-    ensures agrees { F.honest → KeepsAgreement (F.content files.old) (F.content files.new) }
-    ensures bad { F.honest → MakesNoneBad (F.content files.old) (F.content files.new) }
+    ensures good { F.honest → KeepsGood (F.content files.old) (F.content files.new) }
     ensures wear { Writes F.honest F.content F.failed F.can_fail F.left files.old files.new (TellsDevice result) }
 {
     let Some(found) = read_head(alloc, reader)? else {

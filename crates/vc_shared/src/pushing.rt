@@ -1,10 +1,9 @@
 //! A push that comes to the shared node is opened in the lowest free slot.
 ghost use Rattle.std.specs.Prelude.{◌≡◌, IfOk, IfErr, OnErr};
-ghost use Rattle.vc_history.specs.Stored.{KeepsAgreement};
 ghost use Rattle.vc_files.specs.Failures.{Writes};
 ghost use Rattle.vc_push.specs.PushView.{push_text};
-ghost use Rattle.vc_session.specs.Clean.{MakesNoneBad};
 ghost use Rattle.vc_shared.specs.Faults.{TellsDevice};
+ghost use Rattle.vc_shared.specs.Holding.{KeepsGood};
 ghost use Rattle.vc_shared.specs.Pushing.{AreTellableInOne, ChangesFree, FindsFree, IsRefusedPush, OpensSlot, PushAnswers, ReadsTellable};
 ghost use Rattle.vc_shared.specs.Slots.{AreTellable};
 
@@ -41,8 +40,7 @@ pub(crate) fn open_push<F: Files>(
     ensures unchanged { OnErr result (slots.new ≡ slots.old) }
     ensures refused { IfErr result (IsRefusedPush slots.old) }
     ensures outside { F.honest → ChangesFree (F.content files.old) (F.content files.new) slots.old }
-    ensures agrees { F.honest → KeepsAgreement (F.content files.old) (F.content files.new) }
-    ensures bad { F.honest → MakesNoneBad (F.content files.old) (F.content files.new) }
+    ensures good { F.honest → KeepsGood (F.content files.old) (F.content files.new) }
     ensures wear { Writes F.honest F.content F.failed F.can_fail F.left files.old files.new (TellsDevice result) }
 {
     let Some(slot) = lowest_free(slots) else {

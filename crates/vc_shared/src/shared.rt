@@ -1,32 +1,27 @@
 // The shared node.
-ghost use Rattle.std.specs.Prelude.{◌≡◌, ◌⊎◌, ℕ, IfErr, IfNone, IfOk, OnErr, OnOk, Ok, None, Some, List, is_ok, not, false, true};
-ghost use Rattle.std.specs.FinMap.{empty};
+ghost use Rattle.std.specs.Prelude.{◌≡◌, ◌⊎◌, ℕ, IfErr, IfNone, IfOk, OnErr, OnOk, Ok, None, List, is_ok, not, false, true};
 ghost use Rattle.vc_files.specs.Failures.{Wears, Writes};
 ghost use Rattle.vc_message.specs.Machine.{IsUnread, Reads};
 ghost use Rattle.vc_model.specs.Message.{Message as Sent};
 ghost use Rattle.vc_model.specs.Question.Question.{PackRefs, Resolve, Unread};
-ghost use Rattle.vc_model.specs.Repository.{Repository};
 ghost use Rattle.vc_model.specs.SharedCall.SharedCall.{Accept, Asks, Open, StepOf};
 ghost use Rattle.vc_node.specs.Blames.{BlamesOpen, BlamesPacking};
 ghost use Rattle.vc_node.specs.Machine.{up_after as node_up_after};
-ghost use Rattle.vc_node.specs.Clean.{KeepsClean};
+ghost use Rattle.vc_node.specs.Clean.{KeepsClean, PacksOnly};
 ghost use Rattle.vc_node.specs.NodeFault.{IsOfDevice as IsNodeDevice, TellsDevice as TellsNodeDevice};
-ghost use Rattle.vc_node.specs.Opening.{IsOpenable};
-ghost use Rattle.vc_refs.specs.Head.{KeepsOutside};
+ghost use Rattle.vc_node.specs.Opening.{IsOpenable, OpenableAs};
 ghost use Rattle.vc_refs.specs.Packing.{HasLoose, IsPackedFrom};
-ghost use Rattle.vc_refs.specs.Refs.{refs};
 ghost use Rattle.vc_repository.specs.Resolving.{DenotesIn};
 ghost use Rattle.vc_rev.specs.Grammar.{IsExpr};
 ghost use Rattle.vc_rev.specs.Views.{expr_view};
 ghost use Rattle.vc_shared.specs.AcceptFault.{TellsDevice as TellsAcceptDevice, is_fault as is_accept_fault, up_after as accept_up_after};
 ghost use Rattle.vc_shared.specs.Accepting.{IsRefusedBytes, IsToWrite};
-ghost use Rattle.vc_shared.specs.Arriving.{AcceptsFrom, AnswersKnown, KeepsHeld};
-ghost use Rattle.vc_shared.specs.Calls.{AcceptedAs, AnswersShared, RestartedAs, SteppedAs};
+ghost use Rattle.vc_shared.specs.Calls.{AcceptedAs, RestartedAs, SteppedAs};
 ghost use Rattle.vc_shared.specs.Faults.{TellsDevice, fault_answer, is_fault, up_after};
-ghost use Rattle.vc_shared.specs.Holding.{HoldsShared};
+ghost use Rattle.vc_shared.specs.Node.{AcceptsNext, AnswersCall, AnswersFirst, HoldsIn, HoldsOpened, KeepsNode, MayStep, Settles, SettlesTaken, StepsIn};
 ghost use Rattle.vc_shared.specs.Resolving.{FoundAs, IsRefusedValue};
 ghost use Rattle.vc_shared.specs.Slots.{AreTellable, slot_of};
-ghost use Rattle.vc_shared.specs.Stepping.{IsHeldThere, IsRefusedIn, MayWriteIn, StepsSlot};
+ghost use Rattle.vc_shared.specs.Stepping.{IsRefusedIn};
 
 use crate::arriving::refuse_down;
 use crate::{AcceptFault, Accepted, SharedFault, Stepped, accepting, arriving, stepping};
@@ -74,9 +69,9 @@ impl<F: Files> Shared<F> {
     /// handed back, and can be opened as before.
     pub fn open(alloc: Global, mut files: F) -> Result<Shared<F>, (F, NodeFault)>
         ensures up { IfOk result (λ node. node.is_up ≡ true) }
-        ensures opens { F.honest → (r : Repository) → IsOpenable (F.content files) r → IfOk result (λ node. HoldsShared (F.content node.files) node.slots true (record { repository = r; live = Some empty })) }
+        ensures opens { F.honest → OpenableAs (F.content files) (λ r. IfOk result (λ node. HoldsOpened (F.content node.files) node.slots r)) }
         ensures refused { F.honest → IfErr result (λ e. BlamesOpen (F.content files) e.1) }
-        ensures err { F.honest → (r : Repository) → IsOpenable (F.content files) r → IfErr result (λ e. IsOpenable (F.content e.0) r) }
+        ensures err { F.honest → OpenableAs (F.content files) (λ r. IfErr result (λ e. IsOpenable (F.content e.0) r)) }
         ensures clean { F.honest → IfOk result (λ node. KeepsClean (F.content files) (F.content node.files)) }
         ensures wear { IfOk result (λ node. Writes F.honest F.content F.failed F.can_fail F.left files node.files ⊥) }
         ensures wear_err { IfErr result (λ e. Writes F.honest F.content F.failed F.can_fail F.left files e.0 (IsNodeDevice e.1)) }
@@ -119,7 +114,7 @@ impl<F: Files> Shared<F> {
     /// Opens the files again, in place: the node is up then, whatever it was before, and no push is open. Where that fails (see
     /// [`open`](Shared::open)) it is down, and can be restarted as before.
     pub fn restart(&mut self) -> Result<(), NodeFault>
-        ensures answers { F.honest → AnswersShared Open (RestartedAs result) (F.content self.old.files) (F.content self.new.files) self.old.slots self.new.slots self.old.is_up self.new.is_up }
+        ensures answers { F.honest → AnswersCall F.content Open (RestartedAs result) self.old self.new }
         ensures refused { F.honest → IfErr result (BlamesOpen (F.content self.old.files)) }
         ensures up { self.new.is_up ≡ is_ok result }
         ensures clean { F.honest → KeepsClean (F.content self.old.files) (F.content self.new.files) }
@@ -204,14 +199,14 @@ impl<F: Files> Shared<F> {
     /// The next step of the push in this slot: the check of all its commands, the storing of what it carries, the update of
     /// one ref, or its report, after which the slot is free. 111 where no push is open there.
     pub fn step(&mut self, slot: u8) -> Result<Stepped, SharedFault>
-        ensures answers { F.honest → AnswersShared (StepOf slot) (SteppedAs result) (F.content self.old.files) (F.content self.new.files) self.old.slots self.new.slots self.old.is_up self.new.is_up }
-        ensures steps { F.honest → IsHeldThere (F.content self.old.files) (slot_of self.old.slots slot) → IfOk result (StepsSlot (F.content self.old.files) (F.content self.new.files) self.old.slots self.new.slots slot) }
+        ensures answers { F.honest → AnswersCall F.content (StepOf slot) (SteppedAs result) self.old self.new }
+        ensures steps { F.honest → HoldsIn F.content self.old slot → IfOk result (StepsIn F.content self.old self.new slot) }
         ensures bad_file { F.honest → IfErr result (λ e. (e ≡ SharedFault.Node NodeFault.Down) ⊎ IsRefusedIn (F.content self.old.files) (slot_of self.old.slots slot) e) }
         ensures down { self.old.is_up ≡ false → result ≡ Err (SharedFault.Node NodeFault.Down) }
         ensures up { self.old.is_up ≡ true → self.new.is_up ≡ up_after result }
         ensures clean { F.honest → KeepsClean (F.content self.old.files) (F.content self.new.files) }
         ensures wear { Writes F.honest F.content F.failed F.can_fail F.left self.old.files self.new.files (TellsDevice result) }
-        ensures looks { F.honest → IsHeldThere (F.content self.old.files) (slot_of self.old.slots slot) → MayWriteIn (F.content self.old.files) (slot_of self.old.slots slot) ⊎ Wears F.failed F.can_fail F.left self.old.files self.new.files (TellsDevice result) }
+        ensures looks { F.honest → HoldsIn F.content self.old slot → MayStep F.content self.old slot ⊎ Wears F.failed F.can_fail F.left self.old.files self.new.files (TellsDevice result) }
     {
         if !self.is_up {
             return Err(SharedFault::Node(NodeFault::Down));
@@ -233,13 +228,10 @@ impl<F: Files> Shared<F> {
     /// lowest free slot. Refused are bytes that are no message (80 to 84, or 3), a message that a clone takes (91), a want of
     /// what no ref reaches (90), and a push where eight are open (110); nothing is changed then.
     pub fn accept(&mut self, bytes: &[u8]) -> Result<Accepted, SharedFault>
-        ensures answers { F.honest → (m : Sent) → Reads bytes.now m → AnswersShared (Accept m) (AcceptedAs result) (F.content self.old.files) (F.content self.new.files) self.old.slots self.new.slots self.old.is_up self.new.is_up }
-        ensures unread { F.honest → (n : ℕ) → IsUnread bytes.now n → AnswersShared (Asks (Unread n)) (AcceptedAs result) (F.content self.old.files) (F.content self.new.files) self.old.slots self.new.slots self.old.is_up self.new.is_up }
+        ensures answers { F.honest → (m : Sent) → Reads bytes.now m → AnswersCall F.content (Accept m) (AcceptedAs result) self.old self.new }
+        ensures unread { F.honest → (n : ℕ) → IsUnread bytes.now n → AnswersCall F.content (Asks (Unread n)) (AcceptedAs result) self.old self.new }
         ensures bad_file { F.honest → IfErr result (λ e. (e ≡ SharedFault.Node NodeFault.Down) ⊎ IsRefusedBytes (F.content self.old.files) self.old.slots bytes.now e) }
-        ensures err { OnErr result (self.new.slots ≡ self.old.slots) }
-        ensures tellable { AreTellable self.new.slots }
-        ensures down { self.old.is_up ≡ false → result ≡ Err (SharedFault.Node NodeFault.Down) }
-        ensures up { self.old.is_up ≡ true → self.new.is_up ≡ up_after result }
+        ensures settles { SettlesTaken result (result ≡ Err (SharedFault.Node NodeFault.Down)) (up_after result) self.old self.new }
         ensures clean { F.honest → KeepsClean (F.content self.old.files) (F.content self.new.files) }
         ensures wear { Writes F.honest F.content F.failed F.can_fail F.left self.old.files self.new.files (TellsDevice result) }
         ensures looks { (m : Sent) → Reads bytes.now m → IsToWrite m ⊎ Wears F.failed F.can_fail F.left self.old.files self.new.files (TellsDevice result) }
@@ -261,14 +253,11 @@ impl<F: Files> Shared<F> {
     /// (80 to 84, or 3) as soon as it has come, and a reader that fails with 115. In none of these is anything changed: what was put
     /// into the quarantine is gone again. Want of memory takes the node down, as a device that fails does.
     pub fn accept_from<R: Read>(&mut self, reader: &mut R) -> Result<Option<Accepted>, AcceptFault>
-        ensures accepts { AcceptsFrom F.honest (R.remaining reader.old) (R.remaining reader.new) (F.content self.old.files) (F.content self.new.files) self.old.slots self.new.slots self.old.is_up self.new.is_up result }
-        ensures known { AnswersKnown F.honest (R.remaining reader.old) (R.remaining reader.new) (F.content self.old.files) (F.content self.new.files) self.old.slots self.new.slots self.old.is_up self.new.is_up result }
+        ensures accepts { AcceptsNext F.honest F.content (R.remaining reader.old) (R.remaining reader.new) self.old self.new result }
+        ensures known { AnswersFirst F.honest F.content (R.remaining reader.old) (R.remaining reader.new) self.old self.new result }
         ensures none { IfOk result (λ found. IfNone found (self.new ≡ self.old)) }
-        ensures lost { F.honest → IfErr result (λ e. e ≡ AcceptFault.ReadFailed → KeepsHeld (F.content self.old.files) (F.content self.new.files) self.old.slots self.new.slots self.old.is_up self.new.is_up) }
-        ensures err { OnErr result (self.new.slots ≡ self.old.slots) }
-        ensures tellable { AreTellable self.new.slots }
-        ensures down { self.old.is_up ≡ false → self.new ≡ self.old }
-        ensures up { self.old.is_up ≡ true → self.new.is_up ≡ accept_up_after result }
+        ensures lost { F.honest → IfErr result (λ e. e ≡ AcceptFault.ReadFailed → KeepsNode F.content self.old self.new) }
+        ensures settles { SettlesTaken result (self.new ≡ self.old) (accept_up_after result) self.old self.new }
         ensures clean { F.honest → KeepsClean (F.content self.old.files) (F.content self.new.files) }
         ensures wear { Writes F.honest F.content F.failed F.can_fail F.left self.old.files self.new.files (TellsAcceptDevice result) }
     {
@@ -282,15 +271,12 @@ impl<F: Files> Shared<F> {
     /// Puts all refs into one file. Nothing else is written, no ref changes and each open push stays, wherever it stops. 33 where
     /// one of their files can't be read: then nothing is written. Nor is anything where no ref has a file of its own.
     pub fn pack_refs(&mut self) -> Result<(), NodeFault>
-        ensures answers { F.honest → AnswersShared (Asks PackRefs) (RestartedAs result) (F.content self.old.files) (F.content self.new.files) self.old.slots self.new.slots self.old.is_up self.new.is_up }
+        ensures answers { F.honest → AnswersCall F.content (Asks PackRefs) (RestartedAs result) self.old self.new }
         ensures packed { F.honest → OnOk result (IsPackedFrom (F.content self.old.files) (F.content self.new.files)) }
-        ensures kept { F.honest → refs (F.content self.new.files) ≡ refs (F.content self.old.files) }
+        ensures kept { F.honest → PacksOnly (F.content self.old.files) (F.content self.new.files) }
         ensures refused { F.honest → IfErr result (λ e. (e ≡ NodeFault.Down) ⊎ BlamesPacking (F.content self.old.files) e) }
         ensures err { F.honest → OnErr result ((self.new.is_up ≡ false) ⊎ (F.content self.new.files ≡ F.content self.old.files)) }
-        ensures down { self.old.is_up ≡ false → result ≡ Err NodeFault.Down }
-        ensures up { self.old.is_up ≡ true → self.new.is_up ≡ node_up_after result }
-        ensures slots { self.new.slots ≡ self.old.slots }
-        ensures rest { F.honest → KeepsOutside (F.content self.old.files) (F.content self.new.files) }
+        ensures settles { Settles (result ≡ Err NodeFault.Down) (node_up_after result) self.old self.new }
         ensures wear { Writes F.honest F.content F.failed F.can_fail F.left self.old.files self.new.files (TellsNodeDevice result) }
         ensures looks { F.honest → HasLoose (F.content self.old.files) ⊎ Wears F.failed F.can_fail F.left self.old.files self.new.files (TellsNodeDevice result) }
     {
@@ -309,13 +295,11 @@ impl<F: Files> Shared<F> {
 
     /// The object that an expression names at the node: 51 to 56 where it names none.
     pub fn resolve(&mut self, expr: &Expr<'_>) -> Result<ObjectId, SharedFault>
-        ensures answers { F.honest → (text : List ℕ) → IsExpr text (expr_view expr.now) → AnswersShared (Asks (Resolve text)) (FoundAs fault_answer result) (F.content self.old.files) (F.content self.new.files) self.old.slots self.new.slots self.old.is_up self.new.is_up }
+        ensures answers { F.honest → (text : List ℕ) → IsExpr text (expr_view expr.now) → AnswersCall F.content (Asks (Resolve text)) (FoundAs fault_answer result) self.old self.new }
         ensures value { F.honest → IfOk result (λ id. DenotesIn (F.content self.old.files) (expr_view expr.now) (Ok id)) }
         ensures bad_file { F.honest → IfErr result (λ e. (e ≡ SharedFault.Node NodeFault.Down) ⊎ IsRefusedValue (F.content self.old.files) (expr_view expr.now) e) }
-        ensures down { self.old.is_up ≡ false → result ≡ Err (SharedFault.Node NodeFault.Down) }
-        ensures up { self.old.is_up ≡ true → self.new.is_up ≡ up_after result }
+        ensures settles { Settles (result ≡ Err (SharedFault.Node NodeFault.Down)) (up_after result) self.old self.new }
         ensures same { F.content self.new.files ≡ F.content self.old.files }
-        ensures slots { self.new.slots ≡ self.old.slots }
         ensures wear { Wears F.failed F.can_fail F.left self.old.files self.new.files (TellsDevice result) }
     {
         if !self.is_up {

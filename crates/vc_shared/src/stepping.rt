@@ -2,10 +2,9 @@
 ghost use Rattle.std.specs.Prelude.{◌≡◌, ◌⊎◌, ◌<◌, IfOk, IfErr, OnErr, Err, None, Some, false, length, slice_set};
 ghost use Rattle.vc_history.specs.Stored.{AgreesIn};
 ghost use Rattle.vc_files.specs.Failures.{Wears, Writes};
-ghost use Rattle.vc_session.specs.Clean.{MakesNoneBad};
 ghost use Rattle.vc_shared.specs.Faults.{TellsDevice, is_fault};
 ghost use Rattle.vc_shared.specs.Slots.{AreTellable, AreToldInOne, slot_of};
-ghost use Rattle.vc_shared.specs.Stepping.{EndsSlotEarly, HasShortReport, IsEnd, IsHeldThere, IsRefusedIn, MayWriteIn, StepsPush, StepsSlot, Tells, left_in};
+ghost use Rattle.vc_shared.specs.Stepping.{EndsSlotEarly, HasShortReport, IsEnd, IsHeldThere, IsRefusedIn, MayStepOr, StepsPush, StepsSlot, StepsWell, Tells, left_in};
 
 use crate::SharedFault;
 use std::alloc::{AllocError, Global};
@@ -53,14 +52,13 @@ fn step_push<F: Files>(
     requires tellable { AreToldInOne push.old }
     requires agrees { F.honest → AgreesIn (F.content files.old) generations.old }
     ensures tellable { AreToldInOne push.new }
-    ensures agrees { F.honest → AgreesIn (F.content files.new) generations.new }
+    ensures good { F.honest → StepsWell (F.content files.old) (F.content files.new) generations.new }
     ensures steps { F.honest → IsHeldThere (F.content files.old) (Some push.old) → IfOk result (StepsPush (F.content files.old) (F.content files.new) push.old push.new) }
     ensures unchanged { IfErr result (λ e. is_fault e ≡ false → push.new ≡ push.old) }
     ensures early { F.honest → IsHeldThere (F.content files.old) (Some push.old) → OnErr result (EndsSlotEarly (F.content files.old) (F.content files.new) (Some push.old)) }
     ensures refused { F.honest → IfErr result (IsRefusedIn (F.content files.old) (Some push.old)) }
-    ensures bad { F.honest → MakesNoneBad (F.content files.old) (F.content files.new) }
     ensures wear { Writes F.honest F.content F.failed F.can_fail F.left files.old files.new (TellsDevice result) }
-    ensures looks { F.honest → IsHeldThere (F.content files.old) (Some push.old) → MayWriteIn (F.content files.old) (Some push.old) ⊎ Wears F.failed F.can_fail F.left files.old files.new (TellsDevice result) }
+    ensures looks { F.honest → MayStepOr (F.content files.old) (Some push.old) (Wears F.failed F.can_fail F.left files.old files.new (TellsDevice result)) }
 {
     if let Err(fault) = push.learn(files, alloc, due, generations) {
         return Err(SharedFault::from(SessionFault::Fault(fault)));
@@ -112,15 +110,13 @@ pub(crate) fn step<F: Files>(
     requires tellable { AreTellable slots.old }
     requires agrees { F.honest → AgreesIn (F.content files.old) generations.old }
     ensures tellable { AreTellable slots.new }
-    ensures agrees { F.honest → AgreesIn (F.content files.new) generations.new }
-    ensures none { slot_of slots.old slot ≡ None → result ≡ Err SharedFault.NoSuchSlot }
+    ensures good { F.honest → StepsWell (F.content files.old) (F.content files.new) generations.new }
     ensures steps { F.honest → IsHeldThere (F.content files.old) (slot_of slots.old slot) → IfOk result (StepsSlot (F.content files.old) (F.content files.new) slots.old slots.new slot) }
     ensures unchanged { IfErr result (λ e. is_fault e ≡ false → slots.new ≡ slots.old) }
     ensures early { F.honest → IsHeldThere (F.content files.old) (slot_of slots.old slot) → OnErr result (EndsSlotEarly (F.content files.old) (F.content files.new) (slot_of slots.old slot)) }
     ensures refused { F.honest → IfErr result (IsRefusedIn (F.content files.old) (slot_of slots.old slot)) }
-    ensures bad { F.honest → MakesNoneBad (F.content files.old) (F.content files.new) }
     ensures wear { Writes F.honest F.content F.failed F.can_fail F.left files.old files.new (TellsDevice result) }
-    ensures looks { F.honest → IsHeldThere (F.content files.old) (slot_of slots.old slot) → MayWriteIn (F.content files.old) (slot_of slots.old slot) ⊎ Wears F.failed F.can_fail F.left files.old files.new (TellsDevice result) }
+    ensures looks { F.honest → MayStepOr (F.content files.old) (slot_of slots.old slot) (Wears F.failed F.can_fail F.left files.old files.new (TellsDevice result)) }
 {
     let Some(mut push) = take(slots, slot) else {
         return Err(SharedFault::NoSuchSlot);

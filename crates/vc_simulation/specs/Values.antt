@@ -1,6 +1,7 @@
 -- Expressions that a node reads before it does what it is told.
 use Rattle.std.specs.Global.{Global}
 use Rattle.std.specs.Prelude.{◌≡◌, ◌≢◌, ◌⊎◌, ℕ, List, [], ◌∷◌, ◌++◌, Contains, Option, None, Some, Ok, Err, Vec, map}
+use Rattle.vc_events.specs.Calls.{CloneCalled}
 use Rattle.vc_events.specs.Events.{bytes_in, item_of}
 use Rattle.vc_events.specs.declared.events.NamedItem.{NamedItem}
 use Rattle.vc_exchange.specs.Sending.{machine_items}
@@ -11,6 +12,8 @@ use Rattle.vc_model.specs.Clone.{CloneNode}
 use Rattle.vc_model.specs.CloneCall.{CloneCall}
 use Rattle.vc_model.specs.CloneCall.CloneCall.{Asks}
 use Rattle.vc_model.specs.ExactWorld.{OrderCalls}
+use Rattle.vc_model.specs.Message.{Message}
+use Rattle.vc_model.specs.Node.{Answer}
 use Rattle.vc_model.specs.Order.{AreItems, AreValues, Order}
 use Rattle.vc_model.specs.Question.Question.{Interrupted, Unresolved}
 use Rattle.vc_model.specs.Repository.{IsBare, IsSound, Repository}
@@ -42,6 +45,13 @@ pub record FindsShared {S : Type 0} (holds : S → SharedNode → Type 0) (P : R
 abbrev pub Fails : (Repository → ℕ → Type 0) → CloneNode → CloneCall → Type 0
 Fails P n i = (n.live ≢ None) × ((i ≡ Asks Interrupted) ⊎ ((k : ℕ) × P n.repository k × (i ≡ Asks (Unresolved k))))
 
+-- so it is of a clone that files hold, on a device that neither fails nor stops
+abbrev pub FindsThere : {F : Type 0} → (F → FileMap) → (F → Type 0) → (F → Option ℕ) → (Repository → Type 0) → Held F → Held F → Type 0
+FindsThere content can_fail left P old new = Finds (λ v n. HoldsClone content can_fail left v n) P old new
+
+abbrev pub Called : {F : Type 0} → (F → FileMap) → (F → Type 0) → (F → Option ℕ) → (CloneNode → CloneCall → Type 0) → (Answer → Option Message → Type 0) → Held F → Held F → Type 0
+Called content can_fail left calls shows old new = CloneCalled (λ v n. HoldsClone content can_fail left v n) calls shows old new
+
 -- the call that the machine's order comes to
 abbrev pub Obeys : Order → CloneNode → CloneCall → Type 0
 Obeys o n i = OrderCalls git git_rules n o i
@@ -71,7 +81,7 @@ AreNotPushed named r k = AreItems git git_rules r (map item_of named) (Err k)
 pub record IsOneMore {F : Type 0} (content : F → FileMap) (can_fail : F → Type 0) (left : F → Option ℕ) (text : List ℕ) (before after : List ObjectId) (old new : Held F) : Type 0 where
   pub id : ObjectId
   pub behind : after ≡ before ++ id ∷ []
-  pub finds : Finds (λ v n. HoldsClone content can_fail left v n) (IsValue text id) old new
+  pub finds : FindsThere content can_fail left (IsValue text id) old new
 
 -- an item of a push has the zero id, which stands for no object
 abbrev pub HasZero : List PushItem → Type 0
@@ -80,4 +90,4 @@ HasZero items = (i : PushItem) × Contains items i × (i.id ≡ Some zero_id)
 pub record IsOneMoreItem {F : Type 0} (content : F → FileMap) (can_fail : F → Type 0) (left : F → Option ℕ) (named : NamedItem) (before after : List PushItem) (old new : Held F) : Type 0 where
   pub item : PushItem
   pub behind : after ≡ before ++ item ∷ []
-  pub finds : Finds (λ v n. HoldsClone content can_fail left v n) (IsItemFor named item) old new
+  pub finds : FindsThere content can_fail left (IsItemFor named item) old new

@@ -2,7 +2,7 @@
 ghost use Rattle.std.specs.FinMap.{empty as no_files};
 ghost use Rattle.std.specs.Prelude.{◌≡◌, ◌≢◌, ◌+◌, [], Err, IfErr, IfOk, OnOk, length, map, true, false};
 ghost use Rattle.vc_events.specs.Answers.{Shows};
-ghost use Rattle.vc_events.specs.Calls.{CloneCalled, IsOnly};
+ghost use Rattle.vc_events.specs.Calls.{IsOnly};
 ghost use Rattle.vc_events.specs.Events.{IsBranch, bytes_in, item_of};
 ghost use Rattle.vc_events.specs.World.{fresh_clone};
 ghost use Rattle.vc_exchange.specs.Sending.{machine_items};
@@ -11,10 +11,10 @@ ghost use Rattle.vc_model.specs.CloneCall.CloneCall.{Command};
 ghost use Rattle.vc_model.specs.Order.Order.{BranchAt, CommitIndex, DropBranch, Fetch, HeadAt, HeadOn, LoadIndex, PushItems, StageFile, StoreObject, UnstageFile};
 ghost use Rattle.vc_model.specs.Repository.{Repository};
 ghost use Rattle.vc_node.specs.Blames.{BlamesOpen};
-ghost use Rattle.vc_node.specs.Opening.{IsOpenable, opened_node};
+ghost use Rattle.vc_node.specs.Opening.{IsOpenable, OpenableAs, opened_node};
 ghost use Rattle.vc_rules.specs.Git.{machine_object, mode_number};
 ghost use Rattle.vc_simulation.specs.Nodes.{HoldsClone, IsSteady, IsWantOfMemory};
-ghost use Rattle.vc_simulation.specs.Values.{AreIds, AreNoIds, AreNotPushed, ArePushed, Fails, Finds, HasZero, IsItemFor, IsNoItem, IsNoValue, IsOneMore, IsOneMoreItem, IsValue, Obeys};
+ghost use Rattle.vc_simulation.specs.Values.{AreIds, AreNoIds, AreNotPushed, ArePushed, Called, Fails, FindsThere, HasZero, IsItemFor, IsNoItem, IsNoValue, IsOneMore, IsOneMoreItem, IsValue, Obeys};
 
 use crate::ends::{
     DOWN, MISSING, NO_EXPRESSION, TOO_MANY, clone_restarted, clone_value, done, made, received,
@@ -57,7 +57,7 @@ impl<F: Files> WorldClone<F> {
     /// clone's (33 and 34: HEAD, 62: the index) are handed back, and so are they where a fault comes: what
     /// could be opened can be then too.
     pub fn open(alloc: Global, files: F) -> Result<WorldClone<F>, (F, NodeFault)>
-        ensures opens { F.honest → IsSteady F.can_fail F.left files → (r : Repository) → IsOpenable (F.content files) r → IfOk result (λ clone. HoldsClone F.content F.can_fail F.left clone.node (opened_node r)) }
+        ensures opens { F.honest → IsSteady F.can_fail F.left files → OpenableAs (F.content files) (λ r. IfOk result (λ clone. HoldsClone F.content F.can_fail F.left clone.node (opened_node r))) }
         ensures new { F.honest → IsSteady F.can_fail F.left files → F.content files ≡ no_files → IfOk result (λ clone. HoldsClone F.content F.can_fail F.left clone.node fresh_clone) }
         ensures refused { F.honest → IfErr result (λ e. BlamesOpen (F.content files) e.1) }
         ensures memory { F.honest → IsSteady F.can_fail F.left files → F.content files ≡ no_files → IfErr result (λ e. IsWantOfMemory e.1) }
@@ -83,8 +83,8 @@ impl<F: Files> WorldClone<F> {
     // The value of an expression, of a node that is up.
     fn value(&mut self, alloc: Global, text: &[u8]) -> Result<ObjectId, Ended>
         requires { self.old.node.is_up ≡ true }
-        ensures found { F.honest → IfOk result (λ id. Finds (λ v n. HoldsClone F.content F.can_fail F.left v n) (IsValue text.now id) self.old.node self.new.node) }
-        ensures err { F.honest → IfErr result (λ e. CloneCalled (λ v n. HoldsClone F.content F.can_fail F.left v n) (Fails (IsNoValue text.now)) (Shows (Err e)) self.old.node self.new.node) }
+        ensures found { F.honest → IfOk result (λ id. FindsThere F.content F.can_fail F.left (IsValue text.now id) self.old.node self.new.node) }
+        ensures err { F.honest → IfErr result (λ e. Called F.content F.can_fail F.left (Fails (IsNoValue text.now)) (Shows (Err e)) self.old.node self.new.node) }
         ensures up { IfOk result (λ id. self.new.node.is_up ≡ true) }
     {
         let expr = match parse(alloc, text) {
@@ -105,7 +105,7 @@ impl<F: Files> WorldClone<F> {
     ) -> Result<(), Ended>
         requires { self.old.node.is_up ≡ true }
         ensures found { F.honest → OnOk result (IsOneMore F.content F.can_fail F.left text.now ids.old.items ids.new.items self.old.node self.new.node) }
-        ensures err { F.honest → IfErr result (λ e. CloneCalled (λ v n. HoldsClone F.content F.can_fail F.left v n) (Fails (IsNoValue text.now)) (Shows (Err e)) self.old.node self.new.node) }
+        ensures err { F.honest → IfErr result (λ e. Called F.content F.can_fail F.left (Fails (IsNoValue text.now)) (Shows (Err e)) self.old.node self.new.node) }
         ensures up { OnOk result (self.new.node.is_up ≡ true) }
     {
         let id = match self.value(alloc, text) {
@@ -121,8 +121,8 @@ impl<F: Files> WorldClone<F> {
     // The values of expressions.
     fn values(&mut self, alloc: Global, texts: &[Vec<u8>]) -> Result<Vec<ObjectId>, Ended>
         requires { self.old.node.is_up ≡ true }
-        ensures found { F.honest → IfOk result (λ ids. Finds (λ v n. HoldsClone F.content F.can_fail F.left v n) (AreIds texts.now ids.items) self.old.node self.new.node) }
-        ensures err { F.honest → IfErr result (λ e. CloneCalled (λ v n. HoldsClone F.content F.can_fail F.left v n) (Fails (AreNoIds texts.now)) (Shows (Err e)) self.old.node self.new.node) }
+        ensures found { F.honest → IfOk result (λ ids. FindsThere F.content F.can_fail F.left (AreIds texts.now ids.items) self.old.node self.new.node) }
+        ensures err { F.honest → IfErr result (λ e. Called F.content F.can_fail F.left (Fails (AreNoIds texts.now)) (Shows (Err e)) self.old.node self.new.node) }
         ensures up { IfOk result (λ ids. self.new.node.is_up ≡ true) }
     {
         let mut ids = Vec::new(alloc);
@@ -136,7 +136,7 @@ impl<F: Files> WorldClone<F> {
 
     fn write(&mut self, kind: Kind, body: &[u8]) -> Result<Told, Ended>
         requires { self.old.node.is_up ≡ true }
-        ensures answers { F.honest → CloneCalled (λ v n. HoldsClone F.content F.can_fail F.left v n) (Obeys (StoreObject (machine_object kind body.now))) (Shows result) self.old.node self.new.node }
+        ensures answers { F.honest → Called F.content F.can_fail F.left (Obeys (StoreObject (machine_object kind body.now))) (Shows result) self.old.node self.new.node }
     {
         let called = self.node.write(kind, body);
         made(called)
@@ -145,7 +145,7 @@ impl<F: Files> WorldClone<F> {
     fn stage(&mut self, path: &[u8], mode: Mode, content: &[u8]) -> Result<Told, Ended>
         requires mode { mode ≢ Mode.Tree }
         requires up { self.old.node.is_up ≡ true }
-        ensures answers { F.honest → CloneCalled (λ v n. HoldsClone F.content F.can_fail F.left v n) (Obeys (StageFile path.now (mode_number mode) content.now)) (Shows result) self.old.node self.new.node }
+        ensures answers { F.honest → Called F.content F.can_fail F.left (Obeys (StageFile path.now (mode_number mode) content.now)) (Shows result) self.old.node self.new.node }
     {
         let called = self.node.add(path, mode, content);
         done(called)
@@ -153,7 +153,7 @@ impl<F: Files> WorldClone<F> {
 
     fn unstage(&mut self, path: &[u8]) -> Result<Told, Ended>
         requires { self.old.node.is_up ≡ true }
-        ensures answers { F.honest → CloneCalled (λ v n. HoldsClone F.content F.can_fail F.left v n) (Obeys (UnstageFile path.now)) (Shows result) self.old.node self.new.node }
+        ensures answers { F.honest → Called F.content F.can_fail F.left (Obeys (UnstageFile path.now)) (Shows result) self.old.node self.new.node }
     {
         let called = self.node.unstage(path);
         done(called)
@@ -162,7 +162,7 @@ impl<F: Files> WorldClone<F> {
     fn delete_branch(&mut self, name: &RefName) -> Result<Told, Ended>
         requires branch { IsBranch name.now }
         requires up { self.old.node.is_up ≡ true }
-        ensures answers { F.honest → CloneCalled (λ v n. HoldsClone F.content F.can_fail F.left v n) (Obeys (DropBranch name.now)) (Shows result) self.old.node self.new.node }
+        ensures answers { F.honest → Called F.content F.can_fail F.left (Obeys (DropBranch name.now)) (Shows result) self.old.node self.new.node }
     {
         let called = self.node.delete_branch(name);
         done(called)
@@ -170,7 +170,7 @@ impl<F: Files> WorldClone<F> {
 
     fn fetch(&mut self) -> Result<Told, Ended>
         requires { self.old.node.is_up ≡ true }
-        ensures answers { F.honest → CloneCalled (λ v n. HoldsClone F.content F.can_fail F.left v n) (Obeys (Fetch)) (Shows result) self.old.node self.new.node }
+        ensures answers { F.honest → Called F.content F.can_fail F.left (Obeys (Fetch)) (Shows result) self.old.node self.new.node }
     {
         let called = self.node.start_fetch();
         sent(called)
@@ -179,8 +179,8 @@ impl<F: Files> WorldClone<F> {
     // An item of a push, with its value.
     fn item(&mut self, alloc: Global, named: &NamedItem) -> Result<PushItem, Ended>
         requires { self.old.node.is_up ≡ true }
-        ensures found { F.honest → IfOk result (λ item. Finds (λ v n. HoldsClone F.content F.can_fail F.left v n) (IsItemFor named.now item) self.old.node self.new.node) }
-        ensures err { F.honest → IfErr result (λ e. CloneCalled (λ v n. HoldsClone F.content F.can_fail F.left v n) (Fails (IsNoItem named.now)) (Shows (Err e)) self.old.node self.new.node) }
+        ensures found { F.honest → IfOk result (λ item. FindsThere F.content F.can_fail F.left (IsItemFor named.now item) self.old.node self.new.node) }
+        ensures err { F.honest → IfErr result (λ e. Called F.content F.can_fail F.left (Fails (IsNoItem named.now)) (Shows (Err e)) self.old.node self.new.node) }
         ensures up { IfOk result (λ item. self.new.node.is_up ≡ true) }
     {
         let Ok(name) = named.name.clone() else {
@@ -204,7 +204,7 @@ impl<F: Files> WorldClone<F> {
     ) -> Result<(), Ended>
         requires { self.old.node.is_up ≡ true }
         ensures found { F.honest → OnOk result (IsOneMoreItem F.content F.can_fail F.left named.now items.old.items items.new.items self.old.node self.new.node) }
-        ensures err { F.honest → IfErr result (λ e. CloneCalled (λ v n. HoldsClone F.content F.can_fail F.left v n) (Fails (IsNoItem named.now)) (Shows (Err e)) self.old.node self.new.node) }
+        ensures err { F.honest → IfErr result (λ e. Called F.content F.can_fail F.left (Fails (IsNoItem named.now)) (Shows (Err e)) self.old.node self.new.node) }
         ensures up { OnOk result (self.new.node.is_up ≡ true) }
         ensures count { OnOk result (length items.new.items ≡ length items.old.items + 1) }
     {
@@ -221,8 +221,8 @@ impl<F: Files> WorldClone<F> {
     // The items of a push, with their values.
     fn items(&mut self, alloc: Global, named: &[NamedItem]) -> Result<Vec<PushItem>, Ended>
         requires { self.old.node.is_up ≡ true }
-        ensures found { F.honest → IfOk result (λ items. Finds (λ v n. HoldsClone F.content F.can_fail F.left v n) (ArePushed named.now items.items) self.old.node self.new.node) }
-        ensures err { F.honest → IfErr result (λ e. CloneCalled (λ v n. HoldsClone F.content F.can_fail F.left v n) (Fails (AreNotPushed named.now)) (Shows (Err e)) self.old.node self.new.node) }
+        ensures found { F.honest → IfOk result (λ items. FindsThere F.content F.can_fail F.left (ArePushed named.now items.items) self.old.node self.new.node) }
+        ensures err { F.honest → IfErr result (λ e. Called F.content F.can_fail F.left (Fails (AreNotPushed named.now)) (Shows (Err e)) self.old.node self.new.node) }
         ensures up { IfOk result (λ items. self.new.node.is_up ≡ true) }
         ensures count { IfOk result (λ items. length items.items ≡ length named.now) }
     {
@@ -239,7 +239,7 @@ impl<F: Files> WorldClone<F> {
     fn start_push(&mut self, items: &[PushItem]) -> Result<Told, Ended>
         requires some { items.now ≢ [] }
         requires up { self.old.node.is_up ≡ true }
-        ensures answers { F.honest → CloneCalled (λ v n. HoldsClone F.content F.can_fail F.left v n) (IsOnly (Command (StartPush false (machine_items items.now)))) (Shows result) self.old.node self.new.node }
+        ensures answers { F.honest → Called F.content F.can_fail F.left (IsOnly (Command (StartPush false (machine_items items.now)))) (Shows result) self.old.node self.new.node }
     {
         if has_zero(items) {
             return Err(Ended::Refused(if items.len() > MOST_ITEMS {
@@ -255,7 +255,7 @@ impl<F: Files> WorldClone<F> {
     fn push(&mut self, alloc: Global, named: &[NamedItem]) -> Result<Told, Ended>
         requires some { named.now ≢ [] }
         requires up { self.old.node.is_up ≡ true }
-        ensures answers { F.honest → CloneCalled (λ v n. HoldsClone F.content F.can_fail F.left v n) (Obeys (PushItems false (map item_of named.now))) (Shows result) self.old.node self.new.node }
+        ensures answers { F.honest → Called F.content F.can_fail F.left (Obeys (PushItems false (map item_of named.now))) (Shows result) self.old.node self.new.node }
     {
         match self.items(alloc, named) {
             Ok(items) => self.start_push(&items),
@@ -272,7 +272,7 @@ impl<F: Files> WorldClone<F> {
         message: &[u8],
     ) -> Result<Told, Ended>
         requires { self.old.node.is_up ≡ true }
-        ensures answers { F.honest → CloneCalled (λ v n. HoldsClone F.content F.can_fail F.left v n) (Obeys (CommitIndex (map bytes_in parents.now) author.now committer.now message.now)) (Shows result) self.old.node self.new.node }
+        ensures answers { F.honest → Called F.content F.can_fail F.left (Obeys (CommitIndex (map bytes_in parents.now) author.now committer.now message.now)) (Shows result) self.old.node self.new.node }
     {
         let ids = match self.values(alloc, parents) {
             Ok(ids) => ids,
@@ -285,7 +285,7 @@ impl<F: Files> WorldClone<F> {
     fn set_branch(&mut self, alloc: Global, name: &RefName, text: &[u8]) -> Result<Told, Ended>
         requires branch { IsBranch name.now }
         requires up { self.old.node.is_up ≡ true }
-        ensures answers { F.honest → CloneCalled (λ v n. HoldsClone F.content F.can_fail F.left v n) (Obeys (BranchAt name.now text.now)) (Shows result) self.old.node self.new.node }
+        ensures answers { F.honest → Called F.content F.can_fail F.left (Obeys (BranchAt name.now text.now)) (Shows result) self.old.node self.new.node }
     {
         let id = match self.value(alloc, text) {
             Ok(id) => id,
@@ -298,7 +298,7 @@ impl<F: Files> WorldClone<F> {
     fn set_head(&mut self, name: &RefName) -> Result<Told, Ended>
         requires branch { IsBranch name.now }
         requires up { self.old.node.is_up ≡ true }
-        ensures answers { F.honest → CloneCalled (λ v n. HoldsClone F.content F.can_fail F.left v n) (Obeys (HeadOn name.now)) (Shows result) self.old.node self.new.node }
+        ensures answers { F.honest → Called F.content F.can_fail F.left (Obeys (HeadOn name.now)) (Shows result) self.old.node self.new.node }
     {
         let Ok(branch) = name.clone() else {
             return Err(self.halt());
@@ -309,7 +309,7 @@ impl<F: Files> WorldClone<F> {
 
     fn detach(&mut self, alloc: Global, text: &[u8]) -> Result<Told, Ended>
         requires { self.old.node.is_up ≡ true }
-        ensures answers { F.honest → CloneCalled (λ v n. HoldsClone F.content F.can_fail F.left v n) (Obeys (HeadAt text.now)) (Shows result) self.old.node self.new.node }
+        ensures answers { F.honest → Called F.content F.can_fail F.left (Obeys (HeadAt text.now)) (Shows result) self.old.node self.new.node }
     {
         let id = match self.value(alloc, text) {
             Ok(id) => id,
@@ -321,7 +321,7 @@ impl<F: Files> WorldClone<F> {
 
     fn load(&mut self, alloc: Global, text: &[u8]) -> Result<Told, Ended>
         requires { self.old.node.is_up ≡ true }
-        ensures answers { F.honest → CloneCalled (λ v n. HoldsClone F.content F.can_fail F.left v n) (Obeys (LoadIndex text.now)) (Shows result) self.old.node self.new.node }
+        ensures answers { F.honest → Called F.content F.can_fail F.left (Obeys (LoadIndex text.now)) (Shows result) self.old.node self.new.node }
     {
         let id = match self.value(alloc, text) {
             Ok(id) => id,

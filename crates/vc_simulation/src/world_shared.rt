@@ -8,7 +8,7 @@ ghost use Rattle.vc_model.specs.Question.Question.{Resolve};
 ghost use Rattle.vc_model.specs.SharedCall.SharedCall.{Asks as AsksShared};
 ghost use Rattle.vc_model.specs.Repository.{Repository};
 ghost use Rattle.vc_node.specs.Blames.{BlamesOpen};
-ghost use Rattle.vc_node.specs.Opening.{IsOpenable};
+ghost use Rattle.vc_node.specs.Opening.{IsOpenable, OpenableAs};
 ghost use Rattle.vc_simulation.specs.Nodes.{HoldsServed, IsSteady, IsWantOfMemory, opened_shared};
 ghost use Rattle.vc_simulation.specs.Values.{FindsShared, IsValue};
 
@@ -34,7 +34,7 @@ impl<F: Files> WorldShared<F> {
     /// The shared node that these files hold, up and with no push open. Where there are none yet, it is a new one. Files that are none of
     /// a node's (33 and 34: HEAD, 62: the index) are handed back, and so are they where a fault comes; they can be opened as before.
     pub fn open(alloc: Global, files: F) -> Result<WorldShared<F>, (F, NodeFault)>
-        ensures opens { F.honest → IsSteady F.can_fail F.left files → (r : Repository) → IsOpenable (F.content files) r → IfOk result (λ shared. HoldsServed F.content F.can_fail F.left shared.node (opened_shared r)) }
+        ensures opens { F.honest → IsSteady F.can_fail F.left files → OpenableAs (F.content files) (λ r. IfOk result (λ shared. HoldsServed F.content F.can_fail F.left shared.node (opened_shared r))) }
         ensures new { F.honest → IsSteady F.can_fail F.left files → F.content files ≡ no_files → IfOk result (λ shared. HoldsServed F.content F.can_fail F.left shared.node fresh_shared) }
         ensures refused { F.honest → IfErr result (λ e. BlamesOpen (F.content files) e.1) }
         ensures memory { F.honest → IsSteady F.can_fail F.left files → F.content files ≡ no_files → IfErr result (λ e. IsWantOfMemory e.1) }

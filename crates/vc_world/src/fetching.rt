@@ -4,7 +4,8 @@ ghost use Rattle.vc_message.specs.Machine.{Reads};
 ghost use Rattle.vc_model.specs.CloneCall.CloneCall.{Receive};
 ghost use Rattle.vc_model.specs.Exchange.{IsFewer};
 ghost use Rattle.vc_model.specs.Message.{Message as Sent};
-ghost use Rattle.vc_node.specs.CloneCalls.{AnswersClone, ReceivedAs};
+ghost use Rattle.vc_node.specs.CloneCalls.{ReceivedAs};
+ghost use Rattle.vc_node.specs.Node.{AnswersCall};
 ghost use Rattle.vc_world.specs.Fetching.{next_of, settled};
 ghost use Rattle.vc_world.specs.Exchanging.{Begins, Brings, CatchesUp, HoldsClone, IsFetch, IsRest, IsRound, Leads};
 
@@ -37,7 +38,7 @@ fn receive_from<F: Files, A: Read>(
     clone: &mut CloneNode<F>,
     reader: &mut A,
 ) -> Result<Received, CloneFault>
-    ensures answers { F.honest → (m : Sent) → Begins (A.remaining reader.old) m → AnswersClone (Receive m) (ReceivedAs result) (F.content clone.old.files) (F.content clone.new.files) clone.old.awaited clone.new.awaited clone.old.is_up clone.new.is_up }
+    ensures answers { F.honest → (m : Sent) → Begins (A.remaining reader.old) m → AnswersCall F.content (Receive m) (ReceivedAs result) clone.old clone.new }
 {
     if !clone.is_up() {
         return Err(CloneFault::Node(NodeFault::Down));
@@ -55,7 +56,7 @@ fn receive<F: Files, A: Read + Drop>(
     clone: &mut CloneNode<F>,
     reply: Reply<A>,
 ) -> Result<Received, CloneFault>
-    ensures answers { F.honest → (m : Sent) → Brings A.remaining reply m → AnswersClone (Receive m) (ReceivedAs result) (F.content clone.old.files) (F.content clone.new.files) clone.old.awaited clone.new.awaited clone.old.is_up clone.new.is_up }
+    ensures answers { F.honest → (m : Sent) → Brings A.remaining reply m → AnswersCall F.content (Receive m) (ReceivedAs result) clone.old clone.new }
 {
     match reply {
         Reply::Bytes(bytes) => clone.receive(&bytes),

@@ -1,11 +1,9 @@
 // A whole push.
-ghost use Rattle.std.specs.Prelude.{◌≡◌, ◌≢◌, ◌⊎◌, [], IfErr, IfOk};
-ghost use Rattle.vc_exchange.specs.Sending.{machine_items};
+ghost use Rattle.std.specs.Prelude.{◌≡◌, ◌≢◌, [], IfErr, IfOk};
 ghost use Rattle.vc_message.specs.AnyView.{message_text};
 ghost use Rattle.vc_message.specs.Machine.{IsReport, Reads, TextOf};
-ghost use Rattle.vc_model.specs.Clone.{IsItemId};
 ghost use Rattle.vc_model.specs.Message.{Message as Sent};
-ghost use Rattle.vc_model.specs.Object.{zero_id};
+ghost use Rattle.vc_node.specs.Node.{PushesNoZero};
 ghost use Rattle.vc_push.specs.ReportView.{report_text};
 ghost use Rattle.vc_world.specs.Exchanging.{Begins, Brings, HoldsClone, IsNoReport, IsPush, Leads, PushesOne};
 ghost use Rattle.vc_world.specs.Pushing.{IsUnreadReport, TakesAnswer, report_in, taken};
@@ -159,8 +157,8 @@ pub fn exchange_push<P: Peer, F: Files>(
     items: &[PushItem],
 ) -> Result<Report, ExchangeEnd<P::Refusal>>
     requires some { items.now ≢ [] }
-    ensures pushed { P.honest → F.honest → (¬ IsItemId (machine_items items.now) zero_id) → Leads P.holds (HoldsClone F.content) shared.old shared.new clone.old clone.new (IsPush P.told items.now result) }
-    ensures done { P.honest → F.honest → (¬ IsItemId (machine_items items.now) zero_id) → Leads P.holds (HoldsClone F.content) shared.old shared.new clone.old clone.new (PushesOne P.told items.now result) }
+    ensures pushed { P.honest → F.honest → PushesNoZero items.now → Leads P.holds (HoldsClone F.content) shared.old shared.new clone.old clone.new (IsPush P.told items.now result) }
+    ensures done { P.honest → F.honest → PushesNoZero items.now → Leads P.holds (HoldsClone F.content) shared.old shared.new clone.old clone.new (PushesOne P.told items.now result) }
 {
     let push = match clone.start_push(items) {
         Ok(push) => push,

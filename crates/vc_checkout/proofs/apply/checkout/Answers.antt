@@ -8,6 +8,7 @@ use Rattle.vc_checkout.specs.CheckedOut.{IsCleared, IsWritten}
 use Rattle.vc_checkout.specs.CheckoutFault.{IsFault, IsOfCheckout}
 use Rattle.vc_checkout.specs.Folders.{AreFolders, Folders, IsFolder}
 use Rattle.vc_checkout.specs.FoldersAfter.{AreBetween, IsLeftBy}
+use Rattle.vc_checkout.specs.Steps.{BringsPart}
 use Rattle.vc_checkout.specs.declared.faults.CheckoutFault.TheVariants.{Index}
 use Rattle.vc_checkout.proofs.MakingLemmas.{both_between, first_between}
 use Rattle.vc_checkout.proofs.LeavingLemmas.{between_same}
@@ -31,7 +32,11 @@ returns-in_err-check_blobs-clause-begun g c = λ honest stored.
     let was = g.T.WorkTree.folders c.args.work.now in
     let index = c.args.index.now in
     let tree = c.args.tree.now in
-    on_err _ _ (first_between index tree old old was was (between_same old old was was (λ d. IsFolder old was d × (IsLeftBy index tree d → ⊥)) refl refl (λ d is. is.0)))
+    let part : BringsPart g.T.WorkTree.content g.T.WorkTree.folders (objects (g.F.Files.content c.args.files.now)) index tree c.args.work.now c.args.work.now = record {
+      files = λ path. inl (search rules);
+      folders = first_between index tree old old was was (between_same old old was was (λ d. IsFolder old was d × (IsLeftBy index tree d → ⊥)) refl refl (λ d is. is.0));
+    } in
+    on_err _ _ part
 
 pub returns-in_err-check_all-clause-refused : goal.returns-in_err-check_all-clause-refused
 returns-in_err-check_all-clause-refused g c = λ stored.
@@ -39,38 +44,6 @@ returns-in_err-check_all-clause-refused g c = λ stored.
     let content = g.F.Files.content c.args.files.now in
     if_err c.from_residual-in_err-check_all.result c.in_err-check_all.field-0.0 (IsOfCheckout g.T.WorkTree.honest work content c.args.index.now c.args.tree.now) (search rules)
     (of_check g.T.WorkTree.honest work content c.args.index.now c.args.tree.now c.in_err-check_all.field-0.0 (c.in_ok-check_blobs.ensures.blobs stored) c.in_err-check_all.ensures.kind c.in_err-check_all.ensures.refused)
-
-pub returns-in_err-clear_all-clause-fault : goal.returns-in_err-clear_all-clause-fault
-returns-in_err-clear_all-clause-fault g c = λ honest stored.
-    let index = c.args.index.now in
-    let tree = c.args.tree.now in
-    let old = g.T.WorkTree.content c.args.work.now in
-    let now = g.T.WorkTree.content c.clear_all.new.work in
-    on_err _ _ (old_or_cleared (objects (g.F.Files.content c.args.files.now)) index tree old now
-    (subst (λ (w : FileMap). (q : List ℕ) → (get now q ≡ get w q) ⊎ IsCleared (get index q) (get tree q) (get w q) (get now q)) c.check_all.ensures.same (c.clear_all.ensures.begun honest)))
-
-pub returns-in_err-write_all-clause-fault : goal.returns-in_err-write_all-clause-fault
-returns-in_err-write_all-clause-fault g c = λ honest stored.
-    let index = c.args.index.now in
-    let tree = c.args.tree.now in
-    let old = g.T.WorkTree.content c.args.work.now in
-    let mid = g.T.WorkTree.content c.clear_all.new.work in
-    let now = g.T.WorkTree.content c.write_all.new.work in
-    on_err _ _ (old_or_written (objects (g.F.Files.content c.args.files.now)) index tree old mid now
-    (subst (λ (w : FileMap). (q : List ℕ) → IsCleared (get index q) (get tree q) (get w q) (get mid q)) c.check_all.ensures.same (c.in_ok-clear_all.ensures.done honest))
-    (subst (λ (f : FileMap). (q : List ℕ) → (get now q ≡ get mid q) ⊎ IsWritten (objects f) (get index q) (get tree q) (get mid q) (get now q)) c.check_blobs.ensures.same (c.write_all.ensures.begun honest stored)))
-
-pub returns-clause-folders : goal.returns-clause-folders
-returns-clause-folders g c = λ honest stored.
-    let content = g.T.WorkTree.content in
-    let folders = g.T.WorkTree.folders in
-    let index = c.args.index.now in
-    let tree = c.args.tree.now in
-    let old = content c.args.work.now in
-    let was = folders c.args.work.now in
-    let mid = content c.clear_all.new.work in
-    let held = folders c.clear_all.new.work in
-    c.in_ok-write_all.ensures.folders honest stored old was (subst (λ (s : Folders). AreFolders mid held (λ d. IsFolder old s d × (IsLeftBy index tree d → ⊥))) c.check_all.ensures.folders (subst (λ (f : FileMap). AreFolders mid held (λ d. IsFolder f (folders c.check_all.new.work) d × (IsLeftBy index tree d → ⊥))) c.check_all.ensures.same (c.in_ok-clear_all.ensures.folders honest)))
 
 pub returns-in_err-check_all-clause-begun : goal.returns-in_err-check_all-clause-begun
 returns-in_err-check_all-clause-begun g c = λ honest stored.
@@ -80,7 +53,11 @@ returns-in_err-check_all-clause-begun g c = λ honest stored.
     let was = g.T.WorkTree.folders c.args.work.now in
     let now = g.T.WorkTree.content c.check_all.new.work in
     let new = g.T.WorkTree.folders c.check_all.new.work in
-    on_err _ _ (first_between index tree old now was new (between_same old now was new (λ d. IsFolder old was d × (IsLeftBy index tree d → ⊥)) c.check_all.ensures.same c.check_all.ensures.folders (λ d is. is.0)))
+    let part : BringsPart g.T.WorkTree.content g.T.WorkTree.folders (objects (g.F.Files.content c.args.files.now)) index tree c.args.work.now c.check_all.new.work = record {
+      files = λ path. inl (search rules);
+      folders = first_between index tree old now was new (between_same old now was new (λ d. IsFolder old was d × (IsLeftBy index tree d → ⊥)) c.check_all.ensures.untouched.0 c.check_all.ensures.untouched.1 (λ d is. is.0));
+    } in
+    on_err _ _ part
 
 pub returns-in_err-clear_all-clause-begun : goal.returns-in_err-clear_all-clause-begun
 returns-in_err-clear_all-clause-begun g c = λ honest stored.
@@ -92,7 +69,13 @@ returns-in_err-clear_all-clause-begun g c = λ honest stored.
     let was = folders c.args.work.now in
     let mid = content c.clear_all.new.work in
     let held = folders c.clear_all.new.work in
-    on_err _ _ (first_between index tree old mid was held (subst (λ (s : Folders). AreBetween mid held (λ d. IsFolder old s d × (IsLeftBy index tree d → ⊥)) (IsFolder old s)) c.check_all.ensures.folders (subst (λ (f : FileMap). AreBetween mid held (λ d. IsFolder f (folders c.check_all.new.work) d × (IsLeftBy index tree d → ⊥)) (IsFolder f (folders c.check_all.new.work))) c.check_all.ensures.same (c.clear_all.ensures.between honest))))
+    let now = g.T.WorkTree.content c.clear_all.new.work in
+    let part : BringsPart g.T.WorkTree.content g.T.WorkTree.folders (objects (g.F.Files.content c.args.files.now)) index tree c.args.work.now c.clear_all.new.work = record {
+      files = old_or_cleared (objects (g.F.Files.content c.args.files.now)) index tree old now
+          (subst (λ (w : FileMap). (q : List ℕ) → (get now q ≡ get w q) ⊎ IsCleared (get index q) (get tree q) (get w q) (get now q)) c.check_all.ensures.untouched.0 (c.clear_all.ensures.begun honest));
+      folders = first_between index tree old mid was held (subst (λ (s : Folders). AreBetween mid held (λ d. IsFolder old s d × (IsLeftBy index tree d → ⊥)) (IsFolder old s)) c.check_all.ensures.untouched.1 (subst (λ (f : FileMap). AreBetween mid held (λ d. IsFolder f (folders c.check_all.new.work) d × (IsLeftBy index tree d → ⊥)) (IsFolder f (folders c.check_all.new.work))) c.check_all.ensures.untouched.0 (c.clear_all.ensures.between honest)));
+    } in
+    on_err _ _ part
 
 pub returns-in_err-write_all-clause-begun : goal.returns-in_err-write_all-clause-begun
 returns-in_err-write_all-clause-begun g c = λ honest stored.
@@ -104,4 +87,26 @@ returns-in_err-write_all-clause-begun g c = λ honest stored.
     let was = folders c.args.work.now in
     let mid = content c.clear_all.new.work in
     let held = folders c.clear_all.new.work in
-    on_err _ _ (both_between index tree old mid (content c.write_all.new.work) was held (folders c.write_all.new.work) (subst (λ (s : Folders). AreBetween mid held (λ d. IsFolder old s d × (IsLeftBy index tree d → ⊥)) (IsFolder old s)) c.check_all.ensures.folders (subst (λ (f : FileMap). AreBetween mid held (λ d. IsFolder f (folders c.check_all.new.work) d × (IsLeftBy index tree d → ⊥)) (IsFolder f (folders c.check_all.new.work))) c.check_all.ensures.same (c.clear_all.ensures.between honest))) (c.write_all.ensures.between honest))
+    let now = g.T.WorkTree.content c.write_all.new.work in
+    let part : BringsPart g.T.WorkTree.content g.T.WorkTree.folders (objects (g.F.Files.content c.args.files.now)) index tree c.args.work.now c.write_all.new.work = record {
+      files = old_or_written (objects (g.F.Files.content c.args.files.now)) index tree old mid now
+          (subst (λ (w : FileMap). (q : List ℕ) → IsCleared (get index q) (get tree q) (get w q) (get mid q)) c.check_all.ensures.untouched.0 (c.in_ok-clear_all.ensures.done honest))
+          (subst (λ (f : FileMap). (q : List ℕ) → (get now q ≡ get mid q) ⊎ IsWritten (objects f) (get index q) (get tree q) (get mid q) (get now q)) c.check_blobs.ensures.same (c.write_all.ensures.begun honest stored));
+      folders = both_between index tree old mid (content c.write_all.new.work) was held (folders c.write_all.new.work) (subst (λ (s : Folders). AreBetween mid held (λ d. IsFolder old s d × (IsLeftBy index tree d → ⊥)) (IsFolder old s)) c.check_all.ensures.untouched.1 (subst (λ (f : FileMap). AreBetween mid held (λ d. IsFolder f (folders c.check_all.new.work) d × (IsLeftBy index tree d → ⊥)) (IsFolder f (folders c.check_all.new.work))) c.check_all.ensures.untouched.0 (c.clear_all.ensures.between honest))) (c.write_all.ensures.between honest);
+    } in
+    on_err _ _ part
+
+pub returns-clause-brought : goal.returns-clause-brought
+returns-clause-brought g c = λ honest stored.
+    let content = g.T.WorkTree.content in
+    let folders = g.T.WorkTree.folders in
+    let index = c.args.index.now in
+    let tree = c.args.tree.now in
+    let old = content c.args.work.now in
+    let was = folders c.args.work.now in
+    let mid = content c.clear_all.new.work in
+    let held = folders c.clear_all.new.work in
+    record {
+      files = search rules;
+      folders = c.in_ok-write_all.ensures.folders honest stored old was (subst (λ (s : Folders). AreFolders mid held (λ d. IsFolder old s d × (IsLeftBy index tree d → ⊥))) c.check_all.ensures.untouched.1 (subst (λ (f : FileMap). AreFolders mid held (λ d. IsFolder f (folders c.check_all.new.work) d × (IsLeftBy index tree d → ⊥))) c.check_all.ensures.untouched.0 (c.in_ok-clear_all.ensures.folders honest)));
+    }

@@ -23,11 +23,11 @@ returns-in_err-index-clause-refused g c = λ work_honest honest.
     handed_on (RefusesAdd (g.W.WorkTree.content c.args.work.now) c.args.own.now (mode_of c.args.mode) (map word_bytes c.args.words.now) c.args.node.now.is_up c.index.new.self.is_up old (content c.index.new.self.files))
     (Node fault) c.from_residual-in_err-index.result c.from_residual-in_err-index.ensures.1
     (index_refused _ _ _ _ c.args.node.now.is_up c.index.new.self.is_up old (content c.index.new.self.files) c.in_err-index.ensures.same fault
-    (λ none. let down : ◌≡◌ (Err fault) (Err Down) = c.in_err-index.ensures.down none in cc) c.in_err-index.ensures.up (c.in_err-index.ensures.refused honest))
+    (λ none. let down : ◌≡◌ (Err fault) (Err Down) = c.in_err-index.ensures.settles.down none in cc) c.in_err-index.ensures.settles.up (c.in_err-index.ensures.refused honest))
 
 pub check_files-requires-clause-there : goal.check_files-requires-clause-there
 check_files-requires-clause-there g c = λ honest.
-    paths_there (g.W.WorkTree.content c.args.work.now) _ c.args.own.now (map word_bytes c.args.words.now) c.in_ok-paths.paths.items _ c.in_ok-paths.ensures.same c.deref.ensures.value (c.in_ok-paths.ensures.named honest)
+    paths_there (g.W.WorkTree.content c.args.work.now) _ c.args.own.now (map word_bytes c.args.words.now) c.in_ok-paths.paths.items _ c.in_ok-paths.ensures.untouched.0 c.deref.ensures.value (c.in_ok-paths.ensures.named honest)
 
 pub returns-in_err-check_files-clause-refused : goal.returns-in_err-check_files-clause-refused
 returns-in_err-check_files-clause-refused g c = λ work_honest honest.
@@ -37,17 +37,17 @@ returns-in_err-check_files-clause-refused g c = λ work_honest honest.
     let words = map word_bytes c.args.words.now in
     let old = content c.args.node.now.files in
     let failure = c.in_err-check_files.field-0.0 in
-    let up : c.args.node.now.is_up ≡ true = was_up c.args.node.now.is_up c.in_ok-index.index Down c.in_ok-index.ensures.down in
-    let after : c.index.new.self.is_up ≡ true = c.in_ok-index.ensures.up up in
+    let up : c.args.node.now.is_up ≡ true = was_up c.args.node.now.is_up c.in_ok-index.index Down c.in_ok-index.ensures.settles.down in
+    let after : c.index.new.self.is_up ≡ true = c.in_ok-index.ensures.settles.up up in
     let files : files_at (trees c.paths_named.new.work) c.mode.result c.deref.result.now ≡ files_named work c.args.own.now (mode_of c.args.mode) words =
-    files_same work _ c.args.own.now (mode_of c.args.mode) _ words c.in_ok-paths.paths.items _ c.in_ok-paths.ensures.same c.mode.ensures.value c.deref.ensures.value (c.in_ok-paths.ensures.named work_honest) in
+    files_same work _ c.args.own.now (mode_of c.args.mode) _ words c.in_ok-paths.paths.items _ c.in_ok-paths.ensures.untouched.0 c.mode.ensures.value c.deref.ensures.value (c.in_ok-paths.ensures.named work_honest) in
     handed_on (RefusesAdd work c.args.own.now (mode_of c.args.mode) words c.args.node.now.is_up c.index.new.self.is_up old (content c.index.new.self.files)) failure c.from_residual-in_err-check_files.result (search rules)
     (files_refused work c.args.own.now (mode_of c.args.mode) words c.args.node.now.is_up c.index.new.self.is_up old (content c.index.new.self.files) c.in_ok-index.ensures.same up after (c.in_ok-paths.ensures.names work_honest) failure c.in_ok-index.index
     (c.in_ok-index.ensures.spelled honest) (λ n spells. sym (c.in_ok-index.ensures.again honest n spells)) (subst (λ (fs : List File). RefusesFiles c.in_ok-index.index fs failure) files (c.in_err-check_files.ensures.refused work_honest)))
 
 pub store_files-requires-clause-there : goal.store_files-requires-clause-there
 store_files-requires-clause-there g c = λ honest.
-    paths_there (g.W.WorkTree.content c.args.work.now) _ c.args.own.now (map word_bytes c.args.words.now) c.in_ok-paths.paths.items _ (c.in_ok-check_files.ensures.same ∙ c.in_ok-paths.ensures.same) c.deref-2.ensures.value
+    paths_there (g.W.WorkTree.content c.args.work.now) _ c.args.own.now (map word_bytes c.args.words.now) c.in_ok-paths.paths.items _ (c.in_ok-check_files.ensures.untouched.0 ∙ c.in_ok-paths.ensures.untouched.0) c.deref-2.ensures.value
     (c.in_ok-paths.ensures.named honest)
 
 pub returns-in_err-stage_all-clause-refused : goal.returns-in_err-stage_all-clause-refused
@@ -63,9 +63,9 @@ returns-in_err-stage_all-clause-refused g c = λ work_honest honest.
     let named = c.in_ok-paths.ensures.named work_honest in
     let files = files_named work c.args.own.now (mode_of c.args.mode) words in
     let checked : files_at (trees c.paths_named.new.work) c.mode.result c.deref.result.now ≡ files =
-    files_same work _ c.args.own.now (mode_of c.args.mode) _ words c.in_ok-paths.paths.items _ c.in_ok-paths.ensures.same c.mode.ensures.value c.deref.ensures.value named in
+    files_same work _ c.args.own.now (mode_of c.args.mode) _ words c.in_ok-paths.paths.items _ c.in_ok-paths.ensures.untouched.0 c.mode.ensures.value c.deref.ensures.value named in
     let stored : files_at (trees c.check_files.new.work) c.mode-2.result c.deref-2.result.now ≡ files =
-    files_same work _ c.args.own.now (mode_of c.args.mode) _ words c.in_ok-paths.paths.items _ (c.in_ok-check_files.ensures.same ∙ c.in_ok-paths.ensures.same) c.mode-2.ensures.value c.deref-2.ensures.value named in
+    files_same work _ c.args.own.now (mode_of c.args.mode) _ words c.in_ok-paths.paths.items _ (c.in_ok-check_files.ensures.untouched.0 ∙ c.in_ok-paths.ensures.untouched.0) c.mode-2.ensures.value c.deref-2.ensures.value named in
     let are : AreNamed c.in_ok-staged.staged.items files = subst (AreNamed c.in_ok-staged.staged.items) stored (c.in_ok-staged.ensures.named work_honest) in
     let may : MayStandAll m (map file_placed files) = subst (λ (fs : List File). MayStandAll m (map file_placed fs)) checked (c.in_ok-check_files.ensures.may work_honest) in
     let outside : SameOutside (codes "objects/") old between = subst (λ (x : FileMap). SameOutside (codes "objects/") x between) c.in_ok-index.ensures.same (c.in_ok-staged.ensures.outside honest) in
@@ -73,7 +73,7 @@ returns-in_err-stage_all-clause-refused g c = λ work_honest honest.
     let blames : BlamesStaging m (map placed c.in_ok-staged.staged.items) fault =
     subst (λ (ts : List Staged). BlamesStaging m (map placed ts) fault) c.deref-3.ensures.value (c.in_err-stage_all.ensures.refused honest c.in_ok-staged.ensures.up m spells) in
     handed_on (RefusesAdd work c.args.own.now (mode_of c.args.mode) words c.args.node.now.is_up c.stage_all.new.self.is_up old (content c.stage_all.new.self.files)) (Node fault) c.from_residual-in_err-stage_all.result c.from_residual-in_err-stage_all.ensures.1
-    (staging_refused work c.args.own.now (mode_of c.args.mode) words c.args.node.now.is_up c.stage_all.new.self.is_up old between (content c.stage_all.new.self.files) outside (c.in_err-stage_all.ensures.err honest) m c.in_ok-staged.staged.items files fault are may blames)
+    (staging_refused work c.args.own.now (mode_of c.args.mode) words c.args.node.now.is_up c.stage_all.new.self.is_up old between (content c.stage_all.new.self.files) outside (c.in_err-stage_all.ensures.kept honest).err m c.in_ok-staged.staged.items files fault are may blames)
 
 pub returns-clause-added : goal.returns-clause-added
 returns-clause-added g c = λ work_honest honest.
@@ -84,14 +84,14 @@ returns-clause-added g c = λ work_honest honest.
     let old = content c.args.node.now.files in
     let named = c.in_ok-paths.ensures.named work_honest in
     let checked : files_at (trees c.paths_named.new.work) c.mode.result c.deref.result.now ≡ files_named work c.args.own.now (mode_of c.args.mode) words =
-    files_same work _ c.args.own.now (mode_of c.args.mode) _ words c.in_ok-paths.paths.items _ c.in_ok-paths.ensures.same c.mode.ensures.value c.deref.ensures.value named in
+    files_same work _ c.args.own.now (mode_of c.args.mode) _ words c.in_ok-paths.paths.items _ c.in_ok-paths.ensures.untouched.0 c.mode.ensures.value c.deref.ensures.value named in
     let stored : files_at (trees c.check_files.new.work) c.mode-2.result c.deref-2.result.now ≡ files_named work c.args.own.now (mode_of c.args.mode) words =
-    files_same work _ c.args.own.now (mode_of c.args.mode) _ words c.in_ok-paths.paths.items _ (c.in_ok-check_files.ensures.same ∙ c.in_ok-paths.ensures.same) c.mode-2.ensures.value c.deref-2.ensures.value named in
+    files_same work _ c.args.own.now (mode_of c.args.mode) _ words c.in_ok-paths.paths.items _ (c.in_ok-check_files.ensures.untouched.0 ∙ c.in_ok-paths.ensures.untouched.0) c.mode-2.ensures.value c.deref-2.ensures.value named in
     let blobs : AreBlobs (files_at (trees c.check_files.new.work) c.mode-2.result c.deref-2.result.now) = subst AreBlobs (checked ∙ sym stored) (c.in_ok-check_files.ensures.blobs work_honest) in
-    let up : c.args.node.now.is_up ≡ true = was_up c.args.node.now.is_up c.in_ok-index.index Down c.in_ok-index.ensures.down in
-    let after : c.index.new.self.is_up ≡ c.args.node.now.is_up = c.in_ok-index.ensures.up up ∙ sym up in
+    let up : c.args.node.now.is_up ≡ true = was_up c.args.node.now.is_up c.in_ok-index.index Down c.in_ok-index.ensures.settles.down in
+    let after : c.index.new.self.is_up ≡ c.args.node.now.is_up = c.in_ok-index.ensures.settles.up up ∙ sym up in
     let stores = subst (λ (x : FileMap). StoresFiles (files_at (trees c.check_files.new.work) c.mode-2.result c.deref-2.result.now) c.args.node.now.is_up c.store_files.new.node.is_up x (content c.store_files.new.node.files)) c.in_ok-index.ensures.same
     (subst (λ (u : Bool). StoresFiles (files_at (trees c.check_files.new.work) c.mode-2.result c.deref-2.result.now) u c.store_files.new.node.is_up (content c.index.new.self.files) (content c.store_files.new.node.files)) after (c.in_ok-staged.ensures.stored work_honest honest)) in
     adds_files work c.args.own.now (mode_of c.args.mode) words c.args.node.now.is_up c.store_files.new.node.is_up c.stage_all.new.self.is_up old (content c.store_files.new.node.files) (content c.stage_all.new.self.files) c.in_ok-staged.staged.items _ stored
     (c.in_ok-paths.ensures.names work_honest) (c.in_ok-staged.ensures.named work_honest) blobs stores
-    (subst (λ (ts : List Staged). StagesHeld ts (Did Stored) c.store_files.new.node.is_up c.stage_all.new.self.is_up (content c.store_files.new.node.files) (content c.stage_all.new.self.files)) c.deref-3.ensures.value (c.in_ok-stage_all.ensures.answers honest))
+    (subst (λ (ts : List Staged). StagesHeld ts (Did Stored) c.store_files.new.node.is_up c.stage_all.new.self.is_up (content c.store_files.new.node.files) (content c.stage_all.new.self.files)) c.deref-3.ensures.value (c.in_ok-stage_all.ensures.answers honest).held)

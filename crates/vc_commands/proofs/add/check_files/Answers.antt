@@ -29,6 +29,6 @@ loop-path-preserved g c =
           subst (λ (w : FileMap). IsObject Blob (file_at w mode (string_bytes path)).body) i.same (subst (λ (p : List ℕ). IsObject Blob (file_at (content c.loop-path.work) mode p).body) named (e.blob honest)) in
           leads_more c.args.index.now c.loop-path.index (files_at work mode paths) (files_at work mode (drop k paths)) (files_at work mode (drop (k + 1) paths)) (file_at work mode (string_bytes path)) (i.leads honest)
           (rest_at work mode paths k path c.loop-path-test.true c.path-item.is) c.check_file.new.index _ put legal free object;
-      same = e.same ∙ i.same;
-      folders = e.folders ∙ i.folders;
+      same = e.untouched.0 ∙ i.same;
+      folders = e.untouched.1 ∙ i.folders;
     }

@@ -12,4 +12,4 @@ returns-clause-stored g c = λ work_honest honest.
     let path = c.args.path.now in
     let there : get work path ≡ Some c.in-Some.bytes.items = sym (c.in_ok-bytes.ensures.found work_honest) ∙ ap (option_map (λ (b : Vec ℕ Global). b.items)) c.in-Some.is in
     let body : c.deref.result.now ≡ (file_at work c.args.mode path).body = c.deref.ensures.value ∙ sym (ap (λ (o : Option (List ℕ)). unwrap_or o []) there) in
-    stores_one (file_at work c.args.mode path) c.deref.result.now _ _ _ _ _ body c.in_ok-id.ensures.name (c.in_ok-id.ensures.answers honest)
+    stores_one (file_at work c.args.mode path) c.deref.result.now _ _ _ _ _ body c.in_ok-id.ensures.name (c.in_ok-id.ensures.answers honest).held

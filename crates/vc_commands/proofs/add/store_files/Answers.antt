@@ -80,6 +80,6 @@ loop-path-preserved g c =
       up = e.up;
       outside = λ honest. outside_then (i.outside honest) (e.outside honest);
       clean = λ honest. clean_then _ _ _ (i.clean honest) (e.clean honest);
-      same = e.same ∙ i.same;
-      folders = e.folders ∙ i.folders;
+      same = e.untouched.0 ∙ i.same;
+      folders = e.untouched.1 ∙ i.folders;
     }

@@ -14,8 +14,8 @@ returns-in-Ok-commit g c =
     let contents = g.O.Write.contents in
     let made : g.F.Files.honest → MakesCommit (content c.args.files) c.args.parents.now c.args.words.author.now c.args.words.committer.now c.args.words.message.now c.in-Ok-commit.id (content c.close.result) = λ honest. made_of c.args.parents.now c.args.words.author.now c.args.words.committer.now c.args.words.message.now c.commit.result c.in-Ok-commit.id c.in-Ok.node.is_up c.commit.new.self.is_up
     (content c.args.files) (content c.in-Ok.node.files) (content c.commit.new.self.files) (content c.close.result)
-    (c.in-Ok.ensures.opened honest) c.in-Ok.ensures.up (c.commit.ensures.up c.in-Ok.ensures.up) c.in-Ok-commit.is (ap content (sym c.close.ensures))
-    (c.commit.ensures.answers honest) (c.commit.ensures.bad_file honest) (c.in-Ok-commit.ensures.committed honest) in
+    (c.in-Ok.ensures.opened honest) c.in-Ok.ensures.fresh.up (c.commit.ensures.settles.up c.in-Ok.ensures.fresh.up) c.in-Ok-commit.is (ap content (sym c.close.ensures))
+    (c.commit.ensures.answers honest).held (c.commit.ensures.answers honest).any (c.in-Ok-commit.ensures.committed honest) in
     record {
       committed = λ honest. OnOk-map c.print_id.result (λ line. record { id = c.in-Ok-commit.id; made = made honest; text = line }) c.print_id.ensures.line;
       refused = λ honest. IfErr-weaker c.print_id.result IsFault
@@ -28,6 +28,6 @@ returns-in-Err-commit-clause-refused g c = λ honest.
     let content = g.F.Files.content in
     of_step (inr (refused_of (committing c.args.parents.now c.args.words.author.now c.args.words.committer.now c.args.words.message.now) c.commit.result c.in-Err-commit.refusal c.in-Ok.node.is_up c.commit.new.self.is_up
     (content c.args.files) (content c.in-Ok.node.files) (content c.commit.new.self.files) (content c.close-in-Err-commit.result)
-    (c.in-Ok.ensures.opened honest) c.in-Ok.ensures.up (c.commit.ensures.up c.in-Ok.ensures.up) c.in-Err-commit.is (ap content (sym c.close-in-Err-commit.ensures))
-    (c.commit.ensures.answers honest) (c.commit.ensures.bad_file honest) (c.commit.ensures.err honest)))
+    (c.in-Ok.ensures.opened honest) c.in-Ok.ensures.fresh.up (c.commit.ensures.settles.up c.in-Ok.ensures.fresh.up) c.in-Err-commit.is (ap content (sym c.close-in-Err-commit.ensures))
+    (c.commit.ensures.answers honest).held (c.commit.ensures.answers honest).any (c.commit.ensures.err honest)))
     (Keeps-refl (g.O.Write.contents c.args.output.now))

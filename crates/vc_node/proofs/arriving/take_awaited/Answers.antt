@@ -1,4 +1,4 @@
-use Rattle.std.proofs.Common.{List, refl, sym, subst}
+use Rattle.std.proofs.Common.{List, refl, sym, subst, rules}
 use Rattle.std.proofs.lemmas.Result.{err_from_is_err_and}
 use Rattle.vc_pack.proofs.KeepsLemmas.{keeps_then}
 use Rattle.vc_exchange.proofs.QuarantinedLemmas.{held_beside, keeps_beside_slot, others_slot, others_then}
@@ -20,8 +20,8 @@ returns-in_err-arrived-clause-left g c =
 pub returns-in_err-arrived-clause-beside : goal.returns-in_err-arrived-clause-beside
 returns-in_err-arrived-clause-beside g c = λ honest. others_slot _ _ (c.in_err-arrived.ensures.outside honest)
 
-pub returns-in_err-arrived-clause-objects : goal.returns-in_err-arrived-clause-objects
-returns-in_err-arrived-clause-objects g c = λ honest. keeps_beside_slot _ _ (c.in_err-arrived.ensures.outside honest)
+pub returns-in_err-arrived-clause-good : goal.returns-in_err-arrived-clause-good
+returns-in_err-arrived-clause-good g c = λ honest. record { objects = keeps_beside_slot _ _ (c.in_err-arrived.ensures.outside honest); bad = search rules }
 
 pub returns-in_err-moves-clause-left : goal.returns-in_err-moves-clause-left
 returns-in_err-moves-clause-left g c =
@@ -45,11 +45,8 @@ returns-in_err-moves-clause-left g c =
 pub returns-in_err-moves-clause-beside : goal.returns-in_err-moves-clause-beside
 returns-in_err-moves-clause-beside g c = λ honest. others_then _ _ _ (others_slot _ _ (c.in_ok-arrived.ensures.outside honest)) (c.in_err-moves.ensures.beside honest)
 
-pub returns-in_err-moves-clause-objects : goal.returns-in_err-moves-clause-objects
-returns-in_err-moves-clause-objects g c = λ honest. keeps_then _ _ _ (keeps_beside_slot _ _ (c.in_ok-arrived.ensures.outside honest)) (c.in_err-moves.ensures.objects honest)
-
-pub returns-in_err-moves-clause-bad : goal.returns-in_err-moves-clause-bad
-returns-in_err-moves-clause-bad g c = λ honest. bad_then (c.in_ok-arrived.ensures.bad honest) (c.in_err-moves.ensures.bad honest)
+pub returns-in_err-moves-clause-good : goal.returns-in_err-moves-clause-good
+returns-in_err-moves-clause-good g c = λ honest. record { objects = keeps_then _ _ _ (keeps_beside_slot _ _ (c.in_ok-arrived.ensures.outside honest)) (c.in_err-moves.ensures.objects honest); bad = bad_then (c.in_ok-arrived.ensures.bad honest) (c.in_err-moves.ensures.bad honest) }
 
 pub returns-in_err-moves-clause-wear : goal.returns-in_err-moves-clause-wear
 returns-in_err-moves-clause-wear g c =
@@ -72,11 +69,8 @@ returns-clause-taken g c = λ before ack so.
 pub returns-clause-beside : goal.returns-clause-beside
 returns-clause-beside g c = λ honest. others_then _ _ _ (others_slot _ _ (c.in_ok-arrived.ensures.outside honest)) (c.in_ok-moves.ensures.beside honest)
 
-pub returns-clause-objects : goal.returns-clause-objects
-returns-clause-objects g c = λ honest. keeps_then _ _ _ (keeps_beside_slot _ _ (c.in_ok-arrived.ensures.outside honest)) (c.in_ok-moves.ensures.objects honest)
-
-pub returns-clause-bad : goal.returns-clause-bad
-returns-clause-bad g c = λ honest. bad_then (c.in_ok-arrived.ensures.bad honest) (c.in_ok-moves.ensures.bad honest)
+pub returns-clause-good : goal.returns-clause-good
+returns-clause-good g c = λ honest. record { objects = keeps_then _ _ _ (keeps_beside_slot _ _ (c.in_ok-arrived.ensures.outside honest)) (c.in_ok-moves.ensures.objects honest); bad = bad_then (c.in_ok-arrived.ensures.bad honest) (c.in_ok-moves.ensures.bad honest) }
 
 pub returns-clause-wear : goal.returns-clause-wear
 returns-clause-wear g c = writes_both c.in_ok-arrived.ensures.wear (λ never. never) (writes_told c.in_ok-moves.ensures.wear (λ never. absurd (cc never)) (λ never. absurd never))

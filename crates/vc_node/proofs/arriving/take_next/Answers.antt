@@ -1,12 +1,12 @@
 use Rattle.std.proofs.Common.{refl}
 use Rattle.std.proofs.lemmas.Result.{err_from_is_err_and}
-use Rattle.vc_pack.proofs.KeepsLemmas.{keeps_same}
 use Rattle.vc_exchange.proofs.QuarantinedLemmas.{others_same}
 use Rattle.vc_files.proofs.FileMapLemmas.{outside_same}
 use Rattle.vc_files.proofs.WearLemmas.{writes_none}
 use Rattle.vc_session.proofs.CleanLemmas.{bad_same}
 use Rattle.vc_node.proofs.ArrivingLemmas.{no_device, stopped_by}
 use Rattle.vc_node.proofs.ComingLemmas.{comes_lost, comes_receives, nothing_receives, stopped_receives, told_cleared, told_err, told_none, told_receives, told_lost, told_writes}
+use Rattle.vc_node.proofs.KeepingLemmas.{good_same}
 use Rattle.vc_node.specs.Awaited.{awaited_text}
 use Rattle.vc_node.specs.ReceiveFault.{of_incoming}
 use Rattle.vc_node.proofs.arriving.take_next.Goals as goal
@@ -30,11 +30,8 @@ returns-in_err-found-clause-cleared g c = λ honest up dropped. dropped
 pub returns-in_err-found-clause-beside : goal.returns-in_err-found-clause-beside
 returns-in_err-found-clause-beside g c = λ honest. others_same _ _ refl
 
-pub returns-in_err-found-clause-objects : goal.returns-in_err-found-clause-objects
-returns-in_err-found-clause-objects g c = λ honest. keeps_same _ _ refl
-
-pub returns-in_err-found-clause-bad : goal.returns-in_err-found-clause-bad
-returns-in_err-found-clause-bad g c = λ honest. bad_same _ _ refl
+pub returns-in_err-found-clause-good : goal.returns-in_err-found-clause-good
+returns-in_err-found-clause-good g c = λ honest. good_same _ _ refl
 
 pub returns-in_err-found-clause-wear : goal.returns-in_err-found-clause-wear
 returns-in_err-found-clause-wear g c = writes_none (no_device c.in_err-found.field-0.0 c.from_residual.result c.from_residual.ensures.1)
@@ -48,11 +45,8 @@ returns-in_default-clause-cleared g c = λ honest up dropped. dropped
 pub returns-in_default-clause-beside : goal.returns-in_default-clause-beside
 returns-in_default-clause-beside g c = λ honest. others_same _ _ refl
 
-pub returns-in_default-clause-objects : goal.returns-in_default-clause-objects
-returns-in_default-clause-objects g c = λ honest. keeps_same _ _ refl
-
-pub returns-in_default-clause-bad : goal.returns-in_default-clause-bad
-returns-in_default-clause-bad g c = λ honest. bad_same _ _ refl
+pub returns-in_default-clause-good : goal.returns-in_default-clause-good
+returns-in_default-clause-good g c = λ honest. good_same _ _ refl
 
 pub returns-in_default-clause-wear : goal.returns-in_default-clause-wear
 returns-in_default-clause-wear g c = writes_none (λ device. device)
@@ -63,7 +57,7 @@ returns-clause-receives g c =
     let content = g.F.Files.content in
     let head = rw c.in-Some.is at c.in_ok-found.ensures.head in
     told_receives g.F.Files.honest (g.R.Read.remaining c.args.reader.now) (g.R.Read.remaining c.take_rest-received.new.reader) (content c.args.files.now) (content c.take_rest-received.new.files) (awaited_text c.args.awaited.now) (awaited_text c.take_rest-received.new.awaited)
-    c.take_rest-received.result c.told.result c.told.ensures (comes_receives g.F.Files.honest _ _ _ _ _ c.take_rest-received.ensures.bad _ c.take_rest-received.result (c.take_rest-received.ensures.comes (g.R.Read.remaining c.args.reader.now) head))
+    c.take_rest-received.result c.told.result c.told.ensures (comes_receives g.F.Files.honest _ _ _ _ _ (λ honest. (c.take_rest-received.ensures.good honest).bad) _ c.take_rest-received.result (c.take_rest-received.ensures.comes (g.R.Read.remaining c.args.reader.now) head))
 
 pub returns-clause-none : goal.returns-clause-none
 returns-clause-none g c = told_none _ c.take_rest-received.result c.told.result c.told.ensures
@@ -73,7 +67,7 @@ returns-clause-lost g c = λ honest.
     let content = g.F.Files.content in
     let head = rw c.in-Some.is at c.in_ok-found.ensures.head in
     told_lost (content c.args.files.now) (content c.take_rest-received.new.files) (awaited_text c.args.awaited.now) (awaited_text c.take_rest-received.new.awaited) c.take_rest-received.result c.told.result c.told.ensures
-    (comes_lost g.F.Files.honest _ _ _ _ _ c.take_rest-received.ensures.bad honest _ c.take_rest-received.result (c.take_rest-received.ensures.comes (g.R.Read.remaining c.args.reader.now) head))
+    (comes_lost g.F.Files.honest _ _ _ _ _ (λ honest. (c.take_rest-received.ensures.good honest).bad) honest _ c.take_rest-received.result (c.take_rest-received.ensures.comes (g.R.Read.remaining c.args.reader.now) head))
 
 pub returns-clause-unchanged : goal.returns-clause-unchanged
 returns-clause-unchanged g c = told_err _ c.take_rest-received.result c.told.result c.told.ensures c.take_rest-received.ensures.unchanged

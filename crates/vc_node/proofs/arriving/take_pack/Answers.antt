@@ -1,15 +1,15 @@
 use Rattle.std.proofs.Common.{not, Err, refl, sym, ap, ◌∙◌, true≢false}
 use Rattle.std.proofs.lemmas.Result.{err_from_is_err_and}
-use Rattle.vc_pack.proofs.KeepsLemmas.{keeps_same, keeps_then}
 use Rattle.vc_exchange.proofs.QuarantinedLemmas.{keeps_beside_slot, others_same, others_slot, others_then}
 use Rattle.vc_exchange.specs.Moving.{told_in}
 use Rattle.vc_files.proofs.FileMapLemmas.{outside_same}
 use Rattle.vc_files.proofs.WearLemmas.{writes_both, writes_none, writes_told}
 use Rattle.vc_message.specs.AnyMessage.{a_pack as pack_message}
-use Rattle.vc_session.proofs.CleanLemmas.{bad_same, bad_then}
+use Rattle.vc_session.proofs.CleanLemmas.{bad_then}
 use Rattle.vc_node.proofs.ArrivedLemmas.{left_comes, left_failing, left_then, taken_comes}
 use Rattle.vc_node.proofs.ArrivingLemmas.{files_writes, no_device, refusal_no_device, stopped_by}
 use Rattle.vc_node.proofs.ExchangingLemmas.{pack_refused, pack_unexpected, same_pack}
+use Rattle.vc_node.proofs.KeepingLemmas.{good_same, good_then}
 use Rattle.vc_node.specs.Arriving.{stopped, whole}
 use Rattle.vc_node.specs.Awaited.{awaited_text}
 use Rattle.vc_node.specs.declared.clone_fault.CloneFault.TheVariants.{Unexpected}
@@ -27,11 +27,8 @@ returns-in_err-skip_pack-clause-cleared g c = λ honest up dropped. dropped
 pub returns-in_err-skip_pack-clause-beside : goal.returns-in_err-skip_pack-clause-beside
 returns-in_err-skip_pack-clause-beside g c = λ honest. others_same _ _ refl
 
-pub returns-in_err-skip_pack-clause-objects : goal.returns-in_err-skip_pack-clause-objects
-returns-in_err-skip_pack-clause-objects g c = λ honest. keeps_same _ _ refl
-
-pub returns-in_err-skip_pack-clause-bad : goal.returns-in_err-skip_pack-clause-bad
-returns-in_err-skip_pack-clause-bad g c = λ honest. bad_same _ _ refl
+pub returns-in_err-skip_pack-clause-good : goal.returns-in_err-skip_pack-clause-good
+returns-in_err-skip_pack-clause-good g c = λ honest. good_same _ _ refl
 
 pub returns-in_err-skip_pack-clause-wear : goal.returns-in_err-skip_pack-clause-wear
 returns-in_err-skip_pack-clause-wear g c = writes_none (no_device c.in_err-skip_pack.field-0.0 c.from_residual.result c.from_residual.ensures.1)
@@ -48,11 +45,8 @@ returns-in_default-clause-cleared g c = λ honest up dropped. dropped
 pub returns-in_default-clause-beside : goal.returns-in_default-clause-beside
 returns-in_default-clause-beside g c = λ honest. others_same _ _ refl
 
-pub returns-in_default-clause-objects : goal.returns-in_default-clause-objects
-returns-in_default-clause-objects g c = λ honest. keeps_same _ _ refl
-
-pub returns-in_default-clause-bad : goal.returns-in_default-clause-bad
-returns-in_default-clause-bad g c = λ honest. bad_same _ _ refl
+pub returns-in_default-clause-good : goal.returns-in_default-clause-good
+returns-in_default-clause-good g c = λ honest. good_same _ _ refl
 
 pub returns-in_default-clause-wear : goal.returns-in_default-clause-wear
 returns-in_default-clause-wear g c = writes_none (λ device. device)
@@ -62,7 +56,7 @@ pub returns-in-Ok-clause-comes : goal.returns-in-Ok-clause-comes
 returns-in-Ok-clause-comes g c = λ before ack so.
     let content = g.F.Files.content in
     let waits = ap awaited_text c.in-Pack.is ∙ same_pack _ _ _ _ (sym c.deref.ensures.value) (sym c.deref-2.ensures.value) in
-    taken_comes g.F.Files.honest before _ (content c.args.files.now) (content c.take_awaited.new.files) c.deref.result.now (told_in c.deref-2.result.now) _ waits c.take_awaited.ensures.beside c.take_awaited.ensures.bad
+    taken_comes g.F.Files.honest before _ (content c.args.files.now) (content c.take_awaited.new.files) c.deref.result.now (told_in c.deref-2.result.now) _ waits c.take_awaited.ensures.beside (λ honest. (c.take_awaited.ensures.good honest).bad)
     c.in-Ok.moves.moved c.in-Ok.moves.left _ refl (c.in-Ok.ensures.taken before ack so)
 
 pub returns-in-Ok-clause-cleared : goal.returns-in-Ok-clause-cleared
@@ -73,7 +67,7 @@ pub returns-then-is_fault-clause-comes : goal.returns-then-is_fault-clause-comes
 returns-then-is_fault-clause-comes g c = λ before ack so.
     let content = g.F.Files.content in
     let waits = ap awaited_text c.in-Pack.is ∙ same_pack _ _ _ _ (sym c.deref.ensures.value) (sym c.deref-2.ensures.value) in
-    left_comes g.F.Files.honest before _ (content c.args.files.now) (content c.take_awaited.new.files) c.deref.result.now (told_in c.deref-2.result.now) _ waits c.take_awaited.ensures.beside c.take_awaited.ensures.bad
+    left_comes g.F.Files.honest before _ (content c.args.files.now) (content c.take_awaited.new.files) c.deref.result.now (told_in c.deref-2.result.now) _ waits c.take_awaited.ensures.beside (λ honest. (c.take_awaited.ensures.good honest).bad)
     c.in-Err.fault _ (sym (ap awaited_text c.in-Pack.is)) (c.in-Err.ensures.left before ack so)
 
 pub returns-then-is_fault-clause-cleared : goal.returns-then-is_fault-clause-cleared
@@ -90,7 +84,7 @@ returns-in_err-drop_quarantine-in-Err-clause-comes g c =
     let outside = c.in_err-drop_quarantine-in-Err.ensures.outside in
     let p = err_from_is_err_and c.from_residual-in_err-drop_quarantine-in-Err.result c.from_residual-in_err-drop_quarantine-in-Err.ensures.1 in
     rw (p.1, p.2) (λ before ack so.
-    left_comes g.F.Files.honest before _ old new c.deref.result.now (told_in c.deref-2.result.now) _ waits (λ honest. others_then _ _ _ (c.take_awaited.ensures.beside honest) (others_slot _ _ (outside honest))) (λ honest. bad_then (c.take_awaited.ensures.bad honest) (c.in_err-drop_quarantine-in-Err.ensures.bad honest))
+    left_comes g.F.Files.honest before _ old new c.deref.result.now (told_in c.deref-2.result.now) _ waits (λ honest. others_then _ _ _ (c.take_awaited.ensures.beside honest) (others_slot _ _ (outside honest))) (λ honest. bad_then (c.take_awaited.ensures.good honest).bad (c.in_err-drop_quarantine-in-Err.ensures.bad honest))
     _ _ (sym (ap awaited_text c.in-Pack.is)) (left_failing g.F.Files.honest before _ old mid c.deref.result.now (told_in c.deref-2.result.now) c.in-Err.fault new outside c.in_err-drop_quarantine-in-Err.field-0.0 (c.in-Err.ensures.left before ack so)))
 
 pub returns-in_err-drop_quarantine-in-Err-clause-cleared : goal.returns-in_err-drop_quarantine-in-Err-clause-cleared
@@ -101,11 +95,8 @@ returns-in_err-drop_quarantine-in-Err-clause-cleared g c = λ honest.
 pub returns-in_err-drop_quarantine-in-Err-clause-beside : goal.returns-in_err-drop_quarantine-in-Err-clause-beside
 returns-in_err-drop_quarantine-in-Err-clause-beside g c = λ honest. others_then _ _ _ (c.take_awaited.ensures.beside honest) (others_slot _ _ (c.in_err-drop_quarantine-in-Err.ensures.outside honest))
 
-pub returns-in_err-drop_quarantine-in-Err-clause-objects : goal.returns-in_err-drop_quarantine-in-Err-clause-objects
-returns-in_err-drop_quarantine-in-Err-clause-objects g c = λ honest. keeps_then _ _ _ (c.take_awaited.ensures.objects honest) (keeps_beside_slot _ _ (c.in_err-drop_quarantine-in-Err.ensures.outside honest))
-
-pub returns-in_err-drop_quarantine-in-Err-clause-bad : goal.returns-in_err-drop_quarantine-in-Err-clause-bad
-returns-in_err-drop_quarantine-in-Err-clause-bad g c = λ honest. bad_then (c.take_awaited.ensures.bad honest) (c.in_err-drop_quarantine-in-Err.ensures.bad honest)
+pub returns-in_err-drop_quarantine-in-Err-clause-good : goal.returns-in_err-drop_quarantine-in-Err-clause-good
+returns-in_err-drop_quarantine-in-Err-clause-good g c = λ honest. good_then (c.take_awaited.ensures.good honest) (record { objects = keeps_beside_slot _ _ (c.in_err-drop_quarantine-in-Err.ensures.outside honest); bad = c.in_err-drop_quarantine-in-Err.ensures.bad honest })
 
 pub returns-in_err-drop_quarantine-in-Err-clause-wear : goal.returns-in_err-drop_quarantine-in-Err-clause-wear
 returns-in_err-drop_quarantine-in-Err-clause-wear g c =
@@ -120,7 +111,7 @@ returns-in_ok-drop_quarantine-in-Err-clause-comes g c = λ before ack so.
     let new = content c.drop_quarantine.new.files in
     let waits = ap awaited_text c.in-Pack.is ∙ same_pack _ _ _ _ (sym c.deref.ensures.value) (sym c.deref-2.ensures.value) in
     let outside = c.in_ok-drop_quarantine-in-Err.ensures.outside in
-    left_comes g.F.Files.honest before _ old new c.deref.result.now (told_in c.deref-2.result.now) _ waits (λ honest. others_then _ _ _ (c.take_awaited.ensures.beside honest) (others_slot _ _ (outside honest))) (λ honest. bad_then (c.take_awaited.ensures.bad honest) (c.in_ok-drop_quarantine-in-Err.ensures.bad honest))
+    left_comes g.F.Files.honest before _ old new c.deref.result.now (told_in c.deref-2.result.now) _ waits (λ honest. others_then _ _ _ (c.take_awaited.ensures.beside honest) (others_slot _ _ (outside honest))) (λ honest. bad_then (c.take_awaited.ensures.good honest).bad (c.in_ok-drop_quarantine-in-Err.ensures.bad honest))
     _ _ (sym (ap awaited_text c.in-Pack.is)) (left_then g.F.Files.honest before _ old mid c.deref.result.now (told_in c.deref-2.result.now) c.in-Err.fault new outside (c.in-Err.ensures.left before ack so))
 
 pub returns-in_ok-drop_quarantine-in-Err-clause-cleared : goal.returns-in_ok-drop_quarantine-in-Err-clause-cleared
@@ -129,11 +120,8 @@ returns-in_ok-drop_quarantine-in-Err-clause-cleared g c = λ honest up dropped. 
 pub returns-in_ok-drop_quarantine-in-Err-clause-beside : goal.returns-in_ok-drop_quarantine-in-Err-clause-beside
 returns-in_ok-drop_quarantine-in-Err-clause-beside g c = λ honest. others_then _ _ _ (c.take_awaited.ensures.beside honest) (others_slot _ _ (c.in_ok-drop_quarantine-in-Err.ensures.outside honest))
 
-pub returns-in_ok-drop_quarantine-in-Err-clause-objects : goal.returns-in_ok-drop_quarantine-in-Err-clause-objects
-returns-in_ok-drop_quarantine-in-Err-clause-objects g c = λ honest. keeps_then _ _ _ (c.take_awaited.ensures.objects honest) (keeps_beside_slot _ _ (c.in_ok-drop_quarantine-in-Err.ensures.outside honest))
-
-pub returns-in_ok-drop_quarantine-in-Err-clause-bad : goal.returns-in_ok-drop_quarantine-in-Err-clause-bad
-returns-in_ok-drop_quarantine-in-Err-clause-bad g c = λ honest. bad_then (c.take_awaited.ensures.bad honest) (c.in_ok-drop_quarantine-in-Err.ensures.bad honest)
+pub returns-in_ok-drop_quarantine-in-Err-clause-good : goal.returns-in_ok-drop_quarantine-in-Err-clause-good
+returns-in_ok-drop_quarantine-in-Err-clause-good g c = λ honest. good_then (c.take_awaited.ensures.good honest) (record { objects = keeps_beside_slot _ _ (c.in_ok-drop_quarantine-in-Err.ensures.outside honest); bad = c.in_ok-drop_quarantine-in-Err.ensures.bad honest })
 
 pub returns-in_ok-drop_quarantine-in-Err-clause-wear : goal.returns-in_ok-drop_quarantine-in-Err-clause-wear
 returns-in_ok-drop_quarantine-in-Err-clause-wear g c =

@@ -1,6 +1,5 @@
 use Rattle.std.proofs.Common.{Ok, Err, refl}
 use Rattle.std.proofs.lemmas.Result.{err_from_is_err_and}
-use Rattle.vc_pack.proofs.KeepsLemmas.{keeps_same}
 use Rattle.vc_exchange.proofs.QuarantinedLemmas.{others_same}
 use Rattle.vc_files.proofs.FileMapLemmas.{outside_same}
 use Rattle.vc_files.proofs.WearLemmas.{writes_none}
@@ -8,10 +7,10 @@ use Rattle.vc_message.specs.AnyMessage.{a_push}
 use Rattle.vc_message.specs.AnyView.{message_text}
 use Rattle.vc_push.specs.Push.{PushText}
 use Rattle.vc_push.specs.PushView.{commands_of}
-use Rattle.vc_session.proofs.CleanLemmas.{bad_same}
 use Rattle.vc_node.proofs.ArrivedLemmas.{dropped_beside, message_writes, others_beside, push_refused}
 use Rattle.vc_node.proofs.ArrivingLemmas.{no_device, stopped_by}
 use Rattle.vc_node.proofs.ExchangingLemmas.{other_unexpected}
+use Rattle.vc_node.proofs.KeepingLemmas.{good_same}
 use Rattle.vc_node.specs.Arriving.{stopped, whole}
 use Rattle.vc_node.specs.Awaited.{awaited_text}
 use Rattle.vc_node.specs.declared.clone_fault.CloneFault.TheVariants.{Unexpected}
@@ -54,11 +53,8 @@ returns-in_err-skip_push-in-Push-clause-cleared g c = λ honest up dropped. drop
 pub returns-in_err-skip_push-in-Push-clause-beside : goal.returns-in_err-skip_push-in-Push-clause-beside
 returns-in_err-skip_push-in-Push-clause-beside g c = λ honest. others_same _ _ refl
 
-pub returns-in_err-skip_push-in-Push-clause-objects : goal.returns-in_err-skip_push-in-Push-clause-objects
-returns-in_err-skip_push-in-Push-clause-objects g c = λ honest. keeps_same _ _ refl
-
-pub returns-in_err-skip_push-in-Push-clause-bad : goal.returns-in_err-skip_push-in-Push-clause-bad
-returns-in_err-skip_push-in-Push-clause-bad g c = λ honest. bad_same _ _ refl
+pub returns-in_err-skip_push-in-Push-clause-good : goal.returns-in_err-skip_push-in-Push-clause-good
+returns-in_err-skip_push-in-Push-clause-good g c = λ honest. good_same _ _ refl
 
 pub returns-in_err-skip_push-in-Push-clause-wear : goal.returns-in_err-skip_push-in-Push-clause-wear
 returns-in_err-skip_push-in-Push-clause-wear g c = writes_none (no_device c.in_err-skip_push-in-Push.field-0.0 c.from_residual-in_err-skip_push-in-Push.result c.from_residual-in_err-skip_push-in-Push.ensures.1)
@@ -78,11 +74,8 @@ returns-in-Push-clause-cleared g c = λ honest up dropped. dropped
 pub returns-in-Push-clause-beside : goal.returns-in-Push-clause-beside
 returns-in-Push-clause-beside g c = λ honest. others_same _ _ refl
 
-pub returns-in-Push-clause-objects : goal.returns-in-Push-clause-objects
-returns-in-Push-clause-objects g c = λ honest. keeps_same _ _ refl
-
-pub returns-in-Push-clause-bad : goal.returns-in-Push-clause-bad
-returns-in-Push-clause-bad g c = λ honest. bad_same _ _ refl
+pub returns-in-Push-clause-good : goal.returns-in-Push-clause-good
+returns-in-Push-clause-good g c = λ honest. good_same _ _ refl
 
 pub returns-in-Push-clause-wear : goal.returns-in-Push-clause-wear
 returns-in-Push-clause-wear g c = writes_none (λ device. device)

@@ -6,7 +6,7 @@ use Rattle.vc_files.specs.FileMap.{FileMap, SameOutside}
 use Rattle.vc_store.specs.Store.{objects}
 use Rattle.vc_node.specs.Commit.{parents_of_commit}
 use Rattle.vc_node.specs.IndexFile.{SpellsIndex, BlamesIndex}
-use Rattle.vc_node.specs.Making.{AreLines, BlamesLook, BlamesParents, BlamesMaking, LeftByCommit}
+use Rattle.vc_node.specs.Making.{LeavesSaid, AreLines, BlamesLook, BlamesParents, BlamesMaking, LeftByCommit}
 use Rattle.vc_node.specs.Making.BlamesMaking.{of_lines, of_look, of_conflict, of_parents, of_index, of_objects}
 use Rattle.vc_node.specs.Shown.{shown}
 use Rattle.vc_node.proofs.MakingLemmas.{cut_by, left_on, looked, may_make, told_on, writes_there, trees_there, stored_shown, committed_shown}
@@ -139,7 +139,8 @@ returns-in_err-id-clause-left g c = λ honest.
     cut_by found c.deref.ensures.value c.in_ok-write_objects.ensures.written _ (objects (content c.write_objects-2.new.files))
     (inl (trees_there g.F.Files.honest c.in_ok-index.index _ _ _ honest (ap objects found.same) c.in_err-id.ensures.left))
     (stored_shown (content c.args.files.now) (content c.kept_or_read.new.files) (content c.write_objects-2.new.files) found.same (c.in_err-id.ensures.outside honest)) in
-    left_on _ c.in_err-id.field-0.0 c.from_residual-in_err-id.result c.from_residual-in_err-id.ensures.1 left
+    let all : LeavesSaid (content c.args.files.now) c.args.extra.now w (content c.write_objects-2.new.files) = record { left = left; outside = search rules } in
+    left_on _ c.in_err-id.field-0.0 c.from_residual-in_err-id.result c.from_residual-in_err-id.ensures.1 all
 
 pub returns-in_err-move_head-clause-left : goal.returns-in_err-move_head-clause-left
 returns-in_err-move_head-clause-left g c = λ honest.
@@ -154,7 +155,8 @@ returns-in_err-move_head-clause-left g c = λ honest.
     let left : LeftByCommit (content c.args.files.now) extra w.author.now w.committer.now w.message.now (content c.move_head.new.files) =
     cut_by found c.deref.ensures.value c.in_ok-write_objects.ensures.written _ (objects (content c.write_objects-2.new.files)) (inr (c.in_ok-id.id, made))
     (ap shown (c.in_err-move_head.ensures.err honest) ∙ stored_shown (content c.args.files.now) (content c.kept_or_read.new.files) (content c.write_objects-2.new.files) found.same (c.in_ok-id.ensures.outside honest)) in
-    left_on _ c.in_err-move_head.field-0.0 c.from_residual-in_err-move_head.result c.from_residual-in_err-move_head.ensures.1 left
+    let all : LeavesSaid (content c.args.files.now) c.args.extra.now w (content c.move_head.new.files) = record { left = left; outside = search rules } in
+    left_on _ c.in_err-move_head.field-0.0 c.from_residual-in_err-move_head.result c.from_residual-in_err-move_head.ensures.1 all
 
 pub returns-in_err-head-clause-wear : goal.returns-in_err-head-clause-wear
 returns-in_err-head-clause-wear g c = writes_told (wears_writes c.in_err-head.ensures.wear (search rules)) (search rules) (search rules)

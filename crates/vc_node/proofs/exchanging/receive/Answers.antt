@@ -1,7 +1,7 @@
 use Rattle.std.proofs.Common.{inr, refl}
-use Rattle.vc_pack.proofs.KeepsLemmas.{keeps_same}
 use Rattle.vc_files.proofs.WearLemmas.{writes_none}
 use Rattle.vc_message.specs.AnyView.{message_text}
+use Rattle.vc_node.proofs.KeepingLemmas.{good_same}
 use Rattle.vc_node.proofs.LookLemmas.{looks_none}
 use Rattle.vc_node.proofs.ReceivingClone.{kept_here}
 use Rattle.vc_node.proofs.UnreadLemmas.{failed_answers, failed_refused, failed_unread, message_refused, never_unread, no_device, text_here}
@@ -44,5 +44,5 @@ pub returns-clause-looks : goal.returns-clause-looks
 returns-clause-looks g c = λ honest m reads.
     c.take.ensures.looks honest m (text_here (g.F.Files.content c.args.files.now) (awaited_text c.args.awaited.now) c.args.bytes.now m (message_text c.in_ok-message.message) reads c.in_ok-message.ensures.read)
 
-pub returns-in_err-message-clause-objects : goal.returns-in_err-message-clause-objects
-returns-in_err-message-clause-objects g c = λ honest. keeps_same _ _ refl
+pub returns-in_err-message-clause-good : goal.returns-in_err-message-clause-good
+returns-in_err-message-clause-good g c = λ honest. good_same _ _ refl

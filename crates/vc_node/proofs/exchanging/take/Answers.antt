@@ -1,9 +1,9 @@
 use Rattle.std.proofs.Common.{refl, subst}
-use Rattle.vc_pack.proofs.KeepsLemmas.{keeps_same}
 use Rattle.vc_message.specs.AnyView.{message_text}
 use Rattle.vc_message.specs.Machine.{TextOf}
 use Rattle.vc_message.specs.declared.message.Message.{Message}
 use Rattle.vc_node.proofs.ExchangingLemmas.{other_told}
+use Rattle.vc_node.proofs.KeepingLemmas.{good_same}
 use Rattle.vc_node.proofs.ReceivingClone.{nothing_beside}
 use Rattle.vc_node.specs.Awaited.{awaited_text}
 use Rattle.vc_node.proofs.exchanging.take.Goals as goal
@@ -29,17 +29,17 @@ returns-in-Push-clause-answers g c = λ honest m is. other_told (g.F.Files.conte
 pub returns-clause-answers : goal.returns-clause-answers
 returns-clause-answers g c = λ honest m is. other_told (g.F.Files.content c.args.files.now) (awaited_text c.args.awaited.now) m _ _ c.in-Error.is tt is
 
-pub returns-in-List-clause-objects : goal.returns-in-List-clause-objects
-returns-in-List-clause-objects g c = λ honest. keeps_same _ _ refl
+pub returns-in-List-clause-good : goal.returns-in-List-clause-good
+returns-in-List-clause-good g c = λ honest. good_same _ _ refl
 
-pub returns-in-Want-clause-objects : goal.returns-in-Want-clause-objects
-returns-in-Want-clause-objects g c = λ honest. keeps_same _ _ refl
+pub returns-in-Want-clause-good : goal.returns-in-Want-clause-good
+returns-in-Want-clause-good g c = λ honest. good_same _ _ refl
 
-pub returns-in-Push-clause-objects : goal.returns-in-Push-clause-objects
-returns-in-Push-clause-objects g c = λ honest. keeps_same _ _ refl
+pub returns-in-Push-clause-good : goal.returns-in-Push-clause-good
+returns-in-Push-clause-good g c = λ honest. good_same _ _ refl
 
-pub returns-clause-objects : goal.returns-clause-objects
-returns-clause-objects g c = λ honest. keeps_same _ _ refl
+pub returns-clause-good : goal.returns-clause-good
+returns-clause-good g c = λ honest. good_same _ _ refl
 
 pub returns-in-List-clause-beside : goal.returns-in-List-clause-beside
 returns-in-List-clause-beside g c = λ honest. nothing_beside _

@@ -1,5 +1,4 @@
-use Rattle.std.proofs.Common.{Ok, ap, inr, refl, subst}
-use Rattle.vc_pack.proofs.KeepsLemmas.{keeps_same}
+use Rattle.std.proofs.Common.{Ok, ap, inr, refl, subst, rules}
 use Rattle.vc_exchange.proofs.KeptLemmas.{keeps_beside_refs}
 use Rattle.vc_exchange.specs.Moving.{told_in}
 use Rattle.vc_exchange.specs.Receiving.{IsAdvertTaken}
@@ -8,8 +7,9 @@ use Rattle.vc_fetch.specs.AdvertView.{advert_text}
 use Rattle.vc_files.proofs.WearLemmas.{writes_none}
 use Rattle.vc_model.specs.CloneCall.CloneCall.{Receive}
 use Rattle.vc_node.proofs.ExchangingLemmas.{advert_failed, advert_followed, advert_may, advert_refused, advert_unexpected, advert_wanted, awaiting, still_awaiting}
+use Rattle.vc_node.proofs.KeepingLemmas.{good_same}
 use Rattle.vc_node.proofs.LookLemmas.{looks_none, or_told}
-use Rattle.vc_node.proofs.ReceivingClone.{bad_same, nothing_beside, refs_beside}
+use Rattle.vc_node.proofs.ReceivingClone.{nothing_beside, refs_beside}
 use Rattle.vc_node.proofs.ReceivingFaults.{device_from}
 use Rattle.vc_node.specs.Awaited.{awaited_text}
 use Rattle.vc_node.specs.declared.exchanging.Received.TheVariants.{Moved, Send}
@@ -21,9 +21,8 @@ returns-in_default g c = record {
   unchanged = refl;
   refused = λ honest. advert_refused (g.F.Files.content c.args.files.now) c.args.awaited.now (advert_text c.args.advert) c.in_default.not-Advert;
   kept = λ honest told. refl;
-  objects = λ honest. keeps_same _ _ refl;
   beside = λ honest. nothing_beside (g.F.Files.content c.args.files.now);
-  bad = λ honest. bad_same (g.F.Files.content c.args.files.now);
+  good = λ honest. good_same _ _ refl;
   wear = writes_none (λ never. never);
   looks = λ honest m is awaited n waiting held. inr (looks_none (λ never. never));
 }
@@ -62,14 +61,14 @@ pub returns-in-Followed-clause-looks : goal.returns-in-Followed-clause-looks
 returns-in-Followed-clause-looks g c = λ honest m is.
     advert_may (g.F.Files.content c.args.files.now) m (awaited_text c.args.awaited.now) (ap awaited_text c.in-Advert.is) (λ r holds. or_told (c.in_ok-asked.ensures.looks honest r holds m is) (λ may. may) (λ never. absurd never))
 
-pub returns-in-Followed-clause-objects : goal.returns-in-Followed-clause-objects
-returns-in-Followed-clause-objects g c = λ honest. keeps_beside_refs _ _ (c.receive_advert.ensures.outside honest)
+pub returns-in-Followed-clause-good : goal.returns-in-Followed-clause-good
+returns-in-Followed-clause-good g c = λ honest. record { objects = keeps_beside_refs _ _ (c.receive_advert.ensures.outside honest); bad = search rules }
 
-pub returns-in-Wanted-clause-objects : goal.returns-in-Wanted-clause-objects
-returns-in-Wanted-clause-objects g c = λ honest. keeps_beside_refs _ _ (c.receive_advert.ensures.outside honest)
+pub returns-in-Wanted-clause-good : goal.returns-in-Wanted-clause-good
+returns-in-Wanted-clause-good g c = λ honest. record { objects = keeps_beside_refs _ _ (c.receive_advert.ensures.outside honest); bad = search rules }
 
-pub returns-in_err-asked-clause-objects : goal.returns-in_err-asked-clause-objects
-returns-in_err-asked-clause-objects g c = λ honest. keeps_beside_refs _ _ (c.receive_advert.ensures.outside honest)
+pub returns-in_err-asked-clause-good : goal.returns-in_err-asked-clause-good
+returns-in_err-asked-clause-good g c = λ honest. record { objects = keeps_beside_refs _ _ (c.receive_advert.ensures.outside honest); bad = search rules }
 
 pub returns-in-Followed-clause-beside : goal.returns-in-Followed-clause-beside
 returns-in-Followed-clause-beside g c = λ honest. refs_beside _ _ (c.receive_advert.ensures.outside honest)

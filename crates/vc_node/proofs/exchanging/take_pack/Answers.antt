@@ -1,13 +1,13 @@
 use Rattle.std.proofs.Common.{Ok, ap, inr, refl, subst, sym, true, ◌∙◌}
-use Rattle.vc_pack.proofs.KeepsLemmas.{keeps_same}
 use Rattle.vc_exchange.specs.Moving.{told_in}
 use Rattle.vc_fetch.specs.PackView.{pack_text}
 use Rattle.vc_files.proofs.WearLemmas.{writes_none}
 use Rattle.vc_files.specs.FileMap.{FileMap}
 use Rattle.vc_model.specs.CloneCall.CloneCall.{Receive}
 use Rattle.vc_node.proofs.ExchangingLemmas.{awaiting, pack_failed, pack_refused, pack_taken, pack_unexpected, same_pack, still_awaiting}
+use Rattle.vc_node.proofs.KeepingLemmas.{good_same}
 use Rattle.vc_node.proofs.LookLemmas.{looks_none}
-use Rattle.vc_node.proofs.ReceivingClone.{bad_same, beside_kept, nothing_beside}
+use Rattle.vc_node.proofs.ReceivingClone.{beside_kept, nothing_beside}
 use Rattle.vc_node.specs.Awaited.{awaited_text}
 use Rattle.vc_node.specs.Machine.{HoldsNode}
 use Rattle.vc_node.specs.declared.exchanging.Received.TheVariants.{Moved}
@@ -19,9 +19,8 @@ returns-in_default g c = record {
   unchanged = refl;
   refused = λ honest. pack_refused (g.F.Files.content c.args.files.now) c.args.awaited.now (pack_text c.args.pack.now) c.in_default.not-Pack;
   kept = λ honest told. refl;
-  objects = λ honest. keeps_same _ _ refl;
   beside = λ honest. nothing_beside (g.F.Files.content c.args.files.now);
-  bad = λ honest. bad_same (g.F.Files.content c.args.files.now);
+  good = λ honest. good_same _ _ refl;
   wear = writes_none (λ never. never);
   looks = λ honest m is awaited n waiting held. inr (looks_none (λ never. never));
 }

@@ -1,3 +1,4 @@
+use Rattle.std.proofs.Common.{rules}
 use Rattle.vc_exchange.proofs.KeptLemmas.{keeps_beside_refs}
 use Rattle.vc_node.proofs.ExchangingLemmas.{report_failed, report_may, report_taken}
 use Rattle.vc_node.proofs.LookLemmas.{or_told}
@@ -34,11 +35,11 @@ returns-clause-looks g c = λ honest m is.
     report_may (g.F.Files.content c.args.files.now) (awaited_text c.args.awaited.now) m (report_text c.args.report.now) is (λ r holds awaits.
     or_told (c.in_ok-told.ensures.looks honest r holds m is awaits) (λ may. may) (λ never. absurd never))
 
-pub returns-in_err-told-clause-objects : goal.returns-in_err-told-clause-objects
-returns-in_err-told-clause-objects g c = λ honest. keeps_beside_refs _ _ (c.receive_report.ensures.outside honest)
+pub returns-in_err-told-clause-good : goal.returns-in_err-told-clause-good
+returns-in_err-told-clause-good g c = λ honest. record { objects = keeps_beside_refs _ _ (c.receive_report.ensures.outside honest); bad = search rules }
 
-pub returns-clause-objects : goal.returns-clause-objects
-returns-clause-objects g c = λ honest. keeps_beside_refs _ _ (c.receive_report.ensures.outside honest)
+pub returns-clause-good : goal.returns-clause-good
+returns-clause-good g c = λ honest. record { objects = keeps_beside_refs _ _ (c.receive_report.ensures.outside honest); bad = search rules }
 
 pub returns-in_err-told-clause-beside : goal.returns-in_err-told-clause-beside
 returns-in_err-told-clause-beside g c = λ honest. refs_beside _ _ (c.receive_report.ensures.outside honest)

@@ -6,11 +6,11 @@ use Rattle.vc_index.specs.IndexMap.{IndexMap, HasConflict, index_entry}
 use Rattle.vc_index.specs.IndexText.{index_text}
 use Rattle.vc_object.specs.declared.id.ObjectId.{ObjectId}
 use Rattle.vc_object.specs.ObjectId.{is_id}
-use Rattle.vc_object.specs.Decoding.{stored_object}
-use Rattle.vc_object.specs.Object.{object_name, IsObject}
+use Rattle.vc_object.specs.Object.{IsObject}
 use Rattle.vc_object.specs.declared.kind.Kind.TheVariants.{Blob}
-use Rattle.vc_store.specs.Store.{objects, with_object}
-use Rattle.vc_node.specs.Shown.{Shown, shown, with_objects_shown, with_index_shown}
+use Rattle.vc_store.specs.Store.{objects}
+use Rattle.vc_node.specs.Shown.{Shown, shown, with_index_shown}
+use Rattle.vc_node.specs.Adding.{with_blob, with_file}
 use Rattle.vc_node.specs.Blames.{BlamesAdd, MayStage}
 use Rattle.vc_node.proofs.ShownLemmas.{shown_index, shown_objects_from}
 use Rattle.vc_node.proofs.IndexLemmas.{index_add_blamed}
@@ -24,13 +24,21 @@ returns-clause-added g c = λ honest m spells.
     let content = g.F.Files.content in
     let bytes = c.args.bytes.now in
     let path = c.args.path.now in
-    let first : shown (content c.put.new.files) ≡ with_objects_shown (shown (content c.args.files.now)) (with_object (objects (content c.args.files.now)) (object_name Blob bytes) (stored_object Blob bytes)) =
+    let again = c.in_ok-index.ensures.again honest m spells in
+    let first : shown (content c.put.new.files) ≡ with_blob (content c.args.files.now) bytes =
     shown_objects_from _ _ _ _ _ _ c.in_ok-index.ensures.same (c.in_ok-put.ensures.outside honest) (c.in_ok-put.ensures.objects honest) c.in_ok-put.ensures.name in
-    let made : c.add.new.self ≡ paths.insert m path (index_entry c.args.mode (object_name Blob bytes)) =
-    c.in_ok-add.ensures.ok ∙ ap (λ (i : IndexMap). paths.insert i path (index_entry c.args.mode c.name_of-name.result)) (c.in_ok-index.ensures.again honest m spells)
-    ∙ ap (λ (n : ObjectId). paths.insert m path (index_entry c.args.mode n)) c.name_of-name.ensures.name in
-    shown_index _ _ _ (c.in_ok-write_index.ensures.written honest) ∙ ap (λ (s : Shown). with_index_shown s (index_text c.add.new.self)) first
-    ∙ ap (λ (i : IndexMap). with_index_shown (with_objects_shown (shown (content c.args.files.now)) (with_object (objects (content c.args.files.now)) (object_name Blob bytes) (stored_object Blob bytes))) (index_text i)) made
+    let made : c.add.new.self ≡ with_file m path c.args.mode bytes =
+    c.in_ok-add.ensures.ok ∙ ap (λ (i : IndexMap). paths.insert i path (index_entry c.args.mode c.name_of-name.result)) again
+    ∙ ap (λ (n : ObjectId). paths.insert m path (index_entry c.args.mode n)) c.name_of-name.ensures.name in record {
+      may = record {
+        legal = c.in_ok-add.ensures.legal (search rules);
+        free = λ h. c.in_ok-add.ensures.free (search rules) (subst (λ (i : IndexMap). HasConflict i path) (sym again) h);
+        object = c.in_ok-put.ensures.legal (search rules);
+        id = subst (λ (n : ObjectId). is_id n ≡ true) c.name_of-name.ensures.name c.name_of-name.ensures.valid;
+      };
+      is = shown_index _ _ _ (c.in_ok-write_index.ensures.written honest) ∙ ap (λ (s : Shown). with_index_shown s (index_text c.add.new.self)) first
+          ∙ ap (λ (i : IndexMap). with_index_shown (with_blob (content c.args.files.now) bytes) (index_text i)) made;
+    }
 
 pub returns-in_err-index-clause-refused : goal.returns-in_err-index-clause-refused
 returns-in_err-index-clause-refused g c = λ honest m spells.
@@ -43,9 +51,9 @@ pub returns-in_err-write_index-clause-left : goal.returns-in_err-write_index-cla
 returns-in_err-write_index-clause-left g c = λ honest m spells.
     let content = g.F.Files.content in
     let bytes = c.args.bytes.now in
-    let first : shown (content c.put.new.files) ≡ with_objects_shown (shown (content c.args.files.now)) (with_object (objects (content c.args.files.now)) (object_name Blob bytes) (stored_object Blob bytes)) =
+    let first : shown (content c.put.new.files) ≡ with_blob (content c.args.files.now) bytes =
     shown_objects_from _ _ _ _ _ _ c.in_ok-index.ensures.same (c.in_ok-put.ensures.outside honest) (c.in_ok-put.ensures.objects honest) c.in_ok-put.ensures.name in
-    let all : shown (content c.write_index.new.files) ≡ with_objects_shown (shown (content c.args.files.now)) (with_object (objects (content c.args.files.now)) (object_name Blob bytes) (stored_object Blob bytes)) =
+    let all : shown (content c.write_index.new.files) ≡ with_blob (content c.args.files.now) bytes =
     ap shown (c.in_err-write_index.ensures.err honest) ∙ first in
     let may : MayStage m c.args.path.now bytes = record {
       legal = c.in_ok-add.ensures.legal (search rules);
@@ -54,16 +62,6 @@ returns-in_err-write_index-clause-left g c = λ honest m spells.
       id = subst (λ (n : ObjectId). is_id n ≡ true) c.name_of-name.ensures.name c.name_of-name.ensures.valid;
     } in
     search (rules, all, may)
-
-pub returns-in_err-write_index-clause-clean : goal.returns-in_err-write_index-clause-clean
-returns-in_err-write_index-clause-clean g c = λ honest.
-    let stored = clean_put _ _ Blob c.args.bytes.now c.in_ok-put.field-0 c.in_ok-put.ensures.name (c.in_ok-put.ensures.files honest) (c.in_ok-put.ensures.objects honest) (c.in_ok-put.ensures.outside honest) in
-    clean_on _ _ _ (clean_from _ _ _ c.in_ok-index.ensures.same stored) (c.in_err-write_index.ensures.err honest)
-
-pub returns-clause-clean : goal.returns-clause-clean
-returns-clause-clean g c = λ honest.
-    let stored = clean_put _ _ Blob c.args.bytes.now c.in_ok-put.field-0 c.in_ok-put.ensures.name (c.in_ok-put.ensures.files honest) (c.in_ok-put.ensures.objects honest) (c.in_ok-put.ensures.outside honest) in
-    clean_then _ _ _ (clean_from _ _ _ c.in_ok-index.ensures.same stored) (clean_index _ _ _ (c.in_ok-write_index.ensures.written honest))
 
 pub returns-in_err-index-clause-wear : goal.returns-in_err-index-clause-wear
 returns-in_err-index-clause-wear g c = writes_told (wears_writes c.in_err-index.ensures.wear (search rules)) (search rules) (search rules)
@@ -116,21 +114,29 @@ returns-clause-looks g c = λ honest m spells.
     } in
     inl may
 
-pub returns-in_err-index-clause-objects : goal.returns-in_err-index-clause-objects
-returns-in_err-index-clause-objects g c = λ honest. keeps_same _ _ c.in_err-index.ensures.same
+pub returns-in_err-index-clause-stores : goal.returns-in_err-index-clause-stores
+returns-in_err-index-clause-stores g c = λ honest. record { objects = keeps_same _ _ c.in_err-index.ensures.same; clean = search rules }
 
-pub returns-in_err-add-clause-objects : goal.returns-in_err-add-clause-objects
-returns-in_err-add-clause-objects g c = λ honest. keeps_same _ _ c.in_ok-index.ensures.same
+pub returns-in_err-add-clause-stores : goal.returns-in_err-add-clause-stores
+returns-in_err-add-clause-stores g c = λ honest. record { objects = keeps_same _ _ c.in_ok-index.ensures.same; clean = search rules }
 
-pub returns-in_err-put-clause-objects : goal.returns-in_err-put-clause-objects
-returns-in_err-put-clause-objects g c = λ honest. keeps_then _ _ _ (keeps_same _ _ c.in_ok-index.ensures.same) (keeps_same _ _ (search (rules, c.in_err-put.ensures.err honest)))
+pub returns-in_err-put-clause-stores : goal.returns-in_err-put-clause-stores
+returns-in_err-put-clause-stores g c = λ honest. record { objects = keeps_then _ _ _ (keeps_same _ _ c.in_ok-index.ensures.same) (keeps_same _ _ (search (rules, c.in_err-put.ensures.err honest))); clean = search rules }
 
-pub returns-in_err-write_index-clause-objects : goal.returns-in_err-write_index-clause-objects
-returns-in_err-write_index-clause-objects g c = λ honest.
-    keeps_then _ _ _ (keeps_same _ _ c.in_ok-index.ensures.same)
-    (keeps_then _ _ _ (keeps_put _ _ c.in_ok-put.field-0 _ (c.in_ok-put.ensures.objects honest)) (keeps_same _ _ (c.in_err-write_index.ensures.err honest)))
+pub returns-in_err-write_index-clause-stores : goal.returns-in_err-write_index-clause-stores
+returns-in_err-write_index-clause-stores g c = λ honest.
+    let stored = clean_put _ _ Blob c.args.bytes.now c.in_ok-put.field-0 c.in_ok-put.ensures.name (c.in_ok-put.ensures.files honest) (c.in_ok-put.ensures.objects honest) (c.in_ok-put.ensures.outside honest) in
+    record {
+      objects = keeps_then _ _ _ (keeps_same _ _ c.in_ok-index.ensures.same)
+          (keeps_then _ _ _ (keeps_put _ _ c.in_ok-put.field-0 _ (c.in_ok-put.ensures.objects honest)) (keeps_same _ _ (c.in_err-write_index.ensures.err honest)));
+      clean = clean_on _ _ _ (clean_from _ _ _ c.in_ok-index.ensures.same stored) (c.in_err-write_index.ensures.err honest);
+    }
 
-pub returns-clause-objects : goal.returns-clause-objects
-returns-clause-objects g c = λ honest.
-    keeps_then _ _ _ (keeps_same _ _ c.in_ok-index.ensures.same)
-    (keeps_then _ _ _ (keeps_put _ _ c.in_ok-put.field-0 _ (c.in_ok-put.ensures.objects honest)) (keeps_index _ _ _ _ refl (c.in_ok-write_index.ensures.written honest)))
+pub returns-clause-stores : goal.returns-clause-stores
+returns-clause-stores g c = λ honest.
+    let stored = clean_put _ _ Blob c.args.bytes.now c.in_ok-put.field-0 c.in_ok-put.ensures.name (c.in_ok-put.ensures.files honest) (c.in_ok-put.ensures.objects honest) (c.in_ok-put.ensures.outside honest) in
+    record {
+      objects = keeps_then _ _ _ (keeps_same _ _ c.in_ok-index.ensures.same)
+          (keeps_then _ _ _ (keeps_put _ _ c.in_ok-put.field-0 _ (c.in_ok-put.ensures.objects honest)) (keeps_index _ _ _ _ refl (c.in_ok-write_index.ensures.written honest)));
+      clean = clean_then _ _ _ (clean_from _ _ _ c.in_ok-index.ensures.same stored) (clean_index _ _ _ (c.in_ok-write_index.ensures.written honest));
+    }

@@ -15,8 +15,8 @@ returns-clause-loaded g c = λ honest. record {
   is = shown_index_from _ _ _ _ _ c.in_ok-index.ensures.same (c.in_ok-write_index.ensures.written honest) refl;
 }
 
-pub returns-clause-clean : goal.returns-clause-clean
-returns-clause-clean g c = λ honest. clean_from _ _ _ c.in_ok-index.ensures.same (clean_index _ _ _ (c.in_ok-write_index.ensures.written honest))
+pub returns-clause-kept : goal.returns-clause-kept
+returns-clause-kept g c = λ honest. record { err = tt; clean = clean_from _ _ _ c.in_ok-index.ensures.same (clean_index _ _ _ (c.in_ok-write_index.ensures.written honest)) }
 
 pub returns-in_err-index-clause-wear : goal.returns-in_err-index-clause-wear
 returns-in_err-index-clause-wear g c = writes_told (wears_writes c.in_err-index.ensures.wear (search rules)) (search rules) (search rules)

@@ -3,21 +3,14 @@ use Rattle.vc_node.specs.Blames.{BlamesPacking}
 use Rattle.vc_node.specs.NodeFault.{is_fault}
 use Rattle.vc_node.specs.declared.fault.NodeFault.TheVariants.{Ref}
 use Rattle.vc_node.proofs.RefBlames.{packing_blames, packing_unwritten}
-use Rattle.vc_node.proofs.CleanLemmas.{still_clean_packed}
-use Rattle.vc_node.proofs.ShownLemmas.{shown_packed}
+use Rattle.vc_node.proofs.CleanLemmas.{packs_only}
 use Rattle.vc_node.proofs.local.pack_refs.Goals as goal
 
 pub returns-in_err-pack-clause-kept : goal.returns-in_err-pack-clause-kept
-returns-in_err-pack-clause-kept g c = λ honest. shown_packed _ _ (c.in_err-pack.ensures.rest honest) (c.in_err-pack.ensures.kept honest)
-
-pub returns-in_err-pack-clause-clean : goal.returns-in_err-pack-clause-clean
-returns-in_err-pack-clause-clean g c = λ honest clean. still_clean_packed _ _ (c.in_err-pack.ensures.rest honest) clean
+returns-in_err-pack-clause-kept g c = λ honest. packs_only _ _ (c.in_err-pack.ensures.rest honest) (c.in_err-pack.ensures.kept honest)
 
 pub returns-clause-kept : goal.returns-clause-kept
-returns-clause-kept g c = λ honest. shown_packed _ _ (c.in_ok-pack.ensures.rest honest) (c.in_ok-pack.ensures.kept honest)
-
-pub returns-clause-clean : goal.returns-clause-clean
-returns-clause-clean g c = λ honest clean. still_clean_packed _ _ (c.in_ok-pack.ensures.rest honest) clean
+returns-clause-kept g c = λ honest. packs_only _ _ (c.in_ok-pack.ensures.rest honest) (c.in_ok-pack.ensures.kept honest)
 
 pub returns-in_err-pack-clause-refused : goal.returns-in_err-pack-clause-refused
 returns-in_err-pack-clause-refused g c = λ honest.

@@ -14,8 +14,8 @@ returns-clause-removed g c = λ honest m spells.
     shown_index_from _ _ _ _ _ c.in_ok-index.ensures.same (c.in_ok-write_index.ensures.written honest)
     (ap index_text (c.remove.ensures ∙ ap (λ (i : IndexMap). paths.remove i path) (c.in_ok-index.ensures.again honest m spells)))
 
-pub returns-clause-clean : goal.returns-clause-clean
-returns-clause-clean g c = λ honest. clean_from _ _ _ c.in_ok-index.ensures.same (clean_index _ _ _ (c.in_ok-write_index.ensures.written honest))
+pub returns-clause-kept : goal.returns-clause-kept
+returns-clause-kept g c = λ honest. record { err = tt; clean = clean_from _ _ _ c.in_ok-index.ensures.same (clean_index _ _ _ (c.in_ok-write_index.ensures.written honest)) }
 
 pub returns-in_err-index-clause-wear : goal.returns-in_err-index-clause-wear
 returns-in_err-index-clause-wear g c = writes_told (wears_writes c.in_err-index.ensures.wear (search rules)) (search rules) (search rules)

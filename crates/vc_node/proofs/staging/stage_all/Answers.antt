@@ -4,7 +4,7 @@ use Rattle.vc_index.specs.IndexMap.{IndexMap}
 use Rattle.vc_index.specs.IndexText.{index_text}
 use Rattle.vc_node.specs.NodeFault.{of_index}
 use Rattle.vc_node.specs.Reads.{NoneRead, TellsRead}
-use Rattle.vc_node.specs.Staging.{BlamesStaging, RefusesFirst, placed, with_all}
+use Rattle.vc_node.specs.Staging.{BlamesStaging, MayStandAll, RefusesFirst, placed, with_all}
 use Rattle.vc_node.proofs.CleanLemmas.{clean_from, clean_index}
 use Rattle.vc_node.proofs.KeepingLemmas.{keeps_index}
 use Rattle.vc_node.proofs.LookLemmas.{looks_told}
@@ -48,14 +48,16 @@ returns-in_err-put_all-clause-looks g c = λ honest m spells. inr (looks_told c.
 pub returns-clause-staged : goal.returns-clause-staged
 returns-clause-staged g c = λ honest m spells.
     let es = map placed c.args.staged.now in
-    shown_index_from _ _ _ _ _ c.in_ok-index.ensures.same (c.in_ok-write_index.ensures.written honest)
-    (ap index_text (c.in_ok-put_all.ensures.put ∙ ap (λ (i : IndexMap). with_all i es) (c.in_ok-index.ensures.again honest m spells)))
+    let again = c.in_ok-index.ensures.again honest m spells in record {
+      may = subst (λ (i : IndexMap). MayStandAll i es) again (c.in_ok-put_all.ensures.may (search rules));
+      is = shown_index_from _ _ _ _ _ c.in_ok-index.ensures.same (c.in_ok-write_index.ensures.written honest) (ap index_text (c.in_ok-put_all.ensures.put ∙ ap (λ (i : IndexMap). with_all i es) again));
+    }
 
 pub returns-clause-objects : goal.returns-clause-objects
 returns-clause-objects g c = λ honest. keeps_index _ _ _ _ c.in_ok-index.ensures.same (c.in_ok-write_index.ensures.written honest)
 
-pub returns-clause-clean : goal.returns-clause-clean
-returns-clause-clean g c = λ honest. clean_from _ _ _ c.in_ok-index.ensures.same (clean_index _ _ _ (c.in_ok-write_index.ensures.written honest))
+pub returns-clause-kept : goal.returns-clause-kept
+returns-clause-kept g c = λ honest. record { err = tt; clean = clean_from _ _ _ c.in_ok-index.ensures.same (clean_index _ _ _ (c.in_ok-write_index.ensures.written honest)) }
 
 pub returns-clause-wear : goal.returns-clause-wear
 returns-clause-wear g c = wears_then c.in_ok-index.ensures.wear (search rules) (search rules) (writes_told c.in_ok-write_index.ensures.wear (search rules) (search rules))

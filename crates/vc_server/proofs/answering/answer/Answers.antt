@@ -10,14 +10,14 @@ returns-in_err-accepted-clause-answers g c = λ honest m reads.
     rw (err_is _ _ c.from_residual.ensures.1) (refused_at_once _ _ _ _ _ _ _ c.in_err-accepted.field-0.0 (c.in_err-accepted.ensures.answers honest m reads))
 
 pub returns-clause-answers : goal.returns-clause-answers
-returns-clause-answers g c = λ honest m reads. (c.reply_to.ensures.replies honest).serves (Accept m) _ _ _ _ (up_then _ _ _ _ c.in_ok-accepted.ensures.down c.in_ok-accepted.ensures.up) (c.in_ok-accepted.ensures.answers honest m reads)
+returns-clause-answers g c = λ honest m reads. (c.reply_to.ensures.replies honest).serves (Accept m) _ _ _ _ (up_then _ _ _ _ c.in_ok-accepted.ensures.settles.down c.in_ok-accepted.ensures.settles.up) (c.in_ok-accepted.ensures.answers honest m reads)
 
 pub returns-in_err-accepted-clause-unread : goal.returns-in_err-accepted-clause-unread
 returns-in_err-accepted-clause-unread g c = λ honest n unread.
     rw (err_is _ _ c.from_residual.ensures.1) (refused_at_once _ _ _ _ _ _ _ c.in_err-accepted.field-0.0 (c.in_err-accepted.ensures.unread honest n unread))
 
 pub returns-clause-unread : goal.returns-clause-unread
-returns-clause-unread g c = λ honest n unread. (c.reply_to.ensures.replies honest).serves (Asks (Unread n)) _ _ _ _ (up_then _ _ _ _ c.in_ok-accepted.ensures.down c.in_ok-accepted.ensures.up) (c.in_ok-accepted.ensures.unread honest n unread)
+returns-clause-unread g c = λ honest n unread. (c.reply_to.ensures.replies honest).serves (Asks (Unread n)) _ _ _ _ (up_then _ _ _ _ c.in_ok-accepted.ensures.settles.down c.in_ok-accepted.ensures.settles.up) (c.in_ok-accepted.ensures.unread honest n unread)
 
 pub returns-in_err-accepted-clause-bad_file : goal.returns-in_err-accepted-clause-bad_file
 returns-in_err-accepted-clause-bad_file g c = λ honest. rw (err_is _ _ c.from_residual.ensures.1) (by_itself (IsRefusedBytes (g.F.Files.content c.args.shared.now.files) c.args.shared.now.slots c.args.bytes.now) _ _ (c.in_err-accepted.ensures.bad_file honest))

@@ -34,12 +34,12 @@ returns-in_default-clause-known g c =
 pub reply_to-requires : goal.reply_to-requires
 reply_to-requires g c =
     let accepts = rw c.in-Some.is at c.in_ok-accepted.ensures.accepts in
-    record { up = c.in_ok-accepted.ensures.up (taken_up _ accepts.came c.in-Some.accepted accepts.told); tellable = c.in_ok-accepted.ensures.tellable }
+    record { up = c.in_ok-accepted.ensures.settles.up (taken_up _ accepts.came c.in-Some.accepted accepts.told); tellable = c.in_ok-accepted.ensures.settles.tellable }
 
 pub returns-clause-serves : goal.returns-clause-serves
 returns-clause-serves g c =
     let accepts = rw c.in-Some.is at c.in_ok-accepted.ensures.accepts in
-    reply_served _ _ _ _ _ _ _ _ _ _ _ _ c.in-Some.accepted (Ok c.in_ok-reply.reply) (c.in_ok-accepted.ensures.up (taken_up _ accepts.came c.in-Some.accepted accepts.told)) c.in_ok-reply.ensures.replies
+    reply_served _ _ _ _ _ _ _ _ _ _ _ _ c.in-Some.accepted (Ok c.in_ok-reply.reply) (c.in_ok-accepted.ensures.settles.up (taken_up _ accepts.came c.in-Some.accepted accepts.told)) c.in_ok-reply.ensures.replies
     c.in_ok-accepted.ensures.clean c.in_ok-reply.ensures.bad_file accepts
 
 pub returns-clause-known : goal.returns-clause-known
@@ -50,7 +50,7 @@ returns-clause-known g c =
     let before = g.R.Read.remaining c.args.reader.now in
     let rest = g.R.Read.remaining c.accept_from.new.reader in
     let accepts = rw c.in-Some.is at c.in_ok-accepted.ensures.accepts in
-    reply_known _ _ _ _ _ _ _ _ _ _ _ _ c.in-Some.accepted (Ok c.in_ok-reply.reply) (c.in_ok-accepted.ensures.up (taken_up _ accepts.came c.in-Some.accepted accepts.told)) c.in_ok-reply.ensures.replies
+    reply_known _ _ _ _ _ _ _ _ _ _ _ _ c.in-Some.accepted (Ok c.in_ok-reply.reply) (c.in_ok-accepted.ensures.settles.up (taken_up _ accepts.came c.in-Some.accepted accepts.told)) c.in_ok-reply.ensures.replies
     (subst (λ (found : Option Accepted). AnswersKnown g.F.Files.honest before rest (content was.files) (content mid.files) was.slots mid.slots was.is_up mid.is_up (Ok found)) c.in-Some.is c.in_ok-accepted.ensures.known)
 
 pub returns-in_err-reply-clause-serves : goal.returns-in_err-reply-clause-serves
@@ -58,7 +58,7 @@ returns-in_err-reply-clause-serves g c =
     let p = err_from_is_err_and c.from_residual-in_err-reply.result c.from_residual-in_err-reply.ensures.1 in
     let accepts = rw c.in-Some.is at c.in_ok-accepted.ensures.accepts in
     rw (p.1, p.2)
-    (reply_served _ _ _ _ _ _ _ _ _ _ _ _ c.in-Some.accepted (Err c.in_err-reply.field-0.0) (c.in_ok-accepted.ensures.up (taken_up _ accepts.came c.in-Some.accepted accepts.told)) c.in_err-reply.ensures.replies
+    (reply_served _ _ _ _ _ _ _ _ _ _ _ _ c.in-Some.accepted (Err c.in_err-reply.field-0.0) (c.in_ok-accepted.ensures.settles.up (taken_up _ accepts.came c.in-Some.accepted accepts.told)) c.in_err-reply.ensures.replies
     c.in_ok-accepted.ensures.clean c.in_err-reply.ensures.bad_file accepts)
 
 pub returns-in_err-reply-clause-known : goal.returns-in_err-reply-clause-known
@@ -71,7 +71,7 @@ returns-in_err-reply-clause-known g c =
     let p = err_from_is_err_and c.from_residual-in_err-reply.result c.from_residual-in_err-reply.ensures.1 in
     let accepts = rw c.in-Some.is at c.in_ok-accepted.ensures.accepts in
     rw (p.1, p.2)
-    (reply_known _ _ _ _ _ _ _ _ _ _ _ _ c.in-Some.accepted (Err c.in_err-reply.field-0.0) (c.in_ok-accepted.ensures.up (taken_up _ accepts.came c.in-Some.accepted accepts.told)) c.in_err-reply.ensures.replies
+    (reply_known _ _ _ _ _ _ _ _ _ _ _ _ c.in-Some.accepted (Err c.in_err-reply.field-0.0) (c.in_ok-accepted.ensures.settles.up (taken_up _ accepts.came c.in-Some.accepted accepts.told)) c.in_err-reply.ensures.replies
     (subst (λ (found : Option Accepted). AnswersKnown g.F.Files.honest before rest (content was.files) (content mid.files) was.slots mid.slots was.is_up mid.is_up (Ok found)) c.in-Some.is c.in_ok-accepted.ensures.known))
 
 pub returns-in_err-reply-clause-lost : goal.returns-in_err-reply-clause-lost

@@ -35,7 +35,7 @@ open_push-requires-clause-told g c = reads_tellable (push_text c.in-Push.push) c
 pub returns-in-Push-clause-answers : goal.returns-in-Push-clause-answers
 returns-in-Push-clause-answers g c = λ honest m is.
     push_told m (g.F.Files.content c.args.files.now) (g.F.Files.content c.open_push.new.files) c.args.slots.now c.open_push.new.slots c.opened.result (push_text c.in-Push.push) c.open_push.result c.opened.ensures (subst (λ (x : Message). TextOf m (message_text x)) c.in-Push.is is)
-    (c.open_push.ensures.opened honest) c.open_push.ensures.unchanged c.open_push.ensures.refused (c.open_push.ensures.outside honest) (c.open_push.ensures.bad honest)
+    (c.open_push.ensures.opened honest) c.open_push.ensures.unchanged c.open_push.ensures.refused (c.open_push.ensures.outside honest) (c.open_push.ensures.good honest).bad
 
 pub returns-in-Push-clause-refused : goal.returns-in-Push-clause-refused
 returns-in-Push-clause-refused g c = λ honest.

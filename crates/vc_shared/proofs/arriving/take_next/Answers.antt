@@ -5,11 +5,10 @@ use Rattle.vc_fetch.specs.Pack.{PackText}
 use Rattle.vc_message.specs.AnyView.{message_text}
 use Rattle.vc_message.specs.AnyMessage.{a_pack}
 use Rattle.vc_push.specs.PushView.{commands_of}
-use Rattle.vc_session.proofs.CleanLemmas.{bad_same}
-use Rattle.vc_session.proofs.NumberLemmas.{agreement_same}
 use Rattle.vc_shared.proofs.AcceptingLemmas.{pack_declined}
 use Rattle.vc_shared.proofs.ArrivingLemmas.{no_device, stopped_by}
 use Rattle.vc_shared.proofs.ComingLemmas.{head_tellable, kept_none, message_accepts, message_lost, nothing_accepts, opened_writes, push_accepts, push_lost, stopped_accepts, told_writes, was_read}
+use Rattle.vc_shared.proofs.HoldingLemmas.{good_same}
 use Rattle.vc_shared.specs.AcceptFault.{of_incoming}
 use Rattle.vc_shared.specs.declared.accept_fault.AcceptFault.TheVariants.{Node}
 use Rattle.vc_shared.specs.declared.fault.SharedFault.TheVariants.{Unexpected}
@@ -27,11 +26,8 @@ returns-in_err-found-clause-lost g c = λ honest.
     let p = err_from_is_err_and c.from_residual.result c.from_residual.ensures.1 in
     rw (p.1, p.2) (λ which is_up. kept_none _ _ is_up)
 
-pub returns-in_err-found-clause-agrees : goal.returns-in_err-found-clause-agrees
-returns-in_err-found-clause-agrees g c = λ honest. agreement_same _ _ refl
-
-pub returns-in_err-found-clause-bad : goal.returns-in_err-found-clause-bad
-returns-in_err-found-clause-bad g c = λ honest. bad_same _ _ refl
+pub returns-in_err-found-clause-good : goal.returns-in_err-found-clause-good
+returns-in_err-found-clause-good g c = λ honest. good_same _ _ refl
 
 pub returns-in_err-found-clause-wear : goal.returns-in_err-found-clause-wear
 returns-in_err-found-clause-wear g c = writes_none (no_device c.in_err-found.field-0.0 c.from_residual.result c.from_residual.ensures.1)
@@ -39,11 +35,8 @@ returns-in_err-found-clause-wear g c = writes_none (no_device c.in_err-found.fie
 pub returns-in_default-clause-accepts : goal.returns-in_default-clause-accepts
 returns-in_default-clause-accepts g c = nothing_accepts _ _ _ _ _ _ _ (Ok None) (rw c.in_default.is at c.in_ok-found.ensures.end) refl
 
-pub returns-in_default-clause-agrees : goal.returns-in_default-clause-agrees
-returns-in_default-clause-agrees g c = λ honest. agreement_same _ _ refl
-
-pub returns-in_default-clause-bad : goal.returns-in_default-clause-bad
-returns-in_default-clause-bad g c = λ honest. bad_same _ _ refl
+pub returns-in_default-clause-good : goal.returns-in_default-clause-good
+returns-in_default-clause-good g c = λ honest. good_same _ _ refl
 
 pub returns-in_default-clause-wear : goal.returns-in_default-clause-wear
 returns-in_default-clause-wear g c = writes_none (λ device. device)
@@ -74,12 +67,12 @@ returns-in-Push-clause-accepts g c =
     let head = rw c.in-Push.is at (rw c.in-Some.is at c.in_ok-found.ensures.head) in
     push_accepts g.F.Files.honest (g.R.Read.remaining c.args.reader.now) (g.R.Read.remaining c.read_head.new.reader) (g.R.Read.remaining c.take_push.new.reader) c.in-Some.found.1.bytes c.in-Some.found.1.lines (commands_of c.in-Push.commands.items) head
     (content c.args.files.now) (content c.take_push.new.files) c.args.slots.now c.take_push.new.slots c.take_push.result c.opened.result c.opened.ensures c.take_push.ensures.opened c.take_push.ensures.unchanged c.take_push.ensures.refused
-    c.take_push.ensures.cleared c.take_push.ensures.outside c.take_push.ensures.bad
+    c.take_push.ensures.cleared c.take_push.ensures.outside (λ honest. (c.take_push.ensures.good honest).bad)
 
 pub returns-in-Push-clause-lost : goal.returns-in-Push-clause-lost
 returns-in-Push-clause-lost g c = λ honest.
     push_lost (g.F.Files.content c.args.files.now) (g.F.Files.content c.take_push.new.files) c.args.slots.now c.take_push.new.slots c.take_push.result c.opened.result c.opened.ensures c.take_push.ensures.unchanged
-    (c.take_push.ensures.cleared honest) (c.take_push.ensures.outside honest) (c.take_push.ensures.bad honest)
+    (c.take_push.ensures.cleared honest) (c.take_push.ensures.outside honest) (c.take_push.ensures.good honest).bad
 
 pub returns-in-Push-clause-wear : goal.returns-in-Push-clause-wear
 returns-in-Push-clause-wear g c = opened_writes c.take_push.result c.opened.result c.opened.ensures c.take_push.ensures.wear
@@ -98,11 +91,8 @@ returns-in_err-skip_pack-in-Pack-clause-lost g c = λ honest.
     let p = err_from_is_err_and c.from_residual-in_err-skip_pack-in-Pack.result c.from_residual-in_err-skip_pack-in-Pack.ensures.1 in
     rw (p.1, p.2) (λ which is_up. kept_none _ _ is_up)
 
-pub returns-in_err-skip_pack-in-Pack-clause-agrees : goal.returns-in_err-skip_pack-in-Pack-clause-agrees
-returns-in_err-skip_pack-in-Pack-clause-agrees g c = λ honest. agreement_same _ _ refl
-
-pub returns-in_err-skip_pack-in-Pack-clause-bad : goal.returns-in_err-skip_pack-in-Pack-clause-bad
-returns-in_err-skip_pack-in-Pack-clause-bad g c = λ honest. bad_same _ _ refl
+pub returns-in_err-skip_pack-in-Pack-clause-good : goal.returns-in_err-skip_pack-in-Pack-clause-good
+returns-in_err-skip_pack-in-Pack-clause-good g c = λ honest. good_same _ _ refl
 
 pub returns-in_err-skip_pack-in-Pack-clause-wear : goal.returns-in_err-skip_pack-in-Pack-clause-wear
 returns-in_err-skip_pack-in-Pack-clause-wear g c =
@@ -117,11 +107,8 @@ returns-in_ok-skip_pack-in-Pack-clause-accepts g c =
     message_accepts g.F.Files.honest (g.R.Read.remaining c.args.reader.now) (g.R.Read.remaining c.skip_pack.new.reader) content content c.args.slots.now c.args.slots.now (Err (Node Unexpected))
     (a_pack pack) all.1 (Err Unexpected) refl (λ honest. refl) (λ honest m text. pack_declined content c.args.slots.now m pack text)
 
-pub returns-in_ok-skip_pack-in-Pack-clause-agrees : goal.returns-in_ok-skip_pack-in-Pack-clause-agrees
-returns-in_ok-skip_pack-in-Pack-clause-agrees g c = λ honest. agreement_same _ _ refl
-
-pub returns-in_ok-skip_pack-in-Pack-clause-bad : goal.returns-in_ok-skip_pack-in-Pack-clause-bad
-returns-in_ok-skip_pack-in-Pack-clause-bad g c = λ honest. bad_same _ _ refl
+pub returns-in_ok-skip_pack-in-Pack-clause-good : goal.returns-in_ok-skip_pack-in-Pack-clause-good
+returns-in_ok-skip_pack-in-Pack-clause-good g c = λ honest. good_same _ _ refl
 
 pub returns-in_ok-skip_pack-in-Pack-clause-wear : goal.returns-in_ok-skip_pack-in-Pack-clause-wear
 returns-in_ok-skip_pack-in-Pack-clause-wear g c = writes_none (λ device. device)

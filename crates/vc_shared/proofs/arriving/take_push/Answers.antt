@@ -3,9 +3,10 @@ use Rattle.std.proofs.lemmas.Result.{err_from_is_err_and}
 use Rattle.vc_files.proofs.FileMapLemmas.{outside_then}
 use Rattle.vc_files.proofs.WearLemmas.{writes_both, writes_none, writes_told}
 use Rattle.vc_push.specs.PushView.{commands_of}
-use Rattle.vc_session.proofs.CleanLemmas.{bad_same, bad_then}
-use Rattle.vc_session.proofs.NumberLemmas.{agreement_quarantine, agreement_same}
+use Rattle.vc_session.proofs.CleanLemmas.{bad_then}
+use Rattle.vc_session.proofs.NumberLemmas.{agreement_quarantine}
 use Rattle.vc_shared.proofs.ArrivingLemmas.{changes_none, cleared_by, cleared_none, no_device, part_of_stop, refusal_no_device, stopped_by, writes_as}
+use Rattle.vc_shared.proofs.HoldingLemmas.{good_same}
 use Rattle.vc_shared.proofs.PushingLemmas.{changes_free}
 use Rattle.vc_shared.specs.Arriving.{by_node}
 use Rattle.vc_shared.specs.Arriving.IsTurnedAway.{busy, stopped}
@@ -26,11 +27,8 @@ returns-in_err-skip_push-clause-cleared g c = λ honest.
 pub returns-in_err-skip_push-clause-outside : goal.returns-in_err-skip_push-clause-outside
 returns-in_err-skip_push-clause-outside g c = λ honest. changes_none _ _
 
-pub returns-in_err-skip_push-clause-agrees : goal.returns-in_err-skip_push-clause-agrees
-returns-in_err-skip_push-clause-agrees g c = λ honest. agreement_same _ _ refl
-
-pub returns-in_err-skip_push-clause-bad : goal.returns-in_err-skip_push-clause-bad
-returns-in_err-skip_push-clause-bad g c = λ honest. bad_same _ _ refl
+pub returns-in_err-skip_push-clause-good : goal.returns-in_err-skip_push-clause-good
+returns-in_err-skip_push-clause-good g c = λ honest. good_same _ _ refl
 
 pub returns-in_err-skip_push-clause-wear : goal.returns-in_err-skip_push-clause-wear
 returns-in_err-skip_push-clause-wear g c = writes_none (no_device c.in_err-skip_push.field-0.0 c.from_residual.result c.from_residual.ensures.1)
@@ -47,11 +45,8 @@ returns-in_default-clause-cleared g c = λ honest. cleared_none _ _ (Node Busy) 
 pub returns-in_default-clause-outside : goal.returns-in_default-clause-outside
 returns-in_default-clause-outside g c = λ honest. changes_none _ _
 
-pub returns-in_default-clause-agrees : goal.returns-in_default-clause-agrees
-returns-in_default-clause-agrees g c = λ honest. agreement_same _ _ refl
-
-pub returns-in_default-clause-bad : goal.returns-in_default-clause-bad
-returns-in_default-clause-bad g c = λ honest. bad_same _ _ refl
+pub returns-in_default-clause-good : goal.returns-in_default-clause-good
+returns-in_default-clause-good g c = λ honest. good_same _ _ refl
 
 pub returns-in_default-clause-wear : goal.returns-in_default-clause-wear
 returns-in_default-clause-wear g c = writes_none (λ device. device)
@@ -78,8 +73,8 @@ returns-in-Ok-clause-opened g c = λ before so.
 pub returns-in-Ok-clause-outside : goal.returns-in-Ok-clause-outside
 returns-in-Ok-clause-outside g c = λ honest. changes_free _ _ _ _ c.in-Some.ensures (c.in-Ok.ensures.outside honest)
 
-pub returns-in-Ok-clause-agrees : goal.returns-in-Ok-clause-agrees
-returns-in-Ok-clause-agrees g c = λ honest. agreement_quarantine _ _ _ (c.in-Ok.ensures.outside honest)
+pub returns-in-Ok-clause-good : goal.returns-in-Ok-clause-good
+returns-in-Ok-clause-good g c = λ honest. record { agrees = agreement_quarantine _ _ _ (c.in-Ok.ensures.outside honest); bad = search rules }
 
 pub returns-then-is_fault-clause-refused : goal.returns-then-is_fault-clause-refused
 returns-then-is_fault-clause-refused g c = λ before so. stopped (c.in-Err.ensures.stopped before so)
@@ -90,8 +85,8 @@ returns-then-is_fault-clause-cleared g c = λ honest calm. absurd (true≢false 
 pub returns-then-is_fault-clause-outside : goal.returns-then-is_fault-clause-outside
 returns-then-is_fault-clause-outside g c = λ honest. changes_free _ _ _ _ c.in-Some.ensures (c.in-Err.ensures.outside honest)
 
-pub returns-then-is_fault-clause-agrees : goal.returns-then-is_fault-clause-agrees
-returns-then-is_fault-clause-agrees g c = λ honest. agreement_quarantine _ _ _ (c.in-Err.ensures.outside honest)
+pub returns-then-is_fault-clause-good : goal.returns-then-is_fault-clause-good
+returns-then-is_fault-clause-good g c = λ honest. record { agrees = agreement_quarantine _ _ _ (c.in-Err.ensures.outside honest); bad = search rules }
 
 pub returns-in_err-drop_quarantine-in-Err-clause-refused : goal.returns-in_err-drop_quarantine-in-Err-clause-refused
 returns-in_err-drop_quarantine-in-Err-clause-refused g c =
@@ -106,11 +101,8 @@ returns-in_err-drop_quarantine-in-Err-clause-cleared g c = λ honest.
 pub returns-in_err-drop_quarantine-in-Err-clause-outside : goal.returns-in_err-drop_quarantine-in-Err-clause-outside
 returns-in_err-drop_quarantine-in-Err-clause-outside g c = λ honest. changes_free _ _ _ _ c.in-Some.ensures (outside_then (c.in-Err.ensures.outside honest) (c.in_err-drop_quarantine-in-Err.ensures.outside honest))
 
-pub returns-in_err-drop_quarantine-in-Err-clause-agrees : goal.returns-in_err-drop_quarantine-in-Err-clause-agrees
-returns-in_err-drop_quarantine-in-Err-clause-agrees g c = λ honest. agreement_quarantine _ _ _ (outside_then (c.in-Err.ensures.outside honest) (c.in_err-drop_quarantine-in-Err.ensures.outside honest))
-
-pub returns-in_err-drop_quarantine-in-Err-clause-bad : goal.returns-in_err-drop_quarantine-in-Err-clause-bad
-returns-in_err-drop_quarantine-in-Err-clause-bad g c = λ honest. bad_then (c.in-Err.ensures.bad honest) (c.in_err-drop_quarantine-in-Err.ensures.bad honest)
+pub returns-in_err-drop_quarantine-in-Err-clause-good : goal.returns-in_err-drop_quarantine-in-Err-clause-good
+returns-in_err-drop_quarantine-in-Err-clause-good g c = λ honest. record { agrees = agreement_quarantine _ _ _ (outside_then (c.in-Err.ensures.outside honest) (c.in_err-drop_quarantine-in-Err.ensures.outside honest)); bad = bad_then (c.in-Err.ensures.bad honest) (c.in_err-drop_quarantine-in-Err.ensures.bad honest) }
 
 pub returns-in_err-drop_quarantine-in-Err-clause-wear : goal.returns-in_err-drop_quarantine-in-Err-clause-wear
 returns-in_err-drop_quarantine-in-Err-clause-wear g c =
@@ -126,11 +118,8 @@ returns-in_ok-drop_quarantine-in-Err-clause-cleared g c = λ honest. cleared_by 
 pub returns-in_ok-drop_quarantine-in-Err-clause-outside : goal.returns-in_ok-drop_quarantine-in-Err-clause-outside
 returns-in_ok-drop_quarantine-in-Err-clause-outside g c = λ honest. changes_free _ _ _ _ c.in-Some.ensures (outside_then (c.in-Err.ensures.outside honest) (c.in_ok-drop_quarantine-in-Err.ensures.outside honest))
 
-pub returns-in_ok-drop_quarantine-in-Err-clause-agrees : goal.returns-in_ok-drop_quarantine-in-Err-clause-agrees
-returns-in_ok-drop_quarantine-in-Err-clause-agrees g c = λ honest. agreement_quarantine _ _ _ (outside_then (c.in-Err.ensures.outside honest) (c.in_ok-drop_quarantine-in-Err.ensures.outside honest))
-
-pub returns-in_ok-drop_quarantine-in-Err-clause-bad : goal.returns-in_ok-drop_quarantine-in-Err-clause-bad
-returns-in_ok-drop_quarantine-in-Err-clause-bad g c = λ honest. bad_then (c.in-Err.ensures.bad honest) (c.in_ok-drop_quarantine-in-Err.ensures.bad honest)
+pub returns-in_ok-drop_quarantine-in-Err-clause-good : goal.returns-in_ok-drop_quarantine-in-Err-clause-good
+returns-in_ok-drop_quarantine-in-Err-clause-good g c = λ honest. record { agrees = agreement_quarantine _ _ _ (outside_then (c.in-Err.ensures.outside honest) (c.in_ok-drop_quarantine-in-Err.ensures.outside honest)); bad = bad_then (c.in-Err.ensures.bad honest) (c.in_ok-drop_quarantine-in-Err.ensures.bad honest) }
 
 pub returns-in_ok-drop_quarantine-in-Err-clause-wear : goal.returns-in_ok-drop_quarantine-in-Err-clause-wear
 returns-in_ok-drop_quarantine-in-Err-clause-wear g c =

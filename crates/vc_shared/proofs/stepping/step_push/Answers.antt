@@ -63,11 +63,11 @@ returns-in_err-did-clause-refused g c honest =
     let told = refused honest (c.in_default.ensures.agrees honest (c.requires.agrees honest)) in
     search (rules, told)
 
-pub returns-in_err-did-clause-agrees : goal.returns-in_err-did-clause-agrees
-returns-in_err-did-clause-agrees g c honest = (rw c.in_default.ensures.same at c.step.ensures.agrees) honest c.learn.new.generations (c.in_default.ensures.agrees honest (c.requires.agrees honest))
+pub returns-in_err-did-clause-good : goal.returns-in_err-did-clause-good
+returns-in_err-did-clause-good g c honest = record { agrees = (rw c.in_default.ensures.same at c.step.ensures.agrees) honest c.learn.new.generations (c.in_default.ensures.agrees honest (c.requires.agrees honest)); bad = search rules }
 
-pub returns-in_err-told-clause-agrees : goal.returns-in_err-told-clause-agrees
-returns-in_err-told-clause-agrees g c honest = (rw c.in_default.ensures.same at c.step.ensures.agrees) honest c.learn.new.generations (c.in_default.ensures.agrees honest (c.requires.agrees honest))
+pub returns-in_err-told-clause-good : goal.returns-in_err-told-clause-good
+returns-in_err-told-clause-good g c honest = record { agrees = (rw c.in_default.ensures.same at c.step.ensures.agrees) honest c.learn.new.generations (c.in_default.ensures.agrees honest (c.requires.agrees honest)); bad = search rules }
 
-pub returns-clause-agrees : goal.returns-clause-agrees
-returns-clause-agrees g c honest = (rw c.in_default.ensures.same at c.step.ensures.agrees) honest c.learn.new.generations (c.in_default.ensures.agrees honest (c.requires.agrees honest))
+pub returns-clause-good : goal.returns-clause-good
+returns-clause-good g c honest = record { agrees = (rw c.in_default.ensures.same at c.step.ensures.agrees) honest c.learn.new.generations (c.in_default.ensures.agrees honest (c.requires.agrees honest)); bad = search rules }

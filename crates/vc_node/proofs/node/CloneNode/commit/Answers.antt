@@ -9,7 +9,7 @@ use Rattle.vc_node.proofs.AnswerLemmas.{answers_down}
 use Rattle.vc_node.proofs.CommitAnswers.{commit_done}
 use Rattle.vc_node.proofs.CommitFailures.{commit_failed}
 use Rattle.vc_node.proofs.CleanLemmas.{clean_same}
-use Rattle.vc_node.proofs.SoundAnswers.{answers_too, may_if_sound, sound_failed, sound_from, sound_held, sound_held_failed}
+use Rattle.vc_node.proofs.SoundAnswers.{answered_if_sound, answers_too, may_if_sound, sound_failed, sound_from}
 use Rattle.vc_pack.proofs.KeepsLemmas.{StandsIn-kept}
 use Rattle.vc_node.proofs.KeepingLemmas.{keeps_committed, keeps_left}
 use Rattle.vc_node.proofs.node.CloneNode.commit.Goals as goal
@@ -17,33 +17,24 @@ use Rattle.vc_node.proofs.node.CloneNode.commit.Goals as goal
 pub commit-requires : goal.commit-requires
 commit-requires g c = λ honest. rw c.take-kept.ensures.value (c.self.invariant honest).1
 
-pub returns-then-not-self-clause-bad_file : goal.returns-then-not-self-clause-bad_file
-returns-then-not-self-clause-bad_file g c = λ honest. inr (answers_too _ _ _ _ _ _ (answers_down _ _ _ (search rules)))
+pub returns-then-not-self-clause-answers : goal.returns-then-not-self-clause-answers
+returns-then-not-self-clause-answers g c = λ honest. answered_if_sound _ _ _ _ _ _ (inr (answers_too _ _ _ _ _ _ (answers_down _ _ _ (search rules)))) (clean_same _ _ refl)
 
-pub returns-in-Ok-clause-bad_file : goal.returns-in-Ok-clause-bad_file
-returns-in-Ok-clause-bad_file g c = λ honest.
+pub returns-in-Ok-clause-answers : goal.returns-in-Ok-clause-answers
+returns-in-Ok-clause-answers g c = λ honest.
     let old = g.F.Files.content c.self.inside.files in
-    rw (← c.self.view_is) (inr (sound_from _ _ _ _ (g.F.Files.content c.self.inside.files) _
-    (commit_done old c.args.extra_parents.now c.args.author.now c.args.committer.now c.args.message.now c.in-Ok.id _ c.in-Ok.ensures.lines (c.in-Ok.ensures.committed honest)) (search rules) (search rules)))
+    answered_if_sound _ _ _ _ _ _ (rw (← c.self.view_is) (inr (sound_from _ _ _ _ (g.F.Files.content c.self.inside.files) _
+    (commit_done old c.args.extra_parents.now c.args.author.now c.args.committer.now c.args.message.now c.in-Ok.id _ c.in-Ok.ensures.lines (c.in-Ok.ensures.committed honest)) (search rules) (search rules)))) (search rules)
 
-pub returns-in-Err-clause-bad_file : goal.returns-in-Err-clause-bad_file
-returns-in-Err-clause-bad_file g c = λ honest.
+pub returns-in-Err-clause-answers : goal.returns-in-Err-clause-answers
+returns-in-Err-clause-answers g c = λ honest.
     let content = g.F.Files.content in
     let old = content c.self.inside.files in
     let left : LeftByCommit old c.args.extra_parents.now c.args.author.now c.args.committer.now c.args.message.now (content c.fail.new.self.files) =
-    subst (λ (n : FileMap). LeftByCommit old c.args.extra_parents.now c.args.author.now c.args.committer.now c.args.message.now n) (sym (ap content c.fail.ensures.files)) (c.in-Err.ensures.left honest) in
-    rw (← c.self.view_is) (sound_failed _ _ _ _ _ (g.F.Files.content c.self.inside.files) _
+    subst (λ (n : FileMap). LeftByCommit old c.args.extra_parents.now c.args.author.now c.args.committer.now c.args.message.now n) (sym (ap content c.fail.ensures.files)) (c.in-Err.ensures.left honest).left in
+    answered_if_sound _ _ _ _ _ _ (rw (← c.self.view_is) (sound_failed _ _ _ _ _ (g.F.Files.content c.self.inside.files) _
     (commit_failed old c.args.extra_parents.now c.args.author.now c.args.committer.now c.args.message.now c.in-Err.fault (content c.fail.new.self.files) (c.in-Err.ensures.refused honest) left)
-    c.fail.ensures.fault (search rules) (c.fail.ensures.up (search rules)))
-
-pub returns-then-not-self-clause-answers : goal.returns-then-not-self-clause-answers
-returns-then-not-self-clause-answers g c = λ honest. sound_held _ _ _ _ _ _ (returns-then-not-self-clause-bad_file g c honest) (clean_same _ _ refl)
-
-pub returns-in-Ok-clause-answers : goal.returns-in-Ok-clause-answers
-returns-in-Ok-clause-answers g c = λ honest. sound_held _ _ _ _ _ _ (returns-in-Ok-clause-bad_file g c honest) (search rules)
-
-pub returns-in-Err-clause-answers : goal.returns-in-Err-clause-answers
-returns-in-Err-clause-answers g c = λ honest. sound_held_failed _ _ _ _ _ _ _ c.fail.ensures.fault (returns-in-Err-clause-bad_file g c honest) (search rules)
+    c.fail.ensures.fault (search rules) (c.fail.ensures.up (search rules)))) (search rules)
 
 pub returns-in-Err-clause-file : goal.returns-in-Err-clause-file
 returns-in-Err-clause-file g c = λ honest. rw (← c.self.view_is, c.fail.ensures.fault) (c.in-Err.ensures.file honest)
@@ -61,4 +52,4 @@ pub invariant_of-self : goal.invariant_of-self
 invariant_of-self g c = λ honest. (StandsIn-kept _ _ c.self.inside.reached (keeps_committed _ _ _ _ _ _ c.in-Ok.id (c.in-Ok.ensures.committed honest)) (c.self.invariant honest).0, rw c.take-kept.ensures.after tt)
 
 pub invariant_of-self-in-Err : goal.invariant_of-self-in-Err
-invariant_of-self-in-Err g c = λ honest. (StandsIn-kept _ _ c.self.inside.reached (keeps_left (g.F.Files.content c.self.inside.files) (g.F.Files.content c.commit.new.files) c.args.extra_parents.now c.args.author.now c.args.committer.now c.args.message.now (c.in-Err.ensures.left honest)) (c.self.invariant honest).0, rw c.take-kept.ensures.after tt)
+invariant_of-self-in-Err g c = λ honest. (StandsIn-kept _ _ c.self.inside.reached (keeps_left (g.F.Files.content c.self.inside.files) (g.F.Files.content c.commit.new.files) c.args.extra_parents.now c.args.author.now c.args.committer.now c.args.message.now (c.in-Err.ensures.left honest).left) (c.self.invariant honest).0, rw c.take-kept.ensures.after tt)

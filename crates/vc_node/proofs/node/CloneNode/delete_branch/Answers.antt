@@ -2,7 +2,7 @@ use Rattle.vc_model.specs.Clone.Task.{DeleteBranch}
 use Rattle.vc_node.proofs.MayLemmas.{may_or, delete_may}
 use Rattle.vc_node.proofs.LookLemmas.{looks_none}
 use Rattle.std.proofs.Common.{refl, rules, ap, ◌∙◌, inr, inl}
-use Rattle.vc_node.proofs.AnswerLemmas.{answers_down, answers_from, failed, held_but, held_failed_but, or_unshown}
+use Rattle.vc_node.proofs.AnswerLemmas.{answered, answers_down, answers_from, failed, or_unshown}
 use Rattle.vc_node.proofs.BranchLemmas.{delete_done, delete_failed}
 use Rattle.vc_node.proofs.CleanLemmas.{clean_same}
 use Rattle.vc_pack.proofs.KeepsLemmas.{StandsIn-kept}
@@ -10,26 +10,17 @@ use Rattle.vc_node.proofs.KeepingLemmas.{keeps_shown}
 use Rattle.vc_node.specs.Shown.{shown}
 use Rattle.vc_node.proofs.node.CloneNode.delete_branch.Goals as goal
 
-pub returns-then-not-self-clause-bad_file : goal.returns-then-not-self-clause-bad_file
-returns-then-not-self-clause-bad_file g c = λ honest. inr (answers_down _ _ _ (search rules))
-
-pub returns-in-Ok-clause-bad_file : goal.returns-in-Ok-clause-bad_file
-returns-in-Ok-clause-bad_file g c = λ honest. rw (← c.self.view_is) (inr (answers_from _ _ _ _ _ _ (delete_done c.args.branch.now _ _ (search rules) (c.in-Ok.ensures.removed honest)) (search rules) (search rules)))
-
-pub returns-in-Err-clause-bad_file : goal.returns-in-Err-clause-bad_file
-returns-in-Err-clause-bad_file g c = λ honest.
-    let content = g.F.Files.content in
-    let same = ap (λ d. shown (content d)) c.fail.ensures.files ∙ c.in-Err.ensures.err honest in
-    rw (← c.self.view_is) (failed _ _ _ _ _ _ _ _ (or_unshown _ _ _ _ _ (delete_failed (content c.self.inside.files) c.args.branch.now c.in-Err.fault (c.in-Err.ensures.refused honest)) same) c.fail.ensures.fault (search rules) (c.fail.ensures.up (search rules)))
-
 pub returns-then-not-self-clause-answers : goal.returns-then-not-self-clause-answers
-returns-then-not-self-clause-answers g c = λ honest. held_but c.args.branch.now _ _ _ _ _ _ (returns-then-not-self-clause-bad_file g c honest) (clean_same _ _ refl)
+returns-then-not-self-clause-answers g c = λ honest. answered c.args.branch.now _ _ _ _ _ _ (inr (answers_down _ _ _ (search rules))) (clean_same _ _ refl)
 
 pub returns-in-Ok-clause-answers : goal.returns-in-Ok-clause-answers
-returns-in-Ok-clause-answers g c = λ honest. held_but c.args.branch.now _ _ _ _ _ _ (returns-in-Ok-clause-bad_file g c honest) (search rules)
+returns-in-Ok-clause-answers g c = λ honest. answered c.args.branch.now _ _ _ _ _ _ (rw (← c.self.view_is) (inr (answers_from _ _ _ _ _ _ (delete_done c.args.branch.now _ _ (search rules) (c.in-Ok.ensures.removed honest)) (search rules) (search rules)))) (search rules)
 
 pub returns-in-Err-clause-answers : goal.returns-in-Err-clause-answers
-returns-in-Err-clause-answers g c = λ honest. held_failed_but c.args.branch.now _ _ _ _ _ _ _ c.fail.ensures.fault (returns-in-Err-clause-bad_file g c honest) (search rules)
+returns-in-Err-clause-answers g c = λ honest.
+    let content = g.F.Files.content in
+    let same = ap (λ d. shown (content d)) c.fail.ensures.files ∙ c.in-Err.ensures.err honest in
+    answered c.args.branch.now _ _ _ _ _ _ (rw (← c.self.view_is) (failed _ _ _ _ _ _ _ _ (or_unshown _ _ _ _ _ (delete_failed (content c.self.inside.files) c.args.branch.now c.in-Err.fault (c.in-Err.ensures.refused honest)) same) c.fail.ensures.fault (search rules) (c.fail.ensures.up (search rules)))) (search rules)
 
 pub returns-then-not-self-clause-looks : goal.returns-then-not-self-clause-looks
 returns-then-not-self-clause-looks g c = λ honest awaited n holds. inr (looks_none (λ told. told))

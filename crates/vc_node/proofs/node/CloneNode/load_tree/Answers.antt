@@ -1,8 +1,8 @@
 use Rattle.vc_model.specs.Clone.Task.{LoadTree}
 use Rattle.vc_node.proofs.MayLemmas.{may_or, load_may}
 use Rattle.vc_node.proofs.LookLemmas.{looks_none, or_told, or_failed}
-use Rattle.std.proofs.Common.{refl, rules, ap, ◌∙◌, inr}
-use Rattle.vc_node.proofs.AnswerLemmas.{answers_down, answers_from, failed, held, held_failed, or_unchanged}
+use Rattle.std.proofs.Common.{[], refl, rules, ap, ◌∙◌, inr}
+use Rattle.vc_node.proofs.AnswerLemmas.{answered, answers_down, answers_from, failed, or_unchanged}
 use Rattle.vc_node.proofs.TreeLemmas.{load_done, load_failed}
 use Rattle.vc_node.proofs.CleanLemmas.{clean_same}
 use Rattle.vc_pack.proofs.KeepsLemmas.{StandsIn-kept, keeps_same}
@@ -12,29 +12,20 @@ use Rattle.vc_node.proofs.node.CloneNode.load_tree.Goals as goal
 pub returns-in-Ok-clause-loaded : goal.returns-in-Ok-clause-loaded
 returns-in-Ok-clause-loaded g c = λ honest. rw (← c.self.view_is) (c.in-Ok.ensures.loaded honest)
 
-pub returns-then-not-self-clause-bad_file : goal.returns-then-not-self-clause-bad_file
-returns-then-not-self-clause-bad_file g c = λ honest. inr (answers_down _ _ _ (search rules))
+pub returns-then-not-self-clause-answers : goal.returns-then-not-self-clause-answers
+returns-then-not-self-clause-answers g c = λ honest. answered [] _ _ _ _ _ _ (inr (answers_down _ _ _ (search rules))) (clean_same _ _ refl)
 
-pub returns-in-Ok-clause-bad_file : goal.returns-in-Ok-clause-bad_file
-returns-in-Ok-clause-bad_file g c = λ honest. rw (← c.self.view_is) (inr (answers_from _ _ _ _ _ _ (load_done _ _ c.args.id.now (c.in-Ok.ensures.loaded honest)) (search rules) (search rules)))
+pub returns-in-Ok-clause-answers : goal.returns-in-Ok-clause-answers
+returns-in-Ok-clause-answers g c = λ honest. answered [] _ _ _ _ _ _ (rw (← c.self.view_is) (inr (answers_from _ _ _ _ _ _ (load_done _ _ c.args.id.now (c.in-Ok.ensures.loaded honest)) (search rules) (search rules)))) (search rules)
 
-pub returns-in-Err-clause-bad_file : goal.returns-in-Err-clause-bad_file
-returns-in-Err-clause-bad_file g c = λ honest.
+pub returns-in-Err-clause-answers : goal.returns-in-Err-clause-answers
+returns-in-Err-clause-answers g c = λ honest.
     let content = g.F.Files.content in
-    let same = ap content c.fail.ensures.files ∙ c.in-Err.ensures.err honest in
-    rw (← c.self.view_is) (failed _ _ _ _ _ _ _ _ (or_unchanged _ _ _ _ _ (load_failed (content c.self.inside.files) c.args.id.now c.in-Err.fault (c.in-Err.ensures.refused honest)) same) c.fail.ensures.fault (search rules) (c.fail.ensures.up (search rules)))
+    let same = ap content c.fail.ensures.files ∙ (c.in-Err.ensures.kept honest).err in
+    answered [] _ _ _ _ _ _ (rw (← c.self.view_is) (failed _ _ _ _ _ _ _ _ (or_unchanged _ _ _ _ _ (load_failed (content c.self.inside.files) c.args.id.now c.in-Err.fault (c.in-Err.ensures.refused honest)) same) c.fail.ensures.fault (search rules) (c.fail.ensures.up (search rules)))) (search rules)
 
 pub returns-in-Err-clause-refused : goal.returns-in-Err-clause-refused
 returns-in-Err-clause-refused g c = λ honest. rw (← c.self.view_is, c.fail.ensures.fault) (inr (c.in-Err.ensures.refused honest))
-
-pub returns-then-not-self-clause-answers : goal.returns-then-not-self-clause-answers
-returns-then-not-self-clause-answers g c = λ honest. held _ _ _ _ _ _ (returns-then-not-self-clause-bad_file g c honest) (clean_same _ _ refl)
-
-pub returns-in-Ok-clause-answers : goal.returns-in-Ok-clause-answers
-returns-in-Ok-clause-answers g c = λ honest. held _ _ _ _ _ _ (returns-in-Ok-clause-bad_file g c honest) (search rules)
-
-pub returns-in-Err-clause-answers : goal.returns-in-Err-clause-answers
-returns-in-Err-clause-answers g c = λ honest. held_failed _ _ _ _ _ _ _ c.fail.ensures.fault (returns-in-Err-clause-bad_file g c honest) (search rules)
 
 pub returns-then-not-self-clause-looks : goal.returns-then-not-self-clause-looks
 returns-then-not-self-clause-looks g c = λ honest awaited n holds. inr (looks_none (λ told. told))
@@ -49,4 +40,4 @@ pub invariant_of-self : goal.invariant_of-self
 invariant_of-self g c = λ honest. (StandsIn-kept _ _ c.self.inside.reached (keeps_shown _ _ _ (c.in-Ok.ensures.loaded honest).is refl) (c.self.invariant honest).0, tt)
 
 pub invariant_of-self-in-Err : goal.invariant_of-self-in-Err
-invariant_of-self-in-Err g c = λ honest. (StandsIn-kept _ _ c.self.inside.reached (keeps_same _ _ (c.in-Err.ensures.err honest)) (c.self.invariant honest).0, tt)
+invariant_of-self-in-Err g c = λ honest. (StandsIn-kept _ _ c.self.inside.reached (keeps_same _ _ (c.in-Err.ensures.kept honest).err) (c.self.invariant honest).0, tt)

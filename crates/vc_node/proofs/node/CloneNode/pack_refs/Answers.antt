@@ -15,19 +15,19 @@ returns-then-not-self-clause-answers g c = λ honest. down_clone (Asks PackRefs)
 pub returns-in-Ok-clause-answers : goal.returns-in-Ok-clause-answers
 returns-in-Ok-clause-answers g c = λ honest.
     let content = g.F.Files.content in
-    rw (← c.self.view_is, c.if-not-self.false) (packing_answers (content c.self.inside.files) (content c.pack_refs.new.files) _ (c.in-Ok.ensures.kept honest) (c.in-Ok.ensures.clean honest) (Ok tt) tt)
+    rw (← c.self.view_is, c.if-not-self.false) (packing_answers (content c.self.inside.files) (content c.pack_refs.new.files) _ (c.in-Ok.ensures.kept honest).same (c.in-Ok.ensures.kept honest).clean (Ok tt) tt)
 
 pub returns-in-Err-clause-answers : goal.returns-in-Err-clause-answers
 returns-in-Err-clause-answers g c = λ honest.
     let content = g.F.Files.content in
     rw (← c.self.view_is, c.if-not-self.false, c.fail.ensures.fault, ap content c.fail.ensures.files, c.fail.ensures.awaits, c.fail.ensures.up c.if-not-self.false)
-    (packing_answers (content c.self.inside.files) (content c.pack_refs.new.files) _ (c.in-Err.ensures.kept honest) (c.in-Err.ensures.clean honest) (Err c.in-Err.fault) (c.in-Err.ensures.refused honest))
+    (packing_answers (content c.self.inside.files) (content c.pack_refs.new.files) _ (c.in-Err.ensures.kept honest).same (c.in-Err.ensures.kept honest).clean (Err c.in-Err.fault) (c.in-Err.ensures.refused honest))
 
 pub invariant_of-self : goal.invariant_of-self
-invariant_of-self g c = λ honest. (StandsIn-kept _ _ c.self.inside.reached (keeps_shown _ _ _ (c.in-Ok.ensures.kept honest) refl) (c.self.invariant honest).0, tt)
+invariant_of-self g c = λ honest. (StandsIn-kept _ _ c.self.inside.reached (keeps_shown _ _ _ (c.in-Ok.ensures.kept honest).same refl) (c.self.invariant honest).0, tt)
 
 pub invariant_of-self-in-Err : goal.invariant_of-self-in-Err
-invariant_of-self-in-Err g c = λ honest. (StandsIn-kept _ _ c.self.inside.reached (keeps_shown _ _ _ (c.in-Err.ensures.kept honest) refl) (c.self.invariant honest).0, tt)
+invariant_of-self-in-Err g c = λ honest. (StandsIn-kept _ _ c.self.inside.reached (keeps_shown _ _ _ (c.in-Err.ensures.kept honest).same refl) (c.self.invariant honest).0, tt)
 
 pub returns-then-not-self-clause-looks : goal.returns-then-not-self-clause-looks
 returns-then-not-self-clause-looks g c = λ honest awaited n waiting held. inr (looks_none (λ told. told))

@@ -51,15 +51,19 @@ returns-clause-cleared g c = λ honest.
     rw (← c.self.view_is) (next_cleared g.F.Files.content c.self.inside.files c.take_next-received.new.files c.settle_next.new.self.files (awaited_text c.self.inside.awaited) (awaited_text c.take_next-received.new.awaited) c.settle_next.new.self.awaited c.settle_next.new.self.is_up
     c.take_next-received.result c.settle_next.result c.settle_next.ensures.received c.settle_next.ensures.files c.settle_next.ensures.awaits c.self.inside.is_up c.if-not-self.false (c.settle_next.ensures.up c.if-not-self.false) (c.take_next-received.ensures.cleared honest))
 
-pub returns-clause-awaits : goal.returns-clause-awaits
-returns-clause-awaits g c =
-    rw (← c.self.view_is) (next_awaits g.F.Files.content c.self.inside.files c.take_next-received.new.files c.settle_next.new.self.files (awaited_text c.self.inside.awaited) (awaited_text c.take_next-received.new.awaited) c.settle_next.new.self.awaited c.settle_next.new.self.is_up
-    c.take_next-received.result c.settle_next.result c.settle_next.ensures.received c.settle_next.ensures.files c.settle_next.ensures.awaits c.take_next-received.ensures.unchanged)
+pub returns-clause-settles : goal.returns-clause-settles
+returns-clause-settles g c = record {
+  down = search rules;
+  up = search rules;
+  awaits =
+      rw (← c.self.view_is) (next_awaits g.F.Files.content c.self.inside.files c.take_next-received.new.files c.settle_next.new.self.files (awaited_text c.self.inside.awaited) (awaited_text c.take_next-received.new.awaited) c.settle_next.new.self.awaited c.settle_next.new.self.is_up
+      c.take_next-received.result c.settle_next.result c.settle_next.ensures.received c.settle_next.ensures.files c.settle_next.ensures.awaits c.take_next-received.ensures.unchanged);
+}
 
 pub returns-clause-clean : goal.returns-clause-clean
 returns-clause-clean g c = λ honest.
     rw (← c.self.view_is) (next_clean g.F.Files.content c.self.inside.files c.take_next-received.new.files c.settle_next.new.self.files (awaited_text c.self.inside.awaited) (awaited_text c.take_next-received.new.awaited) c.settle_next.new.self.awaited c.settle_next.new.self.is_up
-    c.take_next-received.result c.settle_next.result c.settle_next.ensures.received c.settle_next.ensures.files c.settle_next.ensures.awaits (c.take_next-received.ensures.bad honest))
+    c.take_next-received.result c.settle_next.result c.settle_next.ensures.received c.settle_next.ensures.files c.settle_next.ensures.awaits (c.take_next-received.ensures.good honest).bad)
 
 pub returns-clause-wear : goal.returns-clause-wear
 returns-clause-wear g c =
@@ -67,4 +71,4 @@ returns-clause-wear g c =
     c.take_next-received.result c.settle_next.result c.settle_next.ensures.received c.settle_next.ensures.files c.settle_next.ensures.awaits c.take_next-received.ensures.wear)
 
 pub invariant_of-self : goal.invariant_of-self
-invariant_of-self g c = λ honest. (StandsIn-kept _ _ c.self.inside.reached (c.take_next-received.ensures.objects honest) (c.self.invariant honest).0, tt)
+invariant_of-self g c = λ honest. (StandsIn-kept _ _ c.self.inside.reached (c.take_next-received.ensures.good honest).objects (c.self.invariant honest).0, tt)

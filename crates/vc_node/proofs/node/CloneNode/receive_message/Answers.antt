@@ -36,15 +36,19 @@ returns-clause-err g c = λ honest.
     rw (← c.self.view_is) (settled_err g.F.Files.content c.self.inside.files c.take-received.new.files c.settle.new.self.files (awaited_text c.self.inside.awaited) (awaited_text c.take-received.new.awaited) c.settle.new.self.awaited c.self.inside.is_up c.settle.new.self.is_up c.take-received.result c.settle.result
     c.settle.ensures.received c.settle.ensures.files c.settle.ensures.awaits (c.take-received.ensures.kept honest))
 
-pub returns-clause-awaits : goal.returns-clause-awaits
-returns-clause-awaits g c =
-    rw (← c.self.view_is) (settled_awaits g.F.Files.content c.self.inside.files c.take-received.new.files c.settle.new.self.files (awaited_text c.self.inside.awaited) (awaited_text c.take-received.new.awaited) c.settle.new.self.awaited c.self.inside.is_up c.settle.new.self.is_up c.take-received.result c.settle.result
-    c.settle.ensures.received c.settle.ensures.files c.settle.ensures.awaits c.take-received.ensures.unchanged)
+pub returns-clause-settles : goal.returns-clause-settles
+returns-clause-settles g c = record {
+  down = search rules;
+  up = search rules;
+  awaits =
+      rw (← c.self.view_is) (settled_awaits g.F.Files.content c.self.inside.files c.take-received.new.files c.settle.new.self.files (awaited_text c.self.inside.awaited) (awaited_text c.take-received.new.awaited) c.settle.new.self.awaited c.self.inside.is_up c.settle.new.self.is_up c.take-received.result c.settle.result
+      c.settle.ensures.received c.settle.ensures.files c.settle.ensures.awaits c.take-received.ensures.unchanged);
+}
 
 pub returns-clause-clean : goal.returns-clause-clean
 returns-clause-clean g c = λ honest.
     rw (← c.self.view_is) (settled_clean g.F.Files.content c.self.inside.files c.take-received.new.files c.settle.new.self.files (awaited_text c.self.inside.awaited) (awaited_text c.take-received.new.awaited) c.settle.new.self.awaited c.self.inside.is_up c.settle.new.self.is_up c.take-received.result c.settle.result
-    c.settle.ensures.received c.settle.ensures.files c.settle.ensures.awaits (c.take-received.ensures.bad honest))
+    c.settle.ensures.received c.settle.ensures.files c.settle.ensures.awaits (c.take-received.ensures.good honest).bad)
 
 pub returns-clause-wear : goal.returns-clause-wear
 returns-clause-wear g c =
@@ -57,4 +61,4 @@ returns-clause-looks g c = λ honest.
     c.settle.ensures.received c.settle.ensures.files c.settle.ensures.awaits (Receive m) c.if-not-self.false (c.take-received.ensures.looks honest m reads))
 
 pub invariant_of-self : goal.invariant_of-self
-invariant_of-self g c = λ honest. (StandsIn-kept _ _ c.self.inside.reached (c.take-received.ensures.objects honest) (c.self.invariant honest).0, tt)
+invariant_of-self g c = λ honest. (StandsIn-kept _ _ c.self.inside.reached (c.take-received.ensures.good honest).objects (c.self.invariant honest).0, tt)

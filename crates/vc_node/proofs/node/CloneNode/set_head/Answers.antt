@@ -6,31 +6,22 @@ use Rattle.std.proofs.Common.{refl, rules, ap, ◌∙◌, inr}
 use Rattle.vc_node.proofs.AnswerLemmas.{answers_down}
 use Rattle.vc_node.proofs.BranchLemmas.{set_head_done, set_head_failed}
 use Rattle.vc_node.proofs.CleanLemmas.{clean_same}
-use Rattle.vc_node.proofs.SoundAnswers.{answers_too, may_if_sound, or_same, sound_failed, sound_from, sound_held, sound_held_failed}
+use Rattle.vc_node.proofs.SoundAnswers.{answered_if_sound, answers_too, may_if_sound, or_same, sound_failed, sound_from}
 use Rattle.vc_pack.proofs.KeepsLemmas.{StandsIn-kept, keeps_same}
 use Rattle.vc_node.proofs.KeepingLemmas.{keeps_shown}
 use Rattle.vc_node.proofs.node.CloneNode.set_head.Goals as goal
 
-pub returns-then-not-self-clause-bad_file : goal.returns-then-not-self-clause-bad_file
-returns-then-not-self-clause-bad_file g c = λ honest. inr (answers_too _ _ _ _ _ _ (answers_down _ _ _ (search rules)))
-
-pub returns-in-Ok-clause-bad_file : goal.returns-in-Ok-clause-bad_file
-returns-in-Ok-clause-bad_file g c = λ honest. rw (← c.self.view_is) (inr (sound_from _ _ _ _ (g.F.Files.content c.self.inside.files) _ (set_head_done _ c.args.head.now _ c.requires (c.in-Ok.ensures.set honest) (c.in-Ok.ensures.may honest)) (search rules) (search rules)))
-
-pub returns-in-Err-clause-bad_file : goal.returns-in-Err-clause-bad_file
-returns-in-Err-clause-bad_file g c = λ honest.
-    let content = g.F.Files.content in
-    let same = ap content c.fail.ensures.files ∙ c.in-Err.ensures.err honest in
-    rw (← c.self.view_is) (sound_failed _ _ _ _ _ (g.F.Files.content c.self.inside.files) _ (or_same _ _ _ _ _ _ (set_head_failed (content c.self.inside.files) c.args.head.now c.in-Err.fault (c.in-Err.ensures.refused honest)) same) c.fail.ensures.fault (search rules) (c.fail.ensures.up (search rules)))
-
 pub returns-then-not-self-clause-answers : goal.returns-then-not-self-clause-answers
-returns-then-not-self-clause-answers g c = λ honest. sound_held _ _ _ _ _ _ (returns-then-not-self-clause-bad_file g c honest) (clean_same _ _ refl)
+returns-then-not-self-clause-answers g c = λ honest. answered_if_sound _ _ _ _ _ _ (inr (answers_too _ _ _ _ _ _ (answers_down _ _ _ (search rules)))) (clean_same _ _ refl)
 
 pub returns-in-Ok-clause-answers : goal.returns-in-Ok-clause-answers
-returns-in-Ok-clause-answers g c = λ honest. sound_held _ _ _ _ _ _ (returns-in-Ok-clause-bad_file g c honest) (search rules)
+returns-in-Ok-clause-answers g c = λ honest. answered_if_sound _ _ _ _ _ _ (rw (← c.self.view_is) (inr (sound_from _ _ _ _ (g.F.Files.content c.self.inside.files) _ (set_head_done _ c.args.head.now _ c.requires (c.in-Ok.ensures.set honest) (c.in-Ok.ensures.may honest)) (search rules) (search rules)))) (search rules)
 
 pub returns-in-Err-clause-answers : goal.returns-in-Err-clause-answers
-returns-in-Err-clause-answers g c = λ honest. sound_held_failed _ _ _ _ _ _ _ c.fail.ensures.fault (returns-in-Err-clause-bad_file g c honest) (search rules)
+returns-in-Err-clause-answers g c = λ honest.
+    let content = g.F.Files.content in
+    let same = ap content c.fail.ensures.files ∙ (c.in-Err.ensures.kept honest).err in
+    answered_if_sound _ _ _ _ _ _ (rw (← c.self.view_is) (sound_failed _ _ _ _ _ (g.F.Files.content c.self.inside.files) _ (or_same _ _ _ _ _ _ (set_head_failed (content c.self.inside.files) c.args.head.now c.in-Err.fault (c.in-Err.ensures.refused honest)) same) c.fail.ensures.fault (search rules) (c.fail.ensures.up (search rules)))) (search rules)
 
 pub returns-then-not-self-clause-looks : goal.returns-then-not-self-clause-looks
 returns-then-not-self-clause-looks g c = λ honest awaited n holds. inr (looks_none (λ told. told))
@@ -45,4 +36,4 @@ pub invariant_of-self : goal.invariant_of-self
 invariant_of-self g c = λ honest. (StandsIn-kept _ _ c.self.inside.reached (keeps_shown _ _ _ (c.in-Ok.ensures.set honest) refl) (c.self.invariant honest).0, tt)
 
 pub invariant_of-self-in-Err : goal.invariant_of-self-in-Err
-invariant_of-self-in-Err g c = λ honest. (StandsIn-kept _ _ c.self.inside.reached (keeps_same _ _ (c.in-Err.ensures.err honest)) (c.self.invariant honest).0, tt)
+invariant_of-self-in-Err g c = λ honest. (StandsIn-kept _ _ c.self.inside.reached (keeps_same _ _ (c.in-Err.ensures.kept honest).err) (c.self.invariant honest).0, tt)

@@ -3,29 +3,20 @@ use Rattle.vc_pack.proofs.KeepsLemmas.{StandsIn-kept}
 use Rattle.vc_node.proofs.CleanLemmas.{clean_same}
 use Rattle.vc_node.proofs.IndexLemmas.{spells_index}
 use Rattle.vc_node.proofs.LookLemmas.{looks_none, or_told, or_failed}
-use Rattle.vc_node.proofs.StagingLemmas.{staging_done, staging_down, staging_failed, staging_held, staging_may}
+use Rattle.vc_node.proofs.StagingLemmas.{staging_done, staging_down, staging_failed, staged, staging_may}
 use Rattle.vc_node.proofs.node.CloneNode.stage_all.Goals as goal
 
-pub returns-then-not-self-clause-shown : goal.returns-then-not-self-clause-shown
-returns-then-not-self-clause-shown g c = λ honest. staging_down _ _ _ (search rules)
-
-pub returns-in-Ok-clause-shown : goal.returns-in-Ok-clause-shown
-returns-in-Ok-clause-shown g c = λ honest. rw (← c.self.view_is) (staging_done _ c.args.files.now _ _ _ c.requires (c.in-Ok.ensures.staged honest) (c.in-Ok.ensures.may honest) (search rules) (search rules))
-
-pub returns-in-Err-clause-shown : goal.returns-in-Err-clause-shown
-returns-in-Err-clause-shown g c = λ honest.
-    let content = g.F.Files.content in
-    let same = ap content c.fail.ensures.files ∙ c.in-Err.ensures.err honest in
-    rw (← c.self.view_is) (staging_failed (content c.self.inside.files) c.args.files.now _ _ (search rules) c.in-Err.fault _ (content c.fail.new.self.files) c.fail.ensures.fault same (c.in-Err.ensures.refused honest) (c.fail.ensures.up (search rules)))
-
 pub returns-then-not-self-clause-answers : goal.returns-then-not-self-clause-answers
-returns-then-not-self-clause-answers g c = λ honest. staging_held _ _ _ _ _ _ (returns-then-not-self-clause-shown g c honest) (clean_same _ _ refl)
+returns-then-not-self-clause-answers g c = λ honest. staged _ _ _ _ _ (staging_down _ _ _ (search rules)) (clean_same _ _ refl)
 
 pub returns-in-Ok-clause-answers : goal.returns-in-Ok-clause-answers
-returns-in-Ok-clause-answers g c = λ honest. staging_held _ _ _ _ _ _ (returns-in-Ok-clause-shown g c honest) (search rules)
+returns-in-Ok-clause-answers g c = λ honest. staged _ _ _ _ _ (rw (← c.self.view_is) (staging_done _ c.args.files.now _ _ _ c.requires (c.in-Ok.ensures.staged honest) (search rules) (search rules))) (search rules)
 
 pub returns-in-Err-clause-answers : goal.returns-in-Err-clause-answers
-returns-in-Err-clause-answers g c = λ honest. staging_held _ _ _ _ _ _ (returns-in-Err-clause-shown g c honest) (search rules)
+returns-in-Err-clause-answers g c = λ honest.
+    let content = g.F.Files.content in
+    let same = ap content c.fail.ensures.files ∙ (c.in-Err.ensures.kept honest).err in
+    staged _ _ _ _ _ (rw (← c.self.view_is) (staging_failed (content c.self.inside.files) c.args.files.now _ _ (search rules) c.in-Err.fault _ (content c.fail.new.self.files) c.fail.ensures.fault same (c.in-Err.ensures.refused honest) (c.fail.ensures.up (search rules)))) (search rules)
 
 pub returns-in-Err-clause-refused : goal.returns-in-Err-clause-refused
 returns-in-Err-clause-refused g c = rw (← c.self.view_is, c.fail.ensures.fault) (λ honest up m spells. c.in-Err.ensures.refused honest m spells)

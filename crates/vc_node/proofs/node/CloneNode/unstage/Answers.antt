@@ -1,33 +1,24 @@
 use Rattle.vc_model.specs.Clone.Task.{Unstage}
 use Rattle.vc_node.proofs.MayLemmas.{may_or, unstage_may}
 use Rattle.vc_node.proofs.LookLemmas.{looks_none}
-use Rattle.std.proofs.Common.{refl, rules, ap, ◌∙◌, inr, inl}
-use Rattle.vc_node.proofs.AnswerLemmas.{answers_down, answers_from, failed, held, held_failed, or_unchanged}
+use Rattle.std.proofs.Common.{[], refl, rules, ap, ◌∙◌, inr, inl}
+use Rattle.vc_node.proofs.AnswerLemmas.{answered, answers_down, answers_from, failed, or_unchanged}
 use Rattle.vc_node.proofs.IndexLemmas.{unstage_done, unstage_failed}
 use Rattle.vc_node.proofs.CleanLemmas.{clean_same}
 use Rattle.vc_pack.proofs.KeepsLemmas.{StandsIn-kept, keeps_same}
 use Rattle.vc_node.proofs.node.CloneNode.unstage.Goals as goal
 
-pub returns-then-not-self-clause-bad_file : goal.returns-then-not-self-clause-bad_file
-returns-then-not-self-clause-bad_file g c = λ honest. inr (answers_down _ _ _ (search rules))
-
-pub returns-in-Ok-clause-bad_file : goal.returns-in-Ok-clause-bad_file
-returns-in-Ok-clause-bad_file g c = λ honest. rw (← c.self.view_is) (inr (answers_from _ _ _ _ _ _ (unstage_done _ c.args.path.now _ (c.in-Ok.ensures.removed honest)) (search rules) (search rules)))
-
-pub returns-in-Err-clause-bad_file : goal.returns-in-Err-clause-bad_file
-returns-in-Err-clause-bad_file g c = λ honest.
-    let content = g.F.Files.content in
-    let same = ap content c.fail.ensures.files ∙ c.in-Err.ensures.err honest in
-    rw (← c.self.view_is) (failed _ _ _ _ _ _ _ _ (or_unchanged _ _ _ _ _ (unstage_failed (content c.self.inside.files) c.args.path.now c.in-Err.fault (c.in-Err.ensures.refused honest)) same) c.fail.ensures.fault (search rules) (c.fail.ensures.up (search rules)))
-
 pub returns-then-not-self-clause-answers : goal.returns-then-not-self-clause-answers
-returns-then-not-self-clause-answers g c = λ honest. held _ _ _ _ _ _ (returns-then-not-self-clause-bad_file g c honest) (clean_same _ _ refl)
+returns-then-not-self-clause-answers g c = λ honest. answered [] _ _ _ _ _ _ (inr (answers_down _ _ _ (search rules))) (clean_same _ _ refl)
 
 pub returns-in-Ok-clause-answers : goal.returns-in-Ok-clause-answers
-returns-in-Ok-clause-answers g c = λ honest. held _ _ _ _ _ _ (returns-in-Ok-clause-bad_file g c honest) (search rules)
+returns-in-Ok-clause-answers g c = λ honest. answered [] _ _ _ _ _ _ (rw (← c.self.view_is) (inr (answers_from _ _ _ _ _ _ (unstage_done _ c.args.path.now _ (c.in-Ok.ensures.removed honest)) (search rules) (search rules)))) (search rules)
 
 pub returns-in-Err-clause-answers : goal.returns-in-Err-clause-answers
-returns-in-Err-clause-answers g c = λ honest. held_failed _ _ _ _ _ _ _ c.fail.ensures.fault (returns-in-Err-clause-bad_file g c honest) (search rules)
+returns-in-Err-clause-answers g c = λ honest.
+    let content = g.F.Files.content in
+    let same = ap content c.fail.ensures.files ∙ (c.in-Err.ensures.kept honest).err in
+    answered [] _ _ _ _ _ _ (rw (← c.self.view_is) (failed _ _ _ _ _ _ _ _ (or_unchanged _ _ _ _ _ (unstage_failed (content c.self.inside.files) c.args.path.now c.in-Err.fault (c.in-Err.ensures.refused honest)) same) c.fail.ensures.fault (search rules) (c.fail.ensures.up (search rules)))) (search rules)
 
 pub returns-then-not-self-clause-looks : goal.returns-then-not-self-clause-looks
 returns-then-not-self-clause-looks g c = λ honest awaited n holds. inr (looks_none (λ told. told))
@@ -42,4 +33,4 @@ pub invariant_of-self : goal.invariant_of-self
 invariant_of-self g c = λ honest. (StandsIn-kept _ _ c.self.inside.reached (c.in-Ok.ensures.objects honest) (c.self.invariant honest).0, tt)
 
 pub invariant_of-self-in-Err : goal.invariant_of-self-in-Err
-invariant_of-self-in-Err g c = λ honest. (StandsIn-kept _ _ c.self.inside.reached (keeps_same _ _ (c.in-Err.ensures.err honest)) (c.self.invariant honest).0, tt)
+invariant_of-self-in-Err g c = λ honest. (StandsIn-kept _ _ c.self.inside.reached (keeps_same _ _ (c.in-Err.ensures.kept honest).err) (c.self.invariant honest).0, tt)

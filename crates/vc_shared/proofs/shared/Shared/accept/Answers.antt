@@ -37,15 +37,20 @@ pub returns-clause-bad_file : goal.returns-clause-bad_file
 returns-clause-bad_file g c = λ honest.
     rw (← c.self.view_is) (settled_refusal (IsRefusedBytes (g.F.Files.content c.self.inside.files) c.self.inside.slots c.args.bytes.now) c.accept-accepted.result c.settle.result c.settle.ensures.accepted (c.accept-accepted.ensures.refused honest))
 
-pub returns-clause-err : goal.returns-clause-err
-returns-clause-err g c =
-    rw (← c.self.view_is) (settled_err g.F.Files.content c.self.inside.files c.accept-accepted.new.files c.settle.new.self.files c.self.inside.slots c.accept-accepted.new.slots c.settle.new.self.slots c.self.inside.is_up c.settle.new.self.is_up c.accept-accepted.result c.settle.result
-    c.settle.ensures.accepted c.settle.ensures.files c.settle.ensures.slots c.accept-accepted.ensures.unchanged)
+pub returns-clause-settles : goal.returns-clause-settles
+returns-clause-settles g c = record {
+  down = search rules;
+  up = search rules;
+  slots =
+      rw (← c.self.view_is) (settled_err g.F.Files.content c.self.inside.files c.accept-accepted.new.files c.settle.new.self.files c.self.inside.slots c.accept-accepted.new.slots c.settle.new.self.slots c.self.inside.is_up c.settle.new.self.is_up c.accept-accepted.result c.settle.result
+      c.settle.ensures.accepted c.settle.ensures.files c.settle.ensures.slots c.accept-accepted.ensures.unchanged);
+  tellable = search rules;
+}
 
 pub returns-clause-clean : goal.returns-clause-clean
 returns-clause-clean g c = λ honest.
     rw (← c.self.view_is) (settled_clean g.F.Files.content c.self.inside.files c.accept-accepted.new.files c.settle.new.self.files c.self.inside.slots c.accept-accepted.new.slots c.settle.new.self.slots c.self.inside.is_up c.settle.new.self.is_up c.accept-accepted.result c.settle.result
-    c.settle.ensures.accepted c.settle.ensures.files c.settle.ensures.slots (c.accept-accepted.ensures.bad honest))
+    c.settle.ensures.accepted c.settle.ensures.files c.settle.ensures.slots (c.accept-accepted.ensures.good honest).bad)
 
 pub returns-clause-wear : goal.returns-clause-wear
 returns-clause-wear g c =
@@ -58,4 +63,4 @@ returns-clause-looks g c =
     c.settle.ensures.accepted c.settle.ensures.files c.settle.ensures.slots (c.accept-accepted.ensures.looks m reads))
 
 pub invariant_of-self : goal.invariant_of-self
-invariant_of-self g c = (c.accept-accepted.ensures.tellable, λ honest. c.accept-accepted.ensures.agrees honest c.self.inside.generations (c.self.invariant.1 honest))
+invariant_of-self g c = (c.accept-accepted.ensures.tellable, λ honest. (c.accept-accepted.ensures.good honest).agrees c.self.inside.generations (c.self.invariant.1 honest))

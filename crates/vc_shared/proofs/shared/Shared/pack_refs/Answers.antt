@@ -4,6 +4,7 @@ use Rattle.vc_files.proofs.WearLemmas.{writes_told}
 use Rattle.vc_model.specs.Question.Question.{PackRefs}
 use Rattle.vc_model.specs.SharedCall.SharedCall.{Asks}
 use Rattle.vc_node.specs.declared.fault.NodeFault.TheVariants.{Ref}
+use Rattle.vc_node.proofs.CleanLemmas.{packs_only}
 use Rattle.vc_node.proofs.LookLemmas.{looks_none, or_told}
 use Rattle.vc_node.proofs.RefBlames.{packing_blames, packing_unwritten}
 use Rattle.vc_session.proofs.NumberLemmas.{agreement_outside}
@@ -24,6 +25,12 @@ returns-in-Err-clause-answers g c = λ honest.
     let content = g.F.Files.content in
     rw (← c.self.view_is, c.if-not-self.false, c.is_fault.ensures, c.from-fault.ensures)
     (packing_answers (content c.self.inside.files) (content c.pack.new.files) (c.in-Err.ensures.rest honest) (c.in-Err.ensures.kept honest) c.self.inside.slots (Err (Ref c.in-Err.fault)) (packing_blames _ _ (c.in-Err.ensures.refused honest)))
+
+pub returns-in-Ok-clause-kept : goal.returns-in-Ok-clause-kept
+returns-in-Ok-clause-kept g c = λ honest. rw (← c.self.view_is) (packs_only _ _ (c.in-Ok.ensures.rest honest) (c.in-Ok.ensures.kept honest))
+
+pub returns-in-Err-clause-kept : goal.returns-in-Err-clause-kept
+returns-in-Err-clause-kept g c = λ honest. rw (← c.self.view_is) (packs_only _ _ (c.in-Err.ensures.rest honest) (c.in-Err.ensures.kept honest))
 
 pub returns-in-Err-clause-refused : goal.returns-in-Err-clause-refused
 returns-in-Err-clause-refused g c = λ honest. rw (← c.self.view_is, c.from-fault.ensures) (inr (packing_blames _ _ (c.in-Err.ensures.refused honest)))

@@ -18,7 +18,7 @@ pub returns-in-Ok-clause-answers : goal.returns-in-Ok-clause-answers
 returns-in-Ok-clause-answers g c = λ honest.
     let content = g.F.Files.content in
     rw (← c.self.view_is) (stepped_answers (content c.self.inside.files) (content c.step.new.files) c.self.inside.slots c.step.new.slots c.args.slot c.self.inside.is_up c.self.inside.is_up (Ok c.in-Ok.told)
-    (c.in-Ok.ensures.steps honest) tt (λ held. tt) tt (c.in-Ok.ensures.bad honest) c.self.invariant.0 written_report c.if-not-self.false c.if-not-self.false)
+    (c.in-Ok.ensures.steps honest) tt (λ held. tt) tt (c.in-Ok.ensures.good honest).bad c.self.invariant.0 written_report c.if-not-self.false c.if-not-self.false)
 
 pub returns-in-Err-clause-answers : goal.returns-in-Err-clause-answers
 returns-in-Err-clause-answers g c = λ honest.
@@ -26,7 +26,7 @@ returns-in-Err-clause-answers g c = λ honest.
     rw (← c.self.view_is) (answers_through (StepOf c.args.slot) SteppedAs (content c.self.inside.files) (content c.step.new.files) (content c.fail.new.self.files) c.self.inside.slots c.step.new.slots c.fail.new.self.slots
     c.self.inside.is_up c.fail.new.self.is_up c.in-Err.fault c.fail.result c.fail.ensures.fault (ap content c.fail.ensures.files) c.fail.ensures.slots
     (stepped_answers (content c.self.inside.files) (content c.step.new.files) c.self.inside.slots c.step.new.slots c.args.slot c.self.inside.is_up c.fail.new.self.is_up (Err c.in-Err.fault)
-    (λ held. tt) c.in-Err.ensures.unchanged (c.in-Err.ensures.early honest) (c.in-Err.ensures.refused honest) (c.in-Err.ensures.bad honest) c.self.invariant.0 written_report c.if-not-self.false (c.fail.ensures.up c.if-not-self.false)))
+    (λ held. tt) c.in-Err.ensures.unchanged (c.in-Err.ensures.early honest) (c.in-Err.ensures.refused honest) (c.in-Err.ensures.good honest).bad c.self.invariant.0 written_report c.if-not-self.false (c.fail.ensures.up c.if-not-self.false)))
 
 pub returns-then-not-self-clause-bad_file : goal.returns-then-not-self-clause-bad_file
 returns-then-not-self-clause-bad_file g c = λ honest. inl refl
@@ -39,12 +39,12 @@ pub returns-then-not-self-clause-clean : goal.returns-then-not-self-clause-clean
 returns-then-not-self-clause-clean g c = λ honest. clean_same _ _ refl
 
 pub returns-in-Ok-clause-clean : goal.returns-in-Ok-clause-clean
-returns-in-Ok-clause-clean g c = λ honest. rw (← c.self.view_is) (clean_by _ _ (c.in-Ok.ensures.bad honest))
+returns-in-Ok-clause-clean g c = λ honest. rw (← c.self.view_is) (clean_by _ _ (c.in-Ok.ensures.good honest).bad)
 
 pub returns-in-Err-clause-clean : goal.returns-in-Err-clause-clean
 returns-in-Err-clause-clean g c = λ honest.
     let content = g.F.Files.content in
-    rw (← c.self.view_is) (clean_through (content c.self.inside.files) (content c.step.new.files) (content c.fail.new.self.files) (ap content c.fail.ensures.files) (clean_by _ _ (c.in-Err.ensures.bad honest)))
+    rw (← c.self.view_is) (clean_through (content c.self.inside.files) (content c.step.new.files) (content c.fail.new.self.files) (ap content c.fail.ensures.files) (clean_by _ _ (c.in-Err.ensures.good honest).bad))
 
 pub returns-then-not-self-clause-looks : goal.returns-then-not-self-clause-looks
 returns-then-not-self-clause-looks g c = λ honest held. inr (looks_none (λ told. told))
@@ -59,7 +59,7 @@ pub step-requires : goal.step-requires
 step-requires g c = record { tellable = c.self.invariant.0; agrees = c.self.invariant.1 }
 
 pub invariant_of-self : goal.invariant_of-self
-invariant_of-self g c = (c.in-Ok.ensures.tellable, c.in-Ok.ensures.agrees)
+invariant_of-self g c = (c.in-Ok.ensures.tellable, λ honest. (c.in-Ok.ensures.good honest).agrees)
 
 pub invariant_of-self-in-Err : goal.invariant_of-self-in-Err
-invariant_of-self-in-Err g c = (c.in-Err.ensures.tellable, c.in-Err.ensures.agrees)
+invariant_of-self-in-Err g c = (c.in-Err.ensures.tellable, λ honest. (c.in-Err.ensures.good honest).agrees)

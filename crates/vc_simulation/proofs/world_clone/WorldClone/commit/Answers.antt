@@ -18,5 +18,5 @@ returns g c = record {
   answers = λ honest. sound_order g.F.Files.content g.F.Files.can_fail g.F.Files.left (AreIds c.args.parents.now c.in-Ok.ids.items) c.args.self.now.node c.values.new.self.node c.commit-called.new.self
       (MakeCommit (map bytes_of_id c.deref.result.now) c.args.author.now c.args.committer.now c.args.message.now) (CommitIndex (map bytes_in c.args.parents.now) c.args.author.now c.args.committer.now c.args.message.now) (made_answer c.commit-called.result) (TellsDevice c.commit-called.result) c.made.result
       (finding g.F.Files.content g.F.Files.can_fail g.F.Files.left (λ ids. AreIds c.args.parents.now ids.items) c.values.result c.in-Ok.ids _ _ c.in-Ok.is (c.values.ensures.found honest))
-      (c.commit-called.ensures.answers honest) c.commit-called.ensures.awaits (written_steady g.F.Files.honest g.F.Files.content g.F.Files.failed g.F.Files.can_fail g.F.Files.left _ _ _ c.commit-called.ensures.wear) c.made.ensures (λ s p. (_, p, search rules));
+      (c.commit-called.ensures.answers honest).held c.commit-called.ensures.settles.awaits (written_steady g.F.Files.honest g.F.Files.content g.F.Files.failed g.F.Files.can_fail g.F.Files.left _ _ _ c.commit-called.ensures.wear) c.made.ensures (λ s p. (_, p, search rules));
 }

@@ -10,5 +10,5 @@ use Rattle.vc_simulation.proofs.world_clone.WorldClone.delete_branch.Goals as go
 pub returns : goal.returns
 returns g c = record {
   answers = λ honest. local_order g.F.Files.content g.F.Files.can_fail g.F.Files.left (λ r. Unit {0}) c.args.self.now.node c.args.self.now.node c.delete_branch-called.new.self (DeleteBranch c.args.name.now) (DropBranch c.args.name.now) (done_answer c.delete_branch-called.result) (TellsDevice c.delete_branch-called.result) c.done.result
-      (finds_none g.F.Files.content g.F.Files.can_fail g.F.Files.left _ _ c.requires.up refl) (c.delete_branch-called.ensures.answers honest) c.delete_branch-called.ensures.awaits (written_steady g.F.Files.honest g.F.Files.content g.F.Files.failed g.F.Files.can_fail g.F.Files.left _ _ _ c.delete_branch-called.ensures.wear) c.done.ensures (λ s p. refl);
+      (finds_none g.F.Files.content g.F.Files.can_fail g.F.Files.left _ _ c.requires.up refl) (c.delete_branch-called.ensures.answers honest).held c.delete_branch-called.ensures.settles.awaits (written_steady g.F.Files.honest g.F.Files.content g.F.Files.failed g.F.Files.can_fail g.F.Files.left _ _ _ c.delete_branch-called.ensures.wear) c.done.ensures (λ s p. refl);
 }

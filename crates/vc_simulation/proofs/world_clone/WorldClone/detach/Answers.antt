@@ -17,5 +17,5 @@ pub returns : goal.returns
 returns g c = record {
   answers = λ honest. sound_order g.F.Files.content g.F.Files.can_fail g.F.Files.left (IsValue c.args.text.now c.in-Ok.id) c.args.self.now.node c.value.new.self.node c.set_head-called.new.self (MoveHead (Detached c.in-Ok.id.0)) (HeadAt c.args.text.now) (done_answer c.set_head-called.result) (TellsDevice c.set_head-called.result) c.done.result
       (finding g.F.Files.content g.F.Files.can_fail g.F.Files.left (IsValue c.args.text.now) c.value.result c.in-Ok.id _ _ c.in-Ok.is (c.value.ensures.found honest))
-      (c.set_head-called.ensures.answers honest) c.set_head-called.ensures.awaits (written_steady g.F.Files.honest g.F.Files.content g.F.Files.failed g.F.Files.can_fail g.F.Files.left _ _ _ c.set_head-called.ensures.wear) c.done.ensures (λ s p. (Ok (bytes_of_id c.in-Ok.id), p, refl));
+      (c.set_head-called.ensures.answers honest).held c.set_head-called.ensures.settles.awaits (written_steady g.F.Files.honest g.F.Files.content g.F.Files.failed g.F.Files.can_fail g.F.Files.left _ _ _ c.set_head-called.ensures.wear) c.done.ensures (λ s p. (Ok (bytes_of_id c.in-Ok.id), p, refl));
 }

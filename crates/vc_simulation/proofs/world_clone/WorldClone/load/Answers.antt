@@ -16,5 +16,5 @@ pub returns : goal.returns
 returns g c = record {
   answers = λ honest. local_order g.F.Files.content g.F.Files.can_fail g.F.Files.left (IsValue c.args.text.now c.in-Ok.id) c.args.self.now.node c.value.new.self.node c.load_tree-called.new.self (LoadTree c.in-Ok.id.0) (LoadIndex c.args.text.now) (done_answer c.load_tree-called.result) (TellsDevice c.load_tree-called.result) c.done.result
       (finding g.F.Files.content g.F.Files.can_fail g.F.Files.left (IsValue c.args.text.now) c.value.result c.in-Ok.id _ _ c.in-Ok.is (c.value.ensures.found honest))
-      (c.load_tree-called.ensures.answers honest) c.load_tree-called.ensures.awaits (written_steady g.F.Files.honest g.F.Files.content g.F.Files.failed g.F.Files.can_fail g.F.Files.left _ _ _ c.load_tree-called.ensures.wear) c.done.ensures (λ s p. (Ok (bytes_of_id c.in-Ok.id), p, refl));
+      (c.load_tree-called.ensures.answers honest).held c.load_tree-called.ensures.settles.awaits (written_steady g.F.Files.honest g.F.Files.content g.F.Files.failed g.F.Files.can_fail g.F.Files.left _ _ _ c.load_tree-called.ensures.wear) c.done.ensures (λ s p. (Ok (bytes_of_id c.in-Ok.id), p, refl));
 }

@@ -15,5 +15,5 @@ pub returns : goal.returns
 returns g c = record {
   answers = λ honest. sound_order g.F.Files.content g.F.Files.can_fail g.F.Files.left (λ r. Unit {0}) c.args.self.now.node c.args.self.now.node c.set_head-called.new.self (MoveHead (OnBranch c.args.name.now)) (HeadOn c.args.name.now) (done_answer c.set_head-called.result) (TellsDevice c.set_head-called.result) c.done.result
       (finds_none g.F.Files.content g.F.Files.can_fail g.F.Files.left _ _ c.requires.up refl)
-      (search rules) c.set_head-called.ensures.awaits (written_steady g.F.Files.honest g.F.Files.content g.F.Files.failed g.F.Files.can_fail g.F.Files.left _ _ _ c.set_head-called.ensures.wear) c.done.ensures (λ s p. refl);
+      (search rules) c.set_head-called.ensures.settles.awaits (written_steady g.F.Files.honest g.F.Files.content g.F.Files.failed g.F.Files.can_fail g.F.Files.left _ _ _ c.set_head-called.ensures.wear) c.done.ensures (λ s p. refl);
 }

@@ -11,5 +11,5 @@ use Rattle.vc_simulation.proofs.world_clone.WorldClone.stage.Goals as goal
 pub returns : goal.returns
 returns g c = record {
   answers = λ honest. local_order g.F.Files.content g.F.Files.can_fail g.F.Files.left (λ r. Unit {0}) c.args.self.now.node c.args.self.now.node c.add-called.new.self (Stage c.args.path.now (mode_number c.args.mode) c.args.content.now) (StageFile c.args.path.now (mode_number c.args.mode) c.args.content.now) (done_answer c.add-called.result) (TellsDevice c.add-called.result) c.done.result
-      (finds_none g.F.Files.content g.F.Files.can_fail g.F.Files.left _ _ c.requires.up refl) (c.add-called.ensures.answers honest) c.add-called.ensures.awaits (written_steady g.F.Files.honest g.F.Files.content g.F.Files.failed g.F.Files.can_fail g.F.Files.left _ _ _ c.add-called.ensures.wear) c.done.ensures (λ s p. refl);
+      (finds_none g.F.Files.content g.F.Files.can_fail g.F.Files.left _ _ c.requires.up refl) (c.add-called.ensures.answers honest).held c.add-called.ensures.settles.awaits (written_steady g.F.Files.honest g.F.Files.content g.F.Files.failed g.F.Files.can_fail g.F.Files.left _ _ _ c.add-called.ensures.wear) c.done.ensures (λ s p. refl);
 }

@@ -10,5 +10,5 @@ use Rattle.vc_simulation.proofs.world_clone.WorldClone.unstage.Goals as goal
 pub returns : goal.returns
 returns g c = record {
   answers = λ honest. local_order g.F.Files.content g.F.Files.can_fail g.F.Files.left (λ r. Unit {0}) c.args.self.now.node c.args.self.now.node c.unstage-called.new.self (Unstage c.args.path.now) (UnstageFile c.args.path.now) (done_answer c.unstage-called.result) (TellsDevice c.unstage-called.result) c.done.result
-      (finds_none g.F.Files.content g.F.Files.can_fail g.F.Files.left _ _ c.requires refl) (c.unstage-called.ensures.answers honest) c.unstage-called.ensures.awaits (written_steady g.F.Files.honest g.F.Files.content g.F.Files.failed g.F.Files.can_fail g.F.Files.left _ _ _ c.unstage-called.ensures.wear) c.done.ensures (λ s p. refl);
+      (finds_none g.F.Files.content g.F.Files.can_fail g.F.Files.left _ _ c.requires refl) (c.unstage-called.ensures.answers honest).held c.unstage-called.ensures.settles.awaits (written_steady g.F.Files.honest g.F.Files.content g.F.Files.failed g.F.Files.can_fail g.F.Files.left _ _ _ c.unstage-called.ensures.wear) c.done.ensures (λ s p. refl);
 }

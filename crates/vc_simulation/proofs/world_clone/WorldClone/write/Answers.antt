@@ -11,5 +11,5 @@ use Rattle.vc_simulation.proofs.world_clone.WorldClone.write.Goals as goal
 pub returns : goal.returns
 returns g c = record {
   answers = λ honest. local_order g.F.Files.content g.F.Files.can_fail g.F.Files.left (λ r. Unit {0}) c.args.self.now.node c.args.self.now.node c.write-called.new.self (Write (machine_object c.args.kind c.args.body.now)) (StoreObject (machine_object c.args.kind c.args.body.now)) (made_answer c.write-called.result) (TellsDevice c.write-called.result) c.made.result
-      (finds_none g.F.Files.content g.F.Files.can_fail g.F.Files.left _ _ c.requires refl) (c.write-called.ensures.answers honest) c.write-called.ensures.awaits (written_steady g.F.Files.honest g.F.Files.content g.F.Files.failed g.F.Files.can_fail g.F.Files.left _ _ _ c.write-called.ensures.wear) c.made.ensures (λ s p. refl);
+      (finds_none g.F.Files.content g.F.Files.can_fail g.F.Files.left _ _ c.requires refl) (c.write-called.ensures.answers honest).held c.write-called.ensures.settles.awaits (written_steady g.F.Files.honest g.F.Files.content g.F.Files.failed g.F.Files.can_fail g.F.Files.left _ _ _ c.write-called.ensures.wear) c.made.ensures (λ s p. refl);
 }

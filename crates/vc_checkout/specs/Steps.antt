@@ -1,0 +1,107 @@
+-- What the steps of a checkout do to a work tree as one value, where `content` is what its files hold and `folders` what folders
+-- it has of themselves.
+use Rattle.std.specs.Prelude.{◌≡◌, ◌⊎◌, ℕ, List, Option}
+use Rattle.std.specs.FinMap.{get}
+use Rattle.vc_files.specs.FileMap.{FileMap}
+use Rattle.vc_object.specs.ObjectMap.{ObjectMap}
+use Rattle.vc_index.specs.IndexMap.{IndexMap}
+use Rattle.vc_checkout.specs.CheckedOut.{IsCheckedOut, IsCleared, IsOldOrCheckedOut, IsWritten, StepAt, StepOrNone}
+use Rattle.vc_checkout.specs.Folders.{AreFolders, Folders, IsFolder}
+use Rattle.vc_checkout.specs.FoldersAfter.{AreBetween, AreFoldersBegun, GivesWay, IsFolderAfter, IsLeft, IsLeftBy, IsLinked, IsMadeFor}
+
+-- ---- at one path
+
+-- the file at the path changes so, and no other
+abbrev pub Does : {W : Type 0} → (W → FileMap) → (Option (List ℕ) → Option (List ℕ) → Type 0) → List ℕ → W → W → Type 0
+Does content IsStep path old new = StepAt IsStep path (content old) (content new)
+
+-- it does, or nothing changes
+abbrev pub MayDo : {W : Type 0} → (W → FileMap) → (Option (List ℕ) → Option (List ℕ) → Type 0) → List ℕ → W → W → Type 0
+MayDo content IsStep path old new = StepOrNone IsStep path (content old) (content new)
+
+-- what the index has at a path and the tree lacks goes
+abbrev pub IsClearedAt : IndexMap → IndexMap → List ℕ → Option (List ℕ) → Option (List ℕ) → Type 0
+IsClearedAt index tree path = IsCleared (get index path) (get tree path)
+
+-- what is due at a path is written
+abbrev pub IsWrittenAt : ObjectMap → IndexMap → IndexMap → List ℕ → Option (List ℕ) → Option (List ℕ) → Type 0
+IsWrittenAt objects index tree path = IsWritten objects (get index path) (get tree path)
+
+-- the folder was there for what goes at the path
+abbrev pub IsLeftAt : IndexMap → IndexMap → List ℕ → List ℕ → Type 0
+IsLeftAt index tree path = IsLeft (get index path) (get tree path) path
+
+-- it gives way to what is written at the path
+abbrev pub GivesWayAt : IndexMap → IndexMap → List ℕ → List ℕ → Type 0
+GivesWayAt index tree path = GivesWay (get index path) (get tree path) path
+
+-- it is there for what is written at the path
+abbrev pub IsMadeAt : IndexMap → IndexMap → List ℕ → List ℕ → Type 0
+IsMadeAt index tree path = IsMadeFor (get index path) (get tree path) path
+
+-- it is what is written at the path, a commit of another repository
+abbrev pub IsLinkedAt : IndexMap → IndexMap → List ℕ → List ℕ → Type 0
+IsLinkedAt index tree path folder = (folder ≡ path) × IsLinked (get index path) (get tree path)
+
+-- ---- the folders
+
+-- those that were there are, but for the lost ones
+abbrev pub LosesFolders : {W : Type 0} → (W → FileMap) → (W → Folders) → (List ℕ → Type 0) → W → W → Type 0
+LosesFolders content folders IsLost old new = AreFolders (content new) (folders new) (λ one. IsFolder (content old) (folders old) one × ¬ (IsLost one))
+
+-- the same, of what may have ended halfway: some of the lost ones may be there
+abbrev pub MayLoseFolders : {W : Type 0} → (W → FileMap) → (W → Folders) → (List ℕ → Type 0) → W → W → Type 0
+MayLoseFolders content folders IsLost old new =
+    AreBetween (content new) (folders new) (λ one. IsFolder (content old) (folders old) one × ¬ (IsLost one)) (IsFolder (content old) (folders old))
+
+-- those that were there are, but for the lost ones, and the made ones
+abbrev pub ChangesFolders : {W : Type 0} → (W → FileMap) → (W → Folders) → (List ℕ → Type 0) → (List ℕ → Type 0) → W → W → Type 0
+ChangesFolders content folders IsMade IsLost old new =
+    AreFolders (content new) (folders new) (λ one. IsMade one ⊎ (IsFolder (content old) (folders old) one × ¬ (IsLost one)))
+
+-- the same, of what may have ended halfway
+abbrev pub MayChangeFolders : {W : Type 0} → (W → FileMap) → (W → Folders) → (List ℕ → Type 0) → (List ℕ → Type 0) → W → W → Type 0
+MayChangeFolders content folders IsMade IsLost old new =
+    AreBetween (content new) (folders new) (λ one. IsFolder (content old) (folders old) one × ¬ (IsLost one)) (λ one. IsFolder (content old) (folders old) one ⊎ IsMade one)
+
+-- where those that were there are what a checkout leaves of others, they are then those that it ends with
+abbrev pub EndsFolders : {W : Type 0} → (W → FileMap) → (W → Folders) → IndexMap → IndexMap → W → W → Type 0
+EndsFolders content folders index tree old new =
+    (work : FileMap) (was : Folders) → AreFolders (content old) (folders old) (λ one. IsFolder work was one × ¬ (IsLeftBy index tree one))
+    → AreFolders (content new) (folders new) (IsFolderAfter index tree (IsFolder work was))
+
+-- ---- at all paths
+
+-- what the index has and the tree lacks is gone
+abbrev pub Clears : {W : Type 0} → (W → FileMap) → IndexMap → IndexMap → W → W → Type 0
+Clears content index tree old new = (path : List ℕ) → IsClearedAt index tree path (get (content old) path) (get (content new) path)
+
+-- each path is cleared, or as it was
+abbrev pub MayClear : {W : Type 0} → (W → FileMap) → IndexMap → IndexMap → W → W → Type 0
+MayClear content index tree old new =
+    (path : List ℕ) → (get (content new) path ≡ get (content old) path) ⊎ IsClearedAt index tree path (get (content old) path) (get (content new) path)
+
+-- what is due is written
+abbrev pub WritesDue : {W : Type 0} → (W → FileMap) → ObjectMap → IndexMap → IndexMap → W → W → Type 0
+WritesDue content objects index tree old new = (path : List ℕ) → IsWrittenAt objects index tree path (get (content old) path) (get (content new) path)
+
+-- each path is written, or as it was
+abbrev pub MayWriteDue : {W : Type 0} → (W → FileMap) → ObjectMap → IndexMap → IndexMap → W → W → Type 0
+MayWriteDue content objects index tree old new =
+    (path : List ℕ) → (get (content new) path ≡ get (content old) path) ⊎ IsWrittenAt objects index tree path (get (content old) path) (get (content new) path)
+
+-- ---- the whole
+
+-- The files and the folders of the work tree are those that a checkout makes of the old ones.
+pub record Brings {W : Type 0} (content : W → FileMap) (held : W → Folders) (objects : ObjectMap) (index tree : IndexMap) (old new : W) : Type 0 where
+  pub files : (path : List ℕ) → IsCheckedOut objects (get index path) (get tree path) (get (content old) path) (get (content new) path)
+  pub folders : AreFolders (content new) (held new) (IsFolderAfter index tree (IsFolder (content old) (held old)))
+
+-- Each path has its old file or its new one, and no folder is gone or made that would not have been.
+pub record BringsPart {W : Type 0} (content : W → FileMap) (held : W → Folders) (objects : ObjectMap) (index tree : IndexMap) (old new : W) : Type 0 where
+  pub files : (path : List ℕ) → IsOldOrCheckedOut objects index tree (content old) (content new) path
+  pub folders : AreFoldersBegun index tree (content old) (held old) (content new) (held new)
+
+-- the work tree is as it was
+abbrev pub IsUntouched : {W : Type 0} → (W → FileMap) → (W → Folders) → W → W → Type 0
+IsUntouched content folders old new = (content new ≡ content old) × (folders new ≡ folders old)
