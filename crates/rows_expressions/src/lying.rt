@@ -1,7 +1,7 @@
 //! A repository that lies: it reads some names as others, as git does after `git replace`, and claims nothing of itself.
 ghost use Rattle.std.specs.Prelude.{None, ⊤, refl};
 ghost use Rattle.vc_files.specs.Failures.{greatest_count, unstopped};
-ghost use Rattle.vc_rev.specs.Source.{Names};
+ghost use Rattle.vc_rev.specs.Source.{Names, source};
 
 use indexmap::IndexMap;
 use vc_files::{FailOnce, Fault, MemoryFiles};
@@ -65,15 +65,15 @@ impl Repository for Lying<'_> {
 
     ghost view_of = { λ _. tt };
 
-    ghost names = { λ _. let none : Names = record { ref = λ _. None; head = None; index = λ _. None } in none };
-
-    ghost stored = { λ _ _. ⊥ };
+    ghost source = { λ _. source (let none : Names = record { ref = λ _. None; head = None; index = λ _. None } in none) (λ _. None) (λ _. ⊥) };
 
     ghost is_good = { λ _ _. ⊤ };
 
     ghost blames = { λ _ _ _. ⊤ };
 
     ghost follows = { λ _ _ _. refl };
+
+    ghost same_objects = { λ _. refl };
 
     fn head(&mut self) -> Result<Option<ObjectId>, SourceFault> {
         self.real.head()

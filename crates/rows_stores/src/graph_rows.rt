@@ -10,7 +10,7 @@ use vc_graph::{
     learn_links,
 };
 use vc_history::{
-    BaseFault, Commits, Generations, commits, common_ancestors, is_ancestor, is_history,
+    Commits, Generations, HistoryFault, commits, common_ancestors, is_ancestor, is_history,
     is_history_beyond, merge_bases,
 };
 use vc_object::ObjectId;
@@ -119,12 +119,15 @@ fn told<T>(answer: Result<T, GraphFault>) -> anyhow::Result<T> {
     }
 }
 
-pub fn told_base<T>(answer: Result<T, BaseFault>) -> anyhow::Result<T> {
+pub fn told_base<T>(answer: Result<T, HistoryFault>) -> anyhow::Result<T> {
     match answer {
         Ok(value) => Ok(value),
         Err(fault) => match fault {
-            BaseFault::Missing(id) | BaseFault::NotACommit(id) => bail!("{fault} {}", Shown(id)),
-            BaseFault::Store(_) => bail!("{fault}"),
+            HistoryFault::Missing(id) | HistoryFault::NotACommit(id) => bail!(
+                "{fault} {}",
+                Shown(id)
+            ),
+            HistoryFault::Store(_) => bail!("{fault}"),
         },
     }
 }

@@ -4,7 +4,7 @@ use crate::answers::Answer;
 use crate::ids::lettered;
 use crate::tables::Table;
 use std::alloc::{AllocError, Global};
-use vc_history::{BaseFault, Generations, commits, common_ancestors, is_ancestor, merge_bases};
+use vc_history::{Generations, HistoryFault, commits, common_ancestors, is_ancestor, merge_bases};
 use vc_object::ObjectId;
 
 /// A generator of numbers, told by its seed.
@@ -119,7 +119,7 @@ fn agrees_on_pair(
     parents: &[u32],
     a: u8,
     b: u8,
-) -> Result<bool, BaseFault> {
+) -> Result<bool, HistoryFault> {
     let of_a = ancestors(parents, bit(a));
     let of_b = ancestors(parents, bit(b));
     let (left, right) = (lettered(a), lettered(b));
@@ -144,7 +144,7 @@ fn selects(
     parents: &[u32],
     sets: (u32, u32),
     known: &Generations,
-) -> Result<bool, BaseFault> {
+) -> Result<bool, HistoryFault> {
     let (include, exclude) = sets;
     let selected = ancestors(parents, include) & !ancestors(parents, exclude);
     let (include, exclude) = (names(alloc, include)?, names(alloc, exclude)?);
@@ -158,7 +158,7 @@ fn agrees_on_sets(
     table: &mut Table,
     parents: &[u32],
     sets: (u32, u32),
-) -> Result<bool, BaseFault> {
+) -> Result<bool, HistoryFault> {
     let all = ancestors(parents, sets.0 | sets.1);
     table.reads = 0;
     let same = selects(alloc, table, parents, sets, &Generations::new(alloc))?;
@@ -166,7 +166,7 @@ fn agrees_on_sets(
 }
 
 // Whether all that is asked about the graph of a seed is answered so.
-fn agrees(alloc: Global, seed: u64) -> Result<bool, BaseFault> {
+fn agrees(alloc: Global, seed: u64) -> Result<bool, HistoryFault> {
     let mut numbers = Numbers::of(seed);
     let count = numbers.below(11).wrapping_add(2);
     let parents = random_graph(alloc, &mut numbers, count)?;
@@ -189,7 +189,7 @@ fn agrees_where_known(
     parents: &[u32],
     roots: u32,
     pair: (u8, u8),
-) -> Result<bool, BaseFault> {
+) -> Result<bool, HistoryFault> {
     let (a, b) = pair;
     let mut known = Generations::new(alloc);
     for root in names(alloc, roots)? {
@@ -210,7 +210,7 @@ fn agrees_where_known(
 }
 
 // Whether all is answered so where nothing is known of the graph of a seed, where all is, and where a part is.
-fn agrees_numbered(alloc: Global, seed: u64) -> Result<bool, BaseFault> {
+fn agrees_numbered(alloc: Global, seed: u64) -> Result<bool, HistoryFault> {
     let mut numbers = Numbers::of(seed);
     let count = numbers.below(11).wrapping_add(2);
     let parents = random_graph(alloc, &mut numbers, count)?;

@@ -1,14 +1,12 @@
 -- The blobs that are due, path by path.
 use Rattle.std.proofs.Common.{◌≡◌, ℕ, List, [], ◌∷◌, map, Option, Some, None, sym, ap, refl, ◌∙◌, subst}
-use Rattle.std.specs.Prelude.{T, Vec}
+use Rattle.std.specs.Prelude.{Vec}
 use Rattle.std.specs.Global.{Global}
 use Rattle.std.specs.Cmp.Lexicographic.{slice_cmp}
-use Rattle.std.specs.FinMap.{entries, entries_sorted, get, is_sorted}
-use Rattle.std.specs.FinMap.Entries.{below_all}
-use Rattle.std.specs.List.{AllByRecursion}
+use Rattle.std.specs.FinMap.{entries, entries_sorted, get}
 use Rattle.std.specs.List.Sorted.{IsStrictlySortedBy}
 use Rattle.std.specs.Ordering.{nat_cmp}
-use Rattle.std.specs.declared.cmp.Ordering.TheVariants.{Less}
+use Rattle.vc_files.proofs.KeyLemmas.{keys_rise}
 use Rattle.vc_files.specs.FileMap.{FileMap}
 use Rattle.vc_object.specs.Decoding.{StoredObject, stored_object}
 use Rattle.vc_object.specs.ObjectMap.{ObjectMap}
@@ -21,7 +19,6 @@ use Rattle.vc_index.specs.IndexMap.{IndexMap}
 use Rattle.vc_index.specs.declared.entry.IndexEntry.{IndexEntry}
 use Rattle.vc_index.specs.declared.faults.IndexFault.{IndexFault}
 use Rattle.vc_index.specs.declared.faults.IndexFault.TheVariants.{BadPath, PathConflict, BadIndex, WrongEntry, Missing, Store}
-use Rattle.vc_index.proofs.EntriesLemmas.{both_parts, less_of}
 use Rattle.vc_checkout.specs.Blobs.{BlamesBlob, BlamesBlobs, BlamesDue, HasDueBlob}
 use Rattle.vc_checkout.proofs.ClearLemmas.{Holds, holds_before}
 
@@ -53,15 +50,6 @@ module _ (objects : ObjectMap) (old new : Option IndexEntry) where
   same_entry x y p q = cc (p, q)
 
 -- ---- all paths
-keys_below : (k : List ℕ) (es : List (List ℕ × IndexEntry)) → T (below_all (slice_cmp nat_cmp) k es) → AllByRecursion (λ q. slice_cmp nat_cmp k q ≡ Less) (map (λ e. e.0) es)
-keys_below k [] h = tt
-keys_below k (e ∷ es) h = (less_of _ (both_parts _ _ h).0, keys_below k es (both_parts _ _ h).1)
-
-keys_rise : (es : List (List ℕ × IndexEntry)) → T (is_sorted (slice_cmp nat_cmp) es) → IsStrictlySortedBy (slice_cmp nat_cmp) (map (λ e. e.0) es)
-unfolding IsStrictlySortedBy
-keys_rise [] h = tt
-keys_rise (e ∷ es) h = (keys_below e.0 es (both_parts _ _ h).0, keys_rise es (both_parts _ _ h).1)
-
 -- the paths of an index are in order
 pub paths_rise : (es : List (Vec ℕ Global × IndexEntry)) (m : IndexMap) → map (λ e. (e.0.items, e.1)) es ≡ entries m → IsStrictlySortedBy (slice_cmp nat_cmp) (map (λ e. e.0.items) es)
 paths_rise es m is = subst (IsStrictlySortedBy (slice_cmp nat_cmp)) (sym (firsts es ∙ ap (map (λ (e : List ℕ × IndexEntry). e.0)) is)) (keys_rise (entries m) (entries_sorted m))

@@ -45,12 +45,6 @@ has_path-more m n k change q =
           cc (f, other)))
     ] refl
 
--- a path that was in the rest is now in the set
-pub moved : (a b c : Bool) → ((b || a) || c) ≡ (a || (b || c))
-moved true true c = refl
-moved true false c = refl
-moved false b c = elim b as (λ b. ((b || false) || c) ≡ (b || c)) [ true ↦ refl | false ↦ refl ]
-
 -- one path more of those that are listed
 pub listed_more : (all : List (String Global)) (i : ℕ) (path : String Global) → i < length all → path ≡ get_or all i path → (q : List ℕ)
     → is_listed q (map string_bytes (take (i + 1) all)) ≡ (is_listed q (map string_bytes (take i all)) || is_same q (string_bytes path))

@@ -64,7 +64,8 @@ abbrev pub MayChangeFolders : {W : Type 0} → (W → FileMap) → (W → Folder
 MayChangeFolders content folders IsMade IsLost old new =
     AreBetween (content new) (folders new) (λ one. IsFolder (content old) (folders old) one × ¬ (IsLost one)) (λ one. IsFolder (content old) (folders old) one ⊎ IsMade one)
 
--- where those that were there are what a checkout leaves of others, they are then those that it ends with
+-- the last step of a checkout: where the folders before it are what a checkout leaves of those of a work tree, those behind it are what
+-- it ends with
 abbrev pub EndsFolders : {W : Type 0} → (W → FileMap) → (W → Folders) → IndexMap → IndexMap → W → W → Type 0
 EndsFolders content folders index tree old new =
     (work : FileMap) (was : Folders) → AreFolders (content old) (folders old) (λ one. IsFolder work was one × ¬ (IsLeftBy index tree one))

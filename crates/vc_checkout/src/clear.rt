@@ -2,9 +2,8 @@
 ghost use Rattle.std.specs.Prelude.{◌≡◌, ◌≢◌, ◌⊎◌, ◌↔◌, ℕ, List, Some, IfOk, IfErr, OnOk, IsTrue, IsUtf8};
 ghost use Rattle.std.specs.FinMap as maps;
 ghost use Rattle.vc_files.specs.Failures.{Wears, unstopped};
-ghost use Rattle.vc_index.specs.declared.entry.IndexEntry.{IndexEntry as Entry};
 ghost use Rattle.vc_checkout.specs.CheckoutFault.{IsAgainst, IsFault, TellsDevice};
-ghost use Rattle.vc_checkout.specs.Refusal.{HasLocalChange, IsClear, IsDue, IsHindered, IsOther, IsRefused, RefusedAt};
+ghost use Rattle.vc_checkout.specs.Refusal.{HasLocalChange, IsClear, IsDue, IsOther, IsRefused, RefusedAt};
 ghost use Rattle.vc_checkout.specs.Steps.{IsUntouched};
 ghost use Rattle.vc_checkout.specs.WorkTree.{HasTextPaths, IsUntracked, has_path};
 

@@ -1,5 +1,5 @@
 // What differs between a tree, the index and the work tree.
-ghost use Rattle.std.specs.Prelude.{◌≡◌, ◌↔◌, ℕ, List, Option, Some, None, IfOk, IfErr, OnOk, IsTrue, is_some, map, option_map};
+ghost use Rattle.std.specs.Prelude.{◌≡◌, ◌↔◌, Option, Some, None, IfOk, IfErr, IsTrue, is_some, map, option_map};
 ghost use Rattle.std.specs.FinMap as maps;
 ghost use Rattle.vc_files.specs.Failures.{Wears, unstopped};
 ghost use Rattle.vc_object.specs.declared.id.ObjectId.{ObjectId as Id};

@@ -97,9 +97,6 @@ pub record Leads (m : IndexMap) (files : List File) (n : IndexMap) (rest : List 
   pub may : MayStandAll n (map file_placed rest) × AreBlobs rest → MayStandAll m (map file_placed files) × AreBlobs files
   pub first : (e : Failure) → RefusesFiles n rest e → RefusesFiles m files e
 
-pub leads_begin : (m : IndexMap) (files : List File) → Leads m files m files
-leads_begin m files = record { may = λ h. h; first = λ e h. h }
-
 module _ (m n : IndexMap) (files rest more : List File) (f : File) (leads : Leads m files n rest) (here : rest ≡ f ∷ more) where
   -- a file that is fine has its path in the index then, whatever stands there
   pub leads_more : (after : IndexMap) (w : IndexEntry) → after ≡ insert n f.path w → IsPath f.path → ¬ HasConflict n f.path → IsObject Blob f.body → Leads m files after more
@@ -112,12 +109,6 @@ module _ (m n : IndexMap) (files rest more : List File) (f : File) (leads : Lead
         );
         first = λ e h. leads.first e (subst (λ (fs : List File). RefusesFiles n fs e) (sym here) (inr (legal, free, object, same_refused more after (insert n f.path v) e same h)));
       }
-
-  pub leads_stop : (e : Failure) → IsOfFile n f e → RefusesFiles m files e
-  leads_stop e of = leads.first e (subst (λ (fs : List File). RefusesFiles n fs e) (sym here) (inl of))
-
-pub leads_end : (m n : IndexMap) (files rest : List File) → Leads m files n rest → rest ≡ [] → MayStandAll m (map file_placed files) × AreBlobs files
-leads_end m n files rest leads none = leads.may (subst (λ (fs : List File). MayStandAll n (map file_placed fs) × AreBlobs fs) (sym none) (tt, tt))
 
 -- ---- the machine refuses the first file that is at fault
 

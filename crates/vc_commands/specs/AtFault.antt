@@ -4,8 +4,8 @@ use Rattle.std.specs.Prelude.{◌≡◌, ◌==◌, ◌||◌, ◌+◌, ◌-◌, �
 use Rattle.std.specs.Global.{Global}
 use Rattle.std.specs.List.{flat_map}
 use Rattle.hex.specs.Hex.{encode_lower}
-use Rattle.vc_history.specs.declared.fault.BaseFault.{BaseFault}
-use Rattle.vc_history.specs.declared.fault.BaseFault.TheVariants as bases
+use Rattle.vc_history.specs.declared.fault.HistoryFault.{HistoryFault}
+use Rattle.vc_history.specs.declared.fault.HistoryFault.TheVariants as bases
 use Rattle.vc_node.specs.declared.fault.NodeFault.{NodeFault}
 use Rattle.vc_node.specs.declared.fault.NodeFault.TheVariants as nodes
 use Rattle.vc_refs.specs.declared.faults.RefFault.{RefFault}
@@ -17,7 +17,7 @@ use Rattle.vc_rev.specs.declared.refusal.SourceFault.TheVariants as sources
 use Rattle.vc_store.specs.declared.faults.StoreFault.{StoreFault}
 use Rattle.vc_store.specs.declared.faults.StoreFault.TheVariants as stores
 use Rattle.vc_commands.specs.declared.failure.Failure.{Failure}
-use Rattle.vc_commands.specs.declared.failure.Failure.TheVariants.{LocalChange, InTheWay, NotText, NoSuchPath, Node, Revision, Store, Base, Refs, Syntax, BadScript, Usage}
+use Rattle.vc_commands.specs.declared.failure.Failure.TheVariants.{LocalChange, InTheWay, NotText, NoSuchPath, Node, Revision, Store, History, Refs, Syntax, BadScript, Usage}
 use Rattle.vc_commands.specs.declared.faults.Faults.{Faults}
 use Rattle.vc_node.specs.Printed.{node_fault_text}
 use Rattle.vc_rev.specs.Printed.{parse_fault_text, rev_fault_text}
@@ -74,10 +74,10 @@ of_revision (revs.NotACommit id) = Some (encode_lower id.0)
 of_revision (revs.Source fault) = of_source fault
 of_revision (revs.Refused refusal) = None
 
-abbrev pub of_base : BaseFault → Option (List ℕ)
-of_base (bases.Missing id) = Some (encode_lower id.0)
-of_base (bases.NotACommit id) = Some (encode_lower id.0)
-of_base (bases.Store fault) = of_store fault
+abbrev pub of_history : HistoryFault → Option (List ℕ)
+of_history (bases.Missing id) = Some (encode_lower id.0)
+of_history (bases.NotACommit id) = Some (encode_lower id.0)
+of_history (bases.Store fault) = of_store fault
 
 abbrev pub of_node : NodeFault → Option (List ℕ)
 of_node (nodes.Store fault) = of_store fault
@@ -96,7 +96,7 @@ of_failure (NotText path) = named path.items
 of_failure (Node fault) = of_node fault
 of_failure (Revision fault) = of_revision fault
 of_failure (Store fault) = of_store fault
-of_failure (Base fault) = of_base fault
+of_failure (History fault) = of_history fault
 of_failure (Refs fault) = of_ref fault
 of_failure _ = None
 

@@ -1,6 +1,6 @@
 -- What a failure of a command means for its exit status.
 use Rattle.std.specs.Prelude.{ℕ, ⊤, if◌then◌else◌}
-use Rattle.vc_history.specs.declared.fault.BaseFault.TheVariants.{Store as BaseStore}
+use Rattle.vc_history.specs.declared.fault.HistoryFault.TheVariants.{Store as HistoryStore}
 use Rattle.vc_refs.specs.declared.faults.RefFault.TheVariants.{Fault as RefFaulted}
 use Rattle.vc_rev.specs.declared.fault.ParseFault.TheVariants.{Memory}
 use Rattle.vc_rev.specs.declared.refusal.RevFault.{RevFault}
@@ -16,7 +16,7 @@ use Rattle.vc_node.specs.declared.fault.NodeFault.{NodeFault}
 use Rattle.vc_remote.specs.Faults.{is_fault as is_remote_fault}
 use Rattle.vc_remote.specs.declared.fault.RemoteFault.{RemoteFault}
 use Rattle.vc_commands.specs.declared.failure.Failure.{Failure}
-use Rattle.vc_commands.specs.declared.failure.Failure.TheVariants.{Store, Base, Refs, Usage, Fault, Syntax, Revision, Node, Remote, LocalChange, InTheWay, NotText}
+use Rattle.vc_commands.specs.declared.failure.Failure.TheVariants.{Store, History, Refs, Usage, Fault, Syntax, Revision, Node, Remote, LocalChange, InTheWay, NotText}
 
 -- want of memory, or a device that failed
 abbrev pub IsFault : Failure → Type 0
@@ -51,7 +51,7 @@ status_of (Revision fault) = revision_status fault
 status_of (Node fault) = node_status fault
 status_of (Remote fault) = remote_status fault
 status_of (Store (StoreFaulted fault)) = 3
-status_of (Base (BaseStore (StoreFaulted fault))) = 3
+status_of (History (HistoryStore (StoreFaulted fault))) = 3
 status_of (Refs (RefFaulted fault)) = 3
 status_of _ = 1
 

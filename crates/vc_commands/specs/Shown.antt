@@ -3,7 +3,7 @@ use Rattle.std.specs.Prelude.{◌≡◌, ◌⊎◌, ◌↔◌, ℕ, Bool, not, �
 use Rattle.std.specs.List.{flat_map}
 use Rattle.std.specs.Io.KnownBytes.{Appends}
 use Rattle.hex.specs.Hex.{encode_lower}
-use Rattle.vc_history.specs.BaseFault.{IsTold}
+use Rattle.vc_history.specs.HistoryFault.{IsTold}
 use Rattle.vc_history.specs.History.{IsBestCommonAncestor}
 use Rattle.vc_files.specs.FileMap.{FileMap}
 use Rattle.vc_object.specs.Decoding.{StoredObject}
@@ -19,7 +19,7 @@ use Rattle.vc_commands.specs.HashObject.{id_line}
 use Rattle.vc_commands.specs.declared.arguments.Part.{Part}
 use Rattle.vc_commands.specs.declared.arguments.Part.TheVariants.{Kind, Size, Body}
 use Rattle.vc_commands.specs.declared.failure.Failure.{Failure}
-use Rattle.vc_commands.specs.declared.failure.Failure.TheVariants.{Store, Base, Refs, Fault}
+use Rattle.vc_commands.specs.declared.failure.Failure.TheVariants.{Store, History, Refs, Fault}
 
 -- what `cat-file` prints of an object: its kind and LF, the length of its body in decimal and LF, or its body
 abbrev pub part_text : Part → StoredObject → List ℕ
@@ -59,7 +59,7 @@ pub record PrintsBases (objects : ObjectMap) (a b : ObjectId) (old new : Option 
 
 -- why no common ancestor is printed: what stands in the way in the history of the two, or a fault
 abbrev pub IsOfBases : FileMap → ObjectId → ObjectId → Failure → Type 0
-IsOfBases content a b (Base fault) = IsTold (objects content) (IsDamaged content) (a ∷ b ∷ []) fault
+IsOfBases content a b (History fault) = IsTold (objects content) (IsDamaged content) (a ∷ b ∷ []) fault
 IsOfBases content a b (Fault fault) = ⊤
 IsOfBases content a b _ = ⊥
 

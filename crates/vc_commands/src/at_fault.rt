@@ -1,11 +1,11 @@
 //! What a refusal is about, as a person reads it: the path, the object, the file of the store that the refusal itself names.
 ghost use Rattle.std.specs.Prelude.{◌≡◌, ◌++◌, IfOk, OnOk, Some};
 ghost use Rattle.hex.specs.Hex.{encode_lower};
-ghost use Rattle.vc_commands.specs.AtFault.{IsPlace, at_line, named, octal, of_base, of_failure, of_node, of_ref, of_revision, of_source, of_store, quoted_byte};
+ghost use Rattle.vc_commands.specs.AtFault.{IsPlace, at_line, named, octal, of_history, of_failure, of_node, of_ref, of_revision, of_source, of_store, quoted_byte};
 
 use crate::failure::Failure;
 use std::alloc::{AllocError, Global};
-use vc_history::BaseFault;
+use vc_history::HistoryFault;
 use vc_node::NodeFault;
 use vc_object::ObjectId;
 use vc_refs::RefFault;
@@ -70,7 +70,7 @@ pub fn named_by(alloc: Global, failure: &Failure) -> Result<Option<Vec<u8>>, All
         Failure::Node(fault) => named_by_node(alloc, fault),
         Failure::Revision(fault) => named_by_revision(alloc, fault),
         Failure::Store(fault) => named_by_store(alloc, fault),
-        Failure::Base(fault) => named_by_base(alloc, fault),
+        Failure::History(fault) => named_by_history(alloc, fault),
         Failure::Refs(fault) => named_by_ref(alloc, fault),
         _ => Ok(None),
     }
@@ -122,13 +122,13 @@ fn named_by_store(alloc: Global, fault: &StoreFault) -> Result<Option<Vec<u8>>, 
     }
 }
 
-fn named_by_base(alloc: Global, fault: &BaseFault) -> Result<Option<Vec<u8>>, AllocError>
-    ensures { IfOk result (IsPlace (of_base fault.now)) }
+fn named_by_history(alloc: Global, fault: &HistoryFault) -> Result<Option<Vec<u8>>, AllocError>
+    ensures { IfOk result (IsPlace (of_history fault.now)) }
 {
     match fault {
-        BaseFault::Missing(id) => id_at(alloc, id),
-        BaseFault::NotACommit(id) => id_at(alloc, id),
-        BaseFault::Store(fault) => named_by_store(alloc, fault),
+        HistoryFault::Missing(id) => id_at(alloc, id),
+        HistoryFault::NotACommit(id) => id_at(alloc, id),
+        HistoryFault::Store(fault) => named_by_store(alloc, fault),
     }
 }
 

@@ -140,8 +140,8 @@ pub fn commit_index<F: Files, O: Write>(
     revisions: &[&str],
     output: &mut O,
 ) -> (F, Result<(), Failure>)
-    ensures committed { F.honest → OnOk result.1 (CommitsSaid (F.content files) (map (λ r. r.now) revisions.now) words.entry (F.content result.0) (O.contents output.old) (O.contents output.new)) }
-    ensures refused { F.honest → IfErr result.1 (IsOfSaid (F.content files) (map (λ r. r.now) revisions.now) words.entry (F.content result.0) (O.contents output.old) (O.contents output.new)) }
+    ensures committed { F.honest → OnOk result.1 (CommitsSaid (F.content files) (map (λ revision. revision.now) revisions.now) words.entry (F.content result.0) (O.contents output.old) (O.contents output.new)) }
+    ensures refused { F.honest → IfErr result.1 (IsOfSaid (F.content files) (map (λ revision. revision.now) revisions.now) words.entry (F.content result.0) (O.contents output.old) (O.contents output.new)) }
 {
     match parents_named(alloc, &mut files, revisions) {
         Ok(parents) => commit_on(alloc, files, words, &parents, output),

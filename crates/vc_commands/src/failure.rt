@@ -3,7 +3,7 @@ ghost use Rattle.std.specs.Prelude.{◌≡◌, IfOk, IfErr, IfSome, OnOk};
 ghost use Rattle.std.specs.Option.{option_map};
 ghost use Rattle.vc_files.specs.declared.faults.Fault.TheVariants.{Memory};
 ghost use Rattle.vc_commands.specs.AtFault.{AppendsFailure};
-ghost use Rattle.vc_commands.specs.declared.failure.Failure.TheVariants.{Object, Store, Base, Refs, Fault, Syntax, Revision, Node, Remote};
+ghost use Rattle.vc_commands.specs.declared.failure.Failure.TheVariants.{Object, Store, History, Refs, Fault, Syntax, Revision, Node, Remote};
 ghost use Rattle.vc_rev.specs.declared.refusal.RevFault.TheVariants.{Source};
 ghost use Rattle.vc_node.specs.NodeFault.{of_index};
 ghost use Rattle.vc_commands.specs.Failure.{revision_status, source_status, store_status, node_status, remote_status, of_checkout};
@@ -14,7 +14,7 @@ use std::fmt;
 use std::io::{self, ErrorKind, Write};
 use vc_checkout::CheckoutFault;
 use vc_files::Fault;
-use vc_history::BaseFault;
+use vc_history::HistoryFault;
 use vc_index::IndexFault;
 use vc_node::NodeFault;
 use vc_object::ObjectFault;
@@ -47,7 +47,7 @@ pub enum Failure {
     /// What the store refused.
     Store(StoreFault),
     /// What a walk over commits refused.
-    Base(BaseFault),
+    History(HistoryFault),
     /// A text that is no ref name.
     Name(NameFault),
     /// What the refs refused.
@@ -78,7 +78,7 @@ impl fmt::Display for Failure {
             Failure::NoSuchPath => fmt::Display::fmt(&Refusal::NoSuchPath, f),
             Failure::Object(fault) => fmt::Display::fmt(fault, f),
             Failure::Store(fault) => fmt::Display::fmt(fault, f),
-            Failure::Base(fault) => fmt::Display::fmt(fault, f),
+            Failure::History(fault) => fmt::Display::fmt(fault, f),
             Failure::Name(fault) => fmt::Display::fmt(fault, f),
             Failure::Refs(fault) => fmt::Display::fmt(fault, f),
             Failure::Remote(fault) => fmt::Display::fmt(fault, f),
@@ -104,12 +104,12 @@ impl Failure {
             Failure::Node(fault) => node_status(fault),
             Failure::Syntax(ParseFault::Memory)
             | Failure::Store(StoreFault::Fault(_))
-            | Failure::Base(BaseFault::Store(StoreFault::Fault(_)))
+            | Failure::History(HistoryFault::Store(StoreFault::Fault(_)))
             | Failure::Refs(RefFault::Fault(_))
             | Failure::Fault(_) => 3,
             Failure::Syntax(_) => 1,
             Failure::Revision(fault) => revision_status(fault),
-            Failure::Store(_) | Failure::Base(_) | Failure::Refs(_) => 1,
+            Failure::Store(_) | Failure::History(_) | Failure::Refs(_) => 1,
             Failure::Remote(fault) => remote_status(fault),
             Failure::Usage(_) => 2,
         }
@@ -123,7 +123,7 @@ impl Failure {
         faults: &mut Faults<W>,
     ) -> Result<u8, Failure>
         ensures status { IfOk result (λ status. status ≡ status_of self.now) }
-        ensures told { OnOk result (IfSome (failure_text self.now) (AppendsFailure W.contents faults.old faults.new (option_map (λ l. l.now) behind.entry))) }
+        ensures told { OnOk result (IfSome (failure_text self.now) (AppendsFailure W.contents faults.old faults.new (option_map (λ line. line.now) behind.entry))) }
         ensures fault { IfErr result IsFault }
     {
         self.print(&mut faults.stream)?;
@@ -307,11 +307,11 @@ impl From<SourceFault> for Failure {
     }
 }
 
-impl From<BaseFault> for Failure {
-    ghost from_gives = { λ fault e. e ≡ Base fault };
+impl From<HistoryFault> for Failure {
+    ghost from_gives = { λ fault e. e ≡ History fault };
 
-    fn from(fault: BaseFault) -> Failure {
-        Failure::Base(fault)
+    fn from(fault: HistoryFault) -> Failure {
+        Failure::History(fault)
     }
 }
 

@@ -1,7 +1,6 @@
 //! The subcommand `merge-base`: the best common ancestors of two commits.
 ghost use Rattle.std.specs.Prelude.{◌≡◌, ◌⊎◌, IfOk, IfErr};
 ghost use Rattle.std.specs.Io.KnownBytes.{Keeps};
-ghost use Rattle.vc_files.specs.FileMap.{FileMap};
 ghost use Rattle.vc_store.specs.Store.{objects};
 ghost use Rattle.vc_commands.specs.Failure.{IsFault};
 ghost use Rattle.vc_commands.specs.Shown.{IsOfBases, PrintsBases};
@@ -53,7 +52,7 @@ pub fn print_bases<F: Files, O: Write>(
     let mut commits = Store::new(alloc, files);
     let bases = match merge_bases(alloc, &mut commits, first, second, &generations) {
         Ok(bases) => bases,
-        Err(fault) => return Err(Failure::Base(fault)),
+        Err(fault) => return Err(Failure::History(fault)),
     };
     let lines = id_lines(alloc, &bases)?;
     print_text(&lines, output)?;

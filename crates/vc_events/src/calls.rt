@@ -1,5 +1,4 @@
 // The calls of the nodes.
-ghost use Rattle.std.specs.Prelude.{◌≡◌};
 ghost use Rattle.vc_message.specs.Machine.{Reads};
 ghost use Rattle.vc_model.specs.Clone.{CloneNode};
 ghost use Rattle.vc_model.specs.CloneCall.CloneCall.{Asks, Open, Receive};

@@ -3,18 +3,16 @@ use Rattle.std.proofs.Common.{◌≡◌, ℕ, Bool, true, false, cond, inl, inr,
 use Rattle.std.specs.Prelude.{IfErr, IfOk, IsErrOf}
 use Rattle.vc_files.specs.FileMap.{FileMap}
 use Rattle.vc_files.specs.declared.faults.Fault.TheVariants.{Device}
-use Rattle.vc_graph.specs.GraphFault.{IsMet}
 use Rattle.vc_object.specs.declared.id.ObjectId.{ObjectId}
 use Rattle.vc_refs.proofs.LayeredChangeLemmas.{refs_free}
-use Rattle.vc_refs.specs.RefFault.{BlamesRef, BlamesSet}
+use Rattle.vc_refs.specs.RefFault.{BlamesSet}
 use Rattle.vc_refs.specs.Refs.{refs}
 use Rattle.vc_refs.specs.Obstacle.{IsFree}
 use Rattle.vc_refs.specs.declared.faults.RefFault.{RefFault}
 use Rattle.vc_refs.specs.declared.faults.RefFault.TheVariants as fault
-use Rattle.vc_store.specs.Store.{IsDamaged, objects}
-use Rattle.vc_store.specs.declared.faults.StoreFault.{StoreFault}
+use Rattle.vc_store.specs.Store.{objects}
 use Rattle.vc_store.specs.declared.faults.StoreFault.TheVariants as of_store
-use Rattle.vc_exchange.specs.Faults.{BlamesFiles, BlamesRefs, from_refs, from_store}
+use Rattle.vc_exchange.specs.Faults.{BlamesRefs}
 use Rattle.vc_exchange.specs.Moving.{IsDecided, IsFreeAmong, IsMove, IsSetWhereFree, MayFollow, MayMove, passed_over}
 use Rattle.vc_exchange.specs.declared.moving.Followed.{Followed}
 
@@ -36,15 +34,6 @@ module _ (content : FileMap) (to : List ℕ) (current : Option ObjectId) where
   passed_blames (fault.BadRefFile path) is b = elim b [ inl packed ↦ inr packed | inr own ↦ inl own.1 ]
   passed_blames fault.HeadLoop is b = b
   passed_blames (fault.Fault f) is b = tt
-
-pub device_told : (T : Type 0) (e : RefFault) → ◌≡◌ {A = Result T RefFault} (Err e) (Err (fault.Fault Device)) → IsErrOf (passed_over e) (fault.Fault Device)
-device_told T (fault.Stale current) h = absurd (cc h)
-device_told T (fault.Conflict other) h = absurd (cc h)
-device_told T (fault.BadRefFile path) h = absurd (cc h)
-device_told T fault.HeadLoop h = absurd (cc h)
-device_told T (fault.Fault f) h =
-    let same : f ≡ Device = cc in
-    ap (λ x. Err (fault.Fault x)) same
 
 pub device_meant : (T : Type 0) (e : RefFault) → IsErrOf (passed_over e) (fault.Fault Device) → ◌≡◌ {A = Result T RefFault} (Err e) (Err (fault.Fault Device))
 device_meant T (fault.Stale current) h = absurd (cc h)

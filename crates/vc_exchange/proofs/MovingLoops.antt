@@ -13,16 +13,12 @@ use Rattle.vc_refs.specs.declared.faults.RefFault.TheVariants as of_refs
 use Rattle.vc_rules.proofs.WholeLemmas.{refs_whole}
 use Rattle.vc_rules.specs.Git.{git}
 use Rattle.vc_rules.specs.OpenPushes.{HoldsContent}
-use Rattle.vc_session.specs.Clean.{MakesNoneBad}
 use Rattle.vc_session.specs.Known.{AreRefsWhole, AreWhole}
 use Rattle.vc_session.specs.declared.known.Known.{Known}
 use Rattle.vc_session.proofs.FrameLemmas.{objects-same}
 use Rattle.vc_store.specs.Store.{object_path, objects}
 use Rattle.vc_store.specs.declared.faults.StoreFault.TheVariants as of_store
-use Rattle.vc_exchange.specs.Faults.{BlamesFiles}
 use Rattle.vc_exchange.specs.Moving.{Told, told_in}
-use Rattle.vc_exchange.specs.declared.fault.ExchangeFault.{ExchangeFault}
-use Rattle.vc_exchange.specs.declared.fault.ExchangeFault.TheVariants.{Store, Refs, Incomplete, Fault}
 
 abbrev pub Item : Type 0
 Item = Vec ℕ Global × ObjectId
@@ -44,20 +40,6 @@ module _ (told : List Item) (i : ℕ) where
 
     pub front_next : told_in (take i told) ++ told_of item ∷ told_in (drop (suc i) told) ≡ told_in told
     front_next = ap (λ (x : Item). told_in (take i told) ++ told_of x ∷ told_in (drop (suc i) told)) is ∙ ap (λ (l : List Item). told_in (take i told) ++ told_in l) (sym (drop-cons told i item within)) ∙ front_rest
-
--- what is at fault now was so before
-pub blames_before : (old new : FileMap) → MakesNoneBad old new → (e : ExchangeFault) → BlamesFiles new e → BlamesFiles old e
-blames_before old new none (Store (of_store.BadObject fault)) b = b
-blames_before old new none (Store (of_store.Absent id)) b = b
-blames_before old new none (Store (of_store.Damaged id)) b = none.objects id b
-blames_before old new none (Store (of_store.Fault fault)) b = tt
-blames_before old new none (Refs (of_refs.Stale current)) b = b
-blames_before old new none (Refs (of_refs.Conflict other)) b = b
-blames_before old new none (Refs (of_refs.BadRefFile path)) b = none.refs _ b
-blames_before old new none (Refs of_refs.HeadLoop) b = b
-blames_before old new none (Refs (of_refs.Fault fault)) b = tt
-blames_before old new none (Incomplete id) never = absurd never
-blames_before old new none (Fault fault) b = tt
 
 -- what is whole stays so where no object changes
 pub objects_stay : (old new : FileMap) → SameOutside (codes "refs/") old new → objects new ≡ objects old

@@ -19,14 +19,13 @@ use Rattle.vc_push.specs.declared.report.Told.{Told as Command}
 use Rattle.vc_rules.specs.Git.{git}
 use Rattle.vc_rules.proofs.JoinLemmas.{none_added}
 use Rattle.vc_exchange.specs.Deeds.{ChangesAt, IsCutShort, IsReceived}
-use Rattle.vc_exchange.specs.Moving.{AreFrontMoved, AreMoved, MovesSome, Told, machine_refs, told_in}
+use Rattle.vc_exchange.specs.Moving.{AreFrontMoved, AreMoved, MovesSome, Told, machine_refs}
 use Rattle.vc_exchange.specs.Receiving.{AcceptedAgree, BlamesAdvert, accepted}
 use Rattle.vc_exchange.specs.Wanting.{BlamesWanting}
 use Rattle.vc_exchange.specs.declared.fault.ExchangeFault.{ExchangeFault}
 use Rattle.vc_exchange.specs.declared.moving.Followed.TheVariants.{Branches}
 use Rattle.vc_exchange.specs.declared.receiving.Advertised.{Advertised}
 use Rattle.vc_exchange.proofs.DeedLemmas.{all_received, front_received, some_received}
-use Rattle.vc_exchange.proofs.MovingLoops.{Item, told_append}
 
 pub accepted_agree : AcceptedAgree
 accepted_agree [] = refl
@@ -56,10 +55,6 @@ pub next_accepted : (told : List Command) (i : ℕ) (command : Command) → i < 
 next_accepted told i command within is =
     sym (accepted_append (map told_of (take i told)) (told_of command ∷ [])) ∙ ap accepted (sym (map_append (take i told) (command ∷ []))) ∙ ap (λ (x : Command). accepted (map told_of (take i told ++ x ∷ []))) is
     ∙ ap (λ (l : List Command). accepted (map told_of l)) (sym (take_more told i command within))
-
--- one more ref
-pub pushed : (refs more : List Item) (item : Item) → more ≡ refs ++ item ∷ [] → told_in more ≡ told_in refs ++ (item.0.items, item.1) ∷ []
-pushed refs more item e = ap told_in e ∙ told_append refs (item ∷ [])
 
 -- ---- what is refused
 abbrev refused : List ToldText → List ℕ

@@ -1,14 +1,10 @@
 -- A push that is made of a clone's files is the machine's, and is read as it is written.
 use Rattle.std.proofs.Common.{◌≡◌, ◌≢◌, ◌<◌, ◌≤◌, ◌⊎◌, ◌||◌, ◌==◌, inl, inr, ⊎_elim, ℕ, Bool, true, false, true≢false, cond, nat_eq, List, [], ◌∷◌, drop, length, get_or, replicate, zero, suc, map, Option, Some, None, Result, Ok, Err, Contains, refl, sym, ap, ◌∙◌, subst, arith}
-use Rattle.std.specs.Prelude.{IsSome, codes, is_some, option_and_then, option_map, unwrap_or}
+use Rattle.std.specs.Prelude.{IsSome, codes, is_some, option_map, unwrap_or}
 use Rattle.std.specs.FinMap as files
 use Rattle.std.specs.FinMap.{get}
 use Rattle.std.specs.List.{All, AllByRecursion, cons_option, flat_map, list_any, starts_with}
-use Rattle.std.specs.List.Sorted.{IsStrictlySortedBy}
-use Rattle.std.specs.Cmp.{tied_itself}
-use Rattle.std.specs.Ordering.{is_eq, ordering_reverse}
 use Rattle.std.specs.Result.{result_ok}
-use Rattle.std.specs.declared.cmp.Ordering.TheVariants.{Less}
 use Rattle.std.proofs.lemmas.Bool.{and_parts, ltb-false, or_from, or_parts}
 use Rattle.std.proofs.lemmas.Bool.Decides.{Decides-eqb, nat_tests}
 use Rattle.std.proofs.lemmas.List.{length-map}
@@ -49,13 +45,14 @@ use Rattle.vc_model.specs.Object.{Id, Object, Objects, stored}
 use Rattle.vc_model.specs.Object as model
 use Rattle.vc_model.specs.Refs.{branch, tracking}
 use Rattle.vc_model.specs.Repository.{IsSound, Repository}
-use Rattle.vc_object.proofs.IdLemmas.{id_cmp_total, id_eq-same}
+use Rattle.vc_object.proofs.IdLemmas.{id_eq-same}
 use Rattle.vc_object.specs.Decoding.{StoredObject}
 use Rattle.vc_object.specs.Lines.{IsId}
 use Rattle.vc_object.specs.Object.{IsObject}
-use Rattle.vc_object.specs.ObjectId.{IsSortedByName, id_cmp, id_eq, is_id}
+use Rattle.vc_object.specs.ObjectId.{IsSortedByName, id_eq, is_id}
 use Rattle.vc_object.specs.ObjectMap.{links_in}
 use Rattle.vc_object.specs.declared.id.ObjectId.{ObjectId}
+use Rattle.vc_pkt.proofs.CarriedOnce.{each_named}
 use Rattle.vc_pkt.specs.Carried.{object_named, stored_name}
 use Rattle.vc_pkt.specs.Line.{spelling}
 use Rattle.vc_pkt.specs.Message.{IsSpelledBy}
@@ -202,25 +199,6 @@ item_given (j ∷ js) x (i, among, is) =
 
 -- ---- the objects that are sent
 module _ (content : FileMap) (ids : List ObjectId) (set : List StoredObject) (sorted : IsSortedByName (map stored_name set)) (sent : AreSent content ids set) where
-  above : (o : StoredObject) (os : List StoredObject) → AllByRecursion (λ y. id_cmp (stored_name o) y ≡ Less) (map stored_name os)
-      → AllByRecursion (λ p. object_named (stored_name p) os ≡ Some p) os → AllByRecursion (λ p. object_named (stored_name p) (o ∷ os) ≡ Some p) os
-  above o os less found = all os less found
-    where
-      all : (ps : List StoredObject) → AllByRecursion (λ y. id_cmp (stored_name o) y ≡ Less) (map stored_name ps) → AllByRecursion (λ p. object_named (stored_name p) os ≡ Some p) ps
-          → AllByRecursion (λ p. object_named (stored_name p) (o ∷ os) ≡ Some p) ps
-      all [] less found = tt
-      all (p ∷ ps) less found =
-          let apart : is_eq (id_cmp (stored_name p) (stored_name o)) ≡ false = ap is_eq (id_cmp_total.antisymm (stored_name p) (stored_name o) ∙ ap ordering_reverse less.0) in
-          (ap (λ b. cond b (Some o) (object_named (stored_name p) os)) apart ∙ found.0, all ps less.1 found.1)
-
-  each_named : (os : List StoredObject) → IsSortedByName (map stored_name os) → AllByRecursion (λ o. object_named (stored_name o) os ≡ Some o) os
-  unfolding IsStrictlySortedBy
-  each_named [] sorted = tt
-  each_named (o ∷ os) sorted = (
-    ap (λ b. cond b (Some o) (object_named (stored_name o) os)) (ap is_eq (tied_itself id_cmp_total (stored_name o))),
-    above o os sorted.0 (each_named os sorted.1),
-  )
-
   all_are : (P : StoredObject → Type 0) → ((o : StoredObject) → IsObject o.kind o.body → P o) → (os : List StoredObject) → AllByRecursion (λ o. object_named (stored_name o) set ≡ Some o) os → AllByRecursion P os
   all_are P holds [] found = tt
   all_are P holds (o ∷ os) found = (holds o (objects_sound content (stored_name o) o ((sent (stored_name o) o).0 found.0).1), all_are P holds os found.1)

@@ -1,26 +1,23 @@
 -- What a pack brings is stored, one object after another, in order of name.
 use Rattle.std.proofs.Common.{◌≡◌, ◌⊎◌, inl, inr, ℕ, Bool, true, false, cond, List, [], ◌∷◌, map, Option, Some, None, refl, sym, ap, ◌∙◌, subst, w8}
-use Rattle.std.specs.Prelude.{codes, option_and_then, unwrap_or}
-use Rattle.std.specs.List.{AllByRecursion}
-use Rattle.std.specs.List.Sorted.{IsStrictlySortedBy}
+use Rattle.std.specs.Prelude.{codes, unwrap_or}
 use Rattle.std.specs.Option.{option_or}
-use Rattle.std.specs.Ordering.{is_eq}
-use Rattle.std.specs.declared.cmp.Ordering.TheVariants.{Less}
 use Rattle.std.proofs.Math.Facts.{Fits-of_lt}
 use Rattle.vc_fetch.specs.Pack.{is_object}
 use Rattle.vc_files.specs.FileMap.{FileMap, SameOutside}
-use Rattle.vc_format.proofs.Names.{byte_of, name_bytes, name_length}
+use Rattle.vc_object.proofs.Names.{byte_of, name_bytes, name_length}
 use Rattle.vc_graph.specs.Overlay.{with_carried}
-use Rattle.vc_object.proofs.IdLemmas.{id_eq-same, id_ties, is_id-from_array}
+use Rattle.vc_object.proofs.IdLemmas.{id_eq-same, is_id-from_array}
 use Rattle.vc_object.specs.Decoding.{StoredObject, stored_object}
 use Rattle.vc_object.specs.Object.{object_bytes, object_name}
-use Rattle.vc_object.specs.ObjectId.{IsSortedByName, id_cmp, id_eq, is_id}
+use Rattle.vc_object.specs.ObjectId.{IsSortedByName, id_eq, is_id}
 use Rattle.vc_object.specs.ObjectMap.{ObjectMap}
 use Rattle.vc_object.specs.declared.id.ObjectId.{ObjectId}
 use Rattle.vc_object.specs.declared.kind.Kind.{Kind}
-use Rattle.vc_pkt.specs.Carried.{object_named, stored_name}
+use Rattle.vc_pkt.specs.Carried.{stored_name}
 use Rattle.vc_pkt.specs.StreamObjectView.{AreNamed, stored}
 use Rattle.vc_pkt.specs.declared.carried.StreamObject.{StreamObject}
+use Rattle.vc_session.proofs.CarryingLemmas.{in_none, in_step, nothing_in, once, or_none}
 use Rattle.vc_session.proofs.CleanLemmas.{bad_objects}
 use Rattle.vc_session.proofs.DamageLemmas.{damaged_before}
 use Rattle.vc_session.specs.Carrying.{objects_in}
@@ -28,43 +25,7 @@ use Rattle.vc_session.specs.Clean.{MakesNoneBad}
 use Rattle.vc_store.specs.Store.{objects, with_file, with_object}
 use Rattle.vc_exchange.specs.Storing.{AreSomeStored, AreStored}
 
--- ---- what comes, name by name
-same_test : (id : ObjectId) (o : StoredObject) → is_eq (id_cmp id (stored_name o)) ≡ id_eq id (stored_name o)
-same_test id o = sym (id_ties id (stored_name o))
-
-found_step : (id : ObjectId) (o : StoredObject) (os : List StoredObject) → object_named id (o ∷ os) ≡ cond (id_eq id (stored_name o)) (Some o) (object_named id os)
-found_step id o os = ap (λ b. cond b (Some o) (object_named id os)) (same_test id o)
-
-abbrev kept : StoredObject → Option StoredObject
-kept o = cond (is_object o) (Some o) None
-
-in_step : (id : ObjectId) (o : StoredObject) (os : List StoredObject) (b : Bool) → id_eq id (stored_name o) ≡ b → objects_in (o ∷ os) id ≡ cond b (kept o) (objects_in os id)
-unfolding objects_in
-in_step id o os true is = ap (option_and_then kept) (found_step id o os ∙ ap (λ b. cond b (Some o) (object_named id os)) is)
-in_step id o os false is = ap (option_and_then kept) (found_step id o os ∙ ap (λ b. cond b (Some o) (object_named id os)) is)
-
-in_none : (id : ObjectId) (os : List StoredObject) → object_named id os ≡ None → objects_in os id ≡ None
-unfolding objects_in
-in_none id os none = ap (option_and_then kept) none
-
-nothing_in : (id : ObjectId) → objects_in [] id ≡ None
-unfolding objects_in
-nothing_in id = refl
-
--- in order of name no later object has the first one's name
-above : (o : StoredObject) (os : List StoredObject) → AllByRecursion (λ y. id_cmp (stored_name o) y ≡ Less) (map stored_name os) → object_named (stored_name o) os ≡ None
-above o [] all = refl
-above o (p ∷ ps) all = ap (λ c. cond (is_eq c) (Some p) (object_named (stored_name o) ps)) all.0 ∙ above o ps all.1
-
-once : (id : ObjectId) (o : StoredObject) (os : List StoredObject) → IsSortedByName (map stored_name (o ∷ os)) → id_eq id (stored_name o) ≡ true → object_named id os ≡ None
-unfolding IsStrictlySortedBy
-once id o os sorted same = ap (λ n. object_named n os) (id_eq-same id (stored_name o) same) ∙ above o os sorted.0
-
 -- ---- so far
-or_none : (o : Option StoredObject) → option_or o None ≡ o
-or_none None = refl
-or_none (Some x) = refl
-
 -- what is stored, and what is still to come, are all; nothing that was stored is gone
 pub record IsStoring (old now : FileMap) (all rest : List StoredObject) : Type 0 where
   pub same : (id : ObjectId) → option_or (objects old id) (objects_in all id) ≡ option_or (objects now id) (objects_in rest id)

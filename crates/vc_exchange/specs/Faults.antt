@@ -1,8 +1,10 @@
 -- What an exchange is refused for.
-use Rattle.std.specs.Prelude.{⊤, string_bytes}
+use Rattle.std.specs.Prelude.{⊤, ℕ, Option, Result, IsErrOf, string_bytes}
 use Rattle.vc_pack.specs.declared.fault.AnswerFault.{AnswerFault}
 use Rattle.vc_pack.specs.declared.fault.AnswerFault.TheVariants as answer
+use Rattle.vc_files.specs.Failures.{Wears}
 use Rattle.vc_files.specs.FileMap.{FileMap}
+use Rattle.vc_files.specs.declared.faults.Fault.TheVariants.{Device}
 use Rattle.vc_graph.specs.declared.fault.GraphFault.{GraphFault}
 use Rattle.vc_graph.specs.declared.fault.GraphFault.TheVariants as graph
 use Rattle.vc_refs.specs.Refs.{IsBadRef}
@@ -61,3 +63,7 @@ BlamesFiles content (Store fault) = BlamesObjects content fault
 BlamesFiles content (Refs fault) = BlamesRefs content fault
 BlamesFiles content (Incomplete id) = ⊥
 BlamesFiles content (Fault fault) = ⊤
+
+-- the device is only looked at, as it may be where a call ends that is refused, or that changes nothing
+abbrev pub Looks : {F T : Type 0} → (F → ℕ) → (F → Type 0) → (F → Option ℕ) → F → F → Result T ExchangeFault → Type 0
+Looks failed can_fail left old new result = Wears failed can_fail left old new (IsErrOf result (Fault Device))

@@ -7,4 +7,5 @@ pub mod SendFault
 pub mod Sending
 pub mod SentPush
 pub mod Storing
+pub mod Taking
 pub mod Wanting

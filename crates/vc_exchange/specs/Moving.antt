@@ -1,20 +1,21 @@
 -- How the refs of a clone follow those of the shared repository (the refspecs `refs/heads/*:refs/remotes/origin/*` and
 -- `refs/tags/*:refs/tags/*` of git-fetch).
 -- own: no ref is forced, each name is legal, and nothing is followed to an id of which not all is there.
-use Rattle.std.specs.Prelude.{◌≡◌, ◌≢◌, ℕ, Bool, true, false, ◌&&◌, not, List, [], map, take, length, Option, Some, None, is_some, Result, Ok, Err, Vec, if◌then◌else◌}
+use Rattle.std.specs.Prelude.{◌≡◌, ◌≢◌, ◌⊎◌, ℕ, Bool, true, false, ◌&&◌, not, List, [], map, take, length, Option, Some, None, is_some, Result, Ok, Err, IfOk, OnErr, Vec, if◌then◌else◌}
 use Rattle.std.specs.Global.{Global}
 use Rattle.std.specs.List.{AllByRecursion}
 use Rattle.vc_history.specs.History.{IsAncestor}
+use Rattle.vc_history.specs.Whole.{AreWhole as AreHistories}
 use Rattle.vc_files.specs.FileMap.{FileMap}
 use Rattle.vc_format.specs.Git.{git_is_legal}
-use Rattle.vc_graph.specs.Graph.{IsClosed}
+use Rattle.vc_graph.specs.Complete.{IsComplete}
 use Rattle.vc_model.specs.Clone.{MovesAny, MovesBranch, Moves}
 use Rattle.vc_model.specs.Object.{Format, Id, Lookup, stored}
 use Rattle.vc_model.specs.Refs.{RefName, Refs}
 use Rattle.vc_model.specs.Repository.{Change, Repository, changed_all}
 use Rattle.vc_model.specs.Repository.Change.{RemoveRef, SetHead, SetIndex, SetRefs}
 use Rattle.vc_object.specs.ObjectId.{id_eq}
-use Rattle.vc_object.specs.ObjectMap.{ObjectMap, links_in, parents_in}
+use Rattle.vc_object.specs.ObjectMap.{ObjectMap, parents_in}
 use Rattle.vc_object.specs.declared.id.ObjectId.{ObjectId}
 use Rattle.vc_refname.specs.RefName.{tracking_name}
 use Rattle.vc_refs.specs.RefMap.{RefMap, conflicts, with_ref}
@@ -23,8 +24,11 @@ use Rattle.vc_refs.specs.declared.faults.RefFault.{RefFault}
 use Rattle.vc_refs.specs.declared.faults.RefFault.TheVariants as of_refs
 use Rattle.vc_rules.specs.Git.{git}
 use Rattle.vc_rules.specs.OpenPushes.{HoldsContent}
+use Rattle.vc_session.specs.Known.{AreWhole}
 use Rattle.vc_session.specs.Verdict.{HasHistory, is_branch, is_tag}
+use Rattle.vc_session.specs.declared.known.Known.{Known}
 use Rattle.vc_store.specs.Store.{objects}
+use Rattle.vc_exchange.specs.declared.fault.ExchangeFault.{ExchangeFault}
 use Rattle.vc_exchange.specs.declared.moving.Followed.{Followed}
 use Rattle.vc_exchange.specs.declared.moving.Followed.TheVariants.{All, Branches}
 
@@ -47,11 +51,15 @@ abbrev pub Descends : ObjectMap → Option ObjectId → ObjectId → Type 0
 Descends objects None id = Unit {0}
 Descends objects (Some current) id = IsAncestor (parents_in objects) current id
 
+-- and is a commit with commits alone along its parent links
+abbrev pub IsForward : ObjectMap → Option ObjectId → ObjectId → Type 0
+IsForward objects current id = HasHistory objects id × Descends objects current id
+
 -- a ref that follows a branch, or a tag, and has this value may take the id
 pub record MayTake (objects : ObjectMap) (branch : Bool) (current : Option ObjectId) (id : ObjectId) : Type 0 where
   pub new : is_new branch current id ≡ true
-  pub complete : IsClosed (links_in objects) id
-  pub forward : branch ≡ true → HasHistory objects id × Descends objects current id
+  pub complete : IsComplete objects id
+  pub forward : branch ≡ true → IsForward objects current id
 
 -- the ref `to` follows that of this name to the id, if its own name is free
 pub record MayFollow (followed : Followed) (objects : ObjectMap) (refs : RefMap) (name : List ℕ) (id : ObjectId) (to : List ℕ) : Type 0 where
@@ -65,6 +73,10 @@ IsFreeAmong refs name = (other : List ℕ) → is_some (refs other) ≡ true →
 abbrev pub MayMove : Followed → FileMap → List ℕ → ObjectId → List ℕ → Type 0
 MayMove followed content name id to = MayFollow followed (objects content) (refs content) name id to × IsFreeAmong (refs content) to
 
+-- some ref may move where what is known is so, or this holds
+abbrev pub MayMoveOne : Followed → FileMap → Known → List ℕ → ObjectId → Type 0 → Type 0
+MayMoveOne followed content known name id IsLook = (AreWhole (objects content) known → (to : List ℕ) × MayMove followed content name id to) ⊎ IsLook
+
 -- a ref moved, and it may where what was known is so; or nothing is changed, and then none may
 abbrev pub IsMove : Type 0 → Followed → FileMap → FileMap → List ℕ → ObjectId → Bool → Type 0
 IsMove known followed old new name id true = (to : List ℕ) × (known → MayMove followed old name id to) × (refs new ≡ with_ref (refs old) to id)
@@ -75,6 +87,10 @@ IsMove known followed old new name id false = (known → (to : List ℕ) → ¬ 
 abbrev pub IsDecided : Bool → Type 0 → Type 0
 IsDecided true P = P
 IsDecided false P = ¬ P
+
+-- the same of whether an id is forward, where the histories are whole of the names that are known
+abbrev pub DecidesForward : ObjectMap → List ObjectId → Option ObjectId → ObjectId → Bool → Type 0
+DecidesForward objects known current id answer = AreHistories objects known → IsDecided answer (IsForward objects current id)
 
 -- the ref that may follow, with its value, or none
 abbrev pub IsFound : Followed → FileMap → List ℕ → ObjectId → Option (List ℕ × Option ObjectId) → Type 0
@@ -138,3 +154,16 @@ pub record AreFrontMoved (known : Type 0) (followed : Followed) (told : List Tol
 -- some ref moves
 abbrev pub MovesSome : Followed → List Told → Repository → Type 0
 MovesSome followed told r = (changes : List Change) × MovesBy followed r told changes × (changes ≢ [])
+
+-- ---- of each repository that the files hold, where what is known is so
+-- the refs moved that follow what is told
+abbrev pub MovesTold : Followed → FileMap → FileMap → Known → List Told → Result ℕ ExchangeFault → Type 0
+MovesTold followed old new known told result = (r : Repository) → HoldsContent old r → IfOk result (AreMoved (AreWhole (objects old) known) followed told r new)
+
+-- an error leaves some first of them moved
+abbrev pub MovesFront : {T : Type 0} → Followed → FileMap → FileMap → Known → List Told → Result T ExchangeFault → Type 0
+MovesFront followed old new known told result = (r : Repository) → HoldsContent old r → OnErr result (AreFrontMoved (AreWhole (objects old) known) followed told r new)
+
+-- some ref moves, or this holds
+abbrev pub MayMoveTold : Followed → FileMap → Known → List Told → Type 0 → Type 0
+MayMoveTold followed old known told IsLook = (r : Repository) → HoldsContent old r → (AreWhole (objects old) known → MovesSome followed told r) ⊎ IsLook

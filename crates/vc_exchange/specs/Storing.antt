@@ -6,7 +6,9 @@ use Rattle.vc_files.specs.FileMap.{FileMap}
 use Rattle.vc_graph.specs.Overlay.{with_carried}
 use Rattle.vc_object.specs.Decoding.{StoredObject}
 use Rattle.vc_object.specs.declared.id.ObjectId.{ObjectId}
+use Rattle.vc_pack.specs.Reached.{KeepsObjects}
 use Rattle.vc_session.specs.Carrying.{objects_in}
+use Rattle.vc_session.specs.Clean.{MakesNoneBad}
 use Rattle.vc_store.specs.Store.{objects}
 
 -- what is stored stays, and what is brought is added
@@ -20,3 +22,8 @@ pub record AreSomeStored (old new : FileMap) (brought : List StoredObject) : Typ
 -- beside objects and refs nothing changes
 pub record KeepsBeside (old new : FileMap) : Type 0 where
   pub at : (path : List ℕ) → starts_with nat_eq path (codes "objects/") ≡ false → starts_with nat_eq path (codes "refs/") ≡ false → get new path ≡ get old path
+
+-- No object is lost, and no file is made bad.
+pub record KeepsGood (old new : FileMap) : Type 0 where
+  pub objects : KeepsObjects old new
+  pub bad : MakesNoneBad old new

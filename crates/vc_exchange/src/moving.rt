@@ -1,30 +1,26 @@
 //! How the refs of a clone follow those of the shared repository: a branch is followed by its tracking ref, which moves to
 //! descendants of its value alone, and a tag by itself, which is set once. Nothing is followed to an id of which not all is
 //! there.
-ghost use Rattle.std.specs.Prelude.{◌≡◌, ◌⊎◌, ◌∷◌, [], ℕ, List, true, None, Some, if◌then◌else◌, IfOk, IfErr, IfSome, OnErr, IsErrOf, codes};
+ghost use Rattle.std.specs.Prelude.{◌≡◌, ◌⊎◌, ◌∷◌, [], true, None, Some, if◌then◌else◌, IfOk, IfErr, IfSome, OnErr, IsErrOf, codes};
 ghost use Rattle.vc_files.specs.Failures.{Wears, Writes};
 ghost use Rattle.vc_files.specs.FileMap.{SameOutside};
 ghost use Rattle.vc_format.specs.Git.{git_is_legal};
-ghost use Rattle.vc_graph.specs.Graph.{IsClosedUnder, ReachedFrom};
-ghost use Rattle.vc_graph.specs.GraphFault.{IsMet};
-ghost use Rattle.vc_model.specs.Repository.{Repository};
-ghost use Rattle.vc_object.specs.ObjectMap.{links_in, parents_in};
+ghost use Rattle.vc_history.specs.HistoryFault.{IsMetInEither, IsMetInHistory};
+ghost use Rattle.vc_history.specs.Whole.{AreWholeBeyond};
 ghost use Rattle.vc_refs.specs.RefMap.{IsInRefs};
 ghost use Rattle.vc_refs.specs.Refs.{refs};
-ghost use Rattle.vc_rules.specs.OpenPushes.{HoldsContent};
 ghost use Rattle.vc_session.specs.Clean.{MakesNoneBad};
 ghost use Rattle.vc_session.specs.Known.{AreWhole};
-ghost use Rattle.vc_session.specs.Verdict.{HasHistory};
 ghost use Rattle.vc_store.specs.Store.{objects};
-ghost use Rattle.vc_exchange.specs.Faults.{BlamesFiles, BlamesRefs};
-ghost use Rattle.vc_exchange.specs.Moving.{AreFrontMoved, AreMoved, Descends, IsDecided, IsFound, IsFreeAmong, IsMove, IsSetWhereFree, MayMove, MayTake, MovesSome, follower, is_new, passed_over, told_in};
+ghost use Rattle.vc_exchange.specs.Faults.{BlamesFiles, BlamesRefs, Looks};
+ghost use Rattle.vc_exchange.specs.Moving.{DecidesForward, IsDecided, IsFound, IsFreeAmong, IsMove, IsSetWhereFree, MayMoveOne, MayMoveTold, MayTake, MovesFront, MovesTold, follower, is_new, passed_over, told_in};
 
 use crate::ExchangeFault;
 use indexmap::IndexSet;
 use std::alloc::{AllocError, Global};
 use vc_files::{Fault, Files};
 use vc_graph::is_complete_beyond;
-use vc_history::{BaseFault, Commits, Generations, is_ancestor, is_history_beyond};
+use vc_history::{Commits, Generations, HistoryFault, is_ancestor, is_history_beyond};
 use vc_object::ObjectId;
 use vc_refname::{NewNameError, RefName};
 use vc_refs::{RefFault, get, set};
@@ -92,9 +88,9 @@ fn is_forward<C: Commits>(
     current: Option<ObjectId>,
     id: &ObjectId,
 ) -> Result<bool, StoreFault>
-    ensures forward { IfOk result (λ yes. C.is_honest → IsClosedUnder (parents_in (C.objects (C.state_of commits.old))) histories.old.keys → IsDecided yes (HasHistory (C.objects (C.state_of commits.old)) id.now × Descends (C.objects (C.state_of commits.old)) current id.now)) }
-    ensures known { C.is_honest → IsClosedUnder (parents_in (C.objects (C.state_of commits.old))) histories.old.keys → IsClosedUnder (parents_in (C.objects (C.state_of commits.old))) histories.new.keys }
-    ensures refused { IfErr result (λ e. C.is_honest → IsMet (ReachedFrom (parents_in (C.objects (C.state_of commits.old))) (id.now ∷ [])) (C.damaged (C.state_of commits.old)) e) }
+    ensures forward { IfOk result (λ yes. C.is_honest → DecidesForward (C.objects (C.state_of commits.old)) histories.old.keys current id.now yes) }
+    ensures known { C.is_honest → AreWholeBeyond (C.objects (C.state_of commits.old)) histories.old.keys histories.new.keys }
+    ensures refused { IfErr result (λ e. C.is_honest → IsMetInHistory (C.objects (C.state_of commits.old)) (C.damaged (C.state_of commits.old)) (id.now ∷ []) e) }
     ensures kept { C.state_of commits.new ≡ C.state_of commits.old }
     ensures wear { Wears C.failed C.can_fail C.left commits.old commits.new (IsErrOf result (StoreFault.Fault Fault.Device)) }
 {
@@ -108,9 +104,9 @@ fn is_forward<C: Commits>(
     match is_ancestor(alloc, commits, &current, id, &generations) {
         Ok(yes) => Ok(yes),
         // Its history was just read, and is whole.
-        Err(BaseFault::Missing(_)) => Ok(false),
-        Err(BaseFault::NotACommit(_)) => Ok(false),
-        Err(BaseFault::Store(fault)) => Err(fault),
+        Err(HistoryFault::Missing(_)) => Ok(false),
+        Err(HistoryFault::NotACommit(_)) => Ok(false),
+        Err(HistoryFault::Store(fault)) => Err(fault),
     }
 }
 
@@ -126,7 +122,7 @@ fn may_take<C: Commits>(
 ) -> Result<bool, StoreFault>
     ensures takes { IfOk result (λ yes. C.is_honest → AreWhole (C.objects (C.state_of commits.old)) known.old → IsDecided yes (MayTake (C.objects (C.state_of commits.old)) is_branch current id.now)) }
     ensures known { C.is_honest → AreWhole (C.objects (C.state_of commits.old)) known.old → AreWhole (C.objects (C.state_of commits.old)) known.new }
-    ensures refused { IfErr result (λ e. C.is_honest → IsMet (λ x. ReachedFrom (links_in (C.objects (C.state_of commits.old))) (id.now ∷ []) x ⊎ ReachedFrom (parents_in (C.objects (C.state_of commits.old))) (id.now ∷ []) x) (C.damaged (C.state_of commits.old)) e) }
+    ensures refused { IfErr result (λ e. C.is_honest → IsMetInEither (C.objects (C.state_of commits.old)) (C.damaged (C.state_of commits.old)) (id.now ∷ []) e) }
     ensures kept { C.state_of commits.new ≡ C.state_of commits.old }
     ensures wear { Wears C.failed C.can_fail C.left commits.old commits.new (IsErrOf result (StoreFault.Fault Fault.Device)) }
 {
@@ -231,7 +227,7 @@ fn move_ref<F: Files>(
     ensures err { F.honest → OnErr result (F.content files.new ≡ F.content files.old) }
     ensures bad { F.honest → MakesNoneBad (F.content files.old) (F.content files.new) }
     ensures wear { Writes F.honest F.content F.failed F.can_fail F.left files.old files.new (IsErrOf result (ExchangeFault.Fault Fault.Device)) }
-    ensures looks { F.honest → (AreWhole (objects (F.content files.old)) known.old → (to : List ℕ) × MayMove followed (F.content files.old) name.now id.now to) ⊎ Wears F.failed F.can_fail F.left files.old files.new (IsErrOf result (ExchangeFault.Fault Fault.Device)) }
+    ensures looks { F.honest → MayMoveOne followed (F.content files.old) known.old name.now id.now (Looks F.failed F.can_fail F.left files.old files.new result) }
 {
     let Some((to, current)) = find_follower(files, alloc, known, followed, name, id)? else {
         return Ok(false);
@@ -251,13 +247,13 @@ pub(crate) fn move_refs<F: Files>(
     followed: Followed,
     told: &[(Vec<u8>, ObjectId)],
 ) -> Result<usize, ExchangeFault>
-    ensures moved { F.honest → (r : Repository) → HoldsContent (F.content files.old) r → IfOk result (AreMoved (AreWhole (objects (F.content files.old)) known.old) followed (told_in told.now) r (F.content files.new)) }
+    ensures moved { F.honest → MovesTold followed (F.content files.old) (F.content files.new) known.old (told_in told.now) result }
     ensures refused { F.honest → IfErr result (BlamesFiles (F.content files.old)) }
     ensures outside { F.honest → SameOutside (codes "refs/") (F.content files.old) (F.content files.new) }
-    ensures left { F.honest → (r : Repository) → HoldsContent (F.content files.old) r → OnErr result (AreFrontMoved (AreWhole (objects (F.content files.old)) known.old) followed (told_in told.now) r (F.content files.new)) }
+    ensures left { F.honest → MovesFront followed (F.content files.old) (F.content files.new) known.old (told_in told.now) result }
     ensures bad { F.honest → MakesNoneBad (F.content files.old) (F.content files.new) }
     ensures wear { Writes F.honest F.content F.failed F.can_fail F.left files.old files.new (IsErrOf result (ExchangeFault.Fault Fault.Device)) }
-    ensures looks { F.honest → (r : Repository) → HoldsContent (F.content files.old) r → (AreWhole (objects (F.content files.old)) known.old → MovesSome followed (told_in told.now) r) ⊎ Wears F.failed F.can_fail F.left files.old files.new (IsErrOf result (ExchangeFault.Fault Fault.Device)) }
+    ensures looks { F.honest → MayMoveTold followed (F.content files.old) known.old (told_in told.now) (Looks F.failed F.can_fail F.left files.old files.new result) }
 {
     let mut moved = 0;
     for (name, id) in told {

@@ -1,25 +1,19 @@
 //! A pack whose objects stand in the clone's quarantine, the first slot's, until it is judged.
-ghost use Rattle.std.specs.Prelude.{◌≡◌, IfErr, IfOk, IsErrOf, OnErr, OnOk};
-ghost use Rattle.vc_pack.specs.Reached.{KeepsObjects};
-ghost use Rattle.vc_exchange.specs.Deeds.{IsCutShort, IsReceived};
+ghost use Rattle.std.specs.Prelude.{◌≡◌, IfErr, IfOk, IsErrOf, OnOk};
 ghost use Rattle.vc_exchange.specs.Moving.{told_in};
 ghost use Rattle.vc_exchange.specs.Quarantined.{BlamesSeen, HoldsPack, KeepsOthers};
-ghost use Rattle.vc_exchange.specs.Receiving.{AreRefs, BlamesPack, awaited_pack};
+ghost use Rattle.vc_exchange.specs.Receiving.{BlamesPack};
+ghost use Rattle.vc_exchange.specs.Storing.{KeepsGood};
+ghost use Rattle.vc_exchange.specs.Taking.{CutsHeldPack, ReceivesHeldPack};
 ghost use Rattle.vc_fetch.specs.Pack.{PackText};
 ghost use Rattle.vc_files.specs.Failures.{Wears, Writes};
-ghost use Rattle.vc_graph.specs.Graph.{IsClosedUnder, ReachedFrom};
-ghost use Rattle.vc_graph.specs.GraphFault.{IsMet};
+ghost use Rattle.vc_graph.specs.Complete.{AreComplete};
+ghost use Rattle.vc_graph.specs.GraphFault.{IsMetFrom};
 ghost use Rattle.vc_graph.specs.Incomplete.{IsFirstIncomplete};
 ghost use Rattle.vc_message.specs.Machine.{IsPack};
-ghost use Rattle.vc_model.specs.Clone.Awaited.{Nothing};
 ghost use Rattle.vc_model.specs.Message.{Message};
-ghost use Rattle.vc_model.specs.Node.Reply.{Moved as MovedRefs};
-ghost use Rattle.vc_model.specs.Refs.{Refs};
-ghost use Rattle.vc_model.specs.Repository.{Repository};
 ghost use Rattle.vc_object.specs.ObjectMap.{links_in};
 ghost use Rattle.vc_object.specs.declared.id.ObjectId.{ObjectId as Name};
-ghost use Rattle.vc_rules.specs.OpenPushes.{HoldsContent};
-ghost use Rattle.vc_session.specs.Clean.{MakesNoneBad};
 ghost use Rattle.vc_session.specs.PushState.{IsDamagedSeen};
 ghost use Rattle.vc_session.specs.Quarantine.{IsDropped, objects_seen};
 ghost use Rattle.vc_store.specs.Store.{objects};
@@ -44,10 +38,10 @@ fn names_seen<F: Files>(
     known: IndexSet<ObjectId>,
     wants: &[ObjectId],
 ) -> Result<Result<IndexSet<ObjectId>, ObjectId>, StoreFault>
-    ensures complete { F.honest → IsClosedUnder (links_in (objects (F.content files.old))) known.keys → IfOk result (λ found. OnOk found (IsClosedUnder (links_in (objects_seen (F.content files.old) 0)) wants.now)) }
-    ensures met { F.honest → IsClosedUnder (links_in (objects (F.content files.old))) known.keys → IfOk result (λ found. IfOk found (λ met. IsClosedUnder (links_in (objects_seen (F.content files.old) 0)) met.keys)) }
+    ensures complete { F.honest → AreComplete (objects (F.content files.old)) known.keys → IfOk result (λ found. OnOk found (AreComplete (objects_seen (F.content files.old) 0) wants.now)) }
+    ensures met { F.honest → AreComplete (objects (F.content files.old)) known.keys → IfOk result (λ found. IfOk found (λ met. AreComplete (objects_seen (F.content files.old) 0) met.keys)) }
     ensures first { F.honest → IfOk result (λ found. IfErr found (IsFirstIncomplete (links_in (objects_seen (F.content files.old) 0)) wants.now)) }
-    ensures refused { F.honest → IfErr result (IsMet (ReachedFrom (links_in (objects_seen (F.content files.old) 0)) wants.now) (IsDamagedSeen (F.content files.old) 0)) }
+    ensures refused { F.honest → IfErr result (IsMetFrom (objects_seen (F.content files.old) 0) (IsDamagedSeen (F.content files.old) 0) wants.now) }
     ensures same { F.content files.new ≡ F.content files.old }
     ensures wear { Wears F.failed F.can_fail F.left files.old files.new (IsErrOf result (StoreFault.Fault Fault.Device)) }
 {
@@ -68,8 +62,8 @@ fn judge_quarantined<F: Files>(
     known: IndexSet<ObjectId>,
     wants: &[ObjectId],
 ) -> Result<IndexSet<ObjectId>, ExchangeFault>
-    ensures complete { F.honest → IsClosedUnder (links_in (objects (F.content files.old))) known.keys → OnOk result (IsClosedUnder (links_in (objects_seen (F.content files.old) 0)) wants.now) }
-    ensures met { F.honest → IsClosedUnder (links_in (objects (F.content files.old))) known.keys → IfOk result (λ met. IsClosedUnder (links_in (objects_seen (F.content files.old) 0)) met.keys) }
+    ensures complete { F.honest → AreComplete (objects (F.content files.old)) known.keys → OnOk result (AreComplete (objects_seen (F.content files.old) 0) wants.now) }
+    ensures met { F.honest → AreComplete (objects (F.content files.old)) known.keys → IfOk result (λ met. AreComplete (objects_seen (F.content files.old) 0) met.keys) }
     ensures refused { F.honest → IfErr result (BlamesSeen (F.content files.old) wants.now) }
     ensures same { F.content files.new ≡ F.content files.old }
     ensures wear { Wears F.failed F.can_fail F.left files.old files.new (IsErrOf result (ExchangeFault.Fault Fault.Device)) }
@@ -94,14 +88,13 @@ pub fn receive_quarantined<F: Files>(
     told: &[(Vec<u8>, ObjectId)],
     names: &[ObjectId],
 ) -> Result<Moves, ExchangeFault>
-    ensures taken { F.honest → (pack : PackText) → HoldsPack (F.content files.old) names.now pack → (r : Repository) → HoldsContent (F.content files.old) r → (m : Message) → IsPack m pack → (refs : Refs) → AreRefs refs (told_in told.now) → IfOk result (λ moves. IsReceived r (awaited_pack wants.now refs) m (F.content files.new) Nothing None (MovedRefs moves.moved moves.left)) }
-    ensures cut { F.honest → (pack : PackText) → HoldsPack (F.content files.old) names.now pack → (r : Repository) → HoldsContent (F.content files.old) r → (m : Message) → IsPack m pack → (refs : Refs) → AreRefs refs (told_in told.now) → OnErr result (IsCutShort r (awaited_pack wants.now refs) m (F.content files.new)) }
+    ensures taken { F.honest → ReceivesHeldPack (F.content files.old) (F.content files.new) names.now wants.now (told_in told.now) result }
+    ensures cut { F.honest → CutsHeldPack (F.content files.old) (F.content files.new) names.now wants.now (told_in told.now) result }
     ensures refused { F.honest → (pack : PackText) → HoldsPack (F.content files.old) names.now pack → (m : Message) → IsPack m pack → IfErr result (BlamesPack (F.content files.old) wants.now m) }
     ensures unchanged { F.honest → IfErr result (λ e. (id : Name) → e ≡ ExchangeFault.Incomplete id → F.content files.new ≡ F.content files.old) }
     ensures dropped { F.honest → OnOk result (IsDropped 0 (F.content files.new)) }
     ensures beside { F.honest → KeepsOthers (F.content files.old) (F.content files.new) }
-    ensures objects { F.honest → KeepsObjects (F.content files.old) (F.content files.new) }
-    ensures bad { F.honest → MakesNoneBad (F.content files.old) (F.content files.new) }
+    ensures good { F.honest → KeepsGood (F.content files.old) (F.content files.new) }
     ensures wear { Writes F.honest F.content F.failed F.can_fail F.left files.old files.new (IsErrOf result (ExchangeFault.Fault Fault.Device)) }
 {
     let known = Known::by_good_refs(files, alloc)?;

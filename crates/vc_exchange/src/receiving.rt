@@ -1,27 +1,20 @@
 //! What a clone makes of a message from the shared node.
-ghost use Rattle.std.specs.Prelude.{◌≡◌, ◌⊎◌, ◌++◌, ◌∷◌, [], IfOk, IfErr, OnOk, OnErr, IsErrOf, codes, map, length};
+ghost use Rattle.std.specs.Prelude.{◌≡◌, ◌++◌, ◌∷◌, [], IfOk, IfErr, OnOk, IsErrOf, codes, map};
 ghost use Rattle.std.specs.FinMap.{entries};
-ghost use Rattle.vc_pack.specs.Reached.{KeepsObjects};
-ghost use Rattle.vc_exchange.specs.Deeds.{ChangesAt, HoldsHead, IsCutShort, IsReceived};
-ghost use Rattle.vc_exchange.specs.Faults.{BlamesFiles};
+ghost use Rattle.vc_exchange.specs.Faults.{BlamesFiles, Looks};
 ghost use Rattle.vc_exchange.specs.Moving.{told_in};
-ghost use Rattle.vc_exchange.specs.Receiving.{AcceptedAgree, AreRefs, BlamesAdvert, BlamesPack, IsAdvertTaken, accepted, awaited_pack};
-ghost use Rattle.vc_exchange.specs.Storing.{KeepsBeside};
+ghost use Rattle.vc_exchange.specs.Receiving.{AcceptedAgree, BlamesAdvert, BlamesPack, accepted};
+ghost use Rattle.vc_exchange.specs.Storing.{KeepsBeside, KeepsGood};
+ghost use Rattle.vc_exchange.specs.Taking.{CutsAdvert, CutsPack, CutsReport, MayReceiveAdvert, MayReceiveReport, ReceivesAdvert, ReceivesPack, ReceivesReport};
 ghost use Rattle.vc_fetch.specs.AdvertView.{advert_text, ref_ids};
 ghost use Rattle.vc_fetch.specs.PackView.{pack_text};
-ghost use Rattle.vc_files.specs.Failures.{Wears, Writes};
+ghost use Rattle.vc_files.specs.Failures.{Writes};
 ghost use Rattle.vc_files.specs.FileMap.{SameOutside};
-ghost use Rattle.vc_message.specs.Machine.{IsAdvert, IsPack, IsReport, machine_told};
-ghost use Rattle.vc_model.specs.Clone.Awaited.{AnAdvert, Nothing};
-ghost use Rattle.vc_model.specs.Clone.{Awaited, refused_reasons};
+ghost use Rattle.vc_message.specs.Machine.{IsPack, machine_told};
+ghost use Rattle.vc_model.specs.Clone.{refused_reasons};
 ghost use Rattle.vc_model.specs.Message.{Message};
-ghost use Rattle.vc_model.specs.Node.Reply.{Moved as MovedRefs, Reported as ReportedRefs};
-ghost use Rattle.vc_model.specs.Refs.{Refs};
-ghost use Rattle.vc_model.specs.Repository.{IsSound, Repository};
 ghost use Rattle.vc_object.specs.declared.id.ObjectId.{ObjectId as Name};
 ghost use Rattle.vc_push.specs.ReportView.{report_text, told_of};
-ghost use Rattle.vc_rules.specs.Git.{git};
-ghost use Rattle.vc_rules.specs.OpenPushes.{HoldsContent};
 ghost use Rattle.vc_session.specs.Clean.{MakesNoneBad};
 
 use crate::ExchangeFault;
@@ -96,13 +89,13 @@ pub fn receive_advert<F: Files>(
     alloc: Global,
     advert: Advert,
 ) -> Result<Advertised, ExchangeFault>
-    ensures taken { F.honest → (r : Repository) → HoldsContent (F.content files.old) r → HoldsHead (F.content files.old) r → (m : Message) → IsAdvert m (advert_text advert) → IfOk result (IsAdvertTaken r m (F.content files.new)) }
-    ensures cut { F.honest → (r : Repository) → HoldsContent (F.content files.old) r → (m : Message) → IsAdvert m (advert_text advert) → OnErr result (IsCutShort r AnAdvert m (F.content files.new)) }
+    ensures taken { F.honest → ReceivesAdvert (F.content files.old) (F.content files.new) (advert_text advert) result }
+    ensures cut { F.honest → CutsAdvert (F.content files.old) (F.content files.new) (advert_text advert) result }
     ensures refused { F.honest → IfErr result (BlamesAdvert (F.content files.old)) }
     ensures outside { F.honest → SameOutside (codes "refs/") (F.content files.old) (F.content files.new) }
     ensures bad { F.honest → MakesNoneBad (F.content files.old) (F.content files.new) }
     ensures wear { Writes F.honest F.content F.failed F.can_fail F.left files.old files.new (IsErrOf result (ExchangeFault.Fault Fault.Device)) }
-    ensures looks { F.honest → (r : Repository) → HoldsContent (F.content files.old) r → (m : Message) → IsAdvert m (advert_text advert) → (IsSound git r → ChangesAt r AnAdvert m) ⊎ Wears F.failed F.can_fail F.left files.old files.new (IsErrOf result (ExchangeFault.Fault Fault.Device)) }
+    ensures looks { F.honest → MayReceiveAdvert (F.content files.old) (advert_text advert) (Looks F.failed F.can_fail F.left files.old files.new result) }
 {
     let refs = listed(alloc, advert.refs)?;
     let mut known = Known::by_good_refs(files, alloc)?;
@@ -128,13 +121,12 @@ pub fn receive_pack<F: Files>(
     told: &[(Vec<u8>, ObjectId)],
     pack: &Pack,
 ) -> Result<Moves, ExchangeFault>
-    ensures taken { F.honest → (r : Repository) → HoldsContent (F.content files.old) r → (m : Message) → IsPack m (pack_text pack.now) → (refs : Refs) → AreRefs refs (told_in told.now) → IfOk result (λ moves. IsReceived r (awaited_pack wants.now refs) m (F.content files.new) Nothing None (MovedRefs moves.moved moves.left)) }
-    ensures cut { F.honest → (r : Repository) → HoldsContent (F.content files.old) r → (m : Message) → IsPack m (pack_text pack.now) → (refs : Refs) → AreRefs refs (told_in told.now) → OnErr result (IsCutShort r (awaited_pack wants.now refs) m (F.content files.new)) }
+    ensures taken { F.honest → ReceivesPack (F.content files.old) (F.content files.new) (pack_text pack.now) wants.now (told_in told.now) result }
+    ensures cut { F.honest → CutsPack (F.content files.old) (F.content files.new) (pack_text pack.now) wants.now (told_in told.now) result }
     ensures refused { F.honest → (m : Message) → IsPack m (pack_text pack.now) → IfErr result (BlamesPack (F.content files.old) wants.now m) }
     ensures unchanged { F.honest → IfErr result (λ e. (id : Name) → e ≡ ExchangeFault.Incomplete id → F.content files.new ≡ F.content files.old) }
     ensures beside { F.honest → KeepsBeside (F.content files.old) (F.content files.new) }
-    ensures objects { F.honest → KeepsObjects (F.content files.old) (F.content files.new) }
-    ensures bad { F.honest → MakesNoneBad (F.content files.old) (F.content files.new) }
+    ensures good { F.honest → KeepsGood (F.content files.old) (F.content files.new) }
     ensures wear { Writes F.honest F.content F.failed F.can_fail F.left files.old files.new (IsErrOf result (ExchangeFault.Fault Fault.Device)) }
 {
     let known = Known::by_good_refs(files, alloc)?;
@@ -201,13 +193,13 @@ pub fn receive_report<F: Files>(
     alloc: Global,
     report: &Report,
 ) -> Result<Reported, ExchangeFault>
-    ensures taken { F.honest → (r : Repository) → HoldsContent (F.content files.old) r → (m : Message) → IsReport m (report_text report.now) → (awaits : Awaited) → IfOk result (λ did. IsReceived r awaits m (F.content files.new) awaits None (ReportedRefs did.moved did.refused.items)) }
-    ensures cut { F.honest → (r : Repository) → HoldsContent (F.content files.old) r → (m : Message) → IsReport m (report_text report.now) → (awaits : Awaited) → OnErr result (IsCutShort r awaits m (F.content files.new)) }
+    ensures taken { F.honest → ReceivesReport (F.content files.old) (F.content files.new) (report_text report.now) result }
+    ensures cut { F.honest → CutsReport (F.content files.old) (F.content files.new) (report_text report.now) result }
     ensures refused { F.honest → IfErr result (BlamesFiles (F.content files.old)) }
     ensures outside { F.honest → SameOutside (codes "refs/") (F.content files.old) (F.content files.new) }
     ensures bad { F.honest → MakesNoneBad (F.content files.old) (F.content files.new) }
     ensures wear { Writes F.honest F.content F.failed F.can_fail F.left files.old files.new (IsErrOf result (ExchangeFault.Fault Fault.Device)) }
-    ensures looks { F.honest → (r : Repository) → HoldsContent (F.content files.old) r → (m : Message) → IsReport m (report_text report.now) → (awaits : Awaited) → (IsSound git r → ChangesAt r awaits m) ⊎ Wears F.failed F.can_fail F.left files.old files.new (IsErrOf result (ExchangeFault.Fault Fault.Device)) }
+    ensures looks { F.honest → MayReceiveReport (F.content files.old) (report_text report.now) (Looks F.failed F.can_fail F.left files.old files.new result) }
 {
     let refused = refused_numbers(alloc, &report.told)?;
     let refs = accepted(alloc, &report.told)?;

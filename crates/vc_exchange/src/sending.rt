@@ -1,16 +1,15 @@
 //! The two messages by which a clone begins: the list of a fetch, and a push.
-ghost use Rattle.std.specs.Prelude.{◌≡◌, ◌≢◌, [], ◌↔◌, nat_eq, codes, Contains, IfOk, IfErr, IsErrOf, OnOk, filter_map, length, map};
+ghost use Rattle.std.specs.Prelude.{◌≡◌, ◌≢◌, [], ◌↔◌, nat_eq, codes, Contains, IfOk, IfErr, IsErrOf, OnOk, filter_map, map};
 ghost use Rattle.std.specs.List.{All, starts_with};
 ghost use Rattle.vc_pack.specs.Reached.{StandsIn};
 ghost use Rattle.vc_exchange.specs.SendFault.{BlamesRefFile, IsRefusedPush, IsRefusedSend};
 ghost use Rattle.vc_exchange.specs.Sending.{AreSent, IsPushOf, IsTracked, command_for, item_ids, known_value, tracked_in};
 ghost use Rattle.vc_exchange.specs.SentPush.{DeclinesPush, SendsPush};
 ghost use Rattle.vc_files.specs.Failures.{Wears};
-ghost use Rattle.vc_graph.specs.Graph.{IsClosedUnder};
+ghost use Rattle.vc_graph.specs.Complete.{AreComplete};
 ghost use Rattle.vc_message.specs.Machine.{IsWritten};
 ghost use Rattle.vc_model.specs.Message.Message.{ListRefs};
 ghost use Rattle.vc_object.specs.ObjectId.{IsSortedByName};
-ghost use Rattle.vc_object.specs.ObjectMap.{links_in};
 ghost use Rattle.vc_object.specs.declared.id.ObjectId.{ObjectId as Id};
 ghost use Rattle.vc_pkt.specs.Carried.{stored_name};
 ghost use Rattle.vc_pkt.specs.ObjectStreamView.{carried};
@@ -141,7 +140,7 @@ fn refuse_incomplete<F: Files>(
     files: &mut F,
     ids: &[ObjectId],
 ) -> Result<(), SendFault>
-    ensures complete { F.honest → OnOk result (IsClosedUnder (links_in (objects (F.content files.old))) ids.now) }
+    ensures complete { F.honest → OnOk result (AreComplete (objects (F.content files.old)) ids.now) }
     ensures refused { F.honest → IfErr result (IsRefusedSend (F.content files.old) ids.now) }
     ensures same { F.content files.new ≡ F.content files.old }
     ensures wear { Wears F.failed F.can_fail F.left files.old files.new (IsErrOf result (SendFault.Fault Fault.Device)) }
@@ -162,9 +161,9 @@ fn untracked_objects<F: Files>(
 ) -> Result<CarriedObjects, SendFault>
     ensures sent { F.honest → StandsIn (F.content files.old) reached.old → IfOk result (λ sent. AreSent (F.content files.old) ids.now (carried sent)) }
     ensures sorted { F.honest → IfOk result (λ sent. IsSortedByName (map stored_name (carried sent))) }
-    ensures complete { F.honest → StandsIn (F.content files.old) reached.old → OnOk result (IsClosedUnder (links_in (objects (F.content files.old))) ids.now) }
+    ensures complete { F.honest → StandsIn (F.content files.old) reached.old → OnOk result (AreComplete (objects (F.content files.old)) ids.now) }
     ensures stands { F.honest → StandsIn (F.content files.old) reached.old → StandsIn (F.content files.old) reached.new }
-    ensures refused { F.honest → IsClosedUnder (links_in (objects (F.content files.old))) ids.now → IfErr result (IsRefusedSend (F.content files.old) ids.now) }
+    ensures refused { F.honest → AreComplete (objects (F.content files.old)) ids.now → IfErr result (IsRefusedSend (F.content files.old) ids.now) }
     ensures same { F.content files.new ≡ F.content files.old }
     ensures wear { Wears F.failed F.can_fail F.left files.old files.new (IsErrOf result (SendFault.Fault Fault.Device)) }
 {
@@ -184,7 +183,7 @@ fn objects_for<F: Files>(
 ) -> Result<CarriedObjects, SendFault>
     ensures sent { F.honest → StandsIn (F.content files.old) reached.old → IfOk result (λ sent. AreSent (F.content files.old) ids.now (carried sent)) }
     ensures sorted { F.honest → IfOk result (λ sent. IsSortedByName (map stored_name (carried sent))) }
-    ensures complete { F.honest → StandsIn (F.content files.old) reached.old → OnOk result (IsClosedUnder (links_in (objects (F.content files.old))) ids.now) }
+    ensures complete { F.honest → StandsIn (F.content files.old) reached.old → OnOk result (AreComplete (objects (F.content files.old)) ids.now) }
     ensures stands { F.honest → StandsIn (F.content files.old) reached.old → StandsIn (F.content files.old) reached.new }
     ensures refused { F.honest → IfErr result (IsRefusedSend (F.content files.old) ids.now) }
     ensures same { F.content files.new ≡ F.content files.old }

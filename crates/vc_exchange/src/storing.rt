@@ -1,5 +1,5 @@
 //! Storing what a pack brings.
-ghost use Rattle.std.specs.Prelude.{◌≡◌, IfErr, OnOk, OnErr, IsErrOf, codes};
+ghost use Rattle.std.specs.Prelude.{IfErr, OnOk, OnErr, IsErrOf, codes};
 ghost use Rattle.vc_exchange.specs.Faults.{BlamesObjects};
 ghost use Rattle.vc_exchange.specs.Storing.{AreSomeStored, AreStored};
 ghost use Rattle.vc_files.specs.Failures.{Writes};

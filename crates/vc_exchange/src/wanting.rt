@@ -1,20 +1,12 @@
 //! What a clone asks for: the ids of which not all is there, beside those that it says that it has.
-ghost use Rattle.std.specs.Prelude.{◌≡◌, ◌≢◌, ◌≤◌, [], IfOk, IfErr, OnOk, IsErrOf, length, map, take};
+ghost use Rattle.std.specs.Prelude.{◌≡◌, ◌≢◌, ◌≤◌, [], IfOk, IfErr, OnOk, IsErrOf, length, take};
 ghost use Rattle.std.specs.List.{AllByRecursion};
-ghost use Rattle.vc_exchange.specs.Deeds.{HoldsHead};
 ghost use Rattle.vc_exchange.specs.Faults.{BlamesFiles};
 ghost use Rattle.vc_exchange.specs.Moving.{told_in};
-ghost use Rattle.vc_exchange.specs.Wanting.{AddsOpen, AreHaves, AreOpenTold, BlamesWanting};
+ghost use Rattle.vc_exchange.specs.Wanting.{AddsOpen, AreHaves, AsksFor, BlamesWanting, WantsOpen};
 ghost use Rattle.vc_files.specs.Failures.{Wears};
-ghost use Rattle.vc_format.specs.Git.{bytes_of_id};
-ghost use Rattle.vc_graph.specs.Graph.{IsClosedUnder};
-ghost use Rattle.vc_message.specs.Machine.{IsWritten};
-ghost use Rattle.vc_model.specs.Clone.{haves_of};
-ghost use Rattle.vc_model.specs.Message.Message.{Want as Asks};
-ghost use Rattle.vc_model.specs.Repository.{Repository};
+ghost use Rattle.vc_graph.specs.Complete.{AreComplete, AreCompleteBeyond};
 ghost use Rattle.vc_object.specs.Lines.{IsId};
-ghost use Rattle.vc_object.specs.ObjectMap.{links_in};
-ghost use Rattle.vc_rules.specs.OpenPushes.{HoldsContent};
 ghost use Rattle.vc_store.specs.Store.{objects};
 
 use crate::ExchangeFault;
@@ -38,8 +30,8 @@ fn add_open<F: Files>(
     wanted: &mut IndexSet<ObjectId>,
     id: &ObjectId,
 ) -> Result<(), ExchangeFault>
-    ensures added { F.honest → IsClosedUnder (links_in (objects (F.content files.old))) known.old.keys → OnOk result (AddsOpen (objects (F.content files.old)) wanted.old.keys wanted.new.keys id.now) }
-    ensures known { F.honest → IsClosedUnder (links_in (objects (F.content files.old))) known.old.keys → IsClosedUnder (links_in (objects (F.content files.old))) known.new.keys }
+    ensures added { F.honest → AreComplete (objects (F.content files.old)) known.old.keys → OnOk result (AddsOpen (objects (F.content files.old)) wanted.old.keys wanted.new.keys id.now) }
+    ensures known { F.honest → AreCompleteBeyond (objects (F.content files.old)) known.old.keys known.new.keys }
     ensures refused { F.honest → IfErr result (BlamesFiles (F.content files.old)) }
     ensures same { F.content files.new ≡ F.content files.old }
     ensures wear { Wears F.failed F.can_fail F.left files.old files.new (IsErrOf result (ExchangeFault.Fault Fault.Device)) }
@@ -64,8 +56,8 @@ pub(crate) fn open_ids<F: Files>(
     known: &mut IndexSet<ObjectId>,
     told: &[(Vec<u8>, ObjectId)],
 ) -> Result<Vec<ObjectId>, ExchangeFault>
-    ensures wanted { F.honest → IsClosedUnder (links_in (objects (F.content files.old))) known.old.keys → (r : Repository) → HoldsContent (F.content files.old) r → IfOk result (λ ids. AreOpenTold r (told_in told.now) ids.items) }
-    ensures known { F.honest → IsClosedUnder (links_in (objects (F.content files.old))) known.old.keys → IsClosedUnder (links_in (objects (F.content files.old))) known.new.keys }
+    ensures wanted { F.honest → AreComplete (objects (F.content files.old)) known.old.keys → WantsOpen (F.content files.old) (told_in told.now) result }
+    ensures known { F.honest → AreCompleteBeyond (objects (F.content files.old)) known.old.keys known.new.keys }
     ensures refused { F.honest → IfErr result (BlamesFiles (F.content files.old)) }
     ensures same { F.content files.new ≡ F.content files.old }
     ensures wear { Wears F.failed F.can_fail F.left files.old files.new (IsErrOf result (ExchangeFault.Fault Fault.Device)) }
@@ -120,7 +112,7 @@ pub(crate) fn want_message<F: Files>(
 ) -> Result<Vec<u8>, ExchangeFault>
     requires some { wants.now ≢ [] }
     requires few { length wants.now ≤ 256 }
-    ensures written { F.honest → (r : Repository) → HoldsContent (F.content files.old) r → HoldsHead (F.content files.old) r → IfOk result (λ bytes. IsWritten (Asks (map bytes_of_id wants.now) (haves_of r)) bytes.items) }
+    ensures written { F.honest → AsksFor (F.content files.old) wants.now result }
     ensures refused { F.honest → IfErr result (BlamesWanting (F.content files.old)) }
     ensures same { F.content files.new ≡ F.content files.old }
     ensures wear { Wears F.failed F.can_fail F.left files.old files.new (IsErrOf result (ExchangeFault.Fault Fault.Device)) }

@@ -1,7 +1,6 @@
 //! Ids in lines of text.
 
-ghost use Rattle.std.specs.Prelude.{◌≡◌, ◌++◌, ◌≤◌, length, IfOk};
-ghost use Rattle.hex.specs.Hex.{encode_lower};
+ghost use Rattle.std.specs.Prelude.{◌≡◌};
 ghost use Rattle.vc_fetch.specs.Ids.{id_of, id_line, first_id_line};
 
 use hex::FromHex;

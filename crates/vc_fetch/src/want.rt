@@ -1,12 +1,12 @@
 //! The message by which a clone asks for objects: the ids that it wants, and those that it has.
 
-ghost use Rattle.std.specs.Prelude.{◌≡◌, ◌≤◌, ◌++◌, [], List, ℕ, length, map, Ok, Err, OnOk, IfOk, IfErr};
+ghost use Rattle.std.specs.Prelude.{◌≡◌, ◌≤◌, ◌++◌, [], List, length, map, Ok, Err, OnOk, IfOk, IfErr};
 ghost use Rattle.std.specs.List.{flat_map};
 ghost use Rattle.vc_object.specs.declared.id.ObjectId.{ObjectId as Id};
-ghost use Rattle.vc_pkt.specs.Line.{spelling, text};
+ghost use Rattle.vc_pkt.specs.Line.{spelling};
 ghost use Rattle.vc_pkt.specs.Message.{onward, IsSpelledBy, Refuses};
 ghost use Rattle.vc_pkt.specs.StepView.{Gives};
-ghost use Rattle.vc_fetch.specs.Want.{WantText, WantState, wanting, having, SpellsWant, want_step, want_step_own, want_lines, written_id, one_more, want_id};
+ghost use Rattle.vc_fetch.specs.Want.{WantText, WantState, wanting, SpellsWant, want_step, want_step_own, want_lines, written_id, one_more, want_id};
 ghost use Rattle.vc_fetch.specs.WantView.{want_text, want_state};
 
 use crate::ids::{first_id_line, id_line};

@@ -108,11 +108,6 @@ module _ {D : Type 0} {honest : Type 0} {content : D → FileMap} {failed : D �
       → Writes honest content failed can_fail left old new Q
   wears_then v same never w = writes_both (wears_writes v same) never w
 
-  -- the reverse
-  pub writes_then : {old mid new : D} {P Q : Type 0} → Writes honest content failed can_fail left old mid P → (P → ⊥) → Wears failed can_fail left mid new Q → (honest → content new ≡ content mid)
-      → Writes honest content failed can_fail left old new Q
-  writes_then v never w same = writes_both v never (wears_writes w same)
-
   -- the same call, with its end told in other words
   pub writes_told : {old new : D} {P Q : Type 0} → Writes honest content failed can_fail left old new P → (P → Q) → (Q → P) → Writes honest content failed can_fail left old new Q
   writes_told {old = old} {new = new} {P = P} {Q = Q} w to from = record {

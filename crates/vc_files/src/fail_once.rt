@@ -1,5 +1,5 @@
 // Files of which one call fails.
-ghost use Rattle.std.specs.Prelude.{◌≡◌, ◌↔◌, Some, IsTrue, IsErr, IfErr, is_none};
+ghost use Rattle.std.specs.Prelude.{◌≡◌, ◌↔◌, Some, IsErr, IfErr, is_none};
 
 use crate::{Fault, Files};
 use std::alloc::Global;

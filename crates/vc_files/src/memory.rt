@@ -45,7 +45,7 @@ fn begins_with(path: &str, prefix: &str) -> bool
 }
 
 impl Files for MemoryFiles {
-    ghost use Rattle.std.specs.Prelude.{ℕ, ⊤};
+    ghost use Rattle.std.specs.Prelude.{⊤};
     ghost use Rattle.vc_files.specs.Failures.{unstopped};
 
     ghost honest = { ⊤ };

@@ -13,7 +13,7 @@ use Rattle.vc_object.proofs.Commits.{commit_again}
 use Rattle.vc_model.specs.Object.{Id, Kind, Object, IsLine}
 use Rattle.vc_model.specs.Object.Kind.{Blob, Tree, Commit, Tag}
 use Rattle.vc_format.specs.Git.{kind_of, bytes_of_id, id_of_bytes, git_name, commit_text, SpellsCommits, LinksAgree, MainIsName}
-use Rattle.vc_format.proofs.Names.{name_bytes, name_length, byte_of}
+use Rattle.vc_object.proofs.Names.{name_bytes, name_length, byte_of}
 
 -- ---- links agree
 

@@ -1,7 +1,11 @@
 -- A set of objects as a graph. `links` gives what an object that is there links to, and none for a name that is absent
 -- (what an object links to is Git's object format: gitcore-tutorial, git-rev-list's `--objects`). Nothing here asks that
 -- the links have no cycle, or that the set is finite.
-use Rattle.std.specs.Prelude.{◌≡◌, ◌⊎◌, List, Option, Some, None, IsSome, Contains}
+use Rattle.std.specs.Prelude.{◌≡◌, ◌⊎◌, ◌↔◌, Bool, List, Option, Some, None, IsSome, IsTrue, Contains}
+
+-- the names are exactly those of which this is so
+abbrev pub AreExactly : {Id : Type 0} → (Id → Type 0) → List Id → Type 0
+AreExactly {Id} IsSo names = (x : Id) → Contains names x ↔ IsSo x
 
 module _ {Id : Type 0} (links : Id → Option (List Id)) where
   -- x is there, and y is one of its links
@@ -25,6 +29,10 @@ module _ {Id : Type 0} (links : Id → Option (List Id)) where
     pub is_root : Contains roots root
     pub reaches : Reaches root y
 
+  -- one of the roots reaches y, and none of the others does
+  abbrev pub IsReachedBeyond : List Id → List Id → Id → Type 0
+  IsReachedBeyond others roots y = ReachedFrom roots y × ¬ ReachedFrom others y
+
   -- every name that x reaches is there
   abbrev pub IsClosed : Id → Type 0
   IsClosed x = (y : Id) → Reaches x y → IsSome (links y)
@@ -32,6 +40,10 @@ module _ {Id : Type 0} (links : Id → Option (List Id)) where
   -- every name that a root reaches is there
   abbrev pub IsClosedUnder : List Id → Type 0
   IsClosedUnder roots = (y : Id) → ReachedFrom roots y → IsSome (links y)
+
+  -- a yes or a no to whether all is there that x reaches: it is right where all is there that the known names reach
+  abbrev pub TellsBeyond : List Id → Id → Bool → Type 0
+  TellsBeyond known x answer = IsClosedUnder known → IsTrue answer ↔ IsClosed x
 
   -- what is known after a walk from x beyond names that were known: each name was known or is reached from x, and what x
   -- reaches is known now, or is reached from what was known

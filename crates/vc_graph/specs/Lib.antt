@@ -1,3 +1,4 @@
+pub mod Complete
 pub mod Graph
 pub mod GraphFault
 pub mod Incomplete

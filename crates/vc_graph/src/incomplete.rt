@@ -1,8 +1,7 @@
 //! Which of several roots is the first that reaches a name that is absent.
 ghost use Rattle.std.specs.Prelude.{◌≡◌, IfOk, IfErr, IsErrOf};
 ghost use Rattle.vc_files.specs.Failures.{Wears};
-ghost use Rattle.vc_graph.specs.Graph.{ReachedFrom};
-ghost use Rattle.vc_graph.specs.GraphFault.{IsMet};
+ghost use Rattle.vc_graph.specs.GraphFault.{IsMetFrom};
 ghost use Rattle.vc_graph.specs.Incomplete.{IsAnswerOfFirst};
 ghost use Rattle.vc_object.specs.ObjectMap.{links_in};
 
@@ -22,7 +21,7 @@ pub fn first_incomplete<O: Objects>(
     roots: &[ObjectId],
 ) -> Result<Option<ObjectId>, StoreFault>
     ensures first { IfOk result (λ found. O.is_honest → IsAnswerOfFirst (links_in (O.objects (O.state_of objects.old))) roots.now found) }
-    ensures refused { IfErr result (λ e. O.is_honest → IsMet (ReachedFrom (links_in (O.objects (O.state_of objects.old))) roots.now) (O.damaged (O.state_of objects.old)) e) }
+    ensures refused { IfErr result (λ e. O.is_honest → IsMetFrom (O.objects (O.state_of objects.old)) (O.damaged (O.state_of objects.old)) roots.now e) }
 
     ensures kept { O.state_of objects.new ≡ O.state_of objects.old }
     ensures wear { Wears O.failed O.can_fail O.left objects.old objects.new (IsErrOf result (StoreFault.Fault Fault.Device)) }

@@ -1,10 +1,11 @@
 //! What is reached from a root beyond names that are known to be whole: all that these reach is there. What is known is not
 //! read again, nor is what lies below it.
-ghost use Rattle.std.specs.Prelude.{◌≡◌, ◌↔◌, ◌⊎◌, ◌∷◌, [], ℕ, length, take, not, IsTrue, IfOk, IfErr, IsErrOf, OnOk, OnErr, Contains};
+ghost use Rattle.std.specs.Prelude.{◌≡◌, ◌↔◌, ◌⊎◌, ◌∷◌, [], ℕ, length, take, IsTrue, IfOk, IfErr, IsErrOf, OnOk, OnErr, Contains};
 ghost use Rattle.indexmap.specs.IndexSet.{insert_all};
 ghost use Rattle.vc_files.specs.Failures.{Wears};
-ghost use Rattle.vc_graph.specs.Graph.{ReachedFrom, IsClosed, IsClosedUnder, IsLinkOf, IsMetBeyond};
-ghost use Rattle.vc_graph.specs.GraphFault.{IsMet};
+ghost use Rattle.vc_graph.specs.Complete.{AreComplete, AreCompleteBeyond, KnowsIfYes};
+ghost use Rattle.vc_graph.specs.Graph.{IsLinkOf, IsMetBeyond, TellsBeyond};
+ghost use Rattle.vc_graph.specs.GraphFault.{IsMet, IsMetFrom};
 ghost use Rattle.vc_object.specs.ObjectId.{id_eq};
 ghost use Rattle.vc_object.specs.ObjectMap.{links_in};
 ghost use Rattle.vc_object.specs.declared.id.ObjectId.{ObjectId as Id};
@@ -24,14 +25,11 @@ pub fn is_complete_beyond<O: Objects>(
     known: &mut IndexSet<ObjectId>,
     root: &ObjectId,
 ) -> Result<bool, StoreFault>
-    ensures complete { IfOk result (λ answer. O.is_honest → IsClosedUnder (links_in (O.objects (O.state_of objects.old))) known.old.keys → IsTrue answer ↔ IsClosed (links_in (O.objects (O.state_of objects.old))) root.now) }
-    ensures known { O.is_honest → IsClosedUnder (links_in (O.objects (O.state_of objects.old))) known.old.keys → IsClosedUnder (links_in (O.objects (O.state_of objects.old))) known.new.keys }
-    ensures root { IfOk result (λ answer. IsTrue answer → Contains known.new.keys root.now) }
+    ensures complete { IfOk result (λ answer. O.is_honest → TellsBeyond (links_in (O.objects (O.state_of objects.old))) known.old.keys root.now answer) }
+    ensures known { O.is_honest → AreCompleteBeyond (O.objects (O.state_of objects.old)) known.old.keys known.new.keys }
+    ensures grown { KnowsIfYes known.old.keys root.now known.new.keys result }
     ensures met { IfOk result (λ answer. O.is_honest → IsTrue answer → IsMetBeyond (links_in (O.objects (O.state_of objects.old))) known.old.keys root.now known.new.keys) }
-    ensures refused { IfErr result (λ e. O.is_honest → IsMet (ReachedFrom (links_in (O.objects (O.state_of objects.old))) (root.now ∷ [])) (O.damaged (O.state_of objects.old)) e) }
-    ensures front { take (length known.old.keys) known.new.keys ≡ known.old.keys }
-    ensures same { IfOk result (λ answer. IsTrue (not answer) → known.new.keys ≡ known.old.keys) }
-    ensures err { OnErr result (known.new.keys ≡ known.old.keys) }
+    ensures refused { IfErr result (λ e. O.is_honest → IsMetFrom (O.objects (O.state_of objects.old)) (O.damaged (O.state_of objects.old)) (root.now ∷ []) e) }
 
     ensures kept { O.state_of objects.new ≡ O.state_of objects.old }
     ensures wear { Wears O.failed O.can_fail O.left objects.old objects.new (IsErrOf result (StoreFault.Fault Fault.Device)) }
@@ -58,7 +56,7 @@ pub fn learn_links<O: Objects>(
     names: &[ObjectId],
 ) -> Result<(), StoreFault>
     ensures learnt { OnOk result (O.is_honest → (id : Id) → Contains known.new.keys id ↔ (Contains known.old.keys id ⊎ IsLinkOf (links_in (O.objects (O.state_of objects.old))) names.now id)) }
-    ensures known { O.is_honest → IsClosedUnder (links_in (O.objects (O.state_of objects.old))) known.old.keys → IsClosedUnder (links_in (O.objects (O.state_of objects.old))) names.now → IsClosedUnder (links_in (O.objects (O.state_of objects.old))) known.new.keys }
+    ensures known { O.is_honest → AreComplete (O.objects (O.state_of objects.old)) known.old.keys → AreCompleteBeyond (O.objects (O.state_of objects.old)) names.now known.new.keys }
     ensures refused { IfErr result (λ e. O.is_honest → IsMet (Contains names.now) (O.damaged (O.state_of objects.old)) e) }
     ensures front { take (length known.old.keys) known.new.keys ≡ known.old.keys }
 
@@ -91,11 +89,11 @@ fn walk_beyond<O: Objects>(
     known: &mut IndexSet<ObjectId>,
     root: &ObjectId,
 ) -> Result<bool, StoreFault>
-    ensures complete { IfOk result (λ answer. O.is_honest → IsClosedUnder (links_in (O.objects (O.state_of objects.old))) known.old.keys → IsTrue answer ↔ IsClosed (links_in (O.objects (O.state_of objects.old))) root.now) }
-    ensures known { IfOk result (λ answer. O.is_honest → IsTrue answer → IsClosedUnder (links_in (O.objects (O.state_of objects.old))) known.old.keys → IsClosedUnder (links_in (O.objects (O.state_of objects.old))) known.new.keys) }
+    ensures complete { IfOk result (λ answer. O.is_honest → TellsBeyond (links_in (O.objects (O.state_of objects.old))) known.old.keys root.now answer) }
+    ensures known { IfOk result (λ answer. O.is_honest → IsTrue answer → AreCompleteBeyond (O.objects (O.state_of objects.old)) known.old.keys known.new.keys) }
     ensures root { IfOk result (λ answer. IsTrue answer → Contains known.new.keys root.now) }
     ensures met { IfOk result (λ answer. O.is_honest → IsTrue answer → IsMetBeyond (links_in (O.objects (O.state_of objects.old))) known.old.keys root.now known.new.keys) }
-    ensures refused { IfErr result (λ e. O.is_honest → IsMet (ReachedFrom (links_in (O.objects (O.state_of objects.old))) (root.now ∷ [])) (O.damaged (O.state_of objects.old)) e) }
+    ensures refused { IfErr result (λ e. O.is_honest → IsMetFrom (O.objects (O.state_of objects.old)) (O.damaged (O.state_of objects.old)) (root.now ∷ []) e) }
     ensures front { take (length known.old.keys) known.new.keys ≡ known.old.keys }
 
     ensures kept { O.state_of objects.new ≡ O.state_of objects.old }

@@ -44,7 +44,6 @@ pub struct Overlay<'a, O, C> {
 }
 
 impl<O: Objects, C: Carried> Objects for Overlay<'_, O, C> {
-    ghost use Rattle.std.specs.Prelude.{ℕ};
     ghost use Rattle.vc_graph.specs.Overlay.{OverlayState, overlay_state, with_carried};
 
     ghost is_honest = { O.is_honest };

@@ -1,11 +1,11 @@
 //! What roots reach: all of it, whether it is there, and what other roots do not reach.
-ghost use Rattle.std.specs.Prelude.{◌≡◌, ◌↔◌, ◌++◌, ◌∷◌, [], IsTrue, IfOk, IfErr, IsErrOf, OnOk, Contains};
+ghost use Rattle.std.specs.Prelude.{◌≡◌, ◌↔◌, ◌++◌, ◌∷◌, [], IsTrue, IfOk, IfErr, IsErrOf, OnOk};
 ghost use Rattle.vc_files.specs.Failures.{Wears};
-ghost use Rattle.vc_graph.specs.Graph.{ReachedFrom, IsClosed, IsClosedUnder};
-ghost use Rattle.vc_graph.specs.GraphFault.{IsMet, IsTold};
+ghost use Rattle.vc_graph.specs.Complete.{AreComplete, IsComplete};
+ghost use Rattle.vc_graph.specs.Graph.{AreExactly, ReachedFrom, IsReachedBeyond};
+ghost use Rattle.vc_graph.specs.GraphFault.{IsMetFrom, IsTold};
 ghost use Rattle.vc_object.specs.ObjectId.{IsSortedByName};
 ghost use Rattle.vc_object.specs.ObjectMap.{links_in};
-ghost use Rattle.vc_object.specs.declared.id.ObjectId.{ObjectId as Id};
 
 use crate::walk::walk;
 use crate::{GraphFault, Objects, sorted_from};
@@ -21,9 +21,9 @@ pub fn closure<O: Objects>(
     objects: &mut O,
     roots: &[ObjectId],
 ) -> Result<Vec<ObjectId>, GraphFault>
-    ensures reached { IfOk result (λ ids. O.is_honest → (id : Id) → Contains ids.items id ↔ ReachedFrom (links_in (O.objects (O.state_of objects.old))) roots.now id) }
+    ensures reached { IfOk result (λ ids. O.is_honest → AreExactly (ReachedFrom (links_in (O.objects (O.state_of objects.old))) roots.now) ids.items) }
     ensures sorted { IfOk result (λ ids. IsSortedByName ids.items) }
-    ensures closed { OnOk result (O.is_honest → IsClosedUnder (links_in (O.objects (O.state_of objects.old))) roots.now) }
+    ensures closed { OnOk result (O.is_honest → AreComplete (O.objects (O.state_of objects.old)) roots.now) }
     ensures refused { IfErr result (λ e. O.is_honest → IsTold (O.objects (O.state_of objects.old)) (O.damaged (O.state_of objects.old)) roots.now e) }
 
     ensures kept { O.state_of objects.new ≡ O.state_of objects.old }
@@ -40,8 +40,8 @@ pub fn is_complete<O: Objects>(
     objects: &mut O,
     root: &ObjectId,
 ) -> Result<bool, StoreFault>
-    ensures complete { IfOk result (λ answer. O.is_honest → IsTrue answer ↔ IsClosed (links_in (O.objects (O.state_of objects.old))) root.now) }
-    ensures refused { IfErr result (λ e. O.is_honest → IsMet (ReachedFrom (links_in (O.objects (O.state_of objects.old))) (root.now ∷ [])) (O.damaged (O.state_of objects.old)) e) }
+    ensures complete { IfOk result (λ answer. O.is_honest → IsTrue answer ↔ IsComplete (O.objects (O.state_of objects.old)) root.now) }
+    ensures refused { IfErr result (λ e. O.is_honest → IsMetFrom (O.objects (O.state_of objects.old)) (O.damaged (O.state_of objects.old)) (root.now ∷ []) e) }
 
     ensures kept { O.state_of objects.new ≡ O.state_of objects.old }
     ensures wear { Wears O.failed O.can_fail O.left objects.old objects.new (IsErrOf result (StoreFault.Fault Fault.Device)) }
@@ -62,9 +62,9 @@ pub fn difference<O: Objects>(
     include: &[ObjectId],
     exclude: &[ObjectId],
 ) -> Result<Vec<ObjectId>, GraphFault>
-    ensures reached { IfOk result (λ ids. O.is_honest → (id : Id) → Contains ids.items id ↔ (ReachedFrom (links_in (O.objects (O.state_of objects.old))) include.now id × ¬ ReachedFrom (links_in (O.objects (O.state_of objects.old))) exclude.now id)) }
+    ensures reached { IfOk result (λ ids. O.is_honest → AreExactly (IsReachedBeyond (links_in (O.objects (O.state_of objects.old))) exclude.now include.now) ids.items) }
     ensures sorted { IfOk result (λ ids. IsSortedByName ids.items) }
-    ensures closed { OnOk result (O.is_honest → IsClosedUnder (links_in (O.objects (O.state_of objects.old))) (include.now ++ exclude.now)) }
+    ensures closed { OnOk result (O.is_honest → AreComplete (O.objects (O.state_of objects.old)) (include.now ++ exclude.now)) }
     ensures refused { IfErr result (λ e. O.is_honest → IsTold (O.objects (O.state_of objects.old)) (O.damaged (O.state_of objects.old)) (include.now ++ exclude.now) e) }
 
     ensures kept { O.state_of objects.new ≡ O.state_of objects.old }

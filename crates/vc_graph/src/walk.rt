@@ -1,10 +1,9 @@
 //! The walk over links. One set is both what was met and what is still to be read, so each object is read once.
-ghost use Rattle.std.specs.Prelude.{◌≡◌, ◌↔◌, ◌++◌, length, take, IfErr, IsErrOf, OnOk, Contains};
+ghost use Rattle.std.specs.Prelude.{◌≡◌, ◌++◌, length, take, IfErr, IsErrOf, OnOk};
 ghost use Rattle.vc_files.specs.Failures.{Wears};
-ghost use Rattle.vc_graph.specs.Graph.{IsFollowed, ReachedFrom};
+ghost use Rattle.vc_graph.specs.Graph.{AreExactly, IsFollowed, ReachedFrom};
 ghost use Rattle.vc_graph.specs.GraphFault.{IsTold};
 ghost use Rattle.vc_object.specs.ObjectMap.{links_in};
-ghost use Rattle.vc_object.specs.declared.id.ObjectId.{ObjectId as Id};
 
 use crate::{GraphFault, Objects};
 use indexmap::IndexSet;
@@ -19,7 +18,7 @@ pub(crate) fn walk<O: Objects>(
     met: &mut IndexSet<ObjectId>,
 ) -> Result<(), GraphFault>
     requires { O.is_honest → IsFollowed (links_in (O.objects (O.state_of objects.old))) met.old.keys }
-    ensures reached { OnOk result (O.is_honest → (id : Id) → Contains met.new.keys id ↔ ReachedFrom (links_in (O.objects (O.state_of objects.old))) (met.old.keys ++ roots.now) id) }
+    ensures reached { OnOk result (O.is_honest → AreExactly (ReachedFrom (links_in (O.objects (O.state_of objects.old))) (met.old.keys ++ roots.now)) met.new.keys) }
     ensures followed { OnOk result (O.is_honest → IsFollowed (links_in (O.objects (O.state_of objects.old))) met.new.keys) }
     ensures first { OnOk result (take (length met.old.keys) met.new.keys ≡ met.old.keys) }
     ensures refused { IfErr result (λ e. O.is_honest → IsTold (O.objects (O.state_of objects.old)) (O.damaged (O.state_of objects.old)) (met.old.keys ++ roots.now) e) }

@@ -11,10 +11,10 @@ use Rattle.vc_object.specs.Links.{parents_of}
 use Rattle.vc_object.specs.declared.id.ObjectId.{ObjectId}
 use Rattle.vc_graph.specs.Graph.{LinksTo, Reaches, ReachedFrom, itself, onward}
 use Rattle.vc_graph.proofs.FaultLemmas.{IsMet-more}
-use Rattle.vc_history.specs.BaseFault.{IsTold, IsOfNext}
+use Rattle.vc_history.specs.HistoryFault.{IsTold, IsOfNext}
 use Rattle.vc_history.specs.Parents.{IsOther}
-use Rattle.vc_history.specs.declared.fault.BaseFault.{BaseFault}
-use Rattle.vc_history.specs.declared.fault.BaseFault.TheVariants.{Missing, NotACommit, Store}
+use Rattle.vc_history.specs.declared.fault.HistoryFault.{HistoryFault}
+use Rattle.vc_history.specs.declared.fault.HistoryFault.TheVariants.{Missing, NotACommit, Store}
 
 -- where the walk goes from a name: none where it is absent
 unfoldable pub steps_in : ObjectMap → ObjectId → Option (List ObjectId)
@@ -88,7 +88,7 @@ position-from_Contains {Id} {eq} laws xs id at =
 
 module _ (objects : ObjectMap) (roots : List ObjectId) where
   -- what a step refuses, the walk refuses
-  pub IsTold-from_next : (IsDamaged IsNext : ObjectId → Type 0) → ((id : ObjectId) → IsNext id → ReachedFrom (parents_in objects) roots id) → (e : BaseFault) → IsOfNext objects IsDamaged IsNext e → IsTold objects IsDamaged roots e
+  pub IsTold-from_next : (IsDamaged IsNext : ObjectId → Type 0) → ((id : ObjectId) → IsNext id → ReachedFrom (parents_in objects) roots id) → (e : HistoryFault) → IsOfNext objects IsDamaged IsNext e → IsTold objects IsDamaged roots e
   IsTold-from_next IsDamaged IsNext reached (Missing id) h = (reached id h.0, h.1)
   IsTold-from_next IsDamaged IsNext reached (NotACommit id) h = absurd h
   IsTold-from_next IsDamaged IsNext reached (Store fault) h = IsMet-more IsNext (ReachedFrom (parents_in objects) roots) IsDamaged reached fault h

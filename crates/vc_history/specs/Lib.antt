@@ -1,10 +1,11 @@
-pub mod BaseFault
+pub mod HistoryFault
 pub mod Generation
 pub mod History
 pub mod Numbering
 pub mod Parents
 pub mod Part
 pub mod Passed
+pub mod Right
 pub mod Stored
 pub mod Toward
 pub mod Walk

@@ -10,3 +10,7 @@ IsWhole objects id = IsClosed (parents_in objects) id
 
 abbrev pub AreWhole : ObjectMap → List ObjectId → Type 0
 AreWhole objects ids = IsClosedUnder (parents_in objects) ids
+
+-- the same where it is so of the names that are known
+abbrev pub AreWholeBeyond : ObjectMap → List ObjectId → List ObjectId → Type 0
+AreWholeBeyond objects known ids = AreWhole objects known → AreWhole objects ids

@@ -1,17 +1,15 @@
 //! Whether one commit descends from another, and whether a history is one of commits alone.
 ghost use Rattle.std.specs.Prelude.{◌≡◌, ◌↔◌, ◌∷◌, [], IsSome, IsTrue, IfOk, IfErr, IsErrOf, not};
-ghost use Rattle.vc_history.specs.BaseFault.{IsTold};
-ghost use Rattle.vc_history.specs.Generation.{Agrees};
+ghost use Rattle.vc_history.specs.HistoryFault.{IsMetInHistory};
 ghost use Rattle.vc_history.specs.History.{IsAncestor};
-ghost use Rattle.vc_history.specs.Numbering.{numbers};
+ghost use Rattle.vc_history.specs.Right.{TellsWhereRight, WhereRight};
+ghost use Rattle.vc_history.specs.Whole.{IsWhole};
 ghost use Rattle.vc_files.specs.Failures.{Wears};
-ghost use Rattle.vc_graph.specs.Graph.{IsClosed, ReachedFrom};
-ghost use Rattle.vc_graph.specs.GraphFault.{IsMet};
-ghost use Rattle.vc_object.specs.ObjectMap.{parents_in};
+ghost use Rattle.vc_graph.specs.Graph.{IsClosed};
 
 use crate::toward::Toward;
 use crate::walk::{Limit, NoLimit, Walk, read_history};
-use crate::{BaseFault, Commits, Generations};
+use crate::{Commits, Generations, HistoryFault};
 use std::alloc::Global;
 use vc_files::Fault;
 use vc_object::ObjectId;
@@ -27,14 +25,14 @@ pub fn is_ancestor<C: Commits>(
     a: &ObjectId,
     b: &ObjectId,
     generations: &Generations,
-) -> Result<bool, BaseFault>
-    ensures answer { IfOk result (λ yes. C.is_honest → Agrees (parents_in (C.objects (C.state_of commits.old))) (numbers generations.now) → IsTrue yes ↔ IsAncestor (parents_in (C.objects (C.state_of commits.old))) a.now b.now) }
-    ensures commit { IfOk result (λ yes. C.is_honest → Agrees (parents_in (C.objects (C.state_of commits.old))) (numbers generations.now) → IsTrue yes → IsSome (parents_in (C.objects (C.state_of commits.old)) a.now)) }
-    ensures whole { IfOk result (λ yes. C.is_honest → Agrees (parents_in (C.objects (C.state_of commits.old))) (numbers generations.now) → IsTrue (not yes) → IsClosed (parents_in (C.objects (C.state_of commits.old))) b.now) }
-    ensures refused { IfErr result (λ e. C.is_honest → Agrees (parents_in (C.objects (C.state_of commits.old))) (numbers generations.now) → IsTold (C.objects (C.state_of commits.old)) (C.damaged (C.state_of commits.old)) (b.now ∷ []) e) }
+) -> Result<bool, HistoryFault>
+    ensures answer { IfOk result (λ yes. C.is_honest → WhereRight (C.objects (C.state_of commits.old)) generations.now (λ parents. IsTrue yes ↔ IsAncestor parents a.now b.now)) }
+    ensures commit { IfOk result (λ yes. C.is_honest → WhereRight (C.objects (C.state_of commits.old)) generations.now (λ parents. IsTrue yes → IsSome (parents a.now))) }
+    ensures whole { IfOk result (λ yes. C.is_honest → WhereRight (C.objects (C.state_of commits.old)) generations.now (λ parents. IsTrue (not yes) → IsClosed parents b.now)) }
+    ensures refused { IfErr result (λ e. C.is_honest → TellsWhereRight C.objects C.damaged (C.state_of commits.old) generations.now (b.now ∷ []) e) }
 
     ensures kept { C.state_of commits.new ≡ C.state_of commits.old }
-    ensures wear { Wears C.failed C.can_fail C.left commits.old commits.new (IsErrOf result (BaseFault.Store (StoreFault.Fault Fault.Device))) }
+    ensures wear { Wears C.failed C.can_fail C.left commits.old commits.new (IsErrOf result (HistoryFault.Store (StoreFault.Fault Fault.Device))) }
 {
     let limit = Toward {
         sought: a,
@@ -51,7 +49,7 @@ pub fn is_ancestor<C: Commits>(
         }
     }
     match walk.other {
-        Some(id) => Err(BaseFault::NotACommit(id)),
+        Some(id) => Err(HistoryFault::NotACommit(id)),
         None => Ok(false),
     }
 }
@@ -63,8 +61,8 @@ pub fn is_history<C: Commits>(
     commits: &mut C,
     root: &ObjectId,
 ) -> Result<bool, StoreFault>
-    ensures history { IfOk result (λ yes. C.is_honest → IsTrue yes ↔ IsClosed (parents_in (C.objects (C.state_of commits.old))) root.now) }
-    ensures refused { IfErr result (λ e. C.is_honest → IsMet (ReachedFrom (parents_in (C.objects (C.state_of commits.old))) (root.now ∷ [])) (C.damaged (C.state_of commits.old)) e) }
+    ensures history { IfOk result (λ yes. C.is_honest → IsTrue yes ↔ IsWhole (C.objects (C.state_of commits.old)) root.now) }
+    ensures refused { IfErr result (λ e. C.is_honest → IsMetInHistory (C.objects (C.state_of commits.old)) (C.damaged (C.state_of commits.old)) (root.now ∷ []) e) }
 
     ensures kept { C.state_of commits.new ≡ C.state_of commits.old }
     ensures wear { Wears C.failed C.can_fail C.left commits.old commits.new (IsErrOf result (StoreFault.Fault Fault.Device)) }
@@ -73,8 +71,8 @@ pub fn is_history<C: Commits>(
         return Ok(true);
     };
     match told {
-        BaseFault::Missing(_) => Ok(false),
-        BaseFault::NotACommit(_) => Ok(false),
-        BaseFault::Store(fault) => Err(fault),
+        HistoryFault::Missing(_) => Ok(false),
+        HistoryFault::NotACommit(_) => Ok(false),
+        HistoryFault::Store(fault) => Err(fault),
     }
 }

@@ -1,22 +1,21 @@
 //! The common ancestors of two commits, and the best of them.
-ghost use Rattle.std.specs.Prelude.{◌≡◌, ◌↔◌, ◌∷◌, [], filter, not, IfSome, OnSome, IfOk, IfErr, IsErrOf, OnOk, Contains};
+ghost use Rattle.std.specs.Prelude.{◌≡◌, ◌∷◌, [], filter, not, IfSome, OnSome, IfOk, IfErr, IsErrOf, OnOk};
 ghost use Rattle.indexmap.specs.IndexSet.{insert_all};
-ghost use Rattle.vc_history.specs.BaseFault.{IsTold};
-ghost use Rattle.vc_history.specs.Generation.{Agrees};
+ghost use Rattle.vc_history.specs.HistoryFault.{IsTold};
 ghost use Rattle.vc_history.specs.History.{IsCommonAncestor, IsBestCommonAncestor};
-ghost use Rattle.vc_history.specs.Numbering.{numbers};
 ghost use Rattle.vc_history.specs.Part.{IsSettledBelow};
 ghost use Rattle.vc_history.specs.Passed.{IsPassed};
+ghost use Rattle.vc_history.specs.Right.{TellsWhereRight, WhereRight};
 ghost use Rattle.vc_history.specs.Walk.{graph_of, read_by};
+ghost use Rattle.vc_history.specs.Whole.{AreWhole};
 ghost use Rattle.vc_files.specs.Failures.{Wears};
-ghost use Rattle.vc_graph.specs.Graph.{IsClosedUnder};
+ghost use Rattle.vc_graph.specs.Graph.{AreExactly, IsClosedUnder};
 ghost use Rattle.vc_object.specs.ObjectId.{id_eq, IsSortedByName};
 ghost use Rattle.vc_object.specs.ObjectMap.{parents_in};
-ghost use Rattle.vc_object.specs.declared.id.ObjectId.{ObjectId as Id};
 
 use crate::part::{Floor, each_is_among, first_floor, lower_floor};
 use crate::walk::{NoLimit, Walk, read_history};
-use crate::{BaseFault, Commits, Generations};
+use crate::{Commits, Generations, HistoryFault};
 use indexmap::IndexSet;
 use std::alloc::{AllocError, Global};
 use vc_files::Fault;
@@ -33,14 +32,14 @@ pub fn merge_bases<C: Commits>(
     a: &ObjectId,
     b: &ObjectId,
     generations: &Generations,
-) -> Result<Vec<ObjectId>, BaseFault>
-    ensures best { IfOk result (λ ids. C.is_honest → Agrees (parents_in (C.objects (C.state_of commits.old))) (numbers generations.now) → (id : Id) → Contains ids.items id ↔ IsBestCommonAncestor (parents_in (C.objects (C.state_of commits.old))) a.now b.now id) }
+) -> Result<Vec<ObjectId>, HistoryFault>
+    ensures best { IfOk result (λ ids. C.is_honest → WhereRight (C.objects (C.state_of commits.old)) generations.now (λ parents. AreExactly (IsBestCommonAncestor parents a.now b.now) ids.items)) }
     ensures sorted { IfOk result (λ ids. IsSortedByName ids.items) }
-    ensures closed { OnOk result (C.is_honest → Agrees (parents_in (C.objects (C.state_of commits.old))) (numbers generations.now) → IsClosedUnder (parents_in (C.objects (C.state_of commits.old))) (a.now ∷ b.now ∷ [])) }
-    ensures refused { IfErr result (λ e. C.is_honest → Agrees (parents_in (C.objects (C.state_of commits.old))) (numbers generations.now) → IsTold (C.objects (C.state_of commits.old)) (C.damaged (C.state_of commits.old)) (a.now ∷ b.now ∷ []) e) }
+    ensures closed { OnOk result (C.is_honest → WhereRight (C.objects (C.state_of commits.old)) generations.now (λ parents. IsClosedUnder parents (a.now ∷ b.now ∷ []))) }
+    ensures refused { IfErr result (λ e. C.is_honest → TellsWhereRight C.objects C.damaged (C.state_of commits.old) generations.now (a.now ∷ b.now ∷ []) e) }
 
     ensures kept { C.state_of commits.new ≡ C.state_of commits.old }
-    ensures wear { Wears C.failed C.can_fail C.left commits.old commits.new (IsErrOf result (BaseFault.Store (StoreFault.Fault Fault.Device))) }
+    ensures wear { Wears C.failed C.can_fail C.left commits.old commits.new (IsErrOf result (HistoryFault.Store (StoreFault.Fault Fault.Device))) }
 {
     let mut floor = first_floor(generations, &[*a, *b]);
     let mut step: u64 = 1;
@@ -65,14 +64,14 @@ pub fn common_ancestors<C: Commits>(
     commits: &mut C,
     a: &ObjectId,
     b: &ObjectId,
-) -> Result<Vec<ObjectId>, BaseFault>
-    ensures common { IfOk result (λ ids. C.is_honest → (id : Id) → Contains ids.items id ↔ IsCommonAncestor (parents_in (C.objects (C.state_of commits.old))) a.now b.now id) }
+) -> Result<Vec<ObjectId>, HistoryFault>
+    ensures common { IfOk result (λ ids. C.is_honest → AreExactly (IsCommonAncestor (parents_in (C.objects (C.state_of commits.old))) a.now b.now) ids.items) }
     ensures sorted { IfOk result (λ ids. IsSortedByName ids.items) }
-    ensures closed { OnOk result (C.is_honest → IsClosedUnder (parents_in (C.objects (C.state_of commits.old))) (a.now ∷ b.now ∷ [])) }
+    ensures closed { OnOk result (C.is_honest → AreWhole (C.objects (C.state_of commits.old)) (a.now ∷ b.now ∷ [])) }
     ensures refused { IfErr result (λ e. C.is_honest → IsTold (C.objects (C.state_of commits.old)) (C.damaged (C.state_of commits.old)) (a.now ∷ b.now ∷ []) e) }
 
     ensures kept { C.state_of commits.new ≡ C.state_of commits.old }
-    ensures wear { Wears C.failed C.can_fail C.left commits.old commits.new (IsErrOf result (BaseFault.Store (StoreFault.Fault Fault.Device))) }
+    ensures wear { Wears C.failed C.can_fail C.left commits.old commits.new (IsErrOf result (HistoryFault.Store (StoreFault.Fault Fault.Device))) }
 {
     let walk = read_history(alloc, commits, &[*a, *b], &NoLimit)?;
     let common = common_in_history(alloc, &walk, a, b)?;
@@ -87,7 +86,7 @@ fn settled_best(
     a: &ObjectId,
     b: &ObjectId,
 ) -> Result<Option<Vec<ObjectId>>, AllocError>
-    ensures best { IfOk result (λ found. IfSome found (λ ids. (id : Id) → Contains ids.items id ↔ IsBestCommonAncestor (graph_of walk.now) a.now b.now id)) }
+    ensures best { IfOk result (λ found. IfSome found (λ ids. AreExactly (IsBestCommonAncestor (graph_of walk.now) a.now b.now) ids.items)) }
     ensures sorted { IfOk result (λ found. IfSome found (λ ids. IsSortedByName ids.items)) }
     ensures settled { IfOk result (λ found. OnSome found (IsSettledBelow walk.now.met.keys (read_by walk.now) a.now b.now)) }
 {
@@ -109,7 +108,7 @@ fn best_common(
     a: &ObjectId,
     b: &ObjectId,
 ) -> Result<Vec<ObjectId>, AllocError>
-    ensures best { IfOk result (λ ids. (id : Id) → Contains ids.items id ↔ IsBestCommonAncestor (graph_of walk.now) a.now b.now id) }
+    ensures best { IfOk result (λ ids. AreExactly (IsBestCommonAncestor (graph_of walk.now) a.now b.now) ids.items) }
     ensures sorted { IfOk result (λ ids. IsSortedByName ids.items) }
 {
     let common = common_in_history(alloc, walk, a, b)?;
@@ -125,7 +124,7 @@ fn common_in_history(
     a: &ObjectId,
     b: &ObjectId,
 ) -> Result<IndexSet<ObjectId>, AllocError>
-    ensures { IfOk result (λ common. (id : Id) → Contains common.keys id ↔ IsCommonAncestor (graph_of walk.now) a.now b.now id) }
+    ensures { IfOk result (λ common. AreExactly (IsCommonAncestor (graph_of walk.now) a.now b.now) common.keys) }
 {
     let of_a = walk.ancestors(alloc, &[*a])?;
     let of_b = walk.ancestors(alloc, &[*b])?;
@@ -139,7 +138,7 @@ fn parents_of_all(
     walk: &Walk,
     ids: &[ObjectId],
 ) -> Result<IndexSet<ObjectId>, AllocError>
-    ensures { IfOk result (λ passed. (id : Id) → Contains passed.keys id ↔ IsPassed (graph_of walk.now) ids.now id) }
+    ensures { IfOk result (λ passed. AreExactly (IsPassed (graph_of walk.now) ids.now) passed.keys) }
 {
     let mut passed = IndexSet::new(alloc);
     for id in ids {

@@ -1,6 +1,6 @@
 //! The refusals of this crate.
 ghost use Rattle.std.specs.Prelude.{◌≡◌};
-ghost use Rattle.vc_history.specs.declared.fault.BaseFault.TheVariants.{Store};
+ghost use Rattle.vc_history.specs.declared.fault.HistoryFault.TheVariants.{Store};
 ghost use Rattle.vc_files.specs.declared.faults.Fault.TheVariants.{Memory};
 ghost use Rattle.vc_store.specs.declared.faults.StoreFault.TheVariants.{Fault};
 
@@ -17,7 +17,7 @@ pub const NOT_A_COMMIT: &str = "41 NotACommit";
 
 /// Why a question about a history has no answer.
 #[derive(Clone, Copy, Debug)]
-pub enum BaseFault {
+pub enum HistoryFault {
     /// 40: a root, or a name that parent links lead to, is absent.
     Missing(ObjectId),
     /// 41: a root, or what parent links lead to, is an object of another kind.
@@ -26,38 +26,38 @@ pub enum BaseFault {
     Store(StoreFault),
 }
 
-impl fmt::Display for BaseFault {
+impl fmt::Display for HistoryFault {
     fn fmt<W: fmt::Write>(&self, f: &mut fmt::Formatter<W>) -> fmt::Result {
         match self {
-            BaseFault::Missing(_) => f.write_str(MISSING),
-            BaseFault::NotACommit(_) => f.write_str(NOT_A_COMMIT),
-            BaseFault::Store(fault) => fmt::Display::fmt(fault, f),
+            HistoryFault::Missing(_) => f.write_str(MISSING),
+            HistoryFault::NotACommit(_) => f.write_str(NOT_A_COMMIT),
+            HistoryFault::Store(fault) => fmt::Display::fmt(fault, f),
         }
     }
 }
 
-impl Error for BaseFault {}
+impl Error for HistoryFault {}
 
-impl From<StoreFault> for BaseFault {
+impl From<StoreFault> for HistoryFault {
     ghost from_gives = { λ fault e. e ≡ Store fault };
 
-    fn from(fault: StoreFault) -> BaseFault {
-        BaseFault::Store(fault)
+    fn from(fault: StoreFault) -> HistoryFault {
+        HistoryFault::Store(fault)
     }
 }
 
-impl From<AllocError> for BaseFault {
+impl From<AllocError> for HistoryFault {
     ghost from_gives = { λ _ e. e ≡ Store (Fault Memory) };
 
-    fn from(_: AllocError) -> BaseFault {
-        BaseFault::Store(StoreFault::Fault(Fault::Memory))
+    fn from(_: AllocError) -> HistoryFault {
+        HistoryFault::Store(StoreFault::Fault(Fault::Memory))
     }
 }
 
-impl<T: Drop> From<AllocFailed<T>> for BaseFault {
+impl<T: Drop> From<AllocFailed<T>> for HistoryFault {
     ghost from_gives = { λ _ e. e ≡ Store (Fault Memory) };
 
-    fn from(_: AllocFailed<T>) -> BaseFault {
-        BaseFault::Store(StoreFault::Fault(Fault::Memory))
+    fn from(_: AllocFailed<T>) -> HistoryFault {
+        HistoryFault::Store(StoreFault::Fault(Fault::Memory))
     }
 }

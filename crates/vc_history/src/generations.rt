@@ -1,17 +1,16 @@
 //! Generation numbers: one more than the length of the longest list of parent links from a commit. An ancestor of a commit,
 //! other than the commit itself, has a smaller one.
 ghost use Rattle.std.specs.Prelude.{◌≡◌, ◌∷◌, [], None, IfErr, IsErrOf, OnOk, OnErr};
-ghost use Rattle.vc_history.specs.BaseFault.{IsTold};
-ghost use Rattle.vc_history.specs.Generation.{Agrees, Learns};
+ghost use Rattle.vc_history.specs.Generation.{Learns};
 ghost use Rattle.vc_history.specs.Numbering.{numbers};
+ghost use Rattle.vc_history.specs.Right.{AgreesWith, TellsWhereRight, WhereRight};
 ghost use Rattle.vc_files.specs.Failures.{Wears};
 ghost use Rattle.vc_graph.specs.Graph.{IsClosed};
-ghost use Rattle.vc_object.specs.ObjectMap.{parents_in};
 ghost use Rattle.vc_object.specs.declared.id.ObjectId.{ObjectId as Id};
 
 use crate::numbering::number_history;
 use crate::walk::{Limit, read_history};
-use crate::{BaseFault, Commits};
+use crate::{Commits, HistoryFault};
 use indexmap::IndexMap;
 use std::alloc::Global;
 use vc_files::Fault;
@@ -55,15 +54,15 @@ impl Generations {
         alloc: Global,
         commits: &mut C,
         root: &ObjectId,
-    ) -> Result<(), BaseFault>
-        ensures agrees { OnOk result (C.is_honest → Agrees (parents_in (C.objects (C.state_of commits.old))) (numbers self.old) → Agrees (parents_in (C.objects (C.state_of commits.old))) (numbers self.new)) }
-        ensures learnt { OnOk result (C.is_honest → Agrees (parents_in (C.objects (C.state_of commits.old))) (numbers self.old) → Learns (parents_in (C.objects (C.state_of commits.old))) root.now (numbers self.old) (numbers self.new)) }
-        ensures closed { OnOk result (C.is_honest → Agrees (parents_in (C.objects (C.state_of commits.old))) (numbers self.old) → IsClosed (parents_in (C.objects (C.state_of commits.old))) root.now) }
-        ensures refused { IfErr result (λ e. C.is_honest → Agrees (parents_in (C.objects (C.state_of commits.old))) (numbers self.old) → IsTold (C.objects (C.state_of commits.old)) (C.damaged (C.state_of commits.old)) (root.now ∷ []) e) }
+    ) -> Result<(), HistoryFault>
+        ensures agrees { OnOk result (C.is_honest → AgreesWith (C.objects (C.state_of commits.old)) self.old → AgreesWith (C.objects (C.state_of commits.old)) self.new) }
+        ensures learnt { OnOk result (C.is_honest → WhereRight (C.objects (C.state_of commits.old)) self.old (λ parents. Learns parents root.now (numbers self.old) (numbers self.new))) }
+        ensures closed { OnOk result (C.is_honest → WhereRight (C.objects (C.state_of commits.old)) self.old (λ parents. IsClosed parents root.now)) }
+        ensures refused { IfErr result (λ e. C.is_honest → TellsWhereRight C.objects C.damaged (C.state_of commits.old) self.old (root.now ∷ []) e) }
         ensures err { OnErr result ((id : Id) → numbers self.new id ≡ numbers self.old id) }
 
         ensures kept { C.state_of commits.new ≡ C.state_of commits.old }
-        ensures wear { Wears C.failed C.can_fail C.left commits.old commits.new (IsErrOf result (BaseFault.Store (StoreFault.Fault Fault.Device))) }
+        ensures wear { Wears C.failed C.can_fail C.left commits.old commits.new (IsErrOf result (HistoryFault.Store (StoreFault.Fault Fault.Device))) }
     {
         if self.numbers.contains_key(root) {
             return Ok(());
@@ -74,7 +73,7 @@ impl Generations {
             Ok(()) => Ok(()),
             Err(fault) => {
                 self.numbers.truncate(before);
-                Err(BaseFault::from(fault))
+                Err(HistoryFault::from(fault))
             }
         }
     }

@@ -1,10 +1,11 @@
 //! Whether a history is one of commits alone, beyond names of which that is known. What is known is not read again, nor is
 //! what lies below it.
-ghost use Rattle.std.specs.Prelude.{◌≡◌, ◌↔◌, ◌∷◌, [], length, take, not, IsTrue, IfOk, IfErr, IsErrOf, OnErr, Contains};
+ghost use Rattle.std.specs.Prelude.{◌≡◌, ◌∷◌, [], length, take, IsTrue, IfOk, IfErr, IsErrOf, Contains};
 ghost use Rattle.vc_files.specs.Failures.{Wears};
-ghost use Rattle.vc_graph.specs.Graph.{ReachedFrom, IsClosed, IsClosedUnder, IsMetBeyond};
-ghost use Rattle.vc_graph.specs.GraphFault.{IsMet};
-ghost use Rattle.vc_history.specs.Whole.{AreWhole, IsWhole};
+ghost use Rattle.vc_graph.specs.Complete.{KnowsIfYes};
+ghost use Rattle.vc_graph.specs.Graph.{IsMetBeyond, TellsBeyond};
+ghost use Rattle.vc_history.specs.HistoryFault.{IsMetInHistory};
+ghost use Rattle.vc_history.specs.Whole.{AreWholeBeyond};
 ghost use Rattle.vc_object.specs.ObjectMap.{parents_in};
 
 use crate::{Commits, Parents};
@@ -22,14 +23,11 @@ pub fn is_history_beyond<C: Commits>(
     known: &mut IndexSet<ObjectId>,
     root: &ObjectId,
 ) -> Result<bool, StoreFault>
-    ensures history { IfOk result (λ yes. C.is_honest → IsClosedUnder (parents_in (C.objects (C.state_of commits.old))) known.old.keys → IsTrue yes ↔ IsClosed (parents_in (C.objects (C.state_of commits.old))) root.now) }
-    ensures known { C.is_honest → IsClosedUnder (parents_in (C.objects (C.state_of commits.old))) known.old.keys → IsClosedUnder (parents_in (C.objects (C.state_of commits.old))) known.new.keys }
-    ensures root { IfOk result (λ yes. IsTrue yes → Contains known.new.keys root.now) }
+    ensures history { IfOk result (λ yes. C.is_honest → TellsBeyond (parents_in (C.objects (C.state_of commits.old))) known.old.keys root.now yes) }
+    ensures known { C.is_honest → AreWholeBeyond (C.objects (C.state_of commits.old)) known.old.keys known.new.keys }
+    ensures grown { KnowsIfYes known.old.keys root.now known.new.keys result }
     ensures met { IfOk result (λ yes. C.is_honest → IsTrue yes → IsMetBeyond (parents_in (C.objects (C.state_of commits.old))) known.old.keys root.now known.new.keys) }
-    ensures refused { IfErr result (λ e. C.is_honest → IsMet (ReachedFrom (parents_in (C.objects (C.state_of commits.old))) (root.now ∷ [])) (C.damaged (C.state_of commits.old)) e) }
-    ensures front { take (length known.old.keys) known.new.keys ≡ known.old.keys }
-    ensures same { IfOk result (λ yes. IsTrue (not yes) → known.new.keys ≡ known.old.keys) }
-    ensures err { OnErr result (known.new.keys ≡ known.old.keys) }
+    ensures refused { IfErr result (λ e. C.is_honest → IsMetInHistory (C.objects (C.state_of commits.old)) (C.damaged (C.state_of commits.old)) (root.now ∷ []) e) }
 
     ensures kept { C.state_of commits.new ≡ C.state_of commits.old }
     ensures wear { Wears C.failed C.can_fail C.left commits.old commits.new (IsErrOf result (StoreFault.Fault Fault.Device)) }
@@ -55,11 +53,11 @@ fn read_beyond<C: Commits>(
     known: &mut IndexSet<ObjectId>,
     root: &ObjectId,
 ) -> Result<bool, StoreFault>
-    ensures history { IfOk result (λ yes. C.is_honest → AreWhole (C.objects (C.state_of commits.old)) known.old.keys → IsTrue yes ↔ IsWhole (C.objects (C.state_of commits.old)) root.now) }
-    ensures known { IfOk result (λ yes. C.is_honest → IsTrue yes → AreWhole (C.objects (C.state_of commits.old)) known.old.keys → AreWhole (C.objects (C.state_of commits.old)) known.new.keys) }
+    ensures history { IfOk result (λ yes. C.is_honest → TellsBeyond (parents_in (C.objects (C.state_of commits.old))) known.old.keys root.now yes) }
+    ensures known { IfOk result (λ yes. C.is_honest → IsTrue yes → AreWholeBeyond (C.objects (C.state_of commits.old)) known.old.keys known.new.keys) }
     ensures root { IfOk result (λ yes. IsTrue yes → Contains known.new.keys root.now) }
     ensures met { IfOk result (λ yes. C.is_honest → IsTrue yes → IsMetBeyond (parents_in (C.objects (C.state_of commits.old))) known.old.keys root.now known.new.keys) }
-    ensures refused { IfErr result (λ e. C.is_honest → IsMet (ReachedFrom (parents_in (C.objects (C.state_of commits.old))) (root.now ∷ [])) (C.damaged (C.state_of commits.old)) e) }
+    ensures refused { IfErr result (λ e. C.is_honest → IsMetInHistory (C.objects (C.state_of commits.old)) (C.damaged (C.state_of commits.old)) (root.now ∷ []) e) }
     ensures front { take (length known.old.keys) known.new.keys ≡ known.old.keys }
 
     ensures kept { C.state_of commits.new ≡ C.state_of commits.old }

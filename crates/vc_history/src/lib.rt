@@ -19,7 +19,7 @@ mod walk;
 
 pub use ancestry::{is_ancestor, is_history};
 pub use bases::{common_ancestors, merge_bases};
-pub use fault::{BaseFault, NOT_A_COMMIT};
+pub use fault::{HistoryFault, NOT_A_COMMIT};
 pub use generations::Generations;
 pub use known::is_history_beyond;
 pub use laws::{ancestors_come_before, more_objects_agree, one_generation, parents_come_before};

@@ -1,20 +1,18 @@
 //! Sets of commits, by commits that are included with their ancestors and commits that are excluded with theirs.
 ghost use Rattle.std.specs.Prelude.{◌≡◌, ◌↔◌, ◌<◌, ◌++◌, ℕ, Some, IfSome, OnSome, IfOk, IfErr, IsErrOf, OnOk, Contains};
-ghost use Rattle.vc_history.specs.BaseFault.{IsTold};
-ghost use Rattle.vc_history.specs.Generation.{Agrees};
 ghost use Rattle.vc_history.specs.History.{IsSelected};
 ghost use Rattle.vc_history.specs.Numbering.{numbers};
 ghost use Rattle.vc_history.specs.Part.{IsSettledOutside};
+ghost use Rattle.vc_history.specs.Right.{TellsWhereRight, WhereRight};
 ghost use Rattle.vc_history.specs.Walk.{graph_of, read_by};
 ghost use Rattle.vc_files.specs.Failures.{Wears};
-ghost use Rattle.vc_graph.specs.Graph.{IsClosedUnder, ReachedFrom};
+ghost use Rattle.vc_graph.specs.Graph.{AreExactly, IsClosedUnder, ReachedFrom};
 ghost use Rattle.vc_object.specs.ObjectId.{IsSortedByName};
-ghost use Rattle.vc_object.specs.ObjectMap.{parents_in};
 ghost use Rattle.vc_object.specs.declared.id.ObjectId.{ObjectId as Id};
 
 use crate::part::{Floor, each_is_among, first_floor, lower_floor};
 use crate::walk::{NoLimit, Walk, read_history};
-use crate::{BaseFault, Commits, Generations};
+use crate::{Commits, Generations, HistoryFault};
 use std::alloc::{AllocError, Global};
 use vc_files::Fault;
 use vc_graph::sorted_difference;
@@ -31,14 +29,14 @@ pub fn commits<C: Commits>(
     include: &[ObjectId],
     exclude: &[ObjectId],
     generations: &Generations,
-) -> Result<Vec<ObjectId>, BaseFault>
-    ensures selected { IfOk result (λ ids. C.is_honest → Agrees (parents_in (C.objects (C.state_of commits.old))) (numbers generations.now) → (id : Id) → Contains ids.items id ↔ IsSelected (parents_in (C.objects (C.state_of commits.old))) include.now exclude.now id) }
+) -> Result<Vec<ObjectId>, HistoryFault>
+    ensures selected { IfOk result (λ ids. C.is_honest → WhereRight (C.objects (C.state_of commits.old)) generations.now (λ parents. AreExactly (IsSelected parents include.now exclude.now) ids.items)) }
     ensures sorted { IfOk result (λ ids. IsSortedByName ids.items) }
-    ensures closed { OnOk result (C.is_honest → Agrees (parents_in (C.objects (C.state_of commits.old))) (numbers generations.now) → IsClosedUnder (parents_in (C.objects (C.state_of commits.old))) (include.now ++ exclude.now)) }
-    ensures refused { IfErr result (λ e. C.is_honest → Agrees (parents_in (C.objects (C.state_of commits.old))) (numbers generations.now) → IsTold (C.objects (C.state_of commits.old)) (C.damaged (C.state_of commits.old)) (include.now ++ exclude.now) e) }
+    ensures closed { OnOk result (C.is_honest → WhereRight (C.objects (C.state_of commits.old)) generations.now (λ parents. IsClosedUnder parents (include.now ++ exclude.now))) }
+    ensures refused { IfErr result (λ e. C.is_honest → TellsWhereRight C.objects C.damaged (C.state_of commits.old) generations.now (include.now ++ exclude.now) e) }
 
     ensures kept { C.state_of commits.new ≡ C.state_of commits.old }
-    ensures wear { Wears C.failed C.can_fail C.left commits.old commits.new (IsErrOf result (BaseFault.Store (StoreFault.Fault Fault.Device))) }
+    ensures wear { Wears C.failed C.can_fail C.left commits.old commits.new (IsErrOf result (HistoryFault.Store (StoreFault.Fault Fault.Device))) }
 {
     let roots = joined(alloc, include, exclude)?;
     let mut floor = floor_of_selection(generations, &roots, exclude);

@@ -2,14 +2,14 @@
 //! follow.
 ghost use Rattle.std.specs.Prelude.{◌≡◌, ◌↔◌, ◌+◌, ◌<◌, [], ℕ, None, Option, length, is_some, IfOk, IfErr, IsErrOf, OnOk, Contains};
 ghost use Rattle.indexmap.specs.IndexSet.{insert_all};
-ghost use Rattle.vc_history.specs.BaseFault.{IsOfNext, IsToldWhereRight};
+ghost use Rattle.vc_history.specs.HistoryFault.{IsOfNext, IsToldWhereRight};
 ghost use Rattle.vc_history.specs.Walk.{IsNext, IsReadOf, WalkGathers, WalkReads, graph_of, parents_read, read_by, unnumbered};
 ghost use Rattle.vc_files.specs.Failures.{Wears};
 ghost use Rattle.vc_graph.specs.Graph.{ReachedFrom};
 ghost use Rattle.vc_object.specs.ObjectId.{id_eq};
 ghost use Rattle.vc_object.specs.declared.id.ObjectId.{ObjectId as Id};
 
-use crate::{BaseFault, Commits, Parents};
+use crate::{Commits, HistoryFault, Parents};
 use indexmap::IndexSet;
 use std::alloc::{AllocError, Global};
 use vc_files::Fault;
@@ -71,14 +71,14 @@ impl Walk {
         alloc: Global,
         commits: &mut C,
         limit: &L,
-    ) -> Result<ObjectId, BaseFault>
+    ) -> Result<ObjectId, HistoryFault>
         requires { length self.old.parents.items < length self.old.met.keys }
         ensures reads { IfOk result (λ id. C.is_honest → WalkReads (C.objects (C.state_of commits.old)) (L.beyond limit.now) self.old self.new id) }
         ensures more { OnOk result (length self.new.parents.items ≡ length self.old.parents.items + 1) }
         ensures refused { IfErr result (λ e. C.is_honest → IsOfNext (C.objects (C.state_of commits.old)) (C.damaged (C.state_of commits.old)) (IsNext self.old) e) }
 
         ensures kept { C.state_of commits.new ≡ C.state_of commits.old }
-        ensures wear { Wears C.failed C.can_fail C.left commits.old commits.new (IsErrOf result (BaseFault.Store (StoreFault.Fault Fault.Device))) }
+        ensures wear { Wears C.failed C.can_fail C.left commits.old commits.new (IsErrOf result (HistoryFault.Store (StoreFault.Fault Fault.Device))) }
     {
         let id = self.met[self.parents.len()];
         let parents = parents_of_commit(alloc, commits, &id, &mut self.other)?;
@@ -126,19 +126,19 @@ pub(crate) fn read_history<C: Commits, L: Limit>(
     commits: &mut C,
     roots: &[ObjectId],
     limit: &L,
-) -> Result<Walk, BaseFault>
+) -> Result<Walk, HistoryFault>
     ensures gathered { IfOk result (λ w. C.is_honest → WalkGathers (C.objects (C.state_of commits.old)) (L.beyond limit.now) roots.now w) }
     ensures refused { IfErr result (λ e. C.is_honest → IsToldWhereRight (C.objects (C.state_of commits.old)) (C.damaged (C.state_of commits.old)) (L.beyond limit.now) roots.now e) }
 
     ensures kept { C.state_of commits.new ≡ C.state_of commits.old }
-    ensures wear { Wears C.failed C.can_fail C.left commits.old commits.new (IsErrOf result (BaseFault.Store (StoreFault.Fault Fault.Device))) }
+    ensures wear { Wears C.failed C.can_fail C.left commits.old commits.new (IsErrOf result (HistoryFault.Store (StoreFault.Fault Fault.Device))) }
 {
     let mut walk = Walk::from_roots(alloc, roots)?;
     'reading: while walk.parents.len() < walk.met.len() {
         walk.read_next(alloc, commits, limit)?;
     }
     match walk.other {
-        Some(id) => Err(BaseFault::NotACommit(id)),
+        Some(id) => Err(HistoryFault::NotACommit(id)),
         None => Ok(walk),
     }
 }
@@ -149,15 +149,15 @@ fn parents_of_commit<C: Commits>(
     commits: &mut C,
     id: &ObjectId,
     other: &mut Option<ObjectId>,
-) -> Result<Vec<ObjectId>, BaseFault>
+) -> Result<Vec<ObjectId>, HistoryFault>
     ensures read { IfOk result (λ own. C.is_honest → IsReadOf (C.objects (C.state_of commits.old)) id.now own.items other.old other.new) }
     ensures refused { IfErr result (λ e. C.is_honest → IsOfNext (C.objects (C.state_of commits.old)) (C.damaged (C.state_of commits.old)) (λ x. x ≡ id.now) e) }
 
     ensures kept { C.state_of commits.new ≡ C.state_of commits.old }
-    ensures wear { Wears C.failed C.can_fail C.left commits.old commits.new (IsErrOf result (BaseFault.Store (StoreFault.Fault Fault.Device))) }
+    ensures wear { Wears C.failed C.can_fail C.left commits.old commits.new (IsErrOf result (HistoryFault.Store (StoreFault.Fault Fault.Device))) }
 {
     let Some(found) = commits.parents(id)? else {
-        return Err(BaseFault::Missing(*id));
+        return Err(HistoryFault::Missing(*id));
     };
     match found {
         Parents::Of(parents) => Ok(parents),

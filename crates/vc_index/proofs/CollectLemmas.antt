@@ -16,10 +16,11 @@ use Rattle.std.proofs.lemmas.List.Sums.{fold-append}
 use Rattle.std.proofs.lemmas.Map.Keys.{IsDistinct-from_sorted}
 use Rattle.std.proofs.lemmas.Map.Entries.{place_from_lookup}
 use Rattle.std.proofs.lemmas.Map.Made.{update_all_none}
+use Rattle.vc_files.proofs.KeyLemmas.{both_parts, less_of}
 use Rattle.vc_index.specs.IndexMap.{IndexMap, index_of}
 use Rattle.vc_index.specs.Reading.{AreInOrder, index_with, pairs, with_files}
 use Rattle.vc_index.specs.declared.entry.IndexEntry.{IndexEntry}
-use Rattle.vc_index.proofs.EntriesLemmas.{AllBefore, back, both_parts, entries_last, less_of}
+use Rattle.vc_index.proofs.EntriesLemmas.{AllBefore, back, entries_last}
 use Rattle.vc_index.proofs.ConflictLemmas.{key_of}
 use Rattle.vc_index.proofs.MapLemmas.{Entries, find_view, get-index_of, get-insert_same, got, key_cmp, no_some, same_text}
 

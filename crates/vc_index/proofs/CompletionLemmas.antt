@@ -1,12 +1,11 @@
 -- Each index has its trees: what is left of its files, and the folders that are open, can be closed to the end.
-use Rattle.std.proofs.Common.{◌≡◌, ◌≢◌, ℕ, zero, suc, ◌<◌, ◌≤◌, ◌-◌, List, [], ◌∷◌, ◌++◌, map, Some, true, false, ◌==◌, nat_eq, refl, ap, sym, ◌∙◌, subst, ⊎_elim, inl, inr, append_assoc, append-nil, length, length-append, take, drop, arith}
-use Rattle.std.specs.Prelude.{option_map, slice_get, slice_index, ◌+◌}
+use Rattle.std.proofs.Common.{◌≡◌, ◌≢◌, ℕ, zero, suc, ◌<◌, ◌≤◌, ◌-◌, List, [], ◌∷◌, ◌++◌, map, Some, true, false, ◌==◌, nat_eq, refl, ap, sym, ◌∙◌, subst, ⊎_elim, inl, inr, append_assoc, append-nil, length, take, drop, arith}
+use Rattle.std.specs.Prelude.{option_map, slice_get, ◌+◌}
 use Rattle.std.specs.List.{AllByRecursion, starts_with}
-use Rattle.std.specs.Int.{to_be_bytes, bytes_high_first, w32}
 use Rattle.std.specs.FinMap.{entries}
 use Rattle.std.proofs.lemmas.Bool.Decides.{Decides-eqb}
 use Rattle.std.proofs.lemmas.List.{take_at, drop_at, same_from_push}
-use Rattle.sha1.specs.Sha1.{sha1, digest_bytes}
+use Rattle.vc_object.proofs.Names.{name_length}
 use Rattle.vc_object.specs.Bytes.{Without}
 use Rattle.vc_object.specs.Object.{object_name, object_bytes}
 use Rattle.vc_object.specs.Tree.{Entry, spelling}
@@ -21,23 +20,6 @@ use Rattle.vc_index.specs.declared.entry.IndexEntry.{IndexEntry}
 use Rattle.vc_index.specs.declared.trees.Part.{Part}
 use Rattle.vc_index.proofs.ClosingLemmas.{open_length-push, closing, closing_shorter, pushed, building_starts, root_listed, inside_last, left_of, not_begun, next_is}
 use Rattle.vc_index.proofs.PartLemmas.{by_last, last_get}
-
--- ---- a name of an object has twenty bytes
-high_length : (k n : ℕ) → length (bytes_high_first k n) ≡ k
-high_length zero n = refl
-high_length (suc k) n = ap suc (high_length k n)
-
-digest_length : (h : List ℕ) (n : ℕ) → length (digest_bytes h n) ≡ n + n + n + n
-unfolding digest_bytes
-digest_length h zero = refl
-digest_length h (suc n) =
-    let before : length (digest_bytes h n) ≡ n + n + n + n = digest_length h n in
-    let last : length (to_be_bytes w32 (slice_index h n)) ≡ 4 = high_length 4 (slice_index h n) in
-    omega (arith, length-append (digest_bytes h n) (to_be_bytes w32 (slice_index h n)))
-
-name_length : (bytes : List ℕ) → length (sha1 bytes) ≡ 20
-unfolding sha1
-name_length bytes = digest_length _ 5
 
 -- ---- paths and parts
 -- a path up to its last slash, and what follows

@@ -9,12 +9,13 @@ use Rattle.std.specs.Ordering.{nat_cmp, is_eq, is_gt, ordering_reverse}
 use Rattle.std.specs.declared.cmp.Ordering.TheVariants.{Less, Equal, Greater}
 use Rattle.std.specs.Cmp.{tied_itself}
 use Rattle.std.specs.Cmp.Lexicographic.{slice_cmp, nat_list_cmp_total}
+use Rattle.vc_files.proofs.KeyLemmas.{both_parts, less_of}
 use Rattle.vc_object.proofs.Order.{All-map, All-push}
 use Rattle.vc_index.specs.Cursor.{IsCursor, ahead}
 use Rattle.vc_index.specs.IndexMap.{IndexMap}
 use Rattle.vc_index.specs.Reading.{pairs}
 use Rattle.vc_index.specs.declared.entry.IndexEntry.{IndexEntry}
-use Rattle.vc_index.proofs.EntriesLemmas.{AllBefore, both_parts, find_all, get_all, get_mid, le_less, less_of, mid_before}
+use Rattle.vc_index.proofs.EntriesLemmas.{AllBefore, find_all, get_all, get_mid, le_less, mid_before}
 use Rattle.vc_index.proofs.MapLemmas.{same_text}
 use denote.Ref.{Bor}
 

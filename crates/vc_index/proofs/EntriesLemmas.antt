@@ -1,12 +1,12 @@
 -- The entries of an index, in the order of their paths.
-use Rattle.std.proofs.Common.{◌≡◌, ℕ, Bool, true, false, cond, ◌&&◌, T, List, [], ◌∷◌, ◌++◌, Some, sym, ap, refl, ◌∙◌, subst, append_assoc}
+use Rattle.std.proofs.Common.{◌≡◌, ℕ, true, false, cond, T, List, [], ◌∷◌, ◌++◌, Some, sym, ap, refl, ◌∙◌, subst, append_assoc}
 use Rattle.std.specs.List.{AllByRecursion}
 use Rattle.std.specs.FinMap.{find, is_sorted, get, insert, entries, entries_sorted, get-entries, entries-insert}
 use Rattle.std.specs.FinMap.Entries.{put, by_order, below_all}
-use Rattle.std.specs.Ordering.{nat_cmp, is_eq, is_gt, is_lt, ordering_reverse}
-use Rattle.std.specs.declared.cmp.Ordering.{Ordering}
+use Rattle.std.specs.Ordering.{nat_cmp, is_eq, is_gt, ordering_reverse}
 use Rattle.std.specs.declared.cmp.Ordering.TheVariants.{Less, Equal, Greater}
 use Rattle.std.specs.Cmp.Lexicographic.{slice_cmp, nat_list_cmp_total}
+use Rattle.vc_files.proofs.KeyLemmas.{both_parts, less_of}
 use Rattle.vc_index.specs.IndexMap.{IndexMap}
 use Rattle.vc_index.specs.declared.entry.IndexEntry.{IndexEntry}
 use Rattle.vc_index.proofs.MapLemmas.{same_text, is_eq-same}
@@ -52,14 +52,6 @@ le_less a b c le less =
     ] refl le
 
 -- ---- lists in order
-pub both_parts : (a b : Bool) → T (a && b) → T a × T b
-both_parts true b h = (tt, h)
-both_parts false b h = absurd h
-
-pub less_of : (o : Ordering) → T (is_lt o) → o ≡ Less
-less_of Less h = refl
-less_of Equal h = absurd h
-less_of Greater h = absurd h
 
 below_mid : (q : List ℕ) (es hs : List (List ℕ × IndexEntry)) (k : List ℕ) (v : IndexEntry) → T (below_all (slice_cmp nat_cmp) q (es ++ (k, v) ∷ hs)) → slice_cmp nat_cmp q k ≡ Less
 below_mid q [] hs k v h = less_of _ (both_parts _ _ h).0

@@ -20,7 +20,7 @@ use Rattle.vc_index.specs.FolderTrees.{AllFit, AreFirstTrees, AreIndexTrees, Fit
 use Rattle.vc_index.specs.HeldFiles.{Pair}
 use Rattle.vc_index.specs.IndexMap.{IndexMap}
 use Rattle.vc_index.specs.Part.{part_entry}
-use Rattle.vc_index.specs.WrittenTrees.{tree_object, AreLowerTrees, IsBegun, HasTooLarge, IsOfFolder, IsOfTrees}
+use Rattle.vc_index.specs.WrittenTrees.{tree_object, AreLowerTrees, HasTooLarge, IsOfFolder, IsOfTrees}
 use Rattle.vc_index.specs.declared.trees.Part.{Part}
 use Rattle.vc_index.proofs.ClosingLemmas.{closing_below, closing_each, closing_tree, path, root_each, root_listed, root_tree, stored_then}
 use Rattle.vc_index.proofs.CompletionLemmas.{closed_whole, closed_part, completes}
@@ -54,9 +54,6 @@ module _ (honest : Type 0) (files : IndexMap) (rest : List Pair) (trees : List (
     fits = c.fits;
     stored = c.stored;
   }
-
-pub begun : (honest : Type 0) (files : IndexMap) (old new : ObjectMap) → Stands honest files [] old new → IsBegun honest files old new
-begun honest files old new s = record { trees = s.more; lower = s.below; first = s.first; fits = s.fits; stored = s.stored }
 
 -- ---- a tree that the store does not take
 tree_refused : (files : IndexMap) (folder : List ℕ) (es : List Entry) (before after : List (List Entry)) (root : List Entry) (Damage : ObjectId → Type 0) (body : List ℕ) (fault : StoreFault)

@@ -1,6 +1,6 @@
 -- How far the writing of an index's trees has come: its files and the trees that were stored, as parts of folders
 -- that are open, the lowest folder last.
-use Rattle.std.specs.Prelude.{◌≡◌, ◌↔◌, ◌⊎◌, ℕ, List, [], ◌∷◌, ◌++◌, map, length, ◌-◌, IsSome, Some, slice_get}
+use Rattle.std.specs.Prelude.{◌≡◌, ◌↔◌, ◌⊎◌, ℕ, List, [], ◌∷◌, ◌++◌, map, length, ◌-◌, IsSome, Some, slice_get, Result, IfErr, OnOk}
 use Rattle.std.specs.List.{AllByRecursion}
 use Rattle.std.specs.Option.{option_map_or}
 use Rattle.std.specs.FinMap.{get, entries}
@@ -18,7 +18,8 @@ use Rattle.vc_index.specs.HeldFiles.{Pair, HasFile}
 use Rattle.vc_index.specs.IndexMap.{IndexMap, IsIndex, index_entry}
 use Rattle.vc_index.specs.Part.{EndsInSlash, part_entry, part_pair}
 use Rattle.vc_index.specs.Path.{names_in, IsAbove}
-use Rattle.vc_index.specs.WrittenTrees.{Holds, IsOfFolder, IsPart, AreLowerTrees, tree_object}
+use Rattle.vc_index.specs.WrittenTrees.{Holds, IsOfFolder, IsOfWrite, IsPart, AreLowerTrees, tree_object}
+use Rattle.vc_index.specs.declared.faults.IndexFault.{IndexFault}
 use Rattle.vc_index.specs.declared.trees.Part.{Part}
 
 -- the first text begins the second
@@ -110,3 +111,20 @@ pub record Closes (honest : Type 0) (files : IndexMap) (rest : List Pair) (trees
 -- how long the path of the last part's folder is
 abbrev pub open_length : List Part → ℕ
 open_length parts = option_map_or (λ (part : Part). length part.folder.now) (slice_get parts (length parts - 1)) 0
+
+-- ---- what the closing of folders says of any index that is built so far from these parts, where what is left of it is so
+
+-- the trees of the folders are stored, and these are the parts then
+abbrev pub ClosesFolders : {E : Type 0} → (IsSo : List Pair → Type 0) → (honest : Type 0) → (before after : List Part) → (old new : ObjectMap) → Result (Unit {0}) E → Type 0
+ClosesFolders IsSo honest before after old new result =
+    (m : IndexMap) (trees : List (List Entry)) (rest : List Pair) → IsSo rest → Building m trees before rest → OnOk result (Closes honest m rest trees after old new)
+
+-- wherever it ends, trees of the index were stored and nothing else
+abbrev pub StandsBehind : (IsSo : List Pair → Type 0) → (honest : Type 0) → (before : List Part) → (old new : ObjectMap) → Type 0
+StandsBehind IsSo honest before old new =
+    (m : IndexMap) (trees : List (List Entry)) (rest : List Pair) → IsSo rest → Building m trees before rest → Stands honest m trees old new
+
+-- what a refusal blames, where the trees so far fit
+abbrev pub RefusesFolders : (IsSo : List Pair → Type 0) → (before : List Part) → (IsDamaged : ObjectId → Type 0) → Result (Unit {0}) IndexFault → Type 0
+RefusesFolders IsSo before IsDamaged result =
+    (m : IndexMap) (trees : List (List Entry)) (rest : List Pair) → IsSo rest → AllFit trees → Building m trees before rest → IfErr result (IsOfWrite m IsDamaged)

@@ -5,9 +5,11 @@ use Rattle.std.specs.Global.{Global}
 use Rattle.std.specs.List.{AllByRecursion, fold, list_any}
 use Rattle.std.specs.Ordering.{nat_cmp, is_gt}
 use Rattle.std.specs.Cmp.Lexicographic.{slice_cmp}
+use Rattle.std.specs.declared.cmp.Ordering.TheVariants.{Less}
 use Rattle.vc_files.specs.declared.faults.Fault.TheVariants.{Memory}
 use Rattle.vc_store.specs.declared.faults.StoreFault.TheVariants.{Fault}
-use Rattle.vc_index.specs.IndexMap.{IndexMap, IsIndex}
+use Rattle.vc_index.specs.IndexMap.{HasFileAbove, IndexMap, IsIndex}
+use Rattle.vc_index.specs.Path.{IsPath}
 use Rattle.vc_index.specs.declared.entry.IndexEntry.{IndexEntry}
 use Rattle.vc_index.specs.declared.faults.IndexFault.{IndexFault}
 use Rattle.vc_index.specs.declared.faults.IndexFault.TheVariants.{PathConflict, Store}
@@ -50,3 +52,7 @@ pub record IsReadTo (m : IndexMap) (last : List ℕ) (fronts : List (List ℕ)) 
   pub is_last : (last ≡ []) ⊎ IsSome (get m last)
   pub some : (front : List ℕ) → IsTrue (has_front fronts front) → IsSome (get m front)
   pub all : (front : List ℕ) → IsSome (get m front) → IsFront front last → IsTrue (has_front fronts front)
+
+-- a path may stand behind the last one: it is a legal one, comes behind it, and lies in none of the files
+abbrev pub MayFollow : IndexMap → (last path : List ℕ) → Type 0
+MayFollow m last path = (slice_cmp nat_cmp last path ≡ Less) × IsPath path × ¬ (HasFileAbove m path)

@@ -1,7 +1,7 @@
 -- What a tree is read as: the index of its files, or the first fault that is met. The tree itself is looked at first, by the
 -- empty path, and right after a folder the entries of its tree, in their order. Either all that the entries name is looked
 -- for, or the trees alone.
-use Rattle.std.specs.Prelude.{◌≡◌, ◌≢◌, ◌<◌, ◌≤◌, ◌⊎◌, ◌↔◌, ℕ, List, [], ◌∷◌, ◌++◌, length, map, Option, Some, None, Result, Ok, Err}
+use Rattle.std.specs.Prelude.{◌≡◌, ◌≢◌, ◌<◌, ◌≤◌, ◌⊎◌, ◌↔◌, ℕ, List, [], ◌∷◌, ◌++◌, length, map, Option, Some, None, Result, Ok, Err, MatchResult}
 use Rattle.std.specs.FinMap.{get}
 use Rattle.vc_object.specs.Decoding.{StoredObject, stored_object}
 use Rattle.vc_object.specs.ObjectMap.{ObjectMap}
@@ -54,10 +54,14 @@ MeetsFaultIn look objects (e ∷ passed) entries fault =
 abbrev pub IsCompleteIn : Look → ObjectMap → ObjectId → Type 0
 IsCompleteIn look objects root = (path : List ℕ) (mode : Mode) (id : ObjectId) → IsEntryOfTree objects root path mode id → IsSoundIn look objects (path, index_entry mode id)
 
+-- the index has the files of the tree, and no others
+abbrev pub IsIndexOfTree : ObjectMap → ObjectId → IndexMap → Type 0
+IsIndexOfTree objects root index = (path : List ℕ) (mode : Mode) (id : ObjectId) → IsFileOfTree objects root path mode id ↔ (get index path ≡ Some (index_entry mode id))
+
 -- the index of a tree of which all that is looked at is there, or the first fault
 abbrev pub ReadsIn : Look → ObjectMap → ObjectId → Result IndexMap TreeFault → Type 0
 ReadsIn look objects root (Ok index) =
-    IsCompleteIn look objects root × ((path : List ℕ) (mode : Mode) (id : ObjectId) → IsFileOfTree objects root path mode id ↔ (get index path ≡ Some (index_entry mode id)))
+    IsCompleteIn look objects root × IsIndexOfTree objects root index
 ReadsIn look objects root (Err fault) = (passed : List Pair) × MeetsFaultIn look objects passed (([], index_entry modes.Tree root) ∷ []) fault
 
 -- ---- where all that the entries name is looked for
@@ -81,3 +85,7 @@ tree_fault (BadIndex place) = None
 tree_fault (WrongEntry at) = Some (OtherKind at.items)
 tree_fault (Missing id) = Some (NoObject id)
 tree_fault (Store fault) = None
+
+-- a reading is what a call answered: its index, or the fault that its refusal tells
+abbrev pub IsAnswered : Result IndexMap TreeFault → Result IndexMap IndexFault → Type 0
+IsAnswered v result = MatchResult result (λ index. v ≡ Ok index) (λ e. (fault : TreeFault) → tree_fault e ≡ Some fault → v ≡ Err fault)

@@ -4,11 +4,8 @@ ghost use Rattle.std.specs.FinMap as paths;
 ghost use Rattle.vc_files.specs.Failures.{Wears, Writes};
 ghost use Rattle.vc_files.specs.FileMap.{SameOutside};
 ghost use Rattle.vc_store.specs.Store.{objects, IsDamaged};
-ghost use Rattle.vc_object.specs.declared.id.ObjectId.{ObjectId as Id};
-ghost use Rattle.vc_object.specs.declared.mode.Mode.{Mode as ModeValue};
 ghost use Rattle.vc_index.specs.Loading.{HasBlobs, IsOfList, IsOfLoad};
-ghost use Rattle.vc_index.specs.TreeFiles.{IsFileOfTree};
-ghost use Rattle.vc_index.specs.TreeReading.{ListsAs, ReadsAs, TreeFault, tree_fault};
+ghost use Rattle.vc_index.specs.TreeReading.{IsAnswered, IsIndexOfTree, ListsAs, ReadsAs, TreeFault, tree_fault};
 ghost use Rattle.vc_index.specs.WrittenTrees.{IsWritten, IsBegun, IsOfWrite};
 ghost use Rattle.vc_index.specs.Path.{IsPath, IsAbove};
 ghost use Rattle.vc_index.specs.Damage.{KeepsDamage};
@@ -17,8 +14,6 @@ ghost use Rattle.std.specs.List.{AllByRecursion};
 ghost use Rattle.vc_index.specs.IndexFault.{IsOfAdd, IsMemory};
 ghost use Rattle.vc_index.specs.Reading.{AreInOrder, IsOfFiles, index_with, pairs, with_files};
 ghost use Rattle.vc_index.specs.IndexText.{index_text, IsOfRead, TextFault};
-ghost use Rattle.std.specs.Ordering.{nat_cmp};
-ghost use Rattle.std.specs.Cmp.Lexicographic.{slice_cmp};
 
 use crate::loading::{Look, load};
 use crate::path::is_path;
@@ -140,10 +135,10 @@ impl Index {
         files: &mut F,
         root: &ObjectId,
     ) -> Result<Index, IndexFault>
-        ensures files { F.honest → IfOk result (λ index. (path : List ℕ) (mode : ModeValue) (id : Id) → IsFileOfTree (objects (F.content files.old)) root.now path mode id ↔ (paths.get index path ≡ Some (index_entry mode id))) }
+        ensures files { F.honest → IfOk result (IsIndexOfTree (objects (F.content files.old)) root.now) }
         ensures reading { F.honest → IfOk result (λ index. ReadsAs (objects (F.content files.old)) root.now (Ok index)) }
         ensures first { F.honest → IfErr result (λ e. (fault : TreeFault) → tree_fault e ≡ Some fault → ReadsAs (objects (F.content files.old)) root.now (Err fault)) }
-        ensures only { F.honest → (v : Result IndexMap TreeFault) → ReadsAs (objects (F.content files.old)) root.now v → MatchResult result (λ index. v ≡ Ok index) (λ e. (fault : TreeFault) → tree_fault e ≡ Some fault → v ≡ Err fault) }
+        ensures only { F.honest → (v : Result IndexMap TreeFault) → ReadsAs (objects (F.content files.old)) root.now v → IsAnswered v result }
         ensures blobs { F.honest → IfOk result (λ index. HasBlobs (objects (F.content files.old)) index) }
         ensures refused { IfErr result (IsOfLoad F.honest (F.content files.old) root.now) }
         ensures same { F.content files.new ≡ F.content files.old }
@@ -160,10 +155,10 @@ impl Index {
         files: &mut F,
         root: &ObjectId,
     ) -> Result<Index, IndexFault>
-        ensures files { F.honest → IfOk result (λ index. (path : List ℕ) (mode : ModeValue) (id : Id) → IsFileOfTree (objects (F.content files.old)) root.now path mode id ↔ (paths.get index path ≡ Some (index_entry mode id))) }
+        ensures files { F.honest → IfOk result (IsIndexOfTree (objects (F.content files.old)) root.now) }
         ensures reading { F.honest → IfOk result (λ index. ListsAs (objects (F.content files.old)) root.now (Ok index)) }
         ensures first { F.honest → IfErr result (λ e. (fault : TreeFault) → tree_fault e ≡ Some fault → ListsAs (objects (F.content files.old)) root.now (Err fault)) }
-        ensures only { F.honest → (v : Result IndexMap TreeFault) → ListsAs (objects (F.content files.old)) root.now v → MatchResult result (λ index. v ≡ Ok index) (λ e. (fault : TreeFault) → tree_fault e ≡ Some fault → v ≡ Err fault) }
+        ensures only { F.honest → (v : Result IndexMap TreeFault) → ListsAs (objects (F.content files.old)) root.now v → IsAnswered v result }
         ensures refused { IfErr result (IsOfList F.honest (F.content files.old) root.now) }
         ensures same { F.content files.new ≡ F.content files.old }
         ensures wear { Wears F.failed F.can_fail F.left files.old files.new (IsErrOf result (IndexFault.Store (StoreFault.Fault Fault.Device))) }

@@ -1,17 +1,13 @@
 // The index of a tree's files, with all that the tree names or with the trees alone.
-ghost use Rattle.std.specs.Prelude.{◌≡◌, ◌≤◌, ◌++◌, ◌↔◌, ℕ, List, Some, ◌≢◌, [], length, map, reverse, IfOk, IfErr, OnOk, IsErrOf};
+ghost use Rattle.std.specs.Prelude.{◌≡◌, ◌≤◌, Some, ◌≢◌, length, map, reverse, IfOk, IfErr, OnOk, IsErrOf};
 ghost use Rattle.std.specs.FinMap as paths;
 ghost use Rattle.vc_files.specs.Failures.{Wears};
 ghost use Rattle.vc_object.specs.Decoding.{stored_object};
 ghost use Rattle.vc_object.specs.Entries.{entries_of};
-ghost use Rattle.vc_object.specs.declared.id.ObjectId.{ObjectId as Id};
-ghost use Rattle.vc_object.specs.declared.mode.Mode.{Mode as ModeValue};
 ghost use Rattle.vc_store.specs.Store.{objects};
 ghost use Rattle.vc_index.specs.HeldFiles.{placed, under};
-ghost use Rattle.vc_index.specs.IndexMap.{index_entry};
 ghost use Rattle.vc_index.specs.Loading.{HasBlobs, IsOfLook, IsOfLoadIn, IsOpened, IsBlobIfDue, item_pair};
-ghost use Rattle.vc_index.specs.TreeFiles.{IsFileOfTree};
-ghost use Rattle.vc_index.specs.TreeReading.{ReadsIn, TreeFault, tree_fault};
+ghost use Rattle.vc_index.specs.TreeReading.{IsIndexOfTree, ReadsIn, TreeFault, tree_fault};
 
 use crate::{Index, IndexEntry, IndexFault, MAX_PATH};
 use std::alloc::{AllocError, Global};
@@ -140,7 +136,7 @@ pub(crate) fn load<F: Files>(
     look: Look,
     root: &ObjectId,
 ) -> Result<Index, IndexFault>
-    ensures files { F.honest → IfOk result (λ index. (path : List ℕ) (mode : ModeValue) (id : Id) → IsFileOfTree (objects (F.content files.old)) root.now path mode id ↔ (paths.get index path ≡ Some (index_entry mode id))) }
+    ensures files { F.honest → IfOk result (IsIndexOfTree (objects (F.content files.old)) root.now) }
     ensures reading { F.honest → IfOk result (λ index. ReadsIn look (objects (F.content files.old)) root.now (Ok index)) }
     ensures first { F.honest → IfErr result (λ e. (fault : TreeFault) → tree_fault e ≡ Some fault → ReadsIn look (objects (F.content files.old)) root.now (Err fault)) }
     ensures blobs { F.honest → look ≡ Look.All → IfOk result (λ index. HasBlobs (objects (F.content files.old)) index) }

@@ -6,8 +6,7 @@ ghost use Rattle.vc_index.specs.IndexMap.{HasFileAbove, IndexMap, IsFile, IsInde
 ghost use Rattle.vc_index.specs.declared.entry.IndexEntry.{IndexEntry as Entry};
 ghost use Rattle.std.specs.FinMap as paths;
 ghost use Rattle.vc_index.specs.IndexText.{index_text, IsOfRead};
-ghost use Rattle.vc_index.specs.Path.{IsPath};
-ghost use Rattle.vc_index.specs.Reading.{IsFront, IsReadTo, has_front};
+ghost use Rattle.vc_index.specs.Reading.{IsFront, IsReadTo, MayFollow, has_front};
 
 use crate::path::is_path;
 use crate::text::entry_at;
@@ -48,7 +47,7 @@ fn lies_in_file(fronts: &[&[u8]], last: &[u8], path: &[u8]) -> bool
 
 // Whether a path may stand behind all paths so far.
 fn may_follow(fronts: &[&[u8]], last: &[u8], path: &[u8]) -> bool
-    ensures { (m : IndexMap) → IsReadTo m last.now (map (λ front. front.now) fronts.now) → IsTrue result ↔ ((slice_cmp nat_cmp last.now path.now ≡ Ordering.Less) × IsPath path.now × ¬ (HasFileAbove m path.now)) }
+    ensures { (m : IndexMap) → IsReadTo m last.now (map (λ front. front.now) fronts.now) → IsTrue result ↔ MayFollow m last.now path.now }
 {
     if last.cmp(path) != Ordering::Less || !is_path(path) {
         return false;

@@ -1,16 +1,14 @@
 // The trees that an index is written as.
-ghost use Rattle.std.specs.Prelude.{◌≡◌, ◌≢◌, ◌<◌, ◌≤◌, ◌-◌, ◌++◌, ◌∷◌, [], ◌⊎◌, ℕ, List, Some, length, drop, take, map, codes, slice_get, option_map, IfOk, IfErr, OnOk, OnErr, IsErrOf};
+ghost use Rattle.std.specs.Prelude.{◌≡◌, ◌≢◌, ◌<◌, ◌≤◌, ◌-◌, ◌++◌, ◌∷◌, [], List, Some, length, drop, take, map, codes, slice_get, option_map, IfOk, IfErr, OnOk, OnErr, IsErrOf};
 ghost use Rattle.std.specs.List.{AllByRecursion};
 ghost use Rattle.vc_files.specs.Failures.{Writes};
 ghost use Rattle.vc_files.specs.FileMap.{SameOutside};
 ghost use Rattle.vc_object.specs.Bytes.{Without};
-ghost use Rattle.vc_object.specs.Tree.{Entry, spelling};
+ghost use Rattle.vc_object.specs.Tree.{spelling};
 ghost use Rattle.vc_store.specs.Store.{objects, IsDamaged};
-ghost use Rattle.vc_index.specs.Building.{Building, Closes, Stands, IsInside, IsLeft, IsNext, open_length};
+ghost use Rattle.vc_index.specs.Building.{Closes, ClosesFolders, IsInside, IsLeft, IsNext, RefusesFolders, Stands, StandsBehind, open_length};
 ghost use Rattle.vc_index.specs.Damage.{KeepsDamage};
-ghost use Rattle.vc_index.specs.FolderTrees.{AllFit};
-ghost use Rattle.vc_index.specs.HeldFiles.{Pair};
-ghost use Rattle.vc_index.specs.IndexMap.{IndexMap, IsIndex, index_of};
+ghost use Rattle.vc_index.specs.IndexMap.{IsIndex, index_of};
 ghost use Rattle.vc_index.specs.Part.{EndsInSlash, part_entry};
 ghost use Rattle.vc_index.specs.WrittenTrees.{IsWritten, IsBegun, IsOfWrite};
 ghost use Rattle.vc_index.specs.declared.trees.Part.{Part};
@@ -80,10 +78,10 @@ fn close_folder<'a, F: Files>(
 ) -> Result<(), IndexFault>
     requires last { option_map (λ part. part.folder.now) (slice_get parts.old.items (length parts.old.items - 1)) ≡ Some folder.now }
     requires some { 0 < length folder.now }
-    ensures closes { (m : IndexMap) (trees : List (List Entry)) (rest : List Pair) → IsLeft folder.now rest → Building m trees parts.old.items rest → OnOk result (Closes F.honest m rest trees parts.new.items (objects (F.content files.old)) (objects (F.content files.new))) }
-    ensures stands { (m : IndexMap) (trees : List (List Entry)) (rest : List Pair) → IsLeft folder.now rest → Building m trees parts.old.items rest → Stands F.honest m trees (objects (F.content files.old)) (objects (F.content files.new)) }
+    ensures closes { ClosesFolders (IsLeft folder.now) F.honest parts.old.items parts.new.items (objects (F.content files.old)) (objects (F.content files.new)) result }
+    ensures stands { StandsBehind (IsLeft folder.now) F.honest parts.old.items (objects (F.content files.old)) (objects (F.content files.new)) }
     ensures shorter { OnOk result (open_length parts.new.items < length folder.now) }
-    ensures refused { (m : IndexMap) (trees : List (List Entry)) (rest : List Pair) → IsLeft folder.now rest → AllFit trees → Building m trees parts.old.items rest → IfErr result (IsOfWrite m (λ id. F.honest → IsDamaged (F.content files.new) id)) }
+    ensures refused { RefusesFolders (IsLeft folder.now) parts.old.items (λ id. F.honest → IsDamaged (F.content files.new) id) result }
     ensures outside { F.honest → SameOutside (codes "objects/") (F.content files.old) (F.content files.new) }
     ensures undamaged { F.honest → KeepsDamage (F.content files.old) (F.content files.new) }
     ensures wear { Writes F.honest F.content F.failed F.can_fail F.left files.old files.new (IsErrOf result (IndexFault.Store (StoreFault.Fault Fault.Device))) }
@@ -110,10 +108,10 @@ fn close_folders<F: Files>(
     parts: &mut Vec<Part<'_>>,
     next: &[u8],
 ) -> Result<(), IndexFault>
-    ensures closes { (m : IndexMap) (trees : List (List Entry)) (rest : List Pair) → IsNext next.now rest → Building m trees parts.old.items rest → OnOk result (Closes F.honest m rest trees parts.new.items (objects (F.content files.old)) (objects (F.content files.new))) }
+    ensures closes { ClosesFolders (IsNext next.now) F.honest parts.old.items parts.new.items (objects (F.content files.old)) (objects (F.content files.new)) result }
     ensures inside { OnOk result (IsInside next.now parts.new.items) }
-    ensures stands { (m : IndexMap) (trees : List (List Entry)) (rest : List Pair) → IsNext next.now rest → Building m trees parts.old.items rest → Stands F.honest m trees (objects (F.content files.old)) (objects (F.content files.new)) }
-    ensures refused { (m : IndexMap) (trees : List (List Entry)) (rest : List Pair) → IsNext next.now rest → AllFit trees → Building m trees parts.old.items rest → IfErr result (IsOfWrite m (λ id. F.honest → IsDamaged (F.content files.new) id)) }
+    ensures stands { StandsBehind (IsNext next.now) F.honest parts.old.items (objects (F.content files.old)) (objects (F.content files.new)) }
+    ensures refused { RefusesFolders (IsNext next.now) parts.old.items (λ id. F.honest → IsDamaged (F.content files.new) id) result }
     ensures outside { F.honest → SameOutside (codes "objects/") (F.content files.old) (F.content files.new) }
     ensures undamaged { F.honest → KeepsDamage (F.content files.old) (F.content files.new) }
     ensures wear { Writes F.honest F.content F.failed F.can_fail F.left files.old files.new (IsErrOf result (IndexFault.Store (StoreFault.Fault Fault.Device))) }

@@ -1,5 +1,5 @@
 -- A message from a reader, line by line: for the loop that takes it.
-use Rattle.std.proofs.Common.{◌≡◌, ◌≢◌, ℕ, ◌+◌, ◌-◌, ◌≤◌, List, [], ◌∷◌, ◌++◌, length, Result, Ok, Err, refl, ap, sym, ◌∙◌, subst, arith, append_assoc, length-append, ◌⊎◌, inl, inr}
+use Rattle.std.proofs.Common.{◌≡◌, ◌≢◌, ℕ, ◌+◌, ◌-◌, List, [], ◌∷◌, ◌++◌, length, Result, Ok, Err, refl, ap, sym, ◌∙◌, subst, arith, append_assoc, length-append, ◌⊎◌, inl, inr}
 use Rattle.std.specs.Prelude.{Option}
 use Rattle.std.specs.Io.KnownBytes.{Consumes, IsAtEnd}
 use Rattle.std.proofs.KnownBytes.{Consumes-nil, Consumes-trans}
@@ -147,10 +147,6 @@ module _ {S M : Type 0} (step : Steps S M) (line_faults : (number : ℕ) (state 
 
       long : length all ≡ place + length read
       long = length-append so.bytes read ∙ ap (λ n. n + length read) (sym so.here)
-
-      -- as many lines as came are no more than the bytes that came
-      pub few_lines : number ≤ place
-      few_lines = let room = so.so.room in let here = so.here in omega (arith, room, here)
 
       module _ (line : IsLineOf new read) where
         -- nothing came

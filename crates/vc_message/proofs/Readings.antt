@@ -1,5 +1,5 @@
 -- Bytes that are read or refused, as the machine asks of what it takes from the layer of messages.
-use Rattle.std.proofs.Common.{◌≡◌, ◌⊎◌, inl, inr, ℕ, List, refl, ap, sym, ◌∙◌, subst, arith}
+use Rattle.std.proofs.Common.{◌≡◌, ◌⊎◌, inl, inr, ℕ, List, Result, Ok, refl, ap, sym, ◌∙◌, subst, arith}
 use Rattle.vc_pkt.specs.Message.{FirstFault, GivenBy, IsSpelledBy}
 use Rattle.vc_pkt.specs.declared.fault.PktFault.{PktFault}
 use Rattle.vc_pkt.specs.declared.fault.PktFault.TheVariants.{BadLength, BadRecord, CutMessage, SizeMismatch, TooLarge, TooMany}
@@ -9,7 +9,7 @@ use Rattle.vc_model.specs.Rules.{IsFormedMessage}
 use Rattle.vc_model.specs.Wire.{IsUnreadable, Wire}
 use Rattle.vc_rules.specs.Git.{git}
 use Rattle.vc_rules.proofs.GitLaws.{git_rules}
-use Rattle.vc_message.specs.AnyMessage.{MessageText, any_step, any_step_own, beginning}
+use Rattle.vc_message.specs.AnyMessage.{MessageText, SpellsMessage, any_step, any_step_own, beginning}
 use Rattle.vc_message.specs.Laws.{MessageLaws, wire_of}
 use Rattle.vc_message.specs.Machine.{IsUnread, Reads, TextOf, pkt_number}
 use Rattle.vc_message.proofs.AnyLaws.{any_given, any_spelled}
@@ -28,6 +28,13 @@ read_named bytes m a = named_text a.text m a.is
 
 pub read_formed : (bytes : List ℕ) (m : Message) → Reads bytes m → IsFormedMessage git git_rules m
 read_formed bytes m a = formed_text a.text a.spelled.0 m a.spelled.2 a.is
+
+-- the text that they give is that of the message
+pub text_read : (bytes : List ℕ) (m : Message) (text : MessageText) → Reads bytes m → ((t : MessageText) → IsSpelledBy SpellsMessage t bytes → ◌≡◌ {A = Result MessageText PktFault} (Ok t) (Ok text)) → TextOf m text
+text_read bytes m text reads given =
+    let both : ◌≡◌ {A = Result MessageText PktFault} (Ok reads.text) (Ok text) = given reads.text reads.spelled in
+    let same : reads.text ≡ text = cc both in
+    subst (λ (t : MessageText). TextOf m t) same reads.is
 
 -- ---- what is refused
 pub one_refusal : (bytes : List ℕ) (n k : ℕ) → IsUnread bytes n → IsUnread bytes k → n ≡ k

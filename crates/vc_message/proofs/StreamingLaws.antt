@@ -1,5 +1,5 @@
 -- A message that carries objects: what its lines do, and what the bytes of it are that came.
-use Rattle.std.proofs.Common.{◌≡◌, ◌≢◌, ◌⊎◌, inl, inr, ℕ, ◌+◌, ◌≤◌, Bool, true, false, List, [], ◌∷◌, ◌++◌, length, Option, Some, None, Result, Ok, Err, refl, ap, sym, ◌∙◌, subst, arith, length-append, if◌then◌else◌}
+use Rattle.std.proofs.Common.{◌≡◌, ◌≢◌, ◌⊎◌, inl, inr, ℕ, ◌+◌, ◌≤◌, Bool, true, false, List, [], ◌∷◌, length, Option, Some, None, Result, Ok, Err, refl, ap, sym, ◌∙◌, subst, arith, length-append, if◌then◌else◌}
 use Rattle.std.proofs.lemmas.List.{append-nil}
 use Rattle.vc_object.specs.Decoding.{StoredObject}
 use Rattle.vc_object.specs.declared.id.ObjectId.{ObjectId}
@@ -20,14 +20,14 @@ use Rattle.vc_push.specs.Push.{Carried, CommandText, carry, with_commands}
 use Rattle.vc_push.specs.Push as push
 use Rattle.vc_push.specs.PushView.{commands_of}
 use Rattle.vc_message.specs.AnyMessage.{AnyState, MessageText, Read, any_step, any_step_own, as_pack, as_push, beginning, in_pack, in_push}
-use Rattle.vc_message.specs.Incoming.{Fails, IsLineOf, IsLoss, TakesFault, TakesNothing, TakesText, whole}
+use Rattle.vc_message.specs.Incoming.{Fails, IsLineOf, IsLoss, TakesFault, TakesText, whole}
 use Rattle.vc_message.specs.IncomingFault.{of_pkt}
 use Rattle.vc_message.specs.declared.incoming_fault.IncomingFault.{IncomingFault}
 use Rattle.vc_message.specs.declared.incoming_fault.IncomingFault.TheVariants.{Failed, Unread}
 use Rattle.vc_message.specs.Streaming.{Carrier, of_pack, of_push, FailsAtLine, IsBeforeAll, IsHeadAt, LeadsTo, TakesHead, TakesLine, may_carry, state_at, text_of, with_more}
 use Rattle.vc_message.specs.declared.streaming.Head.{Head}
 use Rattle.vc_message.specs.declared.streaming.Head.TheVariants as heads
-use Rattle.vc_message.proofs.IncomingLaws.{TakenSoFar, on_last, on_loss, on_next, on_no_line_read, on_nothing, on_refusal}
+use Rattle.vc_message.proofs.IncomingLaws.{TakenSoFar, on_last, on_loss, on_next, on_no_line_read, on_refusal}
 
 -- a line has four bytes or more
 few_lines : (lines : List LineText) (bytes : List ℕ) → IsLines lines bytes → length lines ≤ length bytes
@@ -119,9 +119,6 @@ module _ (before now new : Option (List ℕ)) (place number : ℕ) (s : AnyState
 
   pub on_no_line_left : IsBeforeAll now new place → Fails any_step beginning before new Failed
   on_no_line_left (bytes, took, line, none) = on_loss any_step any_step_own beginning before now new bytes place number s taken took Failed tt
-
-  pub nothing_taken : IsBeforeAll now new place → TakesNothing before new
-  nothing_taken (bytes, took, line, none) = on_nothing any_step any_step_own beginning before now new bytes place number s taken took line none
 
   module _ (end : ℕ) (bytes : List ℕ) (t : TakesLine now new place end bytes) where
     pub on_lost_line : Fails any_step beginning before new Failed

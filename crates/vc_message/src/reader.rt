@@ -1,6 +1,6 @@
 //! Reading a message of any kind line by line.
 
-ghost use Rattle.std.specs.Prelude.{◌≡◌, IfOk};
+ghost use Rattle.std.specs.Prelude.{IfOk};
 ghost use Rattle.vc_pkt.specs.LineView.{line_text};
 ghost use Rattle.vc_pkt.specs.StepView.{Gives, stepped};
 ghost use Rattle.vc_fetch.specs.Advert.{advert_step};

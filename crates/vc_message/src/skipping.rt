@@ -1,5 +1,5 @@
 //! What comes of a message that isn't taken, read to its end: one line and one body of it are held at a time.
-ghost use Rattle.std.specs.Prelude.{◌≡◌, ◌≤◌, [], IfErr, IfNone, IfOk, IfSome, Ok, OnOk, true, false};
+ghost use Rattle.std.specs.Prelude.{◌≡◌, ◌≤◌, IfErr, IfNone, IfOk, IfSome, Ok, OnOk, true, false};
 ghost use Rattle.vc_fetch.specs.Pack.{is_object};
 ghost use Rattle.vc_pkt.specs.StreamObjectView.{stored};
 ghost use Rattle.vc_pkt.specs.declared.fault.PktFault.TheVariants.{BadRecord};

@@ -48,11 +48,12 @@ use Rattle.vc_store.proofs.PathLemmas.{name_in-some, name_in-object_path}
 use Rattle.vc_rules.specs.Git.{git, machine_entry}
 use Rattle.vc_rules.proofs.GitLaws.{git_rules}
 use Rattle.vc_node.specs.Burning.{CallsBurn, ExchangesBurn, PacksBurn, SoundCallsBurn}
-use Rattle.vc_node.specs.CloneCalls.{FoundAs, ReceivedAs, RestartedAs, SentAs}
+use Rattle.vc_node.specs.CloneCalls.{ReceivedAs, SentAs}
 use Rattle.vc_node.specs.CloneFaults.{IsOfDevice as IsOfClonesDevice, TellsDevice as CloneTellsDevice, fault_answer as clone_answer}
 use Rattle.vc_node.specs.Machine.{Spells, done_answer, fault_answer, failure_of, machine_head, made_answer, ref_answer, store_answer}
 use Rattle.vc_node.specs.NodeFault.{IsOfDevice, TellsDevice}
 use Rattle.vc_node.specs.Shown.{Shown, shown}
+use Rattle.vc_node.specs.Told.{FoundAs, RestartedAs}
 use Rattle.vc_node.specs.declared.clone_fault.CloneFault.{CloneFault}
 use Rattle.vc_node.specs.declared.clone_fault.CloneFault.TheVariants as of_clone
 use Rattle.vc_node.specs.declared.exchanging.Received.{Received}
@@ -395,7 +396,7 @@ sent_tells : (r : Result (Vec ℕ Global) CloneFault) (a : Answer) (sends : Opti
 sent_tells (Ok bytes) a sends told is = absurd (cc (sym told.answer ∙ is))
 sent_tells (Err e) a sends told is = of_clone_fault e (sym told.answer ∙ is)
 
-found_tells : (r : Result ObjectId CloneFault) (a : Answer) (sends : Option Message) → FoundAs r a sends → a ≡ Fault Device → CloneTellsDevice r
+found_tells : (r : Result ObjectId CloneFault) (a : Answer) (sends : Option Message) → FoundAs clone_answer r a sends → a ≡ Fault Device → CloneTellsDevice r
 found_tells (Ok id) a sends told is = absurd (cc (sym told.answer ∙ is))
 found_tells (Err e) a sends told is = of_clone_fault e (sym told.answer ∙ is)
 
@@ -405,8 +406,8 @@ received_burns honest content failed can_fail left = exchanges_burn honest conte
 pub sent_burns : {D : Type 0} (honest : Type 0) (content : D → FileMap) (failed : D → ℕ) (can_fail : D → Type 0) (left : D → Option ℕ) → ExchangesBurn honest content failed can_fail left SentAs
 sent_burns honest content failed can_fail left = exchanges_burn honest content failed can_fail left SentAs sent_tells
 
-pub found_burns : {D : Type 0} (honest : Type 0) (content : D → FileMap) (failed : D → ℕ) (can_fail : D → Type 0) (left : D → Option ℕ) → ExchangesBurn honest content failed can_fail left FoundAs
-found_burns honest content failed can_fail left = exchanges_burn honest content failed can_fail left FoundAs found_tells
+pub found_burns : {D : Type 0} (honest : Type 0) (content : D → FileMap) (failed : D → ℕ) (can_fail : D → Type 0) (left : D → Option ℕ) → ExchangesBurn honest content failed can_fail left (FoundAs clone_answer)
+found_burns honest content failed can_fail left = exchanges_burn honest content failed can_fail left (FoundAs clone_answer) found_tells
 
 -- ---- packing the refs
 

@@ -17,10 +17,11 @@ use Rattle.vc_rules.proofs.JoinLemmas.{none_added}
 use Rattle.vc_rules.specs.Git.{git}
 use Rattle.vc_rules.specs.OpenPushes.{HoldsContent}
 use Rattle.vc_node.specs.Awaited.{AwaitedText, IsAwaited}
-use Rattle.vc_node.specs.CloneCalls.{AnswersClone, Quietly, SendsBytes}
+use Rattle.vc_node.specs.CloneCalls.{AnswersClone}
 use Rattle.vc_node.specs.CloneFaults.{fault_answer, of_device}
 use Rattle.vc_node.specs.Machine.{HoldsNode, Spells, failure_of}
 use Rattle.vc_node.specs.Shown.{shown}
+use Rattle.vc_node.specs.Told.{Quietly, SendsBytes}
 
 -- what is shown of a repository is its content
 pub held_content : (content : FileMap) (r : Repository) → Spells (shown content) r → HoldsContent content r

@@ -3,9 +3,9 @@ use Rattle.std.proofs.Common.{◌≡◌, ℕ, List, [], ◌∷◌, Option, Some,
 use Rattle.std.specs.Prelude.{IsSome}
 use Rattle.std.specs.Option.{option_map}
 use Rattle.std.proofs.lemmas.List.Elements.{Contains-append_right, Contains-push_cases}
-use Rattle.vc_history.specs.BaseFault.{IsTold}
-use Rattle.vc_history.specs.declared.fault.BaseFault.{BaseFault}
-use Rattle.vc_history.specs.declared.fault.BaseFault.TheVariants as base
+use Rattle.vc_history.specs.HistoryFault.{IsTold}
+use Rattle.vc_history.specs.declared.fault.HistoryFault.{HistoryFault}
+use Rattle.vc_history.specs.declared.fault.HistoryFault.TheVariants as base
 use Rattle.vc_files.specs.FileMap.{FileMap}
 use Rattle.vc_graph.specs.Graph.{Reaches, ReachedFrom, LinksTo}
 use Rattle.vc_graph.specs.Graph.Reaches.{itself, onward}
@@ -21,7 +21,7 @@ use Rattle.vc_object.proofs.ObjectMaps.{links_in-none, links_in-some, parents_in
 use Rattle.vc_store.specs.Store.{objects, IsDamaged}
 use Rattle.vc_store.specs.declared.faults.StoreFault.TheVariants as store
 use Rattle.vc_node.specs.GoodCommit.{IsComplete, BlamesCommitBeyond}
-use Rattle.vc_node.specs.NodeFault.{of_base}
+use Rattle.vc_node.specs.NodeFault.{of_history}
 use Rattle.vc_node.specs.declared.fault.NodeFault.{NodeFault}
 use Rattle.vc_node.specs.declared.fault.NodeFault.TheVariants.{Store, Ref, Missing, NotACommit, BadPath, PathConflict, BadIndex, WrongEntry, Down}
 
@@ -58,7 +58,7 @@ only_root graph root y r = subst (λ (x : ObjectId). Reaches graph x y) (lone r.
     lone {x} h = elim (Contains-push_cases [] root x h) [ inl none ↦ absurd (let k = none.1 in omega arith) | inr same ↦ sym same ]
 
 -- a refusal of the walk over the history of an id that is complete where what was known is so
-pub told_commit : (IsKnown : Type 0) (content : FileMap) (id : ObjectId) (e : BaseFault) → (IsKnown → IsComplete content id) → IsTold (objects content) (IsDamaged content) (id ∷ []) e → BlamesCommitBeyond IsKnown content id (of_base e)
+pub told_commit : (IsKnown : Type 0) (content : FileMap) (id : ObjectId) (e : HistoryFault) → (IsKnown → IsComplete content id) → IsTold (objects content) (IsDamaged content) (id ∷ []) e → BlamesCommitBeyond IsKnown content id (of_history e)
 told_commit IsKnown content id (base.Missing absent) complete told = λ known.
     absurd (no_some (links_in (objects content) absent) (links_in-none (objects content) absent told.1) (complete known absent (reach_parents (objects content) id absent (only_root (parents_in (objects content)) id absent told.0))))
 told_commit IsKnown content id (base.NotACommit other) complete told = λ known.

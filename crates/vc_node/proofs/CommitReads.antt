@@ -13,7 +13,7 @@ use Rattle.vc_object.specs.declared.id.ObjectId.{ObjectId}
 use Rattle.vc_object.specs.declared.kind.Kind.TheVariants as kinds
 use Rattle.vc_refs.specs.Head.{head_of}
 use Rattle.vc_refs.proofs.LayeredLemmas.{decides-loose, decides-packed}
-use Rattle.vc_refs.specs.RefFault.{BlamesHead, BlamesHeadValue, BlamesObstacle, IsFault}
+use Rattle.vc_refs.specs.RefFault.{BlamesHead, BlamesHeadValue}
 use Rattle.vc_refs.specs.Refs.{deciding_file, is_taken}
 use Rattle.vc_refs.specs.declared.faults.RefFault.{RefFault}
 use Rattle.vc_refs.specs.declared.faults.RefFault.TheVariants as ref
@@ -76,21 +76,6 @@ value_read content (ref.Conflict other) blames = tt
 value_read content (ref.BadRefFile path) blames = elim blames [ inl head ↦ inl head.0 | inr named ↦ inr (heads.Branch named.0, named.1, inl (its_file content named.0 (string_bytes path) named.2)) ]
 value_read content ref.HeadLoop blames = tt
 value_read content (ref.Fault f) blames = tt
-
--- what is in the way of HEAD's branch
-pub way_read : (content : FileMap) (name : List ℕ) (e : RefFault) → head_of content ≡ Some (heads.Branch name) → BlamesObstacle content name e → TellsRead NoneRead (IsAtHead content) (Ref e)
-way_read content name (ref.Stale current) head blames = tt
-way_read content name (ref.Conflict other) head blames = tt
-way_read content name (ref.BadRefFile path) head blames = inr (heads.Branch name, head, elim blames [ inl packed ↦ inl (inr packed.0) | inr first ↦ inr first.2 ])
-way_read content name ref.HeadLoop head blames = tt
-way_read content name (ref.Fault f) head blames = tt
-
-pub none_read : (content : FileMap) (head : Head) (e : RefFault) → IsFault e → TellsRead NoneRead (IsAtBranch content head) (Ref e)
-none_read content head (ref.Stale current) fault = tt
-none_read content head (ref.Conflict other) fault = tt
-none_read content head (ref.BadRefFile path) fault = absurd fault
-none_read content head ref.HeadLoop fault = tt
-none_read content head (ref.Fault f) fault = tt
 
 -- what is at a branch, after objects alone were stored, was so before: nothing is in its way
 module _ (old new : FileMap) (outside : SameOutside (codes "objects/") old new) where

@@ -3,6 +3,7 @@ use Rattle.std.proofs.Common.{◌≡◌, ⊎_elim, List, Some, refl, ap, ◌∙�
 use Rattle.std.specs.Prelude.{codes}
 use Rattle.std.specs.FinMap as files
 use Rattle.vc_pack.proofs.KeepsLemmas.{keeps_map, keeps_same, keeps_then, with_object-keeps, with_objects-keeps}
+use Rattle.vc_exchange.specs.Storing.{KeepsGood}
 use Rattle.vc_pack.specs.Reached.{KeepsObjects}
 use Rattle.vc_files.specs.FileMap.{FileMap}
 use Rattle.vc_index.specs.IndexMap.{IndexMap}
@@ -16,7 +17,6 @@ use Rattle.vc_refs.specs.declared.heads.Head.TheVariants as heads
 use Rattle.vc_store.specs.Store.{objects}
 use Rattle.vc_node.proofs.ShownLemmas.{shown_index}
 use Rattle.vc_session.proofs.CleanLemmas.{bad_same, bad_then}
-use Rattle.vc_node.specs.Clean.{KeepsGood}
 use Rattle.vc_node.specs.Commit.{IsCommitted, WritesCommit, made_body, moved}
 use Rattle.vc_node.specs.Making.{IsCut, LeftByCommit, StoresTrees}
 use Rattle.vc_node.specs.Shown.{Shown, shown, with_index_shown}

@@ -15,6 +15,7 @@ pub mod RefBlames
 pub mod DenotingLemmas
 pub mod EmptyingLemmas
 pub mod ExchangingLemmas
+pub mod FaultLemmas
 pub mod IndexLemmas
 pub mod KeepingLemmas
 pub mod LookLemmas

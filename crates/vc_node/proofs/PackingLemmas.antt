@@ -12,9 +12,10 @@ use Rattle.vc_refs.specs.declared.faults.RefFault.TheVariants as ref
 use Rattle.vc_node.specs.Awaited.{AwaitedText}
 use Rattle.vc_node.specs.Blames.{BlamesPacking}
 use Rattle.vc_node.specs.Clean.{IsClean}
-use Rattle.vc_node.specs.CloneCalls.{AnswersClone, MayOr, RestartedAs}
+use Rattle.vc_node.specs.CloneCalls.{AnswersClone, MayOr}
 use Rattle.vc_node.specs.Machine.{Spells, failure_of, live_of, up_after}
 use Rattle.vc_node.specs.Shown.{Shown, shown}
+use Rattle.vc_node.specs.Told.{RestartedAs}
 use Rattle.vc_node.specs.declared.fault.NodeFault.{NodeFault}
 use Rattle.vc_node.specs.declared.fault.NodeFault.TheVariants.{BadIndex, BadPath, Down, Missing, NotACommit, PathConflict, Ref, Store, WrongEntry}
 

@@ -1,12 +1,11 @@
 -- A fault of an exchange, as a clone tells it: of which it may be over clean files, and what it says of the device.
-use Rattle.std.proofs.Common.{◌≡◌, ◌⊎◌, inl, inr, ℕ, List, Option, Some, None, Result, Ok, Err, refl, sym, ap, ◌∙◌, subst, true≢false}
+use Rattle.std.proofs.Common.{◌≡◌, ◌⊎◌, inl, inr, ℕ, List, Option, Some, None, Result, Ok, Err, refl, sym, subst, true≢false}
 use Rattle.std.specs.Prelude.{IfErr, IsErrAnd, IsErrOf, string_bytes}
 use Rattle.vc_exchange.specs.Faults.{BlamesFiles, BlamesObjects, BlamesRefs}
 use Rattle.vc_exchange.specs.Receiving.{BlamesAdvert, BlamesPack, DeclinesPack}
 use Rattle.vc_exchange.specs.Wanting.{BlamesHeads, BlamesWanting}
 use Rattle.vc_exchange.specs.declared.fault.ExchangeFault.{ExchangeFault}
 use Rattle.vc_exchange.specs.declared.fault.ExchangeFault.TheVariants as exchange
-use Rattle.vc_files.proofs.WearLemmas.{writes_told}
 use Rattle.vc_files.specs.Failures.{Writes}
 use Rattle.vc_files.specs.FileMap.{FileMap}
 use Rattle.vc_files.specs.declared.faults.Fault.{Fault as FilesFault}
@@ -20,24 +19,27 @@ use Rattle.vc_refs.specs.declared.faults.RefFault.TheVariants as refs
 use Rattle.vc_refs.specs.declared.heads.Head.{Head}
 use Rattle.vc_store.specs.declared.faults.StoreFault.{StoreFault}
 use Rattle.vc_store.specs.declared.faults.StoreFault.TheVariants as store
+use Rattle.vc_node.proofs.FaultLemmas.{refs_calm, store_calm, told_from, writes_by}
 use Rattle.vc_node.proofs.RefusalLemmas.{no_head, of_head_value}
 use Rattle.vc_node.specs.Clean.{IsClean}
-use Rattle.vc_node.specs.CloneFaults.{IsOfDevice, TellsDevice, of_device, of_exchange, of_refs, of_store}
+use Rattle.vc_node.specs.CloneFaults.{IsOfDevice, TellsDevice, of_device, of_exchange}
+use Rattle.vc_node.specs.NodeFault.{refused_by_refs, refused_by_store}
 use Rattle.vc_node.specs.Receipts.{IsOfMessage}
 use Rattle.vc_node.specs.declared.clone_fault.CloneFault.{CloneFault}
+use Rattle.vc_node.specs.declared.clone_fault.CloneFault.TheVariants.{Node}
 
 -- ---- which fault it may be
 -- it is told as want of memory, or as a device that failed
 abbrev pub IsFailing : CloneFault → Type 0
 IsFailing e = (f : FilesFault) × (e ≡ of_device f)
 
-objects_fail : (content : FileMap) → IsClean content → (fault : StoreFault) → BlamesObjects content fault → IsFailing (of_store fault)
+objects_fail : (content : FileMap) → IsClean content → (fault : StoreFault) → BlamesObjects content fault → IsFailing (Node (refused_by_store fault))
 objects_fail content clean (store.BadObject e) never = absurd never
 objects_fail content clean (store.Absent id) never = absurd never
 objects_fail content clean (store.Damaged id) bad = absurd (clean.objects id bad)
 objects_fail content clean (store.Fault f) why = (Memory, refl)
 
-refs_fail : (content : FileMap) → IsClean content → (fault : RefFault) → BlamesRefs content fault → IsFailing (of_refs fault)
+refs_fail : (content : FileMap) → IsClean content → (fault : RefFault) → BlamesRefs content fault → IsFailing (Node (refused_by_refs fault))
 refs_fail content clean (refs.Stale current) never = absurd never
 refs_fail content clean (refs.Conflict name) never = absurd never
 refs_fail content clean (refs.BadRefFile path) bad = absurd (clean.refs _ bad)
@@ -61,13 +63,13 @@ module _ (content : FileMap) (head : Head) (at : head_of content ≡ Some head) 
   no_loop : IsHeadLoop content → ⊥
   no_loop loop = no_head content head at (of_head_value content refs.HeadLoop loop)
 
-  heads_fail : IsClean content → (fault : RefFault) → BlamesHeads content fault → IsFailing (of_refs fault)
+  heads_fail : IsClean content → (fault : RefFault) → BlamesHeads content fault → IsFailing (Node (refused_by_refs fault))
   heads_fail clean (refs.Stale current) never = absurd never
   heads_fail clean (refs.Conflict name) never = absurd never
   heads_fail clean (refs.BadRefFile path) (inl first) = absurd (clean.refs _ first.bad)
   heads_fail clean (refs.BadRefFile path) (inr named) = by (of_head_value content (refs.BadRefFile path) (inl named))
     where
-      by : (head_of content ≡ None) ⊎ IsBadRef content (string_bytes path) → IsFailing (of_refs (refs.BadRefFile path))
+      by : (head_of content ≡ None) ⊎ IsBadRef content (string_bytes path) → IsFailing (Node (refused_by_refs (refs.BadRefFile path)))
       by (inl none) = absurd (no_head content head at none)
       by (inr bad) = absurd (clean.refs _ bad)
   heads_fail clean refs.HeadLoop loop = absurd (no_loop loop)
@@ -84,23 +86,10 @@ module _ (content : FileMap) (head : Head) (at : head_of content ≡ Some head) 
   advert_fails clean fault (inr why) = files_fail content clean fault why
 
 -- ---- what it is not
-store_no_message : (e : StoreFault) → IsOfMessage (of_store e) → ⊥
-store_no_message (store.BadObject e) never = never
-store_no_message (store.Absent id) never = never
-store_no_message (store.Damaged id) never = never
-store_no_message (store.Fault f) never = never
-
-refs_no_message : (e : RefFault) → IsOfMessage (of_refs e) → ⊥
-refs_no_message (refs.Stale current) never = never
-refs_no_message (refs.Conflict name) never = never
-refs_no_message (refs.BadRefFile path) never = never
-refs_no_message refs.HeadLoop never = never
-refs_no_message (refs.Fault f) never = never
-
 -- of the faults of an exchange one alone is of the message
 pub incomplete_alone : (fault : ExchangeFault) → IsOfMessage (of_exchange fault) → (id : ObjectId) × (fault ≡ exchange.Incomplete id)
-incomplete_alone (exchange.Store e) is = absurd (store_no_message e is)
-incomplete_alone (exchange.Refs e) is = absurd (refs_no_message e is)
+incomplete_alone (exchange.Store e) is = absurd is
+incomplete_alone (exchange.Refs e) is = absurd is
 incomplete_alone (exchange.Incomplete id) is = (id, refl)
 incomplete_alone (exchange.Fault f) is = absurd is
 
@@ -114,31 +103,17 @@ kept_as fault (Err e) is holds = λ told. holds (subst IsOfMessage is told)
 
 -- ---- the device
 device_alone : (e : ExchangeFault) → IsOfDevice (of_exchange e) → e ≡ exchange.Fault Device
-device_alone (exchange.Store (store.BadObject f)) told = absurd told
-device_alone (exchange.Store (store.Absent id)) told = absurd told
-device_alone (exchange.Store (store.Damaged id)) told = absurd told
-device_alone (exchange.Store (store.Fault f)) told = absurd (true≢false (sym told))
-device_alone (exchange.Refs (refs.Stale current)) told = absurd told
-device_alone (exchange.Refs (refs.Conflict name)) told = absurd told
-device_alone (exchange.Refs (refs.BadRefFile path)) told = absurd told
-device_alone (exchange.Refs refs.HeadLoop) told = absurd told
-device_alone (exchange.Refs (refs.Fault f)) told = absurd (true≢false (sym told))
+device_alone (exchange.Store e) told = absurd (store_calm e told)
+device_alone (exchange.Refs e) told = absurd (refs_calm e told)
 device_alone (exchange.Incomplete id) told = absurd told
 device_alone (exchange.Fault Memory) told = absurd (true≢false (sym told))
 device_alone (exchange.Fault Device) told = refl
 
 module _ {X T : Type 0} (r : Result X ExchangeFault) (e : ExchangeFault) (was : r ≡ Err e) where
   pub device_from : (q : Result T CloneFault) → IsErrAnd q (λ x. x ≡ of_exchange e) → TellsDevice q → IsErrOf r (exchange.Fault Device)
-  device_from (Ok x) is told = absurd is
-  device_from (Err x) is told = was ∙ ap Err (device_alone e (subst IsOfDevice is told))
-
-  device_to : (q : Result T CloneFault) → IsErrAnd q (λ x. x ≡ of_exchange e) → IsErrOf r (exchange.Fault Device) → TellsDevice q
-  device_to (Ok x) is device = absurd is
-  device_to (Err x) is device =
-      let same : e ≡ exchange.Fault Device = let both : ◌≡◌ {A = Result X ExchangeFault} (Err e) (Err (exchange.Fault Device)) = sym was ∙ device in cc both in
-      subst IsOfDevice (sym is) (subst (λ (f : ExchangeFault). IsOfDevice (of_exchange f)) (sym same) refl)
+  device_from q is told = told_from IsOfDevice of_exchange (exchange.Fault Device) device_alone refl r e was q is told
 
   -- an exchange's fault of the device is the clone's
   pub writes_as : {D : Type 0} {honest : Type 0} {content : D → FileMap} {failed : D → ℕ} {can_fail : D → Type 0} {left : D → Option ℕ} {old new : D} (q : Result T CloneFault) → IsErrAnd q (λ x. x ≡ of_exchange e)
       → Writes honest content failed can_fail left old new (IsErrOf r (exchange.Fault Device)) → Writes honest content failed can_fail left old new (TellsDevice q)
-  writes_as q is w = writes_told w (device_to q is) (device_from q is)
+  writes_as q is w = writes_by IsOfDevice of_exchange (exchange.Fault Device) device_alone refl r e was q is w

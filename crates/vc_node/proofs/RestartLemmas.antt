@@ -21,10 +21,11 @@ use Rattle.vc_node.proofs.RefusalLemmas.{no_head, of_head}
 use Rattle.vc_node.specs.Awaited.{AwaitedText, IsAwaited, nothing}
 use Rattle.vc_node.specs.Blames.{BlamesOpen}
 use Rattle.vc_node.specs.Clean.{IsClean}
-use Rattle.vc_node.specs.CloneCalls.{AnswersClone, Quietly, RestartedAs}
+use Rattle.vc_node.specs.CloneCalls.{AnswersClone}
 use Rattle.vc_node.specs.Machine.{Spells, fault_answer, failure_of}
 use Rattle.vc_node.specs.Emptying.{IsOpened, LosesCarried}
 use Rattle.vc_node.specs.Shown.{Shown, shown}
+use Rattle.vc_node.specs.Told.{Quietly, RestartedAs}
 use Rattle.vc_node.specs.declared.fault.NodeFault.{NodeFault}
 use Rattle.vc_node.specs.declared.fault.NodeFault.TheVariants.{Store, Ref, Missing, NotACommit, BadPath, PathConflict, BadIndex, WrongEntry, Down}
 

@@ -373,9 +373,6 @@ pub record Leads (m : IndexMap) (es : List (List ℕ × IndexEntry)) (n : IndexM
   pub may : MayStandAll n rest → MayStandAll m es
   pub first : (fault : IndexFault) → RefusesFirst n rest fault → RefusesFirst m es fault
 
-pub leads_begin : (m : IndexMap) (es : List (List ℕ × IndexEntry)) → Leads m es m es
-leads_begin m es = record { same = refl; may = λ h. h; first = λ fault h. h }
-
 -- what is left, at the next file
 pub rest_at : (files : List Staged) (i : ℕ) (item : Staged) → i < length files → item ≡ get_or files i item → map placed (drop i files) ≡ placed item ∷ map placed (drop (i + 1) files)
 rest_at files i item lt is = ap (map placed) (drop_more files i item lt) ∙ ap (λ (t : Staged). placed t ∷ map placed (drop (i + 1) files)) (sym is)
@@ -399,10 +396,6 @@ module _ (m n : IndexMap) (es rest more : List (List ℕ × IndexEntry)) (t : St
 
   pub leads_stop : (fault : IndexFault) → IsOfAdd n path fault → RefusesFirst m es fault
   leads_stop fault of = leads.first fault (subst (λ (xs : List (List ℕ × IndexEntry)). RefusesFirst n xs fault) (sym here) (inl (subst (λ (p : List ℕ). IsOfAdd n p fault) named of)))
-
-pub leads_end : (m n : IndexMap) (es rest : List (List ℕ × IndexEntry)) → Leads m es n rest → rest ≡ [] → (n ≡ with_all m es) × MayStandAll m es
-leads_end m n es rest leads none =
-    (sym (leads.same ∙ ap (with_all n) none), leads.may (subst (λ (xs : List (List ℕ × IndexEntry)). MayStandAll n xs) (sym none) tt))
 
 -- ---- how a call that stages ends
 

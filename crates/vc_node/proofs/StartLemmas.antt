@@ -23,9 +23,10 @@ use Rattle.vc_refs.specs.declared.faults.RefFault.TheVariants as refs
 use Rattle.vc_store.specs.declared.faults.StoreFault.TheVariants as store
 use Rattle.vc_node.proofs.CloneCallLemmas.{Leads, as_told, fault_leads, held_content, refused_leads, sent_leads}
 use Rattle.vc_node.specs.Awaited.{AwaitedText, IsAwaited, an_advert}
-use Rattle.vc_node.specs.CloneCalls.{AnswersClone, Quietly, SendsBytes, SentAs}
+use Rattle.vc_node.specs.CloneCalls.{AnswersClone, SentAs}
 use Rattle.vc_node.specs.CloneFaults.{fault_answer, of_device, of_send, up_after}
 use Rattle.vc_node.specs.Machine.{HoldsNode}
+use Rattle.vc_node.specs.Told.{Quietly, SendsBytes}
 use Rattle.vc_node.specs.declared.clone_fault.CloneFault.{CloneFault}
 
 -- ---- a fetch

@@ -5,7 +5,7 @@ use Rattle.std.specs.FinMap.{get, empty, get-empty}
 use Rattle.std.specs.Ordering.{nat_cmp}
 use Rattle.std.specs.Cmp.Lexicographic.{slice_cmp}
 use Rattle.vc_files.specs.FileMap.{FileMap}
-use Rattle.vc_format.proofs.Names.{byte_of, name_bytes, name_length}
+use Rattle.vc_object.proofs.Names.{byte_of, name_bytes, name_length}
 use Rattle.vc_index.specs.Damage.{KeepsDamage}
 use Rattle.vc_index.specs.IndexMap.{IndexMap}
 use Rattle.vc_index.specs.WrittenTrees.{IsWritten, IsOfWrite}

@@ -7,7 +7,7 @@ use Rattle.vc_message.proofs.AnyLaws.{any_given}
 use Rattle.vc_message.proofs.Readings.{one_refusal}
 use Rattle.vc_message.specs.AnyMessage.{MessageText, SpellsMessage, any_step, beginning}
 use Rattle.vc_message.specs.AnyView.{message_text}
-use Rattle.vc_message.specs.Machine.{IsUnread, Reads, TextOf, pkt_number}
+use Rattle.vc_message.specs.Machine.{IsUnread, Reads, pkt_number}
 use Rattle.vc_model.specs.CloneCall.{CloneCall}
 use Rattle.vc_model.specs.CloneCall.CloneCall.{Asks, Open, Receive}
 use Rattle.vc_model.specs.Message.{Message}
@@ -69,12 +69,6 @@ module _ (content : FileMap) (waits : AwaitedText) where
     failed_refused (pkt.Refused fault) (Err x) is why = IsRefusedBytes.unread fault why is
 
     -- ---- bytes that were read
-    pub text_here : (m : Message) (text : MessageText) → Reads bytes m → ((t : MessageText) → IsSpelledBy SpellsMessage t bytes → ◌≡◌ {A = Result MessageText PktFault} (Ok t) (Ok text)) → TextOf m text
-    text_here m text reads given =
-        let both : ◌≡◌ {A = Result MessageText PktFault} (Ok reads.text) (Ok text) = given reads.text reads.spelled in
-        let same : reads.text ≡ text = cc both in
-        subst (λ (t : MessageText). TextOf m t) same reads.is
-
     pub message_refused : (text : MessageText) (result : Result Received CloneFault) → IsSpelledBy SpellsMessage text bytes → IfErr result (IsRefusedMessage content waits text) → IfErr result (IsRefusedBytes content waits bytes)
     message_refused text (Ok x) spelled why = tt
     message_refused text (Err x) spelled why = IsRefusedBytes.refused text spelled why

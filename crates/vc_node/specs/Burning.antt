@@ -16,11 +16,12 @@ use Rattle.vc_rules.specs.Git.{git}
 use Rattle.vc_rules.proofs.GitLaws.{git_rules}
 use Rattle.vc_node.specs.Awaited.{AwaitedText, IsAwaited}
 use Rattle.vc_node.specs.Clean.{KeepsCleanBut}
-use Rattle.vc_node.specs.CloneCalls.{AnswersClone, MayOr, RestartedAs}
+use Rattle.vc_node.specs.CloneCalls.{AnswersClone, MayOr}
 use Rattle.vc_node.specs.CloneFaults.{TellsDevice as CloneTellsDevice}
 use Rattle.vc_node.specs.Machine.{Answers, AnswersIfSound, HoldsNode, MayWriteIfSoundOr, MayWriteOr}
 use Rattle.vc_node.specs.NodeFault.{TellsDevice}
 use Rattle.vc_node.specs.Shown.{shown}
+use Rattle.vc_node.specs.Told.{RestartedAs}
 use Rattle.vc_node.specs.declared.clone_fault.CloneFault.{CloneFault}
 use Rattle.vc_node.specs.declared.fault.NodeFault.{NodeFault}
 

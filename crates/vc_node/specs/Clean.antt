@@ -7,7 +7,6 @@ use Rattle.vc_pack.specs.Reached.{KeepsObjects}
 use Rattle.vc_refs.specs.Head.{KeepsOutside}
 use Rattle.vc_refs.specs.Packing.{UnpacksOnly}
 use Rattle.vc_refs.specs.Refs.{IsBadRef, SpellsRefs}
-use Rattle.vc_session.specs.Clean.{MakesNoneBad}
 use Rattle.vc_store.specs.Store.{IsDamaged}
 use Rattle.vc_node.specs.Shown.{shown}
 
@@ -26,12 +25,7 @@ pub record KeepsCleanBut (name : List ℕ) (old new : FileMap) : Type 0 where
 abbrev pub KeepsClean : FileMap → FileMap → Type 0
 KeepsClean old new = KeepsCleanBut [] old new
 
--- No object is lost, and no file is made bad.
-pub record KeepsGood (old new : FileMap) : Type 0 where
-  pub objects : KeepsObjects old new
-  pub bad : MakesNoneBad old new
-
--- the same of a call that stores objects itself
+-- No object is lost, and what is bad now was so before: of a call that stores objects itself.
 pub record KeepsStored (old new : FileMap) : Type 0 where
   pub objects : KeepsObjects old new
   pub clean : KeepsClean old new

@@ -1,11 +1,10 @@
 -- What a call of a clone says that sends or takes messages, or asks for a value: the machine's node that is held before it leads to
 -- one that is held after it, by the machine's answer.
-use Rattle.std.specs.Prelude.{◌≡◌, ◌⊎◌, ℕ, Bool, true, List, Option, Some, None, Result, Ok, Err, Vec}
+use Rattle.std.specs.Prelude.{◌≡◌, ◌⊎◌, ℕ, Bool, true, Option, Result, Ok, Err, Vec}
 use Rattle.std.specs.Global.{Global}
 use Rattle.vc_files.specs.FileMap.{FileMap}
-use Rattle.vc_format.specs.Git.{bytes_of_id}
 use Rattle.vc_message.specs.AnyMessage.{MessageText}
-use Rattle.vc_message.specs.Machine.{IsWritten, TextOf}
+use Rattle.vc_message.specs.Machine.{TextOf}
 use Rattle.vc_model.specs.Clone.{Awaited, CloneNode}
 use Rattle.vc_model.specs.CloneCall.{CloneAnswers, CloneCall}
 use Rattle.vc_model.specs.CloneCall.CloneCall.{Receive}
@@ -13,31 +12,18 @@ use Rattle.vc_model.specs.ExactWorld.{MayClone}
 use Rattle.vc_model.specs.Message.{Message}
 use Rattle.vc_model.specs.Node.{Answer}
 use Rattle.vc_model.specs.Node.Answer.{Did}
-use Rattle.vc_model.specs.Node.Reply.{Found, Sends, Stored, Moved as MovedRefs, Reported as ReportedRefs}
+use Rattle.vc_model.specs.Node.Reply.{Moved as MovedRefs, Reported as ReportedRefs}
 use Rattle.vc_model.specs.Repository.{IsSound}
-use Rattle.vc_object.specs.declared.id.ObjectId.{ObjectId}
 use Rattle.vc_rules.proofs.GitLaws.{git_rules}
 use Rattle.vc_rules.specs.Git.{git}
 use Rattle.vc_node.specs.Awaited.{AwaitedText, IsAwaited, awaited_text}
 use Rattle.vc_node.specs.CloneFaults.{fault_answer, up_after}
-use Rattle.vc_node.specs.Machine.{HoldsNode, fault_answer as node_answer}
+use Rattle.vc_node.specs.Machine.{HoldsNode}
+use Rattle.vc_node.specs.Told.{Quietly, SendsBytes}
 use Rattle.vc_node.specs.declared.awaited.Awaited.{Awaited as Waiting}
 use Rattle.vc_node.specs.declared.clone_fault.CloneFault.{CloneFault}
-use Rattle.vc_node.specs.declared.fault.NodeFault.{NodeFault}
 use Rattle.vc_node.specs.declared.exchanging.Received.{Received}
 use Rattle.vc_node.specs.declared.exchanging.Received.TheVariants.{Send, Moved, Reported}
-
--- bytes are sent that are a message's
-pub record SendsBytes (bytes : List ℕ) (a : Answer) (sends : Option Message) : Type 0 where
-  pub message : Message
-  pub written : IsWritten message bytes
-  pub answer : a ≡ Did Sends
-  pub sent : sends ≡ Some message
-
--- nothing is sent
-pub record Quietly (b a : Answer) (sends : Option Message) : Type 0 where
-  pub answer : a ≡ b
-  pub sent : sends ≡ None
 
 -- the machine's answer, as it is told, to the start of an exchange
 abbrev pub SentAs : Result (Vec ℕ Global) CloneFault → Answer → Option Message → Type 0
@@ -50,16 +36,6 @@ ReceivedAs (Ok (Send bytes)) a sends = SendsBytes bytes.items a sends
 ReceivedAs (Ok (Moved moved left)) a sends = Quietly (Did (MovedRefs moved left)) a sends
 ReceivedAs (Ok (Reported moved refused)) a sends = Quietly (Did (ReportedRefs moved refused.items)) a sends
 ReceivedAs (Err e) a sends = Quietly (fault_answer e) a sends
-
--- to the question for a value
-abbrev pub FoundAs : Result ObjectId CloneFault → Answer → Option Message → Type 0
-FoundAs (Ok id) a sends = Quietly (Did (Found (bytes_of_id id))) a sends
-FoundAs (Err e) a sends = Quietly (fault_answer e) a sends
-
--- to its restart
-abbrev pub RestartedAs : Result (Unit {0}) NodeFault → Answer → Option Message → Type 0
-RestartedAs (Ok u) a sends = Quietly (Did Stored) a sends
-RestartedAs (Err e) a sends = Quietly (node_answer e) a sends
 
 -- Whatever node was held, some node is held after the call; and where the node was sound, the answer and that node are the machine's.
 pub record AnswersClone (call : CloneCall) (shows : Answer → Option Message → Type 0) (old new : FileMap) (waits after : AwaitedText) (was_up is_up : Bool) : Type 0 where

@@ -1,32 +1,25 @@
 -- What a fault of an exchange is of, as a clone tells it, and which are no refusals.
-use Rattle.std.specs.Prelude.{Bool, true, false, not, Result, Ok, Err}
+use Rattle.std.specs.Prelude.{Bool, true, false, not, Result, Ok, Err, IsErrAnd}
 use Rattle.vc_exchange.specs.declared.fault.ExchangeFault.{ExchangeFault}
 use Rattle.vc_exchange.specs.declared.fault.ExchangeFault.TheVariants as exchange
 use Rattle.vc_exchange.specs.declared.send_fault.SendFault.{SendFault}
 use Rattle.vc_exchange.specs.declared.send_fault.SendFault.TheVariants as send
 use Rattle.vc_files.specs.declared.faults.Fault.{Fault as FilesFault}
 use Rattle.vc_files.specs.declared.faults.Fault.TheVariants.{Memory}
-use Rattle.vc_graph.specs.declared.fault.GraphFault.{GraphFault}
-use Rattle.vc_graph.specs.declared.fault.GraphFault.TheVariants as graph
 use Rattle.vc_message.specs.Machine.{pkt_number}
 use Rattle.vc_model.specs.Node.{Answer}
 use Rattle.vc_model.specs.Node.Answer.{Declined}
 use Rattle.vc_pkt.specs.declared.fault.PktError.{PktError}
 use Rattle.vc_pkt.specs.declared.fault.PktError.TheVariants as pkt
-use Rattle.vc_refs.specs.declared.faults.RefFault.{RefFault}
-use Rattle.vc_refs.specs.declared.faults.RefFault.TheVariants as refs
 use Rattle.vc_rev.specs.Value.{refusal_number}
 use Rattle.vc_rev.specs.declared.refusal.RevFault.{RevFault}
 use Rattle.vc_rev.specs.declared.refusal.RevFault.TheVariants as revs
-use Rattle.vc_rev.specs.declared.refusal.SourceFault.{SourceFault}
-use Rattle.vc_rev.specs.declared.refusal.SourceFault.TheVariants as sources
-use Rattle.vc_store.specs.declared.faults.StoreFault.{StoreFault}
 use Rattle.vc_store.specs.declared.faults.StoreFault.TheVariants as store
 use Rattle.vc_node.specs.Machine.{fault_answer as node_answer}
-use Rattle.vc_node.specs.NodeFault.{is_fault as is_node_fault, IsOfDevice as IsNodeDevice}
+use Rattle.vc_node.specs.NodeFault.{IsOfDevice as IsNodeDevice, is_fault as is_node_fault, of_source, refused_by_graph, refused_by_refs, refused_by_store}
 use Rattle.vc_node.specs.declared.clone_fault.CloneFault.{CloneFault}
 use Rattle.vc_node.specs.declared.clone_fault.CloneFault.TheVariants.{Incomplete, NoValue, Node, TooMany, Unexpected, Unread}
-use Rattle.vc_node.specs.declared.fault.NodeFault.TheVariants.{BadIndex, Missing, NotACommit, Ref, Store}
+use Rattle.vc_node.specs.declared.fault.NodeFault.TheVariants.{Missing, NotACommit, Store}
 
 -- want of memory, or a device that failed
 abbrev pub of_device : FilesFault → CloneFault
@@ -37,52 +30,27 @@ abbrev pub of_pkt : PktError → CloneFault
 of_pkt (pkt.Refused fault) = Unread fault
 of_pkt pkt.Memory = of_device Memory
 
--- The layers of an exchange tell a fault of the device in one place alone: one that stands in another is told as want of memory,
--- since no device is known to have failed.
-abbrev pub of_store : StoreFault → CloneFault
-of_store (store.BadObject fault) = Node (Store (store.BadObject fault))
-of_store (store.Absent id) = Node (Store (store.Absent id))
-of_store (store.Damaged id) = Node (Store (store.Damaged id))
-of_store (store.Fault fault) = of_device Memory
-
-abbrev pub of_refs : RefFault → CloneFault
-of_refs (refs.Stale current) = Node (Ref (refs.Stale current))
-of_refs (refs.Conflict name) = Node (Ref (refs.Conflict name))
-of_refs (refs.BadRefFile path) = Node (Ref (refs.BadRefFile path))
-of_refs refs.HeadLoop = Node (Ref refs.HeadLoop)
-of_refs (refs.Fault fault) = of_device Memory
-
 -- a fault of a message that was taken, as the clone tells it
 abbrev pub of_exchange : ExchangeFault → CloneFault
-of_exchange (exchange.Store fault) = of_store fault
-of_exchange (exchange.Refs fault) = of_refs fault
+of_exchange (exchange.Store fault) = Node (refused_by_store fault)
+of_exchange (exchange.Refs fault) = Node (refused_by_refs fault)
 of_exchange (exchange.Incomplete id) = Incomplete id
 of_exchange (exchange.Fault fault) = of_device fault
 
 -- why a push is not sent
-abbrev pub of_graph : GraphFault → CloneFault
-of_graph (graph.Missing id) = Node (Missing id)
-of_graph (graph.Store fault) = of_store fault
-
 abbrev pub of_send : SendFault → CloneFault
 of_send send.TooMany = TooMany
 of_send (send.Missing id) = Node (Missing id)
-of_send (send.Refs fault) = of_refs fault
-of_send (send.Graph fault) = of_graph fault
+of_send (send.Refs fault) = Node (refused_by_refs fault)
+of_send (send.Graph fault) = Node (refused_by_graph fault)
 of_send (send.Fault fault) = of_device fault
 
 -- why an expression has no value
-abbrev pub of_source : SourceFault → CloneFault
-of_source (sources.Store fault) = Node (Store fault)
-of_source (sources.BadRefFile path) = Node (Ref (refs.BadRefFile path))
-of_source sources.HeadLoop = Node (Ref refs.HeadLoop)
-of_source (sources.BadIndex place) = Node (BadIndex place)
-
 abbrev pub of_rev : RevFault → CloneFault
 of_rev (revs.Refused refusal) = NoValue refusal
 of_rev (revs.Missing id) = Node (Missing id)
 of_rev (revs.NotACommit id) = Node (NotACommit id)
-of_rev (revs.Source fault) = of_source fault
+of_rev (revs.Source fault) = Node (of_source fault)
 
 -- it is no refusal
 abbrev pub is_fault : CloneFault → Bool
@@ -95,8 +63,7 @@ IsOfDevice _ = ⊥
 
 -- the call tells a fault of the device
 abbrev pub TellsDevice : {T : Type 0} → Result T CloneFault → Type 0
-TellsDevice (Ok x) = ⊥
-TellsDevice (Err e) = IsOfDevice e
+TellsDevice result = IsErrAnd result IsOfDevice
 
 -- the machine's answer to a refused call, or to one that a fault ended
 abbrev pub fault_answer : CloneFault → Answer

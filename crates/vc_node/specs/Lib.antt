@@ -22,4 +22,5 @@ pub mod Receipts
 pub mod ReceiveFault
 pub mod Shown
 pub mod Staging
+pub mod Told
 pub mod Values

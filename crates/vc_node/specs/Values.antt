@@ -11,35 +11,24 @@ use Rattle.vc_rev.specs.Grammar.{ExprText, IsExpr}
 use Rattle.vc_rev.specs.Value.{refusal_number}
 use Rattle.vc_rev.specs.declared.refusal.RevFault.{RevFault}
 use Rattle.vc_rev.specs.declared.refusal.RevFault.TheVariants.{Refused, Missing, NotACommit, Source}
-use Rattle.vc_rev.specs.declared.refusal.SourceFault.{SourceFault}
-use Rattle.vc_rev.specs.declared.refusal.SourceFault.TheVariants.{Store, BadRefFile, HeadLoop, BadIndex}
+use Rattle.vc_rev.specs.declared.refusal.SourceFault.TheVariants.{Store}
 use Rattle.vc_rules.specs.Values.{DenotesAt}
 use Rattle.vc_store.specs.declared.faults.StoreFault.TheVariants as store
 use Rattle.vc_node.specs.Clean.{IsClean}
-use Rattle.vc_node.specs.Machine.{Spells, store_answer}
-use Rattle.vc_node.specs.NodeFault.{is_store_fault}
+use Rattle.vc_node.specs.Machine.{Spells, fault_answer}
+use Rattle.vc_node.specs.NodeFault.{is_fault, of_source}
 use Rattle.vc_node.specs.Shown.{shown}
 
 -- the machine's answer where an expression has no value
-abbrev pub source_answer : SourceFault → Answer
-source_answer (Store fault) = store_answer fault
-source_answer (BadRefFile path) = Declined 33
-source_answer HeadLoop = Declined 34
-source_answer (BadIndex place) = Declined 62
-
 abbrev pub rev_answer : RevFault → Answer
 rev_answer (Refused refusal) = Declined (refusal_number refusal)
 rev_answer (Missing id) = Declined 40
 rev_answer (NotACommit id) = Declined 41
-rev_answer (Source fault) = source_answer fault
+rev_answer (Source fault) = fault_answer (of_source fault)
 
 -- it is no refusal
-abbrev pub is_source_fault : SourceFault → Bool
-is_source_fault (Store fault) = is_store_fault fault
-is_source_fault _ = false
-
 abbrev pub is_rev_fault : RevFault → Bool
-is_rev_fault (Source fault) = is_source_fault fault
+is_rev_fault (Source fault) = is_fault (of_source fault)
 is_rev_fault _ = false
 
 -- whether the node is up after the call: a fault takes it down

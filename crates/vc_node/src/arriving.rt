@@ -1,13 +1,13 @@
 // A message that a reader brings to a clone, whose objects go into the quarantine as they come.
 ghost use Rattle.std.specs.Prelude.{◌≡◌, ◌≤◌, Err, IfErr, IfNone, IfOk, OnErr, OnOk, true};
 ghost use Rattle.vc_exchange.specs.Quarantined.{KeepsOthers};
+ghost use Rattle.vc_exchange.specs.Storing.{KeepsGood};
 ghost use Rattle.vc_files.specs.FileMap.{SameOutside};
 ghost use Rattle.vc_files.specs.Failures.{Writes};
 ghost use Rattle.vc_session.specs.Clean.{MakesNoneBad};
 ghost use Rattle.vc_session.specs.Quarantine.{IsDropped, quarantine_folder};
 ghost use Rattle.vc_node.specs.Arriving.{Arrives, Comes, FromPack, FromStart, IsStopped, KeepsHeld, LeavesPack, ReceivesUp, TakesPack, down_told, some_told};
 ghost use Rattle.vc_node.specs.Awaited.{awaited_text};
-ghost use Rattle.vc_node.specs.Clean.{KeepsGood};
 ghost use Rattle.vc_node.specs.ReceiveFault.{TellsDevice, UnlessFault};
 
 use crate::awaited::Awaited;

@@ -1,7 +1,9 @@
 // What a call spends of the writes left before a stop.
 ghost use Rattle.vc_node.specs.Burning.{CallsBurn, ExchangesBurn, PacksBurn, SoundCallsBurn};
-ghost use Rattle.vc_node.specs.CloneCalls.{FoundAs, ReceivedAs, SentAs};
+ghost use Rattle.vc_node.specs.CloneCalls.{ReceivedAs, SentAs};
+ghost use Rattle.vc_node.specs.CloneFaults.{fault_answer};
 ghost use Rattle.vc_node.specs.Machine.{done_answer, made_answer};
+ghost use Rattle.vc_node.specs.Told.{FoundAs};
 
 use vc_files::Files;
 
@@ -19,7 +21,7 @@ pub fn a_call_spends_what_the_machine_allows<F: Files>()
 pub fn an_exchange_spends_what_the_machine_allows<F: Files>()
     ensures received { ExchangesBurn F.honest F.content F.failed F.can_fail F.left ReceivedAs }
     ensures sent { ExchangesBurn F.honest F.content F.failed F.can_fail F.left SentAs }
-    ensures found { ExchangesBurn F.honest F.content F.failed F.can_fail F.left FoundAs }
+    ensures found { ExchangesBurn F.honest F.content F.failed F.can_fail F.left (FoundAs fault_answer) }
 {}
 
 /// The same of packing the refs, which changes no place of the repository.

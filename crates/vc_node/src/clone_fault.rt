@@ -1,6 +1,6 @@
 // Why a call of a clone that sends or takes messages, or asks for a value, gives no answer.
 ghost use Rattle.std.specs.Prelude.{◌≡◌};
-ghost use Rattle.vc_node.specs.CloneFaults.{is_fault, of_device, of_exchange, of_graph, of_pkt, of_refs, of_rev, of_send, of_source, of_store};
+ghost use Rattle.vc_node.specs.CloneFaults.{is_fault, of_device, of_exchange, of_pkt, of_rev, of_send};
 ghost use Rattle.vc_node.specs.declared.clone_fault.CloneFault.TheVariants.{Node};
 ghost use Rattle.vc_files.specs.declared.faults.Fault.TheVariants.{Memory};
 
@@ -10,11 +10,9 @@ use std::error::Error;
 use std::fmt;
 use vc_exchange::{ExchangeFault, SendFault};
 use vc_files::Fault;
-use vc_graph::GraphFault;
 use vc_object::ObjectId;
 use vc_pkt::{PktError, PktFault};
-use vc_refs::RefFault;
-use vc_rev::{Refusal, RevFault, SourceFault};
+use vc_rev::{Refusal, RevFault};
 use vc_store::StoreFault;
 
 /// What refuses such a call of a clone, by number, or the fault that ended it. After a fault the node is down.
@@ -77,31 +75,6 @@ fn from_device(fault: Fault) -> CloneFault
     CloneFault::Node(NodeFault::Store(StoreFault::Fault(fault)))
 }
 
-// An exchange tells a fault of the device in none of these: one that stands here counts as want of memory.
-fn from_store(fault: StoreFault) -> CloneFault
-    ensures { result ≡ of_store fault }
-{
-    match fault {
-        StoreFault::BadObject(_) => CloneFault::Node(NodeFault::Store(fault)),
-        StoreFault::Absent(_) => CloneFault::Node(NodeFault::Store(fault)),
-        StoreFault::Damaged(_) => CloneFault::Node(NodeFault::Store(fault)),
-        StoreFault::Fault(_) => from_device(Fault::Memory),
-    }
-}
-
-// Nor in these.
-fn from_refs(fault: RefFault) -> CloneFault
-    ensures { result ≡ of_refs fault }
-{
-    match fault {
-        RefFault::Stale(current) => CloneFault::Node(NodeFault::Ref(RefFault::Stale(current))),
-        RefFault::Conflict(name) => CloneFault::Node(NodeFault::Ref(RefFault::Conflict(name))),
-        RefFault::BadRefFile(path) => CloneFault::Node(NodeFault::Ref(RefFault::BadRefFile(path))),
-        RefFault::HeadLoop => CloneFault::Node(NodeFault::Ref(RefFault::HeadLoop)),
-        RefFault::Fault(_) => from_device(Fault::Memory),
-    }
-}
-
 impl From<PktError> for CloneFault {
     ghost from_gives = { λ fault e. e ≡ of_pkt fault };
 
@@ -118,20 +91,11 @@ impl From<ExchangeFault> for CloneFault {
 
     fn from(fault: ExchangeFault) -> Self {
         match fault {
-            ExchangeFault::Store(fault) => from_store(fault),
-            ExchangeFault::Refs(fault) => from_refs(fault),
+            ExchangeFault::Store(fault) => CloneFault::Node(NodeFault::refused_by_store(fault)),
+            ExchangeFault::Refs(fault) => CloneFault::Node(NodeFault::refused_by_refs(fault)),
             ExchangeFault::Incomplete(id) => CloneFault::Incomplete(id),
             ExchangeFault::Fault(fault) => from_device(fault),
         }
-    }
-}
-
-fn from_graph(fault: GraphFault) -> CloneFault
-    ensures { result ≡ of_graph fault }
-{
-    match fault {
-        GraphFault::Missing(id) => CloneFault::Node(NodeFault::Missing(id)),
-        GraphFault::Store(fault) => from_store(fault),
     }
 }
 
@@ -142,23 +106,10 @@ impl From<SendFault> for CloneFault {
         match fault {
             SendFault::TooMany => CloneFault::TooMany,
             SendFault::Missing(id) => CloneFault::Node(NodeFault::Missing(id)),
-            SendFault::Refs(fault) => from_refs(fault),
-            SendFault::Graph(fault) => from_graph(fault),
+            SendFault::Refs(fault) => CloneFault::Node(NodeFault::refused_by_refs(fault)),
+            SendFault::Graph(fault) => CloneFault::Node(NodeFault::refused_by_graph(fault)),
             SendFault::Fault(fault) => from_device(fault),
         }
-    }
-}
-
-fn from_source(fault: SourceFault) -> CloneFault
-    ensures { result ≡ of_source fault }
-{
-    match fault {
-        SourceFault::Store(fault) => CloneFault::Node(NodeFault::Store(fault)),
-        SourceFault::BadRefFile(path) => CloneFault::Node(NodeFault::Ref(RefFault::BadRefFile(
-            path,
-        ))),
-        SourceFault::HeadLoop => CloneFault::Node(NodeFault::Ref(RefFault::HeadLoop)),
-        SourceFault::BadIndex(place) => CloneFault::Node(NodeFault::BadIndex(place)),
     }
 }
 
@@ -170,7 +121,7 @@ impl From<RevFault> for CloneFault {
             RevFault::Refused(refusal) => CloneFault::NoValue(refusal),
             RevFault::Missing(id) => CloneFault::Node(NodeFault::Missing(id)),
             RevFault::NotACommit(id) => CloneFault::Node(NodeFault::NotACommit(id)),
-            RevFault::Source(fault) => from_source(fault),
+            RevFault::Source(fault) => CloneFault::Node(NodeFault::from(fault)),
         }
     }
 }

@@ -1,6 +1,6 @@
 // What a clone makes of a message that it awaits.
 ghost use Rattle.std.specs.Prelude.{◌≡◌, ℕ, IfErr, OnErr};
-ghost use Rattle.vc_exchange.specs.Storing.{KeepsBeside};
+ghost use Rattle.vc_exchange.specs.Storing.{KeepsBeside, KeepsGood};
 ghost use Rattle.vc_files.specs.Failures.{Wears, Writes};
 ghost use Rattle.vc_fetch.specs.AdvertView.{advert_text};
 ghost use Rattle.vc_fetch.specs.PackView.{pack_text};
@@ -12,7 +12,6 @@ ghost use Rattle.vc_model.specs.Message.{Message as Sent};
 ghost use Rattle.vc_model.specs.Question.Question.{Unread};
 ghost use Rattle.vc_push.specs.ReportView.{report_text};
 ghost use Rattle.vc_node.specs.Awaited.{awaited_text};
-ghost use Rattle.vc_node.specs.Clean.{KeepsGood};
 ghost use Rattle.vc_node.specs.CloneCalls.{AnswersTaken, MayTake, MayTaken, TakesMessage};
 ghost use Rattle.vc_node.specs.CloneFaults.{TellsDevice};
 ghost use Rattle.vc_node.specs.Receipts.{IsOfMessage, IsRefusedBytes, IsRefusedMessage};

@@ -3,15 +3,15 @@ ghost use Rattle.std.specs.Prelude.{◌≡◌};
 ghost use Rattle.vc_files.specs.declared.faults.Fault.TheVariants.{Memory};
 ghost use Rattle.vc_store.specs.declared.faults.StoreFault.TheVariants as store_fault;
 ghost use Rattle.vc_node.specs.declared.fault.NodeFault.TheVariants.{Store, Ref};
-ghost use Rattle.vc_node.specs.NodeFault.{is_fault, of_base, of_index};
+ghost use Rattle.vc_node.specs.NodeFault.{is_fault, of_history, of_index, of_source, refused_by_graph, refused_by_refs, refused_by_store};
 ghost use Rattle.vc_node.specs.Printed.{node_fault_text};
 
 use std::alloc::{AllocError, AllocFailed};
 use std::error::Error;
 use std::fmt;
 use vc_files::Fault;
-use vc_graph::MISSING;
-use vc_history::{BaseFault, NOT_A_COMMIT};
+use vc_graph::{GraphFault, MISSING};
+use vc_history::{HistoryFault, NOT_A_COMMIT};
 use vc_index::IndexFault;
 use vc_object::ObjectId;
 use vc_refs::RefFault;
@@ -73,6 +73,42 @@ impl NodeFault {
             _ => false,
         }
     }
+
+    /// Why a layer between the store and a node gave no answer. Such a layer tells a fault of the device by itself: one that
+    /// stands in a fault of the store is told as want of memory, since no device is known to have failed.
+    pub fn refused_by_store(fault: StoreFault) -> NodeFault
+        ensures { result ≡ refused_by_store fault }
+    {
+        match fault {
+            StoreFault::BadObject(_) => NodeFault::Store(fault),
+            StoreFault::Absent(_) => NodeFault::Store(fault),
+            StoreFault::Damaged(_) => NodeFault::Store(fault),
+            StoreFault::Fault(_) => NodeFault::Store(StoreFault::Fault(Fault::Memory)),
+        }
+    }
+
+    /// The same of a fault of the refs.
+    pub fn refused_by_refs(fault: RefFault) -> NodeFault
+        ensures { result ≡ refused_by_refs fault }
+    {
+        match fault {
+            RefFault::Stale(current) => NodeFault::Ref(RefFault::Stale(current)),
+            RefFault::Conflict(name) => NodeFault::Ref(RefFault::Conflict(name)),
+            RefFault::BadRefFile(path) => NodeFault::Ref(RefFault::BadRefFile(path)),
+            RefFault::HeadLoop => NodeFault::Ref(RefFault::HeadLoop),
+            RefFault::Fault(_) => NodeFault::Store(StoreFault::Fault(Fault::Memory)),
+        }
+    }
+
+    /// The same of a fault of a walk.
+    pub fn refused_by_graph(fault: GraphFault) -> NodeFault
+        ensures { result ≡ refused_by_graph fault }
+    {
+        match fault {
+            GraphFault::Missing(id) => NodeFault::Missing(id),
+            GraphFault::Store(fault) => NodeFault::refused_by_store(fault),
+        }
+    }
 }
 
 impl From<StoreFault> for NodeFault {
@@ -91,14 +127,27 @@ impl From<RefFault> for NodeFault {
     }
 }
 
-impl From<BaseFault> for NodeFault {
-    ghost from_gives = { λ fault e. e ≡ of_base fault };
+impl From<HistoryFault> for NodeFault {
+    ghost from_gives = { λ fault e. e ≡ of_history fault };
 
-    fn from(fault: BaseFault) -> Self {
+    fn from(fault: HistoryFault) -> Self {
         match fault {
-            BaseFault::Missing(id) => NodeFault::Missing(id),
-            BaseFault::NotACommit(id) => NodeFault::NotACommit(id),
-            BaseFault::Store(fault) => NodeFault::Store(fault),
+            HistoryFault::Missing(id) => NodeFault::Missing(id),
+            HistoryFault::NotACommit(id) => NodeFault::NotACommit(id),
+            HistoryFault::Store(fault) => NodeFault::Store(fault),
+        }
+    }
+}
+
+impl From<SourceFault> for NodeFault {
+    ghost from_gives = { λ fault e. e ≡ of_source fault };
+
+    fn from(fault: SourceFault) -> Self {
+        match fault {
+            SourceFault::Store(fault) => NodeFault::Store(fault),
+            SourceFault::BadRefFile(path) => NodeFault::Ref(RefFault::BadRefFile(path)),
+            SourceFault::HeadLoop => NodeFault::Ref(RefFault::HeadLoop),
+            SourceFault::BadIndex(place) => NodeFault::BadIndex(place),
         }
     }
 }

@@ -1,5 +1,5 @@
 // A clone.
-ghost use Rattle.std.specs.Prelude.{◌≡◌, ◌≢◌, ◌⊎◌, ◌++◌, ℕ, List, [], Some, Ok, Err, OnOk, OnErr, IfNone, IfOk, IfErr, is_ok, true, false, not, nat_eq, codes};
+ghost use Rattle.std.specs.Prelude.{◌≡◌, ◌≢◌, ◌⊎◌, ℕ, List, [], Some, Ok, Err, OnOk, OnErr, IfNone, IfOk, IfErr, is_ok, true, false, not, nat_eq, codes};
 ghost use Rattle.std.specs.List.{All, starts_with};
 ghost use Rattle.vc_model.specs.Clone.Task.{Write, Stage, Unstage, LoadTree, SetBranch, DeleteBranch, MoveHead};
 ghost use Rattle.vc_model.specs.Clone.Awaited.{Nothing};
@@ -20,8 +20,8 @@ ghost use Rattle.vc_rev.specs.Grammar.{IsExpr};
 ghost use Rattle.vc_rev.specs.Views.{expr_view};
 ghost use Rattle.vc_node.specs.Awaited.{nothing};
 ghost use Rattle.vc_node.specs.Node.{AnswersCall, AnswersCommand, AnswersCommandIfSound, AnswersFirst, AnswersStaging, AnswersText, IsFresh, KeepsNode, Looks, MayCall, MayCommand, MayCommandIfSound, MayCommit, MayStaging, MayText, PushesNoZero, ReceivesNext, Settles, SettlesTaken, commit_task};
-ghost use Rattle.vc_node.specs.CloneCalls.{FoundAs, ReceivedAs, RestartedAs, SentAs};
-ghost use Rattle.vc_node.specs.CloneFaults.{TellsDevice as CloneTellsDevice, is_fault as is_clone_fault, of_device, up_after as clone_up_after};
+ghost use Rattle.vc_node.specs.CloneCalls.{ReceivedAs, SentAs};
+ghost use Rattle.vc_node.specs.CloneFaults.{TellsDevice as CloneTellsDevice, fault_answer, is_fault as is_clone_fault, of_device, up_after as clone_up_after};
 ghost use Rattle.vc_node.specs.Receipts.{IsOfMessage, IsRefusedBytes, IsRefusedMessage, IsRefusedStart, IsRefusedValue};
 ghost use Rattle.vc_node.specs.ReceiveFault.{TellsDevice as ReceiveTellsDevice, is_fault as is_receive_fault, up_after as receive_up_after};
 ghost use Rattle.vc_session.specs.Quarantine.{IsDropped};
@@ -40,6 +40,7 @@ ghost use Rattle.vc_node.specs.Opening.{OpenableAs, opened_node};
 ghost use Rattle.vc_node.specs.Reads.{IsAtHead, IsAtName, IsBelow, IsItsFile, IsOfCommit, IsReached, IsReachedByHead, NoneRead, TellsRead};
 ghost use Rattle.vc_node.specs.Shown.{IsLoaded, shown};
 ghost use Rattle.vc_node.specs.Staging.{BlamesStaging, places};
+ghost use Rattle.vc_node.specs.Told.{FoundAs, RestartedAs};
 
 use crate::arriving::refuse_down;
 use crate::awaited::Awaited;
@@ -633,7 +634,7 @@ impl<F: Files> CloneNode<F> {
 
     /// The object that an expression names at the clone: 51 to 56 where it names none.
     pub fn resolve(&mut self, expr: &Expr<'_>) -> Result<ObjectId, CloneFault>
-        ensures answers { F.honest → (text : List ℕ) → IsExpr text (expr_view expr.now) → AnswersCall F.content (Asks (Resolve text)) (FoundAs result) self.old self.new }
+        ensures answers { F.honest → (text : List ℕ) → IsExpr text (expr_view expr.now) → AnswersCall F.content (Asks (Resolve text)) (FoundAs fault_answer result) self.old self.new }
         ensures value { F.honest → IfOk result (λ id. DenotesIn (F.content self.old.files) (expr_view expr.now) (Ok id)) }
         ensures bad_file { F.honest → IfErr result (λ e. (e ≡ CloneFault.Node NodeFault.Down) ⊎ IsRefusedValue (F.content self.old.files) (expr_view expr.now) e) }
         ensures settles { Settles (result ≡ Err (CloneFault.Node NodeFault.Down)) (clone_up_after result) self.old self.new }

@@ -13,6 +13,7 @@ pub mod Objects
 pub mod Truncated
 pub mod OneFault
 pub mod Uniqueness
+pub mod Names
 pub mod IdLemmas
 pub mod Decoding
 pub mod ObjectMaps

@@ -6,6 +6,7 @@ pub mod Decoding
 pub mod Entries
 pub mod EntryView
 pub mod Fronts
+pub mod Following
 pub mod Header
 pub mod Items
 pub mod Kind

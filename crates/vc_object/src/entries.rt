@@ -2,7 +2,7 @@
 
 ghost use Rattle.std.specs.Prelude.{◌≡◌};
 ghost use Rattle.std.specs.Option.{option_map};
-ghost use Rattle.vc_object.specs.Entries.{entry_at, entries_of};
+ghost use Rattle.vc_object.specs.Entries.{entry_at};
 ghost use Rattle.vc_object.specs.EntryView.{entry_view};
 
 use crate::bytes::cut_at;

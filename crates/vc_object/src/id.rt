@@ -1,6 +1,6 @@
 //! Object ids: twenty bytes, written as forty hex digits.
 
-ghost use Rattle.std.specs.Prelude.{◌≡◌, ◌↔◌, true, length, replicate, Some, IsSome, IfSome};
+ghost use Rattle.std.specs.Prelude.{◌≡◌, ◌↔◌, true, length, Some, IsSome, IfSome};
 ghost use Rattle.std.specs.List.{AllPass, IsDistinct};
 ghost use Rattle.hex.specs.Hex.{decode_of, encode_lower, is_hex_digit};
 ghost use Rattle.vc_object.specs.Lines.{IsId, lower_id};

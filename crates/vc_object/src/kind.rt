@@ -1,6 +1,6 @@
 //! The four kinds of objects.
 
-ghost use Rattle.std.specs.Prelude.{◌≡◌, List, ℕ, Some, IfSome};
+ghost use Rattle.std.specs.Prelude.{◌≡◌, Some, IfSome};
 ghost use Rattle.vc_object.specs.Kind.{front, word};
 ghost use Rattle.vc_object.specs.CommitReading.{kind_of};
 

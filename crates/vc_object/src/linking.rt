@@ -1,6 +1,6 @@
 //! What an object links to.
 
-ghost use Rattle.std.specs.Prelude.{◌≡◌, ◌∷◌, ◌++◌, [], List, IfOk, OnOk, option_map};
+ghost use Rattle.std.specs.Prelude.{◌≡◌, ◌++◌, IfOk, OnOk, option_map};
 ghost use Rattle.vc_object.specs.Entries.{entries_of};
 ghost use Rattle.vc_object.specs.CommitView.{commit_view};
 ghost use Rattle.vc_object.specs.CommitReading.{commit_of, tag_of};

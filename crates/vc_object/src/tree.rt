@@ -1,15 +1,13 @@
 //! Whether a body is a tree's.
 
-ghost use Rattle.std.specs.Prelude.{◌≡◌, ◌≢◌, ◌↔◌, ◌≤◌, ◌++◌, ◌∷◌, [], List, ℕ, length, Some, IsTrue, IsOk, IfErr, MatchResult};
-ghost use Rattle.std.specs.List.{AllByRecursion};
-ghost use Rattle.std.specs.Option.{option_map};
+ghost use Rattle.std.specs.Prelude.{◌≡◌, ◌↔◌, ◌≤◌, ◌++◌, ◌∷◌, List, ℕ, length, Some, IsTrue, IsOk, IfErr, MatchResult};
 ghost use Rattle.std.specs.Ordering.{nat_cmp};
 ghost use Rattle.std.specs.Cmp.Lexicographic.{slice_cmp};
 ghost use Rattle.std.specs.declared.cmp.Ordering.TheVariants.{Less};
 ghost use Rattle.vc_object.specs.Bytes.{Without};
-ghost use Rattle.vc_object.specs.Tree.{Entry, IsName, IsTree, IsTreeBody, InOrder, ComesBefore, HasName, key, mode_text, spelling};
-ghost use Rattle.vc_object.specs.TreeFault.{ModeFault, NameFault, EntryFault, TreeFault, NextEntry, LastIs, Judged};
-ghost use Rattle.vc_object.specs.Fronts.{Covers};
+ghost use Rattle.vc_object.specs.Tree.{IsName, IsTreeBody, HasName, key, mode_text};
+ghost use Rattle.vc_object.specs.TreeFault.{ModeFault, NameFault, EntryFault, TreeFault, NextEntry, Judged};
+ghost use Rattle.vc_object.specs.Following.{BehindTree, CoversNext};
 ghost use Rattle.vc_object.specs.Entries.{entries_of};
 ghost use Rattle.vc_object.specs.EntryView.{entry_view};
 ghost use Rattle.vc_object.specs.declared.fault.ObjectFault.{ObjectFault};
@@ -92,7 +90,7 @@ fn judge(
     mode: Mode,
     name: &[u8],
 ) -> Result<(), ObjectFault>
-    ensures { (entries : List Entry) → IsTree entries → before.now ≡ spelling entries → LastIs entries (option_map entry_view last.entry) → Covers entries (option_map entry_view last.entry) lengths.now → IsName name.now → Judged entries mode name.now result }
+    ensures { BehindTree before.now last.entry lengths.now (λ entries. IsName name.now → Judged entries mode name.now result) }
 {
     let Some(last) = last else {
         return Ok(());
@@ -122,7 +120,7 @@ fn next_entry<'a>(
     lengths: &Lengths,
     bytes: &'a [u8],
 ) -> Result<(TreeEntry<'a>, &'a [u8]), ObjectFault>
-    ensures { (entries : List Entry) → IsTree entries → before.now ≡ spelling entries → LastIs entries (option_map entry_view last.entry) → Covers entries (option_map entry_view last.entry) lengths.now → MatchResult result (λ found. NextEntry entries bytes.now (entry_view found.0) found.1.now) (EntryFault entries bytes.now) }
+    ensures { BehindTree before.now last.entry lengths.now (λ entries. MatchResult result (λ found. NextEntry entries bytes.now (entry_view found.0) found.1.now) (EntryFault entries bytes.now)) }
 {
     let (mode, rest) = mode_at(bytes)?;
     let (name, rest) = name_at(rest)?;
@@ -155,7 +153,7 @@ fn shared(left: &[u8], right: &[u8]) -> usize
 
 /// Makes the lengths those of the next entry, which has this name.
 fn follow(lengths: &mut Lengths, last: Option<TreeEntry<'_>>, name: &[u8])
-    ensures { (entries : List Entry) (entry : Entry) → InOrder entries → LastIs entries (option_map entry_view last.entry) → AllByRecursion (λ e. ComesBefore e entry) entries → Without 47 entry.name → entry.name ≡ name.now → Covers entries (option_map entry_view last.entry) lengths.old → Covers (entries ++ entry ∷ []) (Some entry) lengths.new }
+    ensures { CoversNext last.entry name.now lengths.old lengths.new }
 {
     let Some(last) = last else {
         return;

@@ -1,14 +1,9 @@
 -- What is judged want by want: all that the first of them reach is there.
-use Rattle.std.proofs.Common.{◌≡◌, ℕ, ◌+◌, ◌<◌, ⊎_elim, List, [], ◌∷◌, ◌++◌, append_assoc, length, drop, take, get_or, Option, Some, None, IsSome, Result, Ok, Err, IfOk, IfErr, OnOk, Contains, refl, sym, ap, ◌∙◌, subst, arith}
+use Rattle.std.proofs.Common.{◌≡◌, ℕ, ◌+◌, ◌<◌, ⊎_elim, List, [], ◌∷◌, ◌++◌, append_assoc, length, drop, take, get_or, Option, Result, Ok, Err, IfOk, IfErr, OnOk, Contains, sym, ap, ◌∙◌, subst, arith}
 use Rattle.std.proofs.Math.Seq.{take-append_seam}
 use Rattle.std.proofs.lemmas.List.{get_or_default, take-append-drop, take_more}
 use Rattle.std.proofs.lemmas.List.Elements.{Contains-push_cases}
-use Rattle.std.specs.Option.{option_or}
-use Rattle.vc_graph.proofs.OverlayLemmas.{links_in-with_carried}
-use Rattle.vc_graph.specs.Graph.{Reaches, ReachedFrom, IsClosed, IsClosedUnder, itself, onward}
-use Rattle.vc_graph.specs.Overlay.{with_carried}
-use Rattle.vc_object.specs.ObjectMap.{ObjectMap, links_in}
-use Rattle.vc_object.specs.declared.id.ObjectId.{ObjectId}
+use Rattle.vc_graph.specs.Graph.{Reaches, ReachedFrom, IsClosed, IsClosedUnder}
 
 module _ {Id : Type 0} (links : Id → Option (List Id)) where
   pub closed_none : (wants : List Id) → IsClosedUnder links (take 0 wants)
@@ -49,34 +44,3 @@ module _ {A E H : Type 0} where
   pub err_under : (P : E → Type 0) (found : Result A E) → IfErr found (λ e. H → P e) → H → IfErr found P
   err_under P (Ok a) p h = tt
   err_under P (Err e) p h = p h
-
--- ---- what is known of the store is so with what is carried
-module _ {Id : Type 0} (f g : Id → Option (List Id)) (more : (x : Id) (ys : List Id) → f x ≡ Some ys → g x ≡ Some ys) where
-  there_still : (x : Id) (o : Option (List Id)) → f x ≡ o → IsSome o → IsSome (g x)
-  there_still x None e h = absurd (cc h)
-  there_still x (Some ys) e h = subst (λ o. IsSome o) (sym (more x ys e)) refl
-
-  -- what is whole reaches no more where the others grow
-  reached_before : {x y : Id} → IsClosed f x → Reaches g x y → Reaches f x y
-  reached_before closed itself = itself
-  reached_before {x} closed (onward {y} {z} r l) =
-      let before = reached_before closed r in
-      by (f y) refl (closed y before) before
-    where
-      by : (o : Option (List Id)) → f y ≡ o → IsSome o → Reaches f x y → Reaches f x z
-      by None e h before = absurd (cc h)
-      by (Some ys) e h before =
-          let kept : g y ≡ Some ys = more y ys e in
-          let same : l.0 ≡ ys = cc in
-          onward before (ys, e, subst (λ zs. Contains zs z) same l.2)
-
-  closed_still : (roots : List Id) → IsClosedUnder f roots → IsClosedUnder g roots
-  closed_still roots closed y h =
-      let of_root : IsClosed f h.root = λ z r. closed z (record { root = h.root; is_root = h.is_root; reaches = r }) in
-      there_still y (f y) refl (of_root y (reached_before of_root h.reaches))
-
-pub closed_carried : (stored carried : ObjectMap) (roots : List ObjectId) → IsClosedUnder (links_in stored) roots → IsClosedUnder (links_in (with_carried stored carried)) roots
-closed_carried stored carried roots =
-    closed_still (links_in stored) (links_in (with_carried stored carried))
-    (λ x ys e. links_in-with_carried stored carried x ∙ ap (λ o. option_or o (links_in carried x)) e)
-    roots

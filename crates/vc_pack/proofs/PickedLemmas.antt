@@ -14,9 +14,6 @@ module _ {X : Type 0} (P : X → Type 0) where
   all_more xs n d here before next y h =
       ⊎_elim (before y) (λ e. subst P e next) (Contains-push_cases (take n xs) (get_or xs n d) y (subst (λ l. Contains l y) (take_more xs n d here) h))
 
-  pub all_whole : (xs : List X) (n : ℕ) → length xs ≤ n → ((y : X) → Contains (take n xs) y → P y) → (y : X) → Contains xs y → P y
-  all_whole xs n end all y h = all y (subst (λ l. Contains l y) (sym (take_all n xs end)) h)
-
   -- the first of xs stays the first where more come behind
   IsFirst-more : (Other : X → Type 0) (xs more : List X) (x : X) → IsFirst P Other xs x → IsFirst P Other (xs ++ more) x
   IsFirst-more Other xs more x f = record {

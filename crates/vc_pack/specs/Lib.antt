@@ -1,4 +1,6 @@
 pub mod Answer
 pub mod AnswerFault
+pub mod Brought
 pub mod Picked
 pub mod Reached
+pub mod Sent

@@ -2,11 +2,11 @@
 ghost use Rattle.std.specs.Prelude.{◌≡◌, ◌↔◌, ◌⊎◌, map, IfOk, IfErr, IsErrOf, OnOk, IsSome, Some, Contains};
 ghost use Rattle.vc_pack.specs.Answer.{IsOurs, IsSent, IsFirstCounted};
 ghost use Rattle.vc_pack.specs.AnswerFault.{IsRefusedAnswer, IsRefusedWalk};
+ghost use Rattle.vc_pack.specs.Sent.{ListsStored};
 ghost use Rattle.vc_files.specs.Failures.{Wears};
-ghost use Rattle.vc_object.specs.Decoding.{StoredObject};
 ghost use Rattle.vc_object.specs.ObjectId.{IsSortedByName};
 ghost use Rattle.vc_object.specs.declared.id.ObjectId.{ObjectId as Id};
-ghost use Rattle.vc_pkt.specs.Carried.{object_named, stored_name};
+ghost use Rattle.vc_pkt.specs.Carried.{stored_name};
 ghost use Rattle.vc_pkt.specs.ObjectStreamView.{carried};
 ghost use Rattle.vc_store.specs.Store.{objects};
 
@@ -51,7 +51,7 @@ fn our_names<F: Files>(
 /// the refs reach is walked before. An absent or damaged object that is met is told as it is by
 /// [`closure`](vc_graph::closure).
 pub fn answer_want<F: Files>(alloc: Global, files: &mut F, want: &Want) -> Result<Pack, AnswerFault>
-    ensures objects { F.honest → IfOk result (λ pack. (id : Id) (o : StoredObject) → object_named id (carried pack.objects) ≡ Some o ↔ (IsSent (F.content files.old) want.now.wants.items want.now.haves.items id × (objects (F.content files.old) id ≡ Some o))) }
+    ensures objects { F.honest → IfOk result (λ pack. ListsStored (F.content files.old) (IsSent (F.content files.old) want.now.wants.items want.now.haves.items) (carried pack.objects)) }
     ensures there { F.honest → OnOk result ((id : Id) → IsSent (F.content files.old) want.now.wants.items want.now.haves.items id → IsSome (objects (F.content files.old) id)) }
     ensures sorted { F.honest → IfOk result (λ pack. IsSortedByName (map stored_name (carried pack.objects))) }
     ensures ack { F.honest → IfOk result (λ pack. IsFirstCounted (F.content files.old) want.now.haves.items pack.ack) }

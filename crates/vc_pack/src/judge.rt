@@ -1,12 +1,12 @@
 //! Whether a pack brings all that was asked for.
 ghost use Rattle.std.specs.Prelude.{◌≡◌, length, take, IfOk, IfErr, IsErrOf, OnOk};
 ghost use Rattle.vc_pack.specs.AnswerFault.{IsRefusedPack};
+ghost use Rattle.vc_pack.specs.Brought.{AreCompleteWith, with_pack};
 ghost use Rattle.vc_fetch.specs.PackObjects.{objects_in};
 ghost use Rattle.vc_files.specs.Failures.{Wears};
-ghost use Rattle.vc_graph.specs.Graph.{IsClosedUnder, ReachedFrom};
-ghost use Rattle.vc_graph.specs.GraphFault.{IsMet};
+ghost use Rattle.vc_graph.specs.Complete.{AreComplete, AreCompleteBeyond};
+ghost use Rattle.vc_graph.specs.GraphFault.{IsMetFrom};
 ghost use Rattle.vc_graph.specs.Incomplete.{IsFirstIncomplete};
-ghost use Rattle.vc_graph.specs.Overlay.{with_carried};
 ghost use Rattle.vc_object.specs.ObjectMap.{links_in};
 ghost use Rattle.vc_pkt.specs.ObjectStreamView.{carried as carried_objects};
 ghost use Rattle.vc_store.specs.Store.{objects, IsDamaged};
@@ -28,11 +28,11 @@ pub fn names_reached<O: Objects>(
     known: IndexSet<ObjectId>,
     wants: &[ObjectId],
 ) -> Result<Result<IndexSet<ObjectId>, ObjectId>, StoreFault>
-    ensures complete { IfOk result (λ found. IfOk found (λ met. O.is_honest → IsClosedUnder (links_in (O.objects (O.state_of objects.old))) known.keys → IsClosedUnder (links_in (O.objects (O.state_of objects.old))) wants.now)) }
-    ensures met { IfOk result (λ found. IfOk found (λ met. O.is_honest → IsClosedUnder (links_in (O.objects (O.state_of objects.old))) known.keys → IsClosedUnder (links_in (O.objects (O.state_of objects.old))) met.keys)) }
+    ensures complete { IfOk result (λ found. IfOk found (λ met. O.is_honest → AreCompleteBeyond (O.objects (O.state_of objects.old)) known.keys wants.now)) }
+    ensures met { IfOk result (λ found. IfOk found (λ met. O.is_honest → AreCompleteBeyond (O.objects (O.state_of objects.old)) known.keys met.keys)) }
     ensures front { IfOk result (λ found. IfOk found (λ met. take (length known.keys) met.keys ≡ known.keys)) }
     ensures first { IfOk result (λ found. IfErr found (λ id. O.is_honest → IsFirstIncomplete (links_in (O.objects (O.state_of objects.old))) wants.now id)) }
-    ensures refused { IfErr result (λ e. O.is_honest → IsMet (ReachedFrom (links_in (O.objects (O.state_of objects.old))) wants.now) (O.damaged (O.state_of objects.old)) e) }
+    ensures refused { IfErr result (λ e. O.is_honest → IsMetFrom (O.objects (O.state_of objects.old)) (O.damaged (O.state_of objects.old)) wants.now e) }
     ensures kept { O.state_of objects.new ≡ O.state_of objects.old }
     ensures wear { Wears O.failed O.can_fail O.left objects.old objects.new (IsErrOf result (StoreFault.Fault Fault.Device)) }
 {
@@ -58,11 +58,11 @@ fn names_met<O: Objects>(
     known: IndexSet<ObjectId>,
     wants: &[ObjectId],
 ) -> Result<Result<IndexSet<ObjectId>, ObjectId>, StoreFault>
-    ensures complete { IfOk result (λ found. IfOk found (λ met. O.is_honest → IsClosedUnder (links_in (with_carried (O.objects (O.state_of stored.old)) (objects_in (carried_objects carried.now.objects.now)))) known.keys → IsClosedUnder (links_in (with_carried (O.objects (O.state_of stored.old)) (objects_in (carried_objects carried.now.objects.now)))) wants.now)) }
-    ensures met { IfOk result (λ found. IfOk found (λ met. O.is_honest → IsClosedUnder (links_in (with_carried (O.objects (O.state_of stored.old)) (objects_in (carried_objects carried.now.objects.now)))) known.keys → IsClosedUnder (links_in (with_carried (O.objects (O.state_of stored.old)) (objects_in (carried_objects carried.now.objects.now)))) met.keys)) }
+    ensures complete { IfOk result (λ found. IfOk found (λ met. O.is_honest → AreCompleteBeyond (with_pack (O.objects (O.state_of stored.old)) carried.now.objects.now) known.keys wants.now)) }
+    ensures met { IfOk result (λ found. IfOk found (λ met. O.is_honest → AreCompleteBeyond (with_pack (O.objects (O.state_of stored.old)) carried.now.objects.now) known.keys met.keys)) }
     ensures front { IfOk result (λ found. IfOk found (λ met. take (length known.keys) met.keys ≡ known.keys)) }
-    ensures first { IfOk result (λ found. IfErr found (λ id. O.is_honest → IsFirstIncomplete (links_in (with_carried (O.objects (O.state_of stored.old)) (objects_in (carried_objects carried.now.objects.now)))) wants.now id)) }
-    ensures refused { IfErr result (λ e. O.is_honest → IsMet (ReachedFrom (links_in (with_carried (O.objects (O.state_of stored.old)) (objects_in (carried_objects carried.now.objects.now)))) wants.now) (O.damaged (O.state_of stored.old)) e) }
+    ensures first { IfOk result (λ found. IfErr found (λ id. O.is_honest → IsFirstIncomplete (links_in (with_pack (O.objects (O.state_of stored.old)) carried.now.objects.now)) wants.now id)) }
+    ensures refused { IfErr result (λ e. O.is_honest → IsMetFrom (with_pack (O.objects (O.state_of stored.old)) carried.now.objects.now) (O.damaged (O.state_of stored.old)) wants.now e) }
     ensures kept { O.state_of stored.new ≡ O.state_of stored.old }
     ensures wear { Wears O.failed O.can_fail O.left stored.old stored.new (IsErrOf result (StoreFault.Fault Fault.Device)) }
 {
@@ -83,11 +83,11 @@ fn names_met_in_files<F: Files>(
     known: IndexSet<ObjectId>,
     wants: &[ObjectId],
 ) -> Result<Result<IndexSet<ObjectId>, ObjectId>, StoreFault>
-    ensures complete { F.honest → IsClosedUnder (links_in (objects (F.content files.old))) known.keys → IfOk result (λ found. OnOk found (IsClosedUnder (links_in (with_carried (objects (F.content files.old)) (objects_in (carried_objects carried.now.objects.now)))) wants.now)) }
-    ensures met { F.honest → IsClosedUnder (links_in (objects (F.content files.old))) known.keys → IfOk result (λ found. IfOk found (λ met. IsClosedUnder (links_in (with_carried (objects (F.content files.old)) (objects_in (carried_objects carried.now.objects.now)))) met.keys)) }
+    ensures complete { F.honest → AreComplete (objects (F.content files.old)) known.keys → IfOk result (λ found. OnOk found (AreCompleteWith (F.content files.old) carried.now.objects.now wants.now)) }
+    ensures met { F.honest → AreComplete (objects (F.content files.old)) known.keys → IfOk result (λ found. IfOk found (λ met. AreCompleteWith (F.content files.old) carried.now.objects.now met.keys)) }
     ensures front { IfOk result (λ found. IfOk found (λ met. take (length known.keys) met.keys ≡ known.keys)) }
-    ensures first { F.honest → IfOk result (λ found. IfErr found (IsFirstIncomplete (links_in (with_carried (objects (F.content files.old)) (objects_in (carried_objects carried.now.objects.now)))) wants.now)) }
-    ensures refused { F.honest → IfErr result (IsMet (ReachedFrom (links_in (with_carried (objects (F.content files.old)) (objects_in (carried_objects carried.now.objects.now)))) wants.now) (IsDamaged (F.content files.old))) }
+    ensures first { F.honest → IfOk result (λ found. IfErr found (IsFirstIncomplete (links_in (with_pack (objects (F.content files.old)) carried.now.objects.now)) wants.now)) }
+    ensures refused { F.honest → IfErr result (IsMetFrom (with_pack (objects (F.content files.old)) carried.now.objects.now) (IsDamaged (F.content files.old)) wants.now) }
     ensures same { F.content files.new ≡ F.content files.old }
     ensures wear { Wears F.failed F.can_fail F.left files.old files.new (IsErrOf result (StoreFault.Fault Fault.Device)) }
 {
@@ -107,8 +107,8 @@ pub fn judge_pack<F: Files>(
     wants: &[ObjectId],
     pack: &Pack,
 ) -> Result<IndexSet<ObjectId>, AnswerFault>
-    ensures complete { F.honest → IsClosedUnder (links_in (objects (F.content files.old))) known.keys → OnOk result (IsClosedUnder (links_in (with_carried (objects (F.content files.old)) (objects_in (carried_objects pack.now.objects)))) wants.now) }
-    ensures met { F.honest → IsClosedUnder (links_in (objects (F.content files.old))) known.keys → IfOk result (λ met. IsClosedUnder (links_in (with_carried (objects (F.content files.old)) (objects_in (carried_objects pack.now.objects)))) met.keys) }
+    ensures complete { F.honest → AreComplete (objects (F.content files.old)) known.keys → OnOk result (AreCompleteWith (F.content files.old) pack.now.objects wants.now) }
+    ensures met { F.honest → AreComplete (objects (F.content files.old)) known.keys → IfOk result (λ met. AreCompleteWith (F.content files.old) pack.now.objects met.keys) }
     ensures front { IfOk result (λ met. take (length known.keys) met.keys ≡ known.keys) }
     ensures refused { F.honest → IfErr result (IsRefusedPack (F.content files.old) (objects_in (carried_objects pack.now.objects)) wants.now) }
 

@@ -1,14 +1,14 @@
 //! The objects of a store that are sent.
-ghost use Rattle.std.specs.Prelude.{◌≡◌, ◌↔◌, ◌++◌, ◌∷◌, [], map, IfOk, IfErr, IsErrOf, OnOk, Some, Contains};
+ghost use Rattle.std.specs.Prelude.{◌≡◌, ◌++◌, ◌∷◌, [], map, IfOk, IfErr, IsErrOf, OnOk, Some};
 ghost use Rattle.vc_pack.specs.Reached.{IsSentUnlessKnown, StandsIn, links_beyond};
+ghost use Rattle.vc_pack.specs.Sent.{AreSentBeyond};
 ghost use Rattle.vc_files.specs.Failures.{Wears};
-ghost use Rattle.vc_graph.specs.Graph.{ReachedFrom, IsClosedUnder};
+ghost use Rattle.vc_graph.specs.Complete.{AreComplete};
 ghost use Rattle.vc_graph.specs.GraphFault.{IsTold};
 ghost use Rattle.vc_object.specs.Decoding.{StoredObject};
 ghost use Rattle.vc_object.specs.ObjectId.{IsSortedByName};
 ghost use Rattle.vc_object.specs.ObjectMap.{links_in};
-ghost use Rattle.vc_object.specs.declared.id.ObjectId.{ObjectId as Id};
-ghost use Rattle.vc_pkt.specs.Carried.{object_named, stored_name, with_object};
+ghost use Rattle.vc_pkt.specs.Carried.{stored_name, with_object};
 ghost use Rattle.vc_pkt.specs.ObjectStreamView.{carried};
 ghost use Rattle.vc_store.specs.Store.{objects, IsDamaged};
 
@@ -76,9 +76,9 @@ pub fn sent_beyond<F: Files>(
     reached: &Reached,
     wants: &[ObjectId],
 ) -> Result<CarriedObjects, GraphFault>
-    ensures sent { F.honest → StandsIn (F.content files.old) reached.now → IfOk result (λ sent. (id : Id) (o : StoredObject) → object_named id (carried sent) ≡ Some o ↔ ((ReachedFrom (links_in (objects (F.content files.old))) wants.now id × ¬ ReachedFrom (links_in (objects (F.content files.old))) reached.now.roots.items id) × (objects (F.content files.old) id ≡ Some o))) }
+    ensures sent { F.honest → StandsIn (F.content files.old) reached.now → IfOk result (λ sent. AreSentBeyond (F.content files.old) reached.now.roots.items wants.now (carried sent)) }
     ensures sorted { F.honest → IfOk result (λ sent. IsSortedByName (map stored_name (carried sent))) }
-    ensures closed { F.honest → StandsIn (F.content files.old) reached.now → OnOk result (IsClosedUnder (links_in (objects (F.content files.old))) (wants.now ++ reached.now.roots.items)) }
+    ensures closed { F.honest → StandsIn (F.content files.old) reached.now → OnOk result (AreComplete (objects (F.content files.old)) (wants.now ++ reached.now.roots.items)) }
     ensures refused { F.honest → IfErr result (IsTold (objects (F.content files.old)) (IsDamaged (F.content files.old)) wants.now) }
     ensures same { F.content files.new ≡ F.content files.old }
     ensures wear { Wears F.failed F.can_fail F.left files.old files.new (IsErrOf result (GraphFault.Store (StoreFault.Fault Fault.Device))) }
@@ -105,9 +105,9 @@ pub fn sent_objects<F: Files>(
     wants: &[ObjectId],
     counted: &[ObjectId],
 ) -> Result<CarriedObjects, GraphFault>
-    ensures sent { F.honest → IfOk result (λ sent. (id : Id) (o : StoredObject) → object_named id (carried sent) ≡ Some o ↔ ((ReachedFrom (links_in (objects (F.content files.old))) wants.now id × ¬ ReachedFrom (links_in (objects (F.content files.old))) counted.now id) × (objects (F.content files.old) id ≡ Some o))) }
+    ensures sent { F.honest → IfOk result (λ sent. AreSentBeyond (F.content files.old) counted.now wants.now (carried sent)) }
     ensures sorted { F.honest → IfOk result (λ sent. IsSortedByName (map stored_name (carried sent))) }
-    ensures closed { F.honest → OnOk result (IsClosedUnder (links_in (objects (F.content files.old))) (wants.now ++ counted.now)) }
+    ensures closed { F.honest → OnOk result (AreComplete (objects (F.content files.old)) (wants.now ++ counted.now)) }
     ensures refused { F.honest → IfErr result (IsTold (objects (F.content files.old)) (IsDamaged (F.content files.old)) (wants.now ++ counted.now)) }
     ensures same { F.content files.new ≡ F.content files.old }
     ensures wear { Wears F.failed F.can_fail F.left files.old files.new (IsErrOf result (GraphFault.Store (StoreFault.Fault Fault.Device))) }

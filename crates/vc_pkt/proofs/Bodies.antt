@@ -27,9 +27,6 @@ pub record Left (m : ℕ) (old out all rest : List ℕ) : Type 0 where
   pub enough : length rest ≤ length fuel
   pub whole : out ++ flat_map spelling (cut_up m fuel rest) ≡ old ++ flat_map spelling (cut_up m all all)
 
-pub all_left : (m : ℕ) (old body : List ℕ) → Left m old old body body
-all_left m old body = record { fuel = body; enough = omega arith; whole = refl }
-
 less : (m : ℕ) (fuel old out now all rest piece after : List ℕ) → 0 < m → length rest ≤ length fuel → 0 < length rest
     → out ++ flat_map spelling (cut_up m fuel rest) ≡ old ++ flat_map spelling (cut_up m all all)
     → piece ≡ take m rest → after ≡ drop m rest → now ≡ out ++ spelling (text piece) → Left m old now all after

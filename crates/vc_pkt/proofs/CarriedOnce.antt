@@ -2,7 +2,7 @@
 use Rattle.std.proofs.Common.{◌≡◌, Bool, true, false, cond, List, [], ◌∷◌, map, Option, Some, None, is_some, ◌||◌, refl, ap, sym, ◌∙◌, true≢false}
 use Rattle.std.specs.List.{AllByRecursion}
 use Rattle.std.specs.List.Sorted.{IsStrictlySortedBy}
-use Rattle.std.specs.Cmp.{Equal-is}
+use Rattle.std.specs.Cmp.{Equal-is, tied_itself}
 use Rattle.std.specs.Ordering.{is_eq, match_ordering, ordering_reverse}
 use Rattle.std.specs.declared.cmp.Ordering.{Ordering}
 use Rattle.std.specs.declared.cmp.Ordering.TheVariants.{Less, Equal, Greater}
@@ -136,3 +136,21 @@ carried_sorted (o ∷ os) set s = carried_sorted os (with_object o set) (with_so
 pub none_sorted : IsSortedByName []
 unfolding IsStrictlySortedBy
 none_sorted = tt
+
+-- ---- a set in order of name
+module _ (o : StoredObject) (os : List StoredObject) where
+  above : (ps : List StoredObject) → AllByRecursion (λ y. id_cmp (stored_name o) y ≡ Less) (map stored_name ps) → AllByRecursion (λ p. object_named (stored_name p) os ≡ Some p) ps
+      → AllByRecursion (λ p. object_named (stored_name p) (o ∷ os) ≡ Some p) ps
+  above [] less found = tt
+  above (p ∷ ps) less found =
+      let apart : is_eq (id_cmp (stored_name p) (stored_name o)) ≡ false = ap is_eq (id_cmp_total.antisymm (stored_name p) (stored_name o) ∙ ap ordering_reverse less.0) in
+      (ap (λ b. cond b (Some o) (object_named (stored_name p) os)) apart ∙ found.0, above ps less.1 found.1)
+
+-- each of its objects is found under its own name
+pub each_named : (os : List StoredObject) → IsSortedByName (map stored_name os) → AllByRecursion (λ o. object_named (stored_name o) os ≡ Some o) os
+unfolding IsStrictlySortedBy
+each_named [] sorted = tt
+each_named (o ∷ os) sorted = (
+  ap (λ b. cond b (Some o) (object_named (stored_name o) os)) (ap is_eq (tied_itself id_cmp_total (stored_name o))),
+  above o os os sorted.0 (each_named os sorted.1),
+)

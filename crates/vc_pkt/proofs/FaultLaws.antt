@@ -1,6 +1,6 @@
 -- Bytes that spell a message have no fault, and other bytes have one first fault.
 use Rattle.std.proofs.Common.{◌≡◌, ◌≢◌, ℕ, ◌+◌, List, [], ◌∷◌, ◌++◌, length, Result, Ok, Err, refl, ap, sym, ◌∙◌, subst, arith, append_assoc, ◌⊎◌, inl, inr, ⊎_elim}
-use Rattle.std.specs.Prelude.{IfOk, IfErr, MatchResult}
+use Rattle.std.specs.Prelude.{IfOk, MatchResult}
 use Rattle.std.proofs.lemmas.List.{append-nil}
 use Rattle.vc_pkt.specs.Line.{LineText, IsLine, IsLines, IsPart, IsBad, short}
 use Rattle.vc_pkt.specs.Message.{Stepped, onward, complete, Steps, going, run, IsLineFault, IsSpelledBy, GivenBy, IsUnfinished, FirstFault, cut, bad_length, wrong_line, byte_behind, Refuses}
@@ -55,10 +55,6 @@ module _ {S M : Type 0} (step : Steps S M) (start : S) where
       read_all (Ok x) h m (lines, each, s) = ap Ok (one_message bytes m lines each (from m lines s) (view x) h)
       read_all (Err Memory) h m (lines, each, s) = tt
       read_all (Err (Refused f)) h m (lines, each, s) = absurd (no_fault bytes m lines each (from m lines s) f h)
-
-      pub refused_all : (r : Result X PktError) → MatchResult r (λ x. IsSpelledBy (GivenBy step start) (view x) bytes) (Refuses step start bytes) → IfErr r (Refuses step start bytes)
-      refused_all (Ok x) h = tt
-      refused_all (Err e) h = h
 
 -- two beginnings of bytes: the lines of one begin those of the other
 data Compare (ls ms : List LineText) (f g x y : List ℕ) : Type 0 where

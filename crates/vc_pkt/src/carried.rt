@@ -24,8 +24,7 @@ pub struct CarriedObjects {
 }
 
 impl CarriedObjects {
-    ghost use Rattle.std.specs.Prelude.{◌≡◌, ◌≤◌, [], map, length, vec_len, OnOk, OnErr};
-    ghost use Rattle.vc_object.specs.ObjectId.{IsSortedByName};
+    ghost use Rattle.std.specs.Prelude.{◌≡◌, [], map, OnOk, OnErr};
     ghost use Rattle.vc_pkt.specs.Carried.{stored_name, with_object};
     ghost use Rattle.vc_pkt.specs.StreamObjectView.{stored, objects_of};
 

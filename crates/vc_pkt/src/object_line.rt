@@ -1,6 +1,6 @@
 //! The line that begins an object in a stream.
 
-ghost use Rattle.std.specs.Prelude.{◌≡◌, ◌≤◌, IfSome};
+ghost use Rattle.std.specs.Prelude.{◌≡◌};
 ghost use Rattle.std.specs.Option.{option_map};
 ghost use Rattle.vc_pkt.specs.ObjectLine.{kind_at, size_of, object_line};
 

@@ -1,6 +1,6 @@
 //! Object streams: a line for each object's kind and size, the lines of its body, and a flush at the end.
 
-ghost use Rattle.std.specs.Prelude.{◌≡◌, List, Ok, IfOk, IfErr};
+ghost use Rattle.std.specs.Prelude.{List, Ok, IfOk, IfErr};
 ghost use Rattle.vc_object.specs.Decoding.{StoredObject};
 ghost use Rattle.vc_pkt.specs.Message.{IsSpelledBy, Refuses};
 ghost use Rattle.vc_pkt.specs.StepView.{Gives};

@@ -1,6 +1,5 @@
 //! One line of an object stream.
 
-ghost use Rattle.std.specs.Prelude.{◌≡◌, ◌≤◌};
 ghost use Rattle.vc_pkt.specs.LineView.{line_text};
 ghost use Rattle.vc_pkt.specs.StepView.{Gives};
 ghost use Rattle.vc_pkt.specs.ObjectLine.{object_line};

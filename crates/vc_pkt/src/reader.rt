@@ -1,7 +1,7 @@
 //! Lines that come in pieces.
 
-ghost use Rattle.std.specs.Prelude.{◌≡◌, ◌≤◌, ◌+◌, ◌++◌, ◌∷◌, [], ℕ, List, length, drop, take, OnOk, OnErr, IfErr, MatchOption, MatchResult, IfOk};
-ghost use Rattle.vc_pkt.specs.Line.{LineText, IsLineList, IsLines, IsBadAt, IsPart};
+ghost use Rattle.std.specs.Prelude.{◌≡◌, ◌≤◌, ◌+◌, ◌++◌, [], ℕ, List, length, drop, OnOk, OnErr, IfErr, MatchResult};
+ghost use Rattle.vc_pkt.specs.Line.{LineText, IsLineList, IsBadAt};
 
 use crate::fault::{PktError, PktFault};
 use crate::line::{Line, parse_line};
@@ -69,7 +69,7 @@ fn behind(buffer: &Vec<u8>, n: usize) -> &[u8]
 }
 
 impl PktReader {
-    ghost use Rattle.vc_pkt.specs.Held.{Held, Gives, further};
+    ghost use Rattle.vc_pkt.specs.Held.{Held};
     ghost use Rattle.vc_pkt.specs.Faults.{FeedFault};
     ghost use Rattle.std.specs.Borrow.{sem};
     ghost use Rattle.std.specs.Io.BufRead.{Rests};

@@ -1,11 +1,10 @@
 //! All lines of a stream that comes in pieces.
 
-ghost use Rattle.std.specs.Prelude.{◌≡◌, ◌++◌, ℕ, List, [], map, OnOk, IfOk, IfErr};
+ghost use Rattle.std.specs.Prelude.{◌≡◌, ℕ, List, map, OnOk, IfOk, IfErr};
 ghost use Rattle.std.specs.List.{flat_map};
-ghost use Rattle.vc_pkt.specs.Line.{LineText, IsLines, IsPart, IsLineList};
+ghost use Rattle.vc_pkt.specs.Line.{IsLineList};
 ghost use Rattle.vc_pkt.specs.LineView.{line_text};
 ghost use Rattle.vc_pkt.specs.OwnedView.{owned_text};
-ghost use Rattle.vc_pkt.specs.Held.{further};
 ghost use Rattle.vc_pkt.specs.Whole.{TakesLines};
 ghost use Rattle.vc_pkt.specs.Faults.{FeedFault};
 

@@ -1,6 +1,6 @@
 //! The message by which the shared node answers a push.
 
-ghost use Rattle.std.specs.Prelude.{◌≡◌, ◌≤◌, ◌+◌, ◌++◌, ◌∷◌, [], length, Ok, OnOk, IfOk, IfErr, map};
+ghost use Rattle.std.specs.Prelude.{◌≡◌, ◌≤◌, ◌+◌, ◌++◌, length, Ok, OnOk, IfOk, IfErr, map};
 ghost use Rattle.std.specs.List.{All, flat_map};
 ghost use Rattle.vc_pkt.specs.Line.{spelling};
 ghost use Rattle.vc_pkt.specs.Message.{IsSpelledBy, Refuses};

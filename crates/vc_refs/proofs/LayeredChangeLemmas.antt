@@ -274,6 +274,9 @@ rest_same name old new same = subst (λ (m : FileMap). KeepsTheRest name old m) 
   outside = record { at = λ path outside other. refl; head = refl; good = λ path bad. bad };
 })
 
+pub only_same : (path : List ℕ) (old new : FileMap) → new ≡ old → ChangesOnly path old new
+only_same path old new same = subst (λ (m : FileMap). ChangesOnly path old m) (sym same) (record { at = λ q other. refl })
+
 pub unpacks_same : (name : List ℕ) (old new : FileMap) → new ≡ old → UnpacksOnly name old new
 unpacks_same name old new same = subst (λ (m : FileMap). UnpacksOnly name old m) (sym same) (record { at = λ q other. refl })
 

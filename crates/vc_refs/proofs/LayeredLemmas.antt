@@ -9,6 +9,7 @@ use Rattle.std.specs.FinMap as files
 use Rattle.std.proofs.lemmas.Bool.{and_parts, false_from_ne_true}
 use Rattle.std.proofs.lemmas.Slice.Eq.{bytes_eq-Decides}
 use Rattle.vc_files.specs.FileMap.{FileMap}
+use Rattle.vc_object.proofs.IdLemmas.{IsId-from_is_id}
 use Rattle.vc_object.specs.Lines.{IsId}
 use Rattle.vc_object.specs.ObjectId.{is_id}
 use Rattle.vc_object.specs.declared.id.ObjectId.{ObjectId}
@@ -19,9 +20,9 @@ use Rattle.vc_refs.specs.RefFile.{id_in}
 use Rattle.vc_refs.specs.RefMap.{IsInRefs, is_ref}
 use Rattle.vc_refs.specs.declared.faults.RefFault.{RefFault}
 use Rattle.vc_refs.specs.declared.faults.RefFault.TheVariants.{Stale, Conflict, BadRefFile, HeadLoop, Fault}
-use Rattle.vc_refs.proofs.PackedLaws.{id_in-valid, packed_entry, packed_refs-valid, whole_id}
+use Rattle.vc_refs.proofs.PackedLaws.{id_in-valid, packed_entry, packed_refs-valid}
 use Rattle.vc_refs.proofs.PackedLemmas.{empty-IsPackedMap}
-use Rattle.vc_refs.proofs.RefsLemmas.{loose-at, loose-same, loose_absent, loose_good, loose_legal, taken_from_ref}
+use Rattle.vc_refs.proofs.RefsLemmas.{loose-at, loose-same, loose_absent, loose_legal, taken_from_ref}
 use Rattle.vc_refs.proofs.ObstacleLemmas.{split_from_starts}
 
 -- ---- the packed file
@@ -179,7 +180,7 @@ ref_legal content name id is = elim (value_cases content name id is) [
 
 -- its id is whole
 pub ref_whole : (content : FileMap) (name : List ℕ) (id : ObjectId) → refs content name ≡ Some id → IsId id
-ref_whole content name id is = whole_id id (elim (value_cases content name id is) [
+ref_whole content name id is = IsId-from_is_id id (elim (value_cases content name id is) [
   | inl own ↦ by (files.get content name) (sym (loose-at content name (loose_legal content name id own)) ∙ own)
   | inr line ↦ (packed_parts content name id line).1
 ])
@@ -187,17 +188,6 @@ ref_whole content name id is = whole_id id (elim (value_cases content name id is
     by : (found : Option (List ℕ)) → option_and_then id_in found ≡ Some id → is_id id ≡ true
     by None e = absurd (cc e)
     by (Some text) e = id_in-valid text id e
-
--- and the file that says it can be read
-pub good_there : (content : FileMap) (name : List ℕ) (id : ObjectId) → refs content name ≡ Some id → IsBadRef content (deciding_file content name) → ⊥
-good_there content name id is = by (is_taken content name) refl
-  where
-    nothing : (m : Option PackedMap) → m ≡ None → packed_at m name ≡ Some id → ⊥
-    nothing m none e = let here : packed_at None name ≡ Some id = ap (λ o. packed_at o name) (sym none) ∙ e in cc here
-
-    by : (b : Bool) → is_taken content name ≡ b → IsBadRef content (deciding_file content name) → ⊥
-    by true taken = good_loose content name taken (loose_good content name id (sym (refs-loose content name taken) ∙ is))
-    by false free = good_packed content name free (λ bad. nothing (packed_map content) bad (sym (refs-packed content name free) ∙ is))
 
 -- ---- the value over packed refs that were read
 pub value_over : (content : FileMap) (name : List ℕ) (packed : PackedMap) (own : Option ObjectId) → packed_map content ≡ Some packed → own ≡ loose_refs content name → (IsBadLoose content name → ⊥) → refs content name ≡ option_or own (files.get packed name)

@@ -8,9 +8,9 @@ use Rattle.std.proofs.lemmas.Bool.{and_from, and_parts}
 use Rattle.hex.specs.declared.error.FromHexError.{FromHexError}
 use Rattle.hex.specs.Hex.{decode_sized}
 use Rattle.hex.proofs.HexLemmas.{decode_of-ok, decode_sized-ok, decode_sized-twice}
-use Rattle.vc_object.proofs.IdLemmas.{IsId-from_is_id, is_id-from_array}
+use Rattle.vc_object.proofs.IdLemmas.{is_id-from_array}
 use Rattle.vc_object.proofs.Items.{bind_some}
-use Rattle.vc_object.specs.Lines.{after_word, split, IsId}
+use Rattle.vc_object.specs.Lines.{after_word, split}
 use Rattle.vc_object.specs.ObjectId.{is_id}
 use Rattle.vc_object.specs.declared.id.ObjectId.{ObjectId}
 use Rattle.vc_refs.specs.Packed.{PackedMap, PackedRef, IsPackedMap, hex_id, is_comment, is_packed_name, is_peeled, lines, map_of, may_be_packed, names_once, packed_name, packed_refs, ref_in, refs_in, with_ref_first}
@@ -39,9 +39,6 @@ same_ref ref found e = cc e
 -- so does the text of a ref's own file
 pub id_in-valid : (text : List ℕ) (id : ObjectId) → id_in text ≡ Some id → is_id id ≡ true
 id_in-valid text id e = hex_id-valid (without_lf text) id e
-
-pub whole_id : (id : ObjectId) → is_id id ≡ true → IsId id
-whole_id = IsId-from_is_id
 
 -- the line of a ref gives one that may be packed
 ref_in-valid : (line : List ℕ) (ref : PackedRef) → ref_in line ≡ Some ref → may_be_packed ref ≡ true

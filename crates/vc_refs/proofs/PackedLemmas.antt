@@ -14,7 +14,6 @@ use Rattle.std.specs.List.{AllByRecursion, IsDistinct, list_all}
 use Rattle.std.specs.List.Sorted.{IsStrictlySortedBy}
 use Rattle.std.specs.Str.{is_utf8}
 use Rattle.std.proofs.lemmas.Bool.{and_parts, and_from}
-use Rattle.std.proofs.lemmas.List.Folds.{list_all-append}
 use Rattle.std.proofs.lemmas.Map.Entries.{length-keys_of}
 use Rattle.std.proofs.lemmas.Map.Made.{IsDistinct-from_count, distinct_count-from_IsDistinct, update_all_none}
 use Rattle.std.proofs.lemmas.Map.Views.{btree_map_len-from_list}
@@ -78,9 +77,6 @@ module _ (done : List PackedRef) where
 
   pub lines-end : (behind : Bool) → behind_refs (refs_in behind []) ≡ Some done
   lines-end behind = ap Some (append-nil done)
-
-pub all_more : (done : List PackedRef) (ref : PackedRef) → list_all may_be_packed done ≡ true → may_be_packed ref ≡ true → list_all may_be_packed (done ++ ref ∷ []) ≡ true
-all_more done ref all one = list_all-append may_be_packed done (ref ∷ []) ∙ and_from _ _ all (and_from _ _ one refl)
 
 -- ---- names that stand once
 -- two texts that compare equal are the same

@@ -1,45 +1,23 @@
 -- The paths under a prefix: in order, each once, and all that are stored.
-use Rattle.std.proofs.Common.{◌≡◌, ℕ, Bool, true, false, ◌&&◌, ◌||◌, nat_eq, List, [], ◌∷◌, map, sym, ap, refl, ◌∙◌, subst}
-use Rattle.std.specs.Prelude.{◌≢◌, T, is_some}
+use Rattle.std.proofs.Common.{◌≡◌, ℕ, Bool, true, false, ◌&&◌, ◌||◌, nat_eq, List, [], ◌∷◌, sym, ap, refl, ◌∙◌, subst}
+use Rattle.std.specs.Prelude.{◌≢◌, is_some}
 use Rattle.std.specs.List.{starts_with, list_any, AllByRecursion}
 use Rattle.std.specs.List.Sorted.{IsStrictlySortedBy}
-use Rattle.std.specs.Ordering.{nat_cmp, is_lt, is_eq, eq_by_cmp}
+use Rattle.std.specs.Ordering.{nat_cmp, is_eq, eq_by_cmp}
 use Rattle.std.specs.declared.cmp.Ordering.{Ordering}
-use Rattle.std.specs.declared.cmp.Ordering.TheVariants.{Less, Equal, Greater}
+use Rattle.std.specs.declared.cmp.Ordering.TheVariants.{Less, Greater}
 use Rattle.std.specs.Cmp.Lexicographic.{slice_cmp}
 use Rattle.std.specs.FinMap as files
-use Rattle.std.specs.FinMap.{entries, entries_sorted, keys, contains_key-keys, is_sorted}
-use Rattle.std.specs.FinMap.Entries.{below_all}
+use Rattle.std.specs.FinMap.{entries, entries_sorted, keys, contains_key-keys}
 use Rattle.std.proofs.lemmas.List.Kept.{IsStrictlySortedBy-filter}
 use Rattle.std.proofs.lemmas.Map.Views.{any-filter_same}
 use Rattle.std.proofs.lemmas.Map.Text.{is_eq-slice_cmp}
 use Rattle.std.proofs.lemmas.Slice.Eq.{bytes_eq-Decides}
+use Rattle.vc_files.proofs.KeyLemmas.{keys_rise}
 use Rattle.vc_files.specs.FileMap.{FileMap, paths_under}
 
 abbrev path_cmp : List ℕ → List ℕ → Ordering
 path_cmp = slice_cmp nat_cmp
-
-front : (a b : Bool) → T (a && b) → T a
-front true b p = tt
-front false b p = p
-
-back : (a b : Bool) → T (a && b) → T b
-back true b p = p
-back false b p = absurd p
-
-less : (o : Ordering) → T (is_lt o) → o ≡ Less
-less Less p = refl
-less Equal p = absurd p
-less Greater p = absurd p
-
-above_each : (x : List ℕ) (es : List (List ℕ × List ℕ)) → T (below_all path_cmp x es) → AllByRecursion (λ y. path_cmp x y ≡ Less) (map (λ e. e.0) es)
-above_each x [] h = tt
-above_each x (e ∷ es) h = (less _ (front (is_lt (path_cmp x e.0)) (below_all path_cmp x es) h), above_each x es (back (is_lt (path_cmp x e.0)) (below_all path_cmp x es) h))
-
-keys_rise : (es : List (List ℕ × List ℕ)) → T (is_sorted path_cmp es) → IsStrictlySortedBy path_cmp (map (λ e. e.0) es)
-unfolding IsStrictlySortedBy
-keys_rise [] h = tt
-keys_rise (e ∷ es) h = (above_each e.0 es (front (below_all path_cmp e.0 es) (is_sorted path_cmp es) h), keys_rise es (back (below_all path_cmp e.0 es) (is_sorted path_cmp es) h))
 
 -- the paths under a prefix strictly rise
 pub paths_rise : (content : FileMap) (prefix : List ℕ) → IsStrictlySortedBy (slice_cmp nat_cmp) (paths_under content prefix)

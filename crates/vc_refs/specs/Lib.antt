@@ -9,3 +9,4 @@ pub mod Obstacle
 pub mod LooseFault
 pub mod RefFault
 pub mod Packing
+pub mod RefCalls

@@ -1,13 +1,15 @@
 -- When a call on refs succeeds, and what each refusal blames.
-use Rattle.std.specs.Prelude.{◌≡◌, ◌≢◌, ◌⊎◌, ⊤, ℕ, true, List, Option, Some, is_some, codes, string_bytes}
+use Rattle.std.specs.Prelude.{◌≡◌, ◌≢◌, ◌⊎◌, ⊤, ℕ, true, List, Option, Some, IsSome, is_some, Result, IsErrOf, codes, string_bytes}
 use Rattle.std.specs.Ordering.{nat_cmp}
 use Rattle.std.specs.declared.cmp.Ordering.TheVariants.{Greater}
 use Rattle.std.specs.Cmp.Lexicographic.{slice_cmp}
 use Rattle.vc_files.specs.FileMap.{FileMap}
+use Rattle.vc_files.specs.declared.faults.Fault.TheVariants.{Device}
 use Rattle.vc_object.specs.declared.id.ObjectId.{ObjectId}
 use Rattle.vc_refs.specs.Head.{IsHeadLoop, IsBadHead, head_of}
 use Rattle.vc_refs.specs.Refs.{packed_path, refs, deciding_file, IsBadLoose, IsBadPackedFile, IsGoodPackedFile, IsBadRef}
 use Rattle.vc_refs.specs.Obstacle.{IsFirstInTheWay, IsFree}
+use Rattle.vc_refs.specs.RefMap.{is_ref}
 use Rattle.vc_refs.specs.declared.heads.Head.TheVariants.{Branch}
 use Rattle.vc_refs.specs.declared.faults.RefFault.{RefFault}
 use Rattle.vc_refs.specs.declared.faults.RefFault.TheVariants.{Stale, Conflict, BadRefFile, HeadLoop, Fault}
@@ -36,6 +38,10 @@ IsFault (BadRefFile path) = ⊥
 IsFault HeadLoop = ⊥
 IsFault (Fault fault) = ⊤
 
+-- it answers by the device's fault
+abbrev pub TellsDevice : {T : Type 0} → Result T RefFault → Type 0
+TellsDevice result = IsErrOf result (Fault Device)
+
 -- the ref may be changed: its value is the expected one, and the packed file and its own can be read
 pub record HasExpected (content : FileMap) (name : List ℕ) (expected : Option ObjectId) : Type 0 where
   pub packed : IsGoodPackedFile content
@@ -46,6 +52,14 @@ pub record HasExpected (content : FileMap) (name : List ℕ) (expected : Option 
 pub record MaySet (content : FileMap) (name : List ℕ) (expected : Option ObjectId) : Type 0 where
   pub free : IsFree content name
   pub value : HasExpected content name expected
+
+-- a set may write: the name is legal, and the ref may be set
+abbrev pub MayWriteRef : FileMap → List ℕ → Option ObjectId → Type 0
+MayWriteRef content name expected = (is_ref name ≡ true) × MaySet content name expected
+
+-- a removal may write: a value is expected, and the ref has it
+abbrev pub MayRemoveRef : FileMap → List ℕ → Option ObjectId → Type 0
+MayRemoveRef content name expected = IsSome expected × HasExpected content name expected
 
 -- the value is another than the expected one, and the packed file and its own can be read
 pub record IsStale (content : FileMap) (name : List ℕ) (expected current : Option ObjectId) : Type 0 where

@@ -1,17 +1,17 @@
 // HEAD: look and set.
-ghost use Rattle.std.specs.Prelude.{◌≡◌, ◌⊎◌, Some, IfOk, IfErr, IfSome, OnOk, OnErr, IsErrOf, codes, string_bytes};
+ghost use Rattle.std.specs.Prelude.{◌≡◌, ◌⊎◌, IfOk, IfErr, IfSome, OnOk, string_bytes};
 ghost use Rattle.vc_files.specs.Failures.{Wears, Writes};
 ghost use Rattle.vc_refs.specs.declared.heads.HeadText.TheVariants.{Says};
 ghost use Rattle.vc_refs.specs.Head.{head_of, head_text, name_said, read_head, IsHeadInRefs, IsLegalHead};
-ghost use Rattle.vc_refs.specs.RefFault.{BlamesHead, IsFault, IsGoodHead};
-ghost use Rattle.vc_refs.specs.Refs.{refs, ChangesOnly};
+ghost use Rattle.vc_refs.specs.RefCalls.{SetsHead};
+ghost use Rattle.vc_refs.specs.RefFault.{BlamesHead, IsFault, IsGoodHead, TellsDevice};
 
 use crate::RefFault;
 use crate::heads::{Head, HeadText};
 use crate::loose::name_at;
 use crate::text::{id_in, id_text, without_lf};
 use std::alloc::{AllocError, Global};
-use vc_files::{Fault, Files};
+use vc_files::Files;
 
 // The path of HEAD's file.
 const HEAD: &str = "HEAD";
@@ -73,7 +73,7 @@ pub fn head<F: Files>(files: &mut F, alloc: Global) -> Result<Option<Head>, RefF
     ensures good { F.honest → OnOk result (IsGoodHead (F.content files.old)) }
     ensures refused { F.honest → IfErr result (BlamesHead (F.content files.old)) }
     ensures same { F.content files.new ≡ F.content files.old }
-    ensures wear { Wears F.failed F.can_fail F.left files.old files.new (IsErrOf result (RefFault.Fault Fault.Device)) }
+    ensures wear { Wears F.failed F.can_fail F.left files.old files.new (TellsDevice result) }
 {
     let Some(bytes) = files.get(alloc, HEAD)? else {
         return Ok(None);
@@ -88,13 +88,10 @@ pub fn head<F: Files>(files: &mut F, alloc: Global) -> Result<Option<Head>, RefF
 /// Makes HEAD this ref, which need not be there, or this id. What HEAD was doesn't matter.
 pub fn set_head<F: Files>(files: &mut F, alloc: Global, head: &Head) -> Result<(), RefFault>
     requires { IsHeadInRefs head.now }
-    ensures set { F.honest → OnOk result (head_of (F.content files.new) ≡ Some head.now) }
+    ensures sets { SetsHead F.honest F.content head.now files.old files.new result }
     ensures refused { IfErr result IsFault }
-    ensures refs { F.honest → refs (F.content files.new) ≡ refs (F.content files.old) }
-    ensures only { F.honest → ChangesOnly (codes "HEAD") (F.content files.old) (F.content files.new) }
-    ensures err { F.honest → OnErr result (F.content files.new ≡ F.content files.old) }
-    ensures wear { Writes F.honest F.content F.failed F.can_fail F.left files.old files.new (IsErrOf result (RefFault.Fault Fault.Device)) }
-    ensures looks { IsLegalHead head.now ⊎ Wears F.failed F.can_fail F.left files.old files.new (IsErrOf result (RefFault.Fault Fault.Device)) }
+    ensures wear { Writes F.honest F.content F.failed F.can_fail F.left files.old files.new (TellsDevice result) }
+    ensures looks { IsLegalHead head.now ⊎ Wears F.failed F.can_fail F.left files.old files.new (TellsDevice result) }
 {
     let text = head_text(alloc, head)?;
     files.put(alloc, HEAD, text.as_bytes())?;

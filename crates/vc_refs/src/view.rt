@@ -1,16 +1,17 @@
 // Refs as a view of files.
-ghost use Rattle.std.specs.Prelude.{◌≡◌, ◌⊎◌, true, Some, IsSome, IfOk, IfErr, IfSome, OnOk, OnErr, IsErrOf, codes};
+ghost use Rattle.std.specs.Prelude.{◌≡◌, ◌⊎◌, IfOk, IfErr, IfSome, OnOk};
 ghost use Rattle.vc_files.specs.Failures.{Wears, Writes};
-ghost use Rattle.vc_refs.specs.RefMap.{IsInRefs, IsRefMap, IsListOf, is_ref, with_ref, without_ref};
-ghost use Rattle.vc_refs.specs.Refs.{deciding_file, refs, ChangesOnly, IsBadRef, SpellsRefs};
-ghost use Rattle.vc_refs.specs.Head.{head_of, head_value, IsHeadInRefs, IsLegalHead, KeepsOutside, KeepsTheRest};
-ghost use Rattle.vc_refs.specs.Packing.{HasLoose, IsPackedFrom, UnpacksOnly};
+ghost use Rattle.vc_refs.specs.RefMap.{IsInRefs, IsListOf};
+ghost use Rattle.vc_refs.specs.Refs.{deciding_file, refs, IsBadRef, SpellsRefs};
+ghost use Rattle.vc_refs.specs.Head.{head_of, head_value, IsHeadInRefs, IsLegalHead};
+ghost use Rattle.vc_refs.specs.Packing.{HasLoose};
 ghost use Rattle.vc_refs.specs.Obstacle.{IsFree};
-ghost use Rattle.vc_refs.specs.RefFault.{BlamesRef, BlamesRemove, BlamesSet, BlamesObstacle, BlamesList, BlamesHead, BlamesHeadValue, HasExpected, MaySet, IsGoodHead, IsGoodHeadValue, IsFault};
+ghost use Rattle.vc_refs.specs.RefCalls.{PacksRefs, RemovesRef, SetsHead, SetsRef};
+ghost use Rattle.vc_refs.specs.RefFault.{BlamesRef, BlamesRemove, BlamesSet, BlamesObstacle, BlamesList, BlamesHead, BlamesHeadValue, HasExpected, MaySet, IsGoodHead, IsGoodHeadValue, IsFault, MayWriteRef, MayRemoveRef, TellsDevice};
 
 use crate::{Head, RefFault, head_file, layered};
 use std::alloc::Global;
-use vc_files::{Fault, Files};
+use vc_files::Files;
 use vc_object::ObjectId;
 use vc_refname::RefName;
 
@@ -38,7 +39,7 @@ impl<'a, F: Files> Refs<'a, F> {
         ensures good { F.honest → OnOk result (IsBadRef (F.content self.old.files.now) (deciding_file (F.content self.old.files.now) name.now) → ⊥) }
         ensures refused { F.honest → IfErr result (BlamesRef (F.content self.old.files.now) name.now) }
         ensures same { F.content self.new.files.now ≡ F.content self.old.files.now }
-        ensures wear { Wears F.failed F.can_fail F.left self.old.files.now self.new.files.now (IsErrOf result (RefFault.Fault Fault.Device)) }
+        ensures wear { Wears F.failed F.can_fail F.left self.old.files.now self.new.files.now (TellsDevice result) }
     {
         layered::get(self.files, self.alloc, name)
     }
@@ -52,15 +53,11 @@ impl<'a, F: Files> Refs<'a, F> {
     ) -> Result<(), RefFault>
         requires { IsInRefs name.now }
         ensures same_files { self.new.files.ghost_name ≡ self.old.files.ghost_name }
-        ensures set { F.honest → OnOk result (refs (F.content self.new.files.now) ≡ with_ref (refs (F.content self.old.files.now)) name.now new) }
+        ensures sets { SetsRef F.honest F.content name.now new self.old.files.now self.new.files.now result }
         ensures allowed { F.honest → OnOk result (MaySet (F.content self.old.files.now) name.now expected) }
         ensures refused { F.honest → IfErr result (BlamesSet (F.content self.old.files.now) name.now expected) }
-        ensures kept { F.honest → IsRefMap (refs (F.content self.old.files.now)) → IsRefMap (refs (F.content self.new.files.now)) }
-        ensures rest { F.honest → KeepsTheRest name.now (F.content self.old.files.now) (F.content self.new.files.now) }
-        ensures only { F.honest → ChangesOnly name.now (F.content self.old.files.now) (F.content self.new.files.now) }
-        ensures err { F.honest → OnErr result (F.content self.new.files.now ≡ F.content self.old.files.now) }
-        ensures wear { Writes F.honest F.content F.failed F.can_fail F.left self.old.files.now self.new.files.now (IsErrOf result (RefFault.Fault Fault.Device)) }
-        ensures looks { F.honest → ((is_ref name.now ≡ true) × MaySet (F.content self.old.files.now) name.now expected) ⊎ Wears F.failed F.can_fail F.left self.old.files.now self.new.files.now (IsErrOf result (RefFault.Fault Fault.Device)) }
+        ensures wear { Writes F.honest F.content F.failed F.can_fail F.left self.old.files.now self.new.files.now (TellsDevice result) }
+        ensures looks { F.honest → MayWriteRef (F.content self.old.files.now) name.now expected ⊎ Wears F.failed F.can_fail F.left self.old.files.now self.new.files.now (TellsDevice result) }
     {
         layered::set(self.files, self.alloc, name, expected, new)
     }
@@ -73,7 +70,7 @@ impl<'a, F: Files> Refs<'a, F> {
         ensures free { F.honest → OnOk result (IsFree (F.content self.old.files.now) name.now) }
         ensures refused { F.honest → IfErr result (BlamesObstacle (F.content self.old.files.now) name.now) }
         ensures same { F.content self.new.files.now ≡ F.content self.old.files.now }
-        ensures wear { Wears F.failed F.can_fail F.left self.old.files.now self.new.files.now (IsErrOf result (RefFault.Fault Fault.Device)) }
+        ensures wear { Wears F.failed F.can_fail F.left self.old.files.now self.new.files.now (TellsDevice result) }
     {
         layered::refuse_conflict(self.files, self.alloc, name)
     }
@@ -82,16 +79,11 @@ impl<'a, F: Files> Refs<'a, F> {
     pub fn remove(&mut self, name: &RefName, expected: Option<ObjectId>) -> Result<(), RefFault>
         requires { IsInRefs name.now }
         ensures same_files { self.new.files.ghost_name ≡ self.old.files.ghost_name }
-        ensures removed { F.honest → OnOk result (refs (F.content self.new.files.now) ≡ without_ref (refs (F.content self.old.files.now)) name.now) }
-        ensures gone { F.honest → OnOk result (IsBadRef (F.content self.new.files.now) (deciding_file (F.content self.new.files.now) name.now) → ⊥) }
+        ensures removes { RemovesRef F.honest F.content name.now self.old.files.now self.new.files.now result }
         ensures allowed { F.honest → OnOk result (HasExpected (F.content self.old.files.now) name.now expected) }
         ensures refused { F.honest → IfErr result (BlamesRemove (F.content self.old.files.now) name.now expected) }
-        ensures kept { F.honest → IsRefMap (refs (F.content self.old.files.now)) → IsRefMap (refs (F.content self.new.files.now)) }
-        ensures rest { F.honest → KeepsTheRest name.now (F.content self.old.files.now) (F.content self.new.files.now) }
-        ensures unpacks { F.honest → UnpacksOnly name.now (F.content self.old.files.now) (F.content self.new.files.now) }
-        ensures err { F.honest → OnErr result (refs (F.content self.new.files.now) ≡ refs (F.content self.old.files.now)) }
-        ensures wear { Writes F.honest F.content F.failed F.can_fail F.left self.old.files.now self.new.files.now (IsErrOf result (RefFault.Fault Fault.Device)) }
-        ensures looks { F.honest → (IsSome expected × HasExpected (F.content self.old.files.now) name.now expected) ⊎ Wears F.failed F.can_fail F.left self.old.files.now self.new.files.now (IsErrOf result (RefFault.Fault Fault.Device)) }
+        ensures wear { Writes F.honest F.content F.failed F.can_fail F.left self.old.files.now self.new.files.now (TellsDevice result) }
+        ensures looks { F.honest → MayRemoveRef (F.content self.old.files.now) name.now expected ⊎ Wears F.failed F.can_fail F.left self.old.files.now self.new.files.now (TellsDevice result) }
     {
         layered::remove(self.files, self.alloc, name, expected)
     }
@@ -99,14 +91,11 @@ impl<'a, F: Files> Refs<'a, F> {
     /// Puts all refs into the packed file. See [`pack`](crate::pack).
     pub fn pack(&mut self) -> Result<(), RefFault>
         ensures same_files { self.new.files.ghost_name ≡ self.old.files.ghost_name }
-        ensures packed { F.honest → OnOk result (IsPackedFrom (F.content self.old.files.now) (F.content self.new.files.now)) }
+        ensures packs { PacksRefs F.honest F.content self.old.files.now self.new.files.now result }
         ensures good { F.honest → OnOk result (SpellsRefs (F.content self.old.files.now)) }
         ensures refused { F.honest → IfErr result (BlamesList (F.content self.old.files.now)) }
-        ensures kept { F.honest → refs (F.content self.new.files.now) ≡ refs (F.content self.old.files.now) }
-        ensures rest { F.honest → KeepsOutside (F.content self.old.files.now) (F.content self.new.files.now) }
-        ensures err { F.honest → IfErr result (λ e. IsFault e ⊎ (F.content self.new.files.now ≡ F.content self.old.files.now)) }
-        ensures wear { Writes F.honest F.content F.failed F.can_fail F.left self.old.files.now self.new.files.now (IsErrOf result (RefFault.Fault Fault.Device)) }
-        ensures looks { F.honest → HasLoose (F.content self.old.files.now) ⊎ Wears F.failed F.can_fail F.left self.old.files.now self.new.files.now (IsErrOf result (RefFault.Fault Fault.Device)) }
+        ensures wear { Writes F.honest F.content F.failed F.can_fail F.left self.old.files.now self.new.files.now (TellsDevice result) }
+        ensures looks { F.honest → HasLoose (F.content self.old.files.now) ⊎ Wears F.failed F.can_fail F.left self.old.files.now self.new.files.now (TellsDevice result) }
     {
         layered::pack(self.files, self.alloc)
     }
@@ -118,7 +107,7 @@ impl<'a, F: Files> Refs<'a, F> {
         ensures good { F.honest → OnOk result (SpellsRefs (F.content self.old.files.now)) }
         ensures refused { F.honest → IfErr result (BlamesList (F.content self.old.files.now)) }
         ensures same { F.content self.new.files.now ≡ F.content self.old.files.now }
-        ensures wear { Wears F.failed F.can_fail F.left self.old.files.now self.new.files.now (IsErrOf result (RefFault.Fault Fault.Device)) }
+        ensures wear { Wears F.failed F.can_fail F.left self.old.files.now self.new.files.now (TellsDevice result) }
     {
         layered::list(self.files, self.alloc)
     }
@@ -131,7 +120,7 @@ impl<'a, F: Files> Refs<'a, F> {
         ensures good { F.honest → OnOk result (IsGoodHead (F.content self.old.files.now)) }
         ensures refused { F.honest → IfErr result (BlamesHead (F.content self.old.files.now)) }
         ensures same { F.content self.new.files.now ≡ F.content self.old.files.now }
-        ensures wear { Wears F.failed F.can_fail F.left self.old.files.now self.new.files.now (IsErrOf result (RefFault.Fault Fault.Device)) }
+        ensures wear { Wears F.failed F.can_fail F.left self.old.files.now self.new.files.now (TellsDevice result) }
     {
         head_file::head(self.files, self.alloc)
     }
@@ -143,7 +132,7 @@ impl<'a, F: Files> Refs<'a, F> {
         ensures good { F.honest → OnOk result (IsGoodHeadValue (F.content self.old.files.now)) }
         ensures refused { F.honest → IfErr result (BlamesHeadValue (F.content self.old.files.now)) }
         ensures same { F.content self.new.files.now ≡ F.content self.old.files.now }
-        ensures wear { Wears F.failed F.can_fail F.left self.old.files.now self.new.files.now (IsErrOf result (RefFault.Fault Fault.Device)) }
+        ensures wear { Wears F.failed F.can_fail F.left self.old.files.now self.new.files.now (TellsDevice result) }
     {
         layered::resolve_head(self.files, self.alloc)
     }
@@ -152,13 +141,10 @@ impl<'a, F: Files> Refs<'a, F> {
     pub fn set_head(&mut self, head: &Head) -> Result<(), RefFault>
         requires { IsHeadInRefs head.now }
         ensures same_files { self.new.files.ghost_name ≡ self.old.files.ghost_name }
-        ensures set { F.honest → OnOk result (head_of (F.content self.new.files.now) ≡ Some head.now) }
+        ensures sets { SetsHead F.honest F.content head.now self.old.files.now self.new.files.now result }
         ensures refused { IfErr result IsFault }
-        ensures refs { F.honest → refs (F.content self.new.files.now) ≡ refs (F.content self.old.files.now) }
-        ensures only { F.honest → ChangesOnly (codes "HEAD") (F.content self.old.files.now) (F.content self.new.files.now) }
-        ensures err { F.honest → OnErr result (F.content self.new.files.now ≡ F.content self.old.files.now) }
-        ensures wear { Writes F.honest F.content F.failed F.can_fail F.left self.old.files.now self.new.files.now (IsErrOf result (RefFault.Fault Fault.Device)) }
-        ensures looks { IsLegalHead head.now ⊎ Wears F.failed F.can_fail F.left self.old.files.now self.new.files.now (IsErrOf result (RefFault.Fault Fault.Device)) }
+        ensures wear { Writes F.honest F.content F.failed F.can_fail F.left self.old.files.now self.new.files.now (TellsDevice result) }
+        ensures looks { IsLegalHead head.now ⊎ Wears F.failed F.can_fail F.left self.old.files.now self.new.files.now (TellsDevice result) }
     {
         head_file::set_head(self.files, self.alloc, head)
     }

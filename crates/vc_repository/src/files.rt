@@ -1,5 +1,5 @@
 //! A repository over files.
-ghost use Rattle.std.specs.Prelude.{◌≡◌};
+ghost use Rattle.std.specs.Prelude.{◌≡◌, refl};
 
 use crate::faults::refs_fault;
 use std::alloc::Global;
@@ -81,21 +81,22 @@ impl<F: Files> Commits for FileRepository<'_, F> {
 }
 
 impl<F: Files> Repository for FileRepository<'_, F> {
-    ghost use Rattle.vc_repository.specs.State.{State, state, names_in, HasFileIn, IsCause, IsGood};
+    ghost use Rattle.vc_repository.specs.Resolving.{over};
+    ghost use Rattle.vc_repository.specs.State.{State, state, IsCause, IsGood};
 
     ghost View = { State };
 
     ghost view_of = { λ s. state s.files.ghost_name (F.content s.files.now) s.index.now };
 
-    ghost names = { names_in };
-
-    ghost stored = { HasFileIn };
+    ghost source = { over };
 
     ghost is_good = { IsGood };
 
     ghost blames = { IsCause };
 
     ghost follows = { λ x y same. same };
+
+    ghost same_objects = { λ x. refl };
 
     fn head(&mut self) -> Result<Option<ObjectId>, SourceFault> {
         match vc_refs::resolve_head_with(self.files, self.alloc, self.packed) {

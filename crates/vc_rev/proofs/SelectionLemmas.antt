@@ -2,10 +2,10 @@
 use Rattle.std.proofs.Common.{◌≡◌, ℕ, ◌+◌, ◌<◌, inl, inr, ⊎_elim, List, [], ◌∷◌, ◌++◌, IsSome, length, drop, take, get_or, map, Result, Ok, Err, IfOk, IfErr, OnOk, MatchResult, Contains, ◌↔◌, refl, sym, ap, subst, arith}
 use Rattle.std.proofs.lemmas.List.{drop_more, take_more, get_or_default}
 use Rattle.std.proofs.lemmas.List.Elements.{Contains-append_left, Contains-append_right, Contains-append_cases, Contains-push, Contains-push_cases}
-use Rattle.vc_history.specs.BaseFault.{IsTold as IsBaseTold}
+use Rattle.vc_history.specs.HistoryFault.{IsTold as IsBaseTold}
 use Rattle.vc_history.specs.History.{IsCommonAncestor, IsSelected}
-use Rattle.vc_history.specs.declared.fault.BaseFault.{BaseFault}
-use Rattle.vc_history.specs.declared.fault.BaseFault.TheVariants as bases
+use Rattle.vc_history.specs.declared.fault.HistoryFault.{HistoryFault}
+use Rattle.vc_history.specs.declared.fault.HistoryFault.TheVariants as bases
 use Rattle.vc_graph.specs.Graph.{ReachedFrom, IsClosedUnder, itself}
 use Rattle.vc_graph.proofs.FaultLemmas.{IsMet-more}
 use Rattle.vc_graph.proofs.WalkLemmas.{Reaches-trans}
@@ -19,7 +19,7 @@ use Rattle.vc_rev.specs.Question.{Question}
 use Rattle.vc_rev.specs.SetGrammar.{TermText, Include, Exclude, Parents, ExcludeParents, Only, Since, Range, Symmetric}
 use Rattle.vc_rev.specs.SetViews.{term_view}
 use Rattle.vc_rev.specs.Source.{Source}
-use Rattle.vc_rev.specs.WalkFault.{of_base}
+use Rattle.vc_rev.specs.WalkFault.{of_history}
 use Rattle.vc_rev.specs.declared.refusal.Refusal.{Refusal}
 use Rattle.vc_rev.specs.declared.refusal.RevFault.{RevFault}
 use Rattle.vc_rev.specs.declared.refusal.RevFault.TheVariants as faults
@@ -102,7 +102,7 @@ ok_both (Err e) P Q R go p q = tt
 -- The walk of a set.
 module _ (objects : ObjectMap) where
   -- what a walk over some of the names tells is told of a walk over all
-  pub walk_told : (IsDamaged : ObjectId → Type 0) (roots : List ObjectId) (Meets : ObjectId → Type 0) → ((c : ObjectId) → ReachedFrom (parents_in objects) roots c → Meets c) → (e : BaseFault) → IsBaseTold objects IsDamaged roots e → IsOfWalk objects Meets IsDamaged (of_base e)
+  pub walk_told : (IsDamaged : ObjectId → Type 0) (roots : List ObjectId) (Meets : ObjectId → Type 0) → ((c : ObjectId) → ReachedFrom (parents_in objects) roots c → Meets c) → (e : HistoryFault) → IsBaseTold objects IsDamaged roots e → IsOfWalk objects Meets IsDamaged (of_history e)
   walk_told IsDamaged roots Meets within (bases.Missing id) t = (within id t.0, t.1)
   walk_told IsDamaged roots Meets within (bases.NotACommit id) t = (within id t.0, t.1)
   walk_told IsDamaged roots Meets within (bases.Store fault) t = IsMet-more (ReachedFrom (parents_in objects) roots) Meets IsDamaged within fault t

@@ -1,8 +1,9 @@
 -- What a name, a step or an expression gives: a value or a refusal, as a relation of what it is over and its answer.
-use Rattle.std.specs.Prelude.{◌≡◌, ◌⊎◌, Result, Ok, Err}
+use Rattle.std.specs.Prelude.{◌≡◌, ◌⊎◌, Result, Ok, Err, IfErr}
 use Rattle.vc_store.specs.declared.faults.StoreFault.TheVariants as stores
 use Rattle.vc_files.specs.declared.faults.Fault.TheVariants as devices
 use Rattle.vc_rev.specs.Question.{Question}
+use Rattle.vc_rev.specs.Source.{Source as Over}
 use Rattle.vc_rev.specs.declared.refusal.Refusal.{Refusal}
 use Rattle.vc_rev.specs.declared.refusal.SourceFault.{SourceFault}
 use Rattle.vc_rev.specs.declared.refusal.SourceFault.TheVariants as sources
@@ -28,6 +29,11 @@ IsTold Blames Asks Gives (Refused refusal) = Gives (Err refusal)
 IsTold Blames Asks Gives (Missing id) = ⊥
 IsTold Blames Asks Gives (NotACommit id) = ⊥
 IsTold Blames Asks Gives (Source fault) = IsSourceFault Blames Asks fault
+
+-- A call over a repository refuses what its view denotes, given what that asks for: of an honest one each refusal is the one that the
+-- view's source gives, and each fault is one that it blames on a question which is asked of it.
+abbrev pub Refuses : {View A B : Type 0} → Type 0 → (View → Over) → (View → Question → SourceFault → Type 0) → View → (Over → Question → Type 0) → (Over → Result A Refusal → Type 0) → Result B RevFault → Type 0
+Refuses is_honest source blames view Asks Gives result = IfErr result (λ e. is_honest → IsTold (blames view) (Asks (source view)) (Gives (source view)) e)
 
 -- a refusal that takes no repository
 abbrev pub IsToldAlone : {A : Type 0} → (Result A Refusal → Type 0) → RevFault → Type 0

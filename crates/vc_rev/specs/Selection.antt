@@ -8,7 +8,7 @@ use Rattle.vc_object.specs.Decoding.{StoredObject}
 use Rattle.vc_object.specs.Links.{parents_of}
 use Rattle.vc_object.specs.ObjectMap.{ObjectMap, parents_in}
 use Rattle.vc_object.specs.declared.id.ObjectId.{ObjectId}
-use Rattle.vc_rev.specs.Answer.{After, IsTold}
+use Rattle.vc_rev.specs.Answer.{After, IsAnswered, IsTold}
 use Rattle.vc_rev.specs.Asking.{PeelingAsks, RevAsks}
 use Rattle.vc_rev.specs.Grammar.{RevText}
 use Rattle.vc_rev.specs.Meaning.{PeelsTo, RevGives}
@@ -80,6 +80,10 @@ module _ (s : Source) where
   abbrev pub BothGive : RevText → RevText → Result (ObjectId × ObjectId) Refusal → Type 0
   BothGive first second answer = After (CommitGives first) (λ a. After (CommitGives second) (λ b r. r ≡ Ok (a.0, b.0))) answer
 
+  -- the commits at the ends of a range
+  abbrev pub EndsGive : EndsText → Result (ObjectId × ObjectId) Refusal → Type 0
+  EndsGive ends answer = BothGive (first_of ends) (second_of ends) answer
+
   -- `a..b` is `^a b`
   abbrev pub RangeGives : RevText → RevText → Result Selection Refusal → Type 0
   RangeGives first second answer = After (BothGive first second) (λ ends r. r ≡ Ok (selection (ends.1 ∷ []) (ends.0 ∷ []) [])) answer
@@ -114,6 +118,9 @@ module _ (s : Source) where
   abbrev pub BothAsk : RevText → RevText → Question → Type 0
   BothAsk first second question = AsksAfter (CommitAsks first) (CommitGives first) (λ a. CommitAsks second) question
 
+  abbrev pub EndsAsk : EndsText → Question → Type 0
+  EndsAsk ends question = BothAsk (first_of ends) (second_of ends) question
+
   abbrev pub TermAsks : TermText → Question → Type 0
   TermAsks (Include rev) question = CommitAsks rev question
   TermAsks (Exclude rev) question = CommitAsks rev question
@@ -121,8 +128,8 @@ module _ (s : Source) where
   TermAsks (ExcludeParents rev) question = CommitAsks rev question
   TermAsks (Only rev) question = CommitAsks rev question
   TermAsks (Since rev n) question = BothAsk (nth_of rev n) rev question
-  TermAsks (Range ends) question = BothAsk (first_of ends) (second_of ends) question
-  TermAsks (Symmetric ends) question = BothAsk (first_of ends) (second_of ends) question
+  TermAsks (Range ends) question = EndsAsk ends question
+  TermAsks (Symmetric ends) question = EndsAsk ends question
 
   -- no term behind the first that is refused asks anything
   abbrev pub TermsAsk : List TermText → Question → Type 0
@@ -174,3 +181,13 @@ abbrev pub IsToldOfSet : Source → (Question → SourceFault → Type 0) → (O
 IsToldOfSet s Blames IsDamaged terms e =
     IsTold Blames (TermsAsk s terms) (SetGives s terms) e
     ⊎ ((chosen : Selection) × SetGives s terms (Ok chosen) × IsOfWalk s.objects (IsMetBy s.objects chosen) IsDamaged e)
+
+-- The ids are those of the commits that the terms select: the terms have a selection, all that its walk meets are commits, and these are
+-- the selected ones.
+abbrev pub Selects : Source → List TermText → List ObjectId → Type 0
+Selects s terms ids =
+    (chosen : Selection) × SetGives s terms (Ok chosen) × IsWalked s.objects chosen × ((id : ObjectId) → Contains ids id ↔ IsSelectedBy s.objects chosen id)
+
+-- the set is refused so, unless the repository gave no answer
+abbrev pub IsSetRefused : Refusal → RevFault → Type 0
+IsSetRefused refusal e = IsAnswered (let answer : Result Selection Refusal = Err refusal in answer) e

@@ -4,10 +4,9 @@ ghost use Rattle.std.specs.Prelude.{◌≡◌, ◌++◌, Ok, MatchOption, IfOk, 
 ghost use Rattle.std.specs.Char.{is_ascii_hexdigit};
 ghost use Rattle.std.specs.List.{list_all};
 ghost use Rattle.vc_files.specs.Failures.{Wears};
-ghost use Rattle.vc_rev.specs.Answer.{IsTold, IsNoAnswer};
+ghost use Rattle.vc_rev.specs.Answer.{IsNoAnswer, Refuses};
 ghost use Rattle.vc_rev.specs.Asking.{DigitsAsk, FirstValueAsks, HeadAsks, NameAsks, RefAsks, ShortAsks};
 ghost use Rattle.vc_rev.specs.Meaning.{IsFullName, RefGives, FirstValue, DigitsGive, ShortGives, HeadGives, NameGives, id_of, is_head, is_prefix, places, the_one};
-ghost use Rattle.vc_rev.specs.Source.{source};
 
 use crate::refusal::{Refusal, RevFault, SourceFault};
 use crate::repository::Repository;
@@ -84,8 +83,8 @@ pub(crate) fn ref_value<R: Repository>(
     repo: &mut R,
     text: &[u8],
 ) -> Result<Option<ObjectId>, RevFault>
-    ensures ok { IfOk result (λ found. R.is_honest → RefGives (source (R.names (R.view_of repo.old)) (R.objects (R.state_of repo.old)) (R.stored (R.view_of repo.old))) text.now found) }
-    ensures refused { IfErr result (λ e. R.is_honest → IsTold (R.blames (R.view_of repo.old)) (RefAsks text.now) IsNoAnswer e) }
+    ensures ok { IfOk result (λ found. R.is_honest → RefGives (R.source (R.view_of repo.old)) text.now found) }
+    ensures refused { Refuses R.is_honest R.source R.blames (R.view_of repo.old) (λ _. RefAsks text.now) (λ _. IsNoAnswer) result }
 
     ensures kept { R.state_of repo.new ≡ R.state_of repo.old }
     ensures seen { R.view_of repo.new ≡ R.view_of repo.old }
@@ -100,8 +99,8 @@ pub(crate) fn ref_value<R: Repository>(
 
 /// The one object whose name begins with these digits.
 pub(crate) fn digits_value<R: Repository>(repo: &mut R, name: &[u8]) -> Result<ObjectId, RevFault>
-    ensures ok { IfOk result (λ found. R.is_honest → DigitsGive (source (R.names (R.view_of repo.old)) (R.objects (R.state_of repo.old)) (R.stored (R.view_of repo.old))) name.now (Ok found)) }
-    ensures refused { IfErr result (λ e. R.is_honest → IsTold (R.blames (R.view_of repo.old)) (DigitsAsk name.now) (DigitsGive (source (R.names (R.view_of repo.old)) (R.objects (R.state_of repo.old)) (R.stored (R.view_of repo.old))) name.now) e) }
+    ensures ok { IfOk result (λ found. R.is_honest → DigitsGive (R.source (R.view_of repo.old)) name.now (Ok found)) }
+    ensures refused { Refuses R.is_honest R.source R.blames (R.view_of repo.old) (λ _. DigitsAsk name.now) (λ s. DigitsGive s name.now) result }
 
     ensures kept { R.state_of repo.new ≡ R.state_of repo.old }
     ensures seen { R.view_of repo.new ≡ R.view_of repo.old }
@@ -126,8 +125,8 @@ fn first_value<R: Repository>(
     repo: &mut R,
     names: &[Vec<u8>],
 ) -> Result<Option<ObjectId>, RevFault>
-    ensures ok { IfOk result (λ found. R.is_honest → FirstValue (source (R.names (R.view_of repo.old)) (R.objects (R.state_of repo.old)) (R.stored (R.view_of repo.old))) (map (λ name. name.items) names.now) found) }
-    ensures refused { IfErr result (λ e. R.is_honest → IsTold (R.blames (R.view_of repo.old)) (FirstValueAsks (source (R.names (R.view_of repo.old)) (R.objects (R.state_of repo.old)) (R.stored (R.view_of repo.old))) (map (λ name. name.items) names.now)) IsNoAnswer e) }
+    ensures ok { IfOk result (λ found. R.is_honest → FirstValue (R.source (R.view_of repo.old)) (map (λ name. name.items) names.now) found) }
+    ensures refused { Refuses R.is_honest R.source R.blames (R.view_of repo.old) (λ s. FirstValueAsks s (map (λ name. name.items) names.now)) (λ _. IsNoAnswer) result }
 
     ensures kept { R.state_of repo.new ≡ R.state_of repo.old }
     ensures seen { R.view_of repo.new ≡ R.view_of repo.old }
@@ -147,8 +146,8 @@ fn short_value<R: Repository>(
     repo: &mut R,
     name: &[u8],
 ) -> Result<Option<ObjectId>, RevFault>
-    ensures ok { IfOk result (λ found. R.is_honest → FirstValue (source (R.names (R.view_of repo.old)) (R.objects (R.state_of repo.old)) (R.stored (R.view_of repo.old))) (places name.now) found) }
-    ensures refused { IfErr result (λ e. R.is_honest → IsTold (R.blames (R.view_of repo.old)) (FirstValueAsks (source (R.names (R.view_of repo.old)) (R.objects (R.state_of repo.old)) (R.stored (R.view_of repo.old))) (places name.now)) IsNoAnswer e) }
+    ensures ok { IfOk result (λ found. R.is_honest → FirstValue (R.source (R.view_of repo.old)) (places name.now) found) }
+    ensures refused { Refuses R.is_honest R.source R.blames (R.view_of repo.old) (λ s. FirstValueAsks s (places name.now)) (λ _. IsNoAnswer) result }
 
     ensures kept { R.state_of repo.new ≡ R.state_of repo.old }
     ensures seen { R.view_of repo.new ≡ R.view_of repo.old }
@@ -172,8 +171,8 @@ fn short_or_digits<R: Repository>(
     repo: &mut R,
     name: &[u8],
 ) -> Result<ObjectId, RevFault>
-    ensures ok { IfOk result (λ found. R.is_honest → ShortGives (source (R.names (R.view_of repo.old)) (R.objects (R.state_of repo.old)) (R.stored (R.view_of repo.old))) name.now (Ok found)) }
-    ensures refused { IfErr result (λ e. R.is_honest → IsTold (R.blames (R.view_of repo.old)) (ShortAsks (source (R.names (R.view_of repo.old)) (R.objects (R.state_of repo.old)) (R.stored (R.view_of repo.old))) name.now) (ShortGives (source (R.names (R.view_of repo.old)) (R.objects (R.state_of repo.old)) (R.stored (R.view_of repo.old))) name.now) e) }
+    ensures ok { IfOk result (λ found. R.is_honest → ShortGives (R.source (R.view_of repo.old)) name.now (Ok found)) }
+    ensures refused { Refuses R.is_honest R.source R.blames (R.view_of repo.old) (λ s. ShortAsks s name.now) (λ s. ShortGives s name.now) result }
 
     ensures kept { R.state_of repo.new ≡ R.state_of repo.old }
     ensures seen { R.view_of repo.new ≡ R.view_of repo.old }
@@ -188,8 +187,8 @@ fn short_or_digits<R: Repository>(
 
 /// The value of HEAD.
 fn head_value<R: Repository>(repo: &mut R) -> Result<ObjectId, RevFault>
-    ensures ok { IfOk result (λ found. R.is_honest → HeadGives (source (R.names (R.view_of repo.old)) (R.objects (R.state_of repo.old)) (R.stored (R.view_of repo.old))) (Ok found)) }
-    ensures refused { IfErr result (λ e. R.is_honest → IsTold (R.blames (R.view_of repo.old)) HeadAsks (HeadGives (source (R.names (R.view_of repo.old)) (R.objects (R.state_of repo.old)) (R.stored (R.view_of repo.old)))) e) }
+    ensures ok { IfOk result (λ found. R.is_honest → HeadGives (R.source (R.view_of repo.old)) (Ok found)) }
+    ensures refused { Refuses R.is_honest R.source R.blames (R.view_of repo.old) (λ _. HeadAsks) (λ s. HeadGives s) result }
 
     ensures kept { R.state_of repo.new ≡ R.state_of repo.old }
     ensures seen { R.view_of repo.new ≡ R.view_of repo.old }
@@ -222,8 +221,8 @@ pub(crate) fn name_value<R: Repository>(
     repo: &mut R,
     name: &[u8],
 ) -> Result<ObjectId, RevFault>
-    ensures ok { IfOk result (λ found. R.is_honest → NameGives (source (R.names (R.view_of repo.old)) (R.objects (R.state_of repo.old)) (R.stored (R.view_of repo.old))) name.now (Ok found)) }
-    ensures refused { IfErr result (λ e. R.is_honest → IsTold (R.blames (R.view_of repo.old)) (NameAsks (source (R.names (R.view_of repo.old)) (R.objects (R.state_of repo.old)) (R.stored (R.view_of repo.old))) name.now) (NameGives (source (R.names (R.view_of repo.old)) (R.objects (R.state_of repo.old)) (R.stored (R.view_of repo.old))) name.now) e) }
+    ensures ok { IfOk result (λ found. R.is_honest → NameGives (R.source (R.view_of repo.old)) name.now (Ok found)) }
+    ensures refused { Refuses R.is_honest R.source R.blames (R.view_of repo.old) (λ s. NameAsks s name.now) (λ s. NameGives s name.now) result }
 
     ensures kept { R.state_of repo.new ≡ R.state_of repo.old }
     ensures seen { R.view_of repo.new ≡ R.view_of repo.old }

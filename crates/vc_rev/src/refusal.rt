@@ -2,7 +2,7 @@
 
 ghost use Rattle.std.specs.Prelude.{◌≡◌, Some};
 ghost use Rattle.vc_rev.specs.Printed.{refusal_text, rev_fault_text, source_text};
-ghost use Rattle.vc_rev.specs.WalkFault.{of_base};
+ghost use Rattle.vc_rev.specs.WalkFault.{of_history};
 ghost use Rattle.vc_rev.specs.declared.refusal.RevFault.TheVariants.{Refused, Source};
 ghost use Rattle.vc_rev.specs.declared.refusal.SourceFault.TheVariants.{Store};
 ghost use Rattle.vc_store.specs.declared.faults.StoreFault.TheVariants.{Fault};
@@ -12,7 +12,7 @@ use std::alloc::{AllocError, AllocFailed};
 use std::error::Error;
 use std::fmt;
 use vc_graph::MISSING;
-use vc_history::{BaseFault, NOT_A_COMMIT};
+use vc_history::{HistoryFault, NOT_A_COMMIT};
 use vc_object::ObjectId;
 use vc_refname::{BAD_REF_FILE, HEAD_LOOP};
 use vc_store::StoreFault;
@@ -132,14 +132,14 @@ impl From<SourceFault> for RevFault {
     }
 }
 
-impl From<BaseFault> for RevFault {
-    ghost from_gives = { λ fault e. e ≡ of_base fault };
+impl From<HistoryFault> for RevFault {
+    ghost from_gives = { λ fault e. e ≡ of_history fault };
 
-    fn from(fault: BaseFault) -> Self {
+    fn from(fault: HistoryFault) -> Self {
         match fault {
-            BaseFault::Missing(id) => RevFault::Missing(id),
-            BaseFault::NotACommit(id) => RevFault::NotACommit(id),
-            BaseFault::Store(fault) => RevFault::Source(SourceFault::Store(fault)),
+            HistoryFault::Missing(id) => RevFault::Missing(id),
+            HistoryFault::NotACommit(id) => RevFault::NotACommit(id),
+            HistoryFault::Store(fault) => RevFault::Source(SourceFault::Store(fault)),
         }
     }
 }

@@ -7,8 +7,8 @@ ghost use Rattle.vc_object.specs.Decoding.{stored_object};
 ghost use Rattle.vc_object.specs.ObjectId.{IsSortedByName};
 ghost use Rattle.vc_object.specs.declared.id.ObjectId.{ObjectId as Id};
 ghost use Rattle.vc_rev.specs.Question.{Question, Head, Ref, Entry, Prefix, Object};
-ghost use Rattle.vc_rev.specs.Source.{Names};
-ghost use Rattle.vc_rev.specs.Meaning.{begins_with};
+ghost use Rattle.vc_rev.specs.Source.{Source};
+ghost use Rattle.vc_rev.specs.Meaning.{Begins};
 ghost use Rattle.vc_rev.specs.declared.refusal.SourceFault.{SourceFault as Unanswered};
 
 use crate::refusal::SourceFault;
@@ -20,16 +20,13 @@ use vc_store::{StoreFault, Stored};
 
 /// Refs, objects and an index.
 pub trait Repository: Commits {
-    /// What a value holds beside its objects.
+    /// What a value holds.
     ghost View: { Type 0 };
 
     ghost view_of: { Self → View };
 
-    /// The refs by their whole names, the value of HEAD, and the index by its paths.
-    ghost names: { View → Names };
-
-    /// The names in whose places something is stored, whole or damaged.
-    ghost stored: { View → Id → Type 0 };
+    /// What expressions are over: refs, HEAD, an index and objects.
+    ghost source: { View → Source };
 
     /// All that has to be read to answer a question is in its form.
     ghost is_good: { View → Question → Type 0 };
@@ -39,7 +36,7 @@ pub trait Repository: Commits {
 
     /// The value of HEAD; none where its branch has none.
     fn head(&mut self) -> Result<Option<ObjectId>, SourceFault>
-        ensures value { IfOk result (λ found. Self.is_honest → found ≡ (names (view_of self.old)).head) }
+        ensures value { IfOk result (λ found. Self.is_honest → found ≡ (source (view_of self.old)).names.head) }
         ensures good { OnOk result (Self.is_honest → is_good (view_of self.old) Head) }
         ensures refused { IfErr result (λ e. Self.is_honest → blames (view_of self.old) Head e) }
         ensures kept { Self.state_of self.new ≡ Self.state_of self.old }
@@ -49,7 +46,7 @@ pub trait Repository: Commits {
     /// The value of the ref with this whole name.
     fn ref_value(&mut self, name: &RefName) -> Result<Option<ObjectId>, SourceFault>
         requires { starts_with nat_eq name.now (codes "refs/") ≡ true }
-        ensures value { IfOk result (λ found. Self.is_honest → found ≡ (names (view_of self.old)).ref name.now) }
+        ensures value { IfOk result (λ found. Self.is_honest → found ≡ (source (view_of self.old)).names.ref name.now) }
         ensures good { OnOk result (Self.is_honest → is_good (view_of self.old) (Ref name.now)) }
         ensures refused { IfErr result (λ e. Self.is_honest → blames (view_of self.old) (Ref name.now) e) }
         ensures kept { Self.state_of self.new ≡ Self.state_of self.old }
@@ -58,7 +55,7 @@ pub trait Repository: Commits {
 
     /// The id at this path of the index.
     fn index_entry(&mut self, path: &[u8]) -> Result<Option<ObjectId>, SourceFault>
-        ensures value { IfOk result (λ found. Self.is_honest → found ≡ (names (view_of self.old)).index path.now) }
+        ensures value { IfOk result (λ found. Self.is_honest → found ≡ (source (view_of self.old)).names.index path.now) }
         ensures good { OnOk result (Self.is_honest → is_good (view_of self.old) (Entry path.now)) }
         ensures refused { IfErr result (λ e. Self.is_honest → blames (view_of self.old) (Entry path.now) e) }
         ensures kept { Self.state_of self.new ≡ Self.state_of self.old }
@@ -67,7 +64,7 @@ pub trait Repository: Commits {
 
     /// The stored names that begin with these hex digits, of either case, sorted.
     fn by_prefix(&mut self, digits: &[u8]) -> Result<Vec<ObjectId>, SourceFault>
-        ensures exact { IfOk result (λ ids. Self.is_honest → (id : Id) → Contains ids.items id ↔ (stored (view_of self.old) id × (begins_with digits.now id ≡ true))) }
+        ensures exact { IfOk result (λ ids. Self.is_honest → (id : Id) → Contains ids.items id ↔ Begins (source (view_of self.old)) digits.now id) }
         ensures sorted { IfOk result (λ ids. Self.is_honest → IsSortedByName ids.items) }
         ensures good { OnOk result (Self.is_honest → is_good (view_of self.old) (Prefix digits.now)) }
         ensures refused { IfErr result (λ e. Self.is_honest → blames (view_of self.old) (Prefix digits.now) e) }
@@ -77,7 +74,7 @@ pub trait Repository: Commits {
 
     /// The object with this name, or none where it is absent.
     fn find(&mut self, id: &ObjectId) -> Result<Option<Stored>, SourceFault>
-        ensures found { IfOk result (λ found. Self.is_honest → option_map (λ s. stored_object s.kind s.body.items) found ≡ Self.objects (Self.state_of self.old) id.now) }
+        ensures found { IfOk result (λ found. Self.is_honest → option_map (λ s. stored_object s.kind s.body.items) found ≡ (source (view_of self.old)).objects id.now) }
         ensures good { OnOk result (Self.is_honest → is_good (view_of self.old) (Object id.now)) }
         ensures refused { IfErr result (λ e. Self.is_honest → blames (view_of self.old) (Object id.now) e) }
         ensures kept { Self.state_of self.new ≡ Self.state_of self.old }
@@ -86,4 +83,7 @@ pub trait Repository: Commits {
 
     /// What a value holds is held as long as its state stays.
     ghost follows: { (x y : Self) → Self.state_of x ≡ Self.state_of y → view_of x ≡ view_of y };
+
+    /// Its objects are those that a walk over commits sees.
+    ghost same_objects: { (x : Self) → (source (view_of x)).objects ≡ Self.objects (Self.state_of x) };
 }

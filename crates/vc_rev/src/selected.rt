@@ -1,14 +1,12 @@
 //! The commits that a set selects.
 
-ghost use Rattle.std.specs.Prelude.{◌≡◌, ◌↔◌, ◌⊎◌, Result, Ok, Err, MatchResult, Contains, IfOk, IfErr, OnOk, IsErrOf};
+ghost use Rattle.std.specs.Prelude.{◌≡◌, ◌↔◌, Err, MatchResult, Contains, IfOk, IfErr, OnOk, IsErrOf};
 ghost use Rattle.vc_files.specs.Failures.{Wears};
 ghost use Rattle.vc_object.specs.ObjectId.{IsSortedByName};
 ghost use Rattle.vc_object.specs.declared.id.ObjectId.{ObjectId as Id};
-ghost use Rattle.vc_rev.specs.Answer.{IsAnswered};
 ghost use Rattle.vc_rev.specs.RootsView.{roots_view};
-ghost use Rattle.vc_rev.specs.Selection.{Selection, SetGives, AreCommon, ArePairsWalked, IsMetBy, IsMetByPairs, IsOfWalk, IsSelectedBy, IsToldOfSet, IsWalked};
+ghost use Rattle.vc_rev.specs.Selection.{AreCommon, ArePairsWalked, IsMetBy, IsMetByPairs, IsOfWalk, IsSelectedBy, IsSetRefused, IsToldOfSet, IsWalked, Selects, SetGives};
 ghost use Rattle.vc_rev.specs.SetViews.{terms_view};
-ghost use Rattle.vc_rev.specs.Source.{source};
 ghost use Rattle.vc_rev.specs.declared.refusal.Refusal.{Refusal};
 
 use crate::refusal::{RevFault, SourceFault};
@@ -77,12 +75,12 @@ pub fn resolve_set<R: Repository>(
     repo: &mut R,
     set: &SetExpr<'_>,
 ) -> Result<Vec<ObjectId>, RevFault>
-    ensures ok { IfOk result (λ ids. R.is_honest → (chosen : Selection) × SetGives (source (R.names (R.view_of repo.old)) (R.objects (R.state_of repo.old)) (R.stored (R.view_of repo.old))) (terms_view set.now) (Ok chosen) × IsWalked (R.objects (R.state_of repo.old)) chosen × ((id : Id) → Contains ids.items id ↔ IsSelectedBy (R.objects (R.state_of repo.old)) chosen id)) }
+    ensures ok { IfOk result (λ ids. R.is_honest → Selects (R.source (R.view_of repo.old)) (terms_view set.now) ids.items) }
     ensures sorted { IfOk result (λ ids. IsSortedByName ids.items) }
-    ensures refused { IfErr result (λ e. R.is_honest → IsToldOfSet (source (R.names (R.view_of repo.old)) (R.objects (R.state_of repo.old)) (R.stored (R.view_of repo.old))) (R.blames (R.view_of repo.old)) (R.damaged (R.state_of repo.old)) (terms_view set.now) e) }
+    ensures refused { IfErr result (λ e. R.is_honest → IsToldOfSet (R.source (R.view_of repo.old)) (R.blames (R.view_of repo.old)) (R.damaged (R.state_of repo.old)) (terms_view set.now) e) }
 
     // A set of which a term is refused is refused so, unless the repository gives no answer.
-    ensures only { R.is_honest → (refusal : Refusal) → SetGives (source (R.names (R.view_of repo.old)) (R.objects (R.state_of repo.old)) (R.stored (R.view_of repo.old))) (terms_view set.now) (Err refusal) → MatchResult result (λ _. ⊥) (IsAnswered (let answer : Result Selection Refusal = Err refusal in answer)) }
+    ensures only { R.is_honest → (refusal : Refusal) → SetGives (R.source (R.view_of repo.old)) (terms_view set.now) (Err refusal) → MatchResult result (λ _. ⊥) (IsSetRefused refusal) }
 
     ensures kept { R.state_of repo.new ≡ R.state_of repo.old }
     ensures seen { R.view_of repo.new ≡ R.view_of repo.old }

@@ -1,11 +1,10 @@
 //! Sets.
 
 ghost use Rattle.std.specs.Prelude.{◌≡◌, ◌⊎◌, ◌∷◌, ◌++◌, [], IfOk, IfErr, MatchResult, List, ℕ, codes};
-ghost use Rattle.vc_rev.specs.Grammar.{RevText};
-ghost use Rattle.vc_rev.specs.Outcome.{Outcome, Read, FaultAt, Then, IsPlace};
-ghost use Rattle.vc_rev.specs.Faults.{ReadsRev, RevRead};
+ghost use Rattle.vc_rev.specs.Outcome.{Read, FaultAt, Then};
+ghost use Rattle.vc_rev.specs.Faults.{ReadsRev};
 ghost use Rattle.vc_rev.specs.SetGrammar.{IsSet, TermText, dots_text};
-ghost use Rattle.vc_rev.specs.SetReading.{ReadsTerm, ReadsFrom, ReadsBehind, ReadsSet, EndsWith, Done, Stopped, SetError, IsBadSetAt, range_view, excluded_at, behind_at, after_spaces};
+ghost use Rattle.vc_rev.specs.SetReading.{ReadsTerm, ReadsFrom, ReadsBehind, ReadsSet, Done, SetError, IsBadSetAt, range_view, excluded_at, behind_at, after_spaces};
 ghost use Rattle.vc_rev.specs.SetGrammar as texts;
 ghost use Rattle.vc_rev.specs.SetViews.{term_view, ends_view, terms_view, StandsEnds, StandsTerm, SetSlices};
 ghost use Rattle.vc_rev.specs.Views.{IsEnd, StandsRev, rev_view};

@@ -1,12 +1,12 @@
 //! Steps from an object to another.
 
-ghost use Rattle.std.specs.Prelude.{◌≡◌, ◌≢◌, Some, Ok, Result, IfOk, IfErr, IsErrOf, map};
+ghost use Rattle.std.specs.Prelude.{◌≡◌, Some, Ok, Result, IfOk, IsErrOf};
 ghost use Rattle.vc_files.specs.Failures.{Wears};
-ghost use Rattle.vc_object.specs.Decoding.{stored_object, StoredObject};
-ghost use Rattle.vc_rev.specs.Answer.{IsTold};
+ghost use Rattle.vc_object.specs.Decoding.{stored_object};
+ghost use Rattle.vc_rev.specs.Answer.{Refuses};
 ghost use Rattle.vc_rev.specs.Asking.{AncestorAsks, PeelAsks, PeelingAsks, StepAsks, StepsAsk};
 ghost use Rattle.vc_rev.specs.Meaning.{PeelsTo, PicksFrom, AncestorGives, PeelGives, StepGives, StepsGive};
-ghost use Rattle.vc_rev.specs.Source.{source};
+ghost use Rattle.vc_rev.specs.Views.{steps_of};
 
 use crate::object::{of_kind, pick, target};
 use crate::refusal::{Refusal, RevFault, SourceFault};
@@ -24,8 +24,8 @@ pub(crate) fn peel<R: Repository>(
     repo: &mut R,
     id: ObjectId,
 ) -> Result<(ObjectId, Stored), RevFault>
-    ensures ok { IfOk result (λ found. R.is_honest → PeelsTo (source (R.names (R.view_of repo.old)) (R.objects (R.state_of repo.old)) (R.stored (R.view_of repo.old))) id (Ok (found.0, stored_object found.1.kind found.1.body.items))) }
-    ensures refused { IfErr result (λ e. R.is_honest → IsTold (R.blames (R.view_of repo.old)) (PeelingAsks (source (R.names (R.view_of repo.old)) (R.objects (R.state_of repo.old)) (R.stored (R.view_of repo.old))) id) (PeelsTo (source (R.names (R.view_of repo.old)) (R.objects (R.state_of repo.old)) (R.stored (R.view_of repo.old))) id) e) }
+    ensures ok { IfOk result (λ found. R.is_honest → PeelsTo (R.source (R.view_of repo.old)) id (Ok (found.0, stored_object found.1.kind found.1.body.items))) }
+    ensures refused { Refuses R.is_honest R.source R.blames (R.view_of repo.old) (λ s. PeelingAsks s id) (λ s. PeelsTo s id) result }
 
     ensures kept { R.state_of repo.new ≡ R.state_of repo.old }
     ensures seen { R.view_of repo.new ≡ R.view_of repo.old }
@@ -55,8 +55,8 @@ pub(crate) fn pick_from<R: Repository>(
     step: Step,
     id: ObjectId,
 ) -> Result<ObjectId, RevFault>
-    ensures ok { IfOk result (λ found. R.is_honest → PicksFrom (source (R.names (R.view_of repo.old)) (R.objects (R.state_of repo.old)) (R.stored (R.view_of repo.old))) step id (Ok found)) }
-    ensures refused { IfErr result (λ e. R.is_honest → IsTold (R.blames (R.view_of repo.old)) (PeelingAsks (source (R.names (R.view_of repo.old)) (R.objects (R.state_of repo.old)) (R.stored (R.view_of repo.old))) id) (PicksFrom (source (R.names (R.view_of repo.old)) (R.objects (R.state_of repo.old)) (R.stored (R.view_of repo.old))) step id) e) }
+    ensures ok { IfOk result (λ found. R.is_honest → PicksFrom (R.source (R.view_of repo.old)) step id (Ok found)) }
+    ensures refused { Refuses R.is_honest R.source R.blames (R.view_of repo.old) (λ s. PeelingAsks s id) (λ s. PicksFrom s step id) result }
 
     ensures kept { R.state_of repo.new ≡ R.state_of repo.old }
     ensures seen { R.view_of repo.new ≡ R.view_of repo.old }
@@ -73,8 +73,8 @@ fn ancestor<R: Repository>(
     id: ObjectId,
     n: u32,
 ) -> Result<ObjectId, RevFault>
-    ensures ok { IfOk result (λ found. R.is_honest → AncestorGives (source (R.names (R.view_of repo.old)) (R.objects (R.state_of repo.old)) (R.stored (R.view_of repo.old))) n id (Ok found)) }
-    ensures refused { IfErr result (λ e. R.is_honest → IsTold (R.blames (R.view_of repo.old)) (AncestorAsks (source (R.names (R.view_of repo.old)) (R.objects (R.state_of repo.old)) (R.stored (R.view_of repo.old))) n id) (AncestorGives (source (R.names (R.view_of repo.old)) (R.objects (R.state_of repo.old)) (R.stored (R.view_of repo.old))) n id) e) }
+    ensures ok { IfOk result (λ found. R.is_honest → AncestorGives (R.source (R.view_of repo.old)) n id (Ok found)) }
+    ensures refused { Refuses R.is_honest R.source R.blames (R.view_of repo.old) (λ s. AncestorAsks s n id) (λ s. AncestorGives s n id) result }
 
     ensures kept { R.state_of repo.new ≡ R.state_of repo.old }
     ensures seen { R.view_of repo.new ≡ R.view_of repo.old }
@@ -94,8 +94,8 @@ fn ancestor<R: Repository>(
 
 /// The object itself, if it is a tag.
 fn tag_itself<R: Repository>(repo: &mut R, id: ObjectId) -> Result<ObjectId, RevFault>
-    ensures ok { IfOk result (λ found. R.is_honest → PeelGives (source (R.names (R.view_of repo.old)) (R.objects (R.state_of repo.old)) (R.stored (R.view_of repo.old))) Kind.Tag id (Ok found)) }
-    ensures refused { IfErr result (λ e. R.is_honest → IsTold (R.blames (R.view_of repo.old)) (PeelAsks (source (R.names (R.view_of repo.old)) (R.objects (R.state_of repo.old)) (R.stored (R.view_of repo.old))) Kind.Tag id) (PeelGives (source (R.names (R.view_of repo.old)) (R.objects (R.state_of repo.old)) (R.stored (R.view_of repo.old))) Kind.Tag id) e) }
+    ensures ok { IfOk result (λ found. R.is_honest → PeelGives (R.source (R.view_of repo.old)) Kind.Tag id (Ok found)) }
+    ensures refused { Refuses R.is_honest R.source R.blames (R.view_of repo.old) (λ s. PeelAsks s Kind.Tag id) (λ s. PeelGives s Kind.Tag id) result }
 
     ensures kept { R.state_of repo.new ≡ R.state_of repo.old }
     ensures seen { R.view_of repo.new ≡ R.view_of repo.old }
@@ -117,8 +117,8 @@ fn peel_to<R: Repository>(
     kind: Kind,
     id: ObjectId,
 ) -> Result<ObjectId, RevFault>
-    ensures ok { IfOk result (λ found. R.is_honest → PeelGives (source (R.names (R.view_of repo.old)) (R.objects (R.state_of repo.old)) (R.stored (R.view_of repo.old))) kind id (Ok found)) }
-    ensures refused { IfErr result (λ e. R.is_honest → IsTold (R.blames (R.view_of repo.old)) (PeelAsks (source (R.names (R.view_of repo.old)) (R.objects (R.state_of repo.old)) (R.stored (R.view_of repo.old))) kind id) (PeelGives (source (R.names (R.view_of repo.old)) (R.objects (R.state_of repo.old)) (R.stored (R.view_of repo.old))) kind id) e) }
+    ensures ok { IfOk result (λ found. R.is_honest → PeelGives (R.source (R.view_of repo.old)) kind id (Ok found)) }
+    ensures refused { Refuses R.is_honest R.source R.blames (R.view_of repo.old) (λ s. PeelAsks s kind id) (λ s. PeelGives s kind id) result }
 
     ensures kept { R.state_of repo.new ≡ R.state_of repo.old }
     ensures seen { R.view_of repo.new ≡ R.view_of repo.old }
@@ -139,8 +139,8 @@ fn step_value<R: Repository>(
     step: Step,
     id: ObjectId,
 ) -> Result<ObjectId, RevFault>
-    ensures ok { IfOk result (λ found. R.is_honest → StepGives (source (R.names (R.view_of repo.old)) (R.objects (R.state_of repo.old)) (R.stored (R.view_of repo.old))) step id (Ok found)) }
-    ensures refused { IfErr result (λ e. R.is_honest → IsTold (R.blames (R.view_of repo.old)) (StepAsks (source (R.names (R.view_of repo.old)) (R.objects (R.state_of repo.old)) (R.stored (R.view_of repo.old))) step id) (StepGives (source (R.names (R.view_of repo.old)) (R.objects (R.state_of repo.old)) (R.stored (R.view_of repo.old))) step id) e) }
+    ensures ok { IfOk result (λ found. R.is_honest → StepGives (R.source (R.view_of repo.old)) step id (Ok found)) }
+    ensures refused { Refuses R.is_honest R.source R.blames (R.view_of repo.old) (λ s. StepAsks s step id) (λ s. StepGives s step id) result }
 
     ensures kept { R.state_of repo.new ≡ R.state_of repo.old }
     ensures seen { R.view_of repo.new ≡ R.view_of repo.old }
@@ -161,8 +161,8 @@ pub(crate) fn steps_value<R: Repository>(
     steps: &[StepToken<'_>],
     id: ObjectId,
 ) -> Result<ObjectId, RevFault>
-    ensures ok { IfOk result (λ found. R.is_honest → StepsGive (source (R.names (R.view_of repo.old)) (R.objects (R.state_of repo.old)) (R.stored (R.view_of repo.old))) (map (λ token. token.step) steps.now) id (Ok found)) }
-    ensures refused { IfErr result (λ e. R.is_honest → IsTold (R.blames (R.view_of repo.old)) (StepsAsk (source (R.names (R.view_of repo.old)) (R.objects (R.state_of repo.old)) (R.stored (R.view_of repo.old))) (map (λ token. token.step) steps.now) id) (StepsGive (source (R.names (R.view_of repo.old)) (R.objects (R.state_of repo.old)) (R.stored (R.view_of repo.old))) (map (λ token. token.step) steps.now) id) e) }
+    ensures ok { IfOk result (λ found. R.is_honest → StepsGive (R.source (R.view_of repo.old)) (steps_of steps.now) id (Ok found)) }
+    ensures refused { Refuses R.is_honest R.source R.blames (R.view_of repo.old) (λ s. StepsAsk s (steps_of steps.now) id) (λ s. StepsGive s (steps_of steps.now) id) result }
 
     ensures kept { R.state_of repo.new ≡ R.state_of repo.old }
     ensures seen { R.view_of repo.new ≡ R.view_of repo.old }

@@ -1,12 +1,12 @@
 //! What the terms of a set include and exclude.
 
-ghost use Rattle.std.specs.Prelude.{◌≡◌, Ok, map, IfOk, IfErr, IsErrOf};
+ghost use Rattle.std.specs.Prelude.{◌≡◌, Ok, map, IfOk, IsErrOf};
 ghost use Rattle.vc_files.specs.Failures.{Wears};
-ghost use Rattle.vc_rev.specs.Answer.{IsTold};
+ghost use Rattle.vc_rev.specs.Answer.{Refuses};
 ghost use Rattle.vc_rev.specs.RootsView.{roots_view};
-ghost use Rattle.vc_rev.specs.Selection.{BothAsk, CommitAsks, CommitGives, BothGive, Makes, RangeGives, SymmetricGives, SetGives, TermAsks, TermGives, TermsAsk, first_of, second_of, head_rev, nth_of};
+ghost use Rattle.vc_rev.specs.Selection.{BothAsk, BothGive, CommitAsks, CommitGives, EndsAsk, EndsGive, Makes, SetGives, TermAsks, TermGives, TermsAsk, head_rev, nth_of};
+ghost use Rattle.vc_rev.specs.SetGrammar.{Range, Since, Symmetric};
 ghost use Rattle.vc_rev.specs.SetViews.{ends_view, term_view};
-ghost use Rattle.vc_rev.specs.Source.{source};
 ghost use Rattle.vc_rev.specs.Uses.{used};
 ghost use Rattle.vc_rev.specs.Views.{rev_view};
 
@@ -39,8 +39,8 @@ fn commit_value<R: Repository>(
     repo: &mut R,
     rev: &Rev<'_>,
 ) -> Result<(ObjectId, Vec<ObjectId>), RevFault>
-    ensures ok { IfOk result (λ found. R.is_honest → CommitGives (source (R.names (R.view_of repo.old)) (R.objects (R.state_of repo.old)) (R.stored (R.view_of repo.old))) (rev_view rev.now) (Ok (found.0, found.1.items))) }
-    ensures refused { IfErr result (λ e. R.is_honest → IsTold (R.blames (R.view_of repo.old)) (CommitAsks (source (R.names (R.view_of repo.old)) (R.objects (R.state_of repo.old)) (R.stored (R.view_of repo.old))) (rev_view rev.now)) (CommitGives (source (R.names (R.view_of repo.old)) (R.objects (R.state_of repo.old)) (R.stored (R.view_of repo.old))) (rev_view rev.now)) e) }
+    ensures ok { IfOk result (λ found. R.is_honest → CommitGives (R.source (R.view_of repo.old)) (rev_view rev.now) (Ok (found.0, found.1.items))) }
+    ensures refused { Refuses R.is_honest R.source R.blames (R.view_of repo.old) (λ s. CommitAsks s (rev_view rev.now)) (λ s. CommitGives s (rev_view rev.now)) result }
 
     ensures kept { R.state_of repo.new ≡ R.state_of repo.old }
     ensures seen { R.view_of repo.new ≡ R.view_of repo.old }
@@ -72,8 +72,8 @@ fn single<R: Repository>(
     rev: &Rev<'_>,
     way: Use,
 ) -> Result<Roots, RevFault>
-    ensures ok { IfOk result (λ found. R.is_honest → Makes (source (R.names (R.view_of repo.old)) (R.objects (R.state_of repo.old)) (R.stored (R.view_of repo.old))) (used way) (rev_view rev.now) (Ok (roots_view found))) }
-    ensures refused { IfErr result (λ e. R.is_honest → IsTold (R.blames (R.view_of repo.old)) (CommitAsks (source (R.names (R.view_of repo.old)) (R.objects (R.state_of repo.old)) (R.stored (R.view_of repo.old))) (rev_view rev.now)) (Makes (source (R.names (R.view_of repo.old)) (R.objects (R.state_of repo.old)) (R.stored (R.view_of repo.old))) (used way) (rev_view rev.now)) e) }
+    ensures ok { IfOk result (λ found. R.is_honest → Makes (R.source (R.view_of repo.old)) (used way) (rev_view rev.now) (Ok (roots_view found))) }
+    ensures refused { Refuses R.is_honest R.source R.blames (R.view_of repo.old) (λ s. CommitAsks s (rev_view rev.now)) (λ s. Makes s (used way) (rev_view rev.now)) result }
 
     ensures kept { R.state_of repo.new ≡ R.state_of repo.old }
     ensures seen { R.view_of repo.new ≡ R.view_of repo.old }
@@ -87,18 +87,18 @@ fn single<R: Repository>(
 fn both<R: Repository>(
     alloc: Global,
     repo: &mut R,
-    first: &Rev<'_>,
-    second: &Rev<'_>,
+    from: &Rev<'_>,
+    to: &Rev<'_>,
 ) -> Result<(ObjectId, ObjectId), RevFault>
-    ensures ok { IfOk result (λ found. R.is_honest → BothGive (source (R.names (R.view_of repo.old)) (R.objects (R.state_of repo.old)) (R.stored (R.view_of repo.old))) (rev_view first.now) (rev_view second.now) (Ok found)) }
-    ensures refused { IfErr result (λ e. R.is_honest → IsTold (R.blames (R.view_of repo.old)) (BothAsk (source (R.names (R.view_of repo.old)) (R.objects (R.state_of repo.old)) (R.stored (R.view_of repo.old))) (rev_view first.now) (rev_view second.now)) (BothGive (source (R.names (R.view_of repo.old)) (R.objects (R.state_of repo.old)) (R.stored (R.view_of repo.old))) (rev_view first.now) (rev_view second.now)) e) }
+    ensures ok { IfOk result (λ found. R.is_honest → BothGive (R.source (R.view_of repo.old)) (rev_view from.now) (rev_view to.now) (Ok found)) }
+    ensures refused { Refuses R.is_honest R.source R.blames (R.view_of repo.old) (λ s. BothAsk s (rev_view from.now) (rev_view to.now)) (λ s. BothGive s (rev_view from.now) (rev_view to.now)) result }
 
     ensures kept { R.state_of repo.new ≡ R.state_of repo.old }
     ensures seen { R.view_of repo.new ≡ R.view_of repo.old }
     ensures wear { Wears R.failed R.can_fail R.left repo.old repo.new (IsErrOf result (RevFault.Source (SourceFault.Store (StoreFault.Fault Fault.Device)))) }
 {
-    let (first, _) = commit_value(alloc, repo, first)?;
-    let (second, _) = commit_value(alloc, repo, second)?;
+    let (first, _) = commit_value(alloc, repo, from)?;
+    let (second, _) = commit_value(alloc, repo, to)?;
     Ok((first, second))
 }
 
@@ -121,8 +121,8 @@ fn ends_value<R: Repository>(
     repo: &mut R,
     ends: &Ends<'_>,
 ) -> Result<(ObjectId, ObjectId), RevFault>
-    ensures ok { IfOk result (λ found. R.is_honest → BothGive (source (R.names (R.view_of repo.old)) (R.objects (R.state_of repo.old)) (R.stored (R.view_of repo.old))) (first_of (ends_view ends.now)) (second_of (ends_view ends.now)) (Ok found)) }
-    ensures refused { IfErr result (λ e. R.is_honest → IsTold (R.blames (R.view_of repo.old)) (BothAsk (source (R.names (R.view_of repo.old)) (R.objects (R.state_of repo.old)) (R.stored (R.view_of repo.old))) (first_of (ends_view ends.now)) (second_of (ends_view ends.now))) (BothGive (source (R.names (R.view_of repo.old)) (R.objects (R.state_of repo.old)) (R.stored (R.view_of repo.old))) (first_of (ends_view ends.now)) (second_of (ends_view ends.now))) e) }
+    ensures ok { IfOk result (λ found. R.is_honest → EndsGive (R.source (R.view_of repo.old)) (ends_view ends.now) (Ok found)) }
+    ensures refused { Refuses R.is_honest R.source R.blames (R.view_of repo.old) (λ s. EndsAsk s (ends_view ends.now)) (λ s. EndsGive s (ends_view ends.now)) result }
 
     ensures kept { R.state_of repo.new ≡ R.state_of repo.old }
     ensures seen { R.view_of repo.new ≡ R.view_of repo.old }
@@ -158,8 +158,8 @@ fn since<R: Repository>(
     rev: &Rev<'_>,
     n: u32,
 ) -> Result<Roots, RevFault>
-    ensures ok { IfOk result (λ found. R.is_honest → RangeGives (source (R.names (R.view_of repo.old)) (R.objects (R.state_of repo.old)) (R.stored (R.view_of repo.old))) (nth_of (rev_view rev.now) n) (rev_view rev.now) (Ok (roots_view found))) }
-    ensures refused { IfErr result (λ e. R.is_honest → IsTold (R.blames (R.view_of repo.old)) (BothAsk (source (R.names (R.view_of repo.old)) (R.objects (R.state_of repo.old)) (R.stored (R.view_of repo.old))) (nth_of (rev_view rev.now) n) (rev_view rev.now)) (RangeGives (source (R.names (R.view_of repo.old)) (R.objects (R.state_of repo.old)) (R.stored (R.view_of repo.old))) (nth_of (rev_view rev.now) n) (rev_view rev.now)) e) }
+    ensures ok { IfOk result (λ found. R.is_honest → TermGives (R.source (R.view_of repo.old)) (Since (rev_view rev.now) n) (Ok (roots_view found))) }
+    ensures refused { Refuses R.is_honest R.source R.blames (R.view_of repo.old) (λ s. TermAsks s (Since (rev_view rev.now) n)) (λ s. TermGives s (Since (rev_view rev.now) n)) result }
 
     ensures kept { R.state_of repo.new ≡ R.state_of repo.old }
     ensures seen { R.view_of repo.new ≡ R.view_of repo.old }
@@ -172,8 +172,8 @@ fn since<R: Repository>(
 
 /// What is between the ends of a range.
 fn range<R: Repository>(alloc: Global, repo: &mut R, ends: &Ends<'_>) -> Result<Roots, RevFault>
-    ensures ok { IfOk result (λ found. R.is_honest → RangeGives (source (R.names (R.view_of repo.old)) (R.objects (R.state_of repo.old)) (R.stored (R.view_of repo.old))) (first_of (ends_view ends.now)) (second_of (ends_view ends.now)) (Ok (roots_view found))) }
-    ensures refused { IfErr result (λ e. R.is_honest → IsTold (R.blames (R.view_of repo.old)) (BothAsk (source (R.names (R.view_of repo.old)) (R.objects (R.state_of repo.old)) (R.stored (R.view_of repo.old))) (first_of (ends_view ends.now)) (second_of (ends_view ends.now))) (RangeGives (source (R.names (R.view_of repo.old)) (R.objects (R.state_of repo.old)) (R.stored (R.view_of repo.old))) (first_of (ends_view ends.now)) (second_of (ends_view ends.now))) e) }
+    ensures ok { IfOk result (λ found. R.is_honest → TermGives (R.source (R.view_of repo.old)) (Range (ends_view ends.now)) (Ok (roots_view found))) }
+    ensures refused { Refuses R.is_honest R.source R.blames (R.view_of repo.old) (λ s. TermAsks s (Range (ends_view ends.now))) (λ s. TermGives s (Range (ends_view ends.now))) result }
 
     ensures kept { R.state_of repo.new ≡ R.state_of repo.old }
     ensures seen { R.view_of repo.new ≡ R.view_of repo.old }
@@ -185,8 +185,8 @@ fn range<R: Repository>(alloc: Global, repo: &mut R, ends: &Ends<'_>) -> Result<
 
 /// What the ends of a range don't have in common.
 fn symmetric<R: Repository>(alloc: Global, repo: &mut R, ends: &Ends<'_>) -> Result<Roots, RevFault>
-    ensures ok { IfOk result (λ found. R.is_honest → SymmetricGives (source (R.names (R.view_of repo.old)) (R.objects (R.state_of repo.old)) (R.stored (R.view_of repo.old))) (first_of (ends_view ends.now)) (second_of (ends_view ends.now)) (Ok (roots_view found))) }
-    ensures refused { IfErr result (λ e. R.is_honest → IsTold (R.blames (R.view_of repo.old)) (BothAsk (source (R.names (R.view_of repo.old)) (R.objects (R.state_of repo.old)) (R.stored (R.view_of repo.old))) (first_of (ends_view ends.now)) (second_of (ends_view ends.now))) (SymmetricGives (source (R.names (R.view_of repo.old)) (R.objects (R.state_of repo.old)) (R.stored (R.view_of repo.old))) (first_of (ends_view ends.now)) (second_of (ends_view ends.now))) e) }
+    ensures ok { IfOk result (λ found. R.is_honest → TermGives (R.source (R.view_of repo.old)) (Symmetric (ends_view ends.now)) (Ok (roots_view found))) }
+    ensures refused { Refuses R.is_honest R.source R.blames (R.view_of repo.old) (λ s. TermAsks s (Symmetric (ends_view ends.now))) (λ s. TermGives s (Symmetric (ends_view ends.now))) result }
 
     ensures kept { R.state_of repo.new ≡ R.state_of repo.old }
     ensures seen { R.view_of repo.new ≡ R.view_of repo.old }
@@ -202,8 +202,8 @@ fn term_roots<R: Repository>(
     repo: &mut R,
     term: &Term<'_>,
 ) -> Result<Roots, RevFault>
-    ensures ok { IfOk result (λ found. R.is_honest → TermGives (source (R.names (R.view_of repo.old)) (R.objects (R.state_of repo.old)) (R.stored (R.view_of repo.old))) (term_view term.now) (Ok (roots_view found))) }
-    ensures refused { IfErr result (λ e. R.is_honest → IsTold (R.blames (R.view_of repo.old)) (TermAsks (source (R.names (R.view_of repo.old)) (R.objects (R.state_of repo.old)) (R.stored (R.view_of repo.old))) (term_view term.now)) (TermGives (source (R.names (R.view_of repo.old)) (R.objects (R.state_of repo.old)) (R.stored (R.view_of repo.old))) (term_view term.now)) e) }
+    ensures ok { IfOk result (λ found. R.is_honest → TermGives (R.source (R.view_of repo.old)) (term_view term.now) (Ok (roots_view found))) }
+    ensures refused { Refuses R.is_honest R.source R.blames (R.view_of repo.old) (λ s. TermAsks s (term_view term.now)) (λ s. TermGives s (term_view term.now)) result }
 
     ensures kept { R.state_of repo.new ≡ R.state_of repo.old }
     ensures seen { R.view_of repo.new ≡ R.view_of repo.old }
@@ -227,8 +227,8 @@ pub(crate) fn set_roots<R: Repository>(
     repo: &mut R,
     terms: &[Term<'_>],
 ) -> Result<Roots, RevFault>
-    ensures ok { IfOk result (λ found. R.is_honest → SetGives (source (R.names (R.view_of repo.old)) (R.objects (R.state_of repo.old)) (R.stored (R.view_of repo.old))) (map term_view terms.now) (Ok (roots_view found))) }
-    ensures refused { IfErr result (λ e. R.is_honest → IsTold (R.blames (R.view_of repo.old)) (TermsAsk (source (R.names (R.view_of repo.old)) (R.objects (R.state_of repo.old)) (R.stored (R.view_of repo.old))) (map term_view terms.now)) (SetGives (source (R.names (R.view_of repo.old)) (R.objects (R.state_of repo.old)) (R.stored (R.view_of repo.old))) (map term_view terms.now)) e) }
+    ensures ok { IfOk result (λ found. R.is_honest → SetGives (R.source (R.view_of repo.old)) (map term_view terms.now) (Ok (roots_view found))) }
+    ensures refused { Refuses R.is_honest R.source R.blames (R.view_of repo.old) (λ s. TermsAsk s (map term_view terms.now)) (λ s. SetGives s (map term_view terms.now)) result }
 
     ensures kept { R.state_of repo.new ≡ R.state_of repo.old }
     ensures seen { R.view_of repo.new ≡ R.view_of repo.old }

@@ -1,13 +1,12 @@
 //! The values of expressions.
 
-ghost use Rattle.std.specs.Prelude.{◌≡◌, ◌==◌, Ok, MatchResult, map, IfOk, IfErr, IsErrOf};
+ghost use Rattle.std.specs.Prelude.{◌≡◌, ◌==◌, Ok, MatchResult, IfOk, IsErrOf};
 ghost use Rattle.vc_files.specs.Failures.{Wears};
-ghost use Rattle.vc_rev.specs.Answer.{IsTold, IsAnswered};
+ghost use Rattle.vc_rev.specs.Answer.{IsAnswered, Refuses};
 ghost use Rattle.vc_rev.specs.Asking.{ChildAsks, EntryAsks, ExprAsks, IndexAsks, PathAsks, RevAsks};
 ghost use Rattle.vc_rev.specs.Meaning.{Answer, child_at, EntryGives, PathGives, IndexGives, RevGives, Denotes, components, is_folder};
-ghost use Rattle.vc_rev.specs.Source.{source};
-ghost use Rattle.vc_rev.specs.Views.{rev_view, expr_view};
-ghost use Rattle.vc_rev.specs.Grammar as texts;
+ghost use Rattle.vc_rev.specs.Views.{rev_view, expr_view, parts_of};
+ghost use Rattle.vc_rev.specs.Grammar.{InTree};
 ghost use Rattle.vc_object.specs.declared.mode.Mode.TheVariants as modes;
 ghost use Rattle.std.specs.List.{slice_split};
 
@@ -24,14 +23,14 @@ use vc_store::StoreFault;
 
 /// What stands between the slashes of a path.
 fn parts<'a>(alloc: Global, path: &'a [u8]) -> Result<Vec<&'a [u8]>, AllocError>
-    ensures { IfOk result (λ parts. map (λ part. part.now) parts.items ≡ slice_split (λ byte. byte == 47) path.now) }
+    ensures { IfOk result (λ parts. parts_of parts.items ≡ slice_split (λ byte. byte == 47) path.now) }
 {
     path.split(|byte| *byte == b'/').collect(alloc)
 }
 
 /// The components of a path; the empty path has none.
 fn components<'a>(alloc: Global, path: &'a [u8]) -> Result<Vec<&'a [u8]>, AllocError>
-    ensures { IfOk result (λ parts. map (λ part. part.now) parts.items ≡ components path.now) }
+    ensures { IfOk result (λ parts. parts_of parts.items ≡ components path.now) }
 {
     if path.is_empty() {
         return Ok(Vec::new(alloc));
@@ -57,8 +56,8 @@ fn child<R: Repository>(
     mode: Mode,
     id: ObjectId,
 ) -> Result<(Mode, ObjectId), RevFault>
-    ensures ok { IfOk result (λ found. R.is_honest → child_at (source (R.names (R.view_of repo.old)) (R.objects (R.state_of repo.old)) (R.stored (R.view_of repo.old))) name.now mode id ≡ Ok found) }
-    ensures refused { IfErr result (λ e. R.is_honest → IsTold (R.blames (R.view_of repo.old)) (ChildAsks mode id) (λ answer. answer ≡ child_at (source (R.names (R.view_of repo.old)) (R.objects (R.state_of repo.old)) (R.stored (R.view_of repo.old))) name.now mode id) e) }
+    ensures ok { IfOk result (λ found. R.is_honest → child_at (R.source (R.view_of repo.old)) name.now mode id ≡ Ok found) }
+    ensures refused { Refuses R.is_honest R.source R.blames (R.view_of repo.old) (λ _. ChildAsks mode id) (λ s answer. answer ≡ child_at s name.now mode id) result }
 
     ensures kept { R.state_of repo.new ≡ R.state_of repo.old }
     ensures seen { R.view_of repo.new ≡ R.view_of repo.old }
@@ -82,8 +81,8 @@ fn entry_value<R: Repository>(
     parts: &[&[u8]],
     tree: ObjectId,
 ) -> Result<ObjectId, RevFault>
-    ensures ok { IfOk result (λ found. R.is_honest → EntryGives (source (R.names (R.view_of repo.old)) (R.objects (R.state_of repo.old)) (R.stored (R.view_of repo.old))) (map (λ part. part.now) parts.now) modes.Tree tree (Ok found)) }
-    ensures refused { IfErr result (λ e. R.is_honest → IsTold (R.blames (R.view_of repo.old)) (EntryAsks (source (R.names (R.view_of repo.old)) (R.objects (R.state_of repo.old)) (R.stored (R.view_of repo.old))) (map (λ part. part.now) parts.now) modes.Tree tree) (EntryGives (source (R.names (R.view_of repo.old)) (R.objects (R.state_of repo.old)) (R.stored (R.view_of repo.old))) (map (λ part. part.now) parts.now) modes.Tree tree) e) }
+    ensures ok { IfOk result (λ found. R.is_honest → EntryGives (R.source (R.view_of repo.old)) (parts_of parts.now) modes.Tree tree (Ok found)) }
+    ensures refused { Refuses R.is_honest R.source R.blames (R.view_of repo.old) (λ s. EntryAsks s (parts_of parts.now) modes.Tree tree) (λ s. EntryGives s (parts_of parts.now) modes.Tree tree) result }
 
     ensures kept { R.state_of repo.new ≡ R.state_of repo.old }
     ensures seen { R.view_of repo.new ≡ R.view_of repo.old }
@@ -106,8 +105,8 @@ fn path_value<R: Repository>(
     id: ObjectId,
     path: &[u8],
 ) -> Result<ObjectId, RevFault>
-    ensures ok { IfOk result (λ found. R.is_honest → PathGives (source (R.names (R.view_of repo.old)) (R.objects (R.state_of repo.old)) (R.stored (R.view_of repo.old))) path.now id (Ok found)) }
-    ensures refused { IfErr result (λ e. R.is_honest → IsTold (R.blames (R.view_of repo.old)) (PathAsks (source (R.names (R.view_of repo.old)) (R.objects (R.state_of repo.old)) (R.stored (R.view_of repo.old))) path.now id) (PathGives (source (R.names (R.view_of repo.old)) (R.objects (R.state_of repo.old)) (R.stored (R.view_of repo.old))) path.now id) e) }
+    ensures ok { IfOk result (λ found. R.is_honest → PathGives (R.source (R.view_of repo.old)) path.now id (Ok found)) }
+    ensures refused { Refuses R.is_honest R.source R.blames (R.view_of repo.old) (λ s. PathAsks s path.now id) (λ s. PathGives s path.now id) result }
 
     ensures kept { R.state_of repo.new ≡ R.state_of repo.old }
     ensures seen { R.view_of repo.new ≡ R.view_of repo.old }
@@ -124,8 +123,8 @@ pub(crate) fn rev_value<R: Repository>(
     repo: &mut R,
     rev: &Rev<'_>,
 ) -> Result<ObjectId, RevFault>
-    ensures ok { IfOk result (λ found. R.is_honest → RevGives (source (R.names (R.view_of repo.old)) (R.objects (R.state_of repo.old)) (R.stored (R.view_of repo.old))) (rev_view rev.now) (Ok found)) }
-    ensures refused { IfErr result (λ e. R.is_honest → IsTold (R.blames (R.view_of repo.old)) (RevAsks (source (R.names (R.view_of repo.old)) (R.objects (R.state_of repo.old)) (R.stored (R.view_of repo.old))) (rev_view rev.now)) (RevGives (source (R.names (R.view_of repo.old)) (R.objects (R.state_of repo.old)) (R.stored (R.view_of repo.old))) (rev_view rev.now)) e) }
+    ensures ok { IfOk result (λ found. R.is_honest → RevGives (R.source (R.view_of repo.old)) (rev_view rev.now) (Ok found)) }
+    ensures refused { Refuses R.is_honest R.source R.blames (R.view_of repo.old) (λ s. RevAsks s (rev_view rev.now)) (λ s. RevGives s (rev_view rev.now)) result }
 
     ensures kept { R.state_of repo.new ≡ R.state_of repo.old }
     ensures seen { R.view_of repo.new ≡ R.view_of repo.old }
@@ -137,8 +136,8 @@ pub(crate) fn rev_value<R: Repository>(
 
 /// The id at a path of the index.
 fn index_value<R: Repository>(repo: &mut R, path: &[u8]) -> Result<ObjectId, RevFault>
-    ensures ok { IfOk result (λ found. R.is_honest → IndexGives (source (R.names (R.view_of repo.old)) (R.objects (R.state_of repo.old)) (R.stored (R.view_of repo.old))) path.now (Ok found)) }
-    ensures refused { IfErr result (λ e. R.is_honest → IsTold (R.blames (R.view_of repo.old)) (IndexAsks path.now) (IndexGives (source (R.names (R.view_of repo.old)) (R.objects (R.state_of repo.old)) (R.stored (R.view_of repo.old))) path.now) e) }
+    ensures ok { IfOk result (λ found. R.is_honest → IndexGives (R.source (R.view_of repo.old)) path.now (Ok found)) }
+    ensures refused { Refuses R.is_honest R.source R.blames (R.view_of repo.old) (λ _. IndexAsks path.now) (λ s. IndexGives s path.now) result }
 
     ensures kept { R.state_of repo.new ≡ R.state_of repo.old }
     ensures seen { R.view_of repo.new ≡ R.view_of repo.old }
@@ -158,8 +157,8 @@ fn in_tree<R: Repository>(
     rev: &Rev<'_>,
     path: &[u8],
 ) -> Result<ObjectId, RevFault>
-    ensures ok { IfOk result (λ found. R.is_honest → Denotes (source (R.names (R.view_of repo.old)) (R.objects (R.state_of repo.old)) (R.stored (R.view_of repo.old))) (texts.InTree (rev_view rev.now) path.now) (Ok found)) }
-    ensures refused { IfErr result (λ e. R.is_honest → IsTold (R.blames (R.view_of repo.old)) (ExprAsks (source (R.names (R.view_of repo.old)) (R.objects (R.state_of repo.old)) (R.stored (R.view_of repo.old))) (texts.InTree (rev_view rev.now) path.now)) (Denotes (source (R.names (R.view_of repo.old)) (R.objects (R.state_of repo.old)) (R.stored (R.view_of repo.old))) (texts.InTree (rev_view rev.now) path.now)) e) }
+    ensures ok { IfOk result (λ found. R.is_honest → Denotes (R.source (R.view_of repo.old)) (InTree (rev_view rev.now) path.now) (Ok found)) }
+    ensures refused { Refuses R.is_honest R.source R.blames (R.view_of repo.old) (λ s. ExprAsks s (InTree (rev_view rev.now) path.now)) (λ s. Denotes s (InTree (rev_view rev.now) path.now)) result }
 
     ensures kept { R.state_of repo.new ≡ R.state_of repo.old }
     ensures seen { R.view_of repo.new ≡ R.view_of repo.old }
@@ -175,8 +174,8 @@ fn expr_value<R: Repository>(
     repo: &mut R,
     expr: &Expr<'_>,
 ) -> Result<ObjectId, RevFault>
-    ensures ok { IfOk result (λ found. R.is_honest → Denotes (source (R.names (R.view_of repo.old)) (R.objects (R.state_of repo.old)) (R.stored (R.view_of repo.old))) (expr_view expr.now) (Ok found)) }
-    ensures refused { IfErr result (λ e. R.is_honest → IsTold (R.blames (R.view_of repo.old)) (ExprAsks (source (R.names (R.view_of repo.old)) (R.objects (R.state_of repo.old)) (R.stored (R.view_of repo.old))) (expr_view expr.now)) (Denotes (source (R.names (R.view_of repo.old)) (R.objects (R.state_of repo.old)) (R.stored (R.view_of repo.old))) (expr_view expr.now)) e) }
+    ensures ok { IfOk result (λ found. R.is_honest → Denotes (R.source (R.view_of repo.old)) (expr_view expr.now) (Ok found)) }
+    ensures refused { Refuses R.is_honest R.source R.blames (R.view_of repo.old) (λ s. ExprAsks s (expr_view expr.now)) (λ s. Denotes s (expr_view expr.now)) result }
 
     ensures kept { R.state_of repo.new ≡ R.state_of repo.old }
     ensures seen { R.view_of repo.new ≡ R.view_of repo.old }
@@ -199,11 +198,11 @@ pub fn resolve<R: Repository>(
     repo: &mut R,
     expr: &Expr<'_>,
 ) -> Result<ObjectId, RevFault>
-    ensures ok { IfOk result (λ found. R.is_honest → Denotes (source (R.names (R.view_of repo.old)) (R.objects (R.state_of repo.old)) (R.stored (R.view_of repo.old))) (expr_view expr.now) (Ok found)) }
-    ensures refused { IfErr result (λ e. R.is_honest → IsTold (R.blames (R.view_of repo.old)) (ExprAsks (source (R.names (R.view_of repo.old)) (R.objects (R.state_of repo.old)) (R.stored (R.view_of repo.old))) (expr_view expr.now)) (Denotes (source (R.names (R.view_of repo.old)) (R.objects (R.state_of repo.old)) (R.stored (R.view_of repo.old))) (expr_view expr.now)) e) }
+    ensures ok { IfOk result (λ found. R.is_honest → Denotes (R.source (R.view_of repo.old)) (expr_view expr.now) (Ok found)) }
+    ensures refused { Refuses R.is_honest R.source R.blames (R.view_of repo.old) (λ s. ExprAsks s (expr_view expr.now)) (λ s. Denotes s (expr_view expr.now)) result }
 
     // What an expression denotes is answered, value or refusal, unless the repository gives no answer.
-    ensures only { R.is_honest → (answer : Answer) → Denotes (source (R.names (R.view_of repo.old)) (R.objects (R.state_of repo.old)) (R.stored (R.view_of repo.old))) (expr_view expr.now) answer → MatchResult result (λ found. answer ≡ Ok found) (IsAnswered answer) }
+    ensures only { R.is_honest → (answer : Answer) → Denotes (R.source (R.view_of repo.old)) (expr_view expr.now) answer → MatchResult result (λ found. answer ≡ Ok found) (IsAnswered answer) }
 
     ensures kept { R.state_of repo.new ≡ R.state_of repo.old }
     ensures seen { R.view_of repo.new ≡ R.view_of repo.old }

@@ -31,7 +31,7 @@ use Rattle.vc_rev.specs.Meaning.{or_refusal}
 use Rattle.vc_rev.specs.declared.refusal.Refusal.TheVariants.{Unknown}
 use Rattle.vc_rev.specs.Grammar.ExprText.{Object as BaseAndSteps}
 use Rattle.vc_format.specs.Git.{id_of_bytes, bytes_of_id, commit_text}
-use Rattle.vc_format.proofs.Names.{name_length, name_bytes, byte_of}
+use Rattle.vc_object.proofs.Names.{name_length, name_bytes, byte_of}
 use Rattle.vc_model.specs.Object.{Id, zero_id, Object, Objects, IsLine}
 use Rattle.vc_model.specs.Object.Kind.{Commit}
 use Rattle.vc_model.specs.Refs.{branch, tracking}

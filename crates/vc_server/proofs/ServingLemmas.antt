@@ -18,6 +18,7 @@ use Rattle.vc_model.specs.SharedCall.SharedCall.{StepOf}
 use Rattle.vc_node.proofs.CleanLemmas.{clean_then}
 use Rattle.vc_node.specs.Clean.{KeepsClean}
 use Rattle.vc_node.specs.Machine.{fault_answer as node_answer}
+use Rattle.vc_node.specs.Told.{Quietly, SendsBytes}
 use Rattle.vc_node.specs.declared.fault.NodeFault.{NodeFault}
 use Rattle.vc_node.specs.declared.fault.NodeFault.TheVariants as node
 use Rattle.vc_node.specs.declared.fault.NodeFault.TheVariants.{Down}
@@ -29,7 +30,7 @@ use Rattle.vc_session.specs.declared.stage.Stepped.TheVariants as session
 use Rattle.vc_shared.proofs.HoldingLemmas.{slot_set}
 use Rattle.vc_shared.proofs.SlotLemmas.{open_within, told_at}
 use Rattle.vc_shared.proofs.SteppingLaws.{pushes_of}
-use Rattle.vc_shared.specs.Calls.{AcceptedAs, AnswersShared, Quietly, SendsBytes, SteppedAs}
+use Rattle.vc_shared.specs.Calls.{AcceptedAs, AnswersShared, SteppedAs}
 use Rattle.vc_shared.specs.Faults.{fault_answer}
 use Rattle.vc_shared.specs.Holding.{HoldsShared, HoldsSlot, HoldsSlots}
 use Rattle.vc_shared.specs.Slots.{AreTellable, slot_of}

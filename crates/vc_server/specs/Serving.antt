@@ -14,7 +14,8 @@ use Rattle.vc_model.specs.SharedCall.SharedCall.{StepOf}
 use Rattle.vc_rules.proofs.GitLaws.{git_rules}
 use Rattle.vc_rules.specs.Git.{git}
 use Rattle.vc_session.specs.Session.{SessionText}
-use Rattle.vc_shared.specs.Calls.{AcceptedAs, AnswersShared, Quietly, SendsBytes}
+use Rattle.vc_node.specs.Told.{Quietly, SendsBytes}
+use Rattle.vc_shared.specs.Calls.{AcceptedAs, AnswersShared}
 use Rattle.vc_shared.specs.Faults.{fault_answer}
 use Rattle.vc_shared.specs.Holding.{HoldsShared}
 use Rattle.vc_shared.specs.declared.accepting.Accepted.{Accepted}

@@ -26,15 +26,15 @@ found_step : (id : ObjectId) (o : StoredObject) (os : List StoredObject) → obj
 found_step id o os = ap (λ b. cond b (Some o) (object_named id os)) (same_test id o)
 
 -- the object if it is one
-abbrev kept : StoredObject → Option StoredObject
+abbrev pub kept : StoredObject → Option StoredObject
 kept o = cond (is_object o) (Some o) None
 
-in_step : (id : ObjectId) (o : StoredObject) (os : List StoredObject) (b : Bool) → id_eq id (stored_name o) ≡ b → objects_in (o ∷ os) id ≡ cond b (kept o) (objects_in os id)
+pub in_step : (id : ObjectId) (o : StoredObject) (os : List StoredObject) (b : Bool) → id_eq id (stored_name o) ≡ b → objects_in (o ∷ os) id ≡ cond b (kept o) (objects_in os id)
 unfolding objects_in
 in_step id o os true is = ap (option_and_then kept) (found_step id o os ∙ ap (λ b. cond b (Some o) (object_named id os)) is)
 in_step id o os false is = ap (option_and_then kept) (found_step id o os ∙ ap (λ b. cond b (Some o) (object_named id os)) is)
 
-in_none : (id : ObjectId) (os : List StoredObject) → object_named id os ≡ None → objects_in os id ≡ None
+pub in_none : (id : ObjectId) (os : List StoredObject) → object_named id os ≡ None → objects_in os id ≡ None
 unfolding objects_in
 in_none id os none = ap (option_and_then kept) none
 
@@ -43,7 +43,7 @@ above : (o : StoredObject) (os : List StoredObject) → AllByRecursion (λ y. id
 above o [] all = refl
 above o (p ∷ ps) all = ap (λ c. cond (is_eq c) (Some p) (object_named (stored_name o) ps)) all.0 ∙ above o ps all.1
 
-once : (id : ObjectId) (o : StoredObject) (os : List StoredObject) → IsSortedByName (map stored_name (o ∷ os)) → id_eq id (stored_name o) ≡ true → object_named id os ≡ None
+pub once : (id : ObjectId) (o : StoredObject) (os : List StoredObject) → IsSortedByName (map stored_name (o ∷ os)) → id_eq id (stored_name o) ≡ true → object_named id os ≡ None
 unfolding IsStrictlySortedBy
 once id o os sorted same = ap (λ n. object_named n os) (id_eq-same id (stored_name o) same) ∙ above o os sorted.0
 
@@ -71,11 +71,11 @@ held_none content slot all dropped = record {
   holds = record { each = λ id among. absurd (no_name id among); only = λ id some. absurd (none_some (quarantined content slot id) (dropped-none content slot dropped id) some) };
 }
 
-or_none : (o : Option StoredObject) → option_or o None ≡ o
+pub or_none : (o : Option StoredObject) → option_or o None ≡ o
 or_none None = refl
 or_none (Some x) = refl
 
-nothing_in : (id : ObjectId) → objects_in [] id ≡ None
+pub nothing_in : (id : ObjectId) → objects_in [] id ≡ None
 unfolding objects_in
 nothing_in id = refl
 

@@ -1,12 +1,12 @@
 -- What is known to be whole: what a graph that grows keeps, and what the values of refs and what they link to are.
-use Rattle.std.proofs.Common.{◌≡◌, ℕ, true, false, cond, zero, suc, List, [], ◌∷◌, ◌++◌, length, drop, take, slice_get, ⊎_elim, Option, Some, None, IsSome, Contains, refl, sym, ap, subst, ◌∙◌, arith, true≢false}
+use Rattle.std.proofs.Common.{◌≡◌, ℕ, true, false, cond, zero, suc, List, [], ◌∷◌, ◌++◌, length, drop, take, slice_get, ⊎_elim, Option, Some, None, Contains, refl, sym, ap, subst, ◌∙◌, arith, true≢false}
 use Rattle.std.specs.Bool.{⊤}
 use Rattle.std.specs.Cmp.{eq_by_cmp_equiv}
 use Rattle.std.specs.FinMap.{find, is_sorted}
 use Rattle.std.specs.FinMap.Entries.{below_all}
 use Rattle.std.specs.List.{list_any}
 use Rattle.std.specs.Cmp.Lexicographic.{slice_cmp, nat_list_cmp_total}
-use Rattle.std.specs.Option.{option_or, option_map, option_and_then}
+use Rattle.std.specs.Option.{option_or, option_and_then}
 use Rattle.std.specs.Ordering.{nat_cmp, is_eq, is_lt, ordering_reverse}
 use Rattle.std.specs.declared.cmp.Ordering.{Ordering}
 use Rattle.std.specs.declared.cmp.Ordering.TheVariants.{Less, Equal, Greater}
@@ -18,14 +18,15 @@ use Rattle.indexmap.specs.IndexSet.{insert_key}
 use Rattle.vc_history.proofs.GenerationLemmas.{Agrees-stays}
 use Rattle.vc_history.specs.Generation.{Agrees}
 use Rattle.vc_files.specs.FileMap.{FileMap}
+use Rattle.vc_graph.proofs.OverlayLemmas.{IsClosedUnder-more, IsClosedUnder-with_carried}
 use Rattle.vc_graph.proofs.WalkLemmas.{Contains-insert_key_cases}
-use Rattle.vc_graph.specs.Graph.{IsClosed, IsClosedUnder, Reaches, itself, onward}
+use Rattle.vc_graph.specs.Graph.{IsClosedUnder}
 use Rattle.vc_graph.specs.Overlay.{with_carried}
 use Rattle.vc_object.proofs.IdLemmas.{id_eq-same}
 use Rattle.vc_object.specs.Decoding.{StoredObject}
-use Rattle.vc_object.specs.Links.{links_of, parents_of}
+use Rattle.vc_object.specs.Links.{parents_of}
 use Rattle.vc_object.specs.ObjectId.{id_eq}
-use Rattle.vc_object.specs.ObjectMap.{ObjectMap, links_in, parents_in}
+use Rattle.vc_object.specs.ObjectMap.{ObjectMap, parents_in}
 use Rattle.vc_object.specs.declared.id.ObjectId.{ObjectId}
 use Rattle.vc_refs.specs.RefMap.{RefMap, IsListOf}
 use Rattle.vc_refs.specs.Refs.{refs}
@@ -34,41 +35,8 @@ use Rattle.vc_session.specs.Verdict.{is_tag}
 use Rattle.vc_session.specs.declared.known.Known.{Known}
 use Rattle.vc_store.specs.Store.{objects}
 
--- ---- a graph in which each name that is there keeps its links
-module _ {Id : Type 0} (f g : Id → Option (List Id)) (more : (x : Id) (ys : List Id) → f x ≡ Some ys → g x ≡ Some ys) where
-  there : (x : Id) (o : Option (List Id)) → f x ≡ o → IsSome o → IsSome (g x)
-  there x None e h = absurd (cc h)
-  there x (Some ys) e h = subst (λ o. IsSome o) (sym (more x ys e)) refl
-
-  -- what a whole name reaches in it was reached before
-  reached_before : {x y : Id} → IsClosed f x → Reaches g x y → Reaches f x y
-  reached_before closed itself = itself
-  reached_before {x} closed (onward {y} {z} r l) =
-      let before = reached_before closed r in
-      by (f y) refl (closed y before) before
-    where
-      by : (o : Option (List Id)) → f y ≡ o → IsSome o → Reaches f x y → Reaches f x z
-      by None e h before = absurd (cc h)
-      by (Some ys) e h before =
-          let kept : g y ≡ Some ys = more y ys e in
-          let same : l.0 ≡ ys = cc in
-          onward before (ys, e, subst (λ zs. Contains zs z) same l.2)
-
-  pub IsClosedUnder-more : (roots : List Id) → IsClosedUnder f roots → IsClosedUnder g roots
-  IsClosedUnder-more roots closed y h =
-      let of_root : IsClosed f h.root = λ z r. closed z (record { root = h.root; is_root = h.is_root; reaches = r }) in
-      there y (f y) refl (of_root y (reached_before of_root h.reaches))
-
 -- ---- what is whole as stored is so with what is carried
 module _ (stored carried : ObjectMap) where
-  links_more : (x : ObjectId) (ys : List ObjectId) → links_in stored x ≡ Some ys → links_in (with_carried stored carried) x ≡ Some ys
-  unfolding links_in with_carried
-  links_more x ys = by (stored x) (carried x)
-    where
-      by : (o c : Option StoredObject) → option_map (λ (o : StoredObject). links_of o.kind o.body) o ≡ Some ys → option_map (λ (o : StoredObject). links_of o.kind o.body) (option_or o c) ≡ Some ys
-      by None c e = absurd (cc e)
-      by (Some o) c e = e
-
   parents_more : (x : ObjectId) (ys : List ObjectId) → parents_in stored x ≡ Some ys → parents_in (with_carried stored carried) x ≡ Some ys
   unfolding parents_in with_carried
   parents_more x ys = by (stored x) (carried x)
@@ -79,7 +47,7 @@ module _ (stored carried : ObjectMap) where
 
   pub AreWhole-with_carried : (known : Known) → AreWhole stored known → AreWhole (with_carried stored carried) known
   AreWhole-with_carried known whole = record {
-    closed = IsClosedUnder-more (links_in stored) (links_in (with_carried stored carried)) links_more known.objects.keys whole.closed;
+    closed = IsClosedUnder-with_carried stored carried known.objects.keys whole.closed;
     histories = IsClosedUnder-more (parents_in stored) (parents_in (with_carried stored carried)) parents_more known.histories.keys whole.histories;
   }
 

@@ -5,12 +5,12 @@ use Rattle.std.specs.Result.{result_ok}
 use Rattle.std.proofs.lemmas.List.{append_assoc, append-nil, length-map, length-take-le, map_more, take_more}
 use Rattle.std.proofs.lemmas.Option.{get_or_from_slice_get, slice_get_within}
 use Rattle.std.proofs.lemmas.List.Elements.{Contains-append_left, Contains-append_right, Contains-append_cases, Contains-push, Contains-push_cases}
-use Rattle.vc_history.specs.BaseFault.{IsTold}
+use Rattle.vc_history.specs.HistoryFault.{IsTold}
 use Rattle.vc_history.specs.Generation.{Learns}
 use Rattle.vc_history.specs.History.{IsAncestor}
 use Rattle.vc_history.specs.Numbering.{numbers}
-use Rattle.vc_history.specs.declared.fault.BaseFault.{BaseFault}
-use Rattle.vc_history.specs.declared.fault.BaseFault.TheVariants.{Missing, NotACommit, Store}
+use Rattle.vc_history.specs.declared.fault.HistoryFault.{HistoryFault}
+use Rattle.vc_history.specs.declared.fault.HistoryFault.TheVariants.{Missing, NotACommit, Store}
 use Rattle.vc_history.specs.declared.generations.Generations.{Generations}
 use Rattle.vc_files.specs.FileMap.{FileMap}
 use Rattle.vc_files.specs.declared.faults.Fault.{Fault}
@@ -90,7 +90,7 @@ module _ (content : FileMap) where
       by false is = rw is refl
 
   -- what a walk tells that isn't a fault is of a history that isn't whole
-  pub told_broken : (tip : ObjectId) (e : BaseFault) → IsTold (objects content) (IsDamaged content) (tip ∷ []) e → ((fault : Fault) → e ≢ Store (store.Fault fault)) → ¬ IsClosed (parents_in (objects content)) tip
+  pub told_broken : (tip : ObjectId) (e : HistoryFault) → IsTold (objects content) (IsDamaged content) (tip ∷ []) e → ((fault : Fault) → e ≢ Store (store.Fault fault)) → ¬ IsClosed (parents_in (objects content)) tip
   told_broken tip (Missing id) told other = not_whole tip id told.0 (parents_in-none (objects content) id told.1)
   told_broken tip (NotACommit id) told other = not_whole tip id told.0 told.1.1
   told_broken tip (Store (store.BadObject fault)) told other = absurd told

@@ -2,7 +2,7 @@
 use Rattle.std.proofs.Common.{arith, ◌≡◌, ℕ, Bool, true, false, cond, subst, ◌&&◌, ◌||◌, ◌⊎◌, nat_eq, List, [], ◌∷◌, ◌++◌, inl, inr, Option, Some, None, is_some, sym, ap, refl, ◌∙◌, true≢false}
 use Rattle.std.specs.Prelude.{codes, string_bytes, Result, Err, IfOk, IfErr, IsErrOf}
 use Rattle.std.specs.List.{starts_with}
-use Rattle.std.proofs.lemmas.Bool.{and_from, and_parts, false_from_ne_true}
+use Rattle.std.proofs.lemmas.Bool.{and_from, and_parts}
 use Rattle.vc_files.proofs.WearLemmas.{fails_later}
 use Rattle.vc_files.specs.Failures.{Wears}
 use Rattle.vc_files.specs.FileMap.{FileMap}
@@ -18,7 +18,7 @@ use Rattle.vc_refs.specs.declared.faults.RefFault.TheVariants as fault
 use Rattle.vc_refs.specs.Refs.{is_taken, packed_path, refs}
 use Rattle.vc_refs.specs.Obstacle.{IsFirstInTheWay, IsFree}
 use Rattle.vc_session.specs.Updating.{BlamesUpdate, reason_of}
-use Rattle.vc_session.specs.Verdict.{refs_after, IsVerdictAtUpdate, MayBeSet, UpdateNeeds, expected, is_branch, is_tag}
+use Rattle.vc_session.specs.Verdict.{IsVerdictAtUpdate, UpdateNeeds, expected, is_branch, is_tag}
 
 shorter : (xs front back : List ℕ) → starts_with nat_eq xs (front ++ back) ≡ true → starts_with nat_eq xs front ≡ true
 shorter [] [] back h = refl
@@ -42,11 +42,6 @@ not_there true (Some id) h is = absurd (true≢false h)
 not_there false o h is = absurd (true≢false (sym is))
 
 module _ (content : FileMap) (c : CommandText) where
-  pub stands : (is_tag c.name && is_some (refs content c.name)) ≡ true → IsVerdictAtUpdate (refs content) c (Some AlreadyExists)
-  stands h =
-      let parts = and_parts (is_tag c.name) (is_some (refs content c.name)) h in
-      inl ((λ needs. none_there (refs content c.name) parts.1 (needs parts.0)), refl)
-
   module _ (no_tag : (is_tag c.name && is_some (refs content c.name)) ≡ false) where
     absent : UpdateNeeds (refs content) c AlreadyExists
     absent = not_there (is_tag c.name) (refs content c.name) no_tag
@@ -80,14 +75,6 @@ module _ (content : FileMap) (c : CommandText) where
   ]
   refused_blames fault.HeadLoop b = b
   refused_blames (fault.Fault f) b = tt
-
-  -- and the ref stays
-  pub refused_refs : (now : FileMap) (e : RefFault) → now ≡ content → IfOk (reason_of e) (λ found. refs now ≡ refs_after (refs content) c found)
-  refused_refs now (fault.Stale current) same = ap refs same
-  refused_refs now (fault.Conflict other) same = ap refs same
-  refused_refs now (fault.BadRefFile path) same = tt
-  refused_refs now fault.HeadLoop same = tt
-  refused_refs now (fault.Fault f) same = tt
 
 -- what refuses the look at a tag
 pub tag_blames : (content : FileMap) (name : List ℕ) (e : RefFault) → BlamesRef content name e → BlamesUpdate content name e

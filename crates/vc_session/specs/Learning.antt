@@ -49,3 +49,7 @@ LearnsAt content s due left known now Unpacked = IsLearnt content due known now 
 LearnsAt content s due left known now Checked = (now ≡ known) × (left ≡ due)
 LearnsAt content s due left known now Migrated = (now ≡ known) × (left ≡ due)
 LearnsAt content s due left known now Done = (now ≡ known) × (left ≡ due ++ tips_of s.commands s.verdicts)
+
+-- what it learns now
+abbrev pub Learns : FileMap → SessionText → List ObjectId → List ObjectId → Generations → Generations → Type 0
+Learns content s due left known now = LearnsAt content s due left known now s.stage

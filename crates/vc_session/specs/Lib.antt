@@ -9,5 +9,6 @@ pub mod Carrying
 pub mod Known
 pub mod Session
 pub mod Steps
+pub mod Judged
 pub mod SessionFault
 pub mod Learning

@@ -1,7 +1,9 @@
 -- The steps of an open push, each a relation between the files and the session before it and after it.
-use Rattle.std.specs.Prelude.{◌≡◌, ◌≢◌, ◌⊎◌, ⊤, ℕ, false, List, [], ◌∷◌, ◌++◌, map, slice_get, length, codes, count_by, Option, Some, None, Ok, Err}
+use Rattle.std.specs.Prelude.{◌≡◌, ◌≢◌, ◌⊎◌, ⊤, ℕ, false, List, [], ◌∷◌, ◌++◌, map, slice_get, length, codes, count_by, Option, Some, None, Result, Ok, Err, IfOk, OnErr}
 use Rattle.std.specs.List.{AllByRecursion, list_any}
 use Rattle.vc_files.specs.FileMap.{FileMap, SameOutside}
+use Rattle.vc_history.specs.Stored.{AgreesIn, KeepsAgreement}
+use Rattle.vc_history.specs.declared.generations.Generations.{Generations}
 use Rattle.vc_object.specs.ObjectMap.{ObjectMap}
 use Rattle.vc_object.specs.declared.fault.ObjectFault.{ObjectFault}
 use Rattle.vc_object.specs.declared.fault.ObjectFault.TheVariants as object
@@ -15,10 +17,14 @@ use Rattle.vc_refs.specs.Head.{KeepsTheRest}
 use Rattle.vc_refs.specs.RefMap.{RefMap}
 use Rattle.vc_refs.specs.Refs.{refs}
 use Rattle.vc_store.specs.Store.{objects}
+use Rattle.vc_session.specs.Carrying.{HoldsNames}
+use Rattle.vc_session.specs.Clean.{MakesNoneBad}
 use Rattle.vc_session.specs.Known.{AreRefsWhole}
 use Rattle.vc_session.specs.Quarantine.{objects_seen, quarantine_folder, IsDropped}
-use Rattle.vc_session.specs.Session.{SessionText, fresh, is_passing, stage_while, verdict_of}
+use Rattle.vc_session.specs.Session.{SessionText, IsSession, fresh, is_passing, stage_while, verdict_of}
+use Rattle.vc_session.specs.Updating.{PassesUpdate}
 use Rattle.vc_session.specs.Verdict.{check_reasons, CheckNeeds, FirstUnmet, IsVerdictAtUpdate, refs_after}
+use Rattle.vc_session.specs.declared.fault.SessionFault.{SessionFault}
 use Rattle.vc_session.specs.declared.stage.Stage.{Stage}
 use Rattle.vc_session.specs.declared.stage.Stage.TheVariants.{Unpacked, Checked, Migrated, Done}
 use Rattle.vc_session.specs.declared.stage.Verdict.{Verdict}
@@ -134,6 +140,23 @@ Steps old new s t stepped.Migrated = StepMigrates old new s t
 Steps old new s t (stepped.Updated name found) = StepUpdates old new s t name.items found
 Steps old new s t (stepped.Finished report) = StepFinishes old new s t (report_text report)
 
+-- The step of a push whose quarantine holds what it names, where the generations that are known agree with what is stored.
+abbrev pub StepsHeld : Type 0 → (old new : FileMap) → Generations → (s t : SessionText) → Result Stepped SessionFault → Type 0
+StepsHeld honest old new generations s t result = honest → AgreesIn old generations → HoldsNames old s.slot s.names → IfOk result (Steps old new s t)
+
+-- What a step leaves of the push, whatever the files are: it is one still, of the same commands; after an error it is as it was; and
+-- what it tells at its end is the report.
+pub record TakesStep (s t : SessionText) (result : Result Stepped SessionFault) : Type 0 where
+  pub session : IsSession t
+  pub unchanged : OnErr result (t ≡ s)
+  pub commands : t.commands ≡ s.commands
+  pub told : IfOk result (TellsReport s)
+
+-- What no step takes away: generations that agreed with the stored histories still do, and no file becomes bad.
+pub record SparesFiles {F : Type 0} (honest : Type 0) (content : F → FileMap) (old new : F) : Type 0 where
+  pub agrees : honest → KeepsAgreement (content old) (content new)
+  pub bad : honest → MakesNoneBad (content old) (content new)
+
 -- ---- a step that ends early, or writes nothing
 -- what a step may leave that ends early: some of what is carried is stored, or taken out of the quarantine at the end
 abbrev pub EndsEarly : FileMap → FileMap → SessionText → Stage → Type 0
@@ -146,7 +169,7 @@ EndsEarly old new s Done = SameOutside (quarantine_folder s.slot) old new
 abbrev pub MaySetNext : FileMap → SessionText → Type 0
 MaySetNext content s =
     (front back : List Verdict) × (c : CommandText) × (s.verdicts ≡ front ++ Passing ∷ back) × (list_any is_passing front ≡ false) × (slice_get s.commands (length front) ≡ Some c)
-    × IsVerdictAtUpdate (refs content) c None
+    × PassesUpdate content c
 
 -- the steps that may write: storing where something is carried, an update that sets its ref, and the end
 abbrev pub MayWrite : FileMap → SessionText → Stage → Type 0

@@ -1,15 +1,11 @@
 //! A push that comes: its objects go into the quarantine of its slot one by one.
-ghost use Rattle.std.specs.Prelude.{◌≡◌, ◌++◌, ◌∷◌, [], List, None, Ok, IfOk, IfSome, IfNone, IsErrOf, OnOk, true, false};
+ghost use Rattle.std.specs.Prelude.{◌≡◌, [], None, Ok, IfOk, IfSome, IfNone, IsErrOf, OnOk, true, false};
 ghost use Rattle.vc_fetch.specs.Pack.{is_object};
-ghost use Rattle.vc_files.specs.FileMap.{FileMap, SameOutside};
+ghost use Rattle.vc_files.specs.FileMap.{SameOutside};
 ghost use Rattle.vc_files.specs.Failures.{Writes};
-ghost use Rattle.vc_object.specs.Decoding.{StoredObject};
 ghost use Rattle.vc_object.specs.ObjectFault.{BodyFault};
 ghost use Rattle.vc_pkt.specs.StreamObjectView.{stored};
-ghost use Rattle.vc_push.specs.Push.{Carried, FaultOf, carry};
-ghost use Rattle.vc_push.specs.PushView.{commands_of};
-ghost use Rattle.vc_session.specs.Arrival.{HoldsArrived, HasArrived};
-ghost use Rattle.vc_session.specs.Carrying.{Carries, objects_of_push};
+ghost use Rattle.vc_session.specs.Arrival.{HasArrived, HoldsMore, TakesObject};
 ghost use Rattle.vc_session.specs.Clean.{IsQuarantineClean, MakesNoneBad};
 ghost use Rattle.vc_session.specs.Quarantine.{quarantine_folder};
 
@@ -31,7 +27,7 @@ fn keep_arrived<F: Files>(
 ) -> Result<Option<ObjectFault>, Fault>
     ensures good { IfOk result (λ found. IfNone found (is_object (stored object.now) ≡ true)) }
     ensures bad_body { IfOk result (λ found. IfSome found (λ fault. (is_object (stored object.now) ≡ false) × BodyFault object.now.kind object.now.body.items fault)) }
-    ensures brought { F.honest → IfOk result (λ found. IfNone found ((before : List StoredObject) → HoldsArrived (F.content files.old) slot names.old.keys before → HoldsArrived (F.content files.new) slot names.new.keys (before ++ stored object.now ∷ []))) }
+    ensures brought { F.honest → IfOk result (λ found. IfNone found (HoldsMore (stored object.now) slot (F.content files.old) names.old.keys (F.content files.new) names.new.keys)) }
     ensures outside { F.honest → SameOutside (quarantine_folder slot) (F.content files.old) (F.content files.new) }
     ensures bad { F.honest → MakesNoneBad (F.content files.old) (F.content files.new) }
     ensures wear { Writes F.honest F.content F.failed F.can_fail F.left files.old files.new (IsErrOf result Fault.Device) }
@@ -89,7 +85,7 @@ impl Arriving {
         ensures slot { self.new.slot ≡ self.old.slot }
         ensures good { OnOk result (self.old.fault ≡ None → IfNone self.new.fault (is_object (stored object.now) ≡ true)) }
         ensures wrong { OnOk result (self.old.fault ≡ None → IfSome self.new.fault (λ fault. is_object (stored object.now) ≡ false)) }
-        ensures brought { F.honest → OnOk result ((carried : Carried) → HasArrived (F.content files.old) self.old.slot self.old.names.keys self.old.fault carried → HasArrived (F.content files.new) self.new.slot self.new.names.keys self.new.fault (carry (stored object.now) carried)) }
+        ensures brought { F.honest → OnOk result (TakesObject (stored object.now) (F.content files.old) self.old (F.content files.new) self.new) }
         ensures outside { F.honest → SameOutside (quarantine_folder self.old.slot) (F.content files.old) (F.content files.new) }
         ensures bad { F.honest → MakesNoneBad (F.content files.old) (F.content files.new) }
         ensures wear { Writes F.honest F.content F.failed F.can_fail F.left files.old files.new (IsErrOf result Fault.Device) }

@@ -1,18 +1,14 @@
 //! The check of all commands of a push.
 ghost use Rattle.std.specs.Prelude.{◌≡◌, Some, None, true, false, ⊤, length, slice_get, take, count_by, IfOk, IfErr, IfSome, IfNone, IsErrOf};
 ghost use Rattle.std.specs.List.{list_any};
-ghost use Rattle.vc_history.specs.Generation.{Agrees};
-ghost use Rattle.vc_history.specs.Numbering.{numbers};
 ghost use Rattle.vc_history.specs.Stored.{AgreesIn};
 ghost use Rattle.vc_files.specs.Failures.{Wears};
 ghost use Rattle.vc_graph.specs.GraphFault.{IsMet};
-ghost use Rattle.vc_object.specs.ObjectMap.{parents_in};
 ghost use Rattle.vc_push.specs.PushView.{command_of, commands_of};
-ghost use Rattle.vc_session.specs.Known.{AreRefsWhole, AreWhole};
-ghost use Rattle.vc_session.specs.Quarantine.{objects_seen};
+ghost use Rattle.vc_session.specs.Judged.{ChecksEach, ChecksOne, ChecksPush, WhereNumbered};
+ghost use Rattle.vc_session.specs.Known.{AreWhole};
 ghost use Rattle.vc_session.specs.Session.{MayBeSetWhere, is_passing};
 ghost use Rattle.vc_session.specs.SessionFault.{IsRefusedCheck};
-ghost use Rattle.vc_session.specs.Steps.{Checks, ChecksAll};
 ghost use Rattle.vc_session.specs.Verdict.{MayBeSet};
 
 use crate::fault::SessionFault;
@@ -35,11 +31,11 @@ fn checked<C: Commits>(
     verdict: Verdict,
     generations: &Generations,
 ) -> Result<Verdict, StoreFault>
-    ensures checks { IfOk result (λ after. C.is_honest → Agrees (parents_in (C.objects (C.state_of commits.old))) (numbers generations.now) → AreWhole (C.objects (C.state_of commits.old)) known.old → Checks (C.objects (C.state_of commits.old)) (command_of command.now) verdict after) }
+    ensures checks { IfOk result (λ after. ChecksOne C.is_honest (C.objects (C.state_of commits.old)) generations.now known.old (command_of command.now) verdict after) }
     ensures legal { IfOk result (λ after. verdict ≡ Verdict.Passing → is_passing after ≡ true → MayBeSet command.now.name.items) }
     ensures settled { IfOk result (λ after. is_passing verdict ≡ false → after ≡ verdict) }
     ensures known { C.is_honest → AreWhole (C.objects (C.state_of commits.old)) known.old → AreWhole (C.objects (C.state_of commits.old)) known.new }
-    ensures refused { IfErr result (λ e. C.is_honest → Agrees (parents_in (C.objects (C.state_of commits.old))) (numbers generations.now) → IsMet (λ id. ⊤) (C.damaged (C.state_of commits.old)) e) }
+    ensures refused { IfErr result (λ e. WhereNumbered C.is_honest (C.objects (C.state_of commits.old)) generations.now (IsMet (λ id. ⊤) (C.damaged (C.state_of commits.old)) e)) }
     ensures kept { C.state_of commits.new ≡ C.state_of commits.old }
     ensures wear { Wears C.failed C.can_fail C.left commits.old commits.new (IsErrOf result (StoreFault.Fault Fault.Device)) }
 {
@@ -67,10 +63,10 @@ fn check_all<C: Commits>(
     generations: &Generations,
 ) -> Result<Vec<Verdict>, StoreFault>
     requires paired { length verdicts.now ≡ length commands.now }
-    ensures checks { IfOk result (λ after. C.is_honest → Agrees (parents_in (C.objects (C.state_of commits.old))) (numbers generations.now) → AreWhole (C.objects (C.state_of commits.old)) known.old → ChecksAll (C.objects (C.state_of commits.old)) (commands_of commands.now) verdicts.now after.items) }
+    ensures checks { IfOk result (λ after. ChecksEach C.is_honest (C.objects (C.state_of commits.old)) generations.now known.old (commands_of commands.now) verdicts.now after.items) }
     ensures legal { IfOk result (λ after. MayBeSetWhere (commands_of commands.now) after.items) }
     ensures paired { IfOk result (λ after. length after.items ≡ length commands.now) }
-    ensures refused { IfErr result (λ e. C.is_honest → Agrees (parents_in (C.objects (C.state_of commits.old))) (numbers generations.now) → IsMet (λ id. ⊤) (C.damaged (C.state_of commits.old)) e) }
+    ensures refused { IfErr result (λ e. WhereNumbered C.is_honest (C.objects (C.state_of commits.old)) generations.now (IsMet (λ id. ⊤) (C.damaged (C.state_of commits.old)) e)) }
     ensures kept { C.state_of commits.new ≡ C.state_of commits.old }
     ensures wear { Wears C.failed C.can_fail C.left commits.old commits.new (IsErrOf result (StoreFault.Fault Fault.Device)) }
 {
@@ -100,7 +96,7 @@ pub(crate) fn check_in_files<F: Files>(
     generations: &Generations,
 ) -> Result<Vec<Verdict>, SessionFault>
     requires paired { length verdicts.now ≡ length commands.now }
-    ensures checks { F.honest → AgreesIn (F.content files.old) generations.now → AreRefsWhole (F.content files.old) → IfOk result (λ after. ChecksAll (objects_seen (F.content files.old) slot) (commands_of commands.now) verdicts.now after.items) }
+    ensures checks { ChecksPush F.honest (F.content files.old) generations.now slot (commands_of commands.now) verdicts.now result }
     ensures legal { IfOk result (λ after. MayBeSetWhere (commands_of commands.now) after.items) }
     ensures paired { IfOk result (λ after. length after.items ≡ length commands.now) }
     ensures refused { F.honest → AgreesIn (F.content files.old) generations.now → IfErr result (IsRefusedCheck (F.content files.old) slot) }

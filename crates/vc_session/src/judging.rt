@@ -1,22 +1,20 @@
 //! The verdict on one command at the check.
-ghost use Rattle.std.specs.Prelude.{◌≡◌, ◌⊎◌, ◌∷◌, [], true, None, IfOk, IfErr, IsErrOf};
-ghost use Rattle.vc_history.specs.Generation.{Agrees};
-ghost use Rattle.vc_history.specs.Numbering.{numbers};
+ghost use Rattle.std.specs.Prelude.{◌≡◌, true, None, IfOk, IfErr, IsErrOf};
 ghost use Rattle.vc_files.specs.Failures.{Wears};
 ghost use Rattle.vc_format.specs.Git.{git_is_legal};
-ghost use Rattle.vc_graph.specs.Graph.{IsClosed, IsClosedUnder, ReachedFrom};
-ghost use Rattle.vc_graph.specs.GraphFault.{IsMet};
-ghost use Rattle.vc_object.specs.ObjectMap.{links_in, parents_in};
+ghost use Rattle.vc_graph.specs.Graph.{IsClosedUnder};
+ghost use Rattle.vc_object.specs.ObjectMap.{parents_in};
 ghost use Rattle.vc_push.specs.PushView.{command_of};
+ghost use Rattle.vc_session.specs.Judged.{Judges, JudgesHistory, MeetsBelow, MeetsInHistory};
 ghost use Rattle.vc_session.specs.Known.{AreWhole};
-ghost use Rattle.vc_session.specs.Verdict.{CheckNeeds, IsVerdict, IsVerdictAtCheck, MayBeSet, history_reasons, is_branch, is_inside, own_reason};
+ghost use Rattle.vc_session.specs.Verdict.{MayBeSet, is_branch, is_inside, own_reason};
 
 use crate::known::Known;
 use indexmap::IndexSet;
 use std::alloc::Global;
 use vc_files::Fault;
 use vc_graph::is_complete_beyond;
-use vc_history::{BaseFault, Commits, Generations, is_ancestor, is_history_beyond};
+use vc_history::{Commits, Generations, HistoryFault, is_ancestor, is_history_beyond};
 use vc_object::ObjectId;
 use vc_push::{Command, Reason};
 use vc_refname::RefName;
@@ -76,9 +74,9 @@ fn history_reason<C: Commits>(
     command: &Command,
     generations: &Generations,
 ) -> Result<Option<Reason>, StoreFault>
-    ensures verdict { IfOk result (λ found. C.is_honest → Agrees (parents_in (C.objects (C.state_of commits.old))) (numbers generations.now) → IsClosedUnder (parents_in (C.objects (C.state_of commits.old))) histories.old.keys → IsVerdict (CheckNeeds (C.objects (C.state_of commits.old)) (command_of command.now)) history_reasons found) }
+    ensures verdict { IfOk result (λ found. JudgesHistory C.is_honest (C.objects (C.state_of commits.old)) generations.now histories.old.keys (command_of command.now) found) }
     ensures known { C.is_honest → IsClosedUnder (parents_in (C.objects (C.state_of commits.old))) histories.old.keys → IsClosedUnder (parents_in (C.objects (C.state_of commits.old))) histories.new.keys }
-    ensures refused { IfErr result (λ e. C.is_honest → Agrees (parents_in (C.objects (C.state_of commits.old))) (numbers generations.now) → IsMet (ReachedFrom (parents_in (C.objects (C.state_of commits.old))) (command.now.new ∷ [])) (C.damaged (C.state_of commits.old)) e) }
+    ensures refused { IfErr result (λ e. MeetsInHistory C.is_honest (C.objects (C.state_of commits.old)) (C.damaged (C.state_of commits.old)) generations.now command.now.new e) }
     ensures kept { C.state_of commits.new ≡ C.state_of commits.old }
     ensures wear { Wears C.failed C.can_fail C.left commits.old commits.new (IsErrOf result (StoreFault.Fault Fault.Device)) }
 {
@@ -95,9 +93,9 @@ fn history_reason<C: Commits>(
         Ok(true) => Ok(None),
         Ok(false) => Ok(Some(Reason::NonFastForward)),
         // Its history was just read, and is whole.
-        Err(BaseFault::Missing(_)) => Ok(Some(Reason::NotACommit)),
-        Err(BaseFault::NotACommit(_)) => Ok(Some(Reason::NotACommit)),
-        Err(BaseFault::Store(fault)) => Err(fault),
+        Err(HistoryFault::Missing(_)) => Ok(Some(Reason::NotACommit)),
+        Err(HistoryFault::NotACommit(_)) => Ok(Some(Reason::NotACommit)),
+        Err(HistoryFault::Store(fault)) => Err(fault),
     }
 }
 
@@ -113,11 +111,10 @@ pub fn judge<C: Commits>(
     command: &Command,
     generations: &Generations,
 ) -> Result<Option<Reason>, StoreFault>
-    ensures verdict { IfOk result (λ found. C.is_honest → Agrees (parents_in (C.objects (C.state_of commits.old))) (numbers generations.now) → AreWhole (C.objects (C.state_of commits.old)) known.old → IsVerdictAtCheck (C.objects (C.state_of commits.old)) (command_of command.now) found) }
+    ensures verdict { IfOk result (λ found. Judges C.is_honest (C.objects (C.state_of commits.old)) generations.now known.old (command_of command.now) found) }
     ensures legal { IfOk result (λ found. found ≡ None → MayBeSet command.now.name.items) }
     ensures known { C.is_honest → AreWhole (C.objects (C.state_of commits.old)) known.old → AreWhole (C.objects (C.state_of commits.old)) known.new }
-    ensures refused { IfErr result (λ e. C.is_honest → Agrees (parents_in (C.objects (C.state_of commits.old))) (numbers generations.now) → IsMet (λ id. ReachedFrom (links_in (C.objects (C.state_of commits.old))) (command.now.new ∷ []) id ⊎ ReachedFrom (parents_in (C.objects (C.state_of commits.old))) (command.now.new ∷ []) id) (C.damaged (C.state_of commits.old)) e) }
-
+    ensures refused { IfErr result (λ e. MeetsBelow C.is_honest (C.objects (C.state_of commits.old)) (C.damaged (C.state_of commits.old)) generations.now command.now.new e) }
     ensures kept { C.state_of commits.new ≡ C.state_of commits.old }
     ensures wear { Wears C.failed C.can_fail C.left commits.old commits.new (IsErrOf result (StoreFault.Fault Fault.Device)) }
 {

@@ -8,7 +8,7 @@ ghost use Rattle.vc_session.specs.Learning.{IsLearnt, tip_of, tips_of};
 use crate::stage::Verdict;
 use std::alloc::{AllocError, Global};
 use vc_files::{Fault, Files};
-use vc_history::{BaseFault, Generations};
+use vc_history::{Generations, HistoryFault};
 use vc_object::ObjectId;
 use vc_push::{Command, Reason};
 use vc_store::{Store, StoreFault};
@@ -31,9 +31,9 @@ fn learn_history<F: Files>(
         return Ok(());
     };
     match told {
-        BaseFault::Missing(_) => Ok(()),
-        BaseFault::NotACommit(_) => Ok(()),
-        BaseFault::Store(fault) => match fault {
+        HistoryFault::Missing(_) => Ok(()),
+        HistoryFault::NotACommit(_) => Ok(()),
+        HistoryFault::Store(fault) => match fault {
             StoreFault::Fault(fault) => Err(fault),
             StoreFault::BadObject(_) => Ok(()),
             StoreFault::Absent(_) => Ok(()),

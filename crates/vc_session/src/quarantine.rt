@@ -1,15 +1,14 @@
 //! The quarantine: where what an open push carries stands until it is stored.
-ghost use Rattle.std.specs.Prelude.{◌≡◌, ◌⊎◌, IfOk, IfErr, IfSome, OnOk, OnErr, IsErrAnd, IsErrOf, option_map, string_bytes, if◌then◌else◌, Some, true};
+ghost use Rattle.std.specs.Prelude.{◌≡◌, ◌⊎◌, IfOk, IfErr, IfSome, OnOk, OnErr, IsErrAnd, IsErrOf, option_map, string_bytes, true};
 ghost use Rattle.std.specs.FinMap.{insert};
 ghost use Rattle.vc_files.specs.FileMap.{SameOutside};
 ghost use Rattle.vc_files.specs.Failures.{Wears, Writes};
 ghost use Rattle.vc_object.specs.Decoding.{stored_object};
 ghost use Rattle.vc_object.specs.Object.{object_bytes, object_name};
-ghost use Rattle.vc_object.specs.ObjectId.{id_eq, is_id};
-ghost use Rattle.vc_object.specs.declared.id.ObjectId.{ObjectId as Id};
+ghost use Rattle.vc_object.specs.ObjectId.{is_id};
 ghost use Rattle.vc_store.specs.StoreFault.{IsFault, IsRefused};
 ghost use Rattle.vc_session.specs.Clean.{MakesNoneBad};
-ghost use Rattle.vc_session.specs.Quarantine.{IsDamagedThere, IsDropped, OnlyLoses, quarantine_folder, quarantine_path, quarantined};
+ghost use Rattle.vc_session.specs.Quarantine.{IsDamagedThere, IsDropped, OnlyLoses, Quarantines, quarantine_folder, quarantine_path, quarantined};
 
 use std::alloc::{AllocError, Global};
 use vc_files::{Fault, Files};
@@ -87,7 +86,7 @@ pub(crate) fn put_named<F: Files>(
     requires named { id.now ≡ object_name object.now.kind object.now.body.now }
     requires valid { is_id id.now ≡ true }
     ensures ok { F.honest → OnOk result (F.content files.new ≡ insert (F.content files.old) (quarantine_path slot id.now.0) (object_bytes object.now.kind object.now.body.now)) }
-    ensures objects { F.honest → OnOk result ((q : Id) → quarantined (F.content files.new) slot q ≡ (if id_eq q id.now then Some (stored_object object.now.kind object.now.body.now) else quarantined (F.content files.old) slot q)) }
+    ensures objects { F.honest → OnOk result (Quarantines slot id.now (stored_object object.now.kind object.now.body.now) (F.content files.old) (F.content files.new)) }
     ensures outside { F.honest → SameOutside (quarantine_folder slot) (F.content files.old) (F.content files.new) }
     ensures err { F.honest → OnErr result (F.content files.new ≡ F.content files.old) }
     ensures bad { F.honest → MakesNoneBad (F.content files.old) (F.content files.new) }
@@ -107,7 +106,7 @@ pub fn put_in_quarantine<F: Files>(
 ) -> Result<ObjectId, Fault>
     ensures name { IfOk result (λ id. id ≡ object_name object.now.kind object.now.body.now) }
     ensures ok { F.honest → IfOk result (λ id. F.content files.new ≡ insert (F.content files.old) (quarantine_path slot id.0) (object_bytes object.now.kind object.now.body.now)) }
-    ensures objects { F.honest → IfOk result (λ id. (q : Id) → quarantined (F.content files.new) slot q ≡ (if id_eq q id then Some (stored_object object.now.kind object.now.body.now) else quarantined (F.content files.old) slot q)) }
+    ensures objects { F.honest → IfOk result (λ id. Quarantines slot id (stored_object object.now.kind object.now.body.now) (F.content files.old) (F.content files.new)) }
     ensures outside { F.honest → SameOutside (quarantine_folder slot) (F.content files.old) (F.content files.new) }
     ensures err { F.honest → OnErr result (F.content files.new ≡ F.content files.old) }
     ensures bad { F.honest → MakesNoneBad (F.content files.old) (F.content files.new) }

@@ -1,5 +1,5 @@
 //! What a push is told at its end.
-ghost use Rattle.std.specs.Prelude.{◌≡◌, false, length, map, IfOk, option_map};
+ghost use Rattle.std.specs.Prelude.{◌≡◌, false, length, IfOk, option_map};
 ghost use Rattle.std.specs.List.{list_any};
 ghost use Rattle.vc_push.specs.PushView.{command_of, commands_of};
 ghost use Rattle.vc_push.specs.ReportView.{report_text, told_of};

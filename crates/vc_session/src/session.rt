@@ -1,19 +1,19 @@
 //! One open push.
 ghost use Rattle.std.specs.Prelude.{◌≡◌, ◌⊎◌, ◌<◌, Option, length, slice_set, IfOk, IfErr, OnErr, OnOk, IsErrOf};
-ghost use Rattle.vc_history.specs.Stored.{AgreesIn, KeepsAgreement};
+ghost use Rattle.vc_history.specs.Stored.{AgreesIn};
 ghost use Rattle.vc_files.specs.FileMap.{FileMap, SameOutside};
 ghost use Rattle.vc_files.specs.Failures.{Wears, Writes};
 ghost use Rattle.vc_object.specs.declared.fault.ObjectFault.{ObjectFault as Refusal};
 ghost use Rattle.vc_push.specs.Push.{Carried, FaultOf};
 ghost use Rattle.vc_push.specs.PushView.{commands_of, push_text};
-ghost use Rattle.vc_session.specs.Arrival.{HasArrived};
+ghost use Rattle.vc_session.specs.Arrival.{HasCome};
 ghost use Rattle.vc_session.specs.Carrying.{Carries, HoldsNames, objects_of_push};
 ghost use Rattle.vc_session.specs.Clean.{IsQuarantineClean, MakesNoneBad};
-ghost use Rattle.vc_session.specs.Learning.{LearnsAt};
+ghost use Rattle.vc_session.specs.Learning.{Learns};
 ghost use Rattle.vc_session.specs.Quarantine.{quarantine_folder};
 ghost use Rattle.vc_session.specs.Session.{IsSession, stage_while};
 ghost use Rattle.vc_session.specs.SessionFault.{IsRefusedStep};
-ghost use Rattle.vc_session.specs.Steps.{EndsEarly, IsOpened, MayWrite, Steps, TellsReport};
+ghost use Rattle.vc_session.specs.Steps.{EndsEarly, IsOpened, MayWrite, SparesFiles, Steps, StepsHeld, TakesStep, TellsReport};
 
 use crate::arrival::Arriving;
 use crate::checking::{check_in_files, count_passing, next_passing};
@@ -123,8 +123,8 @@ impl PushSession {
         commands: Vec<Command>,
     ) -> Result<PushSession, AllocError>
         ensures opened { IfOk result (IsOpened arriving.slot arriving.fault (commands_of commands.items)) }
-        ensures fault { (content : FileMap) (carried : Carried) → HasArrived content arriving.slot arriving.names.keys arriving.fault carried → FaultOf carried arriving.fault }
-        ensures carried { IfOk result (λ s. (content : FileMap) (carried : Carried) → HasArrived content arriving.slot arriving.names.keys arriving.fault carried → Carries content arriving.slot s.names (objects_of_push carried)) }
+        ensures fault { (content : FileMap) (carried : Carried) → HasCome content arriving carried → FaultOf carried arriving.fault }
+        ensures carried { IfOk result (λ s. (content : FileMap) (carried : Carried) → HasCome content arriving carried → Carries content arriving.slot s.names (objects_of_push carried)) }
         ensures session { IfOk result IsSession }
     {
         let Arriving { slot, names, fault } = arriving;
@@ -149,14 +149,10 @@ impl PushSession {
     ) -> Result<Stepped, SessionFault>
         requires stage { self.old.stage ≡ Stage.Unpacked }
         ensures steps { F.honest → AgreesIn (F.content files.old) generations.now → IfOk result (Steps (F.content files.old) (F.content files.new) self.old self.new) }
-        ensures session { IsSession self.new }
-        ensures unchanged { OnErr result (self.new ≡ self.old) }
-        ensures commands { self.new.commands ≡ self.old.commands }
-        ensures told { IfOk result (TellsReport self.old) }
+        ensures takes { TakesStep self.old self.new result }
         ensures same { F.content files.new ≡ F.content files.old }
         ensures refused { F.honest → AgreesIn (F.content files.old) generations.now → IfErr result (IsRefusedStep (F.content files.old) self.old Stage.Unpacked) }
-        ensures agrees { F.honest → KeepsAgreement (F.content files.old) (F.content files.new) }
-        ensures bad { F.honest → MakesNoneBad (F.content files.old) (F.content files.new) }
+        ensures spares { SparesFiles F.honest F.content files.old files.new }
         ensures wear { Wears F.failed F.can_fail F.left files.old files.new (IsErrOf result (SessionFault.Fault Fault.Device)) }
     {
         let verdicts = check_in_files(
@@ -177,14 +173,10 @@ impl PushSession {
     fn migrate<F: Files>(&mut self, files: &mut F, alloc: Global) -> Result<Stepped, SessionFault>
         requires stage { self.old.stage ≡ Stage.Checked }
         ensures steps { F.honest → HoldsNames (F.content files.old) self.old.slot self.old.names → IfOk result (Steps (F.content files.old) (F.content files.new) self.old self.new) }
-        ensures session { IsSession self.new }
-        ensures unchanged { OnErr result (self.new ≡ self.old) }
-        ensures commands { self.new.commands ≡ self.old.commands }
-        ensures told { IfOk result (TellsReport self.old) }
+        ensures takes { TakesStep self.old self.new result }
         ensures early { F.honest → OnErr result (EndsEarly (F.content files.old) (F.content files.new) self.old Stage.Checked) }
         ensures refused { F.honest → IfErr result (IsRefusedStep (F.content files.old) self.old Stage.Checked) }
-        ensures agrees { F.honest → KeepsAgreement (F.content files.old) (F.content files.new) }
-        ensures bad { F.honest → MakesNoneBad (F.content files.old) (F.content files.new) }
+        ensures spares { SparesFiles F.honest F.content files.old files.new }
         ensures wear { Writes F.honest F.content F.failed F.can_fail F.left files.old files.new (IsErrOf result (SessionFault.Fault Fault.Device)) }
         ensures looks { MayWrite (F.content files.old) self.old Stage.Checked ⊎ Wears F.failed F.can_fail F.left files.old files.new (IsErrOf result (SessionFault.Fault Fault.Device)) }
     {
@@ -198,14 +190,10 @@ impl PushSession {
     fn update<F: Files>(&mut self, files: &mut F, alloc: Global) -> Result<Stepped, SessionFault>
         requires stage { self.old.stage ≡ Stage.Migrated }
         ensures steps { F.honest → IfOk result (Steps (F.content files.old) (F.content files.new) self.old self.new) }
-        ensures session { IsSession self.new }
-        ensures unchanged { OnErr result (self.new ≡ self.old) }
-        ensures commands { self.new.commands ≡ self.old.commands }
-        ensures told { IfOk result (TellsReport self.old) }
+        ensures takes { TakesStep self.old self.new result }
         ensures err { F.honest → OnErr result (F.content files.new ≡ F.content files.old) }
         ensures refused { F.honest → IfErr result (IsRefusedStep (F.content files.old) self.old Stage.Migrated) }
-        ensures agrees { F.honest → KeepsAgreement (F.content files.old) (F.content files.new) }
-        ensures bad { F.honest → MakesNoneBad (F.content files.old) (F.content files.new) }
+        ensures spares { SparesFiles F.honest F.content files.old files.new }
         ensures wear { Writes F.honest F.content F.failed F.can_fail F.left files.old files.new (IsErrOf result (SessionFault.Fault Fault.Device)) }
         ensures looks { F.honest → MayWrite (F.content files.old) self.old Stage.Migrated ⊎ Wears F.failed F.can_fail F.left files.old files.new (IsErrOf result (SessionFault.Fault Fault.Device)) }
     {
@@ -230,8 +218,7 @@ impl PushSession {
         ensures told { IfOk result (TellsReport self.now) }
         ensures early { F.honest → OnErr result (EndsEarly (F.content files.old) (F.content files.new) self.now Stage.Done) }
         ensures refused { F.honest → IfErr result (IsRefusedStep (F.content files.old) self.now Stage.Done) }
-        ensures agrees { F.honest → KeepsAgreement (F.content files.old) (F.content files.new) }
-        ensures bad { F.honest → MakesNoneBad (F.content files.old) (F.content files.new) }
+        ensures spares { SparesFiles F.honest F.content files.old files.new }
         ensures wear { Writes F.honest F.content F.failed F.can_fail F.left files.old files.new (IsErrOf result (SessionFault.Fault Fault.Device)) }
     {
         let report = report(alloc, self.fault, &self.commands, &self.verdicts)?;
@@ -252,7 +239,7 @@ impl PushSession {
         generations: &mut Generations,
     ) -> Result<(), Fault>
         ensures agrees { F.honest → AgreesIn (F.content files.old) generations.old → AgreesIn (F.content files.old) generations.new }
-        ensures learnt { F.honest → AgreesIn (F.content files.old) generations.old → OnOk result (LearnsAt (F.content files.old) self.now due.old.items due.new.items generations.old generations.new self.now.stage) }
+        ensures learnt { F.honest → AgreesIn (F.content files.old) generations.old → OnOk result (Learns (F.content files.old) self.now due.old.items due.new.items generations.old generations.new) }
         ensures same { F.content files.new ≡ F.content files.old }
         ensures wear { Wears F.failed F.can_fail F.left files.old files.new (IsErrOf result Fault.Device) }
     {
@@ -280,15 +267,11 @@ impl PushSession {
         alloc: Global,
         generations: &Generations,
     ) -> Result<Stepped, SessionFault>
-        ensures steps { F.honest → AgreesIn (F.content files.old) generations.now → HoldsNames (F.content files.old) self.old.slot self.old.names → IfOk result (Steps (F.content files.old) (F.content files.new) self.old self.new) }
-        ensures session { IsSession self.new }
-        ensures unchanged { OnErr result (self.new ≡ self.old) }
-        ensures commands { self.new.commands ≡ self.old.commands }
-        ensures told { IfOk result (TellsReport self.old) }
+        ensures steps { StepsHeld F.honest (F.content files.old) (F.content files.new) generations.now self.old self.new result }
+        ensures takes { TakesStep self.old self.new result }
         ensures early { F.honest → OnErr result (EndsEarly (F.content files.old) (F.content files.new) self.old self.old.stage) }
         ensures refused { F.honest → AgreesIn (F.content files.old) generations.now → IfErr result (IsRefusedStep (F.content files.old) self.old self.old.stage) }
-        ensures agrees { F.honest → KeepsAgreement (F.content files.old) (F.content files.new) }
-        ensures bad { F.honest → MakesNoneBad (F.content files.old) (F.content files.new) }
+        ensures spares { SparesFiles F.honest F.content files.old files.new }
         ensures wear { Writes F.honest F.content F.failed F.can_fail F.left files.old files.new (IsErrOf result (SessionFault.Fault Fault.Device)) }
         ensures looks { F.honest → MayWrite (F.content files.old) self.old self.old.stage ⊎ Wears F.failed F.can_fail F.left files.old files.new (IsErrOf result (SessionFault.Fault Fault.Device)) }
     {

@@ -1,19 +1,17 @@
 //! The update of one command: its ref is judged at that moment, and set.
-ghost use Rattle.std.specs.Prelude.{◌≡◌, ◌⊎◌, ◌&&◌, None, Some, is_some, if◌then◌else◌, IfOk, IfErr, OnErr, IsErrOf};
+ghost use Rattle.std.specs.Prelude.{◌≡◌, ◌⊎◌, ◌&&◌, None, Some, is_some, if◌then◌else◌, IfOk, IfErr};
 ghost use Rattle.std.specs.Str.{is_utf8};
 ghost use Rattle.vc_files.specs.Failures.{Wears, Writes};
 ghost use Rattle.vc_push.specs.PushView.{command_of};
 ghost use Rattle.vc_refname.specs.RefName.{is_ref_name};
-ghost use Rattle.vc_refs.specs.Head.{KeepsTheRest};
-ghost use Rattle.vc_refs.specs.RefFault.{BlamesRef, MaySet};
+ghost use Rattle.vc_refs.specs.RefFault.{BlamesRef, MaySet, TellsDevice};
 ghost use Rattle.vc_refs.specs.RefMap.{IsInRefs};
 ghost use Rattle.vc_refs.specs.Refs.{refs};
-ghost use Rattle.vc_session.specs.Clean.{MakesNoneBad};
-ghost use Rattle.vc_session.specs.Updating.{BlamesUpdate, reason_of};
-ghost use Rattle.vc_session.specs.Verdict.{IsVerdictAtUpdate, MayBeSet, expected, is_tag, refs_after};
+ghost use Rattle.vc_session.specs.Updating.{BlamesUpdate, PassesUpdate, UpdatesRef, reason_of};
+ghost use Rattle.vc_session.specs.Verdict.{IsVerdictAtUpdate, MayBeSet, expected, is_tag};
 
 use std::alloc::{AllocError, Global};
-use vc_files::{Fault, Files};
+use vc_files::Files;
 use vc_object::ObjectId;
 use vc_push::{Command, Reason};
 use vc_refname::{NewNameError, RefName};
@@ -49,7 +47,7 @@ fn is_standing_tag<F: Files>(files: &mut F, alloc: Global, name: &RefName) -> Re
     ensures standing { F.honest → IfOk result (λ yes. yes ≡ (is_tag name.now && is_some (refs (F.content files.old) name.now))) }
     ensures refused { F.honest → IfErr result (BlamesRef (F.content files.old) name.now) }
     ensures same { F.content files.new ≡ F.content files.old }
-    ensures wear { Wears F.failed F.can_fail F.left files.old files.new (IsErrOf result (RefFault.Fault Fault.Device)) }
+    ensures wear { Wears F.failed F.can_fail F.left files.old files.new (TellsDevice result) }
 {
     if !name.is_tag() {
         return Ok(false);
@@ -80,14 +78,11 @@ pub fn update<F: Files>(
     command: &Command,
 ) -> Result<Option<Reason>, RefFault>
     ensures verdict { F.honest → MayBeSet command.now.name.items → IfOk result (IsVerdictAtUpdate (refs (F.content files.old)) (command_of command.now)) }
-    ensures set { F.honest → IfOk result (λ found. refs (F.content files.new) ≡ refs_after (refs (F.content files.old)) (command_of command.now) found) }
+    ensures updates { UpdatesRef F.honest F.content (command_of command.now) files.old files.new result }
     ensures allowed { F.honest → IfOk result (λ found. found ≡ None → MaySet (F.content files.old) command.now.name.items (expected command.now.old)) }
     ensures refused { F.honest → IfErr result (BlamesUpdate (F.content files.old) command.now.name.items) }
-    ensures rest { F.honest → KeepsTheRest command.now.name.items (F.content files.old) (F.content files.new) }
-    ensures err { F.honest → OnErr result (F.content files.new ≡ F.content files.old) }
-    ensures bad { F.honest → MakesNoneBad (F.content files.old) (F.content files.new) }
-    ensures wear { Writes F.honest F.content F.failed F.can_fail F.left files.old files.new (IsErrOf result (RefFault.Fault Fault.Device)) }
-    ensures looks { F.honest → MayBeSet command.now.name.items → IsVerdictAtUpdate (refs (F.content files.old)) (command_of command.now) None ⊎ Wears F.failed F.can_fail F.left files.old files.new (IsErrOf result (RefFault.Fault Fault.Device)) }
+    ensures wear { Writes F.honest F.content F.failed F.can_fail F.left files.old files.new (TellsDevice result) }
+    ensures looks { F.honest → MayBeSet command.now.name.items → PassesUpdate (F.content files.old) (command_of command.now) ⊎ Wears F.failed F.can_fail F.left files.old files.new (TellsDevice result) }
 {
     let Some(name) = ref_named(alloc, &command.name)? else {
         return Ok(Some(Reason::BadName));

@@ -3,7 +3,7 @@ use Rattle.std.proofs.Common.{◌≡◌, ◌≢◌, ℕ, Bool, true, List, Vec, 
 use Rattle.std.specs.Global.{Global}
 use Rattle.std.specs.Prelude.{IfErr, IfOk, IsErrAnd, OnErr}
 use Rattle.vc_fetch.specs.Want.{WantText}
-use Rattle.vc_files.specs.Failures.{Wears, Writes}
+use Rattle.vc_files.specs.Failures.{Wears}
 use Rattle.vc_files.specs.FileMap.{FileMap}
 use Rattle.vc_files.specs.declared.faults.Fault.{Fault as FilesFault}
 use Rattle.vc_files.specs.declared.faults.Fault.TheVariants.{Memory}
@@ -19,6 +19,7 @@ use Rattle.vc_model.specs.Shared.{ServesNot, SharedNode}
 use Rattle.vc_model.specs.SharedCall.{SharedCall}
 use Rattle.vc_model.specs.SharedCall.SharedCall.{Accept, Asks, Open}
 use Rattle.vc_node.specs.Machine.{failure_of}
+use Rattle.vc_node.specs.Told.{Quietly}
 use Rattle.vc_pkt.specs.Message.{FirstFault, IsSpelledBy, Refuses}
 use Rattle.vc_pkt.specs.StepView.{Gives}
 use Rattle.vc_pkt.specs.declared.fault.PktError.{PktError}
@@ -33,7 +34,6 @@ use Rattle.vc_shared.proofs.PushingLemmas.{push_answers}
 use Rattle.vc_shared.proofs.ServingLaws.{list_answers, want_answers}
 use Rattle.vc_shared.proofs.SteppingLaws.{held_still, pushes_of}
 use Rattle.vc_shared.specs.Accepting.{AnswersUp, IsRefusedBytes, IsRefusedMessage}
-use Rattle.vc_shared.specs.Calls.{Quietly}
 use Rattle.vc_shared.specs.Faults.{IsOfDevice, TellsDevice, of_device, of_pkt, up_after}
 use Rattle.vc_shared.specs.Holding.{HoldsShared}
 use Rattle.vc_shared.specs.Pushing.{ChangesFree, IsRefusedPush, OpensSlot, slot_reply}
@@ -129,10 +129,6 @@ module _ (m : Message) (old new : FileMap) (slots after : List (Option SessionTe
 
 -- ---- why it is refused, and what the device did, told in other words
 module _ (P : SharedFault → Type 0) where
-  pub reply_refused : (r : Result (Vec ℕ Global) SharedFault) (result : Result Accepted SharedFault) → result ≡ reply_of r → IfErr r P → IfErr result P
-  reply_refused (Ok bytes) result is h = subst (λ (q : Result Accepted SharedFault). IfErr q P) (sym is) tt
-  reply_refused (Err e) result is h = subst (λ (q : Result Accepted SharedFault). IfErr q P) (sym is) h
-
   pub slot_refused : (r : Result ℕ SharedFault) (result : Result Accepted SharedFault) → result ≡ slot_reply r → IfErr r P → IfErr result P
   slot_refused (Ok k) result is h = subst (λ (q : Result Accepted SharedFault). IfErr q P) (sym is) tt
   slot_refused (Err e) result is h = subst (λ (q : Result Accepted SharedFault). IfErr q P) (sym is) h
@@ -141,21 +137,10 @@ reply_device : (r : Result (Vec ℕ Global) SharedFault) → TellsDevice (reply_
 reply_device (Ok bytes) = refl
 reply_device (Err e) = refl
 
-slot_device : (r : Result ℕ SharedFault) → TellsDevice (slot_reply r) ≡ TellsDevice r
-slot_device (Ok k) = refl
-slot_device (Err e) = refl
-
 module _ {D : Type 0} {failed : D → ℕ} {can_fail : D → Type 0} {left : D → Option ℕ} {old new : D} where
   pub reply_wears : (r : Result (Vec ℕ Global) SharedFault) (result : Result Accepted SharedFault) → result ≡ reply_of r → Wears failed can_fail left old new (TellsDevice r) → Wears failed can_fail left old new (TellsDevice result)
   reply_wears r result is w =
       subst (λ (q : Result Accepted SharedFault). Wears failed can_fail left old new (TellsDevice q)) (sym is) (subst (λ (P : Type 0). Wears failed can_fail left old new P) (sym (reply_device r)) w)
-
-  module _ {honest : Type 0} {content : D → FileMap} where
-    pub slot_writes : (r : Result ℕ SharedFault) (result : Result Accepted SharedFault) → result ≡ slot_reply r → Writes honest content failed can_fail left old new (TellsDevice r)
-        → Writes honest content failed can_fail left old new (TellsDevice result)
-    slot_writes r result is w =
-        subst (λ (q : Result Accepted SharedFault). Writes honest content failed can_fail left old new (TellsDevice q)) (sym is)
-        (subst (λ (P : Type 0). Writes honest content failed can_fail left old new P) (sym (slot_device r)) w)
 
 -- ---- bytes that could not be read
 -- what is told is the fault by which they are refused, or want of memory
@@ -181,12 +166,6 @@ module _ (content : FileMap) (slots : List (Option SessionText)) (bytes : List �
   failed_refused (pkt.Refused fault) (Err x) is why = IsRefusedBytes.unread fault why is
 
   -- ---- and bytes that were
-  pub text_here : (m : Message) (text : MessageText) → Reads bytes m → ((t : MessageText) → IsSpelledBy SpellsMessage t bytes → ◌≡◌ {A = Result MessageText PktFault} (Ok t) (Ok text)) → TextOf m text
-  text_here m text reads given =
-      let both : ◌≡◌ {A = Result MessageText PktFault} (Ok reads.text) (Ok text) = given reads.text reads.spelled in
-      let same : reads.text ≡ text = cc both in
-      subst (λ (t : MessageText). TextOf m t) same reads.is
-
   pub message_refused : (text : MessageText) (result : Result Accepted SharedFault) → IsSpelledBy SpellsMessage text bytes → IfErr result (IsRefusedMessage content slots text) → IfErr result (IsRefusedBytes content slots bytes)
   message_refused text (Ok x) spelled why = tt
   message_refused text (Err x) spelled why = IsRefusedBytes.refused text spelled why

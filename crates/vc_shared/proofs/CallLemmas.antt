@@ -15,10 +15,11 @@ use Rattle.vc_model.specs.SharedCall.SharedCall.{Asks, Open}
 use Rattle.vc_node.specs.Clean.{IsClean, KeepsClean}
 use Rattle.vc_node.specs.Machine.{Spells}
 use Rattle.vc_node.specs.Shown.{shown}
+use Rattle.vc_node.specs.Told.{Quietly}
 use Rattle.vc_rules.proofs.GitLaws.{git_rules}
 use Rattle.vc_rules.specs.Git.{git}
 use Rattle.vc_session.specs.Session.{SessionText}
-use Rattle.vc_shared.specs.Calls.{AnswersShared, Quietly}
+use Rattle.vc_shared.specs.Calls.{AnswersShared}
 use Rattle.vc_shared.specs.Faults.{IsOfDevice}
 use Rattle.vc_shared.specs.Holding.{HoldsShared}
 use Rattle.vc_shared.specs.declared.fault.SharedFault.{SharedFault}

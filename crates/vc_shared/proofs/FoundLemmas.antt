@@ -1,45 +1,40 @@
 -- A call for the value of an expression, as its method tells it: by the shared node's own faults.
-use Rattle.std.proofs.Common.{◌≡◌, Bool, true, true≢false, List, ℕ, Option, Result, Err, refl, sym, ap, ◌∙◌, subst}
+use Rattle.std.proofs.Common.{◌≡◌, Bool, true, List, ℕ, Option, Result, Err, refl, sym, ap, ◌∙◌, subst}
 use Rattle.std.specs.Prelude.{IsErrOf, not}
 use Rattle.vc_files.specs.Failures.{Wears}
 use Rattle.vc_files.specs.FileMap.{FileMap}
-use Rattle.vc_files.specs.declared.faults.Fault.TheVariants.{Device, Memory}
+use Rattle.vc_files.specs.declared.faults.Fault.TheVariants.{Device}
 use Rattle.vc_model.specs.Node.{Answer}
 use Rattle.vc_model.specs.Question.Question.{Resolve}
 use Rattle.vc_model.specs.SharedCall.SharedCall.{Asks}
+use Rattle.vc_node.proofs.FaultLemmas.{source_alone}
 use Rattle.vc_node.proofs.LookLemmas.{looks_told}
+use Rattle.vc_node.specs.Told.{FoundAs, Quietly}
 use Rattle.vc_node.specs.Values.{is_rev_fault, rev_answer}
 use Rattle.vc_repository.specs.Resolving.{IsOfExpr}
 use Rattle.vc_object.specs.declared.id.ObjectId.{ObjectId}
 use Rattle.vc_rev.specs.Grammar.{ExprText, IsExpr}
 use Rattle.vc_rev.specs.declared.refusal.RevFault.{RevFault}
 use Rattle.vc_rev.specs.declared.refusal.RevFault.TheVariants.{Missing, NotACommit, Refused, Source}
-use Rattle.vc_rev.specs.declared.refusal.SourceFault.TheVariants.{BadIndex, BadRefFile, HeadLoop, Store}
+use Rattle.vc_rev.specs.declared.refusal.SourceFault.TheVariants.{Store}
 use Rattle.vc_session.specs.Session.{SessionText}
 use Rattle.vc_store.specs.declared.faults.StoreFault.TheVariants as store
 use Rattle.vc_shared.proofs.ResolvingLemmas.{values_answer}
-use Rattle.vc_shared.specs.Calls.{AnswersShared, Quietly}
+use Rattle.vc_shared.specs.Calls.{AnswersShared}
 use Rattle.vc_shared.specs.Faults.{IsOfDevice, fault_answer, is_fault, of_rev}
-use Rattle.vc_shared.specs.Resolving.{FoundAs}
 use Rattle.vc_shared.specs.declared.fault.SharedFault.{SharedFault}
 
 same_answer : (e : RevFault) → fault_answer (of_rev e) ≡ rev_answer e
 same_answer (Refused refusal) = refl
 same_answer (Missing id) = refl
 same_answer (NotACommit id) = refl
-same_answer (Source (Store fault)) = refl
-same_answer (Source (BadRefFile path)) = refl
-same_answer (Source HeadLoop) = refl
-same_answer (Source (BadIndex place)) = refl
+same_answer (Source fault) = refl
 
 same_fault : (e : RevFault) → is_fault (of_rev e) ≡ is_rev_fault e
 same_fault (Refused refusal) = refl
 same_fault (Missing id) = refl
 same_fault (NotACommit id) = refl
-same_fault (Source (Store fault)) = refl
-same_fault (Source (BadRefFile path)) = refl
-same_fault (Source HeadLoop) = refl
-same_fault (Source (BadIndex place)) = refl
+same_fault (Source fault) = refl
 
 pub no_value_answers : (old new : FileMap) (slots after : List (Option SessionText)) (text : List ℕ) (e : ExprText) (was_up is_up : Bool) (fault : RevFault) (told : SharedFault)
     → IsExpr text e → IsOfExpr old e fault → new ≡ old → after ≡ slots → told ≡ of_rev fault → was_up ≡ true → is_up ≡ not (is_fault told)
@@ -52,14 +47,7 @@ device_alone : (e : RevFault) → IsOfDevice (of_rev e) → e ≡ Source (Store 
 device_alone (Refused refusal) never = absurd never
 device_alone (Missing id) never = absurd never
 device_alone (NotACommit id) never = absurd never
-device_alone (Source (Store (store.BadObject e))) never = absurd never
-device_alone (Source (Store (store.Absent id))) never = absurd never
-device_alone (Source (Store (store.Damaged id))) never = absurd never
-device_alone (Source (Store (store.Fault Device))) is = refl
-device_alone (Source (Store (store.Fault Memory))) is = absurd (true≢false (sym is))
-device_alone (Source (BadRefFile path)) never = absurd never
-device_alone (Source HeadLoop) never = absurd never
-device_alone (Source (BadIndex place)) never = absurd never
+device_alone (Source fault) device = ap Source (source_alone fault device)
 
 device_told : (e : RevFault) (told : SharedFault) (result : Result ObjectId RevFault) → told ≡ of_rev e → result ≡ Err e → IsOfDevice told → IsErrOf result (Source (Store (store.Fault Device)))
 device_told e told result is ends device = ends ∙ ap Err (device_alone e (subst IsOfDevice is device))

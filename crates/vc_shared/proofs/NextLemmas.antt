@@ -1,8 +1,7 @@
 -- What the shared node tells of a message from a reader: once what came of it has gone through the call that takes the node down after a
 -- fault, and where the node is down before.
 use Rattle.std.proofs.Common.{◌≡◌, inl, inr, ℕ, Bool, true, false, List, ◌++◌, Option, Some, None, Result, Ok, Err, refl, sym, ap, ◌∙◌, subst, true≢false}
-use Rattle.std.specs.Prelude.{IfErr, IfNone, IfOk, IfSome, OnErr}
-use Rattle.vc_files.specs.Failures.{Writes}
+use Rattle.std.specs.Prelude.{IfErr, IfNone, IfOk, IfSome}
 use Rattle.vc_files.specs.FileMap.{FileMap}
 use Rattle.vc_message.proofs.ComingLaws.{none_wrong, some_taken, text_taken}
 use Rattle.vc_message.proofs.IncomingFronts.{taken_as}
@@ -16,15 +15,12 @@ use Rattle.vc_model.specs.Message.{Message}
 use Rattle.vc_model.specs.Question.Question.{Unread as AsksUnread}
 use Rattle.vc_model.specs.SharedCall.{SharedCall}
 use Rattle.vc_model.specs.SharedCall.SharedCall.{Accept, Asks}
-use Rattle.vc_node.specs.Clean.{KeepsClean}
 use Rattle.vc_node.specs.declared.fault.NodeFault.TheVariants.{Down}
-use Rattle.vc_session.specs.Clean.{MakesNoneBad}
 use Rattle.vc_session.specs.Session.{SessionText}
-use Rattle.vc_node.proofs.ReceivingClone.{clean_by}
 use Rattle.vc_shared.proofs.SteppingLaws.{down_answers}
 use Rattle.vc_shared.specs.AcceptFault.{TellsDevice, is_fault, up_after}
 use Rattle.vc_message.specs.Coming.{Came, IsCome, a_message, cut_short, lost, no_message, nothing_came}
-use Rattle.vc_shared.specs.Arriving.{AcceptsFrom, AcceptsUp, IsCallOf, IsKnown, IsTold, KeepsHeld, ToldAs, down_told}
+use Rattle.vc_shared.specs.Arriving.{AcceptsFrom, AcceptsUp, IsCallOf, IsKnown, IsTold, ToldAs, down_told}
 use Rattle.vc_shared.specs.Calls.{AcceptedAs, AnswersShared}
 use Rattle.vc_shared.specs.declared.accept_fault.AcceptFault.{AcceptFault}
 use Rattle.vc_shared.specs.declared.accept_fault.AcceptFault.TheVariants.{Node, ReadFailed}
@@ -44,27 +40,6 @@ module _ {D : Type 0} (content : D → FileMap) (old mid new : D) (slots mids af
       (subst (λ (xs : List (Option SessionText)). AcceptsFrom honest before rest (content old) (content mid) slots xs true is_up came) (sym same)
       (accepts is_up (up ∙ ap (λ (r : Result (Option Accepted) AcceptFault). up_after r) is)))))
 
-  pub next_err : OnErr came (mids ≡ slots) → OnErr told (after ≡ slots)
-  next_err kept =
-      subst (λ (r : Result (Option Accepted) AcceptFault). OnErr r (after ≡ slots)) (sym is)
-      (subst (λ (xs : List (Option SessionText)). OnErr came (xs ≡ slots)) (sym same) kept)
-
-  pub next_clean : MakesNoneBad (content old) (content mid) → KeepsClean (content old) (content new)
-  next_clean bad = subst (λ (d : D). KeepsClean (content old) (content d)) (sym files) (clean_by _ _ bad)
-
-  pub next_lost : (was_up : Bool) → was_up ≡ true → is_up ≡ up_after told → IfErr came (λ e. e ≡ ReadFailed → (b : Bool) → KeepsHeld (content old) (content mid) slots mids b b)
-      → IfErr told (λ e. e ≡ ReadFailed → KeepsHeld (content old) (content new) slots after was_up is_up)
-  next_lost was_up was up keeps =
-      subst (λ (d : D). IfErr told (λ e. e ≡ ReadFailed → KeepsHeld (content old) (content d) slots after was_up is_up)) (sym files)
-      (subst (λ (xs : List (Option SessionText)). IfErr told (λ e. e ≡ ReadFailed → KeepsHeld (content old) (content mid) slots xs was_up is_up)) (sym same)
-      (by told up (subst (λ (r : Result (Option Accepted) AcceptFault). IfErr r (λ e. e ≡ ReadFailed → (b : Bool) → KeepsHeld (content old) (content mid) slots mids b b)) (sym is) keeps)))
-    where
-      by : (r : Result (Option Accepted) AcceptFault) → is_up ≡ up_after r → IfErr r (λ e. e ≡ ReadFailed → (b : Bool) → KeepsHeld (content old) (content mid) slots mids b b)
-          → IfErr r (λ e. e ≡ ReadFailed → KeepsHeld (content old) (content mid) slots mids was_up is_up)
-      by (Ok found) here keeps = tt
-      by (Err (Node e)) here keeps = λ never. absurd (cc never)
-      by (Err ReadFailed) here keeps = λ which. subst (λ (b : Bool). KeepsHeld (content old) (content mid) slots mids was_up b) (was ∙ sym here) (keeps refl was_up)
-
   pub next_none : {T : Type 0} (text : D → List (Option SessionText) → Bool → T) (was_up : Bool) → was_up ≡ true → is_up ≡ up_after told → IfOk came (λ found. IfNone found ((mid ≡ old) × (mids ≡ slots)))
       → IfOk told (λ found. IfNone found (text new after is_up ≡ text old slots was_up))
   next_none text was_up was up none = by told up (subst (λ (r : Result (Option Accepted) AcceptFault). IfOk r (λ found. IfNone found ((mid ≡ old) × (mids ≡ slots)))) (sym is) none)
@@ -74,12 +49,6 @@ module _ {D : Type 0} (content : D → FileMap) (old mid new : D) (slots mids af
       by (Ok None) here none =
           ap (λ (d : D). text d after is_up) (files ∙ none.0) ∙ ap (λ (xs : List (Option SessionText)). text old xs is_up) (same ∙ none.1) ∙ ap (λ (b : Bool). text old slots b) (here ∙ sym was)
       by (Err e) here none = tt
-
-  module _ {failed : D → ℕ} {can_fail : D → Type 0} {left : D → Option ℕ} where
-    pub next_wear : {honest : Type 0} → Writes honest content failed can_fail left old mid (TellsDevice came) → Writes honest content failed can_fail left old new (TellsDevice told)
-    next_wear {honest} wear =
-        subst (λ (r : Result (Option Accepted) AcceptFault). Writes honest content failed can_fail left old new (TellsDevice r)) (sym is)
-        (subst (λ (d : D). Writes honest content failed can_fail left old d (TellsDevice came)) (sym files) wear)
 
 -- ---- a node that is down
 abbrev Skipped : Type 0

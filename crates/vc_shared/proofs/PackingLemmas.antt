@@ -15,6 +15,7 @@ use Rattle.vc_node.proofs.ShownLemmas.{shown_packed}
 use Rattle.vc_node.specs.Blames.{BlamesPacking}
 use Rattle.vc_node.specs.Machine.{Spells, failure_of, up_after}
 use Rattle.vc_node.specs.Shown.{Shown, shown}
+use Rattle.vc_node.specs.Told.{RestartedAs}
 use Rattle.vc_node.specs.declared.fault.NodeFault.{NodeFault}
 use Rattle.vc_node.specs.declared.fault.NodeFault.TheVariants.{BadIndex, BadPath, Down, Missing, NotACommit, PathConflict, Ref, Store, WrongEntry}
 use Rattle.vc_object.specs.declared.id.ObjectId.{ObjectId}
@@ -29,7 +30,7 @@ use Rattle.vc_store.specs.Store.{stored_in}
 use Rattle.vc_shared.proofs.CallLemmas.{asked_leads, fault_leads}
 use Rattle.vc_shared.proofs.HoldingLemmas.{beyond_refs, dropped_on}
 use Rattle.vc_shared.proofs.SteppingLaws.{pushes_of}
-use Rattle.vc_shared.specs.Calls.{AnswersShared, RestartedAs}
+use Rattle.vc_shared.specs.Calls.{AnswersShared}
 use Rattle.vc_shared.specs.Holding.{HoldsShared, HoldsSlot, IsLive}
 use Rattle.vc_shared.specs.Slots.{slot_of}
 

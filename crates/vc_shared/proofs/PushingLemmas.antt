@@ -19,6 +19,7 @@ use Rattle.vc_model.specs.Shared.{IsLowestFree, Serves, ServesNot, SharedNode, o
 use Rattle.vc_model.specs.SharedCall.{SharedAnswers}
 use Rattle.vc_model.specs.SharedCall.SharedCall.{Accept}
 use Rattle.vc_node.specs.Machine.{failure_of}
+use Rattle.vc_node.specs.Told.{Quietly}
 use Rattle.vc_object.proofs.OneFault.{no_body_fault, two_bodies}
 use Rattle.vc_object.specs.declared.fault.ObjectFault.{ObjectFault}
 use Rattle.vc_push.specs.Push.{Carried, FaultOf, PushText}
@@ -38,7 +39,7 @@ use Rattle.vc_node.proofs.CloneCallLemmas.{held_content}
 use Rattle.vc_node.proofs.ReceivingClone.{clean_on, spells_on}
 use Rattle.vc_shared.proofs.CallLemmas.{Leads, fault_leads, refused_leads}
 use Rattle.vc_shared.proofs.SteppingLaws.{pushes_of}
-use Rattle.vc_shared.specs.Calls.{AcceptedAs, Quietly}
+use Rattle.vc_shared.specs.Calls.{AcceptedAs}
 use Rattle.vc_shared.specs.Faults.{is_fault, of_device, up_after}
 use Rattle.vc_shared.specs.Holding.{HoldsShared, HoldsSlot, HoldsSlots}
 use Rattle.vc_shared.specs.Pushing.{AreTaken, ChangesFree, IsLowest, IsRefusedPush, OpensSlot, PushAnswers, slot_reply}

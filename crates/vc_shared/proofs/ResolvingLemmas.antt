@@ -14,6 +14,7 @@ use Rattle.vc_model.specs.Shared.{SharedNode}
 use Rattle.vc_model.specs.SharedCall.{SharedCall}
 use Rattle.vc_model.specs.SharedCall.SharedCall.{Asks}
 use Rattle.vc_node.proofs.ValueLemmas.{values_are_told}
+use Rattle.vc_node.specs.Told.{FoundAs, Quietly}
 use Rattle.vc_node.specs.Values.{TellsValue, rev_answer, up_after_value}
 use Rattle.vc_node.specs.Machine.{failure_of}
 use Rattle.vc_object.specs.declared.id.ObjectId.{ObjectId}
@@ -26,9 +27,8 @@ use Rattle.vc_session.specs.Session.{SessionText}
 use Rattle.vc_store.specs.declared.faults.StoreFault.TheVariants as store
 use Rattle.vc_shared.proofs.CallLemmas.{Leads, asked_leads, fault_leads}
 use Rattle.vc_shared.proofs.SteppingLaws.{down_answers, pushes_of}
-use Rattle.vc_shared.specs.Calls.{Quietly}
 use Rattle.vc_shared.specs.Holding.{HoldsShared}
-use Rattle.vc_shared.specs.Resolving.{DownDeclines, FoundAs, ValuesAnswer}
+use Rattle.vc_shared.specs.Resolving.{DownDeclines, ValuesAnswer}
 
 -- what leads somewhere where nothing changed
 leads_same : (old new : FileMap) (slots after : List (Option SessionText)) (n : SharedNode) (call : SharedCall) (is_up up : Bool) (shows : Answer → Option Message → Type 0)

@@ -18,12 +18,13 @@ use Rattle.vc_node.specs.Emptying.{IsOpened, LosesCarried}
 use Rattle.vc_node.specs.Machine.{Spells, fault_answer, failure_of}
 use Rattle.vc_node.specs.Opening.{opened_node}
 use Rattle.vc_node.specs.Shown.{Shown}
+use Rattle.vc_node.specs.Told.{Quietly, RestartedAs}
 use Rattle.vc_node.specs.declared.fault.NodeFault.{NodeFault}
 use Rattle.vc_refs.specs.Refs.{packed_path}
 use Rattle.vc_session.proofs.CleanLemmas.{bad_loses}
 use Rattle.vc_session.specs.Session.{SessionText}
 use Rattle.vc_shared.proofs.OpeningLemmas.{free_slots, held_opened}
-use Rattle.vc_shared.specs.Calls.{AnswersShared, Quietly, RestartedAs}
+use Rattle.vc_shared.specs.Calls.{AnswersShared}
 use Rattle.vc_shared.specs.Holding.{HoldsShared}
 use Rattle.vc_shared.specs.Laws.{HeldSharedOpen}
 

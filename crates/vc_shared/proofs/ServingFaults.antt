@@ -6,6 +6,7 @@ use Rattle.std.proofs.lemmas.Option.{none-some, same_Some}
 use Rattle.vc_pack.specs.AnswerFault.{BlamesRefs, from_refs}
 use Rattle.vc_pack.specs.declared.fault.AnswerFault.{AnswerFault}
 use Rattle.vc_files.specs.FileMap.{FileMap}
+use Rattle.vc_node.proofs.FaultLemmas.{err_as}
 use Rattle.vc_node.specs.Clean.{IsClean}
 use Rattle.vc_refs.specs.Head.{IsBadHead, IsHeadLoop, head_of, read_head, said}
 use Rattle.vc_refs.specs.RefFault.{BlamesHeadValue}
@@ -13,7 +14,6 @@ use Rattle.vc_refs.specs.Refs.{SpellsRefs}
 use Rattle.vc_refs.specs.declared.faults.RefFault.{RefFault}
 use Rattle.vc_refs.specs.declared.faults.RefFault.TheVariants as ref
 use Rattle.vc_refs.specs.declared.heads.Head.{Head}
-use Rattle.vc_shared.proofs.FaultLemmas.{err_as}
 use Rattle.vc_shared.specs.Faults.{of_answer}
 use Rattle.vc_shared.specs.Serving.{IsRefusedList}
 use Rattle.vc_shared.specs.declared.fault.SharedFault.{SharedFault}

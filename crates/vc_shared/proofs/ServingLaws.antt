@@ -26,6 +26,7 @@ use Rattle.vc_model.specs.Shared.{SharedNode}
 use Rattle.vc_model.specs.SharedCall.{SharedAnswers}
 use Rattle.vc_model.specs.SharedCall.SharedCall.{Accept}
 use Rattle.vc_node.specs.Machine.{failure_of}
+use Rattle.vc_node.specs.Told.{Quietly, SendsBytes}
 use Rattle.vc_object.specs.declared.id.ObjectId.{ObjectId}
 use Rattle.vc_pkt.specs.Message.{IsSpelledBy}
 use Rattle.vc_rules.proofs.JoinLemmas.{none_added}
@@ -37,7 +38,7 @@ use Rattle.vc_shared.proofs.ServingPacks.{brought, machine_first, machine_pack, 
 use Rattle.vc_shared.proofs.ServingRefs.{machine_advert, written_advert}
 use Rattle.vc_shared.proofs.SteppedLemmas.{written_by}
 use Rattle.vc_shared.proofs.SteppingLaws.{pushes_of}
-use Rattle.vc_shared.specs.Calls.{AcceptedAs, AnswersShared, Quietly, SendsBytes}
+use Rattle.vc_shared.specs.Calls.{AcceptedAs, AnswersShared}
 use Rattle.vc_shared.specs.Faults.{fault_answer, of_answer, of_device, up_after}
 use Rattle.vc_shared.specs.Holding.{HoldsShared}
 use Rattle.vc_shared.specs.Serving.{IsAnswered, IsListed, IsRefusedList, ListAnswers, RefusesList, RefusesWant, WantAnswers, reply_of}

@@ -1,12 +1,8 @@
 -- The pack that a want is answered with: it can be read as it is written, and it is what the machine sends.
-use Rattle.std.proofs.Common.{◌≡◌, inl, inr, ℕ, ◌≤◌, arith, true, false, cond, List, [], ◌∷◌, ◌++◌, length, map, Option, Some, None, Ok, refl, sym, ap, ◌∙◌, subst, Contains}
+use Rattle.std.proofs.Common.{◌≡◌, inl, inr, ℕ, ◌≤◌, arith, true, List, [], ◌∷◌, ◌++◌, length, map, Option, Some, None, Ok, refl, sym, ap, ◌∙◌, subst, Contains}
 use Rattle.std.specs.Prelude.{is_some, option_map}
-use Rattle.std.specs.Cmp.{tied_itself}
 use Rattle.std.specs.FinMap.{get}
 use Rattle.std.specs.List.{AllByRecursion}
-use Rattle.std.specs.List.Sorted.{IsStrictlySortedBy}
-use Rattle.std.specs.Ordering.{is_eq, ordering_reverse}
-use Rattle.std.specs.declared.cmp.Ordering.TheVariants.{Less}
 use Rattle.std.proofs.lemmas.List.Elements.{Contains-append_cases, Contains-append_right, Contains-push_cases}
 use Rattle.std.proofs.lemmas.Option.{same_Some}
 use Rattle.vc_pack.specs.Answer.{IsFirstCounted, IsNotOurs, IsOurs, IsRefValue, IsSent}
@@ -33,10 +29,9 @@ use Rattle.vc_node.specs.Shown.{shown}
 use Rattle.vc_object.specs.Decoding.{StoredObject}
 use Rattle.vc_object.specs.Lines.{IsId}
 use Rattle.vc_object.specs.Object.{IsObject}
-use Rattle.vc_object.specs.ObjectId.{IsSortedByName, id_cmp}
 use Rattle.vc_object.specs.ObjectMap.{links_in}
 use Rattle.vc_object.specs.declared.id.ObjectId.{ObjectId}
-use Rattle.vc_object.proofs.IdLemmas.{id_cmp_total}
+use Rattle.vc_pkt.proofs.CarriedOnce.{each_named}
 use Rattle.vc_pkt.specs.Carried.{object_named, stored_name}
 use Rattle.vc_pkt.specs.Line.{LineText, flush, text}
 use Rattle.vc_refs.specs.declared.heads.Head.{Head}
@@ -65,29 +60,6 @@ module _ (content : FileMap) (want : WantText) (t : PackText) (answers : IsPackF
   ack_is_id : AllByRecursion IsId want.haves → (ack : Option ObjectId) → IsFirstCounted content want.haves ack → IsAckId ack
   ack_is_id ids None first = tt
   ack_is_id ids (Some have) first = one_of IsId first.before first.after have (subst (AllByRecursion IsId) first.place ids)
-
-  -- ---- each object of the pack stands under its name
-  same_cmp : (id : ObjectId) → is_eq (id_cmp id id) ≡ true
-  same_cmp id = ap is_eq (tied_itself id_cmp_total id)
-
-  above : (o : StoredObject) (os : List StoredObject) → AllByRecursion (λ y. id_cmp (stored_name o) y ≡ Less) (map stored_name os)
-      → AllByRecursion (λ p. object_named (stored_name p) os ≡ Some p) os → AllByRecursion (λ p. object_named (stored_name p) (o ∷ os) ≡ Some p) os
-  above o os less found = all os less found
-    where
-      all : (ps : List StoredObject) → AllByRecursion (λ y. id_cmp (stored_name o) y ≡ Less) (map stored_name ps) → AllByRecursion (λ p. object_named (stored_name p) os ≡ Some p) ps
-          → AllByRecursion (λ p. object_named (stored_name p) (o ∷ os) ≡ Some p) ps
-      all [] less found = tt
-      all (p ∷ ps) less found =
-          let apart : is_eq (id_cmp (stored_name p) (stored_name o)) ≡ false = ap is_eq (id_cmp_total.antisymm (stored_name p) (stored_name o) ∙ ap ordering_reverse less.0) in
-          (ap (λ b. cond b (Some o) (object_named (stored_name p) os)) apart ∙ found.0, all ps less.1 found.1)
-
-  each_named : (os : List StoredObject) → IsSortedByName (map stored_name os) → AllByRecursion (λ o. object_named (stored_name o) os ≡ Some o) os
-  unfolding IsStrictlySortedBy
-  each_named [] sorted = tt
-  each_named (o ∷ os) sorted = (
-    ap (λ b. cond b (Some o) (object_named (stored_name o) os)) (same_cmp (stored_name o)),
-    above o os sorted.0 (each_named os sorted.1),
-  )
 
   is_sound : (o : StoredObject) → object_named (stored_name o) t.objects ≡ Some o → IsObject o.kind o.body
   is_sound o e = objects_sound content (stored_name o) o ((answers.sent (stored_name o) o).0 e).1

@@ -31,6 +31,7 @@ use Rattle.vc_node.specs.Machine.{Spells, machine_head}
 use Rattle.vc_node.specs.Shown.{shown}
 use Rattle.vc_object.specs.Lines.{IsId}
 use Rattle.vc_object.specs.declared.id.ObjectId.{ObjectId}
+use Rattle.vc_object.proofs.IdLemmas.{IsId-from_is_id}
 use Rattle.vc_refname.specs.RefName.{IsRefName, is_bad_byte, is_ref_name}
 use Rattle.vc_refname.specs.declared.fault.NameFault.TheVariants as rules
 use Rattle.vc_refname.proofs.BrokenRules.{legal_from_is_ref_name}
@@ -41,7 +42,7 @@ use Rattle.vc_refs.specs.Refs.{refs}
 use Rattle.vc_refs.specs.declared.heads.Head.{Head}
 use Rattle.vc_refs.specs.declared.heads.Head.TheVariants as head
 use Rattle.vc_refs.proofs.LayeredLemmas.{ref_legal, ref_whole}
-use Rattle.vc_refs.proofs.PackedLaws.{id_in-valid, whole_id}
+use Rattle.vc_refs.proofs.PackedLaws.{id_in-valid}
 use Rattle.vc_refs.proofs.PackedLemmas.{find_below}
 use Rattle.vc_shared.specs.Serving.{TellsRefs}
 
@@ -105,7 +106,7 @@ head_id content id = by (finite.get content (codes "HEAD"))
     by_id text None is says = absurd (none-some (head.Id id) says)
     by_id text (Some x) is says =
         let same : x ≡ id = let h : ◌≡◌ {A = Option Head} (Some (head.Id x)) (Some (head.Id id)) = says in cc h in
-        whole_id id (id_in-valid text id (is ∙ ap Some same))
+        IsId-from_is_id id (id_in-valid text id (is ∙ ap Some same))
 
     by_kind : (text : List ℕ) (b : Bool) → said (cond b (name_said (without_lf (drop 5 text))) (id_said (id_in text))) ≡ Some (head.Id id) → IsId id
     by_kind text true says =

@@ -38,9 +38,10 @@ use Rattle.vc_session.specs.declared.stage.Stepped.{Stepped as SessionStep}
 use Rattle.vc_session.specs.declared.stage.Stepped.TheVariants as session
 use Rattle.vc_shared.proofs.CallLemmas.{Leads}
 use Rattle.vc_shared.proofs.HoldingLemmas.{slot_set, slot_other, slot_stays, steps_beside}
+use Rattle.vc_node.specs.Told.{Quietly, SendsBytes}
 use Rattle.vc_node.proofs.CloneCallLemmas.{held_content}
 use Rattle.vc_node.proofs.ReceivingClone.{clean_on, spells_on}
-use Rattle.vc_shared.specs.Calls.{Quietly, SendsBytes, SteppedAs}
+use Rattle.vc_shared.specs.Calls.{SteppedAs}
 use Rattle.vc_shared.specs.Holding.{HoldsShared, HoldsSlot, HoldsSlots}
 use Rattle.vc_shared.specs.Slots.{slot_of}
 use Rattle.vc_shared.specs.Stepping.{Tells, left_by}

@@ -19,6 +19,7 @@ use Rattle.vc_model.specs.SharedCall.{SharedAnswers, SharedCall}
 use Rattle.vc_model.specs.SharedCall.SharedCall.{Open, StepOf}
 use Rattle.vc_node.specs.Clean.{IsClean}
 use Rattle.vc_node.specs.Machine.{failure_of}
+use Rattle.vc_node.specs.Told.{Quietly}
 use Rattle.vc_node.specs.declared.fault.NodeFault.TheVariants.{Down}
 use Rattle.vc_object.specs.declared.id.ObjectId.{ObjectId}
 use Rattle.vc_push.specs.Report.{IsWrittenReport, ReportText}
@@ -44,7 +45,7 @@ use Rattle.vc_node.proofs.CloneCallLemmas.{held_content}
 use Rattle.vc_node.proofs.ReceivingClone.{SameBeside, clean_on, spells_on}
 use Rattle.vc_shared.proofs.SlotLemmas.{told_at}
 use Rattle.vc_shared.proofs.SteppedLemmas.{stepped}
-use Rattle.vc_shared.specs.Calls.{AnswersShared, Quietly, SteppedAs}
+use Rattle.vc_shared.specs.Calls.{AnswersShared, SteppedAs}
 use Rattle.vc_shared.specs.Faults.{is_fault, of_device, of_session, up_after}
 use Rattle.vc_shared.specs.Holding.{HoldsShared, HoldsSlot, HoldsSlots, IsLive}
 use Rattle.vc_shared.specs.Slots.{AreTellable, AreToldInOne, slot_of}

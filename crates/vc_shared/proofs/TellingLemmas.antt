@@ -107,7 +107,3 @@ short_report s (session.Updated name found) tells h = tt
 short_report s (session.Finished report) tells h =
     let written = written_report s (report_text report) tells h in
     (written.short, All-from_recursion (λ t. IsShortTold (told_of t)) report.told.items (short_told report.told.items written.told))
-
--- of commands that stay the same, all can be told as before
-pub told_on : (s t : SessionText) → t.commands ≡ s.commands → AreToldInOne s → AreToldInOne t
-told_on s t same h = record { each = subst (All IsTellable) (sym same) h.each; few = subst (λ (cs : List CommandText). length cs ≤ 256) (sym same) h.few }

@@ -1,5 +1,5 @@
 -- What a fault is of that ends the taking of a message from a reader, and which are no refusals.
-use Rattle.std.specs.Prelude.{Bool, true, false, not, Result, Ok, Err}
+use Rattle.std.specs.Prelude.{Bool, true, false, not, Result, Ok, Err, IsErrAnd}
 use Rattle.vc_files.specs.declared.faults.Fault.TheVariants.{Memory}
 use Rattle.vc_message.specs.declared.incoming_fault.IncomingFault.{IncomingFault}
 use Rattle.vc_message.specs.declared.incoming_fault.IncomingFault.TheVariants as incoming
@@ -25,8 +25,7 @@ IsOfDevice (Node fault) = IsNodeDevice fault
 
 -- the call tells a fault of the device
 abbrev pub TellsDevice : {T : Type 0} → Result T AcceptFault → Type 0
-TellsDevice (Ok x) = ⊥
-TellsDevice (Err e) = IsOfDevice e
+TellsDevice result = IsErrAnd result IsOfDevice
 
 -- whether the node is up after a call: a fault takes it down
 abbrev pub up_after : {T : Type 0} → Result T AcceptFault → Bool

@@ -58,6 +58,7 @@ pub record Arrives (honest : Type 0) (before new : Option (List ℕ)) (content :
   pub opened : IsOpened slot fault push.commands s
   pub carries : honest → Carries content slot s.names (objects_of_push push.carried)
 
+-- the same, of what the reader had before as the last: so a clause says it of each
 abbrev pub ArrivesIn : Type 0 → Option (List ℕ) → FileMap → ℕ → SessionText → Option (List ℕ) → Type 0
 ArrivesIn honest new content slot s before = Arrives honest before new content slot s
 
@@ -73,6 +74,7 @@ pub record OpensFrom (honest : Type 0) (before new : Option (List ℕ)) (content
   pub taken : TakesAll before new (a_push push)
   pub opens : honest → OpensSlot content slots after push k
 
+-- the same, of what the reader had before as the last
 abbrev pub OpensIn : Type 0 → Option (List ℕ) → FileMap → List (Option SessionText) → List (Option SessionText) → ℕ → Option (List ℕ) → Type 0
 OpensIn honest new content slots after k before = OpensFrom honest before new content slots after k
 

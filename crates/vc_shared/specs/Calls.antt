@@ -1,17 +1,15 @@
 -- What a call of the shared node says: the machine's node that is held before it leads to one that is held after it, by the
 -- machine's answer.
-use Rattle.std.specs.Prelude.{◌≡◌, ◌<◌, ℕ, Bool, List, Option, Some, None, Result, Ok, Err, option_map}
+use Rattle.std.specs.Prelude.{◌<◌, Bool, List, Option, Result, Ok, Err, option_map}
 use Rattle.vc_files.specs.FileMap.{FileMap}
-use Rattle.vc_message.specs.Machine.{IsWritten}
 use Rattle.vc_model.specs.Message.{Message}
 use Rattle.vc_model.specs.Node.{Answer}
 use Rattle.vc_model.specs.Node.Answer.{Did}
-use Rattle.vc_model.specs.Node.Reply.{MigratedAll, Opened, Passed, Sends, Stored, Updated as UpdatedOne}
+use Rattle.vc_model.specs.Node.Reply.{MigratedAll, Opened, Passed, Updated as UpdatedOne}
 use Rattle.vc_model.specs.Repository.{IsBare, IsSound}
 use Rattle.vc_model.specs.Shared.{SharedNode}
 use Rattle.vc_model.specs.SharedCall.{SharedAnswers, SharedCall}
-use Rattle.vc_node.specs.Machine.{fault_answer as node_answer}
-use Rattle.vc_node.specs.declared.fault.NodeFault.{NodeFault}
+use Rattle.vc_node.specs.Told.{Quietly, SendsBytes}
 use Rattle.vc_rules.proofs.GitLaws.{git_rules}
 use Rattle.vc_rules.specs.Git.{git}
 use Rattle.vc_rules.specs.Verdicts.{machine_reason}
@@ -23,18 +21,6 @@ use Rattle.vc_shared.specs.declared.accepting.Accepted.TheVariants.{Reply, Slot}
 use Rattle.vc_shared.specs.declared.fault.SharedFault.{SharedFault}
 use Rattle.vc_shared.specs.declared.stepping.Stepped.{Stepped}
 use Rattle.vc_shared.specs.declared.stepping.Stepped.TheVariants.{Checked, Migrated, Updated, Finished}
-
--- bytes are sent that are a message's
-pub record SendsBytes (bytes : List ℕ) (a : Answer) (sends : Option Message) : Type 0 where
-  pub message : Message
-  pub written : IsWritten message bytes
-  pub answer : a ≡ Did Sends
-  pub sent : sends ≡ Some message
-
--- nothing is sent
-pub record Quietly (b a : Answer) (sends : Option Message) : Type 0 where
-  pub answer : a ≡ b
-  pub sent : sends ≡ None
 
 -- the machine's answer to a step, as it is told
 abbrev pub SteppedAs : Result Stepped SharedFault → Answer → Option Message → Type 0
@@ -49,11 +35,6 @@ abbrev pub AcceptedAs : Result Accepted SharedFault → Answer → Option Messag
 AcceptedAs (Ok (Reply bytes)) a sends = SendsBytes bytes.items a sends
 AcceptedAs (Ok (Slot k)) a sends = (k < 8) × Quietly (Did (Opened k)) a sends
 AcceptedAs (Err e) a sends = Quietly (fault_answer e) a sends
-
--- to its restart
-abbrev pub RestartedAs : Result (Unit {0}) NodeFault → Answer → Option Message → Type 0
-RestartedAs (Ok u) a sends = Quietly (Did Stored) a sends
-RestartedAs (Err e) a sends = Quietly (node_answer e) a sends
 
 -- Whatever node was held, some node is held after the call; and where the node was sound and bare, the answer and that node are the
 -- machine's.

@@ -1,32 +1,24 @@
 -- That the value of an expression over a node's files, or why there is none, is the machine's answer to the question for it.
-use Rattle.std.specs.Prelude.{◌≡◌, ◌≢◌, ℕ, Bool, true, false, List, Option, Result, Ok, Err, IfOk, IfErr}
+use Rattle.std.specs.Prelude.{◌≡◌, ◌≢◌, ℕ, Bool, true, false, List, Option, Result, Ok, IfOk, IfErr}
 use Rattle.vc_files.specs.FileMap.{FileMap}
-use Rattle.vc_format.specs.Git.{bytes_of_id}
-use Rattle.vc_model.specs.Message.{Message}
-use Rattle.vc_model.specs.Node.{Answer}
-use Rattle.vc_model.specs.Node.Answer.{Declined, Did}
-use Rattle.vc_model.specs.Node.Reply.{Found}
+use Rattle.vc_model.specs.Node.Answer.{Declined}
 use Rattle.vc_model.specs.Question.Question.{Resolve}
 use Rattle.vc_model.specs.SharedCall.{SharedCall}
 use Rattle.vc_model.specs.SharedCall.SharedCall.{Asks, Open}
+use Rattle.vc_node.specs.Told.{FoundAs, Quietly}
 use Rattle.vc_node.specs.Values.{rev_answer, up_after_value}
 use Rattle.vc_object.specs.declared.id.ObjectId.{ObjectId}
 use Rattle.vc_repository.specs.Resolving.{DenotesIn, IsOfExpr}
 use Rattle.vc_rev.specs.Grammar.{ExprText, IsExpr}
 use Rattle.vc_rev.specs.declared.refusal.RevFault.{RevFault}
 use Rattle.vc_session.specs.Session.{SessionText}
-use Rattle.vc_shared.specs.Calls.{AnswersShared, Quietly}
+use Rattle.vc_shared.specs.Calls.{AnswersShared}
 use Rattle.vc_shared.specs.Faults.{of_rev}
 use Rattle.vc_shared.specs.declared.fault.SharedFault.{SharedFault}
 
 -- over any files: why an expression has no value, as the shared node tells it
 abbrev pub IsRefusedValue : FileMap → ExprText → SharedFault → Type 0
 IsRefusedValue content e fault = (f : RevFault) × (fault ≡ of_rev f) × IsOfExpr content e f
-
--- the machine's answer to the question, as it is told, where a fault has this answer
-abbrev pub FoundAs : {E : Type 0} → (E → Answer) → Result ObjectId E → Answer → Option Message → Type 0
-FoundAs answer (Ok id) a sends = Quietly (Did (Found (bytes_of_id id))) a sends
-FoundAs answer (Err e) a sends = Quietly (answer e) a sends
 
 -- of a node that is up: the value of the expression that the text is, or why there is none, is told
 abbrev pub ValuesAnswer : Type 0

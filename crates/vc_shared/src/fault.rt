@@ -1,19 +1,17 @@
 // Why a call of the shared node gives no answer.
 ghost use Rattle.std.specs.Prelude.{◌≡◌};
 ghost use Rattle.vc_shared.specs.declared.fault.SharedFault.TheVariants.{Node};
-ghost use Rattle.vc_shared.specs.Faults.{is_fault, of_answer, of_device, of_graph, of_pkt, of_refs, of_rev, of_session, of_source, of_store};
+ghost use Rattle.vc_shared.specs.Faults.{is_fault, of_answer, of_device, of_pkt, of_rev, of_session};
 
 use std::alloc::AllocError;
 use std::error::Error;
 use std::fmt;
 use vc_files::Fault;
-use vc_graph::GraphFault;
 use vc_node::{CloneFault, NodeFault};
 use vc_object::ObjectId;
 use vc_pack::AnswerFault;
 use vc_pkt::{PktError, PktFault};
-use vc_refs::RefFault;
-use vc_rev::{Refusal, RevFault, SourceFault};
+use vc_rev::{Refusal, RevFault};
 use vc_session::SessionFault;
 use vc_store::StoreFault;
 
@@ -79,50 +77,15 @@ fn from_device(fault: Fault) -> SharedFault
     SharedFault::Node(NodeFault::Store(StoreFault::Fault(fault)))
 }
 
-// A session tells a fault of the device in none of these: one that stands here counts as want of memory.
-fn from_store(fault: StoreFault) -> SharedFault
-    ensures { result ≡ of_store fault }
-{
-    match fault {
-        StoreFault::BadObject(_) => SharedFault::Node(NodeFault::Store(fault)),
-        StoreFault::Absent(_) => SharedFault::Node(NodeFault::Store(fault)),
-        StoreFault::Damaged(_) => SharedFault::Node(NodeFault::Store(fault)),
-        StoreFault::Fault(_) => from_device(Fault::Memory),
-    }
-}
-
-// Nor in these.
-fn from_refs(fault: RefFault) -> SharedFault
-    ensures { result ≡ of_refs fault }
-{
-    match fault {
-        RefFault::Stale(current) => SharedFault::Node(NodeFault::Ref(RefFault::Stale(current))),
-        RefFault::Conflict(name) => SharedFault::Node(NodeFault::Ref(RefFault::Conflict(name))),
-        RefFault::BadRefFile(path) => SharedFault::Node(NodeFault::Ref(RefFault::BadRefFile(path))),
-        RefFault::HeadLoop => SharedFault::Node(NodeFault::Ref(RefFault::HeadLoop)),
-        RefFault::Fault(_) => from_device(Fault::Memory),
-    }
-}
-
 impl From<SessionFault> for SharedFault {
     ghost from_gives = { λ fault e. e ≡ of_session fault };
 
     fn from(fault: SessionFault) -> Self {
         match fault {
-            SessionFault::Store(fault) => from_store(fault),
-            SessionFault::Refs(fault) => from_refs(fault),
+            SessionFault::Store(fault) => SharedFault::Node(NodeFault::refused_by_store(fault)),
+            SessionFault::Refs(fault) => SharedFault::Node(NodeFault::refused_by_refs(fault)),
             SessionFault::Fault(fault) => from_device(fault),
         }
-    }
-}
-
-// An answer tells no fault of the device here either.
-fn from_graph(fault: GraphFault) -> SharedFault
-    ensures { result ≡ of_graph fault }
-{
-    match fault {
-        GraphFault::Missing(id) => SharedFault::Node(NodeFault::Missing(id)),
-        GraphFault::Store(fault) => from_store(fault),
     }
 }
 
@@ -134,24 +97,10 @@ impl From<AnswerFault> for SharedFault {
             AnswerFault::NotOurs(id) => SharedFault::NotOurs(id),
             // Only a pack can be incomplete, and here none is judged.
             AnswerFault::Incomplete(id) => SharedFault::Node(NodeFault::Missing(id)),
-            AnswerFault::Refs(fault) => from_refs(fault),
-            AnswerFault::Graph(fault) => from_graph(fault),
+            AnswerFault::Refs(fault) => SharedFault::Node(NodeFault::refused_by_refs(fault)),
+            AnswerFault::Graph(fault) => SharedFault::Node(NodeFault::refused_by_graph(fault)),
             AnswerFault::Fault(fault) => from_device(fault),
         }
-    }
-}
-
-// What had to be read for an expression.
-fn from_source(fault: SourceFault) -> SharedFault
-    ensures { result ≡ of_source fault }
-{
-    match fault {
-        SourceFault::Store(fault) => SharedFault::Node(NodeFault::Store(fault)),
-        SourceFault::BadRefFile(path) => SharedFault::Node(NodeFault::Ref(RefFault::BadRefFile(
-            path,
-        ))),
-        SourceFault::HeadLoop => SharedFault::Node(NodeFault::Ref(RefFault::HeadLoop)),
-        SourceFault::BadIndex(place) => SharedFault::Node(NodeFault::BadIndex(place)),
     }
 }
 
@@ -163,7 +112,7 @@ impl From<RevFault> for SharedFault {
             RevFault::Refused(refusal) => SharedFault::NoValue(refusal),
             RevFault::Missing(id) => SharedFault::Node(NodeFault::Missing(id)),
             RevFault::NotACommit(id) => SharedFault::Node(NodeFault::NotACommit(id)),
-            RevFault::Source(fault) => from_source(fault),
+            RevFault::Source(fault) => SharedFault::Node(NodeFault::from(fault)),
         }
     }
 }

@@ -33,12 +33,13 @@ use Rattle.vc_model.specs.Question.{Question, Tells}
 use Rattle.vc_model.specs.Question.Question.{Compare, Interrupted, Resolve, Unresolved}
 use Rattle.vc_model.specs.Repository.{IsSound, Repository}
 use Rattle.vc_node.specs.Awaited.{IsAwaited}
-use Rattle.vc_node.specs.CloneCalls.{AnswersClone, FoundAs, Quietly as ClonesQuietly}
-use Rattle.vc_node.specs.CloneFaults.{IsOfDevice, TellsDevice, of_device}
+use Rattle.vc_node.specs.CloneCalls.{AnswersClone}
+use Rattle.vc_node.specs.CloneFaults.{IsOfDevice, TellsDevice, fault_answer, of_device}
 use Rattle.vc_node.specs.declared.clone_fault.CloneFault.TheVariants as clone
 use Rattle.vc_node.specs.declared.fault.NodeFault.TheVariants as node
 use Rattle.vc_node.specs.Held.{Held}
 use Rattle.vc_node.specs.Machine.{Answers, AnswersIfSound, HoldsNode, live_of}
+use Rattle.vc_node.specs.Told.{FoundAs, Quietly}
 use Rattle.vc_node.specs.declared.clone_fault.CloneFault.{CloneFault}
 use Rattle.vc_object.specs.declared.id.ObjectId.{ObjectId}
 use Rattle.vc_rev.specs.Faults.{IsBadAt}
@@ -294,7 +295,7 @@ module _ {F : Type 0} (content : F → FileMap) (can_fail : F → Type 0) (left 
 
   -- a local command, of which it is said at a sound clone that it is the machine's
   pub local_called : (old new : Held F) (task : Task) (answer : Answer) (IsDevice : Type 0) (r : Result Told Ended)
-      → AnswersIfSound task answer old.is_up new.is_up (content old.files) (content new.files) → new.awaited ≡ old.awaited → StaysSteady can_fail left old.files new.files IsDevice → IsRetold (ClonesQuietly answer) IsDevice r
+      → AnswersIfSound task answer old.is_up new.is_up (content old.files) (content new.files) → new.awaited ≡ old.awaited → StaysSteady can_fail left old.files new.files IsDevice → IsRetold (Quietly answer) IsDevice r
       → CloneCalled Holds (IsOnly (Command task)) (Shows r) old new
   local_called old new task answer IsDevice r answers awaits steady retold = record {
     each = λ n held. let m = answers.each held.awaited n held.holds in (
@@ -303,7 +304,7 @@ module _ {F : Type 0} (content : F → FileMap) (can_fail : F → Type 0) (left 
       None,
       record { awaited = held.awaited; is_awaited = subst (λ w. IsAwaited w held.awaited) (sym awaits) held.is_awaited; holds = m.1; steady = steady.steady held.steady },
       retold.shown answer None (record { answer = refl; sent = refl }),
-      told_calm (ClonesQuietly answer) IsDevice r answer None retold (steady.never held.steady) (record { answer = refl; sent = refl }),
+      told_calm (Quietly answer) IsDevice r answer None retold (steady.never held.steady) (record { answer = refl; sent = refl }),
       λ sound zeros. (Command task, refl, m.2 sound),
     );
   }
@@ -375,12 +376,12 @@ module _ {F : Type 0} (content : F → FileMap) (can_fail : F → Type 0) (left 
   ]
 
   pub value_answers : (old new : Held F) (text : List ℕ) (said : Result ObjectId CloneFault) (r : Result ObjectId Ended) → IfOk r (λ id. said ≡ Ok id)
-      → AnswersClone (Asks (Resolve text)) (FoundAs said) (content old.files) (content new.files) old.awaited new.awaited old.is_up new.is_up → StaysSteady can_fail left old.files new.files (TellsDevice said)
+      → AnswersClone (Asks (Resolve text)) (FoundAs fault_answer said) (content old.files) (content new.files) old.awaited new.awaited old.is_up new.is_up → StaysSteady can_fail left old.files new.files (TellsDevice said)
       → IfOk r (λ id. Finds Holds (IsValue text id) old new)
   value_answers old new text said (Ok id) is answers steady = record {
     each = λ n held.
         let m = answers.each held.awaited n held.is_awaited held.holds in
-        let q : ClonesQuietly (Did (Found (bytes_of_id id))) m.2 m.3 = subst (λ (x : Result ObjectId CloneFault). FoundAs x m.2 m.3) is m.6 in (
+        let q : Quietly (Did (Found (bytes_of_id id))) m.2 m.3 = subst (λ (x : Result ObjectId CloneFault). FoundAs fault_answer x m.2 m.3) is m.6 in (
           m.1,
           record { awaited = m.0; is_awaited = m.4; holds = m.5; steady = steady.steady held.steady },
           λ sound. value_told n m.1 text id m.2 m.3 (m.7 sound) q.answer,
@@ -388,13 +389,13 @@ module _ {F : Type 0} (content : F → FileMap) (can_fail : F → Type 0) (left 
   }
   value_answers old new text said (Err e) is answers steady = tt
 
-  pub no_value_answers : (old new : Held F) (text : List ℕ) (said : Result ObjectId CloneFault) (r : Result ObjectId Ended) → old.is_up ≡ true → IfErr r (λ e. IsRetold (FoundAs said) (TellsDevice said) (Err e))
-      → AnswersClone (Asks (Resolve text)) (FoundAs said) (content old.files) (content new.files) old.awaited new.awaited old.is_up new.is_up → StaysSteady can_fail left old.files new.files (TellsDevice said)
+  pub no_value_answers : (old new : Held F) (text : List ℕ) (said : Result ObjectId CloneFault) (r : Result ObjectId Ended) → old.is_up ≡ true → IfErr r (λ e. IsRetold (FoundAs fault_answer said) (TellsDevice said) (Err e))
+      → AnswersClone (Asks (Resolve text)) (FoundAs fault_answer said) (content old.files) (content new.files) old.awaited new.awaited old.is_up new.is_up → StaysSteady can_fail left old.files new.files (TellsDevice said)
       → IfErr r (λ e. CloneCalled Holds (Fails (IsNoValue text)) (Shows (Err e)) old new)
   no_value_answers old new text said (Ok id) up retold answers steady = tt
   no_value_answers old new text said (Err e) up retold answers steady = record {
     each = λ n held.
-        let c = (exchange_called old new (Asks (Resolve text)) (FoundAs said) (TellsDevice said) (Err e) answers steady retold).each n held in (
+        let c = (exchange_called old new (Asks (Resolve text)) (FoundAs fault_answer said) (TellsDevice said) (Err e) answers steady retold).each n held in (
           c.0,
           c.1,
           c.2,
@@ -551,14 +552,14 @@ module _ {F : Type 0} (content : F → FileMap) (can_fail : F → Type 0) (left 
 
   -- a local command is the order whose task it is
   pub sound_order : (P : Repository → Type 0) (old mid new : Held F) (task : Task) (o : Order) (answer : Answer) (IsDevice : Type 0) (r : Result Told Ended) → Finds Holds P old mid
-      → AnswersIfSound task answer mid.is_up new.is_up (content mid.files) (content new.files) → new.awaited ≡ mid.awaited → StaysSteady can_fail left mid.files new.files IsDevice → IsRetold (ClonesQuietly answer) IsDevice r
+      → AnswersIfSound task answer mid.is_up new.is_up (content mid.files) (content new.files) → new.awaited ≡ mid.awaited → StaysSteady can_fail left mid.files new.files IsDevice → IsRetold (Quietly answer) IsDevice r
       → ((s : Repository) → P s → IsTaskOf git git_rules s o (Ok task)) → CloneCalled Holds (Obeys o) (Shows r) old new
   sound_order P old mid new task o answer IsDevice r finds answers awaits steady retold tasks =
       ordered Holds P task o (Shows r) old mid new finds (local_called mid new task answer IsDevice r answers awaits steady retold) tasks
 
   -- and where it is said of any clone
   pub local_order : (P : Repository → Type 0) (old mid new : Held F) (task : Task) (o : Order) (answer : Answer) (IsDevice : Type 0) (r : Result Told Ended) → Finds Holds P old mid
-      → Answers task answer mid.is_up new.is_up (content mid.files) (content new.files) → new.awaited ≡ mid.awaited → StaysSteady can_fail left mid.files new.files IsDevice → IsRetold (ClonesQuietly answer) IsDevice r
+      → Answers task answer mid.is_up new.is_up (content mid.files) (content new.files) → new.awaited ≡ mid.awaited → StaysSteady can_fail left mid.files new.files IsDevice → IsRetold (Quietly answer) IsDevice r
       → ((s : Repository) → P s → IsTaskOf git git_rules s o (Ok task)) → CloneCalled Holds (Obeys o) (Shows r) old new
   local_order P old mid new task o answer IsDevice r finds answers awaits steady retold tasks =
       sound_order P old mid new task o answer IsDevice r finds (record { each = λ awaited n held. let m = answers.each awaited n held in (m.0, m.1, λ sound. m.2) }) awaits steady retold tasks

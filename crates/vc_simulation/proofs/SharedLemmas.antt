@@ -30,9 +30,9 @@ use Rattle.vc_object.specs.declared.id.ObjectId.{ObjectId}
 use Rattle.vc_rev.specs.Faults.{IsBadAt}
 use Rattle.vc_rules.proofs.GitLaws.{git_rules}
 use Rattle.vc_rules.specs.Git.{git}
-use Rattle.vc_shared.specs.Calls.{AnswersShared, Quietly as SharedsQuietly}
+use Rattle.vc_node.specs.Told.{FoundAs, Quietly}
+use Rattle.vc_shared.specs.Calls.{AnswersShared}
 use Rattle.vc_shared.specs.Faults.{TellsDevice, fault_answer}
-use Rattle.vc_shared.specs.Resolving.{FoundAs}
 use Rattle.vc_shared.specs.declared.fault.SharedFault.{SharedFault}
 use Rattle.vc_shared.specs.Holding.{HoldsShared, IsLive, SharedText}
 use Rattle.vc_simulation.proofs.SteadyLemmas.{StaysSteady, told_calm}
@@ -120,7 +120,7 @@ module _ {F : Type 0} (content : F → FileMap) (can_fail : F → Type 0) (left 
       → IfOk r (λ id. FindsShared Holds (IsValue text id) old new)
   value_answers old new text said (Ok id) is answers steady =
       value_found old new text id (FoundAs fault_answer said) (TellsDevice said)
-      (λ a s shown. let q : SharedsQuietly (Did (Found (bytes_of_id id))) a s = subst (λ (x : Result ObjectId SharedFault). FoundAs fault_answer x a s) is shown in q.answer) answers steady
+      (λ a s shown. let q : Quietly (Did (Found (bytes_of_id id))) a s = subst (λ (x : Result ObjectId SharedFault). FoundAs fault_answer x a s) is shown in q.answer) answers steady
   value_answers old new text said (Err e) is answers steady = tt
 
   pub no_value_answers : (old new : SharedText F) (text : List ℕ) (said : Result ObjectId SharedFault) (r : Result ObjectId Ended) → IfErr r (λ e. IsRetold (FoundAs fault_answer said) (TellsDevice said) (Err e))

@@ -1,15 +1,15 @@
 // Why a call was not answered, and what was told, in the world's words.
 ghost use Rattle.std.specs.Prelude.{◌≡◌, Err, IfErr, IfOk, Ok};
 ghost use Rattle.vc_events.specs.Answers.{answer_of};
-ghost use Rattle.vc_node.specs.CloneCalls.{FoundAs, ReceivedAs, RestartedAs, SentAs, Quietly};
+ghost use Rattle.vc_node.specs.CloneCalls.{ReceivedAs, SentAs};
 ghost use Rattle.vc_node.specs.CloneFaults.{TellsDevice as CloneTellsDevice, fault_answer as clone_answer};
 ghost use Rattle.vc_node.specs.Machine.{done_answer, fault_answer as node_answer, made_answer};
 ghost use Rattle.vc_node.specs.NodeFault.{TellsDevice as NodeTellsDevice};
+ghost use Rattle.vc_node.specs.Told.{FoundAs, Quietly, RestartedAs};
 ghost use Rattle.vc_simulation.specs.Nodes.{IsRetold};
 ghost use Rattle.vc_server.specs.Telling.{ended_by};
-ghost use Rattle.vc_shared.specs.Calls.{AcceptedAs, RestartedAs as SharedRestartedAs, SteppedAs};
+ghost use Rattle.vc_shared.specs.Calls.{AcceptedAs, SteppedAs};
 ghost use Rattle.vc_shared.specs.Faults.{TellsDevice, fault_answer};
-ghost use Rattle.vc_shared.specs.Resolving.{FoundAs as SharedFoundAs};
 
 use vc_events::{Deed, Ended, Told};
 use vc_files::Fault;
@@ -95,7 +95,7 @@ pub(crate) fn stepped(called: Result<Stepped, SharedFault>) -> Result<Told, Ende
 /// What it said of an expression.
 pub(crate) fn shared_value(called: Result<ObjectId, SharedFault>) -> Result<ObjectId, Ended>
     ensures ok { IfOk result (λ id. called ≡ Ok id) }
-    ensures err { IfErr result (λ e. IsRetold (SharedFoundAs fault_answer called) (TellsDevice called) (Err e)) }
+    ensures err { IfErr result (λ e. IsRetold (FoundAs fault_answer called) (TellsDevice called) (Err e)) }
 {
     match called {
         Ok(id) => Ok(id),
@@ -103,9 +103,9 @@ pub(crate) fn shared_value(called: Result<ObjectId, SharedFault>) -> Result<Obje
     }
 }
 
-/// What the shared node said of its restart, or of packing its refs.
-pub(crate) fn shared_restarted(called: Result<(), NodeFault>) -> Result<Told, Ended>
-    ensures { IsRetold (SharedRestartedAs called) (NodeTellsDevice called) result }
+/// What a node said of its restart, or of packing its refs.
+pub(crate) fn restarted(called: Result<(), NodeFault>) -> Result<Told, Ended>
+    ensures { IsRetold (RestartedAs called) (NodeTellsDevice called) result }
 {
     match called {
         Ok(()) => Ok(Told::Did(Deed::Stored)),
@@ -116,21 +116,11 @@ pub(crate) fn shared_restarted(called: Result<(), NodeFault>) -> Result<Told, En
 /// What a clone said of an expression.
 pub(crate) fn clone_value(called: Result<ObjectId, CloneFault>) -> Result<ObjectId, Ended>
     ensures ok { IfOk result (λ id. called ≡ Ok id) }
-    ensures err { IfErr result (λ e. IsRetold (FoundAs called) (CloneTellsDevice called) (Err e)) }
+    ensures err { IfErr result (λ e. IsRetold (FoundAs clone_answer called) (CloneTellsDevice called) (Err e)) }
 {
     match called {
         Ok(id) => Ok(id),
         Err(fault) => Err(clone_end(&fault)),
-    }
-}
-
-/// What a clone said of its restart, or of packing its refs.
-pub(crate) fn clone_restarted(called: Result<(), NodeFault>) -> Result<Told, Ended>
-    ensures { IsRetold (RestartedAs called) (NodeTellsDevice called) result }
-{
-    match called {
-        Ok(()) => Ok(Told::Did(Deed::Stored)),
-        Err(fault) => Err(node_end(&fault)),
     }
 }
 

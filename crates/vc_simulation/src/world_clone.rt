@@ -17,8 +17,7 @@ ghost use Rattle.vc_simulation.specs.Nodes.{HoldsClone, IsSteady, IsWantOfMemory
 ghost use Rattle.vc_simulation.specs.Values.{AreIds, AreNoIds, AreNotPushed, ArePushed, Called, Fails, FindsThere, HasZero, IsItemFor, IsNoItem, IsNoValue, IsOneMore, IsOneMoreItem, IsValue, Obeys};
 
 use crate::ends::{
-    DOWN, MISSING, NO_EXPRESSION, TOO_MANY, clone_restarted, clone_value, done, made, received,
-    sent,
+    DOWN, MISSING, NO_EXPRESSION, TOO_MANY, clone_value, done, made, received, restarted, sent,
 };
 use std::alloc::Global;
 use vc_events::{CloneCalls, Deed, Ended, NamedItem, Order, Told};
@@ -386,11 +385,11 @@ impl<F: Files> CloneCalls for WorldClone<F> {
 
     fn pack(&mut self) -> Result<Told, Ended> {
         let called = self.node.pack_refs();
-        clone_restarted(called)
+        restarted(called)
     }
 
     fn reopen(&mut self) -> Result<Told, Ended> {
         let called = self.node.restart();
-        clone_restarted(called)
+        restarted(called)
     }
 }

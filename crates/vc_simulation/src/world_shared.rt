@@ -12,7 +12,7 @@ ghost use Rattle.vc_node.specs.Opening.{IsOpenable, OpenableAs};
 ghost use Rattle.vc_simulation.specs.Nodes.{HoldsServed, IsSteady, IsWantOfMemory, opened_shared};
 ghost use Rattle.vc_simulation.specs.Values.{FindsShared, IsValue};
 
-use crate::ends::{DOWN, NO_EXPRESSION, accepted, shared_restarted, shared_value, stepped};
+use crate::ends::{DOWN, NO_EXPRESSION, accepted, restarted, shared_value, stepped};
 use std::alloc::Global;
 use vc_events::{Deed, Ended, SharedCalls, Told};
 use vc_files::{Fault, Files};
@@ -105,11 +105,11 @@ impl<F: Files> SharedCalls for WorldShared<F> {
 
     fn pack(&mut self) -> Result<Told, Ended> {
         let called = self.node.pack_refs();
-        shared_restarted(called)
+        restarted(called)
     }
 
     fn reopen(&mut self) -> Result<Told, Ended> {
         let called = self.node.restart();
-        shared_restarted(called)
+        restarted(called)
     }
 }

@@ -1,13 +1,11 @@
 -- Lists of paths and the names that stand in them.
-use Rattle.std.proofs.Common.{◌≡◌, ℕ, ◌<◌, ◌+◌, Bool, true, false, cond, ◌||◌, ◌&&◌, nat_eq, T, List, [], ◌∷◌, ◌++◌, map, take, length, get_or, Option, Some, None, Result, Ok, Err, option_map, sym, ap, refl, subst, ◌∙◌, ◌⊎◌, inl, inr, append-nil}
+use Rattle.std.proofs.Common.{◌≡◌, ℕ, ◌<◌, ◌+◌, Bool, true, false, cond, ◌||◌, ◌&&◌, nat_eq, List, [], ◌∷◌, ◌++◌, map, take, length, get_or, Option, Some, None, Result, Ok, Err, option_map, sym, ap, refl, subst, ◌∙◌, ◌⊎◌, inl, inr, append-nil}
 use Rattle.std.specs.Prelude.{String, string_bytes, filter_map, filter, bytes_eq, codes, is_some, IsSome, Contains, ◌↔◌}
 use Rattle.std.specs.FinMap as files
-use Rattle.std.specs.FinMap.{contains_key-keys, entries_sorted, is_sorted}
-use Rattle.std.specs.FinMap.Entries.{below_all}
+use Rattle.std.specs.FinMap.{contains_key-keys, entries_sorted}
 use Rattle.std.specs.Cmp.Lexicographic.{slice_cmp}
-use Rattle.std.specs.Ordering.{nat_cmp, is_lt, eq_by_cmp}
-use Rattle.std.specs.declared.cmp.Ordering.{Ordering}
-use Rattle.std.specs.declared.cmp.Ordering.TheVariants.{Less, Equal, Greater}
+use Rattle.std.specs.Ordering.{nat_cmp, eq_by_cmp}
+use Rattle.std.specs.declared.cmp.Ordering.TheVariants.{Less}
 use Rattle.std.specs.List.{list_any, list_all, starts_with, AllByRecursion}
 use Rattle.std.specs.List.Sorted.{IsStrictlySortedBy}
 use Rattle.std.specs.Char.{is_ascii_hexdigit}
@@ -18,6 +16,7 @@ use Rattle.std.proofs.lemmas.Slice.Eq.{bytes_eq-Decides}
 use Rattle.std.proofs.lemmas.Map.Text.{is_eq-slice_cmp}
 use Rattle.std.proofs.lemmas.Map.Views.{list_any-from_Contains, Contains-from_any, any-filter_same}
 use Rattle.std.proofs.lemmas.List.Kept.{IsStrictlySortedBy-filter}
+use Rattle.vc_files.proofs.KeyLemmas.{keys_rise}
 use Rattle.vc_files.specs.FileMap.{FileMap, paths_under}
 use Rattle.vc_object.specs.Decoding.{StoredObject, decoded}
 use Rattle.vc_object.specs.Object.{object_name}
@@ -50,28 +49,6 @@ one_more_some all i path name inside is some =
     one_more all i path inside is ∙ ap (λ o. filter_map name_in (map string_bytes (take i all)) ++ cons_option o []) some
 
 -- ---- names in the order of their paths
-
-first_of_both : (a b : Bool) → T (a && b) → T a
-first_of_both true b p = tt
-first_of_both false b p = p
-
-second_of_both : (a b : Bool) → T (a && b) → T b
-second_of_both true b p = p
-second_of_both false b p = absurd p
-
-less_of : (o : Ordering) → T (is_lt o) → o ≡ Less
-less_of Less p = refl
-less_of Equal p = absurd p
-less_of Greater p = absurd p
-
-keys_below : {X : Type 0} (k : List ℕ) (es : List (List ℕ × X)) → T (below_all (slice_cmp nat_cmp) k es) → AllByRecursion (λ q. slice_cmp nat_cmp k q ≡ Less) (map (λ e. e.0) es)
-keys_below k [] h = tt
-keys_below k (e ∷ es) h = (less_of _ (first_of_both _ _ h), keys_below k es (second_of_both _ _ h))
-
-keys_rise : {X : Type 0} (es : List (List ℕ × X)) → T (is_sorted (slice_cmp nat_cmp) es) → IsStrictlySortedBy (slice_cmp nat_cmp) (map (λ e. e.0) es)
-unfolding IsStrictlySortedBy
-keys_rise [] h = tt
-keys_rise (e ∷ es) h = (keys_below e.0 es (first_of_both _ _ h), keys_rise es (second_of_both _ _ h))
 
 above_step : (p : List ℕ) (id : ObjectId) → name_in p ≡ Some id → (q : List ℕ) → slice_cmp nat_cmp p q ≡ Less → (found : Option ObjectId) → name_in q ≡ found
     → (rest : List ObjectId) → AllByRecursion (λ y. id_cmp id y ≡ Less) rest → AllByRecursion (λ y. id_cmp id y ≡ Less) (cons_option found rest)

@@ -1,10 +1,9 @@
 // The names that a store has.
-ghost use Rattle.std.specs.Prelude.{◌≡◌, ◌↔◌, ◌⊎◌, ◌++◌, Contains, IfOk, OnOk, IfErr, IsErrOf, IsSome, true, filter, filter_map, codes, option_map, map, length};
+ghost use Rattle.std.specs.Prelude.{◌≡◌, IfOk, IfErr, IsErrOf, filter_map};
 ghost use Rattle.vc_files.specs.FileMap.{paths_under};
 ghost use Rattle.vc_files.specs.Failures.{Wears};
-ghost use Rattle.vc_object.specs.ObjectId.{IsSortedByName};
-ghost use Rattle.vc_object.specs.declared.id.ObjectId.{ObjectId};
-ghost use Rattle.vc_store.specs.Store.{name_in, stored_names, has_digits, HasFile, objects, IsDamaged};
+ghost use Rattle.vc_store.specs.Store.{name_in};
+ghost use Rattle.vc_store.specs.StoreCalls.{Lists, ListsPrefix};
 ghost use Rattle.vc_store.specs.StoreFault.{IsFault};
 
 use crate::StoreFault;
@@ -36,11 +35,7 @@ fn names_under<F: Files>(
 
 /// The names of all objects, sorted. A name is there if a file stands in its place, also a damaged one.
 pub fn names<F: Files>(files: &mut F, alloc: Global) -> Result<Vec<ObjectId>, StoreFault>
-    ensures names { F.honest → IfOk result (λ names. names.items ≡ stored_names (F.content files.old)) }
-    ensures sorted { F.honest → IfOk result (λ names. IsSortedByName names.items) }
-    ensures exact { F.honest → IfOk result (λ names. (id : ObjectId) → Contains names.items id ↔ HasFile (F.content files.old) id) }
-    ensures objects { F.honest → IfOk result (λ names. (id : ObjectId) → Contains names.items id → IsSome (objects (F.content files.old) id) ⊎ IsDamaged (F.content files.old) id) }
-    ensures complete { F.honest → IfOk result (λ names. (id : ObjectId) → IsSome (objects (F.content files.old) id) → Contains names.items id) }
+    ensures lists { Lists F.honest F.content files.old result }
     ensures fault { IfErr result IsFault }
     ensures same { F.content files.new ≡ F.content files.old }
     ensures wear { Wears F.failed F.can_fail F.left files.old files.new (IsErrOf result (StoreFault.Fault Fault.Device)) }
@@ -57,9 +52,7 @@ pub fn by_prefix<F: Files>(
     alloc: Global,
     digits: &[u8],
 ) -> Result<Vec<ObjectId>, StoreFault>
-    ensures names { F.honest → IfOk result (λ names. names.items ≡ filter (has_digits digits.now) (stored_names (F.content files.old))) }
-    ensures sorted { F.honest → IfOk result (λ names. IsSortedByName names.items) }
-    ensures exact { F.honest → IfOk result (λ names. (id : ObjectId) → Contains names.items id ↔ (HasFile (F.content files.old) id × (has_digits digits.now id ≡ true))) }
+    ensures lists { ListsPrefix F.honest F.content digits.now files.old result }
     ensures fault { IfErr result IsFault }
     ensures same { F.content files.new ≡ F.content files.old }
     ensures wear { Wears F.failed F.can_fail F.left files.old files.new (IsErrOf result (StoreFault.Fault Fault.Device)) }

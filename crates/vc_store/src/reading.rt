@@ -1,11 +1,12 @@
 // Looking objects up by name.
-ghost use Rattle.std.specs.Prelude.{◌≡◌, ◌⊎◌, ◌≤◌, drop, length, Some, None, IfOk, IfErr, IfSome, IfNone, IsErrAnd, IsErrOf, option_map, is_ok, true, false};
+ghost use Rattle.std.specs.Prelude.{◌≡◌, ◌⊎◌, ◌≤◌, drop, length, Some, IfOk, IfErr, IfSome, IfNone, IsErrOf, option_map, true};
 ghost use Rattle.vc_files.specs.Failures.{Wears};
 ghost use Rattle.vc_object.specs.Decoding.{stored_object};
 ghost use Rattle.vc_object.specs.Object.{object_bytes, object_name};
 ghost use Rattle.vc_object.specs.ObjectId.{is_id};
-ghost use Rattle.vc_store.specs.Store.{stored, stored_in, IsAbsent, IsDamaged, objects};
-ghost use Rattle.vc_store.specs.StoreFault.{IsFault, IsOfName, IsRefused};
+ghost use Rattle.vc_store.specs.Store.{stored, stored_in};
+ghost use Rattle.vc_store.specs.StoreCalls.{Finds, Gets, TellsStored};
+ghost use Rattle.vc_store.specs.StoreFault.{IsFault, IsOfName};
 
 use crate::paths::object_path;
 use crate::{StoreFault, Stored};
@@ -97,12 +98,7 @@ fn read_stored<F: Files>(
 /// The object with this name. The file is read whole, and what it holds must have the name: 11 where there is no
 /// file, 12 where it is no object or another one.
 pub fn get<F: Files>(files: &mut F, alloc: Global, id: &ObjectId) -> Result<Stored, StoreFault>
-    ensures found { F.honest → IfOk result (λ s. stored (F.content files.old) id.now ≡ Ok (stored_object s.kind s.body.items)) }
-    ensures refused { F.honest → IfErr result (λ e. IsFault e ⊎ (stored (F.content files.old) id.now ≡ Err e)) }
-    ensures absent { F.honest → IsAbsent (F.content files.old) id.now → IsErrAnd result (λ e. IsFault e ⊎ (e ≡ StoreFault.Absent id.now)) }
-    ensures damaged { F.honest → IsDamaged (F.content files.old) id.now → IsErrAnd result (λ e. IsFault e ⊎ (e ≡ StoreFault.Damaged id.now)) }
-    ensures object { F.honest → IfOk result (λ s. objects (F.content files.old) id.now ≡ Some (stored_object s.kind s.body.items)) }
-    ensures none { F.honest → IfErr result (λ e. IsFault e ⊎ (objects (F.content files.old) id.now ≡ None)) }
+    ensures gets { Gets F.honest F.content id.now files.old result }
     ensures of_name { IfErr result (IsOfName id.now) }
     ensures same { F.content files.new ≡ F.content files.old }
     ensures wear { Wears F.failed F.can_fail F.left files.old files.new (IsErrOf result (StoreFault.Fault Fault.Device)) }
@@ -120,10 +116,8 @@ pub fn find_named<F: Files>(
     alloc: Global,
     id: &ObjectId,
 ) -> Result<Option<Stored>, StoreFault>
-    ensures found { F.honest → IfOk result (λ found. option_map (λ s. stored_object s.kind s.body.items) found ≡ objects (F.content files.old) id.now) }
+    ensures finds { Finds F.honest F.content id.now files.old result }
     ensures own { IfOk result (λ found. IfSome found (λ s. object_name s.kind s.body.items ≡ id.now)) }
-    ensures damaged { F.honest → IsDamaged (F.content files.old) id.now → IsErrAnd result (λ e. IsFault e ⊎ (e ≡ StoreFault.Damaged id.now)) }
-    ensures refused { IfErr result (IsRefused id.now (F.honest → IsDamaged (F.content files.old) id.now)) }
     ensures same { F.content files.new ≡ F.content files.old }
     ensures wear { Wears F.failed F.can_fail F.left files.old files.new (IsErrOf result (StoreFault.Fault Fault.Device)) }
 {
@@ -139,9 +133,7 @@ pub fn find<F: Files>(
     alloc: Global,
     id: &ObjectId,
 ) -> Result<Option<Stored>, StoreFault>
-    ensures found { F.honest → IfOk result (λ found. option_map (λ s. stored_object s.kind s.body.items) found ≡ objects (F.content files.old) id.now) }
-    ensures damaged { F.honest → IsDamaged (F.content files.old) id.now → IsErrAnd result (λ e. IsFault e ⊎ (e ≡ StoreFault.Damaged id.now)) }
-    ensures refused { IfErr result (IsRefused id.now (F.honest → IsDamaged (F.content files.old) id.now)) }
+    ensures finds { Finds F.honest F.content id.now files.old result }
     ensures same { F.content files.new ≡ F.content files.old }
     ensures wear { Wears F.failed F.can_fail F.left files.old files.new (IsErrOf result (StoreFault.Fault Fault.Device)) }
 {
@@ -150,11 +142,7 @@ pub fn find<F: Files>(
 
 /// Whether an object has this name. Its file is read whole, and what it holds must have the name, else it is 12.
 pub fn has<F: Files>(files: &mut F, alloc: Global, id: &ObjectId) -> Result<bool, StoreFault>
-    ensures there { F.honest → IfOk result (λ there. there ≡ is_ok (stored (F.content files.old) id.now)) }
-    ensures absent { F.honest → IfOk result (λ there. there ≡ false → stored (F.content files.old) id.now ≡ Err (StoreFault.Absent id.now)) }
-    ensures damaged { F.honest → IsDamaged (F.content files.old) id.now → IsErrAnd result (λ e. IsFault e ⊎ (e ≡ StoreFault.Damaged id.now)) }
-    ensures refused { F.honest → IfErr result (λ e. IsFault e ⊎ ((e ≡ StoreFault.Damaged id.now) × IsDamaged (F.content files.old) id.now)) }
-    ensures of_name { IfErr result (λ e. IsFault e ⊎ (e ≡ StoreFault.Damaged id.now)) }
+    ensures tells { TellsStored F.honest F.content id.now files.old result }
     ensures same { F.content files.new ≡ F.content files.old }
     ensures wear { Wears F.failed F.can_fail F.left files.old files.new (IsErrOf result (StoreFault.Fault Fault.Device)) }
 {

@@ -1,13 +1,12 @@
 // Storing objects.
-ghost use Rattle.std.specs.Prelude.{◌≡◌, ◌⊎◌, IfOk, IfErr, IsOk, IsErr, OnOk, OnErr, IsErrOf, codes};
+ghost use Rattle.std.specs.Prelude.{◌≡◌, ◌⊎◌, IfErr, IsErr, OnOk, OnErr, IsErrOf, codes};
 ghost use Rattle.vc_files.specs.FileMap.{SameOutside};
 ghost use Rattle.vc_files.specs.Failures.{Wears, Writes};
 ghost use Rattle.vc_object.specs.Decoding.{stored_object};
 ghost use Rattle.vc_object.specs.Object.{object_name, IsObject};
-ghost use Rattle.vc_object.specs.ObjectFault.{BodyFault};
-ghost use Rattle.vc_object.specs.declared.fault.ObjectFault.{ObjectFault};
 ghost use Rattle.vc_store.specs.Store.{IsDamaged, objects, with_object, with_file};
-ghost use Rattle.vc_store.specs.StoreFault.{IsFault, IsOfPut, IsOfDamage};
+ghost use Rattle.vc_store.specs.StoreCalls.{AnswersPut, Puts};
+ghost use Rattle.vc_store.specs.StoreFault.{IsFault, IsOfDamage};
 
 use crate::StoreFault;
 use crate::paths::object_path;
@@ -53,16 +52,8 @@ pub fn put<F: Files>(
     kind: Kind,
     body: &[u8],
 ) -> Result<ObjectId, StoreFault>
-    ensures name { IfOk result (λ id. id ≡ object_name kind body.now) }
-    ensures legal { IsOk result → IsObject kind body.now }
-    ensures refused { IfErr result (IsOfPut kind body.now) }
-    ensures only { (e : ObjectFault) → BodyFault kind body.now e → result ≡ Err (StoreFault.BadObject e) }
-    ensures damaged { F.honest → IfErr result (IsOfDamage (F.content files.old)) }
-    ensures over_damage { F.honest → IsDamaged (F.content files.old) (object_name kind body.now) → IsErr result }
-    ensures objects { F.honest → IfOk result (λ id. objects (F.content files.new) ≡ with_object (objects (F.content files.old)) id (stored_object kind body.now)) }
-    ensures files { F.honest → OnOk result (F.content files.new ≡ with_file (F.content files.old) (stored_object kind body.now)) }
-    ensures outside { F.honest → SameOutside (codes "objects/") (F.content files.old) (F.content files.new) }
-    ensures err { F.honest → OnErr result (F.content files.new ≡ F.content files.old) }
+    ensures answers { AnswersPut kind body.now result }
+    ensures puts { Puts F.honest F.content kind body.now files.old files.new result }
     ensures wear { Writes F.honest F.content F.failed F.can_fail F.left files.old files.new (IsErrOf result (StoreFault.Fault Fault.Device)) }
     ensures looks { IsObject kind body.now ⊎ Wears F.failed F.can_fail F.left files.old files.new (IsErrOf result (StoreFault.Fault Fault.Device)) }
 {

@@ -10,8 +10,9 @@ use Rattle.vc_model.specs.CloneCall.CloneCall.{Command, Receive}
 use Rattle.vc_model.specs.Message.{Message}
 use Rattle.vc_model.specs.Node.{Answer}
 use Rattle.vc_model.specs.Shared.{SharedNode}
-use Rattle.vc_node.specs.CloneCalls.{ReceivedAs, SendsBytes, SentAs}
+use Rattle.vc_node.specs.CloneCalls.{ReceivedAs, SentAs}
 use Rattle.vc_node.specs.Held.{Held}
+use Rattle.vc_node.specs.Told.{SendsBytes}
 use Rattle.vc_node.specs.declared.clone_fault.CloneFault.{CloneFault}
 use Rattle.vc_node.specs.declared.exchanging.Received.{Received}
 use Rattle.vc_node.specs.declared.exchanging.Received.TheVariants.{Moved, Reported, Send}

@@ -19,10 +19,10 @@ use Rattle.vc_model.specs.Refs.{branch, tracking}
 use Rattle.vc_model.specs.Shared.{SharedNode}
 use Rattle.std.specs.FinMap.{get}
 use Rattle.vc_node.specs.Awaited.{IsAwaited}
-use Rattle.vc_node.specs.CloneCalls.{Quietly, SendsBytes}
 use Rattle.vc_node.specs.CloneFaults.{fault_answer}
 use Rattle.vc_node.specs.Held.{Held}
 use Rattle.vc_node.specs.Machine.{HoldsNode}
+use Rattle.vc_node.specs.Told.{Quietly, SendsBytes}
 use Rattle.vc_object.specs.declared.id.ObjectId.{ObjectId}
 use Rattle.vc_push.specs.ReportView.{report_text}
 use Rattle.vc_push.specs.declared.report.Report.{Report as PushReport}

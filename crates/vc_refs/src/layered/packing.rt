@@ -1,11 +1,10 @@
 // Packing all refs.
-ghost use Rattle.std.specs.Prelude.{◌≡◌, ◌⊎◌, IfErr, OnOk, IsErrOf, codes, map, string_bytes};
-ghost use Rattle.vc_files.specs.FileMap.{paths_under};
+ghost use Rattle.std.specs.Prelude.{◌⊎◌, IfErr, OnOk, IsErrOf, map, string_bytes};
 ghost use Rattle.vc_files.specs.Failures.{Wears, Writes};
-ghost use Rattle.vc_refs.specs.Head.{KeepsOutside};
-ghost use Rattle.vc_refs.specs.Packing.{AreGone, HasLoose, IsPackedFrom, LosesSome};
-ghost use Rattle.vc_refs.specs.RefFault.{BlamesList, IsFault};
-ghost use Rattle.vc_refs.specs.Refs.{refs, SpellsRefs};
+ghost use Rattle.vc_refs.specs.Packing.{AreGone, HasLoose, LosesSome};
+ghost use Rattle.vc_refs.specs.RefCalls.{PacksRefs};
+ghost use Rattle.vc_refs.specs.RefFault.{BlamesList, TellsDevice};
+ghost use Rattle.vc_refs.specs.Refs.{SpellsRefs};
 
 use super::listing::all_refs;
 use super::packed_file::write_packed;
@@ -16,14 +15,11 @@ use vc_files::{Fault, Files};
 /// Puts all refs into the packed file, and removes their own files then. The packed file has each ref before the first
 /// of these goes, so wherever it stops, the refs are as before. Where no file is in `refs/`, it writes nothing.
 pub fn pack<F: Files>(files: &mut F, alloc: Global) -> Result<(), RefFault>
-    ensures packed { F.honest → OnOk result (IsPackedFrom (F.content files.old) (F.content files.new)) }
+    ensures packs { PacksRefs F.honest F.content files.old files.new result }
     ensures good { F.honest → OnOk result (SpellsRefs (F.content files.old)) }
     ensures refused { F.honest → IfErr result (BlamesList (F.content files.old)) }
-    ensures kept { F.honest → refs (F.content files.new) ≡ refs (F.content files.old) }
-    ensures rest { F.honest → KeepsOutside (F.content files.old) (F.content files.new) }
-    ensures err { F.honest → IfErr result (λ e. IsFault e ⊎ (F.content files.new ≡ F.content files.old)) }
-    ensures wear { Writes F.honest F.content F.failed F.can_fail F.left files.old files.new (IsErrOf result (RefFault.Fault Fault.Device)) }
-    ensures looks { F.honest → HasLoose (F.content files.old) ⊎ Wears F.failed F.can_fail F.left files.old files.new (IsErrOf result (RefFault.Fault Fault.Device)) }
+    ensures wear { Writes F.honest F.content F.failed F.can_fail F.left files.old files.new (TellsDevice result) }
+    ensures looks { F.honest → HasLoose (F.content files.old) ⊎ Wears F.failed F.can_fail F.left files.old files.new (TellsDevice result) }
 {
     let paths = files.list(alloc, "refs/")?;
     let refs = all_refs(files, alloc, &paths)?;

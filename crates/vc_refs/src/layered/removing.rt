@@ -1,11 +1,11 @@
 // Removing one ref.
-ghost use Rattle.std.specs.Prelude.{◌≡◌, ◌⊎◌, Some, IsSome, IfErr, OnOk, OnErr, IsErrOf};
+ghost use Rattle.std.specs.Prelude.{◌≡◌, ◌⊎◌, Some, IfErr, OnOk, OnErr, IsErrOf};
 ghost use Rattle.vc_files.specs.Failures.{Wears, Writes};
-ghost use Rattle.vc_refs.specs.Head.{KeepsTheRest};
-ghost use Rattle.vc_refs.specs.Packing.{IsUnpacked, UnpacksOnly};
-ghost use Rattle.vc_refs.specs.RefFault.{BlamesRemove, HasExpected};
-ghost use Rattle.vc_refs.specs.Refs.{deciding_file, packed_map, refs, IsBadRef};
-ghost use Rattle.vc_refs.specs.RefMap.{IsInRefs, IsRefMap, without_ref};
+ghost use Rattle.vc_refs.specs.Packing.{IsUnpacked};
+ghost use Rattle.vc_refs.specs.RefCalls.{RemovesRef};
+ghost use Rattle.vc_refs.specs.RefFault.{BlamesRemove, HasExpected, MayRemoveRef, TellsDevice};
+ghost use Rattle.vc_refs.specs.Refs.{packed_map};
+ghost use Rattle.vc_refs.specs.RefMap.{IsInRefs};
 
 use super::getting::expect_value;
 use super::packed_file::{read_packed, write_packed};
@@ -26,16 +26,11 @@ pub fn remove<F: Files>(
     expected: Option<ObjectId>,
 ) -> Result<(), RefFault>
     requires { IsInRefs name.now }
-    ensures removed { F.honest → OnOk result (refs (F.content files.new) ≡ without_ref (refs (F.content files.old)) name.now) }
-    ensures gone { F.honest → OnOk result (IsBadRef (F.content files.new) (deciding_file (F.content files.new) name.now) → ⊥) }
+    ensures removes { RemovesRef F.honest F.content name.now files.old files.new result }
     ensures allowed { F.honest → OnOk result (HasExpected (F.content files.old) name.now expected) }
     ensures refused { F.honest → IfErr result (BlamesRemove (F.content files.old) name.now expected) }
-    ensures kept { F.honest → IsRefMap (refs (F.content files.old)) → IsRefMap (refs (F.content files.new)) }
-    ensures rest { F.honest → KeepsTheRest name.now (F.content files.old) (F.content files.new) }
-    ensures unpacks { F.honest → UnpacksOnly name.now (F.content files.old) (F.content files.new) }
-    ensures err { F.honest → OnErr result (refs (F.content files.new) ≡ refs (F.content files.old)) }
-    ensures wear { Writes F.honest F.content F.failed F.can_fail F.left files.old files.new (IsErrOf result (RefFault.Fault Fault.Device)) }
-    ensures looks { F.honest → (IsSome expected × HasExpected (F.content files.old) name.now expected) ⊎ Wears F.failed F.can_fail F.left files.old files.new (IsErrOf result (RefFault.Fault Fault.Device)) }
+    ensures wear { Writes F.honest F.content F.failed F.can_fail F.left files.old files.new (TellsDevice result) }
+    ensures looks { F.honest → MayRemoveRef (F.content files.old) name.now expected ⊎ Wears F.failed F.can_fail F.left files.old files.new (TellsDevice result) }
 {
     let packed = read_packed(files, alloc)?;
     let loose = expect_value(files, alloc, &packed, name, expected)?;

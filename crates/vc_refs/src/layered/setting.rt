@@ -1,10 +1,9 @@
 // Setting one ref.
-ghost use Rattle.std.specs.Prelude.{◌≡◌, ◌⊎◌, true, IfErr, OnOk, OnErr, IsErrOf};
+ghost use Rattle.std.specs.Prelude.{◌⊎◌, IfErr, OnOk};
 ghost use Rattle.vc_files.specs.Failures.{Wears, Writes};
-ghost use Rattle.vc_refs.specs.Head.{KeepsTheRest};
-ghost use Rattle.vc_refs.specs.RefFault.{BlamesSet, MaySet};
-ghost use Rattle.vc_refs.specs.Refs.{refs, ChangesOnly};
-ghost use Rattle.vc_refs.specs.RefMap.{IsInRefs, IsRefMap, is_ref, with_ref};
+ghost use Rattle.vc_refs.specs.RefCalls.{SetsRef};
+ghost use Rattle.vc_refs.specs.RefFault.{BlamesSet, MaySet, MayWriteRef, TellsDevice};
+ghost use Rattle.vc_refs.specs.RefMap.{IsInRefs};
 
 use super::getting::expect_value;
 use super::obstacle::refuse_beside;
@@ -12,7 +11,7 @@ use super::packed_file::read_packed;
 use crate::RefFault;
 use crate::setting::put;
 use std::alloc::Global;
-use vc_files::{Fault, Files};
+use vc_files::Files;
 use vc_object::ObjectId;
 use vc_refname::RefName;
 
@@ -26,15 +25,11 @@ pub fn set<F: Files>(
     new: ObjectId,
 ) -> Result<(), RefFault>
     requires { IsInRefs name.now }
-    ensures set { F.honest → OnOk result (refs (F.content files.new) ≡ with_ref (refs (F.content files.old)) name.now new) }
+    ensures sets { SetsRef F.honest F.content name.now new files.old files.new result }
     ensures allowed { F.honest → OnOk result (MaySet (F.content files.old) name.now expected) }
     ensures refused { F.honest → IfErr result (BlamesSet (F.content files.old) name.now expected) }
-    ensures kept { F.honest → IsRefMap (refs (F.content files.old)) → IsRefMap (refs (F.content files.new)) }
-    ensures rest { F.honest → KeepsTheRest name.now (F.content files.old) (F.content files.new) }
-    ensures only { F.honest → ChangesOnly name.now (F.content files.old) (F.content files.new) }
-    ensures err { F.honest → OnErr result (F.content files.new ≡ F.content files.old) }
-    ensures wear { Writes F.honest F.content F.failed F.can_fail F.left files.old files.new (IsErrOf result (RefFault.Fault Fault.Device)) }
-    ensures looks { F.honest → ((is_ref name.now ≡ true) × MaySet (F.content files.old) name.now expected) ⊎ Wears F.failed F.can_fail F.left files.old files.new (IsErrOf result (RefFault.Fault Fault.Device)) }
+    ensures wear { Writes F.honest F.content F.failed F.can_fail F.left files.old files.new (TellsDevice result) }
+    ensures looks { F.honest → MayWriteRef (F.content files.old) name.now expected ⊎ Wears F.failed F.can_fail F.left files.old files.new (TellsDevice result) }
 {
     let packed = read_packed(files, alloc)?;
     refuse_beside(files, alloc, &packed, name)?;

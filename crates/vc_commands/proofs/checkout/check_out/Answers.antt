@@ -34,7 +34,7 @@ returns-clause-done g c = λ work_honest honest.
       blobs = subst (λ (m : FileMap). HasDueBlobs (objects m) index tree) looked (c.in_ok-checkout.ensures.blobs honest);
       files = λ path. subst (λ (m : FileMap). IsCheckedOut (objects m) (get index path) (get tree path) (get was path) (get now path)) looked ((c.in_ok-checkout.ensures.brought work_honest honest).files path);
       sound = c.in_ok-write_index.ensures.index;
-      shows = shown_head _ _ aim (c.in_ok-set_head.ensures.only honest) (c.in_ok-set_head.ensures.refs honest) (c.in_ok-set_head.ensures.set honest)
+      shows = shown_head _ _ aim (c.in_ok-set_head.ensures.sets.only honest) (c.in_ok-set_head.ensures.sets.refs honest) (c.in_ok-set_head.ensures.sets.set honest)
           ∙ ap (λ (s : Shown). with_head_shown s aim) (shown_index_from _ _ _ _ _ brought (c.in_ok-write_index.ensures.written honest) refl);
     }
 
@@ -72,7 +72,7 @@ returns-in_err-set_head-clause-files g c = λ honest.
       before = c.in_ok-index.ensures.may honest;
       blobs = subst (λ (m : FileMap). HasDueBlobs (objects m) index tree) looked (c.in_ok-checkout.ensures.blobs honest);
       files = λ work_honest path. subst (λ (m : FileMap). IsCheckedOut (objects m) (get index path) (get tree path) (get was path) (get now path)) looked ((c.in_ok-checkout.ensures.brought work_honest honest).files path);
-      written = c.in_err-set_head.ensures.err honest ∙ (c.in_ok-write_index.ensures.written honest ∙ ap (λ (m : FileMap). insert m (codes "index") (index_text tree)) brought);
+      written = c.in_err-set_head.ensures.sets.err honest ∙ (c.in_ok-write_index.ensures.written honest ∙ ap (λ (m : FileMap). insert m (codes "index") (index_text tree)) brought);
     } in
     handed_on (λ e. (new ≡ old) ⊎ ((status_of e ≡ 3) × LeavesHead g.W.WorkTree.honest c.args.own.now c.args.revision.now old new was now)) (Refs fault) c.from_residual-in_err-set_head.result c.from_residual-in_err-set_head.ensures.1
     (inr (refs_status fault c.in_err-set_head.ensures.refused, leaves))

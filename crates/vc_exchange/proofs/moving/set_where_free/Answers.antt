@@ -12,13 +12,13 @@ use Rattle.vc_exchange.proofs.MovingLemmas.{device_meant, free_among, passed_bla
 use Rattle.vc_exchange.proofs.moving.set_where_free.Goals as goal
 
 pub returns-in-Ok-clause-set : goal.returns-in-Ok-clause-set
-returns-in-Ok-clause-set g c = λ honest. (free_among (g.F.Files.content c.args.files.now) c.args.to.now (c.in-Ok.ensures.allowed honest).free, c.in-Ok.ensures.set honest)
+returns-in-Ok-clause-set g c = λ honest. (free_among (g.F.Files.content c.args.files.now) c.args.to.now (c.in-Ok.ensures.allowed honest).free, c.in-Ok.ensures.sets.set honest)
 
 pub returns-in-Ok-clause-bad : goal.returns-in-Ok-clause-bad
-returns-in-Ok-clause-bad g c = λ honest. bad_ref _ _ c.args.to.now c.requires.inside (c.in-Ok.ensures.rest honest) (c.in-Ok.ensures.only honest)
+returns-in-Ok-clause-bad g c = λ honest. bad_ref _ _ c.args.to.now c.requires.inside (c.in-Ok.ensures.sets.rest honest) (c.in-Ok.ensures.sets.only honest)
 
 pub returns-in-Ok-clause-outside : goal.returns-in-Ok-clause-outside
-returns-in-Ok-clause-outside g c = λ honest. outside_from_only (codes "refs/") (c.in-Ok.ensures.only honest) c.requires.inside
+returns-in-Ok-clause-outside g c = λ honest. outside_from_only (codes "refs/") (c.in-Ok.ensures.sets.only honest) c.requires.inside
 
 pub returns-in-Ok-clause-looks : goal.returns-in-Ok-clause-looks
 returns-in-Ok-clause-looks g c = λ honest. inl (free_among (g.F.Files.content c.args.files.now) c.args.to.now (c.in-Ok.ensures.allowed honest).free)
@@ -27,7 +27,7 @@ pub returns-in-Err-clause-set : goal.returns-in-Err-clause-set
 returns-in-Err-clause-set g c = λ honest.
     let content = g.F.Files.content in
     subst (λ (r : Result Bool RefFault). IfOk r (IsSetWhereFree (content c.args.files.now) (content c.set.new.files) c.args.to.now c.args.id)) (sym c.passed_over.ensures)
-    (passed_set (content c.args.files.now) c.args.to.now c.args.current (content c.set.new.files) c.args.id c.in-Err.fault (c.in-Err.ensures.err honest) (c.in-Err.ensures.refused honest))
+    (passed_set (content c.args.files.now) c.args.to.now c.args.current (content c.set.new.files) c.args.id c.in-Err.fault (c.in-Err.ensures.sets.err honest) (c.in-Err.ensures.refused honest))
 
 pub returns-in-Err-clause-refused : goal.returns-in-Err-clause-refused
 returns-in-Err-clause-refused g c = λ honest is.

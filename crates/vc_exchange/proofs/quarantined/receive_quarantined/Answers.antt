@@ -11,7 +11,7 @@ use Rattle.vc_object.specs.declared.id.ObjectId.{ObjectId}
 use Rattle.vc_rules.proofs.JoinLemmas.{joined}
 use Rattle.vc_rules.specs.Git.{git}
 use Rattle.vc_rules.specs.OpenPushes.{HoldsContent}
-use Rattle.vc_session.proofs.CleanLemmas.{bad_then}
+use Rattle.vc_session.proofs.CleanLemmas.{bad_same, bad_then}
 use Rattle.vc_session.specs.Carrying.{objects_in}
 use Rattle.vc_session.specs.Clean.{MakesNoneBad}
 use Rattle.vc_session.specs.Known.{AreWhole}
@@ -233,38 +233,64 @@ returns-clause-taken g c = λ honest pack holds r p m is refs same.
     let after = received_beside (content c.move_refs.new.files) (content c.drop_quarantine.new.files) (c.in_ok-drop_quarantine.ensures.outside honest) r _ m _ _ _ done in
     search (rules, after, c.len.ensures)
 
--- ---- the objects stay
-pub returns-in_err-known-clause-objects : goal.returns-in_err-known-clause-objects
-returns-in_err-known-clause-objects g c = λ honest. keeps_same _ _ c.in_err-known.ensures.same
+-- ---- the objects stay, and no file becomes bad
+pub returns-in_err-known-clause-good : goal.returns-in_err-known-clause-good
+returns-in_err-known-clause-good g c = λ honest. record { objects = keeps_same _ _ c.in_err-known.ensures.same; bad = bad_same _ _ c.in_err-known.ensures.same }
 
-pub returns-in_err-objects-clause-objects : goal.returns-in_err-objects-clause-objects
-returns-in_err-objects-clause-objects g c = λ honest. keeps_same _ _ (c.in_err-objects.ensures.same ∙ c.in_ok-known.ensures.same)
+pub returns-in_err-objects-clause-good : goal.returns-in_err-objects-clause-good
+returns-in_err-objects-clause-good g c = λ honest.
+    record {
+      objects = keeps_same _ _ (c.in_err-objects.ensures.same ∙ c.in_ok-known.ensures.same);
+      bad = bad_same _ _ (c.in_err-objects.ensures.same ∙ c.in_ok-known.ensures.same);
+    }
 
-pub returns-in_err-migrate-clause-objects : goal.returns-in_err-migrate-clause-objects
-returns-in_err-migrate-clause-objects g c = λ honest.
+pub returns-in_err-migrate-clause-good : goal.returns-in_err-migrate-clause-good
+returns-in_err-migrate-clause-good g c = λ honest.
     let content = g.F.Files.content in
     let front : IsFrontMigrated (content c.judge_quarantined.new.files) 0 c.args.names.now (content c.migrate.new.files) = search (rules, c.in_err-migrate.ensures.left honest) in
-    keeps_then _ _ _ (keeps_same _ _ (c.in_ok-objects.ensures.same ∙ c.in_ok-known.ensures.same)) (front_keeps _ 0 _ c.args.names.now front)
+    record {
+      objects = keeps_then _ _ _ (keeps_same _ _ (c.in_ok-objects.ensures.same ∙ c.in_ok-known.ensures.same)) (front_keeps _ 0 _ c.args.names.now front);
+      bad = rw (c.in_ok-objects.ensures.same, c.in_ok-known.ensures.same) at (c.in_err-migrate.ensures.bad honest);
+    }
 
-pub returns-in_err-open-clause-objects : goal.returns-in_err-open-clause-objects
-returns-in_err-open-clause-objects g c = λ honest.
-    keeps_then _ _ _ (keeps_same _ _ (c.in_ok-objects.ensures.same ∙ c.in_ok-known.ensures.same))
-    (keeps_then _ _ _ (migrated_keeps (g.F.Files.content c.judge_quarantined.new.files) 0 (g.F.Files.content c.migrate.new.files) c.args.names.now (c.in_ok-migrate.ensures.stored honest)) (keeps_same _ _ c.in_err-open.ensures.same))
+pub returns-in_err-open-clause-good : goal.returns-in_err-open-clause-good
+returns-in_err-open-clause-good g c = λ honest.
+    let content = g.F.Files.content in
+    let stored : MakesNoneBad (content c.args.files.now) (content c.migrate.new.files) = rw (c.in_ok-objects.ensures.same, c.in_ok-known.ensures.same) at (c.in_ok-migrate.ensures.bad honest) in
+    record {
+      objects = keeps_then _ _ _ (keeps_same _ _ (c.in_ok-objects.ensures.same ∙ c.in_ok-known.ensures.same)) (keeps_then _ _ _ (migrated_keeps (g.F.Files.content c.judge_quarantined.new.files) 0 (g.F.Files.content c.migrate.new.files) c.args.names.now (c.in_ok-migrate.ensures.stored honest)) (keeps_same _ _ c.in_err-open.ensures.same));
+      bad = bad_then stored (bad_same _ _ c.in_err-open.ensures.same);
+    }
 
-pub returns-in_err-moved-clause-objects : goal.returns-in_err-moved-clause-objects
-returns-in_err-moved-clause-objects g c = λ honest.
-    keeps_then _ _ _ (keeps_same _ _ (c.in_ok-objects.ensures.same ∙ c.in_ok-known.ensures.same))
-    (keeps_then _ _ _ (migrated_keeps (g.F.Files.content c.judge_quarantined.new.files) 0 (g.F.Files.content c.migrate.new.files) c.args.names.now (c.in_ok-migrate.ensures.stored honest)) (keeps_then _ _ _ (keeps_same _ _ c.in_ok-open.ensures.same) (keeps_beside_refs _ _ (c.in_err-moved.ensures.outside honest))))
+pub returns-in_err-moved-clause-good : goal.returns-in_err-moved-clause-good
+returns-in_err-moved-clause-good g c = λ honest.
+    let content = g.F.Files.content in
+    let stored : MakesNoneBad (content c.args.files.now) (content c.migrate.new.files) = rw (c.in_ok-objects.ensures.same, c.in_ok-known.ensures.same) at (c.in_ok-migrate.ensures.bad honest) in
+    let moved : MakesNoneBad (content c.migrate.new.files) (content c.move_refs.new.files) = rw c.in_ok-open.ensures.same at (c.in_err-moved.ensures.bad honest) in
+    record {
+      objects = keeps_then _ _ _ (keeps_same _ _ (c.in_ok-objects.ensures.same ∙ c.in_ok-known.ensures.same)) (keeps_then _ _ _ (migrated_keeps (g.F.Files.content c.judge_quarantined.new.files) 0 (g.F.Files.content c.migrate.new.files) c.args.names.now (c.in_ok-migrate.ensures.stored honest)) (keeps_then _ _ _ (keeps_same _ _ c.in_ok-open.ensures.same) (keeps_beside_refs _ _ (c.in_err-moved.ensures.outside honest))));
+      bad = bad_then stored moved;
+    }
 
-pub returns-in_err-drop_quarantine-clause-objects : goal.returns-in_err-drop_quarantine-clause-objects
-returns-in_err-drop_quarantine-clause-objects g c = λ honest.
-    keeps_then _ _ _ (keeps_same _ _ (c.in_ok-objects.ensures.same ∙ c.in_ok-known.ensures.same))
-    (keeps_then _ _ _ (migrated_keeps (g.F.Files.content c.judge_quarantined.new.files) 0 (g.F.Files.content c.migrate.new.files) c.args.names.now (c.in_ok-migrate.ensures.stored honest)) (keeps_then _ _ _ (keeps_same _ _ c.in_ok-open.ensures.same) (keeps_then _ _ _ (keeps_beside_refs _ _ (c.in_ok-moved.ensures.outside honest)) (keeps_beside_slot _ _ (c.in_err-drop_quarantine.ensures.outside honest)))))
+pub returns-in_err-drop_quarantine-clause-good : goal.returns-in_err-drop_quarantine-clause-good
+returns-in_err-drop_quarantine-clause-good g c = λ honest.
+    let content = g.F.Files.content in
+    let stored : MakesNoneBad (content c.args.files.now) (content c.migrate.new.files) = rw (c.in_ok-objects.ensures.same, c.in_ok-known.ensures.same) at (c.in_ok-migrate.ensures.bad honest) in
+    let moved : MakesNoneBad (content c.migrate.new.files) (content c.move_refs.new.files) = rw c.in_ok-open.ensures.same at (c.in_ok-moved.ensures.bad honest) in
+    record {
+      objects = keeps_then _ _ _ (keeps_same _ _ (c.in_ok-objects.ensures.same ∙ c.in_ok-known.ensures.same)) (keeps_then _ _ _ (migrated_keeps (g.F.Files.content c.judge_quarantined.new.files) 0 (g.F.Files.content c.migrate.new.files) c.args.names.now (c.in_ok-migrate.ensures.stored honest)) (keeps_then _ _ _ (keeps_same _ _ c.in_ok-open.ensures.same) (keeps_then _ _ _ (keeps_beside_refs _ _ (c.in_ok-moved.ensures.outside honest)) (keeps_beside_slot _ _ (c.in_err-drop_quarantine.ensures.outside honest)))));
+      bad = bad_then stored (bad_then moved (c.in_err-drop_quarantine.ensures.bad honest));
+    }
 
-pub returns-clause-objects : goal.returns-clause-objects
-returns-clause-objects g c = λ honest.
-    keeps_then _ _ _ (keeps_same _ _ (c.in_ok-objects.ensures.same ∙ c.in_ok-known.ensures.same))
-    (keeps_then _ _ _ (migrated_keeps (g.F.Files.content c.judge_quarantined.new.files) 0 (g.F.Files.content c.migrate.new.files) c.args.names.now (c.in_ok-migrate.ensures.stored honest)) (keeps_then _ _ _ (keeps_same _ _ c.in_ok-open.ensures.same) (keeps_then _ _ _ (keeps_beside_refs _ _ (c.in_ok-moved.ensures.outside honest)) (keeps_beside_slot _ _ (c.in_ok-drop_quarantine.ensures.outside honest)))))
+pub returns-clause-good : goal.returns-clause-good
+returns-clause-good g c = λ honest.
+    let content = g.F.Files.content in
+    let stored : MakesNoneBad (content c.args.files.now) (content c.migrate.new.files) = rw (c.in_ok-objects.ensures.same, c.in_ok-known.ensures.same) at (c.in_ok-migrate.ensures.bad honest) in
+    let moved : MakesNoneBad (content c.migrate.new.files) (content c.move_refs.new.files) = rw c.in_ok-open.ensures.same at (c.in_ok-moved.ensures.bad honest) in
+    record {
+      objects = keeps_then _ _ _ (keeps_same _ _ (c.in_ok-objects.ensures.same ∙ c.in_ok-known.ensures.same)) (keeps_then _ _ _ (migrated_keeps (g.F.Files.content c.judge_quarantined.new.files) 0 (g.F.Files.content c.migrate.new.files) c.args.names.now (c.in_ok-migrate.ensures.stored honest)) (keeps_then _ _ _ (keeps_same _ _ c.in_ok-open.ensures.same) (keeps_then _ _ _ (keeps_beside_refs _ _ (c.in_ok-moved.ensures.outside honest)) (keeps_beside_slot _ _ (c.in_ok-drop_quarantine.ensures.outside honest)))));
+      bad = bad_then stored (bad_then moved (c.in_ok-drop_quarantine.ensures.bad honest));
+    }
 
 -- ---- and so does all else
 pub returns-in_err-known-clause-beside : goal.returns-in_err-known-clause-beside
@@ -287,25 +313,3 @@ returns-in_err-drop_quarantine-clause-beside g c = λ honest. (others_then _ _ _
 
 pub returns-clause-beside : goal.returns-clause-beside
 returns-clause-beside g c = λ honest. (others_then _ _ _ (others_same _ _ (c.in_ok-objects.ensures.same ∙ c.in_ok-known.ensures.same)) (others_then _ _ _ (others_objects _ _ (c.in_ok-migrate.ensures.outside honest)) (others_then _ _ _ (others_same _ _ c.in_ok-open.ensures.same) (others_then _ _ _ (others_refs _ _ (c.in_ok-moved.ensures.outside honest)) (others_slot _ _ (c.in_ok-drop_quarantine.ensures.outside honest))))))
-
--- ---- no file becomes bad
-pub returns-in_err-moved-clause-bad : goal.returns-in_err-moved-clause-bad
-returns-in_err-moved-clause-bad g c = λ honest.
-    let content = g.F.Files.content in
-    let stored : MakesNoneBad (content c.args.files.now) (content c.migrate.new.files) = rw (c.in_ok-objects.ensures.same, c.in_ok-known.ensures.same) at (c.in_ok-migrate.ensures.bad honest) in
-    let moved : MakesNoneBad (content c.migrate.new.files) (content c.move_refs.new.files) = rw c.in_ok-open.ensures.same at (c.in_err-moved.ensures.bad honest) in
-    bad_then stored moved
-
-pub returns-in_err-drop_quarantine-clause-bad : goal.returns-in_err-drop_quarantine-clause-bad
-returns-in_err-drop_quarantine-clause-bad g c = λ honest.
-    let content = g.F.Files.content in
-    let stored : MakesNoneBad (content c.args.files.now) (content c.migrate.new.files) = rw (c.in_ok-objects.ensures.same, c.in_ok-known.ensures.same) at (c.in_ok-migrate.ensures.bad honest) in
-    let moved : MakesNoneBad (content c.migrate.new.files) (content c.move_refs.new.files) = rw c.in_ok-open.ensures.same at (c.in_ok-moved.ensures.bad honest) in
-    bad_then stored (bad_then moved (c.in_err-drop_quarantine.ensures.bad honest))
-
-pub returns-clause-bad : goal.returns-clause-bad
-returns-clause-bad g c = λ honest.
-    let content = g.F.Files.content in
-    let stored : MakesNoneBad (content c.args.files.now) (content c.migrate.new.files) = rw (c.in_ok-objects.ensures.same, c.in_ok-known.ensures.same) at (c.in_ok-migrate.ensures.bad honest) in
-    let moved : MakesNoneBad (content c.migrate.new.files) (content c.move_refs.new.files) = rw c.in_ok-open.ensures.same at (c.in_ok-moved.ensures.bad honest) in
-    bad_then stored (bad_then moved (c.in_ok-drop_quarantine.ensures.bad honest))

@@ -17,7 +17,7 @@ use Rattle.vc_pkt.specs.ObjectStreamView.{carried}
 use Rattle.vc_rules.proofs.JoinLemmas.{joined}
 use Rattle.vc_rules.specs.Git.{git}
 use Rattle.vc_rules.specs.OpenPushes.{HoldsContent}
-use Rattle.vc_session.proofs.CleanLemmas.{bad_then}
+use Rattle.vc_session.proofs.CleanLemmas.{bad_same, bad_then}
 use Rattle.vc_session.specs.Carrying.{objects_in}
 use Rattle.vc_session.specs.Clean.{MakesNoneBad}
 use Rattle.vc_session.specs.Known.{AreWhole}
@@ -198,51 +198,56 @@ returns-clause-wear g c =
     (writes_both c.in_ok-store_all.ensures.wear (search rules)
     (wears_then c.in_ok-open.ensures.wear (λ _. c.in_ok-open.ensures.same) (search rules) (writes_told c.in_ok-moved.ensures.wear (search rules) (search rules)))))
 
-pub returns-in_err-known-clause-objects : goal.returns-in_err-known-clause-objects
-returns-in_err-known-clause-objects g c = λ honest. keeps_same _ _ c.in_err-known.ensures.same
+pub returns-in_err-known-clause-good : goal.returns-in_err-known-clause-good
+returns-in_err-known-clause-good g c = λ honest. record { objects = keeps_same _ _ c.in_err-known.ensures.same; bad = bad_same _ _ c.in_err-known.ensures.same }
 
-pub returns-in_err-objects-clause-objects : goal.returns-in_err-objects-clause-objects
-returns-in_err-objects-clause-objects g c = λ honest. keeps_same _ _ (c.in_err-objects.ensures.same ∙ c.in_ok-known.ensures.same)
+pub returns-in_err-objects-clause-good : goal.returns-in_err-objects-clause-good
+returns-in_err-objects-clause-good g c = λ honest.
+    record {
+      objects = keeps_same _ _ (c.in_err-objects.ensures.same ∙ c.in_ok-known.ensures.same);
+      bad = bad_same _ _ (c.in_err-objects.ensures.same ∙ c.in_ok-known.ensures.same);
+    }
 
-pub returns-in_err-store_all-clause-objects : goal.returns-in_err-store_all-clause-objects
-returns-in_err-store_all-clause-objects g c = λ honest.
+pub returns-in_err-store_all-clause-good : goal.returns-in_err-store_all-clause-good
+returns-in_err-store_all-clause-good g c = λ honest.
     let content = g.F.Files.content in
     let first = content c.judge_pack.new.files in
     let mid = content c.store_all.new.files in
     let brought = carried c.args.pack.now.objects in
     let some : AreSomeStored first mid brought = search (rules, c.in_err-store_all.ensures.left honest) in
-    keeps_then _ _ _ (keeps_same _ _ (c.in_ok-objects.ensures.same ∙ c.in_ok-known.ensures.same)) (keeps_some first mid brought some)
+    record {
+      objects = keeps_then _ _ _ (keeps_same _ _ (c.in_ok-objects.ensures.same ∙ c.in_ok-known.ensures.same)) (keeps_some first mid brought some);
+      bad = rw (c.in_ok-objects.ensures.same, c.in_ok-known.ensures.same) at (c.in_err-store_all.ensures.bad honest);
+    }
 
-pub returns-in_err-open-clause-objects : goal.returns-in_err-open-clause-objects
-returns-in_err-open-clause-objects g c = λ honest.
+pub returns-in_err-open-clause-good : goal.returns-in_err-open-clause-good
+returns-in_err-open-clause-good g c = λ honest.
     let content = g.F.Files.content in
     let stored = keeps_stored (content c.judge_pack.new.files) (content c.store_all.new.files) (carried c.args.pack.now.objects) (c.in_ok-store_all.ensures.stored honest) in
-    keeps_then _ _ _ (keeps_same _ _ (c.in_ok-objects.ensures.same ∙ c.in_ok-known.ensures.same)) (keeps_then _ _ _ stored (keeps_same _ _ c.in_err-open.ensures.same))
+    let none : MakesNoneBad (content c.args.files.now) (content c.store_all.new.files) = rw (c.in_ok-objects.ensures.same, c.in_ok-known.ensures.same) at (c.in_ok-store_all.ensures.bad honest) in
+    record {
+      objects = keeps_then _ _ _ (keeps_same _ _ (c.in_ok-objects.ensures.same ∙ c.in_ok-known.ensures.same)) (keeps_then _ _ _ stored (keeps_same _ _ c.in_err-open.ensures.same));
+      bad = bad_then none (bad_same _ _ c.in_err-open.ensures.same);
+    }
 
-pub returns-in_err-moved-clause-objects : goal.returns-in_err-moved-clause-objects
-returns-in_err-moved-clause-objects g c = λ honest.
+pub returns-in_err-moved-clause-good : goal.returns-in_err-moved-clause-good
+returns-in_err-moved-clause-good g c = λ honest.
     let content = g.F.Files.content in
     let stored = keeps_stored (content c.judge_pack.new.files) (content c.store_all.new.files) (carried c.args.pack.now.objects) (c.in_ok-store_all.ensures.stored honest) in
-    keeps_then _ _ _ (keeps_same _ _ (c.in_ok-objects.ensures.same ∙ c.in_ok-known.ensures.same))
-    (keeps_then _ _ _ stored (keeps_then _ _ _ (keeps_same _ _ c.in_ok-open.ensures.same) (keeps_beside_refs _ _ (c.in_err-moved.ensures.outside honest))))
-
-pub returns-clause-objects : goal.returns-clause-objects
-returns-clause-objects g c = λ honest.
-    let content = g.F.Files.content in
-    let stored = keeps_stored (content c.judge_pack.new.files) (content c.store_all.new.files) (carried c.args.pack.now.objects) (c.in_ok-store_all.ensures.stored honest) in
-    keeps_then _ _ _ (keeps_same _ _ (c.in_ok-objects.ensures.same ∙ c.in_ok-known.ensures.same))
-    (keeps_then _ _ _ stored (keeps_then _ _ _ (keeps_same _ _ c.in_ok-open.ensures.same) (keeps_beside_refs _ _ (c.in_ok-moved.ensures.outside honest))))
-
-pub returns-in_err-moved-clause-bad : goal.returns-in_err-moved-clause-bad
-returns-in_err-moved-clause-bad g c = λ honest.
-    let content = g.F.Files.content in
-    let stored : MakesNoneBad (content c.args.files.now) (content c.store_all.new.files) = rw (c.in_ok-objects.ensures.same, c.in_ok-known.ensures.same) at (c.in_ok-store_all.ensures.bad honest) in
+    let none : MakesNoneBad (content c.args.files.now) (content c.store_all.new.files) = rw (c.in_ok-objects.ensures.same, c.in_ok-known.ensures.same) at (c.in_ok-store_all.ensures.bad honest) in
     let moved : MakesNoneBad (content c.store_all.new.files) (content c.move_refs.new.files) = rw c.in_ok-open.ensures.same at (c.in_err-moved.ensures.bad honest) in
-    bad_then stored moved
+    record {
+      objects = keeps_then _ _ _ (keeps_same _ _ (c.in_ok-objects.ensures.same ∙ c.in_ok-known.ensures.same)) (keeps_then _ _ _ stored (keeps_then _ _ _ (keeps_same _ _ c.in_ok-open.ensures.same) (keeps_beside_refs _ _ (c.in_err-moved.ensures.outside honest))));
+      bad = bad_then none moved;
+    }
 
-pub returns-clause-bad : goal.returns-clause-bad
-returns-clause-bad g c = λ honest.
+pub returns-clause-good : goal.returns-clause-good
+returns-clause-good g c = λ honest.
     let content = g.F.Files.content in
-    let stored : MakesNoneBad (content c.args.files.now) (content c.store_all.new.files) = rw (c.in_ok-objects.ensures.same, c.in_ok-known.ensures.same) at (c.in_ok-store_all.ensures.bad honest) in
+    let stored = keeps_stored (content c.judge_pack.new.files) (content c.store_all.new.files) (carried c.args.pack.now.objects) (c.in_ok-store_all.ensures.stored honest) in
+    let none : MakesNoneBad (content c.args.files.now) (content c.store_all.new.files) = rw (c.in_ok-objects.ensures.same, c.in_ok-known.ensures.same) at (c.in_ok-store_all.ensures.bad honest) in
     let moved : MakesNoneBad (content c.store_all.new.files) (content c.move_refs.new.files) = rw c.in_ok-open.ensures.same at (c.in_ok-moved.ensures.bad honest) in
-    bad_then stored moved
+    record {
+      objects = keeps_then _ _ _ (keeps_same _ _ (c.in_ok-objects.ensures.same ∙ c.in_ok-known.ensures.same)) (keeps_then _ _ _ stored (keeps_then _ _ _ (keeps_same _ _ c.in_ok-open.ensures.same) (keeps_beside_refs _ _ (c.in_ok-moved.ensures.outside honest))));
+      bad = bad_then none moved;
+    }

@@ -24,7 +24,7 @@ pub returns-in_err-body-clause-stands : goal.returns-in_err-body-clause-stands
 returns-in_err-body-clause-stands g c = λ m trees rest left b. stands_none g.F.Files.honest m rest trees c.args.parts.now.items (objects (g.F.Files.content c.args.files.now)) (objects (g.F.Files.content c.args.files.now)) b (λ _. refl)
 
 pub returns-in_err-stored-clause-stands : goal.returns-in_err-stored-clause-stands
-returns-in_err-stored-clause-stands g c = λ m trees rest left b. stands_none g.F.Files.honest m rest trees c.args.parts.now.items (objects (g.F.Files.content c.args.files.now)) (objects (g.F.Files.content c.put.new.files)) b (λ honest. ap objects (c.in_err-stored.ensures.err honest))
+returns-in_err-stored-clause-stands g c = λ m trees rest left b. stands_none g.F.Files.honest m rest trees c.args.parts.now.items (objects (g.F.Files.content c.args.files.now)) (objects (g.F.Files.content c.put.new.files)) b (λ honest. ap objects (c.in_err-stored.ensures.puts.err honest))
 
 pub returns-in_err-push-clause-stands : goal.returns-in_err-push-clause-stands
 returns-in_err-push-clause-stands g c = λ m trees rest left b.
@@ -38,8 +38,8 @@ returns-in_err-push-clause-stands g c = λ m trees rest left b.
     closing_stands m trees rest parts start folder b c.requires.last c.requires.some inside
     (λ fs p e. c.start_of-start.ensures.above fs p (ap (take start) c.deref.ensures.value ∙ e)) left
     g.F.Files.honest (objects (g.F.Files.content c.args.files.now)) (objects (g.F.Files.content c.put.new.files))
-    (subst (λ (t : List ℕ). length t ≤ 16777216) (c.deref-2.ensures.value ∙ is) (c.in_ok-stored.ensures.legal refl).size, tt)
-    (λ honest. stored_one (objects (g.F.Files.content c.args.files.now)) (objects (g.F.Files.content c.put.new.files)) c.in_ok-stored.stored c.deref-2.result.now es (c.deref-2.ensures.value ∙ is) c.in_ok-stored.ensures.name (c.in_ok-stored.ensures.objects honest))
+    (subst (λ (t : List ℕ). length t ≤ 16777216) (c.deref-2.ensures.value ∙ is) (c.in_ok-stored.ensures.answers.legal refl).size, tt)
+    (λ honest. stored_one (objects (g.F.Files.content c.args.files.now)) (objects (g.F.Files.content c.put.new.files)) c.in_ok-stored.stored c.deref-2.result.now es (c.deref-2.ensures.value ∙ is) c.in_ok-stored.ensures.answers.name (c.in_ok-stored.ensures.puts.objects honest))
 
 pub returns-in_err-stored-clause-refused : goal.returns-in_err-stored-clause-refused
 returns-in_err-stored-clause-refused g c = λ m trees rest left fits b.
@@ -56,8 +56,8 @@ returns-in_err-stored-clause-refused g c = λ m trees rest left fits b.
     handed_on (IsOfWrite m Damage) (Store fault) c.from_residual-in_err-stored.result c.from_residual-in_err-stored.ensures.1
     (closing_refused m trees rest parts start folder b c.requires.last c.requires.some inside
     (λ fs p e. c.start_of-start.ensures.above fs p (ap (take start) c.deref.ensures.value ∙ e)) left Damage body fault fits is
-    (subst (λ (t : List ℕ). IsOfPut kinds.Tree t fault) c.deref-2.ensures.value c.in_err-stored.ensures.refused)
-    (λ id e honest. still_damaged (content c.args.files.now) (content c.put.new.files) fault id (c.in_err-stored.ensures.err honest) (c.in_err-stored.ensures.damaged honest) e))
+    (subst (λ (t : List ℕ). IsOfPut kinds.Tree t fault) c.deref-2.ensures.value c.in_err-stored.ensures.answers.refused)
+    (λ id e honest. still_damaged (content c.args.files.now) (content c.put.new.files) fault id (c.in_err-stored.ensures.puts.err honest) (c.in_err-stored.ensures.puts.damaged honest) e))
 
 pub returns-clause-closes : goal.returns-clause-closes
 returns-clause-closes g c = λ m trees rest left b.
@@ -75,9 +75,9 @@ returns-clause-closes g c = λ m trees rest left b.
       building = subst (λ (ps : List Part). Building m (trees ++ es ∷ []) ps rest) (sym pushes) (closing m trees rest parts start folder b c.requires.last c.requires.some inside
           (λ fs p e. c.start_of-start.ensures.above fs p (ap (take start) c.deref.ensures.value ∙ e))
           part c.named-id.result body is (sym c.split_path.ensures.is ∙ c.split_at-2.ensures.front) c.split_path.ensures.name c.split_path.ensures.folder refl
-          (c.named-id.ensures.same ∙ c.in_ok-stored.ensures.name ∙ ap (object_name kinds.Tree) c.deref-2.ensures.value) (IsId-from_is_id c.named-id.result (ap is_id c.named-id.ensures.same ∙ c.named-id.ensures.valid)).sized left);
-      fits = (subst (λ (t : List ℕ). length t ≤ 16777216) (c.deref-2.ensures.value ∙ is) (c.in_ok-stored.ensures.legal refl).size, tt);
-      stored = λ honest. stored_one (objects (g.F.Files.content c.args.files.now)) (objects (g.F.Files.content c.put.new.files)) c.in_ok-stored.stored c.deref-2.result.now es (c.deref-2.ensures.value ∙ is) c.in_ok-stored.ensures.name (c.in_ok-stored.ensures.objects honest);
+          (c.named-id.ensures.same ∙ c.in_ok-stored.ensures.answers.name ∙ ap (object_name kinds.Tree) c.deref-2.ensures.value) (IsId-from_is_id c.named-id.result (ap is_id c.named-id.ensures.same ∙ c.named-id.ensures.valid)).sized left);
+      fits = (subst (λ (t : List ℕ). length t ≤ 16777216) (c.deref-2.ensures.value ∙ is) (c.in_ok-stored.ensures.answers.legal refl).size, tt);
+      stored = λ honest. stored_one (objects (g.F.Files.content c.args.files.now)) (objects (g.F.Files.content c.put.new.files)) c.in_ok-stored.stored c.deref-2.result.now es (c.deref-2.ensures.value ∙ is) c.in_ok-stored.ensures.answers.name (c.in_ok-stored.ensures.puts.objects honest);
     }
 
 pub returns-clause-stands : goal.returns-clause-stands
@@ -92,8 +92,8 @@ returns-clause-stands g c = λ m trees rest left b.
     closing_stands m trees rest parts start folder b c.requires.last c.requires.some inside
     (λ fs p e. c.start_of-start.ensures.above fs p (ap (take start) c.deref.ensures.value ∙ e)) left
     g.F.Files.honest (objects (g.F.Files.content c.args.files.now)) (objects (g.F.Files.content c.put.new.files))
-    (subst (λ (t : List ℕ). length t ≤ 16777216) (c.deref-2.ensures.value ∙ is) (c.in_ok-stored.ensures.legal refl).size, tt)
-    (λ honest. stored_one (objects (g.F.Files.content c.args.files.now)) (objects (g.F.Files.content c.put.new.files)) c.in_ok-stored.stored c.deref-2.result.now es (c.deref-2.ensures.value ∙ is) c.in_ok-stored.ensures.name (c.in_ok-stored.ensures.objects honest))
+    (subst (λ (t : List ℕ). length t ≤ 16777216) (c.deref-2.ensures.value ∙ is) (c.in_ok-stored.ensures.answers.legal refl).size, tt)
+    (λ honest. stored_one (objects (g.F.Files.content c.args.files.now)) (objects (g.F.Files.content c.put.new.files)) c.in_ok-stored.stored c.deref-2.result.now es (c.deref-2.ensures.value ∙ is) c.in_ok-stored.ensures.answers.name (c.in_ok-stored.ensures.puts.objects honest))
 
 pub returns-clause-shorter : goal.returns-clause-shorter
 returns-clause-shorter g c =
@@ -105,9 +105,9 @@ returns-clause-shorter g c =
 pub returns-in_err-push-clause-undamaged : goal.returns-in_err-push-clause-undamaged
 returns-in_err-push-clause-undamaged g c = λ honest.
     let content = g.F.Files.content in
-    damage_put (content c.args.files.now) (content c.put.new.files) kinds.Tree c.deref-2.result.now c.in_ok-stored.stored c.in_ok-stored.ensures.name c.named-id.ensures.valid (c.in_ok-stored.ensures.files honest) (c.in_ok-stored.ensures.objects honest)
+    damage_put (content c.args.files.now) (content c.put.new.files) kinds.Tree c.deref-2.result.now c.in_ok-stored.stored c.in_ok-stored.ensures.answers.name c.named-id.ensures.valid (c.in_ok-stored.ensures.puts.files honest) (c.in_ok-stored.ensures.puts.objects honest)
 
 pub returns-clause-undamaged : goal.returns-clause-undamaged
 returns-clause-undamaged g c = λ honest.
     let content = g.F.Files.content in
-    damage_put (content c.args.files.now) (content c.put.new.files) kinds.Tree c.deref-2.result.now c.in_ok-stored.stored c.in_ok-stored.ensures.name c.named-id.ensures.valid (c.in_ok-stored.ensures.files honest) (c.in_ok-stored.ensures.objects honest)
+    damage_put (content c.args.files.now) (content c.put.new.files) kinds.Tree c.deref-2.result.now c.in_ok-stored.stored c.in_ok-stored.ensures.answers.name c.named-id.ensures.valid (c.in_ok-stored.ensures.puts.files honest) (c.in_ok-stored.ensures.puts.objects honest)

@@ -18,7 +18,7 @@ pub returns-clause-written : goal.returns-clause-written
 returns-clause-written g c =
     let is : c.deref-2.result.now ≡ spelling (map part_entry c.in_ok-parts.parts.items) = c.deref-2.ensures.value ∙ c.in_ok-body.ensures ∙ ap (λ ps. spelling (map part_entry ps)) c.deref.ensures.value in
     rw c.named.ensures.same (written g.F.Files.honest (index_of c.args.map.now) c.in_ok-parts.parts.items (objects (g.F.Files.content c.args.files.now)) (objects (g.F.Files.content c.root_parts.new.files)) (objects (g.F.Files.content c.put.new.files)) c.in_ok-id.id c.deref-2.result.now
-    c.in_ok-parts.ensures.closed c.in_ok-parts.ensures.inside is c.in_ok-id.ensures.name (c.in_ok-id.ensures.legal refl).size c.in_ok-id.ensures.objects)
+    c.in_ok-parts.ensures.closed c.in_ok-parts.ensures.inside is c.in_ok-id.ensures.answers.name (c.in_ok-id.ensures.answers.legal refl).size c.in_ok-id.ensures.puts.objects)
 
 pub returns-in_err-id-clause-refused : goal.returns-in_err-id-clause-refused
 returns-in_err-id-clause-refused g c =
@@ -29,16 +29,16 @@ returns-in_err-id-clause-refused g c =
     let Damage = λ (id : ObjectId). g.F.Files.honest → IsDamaged (content c.put.new.files) id in
     let is : c.deref-2.result.now ≡ spelling (map part_entry c.in_ok-parts.parts.items) = c.deref-2.ensures.value ∙ c.in_ok-body.ensures ∙ ap (λ ps. spelling (map part_entry ps)) c.deref.ensures.value in
     handed_on (IsOfWrite m Damage) (Store fault) c.from_residual-in_err-id.result c.from_residual-in_err-id.ensures.1
-    (root_refused m closes.more c.in_ok-parts.parts.items closes.building c.in_ok-parts.ensures.inside Damage c.deref-2.result.now fault closes.fits is c.in_err-id.ensures.refused
-    (λ id e honest. still_damaged (content c.root_parts.new.files) (content c.put.new.files) fault id (c.in_err-id.ensures.err honest) (c.in_err-id.ensures.damaged honest) e))
+    (root_refused m closes.more c.in_ok-parts.parts.items closes.building c.in_ok-parts.ensures.inside Damage c.deref-2.result.now fault closes.fits is c.in_err-id.ensures.answers.refused
+    (λ id e honest. still_damaged (content c.root_parts.new.files) (content c.put.new.files) fault id (c.in_err-id.ensures.puts.err honest) (c.in_err-id.ensures.puts.damaged honest) e))
 
 pub returns-in_err-id-clause-undamaged : goal.returns-in_err-id-clause-undamaged
-returns-in_err-id-clause-undamaged g c = λ honest. damage_then (c.in_ok-parts.ensures.undamaged honest) (damage_same _ _ (c.in_err-id.ensures.err honest))
+returns-in_err-id-clause-undamaged g c = λ honest. damage_then (c.in_ok-parts.ensures.undamaged honest) (damage_same _ _ (c.in_err-id.ensures.puts.err honest))
 
 pub returns-clause-undamaged : goal.returns-clause-undamaged
 returns-clause-undamaged g c = λ honest.
     let content = g.F.Files.content in
-    damage_then (c.in_ok-parts.ensures.undamaged honest) (damage_put (content c.root_parts.new.files) (content c.put.new.files) kinds.Tree c.deref-2.result.now c.in_ok-id.id c.in_ok-id.ensures.name c.named.ensures.valid (c.in_ok-id.ensures.files honest) (c.in_ok-id.ensures.objects honest))
+    damage_then (c.in_ok-parts.ensures.undamaged honest) (damage_put (content c.root_parts.new.files) (content c.put.new.files) kinds.Tree c.deref-2.result.now c.in_ok-id.id c.in_ok-id.ensures.answers.name c.named.ensures.valid (c.in_ok-id.ensures.puts.files honest) (c.in_ok-id.ensures.puts.objects honest))
 
 pub returns-in_err-id-clause-wear : goal.returns-in_err-id-clause-wear
 returns-in_err-id-clause-wear g c = writes_both c.in_ok-parts.ensures.wear (search rules) (writes_told c.in_err-id.ensures.wear (search rules) (search rules))

@@ -1,14 +1,13 @@
 use Rattle.std.proofs.Common.{List, refl, sym, subst, rules}
 use Rattle.std.proofs.lemmas.Result.{err_from_is_err_and}
-use Rattle.vc_pack.proofs.KeepsLemmas.{keeps_then}
 use Rattle.vc_exchange.proofs.QuarantinedLemmas.{held_beside, keeps_beside_slot, others_slot, others_then}
 use Rattle.vc_exchange.specs.Quarantined.{HoldsPack}
 use Rattle.vc_files.proofs.WearLemmas.{writes_both, writes_told}
 use Rattle.vc_files.specs.FileMap.{FileMap, SameOutside}
 use Rattle.vc_object.specs.declared.id.ObjectId.{ObjectId}
-use Rattle.vc_session.proofs.CleanLemmas.{bad_then}
 use Rattle.vc_session.specs.Quarantine.{quarantine_folder}
 use Rattle.vc_node.proofs.ArrivedLemmas.{blames_before, exchange_writes}
+use Rattle.vc_node.proofs.KeepingLemmas.{good_then}
 use Rattle.vc_node.specs.Arriving.{all_of_it, not_all}
 use Rattle.vc_node.proofs.arriving.take_awaited.Goals as goal
 
@@ -46,7 +45,7 @@ pub returns-in_err-moves-clause-beside : goal.returns-in_err-moves-clause-beside
 returns-in_err-moves-clause-beside g c = λ honest. others_then _ _ _ (others_slot _ _ (c.in_ok-arrived.ensures.outside honest)) (c.in_err-moves.ensures.beside honest)
 
 pub returns-in_err-moves-clause-good : goal.returns-in_err-moves-clause-good
-returns-in_err-moves-clause-good g c = λ honest. record { objects = keeps_then _ _ _ (keeps_beside_slot _ _ (c.in_ok-arrived.ensures.outside honest)) (c.in_err-moves.ensures.objects honest); bad = bad_then (c.in_ok-arrived.ensures.bad honest) (c.in_err-moves.ensures.bad honest) }
+returns-in_err-moves-clause-good g c = λ honest. good_then (record { objects = keeps_beside_slot _ _ (c.in_ok-arrived.ensures.outside honest); bad = c.in_ok-arrived.ensures.bad honest }) (c.in_err-moves.ensures.good honest)
 
 pub returns-in_err-moves-clause-wear : goal.returns-in_err-moves-clause-wear
 returns-in_err-moves-clause-wear g c =
@@ -70,7 +69,7 @@ pub returns-clause-beside : goal.returns-clause-beside
 returns-clause-beside g c = λ honest. others_then _ _ _ (others_slot _ _ (c.in_ok-arrived.ensures.outside honest)) (c.in_ok-moves.ensures.beside honest)
 
 pub returns-clause-good : goal.returns-clause-good
-returns-clause-good g c = λ honest. record { objects = keeps_then _ _ _ (keeps_beside_slot _ _ (c.in_ok-arrived.ensures.outside honest)) (c.in_ok-moves.ensures.objects honest); bad = bad_then (c.in_ok-arrived.ensures.bad honest) (c.in_ok-moves.ensures.bad honest) }
+returns-clause-good g c = λ honest. good_then (record { objects = keeps_beside_slot _ _ (c.in_ok-arrived.ensures.outside honest); bad = c.in_ok-arrived.ensures.bad honest }) (c.in_ok-moves.ensures.good honest)
 
 pub returns-clause-wear : goal.returns-clause-wear
 returns-clause-wear g c = writes_both c.in_ok-arrived.ensures.wear (λ never. never) (writes_told c.in_ok-moves.ensures.wear (λ never. absurd (cc never)) (λ never. absurd never))

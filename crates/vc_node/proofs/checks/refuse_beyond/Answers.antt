@@ -1,6 +1,6 @@
 use Rattle.std.proofs.Common.{◌≡◌, [], ◌∷◌, sym, ap, ◌∙◌, rules, subst}
 use Rattle.vc_history.proofs.GenerationLemmas.{agrees_where_none}
-use Rattle.vc_history.specs.BaseFault.{IsTold}
+use Rattle.vc_history.specs.HistoryFault.{IsTold}
 use Rattle.vc_history.specs.Numbering.{numbers}
 use Rattle.vc_files.specs.FileMap.{FileMap}
 use Rattle.vc_graph.specs.Graph.{IsClosedUnder, ReachedFrom}
@@ -10,7 +10,7 @@ use Rattle.vc_object.specs.ObjectMap.{links_in, parents_in}
 use Rattle.vc_session.specs.Known.{AreWhole}
 use Rattle.vc_store.specs.Store.{objects, IsDamaged}
 use Rattle.vc_node.specs.GoodCommit.{IsComplete, BlamesCommitBeyond}
-use Rattle.vc_node.specs.NodeFault.{of_base}
+use Rattle.vc_node.specs.NodeFault.{of_history}
 use Rattle.vc_node.specs.Reads.{NoneRead, TellsRead, IsReached}
 use Rattle.vc_node.specs.declared.fault.NodeFault.TheVariants.{Store}
 use Rattle.vc_node.proofs.CommitLemmas.{told_commit}
@@ -51,7 +51,7 @@ returns-in_err-commits-clause-refused g c = λ honest.
     let complete : AreWhole (objects (content c.args.files.now)) known → IsComplete (content c.args.files.now) id = λ whole.
     subst (λ (m : FileMap). IsComplete m id) first
     ((c.in_ok-is_complete_beyond.ensures.complete honest (subst (λ (m : FileMap). IsClosedUnder (links_in (objects m)) known.objects.keys) (sym first) whole.closed)).0 (search rules)) in
-    let blames : BlamesCommitBeyond (AreWhole (objects (content c.args.files.now)) known) (content c.args.files.now) id (of_base e) = told_commit (AreWhole (objects (content c.args.files.now)) known) (content c.args.files.now) id e complete told in
+    let blames : BlamesCommitBeyond (AreWhole (objects (content c.args.files.now)) known) (content c.args.files.now) id (of_history e) = told_commit (AreWhole (objects (content c.args.files.now)) known) (content c.args.files.now) id e complete told in
     search (rules, blames)
 
 pub returns-in_err-commits-clause-known : goal.returns-in_err-commits-clause-known
@@ -74,7 +74,7 @@ returns-in_err-commits-clause-file g c = λ honest.
     let second : content c.is_complete_beyond.new.objects.files.now ≡ content c.args.files.now = ap (λ (s : StoreState). s.content) c.is_complete_beyond.ensures.kept ∙ first in
     let same : content c.is_history_beyond.new.commits.files.now ≡ content c.args.files.now = ap (λ (s : StoreState). s.content) c.is_history_beyond.ensures.kept ∙ second in
     let told = subst (λ (m : FileMap). IsTold (objects m) (IsDamaged m) (id ∷ []) e) same (c.in_err-commits.ensures.refused honest (agrees_where_none _ (numbers c.new-generations.result) c.new-generations.ensures.none)) in
-    let read : TellsRead (IsReached (content c.args.files.now) id) NoneRead (of_base e) = told_read (content c.args.files.now) id e told in
+    let read : TellsRead (IsReached (content c.args.files.now) id) NoneRead (of_history e) = told_read (content c.args.files.now) id e told in
     search (rules, read)
 
 pub returns-clause-known : goal.returns-clause-known

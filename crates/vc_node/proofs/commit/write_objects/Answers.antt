@@ -29,14 +29,14 @@ returns-in_err-id-clause-refused g c =
     let e = c.in_err-id.field-0.0 in
     let blames : BlamesObjects g.F.Files.honest (content c.args.files.now) c.args.index.now c.args.parents.now w.author.now w.committer.now w.message.now (Store e) =
     body_blamed g.F.Files.honest (content c.args.files.now) (content c.write_tree.new.files) c.args.index.now c.args.parents.now w.author.now w.committer.now w.message.now c.in_ok-tree.ensures.undamaged
-    c.in_ok-tree.tree (root_of c.in_ok-tree.ensures.written) c.deref.result.now (c.deref.ensures.value ∙ c.in_ok-body.ensures) e c.in_err-id.ensures.refused c.in_err-id.ensures.damaged in
+    c.in_ok-tree.tree (root_of c.in_ok-tree.ensures.written) c.deref.result.now (c.deref.ensures.value ∙ c.in_ok-body.ensures) e c.in_err-id.ensures.answers.refused c.in_err-id.ensures.puts.damaged in
     search (rules, blames)
 
 pub returns-in_err-id-clause-left : goal.returns-in_err-id-clause-left
 returns-in_err-id-clause-left g c =
     let content = g.F.Files.content in
     let left : StoresTrees g.F.Files.honest c.args.index.now (objects (content c.args.files.now)) (objects (content c.put.new.files)) =
-    inr (c.in_ok-tree.tree, written_still g.F.Files.honest c.args.index.now (objects (content c.args.files.now)) (objects (content c.write_tree.new.files)) (objects (content c.put.new.files)) c.in_ok-tree.tree c.in_ok-tree.ensures.written (λ h. ap objects (c.in_err-id.ensures.err h))) in
+    inr (c.in_ok-tree.tree, written_still g.F.Files.honest c.args.index.now (objects (content c.args.files.now)) (objects (content c.write_tree.new.files)) (objects (content c.put.new.files)) c.in_ok-tree.tree c.in_ok-tree.ensures.written (λ h. ap objects (c.in_err-id.ensures.puts.err h))) in
     search (rules, left)
 
 -- ---- no file becomes bad
@@ -48,12 +48,12 @@ pub returns-in_err-body-clause-clean : goal.returns-in_err-body-clause-clean
 returns-in_err-body-clause-clean g c = λ honest. clean_objects _ _ (c.in_ok-tree.ensures.undamaged honest) (c.in_ok-tree.ensures.outside honest)
 
 pub returns-in_err-id-clause-clean : goal.returns-in_err-id-clause-clean
-returns-in_err-id-clause-clean g c = λ honest. clean_on _ _ _ (clean_objects _ _ (c.in_ok-tree.ensures.undamaged honest) (c.in_ok-tree.ensures.outside honest)) (c.in_err-id.ensures.err honest)
+returns-in_err-id-clause-clean g c = λ honest. clean_on _ _ _ (clean_objects _ _ (c.in_ok-tree.ensures.undamaged honest) (c.in_ok-tree.ensures.outside honest)) (c.in_err-id.ensures.puts.err honest)
 
 pub returns-clause-clean : goal.returns-clause-clean
 returns-clause-clean g c = λ honest.
     clean_then _ _ _ (clean_objects _ _ (c.in_ok-tree.ensures.undamaged honest) (c.in_ok-tree.ensures.outside honest))
-    (clean_put _ _ kinds.Commit c.deref.result.now c.in_ok-id.id c.in_ok-id.ensures.name (c.in_ok-id.ensures.files honest) (c.in_ok-id.ensures.objects honest) (c.in_ok-id.ensures.outside honest))
+    (clean_put _ _ kinds.Commit c.deref.result.now c.in_ok-id.id c.in_ok-id.ensures.answers.name (c.in_ok-id.ensures.puts.files honest) (c.in_ok-id.ensures.puts.objects honest) (c.in_ok-id.ensures.puts.outside honest))
 
 pub returns-in_err-id-clause-wear : goal.returns-in_err-id-clause-wear
 returns-in_err-id-clause-wear g c = writes_both c.in_ok-tree.ensures.wear (search rules) (writes_told c.in_err-id.ensures.wear (search rules) (search rules))
@@ -77,5 +77,5 @@ returns-in_err-id-clause-file g c =
     let e = c.in_err-id.field-0.0 in
     let read : TellsRead (IsMade c.args.index.now c.args.parents.now w.author.now w.committer.now w.message.now) NoneRead (Store e) =
     body_read c.args.index.now c.args.parents.now w.author.now w.committer.now w.message.now
-    c.in_ok-tree.tree (root_of c.in_ok-tree.ensures.written) c.deref.result.now (c.deref.ensures.value ∙ c.in_ok-body.ensures) e c.in_err-id.ensures.refused in
+    c.in_ok-tree.tree (root_of c.in_ok-tree.ensures.written) c.deref.result.now (c.deref.ensures.value ∙ c.in_ok-body.ensures) e c.in_err-id.ensures.answers.refused in
     search (rules, read)

@@ -1,10 +1,11 @@
 use Rattle.std.proofs.Common.{inr, refl}
 use Rattle.vc_files.proofs.WearLemmas.{writes_none}
+use Rattle.vc_message.proofs.Readings.{text_read}
 use Rattle.vc_message.specs.AnyView.{message_text}
 use Rattle.vc_node.proofs.KeepingLemmas.{good_same}
 use Rattle.vc_node.proofs.LookLemmas.{looks_none}
 use Rattle.vc_node.proofs.ReceivingClone.{kept_here}
-use Rattle.vc_node.proofs.UnreadLemmas.{failed_answers, failed_refused, failed_unread, message_refused, never_unread, no_device, text_here}
+use Rattle.vc_node.proofs.UnreadLemmas.{failed_answers, failed_refused, failed_unread, message_refused, never_unread, no_device}
 use Rattle.vc_node.specs.Awaited.{awaited_text}
 use Rattle.vc_node.proofs.exchanging.receive.Goals as goal
 
@@ -31,7 +32,7 @@ returns-in_err-message-clause-looks g c = λ honest m reads awaited n waiting he
 
 pub returns-clause-answers : goal.returns-clause-answers
 returns-clause-answers g c = λ honest m reads.
-    c.take.ensures.answers honest m (text_here (g.F.Files.content c.args.files.now) (awaited_text c.args.awaited.now) c.args.bytes.now m (message_text c.in_ok-message.message) reads c.in_ok-message.ensures.read)
+    c.take.ensures.answers honest m (text_read c.args.bytes.now m (message_text c.in_ok-message.message) reads c.in_ok-message.ensures.read)
 
 pub returns-clause-unread : goal.returns-clause-unread
 returns-clause-unread g c = λ honest n unread. absurd (never_unread c.args.bytes.now (message_text c.in_ok-message.message) n c.in_ok-message.ensures.spelled unread)
@@ -42,7 +43,7 @@ returns-clause-refused g c = λ honest.
 
 pub returns-clause-looks : goal.returns-clause-looks
 returns-clause-looks g c = λ honest m reads.
-    c.take.ensures.looks honest m (text_here (g.F.Files.content c.args.files.now) (awaited_text c.args.awaited.now) c.args.bytes.now m (message_text c.in_ok-message.message) reads c.in_ok-message.ensures.read)
+    c.take.ensures.looks honest m (text_read c.args.bytes.now m (message_text c.in_ok-message.message) reads c.in_ok-message.ensures.read)
 
 pub returns-in_err-message-clause-good : goal.returns-in_err-message-clause-good
 returns-in_err-message-clause-good g c = λ honest. good_same _ _ refl

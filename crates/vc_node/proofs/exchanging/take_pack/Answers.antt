@@ -30,11 +30,11 @@ returns-in_err-moves-clause-answers g c = λ honest m is.
     awaiting (Receive m) _ _ _ _ _ (ap awaited_text c.in-Pack.is) _
     (still_awaiting (Receive m) _ _ _ _ _ (same_pack _ _ _ _ (sym c.deref.ensures.value) (sym c.deref-2.ensures.value))
     (pack_failed (g.F.Files.content c.args.files.now) (g.F.Files.content c.receive_pack.new.files) c.deref.result.now (told_in c.deref-2.result.now) m (pack_text c.args.pack.now) is
-    (beside_kept _ _ (c.receive_pack.ensures.beside honest)) (c.receive_pack.ensures.bad honest) c.in_err-moves.field-0.0 c.from_residual.result c.from_residual.ensures.1 (c.in_err-moves.ensures.refused honest)
+    (beside_kept _ _ (c.receive_pack.ensures.beside honest)) (c.receive_pack.ensures.good honest).bad c.in_err-moves.field-0.0 c.from_residual.result c.from_residual.ensures.1 (c.in_err-moves.ensures.refused honest)
     (λ id lacks awaited n. subst (λ (m : FileMap). HoldsNode m true awaited n) (sym (c.in_err-moves.ensures.unchanged honest id lacks))) (c.in_err-moves.ensures.cut honest)))
 
 pub returns-clause-answers : goal.returns-clause-answers
 returns-clause-answers g c = λ honest m is.
     awaiting (Receive m) (Ok (Moved c.in_ok-moves.moves.moved c.in_ok-moves.moves.left)) _ _ _ _ (ap awaited_text c.in-Pack.is ∙ same_pack _ _ _ _ (sym c.deref.ensures.value) (sym c.deref-2.ensures.value)) _
     (pack_taken (g.F.Files.content c.args.files.now) (g.F.Files.content c.receive_pack.new.files) c.deref.result.now (told_in c.deref-2.result.now) m (pack_text c.args.pack.now) is
-    (beside_kept _ _ (c.receive_pack.ensures.beside honest)) (c.receive_pack.ensures.bad honest) c.in_ok-moves.moves.moved c.in_ok-moves.moves.left (c.in_ok-moves.ensures.taken honest))
+    (beside_kept _ _ (c.receive_pack.ensures.beside honest)) (c.receive_pack.ensures.good honest).bad c.in_ok-moves.moves.moved c.in_ok-moves.moves.left (c.in_ok-moves.ensures.taken honest))

@@ -26,14 +26,14 @@ returns-clause-added g c = λ honest m spells.
     let path = c.args.path.now in
     let again = c.in_ok-index.ensures.again honest m spells in
     let first : shown (content c.put.new.files) ≡ with_blob (content c.args.files.now) bytes =
-    shown_objects_from _ _ _ _ _ _ c.in_ok-index.ensures.same (c.in_ok-put.ensures.outside honest) (c.in_ok-put.ensures.objects honest) c.in_ok-put.ensures.name in
+    shown_objects_from _ _ _ _ _ _ c.in_ok-index.ensures.same (c.in_ok-put.ensures.puts.outside honest) (c.in_ok-put.ensures.puts.objects honest) c.in_ok-put.ensures.answers.name in
     let made : c.add.new.self ≡ with_file m path c.args.mode bytes =
     c.in_ok-add.ensures.ok ∙ ap (λ (i : IndexMap). paths.insert i path (index_entry c.args.mode c.name_of-name.result)) again
     ∙ ap (λ (n : ObjectId). paths.insert m path (index_entry c.args.mode n)) c.name_of-name.ensures.name in record {
       may = record {
         legal = c.in_ok-add.ensures.legal (search rules);
         free = λ h. c.in_ok-add.ensures.free (search rules) (subst (λ (i : IndexMap). HasConflict i path) (sym again) h);
-        object = c.in_ok-put.ensures.legal (search rules);
+        object = c.in_ok-put.ensures.answers.legal (search rules);
         id = subst (λ (n : ObjectId). is_id n ≡ true) c.name_of-name.ensures.name c.name_of-name.ensures.valid;
       };
       is = shown_index _ _ _ (c.in_ok-write_index.ensures.written honest) ∙ ap (λ (s : Shown). with_index_shown s (index_text c.add.new.self)) first
@@ -52,13 +52,13 @@ returns-in_err-write_index-clause-left g c = λ honest m spells.
     let content = g.F.Files.content in
     let bytes = c.args.bytes.now in
     let first : shown (content c.put.new.files) ≡ with_blob (content c.args.files.now) bytes =
-    shown_objects_from _ _ _ _ _ _ c.in_ok-index.ensures.same (c.in_ok-put.ensures.outside honest) (c.in_ok-put.ensures.objects honest) c.in_ok-put.ensures.name in
+    shown_objects_from _ _ _ _ _ _ c.in_ok-index.ensures.same (c.in_ok-put.ensures.puts.outside honest) (c.in_ok-put.ensures.puts.objects honest) c.in_ok-put.ensures.answers.name in
     let all : shown (content c.write_index.new.files) ≡ with_blob (content c.args.files.now) bytes =
     ap shown (c.in_err-write_index.ensures.err honest) ∙ first in
     let may : MayStage m c.args.path.now bytes = record {
       legal = c.in_ok-add.ensures.legal (search rules);
       free = λ h. c.in_ok-add.ensures.free (search rules) (subst (λ (i : IndexMap). HasConflict i c.args.path.now) (sym (c.in_ok-index.ensures.again honest m spells)) h);
-      object = c.in_ok-put.ensures.legal (search rules);
+      object = c.in_ok-put.ensures.answers.legal (search rules);
       id = subst (λ (n : ObjectId). is_id n ≡ true) c.name_of-name.ensures.name c.name_of-name.ensures.valid;
     } in
     search (rules, all, may)
@@ -99,7 +99,7 @@ returns-in_err-write_index-clause-looks g c = λ honest m spells.
     let may : MayStage m c.args.path.now c.args.bytes.now = record {
       legal = c.in_ok-add.ensures.legal (search rules);
       free = λ h. c.in_ok-add.ensures.free (search rules) (subst (λ (i : IndexMap). HasConflict i c.args.path.now) (sym (c.in_ok-index.ensures.again honest m spells)) h);
-      object = c.in_ok-put.ensures.legal (search rules);
+      object = c.in_ok-put.ensures.answers.legal (search rules);
       id = subst (λ (n : ObjectId). is_id n ≡ true) c.name_of-name.ensures.name c.name_of-name.ensures.valid;
     } in
     inl may
@@ -109,7 +109,7 @@ returns-clause-looks g c = λ honest m spells.
     let may : MayStage m c.args.path.now c.args.bytes.now = record {
       legal = c.in_ok-add.ensures.legal (search rules);
       free = λ h. c.in_ok-add.ensures.free (search rules) (subst (λ (i : IndexMap). HasConflict i c.args.path.now) (sym (c.in_ok-index.ensures.again honest m spells)) h);
-      object = c.in_ok-put.ensures.legal (search rules);
+      object = c.in_ok-put.ensures.answers.legal (search rules);
       id = subst (λ (n : ObjectId). is_id n ≡ true) c.name_of-name.ensures.name c.name_of-name.ensures.valid;
     } in
     inl may
@@ -121,22 +121,22 @@ pub returns-in_err-add-clause-stores : goal.returns-in_err-add-clause-stores
 returns-in_err-add-clause-stores g c = λ honest. record { objects = keeps_same _ _ c.in_ok-index.ensures.same; clean = search rules }
 
 pub returns-in_err-put-clause-stores : goal.returns-in_err-put-clause-stores
-returns-in_err-put-clause-stores g c = λ honest. record { objects = keeps_then _ _ _ (keeps_same _ _ c.in_ok-index.ensures.same) (keeps_same _ _ (search (rules, c.in_err-put.ensures.err honest))); clean = search rules }
+returns-in_err-put-clause-stores g c = λ honest. record { objects = keeps_then _ _ _ (keeps_same _ _ c.in_ok-index.ensures.same) (keeps_same _ _ (search (rules, c.in_err-put.ensures.puts.err honest))); clean = search rules }
 
 pub returns-in_err-write_index-clause-stores : goal.returns-in_err-write_index-clause-stores
 returns-in_err-write_index-clause-stores g c = λ honest.
-    let stored = clean_put _ _ Blob c.args.bytes.now c.in_ok-put.field-0 c.in_ok-put.ensures.name (c.in_ok-put.ensures.files honest) (c.in_ok-put.ensures.objects honest) (c.in_ok-put.ensures.outside honest) in
+    let stored = clean_put _ _ Blob c.args.bytes.now c.in_ok-put.field-0 c.in_ok-put.ensures.answers.name (c.in_ok-put.ensures.puts.files honest) (c.in_ok-put.ensures.puts.objects honest) (c.in_ok-put.ensures.puts.outside honest) in
     record {
       objects = keeps_then _ _ _ (keeps_same _ _ c.in_ok-index.ensures.same)
-          (keeps_then _ _ _ (keeps_put _ _ c.in_ok-put.field-0 _ (c.in_ok-put.ensures.objects honest)) (keeps_same _ _ (c.in_err-write_index.ensures.err honest)));
+          (keeps_then _ _ _ (keeps_put _ _ c.in_ok-put.field-0 _ (c.in_ok-put.ensures.puts.objects honest)) (keeps_same _ _ (c.in_err-write_index.ensures.err honest)));
       clean = clean_on _ _ _ (clean_from _ _ _ c.in_ok-index.ensures.same stored) (c.in_err-write_index.ensures.err honest);
     }
 
 pub returns-clause-stores : goal.returns-clause-stores
 returns-clause-stores g c = λ honest.
-    let stored = clean_put _ _ Blob c.args.bytes.now c.in_ok-put.field-0 c.in_ok-put.ensures.name (c.in_ok-put.ensures.files honest) (c.in_ok-put.ensures.objects honest) (c.in_ok-put.ensures.outside honest) in
+    let stored = clean_put _ _ Blob c.args.bytes.now c.in_ok-put.field-0 c.in_ok-put.ensures.answers.name (c.in_ok-put.ensures.puts.files honest) (c.in_ok-put.ensures.puts.objects honest) (c.in_ok-put.ensures.puts.outside honest) in
     record {
       objects = keeps_then _ _ _ (keeps_same _ _ c.in_ok-index.ensures.same)
-          (keeps_then _ _ _ (keeps_put _ _ c.in_ok-put.field-0 _ (c.in_ok-put.ensures.objects honest)) (keeps_index _ _ _ _ refl (c.in_ok-write_index.ensures.written honest)));
+          (keeps_then _ _ _ (keeps_put _ _ c.in_ok-put.field-0 _ (c.in_ok-put.ensures.puts.objects honest)) (keeps_index _ _ _ _ refl (c.in_ok-write_index.ensures.written honest)));
       clean = clean_then _ _ _ (clean_from _ _ _ c.in_ok-index.ensures.same stored) (clean_index _ _ _ (c.in_ok-write_index.ensures.written honest));
     }

@@ -15,10 +15,10 @@ use Rattle.vc_node.proofs.local.put_ref.Goals as goal
 
 pub returns-clause-set : goal.returns-clause-set
 returns-clause-set g c = λ honest.
-    shown_refs_from _ _ _ c.args.name.now (λ (r : RefMap). with_ref r c.args.name.now c.args.id) c.in_ok-current.ensures.same (c.in_ok-set.ensures.rest honest) (c.in_ok-set.ensures.set honest)
+    shown_refs_from _ _ _ c.args.name.now (λ (r : RefMap). with_ref r c.args.name.now c.args.id) c.in_ok-current.ensures.same (c.in_ok-set.ensures.sets.rest honest) (c.in_ok-set.ensures.sets.set honest)
 
 pub returns-clause-kept : goal.returns-clause-kept
-returns-clause-kept g c = λ honest. record { err = tt; clean = clean_from _ _ _ c.in_ok-current.ensures.same (clean_set _ _ c.args.name.now c.requires (c.in_ok-set.ensures.rest honest) (c.in_ok-set.ensures.only honest)) }
+returns-clause-kept g c = λ honest. record { err = tt; clean = clean_from _ _ _ c.in_ok-current.ensures.same (clean_set _ _ c.args.name.now c.requires (c.in_ok-set.ensures.sets.rest honest) (c.in_ok-set.ensures.sets.only honest)) }
 
 pub returns-in_err-current-clause-wear : goal.returns-in_err-current-clause-wear
 returns-in_err-current-clause-wear g c = writes_told (wears_writes c.in_err-current.ensures.wear (search rules)) (search rules) (search rules)

@@ -18,13 +18,13 @@ returns-clause-removed g c = λ honest.
     let name = c.args.name.now in
     let content = g.F.Files.content in
     subst (λ (m : FileMap). shown (content c.remove.new.files) ≡ with_refs_shown (shown m) (without_ref (refs m) name)) c.in_ok-current.ensures.same
-    (shown_refs _ _ name _ (c.in_ok-remove.ensures.rest honest) (c.in_ok-remove.ensures.removed honest))
+    (shown_refs _ _ name _ (c.in_ok-remove.ensures.removes.rest honest) (c.in_ok-remove.ensures.removes.removed honest))
 
 pub returns-in_err-current-clause-clean : goal.returns-in_err-current-clause-clean
 returns-in_err-current-clause-clean g c = λ honest. clean_same _ _ c.in_err-current.ensures.same
 
 pub returns-in_err-remove-clause-clean : goal.returns-in_err-remove-clause-clean
-returns-in_err-remove-clause-clean g c = λ honest. clean_from _ _ _ c.in_ok-current.ensures.same (clean_ref _ _ c.args.name.now (c.in_err-remove.ensures.rest honest) (c.in_err-remove.ensures.unpacks honest))
+returns-in_err-remove-clause-clean g c = λ honest. clean_from _ _ _ c.in_ok-current.ensures.same (clean_ref _ _ c.args.name.now (c.in_err-remove.ensures.removes.rest honest) (c.in_err-remove.ensures.removes.unpacks honest))
 
 -- the refs are as before, and so is all else that is shown
 pub returns-in_err-remove-clause-err : goal.returns-in_err-remove-clause-err
@@ -32,11 +32,11 @@ returns-in_err-remove-clause-err g c = λ honest.
     let content = g.F.Files.content in
     let told : shown (content c.remove.new.files) ≡ shown (content c.args.files.now) =
     subst (λ (m : FileMap). shown (content c.remove.new.files) ≡ shown m) c.in_ok-current.ensures.same
-    (shown_refs _ _ c.args.name.now _ (c.in_err-remove.ensures.rest honest) (c.in_err-remove.ensures.err honest)) in
+    (shown_refs _ _ c.args.name.now _ (c.in_err-remove.ensures.removes.rest honest) (c.in_err-remove.ensures.removes.err honest)) in
     search (rules, told)
 
 pub returns-clause-clean : goal.returns-clause-clean
-returns-clause-clean g c = λ honest. clean_from _ _ _ c.in_ok-current.ensures.same (clean_ref _ _ c.args.name.now (c.in_ok-remove.ensures.rest honest) (c.in_ok-remove.ensures.unpacks honest))
+returns-clause-clean g c = λ honest. clean_from _ _ _ c.in_ok-current.ensures.same (clean_ref _ _ c.args.name.now (c.in_ok-remove.ensures.removes.rest honest) (c.in_ok-remove.ensures.removes.unpacks honest))
 
 pub returns-in_err-current-clause-wear : goal.returns-in_err-current-clause-wear
 returns-in_err-current-clause-wear g c = writes_told (wears_writes c.in_err-current.ensures.wear (search rules)) (search rules) (search rules)

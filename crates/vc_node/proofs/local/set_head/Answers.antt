@@ -12,14 +12,14 @@ returns-clause-set g c = λ honest.
     let content = g.F.Files.content in
     let same : content c.match-head.files ≡ content c.args.files.now =
     elim c.match-head.branch [ in-Id+in_ok-refuse_bad_commit w ↦ ap content w.files-is ∙ w.in_ok-refuse_bad_commit.ensures.same | in_default w ↦ ap content w.files-is ] in
-    shown_head_from _ _ _ c.args.head.now same (c.in_ok-set_head.ensures.only honest) (c.in_ok-set_head.ensures.refs honest) (c.in_ok-set_head.ensures.set honest)
+    shown_head_from _ _ _ c.args.head.now same (c.in_ok-set_head.ensures.sets.only honest) (c.in_ok-set_head.ensures.sets.refs honest) (c.in_ok-set_head.ensures.sets.set honest)
 
 pub returns-clause-kept : goal.returns-clause-kept
 returns-clause-kept g c = λ honest.
     let content = g.F.Files.content in
     let same : content c.match-head.files ≡ content c.args.files.now =
     elim c.match-head.branch [ in-Id+in_ok-refuse_bad_commit w ↦ ap content w.files-is ∙ w.in_ok-refuse_bad_commit.ensures.same | in_default w ↦ ap content w.files-is ] in
-    record { err = tt; clean = clean_from _ _ _ same (clean_head _ _ (c.in_ok-set_head.ensures.only honest)) }
+    record { err = tt; clean = clean_from _ _ _ same (clean_head _ _ (c.in_ok-set_head.ensures.sets.only honest)) }
 
 pub returns-in_err-refuse_bad_commit-clause-wear : goal.returns-in_err-refuse_bad_commit-clause-wear
 returns-in_err-refuse_bad_commit-clause-wear g c = writes_told (wears_writes c.in_err-refuse_bad_commit.ensures.wear (search rules)) (search rules) (search rules)

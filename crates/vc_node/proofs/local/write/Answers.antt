@@ -5,13 +5,13 @@ use Rattle.vc_node.proofs.CleanLemmas.{clean_put}
 use Rattle.vc_node.proofs.local.write.Goals as goal
 
 pub returns-clause-stored : goal.returns-clause-stored
-returns-clause-stored g c = λ honest. shown_objects _ _ _ (c.in_ok-id.ensures.outside honest) (c.in_ok-id.ensures.objects honest)
+returns-clause-stored g c = λ honest. shown_objects _ _ _ (c.in_ok-id.ensures.puts.outside honest) (c.in_ok-id.ensures.puts.objects honest)
 
 pub returns-clause-kept : goal.returns-clause-kept
 returns-clause-kept g c = λ honest. record {
-  outside = c.in_ok-id.ensures.outside honest;
+  outside = c.in_ok-id.ensures.puts.outside honest;
   err = tt;
-  clean = clean_put _ _ c.args.kind c.args.body.now c.in_ok-id.id c.in_ok-id.ensures.name (c.in_ok-id.ensures.files honest) (c.in_ok-id.ensures.objects honest) (c.in_ok-id.ensures.outside honest);
+  clean = clean_put _ _ c.args.kind c.args.body.now c.in_ok-id.id c.in_ok-id.ensures.answers.name (c.in_ok-id.ensures.puts.files honest) (c.in_ok-id.ensures.puts.objects honest) (c.in_ok-id.ensures.puts.outside honest);
 }
 
 pub returns-in_err-id-clause-looks : goal.returns-in_err-id-clause-looks

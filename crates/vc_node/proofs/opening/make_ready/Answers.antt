@@ -20,7 +20,7 @@ returns-clause-ready g c = λ honest.
     let same = c.in_ok-index.ensures.same in
     let none : is_some c.in_ok-head.field-0 ≡ false = search rules in
     ready_made (content c.args.files.now) (content c.head.new.files) (content c.set_head.new.files) c.in_ok-head.field-0 c.in-Ok.main (c.in_ok-head.ensures.found honest ∙ ap head_of same) none (c.in_ok-head.ensures.same ∙ same)
-    c.in-Ok.ensures.ok (c.in_ok-set_head.ensures.only honest) (c.in_ok-set_head.ensures.refs honest) (c.in_ok-set_head.ensures.set honest)
+    c.in-Ok.ensures.ok (c.in_ok-set_head.ensures.sets.only honest) (c.in_ok-set_head.ensures.sets.refs honest) (c.in_ok-set_head.ensures.sets.set honest)
     (c.in_ok-index.index, c.in_ok-index.ensures.spelled honest)
 
 pub returns-then-is_some-clause-spelled : goal.returns-then-is_some-clause-spelled
@@ -48,4 +48,4 @@ pub returns-in_err-set_head-clause-wear : goal.returns-in_err-set_head-clause-we
 returns-in_err-set_head-clause-wear g c = wears_then c.in_ok-index.ensures.wear (search rules) (search rules) (wears_then c.in_ok-head.ensures.wear (search rules) (search rules) (writes_told c.in_err-set_head.ensures.wear (search rules) (search rules)))
 
 pub returns-clause-clean : goal.returns-clause-clean
-returns-clause-clean g c = λ honest. clean_from _ _ _ (c.in_ok-head.ensures.same ∙ c.in_ok-index.ensures.same) (clean_head _ _ (c.in_ok-set_head.ensures.only honest))
+returns-clause-clean g c = λ honest. clean_from _ _ _ (c.in_ok-head.ensures.same ∙ c.in_ok-index.ensures.same) (clean_head _ _ (c.in_ok-set_head.ensures.sets.only honest))

@@ -1,5 +1,6 @@
 use Rattle.std.proofs.Common.{rules}
-use Rattle.vc_pack.proofs.JudgeLemmas.{all_under, closed_carried, err_under, ok_under}
+use Rattle.vc_graph.proofs.OverlayLemmas.{IsClosedUnder-with_carried}
+use Rattle.vc_pack.proofs.JudgeLemmas.{all_under, err_under, ok_under}
 use Rattle.vc_fetch.specs.PackObjects.{objects_in}
 use Rattle.vc_graph.specs.Graph.{IsClosedUnder, ReachedFrom}
 use Rattle.vc_graph.specs.GraphFault.{IsMet}
@@ -15,14 +16,14 @@ returns-clause-complete g c honest whole =
     let stored = objects (g.F.Files.content c.args.files.now) in
     let brought = objects_in (carried c.args.carried.now.objects.now) in
     let links = links_in (with_carried stored brought) in
-    all_under (IsClosedUnder links c.args.wants.now) c.in_ok-found.found (rw c.new.ensures.files at c.in_ok-found.ensures.complete) honest (closed_carried stored brought c.args.known.keys whole)
+    all_under (IsClosedUnder links c.args.wants.now) c.in_ok-found.found (rw c.new.ensures.files at c.in_ok-found.ensures.complete) honest (IsClosedUnder-with_carried stored brought c.args.known.keys whole)
 
 pub returns-clause-met : goal.returns-clause-met
 returns-clause-met g c honest whole =
     let stored = objects (g.F.Files.content c.args.files.now) in
     let brought = objects_in (carried c.args.carried.now.objects.now) in
     let links = links_in (with_carried stored brought) in
-    ok_under (λ met. IsClosedUnder links met.keys) c.in_ok-found.found (rw c.new.ensures.files at c.in_ok-found.ensures.met) honest (closed_carried stored brought c.args.known.keys whole)
+    ok_under (λ met. IsClosedUnder links met.keys) c.in_ok-found.found (rw c.new.ensures.files at c.in_ok-found.ensures.met) honest (IsClosedUnder-with_carried stored brought c.args.known.keys whole)
 
 pub returns-clause-first : goal.returns-clause-first
 returns-clause-first g c honest =

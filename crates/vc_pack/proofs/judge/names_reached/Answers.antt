@@ -31,7 +31,7 @@ loop-id-preserved g c =
           let complete = rw before.kept at (c.in_ok-is_complete_beyond.ensures.complete honest) in
           closed_next links wants c.loop-id.id-index none c.loop-id-test.true (before.closed honest whole) ((complete (before.met honest whole)).0 c.if-not-branch.false);
       met = λ honest whole. (rw before.kept at (c.in_ok-is_complete_beyond.ensures.known honest)) (before.met honest whole);
-      front = front_then c.args.known.keys c.loop-id.met.keys c.is_complete_beyond.new.known.keys before.front c.in_ok-is_complete_beyond.ensures.front;
+      front = front_then c.args.known.keys c.loop-id.met.keys c.is_complete_beyond.new.known.keys before.front c.in_ok-is_complete_beyond.ensures.grown.front;
     }
 
 pub returns-in_err-is_complete_beyond-clause-refused : goal.returns-in_err-is_complete_beyond-clause-refused
@@ -73,4 +73,4 @@ pub returns-clause-met : goal.returns-clause-met
 returns-clause-met g c honest whole = c.loop-id.invariant.met honest whole
 
 pub returns-in-None-clause-front : goal.returns-in-None-clause-front
-returns-in-None-clause-front g c = front_then c.args.known.keys c.loop-id.met.keys c.is_complete_beyond.new.known.keys c.loop-id.invariant.front c.in_ok-is_complete_beyond.ensures.front
+returns-in-None-clause-front g c = front_then c.args.known.keys c.loop-id.met.keys c.is_complete_beyond.new.known.keys c.loop-id.invariant.front c.in_ok-is_complete_beyond.ensures.grown.front

@@ -13,21 +13,21 @@ returns-in_err-stored-clause-refused g c honest =
     let content = g.F.Files.content c.args.files.now in
     let links = links_in (objects content) in
     let id = c.args.id.now in
-    let told = IsMet-from_refused (ReachedFrom links (id ∷ [])) (IsDamaged content) g.F.Files.honest id c.in_err-stored.field-0.0 c.in_err-stored.ensures.refused (ReachedFrom-one links id id itself) honest in
+    let told = IsMet-from_refused (ReachedFrom links (id ∷ [])) (IsDamaged content) g.F.Files.honest id c.in_err-stored.field-0.0 c.in_err-stored.ensures.finds.refused (ReachedFrom-one links id id itself) honest in
     search (rules, told)
 
 pub returns-in_default-clause-refused : goal.returns-in_default-clause-refused
 returns-in_default-clause-refused g c honest =
     let content = g.F.Files.content c.args.files.now in
     let id = c.args.id.now in
-    let none : objects content id ≡ None = search (rules, c.in_ok-stored.ensures.found honest, c.in_default.is) in
+    let none : objects content id ≡ None = search (rules, c.in_ok-stored.ensures.finds.found honest, c.in_default.is) in
     (ReachedFrom-one (links_in (objects content)) id id itself, links_in-none (objects content) id none)
 
 pub returns-clause-links : goal.returns-clause-links
 returns-clause-links g c honest =
     let content = g.F.Files.content c.args.files.now in
     let object = stored_object c.in-Some.stored.kind c.in-Some.stored.body.items in
-    let found : objects content c.args.id.now ≡ Some object = search (rules, c.in_ok-stored.ensures.found honest, c.in-Some.is) in
+    let found : objects content c.args.id.now ≡ Some object = search (rules, c.in_ok-stored.ensures.finds.found honest, c.in-Some.is) in
     let read = links_in-some (objects content) c.args.id.now object found in
     search (rules, read)
 
@@ -35,5 +35,5 @@ pub returns-clause-sent : goal.returns-clause-sent
 returns-clause-sent g c honest =
     let content = g.F.Files.content c.args.files.now in
     let object = stored_object c.in-Some.stored.kind c.in-Some.stored.body.items in
-    let found : objects content c.args.id.now ≡ Some object = search (rules, c.in_ok-stored.ensures.found honest, c.in-Some.is) in
+    let found : objects content c.args.id.now ≡ Some object = search (rules, c.in_ok-stored.ensures.finds.found honest, c.in-Some.is) in
     (object, found, c.in_ok-add_named.ensures.ok)

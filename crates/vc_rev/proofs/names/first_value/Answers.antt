@@ -2,13 +2,12 @@ use Rattle.std.proofs.Common.{ℕ, Vec, Global, subst}
 use Rattle.std.proofs.lemmas.Result.{err_from_is_err_and}
 use Rattle.vc_rev.specs.Answer.{IsTold, IsNoAnswer}
 use Rattle.vc_rev.specs.Asking.{RefAsks}
-use Rattle.vc_rev.specs.Source.{source}
 use Rattle.vc_rev.proofs.NamesLemmas.{names_told}
 use Rattle.vc_rev.proofs.names.first_value.Goals as goal
 
 pub returns-in_err-id-clause-refused : goal.returns-in_err-id-clause-refused
 returns-in_err-id-clause-refused g c =
-    let s = source (g.R.Repository.names (g.R.Repository.view_of c.args.repo.now)) (g.R.Objects.objects (g.R.Objects.state_of c.args.repo.now)) (g.R.Repository.stored (g.R.Repository.view_of c.args.repo.now)) in
+    let s = g.R.Repository.source (g.R.Repository.view_of c.args.repo.now) in
     let blames = g.R.Repository.blames (g.R.Repository.view_of c.args.repo.now) in
     let i = c.loop-name.invariant in
     let told = rw (i.seen, c.deref.ensures.value) at c.in_err-id.ensures.refused in

@@ -2,13 +2,12 @@ use Rattle.std.proofs.Common.{sym, ◌∙◌}
 use Rattle.std.proofs.lemmas.Result.{IfErr-weaker}
 use Rattle.vc_rev.specs.Asking.{NameAsks, ShortAsks}
 use Rattle.vc_rev.specs.Meaning.{NameGives, ShortGives}
-use Rattle.vc_rev.specs.Source.{source}
 use Rattle.vc_rev.proofs.AnswerLemmas.{told_same}
 use Rattle.vc_rev.proofs.names.name_value.Goals as goal
 
 pub returns-in-None-clause-refused : goal.returns-in-None-clause-refused
 returns-in-None-clause-refused g c =
-    let s = source (g.R.Repository.names (g.R.Repository.view_of c.args.repo.now)) (g.R.Objects.objects (g.R.Objects.state_of c.args.repo.now)) (g.R.Repository.stored (g.R.Repository.view_of c.args.repo.now)) in
+    let s = g.R.Repository.source (g.R.Repository.view_of c.args.repo.now) in
     let blames = g.R.Repository.blames (g.R.Repository.view_of c.args.repo.now) in
     let name = c.args.name.now in
     let other = sym c.is_head.ensures ∙ c.if-is_head.false in

@@ -10,4 +10,4 @@ ref_value-requires g c = let f = rw c.in-Some.is at c.in_ok-name.ensures.ok in r
 pub returns-clause-ok : goal.returns-clause-ok
 returns-clause-ok g c = λ honest.
     let f = rw c.in-Some.is at c.in_ok-name.ensures.ok in
-    inl (f.1, c.in_ok-value.ensures.value honest ∙ ap (g.R.Repository.names (g.R.Repository.view_of c.args.repo.now)).ref f.0)
+    inl (f.1, c.in_ok-value.ensures.value honest ∙ ap (g.R.Repository.source (g.R.Repository.view_of c.args.repo.now)).names.ref f.0)

@@ -2,7 +2,6 @@ use Rattle.std.proofs.Common.{rules, ◌≡◌, ◌≢◌, ◌∙◌, Ok, Err, a
 use Rattle.std.proofs.lemmas.Result.{err_from_is_err_and}
 use Rattle.vc_rev.specs.Asking.{AncestorAsks, PeelingAsks}
 use Rattle.vc_rev.specs.Meaning.{PicksFrom, AncestorGives}
-use Rattle.vc_rev.specs.Source.{source}
 use Rattle.vc_rev.specs.declared.token.Step.TheVariants as steps
 use Rattle.vc_rev.proofs.AnswerLemmas.{told_same}
 use Rattle.vc_rev.proofs.StepsLemmas.{parents_more, parents_end, parents_none, ancestor_some, ancestor_asked, parents_asked, parents_asked-first}
@@ -13,12 +12,12 @@ returns-then-n-eq0-clause-refused g c = rw c.if-n-eq0.true c.pick_from.ensures.r
 
 pub returns-in_err-at-clause-refused : goal.returns-in_err-at-clause-refused
 returns-in_err-at-clause-refused g c =
-    let s = source (g.R.Repository.names (g.R.Repository.view_of c.args.repo.now)) (g.R.Objects.objects (g.R.Objects.state_of c.args.repo.now)) (g.R.Repository.stored (g.R.Repository.view_of c.args.repo.now)) in
+    let s = g.R.Repository.source (g.R.Repository.view_of c.args.repo.now) in
     let blames = g.R.Repository.blames (g.R.Repository.view_of c.args.repo.now) in
     let i = c.parents.invariant in
     let some : c.args.n ≢ 0 = c.if-n-eq0.false in
     let left : c.parents.left ≢ 0 = omega arith in
-    let told = rw (i.kept, i.seen) at c.in_err-at.ensures.refused in
+    let told = rw i.seen at c.in_err-at.ensures.refused in
     let p = err_from_is_err_and c.from_residual.result c.from_residual.ensures.1 in
     rw (p.1, p.2) (λ honest.
     told_same blames (PeelingAsks s c.parents.at) (AncestorAsks s c.args.n c.args.id) (PicksFrom s (steps.Parent 1) c.parents.at) (AncestorGives s c.args.n c.args.id) c.in_err-at.field-0.0
@@ -27,10 +26,10 @@ returns-in_err-at-clause-refused g c =
 
 pub parents-preserved : goal.parents-preserved
 parents-preserved g c =
-    let s = source (g.R.Repository.names (g.R.Repository.view_of c.args.repo.now)) (g.R.Objects.objects (g.R.Objects.state_of c.args.repo.now)) (g.R.Repository.stored (g.R.Repository.view_of c.args.repo.now)) in
+    let s = g.R.Repository.source (g.R.Repository.view_of c.args.repo.now) in
     let i = c.parents.invariant in
     let left : c.parents.left ≢ 0 = omega arith in
-    let picked = rw (i.kept, i.seen) at c.in_ok-at.ensures.ok in
+    let picked = rw i.seen at c.in_ok-at.ensures.ok in
     record {
       kept = c.in_ok-at.ensures.kept ∙ i.kept;
       seen = c.in_ok-at.ensures.seen ∙ i.seen;
@@ -41,7 +40,7 @@ parents-preserved g c =
 
 pub returns-clause-ok : goal.returns-clause-ok
 returns-clause-ok g c honest =
-    let s = source (g.R.Repository.names (g.R.Repository.view_of c.args.repo.now)) (g.R.Objects.objects (g.R.Objects.state_of c.args.repo.now)) (g.R.Repository.stored (g.R.Repository.view_of c.args.repo.now)) in
+    let s = g.R.Repository.source (g.R.Repository.view_of c.args.repo.now) in
     let some : c.args.n ≢ 0 = c.if-n-eq0.false in
     let none : c.parents.left ≡ 0 = omega arith in
     ancestor_some s c.args.n c.args.id (Ok c.parents.at) some (c.parents.invariant.onward honest (Ok c.parents.at) (parents_none s c.parents.left c.parents.at none))

@@ -9,7 +9,7 @@ invariant-loop-next g l = record {
   kept : g.R.Objects.state_of l.repo ≡ g.R.Objects.state_of l.initial.repo;
   seen : g.R.Repository.view_of l.repo ≡ g.R.Repository.view_of l.initial.repo;
   wear : Wears g.R.Objects.failed g.R.Objects.can_fail g.R.Objects.left l.initial.repo l.repo ⊥;
-  walks : g.R.Objects.is_honest → Walks (tag_links (g.R.Objects.objects (g.R.Objects.state_of l.initial.repo))) (l.fn.id ∷ []) l.seen.keys l.next;
+  walks : g.R.Objects.is_honest → Walks (tag_links (g.R.Repository.source (g.R.Repository.view_of l.initial.repo)).objects) (l.fn.id ∷ []) l.seen.keys l.next;
 }
 
 abbrev pub decreases-loop-next : goal.decreases-loop-next

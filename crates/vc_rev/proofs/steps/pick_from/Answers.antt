@@ -5,7 +5,6 @@ use Rattle.vc_object.specs.Decoding.{stored_object}
 use Rattle.vc_store.specs.declared.faults.StoreFault.TheVariants as stores
 use Rattle.vc_rev.specs.Asking.{PeelingAsks}
 use Rattle.vc_rev.specs.Meaning.{PeelsTo, pick}
-use Rattle.vc_rev.specs.Source.{source}
 use Rattle.vc_rev.specs.declared.refusal.SourceFault.TheVariants as sources
 use Rattle.vc_rev.specs.declared.refusal.RevFault.{RevFault}
 use Rattle.vc_rev.specs.declared.refusal.RevFault.TheVariants as faults
@@ -14,7 +13,7 @@ use Rattle.vc_rev.proofs.steps.pick_from.Goals as goal
 
 pub returns-in_err-at-clause-refused : goal.returns-in_err-at-clause-refused
 returns-in_err-at-clause-refused g c =
-    let s = source (g.R.Repository.names (g.R.Repository.view_of c.args.repo.now)) (g.R.Objects.objects (g.R.Objects.state_of c.args.repo.now)) (g.R.Repository.stored (g.R.Repository.view_of c.args.repo.now)) in
+    let s = g.R.Repository.source (g.R.Repository.view_of c.args.repo.now) in
     let blames = g.R.Repository.blames (g.R.Repository.view_of c.args.repo.now) in
     let p = err_from_is_err_and c.from_residual.result c.from_residual.ensures.1 in
     rw (p.1, p.2) (λ honest. told_only blames (PeelingAsks s c.args.id) (PeelsTo s c.args.id) (λ found a. a ≡ pick c.args.step found) c.in_err-at.field-0.0 (c.in_err-at.ensures.refused honest))
@@ -25,7 +24,7 @@ returns-clause-ok g c =
 
 pub returns-clause-refused : goal.returns-clause-refused
 returns-clause-refused g c =
-    let s = source (g.R.Repository.names (g.R.Repository.view_of c.args.repo.now)) (g.R.Objects.objects (g.R.Objects.state_of c.args.repo.now)) (g.R.Repository.stored (g.R.Repository.view_of c.args.repo.now)) in
+    let s = g.R.Repository.source (g.R.Repository.view_of c.args.repo.now) in
     let blames = g.R.Repository.blames (g.R.Repository.view_of c.args.repo.now) in
     IfErr-weaker c.pick.result _ _ (λ e h honest.
     told_alone blames (PeelingAsks s c.args.id) (PeelsTo s c.args.id) (λ found a. a ≡ pick c.args.step found) (c.in_ok-at.at, stored_object c.in_ok-at.object.kind c.in_ok-at.object.body.items) e (c.in_ok-at.ensures.ok honest) h) c.pick.ensures.refused

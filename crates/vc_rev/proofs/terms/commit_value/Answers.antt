@@ -9,7 +9,6 @@ use Rattle.vc_rev.specs.Answer.{After}
 use Rattle.vc_rev.specs.Asking.{PeelingAsks, RevAsks}
 use Rattle.vc_rev.specs.Meaning.{PeelsTo, RevGives}
 use Rattle.vc_rev.specs.Selection.{commit_at}
-use Rattle.vc_rev.specs.Source.{source}
 use Rattle.vc_rev.specs.Views.{rev_view}
 use Rattle.vc_rev.specs.declared.refusal.SourceFault.TheVariants as sources
 use Rattle.vc_rev.specs.declared.refusal.RevFault.{RevFault}
@@ -19,16 +18,16 @@ use Rattle.vc_rev.proofs.terms.commit_value.Goals as goal
 
 pub returns-in_err-id-clause-refused : goal.returns-in_err-id-clause-refused
 returns-in_err-id-clause-refused g c =
-    let s = source (g.R.Repository.names (g.R.Repository.view_of c.args.repo.now)) (g.R.Objects.objects (g.R.Objects.state_of c.args.repo.now)) (g.R.Repository.stored (g.R.Repository.view_of c.args.repo.now)) in
+    let s = g.R.Repository.source (g.R.Repository.view_of c.args.repo.now) in
     let blames = g.R.Repository.blames (g.R.Repository.view_of c.args.repo.now) in
     let p = err_from_is_err_and c.from_residual.result c.from_residual.ensures.1 in
     rw (p.1, p.2) (λ honest. told_first blames (RevAsks s (rev_view c.args.rev.now)) (RevGives s (rev_view c.args.rev.now)) (PeelingAsks s) (λ x. After (PeelsTo s x) (λ found a. a ≡ commit_at found)) c.in_err-id.field-0.0 (c.in_err-id.ensures.refused honest))
 
 pub returns-in_err-at-clause-refused : goal.returns-in_err-at-clause-refused
 returns-in_err-at-clause-refused g c =
-    let s = source (g.R.Repository.names (g.R.Repository.view_of c.args.repo.now)) (g.R.Objects.objects (g.R.Objects.state_of c.args.repo.now)) (g.R.Repository.stored (g.R.Repository.view_of c.args.repo.now)) in
+    let s = g.R.Repository.source (g.R.Repository.view_of c.args.repo.now) in
     let blames = g.R.Repository.blames (g.R.Repository.view_of c.args.repo.now) in
-    let told = rw (c.in_ok-id.ensures.kept, c.in_ok-id.ensures.seen) at c.in_err-at.ensures.refused in
+    let told = rw c.in_ok-id.ensures.seen at c.in_err-at.ensures.refused in
     let p = err_from_is_err_and c.from_residual-in_err-at.result c.from_residual-in_err-at.ensures.1 in
     rw (p.1, p.2) (λ honest.
     told_next blames (RevAsks s (rev_view c.args.rev.now)) (RevGives s (rev_view c.args.rev.now)) (PeelingAsks s) (λ x. After (PeelsTo s x) (λ found a. a ≡ commit_at found)) c.in_ok-id.id c.in_err-at.field-0.0 (c.in_ok-id.ensures.ok honest)
@@ -36,15 +35,15 @@ returns-in_err-at-clause-refused g c =
 
 pub returns-clause-ok : goal.returns-clause-ok
 returns-clause-ok g c =
-    let peeled = rw c.in_ok-id.ensures.kept at c.in_ok-at.ensures.ok in
+    let peeled = rw c.in_ok-id.ensures.seen at c.in_ok-at.ensures.ok in
     IfOk-weaker c.commit_at.result _ _ (λ found h honest. (Ok c.in_ok-id.id, c.in_ok-id.ensures.ok honest, (Ok (c.in_ok-at.at, stored_object c.in_ok-at.object.kind c.in_ok-at.object.body.items), peeled honest, sym h))) c.commit_at.ensures.ok
 
 pub returns-clause-refused : goal.returns-clause-refused
 returns-clause-refused g c =
-    let s = source (g.R.Repository.names (g.R.Repository.view_of c.args.repo.now)) (g.R.Objects.objects (g.R.Objects.state_of c.args.repo.now)) (g.R.Repository.stored (g.R.Repository.view_of c.args.repo.now)) in
+    let s = g.R.Repository.source (g.R.Repository.view_of c.args.repo.now) in
     let blames = g.R.Repository.blames (g.R.Repository.view_of c.args.repo.now) in
     let found : ObjectId × StoredObject = (c.in_ok-at.at, stored_object c.in_ok-at.object.kind c.in_ok-at.object.body.items) in
-    let peeled = rw c.in_ok-id.ensures.kept at c.in_ok-at.ensures.ok in
+    let peeled = rw c.in_ok-id.ensures.seen at c.in_ok-at.ensures.ok in
     IfErr-weaker c.commit_at.result _ _ (λ e h honest.
     told_next blames (RevAsks s (rev_view c.args.rev.now)) (RevGives s (rev_view c.args.rev.now)) (PeelingAsks s) (λ x. After (PeelsTo s x) (λ f a. a ≡ commit_at f)) c.in_ok-id.id e (c.in_ok-id.ensures.ok honest)
     (told_alone blames (PeelingAsks s c.in_ok-id.id) (PeelsTo s c.in_ok-id.id) (λ f a. a ≡ commit_at f) found e (peeled honest) h)) c.commit_at.ensures.refused

@@ -2,7 +2,6 @@ use Rattle.std.proofs.Common.{Ok, IfOk, IfErr, subst}
 use Rattle.vc_rev.specs.Answer.{IsTold}
 use Rattle.vc_rev.specs.Grammar.{RevText}
 use Rattle.vc_rev.specs.Selection.{BothAsk, BothGive}
-use Rattle.vc_rev.specs.Source.{source}
 use Rattle.vc_rev.specs.Views.{rev_view}
 use Rattle.vc_rev.proofs.terms.ends_value.Goals as goal
 
@@ -20,13 +19,13 @@ returns-in-From-clause-refused g c = let h = rw c.head.ensures at c.both-in-From
 
 pub returns-in-To-clause-ok : goal.returns-in-To-clause-ok
 returns-in-To-clause-ok g c =
-    let s = source (g.R.Repository.names (g.R.Repository.view_of c.args.repo.now)) (g.R.Objects.objects (g.R.Objects.state_of c.args.repo.now)) (g.R.Repository.stored (g.R.Repository.view_of c.args.repo.now)) in
+    let s = g.R.Repository.source (g.R.Repository.view_of c.args.repo.now) in
     let h = subst (λ (rev : RevText). IfOk c.both-in-To.result (λ found. g.R.Objects.is_honest → BothGive s rev (rev_view c.in-To.second) (Ok found))) c.head-in-To.ensures c.both-in-To.ensures.ok in
     rw c.in-To.is h
 
 pub returns-in-To-clause-refused : goal.returns-in-To-clause-refused
 returns-in-To-clause-refused g c =
-    let s = source (g.R.Repository.names (g.R.Repository.view_of c.args.repo.now)) (g.R.Objects.objects (g.R.Objects.state_of c.args.repo.now)) (g.R.Repository.stored (g.R.Repository.view_of c.args.repo.now)) in
+    let s = g.R.Repository.source (g.R.Repository.view_of c.args.repo.now) in
     let blames = g.R.Repository.blames (g.R.Repository.view_of c.args.repo.now) in
     let h = subst (λ (rev : RevText). IfErr c.both-in-To.result (λ e. g.R.Objects.is_honest → IsTold blames (BothAsk s rev (rev_view c.in-To.second)) (BothGive s rev (rev_view c.in-To.second)) e)) c.head-in-To.ensures c.both-in-To.ensures.refused in
     rw c.in-To.is h

@@ -2,13 +2,12 @@ use Rattle.std.proofs.Common.{◌≡◌, [], ◌∷◌, Ok, ap}
 use Rattle.std.proofs.lemmas.Result.{err_from_is_err_and}
 use Rattle.vc_rev.specs.Selection.{BothAsk, BothGive, selection, first_of, second_of}
 use Rattle.vc_rev.specs.SetViews.{ends_view}
-use Rattle.vc_rev.specs.Source.{source}
 use Rattle.vc_rev.proofs.AnswerLemmas.{told_only}
 use Rattle.vc_rev.proofs.terms.range.Goals as goal
 
 pub returns-in_err-first-clause-refused : goal.returns-in_err-first-clause-refused
 returns-in_err-first-clause-refused g c =
-    let s = source (g.R.Repository.names (g.R.Repository.view_of c.args.repo.now)) (g.R.Objects.objects (g.R.Objects.state_of c.args.repo.now)) (g.R.Repository.stored (g.R.Repository.view_of c.args.repo.now)) in
+    let s = g.R.Repository.source (g.R.Repository.view_of c.args.repo.now) in
     let blames = g.R.Repository.blames (g.R.Repository.view_of c.args.repo.now) in
     let told = c.in_err-first.ensures.refused in
     let p = err_from_is_err_and c.from_residual.result c.from_residual.ensures.1 in

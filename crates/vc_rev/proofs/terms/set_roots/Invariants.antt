@@ -4,14 +4,13 @@ use Rattle.vc_rev.specs.RootsView.{roots_view}
 use Rattle.vc_rev.specs.Selection.{Selection, SetGives, TermsAsk, TermsGive}
 use Rattle.vc_rev.specs.Question.{Question}
 use Rattle.vc_rev.specs.SetViews.{term_view}
-use Rattle.vc_rev.specs.Source.{source}
 use Rattle.vc_rev.specs.declared.refusal.Refusal.{Refusal}
 use Rattle.vc_rev.proofs.terms.set_roots.Given as goal
 
 -- what comes of the terms that are left is what comes of all, and what they ask all ask
 abbrev pub invariant-terms : goal.invariant-terms
 invariant-terms g l =
-    let s = source (g.R.Repository.names (g.R.Repository.view_of l.initial.repo)) (g.R.Objects.objects (g.R.Objects.state_of l.initial.repo)) (g.R.Repository.stored (g.R.Repository.view_of l.initial.repo)) in record {
+    let s = g.R.Repository.source (g.R.Repository.view_of l.initial.repo) in record {
       kept : g.R.Objects.state_of l.repo ≡ g.R.Objects.state_of l.initial.repo;
       seen : g.R.Repository.view_of l.repo ≡ g.R.Repository.view_of l.initial.repo;
       wear : Wears g.R.Objects.failed g.R.Objects.can_fail g.R.Objects.left l.initial.repo l.repo ⊥;

@@ -4,13 +4,12 @@ use Rattle.vc_rev.specs.Answer.{IsTold}
 use Rattle.vc_rev.specs.Grammar.{RevText}
 use Rattle.vc_rev.specs.Selection.{BothAsk, BothGive, selection, nth_of}
 use Rattle.vc_rev.specs.Views.{rev_view}
-use Rattle.vc_rev.specs.Source.{source}
 use Rattle.vc_rev.proofs.AnswerLemmas.{told_only}
 use Rattle.vc_rev.proofs.terms.since.Goals as goal
 
 pub returns-in_err-first-clause-refused : goal.returns-in_err-first-clause-refused
 returns-in_err-first-clause-refused g c =
-    let s = source (g.R.Repository.names (g.R.Repository.view_of c.args.repo.now)) (g.R.Objects.objects (g.R.Objects.state_of c.args.repo.now)) (g.R.Repository.stored (g.R.Repository.view_of c.args.repo.now)) in
+    let s = g.R.Repository.source (g.R.Repository.view_of c.args.repo.now) in
     let blames = g.R.Repository.blames (g.R.Repository.view_of c.args.repo.now) in
     let told = λ (honest : g.R.Objects.is_honest). subst (λ (rev : RevText). IsTold blames (BothAsk s rev (rev_view c.args.rev.now)) (BothGive s rev (rev_view c.args.rev.now)) c.in_err-first.field-0.0) c.in_ok-parent.ensures (c.in_err-first.ensures.refused honest) in
     let p = err_from_is_err_and c.from_residual-in_err-first.result c.from_residual-in_err-first.ensures.1 in
@@ -18,6 +17,6 @@ returns-in_err-first-clause-refused g c =
 
 pub returns-clause-ok : goal.returns-clause-ok
 returns-clause-ok g c honest =
-    let s = source (g.R.Repository.names (g.R.Repository.view_of c.args.repo.now)) (g.R.Objects.objects (g.R.Objects.state_of c.args.repo.now)) (g.R.Repository.stored (g.R.Repository.view_of c.args.repo.now)) in
+    let s = g.R.Repository.source (g.R.Repository.view_of c.args.repo.now) in
     let both = λ (h : g.R.Objects.is_honest). subst (λ (rev : RevText). BothGive s rev (rev_view c.args.rev.now) (Ok (c.in_ok-first.first, c.in_ok-first.second))) c.in_ok-parent.ensures (c.in_ok-first.ensures.ok h) in
     (Ok (c.in_ok-first.first, c.in_ok-first.second), both honest, ap Ok c.in_ok-between.ensures)

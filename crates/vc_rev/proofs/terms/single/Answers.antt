@@ -1,7 +1,6 @@
 use Rattle.std.proofs.Common.{◌≡◌, Ok, ap}
 use Rattle.std.proofs.lemmas.Result.{err_from_is_err_and}
 use Rattle.vc_rev.specs.Selection.{CommitAsks, CommitGives}
-use Rattle.vc_rev.specs.Source.{source}
 use Rattle.vc_rev.specs.Uses.{used}
 use Rattle.vc_rev.specs.Views.{rev_view}
 use Rattle.vc_rev.proofs.AnswerLemmas.{told_only}
@@ -9,7 +8,7 @@ use Rattle.vc_rev.proofs.terms.single.Goals as goal
 
 pub returns-in_err-id-clause-refused : goal.returns-in_err-id-clause-refused
 returns-in_err-id-clause-refused g c =
-    let s = source (g.R.Repository.names (g.R.Repository.view_of c.args.repo.now)) (g.R.Objects.objects (g.R.Objects.state_of c.args.repo.now)) (g.R.Repository.stored (g.R.Repository.view_of c.args.repo.now)) in
+    let s = g.R.Repository.source (g.R.Repository.view_of c.args.repo.now) in
     let blames = g.R.Repository.blames (g.R.Repository.view_of c.args.repo.now) in
     let p = err_from_is_err_and c.from_residual.result c.from_residual.ensures.1 in
     rw (p.1, p.2) (λ honest. told_only blames (CommitAsks s (rev_view c.args.rev.now)) (CommitGives s (rev_view c.args.rev.now)) (λ f a. a ≡ Ok (used c.args.way f)) c.in_err-id.field-0.0 (c.in_err-id.ensures.refused honest))

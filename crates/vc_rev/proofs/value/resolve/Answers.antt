@@ -1,6 +1,5 @@
 use Rattle.vc_rev.specs.Asking.{ExprAsks}
 use Rattle.vc_rev.specs.Meaning.{Denotes}
-use Rattle.vc_rev.specs.Source.{source}
 use Rattle.vc_rev.specs.Views.{expr_view}
 use Rattle.vc_rev.proofs.SameAnswer.{denotes_one}
 use Rattle.vc_rev.proofs.SelectionLemmas.{only_answer}
@@ -9,7 +8,7 @@ use Rattle.vc_rev.proofs.value.resolve.Goals as goal
 
 pub returns-clause-only : goal.returns-clause-only
 returns-clause-only g c honest =
-    let s = source (g.R.Repository.names (g.R.Repository.view_of c.args.repo.now)) (g.R.Objects.objects (g.R.Objects.state_of c.args.repo.now)) (g.R.Repository.stored (g.R.Repository.view_of c.args.repo.now)) in
+    let s = g.R.Repository.source (g.R.Repository.view_of c.args.repo.now) in
     let blames = g.R.Repository.blames (g.R.Repository.view_of c.args.repo.now) in
     only_answer blames (ExprAsks s (expr_view c.args.expr.now)) (Denotes s (expr_view c.args.expr.now)) c.expr_value.result (denotes_one s (expr_view c.args.expr.now))
     (IfOk-weaker c.expr_value.result _ _ (λ found h. h honest) c.expr_value.ensures.ok)

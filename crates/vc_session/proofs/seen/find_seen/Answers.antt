@@ -21,12 +21,12 @@ pub returns-in-Some-clause-found : goal.returns-in-Some-clause-found
 returns-in-Some-clause-found g c = λ honest.
     let content = g.F.Files.content c.args.files.now in
     let object = stored_object c.in-Some.stored.kind c.in-Some.stored.body.items in
-    let found : objects content c.args.id.now ≡ Some object = search (rules, c.in_ok-stored.ensures.found honest, c.in-Some.is) in
+    let found : objects content c.args.id.now ≡ Some object = search (rules, c.in_ok-stored.ensures.finds.found honest, c.in-Some.is) in
     sym (seen_stored content c.args.slot c.args.id.now object found)
 
 pub returns-clause-found : goal.returns-clause-found
 returns-clause-found g c = λ honest.
     let content = g.F.Files.content c.args.files.now in
-    let none : objects content c.args.id.now ≡ None = search (rules, c.in_ok-stored.ensures.found honest, c.in_default.is) in
+    let none : objects content c.args.id.now ≡ None = search (rules, c.in_ok-stored.ensures.finds.found honest, c.in_default.is) in
     let there : quarantined (g.F.Files.content c.find.new.files) c.args.slot c.args.id.now ≡ quarantined content c.args.slot c.args.id.now = search (rules, c.in_ok-stored.ensures.same) in
     c.in_ok-carried.ensures.found honest ∙ there ∙ sym (seen_carried content c.args.slot c.args.id.now none)

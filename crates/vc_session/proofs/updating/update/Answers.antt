@@ -1,15 +1,17 @@
-use Rattle.std.proofs.Common.{rules, ◌≡◌, ◌&&◌, ℕ, List, Option, None, Result, true, false, nat_eq, is_some, inl, inr, sym, refl, ◌∙◌, subst}
+use Rattle.std.proofs.Common.{rules, ◌≡◌, ◌&&◌, ℕ, List, Option, None, Result, true, false, nat_eq, is_some, inl, inr, ap, sym, refl, ◌∙◌, subst}
 use Rattle.std.specs.Prelude.{IfOk, IfErr, IsErrOf, codes}
 use Rattle.std.specs.List.{starts_with}
 use Rattle.std.specs.Str.{is_utf8}
 use Rattle.vc_files.proofs.WearLemmas.{wears_then, wears_writes, writes_told}
 use Rattle.vc_files.specs.Failures.{Writes}
+use Rattle.vc_files.specs.FileMap.{FileMap}
 use Rattle.vc_files.specs.declared.faults.Fault.TheVariants.{Device}
 use Rattle.vc_push.specs.PushView.{command_of}
 use Rattle.vc_push.specs.declared.reason.Reason.{Reason}
 use Rattle.vc_refname.specs.RefName.{is_ref_name}
 use Rattle.vc_refs.specs.Head.{KeepsTheRest}
 use Rattle.vc_refs.specs.RefFault.{BlamesRef, BlamesSet, MaySet}
+use Rattle.vc_refs.specs.RefMap.{with_ref}
 use Rattle.vc_refs.specs.Refs.{refs}
 use Rattle.vc_refs.specs.declared.faults.RefFault.{RefFault}
 use Rattle.vc_refs.specs.declared.faults.RefFault.TheVariants.{Fault}
@@ -47,16 +49,22 @@ returns-in-Ok-clause-allowed g c = λ honest none.
     let named : c.in-Some.name ≡ c.args.command.now.name.items = only_name (is_utf8 c.deref.result.now && is_ref_name c.deref.result.now) c.deref.result.now c.in-Some.name (sym c.in-Some.is ∙ c.in_ok-name.ensures) ∙ c.deref.ensures.value in
     moved MaySet c.in_ok-is_standing_tag.ensures.same named c.expected-expected.ensures (c.in-Ok.ensures.allowed honest)
 
-pub returns-in-Ok-clause-rest : goal.returns-in-Ok-clause-rest
-returns-in-Ok-clause-rest g c = λ honest.
+pub returns-in-Ok-clause-updates : goal.returns-in-Ok-clause-updates
+returns-in-Ok-clause-updates g c =
     let content = g.F.Files.content in
+    let id = c.args.command.now.new in
+    let same = c.in_ok-is_standing_tag.ensures.same in
     let named : c.in-Some.name ≡ c.args.command.now.name.items = only_name (is_utf8 c.deref.result.now && is_ref_name c.deref.result.now) c.deref.result.now c.in-Some.name (sym c.in-Some.is ∙ c.in_ok-name.ensures) ∙ c.deref.ensures.value in
-    moved (λ files name value. KeepsTheRest name files (content c.set.new.files)) {e = None} c.in_ok-is_standing_tag.ensures.same named refl (c.in-Ok.ensures.rest honest)
-
-pub returns-in-Ok-clause-bad : goal.returns-in-Ok-clause-bad
-returns-in-Ok-clause-bad g c = λ honest.
     let inside : starts_with nat_eq c.in-Some.name (codes "refs/") ≡ true = search rules in
-    bad_from c.in_ok-is_standing_tag.ensures.same (bad_ref _ _ c.in-Some.name inside (c.in-Ok.ensures.rest honest) (c.in-Ok.ensures.only honest))
+    record {
+      set = λ honest.
+          c.in-Ok.ensures.sets.set honest
+          ∙ ap (λ (m : FileMap). with_ref (refs m) c.in-Some.name id) same
+          ∙ ap (λ (n : List ℕ). with_ref (refs (content c.args.files.now)) n id) named;
+      rest = λ honest. moved (λ files name value. KeepsTheRest name files (content c.set.new.files)) {e = None} same named refl (c.in-Ok.ensures.sets.rest honest);
+      err = search rules;
+      bad = λ honest. bad_from same (bad_ref _ _ c.in-Some.name inside (c.in-Ok.ensures.sets.rest honest) (c.in-Ok.ensures.sets.only honest));
+    }
 
 pub returns-in-Ok-clause-wear : goal.returns-in-Ok-clause-wear
 returns-in-Ok-clause-wear g c = wears_then c.in_ok-is_standing_tag.ensures.wear (λ _. c.in_ok-is_standing_tag.ensures.same) (search rules) (writes_told c.in-Ok.ensures.wear (search rules) (search rules))

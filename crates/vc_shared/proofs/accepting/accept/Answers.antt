@@ -1,9 +1,10 @@
 use Rattle.std.proofs.Common.{inr}
 use Rattle.vc_files.proofs.WearLemmas.{writes_none}
+use Rattle.vc_message.proofs.Readings.{text_read}
 use Rattle.vc_message.specs.AnyView.{message_text}
 use Rattle.vc_node.proofs.LookLemmas.{looks_none}
 use Rattle.vc_node.proofs.UnreadLemmas.{never_unread}
-use Rattle.vc_shared.proofs.AcceptingLemmas.{failed_answers, failed_refused, failed_unread, message_refused, no_device, text_here}
+use Rattle.vc_shared.proofs.AcceptingLemmas.{failed_answers, failed_refused, failed_unread, message_refused, no_device}
 use Rattle.vc_shared.proofs.accepting.accept.Goals as goal
 
 pub take-requires : goal.take-requires
@@ -29,7 +30,7 @@ returns-in_err-message-clause-looks g c = λ m reads. inr (looks_none (no_device
 
 pub returns-clause-answers : goal.returns-clause-answers
 returns-clause-answers g c = λ honest m reads.
-    c.take.ensures.answers honest m (text_here (g.F.Files.content c.args.files.now) c.args.slots.now c.args.bytes.now m (message_text c.in_ok-message.message) reads c.in_ok-message.ensures.read)
+    c.take.ensures.answers honest m (text_read c.args.bytes.now m (message_text c.in_ok-message.message) reads c.in_ok-message.ensures.read)
 
 pub returns-clause-unread : goal.returns-clause-unread
 returns-clause-unread g c = λ honest n unread. absurd (never_unread c.args.bytes.now (message_text c.in_ok-message.message) n c.in_ok-message.ensures.spelled unread)
@@ -40,4 +41,4 @@ returns-clause-refused g c = λ honest.
 
 pub returns-clause-looks : goal.returns-clause-looks
 returns-clause-looks g c = λ m reads.
-    c.take.ensures.looks m (text_here (g.F.Files.content c.args.files.now) c.args.slots.now c.args.bytes.now m (message_text c.in_ok-message.message) reads c.in_ok-message.ensures.read)
+    c.take.ensures.looks m (text_read c.args.bytes.now m (message_text c.in_ok-message.message) reads c.in_ok-message.ensures.read)

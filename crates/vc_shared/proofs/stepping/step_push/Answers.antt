@@ -7,13 +7,14 @@ use Rattle.vc_session.proofs.SessionLemmas.{on_err}
 use Rattle.vc_session.specs.declared.fault.SessionFault.TheVariants as session
 use Rattle.vc_shared.specs.Faults.{of_device}
 use Rattle.vc_shared.specs.Stepping.{EndsSlotEarly, IsRefusedIn, MayWriteIn}
-use Rattle.vc_shared.proofs.FaultLemmas.{err_as, looks_as, memory_refused, writes_as}
+use Rattle.vc_node.proofs.FaultLemmas.{err_as}
+use Rattle.vc_shared.proofs.FaultLemmas.{looks_as, memory_refused, writes_as}
 use Rattle.vc_shared.proofs.SlotLemmas.{end_early}
 use Rattle.vc_shared.proofs.TellingLemmas.{short_report}
 use Rattle.vc_shared.proofs.stepping.step_push.Goals as goal
 
 pub told-requires : goal.told-requires
-told-requires g c = record { short = short_report c.args.push.now c.in_ok-did.did c.in_ok-did.ensures.told c.requires.tellable }
+told-requires g c = record { short = short_report c.args.push.now c.in_ok-did.did c.in_ok-did.ensures.takes.told c.requires.tellable }
 
 pub returns-in_err-did-clause-wear : goal.returns-in_err-did-clause-wear
 returns-in_err-did-clause-wear g c =
@@ -55,7 +56,7 @@ returns-in_err-told-clause-refused g c honest =
 pub returns-clause-steps : goal.returns-clause-steps
 returns-clause-steps g c honest held =
     let steps = rw c.in_default.ensures.same at c.in_ok-did.ensures.steps in
-    record { did = c.in_ok-did.did; is_session = c.step.ensures.session; steps = steps honest (c.in_default.ensures.agrees honest (c.requires.agrees honest)) held; tells = c.in_ok-told.ensures.told }
+    record { did = c.in_ok-did.did; is_session = c.step.ensures.takes.session; steps = steps honest (c.in_default.ensures.agrees honest (c.requires.agrees honest)) held; tells = c.in_ok-told.ensures.told }
 
 pub returns-in_err-did-clause-refused : goal.returns-in_err-did-clause-refused
 returns-in_err-did-clause-refused g c honest =
@@ -64,10 +65,10 @@ returns-in_err-did-clause-refused g c honest =
     search (rules, told)
 
 pub returns-in_err-did-clause-good : goal.returns-in_err-did-clause-good
-returns-in_err-did-clause-good g c honest = record { agrees = (rw c.in_default.ensures.same at c.step.ensures.agrees) honest c.learn.new.generations (c.in_default.ensures.agrees honest (c.requires.agrees honest)); bad = search rules }
+returns-in_err-did-clause-good g c honest = record { agrees = (rw c.in_default.ensures.same at c.step.ensures.spares.agrees) honest c.learn.new.generations (c.in_default.ensures.agrees honest (c.requires.agrees honest)); bad = search rules }
 
 pub returns-in_err-told-clause-good : goal.returns-in_err-told-clause-good
-returns-in_err-told-clause-good g c honest = record { agrees = (rw c.in_default.ensures.same at c.step.ensures.agrees) honest c.learn.new.generations (c.in_default.ensures.agrees honest (c.requires.agrees honest)); bad = search rules }
+returns-in_err-told-clause-good g c honest = record { agrees = (rw c.in_default.ensures.same at c.step.ensures.spares.agrees) honest c.learn.new.generations (c.in_default.ensures.agrees honest (c.requires.agrees honest)); bad = search rules }
 
 pub returns-clause-good : goal.returns-clause-good
-returns-clause-good g c honest = record { agrees = (rw c.in_default.ensures.same at c.step.ensures.agrees) honest c.learn.new.generations (c.in_default.ensures.agrees honest (c.requires.agrees honest)); bad = search rules }
+returns-clause-good g c honest = record { agrees = (rw c.in_default.ensures.same at c.step.ensures.spares.agrees) honest c.learn.new.generations (c.in_default.ensures.agrees honest (c.requires.agrees honest)); bad = search rules }

@@ -5,30 +5,28 @@ use Rattle.vc_store.specs.Store.{name_in, prefix_path, lower_case}
 use Rattle.vc_store.proofs.NamesLemmas.{other_text-names, prefix-names, digits-sorted, digits-exact}
 use Rattle.vc_store.proofs.listing.by_prefix.Goals as goal
 
-pub returns-in_default-clause-names : goal.returns-in_default-clause-names
-returns-in_default-clause-names g c = λ honest.
-    let none : option_map prefix_path (lower_case c.args.digits.now) ≡ None = search rules in
+pub returns-in_default-clause-lists : goal.returns-in_default-clause-lists
+returns-in_default-clause-lists g c =
+    let content = g.F.Files.content c.args.files.now in
+    let digits = c.args.digits.now in
+    let none : option_map prefix_path (lower_case digits) ≡ None = search rules in
     let no_names : c.new.result.items ≡ [] = search rules in
-    no_names ∙ sym (other_text-names (g.F.Files.content c.args.files.now) c.args.digits.now none)
+    let listed = no_names ∙ sym (other_text-names content digits none) in
+    record {
+      names = λ honest. listed;
+      sorted = λ honest. rw listed (digits-sorted _ digits);
+      exact = λ honest id. rw listed (digits-exact _ digits id);
+    }
 
-pub returns-in_default-clause-sorted : goal.returns-in_default-clause-sorted
-returns-in_default-clause-sorted g c = λ honest.
-    rw (returns-in_default-clause-names g c honest) (digits-sorted _ c.args.digits.now)
-
-pub returns-in_default-clause-exact : goal.returns-in_default-clause-exact
-returns-in_default-clause-exact g c = λ honest id.
-    rw (returns-in_default-clause-names g c honest) (digits-exact _ c.args.digits.now id)
-
-pub returns-clause-names : goal.returns-clause-names
-returns-clause-names g c = λ honest.
-    let some : option_map prefix_path (lower_case c.args.digits.now) ≡ Some c.as_str.result.now = search rules in
-    let listed : c.in_ok-names.names.items ≡ filter_map name_in (paths_under (g.F.Files.content c.args.files.now) c.as_str.result.now) = search (rules, c.in_ok-names.ensures.names honest) in
-    listed ∙ sym (prefix-names (g.F.Files.content c.args.files.now) c.args.digits.now c.as_str.result.now some)
-
-pub returns-clause-sorted : goal.returns-clause-sorted
-returns-clause-sorted g c = λ honest.
-    rw (returns-clause-names g c honest) (digits-sorted _ c.args.digits.now)
-
-pub returns-clause-exact : goal.returns-clause-exact
-returns-clause-exact g c = λ honest id.
-    rw (returns-clause-names g c honest) (digits-exact _ c.args.digits.now id)
+pub returns-clause-lists : goal.returns-clause-lists
+returns-clause-lists g c =
+    let content = g.F.Files.content c.args.files.now in
+    let digits = c.args.digits.now in
+    let some : option_map prefix_path (lower_case digits) ≡ Some c.as_str.result.now = search rules in
+    let under : g.F.Files.honest → c.in_ok-names.names.items ≡ filter_map name_in (paths_under content c.as_str.result.now) = λ honest. search (rules, c.in_ok-names.ensures.names honest) in
+    let listed = λ (honest : g.F.Files.honest). under honest ∙ sym (prefix-names content digits c.as_str.result.now some) in
+    record {
+      names = listed;
+      sorted = λ honest. rw (listed honest) (digits-sorted _ digits);
+      exact = λ honest id. rw (listed honest) (digits-exact _ digits id);
+    }

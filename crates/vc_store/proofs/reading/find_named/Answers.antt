@@ -5,15 +5,23 @@ use Rattle.vc_store.specs.Store.{stored}
 use Rattle.vc_store.proofs.StoreLemmas.{objects-stored, objects-absent}
 use Rattle.vc_store.proofs.reading.find_named.Goals as goal
 
-pub returns-in-Some-clause-found : goal.returns-in-Some-clause-found
-returns-in-Some-clause-found g c = λ honest.
+pub returns-in-Some-clause-finds : goal.returns-in-Some-clause-finds
+returns-in-Some-clause-finds g c =
     let content = g.F.Files.content c.args.files.now in
     let object = stored_object c.in-Some.object.kind c.in-Some.object.body.items in
-    let is : stored content c.args.id.now ≡ Ok object = search (rules, c.in_ok-object.ensures.found honest, c.in-Some.is) in
-    sym (objects-stored content c.args.id.now object (search rules) is)
+    let is : g.F.Files.honest → stored content c.args.id.now ≡ Ok object = λ honest. search (rules, c.in_ok-object.ensures.found honest, c.in-Some.is) in
+    record {
+      found = λ honest. sym (objects-stored content c.args.id.now object (search rules) (is honest));
+      damaged = λ honest. search (rules, is honest);
+      refused = search rules;
+    }
 
-pub returns-in-None-clause-found : goal.returns-in-None-clause-found
-returns-in-None-clause-found g c = λ honest.
+pub returns-in-None-clause-finds : goal.returns-in-None-clause-finds
+returns-in-None-clause-finds g c =
     let content = g.F.Files.content c.args.files.now in
-    let absent : stored content c.args.id.now ≡ Err (Absent c.args.id.now) = search (rules, c.in_ok-object.ensures.absent honest, c.in-None.is) in
-    sym (objects-absent content c.args.id.now (Absent c.args.id.now) absent)
+    let absent : g.F.Files.honest → stored content c.args.id.now ≡ Err (Absent c.args.id.now) = λ honest. search (rules, c.in_ok-object.ensures.absent honest, c.in-None.is) in
+    record {
+      found = λ honest. sym (objects-absent content c.args.id.now (Absent c.args.id.now) (absent honest));
+      damaged = λ honest. search (rules, absent honest);
+      refused = search rules;
+    }

@@ -13,16 +13,20 @@ use Rattle.vc_store.proofs.writing.put.Goals as goal
 never : (kind : Kind) (body : List ℕ) → IsObject kind body → (r : Result ObjectId StoreFault) (e : ObjectFault) → BodyFault kind body e → r ≡ Err (BadObject e)
 never kind body object r e fault = absurd (no_body_fault kind body e object fault)
 
-pub returns-in_err-object-clause-only : goal.returns-in_err-object-clause-only
-returns-in_err-object-clause-only g c = λ e fault.
-    let same : c.in_err-object.field-0.0 ≡ e = two_bodies c.args.kind c.args.body.now c.in_err-object.field-0.0 e c.in_err-object.ensures.fault fault in
-    search (rules, same)
+pub returns-in_err-object-clause-answers : goal.returns-in_err-object-clause-answers
+returns-in_err-object-clause-answers g c =
+    let same = λ (e : ObjectFault). two_bodies c.args.kind c.args.body.now c.in_err-object.field-0.0 e c.in_err-object.ensures.fault in
+    record { name = search rules; legal = search rules; refused = search rules; only = λ e fault. search (rules, same e fault) }
 
-pub returns-in_err-put_named-clause-only : goal.returns-in_err-put_named-clause-only
-returns-in_err-put_named-clause-only g c = λ e. never c.args.kind c.args.body.now (c.in_ok-object.ensures.exact.0 refl) _ e
+pub returns-in_err-put_named-clause-answers : goal.returns-in_err-put_named-clause-answers
+returns-in_err-put_named-clause-answers g c =
+    let object = c.in_ok-object.ensures.exact.0 refl in
+    record { name = search rules; legal = search rules; refused = search rules; only = λ e. never c.args.kind c.args.body.now object _ e }
 
-pub returns-clause-only : goal.returns-clause-only
-returns-clause-only g c = λ e. never c.args.kind c.args.body.now (c.in_ok-object.ensures.exact.0 refl) _ e
+pub returns-clause-answers : goal.returns-clause-answers
+returns-clause-answers g c =
+    let object = c.in_ok-object.ensures.exact.0 refl in
+    record { name = search rules; legal = search rules; refused = search rules; only = λ e. never c.args.kind c.args.body.now object _ e }
 
 -- only what is no object is refused before anything is looked for
 pub returns-in_err-object-clause-looks : goal.returns-in_err-object-clause-looks

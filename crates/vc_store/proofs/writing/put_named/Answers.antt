@@ -14,7 +14,7 @@ returns-in_ok-put-clause-objects g c = λ honest.
     let content = g.F.Files.content in
     let id = c.args.id.now in
     let object = c.args.object.now in
-    let absent : stored (content c.args.files.now) id ≡ Err (Absent id) = search (rules, c.in_ok-has.ensures.absent honest) in
+    let absent : stored (content c.args.files.now) id ≡ Err (Absent id) = search (rules, c.in_ok-has.ensures.tells.absent honest) in
     let made : content c.put.new.self ≡ files.insert (content c.args.files.now) (object_path id.0) (object_bytes object.kind object.body.now) = search (rules, c.in_ok-put.ensures.ok honest, c.in_ok-has.ensures.same) in
     rw made (objects-put (content c.args.files.now) id object.kind object.body.now (search rules) (search rules) (search rules) absent)
 
@@ -31,7 +31,7 @@ returns-else-not-branch-clause-objects g c = λ honest.
     let content = g.F.Files.content in
     let id = c.args.id.now in
     let object = c.args.object.now in
-    let there : is_ok (stored (content c.args.files.now) id) ≡ true = search (rules, c.in_ok-has.ensures.there honest) in
+    let there : is_ok (stored (content c.args.files.now) id) ≡ true = search (rules, c.in_ok-has.ensures.tells.there honest) in
     rw c.in_ok-has.ensures.same (objects-there (content c.args.files.now) id (stored_object object.kind object.body.now) (search rules) there)
 
 pub returns-in_ok-put-clause-files : goal.returns-in_ok-put-clause-files
@@ -39,7 +39,7 @@ returns-in_ok-put-clause-files g c = λ honest.
     let content = g.F.Files.content in
     let id = c.args.id.now in
     let object = c.args.object.now in
-    let absent : stored (content c.args.files.now) id ≡ Err (Absent id) = search (rules, c.in_ok-has.ensures.absent honest) in
+    let absent : stored (content c.args.files.now) id ≡ Err (Absent id) = search (rules, c.in_ok-has.ensures.tells.absent honest) in
     let made : content c.put.new.self ≡ files.insert (content c.args.files.now) (object_path id.0) (object_bytes object.kind object.body.now) = search (rules, c.in_ok-put.ensures.ok honest, c.in_ok-has.ensures.same) in
     rw made (with_file-absent (content c.args.files.now) id object.kind object.body.now (search rules) absent)
 
@@ -48,7 +48,7 @@ returns-else-not-branch-clause-files g c = λ honest.
     let content = g.F.Files.content in
     let id = c.args.id.now in
     let object = c.args.object.now in
-    let there : is_ok (stored (content c.args.files.now) id) ≡ true = search (rules, c.in_ok-has.ensures.there honest) in
+    let there : is_ok (stored (content c.args.files.now) id) ≡ true = search (rules, c.in_ok-has.ensures.tells.there honest) in
     rw c.in_ok-has.ensures.same (with_file-there (content c.args.files.now) id object.kind object.body.now (search rules) there)
 
 pub returns-in_ok-put-clause-wear : goal.returns-in_ok-put-clause-wear

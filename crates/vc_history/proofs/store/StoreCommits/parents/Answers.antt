@@ -9,7 +9,7 @@ pub returns-in-Some-parents-clause-answer : goal.returns-in-Some-parents-clause-
 returns-in-Some-parents-clause-answer g c = λ honest.
     let content = g.F.Files.content c.args.self.now.files.now in
     let object = stored_object c.in-Some.found.kind c.in-Some.found.body.items in
-    let found : objects content c.args.id.now ≡ Some object = search (rules, c.in_ok-found.ensures.found honest, c.in-Some.is) in
+    let found : objects content c.args.id.now ≡ Some object = search (rules, c.in_ok-found.ensures.finds.found honest, c.in-Some.is) in
     let read : parents_of c.in-Some.found.kind c.in-Some.found.body.items ≡ Some c.in-Some-parents.ids.items = search rules in
     parents_in-some (objects content) c.args.id.now object found ∙ read
 
@@ -17,6 +17,6 @@ pub returns-clause-answer : goal.returns-clause-answer
 returns-clause-answer g c = λ honest.
     let content = g.F.Files.content c.args.self.now.files.now in
     let object = stored_object c.in-Some.found.kind c.in-Some.found.body.items in
-    let found : objects content c.args.id.now ≡ Some object = search (rules, c.in_ok-found.ensures.found honest, c.in-Some.is) in
+    let found : objects content c.args.id.now ≡ Some object = search (rules, c.in_ok-found.ensures.finds.found honest, c.in-Some.is) in
     let read : parents_of c.in-Some.found.kind c.in-Some.found.body.items ≡ None = search rules in
     (subst (λ o. IsSome o) (sym found) refl, parents_in-some (objects content) c.args.id.now object found ∙ read)

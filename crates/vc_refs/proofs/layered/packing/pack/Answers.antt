@@ -10,8 +10,15 @@ use Rattle.vc_refs.specs.Packed.{packed_text}
 use Rattle.vc_refs.proofs.LayeredListingLemmas.{all_packed, keeps_same, none_listed, refs_kept, rest_kept, some_listed}
 use Rattle.vc_refs.proofs.layered.packing.pack.Goals as goal
 
-pub returns-in_err-paths-clause-rest : goal.returns-in_err-paths-clause-rest
-returns-in_err-paths-clause-rest g c = λ honest. keeps_same _ _ c.in_err-paths.ensures.same
+pub returns-in_err-paths-clause-packs : goal.returns-in_err-paths-clause-packs
+returns-in_err-paths-clause-packs g c =
+    let same = c.in_err-paths.ensures.same in
+    record {
+      packed = search rules;
+      kept = λ honest. ap refs same;
+      rest = λ honest. keeps_same _ _ same;
+      err = λ honest. search (rules, same);
+    }
 
 pub returns-in_err-paths-clause-wear : goal.returns-in_err-paths-clause-wear
 returns-in_err-paths-clause-wear g c = writes_told (wears_writes c.in_err-paths.ensures.wear (search rules)) (search rules) (search rules)
@@ -23,19 +30,31 @@ returns-in_err-refs-clause-refused g c = λ honest.
     let told : BlamesList content c.in_err-refs.field-0.0 = rw c.in_ok-paths.ensures.same at (c.in_err-refs.ensures.refused honest (rw c.in_ok-paths.ensures.same listed)) in
     search (rules, told)
 
-pub returns-in_err-refs-clause-rest : goal.returns-in_err-refs-clause-rest
-returns-in_err-refs-clause-rest g c = λ honest. keeps_same _ _ (c.in_err-refs.ensures.same ∙ c.in_ok-paths.ensures.same)
+pub returns-in_err-refs-clause-packs : goal.returns-in_err-refs-clause-packs
+returns-in_err-refs-clause-packs g c =
+    let same = c.in_err-refs.ensures.same ∙ c.in_ok-paths.ensures.same in
+    record {
+      packed = search rules;
+      kept = λ honest. ap refs same;
+      rest = λ honest. keeps_same _ _ same;
+      err = λ honest. search (rules, same);
+    }
 
 pub returns-in_err-refs-clause-wear : goal.returns-in_err-refs-clause-wear
 returns-in_err-refs-clause-wear g c = wears_then c.in_ok-paths.ensures.wear (search rules) (search rules) (writes_told (wears_writes c.in_err-refs.ensures.wear (search rules)) (search rules) (search rules))
 
-pub returns-then-is_empty-clause-packed : goal.returns-then-is_empty-clause-packed
-returns-then-is_empty-clause-packed g c = λ honest.
+pub returns-then-is_empty-clause-packs : goal.returns-then-is_empty-clause-packs
+returns-then-is_empty-clause-packs g c =
     let content = g.F.Files.content c.args.files.now in
     let same = c.in_ok-refs.ensures.same ∙ c.in_ok-paths.ensures.same in
     let none : length c.in_ok-paths.paths.items ≡ 0 = search rules in
-    let loose : HasNoLoose content = none_listed content c.in_ok-paths.paths.items (c.in_ok-paths.ensures.listed honest) none in
-    record { loose = rw same loose; packed = inl same }
+    let loose : g.F.Files.honest → HasNoLoose content = λ honest. none_listed content c.in_ok-paths.paths.items (c.in_ok-paths.ensures.listed honest) none in
+    record {
+      packed = λ honest. record { loose = rw same (loose honest); packed = inl same };
+      kept = λ honest. ap refs same;
+      rest = λ honest. keeps_same _ _ same;
+      err = search rules;
+    }
 
 pub returns-then-is_empty-clause-good : goal.returns-then-is_empty-clause-good
 returns-then-is_empty-clause-good g c = λ honest.
@@ -44,16 +63,20 @@ returns-then-is_empty-clause-good g c = λ honest.
     let good : SpellsRefs content = rw c.in_ok-paths.ensures.same at (c.in_ok-refs.ensures.good honest (rw c.in_ok-paths.ensures.same listed)) in
     good
 
-pub returns-then-is_empty-clause-rest : goal.returns-then-is_empty-clause-rest
-returns-then-is_empty-clause-rest g c = λ honest. keeps_same _ _ (c.in_ok-refs.ensures.same ∙ c.in_ok-paths.ensures.same)
-
 pub returns-then-is_empty-clause-wear : goal.returns-then-is_empty-clause-wear
 returns-then-is_empty-clause-wear g c = wears_then c.in_ok-paths.ensures.wear (search rules) (search rules) (writes_told (wears_writes c.in_ok-refs.ensures.wear (search rules)) (search rules) (search rules))
 
-pub returns-in_err-write_packed-clause-rest : goal.returns-in_err-write_packed-clause-rest
-returns-in_err-write_packed-clause-rest g c = λ honest.
-    let same : g.F.Files.content c.write_packed.new.files ≡ g.F.Files.content c.all_refs.new.files = search (rules, c.in_err-write_packed.ensures.err honest) in
-    keeps_same _ _ (same ∙ c.in_ok-refs.ensures.same ∙ c.in_ok-paths.ensures.same)
+pub returns-in_err-write_packed-clause-packs : goal.returns-in_err-write_packed-clause-packs
+returns-in_err-write_packed-clause-packs g c =
+    let content = g.F.Files.content in
+    let write : g.F.Files.honest → content c.write_packed.new.files ≡ content c.all_refs.new.files = λ honest. search (rules, c.in_err-write_packed.ensures.err honest) in
+    let same : g.F.Files.honest → content c.write_packed.new.files ≡ content c.args.files.now = λ honest. write honest ∙ c.in_ok-refs.ensures.same ∙ c.in_ok-paths.ensures.same in
+    record {
+      packed = search rules;
+      kept = λ honest. ap refs (same honest);
+      rest = λ honest. keeps_same _ _ (same honest);
+      err = λ honest. search (rules, (same honest));
+    }
 
 pub returns-in_err-write_packed-clause-wear : goal.returns-in_err-write_packed-clause-wear
 returns-in_err-write_packed-clause-wear g c =
@@ -65,29 +88,26 @@ returns-in_err-write_packed-clause-looks g c = λ honest.
     let some : 0 < length c.in_ok-paths.paths.items = search rules in
     inl (some_listed _ c.in_ok-paths.paths.items (c.in_ok-paths.ensures.listed honest) some)
 
-pub returns-in_err-remove_all-clause-kept : goal.returns-in_err-remove_all-clause-kept
-returns-in_err-remove_all-clause-kept g c = λ honest.
+pub returns-in_err-remove_all-clause-packs : goal.returns-in_err-remove_all-clause-packs
+returns-in_err-remove_all-clause-packs g c =
     let content = g.F.Files.content in
     let old = content c.args.files.now in
+    let new = content c.remove_all.new.files in
     let paths = map string_bytes c.deref-2.result.now in
-    let listed : map string_bytes c.deref.result.now ≡ paths_under old (codes "refs/") = ap (map string_bytes) c.deref.ensures.value ∙ c.in_ok-paths.ensures.listed honest in
-    let again : paths ≡ paths_under old (codes "refs/") = ap (map string_bytes) c.deref-2.ensures.value ∙ c.in_ok-paths.ensures.listed honest in
-    let all : IsMapOf (refs old) c.in_ok-refs.refs = rw c.in_ok-paths.ensures.same at (c.in_ok-refs.ensures.found honest (rw c.in_ok-paths.ensures.same listed)) in
-    let written : content c.write_packed.new.files ≡ insert old packed_path (packed_text c.in_ok-refs.refs) = rw (c.in_ok-refs.ensures.same ∙ c.in_ok-paths.ensures.same) at (c.in_ok-write_packed.ensures.written honest) in
-    let lost : LosesSome paths (insert old packed_path (packed_text c.in_ok-refs.refs)) (content c.remove_all.new.files) = rw written at (c.in_err-remove_all.ensures.lost honest) in
-    refs_kept old c.in_ok-refs.refs paths (content c.remove_all.new.files) all c.in_ok-write_packed.ensures.read again lost
-
-pub returns-in_err-remove_all-clause-rest : goal.returns-in_err-remove_all-clause-rest
-returns-in_err-remove_all-clause-rest g c = λ honest.
-    let content = g.F.Files.content in
-    let old = content c.args.files.now in
-    let paths = map string_bytes c.deref-2.result.now in
-    let listed : map string_bytes c.deref.result.now ≡ paths_under old (codes "refs/") = ap (map string_bytes) c.deref.ensures.value ∙ c.in_ok-paths.ensures.listed honest in
-    let again : paths ≡ paths_under old (codes "refs/") = ap (map string_bytes) c.deref-2.ensures.value ∙ c.in_ok-paths.ensures.listed honest in
-    let all : IsMapOf (refs old) c.in_ok-refs.refs = rw c.in_ok-paths.ensures.same at (c.in_ok-refs.ensures.found honest (rw c.in_ok-paths.ensures.same listed)) in
-    let written : content c.write_packed.new.files ≡ insert old packed_path (packed_text c.in_ok-refs.refs) = rw (c.in_ok-refs.ensures.same ∙ c.in_ok-paths.ensures.same) at (c.in_ok-write_packed.ensures.written honest) in
-    let lost : LosesSome paths (insert old packed_path (packed_text c.in_ok-refs.refs)) (content c.remove_all.new.files) = rw written at (c.in_err-remove_all.ensures.lost honest) in
-    rest_kept old c.in_ok-refs.refs paths (content c.remove_all.new.files) all c.in_ok-write_packed.ensures.read again lost
+    let refs_in = c.in_ok-refs.refs in
+    let same = c.in_ok-paths.ensures.same in
+    let listed : g.F.Files.honest → map string_bytes c.deref.result.now ≡ paths_under old (codes "refs/") = λ honest. ap (map string_bytes) c.deref.ensures.value ∙ c.in_ok-paths.ensures.listed honest in
+    let again : g.F.Files.honest → paths ≡ paths_under old (codes "refs/") = λ honest. ap (map string_bytes) c.deref-2.ensures.value ∙ c.in_ok-paths.ensures.listed honest in
+    let all : g.F.Files.honest → IsMapOf (refs old) refs_in = λ honest. rw same at (c.in_ok-refs.ensures.found honest (rw same (listed honest))) in
+    let written : g.F.Files.honest → content c.write_packed.new.files ≡ insert old packed_path (packed_text refs_in) = λ honest. rw (c.in_ok-refs.ensures.same ∙ same) at (c.in_ok-write_packed.ensures.written honest) in
+    let lost : g.F.Files.honest → LosesSome paths (insert old packed_path (packed_text refs_in)) new = λ honest. rw (written honest) at (c.in_err-remove_all.ensures.lost honest) in
+    let read = c.in_ok-write_packed.ensures.read in
+    record {
+      packed = search rules;
+      kept = λ honest. refs_kept old refs_in paths new (all honest) read (again honest) (lost honest);
+      rest = λ honest. rest_kept old refs_in paths new (all honest) read (again honest) (lost honest);
+      err = search rules;
+    }
 
 pub returns-in_err-remove_all-clause-wear : goal.returns-in_err-remove_all-clause-wear
 returns-in_err-remove_all-clause-wear g c =
@@ -100,17 +120,26 @@ returns-in_err-remove_all-clause-looks g c = λ honest.
     let some : 0 < length c.in_ok-paths.paths.items = search rules in
     inl (some_listed _ c.in_ok-paths.paths.items (c.in_ok-paths.ensures.listed honest) some)
 
-pub returns-clause-packed : goal.returns-clause-packed
-returns-clause-packed g c = λ honest.
+pub returns-clause-packs : goal.returns-clause-packs
+returns-clause-packs g c =
     let content = g.F.Files.content in
     let old = content c.args.files.now in
+    let new = content c.remove_all.new.files in
     let paths = map string_bytes c.deref-2.result.now in
-    let listed : map string_bytes c.deref.result.now ≡ paths_under old (codes "refs/") = ap (map string_bytes) c.deref.ensures.value ∙ c.in_ok-paths.ensures.listed honest in
-    let again : paths ≡ paths_under old (codes "refs/") = ap (map string_bytes) c.deref-2.ensures.value ∙ c.in_ok-paths.ensures.listed honest in
-    let all : IsMapOf (refs old) c.in_ok-refs.refs = rw c.in_ok-paths.ensures.same at (c.in_ok-refs.ensures.found honest (rw c.in_ok-paths.ensures.same listed)) in
-    let written : content c.write_packed.new.files ≡ insert old packed_path (packed_text c.in_ok-refs.refs) = rw (c.in_ok-refs.ensures.same ∙ c.in_ok-paths.ensures.same) at (c.in_ok-write_packed.ensures.written honest) in
-    let lost : LosesSome paths (insert old packed_path (packed_text c.in_ok-refs.refs)) (content c.remove_all.new.files) = rw written at (c.in_ok-remove_all.ensures.lost honest) in
-    all_packed old c.in_ok-refs.refs paths (content c.remove_all.new.files) all c.in_ok-write_packed.ensures.read again lost (c.in_ok-remove_all.ensures.gone honest)
+    let refs_in = c.in_ok-refs.refs in
+    let same = c.in_ok-paths.ensures.same in
+    let listed : g.F.Files.honest → map string_bytes c.deref.result.now ≡ paths_under old (codes "refs/") = λ honest. ap (map string_bytes) c.deref.ensures.value ∙ c.in_ok-paths.ensures.listed honest in
+    let again : g.F.Files.honest → paths ≡ paths_under old (codes "refs/") = λ honest. ap (map string_bytes) c.deref-2.ensures.value ∙ c.in_ok-paths.ensures.listed honest in
+    let all : g.F.Files.honest → IsMapOf (refs old) refs_in = λ honest. rw same at (c.in_ok-refs.ensures.found honest (rw same (listed honest))) in
+    let written : g.F.Files.honest → content c.write_packed.new.files ≡ insert old packed_path (packed_text refs_in) = λ honest. rw (c.in_ok-refs.ensures.same ∙ same) at (c.in_ok-write_packed.ensures.written honest) in
+    let lost : g.F.Files.honest → LosesSome paths (insert old packed_path (packed_text refs_in)) new = λ honest. rw (written honest) at (c.in_ok-remove_all.ensures.lost honest) in
+    let read = c.in_ok-write_packed.ensures.read in
+    record {
+      packed = λ honest. all_packed old refs_in paths new (all honest) read (again honest) (lost honest) (c.in_ok-remove_all.ensures.gone honest);
+      kept = λ honest. refs_kept old refs_in paths new (all honest) read (again honest) (lost honest);
+      rest = λ honest. rest_kept old refs_in paths new (all honest) read (again honest) (lost honest);
+      err = search rules;
+    }
 
 pub returns-clause-good : goal.returns-clause-good
 returns-clause-good g c = λ honest.
@@ -118,30 +147,6 @@ returns-clause-good g c = λ honest.
     let listed : map string_bytes c.deref.result.now ≡ paths_under content (codes "refs/") = ap (map string_bytes) c.deref.ensures.value ∙ c.in_ok-paths.ensures.listed honest in
     let good : SpellsRefs content = rw c.in_ok-paths.ensures.same at (c.in_ok-refs.ensures.good honest (rw c.in_ok-paths.ensures.same listed)) in
     good
-
-pub returns-clause-kept : goal.returns-clause-kept
-returns-clause-kept g c = λ honest.
-    let content = g.F.Files.content in
-    let old = content c.args.files.now in
-    let paths = map string_bytes c.deref-2.result.now in
-    let listed : map string_bytes c.deref.result.now ≡ paths_under old (codes "refs/") = ap (map string_bytes) c.deref.ensures.value ∙ c.in_ok-paths.ensures.listed honest in
-    let again : paths ≡ paths_under old (codes "refs/") = ap (map string_bytes) c.deref-2.ensures.value ∙ c.in_ok-paths.ensures.listed honest in
-    let all : IsMapOf (refs old) c.in_ok-refs.refs = rw c.in_ok-paths.ensures.same at (c.in_ok-refs.ensures.found honest (rw c.in_ok-paths.ensures.same listed)) in
-    let written : content c.write_packed.new.files ≡ insert old packed_path (packed_text c.in_ok-refs.refs) = rw (c.in_ok-refs.ensures.same ∙ c.in_ok-paths.ensures.same) at (c.in_ok-write_packed.ensures.written honest) in
-    let lost : LosesSome paths (insert old packed_path (packed_text c.in_ok-refs.refs)) (content c.remove_all.new.files) = rw written at (c.in_ok-remove_all.ensures.lost honest) in
-    refs_kept old c.in_ok-refs.refs paths (content c.remove_all.new.files) all c.in_ok-write_packed.ensures.read again lost
-
-pub returns-clause-rest : goal.returns-clause-rest
-returns-clause-rest g c = λ honest.
-    let content = g.F.Files.content in
-    let old = content c.args.files.now in
-    let paths = map string_bytes c.deref-2.result.now in
-    let listed : map string_bytes c.deref.result.now ≡ paths_under old (codes "refs/") = ap (map string_bytes) c.deref.ensures.value ∙ c.in_ok-paths.ensures.listed honest in
-    let again : paths ≡ paths_under old (codes "refs/") = ap (map string_bytes) c.deref-2.ensures.value ∙ c.in_ok-paths.ensures.listed honest in
-    let all : IsMapOf (refs old) c.in_ok-refs.refs = rw c.in_ok-paths.ensures.same at (c.in_ok-refs.ensures.found honest (rw c.in_ok-paths.ensures.same listed)) in
-    let written : content c.write_packed.new.files ≡ insert old packed_path (packed_text c.in_ok-refs.refs) = rw (c.in_ok-refs.ensures.same ∙ c.in_ok-paths.ensures.same) at (c.in_ok-write_packed.ensures.written honest) in
-    let lost : LosesSome paths (insert old packed_path (packed_text c.in_ok-refs.refs)) (content c.remove_all.new.files) = rw written at (c.in_ok-remove_all.ensures.lost honest) in
-    rest_kept old c.in_ok-refs.refs paths (content c.remove_all.new.files) all c.in_ok-write_packed.ensures.read again lost
 
 pub returns-clause-wear : goal.returns-clause-wear
 returns-clause-wear g c =

@@ -4,6 +4,7 @@ use Rattle.vc_session.specs.Session.{SessionText}
 use Rattle.vc_session.specs.SessionFault.{IsRefusedCheck, IsRefusedStep}
 use Rattle.vc_session.specs.declared.stage.Stage.TheVariants.{Unpacked}
 use Rattle.vc_session.proofs.NumberLemmas.{agreement_same}
+use Rattle.vc_session.proofs.CleanLemmas.{bad_same}
 use Rattle.vc_session.proofs.session.PushSession.check.Goals as goal
 
 pub returns-in_err-verdicts-clause-refused : goal.returns-in_err-verdicts-clause-refused
@@ -14,8 +15,16 @@ returns-in_err-verdicts-clause-refused g c = λ honest agrees.
     let told : IsRefusedStep content c.args.self.now Unpacked e = refused_check content c.args.self.now e (subst (λ (n : ℕ). IsRefusedCheck content n e) slot (c.in_err-verdicts.ensures.refused honest agrees)) in
     search (rules, told)
 
-pub returns-in_err-verdicts-clause-agrees : goal.returns-in_err-verdicts-clause-agrees
-returns-in_err-verdicts-clause-agrees g c = λ honest. agreement_same _ _ c.in_err-verdicts.ensures.same
+pub returns-in_err-verdicts-clause-spares : goal.returns-in_err-verdicts-clause-spares
+returns-in_err-verdicts-clause-spares g c =
+    record {
+      agrees = λ honest. agreement_same _ _ c.in_err-verdicts.ensures.same;
+      bad = λ honest. bad_same _ _ c.in_err-verdicts.ensures.same;
+    }
 
-pub returns-clause-agrees : goal.returns-clause-agrees
-returns-clause-agrees g c = λ honest. agreement_same _ _ c.in_ok-verdicts.ensures.same
+pub returns-clause-spares : goal.returns-clause-spares
+returns-clause-spares g c =
+    record {
+      agrees = λ honest. agreement_same _ _ c.in_ok-verdicts.ensures.same;
+      bad = λ honest. bad_same _ _ c.in_ok-verdicts.ensures.same;
+    }

@@ -11,6 +11,7 @@ use Rattle.vc_session.specs.declared.stage.Stage.{Stage}
 use Rattle.vc_session.specs.declared.stage.Stage.TheVariants.{Done}
 use Rattle.vc_session.specs.declared.stage.Verdict.{Verdict}
 use Rattle.vc_session.proofs.NumberLemmas.{agreement_quarantine, agreement_same}
+use Rattle.vc_session.proofs.CleanLemmas.{bad_same}
 use Rattle.vc_session.proofs.session.PushSession.finish.Goals as goal
 
 pub returns-in_err-report-clause-wear : goal.returns-in_err-report-clause-wear
@@ -35,11 +36,23 @@ returns-clause-steps g c = λ honest.
       outside = c.in_ok-drop_quarantine.ensures.outside honest;
     })
 
-pub returns-in_err-report-clause-agrees : goal.returns-in_err-report-clause-agrees
-returns-in_err-report-clause-agrees g c = λ honest. agreement_same _ _ refl
+pub returns-in_err-report-clause-spares : goal.returns-in_err-report-clause-spares
+returns-in_err-report-clause-spares g c =
+    record {
+      agrees = λ honest. agreement_same _ _ refl;
+      bad = λ honest. bad_same _ _ refl;
+    }
 
-pub returns-in_err-drop_quarantine-clause-agrees : goal.returns-in_err-drop_quarantine-clause-agrees
-returns-in_err-drop_quarantine-clause-agrees g c = λ honest. agreement_quarantine c.self.inside.slot _ _ (c.in_err-drop_quarantine.ensures.outside honest)
+pub returns-in_err-drop_quarantine-clause-spares : goal.returns-in_err-drop_quarantine-clause-spares
+returns-in_err-drop_quarantine-clause-spares g c =
+    record {
+      agrees = λ honest. agreement_quarantine c.self.inside.slot _ _ (c.in_err-drop_quarantine.ensures.outside honest);
+      bad = c.in_err-drop_quarantine.ensures.bad;
+    }
 
-pub returns-clause-agrees : goal.returns-clause-agrees
-returns-clause-agrees g c = λ honest. agreement_quarantine c.self.inside.slot _ _ (c.in_ok-drop_quarantine.ensures.outside honest)
+pub returns-clause-spares : goal.returns-clause-spares
+returns-clause-spares g c =
+    record {
+      agrees = λ honest. agreement_quarantine c.self.inside.slot _ _ (c.in_ok-drop_quarantine.ensures.outside honest);
+      bad = c.in_ok-drop_quarantine.ensures.bad;
+    }

@@ -51,8 +51,16 @@ returns-in_err-migrate-clause-refused g c = λ honest.
     let told : IsRefusedStep content s Checked (from_store e) = refused_migration content s e blames in
     search (rules, told)
 
-pub returns-in_err-migrate-clause-agrees : goal.returns-in_err-migrate-clause-agrees
-returns-in_err-migrate-clause-agrees g c = λ honest. agreement_front _ _ c.self.inside.slot c.deref.result.now (c.in_err-migrate.ensures.left honest)
+pub returns-in_err-migrate-clause-spares : goal.returns-in_err-migrate-clause-spares
+returns-in_err-migrate-clause-spares g c =
+    record {
+      agrees = λ honest. agreement_front _ _ c.self.inside.slot c.deref.result.now (c.in_err-migrate.ensures.left honest);
+      bad = c.in_err-migrate.ensures.bad;
+    }
 
-pub returns-clause-agrees : goal.returns-clause-agrees
-returns-clause-agrees g c = λ honest. agreement_migrated _ _ c.self.inside.slot c.deref.result.now (c.in_ok-migrate.ensures.stored honest)
+pub returns-clause-spares : goal.returns-clause-spares
+returns-clause-spares g c =
+    record {
+      agrees = λ honest. agreement_migrated _ _ c.self.inside.slot c.deref.result.now (c.in_ok-migrate.ensures.stored honest);
+      bad = c.in_ok-migrate.ensures.bad;
+    }

@@ -17,6 +17,7 @@ use Rattle.vc_session.specs.declared.stage.Verdict.{Verdict}
 use Rattle.vc_session.specs.declared.stage.Verdict.TheVariants.{Passing}
 use Rattle.vc_session.proofs.SessionLemmas.{command_there, either, in_stage, may_after, may_at, may_set_next, same_there, settled_verdict, updates_next, wears_told}
 use Rattle.vc_session.proofs.NumberLemmas.{agreement_rest, agreement_same}
+use Rattle.vc_session.proofs.CleanLemmas.{bad_same}
 use Rattle.vc_session.proofs.session.PushSession.update.Goals as goal
 use Rattle.vc_session.proofs.session.PushSession.update.Goals.{in-None, in-Some-found}
 
@@ -82,7 +83,7 @@ returns-clause-steps g c = λ honest.
       | in-Some-found w ↦ w.verdict-is ∙ sym (ap verdict_of w.found-is)
     ] in
     let judged : IsVerdictAtUpdate (refs old) (command_of command) found = subst (λ (f : Option Reason). IsVerdictAtUpdate (refs old) (command_of command) f) (sym told) (c.in_ok-found.ensures.verdict honest allowed) in
-    let set : refs new ≡ refs_after (refs old) (command_of command) found = c.in_ok-found.ensures.set honest ∙ ap (λ (f : Option Reason). refs_after (refs old) (command_of command) f) (sym told) in
+    let set : refs new ≡ refs_after (refs old) (command_of command) found = c.in_ok-found.ensures.updates.set honest ∙ ap (λ (f : Option Reason). refs_after (refs old) (command_of command) f) (sym told) in
     let after : ws ≡ slice_set t.verdicts k (verdict_of found) = c.set_verdict.ensures ∙ ap (λ (v : Verdict). slice_set t.verdicts k v) verdict in
     let read : Command = c.index.result.now in
     let also : read ≡ get_or c.self.inside.commands.items k read = search (rules, c.index.ensures) in
@@ -94,7 +95,7 @@ returns-clause-steps g c = λ honest.
       stage = before;
       update = updates_next t.verdicts k here first t.commands (command_of command) there (refs old) (refs new) ws c.in_ok-name.name.items found named judged set after;
       session = ap (λ (x : Stage). record t { verdicts = ws; stage = x }) stage;
-      rest = subst (λ (n : List ℕ). KeepsTheRest n old new) (sym named) (c.in_ok-found.ensures.rest honest);
+      rest = subst (λ (n : List ℕ). KeepsTheRest n old new) (sym named) (c.in_ok-found.ensures.updates.rest honest);
     })
 
 pub returns-clause-looks : goal.returns-clause-looks
@@ -113,14 +114,32 @@ returns-clause-looks g c = λ honest.
     (may_set_next t.verdicts k here first t.commands (command_of command) there content c.args.self.now (ap (λ (s : SessionText). s.verdicts) (sym c.self.view_is)) (ap (λ (s : SessionText). s.commands) (sym c.self.view_is)))
     (λ w. wears_told w (λ never. absurd (cc never)))
 
-pub returns-clause-session : goal.returns-clause-session
-returns-clause-session g c = invariant_of-self g c
+pub returns-clause-takes : goal.returns-clause-takes
+returns-clause-takes g c =
+    record {
+      session = invariant_of-self g c;
+      unchanged = search rules;
+      commands = ap (λ (s : SessionText). s.commands) c.self.view_is;
+      told = search rules;
+    }
 
-pub returns-in_err-name-clause-agrees : goal.returns-in_err-name-clause-agrees
-returns-in_err-name-clause-agrees g c = λ honest. agreement_same _ _ refl
+pub returns-in_err-name-clause-spares : goal.returns-in_err-name-clause-spares
+returns-in_err-name-clause-spares g c =
+    record {
+      agrees = λ honest. agreement_same _ _ refl;
+      bad = λ honest. bad_same _ _ refl;
+    }
 
-pub returns-in_err-found-clause-agrees : goal.returns-in_err-found-clause-agrees
-returns-in_err-found-clause-agrees g c = λ honest. agreement_rest _ _ _ (c.in_err-found.ensures.rest honest)
+pub returns-in_err-found-clause-spares : goal.returns-in_err-found-clause-spares
+returns-in_err-found-clause-spares g c =
+    record {
+      agrees = λ honest. agreement_rest _ _ _ (c.in_err-found.ensures.updates.rest honest);
+      bad = c.in_err-found.ensures.updates.bad;
+    }
 
-pub returns-clause-agrees : goal.returns-clause-agrees
-returns-clause-agrees g c = λ honest. agreement_rest _ _ _ (c.in_ok-found.ensures.rest honest)
+pub returns-clause-spares : goal.returns-clause-spares
+returns-clause-spares g c =
+    record {
+      agrees = λ honest. agreement_rest _ _ _ (c.in_ok-found.ensures.updates.rest honest);
+      bad = c.in_ok-found.ensures.updates.bad;
+    }

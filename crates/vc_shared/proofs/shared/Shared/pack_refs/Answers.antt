@@ -18,19 +18,19 @@ returns-then-not-self-clause-answers g c = λ honest. down_declines _ _ _ _ (Ask
 pub returns-in-Ok-clause-answers : goal.returns-in-Ok-clause-answers
 returns-in-Ok-clause-answers g c = λ honest.
     let content = g.F.Files.content in
-    rw (← c.self.view_is, c.if-not-self.false) (packing_answers (content c.self.inside.files) (content c.pack.new.files) (c.in-Ok.ensures.rest honest) (c.in-Ok.ensures.kept honest) c.self.inside.slots (Ok tt) tt)
+    rw (← c.self.view_is, c.if-not-self.false) (packing_answers (content c.self.inside.files) (content c.pack.new.files) (c.in-Ok.ensures.packs.rest honest) (c.in-Ok.ensures.packs.kept honest) c.self.inside.slots (Ok tt) tt)
 
 pub returns-in-Err-clause-answers : goal.returns-in-Err-clause-answers
 returns-in-Err-clause-answers g c = λ honest.
     let content = g.F.Files.content in
     rw (← c.self.view_is, c.if-not-self.false, c.is_fault.ensures, c.from-fault.ensures)
-    (packing_answers (content c.self.inside.files) (content c.pack.new.files) (c.in-Err.ensures.rest honest) (c.in-Err.ensures.kept honest) c.self.inside.slots (Err (Ref c.in-Err.fault)) (packing_blames _ _ (c.in-Err.ensures.refused honest)))
+    (packing_answers (content c.self.inside.files) (content c.pack.new.files) (c.in-Err.ensures.packs.rest honest) (c.in-Err.ensures.packs.kept honest) c.self.inside.slots (Err (Ref c.in-Err.fault)) (packing_blames _ _ (c.in-Err.ensures.refused honest)))
 
 pub returns-in-Ok-clause-kept : goal.returns-in-Ok-clause-kept
-returns-in-Ok-clause-kept g c = λ honest. rw (← c.self.view_is) (packs_only _ _ (c.in-Ok.ensures.rest honest) (c.in-Ok.ensures.kept honest))
+returns-in-Ok-clause-kept g c = λ honest. rw (← c.self.view_is) (packs_only _ _ (c.in-Ok.ensures.packs.rest honest) (c.in-Ok.ensures.packs.kept honest))
 
 pub returns-in-Err-clause-kept : goal.returns-in-Err-clause-kept
-returns-in-Err-clause-kept g c = λ honest. rw (← c.self.view_is) (packs_only _ _ (c.in-Err.ensures.rest honest) (c.in-Err.ensures.kept honest))
+returns-in-Err-clause-kept g c = λ honest. rw (← c.self.view_is) (packs_only _ _ (c.in-Err.ensures.packs.rest honest) (c.in-Err.ensures.packs.kept honest))
 
 pub returns-in-Err-clause-refused : goal.returns-in-Err-clause-refused
 returns-in-Err-clause-refused g c = λ honest. rw (← c.self.view_is, c.from-fault.ensures) (inr (packing_blames _ _ (c.in-Err.ensures.refused honest)))
@@ -44,7 +44,7 @@ returns-in-Err-clause-wear g c = rw (← c.self.view_is) (writes_told c.in-Err.e
 pub returns-in-Err-clause-err : goal.returns-in-Err-clause-err
 returns-in-Err-clause-err g c = λ honest.
     rw (← c.self.view_is, c.is_fault.ensures, c.from-fault.ensures)
-    (elim (packing_unwritten c.in-Err.fault (c.in-Err.ensures.err honest)) [ inl fault ↦ inl (ap not fault) | inr same ↦ inr same ])
+    (elim (packing_unwritten c.in-Err.fault (c.in-Err.ensures.packs.err honest)) [ inl fault ↦ inl (ap not fault) | inr same ↦ inr same ])
 
 pub returns-then-not-self-clause-looks : goal.returns-then-not-self-clause-looks
 returns-then-not-self-clause-looks g c = λ honest. inr (looks_none (λ told. told))
@@ -56,7 +56,7 @@ pub returns-in-Err-clause-looks : goal.returns-in-Err-clause-looks
 returns-in-Err-clause-looks g c = λ honest. rw (← c.self.view_is) (or_told (c.in-Err.ensures.looks honest) (λ there. there) (search rules))
 
 pub invariant_of-self : goal.invariant_of-self
-invariant_of-self g c = (c.self.invariant.0, λ honest. agreement_outside _ _ (c.in-Ok.ensures.rest honest) c.self.inside.generations (c.self.invariant.1 honest))
+invariant_of-self g c = (c.self.invariant.0, λ honest. agreement_outside _ _ (c.in-Ok.ensures.packs.rest honest) c.self.inside.generations (c.self.invariant.1 honest))
 
 pub invariant_of-self-in-Err : goal.invariant_of-self-in-Err
-invariant_of-self-in-Err g c = (c.self.invariant.0, λ honest. agreement_outside _ _ (c.in-Err.ensures.rest honest) c.self.inside.generations (c.self.invariant.1 honest))
+invariant_of-self-in-Err g c = (c.self.invariant.0, λ honest. agreement_outside _ _ (c.in-Err.ensures.packs.rest honest) c.self.inside.generations (c.self.invariant.1 honest))

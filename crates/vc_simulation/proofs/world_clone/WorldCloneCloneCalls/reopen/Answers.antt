@@ -1,6 +1,6 @@
 use Rattle.vc_model.specs.CloneCall.CloneCall.{Open}
-use Rattle.vc_node.specs.CloneCalls.{RestartedAs}
 use Rattle.vc_node.specs.NodeFault.{TellsDevice}
+use Rattle.vc_node.specs.Told.{RestartedAs}
 use Rattle.vc_simulation.proofs.CloneLemmas.{exchange_called, lift}
 use Rattle.vc_simulation.proofs.SteadyLemmas.{written_steady}
 use Rattle.vc_simulation.proofs.world_clone.WorldCloneCloneCalls.reopen.Goals as goal
@@ -8,5 +8,5 @@ use Rattle.vc_simulation.proofs.world_clone.WorldCloneCloneCalls.reopen.Goals as
 pub returns : goal.returns
 returns g c = record {
   answers = λ honest. lift (λ s. s.node) _ _ _ _ _ (exchange_called g.F.Files.content g.F.Files.can_fail g.F.Files.left _ _ Open (RestartedAs c.restart-called.result) (TellsDevice c.restart-called.result) _
-      (c.restart-called.ensures.answers honest) (written_steady g.F.Files.honest g.F.Files.content g.F.Files.failed g.F.Files.can_fail g.F.Files.left _ _ _ c.restart-called.ensures.wear) c.clone_restarted.ensures);
+      (c.restart-called.ensures.answers honest) (written_steady g.F.Files.honest g.F.Files.content g.F.Files.failed g.F.Files.can_fail g.F.Files.left _ _ _ c.restart-called.ensures.wear) c.restarted.ensures);
 }

@@ -1,7 +1,7 @@
 use Rattle.vc_model.specs.SharedCall.SharedCall.{Asks}
 use Rattle.vc_model.specs.Question.Question.{PackRefs}
 use Rattle.vc_node.specs.NodeFault.{TellsDevice}
-use Rattle.vc_shared.specs.Calls.{RestartedAs}
+use Rattle.vc_node.specs.Told.{RestartedAs}
 use Rattle.vc_simulation.proofs.SharedLemmas.{called, lift}
 use Rattle.vc_simulation.proofs.SteadyLemmas.{written_steady}
 use Rattle.vc_simulation.proofs.world_shared.WorldSharedSharedCalls.pack.Goals as goal
@@ -9,5 +9,5 @@ use Rattle.vc_simulation.proofs.world_shared.WorldSharedSharedCalls.pack.Goals a
 pub returns : goal.returns
 returns g c = record {
   answers = λ honest. lift (λ s. s.node) _ _ _ _ _ (called g.F.Files.content g.F.Files.can_fail g.F.Files.left _ _ (Asks PackRefs) (RestartedAs c.pack_refs-called.result) (TellsDevice c.pack_refs-called.result) _
-      (c.pack_refs-called.ensures.answers honest) (written_steady g.F.Files.honest g.F.Files.content g.F.Files.failed g.F.Files.can_fail g.F.Files.left _ _ _ c.pack_refs-called.ensures.wear) c.shared_restarted.ensures);
+      (c.pack_refs-called.ensures.answers honest) (written_steady g.F.Files.honest g.F.Files.content g.F.Files.failed g.F.Files.can_fail g.F.Files.left _ _ _ c.pack_refs-called.ensures.wear) c.restarted.ensures);
 }

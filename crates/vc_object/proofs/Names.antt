@@ -26,12 +26,12 @@ high_length : (k n : ℕ) → length (bytes_high_first k n) ≡ k
 high_length zero n = refl
 high_length (suc k) n = ap suc (high_length k n)
 
-pub digest_are_bytes : (h : List ℕ) (n : ℕ) → AreBytes (digest_bytes h n)
+digest_are_bytes : (h : List ℕ) (n : ℕ) → AreBytes (digest_bytes h n)
 unfolding digest_bytes
 digest_are_bytes h zero = tt
 digest_are_bytes h (suc n) = bytes_append (digest_bytes h n) (to_be_bytes w32 (slice_index h n)) (digest_are_bytes h n) (high_bytes 4 (slice_index h n))
 
-pub digest_length : (h : List ℕ) (n : ℕ) → length (digest_bytes h n) ≡ n + n + n + n
+digest_length : (h : List ℕ) (n : ℕ) → length (digest_bytes h n) ≡ n + n + n + n
 unfolding digest_bytes
 digest_length h zero = refl
 digest_length h (suc n) =
