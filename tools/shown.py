@@ -505,7 +505,7 @@ def paths_in(crate, parts):
 
 def hash_of(logic, crate, edit, function, reach):
     """A hash of all that decides what is proved of a wrong body: the logic, the texts, and the lines of crates.txt of the crates that have
-    these."""
+    these, but for crates there of which nothing counts."""
     parts = {path: without_comments(text) for path, text in parts_for(crate, edit, function).items()}
     # (what an edit writes is said in the file that it edits)
     places = {path: path if path.startswith(("src/", "proofs/")) or not function else function.file for path in parts}
@@ -515,7 +515,7 @@ def hash_of(logic, crate, edit, function, reach):
     said = hashlib.sha256(logic.encode())
     for it in sorted([*crate.below(), crate], key=lambda it: it.name):
         if it.name in names:
-            said.update(f"\0{it.name}: {' '.join(sorted([*it.of_kit, *(dep.name for dep in it.deps)]))}".encode())
+            said.update(f"\0{it.name}: {' '.join(sorted([*it.of_kit, *(dep.name for dep in it.deps if dep.name in names)]))}".encode())
     said.update(b"".join(sorted(map(digest_of, texts))))
     return said.hexdigest()[:32]
 

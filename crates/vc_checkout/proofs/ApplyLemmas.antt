@@ -18,28 +18,24 @@ use Rattle.vc_index.proofs.MapLemmas.{same_text, no_some}
 use Rattle.vc_checkout.specs.CheckedOut.{IsCheckedOut, IsCleared, IsOldOrCheckedOut, IsWritten, StepAt, StepOrNone, file_of, left_of}
 use Rattle.vc_checkout.specs.WorkTree.{HasTextPaths, is_same, is_listed}
 use Rattle.vc_checkout.proofs.PathSetLemmas.{entry_paths}
+use Rattle.vc_lemmas.proofs.Texts.{bytes_eq_same, bytes_eq_other}
 
 abbrev pub Step : Type 1
 Step = Option (List ℕ) → Option (List ℕ) → Type 0
 
 -- ---- one change of a map
-same_bytes : (p : List ℕ) → bytes_eq p p ≡ true
-same_bytes p = (bytes_eq-Decides p p).1 refl
-
-other_bytes : (q p : List ℕ) → q ≢ p → bytes_eq q p ≡ false
-other_bytes q p apart = false_from_ne_true _ (λ e. apart ((bytes_eq-Decides q p).0 e))
 
 pub removed_at : (m n : FileMap) (p : List ℕ) → n ≡ files.remove m p → get n p ≡ None
-removed_at m n p is = ap (λ w. get w p) is ∙ get-unput m p p ∙ ap (λ b. cond b None (get m p)) (same_bytes p)
+removed_at m n p is = ap (λ w. get w p) is ∙ get-unput m p p ∙ ap (λ b. cond b None (get m p)) (bytes_eq_same p)
 
 pub removed_others : (m n : FileMap) (p : List ℕ) → n ≡ files.remove m p → (q : List ℕ) → q ≢ p → get n q ≡ get m q
-removed_others m n p is q apart = ap (λ w. get w q) is ∙ get-unput m p q ∙ ap (λ b. cond b None (get m q)) (other_bytes q p apart)
+removed_others m n p is q apart = ap (λ w. get w q) is ∙ get-unput m p q ∙ ap (λ b. cond b None (get m q)) (bytes_eq_other q p apart)
 
 pub put_at : (m n : FileMap) (p bytes : List ℕ) → n ≡ files.insert m p bytes → get n p ≡ Some bytes
-put_at m n p bytes is = ap (λ w. get w p) is ∙ get-put m p bytes p ∙ ap (λ b. cond b (Some bytes) (get m p)) (same_bytes p)
+put_at m n p bytes is = ap (λ w. get w p) is ∙ get-put m p bytes p ∙ ap (λ b. cond b (Some bytes) (get m p)) (bytes_eq_same p)
 
 pub put_others : (m n : FileMap) (p bytes : List ℕ) → n ≡ files.insert m p bytes → (q : List ℕ) → q ≢ p → get n q ≡ get m q
-put_others m n p bytes is q apart = ap (λ w. get w q) is ∙ get-put m p bytes q ∙ ap (λ b. cond b (Some bytes) (get m q)) (other_bytes q p apart)
+put_others m n p bytes is q apart = ap (λ w. get w q) is ∙ get-put m p bytes q ∙ ap (λ b. cond b (Some bytes) (get m q)) (bytes_eq_other q p apart)
 
 -- ---- steps
 pub step_same : (R : Step) (path : List ℕ) (m n : FileMap) → n ≡ m → R (get m path) (get m path) → StepAt R path m n

@@ -1,6 +1,6 @@
 -- What is against a checkout, path by path.
-use Rattle.std.proofs.Common.{◌≡◌, ◌≢◌, ℕ, true, false, ◌||◌, List, [], ◌∷◌, map, Option, Some, None, sym, ap, refl, ◌∙◌, subst, ◌↔◌, IsTrue, ◌⊎◌, inl, inr, Result, Ok, Err}
-use Rattle.std.specs.Prelude.{Vec, is_some, IfErr, OnErr}
+use Rattle.std.proofs.Common.{◌≡◌, ◌≢◌, ℕ, true, false, ◌||◌, List, ◌∷◌, map, Option, Some, None, sym, ap, refl, ◌∙◌, subst, ◌↔◌, IsTrue, ◌⊎◌, inl, inr, Result, Err, []}
+use Rattle.std.specs.Prelude.{Vec, is_some, IfErr}
 use Rattle.std.specs.Global.{Global}
 use Rattle.std.specs.FinMap.{get}
 use Rattle.std.specs.List.{AllByRecursion}
@@ -104,10 +104,6 @@ first_refused index tree work before rest k fault first sorted so refused = (k, 
 -- ---- results
 pub if_err : {T E : Type 0} (r : Result T E) (e : E) (P : E → Type 0) → r ≡ Err e → P e → IfErr r P
 if_err {T} {E} r e P is p = subst (λ (x : Result T E). IfErr x P) (sym is) p
-
-pub on_err : {T E : Type 0} (r : Result T E) (P : Type 0) → P → OnErr r P
-on_err (Ok x) P p = tt
-on_err (Err e) P p = p
 
 -- ---- why a checkout was refused
 no_fault : (e : CheckoutFault) → IsAgainst e → IsFault e → ⊥

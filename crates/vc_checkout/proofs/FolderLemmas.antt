@@ -1,5 +1,5 @@
 -- Folders above paths, and the folders of a work tree.
-use Rattle.std.proofs.Common.{◌≡◌, ◌≢◌, ℕ, ◌<◌, true, false, List, [], ◌∷◌, ◌++◌, length, get_or, take, sym, ap, refl, ◌∙◌, subst, append_assoc, IsTrue, ◌⊎◌, inl, inr, arith, length-append, length-take}
+use Rattle.std.proofs.Common.{◌≡◌, ◌≢◌, ℕ, ◌<◌, true, false, List, ◌∷◌, ◌++◌, length, get_or, take, sym, ap, refl, ◌∙◌, subst, append_assoc, IsTrue, ◌⊎◌, inl, inr, arith, length-append, length-take, []}
 use Rattle.std.specs.Prelude.{IsSome, bytes_eq}
 use Rattle.std.specs.FinMap.{get}
 use Rattle.std.specs.FinSet.{contains}
@@ -8,6 +8,7 @@ use Rattle.vc_files.specs.FileMap.{FileMap}
 use Rattle.vc_index.specs.Path.{IsAbove}
 use Rattle.vc_index.proofs.ConflictLemmas.{above_cut, cut_above}
 use Rattle.vc_checkout.specs.Folders.{AreFolders, Folders, IsAtOrIn, IsFolder, IsFolderBy, IsLowestAbove}
+use Rattle.vc_lemmas.proofs.Lists.{same_head, same_tail}
 
 -- ---- paths
 pub above_then : (a b c : List ℕ) → IsAbove a b → IsAbove b c → IsAbove a c
@@ -31,17 +32,11 @@ in_above a b c (inl same) then = subst (λ (x : List ℕ). IsAbove x c) same the
 in_above a b c (inr above) then = above_then a b c above then
 
 -- two folders of one path: one lies in the other
-heads : (x y : ℕ) (xs ys : List ℕ) → x ∷ xs ≡ y ∷ ys → x ≡ y
-heads x y xs ys e = cc e
-
-tails : (x y : ℕ) (xs ys : List ℕ) → x ∷ xs ≡ y ∷ ys → xs ≡ ys
-tails x y xs ys e = cc e
-
 compared : (a b r s : List ℕ) → a ++ 47 ∷ r ≡ b ++ 47 ∷ s → (a ≡ b) ⊎ (IsAbove a b ⊎ IsAbove b a)
 compared [] [] r s e = inl refl
-compared [] (y ∷ b) r s e = inr (inl (b, ap (λ h. h ∷ b) (sym (heads 47 y r (b ++ 47 ∷ s) e))))
-compared (x ∷ a) [] r s e = inr (inr (a, ap (λ h. h ∷ a) (heads x 47 (a ++ 47 ∷ r) s e)))
-compared (x ∷ a) (y ∷ b) r s e = more (heads x y (a ++ 47 ∷ r) (b ++ 47 ∷ s) e) (compared a b r s (tails x y (a ++ 47 ∷ r) (b ++ 47 ∷ s) e))
+compared [] (y ∷ b) r s e = inr (inl (b, ap (λ h. h ∷ b) (sym (same_head 47 y r (b ++ 47 ∷ s) e))))
+compared (x ∷ a) [] r s e = inr (inr (a, ap (λ h. h ∷ a) (same_head x 47 (a ++ 47 ∷ r) s e)))
+compared (x ∷ a) (y ∷ b) r s e = more (same_head x y (a ++ 47 ∷ r) (b ++ 47 ∷ s) e) (compared a b r s (same_tail x y (a ++ 47 ∷ r) (b ++ 47 ∷ s) e))
   where
     more : x ≡ y → (a ≡ b) ⊎ (IsAbove a b ⊎ IsAbove b a) → (x ∷ a ≡ y ∷ b) ⊎ (IsAbove (x ∷ a) (y ∷ b) ⊎ IsAbove (y ∷ b) (x ∷ a))
     more h (inl t) = inl cc
@@ -95,14 +90,14 @@ above_or_not [] (y ∷ c) = by (same_or_not (y ∷ []) (47 ∷ []))
   where
     by : (y ∷ [] ≡ 47 ∷ []) ⊎ (y ∷ [] ≢ 47 ∷ []) → IsAbove [] (y ∷ c) ⊎ (IsAbove [] (y ∷ c) → ⊥)
     by (inl same) = inl (c, cc)
-    by (inr apart) = inr (λ (r, e). apart (ap (λ h. h ∷ []) (heads y 47 c r e)))
+    by (inr apart) = inr (λ (r, e). apart (ap (λ h. h ∷ []) (same_head y 47 c r e)))
 above_or_not (x ∷ a) [] = inr (λ (r, e). cc e)
 above_or_not (x ∷ a) (y ∷ c) = by (same_or_not (y ∷ []) (x ∷ [])) (above_or_not a c)
   where
     by : (y ∷ [] ≡ x ∷ []) ⊎ (y ∷ [] ≢ x ∷ []) → IsAbove a c ⊎ (IsAbove a c → ⊥) → IsAbove (x ∷ a) (y ∷ c) ⊎ (IsAbove (x ∷ a) (y ∷ c) → ⊥)
     by (inl same) (inl (r, e)) = inl (r, cc)
-    by (inl same) (inr nope) = inr (λ (r, e). nope (r, tails y x c (a ++ 47 ∷ r) e))
-    by (inr apart) t = inr (λ (r, e). apart (ap (λ h. h ∷ []) (heads y x c (a ++ 47 ∷ r) e)))
+    by (inl same) (inr nope) = inr (λ (r, e). nope (r, same_tail y x c (a ++ 47 ∷ r) e))
+    by (inr apart) t = inr (λ (r, e). apart (ap (λ h. h ∷ []) (same_head y x c (a ++ 47 ∷ r) e)))
 
 pub in_or_not : (a c : List ℕ) → IsAtOrIn a c ⊎ (IsAtOrIn a c → ⊥)
 in_or_not a c = by (same_or_not c a) (above_or_not a c)

@@ -1,5 +1,5 @@
 -- The status, path by path.
-use Rattle.std.proofs.Common.{◌≡◌, ℕ, zero, suc, true, false, ◌||◌, List, [], ◌∷◌, ◌++◌, map, Option, Some, None, sym, ap, refl, ◌∙◌, subst, ◌⊎◌, inl, inr, arith}
+use Rattle.std.proofs.Common.{◌≡◌, ℕ, zero, suc, true, false, ◌||◌, List, ◌∷◌, ◌++◌, map, Option, Some, None, sym, ap, refl, ◌∙◌, subst, ◌⊎◌, inl, inr, arith, []}
 use Rattle.std.specs.Prelude.{IsSome, is_some, Contains}
 use Rattle.std.specs.FinMap.{get}
 use Rattle.std.specs.List.{AllByRecursion}
@@ -10,7 +10,7 @@ use Rattle.std.specs.declared.cmp.Ordering.TheVariants.{Less}
 use Rattle.std.specs.declared.cmp.Ordering.{Ordering}
 use Rattle.std.proofs.lemmas.List.Elements.{Contains-append_left, Contains-append_right, Contains-append_cases}
 use Rattle.vc_files.specs.FileMap.{FileMap}
-use Rattle.vc_object.proofs.Order.{All-map, All-push}
+use Rattle.vc_object.proofs.Order.{All-push}
 use Rattle.vc_index.specs.IndexMap.{IndexMap}
 use Rattle.vc_index.specs.declared.entry.IndexEntry.{IndexEntry}
 use Rattle.vc_index.proofs.MapLemmas.{same_text}
@@ -22,6 +22,7 @@ use Rattle.vc_checkout.specs.declared.change.IndexChange.TheVariants as of_index
 use Rattle.vc_checkout.specs.declared.change.WorkChange.{WorkChange}
 use Rattle.vc_checkout.specs.declared.change.WorkChange.TheVariants as of_work
 use Rattle.vc_checkout.proofs.ClearLemmas.{sorted_rest}
+use Rattle.vc_lemmas.proofs.Lists.{all_map}
 
 -- ---- one path has one pair of changes
 pub one_index_change : (t i : Option IndexEntry) (x y : IndexChange) → IsIndexChange t i x → IsIndexChange t i y → x ≡ y
@@ -148,7 +149,7 @@ module _ (tree index : IndexMap) (work : FileMap) where
       record {
         sorted = old.sorted;
         rest_sorted = (sorted_rest k rest old.rest_sorted).1;
-        below = All-map _ _ changes (λ x all. all.1) old.below;
+        below = all_map _ _ changes (λ x all. all.1) old.below;
         sound = old.sound;
         complete = λ x differs. elim (old.complete x differs) [
           | inl has ↦ inl has
@@ -164,9 +165,9 @@ module _ (tree index : IndexMap) (work : FileMap) where
   status_more changes after rest before x first more differs so =
       let old = subst (SoFar changes) first so in
       subst (λ l. SoFar l rest) (sym more) (record {
-        sorted = sorted_more order changes x old.sorted (All-map _ _ changes (λ y all. all.0) old.below);
+        sorted = sorted_more order changes x old.sorted (all_map _ _ changes (λ y all. all.0) old.below);
         rest_sorted = (sorted_rest x.0 rest old.rest_sorted).1;
-        below = All-push _ changes x (All-map _ _ changes (λ y all. all.1) old.below) (sorted_rest x.0 rest old.rest_sorted).0;
+        below = All-push _ changes x (all_map _ _ changes (λ y all. all.1) old.below) (sorted_rest x.0 rest old.rest_sorted).0;
         sound = λ y has. elim (Contains-append_cases changes (x ∷ []) y has) [
           | inl was ↦ old.sound y was
           | inr new ↦ subst DiffersSo (contains_one y x new) differs

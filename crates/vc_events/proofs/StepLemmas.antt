@@ -1,8 +1,8 @@
 -- One event of the world, from the call of the node that it comes to.
-use Rattle.std.proofs.Common.{◌≡◌, ◌≢◌, ◌<◌, IsTrue, ℕ, zero, suc, List, [], ◌∷◌, Option, Some, None, inl, inr, refl, sym, ap, ◌∙◌, subst, cond, Bool, true, false, slice_get, unwrap_or, length, set, arith}
-use Rattle.std.specs.FinMap.{FinMap, get, insert, remove, get-remove, nat_cmp-IsAntisymmetric}
+use Rattle.std.proofs.Common.{◌≡◌, ◌≢◌, ◌<◌, IsTrue, ℕ, zero, suc, List, ◌∷◌, Option, Some, None, inl, inr, refl, sym, ap, ◌∙◌, subst, Bool, slice_get, unwrap_or, length, set, arith, []}
+use Rattle.std.specs.FinMap.{FinMap, get, insert, remove, nat_cmp-IsAntisymmetric}
 use Rattle.std.specs.List.{AllByRecursion}
-use Rattle.std.specs.Ordering.{nat_cmp, eq_by_cmp}
+use Rattle.std.specs.Ordering.{nat_cmp}
 use Rattle.std.specs.Cmp.{nat_cmp_total}
 use Rattle.std.proofs.lemmas.Option.{slice_get_within}
 use Rattle.vc_model.specs.Message.{Message, Envelope}
@@ -15,14 +15,14 @@ use Rattle.vc_model.specs.Safe.{EveryNodeSound}
 use Rattle.vc_model.specs.Shared.{SharedNode}
 use Rattle.vc_model.specs.Clone.{CloneNode}
 use Rattle.vc_model.specs.World.{after_shared, after_clone, senders_after}
-use Rattle.vc_model.specs.Fuse.{Fuse, Fuses, Burns}
+use Rattle.vc_model.specs.Fuse.{Fuse, Burns}
 use Rattle.vc_model.specs.SharedCall.{SharedCall}
 use Rattle.vc_model.specs.SharedCall.SharedCall.{Accept, StepOf, Asks as AsksShared, Prune as PruneShared, Open as OpenShared}
 use Rattle.vc_model.specs.CloneCall.{CloneCall}
 use Rattle.vc_model.specs.CloneCall.CloneCall.{Command, Receive, Asks, Prune, Open}
 use Rattle.vc_model.specs.ExactWorld.{FusedWorld, WorldEvent, CallsShared, CallsClone, WorldAnswers, MayShared, TogetherAt, MayClone, shared_fuse_at, clone_fuse_at}
 use Rattle.vc_model.specs.ExactWorld.WorldAnswers.{at_shared, at_clone}
-use Rattle.vc_model.proofs.Maps.{insert_same, insert_other, same_key}
+use Rattle.vc_model.proofs.Maps.{insert_same, insert_other, same_key, removed_none}
 use Rattle.vc_message.proofs.Readings.{message_wire}
 use Rattle.vc_rules.proofs.GitLaws.{git_rules}
 use Rattle.vc_rules.specs.Git.{git}
@@ -52,13 +52,6 @@ clone_none Open = refl
 -- a call burns nothing where nothing is fused
 calm_burns : (frail : Bool) (f : Fuse) (may together : Type 0) (old new : Repository) (a : Answer) → f ≡ None → (a ≡ Fault Device → IsTrue frail) → Burns frail f may together old new a None
 calm_burns frail f may together old new a none calm = subst (λ (f : Fuse). Burns frail f may together old new a None) (sym none) (calm, refl)
-
-removed_none : (fuses : Fuses) (c d : ℕ) → get fuses d ≡ None → get (remove fuses c) d ≡ None
-removed_none fuses c d none = get-remove nat_cmp_total fuses c d ∙ go (eq_by_cmp nat_cmp d c)
-  where
-    go : (b : Bool) → cond b None (get fuses d) ≡ None
-    go true = refl
-    go false = none
 
 -- ---- what is held of the clones
 

@@ -1,8 +1,8 @@
 -- The machine's answers.
-use Rattle.std.specs.Prelude.{◌≡◌, ◌<◌, ℕ, List, Option, Some, None, Result, Ok, Err, option_map, length}
+use Rattle.std.specs.Prelude.{◌≡◌, ◌<◌, Option, Result, Ok, Err, option_map, length}
 use Rattle.vc_files.specs.declared.faults.Fault.{Fault as FilesFault}
 use Rattle.vc_files.specs.declared.faults.Fault.TheVariants as files
-use Rattle.vc_message.specs.Machine.{IsWritten}
+use Rattle.vc_message.specs.Told.{SendsBytes, Quietly}
 use Rattle.vc_model.specs.ExactWorld.{FusedWorld}
 use Rattle.vc_model.specs.Message.{Message}
 use Rattle.vc_model.specs.Node.{Answer, Failure, Reply}
@@ -40,18 +40,6 @@ answer_of (ended.Refused n) = Declined n
 answer_of (ended.Fault f) = Fault (failure_of f)
 
 -- ---- what a node says
-
--- bytes are sent that are a message's
-pub record SendsBytes (bytes : List ℕ) (a : Answer) (sends : Option Message) : Type 0 where
-  pub message : Message
-  pub written : IsWritten message bytes
-  pub answer : a ≡ Did Sends
-  pub sent : sends ≡ Some message
-
--- nothing is sent
-pub record Quietly (b a : Answer) (sends : Option Message) : Type 0 where
-  pub answer : a ≡ b
-  pub sent : sends ≡ None
 
 -- there are eight slots
 abbrev pub IsOfSlots : Deed → Type 0

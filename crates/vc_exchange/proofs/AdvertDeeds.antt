@@ -1,6 +1,6 @@
 -- The deed of a clone that takes an advertisement, as the machine has it over a sound repository: something is asked for, or the
 -- refs follow.
-use Rattle.std.proofs.Common.{◌≡◌, ◌≢◌, inl, inr, ℕ, zero, suc, List, [], ◌∷◌, length, map, take, None, Some, refl, sym, ap, ◌∙◌, subst}
+use Rattle.std.proofs.Common.{◌≡◌, ◌≢◌, inl, inr, ℕ, zero, suc, List, ◌∷◌, length, map, take, None, Some, refl, sym, ap, ◌∙◌, subst, []}
 use Rattle.std.specs.FinMap.{empty, entries}
 use Rattle.vc_fetch.specs.Advert.{AdvertText}
 use Rattle.vc_files.specs.FileMap.{FileMap}
@@ -14,10 +14,10 @@ use Rattle.vc_model.specs.Node.Reply.{Moved, Sends}
 use Rattle.vc_model.specs.Object.{Id, stored}
 use Rattle.vc_model.specs.Refs.{RefName}
 use Rattle.vc_model.specs.Repository.{Change, IsSound, Repository, no_effect, only_changes}
+use Rattle.vc_model.proofs.Maps.{none_added}
 use Rattle.vc_object.specs.declared.id.ObjectId.{ObjectId}
 use Rattle.vc_rules.specs.Git.{git}
 use Rattle.vc_rules.specs.OpenPushes.{HoldsContent}
-use Rattle.vc_rules.proofs.JoinLemmas.{none_added}
 use Rattle.vc_exchange.specs.Deeds.{ChangesAt, IsCutShort, IsReceived}
 use Rattle.vc_exchange.specs.Moving.{AreFrontMoved, AreMoved, MovesSome, Told, machine_refs}
 use Rattle.vc_exchange.specs.Receiving.{AreRefs, awaited_pack}

@@ -7,9 +7,9 @@ use Rattle.vc_model.specs.Message.{Message}
 use Rattle.vc_model.specs.Node.{Reply}
 use Rattle.vc_model.specs.Object.{Lookup, Objects, stored}
 use Rattle.vc_model.specs.Repository.{AllAdded, Change, Done, Effect, IsSound, Repository, StopsWithin, changed_all, only_changes, with_objects}
+use Rattle.vc_model.proofs.Maps.{none_added}
 use Rattle.vc_rules.specs.Git.{git}
 use Rattle.vc_rules.specs.OpenPushes.{HoldsContent}
-use Rattle.vc_rules.proofs.JoinLemmas.{none_added}
 use Rattle.vc_exchange.specs.Deeds.{ChangesAt, IsCutShort, IsReceived}
 use Rattle.vc_exchange.specs.Deeds.IsCutShort.{at_first, within}
 use Rattle.vc_exchange.specs.Moving.{AreFrontMoved, AreMoved, MovesBy, MovesSome, Told, machine_refs, rule_of}

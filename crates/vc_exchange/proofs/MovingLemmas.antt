@@ -1,6 +1,7 @@
 -- What refuses the value of a ref that moves, and what is left then.
 use Rattle.std.proofs.Common.{◌≡◌, ℕ, Bool, true, false, cond, inl, inr, List, Option, Some, None, Result, Err, sym, ap, refl, ◌∙◌, subst, true≢false}
 use Rattle.std.specs.Prelude.{IfErr, IfOk, IsErrOf}
+use Rattle.std.proofs.lemmas.Option.{same_Some}
 use Rattle.vc_files.specs.FileMap.{FileMap}
 use Rattle.vc_files.specs.declared.faults.Fault.TheVariants.{Device}
 use Rattle.vc_object.specs.declared.id.ObjectId.{ObjectId}
@@ -11,7 +12,6 @@ use Rattle.vc_refs.specs.Obstacle.{IsFree}
 use Rattle.vc_refs.specs.declared.faults.RefFault.{RefFault}
 use Rattle.vc_refs.specs.declared.faults.RefFault.TheVariants as fault
 use Rattle.vc_store.specs.Store.{objects}
-use Rattle.vc_store.specs.declared.faults.StoreFault.TheVariants as of_store
 use Rattle.vc_exchange.specs.Faults.{BlamesRefs}
 use Rattle.vc_exchange.specs.Moving.{IsDecided, IsFreeAmong, IsMove, IsSetWhereFree, MayFollow, MayMove, passed_over}
 use Rattle.vc_exchange.specs.declared.moving.Followed.{Followed}
@@ -49,9 +49,6 @@ pub legal_found : (b : Bool) (n m : List ℕ) → ◌≡◌ {A = Option (List �
 legal_found true n m e = (refl, cc e)
 legal_found false n m e = absurd (cc e)
 
-pub same_follower : (x y : List ℕ) → ◌≡◌ {A = Option (List ℕ)} (Some x) (Some y) → x ≡ y
-same_follower x y e = cc e
-
 pub undecided : (b : Bool) (P : Type 0) → b ≡ false → IsDecided b P → P → ⊥
 undecided true P e d p = absurd (true≢false e)
 undecided false P e d p = d p
@@ -64,4 +61,4 @@ module _ (known : Type 0) (followed : Followed) (content : FileMap) (name : List
 
   pub set_moves : (new : FileMap) (moved : Bool) → IsSetWhereFree content new to id moved → IsMove known followed content new name id moved
   set_moves new true (free, set) = (to, (λ so. (may so, free)), set)
-  set_moves new false (taken, same) = ((λ so t moves. taken (subst (IsFreeAmong (refs content)) (same_follower t to (sym moves.0.follows ∙ (may so).follows)) moves.1)), same)
+  set_moves new false (taken, same) = ((λ so t moves. taken (subst (IsFreeAmong (refs content)) (same_Some t to (sym moves.0.follows ∙ (may so).follows)) moves.1)), same)

@@ -1,5 +1,5 @@
 -- One ref moves as the machine has it, and whether one may is decided.
-use Rattle.std.proofs.Common.{arith, ◌≡◌, ◌⊎◌, inl, inr, ℕ, Bool, true, false, cond, not, nat_le, ◌&&◌, ◌||◌, ◌≤◌, codes, length, List, [], ◌∷◌, ◌++◌, Option, Some, None, refl, sym, ap, ◌∙◌, subst, true≢false, IsUtf8}
+use Rattle.std.proofs.Common.{arith, ◌≡◌, ◌⊎◌, inl, inr, ℕ, Bool, true, false, cond, not, nat_le, ◌&&◌, ◌||◌, ◌≤◌, codes, length, List, ◌∷◌, ◌++◌, Option, Some, None, refl, sym, ap, ◌∙◌, subst, true≢false, IsUtf8, []}
 use Rattle.std.specs.Prelude.{is_some, option_map}
 use Rattle.std.specs.FinMap.{entries, find, get, get-entries}
 use Rattle.std.specs.List.{AllByRecursion}
@@ -9,6 +9,7 @@ use Rattle.std.specs.Str.{is_utf8}
 use Rattle.std.proofs.lemmas.Bool.{and_from, and_parts, false_from_ne_true}
 use Rattle.std.proofs.lemmas.Bool.Decides.{nat_tests}
 use Rattle.std.proofs.lemmas.Str.{IsCharBoundary-after_ascii, IsUtf8-append, IsUtf8-drop, IsUtf8-from_is_utf8, is_utf8-from_IsUtf8}
+use Rattle.std.proofs.lemmas.Option.{same_Some}
 use Rattle.vc_format.specs.Git.{git_is_legal, id_of_bytes}
 use Rattle.vc_model.proofs.Entries.{all_entries}
 use Rattle.vc_model.specs.Clone.{MovesBranch, MovesTag}
@@ -56,9 +57,6 @@ tracking_fits b legal =
     let ok : is_ref_name to ≡ true = is_ref_name-from_legal to (tracking_legal b fits (legal_from_is_ref_name name parts.0)) in
     and_from (is_utf8 to) _ (is_utf8-from_IsUtf8 to (IsUtf8-append (codes "refs/remotes/origin/") b begins_with tail)) (and_from (is_ref_name to) _ ok refl)
 
-some_same : (x y : List ℕ) → ◌≡◌ {A = Option (List ℕ)} (Some x) (Some y) → x ≡ y
-some_same x y e = cc e
-
 none_some : (x : List ℕ) → ◌≡◌ {A = Option (List ℕ)} None (Some x) → ⊥
 none_some x e = cc e
 
@@ -91,7 +89,7 @@ module _ (o : ObjectMap) (s : Objects) (rel : (x : Id) → o (id_of_bytes x) ≡
         → MovesBranch git (stored s) rs name id.0 to
     branch_moves followed name id to legal free e follows takes =
         let b = (branch_named name).0 e in
-        let is : to ≡ tracking b.0 = sym (some_same (tracking_name name) to follows) ∙ ap tracking_name b.1 in
+        let is : to ≡ tracking b.0 = sym (same_Some (tracking_name name) to follows) ∙ ap tracking_name b.1 in
         let forward = takes.forward refl in
         record {
           name = b.0;
@@ -129,7 +127,7 @@ module _ (o : ObjectMap) (s : Objects) (rel : (x : Id) → o (id_of_bytes x) ≡
     may_moves followed name id to may = by (is_branch name) refl may.0.follows may.0.takes
       where
         of_tag : (f : Followed) (x : Bool) → is_tag name ≡ x → cond (has_tags f && x) (Some name) None ≡ Some to → MayTake o false (map to) id → rule_of f git (stored s) rs name id.0 to
-        of_tag All true e follows takes = inr (tag_moves name id to may.0.legal may.1 e (some_same name to follows) takes)
+        of_tag All true e follows takes = inr (tag_moves name id to may.0.legal may.1 e (same_Some name to follows) takes)
         of_tag All false e follows takes = absurd (none_some to follows)
         of_tag Branches x e follows takes = absurd (none_some to follows)
 
@@ -232,7 +230,7 @@ module _ (o : ObjectMap) (s : Objects) (rel : (x : Id) → o (id_of_bytes x) ≡
     decided_may followed name x None e = inr (λ h. none_some h.0 (sym e ∙ h.1.0.follows))
     decided_may followed name x (Some to) e = decided_iff
         (λ h. (to, (record { legal = h.0.0; follows = e; takes = h.0.1 }, h.1)))
-        (λ h. subst (λ (t : List ℕ). ((git_is_legal name ≡ true) × MayTake o (is_branch name) (map t) (id_of_bytes x)) × IsFreeAmong map t) (some_same h.0 to (sym h.1.0.follows ∙ e)) ((h.1.0.legal, h.1.0.takes), h.1.1))
+        (λ h. subst (λ (t : List ℕ). ((git_is_legal name ≡ true) × MayTake o (is_branch name) (map t) (id_of_bytes x)) × IsFreeAmong map t) (same_Some h.0 to (sym h.1.0.follows ∙ e)) ((h.1.0.legal, h.1.0.takes), h.1.1))
         (decided_both (decided_both (decided_test (git_is_legal name)) (decided_takes (is_branch name) to x)) (decided_free to))
 
     pub decided_move : (followed : Followed) (name : List ℕ) (x : Id) → Decided ((to : List ℕ) × rule_of followed git (stored s) rs name x to)

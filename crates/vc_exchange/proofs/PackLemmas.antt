@@ -1,5 +1,5 @@
 -- What a pack brings, as objects of the machine, and what of it is stored.
-use Rattle.std.proofs.Common.{arith, ◌≡◌, ◌⊎◌, inl, inr, ℕ, ◌+◌, ◌<◌, ◌≤◌, ◌^◌, Bool, true, false, cond, List, [], ◌∷◌, ◌++◌, length, map, Option, Some, None, Ok, refl, sym, ap, ◌∙◌, subst, true≢false}
+use Rattle.std.proofs.Common.{arith, ◌≡◌, ◌⊎◌, inl, inr, ℕ, ◌+◌, ◌<◌, ◌≤◌, ◌^◌, Bool, true, false, cond, List, ◌∷◌, ◌++◌, length, map, Option, Some, None, Ok, refl, sym, ap, ◌∙◌, subst, true≢false, []}
 use Rattle.std.specs.Prelude.{Contains, IsSome, codes, decimal, is_some, option_and_then, option_map}
 use Rattle.std.specs.FinMap.{get}
 use Rattle.std.specs.Option.{option_or}
@@ -28,10 +28,11 @@ use Rattle.vc_object.specs.declared.kind.Kind.{Kind}
 use Rattle.vc_object.specs.declared.kind.Kind.TheVariants.{Blob, Tree, Commit, Tag}
 use Rattle.vc_refs.specs.RefMap.{RefMap}
 use Rattle.vc_rules.proofs.JoinLemmas.{joined, joined_all, joined_some, joined_where, joined_where_each}
-use Rattle.vc_rules.proofs.ReachLemmas.{closed_from, closed_to}
+use Rattle.vc_rules.proofs.ReachLemmas.{closed_from, closed_to, id_among}
 use Rattle.vc_rules.proofs.SoundLemmas.{objects_sound}
 use Rattle.vc_rules.specs.Git.{git, stored_of}
 use Rattle.vc_rules.specs.OpenPushes.{AreBrought, HoldsContent}
+use Rattle.vc_rules.proofs.OpenPushLaws.{some_stored}
 use Rattle.vc_pkt.specs.Carried.{object_named}
 use Rattle.vc_session.proofs.FrameLemmas.{refs-of_objects}
 use Rattle.vc_session.proofs.KnownLemmas.{AreWhole-with_carried}
@@ -40,7 +41,6 @@ use Rattle.vc_session.specs.Known.{AreWhole}
 use Rattle.vc_session.specs.declared.known.Known.{Known}
 use Rattle.vc_store.specs.Store.{objects}
 use Rattle.vc_exchange.specs.Storing.{AreSomeStored, AreStored}
-use Rattle.vc_exchange.proofs.MovingDecisions.{contained_cases, contained_first, contained_later, contained_none}
 
 -- ---- what passes the test is an object: its bytes are those of one, and so its body is no longer
 front_short : (k : Kind) → length (front k) ≤ 7
@@ -93,26 +93,9 @@ pub brought_same : (os : List StoredObject) → fetch.objects_in os ≡ objects_
 unfolding fetch.objects_in objects_in
 brought_same os = refl
 
-pub ids_in : (ids : List ObjectId) (x : Id) → Contains (map bytes_of_id ids) x → Contains ids (id_of_bytes x)
-ids_in [] x h = contained_none x h
-ids_in (y ∷ ys) x h = elim (contained_cases (bytes_of_id y) (map bytes_of_id ys) x h) as (λ _. Contains (y ∷ ys) (id_of_bytes x)) [
-  | inl is ↦ subst (λ (z : Id). Contains (y ∷ ys) (id_of_bytes z)) is (contained_first y ys)
-  | inr later ↦ contained_later y ys (id_of_bytes x) (ids_in ys x later)
-]
-
 either : (a b : Option Object) → option_or (option_map stored_of a) (option_map stored_of b) ≡ option_map stored_of (option_or a b)
 either None b = refl
 either (Some x) b = refl
-
--- what stands there afterwards stood there, or is one of those that are brought
-some_stored : (now : Option StoredObject) (a b : Option Object) → (now ≡ option_map stored_of a) ⊎ (now ≡ option_map stored_of (option_or a b)) → now ≡ option_map stored_of (option_or a (cond (is_some now) b None))
-some_stored None None b h = refl
-some_stored None (Some x) b (inl e) = e
-some_stored None (Some x) b (inr e) = e
-some_stored (Some y) None b (inl e) = absurd (cc e)
-some_stored (Some y) None b (inr e) = e
-some_stored (Some y) (Some x) b (inl e) = e
-some_stored (Some y) (Some x) b (inr e) = e
 
 -- ---- over files
 module _ (old : FileMap) (r : Repository) (held : HoldsContent old r) (brought : List StoredObject) (s : Objects) (are : AreBrought (Ok brought) s) where
@@ -139,7 +122,7 @@ module _ (old : FileMap) (r : Repository) (held : HoldsContent old r) (brought :
   -- what the wants reach is there, in the machine too
   pub wants_closed : (wants : List ObjectId) → graph.IsClosedUnder (links_in (with_carried (objects old) (objects_in brought))) wants → (x : Id) → Contains (map bytes_of_id wants) x → IsClosed git (over r.objects s) x
   wants_closed wants closed x among =
-      closed_from (with_carried (objects old) (objects_in brought)) (over r.objects s) seen_is x (λ y reaches. closed y (record { root = id_of_bytes x; is_root = ids_in wants x among; reaches = reaches }))
+      closed_from (with_carried (objects old) (objects_in brought)) (over r.objects s) seen_is x (λ y reaches. closed y (record { root = id_of_bytes x; is_root = id_among wants x among; reaches = reaches }))
 
   pub want_open : (id missing : ObjectId) → graph.Reaches (links_in (with_carried (objects old) (objects_in brought))) id missing → links_in (with_carried (objects old) (objects_in brought)) missing ≡ None → ¬ IsClosed git (over r.objects s) id.0
   want_open id missing reaches absent closed =

@@ -1,5 +1,5 @@
 -- What a report accepts and what it refuses, command by command, and the deed of the machine's clone at it.
-use Rattle.std.proofs.Common.{◌≡◌, ℕ, ◌<◌, ◌+◌, List, [], ◌∷◌, ◌++◌, length, take, get_or, map, None, Result, Ok, Err, inl, append_assoc, refl, sym, ap, ◌∙◌, subst}
+use Rattle.std.proofs.Common.{◌≡◌, ℕ, ◌<◌, ◌+◌, List, ◌∷◌, ◌++◌, length, take, get_or, map, None, Result, Ok, Err, inl, append_assoc, refl, sym, ap, ◌∙◌, subst, []}
 use Rattle.std.proofs.lemmas.List.{take_more}
 use Rattle.std.specs.FinMap.{empty}
 use Rattle.std.specs.Prelude.{IfErr}
@@ -12,12 +12,12 @@ use Rattle.vc_model.specs.Node.Reply.{Reported}
 use Rattle.vc_model.specs.Object.{Id, stored}
 use Rattle.vc_model.specs.Refs.{RefName}
 use Rattle.vc_model.specs.Repository.{Change, IsSound, Repository, only_changes}
+use Rattle.vc_model.proofs.Maps.{none_added}
 use Rattle.vc_object.specs.declared.id.ObjectId.{ObjectId}
 use Rattle.vc_push.specs.Report.{ReportText, ToldText}
 use Rattle.vc_push.specs.ReportView.{told_of}
 use Rattle.vc_push.specs.declared.report.Told.{Told as Command}
 use Rattle.vc_rules.specs.Git.{git}
-use Rattle.vc_rules.proofs.JoinLemmas.{none_added}
 use Rattle.vc_exchange.specs.Deeds.{ChangesAt, IsCutShort, IsReceived}
 use Rattle.vc_exchange.specs.Moving.{AreFrontMoved, AreMoved, MovesSome, Told, machine_refs}
 use Rattle.vc_exchange.specs.Receiving.{AcceptedAgree, BlamesAdvert, accepted}

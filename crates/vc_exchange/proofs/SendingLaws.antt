@@ -1,11 +1,10 @@
 -- A push that is made of a clone's files is the machine's, and is read as it is written.
-use Rattle.std.proofs.Common.{◌≡◌, ◌≢◌, ◌<◌, ◌≤◌, ◌⊎◌, ◌||◌, ◌==◌, inl, inr, ⊎_elim, ℕ, Bool, true, false, true≢false, cond, nat_eq, List, [], ◌∷◌, drop, length, get_or, replicate, zero, suc, map, Option, Some, None, Result, Ok, Err, Contains, refl, sym, ap, ◌∙◌, subst, arith}
+use Rattle.std.proofs.Common.{◌≡◌, ◌≢◌, ◌<◌, ◌≤◌, ◌⊎◌, ◌==◌, inl, inr, ⊎_elim, ℕ, Bool, true, false, true≢false, cond, nat_eq, List, ◌∷◌, drop, length, get_or, map, Option, Some, None, Result, Ok, Err, Contains, refl, sym, ap, ◌∙◌, subst, arith, []}
 use Rattle.std.specs.Prelude.{IsSome, codes, is_some, option_map, unwrap_or}
-use Rattle.std.specs.FinMap as files
 use Rattle.std.specs.FinMap.{get}
-use Rattle.std.specs.List.{All, AllByRecursion, cons_option, flat_map, list_any, starts_with}
+use Rattle.std.specs.List.{All, AllByRecursion, cons_option, flat_map, starts_with}
 use Rattle.std.specs.Result.{result_ok}
-use Rattle.std.proofs.lemmas.Bool.{and_parts, ltb-false, or_from, or_parts}
+use Rattle.std.proofs.lemmas.Bool.{and_parts, ltb-false}
 use Rattle.std.proofs.lemmas.Bool.Decides.{Decides-eqb, nat_tests}
 use Rattle.std.proofs.lemmas.List.{length-map}
 use Rattle.std.proofs.lemmas.List.Elements.{Contains-append_cases, Contains-append_right, Contains-push_cases, recursion_from_All}
@@ -22,23 +21,23 @@ use Rattle.vc_exchange.specs.declared.item.PushItem.{PushItem}
 use Rattle.vc_exchange.specs.declared.send_fault.SendFault.{SendFault}
 use Rattle.vc_exchange.specs.declared.send_fault.SendFault.TheVariants.{TooMany, Missing, Refs, Graph, Fault}
 use Rattle.vc_fetch.proofs.Packs.{ok_object}
-use Rattle.vc_fetch.specs.Advert.{IsName, is_break}
+use Rattle.vc_fetch.specs.Advert.{IsName}
 use Rattle.vc_fetch.specs.ListMessage.{list_lines}
 use Rattle.vc_fetch.specs.Pack.{is_object}
+use Rattle.vc_fetch.proofs.WrittenAdverts.{zeros_at}
 use Rattle.vc_files.specs.FileMap.{FileMap}
 use Rattle.vc_format.specs.Git.{bytes_of_id, id_of_bytes}
 use Rattle.vc_graph.specs.Graph as graph
 use Rattle.vc_graph.specs.Graph.{IsClosedUnder}
 use Rattle.vc_graph.specs.Graph.Reaches.{itself}
 use Rattle.vc_graph.specs.declared.fault.GraphFault.TheVariants as graph_fault
-use Rattle.vc_message.proofs.AnyLaws.{written_message}
+use Rattle.vc_message.proofs.AnyLaws.{written_so}
 use Rattle.vc_message.proofs.MachineObjects.{some_once}
 use Rattle.vc_message.proofs.MachineTexts.{all_in}
-use Rattle.vc_message.specs.AnyMessage.{IsWrittenMessage, MessageText, SpellsMessage, a_list, a_push, message_lines}
-use Rattle.vc_message.specs.Machine.{IsPush, IsWritten, TextOf}
+use Rattle.vc_message.specs.AnyMessage.{a_list, a_push}
+use Rattle.vc_message.specs.Machine.{IsPush, IsWritten}
 use Rattle.vc_model.specs.Clone as machine
 use Rattle.vc_model.specs.Clone.{AreCommandsFor, IsItemId, IsOldOf, IsTrackingValue}
-use Rattle.vc_model.specs.Message.{Message}
 use Rattle.vc_model.specs.Message.Message.{ListRefs, Push}
 use Rattle.vc_model.specs.Node.{IsDifference, ReachedFrom}
 use Rattle.vc_model.specs.Object.{Id, Object, Objects, stored}
@@ -55,7 +54,6 @@ use Rattle.vc_object.specs.declared.id.ObjectId.{ObjectId}
 use Rattle.vc_pkt.proofs.CarriedOnce.{each_named}
 use Rattle.vc_pkt.specs.Carried.{object_named, stored_name}
 use Rattle.vc_pkt.specs.Line.{spelling}
-use Rattle.vc_pkt.specs.Message.{IsSpelledBy}
 use Rattle.vc_push.specs.Push.{CommandText, IsShort, IsWrittenCarried, IsWrittenCommand, IsWrittenPush, PushText, only_deletes, push_lines, zero_id}
 use Rattle.vc_push.specs.PushView.{command_of, commands_of}
 use Rattle.vc_push.specs.declared.command.Command.{Command}
@@ -72,18 +70,10 @@ use Rattle.vc_rules.proofs.SoundLemmas.{objects_sound}
 use Rattle.vc_rules.specs.Git.{git, stored_of}
 use Rattle.vc_rules.specs.OpenPushes.{AreBrought, HoldsContent}
 use Rattle.vc_rules.specs.Verdicts.{machine_command}
+use Rattle.vc_session.proofs.BreakLemmas.{no_break}
 use Rattle.vc_store.specs.Store.{objects, stored as stored_file}
 
 -- ---- a message that is written is read so
-pub written_so : (m : Message) (t : MessageText) (bytes : List ℕ) → TextOf m t → IsWrittenMessage t → bytes ≡ flat_map spelling (message_lines t) → IsWritten m bytes
-written_so m t bytes is written spelled = record {
-  text = t;
-  is = is;
-  written = written;
-  spelled = spelled;
-  reads = record { text = t; is = is; spelled = subst (λ b. IsSpelledBy SpellsMessage t b) (sym spelled) (written_message t written) };
-}
-
 pub written_list : (bytes : List ℕ) → bytes ≡ flat_map spelling list_lines → IsWritten ListRefs bytes
 written_list bytes spelled = written_so ListRefs a_list bytes refl tt spelled
 
@@ -101,11 +91,6 @@ spelled_id text id = by (decode_sized (without_lf text) 20) refl
     by : (r : Result (List ℕ) FromHexError) → decode_sized (without_lf text) 20 ≡ r → option_map id_of (result_ok r) ≡ Some id → IsId id
     by (Ok bytes) is e = sized_id (without_lf text) id (is ∙ ap (λ (i : ObjectId). Ok i.0) (same_Some (id_of bytes) id e))
     by (Err x) is e = absurd (none-some id e)
-
-zeros_at : (n i : ℕ) → ◌≡◌ {A = ℕ} (get_or (replicate n 0) i 0) 0
-zeros_at zero i = refl
-zeros_at (suc n) zero = refl
-zeros_at (suc n) (suc i) = zeros_at n i
 
 zero_is_id : IsId zero_id
 zero_is_id = record { sized = refl; bytes = λ i. let z = zeros_at 20 i in omega (arith, z) }
@@ -134,14 +119,6 @@ object_id content id = by (is_id id) refl
 -- ---- names
 differs : (b k : ℕ) → is_bad_byte k ≡ true → is_bad_byte b ≡ false → (b == k) ≡ false
 differs b k bad fine = let other : b ≢ k = λ e. true≢false (sym bad ∙ sym (ap is_bad_byte e) ∙ fine) in grind (arith, nat_tests, other)
-
-no_break : (name : List ℕ) → list_any is_bad_byte name ≡ false → list_any is_break name ≡ false
-no_break [] fine = refl
-no_break (b ∷ bs) fine =
-    let parts = or_parts (is_bad_byte b) (list_any is_bad_byte bs) fine in
-    or_from (is_break b) (list_any is_break bs)
-    (or_from (b == 0) (b == 10 || b == 32) (differs b 0 refl parts.0) (or_from (b == 10) (b == 32) (differs b 10 refl parts.0) (differs b 32 refl parts.0)))
-    (no_break bs parts.1)
 
 legal_name : (name : List ℕ) → IsRefName name → IsName name
 legal_name name legal = record {

@@ -79,7 +79,7 @@ module _ (all rest : List StoredObject) (o : StoredObject) where
         absent q false is e = sym (at q false is) ∙ e
 
 -- ---- a put makes no file bad
-name_valid : (kind : Kind) (body : List ℕ) → is_id (object_name kind body) ≡ true
+pub name_valid : (kind : Kind) (body : List ℕ) → is_id (object_name kind body) ≡ true
 name_valid kind body = is_id-from_array (object_name kind body) (name_length (object_bytes kind body)) (λ i. Fits-of_lt {w = w8} (byte_of (object_name kind body).0 (name_bytes (object_bytes kind body)) i))
 
 pub put_bad : (old new : FileMap) (id : ObjectId) (kind : Kind) (body : List ℕ) → id ≡ object_name kind body → SameOutside (codes "objects/") old new → new ≡ with_file old (stored_object kind body) → objects new ≡ with_object (objects old) id (stored_object kind body) → MakesNoneBad old new

@@ -1,5 +1,5 @@
 -- What a clone says that it has: the values of its refs in order, then HEAD's; and the message that asks for what it wants.
-use Rattle.std.proofs.Common.{◌≡◌, ◌≢◌, ◌≤◌, ◌<◌, ◌+◌, inl, inr, ℕ, true, T, List, [], ◌∷◌, ◌++◌, length, get_or, take, map, option_to_list, Option, Some, None, refl, sym, ap, ◌∙◌, subst}
+use Rattle.std.proofs.Common.{◌≡◌, ◌≢◌, ◌≤◌, ◌<◌, ◌+◌, inl, inr, ℕ, true, T, List, ◌∷◌, ◌++◌, length, get_or, take, map, option_to_list, Option, Some, None, refl, sym, ap, ◌∙◌, subst, []}
 use Rattle.std.specs.Prelude.{option_map, string_bytes}
 use Rattle.std.specs.FinMap.{entries, entries_sorted, get, get-entries, values}
 use Rattle.std.specs.FinMap.Entries.{same_entries}
@@ -12,8 +12,8 @@ use Rattle.vc_files.specs.FileMap.{FileMap}
 use Rattle.vc_format.specs.Git.{bytes_of_id, id_of_bytes}
 use Rattle.vc_message.specs.AnyMessage.{a_want}
 use Rattle.vc_message.specs.Machine.{IsWritten}
+use Rattle.vc_message.proofs.AnyLaws.{written_so}
 use Rattle.vc_model.proofs.Maps.{bytes_same}
-use Rattle.vc_model.proofs.Pushes.{all_append}
 use Rattle.vc_model.specs.Clone.{once}
 use Rattle.vc_model.specs.Message.Message.{Want}
 use Rattle.vc_model.specs.Object.{Id}
@@ -21,10 +21,9 @@ use Rattle.vc_model.specs.Repository.{Repository}
 use Rattle.vc_object.specs.Lines.{IsId}
 use Rattle.vc_object.specs.ObjectId.{is_id}
 use Rattle.vc_object.specs.declared.id.ObjectId.{ObjectId}
+use Rattle.vc_object.proofs.IdLemmas.{IsId-from_is_id}
 use Rattle.vc_pkt.specs.Line.{spelling}
-use Rattle.vc_refs.proofs.RefFileLemmas.{id_in-id_text}
 use Rattle.vc_refs.specs.Head.{head_of, head_value}
-use Rattle.vc_refs.specs.RefFile.{id_text}
 use Rattle.vc_refs.specs.RefMap.{IsListOf}
 use Rattle.vc_refs.specs.RefFault.{BlamesHeadValue}
 use Rattle.vc_refs.specs.Refs.{SpellsRefs, refs}
@@ -34,11 +33,12 @@ use Rattle.vc_rules.specs.OpenPushes.{HoldsContent}
 use Rattle.vc_exchange.specs.Moving.{Told, machine_refs}
 use Rattle.vc_exchange.specs.Faults.{from_refs}
 use Rattle.vc_exchange.specs.Wanting.{AreHaves, BlamesWanting}
-use Rattle.vc_exchange.proofs.SendingLaws.{positive, spelled_id, written_so}
+use Rattle.vc_exchange.proofs.SendingLaws.{positive}
 use Rattle.vc_exchange.proofs.RefEntries.{find_machine, sorted_machine}
+use Rattle.vc_lemmas.proofs.Lists.{all_append}
 
 -- ---- refs in order
-bytes_back : (found : Option Id) → option_map bytes_of_id (option_map id_of_bytes found) ≡ found
+pub bytes_back : (found : Option Id) → option_map bytes_of_id (option_map id_of_bytes found) ≡ found
 bytes_back None = refl
 bytes_back (Some x) = refl
 
@@ -86,11 +86,9 @@ are_haves content told found ids first list head is taken r held holds =
     front n e = ap (map bytes_of_id) e ∙ sym (take-map bytes_of_id n ids) ∙ ap (take n) is
 
 -- ---- ids of twenty bytes
-valid_id : (id : ObjectId) → is_id id ≡ true → IsId id
-valid_id id valid = spelled_id (id_text id) id (id_in-id_text id valid)
 
 pub pushed_id : (old new : List ObjectId) (id : ObjectId) → new ≡ old ++ id ∷ [] → is_id id ≡ true → AllByRecursion IsId old → AllByRecursion IsId new
-pushed_id old new id e valid all = subst (AllByRecursion IsId) (sym e) (all_append IsId old (id ∷ []) all (valid_id id valid, tt))
+pushed_id old new id e valid all = subst (AllByRecursion IsId) (sym e) (all_append IsId old (id ∷ []) all (IsId-from_is_id id valid, tt))
 
 pub more_taken : (front old new : List ObjectId) (i : ℕ) (id : ObjectId) → i < length front → id ≡ get_or front i (record { 0 = [] }) → new ≡ old ++ id ∷ [] → old ≡ take i front → new ≡ take (i + 1) front
 more_taken front old new i id inside is e so_far =

@@ -1,5 +1,5 @@
 -- Which told ids are open: those so far, and the next one.
-use Rattle.std.proofs.Common.{◌≡◌, ◌⊎◌, inl, inr, ℕ, Bool, false, true≢false, cond, List, [], ◌∷◌, ◌++◌, map, refl, sym, ap, ◌∙◌, subst}
+use Rattle.std.proofs.Common.{◌≡◌, ◌⊎◌, inl, inr, ℕ, Bool, false, true≢false, cond, List, ◌∷◌, ◌++◌, map, refl, sym, ap, ◌∙◌, subst, []}
 use Rattle.std.specs.Prelude.{Contains, IsTrue}
 use Rattle.std.specs.List.{list_any}
 use Rattle.std.proofs.lemmas.Map.Views.{list_any-from_Contains}
@@ -14,7 +14,7 @@ use Rattle.vc_model.specs.Refs.{RefName}
 use Rattle.vc_model.specs.Repository.{Repository}
 use Rattle.vc_files.specs.FileMap.{FileMap}
 use Rattle.vc_object.specs.declared.id.ObjectId.{ObjectId}
-use Rattle.vc_rules.proofs.ReachLemmas.{closed_from, closed_to}
+use Rattle.vc_rules.proofs.ReachLemmas.{closed_from, closed_to, bytes_among}
 use Rattle.vc_rules.specs.Git.{git}
 use Rattle.vc_rules.specs.OpenPushes.{HoldsContent}
 use Rattle.vc_store.specs.Store.{objects}
@@ -63,13 +63,6 @@ module _ (fmt : Format) (at : Lookup) where
       from (inr h) = inr (subst (λ (l : List Id). Contains l q.1) (sym e) (contained_later r.1 more q.1 h))
 
 -- ---- as bytes
-to_bytes : (ids : List ObjectId) (x : ObjectId) → Contains ids x → Contains (map bytes_of_id ids) x.0
-to_bytes [] x h = contained_none x h
-to_bytes (y ∷ ys) x h = elim (contained_cases y ys x h) as (λ _. Contains (map bytes_of_id (y ∷ ys)) x.0) [
-  | inl same ↦ subst (λ (z : ObjectId). Contains (map bytes_of_id (y ∷ ys)) z.0) same (contained_first y.0 (map bytes_of_id ys))
-  | inr later ↦ contained_later y.0 (map bytes_of_id ys) x.0 (to_bytes ys x later)
-]
-
 from_bytes : (ids : List ObjectId) (x : ObjectId) → Contains (map bytes_of_id ids) x.0 → Contains ids x
 from_bytes [] x h = contained_none x.0 h
 from_bytes (y ∷ ys) x h = elim (contained_cases y.0 (map bytes_of_id ys) x.0 h) as (λ _. Contains (y ∷ ys) x) [
@@ -108,7 +101,7 @@ more_open content r p front next old new adds before = by adds
 
     by : AddsOpen (objects content) old new next.1 → AreOpenTold r (front ++ next ∷ []) new
     by (inl (inl closed, e)) = whole [] (nothing e) (inl (inl (closed_from (objects content) (stored r.objects) p.objects_are next.1.0 closed), refl))
-    by (inl (inr met, e)) = whole [] (nothing e) (inl (inr (inr (to_bytes old next.1 met)), refl))
+    by (inl (inr met, e)) = whole [] (nothing e) (inl (inr (inr (bytes_among old next.1 met)), refl))
     by (inr (unclosed, none, e)) = whole (next.1 ∷ []) e (inr ((λ closed. unclosed (closed_to (objects content) (stored r.objects) p.objects_are next.1.0 closed)), (λ met. none (was met)), refl))
 
 -- ---- one id

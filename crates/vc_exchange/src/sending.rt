@@ -26,12 +26,9 @@ use vc_object::ObjectId;
 use vc_pack::{Reached, sent_beyond};
 use vc_pkt::CarriedObjects;
 use vc_push::{Command, MAX_COMMANDS, Push};
-use vc_refname::RefName;
+use vc_refname::{MAX_BRANCH, RefName};
 use vc_refs::{RefFault, get, list};
 use vc_store::Store;
-
-// The longest name of a branch that a tracking ref can follow: the name of that ref is nine bytes longer.
-const MAX_TRACKED: usize = 246;
 
 // What the clone knows of a ref of the shared node: the value of the tracking ref of a branch, and zero of any other ref.
 fn known_value<F: Files>(alloc: Global, files: &mut F, name: &RefName) -> Result<ObjectId, RefFault>
@@ -43,7 +40,7 @@ fn known_value<F: Files>(alloc: Global, files: &mut F, name: &RefName) -> Result
     if !name.is_branch() {
         return Ok(ObjectId::ZERO);
     }
-    if name.as_str().len() > MAX_TRACKED {
+    if name.as_str().len() > MAX_BRANCH {
         return Ok(ObjectId::ZERO);
     }
     let tracking = name.tracking(alloc)?;

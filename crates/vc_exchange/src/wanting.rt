@@ -12,15 +12,12 @@ ghost use Rattle.vc_store.specs.Store.{objects};
 use crate::ExchangeFault;
 use indexmap::IndexSet;
 use std::alloc::{AllocError, Global};
-use vc_fetch::Want;
+use vc_fetch::{MAX_IDS, Want};
 use vc_files::{Fault, Files};
 use vc_graph::is_complete_beyond;
 use vc_object::ObjectId;
 use vc_refs::{list, resolve_head};
 use vc_store::Store;
-
-// The ids that a want names at most, and the haves.
-const MAX_IDS: usize = 256;
 
 // Adds an id to those that are wanted, where not all is there that it reaches, and it is not wanted yet.
 fn add_open<F: Files>(

@@ -1,5 +1,5 @@
 -- What the lines of an advertisement give is what they spell.
-use Rattle.std.proofs.Common.{◌≡◌, ◌≢◌, ℕ, ◌+◌, ◌==◌, Bool, true, false, cond, List, [], ◌∷◌, ◌++◌, Option, Some, None, Result, Ok, Err, refl, ap, sym, ◌∙◌, append_assoc, arith}
+use Rattle.std.proofs.Common.{◌≡◌, ◌≢◌, ℕ, ◌+◌, ◌==◌, Bool, true, false, cond, List, ◌∷◌, ◌++◌, Option, Some, None, Result, Ok, Err, refl, ap, sym, ◌∙◌, append_assoc, arith, []}
 use Rattle.std.specs.Prelude.{is_some}
 use Rattle.std.specs.FinMap.{find, contains_key, insert, empty, get-from_entries, from_entries, from_entries_push, slice_cmp-IsAntisymmetric, nat_cmp-IsAntisymmetric}
 use Rattle.std.specs.FinMap.Entries.{find-append}
@@ -20,6 +20,8 @@ use Rattle.vc_pkt.proofs.StreamLaws.{ok_same}
 use Rattle.vc_fetch.specs.Advert.{RefIds, Ref, AdvertText, AreRefLines, SpellsAdvert, advert_of, ref_line, one_more_ref, advert_step}
 use Rattle.vc_fetch.proofs.RefLines.{ref_some, ref_again, first_ref_some, first_ref_again}
 use Rattle.vc_fetch.proofs.RefMaps.{by_bytes, total, same_name, is_eq-same}
+use Rattle.vc_lemmas.proofs.Texts.{bytes_eq_other}
+use Rattle.vc_lemmas.proofs.Lists.{none_parts}
 
 abbrev ids_of : List Ref → RefIds
 ids_of refs = from_entries refs
@@ -33,13 +35,6 @@ Step = Result (Stepped RefIds AdvertText) PktFault
 -- ---- names that differ
 differ : (a b : List ℕ) → bytes_eq a b ≡ false → a ≢ b
 differ a b e h = cc (e, (bytes_eq-Decides a b).1 h)
-
-pub differ_again : (a b : List ℕ) → a ≢ b → bytes_eq a b ≡ false
-differ_again a b n = by (bytes_eq a b) refl
-  where
-    by : (t : Bool) → bytes_eq a b ≡ t → t ≡ false
-    by true e = absurd (n ((bytes_eq-Decides a b).0 e))
-    by false e = refl
 
 apart : (a b : List ℕ) → a ≢ b → eq_by_cmp by_bytes a b ≡ false
 apart a b n = by (eq_by_cmp by_bytes a b) refl
@@ -56,19 +51,15 @@ AreNew before refs = AllByRecursion (λ (r : Ref). find by_bytes r.0 before ≡ 
 abbrev one_more : List Ref → Ref → List Ref
 one_more before ref = before ++ ref ∷ []
 
-either_none : (b : Bool) (v : ObjectId) (o : Option ObjectId) → cond b (Some v) o ≡ None → (b ≡ false) × (o ≡ None)
-either_none true v o e = absurd (cc e)
-either_none false v o e = (refl, e)
-
 -- a name that is new behind one more ref was new before it, and isn't that ref's
 earlier : (before : List Ref) (ref : Ref) (refs : List Ref) → find by_bytes ref.0 before ≡ None → AreNew (one_more before ref) refs
     → AreNew before refs × AllByRecursion (λ q. bytes_eq ref.0 q ≡ false) (keys_of refs)
 earlier before ref [] new later = (tt, tt)
 earlier before ref (r ∷ refs) new later =
-    let e = either_none (eq_by_cmp by_bytes r.0 ref.0) ref.1 (find by_bytes r.0 before) (sym (find-append by_bytes total before ref.0 ref.1 r.0 new) ∙ later.0) in
+    let e = none_parts (eq_by_cmp by_bytes r.0 ref.0) ref.1 (find by_bytes r.0 before) (sym (find-append by_bytes total before ref.0 ref.1 r.0 new) ∙ later.0) in
     let rest = earlier before ref refs new later.1 in
     let other : ref.0 ≢ r.0 = λ h. let s = ap (λ t. eq_by_cmp by_bytes t ref.0) h in let i = is_eq-same ref.0 in let f = e.0 in cc (s, i, f) in
-    ((e.1, rest.0), (differ_again ref.0 r.0 other, rest.1))
+    ((e.1, rest.0), (bytes_eq_other ref.0 r.0 other, rest.1))
 
 -- and back
 later : (before : List Ref) (ref : Ref) (refs : List Ref) → find by_bytes ref.0 before ≡ None → AreNew before refs → AllByRecursion (λ q. bytes_eq ref.0 q ≡ false) (keys_of refs) → AreNew (one_more before ref) refs

@@ -1,7 +1,8 @@
 -- Lines with an id, as the functions that read them see them.
-use Rattle.std.proofs.Common.{◌≡◌, ℕ, Bool, true, false, cond, List, [], ◌∷◌, ◌++◌, Option, Some, None, Result, Ok, Err, refl, ap, ◌∙◌, arith}
+use Rattle.std.proofs.Common.{◌≡◌, ℕ, Bool, true, false, cond, List, ◌∷◌, ◌++◌, Option, Some, None, Result, Ok, Err, refl, ap, ◌∙◌, arith, []}
 use Rattle.std.proofs.lemmas.Bool.{eq-eqb}
 use Rattle.std.proofs.lemmas.Bool.Decides.{nat_tests}
+use Rattle.std.proofs.lemmas.Option.{same_Some}
 use Rattle.hex.specs.Hex.{decode_sized, encode_lower}
 use Rattle.hex.specs.declared.error.FromHexError.{FromHexError}
 use Rattle.hex.proofs.HexLemmas.{decode_sized-ok, decode_sized-encode_lower}
@@ -14,11 +15,8 @@ use Rattle.vc_pkt.specs.TextLine.{without_lf}
 use Rattle.vc_pkt.proofs.TextLaws.{with_lf}
 use Rattle.vc_fetch.specs.Ids.{WritesId, IsIdLine, IsTail, IsFirstIdLine, id_from, id_of, id_line, is_tail, first_id_line}
 
-pub some_same : {A : Type 0} (x y : A) → ◌≡◌ {A = Option A} (Some x) (Some y) → x ≡ y
-some_same x y e = cc e
-
 from_some : (r : Result (List ℕ) FromHexError) (id : ObjectId) → id_from r ≡ Some id → r ≡ Ok id.0
-from_some (Ok bytes) id e = ap (λ (i : ObjectId). Ok i.0) (some_same (record { 0 = bytes }) id e)
+from_some (Ok bytes) id e = ap (λ (i : ObjectId). Ok i.0) (same_Some (record { 0 = bytes }) id e)
 from_some (Err f) id e = cc e
 
 pub id_some : (digits : List ℕ) (id : ObjectId) → id_of digits ≡ Some id → WritesId id digits
@@ -59,7 +57,7 @@ tail_again [] h = refl
 tail_again (b ∷ bs) h = eq-eqb b 32 h
 
 tail_some : (tail : List ℕ) (i id : ObjectId) (b : Bool) → is_tail tail ≡ b → cond b (Some i) None ≡ Some id → IsTail tail × (i ≡ id)
-tail_some tail i id true is e = (tail_is tail is, some_same i id e)
+tail_some tail i id true is e = (tail_is tail is, same_Some i id e)
 tail_some tail i id false is e = absurd (cc e)
 
 pub first_some : (word line : List ℕ) (id : ObjectId) → first_id_line word line ≡ Some id → IsFirstIdLine word id line

@@ -1,9 +1,10 @@
 -- What the lines of a pack give is what they spell.
-use Rattle.std.proofs.Common.{◌≡◌, ℕ, ◌+◌, ◌^◌, ◌<◌, Bool, true, false, cond, List, [], ◌∷◌, ◌++◌, length, get_or, Option, Some, None, is_some, Result, Ok, Err, refl, ap, sym, ◌∙◌, subst, arith}
+use Rattle.std.proofs.Common.{◌≡◌, ℕ, ◌+◌, ◌^◌, ◌<◌, Bool, true, false, cond, List, ◌∷◌, ◌++◌, length, get_or, Option, Some, None, is_some, Result, Ok, Err, refl, ap, sym, ◌∙◌, subst, arith, []}
 use Rattle.std.specs.Prelude.{codes, decimal}
 use Rattle.std.specs.Option.{option_map}
 use Rattle.std.specs.Str.{bytes_eq}
 use Rattle.std.proofs.lemmas.Slice.Eq.{bytes_eq-Decides}
+use Rattle.std.proofs.lemmas.Option.{same_Some}
 use Rattle.vc_object.specs.Object.{IsObject, object_bytes}
 use Rattle.vc_object.specs.Decoding.{StoredObject, stored_object, decoded}
 use Rattle.vc_object.specs.declared.kind.Kind.{Kind}
@@ -18,7 +19,7 @@ use Rattle.vc_pkt.specs.declared.fault.PktFault.{PktFault}
 use Rattle.vc_pkt.proofs.StreamLaws.{means, stream_runs, ok_same}
 use Rattle.vc_fetch.specs.Ids.{id_line}
 use Rattle.vc_fetch.specs.Pack.{PackText, is_object, IsAckLine, SpellsPack, PackState, starting, streaming, ack_line, ack_stepped, with_ack, pack_step}
-use Rattle.vc_fetch.proofs.IdLines.{some_same, line_some, line_again}
+use Rattle.vc_fetch.proofs.IdLines.{line_some, line_again}
 
 -- ---- objects
 object_again : (kind : Kind) (body : List ℕ) → IsObject kind body → is_object (stored_object kind body) ≡ true
@@ -72,12 +73,12 @@ with_pack_ok ack (Err f) p e = absurd (cc e)
 
 nak_is : (line : List ℕ) (ack : Option ObjectId) (b : Bool) → bytes_eq (without_lf line) (codes "NAK") ≡ b → cond b (Some None) (option_map (λ id. Some id) (id_line (codes "ACK ") line)) ≡ Some ack → IsAckLine ack line
 nak_is line ack true is e =
-    let same = some_same None ack e in
+    let same = same_Some None ack e in
     subst (λ a. IsAckLine a line) same ((bytes_eq-Decides (without_lf line) (codes "NAK")).0 is)
 nak_is line ack false is e = by (id_line (codes "ACK ") line) refl e
   where
     by : (o : Option ObjectId) → id_line (codes "ACK ") line ≡ o → option_map (λ id. Some id) o ≡ Some ack → IsAckLine ack line
-    by (Some id) found e = let same = some_same (Some id) ack e in subst (λ a. IsAckLine a line) same (line_some (codes "ACK ") line id found)
+    by (Some id) found e = let same = same_Some (Some id) ack e in subst (λ a. IsAckLine a line) same (line_some (codes "ACK ") line id found)
     by None found e = absurd (cc e)
 
 no_nak : (digits line : List ℕ) → without_lf line ≡ codes "ACK " ++ digits → bytes_eq (without_lf line) (codes "NAK") ≡ false

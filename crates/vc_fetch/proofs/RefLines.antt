@@ -1,8 +1,9 @@
 -- Lines of refs, as the functions that read them see them.
-use Rattle.std.proofs.Common.{◌≡◌, ℕ, ◌==◌, ◌||◌, Bool, true, false, cond, not, List, [], ◌∷◌, ◌++◌, Option, Some, None, refl, ap, ◌∙◌, subst, arith}
+use Rattle.std.proofs.Common.{◌≡◌, ℕ, ◌==◌, ◌||◌, Bool, true, false, cond, not, List, ◌∷◌, ◌++◌, Option, Some, None, refl, ap, ◌∙◌, subst, arith, []}
 use Rattle.std.specs.List.{list_any}
 use Rattle.std.proofs.lemmas.Bool.{eq-eqb, or_parts}
 use Rattle.std.proofs.lemmas.Bool.Decides.{nat_tests}
+use Rattle.std.proofs.lemmas.Option.{same_Some}
 use Rattle.hex.proofs.HexLemmas.{decode_sized-ok}
 use Rattle.vc_object.specs.Bytes.{Without}
 use Rattle.vc_object.specs.Items.{◌>>=◌}
@@ -14,7 +15,7 @@ use Rattle.vc_object.proofs.Texts.{ne-eqb}
 use Rattle.vc_pkt.specs.TextLine.{without_lf}
 use Rattle.vc_fetch.specs.Ids.{WritesId, id_of}
 use Rattle.vc_fetch.specs.Advert.{Ref, IsName, IsRefLine, IsCapabilities, IsFirstRefLine, is_break, is_name, before_nul, named_ref, ref_line}
-use Rattle.vc_fetch.proofs.IdLines.{some_same, id_some, id_again}
+use Rattle.vc_fetch.proofs.IdLines.{id_some, id_again}
 
 -- ---- names
 pub name_is : (name : List ℕ) → is_name name ≡ true → IsName name
@@ -67,7 +68,7 @@ abbrev parts_or : Bool → List ℕ × List ℕ → Option Ref
 parts_or is_first parts = id_of parts.0 >>= id_or is_first parts.1
 
 named_some : (name : List ℕ) (id : ObjectId) (ref : Ref) (b : Bool) → is_name name ≡ b → cond b (Some (name, id)) None ≡ Some ref → IsName name × ((name, id) ≡ ref)
-named_some name id ref true is e = (name_is name is, some_same (name, id) ref e)
+named_some name id ref true is e = (name_is name is, same_Some (name, id) ref e)
 named_some name id ref false is e = absurd (cc e)
 
 -- what a line is cut into

@@ -1,5 +1,5 @@
 -- How advertisements are written, and that they are spelled so.
-use Rattle.std.proofs.Common.{◌≡◌, ◌≢◌, ℕ, zero, suc, ◌≤◌, Bool, true, false, cond, ◌&&◌, T, List, [], ◌∷◌, ◌++◌, length, get_or, Option, Some, None, Result, Ok, Err, refl, ap, sym, ◌∙◌, subst, arith, append_assoc, length-append}
+use Rattle.std.proofs.Common.{◌≡◌, ◌≢◌, ℕ, zero, suc, ◌≤◌, Bool, true, false, cond, T, List, ◌∷◌, ◌++◌, length, get_or, Option, Some, None, Result, Ok, Err, refl, ap, sym, ◌∙◌, subst, arith, append_assoc, length-append, []}
 use Rattle.std.specs.Prelude.{codes, replicate, OnOk}
 use Rattle.std.specs.FinMap.{find, is_sorted, entries, entries_sorted, from_entries, get-entries, get-from_entries, get-retain_keys, retain_keys}
 use Rattle.std.specs.FinMap.Entries.{below_all}
@@ -20,8 +20,10 @@ use Rattle.vc_pkt.specs.Message.{IsSpelledBy}
 use Rattle.vc_pkt.proofs.TextLaws.{with_lf}
 use Rattle.vc_pkt.proofs.Written.{lines_written}
 use Rattle.vc_fetch.specs.Advert.{RefIds, Ref, AdvertText, IsName, IsRefLine, IsFirstRefLine, IsCapabilities, AreRefLines, SpellsAdvert, IsHeadId, IsWrittenRef, IsWrittenAdvert, is_ref, ref_text, written_ref, ref_lines, with_head, or_no_refs, advert_lines}
-use Rattle.vc_fetch.proofs.Adverts.{IsDistinct-none, differ_again}
+use Rattle.vc_fetch.proofs.Adverts.{IsDistinct-none}
 use Rattle.vc_fetch.proofs.RefMaps.{by_bytes, total, tied_same, same_name, same_ids, is_eq-same}
+use Rattle.vc_lemmas.proofs.Texts.{bytes_eq_other}
+use Rattle.vc_lemmas.proofs.Lists.{both_parts}
 
 -- the line that names no ref
 pub none_written : {E : Type 0} (r : Result (Unit {0}) E) (tail : List ℕ) (refs : List Ref) (old new : List ℕ) → refs ≡ [] → OnOk r (new ≡ old ++ spelling (written_ref tail (codes "capabilities^{}", record { 0 = replicate 20 0 })))
@@ -88,16 +90,12 @@ less_of Less h = refl
 less_of Equal h = absurd h
 less_of Greater h = absurd h
 
-both_parts : (a b : Bool) → T (a && b) → T a × T b
-both_parts true b h = (tt, h)
-both_parts false b h = absurd h
-
 below_differ : (name : List ℕ) (refs : List Ref) → T (below_all by_bytes name refs) → AllByRecursion (λ q. bytes_eq name q ≡ false) (keys_of refs)
 below_differ name [] h = tt
 below_differ name (ref ∷ refs) h =
     let parts = both_parts (is_lt (by_bytes name ref.0)) (below_all by_bytes name refs) h in
     let other : name ≢ ref.0 = λ e. let s = ap (λ t. is_eq (by_bytes name t)) e in let i = is_eq-same name in let l = less_of (by_bytes name ref.0) parts.0 in cc (s, i, l) in
-    (differ_again name ref.0 other, below_differ name refs parts.1)
+    (bytes_eq_other name ref.0 other, below_differ name refs parts.1)
 
 sorted_once : (refs : List Ref) → T (is_sorted by_bytes refs) → IsDistinct bytes_eq (keys_of refs)
 sorted_once [] h = IsDistinct-none
@@ -110,7 +108,7 @@ AreRefs refs = AllByRecursion (λ (r : Ref). is_ref r.0 ≡ true) refs
 
 no_ref : (name : List ℕ) (refs : List Ref) → is_ref name ≡ false → AreRefs refs → AllByRecursion (λ q. bytes_eq name q ≡ false) (keys_of refs)
 no_ref name [] other all = tt
-no_ref name (ref ∷ refs) other all = (differ_again name ref.0 (λ e. let s = ap is_ref e in let i = all.0 in cc (s, i, other)), no_ref name refs other all.1)
+no_ref name (ref ∷ refs) other all = (bytes_eq_other name ref.0 (λ e. let s = ap is_ref e in let i = all.0 in cc (s, i, other)), no_ref name refs other all.1)
 
 -- ---- what is found of the names that are written
 find_none : (name : List ℕ) (refs : List Ref) → is_ref name ≡ false → AreRefs refs → find by_bytes name refs ≡ None
@@ -163,7 +161,7 @@ record Writes (head : Option ObjectId) (refs : RefIds) (listed : List Ref) : Typ
   head_is : find by_bytes head_name listed ≡ head
   found : Found refs listed
 
-zeros_at : (n i : ℕ) → ◌≡◌ {A = ℕ} (get_or (replicate n 0) i 0) 0
+pub zeros_at : (n i : ℕ) → ◌≡◌ {A = ℕ} (get_or (replicate n 0) i 0) 0
 zeros_at zero i = refl
 zeros_at (suc n) zero = refl
 zeros_at (suc n) (suc i) = zeros_at n i

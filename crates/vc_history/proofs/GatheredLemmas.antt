@@ -1,19 +1,12 @@
 -- What a walk that has gathered a history says of it.
-use Rattle.std.proofs.Common.{◌≡◌, ℕ, ◌⊎◌, ⊎_elim, inl, inr, true≢false, List, Option, None, Some, IsSome, Contains, sym, subst, refl}
+use Rattle.std.proofs.Common.{ℕ, ◌⊎◌, ⊎_elim, inl, inr, List, Option, IsSome, Contains}
 use Rattle.vc_object.specs.ObjectMap.{ObjectMap, parents_in}
 use Rattle.vc_object.specs.declared.id.ObjectId.{ObjectId}
 use Rattle.vc_graph.specs.Graph.{IsClosedUnder, LinksTo, Reaches, ReachedFrom, itself, onward}
 use Rattle.vc_history.specs.Generation.{Agrees}
 use Rattle.vc_history.specs.Walk.{Gathers, parents_read}
 use Rattle.vc_history.proofs.GenerationLemmas.{Contains-from_LinksTo}
-
--- what is there, as a value
-pub value_of : {X : Type 0} (o : Option X) → IsSome o → (x : X) × (o ≡ Some x)
-value_of None h = absurd (true≢false (sym h))
-value_of (Some x) h = (x, refl)
-
-pub some_of : {X : Type 0} (o : Option X) (x : X) → o ≡ Some x → IsSome o
-some_of o x e = subst (λ p. IsSome p) (sym e) refl
+use Rattle.vc_lemmas.proofs.Lists.{value_of, some_of}
 
 -- where what was met leads to what was met or lies beyond, so does what the roots reach
 pub met_or_beyond-linked : (parents : ObjectId → Option (List ObjectId)) (beyond : ObjectId → Option ℕ) → Agrees parents beyond → (roots met : List ObjectId) → ((x : ObjectId) → Contains roots x → Contains met x)

@@ -1,5 +1,5 @@
 -- What a history that was read and numbered says of generations.
-use Rattle.std.proofs.Common.{◌≡◌, ℕ, zero, suc, ◌+◌, ◌<◌, ◌^◌, ◌⊎◌, inl, inr, ⊎_elim, List, [], ◌∷◌, Option, Some, IsSome, Contains, ◌↔◌, ap, ◌∙◌, refl, arith}
+use Rattle.std.proofs.Common.{◌≡◌, ℕ, zero, suc, ◌+◌, ◌<◌, ◌^◌, ◌⊎◌, inl, inr, ⊎_elim, List, ◌∷◌, Option, Some, IsSome, Contains, ◌↔◌, ap, ◌∙◌, refl, arith, []}
 use Rattle.vc_graph.specs.Graph.{LinksTo, Reaches, IsClosed, itself, onward}
 use Rattle.vc_graph.proofs.WalkLemmas.{ReachedFrom-one, Reaches-from_one}
 use Rattle.vc_object.specs.ObjectMap.{ObjectMap, parents_in}
@@ -8,8 +8,9 @@ use Rattle.vc_history.specs.Generation.{Agrees, HasGeneration, Leads}
 use Rattle.vc_history.specs.History.{IsAncestor}
 use Rattle.vc_history.specs.Numbering.{IsHeld, IsOver, NumbersHistory}
 use Rattle.vc_history.specs.Walk.{Gathers, parents_read}
-use Rattle.vc_history.proofs.GatheredLemmas.{met_or_beyond, some_of, value_of}
+use Rattle.vc_history.proofs.GatheredLemmas.{met_or_beyond}
 use Rattle.vc_history.proofs.GenerationLemmas.{Contains-from_LinksTo, HasGeneration-one, HasGeneration-over}
+use Rattle.vc_lemmas.proofs.Lists.{value_of, some_of}
 
 module _ (objects : ObjectMap) (known : ObjectId → Option ℕ) (root : ObjectId) (met : List ObjectId) (read : List (List ObjectId))
     (gathers : Gathers objects known (root ∷ []) met read) (agrees : Agrees (parents_in objects) known) where

@@ -1,5 +1,5 @@
 -- What the part of a history within a limit says of the whole.
-use Rattle.std.proofs.Common.{◌≡◌, ◌≢◌, ℕ, ◌<◌, ◌≤◌, ◌⊎◌, inl, inr, ⊎_elim, Bool, true, false, if◌then◌else◌, List, [], ◌++◌, Option, Some, None, IsSome, Contains, ◌↔◌, get_or, position, sym, ap, subst, ◌∙◌, refl, true≢false, arith, nat_le}
+use Rattle.std.proofs.Common.{◌≡◌, ◌≢◌, ℕ, ◌<◌, ◌≤◌, ◌⊎◌, inl, inr, ⊎_elim, Bool, true, false, if◌then◌else◌, List, ◌++◌, Option, Some, None, IsSome, Contains, ◌↔◌, get_or, position, sym, ap, subst, ◌∙◌, refl, true≢false, arith, nat_le, []}
 use Rattle.std.proofs.lemmas.Bool.{le-leb, leb-true}
 use Rattle.std.proofs.lemmas.List.Elements.{Contains-append_left, Contains-append_right, Contains-append_cases}
 use Rattle.std.proofs.lemmas.List.Quantifiers.{position-Some}
@@ -14,10 +14,10 @@ use Rattle.vc_history.specs.History.{IsCommonAncestor, IsBestCommonAncestor, IsS
 use Rattle.vc_history.specs.Part.{under, IsSettledBelow, IsSettledOutside}
 use Rattle.vc_history.specs.Toward.{not_above}
 use Rattle.vc_history.specs.Walk.{Gathers, graph_read, parents_read, read_at}
-use Rattle.vc_history.proofs.GatheredLemmas.{some_of, value_of}
 use Rattle.vc_history.proofs.GenerationLemmas.{Contains-from_LinksTo, HasGeneration-parent}
 use Rattle.vc_history.proofs.HistoryLemmas.{Reaches-same}
 use Rattle.vc_history.proofs.LearntLemmas.{known_below}
+use Rattle.vc_lemmas.proofs.Lists.{value_of, some_of}
 
 module _ (known : ObjectId → Option ℕ) (floor : ℕ) where
   from_under : (x : ObjectId) (n : ℕ) → under known floor x ≡ Some n → (known x ≡ Some n) × (n ≤ floor)

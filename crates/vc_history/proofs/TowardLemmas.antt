@@ -8,9 +8,9 @@ use Rattle.vc_object.specs.declared.id.ObjectId.{ObjectId}
 use Rattle.vc_history.specs.Generation.{Agrees}
 use Rattle.vc_history.specs.History.{IsAncestor}
 use Rattle.vc_history.specs.Toward.{not_above, ruled_out}
-use Rattle.vc_history.proofs.GatheredLemmas.{some_of, value_of}
 use Rattle.vc_history.proofs.GenerationLemmas.{HasGeneration-parent}
 use Rattle.vc_history.proofs.LearntLemmas.{known_below}
+use Rattle.vc_lemmas.proofs.Lists.{value_of, some_of}
 
 module _ (known : ObjectId → Option ℕ) (sought : ObjectId) where
   -- another name than the sought one, whose number is not above that of the sought one, if that has any

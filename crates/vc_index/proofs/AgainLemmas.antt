@@ -1,5 +1,5 @@
 -- An index's text stands for one index, and bytes that are none have one place of fault.
-use Rattle.std.proofs.Common.{◌≡◌, ◌≢◌, ℕ, List, [], ◌∷◌, ◌++◌, Option, Some, sym, ap, refl, ◌∙◌, length, append_assoc, append-nil, ◌⊎◌, inl, inr, ⊎_elim, arith, length-append}
+use Rattle.std.proofs.Common.{◌≡◌, ◌≢◌, ℕ, List, ◌∷◌, ◌++◌, Option, Some, sym, ap, refl, ◌∙◌, length, append_assoc, append-nil, ◌⊎◌, inl, inr, ⊎_elim, arith, length-append, []}
 use Rattle.std.specs.Prelude.{IsSome, unwrap_or, Result, Ok, Err, IfOk, IfErr, MatchResult}
 use Rattle.std.specs.List.{AllByRecursion, flat_map}
 use Rattle.std.specs.FinMap.{get, entries, get-entries, same_entries_map}
@@ -13,9 +13,10 @@ use Rattle.vc_index.specs.declared.entry.IndexEntry.{IndexEntry}
 use Rattle.vc_index.specs.declared.faults.IndexFault.{IndexFault}
 use Rattle.vc_index.specs.declared.faults.IndexFault.TheVariants.{BadPath, PathConflict, BadIndex, WrongEntry, Missing, Store}
 use Rattle.vc_index.proofs.EntriesLemmas.{mid_before, get_mid, get_front, all_from_get}
-use Rattle.vc_index.proofs.ReadLemmas.{spelt, some_at}
+use Rattle.vc_index.proofs.ReadLemmas.{spelt}
 use Rattle.vc_index.proofs.FrontLemmas.{value_of}
 use Rattle.vc_index.proofs.TextLemmas.{IsSpelt, entry_again}
+use Rattle.vc_lemmas.proofs.Lists.{some_of}
 
 abbrev Pair : Type 0
 Pair = List ℕ × IndexEntry
@@ -53,8 +54,8 @@ next_may_follow m n hs k v sound is = record {
   last = mid_before m (entries n) hs k v is;
   free = λ (other, some, way).
       let found = value_of (get n other) some in
-      let there : IsSome (get m other) = some_at (get m other) found.0 (get_front m (entries n) hs k v is other found.0 (sym (get-entries n other) ∙ found.1)) in
-      ⊎_elim (λ above. sound.apart other k there (some_at (get m k) v at) above) (λ below. sound.apart k other (some_at (get m k) v at) there below) way;
+      let there : IsSome (get m other) = some_of (get m other) found.0 (get_front m (entries n) hs k v is other found.0 (sym (get-entries n other) ∙ found.1)) in
+      ⊎_elim (λ above. sound.apart other k there (some_of (get m k) v at) above) (λ below. sound.apart k other (some_of (get m k) v at) there below) way;
 }
   where
     at : get m k ≡ Some v

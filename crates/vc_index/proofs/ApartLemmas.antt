@@ -1,5 +1,5 @@
 -- A tree of paths, looked through in the order of the paths for a file that lies in another.
-use Rattle.std.proofs.Common.{◌≡◌, ℕ, List, [], ◌∷◌, ◌++◌, Some, sym, ap, refl, ◌∙◌, subst, append_assoc}
+use Rattle.std.proofs.Common.{◌≡◌, ℕ, List, ◌∷◌, ◌++◌, Some, sym, ap, refl, ◌∙◌, subst, append_assoc, []}
 use Rattle.std.specs.Prelude.{Vec}
 use Rattle.std.specs.Global.{Global}
 use Rattle.std.specs.BTreeMap.{BTreeMap, IsOrdered}
@@ -15,7 +15,8 @@ use Rattle.vc_index.proofs.CollectLemmas.{index_more, order_more}
 use Rattle.vc_index.proofs.EntriesLemmas.{AllBefore, get_front, get_mid, mid_before}
 use Rattle.vc_index.proofs.FrontLemmas.{value_of}
 use Rattle.vc_index.proofs.MapLemmas.{Entries, entries-empty, entries-index_of, key_cmp}
-use Rattle.vc_index.proofs.ReadLemmas.{FrontsKept, comes_behind, nothing_read, path_some, some_at, to_more}
+use Rattle.vc_index.proofs.ReadLemmas.{FrontsKept, comes_behind, nothing_read, path_some, to_more}
+use Rattle.vc_lemmas.proofs.Lists.{some_of}
 
 -- the files up to the last path, none of which lies in another
 pub record ApartSoFar (all : BTreeMap (Vec ℕ Global) IndexEntry) (rest : Entries) (last : List ℕ) (fronts : List (List ℕ)) : Type 0 where
@@ -61,4 +62,4 @@ module _ (all : BTreeMap (Vec ℕ Global) IndexEntry) (ordered : IsOrdered key_c
   apart_not (other, some, above) sound =
       let found = value_of (get (index_with so_far.done) other) some in
       let there : get (index_of all) other ≡ Some found.0 = get_front (index_of all) (pairs so_far.done) (pairs rest) key.items entry parted other found.0 (sym (get-from_entries nat_list_cmp_total (pairs so_far.done) other) ∙ found.1) in
-      sound.apart other key.items (some_at _ found.0 there) (some_at _ entry here) above
+      sound.apart other key.items (some_of _ found.0 there) (some_of _ entry here) above

@@ -1,5 +1,5 @@
 -- What the closing of a folder and the end of an index leave, for whom writes trees.
-use Rattle.std.proofs.Common.{◌≡◌, ◌≢◌, ℕ, zero, suc, ◌<◌, ◌≤◌, ◌-◌, List, [], ◌∷◌, ◌++◌, map, Option, Some, None, refl, ap, sym, ◌∙◌, subst, ⊎_elim, inl, inr, append_assoc, append-nil, length, take, drop, arith, length-append, ◌↔◌}
+use Rattle.std.proofs.Common.{◌≡◌, ◌≢◌, ℕ, zero, suc, ◌<◌, ◌≤◌, ◌-◌, List, ◌∷◌, ◌++◌, map, Option, Some, None, refl, ap, sym, ◌∙◌, subst, ⊎_elim, inl, inr, append_assoc, append-nil, length, take, drop, arith, length-append, ◌↔◌, []}
 use Rattle.std.proofs.Common.{true, false, cond}
 use Rattle.std.specs.Prelude.{slice_get, option_map, Result, Ok, Err, IfErr}
 use Rattle.std.specs.Result.{IsErrAnd}
@@ -22,7 +22,6 @@ use Rattle.vc_object.specs.declared.kind.Kind.TheVariants as kinds
 use Rattle.vc_object.specs.declared.mode.Mode.{Mode}
 use Rattle.vc_object.specs.declared.mode.Mode.TheVariants as modes
 use Rattle.vc_object.proofs.IdLemmas.{IsId-from_is_id}
-use Rattle.vc_object.proofs.Order.{All-map}
 use Rattle.vc_store.specs.Store.{IsDamaged, with_object, with_objects}
 use Rattle.vc_store.specs.StoreFault.{IsOfDamage}
 use Rattle.vc_files.specs.FileMap.{FileMap}
@@ -45,7 +44,8 @@ use Rattle.vc_index.proofs.FileLemmas.{opened, closed}
 use Rattle.vc_index.proofs.FolderLemmas.{joined_push, joined_entries}
 use Rattle.vc_index.proofs.MapLemmas.{same_text}
 use Rattle.vc_index.proofs.PlaceLemmas.{file_place, front_places, files_order}
-use Rattle.vc_index.proofs.PartLemmas.{by_last, last_get, got_last, folder_begins, nested_push, nested_last, holds_parts, run_tree, placed_run, all_parts, all_join, all_over, map_join, begins_trans, tree, run_of_folder, of_one_folder, below_new, building_new}
+use Rattle.vc_index.proofs.PartLemmas.{by_last, last_get, got_last, folder_begins, nested_push, nested_last, holds_parts, run_tree, placed_run, all_parts, all_over, map_join, begins_trans, tree, run_of_folder, of_one_folder, below_new, building_new}
+use Rattle.vc_lemmas.proofs.Lists.{all_append, all_map}
 
 pub open_length-push : (parts : List Part) (part : Part) → open_length (parts ++ part ∷ []) ≡ length part.folder.now
 open_length-push parts part = ap (λ (o : Option Part). option_map_or (λ (p : Part). length p.folder.now) o 0) (last_get parts part)
@@ -82,7 +82,7 @@ module _ (honest : Type 0) (files : IndexMap) (trees : List (List Entry)) where
     closes_then mid parts old now new first second = record {
       more = first.more ++ second.more;
       building = subst (λ (ts : List (List Entry)). Building files ts parts rest) (append_assoc trees first.more second.more) second.building;
-      fits = all_join Fits first.more second.more first.fits second.fits;
+      fits = all_append Fits first.more second.more first.fits second.fits;
       stored = λ h. stored_then old now new first.more second.more (first.stored h) (second.stored h);
     }
 
@@ -171,7 +171,7 @@ pub pushed : (files : IndexMap) (trees : List (List Entry)) (front : List Pair) 
 pushed files trees front parts new path entry more sound at b inside is plain ends same = record {
   same_files = λ objects held q mode id. subst (λ (l : List Pair). HasFile objects l q mode id ↔ (get files q ≡ Some (index_entry mode id))) (sym regrouped) (b.same_files objects held q mode id);
   below = b.below;
-  each = all_join (IsSoundPart files trees) parts (new ∷ []) b.each (
+  each = all_append (IsSoundPart files trees) parts (new ∷ []) b.each (
     record {
       names = subst (λ (p : List ℕ). AllByRecursion IsName (names_in p)) is file.legal.names;
       plain = plain;
@@ -189,8 +189,8 @@ pushed files trees front parts new path entry more sound at b inside is plain en
       let into = inside l.0 l.1 l.2 in
       let first : Begins l.1.folder.now new.folder.now = folder_begins l.1.folder.now into.0 new.folder.now new.name.now last_ends (sym into.1 ∙ is) plain in
       subst (AllByRecursion (λ (g : Part). Begins g.folder.now new.folder.now)) (sym l.2)
-      (all_join (λ (g : Part). Begins g.folder.now new.folder.now) l.0 (l.1 ∷ [])
-      (All-map (λ g. Begins g.folder.now l.1.folder.now) (λ g. Begins g.folder.now new.folder.now) l.0 (λ g h. begins_trans g.folder.now l.1.folder.now new.folder.now h first) (nested_last l.0 l.1 (subst Nested l.2 b.nested)))
+      (all_append (λ (g : Part). Begins g.folder.now new.folder.now) l.0 (l.1 ∷ [])
+      (all_map (λ g. Begins g.folder.now l.1.folder.now) (λ g. Begins g.folder.now new.folder.now) l.0 (λ g h. begins_trans g.folder.now l.1.folder.now new.folder.now h first) (nested_last l.0 l.1 (subst Nested l.2 b.nested)))
       (first, tt)))
       (by_last parts));
   order = subst InPlaces (sym regrouped) b.order;
@@ -260,8 +260,8 @@ root_folders parts nested inside = ⊎_elim
     (λ l.
     let top : l.1.folder.now ≡ [] = nothing_begins l.1.folder.now [] (inside l.0 l.1 l.2) refl in
     subst (AllByRecursion (λ (g : Part). g.folder.now ≡ [])) (sym l.2)
-    (all_join (λ (g : Part). g.folder.now ≡ []) l.0 (l.1 ∷ [])
-    (All-map (λ g. Begins g.folder.now l.1.folder.now) (λ g. g.folder.now ≡ []) l.0 (λ g h. nothing_begins g.folder.now l.1.folder.now h top) (nested_last l.0 l.1 (subst Nested l.2 nested)))
+    (all_append (λ (g : Part). g.folder.now ≡ []) l.0 (l.1 ∷ [])
+    (all_map (λ g. Begins g.folder.now l.1.folder.now) (λ g. g.folder.now ≡ []) l.0 (λ g h. nothing_begins g.folder.now l.1.folder.now h top) (nested_last l.0 l.1 (subst Nested l.2 nested)))
     (top, tt)))
     (by_last parts)
   where
@@ -274,7 +274,7 @@ module _ (files : IndexMap) (lower : List (List Entry)) (parts : List Part) (b :
   root_tree = run_tree files lower [] parts b.each (root_folders parts b.nested inside) (front_places (map part_pair parts) [] b.order)
 
   root_parts : AllByRecursion (IsPart files lower) (map part_entry parts)
-  root_parts = all_over part_entry (IsPart files lower) parts (All-map (IsSoundPart files lower) (λ g. IsPart files lower (part_entry g)) parts (λ g s. s.leads) b.each)
+  root_parts = all_over part_entry (IsPart files lower) parts (all_map (IsSoundPart files lower) (λ g. IsPart files lower (part_entry g)) parts (λ g s. s.leads) b.each)
 
   pub root_each : AllByRecursion (IsOfFolder files []) (map part_entry parts)
   root_each = of_one_folder files lower [] parts b.each (root_folders parts b.nested inside)
@@ -352,7 +352,7 @@ written honest files parts old mid new id body closes inside is named size put =
   trees = root_trees files closes.more parts closes.building inside;
   is = named ∙ ap (object_name kinds.Tree) is;
   listed = root_listed files closes.more parts closes.building inside;
-  fits = all_join Fits closes.more (map part_entry parts ∷ []) closes.fits (subst (λ (t : List ℕ). length t ≤ 16777216) is size, tt);
+  fits = all_append Fits closes.more (map part_entry parts ∷ []) closes.fits (subst (λ (t : List ℕ). length t ≤ 16777216) is size, tt);
   stored = λ h. stored_then old mid new closes.more (map part_entry parts ∷ []) (closes.stored h) (stored_one mid new id body (map part_entry parts) is named (put h));
 }
 

@@ -1,5 +1,5 @@
 -- The tree of paths that is made of all files at once.
-use Rattle.std.proofs.Common.{◌≡◌, ℕ, T, Less, cond, List, [], ◌∷◌, ◌++◌, Option, Some, None, sym, ap, refl, ◌∙◌, subst, ◌⊎◌, inl, inr}
+use Rattle.std.proofs.Common.{◌≡◌, ℕ, T, Less, cond, List, ◌∷◌, ◌++◌, Option, Some, None, sym, ap, refl, ◌∙◌, subst, ◌⊎◌, inl, inr, []}
 use Rattle.std.specs.Prelude.{Vec, IsSome, is_some}
 use Rattle.std.specs.Global.{Global}
 use Rattle.std.specs.BTreeMap.{BTreeMap, is_at, IsFromIterResult}
@@ -16,13 +16,14 @@ use Rattle.std.proofs.lemmas.List.Sums.{fold-append}
 use Rattle.std.proofs.lemmas.Map.Keys.{IsDistinct-from_sorted}
 use Rattle.std.proofs.lemmas.Map.Entries.{place_from_lookup}
 use Rattle.std.proofs.lemmas.Map.Made.{update_all_none}
-use Rattle.vc_files.proofs.KeyLemmas.{both_parts, less_of}
+use Rattle.vc_files.proofs.KeyLemmas.{less_of}
 use Rattle.vc_index.specs.IndexMap.{IndexMap, index_of}
 use Rattle.vc_index.specs.Reading.{AreInOrder, index_with, pairs, with_files}
 use Rattle.vc_index.specs.declared.entry.IndexEntry.{IndexEntry}
 use Rattle.vc_index.proofs.EntriesLemmas.{AllBefore, back, entries_last}
 use Rattle.vc_index.proofs.ConflictLemmas.{key_of}
 use Rattle.vc_index.proofs.MapLemmas.{Entries, find_view, get-index_of, get-insert_same, got, key_cmp, no_some, same_text}
+use Rattle.vc_lemmas.proofs.Lists.{both_parts}
 
 all_behind : (k : Vec ℕ Global) (es : Entries) → T (below_all (slice_cmp nat_cmp) k.items (pairs es)) → AllByRecursion (λ y. key_cmp k y ≡ Less) (keys_of es)
 all_behind k [] h = tt

@@ -1,5 +1,5 @@
 -- A cursor that moves on, and what it finds.
-use Rattle.std.proofs.Common.{◌≡◌, ℕ, T, false, cond, List, [], ◌∷◌, ◌++◌, Option, Some, None, sym, ap, refl, ◌∙◌, subst, append_assoc, append-nil}
+use Rattle.std.proofs.Common.{◌≡◌, ℕ, T, false, cond, List, ◌∷◌, ◌++◌, Option, Some, None, sym, ap, refl, ◌∙◌, subst, append_assoc, append-nil, []}
 use Rattle.std.specs.Prelude.{MatchOption, Vec}
 use Rattle.std.specs.Global.{Global}
 use Rattle.std.specs.FinMap.{entries, entries_sorted, find, get, get-entries, is_sorted}
@@ -9,8 +9,8 @@ use Rattle.std.specs.Ordering.{nat_cmp, is_eq, is_gt, ordering_reverse}
 use Rattle.std.specs.declared.cmp.Ordering.TheVariants.{Less, Equal, Greater}
 use Rattle.std.specs.Cmp.{tied_itself}
 use Rattle.std.specs.Cmp.Lexicographic.{slice_cmp, nat_list_cmp_total}
-use Rattle.vc_files.proofs.KeyLemmas.{both_parts, less_of}
-use Rattle.vc_object.proofs.Order.{All-map, All-push}
+use Rattle.vc_files.proofs.KeyLemmas.{less_of}
+use Rattle.vc_object.proofs.Order.{All-push}
 use Rattle.vc_index.specs.Cursor.{IsCursor, ahead}
 use Rattle.vc_index.specs.IndexMap.{IndexMap}
 use Rattle.vc_index.specs.Reading.{pairs}
@@ -18,6 +18,7 @@ use Rattle.vc_index.specs.declared.entry.IndexEntry.{IndexEntry}
 use Rattle.vc_index.proofs.EntriesLemmas.{AllBefore, find_all, get_all, get_mid, le_less, mid_before}
 use Rattle.vc_index.proofs.MapLemmas.{same_text}
 use denote.Ref.{Bor}
+use Rattle.vc_lemmas.proofs.Lists.{both_parts, all_map}
 
 behind_all : (k : List ℕ) (hs : List (List ℕ × IndexEntry)) → T (below_all (slice_cmp nat_cmp) k hs) → AllByRecursion (λ (e : List ℕ × IndexEntry). slice_cmp nat_cmp k e.0 ≡ Less) hs
 behind_all k [] h = tt
@@ -42,7 +43,7 @@ find_past q (e ∷ es) hs before =
 
 module _ (m : IndexMap) (last path : List ℕ) (rest : List (Vec ℕ Global × IndexEntry)) (less : slice_cmp nat_cmp last path ≡ Less) where
   passed_before : (here : Option (Bor (Vec ℕ Global) × Bor IndexEntry)) (at : IsCursor m last here rest) → AllBefore path at.passed
-  passed_before here at = All-map _ _ at.passed (λ e le. le_less e.0 last path le less) at.below
+  passed_before here at = all_map _ _ at.passed (λ e le. le_less e.0 last path le less) at.below
 
   -- behind all
   pub cursor_end : (here : Option (Bor (Vec ℕ Global) × Bor IndexEntry)) → here ≡ None → IsCursor m last here rest → None ≡ get m path
@@ -74,7 +75,7 @@ module _ (m : IndexMap) (last path : List ℕ) (rest : List (Vec ℕ Global × I
     passed_on : AllByRecursion (λ (e : List ℕ × IndexEntry). is_gt (slice_cmp nat_cmp e.0 key.now.items) ≡ false) (at.passed ++ (key.now.items, entry.now) ∷ [])
     passed_on =
         All-push _ at.passed (key.now.items, entry.now)
-        (All-map _ _ at.passed (λ e before. ap is_gt before) (mid_before m at.passed (pairs rest) key.now.items entry.now whole))
+        (all_map _ _ at.passed (λ e before. ap is_gt before) (mid_before m at.passed (pairs rest) key.now.items entry.now whole))
         (ap is_gt (tied_itself nat_list_cmp_total key.now.items))
 
     pub cursor_on : (next : Option (Bor (Vec ℕ Global) × Bor IndexEntry)) (others : List (Vec ℕ Global × IndexEntry)) → MatchOption next ((rest ≡ []) × (others ≡ [])) (λ x. rest ≡ (x.0.now, x.1.now) ∷ others) → IsCursor m key.now.items next others

@@ -1,15 +1,16 @@
 -- The entries of an index, in the order of their paths.
-use Rattle.std.proofs.Common.{◌≡◌, ℕ, true, false, cond, T, List, [], ◌∷◌, ◌++◌, Some, sym, ap, refl, ◌∙◌, subst, append_assoc}
+use Rattle.std.proofs.Common.{◌≡◌, ℕ, true, false, cond, T, List, ◌∷◌, ◌++◌, Some, sym, ap, refl, ◌∙◌, subst, append_assoc, []}
 use Rattle.std.specs.List.{AllByRecursion}
 use Rattle.std.specs.FinMap.{find, is_sorted, get, insert, entries, entries_sorted, get-entries, entries-insert}
 use Rattle.std.specs.FinMap.Entries.{put, by_order, below_all}
 use Rattle.std.specs.Ordering.{nat_cmp, is_eq, is_gt, ordering_reverse}
 use Rattle.std.specs.declared.cmp.Ordering.TheVariants.{Less, Equal, Greater}
 use Rattle.std.specs.Cmp.Lexicographic.{slice_cmp, nat_list_cmp_total}
-use Rattle.vc_files.proofs.KeyLemmas.{both_parts, less_of}
+use Rattle.vc_files.proofs.KeyLemmas.{less_of}
 use Rattle.vc_index.specs.IndexMap.{IndexMap}
 use Rattle.vc_index.specs.declared.entry.IndexEntry.{IndexEntry}
 use Rattle.vc_index.proofs.MapLemmas.{same_text, is_eq-same}
+use Rattle.vc_lemmas.proofs.Lists.{both_parts}
 
 -- all come before the path
 abbrev pub AllBefore : List ℕ → List (List ℕ × IndexEntry) → Type 0

@@ -1,5 +1,5 @@
 -- The files that the last path begins with, and which file the next path may lie in.
-use Rattle.std.proofs.Common.{◌≡◌, ◌≢◌, ℕ, ◌<◌, ◌≤◌, Bool, true, false, ◌||◌, List, [], ◌∷◌, ◌++◌, Option, Some, None, suc, ◌+◌, sym, ap, refl, ◌∙◌, subst, length, take, get_or, arith, length-append, ◌⊎◌, inl, inr}
+use Rattle.std.proofs.Common.{◌≡◌, ◌≢◌, ℕ, ◌<◌, ◌≤◌, Bool, true, false, ◌||◌, List, ◌∷◌, ◌++◌, Option, Some, None, suc, ◌+◌, sym, ap, refl, ◌∙◌, subst, length, take, get_or, arith, length-append, ◌⊎◌, inl, inr, []}
 use Rattle.std.specs.Prelude.{IsSome, IsTrue, bytes_eq, map, nat_eq}
 use Rattle.std.specs.List.{list_any, starts_with}
 use Rattle.std.specs.FinMap.{get}
@@ -17,12 +17,10 @@ use Rattle.vc_index.specs.Reading.{IsFront, IsReadTo, has_front}
 use Rattle.vc_index.proofs.ConflictLemmas.{begins_between, above_cut, cut_above}
 use Rattle.vc_index.proofs.EntriesLemmas.{get_all}
 use denote.Ref.{Bor}
+use Rattle.vc_lemmas.proofs.Texts.{bytes_eq_same}
 
 bytes_same : (a b : List ℕ) → bytes_eq a b ≡ true → a ≡ b
 bytes_same a b e = (bytes_eq-Decides a b).0 e
-
-bytes_itself : (a : List ℕ) → bytes_eq a a ≡ true
-bytes_itself a = (bytes_eq-Decides a a).1 refl
 
 -- texts that are lent
 pub lent_fronts : (fronts : List (Bor (List ℕ))) (path : List ℕ) → list_any (λ y. bytes_eq y.now path) fronts ≡ has_front (map (λ front. front.now) fronts) path
@@ -43,7 +41,7 @@ or_right true b h = refl
 or_right false b h = h
 
 pub front_last : (fronts : List (List ℕ)) (x : List ℕ) → IsTrue (has_front (fronts ++ x ∷ []) x)
-front_last [] x = ap (λ b. b || false) (bytes_itself x)
+front_last [] x = ap (λ b. b || false) (bytes_eq_same x)
 front_last (y ∷ fronts) x = or_right (bytes_eq y x) _ (front_last fronts x)
 
 -- it is one of those before, or the last

@@ -1,5 +1,5 @@
 -- How an index is read from a tree, entry by entry.
-use Rattle.std.proofs.Common.{◌≡◌, ◌≢◌, ℕ, zero, suc, ◌<◌, ◌≤◌, ◌-◌, ◌+◌, ◌*◌, true, List, [], ◌∷◌, ◌++◌, map, reverse, Option, Some, None, refl, ap, sym, ◌∙◌, subst, ⊎_elim, ◌⊎◌, inl, inr, append_assoc, length, arith, length-append, ◌↔◌, add-one, zero-add}
+use Rattle.std.proofs.Common.{◌≡◌, ◌≢◌, ℕ, zero, suc, ◌<◌, ◌≤◌, ◌-◌, ◌+◌, ◌*◌, true, List, ◌∷◌, ◌++◌, map, reverse, Option, Some, None, refl, ap, sym, ◌∙◌, subst, ⊎_elim, ◌⊎◌, inl, inr, append_assoc, length, arith, length-append, ◌↔◌, add-one, zero-add, []}
 use Rattle.std.specs.List.{AllByRecursion, join_with_byte}
 use Rattle.std.specs.FinMap.{get, insert, empty, get-empty}
 use Rattle.std.specs.Ordering.{nat_cmp}
@@ -35,9 +35,10 @@ use Rattle.vc_index.specs.TreeFiles.{IsTreeAt, HasEntry, IsFileOfTree}
 use Rattle.vc_index.specs.declared.entry.IndexEntry.{IndexEntry}
 use Rattle.vc_index.proofs.FileLemmas.{one_file, no_file_below, has_front, has_back, has_parts, opened, closed, name_of_entry}
 use Rattle.vc_index.proofs.MapLemmas.{got, get-insert_same}
-use Rattle.vc_index.proofs.PartLemmas.{names_plain, names_parted, all_parts, all_join}
+use Rattle.vc_index.proofs.PartLemmas.{names_plain, names_parted, all_parts}
 use Rattle.std.proofs.Math.Nat.{mul-le-mul_right, suc-mul}
 use Rattle.std.specs.Prelude.{is_some}
+use Rattle.vc_lemmas.proofs.Lists.{all_append}
 
 -- ---- an entry of a folder is an entry of the tree
 reach_more : (objects : ObjectMap) (es : List Entry) (names : List (List ℕ)) (folder : ObjectId) (inner : List Entry) (mode : Mode) (name : List ℕ) (id : ObjectId)
@@ -96,7 +97,7 @@ module _ (objects : ObjectMap) (path : List ℕ) (mode : Mode) (id : ObjectId) w
 
 pub all_reverse : {X : Type 0} (P : X → Type 0) (xs : List X) → AllByRecursion P xs → AllByRecursion P (reverse xs)
 all_reverse P [] a = tt
-all_reverse P (x ∷ xs) a = subst (AllByRecursion P) (sym (reverse-cons x xs)) (all_join P (reverse xs) (x ∷ []) (all_reverse P xs a.1) (a.0, tt))
+all_reverse P (x ∷ xs) a = subst (AllByRecursion P) (sym (reverse-cons x xs)) (all_append P (reverse xs) (x ∷ []) (all_reverse P xs a.1) (a.0, tt))
 
 -- ---- what has been read so far
 pub record Loading (objects : ObjectMap) (root : ObjectId) (items : List Pair) (m : IndexMap) : Type 0 where
@@ -212,7 +213,7 @@ module _ (objects : ObjectMap) (root : ObjectId) (items : List Pair) (path : Lis
               (λ got. inr got)
               ((l.same q mode id).1 f),
         );
-    each = all_join (λ (e : Pair). IsEntryOfTree objects root e.0 e.1.mode e.1.id) items more (all_parts (λ (e : Pair). IsEntryOfTree objects root e.0 e.1.mode e.1.id) items ((path, entry) ∷ []) l.each).0
+    each = all_append (λ (e : Pair). IsEntryOfTree objects root e.0 e.1.mode e.1.id) items more (all_parts (λ (e : Pair). IsEntryOfTree objects root e.0 e.1.mode e.1.id) items ((path, entry) ∷ []) l.each).0
         (subst (AllByRecursion (λ (e : Pair). IsEntryOfTree objects root e.0 e.1.mode e.1.id)) (sym is)
         (all_reverse (λ (e : Pair). IsEntryOfTree objects root e.0 e.1.mode e.1.id) (map (placed (under path)) es) (entries_each es es at tree (λ e h. h))));
   }
@@ -225,7 +226,7 @@ placed_names : (path : List ℕ) (entry : IndexEntry) (name : List ℕ) → IsNa
 placed_names [] entry name n h = subst (AllByRecursion IsName) (sym (names_plain name n.no_slash)) (n, tt)
 placed_names (x ∷ path) entry name n h = ⊎_elim
     (λ none. let e = none.0 in absurd (cc e))
-    (λ all. subst (AllByRecursion IsName) (sym (names_parted (x ∷ path) name n.no_slash)) (all_join IsName (names_in (x ∷ path)) (name ∷ []) all (n, tt)))
+    (λ all. subst (AllByRecursion IsName) (sym (names_parted (x ∷ path) name n.no_slash)) (all_append IsName (names_in (x ∷ path)) (name ∷ []) all (n, tt)))
     h
 
 named_entries : (path : List ℕ) (entry : IndexEntry) (es : List Entry) → IsNamed (path, entry) → AllByRecursion IsEntry es → AllByRecursion IsNamed (map (placed (under path)) es)
@@ -235,7 +236,7 @@ named_entries path entry (e ∷ es) h a = (inr (placed_names path entry e.name a
 pub named_more : (path : List ℕ) (entry : IndexEntry) (es : List Entry) (items more : List Pair) → AllByRecursion IsNamed (items ++ (path, entry) ∷ []) → IsTree es → more ≡ reverse (map (placed (under path)) es) → AllByRecursion IsNamed (items ++ more)
 named_more path entry es items more named tree is =
     let parts = all_parts IsNamed items ((path, entry) ∷ []) named in
-    all_join IsNamed items more parts.0 (subst (AllByRecursion IsNamed) (sym is) (all_reverse IsNamed (map (placed (under path)) es) (named_entries path entry es parts.1.0 tree.legal)))
+    all_append IsNamed items more parts.0 (subst (AllByRecursion IsNamed) (sym is) (all_reverse IsNamed (map (placed (under path)) es) (named_entries path entry es parts.1.0 tree.legal)))
 
 -- ---- the work that is left: no item can have so many entries below as an item one level up counts for
 weight : ℕ → ℕ

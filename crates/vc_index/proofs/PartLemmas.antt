@@ -1,5 +1,5 @@
 -- How parts of folders become a tree.
-use Rattle.std.proofs.Common.{◌≡◌, ◌≢◌, ℕ, suc, ◌<◌, ◌≤◌, ◌-◌, ◌+◌, List, [], ◌∷◌, ◌++◌, map, Some, refl, ap, sym, ◌∙◌, subst, ⊎_elim, ◌⊎◌, inl, inr, append_assoc, append-nil, length, drop, get_or, arith, length-append, ◌↔◌, true, false, cond, ◌==◌}
+use Rattle.std.proofs.Common.{◌≡◌, ◌≢◌, ℕ, suc, ◌<◌, ◌≤◌, ◌-◌, ◌+◌, List, ◌∷◌, ◌++◌, map, Some, refl, ap, sym, ◌∙◌, subst, ⊎_elim, ◌⊎◌, inl, inr, append_assoc, append-nil, length, drop, get_or, arith, length-append, ◌↔◌, true, false, cond, ◌==◌, []}
 use Rattle.std.specs.Prelude.{slice_get, IsSome, is_some}
 use Rattle.std.specs.List.{AllByRecursion, onto_first}
 use Rattle.std.proofs.lemmas.List.{drop_more}
@@ -13,7 +13,6 @@ use Rattle.vc_object.specs.declared.kind.Kind.TheVariants as kinds
 use Rattle.vc_object.specs.declared.mode.Mode.{Mode}
 use Rattle.vc_object.specs.declared.mode.Mode.TheVariants as modes
 use Rattle.vc_object.proofs.Texts.{agreeing, ne-eqb, no_cut}
-use Rattle.vc_object.proofs.Order.{All-map}
 use Rattle.vc_index.specs.Building.{Begins, Nested, place, ComesFirst, InPlaces, IsLeft, IsSoundPart, HasOver, ArePartTrees, Building}
 use Rattle.vc_index.specs.FolderTrees.{NamesAll, AreJoined, AreFolderTrees}
 use Rattle.vc_index.specs.HeldFiles.{Pair, under, HasFile, placed}
@@ -27,6 +26,7 @@ use Rattle.vc_index.proofs.CoverLemmas.{over_front, over_back, over_parts, over_
 use Rattle.vc_index.proofs.FileLemmas.{has_front, has_back, has_parts, opened, closed}
 use Rattle.vc_index.proofs.FolderLemmas.{joined_parts, joined_push, joined_entries, parts_more}
 use Rattle.vc_index.proofs.PlaceLemmas.{entries_order, places_closed, places_parts, part_place, front_places, back_places}
+use Rattle.vc_lemmas.proofs.Lists.{all_append, all_map}
 
 -- ---- lists
 pub more_inside : {X : Type 0} (P : X → Type 0) (xs : List X) (n : ℕ) (d : X) → 0 < n → n ≤ length xs → P (get_or xs (n - 1) d) → AllByRecursion P (drop n xs) → AllByRecursion P (drop (n - 1) xs)
@@ -37,10 +37,6 @@ more_inside P xs n d some fits p all =
 pub all_parts : {X : Type 0} (P : X → Type 0) (xs ys : List X) → AllByRecursion P (xs ++ ys) → AllByRecursion P xs × AllByRecursion P ys
 all_parts P [] ys a = (tt, a)
 all_parts P (x ∷ xs) ys a = let r = all_parts P xs ys a.1 in ((a.0, r.0), r.1)
-
-pub all_join : {X : Type 0} (P : X → Type 0) (xs ys : List X) → AllByRecursion P xs → AllByRecursion P ys → AllByRecursion P (xs ++ ys)
-all_join P [] ys a b = b
-all_join P (x ∷ xs) ys a b = (a.0, all_join P xs ys a.1 b)
 
 all_both : {X : Type 0} (P Q : X → Type 0) (xs : List X) → AllByRecursion P xs → AllByRecursion Q xs → AllByRecursion (λ x. P x × Q x) xs
 all_both P Q [] a b = tt
@@ -182,10 +178,10 @@ nested_front (g ∷ xs) ys n = ((all_parts (λ (h : Part). Begins g.folder.now h
 
 pub nested_push : (front : List Part) (part : Part) → Nested front → AllByRecursion (λ g. Begins g.folder.now part.folder.now) front → Nested (front ++ part ∷ [])
 nested_push [] part n a = (tt, tt)
-nested_push (g ∷ front) part n a = (all_join (λ (h : Part). Begins g.folder.now h.folder.now) front (part ∷ []) n.0 (a.0, tt), nested_push front part n.1 a.1)
+nested_push (g ∷ front) part n a = (all_append (λ (h : Part). Begins g.folder.now h.folder.now) front (part ∷ []) n.0 (a.0, tt), nested_push front part n.1 a.1)
 
 -- ---- trees that are stored
-tree_more : (trees more : List (List Entry)) (id : ObjectId) → IsTreeOf trees id → IsTreeOf (trees ++ more) id
+pub tree_more : (trees more : List (List Entry)) (id : ObjectId) → IsTreeOf trees id → IsTreeOf (trees ++ more) id
 tree_more [] more id h = absurd h
 tree_more (t ∷ trees) more id h = ⊎_elim (λ x. inl x) (λ x. inr (tree_more trees more id x)) h
 
@@ -221,13 +217,13 @@ under_some (x ∷ d) n = refl
 -- the parts of one folder are a tree's entries
 pub run_tree : (files : IndexMap) (trees : List (List Entry)) (folder : List ℕ) (run : List Part) → AllByRecursion (IsSoundPart files trees) run → AllByRecursion (λ g. g.folder.now ≡ folder) run → InPlaces (map part_pair run) → IsTree (map part_entry run)
 run_tree files trees folder run sound at order = record {
-  legal = all_over part_entry IsEntry run (All-map (IsSoundPart files trees) (λ g. IsEntry (part_entry g)) run (part_IsEntry files trees) sound);
+  legal = all_over part_entry IsEntry run (all_map (IsSoundPart files trees) (λ g. IsEntry (part_entry g)) run (part_IsEntry files trees) sound);
   order = entries_order folder run at order;
 }
 
 pub of_one_folder : (files : IndexMap) (trees : List (List Entry)) (folder : List ℕ) (run : List Part) → AllByRecursion (IsSoundPart files trees) run → AllByRecursion (λ g. g.folder.now ≡ folder) run → AllByRecursion (IsOfFolder files folder) (map part_entry run)
 of_one_folder files trees folder run sound at = all_over part_entry (IsOfFolder files folder) run
-    (All-map (λ g. IsSoundPart files trees g × (g.folder.now ≡ folder)) (λ g. IsOfFolder files folder (part_entry g)) run (λ g h. subst (λ (f : List ℕ). IsOfFolder files f (part_entry g)) h.1 h.0.of_folder) (all_both (IsSoundPart files trees) (λ g. g.folder.now ≡ folder) run sound at))
+    (all_map (λ g. IsSoundPart files trees g × (g.folder.now ≡ folder)) (λ g. IsOfFolder files folder (part_entry g)) run (λ g h. subst (λ (f : List ℕ). IsOfFolder files f (part_entry g)) h.1 h.0.of_folder) (all_both (IsSoundPart files trees) (λ g. g.folder.now ≡ folder) run sound at))
 
 module _ (files : IndexMap) (trees : List (List Entry)) (rest : List Pair) (before run : List Part) (front : List Part) (last : Part) (d : List ℕ)
     (b : Building files trees (before ++ run) rest)
@@ -246,11 +242,11 @@ module _ (files : IndexMap) (trees : List (List Entry)) (rest : List Pair) (befo
     fronts : AllByRecursion (λ g. Begins g.folder.now (d ++ 47 ∷ [])) (before ++ run)
     fronts =
         let f = subst (λ (t : List ℕ). AllByRecursion (λ (g : Part). Begins g.folder.now t) (before ++ front)) folder (nested_last (before ++ front) last whole) in
-        let l = subst (λ (gs : List Part). AllByRecursion (λ (g : Part). Begins g.folder.now (d ++ 47 ∷ [])) gs) (append_assoc before front (last ∷ []) ∙ ap (λ r. before ++ r) (sym ends)) (all_join (λ (g : Part). Begins g.folder.now (d ++ 47 ∷ [])) (before ++ front) (last ∷ []) f (([], sym folder ∙ sym (append-nil last.folder.now)), tt)) in
+        let l = subst (λ (gs : List Part). AllByRecursion (λ (g : Part). Begins g.folder.now (d ++ 47 ∷ [])) gs) (append_assoc before front (last ∷ []) ∙ ap (λ r. before ++ r) (sym ends)) (all_append (λ (g : Part). Begins g.folder.now (d ++ 47 ∷ [])) (before ++ front) (last ∷ []) f (([], sym folder ∙ sym (append-nil last.folder.now)), tt)) in
         l
 
     in_folder : AllByRecursion (λ g. g.folder.now ≡ d ++ 47 ∷ []) run
-    in_folder = All-map (λ g. Begins g.folder.now (d ++ 47 ∷ []) × (length g.folder.now ≡ length (d ++ 47 ∷ []))) (λ g. g.folder.now ≡ d ++ 47 ∷ []) run
+    in_folder = all_map (λ g. Begins g.folder.now (d ++ 47 ∷ []) × (length g.folder.now ≡ length (d ++ 47 ∷ []))) (λ g. g.folder.now ≡ d ++ 47 ∷ []) run
         (λ g h. begins_same g.folder.now (d ++ 47 ∷ []) h.0 h.1)
         (all_both (λ g. Begins g.folder.now (d ++ 47 ∷ [])) (λ g. length g.folder.now ≡ length (d ++ 47 ∷ [])) run (all_parts (λ (g : Part). Begins g.folder.now (d ++ 47 ∷ [])) before run fronts).1 inside)
 
@@ -268,8 +264,8 @@ module _ (files : IndexMap) (trees : List (List Entry)) (rest : List Pair) (befo
         let less : length l.1.folder.now < length (d ++ 47 ∷ []) = let k = begins_length l.1.folder.now (d ++ 47 ∷ []) lb in omega (arith, k, apart) in
         let nest = nested_last l.0 l.1 (subst Nested l.2 (nested_front before run b.nested)) in
         subst (AllByRecursion (λ g. length g.folder.now < length (d ++ 47 ∷ []))) (sym l.2)
-        (all_join (λ (g : Part). length g.folder.now < length (d ++ 47 ∷ [])) l.0 (l.1 ∷ [])
-        (All-map (λ g. Begins g.folder.now l.1.folder.now) (λ g. length g.folder.now < length (d ++ 47 ∷ [])) l.0 (λ g h. let k = begins_length g.folder.now l.1.folder.now h in omega (arith, k, less)) nest)
+        (all_append (λ (g : Part). length g.folder.now < length (d ++ 47 ∷ [])) l.0 (l.1 ∷ [])
+        (all_map (λ g. Begins g.folder.now l.1.folder.now) (λ g. length g.folder.now < length (d ++ 47 ∷ [])) l.0 (λ g h. let k = begins_length g.folder.now l.1.folder.now h in omega (arith, k, less)) nest)
         (less, tt)))
         (by_last before)
 
@@ -318,7 +314,7 @@ module _ (files : IndexMap) (trees : List (List Entry)) (rest : List Pair) (befo
         last_sound.of_folder
 
     pub run_parts : AllByRecursion (IsPart files trees) es
-    run_parts = all_over part_entry (IsPart files trees) run (All-map (IsSoundPart files trees) (λ g. IsPart files trees (part_entry g)) run (λ g s. s.leads) each_run)
+    run_parts = all_over part_entry (IsPart files trees) run (all_map (IsSoundPart files trees) (λ g. IsPart files trees (part_entry g)) run (λ g s. s.leads) each_run)
 
     pub below_new : AreLowerTrees files [] (trees ++ map part_entry run ∷ [])
     below_new = lower_more files [] trees es b.below run_some tree run_parts
@@ -347,7 +343,7 @@ module _ (files : IndexMap) (trees : List (List Entry)) (rest : List Pair) (befo
 
         nested_new : Nested (before ++ new ∷ [])
         nested_new = nested_push before new (nested_front before run b.nested)
-            (All-map (λ g. (Begins g.folder.now (d ++ 47 ∷ []) × (length g.folder.now < length (d ++ 47 ∷ []))) × IsSoundPart files trees g) (λ g. Begins g.folder.now new.folder.now) before
+            (all_map (λ g. (Begins g.folder.now (d ++ 47 ∷ []) × (length g.folder.now < length (d ++ 47 ∷ []))) × IsSoundPart files trees g) (λ g. Begins g.folder.now new.folder.now) before
             (λ g h.
             let short = shorter_begins g.folder.now d h.0.0 h.0.1 in
             folder_begins g.folder.now short.0 new.folder.now new.name.now h.1.ends (sym short.1 ∙ sym is_new) plain_new)
@@ -361,7 +357,7 @@ module _ (files : IndexMap) (trees : List (List Entry)) (rest : List Pair) (befo
 
         -- what lies before lies not in the folder
         outside : AllByRecursion (λ g. Begins (d ++ 47 ∷ []) (g.folder.now ++ g.name.now) → ⊥) before
-        outside = All-map (λ g. (length g.folder.now < length (d ++ 47 ∷ [])) × IsSoundPart files trees g) (λ g. Begins (d ++ 47 ∷ []) (g.folder.now ++ g.name.now) → ⊥) before
+        outside = all_map (λ g. (length g.folder.now < length (d ++ 47 ∷ [])) × IsSoundPart files trees g) (λ g. Begins (d ++ 47 ∷ []) (g.folder.now ++ g.name.now) → ⊥) before
             (λ g h begins.
             let into = folder_begins (d ++ 47 ∷ []) begins.0 g.folder.now g.name.now (inr (d, refl)) (sym begins.1) h.1.plain in
             let n = begins_length (d ++ 47 ∷ []) g.folder.now into in
@@ -455,7 +451,7 @@ module _ (files : IndexMap) (trees : List (List Entry)) (rest : List Pair) (befo
         building_new = record {
           same_files = new_files;
           below = below_new;
-          each = all_join (IsSoundPart files (trees ++ es ∷ [])) before (new ∷ []) (All-map (IsSoundPart files trees) (IsSoundPart files (trees ++ es ∷ [])) before (λ g s. sound_more files trees (es ∷ []) g s) each_before) (new_sound, tt);
+          each = all_append (IsSoundPart files (trees ++ es ∷ [])) before (new ∷ []) (all_map (IsSoundPart files trees) (IsSoundPart files (trees ++ es ∷ [])) before (λ g s. sound_more files trees (es ∷ []) g s) each_before) (new_sound, tt);
           nested = nested_new;
           order = subst InPlaces (sym grouped_pairs) closed_order;
           levels = suc b.levels;

@@ -1,6 +1,6 @@
 -- How an index is read from its text, entry by entry.
-use Rattle.std.proofs.Common.{◌≡◌, ◌≢◌, ℕ, suc, ◌<◌, ◌-◌, true, false, List, [], ◌∷◌, ◌++◌, Option, Some, None, sym, ap, refl, ◌∙◌, subst, length, arith, append_assoc, length-append, append-nil, inl, inr, ⊎_elim}
-use Rattle.std.specs.Prelude.{IsSome, IsTrue, is_some, unwrap_or, ◌==◌}
+use Rattle.std.proofs.Common.{◌≡◌, ◌≢◌, ℕ, suc, ◌<◌, ◌-◌, true, false, List, ◌∷◌, ◌++◌, Option, Some, None, sym, ap, refl, ◌∙◌, subst, length, arith, append_assoc, length-append, append-nil, inl, inr, ⊎_elim, []}
+use Rattle.std.specs.Prelude.{IsSome, IsTrue, unwrap_or, ◌==◌}
 use Rattle.std.specs.List.{AllByRecursion, flat_map, join_with_byte}
 use Rattle.std.specs.FinMap.{get, get-empty, insert, empty, entries}
 use Rattle.std.specs.Ordering.{nat_cmp, is_gt}
@@ -14,7 +14,7 @@ use Rattle.vc_object.specs.Bytes.{Without}
 use Rattle.vc_object.specs.ObjectId.{is_id}
 use Rattle.vc_object.specs.Tree.{IsName}
 use Rattle.vc_object.proofs.Texts.{Without-append}
-use Rattle.vc_object.proofs.Order.{All-map, All-push}
+use Rattle.vc_object.proofs.Order.{All-push}
 use Rattle.vc_index.specs.Path.{IsPath, names_in}
 use Rattle.vc_index.specs.IndexMap.{IndexMap, IsFile, HasConflict, HasFileAbove}
 use Rattle.vc_index.specs.IndexText.{entry_text, index_text, entry_at, MayFollow, TextFault}
@@ -25,6 +25,7 @@ use Rattle.vc_index.proofs.MapLemmas.{insert-IsIndex, empty-IsIndex, entries-emp
 use Rattle.vc_index.proofs.ConflictLemmas.{not_after}
 use Rattle.vc_index.proofs.EntriesLemmas.{AllBefore, entries_last, get_all, le_less}
 use Rattle.vc_index.proofs.TextLemmas.{IsSpelt, entry_again, entry_some}
+use Rattle.vc_lemmas.proofs.Lists.{some_of, all_map}
 
 -- ---- no path has a NUL
 joined_no_nul : (names : List (List ℕ)) → AllByRecursion IsName names → Without 0 (join_with_byte 47 names)
@@ -64,9 +65,6 @@ read_nothing bytes fronts m no_fronts none = record {
   to = nothing_read fronts m no_fronts none;
 }
 
-pub some_at : {A : Type 0} (o : Option A) (x : A) → o ≡ Some x → IsSome o
-some_at o x e = ap is_some e
-
 -- of these fronts, those that the path begins with
 abbrev pub FrontsKept : List (List ℕ) → List ℕ → List (List ℕ) → Type 0
 FrontsKept fronts path kept =
@@ -75,7 +73,7 @@ FrontsKept fronts path kept =
 
 insert_some : (m : IndexMap) (path : List ℕ) (entry : IndexEntry) (q : List ℕ) → IsSome (get m q) → IsSome (get (insert m path entry) q)
 insert_some m path entry q some = elim (got m path q entry) [
-  | inl same ↦ some_at _ entry (ap (get (insert m path entry)) same ∙ get-insert_same m path entry)
+  | inl same ↦ some_of _ entry (ap (get (insert m path entry)) same ∙ get-insert_same m path entry)
   | inr old ↦ subst IsSome (sym old) some
 ]
 
@@ -91,7 +89,7 @@ less_is_no_more a b e = ap is_gt e
 -- ---- one file more, behind all
 module _ (m : IndexMap) (last : List ℕ) (fronts : List (List ℕ)) (so_far : IsReadTo m last fronts) (path : List ℕ) where
   pub all_before : slice_cmp nat_cmp last path ≡ Less → AllBefore path (entries m)
-  all_before less = All-map _ _ (entries m) (λ e le. le_less e.0 last path le less) so_far.below
+  all_before less = all_map _ _ (entries m) (λ e le. le_less e.0 last path le less) so_far.below
 
   -- no file of the index lies below a path that comes behind all
   free : slice_cmp nat_cmp last path ≡ Less → ¬ (HasFileAbove m path) → ¬ (HasConflict m path)
@@ -121,11 +119,11 @@ module _ (m : IndexMap) (last : List ℕ) (fronts : List (List ℕ)) (so_far : I
       record {
         sound = insert-IsIndex m path entry so_far.sound file (free less none);
         below = subst (AllByRecursion (λ (e : List ℕ × IndexEntry). is_gt (slice_cmp nat_cmp e.0 path) ≡ false)) (sym (entries_last m path entry before))
-            (All-push _ (entries m) (path, entry) (All-map _ _ (entries m) (λ e l. less_is_no_more e.0 path l) before) (ap is_gt (tied_itself nat_list_cmp_total path)));
-        is_last = inr (some_at _ entry (get-insert_same m path entry));
+            (All-push _ (entries m) (path, entry) (all_map _ _ (entries m) (λ e l. less_is_no_more e.0 path l) before) (ap is_gt (tied_itself nat_list_cmp_total path)));
+        is_last = inr (some_of _ entry (get-insert_same m path entry));
         some = λ front h. elim (front_cases kept path front (subst (λ l. IsTrue (has_front l front)) is h)) [
           | inl there ↦ insert_some m path entry front (so_far.some front (keeps.0 front there))
-          | inr same ↦ some_at _ entry (ap (get (insert m path entry)) (sym same) ∙ get-insert_same m path entry)
+          | inr same ↦ some_of _ entry (ap (get (insert m path entry)) (sym same) ∙ get-insert_same m path entry)
         ];
         all = λ front there begins. subst (λ l. IsTrue (has_front l front)) (sym is) (elim (got m path front entry) [
           | inl same ↦ subst (λ (f : List ℕ). IsTrue (has_front (kept ++ path ∷ []) f)) (sym same) (front_last kept path)
@@ -188,10 +186,6 @@ module _ (bytes rest last : List ℕ) (fronts : List (List ℕ)) (m : IndexMap) 
       let pair : ◌≡◌ {A = List ℕ × IndexEntry × List ℕ} (path', entry', more) (path, entry, after) = ap (λ o. unwrap_or {T = List ℕ × IndexEntry × List ℕ} o (path', entry', more)) same in
       bad (subst (λ (f : List ℕ × IndexEntry × List ℕ). (slice_cmp nat_cmp last f.0 ≡ Less) × IsPath f.0 × ¬ (HasFileAbove m f.0)) pair
       (comes_next path' entry' may, may.file.legal, λ above. may.free (above.0, above.1, inl above.2))))
-
-pub not_nothing : (rest : List ℕ) → (length rest == 0) ≡ false → rest ≢ []
-not_nothing [] e n = cc e
-not_nothing (x ∷ rest) e n = cc n
 
 pub nothing : (rest : List ℕ) → (length rest == 0) ≡ true → rest ≡ []
 nothing [] e = refl

@@ -1,5 +1,5 @@
 -- What a tree is read as: one answer at most, and how a walk comes to it.
-use Rattle.std.proofs.Common.{◌≡◌, ◌≢◌, ℕ, ◌<◌, ◌≤◌, List, [], ◌∷◌, ◌++◌, map, reverse, Option, Some, None, Result, Ok, Err, refl, ap, sym, ◌∙◌, subst, ⊎_elim, ◌⊎◌, inl, inr, append_assoc, length, arith, ◌↔◌}
+use Rattle.std.proofs.Common.{◌≡◌, ◌≢◌, ℕ, ◌<◌, ◌≤◌, List, ◌∷◌, ◌++◌, map, reverse, Option, Some, None, Result, Ok, Err, refl, ap, sym, ◌∙◌, subst, ⊎_elim, ◌⊎◌, inl, inr, append_assoc, length, arith, ◌↔◌, []}
 use Rattle.std.specs.Prelude.{IfOk, IfErr, MatchResult, unwrap_or}
 use Rattle.std.specs.List.{AllByRecursion, join_with_byte}
 use Rattle.std.specs.FinMap.{get, same_map, slice_cmp-IsAntisymmetric, nat_cmp-IsAntisymmetric}
@@ -30,7 +30,8 @@ use Rattle.vc_index.specs.declared.loading.Look.{Look}
 use Rattle.vc_index.specs.declared.loading.Look.TheVariants as looks
 use Rattle.vc_index.proofs.FileLemmas.{one_tree}
 use Rattle.vc_index.proofs.LoadLemmas.{all_reverse, entry_below, sought_if_due}
-use Rattle.vc_index.proofs.PartLemmas.{all_parts, all_join}
+use Rattle.vc_index.proofs.PartLemmas.{all_parts}
+use Rattle.vc_lemmas.proofs.Lists.{all_append}
 
 -- ---- one answer
 
@@ -115,7 +116,7 @@ module _ (look : Look) (objects : ObjectMap) where
         no_fault m.0 f (whole m.0.0 m.0.1.mode m.0.1.id here) m.3
     none_met whole (x ∷ p) es f all m =
         let parts = subst (AllByRecursion IsInTree) m.2 all in
-        none_met whole p (m.0 ++ m.1) f (all_join IsInTree m.0 m.1 (inside x m.0 parts.0 m.4) parts.1) m.5
+        none_met whole p (m.0 ++ m.1) f (all_append IsInTree m.0 m.1 (inside x m.0 parts.0 m.4) parts.1) m.5
       where
         inside : (x : Pair) (l : List Pair) → IsInTree x → AreInside objects x l → AllByRecursion IsInTree l
         inside x l there (inl t) = subst (AllByRecursion IsInTree) (sym t.3) (all_in x.0 x.1.id t.1 t.1 (subst (λ (k : Mode). IsEntryOfTree objects root x.0 k x.1.id) t.0 there) t.2 (λ e h. h))
@@ -196,7 +197,7 @@ module _ (look : Look) (objects : ObjectMap) (root : ObjectId) where
 
     pub walk_file : entry.mode ≢ modes.Tree → IsSoundIn look objects (path, entry) → Walks look objects root items
     walk_file file s = record {
-      whole = λ all. w.whole (all_join (IsWhole look objects) items ((path, entry) ∷ []) all (record { sound = λ q mode id at. ⊎_elim (λ here. itself_sound s q mode id here) (λ tree. absurd (file tree.0)) at }, tt));
+      whole = λ all. w.whole (all_append (IsWhole look objects) items ((path, entry) ∷ []) all (record { sound = λ q mode id at. ⊎_elim (λ here. itself_sound s q mode id here) (λ tree. absurd (file tree.0)) at }, tt));
       meets = λ fault passed m. w.meets fault ((path, entry) ∷ passed) ([], reverse items, turned items (path, entry), s, inr (file, refl), m);
     }
 
@@ -213,7 +214,7 @@ module _ (look : Look) (objects : ObjectMap) (root : ObjectId) where
       whole = λ all.
           let parts = all_parts (IsWhole look objects) items more all in
           let inside = subst (AllByRecursion (IsWhole look objects)) back (all_reverse (IsWhole look objects) more parts.1) in
-          w.whole (all_join (IsWhole look objects) items ((path, entry) ∷ []) parts.0 (record { sound = λ q mode id a. ⊎_elim (λ here. itself_sound s q mode id here) (λ t. below inside q mode id t.2 (subst (λ (gs : List Entry). ReachesEntry objects gs t.2 mode id) (one_tree objects entry.id t.1 es t.3 at) t.5) t.4) a }, tt));
+          w.whole (all_append (IsWhole look objects) items ((path, entry) ∷ []) parts.0 (record { sound = λ q mode id a. ⊎_elim (λ here. itself_sound s q mode id here) (λ t. below inside q mode id t.2 (subst (λ (gs : List Entry). ReachesEntry objects gs t.2 mode id) (one_tree objects entry.id t.1 es t.3 at) t.5) t.4) a }, tt));
       meets = λ fault passed m. w.meets fault ((path, entry) ∷ passed)
           (map (placed (under path)) es, reverse items, turned items (path, entry), s, inl (tree, es, at, refl), subst (λ (l : List Pair). MeetsFaultIn look objects passed l fault) (reverse-append items more ∙ ap (λ l. l ++ reverse items) back) m);
     }

@@ -1,5 +1,5 @@
 -- What stands where the writing of an index's trees ends early, and which tree the store did not take.
-use Rattle.std.proofs.Common.{◌≡◌, ◌≢◌, ℕ, ◌<◌, ◌≤◌, ◌-◌, List, [], ◌∷◌, ◌++◌, map, Some, refl, sym, ap, ◌∙◌, subst, append_assoc, append-nil, length, take, drop}
+use Rattle.std.proofs.Common.{◌≡◌, ◌≢◌, ℕ, ◌<◌, ◌≤◌, ◌-◌, List, ◌∷◌, ◌++◌, map, Some, refl, sym, ap, ◌∙◌, subst, append_assoc, append-nil, length, take, drop, []}
 use Rattle.std.specs.Prelude.{slice_get, option_map}
 use Rattle.std.specs.List.{AllByRecursion}
 use Rattle.vc_object.specs.Object.{object_name}
@@ -24,7 +24,7 @@ use Rattle.vc_index.specs.WrittenTrees.{tree_object, AreLowerTrees, HasTooLarge,
 use Rattle.vc_index.specs.declared.trees.Part.{Part}
 use Rattle.vc_index.proofs.ClosingLemmas.{closing_below, closing_each, closing_tree, path, root_each, root_listed, root_tree, stored_then}
 use Rattle.vc_index.proofs.CompletionLemmas.{closed_whole, closed_part, completes}
-use Rattle.vc_index.proofs.PartLemmas.{all_join}
+use Rattle.vc_lemmas.proofs.Lists.{all_append}
 
 -- ---- where a call ends early
 module _ (honest : Type 0) (files : IndexMap) (rest : List Pair) (trees : List (List Entry)) where
@@ -42,7 +42,7 @@ module _ (honest : Type 0) (files : IndexMap) (rest : List Pair) (trees : List (
     more = first.more ++ second.more;
     below = subst (AreLowerTrees files []) (append_assoc trees first.more second.more) second.below;
     first = subst (AreFirstTrees files) (append_assoc trees first.more second.more) second.first;
-    fits = all_join Fits first.more second.more first.fits second.fits;
+    fits = all_append Fits first.more second.more first.fits second.fits;
     stored = λ h. stored_then old now new first.more second.more (first.stored h) (second.stored h);
   }
 
@@ -69,7 +69,7 @@ tree_refused files folder es before after root Damage body (BadObject fault) sou
 tree_refused files folder es before after root Damage body (Absent id) sound each fits listed is put damaged = put
 tree_refused files folder es before after root Damage body (Damaged id) sound each fits listed is put damaged =
     let small : Fits es = subst (λ (t : List ℕ). length t ≤ 16777216) is put.0.size in
-    (record { before = before; entries = es; after = after; root = root; listed = listed; fits = all_join Fits before (es ∷ []) fits (small, tt); is = put.1 ∙ ap (object_name kinds.Tree) is }, damaged id refl)
+    (record { before = before; entries = es; after = after; root = root; listed = listed; fits = all_append Fits before (es ∷ []) fits (small, tt); is = put.1 ∙ ap (object_name kinds.Tree) is }, damaged id refl)
 tree_refused files folder es before after root Damage body (Fault fault) sound each fits listed is put damaged = tt
 
 module _ (files : IndexMap) (trees : List (List Entry)) (rest : List Pair) (parts : List Part) (start : ℕ) (folder : List ℕ)

@@ -25,6 +25,8 @@ use Rattle.vc_push.proofs.Reports.{report_spelled, report_given}
 use Rattle.vc_push.proofs.WrittenPushes.{written_push, written_report}
 use Rattle.vc_message.specs.AnyMessage.{MessageText, a_list, an_advert, a_want, a_pack, a_push, a_report, an_error, SpellsMessage, IsWrittenMessage, message_lines, AnyState, beginning, in_list, in_advert, in_want, in_pack, in_push, in_report, in_error, Read, lifted, as_list, as_advert, as_want, as_pack, as_push, as_report, as_error, or_next, first_step, any_step}
 use Rattle.vc_message.proofs.FirstLines.{list_third, want_third, pack_third, report_third, error_third, push_third, advert_third, push_no_advert, third}
+use Rattle.vc_message.specs.Machine.{TextOf, IsWritten}
+use Rattle.vc_model.specs.Message.{Message}
 
 -- ---- one kind's messages as messages of any
 abbrev mapped : {M : Type 0} → (M → MessageText) → Result M PktFault → Result MessageText PktFault
@@ -204,3 +206,13 @@ written_message (a_pack m) w = written_pack m w
 written_message (a_push m) w = written_push m w
 written_message (a_report m) w = written_report m w
 written_message (an_error m) w = written_error m w
+
+-- a message of the machine that is written so is read as it
+pub written_so : (m : Message) (t : MessageText) (bytes : List ℕ) → TextOf m t → IsWrittenMessage t → bytes ≡ flat_map spelling (message_lines t) → IsWritten m bytes
+written_so m t bytes is written spelled = record {
+  text = t;
+  is = is;
+  written = written;
+  spelled = spelled;
+  reads = record { text = t; is = is; spelled = subst (λ (b : List ℕ). IsSpelledBy SpellsMessage t b) (sym spelled) (written_message t written) };
+}

@@ -16,13 +16,13 @@ use Rattle.vc_message.specs.Machine.{Reads, TextOf}
 use Rattle.vc_message.specs.Streaming.{LeadsTo}
 use Rattle.vc_message.specs.declared.incoming_fault.IncomingFault.TheVariants as incoming
 
-nil_right : (x y : List ℕ) → [] ≡ x ++ y → y ≡ []
-nil_right [] y e = sym e
-nil_right (b ∷ x) y e = absurd (cc e)
+pub rest_of_none : (x y : List ℕ) → [] ≡ x ++ y → y ≡ []
+rest_of_none [] y e = sym e
+rest_of_none (b ∷ x) y e = absurd (cc e)
 
 -- nothing more is within any line
 nothing_within : IsWithinLine []
-nothing_within front more e some = absurd (some (nil_right front more e))
+nothing_within front more e some = absurd (some (rest_of_none front more e))
 
 -- where a message is begun, some of it was taken
 pub part_taken : (before now : Option (List ℕ)) (place number : ℕ) (s : AnyState) → LeadsTo any_step beginning before now place number s → TakesPart before now

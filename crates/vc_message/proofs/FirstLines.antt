@@ -1,6 +1,6 @@
 -- No two kinds take one first line: the third byte of its text tells the word that it begins with, or is a hex digit; and an
 -- advertisement's name holds no space, where a push has one behind its second id.
-use Rattle.std.proofs.Common.{◌≡◌, ℕ, Bool, true, false, cond, List, [], ◌∷◌, ◌++◌, length, Option, Some, None, Result, Ok, Err, refl, ap, sym, ◌∙◌, subst, arith}
+use Rattle.std.proofs.Common.{◌≡◌, ℕ, Bool, true, false, cond, List, ◌∷◌, ◌++◌, length, Option, Some, None, Result, Ok, Err, refl, ap, sym, ◌∙◌, subst, arith, []}
 use Rattle.std.specs.Prelude.{codes, slice_index, option_map}
 use Rattle.std.specs.FinMap.{empty}
 use Rattle.std.specs.List.{AllPass, list_any}
@@ -26,6 +26,7 @@ use Rattle.vc_fetch.specs.Pack.{PackState, PackText, starting, ack_stepped, pack
 use Rattle.vc_fetch.specs.Want.{WantState, WantText, wanting, one_more, want_step}
 use Rattle.vc_fetch.proofs.IdLines.{line_some, first_some}
 use Rattle.vc_fetch.proofs.RefLines.{first_ref_some}
+use Rattle.vc_lemmas.proofs.Lists.{same_head, same_tail}
 use Rattle.vc_push.specs.Push.{CommandText, PushState, PushText, IsFirstCommandLine, commanding, command_line, one_more as more_commands, push_step}
 use Rattle.vc_push.specs.Report.{ReportState, ReportText, unpack_of, unpacked, unpacking, report_step}
 use Rattle.vc_push.proofs.CommandLines.{first_command_some}
@@ -127,11 +128,6 @@ advert_third (text t) x e =
     id_third t h.digits (32 ∷ (p.0.0 ++ h.tail)) p.0.1 h.writes h.spelled
 
 -- ---- a push and an advertisement
-same_head : (a b : ℕ) (as' bs : List ℕ) → a ∷ as' ≡ b ∷ bs → a ≡ b
-same_head a b as' bs e = cc e
-
-same_rest : (a b : ℕ) (as' bs : List ℕ) → a ∷ as' ≡ b ∷ bs → as' ≡ bs
-same_rest a b as' bs e = cc e
 
 zero_no_digit : (c : ℕ) → Digit c → c ≡ 0 → ⊥
 zero_no_digit c d e = let z : is_hex_digit 0 ≡ true = subst Digit e d in cc z
@@ -148,14 +144,14 @@ space_in_name (n ∷ new) [] [] more d plain passed e = cc e
 space_in_name (n ∷ new) [] (b ∷ tail) more d plain passed e =
     zero_no_digit n (All-head Digit n new d) (same_head n b (new ++ 32 ∷ more) tail e ∙ passed)
 space_in_name (n ∷ new) (c ∷ name) tail more d plain passed e =
-    space_in_name new name tail more (All-tail Digit n new d) (or_parts (is_break c) (list_any is_break name) plain).1 passed (same_rest n c (new ++ 32 ∷ more) (name ++ tail) e)
+    space_in_name new name tail more (All-tail Digit n new d) (or_parts (is_break c) (list_any is_break name) plain).1 passed (same_tail n c (new ++ 32 ∷ more) (name ++ tail) e)
 
 -- behind fronts of one length what follows is one
 same_behind : (a b x y : List ℕ) → length a ≡ length b → a ++ x ≡ b ++ y → x ≡ y
 same_behind [] [] x y len e = e
 same_behind [] (b ∷ bs) x y len e = absurd (omega arith)
 same_behind (a ∷ as') [] x y len e = absurd (omega arith)
-same_behind (a ∷ as') (b ∷ bs) x y len e = same_behind as' bs x y (omega arith) (same_rest a b (as' ++ x) (bs ++ y) e)
+same_behind (a ∷ as') (b ∷ bs) x y len e = same_behind as' bs x y (omega arith) (same_tail a b (as' ++ x) (bs ++ y) e)
 
 pub push_no_advert : (line : LineText) (x : Stepped PushState PushText) (y : Stepped RefIds AdvertText) → push_step 0 (commanding []) line ≡ Ok x → advert_step 0 empty line ≡ Ok y → ⊥
 push_no_advert flush x y e f = cc e
@@ -170,5 +166,5 @@ push_no_advert (text t) x y e f =
     let other = decode_sized-ok k.digits 20 ref.1.0 k.writes in
     let more = command.name ++ 0 ∷ h.capabilities in
     let behind = same_behind h.old k.digits (32 ∷ (h.new ++ 32 ∷ more)) (32 ∷ (ref.0 ++ k.tail)) (long ∙ sym other) (sym h.spelled ∙ k.spelled) in
-    let rest = same_rest 32 32 (h.new ++ 32 ∷ more) (ref.0 ++ k.tail) behind in
+    let rest = same_tail 32 32 (h.new ++ 32 ∷ more) (ref.0 ++ k.tail) behind in
     space_in_name h.new ref.0 k.tail more (digits_pass h.new command.new h.writes_new) k.name.plain k.passed rest

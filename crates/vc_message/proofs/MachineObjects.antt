@@ -1,6 +1,6 @@
 -- The objects that a message brings, as the machine has them: they are one set, each stands under its name, and each is a body of its
 -- kind.
-use Rattle.std.proofs.Common.{◌≡◌, ◌≤◌, Bool, true, false, cond, List, [], ◌∷◌, Option, Some, None, Ok, Err, refl, ap, sym, ◌∙◌, subst}
+use Rattle.std.proofs.Common.{◌≡◌, ◌≤◌, Bool, true, false, cond, List, ◌∷◌, Option, Some, None, Ok, Err, refl, ap, sym, ◌∙◌, subst, []}
 use Rattle.std.specs.Prelude.{find, not, option_map, option_and_then, unwrap_or, length}
 use Rattle.std.specs.FinMap.{get, same_map}
 use Rattle.std.specs.Ordering.{is_eq}
@@ -16,6 +16,7 @@ use Rattle.vc_pkt.specs.ObjectStream.{IsStream, is_any}
 use Rattle.vc_pkt.proofs.CarriedOnce.{carried_named}
 use Rattle.vc_fetch.specs.Pack.{PackText, SpellsPack, is_object}
 use Rattle.vc_fetch.proofs.RefMaps.{same_name}
+use Rattle.vc_lemmas.proofs.Lists.{found_passes}
 use Rattle.vc_push.specs.Push.{Carried, PushText, SpellsCarried, SpellsPush, carried_or, only_deletes}
 use Rattle.vc_session.specs.Carrying.{objects_in}
 use Rattle.vc_model.specs.Object.{Id, IsNamed, Kind, Object, Objects}
@@ -51,13 +52,6 @@ pub one_set : (c : Carried) (s u : Objects) → AreBrought c s → AreBrought c 
 one_set c s u a b = same_map nat_list_cmp_total bytes_same s u (λ x. some_once (get s x) (get u x) (a x ∙ sym (b x)))
 
 -- ---- what is found
-pub found_passes : {X : Type 0} (test : X → Bool) (xs : List X) (x : X) → find test xs ≡ Some x → test x ≡ true
-found_passes test [] x e = absurd (none-some x e)
-found_passes {X} test (y ∷ ys) x e = by (test y) refl (found_passes test ys x) e
-  where
-    by : (b : Bool) → test y ≡ b → (find test ys ≡ Some x → test x ≡ true) → cond b (Some y) (find test ys) ≡ Some x → test x ≡ true
-    by true is later e = ap test (sym (same_Some y x e)) ∙ is
-    by false is later e = later e
 
 -- an object of the machine that is brought
 pub record IsOne (c : Carried) (x : Id) (o : Object) : Type 0 where

@@ -1,5 +1,5 @@
 -- The machine's message that a text is: there is one for each text that is spelled, and no other.
-use Rattle.std.proofs.Common.{◌≡◌, ℕ, ◌<◌, ◌≤◌, ◌^◌, Bool, true, false, cond, List, [], ◌∷◌, map, drop, Option, Some, None, Result, Ok, Err, refl, ap, sym, ◌∙◌, subst, arith, ◌⊎◌, inl, inr}
+use Rattle.std.proofs.Common.{◌≡◌, ℕ, ◌<◌, ◌≤◌, ◌^◌, Bool, true, false, cond, List, ◌∷◌, map, drop, Option, Some, None, Result, Ok, Err, refl, ap, sym, ◌∙◌, subst, arith, ◌⊎◌, inl, inr, []}
 use Rattle.std.specs.Prelude.{codes, decimal, find, not, option_and_then, option_map}
 use Rattle.std.specs.FinMap.{FinMap, entries, from_entries, get, get-entries, get-from_entries, same_map}
 use Rattle.std.specs.FinMap as finite
@@ -11,7 +11,7 @@ use Rattle.std.proofs.lemmas.Bool.{not-true}
 use Rattle.std.proofs.lemmas.Fmt.{decimal_injective}
 use Rattle.std.proofs.lemmas.List.{append_cancel_left}
 use Rattle.std.proofs.lemmas.Slice.Eq.{bytes_eq-Decides}
-use Rattle.vc_format.specs.Git.{bytes_of_id, id_of_bytes}
+use Rattle.vc_format.specs.Git.{bytes_of_id}
 use Rattle.vc_object.specs.Decoding.{StoredObject}
 use Rattle.vc_object.specs.Header.{number}
 use Rattle.vc_object.specs.ObjectId.{id_cmp}
@@ -19,12 +19,13 @@ use Rattle.vc_object.specs.declared.fault.ObjectFault.{ObjectFault}
 use Rattle.vc_object.specs.declared.fault.ObjectFault.TheVariants.{BadCommit, BadHeader, BadMode, BadName, BadSize, BadTag, Cut, DuplicateName, NotSorted, TooLarge}
 use Rattle.vc_object.specs.declared.id.ObjectId.{ObjectId}
 use Rattle.vc_object.proofs.Objects.{number_decimal}
-use Rattle.vc_object.proofs.OneFault.{no_body_fault, two_bodies}
+use Rattle.vc_object.proofs.OneFault.{two_bodies}
 use Rattle.vc_pkt.specs.Carried.{object_named, stored_name}
 use Rattle.vc_pkt.specs.Line.{LineText}
 use Rattle.vc_fetch.specs.Advert.{AdvertText}
 use Rattle.vc_fetch.specs.Pack.{PackText, is_object}
-use Rattle.vc_push.specs.Push.{Carried, FaultOf, PushText, SpellsCarried, SpellsPush, carried_or, only_deletes}
+use Rattle.vc_lemmas.proofs.Lists.{found_passes}
+use Rattle.vc_push.specs.Push.{Carried, PushText, SpellsCarried, SpellsPush, carried_or, only_deletes}
 use Rattle.vc_push.specs.Report.{ReportText, ToldText, unpack_error}
 use Rattle.vc_push.specs.Reason.{number_or_zero}
 use Rattle.vc_push.proofs.Reasons.{reason_again}
@@ -32,19 +33,19 @@ use Rattle.vc_session.specs.Carrying.{objects_in}
 use Rattle.vc_session.specs.Steps.{fault_number}
 use Rattle.vc_model.specs.Message.{IsNamedMessage, Message, Told}
 use Rattle.vc_model.specs.Message.Message.{Advert, Error, ListRefs, Pack, Push, Report, Want}
-use Rattle.vc_model.specs.Object.{Id, Objects}
+use Rattle.vc_model.specs.Object.{Id}
 use Rattle.vc_model.specs.Refs.{RefName, Refs}
 use Rattle.vc_model.specs.Rules.{IsFormedMessage}
 use Rattle.vc_model.proofs.Maps.{bytes_same}
-use Rattle.vc_rules.specs.Git.{git, stored_of}
-use Rattle.vc_rules.specs.OpenPushes.{AreBrought, AreToldAs, IsOutcomeAs}
+use Rattle.vc_rules.specs.Git.{git}
+use Rattle.vc_rules.specs.OpenPushes.{AreToldAs, IsOutcomeAs}
 use Rattle.vc_rules.specs.Verdicts.{machine_command}
 use Rattle.vc_rules.proofs.CarriedLemmas.{each_is_brought}
 use Rattle.vc_rules.proofs.GitLaws.{git_rules}
 use Rattle.vc_message.specs.AnyMessage.{MessageText, a_list, a_pack, a_push, a_report, a_want, an_advert, an_error, SpellsMessage}
 use Rattle.vc_message.specs.Machine.{IsAdvert, IsPack, IsPush, IsRefusalOf, IsReport, IsUnpackedAs, TellsNumber, TextOf, machine_outcome, machine_told}
 use Rattle.vc_message.proofs.BodyFaults.{fault_is}
-use Rattle.vc_message.proofs.MachineObjects.{formed_set, found_passes, named_set, one_set, small_pack, small_push}
+use Rattle.vc_message.proofs.MachineObjects.{formed_set, named_set, one_set, small_pack, small_push}
 use Rattle.vc_message.proofs.Totals.{less_or}
 
 -- ---- one at most

@@ -7,3 +7,4 @@ pub mod Incoming
 pub mod Coming
 pub mod Streaming
 pub mod Read
+pub mod Told

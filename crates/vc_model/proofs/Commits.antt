@@ -1,10 +1,11 @@
 -- A commit that a clone makes of its index is good: closed, with commits alone along its parent links.
-use Rattle.std.proofs.Common.{◌≡◌, ℕ, ◌<◌, List, [], ◌∷◌, Option, Some, None, Ok, ◌⊎◌, inl, inr, refl, sym, ap, ◌∙◌, subst, arith, Contains, get_or, option_to_list, unwrap_or}
+use Rattle.std.proofs.Common.{◌≡◌, ℕ, ◌<◌, List, ◌∷◌, Option, Some, None, Ok, ◌⊎◌, inl, inr, refl, sym, ap, ◌∙◌, subst, arith, Contains, get_or, option_to_list, unwrap_or, []}
 use Rattle.std.specs.FinMap.{get}
 use Rattle.std.specs.Option.{option_or}
 use Rattle.std.specs.List.{AllByRecursion}
 use Rattle.std.specs.Cmp.Lexicographic.{nat_list_cmp_total}
 use Rattle.std.proofs.lemmas.List.Elements.{Contains-append_cases, Contains-push_cases}
+use Rattle.vc_lemmas.proofs.Lists.{all_append, all_map}
 use Rattle.vc_model.specs.Object.{Id, Object, IsLine, Format, Objects, Lookup, IsNamed, stored, over}
 use Rattle.vc_model.specs.Object.Kind.{Commit}
 use Rattle.vc_model.specs.Reach.{Path, Links, HasParent, IsClosed}
@@ -21,7 +22,6 @@ use Rattle.vc_model.proofs.Maps.{insert_same, insert_other, same_key, bytes_same
 use Rattle.vc_model.proofs.Reaching.{Extends, closed_grows, history_grows}
 use Rattle.vc_model.proofs.Sound.{over_extends, named_over}
 use Rattle.vc_model.proofs.Clones.{with_object_named}
-use Rattle.vc_model.proofs.Pushes.{all_append, all_map}
 
 -- ---- lists
 

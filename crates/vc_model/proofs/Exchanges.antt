@@ -1,9 +1,10 @@
 -- A fetch between good nodes ends well.
-use Rattle.std.proofs.Common.{◌≡◌, ◌≢◌, ℕ, ◌<◌, suc, List, [], ◌∷◌, Option, Some, None, ◌⊎◌, inl, inr, refl, sym, ap, ◌∙◌, subst, arith, nat_cmp, Contains, length, take}
+use Rattle.std.proofs.Common.{◌≡◌, ◌≢◌, ℕ, ◌<◌, suc, List, ◌∷◌, Option, Some, None, ◌⊎◌, inl, inr, refl, sym, ap, ◌∙◌, subst, arith, nat_cmp, Contains, length, take, []}
 use mathlib.Core.Path.{fun_ext}
 use Rattle.std.specs.FinMap.{get, entries, empty, get-entries}
 use Rattle.std.specs.List.{AllByRecursion}
 use Rattle.std.specs.Cmp.Lexicographic.{slice_cmp, nat_list_cmp_total}
+use Rattle.std.proofs.lemmas.Option.{same_Some}
 use Rattle.vc_model.specs.Object.{Id, Object, Format, Objects, Lookup, stored, over}
 use Rattle.vc_model.specs.Reach.{IsClosed}
 use Rattle.vc_model.specs.Refs.{Refs, branch, tracking, IsFree}
@@ -43,9 +44,6 @@ use Rattle.vc_model.proofs.Came.{clone_came, shared_came, nothing_done, nothing_
 use Rattle.vc_model.proofs.Came.Came.{not_done, done, stopped}
 
 -- ---- small things
-
-pub same_message : (m n : Message) → ◌≡◌ {A = Option Message} (Some m) (Some n) → m ≡ n
-same_message m n e = cc
 
 pub none_sent : (m : Message) (o : Option Message) → o ≡ Some m → o ≡ None → ⊥
 none_sent m o e f = absurd (cc)
@@ -363,13 +361,13 @@ module _ (fmt : Format) (rules : Rules fmt) (s : Repository) (well : IsGood fmt 
     asks c e list up k =
         let w = up_is c.live up in
         let b = begins c e k.0 (Some list) w.0 w.1 k.1 in
-        elim (b.1) [ inl h ↦ (b.0, same_message list ListRefs h.0, h.1) | inr f ↦ absurd (none_sent list (Some list) refl f.2) ]
+        elim (b.1) [ inl h ↦ (b.0, same_Some list ListRefs h.0, h.1) | inr f ↦ absurd (none_sent list (Some list) refl f.2) ]
 
     advertises : (u t : SharedNode) (list advert : Message) (slots : Slots) → u.repository ≡ s → u.live ≡ Some slots → list ≡ ListRefs → SharedSends fmt rules u (Accept list) t advert
         → (t.repository ≡ s) × (advert ≡ Advertises) × (t.live ≡ Some slots)
     advertises u t list advert slots same up is k =
         let b = lists u t k.0 (Some advert) slots same up (subst (λ (m : Message). SharedAnswers fmt rules u (Accept m) k.0 t (Some advert)) is k.1) in
-        elim (b.1) [ inl h ↦ (b.0 ∙ same, same_message advert h.0 h.2 ∙ h.1, h.3) | inr f ↦ absurd (none_sent advert (Some advert) refl f.2) ]
+        elim (b.1) [ inl h ↦ (b.0 ∙ same, same_Some advert h.0 h.2 ∙ h.1, h.3) | inr f ↦ absurd (none_sent advert (Some advert) refl f.2) ]
 
     ours : (c : Repository) (xs : List Id) → AreOpen fmt (stored c.objects) [] (entries s.refs) xs → (x : Id) → Contains (take 256 xs) x → IsOurs fmt s x
     ours c xs opens x k = all_holds (IsOurs fmt s) (take 256 xs) x (all_taken (IsOurs fmt s) 256 xs (open_values fmt (stored c.objects) (IsOurs fmt s) [] (entries s.refs) xs opens
@@ -415,7 +413,7 @@ module _ (fmt : Format) (rules : Rules fmt) (s : Repository) (well : IsGood fmt 
                 more,
                 subst (λ (r : Repository). AreOpen fmt (stored r.objects) [] (entries s.refs) (x ∷ more)) (sym stays) opens,
                 left,
-                same_message want (Want (take 256 (x ∷ more)) (haves_of e.repository)) is ∙ ap (λ (r : Repository). Want (take 256 (x ∷ more)) (haves_of r)) (sym stays),
+                same_Some want (Want (take 256 (x ∷ more)) (haves_of e.repository)) is ∙ ap (λ (r : Repository). Want (take 256 (x ∷ more)) (haves_of r)) (sym stays),
               ),
             )
             | ends none how ↦ absurd (none_sent want (Some want) refl none)
@@ -458,7 +456,7 @@ module _ (fmt : Format) (rules : Rules fmt) (s : Repository) (well : IsGood fmt 
             | inl q ↦
                 let p = q.1 in
                 let going' = stays_going c.repository f.repository going h.0 in
-                let k' = subst (λ (m : Message). CloneAnswers fmt rules f (Receive m) a d sends) (same_message pack q.0 q.2 ∙ p.2) k in
+                let k' = subst (λ (m : Message). CloneAnswers fmt rules f (Receive m) a d sends) (same_Some pack q.0 q.2 ∙ p.2) k in
                 let fine' = hears_good f d a sends (Pack p.0 p.1) (pack_good p.0 p.1 (Contains (take 256 (h.3.0 ∷ h.3.1))) (λ x. Contains (haves_of f.repository) x × IsOurs fmt s x) p.3) going'.good k' in
                 let r = takes f d h.3.0 h.3.1 h.3.2 going' p.0 p.1 p.3 a sends h.3.3 fine' k' in
                 (b.0 ∙ h.1, still t (b.0 ∙ h.1) q.3, r.0, subst (λ (r : Repository). RoundEnds fmt s r a t d) h.0 (r.1 t (is_up t.live slots q.3)))

@@ -1,5 +1,6 @@
 -- A whole fetch between good nodes catches up.
 use Rattle.std.proofs.Common.{◌≡◌, ◌≢◌, ℕ, ◌<◌, Option, Some, None, inl, inr, refl, sym, ap, ◌∙◌, subst}
+use Rattle.std.proofs.lemmas.Option.{same_Some}
 use Rattle.vc_model.specs.Object.{Format}
 use Rattle.vc_model.specs.Repository.{Repository}
 use Rattle.vc_model.specs.Node.{Answer, Failure}
@@ -19,9 +20,6 @@ same_left n m k l e = cc
 
 no_fault : (n k : ℕ) (f : Failure) → Did (Moved n k) ≡ Fault f → ⊥
 no_fault n k f e = absurd (cc)
-
-some_same : (m n : ℕ) → ◌≡◌ {A = Option ℕ} (Some m) (Some n) → m ≡ n
-some_same m n e = cc
 
 module _ (fmt : Format) (rules : Rules fmt) (can : BranchesCanBeTracked fmt) where
   -- so many were left by the round before, if there was one, and some were
@@ -54,7 +52,7 @@ module _ (fmt : Format) (rules : Rules fmt) (can : BranchesCanBeTracked fmt) whe
   fetch_well before s t c d a h up were (last r over) = last_round before s t c d a were over (round_well fmt rules s t c d a can h up r)
   fetch_well before s t c d a h up were (again {u = u} {e = e} n left r not fewer rest) =
       let k = round_well fmt rules s u c e (Did (Moved n left)) can h up r in
-      go k (λ up' now. fetch_well (Some left) u t e d a k.1 up' (λ j i. let same : left ≡ j = some_same left j i in
+      go k (λ up' now. fetch_well (Some left) u t e d a k.1 up' (λ j i. let same : left ≡ j = same_Some left j i in
       (subst (λ (q : Repository). IsLeft fmt q e.repository j) (sym k.2) (subst (IsLeft fmt s.repository e.repository) same now), λ z. not (same ∙ z))) rest)
     where
       go : RoundEnds fmt s.repository c.repository (Did (Moved n left)) u e × AreReady fmt rules u e × (u.repository ≡ s.repository)

@@ -1,9 +1,10 @@
 -- A clone's refs follow those of the shared node: its tracking refs stay behind, and each branch whose value is closed there is caught up with.
-use Rattle.std.proofs.Common.{◌≡◌, ◌≢◌, ℕ, Bool, true, false, cond, List, [], ◌∷◌, ◌++◌, Option, Some, None, ◌⊎◌, inl, inr, refl, sym, ap, ◌∙◌, subst, arith, get_or, nat_cmp}
+use Rattle.std.proofs.Common.{◌≡◌, ◌≢◌, ℕ, Bool, true, false, cond, List, ◌∷◌, ◌++◌, Option, Some, None, ◌⊎◌, inl, inr, refl, sym, ap, ◌∙◌, subst, arith, get_or, nat_cmp, []}
 use Rattle.std.specs.FinMap.{get, insert, find}
 use Rattle.std.specs.List.{AllByRecursion}
 use Rattle.std.specs.Ordering.{eq_by_cmp}
 use Rattle.std.specs.Cmp.Lexicographic.{slice_cmp, nat_list_cmp_total}
+use Rattle.std.specs.Cmp.{Equal-is}
 use Rattle.vc_model.specs.Object.{Id, Format, Lookup, stored}
 use Rattle.vc_model.specs.Reach.{IsClosed, HasHistory, IsAncestor}
 use Rattle.vc_model.specs.Refs.{RefName, Refs, branch, tag, tracking, IsBranch, IsTag, IsTrackingRef, Conflicts, IsFree}
@@ -11,7 +12,7 @@ use Rattle.vc_model.specs.Repository.{Repository, Change, changed, changed_all, 
 use Rattle.vc_model.specs.Repository.Change.{SetRefs}
 use Rattle.vc_model.specs.Clone.{Moves, MovesAny, MovesBranch}
 use Rattle.vc_model.specs.Exchange.{BranchesCanBeTracked, IsBehind}
-use Rattle.vc_model.proofs.Maps.{insert_cases, insert_same, insert_other, same_key, is_equal, bytes_same}
+use Rattle.vc_model.proofs.Maps.{insert_cases, insert_same, insert_other, same_key, bytes_same}
 use Rattle.vc_model.proofs.Tracking.{tag_apart, tracking_same, branch_same}
 use Rattle.vc_model.proofs.Commits.{branch_tag_apart}
 use Rattle.vc_model.proofs.Carried.{Agree, ancestor_carried, history_carried}
@@ -22,7 +23,7 @@ tag_conflict : (t b : List ℕ) → Conflicts (tag t) (tracking b) → ⊥
 tag_conflict t b (inl c) = let h : ◌≡◌ {A = ℕ} 114 116 = ap (λ (xs : List ℕ). get_or xs 5 0) c.1 in omega arith
 tag_conflict t b (inr c) = let h : ◌≡◌ {A = ℕ} 116 114 = ap (λ (xs : List ℕ). get_or xs 5 0) c.1 in omega arith
 
-branch_conflict : (a b : List ℕ) → Conflicts (branch a) (tracking b) → ⊥
+pub branch_conflict : (a b : List ℕ) → Conflicts (branch a) (tracking b) → ⊥
 branch_conflict a b (inl c) = let h : ◌≡◌ {A = ℕ} 114 104 = ap (λ (xs : List ℕ). get_or xs 5 0) c.1 in omega arith
 branch_conflict a b (inr c) = let h : ◌≡◌ {A = ℕ} 104 114 = ap (λ (xs : List ℕ). get_or xs 5 0) c.1 in omega arith
 
@@ -193,7 +194,7 @@ module _ (fmt : Format) (s : Repository) (sound : IsSound fmt s) where
 
         go : (t : Bool) → eq_by_cmp (slice_cmp nat_cmp) (branch b) e.0 ≡ t → cond t (Some e.1) (find (slice_cmp nat_cmp) (branch b) rs) ≡ Some x → CatchesUp b x rs → get (changed_all cs r).refs (tracking b) ≡ Some x
         go true is h more =
-            let key : branch b ≡ e.0 = bytes_same (branch b) e.0 (is_equal (slice_cmp nat_cmp (branch b) e.0) is) in
+            let key : branch b ≡ e.0 = bytes_same (branch b) e.0 ((Equal-is (slice_cmp nat_cmp (branch b) e.0)).0 is) in
             let value : e.1 ≡ x = cc in
             turn r b e.0 e.1 rs cs key a f free all.0 m ∙ ap Some value
         go false is h more = rest more h m

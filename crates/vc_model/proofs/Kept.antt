@@ -1,8 +1,9 @@
 -- What holds of the world after every run, and that a step keeps it.
-use Rattle.std.proofs.Common.{◌≡◌, ℕ, List, [], ◌∷◌, ◌++◌, Option, Some, None, inl, inr, refl, sym, ap, ◌∙◌, subst, nat_cmp, take, slice_get, codes, IsTrue, option_to_list, option_map}
+use Rattle.std.proofs.Common.{◌≡◌, ℕ, List, ◌∷◌, ◌++◌, Option, Some, None, inl, inr, refl, sym, ap, ◌∙◌, subst, nat_cmp, take, slice_get, codes, IsTrue, option_to_list, option_map, []}
 use Rattle.std.specs.FinMap.{get, empty, nat_cmp-IsAntisymmetric}
 use Rattle.std.specs.Cmp.{nat_cmp_total}
 use Rattle.std.specs.Cmp.Lexicographic.{slice_cmp}
+use Rattle.vc_lemmas.proofs.Lists.{all_map}
 use Rattle.vc_model.specs.Object.{Id, Object, Format, Objects, Lookup, IsNamed, stored, over}
 use Rattle.vc_model.specs.Reach.{HasParentAmong, IsAncestor}
 use Rattle.vc_model.specs.Repository.{Repository, with_objects, IsSound, IsBare, Pruned, PartlyPruned}
@@ -35,7 +36,7 @@ use Rattle.vc_model.proofs.Maps.{insert_cases, none_in_empty, slice_get-more, sl
 use Rattle.vc_model.proofs.Reaching.{reaches-trans, reaches-steps}
 use Rattle.vc_model.proofs.Sound.{GoodEffect, sound_done, sound_cut, sound_pruned, changed_all-objects}
 use Rattle.vc_model.proofs.Clones.{good_task, good_message}
-use Rattle.vc_model.proofs.Pushes.{push_kept, Descends, descends_same, all_map}
+use Rattle.vc_model.proofs.Pushes.{push_kept, Descends, descends_same}
 use Rattle.vc_model.proofs.Stepping.{done_bare, cut_bare, SharedOk, serve_ok, slot_ok, done_forward, cut_forward}
 
 -- ---- ancestors among what occurs

@@ -1,7 +1,8 @@
 -- A clone has one answer to a call.
-use Rattle.std.proofs.Common.{◌≡◌, ◌≢◌, ℕ, ◌≤◌, List, [], ◌∷◌, Option, Some, None, Result, Ok, Err, ◌⊎◌, inl, inr, refl, sym, ap, ◌∙◌, subst, Contains, length, take, unwrap_or}
+use Rattle.std.proofs.Common.{◌≡◌, ◌≢◌, ℕ, ◌≤◌, List, ◌∷◌, Option, Some, None, Result, Ok, Err, ◌⊎◌, inl, inr, refl, sym, ap, ◌∙◌, subst, Contains, length, take, unwrap_or, []}
 use Rattle.std.specs.FinMap.{get, insert, entries, empty}
 use Rattle.std.specs.List.{AllByRecursion}
+use Rattle.std.proofs.lemmas.Option.{same_Some}
 use Rattle.vc_model.specs.Object.{Id, Object, zero_id, blob, IsLine, Format, Objects, Lookup, stored, over}
 use Rattle.vc_model.specs.Reach.{IsClosed, HasHistory}
 use Rattle.vc_model.specs.Refs.{RefName, Refs, tracking, IsFree}
@@ -14,7 +15,7 @@ use Rattle.vc_model.specs.Message.Message.{ListRefs, Advert, Want, Pack, Push, R
 use Rattle.vc_model.specs.Node.{Node, Answer, IsNoFault, Deed, PruneEnds, RestartEnds}
 use Rattle.vc_model.specs.Node.Answer.{Declined}
 use Rattle.vc_model.specs.Node.Reply.{Stored, Moved, Reported}
-use Rattle.vc_model.specs.Clone.{Awaited, CloneNode, PushItem, Task, Performs, Receives, ReceivesNot, Moves, MovesAny, MovesBranch, MovesToAdvert, AreOpen, AreCommandsFor, IsOldOf, IsGoodCommit, IsHeadFree, IsItemId, IsTrackingValue, IsReached, accepted_ids, refused_reasons, haves_of, quietly, sending, with_object}
+use Rattle.vc_model.specs.Clone.{Awaited, CloneNode, PushItem, Task, Receives, ReceivesNot, Moves, MovesAny, MovesBranch, MovesToAdvert, AreOpen, AreCommandsFor, IsOldOf, IsGoodCommit, IsHeadFree, IsItemId, IsTrackingValue, IsReached, accepted_ids, refused_reasons, haves_of, quietly, sending, with_object}
 use Rattle.vc_model.specs.Clone.Awaited.{Nothing, AnAdvert, APack}
 use Rattle.vc_model.specs.Clone.Task.{Write, Stage, Unstage, LoadTree, MakeCommit, SetBranch, DeleteBranch, MoveHead, StartFetch, StartPush}
 use Rattle.vc_model.specs.Rules.{Rules, rules_by}
@@ -52,9 +53,6 @@ commits_met fmt at (x ∷ xs) n p a g =
     commits_met fmt at xs n p a.1
     (met (HasHistory fmt at x) 41 n (CommitsOr fmt at xs n p) a.0.1
     (met (IsClosed fmt at x) 40 n (Unless (HasHistory fmt at x) 41 n (CommitsOr fmt at xs n p)) a.0.0 g))
-
-some_is : (n k : ℕ) → ◌≡◌ {A = Option ℕ} (Some n) (Some k) → n ≡ k
-some_is n k e = cc
 
 some_none : (n : ℕ) → ◌≡◌ {A = Option ℕ} (Some n) None → ⊥
 some_none n e = absurd (cc)
@@ -144,7 +142,7 @@ module _ (fmt : Format) (rules : Rules fmt) (r : Repository) where
   Sent a refs ids d = ((ids ≢ []) × (d ≡ sending (APack (take 256 ids) refs) (Want (take 256 ids) (haves_of r)))) ⊎ ((ids ≡ []) × MovesToAdvert fmt r (stored r.objects) refs empty d)
 
   fault_once : (o : Object) (n k : ℕ) → rules.fault o (Some n) → rules.fault o (Some k) → n ≡ k
-  fault_once o n k g h = some_is n k (rules.one_fault o (Some n) (Some k) g h)
+  fault_once o n k g h = same_Some n k (rules.one_fault o (Some n) (Some k) g h)
 
   no_fault : (o : Object) (n : ℕ) → rules.fault o (Some n) → rules.fault o None → ⊥
   no_fault o n g h = some_none n (rules.one_fault o (Some n) None g h)

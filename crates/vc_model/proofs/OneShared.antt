@@ -1,7 +1,8 @@
 -- The shared node has one answer to a call.
-use Rattle.std.proofs.Common.{◌≡◌, ◌≢◌, ℕ, ◌<◌, Bool, true, false, List, [], ◌∷◌, ◌++◌, map, Option, Some, None, is_none, Result, Ok, Err, ◌⊎◌, inl, inr, refl, sym, ap, ◌∙◌, subst, arith, Contains, length, count_by, if◌then◌else◌}
+use Rattle.std.proofs.Common.{◌≡◌, ◌≢◌, ℕ, ◌<◌, Bool, true, false, List, ◌∷◌, ◌++◌, map, Option, Some, None, is_none, Result, Ok, Err, ◌⊎◌, inl, inr, refl, sym, ap, ◌∙◌, subst, arith, Contains, length, count_by, if◌then◌else◌, []}
 use Rattle.std.specs.FinMap.{get, insert, remove, empty}
-use Rattle.std.specs.List.{AllByRecursion, list_any, list_all}
+use Rattle.std.specs.List.{list_any, list_all}
+use Rattle.std.proofs.lemmas.Option.{same_Some}
 use Rattle.vc_model.specs.Object.{Id, Format, Objects, Lookup, over}
 use Rattle.vc_model.specs.Refs.{RefName, Refs}
 use Rattle.vc_model.specs.Repository.{Repository, Change, Effect, no_effect, only_changes}
@@ -24,13 +25,9 @@ use Rattle.vc_model.specs.SharedCall.SharedAnswers.{down, asked, refused, obeyed
 use Rattle.vc_model.specs.Exact.{SharedHasOneAnswer}
 use Rattle.vc_model.proofs.Commits.{all_holds}
 use Rattle.vc_model.proofs.OneAnswer.{AreOne, Worked, worked_once, prune_once, restart_once, told_once, difference_once}
+use Rattle.vc_model.proofs.Pushing.{unmet_never, same_judged}
 
 -- ---- needs
-
-met_unmet : (needs : Reason → Type 0) (qs : List Reason) (r : Reason) → AllByRecursion needs qs → FirstUnmet needs qs r → ⊥
-met_unmet needs [] r a f = f
-met_unmet needs (q ∷ qs) r a (inl f) = f.0 a.0
-met_unmet needs (q ∷ qs) r a (inr f) = met_unmet needs qs r a.1 f.1
 
 unmet_once : (needs : Reason → Type 0) (qs : List Reason) (r s : Reason) → FirstUnmet needs qs r → FirstUnmet needs qs s → r ≡ s
 unmet_once needs [] r s f g = absurd f
@@ -42,15 +39,12 @@ unmet_once needs (q ∷ qs) r s (inr f) (inr g) = unmet_once needs qs r s f.1 g.
 same_cons : {X : Type 0} (x y : X) (xs ys : List X) → x ≡ y → xs ≡ ys → x ∷ xs ≡ y ∷ ys
 same_cons x y xs ys e f = cc
 
-same_judged : (c d : Command) (v w : Verdict) → c ≡ d → v ≡ w → ◌≡◌ {A = Judged} (record { command = c; verdict = v }) (record { command = d; verdict = w })
-same_judged c d v w e f = cc
-
 -- ---- the check
 
 check_once : (fmt : Format) (at : Lookup) (c : Command) (v w u : Verdict) → Checks fmt at c v w → Checks fmt at c v u → w ≡ u
 check_once fmt at c Passing Passing Passing g h = refl
-check_once fmt at c Passing Passing (Refused s) g h = absurd (met_unmet (CheckNeeds fmt at c) check_reasons s g h)
-check_once fmt at c Passing (Refused r) Passing g h = absurd (met_unmet (CheckNeeds fmt at c) check_reasons r h g)
+check_once fmt at c Passing Passing (Refused s) g h = absurd (unmet_never (CheckNeeds fmt at c) check_reasons s g h)
+check_once fmt at c Passing (Refused r) Passing g h = absurd (unmet_never (CheckNeeds fmt at c) check_reasons r h g)
 check_once fmt at c Passing (Refused r) (Refused s) g h = ap Refused (unmet_once (CheckNeeds fmt at c) check_reasons r s g h)
 check_once fmt at c Passing Accepted u g h = absurd g
 check_once fmt at c Passing w Accepted g h = absurd h
@@ -75,8 +69,8 @@ push_check_once fmt at true js ks ls g h =
 
 update_once : (refs : Refs) (c : Command) (v w : Verdict) (cs ds : List Change) → Updates refs c v cs → Updates refs c w ds → (v ≡ w) × (cs ≡ ds)
 update_once refs c Accepted Accepted cs ds g h = (refl, g.1 ∙ sym h.1)
-update_once refs c Accepted (Refused s) cs ds g h = absurd (met_unmet (UpdateNeeds refs c) update_reasons s g.0 h.0)
-update_once refs c (Refused r) Accepted cs ds g h = absurd (met_unmet (UpdateNeeds refs c) update_reasons r h.0 g.0)
+update_once refs c Accepted (Refused s) cs ds g h = absurd (unmet_never (UpdateNeeds refs c) update_reasons s g.0 h.0)
+update_once refs c (Refused r) Accepted cs ds g h = absurd (unmet_never (UpdateNeeds refs c) update_reasons r h.0 g.0)
 update_once refs c (Refused r) (Refused s) cs ds g h = (ap Refused (unmet_once (UpdateNeeds refs c) update_reasons r s g.0 h.0), g.1 ∙ sym h.1)
 update_once refs c Passing w cs ds g h = absurd g
 update_once refs c v Passing cs ds g h = absurd h
@@ -135,8 +129,8 @@ turn_once : (refs : Refs) (named : List RefName) (js : List Judged) (rs ss : Lis
 turn_once refs named [] [] [] g h = refl
 turn_once refs named (j ∷ js) (None ∷ rs) (None ∷ ss) g h =
     ap (λ (rs : List (Option Reason)). None ∷ rs) (turn_once (insert refs j.command.name j.command.new) (j.command.name ∷ named) js rs ss g.1 h.1)
-turn_once refs named (j ∷ js) (None ∷ rs) (Some s ∷ ss) g h = absurd (met_unmet (TurnNeeds refs named j.command) update_reasons s g.0 h.0)
-turn_once refs named (j ∷ js) (Some r ∷ rs) (None ∷ ss) g h = absurd (met_unmet (TurnNeeds refs named j.command) update_reasons r h.0 g.0)
+turn_once refs named (j ∷ js) (None ∷ rs) (Some s ∷ ss) g h = absurd (unmet_never (TurnNeeds refs named j.command) update_reasons s g.0 h.0)
+turn_once refs named (j ∷ js) (Some r ∷ rs) (None ∷ ss) g h = absurd (unmet_never (TurnNeeds refs named j.command) update_reasons r h.0 g.0)
 turn_once refs named (j ∷ js) (Some r ∷ rs) (Some s ∷ ss) g h =
     same_cons (Some r) (Some s) rs ss (ap Some (unmet_once (TurnNeeds refs named j.command) update_reasons r s g.0 h.0)) (turn_once refs (j.command.name ∷ named) js rs ss g.1 h.1)
 turn_once refs named [] (r ∷ rs) ss g h = absurd g
@@ -165,15 +159,12 @@ all_once refs js ks ls rs ss cs ds g h =
         apart : false ≡ true → ⊥
         apart e = absurd (cc)
 
-some_same : {X : Type 0} (x y : X) → Some x ≡ Some y → x ≡ y
-some_same x y e = cc
-
 push_update_once : (r : Repository) (p : OpenPush) (ks ls : List Judged) (cs ds : List Change) (y z : Reply) → UpdatesPush r p ks cs y → UpdatesPush r p ls ds z → (ks ≡ ls) × (cs ≡ ds) × (y ≡ z)
 push_update_once r p ks ls cs ds y z g h = elim g [
   | together rs a u t ↦ elim h [
     | together ss b w v ↦
         let k = all_once r.refs p.commands ks ls rs ss cs ds u w in
-        (k.1, k.2, some_same y z (sym t ∙ (ap (λ (rs : List (Option Reason)). if list_all is_none rs then Some (UpdatedAll (length p.commands)) else first_refusal p.commands rs) k.0 ∙ v)))
+        (k.1, k.2, same_Some y z (sym t ∙ (ap (λ (rs : List (Option Reason)). if list_all is_none rs then Some (UpdatedAll (length p.commands)) else first_refusal p.commands rs) k.0 ∙ v)))
     | singly w b v ↦ absurd (cc)
   ]
   | singly u a t ↦ elim h [
@@ -245,7 +236,7 @@ this_once fmt r slots s p d e (inr g) (inr h) =
 
 slot_once : (fmt : Format) (r : Repository) (slots : Slots) (s : ℕ) (d e : Deed Slots) → StepsSlot fmt r slots s d → StepsSlot fmt r slots s e → d ≡ e
 slot_once fmt r slots s d e g h =
-    let same : g.0 ≡ h.0 = some_same g.0 h.0 (sym g.1 ∙ h.1) in
+    let same : g.0 ≡ h.0 = same_Some g.0 h.0 (sym g.1 ∙ h.1) in
     this_once fmt r slots s h.0 d e (subst (λ (p : OpenPush). StepsThis fmt r slots s p d) same g.2) h.2
 
 -- ---- messages

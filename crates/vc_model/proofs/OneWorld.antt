@@ -1,7 +1,8 @@
 -- An event of the world has one answer, and the device fails only after a stop was set.
-use Rattle.std.proofs.Common.{◌≡◌, ℕ, Bool, false, IsTrue, List, [], ◌∷◌, Option, Some, None, Result, Ok, Err, ◌⊎◌, inl, inr, refl, sym, ap, ◌∙◌, subst, slice_get}
+use Rattle.std.proofs.Common.{◌≡◌, ℕ, Bool, false, IsTrue, List, ◌∷◌, Option, Some, None, Result, Ok, Err, ◌⊎◌, inl, inr, refl, sym, ap, ◌∙◌, subst, slice_get, []}
 use Rattle.std.specs.FinMap.{get, remove, nat_cmp-IsAntisymmetric}
 use Rattle.std.specs.Cmp.{nat_cmp_total}
+use Rattle.std.proofs.lemmas.Option.{same_Some}
 use Rattle.vc_model.specs.Object.{Id, Format}
 use Rattle.vc_model.specs.Repository.{Repository}
 use Rattle.vc_model.specs.Message.{Message}
@@ -37,9 +38,6 @@ use Rattle.vc_model.proofs.OneClone.{clone_once}
 use Rattle.vc_model.proofs.OneShared.{shared_once}
 
 -- ---- small facts
-
-same_some : {X : Type 0} (x y : X) → Some x ≡ Some y → x ≡ y
-same_some x y e = cc
 
 shared_same : (c d : ℕ) (m q : Message) → ToShared c m ≡ ToShared d q → (c ≡ d) × (m ≡ q)
 shared_same c d m q e = (cc, cc)
@@ -92,7 +90,7 @@ module _ (fmt : Format) (rules : Rules fmt) (r : Repository) where
   items_once (i ∷ is) v w (inl g) (inr h) = absurd (some_none i.value h.0 h.1 g.0)
   items_once (i ∷ is) v w (inr g) (inl h) = absurd (some_none i.value g.0 g.1 h.0)
   items_once (i ∷ is) v w (inr g) (inr h) =
-      let e : g.0 ≡ h.0 = same_some g.0 h.0 (sym g.1 ∙ h.1) in
+      let e : g.0 ≡ h.0 = same_Some g.0 h.0 (sym g.1 ∙ h.1) in
       first_once (λ x. record { id = Some x; name = i.name }) (AreItems fmt rules r is) (items_once is) h.0 v w
       (subst (λ (e : List ℕ). ((n : ℕ) × rules.denotes r e (Err n) × (v ≡ Err n)) ⊎ ((x : Id) × (u : Result (List PushItem) ℕ) × rules.denotes r e (Ok x) × AreItems fmt rules r is u × (v ≡ with_first (record { id = Some x; name = i.name }) u))) e g.2) h.2
 
@@ -147,7 +145,7 @@ settled fmt rules n m i a s h quiet is = elim h [
 module _ (fmt : Format) (wire : Wire fmt) (w : World) where
   shared_call_once : (e : WorldEvent) (c d : ℕ) (i j : SharedCall) → CallsShared fmt wire w e c i → CallsShared fmt wire w e d j → (c ≡ d) × (i ≡ j)
   shared_call_once (Delivers k) c d i j g h =
-      let same = shared_same c d g.0 h.0 (same_some (ToShared c g.0) (ToShared d h.0) (sym g.1 ∙ h.1)) in
+      let same = shared_same c d g.0 h.0 (same_Some (ToShared c g.0) (ToShared d h.0) (sym g.1 ∙ h.1)) in
       (same.0, g.2 ∙ (ap Accept same.1 ∙ sym h.2))
   shared_call_once (Forges (FromClone b bytes)) c d i j g h = (sym g.0 ∙ h.0, comes_once fmt wire bytes Accept (λ n. AsksShared (Unread n)) i j g.1 h.1)
   shared_call_once (Forges (FromShared b bytes)) c d i j g h = absurd g
@@ -176,7 +174,7 @@ module _ (fmt : Format) (wire : Wire fmt) (w : World) where
       go (inr x) y = absurd (g.0 (p x))
 
   clone_of : (c d : ℕ) (n m : CloneNode) → c ≡ d → get w.clones c ≡ Some n → get w.clones d ≡ Some m → n ≡ m
-  clone_of c d n m e g h = same_some n m (sym g ∙ (ap (get w.clones) e ∙ h))
+  clone_of c d n m e g h = same_Some n m (sym g ∙ (ap (get w.clones) e ∙ h))
 
   clone_call_once : (e : WorldEvent) (c d : ℕ) (n m : CloneNode) (i j : CloneCall) → Settled n i → Settled m j → get w.clones c ≡ Some n → get w.clones d ≡ Some m → CallsClone fmt wire w e c n i → CallsClone fmt wire w e d m j → (c ≡ d) × (i ≡ j)
   clone_call_once (Orders b o) c d n m i j si sj p q g h =
@@ -184,7 +182,7 @@ module _ (fmt : Format) (wire : Wire fmt) (w : World) where
       let one : n ≡ m = clone_of c d n m same p q in
       (same, order_once m o i j (subst (λ (n : CloneNode). Settled n i) one si) sj (subst (λ (n : CloneNode). OrderCalls fmt wire.rules n o i) one g.1) h.1)
   clone_call_once (Delivers k) c d n m i j si sj p q g h =
-      let same = clone_same c d g.0 h.0 (same_some (ToClone c g.0) (ToClone d h.0) (sym g.1 ∙ h.1)) in
+      let same = clone_same c d g.0 h.0 (same_Some (ToClone c g.0) (ToClone d h.0) (sym g.1 ∙ h.1)) in
       (same.0, g.2 ∙ (ap Receive same.1 ∙ sym h.2))
   clone_call_once (Forges (FromShared b bytes)) c d n m i j si sj p q g h = (sym g.0 ∙ h.0, comes_once fmt wire bytes Receive (λ k. Asks (Unread k)) i j g.1 h.1)
   clone_call_once (Forges (FromClone b bytes)) c d n m i j si sj p q g h = absurd g
@@ -200,7 +198,7 @@ module _ (fmt : Format) (wire : Wire fmt) (w : World) where
   clone_call_once (Stops x k) c d n m i j si sj p q g h = absurd g
 
   calls_apart : (e : WorldEvent) (c d : ℕ) (n : CloneNode) (i : SharedCall) (j : CloneCall) → CallsShared fmt wire w e c i → CallsClone fmt wire w e d n j → ⊥
-  calls_apart (Delivers k) c d n i j g h = addressed_apart c d g.0 h.0 (same_some (ToShared c g.0) (ToClone d h.0) (sym g.1 ∙ h.1))
+  calls_apart (Delivers k) c d n i j g h = addressed_apart c d g.0 h.0 (same_Some (ToShared c g.0) (ToClone d h.0) (sym g.1 ∙ h.1))
   calls_apart (Forges (FromClone b bytes)) c d n i j g h = h
   calls_apart (Forges (FromShared b bytes)) c d n i j g h = g
   calls_apart (Steps s) c d n i j g h = h

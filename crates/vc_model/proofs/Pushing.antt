@@ -1,9 +1,10 @@
 -- A push of one new value to one branch, between good nodes, is done.
-use Rattle.std.proofs.Common.{◌≡◌, ◌≢◌, ℕ, ◌<◌, Bool, true, false, List, [], ◌∷◌, ◌++◌, map, Option, Some, None, Ok, is_none, ◌⊎◌, inl, inr, refl, sym, ap, ◌∙◌, subst, arith, nat_cmp, Contains, unwrap_or, if◌then◌else◌}
+use Rattle.std.proofs.Common.{◌≡◌, ◌≢◌, ℕ, ◌<◌, Bool, true, false, List, ◌∷◌, ◌++◌, map, Option, Some, None, Ok, is_none, ◌⊎◌, inl, inr, refl, sym, ap, ◌∙◌, subst, arith, unwrap_or, if◌then◌else◌, []}
 use Rattle.std.specs.FinMap.{get, insert, nat_cmp-IsAntisymmetric}
 use Rattle.std.specs.Cmp.{nat_cmp_total}
 use Rattle.std.specs.List.{AllByRecursion, list_all}
 use Rattle.std.specs.Cmp.Lexicographic.{nat_list_cmp_total}
+use Rattle.std.proofs.lemmas.Option.{same_Some}
 use Rattle.vc_model.specs.Object.{Id, zero_id, Format, Objects, Lookup, stored, over}
 use Rattle.vc_model.specs.Reach.{IsClosed, IsAncestor}
 use Rattle.vc_model.specs.Refs.{RefName, Refs, branch, tracking, IsCurrent}
@@ -39,16 +40,16 @@ use Rattle.vc_model.proofs.Carried.{Agree, agree_of, turned, agree_over, closed_
 use Rattle.vc_model.proofs.Following.{sound_follows, tracking_free}
 use Rattle.vc_model.proofs.Came.{clone_came, shared_came, nothing_done}
 use Rattle.vc_model.proofs.Came.Came.{not_done, done, stopped}
-use Rattle.vc_model.proofs.Exchanges.{same_message, none_sent, up_is, is_up}
+use Rattle.vc_model.proofs.Exchanges.{none_sent, up_is, is_up}
 
 -- ---- small things
 
-unmet_never : (needs : Reason → Type 0) (qs : List Reason) (r : Reason) → AllByRecursion needs qs → FirstUnmet needs qs r → ⊥
+pub unmet_never : (needs : Reason → Type 0) (qs : List Reason) (r : Reason) → AllByRecursion needs qs → FirstUnmet needs qs r → ⊥
 unmet_never needs [] r a m = m
 unmet_never needs (q ∷ qs) r a (inl m) = m.0 a.0
 unmet_never needs (q ∷ qs) r a (inr m) = unmet_never needs qs r a.1 m.1
 
-same_judged : (c d : Command) (v w : Verdict) → c ≡ d → v ≡ w → ◌≡◌ {A = Judged} (record { command = c; verdict = v }) (record { command = d; verdict = w })
+pub same_judged : (c d : Command) (v w : Verdict) → c ≡ d → v ≡ w → ◌≡◌ {A = Judged} (record { command = c; verdict = v }) (record { command = d; verdict = w })
 same_judged c d v w e f = cc
 
 same_told : (n m : RefName) (x y : Rattle.std.proofs.Common.Result Id ℕ) → n ≡ m → x ≡ y → ◌≡◌ {A = Told} (record { name = n; outcome = x }) (record { name = m; outcome = y })
@@ -429,7 +430,7 @@ module _ (fmt : Format) (rules : Rules fmt) (can : BranchesCanBeTracked fmt) (at
       let w = up_is m.live up in
       let v = up_is n.live shared_up in
       elim (begins d begun.0 (Some push) w.0 w.1 begun.1) [
-        | inl k ↦ elim (opens_so u k.0 (Did (Opened slot)) None v.0 v.1 (subst (λ (q : Message). SharedAnswers fmt rules n (Accept q) (Did (Opened slot)) u None) (same_message push (Push atomic None (command ∷ []) k.0) k.2) accepted)) [
+        | inl k ↦ elim (opens_so u k.0 (Did (Opened slot)) None v.0 v.1 (subst (λ (q : Message). SharedAnswers fmt rules n (Accept q) (Did (Opened slot)) u None) (same_Some push (Push atomic None (command ∷ []) k.0) k.2) accepted)) [
           | inl f ↦ absurd (did_fault (Opened slot) f.0 f.1)
           | inr q ↦ (k.3, is_up d.live w.0 k.4, unpacked_out u t slot k.0 a sends k.1 (subst (λ (j : ℕ). InSlot u j (push_at k.0 Passing Unpacked)) (sym (opened_same slot q.0 q.1)) q.2) q.3 steps)
         ]
@@ -447,7 +448,7 @@ module _ (fmt : Format) (rules : Rules fmt) (can : BranchesCanBeTracked fmt) (at
       let w = up_is m.live up.1 in
       let v = up_is n.live up.0 in
       elim (begins d begun.0 (Some push) w.0 w.1 begun.1) [
-        | inl k ↦ elim (opens_so t k.0 a sends v.0 v.1 (subst (λ (q : Message). SharedAnswers fmt rules n (Accept q) a t sends) (same_message push (Push atomic None (command ∷ []) k.0) k.2) x)) [
+        | inl k ↦ elim (opens_so t k.0 a sends v.0 v.1 (subst (λ (q : Message). SharedAnswers fmt rules n (Accept q) a t sends) (same_Some push (Push atomic None (command ∷ []) k.0) k.2) x)) [
           | inl f ↦ failed f.0 f.1
           | inr q ↦ absurd (subst OpensNone q.1 none)
         ]
@@ -463,7 +464,7 @@ module _ (fmt : Format) (rules : Rules fmt) (can : BranchesCanBeTracked fmt) (at
       elim (r.2) [
         | inl f ↦ absurd (none_sent heard (Some heard) refl f.2)
         | inr k ↦
-            let same : heard ≡ ok_report = same_message heard ok_report k.0 in
+            let same : heard ≡ ok_report = same_Some heard ok_report k.0 in
             elim (hears_report e d a sends w.0 w.1 r.0 (subst (λ (q : Message). CloneAnswers fmt rules e (Receive q) a d sends) same x)) [
               | inl f ↦ failed f.0 f.1
               | inr q ↦ pushed q.0 q.1 (is ∙ ap Some same) k.1 q.2

@@ -1,5 +1,5 @@
 -- The race of two pushes is a run.
-use Rattle.std.proofs.Common.{◌≡◌, ◌≢◌, ℕ, ◌<◌, false, List, [], ◌∷◌, ◌++◌, Option, Some, None, Ok, Err, ◌⊎◌, inl, inr, refl, sym, ap, ◌∙◌, subst, nat_cmp, length, length-append, get_or, arith, Contains, unwrap_or}
+use Rattle.std.proofs.Common.{◌≡◌, ◌≢◌, ℕ, ◌<◌, false, List, ◌∷◌, Option, Some, None, Ok, Err, ◌⊎◌, inl, inr, refl, sym, ap, ◌∙◌, subst, nat_cmp, length, get_or, arith, Contains, unwrap_or, []}
 use Rattle.std.specs.FinMap.{FinMap, get, insert, empty, get-empty, nat_cmp-IsAntisymmetric}
 use Rattle.std.specs.Cmp.{nat_cmp_total}
 use Rattle.std.specs.Option.{option_or}
@@ -30,9 +30,10 @@ use Rattle.vc_model.specs.World.Step.{at_shared, at_clone}
 use Rattle.vc_model.specs.Run.{Run, world_after}
 use Rattle.vc_model.specs.Small.{small_format}
 use Rattle.vc_model.specs.Race
-use Rattle.vc_model.proofs.Maps.{insert_cases, insert_same, insert_other, remove_other, bytes_same, none_in_empty, same_key}
+use Rattle.vc_model.proofs.Maps.{insert_cases, insert_same, insert_other, remove_other, bytes_same, none_in_empty, same_key, none_added, or_none}
 use Rattle.vc_model.proofs.Commits.{all_holds, branch_tag_apart}
 use Rattle.vc_model.proofs.Tracked.{value_at_clone}
+use Rattle.vc_model.proofs.Apart.{no_conflict}
 
 abbrev fmt : Format
 fmt = small_format
@@ -113,13 +114,6 @@ with_next n = insert_same nat_list_cmp_total bytes_same Race.base (Race.next_id 
 carried_next : (n : ℕ) → get (Race.carried_of n) (Race.next_id n) ≡ Some (Race.next_commit n)
 carried_next n = insert_same nat_list_cmp_total bytes_same empty (Race.next_id n) (Race.next_commit n)
 
-or_none : (a : Option Object) (y : Id) → a ≡ option_or a (get (empty {X = Object} {R = slice_cmp nat_cmp}) y)
-or_none None y = sym (get-empty (slice_cmp nat_cmp) y)
-or_none (Some p) y = refl
-
-added_none : (s : Objects) → AllAdded s empty s
-added_none s = record { each = λ y. or_none (get s y) y }
-
 none_or : (a b : Option Object) → a ≡ None → option_or a b ≡ b
 none_or None b e = refl
 none_or (Some o) b e = absurd (cc)
@@ -188,13 +182,6 @@ one_ref t x = insert empty t x
 single : (t : RefName) (x : Id) (m : RefName) (v : Id) → get (one_ref t x) m ≡ Some v → (m ≡ t) × (v ≡ x)
 single t x m v g = elim (insert_cases nat_list_cmp_total bytes_same empty t x m v g) [ inl is ↦ is | inr was ↦ absurd (none_in_empty (slice_cmp nat_cmp) m v was) ]
 
-longer : (t rest : List ℕ) → t ≡ t ++ 47 ∷ rest → ⊥
-longer t rest e = absurd (omega (arith, ap length e, length-append t (47 ∷ rest)))
-
-no_conflict : (t : RefName) → Conflicts t t → ⊥
-no_conflict t (inl c) = longer t c.0 c.1
-no_conflict t (inr c) = longer t c.0 c.1
-
 free_alone : (refs : Refs) (t : RefName) → ((m : RefName) (v : Id) → get refs m ≡ Some v → m ≡ t) → IsFree refs t
 free_alone refs t alone m v g c = no_conflict t (subst (λ m. Conflicts m t) (alone m v g) c)
 
@@ -252,7 +239,7 @@ carries_exactly n = record { only = only; all = all }
 pushes : (n : ℕ) → CloneStep fmt (Race.node_at (Race.base_with n) Race.knows_first Nothing) (Commanded (StartPush false (Race.item_of n ∷ []))) (Did Sends) (Race.node_at (Race.base_with n) Race.knows_first Nothing) (Some (Race.push_of n))
 pushes n = clone_works Nothing (sending Nothing (Race.push_of n)) refl
     (Race.command_of n ∷ [], Race.carried_of n, (refl, refl, inl (Race.main, refl, sym (ap (λ (o : Option Id). unwrap_or o zero_id) knows_main)), tt), carries_exactly n, refl)
-    ((Race.base_with n, added_none (Race.base_with n), refl), refl, refl) refl
+    ((Race.base_with n, none_added (Race.base_with n), refl), refl, refl) refl
 
 -- ---- slots
 
@@ -271,7 +258,7 @@ one_zero e = omega arith
 opens_first : SharedStep fmt (Race.at_first Race.base empty) (Arrives (Race.push_of 2)) (Did (Opened 0)) (Race.at_first Race.base Race.one_open) None
 opens_first = works empty (record { effect = no_effect; left = Race.one_open; sends = None; reply = Opened 0 }) refl
     (0, record { below = omega arith; free = get-empty nat_cmp 0; lowest = λ t h. absurd (omega arith) }, refl)
-    ((Race.base, added_none Race.base, refl), refl, refl) refl
+    ((Race.base, none_added Race.base, refl), refl, refl) refl
 
 below_one : (t : ℕ) → t < 1 → t ≡ 0
 below_one t h = omega arith
@@ -286,7 +273,7 @@ opens_second = works Race.one_open (record { effect = no_effect; left = Race.bot
   },
   refl,
 )
-    ((Race.base, added_none Race.base, refl), refl, refl) refl
+    ((Race.base, none_added Race.base, refl), refl, refl) refl
 
 over_carried : (n : ℕ) → over Race.base (Race.carried_of n) (Race.next_id n) ≡ Some (Race.next_commit n)
 over_carried n = none_or (get Race.base (Race.next_id n)) (get (Race.carried_of n) (Race.next_id n)) (base_next n) ∙ carried_next n
@@ -320,7 +307,7 @@ checks n k l got =
         refl,
       ),
     )
-    ((Race.base, added_none Race.base, refl), refl, refl) refl
+    ((Race.base, none_added Race.base, refl), refl, refl) refl
 
 migrates : (n k : ℕ) (s : Objects) (l : Slots) → get l k ≡ Some (Race.checked n) → get s (Race.next_id n) ≡ None
     → SharedStep fmt (Race.at_first s l) (StepSlot k) (Did MigratedAll) (Race.at_first (insert s (Race.next_id n) (Race.next_commit n)) (insert l k (Race.migrated n))) None
@@ -361,7 +348,7 @@ updates = works Race.both_migrated (record { effect = only_changes (SetRefs ((br
     refl,
   ),
 )
-    ((Race.all_objects, added_none Race.all_objects, refl), refl, refl) refl
+    ((Race.all_objects, none_added Race.all_objects, refl), refl, refl) refl
 
 stale_now : ((Race.first_id ≡ zero_id) × (get Race.main_at_next (branch Race.main) ≡ None)) ⊎ ((Race.first_id ≢ zero_id) × (get Race.main_at_next (branch Race.main) ≡ Some Race.first_id)) → ⊥
 stale_now (inl z) = first_zero z.0
@@ -397,7 +384,7 @@ refuses = works Race.one_updated (record { effect = only_changes []; left = Race
     refl,
   ),
 )
-    ((Race.all_objects, added_none Race.all_objects, refl), refl, refl) refl
+    ((Race.all_objects, none_added Race.all_objects, refl), refl, refl) refl
 
 reports_won : SharedStep fmt (Race.at_next Race.both_updated) (StepSlot 1) (Did Sends) (Race.at_next Race.one_reported) (Some Race.won)
 reports_won = works Race.both_updated (record { effect = no_effect; left = Race.one_reported; sends = Some Race.won; reply = Sends }) refl (
@@ -405,7 +392,7 @@ reports_won = works Race.both_updated (record { effect = no_effect; left = Race.
   there Race.one_updated 0 Race.stale_push Race.accepted_push 1 one_zero (here Race.both_migrated 1 Race.accepted_push),
   inr (record { name = branch Race.main; outcome = Ok (Race.next_id 3) } ∷ [], refl, ((refl, inl (refl, refl)), tt), refl),
 )
-    ((Race.all_objects, added_none Race.all_objects, refl), refl, refl) refl
+    ((Race.all_objects, none_added Race.all_objects, refl), refl, refl) refl
 
 reports_lost : SharedStep fmt (Race.at_next Race.one_reported) (StepSlot 0) (Did Sends) (Race.at_next Race.both_reported) (Some Race.lost)
 reports_lost = works Race.one_reported (record { effect = no_effect; left = Race.both_reported; sends = Some Race.lost; reply = Sends }) refl (
@@ -413,7 +400,7 @@ reports_lost = works Race.one_reported (record { effect = no_effect; left = Race
   remove_other nat_cmp_total nat_cmp-IsAntisymmetric Race.both_updated 1 0 zero_one ∙ here Race.one_updated 0 Race.stale_push,
   inr (record { name = branch Race.main; outcome = Err 108 } ∷ [], refl, ((refl, inr (Stale, refl, refl)), tt), refl),
 )
-    ((Race.all_objects, added_none Race.all_objects, refl), refl, refl) refl
+    ((Race.all_objects, none_added Race.all_objects, refl), refl, refl) refl
 
 -- ---- the clones hear of it
 
@@ -440,11 +427,11 @@ hears_won =
       ),
       refl,
     )
-    ((Race.base_with 3, added_none (Race.base_with 3), refl), refl, refl) refl
+    ((Race.base_with 3, none_added (Race.base_with 3), refl), refl, refl) refl
 
 hears_lost : CloneStep fmt (Race.node_at (Race.base_with 2) Race.knows_first Nothing) (Gets Race.lost) (Did (Reported 0 (108 ∷ []))) (Race.node_at (Race.base_with 2) Race.knows_first Nothing) None
 hears_lost = clone_works Nothing (quietly Nothing (only_changes []) (Reported 0 (108 ∷ []))) refl ([], refl, refl)
-    ((Race.base_with 2, added_none (Race.base_with 2), refl), refl, refl) refl
+    ((Race.base_with 2, none_added (Race.base_with 2), refl), refl, refl) refl
 
 -- ---- the run
 

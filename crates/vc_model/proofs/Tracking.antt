@@ -1,11 +1,12 @@
 -- Whatever a clone's tracking ref is set to was a value of its branch.
-use Rattle.std.proofs.Common.{◌≡◌, ℕ, zero, suc, Bool, true, false, List, [], ◌∷◌, ◌++◌, map, Option, Some, None, Result, Ok, Err, is_none, ◌⊎◌, inl, inr, refl, sym, ap, ◌∙◌, subst, arith, Contains, take, codes, get_or, if◌then◌else◌}
+use Rattle.std.proofs.Common.{◌≡◌, ℕ, zero, suc, Bool, true, false, List, ◌∷◌, ◌++◌, map, Option, Some, None, Result, Ok, Err, is_none, ◌⊎◌, inl, inr, refl, sym, ap, ◌∙◌, subst, arith, Contains, take, codes, get_or, if◌then◌else◌, []}
 use Rattle.std.specs.FinMap.{get, insert, empty, entries, nat_cmp-IsAntisymmetric}
 use Rattle.std.specs.Cmp.{nat_cmp_total}
 use Rattle.std.specs.List.{AllByRecursion, list_all}
 use Rattle.std.specs.Cmp.Lexicographic.{nat_list_cmp_total}
 use Rattle.std.proofs.lemmas.List.{append_cancel_left}
 use Rattle.std.proofs.lemmas.List.Elements.{Contains-append_right}
+use Rattle.vc_lemmas.proofs.Lists.{all_append}
 use Rattle.vc_model.specs.Object.{Id, Format, Objects, Lookup, stored, over}
 use Rattle.vc_model.specs.Refs.{RefName, Refs, Head, branch, tag, tracking, IsBranch, with_refs}
 use Rattle.vc_model.specs.Refs.Head.{OnBranch, Detached}
@@ -24,7 +25,7 @@ use Rattle.vc_model.specs.Clone.{Awaited, Task, Performs, Receives, Moves, Moves
 use Rattle.vc_model.specs.Clone.Task.{Write, Stage as StageFile, Unstage, LoadTree, MakeCommit, SetBranch, DeleteBranch, MoveHead, StartFetch, StartPush}
 use Rattle.vc_model.specs.Clone.Awaited.{APack}
 use Rattle.vc_model.proofs.Maps.{insert_cases, remove_cases, insert_same, insert_other, bytes_same}
-use Rattle.vc_model.proofs.Pushes.{all_front, all_back, all_append}
+use Rattle.vc_model.proofs.Pushes.{all_front, all_back}
 use Rattle.vc_model.proofs.Entries.{all_entries}
 
 pub branch_apart : (a b : List ℕ) → branch a ≡ tracking b → ⊥

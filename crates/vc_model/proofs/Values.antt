@@ -1,8 +1,9 @@
 -- Each tracking value was a value of its branch, so that all are on one line.
-use Rattle.std.proofs.Common.{◌≡◌, ◌≢◌, ℕ, List, [], ◌∷◌, ◌++◌, Option, Some, None, ◌⊎◌, inl, inr, refl, sym, ap, ◌∙◌, subst, slice_get, nat_cmp, append_assoc}
+use Rattle.std.proofs.Common.{◌≡◌, ℕ, List, ◌∷◌, ◌++◌, Option, Some, ◌⊎◌, inl, inr, refl, sym, ap, ◌∙◌, subst, slice_get, nat_cmp, append_assoc, []}
 use Rattle.std.specs.FinMap.{get, insert, empty, nat_cmp-IsAntisymmetric}
 use Rattle.std.specs.Cmp.{nat_cmp_total}
 use Rattle.std.specs.Cmp.Lexicographic.{slice_cmp}
+use Rattle.vc_lemmas.proofs.Lists.{all_map}
 use Rattle.vc_model.specs.Object.{Id, Format, Objects}
 use Rattle.vc_model.specs.Refs.{Refs, tracking}
 use Rattle.vc_model.specs.Repository.{Repository, Change, changed, changed_all, with_objects}
@@ -29,7 +30,6 @@ use Rattle.vc_model.specs.Run.{Moment, History, world_after, Run, NoCollision, N
 use Rattle.vc_model.specs.Safe.{AncestorEver, HonestTracking, InLine}
 use Rattle.vc_model.proofs.Tracked.{IsValue, at_clone_value}
 use Rattle.vc_model.proofs.Maps.{insert_cases, none_in_empty}
-use Rattle.vc_model.proofs.Pushes.{all_map}
 use Rattle.vc_model.proofs.Kept.{RestartOk, restart_ok, new_is_sound, more_sent, ever_more}
 use Rattle.vc_model.proofs.Runs.{monotone, front_run, front_one}
 use Rattle.vc_model.proofs.Tracking.{IsTold, RefsTold, RepositoryTracks, MessageTold, AwaitedTold, CloneTold, JudgedTold, SlotsTold, SharedTold, done_tracks, cut_tracks, objects_track, task_told, message_told, serve_told, slot_told}

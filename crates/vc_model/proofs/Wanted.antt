@@ -1,10 +1,11 @@
 -- What a clone wants of an advertisement and has, and that less is open where more is closed.
-use Rattle.std.proofs.Common.{◌≡◌, ◌≤◌, ◌<◌, Bool, true, false, List, [], ◌∷◌, ◌++◌, map, ◌⊎◌, inl, inr, refl, sym, ap, ◌∙◌, subst, arith, nat_cmp, Contains, length, option_to_list, if◌then◌else◌}
+use Rattle.std.proofs.Common.{◌≡◌, ◌≤◌, ◌<◌, Bool, true, false, List, ◌∷◌, ◌++◌, map, ◌⊎◌, inl, inr, refl, sym, ap, ◌∙◌, subst, arith, nat_cmp, Contains, length, option_to_list, if◌then◌else◌, []}
 use Rattle.std.specs.FinMap.{entries, values}
 use Rattle.std.specs.List.{AllByRecursion, list_any}
 use Rattle.std.specs.Ordering.{eq_by_cmp}
 use Rattle.std.specs.Cmp.Lexicographic.{slice_cmp, nat_list_cmp_total}
 use Rattle.std.proofs.lemmas.List.Elements.{Contains-append_right}
+use Rattle.vc_lemmas.proofs.Lists.{all_append, all_map}
 use Rattle.vc_model.specs.Object.{Id, Format, Lookup, stored}
 use Rattle.vc_model.specs.Reach.{IsClosed}
 use Rattle.vc_model.specs.Refs.{RefName}
@@ -12,7 +13,6 @@ use Rattle.vc_model.specs.Repository.{Repository, IsSound}
 use Rattle.vc_model.specs.Shared.{head_value}
 use Rattle.vc_model.specs.Clone.{AreOpen, IsGoodCommit, once, haves_of}
 use Rattle.vc_model.proofs.Entries.{all_entries}
-use Rattle.vc_model.proofs.Pushes.{all_map, all_append}
 use Rattle.vc_model.proofs.Commits.{contains_cons, head_good}
 use Rattle.vc_model.proofs.Sound.{all_taken}
 

@@ -1,5 +1,5 @@
 -- A run: a clone writes a commit, a push of it is served, and its report moves the clone's tracking ref.
-use Rattle.std.proofs.Common.{◌≡◌, ◌≢◌, ℕ, zero, suc, ◌<◌, ◌≤◌, false, List, [], ◌∷◌, Option, Some, None, Ok, ◌⊎◌, inl, inr, refl, sym, ap, ◌∙◌, subst, nat_cmp, codes, length, arith, Contains, unwrap_or}
+use Rattle.std.proofs.Common.{◌≡◌, ◌≢◌, ℕ, zero, suc, ◌<◌, ◌≤◌, false, List, ◌∷◌, Some, None, Ok, ◌⊎◌, inl, inr, refl, sym, ap, ◌∙◌, subst, nat_cmp, codes, length, arith, Contains, unwrap_or, []}
 use Rattle.std.specs.FinMap.{FinMap, get, insert, remove, empty, get-empty, nat_cmp-IsAntisymmetric}
 use Rattle.std.specs.Cmp.{nat_cmp_total}
 use Rattle.std.specs.Option.{option_or}
@@ -8,7 +8,7 @@ use Rattle.vc_model.specs.Object.{Id, zero_id, Object, Format, Objects, Lookup, 
 use Rattle.vc_model.specs.Object.Kind.{Commit}
 use Rattle.vc_model.specs.Reach.{Path, HasParent, IsClosed, HasHistory}
 use Rattle.vc_model.specs.Refs.{branch, tracking}
-use Rattle.vc_model.specs.Repository.{Repository, AllAdded, with_objects, no_effect, only_changes}
+use Rattle.vc_model.specs.Repository.{Repository, with_objects, no_effect, only_changes}
 use Rattle.vc_model.specs.Repository.Change.{SetRefs}
 use Rattle.vc_model.specs.Push.{Command, OpenPush, Slots}
 use Rattle.vc_model.specs.Push.Verdict.{Passing, Accepted}
@@ -34,7 +34,7 @@ use Rattle.vc_model.specs.World.Step.{at_shared, at_clone}
 use Rattle.vc_model.specs.Run.{History, world_after, Run}
 use Rattle.vc_model.specs.Safe.{ARunExists}
 use Rattle.vc_model.proofs.Tracked.{IsTracking, value_at_clone}
-use Rattle.vc_model.proofs.Maps.{insert_cases, insert_same, insert_other, bytes_same, none_in_empty}
+use Rattle.vc_model.proofs.Maps.{insert_cases, insert_same, insert_other, bytes_same, none_in_empty, none_added, all_added}
 use Rattle.vc_model.proofs.Clones.{blob_closed}
 use Rattle.vc_model.specs.Small.{small_format}
 use Rattle.vc_model.proofs.Smalls.{named_apart}
@@ -68,16 +68,6 @@ history at is = record { commits = λ y p. go y p.0 p.1 }
 
 closed : (at : Lookup) → at x ≡ Some o → IsClosed fmt at x
 closed at is = blob_closed fmt at o refl is
-
-or_none : (a : Option Object) (y : Id) → a ≡ option_or a (get (empty {X = Object} {R = slice_cmp nat_cmp}) y)
-or_none None y = sym (get-empty (slice_cmp nat_cmp) y)
-or_none (Some p) y = refl
-
-added_none : (t : Objects) → AllAdded t empty t
-added_none t = record { each = λ y. or_none (get t y) y }
-
-added_first : (t : Objects) → AllAdded empty t t
-added_first t = record { each = λ y. sym (ap (λ a. option_or a (get t y)) (get-empty (slice_cmp nat_cmp) y)) }
 
 named : IsNamed fmt s
 named = record {
@@ -139,7 +129,7 @@ put l p = insert_same nat_cmp_total nat_cmp-IsAntisymmetric l 0 p
 opens : SharedStep fmt (up empty_repository empty) (Arrives (Push false None (command ∷ []) s)) (Did (Opened 0)) (up empty_repository l0) None
 opens = works empty (record { effect = no_effect; left = l0; sends = None; reply = Opened 0 }) refl
     (0, record { below = omega arith; free = get-empty nat_cmp 0; lowest = λ t h. absurd (omega arith) }, refl)
-    ((empty, added_none empty, refl), refl, refl) refl
+    ((empty, none_added empty, refl), refl, refl) refl
 
 long : x ≢ zero_id
 long e = let h : ◌≡◌ {A = ℕ} 3 20 = ap length e in omega arith
@@ -166,12 +156,12 @@ checks =
         refl,
       ),
     )
-    ((empty, added_none empty, refl), refl, refl) refl
+    ((empty, none_added empty, refl), refl, refl) refl
 
 migrates : SharedStep fmt (up empty_repository l1) (StepSlot 0) (Did MigratedAll) (up r1 l2) None
 migrates = works l1 (record { effect = record { objects = s; changes = [] }; left = l2; sends = None; reply = MigratedAll }) refl
     (p1, put l0 p1, inl (p2, (refl, refl, refl), refl, refl))
-    ((s, added_first s, refl), refl, refl) refl
+    ((s, all_added s, refl), refl, refl) refl
 
 updates : SharedStep fmt (up r1 l2) (StepSlot 0) (Did (Updated (branch b) None)) (up q l3) None
 updates = works l2 (record { effect = only_changes (SetRefs ((branch b, x) ∷ []) ∷ []); left = l3; sends = None; reply = Updated (branch b) None }) refl (
@@ -200,7 +190,7 @@ updates = works l2 (record { effect = only_changes (SetRefs ((branch b, x) ∷ [
     refl,
   ),
 )
-    ((s, added_none s, refl), refl, refl) refl
+    ((s, none_added s, refl), refl, refl) refl
 
 abbrev report : Message
 report = Report None (record { name = branch b; outcome = Ok x } ∷ [])
@@ -208,10 +198,10 @@ report = Report None (record { name = branch b; outcome = Ok x } ∷ [])
 reports : SharedStep fmt (up q l3) (StepSlot 0) (Did Sends) (up q (remove l3 0)) (Some report)
 reports = works l3 (record { effect = no_effect; left = remove l3 0; sends = Some report; reply = Sends }) refl
     (p3, put l2 p3, inr (record { name = branch b; outcome = Ok x } ∷ [], refl, ((refl, inl (refl, refl)), tt), refl))
-    ((s, added_none s, refl), refl, refl) refl
+    ((s, none_added s, refl), refl, refl) refl
 
 writes : CloneStep fmt (node empty_repository) (Commanded (Write o)) (Did (Made x)) (node r1) None
-writes = clone_works Nothing (record { effect = record { objects = only_object fmt o; changes = [] }; left = Nothing; sends = None; reply = Made x }) refl refl ((s, added_first s, refl), refl, refl) refl
+writes = clone_works Nothing (record { effect = record { objects = only_object fmt o; changes = [] }; left = Nothing; sends = None; reply = Made x }) refl refl ((s, all_added s, refl), refl, refl) refl
 
 tracks : CloneStep fmt (node r1) (Gets report) (Did (Reported 1 [])) (node r2) None
 tracks = clone_works Nothing (record { effect = only_changes (SetRefs ((tracking b, x) ∷ []) ∷ []); left = Nothing; sends = None; reply = Reported 1 [] }) refl (
@@ -234,7 +224,7 @@ tracks = clone_works Nothing (record { effect = only_changes (SetRefs ((tracking
   ),
   refl,
 )
-    ((s, added_none s, refl), refl, refl) refl
+    ((s, none_added s, refl), refl, refl) refl
 
 -- ---- the run
 

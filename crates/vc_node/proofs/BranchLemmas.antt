@@ -1,10 +1,11 @@
 -- The machine's answers to changes of branches and of HEAD.
-use Rattle.std.proofs.Common.{◌≡◌, ◌⊎◌, inl, inr, ℕ, true, cond, nat_eq, List, [], ◌∷◌, drop, None, refl, sym, ap, ◌∙◌, subst}
+use Rattle.std.proofs.Common.{◌≡◌, ◌⊎◌, inl, inr, ℕ, true, cond, nat_eq, List, ◌∷◌, drop, None, refl, sym, ap, ◌∙◌, subst, []}
 use Rattle.std.specs.Prelude.{option_map, is_some, bytes_eq, codes}
 use Rattle.std.specs.List.{starts_with}
 use Rattle.std.specs.FinMap.{get, insert, remove}
 use Rattle.vc_files.specs.FileMap.{FileMap}
 use Rattle.vc_format.specs.Git.{id_of_bytes}
+use Rattle.vc_lemmas.proofs.Texts.{split_from_starts}
 use Rattle.vc_model.specs.Object.{stored}
 use Rattle.vc_model.specs.Reach.{IsClosed, HasHistory}
 use Rattle.vc_model.specs.Refs.{RefName, Refs, IsBranch, IsFree}
@@ -17,6 +18,7 @@ use Rattle.vc_model.specs.Node.Answer.{Did}
 use Rattle.vc_model.specs.Node.Reply.{Stored}
 use Rattle.vc_model.specs.Clone.{Awaited, quietly}
 use Rattle.vc_model.specs.Clone.Task.{DeleteBranch, SetBranch, MoveHead}
+use Rattle.vc_model.proofs.Maps.{none_added}
 use Rattle.vc_object.specs.declared.id.ObjectId.{ObjectId}
 use Rattle.vc_refs.specs.RefMap.{RefMap, conflicts, with_ref, without_ref}
 use Rattle.vc_refs.specs.Refs.{refs}
@@ -27,7 +29,6 @@ use Rattle.vc_refs.proofs.LayeredChangeLemmas.{held_from_ref}
 use Rattle.vc_store.specs.Store.{objects}
 use Rattle.vc_store.specs.declared.faults.StoreFault.TheVariants as store
 use Rattle.vc_refs.specs.declared.faults.RefFault.TheVariants as ref
-use Rattle.vc_refs.proofs.ObstacleLemmas.{split_from_starts}
 use Rattle.vc_node.specs.declared.fault.NodeFault.{NodeFault}
 use Rattle.vc_node.specs.declared.fault.NodeFault.TheVariants.{Store, Ref, Missing, NotACommit, BadPath, PathConflict, BadIndex, WrongEntry, Down}
 use Rattle.vc_node.specs.Blames.{BlamesRemoved, BlamesBranch, BlamesHead, MayHead, IsLocalHead}
@@ -37,7 +38,6 @@ use Rattle.vc_rules.specs.Git.{git}
 use Rattle.vc_rules.proofs.GitLaws.{git_rules}
 use Rattle.vc_node.specs.Machine.{machine_head, Spells, Follows, FollowsIf, IsBadFile, fault_answer, failure_of}
 use Rattle.vc_node.proofs.AnswerLemmas.{faults}
-use Rattle.vc_rules.proofs.JoinLemmas.{none_added}
 use Rattle.vc_rules.proofs.MapLemmas.{get-unput, map_cond}
 use Rattle.vc_rules.proofs.ReachLemmas.{closed_from, closed_to, history_from, history_to}
 use Rattle.vc_node.proofs.NameLemmas.{head_named, set_named}

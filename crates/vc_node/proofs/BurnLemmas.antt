@@ -1,5 +1,5 @@
 -- What a call spends is what the machine allows: one write for each place that changed. The packed file is the place of one ref.
-use Rattle.std.proofs.Common.{Vec, ◌≡◌, ◌⊎◌, inl, inr, ℕ, ◌-◌, ◌≤◌, Bool, true, false, cond, List, [], ◌∷◌, Option, Some, None, Result, Ok, Err, IsTrue, Contains, map, nat_eq, codes, refl, sym, ap, ◌∙◌, subst, arith}
+use Rattle.std.proofs.Common.{Vec, ◌≡◌, ◌⊎◌, inl, inr, ℕ, ◌-◌, ◌≤◌, Bool, true, false, cond, List, ◌∷◌, Option, Some, None, Result, Ok, Err, IsTrue, Contains, map, nat_eq, codes, refl, sym, ap, ◌∙◌, subst, arith, []}
 use Rattle.std.specs.Prelude.{bytes_eq, option_map, unwrap_or}
 use Rattle.std.specs.FinMap.{get, same_map}
 use Rattle.std.specs.Global.{Global}
@@ -40,7 +40,7 @@ use Rattle.vc_refs.proofs.LayeredLemmas.{ref_legal, refs-same, value_same}
 use Rattle.vc_refs.specs.declared.faults.RefFault.{RefFault}
 use Rattle.vc_refs.specs.declared.faults.RefFault.TheVariants as ref
 use Rattle.vc_refs.specs.declared.heads.Head.{Head as RefsHead}
-use Rattle.vc_session.proofs.FrameLemmas.{head-same}
+use Rattle.vc_refs.proofs.LayeredListingLemmas.{head_of-same}
 use Rattle.vc_store.specs.Store.{name_in, object_path, objects, stored_in}
 use Rattle.vc_store.specs.declared.faults.StoreFault.{StoreFault}
 use Rattle.vc_store.specs.declared.faults.StoreFault.TheVariants as store
@@ -201,7 +201,7 @@ module _ (old new : FileMap) (r s : Repository) (p : Spells (shown old) r) (q : 
   head_differs : (s.head ≡ r.head) ⊎ Contains (map (place name) paths) TheHead
   head_differs = elim (at (codes "HEAD")) [
     | inl same ↦ inl (
-        let heads : ◌≡◌ {A = Option RefsHead} (Some q.head) (Some p.head) = sym q.head_shown ∙ head-same old new same ∙ p.head_shown in
+        let heads : ◌≡◌ {A = Option RefsHead} (Some q.head) (Some p.head) = sym q.head_shown ∙ head_of-same old new same ∙ p.head_shown in
         q.head_is ∙ ap machine_head (ap (λ h. unwrap_or h p.head) heads) ∙ sym p.head_is)
     | inr there ↦ inr there
   ]

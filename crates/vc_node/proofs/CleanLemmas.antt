@@ -1,12 +1,13 @@
 -- What changes of files make no file bad.
-use Rattle.std.proofs.Common.{◌≡◌, ℕ, true, false, cond, inl, inr, nat_eq, List, Some, refl, sym, ap, ◌∙◌, subst}
+use Rattle.std.proofs.Common.{◌≡◌, ℕ, true, false, cond, inl, inr, List, Some, refl, sym, ap, ◌∙◌, subst}
 use Rattle.std.specs.Prelude.{bytes_eq, codes}
 use Rattle.std.specs.FinMap as files
-use Rattle.std.specs.List.{starts_with}
+use Rattle.vc_exchange.proofs.StoringLemmas.{name_valid}
 use Rattle.vc_files.specs.FileMap.{FileMap, SameOutside}
 use Rattle.vc_files.proofs.FileMapLemmas.{get-put}
 use Rattle.vc_index.specs.Damage.{KeepsDamage}
 use Rattle.vc_index.proofs.DamageLemmas.{damage_same, damage_then, damage_put}
+use Rattle.vc_lemmas.proofs.Texts.{split_from_starts}
 use Rattle.vc_object.specs.Decoding.{stored_object}
 use Rattle.vc_object.specs.Object.{object_name}
 use Rattle.vc_object.specs.ObjectId.{is_id}
@@ -18,12 +19,10 @@ use Rattle.vc_refs.specs.RefMap.{IsInRefs}
 use Rattle.vc_refs.specs.Refs.{IsBadRef, ChangesOnly, packed_at, packed_path, refs}
 use Rattle.vc_refs.proofs.LayeredChangeLemmas.{unpacks_same}
 use Rattle.vc_refs.proofs.LayeredLemmas.{bad-same, bad_place, packed_map-same}
-use Rattle.vc_refs.proofs.ObstacleLemmas.{split_from_starts}
 use Rattle.vc_store.specs.Store.{objects, object_path, stored_in, with_object, with_file}
 use Rattle.vc_node.specs.Clean.{IsClean, KeepsClean, KeepsCleanBut, PacksOnly}
-use Rattle.vc_session.proofs.FrameLemmas.{ref_no_object}
+use Rattle.vc_session.proofs.CleanLemmas.{bad_no_object}
 use Rattle.vc_node.proofs.ShownLemmas.{ref_no_index, shown_packed}
-use Rattle.vc_node.proofs.StoringLemmas.{name_valid}
 
 pub clean_same : {name : List ℕ} (old new : FileMap) → new ≡ old → KeepsCleanBut name old new
 clean_same {name = name} old new same = record { damage = damage_same old new same; refs = λ path bad. subst (λ (m : FileMap). IsBadRef m path) same bad; packed = unpacks_same name old new same }
@@ -45,10 +44,6 @@ still_clean old new keeps clean = record { objects = λ id damaged. clean.object
 -- a file is bad by itself alone
 damage_at : (old new : FileMap) → ((name : List ℕ) → files.get new (object_path name) ≡ files.get old (object_path name)) → KeepsDamage old new
 damage_at old new same = record { before = λ id damaged. ap (stored_in id) (sym (same id.0)) ∙ damaged }
-
--- it is no object, HEAD or the index
-pub bad_no_object : (content : FileMap) (path : List ℕ) → IsBadRef content path → starts_with nat_eq path (codes "objects/") ≡ false
-bad_no_object content path bad = elim (bad_place content path bad) [ inl inside ↦ ref_no_object path inside | inr packed ↦ ap (λ p. starts_with nat_eq p (codes "objects/")) packed ]
 
 bad_no_head : (content : FileMap) (path : List ℕ) → IsBadRef content path → bytes_eq path (codes "HEAD") ≡ false
 bad_no_head content path bad = elim (bad_place content path bad) [ inl inside ↦ ap (λ p. bytes_eq p (codes "HEAD")) (split_from_starts path (codes "refs/") inside) | inr packed ↦ ap (λ p. bytes_eq p (codes "HEAD")) packed ]

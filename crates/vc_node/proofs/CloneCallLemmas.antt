@@ -4,6 +4,7 @@ use Rattle.std.proofs.Common.{◌≡◌, ◌≢◌, ℕ, Bool, true, false, List
 use Rattle.vc_files.specs.FileMap.{FileMap}
 use Rattle.vc_files.specs.declared.faults.Fault.{Fault as FilesFault}
 use Rattle.vc_message.specs.Machine.{IsWritten}
+use Rattle.vc_message.specs.Told.{Quietly, SendsBytes}
 use Rattle.vc_model.specs.Clone.{Awaited, CloneNode, sending}
 use Rattle.vc_model.specs.CloneCall.{CloneAnswers, CloneCall, CloneObeys, CloneRefuses}
 use Rattle.vc_model.specs.CloneCall.CloneCall.{Open}
@@ -12,8 +13,8 @@ use Rattle.vc_model.specs.Node.{Answer}
 use Rattle.vc_model.specs.Node.Answer.{Declined, Did, Fault}
 use Rattle.vc_model.specs.Node.Reply.{Sends}
 use Rattle.vc_model.specs.Repository.{IsSound, Repository}
+use Rattle.vc_model.proofs.Maps.{none_added}
 use Rattle.vc_rules.proofs.GitLaws.{git_rules}
-use Rattle.vc_rules.proofs.JoinLemmas.{none_added}
 use Rattle.vc_rules.specs.Git.{git}
 use Rattle.vc_rules.specs.OpenPushes.{HoldsContent}
 use Rattle.vc_node.specs.Awaited.{AwaitedText, IsAwaited}
@@ -21,7 +22,6 @@ use Rattle.vc_node.specs.CloneCalls.{AnswersClone}
 use Rattle.vc_node.specs.CloneFaults.{fault_answer, of_device}
 use Rattle.vc_node.specs.Machine.{HoldsNode, Spells, failure_of}
 use Rattle.vc_node.specs.Shown.{shown}
-use Rattle.vc_node.specs.Told.{Quietly, SendsBytes}
 
 -- what is shown of a repository is its content
 pub held_content : (content : FileMap) (r : Repository) → Spells (shown content) r → HoldsContent content r

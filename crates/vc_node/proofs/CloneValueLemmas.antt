@@ -5,6 +5,7 @@ use Rattle.vc_files.specs.Failures.{Wears}
 use Rattle.vc_files.specs.FileMap.{FileMap}
 use Rattle.vc_files.specs.declared.faults.Fault.TheVariants.{Device}
 use Rattle.vc_format.specs.Git.{bytes_of_id}
+use Rattle.vc_message.specs.Told.{Quietly}
 use Rattle.vc_model.specs.Clone.{Awaited, CloneNode}
 use Rattle.vc_model.specs.CloneCall.{CloneAnswers}
 use Rattle.vc_model.specs.CloneCall.CloneCall.{Asks}
@@ -29,7 +30,7 @@ use Rattle.vc_node.specs.Awaited.{AwaitedText, IsAwaited}
 use Rattle.vc_node.specs.CloneCalls.{AnswersClone}
 use Rattle.vc_node.specs.CloneFaults.{IsOfDevice, fault_answer, is_fault, of_rev}
 use Rattle.vc_node.specs.Machine.{HoldsNode}
-use Rattle.vc_node.specs.Told.{FoundAs, Quietly}
+use Rattle.vc_node.specs.Told.{FoundAs}
 use Rattle.vc_node.specs.Values.{TellsValue, is_rev_fault, rev_answer, up_after_value}
 use Rattle.vc_node.specs.declared.clone_fault.CloneFault.{CloneFault}
 

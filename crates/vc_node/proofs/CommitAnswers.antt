@@ -1,5 +1,5 @@
 -- The machine's answers to a commit.
-use Rattle.std.proofs.Common.{◌≡◌, ◌≤◌, inl, inr, ℕ, List, [], ◌∷◌, ◌++◌, map, append-nil, length, Some, None, Ok, Err, refl, sym, ap, ◌∙◌, subst, arith}
+use Rattle.std.proofs.Common.{◌≡◌, ◌≤◌, inl, inr, ℕ, List, ◌∷◌, ◌++◌, map, append-nil, length, Some, None, Ok, Err, refl, sym, ap, ◌∙◌, subst, arith, []}
 use Rattle.std.specs.Prelude.{option_map}
 use Rattle.std.specs.FinMap.{get, insert, empty}
 use Rattle.vc_files.specs.FileMap.{FileMap}
@@ -19,6 +19,7 @@ use Rattle.vc_model.specs.Node.Reply.{Made}
 use Rattle.vc_model.specs.Object.{Object, Objects, Id}
 use Rattle.vc_model.specs.Refs.{Head as MachineHead}
 use Rattle.vc_model.specs.Repository.{Repository, AllAdded, SomeAdded, StopsWithin, changed, with_objects as with_all}
+use Rattle.vc_model.proofs.Maps.{none_added}
 use Rattle.vc_object.specs.Decoding.{stored_object}
 use Rattle.vc_object.specs.Object.{IsObject, object_name}
 use Rattle.vc_object.specs.ObjectMap.{ObjectMap}
@@ -39,7 +40,6 @@ use Rattle.vc_node.specs.Machine.{machine_head, Spells, FollowsIf}
 use Rattle.vc_node.specs.Making.{AreLines, HasRoot, IsCut, MayCommit}
 use Rattle.vc_node.specs.Shown.{Shown, shown, with_objects_shown}
 use Rattle.vc_node.proofs.BranchLemmas.{spells_refs, spells_head}
-use Rattle.vc_rules.proofs.JoinLemmas.{none_added}
 use Rattle.vc_rules.proofs.RefLemmas.{set_rel}
 use Rattle.vc_node.proofs.RefusalLemmas.{same_head, same_body, head_free, parents_good}
 use Rattle.vc_node.proofs.TreeObjects.{with_trees, with_trees_show, with_trees_append, trees_held, trees_over, spells_objects, added_over, Keeps, keeps_added, keeps_trees, some_of_more}

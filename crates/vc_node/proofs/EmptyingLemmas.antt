@@ -1,5 +1,5 @@
 -- What opening the files of a node leaves of them, where their quarantines are emptied first.
-use Rattle.std.proofs.Common.{inl, ◌≡◌, ℕ, true, false, cond, ◌&&◌, nat_eq, List, [], ◌++◌, drop, take, map, Option, Some, None, Result, Ok, Err, OnOk, sym, ap, refl, ◌∙◌, subst}
+use Rattle.std.proofs.Common.{inl, ◌≡◌, ℕ, true, false, cond, ◌&&◌, nat_eq, List, ◌++◌, drop, take, map, None, Result, Ok, Err, OnOk, sym, ap, refl, ◌∙◌, subst, []}
 use Rattle.std.specs.Prelude.{IfErr, OnErr, bytes_eq, codes, is_some, unwrap_or, String, string_bytes, option_map}
 use Rattle.std.specs.FinMap as files
 use Rattle.std.specs.Global.{Global}
@@ -11,6 +11,7 @@ use Rattle.std.proofs.lemmas.List.{map-append, take-append-drop}
 use Rattle.std.proofs.lemmas.List.Folds.{list_any-append}
 use Rattle.vc_files.specs.FileMap.{FileMap, paths_under}
 use Rattle.vc_index.specs.IndexText.{TextFault}
+use Rattle.vc_lemmas.proofs.Texts.{split_from_starts}
 use Rattle.vc_model.specs.Repository.{Repository}
 use Rattle.vc_node.specs.Blames.{BlamesOpen}
 use Rattle.vc_node.specs.Clean.{KeepsClean}
@@ -21,15 +22,15 @@ use Rattle.vc_node.specs.Shown.{IsReady, Shown, opened, shown}
 use Rattle.vc_node.specs.declared.fault.NodeFault.{NodeFault}
 use Rattle.vc_node.specs.declared.fault.NodeFault.TheVariants.{Store, Ref, Missing, NotACommit, BadPath, PathConflict, BadIndex, WrongEntry, Down}
 use Rattle.vc_refs.proofs.PathLemmas.{is_among, is_among-paths_under}
-use Rattle.vc_refs.proofs.ObstacleLemmas.{split_from_starts}
 use Rattle.vc_refs.specs.Head.{read_head, head_of}
 use Rattle.vc_refs.specs.RefFault.{BlamesHead}
 use Rattle.vc_refs.specs.Refs.{packed_path, refs}
 use Rattle.vc_refs.specs.declared.faults.RefFault.{RefFault}
 use Rattle.vc_refs.specs.declared.faults.RefFault.TheVariants.{Stale, Conflict, BadRefFile, HeadLoop, Fault}
+use Rattle.vc_refs.proofs.LayeredListingLemmas.{head_of-same}
 use Rattle.vc_session.proofs.CleanLemmas.{bad_loses}
-use Rattle.vc_session.proofs.FrameLemmas.{head-same, refs-kept}
-use Rattle.vc_session.proofs.QuarantineLemmas.{Taken, taken_left}
+use Rattle.vc_session.proofs.FrameLemmas.{refs-kept}
+use Rattle.vc_session.proofs.QuarantineLemmas.{Taken, taken_left, none_left}
 use Rattle.vc_store.specs.Store.{object_path, objects}
 use Rattle.vc_model.specs.Clone.Awaited.{Nothing}
 use Rattle.vc_node.proofs.CleanLemmas.{clean_on as kept_on, clean_then}
@@ -40,9 +41,6 @@ use Rattle.vc_node.specs.Emptying.{AreEmpty, IsOpened, LosesCarried, quarantines
 use Rattle.vc_session.specs.Quarantine.{IsDropped, quarantine_folder}
 
 -- ---- files that are taken away
-none_left : (o : Option (List ℕ)) → cond (is_some o) None o ≡ None
-none_left None = refl
-none_left (Some x) = refl
 
 pub all_empty : (old now : FileMap) → Taken old now (paths_under old quarantines) → AreEmpty now
 all_empty old now t path under =
@@ -91,7 +89,7 @@ module _ (old new : FileMap) (loses : LosesCarried old new) where
       same_shown (objects new) (objects old) (refs new) (refs old) (head_of new) (head_of old) (index_bytes new) (index_bytes old)
       (objects_same old new (λ name. loses.outside.at (object_path name) refl))
       (refs-kept old new (λ q h. loses.outside.at q (no_ref_there q h)) (loses.outside.at packed_path refl))
-      (head-same old new (loses.outside.at (codes "HEAD") refl)) index_kept
+      (head_of-same old new (loses.outside.at (codes "HEAD") refl)) index_kept
 
   pub openable_kept : (r : Repository) → IsOpenable old r → IsOpenable new r
   openable_kept r can = record {

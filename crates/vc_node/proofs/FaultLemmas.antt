@@ -5,6 +5,7 @@ use Rattle.vc_files.proofs.WearLemmas.{writes_told}
 use Rattle.vc_files.specs.Failures.{Wears, Writes}
 use Rattle.vc_files.specs.FileMap.{FileMap}
 use Rattle.vc_files.specs.declared.faults.Fault.TheVariants.{Device, Memory}
+use Rattle.vc_model.specs.Exchange.{IsUndone}
 use Rattle.vc_refs.specs.declared.faults.RefFault.{RefFault}
 use Rattle.vc_refs.specs.declared.faults.RefFault.TheVariants as refs
 use Rattle.vc_rev.specs.declared.refusal.SourceFault.{SourceFault}
@@ -15,6 +16,7 @@ use Rattle.vc_node.proofs.LookLemmas.{or_told}
 use Rattle.vc_node.specs.NodeFault.{IsOfDevice, is_fault, of_source, refused_by_refs, refused_by_store}
 use Rattle.vc_node.specs.declared.fault.NodeFault.{NodeFault}
 use Rattle.vc_node.specs.declared.fault.NodeFault.TheVariants.{Store, Ref, Missing, NotACommit, BadPath, PathConflict, BadIndex, WrongEntry, Down}
+use Rattle.vc_node.specs.Machine.{store_answer, ref_answer, fault_answer}
 
 -- ---- what is none of the device
 -- a refusal
@@ -86,3 +88,28 @@ module _ {L N : Type 0} (IsOf : N → Type 0) (tell : L → N) (device : L) (alo
 pub err_as : {T N : Type 0} (P : N → Type 0) (fault : N) (r : Result T N) → IsErrAnd r (λ e. e ≡ fault) → P fault → IfErr r P
 err_as P fault (Ok x) is holds = tt
 err_as P fault (Err e) is holds = subst P (sym is) holds
+
+-- ---- a call that ends in a fault is no success
+store_undone : (e : StoreFault) → IsUndone (store_answer e)
+store_undone (store.BadObject e) = tt
+store_undone (store.Absent id) = tt
+store_undone (store.Damaged id) = tt
+store_undone (store.Fault f) = tt
+
+ref_undone : (e : RefFault) → IsUndone (ref_answer e)
+ref_undone (refs.Stale current) = tt
+ref_undone (refs.Conflict other) = tt
+ref_undone (refs.BadRefFile path) = tt
+ref_undone refs.HeadLoop = tt
+ref_undone (refs.Fault f) = tt
+
+pub node_undone : (e : NodeFault) → IsUndone (fault_answer e)
+node_undone (Store e) = store_undone e
+node_undone (Ref e) = ref_undone e
+node_undone (Missing id) = tt
+node_undone (NotACommit id) = tt
+node_undone BadPath = tt
+node_undone PathConflict = tt
+node_undone (BadIndex place) = tt
+node_undone (WrongEntry at) = tt
+node_undone Down = tt

@@ -1,5 +1,5 @@
 -- The machine's answers to changes of the index.
-use Rattle.std.proofs.Common.{◌≡◌, ◌≢◌, ◌⊎◌, inl, inr, ℕ, true, false, cond, List, [], ◌∷◌, Option, Some, None, refl, sym, ap, ◌∙◌, subst}
+use Rattle.std.proofs.Common.{◌≡◌, ◌≢◌, ◌⊎◌, inl, inr, ℕ, true, false, cond, List, ◌∷◌, Option, Some, None, refl, sym, ap, ◌∙◌, subst, []}
 use Rattle.std.specs.Prelude.{option_map, IsSome, bytes_eq}
 use Rattle.std.specs.FinMap.{get, insert, remove}
 use Rattle.vc_files.specs.FileMap.{FileMap}
@@ -22,6 +22,7 @@ use Rattle.vc_model.specs.Node.Reply.{Stored}
 use Rattle.vc_model.specs.Clone.{Awaited, only_object, quietly, with_object as added}
 use Rattle.vc_model.specs.Clone.Task.{Stage, Unstage}
 use Rattle.vc_model.specs.CloneCall.{IsFreePath, Obeys, Refuses}
+use Rattle.vc_model.proofs.Maps.{none_added}
 use Rattle.vc_object.specs.Object.{object_name}
 use Rattle.vc_object.specs.declared.kind.Kind.TheVariants as kinds
 use Rattle.vc_object.specs.declared.mode.Mode.{Mode}
@@ -42,7 +43,6 @@ pub use Rattle.vc_rules.specs.Trees.{ShowsIndex as IsMachineIndex}
 use Rattle.vc_rules.proofs.GitLaws.{git_rules}
 use Rattle.vc_node.specs.Machine.{Spells, Follows, IsBadFile, fault_answer, failure_of}
 use Rattle.vc_node.proofs.AnswerLemmas.{faults}
-use Rattle.vc_rules.proofs.JoinLemmas.{none_added}
 use Rattle.vc_rules.proofs.MapLemmas.{get-put, get-unput, map_cond}
 use Rattle.vc_node.proofs.WriteLemmas.{added_all, spells_added}
 

@@ -1,13 +1,14 @@
 -- What becomes of a clone's node with a message: where it is taken, where a fault cuts that short, and where nothing is done.
-use Rattle.std.proofs.Common.{◌≡◌, ℕ, Bool, true, false, [], Option, Some, None, Result, Ok, Err, refl, sym, ap, ◌∙◌, subst}
+use Rattle.std.proofs.Common.{◌≡◌, ℕ, Bool, true, false, Option, Some, None, Result, Ok, Err, refl, sym, ap, ◌∙◌, subst, []}
 use Rattle.std.specs.Prelude.{IfErr, codes, option_map, unwrap_or}
 use Rattle.std.specs.FinMap as files
 use Rattle.std.specs.FinMap.{get}
 use Rattle.vc_exchange.specs.Deeds.{HoldsHead, IsCutShort, IsReceived}
 use Rattle.vc_exchange.specs.Deeds.IsCutShort.{at_first, within}
 use Rattle.vc_exchange.specs.Storing.{KeepsBeside}
+use Rattle.vc_exchange.proofs.WantingHaves.{bytes_back}
 use Rattle.vc_files.specs.FileMap.{FileMap, SameOutside}
-use Rattle.vc_format.specs.Git.{bytes_of_id, id_of_bytes}
+use Rattle.vc_format.specs.Git.{bytes_of_id}
 use Rattle.vc_model.specs.Clone.{Awaited, CloneNode}
 use Rattle.vc_model.specs.CloneCall.{CloneAnswers, CloneCall}
 use Rattle.vc_model.specs.CloneCall.CloneCall.{Asks, Receive}
@@ -23,8 +24,8 @@ use Rattle.vc_refs.specs.Head.{head_of, head_value}
 use Rattle.vc_refs.specs.Refs.{packed_at, refs}
 use Rattle.vc_refs.specs.declared.heads.Head.{Head}
 use Rattle.vc_refs.specs.declared.heads.Head.TheVariants as heads
+use Rattle.vc_refs.proofs.LayeredListingLemmas.{head_of-same}
 use Rattle.vc_rules.specs.OpenPushes.{HoldsContent}
-use Rattle.vc_session.proofs.FrameLemmas.{head-same}
 use Rattle.vc_session.specs.Clean.{MakesNoneBad}
 use Rattle.vc_node.proofs.CloneCallLemmas.{Leads}
 use Rattle.vc_node.specs.Awaited.{AwaitedText, IsAwaited}
@@ -39,15 +40,12 @@ use Rattle.vc_node.specs.declared.clone_fault.CloneFault.{CloneFault}
 use Rattle.vc_node.specs.declared.exchanging.Received.{Received}
 
 -- ---- the repository
-back : (o : Option Id) → option_map bytes_of_id (option_map id_of_bytes o) ≡ o
-back None = refl
-back (Some x) = refl
 
 abbrev value_of : Repository → MachineHead → Option Id
 value_of r h = elim h [ OnBranch b ↦ get r.refs b | Detached x ↦ Some x ]
 
 value_by : (content : FileMap) (r : Repository) → Spells (shown content) r → (head : Head) → option_map bytes_of_id (head_value (refs content) (Some head)) ≡ value_of r (machine_head head)
-value_by content r spells (heads.Branch name) = ap (option_map bytes_of_id) (spells.refs name) ∙ back (get r.refs name)
+value_by content r spells (heads.Branch name) = ap (option_map bytes_of_id) (spells.refs name) ∙ bytes_back (get r.refs name)
 value_by content r spells (heads.Id id) = refl
 
 pub head_held : (content : FileMap) (r : Repository) → Spells (shown content) r → HoldsHead content r
@@ -74,7 +72,7 @@ spells_on old new r after spells content beside head index = record {
 }
 
 pub beside_by : (old new : FileMap) → files.get new (codes "HEAD") ≡ files.get old (codes "HEAD") → files.get new (codes "index") ≡ files.get old (codes "index") → SameBeside old new
-beside_by old new head index = record { head = head-same old new head; index = ap (λ found. unwrap_or found []) index }
+beside_by old new head index = record { head = head_of-same old new head; index = ap (λ found. unwrap_or found []) index }
 
 pub beside_refs : (old new : FileMap) → SameOutside (codes "refs/") old new → SameBeside old new
 beside_refs old new same = beside_by old new (same.at (codes "HEAD") refl) (same.at (codes "index") refl)

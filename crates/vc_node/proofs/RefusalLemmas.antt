@@ -1,5 +1,5 @@
 -- What refuses a commit, from what its calls tell.
-use Rattle.std.proofs.Common.{◌≡◌, ◌||◌, inl, inr, ℕ, Bool, false, List, [], ◌∷◌, ◌++◌, map, Option, Some, None, true, nat_eq, refl, sym, ap, ◌∙◌, subst}
+use Rattle.std.proofs.Common.{◌≡◌, ◌||◌, inl, inr, ℕ, Bool, false, List, ◌∷◌, ◌++◌, map, Option, Some, None, true, nat_eq, refl, sym, ap, ◌∙◌, subst, []}
 use Rattle.std.specs.Prelude.{option_map, option_and_then, option_to_list, unwrap_or, is_some, string_bytes, codes, ◌&&◌}
 use Rattle.std.specs.List.{AllByRecursion, starts_with}
 use Rattle.std.proofs.lemmas.Bool.{and_parts, or_right}
@@ -26,6 +26,7 @@ use Rattle.vc_refs.specs.declared.heads.Head.{Head}
 use Rattle.vc_refs.specs.declared.heads.Head.TheVariants as heads
 use Rattle.vc_session.proofs.FrameLemmas.{ref_no_object}
 use Rattle.vc_session.specs.Known.{AreRefsWhole}
+use Rattle.vc_session.proofs.CleanLemmas.{bad_no_object}
 use Rattle.vc_store.specs.declared.faults.StoreFault.TheVariants as store
 use Rattle.vc_node.specs.Blames.{BlamesName, BlamesPut, IsOfMemory}
 use Rattle.vc_node.specs.Commit.{IsGoodParent, IsFreeHead, made_body, parents_of_commit}
@@ -36,7 +37,6 @@ use Rattle.vc_node.specs.Shown.{shown}
 use Rattle.vc_node.specs.declared.fault.NodeFault.{NodeFault}
 use Rattle.vc_node.specs.declared.fault.NodeFault.TheVariants.{Store, Ref, Missing, NotACommit, BadPath, PathConflict, BadIndex, WrongEntry, Down}
 use Rattle.vc_refs.proofs.LayeredLemmas.{bad-same, packed_map-same}
-use Rattle.vc_node.proofs.CleanLemmas.{bad_no_object}
 use Rattle.vc_node.proofs.BranchLemmas.{closed, good_here, not_closed, history, not_history, free_from, not_free}
 
 -- ---- a look at HEAD

@@ -3,6 +3,7 @@ use Rattle.std.proofs.Common.{◌≡◌, Bool, true, false, Some, None, Result, 
 use Rattle.std.specs.Prelude.{IfErr, OnErr, OnOk, is_ok}
 use Rattle.vc_files.specs.FileMap.{FileMap}
 use Rattle.vc_files.specs.declared.faults.Fault.{Fault as FilesFault}
+use Rattle.vc_message.specs.Told.{Quietly}
 use Rattle.vc_model.specs.Clone.Awaited.{Nothing}
 use Rattle.vc_model.specs.CloneCall.{CloneAnswers}
 use Rattle.vc_model.specs.CloneCall.CloneCall.{Open}
@@ -25,7 +26,7 @@ use Rattle.vc_node.specs.CloneCalls.{AnswersClone}
 use Rattle.vc_node.specs.Machine.{Spells, fault_answer, failure_of}
 use Rattle.vc_node.specs.Emptying.{IsOpened, LosesCarried}
 use Rattle.vc_node.specs.Shown.{Shown, shown}
-use Rattle.vc_node.specs.Told.{Quietly, RestartedAs}
+use Rattle.vc_node.specs.Told.{RestartedAs}
 use Rattle.vc_node.specs.declared.fault.NodeFault.{NodeFault}
 use Rattle.vc_node.specs.declared.fault.NodeFault.TheVariants.{Store, Ref, Missing, NotACommit, BadPath, PathConflict, BadIndex, WrongEntry, Down}
 

@@ -1,5 +1,5 @@
 -- What changes of files show.
-use Rattle.std.proofs.Common.{◌≡◌, ℕ, true, false, cond, nat_eq, List, [], Option, Some, None, refl, sym, ap, ◌∙◌, subst}
+use Rattle.std.proofs.Common.{◌≡◌, ℕ, true, false, cond, nat_eq, List, Option, Some, None, refl, sym, ap, ◌∙◌, subst, []}
 use Rattle.std.specs.Prelude.{bytes_eq, is_some, codes, unwrap_or}
 use Rattle.std.specs.List.{starts_with}
 use Rattle.std.specs.FinMap as files
@@ -11,12 +11,13 @@ use Rattle.vc_refs.specs.RefMap.{RefMap}
 use Rattle.vc_refs.specs.Refs.{packed_path, refs, ChangesOnly}
 use Rattle.vc_refs.specs.Head.{head_of, KeepsOutside, KeepsTheRest}
 use Rattle.vc_refs.specs.declared.heads.Head.{Head}
-use Rattle.vc_refs.proofs.ObstacleLemmas.{split_from_starts}
 use Rattle.vc_object.specs.Decoding.{StoredObject}
-use Rattle.vc_session.proofs.FrameLemmas.{head-same, objects-same, ref_no_object, refs-kept}
+use Rattle.vc_session.proofs.FrameLemmas.{objects-same, ref_no_object, refs-kept}
 use Rattle.vc_store.specs.Store.{objects, object_path, with_object}
 use Rattle.vc_index.specs.IndexMap.{IndexMap}
+use Rattle.vc_lemmas.proofs.Texts.{split_from_starts}
 use Rattle.vc_refs.specs.declared.heads.Head.TheVariants as heads
+use Rattle.vc_refs.proofs.LayeredListingLemmas.{head_of-same}
 use Rattle.vc_node.specs.IndexFile.{index_bytes, SpellsIndex}
 use Rattle.vc_node.specs.Shown.{Shown, shown, with_objects_shown, with_refs_shown, with_head_shown, with_index_shown, main_head, opened, IsReady}
 
@@ -36,7 +37,7 @@ pub shown_objects : (old new : FileMap) (o : ObjectMap) → SameOutside (codes "
 shown_objects old new o outside is =
     same_shown (objects new) o (refs new) (refs old) (head_of new) (head_of old) (index_bytes new) (index_bytes old) is
     (refs-kept old new (λ q h. outside.at q (ref_no_object q h)) (outside.at packed_path refl))
-    (head-same old new (outside.at (codes "HEAD") refl))
+    (head_of-same old new (outside.at (codes "HEAD") refl))
     (ap (λ found. unwrap_or found []) (outside.at (codes "index") refl))
 
 -- a change of a ref shows as other refs
@@ -67,7 +68,7 @@ shown_index old new text e =
     same_shown (objects new) (objects old) (refs new) (refs old) (head_of new) (head_of old) (index_bytes new) text
     (objects_same old new (λ n. put (object_path n)))
     (refs-kept old new (λ q h. put q ∙ ap (λ b. cond b (Some text) (files.get old q)) (ref_no_index q h)) (put packed_path))
-    (head-same old new (put (codes "HEAD")))
+    (head_of-same old new (put (codes "HEAD")))
     (ap (λ found. unwrap_or found []) (put (codes "index")))
 
 -- the same after a call that changed nothing

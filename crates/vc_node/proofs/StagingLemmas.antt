@@ -1,10 +1,11 @@
 -- For files that are put into the index at once: the machine's commands one after the other, and what is shown behind them.
-use Rattle.std.proofs.Common.{◌≡◌, ◌≢◌, inl, inr, ℕ, suc, Bool, true, false, cond, arith, List, [], ◌∷◌, map, length, get_or, drop, ◌<◌, ◌+◌, ◌==◌, Ok, Err, Option, Some, None, refl, sym, ap, ◌∙◌, subst}
+use Rattle.std.proofs.Common.{◌≡◌, ◌≢◌, inl, inr, ℕ, suc, Bool, true, false, cond, arith, List, ◌∷◌, map, length, get_or, drop, ◌<◌, ◌+◌, ◌==◌, Ok, Err, Option, Some, None, refl, sym, ap, ◌∙◌, subst, []}
 use Rattle.std.specs.Prelude.{option_map, unwrap_or, bytes_eq, IsSome, not, Result, IsErrAnd}
 use Rattle.std.specs.FinMap.{get, insert}
 use Rattle.std.specs.List.{All, AllByRecursion}
 use Rattle.std.proofs.lemmas.List.{drop_more}
 use Rattle.std.proofs.lemmas.Slice.Eq.{bytes_eq-Decides}
+use Rattle.vc_exchange.proofs.StoringLemmas.{name_valid}
 use Rattle.vc_files.specs.FileMap.{FileMap}
 use Rattle.vc_files.specs.declared.faults.Fault.TheVariants as device
 use Rattle.vc_format.specs.Git.{git_name}
@@ -46,7 +47,6 @@ use Rattle.vc_node.specs.declared.fault.NodeFault.TheVariants.{Store, Ref, Missi
 use Rattle.vc_node.specs.declared.staging.Staged.{Staged}
 use Rattle.vc_node.proofs.CleanLemmas.{still_clean}
 use Rattle.vc_node.proofs.IndexLemmas.{IsMachineIndex, free_path, machine_index_put, no_bad_index, not_free_path, spells_index, staged_deed, staged_index}
-use Rattle.vc_node.proofs.StoringLemmas.{name_valid}
 use Rattle.vc_node.proofs.WriteLemmas.{added_all}
 
 -- ---- the machine's commands

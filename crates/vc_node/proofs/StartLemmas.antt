@@ -12,6 +12,7 @@ use Rattle.vc_files.specs.FileMap.{FileMap}
 use Rattle.vc_files.specs.declared.faults.Fault.TheVariants.{Memory}
 use Rattle.vc_graph.specs.declared.fault.GraphFault.TheVariants as graph
 use Rattle.vc_message.specs.Machine.{IsWritten}
+use Rattle.vc_message.specs.Told.{Quietly, SendsBytes}
 use Rattle.vc_model.specs.Clone.{Awaited, CloneNode, IsItemId}
 use Rattle.vc_model.specs.Clone.Awaited.{AnAdvert}
 use Rattle.vc_model.specs.Clone.Task.{StartFetch, StartPush}
@@ -26,7 +27,6 @@ use Rattle.vc_node.specs.Awaited.{AwaitedText, IsAwaited, an_advert}
 use Rattle.vc_node.specs.CloneCalls.{AnswersClone, SentAs}
 use Rattle.vc_node.specs.CloneFaults.{fault_answer, of_device, of_send, up_after}
 use Rattle.vc_node.specs.Machine.{HoldsNode}
-use Rattle.vc_node.specs.Told.{Quietly, SendsBytes}
 use Rattle.vc_node.specs.declared.clone_fault.CloneFault.{CloneFault}
 
 -- ---- a fetch

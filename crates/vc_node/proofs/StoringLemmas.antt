@@ -1,24 +1,18 @@
 -- Why the objects of a commit were not stored, and what was.
-use Rattle.std.proofs.Common.{◌≡◌, inl, inr, ℕ, true, List, [], ◌∷◌, ◌++◌, Err, w8, ap, ◌∙◌, subst}
-use Rattle.std.proofs.Math.Facts.{Fits-of_lt}
+use Rattle.std.proofs.Common.{◌≡◌, inl, inr, ℕ, List, ◌∷◌, ◌++◌, Err, ap, ◌∙◌, subst, []}
 use Rattle.std.specs.FinMap.{get, empty, get-empty}
 use Rattle.std.specs.Ordering.{nat_cmp}
 use Rattle.std.specs.Cmp.Lexicographic.{slice_cmp}
 use Rattle.vc_files.specs.FileMap.{FileMap}
-use Rattle.vc_object.proofs.Names.{byte_of, name_bytes, name_length}
 use Rattle.vc_index.specs.Damage.{KeepsDamage}
 use Rattle.vc_index.specs.IndexMap.{IndexMap}
 use Rattle.vc_index.specs.WrittenTrees.{IsWritten, IsOfWrite}
 use Rattle.vc_index.specs.declared.faults.IndexFault.{IndexFault}
 use Rattle.vc_index.specs.declared.faults.IndexFault.TheVariants as index
-use Rattle.vc_object.specs.Object.{object_name, object_bytes}
 use Rattle.vc_object.specs.ObjectFault.{BodyFault}
-use Rattle.vc_object.specs.ObjectId.{is_id}
 use Rattle.vc_object.specs.ObjectMap.{ObjectMap}
 use Rattle.vc_object.specs.declared.id.ObjectId.{ObjectId}
-use Rattle.vc_object.specs.declared.kind.Kind.{Kind}
 use Rattle.vc_object.specs.declared.kind.Kind.TheVariants as kinds
-use Rattle.vc_object.proofs.IdLemmas.{is_id-from_array}
 use Rattle.vc_store.specs.Store.{IsDamaged, object_path, stored_in}
 use Rattle.vc_store.specs.StoreFault.{IsOfPut, IsOfDamage}
 use Rattle.vc_store.specs.declared.faults.StoreFault.{StoreFault}
@@ -28,9 +22,6 @@ use Rattle.vc_node.specs.Making.{BlamesStored, BlamesObjects, HasRoot}
 use Rattle.vc_node.specs.NodeFault.{of_index}
 use Rattle.vc_node.specs.declared.fault.NodeFault.{NodeFault}
 use Rattle.vc_node.specs.declared.fault.NodeFault.TheVariants.{Store, Ref, Missing, NotACommit, BadPath, PathConflict, BadIndex, WrongEntry, Down}
-
-pub name_valid : (kind : Kind) (body : List ℕ) → is_id (object_name kind body) ≡ true
-name_valid kind body = is_id-from_array (object_name kind body) (name_length (object_bytes kind body)) (λ i. Fits-of_lt {w = w8} (byte_of (object_name kind body).0 (name_bytes (object_bytes kind body)) i))
 
 pub root_of : {honest : Type 0} {m : IndexMap} {old new : ObjectMap} {tree : ObjectId} → IsWritten honest m old new tree → HasRoot m tree
 root_of w = record { trees = w.lower ++ w.root ∷ []; root = w.root; listed = w.listed; fits = w.fits; is = w.is }

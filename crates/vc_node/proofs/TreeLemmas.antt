@@ -1,5 +1,5 @@
 -- The machine's answers to the loading of a tree.
-use Rattle.std.proofs.Common.{◌≡◌, ◌⊎◌, inl, inr, ℕ, cond, List, [], ◌∷◌, map, Some, Result, Ok, Err, refl, sym, ap, ◌∙◌, subst}
+use Rattle.std.proofs.Common.{◌≡◌, ◌⊎◌, inl, inr, ℕ, cond, List, ◌∷◌, map, Some, Result, Ok, Err, refl, sym, ap, ◌∙◌, subst, []}
 use Rattle.std.specs.Prelude.{option_map}
 use Rattle.std.specs.FinMap.{find, entries, from_entries, get-entries, get-from_entries}
 use Rattle.std.specs.Ordering.{nat_cmp, is_eq}
@@ -18,6 +18,7 @@ use Rattle.vc_model.specs.Node.Answer.{Did, Declined}
 use Rattle.vc_model.specs.Node.Reply.{Stored}
 use Rattle.vc_model.specs.Clone.{quietly}
 use Rattle.vc_model.specs.Clone.Task.{LoadTree}
+use Rattle.vc_model.proofs.Maps.{none_added}
 use Rattle.vc_object.specs.ObjectMap.{ObjectMap}
 use Rattle.vc_object.specs.declared.id.ObjectId.{ObjectId}
 use Rattle.vc_refs.specs.declared.faults.RefFault.TheVariants as ref
@@ -32,7 +33,6 @@ use Rattle.vc_rules.specs.Git.{machine_entry, layer_objects}
 use Rattle.vc_rules.specs.Trees.{tree_number, ShowsIndex, TreeGives}
 use Rattle.vc_node.specs.Machine.{Spells, Follows, IsBadFile, fault_answer, failure_of}
 use Rattle.vc_node.proofs.AnswerLemmas.{declines, faults}
-use Rattle.vc_rules.proofs.JoinLemmas.{none_added}
 use Rattle.vc_rules.proofs.MapLemmas.{map_cond}
 use Rattle.vc_node.proofs.IndexLemmas.{spells_map}
 

@@ -1,26 +1,14 @@
 -- The machine's answer to a call of a node, as the call tells it.
-use Rattle.std.specs.Prelude.{◌≡◌, ℕ, List, Option, Some, None, Result, Ok, Err}
+use Rattle.std.specs.Prelude.{Option, Result, Ok, Err}
 use Rattle.vc_format.specs.Git.{bytes_of_id}
-use Rattle.vc_message.specs.Machine.{IsWritten}
+use Rattle.vc_message.specs.Told.{Quietly}
 use Rattle.vc_model.specs.Message.{Message}
 use Rattle.vc_model.specs.Node.{Answer}
 use Rattle.vc_model.specs.Node.Answer.{Did}
-use Rattle.vc_model.specs.Node.Reply.{Found, Sends, Stored}
+use Rattle.vc_model.specs.Node.Reply.{Found, Stored}
 use Rattle.vc_object.specs.declared.id.ObjectId.{ObjectId}
 use Rattle.vc_node.specs.Machine.{fault_answer}
 use Rattle.vc_node.specs.declared.fault.NodeFault.{NodeFault}
-
--- bytes are sent that are a message's
-pub record SendsBytes (bytes : List ℕ) (a : Answer) (sends : Option Message) : Type 0 where
-  pub message : Message
-  pub written : IsWritten message bytes
-  pub answer : a ≡ Did Sends
-  pub sent : sends ≡ Some message
-
--- nothing is sent
-pub record Quietly (b a : Answer) (sends : Option Message) : Type 0 where
-  pub answer : a ≡ b
-  pub sent : sends ≡ None
 
 -- to the question for a value, where a fault has this answer
 abbrev pub FoundAs : {E : Type 0} → (E → Answer) → Result ObjectId E → Answer → Option Message → Type 0

@@ -12,9 +12,7 @@ use crate::NodeFault;
 use std::alloc::Global;
 use vc_files::{Fault, Files};
 use vc_index::Index;
-
-// The path of the file.
-const INDEX: &str = "index";
+use vc_repository::INDEX;
 
 // The bytes of the file; none where it is absent.
 fn index_bytes<F: Files>(alloc: Global, files: &mut F) -> Result<Vec<u8>, Fault>

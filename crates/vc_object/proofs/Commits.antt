@@ -1,5 +1,5 @@
 -- Commits and tags are read as they are written.
-use Rattle.std.proofs.Common.{◌≡◌, ◌≢◌, ℕ, ◌<◌, false, List, [], ◌∷◌, ◌++◌, length, Option, Some, None, refl, ap, sym, ◌∙◌, subst, arith, append_assoc, cond, ⊎_elim}
+use Rattle.std.proofs.Common.{◌≡◌, ◌≢◌, ℕ, ◌<◌, false, List, ◌∷◌, ◌++◌, length, Option, Some, None, refl, ap, sym, ◌∙◌, subst, arith, append_assoc, cond, ⊎_elim, []}
 use Rattle.std.proofs.Common.{true≢false}
 use Rattle.std.specs.Prelude.{codes, unwrap_or, is_none, ◌==◌, IfSome}
 use Rattle.std.specs.Option.{option_map}
@@ -16,6 +16,7 @@ use Rattle.vc_object.specs.declared.kind.Kind.TheVariants as kinds
 use Rattle.vc_object.proofs.Texts.{Without-test, ne-eqb}
 use Rattle.vc_object.proofs.Reading.{chosen, cond_none}
 use Rattle.std.specs.List.{flat_map}
+use Rattle.vc_lemmas.proofs.Texts.{not_nothing}
 use Rattle.vc_object.specs.Items.{after_items}
 use Rattle.vc_object.specs.Lines.{IsId, line, id_line, id_line_at, line_at}
 use Rattle.vc_object.specs.Commit.{CommitText, IsCommit, commit_bytes}
@@ -146,9 +147,6 @@ module _ (bytes b w d n r : List ℕ) (object : ObjectId) (k : Kind) where
   unfolding made_tag tag_of
   tag_steps x y k z some = rw (x, y, k, z, some) refl
 
-some_name : (n : List ℕ) → (length n == 0) ≡ false → n ≢ []
-some_name n e z = true≢false (sym (ap (λ x. length x == 0) z) ∙ e)
-
 pub tag_some : (bytes : List ℕ) (t : TagText) → tag_of bytes ≡ Some t → ReadsTag bytes t
 unfolding made_tag tag_of
 tag_some bytes t e =
@@ -158,7 +156,7 @@ tag_some bytes t e =
     let n = bind_some (line_at (codes "tag ") w.0.1) _ _ k.2 in
     let d = cond_none _ _ _ n.2 in
     subst (λ (x : TagText). ReadsTag bytes x) d.1
-    (tag_parts bytes o.0.1 w.0.0 w.0.1 n.0.0 n.0.1 o.0.0 k.0 (id_line_some (codes "object ") bytes o.0.0 o.0.1 o.1) (line_some (codes "type ") o.0.1 w.0.0 w.0.1 w.1) (kind_some w.0.0 k.0 k.1) (line_some (codes "tag ") w.0.1 n.0.0 n.0.1 n.1) (some_name n.0.0 d.0))
+    (tag_parts bytes o.0.1 w.0.0 w.0.1 n.0.0 n.0.1 o.0.0 k.0 (id_line_some (codes "object ") bytes o.0.0 o.0.1 o.1) (line_some (codes "type ") o.0.1 w.0.0 w.0.1 w.1) (kind_some w.0.0 k.0 k.1) (line_some (codes "tag ") w.0.1 n.0.0 n.0.1 n.1) (not_nothing n.0.0 d.0))
 
 not_nil : (n : List ℕ) → n ≢ [] → (length n == 0) ≡ false
 not_nil [] h = absurd (h refl)

@@ -1,5 +1,5 @@
 -- A body that is no tree's has one fault.
-use Rattle.std.proofs.Common.{◌≡◌, ◌≢◌, ℕ, List, [], ◌∷◌, ◌++◌, refl, ap, sym, ◌∙◌, subst, append_assoc, ◌⊎◌, inl, inr, ⊎_elim}
+use Rattle.std.proofs.Common.{◌≡◌, ◌≢◌, ℕ, List, ◌∷◌, ◌++◌, refl, ap, sym, ◌∙◌, subst, append_assoc, ◌⊎◌, inl, inr, ⊎_elim, []}
 use Rattle.std.specs.List.{AllByRecursion}
 use Rattle.std.proofs.lemmas.List.{append-nil}
 use Rattle.std.proofs.Common.{arith}
@@ -22,6 +22,7 @@ use Rattle.vc_object.proofs.Texts.{cut_once, no_cut}
 use Rattle.vc_object.proofs.Reading.{mode_spaceless}
 use Rattle.vc_object.proofs.Faults.{same_first, same_mode, no_entry, faulty}
 use Rattle.std.specs.Prelude.{Result, Ok, Err, IsOk, IfErr, ◌↔◌}
+use Rattle.vc_lemmas.proofs.Lists.{nil_right}
 
 -- of two lists of entries before bytes, one begins the other
 meet : (es gs : List Entry) (r s : List ℕ) → AllByRecursion IsEntry es → AllByRecursion IsEntry gs → spelling es ++ r ≡ spelling gs ++ s → ((hs : List Entry) × (gs ≡ es ++ hs) × (r ≡ spelling hs ++ s)) ⊎ ((hs : List Entry) × (es ≡ gs ++ hs) × (s ≡ spelling hs ++ r))
@@ -125,16 +126,11 @@ pub only_law : (body : List ℕ) (r : Result (Unit {0}) ObjectFault) → (IsOk r
 only_law body (Ok u) exact err e f = absurd (faulty body e f (exact.0 refl))
 only_law body (Err x) exact err e f = ap (λ y. Err y) (one_fault body x e err f)
 
--- the same of bytes
-begun_end : (xs ys : List ℕ) → xs ++ ys ≡ [] → ys ≡ []
-begun_end [] ys e = e
-begun_end (x ∷ xs) ys e = absurd (cc e)
-
 header_or_body : (bytes : List ℕ) (k : Kind) (size body : List ℕ) (e : ObjectFault) → IsSize size → bytes ≡ header k size ++ body → HeaderFault bytes e → ⊥
 header_or_body bytes k size body Cut s is f =
     let b = f.3 in
     let once = header_once k f.0 size f.1 (body ++ b.0) [] s f.2 (sym (append_assoc (header k size) body b.0) ∙ ap (λ t. t ++ b.0) (sym is) ∙ b.2 ∙ sym (append-nil (header f.0 f.1))) in
-    b.1 (begun_end body b.0 once.2)
+    b.1 (nil_right body b.0 once.2)
 header_or_body bytes k size body BadHeader s is f = f k size s [] body (append-nil bytes ∙ is)
 header_or_body bytes k size body _ s is f = f
 

@@ -6,6 +6,7 @@ use Rattle.std.specs.Ordering.{ordering_index, ordering_reverse, is_eq}
 use Rattle.std.proofs.lemmas.Bool.{cases_lt}
 use Rattle.std.proofs.lemmas.List.Sorted.{IsNonDecreasingBy-from_all_adjacent}
 use Rattle.std.proofs.lemmas.Map.Keys.{Less-from_sorted}
+use Rattle.std.specs.Cmp.{Equal-is}
 use Rattle.vc_object.proofs.IdLemmas.{id_cmp_total, id_eq-same, id_eq_equiv, id_ties}
 use Rattle.vc_object.specs.ObjectId.{id_cmp, IsSortedByName}
 use Rattle.vc_object.specs.declared.id.ObjectId.{ObjectId}
@@ -14,13 +15,8 @@ use Rattle.vc_object.specs.declared.id.ObjectId.{ObjectId}
 pub same_name : (a b : ObjectId) → id_cmp a b ≡ Equal → a ≡ b
 same_name a b e = id_eq-same a b (id_ties a b ∙ ap is_eq e)
 
-pub is_equal : (o : Ordering) → is_eq o ≡ true → o ≡ Equal
-is_equal Less e = absurd (true≢false (sym e))
-is_equal Equal e = refl
-is_equal Greater e = absurd (true≢false (sym e))
-
 pub same_cmp : (a : ObjectId) → id_cmp a a ≡ Equal
-same_cmp a = is_equal (id_cmp a a) (sym (id_ties a a) ∙ id_eq_equiv.refl a)
+same_cmp a = (Equal-is (id_cmp a a)).0 (sym (id_ties a a) ∙ id_eq_equiv.refl a)
 
 rises : (a b q : ObjectId) → id_cmp a b ≡ Less → ordering_index (id_cmp a q) ≤ ordering_index (id_cmp b q)
 rises a b q less = by (id_cmp a q) refl

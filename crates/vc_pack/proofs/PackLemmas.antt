@@ -1,28 +1,23 @@
 -- Looking an object of a pack up.
-use Rattle.std.proofs.Common.{◌≡◌, Bool, true, false, cond, List, [], ◌∷◌, Some, None, sym, ap, ◌∙◌, refl, true≢false}
+use Rattle.std.proofs.Common.{◌≡◌, Bool, true, false, cond, List, ◌∷◌, Some, None, sym, ap, ◌∙◌, refl, true≢false, []}
 use Rattle.std.specs.Map.{lookup}
 use Rattle.std.specs.BTreeMap.{is_at}
 use Rattle.std.specs.Option.{option_map, option_and_then}
 use Rattle.std.specs.Ordering.{is_eq}
 use Rattle.vc_fetch.specs.PackObjects.{objects_in}
 use Rattle.vc_fetch.specs.Pack.{is_object}
+use Rattle.vc_lemmas.proofs.Lists.{same_head, same_tail}
 use Rattle.vc_object.specs.ObjectId.{id_cmp}
 use Rattle.vc_object.specs.declared.id.ObjectId.{ObjectId}
 use Rattle.vc_pkt.specs.Carried.{stored_name, object_named}
 use Rattle.vc_pkt.specs.StreamObjectView.{stored, objects_of, AreNamed}
 use Rattle.vc_pkt.specs.declared.carried.StreamObject.{StreamObject}
 
-head_same : (k l : ObjectId) (ks ls : List ObjectId) → k ∷ ks ≡ l ∷ ls → k ≡ l
-head_same k l ks ls e = cc e
-
-tail_same : (k l : ObjectId) (ks ls : List ObjectId) → k ∷ ks ≡ l ∷ ls → ks ≡ ls
-tail_same k l ks ls e = cc e
-
 -- what the map has under a name is the object of that name
 pub named_lookup : (id : ObjectId) (es : List (ObjectId × StreamObject)) → AreNamed es → object_named id (objects_of es) ≡ option_map stored (lookup (is_at (id_cmp id)) es)
 named_lookup id [] named = refl
 named_lookup id ((k, v) ∷ es) named =
-    step (is_eq (id_cmp id (stored_name (stored v)))) (is_eq (id_cmp id k)) (ap (λ t. is_eq (id_cmp id t)) (sym (head_same _ _ _ _ named))) (named_lookup id es (tail_same _ _ _ _ named))
+    step (is_eq (id_cmp id (stored_name (stored v)))) (is_eq (id_cmp id k)) (ap (λ t. is_eq (id_cmp id t)) (sym (same_head _ _ _ _ named))) (named_lookup id es (same_tail _ _ _ _ named))
   where
     step : (b c : Bool) → b ≡ c → object_named id (objects_of es) ≡ option_map stored (lookup (is_at (id_cmp id)) es) → cond b (Some (stored v)) (object_named id (objects_of es)) ≡ option_map stored (cond c (Some v) (lookup (is_at (id_cmp id)) es))
     step true true e later = refl

@@ -1,12 +1,14 @@
 -- Reading objects of a store one by one, into a set by name.
-use Rattle.std.proofs.Common.{◌≡◌, ℕ, Bool, true, false, cond, ⊎_elim, List, [], ◌∷◌, ◌++◌, map, Option, Some, None, is_some, Ok, Err, Contains, ◌↔◌, sym, ap, subst, ◌∙◌, refl, true≢false, arith}
+use Rattle.std.proofs.Common.{◌≡◌, ℕ, Bool, true, false, cond, ⊎_elim, List, ◌∷◌, ◌++◌, map, Option, Some, None, Ok, Err, Contains, ◌↔◌, sym, ap, subst, ◌∙◌, refl, true≢false, arith, []}
 use Rattle.std.proofs.lemmas.List.{map-append}
 use Rattle.std.proofs.lemmas.List.Elements.{Contains-append_right, Contains-push_cases, Contains-append_cases}
 use Rattle.std.specs.FinMap as files
 use Rattle.std.specs.Ordering.{is_eq}
 use Rattle.std.specs.Result.{result_ok}
 use Rattle.std.specs.Str.{bytes_eq}
-use Rattle.vc_pack.proofs.AmongLemmas.{same_name, same_cmp, is_equal}
+use Rattle.std.specs.Cmp.{Equal-is}
+use Rattle.std.proofs.lemmas.Option.{same_Some, none-some}
+use Rattle.vc_pack.proofs.AmongLemmas.{same_name, same_cmp}
 use Rattle.vc_files.specs.FileMap.{FileMap}
 use Rattle.vc_object.proofs.IdLemmas.{id_eq-same}
 use Rattle.vc_object.specs.Decoding.{StoredObject, decoded}
@@ -15,26 +17,21 @@ use Rattle.vc_object.specs.ObjectId.{id_cmp, is_id, IsSortedByName}
 use Rattle.vc_object.specs.declared.id.ObjectId.{ObjectId}
 use Rattle.vc_pkt.proofs.CarriedOnce.{carried_named, carried_sorted, none_sorted}
 use Rattle.vc_pkt.specs.Carried.{stored_name, object_named, with_object, with_objects}
+use Rattle.vc_pkt.proofs.CarriedLaws.{with_objects-push}
 use Rattle.vc_store.specs.Store.{objects, object_path, stored, stored_in, named}
 use Rattle.vc_store.specs.declared.faults.StoreFault.TheVariants as of_store
 
-some_same : {A : Type 0} (x y : A) → ◌≡◌ {A = Option A} (Some x) (Some y) → x ≡ y
-some_same x y e = cc e
-
-no_some : {A : Type 0} (x : A) → ◌≡◌ {A = Option A} None (Some x) → ⊥
-no_some x e = true≢false (sym (ap is_some e))
-
 -- ---- a stored object has its own name
 own_of_object : (id : ObjectId) (o object : StoredObject) (b : Bool) → bytes_eq (object_name o.kind o.body).0 id.0 ≡ b → result_ok (cond b (Ok o) (Err (of_store.Damaged id))) ≡ Some object → stored_name object ≡ id
-own_of_object id o object true same e = ap stored_name (sym (some_same o object e)) ∙ id_eq-same (stored_name o) id same
-own_of_object id o object false same e = absurd (no_some object e)
+own_of_object id o object true same e = ap stored_name (sym (same_Some o object e)) ∙ id_eq-same (stored_name o) id same
+own_of_object id o object false same e = absurd (none-some object e)
 
 own_of_read : (id : ObjectId) (found : Option StoredObject) (object : StoredObject) → result_ok (named id found) ≡ Some object → stored_name object ≡ id
-own_of_read id None object e = absurd (no_some object e)
+own_of_read id None object e = absurd (none-some object e)
 own_of_read id (Some o) object e = own_of_object id o object (bytes_eq (object_name o.kind o.body).0 id.0) refl e
 
 own_of_bytes : (id : ObjectId) (bytes : Option (List ℕ)) (object : StoredObject) → result_ok (stored_in id bytes) ≡ Some object → stored_name object ≡ id
-own_of_bytes id None object e = absurd (no_some object e)
+own_of_bytes id None object e = absurd (none-some object e)
 own_of_bytes id (Some bytes) object e = own_of_read id (decoded bytes) object e
 
 pub own_name : (content : FileMap) (id : ObjectId) (object : StoredObject) → objects content id ≡ Some object → stored_name object ≡ id
@@ -43,7 +40,7 @@ own_name content id object e = by (is_id id) e
   where
     by : (b : Bool) → cond b (result_ok (stored content id)) None ≡ Some object → stored_name object ≡ id
     by true e = own_of_bytes id (files.get content (object_path id.0)) object e
-    by false e = absurd (no_some object e)
+    by false e = absurd (none-some object e)
 
 -- ---- look-ups in a list of objects
 abbrev passes : ObjectId → StoredObject → Bool
@@ -55,12 +52,12 @@ record IsFound (id : ObjectId) (os : List StoredObject) (o : StoredObject) : Typ
   is : passes id o ≡ true
 
 found_in : (id : ObjectId) (os : List StoredObject) (o : StoredObject) → object_named id os ≡ Some o → IsFound id os o
-found_in id [] o e = absurd (no_some o e)
+found_in id [] o e = absurd (none-some o e)
 found_in id (p ∷ ps) o e = by (passes id p) refl e (λ later. found_in id ps o later)
   where
     by : (b : Bool) → passes id p ≡ b → cond b (Some p) (object_named id ps) ≡ Some o → (object_named id ps ≡ Some o → IsFound id ps o) → IsFound id (p ∷ ps) o
     by true is e later =
-        let same : p ≡ o = some_same p o e in
+        let same : p ≡ o = same_Some p o e in
         record { has = (0, omega arith, same); named = (0, omega arith, ap stored_name same); is = subst (λ q. passes id q ≡ true) same is }
     by false is e later =
         let f = later e in
@@ -78,10 +75,6 @@ has_named id (p ∷ ps) h = by (passes id p) refl (λ later. has_named id ps lat
         absurd (true≢false (sym (ap is_eq (ap (id_cmp id) same ∙ same_cmp id)) ∙ is)))
         later
         (Contains-append_cases (stored_name p ∷ []) (map stored_name ps) id h)
-
-with_objects-push : (set os : List StoredObject) (o : StoredObject) → with_objects set (os ++ o ∷ []) ≡ with_object o (with_objects set os)
-with_objects-push set [] o = refl
-with_objects-push set (p ∷ ps) o = with_objects-push (with_object p set) ps o
 
 -- the set has the objects of these names that are stored
 pub record HasRead (content : FileMap) (ids : List ObjectId) (set : List StoredObject) : Type 0 where
@@ -116,7 +109,7 @@ module _ (content : FileMap) where
     from_set : (id : ObjectId) (o : StoredObject) → object_named id set ≡ Some o → Contains ids id × (objects content id ≡ Some o)
     from_set id o e =
         let f = found_in id all.read o (sym (named_is id) ∙ e) in
-        let own : id ≡ stored_name o = same_name id (stored_name o) (is_equal (id_cmp id (stored_name o)) f.is) in
+        let own : id ≡ stored_name o = same_name id (stored_name o) ((Equal-is (id_cmp id (stored_name o))).0 f.is) in
         (subst (λ x. Contains ids x) (sym own) (subst (λ l. Contains l (stored_name o)) all.names f.named), ap (objects content) own ∙ all.found o f.has)
 
     -- it has no others

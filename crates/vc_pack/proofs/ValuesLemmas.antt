@@ -1,5 +1,5 @@
 -- The values of listed refs, with HEAD where it is an id.
-use Rattle.std.proofs.Common.{◌≡◌, ℕ, Bool, true, false, cond, inl, inr, ⊎_elim, List, [], ◌∷◌, ◌++◌, Option, Some, None, is_some, Contains, ◌↔◌, sym, ap, ◌∙◌, refl, arith, true≢false}
+use Rattle.std.proofs.Common.{◌≡◌, ℕ, Bool, true, false, cond, inl, inr, ⊎_elim, List, ◌∷◌, ◌++◌, Option, Some, None, Contains, ◌↔◌, sym, ap, ◌∙◌, refl, arith, true≢false, []}
 use Rattle.std.proofs.lemmas.List.Elements.{Contains-append_left, Contains-append_right, Contains-push_cases, Contains-append_cases}
 use Rattle.std.proofs.lemmas.Cmp.{nat_list_cmp_total}
 use Rattle.std.specs.Cmp.{eq_by_cmp_equiv}
@@ -12,6 +12,7 @@ use Rattle.std.specs.Ordering.{nat_cmp, eq_by_cmp, is_eq, is_lt, ordering_revers
 use Rattle.std.specs.declared.cmp.Ordering.{Ordering}
 use Rattle.std.specs.declared.cmp.Ordering.TheVariants.{Less, Equal, Greater}
 use Rattle.std.proofs.lemmas.Bool.{and_parts}
+use Rattle.std.proofs.lemmas.Option.{same_Some, none-some}
 use Rattle.vc_pack.specs.Answer.{IsRefValue}
 use Rattle.vc_files.specs.FileMap.{FileMap}
 use Rattle.vc_object.specs.declared.id.ObjectId.{ObjectId}
@@ -20,12 +21,6 @@ use Rattle.vc_refs.specs.RefMap.{RefMap, IsListOf}
 use Rattle.vc_refs.specs.Refs.{refs}
 use Rattle.vc_refs.specs.declared.heads.Head.{Head}
 use Rattle.vc_refs.specs.declared.heads.Head.TheVariants as head
-
-some_same : {A : Type 0} (x y : A) → ◌≡◌ {A = Option A} (Some x) (Some y) → x ≡ y
-some_same x y e = cc e
-
-no_some : {A : Type 0} (x : A) → ◌≡◌ {A = Option A} None (Some x) → ⊥
-no_some x e = true≢false (sym (ap is_some e))
 
 abbrev name_cmp : List ℕ → List ℕ → Ordering
 name_cmp = slice_cmp nat_cmp
@@ -66,11 +61,11 @@ value_found f all ((name, v) ∷ es) each found id h =
     (Contains-append_cases (v ∷ []) (values_of es) id h)
 
 has_value : (es : Entries) (name : List ℕ) (id : ObjectId) → find name_cmp name es ≡ Some id → Contains (values_of es) id
-has_value [] name id e = absurd (no_some id e)
+has_value [] name id e = absurd (none-some id e)
 has_value ((n, v) ∷ es) name id e = by (eq_by_cmp name_cmp name n) e (λ later. has_value es name id later)
   where
     by : (b : Bool) → cond b (Some v) (find name_cmp name es) ≡ Some id → (find name_cmp name es ≡ Some id → Contains (values_of es) id) → Contains (v ∷ values_of es) id
-    by true e later = (0, omega arith, some_same v id e)
+    by true e later = (0, omega arith, same_Some v id e)
     by false e later = Contains-append_right (v ∷ []) (values_of es) id (later e)
 
 -- the id that HEAD is, if it is one
@@ -91,7 +86,7 @@ module _ (content : FileMap) (listed : Entries) (is : IsListOf (refs content) li
   pub values-attached : (at : Option Head) → head_of content ≡ at → detached at ≡ None → (id : ObjectId) → Contains (values_of listed) id ↔ IsRefValue content id
   values-attached at here none id = (
     from_list id,
-    λ h. ⊎_elim (in_list id) (λ there. absurd (no_some id (sym none ∙ ap detached (sym here ∙ there)))) h,
+    λ h. ⊎_elim (in_list id) (λ there. absurd (none-some id (sym none ∙ ap detached (sym here ∙ there)))) h,
   )
 
   pub values-none : head_of content ≡ None → (id : ObjectId) → Contains (values_of listed) id ↔ IsRefValue content id
@@ -106,6 +101,6 @@ module _ (content : FileMap) (listed : Entries) (is : IsListOf (refs content) li
     λ h. ⊎_elim (from_list id) (λ e. inr (here ∙ ap (λ y. Some (head.Id y)) e)) (Contains-push_cases (values_of listed) x id h),
     λ h. ⊎_elim (λ listed_. Contains-append_left (values_of listed) (x ∷ []) id (in_list id listed_))
         (λ there.
-        let e : x ≡ id = some_same x id (ap detached (sym here ∙ there)) in
+        let e : x ≡ id = same_Some x id (ap detached (sym here ∙ there)) in
         Contains-append_right (values_of listed) (x ∷ []) id (0, omega arith, e)) h,
   )

@@ -1,13 +1,15 @@
 -- A map of carried objects as the list of them.
-use Rattle.std.proofs.Common.{◌≡◌, Bool, true, false, cond, List, [], ◌∷◌, Option, Some, is_some, ◌||◌, refl, ap, sym, ◌∙◌, subst, true≢false}
+use Rattle.std.proofs.Common.{◌≡◌, Bool, true, false, cond, List, ◌∷◌, Option, Some, is_some, ◌||◌, refl, ap, sym, ◌∙◌, subst, true≢false, ◌++◌, []}
 use Rattle.std.specs.Map.{lookup}
 use Rattle.std.specs.BTreeMap.{insert_entry, is_at}
 use Rattle.std.specs.Ordering.{is_eq, match_ordering}
 use Rattle.std.specs.declared.cmp.Ordering.{Ordering}
 use Rattle.std.specs.declared.cmp.Ordering.TheVariants.{Less, Equal, Greater}
+use Rattle.vc_lemmas.proofs.Lists.{same_head, same_tail}
 use Rattle.vc_object.specs.ObjectId.{id_cmp}
 use Rattle.vc_object.specs.declared.id.ObjectId.{ObjectId}
-use Rattle.vc_pkt.specs.Carried.{stored_name, has_name, put_by_name, with_object}
+use Rattle.vc_object.specs.Decoding.{StoredObject}
+use Rattle.vc_pkt.specs.Carried.{stored_name, has_name, put_by_name, with_object, with_objects}
 use Rattle.vc_pkt.specs.StreamObjectView.{stored, objects_of, AreNamed}
 use Rattle.vc_pkt.specs.declared.carried.StreamObject.{StreamObject}
 
@@ -16,12 +18,6 @@ Entries = List (ObjectId × StreamObject)
 
 abbrev pub finds : ObjectId → Entries → Bool
 finds id es = is_some (lookup (is_at (id_cmp id)) es)
-
-pub head_same : (k l : ObjectId) (ks ls : List ObjectId) → k ∷ ks ≡ l ∷ ls → k ≡ l
-head_same k l ks ls e = cc e
-
-pub tail_same : (k l : ObjectId) (ks ls : List ObjectId) → k ∷ ks ≡ l ∷ ls → ks ≡ ls
-tail_same k l ks ls e = cc e
 
 found_step : (b c d : Bool) (o : Option StreamObject) (v : StreamObject) → b ≡ c → is_some o ≡ d → is_some (cond b (Some v) o) ≡ (c || d)
 found_step true c d o v e f = ap (λ t. t || d) e
@@ -32,7 +28,7 @@ found_has : (id : ObjectId) (es : Entries) → AreNamed es → finds id es ≡ h
 found_has id [] n = refl
 found_has id ((k, v) ∷ es) n =
     found_step (is_eq (id_cmp id k)) (is_eq (id_cmp id (stored_name (stored v)))) (has_name id (objects_of es)) (lookup (is_at (id_cmp id)) es) v
-    (ap (λ t. is_eq (id_cmp id t)) (head_same _ _ _ _ n)) (found_has id es (tail_same _ _ _ _ n))
+    (ap (λ t. is_eq (id_cmp id t)) (same_head _ _ _ _ n)) (found_has id es (same_tail _ _ _ _ n))
 
 -- one entry more, at a name that is absent
 pub record Put (es : Entries) (id : ObjectId) (v : StreamObject) : Type 0 where
@@ -54,8 +50,8 @@ put_step Greater k id u v es is e n none ih =
 pub put : (es : Entries) (id : ObjectId) (v : StreamObject) → id ≡ stored_name (stored v) → AreNamed es → finds id es ≡ false → Put es id v
 put [] id v e n none = record { named = ap (λ t. t ∷ []) e; objects = refl }
 put ((k, u) ∷ es) id v e n none =
-    let p = put_step (id_cmp id k) k id u v es refl e n none (λ none'. put es id v e (tail_same _ _ _ _ n) none') in
-    record { named = p.0; objects = p.1 ∙ ap (λ t. match_ordering (id_cmp t k) (stored v ∷ stored u ∷ objects_of es) (stored u ∷ objects_of es) (stored u ∷ put_by_name (stored v) (objects_of es))) e ∙ ap (λ t. match_ordering (id_cmp (stored_name (stored v)) t) (stored v ∷ stored u ∷ objects_of es) (stored u ∷ objects_of es) (stored u ∷ put_by_name (stored v) (objects_of es))) (head_same _ _ _ _ n) }
+    let p = put_step (id_cmp id k) k id u v es refl e n none (λ none'. put es id v e (same_tail _ _ _ _ n) none') in
+    record { named = p.0; objects = p.1 ∙ ap (λ t. match_ordering (id_cmp t k) (stored v ∷ stored u ∷ objects_of es) (stored u ∷ objects_of es) (stored u ∷ put_by_name (stored v) (objects_of es))) e ∙ ap (λ t. match_ordering (id_cmp (stored_name (stored v)) t) (stored v ∷ stored u ∷ objects_of es) (stored u ∷ objects_of es) (stored u ∷ put_by_name (stored v) (objects_of es))) (same_head _ _ _ _ n) }
 
 pub added : (es : Entries) (id : ObjectId) (v : StreamObject) → id ≡ stored_name (stored v) → AreNamed es → finds id es ≡ false → objects_of (insert_entry id_cmp es id v) ≡ with_object (stored v) (objects_of es)
 unfolding with_object
@@ -71,3 +67,8 @@ present es id v e n there =
 
 pub stays_named : (es new : Entries) (id : ObjectId) (v : StreamObject) → id ≡ stored_name (stored v) → AreNamed es → finds id es ≡ false → new ≡ insert_entry id_cmp es id v → AreNamed new
 stays_named es new id v e n none is = subst AreNamed (sym is) (put es id v e n none).named
+
+-- one more object, put behind the others
+pub with_objects-push : (set os : List StoredObject) (o : StoredObject) → with_objects set (os ++ o ∷ []) ≡ with_object o (with_objects set os)
+with_objects-push set [] o = refl
+with_objects-push set (p ∷ ps) o = with_objects-push (with_object p set) ps o

@@ -1,8 +1,9 @@
 -- The line that begins an object, as the function that reads it sees it.
-use Rattle.std.proofs.Common.{◌≡◌, ℕ, ◌+◌, ◌-◌, ◌*◌, ◌≤◌, min, Bool, true, false, cond, List, [], ◌∷◌, ◌++◌, Option, Some, None, refl, ap, ◌∙◌, arith, ◌⊎◌, inl, inr, ⊎_elim}
+use Rattle.std.proofs.Common.{◌≡◌, ℕ, ◌+◌, ◌-◌, ◌*◌, ◌≤◌, min, Bool, true, false, cond, List, ◌∷◌, ◌++◌, Option, Some, None, refl, ap, ◌∙◌, arith, ◌⊎◌, inl, inr, ⊎_elim, []}
 use Rattle.std.specs.Prelude.{codes, nat_lt, ◌==◌, ◌||◌}
 use Rattle.std.specs.List.{AllByRecursion}
 use Rattle.std.proofs.lemmas.Bool.Decides.{nat_tests}
+use Rattle.std.proofs.lemmas.Option.{same_Some}
 use Rattle.vc_object.specs.Header.{IsDigit, IsSize, number_after, number}
 use Rattle.vc_object.specs.Kind.{word}
 use Rattle.vc_object.specs.Lines.{after_word}
@@ -48,11 +49,8 @@ bounds d e = ((grind (arith, nat_tests)), (grind (arith, nat_tests)))
 no_bounds : (d : ℕ) → IsDigit d → (nat_lt d 48 || nat_lt 57 d) ≡ false
 no_bounds d h = let l = h.0 in let r = h.1 in grind (arith, nat_tests)
 
-some_same : {A : Type 0} (x y : A) → ◌≡◌ {A = Option A} (Some x) (Some y) → x ≡ y
-some_same x y e = cc e
-
 after_some : (n : ℕ) (ds : List ℕ) (k : ℕ) → n ≤ 16777217 → size_after n ds ≡ Some k → AllByRecursion IsDigit ds × (k ≡ min (number_after n ds) 16777217)
-after_some n [] k small e = let s = some_same n k e in (tt, omega arith)
+after_some n [] k small e = let s = same_Some n k e in (tt, omega arith)
 after_some n (d ∷ ds) k small e = ⊎_elim
     (λ bad. absurd (let h = bad.1 in cc h))
     (λ good.
@@ -111,7 +109,7 @@ line_some line (Some found) kind size h e small = with_size found (size_of found
     with_size : (found : Kind × List ℕ) (o : Option ℕ) → size_of found.1 ≡ o → without_lf line ≡ named found.0 found.1 → (o >>= pair_of found.0) ≡ Some (kind, size) → IsObjectLine kind size line
     with_size found None is h e = absurd (cc e)
     with_size found (Some n) is h e =
-        let pair = some_same (found.0, n) (kind, size) e in
+        let pair = same_Some (found.0, n) (kind, size) e in
         let k : found.0 ≡ kind = ap (λ (p : Kind × ℕ). p.0) pair in
         let m : n ≡ size = ap (λ (p : Kind × ℕ). p.1) pair in
         let s = size_some found.1 n is in

@@ -1,5 +1,5 @@
 -- Objects whose names ascend: for the reader that keeps them as a row and makes a map of it at the end.
-use Rattle.std.proofs.Common.{◌≡◌, ◌-◌, true, false, cond, ◌&&◌, List, [], ◌∷◌, ◌++◌, length, slice_get, Option, Some, is_some, refl, ap, sym, ◌∙◌, arith}
+use Rattle.std.proofs.Common.{◌≡◌, ◌-◌, true, false, cond, ◌&&◌, List, ◌∷◌, ◌++◌, length, slice_get, Option, Some, is_some, refl, ap, sym, ◌∙◌, arith, []}
 use Rattle.std.specs.List.{AllByRecursion}
 use Rattle.std.specs.List.Sorted.{IsStrictlySortedBy}
 use Rattle.std.specs.Map.{lookup, keys_of}
@@ -11,6 +11,7 @@ use Rattle.std.proofs.lemmas.Map.Keys.{IsDistinct-from_sorted}
 use Rattle.std.proofs.lemmas.Float.{T_from_true}
 use Rattle.std.specs.FinMap.Entries.{below_all, is_sorted, find, same_entries}
 use Rattle.std.proofs.lemmas.Map.Made.{update_all_none}
+use Rattle.vc_lemmas.proofs.Lists.{same_head, same_tail}
 use Rattle.vc_object.specs.ObjectId.{id_cmp, IsSortedByName}
 use Rattle.vc_object.specs.declared.id.ObjectId.{ObjectId}
 use Rattle.vc_object.proofs.IdLemmas.{id_cmp_total, id_ties, id_eq-same}
@@ -18,7 +19,7 @@ use Rattle.vc_pkt.specs.Carried.{stored_name, with_object}
 use Rattle.vc_pkt.specs.Incoming.{IsAbove}
 use Rattle.vc_pkt.specs.StreamObjectView.{stored, objects_of, AreNamed}
 use Rattle.vc_pkt.specs.declared.carried.StreamObject.{StreamObject}
-use Rattle.vc_pkt.proofs.CarriedLaws.{Entries, added, finds, head_same, tail_same}
+use Rattle.vc_pkt.proofs.CarriedLaws.{Entries, added, finds}
 
 -- ---- a name above all
 abbrev last_or : ObjectId × StreamObject → Entries → ObjectId × StreamObject
@@ -75,7 +76,7 @@ same_cons k l ks ls e f = cc
 
 pub named_more : (id : ObjectId) (v : StreamObject) (es : Entries) → AreNamed es → id ≡ stored_name (stored v) → AreNamed (es ++ (id, v) ∷ [])
 named_more id v [] n e = ap (λ t. t ∷ []) e
-named_more id v ((k, u) ∷ es) n e = same_cons _ _ _ _ (head_same _ _ _ _ n) (named_more id v es (tail_same _ _ _ _ n) e)
+named_more id v ((k, u) ∷ es) n e = same_cons _ _ _ _ (same_head _ _ _ _ n) (named_more id v es (same_tail _ _ _ _ n) e)
 
 insert_last : (id : ObjectId) (v : StreamObject) (es : Entries) → IsAbove id es → insert_entry id_cmp es id v ≡ es ++ (id, v) ∷ []
 insert_last id v [] a = refl

@@ -1,5 +1,5 @@
 -- A written object stream spells the objects that were written.
-use Rattle.std.proofs.Common.{◌≡◌, ℕ, ◌^◌, ◌<◌, ◌≤◌, Bool, true, false, cond, List, [], ◌∷◌, ◌++◌, length, map, refl, ap, sym, ◌∙◌, subst, arith, append_assoc, length-append}
+use Rattle.std.proofs.Common.{◌≡◌, ℕ, ◌^◌, ◌<◌, ◌≤◌, Bool, true, false, cond, List, ◌∷◌, ◌++◌, length, map, refl, ap, sym, ◌∙◌, subst, arith, append_assoc, length-append, []}
 use Rattle.std.specs.Prelude.{decimal}
 use Rattle.std.specs.List.{AllByRecursion, flat_map}
 use Rattle.std.specs.Ordering.{is_eq, match_ordering, ordering_reverse}
@@ -8,6 +8,7 @@ use Rattle.std.proofs.lemmas.List.{append-nil}
 use Rattle.std.proofs.lemmas.List.Concat.{flat_map-append}
 use Rattle.std.proofs.lemmas.Fmt.{length-decimal-le}
 use Rattle.std.proofs.lemmas.Map.Keys.{sorted_head, sorted_tail}
+use Rattle.vc_lemmas.proofs.Lists.{all_append}
 use Rattle.vc_object.specs.Kind.{word}
 use Rattle.vc_object.specs.ObjectId.{id_cmp, IsSortedByName}
 use Rattle.vc_object.specs.Decoding.{StoredObject, stored_object}
@@ -134,9 +135,6 @@ pub written_set : (T : StoredObject → Bool) (os : List StoredObject) → IsWri
 written_set T os w taken = record { objects = os; stream = stream_spelled T os w.small taken; once = sym (all_last os [] tt w.sorted) }
 
 -- ---- the bytes
-all_append : {X : Type 0} (P : X → Type 0) (xs ys : List X) → AllByRecursion P xs → AllByRecursion P ys → AllByRecursion P (xs ++ ys)
-all_append P [] ys a b = b
-all_append P (x ∷ xs) ys a b = (a.0, all_append P xs ys a.1 b)
 
 pub stream_fits : (os : List StoredObject) → AllByRecursion (λ o. length o.body ≤ 16777216) os → AllByRecursion IsWritable (stream_lines os)
 stream_fits [] small = (tt, tt)

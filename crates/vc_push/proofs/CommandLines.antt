@@ -1,8 +1,9 @@
 -- Lines of commands, as the function that reads them sees them.
-use Rattle.std.proofs.Common.{◌≡◌, ℕ, ◌<◌, Bool, true, false, cond, List, [], ◌∷◌, ◌++◌, length, Option, Some, None, refl, ap, ◌∙◌, subst, arith, length-append}
+use Rattle.std.proofs.Common.{◌≡◌, ℕ, ◌<◌, Bool, true, false, cond, List, ◌∷◌, ◌++◌, length, Option, Some, None, refl, ap, ◌∙◌, subst, arith, length-append, []}
 use Rattle.std.specs.Prelude.{nat_lt}
 use Rattle.std.proofs.lemmas.List.{append-nil}
 use Rattle.std.proofs.lemmas.Bool.Decides.{nat_tests}
+use Rattle.std.proofs.lemmas.Option.{same_Some}
 use Rattle.hex.proofs.HexLemmas.{decode_sized-ok}
 use Rattle.vc_object.specs.Items.{◌>>=◌}
 use Rattle.vc_object.specs.Lines.{after_word, split}
@@ -12,7 +13,7 @@ use Rattle.vc_object.proofs.LineTexts.{after_word_some, after_word_again, split_
 use Rattle.vc_pkt.specs.TextLine.{without_lf}
 use Rattle.vc_fetch.specs.Ids.{WritesId, id_of}
 use Rattle.vc_fetch.specs.Advert.{IsName, IsCapabilities, is_name, before_nul}
-use Rattle.vc_fetch.proofs.IdLines.{some_same, id_some, id_again}
+use Rattle.vc_fetch.proofs.IdLines.{id_some, id_again}
 use Rattle.vc_fetch.proofs.RefLines.{name_is, name_again, nul_cut, name_before}
 use Rattle.vc_push.specs.Push.{CommandText, IsCommandLine, IsFirstCommandLine, spelled_command, named, name_in, command_line}
 
@@ -21,7 +22,7 @@ pub named_some : (words name : List ℕ) → named words ≡ Some name → IsNam
 named_some words name e = by (is_name words) refl e
   where
     by : (b : Bool) → is_name words ≡ b → cond b (Some words) None ≡ Some name → IsName name × (words ≡ name)
-    by true is e = let same = some_same words name e in (subst IsName same (name_is words is), same)
+    by true is e = let same = same_Some words name e in (subst IsName same (name_is words is), same)
     by false is e = absurd (cc e)
 
 pub named_again : (name : List ℕ) → IsName name → named name ≡ Some name
@@ -94,7 +95,7 @@ parts_some f line command e =
     let g = bind_some (id_of d.0.0) (new_or f b.0 d.0.1) command d.2 in
     let h = bind_some (after_word (32 ∷ []) d.0.1) (words_or f b.0 g.0) command g.2 in
     let n = bind_some (name_in f h.0) (name_or b.0 g.0) command h.2 in
-    let same = some_same (record { old = b.0; new = g.0; name = n.0 }) command n.2 in
+    let same = same_Some (record { old = b.0; new = g.0; name = n.0 }) command n.2 in
     record {
       old = a.0.0;
       new = d.0.0;

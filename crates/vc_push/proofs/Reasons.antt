@@ -1,9 +1,9 @@
 -- Each reason has a text of its own.
-use Rattle.std.proofs.Common.{◌≡◌, ℕ, Bool, true, false, cond, List, [], ◌∷◌, Some, refl, ap, sym, ◌∙◌}
+use Rattle.std.proofs.Common.{◌≡◌, ℕ, Bool, true, false, cond, List, ◌∷◌, Some, refl, ap, sym, ◌∙◌, []}
 use Rattle.std.specs.Prelude.{find}
 use Rattle.std.specs.Str.{bytes_eq}
 use Rattle.std.proofs.lemmas.Slice.Eq.{bytes_eq-Decides}
-use Rattle.vc_fetch.proofs.IdLines.{some_same}
+use Rattle.std.proofs.lemmas.Option.{same_Some}
 use Rattle.vc_push.specs.Reason.{all_reasons, reason_of, reason_text}
 use Rattle.vc_push.specs.declared.reason.Reason.{Reason}
 use Rattle.vc_push.specs.declared.reason.Reason.TheVariants.{BadName, OutsideRefs, DeletionProhibited, MissingObjects, NotACommit, NonFastForward, AlreadyExists, NameConflict, Stale, UnpackerError}
@@ -27,7 +27,7 @@ found_text words reason (r ∷ rs) e = by (bytes_eq (reason_text r) words) refl 
   where
     by : (b : Bool) → bytes_eq (reason_text r) words ≡ b → (find (λ q. bytes_eq (reason_text q) words) rs ≡ Some reason → words ≡ reason_text reason)
         → cond b (Some r) (find (λ q. bytes_eq (reason_text q) words) rs) ≡ Some reason → words ≡ reason_text reason
-    by true is ih e = sym ((bytes_eq-Decides (reason_text r) words).0 is) ∙ ap reason_text (some_same r reason e)
+    by true is ih e = sym ((bytes_eq-Decides (reason_text r) words).0 is) ∙ ap reason_text (same_Some r reason e)
     by false is ih e = ih e
 
 pub reason_some : (words : List ℕ) (reason : Reason) → reason_of words ≡ Some reason → words ≡ reason_text reason

@@ -1,18 +1,18 @@
 -- Lines of a report, as the functions that read them see them.
-use Rattle.std.proofs.Common.{◌≡◌, ◌≢◌, ℕ, ◌==◌, ◌||◌, Bool, true, false, cond, List, [], ◌∷◌, ◌++◌, Option, Some, None, refl, ap, ◌∙◌, subst, arith}
+use Rattle.std.proofs.Common.{◌≡◌, ◌≢◌, ℕ, ◌==◌, ◌||◌, Bool, true, false, cond, List, ◌∷◌, ◌++◌, Option, Some, None, refl, ap, ◌∙◌, subst, arith, []}
 use Rattle.std.specs.Prelude.{codes}
 use Rattle.std.specs.List.{list_any}
 use Rattle.std.specs.Str.{bytes_eq}
 use Rattle.std.proofs.lemmas.Bool.Decides.{nat_tests}
 use Rattle.std.proofs.lemmas.Slice.Eq.{bytes_eq-Decides}
 use Rattle.std.proofs.lemmas.Bool.{or_parts}
+use Rattle.std.proofs.lemmas.Option.{same_Some}
 use Rattle.vc_object.specs.Bytes.{Without, cut}
 use Rattle.vc_object.specs.Lines.{after_word}
 use Rattle.vc_object.proofs.LineTexts.{after_word_some, after_word_again}
 use Rattle.vc_object.proofs.Texts.{cut_found, cut_some}
 use Rattle.vc_pkt.specs.TextLine.{without_lf}
 use Rattle.vc_fetch.specs.Advert.{is_break}
-use Rattle.vc_fetch.proofs.IdLines.{some_same}
 use Rattle.vc_push.specs.Push.{named}
 use Rattle.vc_push.specs.Report.{IsUnpackLine, IsOkLine, IsNgLine, IsOptionLine, new_id, unpack_of, unpack_line, Said, accepts, refuses, opts, nothing, accepts_or, ok_said, refuses_or, ng_parts, ng_said, said_as, said}
 use Rattle.vc_push.proofs.CommandLines.{named_some, named_again}
@@ -33,10 +33,10 @@ unpack_some line unpack e = of (after_word (codes "unpack ") (without_lf line)) 
   where
     of_words : (words : List ℕ) (b : Bool) → bytes_eq words (codes "ok") ≡ b → without_lf line ≡ codes "unpack " ++ words → cond b (Some None) (Some (Some words)) ≡ Some unpack → IsUnpackLine unpack line
     of_words words true is at e =
-        let same = some_same None unpack e in
+        let same = same_Some None unpack e in
         subst (λ u. IsUnpackLine u line) same (at ∙ ap (λ t. codes "unpack " ++ t) ((bytes_eq-Decides words (codes "ok")).0 is))
     of_words words false is at e =
-        let same = some_same (Some words) unpack e in
+        let same = same_Some (Some words) unpack e in
         let other : words ≢ codes "ok" = λ h. let a = (bytes_eq-Decides words (codes "ok")).1 h in cc (a, is) in
         subst (λ u. IsUnpackLine u line) same (at, other)
 

@@ -7,14 +7,12 @@ ghost use Rattle.vc_push.specs.Report.{ReportState, ReportText, Said, new_id, ng
 ghost use Rattle.vc_push.specs.ReportView.{bytes_of, pending_of, report_state, report_text, telling_state, told_of};
 ghost use Rattle.vc_push.specs.SaidView.{said_view};
 
+use crate::command::MAX_COMMANDS;
 use crate::report::{Report, Told};
 use std::alloc::{AllocError, Global};
 use vc_fetch::{id_line, is_name};
 use vc_object::{ObjectId, cut_at};
 use vc_pkt::{Line, MessageReader, PktError, PktFault, Step, without_lf};
-
-/// The commands that one report tells of, at most.
-const MAX_TOLD: usize = 256;
 
 /// An accepted command whose options may still come.
 #[derive(Drop)]
@@ -145,7 +143,7 @@ impl Telling {
         } = self;
         let mut told = told;
         settle(&mut told, pending)?;
-        if told.len() >= MAX_TOLD {
+        if told.len() >= MAX_COMMANDS {
             return Err(PktError::Refused(PktFault::TooMany));
         }
         let name = name.to_vec(alloc)?;
@@ -168,7 +166,7 @@ impl Telling {
         } = self;
         let mut told = told;
         settle(&mut told, pending)?;
-        if told.len() >= MAX_TOLD {
+        if told.len() >= MAX_COMMANDS {
             return Err(PktError::Refused(PktFault::TooMany));
         }
         let name = name.to_vec(alloc)?;

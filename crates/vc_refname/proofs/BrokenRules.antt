@@ -1,5 +1,6 @@
-use Rattle.std.proofs.Common.{◌≡◌, ℕ, Bool, true, false, cond, List, [], ◌∷◌, Option, Some, None, is_none, ◌⊎◌, inl, inr, nat_eq, refl, sym, ◌∙◌, true≢false, find}
+use Rattle.std.proofs.Common.{◌≡◌, ℕ, Bool, true, false, List, ◌∷◌, Option, Some, None, is_none, nat_eq, refl, sym, ◌∙◌, true≢false, find, []}
 use Rattle.std.specs.List.{AllByRecursion, starts_with}
+use Rattle.vc_lemmas.proofs.Lists.{found_passes, none_parts}
 use Rattle.vc_refname.specs.RefName.{occurs, breaks, all_rules, first_broken_rule, is_ref_name, IsRefName}
 use Rattle.vc_refname.specs.declared.fault.NameFault.{NameFault}
 use Rattle.vc_refname.specs.declared.fault.NameFault.TheVariants as rules
@@ -8,21 +9,9 @@ pub occurs_here : (part text : List ℕ) → starts_with nat_eq text part ≡ tr
 occurs_here part [] h = h
 occurs_here part (b ∷ bs) h = rw h refl
 
-find_step : {X : Type 0} (b : Bool) (x : X) (r : Option X) → cond b (Some x) r ≡ None → (b ≡ false) × (r ≡ None)
-find_step true x r e = cc
-find_step false x r e = (refl, e)
-
 find_none : {X : Type 0} (p : X → Bool) (xs : List X) → find p xs ≡ None → AllByRecursion (λ x. p x ≡ false) xs
 find_none p [] e = tt
-find_none p (x ∷ xs) e = let h = find_step (p x) x (find p xs) e in (h.0, find_none p xs h.1)
-
-find_at : {X : Type 0} (b t : Bool) (x y : X) (r : Option X) → b ≡ t → cond t (Some x) r ≡ Some y → ((b ≡ true) × (x ≡ y)) ⊎ (r ≡ Some y)
-find_at b true x y r h e = inl (h, cc)
-find_at b false x y r h e = inr e
-
-find_some : {X : Type 0} (p : X → Bool) (xs : List X) (y : X) → find p xs ≡ Some y → p y ≡ true
-find_some p [] y e = cc
-find_some p (x ∷ xs) y e = elim (find_at (p x) (p x) x y (find p xs) refl e) [ inl h ↦ rw h.1 at h.0 | inr h ↦ find_some p xs y h ]
+find_none p (x ∷ xs) e = let h = none_parts (p x) x (find p xs) e in (h.0, find_none p xs h.1)
 
 by_each : (text : List ℕ) → AllByRecursion (λ rule. breaks rule text ≡ false) all_rules → IsRefName text
 by_each text h rules.SingleAt = h.0
@@ -45,7 +34,7 @@ name_from_none text e = by_each text (find_none (λ rule. breaks rule text) all_
 -- the rule that is found is broken
 pub broken_from_some : (text : List ℕ) (rule : NameFault) → first_broken_rule text ≡ Some rule → breaks rule text ≡ true
 unfolding first_broken_rule
-broken_from_some text rule e = find_some (λ rule. breaks rule text) all_rules rule e
+broken_from_some text rule e = found_passes (λ rule. breaks rule text) all_rules rule e
 
 none_broken : (text : List ℕ) (found : Option NameFault) → ((rule : NameFault) → found ≡ Some rule → breaks rule text ≡ true) → IsRefName text → is_none found ≡ true
 none_broken text None broken legal = refl

@@ -12,3 +12,4 @@ mod traits;
 
 pub use fault::{BAD_REF_FILE, HEAD_LOOP, NameFault, NewNameError};
 pub use name::RefName;
+pub use rules::MAX_BRANCH;

@@ -1,5 +1,5 @@
 -- What HEAD's text says, and what a write of it does.
-use Rattle.std.proofs.Common.{◌≡◌, ℕ, Bool, true, false, cond, ◌&&◌, nat_eq, List, [], ◌∷◌, ◌++◌, drop, length, Option, Some, None, sym, ap, refl, ◌∙◌, subst, arith, rules}
+use Rattle.std.proofs.Common.{◌≡◌, ℕ, Bool, true, false, cond, ◌&&◌, nat_eq, List, ◌∷◌, ◌++◌, drop, length, Option, Some, None, sym, ap, refl, ◌∙◌, subst, arith, rules, []}
 use Rattle.std.specs.Prelude.{bytes_eq, codes, option_and_then, if◌then◌else◌}
 use Rattle.std.specs.List.{starts_with, AllPass}
 use Rattle.std.specs.Str.{is_utf8}
@@ -9,6 +9,7 @@ use Rattle.std.proofs.lemmas.List.Elements.{All-head}
 use Rattle.hex.specs.Hex.{encode_lower, is_hex_digit}
 use Rattle.vc_files.specs.FileMap.{FileMap}
 use Rattle.vc_files.proofs.FileMapLemmas.{get-put}
+use Rattle.vc_lemmas.proofs.Texts.{split_from_starts}
 use Rattle.vc_object.specs.declared.id.ObjectId.{ObjectId}
 use Rattle.vc_object.specs.ObjectId.{is_id}
 use Rattle.vc_refname.specs.RefName.{is_ref_name}
@@ -20,7 +21,6 @@ use Rattle.vc_refs.specs.RefMap.{IsInRefs, is_ref}
 use Rattle.vc_refs.specs.Head.{head_of, head_text, id_said, name_said, read_head, said, IsHeadInRefs, IsLegalHead}
 use Rattle.vc_refs.specs.Refs.{ChangesOnly}
 use Rattle.vc_refs.proofs.RefFileLemmas.{without_lf-line, id_in-id_text, digits_of}
-use Rattle.vc_refs.proofs.ObstacleLemmas.{split_from_starts}
 
 -- what a name says
 pub name_said-bad : (name : List ℕ) → bytes_eq name (codes "HEAD") ≡ false → is_utf8 name ≡ false → name_said name ≡ SaysNothing

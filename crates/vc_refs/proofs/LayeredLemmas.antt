@@ -9,6 +9,7 @@ use Rattle.std.specs.FinMap as files
 use Rattle.std.proofs.lemmas.Bool.{and_parts, false_from_ne_true}
 use Rattle.std.proofs.lemmas.Slice.Eq.{bytes_eq-Decides}
 use Rattle.vc_files.specs.FileMap.{FileMap}
+use Rattle.vc_lemmas.proofs.Texts.{split_from_starts}
 use Rattle.vc_object.proofs.IdLemmas.{IsId-from_is_id}
 use Rattle.vc_object.specs.Lines.{IsId}
 use Rattle.vc_object.specs.ObjectId.{is_id}
@@ -23,7 +24,6 @@ use Rattle.vc_refs.specs.declared.faults.RefFault.TheVariants.{Stale, Conflict, 
 use Rattle.vc_refs.proofs.PackedLaws.{id_in-valid, packed_entry, packed_refs-valid}
 use Rattle.vc_refs.proofs.PackedLemmas.{empty-IsPackedMap}
 use Rattle.vc_refs.proofs.RefsLemmas.{loose-at, loose-same, loose_absent, loose_legal, taken_from_ref}
-use Rattle.vc_refs.proofs.ObstacleLemmas.{split_from_starts}
 
 -- ---- the packed file
 pub packed_map-absent : (content : FileMap) → files.get content packed_path ≡ None → packed_map content ≡ Some empty

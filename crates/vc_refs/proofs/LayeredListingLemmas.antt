@@ -1,5 +1,5 @@
 -- The loose refs are put over the packed ones, path by path, and taken away when all are packed.
-use Rattle.std.proofs.Common.{◌≡◌, ℕ, Bool, true, false, cond, ◌||◌, ◌⊎◌, inl, inr, true≢false, nat_eq, List, [], ◌∷◌, ◌++◌, map, length, ◌<◌, Option, Some, None, sym, ap, refl, ◌∙◌, subst, arith}
+use Rattle.std.proofs.Common.{◌≡◌, ℕ, Bool, true, false, cond, ◌||◌, ◌⊎◌, inl, inr, true≢false, nat_eq, List, ◌∷◌, ◌++◌, map, length, ◌<◌, Option, Some, None, sym, ap, refl, ◌∙◌, subst, arith, []}
 use Rattle.std.specs.Global.{Global}
 use Rattle.std.specs.Prelude.{◌≢◌, String, bytes_eq, codes, is_some, string_bytes, option_and_then}
 use Rattle.std.specs.List.{starts_with}
@@ -17,6 +17,7 @@ use Rattle.std.proofs.lemmas.Slice.Eq.{bytes_eq-Decides}
 use Rattle.std.proofs.Math.Bool.{or-false, or-true}
 use Rattle.vc_files.specs.FileMap.{FileMap, paths_under}
 use Rattle.vc_files.proofs.FileMapLemmas.{get-put, get-unput}
+use Rattle.vc_lemmas.proofs.Texts.{split_from_starts}
 use Rattle.vc_object.specs.declared.id.ObjectId.{ObjectId}
 use Rattle.vc_refs.specs.Head.{head_of, read_head, said, KeepsOutside}
 use Rattle.vc_refs.specs.LooseFault as loose
@@ -32,7 +33,6 @@ use Rattle.vc_refs.proofs.ListingLemmas.{AllGood, spells_refs}
 use Rattle.vc_refs.proofs.PackedLemmas.{of_T}
 use Rattle.vc_refs.proofs.PathLemmas.{is_among-paths_under, same_path, head_among, not_above_itself}
 use Rattle.vc_refs.proofs.RefsLemmas.{bad_from_none, loose-same}
-use Rattle.vc_refs.proofs.ObstacleLemmas.{split_from_starts}
 
 abbrev by_bytes : List ℕ → List ℕ → Ordering
 by_bytes = slice_cmp nat_cmp

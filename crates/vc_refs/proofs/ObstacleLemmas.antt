@@ -1,5 +1,5 @@
 -- What stands in the way of a ref: the folders of its name, and the paths in its own folder.
-use Rattle.std.proofs.Common.{◌≡◌, ℕ, suc, ◌+◌, ◌-◌, true≢false, ◌<◌, ◌≤◌, true, false, ◌&&◌, ◌||◌, ◌⊎◌, inl, inr, nat_eq, List, [], ◌∷◌, ◌++◌, take, drop, length, get_or, Option, Some, None, sym, ap, refl, ◌∙◌, subst, arith, append_assoc, length-append, drop-cons}
+use Rattle.std.proofs.Common.{◌≡◌, ℕ, suc, ◌+◌, ◌-◌, true≢false, ◌<◌, ◌≤◌, true, false, ◌&&◌, ◌||◌, ◌⊎◌, inl, inr, nat_eq, List, ◌∷◌, ◌++◌, take, drop, length, get_or, Option, Some, None, sym, ap, refl, ◌∙◌, subst, arith, append_assoc, length-append, drop-cons, []}
 use Rattle.std.specs.List.Sorted.{IsStrictlySortedBy}
 use Rattle.std.specs.Prelude.{◌≢◌, codes, is_some, option_map, MatchOption, map}
 use Rattle.std.specs.Option.{option_to_list}
@@ -11,25 +11,15 @@ use Rattle.std.specs.Cmp.Lexicographic.{slice_cmp}
 use Rattle.std.specs.FinMap as files
 use Rattle.std.proofs.Math.Seq.{take-append_seam, take-append-add, get_or-append_seam}
 use Rattle.std.proofs.lemmas.List.{take-append-drop, take-append-le}
-use Rattle.std.proofs.lemmas.Slice.Eq.{bytes_eq-Decides}
 use Rattle.std.proofs.lemmas.Bool.{and_parts, and_from, false_from_ne_true, cases_lt, or_cases, or_left, or_right}
 use Rattle.vc_files.specs.FileMap.{FileMap, paths_under}
 use Rattle.vc_files.specs.Path.{is_above}
 use Rattle.vc_files.proofs.PathLemmas.{is_above-append, is_above-parts}
+use Rattle.vc_lemmas.proofs.Texts.{starts_with-append, split_from_starts}
 use Rattle.vc_refs.specs.RefMap.{IsInRefs, conflicts}
 use Rattle.vc_refs.specs.LooseObstacle.{IsFirstInTheWay, IsFree, IsFreeAbove, IsInTheWay}
 use Rattle.vc_refs.specs.Refs.{is_taken}
 use Rattle.vc_refs.proofs.PathLemmas.{paths_rise, is_among, is_among-paths_under, first_among, head_among}
-
--- a text begins with its front
-starts_with-append : (p r : List ℕ) → starts_with nat_eq (p ++ r) p ≡ true
-starts_with-append p r = (bytes_eq-Decides p (take (length p) (p ++ r))).1 (sym (take-append_seam p r))
-
--- a text that begins so is that front and a rest
-pub split_from_starts : (q p : List ℕ) → starts_with nat_eq q p ≡ true → q ≡ p ++ drop (length p) q
-split_from_starts q p h =
-    let is : p ≡ take (length p) q = (bytes_eq-Decides p (take (length p) q)).0 h in
-    sym (take-append-drop (length p) q) ∙ ap (λ f. f ++ drop (length p) q) (sym is)
 
 same_byte : (x : ℕ) → nat_cmp x x ≡ Equal
 same_byte x = sym (nat_cmp_is x x Equal refl)

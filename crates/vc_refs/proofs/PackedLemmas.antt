@@ -1,5 +1,5 @@
 -- For the readers and the changes of packed refs: lines, names that stand once, and a map seen without its memory.
-use Rattle.std.proofs.Common.{◌≡◌, ◌≢◌, ℕ, Bool, true, false, cond, List, [], ◌∷◌, ◌++◌, length, Option, Some, None, is_none, sym, ap, refl, ◌∙◌, subst, append_assoc, append-nil}
+use Rattle.std.proofs.Common.{◌≡◌, ◌≢◌, ℕ, Bool, true, false, cond, List, ◌∷◌, ◌++◌, length, Option, Some, None, is_none, sym, ap, refl, ◌∙◌, subst, append_assoc, append-nil, []}
 use Rattle.std.specs.Prelude.{IfSome, IfNone, T, option_map, option_and_then}
 use Rattle.std.specs.BTreeMap.{BTreeMap, get_by, is_at, UpdatesBy, IsFromIterResult, IsOrdered}
 use Rattle.std.specs.FinMap.{from_entries, get, insert, remove, empty, get-from_entries, get-insert, get-remove, same_map, len-entries, len-empty, entries, entries_sorted, get-entries, entries-insert, slice_cmp-IsAntisymmetric, nat_cmp-IsAntisymmetric}
@@ -18,6 +18,7 @@ use Rattle.std.proofs.lemmas.Map.Entries.{length-keys_of}
 use Rattle.std.proofs.lemmas.Map.Made.{IsDistinct-from_count, distinct_count-from_IsDistinct, update_all_none}
 use Rattle.std.proofs.lemmas.Map.Views.{btree_map_len-from_list}
 use Rattle.std.proofs.lemmas.List.{nil_from_length}
+use Rattle.vc_lemmas.proofs.Lists.{none_parts}
 use Rattle.vc_object.specs.declared.id.ObjectId.{ObjectId}
 use Rattle.vc_refs.specs.Packed.{PackedMap, PackedRef, IsBadPacked, IsPackedMap, is_comment, is_packed_name, is_peeled, lines, map_of, may_be_packed, names_once, packed_name, packed_refs, ref_in, refs_in, with_ref_first}
 use Rattle.vc_refs.specs.PackedView.{packed_of}
@@ -85,10 +86,6 @@ same_name a b e = slice_cmp-IsAntisymmetric nat_cmp-IsAntisymmetric a b ((Equal-
 
 is_eq-same : (a : List ℕ) → is_eq (by_bytes a a) ≡ true
 is_eq-same a = ap is_eq (tied_itself nat_list_cmp_total a)
-
-none_parts : (b : Bool) (v : ObjectId) (r : Option ObjectId) → cond b (Some v) r ≡ None → (b ≡ false) × (r ≡ None)
-none_parts true v r e = absurd (cc e)
-none_parts false v r e = (refl, e)
 
 pub map_of-once : (refs : List PackedRef) → names_once refs ≡ true → map_of refs ≡ Some (from_entries refs)
 map_of-once refs once = rw once refl

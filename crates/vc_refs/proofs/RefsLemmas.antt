@@ -8,6 +8,7 @@ use Rattle.std.proofs.lemmas.Bool.{and_parts, and_from, false_from_ne_true}
 use Rattle.vc_files.specs.FileMap.{FileMap, SameOutside}
 use Rattle.vc_files.proofs.FileMapLemmas.{get-put, get-unput}
 use Rattle.vc_files.specs.Path.{is_above}
+use Rattle.vc_lemmas.proofs.Texts.{bytes_eq_same}
 use Rattle.vc_object.specs.declared.id.ObjectId.{ObjectId}
 use Rattle.vc_object.specs.ObjectId.{is_id}
 use Rattle.vc_refname.specs.RefName.{IsRefName, is_ref_name}
@@ -30,9 +31,6 @@ loose-at content name legal = ap (λ b. cond b (option_and_then id_in (files.get
 pub loose-same : (old new : FileMap) (q : List ℕ) → files.get new q ≡ files.get old q → loose_refs new q ≡ loose_refs old q
 unfolding loose_refs
 loose-same old new q same = ap (λ found. cond (is_ref q) (option_and_then id_in found) None) same
-
-bytes_eq_same : (xs : List ℕ) → bytes_eq xs xs ≡ true
-bytes_eq_same xs = (bytes_eq-Decides xs xs).1 refl
 
 set_at : (content : FileMap) (name : List ℕ) (id : ObjectId) → is_ref name ≡ true → is_id id ≡ true
     → (q : List ℕ) → loose_refs (files.insert content name (id_text id)) q ≡ with_ref (loose_refs content) name id q

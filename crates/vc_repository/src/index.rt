@@ -11,7 +11,8 @@ use vc_index::{Index, IndexFault};
 use vc_rev::SourceFault;
 use vc_store::StoreFault;
 
-const INDEX: &str = "index";
+/// The path of the file that holds the index.
+pub const INDEX: &str = "index";
 
 // The fault of a repository that a look at the index gives: 62, or a fault. Reading a text answers none of the others.
 fn index_fault(fault: IndexFault) -> SourceFault

@@ -7,5 +7,5 @@ mod index;
 mod resolving;
 
 pub use files::FileRepository;
-pub use index::read_index;
+pub use index::{INDEX, read_index};
 pub use resolving::resolve;

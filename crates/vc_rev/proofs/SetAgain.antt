@@ -1,9 +1,10 @@
 -- What is spelled as a set is read so.
-use Rattle.std.proofs.Common.{◌≡◌, ◌≢◌, inl, inr, ℕ, List, [], ◌∷◌, ◌++◌, Bool, true, false, ◌==◌, Some, None, length, drop, nat_eq, codes, true≢false, refl, sym, ap, subst, ◌∙◌, append_assoc, arith}
+use Rattle.std.proofs.Common.{◌≡◌, ◌≢◌, inl, inr, ℕ, List, ◌∷◌, ◌++◌, Bool, true, false, ◌==◌, Some, None, length, drop, nat_eq, codes, true≢false, refl, sym, ap, subst, ◌∙◌, append_assoc, arith, []}
 use Rattle.std.specs.List.{starts_with, AllByRecursion, slice_split, onto_first, list_any}
 use Rattle.std.proofs.lemmas.List.{append-nil}
 use Rattle.std.proofs.lemmas.Bool.Decides.{nat_tests}
 use Rattle.std.proofs.lemmas.Bool.{or_parts}
+use Rattle.vc_lemmas.proofs.Texts.{split_from_starts}
 use Rattle.vc_refname.specs.RefName.{breaks}
 use Rattle.vc_refname.specs.declared.fault.NameFault.TheVariants as rules
 use Rattle.vc_rev.specs.Base.{IsBase, is_stop, name_of}
@@ -16,7 +17,7 @@ use Rattle.vc_rev.specs.SetReading.{Behind, SinceParent, UpTo, Nothing, dots_at,
 use Rattle.vc_rev.specs.declared.suffix.Dots.{Dots}
 use Rattle.vc_rev.specs.declared.suffix.Dots.TheVariants.{Two, Three}
 use Rattle.vc_rev.proofs.NameLemmas.{plain_base, goes_on}
-use Rattle.vc_rev.proofs.StepLemmas.{Ends, front_is, counted_again}
+use Rattle.vc_rev.proofs.StepLemmas.{Ends, counted_again}
 use Rattle.vc_rev.proofs.ExprLemmas.{Tail, tail_none, no_base, rev_again}
 
 -- the end of the text, or a space
@@ -46,7 +47,7 @@ no_front : (text part : List ℕ) → ((rest : List ℕ) → text ≢ part ++ re
 no_front text part other = at_test (starts_with nat_eq text part) refl
   where
     at_test : (b : Bool) → starts_with nat_eq text part ≡ b → b ≡ false
-    at_test true h = absurd (other (drop (length part) text) (front_is text part h))
+    at_test true h = absurd (other (drop (length part) text) (split_from_starts text part h))
     at_test false h = refl
 
 no_dots_at : (text : List ℕ) → starts_with nat_eq text (codes "..") ≡ false → dots_at text ≡ None

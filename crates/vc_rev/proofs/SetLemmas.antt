@@ -1,8 +1,10 @@
 -- What a term is read as is spelled so.
-use Rattle.std.proofs.Common.{◌≡◌, ◌≢◌, ◌⊎◌, inl, inr, ℕ, List, [], ◌∷◌, ◌++◌, Bool, true, false, cond, ◌==◌, Option, Some, None, MatchBool, length, drop, nat_eq, codes, ◌<◌, true≢false, refl, sym, ap, subst, ◌∙◌, append_assoc, arith}
+use Rattle.std.proofs.Common.{◌≡◌, ◌≢◌, ◌⊎◌, inl, inr, ℕ, List, ◌∷◌, ◌++◌, Bool, true, false, cond, ◌==◌, Option, Some, None, MatchBool, length, drop, nat_eq, codes, ◌<◌, true≢false, refl, sym, ap, subst, ◌∙◌, append_assoc, arith, []}
 use Rattle.std.specs.List.{starts_with, AllByRecursion}
 use Rattle.std.proofs.lemmas.List.{append-nil, length-append}
 use Rattle.std.proofs.lemmas.Bool.Decides.{nat_tests}
+use Rattle.vc_lemmas.proofs.Texts.{split_from_starts}
+use Rattle.vc_object.proofs.Reading.{chosen}
 use Rattle.vc_rev.specs.Base.{name_of}
 use Rattle.vc_rev.specs.Steps.{counted_at}
 use Rattle.vc_rev.specs.Grammar.{RevText, IsRev, IsCount}
@@ -14,7 +16,7 @@ use Rattle.vc_rev.specs.declared.fault.ParseFault.{ParseFault}
 use Rattle.vc_rev.specs.declared.fault.ParseFault.TheVariants as faults
 use Rattle.vc_rev.specs.declared.suffix.Dots.{Dots}
 use Rattle.vc_rev.specs.declared.suffix.Dots.TheVariants.{Two, Three}
-use Rattle.vc_rev.proofs.StepLemmas.{chosen, front_is, counted_front}
+use Rattle.vc_rev.proofs.StepLemmas.{counted_front}
 use Rattle.vc_rev.proofs.ExprLemmas.{rev_front}
 
 -- the text of what stands behind a base
@@ -28,9 +30,9 @@ BehindText text Wrong = Unit {0}
 
 pub dots_front : (text : List ℕ) (found : Dots × List ℕ) → dots_at text ≡ Some found → text ≡ dots_text found.0 ++ found.1
 dots_front text found e = elim (chosen (starts_with nat_eq text (codes "...")) _ _ _ e) [
-  | inl h ↦ let same : (Three, drop 3 text) ≡ found = cc h.1 in subst (λ (f : Dots × List ℕ). text ≡ dots_text f.0 ++ f.1) same (front_is text (codes "...") h.0)
+  | inl h ↦ let same : (Three, drop 3 text) ≡ found = cc h.1 in subst (λ (f : Dots × List ℕ). text ≡ dots_text f.0 ++ f.1) same (split_from_starts text (codes "...") h.0)
   | inr h ↦ elim (chosen (starts_with nat_eq text (codes "..")) _ _ _ h.1) [
-    | inl h ↦ let same : (Two, drop 2 text) ≡ found = cc h.1 in subst (λ (f : Dots × List ℕ). text ≡ dots_text f.0 ++ f.1) same (front_is text (codes "..") h.0)
+    | inl h ↦ let same : (Two, drop 2 text) ≡ found = cc h.1 in subst (λ (f : Dots × List ℕ). text ≡ dots_text f.0 ++ f.1) same (split_from_starts text (codes "..") h.0)
     | inr h ↦ absurd (cc h.1)
   ]
 ]
@@ -52,7 +54,7 @@ since_text text rest (Some found) t e = at_zero (found.0 == 0) refl
 
 pub behind_text : (text : List ℕ) → BehindText text (behind_at text)
 behind_text text = elim (split (starts_with nat_eq text (codes "^@"))) [
-  | inl h ↦ subst (λ (b : Bool). BehindText text (cond b (AllParents (drop 2 text)) (next text))) (sym h) (front_is text (codes "^@") h)
+  | inl h ↦ subst (λ (b : Bool). BehindText text (cond b (AllParents (drop 2 text)) (next text))) (sym h) (split_from_starts text (codes "^@") h)
   | inr h ↦ subst (λ (b : Bool). BehindText text (cond b (AllParents (drop 2 text)) (next text))) (sym h) (next_text text)
 ]
   where
@@ -68,13 +70,13 @@ behind_text text = elim (split (starts_with nat_eq text (codes "^@"))) [
 
     last_text : (t : List ℕ) → BehindText t (last t)
     last_text t = elim (split (starts_with nat_eq t (codes "^-"))) [
-      | inl h ↦ subst (λ (b : Bool). BehindText t (cond b (since_at (counted_at (drop 2 t))) (or_dots (dots_at t)))) (sym h) (since_text t (drop 2 t) (counted_at (drop 2 t)) (front_is t (codes "^-") h) refl)
+      | inl h ↦ subst (λ (b : Bool). BehindText t (cond b (since_at (counted_at (drop 2 t))) (or_dots (dots_at t)))) (sym h) (since_text t (drop 2 t) (counted_at (drop 2 t)) (split_from_starts t (codes "^-") h) refl)
       | inr h ↦ subst (λ (b : Bool). BehindText t (cond b (since_at (counted_at (drop 2 t))) (or_dots (dots_at t)))) (sym h) (or_dots_text t (dots_at t) refl)
     ]
 
     next_text : (t : List ℕ) → BehindText t (next t)
     next_text t = elim (split (starts_with nat_eq t (codes "^!"))) [
-      | inl h ↦ subst (λ (b : Bool). BehindText t (cond b (Itself (drop 2 t)) (last t))) (sym h) (front_is t (codes "^!") h)
+      | inl h ↦ subst (λ (b : Bool). BehindText t (cond b (Itself (drop 2 t)) (last t))) (sym h) (split_from_starts t (codes "^!") h)
       | inr h ↦ subst (λ (b : Bool). BehindText t (cond b (Itself (drop 2 t)) (last t))) (sym h) (last_text t)
     ]
 
@@ -92,7 +94,7 @@ pub front_text : (text : List ℕ) → FrontText text (front_at text)
 front_text text = at_caret (starts_with nat_eq text (codes "^")) refl
   where
     at_caret : (b : Bool) → starts_with nat_eq text (codes "^") ≡ b → FrontText text (cond b (Excludes (drop 1 text)) (or_dotted (dots_at text)))
-    at_caret true h = front_is text (codes "^") h
+    at_caret true h = split_from_starts text (codes "^") h
     at_caret false h = or_dotted_text text (dots_at text) refl
 
 -- what stands behind a base and steps
@@ -109,7 +111,7 @@ found_is text made term left rest e f =
 excluded_found : (b : Bool) (text : List ℕ) (rev : RevText) (left : List ℕ) (term : TermText) (rest : List ℕ) → starts_with nat_eq left (codes "^@") ≡ b → RevRead text rev left → Read term rest ≡ cond b (Read (ExcludeParents rev) (drop 2 left)) (Read (Exclude rev) left) → TermFound (codes "^" ++ text) term rest
 excluded_found true text rev left term rest h r e =
     let f = rev_front text rev left r in
-    found_is _ (ExcludeParents rev) term (drop 2 left) rest e (94 ∷ (f.0 ++ codes "^@"), (f.0, f.1, refl), ap (λ t. 94 ∷ t) (f.2 ∙ behind f.0 (codes "^@") (drop 2 left) left (front_is left (codes "^@") h)))
+    found_is _ (ExcludeParents rev) term (drop 2 left) rest e (94 ∷ (f.0 ++ codes "^@"), (f.0, f.1, refl), ap (λ t. 94 ∷ t) (f.2 ∙ behind f.0 (codes "^@") (drop 2 left) left (split_from_starts left (codes "^@") h)))
 excluded_found false text rev left term rest h r e =
     let f = rev_front text rev left r in
     found_is _ (Exclude rev) term left rest e (94 ∷ f.0, (f.0, f.1, refl), ap (λ t. 94 ∷ t) f.2)
@@ -190,7 +192,7 @@ spaces_front (b ∷ bs) = spaces_at b bs (b == 32) refl (spaces_front bs)
 pub spaces_shorter : (text : List ℕ) → starts_with nat_eq text (codes " ") ≡ true → length (after_spaces text) < length text
 spaces_shorter [] h = absurd (true≢false (sym h))
 spaces_shorter (b ∷ bs) h =
-    let e : b ≡ 32 = let f = front_is (b ∷ bs) (codes " ") h in cc f in
+    let e : b ≡ 32 = let f = split_from_starts (b ∷ bs) (codes " ") h in cc f in
     let f = spaces_front bs in
     rw e (omega (arith, ap length f.2, length-append f.0 (after_spaces bs)))
 

@@ -1,9 +1,9 @@
 -- A step that is read is spelled so, and a step that is spelled is read.
-use Rattle.std.proofs.Common.{◌≡◌, ◌⊎◌, inl, inr, ℕ, ◌<◌, List, [], ◌∷◌, ◌++◌, Bool, true, false, cond, ◌==◌, ◌||◌, Option, Some, None, length, drop, nat_eq, nat_lt, codes, refl, sym, ap, ◌∙◌, subst, arith}
+use Rattle.std.proofs.Common.{◌≡◌, ◌⊎◌, inl, inr, ℕ, ◌<◌, List, ◌∷◌, ◌++◌, Bool, true, false, cond, ◌==◌, ◌||◌, Option, Some, None, length, drop, nat_eq, nat_lt, codes, refl, sym, ap, ◌∙◌, subst, arith, []}
 use Rattle.std.specs.List.{AllByRecursion, starts_with}
 use Rattle.std.proofs.lemmas.Bool.Decides.{nat_tests, Decides-eqb}
-use Rattle.std.proofs.lemmas.Slice.Eq.{starts_is}
 use Rattle.std.proofs.lemmas.List.{nil_from_length}
+use Rattle.vc_lemmas.proofs.Texts.{split_from_starts}
 use Rattle.vc_rev.specs.Digits.{IsDigit, is_digit, digits_of, after_digits, number}
 use Rattle.vc_rev.specs.Seen.{Found}
 use Rattle.vc_rev.specs.Steps.{step_at, caret_at, braced_at, counted_at, with_count}
@@ -11,14 +11,8 @@ use Rattle.vc_rev.specs.Grammar.{IsCount, IsStep}
 use Rattle.vc_rev.specs.declared.token.Step.{Step}
 use Rattle.vc_rev.specs.declared.token.Step.TheVariants as steps
 use Rattle.vc_object.specs.declared.kind.Kind.TheVariants as kinds
+use Rattle.vc_object.proofs.Reading.{chosen}
 use Rattle.vc_rev.proofs.DigitLemmas.{all_digits, test_from_digit, digit_marks}
-
-pub chosen : {A : Type 0} (b : Bool) (x y z : A) → cond b x y ≡ z → ((b ≡ true) × (x ≡ z)) ⊎ ((b ≡ false) × (y ≡ z))
-chosen true x y z e = inl (refl, e)
-chosen false x y z e = inr (refl, e)
-
-pub front_is : (text part : List ℕ) → starts_with nat_eq text part ≡ true → text ≡ part ++ drop (length part) text
-front_is text part h = (starts_is Decides-eqb text part (starts_with nat_eq text part) refl).0 h
 
 -- The digits and what follows them are the text.
 
@@ -74,7 +68,7 @@ braced_found : (text part : List ℕ) (step s : Step) (rest : List ℕ) → IsSt
 braced_found text part step s rest i h e =
     let same : step ≡ s = cc e in
     let after : drop (length part) text ≡ rest = cc e in
-    (part, subst (λ (k : Step). IsStep (codes "^{" ++ part) k) same i, front_is text part h ∙ ap (λ r. part ++ r) after)
+    (part, subst (λ (k : Step). IsStep (codes "^{" ++ part) k) same i, split_from_starts text part h ∙ ap (λ r. part ++ r) after)
 
 braced_front : (text : List ℕ) (s : Step) (rest : List ℕ) → braced_at text ≡ Found s rest → Braced text s rest
 braced_front text s rest e = elim (chosen (starts_with nat_eq text (codes "}")) _ _ _ e) [

@@ -1,5 +1,5 @@
 -- The trees of an index are as the machine asks of its rules.
-use Rattle.std.proofs.Common.{◌≡◌, ◌≢◌, ◌⊎◌, inl, inr, ℕ, zero, suc, Bool, true, false, cond, List, [], ◌∷◌, ◌++◌, map, Option, Some, None, Ok, Err, ◌==◌, if◌then◌else◌, refl, sym, ap, ◌∙◌, subst, Contains, arith}
+use Rattle.std.proofs.Common.{◌≡◌, ◌≢◌, ◌⊎◌, inl, inr, ℕ, zero, suc, Bool, true, false, cond, List, ◌∷◌, ◌++◌, map, Option, Some, None, Ok, Err, ◌==◌, if◌then◌else◌, refl, sym, ap, ◌∙◌, subst, Contains, arith, []}
 use Rattle.std.specs.Prelude.{option_map, IsSome, unwrap_or, bytes_eq}
 use Rattle.std.specs.FinMap.{get, same_map, slice_cmp-IsAntisymmetric, nat_cmp-IsAntisymmetric}
 use Rattle.std.specs.Cmp.Lexicographic.{nat_list_cmp_total}
@@ -13,7 +13,8 @@ use Rattle.vc_index.specs.TreeFiles.{HasEntry}
 use Rattle.vc_index.specs.WrittenTrees.{IsTreeOf, IsPart, tree_object}
 use Rattle.vc_index.specs.declared.entry.IndexEntry.{IndexEntry}
 use Rattle.vc_index.proofs.OneListLemmas.{one_list}
-use Rattle.vc_index.proofs.PartLemmas.{all_join}
+use Rattle.vc_index.proofs.PartLemmas.{tree_more}
+use Rattle.vc_lemmas.proofs.Lists.{all_append}
 use Rattle.vc_model.specs.Object.{Object, Objects, Id, Kind as MachineKind, Lookup}
 use Rattle.vc_model.specs.Object.Kind.{Blob, Tree, Commit, Tag}
 use Rattle.vc_model.specs.Reach.{Path, Links, IsClosed}
@@ -29,6 +30,7 @@ use Rattle.vc_object.specs.declared.kind.Kind.TheVariants as kinds
 use Rattle.vc_object.specs.declared.mode.Mode.{Mode}
 use Rattle.vc_object.specs.declared.mode.Mode.TheVariants as modes
 use Rattle.vc_object.proofs.Reading.{entries_again}
+use Rattle.vc_object.proofs.IdLemmas.{id_eq-same}
 use Rattle.vc_store.specs.Store.{with_object, with_objects}
 use Rattle.vc_rules.specs.Git.{git, machine_object, stored_of, mode_number, machine_entry, no_objects}
 use Rattle.vc_rules.specs.Trees.{ListsTrees, HoldsTrees, ShowsIndex}
@@ -100,11 +102,6 @@ index_trees_give_one i (Err n) (Err k) a b = ap Err (a.5 ∙ sym b.5)
 
 -- ---- objects that are put one after another
 
-same_id : (a b : ObjectId) → bytes_eq a.0 b.0 ≡ true → a ≡ b
-same_id a b h =
-    let make : List ℕ → ObjectId = λ bytes. record { 0 = bytes } in
-    ap make ((bytes_eq-Decides a.0 b.0).0 h)
-
 -- what holds of objects under their names, and of one that is put with them, holds of all
 module _ (P : ObjectId → StoredObject → Type 0) where
   AllStored : ObjectMap → Type 0
@@ -115,8 +112,8 @@ module _ (P : ObjectId → StoredObject → Type 0) where
   put_stored o name q all p id r = by (bytes_eq id.0 name.0) refl (o name) refl
     where
       by : (b : Bool) → bytes_eq id.0 name.0 ≡ b → (found : Option StoredObject) → o name ≡ found → cond b (Some (unwrap_or found q)) (o id) ≡ Some r → P id r
-      by true same None e h = subst (λ (i : ObjectId). P i r) (sym (same_id id name same)) (subst (P name) (let is : q ≡ r = cc in is) p)
-      by true same (Some s) e h = subst (λ (i : ObjectId). P i r) (sym (same_id id name same)) (all name r (e ∙ h))
+      by true same None e h = subst (λ (i : ObjectId). P i r) (sym (id_eq-same id name same)) (subst (P name) (let is : q ≡ r = cc in is) p)
+      by true same (Some s) e h = subst (λ (i : ObjectId). P i r) (sym (id_eq-same id name same)) (all name r (e ∙ h))
       by false other found e h = all id r h
 
   put_trees : (trees : List (List Entry)) (o : ObjectMap) → AllStored o → AllByRecursion (λ (es : List Entry). P (object_name kinds.Tree (spelling es)) (tree_object es)) trees → AllStored (with_objects o (map tree_object trees))
@@ -157,11 +154,6 @@ index_trees_are_named i t given = record {
 
 -- ---- what the root reaches is there
 
-in_front : (a b : List (List Entry)) (id : ObjectId) → IsTreeOf a id → IsTreeOf (a ++ b) id
-in_front [] b id h = absurd h
-in_front (es ∷ a) b id (inl h) = inl h
-in_front (es ∷ a) b id (inr h) = inr (in_front a b id h)
-
 in_back : (a b : List (List Entry)) (id : ObjectId) → IsTreeOf b id → IsTreeOf (a ++ b) id
 in_back [] b id h = h
 in_back (es ∷ a) b id h = inr (in_back a b id h)
@@ -198,16 +190,16 @@ module _ (m : IndexMap) (all : List (List Entry)) where
   joined_made levels folder known (e ∷ rest) below j within =
       let own = j.0 in
       let more = j.1 in
-      let first = entry_made levels folder known e own j.3 (λ id h. within id (subst (λ (ts : List (List Entry)). IsTreeOf ts id) (sym j.2) (in_front own more id h))) in
+      let first = entry_made levels folder known e own j.3 (λ id h. within id (subst (λ (ts : List (List Entry)). IsTreeOf ts id) (sym j.2) (tree_more own more id h))) in
       let later = joined_made levels folder known rest more j.4 (λ id h. within id (subst (λ (ts : List (List Entry)). IsTreeOf ts id) (sym j.2) (in_back own more id h))) in
-      (subst (AllByRecursion IsMade) (sym j.2) (all_join IsMade own more first.0 later.0), (first.1, later.1))
+      (subst (AllByRecursion IsMade) (sym j.2) (all_append IsMade own more first.0 later.0), (first.1, later.1))
 
   folder_made : (levels : ℕ) (folder : List ℕ) (trees : List (List Entry)) (es : List Entry) → AreFolderTrees levels m folder trees es → Within trees → AllByRecursion IsMade trees
   unfolding IsMade Within Below
   folder_made zero folder trees es h within = absurd h
   folder_made (suc levels) folder trees es h within =
-      let parts = joined_made levels folder (folder_made levels) es h.below h.joined (λ id k. within id (subst (λ (ts : List (List Entry)). IsTreeOf ts id) (sym h.is) (in_front h.below (es ∷ []) id k))) in
-      subst (AllByRecursion IsMade) (sym h.is) (all_join IsMade h.below (es ∷ []) parts.0 ((h.tree, parts.1), tt))
+      let parts = joined_made levels folder (folder_made levels) es h.below h.joined (λ id k. within id (subst (λ (ts : List (List Entry)). IsTreeOf ts id) (sym h.is) (tree_more h.below (es ∷ []) id k))) in
+      subst (AllByRecursion IsMade) (sym h.is) (all_append IsMade h.below (es ∷ []) parts.0 ((h.tree, parts.1), tt))
 
 module _ (i : Index) (m : IndexMap) (shows : ShowsIndex i m) (trees : List (List Entry)) (s : Objects) (holds : HoldsTrees s trees) (made : AllByRecursion (IsMade m trees) trees)
     (at : Lookup) (found : AreFound at s) (closed : AreEntriesClosed git at i) where

@@ -1,6 +1,6 @@
 -- Objects added to objects: one map of what both have.
-use Rattle.std.proofs.Common.{◌≡◌, ◌⊎◌, inl, inr, Bool, true, false, cond, List, [], ◌∷◌, Option, Some, None, refl, sym, ap, ◌∙◌}
-use Rattle.std.specs.FinMap.{get, insert, entries, empty, find, get-entries, get-insert, get-empty, get-retain_keys, retain_keys}
+use Rattle.std.proofs.Common.{◌≡◌, ◌⊎◌, inl, inr, Bool, true, false, cond, List, ◌∷◌, Option, Some, None, refl, sym, ap, ◌∙◌, []}
+use Rattle.std.specs.FinMap.{get, insert, entries, find, get-entries, get-insert, get-retain_keys, retain_keys}
 use Rattle.std.specs.Option.{option_or}
 use Rattle.std.specs.Ordering.{eq_by_cmp, nat_cmp}
 use Rattle.std.specs.Cmp.Lexicographic.{slice_cmp, nat_list_cmp_total}
@@ -31,14 +31,6 @@ joined s c = with_entries c (entries s)
 pub joined_all : (s c : Objects) → AllAdded s c (joined s c)
 unfolding joined
 joined_all s c = record { each = λ x. found_in c (entries s) x ∙ ap (λ o. option_or o (get c x)) (sym (get-entries s x)) }
-
--- nothing is added
-pub none_added : (s : Objects) → AllAdded s empty s
-none_added s = record { each = λ x. by (get s x) ∙ ap (option_or (get s x)) (sym (get-empty (slice_cmp nat_cmp) x)) }
-  where
-    by : (found : Option Object) → found ≡ option_or found None
-    by None = refl
-    by (Some o) = refl
 
 -- those of c whose names pass the test
 pub joined_where : Objects → Objects → (Id → Bool) → Objects

@@ -1,5 +1,5 @@
 -- Each step of a session is a step of the push that it stands for.
-use Rattle.std.proofs.Common.{◌≡◌, ◌⊎◌, inl, inr, ℕ, suc, List, [], ◌∷◌, map, length, drop, Option, Some, None, Bool, cond, refl, ap, sym, ◌∙◌, subst}
+use Rattle.std.proofs.Common.{◌≡◌, ◌⊎◌, inl, inr, ℕ, suc, List, ◌∷◌, map, length, drop, Option, Some, None, Bool, cond, refl, ap, sym, ◌∙◌, subst, []}
 use Rattle.std.specs.Prelude.{option_map, is_some, is_none, IsSome, Ok, Err}
 use Rattle.std.specs.FinMap.{empty, get, get-empty}
 use Rattle.std.specs.Option.{option_or}
@@ -17,6 +17,7 @@ use Rattle.vc_model.specs.Push.Stage.{Checked as MachineChecked, Migrated as Mac
 use Rattle.vc_model.specs.Refs.{RefName}
 use Rattle.vc_model.specs.Repository.{Change, Repository, IsSound, changed_all, no_effect, only_changes, with_objects}
 use Rattle.vc_model.specs.Shared as shared
+use Rattle.vc_model.proofs.Maps.{none_added}
 use Rattle.vc_object.specs.Decoding.{StoredObject}
 use Rattle.vc_object.specs.declared.fault.ObjectFault.{ObjectFault}
 use Rattle.vc_object.specs.declared.id.ObjectId.{ObjectId}
@@ -43,7 +44,7 @@ use Rattle.vc_session.specs.declared.stage.Verdict.TheVariants.{Passing}
 use Rattle.vc_rules.specs.Git.{git, stored_of}
 use Rattle.vc_rules.specs.OpenPushes.{EndsEarlyAgree, HoldsContent, HoldsPush, IsPushEnd, IsPushStep, IsStop, OpensAgree, OthersStay, StepsAgree, judged_commands, machine_stage, machine_standing}
 use Rattle.vc_rules.specs.Verdicts.{AreFoundAt, machine_command, machine_reason}
-use Rattle.vc_rules.proofs.JoinLemmas.{joined, joined_all, joined_some, joined_where, joined_where_each, none_added}
+use Rattle.vc_rules.proofs.JoinLemmas.{joined, joined_all, joined_some, joined_where, joined_where_each}
 use Rattle.vc_rules.proofs.JudgedLemmas.{checks_all, count_judged, none_judged, split_judged, stage_judged, tells_all}
 use Rattle.vc_rules.proofs.RefLemmas.{set_rel}
 use Rattle.vc_rules.proofs.SoundLemmas.{seen_sound}
@@ -269,7 +270,7 @@ opens_agree content s slot fault commands carried c opened session faulty carrie
 
 -- ---- a step that ends early
 -- an object that stands there afterwards stood there, or is one of those that are carried
-some_stored : (now : Option StoredObject) (a b : Option Object) → (now ≡ option_map stored_of a) ⊎ (now ≡ option_map stored_of (option_or a b)) → now ≡ option_map stored_of (option_or a (cond (is_some now) b None))
+pub some_stored : (now : Option StoredObject) (a b : Option Object) → (now ≡ option_map stored_of a) ⊎ (now ≡ option_map stored_of (option_or a b)) → now ≡ option_map stored_of (option_or a (cond (is_some now) b None))
 some_stored None None b h = refl
 some_stored None (Some x) b (inl e) = e
 some_stored None (Some x) b (inr e) = e

@@ -1,6 +1,6 @@
 -- What a tree gives is as the machine asks of its rules.
-use Rattle.std.proofs.Common.{◌≡◌, ◌≢◌, ◌⊎◌, inl, inr, ℕ, List, [], ◌∷◌, ◌++◌, Option, Some, None, Result, Ok, Err, refl, sym, ap, ◌∙◌, subst, ⊎_elim, Contains, arith}
-use Rattle.std.specs.Prelude.{option_map, IsSome, unwrap_or}
+use Rattle.std.proofs.Common.{◌≡◌, ◌≢◌, ◌⊎◌, inl, inr, ℕ, List, ◌∷◌, ◌++◌, Option, Some, None, Result, Ok, Err, refl, sym, ap, ◌∙◌, subst, ⊎_elim, Contains, arith, []}
+use Rattle.std.specs.Prelude.{option_map, unwrap_or}
 use Rattle.std.specs.FinMap.{get, same_map, slice_cmp-IsAntisymmetric, nat_cmp-IsAntisymmetric}
 use Rattle.std.specs.Cmp.Lexicographic.{nat_list_cmp_total}
 use Rattle.std.proofs.lemmas.List.Elements.{Contains-append_right, Contains-append_cases, Contains-push_cases}
@@ -15,6 +15,7 @@ use Rattle.vc_index.specs.TreeReading.{TreeFault, IsComplete}
 use Rattle.vc_index.specs.declared.entry.IndexEntry.{IndexEntry}
 use Rattle.vc_index.proofs.LoadLemmas.{entry_below}
 use Rattle.vc_index.proofs.ReadingLemmas.{one_reading}
+use Rattle.vc_lemmas.proofs.Lists.{some_of}
 use Rattle.vc_model.specs.Object.{stored}
 use Rattle.vc_model.specs.Reach.{Reaches, Links}
 use Rattle.vc_model.specs.Repository.{Entry as MachineEntry}
@@ -32,10 +33,6 @@ use Rattle.vc_rules.specs.Git.{git, machine_entry, mode_number, layer_objects}
 use Rattle.vc_rules.specs.Trees.{tree_number}
 use Rattle.vc_rules.specs.Laws.{TreesGiveOne, GivenTreesAreClosed}
 use Rattle.vc_rules.proofs.ReachLemmas.{closed_from, path_from}
-
-some_is : {X : Type 0} (o : Option X) (x : X) → o ≡ Some x → IsSome o
-some_is None x e = cc
-some_is (Some y) x e = refl
 
 -- ---- one answer
 
@@ -171,7 +168,7 @@ module _ (objects : ObjectMap) where
         p.2 y (subst (λ (ids : List ObjectId). Contains ids y) (same_ids l.0 p.0 (sym l.1 ∙ p.1)) l.2)
 
     tree_closed : graph.IsClosed (links_in objects) root
-    tree_closed y h = let p = part_links y (reached_part y h) in some_is (links_in objects y) p.0 p.1
+    tree_closed y h = let p = part_links y (reached_part y h) in some_of (links_in objects y) p.0 p.1
 
     -- a file of the tree is reached
     file_reached : (id : ObjectId) (es : List Entry) (names : List (List ℕ)) (mode : Mode) (file : ObjectId) → graph.Reaches (links_in objects) root id → IsTreeAt objects id es → LeadsTo objects es names mode file → mode ≢ modes.Commit → graph.Reaches (links_in objects) root file

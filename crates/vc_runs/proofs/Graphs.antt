@@ -1,15 +1,13 @@
 -- For the run: maps of one entry, what is added to nothing, and paths of graphs, one link at a time.
-use Rattle.std.proofs.Common.{◌≡◌, ◌<◌, List, [], ◌∷◌, Some, inl, inr, refl, sym, ap, ◌∙◌, subst, nat_cmp, arith, Contains}
-use Rattle.std.specs.FinMap.{get, insert, empty, get-empty, entries, put, entries-insert, len-entries, len-empty}
-use Rattle.std.specs.Option.{option_or}
+use Rattle.std.proofs.Common.{◌≡◌, ◌<◌, List, ◌∷◌, Some, inl, inr, refl, sym, ap, ◌∙◌, subst, nat_cmp, arith, Contains, []}
+use Rattle.std.specs.FinMap.{get, insert, empty, entries, put, entries-insert, len-entries, len-empty}
 use Rattle.std.specs.List.{AllByRecursion}
 use Rattle.std.specs.Cmp.Lexicographic.{slice_cmp, nat_list_cmp_total}
 use Rattle.std.proofs.lemmas.List.{nil_from_length}
-use Rattle.vc_model.specs.Object.{Id, Object, Format, Objects, Lookup}
+use Rattle.vc_model.specs.Object.{Id, Object, Format, Lookup}
 use Rattle.vc_model.specs.Object.Kind.{Commit}
 use Rattle.vc_model.specs.Reach.{Path, Links, HasParent, IsClosed, HasHistory}
 use Rattle.vc_model.specs.Refs.{RefName, Refs}
-use Rattle.vc_model.specs.Repository.{AllAdded}
 use Rattle.vc_model.proofs.Commits.{all_holds}
 use Rattle.vc_model.proofs.Maps.{insert_cases, bytes_same, none_in_empty}
 
@@ -26,9 +24,6 @@ entries_of_one n x = entries-insert nat_list_cmp_total empty n x ∙ ap (put (sl
 
 pub one_alone : (n : RefName) (x : Id) (m : RefName) (v : Id) → get (one_ref n x) m ≡ Some v → (m ≡ n) × (v ≡ x)
 one_alone n x m v g = elim (insert_cases nat_list_cmp_total bytes_same empty n x m v g) [ inl is ↦ is | inr was ↦ absurd (none_in_empty (slice_cmp nat_cmp) m v was) ]
-
-pub added_first : (s : Objects) → AllAdded empty s s
-added_first s = record { each = λ y. sym (ap (λ a. option_or a (get s y)) (get-empty (slice_cmp nat_cmp) y)) }
 
 -- ---- graphs
 

@@ -1,5 +1,5 @@
 -- What each node answers in the run, event by event.
-use Rattle.std.proofs.Common.{◌⊎◌, ◌-◌, ◌≡◌, ◌≢◌, ℕ, false, List, [], ◌∷◌, ◌++◌, map, Option, Some, None, Ok, inl, inr, refl, sym, ap, ◌∙◌, subst, nat_cmp, arith, get_or, take, Contains, unwrap_or, option_to_list}
+use Rattle.std.proofs.Common.{◌⊎◌, ◌-◌, ◌≡◌, ◌≢◌, false, ◌∷◌, ◌++◌, map, Option, Some, None, Ok, inl, inr, refl, sym, ap, ◌∙◌, subst, nat_cmp, arith, take, Contains, unwrap_or, option_to_list, []}
 use Rattle.std.specs.FinMap.{len, get, insert, remove, empty, get-empty, entries, nat_cmp-IsAntisymmetric}
 use Rattle.std.specs.Cmp.{nat_cmp_total}
 use Rattle.std.specs.Cmp.Lexicographic.{slice_cmp, nat_list_cmp_total}
@@ -34,13 +34,13 @@ use Rattle.vc_model.specs.Shared.IsNeeded.{by_root, by_push}
 use Rattle.vc_model.specs.World.{empty_repository}
 use Rattle.vc_model.specs.Wire.{Wire}
 use Rattle.vc_model.proofs.Commits.{all_holds}
-use Rattle.vc_model.proofs.Maps.{insert_same, insert_other, bytes_same, none_in_empty}
+use Rattle.vc_model.proofs.Maps.{insert_same, insert_other, bytes_same, none_in_empty, none_added, all_added}
 use Rattle.vc_model.proofs.Tracking.{branch_apart}
+use Rattle.vc_model.proofs.Following.{branch_conflict}
 use Rattle.std.specs.Prelude.{codes}
-use Rattle.vc_rules.proofs.JoinLemmas.{none_added}
 use Rattle.vc_runs.specs.Names.{plain_file}
 use Rattle.vc_runs.specs.Witness.{main}
-use Rattle.vc_runs.proofs.Graphs.{one_ref, one_alone, no_entries, entries_of_one, added_first, in_none, in_one}
+use Rattle.vc_runs.proofs.Graphs.{one_ref, one_alone, no_entries, entries_of_one, in_none, in_one}
 use Rattle.vc_runs.proofs.Stores.{Facts, Setting, index_with}
 use Rattle.vc_runs.proofs.Stores as stores
 
@@ -49,11 +49,6 @@ clone r a = record { repository = r; live = Some a }
 
 abbrev pub up : Repository → Slots → SharedNode
 up r l = record { repository = r; live = Some l }
-
--- neither is a folder of the other
-no_conflict : (a b : List ℕ) → Conflicts (branch a) (tracking b) → ⊥
-no_conflict a b (inl c) = let h : ◌≡◌ {A = ℕ} 114 104 = ap (λ (xs : List ℕ). get_or xs 5 0) c.1 in omega arith
-no_conflict a b (inr c) = let h : ◌≡◌ {A = ℕ} 104 114 = ap (λ (xs : List ℕ). get_or xs 5 0) c.1 in omega arith
 
 put : (l : Slots) (p : OpenPush) → get (insert l 0 p) 0 ≡ Some p
 put l p = insert_same nat_cmp_total nat_cmp-IsAntisymmetric l 0 p
@@ -137,7 +132,7 @@ module _ (here : Setting) where
   pub stages : CloneAnswers fmt wire.rules (clone empty_repository Nothing) (Commands (Stage here.path plain_file here.content)) (Did Stored) (clone staging Nothing) None
   stages = clone_obeyed Nothing (quietly Nothing (record { objects = staged; changes = SetIndex index ∷ [] }) Stored) refl
       (f.path_legal, (λ p e g. absurd (none_in_empty (slice_cmp nat_cmp) p e g)), f.file_formed, refl)
-      ((staged, added_first staged, refl), refl, refl) refl
+      ((staged, all_added staged, refl), refl, refl) refl
 
   abbrev commit_made : Object → Deed Awaited
   commit_made o =
@@ -240,7 +235,7 @@ module _ (here : Setting) where
   pub migrates : SharedAnswers fmt wire.rules (up empty_repository l1) (StepOf 0) (Did MigratedAll) (up migrated l2) None
   migrates = obeyed l1 (record { effect = record { objects = all; changes = [] }; left = l2; sends = None; reply = MigratedAll }) refl
       (p1, put l0 p1, inl (p2, (refl, refl, refl), refl, refl))
-      ((all, added_first all, refl), refl, refl) refl
+      ((all, all_added all, refl), refl, refl) refl
 
   pub updates : SharedAnswers fmt wire.rules (up migrated l2) (StepOf 0) (Did (Updated (branch main) None)) (up served l3) None
   updates = obeyed l2 (record { effect = only_changes (SetRefs ((branch main, x) ∷ []) ∷ []); left = l3; sends = None; reply = Updated (branch main) None }) refl (
@@ -288,7 +283,7 @@ module _ (here : Setting) where
     tracking_is = refl;
     legal = f.legal;
     fits = f.fits;
-    free = λ m v g c. no_conflict main main (subst (λ n. Conflicts n (tracking main)) (alone m v g) c);
+    free = λ m v g c. branch_conflict main main (subst (λ n. Conflicts n (tracking main)) (alone m v g) c);
     good = (closed (stored all) (stores.found here), history (stored all) (stores.found here));
     forward = inl none;
   }
@@ -361,7 +356,7 @@ module _ (here : Setting) where
   pub takes : CloneAnswers fmt wire.rules (clone empty_repository (APack (x ∷ []) served.refs)) (Receive pack) (Did (Moved 1 0)) (clone fetched Nothing) None
   takes = clone_obeyed (APack (x ∷ []) served.refs) (quietly Nothing (record { objects = all; changes = SetRefs ((tracking main, x) ∷ []) ∷ [] }) (Moved 1 0)) refl
       (x ∷ [], served.refs, refl, wanted, moved)
-      ((all, added_first all, refl), refl, refl) refl
+      ((all, all_added all, refl), refl, refl) refl
     where
       wanted : (y : Id) → Contains (x ∷ []) y → IsClosed fmt at y
       wanted y c = subst (IsClosed fmt at) (sym (in_one x y c)) (closed at (stores.found_over here))

@@ -1,11 +1,10 @@
 -- Three objects, a file, a tree of it and a commit of that without parents: stores of them, and what is reached in these.
-use Rattle.std.proofs.Common.{◌≡◌, ◌≢◌, ℕ, List, [], ◌∷◌, Option, Some, None, Ok, ◌⊎◌, inl, inr, refl, sym, ap, ◌∙◌, subst, nat_cmp, arith, Contains, unwrap_or}
+use Rattle.std.proofs.Common.{◌≡◌, ◌≢◌, ℕ, List, ◌∷◌, Option, Some, None, Ok, ◌⊎◌, inl, inr, refl, sym, ap, ◌∙◌, subst, nat_cmp, arith, Contains, unwrap_or, []}
 use Rattle.std.specs.Prelude.{IsTrue, codes}
 use Rattle.std.specs.FinMap.{get, insert, empty, get-empty}
 use Rattle.std.specs.Option.{option_or}
 use Rattle.std.specs.List.{AllByRecursion}
 use Rattle.std.specs.Cmp.Lexicographic.{slice_cmp, nat_list_cmp_total}
-use Rattle.vc_rules.proofs.JoinLemmas.{none_added}
 use Rattle.vc_model.specs.Object.{Id, zero_id, Object, blob, Format, Objects, Lookup, IsLine, stored, over}
 use Rattle.vc_model.specs.Object.Kind.{Commit}
 use Rattle.vc_model.specs.Reach.{Reaches, Links, IsClosed, HasHistory}
@@ -14,7 +13,7 @@ use Rattle.vc_model.specs.Repository.{Repository, Index, AllAdded}
 use Rattle.vc_model.specs.Shared.{head_value}
 use Rattle.vc_model.specs.Clone.{with_object}
 use Rattle.vc_model.specs.Wire.{Wire}
-use Rattle.vc_model.proofs.Maps.{insert_cases, insert_same, insert_other, bytes_same, none_in_empty, same_key}
+use Rattle.vc_model.proofs.Maps.{insert_cases, insert_same, insert_other, bytes_same, none_in_empty, same_key, none_added}
 use Rattle.vc_runs.specs.Names.{plain_file}
 use Rattle.vc_runs.specs.Witness.{main}
 use Rattle.vc_runs.proofs.Graphs.{closed_step, history_step}

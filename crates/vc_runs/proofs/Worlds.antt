@@ -1,8 +1,7 @@
 -- The worlds of the run, and that each event leads from one to the next.
-use Rattle.std.proofs.Common.{slice_get, ◌≡◌, ◌≢◌, ℕ, Bool, true, false, cond, [], ◌∷◌, Option, Some, None, Ok, inl, inr, refl, sym, ap, ◌∙◌, subst, nat_cmp, arith, unwrap_or}
+use Rattle.std.proofs.Common.{slice_get, ◌≡◌, ◌≢◌, ℕ, Bool, false, ◌∷◌, Option, Some, None, Ok, inl, inr, refl, sym, ap, ◌∙◌, subst, nat_cmp, arith, unwrap_or, []}
 use Rattle.std.specs.Prelude.{codes}
-use Rattle.std.specs.FinMap.{FinMap, get, insert, remove, empty, get-remove, nat_cmp-IsAntisymmetric}
-use Rattle.std.specs.Ordering.{eq_by_cmp}
+use Rattle.std.specs.FinMap.{FinMap, get, insert, empty, nat_cmp-IsAntisymmetric}
 use Rattle.std.specs.Cmp.{nat_cmp_total}
 use Rattle.vc_model.specs.Object.{Id, Format}
 use Rattle.vc_model.specs.Refs.{branch}
@@ -32,7 +31,7 @@ use Rattle.vc_model.specs.Wire.{Wire}
 use Rattle.vc_model.specs.ExactWorld.{FusedWorld, WorldEvent, ExactMoment, ExactHistory, ExactRun, WorldAnswers, NothingForgedExactly, MayShared, TogetherAt, MayClone}
 use Rattle.vc_model.specs.ExactWorld.WorldEvent.{Orders, Delivers, Steps, Compares, Prunes, Packs, Restarts, Stops}
 use Rattle.vc_model.specs.ExactWorld.WorldAnswers.{stop_shared, at_shared, at_clone}
-use Rattle.vc_model.proofs.Maps.{insert_same, insert_other}
+use Rattle.vc_model.proofs.Maps.{insert_same, insert_other, removed_none}
 use Rattle.vc_runs.specs.Names.{plain_file}
 use Rattle.vc_runs.specs.Witness.{main}
 use Rattle.vc_runs.proofs.Graphs.{in_none}
@@ -55,14 +54,6 @@ burnt frail may together r m = (0, omega arith, (λ _. refl), ([], omega arith, 
   where
     same : DiffersAt [] r r
     same = record { objects = λ x. inl refl; refs = λ n. inl refl; head = inl refl; index = inl refl }
-
--- taking a fuse out adds none
-still_none : (fuses : Fuses) (c q : ℕ) → get fuses q ≡ None → get (remove fuses c) q ≡ None
-still_none fuses c q none = get-remove nat_cmp_total fuses c q ∙ go (eq_by_cmp nat_cmp q c)
-  where
-    go : (b : Bool) → cond b None (get fuses q) ≡ None
-    go true = refl
-    go false = none
 
 -- ---- one event
 
@@ -276,13 +267,13 @@ module _ (here : Setting) where
 
       -- the first clone has no fuse after each of its answers
       no_fuse_1 : get w1.clone_fuses 0 ≡ None
-      no_fuse_1 = still_none fuses 0 0 no_first
+      no_fuse_1 = removed_none fuses 0 0 no_first
 
       no_fuse_2 : get w2.clone_fuses 0 ≡ None
-      no_fuse_2 = still_none w1.clone_fuses 0 0 no_fuse_1
+      no_fuse_2 = removed_none w1.clone_fuses 0 0 no_fuse_1
 
       no_fuse_3 : get w3.clone_fuses 0 ≡ None
-      no_fuse_3 = still_none w2.clone_fuses 0 0 no_fuse_2
+      no_fuse_3 = removed_none w2.clone_fuses 0 0 no_fuse_2
 
       e1 : WorldAnswers fmt wire w0 (Orders 0 (StageFile here.path plain_file here.content)) (Did Stored) w1
       e1 = ordered w0 0 (clone empty_repository Nothing) (clone staging Nothing) (StageFile here.path plain_file here.content) (Stage here.path plain_file here.content) Stored None first no_first (some Nothing)
@@ -333,7 +324,7 @@ module _ (here : Setting) where
           kept w8.world.clones (clone knowing Nothing) _ (kept w2.world.clones (clone on_main Nothing) _ (kept w1.world.clones (clone on_main Nothing) _ (kept clones (clone staging Nothing) _ second)))
 
       none_kept : get w12.clone_fuses 1 ≡ None
-      none_kept = still_none w8.clone_fuses 0 1 (still_none w2.clone_fuses 0 1 (still_none w1.clone_fuses 0 1 (still_none fuses 0 1 no_second)))
+      none_kept = removed_none w8.clone_fuses 0 1 (removed_none w2.clone_fuses 0 1 (removed_none w1.clone_fuses 0 1 (removed_none fuses 0 1 no_second)))
 
       e13 : WorldAnswers fmt wire w12 (Orders 1 Fetch) (Did Sends) w13
       e13 = ordered w12 1 (clone empty_repository Nothing) (clone empty_repository AnAdvert) Fetch StartFetch Sends (Some ListRefs) second_kept none_kept (some Nothing) refl (steps.asks here)
@@ -343,21 +334,21 @@ module _ (here : Setting) where
 
       e15 : WorldAnswers fmt wire w14 (Delivers 3) (Did Sends) w15
       e15 = received w14 1 (clone empty_repository AnAdvert) (clone empty_repository (APack (x ∷ []) served.refs)) 3 advert Sends (Some want) (set 1 w12.world.clones (clone empty_repository AnAdvert))
-          (still_none w12.clone_fuses 1 1 none_kept) refl (steps.wants here)
+          (removed_none w12.clone_fuses 1 1 none_kept) refl (steps.wants here)
 
       e16 : WorldAnswers fmt wire w15 (Delivers 4) (Did Sends) w16
       e16 = accepted w15 1 (up served empty) 4 want Sends (Some pack) refl refl (steps.packs here)
 
       e17 : WorldAnswers fmt wire w16 (Delivers 5) (Did (Moved 1 0)) w17
       e17 = received w16 1 (clone empty_repository (APack (x ∷ []) served.refs)) (clone fetched Nothing) 5 pack (Moved 1 0) None (set 1 w13.world.clones (clone empty_repository (APack (x ∷ []) served.refs)))
-          (still_none w13.clone_fuses 1 1 (still_none w12.clone_fuses 1 1 none_kept)) refl (steps.takes here)
+          (removed_none w13.clone_fuses 1 1 (removed_none w12.clone_fuses 1 1 none_kept)) refl (steps.takes here)
 
       -- the first clone is as it was when it had the report
       first_kept : get w17.world.clones 0 ≡ Some (clone knowing Nothing)
       first_kept = kept_first w15.world.clones (clone fetched Nothing) _ (kept_first w13.world.clones _ _ (kept_first w12.world.clones _ _ (set 0 w8.world.clones (clone knowing Nothing))))
 
       no_fuse_17 : get w17.clone_fuses 0 ≡ None
-      no_fuse_17 = still_none w15.clone_fuses 1 0 (still_none w13.clone_fuses 1 0 (still_none w12.clone_fuses 1 0 (still_none w8.clone_fuses 0 0 no_fuse_3)))
+      no_fuse_17 = removed_none w15.clone_fuses 1 0 (removed_none w13.clone_fuses 1 0 (removed_none w12.clone_fuses 1 0 (removed_none w8.clone_fuses 0 0 no_fuse_3)))
 
       e18 : WorldAnswers fmt wire w17 (Compares (TheClone 0) (codes "HEAD") (codes "@")) (Did Same) w18
       e18 = at_clone 0 (clone knowing Nothing) (clone knowing Nothing) (AsksClone (Compare (codes "HEAD") (codes "@"))) None None first_kept (refl, refl) (steps.compares here)

@@ -6,6 +6,7 @@ use Rattle.std.specs.FinMap.{get}
 use Rattle.std.proofs.lemmas.Option.{slice_get_past}
 use Rattle.vc_files.specs.FileMap.{FileMap}
 use Rattle.vc_message.proofs.Totals.{less_or}
+use Rattle.vc_message.specs.Told.{Quietly, SendsBytes}
 use Rattle.vc_model.specs.Exchange.{IsUndone, OpensNone}
 use Rattle.vc_model.specs.Message.{Message}
 use Rattle.vc_model.specs.Node.{Answer}
@@ -17,12 +18,8 @@ use Rattle.vc_model.specs.SharedCall.{SharedCall}
 use Rattle.vc_model.specs.SharedCall.SharedCall.{StepOf}
 use Rattle.vc_node.proofs.CleanLemmas.{clean_then}
 use Rattle.vc_node.specs.Clean.{KeepsClean}
-use Rattle.vc_node.specs.Machine.{fault_answer as node_answer}
-use Rattle.vc_node.specs.Told.{Quietly, SendsBytes}
-use Rattle.vc_node.specs.declared.fault.NodeFault.{NodeFault}
-use Rattle.vc_node.specs.declared.fault.NodeFault.TheVariants as node
 use Rattle.vc_node.specs.declared.fault.NodeFault.TheVariants.{Down}
-use Rattle.vc_refs.specs.declared.faults.RefFault.TheVariants as refs
+use Rattle.vc_node.proofs.FaultLemmas.{node_undone}
 use Rattle.vc_rules.specs.Verdicts.{machine_reason}
 use Rattle.vc_session.specs.Session.{SessionText}
 use Rattle.vc_session.specs.declared.stage.Stepped.{Stepped as SessionStep}
@@ -41,7 +38,6 @@ use Rattle.vc_shared.specs.declared.fault.SharedFault.{SharedFault}
 use Rattle.vc_shared.specs.declared.fault.SharedFault.TheVariants.{Busy, NoSuchSlot, NoValue, Node, NotOurs, Unexpected, Unread}
 use Rattle.vc_shared.specs.declared.stepping.Stepped.{Stepped}
 use Rattle.vc_shared.specs.declared.stepping.Stepped.TheVariants.{Checked, Migrated, Updated, Finished}
-use Rattle.vc_store.specs.declared.faults.StoreFault.TheVariants as store
 use Rattle.vc_server.proofs.StepsLeft.{IsBefore, few_left, fewer_left, one_left, steps_left}
 use Rattle.vc_server.specs.Refusals.{IsRefusedFor, IsRefusedOnTheWay}
 use Rattle.vc_server.specs.Serving.{MayAnswer, Serves, ServesOn, StepsOn, StepsToEnd, report_of}
@@ -108,33 +104,15 @@ quietly : (n t : SharedNode) (call : SharedCall) (a b : Answer) (sends : Option 
 quietly n t call a b sends told exact =
     subst (λ (x : Answer). MayAnswer n call x t None) told.answer (subst (λ (out : Option Message). MayAnswer n call a t out) told.sent exact)
 
-undone_node : (e : NodeFault) → IsUndone (node_answer e)
-undone_node (node.Store (store.BadObject fault)) = tt
-undone_node (node.Store (store.Absent id)) = tt
-undone_node (node.Store (store.Damaged id)) = tt
-undone_node (node.Store (store.Fault fault)) = tt
-undone_node (node.Ref (refs.Stale current)) = tt
-undone_node (node.Ref (refs.Conflict name)) = tt
-undone_node (node.Ref (refs.BadRefFile path)) = tt
-undone_node (node.Ref refs.HeadLoop) = tt
-undone_node (node.Ref (refs.Fault fault)) = tt
-undone_node (node.Missing id) = tt
-undone_node (node.NotACommit id) = tt
-undone_node node.BadPath = tt
-undone_node node.PathConflict = tt
-undone_node (node.BadIndex place) = tt
-undone_node (node.WrongEntry at) = tt
-undone_node node.Down = tt
-
 -- what is no success is refused, or ended by a fault
-undone : (e : SharedFault) → IsUndone (fault_answer e)
-undone (Unread fault) = tt
-undone (NotOurs id) = tt
-undone Unexpected = tt
-undone Busy = tt
-undone NoSuchSlot = tt
-undone (NoValue refusal) = tt
-undone (Node fault) = undone_node fault
+pub shared_undone : (e : SharedFault) → IsUndone (fault_answer e)
+shared_undone (Unread fault) = tt
+shared_undone (NotOurs id) = tt
+shared_undone Unexpected = tt
+shared_undone Busy = tt
+shared_undone NoSuchSlot = tt
+shared_undone (NoValue refusal) = tt
+shared_undone (Node fault) = node_undone fault
 
 opens_none : (a : Answer) → IsUndone a → OpensNone a
 opens_none (Declined n) h = tt
@@ -151,7 +129,7 @@ module _ (k : ℕ) (n t : SharedNode) (a : Answer) (sends : Option Message) wher
   refused_last : (e : SharedFault) → Quietly (fault_answer e) a sends → MayAnswer n (StepOf k) a t sends → StepsOn k n a t sends
   refused_last e shows exact =
       subst (λ (out : Option Message). StepsOn k n a t out) (sym shows.sent)
-      (StepsOn.undone (subst (λ (out : Option Message). MayAnswer n (StepOf k) a t out) shows.sent exact) (subst IsUndone (sym shows.answer) (undone e)))
+      (StepsOn.undone (subst (λ (out : Option Message). MayAnswer n (StepOf k) a t out) shows.sent exact) (subst IsUndone (sym shows.answer) (shared_undone e)))
 
   -- a step before it, and those that follow
   further_on : (told : Stepped) → report_of told ≡ None → SteppedAs (Ok told) a sends → MayAnswer n (StepOf k) a t sends
@@ -235,7 +213,7 @@ module _ (call : SharedCall) (old new : FileMap) (slots after : List (Option Ses
   refused_at_once e answered = record {
     each = λ n held.
         let next = answered.each n held in
-        (next.0, next.1, next.2, next.3, next.4, ServesOn.at_once next.5 (subst OpensNone (sym next.4.answer) (opens_none (fault_answer e) (undone e))));
+        (next.0, next.1, next.2, next.3, next.4, ServesOn.at_once next.5 (subst OpensNone (sym next.4.answer) (opens_none (fault_answer e) (shared_undone e))));
   }
 
 module _ (call : SharedCall) (old mid new : FileMap) (slots mids after : List (Option SessionText)) (was_up mid_up is_up : Bool) where

@@ -1,5 +1,5 @@
 -- How many steps an open push still takes: for the loop that steps it to its end.
-use Rattle.std.proofs.Common.{◌≡◌, ◌≤◌, ◌<◌, ◌+◌, ◌++◌, ◌∷◌, [], ℕ, Bool, true, false, List, length, Option, Some, None, arith, refl, sym, ap, ◌∙◌}
+use Rattle.std.proofs.Common.{◌≡◌, ◌≤◌, ◌<◌, ◌+◌, ◌++◌, ◌∷◌, ℕ, Bool, true, false, List, length, Option, Some, None, arith, sym, ap, ◌∙◌, []}
 use Rattle.std.specs.Prelude.{cond, count_by, sum_by, if◌then◌else◌}
 use Rattle.std.specs.List.{list_any}
 use Rattle.std.proofs.lemmas.List.Sums.{count_by-le-length, sum_by-append}
@@ -12,6 +12,7 @@ use Rattle.vc_session.specs.declared.stage.Verdict.{Verdict}
 use Rattle.vc_session.specs.declared.stage.Verdict.TheVariants.{Passing}
 use Rattle.vc_session.specs.declared.stage.Stepped.{Stepped}
 use Rattle.vc_session.specs.declared.stage.Stepped.TheVariants as session
+use Rattle.vc_session.proofs.SessionLemmas.{settled_verdict}
 use Rattle.vc_push.specs.declared.reason.Reason.{Reason}
 
 -- so many at most, its report among them
@@ -56,9 +57,6 @@ passed_over true stage commands passing = omega arith
 passed_over false stage commands passing = some_left stage commands passing
 
 -- ---- an update
-judged : (found : Option Reason) → is_passing (verdict_of found) ≡ false
-judged None = refl
-judged (Some reason) = refl
 
 one_fewer : (front back : List Verdict) (found : Option Reason) → count_by is_passing (front ++ Passing ∷ back) ≡ count_by is_passing (front ++ verdict_of found ∷ back) + 1
 one_fewer front back found =
@@ -67,7 +65,7 @@ one_fewer front back found =
     let next = sum_by-append count (Passing ∷ []) back in
     let after = sum_by-append count front (verdict_of found ∷ back) in
     let last = sum_by-append count (verdict_of found ∷ []) back in
-    let none : sum_by count (verdict_of found ∷ []) ≡ 0 = ap (λ (b : Bool). 0 + cond {A = ℕ} b 1 0) (judged found) in
+    let none : sum_by count (verdict_of found ∷ []) ≡ 0 = ap (λ (b : Bool). 0 + cond {A = ℕ} b 1 0) (settled_verdict found) in
     omega (arith, before, next, after, last, none)
 
 -- ---- a step

@@ -1,5 +1,5 @@
 -- The quarantine of a slot while objects come, one after another.
-use Rattle.std.proofs.Common.{arith, ◌≡◌, ◌⊎◌, inl, inr, ℕ, Bool, Ok, Err, true, false, cond, List, [], ◌∷◌, ◌++◌, Option, Some, None, IsSome, sym, ap, refl, ◌∙◌, subst, true≢false}
+use Rattle.std.proofs.Common.{arith, ◌≡◌, ◌⊎◌, inl, inr, ℕ, Bool, Ok, Err, true, false, cond, List, ◌∷◌, ◌++◌, Option, Some, None, IsSome, sym, ap, refl, ◌∙◌, subst, true≢false, []}
 use Rattle.std.specs.Prelude.{Contains, option_and_then}
 use Rattle.std.specs.List.{AllByRecursion}
 use Rattle.std.specs.Option.{option_or}
@@ -17,12 +17,14 @@ use Rattle.vc_object.specs.declared.fault.ObjectFault.{ObjectFault}
 use Rattle.vc_object.specs.declared.id.ObjectId.{ObjectId}
 use Rattle.vc_pkt.specs.Carried.{object_named, stored_name, with_object, with_objects}
 use Rattle.vc_pkt.proofs.CarriedOnce.{carried_named}
+use Rattle.vc_pkt.proofs.CarriedLaws.{with_objects-push}
 use Rattle.vc_push.specs.Push.{Carried, FaultOf, carry}
 use Rattle.vc_session.specs.Arrival.{HoldsArrived, HasArrived, all_good, one_bad}
 use Rattle.vc_session.specs.Carrying.{Carries, objects_in, objects_of_push}
 use Rattle.vc_session.specs.Quarantine.{IsDropped, quarantined}
 use Rattle.vc_session.proofs.FrameLemmas.{dropped-none}
 use Rattle.vc_session.proofs.SessionLemmas.{nothing_carried}
+use Rattle.vc_session.proofs.CarryingLemmas.{or_none}
 
 -- of objects that come, the first of a name counts
 named_behind : (id : ObjectId) (os : List StoredObject) (o : StoredObject) → object_named id (os ++ o ∷ []) ≡ option_or (object_named id os) (cond (id_eq id (stored_name o)) (Some o) None)
@@ -33,10 +35,6 @@ named_behind id (p ∷ ps) o = by (is_eq (id_cmp id (stored_name p))) (named_beh
         → cond b (Some p) (object_named id (ps ++ o ∷ [])) ≡ option_or (cond b (Some p) (object_named id ps)) (cond (id_eq id (stored_name o)) (Some o) None)
     by true more = refl
     by false more = more
-
-or_none : (o : Option StoredObject) → option_or o None ≡ o
-or_none None = refl
-or_none (Some x) = refl
 
 some_first : (o p : Option StoredObject) → IsSome o → option_or o p ≡ o
 some_first None p some = absurd (true≢false (sym some))
@@ -101,9 +99,6 @@ brings_put slot names after os o p id old new named is inserted first put before
     before
 
 -- ---- a push that comes
-with_objects_behind : (set os : List StoredObject) (o : StoredObject) → with_objects set (os ++ o ∷ []) ≡ with_object o (with_objects set os)
-with_objects_behind set [] o = refl
-with_objects_behind set (p ∷ ps) o = with_objects_behind (with_object p set) ps o
 
 all_behind : (os : List StoredObject) (o : StoredObject) → AllByRecursion (λ x. is_object x ≡ true) os → is_object o ≡ true → AllByRecursion (λ x. is_object x ≡ true) (os ++ o ∷ [])
 all_behind [] o all good = (good, tt)
@@ -126,7 +121,7 @@ module _ (old : FileMap) (slot : ℕ) (names : List ObjectId) (fault : Option Ob
   -- an object more
   pub brought_more : (new : FileMap) (after : List ObjectId) → fault ≡ None → is_object o ≡ true → ((os : List StoredObject) → HoldsArrived old slot names os → HoldsArrived new slot after (os ++ o ∷ [])) → HasArrived old slot names fault carried → HasArrived new slot after fault (carry o carried)
   brought_more new after none good more (all_good os is all none' brings) =
-      all_good (os ++ o ∷ []) (ap (carry o) is ∙ ap (λ (b : Bool). cond b (Ok (with_object o (with_objects [] os))) (Err o)) good ∙ ap Ok (sym (with_objects_behind [] os o))) (all_behind os o all good) none (more os brings)
+      all_good (os ++ o ∷ []) (ap (carry o) is ∙ ap (λ (b : Bool). cond b (Ok (with_object o (with_objects [] os))) (Err o)) good ∙ ap Ok (sym (with_objects-push [] os o))) (all_behind os o all good) none (more os brings)
   brought_more new after none good more (one_bad bad f is at body empty dropped) = absurd (let both : ◌≡◌ {A = Option ObjectFault} None (Some f) = sym none ∙ at in cc both)
 
   -- the first at fault

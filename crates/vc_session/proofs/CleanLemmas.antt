@@ -1,13 +1,13 @@
 -- Changes of a repository's files that make none of them bad: for the steps of a push, and for those who run them.
-use Rattle.std.proofs.Common.{◌≡◌, ◌<◌, ◌^◌, inl, inr, ℕ, Bool, true, false, cond, ◌&&◌, nat_eq, List, ◌∷◌, ◌++◌, take, drop, Option, Some, None, is_some, Result, Ok, Err, refl, sym, ap, ◌∙◌, subst}
+use Rattle.std.proofs.Common.{◌≡◌, ◌<◌, ◌^◌, inl, inr, ℕ, Bool, true, false, cond, nat_eq, List, ◌∷◌, ◌++◌, take, drop, Option, Some, None, Result, Ok, Err, refl, sym, ap, ◌∙◌, subst}
 use Rattle.std.specs.Prelude.{bytes_eq, codes}
 use Rattle.std.specs.FinMap as files
 use Rattle.std.specs.List.{starts_with}
-use Rattle.std.proofs.lemmas.Bool.{and_parts}
 use Rattle.std.proofs.lemmas.Slice.Eq.{bytes_eq-Decides}
 use Rattle.hex.specs.Hex.{encode_lower}
 use Rattle.vc_files.proofs.FileMapLemmas.{get-put}
 use Rattle.vc_files.specs.FileMap.{FileMap, SameOutside}
+use Rattle.vc_lemmas.proofs.Texts.{starts_with-append, split_from_starts}
 use Rattle.vc_object.proofs.IdLemmas.{id_eq-same}
 use Rattle.vc_object.specs.Decoding.{StoredObject, stored_object}
 use Rattle.vc_object.specs.Object.{object_bytes, object_name, IsObject}
@@ -15,7 +15,6 @@ use Rattle.vc_object.specs.ObjectId.{is_id}
 use Rattle.vc_object.specs.declared.id.ObjectId.{ObjectId}
 use Rattle.vc_object.specs.declared.kind.Kind.{Kind}
 use Rattle.vc_refs.proofs.LayeredLemmas.{bad-same, bad_place, good_absent, packed_map-same}
-use Rattle.vc_refs.proofs.ObstacleLemmas.{split_from_starts}
 use Rattle.vc_refs.specs.Head.{KeepsTheRest}
 use Rattle.vc_refs.specs.Refs.{IsBadRef, ChangesOnly, packed_map, packed_path}
 use Rattle.vc_store.proofs.PathLemmas.{named_by_path}
@@ -23,7 +22,7 @@ use Rattle.vc_store.specs.Store.{IsDamaged, object_path, stored_in}
 use Rattle.vc_store.specs.declared.faults.StoreFault.{StoreFault}
 use Rattle.vc_store.specs.declared.faults.StoreFault.TheVariants.{Absent, Damaged}
 use Rattle.vc_session.proofs.FrameLemmas.{damage-of_ref, damage-of_slot, damage-same, ref_no_object, ref_not_there, slot_of}
-use Rattle.vc_session.proofs.QuarantineLemmas.{begins, outside_put_there, put_there, same_path, same_place}
+use Rattle.vc_session.proofs.QuarantineLemmas.{outside_put_there, put_there, same_path, same_place}
 use Rattle.vc_session.specs.Clean.{IsQuarantineClean, MakesNoneBad}
 use Rattle.vc_session.specs.Quarantine.{IsDamagedThere, IsDropped, OnlyLoses, quarantine_folder, quarantine_path}
 
@@ -56,7 +55,7 @@ damage_there-same : (old new : FileMap) (slot : ℕ) (id : ObjectId) → files.g
 damage_there-same old new slot id same bad = ap (stored_in id) (sym same) ∙ bad
 
 -- it is none of an object, and of no quarantine
-bad_no_object : (content : FileMap) (path : List ℕ) → IsBadRef content path → starts_with nat_eq path (codes "objects/") ≡ false
+pub bad_no_object : (content : FileMap) (path : List ℕ) → IsBadRef content path → starts_with nat_eq path (codes "objects/") ≡ false
 bad_no_object content path bad = elim (bad_place content path bad) [
   | inl inside ↦ ref_no_object path inside
   | inr packed ↦ ap (λ p. starts_with nat_eq p (codes "objects/")) packed
@@ -108,7 +107,7 @@ bad_ref old new name inside rest only = record {
 -- ---- a quarantine with no bad file
 pub clean_dropped : (content : FileMap) (slot : ℕ) → IsDropped slot content → IsQuarantineClean content slot
 clean_dropped content slot dropped id bad =
-    not_gone id (files.get content (quarantine_path slot id.0)) (dropped (quarantine_path slot id.0) (begins (quarantine_folder slot) (encode_lower (take 1 id.0) ++ 47 ∷ encode_lower (drop 1 id.0)))) bad
+    not_gone id (files.get content (quarantine_path slot id.0)) (dropped (quarantine_path slot id.0) (starts_with-append (quarantine_folder slot) (encode_lower (take 1 id.0) ++ 47 ∷ encode_lower (drop 1 id.0)))) bad
 
 pub clean_after : (old new : FileMap) (slot : ℕ) → slot < 2 ^ 64 → MakesNoneBad old new → IsQuarantineClean old slot → IsQuarantineClean new slot
 clean_after old new slot small none clean id bad = clean id (none.quarantines slot small id bad)
@@ -125,7 +124,7 @@ module _ (old : FileMap) (slot : ℕ) (id : ObjectId) (kind : Kind) (body : List
   the_slot : (other : ℕ) (q : ObjectId) → other < 2 ^ 64 → quarantine_path other q.0 ≡ path → other ≡ slot
   the_slot other q fits same =
       slot_of slot other (encode_lower (take 1 q.0) ++ 47 ∷ encode_lower (drop 1 q.0)) small fits
-      (ap (λ p. starts_with nat_eq p (quarantine_folder slot)) same ∙ begins (quarantine_folder slot) (encode_lower (take 1 id.0) ++ 47 ∷ encode_lower (drop 1 id.0)))
+      (ap (λ p. starts_with nat_eq p (quarantine_folder slot)) same ∙ starts_with-append (quarantine_folder slot) (encode_lower (take 1 id.0) ++ 47 ∷ encode_lower (drop 1 id.0)))
 
   the_name : (q : ObjectId) → quarantine_path slot q.0 ≡ path → q ≡ id
   the_name q same =

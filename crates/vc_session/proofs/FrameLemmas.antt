@@ -1,6 +1,6 @@
 -- What a change of one part of a repository's files leaves of the others: for the steps of a push, and for those who run them.
-use Rattle.std.proofs.Common.{arith, ◌≡◌, ◌⊎◌, inl, inr, ℕ, ◌<◌, Bool, true, false, cond, nat_eq, List, [], ◌∷◌, ◌++◌, Option, Some, None, IsSome, take, drop, ◌^◌, sym, ap, refl, ◌∙◌, subst, true≢false}
-use Rattle.std.specs.Prelude.{◌≢◌, codes, decimal, option_and_then}
+use Rattle.std.proofs.Common.{arith, ◌≡◌, ◌⊎◌, inl, inr, ℕ, ◌<◌, Bool, true, false, cond, nat_eq, List, ◌∷◌, ◌++◌, Option, Some, None, IsSome, take, drop, ◌^◌, sym, ap, refl, ◌∙◌, subst, true≢false, []}
+use Rattle.std.specs.Prelude.{◌≢◌, codes, decimal}
 use Rattle.std.specs.FinMap as files
 use Rattle.std.specs.List.{starts_with, list_any}
 use Rattle.std.specs.Option.{option_or}
@@ -12,19 +12,19 @@ use Rattle.std.proofs.lemmas.Map.Views.{list_any-from_Contains}
 use Rattle.hex.specs.Hex.{encode_lower}
 use Rattle.vc_files.specs.FileMap.{FileMap, SameOutside}
 use Rattle.vc_graph.specs.Overlay.{with_carried}
+use Rattle.vc_lemmas.proofs.Texts.{starts_with-append, split_from_starts}
 use Rattle.vc_object.proofs.IdLemmas.{id_eq_equiv}
 use Rattle.vc_object.specs.Decoding.{StoredObject}
 use Rattle.vc_object.specs.ObjectId.{id_eq, is_id}
 use Rattle.vc_object.specs.declared.id.ObjectId.{ObjectId}
 use Rattle.vc_refs.proofs.LayeredLemmas.{refs-of_files}
-use Rattle.vc_refs.proofs.ObstacleLemmas.{split_from_starts}
-use Rattle.vc_refs.specs.Head.{KeepsTheRest, head_of, read_head, said}
+use Rattle.vc_refs.specs.Head.{KeepsTheRest}
 use Rattle.vc_refs.specs.Refs.{packed_path, refs}
 use Rattle.vc_store.specs.Store.{IsDamaged, object_path, objects, stored_in}
-use Rattle.vc_session.proofs.QuarantineLemmas.{begins, quarantined-none, same_at}
+use Rattle.vc_session.proofs.QuarantineLemmas.{quarantined-none, same_at}
 use Rattle.vc_session.specs.Carrying.{HoldsNames}
 use Rattle.vc_session.specs.Migrating.{IsFrontMigrated, migrated}
-use Rattle.vc_session.specs.Quarantine.{IsDropped, OnlyLoses, objects_seen, quarantine_folder, quarantine_path, quarantined}
+use Rattle.vc_session.specs.Quarantine.{IsDropped, objects_seen, quarantine_folder, quarantine_path, quarantined}
 
 -- ---- what each part is read from
 -- an object, from its file
@@ -38,11 +38,6 @@ damage-same old new id same damaged = ap (stored_in id) (sym same) ∙ damaged
 -- the refs, from the files in `refs/` and the packed one
 pub refs-kept : (old new : FileMap) → ((q : List ℕ) → starts_with nat_eq q (codes "refs/") ≡ true → files.get new q ≡ files.get old q) → files.get new packed_path ≡ files.get old packed_path → refs new ≡ refs old
 refs-kept old new same packed = refs-of_files old new same packed
-
--- HEAD, from its file
-pub head-same : (old new : FileMap) → files.get new (codes "HEAD") ≡ files.get old (codes "HEAD") → head_of new ≡ head_of old
-unfolding head_of
-head-same old new same = ap (option_and_then (λ text. said (read_head text))) same
 
 -- ---- the folders are apart
 no_slash : (y : ℕ) (ds : List ℕ) → y ≡ 47 → AllDigits 10 (y ∷ ds) → ⊥
@@ -114,7 +109,7 @@ module _ (name : List ℕ) (old new : FileMap) (rest : KeepsTheRest name old new
 module _ (content : FileMap) (slot : ℕ) where
   -- an empty folder holds nothing
   pub dropped-none : IsDropped slot content → (id : ObjectId) → quarantined content slot id ≡ None
-  dropped-none dropped id = quarantined-none content slot id (dropped (quarantine_path slot id.0) (begins (quarantine_folder slot) (encode_lower (take 1 id.0) ++ 47 ∷ encode_lower (drop 1 id.0))))
+  dropped-none dropped id = quarantined-none content slot id (dropped (quarantine_path slot id.0) (starts_with-append (quarantine_folder slot) (encode_lower (take 1 id.0) ++ 47 ∷ encode_lower (drop 1 id.0))))
 
   not_held : (names : List ObjectId) → HoldsNames content slot names → (id : ObjectId) → list_any (id_eq id) names ≡ false → quarantined content slot id ≡ None
   not_held names holds id absent = by (quarantined content slot id) refl

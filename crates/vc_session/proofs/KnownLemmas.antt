@@ -1,5 +1,5 @@
 -- What is known to be whole: what a graph that grows keeps, and what the values of refs and what they link to are.
-use Rattle.std.proofs.Common.{◌≡◌, ℕ, true, false, cond, zero, suc, List, [], ◌∷◌, ◌++◌, length, drop, take, slice_get, ⊎_elim, Option, Some, None, Contains, refl, sym, ap, subst, ◌∙◌, arith, true≢false}
+use Rattle.std.proofs.Common.{◌≡◌, ℕ, true, false, cond, zero, suc, List, ◌∷◌, ◌++◌, length, drop, take, slice_get, ⊎_elim, Option, Some, None, Contains, refl, sym, ap, subst, ◌∙◌, arith, true≢false, []}
 use Rattle.std.specs.Bool.{⊤}
 use Rattle.std.specs.Cmp.{eq_by_cmp_equiv}
 use Rattle.std.specs.FinMap.{find, is_sorted}
@@ -14,6 +14,7 @@ use Rattle.std.proofs.lemmas.Bool.{and_parts}
 use Rattle.std.proofs.lemmas.List.{take-append-drop}
 use Rattle.std.proofs.lemmas.List.Elements.{Contains-append_right, Contains-push_cases}
 use Rattle.std.proofs.lemmas.Map.Views.{Contains-from_any}
+use Rattle.std.proofs.lemmas.Option.{same_Some}
 use Rattle.indexmap.specs.IndexSet.{insert_key}
 use Rattle.vc_history.proofs.GenerationLemmas.{Agrees-stays}
 use Rattle.vc_history.specs.Generation.{Agrees}
@@ -78,8 +79,6 @@ AreWhole-by_refs content known values others whole = record {
 }
 
 -- ---- the entries of a list of refs
-same_some : {X : Type 0} (x y : X) → ◌≡◌ {A = Option X} (Some x) (Some y) → x ≡ y
-same_some x y e = cc e
 
 apart : (a b : List ℕ) → is_lt (slice_cmp nat_cmp a b) ≡ true → is_eq (slice_cmp nat_cmp b a) ≡ false
 apart a b h = ap is_eq (nat_list_cmp_total.antisymm b a) ∙ go (slice_cmp nat_cmp a b) h
@@ -91,14 +90,14 @@ apart a b h = ap is_eq (nat_list_cmp_total.antisymm b a) ∙ go (slice_cmp nat_c
 
 below_at : (q : List ℕ) (es : List (List ℕ × ObjectId)) (k : ℕ) (e : List ℕ × ObjectId) → below_all (slice_cmp nat_cmp) q es ≡ true → slice_get es k ≡ Some e → is_lt (slice_cmp nat_cmp q e.0) ≡ true
 below_at q [] k e below at = absurd (cc at)
-below_at q (x ∷ es) zero e below at = subst (λ (y : List ℕ × ObjectId). is_lt (slice_cmp nat_cmp q y.0) ≡ true) (same_some x e at) (and_parts (is_lt (slice_cmp nat_cmp q x.0)) (below_all (slice_cmp nat_cmp) q es) below).0
+below_at q (x ∷ es) zero e below at = subst (λ (y : List ℕ × ObjectId). is_lt (slice_cmp nat_cmp q y.0) ≡ true) (same_Some x e at) (and_parts (is_lt (slice_cmp nat_cmp q x.0)) (below_all (slice_cmp nat_cmp) q es) below).0
 below_at q (x ∷ es) (suc k) e below at = below_at q es k e (and_parts (is_lt (slice_cmp nat_cmp q x.0)) (below_all (slice_cmp nat_cmp) q es) below).1 at
 
 -- each entry of a sorted list is found under its name
 entry_found : (es : List (List ℕ × ObjectId)) (k : ℕ) (e : List ℕ × ObjectId) → is_sorted (slice_cmp nat_cmp) es ≡ true → slice_get es k ≡ Some e → find (slice_cmp nat_cmp) e.0 es ≡ Some e.1
 entry_found [] k e sorted at = absurd (cc at)
 entry_found (x ∷ es) zero e sorted at =
-    subst (λ (y : List ℕ × ObjectId). find (slice_cmp nat_cmp) y.0 (x ∷ es) ≡ Some y.1) (same_some x e at)
+    subst (λ (y : List ℕ × ObjectId). find (slice_cmp nat_cmp) y.0 (x ∷ es) ≡ Some y.1) (same_Some x e at)
     (ap (λ t. cond t (Some x.1) (find (slice_cmp nat_cmp) x.0 es)) ((eq_by_cmp_equiv nat_list_cmp_total).refl x.0))
 entry_found (x ∷ es) (suc k) e sorted at =
     let parts = and_parts (below_all (slice_cmp nat_cmp) x.0 es) (is_sorted (slice_cmp nat_cmp) es) sorted in

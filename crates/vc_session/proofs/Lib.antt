@@ -1,6 +1,7 @@
 pub mod ArrivalLemmas
 pub mod JudgeLemmas
 pub mod NameLemmas
+pub mod BreakLemmas
 pub mod NumberLemmas
 pub mod QuarantineLemmas
 pub mod SeenLemmas

@@ -1,12 +1,11 @@
 -- What is stored as the objects of a quarantine are, one after another.
-use Rattle.std.proofs.Common.{◌≡◌, ℕ, Bool, true, false, cond, ◌||◌, List, [], ◌∷◌, ◌++◌, Option, Some, None, Ok, Err, sym, ap, refl, ◌∙◌, subst}
+use Rattle.std.proofs.Common.{◌≡◌, ℕ, Bool, true, false, cond, ◌||◌, List, ◌∷◌, ◌++◌, Option, Some, None, Ok, Err, sym, ap, refl, ◌∙◌, subst, []}
 use Rattle.std.specs.Prelude.{bytes_eq, codes, unwrap_or}
 use Rattle.std.specs.FinMap as files
 use Rattle.std.specs.List.{list_any}
 use Rattle.std.specs.Option.{option_or}
 use Rattle.std.specs.Result.{result_ok}
 use Rattle.std.proofs.lemmas.List.Folds.{list_any-append}
-use Rattle.std.proofs.lemmas.Slice.Eq.{bytes_eq-Decides}
 use Rattle.vc_files.specs.FileMap.{FileMap, SameOutside}
 use Rattle.vc_graph.specs.Overlay.{with_carried}
 use Rattle.vc_object.proofs.IdLemmas.{id_eq-same}
@@ -21,15 +20,11 @@ use Rattle.vc_session.specs.Migrating.{migrated}
 use Rattle.vc_session.specs.Quarantine.{quarantine_path, quarantined}
 
 -- ---- what a quarantine holds under a name has the name
-same_id : (a b : ObjectId) → bytes_eq a.0 b.0 ≡ true → a ≡ b
-same_id a b h =
-    let make : List ℕ → ObjectId = λ bytes. record { 0 = bytes } in
-    ap make ((bytes_eq-Decides a.0 b.0).0 h)
 
 of_test : (id : ObjectId) (b : Bool) (o p : StoredObject) → bytes_eq (object_name o.kind o.body).0 id.0 ≡ b → result_ok (cond b (Ok o) (Err (Damaged id))) ≡ Some p → object_name p.kind p.body ≡ id
 of_test id true o p is h =
     let same : o ≡ p = cc in
-    subst (λ (x : StoredObject). object_name x.kind x.body ≡ id) same (same_id (object_name o.kind o.body) id is)
+    subst (λ (x : StoredObject). object_name x.kind x.body ≡ id) same (id_eq-same (object_name o.kind o.body) id is)
 of_test id false o p is h = absurd (cc h)
 
 of_object : (id : ObjectId) (o : Option StoredObject) (p : StoredObject) → result_ok (named id o) ≡ Some p → object_name p.kind p.body ≡ id

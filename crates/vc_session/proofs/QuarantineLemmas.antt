@@ -1,5 +1,5 @@
 -- What a write into a quarantine does to what it holds, and what is left as files are taken away.
-use Rattle.std.proofs.Common.{◌≡◌, ◌⊎◌, inl, inr, ℕ, Bool, true, false, cond, ◌&&◌, ◌||◌, nat_eq, List, [], ◌∷◌, ◌++◌, drop, length, map, take, Option, Some, None, Ok, Err, sym, ap, refl, ◌∙◌, subst}
+use Rattle.std.proofs.Common.{◌≡◌, ◌⊎◌, inl, inr, ℕ, Bool, true, false, cond, ◌&&◌, ◌||◌, nat_eq, List, ◌∷◌, ◌++◌, drop, length, map, take, Option, Some, None, Ok, Err, sym, ap, refl, ◌∙◌, subst, []}
 use Rattle.std.specs.Prelude.{bytes_eq, codes, is_some, String, string_bytes}
 use Rattle.std.specs.FinMap as files
 use Rattle.std.specs.List.{starts_with}
@@ -9,13 +9,14 @@ use Rattle.std.specs.Cmp.Lexicographic.{slice_cmp}
 use Rattle.std.proofs.Math.Seq.{drop-append_seam}
 use Rattle.std.proofs.lemmas.List.{map-append, take-append-drop}
 use Rattle.std.specs.Global.{Global}
-use Rattle.std.proofs.lemmas.Bool.{eq-eqb, false_from_ne_true, or_parts}
+use Rattle.std.proofs.lemmas.Bool.{false_from_ne_true, or_parts}
 use Rattle.std.proofs.lemmas.List.Folds.{list_any-append}
 use Rattle.std.proofs.lemmas.Map.Text.{is_eq-slice_cmp}
 use Rattle.std.proofs.lemmas.Slice.Eq.{bytes_eq-Decides}
 use Rattle.hex.specs.Hex.{encode_lower}
 use Rattle.vc_files.proofs.FileMapLemmas.{get-put, get-unput, outside_put}
 use Rattle.vc_files.specs.FileMap.{FileMap, SameOutside, paths_under}
+use Rattle.vc_lemmas.proofs.Texts.{bytes_eq_same, starts_with-append}
 use Rattle.vc_object.proofs.Decoding.{decoded_again}
 use Rattle.vc_object.proofs.IdLemmas.{id_eq-same}
 use Rattle.vc_object.specs.Decoding.{StoredObject, stored_object}
@@ -24,9 +25,9 @@ use Rattle.vc_object.specs.ObjectId.{id_eq, is_id, is_name}
 use Rattle.vc_object.specs.declared.id.ObjectId.{ObjectId}
 use Rattle.vc_object.specs.declared.kind.Kind.{Kind}
 use Rattle.vc_refs.proofs.PathLemmas.{is_among, is_among-paths_under}
-use Rattle.vc_store.proofs.PathLemmas.{name_in-object_path}
-use Rattle.vc_store.specs.Store.{name_in, named, object_path, stored_in}
+use Rattle.vc_store.specs.Store.{named, object_path, stored_in}
 use Rattle.vc_store.specs.declared.faults.StoreFault.TheVariants.{Damaged}
+use Rattle.vc_store.proofs.StoreLemmas.{one_name}
 use Rattle.vc_session.specs.Quarantine.{IsDropped, OnlyLoses, quarantine_folder, quarantine_path, quarantined}
 
 -- ---- what a look gives
@@ -40,23 +41,10 @@ module _ (content : FileMap) (slot : ℕ) (id : ObjectId) where
   quarantined-none h = elim (is_id id) as (λ b. cond b (result_ok (stored_in id (files.get content (quarantine_path slot id.0)))) None ≡ None) [ true ↦ ap (λ found. result_ok (stored_in id found)) h | false ↦ refl ]
 
 -- ---- a write
-pub begins : (front rest : List ℕ) → starts_with nat_eq (front ++ rest) front ≡ true
-begins [] [] = refl
-begins [] (x ∷ xs) = refl
-begins (b ∷ bs) rest = ap (λ t. t && starts_with nat_eq (bs ++ rest) bs) (eq-eqb b b refl) ∙ begins bs rest
 
 pub outside_put_there : (content : FileMap) (slot : ℕ) (name bytes : List ℕ) → SameOutside (quarantine_folder slot) content (files.insert content (quarantine_path slot name) bytes)
 outside_put_there content slot name bytes =
-    outside_put (quarantine_folder slot) content (quarantine_path slot name) bytes (begins (quarantine_folder slot) (encode_lower (take 1 name) ++ 47 ∷ encode_lower (drop 1 name)))
-
-name_or_none : Option ObjectId → List ℕ
-name_or_none None = []
-name_or_none (Some id) = id.0
-
-same_name : (a b : List ℕ) → is_name a ≡ true → is_name b ≡ true → object_path a ≡ object_path b → a ≡ b
-unfolding name_or_none
-same_name a b p q e =
-    ap name_or_none (sym (name_in-object_path a p) ∙ ap name_in e ∙ name_in-object_path b q)
+    outside_put (quarantine_folder slot) content (quarantine_path slot name) bytes (starts_with-append (quarantine_folder slot) (encode_lower (take 1 name) ++ 47 ∷ encode_lower (drop 1 name)))
 
 -- one place there is one place in the store
 pub same_place : (slot : ℕ) (a b : List ℕ) → quarantine_path slot a ≡ quarantine_path slot b → object_path a ≡ object_path b
@@ -67,16 +55,13 @@ same_place slot a b e =
     ap (λ (t : List ℕ). codes "objects/" ++ t) same
 
 pub same_path : (slot : ℕ) (a b : List ℕ) → is_name a ≡ true → is_name b ≡ true → quarantine_path slot a ≡ quarantine_path slot b → a ≡ b
-same_path slot a b p q e = same_name a b p q (same_place slot a b e)
-
-bytes_same : (xs : List ℕ) → bytes_eq xs xs ≡ true
-bytes_same xs = (bytes_eq-Decides xs xs).1 refl
+same_path slot a b p q e = one_name a b p q (same_place slot a b e)
 
 -- its file is good
 pub put_there : (id : ObjectId) (kind : Kind) (body : List ℕ) → id ≡ object_name kind body → ∥ IsObject kind body ∥₁ → stored_in id (Some (object_bytes kind body)) ≡ Ok (stored_object kind body)
 put_there id kind body is object =
     ap (named id) (decoded_again (object_bytes kind body) kind body object refl)
-    ∙ ap (λ b. cond b (Ok (stored_object kind body)) (Err (Damaged id))) (subst (λ (n : ObjectId). bytes_eq (object_name kind body).0 n.0 ≡ true) (sym is) (bytes_same (object_name kind body).0))
+    ∙ ap (λ b. cond b (Ok (stored_object kind body)) (Err (Damaged id))) (subst (λ (n : ObjectId). bytes_eq (object_name kind body).0 n.0 ≡ true) (sym is) (bytes_eq_same (object_name kind body).0))
 
 -- what depends on one file
 pub same_at : (old new : FileMap) (slot : ℕ) (q : ObjectId) → (is_id q ≡ true → files.get new (quarantine_path slot q.0) ≡ files.get old (quarantine_path slot q.0)) → quarantined new slot q ≡ quarantined old slot q
@@ -96,7 +81,7 @@ module _ (content : FileMap) (slot : ℕ) (id : ObjectId) (kind : Kind) (body : 
 
   here : quarantined new slot id ≡ Some (stored_object kind body)
   here = quarantined-found new slot id (stored_object kind body) valid
-      (ap (stored_in id) (get-put content path (object_bytes kind body) path ∙ ap (λ b. cond b (Some (object_bytes kind body)) (files.get content path)) (bytes_same path))
+      (ap (stored_in id) (get-put content path (object_bytes kind body) path ∙ ap (λ b. cond b (Some (object_bytes kind body)) (files.get content path)) (bytes_eq_same path))
       ∙ put_there id kind body is object)
 
   elsewhere : (q : ObjectId) → id_eq q id ≡ false → quarantined new slot q ≡ quarantined content slot q
@@ -149,7 +134,7 @@ one_or_gone false o x is = inl is
 pub taken_left : {old now : FileMap} {paths : List (List ℕ)} → Taken old now paths → OnlyLoses old now
 taken_left {old = old} {now = now} {paths = paths} t = record { at = λ q. one_or_gone (is_among q paths) (files.get now q) (files.get old q) (t.at q) }
 
-none_left : (o : Option (List ℕ)) → cond (is_some o) None o ≡ None
+pub none_left : (o : Option (List ℕ)) → cond (is_some o) None o ≡ None
 none_left None = refl
 none_left (Some x) = refl
 

@@ -1,5 +1,5 @@
 -- The verdicts of a push, as one of them is settled after another, and what a step's parts say of the whole step.
-use Rattle.std.proofs.Common.{arith, ◌≡◌, ◌⊎◌, inl, inr, ℕ, zero, suc, ◌+◌, ◌<◌, cond, true, false, List, [], ◌∷◌, ◌++◌, length, map, take, drop, get_or, Option, Some, None, is_some, Result, Ok, Err, OnErr, refl, ap, sym, ◌∙◌, subst, slice_set, true≢false}
+use Rattle.std.proofs.Common.{arith, ◌≡◌, ◌⊎◌, inl, inr, ℕ, zero, suc, ◌+◌, ◌<◌, cond, true, false, List, ◌∷◌, ◌++◌, length, map, take, drop, get_or, Option, Some, None, is_some, refl, ap, sym, ◌∙◌, subst, slice_set, true≢false, []}
 use Rattle.std.specs.Prelude.{slice_get, option_map}
 use Rattle.std.specs.List.{list_any}
 use Rattle.std.proofs.lemmas.List.{length-map, length-take-le, take-append-drop, take-set, drop-set, drop_more}
@@ -14,21 +14,18 @@ use Rattle.vc_push.specs.declared.command.Command.{Command}
 use Rattle.vc_push.specs.declared.reason.Reason.{Reason}
 use Rattle.vc_refs.specs.RefMap.{RefMap}
 use Rattle.vc_refs.specs.Refs.{refs}
-use Rattle.vc_refs.specs.declared.faults.RefFault.{RefFault}
-use Rattle.vc_refs.specs.declared.faults.RefFault.TheVariants as of_refs
 use Rattle.vc_store.specs.declared.faults.StoreFault.{StoreFault}
 use Rattle.vc_store.specs.declared.faults.StoreFault.TheVariants as of_store
 use Rattle.vc_session.specs.Carrying.{Carries, objects_of_push}
 use Rattle.vc_session.specs.Quarantine.{IsDropped}
 use Rattle.vc_session.specs.Session.{SessionText, IsInStage, MayBeSetWhere, is_passing, stage_while, verdict_of}
-use Rattle.vc_session.specs.SessionFault.{BlamesMigration, IsRefusedCheck, IsRefusedStep, from_refs, from_store}
+use Rattle.vc_session.specs.SessionFault.{BlamesMigration, IsRefusedCheck, IsRefusedStep, from_store}
 use Rattle.vc_session.specs.Steps.{MaySetNext, UpdatesNext}
-use Rattle.vc_session.specs.Updating.{BlamesUpdate}
 use Rattle.vc_session.specs.Verdict.{IsVerdictAtUpdate, MayBeSet, refs_after}
 use Rattle.vc_session.specs.declared.fault.SessionFault.{SessionFault}
 use Rattle.vc_session.specs.declared.fault.SessionFault.TheVariants.{Store, Refs, Fault}
 use Rattle.vc_session.specs.declared.stage.Stage.{Stage}
-use Rattle.vc_session.specs.declared.stage.Stage.TheVariants.{Unpacked, Checked, Migrated, Done}
+use Rattle.vc_session.specs.declared.stage.Stage.TheVariants.{Unpacked, Checked, Done}
 use Rattle.vc_session.specs.declared.stage.Verdict.{Verdict}
 use Rattle.vc_session.specs.declared.stage.Verdict.TheVariants.{Passing, Accepted, Refused}
 use Rattle.vc_session.proofs.FrameLemmas.{dropped-none}
@@ -102,11 +99,6 @@ refused_migration content s (of_store.BadObject fault) h = h
 refused_migration content s (of_store.Absent id) h = h
 refused_migration content s (of_store.Damaged id) h = h
 refused_migration content s (of_store.Fault fault) h = tt
-
--- what an error leaves, from what it is
-pub on_err : {A E : Type 0} (r : Result A E) (X : Type 0) → X → OnErr r X
-on_err (Ok a) X x = tt
-on_err (Err e) X x = x
 
 -- ---- one update
 pub settled_verdict : (found : Option Reason) → is_passing (verdict_of found) ≡ false

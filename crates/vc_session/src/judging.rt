@@ -17,11 +17,8 @@ use vc_graph::is_complete_beyond;
 use vc_history::{Commits, Generations, HistoryFault, is_ancestor, is_history_beyond};
 use vc_object::ObjectId;
 use vc_push::{Command, Reason};
-use vc_refname::RefName;
+use vc_refname::{MAX_BRANCH, RefName};
 use vc_store::StoreFault;
-
-// The bytes of the name of a branch, at most: the name by which a clone tracks it is nine bytes longer.
-const MAX_BRANCH: usize = 246;
 
 // Whether it names a branch.
 fn is_branch(name: &[u8]) -> bool

@@ -6,9 +6,11 @@ use Rattle.std.specs.FinMap.{get, insert, nat_cmp-IsAntisymmetric}
 use Rattle.std.specs.List.{starts_with}
 use Rattle.std.proofs.lemmas.List.{length-set}
 use Rattle.vc_files.specs.FileMap.{FileMap, SameOutside}
+use Rattle.vc_lemmas.proofs.Texts.{split_from_starts}
 use Rattle.vc_message.proofs.Totals.{less_or}
 use Rattle.vc_message.specs.Machine.{IsPush, IsRefusalOf}
-use Rattle.vc_model.proofs.Maps.{insert_other, insert_same, same_key}
+use Rattle.vc_message.specs.Told.{Quietly}
+use Rattle.vc_model.proofs.Maps.{insert_other, insert_same, same_key, none_added}
 use Rattle.vc_model.specs.Message.{Message}
 use Rattle.vc_model.specs.Node.{Deed, Failure}
 use Rattle.vc_model.specs.Node.Answer.{Declined, Did, Fault}
@@ -19,12 +21,9 @@ use Rattle.vc_model.specs.Shared.{IsLowestFree, Serves, ServesNot, SharedNode, o
 use Rattle.vc_model.specs.SharedCall.{SharedAnswers}
 use Rattle.vc_model.specs.SharedCall.SharedCall.{Accept}
 use Rattle.vc_node.specs.Machine.{failure_of}
-use Rattle.vc_node.specs.Told.{Quietly}
 use Rattle.vc_object.proofs.OneFault.{no_body_fault, two_bodies}
 use Rattle.vc_object.specs.declared.fault.ObjectFault.{ObjectFault}
 use Rattle.vc_push.specs.Push.{Carried, FaultOf, PushText}
-use Rattle.vc_refs.proofs.ObstacleLemmas.{split_from_starts}
-use Rattle.vc_rules.proofs.JoinLemmas.{none_added}
 use Rattle.vc_rules.proofs.OpenPushLaws.{content_beside, opens_agree, push_kept}
 use Rattle.vc_rules.specs.Git.{git}
 use Rattle.vc_rules.specs.OpenPushes.{HoldsPush}

@@ -3,6 +3,7 @@ use Rattle.std.proofs.Common.{◌≡◌, Bool, true, false, List, Option, Some, 
 use Rattle.std.specs.Prelude.{IfErr, OnErr, OnOk, is_ok}
 use Rattle.std.specs.FinMap.{empty}
 use Rattle.vc_files.specs.FileMap.{FileMap}
+use Rattle.vc_message.specs.Told.{Quietly}
 use Rattle.vc_model.specs.Node.Answer.{Did, Fault}
 use Rattle.vc_model.specs.Node.Reply.{Stored}
 use Rattle.vc_model.specs.Shared.{SharedNode}
@@ -18,7 +19,7 @@ use Rattle.vc_node.specs.Emptying.{IsOpened, LosesCarried}
 use Rattle.vc_node.specs.Machine.{Spells, fault_answer, failure_of}
 use Rattle.vc_node.specs.Opening.{opened_node}
 use Rattle.vc_node.specs.Shown.{Shown}
-use Rattle.vc_node.specs.Told.{Quietly, RestartedAs}
+use Rattle.vc_node.specs.Told.{RestartedAs}
 use Rattle.vc_node.specs.declared.fault.NodeFault.{NodeFault}
 use Rattle.vc_refs.specs.Refs.{packed_path}
 use Rattle.vc_session.proofs.CleanLemmas.{bad_loses}

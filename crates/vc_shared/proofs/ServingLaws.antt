@@ -1,5 +1,5 @@
 -- What is answered to a list and to a want is what the machine answers.
-use Rattle.std.proofs.Common.{◌≡◌, ◌++◌, ◌∷◌, ℕ, arith, Bool, true, false, List, [], map, Option, Some, Result, Ok, Err, refl, sym, ap, ◌∙◌, subst, Contains, true≢false}
+use Rattle.std.proofs.Common.{◌≡◌, ◌++◌, ◌∷◌, ℕ, arith, Bool, true, false, List, map, Option, Some, Result, Ok, Err, refl, sym, ap, ◌∙◌, subst, Contains, true≢false, []}
 use Rattle.std.specs.Prelude.{IfErr, IfOk, Vec, is_some, option_map}
 use Rattle.std.specs.Global.{Global}
 use Rattle.std.proofs.lemmas.List.Elements.{Contains-append_right}
@@ -14,6 +14,8 @@ use Rattle.vc_files.specs.declared.faults.Fault.{Fault as FilesFault}
 use Rattle.vc_format.specs.Git.{bytes_of_id}
 use Rattle.vc_graph.specs.declared.fault.GraphFault.TheVariants as graph
 use Rattle.vc_message.specs.AnyMessage.{SpellsMessage, a_pack, a_want, an_advert}
+use Rattle.vc_message.proofs.AnyLaws.{written_so}
+use Rattle.vc_message.specs.Told.{Quietly, SendsBytes}
 use Rattle.vc_model.specs.Message.{Message}
 use Rattle.vc_model.specs.Message.Message.{Advert, ListRefs, Pack, Want}
 use Rattle.vc_model.specs.Node.{Answer, Deed}
@@ -25,18 +27,16 @@ use Rattle.vc_model.specs.Shared as shared
 use Rattle.vc_model.specs.Shared.{SharedNode}
 use Rattle.vc_model.specs.SharedCall.{SharedAnswers}
 use Rattle.vc_model.specs.SharedCall.SharedCall.{Accept}
+use Rattle.vc_model.proofs.Maps.{none_added}
 use Rattle.vc_node.specs.Machine.{failure_of}
-use Rattle.vc_node.specs.Told.{Quietly, SendsBytes}
 use Rattle.vc_object.specs.declared.id.ObjectId.{ObjectId}
 use Rattle.vc_pkt.specs.Message.{IsSpelledBy}
-use Rattle.vc_rules.proofs.JoinLemmas.{none_added}
 use Rattle.vc_rules.specs.Git.{git}
 use Rattle.vc_session.specs.Session.{SessionText}
 use Rattle.vc_shared.proofs.CallLemmas.{Leads, fault_leads, refused_leads}
 use Rattle.vc_shared.proofs.ServingFaults.{no_blame}
 use Rattle.vc_shared.proofs.ServingPacks.{brought, machine_first, machine_pack, machine_sent, machine_wants, not_ours, ours_there, written_pack}
 use Rattle.vc_shared.proofs.ServingRefs.{machine_advert, written_advert}
-use Rattle.vc_shared.proofs.SteppedLemmas.{written_by}
 use Rattle.vc_shared.proofs.SteppingLaws.{pushes_of}
 use Rattle.vc_shared.specs.Calls.{AcceptedAs, AnswersShared}
 use Rattle.vc_shared.specs.Faults.{fault_answer, of_answer, of_device, up_after}
@@ -78,7 +78,7 @@ module _ (content : FileMap) (slots : List (Option SessionText)) (n : SharedNode
       sent ListRefs message bytes
       (record {
         message = message;
-        written = written_by message (an_advert is.advert) bytes (machine_advert content is.advert is.tells n.repository held.spells) (written_advert content is.advert is.tells) is.spelled;
+        written = written_so message (an_advert is.advert) bytes (machine_advert content is.advert is.tells n.repository held.spells) (written_advert content is.advert is.tells) is.spelled;
         answer = refl;
         sent = refl;
       })
@@ -102,7 +102,7 @@ module _ (content : FileMap) (slots : List (Option SessionText)) (n : SharedNode
         sent (machine_want want) message bytes
         (record {
           message = message;
-          written = written_by message (a_pack is.pack) bytes (machine_pack content want is.pack is.answers) (written_pack content want is.pack is.answers lines spells) is.spelled;
+          written = written_so message (a_pack is.pack) bytes (machine_pack content want is.pack is.answers) (written_pack content want is.pack is.answers lines spells) is.spelled;
           answer = refl;
           sent = refl;
         })

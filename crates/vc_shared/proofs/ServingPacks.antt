@@ -1,9 +1,9 @@
 -- The pack that a want is answered with: it can be read as it is written, and it is what the machine sends.
-use Rattle.std.proofs.Common.{◌≡◌, inl, inr, ℕ, ◌≤◌, arith, true, List, [], ◌∷◌, ◌++◌, length, map, Option, Some, None, Ok, refl, sym, ap, ◌∙◌, subst, Contains}
+use Rattle.std.proofs.Common.{◌≡◌, inl, inr, ℕ, ◌≤◌, arith, true, List, ◌∷◌, ◌++◌, length, map, Option, Some, None, Ok, refl, sym, ap, ◌∙◌, subst, Contains, []}
 use Rattle.std.specs.Prelude.{is_some, option_map}
 use Rattle.std.specs.FinMap.{get}
 use Rattle.std.specs.List.{AllByRecursion}
-use Rattle.std.proofs.lemmas.List.Elements.{Contains-append_cases, Contains-append_right, Contains-push_cases}
+use Rattle.std.proofs.lemmas.List.Elements.{Contains-append_right}
 use Rattle.std.proofs.lemmas.Option.{same_Some}
 use Rattle.vc_pack.specs.Answer.{IsFirstCounted, IsNotOurs, IsOurs, IsRefValue, IsSent}
 use Rattle.vc_fetch.specs.Pack.{IsAckId, IsWrittenPack, PackText, is_object}
@@ -37,7 +37,7 @@ use Rattle.vc_pkt.specs.Line.{LineText, flush, text}
 use Rattle.vc_refs.specs.declared.heads.Head.{Head}
 use Rattle.vc_refs.specs.declared.heads.Head.TheVariants as head
 use Rattle.vc_rules.proofs.CarriedLemmas.{each_is_brought}
-use Rattle.vc_rules.proofs.ReachLemmas.{path_from, path_to}
+use Rattle.vc_rules.proofs.ReachLemmas.{path_from, path_to, id_among, bytes_among}
 use Rattle.vc_rules.proofs.RefLemmas.{that_id}
 use Rattle.vc_rules.proofs.SoundLemmas.{objects_sound}
 use Rattle.vc_rules.specs.Git.{git, stored_of}
@@ -93,26 +93,6 @@ module _ (content : FileMap) (want : WantText) (t : PackText) (answers : IsPackF
   brought_is x = (each_is_brought (Ok t.objects)).1 x ∙ sym (all_in t.objects (id_of_bytes x) grammar)
 
 -- ---- lists of ids
-pub id_among : (ids : List ObjectId) (x : Id) → Contains (map bytes_of_id ids) x → Contains ids (id_of_bytes x)
-id_among [] x h = absurd (let k = h.1 in omega (arith, k))
-id_among (y ∷ ys) x h = elim (Contains-append_cases (bytes_of_id y ∷ []) (map bytes_of_id ys) x h) [
-  | inl first ↦ elim (Contains-push_cases [] (bytes_of_id y) x first) [
-    | inl none ↦ absurd (let k = none.1 in omega (arith, k))
-    | inr same ↦ subst (λ (z : Id). Contains (y ∷ ys) (id_of_bytes z)) same (0, omega arith, refl)
-  ]
-  | inr later ↦ Contains-append_right (y ∷ []) ys (id_of_bytes x) (id_among ys x later)
-]
-
-pub bytes_among : (ids : List ObjectId) (id : ObjectId) → Contains ids id → Contains (map bytes_of_id ids) id.0
-bytes_among [] id h = absurd (let k = h.1 in omega (arith, k))
-bytes_among (y ∷ ys) id h = elim (Contains-append_cases (y ∷ []) ys id h) [
-  | inl first ↦ elim (Contains-push_cases [] y id first) [
-    | inl none ↦ absurd (let k = none.1 in omega (arith, k))
-    | inr same ↦ subst (λ (z : ObjectId). Contains (map bytes_of_id (y ∷ ys)) z.0) same (0, omega arith, refl)
-  ]
-  | inr later ↦ Contains-append_right (bytes_of_id y ∷ []) (map bytes_of_id ys) id.0 (bytes_among ys id later)
-]
-
 all_bytes : (P : Id → Type 0) (ids : List ObjectId) → ((id : ObjectId) → Contains ids id → P id.0) → AllByRecursion P (map bytes_of_id ids)
 all_bytes P [] h = tt
 all_bytes P (id ∷ ids) h = (h id (0, omega arith, refl), all_bytes P ids (λ x among. h x (Contains-append_right (id ∷ []) ids x among)))

@@ -1,5 +1,5 @@
 -- The refs that a list is answered with: they are all told, and as the machine tells them.
-use Rattle.std.proofs.Common.{◌≡◌, ◌≢◌, ℕ, ◌≤◌, ◌-◌, ◌==◌, ◌||◌, ◌&&◌, arith, Bool, true, false, cond, nat_eq, List, [], ◌∷◌, ◌++◌, length, take, drop, Option, Some, None, refl, sym, ap, ◌∙◌, subst, true≢false}
+use Rattle.std.proofs.Common.{◌≡◌, ◌≢◌, ℕ, ◌≤◌, ◌-◌, ◌==◌, ◌&&◌, arith, Bool, true, false, cond, nat_eq, List, ◌∷◌, ◌++◌, length, take, drop, Option, Some, None, refl, sym, ap, ◌∙◌, subst, true≢false, []}
 use Rattle.std.specs.Prelude.{codes, option_and_then, option_map}
 use Rattle.std.specs.FinMap.{empty, find, get, get-empty, get-insert, insert, is_sorted}
 use Rattle.std.specs.FinMap as finite
@@ -10,12 +10,12 @@ use Rattle.std.specs.Ordering.{eq_by_cmp, nat_cmp}
 use Rattle.std.specs.Cmp.Lexicographic.{nat_list_cmp_total, slice_cmp}
 use Rattle.std.specs.Str.{bytes_eq, is_utf8}
 use Rattle.std.specs.declared.cmp.Ordering.{Ordering}
-use Rattle.std.proofs.lemmas.Bool.{and_parts, false_from_ne_true, ltb-false, or_from, or_parts, or_right}
+use Rattle.std.proofs.lemmas.Bool.{and_parts, false_from_ne_true, ltb-false, or_right}
 use Rattle.std.proofs.lemmas.Bool.Decides.{Decides-eqb, nat_tests}
 use Rattle.std.proofs.lemmas.List.Folds.{list_any-append}
 use Rattle.std.proofs.lemmas.Option.{none-some, same_Some}
 use Rattle.std.proofs.lemmas.Slice.Eq.{bytes_eq-Decides, ends_is}
-use Rattle.vc_fetch.specs.Advert.{AdvertText, IsHeadId, IsName, IsWrittenAdvert, IsWrittenRef, Ref, RefIds, is_break}
+use Rattle.vc_fetch.specs.Advert.{AdvertText, IsHeadId, IsName, IsWrittenAdvert, IsWrittenRef, Ref, RefIds}
 use Rattle.vc_fetch.specs.Advert as advert
 use Rattle.vc_fetch.proofs.RefMaps.{same_name}
 use Rattle.vc_files.specs.FileMap.{FileMap}
@@ -44,6 +44,7 @@ use Rattle.vc_refs.specs.declared.heads.Head.TheVariants as head
 use Rattle.vc_refs.proofs.LayeredLemmas.{ref_legal, ref_whole}
 use Rattle.vc_refs.proofs.PackedLaws.{id_in-valid}
 use Rattle.vc_refs.proofs.PackedLemmas.{find_below}
+use Rattle.vc_session.proofs.BreakLemmas.{no_break}
 use Rattle.vc_shared.specs.Serving.{TellsRefs}
 
 -- ---- refs that are set one after another
@@ -121,14 +122,6 @@ head_id content id = by (finite.get content (codes "HEAD"))
 -- ---- names of refs, as they are written
 differs : (b k : ℕ) → is_bad_byte k ≡ true → is_bad_byte b ≡ false → (b == k) ≡ false
 differs b k bad fine = let other : b ≢ k = λ e. true≢false (sym bad ∙ sym (ap is_bad_byte e) ∙ fine) in grind (arith, nat_tests, other)
-
-no_break : (name : List ℕ) → list_any is_bad_byte name ≡ false → list_any is_break name ≡ false
-no_break [] fine = refl
-no_break (b ∷ bs) fine =
-    let parts = or_parts (is_bad_byte b) (list_any is_bad_byte bs) fine in
-    or_from (is_break b) (list_any is_break bs)
-    (or_from (b == 0) (b == 10 || b == 32) (differs b 0 refl parts.0) (or_from (b == 10) (b == 32) (differs b 10 refl parts.0) (differs b 32 refl parts.0)))
-    (no_break bs parts.1)
 
 module _ (name : List ℕ) (legal : is_ref name ≡ true) where
   parts : (is_ref_name name ≡ true) × (starts_with nat_eq name (codes "refs/") ≡ true)

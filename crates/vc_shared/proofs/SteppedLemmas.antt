@@ -6,11 +6,12 @@ use Rattle.std.specs.FinMap.{get, get-remove, insert, remove, nat_cmp-IsAntisymm
 use Rattle.std.specs.List.{flat_map}
 use Rattle.std.proofs.lemmas.List.{length-set}
 use Rattle.vc_files.specs.FileMap.{FileMap}
-use Rattle.vc_message.proofs.AnyLaws.{written_message}
+use Rattle.vc_message.proofs.AnyLaws.{written_so}
 use Rattle.vc_message.proofs.MachineTexts.{report_of}
-use Rattle.vc_message.specs.AnyMessage.{IsWrittenMessage, MessageText, SpellsMessage, a_report, message_lines}
-use Rattle.vc_message.specs.Machine.{IsReport as IsMachineReport, IsWritten, TextOf}
-use Rattle.vc_model.proofs.Maps.{insert_same, insert_other, remove_other, same_key}
+use Rattle.vc_message.specs.AnyMessage.{a_report}
+use Rattle.vc_message.specs.Machine.{IsReport as IsMachineReport, IsWritten}
+use Rattle.vc_message.specs.Told.{Quietly, SendsBytes}
+use Rattle.vc_model.proofs.Maps.{insert_same, insert_other, remove_other, same_key, none_added}
 use Rattle.vc_model.specs.Message.{Message, Told}
 use Rattle.vc_model.specs.Message.Message.{Report}
 use Rattle.vc_model.specs.Node.{Deed, Reply}
@@ -23,10 +24,8 @@ use Rattle.vc_model.specs.SharedCall.{SharedAnswers}
 use Rattle.vc_model.specs.SharedCall.SharedCall.{StepOf}
 use Rattle.vc_object.specs.declared.fault.ObjectFault.{ObjectFault}
 use Rattle.vc_pkt.specs.Line.{spelling}
-use Rattle.vc_pkt.specs.Message.{IsSpelledBy}
 use Rattle.vc_push.specs.Report.{IsWrittenReport, ReportText, report_lines, unpack_error}
 use Rattle.vc_push.specs.ReportView.{report_text}
-use Rattle.vc_rules.proofs.JoinLemmas.{none_added}
 use Rattle.vc_rules.proofs.OpenPushLaws.{steps_agree}
 use Rattle.vc_rules.specs.OpenPushes.{AreToldAs, HoldsContent, HoldsPush, IsPushStep, IsPushEnd, StepsAs}
 use Rattle.vc_rules.specs.Verdicts.{machine_reason}
@@ -38,7 +37,6 @@ use Rattle.vc_session.specs.declared.stage.Stepped.{Stepped as SessionStep}
 use Rattle.vc_session.specs.declared.stage.Stepped.TheVariants as session
 use Rattle.vc_shared.proofs.CallLemmas.{Leads}
 use Rattle.vc_shared.proofs.HoldingLemmas.{slot_set, slot_other, slot_stays, steps_beside}
-use Rattle.vc_node.specs.Told.{Quietly, SendsBytes}
 use Rattle.vc_node.proofs.CloneCallLemmas.{held_content}
 use Rattle.vc_node.proofs.ReceivingClone.{clean_on, spells_on}
 use Rattle.vc_shared.specs.Calls.{SteppedAs}
@@ -49,19 +47,10 @@ use Rattle.vc_shared.specs.declared.stepping.Stepped.{Stepped}
 use Rattle.vc_shared.specs.declared.stepping.Stepped.TheVariants.{Checked, Migrated, Updated, Finished}
 
 -- ---- what is sent at the end
-pub written_by : (m : Message) (t : MessageText) (bytes : List ℕ) → TextOf m t → IsWrittenMessage t → bytes ≡ flat_map spelling (message_lines t) → IsWritten m bytes
-written_by m t bytes is written spelled = record {
-  text = t;
-  is = is;
-  written = written;
-  spelled = spelled;
-  reads = record { text = t; is = is; spelled = subst (λ (b : List ℕ). IsSpelledBy SpellsMessage t b) (sym spelled) (written_message t written) };
-}
-
 report_written : (report : ReportText) (told : List Told) (fault : Option ObjectFault) (number : Option ℕ) (bytes : List ℕ) → number ≡ option_map fault_number fault → report.unpack ≡ option_map unpack_error number
     → AreToldAs report.told told → IsWrittenReport report → bytes ≡ flat_map spelling (report_lines report) → IsWritten (Report number told) bytes
 report_written report told fault number bytes is unpack same written spelled =
-    written_by (Report number told) (a_report report) bytes
+    written_so (Report number told) (a_report report) bytes
     (subst (λ (r : Option ℕ). IsMachineReport (Report r told) report) (sym is) (report_of report fault told (unpack ∙ ap (option_map unpack_error) is) same)) written spelled
 
 remove_same : (pushes : Slots) (k : ℕ) → get (remove pushes k) k ≡ None

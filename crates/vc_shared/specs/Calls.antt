@@ -2,6 +2,7 @@
 -- machine's answer.
 use Rattle.std.specs.Prelude.{◌<◌, Bool, List, Option, Result, Ok, Err, option_map}
 use Rattle.vc_files.specs.FileMap.{FileMap}
+use Rattle.vc_message.specs.Told.{Quietly, SendsBytes}
 use Rattle.vc_model.specs.Message.{Message}
 use Rattle.vc_model.specs.Node.{Answer}
 use Rattle.vc_model.specs.Node.Answer.{Did}
@@ -9,7 +10,6 @@ use Rattle.vc_model.specs.Node.Reply.{MigratedAll, Opened, Passed, Updated as Up
 use Rattle.vc_model.specs.Repository.{IsBare, IsSound}
 use Rattle.vc_model.specs.Shared.{SharedNode}
 use Rattle.vc_model.specs.SharedCall.{SharedAnswers, SharedCall}
-use Rattle.vc_node.specs.Told.{Quietly, SendsBytes}
 use Rattle.vc_rules.proofs.GitLaws.{git_rules}
 use Rattle.vc_rules.specs.Git.{git}
 use Rattle.vc_rules.specs.Verdicts.{machine_reason}

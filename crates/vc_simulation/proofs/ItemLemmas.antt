@@ -1,5 +1,5 @@
 -- The items of a push.
-use Rattle.std.proofs.Common.{◌≡◌, ◌≢◌, ◌<◌, ◌≤◌, ◌+◌, ℕ, zero, suc, List, [], ◌∷◌, ◌++◌, false, Option, Some, None, Result, Ok, Err, Vec, Global, map, take, get_or, length, option_map, inl, inr, refl, sym, ap, ◌∙◌, subst, arith}
+use Rattle.std.proofs.Common.{◌≡◌, ◌≢◌, ◌<◌, ◌≤◌, ◌+◌, ℕ, zero, suc, List, ◌∷◌, ◌++◌, false, Option, Some, None, Result, Ok, Err, Vec, Global, map, take, get_or, length, option_map, inl, inr, refl, sym, ap, ◌∙◌, subst, arith, []}
 use Rattle.std.proofs.lemmas.List.{take_more}
 use Rattle.std.proofs.lemmas.List.Elements.{Contains-append_cases, Contains-get_or}
 use Rattle.std.specs.Prelude.{Contains}
@@ -18,15 +18,12 @@ use Rattle.vc_model.specs.Order.{AreItems, NamedItem as MachineNamed, with_first
 use Rattle.vc_model.specs.Reach.{IsClosed}
 use Rattle.vc_model.specs.Refs.{RefName}
 use Rattle.vc_model.specs.Repository.{IsSound, Repository}
+use Rattle.vc_model.proofs.Commits.{contains_first}
 use Rattle.vc_object.specs.declared.id.ObjectId.{ObjectId}
 use Rattle.vc_push.specs.Push.{zero_id}
 use Rattle.vc_rules.proofs.GitLaws.{git_rules}
 use Rattle.vc_rules.specs.Git.{git}
 use Rattle.vc_simulation.specs.Values.{AreNotPushed, ArePushed, HasZero, IsItemFor, IsNoItem}
-
-pub contains_one : {X : Type 0} (x y : X) → Contains (x ∷ []) y → x ≡ y
-contains_one x y (zero, below, is) = is
-contains_one x y (suc k, below, is) = let f : ⊥ = omega (arith, below) in absurd f
 
 pub none_yet : (items : List PushItem) → ¬ HasZero (take 0 items)
 none_yet items h = let below = h.1.1 in let f : ⊥ = omega (arith, below) in absurd f
@@ -36,7 +33,7 @@ still_none items k item below other none h =
     let last = get_or items k item in
     elim (Contains-append_cases (take k items) (last ∷ []) h.0 (subst (λ (xs : List PushItem). Contains xs h.0) (take_more items k item below) h.1)) [
       | inl before ↦ none (h.0, before, h.2)
-      | inr is ↦ other (ap (λ (i : PushItem). i.id) (contains_one last h.0 is) ∙ h.2)
+      | inr is ↦ other (ap (λ (i : PushItem). i.id) (contains_first last h.0 is) ∙ h.2)
     ]
 
 pub one_is_zero : (items : List PushItem) (k : ℕ) (item : PushItem) → k < length items → (get_or items k item).id ≡ Some zero_id → HasZero items

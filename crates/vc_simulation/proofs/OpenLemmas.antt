@@ -1,13 +1,14 @@
 -- New nodes over no files.
-use Rattle.std.proofs.Common.{◌≡◌, ◌++◌, ℕ, true, List, [], ◌∷◌, Option, Some, None, Result, Ok, Err, refl, sym, ap, ◌∙◌, subst}
+use Rattle.std.proofs.Common.{◌≡◌, ℕ, true, List, Option, Some, None, Result, Ok, refl, sym, ap, ◌∙◌, subst, []}
 use Rattle.std.specs.Cmp.Lexicographic.{slice_cmp}
 use Rattle.std.specs.FinMap.{empty, get, get-empty}
 use Rattle.std.specs.Ordering.{nat_cmp}
-use Rattle.std.specs.Prelude.{IfErr, IfOk, codes, option_map, unwrap_or}
+use Rattle.std.specs.Prelude.{IfOk, codes, option_map, unwrap_or}
 use Rattle.vc_files.specs.Failures.{Writes}
 use Rattle.vc_files.specs.FileMap.{FileMap}
 use Rattle.vc_files.specs.declared.faults.Fault.TheVariants as files
 use Rattle.vc_index.specs.IndexText.{TextFault, index_text}
+use Rattle.vc_message.proofs.ComingLaws.{rest_of_none}
 use Rattle.vc_model.specs.Clone.Awaited.{Nothing}
 use Rattle.vc_model.specs.Repository.{Repository}
 use Rattle.vc_model.specs.World.{empty_repository}
@@ -39,10 +40,6 @@ in_ok {T} {E} P r x is holds = subst (λ (r : Result T E). IfOk r P) is holds
 
 none_found : (path : List ℕ) → get (empty {X = List ℕ} {R = slice_cmp nat_cmp}) path ≡ None
 none_found path = get-empty (slice_cmp nat_cmp) path
-
-rest_of_none : (xs ys : List ℕ) → [] ≡ xs ++ ys → ys ≡ []
-rest_of_none [] ys is = sym is
-rest_of_none (x ∷ xs) ys is = absurd (cc)
 
 no_index : (place : ℕ) → TextFault (index_bytes empty) place → ⊥
 no_index place fault = fault.some (rest_of_none (index_text fault.before) fault.rest

@@ -5,11 +5,12 @@ ghost use Rattle.vc_node.specs.CloneCalls.{ReceivedAs, SentAs};
 ghost use Rattle.vc_node.specs.CloneFaults.{TellsDevice as CloneTellsDevice, fault_answer as clone_answer};
 ghost use Rattle.vc_node.specs.Machine.{done_answer, fault_answer as node_answer, made_answer};
 ghost use Rattle.vc_node.specs.NodeFault.{TellsDevice as NodeTellsDevice};
-ghost use Rattle.vc_node.specs.Told.{FoundAs, Quietly, RestartedAs};
+ghost use Rattle.vc_node.specs.Told.{FoundAs, RestartedAs};
 ghost use Rattle.vc_simulation.specs.Nodes.{IsRetold};
 ghost use Rattle.vc_server.specs.Telling.{ended_by};
 ghost use Rattle.vc_shared.specs.Calls.{AcceptedAs, SteppedAs};
 ghost use Rattle.vc_shared.specs.Faults.{TellsDevice, fault_answer};
+ghost use Rattle.vc_message.specs.Told.{Quietly};
 
 use vc_events::{Deed, Ended, Told};
 use vc_files::Fault;

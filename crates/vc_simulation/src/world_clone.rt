@@ -25,12 +25,10 @@ use vc_exchange::PushItem;
 use vc_files::{Fault, Files};
 use vc_node::{CloneNode, NodeFault};
 use vc_object::{Kind, Mode, ObjectId};
+use vc_push::MAX_COMMANDS;
 use vc_refname::RefName;
 use vc_refs::Head;
 use vc_rev::{ParseFault, parse};
-
-/// The most items that a push may have.
-const MOST_ITEMS: usize = 256;
 
 /// A clone of a world.
 #[derive(Drop)]
@@ -241,7 +239,7 @@ impl<F: Files> WorldClone<F> {
         ensures answers { F.honest → Called F.content F.can_fail F.left (IsOnly (Command (StartPush false (machine_items items.now)))) (Shows result) self.old.node self.new.node }
     {
         if has_zero(items) {
-            return Err(Ended::Refused(if items.len() > MOST_ITEMS {
+            return Err(Ended::Refused(if items.len() > MAX_COMMANDS {
                 TOO_MANY
             } else {
                 MISSING

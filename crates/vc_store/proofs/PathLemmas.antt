@@ -1,5 +1,5 @@
 -- Names and the paths of their objects: each gives the other, both in one order, and digits begin both.
-use Rattle.std.proofs.Common.{◌≡◌, ℕ, ◌<◌, ◌+◌, ◌/◌, ◌%◌, inl, inr, zero, suc, Bool, true, false, cond, ◌&&◌, ◌==◌, nat_eq, nat_lt, List, [], ◌∷◌, length, Option, Some, None, Result, Ok, Err, sym, ap, refl, ◌∙◌, subst, lit<, rules, arith, slice_index}
+use Rattle.std.proofs.Common.{◌≡◌, ℕ, ◌<◌, ◌+◌, ◌/◌, ◌%◌, inl, inr, zero, suc, Bool, true, false, cond, ◌&&◌, ◌==◌, nat_eq, nat_lt, List, ◌∷◌, length, Option, Some, None, Result, Ok, Err, sym, ap, refl, ◌∙◌, subst, lit<, rules, arith, slice_index, []}
 use Rattle.std.specs.Prelude.{bytes_eq, option_and_then, if◌then◌else◌}
 use Rattle.std.specs.Char.{is_ascii_hexdigit, to_ascii_lowercase}
 use Rattle.std.specs.List.{list_all, starts_with}
@@ -17,6 +17,7 @@ use Rattle.std.proofs.lemmas.Bool.Decides.{nat_tests}
 use Rattle.hex.specs.declared.error.FromHexError.{FromHexError}
 use Rattle.hex.specs.Hex.{encode_lower, encode_with, lower_digits, decode_sized, IsBytes}
 use Rattle.hex.proofs.HexLemmas.{decode_of-ok, decode_sized-twice, decode_sized-ok, decode_sized-encode_lower, length-encode_with}
+use Rattle.vc_lemmas.proofs.Texts.{bytes_eq_same}
 use Rattle.vc_object.proofs.IdLemmas.{is_id-from_array}
 use Rattle.vc_object.specs.ObjectId.{is_name, is_id}
 use Rattle.vc_object.specs.declared.id.ObjectId.{ObjectId}
@@ -68,9 +69,6 @@ name_in-some path id h =
     let read = decode_of-ok (digits_in path) id.0 (sym (decode_sized-twice (digits_in path) 20 long) ∙ parts.0) in
     let size : length id.0 ≡ 20 = omega (arith, long, read.2) in
     (sym ((bytes_eq-Decides (object_path id.0) path).0 parts.1), is_name-from id.0 size read.3)
-
-bytes_eq_same : (xs : List ℕ) → bytes_eq xs xs ≡ true
-bytes_eq_same xs = (bytes_eq-Decides xs xs).1 refl
 
 -- an object's path gives its name
 pub name_in-object_path : (name : List ℕ) → is_name name ≡ true → name_in (object_path name) ≡ Some (record { 0 = name })

@@ -1,5 +1,5 @@
 -- What a write of an object's file does to the objects.
-use Rattle.std.proofs.Common.{◌≡◌, ℕ, Bool, true, false, cond, ◌==◌, nat_eq, nat_lt, List, [], ◌∷◌, ◌++◌, take, drop, length, Option, Some, None, Result, Ok, Err, sym, ap, refl, ◌∙◌, subst}
+use Rattle.std.proofs.Common.{◌≡◌, ℕ, Bool, true, false, cond, ◌==◌, nat_eq, nat_lt, List, ◌∷◌, ◌++◌, take, drop, length, Option, Some, None, Result, Ok, Err, sym, ap, refl, ◌∙◌, subst, []}
 use Rattle.std.specs.Prelude.{bytes_eq, is_ok, is_some, codes, unwrap_or}
 use Rattle.std.specs.List.{list_all, starts_with}
 use Rattle.std.specs.Result.{result_ok}
@@ -11,6 +11,7 @@ use Rattle.hex.specs.Hex.{encode_lower, encode_with, decode_of, IsBytes}
 use Rattle.hex.proofs.HexLemmas.{decode_of-encode_lower}
 use Rattle.vc_files.specs.FileMap.{FileMap, SameOutside}
 use Rattle.vc_files.proofs.FileMapLemmas.{get-put, outside_put}
+use Rattle.vc_lemmas.proofs.Texts.{bytes_eq_same}
 use Rattle.vc_object.specs.Decoding.{StoredObject, stored_object, decoded}
 use Rattle.vc_object.specs.Object.{object_name, object_bytes, IsObject}
 use Rattle.vc_object.specs.ObjectId.{is_name, is_id}
@@ -32,11 +33,11 @@ unfolding ok_inside
 same_hex a b p q e = ap ok_inside (sym (decode_of-encode_lower a p) ∙ ap decode_of e ∙ decode_of-encode_lower b q)
 
 -- two names are equal where their paths are
-same_path : (a b : List ℕ) → is_name a ≡ true → is_name b ≡ true → object_path a ≡ object_path b → a ≡ b
+pub one_name : (a b : List ℕ) → is_name a ≡ true → is_name b ≡ true → object_path a ≡ object_path b → a ≡ b
 unfolding encode_with
-same_path [] b p q e = cc
-same_path (x ∷ xs) [] p q e = cc
-same_path (x ∷ xs) (y ∷ ys) p q e =
+one_name [] b p q e = cc
+one_name (x ∷ xs) [] p q e = cc
+one_name (x ∷ xs) (y ∷ ys) p q e =
     let bytes_of : (zs : List ℕ) → is_name zs ≡ true → IsBytes zs = λ zs h. byte_below zs (and_parts (length zs == 20) (list_all (λ b. nat_lt b 256) zs) h).1 in
     same_hex (x ∷ xs) (y ∷ ys) (bytes_of (x ∷ xs) p) (bytes_of (y ∷ ys) q) (ap (λ path. take 2 (drop 8 path) ++ drop 11 path) e)
 
@@ -51,12 +52,9 @@ objects-absent content id e h = elim (is_id id) as (λ b. cond b (result_ok (sto
 
 apart : (q name : List ℕ) → bytes_eq q name ≡ false → is_name q ≡ true → is_name name ≡ true → bytes_eq (object_path q) (object_path name) ≡ false
 apart q name other p n = false_from_ne_true _ (λ same.
-    let e : q ≡ name = same_path q name p n ((bytes_eq-Decides (object_path q) (object_path name)).0 same) in
+    let e : q ≡ name = one_name q name p n ((bytes_eq-Decides (object_path q) (object_path name)).0 same) in
     let yes : bytes_eq q name ≡ true = (bytes_eq-Decides q name).1 e in
     cc)
-
-bytes_eq_same : (xs : List ℕ) → bytes_eq xs xs ≡ true
-bytes_eq_same xs = (bytes_eq-Decides xs xs).1 refl
 
 -- what is at a name depends on one file
 same_at : (old new : FileMap) (q : ObjectId) → (is_id q ≡ true → files.get new (object_path q.0) ≡ files.get old (object_path q.0)) → objects new q ≡ objects old q

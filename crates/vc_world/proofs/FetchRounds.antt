@@ -12,15 +12,9 @@ use Rattle.vc_model.specs.Shared.{SharedNode}
 use Rattle.vc_node.specs.CloneFaults.{fault_answer}
 use Rattle.vc_node.specs.declared.clone_fault.CloneFault.{CloneFault}
 use Rattle.vc_node.specs.declared.clone_fault.CloneFault.TheVariants.{Incomplete, NoValue, Node, TooMany, Unexpected, Unread}
-use Rattle.vc_node.specs.Machine.{fault_answer as node_answer, store_answer, ref_answer}
-use Rattle.vc_node.specs.declared.fault.NodeFault.{NodeFault}
-use Rattle.vc_node.specs.declared.fault.NodeFault.TheVariants as node
-use Rattle.vc_refs.specs.declared.faults.RefFault.{RefFault}
-use Rattle.vc_refs.specs.declared.faults.RefFault.TheVariants as ref
+use Rattle.vc_node.proofs.FaultLemmas.{node_undone}
 use Rattle.vc_rules.proofs.GitLaws.{git_rules}
 use Rattle.vc_rules.specs.Git.{git}
-use Rattle.vc_store.specs.declared.faults.StoreFault.{StoreFault}
-use Rattle.vc_store.specs.declared.faults.StoreFault.TheVariants as store
 use Rattle.vc_world.specs.Chains.{MayFetch, MayRound}
 use Rattle.vc_world.specs.Chains.MayFetch.{again, last}
 use Rattle.vc_world.specs.Exchanging.{CatchesUp, EndsInFault, FetchedAs, IsFetch, IsRound, Leads, MovesNone, RoundAs}
@@ -31,30 +25,6 @@ use Rattle.vc_world.proofs.Rounds.{fetch_comes}
 use Rattle.vc_world.proofs.Tracked.{git_can_be_tracked}
 
 -- ---- refusals
-
-store_undone : (e : StoreFault) → IsUndone (store_answer e)
-store_undone (store.BadObject e) = tt
-store_undone (store.Absent id) = tt
-store_undone (store.Damaged id) = tt
-store_undone (store.Fault f) = tt
-
-ref_undone : (e : RefFault) → IsUndone (ref_answer e)
-ref_undone (ref.Stale current) = tt
-ref_undone (ref.Conflict other) = tt
-ref_undone (ref.BadRefFile path) = tt
-ref_undone ref.HeadLoop = tt
-ref_undone (ref.Fault f) = tt
-
-pub node_undone : (e : NodeFault) → IsUndone (node_answer e)
-node_undone (node.Store e) = store_undone e
-node_undone (node.Ref e) = ref_undone e
-node_undone (node.Missing id) = tt
-node_undone (node.NotACommit id) = tt
-node_undone node.BadPath = tt
-node_undone node.PathConflict = tt
-node_undone (node.BadIndex place) = tt
-node_undone (node.WrongEntry at) = tt
-node_undone node.Down = tt
 
 pub clone_undone : (e : CloneFault) → IsUndone (fault_answer e)
 clone_undone (Unread fault) = tt

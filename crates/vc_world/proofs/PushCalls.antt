@@ -1,8 +1,9 @@
 -- A push, as real nodes tell of its calls.
-use Rattle.std.proofs.Common.{◌≡◌, ℕ, List, [], ◌∷◌, Option, Some, None, Result, Ok, Err, inl, inr, map, refl, sym, ap, ◌∙◌, subst, false}
+use Rattle.std.proofs.Common.{◌≡◌, ℕ, List, ◌∷◌, Option, Some, None, Result, Ok, Err, inl, inr, map, refl, sym, ap, ◌∙◌, subst, false, []}
 use Rattle.std.specs.Global.{Global}
 use Rattle.std.specs.Prelude.{IfErr, IfOk, Vec}
 use Rattle.std.specs.FinMap.{get}
+use Rattle.std.proofs.lemmas.Option.{same_Some}
 use Rattle.vc_exchange.specs.Sending.{machine_items}
 use Rattle.vc_exchange.specs.declared.item.PushItem.{PushItem}
 use Rattle.vc_files.specs.FileMap.{FileMap}
@@ -11,7 +12,7 @@ use Rattle.vc_message.specs.Machine.{IsReport, IsUnpackedAs, Reads, machine_told
 use Rattle.vc_model.specs.Clone.{CloneNode}
 use Rattle.vc_model.specs.Clone.Task.{StartPush}
 use Rattle.vc_model.specs.CloneCall.CloneCall.{Command, Receive}
-use Rattle.vc_model.specs.Exchange.{AreReady, AreUp, IsUndone, MayPush, PushEnds, one_item}
+use Rattle.vc_model.specs.Exchange.{PushEnds}
 use Rattle.vc_model.specs.Exchange.PushEnds.{failed, pushed}
 use Rattle.vc_model.specs.Message.{Message, Told}
 use Rattle.vc_model.specs.Message.Message.{Report}
@@ -44,9 +45,6 @@ use Rattle.vc_world.proofs.FetchRounds.{clone_undone, did_no_fault, undone_did}
 use Rattle.vc_world.proofs.Legs.{Calls, answered, led, refused}
 use Rattle.vc_world.proofs.Pushes.{push_comes}
 use Rattle.vc_world.proofs.Tracked.{git_can_be_tracked}
-
-same_message : (m n : Message) → ◌≡◌ {A = Option Message} (Some m) (Some n) → m ≡ n
-same_message m n e = cc
 
 end_same : {R : Type 0} (x y : ExchangeEnd R) → ◌≡◌ {A = Result (Unit {0}) (ExchangeEnd R)} (Err x) (Err y) → x ≡ y
 end_same x y e = cc
@@ -232,7 +230,7 @@ module _ {P R F A : Type 0} (holds : P → SharedNode → Type 0) (told : R → 
 
     done : (result : Result PushReport (ExchangeEnd R)) (t : SharedNode) (d : CloneNode) (a : Answer) (came : Option Message) → PushedAs told result a came → PushEnds b (bytes_of_id id) a t d came → Done result t d
     done (Ok report) t d a came h (pushed moved is came_is set tracked) =
-        ((ok_report (report_text report) h.3.0 h.3.2 (same_message h.3.0 ok_message (sym h.3.1 ∙ came_is)), set, tracked), tt)
+        ((ok_report (report_text report) h.3.0 h.3.2 (same_Some h.3.0 ok_message (sym h.3.1 ∙ came_is)), set, tracked), tt)
     done (Ok report) t d a came h (failed f is) = absurd (did_no_fault (ReportedRefs h.0 h.1) f (sym h.2 ∙ is))
     done (Err (Clone fault)) t d a came h (pushed moved is came_is set tracked) = absurd (undone_did a (fault_answer fault) (ReportedRefs moved []) h (clone_undone fault) is)
     done (Err (Clone fault)) t d a came h (failed f is) = (tt, (f, sym h ∙ is))
@@ -240,7 +238,7 @@ module _ {P R F A : Type 0} (holds : P → SharedNode → Type 0) (told : R → 
     done (Err (Shared refusal)) t d a came h (failed f is) = (tt, (f, sym h.0 ∙ is))
     done (Err Stray) t d a came (inl h) (pushed moved is came_is set tracked) = absurd (none_reported a moved [] h is)
     done (Err Stray) t d a came (inl h) (failed f is) = absurd (none_failed a f h is)
-    done (Err Stray) t d a came (inr h) (pushed moved is came_is set tracked) = absurd (subst IsNoReport (same_message h.3.0 ok_message (sym h.3.1 ∙ came_is)) h.3.2)
+    done (Err Stray) t d a came (inr h) (pushed moved is came_is set tracked) = absurd (subst IsNoReport (same_Some h.3.0 ok_message (sym h.3.1 ∙ came_is)) h.3.2)
     done (Err Stray) t d a came (inr h) (failed f is) = absurd (did_no_fault (ReportedRefs h.0 h.1) f (sym h.2 ∙ is))
     done (Err Memory) t d a came h ends = (tt, tt)
 

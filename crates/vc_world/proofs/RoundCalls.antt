@@ -4,6 +4,7 @@ use Rattle.std.specs.Global.{Global}
 use Rattle.std.specs.Prelude.{Vec}
 use Rattle.vc_files.specs.FileMap.{FileMap}
 use Rattle.vc_message.specs.Machine.{Reads}
+use Rattle.vc_message.specs.Told.{SendsBytes}
 use Rattle.vc_model.specs.Clone.{CloneNode}
 use Rattle.vc_model.specs.Clone.Task.{StartFetch}
 use Rattle.vc_model.specs.CloneCall.CloneCall.{Command, Receive}
@@ -12,7 +13,6 @@ use Rattle.vc_model.specs.Node.{Answer}
 use Rattle.vc_model.specs.Shared.{SharedNode}
 use Rattle.vc_node.specs.CloneCalls.{ReceivedAs, SentAs}
 use Rattle.vc_node.specs.Held.{Held}
-use Rattle.vc_node.specs.Told.{SendsBytes}
 use Rattle.vc_node.specs.declared.clone_fault.CloneFault.{CloneFault}
 use Rattle.vc_node.specs.declared.exchanging.Received.{Received}
 use Rattle.vc_node.specs.declared.exchanging.Received.TheVariants.{Moved, Reported, Send}

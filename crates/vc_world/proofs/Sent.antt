@@ -1,6 +1,7 @@
 -- What a call left that sent a message, or that was done.
 use Rattle.std.proofs.Common.{◌≡◌, ℕ, Bool, List, Option, Some, None, inl, inr, refl, sym, ap, ◌∙◌, subst, take}
 use Rattle.std.specs.FinMap.{get}
+use Rattle.std.proofs.lemmas.Option.{same_Some}
 use Rattle.vc_model.specs.Object.{Format, Id, Object, Objects}
 use Rattle.vc_model.specs.Repository.{Repository, Done, no_effect}
 use Rattle.vc_model.specs.Push.{Command as Ordered, Slots}
@@ -29,9 +30,6 @@ did_declined y n e = absurd (cc)
 
 did_fault : (y : Reply) (f : Rattle.vc_model.specs.Node.Failure) → Did y ≡ Fault f → ⊥
 did_fault y f e = absurd (cc)
-
-pub same_some : (m n : Message) → ◌≡◌ {A = Option Message} (Some m) (Some n) → m ≡ n
-same_some m n e = cc
 
 -- ---- a clone
 
@@ -68,7 +66,7 @@ module _ (fmt : Format) (rules : Rules fmt) where
       → Done c.repository deed.effect d.repository → Stays c d IsSent m
   stays c d IsSent m q deed none is of sent done = record {
     same = nothing_done c.repository d.repository (subst (λ e. Done c.repository e d.repository) none done);
-    is_sent = subst IsSent (same_some q m (sym is ∙ sent)) of;
+    is_sent = subst IsSent (same_Some q m (sym is ∙ sent)) of;
   }
 
   abbrev pub IsList : Message → Type 0

@@ -3,7 +3,6 @@ use Rattle.std.proofs.Common.{ℕ, List, Option, Result, Ok, Err}
 use Rattle.std.specs.Global.{Global}
 use Rattle.std.specs.Prelude.{Bool, Vec}
 use Rattle.vc_files.specs.FileMap.{FileMap}
-use Rattle.vc_model.specs.Exchange.{IsUndone}
 use Rattle.vc_model.specs.Message.{Message}
 use Rattle.vc_model.specs.Node.{Answer}
 use Rattle.vc_model.specs.Shared.{SharedNode}
@@ -13,28 +12,17 @@ use Rattle.vc_rules.specs.Git.{git}
 use Rattle.vc_server.specs.Serving.{ServedAs, Serves, ServesOn, StepsOn}
 use Rattle.vc_server.specs.Serving.ServesOn.{at_once as served_at_once, stepped as served_stepped}
 use Rattle.vc_server.specs.Serving.StepsOn.{sent as step_sent, undone as step_undone, further as step_further}
+use Rattle.vc_server.proofs.ServingLemmas.{shared_undone}
 use Rattle.vc_session.specs.Session.{SessionText}
 use Rattle.vc_shared.specs.Faults.{fault_answer}
 use Rattle.vc_shared.specs.Holding.{HoldsShared}
 use Rattle.vc_shared.specs.declared.fault.SharedFault.{SharedFault}
-use Rattle.vc_shared.specs.declared.fault.SharedFault.TheVariants.{Busy, NoSuchSlot, NoValue, Node, NotOurs, Unexpected, Unread}
 use Rattle.vc_world.specs.Chains.{MayServe, MayStep}
 use Rattle.vc_world.specs.Chains.MayServe.{at_once, stepped}
 use Rattle.vc_world.specs.Chains.MayStep.{further, sent, undone}
 use Rattle.vc_world.specs.Exchanging.{AnswersPeer, AskedAs}
 use Rattle.vc_world.specs.declared.peer.Reply.{Reply}
 use Rattle.vc_world.specs.declared.peer.Reply.TheVariants as replies
-use Rattle.vc_world.proofs.FetchRounds.{node_undone}
-
--- a refusal is no deed
-shared_undone : (e : SharedFault) → IsUndone (fault_answer e)
-shared_undone (Unread fault) = tt
-shared_undone (NotOurs id) = tt
-shared_undone Unexpected = tt
-shared_undone Busy = tt
-shared_undone NoSuchSlot = tt
-shared_undone (NoValue refusal) = tt
-shared_undone (Node fault) = node_undone fault
 
 may_step_of : (slot : ℕ) (n t : SharedNode) (a : Answer) (sends : Option Message) → StepsOn slot n a t sends → MayStep git git_rules slot n a t sends
 may_step_of slot n t a sends (step_sent m k) = sent m k

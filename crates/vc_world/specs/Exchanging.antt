@@ -8,6 +8,7 @@ use Rattle.vc_message.specs.AnyMessage.{MessageText}
 use Rattle.vc_message.specs.AnyView.{message_text}
 use Rattle.vc_message.specs.Machine.{IsReport, Reads, TextOf}
 use Rattle.vc_message.specs.Read.{WasRead}
+use Rattle.vc_message.specs.Told.{Quietly, SendsBytes}
 use Rattle.vc_model.specs.Clone.{Awaited, CloneNode}
 use Rattle.vc_model.specs.Exchange.{AreReady, AreUp, IsCaughtUp, IsUndone, MayPush, one_item}
 use Rattle.vc_model.specs.Message.{Message}
@@ -22,7 +23,6 @@ use Rattle.vc_node.specs.Awaited.{IsAwaited}
 use Rattle.vc_node.specs.CloneFaults.{fault_answer}
 use Rattle.vc_node.specs.Held.{Held}
 use Rattle.vc_node.specs.Machine.{HoldsNode}
-use Rattle.vc_node.specs.Told.{Quietly, SendsBytes}
 use Rattle.vc_object.specs.declared.id.ObjectId.{ObjectId}
 use Rattle.vc_push.specs.ReportView.{report_text}
 use Rattle.vc_push.specs.declared.report.Report.{Report as PushReport}

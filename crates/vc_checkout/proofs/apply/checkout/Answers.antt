@@ -13,8 +13,9 @@ use Rattle.vc_checkout.specs.declared.faults.CheckoutFault.TheVariants.{Index}
 use Rattle.vc_checkout.proofs.MakingLemmas.{both_between, first_between}
 use Rattle.vc_checkout.proofs.LeavingLemmas.{between_same}
 use Rattle.vc_checkout.proofs.ApplyLemmas.{old_or_cleared, old_or_written}
-use Rattle.vc_checkout.proofs.ClearLemmas.{if_err, on_err, of_check}
+use Rattle.vc_checkout.proofs.ClearLemmas.{if_err, of_check}
 use Rattle.vc_checkout.proofs.apply.checkout.Goals as goal
+use Rattle.vc_lemmas.proofs.Lists.{on_err}
 
 pub returns-in_err-check_blobs-clause-refused : goal.returns-in_err-check_blobs-clause-refused
 returns-in_err-check_blobs-clause-refused g c = λ stored.

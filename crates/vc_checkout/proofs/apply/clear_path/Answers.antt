@@ -6,8 +6,8 @@ use Rattle.std.specs.Prelude.{IsSome, IsUtf8}
 use Rattle.vc_checkout.specs.Folders.{IsFolder}
 use Rattle.vc_checkout.specs.FoldersAfter.{IsFolderFor, IsLeft}
 use Rattle.vc_checkout.proofs.LeavingLemmas.{between_less, left_as, left_kept, left_unknown, left_was, less_same, still_unless}
-use Rattle.vc_checkout.proofs.ClearLemmas.{on_err}
 use Rattle.vc_checkout.proofs.apply.clear_path.Goals as goal
+use Rattle.vc_lemmas.proofs.Lists.{on_err}
 
 pub returns-in_err-take_out-clause-begun : goal.returns-in_err-take_out-clause-begun
 returns-in_err-take_out-clause-begun g c = λ honest.

@@ -14,8 +14,9 @@ use Rattle.vc_checkout.proofs.BlobLemmas.{no_blame}
 use Rattle.vc_checkout.specs.Folders.{AreFolders, IsAtOrIn, IsFolder}
 use Rattle.vc_checkout.proofs.LeavingLemmas.{kept_removed, keeps_same, moved_folders}
 use Rattle.vc_checkout.proofs.MakingLemmas.{lost_between, put_between, put_file, put_folder, was_or_put}
-use Rattle.vc_checkout.proofs.ClearLemmas.{if_err, on_err}
+use Rattle.vc_checkout.proofs.ClearLemmas.{if_err}
 use Rattle.vc_checkout.proofs.apply.put_in.Goals as goal
+use Rattle.vc_lemmas.proofs.Lists.{on_err}
 
 pub returns-in_err-make_folder-clause-begun : goal.returns-in_err-make_folder-clause-begun
 returns-in_err-make_folder-clause-begun g c = λ honest stored.

@@ -9,9 +9,9 @@ use Rattle.vc_checkout.specs.Folders.{AreFolders, IsFolder}
 use Rattle.vc_checkout.specs.FoldersAfter.{AreBetween}
 use Rattle.vc_checkout.proofs.ApplyLemmas.{step_same, step_removed, left_commit, left_other}
 use Rattle.vc_checkout.proofs.LeavingLemmas.{between_same, kept_removed, kept_same, keeps_same, out_between, out_file, out_folder, out_nothing}
-use Rattle.vc_checkout.proofs.ClearLemmas.{on_err}
 use Rattle.vc_checkout.proofs.apply.take_out.Goals.{then-eq+in_ok-remove_folder, else-eq+in_ok-remove}
 use Rattle.vc_checkout.proofs.apply.take_out.Goals as goal
+use Rattle.vc_lemmas.proofs.Lists.{on_err}
 
 pub returns-in_err-remove_empty_above-clause-begun : goal.returns-in_err-remove_empty_above-clause-begun
 returns-in_err-remove_empty_above-clause-begun g c = λ honest.

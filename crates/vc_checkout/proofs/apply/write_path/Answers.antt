@@ -5,8 +5,8 @@ use Rattle.vc_checkout.specs.CheckedOut.{IsWritten, file_of}
 use Rattle.vc_checkout.proofs.ApplyLemmas.{step_or_none_map, written_due}
 use Rattle.vc_checkout.specs.Folders.{IsFolder}
 use Rattle.vc_checkout.proofs.MakingLemmas.{due_between, due_exact, idle_exact}
-use Rattle.vc_checkout.proofs.ClearLemmas.{on_err}
 use Rattle.vc_checkout.proofs.apply.write_path.Goals as goal
+use Rattle.vc_lemmas.proofs.Lists.{on_err}
 
 pub returns-in_err-put_in-clause-begun : goal.returns-in_err-put_in-clause-begun
 returns-in_err-put_in-clause-begun g c = λ honest stored.

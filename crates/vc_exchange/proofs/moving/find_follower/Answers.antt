@@ -1,11 +1,12 @@
 use Rattle.std.proofs.Common.{rules, ◌≡◌, Bool, true, false, List, ℕ, Option, sym, ap, ◌∙◌, subst}
+use Rattle.std.proofs.lemmas.Option.{same_Some}
 use Rattle.vc_format.specs.Git.{git_is_legal}
 use Rattle.vc_object.specs.declared.id.ObjectId.{ObjectId}
 use Rattle.vc_refs.specs.Refs.{refs}
 use Rattle.vc_session.specs.Verdict.{is_branch}
 use Rattle.vc_store.specs.Store.{objects}
 use Rattle.vc_exchange.specs.Moving.{IsDecided, MayTake, follower}
-use Rattle.vc_exchange.proofs.MovingLemmas.{legal_found, same_follower, undecided}
+use Rattle.vc_exchange.proofs.MovingLemmas.{legal_found, undecided}
 use Rattle.vc_exchange.proofs.moving.find_follower.Goals as goal
 
 pub follower-requires : goal.follower-requires
@@ -17,7 +18,7 @@ pub returns-then-not-branch-clause-found : goal.returns-then-not-branch-clause-f
 returns-then-not-branch-clause-found g c honest whole to may =
     let content = g.F.Files.content c.args.files.now in
     let named : c.in-Some.name ≡ c.args.name.now = (legal_found (git_is_legal c.args.name.now) c.args.name.now c.in-Some.name (sym c.in-Some.is ∙ c.in_ok-name.ensures)).1 in
-    let is : c.in-Some-2.to ≡ to = same_follower c.in-Some-2.to to (sym c.in-Some-2.is ∙ c.in_ok-to.ensures.name ∙ ap (λ (n : List ℕ). follower c.args.followed n) named ∙ may.follows) in
+    let is : c.in-Some-2.to ≡ to = same_Some c.in-Some-2.to to (sym c.in-Some-2.is ∙ c.in_ok-to.ensures.name ∙ ap (λ (n : List ℕ). follower c.args.followed n) named ∙ may.follows) in
     let branch : c.is_branch-is_branch.result ≡ is_branch c.args.name.now = c.is_branch-is_branch.ensures ∙ ap is_branch named in
     let value : c.in_ok-current.current ≡ refs content to = c.in_ok-current.ensures.found honest ∙ ap (refs content) is in
     let takes : MayTake (objects content) c.is_branch-is_branch.result c.in_ok-current.current c.args.id.now =

@@ -1,11 +1,11 @@
-use Rattle.std.proofs.Common.{arith, rules, ◌≡◌, ◌⊎◌, inl, inr, ℕ, zero, suc, ◌+◌, Bool, false, cond, List, [], ◌∷◌, take, drop, refl, sym, ap, subst}
+use Rattle.std.proofs.Common.{arith, rules, ◌≡◌, ◌⊎◌, inl, inr, ℕ, zero, suc, ◌+◌, Bool, false, cond, List, ◌∷◌, take, drop, refl, sym, ap, subst, []}
 use Rattle.std.specs.Prelude.{◌≢◌}
 use Rattle.std.proofs.lemmas.List.{take_all}
 use Rattle.vc_files.proofs.FileMapLemmas.{outside_same, outside_then}
 use Rattle.vc_files.proofs.WearLemmas.{writes_both, writes_told}
 use Rattle.vc_model.specs.Repository.{changed_all}
 use Rattle.vc_session.proofs.CleanLemmas.{bad_same, bad_then}
-use Rattle.vc_session.proofs.SessionLemmas.{wears_told, on_err}
+use Rattle.vc_session.proofs.SessionLemmas.{wears_told}
 use Rattle.vc_session.proofs.UpdateLemmas.{wears_both}
 use Rattle.vc_session.specs.Known.{AreWhole}
 use Rattle.vc_store.specs.Store.{objects}
@@ -14,6 +14,7 @@ use Rattle.vc_exchange.proofs.MovingFronts.{front_moved, more_moved, move_where,
 use Rattle.vc_exchange.proofs.MovingLoops.{front_more, front_next, front_rest, told_of, whole_after}
 use Rattle.vc_exchange.proofs.moving.move_refs.Goals.{then-branch, else-branch}
 use Rattle.vc_exchange.proofs.moving.move_refs.Goals as goal
+use Rattle.vc_lemmas.proofs.Lists.{on_err}
 
 abbrev count : Bool → ℕ
 count moved = cond moved 1 0

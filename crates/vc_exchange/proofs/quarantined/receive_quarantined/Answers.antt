@@ -17,7 +17,6 @@ use Rattle.vc_session.specs.Clean.{MakesNoneBad}
 use Rattle.vc_session.specs.Known.{AreWhole}
 use Rattle.vc_session.specs.Migrating.{IsFrontMigrated, migrated}
 use Rattle.vc_session.specs.declared.known.Known.{Known}
-use Rattle.vc_session.proofs.SessionLemmas.{on_err}
 use Rattle.vc_store.specs.Store.{objects}
 use Rattle.vc_exchange.specs.Faults.{from_store}
 use Rattle.vc_exchange.specs.Moving.{told_in}
@@ -30,6 +29,7 @@ use Rattle.vc_exchange.proofs.PackLemmas.{histories_met, stored_content, stored_
 use Rattle.vc_exchange.proofs.KeptLemmas.{keeps_beside_refs}
 use Rattle.vc_exchange.proofs.QuarantinedLemmas.{all_stored, cut_beside, front_keeps, keeps_beside_slot, migrated_keeps, migration_blames, others_objects, others_refs, others_same, others_slot, others_then, pack_blames, received_beside, received_cut, seen_at, seen_blames, some_stored}
 use Rattle.vc_exchange.proofs.quarantined.receive_quarantined.Goals as goal
+use Rattle.vc_lemmas.proofs.Lists.{on_err}
 
 told_err : {A E : Type 0} (r : Result A E) (e : E) (P : E → Type 0) → r ≡ Err e → P e → IfErr r P
 told_err (Ok a) e P is p = absurd (cc is)

@@ -1,4 +1,4 @@
-use Rattle.std.proofs.Common.{rules, ◌≡◌, inl, inr, List, [], map, take, refl, sym, ap, ◌∙◌, subst}
+use Rattle.std.proofs.Common.{rules, ◌≡◌, inl, inr, List, map, take, refl, sym, ap, ◌∙◌, subst, []}
 use Rattle.vc_fetch.specs.AdvertView.{advert_text}
 use Rattle.vc_files.proofs.WearLemmas.{wears_then, wears_writes, writes_told}
 use Rattle.vc_files.specs.FileMap.{FileMap}
@@ -15,7 +15,6 @@ use Rattle.vc_session.proofs.CleanLemmas.{bad_same}
 use Rattle.vc_session.proofs.UpdateLemmas.{wears_both}
 use Rattle.vc_session.specs.Known.{AreWhole}
 use Rattle.vc_session.specs.declared.known.Known.{Known}
-use Rattle.vc_session.proofs.SessionLemmas.{on_err}
 use Rattle.vc_store.specs.Store.{objects}
 use Rattle.vc_exchange.specs.Deeds.{HoldsHead}
 use Rattle.vc_exchange.specs.Moving.{AreFrontMoved, AreMoved, MovesSome, Told, told_in}
@@ -27,6 +26,7 @@ use Rattle.vc_exchange.proofs.DeedLemmas.{none_received}
 use Rattle.vc_exchange.proofs.MovingLoops.{whole_more, whole_refs}
 use Rattle.vc_exchange.proofs.ReceivingLemmas.{outside_kept, wanting_kept}
 use Rattle.vc_exchange.proofs.receiving.receive_advert.Goals as goal
+use Rattle.vc_lemmas.proofs.Lists.{on_err}
 
 -- of the same refs the same ids are open
 open_at : (r : Repository) (a b : List Told) (xs ys : List ObjectId) → a ≡ b → xs ≡ ys → AreOpenTold r a xs → AreOpenTold r b ys

@@ -22,7 +22,6 @@ use Rattle.vc_session.specs.Carrying.{objects_in}
 use Rattle.vc_session.specs.Clean.{MakesNoneBad}
 use Rattle.vc_session.specs.Known.{AreWhole}
 use Rattle.vc_session.specs.declared.known.Known.{Known}
-use Rattle.vc_session.proofs.SessionLemmas.{on_err}
 use Rattle.vc_store.specs.Store.{objects}
 use Rattle.vc_exchange.specs.Faults.{from_answer, from_store}
 use Rattle.vc_exchange.specs.Moving.{told_in}
@@ -35,6 +34,7 @@ use Rattle.vc_exchange.proofs.PackDeeds.{judge_blames, pack_moving, pack_storing
 use Rattle.vc_exchange.proofs.PackLemmas.{brought_closed, brought_same, histories_met, stored_content, stored_met, stored_outside, stored_since, some_since, whole_after}
 use Rattle.vc_exchange.proofs.KeptLemmas.{keeps_beside_refs, keeps_some, keeps_stored}
 use Rattle.vc_exchange.proofs.receiving.receive_pack.Goals as goal
+use Rattle.vc_lemmas.proofs.Lists.{on_err}
 
 err_same : {A E : Type 0} {e f : E} → ◌≡◌ {A = Result A E} (Err e) (Err f) → e ≡ f
 err_same h = cc

@@ -11,10 +11,10 @@ use Rattle.vc_model.specs.Clone.{refused_reasons}
 use Rattle.vc_push.specs.ReportView.{report_text, told_of}
 use Rattle.vc_push.specs.declared.report.Told.{Told}
 use Rattle.vc_session.proofs.UpdateLemmas.{wears_both}
-use Rattle.vc_session.proofs.SessionLemmas.{on_err}
 use Rattle.vc_exchange.proofs.MovingLoops.{whole_refs}
 use Rattle.vc_exchange.proofs.ReceivingLemmas.{report_changes, report_cut, report_received}
 use Rattle.vc_exchange.proofs.receiving.receive_report.Goals as goal
+use Rattle.vc_lemmas.proofs.Lists.{on_err}
 
 pub returns-in_err-known-clause-wear : goal.returns-in_err-known-clause-wear
 returns-in_err-known-clause-wear g c = writes_told (wears_writes c.in_err-known.ensures.wear (λ _. c.in_err-known.ensures.same)) (search rules) (search rules)

@@ -3,8 +3,8 @@ use Rattle.vc_exchange.proofs.SendingLemmas.{blamed_file, known_long}
 use Rattle.vc_exchange.specs.SendFault.{BlamesRefFile}
 use Rattle.vc_exchange.proofs.sending.known_value.Goals as goal
 
-pub returns-then-as_str-gt-MAX_TRACKED-clause-known : goal.returns-then-as_str-gt-MAX_TRACKED-clause-known
-returns-then-as_str-gt-MAX_TRACKED-clause-known g c honest =
+pub returns-then-as_str-gt-MAX_BRANCH-clause-known : goal.returns-then-as_str-gt-MAX_BRANCH-clause-known
+returns-then-as_str-gt-MAX_BRANCH-clause-known g c honest =
     let long : 246 < length c.args.name.now = search (rules, arith) in
     known_long (g.F.Files.content c.args.files.now) c.args.name.now long
 

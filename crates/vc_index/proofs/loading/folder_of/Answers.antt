@@ -1,8 +1,9 @@
-use Rattle.std.proofs.Common.{rules, ◌≡◌, [], ◌∷◌, ◌++◌, sym, ◌∙◌, ap}
+use Rattle.std.proofs.Common.{rules, ◌≡◌, ◌∷◌, ◌++◌, sym, ◌∙◌, ap, []}
 use Rattle.vc_index.specs.HeldFiles.{under}
 use Rattle.vc_index.proofs.PartLemmas.{under_some}
-use Rattle.vc_index.proofs.ReadLemmas.{not_nothing, nothing}
+use Rattle.vc_index.proofs.ReadLemmas.{nothing}
 use Rattle.vc_index.proofs.loading.folder_of.Goals as goal
+use Rattle.vc_lemmas.proofs.Texts.{not_nothing}
 
 pub returns-then-is_empty : goal.returns-then-is_empty
 returns-then-is_empty c =

@@ -1,10 +1,11 @@
-use Rattle.std.proofs.Common.{rules, ◌≡◌, ◌++◌, ◌∷◌, [], map, sym, ap, ◌∙◌, refl, subst}
+use Rattle.std.proofs.Common.{rules, ◌≡◌, ◌++◌, ◌∷◌, map, sym, ap, ◌∙◌, refl, subst, []}
 use Rattle.std.proofs.lemmas.List.{map-append}
 use Rattle.vc_index.specs.Reading.{AreInOrder, IsReadTo, index_with}
 use Rattle.vc_index.proofs.CollectLemmas.{index_more, order_more}
 use Rattle.vc_index.proofs.MapLemmas.{entries-empty}
-use Rattle.vc_index.proofs.ReadLemmas.{ReadSoFar, all_before, read_nothing, read_more, read_less, read_none, read_bad, not_nothing}
+use Rattle.vc_index.proofs.ReadLemmas.{ReadSoFar, all_before, read_nothing, read_more, read_less, read_none, read_bad}
 use Rattle.vc_index.proofs.reading.read_text.Goals as goal
+use Rattle.vc_lemmas.proofs.Texts.{not_nothing}
 
 pub loop-last-init : goal.loop-last-init
 loop-last-init c = (

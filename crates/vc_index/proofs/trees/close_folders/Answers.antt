@@ -9,10 +9,10 @@ use Rattle.vc_index.specs.FolderTrees.{Fits}
 use Rattle.vc_index.specs.WrittenTrees.{IsOfWrite}
 use Rattle.vc_index.specs.declared.trees.Part.{Part}
 use Rattle.vc_index.proofs.ClosingLemmas.{closes_none, closes_then, inside_last, left_of, handed_on}
-use Rattle.vc_index.proofs.PartLemmas.{all_join}
 use Rattle.vc_index.proofs.StandingLemmas.{closes_stands, stands_then}
 use Rattle.vc_index.proofs.DamageLemmas.{damage_same, damage_then}
 use Rattle.vc_index.proofs.trees.close_folders.Goals as goal
+use Rattle.vc_lemmas.proofs.Lists.{all_append}
 
 pub returns-then-starts_with-clause-inside : goal.returns-then-starts_with-clause-inside
 returns-then-starts_with-clause-inside g c =
@@ -54,7 +54,7 @@ pub returns-in_err-close_folder-clause-refused : goal.returns-in_err-close_folde
 returns-in_err-close_folder-clause-refused g c = λ m trees rest n fits b.
     let first = c.loop-last.invariant.closes m trees rest n b in
     handed_on (IsOfWrite m (λ (id : ObjectId). g.F.Files.honest → IsDamaged (g.F.Files.content c.close_folder.new.files) id)) c.in_err-close_folder.field-0.0 c.from_residual.result c.from_residual.ensures.1
-    (c.in_err-close_folder.ensures.refused m (trees ++ first.more) rest (left_of c.args.next.now c.in-Some.last.now.folder.now rest n (sym c.starts_with.ensures.value ∙ c.if-starts_with.false)) (all_join Fits trees first.more fits first.fits) first.building)
+    (c.in_err-close_folder.ensures.refused m (trees ++ first.more) rest (left_of c.args.next.now c.in-Some.last.now.folder.now rest n (sym c.starts_with.ensures.value ∙ c.if-starts_with.false)) (all_append Fits trees first.more fits first.fits) first.building)
 
 pub returns-clause-stands : goal.returns-clause-stands
 returns-clause-stands g c = λ m trees rest n b. closes_stands g.F.Files.honest m rest trees c.loop-last.parts.items (objects (g.F.Files.content c.args.files.now)) (objects (g.F.Files.content c.loop-last.files)) (c.loop-last.invariant.closes m trees rest n b)

@@ -1,10 +1,11 @@
-use Rattle.std.proofs.Common.{arith, rules, ℕ, ◌<◌, ◌≡◌, [], ◌∷◌, List, refl, length, drop, get_or, take, ap, sym, ◌∙◌, subst, ◌⊎◌, inl, inr}
+use Rattle.std.proofs.Common.{arith, rules, ℕ, ◌<◌, ◌≡◌, ◌∷◌, List, refl, length, drop, get_or, take, ap, sym, ◌∙◌, subst, ◌⊎◌, inl, inr, []}
 use Rattle.std.specs.Prelude.{◌≢◌}
 use Rattle.std.proofs.lemmas.List.Elements.{Contains-get_or}
 use Rattle.std.proofs.lemmas.List.{take-append-drop, take_all, take_more}
 use Rattle.vc_files.proofs.FileMapLemmas.{outside_same, outside_then}
 use Rattle.vc_files.proofs.WearLemmas.{writes_both, writes_told}
 use Rattle.vc_files.specs.FileMap.{FileMap}
+use Rattle.vc_lemmas.proofs.Lists.{on_err}
 use Rattle.vc_object.specs.declared.id.ObjectId.{ObjectId}
 use Rattle.vc_store.specs.Store.{objects}
 use Rattle.vc_store.specs.declared.faults.StoreFault.{StoreFault}
@@ -14,7 +15,6 @@ use Rattle.vc_session.proofs.DamageLemmas.{blames_before}
 use Rattle.vc_session.specs.Migrating.{IsFrontMigrated, migrated}
 use Rattle.vc_session.proofs.MigratingLemmas.{migrated_more, migrated_none}
 use Rattle.vc_session.proofs.migrating.migrate.Goals as goal
-use Rattle.vc_session.proofs.SessionLemmas.{on_err}
 
 not_below : (ids : List ObjectId) (place : ℕ) → ids ≡ [] → place < length ids → ⊥
 not_below [] place none within = absurd (omega (arith, within))

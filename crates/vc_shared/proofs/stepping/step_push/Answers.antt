@@ -2,8 +2,8 @@ use Rattle.std.proofs.Common.{⊎_elim, inl, inr, rules, Some, refl, subst}
 use Rattle.vc_files.proofs.WearLemmas.{wears_then, wears_writes, writes_told}
 use Rattle.vc_files.specs.FileMap.{FileMap}
 use Rattle.vc_files.specs.declared.faults.Fault.TheVariants.{Memory}
+use Rattle.vc_lemmas.proofs.Lists.{on_err}
 use Rattle.vc_node.proofs.LookLemmas.{looks_then}
-use Rattle.vc_session.proofs.SessionLemmas.{on_err}
 use Rattle.vc_session.specs.declared.fault.SessionFault.TheVariants as session
 use Rattle.vc_shared.specs.Faults.{of_device}
 use Rattle.vc_shared.specs.Stepping.{EndsSlotEarly, IsRefusedIn, MayWriteIn}

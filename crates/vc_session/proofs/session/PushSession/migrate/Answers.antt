@@ -1,4 +1,5 @@
 use Rattle.std.proofs.Common.{rules, ◌≡◌, ◌⊎◌, ℕ, List, ap, ◌∙◌, subst}
+use Rattle.vc_lemmas.proofs.Lists.{on_err}
 use Rattle.vc_object.specs.declared.id.ObjectId.{ObjectId}
 use Rattle.vc_store.specs.Store.{objects}
 use Rattle.vc_session.specs.Migrating.{migrated}
@@ -8,7 +9,7 @@ use Rattle.vc_session.specs.SessionFault.{BlamesMigration, IsRefusedStep, from_s
 use Rattle.vc_session.specs.Steps.{EndsEarly}
 use Rattle.vc_session.specs.declared.stage.Stage.TheVariants.{Checked, Migrated}
 use Rattle.vc_session.proofs.FrameLemmas.{front-some, migrated-all}
-use Rattle.vc_session.proofs.SessionLemmas.{on_err, refused_migration}
+use Rattle.vc_session.proofs.SessionLemmas.{refused_migration}
 use Rattle.vc_session.proofs.NumberLemmas.{agreement_front, agreement_migrated}
 use Rattle.vc_session.proofs.session.PushSession.migrate.Goals as goal
 
