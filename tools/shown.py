@@ -16,6 +16,9 @@ CITED = re.compile(r"\b(\w+)(?:\.|::)(specs|proofs)\b((?:(?:\.|::)\w+)*)")
 TOKEN = re.compile(r"\w+|[^\w\s]")
 # A path of a source.
 PATH = re.compile(r"\w+(?:::\w+)+")
+# A number that specs give a name, and an import of definitions.
+NUMBER = re.compile(r"^abbrev pub (\w+) : ℕ\n\1 = (\d+)$", re.M)
+DEFINITIONS = re.compile(r"^( *(?:ghost )?use )(Rattle\.\w+\.specs\.[\w.]+)\.\{(.*)\}(;?)$", re.M)
 # How a definition or a lemma begins, by its name, perhaps in a module with parameters; and a line that is of none.
 DEFINED = re.compile(r" *(?:(?:pub|abbrev|unfoldable|opaque) )*(\S+) :(?: |$)|(?:pub )?(?:record|data) (\S+)")
 NOT_DEFINED = re.compile(r"(?:pub )?(?:use|mod|module|infix\w*) ")
@@ -129,6 +132,40 @@ def without_bodies(path, text):
         if function.last > function.body and not re.match(r" *(?:pub(?:\([^)]*\))? )?const fn", lines[function.head - 1]):
             lines[function.body : function.last - 1] = [""] * (function.last - 1 - function.body)
     return "\n".join(lines)
+
+
+@functools.cache
+def numbers_of(folder):
+    """The numbers that a crate's specs give names, by module and name."""
+    found = {}
+    for file in files_below(f"{folder}/specs"):
+        with open(file, encoding="utf-8") as it:
+            module = ".".join(os.path.relpath(file, f"{folder}/specs")[: -len(".antt")].split("/"))
+            found.update({(module, name): number for name, number in NUMBER.findall(without_comments(it.read()))})
+    return found
+
+
+def with_numbers(crate, path, text, whole=""):
+    """A text in which each name that it imports of specs, or defines there, for a number is that number: the name is an abbreviation, and
+    the prover sees none of it. The text may be a part of the whole, which has its imports."""
+    folders = {it.name: it.folder for it in [*crate.below(), crate]}
+    brought = dict(NUMBER.findall(text)) if path.startswith("specs/") else {}
+
+    def import_of(it):
+        _, name, _, module = it[2].split(".", 3)
+        numbers = numbers_of(folders[name]) if name in folders else {}
+        names = it[3].split(", ")
+        brought.update({word: numbers[module, word] for word in names if (module, word) in numbers})
+        left = [word for word in names if (module, word) not in numbers]
+        return f"{it[1]}{it[2]}.{{{', '.join(left)}}}{it[4]}" if left else ""
+
+    DEFINITIONS.sub(import_of, whole)
+    text = DEFINITIONS.sub(import_of, text)
+    if brought:
+        # (a definition stays, for who names it behind its module)
+        names = rf"{NUMBER.pattern}|\b({'|'.join(brought)})\b"
+        text = re.sub(names, lambda it: brought[it[3]] if it[3] else it[0], text, flags=re.M)
+    return "\n".join(it for it in text.split("\n") if it)
 
 
 def module_of(crate, path):
@@ -405,7 +442,7 @@ def parts_of(crate, part):
     for file in files_below(f"{crate.folder}/{part}"):
         path = os.path.relpath(file, crate.folder)
         text = text_of(crate, path)
-        text = without_comments(without_bodies(path, text) if path.endswith(".rt") else text)
+        text = with_numbers(crate, path, without_comments(without_bodies(path, text) if path.endswith(".rt") else text))
         if text:
             yield path, text
 
@@ -441,6 +478,8 @@ class Reach:
     """What texts of some crates lead to in them. Each piece waits behind a word that it needs, until that is said."""
 
     def __init__(self, crates):
+        # (the files may be others than at the last time)
+        numbers_of.cache_clear()
         self.shown = {}
         self.behind, self.always = {}, {}
         for crate in crates:
@@ -509,6 +548,8 @@ def hash_of(logic, crate, edit, function, reach):
     parts = {path: without_comments(text) for path, text in parts_for(crate, edit, function).items()}
     # (what an edit writes is said in the file that it edits)
     places = {path: path if path.startswith(("src/", "proofs/")) or not function else function.file for path in parts}
+    wholes = {path: text_of(crate, places[path]) if places[path].startswith("src/") else "" for path in parts}
+    parts = {path: with_numbers(crate, path, text, wholes[path]) for path, text in parts.items()}
     led = set().union(*(leads_of(crate, places[path], text) for path, text in parts.items()))
     texts = {*reach.texts(crate, led), *((crate.name, path, text) for path, text in parts.items())}
     names = {crate.name, *(name for name, _, _ in texts)}

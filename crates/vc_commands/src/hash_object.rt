@@ -1,7 +1,7 @@
 //! The subcommand `hash-object`: the name of a body that comes from a file or a stream.
 ghost use Rattle.std.specs.Prelude.{◌≡◌, ◌≤◌, ◌⊎◌, IfSome, IfOk, IfErr, IsOk, OnErr, OnOk};
 ghost use Rattle.std.specs.Io.KnownBytes.{Appends, Keeps};
-ghost use Rattle.vc_object.specs.Object.{object_name, IsObject};
+ghost use Rattle.vc_object.specs.Object.{object_name, IsObject, max_body};
 ghost use Rattle.vc_object.specs.ObjectFault.{BodyFault};
 ghost use Rattle.vc_object.specs.declared.kind.Kind.TheVariants.{Blob};
 ghost use Rattle.vc_commands.specs.Failure.{IsFault};
@@ -153,7 +153,7 @@ fn name_blob<I: Read + Drop, O: Write>(
     length: usize,
     output: &mut O,
 ) -> Result<(), Failure>
-    requires { length ≤ 16777216 }
+    requires { length ≤ max_body }
     ensures printed { OnOk result (IfSome (I.remaining stream) (λ body. Appends (O.contents output.old) (O.contents output.new) (id_line (object_name Blob body)))) }
     ensures legal { OnOk result (IfSome (I.remaining stream) (λ body. IsObject Blob body)) }
     ensures fault { IfErr result IsFault }

@@ -1,5 +1,6 @@
 //! Bodies of objects, read from a stream or a file.
 ghost use Rattle.std.specs.Prelude.{◌≡◌, take, IfOk, IfSome, IfErr};
+ghost use Rattle.vc_object.specs.Object.{oversize};
 ghost use Rattle.vc_commands.specs.Failure.{IsFault};
 
 use crate::failure::{Failure, fault_of};
@@ -26,7 +27,7 @@ pub fn read_body<I: Read + Drop>(
     stream: I,
     expected: usize,
 ) -> Result<Vec<u8>, Failure>
-    ensures front { IfOk result (λ body. IfSome (I.remaining stream) (λ bytes. body.items ≡ take 16777217 bytes)) }
+    ensures front { IfOk result (λ body. IfSome (I.remaining stream) (λ bytes. body.items ≡ take oversize bytes)) }
     ensures fault { IfErr result IsFault }
 {
     let body = read_front(alloc, stream, LONGEST, expected)?;

@@ -9,6 +9,7 @@ use Rattle.vc_model.specs.Node.{Answer, Failure, Reply}
 use Rattle.vc_model.specs.Node.Answer.{Declined, Did, Fault}
 use Rattle.vc_model.specs.Node.Failure.{Device, Memory}
 use Rattle.vc_model.specs.Node.Reply.{Differs, Made, MigratedAll, Moved, Opened, Passed, Reported, Same, Sends, Stored, Updated}
+use Rattle.vc_model.specs.Shared.{slot_count}
 use Rattle.vc_rules.specs.Verdicts.{machine_reason}
 use Rattle.vc_events.specs.declared.answers.Answer.{Answer as WorldAnswer}
 use Rattle.vc_events.specs.declared.answers.Answer.TheVariants as answer
@@ -43,7 +44,7 @@ answer_of (ended.Fault f) = Fault (failure_of f)
 
 -- there are eight slots
 abbrev pub IsOfSlots : Deed → Type 0
-IsOfSlots (deed.Opened k) = k < 8
+IsOfSlots (deed.Opened k) = k < slot_count
 IsOfSlots _ = Unit {0}
 
 -- What a node says is the machine's answer and what it sends.

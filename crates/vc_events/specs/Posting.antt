@@ -12,6 +12,7 @@ use Rattle.vc_events.specs.declared.answers.Told.{Told}
 use Rattle.vc_events.specs.declared.answers.Told.TheVariants as told
 use Rattle.vc_events.specs.declared.letters.Letter.{Letter}
 use Rattle.vc_events.specs.declared.letters.Letter.TheVariants as letter
+use Rattle.vc_model.specs.Shared.{slot_count}
 
 abbrev pub to_shared : ℕ → Vec ℕ Global → Letter
 to_shared c bytes = letter.ToShared c bytes
@@ -36,7 +37,7 @@ PostsTold to (Err e) old new a = PostsNone (of_end e) old new a
 
 -- the clone whose push was opened in each slot last, where this clone's may have been opened now
 abbrev pub senders_done : ℕ → Deed → List ℕ → List ℕ
-senders_done c (deed.Opened k) senders = if nat_lt k 8 then set senders k c else senders
+senders_done c (deed.Opened k) senders = if nat_lt k slot_count then set senders k c else senders
 senders_done c _ senders = senders
 
 abbrev pub senders_told : ℕ → Result Told Ended → List ℕ → List ℕ

@@ -17,6 +17,7 @@ use Rattle.vc_refs.specs.declared.faults.RefFault.TheVariants as of_refs
 use Rattle.vc_store.specs.Store.{objects, IsDamaged}
 use Rattle.vc_store.specs.declared.faults.StoreFault.{StoreFault}
 use Rattle.vc_store.specs.declared.faults.StoreFault.TheVariants as of_store
+use Rattle.vc_push.specs.Push.{max_commands}
 
 -- what lower layers refuse, told here; a fault is told as one
 abbrev pub from_store : StoreFault → SendFault
@@ -60,8 +61,8 @@ IsRefusedSend content ids (Fault fault) = ⊤
 
 -- why a push of these items is not sent: there are too many, or that
 abbrev pub IsRefusedPush : FileMap → List PushItem → SendFault → Type 0
-IsRefusedPush content items TooMany = 256 < length items
-IsRefusedPush content items (Missing id) = (length items ≤ 256) × IsRefusedSend content (item_ids items) (Missing id)
+IsRefusedPush content items TooMany = max_commands < length items
+IsRefusedPush content items (Missing id) = (length items ≤ max_commands) × IsRefusedSend content (item_ids items) (Missing id)
 IsRefusedPush content items (Refs fault) = IsRefusedSend content (item_ids items) (Refs fault)
 IsRefusedPush content items (Graph fault) = IsRefusedSend content (item_ids items) (Graph fault)
 IsRefusedPush content items (Fault fault) = ⊤

@@ -20,12 +20,13 @@ use Rattle.vc_model.specs.Repository.{IsSound, Repository}
 use Rattle.vc_rules.proofs.GitLaws.{git_rules}
 use Rattle.vc_rules.specs.Git.{git}
 use Rattle.vc_rules.specs.OpenPushes.{HoldsContent}
+use Rattle.vc_push.specs.Push.{max_commands}
 
 -- The machine's message, where nothing refuses the push: the bytes are how it is written.
 pub record IsSentPush (r : Repository) (items : List machine.PushItem) (bytes : List ℕ) : Type 0 where
   pub commands : List Command
   pub objects : Objects
-  pub few : length items ≤ 256
+  pub few : length items ≤ max_commands
   pub complete : (x : Id) → IsItemId items x → IsClosed git (stored r.objects) x
   pub commands_are : AreCommandsFor r.refs items commands
   pub objects_are : IsDifference git r.objects (IsItemId items) (IsTrackingValue r.refs) objects

@@ -8,6 +8,7 @@ ghost use Rattle.vc_files.specs.Failures.{Wears};
 ghost use Rattle.vc_graph.specs.Complete.{AreComplete, AreCompleteBeyond};
 ghost use Rattle.vc_object.specs.Lines.{IsId};
 ghost use Rattle.vc_store.specs.Store.{objects};
+ghost use Rattle.vc_fetch.specs.Want.{max_ids};
 
 use crate::ExchangeFault;
 use indexmap::IndexSet;
@@ -69,7 +70,7 @@ pub(crate) fn open_ids<F: Files>(
 
 /// The first of the ids, as many as a message may name. The caller learns that each is twenty bytes.
 pub(crate) fn first_ids(alloc: Global, ids: &[ObjectId]) -> Result<Vec<ObjectId>, AllocError>
-    ensures first { IfOk result (λ first. first.items ≡ take 256 ids.now) }
+    ensures first { IfOk result (λ first. first.items ≡ take max_ids ids.now) }
     ensures ids { IfOk result (λ first. AllByRecursion IsId first.items) }
 {
     let count = ids.len().min(MAX_IDS);
@@ -83,7 +84,7 @@ pub(crate) fn first_ids(alloc: Global, ids: &[ObjectId]) -> Result<Vec<ObjectId>
 // The values of the refs in order of their names, then HEAD's, each once, the first 256.
 fn haves<F: Files>(files: &mut F, alloc: Global) -> Result<Vec<ObjectId>, ExchangeFault>
     ensures haves { F.honest → IfOk result (λ ids. AreHaves (F.content files.old) ids.items) }
-    ensures few { IfOk result (λ ids. length ids.items ≤ 256) }
+    ensures few { IfOk result (λ ids. length ids.items ≤ max_ids) }
     ensures ids { IfOk result (λ ids. AllByRecursion IsId ids.items) }
     ensures refused { F.honest → IfErr result (BlamesWanting (F.content files.old)) }
     ensures same { F.content files.new ≡ F.content files.old }
@@ -108,7 +109,7 @@ pub(crate) fn want_message<F: Files>(
     wants: &[ObjectId],
 ) -> Result<Vec<u8>, ExchangeFault>
     requires some { wants.now ≢ [] }
-    requires few { length wants.now ≤ 256 }
+    requires few { length wants.now ≤ max_ids }
     ensures written { F.honest → AsksFor (F.content files.old) wants.now result }
     ensures refused { F.honest → IfErr result (BlamesWanting (F.content files.old)) }
     ensures same { F.content files.new ≡ F.content files.old }

@@ -129,12 +129,16 @@ abbrev pub IsHeadId : Option ObjectId → Type 0
 IsHeadId None = Unit {0}
 IsHeadId (Some id) = IsId id
 
+-- the most bytes of a name that fits in a line with its id and the capabilities
+abbrev pub max_listed : ℕ
+max_listed = 65457
+
 -- the name of a ref, which fits in a line with the capabilities
 pub record IsWrittenRef (ref : Ref) : Type 0 where
   pub name : IsName ref.0
   pub counts : is_ref ref.0 ≡ true
   pub id : IsId ref.1
-  pub short : length ref.0 ≤ 65457
+  pub short : length ref.0 ≤ max_listed
 
 -- an advertisement that is read as it was written
 pub record IsWrittenAdvert (advert : AdvertText) : Type 0 where
@@ -143,7 +147,7 @@ pub record IsWrittenAdvert (advert : AdvertText) : Type 0 where
 
 -- each name fits in a line with the capabilities
 abbrev pub HasShortNames : AdvertText → Type 0
-HasShortNames advert = AllByRecursion (λ (ref : Ref). length ref.0 ≤ 65457) (entries advert.refs)
+HasShortNames advert = AllByRecursion (λ (ref : Ref). length ref.0 ≤ max_listed) (entries advert.refs)
 
 -- ---- line by line
 -- what stands before the first NUL, or all

@@ -7,6 +7,10 @@ use Rattle.vc_pkt.specs.Message.{Stepped, complete, Steps, IsOwnFault}
 use Rattle.vc_pkt.specs.declared.fault.PktFault.{PktFault}
 use Rattle.vc_pkt.specs.declared.fault.PktFault.TheVariants.{BadRecord}
 
+-- the most bytes of a text that fits in a line behind `ERR`
+abbrev pub max_words : ℕ
+max_words = 65511
+
 pub record SpellsError (words : List ℕ) (lines : List LineText) : Type 0 where
   pub first : List ℕ
   pub spelled : without_lf first ≡ codes "ERR " ++ words

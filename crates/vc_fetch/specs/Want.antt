@@ -13,6 +13,10 @@ use Rattle.vc_pkt.specs.declared.fault.PktFault.{PktFault}
 use Rattle.vc_pkt.specs.declared.fault.PktFault.TheVariants.{BadRecord, TooMany}
 use Rattle.vc_fetch.specs.Ids.{IsIdLine, IsFirstIdLine, id_line, first_id_line}
 
+-- own: the most ids that are wanted, and the most that are there
+abbrev pub max_ids : ℕ
+max_ids = 256
+
 pub record WantText : Type 0 where
   pub wants : List ObjectId
   pub haves : List ObjectId
@@ -37,8 +41,8 @@ pub record SpellsWant (want : WantText) (lines : List LineText) : Type 0 where
   pub wanted : AreIdLines (codes "want ") ids others
   pub held : AreIdLines (codes "have ") want.haves there
   pub ends : without_lf last ≡ codes "done"
-  pub few_wants : length want.wants ≤ 256
-  pub few_haves : length want.haves ≤ 256
+  pub few_wants : length want.wants ≤ max_ids
+  pub few_haves : length want.haves ≤ max_ids
   pub whole : lines ≡ text first ∷ (others ++ flush ∷ (there ++ text last ∷ []))
 
 -- how it is written
@@ -50,8 +54,8 @@ want_lines want = map (written_id (codes "want ")) want.wants ++ flush ∷ (map 
 
 pub record IsWrittenWant (want : WantText) : Type 0 where
   pub some : 0 < length want.wants
-  pub few_wants : length want.wants ≤ 256
-  pub few_haves : length want.haves ≤ 256
+  pub few_wants : length want.wants ≤ max_ids
+  pub few_haves : length want.haves ≤ max_ids
   pub wants : AllByRecursion IsId want.wants
   pub haves : AllByRecursion IsId want.haves
 
@@ -63,7 +67,7 @@ pub data WantState : Type 0 where
 -- one more id, where there are fewer than 256
 abbrev pub one_more : ℕ → List ObjectId → Option ObjectId → (List ObjectId → WantState) → Result (Stepped WantState WantText) PktFault
 one_more number ids None next = Err (BadRecord number)
-one_more number ids (Some id) next = if nat_lt (length ids) 256 then Ok (onward (next (ids ++ id ∷ []))) else Err TooMany
+one_more number ids (Some id) next = if nat_lt (length ids) max_ids then Ok (onward (next (ids ++ id ∷ []))) else Err TooMany
 
 -- the id of a want's line, which is the first where no id came before
 abbrev pub want_id : List ObjectId → List ℕ → Option ObjectId
@@ -85,7 +89,7 @@ want_step number (having wants haves) (text line) =
 
 one_more_own : (number : ℕ) (ids : List ObjectId) (found : Option ObjectId) (next : List ObjectId → WantState) → IsOwnFault (one_more number ids found next)
 one_more_own number ids None next = tt
-one_more_own number ids (Some id) next = either_own (nat_lt (length ids) 256) _ _ tt tt
+one_more_own number ids (Some id) next = either_own (nat_lt (length ids) max_ids) _ _ tt tt
 
 wants_end_own : (number : ℕ) (wants : List ObjectId) → IsOwnFault (wants_end number wants)
 wants_end_own number [] = tt

@@ -7,7 +7,7 @@ ghost use Rattle.std.specs.Option.{option_map};
 ghost use Rattle.vc_pkt.specs.Line.{spelling};
 ghost use Rattle.vc_pkt.specs.Message.{onward, IsSpelledBy, Refuses};
 ghost use Rattle.vc_pkt.specs.StepView.{Gives};
-ghost use Rattle.vc_fetch.specs.Advert.{AdvertText, HasShortNames, RefIds, SpellsAdvert, advert_lines, advert_of, advert_step, advert_step_own, before_nul, is_break, is_name, is_ref, no_refs, one_more_ref, or_no_refs, ref_line, ref_lines, with_ref, written_ref};
+ghost use Rattle.vc_fetch.specs.Advert.{AdvertText, HasShortNames, RefIds, SpellsAdvert, advert_lines, advert_of, advert_step, advert_step_own, before_nul, is_break, is_name, is_ref, no_refs, one_more_ref, or_no_refs, ref_line, ref_lines, with_ref, written_ref, max_listed};
 ghost use Rattle.vc_fetch.specs.AdvertView.{advert_state, advert_text, ref_ids};
 
 use crate::ids::id_of;
@@ -189,7 +189,7 @@ fn write_refs(
     tail: &[u8],
     refs: &BTreeMap<Vec<u8>, ObjectId>,
 ) -> Result<(), AllocError>
-    requires short { AllByRecursion (λ ref. length ref.0 ≤ 65457) (entries (ref_ids refs.now)) }
+    requires short { AllByRecursion (λ ref. length ref.0 ≤ max_listed) (entries (ref_ids refs.now)) }
     requires tail { length tail.now ≤ 17 }
     ensures { OnOk result (out.new.items ≡ out.old.items ++ flat_map spelling (ref_lines tail.now (entries (ref_ids refs.now)))) }
 {
@@ -206,7 +206,7 @@ fn write_refs_or_none(
     out: &mut Vec<u8>,
     refs: &BTreeMap<Vec<u8>, ObjectId>,
 ) -> Result<(), AllocError>
-    requires short { AllByRecursion (λ ref. length ref.0 ≤ 65457) (entries (ref_ids refs.now)) }
+    requires short { AllByRecursion (λ ref. length ref.0 ≤ max_listed) (entries (ref_ids refs.now)) }
     ensures { OnOk result (out.new.items ≡ out.old.items ++ flat_map spelling (ref_lines (0 ∷ codes "report-status-v2") (or_no_refs (entries (ref_ids refs.now))))) }
 {
     if refs.is_empty() {
@@ -231,7 +231,7 @@ impl Advert {
     pub fn set(&mut self, alloc: Global, name: &[u8], id: ObjectId) -> Result<(), AllocError>
         ensures ok { OnOk result (advert_text self.new ≡ with_ref (advert_text self.old) name.now id) }
         ensures err { OnErr result (advert_text self.new ≡ advert_text self.old) }
-        ensures short { length name.now ≤ 65457 → HasShortNames (advert_text self.old) → HasShortNames (advert_text self.new) }
+        ensures short { length name.now ≤ max_listed → HasShortNames (advert_text self.old) → HasShortNames (advert_text self.new) }
     {
         self.refs.insert(name.to_vec(alloc)?, id)?;
         Ok(())

@@ -5,7 +5,7 @@ ghost use Rattle.std.specs.List.{flat_map};
 ghost use Rattle.vc_pkt.specs.Line.{spelling};
 ghost use Rattle.vc_pkt.specs.Message.{IsSpelledBy, Refuses};
 ghost use Rattle.vc_pkt.specs.StepView.{Gives};
-ghost use Rattle.vc_fetch.specs.ErrorMessage.{SpellsError, error_step, error_step_own, error_lines};
+ghost use Rattle.vc_fetch.specs.ErrorMessage.{SpellsError, error_step, error_step_own, error_lines, max_words};
 
 use std::alloc::{AllocError, Global};
 use vc_pkt::{Line, MessageReader, PktError, PktFault, Step, read_message, without_lf, write_text};
@@ -71,7 +71,7 @@ impl Error {
 
     /// The message as it is written.
     pub fn write(&self, alloc: Global) -> Result<Vec<u8>, AllocError>
-        requires short { vec_len self.now.text ≤ 65511 }
+        requires short { vec_len self.now.text ≤ max_words }
         ensures { IfOk result (λ bytes. bytes.items ≡ flat_map spelling (error_lines self.now.text.items)) }
     {
         let mut words = Vec::new(alloc);

@@ -6,7 +6,7 @@ ghost use Rattle.std.specs.List.{flat_map};
 ghost use Rattle.vc_pkt.specs.Line.{spelling};
 ghost use Rattle.vc_pkt.specs.Message.{IsSpelledBy};
 ghost use Rattle.vc_fetch.specs.ListMessage.{list, SpellsList, list_lines};
-ghost use Rattle.vc_fetch.specs.ErrorMessage.{SpellsError, error_lines};
+ghost use Rattle.vc_fetch.specs.ErrorMessage.{SpellsError, error_lines, max_words};
 ghost use Rattle.vc_fetch.specs.Advert.{AdvertText, IsWrittenAdvert, SpellsAdvert, advert_lines};
 ghost use Rattle.vc_fetch.specs.Want.{WantText, IsWrittenWant, SpellsWant, want_lines};
 ghost use Rattle.vc_fetch.specs.Pack.{PackText, IsWrittenPack, SpellsPack, pack_lines};
@@ -18,7 +18,7 @@ pub fn written_list_is_read()
 
 /// A written error message is read as that message.
 pub fn written_error_is_read()
-    ensures { (words : List ℕ) → length words ≤ 65511 → IsSpelledBy SpellsError words (flat_map spelling (error_lines words)) }
+    ensures { (words : List ℕ) → length words ≤ max_words → IsSpelledBy SpellsError words (flat_map spelling (error_lines words)) }
 {}
 
 /// A written want message is read as that message.

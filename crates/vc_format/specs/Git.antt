@@ -9,7 +9,7 @@ use Rattle.vc_object.specs.declared.kind.Kind.TheVariants as kinds
 use Rattle.vc_object.specs.Object.{object_name}
 use Rattle.vc_object.specs.Links.{links_of, parents_of}
 use Rattle.vc_object.specs.Commit.{CommitText, commit_bytes}
-use Rattle.vc_refname.specs.RefName.{is_ref_name}
+use Rattle.vc_refname.specs.RefName.{is_ref_name, max_branch}
 use Rattle.vc_model.specs.Object.{Id, Kind, Object, IsLine}
 use Rattle.vc_model.specs.Object.Kind.{Blob, Tree, Commit, Tag}
 
@@ -38,7 +38,7 @@ git_parents o = map bytes_of_id (unwrap_or (parents_of (kind_of o.kind) o.body) 
 -- The name of a branch has at most 246 bytes, so that its tracking name has at most 255.
 abbrev pub git_is_legal : List ℕ → Bool
 git_is_legal text =
-    is_utf8 text && (is_ref_name text && (not (starts_with nat_eq text (codes "refs/heads/")) || nat_le (length text) 246))
+    is_utf8 text && (is_ref_name text && (not (starts_with nat_eq text (codes "refs/heads/")) || nat_le (length text) max_branch))
 
 -- The rest of a commit that is made here: an empty line, the message, and LF.
 abbrev pub commit_text : Id → List Id → List ℕ → List ℕ → List ℕ → CommitText

@@ -4,7 +4,7 @@ use Rattle.std.specs.Prelude.{◌≡◌, ◌≢◌, ◌≤◌, ◌<◌, ◌⊎�
 use Rattle.std.specs.FinMap.{get}
 use Rattle.std.specs.List.{AllByRecursion}
 use Rattle.vc_object.specs.Bytes.{Without}
-use Rattle.vc_object.specs.Object.{object_name}
+use Rattle.vc_object.specs.Object.{object_name, max_body}
 use Rattle.vc_object.specs.Tree.{Entry, HasName, IsTree, spelling}
 use Rattle.vc_object.specs.declared.id.ObjectId.{ObjectId}
 use Rattle.vc_object.specs.declared.kind.Kind.TheVariants as kinds
@@ -54,7 +54,7 @@ pub record AreIndexTrees (files : IndexMap) (trees : List (List Entry)) (root : 
 
 -- the tree's spelling has 16,777,216 bytes at most
 abbrev pub Fits : List Entry → Type 0
-Fits entries = length (spelling entries) ≤ 16777216
+Fits entries = length (spelling entries) ≤ max_body
 
 -- each of the trees fits
 abbrev pub AllFit : List (List Entry) → Type 0
@@ -74,7 +74,7 @@ pub record IsFirstLarge (files : IndexMap) (entries : List Entry) : Type 0 where
   pub root : List Entry
   pub listed : AreIndexTrees files (before ++ entries ∷ after) root
   pub fits : AllFit before
-  pub large : 16777216 < length (spelling entries)
+  pub large : max_body < length (spelling entries)
 
 -- the id is that of one of the index's trees, which fits, as each before it does
 pub record IsIndexTree (files : IndexMap) (id : ObjectId) : Type 0 where

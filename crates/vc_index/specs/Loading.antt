@@ -12,6 +12,7 @@ use Rattle.vc_object.specs.declared.kind.Kind.{Kind}
 use Rattle.vc_object.specs.declared.kind.Kind.TheVariants as kinds
 use Rattle.vc_object.specs.declared.mode.Mode.{Mode}
 use Rattle.vc_object.specs.declared.mode.Mode.TheVariants as modes
+use Rattle.vc_object.specs.Object.{max_body}
 use Rattle.vc_store.specs.Store.{objects, IsDamaged}
 use Rattle.vc_store.specs.StoreFault.{IsRefused}
 use Rattle.vc_store.specs.declared.faults.StoreFault.{StoreFault}
@@ -25,6 +26,7 @@ use Rattle.vc_index.specs.declared.faults.IndexFault.TheVariants.{BadPath, PathC
 use Rattle.vc_index.specs.declared.loading.Item.{Item}
 use Rattle.vc_index.specs.declared.loading.Look.{Look}
 use Rattle.vc_index.specs.declared.loading.Look.TheVariants as looks
+use Rattle.vc_index.specs.Path.{max_path}
 
 -- the names lead from these entries through folders to an entry
 abbrev pub ReachesEntry : ObjectMap → List Entry → List (List ℕ) → Mode → ObjectId → Type 0
@@ -75,7 +77,7 @@ IsOfLoadStored honest content root (Fault fault) = ⊤
 -- why a tree was not read: an entry's path is too long, an entry that is looked at names an object of another kind, its
 -- object is absent or the file of that is damaged, or a fault
 abbrev pub IsOfLoadIn : Look → Type 0 → FileMap → ObjectId → IndexFault → Type 0
-IsOfLoadIn look honest content root BadPath = honest → (path : List ℕ) × (mode : Mode) × (id : ObjectId) × IsEntryOfTree (objects content) root path mode id × (4096 < length path)
+IsOfLoadIn look honest content root BadPath = honest → (path : List ℕ) × (mode : Mode) × (id : ObjectId) × IsEntryOfTree (objects content) root path mode id × (max_path < length path)
 IsOfLoadIn look honest content root PathConflict = honest → ⊥
 IsOfLoadIn look honest content root (BadIndex place) = ⊥
 IsOfLoadIn look honest content root (WrongEntry at) = honest → (mode : Mode) × (id : ObjectId) × (kind : Kind) × (object : StoredObject)
@@ -105,7 +107,7 @@ pub record IsOpened (honest : Type 0) (content : FileMap) (item : Item) (old new
   pub more : List Item
   pub is : new ≡ old ++ more
   pub entries : map item_pair more ≡ reverse (map (placed (under item.path.items)) (entries_of body))
-  pub few : length more ≤ 16777216
+  pub few : length more ≤ max_body
   pub tree : IsTree (entries_of body)
   pub spelled : spelling (entries_of body) ≡ body
   pub stored : honest → objects content item.entry.id ≡ Some (stored_object kinds.Tree body)

@@ -7,10 +7,14 @@ use Rattle.vc_object.specs.Tree.{IsName}
 abbrev pub names_in : List ℕ → List (List ℕ)
 names_in path = slice_split (λ b. b == 47) path
 
+-- own: the most bytes of a path
+abbrev pub max_path : ℕ
+max_path = 4096
+
 -- a path of a file: each part is a name that may stand in a tree, and it has 4,096 bytes at most
 pub record IsPath (path : List ℕ) : Type 0 where
   pub names : AllByRecursion IsName (names_in path)
-  pub short : length path ≤ 4096
+  pub short : length path ≤ max_path
 
 -- the first path is that of a folder above the second
 abbrev pub IsAbove : List ℕ → List ℕ → Type 0

@@ -18,6 +18,7 @@ use Rattle.vc_index.specs.declared.faults.IndexFault.{IndexFault}
 use Rattle.vc_index.specs.declared.faults.IndexFault.TheVariants.{BadPath, PathConflict, BadIndex, WrongEntry, Missing, Store}
 use Rattle.vc_index.specs.declared.loading.Look.{Look}
 use Rattle.vc_index.specs.declared.loading.Look.TheVariants as looks
+use Rattle.vc_index.specs.Path.{max_path}
 
 -- what may be at fault at an entry: its path is too long, its object is of another kind, or there is none
 pub data TreeFault : Type 0 where
@@ -27,14 +28,14 @@ pub data TreeFault : Type 0 where
 
 -- the entry has this fault: where its path is over 4,096 bytes, no object is looked for
 abbrev pub HasFaultIn : Look → ObjectMap → Pair → TreeFault → Type 0
-HasFaultIn look objects e LongPath = 4096 < length e.0
-HasFaultIn look objects e (OtherKind path) = (length e.0 ≤ 4096) × (path ≡ e.0) × (kind : Kind) × (object : StoredObject) × IsDueIn look e.1.mode kind × (objects e.1.id ≡ Some object) × (object.kind ≢ kind)
-HasFaultIn look objects e (NoObject id) = (length e.0 ≤ 4096) × (id ≡ e.1.id) × IsSought look e.1.mode × (objects e.1.id ≡ None)
+HasFaultIn look objects e LongPath = max_path < length e.0
+HasFaultIn look objects e (OtherKind path) = (length e.0 ≤ max_path) × (path ≡ e.0) × (kind : Kind) × (object : StoredObject) × IsDueIn look e.1.mode kind × (objects e.1.id ≡ Some object) × (object.kind ≢ kind)
+HasFaultIn look objects e (NoObject id) = (length e.0 ≤ max_path) × (id ≡ e.1.id) × IsSought look e.1.mode × (objects e.1.id ≡ None)
 
 -- the entry's path has 4,096 bytes at most, where it is looked at an object of the kind that its mode asks for is there, and a
 -- folder's is a legal tree
 pub record IsSoundIn (look : Look) (objects : ObjectMap) (e : Pair) : Type 0 where
-  pub short : length e.0 ≤ 4096
+  pub short : length e.0 ≤ max_path
   pub object : (kind : Kind) → IsDueIn look e.1.mode kind → (body : List ℕ) × (objects e.1.id ≡ Some (stored_object kind body))
   pub tree : e.1.mode ≡ modes.Tree → (entries : List Entry) × IsTreeAt objects e.1.id entries
 

@@ -3,7 +3,7 @@ use Rattle.std.specs.Prelude.{◌≡◌, ◌≢◌, ◌⊎◌, ◌↔◌, ◌<�
 use Rattle.std.specs.List.{AllByRecursion}
 use Rattle.std.specs.FinMap.{get}
 use Rattle.vc_object.specs.Decoding.{StoredObject, stored_object}
-use Rattle.vc_object.specs.Object.{object_name}
+use Rattle.vc_object.specs.Object.{object_name, max_body}
 use Rattle.vc_object.specs.ObjectMap.{ObjectMap}
 use Rattle.vc_object.specs.Tree.{Entry, IsTree, spelling}
 use Rattle.vc_object.specs.declared.fault.ObjectFault.TheVariants.{TooLarge}
@@ -83,7 +83,7 @@ pub record HasTooLarge (files : IndexMap) : Type 0 where
   pub entries : List Entry
   pub tree : IsTree entries
   pub each : AllByRecursion (IsOfFolder files folder) entries
-  pub large : 16777216 < length (spelling entries)
+  pub large : max_body < length (spelling entries)
   pub first : IsFirstLarge files entries
 
 -- why the store did not take a tree of the index: the tree is too large, the file in its place is damaged, or a fault

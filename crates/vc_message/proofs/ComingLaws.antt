@@ -1,5 +1,5 @@
 -- What came of a reader: some of a message where one is begun, and, where a message is first of what the reader has, no other.
-use Rattle.std.proofs.Common.{◌≡◌, ◌≢◌, ℕ, List, [], ◌∷◌, ◌++◌, Option, Some, sym, subst}
+use Rattle.std.proofs.Common.{◌≡◌, ℕ, List, [], ◌∷◌, ◌++◌, Option, Some, sym, subst}
 use Rattle.std.proofs.KnownBytes.{Consumes-nil}
 use Rattle.vc_model.specs.Message.{Message}
 use Rattle.vc_pkt.proofs.FaultLaws.{one_message}

@@ -6,7 +6,7 @@ use Rattle.vc_pkt.specs.Message.{Stepped, onward, complete, Steps, IsOwnFault}
 use Rattle.vc_pkt.specs.declared.fault.PktFault.{PktFault}
 use Rattle.vc_pkt.specs.declared.fault.PktFault.TheVariants.{BadRecord}
 use Rattle.vc_fetch.specs.Advert.{AdvertText, RefIds, SpellsAdvert, IsWrittenAdvert, advert_lines, advert_step, advert_step_own}
-use Rattle.vc_fetch.specs.ErrorMessage.{SpellsError, error_lines, error_step, error_step_own}
+use Rattle.vc_fetch.specs.ErrorMessage.{SpellsError, error_lines, error_step, error_step_own, max_words}
 use Rattle.vc_fetch.specs.ListMessage.{ListText, list, SpellsList, list_lines, list_step, list_step_own}
 use Rattle.vc_fetch.specs.Pack.{PackText, PackState, starting, SpellsPack, IsWrittenPack, pack_lines, pack_step, pack_step_own}
 use Rattle.vc_fetch.specs.Want.{WantText, WantState, wanting, SpellsWant, IsWrittenWant, want_lines, want_step, want_step_own}
@@ -50,7 +50,7 @@ IsWrittenMessage (a_want want) = IsWrittenWant want
 IsWrittenMessage (a_pack pack) = IsWrittenPack pack
 IsWrittenMessage (a_push push) = IsWrittenPush push
 IsWrittenMessage (a_report report) = IsWrittenReport report
-IsWrittenMessage (an_error words) = length words ≤ 65511
+IsWrittenMessage (an_error words) = length words ≤ max_words
 
 -- ---- line by line
 -- before the first line, or what the lines so far are of a message of a kind

@@ -8,6 +8,7 @@ use Rattle.vc_fetch.specs.Advert.{HasShortNames}
 use Rattle.vc_fetch.specs.AdvertView.{advert_text, advert_state}
 use Rattle.vc_fetch.specs.PackView.{pack_text, pack_state}
 use Rattle.vc_fetch.specs.WantView.{want_text, want_state}
+use Rattle.vc_fetch.specs.ErrorMessage.{max_words}
 use Rattle.vc_push.specs.Push.{IsShort}
 use Rattle.vc_push.specs.PushView.{command_of, push_text, push_state}
 use Rattle.vc_push.specs.Report.{IsShortUnpack, IsShortTold}
@@ -45,7 +46,7 @@ HasShortLines (kinds.Want message) = Unit {0}
 HasShortLines (kinds.Pack message) = Unit {0}
 HasShortLines (kinds.Push message) = All (λ c. IsShort (command_of c)) message.commands.items
 HasShortLines (kinds.Report message) = IsShortUnpack (bytes_of message.unpack) × All (λ t. IsShortTold (told_of t)) message.told.items
-HasShortLines (kinds.Error message) = vec_len message.text ≤ 65511
+HasShortLines (kinds.Error message) = vec_len message.text ≤ max_words
 
 -- what was tried is what is there, or a refusal where nothing is
 abbrev pub IsTaken : {X : Type 0} → Result X PktError → Option X → Type 0

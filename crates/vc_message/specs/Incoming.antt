@@ -1,7 +1,7 @@
 -- One message from a reader: what is taken of the reader's bytes, and why no message came.
 use Rattle.std.specs.Prelude.{◌≡◌, ◌≢◌, ◌+◌, ◌<◌, ◌≤◌, ℕ, List, [], ◌++◌, length, Option, Some, None, Result, Ok, Err}
 use Rattle.std.specs.Io.KnownBytes.{Consumes, IsAtEnd}
-use Rattle.vc_pkt.specs.Line.{LineText, IsBad, IsLength, IsLine, IsPart}
+use Rattle.vc_pkt.specs.Line.{LineText, IsBad, IsLength, IsLine, IsPart, max_data}
 use Rattle.vc_pkt.specs.Message.{FirstFault, IsSpelledBy, Steps}
 use Rattle.vc_pkt.specs.declared.fault.PktFault.{PktFault}
 use Rattle.vc_pkt.specs.declared.fault.PktFault.TheVariants.{CutMessage}
@@ -19,7 +19,7 @@ pub data IsRest (front : List ℕ) (n : ℕ) : Type 0 where
   fewer : length front < 4 → n ≡ 0 → IsRest front n
   none : IsBad front → n ≡ 0 → IsRest front n
   all : (line : LineText) → IsLine line front → n ≡ 0 → IsRest front n
-  more : IsLength front (n + 4) → 0 < n → n ≤ 65516 → IsRest front n
+  more : IsLength front (n + 4) → 0 < n → n ≤ max_data → IsRest front n
 
 -- no byte stands behind a line, or behind four that no line begins with
 abbrev pub IsWithinLine : List ℕ → Type 0

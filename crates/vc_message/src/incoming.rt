@@ -3,7 +3,7 @@
 ghost use Rattle.std.specs.Prelude.{◌≡◌, ◌<◌, ◌≤◌, ◌+◌, ◌++◌, ℕ, List, Some, length, take, drop, MatchOption, MatchResult, IfOk, IfErr, IfSome, IfNone, OnOk, OnErr};
 ghost use Rattle.std.specs.Io.KnownBytes.{Consumes, IsAtEnd, Keeps};
 ghost use Rattle.vc_pkt.specs.Faults.{FaultAt};
-ghost use Rattle.vc_pkt.specs.Line.{IsLength, IsLine};
+ghost use Rattle.vc_pkt.specs.Line.{IsLength, IsLine, max_data};
 ghost use Rattle.vc_pkt.specs.LineView.{line_text};
 ghost use Rattle.vc_pkt.specs.Message.{GivenBy};
 ghost use Rattle.vc_model.specs.Message.{Message as Sent};
@@ -74,7 +74,7 @@ fn push_read<R: Read>(
     bytes: &mut Vec<u8>,
     count: usize,
 ) -> Result<(), IncomingFault>
-    requires { count ≤ 65516 }
+    requires { count ≤ max_data }
     ensures ok { OnOk result (AddsBytes (R.remaining reader.old) (R.remaining reader.new) bytes.old.items bytes.new.items count) }
     ensures err { OnErr result ((read : List ℕ) × Consumes (R.remaining reader.old) (R.remaining reader.new) read × (length read ≤ count)) }
     ensures fault { IfErr result IsLoss }

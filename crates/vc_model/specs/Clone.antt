@@ -12,7 +12,7 @@ use Rattle.vc_model.specs.Refs.Head.{OnBranch, Detached}
 use Rattle.vc_model.specs.Repository.{Repository, Entry, Index, gitlink, Effect, Change, no_effect, only_changes}
 use Rattle.vc_model.specs.Repository.Change.{SetRefs, RemoveRef, SetHead, SetIndex}
 use Rattle.vc_model.specs.Push.{Command}
-use Rattle.vc_model.specs.Message.{Message, Told}
+use Rattle.vc_model.specs.Message.{Message, Told, max_ids}
 use Rattle.vc_model.specs.Message.Message.{ListRefs, Advert, Want, Pack, Push, Report}
 use Rattle.vc_model.specs.Repository.{IsRoot, IsBranchName}
 use Rattle.vc_model.specs.Node.{Node, Answer, IsNoFault, Failure, Reply, Deed, Ends, sent_by, PruneEnds, RestartEnds, IsDifference}
@@ -183,7 +183,7 @@ once seen (x ∷ xs) = if list_any (λ y. eq_by_cmp (slice_cmp nat_cmp) x y) see
 
 -- The values of the refs in order of their names, then HEAD's.
 abbrev pub haves_of : Repository → List Id
-haves_of r = take 256 (once [] (values r.refs ++ option_to_list (head_value r)))
+haves_of r = take max_ids (once [] (values r.refs ++ option_to_list (head_value r)))
 
 -- The new ids of the commands that the report accepts.
 abbrev pub accepted_ids : List Told → List (RefName × Id)
@@ -207,7 +207,7 @@ pub record MovesToAdvert (fmt : Format) (r : Repository) (at : Lookup) (refs : R
 abbrev pub Receives : Format → Repository → Awaited → Message → Deed Awaited → Type 0
 Receives fmt r a (Advert head refs) d =
     (a ≡ AnAdvert) × (ids : List Id) × AreOpen fmt (stored r.objects) [] (entries refs) ids
-    × (((ids ≢ []) × (d ≡ sending (APack (take 256 ids) refs) (Want (take 256 ids) (haves_of r))))
+    × (((ids ≢ []) × (d ≡ sending (APack (take max_ids ids) refs) (Want (take max_ids ids) (haves_of r))))
     ⊎ ((ids ≡ []) × MovesToAdvert fmt r (stored r.objects) refs empty d))
 Receives fmt r a (Pack ack s) d =
     (wants : List Id) × (refs : Refs) × (a ≡ APack wants refs) × ((x : Id) → Contains wants x → IsClosed fmt (over r.objects s) x)

@@ -9,7 +9,7 @@ use Rattle.vc_model.specs.Refs.{Conflicts, IsFree}
 use Rattle.vc_model.specs.Refs.Head.{Detached}
 use Rattle.vc_model.specs.Repository.{Repository, Index, Entry, only_changes}
 use Rattle.vc_model.specs.Repository.Change.{SetIndex}
-use Rattle.vc_model.specs.Message.{Message, HasObject}
+use Rattle.vc_model.specs.Message.{Message, HasObject, max_commands}
 use Rattle.vc_model.specs.Node.{Answer, Failure, Deed, Ends, sent_by, PruneEnds, RestartEnds}
 use Rattle.vc_model.specs.Node.Answer.{Declined, Fault}
 use Rattle.vc_model.specs.Node.Reply.{Stored, Made}
@@ -53,7 +53,7 @@ Refuses fmt rules r (SetBranch b x) n =
     Unless (IsFree r.refs b) 32 n (Unless (IsClosed fmt (stored r.objects) x) 40 n (Unless (HasHistory fmt (stored r.objects) x) 41 n ⊥))
 Refuses fmt rules r (MoveHead (Detached x)) n = Unless (IsClosed fmt (stored r.objects) x) 40 n (Unless (HasHistory fmt (stored r.objects) x) 41 n ⊥)
 Refuses fmt rules r (StartPush atomic items) n =
-    Unless (length items ≤ 256) 84 n (Unless ((x : Id) → IsItemId items x → IsClosed fmt (stored r.objects) x) 40 n ⊥)
+    Unless (length items ≤ max_commands) 84 n (Unless ((x : Id) → IsItemId items x → IsClosed fmt (stored r.objects) x) 40 n ⊥)
 Refuses fmt rules r _ n = ⊥
 
 -- What the local command does where nothing refuses it.
@@ -68,7 +68,7 @@ Obeys fmt rules r a (MakeCommit extra author committer message) d =
     × (let commit = new_commit fmt r t.1 extra author committer message in let x = fmt.name_of commit in
     (rules.fault commit None) × (d ≡ quietly a (record { objects = with_object t.0 x commit; changes = head_to r.head x ∷ [] }) (Made x))))
 Obeys fmt rules r a (StartPush atomic items) d =
-    (length items ≤ 256) × ((x : Id) → IsItemId items x → IsClosed fmt (stored r.objects) x) × Performs fmt r a (StartPush atomic items) d
+    (length items ≤ max_commands) × ((x : Id) → IsItemId items x → IsClosed fmt (stored r.objects) x) × Performs fmt r a (StartPush atomic items) d
 Obeys fmt rules r a t d = Performs fmt r a t d
 
 -- The local command makes the object, whether or not it is stored already.

@@ -11,7 +11,7 @@ use Rattle.vc_model.specs.Message.Message.{Report}
 use Rattle.vc_model.specs.Node.{Answer, Failure, Reply}
 use Rattle.vc_model.specs.Node.Answer.{Did, Fault}
 use Rattle.vc_model.specs.Node.Reply.{Opened, Moved, Reported}
-use Rattle.vc_model.specs.Shared.{SharedNode}
+use Rattle.vc_model.specs.Shared.{SharedNode, slot_count}
 use Rattle.vc_model.specs.Clone.{CloneNode, PushItem, AreOpen, IsGoodCommit}
 use Rattle.vc_model.specs.Clone.Task.{StartFetch, StartPush}
 use Rattle.vc_model.specs.Rules.{Rules, Tests, rules_by}
@@ -148,7 +148,7 @@ pub data PushRun (fmt : Format) (rules : Rules fmt) (atomic : Bool) (items : Lis
 
 -- What the push of a new value to a branch needs.
 pub record MayPush (fmt : Format) (s : SharedNode) (c : CloneNode) (b : List ℕ) (new : Id) : Type 0 where
-  pub slot : (slots : Slots) → s.live ≡ Some slots → (k : ℕ) × (k < 8) × (get slots k ≡ None)
+  pub slot : (slots : Slots) → s.live ≡ Some slots → (k : ℕ) × (k < slot_count) × (get slots k ≡ None)
   pub legal : IsTrue (fmt.is_legal (branch b))
   pub free : IsFree s.repository.refs (branch b)
   -- the clone knows the branch as it is, or both have none

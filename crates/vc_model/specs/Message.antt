@@ -10,6 +10,13 @@ pub record Told : Type 0 where
   pub name : RefName
   pub outcome : Result Id ℕ
 
+-- The most ids of each kind that a clone asks by, and the most commands that it pushes.
+abbrev pub max_ids : ℕ
+max_ids = 256
+
+abbrev pub max_commands : ℕ
+max_commands = 256
+
 pub data Message : Type 0 where
   ListRefs : Message
   Advert : (head : Option Id) (refs : Refs) → Message

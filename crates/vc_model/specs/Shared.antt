@@ -21,6 +21,10 @@ use Rattle.vc_model.specs.Node.Reply.{Sends, Opened, Passed, MigratedAll, Update
 abbrev pub SharedNode : Type 0
 SharedNode = Node Slots
 
+-- The shared node has this many slots, in which pushes are open.
+abbrev pub slot_count : ℕ
+slot_count = 8
+
 -- Some ref reaches x.
 abbrev pub IsOurs : Format → Repository → Id → Type 0
 IsOurs fmt r x = ReachedFrom fmt (stored r.objects) (λ y. (n : RefName) × (get r.refs n ≡ Some y)) x
@@ -31,7 +35,7 @@ head_value r = elim (r.head) [ OnBranch b ↦ get r.refs b | Detached x ↦ Some
 
 -- the lowest of the eight slots that is free
 pub record IsLowestFree (slots : Slots) (s : ℕ) : Type 0 where
-  pub below : s < 8
+  pub below : s < slot_count
   pub free : get slots s ≡ None
   pub lowest : (t : ℕ) → t < s → get slots t ≢ None
 
@@ -142,7 +146,7 @@ SharedDoes fmt r slots _ d = ⊥
 -- The message is refused with this number.
 abbrev pub ServesNot : Format → Repository → Slots → Message → ℕ → Type 0
 ServesNot fmt r slots (Want wants haves) n = (n ≡ 90) × (x : Id) × Contains wants x × (¬ IsOurs fmt r x)
-ServesNot fmt r slots (Push atomic fault commands objects) n = (n ≡ 110) × ((s : ℕ) → s < 8 → get slots s ≢ None)
+ServesNot fmt r slots (Push atomic fault commands objects) n = (n ≡ 110) × ((s : ℕ) → s < slot_count → get slots s ≢ None)
 ServesNot fmt r slots ListRefs n = ⊥
 ServesNot fmt r slots _ n = n ≡ 91
 

@@ -9,7 +9,7 @@ use Rattle.vc_object.specs.Items.{◌>>=◌}
 use Rattle.vc_object.specs.Tree.{Entry, key, spelling}
 use Rattle.vc_object.specs.Entries.{entries_of}
 use Rattle.vc_object.specs.CommitReading.{kind_of, commit_of, tag_of}
-use Rattle.vc_object.specs.Object.{object_bytes}
+use Rattle.vc_object.specs.Object.{object_bytes, max_body}
 use Rattle.vc_object.specs.declared.kind.Kind.{Kind}
 use Rattle.vc_object.specs.declared.kind.Kind.TheVariants.{Blob, Tree, Commit, Tag}
 
@@ -59,7 +59,7 @@ is_body Tag body = is_some (tag_of body)
 
 -- whether it is an object, and these are its bytes
 abbrev pub is_object_of : List ℕ → Kind → List ℕ → Bool
-is_object_of bytes kind body = bytes_eq bytes (object_bytes kind body) && (is_body kind body && nat_le (length body) 16777216)
+is_object_of bytes kind body = bytes_eq bytes (object_bytes kind body) && (is_body kind body && nat_le (length body) max_body)
 
 -- the object that the bytes are
 unfoldable pub decoded : List ℕ → Option StoredObject

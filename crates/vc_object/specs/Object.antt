@@ -16,10 +16,17 @@ IsBody Tree body = IsTreeBody body
 IsBody Commit body = IsCommitBody body
 IsBody Tag body = IsTagBody body
 
+-- own: the most bytes of a body, 16 MiB; and one more, as which every greater size is read
+abbrev pub max_body : ℕ
+max_body = 16777216
+
+abbrev pub oversize : ℕ
+oversize = 16777217
+
 -- an object: a kind and a body in its grammar; own: of 16 MiB at most
 pub record IsObject (kind : Kind) (body : List ℕ) : Type 0 where
   pub grammar : IsBody kind body
-  pub size : length body ≤ 16777216
+  pub size : length body ≤ max_body
 
 -- an object's bytes: its header, with the length of its body in decimal, and its body
 abbrev pub object_bytes : Kind → List ℕ → List ℕ

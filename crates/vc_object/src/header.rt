@@ -4,6 +4,7 @@ ghost use Rattle.std.specs.Prelude.{◌≡◌, ◌≤◌, ◌++◌, ◌∷◌, L
 ghost use Rattle.std.specs.List.{AllByRecursion};
 ghost use Rattle.vc_object.specs.Kind.{front};
 ghost use Rattle.vc_object.specs.Header.{IsDigit, NoDigitFirst, IsSize, number, header, HeaderFault, FrontFault, SizeFault};
+ghost use Rattle.vc_object.specs.Object.{oversize};
 
 use crate::bytes::{Start, start_of};
 use crate::fault::ObjectFault;
@@ -29,7 +30,7 @@ fn digit_count(text: &[u8]) -> usize
 /// The number that digits write, or one above the limit in place of a greater one.
 fn number_of(digits: &[u8]) -> usize
     requires { AllByRecursion IsDigit digits.now }
-    ensures { result ≡ min (number digits.now) 16777217 }
+    ensures { result ≡ min (number digits.now) oversize }
 {
     let mut number = 0;
     for d in digits {
@@ -40,7 +41,7 @@ fn number_of(digits: &[u8]) -> usize
 
 /// The size at the front, or one above the limit, and what follows its NUL.
 fn size_at(text: &[u8]) -> Result<(usize, &[u8]), ObjectFault>
-    ensures { MatchResult result (λ found. (size : List ℕ) × IsSize size × (found.0 ≡ min (number size) 16777217) × (text.now ≡ size ++ 0 ∷ found.1.now)) (SizeFault text.now) }
+    ensures { MatchResult result (λ found. (size : List ℕ) × IsSize size × (found.0 ≡ min (number size) oversize) × (text.now ≡ size ++ 0 ∷ found.1.now)) (SizeFault text.now) }
 {
     let (digits, rest) = text.split_at(digit_count(text));
     if digits.len() > 1 && digits[0] == b'0' {
@@ -84,7 +85,7 @@ fn kind_at(text: &[u8]) -> Result<(Kind, &[u8]), ObjectFault>
 /// The kind and the size that the header gives, and what follows it. A size above the limit is given
 /// as one above it.
 pub(crate) fn header_of(bytes: &[u8]) -> Result<(Kind, usize, &[u8]), ObjectFault>
-    ensures { MatchResult result (λ found. (size : List ℕ) × IsSize size × (found.1 ≡ min (number size) 16777217) × (bytes.now ≡ header found.0 size ++ found.2.now)) (HeaderFault bytes.now) }
+    ensures { MatchResult result (λ found. (size : List ℕ) × IsSize size × (found.1 ≡ min (number size) oversize) × (bytes.now ≡ header found.0 size ++ found.2.now)) (HeaderFault bytes.now) }
 {
     let (kind, rest) = kind_at(bytes)?;
     let (size, body) = size_at(rest)?;

@@ -1,7 +1,7 @@
 //! Objects: a kind, and a body in its grammar.
 
 ghost use Rattle.std.specs.Prelude.{◌≡◌, ◌≤◌, ◌↔◌, length, ℕ, List, Some, None, IfOk, IfErr, OnErr, IsOk, IsOkAnd};
-ghost use Rattle.vc_object.specs.Object.{IsBody, IsObject, object_bytes};
+ghost use Rattle.vc_object.specs.Object.{IsBody, IsObject, object_bytes, max_body};
 ghost use Rattle.vc_object.specs.Decoding.{decoded, stored_object};
 ghost use Rattle.vc_object.specs.ObjectFault.{GrammarFault, BodyFault, BytesFault};
 ghost use Rattle.vc_object.specs.declared.kind.Kind.{Kind};
@@ -78,7 +78,7 @@ pub fn check(kind: Kind, body: &[u8]) -> Result<Object<'_>, ObjectFault>
 /// The object that the bytes are, or the first fault.
 fn object_of(bytes: &[u8]) -> Result<Object<'_>, ObjectFault>
     ensures ok { IfOk result (λ object. bytes.now ≡ object_bytes object.kind object.body.now) }
-    ensures small { IfOk result (λ object. length object.body.now ≤ 16777216) }
+    ensures small { IfOk result (λ object. length object.body.now ≤ max_body) }
     ensures fault { IfErr result (BytesFault bytes.now) }
 {
     let (kind, size, body) = match header_of(bytes) {

@@ -3,6 +3,13 @@ use Rattle.std.specs.Prelude.{◌≡◌, ◌≢◌, ◌≤◌, ◌<◌, ◌+◌,
 use Rattle.std.specs.Int.{w16, from_be_bytes, to_be_bytes}
 use Rattle.hex.specs.Hex.{decode_of, encode_lower}
 
+-- the most bytes of data in a line, and of a line with its length
+abbrev pub max_data : ℕ
+max_data = 65516
+
+abbrev pub max_line : ℕ
+max_line = 65520
+
 -- a line, apart from where it lies in memory: a flush, or data
 pub data LineText : Type 0 where
   flush : LineText
@@ -18,7 +25,7 @@ pub record IsLength (digits : List ℕ) (n : ℕ) : Type 0 where
 -- the bytes are the line: a flush is the length 0, and data stand behind the length of the whole
 abbrev pub IsLine : LineText → List ℕ → Type 0
 IsLine flush bytes = IsLength bytes 0
-IsLine (text body) bytes = (digits : List ℕ) × IsLength digits (length body + 4) × (length body ≤ 65516) × (bytes ≡ digits ++ body)
+IsLine (text body) bytes = (digits : List ℕ) × IsLength digits (length body + 4) × (length body ≤ max_data) × (bytes ≡ digits ++ body)
 
 -- the bytes are these lines, one behind another
 abbrev pub IsLines : List LineText → List ℕ → Type 0
@@ -33,7 +40,7 @@ pub data IsPart (bytes : List ℕ) : Type 0 where
 -- four bytes that no line begins with: they aren't hex digits, or write 1, 2, 3 or more than 65,520
 pub record IsBad (bytes : List ℕ) : Type 0 where
   pub four : 4 ≤ length bytes
-  pub bad : (n : ℕ) → IsLength (take 4 bytes) n → ((0 < n) × (n < 4)) ⊎ (65520 < n)
+  pub bad : (n : ℕ) → IsLength (take 4 bytes) n → ((0 < n) × (n < 4)) ⊎ (max_line < n)
 
 -- the bytes are these lines, and a rest that is less than a line
 pub record IsLineList (bytes : List ℕ) (lines : List LineText) (rest : List ℕ) : Type 0 where
@@ -60,4 +67,4 @@ spelling (text body) = encode_lower (to_be_bytes w16 (length body + 4)) ++ body
 -- what may be written: a flush, or data that aren't empty and fit
 abbrev pub IsWritable : LineText → Type 0
 IsWritable flush = Unit {0}
-IsWritable (text body) = (0 < length body) × (length body ≤ 65516)
+IsWritable (text body) = (0 < length body) × (length body ≤ max_data)

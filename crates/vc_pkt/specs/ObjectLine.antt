@@ -4,6 +4,7 @@ use Rattle.vc_object.specs.Header.{IsSize, number}
 use Rattle.vc_object.specs.Kind.{word}
 use Rattle.vc_object.specs.Items.{◌>>=◌}
 use Rattle.vc_object.specs.Lines.{after_word}
+use Rattle.vc_object.specs.Object.{oversize}
 use Rattle.vc_object.specs.declared.kind.Kind.{Kind}
 use Rattle.vc_object.specs.declared.kind.Kind.TheVariants as kinds
 use Rattle.vc_pkt.specs.TextLine.{without_lf}
@@ -30,7 +31,7 @@ kind_at text =
 -- the number that the digits write behind those of n, or one above the limit in place of a greater one
 abbrev pub size_after : ℕ → List ℕ → Option ℕ
 size_after n [] = Some n
-size_after n (d ∷ ds) = if nat_lt d 48 || nat_lt 57 d then None else size_after (min (n * 10 + (d - 48)) 16777217) ds
+size_after n (d ∷ ds) = if nat_lt d 48 || nat_lt 57 d then None else size_after (min (n * 10 + (d - 48)) oversize) ds
 
 abbrev pub size_of : List ℕ → Option ℕ
 size_of [] = None

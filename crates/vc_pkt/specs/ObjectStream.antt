@@ -2,6 +2,7 @@
 use Rattle.std.specs.Prelude.{◌≡◌, ◌≢◌, ◌≤◌, ℕ, Bool, true, List, [], ◌∷◌, ◌++◌, length, Option, Some, None, Result, Ok, Err, nat_lt, if◌then◌else◌}
 use Rattle.vc_object.specs.Decoding.{StoredObject}
 use Rattle.vc_object.specs.declared.kind.Kind.{Kind}
+use Rattle.vc_object.specs.Object.{max_body}
 use Rattle.vc_pkt.specs.Line.{LineText, flush, text}
 use Rattle.vc_pkt.specs.Message.{Stepped, onward, complete, Steps}
 use Rattle.vc_pkt.specs.ObjectLine.{IsObjectLine, object_line}
@@ -20,7 +21,7 @@ pub record IsObjectLines (object : StoredObject) (lines : List LineText) : Type 
   pub first : List ℕ
   pub body : List LineText
   pub begins : IsObjectLine object.kind (length object.body) first
-  pub small : length object.body ≤ 16777216
+  pub small : length object.body ≤ max_body
   pub pieces : IsData body object.body
   pub whole : lines ≡ text first ∷ body
 
@@ -66,7 +67,7 @@ so_far first kind size body =
 
 abbrev pub begun : ℕ → Option (Kind × ℕ) → Result ObjectStepped PktFault
 begun number None = Err (BadRecord number)
-begun number (Some found) = if nat_lt 16777216 found.1 then Err TooLarge else so_far number found.0 found.1 []
+begun number (Some found) = if nat_lt max_body found.1 then Err TooLarge else so_far number found.0 found.1 []
 
 -- what the line of a number does
 abbrev pub object_step : ℕ → Progress → LineText → Result ObjectStepped PktFault

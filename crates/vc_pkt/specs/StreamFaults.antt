@@ -2,6 +2,7 @@
 use Rattle.std.specs.Prelude.{◌++◌, ◌∷◌, [], ℕ, Bool, true, false, cond, List, length, Option, Some, None, Result, Ok, Err, nat_lt}
 use Rattle.vc_object.specs.Decoding.{StoredObject}
 use Rattle.vc_object.specs.declared.kind.Kind.{Kind}
+use Rattle.vc_object.specs.Object.{max_body}
 use Rattle.vc_pkt.specs.Line.{LineText, flush, text}
 use Rattle.vc_pkt.specs.Message.{IsOwnFault}
 use Rattle.vc_pkt.specs.Carried.{with_object}
@@ -18,7 +19,7 @@ so_far_own first kind size body = either_own (nat_lt size (length body)) _ _ tt 
 
 begun_own : (number : ℕ) (found : Option (Kind × ℕ)) → IsOwnFault (begun number found)
 begun_own number None = tt
-begun_own number (Some found) = either_own (nat_lt 16777216 found.1) _ _ tt (so_far_own number found.0 found.1 [])
+begun_own number (Some found) = either_own (nat_lt max_body found.1) _ _ tt (so_far_own number found.0 found.1 [])
 
 pub object_step_own : (number : ℕ) (progress : Progress) (line : LineText) → IsOwnFault (object_step number progress line)
 object_step_own number between flush = tt

@@ -4,7 +4,8 @@ use Rattle.std.specs.List.{AllByRecursion, flat_map}
 use Rattle.vc_object.specs.Kind.{word}
 use Rattle.vc_object.specs.ObjectId.{IsSortedByName}
 use Rattle.vc_object.specs.Decoding.{StoredObject}
-use Rattle.vc_pkt.specs.Line.{LineText, flush, text}
+use Rattle.vc_object.specs.Object.{max_body}
+use Rattle.vc_pkt.specs.Line.{LineText, flush, text, max_data}
 use Rattle.vc_pkt.specs.Carried.{stored_name}
 
 -- one data line for each so many bytes, and one for what is left; the second list bounds their number
@@ -15,7 +16,7 @@ cut_up most (f ∷ fuel) (b ∷ bs) = text (take most (b ∷ bs)) ∷ cut_up mos
 
 -- all data lines but the last have 65,516 bytes; a body of no bytes has none
 unfoldable pub data_lines : List ℕ → List LineText
-data_lines body = cut_up 65516 body body
+data_lines body = cut_up max_data body body
 
 -- `obj`, the kind and the size
 abbrev pub object_text : StoredObject → List ℕ
@@ -31,4 +32,4 @@ stream_lines objects = flat_map object_lines objects ++ flush ∷ []
 -- a set that is written: in order of name, each name once, and no body over the limit
 pub record IsWrittenSet (objects : List StoredObject) : Type 0 where
   pub sorted : IsSortedByName (map stored_name objects)
-  pub small : AllByRecursion (λ o. length o.body ≤ 16777216) objects
+  pub small : AllByRecursion (λ o. length o.body ≤ max_body) objects

@@ -3,7 +3,7 @@
 ghost use Rattle.std.specs.Prelude.{◌≡◌, ◌≤◌, ◌<◌, ◌++◌, ◌∷◌, [], length, take, OnOk, OnErr};
 ghost use Rattle.std.specs.Int.{w16, to_be_bytes};
 ghost use Rattle.hex.specs.Hex.{encode_lower};
-ghost use Rattle.vc_pkt.specs.Line.{flush, text, spelling};
+ghost use Rattle.vc_pkt.specs.Line.{flush, text, spelling, max_data};
 
 use std::alloc::AllocError;
 
@@ -11,7 +11,7 @@ use std::alloc::AllocError;
 /// nothing is written.
 pub fn write_line(out: &mut Vec<u8>, body: &[u8]) -> Result<(), AllocError>
     requires some { 0 < length body.now }
-    requires short { length body.now ≤ 65516 }
+    requires short { length body.now ≤ max_data }
     ensures ok { OnOk result (out.new.items ≡ out.old.items ++ spelling (text body.now)) }
     ensures err { OnErr result (out.new.items ≡ out.old.items) }
 {
@@ -46,7 +46,7 @@ fn length_digits(length: u16) -> [u8; 4]
 
 /// Appends the length and both parts, or some of them.
 fn push_parts(out: &mut Vec<u8>, front: &[u8], back: &[u8]) -> Result<(), AllocError>
-    requires short { length (front.now ++ back.now) ≤ 65516 }
+    requires short { length (front.now ++ back.now) ≤ max_data }
     ensures ok { OnOk result (out.new.items ≡ out.old.items ++ spelling (text (front.now ++ back.now))) }
     ensures kept { take (length out.old.items) out.new.items ≡ out.old.items }
 {
@@ -59,7 +59,7 @@ fn push_parts(out: &mut Vec<u8>, front: &[u8], back: &[u8]) -> Result<(), AllocE
 
 /// Writes a data line in two parts.
 fn write_parts(out: &mut Vec<u8>, front: &[u8], back: &[u8]) -> Result<(), AllocError>
-    requires short { length (front.now ++ back.now) ≤ 65516 }
+    requires short { length (front.now ++ back.now) ≤ max_data }
     ensures ok { OnOk result (out.new.items ≡ out.old.items ++ spelling (text (front.now ++ back.now))) }
     ensures err { OnErr result (out.new.items ≡ out.old.items) }
 {

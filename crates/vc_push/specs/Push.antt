@@ -5,7 +5,7 @@ use Rattle.hex.specs.Hex.{encode_lower}
 use Rattle.vc_object.specs.Decoding.{StoredObject}
 use Rattle.vc_object.specs.Items.{◌>>=◌}
 use Rattle.vc_object.specs.Lines.{IsId, after_word, split}
-use Rattle.vc_object.specs.Object.{IsObject}
+use Rattle.vc_object.specs.Object.{IsObject, max_body}
 use Rattle.vc_object.specs.ObjectFault.{BodyFault}
 use Rattle.vc_object.specs.ObjectId.{id_eq}
 use Rattle.vc_object.specs.declared.fault.ObjectFault.{ObjectFault}
@@ -22,6 +22,10 @@ use Rattle.vc_pkt.specs.declared.fault.PktFault.TheVariants.{BadRecord, TooMany}
 use Rattle.vc_fetch.specs.Advert.{IsName, is_name, before_nul}
 use Rattle.vc_fetch.specs.Ids.{WritesId, id_of}
 use Rattle.vc_fetch.specs.Pack.{is_object}
+
+-- own: the most commands of a push
+abbrev pub max_commands : ℕ
+max_commands = 256
 
 -- what a ref is to become: from the old id to the new one, where zeros stand for no value
 pub record CommandText : Type 0 where
@@ -98,7 +102,7 @@ pub record SpellsPush (push : PushText) (lines : List LineText) : Type 0 where
   pub some : push.commands ≡ command ∷ commands
   pub begins : IsFirstCommandLine command first
   pub each : AreCommandLines commands others
-  pub few : length push.commands ≤ 256
+  pub few : length push.commands ≤ max_commands
   pub carries : SpellsCarried (only_deletes push.commands) push.carried stream
   pub whole : lines ≡ text first ∷ (others ++ flush ∷ stream)
 
@@ -150,11 +154,11 @@ pub record IsWrittenCommand (command : CommandText) : Type 0 where
 abbrev pub IsWrittenCarried : Bool → Carried → Type 0
 IsWrittenCarried true carried = carried ≡ Ok []
 IsWrittenCarried false (Ok objects) = IsWrittenSet objects × AllByRecursion (λ o. is_object o ≡ true) objects
-IsWrittenCarried false (Err bad) = (length bad.body ≤ 16777216) × (is_object bad ≡ false)
+IsWrittenCarried false (Err bad) = (length bad.body ≤ max_body) × (is_object bad ≡ false)
 
 pub record IsWrittenPush (push : PushText) : Type 0 where
   pub some : 0 < length push.commands
-  pub few : length push.commands ≤ 256
+  pub few : length push.commands ≤ max_commands
   pub commands : AllByRecursion IsWrittenCommand push.commands
   pub carried : IsWrittenCarried (only_deletes push.commands) push.carried
 
@@ -196,7 +200,7 @@ is_none_yet (c ∷ cs) = false
 -- one more command, where there are fewer than 256
 abbrev pub one_more : ℕ → List CommandText → Option CommandText → Result (Stepped PushState PushText) PktFault
 one_more number commands None = Err (BadRecord number)
-one_more number commands (Some command) = if nat_lt (length commands) 256 then Ok (onward (commanding (commands ++ command ∷ []))) else Err TooMany
+one_more number commands (Some command) = if nat_lt (length commands) max_commands then Ok (onward (commanding (commands ++ command ∷ []))) else Err TooMany
 
 -- the flush behind the commands, of which there is one or more
 abbrev pub flushed : List CommandText → Result (Stepped PushState PushText) PktFault
@@ -220,7 +224,7 @@ push_step number (streaming commands state) line = with_commands commands (gathe
 
 one_more_own : (number : ℕ) (commands : List CommandText) (found : Option CommandText) → IsOwnFault (one_more number commands found)
 one_more_own number commands None = tt
-one_more_own number commands (Some command) = either_own (nat_lt (length commands) 256) _ _ tt tt
+one_more_own number commands (Some command) = either_own (nat_lt (length commands) max_commands) _ _ tt tt
 
 commands_end_own : (number : ℕ) (commands : List CommandText) → IsOwnFault (commands_end number commands)
 commands_end_own number [] = tt

@@ -16,7 +16,7 @@ use Rattle.vc_pkt.specs.declared.fault.PktFault.{PktFault}
 use Rattle.vc_pkt.specs.declared.fault.PktFault.TheVariants.{BadRecord, TooMany}
 use Rattle.vc_fetch.specs.Advert.{IsName}
 use Rattle.vc_fetch.specs.Ids.{id_line}
-use Rattle.vc_push.specs.Push.{zero_id, named}
+use Rattle.vc_push.specs.Push.{zero_id, named, max_commands}
 
 -- what is told of a command: the new id, or the text of the reason
 pub record ToldText : Type 0 where
@@ -91,7 +91,7 @@ pub record SpellsReport (report : ReportText) (lines : List LineText) : Type 0 w
   pub others : List LineText
   pub begins : IsUnpackLine report.unpack first
   pub each : AreToldBy report.told others
-  pub few : length report.told ≤ 256
+  pub few : length report.told ≤ max_commands
   pub whole : lines ≡ text first ∷ (others ++ flush ∷ [])
 
 -- ---- how it is written
@@ -121,10 +121,17 @@ told_lines told = outcome_lines told.name told.outcome
 abbrev pub report_lines : ReportText → List LineText
 report_lines report = text_line (unpack_text report.unpack) ∷ (flat_map told_lines report.told ++ flush ∷ [])
 
+-- the most bytes that one line takes of the name of an accepted command, and of a refused one's name and reason
+abbrev pub max_accepted : ℕ
+max_accepted = 65512
+
+abbrev pub max_refused : ℕ
+max_refused = 65511
+
 -- its text lines fit
 abbrev pub IsShortOutcome : List ℕ → Result ObjectId (List ℕ) → Type 0
-IsShortOutcome name (Ok id) = length name ≤ 65512
-IsShortOutcome name (Err reason) = length name + length reason ≤ 65511
+IsShortOutcome name (Ok id) = length name ≤ max_accepted
+IsShortOutcome name (Err reason) = length name + length reason ≤ max_refused
 
 abbrev pub IsShortTold : ToldText → Type 0
 IsShortTold told = IsShortOutcome told.name told.outcome
@@ -152,7 +159,7 @@ pub record IsWrittenReport (report : ReportText) : Type 0 where
   pub unpack : IsUnpackText report.unpack
   pub short : IsShortUnpack report.unpack
   pub told : AllByRecursion IsWrittenTold report.told
-  pub few : length report.told ≤ 256
+  pub few : length report.told ≤ max_commands
 
 -- ---- line by line
 -- an accepted command whose options may still come
@@ -218,7 +225,7 @@ said line =
 
 -- one more command, where fewer than 256 were told of
 abbrev pub told_more : List ToldText → Result (Stepped ReportState ReportText) PktFault → Result (Stepped ReportState ReportText) PktFault
-told_more told next = if nat_lt (length told) 256 then next else Err TooMany
+told_more told next = if nat_lt (length told) max_commands then next else Err TooMany
 
 -- an option counts only behind an accepted command, and the first new id alone
 abbrev pub opted : ℕ → Option (List ℕ) → List ToldText → Option Pending → Option ObjectId → Result (Stepped ReportState ReportText) PktFault
@@ -249,8 +256,8 @@ opted_own number unpack told (Some p) new = tt
 
 told_by_own : (number : ℕ) (unpack : Option (List ℕ)) (told : List ToldText) (pending : Option Pending) (s : Said) → IsOwnFault (told_by number unpack told pending s)
 told_by_own number unpack told pending nothing = tt
-told_by_own number unpack told pending (accepts name) = either_own (nat_lt (length (settled told pending)) 256) _ _ tt tt
-told_by_own number unpack told pending (refuses name reason) = either_own (nat_lt (length (settled told pending)) 256) _ _ tt tt
+told_by_own number unpack told pending (accepts name) = either_own (nat_lt (length (settled told pending)) max_commands) _ _ tt tt
+told_by_own number unpack told pending (refuses name reason) = either_own (nat_lt (length (settled told pending)) max_commands) _ _ tt tt
 told_by_own number unpack told pending (opts new) = opted_own number unpack told pending new
 
 pub report_step_own : (number : ℕ) (state : ReportState) (line : LineText) → IsOwnFault (report_step number state line)

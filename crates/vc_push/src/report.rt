@@ -5,7 +5,7 @@ ghost use Rattle.std.specs.List.{All, flat_map};
 ghost use Rattle.vc_pkt.specs.Line.{spelling};
 ghost use Rattle.vc_pkt.specs.Message.{IsSpelledBy, Refuses};
 ghost use Rattle.vc_pkt.specs.StepView.{Gives};
-ghost use Rattle.vc_push.specs.Report.{IsShortTold, IsShortUnpack, ReportText, SpellsReport, new_id_text, ng_text, ok_text, outcome_lines, report_lines, report_step, text_line, told_lines, unpack_text, unpacking};
+ghost use Rattle.vc_push.specs.Report.{IsShortTold, IsShortUnpack, ReportText, SpellsReport, new_id_text, ng_text, ok_text, outcome_lines, report_lines, report_step, text_line, told_lines, unpack_text, unpacking, max_accepted, max_refused};
 ghost use Rattle.vc_push.specs.ReportView.{bytes_of, report_text, told_of};
 
 use crate::report_reader::ReportReader;
@@ -48,7 +48,7 @@ fn write_unpack(out: &mut Vec<u8>, unpack: &Option<Vec<u8>>) -> Result<(), Alloc
 
 /// Writes the line of an accepted command.
 fn write_ok(out: &mut Vec<u8>, name: &[u8]) -> Result<(), AllocError>
-    requires short { length name.now ≤ 65512 }
+    requires short { length name.now ≤ max_accepted }
     ensures { OnOk result (out.new.items ≡ out.old.items ++ spelling (text_line (ok_text name.now))) }
 {
     let mut words = Vec::new(*out.allocator());
@@ -70,7 +70,7 @@ fn new_id_text(alloc: Global, id: ObjectId) -> Result<Vec<u8>, AllocError>
 
 /// Writes the lines of an accepted command.
 fn write_accepted(out: &mut Vec<u8>, name: &[u8], id: ObjectId) -> Result<(), AllocError>
-    requires short { length name.now ≤ 65512 }
+    requires short { length name.now ≤ max_accepted }
     ensures { OnOk result (out.new.items ≡ out.old.items ++ flat_map spelling (outcome_lines name.now (Ok id))) }
 {
     let words = new_id_text(*out.allocator(), id)?;
@@ -81,7 +81,7 @@ fn write_accepted(out: &mut Vec<u8>, name: &[u8], id: ObjectId) -> Result<(), Al
 
 /// Writes the line of a refused command.
 fn write_ng(out: &mut Vec<u8>, name: &[u8], reason: &[u8]) -> Result<(), AllocError>
-    requires short { length name.now + length reason.now ≤ 65511 }
+    requires short { length name.now + length reason.now ≤ max_refused }
     ensures { OnOk result (out.new.items ≡ out.old.items ++ spelling (text_line (ng_text name.now reason.now))) }
 {
     let mut words = Vec::new(*out.allocator());

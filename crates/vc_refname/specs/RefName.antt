@@ -7,6 +7,13 @@ use Rattle.vc_refname.specs.declared.fault.NameFault.TheVariants as rules
 use Rattle.vc_refname.specs.declared.fault.NewNameError.{NewNameError}
 use Rattle.vc_refname.specs.declared.fault.NewNameError.TheVariants.{Refused, Memory}
 
+-- own: the most bytes of a name, and of a branch's, whose tracking name is nine bytes longer
+abbrev pub max_name : ℕ
+max_name = 255
+
+abbrev pub max_branch : ℕ
+max_branch = 246
+
 -- what stands between slashes
 abbrev pub components : List ℕ → List (List ℕ)
 components text = slice_split (λ byte. byte == 47) text
@@ -32,7 +39,7 @@ breaks rules.AtBrace text = occurs (codes "@{") text
 breaks rules.EdgeSlash text = starts_with nat_eq text (codes "/") || ends_with nat_eq text (codes "/")
 breaks rules.TwoSlashes text = occurs (codes "//") text
 breaks rules.FinalDot text = ends_with nat_eq text (codes ".")
-breaks rules.TooLong text = nat_lt 255 (length text)
+breaks rules.TooLong text = nat_lt max_name (length text)
 
 -- in the order in which they are answered
 abbrev pub all_rules : List NameFault

@@ -3,7 +3,7 @@
 ghost use Rattle.std.specs.Prelude.{◌≡◌, ◌↔◌, ◌≤◌, nat_eq, IsOk, IfOk, OnOk, IfErr, IsTrue, length, codes};
 ghost use Rattle.std.specs.List.{starts_with};
 ghost use Rattle.std.specs.Result.{result_err};
-ghost use Rattle.vc_refname.specs.RefName.{IsRefName, first_broken_rule, tracking_name, IsRefused};
+ghost use Rattle.vc_refname.specs.RefName.{IsRefName, first_broken_rule, tracking_name, IsRefused, max_branch};
 
 use crate::fault::{NameFault, NewNameError};
 use crate::rules::check_rules;
@@ -84,7 +84,7 @@ impl RefName {
     /// `refs/heads/b`. It is nine bytes longer, so the branch's name has at most 246 bytes.
     pub fn tracking(&self, alloc: Global) -> Result<RefName, AllocError>
         requires branch { IsTrue (starts_with nat_eq self.now (codes "refs/heads/")) }
-        requires fits { length self.now ≤ 246 }
+        requires fits { length self.now ≤ max_branch }
         ensures { IfOk result (λ name. name ≡ tracking_name self.now) }
     {
         let branch = self.text.as_str().strip_prefix("refs/heads/").unwrap();

@@ -7,7 +7,7 @@ use Rattle.vc_format.proofs.Laws.{links_agree, spells_commits, main_is_name}
 use Rattle.vc_index.specs.declared.entry.IndexEntry.{IndexEntry}
 use Rattle.vc_model.specs.Object.{Format, Kind, Object, Objects}
 use Rattle.vc_model.specs.Object.Kind.{Blob, Tree, Commit, Tag}
-use Rattle.vc_model.specs.Repository.{Entry}
+use Rattle.vc_model.specs.Repository.{Entry, gitlink}
 use Rattle.vc_object.specs.Decoding.{StoredObject, stored_object}
 use Rattle.vc_object.specs.ObjectMap.{ObjectMap}
 use Rattle.vc_object.specs.declared.kind.Kind.{Kind as ObjectKind}
@@ -35,7 +35,7 @@ mode_number modes.File = 33188
 mode_number modes.SharedFile = 33204
 mode_number modes.Executable = 33261
 mode_number modes.Link = 40960
-mode_number modes.Commit = 57344
+mode_number modes.Commit = gitlink
 
 abbrev pub machine_entry : IndexEntry → Entry
 machine_entry e = record { mode = mode_number e.mode; id = e.id.0 }

@@ -9,7 +9,7 @@ use Rattle.vc_model.specs.Node.{Answer, Reply}
 use Rattle.vc_model.specs.Node.Answer.{Did}
 use Rattle.vc_model.specs.Node.Reply.{Opened}
 use Rattle.vc_model.specs.Repository.{IsBare, IsSound}
-use Rattle.vc_model.specs.Shared.{SharedNode}
+use Rattle.vc_model.specs.Shared.{SharedNode, slot_count}
 use Rattle.vc_model.specs.SharedCall.{SharedAnswers, SharedCall}
 use Rattle.vc_model.specs.SharedCall.SharedCall.{StepOf}
 use Rattle.vc_rules.proofs.GitLaws.{git_rules}
@@ -37,7 +37,7 @@ pub data StepsOn (slot : ℕ) : SharedNode → Answer → SharedNode → Option 
 -- What comes opens no push and is answered at once, or it opens one, which is stepped to its end.
 pub data ServesOn (call : SharedCall) : SharedNode → Answer → SharedNode → Option Message → Type 0 where
   at_once : {n t : SharedNode} {a : Answer} {sends : Option Message} → MayAnswer n call a t sends → OpensNone a → ServesOn call n a t sends
-  stepped : {n u t : SharedNode} {a : Answer} {sends : Option Message} (slot : ℕ) → slot < 8 → MayAnswer n call (Did (Opened slot)) u None → StepsOn slot u a t sends
+  stepped : {n u t : SharedNode} {a : Answer} {sends : Option Message} (slot : ℕ) → slot < slot_count → MayAnswer n call (Did (Opened slot)) u None → StepsOn slot u a t sends
       → ServesOn call n a t sends
 
 -- the machine's last answer, as it is told: the reply's bytes, or why there is none

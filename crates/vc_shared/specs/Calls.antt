@@ -8,7 +8,7 @@ use Rattle.vc_model.specs.Node.{Answer}
 use Rattle.vc_model.specs.Node.Answer.{Did}
 use Rattle.vc_model.specs.Node.Reply.{MigratedAll, Opened, Passed, Updated as UpdatedOne}
 use Rattle.vc_model.specs.Repository.{IsBare, IsSound}
-use Rattle.vc_model.specs.Shared.{SharedNode}
+use Rattle.vc_model.specs.Shared.{SharedNode, slot_count}
 use Rattle.vc_model.specs.SharedCall.{SharedAnswers, SharedCall}
 use Rattle.vc_rules.proofs.GitLaws.{git_rules}
 use Rattle.vc_rules.specs.Git.{git}
@@ -33,7 +33,7 @@ SteppedAs (Err e) a sends = Quietly (fault_answer e) a sends
 -- the machine's answer to a message, as it is told
 abbrev pub AcceptedAs : Result Accepted SharedFault → Answer → Option Message → Type 0
 AcceptedAs (Ok (Reply bytes)) a sends = SendsBytes bytes.items a sends
-AcceptedAs (Ok (Slot k)) a sends = (k < 8) × Quietly (Did (Opened k)) a sends
+AcceptedAs (Ok (Slot k)) a sends = (k < slot_count) × Quietly (Did (Opened k)) a sends
 AcceptedAs (Err e) a sends = Quietly (fault_answer e) a sends
 
 -- Whatever node was held, some node is held after the call; and where the node was sound and bare, the answer and that node are the

@@ -4,7 +4,7 @@ use Rattle.std.specs.FinMap.{get}
 use Rattle.vc_files.specs.FileMap.{FileMap}
 use Rattle.vc_history.specs.Stored.{KeepsAgreement}
 use Rattle.vc_model.specs.Push.{OpenPush, Slots}
-use Rattle.vc_model.specs.Shared.{SharedNode}
+use Rattle.vc_model.specs.Shared.{SharedNode, slot_count}
 use Rattle.vc_node.specs.Clean.{IsClean}
 use Rattle.vc_node.specs.Machine.{Spells}
 use Rattle.vc_node.specs.Shown.{shown}
@@ -28,9 +28,9 @@ HoldsSlot content k (Some s) (Some p) = (s.slot ≡ k) × HoldsPush content s p 
 HoldsSlot content k _ _ = ⊥
 
 pub record HoldsSlots (content : FileMap) (slots : List (Option SessionText)) (pushes : Slots) : Type 0 where
-  pub eight : length slots ≡ 8
-  pub each : (k : ℕ) → k < 8 → HoldsSlot content k (slot_of slots k) (get pushes k)
-  pub others : (k : ℕ) → 8 ≤ k → get pushes k ≡ None
+  pub eight : length slots ≡ slot_count
+  pub each : (k : ℕ) → k < slot_count → HoldsSlot content k (slot_of slots k) (get pushes k)
+  pub others : (k : ℕ) → slot_count ≤ k → get pushes k ≡ None
 
 -- a node that is up has its pushes open, and one that is down has none
 abbrev pub IsLive : FileMap → List (Option SessionText) → Bool → Option Slots → Type 0

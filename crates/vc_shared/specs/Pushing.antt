@@ -7,9 +7,10 @@ use Rattle.vc_message.specs.AnyMessage.{SpellsMessage, a_push}
 use Rattle.vc_message.specs.Machine.{IsPush}
 use Rattle.vc_model.specs.Message.{Message}
 use Rattle.vc_model.specs.SharedCall.SharedCall.{Accept}
+use Rattle.vc_model.specs.Shared.{slot_count}
 use Rattle.vc_object.specs.declared.fault.ObjectFault.{ObjectFault}
 use Rattle.vc_pkt.specs.Message.{IsSpelledBy}
-use Rattle.vc_push.specs.Push.{CommandText, FaultOf, PushText}
+use Rattle.vc_push.specs.Push.{CommandText, FaultOf, PushText, max_commands}
 use Rattle.vc_session.specs.Carrying.{Carries, objects_of_push}
 use Rattle.vc_session.specs.Clean.{IsQuarantineClean, MakesNoneBad}
 use Rattle.vc_session.specs.Quarantine.{quarantine_folder}
@@ -26,13 +27,13 @@ use Rattle.vc_shared.specs.declared.fault.SharedFault.TheVariants.{Busy}
 -- ---- slots
 -- this slot is free, and each below it is taken
 pub record IsLowest (slots : List (Option SessionText)) (k : ℕ) : Type 0 where
-  pub within : k < 8
+  pub within : k < slot_count
   pub free : slot_of slots k ≡ None
   pub taken : (j : ℕ) → j < k → slot_of slots j ≢ None
 
 -- in each of the eight a push is open
 abbrev pub AreTaken : List (Option SessionText) → Type 0
-AreTaken slots = (k : ℕ) → k < 8 → slot_of slots k ≢ None
+AreTaken slots = (k : ℕ) → k < slot_count → slot_of slots k ≢ None
 
 -- the lowest that is free, or none where all are taken
 abbrev pub FindsFree : List (Option SessionText) → Option ℕ → Type 0
@@ -43,7 +44,7 @@ FindsFree slots None = AreTaken slots
 -- one report can tell what becomes of all the commands
 pub record AreTellableInOne (commands : List CommandText) : Type 0 where
   pub each : All IsTellable commands
-  pub few : length commands ≤ 256
+  pub few : length commands ≤ max_commands
 
 -- it can, where the push was read
 abbrev pub ReadsTellable : Type 0

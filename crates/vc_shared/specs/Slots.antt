@@ -3,7 +3,7 @@ use Rattle.std.specs.Prelude.{◌≤◌, ℕ, List, Option, Some, None, length, 
 use Rattle.std.specs.List.{All}
 use Rattle.vc_fetch.specs.Advert.{IsName}
 use Rattle.vc_object.specs.Lines.{IsId}
-use Rattle.vc_push.specs.Push.{CommandText}
+use Rattle.vc_push.specs.Push.{CommandText, max_commands}
 use Rattle.vc_session.specs.Session.{SessionText}
 
 -- the push in a slot
@@ -18,7 +18,7 @@ pub record IsTellable (c : CommandText) : Type 0 where
 
 pub record AreToldInOne (s : SessionText) : Type 0 where
   pub each : All IsTellable s.commands
-  pub few : length s.commands ≤ 256
+  pub few : length s.commands ≤ max_commands
 
 abbrev pub IsSlotTellable : Option SessionText → Type 0
 IsSlotTellable None = Unit {0}
