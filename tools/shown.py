@@ -145,22 +145,28 @@ def numbers_of(folder):
     return found
 
 
+def numbers_brought(crate, text):
+    """The numbers for which a text imports names of specs, by name, and the text without these imports."""
+    folders = {it.name: it.folder for it in [*crate.below(), crate]}
+    brought = {}
+
+    def without_numbers(it):
+        _, name, _, module = it[2].split(".", 3)
+        numbers = numbers_of(folders[name]) if name in folders else {}
+        words = it[3].split(", ")
+        brought.update({word: numbers[module, word] for word in words if (module, word) in numbers})
+        left = [word for word in words if (module, word) not in numbers]
+        return f"{it[1]}{it[2]}.{{{', '.join(left)}}}{it[4]}" if left else ""
+
+    return brought, DEFINITIONS.sub(without_numbers, text)
+
+
 def with_numbers(crate, path, text, whole=""):
     """A text in which each name that it imports of specs, or defines there, for a number is that number: the name is an abbreviation, and
     the prover sees none of it. The text may be a part of the whole, which has its imports."""
-    folders = {it.name: it.folder for it in [*crate.below(), crate]}
-    brought = dict(NUMBER.findall(text)) if path.startswith("specs/") else {}
-
-    def import_of(it):
-        _, name, _, module = it[2].split(".", 3)
-        numbers = numbers_of(folders[name]) if name in folders else {}
-        names = it[3].split(", ")
-        brought.update({word: numbers[module, word] for word in names if (module, word) in numbers})
-        left = [word for word in names if (module, word) not in numbers]
-        return f"{it[1]}{it[2]}.{{{', '.join(left)}}}{it[4]}" if left else ""
-
-    DEFINITIONS.sub(import_of, whole)
-    text = DEFINITIONS.sub(import_of, text)
+    around, _ = numbers_brought(crate, whole)
+    brought, text = numbers_brought(crate, text)
+    brought = {**around, **brought, **(dict(NUMBER.findall(text)) if path.startswith("specs/") else {})}
     if brought:
         # (a definition stays, for who names it behind its module)
         names = rf"{NUMBER.pattern}|\b({'|'.join(brought)})\b"

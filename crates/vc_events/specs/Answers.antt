@@ -42,7 +42,7 @@ answer_of (ended.Fault f) = Fault (failure_of f)
 
 -- ---- what a node says
 
--- there are eight slots
+-- a slot is one that there is
 abbrev pub IsOfSlots : Deed → Type 0
 IsOfSlots (deed.Opened k) = k < slot_count
 IsOfSlots _ = Unit {0}

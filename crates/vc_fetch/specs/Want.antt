@@ -28,7 +28,7 @@ AreIdLines word (id ∷ ids) [] = ⊥
 AreIdLines word (id ∷ ids) (flush ∷ lines) = ⊥
 AreIdLines word (id ∷ ids) (text line ∷ lines) = IsIdLine word id line × AreIdLines word ids lines
 
--- the first want may have more behind its id; there are at most 256 wants, and 256 haves
+-- the first want may have more behind its id; neither the wants nor the haves are too many
 pub record SpellsWant (want : WantText) (lines : List LineText) : Type 0 where
   pub id : ObjectId
   pub ids : List ObjectId
@@ -64,7 +64,7 @@ pub data WantState : Type 0 where
   wanting : List ObjectId → WantState
   having : List ObjectId → List ObjectId → WantState
 
--- one more id, where there are fewer than 256
+-- one more id, where there is room for it
 abbrev pub one_more : ℕ → List ObjectId → Option ObjectId → (List ObjectId → WantState) → Result (Stepped WantState WantText) PktFault
 one_more number ids None next = Err (BadRecord number)
 one_more number ids (Some id) next = if nat_lt (length ids) max_ids then Ok (onward (next (ids ++ id ∷ []))) else Err TooMany

@@ -35,7 +35,7 @@ git_links o = map bytes_of_id (links_of (kind_of o.kind) o.body)
 abbrev pub git_parents : Object → List Id
 git_parents o = map bytes_of_id (unwrap_or (parents_of (kind_of o.kind) o.body) [])
 
--- The name of a branch has at most 246 bytes, so that its tracking name has at most 255.
+-- The name of a branch is so short that its tracking name is not too long.
 abbrev pub git_is_legal : List ℕ → Bool
 git_is_legal text =
     is_utf8 text && (is_ref_name text && (not (starts_with nat_eq text (codes "refs/heads/")) || nat_le (length text) max_branch))

@@ -52,7 +52,7 @@ pub record AreIndexTrees (files : IndexMap) (trees : List (List Entry)) (root : 
   pub levels : ℕ
   pub is : AreFolderTrees levels files [] trees root
 
--- the tree's spelling has 16,777,216 bytes at most
+-- the tree's spelling is no longer than a body may be
 abbrev pub Fits : List Entry → Type 0
 Fits entries = length (spelling entries) ≤ max_body
 

@@ -11,7 +11,7 @@ names_in path = slice_split (λ b. b == 47) path
 abbrev pub max_path : ℕ
 max_path = 4096
 
--- a path of a file: each part is a name that may stand in a tree, and it has 4,096 bytes at most
+-- a path of a file: each part is a name that may stand in a tree, and it is not too long
 pub record IsPath (path : List ℕ) : Type 0 where
   pub names : AllByRecursion IsName (names_in path)
   pub short : length path ≤ max_path

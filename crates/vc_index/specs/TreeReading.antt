@@ -26,13 +26,13 @@ pub data TreeFault : Type 0 where
   OtherKind : List ℕ → TreeFault
   NoObject : ObjectId → TreeFault
 
--- the entry has this fault: where its path is over 4,096 bytes, no object is looked for
+-- the entry has this fault: where its path is too long, no object is looked for
 abbrev pub HasFaultIn : Look → ObjectMap → Pair → TreeFault → Type 0
 HasFaultIn look objects e LongPath = max_path < length e.0
 HasFaultIn look objects e (OtherKind path) = (length e.0 ≤ max_path) × (path ≡ e.0) × (kind : Kind) × (object : StoredObject) × IsDueIn look e.1.mode kind × (objects e.1.id ≡ Some object) × (object.kind ≢ kind)
 HasFaultIn look objects e (NoObject id) = (length e.0 ≤ max_path) × (id ≡ e.1.id) × IsSought look e.1.mode × (objects e.1.id ≡ None)
 
--- the entry's path has 4,096 bytes at most, where it is looked at an object of the kind that its mode asks for is there, and a
+-- the entry's path is not too long, where it is looked at an object of the kind that its mode asks for is there, and a
 -- folder's is a legal tree
 pub record IsSoundIn (look : Look) (objects : ObjectMap) (e : Pair) : Type 0 where
   pub short : length e.0 ≤ max_path

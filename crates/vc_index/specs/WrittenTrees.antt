@@ -77,7 +77,7 @@ IsOfFolder files folder entry =
     ((entry.mode ≢ modes.Tree) × (get files (folder ++ entry.name) ≡ Some (index_entry entry.mode entry.id)))
     ⊎ ((entry.mode ≡ modes.Tree) × ((path : List ℕ) × IsSome (get files path) × IsAbove (folder ++ entry.name) path))
 
--- a folder of the index has a tree, the first of the index's whose spelling is over 16,777,216 bytes
+-- a folder of the index has a tree, the first of the index's whose spelling is longer than a body may be
 pub record HasTooLarge (files : IndexMap) : Type 0 where
   pub folder : List ℕ
   pub entries : List Entry

@@ -33,7 +33,7 @@ IsOurs fmt r x = ReachedFrom fmt (stored r.objects) (λ y. (n : RefName) × (get
 abbrev pub head_value : Repository → Option Id
 head_value r = elim (r.head) [ OnBranch b ↦ get r.refs b | Detached x ↦ Some x ]
 
--- the lowest of the eight slots that is free
+-- the lowest of the slots that is free
 pub record IsLowestFree (slots : Slots) (s : ℕ) : Type 0 where
   pub below : s < slot_count
   pub free : get slots s ≡ None

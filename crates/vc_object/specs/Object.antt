@@ -23,7 +23,7 @@ max_body = 16777216
 abbrev pub oversize : ℕ
 oversize = 16777217
 
--- an object: a kind and a body in its grammar; own: of 16 MiB at most
+-- an object: a kind, and a body in its grammar that is not too long
 pub record IsObject (kind : Kind) (body : List ℕ) : Type 0 where
   pub grammar : IsBody kind body
   pub size : length body ≤ max_body

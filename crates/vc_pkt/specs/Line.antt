@@ -37,7 +37,7 @@ pub data IsPart (bytes : List ℕ) : Type 0 where
   short : length bytes < 4 → IsPart bytes
   begun : (line : LineText) (more : List ℕ) → more ≢ [] → IsLine line (bytes ++ more) → IsPart bytes
 
--- four bytes that no line begins with: they aren't hex digits, or write 1, 2, 3 or more than 65,520
+-- four bytes that no line begins with: they aren't hex digits, or write 1, 2, 3 or more than a line has
 pub record IsBad (bytes : List ℕ) : Type 0 where
   pub four : 4 ≤ length bytes
   pub bad : (n : ℕ) → IsLength (take 4 bytes) n → ((0 < n) × (n < 4)) ⊎ (max_line < n)

@@ -14,7 +14,7 @@ cut_up most [] body = []
 cut_up most (f ∷ fuel) [] = []
 cut_up most (f ∷ fuel) (b ∷ bs) = text (take most (b ∷ bs)) ∷ cut_up most fuel (drop most (b ∷ bs))
 
--- all data lines but the last have 65,516 bytes; a body of no bytes has none
+-- all data lines but the last are full; a body of no bytes has none
 unfoldable pub data_lines : List ℕ → List LineText
 data_lines body = cut_up max_data body body
 

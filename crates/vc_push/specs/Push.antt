@@ -92,7 +92,7 @@ abbrev pub SpellsCarried : Bool → Carried → List LineText → Type 0
 SpellsCarried true carried lines = (lines ≡ []) × (carried ≡ Ok [])
 SpellsCarried false carried lines = (objects : List StoredObject) × IsStream is_any objects lines × (carried ≡ carried_of objects)
 
--- at least one command, at most 256
+-- at least one command, and not too many
 pub record SpellsPush (push : PushText) (lines : List LineText) : Type 0 where
   pub command : CommandText
   pub commands : List CommandText
@@ -197,7 +197,7 @@ abbrev pub is_none_yet : List CommandText → Bool
 is_none_yet [] = true
 is_none_yet (c ∷ cs) = false
 
--- one more command, where there are fewer than 256
+-- one more command, where there is room for it
 abbrev pub one_more : ℕ → List CommandText → Option CommandText → Result (Stepped PushState PushText) PktFault
 one_more number commands None = Err (BadRecord number)
 one_more number commands (Some command) = if nat_lt (length commands) max_commands then Ok (onward (commanding (commands ++ command ∷ []))) else Err TooMany

@@ -85,7 +85,7 @@ AreToldBy (t ∷ ts) (flush ∷ lines) = ⊥
 AreToldBy (t ∷ ts) (text line ∷ lines) =
     (options others : List LineText) × IsToldBy t.name t.outcome line options × AreToldBy ts others × (lines ≡ options ++ others)
 
--- at most 256 commands are told of
+-- no more commands are told of than a push may have
 pub record SpellsReport (report : ReportText) (lines : List LineText) : Type 0 where
   pub first : List ℕ
   pub others : List LineText
@@ -223,7 +223,7 @@ said line =
     (said_as (after_word (codes "ng ") (without_lf line)) ng_said
     (said_as (after_word (codes "option ") (without_lf line)) (λ words. opts (new_id line)) nothing))
 
--- one more command, where fewer than 256 were told of
+-- one more command, where there is room for it
 abbrev pub told_more : List ToldText → Result (Stepped ReportState ReportText) PktFault → Result (Stepped ReportState ReportText) PktFault
 told_more told next = if nat_lt (length told) max_commands then next else Err TooMany
 

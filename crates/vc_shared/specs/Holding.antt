@@ -17,7 +17,7 @@ use Rattle.vc_shared.specs.Slots.{slot_of}
 -- what a shared node is made of
 pub record SharedText (F : Type 0) : Type 0 where
   pub files : F
-  -- the push in each of its eight slots
+  -- the push in each of its slots
   pub slots : List (Option SessionText)
   pub is_up : Bool
 

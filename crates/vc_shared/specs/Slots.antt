@@ -1,4 +1,4 @@
--- The eight slots of the shared node, in which pushes are open.
+-- The slots of the shared node, in which pushes are open.
 use Rattle.std.specs.Prelude.{◌≤◌, ℕ, List, Option, Some, None, length, slice_get, unwrap_or}
 use Rattle.std.specs.List.{All}
 use Rattle.vc_fetch.specs.Advert.{IsName}
