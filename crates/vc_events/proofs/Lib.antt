@@ -3,3 +3,4 @@ pub mod NewLemmas
 pub mod StepLemmas
 pub mod EventLemmas
 pub mod RunLemmas
+pub mod BoundLemmas

@@ -21,10 +21,9 @@ use Rattle.vc_events.specs.declared.events.Event.{Event}
 use Rattle.vc_events.specs.declared.events.Event.TheVariants as event
 use Rattle.vc_events.specs.declared.answers.Answer.{Answer as WorldAnswer}
 use Rattle.vc_events.specs.declared.world.World.{World}
-use Rattle.vc_events.specs.Answers.{IsAnswer}
 use Rattle.vc_events.specs.Events.{event_of}
 use Rattle.vc_events.specs.World.{HoldsAt, AreLetters, IsEnd, HoldsWorld, NoZeros, Steps, IsSame}
-use Rattle.vc_events.specs.Running.{AreApart, EveryRunIsSafe, GoesOn, IsLengthened, Lengthens, RunsSafely}
+use Rattle.vc_events.specs.Running.{AreApart, EveryRunIsSafe, GoesOn, IsLengthened, IsNext, Lengthens, RunsSafely}
 
 -- ---- the nodes of a run are sound
 
@@ -49,12 +48,12 @@ zeros_now start h one c n at o has = one.zero o (occurs_now start h o (in_clone 
 -- ---- one event more
 
 lengthened_more : (start : FusedWorld) (h : ExactHistory) (es : List Event) (said : List WorldAnswer) (k : ExactHistory) (e : Event) (a : WorldAnswer) (m : ExactMoment)
-    → IsLengthened start h es said k → m.event ≡ event_of e → IsAnswer (fused_after start k) a m.answer → IsLengthened start h (es ++ e ∷ []) (said ++ a ∷ []) (m ∷ k)
-lengthened_more start h [] [] k e a m is event answer =
-    (m, event, subst (λ (g : ExactHistory). IsAnswer (fused_after start g) a m.answer) is answer, ap (λ (g : ExactHistory). m ∷ g) is)
-lengthened_more start h (d ∷ es) (b ∷ said) k e a m is event answer = (is.0, is.1, is.2, lengthened_more start (is.0 ∷ h) es said k e a m is.3 event answer)
-lengthened_more start h [] (b ∷ said) k e a m is event answer = absurd is
-lengthened_more start h (d ∷ es) [] k e a m is event answer = absurd is
+    → IsLengthened start h es said k → IsNext start k e a m → IsLengthened start h (es ++ e ∷ []) (said ++ a ∷ []) (m ∷ k)
+lengthened_more start h [] [] k e a m is next =
+    (m, subst (λ (g : ExactHistory). IsNext start g e a m) is next, ap (λ (g : ExactHistory). m ∷ g) is)
+lengthened_more start h (d ∷ es) (b ∷ said) k e a m is next = (is.0, is.1, lengthened_more start (is.0 ∷ h) es said k e a m is.2 next)
+lengthened_more start h [] (b ∷ said) k e a m is next = absurd is
+lengthened_more start h (d ∷ es) [] k e a m is next = absurd is
 
 earlier : (start : FusedWorld) (m : ExactMoment) (h : ExactHistory) → AreApart start (m ∷ h) → AreApart start h
 earlier start m h one = record {
@@ -75,7 +74,7 @@ honest_event (event.Restart p) = tt
 honest_more : (start : FusedWorld) (h : ExactHistory) (es : List Event) (said : List WorldAnswer) (k : ExactHistory) → IsLengthened start h es said k → NothingForgedExactly git message_wire h → NothingForgedExactly git message_wire k
 honest_more start h [] [] k is honest = subst (λ (k : ExactHistory). NothingForgedExactly git message_wire k) (sym is) honest
 honest_more start h (e ∷ es) (a ∷ said) k is honest =
-    honest_more start (is.0 ∷ h) es said k is.3 (subst (λ (e : WorldEvent). IsHonest git message_wire e) (sym is.1) (honest_event e), honest)
+    honest_more start (is.0 ∷ h) es said k is.2 (subst (λ (e : WorldEvent). IsHonest git message_wire e) (sym is.1.event) (honest_event e), honest)
 honest_more start h [] (a ∷ said) k is honest = absurd is
 honest_more start h (e ∷ es) [] k is honest = absurd is
 
@@ -89,14 +88,16 @@ module _ {S C : Type 0} (hs : S → SharedNode → Type 0) (hc : C → CloneNode
     each = λ start h sound run held.
         let k = so_far.each start h sound run held in
         let s = step.each (fused_after start k.0) k.2 in
-        let m : ExactMoment = record { event = event_of e; answer = s.1; world = s.0 } in (
+        let m : ExactMoment = record { event = event_of e; answer = s.1; world = s.0 } in
+        let next : IsNext start k.0 e a m = record {
+          event = refl;
+          answer = s.3;
+          step = λ before. s.4 (sound_now start k.0 sound (k.3 before) before.names) (zeros_now start k.0 before);
+        } in (
           m ∷ k.0,
-          lengthened_more start h es said k.0 e a m k.1 refl s.3,
+          lengthened_more start h es said k.0 e a m k.1 next,
           s.2,
-          λ one.
-              let before = earlier start m k.0 one in
-              let ran = k.3 before in
-              (s.4 (sound_now start k.0 sound ran before.names) (zeros_now start k.0 before), ran),
+          λ one. let before = earlier start m k.0 one in (next.step before, k.3 before),
         );
   }
 

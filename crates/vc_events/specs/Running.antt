@@ -1,10 +1,10 @@
 -- Runs of a world: each that ends at the world before is lengthened to one that ends at the world after.
 use Rattle.std.specs.Global.{Global}
-use Rattle.std.specs.Prelude.{◌≡◌, ◌≢◌, ℕ, List, [], ◌∷◌, ◌++◌, Result, Ok, Err, Vec, take, vec_len}
+use Rattle.std.specs.Prelude.{◌≡◌, ◌≢◌, ℕ, List, [], ◌∷◌, ◌++◌, Result, Ok, Err, Vec, map, take, vec_len}
 use Rattle.vc_message.proofs.Readings.{message_wire}
 use Rattle.vc_model.specs.Clone.{CloneNode}
 use Rattle.vc_model.specs.Exact.{Shadows}
-use Rattle.vc_model.specs.ExactWorld.{ExactHistory, ExactMoment, ExactRun, FusedWorld, NoExactCollision, NothingForgedExactly, OccursExactly, fused_after}
+use Rattle.vc_model.specs.ExactWorld.{ExactHistory, ExactMoment, ExactRun, FusedWorld, NoExactCollision, NothingForgedExactly, OccursExactly, WorldAnswers, fused_after}
 use Rattle.vc_model.specs.Object.{Object, zero_id}
 use Rattle.vc_model.specs.Run.{History}
 use Rattle.vc_model.specs.Safe.{IsSafe}
@@ -13,9 +13,11 @@ use Rattle.vc_model.specs.World.{IsNew, StartsSound}
 use Rattle.vc_rules.specs.Git.{git}
 use Rattle.vc_events.specs.Answers.{IsAnswer}
 use Rattle.vc_events.specs.Events.{event_of}
-use Rattle.vc_events.specs.World.{HoldsWorld, Steps}
+use Rattle.vc_events.specs.World.{HoldsWorld, IsNewWorld, Steps}
 use Rattle.vc_events.specs.declared.answers.Answer.{Answer as WorldAnswer}
+use Rattle.vc_events.specs.declared.answers.Answer.TheVariants.{Refused}
 use Rattle.vc_events.specs.declared.events.Event.{Event}
+use Rattle.vc_events.specs.declared.events.Event.TheVariants.{Deliver}
 use Rattle.vc_events.specs.declared.world.World.{World}
 
 -- ---- what was done
@@ -36,10 +38,17 @@ pub record AreApart (start : FusedWorld) (h : ExactHistory) : Type 0 where
   pub names : NoExactCollision git message_wire start h
   pub zero : (o : Object) → OccursExactly git message_wire start h o → git.name_of o ≢ zero_id
 
+-- The moment is the next after h: of this event, with the machine's answer that is told so. Its world is the machine's after that
+-- answer. The premise of this is on what occurred before the moment, and nothing of that is left to choose.
+pub record IsNext (start : FusedWorld) (h : ExactHistory) (e : Event) (a : WorldAnswer) (m : ExactMoment) : Type 0 where
+  pub event : m.event ≡ event_of e
+  pub answer : IsAnswer (fused_after start h) a m.answer
+  pub step : AreApart start h → WorldAnswers git message_wire (fused_after start h) m.event m.answer m.world
+
 -- The history k is h and then these events with these answers.
 abbrev pub IsLengthened : FusedWorld → ExactHistory → List Event → List WorldAnswer → ExactHistory → Type 0
 IsLengthened start h [] [] k = k ≡ h
-IsLengthened start h (e ∷ es) (a ∷ said) k = (m : ExactMoment) × (m.event ≡ event_of e) × IsAnswer (fused_after start h) a m.answer × IsLengthened start (m ∷ h) es said k
+IsLengthened start h (e ∷ es) (a ∷ said) k = (m : ExactMoment) × IsNext start h e a m × IsLengthened start (m ∷ h) es said k
 IsLengthened start h [] (a ∷ said) k = ⊥
 IsLengthened start h (e ∷ es) [] k = ⊥
 
@@ -68,3 +77,9 @@ pub record GoesOn {S C : Type 0} (holds_shared : S → SharedNode → Type 0) (h
 abbrev pub EveryRunIsSafe : Type 0
 EveryRunIsSafe = (n : ℕ) (start : FusedWorld) (h : ExactHistory) → IsNew start.world n → ExactRun git message_wire start h → NoExactCollision git message_wire start h → NothingForgedExactly git message_wire h →
     (p : History) × Shadows git message_wire start h p × IsSafe git start.world p
+
+-- In a new world no message was sent. So a run that is told of it answers each delivery with 113, however many there are: a run is
+-- bound at each of its events, and not at the first alone.
+abbrev pub NeverSentIsRefused : {S C : Type 0} → (S → SharedNode → Type 0) → (C → CloneNode → Type 0) → Type 0
+NeverSentIsRefused {S} {C} holds_shared holds_clone = (n : ℕ) (old new : World S C) (messages : List ℕ) (said : List WorldAnswer) → IsNewWorld holds_shared holds_clone n old →
+    RunsSafely holds_shared holds_clone old (map Deliver messages) said new → said ≡ map (λ _. Refused 113) messages
