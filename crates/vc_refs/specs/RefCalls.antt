@@ -21,7 +21,8 @@ pub record SetsRef {F : Type 0} (honest : Type 0) (content : F → FileMap) (nam
   pub err : honest → OnErr result (content new ≡ content old)
 
 -- A ref is removed: it is there no more, and no bad file stands for it. Each other ref has the value that it had, the packed file
--- loses no other line, and after an error each ref is as before.
+-- loses no other line, and after an error each ref is as before: a refusal changes no file, and a fault may leave the packed file
+-- without a line that the ref's own file covers.
 pub record RemovesRef {F : Type 0} (honest : Type 0) (content : F → FileMap) (name : List ℕ) (old new : F) (result : Result (Unit {0}) RefFault) : Type 0 where
   pub removed : honest → OnOk result (refs (content new) ≡ without_ref (refs (content old)) name)
   pub gone : honest → OnOk result (IsBadRef (content new) (deciding_file (content new) name) → ⊥)
@@ -29,6 +30,7 @@ pub record RemovesRef {F : Type 0} (honest : Type 0) (content : F → FileMap) (
   pub rest : honest → KeepsTheRest name (content old) (content new)
   pub unpacks : honest → UnpacksOnly name (content old) (content new)
   pub err : honest → OnErr result (refs (content new) ≡ refs (content old))
+  pub unchanged : honest → IfErr result (λ e. IsFault e ⊎ (content new ≡ content old))
 
 -- All refs go into the packed file: each is as before wherever that ends, nothing else changes, and a refusal writes nothing.
 pub record PacksRefs {F : Type 0} (honest : Type 0) (content : F → FileMap) (old new : F) (result : Result (Unit {0}) RefFault) : Type 0 where

@@ -27,6 +27,7 @@ returns-in_err-packed-clause-removes g c =
       rest = λ honest. rest_same _ _ _ same;
       unpacks = λ honest. unpacks_same _ _ _ same;
       err = λ honest. search (rules, ap refs same);
+      unchanged = λ honest. search (rules, same);
     }
 
 pub returns-in_err-packed-clause-wear : goal.returns-in_err-packed-clause-wear
@@ -49,6 +50,7 @@ returns-in_err-loose-clause-removes g c =
       rest = λ honest. rest_same _ _ _ same;
       unpacks = λ honest. unpacks_same _ _ _ same;
       err = λ honest. search (rules, ap refs same);
+      unchanged = λ honest. search (rules, same);
     }
 
 pub returns-in_err-loose-clause-wear : goal.returns-in_err-loose-clause-wear
@@ -70,6 +72,7 @@ returns-then-is_none-clause-removes g c =
       rest = λ honest. rest_same _ _ _ sames;
       unpacks = λ honest. unpacks_same _ _ _ sames;
       err = search rules;
+      unchanged = search rules;
     }
 
 pub returns-in_err-unpack-clause-removes : goal.returns-in_err-unpack-clause-removes
@@ -84,6 +87,7 @@ returns-in_err-unpack-clause-removes g c =
       rest = λ honest. rest_same _ _ _ (same honest);
       unpacks = λ honest. unpacks_same _ _ _ (same honest);
       err = λ honest. search (rules, ap refs (same honest));
+      unchanged = λ honest. search (rules, same honest);
     }
 
 pub returns-in_err-unpack-clause-wear : goal.returns-in_err-unpack-clause-wear
@@ -113,6 +117,7 @@ returns-in_err-take_away-clause-removes g c =
       rest = λ honest. subst (λ (m : FileMap). KeepsTheRest name old m) (sym (same honest)) (rest_unpacked name _ _ c.requires (change honest));
       unpacks = λ honest. subst (λ (m : FileMap). UnpacksOnly name old m) (sym (same honest)) (unpacks_line name _ _ c.requires (change honest));
       err = λ honest. search (rules, stays honest);
+      unchanged = search rules;
     }
 
 pub returns-in_err-take_away-clause-wear : goal.returns-in_err-take_away-clause-wear
@@ -141,6 +146,7 @@ returns-then-not-loose-clause-removes g c =
       rest = λ honest. rest_unpacked name _ _ c.requires (change honest);
       unpacks = λ honest. unpacks_line name _ _ c.requires (change honest);
       err = search rules;
+      unchanged = search rules;
     }
 
 pub returns-then-not-loose-clause-wear : goal.returns-then-not-loose-clause-wear
@@ -171,6 +177,7 @@ returns-clause-removes g c =
       rest = λ honest. rest_gone name old between c.requires (change honest) new (loose.only honest) (loose.gone honest);
       unpacks = λ honest. unpacks_gone name old between c.requires (change honest) new (loose.only honest);
       err = search rules;
+      unchanged = search rules;
     }
 
 pub returns-clause-wear : goal.returns-clause-wear
