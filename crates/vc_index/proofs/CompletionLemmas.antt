@@ -1,6 +1,6 @@
 -- Each index has its trees: what is left of its files, and the folders that are open, can be closed to the end.
 use Rattle.std.proofs.Common.{◌≡◌, ◌≢◌, ℕ, zero, suc, ◌<◌, ◌≤◌, ◌-◌, List, [], ◌∷◌, ◌++◌, map, Some, true, false, ◌==◌, nat_eq, refl, ap, sym, ◌∙◌, subst, ⊎_elim, inl, inr, append_assoc, append-nil, length, take, drop, arith}
-use Rattle.std.specs.Prelude.{option_map, slice_get, ◌+◌}
+use Rattle.std.specs.Prelude.{option_map, slice_get}
 use Rattle.std.specs.List.{AllByRecursion, starts_with}
 use Rattle.std.specs.FinMap.{entries}
 use Rattle.std.proofs.lemmas.Bool.Decides.{Decides-eqb}

@@ -18,6 +18,7 @@ pub mod PartLemmas
 pub mod ClosingLemmas
 pub mod CompletionLemmas
 pub mod StandingLemmas
+pub mod FittingLemmas
 pub mod LoadLemmas
 pub mod ReadingLemmas
 pub mod DamageLemmas

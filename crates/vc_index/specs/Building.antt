@@ -1,6 +1,6 @@
 -- How far the writing of an index's trees has come: its files and the trees that were stored, as parts of folders
 -- that are open, the lowest folder last.
-use Rattle.std.specs.Prelude.{◌≡◌, ◌↔◌, ◌⊎◌, ℕ, List, [], ◌∷◌, ◌++◌, map, length, ◌-◌, IsSome, Some, slice_get, Result, IfErr, OnOk}
+use Rattle.std.specs.Prelude.{◌≡◌, ◌↔◌, ◌⊎◌, ℕ, List, [], ◌∷◌, ◌++◌, map, length, ◌-◌, IsSome, None, Some, slice_get, Result, IfErr, OnOk}
 use Rattle.std.specs.List.{AllByRecursion}
 use Rattle.std.specs.Option.{option_map_or}
 use Rattle.std.specs.FinMap.{get, entries}
@@ -16,7 +16,7 @@ use Rattle.vc_store.specs.Store.{with_objects}
 use Rattle.vc_index.specs.FolderTrees.{AllFit, AreEntryTrees, AreFirstTrees, AreFolderTrees, AreJoined}
 use Rattle.vc_index.specs.HeldFiles.{Pair, HasFile}
 use Rattle.vc_index.specs.IndexMap.{IndexMap, IsIndex, index_entry}
-use Rattle.vc_index.specs.Part.{EndsInSlash, part_entry, part_pair}
+use Rattle.vc_index.specs.Part.{EndsInSlash, part_entry, part_pair, without_id}
 use Rattle.vc_index.specs.Path.{names_in, IsAbove}
 use Rattle.vc_index.specs.WrittenTrees.{Holds, IsOfFolder, IsOfWrite, IsPart, AreLowerTrees, tree_object}
 use Rattle.vc_index.specs.declared.faults.IndexFault.{IndexFault}
@@ -118,6 +118,22 @@ open_length parts = option_map_or (λ (part : Part). length part.folder.now) (sl
 abbrev pub ClosesFolders : {E : Type 0} → (IsSo : List Pair → Type 0) → (honest : Type 0) → (before after : List Part) → (old new : ObjectMap) → Result (Unit {0}) E → Type 0
 ClosesFolders IsSo honest before after old new result =
     (m : IndexMap) (trees : List (List Entry)) (rest : List Pair) → IsSo rest → Building m trees before rest → OnOk result (Closes honest m rest trees after old new)
+
+-- the parts stand, without their ids, for parts with which more trees of the index fit; nothing is said of any store
+pub record Joins (files : IndexMap) (rest : List Pair) (trees : List (List Entry)) (parts : List Part) : Type 0 where
+  pub named : List Part
+  pub same : parts ≡ map without_id named
+  pub closes : Closes ⊥ files rest trees named (λ _. None) (λ _. None)
+
+-- the trees of the folders fit, and these are the parts then, without their ids
+abbrev pub JoinsFolders : {E : Type 0} → (IsSo : List Pair → Type 0) → (before after : List Part) → Result (Unit {0}) E → Type 0
+JoinsFolders IsSo before after result =
+    (m : IndexMap) (trees : List (List Entry)) (rest : List Pair) (named : List Part) → IsSo rest → before ≡ map without_id named → Building m trees named rest → OnOk result (Joins m rest trees after)
+
+-- what a refusal blames, if the trees so far fit; the parts stand without their ids
+abbrev pub RefusesJoins : (IsSo : List Pair → Type 0) → (before : List Part) → Result (Unit {0}) IndexFault → Type 0
+RefusesJoins IsSo before result =
+    (m : IndexMap) (trees : List (List Entry)) (rest : List Pair) (named : List Part) → IsSo rest → AllFit trees → before ≡ map without_id named → Building m trees named rest → IfErr result (IsOfWrite m (λ _. ⊥))
 
 -- wherever it ends, trees of the index were stored and nothing else
 abbrev pub StandsBehind : (IsSo : List Pair → Type 0) → (honest : Type 0) → (before : List Part) → (old new : ObjectMap) → Type 0

@@ -60,6 +60,13 @@ Fits entries = length (spelling entries) ≤ max_body
 abbrev pub AllFit : List (List Entry) → Type 0
 AllFit trees = AllByRecursion Fits trees
 
+-- each of the index's trees fits
+pub record HasFitting (files : IndexMap) : Type 0 where
+  pub trees : List (List Entry)
+  pub root : List Entry
+  pub listed : AreIndexTrees files trees root
+  pub fits : AllFit trees
+
 -- the trees are the first ones of the index's, and not all of them
 pub record AreFirstTrees (files : IndexMap) (trees : List (List Entry)) : Type 0 where
   pub rest : List (List Entry)

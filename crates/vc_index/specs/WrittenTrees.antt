@@ -12,7 +12,9 @@ use Rattle.vc_object.specs.declared.kind.Kind.TheVariants as kinds
 use Rattle.vc_object.specs.declared.mode.Mode.{Mode}
 use Rattle.vc_object.specs.declared.mode.Mode.TheVariants as modes
 use Rattle.vc_index.specs.FolderTrees.{AllFit, AreFirstTrees, AreIndexTrees, IsFirstLarge, IsIndexTree}
+use Rattle.vc_index.specs.IndexFault.{IsMemory}
 use Rattle.vc_index.specs.IndexMap.{IndexMap, index_entry}
+use Rattle.vc_index.specs.Part.{parts_size}
 use Rattle.vc_index.specs.Path.{IsAbove}
 use Rattle.vc_index.specs.TreeFiles.{IsFileOfTree}
 use Rattle.vc_store.specs.Store.{with_objects}
@@ -20,6 +22,7 @@ use Rattle.vc_store.specs.declared.faults.StoreFault.{StoreFault}
 use Rattle.vc_store.specs.declared.faults.StoreFault.TheVariants.{BadObject, Absent, Damaged, Fault}
 use Rattle.vc_index.specs.declared.faults.IndexFault.{IndexFault}
 use Rattle.vc_index.specs.declared.faults.IndexFault.TheVariants.{BadPath, PathConflict, BadIndex, WrongEntry, Missing, Store}
+use Rattle.vc_index.specs.declared.trees.Part.{Part}
 
 -- a tree as an object
 abbrev pub tree_object : List Entry → StoredObject
@@ -101,3 +104,29 @@ IsOfWrite files IsDamaged PathConflict = ⊥
 IsOfWrite files IsDamaged (BadIndex place) = ⊥
 IsOfWrite files IsDamaged (WrongEntry at) = ⊥
 IsOfWrite files IsDamaged (Missing id) = ⊥
+
+-- the store did not take a tree: a file of the store is damaged, or a fault
+abbrev pub IsOfStore : StoreFault → Type 0
+IsOfStore (BadObject fault) = ⊥
+IsOfStore (Absent id) = ⊥
+IsOfStore (Damaged id) = ⊤
+IsOfStore (Fault fault) = ⊤
+
+-- the first trees may have been stored before the error
+abbrev pub MayHaveBegun : IndexFault → Type 0
+MayHaveBegun (Store fault) = IsOfStore fault
+MayHaveBegun BadPath = ⊥
+MayHaveBegun PathConflict = ⊥
+MayHaveBegun (BadIndex place) = ⊥
+MayHaveBegun (WrongEntry at) = ⊥
+MayHaveBegun (Missing id) = ⊥
+
+-- ---- before anything is stored
+
+-- a growth was refused, or a tree is too large
+abbrev pub IsOfJoining : IndexFault → Type 0
+IsOfJoining fault = IsMemory fault ⊎ (fault ≡ Store (BadObject TooLarge))
+
+-- the tree of the parts is too large
+abbrev pub IsTooLong : List Part → IndexFault → Type 0
+IsTooLong parts fault = (fault ≡ Store (BadObject TooLarge)) × (max_body < parts_size parts)

@@ -6,7 +6,7 @@ ghost use Rattle.vc_files.specs.FileMap.{SameOutside};
 ghost use Rattle.vc_store.specs.Store.{objects, IsDamaged};
 ghost use Rattle.vc_index.specs.Loading.{HasBlobs, IsOfList, IsOfLoad};
 ghost use Rattle.vc_index.specs.TreeReading.{IsAnswered, IsIndexOfTree, ListsAs, ReadsAs, TreeFault, tree_fault};
-ghost use Rattle.vc_index.specs.WrittenTrees.{IsWritten, IsBegun, IsOfWrite};
+ghost use Rattle.vc_index.specs.WrittenTrees.{IsWritten, IsBegun, IsOfWrite, MayHaveBegun};
 ghost use Rattle.vc_index.specs.Path.{IsPath, IsAbove};
 ghost use Rattle.vc_index.specs.Damage.{KeepsDamage};
 ghost use Rattle.vc_index.specs.IndexMap.{HasConflict, HasFileAbove, IndexMap, IsFile, IsIndex, index_entry, index_of};
@@ -114,7 +114,8 @@ impl Index {
 
     /// Stores the trees of the index, folder by folder and the lower ones first, and answers the name of the root's
     /// tree. No tree below the root is empty; the tree of an index with no files is. A tree whose spelling is over
-    /// 16,777,216 bytes is 3, and no tree of an index is refused for another fault of its bytes.
+    /// 16,777,216 bytes is 3, which is found before the first is stored, and no tree of an index is refused for another fault
+    /// of its bytes.
     pub fn write_tree<F: Files>(&self, alloc: Global, files: &mut F) -> Result<ObjectId, IndexFault>
         ensures written { IfOk result (IsWritten F.honest self.now (objects (F.content files.old)) (objects (F.content files.new))) }
         ensures begun { OnErr result (IsBegun F.honest self.now (objects (F.content files.old)) (objects (F.content files.new))) }
@@ -122,6 +123,7 @@ impl Index {
         ensures outside { F.honest → SameOutside (codes "objects/") (F.content files.old) (F.content files.new) }
         ensures undamaged { F.honest → KeepsDamage (F.content files.old) (F.content files.new) }
         ensures wear { Writes F.honest F.content F.failed F.can_fail F.left files.old files.new (IsErrOf result (IndexFault.Store (StoreFault.Fault Fault.Device))) }
+        ensures unchanged { F.honest → IfErr result (λ e. MayHaveBegun e ⊎ (F.content files.new ≡ F.content files.old)) }
     {
         write_trees(alloc, files, &self.map)
     }
