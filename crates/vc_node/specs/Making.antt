@@ -1,5 +1,5 @@
 -- What refuses a commit, in its order, and what one leaves that ended early.
-use Rattle.std.specs.Prelude.{◌≡◌, ◌⊎◌, ℕ, List, [], ◌∷◌, Some, None, true, is_some, string_bytes, Contains, codes}
+use Rattle.std.specs.Prelude.{◌≡◌, ◌⊎◌, ℕ, Bool, List, [], ◌∷◌, Some, None, true, false, is_some, string_bytes, Contains, codes}
 use Rattle.std.specs.List.{AllByRecursion}
 use Rattle.vc_files.specs.FileMap.{FileMap, SameOutside}
 use Rattle.vc_index.specs.FolderTrees.{AllFit, AreIndexTrees}
@@ -30,7 +30,7 @@ use Rattle.vc_node.specs.IndexFile.{SpellsIndex, BlamesIndex}
 use Rattle.vc_node.specs.Shown.{shown, with_objects_shown}
 use Rattle.vc_node.specs.declared.commit.Words.{Words}
 use Rattle.vc_node.specs.declared.fault.NodeFault.{NodeFault}
-use Rattle.vc_node.specs.declared.fault.NodeFault.TheVariants.{Store, Ref}
+use Rattle.vc_node.specs.declared.fault.NodeFault.TheVariants.{Store, Ref, Down}
 
 -- an author and a committer of one line
 abbrev pub AreLines : List ℕ → List ℕ → Type 0
@@ -140,6 +140,13 @@ pub record IsCut (old : FileMap) (extra : List ObjectId) (author committer messa
 -- what a commit leaves that ended early: all as it was, or a cut
 abbrev pub LeftByCommit : FileMap → List ObjectId → (author committer message : List ℕ) → FileMap → Type 0
 LeftByCommit old extra author committer message new = (new ≡ old) ⊎ IsCut old extra author committer message new
+
+-- Why a commit was not made, and what that leaves: it is refused in its order, or the node was down; all is as it was, or some of its
+-- objects were stored, and no other file was written.
+pub record EndsCommit (was_up : Bool) (old : FileMap) (extra : List ObjectId) (author committer message : List ℕ) (new : FileMap) (e : NodeFault) : Type 0 where
+  pub because : ((e ≡ Down) × (was_up ≡ false)) ⊎ BlamesMaking old extra author committer message e
+  pub left : LeftByCommit old extra author committer message new
+  pub outside : SameOutside (codes "objects/") old new
 
 -- ---- with what it says as one value
 

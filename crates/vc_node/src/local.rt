@@ -44,7 +44,7 @@ pub(crate) fn write<F: Files>(
     ensures legal { IsOk result → IsObject kind body.now }
     ensures stored { F.honest → IfOk result (λ id. HasObject (F.content files.old) id (stored_object kind body.now) (F.content files.new)) }
     ensures refused { F.honest → IfErr result (BlamesWrite (F.content files.old) kind body.now) }
-    ensures kept { F.honest → StoresOnly result (F.content files.old) (F.content files.new) }
+    ensures kept { F.honest → StoresOnly kind body.now result (F.content files.old) (F.content files.new) }
     ensures file { IfErr result (TellsRead (λ id. id ≡ object_name kind body.now) NoneRead) }
     ensures wear { Writes F.honest F.content F.failed F.can_fail F.left files.old files.new (TellsDevice result) }
     ensures looks { IsObject kind body.now ⊎ Wears F.failed F.can_fail F.left files.old files.new (TellsDevice result) }

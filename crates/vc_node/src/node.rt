@@ -27,11 +27,11 @@ ghost use Rattle.vc_node.specs.ReceiveFault.{TellsDevice as ReceiveTellsDevice, 
 ghost use Rattle.vc_session.specs.Quarantine.{IsDropped};
 ghost use Rattle.vc_node.specs.Emptying.{AreEmpty, IsOpened, LosesCarried};
 ghost use Rattle.vc_node.specs.Blames.{BlamesLoad, BlamesOpen, BlamesPacking, BlamesWrite, IsLocalHead};
-ghost use Rattle.vc_files.specs.FileMap.{SameOutside};
 ghost use Rattle.vc_index.specs.IndexMap.{IndexMap};
-ghost use Rattle.vc_node.specs.Clean.{KeepsClean, KeepsCleanBut, PacksOnly, Spares, StoresOnly};
+ghost use Rattle.vc_node.specs.Clean.{KeepsClean, KeepsCleanBut, PacksOnly, Spares, SparesStored, StoresOnly};
 ghost use Rattle.vc_node.specs.Commit.{IsCommitted};
 ghost use Rattle.vc_node.specs.IndexFile.{BlamesIndex, SpellsIndex};
+ghost use Rattle.vc_node.specs.Making.{EndsCommit};
 ghost use Rattle.vc_rules.specs.Git.{machine_object, mode_number};
 ghost use Rattle.vc_node.specs.Machine.{HoldsNode, machine_head, made_answer, done_answer, up_after};
 ghost use Rattle.vc_files.specs.Failures.{Wears, Writes};
@@ -199,7 +199,7 @@ impl<F: Files> CloneNode<F> {
         ensures name { IfOk result (λ id. id ≡ object_name kind body.now) }
         ensures refused { F.honest → self.old.is_up ≡ true → IfErr result (BlamesWrite (F.content self.old.files) kind body.now) }
         ensures settles { Settles (result ≡ Err NodeFault.Down) (up_after result) self.old self.new }
-        ensures kept { F.honest → StoresOnly result (F.content self.old.files) (F.content self.new.files) }
+        ensures kept { F.honest → StoresOnly kind body.now result (F.content self.old.files) (F.content self.new.files) }
         ensures file { IfErr result (TellsRead (λ id. id ≡ object_name kind body.now) NoneRead) }
         ensures wear { Writes F.honest F.content F.failed F.can_fail F.left self.old.files self.new.files (TellsDevice result) }
         ensures looks { F.honest → MayCommand F.content (Write (machine_object kind body.now)) self.old (Looks F.failed F.can_fail F.left self.old self.new result) }
@@ -264,7 +264,7 @@ impl<F: Files> CloneNode<F> {
         ensures refused { F.honest → self.old.is_up ≡ true → (m : IndexMap) → SpellsIndex (F.content self.old.files) m → IfErr result (BlamesStaging m (places files.now)) }
         ensures none { self.old.is_up ≡ true → files.now ≡ [] → (result ≡ Ok tt) × (self.new.files ≡ self.old.files) }
         ensures settles { Settles (result ≡ Err NodeFault.Down) (up_after result) self.old self.new }
-        ensures kept { F.honest → Spares result (F.content self.old.files) (F.content self.new.files) }
+        ensures kept { F.honest → SparesStored result (F.content self.old.files) (F.content self.new.files) }
         ensures file { IfErr result (TellsRead NoneRead NoneRead) }
         ensures wear { Writes F.honest F.content F.failed F.can_fail F.left self.old.files self.new.files (TellsDevice result) }
         ensures looks { F.honest → MayStaging F.content files.now self.old (Looks F.failed F.can_fail F.left self.old self.new result) }
@@ -401,7 +401,7 @@ impl<F: Files> CloneNode<F> {
         ensures answers { F.honest → AnswersCommandIfSound F.content (commit_task extra_parents.now author.now committer.now message.now) made_answer result self.old self.new }
         ensures committed { F.honest → IfOk result (λ id. IsCommitted (F.content self.old.files) extra_parents.now author.now committer.now message.now id (F.content self.new.files)) }
         ensures settles { Settles (result ≡ Err NodeFault.Down) (up_after result) self.old self.new }
-        ensures err { F.honest → OnErr result (SameOutside (codes "objects/") (F.content self.old.files) (F.content self.new.files)) }
+        ensures left { F.honest → IfErr result (EndsCommit self.old.is_up (F.content self.old.files) extra_parents.now author.now committer.now message.now (F.content self.new.files)) }
         ensures clean { F.honest → KeepsClean (F.content self.old.files) (F.content self.new.files) }
         ensures file { F.honest → IfErr result (TellsRead (IsOfCommit (F.content self.old.files) extra_parents.now author.now committer.now message.now) (IsAtHead (F.content self.old.files))) }
         ensures wear { Writes F.honest F.content F.failed F.can_fail F.left self.old.files self.new.files (TellsDevice result) }
@@ -418,7 +418,7 @@ impl<F: Files> CloneNode<F> {
         let kept = self.index.take();
         match commit::commit(self.alloc, &mut self.files, kept, extra_parents, words) {
             Ok(id) => Ok(id),
-            Err(fault) => Err(self.fail(fault)),
+            Err(refusal) => Err(self.fail(refusal)),
         }
     }
 

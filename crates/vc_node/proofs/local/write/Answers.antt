@@ -11,6 +11,7 @@ pub returns-clause-kept : goal.returns-clause-kept
 returns-clause-kept g c = λ honest. record {
   outside = c.in_ok-id.ensures.puts.outside honest;
   err = tt;
+  stored = shown_objects _ _ _ (c.in_ok-id.ensures.puts.outside honest) (c.in_ok-id.ensures.puts.objects honest);
   clean = clean_put _ _ c.args.kind c.args.body.now c.in_ok-id.id c.in_ok-id.ensures.answers.name (c.in_ok-id.ensures.puts.files honest) (c.in_ok-id.ensures.puts.objects honest) (c.in_ok-id.ensures.puts.outside honest);
 }
 

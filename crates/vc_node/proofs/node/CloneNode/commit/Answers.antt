@@ -2,9 +2,10 @@ use Rattle.vc_format.specs.Git.{bytes_of_id}
 use Rattle.vc_model.specs.Clone.Task.{MakeCommit}
 use Rattle.vc_node.proofs.MayLemmas.{commit_may}
 use Rattle.vc_node.proofs.LookLemmas.{looks_none, or_told, or_failed}
-use Rattle.std.proofs.Common.{refl, rules, ap, inr, sym, subst, map}
+use Rattle.std.proofs.Common.{refl, rules, ap, inl, inr, sym, subst, map}
 use Rattle.vc_files.specs.FileMap.{FileMap}
-use Rattle.vc_node.specs.Making.{LeftByCommit}
+use Rattle.vc_files.proofs.FileMapLemmas.{outside_same}
+use Rattle.vc_node.specs.Making.{EndsCommit, LeftByCommit}
 use Rattle.vc_node.proofs.AnswerLemmas.{answers_down}
 use Rattle.vc_node.proofs.CommitAnswers.{commit_done}
 use Rattle.vc_node.proofs.CommitFailures.{commit_failed}
@@ -33,8 +34,19 @@ returns-in-Err-clause-answers g c = λ honest.
     let left : LeftByCommit old c.args.extra_parents.now c.args.author.now c.args.committer.now c.args.message.now (content c.fail.new.self.files) =
     subst (λ (n : FileMap). LeftByCommit old c.args.extra_parents.now c.args.author.now c.args.committer.now c.args.message.now n) (sym (ap content c.fail.ensures.files)) (c.in-Err.ensures.left honest).left in
     answered_if_sound _ _ _ _ _ _ (rw (← c.self.view_is) (sound_failed _ _ _ _ _ (g.F.Files.content c.self.inside.files) _
-    (commit_failed old c.args.extra_parents.now c.args.author.now c.args.committer.now c.args.message.now c.in-Err.fault (content c.fail.new.self.files) (c.in-Err.ensures.refused honest) left)
+    (commit_failed old c.args.extra_parents.now c.args.author.now c.args.committer.now c.args.message.now c.in-Err.refusal (content c.fail.new.self.files) (c.in-Err.ensures.refused honest) left)
     c.fail.ensures.fault (search rules) (c.fail.ensures.up (search rules)))) (search rules)
+
+pub returns-then-not-self-clause-left : goal.returns-then-not-self-clause-left
+returns-then-not-self-clause-left g c = λ honest. record { because = inl (refl, search rules); left = inl refl; outside = outside_same _ _ }
+
+pub returns-in-Err-clause-left : goal.returns-in-Err-clause-left
+returns-in-Err-clause-left g c = λ honest.
+    let content = g.F.Files.content in
+    let Ends : FileMap → Type 0 = λ n. EndsCommit c.self.inside.is_up (content c.self.inside.files) c.args.extra_parents.now c.args.author.now c.args.committer.now c.args.message.now n c.in-Err.refusal in
+    let left = c.in-Err.ensures.left honest in
+    let ends : Ends (content c.commit.new.files) = record { because = inr (c.in-Err.ensures.refused honest); left = left.left; outside = left.outside } in
+    rw (← c.self.view_is, c.fail.ensures.fault) (subst Ends (sym (ap content c.fail.ensures.files)) ends)
 
 pub returns-in-Err-clause-file : goal.returns-in-Err-clause-file
 returns-in-Err-clause-file g c = λ honest. rw (← c.self.view_is, c.fail.ensures.fault) (c.in-Err.ensures.file honest)
