@@ -13,11 +13,7 @@ use Rattle.vc_node.specs.Emptying.{IsOpened}
 use Rattle.vc_node.specs.Opening.{IsOpenable}
 use Rattle.vc_session.specs.Session.{SessionText}
 use Rattle.vc_shared.specs.Holding.{HoldsShared, HoldsSlot}
-use Rattle.vc_shared.specs.Slots.{slot_of}
-
--- eight slots, all free
-abbrev pub free_slots : List (Option SessionText)
-free_slots = None ∷ None ∷ None ∷ None ∷ None ∷ None ∷ None ∷ None ∷ []
+use Rattle.vc_shared.specs.Slots.{free_slots, slot_of}
 
 slot_none : (slots : List (Option SessionText)) → AllByRecursion (λ v. v ≡ None) slots → (k : ℕ) → slot_of slots k ≡ None
 slot_none [] free k = refl

@@ -24,10 +24,11 @@ use Rattle.vc_node.specs.declared.fault.NodeFault.{NodeFault}
 use Rattle.vc_refs.specs.Refs.{packed_path}
 use Rattle.vc_session.proofs.CleanLemmas.{bad_loses}
 use Rattle.vc_session.specs.Session.{SessionText}
-use Rattle.vc_shared.proofs.OpeningLemmas.{free_slots, held_opened}
+use Rattle.vc_shared.proofs.OpeningLemmas.{held_opened}
 use Rattle.vc_shared.specs.Calls.{AnswersShared}
 use Rattle.vc_shared.specs.Holding.{HoldsShared}
 use Rattle.vc_shared.specs.Laws.{HeldSharedOpen}
+use Rattle.vc_shared.specs.Slots.{free_slots}
 
 -- a repository that is held can be opened, whatever pushes are open
 pub held_open : HeldSharedOpen

@@ -1,5 +1,5 @@
 -- The slots of the shared node, in which pushes are open.
-use Rattle.std.specs.Prelude.{◌≤◌, ℕ, List, Option, Some, None, length, slice_get, unwrap_or}
+use Rattle.std.specs.Prelude.{◌≤◌, ℕ, List, [], ◌∷◌, Option, Some, None, length, slice_get, unwrap_or}
 use Rattle.std.specs.List.{All}
 use Rattle.vc_fetch.specs.Advert.{IsName}
 use Rattle.vc_object.specs.Lines.{IsId}
@@ -9,6 +9,10 @@ use Rattle.vc_session.specs.Session.{SessionText}
 -- the push in a slot
 abbrev pub slot_of : List (Option SessionText) → ℕ → Option SessionText
 slot_of slots k = unwrap_or (slice_get slots k) None
+
+-- all eight of them, and no push is open
+abbrev pub free_slots : List (Option SessionText)
+free_slots = None ∷ None ∷ None ∷ None ∷ None ∷ None ∷ None ∷ None ∷ []
 
 -- A report can tell what becomes of the command: its name stands in one line, beside any reason, and its new id is one.
 pub record IsTellable (c : CommandText) : Type 0 where
