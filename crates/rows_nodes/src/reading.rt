@@ -1,5 +1,7 @@
 //! A shared node whose answers come as from a connection.
-ghost use Rattle.vc_shared.specs.Faults.{fault_answer};
+ghost use Rattle.std.specs.Prelude.{⊤};
+ghost use Rattle.vc_files.specs.Failures.{greatest_count};
+ghost use Rattle.vc_shared.specs.Faults.{IsOfDevice, fault_answer};
 
 use crate::site::Device;
 use std::alloc::Global;
@@ -40,6 +42,14 @@ impl Peer for Reading {
     ghost holds = { λ _ _. ⊥ };
 
     ghost told = { fault_answer };
+
+    ghost failed = { λ _. greatest_count };
+
+    ghost can_fail = { λ _. ⊤ };
+
+    ghost is_device = { IsOfDevice };
+
+    ghost loses = { ⊤ };
 
     fn ask(&mut self, bytes: &[u8]) -> Result<Reply<Cursor<Vec<u8>>>, SharedFault> {
         let answered = answer(&mut self.shared, bytes)?;

@@ -1,5 +1,5 @@
 //! One message at the shared node that files hold.
-ghost use Rattle.std.specs.Prelude.{IfErr, OnErr, OnOk};
+ghost use Rattle.std.specs.Prelude.{◌⊎◌, IfErr, OnErr, OnOk};
 ghost use Rattle.vc_files.specs.Failures.{Writes};
 ghost use Rattle.vc_model.specs.Repository.{Repository};
 ghost use Rattle.vc_model.specs.SharedCall.SharedCall.{Accept};
@@ -8,7 +8,7 @@ ghost use Rattle.vc_node.specs.Blames.{BlamesOpen};
 ghost use Rattle.vc_node.specs.Clean.{KeepsClean};
 ghost use Rattle.vc_node.specs.NodeFault.{TellsDevice as TellsNodeDevice};
 ghost use Rattle.vc_node.specs.Opening.{IsOpenable, OpenableAs};
-ghost use Rattle.vc_remote.specs.Answering.{AnswersRead, HoldsOpened, IsRefusedOnce};
+ghost use Rattle.vc_remote.specs.Answering.{AnswersCame, AnswersRead, HoldsOpened, IsRefusedOnce, KeepsOpenable, TellsUnopened};
 ghost use Rattle.vc_shared.specs.AcceptFault.{TellsDevice};
 
 use std::alloc::Global;
@@ -40,7 +40,10 @@ pub fn answer_from<F: Files, R: Read>(
     reader: &mut R,
 ) -> (F, Result<Option<Vec<u8>>, AcceptFault>)
     ensures answers { F.honest → OpenableAs (F.content files) (λ r. FirstRead (R.remaining reader.old) (λ m rest. AnswersRead (Accept m) r (F.content files) (F.content result.0) result.1)) }
+    ensures serves { F.honest → OpenableAs (F.content files) (λ r. AnswersCame (R.remaining reader.old) (R.remaining reader.new) r (F.content files) (F.content result.0) result.1) }
+    ensures lost { F.honest → OpenableAs (F.content files) (λ r. KeepsOpenable (F.content result.0) r result.1) }
     ensures refused { F.honest → IsRefusedOnce (R.remaining reader.old) (R.remaining reader.new) (F.content files) result.1 }
+    ensures clean { F.honest → TellsUnopened (F.content files) result.1 ⊎ KeepsClean (F.content files) (F.content result.0) }
     ensures wear { Writes F.honest F.content F.failed F.can_fail F.left files result.0 (TellsDevice result.1) }
 {
     let mut shared = match Shared::open(alloc, files) {

@@ -1,5 +1,9 @@
 //! The shared node at a port of this machine, as a clone meets it.
+ghost use Rattle.std.specs.Prelude.{◌≡◌, ⊤};
+ghost use Rattle.vc_files.specs.Failures.{greatest_count};
+ghost use Rattle.vc_files.specs.declared.faults.Fault.TheVariants.{Device};
 ghost use Rattle.vc_model.specs.Node.Answer.{Declined};
+ghost use Rattle.vc_remote.specs.declared.fault.RemoteFault.TheVariants.{Fault as OfDevice};
 
 use crate::fault::RemoteFault;
 use crate::progress::{Counted, Progress};
@@ -184,6 +188,15 @@ where
     ghost holds = { λ _ _. ⊥ };
 
     ghost told = { λ _. Declined 115 };
+
+    // A connection may fail at any time, and a device that keeps an answer too: nobody counts how often.
+    ghost failed = { λ _. greatest_count };
+
+    ghost can_fail = { λ _. ⊤ };
+
+    ghost is_device = { λ refusal. refusal ≡ OfDevice Device };
+
+    ghost loses = { ⊤ };
 
     fn ask(&mut self, bytes: &[u8]) -> Result<Reply<Spooled<File>>, RemoteFault> {
         self.lock = None;

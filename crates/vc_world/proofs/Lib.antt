@@ -9,3 +9,4 @@ pub mod FetchRounds
 pub mod Serves
 pub mod PushCalls
 pub mod ReportLemmas
+pub mod WearLemmas

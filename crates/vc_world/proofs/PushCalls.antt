@@ -2,7 +2,6 @@
 use Rattle.std.proofs.Common.{◌≡◌, ℕ, List, ◌∷◌, Option, Some, None, Result, Ok, Err, inl, inr, map, refl, sym, ap, ◌∙◌, subst, false, []}
 use Rattle.std.specs.Global.{Global}
 use Rattle.std.specs.Prelude.{IfErr, IfOk, Vec}
-use Rattle.std.specs.FinMap.{get}
 use Rattle.std.proofs.lemmas.Option.{same_Some}
 use Rattle.vc_exchange.specs.Sending.{machine_items}
 use Rattle.vc_exchange.specs.declared.item.PushItem.{PushItem}
@@ -19,7 +18,7 @@ use Rattle.vc_model.specs.Message.Message.{Report}
 use Rattle.vc_model.specs.Node.{Answer, Failure}
 use Rattle.vc_model.specs.Node.Answer.{Did, Fault}
 use Rattle.vc_model.specs.Node.Reply.{Moved as MovedRefs, Reported as ReportedRefs, Sends}
-use Rattle.vc_model.specs.Refs.{branch, tracking}
+use Rattle.vc_model.specs.Refs.{branch}
 use Rattle.vc_model.specs.Shared.{SharedNode}
 use Rattle.vc_model.proofs.Pushing.{push_ends}
 use Rattle.vc_node.specs.CloneCalls.{ReceivedAs, SentAs}
@@ -36,7 +35,7 @@ use Rattle.vc_rules.proofs.GitLaws.{git_rules}
 use Rattle.vc_rules.specs.Git.{git}
 use Rattle.vc_world.specs.Chains.{CloneMayAnswer, CloneMaySend, MayServe}
 use Rattle.vc_world.specs.Chains.MayPushRun.{reported, unreported, unsent}
-use Rattle.vc_world.specs.Exchanging.{AnswersPeer, Brings, EndsInFault, HoldsClone, IsNoReport, IsOkReport, IsPush, Leads, PushedAs, PushesOne, ReportsNone}
+use Rattle.vc_world.specs.Exchanging.{AnswersPeer, Brings, EndsPush, HoldsClone, IsNoReport, IsOkReport, IsPush, IsSetTo, Leads, PushedAs, PushesOne, ReportsNone}
 use Rattle.vc_world.specs.Pushing.{IsUnreadReport, TakesAnswer, taken}
 use Rattle.vc_world.specs.declared.ending.ExchangeEnd.{ExchangeEnd}
 use Rattle.vc_world.specs.declared.ending.ExchangeEnd.TheVariants.{Clone, Memory, Shared, Stray}
@@ -71,7 +70,7 @@ module _ {R : Type 0} (told : R → Answer) where
   pub tells_report : (m : Message) (received : Result Received CloneFault) (result : Result PushReport (ExchangeEnd R)) → taken {R = R} received ≡ Ok tt
       → IfOk result (λ report. IsReport m (report_text report)) → IfErr result (IsUnreadReport m) → Tells m received result
   tells_report m received (Ok report) e is none a sends shown = let r = reports received e a sends shown in (r.0, r.1, r.2, (m, refl, is))
-  tells_report m received (Err Memory) e is none a sends shown = reports received e a sends shown
+  tells_report m received (Err Memory) e is none a sends shown = let r = reports received e a sends shown in (r.0, r.1, r.2, (m, refl))
   tells_report m received (Err Stray) e is none a sends shown = let r = reports received e a sends shown in inr (r.0, r.1, r.2, (m, refl, none))
   tells_report m received (Err (Clone fault)) e is none a sends shown = absurd none
   tells_report m received (Err (Shared refusal)) e is none a sends shown = absurd none
@@ -226,11 +225,11 @@ module _ {P R F A : Type 0} (holds : P → SharedNode → Type 0) (told : R → 
 
     -- the end of the machine's push, as it is told
     abbrev Done : Result PushReport (ExchangeEnd R) → SharedNode → CloneNode → Type 0
-    Done result t d = IfOk result (λ report. IsOkReport report b id × (get t.repository.refs (branch b) ≡ Some (bytes_of_id id)) × (get d.repository.refs (tracking b) ≡ Some (bytes_of_id id))) × IfErr result (EndsInFault told)
+    Done result t d = IfOk result (λ report. IsOkReport report b id × IsSetTo b id t d) × IfErr result (EndsPush told b id t d)
 
     done : (result : Result PushReport (ExchangeEnd R)) (t : SharedNode) (d : CloneNode) (a : Answer) (came : Option Message) → PushedAs told result a came → PushEnds b (bytes_of_id id) a t d came → Done result t d
     done (Ok report) t d a came h (pushed moved is came_is set tracked) =
-        ((ok_report (report_text report) h.3.0 h.3.2 (same_Some h.3.0 ok_message (sym h.3.1 ∙ came_is)), set, tracked), tt)
+        ((ok_report (report_text report) h.3.0 h.3.2 (same_Some h.3.0 ok_message (sym h.3.1 ∙ came_is)), (set, tracked)), tt)
     done (Ok report) t d a came h (failed f is) = absurd (did_no_fault (ReportedRefs h.0 h.1) f (sym h.2 ∙ is))
     done (Err (Clone fault)) t d a came h (pushed moved is came_is set tracked) = absurd (undone_did a (fault_answer fault) (ReportedRefs moved []) h (clone_undone fault) is)
     done (Err (Clone fault)) t d a came h (failed f is) = (tt, (f, sym h ∙ is))
@@ -240,7 +239,8 @@ module _ {P R F A : Type 0} (holds : P → SharedNode → Type 0) (told : R → 
     done (Err Stray) t d a came (inl h) (failed f is) = absurd (none_failed a f h is)
     done (Err Stray) t d a came (inr h) (pushed moved is came_is set tracked) = absurd (subst IsNoReport (same_Some h.3.0 ok_message (sym h.3.1 ∙ came_is)) h.3.2)
     done (Err Stray) t d a came (inr h) (failed f is) = absurd (did_no_fault (ReportedRefs h.0 h.1) f (sym h.2 ∙ is))
-    done (Err Memory) t d a came h ends = (tt, tt)
+    done (Err Memory) t d a came h (pushed moved is came_is set tracked) = (tt, (set, tracked))
+    done (Err Memory) t d a came h (failed f is) = absurd (did_no_fault (ReportedRefs h.0 h.1) f (sym h.2 ∙ is))
 
   pub pushes_one : (result : Result PushReport (ExchangeEnd R)) (old new : P) (was is : Held F) → Leads holds (HoldsClone content) old new was is (IsPush told items result)
       → Leads holds (HoldsClone content) old new was is (PushesOne told items result)

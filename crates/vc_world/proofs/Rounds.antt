@@ -19,10 +19,10 @@ use Rattle.vc_model.specs.Exchange.RoundEnds.{moved, failed}
 use Rattle.vc_model.specs.Exchange.Fetches.{last, again}
 use Rattle.vc_model.proofs.Exchanges.{round_well}
 use Rattle.vc_model.proofs.Fetches.{fetch_ends}
-use Rattle.vc_world.specs.Chains.{CloneMaySend, MayFetch, MayRound, MayServe, SharedMaySend}
+use Rattle.vc_world.specs.Chains.{CloneMaySend, FetchMoves, MayFetch, MayRound, MayServe, SharedMaySend}
 use Rattle.vc_world.specs.Chains.MayServe.{at_once, stepped}
 use Rattle.vc_world.specs.Chains.MayRound.{unasked as may_unasked, unlisted as may_unlisted, advertised as may_advertised, unpacked as may_unpacked, packed as may_packed}
-use Rattle.vc_world.specs.Chains.MayFetch.{last as may_last, again as may_again}
+use Rattle.vc_world.specs.Chains.InRounds.{last as in_last, again as in_again}
 use Rattle.vc_world.proofs.Sent.{IsAsked, IsList, Stays, accepted_stays, asks, list_opens_none, sent_did, starts_fetch, want_opens_none}
 
 no_fault : (n k : ℕ) (f : Failure) → Did (Moved n k) ≡ Fault f → ⊥
@@ -96,6 +96,11 @@ module _ (fmt : Format) (rules : Rules fmt) where
         let three = asked e f advert want one.sound_then asks in
         packed e f u list advert want pack sends one.sends two.sends three.sends (gives.0, serves_want u t want gives.0 (Some pack) two.sound_then two.bare_then three.is_want gives.1) (k three.sound_then)
 
+  -- a fetch is one, however many refs it moved
+  fetch_of : (before : Option ℕ) (s t : SharedNode) (c d : CloneNode) (a : Answer) (n : ℕ) → FetchMoves fmt rules before s c a t d n → Fetches fmt rules before s c a t d
+  fetch_of before s t c d a n (in_last k over) = last k over
+  fetch_of before s t c d a n (in_again {u = u} {e = e} {moved = more} m left k not fewer rest) = again m left k not fewer (fetch_of (Some left) u t e d a more rest)
+
   module _ (can : BranchesCanBeTracked fmt) where
     ready_round : (s t : SharedNode) (c d : CloneNode) (a : Answer) → AreReady fmt rules s c → MayRound fmt rules s c a t d → FetchRound fmt rules s c a t d
     ready_round s t c d a h k = round_of s c h.shared.good.sound h.shared.bare h.clone.sound t d a k
@@ -105,15 +110,18 @@ module _ (fmt : Format) (rules : Rules fmt) where
     still_up s t c d n left (moved m k is up now less caught) = up
     still_up s t c d n left (failed f is) = absurd (no_fault n left f is)
 
-    pub fetch_of : (before : Option ℕ) (s t : SharedNode) (c d : CloneNode) (a : Answer) → AreReady fmt rules s c → AreUp s c → MayFetch fmt rules before s c a t d → Fetches fmt rules before s c a t d
-    fetch_of before s t c d a h up (may_last k over) = last (ready_round s t c d a h k) over
-    fetch_of before s t c d a h up (may_again {u = u} {e = e} n left k not fewer rest) =
-        let r = ready_round s u c e (Did (Moved n left)) h k in
-        let w = round_well fmt rules s u c e (Did (Moved n left)) can h up r in
-        again n left r not fewer (fetch_of (Some left) u t e d a w.1 (still_up s u c e n left w.0) rest)
+    -- each round is the machine's
+    moves_of : (before : Option ℕ) (s t : SharedNode) (c d : CloneNode) (a : Answer) (n : ℕ) → AreReady fmt rules s c → AreUp s c → MayFetch fmt rules before s c a t d n → FetchMoves fmt rules before s c a t d n
+    moves_of before s t c d a n h up (in_last k over) = in_last (ready_round s t c d a h k) over
+    moves_of before s t c d a n h up (in_again {u = u} {e = e} {moved = more} m left k not fewer rest) =
+        let r = ready_round s u c e (Did (Moved m left)) h k in
+        let w = round_well fmt rules s u c e (Did (Moved m left)) can h up r in
+        in_again m left r not fewer (moves_of (Some left) u t e d a more w.1 (still_up s u c e m left w.0) rest)
 
     -- What a fetch between nodes that are ready and up comes to.
-    pub fetch_comes : (s t : SharedNode) (c d : CloneNode) (a : Answer) → AreReady fmt rules s c → AreUp s c → MayFetch fmt rules None s c a t d
-        → Fetches fmt rules None s c a t d × FetchEnds s.repository a d × AreReady fmt rules t d × (t.repository ≡ s.repository)
-    fetch_comes s t c d a h up k = let r = fetch_of None s t c d a h up k in
-        let w = fetch_ends fmt rules s t c d a can h up r in (r, w.0, w.1, w.2)
+    pub fetch_comes : (s t : SharedNode) (c d : CloneNode) (a : Answer) (n : ℕ) → AreReady fmt rules s c → AreUp s c → MayFetch fmt rules None s c a t d n
+        → Fetches fmt rules None s c a t d × FetchMoves fmt rules None s c a t d n × FetchEnds s.repository a d × AreReady fmt rules t d × (t.repository ≡ s.repository)
+    fetch_comes s t c d a n h up k =
+        let m = moves_of None s t c d a n h up k in
+        let r = fetch_of None s t c d a n m in
+        let w = fetch_ends fmt rules s t c d a can h up r in (r, m, w.0, w.1, w.2)

@@ -1,6 +1,6 @@
 -- Exchanges as their calls tell of them: a fetch, round by round, and a push, where each answer is the machine's if the node before
 -- it was sound, and the shared node bare.
-use Rattle.std.specs.Prelude.{◌≡◌, ◌≢◌, ℕ, Bool, List, Option, Some, None}
+use Rattle.std.specs.Prelude.{◌≡◌, ◌≢◌, ◌+◌, ℕ, Bool, List, Option, Some, None}
 use Rattle.vc_model.specs.Object.{Format}
 use Rattle.vc_model.specs.Repository.{IsBare, IsSound}
 use Rattle.vc_model.specs.Message.{Message}
@@ -15,7 +15,7 @@ use Rattle.vc_model.specs.SharedCall.{SharedAnswers, SharedCall}
 use Rattle.vc_model.specs.SharedCall.SharedCall.{Accept, StepOf}
 use Rattle.vc_model.specs.CloneCall.{CloneAnswers, CloneCall}
 use Rattle.vc_model.specs.CloneCall.CloneCall.{Command, Receive}
-use Rattle.vc_model.specs.Exchange.{IsFewer, IsLast, IsUndone, OpensNone}
+use Rattle.vc_model.specs.Exchange.{FetchRound, IsFewer, IsLast, IsUndone, OpensNone}
 
 -- ---- one call
 
@@ -66,11 +66,24 @@ pub data MayRest (fmt : Format) (rules : Rules fmt) (want : Message) (s : Shared
   unpacked : MayServe fmt rules want s a t None → d ≡ c → MayRest fmt rules want s c a t d
   packed : (pack : Message) (sends : Option Message) → SharedMaySend fmt rules s want t pack → CloneMayAnswer fmt rules c (Receive pack) a d sends → MayRest fmt rules want s c a t d
 
--- Rounds, one after another, the first after one that left so many.
-pub data MayFetch (fmt : Format) (rules : Rules fmt) : Option ℕ → SharedNode → CloneNode → Answer → SharedNode → CloneNode → Type 0 where
-  last : {before : Option ℕ} {s t : SharedNode} {c d : CloneNode} {a : Answer} → MayRound fmt rules s c a t d → IsLast before a → MayFetch fmt rules before s c a t d
-  again : {before : Option ℕ} {s t u : SharedNode} {c d e : CloneNode} {a : Answer} (n left : ℕ) → MayRound fmt rules s c (Did (Moved n left)) u e
-      → left ≢ 0 → IsFewer before left → MayFetch fmt rules (Some left) u e a t d → MayFetch fmt rules before s c a t d
+-- how many refs moved by this answer
+abbrev pub moved_by : Answer → ℕ
+moved_by (Did (Moved n left)) = n
+moved_by a = 0
+
+-- Rounds, one after another, the first after one that left so many, and how many refs moved in all of them.
+pub data InRounds (Round : SharedNode → CloneNode → Answer → SharedNode → CloneNode → Type 0) : Option ℕ → SharedNode → CloneNode → Answer → SharedNode → CloneNode → ℕ → Type 0 where
+  last : {before : Option ℕ} {s t : SharedNode} {c d : CloneNode} {a : Answer} → Round s c a t d → IsLast before a → InRounds Round before s c a t d (moved_by a)
+  again : {before : Option ℕ} {s t u : SharedNode} {c d e : CloneNode} {a : Answer} {moved : ℕ} (n left : ℕ) → Round s c (Did (Moved n left)) u e
+      → left ≢ 0 → IsFewer before left → InRounds Round (Some left) u e a t d moved → InRounds Round before s c a t d (n + moved)
+
+-- a fetch as its calls tell of it
+abbrev pub MayFetch : (fmt : Format) → Rules fmt → Option ℕ → SharedNode → CloneNode → Answer → SharedNode → CloneNode → ℕ → Type 0
+MayFetch fmt rules before s c a t d moved = InRounds (MayRound fmt rules) before s c a t d moved
+
+-- the machine's fetch, with how many refs it moved
+abbrev pub FetchMoves : (fmt : Format) → Rules fmt → Option ℕ → SharedNode → CloneNode → Answer → SharedNode → CloneNode → ℕ → Type 0
+FetchMoves fmt rules before s c a t d moved = InRounds (FetchRound fmt rules) before s c a t d moved
 
 -- ---- a push
 

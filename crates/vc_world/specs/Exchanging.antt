@@ -1,7 +1,8 @@
 -- What an exchange over real nodes says: whatever nodes were held before it, some are held after it, and its calls are a chain.
-use Rattle.std.specs.Prelude.{◌≡◌, ◌⊎◌, ◌++◌, ℕ, false, List, [], ◌∷◌, Option, Some, None, Result, Ok, Err, IfOk, IfErr}
+use Rattle.std.specs.Prelude.{◌≡◌, ◌⊎◌, ◌++◌, ℕ, min, false, List, [], ◌∷◌, Option, Some, None, Result, Ok, Err, IfOk, IfErr}
 use Rattle.vc_exchange.specs.Sending.{machine_items}
 use Rattle.vc_exchange.specs.declared.item.PushItem.{PushItem}
+use Rattle.vc_files.specs.Failures.{greatest_count}
 use Rattle.vc_files.specs.FileMap.{FileMap}
 use Rattle.vc_format.specs.Git.{bytes_of_id}
 use Rattle.vc_message.specs.AnyMessage.{MessageText}
@@ -101,29 +102,29 @@ RoundAs told (Err (of.Shared refusal)) a = (a ≡ told refusal) × IsUndone (tol
 RoundAs told (Err of.Stray) a = MovesNone a
 RoundAs told (Err of.Memory) a = ⊥
 
--- of a fetch
-abbrev pub FetchedAs : {R : Type 0} → (R → Answer) → Result Fetched (ExchangeEnd R) → Answer → Type 0
-FetchedAs told (Ok fetched) a = (n : ℕ) × (a ≡ Did (Moved n fetched.left))
-FetchedAs told (Err e) a = RoundAs told (Err e) a
+-- of a fetch, in whose rounds so many refs moved; the count that is told stops at its greatest value
+abbrev pub FetchedAs : {R : Type 0} → (R → Answer) → Result Fetched (ExchangeEnd R) → Answer → ℕ → Type 0
+FetchedAs told (Ok fetched) a moved = (n : ℕ) × (a ≡ Did (Moved n fetched.left)) × (fetched.moved ≡ min moved greatest_count)
+FetchedAs told (Err e) a moved = RoundAs told (Err e) a
 
--- of a push, and the report that came; memory is short only where the clone has taken it
+-- of a push, and the report that came; memory is short only where the clone has taken what came
 abbrev pub PushedAs : {R : Type 0} → (R → Answer) → Result PushReport (ExchangeEnd R) → Answer → Option Message → Type 0
 PushedAs told (Ok report) a came = (moved : ℕ) × (refused : List ℕ) × (a ≡ Did (Reported moved refused)) × ((m : Message) × (came ≡ Some m) × IsReport m (report_text report))
 PushedAs told (Err (of.Clone fault)) a came = a ≡ fault_answer fault
 PushedAs told (Err (of.Shared refusal)) a came = (a ≡ told refusal) × IsUndone (told refusal)
 PushedAs told (Err of.Stray) a came = ReportsNone a ⊎ ((moved : ℕ) × (refused : List ℕ) × (a ≡ Did (Reported moved refused)) × ((m : Message) × (came ≡ Some m) × IsNoReport m))
-PushedAs told (Err of.Memory) a came = (moved : ℕ) × (refused : List ℕ) × (a ≡ Did (Reported moved refused))
+PushedAs told (Err of.Memory) a came = (moved : ℕ) × (refused : List ℕ) × (a ≡ Did (Reported moved refused)) × ((m : Message) × (came ≡ Some m))
 
 -- want of memory or a device that failed
 abbrev pub IsFault : Answer → Type 0
 IsFault a = (f : Failure) × (a ≡ Fault f)
 
--- a fault ended the exchange, at either node or between them
+-- a fault ended the exchange, at either node
 abbrev pub EndsInFault : {R : Type 0} → (R → Answer) → ExchangeEnd R → Type 0
 EndsInFault told (of.Clone fault) = IsFault (fault_answer fault)
 EndsInFault told (of.Shared refusal) = IsFault (told refusal)
 EndsInFault told of.Stray = ⊥
-EndsInFault told of.Memory = Unit {0}
+EndsInFault told of.Memory = ⊥
 
 -- ---- what it comes to
 
@@ -141,7 +142,7 @@ IsRest told want result s c t d = (a : Answer) × RoundAs told result a × MayRe
 
 -- a fetch, by its rounds, the first after one that left so many
 abbrev pub IsFetch : {R : Type 0} → (R → Answer) → Option ℕ → Result Fetched (ExchangeEnd R) → SharedNode → CloneNode → SharedNode → CloneNode → Type 0
-IsFetch told before result s c t d = (a : Answer) × FetchedAs told result a × MayFetch git git_rules before s c a t d
+IsFetch told before result s c t d = (a : Answer) × (moved : ℕ) × FetchedAs told result a moved × MayFetch git git_rules before s c a t d moved
 
 -- a push, by its calls
 abbrev pub IsPush : {R : Type 0} → (R → Answer) → List PushItem → Result PushReport (ExchangeEnd R) → SharedNode → CloneNode → SharedNode → CloneNode → Type 0
@@ -158,10 +159,18 @@ CatchesUp told result s c t d = AreReady git git_rules s c → AreUp s c →
 abbrev pub IsOkReport : PushReport → List ℕ → ObjectId → Type 0
 IsOkReport report b id = report_text report ≡ record { unpack = None; told = record { name = branch b; outcome = Ok id } ∷ [] }
 
+-- the branch has this id at the shared node, and so has the clone's tracking ref
+abbrev pub IsSetTo : List ℕ → ObjectId → SharedNode → CloneNode → Type 0
+IsSetTo b id t d = (get t.repository.refs (branch b) ≡ Some (bytes_of_id id)) × (get d.repository.refs (tracking b) ≡ Some (bytes_of_id id))
+
+-- a fault ended the push at either node; or it was done, and there was no memory to give its report
+abbrev pub EndsPush : {R : Type 0} → (R → Answer) → List ℕ → ObjectId → SharedNode → CloneNode → ExchangeEnd R → Type 0
+EndsPush told b id t d of.Memory = IsSetTo b id t d
+EndsPush told b id t d end = EndsInFault told end
+
 -- Where the nodes were ready and up, and one branch might be pushed to this id, the report says so, the branch has the id, and so has
--- the tracking ref; or a fault ended the push.
+-- the tracking ref; or a fault ended the push, or the report could not be given for want of memory, and both have the id all the same.
 abbrev pub PushesOne : {R : Type 0} → (R → Answer) → List PushItem → Result PushReport (ExchangeEnd R) → SharedNode → CloneNode → SharedNode → CloneNode → Type 0
 PushesOne told items result s c t d = (b : List ℕ) (id : ObjectId) → machine_items items ≡ one_item b (bytes_of_id id) →
     AreReady git git_rules s c → AreUp s c → MayPush git s c b (bytes_of_id id) →
-    IfOk result (λ report. IsOkReport report b id × (get t.repository.refs (branch b) ≡ Some (bytes_of_id id)) × (get d.repository.refs (tracking b) ≡ Some (bytes_of_id id)))
-    × IfErr result (EndsInFault told)
+    IfOk result (λ report. IsOkReport report b id × IsSetTo b id t d) × IfErr result (EndsPush told b id t d)

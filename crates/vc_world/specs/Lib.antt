@@ -1,4 +1,5 @@
 pub mod Chains
+pub mod Devices
 pub mod Exchanging
 pub mod Fetching
 pub mod Laws

@@ -1,5 +1,6 @@
 // A shared node at hand.
-ghost use Rattle.vc_shared.specs.Faults.{fault_answer};
+ghost use Rattle.std.specs.Prelude.{◌≢◌, ◌⊎◌, None};
+ghost use Rattle.vc_shared.specs.Faults.{IsOfDevice, fault_answer};
 ghost use Rattle.vc_shared.specs.Holding.{HoldsShared};
 
 use crate::{Peer, Reply};
@@ -17,6 +18,15 @@ impl<F: Files> Peer for Shared<F> {
     ghost holds = { λ shared n. HoldsShared (F.content shared.files) shared.slots shared.is_up n };
 
     ghost told = { fault_answer };
+
+    ghost failed = { λ shared. F.failed shared.files };
+
+    // A stop that is set is one more way to fail.
+    ghost can_fail = { λ shared. F.can_fail shared.files ⊎ (F.left shared.files ≢ None) };
+
+    ghost is_device = { IsOfDevice };
+
+    ghost loses = { ⊥ };
 
     fn ask(&mut self, bytes: &[u8]) -> Result<Reply<&'static [u8]>, SharedFault> {
         match vc_server::answer(self, bytes) {

@@ -13,6 +13,7 @@ use vc_store::StoreFault;
 // A fault between the nodes ends the call by which the clone would have taken the answer, so the clone goes down.
 pub(crate) fn lose<F: Files>(clone: &mut CloneNode<F>, fault: Fault) -> CloneFault
     ensures fault { result ≡ of_device fault }
+    ensures same { clone.new.files ≡ clone.old.files }
     ensures answers { F.honest → clone.old.is_up ≡ true → (m : Sent) → AnswersCall F.content (Receive m) (ReceivedAs (Err result)) clone.old clone.new }
 {
     clone.take_down();

@@ -1,8 +1,11 @@
 // Whom a clone asks.
+ghost use Rattle.std.specs.Prelude.{ℕ, IfOk, IsErrAnd};
+ghost use Rattle.vc_files.specs.Failures.{Wears, unstopped};
 ghost use Rattle.vc_message.specs.Machine.{Reads};
 ghost use Rattle.vc_model.specs.Message.{Message as Sent};
 ghost use Rattle.vc_model.specs.Node.{Answer};
 ghost use Rattle.vc_model.specs.Shared.{SharedNode};
+ghost use Rattle.vc_world.specs.Devices.{IsToRead};
 ghost use Rattle.vc_world.specs.Exchanging.{AnswersPeer};
 
 use std::io::Read;
@@ -36,7 +39,21 @@ pub trait Peer {
     /// What the machine's node answered where it refused.
     ghost told: { Self.Refusal → Answer };
 
+    /// How often its device has failed.
+    ghost failed: { Self → ℕ };
+
+    /// Whether its device can fail.
+    ghost can_fail: { Self → Type 0 };
+
+    /// Whether it refused since its device failed.
+    ghost is_device: { Self.Refusal → Type 0 };
+
+    /// Whether an answer may be lost on its way, as on a connection.
+    ghost loses: { Type 0 };
+
     /// Sends the message that is all of the bytes, and gives the one that comes back.
     fn ask(&mut self, bytes: &[u8]) -> Result<Reply<Self::Answer>, Self::Refusal>
-        ensures answers { honest → (m : Sent) → Reads bytes.now m → AnswersPeer holds told Self.Answer.remaining m result self.old self.new };
+        ensures answers { honest → (m : Sent) → Reads bytes.now m → AnswersPeer holds told Self.Answer.remaining m result self.old self.new }
+        ensures whole { IfOk result (λ reply. IsToRead reply → loses) }
+        ensures wear { Wears failed can_fail unstopped self.old self.new (IsErrAnd result is_device) };
 }

@@ -1,10 +1,12 @@
 // A whole push.
-ghost use Rattle.std.specs.Prelude.{◌≡◌, ◌≢◌, [], IfErr, IfOk};
+ghost use Rattle.std.specs.Prelude.{◌≡◌, ◌≢◌, ⊤, [], IfErr, IfOk};
+ghost use Rattle.vc_files.specs.Failures.{Wears, Writes, unstopped};
 ghost use Rattle.vc_message.specs.AnyView.{message_text};
 ghost use Rattle.vc_message.specs.Machine.{IsReport, Reads, TextOf};
 ghost use Rattle.vc_model.specs.Message.{Message as Sent};
 ghost use Rattle.vc_node.specs.Node.{PushesNoZero};
 ghost use Rattle.vc_push.specs.ReportView.{report_text};
+ghost use Rattle.vc_world.specs.Devices.{IsOwn, IsToRead, TellsClone, TellsPeer, WritesOrLoses};
 ghost use Rattle.vc_world.specs.Exchanging.{Begins, Brings, HoldsClone, IsNoReport, IsPush, Leads, PushesOne};
 ghost use Rattle.vc_world.specs.Pushing.{IsUnreadReport, TakesAnswer, report_in, taken};
 
@@ -38,6 +40,8 @@ fn report_in<R: Drop>(message: Message) -> Result<Report, ExchangeEnd<R>>
 fn read_report<R: Drop>(alloc: Global, bytes: &[u8]) -> Result<Report, ExchangeEnd<R>>
     ensures report { (m : Sent) → Reads bytes.now m → IfOk result (λ report. IsReport m (report_text report)) }
     ensures unread { (m : Sent) → Reads bytes.now m → IfErr result (IsUnreadReport m) }
+    ensures calm { ¬ TellsClone result }
+    ensures own { IfErr result IsOwn }
 {
     let message = match Message::read(alloc, bytes) {
         Ok(message) => message,
@@ -66,6 +70,8 @@ fn take_bytes<F: Files, R: Drop>(
     answer: &[u8],
 ) -> Result<Report, ExchangeEnd<R>>
     ensures takes { F.honest → (m : Sent) → Reads answer.now m → TakesAnswer F.content m result clone.old clone.new }
+    ensures wear { Writes F.honest F.content F.failed F.can_fail F.left clone.old.files clone.new.files (TellsClone result) }
+    ensures own { IfErr result IsOwn }
 {
     let received = clone.receive(answer);
     if let Err(end) = take(received) {
@@ -80,6 +86,8 @@ fn take_report<F: Files, R: Drop>(
     report: Report,
 ) -> Result<Report, ExchangeEnd<R>>
     ensures takes { F.honest → (m : Sent) → IsReport m (report_text report) → TakesAnswer F.content m result clone.old clone.new }
+    ensures wear { Writes F.honest F.content F.failed F.can_fail F.left clone.old.files clone.new.files (TellsClone result) }
+    ensures own { IfErr result IsOwn }
 {
     let received = clone.receive_report(&report);
     if let Err(end) = take(received) {
@@ -94,6 +102,8 @@ fn take_other<F: Files, R: Drop>(
     message: Message,
 ) -> Result<Report, ExchangeEnd<R>>
     ensures takes { F.honest → (m : Sent) → TextOf m (message_text message) → IsNoReport m → TakesAnswer F.content m result clone.old clone.new }
+    ensures wear { Writes F.honest F.content F.failed F.can_fail F.left clone.old.files clone.new.files (TellsClone result) }
+    ensures own { IfErr result IsOwn }
 {
     let received = clone.receive_message(message);
     if let Err(end) = take(received) {
@@ -108,6 +118,8 @@ fn take_message<F: Files, R: Drop>(
     message: Message,
 ) -> Result<Report, ExchangeEnd<R>>
     ensures takes { F.honest → (m : Sent) → TextOf m (message_text message) → TakesAnswer F.content m result clone.old clone.new }
+    ensures wear { Writes F.honest F.content F.failed F.can_fail F.left clone.old.files clone.new.files (TellsClone result) }
+    ensures own { IfErr result IsOwn }
 {
     match message {
         Message::Report(report) => take_report(clone, report),
@@ -122,6 +134,8 @@ fn take_from<F: Files, A: Read, R: Drop>(
     reader: &mut A,
 ) -> Result<Report, ExchangeEnd<R>>
     ensures takes { F.honest → (m : Sent) → Begins (A.remaining reader.old) m → TakesAnswer F.content m result clone.old clone.new }
+    ensures wear { WritesOrLoses ⊤ F.honest F.content F.failed F.can_fail F.left clone.old.files clone.new.files (TellsClone result) }
+    ensures own { IfErr result IsOwn }
 {
     if !clone.is_up() {
         return Err(ExchangeEnd::Clone(CloneFault::Node(NodeFault::Down)));
@@ -141,6 +155,8 @@ fn take_reply<F: Files, A: Read + Drop, R: Drop>(
     reply: Reply<A>,
 ) -> Result<Report, ExchangeEnd<R>>
     ensures takes { F.honest → (m : Sent) → Brings A.remaining reply m → TakesAnswer F.content m result clone.old clone.new }
+    ensures wear { WritesOrLoses (IsToRead reply) F.honest F.content F.failed F.can_fail F.left clone.old.files clone.new.files (TellsClone result) }
+    ensures own { IfErr result IsOwn }
 {
     match reply {
         Reply::Bytes(answer) => take_bytes(alloc, clone, &answer),
@@ -159,6 +175,8 @@ pub fn exchange_push<P: Peer, F: Files>(
     requires some { items.now ≢ [] }
     ensures pushed { P.honest → F.honest → PushesNoZero items.now → Leads P.holds (HoldsClone F.content) shared.old shared.new clone.old clone.new (IsPush P.told items.now result) }
     ensures done { P.honest → F.honest → PushesNoZero items.now → Leads P.holds (HoldsClone F.content) shared.old shared.new clone.old clone.new (PushesOne P.told items.now result) }
+    ensures wear { WritesOrLoses P.loses F.honest F.content F.failed F.can_fail F.left clone.old.files clone.new.files (TellsClone result) }
+    ensures peer_wear { Wears P.failed P.can_fail unstopped shared.old shared.new (TellsPeer P.is_device result) }
 {
     let push = match clone.start_push(items) {
         Ok(push) => push,

@@ -6,6 +6,7 @@ use Rattle.vc_pkt.specs.StepView.{Gives}
 use Rattle.vc_push.specs.ReportView.{report_text}
 use Rattle.vc_world.specs.Pushing.{IsUnreadReport}
 use Rattle.vc_world.proofs.ReportLemmas.{no_report_told, no_text, report_told, same_text}
+use Rattle.vc_world.proofs.WearLemmas.{read_calm, read_own}
 use Rattle.vc_world.proofs.pushing.read_report.Goals as goal
 
 pub returns-in-Err-Refused-clause-unread : goal.returns-in-Err-Refused-clause-unread
@@ -21,3 +22,9 @@ pub returns-clause-unread : goal.returns-clause-unread
 returns-clause-unread g c m reads =
     let same = same_text reads.text (message_text c.in-Ok.message) (c.in-Ok.ensures.read reads.text reads.spelled) in
     subst (λ r. IfErr r (IsUnreadReport m)) (sym c.report_in.ensures) (no_report_told _ m c.in-Ok.message (subst (TextOf m) same reads.is))
+
+pub returns-clause-calm : goal.returns-clause-calm
+returns-clause-calm g c = rw c.report_in.ensures (read_calm _ c.in-Ok.message)
+
+pub returns-clause-own : goal.returns-clause-own
+returns-clause-own g c = rw c.report_in.ensures (read_own _ c.in-Ok.message)

@@ -8,9 +8,13 @@ use Rattle.vc_world.proofs.pushing.take_message.Goals as goal
 pub returns-in-Report : goal.returns-in-Report
 returns-in-Report g c = record {
   takes = λ f m is. c.take_report.ensures.takes f m (subst (λ (x : Message). TextOf m (message_text x)) c.in-Report.is is);
+  wear = c.take_report.ensures.wear;
+  own = c.take_report.ensures.own;
 }
 
 pub returns-in_default : goal.returns-in_default
 returns-in_default g c = record {
   takes = λ f m is. c.take_other.ensures.takes f m is (no_report_here m c.args.message c.in_default.not-Report is);
+  wear = c.take_other.ensures.wear;
+  own = c.take_other.ensures.own;
 }
