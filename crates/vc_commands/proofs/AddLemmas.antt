@@ -1,14 +1,14 @@
 -- For `add`: the files that may be staged one behind the other, and the machine's commands by which they are.
-use Rattle.std.proofs.Common.{arith, ◌≡◌, inl, inr, ℕ, zero, suc, ◌+◌, ◌<◌, length, take, drop, get_or, Bool, true, false, cond, List, [], ◌∷◌, ◌++◌, map, Option, Some, None, Ok, Err, refl, sym, ap, ◌∙◌, subst}
+use Rattle.std.proofs.Common.{arith, ◌≡◌, inl, inr, ℕ, zero, suc, ◌+◌, ◌<◌, length, take, drop, get_or, Bool, true, false, cond, List, [], ◌∷◌, ◌++◌, map, append_assoc, append-nil, Option, Some, None, Ok, Err, refl, sym, ap, ◌∙◌, subst}
 use Rattle.std.specs.Prelude.{Result, IfErr, IsErrAnd, IsSome, is_some, bytes_eq, codes, unwrap_or, String, string_bytes}
 use Rattle.std.specs.FinMap.{get, insert, empty}
 use Rattle.std.specs.Global.{Global}
 use Rattle.std.specs.List.{AllByRecursion}
 use Rattle.std.specs.Option.{option_or}
-use Rattle.std.proofs.lemmas.List.{drop_more, map-append, take_more}
+use Rattle.std.proofs.lemmas.List.{drop_more, map-append, take-append-drop, take_more}
 use Rattle.std.proofs.lemmas.Slice.Eq.{bytes_eq-Decides}
 use Rattle.vc_files.specs.FileMap.{FileMap, SameOutside}
-use Rattle.vc_files.proofs.FileMapLemmas.{outside_then}
+use Rattle.vc_files.proofs.FileMapLemmas.{outside_same, outside_then}
 use Rattle.vc_index.specs.IndexMap.{IndexMap, HasConflict}
 use Rattle.vc_index.specs.Path.{IsPath}
 use Rattle.vc_index.specs.declared.entry.IndexEntry.{IndexEntry}
@@ -22,7 +22,10 @@ use Rattle.vc_model.specs.Node.Answer.{Did}
 use Rattle.vc_model.specs.Node.Reply.{Made}
 use Rattle.vc_model.specs.Object.{Id, Object as MachineObject, Objects, blob}
 use Rattle.vc_model.specs.Repository.{Repository, AllAdded, Change, changed_all, with_objects}
+use Rattle.vc_object.proofs.OneFault.{no_body_fault}
+use Rattle.vc_object.specs.Decoding.{stored_object}
 use Rattle.vc_object.specs.Object.{IsObject, object_name}
+use Rattle.vc_object.specs.ObjectMap.{ObjectMap}
 use Rattle.vc_object.specs.ObjectFault.{BodyFault}
 use Rattle.vc_object.specs.declared.fault.ObjectFault.{ObjectFault}
 use Rattle.vc_object.specs.declared.mode.Mode.{Mode}
@@ -32,15 +35,21 @@ use Rattle.vc_rules.specs.Faults.{object_number}
 use Rattle.vc_rules.specs.Git.{git}
 use Rattle.vc_rules.proofs.GitLaws.{git_rules}
 use Rattle.vc_rules.proofs.MapLemmas.{get-put}
+use Rattle.vc_store.specs.Store.{objects, with_object as store_object, with_objects as store_objects}
 use Rattle.vc_store.specs.declared.faults.StoreFault.TheVariants as store
-use Rattle.vc_node.specs.Clean.{KeepsClean}
-use Rattle.vc_node.specs.Machine.{Answers}
+use Rattle.vc_node.specs.Blames.{BlamesWrite}
+use Rattle.vc_node.specs.Clean.{StoresOnly}
+use Rattle.vc_node.specs.Machine.{AnswersShown}
+use Rattle.vc_node.specs.Reads.{NoneRead, TellsRead}
+use Rattle.vc_node.specs.Shown.{Shown, shown}
 use Rattle.vc_node.specs.Staging.{AreOf, File, MayStandAll, RefusesOne, file_placed, staging}
+use Rattle.vc_node.specs.declared.fault.NodeFault.{NodeFault}
 use Rattle.vc_node.specs.declared.fault.NodeFault.TheVariants as node
 use Rattle.vc_node.specs.declared.staging.Staged.{Staged}
+use Rattle.vc_node.proofs.CleanLemmas.{clean_same, clean_then}
 use Rattle.vc_node.proofs.IndexLemmas.{IsMachineIndex, free_path, machine_index_put, not_free_path}
 use Rattle.vc_node.proofs.StagingLemmas.{node_with, stages_one}
-use Rattle.vc_commands.specs.Adding.{AreBlobs, AreNamed, IsNamed, IsOfFile, IsOfStoring, RefusesFiles, StoresFiles, WritesAll, file_at, files_at}
+use Rattle.vc_commands.specs.Adding.{AreBlobs, AreNamed, IsBlobOfOne, IsNamed, IsOfFile, IsOfStoring, RefusesFiles, StoresBlobs, StoresFiles, StoresFirst, WritesAll, file_at, file_blob, files_at}
 use Rattle.vc_commands.specs.declared.failure.Failure.{Failure}
 use Rattle.vc_commands.specs.declared.failure.Failure.TheVariants.{Node, Object, Fault}
 
@@ -205,31 +214,79 @@ are_of s (t ∷ ts) (f ∷ fs) named blobs there = (
 pub staged_of : (staged : List Staged) (fs : List File) (n m : CloneNode) → AreNamed staged fs → AreBlobs fs → WritesAll fs n m → AreOf m.repository.objects staged fs
 staged_of staged fs n m named blobs writes = are_of m.repository.objects staged fs named blobs (all_there fs n m writes)
 
--- ---- nodes that are held
+-- ---- the blobs that are stored
+
+blobs_append : (m : ObjectMap) (fs gs : List File) → store_objects m (map file_blob (fs ++ gs)) ≡ store_objects (store_objects m (map file_blob fs)) (map file_blob gs)
+blobs_append m [] gs = refl
+blobs_append m (f ∷ fs) gs = blobs_append (store_object m (object_name Blob f.body) (file_blob f)) fs gs
+
+pub blobs_none : (old new : FileMap) → new ≡ old → StoresBlobs [] old new
+blobs_none old new same = record { stored = ap objects same; outside = subst (λ (m : FileMap). SameOutside (codes "objects/") old m) (sym same) (outside_same _ old); clean = clean_same old new same }
+
+pub blobs_then : (fs gs : List File) (old mid new : FileMap) → StoresBlobs fs old mid → StoresBlobs gs mid new → StoresBlobs (fs ++ gs) old new
+blobs_then fs gs old mid new first next = record {
+  stored = next.stored ∙ ap (λ (m : ObjectMap). store_objects m (map file_blob gs)) first.stored ∙ sym (blobs_append (objects old) fs gs);
+  outside = outside_then first.outside next.outside;
+  clean = clean_then old mid new first.clean next.clean;
+}
+
+pub blobs_one : (f : File) (bytes : List ℕ) (id : ObjectId) (old new : FileMap) → bytes ≡ f.body → id ≡ object_name Blob bytes → StoresOnly {E = NodeFault} Blob bytes (Ok id) old new → StoresBlobs (f ∷ []) old new
+blobs_one f bytes id old new same name kept = record {
+  stored = ap (λ (s : Shown). s.objects) kept.stored
+      ∙ ap (λ (i : ObjectId). store_object (objects old) i (stored_object Blob bytes)) name
+      ∙ ap (λ (b : List ℕ). store_object (objects old) (object_name Blob b) (stored_object Blob b)) same;
+  outside = kept.outside;
+  clean = kept.clean;
+}
+
+-- none of the files, and all of them
+pub first_none : (fs : List File) (old new : FileMap) → new ≡ old → StoresFirst fs old new
+first_none fs old new same = record { done = []; rest = fs; split = refl; blobs = blobs_none old new same }
+
+pub first_all : (fs : List File) (old new : FileMap) → StoresBlobs fs old new → StoresFirst fs old new
+first_all fs old new blobs = record { done = fs; rest = []; split = sym (append-nil fs); blobs = blobs }
+
+-- those before one, and then what came of that one
+first_then : (fs more all : List File) (f : File) (old mid new : FileMap) → all ≡ fs ++ f ∷ more → StoresBlobs fs old mid → StoresFirst (f ∷ []) mid new → StoresFirst all old new
+first_then fs more all f old mid new is before one = record {
+  done = fs ++ one.done;
+  rest = one.rest ++ more;
+  split = is ∙ ap (λ (gs : List File). fs ++ (gs ++ more)) one.split ∙ ap (λ (gs : List File). fs ++ gs) (append_assoc one.done one.rest more) ∙ sym (append_assoc fs one.done (one.rest ++ more));
+  blobs = blobs_then fs one.done old mid new before one.blobs;
+}
+
+blob_of_all : (fs more : List File) (f : File) (id : ObjectId) → IsBlobOfOne (f ∷ []) id → IsBlobOfOne (fs ++ f ∷ more) id
+blob_of_all [] more f id (inl is) = inl is
+blob_of_all [] more f id (inr none) = absurd none
+blob_of_all (g ∷ fs) more f id one = inr (blob_of_all fs more f id one)
+
+-- ---- nodes that are shown
 
 pub stores_none : (up : Bool) (content : FileMap) → StoresFiles [] up up content content
-stores_none up content = record { each = λ awaited n holds. (n, holds, refl) }
+stores_none up content = record { each = λ awaited n shows. (n, shows, refl); blobs = blobs_none content content refl }
 
-pub stores_one : (f : File) (bytes : List ℕ) (id : ObjectId) (was is : Bool) (old new : FileMap) → bytes ≡ f.body → id ≡ object_name Blob bytes → Answers (Write (blob bytes)) (Did (Made id.0)) was is old new
-    → StoresFiles (f ∷ []) was is old new
-stores_one f bytes id was is old new same name answers = record {
-  each = λ awaited n holds.
-      let g = answers.each awaited n holds in
+pub stores_one : (f : File) (bytes : List ℕ) (id : ObjectId) (was is : Bool) (old new : FileMap) → bytes ≡ f.body → id ≡ object_name Blob bytes → AnswersShown (Write (blob bytes)) (Did (Made id.0)) was is (shown old) (shown new)
+    → StoresOnly {E = NodeFault} Blob bytes (Ok id) old new → StoresFiles (f ∷ []) was is old new
+stores_one f bytes id was is old new same name answers kept = record {
+  each = λ awaited n shows.
+      let g = answers.each awaited n shows in
       let named : id.0 ≡ (object_name Blob f.body).0 = ap (λ (i : ObjectId). i.0) name ∙ ap (λ (b : List ℕ). (object_name Blob b).0) same in
       let answer : CloneAnswers git git_rules n (Command (Write (blob f.body))) (Did (Made (object_name Blob f.body).0)) g.0 None =
       subst (λ (x : Id). CloneAnswers git git_rules n (Command (Write (blob f.body))) (Did (Made x)) g.0 None) named
       (subst (λ (b : List ℕ). CloneAnswers git git_rules n (Command (Write (blob b))) (Did (Made id.0)) g.0 None) same g.2) in
       (g.0, g.1, (g.0, answer, refl));
+  blobs = blobs_one f bytes id old new same name kept;
 }
 
 pub stores_more : (fs : List File) (f : File) (was mid is : Bool) (old between new : FileMap) → StoresFiles fs was mid old between → StoresFiles (f ∷ []) mid is between new → StoresFiles (fs ++ f ∷ []) was is old new
 stores_more fs f was mid is old between new first next = record {
-  each = λ awaited n holds.
-      let k = first.each awaited n holds in
+  each = λ awaited n shows.
+      let k = first.each awaited n shows in
       let m = next.each awaited k.0 k.1 in
       let answer : CloneAnswers git git_rules k.0 (Command (Write (blob f.body))) (Did (Made (object_name Blob f.body).0)) m.0 None =
       subst (λ (x : CloneNode). CloneAnswers git git_rules k.0 (Command (Write (blob f.body))) (Did (Made (object_name Blob f.body).0)) x None) (sym m.2.2) m.2.1 in
       (m.0, m.1, writes_more fs f n k.0 m.0 k.2 answer);
+  blobs = blobs_then fs (f ∷ []) old between new first.blobs next.blobs;
 }
 
 -- ---- the functions that look at the files and store them
@@ -264,9 +321,33 @@ named_more [] (g ∷ fs) t f named is = absurd named
 named_more (u ∷ ts) [] t f named is = absurd named
 named_more (u ∷ ts) (g ∷ fs) t f named is = (named.0, named_more ts fs t f named.1 is)
 
--- why a file is not stored, behind others that are
-pub storing_from : (old mid new : FileMap) (e : Failure) → SameOutside (codes "objects/") old mid → KeepsClean old mid → IsOfStoring mid new e → IsOfStoring old new e
-storing_from old mid new (Node (node.Store (store.Damaged id))) outside keeps of = (keeps.damage.before id of.0, outside_then outside of.1)
-storing_from old mid new (Node (node.Store (store.Fault fault))) outside keeps of = outside_then outside of
-storing_from old mid new (Fault fault) outside keeps of = outside_then outside of
-storing_from old mid new _ outside keeps of = absurd of
+-- those that are done and those that are left are all
+pub all_at : (work : FileMap) (mode : Mode) (paths : List (String Global)) (i : ℕ) → files_at work mode paths ≡ files_at work mode (take i paths) ++ files_at work mode (drop i paths)
+all_at work mode paths i =
+    ap (files_at work mode) (sym (take-append-drop i paths))
+    ∙ ap (map (file_at work mode)) (map-append string_bytes (take i paths) (drop i paths))
+    ∙ map-append (file_at work mode) (map string_bytes (take i paths)) (map string_bytes (drop i paths))
+
+-- why the blob of a file is not stored
+pub write_refused : (f : File) (bytes : List ℕ) (old new : FileMap) (e : NodeFault) → bytes ≡ f.body → IsObject Blob f.body → BlamesWrite old Blob bytes e → TellsRead (λ id. id ≡ object_name Blob bytes) NoneRead e → new ≡ old
+    → IsOfStoring (f ∷ []) old new (Node e)
+write_refused f bytes old new (node.Store (store.BadObject fault)) body object blames told same = absurd (no_body_fault Blob f.body fault object (subst (λ (b : List ℕ). BodyFault Blob b fault) body blames))
+write_refused f bytes old new (node.Store (store.Absent id)) body object blames told same = absurd blames
+write_refused f bytes old new (node.Store (store.Damaged id)) body object blames told same = (blames, inl (told ∙ ap (object_name Blob) body), first_none (f ∷ []) old new same)
+write_refused f bytes old new (node.Store (store.Fault fault)) body object blames told same = first_none (f ∷ []) old new same
+write_refused f bytes old new (node.Ref fault) body object blames told same = absurd blames
+write_refused f bytes old new (node.Missing id) body object blames told same = absurd blames
+write_refused f bytes old new (node.NotACommit id) body object blames told same = absurd blames
+write_refused f bytes old new node.BadPath body object blames told same = absurd blames
+write_refused f bytes old new node.PathConflict body object blames told same = absurd blames
+write_refused f bytes old new (node.BadIndex place) body object blames told same = absurd blames
+write_refused f bytes old new (node.WrongEntry at) body object blames told same = absurd blames
+write_refused f bytes old new node.Down body object blames told same = absurd blames
+
+-- why a file is not stored, after others that are
+pub storing_from : (fs more all : List File) (f : File) (old mid new : FileMap) (e : Failure) → all ≡ fs ++ f ∷ more → StoresBlobs fs old mid → IsOfStoring (f ∷ []) mid new e → IsOfStoring all old new e
+storing_from fs more all f old mid new (Node (node.Store (store.Damaged id))) is before of =
+    (before.clean.damage.before id of.0, subst (λ (gs : List File). IsBlobOfOne gs id) (sym is) (blob_of_all fs more f id of.1), first_then fs more all f old mid new is before of.2)
+storing_from fs more all f old mid new (Node (node.Store (store.Fault fault))) is before of = first_then fs more all f old mid new is before of
+storing_from fs more all f old mid new (Fault fault) is before of = first_then fs more all f old mid new is before of
+storing_from fs more all f old mid new _ is before of = absurd of

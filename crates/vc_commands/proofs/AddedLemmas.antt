@@ -22,17 +22,21 @@ use Rattle.vc_rules.specs.Git.{git}
 use Rattle.vc_rules.proofs.GitLaws.{git_rules}
 use Rattle.vc_store.specs.declared.faults.StoreFault.TheVariants as store
 use Rattle.vc_node.specs.IndexFile.{BlamesIndex, SpellsIndex}
+use Rattle.vc_node.specs.Clean.{KeepsStored}
 use Rattle.vc_node.specs.Machine.{live_of}
 use Rattle.vc_node.specs.NodeFault.{is_fault}
-use Rattle.vc_node.specs.Staging.{BlamesStaging, File, MayStandAll, RefusesFirst, StagesAll, StagesHeld, file_placed, placed, staging}
+use Rattle.vc_node.specs.Staging.{BlamesStaging, File, MayStandAll, RefusesFirst, StagesAll, StagesShown, file_placed, placed, staging}
+use Rattle.vc_node.specs.Shown.{shown}
 use Rattle.vc_node.specs.declared.fault.NodeFault.{NodeFault}
 use Rattle.vc_node.specs.declared.fault.NodeFault.TheVariants as node
 use Rattle.vc_node.specs.declared.staging.Staged.{Staged}
+use Rattle.vc_node.proofs.CleanLemmas.{clean_then}
+use Rattle.vc_node.proofs.KeepingLemmas.{keeps_puts}
 use Rattle.vc_node.proofs.IndexLemmas.{IsMachineIndex, spells_index}
-use Rattle.vc_commands.specs.Adding.{AddsFiles, AreBlobs, AreNamed, IsOfFile, Names, RefusesAdd, RefusesFiles, RefusesOneNamed, StoresFiles, WritesAll, file_at, files_at, files_below, files_named, files_named_by, is_below, spelled_path}
+use Rattle.vc_commands.specs.Adding.{AddsFiles, AreBlobs, AreNamed, IsOfFile, IsOfStoring, Names, RefusesAdd, RefusesFiles, RefusesOneNamed, RefusesWords, StoresBlobs, StoresFiles, StoresFirst, WritesAll, file_at, file_blob, files_at, files_below, files_named, files_named_by, is_below, spelled_path}
 use Rattle.vc_commands.specs.declared.failure.Failure.{Failure}
-use Rattle.vc_commands.specs.declared.failure.Failure.TheVariants.{Node, Object, Fault}
-use Rattle.vc_commands.proofs.AddLemmas.{refuses_bad_path, refuses_body, refuses_conflict, refuses_one, staged_of}
+use Rattle.vc_commands.specs.declared.failure.Failure.TheVariants.{Node, NoSuchPath, Object, Fault}
+use Rattle.vc_commands.proofs.AddLemmas.{first_all, first_none, refuses_bad_path, refuses_body, refuses_conflict, refuses_one, staged_of}
 
 -- ---- the files are there
 
@@ -104,15 +108,22 @@ was_up true x e never = refl
 was_up false x e never = let bad : ◌≡◌ (Ok x) (Err e) = never refl in cc
 
 module _ (work : FileMap) (own : List ℕ) (mode : Mode) (words : List (List ℕ)) (was is : Bool) (old new : FileMap) (same : new ≡ old) where
-  outside_same : SameOutside (codes "objects/") old new
-  outside_same = subst (λ (x : FileMap). SameOutside (codes "objects/") old x) (sym same) (record { at = λ path apart. refl })
+  none_stored : StoresFirst (files_named work own mode words) old new
+  none_stored = first_none (files_named work own mode words) old new same
+
+  -- a word is refused
+  pub words_refused : (e : Failure) → is ≡ was → RefusesWords work own words e → RefusesAdd work own mode words was is old new e
+  words_refused (Node node.BadPath) up refuses = inl (refuses, record { files = same; up = up })
+  words_refused NoSuchPath up refuses = (refuses, record { files = same; up = up })
+  words_refused (Fault fault) up refuses = none_stored
+  words_refused e up refuses = absurd (refuses)
 
   -- the index isn't told
   index_blamed : (e : NodeFault) → was ≡ true → is ≡ not (is_fault e) → BlamesIndex old e → RefusesAdd work own mode words was is old new (Node e)
   index_blamed (node.Store (store.BadObject f)) up after blames = absurd blames
   index_blamed (node.Store (store.Absent id)) up after blames = absurd blames
   index_blamed (node.Store (store.Damaged id)) up after blames = absurd blames
-  index_blamed (node.Store (store.Fault f)) up after blames = outside_same
+  index_blamed (node.Store (store.Fault f)) up after blames = none_stored
   index_blamed (node.BadIndex place) up after blames = (blames, record { files = same; up = after ∙ sym up })
   index_blamed (node.Ref f) up after blames = absurd blames
   index_blamed (node.Missing id) up after blames = absurd blames
@@ -135,9 +146,9 @@ module _ (work : FileMap) (own : List ℕ) (mode : Mode) (words : List (List ℕ
         → ((m : IndexMap) → SpellsIndex old m → RefusesFiles m (files_named work own mode words) e) → RefusesOneNamed work own mode words was is old new number
     one_refused e number refuses first = record {
       names = names;
-      one = λ awaited n holds.
-          let p = holds.shows.spells in
-          refuses_one awaited e number refuses (files_named work own mode words) n p.map (holds.shows.live ∙ ap (λ (u : Bool). live_of u awaited) up) p.index (first p.map (spells_index old n.repository p));
+      one = λ awaited n shows.
+          let p = shows.spells in
+          refuses_one awaited e number refuses (files_named work own mode words) n p.map (shows.live ∙ ap (λ (u : Bool). live_of u awaited) up) p.index (first p.map (spells_index old n.repository p));
       same = record { files = same; up = after ∙ sym up };
     }
 
@@ -150,8 +161,8 @@ module _ (work : FileMap) (own : List ℕ) (mode : Mode) (words : List (List ℕ
     files_refused (Node node.BadPath) m spells only refuses = inr (one_refused (Node node.BadPath) 60 refuses_bad_path (λ n s. subst (λ (i : IndexMap). RefusesFiles i (files_named work own mode words) (Node node.BadPath)) (sym (only n s)) refuses))
     files_refused (Node node.PathConflict) m spells only refuses = one_refused (Node node.PathConflict) 61 refuses_conflict (λ n s. subst (λ (i : IndexMap). RefusesFiles i (files_named work own mode words) (Node node.PathConflict)) (sym (only n s)) refuses)
     files_refused (Object fault) m spells only refuses = one_refused (Object fault) (object_number fault) (refuses_body fault) (λ n s. subst (λ (i : IndexMap). RefusesFiles i (files_named work own mode words) (Object fault)) (sym (only n s)) refuses)
-    files_refused (Node (node.Store (store.Fault f))) m spells only refuses = outside_same
-    files_refused (Fault f) m spells only refuses = outside_same
+    files_refused (Node (node.Store (store.Fault f))) m spells only refuses = none_stored
+    files_refused (Fault f) m spells only refuses = none_stored
     files_refused e m spells only refuses = absurd (none_of (files_named work own mode words) m e (λ n f of. of) refuses)
 
 -- ---- the one write of the index
@@ -177,20 +188,27 @@ none_conflicts m [] may first = first
 none_conflicts m (e ∷ es) may (inl of) = may.1 of.1
 none_conflicts m (e ∷ es) may (inr rest) = none_conflicts (insert m e.0 e.1) es may.2 rest.2
 
-module _ (work : FileMap) (own : List ℕ) (mode : Mode) (words : List (List ℕ)) (was is : Bool) (old mid new : FileMap) (outside : SameOutside (codes "objects/") old mid) (same : new ≡ mid) where
-  pub staging_refused : (m : IndexMap) (ts : List Staged) (fs : List File) (e : NodeFault) → AreNamed ts fs → MayStandAll m (map file_placed fs) → BlamesStaging m (map placed ts) e → RefusesAdd work own mode words was is old new (Node e)
-  staging_refused m ts fs (node.Store (store.Fault f)) named may blames = subst (λ (x : FileMap). SameOutside (codes "objects/") old x) (sym same) outside
-  staging_refused m ts fs (node.Store (store.BadObject f)) named may blames = absurd blames.0
-  staging_refused m ts fs (node.Store (store.Absent id)) named may blames = absurd blames.0
-  staging_refused m ts fs (node.Store (store.Damaged id)) named may blames = absurd blames.0
-  staging_refused m ts fs node.BadPath named may blames = absurd (none_refused m (map placed ts) (subst (λ (es : List (List ℕ × IndexEntry)). MayStandAll m es) (sym (named_placed ts fs named)) may) blames)
-  staging_refused m ts fs node.PathConflict named may blames = absurd (none_conflicts m (map placed ts) (subst (λ (es : List (List ℕ × IndexEntry)). MayStandAll m es) (sym (named_placed ts fs named)) may) blames)
-  staging_refused m ts fs (node.Ref f) named may blames = absurd blames
-  staging_refused m ts fs (node.Missing id) named may blames = absurd blames
-  staging_refused m ts fs (node.NotACommit id) named may blames = absurd blames
-  staging_refused m ts fs (node.BadIndex place) named may blames = absurd blames
-  staging_refused m ts fs (node.WrongEntry at) named may blames = absurd blames
-  staging_refused m ts fs node.Down named may blames = absurd blames
+module _ (work : FileMap) (own : List ℕ) (mode : Mode) (words : List (List ℕ)) (was is : Bool) (old mid new : FileMap) (same : new ≡ mid) where
+  pub staging_refused : (m : IndexMap) (ts : List Staged) (fs : List File) (e : NodeFault) → fs ≡ files_named work own mode words → StoresBlobs fs old mid → AreNamed ts fs → MayStandAll m (map file_placed fs) → BlamesStaging m (map placed ts) e → RefusesAdd work own mode words was is old new (Node e)
+  staging_refused m ts fs (node.Store (store.Fault f)) files blobs named may blames = subst (λ (gs : List File). StoresFirst gs old new) files (first_all fs old new (subst (StoresBlobs fs old) (sym same) blobs))
+  staging_refused m ts fs (node.Store (store.BadObject f)) files blobs named may blames = absurd blames.0
+  staging_refused m ts fs (node.Store (store.Absent id)) files blobs named may blames = absurd blames.0
+  staging_refused m ts fs (node.Store (store.Damaged id)) files blobs named may blames = absurd blames.0
+  staging_refused m ts fs node.BadPath files blobs named may blames = absurd (none_refused m (map placed ts) (subst (λ (es : List (List ℕ × IndexEntry)). MayStandAll m es) (sym (named_placed ts fs named)) may) blames)
+  staging_refused m ts fs node.PathConflict files blobs named may blames = absurd (none_conflicts m (map placed ts) (subst (λ (es : List (List ℕ × IndexEntry)). MayStandAll m es) (sym (named_placed ts fs named)) may) blames)
+  staging_refused m ts fs (node.Ref f) files blobs named may blames = absurd blames
+  staging_refused m ts fs (node.Missing id) files blobs named may blames = absurd blames
+  staging_refused m ts fs (node.NotACommit id) files blobs named may blames = absurd blames
+  staging_refused m ts fs (node.BadIndex place) files blobs named may blames = absurd blames
+  staging_refused m ts fs (node.WrongEntry at) files blobs named may blames = absurd blames
+  staging_refused m ts fs node.Down files blobs named may blames = absurd blames
+
+-- the blobs are not all stored
+pub storing_refused : (work : FileMap) (own : List ℕ) (mode : Mode) (words : List (List ℕ)) (was is : Bool) (old new : FileMap) (e : Failure) → IsOfStoring (files_named work own mode words) old new e → RefusesAdd work own mode words was is old new e
+storing_refused work own mode words was is old new (Node (node.Store (store.Damaged id))) of = of
+storing_refused work own mode words was is old new (Node (node.Store (store.Fault fault))) of = of
+storing_refused work own mode words was is old new (Fault fault) of = of
+storing_refused work own mode words was is old new e of = absurd of
 
 -- files of objects alone were changed, so the index is spelled as it was
 pub still_spelled : (old mid : FileMap) (m : IndexMap) → SameOutside (codes "objects/") old mid → SpellsIndex old m → SpellsIndex mid m
@@ -198,11 +216,11 @@ still_spelled old mid m outside s = record { sound = s.sound; text = ap (λ (fou
 
 -- the blobs were stored, and then all files staged
 pub adds_files : (work : FileMap) (own : List ℕ) (mode : Mode) (words : List (List ℕ)) (was mid is : Bool) (old between new : FileMap) (ts : List Staged) (fs : List File) → fs ≡ files_named work own mode words
-    → AllByRecursion (Names work own) words → AreNamed ts fs → AreBlobs fs → StoresFiles fs was mid old between → StagesHeld ts (Did Stored) mid is between new → AddsFiles work own mode words was is old new
-adds_files work own mode words was mid is old between new ts fs files names named blobs stored staged = record {
+    → AllByRecursion (Names work own) words → AreNamed ts fs → AreBlobs fs → StoresFiles fs was mid old between → StagesShown ts (Did Stored) mid is (shown between) (shown new) → KeepsStored between new → AddsFiles work own mode words was is old new
+adds_files work own mode words was mid is old between new ts fs files names named blobs stored staged kept = record {
   names = names;
-  each = λ awaited n holds.
-      let k = stored.each awaited n holds in
+  each = λ awaited n shows.
+      let k = stored.each awaited n shows in
       let m = staged.each awaited k.0 fs k.1 (staged_of ts fs n k.0 named blobs k.2) in (
         k.0,
         m.0,
@@ -210,4 +228,8 @@ adds_files work own mode words was mid is old between new ts fs files names name
         subst (λ (gs : List File). StagesAll gs k.0 m.0) files m.2.1,
         m.1,
       );
+  kept = record {
+    objects = record { at = λ id o is. kept.objects.at id o ((keeps_puts old between (map file_blob fs) stored.blobs.stored).at id o is) };
+    clean = clean_then old between new stored.blobs.clean kept.clean;
+  };
 }

@@ -3,6 +3,7 @@ pub mod AddedLemmas
 pub mod BodyLemmas
 pub mod CheckoutLemmas
 pub mod CloneLemmas
+pub mod DeviceLemmas
 pub mod NamedLemmas
 pub mod PieceLemmas
 pub mod PushLemmas

@@ -41,9 +41,9 @@ items_stop content (w ∷ words) (suc i) d lt items e (first, others, one, rest,
 
 -- any word may be refused for want of memory
 no_memory : (content : FileMap) (words : ItemWords) → IsOfItem content words (Fault Memory)
-no_memory content (Branch branch) = inl tt
-no_memory content (Set revision name) = inl tt
-no_memory content (Delete name) = tt
+no_memory content (Branch branch) = inl refl
+no_memory content (Set revision name) = inl refl
+no_memory content (Delete name) = refl
 
 -- the same where memory runs out behind an item
 pub items_fault : (content : FileMap) (words : List (Bor (List ℕ))) (i : ℕ) (d : Bor (List ℕ)) → i < length words → (items : List PushItem) (item : PushItem)

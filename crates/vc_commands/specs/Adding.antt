@@ -4,6 +4,7 @@ use Rattle.std.specs.FinMap.{get, insert, keys}
 use Rattle.std.specs.Global.{Global}
 use Rattle.std.specs.List.{AllByRecursion, ends_with, flat_map, starts_with}
 use Rattle.vc_files.specs.FileMap.{FileMap, SameOutside}
+use Rattle.vc_files.specs.declared.faults.Fault.TheVariants.{Memory}
 use Rattle.vc_index.specs.IndexMap.{IndexMap, HasConflict}
 use Rattle.vc_index.specs.IndexText.{TextFault}
 use Rattle.vc_index.specs.Path.{IsPath}
@@ -14,19 +15,23 @@ use Rattle.vc_model.specs.CloneCall.CloneCall.{Command}
 use Rattle.vc_model.specs.Node.Answer.{Did}
 use Rattle.vc_model.specs.Node.Reply.{Made}
 use Rattle.vc_model.specs.Object.{blob}
+use Rattle.vc_object.specs.Decoding.{StoredObject, stored_object}
 use Rattle.vc_object.specs.Object.{IsObject, object_name}
 use Rattle.vc_object.specs.ObjectFault.{BodyFault}
 use Rattle.vc_object.specs.declared.kind.Kind.TheVariants.{Blob}
+use Rattle.vc_object.specs.declared.id.ObjectId.{ObjectId}
 use Rattle.vc_object.specs.declared.mode.Mode.{Mode}
 use Rattle.vc_rules.specs.Faults.{object_number}
 use Rattle.vc_rules.specs.Git.{git}
 use Rattle.vc_rules.proofs.GitLaws.{git_rules}
-use Rattle.vc_store.specs.Store.{IsDamaged}
+use Rattle.vc_store.specs.Store.{IsDamaged, objects, with_objects}
 use Rattle.vc_store.specs.declared.faults.StoreFault.TheVariants as store
 use Rattle.vc_work_folder.specs.Own.{is_own}
 use Rattle.vc_node.specs.Held.{Held}
 use Rattle.vc_node.specs.IndexFile.{index_bytes}
-use Rattle.vc_node.specs.Machine.{HoldsNode}
+use Rattle.vc_node.specs.Clean.{KeepsClean, KeepsStored}
+use Rattle.vc_node.specs.Machine.{ShowsNode}
+use Rattle.vc_node.specs.Shown.{shown}
 use Rattle.vc_node.specs.Staging.{File, RefusesOne, StagesAll, file_placed}
 use Rattle.vc_node.specs.declared.fault.NodeFault.TheVariants as node
 use Rattle.vc_node.specs.declared.staging.Staged.{Staged}
@@ -77,10 +82,10 @@ abbrev pub FirstWord : FileMap → (own : List ℕ) → (List ℕ → Type 0) �
 FirstWord work own IsSo [] = ⊥
 FirstWord work own IsSo (word ∷ words) = IsSo word ⊎ (Names work own word × FirstWord work own IsSo words)
 
--- why a path is refused before anything is looked at, or a fault
+-- why a path is refused before anything is looked at, or memory runs out
 abbrev pub IsOfPath : (own path : List ℕ) → Failure → Type 0
 IsOfPath own path (Node node.BadPath) = (¬ IsPath path) ⊎ (is_own own path ≡ true)
-IsOfPath own path (Fault fault) = ⊤
+IsOfPath own path (Fault fault) = fault ≡ Memory
 IsOfPath own path _ = ⊥
 
 -- why there are no files of these
@@ -163,34 +168,59 @@ abbrev pub WritesAll : List File → CloneNode → CloneNode → Type 0
 WritesAll [] n m = m ≡ n
 WritesAll (f ∷ fs) n m = (k : CloneNode) × CloneAnswers git git_rules n (Command (Write (blob f.body))) (Did (Made (object_name Blob f.body).0)) k None × WritesAll fs k m
 
--- whatever node was held, and whatever it awaits, the blobs are stored by its commands, and the node that they lead to is held then
+-- the blob of a file, as an object
+abbrev pub file_blob : File → StoredObject
+file_blob f = stored_object Blob f.body
+
+-- the id is the name of the blob of one of the files
+abbrev pub IsBlobOfOne : List File → ObjectId → Type 0
+IsBlobOfOne [] id = ⊥
+IsBlobOfOne (f ∷ fs) id = (id ≡ object_name Blob f.body) ⊎ IsBlobOfOne fs id
+
+-- the blobs of these files are stored, and no other object comes or goes; no file is made bad, and those that are no objects' are as they were
+pub record StoresBlobs (files : List File) (old new : FileMap) : Type 0 where
+  pub stored : objects new ≡ with_objects (objects old) (map file_blob files)
+  pub outside : SameOutside (codes "objects/") old new
+  pub clean : KeepsClean old new
+
+-- the same of the first of the files: of all, of some or of none
+pub record StoresFirst (files : List File) (old new : FileMap) : Type 0 where
+  pub done : List File
+  pub rest : List File
+  pub split : files ≡ done ++ rest
+  pub blobs : StoresBlobs done old new
+
+-- the blobs of these files are stored; and whatever node was shown, and whatever it awaits, that is done by its commands, and the node that
+-- they lead to is shown then
 pub record StoresFiles (files : List File) (was_up is_up : Bool) (old new : FileMap) : Type 0 where
-  pub each : (awaited : Awaited) (n : CloneNode) → HoldsNode old was_up awaited n → (m : CloneNode) × HoldsNode new is_up awaited m × WritesAll files n m
+  pub each : (awaited : Awaited) (n : CloneNode) → ShowsNode (shown old) was_up awaited n → (m : CloneNode) × ShowsNode (shown new) is_up awaited m × WritesAll files n m
+  pub blobs : StoresBlobs files old new
 
--- why they are not all stored: a damaged file in the place of one of them, or a fault; other files than those of objects are as they were
-abbrev pub IsOfStoring : FileMap → FileMap → Failure → Type 0
-IsOfStoring old new (Node (node.Store (store.Damaged id))) = IsDamaged old id × SameOutside (codes "objects/") old new
-IsOfStoring old new (Node (node.Store (store.Fault fault))) = SameOutside (codes "objects/") old new
-IsOfStoring old new (Fault fault) = SameOutside (codes "objects/") old new
-IsOfStoring old new _ = ⊥
+-- why they are not all stored: a file in the place of one of them was damaged before, or a fault; blobs of the first of them at most are stored
+abbrev pub IsOfStoring : List File → FileMap → FileMap → Failure → Type 0
+IsOfStoring files old new (Node (node.Store (store.Damaged id))) = IsDamaged old id × IsBlobOfOne files id × StoresFirst files old new
+IsOfStoring files old new (Node (node.Store (store.Fault fault))) = StoresFirst files old new
+IsOfStoring files old new (Fault fault) = StoresFirst files old new
+IsOfStoring files old new _ = ⊥
 
--- each word names files, and whatever node was held, and whatever it awaits: by its commands the blobs of all of them are stored, then
--- each is staged, in their order, and the node that they lead to is held then
+-- each word names files, and whatever node was shown, and whatever it awaits: by its commands the blobs of all of them are stored, then
+-- each is staged, in their order, and the node that they lead to is shown then; no object is lost, and no file made bad
 pub record AddsFiles (work : FileMap) (own : List ℕ) (mode : Mode) (words : List (List ℕ)) (was_up is_up : Bool) (old new : FileMap) : Type 0 where
   pub names : AllByRecursion (Names work own) words
-  pub each : (awaited : Awaited) (n : CloneNode) → HoldsNode old was_up awaited n
-      → (k m : CloneNode) × WritesAll (files_named work own mode words) n k × StagesAll (files_named work own mode words) k m × HoldsNode new is_up awaited m
+  pub each : (awaited : Awaited) (n : CloneNode) → ShowsNode (shown old) was_up awaited n
+      → (k m : CloneNode) × WritesAll (files_named work own mode words) n k × StagesAll (files_named work own mode words) k m × ShowsNode (shown new) is_up awaited m
+  pub kept : KeepsStored old new
 
 -- nothing has changed
 pub record IsUnchanged (was_up is_up : Bool) (old new : FileMap) : Type 0 where
   pub files : new ≡ old
   pub up : is_up ≡ was_up
 
--- each word names files; whatever node was held, the machine stages the first of them, one after the other, and refuses the next one
+-- each word names files; whatever node was shown, the machine stages the first of them, one after the other, and refuses the next one
 -- with this number; and nothing has changed
 pub record RefusesOneNamed (work : FileMap) (own : List ℕ) (mode : Mode) (words : List (List ℕ)) (was_up is_up : Bool) (old new : FileMap) (number : ℕ) : Type 0 where
   pub names : AllByRecursion (Names work own) words
-  pub one : (awaited : Awaited) (n : CloneNode) → HoldsNode old was_up awaited n → RefusesOne (files_named work own mode words) n number
+  pub one : (awaited : Awaited) (n : CloneNode) → ShowsNode (shown old) was_up awaited n → RefusesOne (files_named work own mode words) n number
   pub same : IsUnchanged was_up is_up old new
 
 -- what a refusal says, and what it leaves
@@ -202,7 +232,7 @@ RefusesAdd work own mode words was_up is_up old new (Node node.PathConflict) = R
 RefusesAdd work own mode words was_up is_up old new (Object fault) = RefusesOneNamed work own mode words was_up is_up old new (object_number fault)
 RefusesAdd work own mode words was_up is_up old new (Node node.Down) = (was_up ≡ false) × (new ≡ old)
 RefusesAdd work own mode words was_up is_up old new (Node (node.BadIndex place)) = TextFault (index_bytes old) place × IsUnchanged was_up is_up old new
-RefusesAdd work own mode words was_up is_up old new e = IsOfStoring old new e
+RefusesAdd work own mode words was_up is_up old new e = IsOfStoring (files_named work own mode words) old new e
 
 -- ---- of the node as one value
 

@@ -1,6 +1,6 @@
 -- What a checkout brings, what it leaves, and why it is refused.
 use Rattle.std.specs.Prelude.{◌≡◌, ◌⊎◌, ℕ, List, [], ◌∷◌, ◌++◌, ⊤, Some, Ok, Err, MatchOption, codes, true, false}
-use Rattle.std.specs.FinMap.{get, insert}
+use Rattle.std.specs.FinMap.{insert}
 use Rattle.hex.specs.Hex.{encode_lower}
 use Rattle.vc_files.specs.FileMap.{FileMap}
 use Rattle.vc_object.specs.Kind.{word}
@@ -22,9 +22,10 @@ use Rattle.vc_index.specs.TreeFiles.{IsFileOfTree}
 use Rattle.vc_index.specs.TreeReading.{ListsAs, TreeFault, tree_fault}
 use Rattle.vc_index.specs.declared.faults.IndexFault.{IndexFault}
 use Rattle.vc_checkout.specs.Blobs.{BlamesBlobs, HasDueBlobs}
-use Rattle.vc_checkout.specs.CheckedOut.{IsCheckedOut}
+use Rattle.vc_checkout.specs.Folders.{Folders}
 use Rattle.vc_checkout.specs.CheckoutFault.{IsAgainst}
-use Rattle.vc_checkout.specs.Refusal.{IsRefused}
+use Rattle.vc_checkout.specs.Refusal.{IsClear, IsRefused}
+use Rattle.vc_checkout.specs.Steps.{Brings, BringsPart, IsUntouched}
 use Rattle.vc_checkout.specs.declared.faults.CheckoutFault.{CheckoutFault}
 use Rattle.vc_work_folder.specs.Own.{meets_own}
 use Rattle.vc_node.specs.Blames.{BlamesHead as BlamesNewHead, MayHead}
@@ -89,26 +90,37 @@ pub record MayBring (own revision : List ℕ) (content : FileMap) (index : Index
   pub lists : ListsAs (objects content) root (Ok tree)
   pub apart : IsApart (objects content) root own
 
--- The work tree has the files of the tree as a checkout brings them, the index is the tree's, and HEAD is the target.
-pub record ChecksOut (own revision : List ℕ) (old new was now : FileMap) : Type 0 where
+-- Nothing of the work tree was against it; the work tree has the files and the folders that a checkout leaves, the index is the
+-- tree's, and HEAD is the target.
+pub record ChecksOut {W : Type 0} (content : W → FileMap) (held : W → Folders) (own revision : List ℕ) (old new : FileMap) (was now : W) : Type 0 where
   pub index : IndexMap
   pub head : Head
   pub tree : IndexMap
   pub before : MayBring own revision old index head tree
   pub blobs : HasDueBlobs (objects old) index tree
-  pub files : (path : List ℕ) → IsCheckedOut (objects old) (get index path) (get tree path) (get was path) (get now path)
+  pub clear : (path : List ℕ) → IsClear index tree (content was) path
+  pub brought : Brings content held (objects old) index tree was now
   pub sound : IsIndex tree
   pub shows : shown new ≡ with_head_shown (with_index_shown (shown old) (index_text tree)) head
 
--- what a fault behind the work tree leaves: the work tree and the index are brought, and HEAD is not moved
-pub record LeavesHead (honest : Type 0) (own revision : List ℕ) (old new was now : FileMap) : Type 0 where
+-- what a fault after the work tree leaves: the work tree and the index are brought, and HEAD is not moved
+pub record LeavesHead {W : Type 0} (honest : Type 0) (content : W → FileMap) (held : W → Folders) (own revision : List ℕ) (old new : FileMap) (was now : W) : Type 0 where
   pub index : IndexMap
   pub head : Head
   pub tree : IndexMap
   pub before : MayBring own revision old index head tree
   pub blobs : HasDueBlobs (objects old) index tree
-  pub files : honest → (path : List ℕ) → IsCheckedOut (objects old) (get index path) (get tree path) (get was path) (get now path)
+  pub clear : honest → (path : List ℕ) → IsClear index tree (content was) path
+  pub brought : honest → Brings content held (objects old) index tree was now
   pub written : new ≡ insert old (codes "index") (index_text tree)
+
+-- a tree that may be brought was brought in part, or all of it
+pub record BringsSome {W : Type 0} (content : W → FileMap) (held : W → Folders) (own revision : List ℕ) (old : FileMap) (was now : W) : Type 0 where
+  pub index : IndexMap
+  pub head : Head
+  pub tree : IndexMap
+  pub before : MayBring own revision old index head tree
+  pub brought : BringsPart content held (objects old) index tree was now ⊎ Brings content held (objects old) index tree was now
 
 -- the file of the index spells none
 abbrev pub IsOfIndex : FileMap → Failure → Type 0
@@ -196,6 +208,11 @@ pub data RefusesCheckout (honest : Type 0) (own revision : List ℕ) (content wo
   of_work : (index : IndexMap) (head : Head) (tree : IndexMap) → MayBring own revision content index head tree → IsOfBlobs content index tree e ⊎ IsOfWork honest content index tree work e
       → RefusesCheckout honest own revision content work e
 
--- what stands after an error: files as they were, or, after a fault, what such a one may leave
-abbrev pub LeavesOrFails : Type 0 → (own revision : List ℕ) → (old new was now : FileMap) → Failure → Type 0
-LeavesOrFails honest own revision old new was now e = (new ≡ old) ⊎ ((status_of e ≡ 3) × LeavesHead honest own revision old new was now)
+-- what stands of the files after an error: they are as they were, or, after a fault, what such a one may leave
+abbrev pub LeavesOrFails : {W : Type 0} → Type 0 → (W → FileMap) → (W → Folders) → (own revision : List ℕ) → (old new : FileMap) → (was now : W) → Failure → Type 0
+LeavesOrFails honest content held own revision old new was now e = (new ≡ old) ⊎ ((status_of e ≡ 3) × LeavesHead honest content held own revision old new was now)
+
+-- what stands of the work tree after an error: it is as it was, or, after a fault, some of the tree was brought
+abbrev pub LeavesWork : {W : Type 0} → Type 0 → (W → FileMap) → (W → Folders) → (own revision : List ℕ) → (old : FileMap) → (was now : W) → Failure → Type 0
+LeavesWork honest content held own revision old was now e =
+    IsUntouched content held was now ⊎ ((status_of e ≡ 3) × (honest → BringsSome content held own revision old was now))

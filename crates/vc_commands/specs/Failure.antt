@@ -1,5 +1,5 @@
 -- What a failure of a command means for its exit status.
-use Rattle.std.specs.Prelude.{ℕ, ⊤, if◌then◌else◌}
+use Rattle.std.specs.Prelude.{ℕ, ⊤, if◌then◌else◌, IsTrue, Result, IsErrAnd}
 use Rattle.vc_history.specs.declared.fault.HistoryFault.TheVariants.{Store as HistoryStore}
 use Rattle.vc_refs.specs.declared.faults.RefFault.TheVariants.{Fault as RefFaulted}
 use Rattle.vc_rev.specs.declared.fault.ParseFault.TheVariants.{Memory}
@@ -11,10 +11,12 @@ use Rattle.vc_store.specs.declared.faults.StoreFault.{StoreFault}
 use Rattle.vc_store.specs.declared.faults.StoreFault.TheVariants.{Fault as StoreFaulted}
 use Rattle.vc_checkout.specs.declared.faults.CheckoutFault.{CheckoutFault}
 use Rattle.vc_checkout.specs.declared.faults.CheckoutFault.TheVariants as checkouts
-use Rattle.vc_node.specs.NodeFault.{is_fault, of_index}
+use Rattle.vc_node.specs.CloneFaults.{IsOfDevice as IsOfCloneDevice}
+use Rattle.vc_node.specs.NodeFault.{IsOfDevice as IsOfNodeDevice, is_device, is_fault, of_index}
 use Rattle.vc_node.specs.declared.fault.NodeFault.{NodeFault}
 use Rattle.vc_remote.specs.Faults.{is_fault as is_remote_fault}
 use Rattle.vc_remote.specs.declared.fault.RemoteFault.{RemoteFault}
+use Rattle.vc_remote.specs.declared.fault.RemoteFault.TheVariants as remotes
 use Rattle.vc_commands.specs.declared.failure.Failure.{Failure}
 use Rattle.vc_commands.specs.declared.failure.Failure.TheVariants.{Store, History, Refs, Usage, Fault, Syntax, Revision, Node, Remote, LocalChange, InTheWay, NotText}
 
@@ -22,6 +24,35 @@ use Rattle.vc_commands.specs.declared.failure.Failure.TheVariants.{Store, Histor
 abbrev pub IsFault : Failure → Type 0
 IsFault (Fault fault) = ⊤
 IsFault _ = ⊥
+
+-- a device failed
+abbrev pub IsOfStoreDevice : StoreFault → Type 0
+IsOfStoreDevice (StoreFaulted fault) = IsTrue (is_device fault)
+IsOfStoreDevice _ = ⊥
+
+abbrev pub IsOfDevice : Failure → Type 0
+IsOfDevice (Fault fault) = IsTrue (is_device fault)
+IsOfDevice (Store fault) = IsOfStoreDevice fault
+IsOfDevice (History (HistoryStore fault)) = IsOfStoreDevice fault
+IsOfDevice (Refs (RefFaulted fault)) = IsTrue (is_device fault)
+IsOfDevice (Revision (Source (sources.Store fault))) = IsOfStoreDevice fault
+IsOfDevice (Node fault) = IsOfNodeDevice fault
+IsOfDevice (Remote (remotes.Fault fault)) = IsTrue (is_device fault)
+IsOfDevice (Remote (remotes.Clone fault)) = IsOfCloneDevice fault
+IsOfDevice _ = ⊥
+
+-- a command tells that one failed
+abbrev pub TellsDevice : {T : Type 0} → Result T Failure → Type 0
+TellsDevice result = IsErrAnd result IsOfDevice
+
+-- The same of a command that reads a stream or prints: what it tells as a fault of its own may be the stream's, of which nothing is
+-- known. What the files tell stands in a layer's fault.
+abbrev pub IsOfFiles : Failure → Type 0
+IsOfFiles (Fault fault) = ⊥
+IsOfFiles failure = IsOfDevice failure
+
+abbrev pub TellsOfFiles : {T : Type 0} → Result T Failure → Type 0
+TellsOfFiles result = IsErrAnd result IsOfFiles
 
 -- a fault of memory or device is 3, and every refusal 1
 abbrev pub store_status : StoreFault → ℕ

@@ -1,4 +1,5 @@
 pub mod Failure
+pub mod Devices
 pub mod AtFault
 pub mod OwnPath
 pub mod Again

@@ -1,7 +1,8 @@
 -- What the words of a push ask for over files, and why one of them is refused.
-use Rattle.std.specs.Prelude.{◌≡◌, ◌⊎◌, ⊤, ℕ, List, [], ◌∷◌, None, Some, Ok}
+use Rattle.std.specs.Prelude.{◌≡◌, ◌⊎◌, ℕ, List, [], ◌∷◌, None, Some, Ok}
 use Rattle.vc_exchange.specs.declared.item.PushItem.{PushItem}
 use Rattle.vc_files.specs.FileMap.{FileMap}
+use Rattle.vc_files.specs.declared.faults.Fault.TheVariants.{Memory}
 use Rattle.vc_object.specs.declared.id.ObjectId.{ObjectId}
 use Rattle.vc_refname.specs.RefName.{IsRefName, first_broken_rule}
 use Rattle.vc_remote.specs.Words.{IsOfWord}
@@ -34,10 +35,10 @@ IsItemOf content (Delete name) item = DeletesRef name.now item
 abbrev pub IsItemFor : FileMap → List ℕ → PushItem → Type 0
 IsItemFor content word item = (words : ItemWords) × IsOfWord word words × IsItemOf content words item
 
--- why no ref has the name: the first rule that it breaks, or a fault
+-- why no ref has the name: the first rule that it breaks, or memory runs out
 abbrev pub IsOfName : List ℕ → Failure → Type 0
 IsOfName name (Name rule) = first_broken_rule name ≡ Some rule
-IsOfName name (Fault fault) = ⊤
+IsOfName name (Fault fault) = fault ≡ Memory
 IsOfName name _ = ⊥
 
 -- why a ref is not to be set: no ref has the name; or one may, and the revision has no value

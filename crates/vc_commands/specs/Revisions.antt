@@ -1,8 +1,9 @@
 -- What revisions and sets of them stand for over files, and why they may stand for nothing.
-use Rattle.std.specs.Prelude.{◌≡◌, ◌↔◌, ⊤, ℕ, List, Option, Result, Ok, Contains}
+use Rattle.std.specs.Prelude.{◌≡◌, ◌⊎◌, ◌↔◌, ⊤, ℕ, List, Option, Result, Ok, Contains}
 use Rattle.std.specs.List.{flat_map}
 use Rattle.std.specs.Io.KnownBytes.{Appends}
 use Rattle.vc_files.specs.FileMap.{FileMap}
+use Rattle.vc_files.specs.declared.faults.Fault.TheVariants.{Memory}
 use Rattle.vc_object.specs.ObjectId.{IsSortedByName}
 use Rattle.vc_object.specs.declared.id.ObjectId.{ObjectId}
 use Rattle.vc_repository.specs.Resolving.{DenotesIn, IsOfExpr, over}
@@ -15,6 +16,7 @@ use Rattle.vc_rev.specs.SetReading.{SetError}
 use Rattle.vc_rev.specs.declared.refusal.Refusal.{Refusal}
 use Rattle.vc_rev.specs.declared.refusal.RevFault.{RevFault}
 use Rattle.vc_store.specs.Store.{objects, IsDamaged}
+use Rattle.vc_commands.specs.Failure.{IsFault}
 use Rattle.vc_commands.specs.HashObject.{id_line}
 use Rattle.vc_commands.specs.declared.failure.Failure.{Failure}
 use Rattle.vc_commands.specs.declared.failure.Failure.TheVariants.{Syntax, Revision, Fault}
@@ -23,12 +25,16 @@ use Rattle.vc_commands.specs.declared.failure.Failure.TheVariants.{Syntax, Revis
 abbrev pub Denoted : FileMap → List ℕ → Result ObjectId Refusal → Type 0
 Denoted content text answer = (e : ExprText) × IsExpr text e × DenotesIn content e answer
 
--- why a revision has no value: it is no expression; it is refused, or what must be read for it gives no answer; or a fault
+-- why a revision has no value: it is no expression; it is refused, or what must be read for it gives no answer; or memory runs out
 abbrev pub IsOfRevision : FileMap → List ℕ → Failure → Type 0
 IsOfRevision content text (Syntax fault) = ExprError text fault
 IsOfRevision content text (Revision fault) = (e : ExprText) × IsExpr text e × IsOfExpr content e fault
-IsOfRevision content text (Fault fault) = ⊤
+IsOfRevision content text (Fault fault) = fault ≡ Memory
 IsOfRevision content text _ = ⊥
+
+-- why no value is printed: the revision has none; or it has one, and a fault kept that from being printed
+abbrev pub IsOfPrinting : FileMap → List ℕ → Failure → Type 0
+IsOfPrinting content text e = IsOfRevision content text e ⊎ (IsFault e × (id : ObjectId) × Denoted content text (Ok id))
 
 -- the value of the revision is printed
 pub record PrintsValue (content : FileMap) (text : List ℕ) (old new : Option (List ℕ)) : Type 0 where

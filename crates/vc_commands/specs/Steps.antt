@@ -1,18 +1,22 @@
 -- What the commands of a clone do: its files are opened, and a step of the machine follows.
-use Rattle.std.specs.Prelude.{◌≡◌, ◌⊎◌, ℕ, Bool, true, List, [], ◌∷◌, Option, Result, Ok, Err, OnErr, map, codes}
+use Rattle.std.specs.Prelude.{◌≡◌, ◌⊎◌, ℕ, Bool, true, List, [], ◌∷◌, Option, Result, Ok, Err, IfErr, OnErr, map}
 use Rattle.std.specs.Io.KnownBytes.{Appends, Keeps}
 use Rattle.vc_commands.specs.declared.clone.Words.{Words}
-use Rattle.vc_files.specs.FileMap.{FileMap, SameOutside}
+use Rattle.vc_files.specs.FileMap.{FileMap}
 use Rattle.vc_index.specs.IndexMap.{IndexMap}
-use Rattle.vc_index.specs.WrittenTrees.{IsOfWrite, IsWritten}
+use Rattle.vc_index.specs.WrittenTrees.{IsBegun, IsOfWrite, IsWritten}
 use Rattle.vc_index.specs.declared.faults.IndexFault.{IndexFault}
 use Rattle.vc_model.specs.Clone.{Task}
 use Rattle.vc_model.specs.Clone.Task.{DeleteBranch, MakeCommit, MoveHead, SetBranch}
 use Rattle.vc_node.specs.Blames.{BlamesOpen}
+use Rattle.vc_node.specs.Clean.{KeepsClean, KeepsCleanBut}
 use Rattle.vc_node.specs.Commit.{IsCommitted}
 use Rattle.vc_model.specs.Node.{Answer}
+use Rattle.vc_model.specs.Refs.Head.{Detached}
 use Rattle.vc_node.specs.Machine.{Answers, AnswersIfSound, AnswersShown, AnswersShownIfSound, OrBadFile, done_answer, made_answer, up_after}
+use Rattle.vc_node.specs.Making.{EndsCommit}
 use Rattle.vc_node.specs.NodeFault.{of_index}
+use Rattle.vc_node.specs.Reads.{IsAtHead, IsAtName, IsItsFile, IsOfCommit as IsReadByCommit, IsReached, NoneRead, TellsRead}
 use Rattle.vc_node.specs.Emptying.{IsOpened, LosesCarried}
 use Rattle.vc_node.specs.Shown.{Shown, shown}
 use Rattle.vc_node.specs.declared.fault.NodeFault.{NodeFault}
@@ -28,34 +32,49 @@ use Rattle.vc_commands.specs.Revisions.{Denoted, IsOfRevision}
 use Rattle.vc_commands.specs.declared.failure.Failure.{Failure}
 use Rattle.vc_commands.specs.declared.failure.Failure.TheVariants.{Node, Revision}
 
--- what a refused task leaves: the files as they were, but for objects where it was a commit
+-- what a refused task leaves: the files as they were, but for how refs stand in them where one was to go
 abbrev pub LeavesAt : Task → FileMap → FileMap → Type 0
-LeavesAt (MakeCommit extra author committer message) old new = SameOutside (codes "objects/") old new
 LeavesAt (DeleteBranch name) old new = shown new ≡ shown old
 LeavesAt _ old new = new ≡ old
+
+-- no file is made bad
+abbrev pub KeepsAt : Task → FileMap → FileMap → Type 0
+KeepsAt (DeleteBranch name) = KeepsCleanBut name
+KeepsAt _ = KeepsClean
+
+-- the object's id, whose bytes these are
+abbrev pub object_named : List ℕ → ObjectId
+object_named bytes = record { 0 = bytes }
+
+-- a bad file that is told is one that the task reads: what the new value reaches, what is at the branch's name, or none
+abbrev pub ReadsAt : Task → FileMap → NodeFault → Type 0
+ReadsAt (SetBranch name id) content = TellsRead (IsReached content (object_named id)) (IsAtName content name)
+ReadsAt (MoveHead (Detached id)) content = TellsRead (IsReached content (object_named id)) NoneRead
+ReadsAt (DeleteBranch name) content = TellsRead NoneRead (IsItsFile name)
+ReadsAt _ content = TellsRead NoneRead NoneRead
 
 -- the machine answers the command so; where it is looked at a commit, at a sound clone, since all is taken to be there that refs reach
 abbrev pub AnswersBy : Task → Answer → (was_up is_up : Bool) → FileMap → FileMap → Type 0
 AnswersBy (SetBranch name id) = AnswersIfSound (SetBranch name id)
 AnswersBy (MoveHead head) = AnswersIfSound (MoveHead head)
-AnswersBy (MakeCommit extra author committer message) = AnswersIfSound (MakeCommit extra author committer message)
 AnswersBy task = Answers task
 
 -- the same by what is shown
 abbrev pub AnswersShownBy : Task → Answer → (was_up is_up : Bool) → Shown → Shown → Type 0
 AnswersShownBy (SetBranch name id) = AnswersShownIfSound (SetBranch name id)
 AnswersShownBy (MoveHead head) = AnswersShownIfSound (MoveHead head)
-AnswersShownBy (MakeCommit extra author committer message) = AnswersShownIfSound (MakeCommit extra author committer message)
 AnswersShownBy task = AnswersShown task
 
 -- the files were opened as a clone's, and then the machine answers the command so; over files of which some are bad, it does
--- by what they show, or a bad one is told
+-- by what they show, or a bad one that it reads is told
 pub record StepsTo (task : Task) (answer : Result (Unit {0}) NodeFault) (old new : FileMap) : Type 0 where
   pub between : FileMap
   pub opened : IsOpened old between
   pub answers : AnswersBy task (done_answer answer) true (up_after answer) between new
   pub bad_file : OrBadFile between answer (AnswersShownBy task (done_answer answer) true (up_after answer) (shown between) (shown new))
   pub left : OnErr answer (LeavesAt task between new)
+  pub reads : IfErr answer (ReadsAt task between)
+  pub clean : KeepsAt task between new
 
 -- why a command gives no answer: the files are no clone's, and stay but for what stood in quarantine; or the machine answers so
 abbrev pub IsOfStep : Task → FileMap → FileMap → Failure → Type 0
@@ -81,11 +100,15 @@ pub data IsOfSetting (old : FileMap) (name revision : List ℕ) (new : FileMap) 
 abbrev pub WritesTree : Type 0 → FileMap → FileMap → ObjectId → Type 0
 WritesTree honest old new id = (index : IndexMap) × IsIndexOf old index × IsWritten honest index (objects old) (objects new) id
 
--- why no tree is written: the file of the index spells none; a tree is refused, or a fault
-abbrev pub IsOfTree : Type 0 → FileMap → FileMap → Failure → Type 0
-IsOfTree honest old new (Revision (revs.Source fault)) = IsOfIndexFile old fault
-IsOfTree honest old new (Node fault) = (index : IndexMap) × (e : IndexFault) × IsIndexOf old index × IsOfWrite index (λ id. honest → IsDamaged new id) e × (fault ≡ of_index e)
-IsOfTree honest old new _ = ⊥
+-- why no tree is written: the file of the index spells none; a tree is refused, its file was damaged before, or a fault
+abbrev pub IsOfTree : FileMap → Failure → Type 0
+IsOfTree old (Revision (revs.Source fault)) = IsOfIndexFile old fault
+IsOfTree old (Node fault) = (index : IndexMap) × (e : IndexFault) × IsIndexOf old index × IsOfWrite index (IsDamaged old) e × (fault ≡ of_index e)
+IsOfTree old _ = ⊥
+
+-- what a writing of trees leaves that ended early: nothing, or the first of the index's trees
+abbrev pub LeavesTrees : Type 0 → FileMap → FileMap → Type 0
+LeavesTrees honest old new = (new ≡ old) ⊎ ((index : IndexMap) × IsIndexOf old index × IsBegun honest index (objects old) (objects new))
 
 -- the ids are what the revisions have, in their order
 abbrev pub AreDenoted : FileMap → List (List ℕ) → List ObjectId → Type 0
@@ -103,6 +126,13 @@ IsOfRevisions content (revision ∷ revisions) e =
 abbrev pub committing : List ObjectId → (author committer message : List ℕ) → Task
 committing extra author committer message = MakeCommit (map (λ (id : ObjectId). id.0) extra) author committer message
 
+-- a refusal, as the machine's answer to a commit
+abbrev pub refusal : NodeFault → Result ObjectId NodeFault
+refusal fault = Err fault
+
+abbrev pub told_none : NodeFault → Answer
+told_none fault = made_answer (refusal fault)
+
 -- the files were opened, and the index was committed on HEAD with these extra parents: that is the machine's step, where the
 -- clone was sound, and its answer is the commit's id
 pub record MakesCommit (old : FileMap) (extra : List ObjectId) (author committer message : List ℕ) (id : ObjectId) (new : FileMap) : Type 0 where
@@ -111,6 +141,24 @@ pub record MakesCommit (old : FileMap) (extra : List ObjectId) (author committer
   pub committed : IsCommitted between extra author committer message id new
   pub answers : AnswersIfSound (committing extra author committer message) (made_answer (Ok id)) true true between new
   pub answers_shown : AnswersShownIfSound (committing extra author committer message) (made_answer (Ok id)) true true (shown between) (shown new)
+  pub clean : KeepsClean between new
+
+-- The files were opened, and no commit was made. That is the machine's answer, where the clone was sound; over files of which some are
+-- bad it is so by what they show, or a bad one that a commit reads is told. What refuses it is told in its order, also at a clone that
+-- isn't sound, and all is as the opening leaves it, or some of the commit's objects are stored.
+pub record MakesNone (old : FileMap) (extra : List ObjectId) (author committer message : List ℕ) (fault : NodeFault) (new : FileMap) : Type 0 where
+  pub between : FileMap
+  pub opened : IsOpened old between
+  pub answers : AnswersIfSound (committing extra author committer message) (told_none fault) true (up_after (refusal fault)) between new
+  pub bad_file : OrBadFile between (refusal fault) (AnswersShownIfSound (committing extra author committer message) (told_none fault) true (up_after (refusal fault)) (shown between) (shown new))
+  pub ends : EndsCommit true between extra author committer message new fault
+  pub reads : TellsRead (IsReadByCommit between extra author committer message) (IsAtHead between) fault
+  pub clean : KeepsClean between new
+
+-- why none is made: the files are no clone's, and stay but for what stood in quarantine; or they are one's, and none is made
+abbrev pub IsOfMaking : FileMap → List ObjectId → (author committer message : List ℕ) → FileMap → Failure → Type 0
+IsOfMaking old extra author committer message new (Node fault) = (BlamesOpen old fault × LosesCarried old new) ⊎ MakesNone old extra author committer message fault new
+IsOfMaking old extra author committer message new _ = ⊥
 
 -- the commit was made, and its id printed
 pub record CommitsOn (old : FileMap) (extra : List ObjectId) (author committer message : List ℕ) (new : FileMap) (before after : Option (List ℕ)) : Type 0 where
@@ -120,7 +168,7 @@ pub record CommitsOn (old : FileMap) (extra : List ObjectId) (author committer m
 
 -- why no commit is told: none was made and nothing printed, or the commit was made and a fault kept its id from being printed
 pub data IsOfCommitOn (old : FileMap) (extra : List ObjectId) (author committer message : List ℕ) (new : FileMap) (before after : Option (List ℕ)) (e : Failure) : Type 0 where
-  of_step : IsOfStep (committing extra author committer message) old new e → Keeps before after → IsOfCommitOn old extra author committer message new before after e
+  of_making : IsOfMaking old extra author committer message new e → Keeps before after → IsOfCommitOn old extra author committer message new before after e
   untold : (id : ObjectId) → IsFault e → MakesCommit old extra author committer message id new → IsOfCommitOn old extra author committer message new before after e
 
 -- the same, with what revisions have as extra parents

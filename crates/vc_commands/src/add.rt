@@ -1,16 +1,17 @@
 //! What `add` does to a node: it stages the files of a work tree that words name.
-ghost use Rattle.std.specs.Prelude.{◌≡◌, ◌≢◌, [], ◌∷◌, true, IfOk, IfErr, OnOk, IsSome, codes, map, string_bytes};
+ghost use Rattle.std.specs.Prelude.{◌≡◌, ◌≢◌, [], ◌∷◌, true, IfOk, IfErr, OnOk, IsSome, map, string_bytes};
 ghost use Rattle.std.specs.FinMap as maps;
 ghost use Rattle.std.specs.List.{All};
-ghost use Rattle.vc_files.specs.FileMap.{SameOutside};
 ghost use Rattle.vc_index.specs.IndexMap.{HasConflict, index_entry};
 ghost use Rattle.vc_index.specs.Path.{IsPath};
 ghost use Rattle.vc_object.specs.Object.{IsObject};
 ghost use Rattle.vc_checkout.specs.Steps.{IsUntouched};
-ghost use Rattle.vc_node.specs.Clean.{KeepsClean};
 ghost use Rattle.vc_node.specs.Staging.{MayStandAll, file_placed};
 ghost use Rattle.vc_commands.specs.Adding.{AddsInto, AreBlobs, AreNamed, IsNamed, IsOfFile, IsOfStoring, RefusesFiles, RefusesInto, StoresInto, file_at, files_at};
 ghost use Rattle.vc_commands.specs.CloneWords.{mode_of};
+ghost use Rattle.vc_commands.specs.Devices.{WritesEither};
+ghost use Rattle.vc_files.specs.Failures.{Wears, unstopped};
+ghost use Rattle.vc_commands.specs.Failure.{TellsDevice};
 
 use crate::arguments::FileMode;
 use crate::failure::Failure;
@@ -38,6 +39,7 @@ fn check_file<W: WorkTree>(
     ensures blob { W.honest → OnOk result (IsObject Kind.Blob (file_at (W.content work.old) mode path.now).body) }
     ensures refused { W.honest → IfErr result (IsOfFile index.old (file_at (W.content work.old) mode path.now)) }
     ensures untouched { IsUntouched W.content W.folders work.old work.new }
+    ensures wear { Wears W.failed W.can_fail unstopped work.old work.new (TellsDevice result) }
 {
     index.add(alloc, path.as_bytes(), mode, ObjectId::ZERO)?;
     let Some(bytes) = work.read(alloc, path)? else {
@@ -61,6 +63,7 @@ fn check_files<W: WorkTree>(
     ensures blobs { W.honest → OnOk result (AreBlobs (files_at (W.content work.old) mode paths.now)) }
     ensures refused { W.honest → IfErr result (RefusesFiles index.old (files_at (W.content work.old) mode paths.now)) }
     ensures untouched { IsUntouched W.content W.folders work.old work.new }
+    ensures wear { Wears W.failed W.can_fail unstopped work.old work.new (TellsDevice result) }
 {
     for path in paths {
         check_file(alloc, index, work, mode, path.as_str())?;
@@ -83,10 +86,9 @@ fn store_file<F: Files, W: WorkTree>(
     ensures mode { IfOk result (λ staged. staged.mode ≡ mode) }
     ensures stored { W.honest → F.honest → OnOk result (StoresInto F.content (file_at (W.content work.old) mode path.now ∷ []) node.old node.new) }
     ensures up { OnOk result (node.new.is_up ≡ true) }
-    ensures refused { W.honest → F.honest → IfErr result (IsOfStoring (F.content node.old.files) (F.content node.new.files)) }
-    ensures outside { F.honest → SameOutside (codes "objects/") (F.content node.old.files) (F.content node.new.files) }
-    ensures clean { F.honest → KeepsClean (F.content node.old.files) (F.content node.new.files) }
+    ensures refused { W.honest → F.honest → IfErr result (IsOfStoring (file_at (W.content work.old) mode path.now ∷ []) (F.content node.old.files) (F.content node.new.files)) }
     ensures untouched { IsUntouched W.content W.folders work.old work.new }
+    ensures wear { WritesEither W.failed W.can_fail F.honest F.content F.failed F.can_fail F.left work.old work.new node.old.files node.new.files (TellsDevice result) }
 {
     let Some(bytes) = work.read(alloc, path)? else {
         return Err(Failure::NoSuchPath);
@@ -112,9 +114,9 @@ fn store_files<F: Files, W: WorkTree>(
     ensures files { IfOk result (λ staged. All (λ file. file.mode ≢ Mode.Tree) staged.items) }
     ensures stored { W.honest → F.honest → OnOk result (StoresInto F.content (files_at (W.content work.old) mode paths.now) node.old node.new) }
     ensures up { OnOk result (node.new.is_up ≡ true) }
-    ensures refused { W.honest → F.honest → IfErr result (IsOfStoring (F.content node.old.files) (F.content node.new.files)) }
-    ensures outside { F.honest → SameOutside (codes "objects/") (F.content node.old.files) (F.content node.new.files) }
+    ensures refused { W.honest → F.honest → IfErr result (IsOfStoring (files_at (W.content work.old) mode paths.now) (F.content node.old.files) (F.content node.new.files)) }
     ensures untouched { IsUntouched W.content W.folders work.old work.new }
+    ensures wear { WritesEither W.failed W.can_fail F.honest F.content F.failed F.can_fail F.left work.old work.new node.old.files node.new.files (TellsDevice result) }
 {
     let mut staged = Vec::new(alloc);
     for path in paths {
@@ -140,6 +142,7 @@ pub fn add_all<F: Files, W: WorkTree>(
     ensures added { W.honest → F.honest → OnOk result (AddsInto F.content (W.content work.old) own.now (mode_of mode) (map (λ word. word.now) words.now) node.old node.new) }
     ensures refused { W.honest → F.honest → IfErr result (RefusesInto F.content (W.content work.old) own.now (mode_of mode) (map (λ word. word.now) words.now) node.old node.new) }
     ensures untouched { IsUntouched W.content W.folders work.old work.new }
+    ensures wear { WritesEither W.failed W.can_fail F.honest F.content F.failed F.can_fail F.left work.old work.new node.old.files node.new.files (TellsDevice result) }
 {
     let paths = paths_named(alloc, work, own, words)?;
     let mut index = node.index()?;

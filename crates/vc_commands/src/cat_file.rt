@@ -3,8 +3,9 @@ ghost use Rattle.std.specs.Prelude.{◌≡◌, ◌⊎◌, IsSome, IfSome, IfErr,
 ghost use Rattle.std.specs.Io.KnownBytes.{Appends, Keeps};
 ghost use Rattle.vc_object.specs.Decoding.{stored_object};
 ghost use Rattle.vc_store.specs.Store.{objects};
-ghost use Rattle.vc_commands.specs.Failure.{IsFault};
+ghost use Rattle.vc_commands.specs.Failure.{IsFault, TellsOfFiles};
 ghost use Rattle.vc_commands.specs.Shown.{part_text, IsOfLook};
+ghost use Rattle.vc_files.specs.Failures.{Wears};
 
 use crate::arguments::Part;
 use crate::failure::Failure;
@@ -49,6 +50,7 @@ pub fn print_object<F: Files, O: Write>(
     ensures refused { F.honest → IfErr result (IsOfLook (F.content files.old) id.now) }
     ensures nothing_printed { IfErr result (λ e. IsFault e ⊎ Keeps (O.contents output.old) (O.contents output.new)) }
     ensures same { F.content files.new ≡ F.content files.old }
+    ensures wear { Wears F.failed F.can_fail F.left files.old files.new (TellsOfFiles result) }
 {
     match Store::new(alloc, files).get(id) {
         Ok(object) => print_part(alloc, &object, part, output),

@@ -6,10 +6,12 @@ ghost use Rattle.vc_refs.specs.Refs.{refs};
 ghost use Rattle.vc_index.specs.TreeReading.{ListsAs};
 ghost use Rattle.vc_store.specs.Store.{objects};
 ghost use Rattle.vc_work_folder.specs.Own.{meets_own};
-ghost use Rattle.vc_commands.specs.Checkout.{ChecksOut, IsApart, IsCommitTree, IsOfCommit, IsOfNewHead, IsOfOwn, IsOfRef, IsOfTarget, IsOfTreeList, IsReadable, IsTarget, LeavesOrFails, MayBring, RefusesCheckout, RefusesLook, peeled};
+ghost use Rattle.vc_commands.specs.Checkout.{ChecksOut, IsApart, IsCommitTree, IsOfCommit, IsOfNewHead, IsOfOwn, IsOfRef, IsOfTarget, IsOfTreeList, IsReadable, IsTarget, LeavesOrFails, LeavesWork, MayBring, RefusesCheckout, RefusesLook, peeled};
 ghost use Rattle.vc_commands.specs.CloneWords.{branch_ref};
-ghost use Rattle.vc_commands.specs.Failure.{status_of};
+ghost use Rattle.vc_commands.specs.Devices.{WritesEither};
+ghost use Rattle.vc_commands.specs.Failure.{TellsDevice};
 ghost use Rattle.vc_commands.specs.Revisions.{Denoted, IsOfRevision};
+ghost use Rattle.vc_files.specs.Failures.{Wears};
 
 use crate::clone::branch_of;
 use crate::failure::Failure;
@@ -46,6 +48,7 @@ pub fn peel<F: Files>(
     ensures value { F.honest → IfOk result (λ found. Denoted (F.content files.old) (peeled id.now kind) (Ok found)) }
     ensures refused { F.honest → IfErr result (IsOfRevision (F.content files.old) (peeled id.now kind)) }
     ensures same { F.content files.new ≡ F.content files.old }
+    ensures wear { Wears F.failed F.can_fail F.left files.old files.new (TellsDevice result) }
 {
     let text = peel_text(alloc, id, kind)?;
     resolve_bytes(alloc, files, &text)
@@ -60,6 +63,7 @@ fn commit_tree<F: Files>(
     ensures tree { F.honest → IfOk result (λ found. IsCommitTree (F.content files.old) id.now found.0 found.1) }
     ensures refused { F.honest → IfErr result (IsOfCommit (F.content files.old) id.now) }
     ensures same { F.content files.new ≡ F.content files.old }
+    ensures wear { Wears F.failed F.can_fail F.left files.old files.new (TellsDevice result) }
 {
     let commit = peel(alloc, files, id, Kind::Commit)?;
     let tree = peel(alloc, files, &commit, Kind::Tree)?;
@@ -77,6 +81,7 @@ fn branch_at<F: Files>(
     ensures good { F.honest → OnOk result (IsReadable (F.content files.old) (branch_ref name.now)) }
     ensures refused { F.honest → IfErr result (IsOfRef (F.content files.old) (branch_ref name.now)) }
     ensures same { F.content files.new ≡ F.content files.old }
+    ensures wear { Wears F.failed F.can_fail F.left files.old files.new (TellsDevice result) }
 {
     let branch = match branch_of(alloc, name) {
         Ok(branch) => branch,
@@ -99,6 +104,7 @@ fn target<F: Files>(
     ensures local { IfOk result (λ found. IsLocalHead found.0) }
     ensures refused { F.honest → IfErr result (IsOfTarget (F.content files.old) revision.now) }
     ensures same { F.content files.new ≡ F.content files.old }
+    ensures wear { Wears F.failed F.can_fail F.left files.old files.new (TellsDevice result) }
 {
     let Some((branch, id)) = branch_at(alloc, files, revision)? else {
         let named = resolve(alloc, files, revision)?;
@@ -114,6 +120,7 @@ fn refuse_bad_head<F: Files>(alloc: Global, files: &mut F, head: &Head) -> Resul
     ensures may { F.honest → OnOk result (MayHead (F.content files.old) head.now) }
     ensures refused { F.honest → IfErr result (IsOfNewHead (F.content files.old) head.now) }
     ensures same { F.content files.new ≡ F.content files.old }
+    ensures wear { Wears F.failed F.can_fail F.left files.old files.new (TellsDevice result) }
 {
     if let Head::Id(id) = head {
         refuse_bad_commit(alloc, files, id)?;
@@ -145,6 +152,7 @@ fn list_apart<F: Files>(
     ensures apart { F.honest → OnOk result (IsApart (objects (F.content files.old)) root.now own.now) }
     ensures refused { F.honest → IfErr result (λ e. IsOfTreeList (F.content files.old) root.now e ⊎ IsOfOwn (F.content files.old) root.now own.now e) }
     ensures same { F.content files.new ≡ F.content files.old }
+    ensures wear { Wears F.failed F.can_fail F.left files.old files.new (TellsDevice result) }
 {
     let tree = match Index::list_tree(alloc, files, root) {
         Ok(tree) => tree,
@@ -167,6 +175,7 @@ fn look<F: Files>(
     ensures local { IfOk result (λ found. IsLocalHead found.1) }
     ensures refused { F.honest → IfErr result (RefusesLook own.now revision.now (F.content files.old)) }
     ensures same { F.content files.new ≡ F.content files.old }
+    ensures wear { Wears F.failed F.can_fail F.left files.old files.new (TellsDevice result) }
 {
     let index = read_index(alloc, files)?;
     vc_refs::head(files, alloc)?;
@@ -193,11 +202,11 @@ pub fn check_out<F: Files, W: WorkTree>(
     own: &[u8],
     revision: &str,
 ) -> Result<(), Failure>
-    ensures done { W.honest → F.honest → OnOk result (ChecksOut own.now revision.now (F.content files.old) (F.content files.new) (W.content work.old) (W.content work.new)) }
+    ensures done { W.honest → F.honest → OnOk result (ChecksOut W.content W.folders own.now revision.now (F.content files.old) (F.content files.new) work.old work.new) }
     ensures refused { F.honest → IfErr result (RefusesCheckout W.honest own.now revision.now (F.content files.old) (W.content work.old)) }
-    ensures files { F.honest → IfErr result (LeavesOrFails W.honest own.now revision.now (F.content files.old) (F.content files.new) (W.content work.old) (W.content work.new)) }
-    ensures work { F.honest → IfErr result (λ e. (status_of e ≡ 3) ⊎ (W.content work.new ≡ W.content work.old)) }
-    ensures folders { F.honest → IfErr result (λ e. (status_of e ≡ 3) ⊎ (W.folders work.new ≡ W.folders work.old)) }
+    ensures files { F.honest → IfErr result (LeavesOrFails W.honest W.content W.folders own.now revision.now (F.content files.old) (F.content files.new) work.old work.new) }
+    ensures begun { F.honest → IfErr result (LeavesWork W.honest W.content W.folders own.now revision.now (F.content files.old) work.old work.new) }
+    ensures wear { WritesEither W.failed W.can_fail F.honest F.content F.failed F.can_fail F.left work.old work.new files.old files.new (TellsDevice result) }
 {
     let (index, aim, tree) = look(alloc, files, own, revision)?;
     vc_checkout::checkout(alloc, work, files, &index, &tree)?;

@@ -1,13 +1,16 @@
 //! The subcommands that work on a clone's index, branches and HEAD: each is one call of a node.
-ghost use Rattle.std.specs.Prelude.{◌≡◌, Some, Ok, IfSome, IfOk, IfErr, OnOk, true, nat_eq, codes, map};
+ghost use Rattle.std.specs.Prelude.{◌≡◌, Some, Ok, IfSome, IfOk, IfErr, OnErr, OnOk, true, nat_eq, codes, map};
 ghost use Rattle.std.specs.List.{starts_with};
 ghost use Rattle.vc_files.specs.FileMap.{SameOutside};
+ghost use Rattle.vc_index.specs.Damage.{KeepsDamage};
 ghost use Rattle.vc_model.specs.Clone.Task.{Unstage, SetBranch, DeleteBranch};
 ghost use Rattle.vc_refname.specs.RefName.{IsRefName};
 ghost use Rattle.vc_refs.specs.Refs.{refs};
 ghost use Rattle.vc_commands.specs.CloneWords.{IsOfBranch, branch_ref};
 ghost use Rattle.vc_commands.specs.Revisions.{Denoted};
-ghost use Rattle.vc_commands.specs.Steps.{AreDenoted, CommitsSaid, CommitsSaidOn, IsOfDeleting, IsOfRevisions, IsOfSaid, IsOfSaidOn, IsOfSetting, IsOfStep, IsOfTarget, IsOfTree, SetsBranch, StepsTo, WritesTree};
+ghost use Rattle.vc_commands.specs.Steps.{AreDenoted, CommitsSaid, CommitsSaidOn, IsOfDeleting, IsOfRevisions, IsOfSaid, IsOfSaidOn, IsOfSetting, IsOfStep, IsOfTarget, IsOfTree, LeavesTrees, SetsBranch, StepsTo, WritesTree};
+ghost use Rattle.vc_files.specs.Failures.{Wears, Writes};
+ghost use Rattle.vc_commands.specs.Failure.{TellsDevice, TellsOfFiles};
 
 use crate::failure::Failure;
 use crate::faults::Faults;
@@ -66,6 +69,7 @@ where
 pub fn unstage_path<F: Files>(alloc: Global, files: F, path: &[u8]) -> (F, Result<(), Failure>)
     ensures unstaged { F.honest → OnOk result.1 (StepsTo (Unstage path.now) (Ok tt) (F.content files) (F.content result.0)) }
     ensures refused { F.honest → IfErr result.1 (IsOfStep (Unstage path.now) (F.content files) (F.content result.0)) }
+    ensures wear { Writes F.honest F.content F.failed F.can_fail F.left files result.0 (TellsDevice result.1) }
 {
     let mut node = match CloneNode::open(alloc, files) {
         Ok(node) => node,
@@ -92,8 +96,11 @@ where
 /// Stores the trees of the index, and answers the name of the root's.
 pub fn write_index<F: Files>(alloc: Global, files: &mut F) -> Result<ObjectId, Failure>
     ensures written { F.honest → IfOk result (WritesTree F.honest (F.content files.old) (F.content files.new)) }
-    ensures refused { F.honest → IfErr result (IsOfTree F.honest (F.content files.old) (F.content files.new)) }
+    ensures refused { F.honest → IfErr result (IsOfTree (F.content files.old)) }
+    ensures begun { F.honest → OnErr result (LeavesTrees F.honest (F.content files.old) (F.content files.new)) }
+    ensures undamaged { F.honest → KeepsDamage (F.content files.old) (F.content files.new) }
     ensures outside { F.honest → SameOutside (codes "objects/") (F.content files.old) (F.content files.new) }
+    ensures wear { Writes F.honest F.content F.failed F.can_fail F.left files.old files.new (TellsDevice result) }
 {
     let index = match read_index(alloc, files) {
         Ok(index) => index,
@@ -142,6 +149,7 @@ pub fn commit_index<F: Files, O: Write>(
 ) -> (F, Result<(), Failure>)
     ensures committed { F.honest → OnOk result.1 (CommitsSaid (F.content files) (map (λ revision. revision.now) revisions.now) words.entry (F.content result.0) (O.contents output.old) (O.contents output.new)) }
     ensures refused { F.honest → IfErr result.1 (IsOfSaid (F.content files) (map (λ revision. revision.now) revisions.now) words.entry (F.content result.0) (O.contents output.old) (O.contents output.new)) }
+    ensures wear { Writes F.honest F.content F.failed F.can_fail F.left files result.0 (TellsOfFiles result.1) }
 {
     match parents_named(alloc, &mut files, revisions) {
         Ok(parents) => commit_on(alloc, files, words, &parents, output),
@@ -159,6 +167,7 @@ fn commit_on<F: Files, O: Write>(
 ) -> (F, Result<(), Failure>)
     ensures committed { F.honest → OnOk result.1 (CommitsSaidOn (F.content files) parents.now words.entry (F.content result.0) (O.contents output.old) (O.contents output.new)) }
     ensures refused { F.honest → IfErr result.1 (IsOfSaidOn (F.content files) parents.now words.entry (F.content result.0) (O.contents output.old) (O.contents output.new)) }
+    ensures wear { Writes F.honest F.content F.failed F.can_fail F.left files result.0 (TellsOfFiles result.1) }
 {
     let mut node = match CloneNode::open(alloc, files) {
         Ok(node) => node,
@@ -184,6 +193,7 @@ fn parents_named<F: Files>(
     ensures named { F.honest → IfOk result (λ ids. AreDenoted (F.content files.old) (map (λ revision. revision.now) revisions.now) ids.items) }
     ensures refused { F.honest → IfErr result (IsOfRevisions (F.content files.old) (map (λ revision. revision.now) revisions.now)) }
     ensures same { F.content files.new ≡ F.content files.old }
+    ensures wear { Wears F.failed F.can_fail F.left files.old files.new (TellsDevice result) }
 {
     let mut parents = Vec::new(alloc);
     for revision in revisions {
@@ -226,6 +236,7 @@ pub fn set_branch<F: Files>(
 ) -> (F, Result<(), Failure>)
     ensures set { F.honest → OnOk result.1 (SetsBranch (F.content files) name.now revision.now (F.content result.0)) }
     ensures refused { F.honest → IfErr result.1 (IsOfSetting (F.content files) name.now revision.now (F.content result.0)) }
+    ensures wear { Writes F.honest F.content F.failed F.can_fail F.left files result.0 (TellsDevice result.1) }
 {
     match branch_target(alloc, &mut files, name, revision) {
         Ok((branch, id)) => set_branch_to(alloc, files, &branch, &id),
@@ -246,6 +257,7 @@ fn branch_target<F: Files>(
     ensures legal { OnOk result (IsRefName (branch_ref name.now)) }
     ensures refused { F.honest → IfErr result (IsOfTarget (F.content files.old) name.now revision.now) }
     ensures same { F.content files.new ≡ F.content files.old }
+    ensures wear { Wears F.failed F.can_fail F.left files.old files.new (TellsDevice result) }
 {
     let branch = branch_of(alloc, name)?;
     let commit = resolve(alloc, files, revision)?;
@@ -262,6 +274,7 @@ fn set_branch_to<F: Files>(
     requires { starts_with nat_eq branch.now (codes "refs/heads/") ≡ true }
     ensures set { F.honest → OnOk result.1 (StepsTo (SetBranch branch.now id.now.0) (Ok tt) (F.content files) (F.content result.0)) }
     ensures refused { F.honest → IfErr result.1 (IsOfStep (SetBranch branch.now id.now.0) (F.content files) (F.content result.0)) }
+    ensures wear { Writes F.honest F.content F.failed F.can_fail F.left files result.0 (TellsDevice result.1) }
 {
     let mut node = match CloneNode::open(alloc, files) {
         Ok(node) => node,
@@ -298,6 +311,7 @@ where
 pub fn delete_branch<F: Files>(alloc: Global, files: F, name: &str) -> (F, Result<(), Failure>)
     ensures deleted { F.honest → OnOk result.1 (StepsTo (DeleteBranch (branch_ref name.now)) (Ok tt) (F.content files) (F.content result.0)) }
     ensures refused { F.honest → IfErr result.1 (IsOfDeleting name.now (F.content files) (F.content result.0)) }
+    ensures wear { Writes F.honest F.content F.failed F.can_fail F.left files result.0 (TellsDevice result.1) }
 {
     let branch = match branch_of(alloc, name) {
         Ok(branch) => branch,
@@ -321,6 +335,7 @@ fn branch_value<F: Files>(
 ) -> Result<Option<ObjectId>, Failure>
     ensures value { F.honest → IfOk result (λ found. IfSome found (λ id. refs (F.content files.old) (branch_ref name.now) ≡ Some id)) }
     ensures same { F.content files.new ≡ F.content files.old }
+    ensures wear { Wears F.failed F.can_fail F.left files.old files.new (TellsDevice result) }
 {
     let full_name = branch_of(alloc, name)?;
     match Refs::new(alloc, files).get(&full_name) {

@@ -4,8 +4,9 @@ ghost use Rattle.std.specs.Io.KnownBytes.{Appends, Keeps};
 ghost use Rattle.vc_object.specs.Object.{object_name, IsObject, max_body};
 ghost use Rattle.vc_object.specs.ObjectFault.{BodyFault};
 ghost use Rattle.vc_object.specs.declared.kind.Kind.TheVariants.{Blob};
-ghost use Rattle.vc_commands.specs.Failure.{IsFault};
+ghost use Rattle.vc_commands.specs.Failure.{IsFault, TellsOfFiles};
 ghost use Rattle.vc_commands.specs.HashObject.{IsOfBody, IsOfStored, StoresBody, id_line};
+ghost use Rattle.vc_files.specs.Failures.{Writes};
 
 use crate::failure::Failure;
 use crate::faults::Faults;
@@ -114,6 +115,7 @@ pub fn store_input<F: Files, I: Read + Drop>(
     ensures legal { OnOk result (IfSome (I.remaining input.stream) (λ body. IsObject kind body)) }
     ensures refused { IfErr result (λ e. IfSome (I.remaining input.stream) (λ body. IsOfStored kind body e)) }
     ensures err { F.honest → OnErr result (F.content files.new ≡ F.content files.old) }
+    ensures wear { Writes F.honest F.content F.failed F.can_fail F.left files.old files.new (TellsOfFiles result) }
 {
     let Input { stream, length } = input;
     let body = read_body(alloc, stream, length.unwrap_or(MAX_BODY))?;

@@ -4,6 +4,8 @@ ghost use Rattle.vc_refs.specs.Head.{head_of};
 ghost use Rattle.vc_refs.specs.Refs.{refs, ChangesOnly};
 ghost use Rattle.vc_commands.specs.Shown.{IsOfHead};
 ghost use Rattle.vc_refs.specs.declared.heads.Head.TheVariants as head;
+ghost use Rattle.vc_files.specs.Failures.{Writes};
+ghost use Rattle.vc_commands.specs.Failure.{TellsDevice};
 
 use crate::failure::Failure;
 use crate::repository::open_store;
@@ -34,6 +36,7 @@ pub fn make_head<F: Files>(alloc: Global, files: &mut F) -> Result<(), Failure>
     ensures only { F.honest → ChangesOnly (codes "HEAD") (F.content files.old) (F.content files.new) }
     ensures refused { F.honest → IfErr result (IsOfHead (F.content files.old)) }
     ensures err { F.honest → OnErr result (F.content files.new ≡ F.content files.old) }
+    ensures wear { Writes F.honest F.content F.failed F.can_fail F.left files.old files.new (TellsDevice result) }
 {
     match vc_refs::head(files, alloc) {
         Ok(Some(_)) => Ok(()),
@@ -49,6 +52,7 @@ fn name_first_branch<F: Files>(alloc: Global, files: &mut F) -> Result<(), Failu
     ensures only { F.honest → ChangesOnly (codes "HEAD") (F.content files.old) (F.content files.new) }
     ensures refused { F.honest → IfErr result (IsOfHead (F.content files.old)) }
     ensures err { F.honest → OnErr result (F.content files.new ≡ F.content files.old) }
+    ensures wear { Writes F.honest F.content F.failed F.can_fail F.left files.old files.new (TellsDevice result) }
 {
     let branch = match RefName::new(alloc, FIRST_BRANCH) {
         Ok(branch) => branch,

@@ -2,8 +2,9 @@
 ghost use Rattle.std.specs.Prelude.{◌≡◌, ◌⊎◌, IfOk, IfErr};
 ghost use Rattle.std.specs.Io.KnownBytes.{Keeps};
 ghost use Rattle.vc_store.specs.Store.{objects};
-ghost use Rattle.vc_commands.specs.Failure.{IsFault};
+ghost use Rattle.vc_commands.specs.Failure.{IsFault, TellsOfFiles};
 ghost use Rattle.vc_commands.specs.Shown.{IsOfBases, PrintsBases};
+ghost use Rattle.vc_files.specs.Failures.{Wears};
 
 use crate::failure::Failure;
 use crate::output::{id_lines, print_text};
@@ -47,6 +48,7 @@ pub fn print_bases<F: Files, O: Write>(
     ensures refused { F.honest → IfErr result (IsOfBases (F.content files.old) first.now second.now) }
     ensures nothing_printed { IfErr result (λ e. IsFault e ⊎ Keeps (O.contents output.old) (O.contents output.new)) }
     ensures same { F.content files.new ≡ F.content files.old }
+    ensures wear { Wears F.failed F.can_fail F.left files.old files.new (TellsOfFiles result) }
 {
     let generations = Generations::new(alloc);
     let mut commits = Store::new(alloc, files);

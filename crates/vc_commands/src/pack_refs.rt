@@ -4,6 +4,8 @@ ghost use Rattle.vc_refs.specs.Head.{KeepsOutside};
 ghost use Rattle.vc_refs.specs.Packing.{IsPackedFrom};
 ghost use Rattle.vc_refs.specs.Refs.{refs};
 ghost use Rattle.vc_commands.specs.Shown.{IsOfList};
+ghost use Rattle.vc_files.specs.Failures.{Writes};
+ghost use Rattle.vc_commands.specs.Failure.{TellsDevice};
 
 use crate::failure::Failure;
 use crate::repository::open_store;
@@ -28,6 +30,7 @@ pub fn pack_in<F: Files>(alloc: Global, files: &mut F) -> Result<(), Failure>
     ensures refused { F.honest → IfErr result (IsOfList (F.content files.old)) }
     ensures kept { F.honest → refs (F.content files.new) ≡ refs (F.content files.old) }
     ensures rest { F.honest → KeepsOutside (F.content files.old) (F.content files.new) }
+    ensures wear { Writes F.honest F.content F.failed F.can_fail F.left files.old files.new (TellsDevice result) }
 {
     match Refs::new(alloc, files).pack() {
         Ok(()) => Ok(()),

@@ -3,6 +3,8 @@ ghost use Rattle.std.specs.Prelude.{◌≡◌, IfOk, IfErr, OnOk, map};
 ghost use Rattle.vc_refname.specs.RefName.{IsRefName};
 ghost use Rattle.vc_commands.specs.CloneWords.{branch_ref};
 ghost use Rattle.vc_commands.specs.PushWords.{AreItemsFor, DeletesRef, IsItemFor, IsOfItemWord, IsOfItemWords, IsOfName, IsOfSet, SetsRef};
+ghost use Rattle.vc_files.specs.Failures.{Wears};
+ghost use Rattle.vc_commands.specs.Failure.{TellsDevice};
 
 use crate::failure::Failure;
 use crate::repository::resolve;
@@ -21,6 +23,7 @@ pub fn items_of<F: Files>(
     ensures items { F.honest → IfOk result (λ items. AreItemsFor (F.content files.old) (map (λ word. word.now) words.now) items.items) }
     ensures refused { F.honest → IfErr result (IsOfItemWords (F.content files.old) (map (λ word. word.now) words.now)) }
     ensures same { F.content files.new ≡ F.content files.old }
+    ensures wear { Wears F.failed F.can_fail F.left files.old files.new (TellsDevice result) }
 {
     let mut items = Vec::new(alloc);
     for word in words {
@@ -35,6 +38,7 @@ fn item_of<F: Files>(alloc: Global, files: &mut F, word: &str) -> Result<PushIte
     ensures item { F.honest → IfOk result (IsItemFor (F.content files.old) word.now) }
     ensures refused { F.honest → IfErr result (IsOfItemWord (F.content files.old) word.now) }
     ensures same { F.content files.new ≡ F.content files.old }
+    ensures wear { Wears F.failed F.can_fail F.left files.old files.new (TellsDevice result) }
 {
     match item_words(word) {
         ItemWords::Branch(branch) => set_branch(alloc, files, branch),
@@ -48,6 +52,7 @@ fn set_branch<F: Files>(alloc: Global, files: &mut F, branch: &str) -> Result<Pu
     ensures item { F.honest → IfOk result (SetsRef (F.content files.old) (branch_ref branch.now) (branch_ref branch.now)) }
     ensures refused { F.honest → IfErr result (IsOfSet (F.content files.old) (branch_ref branch.now) (branch_ref branch.now)) }
     ensures same { F.content files.new ≡ F.content files.old }
+    ensures wear { Wears F.failed F.can_fail F.left files.old files.new (TellsDevice result) }
 {
     let name = format!(in alloc; "refs/heads/{branch}")?;
     set_ref(alloc, files, name.as_str(), name.as_str())
@@ -63,6 +68,7 @@ fn set_ref<F: Files>(
     ensures item { F.honest → IfOk result (SetsRef (F.content files.old) revision.now name.now) }
     ensures refused { F.honest → IfErr result (IsOfSet (F.content files.old) revision.now name.now) }
     ensures same { F.content files.new ≡ F.content files.old }
+    ensures wear { Wears F.failed F.can_fail F.left files.old files.new (TellsDevice result) }
 {
     let name = name_of(alloc, name)?;
     let id = resolve(alloc, files, revision)?;

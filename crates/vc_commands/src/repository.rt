@@ -2,6 +2,8 @@
 ghost use Rattle.std.specs.Prelude.{◌≡◌, Ok, IfOk, IfErr};
 ghost use Rattle.vc_object.specs.ObjectId.{IsSortedByName};
 ghost use Rattle.vc_commands.specs.Revisions.{Denoted, IsOfRevision, IsOfTerms, IsSelected};
+ghost use Rattle.vc_files.specs.Failures.{Wears};
+ghost use Rattle.vc_commands.specs.Failure.{TellsDevice};
 
 use crate::failure::{Failure, fault_of};
 use std::alloc::Global;
@@ -55,6 +57,7 @@ pub fn resolve<F: Files>(alloc: Global, files: &mut F, revision: &str) -> Result
     ensures value { F.honest → IfOk result (λ id. Denoted (F.content files.old) revision.now (Ok id)) }
     ensures refused { F.honest → IfErr result (IsOfRevision (F.content files.old) revision.now) }
     ensures same { F.content files.new ≡ F.content files.old }
+    ensures wear { Wears F.failed F.can_fail F.left files.old files.new (TellsDevice result) }
 {
     resolve_bytes(alloc, files, revision.as_bytes())
 }
@@ -68,6 +71,7 @@ pub fn resolve_bytes<F: Files>(
     ensures value { F.honest → IfOk result (λ id. Denoted (F.content files.old) revision.now (Ok id)) }
     ensures refused { F.honest → IfErr result (IsOfRevision (F.content files.old) revision.now) }
     ensures same { F.content files.new ≡ F.content files.old }
+    ensures wear { Wears F.failed F.can_fail F.left files.old files.new (TellsDevice result) }
 {
     let expr = match parse(alloc, revision) {
         Ok(expr) => expr,
@@ -89,6 +93,7 @@ pub fn select<F: Files>(
     ensures sorted { IfOk result (λ ids. IsSortedByName ids.items) }
     ensures refused { F.honest → IfErr result (IsOfTerms (F.content files.old) terms.now) }
     ensures same { F.content files.new ≡ F.content files.old }
+    ensures wear { Wears F.failed F.can_fail F.left files.old files.new (TellsDevice result) }
 {
     let set = match parse_set(alloc, terms) {
         Ok(set) => set,

@@ -1,8 +1,9 @@
 //! The subcommand `rev-list`: the commits that some terms select.
 ghost use Rattle.std.specs.Prelude.{◌≡◌, ◌⊎◌, IfErr, OnOk};
 ghost use Rattle.std.specs.Io.KnownBytes.{Keeps};
-ghost use Rattle.vc_commands.specs.Failure.{IsFault};
+ghost use Rattle.vc_commands.specs.Failure.{IsFault, TellsOfFiles};
 ghost use Rattle.vc_commands.specs.Revisions.{IsOfTerms, PrintsSelected};
+ghost use Rattle.vc_files.specs.Failures.{Wears};
 
 use crate::failure::Failure;
 use crate::output::{id_lines, print_text};
@@ -34,6 +35,7 @@ pub fn print_selected<F: Files, O: Write>(
     ensures refused { F.honest → IfErr result (IsOfTerms (F.content files.old) terms.now) }
     ensures nothing_printed { IfErr result (λ e. IsFault e ⊎ Keeps (O.contents output.old) (O.contents output.new)) }
     ensures same { F.content files.new ≡ F.content files.old }
+    ensures wear { Wears F.failed F.can_fail F.left files.old files.new (TellsOfFiles result) }
 {
     let ids = match select(alloc, files, terms) {
         Ok(ids) => ids,

@@ -1,8 +1,9 @@
 //! The subcommand `rev-parse`: the object that a revision names.
 ghost use Rattle.std.specs.Prelude.{◌≡◌, ◌⊎◌, IfErr, OnOk};
 ghost use Rattle.std.specs.Io.KnownBytes.{Keeps};
-ghost use Rattle.vc_commands.specs.Failure.{IsFault};
-ghost use Rattle.vc_commands.specs.Revisions.{IsOfRevision, PrintsValue};
+ghost use Rattle.vc_commands.specs.Failure.{IsFault, TellsOfFiles};
+ghost use Rattle.vc_commands.specs.Revisions.{IsOfPrinting, PrintsValue};
+ghost use Rattle.vc_files.specs.Failures.{Wears};
 
 use crate::failure::Failure;
 use crate::output::print_id;
@@ -31,9 +32,10 @@ pub fn print_value<F: Files, O: Write>(
     output: &mut O,
 ) -> Result<(), Failure>
     ensures printed { F.honest → OnOk result (PrintsValue (F.content files.old) revision.now (O.contents output.old) (O.contents output.new)) }
-    ensures refused { F.honest → IfErr result (IsOfRevision (F.content files.old) revision.now) }
+    ensures refused { F.honest → IfErr result (IsOfPrinting (F.content files.old) revision.now) }
     ensures nothing_printed { IfErr result (λ e. IsFault e ⊎ Keeps (O.contents output.old) (O.contents output.new)) }
     ensures same { F.content files.new ≡ F.content files.old }
+    ensures wear { Wears F.failed F.can_fail F.left files.old files.new (TellsOfFiles result) }
 {
     match resolve_bytes(alloc, files, revision) {
         Ok(id) => print_id(&id, output),

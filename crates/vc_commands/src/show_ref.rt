@@ -3,8 +3,9 @@ ghost use Rattle.std.specs.Prelude.{◌≡◌, ◌⊎◌, IfErr, IfOk, OnOk};
 ghost use Rattle.std.specs.List.{flat_map};
 ghost use Rattle.std.specs.Io.KnownBytes.{Keeps};
 ghost use Rattle.vc_refs.specs.Refs.{refs};
-ghost use Rattle.vc_commands.specs.Failure.{IsFault};
+ghost use Rattle.vc_commands.specs.Failure.{IsFault, TellsOfFiles};
 ghost use Rattle.vc_commands.specs.Shown.{ref_line, IsOfList, PrintsRefs};
+ghost use Rattle.vc_files.specs.Failures.{Wears};
 
 use crate::failure::Failure;
 use crate::output::print_text;
@@ -38,6 +39,7 @@ pub fn print_refs<F: Files, O: Write>(
     ensures refused { F.honest → IfErr result (IsOfList (F.content files.old)) }
     ensures nothing_printed { IfErr result (λ e. IsFault e ⊎ Keeps (O.contents output.old) (O.contents output.new)) }
     ensures same { F.content files.new ≡ F.content files.old }
+    ensures wear { Wears F.failed F.can_fail F.left files.old files.new (TellsOfFiles result) }
 {
     let listed = match Refs::new(alloc, files).list() {
         Ok(listed) => listed,

@@ -2,10 +2,12 @@
 ghost use Rattle.std.specs.Prelude.{◌≡◌, ◌⊎◌, ◌++◌, IfOk, IfErr, OnOk, map};
 ghost use Rattle.std.specs.List.{flat_map};
 ghost use Rattle.std.specs.Io.KnownBytes.{Keeps};
+ghost use Rattle.vc_checkout.specs.Devices.{WearsEither};
 ghost use Rattle.vc_checkout.specs.Status.{seen};
 ghost use Rattle.vc_checkout.specs.Steps.{IsUntouched};
-ghost use Rattle.vc_commands.specs.Failure.{status_of};
+ghost use Rattle.vc_commands.specs.Failure.{TellsDevice, TellsOfFiles, status_of};
 ghost use Rattle.vc_commands.specs.StatusLines.{IsHeadTree, IsOfHeadTree, PrintsStatus, RefusesStatus, change_lines, index_letter, line, lost_line, unknown_line};
+ghost use Rattle.vc_files.specs.Failures.{Wears};
 
 use crate::checkout::peel;
 use crate::failure::Failure;
@@ -96,6 +98,7 @@ fn head_tree<F: Files>(alloc: Global, files: &mut F) -> Result<Option<ObjectId>,
     ensures tree { F.honest → IfOk result (IsHeadTree (F.content files.old)) }
     ensures refused { F.honest → IfErr result (IsOfHeadTree (F.content files.old)) }
     ensures same { F.content files.new ≡ F.content files.old }
+    ensures wear { Wears F.failed F.can_fail F.left files.old files.new (TellsDevice result) }
 {
     let Some(commit) = vc_refs::resolve_head(files, alloc)? else {
         return Ok(None);
@@ -124,6 +127,7 @@ pub fn print_status<F: Files, W: WorkTree, O: Write>(
     ensures nothing_printed { IfErr result (λ e. (status_of e ≡ 3) ⊎ Keeps (O.contents output.old) (O.contents output.new)) }
     ensures files { F.content files.new ≡ F.content files.old }
     ensures untouched { IsUntouched W.content W.folders work.old work.new }
+    ensures wear { WearsEither W.failed W.can_fail F.failed F.can_fail F.left work.old work.new files.old files.new (TellsOfFiles result) }
 {
     let index = read_index(alloc, files)?;
     let tree = head_tree(alloc, files)?;

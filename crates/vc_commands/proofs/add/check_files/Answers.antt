@@ -1,4 +1,4 @@
-use Rattle.std.proofs.Common.{◌≡◌, ℕ, ◌+◌, List, drop, ap, subst, ◌∙◌}
+use Rattle.std.proofs.Common.{rules, ◌≡◌, ℕ, ◌+◌, List, drop, ap, subst, ◌∙◌}
 use Rattle.std.specs.Prelude.{string_bytes}
 use Rattle.std.specs.FinMap.{insert}
 use Rattle.vc_index.specs.IndexMap.{HasConflict, index_entry}
@@ -31,4 +31,5 @@ loop-path-preserved g c =
           (rest_at work mode paths k path c.loop-path-test.true c.path-item.is) c.check_file.new.index _ put legal free object;
       same = e.untouched.0 ∙ i.same;
       folders = e.untouched.1 ∙ i.folders;
+      wear = search rules;
     }

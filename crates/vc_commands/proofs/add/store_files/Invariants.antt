@@ -1,10 +1,8 @@
 use Rattle.std.proofs.Common.{◌≡◌, ◌≢◌, true, take}
-use Rattle.std.specs.Prelude.{codes}
 use Rattle.std.specs.List.{All}
-use Rattle.vc_files.specs.FileMap.{SameOutside}
 use Rattle.vc_object.specs.declared.mode.Mode.TheVariants.{Tree}
-use Rattle.vc_node.specs.Clean.{KeepsClean}
 use Rattle.vc_commands.specs.Adding.{AreNamed, StoresFiles, files_at}
+use Rattle.vc_commands.specs.Devices.{WritesEither}
 use Rattle.vc_commands.proofs.add.store_files.Given as goal
 
 abbrev pub invariant-loop-path : goal.invariant-loop-path
@@ -13,8 +11,7 @@ invariant-loop-path g l = record {
   files : All (λ file. file.mode ≢ Tree) l.staged.items;
   stored : g.W.WorkTree.honest → g.F.Files.honest → StoresFiles (files_at (g.W.WorkTree.content l.fn.work) l.mode (take l.path-index l.paths)) l.fn.node.is_up l.node.is_up (g.F.Files.content l.fn.node.files) (g.F.Files.content l.node.files);
   up : l.node.is_up ≡ true;
-  outside : g.F.Files.honest → SameOutside (codes "objects/") (g.F.Files.content l.fn.node.files) (g.F.Files.content l.node.files);
-  clean : g.F.Files.honest → KeepsClean (g.F.Files.content l.fn.node.files) (g.F.Files.content l.node.files);
+  wear : WritesEither g.W.WorkTree.failed g.W.WorkTree.can_fail g.F.Files.honest g.F.Files.content g.F.Files.failed g.F.Files.can_fail g.F.Files.left l.fn.work l.work l.fn.node.files l.node.files ⊥;
   same : g.W.WorkTree.content l.work ≡ g.W.WorkTree.content l.fn.work;
   folders : g.W.WorkTree.folders l.work ≡ g.W.WorkTree.folders l.fn.work;
 }

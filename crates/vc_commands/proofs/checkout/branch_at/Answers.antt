@@ -1,4 +1,4 @@
-use Rattle.std.proofs.Common.{rules, ◌≡◌, ℕ, List, subst}
+use Rattle.std.proofs.Common.{rules, ℕ, List, subst}
 use Rattle.vc_refs.specs.RefFault.{BlamesRef}
 use Rattle.vc_refs.specs.Refs.{deciding_file, IsBadRef}
 use Rattle.vc_commands.specs.Checkout.{IsOfRef}

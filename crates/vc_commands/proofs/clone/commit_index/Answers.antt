@@ -1,7 +1,10 @@
-use Rattle.std.proofs.Common.{map}
+use Rattle.std.proofs.Common.{rules, map}
+use Rattle.vc_files.proofs.WearLemmas.{wears_then, wears_writes}
+use Rattle.vc_node.proofs.LookLemmas.{looks_told}
 use Rattle.std.proofs.KnownBytes.{Keeps-refl}
 use Rattle.std.proofs.lemmas.Result.{IfErr-weaker}
 use Rattle.vc_commands.proofs.BodyLemmas.{OnOk-map}
+use Rattle.vc_commands.proofs.DeviceLemmas.{of_files_told}
 use Rattle.vc_commands.proofs.StepLemmas.{commits_index, refuses_index}
 use Rattle.vc_commands.specs.Steps.{IsOfCommit, IsOfCommitOn}
 use Rattle.vc_commands.specs.Steps.IsOfCommit.{of_revisions}
@@ -29,7 +32,11 @@ returns-in-Ok g c =
           (IsOfCommit old revisions author committer message new before after)
           (λ e on. refuses_index old m new revisions c.in-Ok.parents.items c.deref.result.now author committer message before after e c.parents_named.ensures.same c.deref.ensures.value (c.in-Ok.ensures.named honest) on)
           (c.commit_on.ensures.refused honest);
+      wear = wears_then c.in-Ok.ensures.wear (search rules) (search rules) c.commit_on.ensures.wear;
     }
 
 pub returns-in-Err-clause-refused : goal.returns-in-Err-clause-refused
 returns-in-Err-clause-refused g c = λ honest. of_revisions (c.in-Err.ensures.refused honest) c.parents_named.ensures.same (Keeps-refl (g.O.Write.contents c.args.output.now))
+
+pub returns-in-Err-clause-wear : goal.returns-in-Err-clause-wear
+returns-in-Err-clause-wear g c = wears_writes (looks_told c.in-Err.ensures.wear (of_files_told c.in-Err.failure)) (search rules)

@@ -1,4 +1,4 @@
-use Rattle.std.proofs.Common.{◌≡◌, ◌∙◌, ap, map, take, length, arith}
+use Rattle.std.proofs.Common.{rules, ◌≡◌, ◌∙◌, ap, map, take, length, arith}
 use Rattle.std.proofs.Math.Seq.{take-length}
 use Rattle.vc_files.specs.declared.faults.Fault.TheVariants.{Memory}
 use Rattle.vc_commands.specs.Steps.{IsOfRevisions}
@@ -14,6 +14,7 @@ loop-revision-preserved g c =
     record {
       same = c.in_ok-id.ensures.same ∙ i.same;
       named = λ honest. named_more (g.F.Files.content c.args.files.now) c.args.revisions.now c.loop-revision.revision-index _ c.loop-revision-test.true c.loop-revision.parents.items c.in_ok-id.id _ (i.named honest) (value honest) c.in_ok-push.ensures.items;
+      wear = search rules;
     }
 
 pub returns-clause-named : goal.returns-clause-named

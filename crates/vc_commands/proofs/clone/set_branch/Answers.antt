@@ -1,4 +1,6 @@
+use Rattle.std.proofs.Common.{rules}
 use Rattle.std.proofs.lemmas.Result.{IfErr-weaker}
+use Rattle.vc_files.proofs.WearLemmas.{wears_then, wears_writes, writes_told}
 use Rattle.vc_model.specs.Clone.Task.{SetBranch}
 use Rattle.vc_commands.proofs.BodyLemmas.{OnOk-map}
 use Rattle.vc_commands.proofs.StepLemmas.{refuses_branch, sets_branch}
@@ -20,7 +22,11 @@ returns-in-Ok g c =
       set = λ honest. OnOk-map c.set_branch_to.result.1 (λ step. sets_branch old m new name revision branch id c.branch_target.ensures.same c.in-Ok.ensures.name (c.in-Ok.ensures.id honest) step) (c.set_branch_to.ensures.set honest);
       refused = λ honest. IfErr-weaker c.set_branch_to.result.1 (IsOfStep (SetBranch branch id.0) m new) (IsOfSetting old name revision new)
           (λ e step. refuses_branch old m new name revision branch id e c.branch_target.ensures.same c.in-Ok.ensures.name c.in-Ok.ensures.legal (c.in-Ok.ensures.id honest) step) (c.set_branch_to.ensures.refused honest);
+      wear = wears_then c.in-Ok.ensures.wear (search rules) (search rules) c.set_branch_to.ensures.wear;
     }
 
 pub returns-in-Err-clause-refused : goal.returns-in-Err-clause-refused
 returns-in-Err-clause-refused g c = λ honest. of_target (c.in-Err.ensures.refused honest) c.branch_target.ensures.same
+
+pub returns-in-Err-clause-wear : goal.returns-in-Err-clause-wear
+returns-in-Err-clause-wear g c = writes_told (wears_writes c.in-Err.ensures.wear (search rules)) (search rules) (search rules)

@@ -1,9 +1,13 @@
 use Rattle.std.proofs.Common.{◌≡◌, List, ℕ, subst, refl}
+use Rattle.vc_files.proofs.WearLemmas.{writes_none}
 use Rattle.vc_object.specs.Decoding.{stored_object}
 use Rattle.vc_object.specs.Object.{object_name, IsObject}
 use Rattle.vc_store.specs.Store.{objects, with_object}
 use Rattle.vc_store.specs.StoreFault.{IsOfPut}
 use Rattle.vc_commands.proofs.BodyLemmas.{of_front, refused_put}
+use Rattle.vc_commands.specs.Failure.{IsFault}
+use Rattle.vc_commands.proofs.AddLemmas.{handed_on}
+use Rattle.vc_commands.proofs.DeviceLemmas.{told_apart}
 use Rattle.vc_commands.proofs.hash_object.store_input.Goals as goal
 
 pub returns-in-Ok-clause-named : goal.returns-in-Ok-clause-named
@@ -33,3 +37,6 @@ returns-clause-refused g c =
     let items = c.in_ok-body.body.items in
     refused_put c.args.kind (g.I.Read.remaining c.args.input.stream) items c.in-Err.fault c.in_ok-body.ensures.front
     (subst (λ (xs : List ℕ). IsOfPut c.args.kind xs c.in-Err.fault) c.deref.ensures.value c.in-Err.ensures.answers.refused)
+
+pub returns-in_err-body-clause-wear : goal.returns-in_err-body-clause-wear
+returns-in_err-body-clause-wear g c = writes_none (told_apart c.from_residual.result (handed_on IsFault c.in_err-body.field-0.0 c.from_residual.result c.from_residual.ensures.1 c.in_err-body.ensures.fault))

@@ -1,4 +1,4 @@
-use Rattle.std.proofs.Common.{◌≡◌, ◌∙◌, ap, map, take, length, arith}
+use Rattle.std.proofs.Common.{rules, ◌≡◌, ◌∙◌, ap, map, take, length, arith}
 use Rattle.std.proofs.Math.Seq.{take-length}
 use Rattle.vc_files.specs.declared.faults.Fault.TheVariants.{Memory}
 use Rattle.vc_commands.specs.PushWords.{IsOfItemWords}
@@ -14,6 +14,7 @@ loop-word-preserved g c =
     record {
       same = c.in_ok-item.ensures.same ∙ i.same;
       items = λ honest. items_more (g.F.Files.content c.args.files.now) c.args.words.now c.loop-word.word-index _ c.loop-word-test.true c.loop-word.items.items c.in_ok-item.item _ (i.items honest) (item honest) c.in_ok-push.ensures.items;
+      wear = search rules;
     }
 
 pub returns-clause-items : goal.returns-clause-items
