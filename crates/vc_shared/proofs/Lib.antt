@@ -3,6 +3,7 @@ pub mod CallLemmas
 pub mod FoundLemmas
 pub mod FaultLemmas
 pub mod HoldingLemmas
+pub mod LearningLemmas
 pub mod PackingLemmas
 pub mod OpeningLemmas
 pub mod PushingLemmas

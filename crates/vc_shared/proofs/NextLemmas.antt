@@ -40,14 +40,15 @@ module _ {D : Type 0} (content : D → FileMap) (old mid new : D) (slots mids af
       (subst (λ (xs : List (Option SessionText)). AcceptsFrom honest before rest (content old) (content mid) slots xs true is_up came) (sym same)
       (accepts is_up (up ∙ ap (λ (r : Result (Option Accepted) AcceptFault). up_after r) is)))))
 
-  pub next_none : {T : Type 0} (text : D → List (Option SessionText) → Bool → T) (was_up : Bool) → was_up ≡ true → is_up ≡ up_after told → IfOk came (λ found. IfNone found ((mid ≡ old) × (mids ≡ slots)))
-      → IfOk told (λ found. IfNone found (text new after is_up ≡ text old slots was_up))
-  next_none text was_up was up none = by told up (subst (λ (r : Result (Option Accepted) AcceptFault). IfOk r (λ found. IfNone found ((mid ≡ old) × (mids ≡ slots)))) (sym is) none)
+  pub next_none : {T L : Type 0} (text : D → List (Option SessionText) → Bool → L → T) (known now : L) → now ≡ known → (was_up : Bool) → was_up ≡ true → is_up ≡ up_after told
+      → IfOk came (λ found. IfNone found ((mid ≡ old) × (mids ≡ slots))) → IfOk told (λ found. IfNone found (text new after is_up now ≡ text old slots was_up known))
+  next_none text known now still was_up was up none = by told up (subst (λ (r : Result (Option Accepted) AcceptFault). IfOk r (λ found. IfNone found ((mid ≡ old) × (mids ≡ slots)))) (sym is) none)
     where
-      by : (r : Result (Option Accepted) AcceptFault) → is_up ≡ up_after r → IfOk r (λ found. IfNone found ((mid ≡ old) × (mids ≡ slots))) → IfOk r (λ found. IfNone found (text new after is_up ≡ text old slots was_up))
+      by : (r : Result (Option Accepted) AcceptFault) → is_up ≡ up_after r → IfOk r (λ found. IfNone found ((mid ≡ old) × (mids ≡ slots))) → IfOk r (λ found. IfNone found (text new after is_up now ≡ text old slots was_up known))
       by (Ok (Some accepted)) here none = tt
       by (Ok None) here none =
-          ap (λ (d : D). text d after is_up) (files ∙ none.0) ∙ ap (λ (xs : List (Option SessionText)). text old xs is_up) (same ∙ none.1) ∙ ap (λ (b : Bool). text old slots b) (here ∙ sym was)
+          ap (λ (d : D). text d after is_up now) (files ∙ none.0) ∙ ap (λ (xs : List (Option SessionText)). text old xs is_up now) (same ∙ none.1) ∙ ap (λ (b : Bool). text old slots b now) (here ∙ sym was)
+          ∙ ap (λ k. text old slots was_up k) still
       by (Err e) here none = tt
 
 -- ---- a node that is down

@@ -12,6 +12,7 @@ use Rattle.vc_rules.specs.OpenPushes.{HoldsPush}
 use Rattle.vc_session.specs.Clean.{IsQuarantineClean, MakesNoneBad}
 use Rattle.vc_session.specs.Quarantine.{IsDropped}
 use Rattle.vc_session.specs.Session.{SessionText}
+use Rattle.vc_shared.specs.Learning.{Learnt}
 use Rattle.vc_shared.specs.Slots.{slot_of}
 
 -- what a shared node is made of
@@ -20,6 +21,8 @@ pub record SharedText (F : Type 0) : Type 0 where
   -- the push in each of its slots
   pub slots : List (Option SessionText)
   pub is_up : Bool
+  -- what it has learnt of the generations of commits
+  pub learnt : Learnt
 
 -- A slot is the machine's: no push is open and its quarantine is empty, or the push and what stands there are the machine's push.
 abbrev pub HoldsSlot : FileMap → ℕ → Option SessionText → Option OpenPush → Type 0

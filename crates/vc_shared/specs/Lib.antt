@@ -3,6 +3,7 @@ pub mod Calls
 pub mod Faults
 pub mod Holding
 pub mod Laws
+pub mod Learning
 pub mod Node
 pub mod Pushing
 pub mod Resolving

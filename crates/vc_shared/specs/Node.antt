@@ -10,17 +10,19 @@ use Rattle.vc_session.specs.Session.{SessionText}
 use Rattle.vc_shared.specs.Arriving.{AcceptsFrom, AnswersKnown, KeepsHeld}
 use Rattle.vc_shared.specs.Calls.{AnswersShared}
 use Rattle.vc_shared.specs.Holding.{HoldsShared, SharedText}
+use Rattle.vc_shared.specs.Learning.{LearnsIn}
 use Rattle.vc_shared.specs.Slots.{AreTellable, slot_of}
 use Rattle.vc_shared.specs.Stepping.{IsHeldThere, MayWriteIn, StepsSlot}
 use Rattle.vc_shared.specs.declared.accept_fault.AcceptFault.{AcceptFault}
 use Rattle.vc_shared.specs.declared.accepting.Accepted.{Accepted}
 use Rattle.vc_shared.specs.declared.stepping.Stepped.{Stepped}
 
--- One that is down answers so, one that is up is up after it or not, and its open pushes stay.
+-- One that is down answers so, one that is up is up after it or not, and its open pushes stay, as does what it has learnt.
 pub record Settles {F : Type 0} (IsDown : Type 0) (is_up : Bool) (old new : SharedText F) : Type 0 where
   pub down : old.is_up ≡ false → IsDown
   pub up : old.is_up ≡ true → new.is_up ≡ is_up
   pub slots : new.slots ≡ old.slots
+  pub learnt : new.learnt ≡ old.learnt
 
 -- The same of a call that may open a push: after an error those that were open stay.
 pub record SettlesTaken {F T E : Type 0} (result : Result T E) (IsDown : Type 0) (is_up : Bool) (old new : SharedText F) : Type 0 where
@@ -28,6 +30,12 @@ pub record SettlesTaken {F T E : Type 0} (result : Result T E) (IsDown : Type 0)
   pub up : old.is_up ≡ true → new.is_up ≡ is_up
   pub slots : OnErr result (new.slots ≡ old.slots)
   pub tellable : AreTellable new.slots
+  pub learnt : new.learnt ≡ old.learnt
+
+-- The same of a step, which may change its slot and what is learnt.
+pub record SettlesStep {F : Type 0} (IsDown : Type 0) (is_up : Bool) (old new : SharedText F) : Type 0 where
+  pub down : old.is_up ≡ false → IsDown
+  pub up : old.is_up ≡ true → new.is_up ≡ is_up
 
 -- the node of this repository, with no push open
 abbrev pub HoldsOpened : FileMap → List (Option SessionText) → Repository → Type 0
@@ -57,3 +65,7 @@ MayStep content node slot = MayWriteIn (content node.files) (slot_of node.slots 
 
 abbrev pub StepsIn : {F : Type 0} → (F → FileMap) → SharedText F → SharedText F → ℕ → Stepped → Type 0
 StepsIn content old new slot told = StepsSlot (content old.files) (content new.files) old.slots new.slots slot told
+
+-- what a step in a slot learns
+abbrev pub LearnsAtStep : {F : Type 0} → (F → FileMap) → SharedText F → SharedText F → ℕ → Type 0
+LearnsAtStep content old new slot = LearnsIn (content old.files) (slot_of old.slots slot) old.learnt new.learnt

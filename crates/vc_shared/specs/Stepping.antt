@@ -1,9 +1,8 @@
 -- A step of the push in a slot: that of its session.
-use Rattle.std.specs.Prelude.{◌≡◌, ◌⊎◌, ℕ, List, Option, Some, None, Result, Ok, Err, slice_set}
+use Rattle.std.specs.Prelude.{◌≡◌, ◌⊎◌, ℕ, Bool, true, List, Option, Some, None, Result, Ok, Err, slice_set}
 use Rattle.std.specs.List.{All, flat_map}
 use Rattle.vc_files.specs.FileMap.{FileMap}
 use Rattle.vc_history.specs.Stored.{AgreesIn}
-use Rattle.vc_history.specs.declared.generations.Generations.{Generations}
 use Rattle.vc_pkt.specs.Line.{spelling}
 use Rattle.vc_push.specs.Report.{IsShortTold, IsShortUnpack, report_lines}
 use Rattle.vc_push.specs.ReportView.{bytes_of, report_text, told_of}
@@ -16,6 +15,7 @@ use Rattle.vc_session.specs.declared.fault.SessionFault.{SessionFault}
 use Rattle.vc_session.specs.declared.stage.Stepped.{Stepped as SessionStep}
 use Rattle.vc_session.specs.declared.stage.Stepped.TheVariants as session
 use Rattle.vc_shared.specs.Faults.{of_session}
+use Rattle.vc_shared.specs.Learning.{Learnt, LearnsIn}
 use Rattle.vc_shared.specs.Slots.{slot_of}
 use Rattle.vc_shared.specs.declared.fault.SharedFault.{SharedFault}
 use Rattle.vc_shared.specs.declared.fault.SharedFault.TheVariants.{NoSuchSlot}
@@ -88,7 +88,8 @@ MayWriteIn content (Some s) = MayWrite content s s.stage
 abbrev pub MayStepOr : FileMap → Option SessionText → Type 0 → Type 0
 MayStepOr content slot IsLook = IsHeldThere content slot → MayWriteIn content slot ⊎ IsLook
 
--- what is known of generations agrees then, and no file was made bad
-pub record StepsWell (old new : FileMap) (generations : Generations) : Type 0 where
-  pub agrees : AgreesIn new generations
+-- what is known of generations agrees then, no file was made bad, and a step that ended in no fault has learnt what it had to
+pub record StepsWell (old new : FileMap) (slot : Option SessionText) (known now : Learnt) (is_up : Bool) : Type 0 where
+  pub agrees : AgreesIn new now.generations
   pub bad : MakesNoneBad old new
+  pub learns : is_up ≡ true → LearnsIn old slot known now

@@ -1,6 +1,6 @@
 //! Laws of the definitions: functions with no work to do, whose contracts are the laws.
 
-ghost use Rattle.vc_shared.specs.Laws.{DownAnswers, HeldSharedOpen, StepsAnswer};
+ghost use Rattle.vc_shared.specs.Laws.{DownAnswers, DueIsLearnt, HeldSharedOpen, SetIsDue, StepsAnswer};
 
 /// A step of the push in a slot is the machine's: where the session's step is told so, or refused so, whatever node was held
 /// leads by the machine's answer to one that is held then. An empty slot is 111; over clean files a step ends early for a fault
@@ -14,4 +14,11 @@ pub fn a_step_in_a_slot_is_the_machines()
 /// The files of a node can be opened as its repository after any call, also one that a stop ended: no push is open then.
 pub fn a_held_shared_node_can_be_opened()
     ensures { HeldSharedOpen }
+{}
+
+/// What a step learns (`step`: `learns`), of a value that a branch was set to: once its push has told the report it is due, and the
+/// check of a later push leaves each commit of its history with its generation, where that history is whole.
+pub fn a_value_that_was_set_is_learnt()
+    ensures due { SetIsDue }
+    ensures learnt { DueIsLearnt }
 {}

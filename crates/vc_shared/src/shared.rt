@@ -19,7 +19,8 @@ ghost use Rattle.vc_shared.specs.AcceptFault.{TellsDevice as TellsAcceptDevice, 
 ghost use Rattle.vc_shared.specs.Accepting.{IsRefusedBytes, IsToWrite};
 ghost use Rattle.vc_shared.specs.Calls.{AcceptedAs, SteppedAs};
 ghost use Rattle.vc_shared.specs.Faults.{TellsDevice, fault_answer, is_fault, up_after};
-ghost use Rattle.vc_shared.specs.Node.{AcceptsNext, AnswersCall, AnswersFirst, HoldsIn, HoldsOpened, KeepsNode, MayStep, Settles, SettlesTaken, StepsIn};
+ghost use Rattle.vc_shared.specs.Learning.{IsNothing};
+ghost use Rattle.vc_shared.specs.Node.{AcceptsNext, AnswersCall, AnswersFirst, HoldsIn, HoldsOpened, KeepsNode, LearnsAtStep, MayStep, Settles, SettlesStep, SettlesTaken, StepsIn};
 ghost use Rattle.vc_shared.specs.Resolving.{IsRefusedValue};
 ghost use Rattle.vc_shared.specs.Slots.{AreTellable, slot_of};
 ghost use Rattle.vc_shared.specs.Stepping.{IsRefusedIn};
@@ -53,13 +54,18 @@ pub struct Shared<F: Files> {
 }
 
 impl<F: Files> Model for Shared<F> {
+    ghost use Rattle.std.specs.Coded.{codes};
     ghost use Rattle.vc_history.specs.Stored.{AgreesIn};
+    ghost use Rattle.vc_history.specs.contracts.generations.Generations as known;
     ghost use Rattle.vc_shared.specs.Holding.{SharedText};
+    ghost use Rattle.vc_shared.specs.Learning.{learnt_in};
     ghost use Rattle.vc_shared.specs.Slots.{AreTellable};
 
     ghost Value = { SharedText F };
 
-    ghost view = { λ s. record { files = s.files; slots = s.slots; is_up = s.is_up } };
+    ghost coded = { Prim.hlevel (codes, known.the_row.coded) };
+
+    ghost view = { λ s. record { files = s.files; slots = s.slots; is_up = s.is_up; learnt = learnt_in s.generations s.due } };
 
     ghost invariant = { λ s. AreTellable s.slots × (F.honest → AgreesIn (F.content s.files) s.generations) };
 }
@@ -74,6 +80,7 @@ impl<F: Files> Shared<F> {
         ensures refused { F.honest → IfErr result (λ e. BlamesOpen (F.content files) e.1) }
         ensures err { F.honest → OpenableAs (F.content files) (λ r. IfErr result (λ e. IsOpenable (F.content e.0) r)) }
         ensures clean { F.honest → IfOk result (λ node. KeepsClean (F.content files) (F.content node.files)) }
+        ensures learnt { IfOk result (λ node. IsNothing node.learnt) }
         ensures wear { IfOk result (λ node. Writes F.honest F.content F.failed F.can_fail F.left files node.files ⊥) }
         ensures wear_err { IfErr result (λ e. Writes F.honest F.content F.failed F.can_fail F.left files e.0 (IsNodeDevice e.1)) }
     {
@@ -118,6 +125,7 @@ impl<F: Files> Shared<F> {
         ensures answers { F.honest → AnswersCall F.content Open (RestartedAs result) self.old self.new }
         ensures refused { F.honest → IfErr result (BlamesOpen (F.content self.old.files)) }
         ensures up { self.new.is_up ≡ is_ok result }
+        ensures learnt { IsNothing self.new.learnt }
         ensures clean { F.honest → KeepsClean (F.content self.old.files) (F.content self.new.files) }
         ensures wear { Writes F.honest F.content F.failed F.can_fail F.left self.old.files self.new.files (TellsNodeDevice result) }
     {
@@ -138,6 +146,7 @@ impl<F: Files> Shared<F> {
     pub fn take_down(&mut self)
         ensures files { self.new.files ≡ self.old.files }
         ensures slots { self.new.slots ≡ self.old.slots }
+        ensures learnt { self.new.learnt ≡ self.old.learnt }
         ensures up { self.new.is_up ≡ false }
     {
         self.is_up = false;
@@ -148,6 +157,7 @@ impl<F: Files> Shared<F> {
         ensures fault { result ≡ fault }
         ensures files { self.new.files ≡ self.old.files }
         ensures slots { self.new.slots ≡ self.old.slots }
+        ensures learnt { self.new.learnt ≡ self.old.learnt }
         ensures up { self.old.is_up ≡ true → self.new.is_up ≡ not (is_fault fault) }
     {
         if fault.is_fault() {
@@ -161,6 +171,7 @@ impl<F: Files> Shared<F> {
         ensures accepted { result ≡ accepted }
         ensures files { self.new.files ≡ self.old.files }
         ensures slots { self.new.slots ≡ self.old.slots }
+        ensures learnt { self.new.learnt ≡ self.old.learnt }
         ensures up { self.old.is_up ≡ true → self.new.is_up ≡ up_after result }
     {
         match accepted {
@@ -174,6 +185,7 @@ impl<F: Files> Shared<F> {
         ensures fault { result ≡ fault }
         ensures files { self.new.files ≡ self.old.files }
         ensures slots { self.new.slots ≡ self.old.slots }
+        ensures learnt { self.new.learnt ≡ self.old.learnt }
         ensures up { self.old.is_up ≡ true → self.new.is_up ≡ not (is_accept_fault fault) }
     {
         if fault.is_fault() {
@@ -189,6 +201,7 @@ impl<F: Files> Shared<F> {
         ensures accepted { result ≡ accepted }
         ensures files { self.new.files ≡ self.old.files }
         ensures slots { self.new.slots ≡ self.old.slots }
+        ensures learnt { self.new.learnt ≡ self.old.learnt }
         ensures up { self.old.is_up ≡ true → self.new.is_up ≡ accept_up_after result }
     {
         match accepted {
@@ -203,8 +216,8 @@ impl<F: Files> Shared<F> {
         ensures answers { F.honest → AnswersCall F.content (StepOf slot) (SteppedAs result) self.old self.new }
         ensures steps { F.honest → HoldsIn F.content self.old slot → IfOk result (StepsIn F.content self.old self.new slot) }
         ensures bad_file { F.honest → IfErr result (λ e. (e ≡ SharedFault.Node NodeFault.Down) ⊎ IsRefusedIn (F.content self.old.files) (slot_of self.old.slots slot) e) }
-        ensures down { self.old.is_up ≡ false → result ≡ Err (SharedFault.Node NodeFault.Down) }
-        ensures up { self.old.is_up ≡ true → self.new.is_up ≡ up_after result }
+        ensures settles { SettlesStep (result ≡ Err (SharedFault.Node NodeFault.Down)) (up_after result) self.old self.new }
+        ensures learns { F.honest → self.new.is_up ≡ true → LearnsAtStep F.content self.old self.new slot }
         ensures clean { F.honest → KeepsClean (F.content self.old.files) (F.content self.new.files) }
         ensures wear { Writes F.honest F.content F.failed F.can_fail F.left self.old.files self.new.files (TellsDevice result) }
         ensures looks { F.honest → HoldsIn F.content self.old slot → MayStep F.content self.old slot ⊎ Wears F.failed F.can_fail F.left self.old.files self.new.files (TellsDevice result) }
@@ -325,6 +338,7 @@ impl<F: Files> Shared<FusedFiles<F>> {
         ensures files { self.new.files.files ≡ self.old.files.files }
         ensures fuse { self.new.files.fuse ≡ left_after self.old.files.fuse writes }
         ensures slots { self.new.slots ≡ self.old.slots }
+        ensures learnt { self.new.learnt ≡ self.old.learnt }
         ensures up { self.new.is_up ≡ self.old.is_up }
     {
         self.files.stop_after(writes);

@@ -2,7 +2,8 @@
 ghost use Rattle.std.specs.Prelude.{◌≡◌, ◌<◌, IfOk, IfErr, OnErr, Err, None, Some, false, length, slice_set};
 ghost use Rattle.vc_history.specs.Stored.{AgreesIn};
 ghost use Rattle.vc_files.specs.Failures.{Wears, Writes};
-ghost use Rattle.vc_shared.specs.Faults.{TellsDevice, is_fault};
+ghost use Rattle.vc_shared.specs.Faults.{TellsDevice, is_fault, up_after};
+ghost use Rattle.vc_shared.specs.Learning.{learnt_in};
 ghost use Rattle.vc_shared.specs.Slots.{AreTellable, AreToldInOne, slot_of};
 ghost use Rattle.vc_shared.specs.Stepping.{EndsSlotEarly, HasShortReport, IsEnd, IsHeldThere, IsRefusedIn, MayStepOr, StepsPush, StepsSlot, StepsWell, Tells, left_in};
 
@@ -52,7 +53,7 @@ fn step_push<F: Files>(
     requires tellable { AreToldInOne push.old }
     requires agrees { F.honest → AgreesIn (F.content files.old) generations.old }
     ensures tellable { AreToldInOne push.new }
-    ensures good { F.honest → StepsWell (F.content files.old) (F.content files.new) generations.new }
+    ensures good { F.honest → StepsWell (F.content files.old) (F.content files.new) (Some push.old) (learnt_in generations.old due.old) (learnt_in generations.new due.new) (up_after result) }
     ensures steps { F.honest → IsHeldThere (F.content files.old) (Some push.old) → IfOk result (StepsPush (F.content files.old) (F.content files.new) push.old push.new) }
     ensures unchanged { IfErr result (λ e. is_fault e ≡ false → push.new ≡ push.old) }
     ensures early { F.honest → IsHeldThere (F.content files.old) (Some push.old) → OnErr result (EndsSlotEarly (F.content files.old) (F.content files.new) (Some push.old)) }
@@ -110,7 +111,7 @@ pub(crate) fn step<F: Files>(
     requires tellable { AreTellable slots.old }
     requires agrees { F.honest → AgreesIn (F.content files.old) generations.old }
     ensures tellable { AreTellable slots.new }
-    ensures good { F.honest → StepsWell (F.content files.old) (F.content files.new) generations.new }
+    ensures good { F.honest → StepsWell (F.content files.old) (F.content files.new) (slot_of slots.old slot) (learnt_in generations.old due.old) (learnt_in generations.new due.new) (up_after result) }
     ensures steps { F.honest → IsHeldThere (F.content files.old) (slot_of slots.old slot) → IfOk result (StepsSlot (F.content files.old) (F.content files.new) slots.old slots.new slot) }
     ensures unchanged { IfErr result (λ e. is_fault e ≡ false → slots.new ≡ slots.old) }
     ensures early { F.honest → IsHeldThere (F.content files.old) (slot_of slots.old slot) → OnErr result (EndsSlotEarly (F.content files.old) (F.content files.new) (slot_of slots.old slot)) }

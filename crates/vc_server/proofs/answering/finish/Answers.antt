@@ -15,7 +15,7 @@ returns-in_err-stepped-clause-steps g c = λ honest.
     (refused_to_end _ _ _ _ _ _ _ _ (so.3 honest) c.in_err-stepped.field-0.0 _ (while_up _ _ _ _ _ _ _ _ so.0 (c.in_err-stepped.ensures.answers honest)))
 
 pub returns-in_err-stepped-clause-up : goal.returns-in_err-stepped-clause-up
-returns-in_err-stepped-clause-up g c = rw (err_is _ _ c.from_residual.ensures.1) (c.in_err-stepped.ensures.up c.steps.invariant.0)
+returns-in_err-stepped-clause-up g c = rw (err_is _ _ c.from_residual.ensures.1) (c.in_err-stepped.ensures.settles.up c.steps.invariant.0)
 
 pub returns-in_err-stepped-clause-clean : goal.returns-in_err-stepped-clause-clean
 returns-in_err-stepped-clause-clean g c = λ honest. clean_then _ _ _ (c.steps.invariant.2 honest) (c.in_err-stepped.ensures.clean honest)
@@ -37,7 +37,7 @@ returns-in-Some-clause-wear g c = writes_both c.steps.invariant.1 (λ never. nev
 pub steps-preserved : goal.steps-preserved
 steps-preserved g c =
     let so = c.steps.invariant in
-    let up = c.in_ok-stepped.ensures.up so.0 in (
+    let up = c.in_ok-stepped.ensures.settles.up so.0 in (
       up,
       writes_both so.1 (λ never. never) c.in_ok-stepped.ensures.wear,
       (λ honest. clean_then _ _ _ (so.2 honest) (c.in_ok-stepped.ensures.clean honest)),

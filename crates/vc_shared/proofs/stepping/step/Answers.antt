@@ -1,7 +1,10 @@
-use Rattle.std.proofs.Common.{◌≡◌, ◌<◌, ◌∙◌, ℕ, None, length, sym, ap, subst}
+use Rattle.std.proofs.Common.{◌≡◌, ◌<◌, ◌∙◌, ℕ, None, Option, ap, length, refl, rules, subst, sym}
 use Rattle.std.proofs.lemmas.List.{length-set}
 use Rattle.vc_shared.proofs.SlotLemmas.{open_within, put_back, same_slot, slot_steps, slot_unchanged, told_after, told_at}
-use Rattle.vc_shared.specs.Stepping.{left_in}
+use Rattle.vc_session.specs.Session.{SessionText}
+use Rattle.vc_shared.specs.Faults.{up_after}
+use Rattle.vc_shared.specs.Learning.{LearnsIn, learnt_in}
+use Rattle.vc_shared.specs.Stepping.{StepsWell, left_in}
 use Rattle.vc_shared.proofs.stepping.step.Goals as goal
 
 pub returns-in_default-clause-unchanged : goal.returns-in_default-clause-unchanged
@@ -31,3 +34,15 @@ pub returns-clause-unchanged : goal.returns-clause-unchanged
 returns-clause-unchanged g c =
     let put = put_back c.args.slots.now c.take.new.slots c.put.new.slots c.args.slot c.left-left.result (left_in c.step_push-did.result c.step_push-did.new.push) c.take.ensures.left c.put.ensures c.left-left.ensures in
     slot_unchanged c.args.slots.now c.args.slot c.put.new.slots c.in-Some.push c.step_push-did.new.push c.step_push-did.result (sym c.take.ensures.push ∙ c.in-Some.is) put c.step_push-did.ensures.unchanged
+
+pub returns-in_default-clause-good : goal.returns-in_default-clause-good
+returns-in_default-clause-good g c honest = record {
+  agrees = c.requires.agrees honest;
+  bad = search rules;
+  learns = λ up. subst (λ (s : Option SessionText). LearnsIn (g.F.Files.content c.args.files.now) s (learnt_in c.args.generations.now c.args.due.now) (learnt_in c.args.generations.now c.args.due.now)) (sym c.in_default.is ∙ c.take.ensures.push) refl;
+}
+
+pub returns-clause-good : goal.returns-clause-good
+returns-clause-good g c honest =
+    subst (λ (s : Option SessionText). StepsWell (g.F.Files.content c.args.files.now) (g.F.Files.content c.step_push-did.new.files) s (learnt_in c.args.generations.now c.args.due.now)
+    (learnt_in c.step_push-did.new.generations c.step_push-did.new.due) (up_after c.step_push-did.result)) (sym c.in-Some.is ∙ c.take.ensures.push) (c.step_push-did.ensures.good honest)

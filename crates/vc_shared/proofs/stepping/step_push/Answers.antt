@@ -1,4 +1,4 @@
-use Rattle.std.proofs.Common.{⊎_elim, inl, inr, rules, Some, refl, subst}
+use Rattle.std.proofs.Common.{◌∙◌, ⊎_elim, inl, inr, rules, Some, refl, subst, sym, true≢false}
 use Rattle.vc_files.proofs.WearLemmas.{wears_then, wears_writes, writes_told}
 use Rattle.vc_files.specs.FileMap.{FileMap}
 use Rattle.vc_files.specs.declared.faults.Fault.TheVariants.{Memory}
@@ -65,10 +65,29 @@ returns-in_err-did-clause-refused g c honest =
     search (rules, told)
 
 pub returns-in_err-did-clause-good : goal.returns-in_err-did-clause-good
-returns-in_err-did-clause-good g c honest = record { agrees = (rw c.in_default.ensures.same at c.step.ensures.spares.agrees) honest c.learn.new.generations (c.in_default.ensures.agrees honest (c.requires.agrees honest)); bad = search rules }
+returns-in_err-did-clause-good g c honest = record {
+  agrees = (rw c.in_default.ensures.same at c.step.ensures.spares.agrees) honest c.learn.new.generations (c.in_default.ensures.agrees honest (c.requires.agrees honest));
+  bad = search rules;
+  learns = λ up. c.in_default.ensures.learnt honest (c.requires.agrees honest);
+}
 
 pub returns-in_err-told-clause-good : goal.returns-in_err-told-clause-good
-returns-in_err-told-clause-good g c honest = record { agrees = (rw c.in_default.ensures.same at c.step.ensures.spares.agrees) honest c.learn.new.generations (c.in_default.ensures.agrees honest (c.requires.agrees honest)); bad = search rules }
+returns-in_err-told-clause-good g c honest = record {
+  agrees = (rw c.in_default.ensures.same at c.step.ensures.spares.agrees) honest c.learn.new.generations (c.in_default.ensures.agrees honest (c.requires.agrees honest));
+  bad = search rules;
+  learns = λ up. c.in_default.ensures.learnt honest (c.requires.agrees honest);
+}
 
 pub returns-clause-good : goal.returns-clause-good
-returns-clause-good g c honest = record { agrees = (rw c.in_default.ensures.same at c.step.ensures.spares.agrees) honest c.learn.new.generations (c.in_default.ensures.agrees honest (c.requires.agrees honest)); bad = search rules }
+returns-clause-good g c honest = record {
+  agrees = (rw c.in_default.ensures.same at c.step.ensures.spares.agrees) honest c.learn.new.generations (c.in_default.ensures.agrees honest (c.requires.agrees honest));
+  bad = search rules;
+  learns = λ up. c.in_default.ensures.learnt honest (c.requires.agrees honest);
+}
+
+pub returns-in-Err-clause-good : goal.returns-in-Err-clause-good
+returns-in-Err-clause-good g c honest = record {
+  agrees = search rules;
+  bad = search rules;
+  learns = λ up. absurd (true≢false (sym up ∙ rw c.from.ensures refl));
+}

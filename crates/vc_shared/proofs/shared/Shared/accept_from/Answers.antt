@@ -1,6 +1,7 @@
 use Rattle.std.proofs.Common.{rules}
 use Rattle.vc_files.proofs.WearLemmas.{writes_none}
 use Rattle.vc_shared.proofs.NextLemmas.{down_accepts, down_no_device, known_accepts, next_accepts, next_none}
+use Rattle.vc_shared.specs.Learning.{learnt_in}
 use Rattle.vc_shared.proofs.shared.Shared.accept_from.Goals as goal
 
 pub returns-then-not-self-clause-accepts : goal.returns-then-not-self-clause-accepts
@@ -30,5 +31,5 @@ returns-clause-known g c = λ m bytes rest is reads.
 pub returns-clause-none : goal.returns-clause-none
 returns-clause-none g c =
     rw (← c.self.view_is) (next_none g.F.Files.content c.self.inside.files c.take_next-accepted.new.files c.settle_next.new.self.files c.self.inside.slots c.take_next-accepted.new.slots c.settle_next.new.self.slots c.settle_next.new.self.is_up
-    c.take_next-accepted.result c.settle_next.result c.settle_next.ensures.accepted c.settle_next.ensures.files c.settle_next.ensures.slots (λ d xs b. record { files = d; slots = xs; is_up = b }) c.self.inside.is_up c.if-not-self.false
+    c.take_next-accepted.result c.settle_next.result c.settle_next.ensures.accepted c.settle_next.ensures.files c.settle_next.ensures.slots (λ d xs b known. record { files = d; slots = xs; is_up = b; learnt = known }) (learnt_in c.self.inside.generations c.self.inside.due) c.settle_next.new.self.learnt c.settle_next.ensures.learnt c.self.inside.is_up c.if-not-self.false
     (c.settle_next.ensures.up c.if-not-self.false) c.take_next-accepted.ensures.none)

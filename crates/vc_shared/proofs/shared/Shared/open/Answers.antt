@@ -13,3 +13,6 @@ returns-clause-err g c = λ honest r can. openable_kept _ _ (c.in-Err.ensures.er
 
 pub invariant_of-result : goal.invariant_of-result
 invariant_of-result g c = (search rules, λ honest. agrees_where_none _ (numbers c.new.result) c.new.ensures.none)
+
+pub returns-in-Ok-clause-learnt : goal.returns-in-Ok-clause-learnt
+returns-in-Ok-clause-learnt g c = record { none = c.new.ensures.none; due = search rules }

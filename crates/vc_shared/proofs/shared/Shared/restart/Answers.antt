@@ -15,3 +15,9 @@ invariant_of-self g c = (search rules, λ honest. agrees_where_none _ (numbers c
 
 pub invariant_of-self-in-Err : goal.invariant_of-self-in-Err
 invariant_of-self-in-Err g c = (search rules, λ honest. agrees_where_none _ (numbers c.new.result) c.new.ensures.none)
+
+pub returns-in-Ok-clause-learnt : goal.returns-in-Ok-clause-learnt
+returns-in-Ok-clause-learnt g c = record { none = c.new.ensures.none; due = search rules }
+
+pub returns-clause-learnt : goal.returns-clause-learnt
+returns-clause-learnt g c = record { none = c.new.ensures.none; due = search rules }

@@ -1,4 +1,4 @@
-use Rattle.std.proofs.Common.{ap, refl, inl, inr, Ok, Err, rules}
+use Rattle.std.proofs.Common.{◌∙◌, ap, refl, inl, inr, Ok, Err, rules, subst, sym}
 use Rattle.vc_model.specs.SharedCall.SharedCall.{StepOf}
 use Rattle.vc_node.proofs.CleanLemmas.{clean_same}
 use Rattle.vc_node.proofs.LookLemmas.{looks_none}
@@ -7,6 +7,7 @@ use Rattle.vc_node.proofs.ReceivingClone.{clean_by}
 use Rattle.vc_shared.proofs.SteppingLaws.{stepped_answers, stepped_down}
 use Rattle.vc_shared.proofs.TellingLemmas.{written_report}
 use Rattle.vc_shared.specs.Calls.{SteppedAs}
+use Rattle.vc_shared.specs.Learning.{Learnt, LearnsIn, learnt_in}
 use Rattle.vc_shared.specs.Slots.{slot_of}
 use Rattle.vc_shared.specs.Stepping.{IsRefusedIn}
 use Rattle.vc_shared.proofs.shared.Shared.step.Goals as goal
@@ -63,3 +64,12 @@ invariant_of-self g c = (c.in-Ok.ensures.tellable, λ honest. (c.in-Ok.ensures.g
 
 pub invariant_of-self-in-Err : goal.invariant_of-self-in-Err
 invariant_of-self-in-Err g c = (c.in-Err.ensures.tellable, λ honest. (c.in-Err.ensures.good honest).agrees)
+
+pub returns-in-Ok-clause-learns : goal.returns-in-Ok-clause-learns
+returns-in-Ok-clause-learns g c = λ honest. rw (← c.self.view_is) (λ up. (c.in-Ok.ensures.good honest).learns refl)
+
+pub returns-in-Err-clause-learns : goal.returns-in-Err-clause-learns
+returns-in-Err-clause-learns g c = λ honest.
+    let content = g.F.Files.content in
+    rw (← c.self.view_is) (λ up. subst (λ (now : Learnt). LearnsIn (content c.self.inside.files) (slot_of c.self.inside.slots c.args.slot) (learnt_in c.self.inside.generations c.self.inside.due) now) (sym c.fail.ensures.learnt)
+    ((c.in-Err.ensures.good honest).learns (sym (c.fail.ensures.up c.if-not-self.false) ∙ up)))
