@@ -20,4 +20,5 @@ pub mod SteppingLaws
 pub mod TellingLemmas
 pub mod ArrivingLemmas
 pub mod ComingLemmas
+pub mod LossLemmas
 pub mod NextLemmas
