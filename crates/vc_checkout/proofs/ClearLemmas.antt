@@ -13,7 +13,7 @@ use Rattle.vc_index.specs.IndexMap.{IndexMap}
 use Rattle.vc_index.specs.declared.entry.IndexEntry.{IndexEntry}
 use Rattle.vc_index.proofs.MapLemmas.{same_text, no_some}
 use Rattle.vc_checkout.specs.Refusal.{IsClear, IsDue, IsHindered, IsInTheWay, IsRefused, RefusedAt}
-use Rattle.vc_checkout.specs.WorkTree.{IsUntracked, has_path, is_same, is_listed}
+use Rattle.vc_checkout.specs.WorkTree.{IsUnkept, has_path, is_same, is_listed}
 use Rattle.vc_checkout.specs.Blobs.{HasDueBlobs}
 use Rattle.vc_checkout.specs.CheckoutFault.{IsAgainst, IsFault, IsOfCheckout}
 use Rattle.vc_store.specs.Store.{objects}
@@ -23,13 +23,13 @@ use Rattle.vc_checkout.proofs.PathSetLemmas.{Paths, set_paths}
 use Rattle.vc_checkout.proofs.ApplyLemmas.{none_some}
 
 -- ---- one path
-module _ (index tree : IndexMap) (work : FileMap) (path : List ℕ) (entry : IndexEntry) (untracked : Paths) (exact : (other : List ℕ) → IsTrue (has_path untracked other) ↔ IsUntracked index work other) where
-  pub in_the_way : get tree path ≡ Some entry → get index path ≢ get tree path → IsHindered (λ other. IsTrue (has_path untracked other)) work path entry → IsInTheWay index tree work path
+module _ (index tree : IndexMap) (work : FileMap) (path : List ℕ) (entry : IndexEntry) (unkept : Paths) (exact : (other : List ℕ) → IsTrue (has_path unkept other) ↔ IsUnkept index work other) where
+  pub in_the_way : get tree path ≡ Some entry → get index path ≢ get tree path → IsHindered (λ other. IsTrue (has_path unkept other)) work path entry → IsInTheWay index tree work path
   in_the_way at apart (other, is, how) = (entry, at, apart, (other, (exact other).0 is, how))
 
-  pub not_in_the_way : get tree path ≡ Some entry → (IsHindered (λ other. IsTrue (has_path untracked other)) work path entry → ⊥) → IsInTheWay index tree work path → ⊥
+  pub not_in_the_way : get tree path ≡ Some entry → (IsHindered (λ other. IsTrue (has_path unkept other)) work path entry → ⊥) → IsInTheWay index tree work path → ⊥
   not_in_the_way at free (found, there, apart, (other, is, how)) =
-      free (subst (IsHindered (λ other. IsTrue (has_path untracked other)) work path) (same_some found entry (sym there ∙ at)) (other, (exact other).1 is, how))
+      free (subst (IsHindered (λ other. IsTrue (has_path unkept other)) work path) (same_some found entry (sym there ∙ at)) (other, (exact other).1 is, how))
     where
       same_some : (x y : IndexEntry) → Some x ≡ Some y → x ≡ y
       same_some x y e = cc e

@@ -22,7 +22,7 @@ use Rattle.vc_files.specs.FileMap.{FileMap}
 use Rattle.vc_index.specs.IndexMap.{IndexMap}
 use Rattle.vc_index.specs.declared.entry.IndexEntry.{IndexEntry}
 use Rattle.vc_index.proofs.MapLemmas.{key_cmp, same_text, is_eq-same}
-use Rattle.vc_checkout.specs.WorkTree.{has_path, is_listed, is_same, HasTextPaths, IsUntracked}
+use Rattle.vc_checkout.specs.WorkTree.{has_path, is_listed, is_same, HasTextPaths, IsUnkept, IsUntracked, KeepsNone}
 
 abbrev pub Paths : Type 0
 Paths = BTreeSet (Vec ℕ Global)
@@ -140,6 +140,46 @@ all_found found index work all i whole is so_far q =
     by_options (Some w) None b h = (λ _. (refl, refl), λ _. h)
     by_options (Some w) (Some e) b h = (λ t. cc (h, t), λ (s, n). cc n)
     by_options None e b h = (λ t. cc (h, t), λ (s, n). cc s)
+
+-- the paths of the first of a list at which the index keeps no file
+abbrev pub AreUnkept : Paths → IndexMap → List (String Global) → List ℕ → Type 0
+AreUnkept found index all q = IsTrue (has_path found q) ↔ (IsTrue (is_listed q (map string_bytes all)) × KeepsNone (maps.get index q))
+
+pub unkept_none : (found : Paths) (index : IndexMap) (all : List (String Global)) → found.keys ≡ [] → (q : List ℕ) → AreUnkept found index (take 0 all) q
+unkept_none found index all none q = let lacks = has_path-none found none q in (λ t. cc (t, lacks), λ p. let f = p.0 in cc f)
+
+-- a listed path at which the index keeps no file is one more that was found
+pub unkept_more : (m n : Paths) (index : IndexMap) (all : List (String Global)) (i : ℕ) (path : String Global) → i < length all → path ≡ get_or all i path → KeepsNone (maps.get index (string_bytes path))
+    → UpdatesBy key_cmp (λ s. slice_cmp nat_cmp (string_bytes path) s.items) m n true → (q : List ℕ) → AreUnkept m index (take i all) q → AreUnkept n index (take (i + 1) all) q
+unkept_more m n index all i path inside is none change q before =
+    subst (λ (b : Bool). IsTrue b ↔ (IsTrue (is_listed q (map string_bytes (take (i + 1) all))) × KeepsNone (maps.get index q))) (sym (has_path-more m n (string_bytes path) change q))
+    (subst (λ (b : Bool). IsTrue (is_same q (string_bytes path) || has_path m q) ↔ (IsTrue b × KeepsNone (maps.get index q))) (sym (listed_more all i path inside is q))
+    (by_test (is_same q (string_bytes path)) (is_listed q (map string_bytes (take i all))) (has_path m q) (KeepsNone (maps.get index q)) (λ same. subst (λ (p : List ℕ). KeepsNone (maps.get index p)) (sym (same_text q (string_bytes path) same)) none) before))
+  where
+    by_test : (s l h : Bool) (K : Type 0) → (s ≡ true → K) → IsTrue h ↔ (IsTrue l × K) → IsTrue (s || h) ↔ (IsTrue (l || s) × K)
+    by_test true true h K k old = (λ _. (refl, k refl), λ _. refl)
+    by_test true false h K k old = (λ _. (refl, k refl), λ _. refl)
+    by_test false true h K k old = old
+    by_test false false h K k old = old
+
+-- a listed path at which the index keeps a file is not found
+pub unkept_same : (found : Paths) (index : IndexMap) (all : List (String Global)) (i : ℕ) (path : String Global) → i < length all → path ≡ get_or all i path → (KeepsNone (maps.get index (string_bytes path)) → ⊥) → (q : List ℕ)
+    → AreUnkept found index (take i all) q → AreUnkept found index (take (i + 1) all) q
+unkept_same found index all i path inside is kept q before =
+    subst (λ (b : Bool). IsTrue (has_path found q) ↔ (IsTrue b × KeepsNone (maps.get index q))) (sym (listed_more all i path inside is q))
+    (by_test (is_same q (string_bytes path)) (is_listed q (map string_bytes (take i all))) (has_path found q) (KeepsNone (maps.get index q)) (λ same none. kept (subst (λ (p : List ℕ). KeepsNone (maps.get index p)) (same_text q (string_bytes path) same) none)) before)
+  where
+    by_test : (s l h : Bool) (K : Type 0) → (s ≡ true → K → ⊥) → IsTrue h ↔ (IsTrue l × K) → IsTrue h ↔ (IsTrue (l || s) × K)
+    by_test true true h K never old = old
+    by_test true false h K never old = (λ t. let f = (old.0 t).0 in cc f, λ p. absurd (never refl p.1))
+    by_test false true h K never old = old
+    by_test false false h K never old = old
+
+-- what was found at the end are the files that the index doesn't keep
+pub all_unkept : (found : Paths) (index : IndexMap) (work : FileMap) (all : List (String Global)) (i : ℕ) → take i all ≡ all → map string_bytes all ≡ maps.keys work
+    → ((q : List ℕ) → AreUnkept found index (take i all) q) → (q : List ℕ) → IsTrue (has_path found q) ↔ IsUnkept index work q
+all_unkept found index work all i whole is so_far q =
+    subst (λ (b : Bool). IsTrue (has_path found q) ↔ (IsTrue b × KeepsNone (maps.get index q))) (ap (λ l. is_listed q (map string_bytes l)) whole ∙ ap (is_listed q) is ∙ sym (contains_key-keys work q)) (so_far q)
 
 -- a set that is made of a list
 module _ (xs : List (Vec ℕ Global)) (set : Paths) (made : IsFromIterResult key_cmp xs set) where

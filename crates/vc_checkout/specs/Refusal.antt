@@ -10,7 +10,7 @@ use Rattle.vc_object.specs.declared.mode.Mode.TheVariants as modes
 use Rattle.vc_index.specs.IndexMap.{IndexMap}
 use Rattle.vc_index.specs.Path.{IsAbove}
 use Rattle.vc_index.specs.declared.entry.IndexEntry.{IndexEntry}
-use Rattle.vc_checkout.specs.WorkTree.{blob_name, IsUntracked}
+use Rattle.vc_checkout.specs.WorkTree.{blob_name, IsUnkept}
 use Rattle.vc_checkout.specs.declared.faults.CheckoutFault.{CheckoutFault}
 use Rattle.vc_checkout.specs.declared.faults.CheckoutFault.TheVariants.{LocalChange, InTheWay, NotText, Index}
 
@@ -49,10 +49,10 @@ abbrev pub IsHindered : (List ℕ → Type 0) → FileMap → List ℕ → Index
 IsHindered IsOne work path entry =
     (other : List ℕ) × IsOne other × (((other ≡ path) × IsNotWanted entry (get work other)) ⊎ (IsAbove other path ⊎ IsAbove path other))
 
--- a file that the index lacks stands in the way of one that is due
+-- a file that the index doesn't keep stands in the way of what is due
 abbrev pub IsInTheWay : IndexMap → IndexMap → FileMap → List ℕ → Type 0
 IsInTheWay index tree work path =
-    (entry : IndexEntry) × (get tree path ≡ Some entry) × (get index path ≢ get tree path) × IsHindered (IsUntracked index work) work path entry
+    (entry : IndexEntry) × (get tree path ≡ Some entry) × (get index path ≢ get tree path) × IsHindered (IsUnkept index work) work path entry
 
 -- nothing at the path is against a checkout
 pub record IsClear (index tree : IndexMap) (work : FileMap) (path : List ℕ) : Type 0 where

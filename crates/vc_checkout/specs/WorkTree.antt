@@ -1,5 +1,5 @@
 -- The files of a work tree beside those of an index.
-use Rattle.std.specs.Prelude.{◌≡◌, ℕ, Bool, List, Vec, None, IsSome, IsUtf8}
+use Rattle.std.specs.Prelude.{◌≡◌, ⊤, ℕ, Bool, List, Vec, Option, Some, None, IsSome, IsUtf8}
 use Rattle.std.specs.BTreeSet.{BTreeSet, contains_by}
 use Rattle.std.specs.Cmp.Lexicographic.{slice_cmp}
 use Rattle.std.specs.FinMap.{get}
@@ -10,7 +10,9 @@ use Rattle.vc_files.specs.FileMap.{FileMap}
 use Rattle.vc_object.specs.Object.{object_name}
 use Rattle.vc_object.specs.declared.id.ObjectId.{ObjectId}
 use Rattle.vc_object.specs.declared.kind.Kind.TheVariants as kinds
+use Rattle.vc_object.specs.declared.mode.Mode.TheVariants as modes
 use Rattle.vc_index.specs.IndexMap.{IndexMap}
+use Rattle.vc_index.specs.declared.entry.IndexEntry.{IndexEntry}
 
 -- the name that a file's content has as a blob
 abbrev pub blob_name : List ℕ → ObjectId
@@ -23,6 +25,15 @@ HasTextPaths work = (path : List ℕ) → IsSome (get work path) → IsUtf8 path
 -- the work tree has a file at the path, and the index has no entry there
 abbrev pub IsUntracked : IndexMap → FileMap → List ℕ → Type 0
 IsUntracked index work path = IsSome (get work path) × (get index path ≡ None)
+
+-- the index keeps no file there: it has no entry, or that of a commit of another repository
+abbrev pub KeepsNone : Option IndexEntry → Type 0
+KeepsNone None = ⊤
+KeepsNone (Some entry) = entry.mode ≡ modes.Commit
+
+-- the work tree has a file at the path, and the index keeps none there
+abbrev pub IsUnkept : IndexMap → FileMap → List ℕ → Type 0
+IsUnkept index work path = IsSome (get work path) × KeepsNone (get index path)
 
 -- whether two paths are the same
 abbrev pub is_same : List ℕ → List ℕ → Bool

@@ -214,12 +214,12 @@ fn write_all<T: WorkTree, F: Files>(
 /// the tree in the order of their bytes: 40 and 63 are a file or a link that is due and whose blob is absent or no blob, 12
 /// one whose blob is damaged; no other blob is opened. Then, over the paths of both in that order, and at each path in this
 /// one: 72 is a due path that is not UTF-8; 70 is a file that the index has and the tree lacks or has otherwise, and whose
-/// content is neither of the two; 71 is a file that the index lacks, where a due path is to be written: at the path with
-/// another content, above it or below it. Contents are compared by the names that they have as blobs. Where all is clear,
-/// files of the index that the tree lacks are removed, then what is due is written: a link as a file that holds its text,
-/// an executable without the right to be run, a commit of another repository as an empty folder. A folder that an entry
-/// which goes lies in, or that is its own, goes if nothing is left in it; every other folder stays, but where a file is
-/// written in its place. What isn't due stays as it is.
+/// content is neither of the two; 71 is a file that the index lacks, or that lies where it has a commit of another
+/// repository, in the place of a due path: at the path with another content, above it or below it. Contents are compared
+/// by the names that they have as blobs. Where all is clear, files of the index that the tree lacks are removed, then what
+/// is due is written: a link as a file that holds its text, an executable without the right to be run, a commit of another
+/// repository as an empty folder. A folder that an entry which goes lies in, or that is its own, goes if nothing is left in
+/// it; every other folder stays, but where a file is written in its place. What isn't due stays as it is.
 ///
 /// A fault may leave any part of this done; each path then has its old file or its new one, and no folder is gone or
 /// made that would not have been.

@@ -5,11 +5,11 @@ ghost use Rattle.vc_files.specs.Failures.{Wears, unstopped};
 ghost use Rattle.vc_checkout.specs.CheckoutFault.{IsAgainst, IsFault, TellsDevice};
 ghost use Rattle.vc_checkout.specs.Refusal.{HasLocalChange, IsClear, IsDue, IsOther, IsRefused, RefusedAt};
 ghost use Rattle.vc_checkout.specs.Steps.{IsUntouched};
-ghost use Rattle.vc_checkout.specs.WorkTree.{HasTextPaths, IsUntracked, has_path};
+ghost use Rattle.vc_checkout.specs.WorkTree.{HasTextPaths, IsUnkept, has_path};
 
 use crate::compare::file_name;
 use crate::hindrance::is_hindered;
-use crate::paths::{all_paths, untracked_paths};
+use crate::paths::{all_paths, unkept_paths};
 use crate::{CheckoutFault, WorkTree};
 use std::alloc::Global;
 use std::collections::BTreeSet;
@@ -61,13 +61,13 @@ fn has_local_change<T: WorkTree>(
 fn check_path<T: WorkTree>(
     alloc: Global,
     work: &mut T,
-    untracked: &BTreeSet<Vec<u8>>,
+    unkept: &BTreeSet<Vec<u8>>,
     index: &mut IndexCursor<'_>,
     tree: &mut IndexCursor<'_>,
     path: &[u8],
 ) -> Result<(), CheckoutFault>
     requires texts { T.honest → HasTextPaths (T.content work.old) }
-    requires untracked { T.honest → (other : List ℕ) → IsTrue (has_path untracked.now other) ↔ IsUntracked index.old (T.content work.old) other }
+    requires unkept { T.honest → (other : List ℕ) → IsTrue (has_path unkept.now other) ↔ IsUnkept index.old (T.content work.old) other }
     ensures clear { T.honest → OnOk result (IsClear index.old tree.old (T.content work.old) path.now) }
     ensures refused { T.honest → IfErr result (λ e. IsFault e ⊎ RefusedAt index.old tree.old (T.content work.old) path.now e) }
     ensures kind { IfErr result (λ e. IsFault e ⊎ IsAgainst e) }
@@ -90,7 +90,7 @@ fn check_path<T: WorkTree>(
     let Some(entry) = new else {
         return Ok(());
     };
-    if is_hindered(alloc, work, untracked, path, entry)? {
+    if is_hindered(alloc, work, unkept, path, entry)? {
         return Err(CheckoutFault::InTheWay(path.to_vec(alloc)?));
     }
     Ok(())
@@ -111,11 +111,11 @@ pub(crate) fn check_all<T: WorkTree>(
     ensures untouched { IsUntouched T.content T.folders work.old work.new }
     ensures wear { Wears T.failed T.can_fail unstopped work.old work.new (TellsDevice result) }
 {
-    let untracked = untracked_paths(alloc, work, index)?;
+    let unkept = unkept_paths(alloc, work, index)?;
     let paths = all_paths(alloc, &BTreeSet::new(alloc), index, tree)?;
     let (mut old, mut new) = (IndexCursor::new(index), IndexCursor::new(tree));
     for path in &paths {
-        check_path(alloc, work, &untracked, &mut old, &mut new, path)?;
+        check_path(alloc, work, &unkept, &mut old, &mut new, path)?;
     }
     Ok(())
 }

@@ -15,7 +15,8 @@ use vc_store::StoreFault;
 pub enum CheckoutFault {
     /// 70: the file with this path was changed and not staged, and the change would be lost.
     LocalChange(Vec<u8>),
-    /// 71: a file that the index lacks stands where the file with this path is to be written.
+    /// 71: a file that the index lacks, or that lies where it has a commit of another repository, stands where the file
+    /// with this path is to be written.
     InTheWay(Vec<u8>),
     /// 72: a file with this path, which is not UTF-8, can't be written.
     NotText(Vec<u8>),

@@ -6,12 +6,13 @@ ghost use Rattle.vc_index.specs.Path.{IsAbove};
 ghost use Rattle.vc_checkout.specs.CheckoutFault.{IsFault, TellsDevice};
 ghost use Rattle.vc_checkout.specs.Folders.{IsLowestAbove};
 ghost use Rattle.vc_checkout.specs.Steps.{IsUntouched};
-ghost use Rattle.vc_checkout.specs.WorkTree.{has_path, is_listed, HasTextPaths, IsUntracked};
+ghost use Rattle.vc_checkout.specs.WorkTree.{has_path, is_listed, HasTextPaths, IsUnkept, IsUntracked, KeepsNone};
 
 use crate::{CheckoutFault, WorkTree};
 use std::alloc::{AllocError, Global};
 use std::collections::BTreeSet;
-use vc_index::{Index, IndexCursor};
+use vc_index::{Index, IndexCursor, IndexEntry};
+use vc_object::Mode;
 
 /// The path of the folder that a path lies in, or none where it lies in none.
 pub(crate) fn folder_of(path: &str) -> Option<&str>
@@ -76,6 +77,40 @@ pub(crate) fn untracked_paths<T: WorkTree>(
     for path in &listed {
         let path = path.as_bytes();
         if known.get(path).is_none() {
+            found.insert(path.to_vec(alloc)?)?;
+        }
+    }
+    Ok(found)
+}
+
+// Whether the index keeps no file there: it has no entry, or that of a commit of another repository.
+fn keeps_none(entry: Option<IndexEntry>) -> bool
+    ensures { IsTrue result ↔ KeepsNone entry }
+{
+    match entry {
+        Some(entry) => entry.mode == Mode::Commit,
+        None => true,
+    }
+}
+
+/// The paths of the files of the work tree that the index doesn't keep.
+pub(crate) fn unkept_paths<T: WorkTree>(
+    alloc: Global,
+    work: &mut T,
+    index: &Index,
+) -> Result<BTreeSet<Vec<u8>>, CheckoutFault>
+    ensures unkept { T.honest → IfOk result (λ found. (path : List ℕ) → IsTrue (has_path found path) ↔ IsUnkept index.now (T.content work.old) path) }
+    ensures texts { T.honest → OnOk result (HasTextPaths (T.content work.old)) }
+    ensures fault { IfErr result IsFault }
+    ensures untouched { IsUntouched T.content T.folders work.old work.new }
+    ensures wear { Wears T.failed T.can_fail unstopped work.old work.new (TellsDevice result) }
+{
+    let listed = work.list(alloc)?;
+    let mut found = BTreeSet::new(alloc);
+    let mut known = IndexCursor::new(index);
+    for path in &listed {
+        let path = path.as_bytes();
+        if keeps_none(known.get(path)) {
             found.insert(path.to_vec(alloc)?)?;
         }
     }

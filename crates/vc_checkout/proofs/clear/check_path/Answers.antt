@@ -27,8 +27,8 @@ returns-then-branch-2-clause-refused g c = λ honest.
     let readable : IsUtf8 c.args.path.now = elim c.else-is_some.branch [ else-is_some-via-then-is_some+else-is_err w ↦ search rules | else-is_some-via-else-is_some w ↦ search rules ] in
     let lost = subst (λ (o : Option IndexEntry). IsTrue c.in_ok-has_local_change.field-0 ↔ HasLocalChange o (get c.args.tree.now c.args.path.now) file) c.get-old.ensures.found
     (subst (λ (n : Option IndexEntry). IsTrue c.in_ok-has_local_change.field-0 ↔ HasLocalChange c.get-old.result n file) c.get-new.ensures.found (c.in_ok-has_local_change.ensures.change honest)) in
-    let hindered = subst (λ (w : FileMap). IsTrue c.in_ok-is_hindered.field-0 ↔ IsHindered (λ other. IsTrue (has_path c.args.untracked.now other)) w c.args.path.now c.in-Some.entry) c.has_local_change.ensures.untouched.0 (c.in_ok-is_hindered.ensures.hindered honest) in
-    inr (copied, (λ bad. bad.1 readable), (λ change. let yes' = lost.1 change in cc (yes', c.if-branch.false)), in_the_way c.args.index.now c.args.tree.now work c.args.path.now c.in-Some.entry c.args.untracked.now (c.requires.untracked honest) at apart (hindered.0 (search rules)))
+    let hindered = subst (λ (w : FileMap). IsTrue c.in_ok-is_hindered.field-0 ↔ IsHindered (λ other. IsTrue (has_path c.args.unkept.now other)) w c.args.path.now c.in-Some.entry) c.has_local_change.ensures.untouched.0 (c.in_ok-is_hindered.ensures.hindered honest) in
+    inr (copied, (λ bad. bad.1 readable), (λ change. let yes' = lost.1 change in cc (yes', c.if-branch.false)), in_the_way c.args.index.now c.args.tree.now work c.args.path.now c.in-Some.entry c.args.unkept.now (c.requires.unkept honest) at apart (hindered.0 (search rules)))
 
 pub returns-clause-clear : goal.returns-clause-clear
 returns-clause-clear g c = λ honest.
@@ -38,9 +38,9 @@ returns-clause-clear g c = λ honest.
     let readable : IsUtf8 c.args.path.now = elim c.else-is_some.branch [ else-is_some-via-then-is_some+else-is_err w ↦ search rules | else-is_some-via-else-is_some w ↦ search rules ] in
     let lost = subst (λ (o : Option IndexEntry). IsTrue c.in_ok-has_local_change.field-0 ↔ HasLocalChange o (get c.args.tree.now c.args.path.now) file) c.get-old.ensures.found
     (subst (λ (n : Option IndexEntry). IsTrue c.in_ok-has_local_change.field-0 ↔ HasLocalChange c.get-old.result n file) c.get-new.ensures.found (c.in_ok-has_local_change.ensures.change honest)) in
-    let hindered = subst (λ (w : FileMap). IsTrue c.in_ok-is_hindered.field-0 ↔ IsHindered (λ other. IsTrue (has_path c.args.untracked.now other)) w c.args.path.now c.in-Some.entry) c.has_local_change.ensures.untouched.0 (c.in_ok-is_hindered.ensures.hindered honest) in
+    let hindered = subst (λ (w : FileMap). IsTrue c.in_ok-is_hindered.field-0 ↔ IsHindered (λ other. IsTrue (has_path c.args.unkept.now other)) w c.args.path.now c.in-Some.entry) c.has_local_change.ensures.untouched.0 (c.in_ok-is_hindered.ensures.hindered honest) in
     record {
       text = λ bad. bad.1 readable;
       unchanged = λ change. let yes' = lost.1 change in cc (yes', c.if-branch.false);
-      free = not_in_the_way c.args.index.now c.args.tree.now work c.args.path.now c.in-Some.entry c.args.untracked.now (c.requires.untracked honest) at (λ way. let yes' = hindered.1 way in cc (yes', c.if-branch-2.false));
+      free = not_in_the_way c.args.index.now c.args.tree.now work c.args.path.now c.in-Some.entry c.args.unkept.now (c.requires.unkept honest) at (λ way. let yes' = hindered.1 way in cc (yes', c.if-branch-2.false));
     }
