@@ -159,23 +159,24 @@ no_entry es m is q lacks = by_option (get m q) (sym (entry_paths es m is q) ∙ 
     by_option None e = refl
     by_option (Some x) e = cc e
 
+-- a file that is there after clearing was there
+pub cleared_some : (i t : Option IndexEntry) (a b : Option (List ℕ)) → (b ≡ a) ⊎ IsCleared i t a b → IsSome b → IsSome a
+cleared_some i t a b (inl same) s = subst IsSome same s
+cleared_some None t a b (inr r) s = subst IsSome (r.unknown refl) s
+cleared_some (Some e) (Some f) a b (inr r) s = subst IsSome (r.kept refl) s
+cleared_some (Some e) None a b (inr r) s = left_some e.mode a (subst IsSome (r.gone e refl refl) s)
+  where
+    left_some : (mode : Mode) (file : Option (List ℕ)) → IsSome (left_of mode file) → IsSome file
+    left_some modes.Commit file s = s
+    left_some modes.Tree file s = cc s
+    left_some modes.File file s = cc s
+    left_some modes.SharedFile file s = cc s
+    left_some modes.Executable file s = cc s
+    left_some modes.Link file s = cc s
+
 -- clearing leaves paths of text
 pub cleared_texts : (index tree : IndexMap) (old now : FileMap) → HasTextPaths old → ((q : List ℕ) → (get now q ≡ get old q) ⊎ IsCleared (get index q) (get tree q) (get old q) (get now q)) → HasTextPaths now
-cleared_texts index tree old now texts so q some = texts q (was (get index q) (get tree q) (get old q) (get now q) (so q) some)
-  where
-    was : (i t : Option IndexEntry) (a b : Option (List ℕ)) → (b ≡ a) ⊎ IsCleared i t a b → IsSome b → IsSome a
-    was i t a b (inl same) s = subst IsSome same s
-    was None t a b (inr r) s = subst IsSome (r.unknown refl) s
-    was (Some e) (Some f) a b (inr r) s = subst IsSome (r.kept refl) s
-    was (Some e) None a b (inr r) s = left_some e.mode a (subst IsSome (r.gone e refl refl) s)
-      where
-        left_some : (mode : Mode) (file : Option (List ℕ)) → IsSome (left_of mode file) → IsSome file
-        left_some modes.Commit file s = s
-        left_some modes.Tree file s = cc s
-        left_some modes.File file s = cc s
-        left_some modes.SharedFile file s = cc s
-        left_some modes.Executable file s = cc s
-        left_some modes.Link file s = cc s
+cleared_texts index tree old now texts so q some = texts q (cleared_some (get index q) (get tree q) (get old q) (get now q) (so q) some)
 
 -- ---- what is written
 pub file_commit : (objects : ObjectMap) (mode : Mode) (id : ObjectId) → mode ≡ modes.Commit → None ≡ file_of objects mode id

@@ -8,3 +8,4 @@ pub mod FolderLemmas
 pub mod HeldLemmas
 pub mod LeavingLemmas
 pub mod MakingLemmas
+pub mod ApartLemmas

@@ -5,9 +5,12 @@ use Rattle.std.specs.FinMap.{get}
 use Rattle.vc_files.specs.FileMap.{FileMap}
 use Rattle.vc_object.specs.ObjectMap.{ObjectMap}
 use Rattle.vc_index.specs.IndexMap.{IndexMap}
+use Rattle.vc_checkout.specs.Blobs.{HasDueBlobs}
 use Rattle.vc_checkout.specs.CheckedOut.{IsCheckedOut, IsCleared, IsOldOrCheckedOut, IsWritten, StepAt, StepOrNone}
 use Rattle.vc_checkout.specs.Folders.{AreFolders, Folders, IsFolder}
 use Rattle.vc_checkout.specs.FoldersAfter.{AreBetween, AreFoldersBegun, GivesWay, IsFolderAfter, IsLeft, IsLeftBy, IsLinked, IsMadeFor}
+use Rattle.vc_checkout.specs.Refusal.{IsClear, IsDue}
+use Rattle.vc_checkout.specs.WorkTree.{AreApart, StandsAlone}
 
 -- ---- at one path
 
@@ -93,16 +96,26 @@ MayWriteDue content objects index tree old new =
 
 -- ---- the whole
 
--- The files and the folders of the work tree are those that a checkout makes of the old ones.
-pub record Brings {W : Type 0} (content : W → FileMap) (held : W → Folders) (objects : ObjectMap) (index tree : IndexMap) (old new : W) : Type 0 where
-  pub files : (path : List ℕ) → IsCheckedOut objects (get index path) (get tree path) (get (content old) path) (get (content new) path)
-  pub folders : AreFolders (content new) (held new) (IsFolderAfter index tree (IsFolder (content old) (held old)))
-
--- Each path has its old file or its new one, and no folder is gone or made that would not have been.
-pub record BringsPart {W : Type 0} (content : W → FileMap) (held : W → Folders) (objects : ObjectMap) (index tree : IndexMap) (old new : W) : Type 0 where
-  pub files : (path : List ℕ) → IsOldOrCheckedOut objects index tree (content old) (content new) path
-  pub folders : AreFoldersBegun index tree (content old) (held old) (content new) (held new)
-
 -- the work tree is as it was
 abbrev pub IsUntouched : {W : Type 0} → (W → FileMap) → (W → Folders) → W → W → Type 0
 IsUntouched content folders old new = (content new ≡ content old) × (folders new ≡ folders old)
+
+-- Each blob that is due is there, and nothing is against the checkout at any path.
+pub record IsAllowed (objects : ObjectMap) (index tree : IndexMap) (work : FileMap) : Type 0 where
+  pub blobs : HasDueBlobs objects index tree
+  pub clear : (path : List ℕ) → IsClear index tree work path
+
+-- The files and the folders of the work tree are those that a checkout makes of the old ones, and no file lies above or
+-- below what was due.
+pub record Brings {W : Type 0} (content : W → FileMap) (held : W → Folders) (objects : ObjectMap) (index tree : IndexMap) (old new : W) : Type 0 where
+  pub files : (path : List ℕ) → IsCheckedOut objects (get index path) (get tree path) (get (content old) path) (get (content new) path)
+  pub folders : AreFolders (content new) (held new) (IsFolderAfter index tree (IsFolder (content old) (held old)))
+  pub alone : (path : List ℕ) → IsDue (get index path) (get tree path) → StandsAlone (content new) path
+
+-- Each path has its old file or its new one, no folder is gone or made that would not have been, no file came to lie below
+-- another one, and nothing changed but where the checkout was allowed.
+pub record BringsPart {W : Type 0} (content : W → FileMap) (held : W → Folders) (objects : ObjectMap) (index tree : IndexMap) (old new : W) : Type 0 where
+  pub files : (path : List ℕ) → IsOldOrCheckedOut objects index tree (content old) (content new) path
+  pub folders : AreFoldersBegun index tree (content old) (held old) (content new) (held new)
+  pub apart : AreApart (content old) → AreApart (content new)
+  pub allowed : IsUntouched content held old new ⊎ IsAllowed objects index tree (content old)

@@ -1,5 +1,5 @@
 -- The files of a work tree beside those of an index.
-use Rattle.std.specs.Prelude.{◌≡◌, ⊤, ℕ, Bool, List, Vec, Option, Some, None, IsSome, IsUtf8}
+use Rattle.std.specs.Prelude.{◌≡◌, ◌⊎◌, ⊤, ℕ, Bool, List, Vec, Option, Some, None, IsSome, IsUtf8}
 use Rattle.std.specs.BTreeSet.{BTreeSet, contains_by}
 use Rattle.std.specs.Cmp.Lexicographic.{slice_cmp}
 use Rattle.std.specs.FinMap.{get}
@@ -12,6 +12,7 @@ use Rattle.vc_object.specs.declared.id.ObjectId.{ObjectId}
 use Rattle.vc_object.specs.declared.kind.Kind.TheVariants as kinds
 use Rattle.vc_object.specs.declared.mode.Mode.TheVariants as modes
 use Rattle.vc_index.specs.IndexMap.{IndexMap}
+use Rattle.vc_index.specs.Path.{IsAbove}
 use Rattle.vc_index.specs.declared.entry.IndexEntry.{IndexEntry}
 
 -- the name that a file's content has as a blob
@@ -34,6 +35,14 @@ KeepsNone (Some entry) = entry.mode ≡ modes.Commit
 -- the work tree has a file at the path, and the index keeps none there
 abbrev pub IsUnkept : IndexMap → FileMap → List ℕ → Type 0
 IsUnkept index work path = IsSome (get work path) × KeepsNone (get index path)
+
+-- no file of the work tree lies above the path or below it
+abbrev pub StandsAlone : FileMap → List ℕ → Type 0
+StandsAlone work path = (other : List ℕ) → IsAbove other path ⊎ IsAbove path other → get work other ≡ None
+
+-- no file of the work tree lies below another one
+abbrev pub AreApart : FileMap → Type 0
+AreApart work = (path other : List ℕ) → IsAbove path other → IsSome (get work path) → IsSome (get work other) → ⊥
 
 -- whether two paths are the same
 abbrev pub is_same : List ℕ → List ℕ → Bool

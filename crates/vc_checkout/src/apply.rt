@@ -3,6 +3,7 @@ ghost use Rattle.std.specs.Prelude.{◌≡◌, ◌⊎◌, ℕ, List, None, IfErr
 ghost use Rattle.std.specs.FinMap as maps;
 ghost use Rattle.vc_files.specs.Failures.{Wears, unstopped};
 ghost use Rattle.vc_store.specs.Store.{objects};
+ghost use Rattle.vc_index.specs.IndexMap.{IsIndex};
 ghost use Rattle.vc_index.specs.Loading.{IsBlobIfDue};
 ghost use Rattle.vc_index.specs.Path.{IsAbove};
 ghost use Rattle.vc_checkout.specs.Blobs.{HasDueBlob, HasDueBlobs};
@@ -199,6 +200,7 @@ fn write_all<T: WorkTree, F: Files>(
     ensures same { F.content files.new ≡ F.content files.old }
     ensures folders { T.honest → F.honest → OnOk result (EndsFolders T.content T.folders index.now tree.now work.old work.new) }
     ensures between { T.honest → MayChangeFolders T.content T.folders (IsMadeBy index.now tree.now) (GivesWayBy index.now tree.now) work.old work.new }
+    ensures index { IsIndex tree.now }
     ensures wear { WearsEither T.failed T.can_fail F.failed F.can_fail F.left work.old work.new files.old files.new (TellsDevice result) }
 {
     let (mut old, mut new) = (IndexCursor::new(index), IndexCursor::new(tree));
@@ -221,8 +223,8 @@ fn write_all<T: WorkTree, F: Files>(
 /// repository as an empty folder. A folder that an entry which goes lies in, or that is its own, goes if nothing is left in
 /// it; every other folder stays, but where a file is written in its place. What isn't due stays as it is.
 ///
-/// A fault may leave any part of this done; each path then has its old file or its new one, and no folder is gone or
-/// made that would not have been.
+/// A fault may leave any part of this done, but only where all was clear; each path then has its old file or its new one,
+/// no file lies below another one where none did, and no folder is gone or made that would not have been.
 pub fn checkout<T: WorkTree, F: Files>(
     alloc: Global,
     work: &mut T,

@@ -1,4 +1,4 @@
-use Rattle.std.proofs.Common.{rules, ◌≡◌, ◌⊎◌, inl, inr, refl, subst, List, ℕ}
+use Rattle.std.proofs.Common.{rules, ◌≡◌, ◌⊎◌, inl, inr, refl, sym, subst, List, ℕ}
 use Rattle.std.specs.FinMap.{get}
 use Rattle.vc_files.specs.FileMap.{FileMap}
 use Rattle.vc_store.specs.Store.{objects}
@@ -9,10 +9,12 @@ use Rattle.vc_checkout.specs.CheckoutFault.{IsFault, IsOfCheckout}
 use Rattle.vc_checkout.specs.Folders.{AreFolders, Folders, IsFolder}
 use Rattle.vc_checkout.specs.FoldersAfter.{AreBetween, IsLeftBy}
 use Rattle.vc_checkout.specs.Steps.{BringsPart}
+use Rattle.vc_checkout.specs.WorkTree.{AreApart}
 use Rattle.vc_checkout.specs.declared.faults.CheckoutFault.TheVariants.{Index}
 use Rattle.vc_checkout.proofs.MakingLemmas.{both_between, first_between}
 use Rattle.vc_checkout.proofs.LeavingLemmas.{between_same}
 use Rattle.vc_checkout.proofs.ApplyLemmas.{old_or_cleared, old_or_written}
+use Rattle.vc_checkout.proofs.ApartLemmas.{apart_cleared, apart_written, stands_alone}
 use Rattle.vc_checkout.proofs.ClearLemmas.{if_err, of_check}
 use Rattle.vc_checkout.proofs.apply.checkout.Goals as goal
 use Rattle.vc_lemmas.proofs.Lists.{on_err}
@@ -36,6 +38,8 @@ returns-in_err-check_blobs-clause-begun g c = λ honest stored.
     let part : BringsPart g.T.WorkTree.content g.T.WorkTree.folders (objects (g.F.Files.content c.args.files.now)) index tree c.args.work.now c.args.work.now = record {
       files = λ path. inl (search rules);
       folders = first_between index tree old old was was (between_same old old was was (λ d. IsFolder old was d × (IsLeftBy index tree d → ⊥)) refl refl (λ d is. is.0));
+      apart = λ were. were;
+      allowed = inl (refl, refl);
     } in
     on_err _ _ part
 
@@ -57,6 +61,8 @@ returns-in_err-check_all-clause-begun g c = λ honest stored.
     let part : BringsPart g.T.WorkTree.content g.T.WorkTree.folders (objects (g.F.Files.content c.args.files.now)) index tree c.args.work.now c.check_all.new.work = record {
       files = λ path. inl (search rules);
       folders = first_between index tree old now was new (between_same old now was new (λ d. IsFolder old was d × (IsLeftBy index tree d → ⊥)) c.check_all.ensures.untouched.0 c.check_all.ensures.untouched.1 (λ d is. is.0));
+      apart = subst AreApart (sym c.check_all.ensures.untouched.0);
+      allowed = inl c.check_all.ensures.untouched;
     } in
     on_err _ _ part
 
@@ -71,9 +77,12 @@ returns-in_err-clear_all-clause-begun g c = λ honest stored.
     let mid = content c.clear_all.new.work in
     let held = folders c.clear_all.new.work in
     let now = g.T.WorkTree.content c.clear_all.new.work in
+    let so : (q : List ℕ) → (get now q ≡ get old q) ⊎ IsCleared (get index q) (get tree q) (get old q) (get now q) =
+    subst (λ (w : FileMap). (q : List ℕ) → (get now q ≡ get w q) ⊎ IsCleared (get index q) (get tree q) (get w q) (get now q)) c.check_all.ensures.untouched.0 (c.clear_all.ensures.begun honest) in
     let part : BringsPart g.T.WorkTree.content g.T.WorkTree.folders (objects (g.F.Files.content c.args.files.now)) index tree c.args.work.now c.clear_all.new.work = record {
-      files = old_or_cleared (objects (g.F.Files.content c.args.files.now)) index tree old now
-          (subst (λ (w : FileMap). (q : List ℕ) → (get now q ≡ get w q) ⊎ IsCleared (get index q) (get tree q) (get w q) (get now q)) c.check_all.ensures.untouched.0 (c.clear_all.ensures.begun honest));
+      files = old_or_cleared (objects (g.F.Files.content c.args.files.now)) index tree old now so;
+      apart = apart_cleared index tree old now so;
+      allowed = inr (record { blobs = c.in_ok-check_blobs.ensures.blobs stored; clear = c.in_ok-check_all.ensures.clear honest });
       folders = first_between index tree old mid was held (subst (λ (s : Folders). AreBetween mid held (λ d. IsFolder old s d × (IsLeftBy index tree d → ⊥)) (IsFolder old s)) c.check_all.ensures.untouched.1 (subst (λ (f : FileMap). AreBetween mid held (λ d. IsFolder f (folders c.check_all.new.work) d × (IsLeftBy index tree d → ⊥)) (IsFolder f (folders c.check_all.new.work))) c.check_all.ensures.untouched.0 (c.clear_all.ensures.between honest)));
     } in
     on_err _ _ part
@@ -89,10 +98,16 @@ returns-in_err-write_all-clause-begun g c = λ honest stored.
     let mid = content c.clear_all.new.work in
     let held = folders c.clear_all.new.work in
     let now = g.T.WorkTree.content c.write_all.new.work in
-    let part : BringsPart g.T.WorkTree.content g.T.WorkTree.folders (objects (g.F.Files.content c.args.files.now)) index tree c.args.work.now c.write_all.new.work = record {
-      files = old_or_written (objects (g.F.Files.content c.args.files.now)) index tree old mid now
-          (subst (λ (w : FileMap). (q : List ℕ) → IsCleared (get index q) (get tree q) (get w q) (get mid q)) c.check_all.ensures.untouched.0 (c.in_ok-clear_all.ensures.done honest))
-          (subst (λ (f : FileMap). (q : List ℕ) → (get now q ≡ get mid q) ⊎ IsWritten (objects f) (get index q) (get tree q) (get mid q) (get now q)) c.check_blobs.ensures.same (c.write_all.ensures.begun honest stored));
+    let all = objects (g.F.Files.content c.args.files.now) in
+    let cleared : (q : List ℕ) → IsCleared (get index q) (get tree q) (get old q) (get mid q) =
+    subst (λ (w : FileMap). (q : List ℕ) → IsCleared (get index q) (get tree q) (get w q) (get mid q)) c.check_all.ensures.untouched.0 (c.in_ok-clear_all.ensures.done honest) in
+    let written : (q : List ℕ) → (get now q ≡ get mid q) ⊎ IsWritten all (get index q) (get tree q) (get mid q) (get now q) =
+    subst (λ (f : FileMap). (q : List ℕ) → (get now q ≡ get mid q) ⊎ IsWritten (objects f) (get index q) (get tree q) (get mid q) (get now q)) c.check_blobs.ensures.same (c.write_all.ensures.begun honest stored) in
+    let clear = c.in_ok-check_all.ensures.clear honest in
+    let part : BringsPart g.T.WorkTree.content g.T.WorkTree.folders all index tree c.args.work.now c.write_all.new.work = record {
+      files = old_or_written all index tree old mid now cleared written;
+      apart = apart_written all index tree old mid now c.write_all.ensures.index clear cleared written;
+      allowed = inr (record { blobs = c.in_ok-check_blobs.ensures.blobs stored; clear = clear });
       folders = both_between index tree old mid (content c.write_all.new.work) was held (folders c.write_all.new.work) (subst (λ (s : Folders). AreBetween mid held (λ d. IsFolder old s d × (IsLeftBy index tree d → ⊥)) (IsFolder old s)) c.check_all.ensures.untouched.1 (subst (λ (f : FileMap). AreBetween mid held (λ d. IsFolder f (folders c.check_all.new.work) d × (IsLeftBy index tree d → ⊥)) (IsFolder f (folders c.check_all.new.work))) c.check_all.ensures.untouched.0 (c.clear_all.ensures.between honest))) (c.write_all.ensures.between honest);
     } in
     on_err _ _ part
@@ -107,7 +122,11 @@ returns-clause-brought g c = λ honest stored.
     let was = folders c.args.work.now in
     let mid = content c.clear_all.new.work in
     let held = folders c.clear_all.new.work in
+    let now = content c.write_all.new.work in
+    let cleared : (q : List ℕ) → IsCleared (get index q) (get tree q) (get old q) (get mid q) =
+    subst (λ (w : FileMap). (q : List ℕ) → IsCleared (get index q) (get tree q) (get w q) (get mid q)) c.check_all.ensures.untouched.0 (c.in_ok-clear_all.ensures.done honest) in
     record {
       files = search rules;
+      alone = stands_alone (objects (g.F.Files.content c.check_blobs.new.files)) index tree old mid now c.write_all.ensures.index (c.in_ok-check_all.ensures.clear honest) cleared (λ q. inr (c.in_ok-write_all.ensures.done honest stored q));
       folders = c.in_ok-write_all.ensures.folders honest stored old was (subst (λ (s : Folders). AreFolders mid held (λ d. IsFolder old s d × (IsLeftBy index tree d → ⊥))) c.check_all.ensures.untouched.1 (subst (λ (f : FileMap). AreFolders mid held (λ d. IsFolder f (folders c.check_all.new.work) d × (IsLeftBy index tree d → ⊥))) c.check_all.ensures.untouched.0 (c.in_ok-clear_all.ensures.folders honest)));
     }
