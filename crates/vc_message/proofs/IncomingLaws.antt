@@ -10,7 +10,7 @@ use Rattle.vc_pkt.specs.Line.{LineText, IsLine, IsLines, IsPart, short, begun}
 use Rattle.vc_pkt.specs.Message.{Stepped, onward, complete, Steps, going, run, IsOwnFault, GivenBy, cut}
 use Rattle.vc_pkt.specs.StepView.{Gives}
 use Rattle.vc_pkt.specs.declared.fault.PktFault.{PktFault}
-use Rattle.vc_pkt.specs.declared.fault.PktFault.TheVariants.{CutMessage}
+use Rattle.vc_pkt.specs.declared.fault.PktFault.TheVariants.{BadLength, BadRecord, CutMessage, SizeMismatch, TooLarge, TooMany}
 use Rattle.vc_pkt.specs.declared.fault.PktError.{PktError}
 use Rattle.vc_pkt.specs.declared.fault.PktError.TheVariants as errors
 use Rattle.vc_pkt.proofs.LineLaws.{line_no_bad, line_no_part, line_once, part_no_bad}
@@ -30,6 +30,15 @@ line_here new line read spelled more (whole other is) h e =
     subst (λ t. IsLine line t) (line_once line other spelled read more [] h is (sym e ∙ sym (append-nil read))).1 h
 line_here new line read spelled more (wrong bad) h e = absurd (line_no_bad line spelled more read h e bad)
 line_here new line read spelled more (ended part end) h e = absurd (line_no_part line spelled more read h e part)
+
+-- a line is no fault
+pub line_has_no_fault : (line : LineText) (bytes read : List ℕ) (fault : PktFault) → IsLine line bytes → read ≡ bytes → FaultAt 0 read fault → ⊥
+line_has_no_fault line bytes read CutMessage is same part = line_no_part line bytes [] read is (same ∙ sym (append-nil bytes)) part
+line_has_no_fault line bytes read (BadLength place) is same (at, bad) = line_no_bad line bytes [] read is (same ∙ sym (append-nil bytes)) bad
+line_has_no_fault line bytes read (BadRecord place) is same none = none
+line_has_no_fault line bytes read SizeMismatch is same none = none
+line_has_no_fault line bytes read TooMany is same none = none
+line_has_no_fault line bytes read TooLarge is same none = none
 
 -- in a buffer that was empty, what was read is all
 pub in_empty : (before read now : List ℕ) → before ≡ [] → now ≡ before ++ read → now ≡ read

@@ -1,8 +1,8 @@
 -- What reads put into a buffer, for the functions that fill it.
 use Rattle.std.proofs.Common.{◌≡◌, ℕ, ◌+◌, ◌-◌, ◌≤◌, List, ◌++◌, length, take, drop, refl, ap, sym, ◌∙◌, subst, arith, length-drop, length-take-le, le_refl, drop_of_length-le}
-use Rattle.std.specs.Io.KnownBytes.{Consumes, Keeps}
+use Rattle.std.specs.Io.KnownBytes.{Consumes}
 use Rattle.std.specs.Prelude.{Option}
-use Rattle.std.proofs.KnownBytes.{Consumes-kept, Consumes-nil, Consumes-trans}
+use Rattle.std.proofs.KnownBytes.{Consumes-nil, Consumes-trans}
 use Rattle.std.proofs.lemmas.List.{drop_at, take-append-drop, take-append-le, take_all, take_at}
 use lib.Seq.{drop-append-le, take-add, take-take}
 
@@ -19,21 +19,22 @@ pub record FilledTo (old now : Option (List ℕ)) (before buffer : List ℕ) (at
   pub front : take at buffer ≡ take at before
   pub consumed : Consumes old now (drop at (take filled buffer))
 
+-- nothing was put there yet
+pub filled_none : (old : Option (List ℕ)) (buffer : List ℕ) (at : ℕ) → at ≤ length buffer → FilledTo old old buffer buffer at at
+filled_none old buffer at within = record {
+  from = le_refl at;
+  within = within;
+  long = refl;
+  front = refl;
+  consumed = subst (λ (t : List ℕ). Consumes old old t) (sym (drop_of_length-le (take at buffer) (let long = length-take-le at buffer within in omega (arith, long)))) (Consumes-nil old);
+}
+
 module _ (old now new : Option (List ℕ)) (before buffer after : List ℕ) (at filled : ℕ) (so : FilledTo old now before buffer at filled) (long : length after ≡ length buffer) (same : take filled after ≡ take filled buffer) where
   fronts : take at after ≡ take at before
   fronts = sym (take-take at filled after so.from) ∙ ap (take at) same ∙ take-take at filled buffer so.from ∙ so.front
 
   front_long : length (take filled after) ≡ filled
   front_long = length-take-le filled after (let w = so.within in omega (arith, w, long))
-
-  pub filled_kept : Keeps now new → FilledTo old new before after at filled
-  filled_kept kept = record {
-    from = so.from;
-    within = (let w = so.within in omega (arith, w, long));
-    long = long ∙ so.long;
-    front = fronts;
-    consumed = Consumes-kept old now new _ (subst (λ t. Consumes old now (drop at t)) (sym same) so.consumed) kept;
-  }
 
   pub filled_more : (n : ℕ) → filled + n ≤ length after → Consumes now new (take n (drop filled after)) → FilledTo old new before after at (filled + n)
   filled_more n fits read =

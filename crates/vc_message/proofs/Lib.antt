@@ -7,6 +7,7 @@ pub mod MachineTexts
 pub mod OneWriting
 pub mod Readings
 pub mod IncomingLines
+pub mod SourceLaws
 pub mod IncomingReads
 pub mod IncomingLaws
 pub mod StreamingLaws

@@ -3,6 +3,7 @@ pub mod AnyView
 pub mod Machine
 pub mod Laws
 pub mod IncomingFault
+pub mod Source
 pub mod Incoming
 pub mod Coming
 pub mod Streaming

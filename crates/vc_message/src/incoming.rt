@@ -1,6 +1,6 @@
 //! One message from a reader, line by line, and no byte behind it.
 
-ghost use Rattle.std.specs.Prelude.{◌≡◌, ◌<◌, ◌≤◌, ◌+◌, ◌++◌, ℕ, List, Some, length, take, drop, MatchOption, MatchResult, IfOk, IfErr, IfSome, IfNone, OnOk, OnErr};
+ghost use Rattle.std.specs.Prelude.{◌≡◌, ◌<◌, ◌≤◌, ◌+◌, ◌++◌, ℕ, List, Some, length, take, drop, MatchOption, MatchResult, IfOk, IfErr, IfSome, IfNone, IsErr, IsErrOf, OnOk, OnErr};
 ghost use Rattle.std.specs.Io.KnownBytes.{Consumes, IsAtEnd, Keeps};
 ghost use Rattle.vc_pkt.specs.Faults.{FaultAt};
 ghost use Rattle.vc_pkt.specs.Line.{IsLength, IsLine, max_data};
@@ -11,37 +11,33 @@ ghost use Rattle.vc_message.specs.AnyMessage.{any_step, beginning};
 ghost use Rattle.vc_message.specs.AnyView.{message_text};
 ghost use Rattle.vc_message.specs.Machine.{Reads};
 ghost use Rattle.vc_message.specs.Incoming.{AddsBytes, AddsLine, Fails, GivesMessage, IsFaultOf, IsLoss, IsRest, TakesMessage, TakesNothing, TakesText, TakesWithinLine};
+ghost use Rattle.vc_message.specs.Source.{TellsFailures};
 ghost use Rattle.vc_message.specs.declared.incoming_fault.IncomingFault.TheVariants.{Failed};
 
 use crate::incoming_fault::IncomingFault;
 use crate::message::Message;
 use crate::reader::AnyReader;
+use crate::source::{ReadFailed, Source};
 use hex::FromHex;
 use std::alloc::Global;
-use std::io::{self, ErrorKind, Read};
 use vc_pkt::{Line, MAX_DATA, MessageReader, PktFault, Step, parse_line};
 
 /// One read into the buffer, from this place on.
-fn read_at<R: Read>(reader: &mut R, buffer: &mut [u8], at: usize) -> io::Result<usize>
+fn read_at<R: Source>(reader: &mut R, buffer: &mut [u8], at: usize) -> Result<usize, ReadFailed>
     requires { at < length buffer.old }
     ensures front { take at buffer.new ≡ take at buffer.old }
     ensures fits { IfOk result (λ n. at + n ≤ length buffer.new) }
     ensures ok { IfOk result (λ n. Consumes (R.remaining reader.old) (R.remaining reader.new) (take n (drop at buffer.new))) }
     ensures end { IfOk result (λ n. n ≡ 0 → IsAtEnd (R.remaining reader.new)) }
     ensures err { OnErr result (Keeps (R.remaining reader.old) (R.remaining reader.new)) }
+    ensures failures { TellsFailures R.failed R.can_fail reader.old reader.new (IsErr result) }
 {
     let read = reader.read(&mut buffer[at..])?;
     Ok(read)
 }
 
-/// Whether the read may be tried again.
-fn is_interrupted(error: &io::Error) -> bool {
-    matches!(error.kind(), ErrorKind::Interrupted)
-}
-
-/// Fills the buffer from this place on, and says up to where: its end, unless the reader comes to its own. What interrupts a read
-/// doesn't end it.
-fn fill<R: Read>(reader: &mut R, buffer: &mut [u8], at: usize) -> Result<usize, IncomingFault>
+/// Fills the buffer from this place on, and says up to where: its end, unless the reader comes to its own.
+fn fill<R: Source>(reader: &mut R, buffer: &mut [u8], at: usize) -> Result<usize, IncomingFault>
     requires { at ≤ length buffer.old }
     ensures within { IfOk result (λ end. (at ≤ end) × (end ≤ length buffer.new)) }
     ensures same { OnOk result ((length buffer.new ≡ length buffer.old) × (take at buffer.new ≡ take at buffer.old)) }
@@ -49,27 +45,20 @@ fn fill<R: Read>(reader: &mut R, buffer: &mut [u8], at: usize) -> Result<usize, 
     ensures end { IfOk result (λ end. end < length buffer.new → IsAtEnd (R.remaining reader.new)) }
     ensures err { OnErr result ((bytes : List ℕ) × Consumes (R.remaining reader.old) (R.remaining reader.new) bytes × (at + length bytes ≤ length buffer.old)) }
     ensures fault { IfErr result (λ fault. fault ≡ Failed) }
+    ensures failures { TellsFailures R.failed R.can_fail reader.old reader.new (IsErrOf result Failed) }
 {
     let mut filled = at;
-    'reads: for _ in 0..u64::MAX {
-        if filled >= buffer.len() {
-            return Ok(filled);
-        }
-        match read_at(reader, buffer, filled) {
-            Ok(0) => return Ok(filled),
-            Ok(n) => filled += n,
-            Err(error) => {
-                if !is_interrupted(&error) {
-                    return Err(IncomingFault::Failed);
-                }
-            }
+    'reads: while filled < buffer.len() {
+        match read_at(reader, buffer, filled)? {
+            0 => return Ok(filled),
+            n => filled += n,
         }
     }
-    Err(IncomingFault::Failed)
+    Ok(filled)
 }
 
 /// Adds the reader's next bytes, so many, or fewer where it comes to its end.
-fn push_read<R: Read>(
+fn push_read<R: Source>(
     reader: &mut R,
     bytes: &mut Vec<u8>,
     count: usize,
@@ -78,6 +67,7 @@ fn push_read<R: Read>(
     ensures ok { OnOk result (AddsBytes (R.remaining reader.old) (R.remaining reader.new) bytes.old.items bytes.new.items count) }
     ensures err { OnErr result ((read : List ℕ) × Consumes (R.remaining reader.old) (R.remaining reader.new) read × (length read ≤ count)) }
     ensures fault { IfErr result IsLoss }
+    ensures failures { TellsFailures R.failed R.can_fail reader.old reader.new (IsErrOf result Failed) }
 {
     let start = bytes.len();
     bytes.resize(start + count, 0)?;
@@ -127,10 +117,11 @@ fn behind(bytes: &Vec<u8>, start: usize) -> &[u8]
 
 /// Adds the reader's next line, and no byte behind it. Where no line begins with the next four bytes it adds these, and where the
 /// reader comes to its end before the line does, what there is of it.
-pub(crate) fn push_line<R: Read>(reader: &mut R, bytes: &mut Vec<u8>) -> Result<(), IncomingFault>
+pub(crate) fn push_line<R: Source>(reader: &mut R, bytes: &mut Vec<u8>) -> Result<(), IncomingFault>
     ensures ok { OnOk result (AddsLine (R.remaining reader.old) (R.remaining reader.new) bytes.old.items bytes.new.items) }
     ensures err { OnErr result ((read : List ℕ) × TakesWithinLine (R.remaining reader.old) (R.remaining reader.new) read) }
     ensures fault { IfErr result IsLoss }
+    ensures failures { TellsFailures R.failed R.can_fail reader.old reader.new (IsErrOf result Failed) }
 {
     let start = bytes.len();
     push_read(reader, bytes, 4)?;
@@ -156,13 +147,14 @@ pub(crate) fn line_at(bytes: &[u8], place: u64) -> Result<Line<'_>, PktFault>
 }
 
 /// Takes one message that this kind of reader reads. Of its bytes one line is held at a time.
-fn take_message<M: MessageReader, R: Read>(
+fn take_message<M: MessageReader, R: Source>(
     alloc: Global,
     reader: &mut R,
 ) -> Result<Option<M::Message>, IncomingFault>
     ensures message { IfOk result (λ taken. IfSome taken (λ message. TakesText M.step M.start (GivenBy M.step M.start) (R.remaining reader.old) (R.remaining reader.new) (M.text_of message))) }
     ensures end { IfOk result (λ taken. IfNone taken (TakesNothing (R.remaining reader.old) (R.remaining reader.new))) }
     ensures fault { IfErr result (Fails M.step M.start (R.remaining reader.old) (R.remaining reader.new)) }
+    ensures failures { TellsFailures R.failed R.can_fail reader.old reader.new (IsErrOf result Failed) }
 {
     let mut line = Vec::new(alloc);
     let mut place = 0u64;
@@ -172,7 +164,7 @@ fn take_message<M: MessageReader, R: Read>(
         line.clear();
         push_line(reader, &mut line)?;
         let Some(end) = place.checked_add(line.len() as u64) else {
-            return Err(IncomingFault::Failed);
+            return Err(IncomingFault::Memory);
         };
         if end == 0 {
             return Ok(None);
@@ -194,7 +186,7 @@ fn take_message<M: MessageReader, R: Read>(
 /// Bytes that are no message are refused with their first fault as soon as it has come, and 83 where the reader ends before the
 /// message: what is held is what was read of the message so far, and the bytes of one line. What was read of a message that isn't
 /// given is lost.
-pub fn read_message<R: Read>(
+pub fn read_message<R: Source>(
     alloc: Global,
     reader: &mut R,
 ) -> Result<Option<Message>, IncomingFault>
@@ -203,6 +195,7 @@ pub fn read_message<R: Read>(
     ensures fault { IfErr result (Fails any_step beginning (R.remaining reader.old) (R.remaining reader.new)) }
     ensures known { (m : Sent) (bytes rest : List ℕ) → R.remaining reader.old ≡ Some (bytes ++ rest) → Reads bytes m → GivesMessage m rest (R.remaining reader.new) result }
     ensures unread { IfErr result (IsFaultOf (R.remaining reader.old)) }
+    ensures failures { TellsFailures R.failed R.can_fail reader.old reader.new (IsErrOf result Failed) }
 {
     take_message::<AnyReader, R>(alloc, reader)
 }

@@ -1,9 +1,10 @@
 //! Why no message came from a reader.
 
 ghost use Rattle.std.specs.Prelude.{◌≡◌};
-ghost use Rattle.vc_message.specs.declared.incoming_fault.IncomingFault.TheVariants.{Memory, Unread};
+ghost use Rattle.vc_message.specs.declared.incoming_fault.IncomingFault.TheVariants.{Failed, Memory, Unread};
 ghost use Rattle.vc_message.specs.IncomingFault.{of_pkt};
 
+use crate::source::ReadFailed;
 use std::alloc::AllocError;
 use std::error::Error;
 use std::fmt;
@@ -12,7 +13,7 @@ use vc_pkt::{PktError, PktFault};
 /// Why no message came from a reader. What was read of it is lost.
 #[derive(Clone, Copy, Debug)]
 pub enum IncomingFault {
-    /// A growth was refused.
+    /// A growth was refused, or 2^64 bytes have come and the message has no end yet.
     Memory,
     /// 115: the reader failed.
     Failed,
@@ -56,5 +57,13 @@ impl From<AllocError> for IncomingFault {
 
     fn from(_: AllocError) -> IncomingFault {
         IncomingFault::Memory
+    }
+}
+
+impl From<ReadFailed> for IncomingFault {
+    ghost from_gives = { λ _ e. e ≡ Failed };
+
+    fn from(_: ReadFailed) -> IncomingFault {
+        IncomingFault::Failed
     }
 }

@@ -10,6 +10,7 @@ mod laws;
 mod message;
 mod reader;
 mod skipping;
+mod source;
 mod streaming;
 
 pub use incoming::read_message;
@@ -21,4 +22,5 @@ pub use laws::{
 pub use message::Message;
 pub use reader::AnyReader;
 pub use skipping::{skip_message, skip_pack, skip_push};
+pub use source::{Fallible, ReadFailed, Source};
 pub use streaming::{Head, Taken, next_object, read_head};

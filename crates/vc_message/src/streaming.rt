@@ -1,5 +1,5 @@
 //! A message that carries objects, taken object by object.
-ghost use Rattle.std.specs.Prelude.{◌≡◌, ◌+◌, ◌^◌, ◌≤◌, ◌<◌, [], IfOk, IfErr, IfSome, IfNone, IsTrue, MatchResult, OnOk, false};
+ghost use Rattle.std.specs.Prelude.{◌≡◌, ◌+◌, ◌^◌, ◌<◌, [], IfOk, IfErr, IfSome, IfNone, IsErrOf, IsTrue, MatchResult, OnOk, false};
 ghost use Rattle.vc_pkt.specs.Incoming.{incoming};
 ghost use Rattle.vc_pkt.specs.ObjectStream.{between};
 ghost use Rattle.vc_pkt.specs.ObjectStreamView.{progress_of};
@@ -7,14 +7,16 @@ ghost use Rattle.vc_pkt.specs.StreamObjectView.{stored};
 ghost use Rattle.vc_message.specs.AnyMessage.{any_step, beginning};
 ghost use Rattle.vc_message.specs.AnyView.{reader_state};
 ghost use Rattle.vc_message.specs.Incoming.{Fails, TakesNothing};
+ghost use Rattle.vc_message.specs.Source.{TellsFailures};
 ghost use Rattle.vc_message.specs.Streaming.{FailsAtLine, FailsFrom, IsBeforeAll, IsHeadAt, TakesBad, TakesEnd, TakesHead, TakesLine, TakesMore};
+ghost use Rattle.vc_message.specs.declared.incoming_fault.IncomingFault.TheVariants.{Failed};
 
 use crate::incoming::{line_at, push_line};
 use crate::incoming_fault::IncomingFault;
 use crate::message::Message;
 use crate::reader::AnyReader;
+use crate::source::Source;
 use std::alloc::Global;
-use std::io::Read;
 use vc_fetch::PackReader;
 use vc_object::ObjectId;
 use vc_pkt::{
@@ -25,7 +27,7 @@ use vc_push::{Command, PushReader, PushStream};
 
 /// Takes the next line of a message of which so many bytes were taken, in place of what the buffer held, and tells where it
 /// ends; none where the reader is at its end before the first byte.
-pub(crate) fn take_line<R: Read>(
+pub(crate) fn take_line<R: Source>(
     reader: &mut R,
     line: &mut Vec<u8>,
     place: u64,
@@ -33,11 +35,12 @@ pub(crate) fn take_line<R: Read>(
     ensures line { IfOk result (λ found. IfSome found (λ end. TakesLine (R.remaining reader.old) (R.remaining reader.new) place end line.new.items)) }
     ensures end { IfOk result (λ found. IfNone found (IsBeforeAll (R.remaining reader.old) (R.remaining reader.new) place)) }
     ensures fault { IfErr result (FailsAtLine (R.remaining reader.old) (R.remaining reader.new) place) }
+    ensures failures { TellsFailures R.failed R.can_fail reader.old reader.new (IsErrOf result Failed) }
 {
     line.clear();
     push_line(reader, line)?;
     let Some(end) = place.checked_add(line.len() as u64) else {
-        return Err(IncomingFault::Failed);
+        return Err(IncomingFault::Memory);
     };
     if end == 0 {
         return Ok(None);
@@ -116,14 +119,15 @@ pub struct Taken {
 
 /// The next message, or what stands before its objects where it carries some, and how much of it was taken; none where the reader is
 /// at its end before the first byte. Of its bytes one line is held.
-pub fn read_head<R: Read>(
+pub fn read_head<R: Source>(
     alloc: Global,
     reader: &mut R,
 ) -> Result<Option<(Head, Taken)>, IncomingFault>
     ensures head { IfOk result (λ found. IfSome found (λ f. TakesHead (R.remaining reader.old) (R.remaining reader.new) f.0 f.1.bytes f.1.lines)) }
-    ensures few { IfOk result (λ found. IfSome found (λ f. f.1.lines ≤ f.1.bytes)) }
+    ensures few { IfOk result (λ found. IfSome found (λ f. f.1.lines < f.1.bytes)) }
     ensures end { IfOk result (λ found. IfNone found (TakesNothing (R.remaining reader.old) (R.remaining reader.new))) }
     ensures fault { IfErr result (Fails any_step beginning (R.remaining reader.old) (R.remaining reader.new)) }
+    ensures failures { TellsFailures R.failed R.can_fail reader.old reader.new (IsErrOf result Failed) }
 {
     let mut line = Vec::new(alloc);
     let mut bytes = 0u64;
@@ -157,18 +161,19 @@ pub fn read_head<R: Read>(
 
 /// The next object of a message that carries some and of which what stands before them was taken, and the number of the line that
 /// began it; none where the message has ended. Of its bytes one line and one body are held.
-pub fn next_object<R: Read>(
+pub fn next_object<R: Source>(
     alloc: Global,
     reader: &mut R,
     taken: &mut Taken,
 ) -> Result<Option<(u64, StreamObject)>, IncomingFault>
-    requires few { taken.old.lines ≤ taken.old.bytes }
-    ensures few { taken.new.lines ≤ taken.new.bytes }
+    requires few { taken.old.lines < taken.old.bytes }
+    ensures few { taken.new.lines < taken.new.bytes }
     ensures more { OnOk result ((taken.old.bytes < taken.new.bytes) × (taken.new.bytes < 2 ^ 64)) }
     ensures object { IfOk result (λ found. IfSome found (λ f. TakesMore (R.remaining reader.old) taken.old (R.remaining reader.new) taken.new (stored f.1))) }
     ensures other { IfOk result (λ found. IfSome found (λ f. TakesBad (R.remaining reader.old) taken.old (R.remaining reader.new) (stored f.1) f.0)) }
     ensures end { IfOk result (λ found. IfNone found (TakesEnd (R.remaining reader.old) taken.old (R.remaining reader.new))) }
     ensures fault { IfErr result (FailsFrom (λ c. c) (R.remaining reader.old) taken.old (R.remaining reader.new)) }
+    ensures failures { TellsFailures R.failed R.can_fail reader.old reader.new (IsErrOf result Failed) }
 {
     let mut progress = StreamProgress::Between;
     'lines: loop {

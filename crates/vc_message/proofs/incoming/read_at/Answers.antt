@@ -8,4 +8,4 @@ returns-clause-front g c = take-put_mid_below _ _ _ _ _ (le_refl _) (omega (arit
 
 pub returns-clause-ok : goal.returns-clause-ok
 returns-clause-ok g c =
-    in_place _ _ _ c.read.new.buf _ c.args.at _ (length-take-le _ c.args.buffer.now (omega (arith, c.requires))) c.in_ok-read.ensures.bound.0 c.in_ok-read.ensures.bytes.0
+    in_place _ _ _ c.read.new.buffer _ c.args.at _ (length-take-le _ c.args.buffer.now (omega (arith, c.requires))) c.in_ok-read.ensures.bound.0 c.in_ok-read.ensures.bytes.0
