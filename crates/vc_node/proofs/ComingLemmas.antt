@@ -251,6 +251,11 @@ module _ (honest : Type 0) (before rest : Option (List ℕ)) (content : FileMap)
       subst (λ (b : Bool). ReceivesFrom honest before rest content content waits waits b b result) (sym was)
       (subst Receives (sym is) (down_by s some none fails))
 
+-- it keeps what was held
+pub down_keeps : (content : FileMap) (waits : AwaitedText) (is_up : Bool) (result : Told) → IfErr result (λ e. e ≡ ReadFailed → KeepsHeld content content waits waits is_up is_up)
+down_keeps content waits is_up (Ok found) = tt
+down_keeps content waits is_up (Err e) = λ which awaited n waiting held. (waiting, held)
+
 pub down_no_device : (s : Skipped) (result : Told) → result ≡ down_told s → TellsDevice result → ⊥
 down_no_device s result is told = by s (subst (λ (r : Told). TellsDevice r) is told)
   where

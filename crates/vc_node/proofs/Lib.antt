@@ -19,6 +19,7 @@ pub mod FaultLemmas
 pub mod IndexLemmas
 pub mod KeepingLemmas
 pub mod LookLemmas
+pub mod LossLemmas
 pub mod MakingLemmas
 pub mod MayLemmas
 pub mod NameLemmas

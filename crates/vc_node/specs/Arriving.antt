@@ -1,5 +1,5 @@
 -- A message that a reader brings to a clone, taken as it comes: what came of it, and what the clone makes of it.
-use Rattle.std.specs.Prelude.{◌≡◌, ◌≢◌, ◌⊎◌, ⊤, ℕ, Bool, true, false, List, [], Option, Some, None, Result, Ok, Err, IfErr, Vec, ◌++◌}
+use Rattle.std.specs.Prelude.{◌≡◌, ◌≢◌, ◌⊎◌, ⊤, ℕ, Bool, true, false, List, [], Option, Some, None, Result, Ok, Err, IfErr, IsErrOf, Vec, ◌++◌}
 use Rattle.std.specs.Global.{Global}
 use Rattle.vc_exchange.specs.Deeds.{IsCutShort, IsReceived}
 use Rattle.vc_exchange.specs.Moving.{Told, told_in}
@@ -16,6 +16,7 @@ use Rattle.vc_message.specs.Coming.{Came, IsCome, TakesAll, TakesPart, a_message
 use Rattle.vc_message.specs.AnyMessage.{MessageText, a_pack, any_step, beginning}
 use Rattle.vc_message.specs.Incoming.{TakesFault}
 use Rattle.vc_message.specs.Machine.{IsPack, Reads, TextOf, pkt_number}
+use Rattle.vc_message.specs.Source.{TellsFailures}
 use Rattle.vc_message.specs.Streaming.{LeadsTo, TakesHead, of_pack, state_at}
 use Rattle.vc_message.specs.declared.incoming_fault.IncomingFault.{IncomingFault}
 use Rattle.vc_message.specs.declared.incoming_fault.IncomingFault.TheVariants as incoming
@@ -49,6 +50,17 @@ use Rattle.vc_node.specs.declared.exchanging.Received.{Received}
 use Rattle.vc_node.specs.declared.fault.NodeFault.TheVariants.{Down}
 use Rattle.vc_node.specs.declared.receive_fault.ReceiveFault.{ReceiveFault}
 use Rattle.vc_node.specs.declared.receive_fault.ReceiveFault.TheVariants.{Node, ReadFailed}
+
+-- ---- a reader that fails
+-- What a call of a node tells of a reader that fails: it answers by that once the reader has failed, and never else, unless a fault of
+-- the node's own came behind it.
+abbrev pub TellsLoss : {S : Type 0} → (S → ℕ) → (S → Type 0) → S → S → Type 0 → Type 0 → Type 0
+TellsLoss failed can_fail old new IsLost IsFault = TellsFailures failed can_fail old new IsLost ⊎ (IsFault × TellsFailures failed can_fail old new (Unit {0}))
+
+-- the same of a clone, and what it keeps where the reader failed
+pub record KeepsAtLoss {S T : Type 0} (failed : S → ℕ) (can_fail : S → Type 0) (old new : S) (honest : Type 0) (result : Result T ReceiveFault) (Kept : Type 0) : Type 0 where
+  pub failures : TellsLoss failed can_fail old new (IsErrOf result ReadFailed) (up_after result ≡ false)
+  pub kept : honest → IfErr result (λ e. e ≡ ReadFailed → Kept)
 
 -- ---- a message so far
 -- of a pack what stands before its objects was taken, so many bytes and lines

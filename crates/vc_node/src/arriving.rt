@@ -1,42 +1,45 @@
 // A message that a reader brings to a clone, whose objects go into the quarantine as they come.
-ghost use Rattle.std.specs.Prelude.{◌≡◌, ◌≤◌, Err, IfErr, IfNone, IfOk, OnErr, OnOk, true};
+ghost use Rattle.std.specs.Prelude.{◌≡◌, ◌<◌, Err, IfErr, IfNone, IfOk, IsErrOf, OnErr, OnOk, false, true};
 ghost use Rattle.vc_exchange.specs.Quarantined.{KeepsOthers};
 ghost use Rattle.vc_exchange.specs.Storing.{KeepsGood};
 ghost use Rattle.vc_files.specs.FileMap.{SameOutside};
 ghost use Rattle.vc_files.specs.Failures.{Writes};
+ghost use Rattle.vc_message.specs.Source.{TellsFailures};
 ghost use Rattle.vc_session.specs.Clean.{MakesNoneBad};
 ghost use Rattle.vc_session.specs.Quarantine.{IsDropped, quarantine_folder};
-ghost use Rattle.vc_node.specs.Arriving.{Arrives, Comes, FromPack, FromStart, IsStopped, KeepsHeld, LeavesPack, ReceivesUp, TakesPack, down_told, some_told};
+ghost use Rattle.vc_node.specs.Arriving.{Arrives, Comes, FromPack, FromStart, IsStopped, KeepsAtLoss, KeepsHeld, LeavesPack, ReceivesUp, TakesPack, TellsLoss, down_told, some_told};
 ghost use Rattle.vc_node.specs.Awaited.{awaited_text};
-ghost use Rattle.vc_node.specs.ReceiveFault.{TellsDevice, UnlessFault};
+ghost use Rattle.vc_node.specs.ReceiveFault.{TellsDevice, UnlessFault, up_after};
 
 use crate::awaited::Awaited;
 use crate::exchanging::{Received, take};
 use crate::receive_fault::ReceiveFault;
 use crate::{CloneFault, NodeFault};
 use std::alloc::Global;
-use std::io::Read;
 use vc_exchange::{Moves, receive_quarantined};
 use vc_files::{Fault, Files};
-use vc_message::{Head, IncomingFault, Taken, next_object, read_head, skip_pack, skip_push};
+use vc_message::{
+    Head, IncomingFault, Source, Taken, next_object, read_head, skip_pack, skip_push,
+};
 use vc_object::ObjectId;
 use vc_pkt::PktFault;
 use vc_session::{Arriving, drop_quarantine};
 
 // The objects of a pack, each of which stands in the quarantine once all of the pack has come. Where it doesn't, some may be left
 // there. A body out of its kind's grammar is a fault of the pack, and nothing behind it is read.
-fn arrive<F: Files, R: Read>(
+fn arrive<F: Files, R: Source>(
     alloc: Global,
     files: &mut F,
     reader: &mut R,
     mut taken: Taken,
 ) -> Result<Arriving, ReceiveFault>
-    requires few { taken.lines ≤ taken.bytes }
+    requires few { taken.lines < taken.bytes }
     ensures arrived { IfOk result (λ arrived. FromPack (R.remaining reader.old) taken (λ before. Arrives F.honest before (R.remaining reader.new) (F.content files.new) arrived.names.keys)) }
     ensures stopped { IfErr result (λ e. FromPack (R.remaining reader.old) taken (λ before. IsStopped before (R.remaining reader.new) e)) }
     ensures outside { F.honest → SameOutside (quarantine_folder 0) (F.content files.old) (F.content files.new) }
     ensures bad { F.honest → MakesNoneBad (F.content files.old) (F.content files.new) }
     ensures wear { Writes F.honest F.content F.failed F.can_fail F.left files.old files.new (TellsDevice result) }
+    ensures failures { TellsFailures R.failed R.can_fail reader.old reader.new (IsErrOf result ReceiveFault.ReadFailed) }
 {
     let mut arriving = Arriving::begin(files, alloc, 0)?;
     'objects: loop {
@@ -53,7 +56,7 @@ fn arrive<F: Files, R: Read>(
 
 // Takes the objects of the pack that brings these wants, of which what stands before them was taken: once all of it has come it is
 // judged, stored and followed, and the quarantine emptied. Where that isn't done, some may be left there.
-fn take_awaited<F: Files, R: Read>(
+fn take_awaited<F: Files, R: Source>(
     alloc: Global,
     files: &mut F,
     wants: &[ObjectId],
@@ -61,13 +64,14 @@ fn take_awaited<F: Files, R: Read>(
     reader: &mut R,
     taken: Taken,
 ) -> Result<Moves, ReceiveFault>
-    requires few { taken.lines ≤ taken.bytes }
+    requires few { taken.lines < taken.bytes }
     ensures taken { IfOk result (λ moves. FromPack (R.remaining reader.old) taken (TakesPack F.honest F.content (R.remaining reader.new) files.old files.new wants.now told.now moves)) }
     ensures left { IfErr result (λ e. FromPack (R.remaining reader.old) taken (LeavesPack F.honest F.content (R.remaining reader.new) files.old files.new wants.now told.now e)) }
     ensures dropped { F.honest → OnOk result (IsDropped 0 (F.content files.new)) }
     ensures beside { F.honest → KeepsOthers (F.content files.old) (F.content files.new) }
     ensures good { F.honest → KeepsGood (F.content files.old) (F.content files.new) }
     ensures wear { Writes F.honest F.content F.failed F.can_fail F.left files.old files.new (TellsDevice result) }
+    ensures failures { TellsFailures R.failed R.can_fail reader.old reader.new (IsErrOf result ReceiveFault.ReadFailed) }
 {
     let arrived = arrive(alloc, files, reader, taken)?;
     let moves = receive_quarantined(files, alloc, wants, told, arrived.names.as_slice())?;
@@ -76,20 +80,21 @@ fn take_awaited<F: Files, R: Read>(
 
 // The same of a clone, whatever it awaits: a pack that isn't awaited is read to its end, and nothing of it is put anywhere (91).
 // After a refusal nothing of it is left; after a fault some may be, in the quarantine.
-fn take_pack<F: Files, R: Read>(
+fn take_pack<F: Files, R: Source>(
     alloc: Global,
     files: &mut F,
     awaited: &mut Awaited,
     reader: &mut R,
     taken: Taken,
 ) -> Result<Received, ReceiveFault>
-    requires few { taken.lines ≤ taken.bytes }
+    requires few { taken.lines < taken.bytes }
     ensures comes { FromPack (R.remaining reader.old) taken (Comes F.honest F.content (R.remaining reader.new) files.old files.new awaited.old awaited.new result) }
     ensures unchanged { OnErr result (awaited_text awaited.new ≡ awaited_text awaited.old) }
     ensures cleared { F.honest → UnlessFault result (IsDropped 0 (F.content files.old) → IsDropped 0 (F.content files.new)) }
     ensures beside { F.honest → KeepsOthers (F.content files.old) (F.content files.new) }
     ensures good { F.honest → KeepsGood (F.content files.old) (F.content files.new) }
     ensures wear { Writes F.honest F.content F.failed F.can_fail F.left files.old files.new (TellsDevice result) }
+    ensures failures { TellsLoss R.failed R.can_fail reader.old reader.new (IsErrOf result ReceiveFault.ReadFailed) (up_after result ≡ false) }
 {
     let Awaited::Pack(wants, refs) = awaited else {
         skip_pack(alloc, reader, taken)?;
@@ -115,7 +120,7 @@ fn take_pack<F: Files, R: Read>(
 
 /// Takes the rest of a message from the reader, of which this came: all of it, or what stands before its objects. What it takes is
 /// awaited no longer; a refusal leaves it awaited, and nothing in the quarantine. A push is none for a clone, and is read to its end.
-pub(crate) fn take_rest<F: Files, R: Read>(
+pub(crate) fn take_rest<F: Files, R: Source>(
     alloc: Global,
     files: &mut F,
     awaited: &mut Awaited,
@@ -123,13 +128,14 @@ pub(crate) fn take_rest<F: Files, R: Read>(
     head: Head,
     taken: Taken,
 ) -> Result<Received, ReceiveFault>
-    requires few { taken.lines ≤ taken.bytes }
+    requires few { taken.lines < taken.bytes }
     ensures comes { FromStart (R.remaining reader.old) head taken (Comes F.honest F.content (R.remaining reader.new) files.old files.new awaited.old awaited.new result) }
     ensures unchanged { OnErr result (awaited_text awaited.new ≡ awaited_text awaited.old) }
     ensures cleared { F.honest → UnlessFault result (IsDropped 0 (F.content files.old) → IsDropped 0 (F.content files.new)) }
     ensures beside { F.honest → KeepsOthers (F.content files.old) (F.content files.new) }
     ensures good { F.honest → KeepsGood (F.content files.old) (F.content files.new) }
     ensures wear { Writes F.honest F.content F.failed F.can_fail F.left files.old files.new (TellsDevice result) }
+    ensures failures { TellsLoss R.failed R.can_fail reader.old reader.new (IsErrOf result ReceiveFault.ReadFailed) (up_after result ≡ false) }
 {
     match head {
         Head::Message(message) => {
@@ -156,7 +162,7 @@ fn told(received: Result<Received, ReceiveFault>) -> Result<Option<Received>, Re
 
 /// Takes the next message of the reader, by a clone that is up. What it takes is awaited no longer; a refusal leaves it awaited, and
 /// nothing in the quarantine.
-pub(crate) fn take_next<F: Files, R: Read>(
+pub(crate) fn take_next<F: Files, R: Source>(
     alloc: Global,
     files: &mut F,
     awaited: &mut Awaited,
@@ -164,7 +170,7 @@ pub(crate) fn take_next<F: Files, R: Read>(
 ) -> Result<Option<Received>, ReceiveFault>
     ensures receives { ReceivesUp F.honest (R.remaining reader.old) (R.remaining reader.new) (F.content files.old) (F.content files.new) (awaited_text awaited.old) (awaited_text awaited.new) result }
     ensures none { IfOk result (λ found. IfNone found ((files.new ≡ files.old) × (awaited_text awaited.new ≡ awaited_text awaited.old))) }
-    ensures lost { F.honest → IfErr result (λ e. e ≡ ReceiveFault.ReadFailed → KeepsHeld (F.content files.old) (F.content files.new) (awaited_text awaited.old) (awaited_text awaited.new) true true) }
+    ensures lost { KeepsAtLoss R.failed R.can_fail reader.old reader.new F.honest result (KeepsHeld (F.content files.old) (F.content files.new) (awaited_text awaited.old) (awaited_text awaited.new) true true) }
     ensures unchanged { OnErr result (awaited_text awaited.new ≡ awaited_text awaited.old) }
     ensures cleared { F.honest → UnlessFault result (IsDropped 0 (F.content files.old) → IsDropped 0 (F.content files.new)) }
     ensures beside { F.honest → KeepsOthers (F.content files.old) (F.content files.new) }

@@ -18,6 +18,7 @@ ghost use Rattle.vc_push.specs.ReportView.{report_text};
 ghost use Rattle.vc_repository.specs.Resolving.{DenotesIn};
 ghost use Rattle.vc_rev.specs.Grammar.{IsExpr};
 ghost use Rattle.vc_rev.specs.Views.{expr_view};
+ghost use Rattle.vc_node.specs.Arriving.{KeepsAtLoss};
 ghost use Rattle.vc_node.specs.Awaited.{nothing};
 ghost use Rattle.vc_node.specs.Node.{AnswersCall, AnswersCommand, AnswersCommandIfSound, AnswersFirst, AnswersStaging, AnswersText, IsFresh, KeepsNode, Looks, MayCall, MayCommand, MayCommandIfSound, MayCommit, MayStaging, MayText, PushesNoZero, ReceivesNext, Settles, SettlesTaken, commit_task};
 ghost use Rattle.vc_node.specs.CloneCalls.{ReceivedAs, SentAs};
@@ -52,12 +53,11 @@ use crate::{
     CloneFault, NodeFault, ReceiveFault, Received, arriving, commit, exchanging, local, staging,
 };
 use std::alloc::Global;
-use std::io::Read;
 use std::marker::Model;
 use vc_exchange::{PushItem, list_message, push_message};
 use vc_files::{Files, FusedFiles};
 use vc_index::Index;
-use vc_message::{Message, skip_message};
+use vc_message::{Message, Source, skip_message};
 use vc_object::{Kind, Mode, ObjectId};
 use vc_pack::Reached;
 use vc_push::Report;
@@ -548,14 +548,14 @@ impl<F: Files> CloneNode<F> {
     /// as soon as it has come, and a reader that fails with 115. In none of these is anything changed, nor is it where not all is there
     /// that was asked for (92): what was put into the quarantine is gone again. A node that is down refuses a message and bytes that are
     /// none (112), and takes as much of the reader. Want of memory takes the node down, as a device that fails does.
-    pub fn receive_from<R: Read>(
+    pub fn receive_from<R: Source>(
         &mut self,
         reader: &mut R,
     ) -> Result<Option<Received>, ReceiveFault>
         ensures receives { ReceivesNext F.honest F.content (R.remaining reader.old) (R.remaining reader.new) self.old self.new result }
         ensures known { AnswersFirst F.honest F.content (R.remaining reader.old) (R.remaining reader.new) self.old self.new result }
         ensures none { IfOk result (λ found. IfNone found (self.new ≡ self.old)) }
-        ensures lost { F.honest → IfErr result (λ e. e ≡ ReceiveFault.ReadFailed → KeepsNode F.content self.old self.new) }
+        ensures lost { KeepsAtLoss R.failed R.can_fail reader.old reader.new F.honest result (KeepsNode F.content self.old self.new) }
         ensures cleared { F.honest → self.new.is_up ≡ true → IsDropped 0 (F.content self.old.files) → IsDropped 0 (F.content self.new.files) }
         ensures settles { SettlesTaken result (self.new ≡ self.old) (receive_up_after result) self.old self.new }
         ensures clean { F.honest → KeepsClean (F.content self.old.files) (F.content self.new.files) }

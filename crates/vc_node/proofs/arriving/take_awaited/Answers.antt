@@ -9,6 +9,8 @@ use Rattle.vc_session.specs.Quarantine.{quarantine_folder}
 use Rattle.vc_node.proofs.ArrivedLemmas.{blames_before, exchange_writes}
 use Rattle.vc_node.proofs.KeepingLemmas.{good_then}
 use Rattle.vc_node.specs.Arriving.{all_of_it, not_all}
+use Rattle.vc_message.proofs.SourceLaws.{ok_is_no_error, tells_error, tells_not, tells_ok}
+use Rattle.vc_node.proofs.LossLemmas.{node_is_no_loss}
 use Rattle.vc_node.proofs.arriving.take_awaited.Goals as goal
 
 pub returns-in_err-arrived-clause-left : goal.returns-in_err-arrived-clause-left
@@ -73,3 +75,16 @@ returns-clause-good g c = λ honest. good_then (record { objects = keeps_beside_
 
 pub returns-clause-wear : goal.returns-clause-wear
 returns-clause-wear g c = writes_both c.in_ok-arrived.ensures.wear (λ never. never) (writes_told c.in_ok-moves.ensures.wear (λ never. absurd (cc never)) (λ never. absurd never))
+
+pub returns-in_err-arrived-clause-failures : goal.returns-in_err-arrived-clause-failures
+returns-in_err-arrived-clause-failures g c =
+    let p = err_from_is_err_and c.from_residual.result c.from_residual.ensures.1 in
+    rw (p.1, p.2) (tells_error c.in_err-arrived.ensures.failures (λ is. is) (λ is. is))
+
+pub returns-in_err-moves-clause-failures : goal.returns-in_err-moves-clause-failures
+returns-in_err-moves-clause-failures g c =
+    let p = err_from_is_err_and c.from_residual-in_err-moves.result c.from_residual-in_err-moves.ensures.1 in
+    rw (p.1, p.2) (tells_not c.in_ok-arrived.ensures.failures ok_is_no_error node_is_no_loss)
+
+pub returns-clause-failures : goal.returns-clause-failures
+returns-clause-failures g c = tells_ok c.in_ok-arrived.ensures.failures ok_is_no_error

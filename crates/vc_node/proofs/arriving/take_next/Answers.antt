@@ -1,4 +1,4 @@
-use Rattle.std.proofs.Common.{refl}
+use Rattle.std.proofs.Common.{inl, refl}
 use Rattle.std.proofs.lemmas.Result.{err_from_is_err_and}
 use Rattle.vc_exchange.proofs.QuarantinedLemmas.{others_same}
 use Rattle.vc_files.proofs.FileMapLemmas.{outside_same}
@@ -9,6 +9,8 @@ use Rattle.vc_node.proofs.ComingLemmas.{comes_lost, comes_receives, nothing_rece
 use Rattle.vc_node.proofs.KeepingLemmas.{good_same}
 use Rattle.vc_node.specs.Awaited.{awaited_text}
 use Rattle.vc_node.specs.ReceiveFault.{of_incoming}
+use Rattle.vc_message.proofs.SourceLaws.{ok_is_no_error, tells_error, tells_ok}
+use Rattle.vc_node.proofs.LossLemmas.{loss_came, loss_of_some, loss_then, loss_told}
 use Rattle.vc_node.proofs.arriving.take_next.Goals as goal
 
 -- ---- no message
@@ -16,13 +18,16 @@ pub returns-in_err-found-clause-receives : goal.returns-in_err-found-clause-rece
 returns-in_err-found-clause-receives g c =
     let content = g.F.Files.content c.args.files.now in
     let p = err_from_is_err_and c.from_residual.result c.from_residual.ensures.1 in
-    rw (p.1, p.2) (stopped_receives g.F.Files.honest (g.R.Read.remaining c.args.reader.now) (g.R.Read.remaining c.read_head.new.reader) content content (awaited_text c.args.awaited.now) (λ honest. bad_same _ _ refl) (λ honest. outside_same _ _)
+    rw (p.1, p.2) (stopped_receives g.F.Files.honest (g.R.Source.remaining c.args.reader.now) (g.R.Source.remaining c.read_head.new.reader) content content (awaited_text c.args.awaited.now) (λ honest. bad_same _ _ refl) (λ honest. outside_same _ _)
     (of_incoming c.in_err-found.field-0.0) (stopped_by _ _ c.in_err-found.field-0.0 c.in_err-found.ensures.fault))
 
 pub returns-in_err-found-clause-lost : goal.returns-in_err-found-clause-lost
-returns-in_err-found-clause-lost g c = λ honest.
+returns-in_err-found-clause-lost g c =
     let p = err_from_is_err_and c.from_residual.result c.from_residual.ensures.1 in
-    rw (p.1, p.2) (λ which awaited n waiting held. (waiting, held))
+    rw (p.1, p.2) (record {
+      failures = inl (tells_error c.in_err-found.ensures.failures (loss_told c.in_err-found.field-0.0) (loss_came c.in_err-found.field-0.0));
+      kept = λ honest which awaited n waiting held. (waiting, held);
+    })
 
 pub returns-in_err-found-clause-cleared : goal.returns-in_err-found-clause-cleared
 returns-in_err-found-clause-cleared g c = λ honest up dropped. dropped
@@ -56,18 +61,21 @@ pub returns-clause-receives : goal.returns-clause-receives
 returns-clause-receives g c =
     let content = g.F.Files.content in
     let head = rw c.in-Some.is at c.in_ok-found.ensures.head in
-    told_receives g.F.Files.honest (g.R.Read.remaining c.args.reader.now) (g.R.Read.remaining c.take_rest-received.new.reader) (content c.args.files.now) (content c.take_rest-received.new.files) (awaited_text c.args.awaited.now) (awaited_text c.take_rest-received.new.awaited)
-    c.take_rest-received.result c.told.result c.told.ensures (comes_receives g.F.Files.honest _ _ _ _ _ (λ honest. (c.take_rest-received.ensures.good honest).bad) _ c.take_rest-received.result (c.take_rest-received.ensures.comes (g.R.Read.remaining c.args.reader.now) head))
+    told_receives g.F.Files.honest (g.R.Source.remaining c.args.reader.now) (g.R.Source.remaining c.take_rest-received.new.reader) (content c.args.files.now) (content c.take_rest-received.new.files) (awaited_text c.args.awaited.now) (awaited_text c.take_rest-received.new.awaited)
+    c.take_rest-received.result c.told.result c.told.ensures (comes_receives g.F.Files.honest _ _ _ _ _ (λ honest. (c.take_rest-received.ensures.good honest).bad) _ c.take_rest-received.result (c.take_rest-received.ensures.comes (g.R.Source.remaining c.args.reader.now) head))
 
 pub returns-clause-none : goal.returns-clause-none
 returns-clause-none g c = told_none _ c.take_rest-received.result c.told.result c.told.ensures
 
 pub returns-clause-lost : goal.returns-clause-lost
-returns-clause-lost g c = λ honest.
+returns-clause-lost g c =
     let content = g.F.Files.content in
     let head = rw c.in-Some.is at c.in_ok-found.ensures.head in
-    told_lost (content c.args.files.now) (content c.take_rest-received.new.files) (awaited_text c.args.awaited.now) (awaited_text c.take_rest-received.new.awaited) c.take_rest-received.result c.told.result c.told.ensures
-    (comes_lost g.F.Files.honest _ _ _ _ _ (λ honest. (c.take_rest-received.ensures.good honest).bad) honest _ c.take_rest-received.result (c.take_rest-received.ensures.comes (g.R.Read.remaining c.args.reader.now) head))
+    record {
+      failures = loss_of_some c.take_rest-received.result c.told.result c.told.ensures (loss_then c.in_ok-found.ensures.failures ok_is_no_error c.take_rest-received.ensures.failures);
+      kept = λ honest. told_lost (content c.args.files.now) (content c.take_rest-received.new.files) (awaited_text c.args.awaited.now) (awaited_text c.take_rest-received.new.awaited) c.take_rest-received.result c.told.result c.told.ensures
+          (comes_lost g.F.Files.honest _ _ _ _ _ (λ honest. (c.take_rest-received.ensures.good honest).bad) honest _ c.take_rest-received.result (c.take_rest-received.ensures.comes (g.R.Source.remaining c.args.reader.now) head));
+    }
 
 pub returns-clause-unchanged : goal.returns-clause-unchanged
 returns-clause-unchanged g c = told_err _ c.take_rest-received.result c.told.result c.told.ensures c.take_rest-received.ensures.unchanged
@@ -77,3 +85,6 @@ returns-clause-cleared g c = λ honest. told_cleared c.take_rest-received.result
 
 pub returns-clause-wear : goal.returns-clause-wear
 returns-clause-wear g c = told_writes c.take_rest-received.result c.told.result c.told.ensures c.take_rest-received.ensures.wear
+
+pub returns-in_default-clause-lost : goal.returns-in_default-clause-lost
+returns-in_default-clause-lost g c = record { failures = inl (tells_ok c.in_ok-found.ensures.failures ok_is_no_error); kept = λ honest. tt }

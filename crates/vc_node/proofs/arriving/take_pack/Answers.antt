@@ -1,4 +1,4 @@
-use Rattle.std.proofs.Common.{not, Err, refl, sym, ap, ◌∙◌, true≢false}
+use Rattle.std.proofs.Common.{not, Err, inl, refl, sym, ap, ◌∙◌, true≢false}
 use Rattle.std.proofs.lemmas.Result.{err_from_is_err_and}
 use Rattle.vc_exchange.proofs.QuarantinedLemmas.{keeps_beside_slot, others_same, others_slot, others_then}
 use Rattle.vc_exchange.specs.Moving.{told_in}
@@ -13,6 +13,8 @@ use Rattle.vc_node.proofs.KeepingLemmas.{good_same, good_then}
 use Rattle.vc_node.specs.Arriving.{stopped, whole}
 use Rattle.vc_node.specs.Awaited.{awaited_text}
 use Rattle.vc_node.specs.declared.clone_fault.CloneFault.TheVariants.{Unexpected}
+use Rattle.vc_message.proofs.SourceLaws.{ok_is_no_error, tells_error, tells_not, tells_ok}
+use Rattle.vc_node.proofs.LossLemmas.{loss_came, loss_dropped, loss_told, node_is_no_loss}
 use Rattle.vc_node.proofs.arriving.take_pack.Goals as goal
 
 -- ---- not awaited
@@ -128,3 +130,26 @@ returns-in_ok-drop_quarantine-in-Err-clause-wear g c =
     let calm = sym c.is_fault.ensures ∙ c.if-is_fault.false in
     writes_both c.in-Err.ensures.wear (refusal_no_device c.in-Err.fault calm)
     (writes_told c.in_ok-drop_quarantine-in-Err.ensures.wear (λ never. absurd (cc never)) (λ device. absurd (refusal_no_device c.in-Err.fault calm device)))
+
+-- ---- the reader's failures
+pub returns-in_err-skip_pack-clause-failures : goal.returns-in_err-skip_pack-clause-failures
+returns-in_err-skip_pack-clause-failures g c =
+    let p = err_from_is_err_and c.from_residual.result c.from_residual.ensures.1 in
+    rw (p.1, p.2) (inl (tells_error c.in_err-skip_pack.ensures.failures (loss_told c.in_err-skip_pack.field-0.0) (loss_came c.in_err-skip_pack.field-0.0)))
+
+pub returns-in_default-clause-failures : goal.returns-in_default-clause-failures
+returns-in_default-clause-failures g c = inl (tells_not c.in_ok-skip_pack.ensures.failures ok_is_no_error node_is_no_loss)
+
+pub returns-in-Ok-clause-failures : goal.returns-in-Ok-clause-failures
+returns-in-Ok-clause-failures g c = inl (tells_ok c.in-Ok.ensures.failures ok_is_no_error)
+
+pub returns-then-is_fault-clause-failures : goal.returns-then-is_fault-clause-failures
+returns-then-is_fault-clause-failures g c = inl (tells_error c.in-Err.ensures.failures (λ is. is) (λ is. is))
+
+pub returns-in_err-drop_quarantine-in-Err-clause-failures : goal.returns-in_err-drop_quarantine-in-Err-clause-failures
+returns-in_err-drop_quarantine-in-Err-clause-failures g c =
+    let p = err_from_is_err_and c.from_residual-in_err-drop_quarantine-in-Err.result c.from_residual-in_err-drop_quarantine-in-Err.ensures.1 in
+    rw (p.1, p.2) (loss_dropped c.in-Err.fault c.in_err-drop_quarantine-in-Err.field-0.0 c.in-Err.ensures.failures)
+
+pub returns-in_ok-drop_quarantine-in-Err-clause-failures : goal.returns-in_ok-drop_quarantine-in-Err-clause-failures
+returns-in_ok-drop_quarantine-in-Err-clause-failures g c = inl (tells_error c.in-Err.ensures.failures (λ is. is) (λ is. is))

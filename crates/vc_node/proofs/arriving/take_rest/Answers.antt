@@ -1,4 +1,4 @@
-use Rattle.std.proofs.Common.{Ok, Err, refl}
+use Rattle.std.proofs.Common.{Ok, Err, inl, refl}
 use Rattle.std.proofs.lemmas.Result.{err_from_is_err_and}
 use Rattle.vc_exchange.proofs.QuarantinedLemmas.{others_same}
 use Rattle.vc_files.proofs.FileMapLemmas.{outside_same}
@@ -14,6 +14,8 @@ use Rattle.vc_node.proofs.KeepingLemmas.{good_same}
 use Rattle.vc_node.specs.Arriving.{stopped, whole}
 use Rattle.vc_node.specs.Awaited.{awaited_text}
 use Rattle.vc_node.specs.declared.clone_fault.CloneFault.TheVariants.{Unexpected}
+use Rattle.vc_message.proofs.SourceLaws.{ok_is_no_error, tells_error, tells_none, tells_not}
+use Rattle.vc_node.proofs.LossLemmas.{loss_came, loss_told, node_is_no_loss}
 use Rattle.vc_node.proofs.arriving.take_rest.Goals as goal
 
 -- ---- a whole message
@@ -83,3 +85,23 @@ returns-in-Push-clause-wear g c = writes_none (λ device. device)
 -- ---- a pack
 pub returns-clause-comes : goal.returns-clause-comes
 returns-clause-comes g c = λ before so. c.take_pack.ensures.comes before c.in-Pack.field-0 (rw c.in-Pack.is at so)
+
+-- ---- the reader's failures
+pub returns-in_err-received-in-Message-clause-failures : goal.returns-in_err-received-in-Message-clause-failures
+returns-in_err-received-in-Message-clause-failures g c =
+    let p = err_from_is_err_and c.from_residual.result c.from_residual.ensures.1 in
+    rw (p.1, p.2) (inl (tells_none node_is_no_loss))
+
+pub returns-in-Message-clause-failures : goal.returns-in-Message-clause-failures
+returns-in-Message-clause-failures g c = inl (tells_none ok_is_no_error)
+
+pub returns-in_err-skip_push-in-Push-clause-failures : goal.returns-in_err-skip_push-in-Push-clause-failures
+returns-in_err-skip_push-in-Push-clause-failures g c =
+    let p = err_from_is_err_and c.from_residual-in_err-skip_push-in-Push.result c.from_residual-in_err-skip_push-in-Push.ensures.1 in
+    rw (p.1, p.2) (inl (tells_error c.in_err-skip_push-in-Push.ensures.failures (loss_told c.in_err-skip_push-in-Push.field-0.0) (loss_came c.in_err-skip_push-in-Push.field-0.0)))
+
+pub returns-in-Push-clause-failures : goal.returns-in-Push-clause-failures
+returns-in-Push-clause-failures g c = inl (tells_not c.in_ok-skip_push-in-Push.ensures.failures ok_is_no_error node_is_no_loss)
+
+pub returns-clause-failures : goal.returns-clause-failures
+returns-clause-failures g c = c.take_pack.ensures.failures

@@ -2,19 +2,20 @@ use Rattle.std.proofs.Common.{refl, rules}
 use Rattle.vc_pack.proofs.KeepsLemmas.{StandsIn-kept}
 use Rattle.vc_files.proofs.WearLemmas.{writes_none}
 use Rattle.vc_node.proofs.CleanLemmas.{clean_same}
-use Rattle.vc_node.proofs.ComingLemmas.{down_no_device, down_receives, known_receives, next_awaits, next_clean, next_cleared, next_lost, next_none, next_receives, next_wear}
+use Rattle.vc_node.proofs.ComingLemmas.{down_keeps, down_no_device, down_receives, known_receives, next_awaits, next_clean, next_cleared, next_lost, next_none, next_receives, next_wear}
 use Rattle.vc_node.specs.Awaited.{awaited_text}
+use Rattle.vc_node.proofs.LossLemmas.{loss_of_down, loss_of_same}
 use Rattle.vc_node.proofs.node.CloneNode.receive_from.Goals as goal
 
 -- ---- down
 pub returns-then-not-self-clause-receives : goal.returns-then-not-self-clause-receives
 returns-then-not-self-clause-receives g c =
-    down_receives g.F.Files.honest (g.R.Read.remaining c.args.reader.now) (g.R.Read.remaining c.skip_message.new.reader) (g.F.Files.content c.args.self.now.files) c.args.self.now.awaited c.skip_message.result c.refuse_down.result c.args.self.now.is_up
+    down_receives g.F.Files.honest (g.R.Source.remaining c.args.reader.now) (g.R.Source.remaining c.skip_message.new.reader) (g.F.Files.content c.args.self.now.files) c.args.self.now.awaited c.skip_message.result c.refuse_down.result c.args.self.now.is_up
     (search rules) c.refuse_down.ensures c.skip_message.ensures.message c.skip_message.ensures.end c.skip_message.ensures.fault
 
 pub returns-then-not-self-clause-known : goal.returns-then-not-self-clause-known
 returns-then-not-self-clause-known g c = λ m bytes rest is reads.
-    known_receives g.F.Files.honest (g.R.Read.remaining c.args.reader.now) (g.R.Read.remaining c.skip_message.new.reader) (g.F.Files.content c.args.self.now.files) (g.F.Files.content c.args.self.now.files) c.args.self.now.awaited c.args.self.now.awaited
+    known_receives g.F.Files.honest (g.R.Source.remaining c.args.reader.now) (g.R.Source.remaining c.skip_message.new.reader) (g.F.Files.content c.args.self.now.files) (g.F.Files.content c.args.self.now.files) c.args.self.now.awaited c.args.self.now.awaited
     c.args.self.now.is_up c.args.self.now.is_up c.refuse_down.result (returns-then-not-self-clause-receives g c) m bytes rest is reads
 
 pub returns-then-not-self-clause-clean : goal.returns-then-not-self-clause-clean
@@ -27,12 +28,12 @@ returns-then-not-self-clause-wear g c = writes_none (down_no_device c.skip_messa
 pub returns-clause-receives : goal.returns-clause-receives
 returns-clause-receives g c =
     rw (← c.self.view_is) (next_receives g.F.Files.content c.self.inside.files c.take_next-received.new.files c.settle_next.new.self.files (awaited_text c.self.inside.awaited) (awaited_text c.take_next-received.new.awaited) c.settle_next.new.self.awaited c.settle_next.new.self.is_up
-    c.take_next-received.result c.settle_next.result c.settle_next.ensures.received c.settle_next.ensures.files c.settle_next.ensures.awaits g.F.Files.honest (g.R.Read.remaining c.args.reader.now)
-    (g.R.Read.remaining c.take_next-received.new.reader) c.self.inside.is_up c.if-not-self.false (c.settle_next.ensures.up c.if-not-self.false) c.take_next-received.ensures.receives)
+    c.take_next-received.result c.settle_next.result c.settle_next.ensures.received c.settle_next.ensures.files c.settle_next.ensures.awaits g.F.Files.honest (g.R.Source.remaining c.args.reader.now)
+    (g.R.Source.remaining c.take_next-received.new.reader) c.self.inside.is_up c.if-not-self.false (c.settle_next.ensures.up c.if-not-self.false) c.take_next-received.ensures.receives)
 
 pub returns-clause-known : goal.returns-clause-known
 returns-clause-known g c = λ m bytes rest is reads.
-    known_receives g.F.Files.honest (g.R.Read.remaining c.args.reader.now) (g.R.Read.remaining c.take_next-received.new.reader) (g.F.Files.content c.args.self.now.files) (g.F.Files.content c.settle_next.new.self.files) c.args.self.now.awaited
+    known_receives g.F.Files.honest (g.R.Source.remaining c.args.reader.now) (g.R.Source.remaining c.take_next-received.new.reader) (g.F.Files.content c.args.self.now.files) (g.F.Files.content c.settle_next.new.self.files) c.args.self.now.awaited
     c.settle_next.new.self.awaited c.args.self.now.is_up c.settle_next.new.self.is_up c.settle_next.result (returns-clause-receives g c) m bytes rest is reads
 
 pub returns-clause-none : goal.returns-clause-none
@@ -42,9 +43,12 @@ returns-clause-none g c =
     (c.settle_next.ensures.up c.if-not-self.false) c.take_next-received.ensures.none)
 
 pub returns-clause-lost : goal.returns-clause-lost
-returns-clause-lost g c = λ honest.
-    rw (← c.self.view_is) (next_lost g.F.Files.content c.self.inside.files c.take_next-received.new.files c.settle_next.new.self.files (awaited_text c.self.inside.awaited) (awaited_text c.take_next-received.new.awaited) c.settle_next.new.self.awaited c.settle_next.new.self.is_up
-    c.take_next-received.result c.settle_next.result c.settle_next.ensures.received c.settle_next.ensures.files c.settle_next.ensures.awaits c.self.inside.is_up c.if-not-self.false (c.settle_next.ensures.up c.if-not-self.false) (c.take_next-received.ensures.lost honest))
+returns-clause-lost g c = record {
+  failures = loss_of_same _ _ c.settle_next.ensures.received c.take_next-received.ensures.lost.failures;
+  kept = λ honest.
+      rw (← c.self.view_is) (next_lost g.F.Files.content c.self.inside.files c.take_next-received.new.files c.settle_next.new.self.files (awaited_text c.self.inside.awaited) (awaited_text c.take_next-received.new.awaited) c.settle_next.new.self.awaited c.settle_next.new.self.is_up
+      c.take_next-received.result c.settle_next.result c.settle_next.ensures.received c.settle_next.ensures.files c.settle_next.ensures.awaits c.self.inside.is_up c.if-not-self.false (c.settle_next.ensures.up c.if-not-self.false) (c.take_next-received.ensures.lost.kept honest));
+}
 
 pub returns-clause-cleared : goal.returns-clause-cleared
 returns-clause-cleared g c = λ honest.
@@ -72,3 +76,9 @@ returns-clause-wear g c =
 
 pub invariant_of-self : goal.invariant_of-self
 invariant_of-self g c = λ honest. (StandsIn-kept _ _ c.self.inside.reached (c.take_next-received.ensures.good honest).objects (c.self.invariant honest).0, tt)
+
+pub returns-then-not-self-clause-lost : goal.returns-then-not-self-clause-lost
+returns-then-not-self-clause-lost g c = record {
+  failures = loss_of_down c.skip_message.result c.refuse_down.result c.refuse_down.ensures c.skip_message.ensures.failures;
+  kept = λ honest. down_keeps (g.F.Files.content c.args.self.now.files) c.args.self.now.awaited c.args.self.now.is_up c.refuse_down.result;
+}
