@@ -21,4 +21,5 @@ pub mod SteppingLaws
 pub mod TellingLemmas
 pub mod ArrivingLemmas
 pub mod ComingLemmas
+pub mod LossLemmas
 pub mod NextLemmas

@@ -20,7 +20,7 @@ use Rattle.vc_session.specs.Session.{SessionText}
 use Rattle.vc_shared.proofs.SteppingLaws.{down_answers}
 use Rattle.vc_shared.specs.AcceptFault.{TellsDevice, is_fault, up_after}
 use Rattle.vc_message.specs.Coming.{Came, IsCome, a_message, cut_short, lost, no_message, nothing_came}
-use Rattle.vc_shared.specs.Arriving.{AcceptsFrom, AcceptsUp, IsCallOf, IsKnown, IsTold, ToldAs, down_told}
+use Rattle.vc_shared.specs.Arriving.{AcceptsFrom, AcceptsUp, IsCallOf, IsKnown, IsTold, KeepsHeld, ToldAs, down_told}
 use Rattle.vc_shared.specs.Calls.{AcceptedAs, AnswersShared}
 use Rattle.vc_shared.specs.declared.accept_fault.AcceptFault.{AcceptFault}
 use Rattle.vc_shared.specs.declared.accept_fault.AcceptFault.TheVariants.{Node, ReadFailed}
@@ -50,6 +50,21 @@ module _ {D : Type 0} (content : D → FileMap) (old mid new : D) (slots mids af
           ap (λ (d : D). text d after is_up now) (files ∙ none.0) ∙ ap (λ (xs : List (Option SessionText)). text old xs is_up now) (same ∙ none.1) ∙ ap (λ (b : Bool). text old slots b now) (here ∙ sym was)
           ∙ ap (λ k. text old slots was_up k) still
       by (Err e) here none = tt
+
+  pub next_lost : (was_up : Bool) → was_up ≡ true → is_up ≡ up_after told → IfErr came (λ e. e ≡ ReadFailed → (b : Bool) → KeepsHeld (content old) (content mid) slots mids b b)
+      → IfErr told (λ e. e ≡ ReadFailed → KeepsHeld (content old) (content new) slots after was_up is_up)
+  next_lost was_up was up keeps =
+      subst (λ (d : D). IfErr told (λ e. e ≡ ReadFailed → KeepsHeld (content old) (content d) slots after was_up is_up)) (sym files)
+      (subst (λ (xs : List (Option SessionText)). IfErr told (λ e. e ≡ ReadFailed → KeepsHeld (content old) (content mid) slots xs was_up is_up)) (sym same)
+      (by told up (subst (λ (r : Result (Option Accepted) AcceptFault). IfErr r (λ e. e ≡ ReadFailed → (b : Bool) → KeepsHeld (content old) (content mid) slots mids b b)) (sym is) keeps)))
+    where
+      by : (r : Result (Option Accepted) AcceptFault) → is_up ≡ up_after r → IfErr r (λ e. e ≡ ReadFailed → (b : Bool) → KeepsHeld (content old) (content mid) slots mids b b)
+          → IfErr r (λ e. e ≡ ReadFailed → KeepsHeld (content old) (content mid) slots mids was_up is_up)
+      by (Ok found) here keeps = tt
+      by (Err (Node e)) here keeps = λ never. absurd (cc never)
+      by (Err ReadFailed) here keeps = λ which.
+          subst (λ (b : Bool). KeepsHeld (content old) (content mid) slots mids was_up b) (sym here)
+          (subst (λ (b : Bool). KeepsHeld (content old) (content mid) slots mids b true) (sym was) (keeps refl true))
 
 -- ---- a node that is down
 abbrev Skipped : Type 0
@@ -93,6 +108,11 @@ module _ (honest : Type 0) (before rest : Option (List ℕ)) (content : FileMap)
   down_accepts s result was_up was is some none fails =
       subst (λ (b : Bool). AcceptsFrom honest before rest content content slots slots b b result) (sym was)
       (subst Accepts (sym is) (down_by s some none fails))
+
+-- it keeps what was held
+pub down_keeps : (content : FileMap) (slots : List (Option SessionText)) (is_up : Bool) (result : Result (Option Accepted) AcceptFault) → IfErr result (λ e. e ≡ ReadFailed → KeepsHeld content content slots slots is_up is_up)
+down_keeps content slots is_up (Ok found) = tt
+down_keeps content slots is_up (Err e) = λ which n held. held
 
 pub down_no_device : (s : Skipped) (result : Result (Option Accepted) AcceptFault) → result ≡ down_told s → TellsDevice result → ⊥
 down_no_device s result is told = by s (subst (λ (r : Result (Option Accepted) AcceptFault). TellsDevice r) is told)

@@ -1,5 +1,5 @@
 -- A message that a reader brings to the shared node, taken as it comes: what came of it, and what the node makes of it.
-use Rattle.std.specs.Prelude.{◌≡◌, ◌≢◌, ◌⊎◌, ⊤, ℕ, Bool, true, false, List, [], Option, Some, None, Result, Ok, Err}
+use Rattle.std.specs.Prelude.{◌≡◌, ◌≢◌, ◌⊎◌, ⊤, ℕ, Bool, true, false, List, [], Option, Some, None, Result, Ok, Err, IfErr, IsErrOf}
 use Rattle.vc_files.specs.FileMap.{FileMap}
 use Rattle.vc_files.specs.declared.faults.Fault.{Fault as FilesFault}
 use Rattle.vc_files.specs.declared.faults.Fault.TheVariants.{Memory}
@@ -17,7 +17,7 @@ use Rattle.vc_model.specs.Question.Question.{Unread as AsksUnread}
 use Rattle.vc_model.specs.Shared.{SharedNode}
 use Rattle.vc_model.specs.SharedCall.{SharedCall}
 use Rattle.vc_model.specs.SharedCall.SharedCall.{Accept, Asks, Open}
-use Rattle.vc_node.specs.Arriving.{FirstRead}
+use Rattle.vc_node.specs.Arriving.{FirstRead, TellsLoss}
 use Rattle.vc_node.specs.declared.fault.NodeFault.TheVariants.{Down}
 use Rattle.vc_object.specs.declared.fault.ObjectFault.{ObjectFault}
 use Rattle.vc_pkt.specs.ObjectStream.{between}
@@ -39,6 +39,12 @@ use Rattle.vc_shared.specs.declared.accepting.Accepted.{Accepted}
 use Rattle.vc_shared.specs.declared.accepting.Accepted.TheVariants.{Slot}
 use Rattle.vc_shared.specs.declared.fault.SharedFault.{SharedFault}
 use Rattle.vc_shared.specs.declared.fault.SharedFault.TheVariants as shared
+
+-- ---- a reader that fails
+-- what a call tells of a reader that fails, and what the node keeps then
+pub record KeepsAtLoss {S T : Type 0} (failed : S → ℕ) (can_fail : S → Type 0) (old new : S) (honest : Type 0) (result : Result T AcceptFault) (Kept : Type 0) : Type 0 where
+  pub failures : TellsLoss failed can_fail old new (IsErrOf result ReadFailed) (up_after result ≡ false)
+  pub kept : honest → IfErr result (λ e. e ≡ ReadFailed → Kept)
 
 -- ---- a push
 -- of a push with these commands what stands before its objects was taken, so many bytes and lines
@@ -82,6 +88,11 @@ OpensIn honest new content slots after k before = OpensFrom honest before new co
 pub data IsTurnedAway (before new : Option (List ℕ)) (slots : List (Option SessionText)) (e : AcceptFault) : Type 0 where
   stopped : IsStopped before new e → IsTurnedAway before new slots e
   busy : (push : PushText) → TakesAll before new (a_push push) → AreTaken slots → e ≡ Node shared.Busy → IsTurnedAway before new slots e
+
+-- so it is of a reader that had any bytes before it, and what is told of one that fails
+pub record RefusesPush {S : Type 0} (remaining : S → Option (List ℕ)) (failed : S → ℕ) (can_fail : S → Type 0) (old new : S) (taken : Taken) (commands : List CommandText) (slots : List (Option SessionText)) (result : Result ℕ AcceptFault) : Type 0 where
+  pub failures : TellsLoss failed can_fail old new (IsErrOf result ReadFailed) (up_after result ≡ false)
+  pub why : IfErr result (λ e. FromHead (remaining old) taken commands (λ before. IsTurnedAway before (remaining new) slots e))
 
 -- after a refusal nothing stands in the quarantine of the lowest free slot
 abbrev pub IsCleared : FileMap → List (Option SessionText) → AcceptFault → Type 0

@@ -1,13 +1,14 @@
 //! A message that a reader brings to the shared node, whose objects go into the quarantine as they come.
-ghost use Rattle.std.specs.Prelude.{◌≡◌, ◌≤◌, Bool, IfOk, IfErr, IfNone, OnErr, OnOk};
+ghost use Rattle.std.specs.Prelude.{◌≡◌, ◌<◌, Bool, IfOk, IfErr, IfNone, IsErrOf, OnErr, OnOk};
 ghost use Rattle.vc_files.specs.FileMap.{SameOutside};
 ghost use Rattle.vc_files.specs.Failures.{Writes};
+ghost use Rattle.vc_message.specs.Source.{TellsFailures};
 ghost use Rattle.vc_push.specs.PushView.{commands_of};
 ghost use Rattle.vc_session.specs.Clean.{IsQuarantineClean, MakesNoneBad};
 ghost use Rattle.vc_session.specs.Quarantine.{quarantine_folder};
 ghost use Rattle.vc_session.specs.Session.{IsSession};
 ghost use Rattle.vc_shared.specs.AcceptFault.{TellsDevice};
-ghost use Rattle.vc_shared.specs.Arriving.{AcceptsUp, ArrivesIn, FromHead, IsCleared, IsStopped, IsTurnedAway, KeepsHeld, OpensIn, down_told, message_told, slot_told};
+ghost use Rattle.vc_shared.specs.Arriving.{AcceptsUp, ArrivesIn, FromHead, IsCleared, IsStopped, KeepsAtLoss, KeepsHeld, OpensIn, RefusesPush, down_told, message_told, slot_told};
 ghost use Rattle.vc_shared.specs.Holding.{KeepsGood};
 ghost use Rattle.vc_shared.specs.Pushing.{AreTellableInOne, ChangesFree};
 ghost use Rattle.vc_shared.specs.Slots.{AreTellable};
@@ -18,16 +19,17 @@ use crate::accepting::{self, Accepted};
 use crate::fault::SharedFault;
 use crate::pushing::lowest_free;
 use std::alloc::Global;
-use std::io::Read;
 use vc_files::{Fault, Files};
-use vc_message::{Head, IncomingFault, Taken, next_object, read_head, skip_pack, skip_push};
+use vc_message::{
+    Head, IncomingFault, Source, Taken, next_object, read_head, skip_pack, skip_push,
+};
 use vc_node::NodeFault;
 use vc_push::Command;
 use vc_session::{Arriving, PushSession, drop_quarantine};
 
 // The push that comes into this slot, once all of it has come. Where it doesn't, some of what it carries may be left in the slot's
 // quarantine. After a body at fault the rest is read, and nothing is put there.
-fn arrive<F: Files, R: Read>(
+fn arrive<F: Files, R: Source>(
     alloc: Global,
     files: &mut F,
     slot: u8,
@@ -35,15 +37,15 @@ fn arrive<F: Files, R: Read>(
     mut taken: Taken,
     commands: Vec<Command>,
 ) -> Result<PushSession, AcceptFault>
-    requires few { taken.lines ≤ taken.bytes }
+    requires few { taken.lines < taken.bytes }
     ensures arrived { IfOk result (λ s. FromHead (R.remaining reader.old) taken (commands_of commands.items) (ArrivesIn F.honest (R.remaining reader.new) (F.content files.new) slot s)) }
-    ensures commands { IfOk result (λ s. s.commands ≡ commands_of commands.items) }
-    ensures session { IfOk result IsSession }
+    ensures session { IfOk result (λ s. IsSession s × (s.commands ≡ commands_of commands.items)) }
     ensures clean { F.honest → OnOk result (IsQuarantineClean (F.content files.new) slot) }
     ensures stopped { IfErr result (λ e. FromHead (R.remaining reader.old) taken (commands_of commands.items) (λ before. IsStopped before (R.remaining reader.new) e)) }
     ensures outside { F.honest → SameOutside (quarantine_folder slot) (F.content files.old) (F.content files.new) }
     ensures bad { F.honest → MakesNoneBad (F.content files.old) (F.content files.new) }
     ensures wear { Writes F.honest F.content F.failed F.can_fail F.left files.old files.new (TellsDevice result) }
+    ensures failures { TellsFailures R.failed R.can_fail reader.old reader.new (IsErrOf result ReadFailed) }
 {
     let mut arriving = Arriving::begin(files, alloc, slot)?;
     'objects: loop {
@@ -58,7 +60,7 @@ fn arrive<F: Files, R: Read>(
 /// Takes the objects of a push from the reader, of which what stands before them was taken, and opens it in the lowest free slot,
 /// which is told, once all of it has come. 110 where a push is open in each of the eight: then it is read to its end, and nothing
 /// is put anywhere. After a refusal nothing of it is left; after a fault some may be, in that slot's quarantine.
-pub(crate) fn take_push<F: Files, R: Read>(
+pub(crate) fn take_push<F: Files, R: Source>(
     alloc: Global,
     files: &mut F,
     slots: &mut [Option<PushSession>; 8],
@@ -66,13 +68,13 @@ pub(crate) fn take_push<F: Files, R: Read>(
     taken: Taken,
     commands: Vec<Command>,
 ) -> Result<u8, AcceptFault>
-    requires few { taken.lines ≤ taken.bytes }
+    requires few { taken.lines < taken.bytes }
     requires told { AreTellableInOne (commands_of commands.items) }
     requires tellable { AreTellable slots.old }
     ensures tellable { AreTellable slots.new }
     ensures opened { IfOk result (λ k. FromHead (R.remaining reader.old) taken (commands_of commands.items) (OpensIn F.honest (R.remaining reader.new) (F.content files.new) slots.old slots.new k)) }
     ensures unchanged { OnErr result (slots.new ≡ slots.old) }
-    ensures refused { IfErr result (λ e. FromHead (R.remaining reader.old) taken (commands_of commands.items) (λ before. IsTurnedAway before (R.remaining reader.new) slots.old e)) }
+    ensures refused { RefusesPush R.remaining R.failed R.can_fail reader.old reader.new taken (commands_of commands.items) slots.old result }
     ensures cleared { F.honest → IfErr result (IsCleared (F.content files.new) slots.old) }
     ensures outside { F.honest → ChangesFree (F.content files.old) (F.content files.new) slots.old }
     ensures good { F.honest → KeepsGood (F.content files.old) (F.content files.new) }
@@ -117,7 +119,7 @@ fn opened(slot: Result<u8, AcceptFault>) -> Result<Option<Accepted>, AcceptFault
 
 /// Takes the next message of the reader, and no byte behind it; none where the reader is at its end before the first byte. Only a
 /// list, a want and a push are for the shared node: any other message is read to its end all the same.
-pub(crate) fn take_next<F: Files, R: Read>(
+pub(crate) fn take_next<F: Files, R: Source>(
     alloc: Global,
     files: &mut F,
     slots: &mut [Option<PushSession>; 8],
@@ -128,7 +130,7 @@ pub(crate) fn take_next<F: Files, R: Read>(
     ensures accepts { AcceptsUp F.honest (R.remaining reader.old) (R.remaining reader.new) (F.content files.old) (F.content files.new) slots.old slots.new result }
     ensures none { IfOk result (λ found. IfNone found ((files.new ≡ files.old) × (slots.new ≡ slots.old))) }
     ensures unchanged { OnErr result (slots.new ≡ slots.old) }
-    ensures lost { F.honest → IfErr result (λ e. e ≡ ReadFailed → (is_up : Bool) → KeepsHeld (F.content files.old) (F.content files.new) slots.old slots.new is_up is_up) }
+    ensures lost { KeepsAtLoss R.failed R.can_fail reader.old reader.new F.honest result ((is_up : Bool) → KeepsHeld (F.content files.old) (F.content files.new) slots.old slots.new is_up is_up) }
     ensures good { F.honest → KeepsGood (F.content files.old) (F.content files.new) }
     ensures wear { Writes F.honest F.content F.failed F.can_fail F.left files.old files.new (TellsDevice result) }
 {

@@ -17,6 +17,7 @@ ghost use Rattle.vc_rev.specs.Grammar.{IsExpr};
 ghost use Rattle.vc_rev.specs.Views.{expr_view};
 ghost use Rattle.vc_shared.specs.AcceptFault.{TellsDevice as TellsAcceptDevice, is_fault as is_accept_fault, up_after as accept_up_after};
 ghost use Rattle.vc_shared.specs.Accepting.{IsRefusedBytes, IsToWrite};
+ghost use Rattle.vc_shared.specs.Arriving.{KeepsAtLoss};
 ghost use Rattle.vc_shared.specs.Calls.{AcceptedAs, SteppedAs};
 ghost use Rattle.vc_shared.specs.Faults.{TellsDevice, fault_answer, is_fault, up_after};
 ghost use Rattle.vc_shared.specs.Learning.{IsNothing};
@@ -28,11 +29,10 @@ ghost use Rattle.vc_shared.specs.Stepping.{IsRefusedIn};
 use crate::arriving::refuse_down;
 use crate::{AcceptFault, Accepted, SharedFault, Stepped, accepting, arriving, stepping};
 use std::alloc::Global;
-use std::io::Read;
 use std::marker::Model;
 use vc_files::{Files, FusedFiles};
 use vc_history::Generations;
-use vc_message::skip_message;
+use vc_message::{Source, skip_message};
 use vc_node::{NodeFault, open_files};
 use vc_object::ObjectId;
 use vc_rev::Expr;
@@ -266,11 +266,14 @@ impl<F: Files> Shared<F> {
     /// A message that is refused (90, 91, 110, 112) is read to its end. Bytes that are no message are refused with their first fault
     /// (80 to 84, or 3) as soon as it has come, and a reader that fails with 115. In none of these is anything changed: what was put
     /// into the quarantine is gone again. Want of memory takes the node down, as a device that fails does.
-    pub fn accept_from<R: Read>(&mut self, reader: &mut R) -> Result<Option<Accepted>, AcceptFault>
+    pub fn accept_from<R: Source>(
+        &mut self,
+        reader: &mut R,
+    ) -> Result<Option<Accepted>, AcceptFault>
         ensures accepts { AcceptsNext F.honest F.content (R.remaining reader.old) (R.remaining reader.new) self.old self.new result }
         ensures known { AnswersFirst F.honest F.content (R.remaining reader.old) (R.remaining reader.new) self.old self.new result }
         ensures none { IfOk result (λ found. IfNone found (self.new ≡ self.old)) }
-        ensures lost { F.honest → IfErr result (λ e. e ≡ AcceptFault.ReadFailed → KeepsNode F.content self.old self.new) }
+        ensures lost { KeepsAtLoss R.failed R.can_fail reader.old reader.new F.honest result (KeepsNode F.content self.old self.new) }
         ensures settles { SettlesTaken result (self.new ≡ self.old) (accept_up_after result) self.old self.new }
         ensures clean { F.honest → KeepsClean (F.content self.old.files) (F.content self.new.files) }
         ensures wear { Writes F.honest F.content F.failed F.can_fail F.left self.old.files self.new.files (TellsAcceptDevice result) }

@@ -16,6 +16,8 @@ use Rattle.vc_session.specs.Steps.{IsOpened}
 use Rattle.vc_message.proofs.ComingLaws.{part_taken}
 use Rattle.vc_shared.proofs.ArrivingLemmas.{no_device, stopped_by, writes_as}
 use Rattle.vc_shared.specs.Arriving.{by_node}
+use Rattle.vc_message.proofs.SourceLaws.{ok_is_no_error, tells_error, tells_none, tells_not, tells_ok, tells_then}
+use Rattle.vc_shared.proofs.LossLemmas.{loss_came, loss_told, node_is_no_loss}
 use Rattle.vc_shared.proofs.arriving.arrive.Goals as goal
 
 pub returns-in_err-arriving-clause-stopped : goal.returns-in_err-arriving-clause-stopped
@@ -37,6 +39,7 @@ objects-init g c =
       bad = λ honest. c.in_ok-arriving.ensures.bad honest;
       clean = λ honest. c.in_ok-arriving.ensures.clean honest;
       wear = writes_told c.in_ok-arriving.ensures.wear (λ never. absurd (cc never)) (λ never. absurd never);
+      failures = tells_none (λ none. none);
     }
 
 pub returns-in_err-found-clause-stopped : goal.returns-in_err-found-clause-stopped
@@ -67,6 +70,7 @@ objects-preserved g c =
       bad = λ honest. bad_then (c.objects.invariant.bad honest) (c.in_ok-take.ensures.bad honest);
       clean = λ honest. clean_after _ _ slot small (c.in_ok-take.ensures.bad honest) (c.objects.invariant.clean honest);
       wear = writes_both c.objects.invariant.wear (λ never. never) (writes_told c.in_ok-take.ensures.wear (λ never. absurd (cc never)) (λ never. absurd never));
+      failures = tells_not (tells_then c.objects.invariant.failures (λ none. none) c.in_ok-found.ensures.failures) ok_is_no_error (λ none. none);
     }
 
 pub objects-smaller : goal.objects-smaller
@@ -110,3 +114,26 @@ returns-in_err-take-clause-bad g c = λ honest. bad_then (c.objects.invariant.ba
 pub returns-in_err-take-clause-wear : goal.returns-in_err-take-clause-wear
 returns-in_err-take-clause-wear g c =
     writes_both c.objects.invariant.wear (λ never. never) (writes_as c.in_err-take.field-0.0 c.from_residual-in_err-take.result c.from_residual-in_err-take.ensures.1 c.in_err-take.ensures.wear)
+
+pub returns-in_err-arriving-clause-failures : goal.returns-in_err-arriving-clause-failures
+returns-in_err-arriving-clause-failures g c =
+    let p = err_from_is_err_and c.from_residual.result c.from_residual.ensures.1 in
+    rw (p.1, p.2) (tells_none node_is_no_loss)
+
+pub returns-in_err-found-clause-failures : goal.returns-in_err-found-clause-failures
+returns-in_err-found-clause-failures g c =
+    let p = err_from_is_err_and c.from_residual-in_err-found.result c.from_residual-in_err-found.ensures.1 in
+    rw (p.1, p.2) (tells_error (tells_then c.objects.invariant.failures (λ none. none) c.in_err-found.ensures.failures) (loss_told c.in_err-found.field-0.0) (loss_came c.in_err-found.field-0.0))
+
+pub returns-in_err-session-clause-failures : goal.returns-in_err-session-clause-failures
+returns-in_err-session-clause-failures g c =
+    let p = err_from_is_err_and c.from_residual-in_err-session.result c.from_residual-in_err-session.ensures.1 in
+    rw (p.1, p.2) (tells_not (tells_then c.objects.invariant.failures (λ none. none) c.in_ok-found.ensures.failures) ok_is_no_error node_is_no_loss)
+
+pub returns-in_default-clause-failures : goal.returns-in_default-clause-failures
+returns-in_default-clause-failures g c = tells_ok (tells_then c.objects.invariant.failures (λ none. none) c.in_ok-found.ensures.failures) ok_is_no_error
+
+pub returns-in_err-take-clause-failures : goal.returns-in_err-take-clause-failures
+returns-in_err-take-clause-failures g c =
+    let p = err_from_is_err_and c.from_residual-in_err-take.result c.from_residual-in_err-take.ensures.1 in
+    rw (p.1, p.2) (tells_not (tells_then c.objects.invariant.failures (λ none. none) c.in_ok-found.ensures.failures) ok_is_no_error node_is_no_loss)

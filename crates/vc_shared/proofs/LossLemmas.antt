@@ -1,0 +1,68 @@
+-- What the shared node tells of a reader that fails, call by call.
+use Rattle.std.proofs.Common.{◌≡◌, ℕ, false, Option, Some, None, Result, Ok, Err, inl, inr, refl, sym, ap, ◌∙◌, subst}
+use Rattle.std.specs.Prelude.{IsErrOf}
+use Rattle.vc_files.specs.declared.faults.Fault.{Fault as FilesFault}
+use Rattle.vc_message.proofs.SourceLaws.{memory_is_no_failure, ok_is_no_error, tells_as, tells_not, unread_is_no_failure}
+use Rattle.vc_message.specs.Source.{TellsFailures}
+use Rattle.vc_message.specs.declared.incoming_fault.IncomingFault.{IncomingFault}
+use Rattle.vc_message.specs.declared.incoming_fault.IncomingFault.TheVariants as incoming
+use Rattle.vc_node.proofs.LossLemmas.{loss_as}
+use Rattle.vc_node.specs.Arriving.{TellsLoss}
+use Rattle.vc_shared.specs.AcceptFault.{of_incoming, up_after}
+use Rattle.vc_shared.specs.Arriving.{down_told, message_told, slot_told}
+use Rattle.vc_shared.specs.Faults.{of_device}
+use Rattle.vc_shared.specs.declared.accept_fault.AcceptFault.{AcceptFault}
+use Rattle.vc_shared.specs.declared.accept_fault.AcceptFault.TheVariants.{Node, ReadFailed}
+use Rattle.vc_shared.specs.declared.accepting.Accepted.{Accepted}
+use Rattle.vc_shared.specs.declared.fault.SharedFault.{SharedFault}
+
+-- what the node tells by itself is no failure of the reader
+pub node_is_no_loss : {T : Type 0} {e : SharedFault} → ◌≡◌ {A = Result T AcceptFault} (Err (Node e)) (Err ReadFailed) → ⊥
+node_is_no_loss is = cc is
+
+-- nor is what it tells of a message that came whole
+pub message_is_no_loss : (t : Result Accepted SharedFault) (q : Result (Option Accepted) AcceptFault) → q ≡ message_told t → IsErrOf q ReadFailed → ⊥
+message_is_no_loss (Ok accepted) q is told = ok_is_no_error (sym is ∙ told)
+message_is_no_loss (Err e) q is told = node_is_no_loss (sym is ∙ told)
+
+-- a failure of the reader is told as that, and nothing else is
+pub loss_told : (e : IncomingFault) → e ≡ incoming.Failed → of_incoming e ≡ ReadFailed
+loss_told e is = ap of_incoming is
+
+pub loss_came : (e : IncomingFault) → of_incoming e ≡ ReadFailed → e ≡ incoming.Failed
+loss_came incoming.Memory is = absurd (cc is)
+loss_came incoming.Failed is = refl
+loss_came (incoming.Unread fault) is = absurd (cc is)
+
+module _ {S : Type 0} {failed : S → ℕ} {can_fail : S → Type 0} {old new : S} where
+  -- the files fail while the quarantine is emptied, whatever ended the message
+  pub loss_dropped : {T U : Type 0} (e : AcceptFault) (f : FilesFault) → TellsFailures failed can_fail old new (IsErrOf {T = T} (Err e) ReadFailed)
+      → TellsLoss failed can_fail old new (IsErrOf {T = U} (Err (Node (of_device f))) ReadFailed) (up_after {T = U} (Err (Node (of_device f))) ≡ false)
+  loss_dropped ReadFailed f call = inr (refl, tells_as call (λ told. tt) (λ told. refl))
+  loss_dropped (Node e) f call = inl (tells_not call node_is_no_loss node_is_no_loss)
+
+  -- a push that came is told by its slot
+  pub loss_of_slot : (r : Result ℕ AcceptFault) (q : Result (Option Accepted) AcceptFault) → q ≡ slot_told r → TellsLoss failed can_fail old new (IsErrOf r ReadFailed) (up_after r ≡ false)
+      → TellsLoss failed can_fail old new (IsErrOf q ReadFailed) (up_after q ≡ false)
+  loss_of_slot r q is call = subst (λ (t : Result (Option Accepted) AcceptFault). TellsLoss failed can_fail old new (IsErrOf t ReadFailed) (up_after t ≡ false)) (sym is) (by r call)
+    where
+      by : (r : Result ℕ AcceptFault) → TellsLoss failed can_fail old new (IsErrOf r ReadFailed) (up_after r ≡ false) → TellsLoss failed can_fail old new (IsErrOf (slot_told r) ReadFailed) (up_after (slot_told r) ≡ false)
+      by (Ok slot) call = loss_as call (λ told. absurd (ok_is_no_error told)) (λ told. absurd (ok_is_no_error told)) (λ fault. fault)
+      by (Err ReadFailed) call = loss_as call (λ told. refl) (λ told. refl) (λ fault. fault)
+      by (Err (Node e)) call = loss_as call (λ told. absurd (node_is_no_loss told)) (λ told. absurd (node_is_no_loss told)) (λ fault. fault)
+
+  -- a node that is down has read the message to its end
+  pub loss_of_down : (s : Result (Option (Unit {0})) IncomingFault) (q : Result (Option Accepted) AcceptFault) → q ≡ down_told s → TellsFailures failed can_fail old new (IsErrOf s incoming.Failed)
+      → TellsLoss failed can_fail old new (IsErrOf q ReadFailed) (up_after q ≡ false)
+  loss_of_down s q is call = subst (λ (t : Result (Option Accepted) AcceptFault). TellsLoss failed can_fail old new (IsErrOf t ReadFailed) (up_after t ≡ false)) (sym is) (inl (by s call))
+    where
+      by : (s : Result (Option (Unit {0})) IncomingFault) → TellsFailures failed can_fail old new (IsErrOf s incoming.Failed) → TellsFailures failed can_fail old new (IsErrOf (down_told s) ReadFailed)
+      by (Ok (Some u)) call = tells_not call ok_is_no_error node_is_no_loss
+      by (Ok None) call = tells_not call ok_is_no_error ok_is_no_error
+      by (Err incoming.Failed) call = tells_as call (λ told. refl) (λ told. refl)
+      by (Err incoming.Memory) call = tells_not call memory_is_no_failure node_is_no_loss
+      by (Err (incoming.Unread fault)) call = tells_not call unread_is_no_failure node_is_no_loss
+
+  -- what is told once the node has settled
+  pub loss_of_same : {T : Type 0} (r q : Result T AcceptFault) → q ≡ r → TellsLoss failed can_fail old new (IsErrOf r ReadFailed) (up_after r ≡ false) → TellsLoss failed can_fail old new (IsErrOf q ReadFailed) (up_after q ≡ false)
+  loss_of_same {T = T} r q is call = subst (λ (t : Result T AcceptFault). TellsLoss failed can_fail old new (IsErrOf t ReadFailed) (up_after t ≡ false)) (sym is) call
