@@ -105,6 +105,20 @@ module _ {W : Type 0} (contents : W → Option (List ℕ)) (old new : W) where
     | inr none ↦ absurd (none.1 (told_failed e result files.Device h is))
   ]
 
+  -- ---- a reader that failed
+  -- it is told as that
+  pub lost_to : (answered : Reply) (result : Result Served ServeFault) → TellsAnswer contents old new answered result → answered ≡ Err Lost → result ≡ Err ReadFailed
+  lost_to (Ok found) result h is = absurd (cc is)
+  lost_to (Err Lost) result h is = h.1
+  lost_to (Err (OfNode e)) result h is = absurd (cc is)
+
+  -- and nothing else is
+  pub lost_from : (answered : Reply) (result : Result Served ServeFault) → TellsAnswer contents old new answered result → result ≡ Err ReadFailed → answered ≡ Err Lost
+  lost_from (Ok (Some reply)) result h is = absurd (subst (λ (r : Result Served ServeFault). TellsAnswer contents old new (Ok (Some reply)) r) is h)
+  lost_from (Ok None) result h is = absurd (let never : ◌≡◌ {A = Result Served ServeFault} (Ok End) (Err ReadFailed) = sym h.1 ∙ is in cc never)
+  lost_from (Err Lost) result h is = refl
+  lost_from (Err (OfNode e)) result h is = absurd (subst (λ (r : Result Served ServeFault). TellsRefusal contents old new e r) is h)
+
   -- ---- the node after it
   up_by_answer : (e : SharedFault) → not (is_fault e) ≡ stays (fault_answer e)
   up_by_answer (Unread fault) = refl

@@ -12,12 +12,13 @@ ghost use Rattle.vc_server.specs.Refusals.{IsRefusedAnswer, IsRefusedOnTheWay};
 ghost use Rattle.vc_server.specs.Serving.{RepliesTo, StepsToEnd, report_of};
 ghost use Rattle.vc_shared.specs.AcceptFault.{TellsDevice as TellsAcceptDevice, up_after as accept_up_after};
 ghost use Rattle.vc_shared.specs.Faults.{TellsDevice, up_after};
+ghost use Rattle.vc_shared.specs.Arriving.{KeepsAtLoss};
 ghost use Rattle.vc_shared.specs.Node.{KeepsNode};
 ghost use Rattle.vc_shared.specs.Slots.{AreTellable};
 ghost use Rattle.vc_shared.specs.declared.fault.SharedFault.TheVariants.{Node};
 
-use std::io::Read;
 use vc_files::Files;
+use vc_message::Source;
 use vc_push::MAX_COMMANDS;
 use vc_shared::{AcceptFault, Accepted, Shared, SharedFault, Stepped};
 
@@ -91,14 +92,14 @@ pub fn answer<F: Files>(shared: &mut Shared<F>, bytes: &[u8]) -> Result<Vec<u8>,
 /// the bytes; none where the reader is at its end before the first byte. A message that is refused is read to its end, bytes that are
 /// none as far as their first fault, and a reader that fails is 115, which changes nothing. Of a push no more is held than its commands,
 /// one line and one object's body. Want of memory takes the node down, as a device that fails does.
-pub fn answer_from<F: Files, R: Read>(
+pub fn answer_from<F: Files, R: Source>(
     shared: &mut Shared<F>,
     reader: &mut R,
 ) -> Result<Option<Vec<u8>>, AcceptFault>
     ensures serves { ServesNext F.honest F.content (R.remaining reader.old) (R.remaining reader.new) shared.old shared.new result }
     ensures known { ServesFirst F.honest F.content (R.remaining reader.old) (R.remaining reader.new) shared.old shared.new result }
     ensures none { IfOk result (λ found. IfNone found (shared.new ≡ shared.old)) }
-    ensures lost { F.honest → IfErr result (λ e. e ≡ AcceptFault.ReadFailed → KeepsNode F.content shared.old shared.new) }
+    ensures lost { KeepsAtLoss R.failed R.can_fail reader.old reader.new F.honest result (KeepsNode F.content shared.old shared.new) }
     ensures down { shared.old.is_up ≡ false → shared.new ≡ shared.old }
     ensures up { shared.old.is_up ≡ true → shared.new.is_up ≡ accept_up_after result }
     ensures clean { F.honest → KeepsClean (F.content shared.old.files) (F.content shared.new.files) }

@@ -1,9 +1,12 @@
-use Rattle.std.proofs.Common.{Ok, Err, Option, subst}
+use Rattle.std.proofs.Common.{Ok, Err, Option, ap, subst, true≢false}
 use Rattle.std.proofs.lemmas.Result.{err_from_is_err_and}
 use Rattle.vc_files.proofs.WearLemmas.{writes_both}
 use Rattle.vc_shared.specs.Arriving.{AnswersKnown}
 use Rattle.vc_shared.specs.declared.accepting.Accepted.{Accepted}
 use Rattle.vc_server.proofs.ComingLemmas.{fault_known, fault_served, none_known, none_served, reply_known, reply_served, taken_up}
+use Rattle.vc_message.proofs.SourceLaws.{ok_is_no_error, same_error}
+use Rattle.vc_node.proofs.LossLemmas.{loss_as}
+use Rattle.vc_shared.proofs.LossLemmas.{node_is_no_loss}
 use Rattle.vc_server.proofs.answering.answer_from.Goals as goal
 
 -- ---- no message
@@ -25,8 +28,8 @@ returns-in_default-clause-known g c =
     let content = g.F.Files.content in
     let was = c.args.shared.now in
     let now = c.accept_from.new.self in
-    let before = g.R.Read.remaining c.args.reader.now in
-    let rest = g.R.Read.remaining c.accept_from.new.reader in
+    let before = g.R.Source.remaining c.args.reader.now in
+    let rest = g.R.Source.remaining c.accept_from.new.reader in
     none_known g.F.Files.honest before rest (content was.files) (content now.files) was.slots now.slots was.is_up now.is_up
     (subst (λ (found : Option Accepted). AnswersKnown g.F.Files.honest before rest (content was.files) (content now.files) was.slots now.slots was.is_up now.is_up (Ok found)) c.in_default.is c.in_ok-accepted.ensures.known)
 
@@ -47,8 +50,8 @@ returns-clause-known g c =
     let content = g.F.Files.content in
     let was = c.args.shared.now in
     let mid = c.accept_from.new.self in
-    let before = g.R.Read.remaining c.args.reader.now in
-    let rest = g.R.Read.remaining c.accept_from.new.reader in
+    let before = g.R.Source.remaining c.args.reader.now in
+    let rest = g.R.Source.remaining c.accept_from.new.reader in
     let accepts = rw c.in-Some.is at c.in_ok-accepted.ensures.accepts in
     reply_known _ _ _ _ _ _ _ _ _ _ _ _ c.in-Some.accepted (Ok c.in_ok-reply.reply) (c.in_ok-accepted.ensures.settles.up (taken_up _ accepts.came c.in-Some.accepted accepts.told)) c.in_ok-reply.ensures.replies
     (subst (λ (found : Option Accepted). AnswersKnown g.F.Files.honest before rest (content was.files) (content mid.files) was.slots mid.slots was.is_up mid.is_up (Ok found)) c.in-Some.is c.in_ok-accepted.ensures.known)
@@ -66,8 +69,8 @@ returns-in_err-reply-clause-known g c =
     let content = g.F.Files.content in
     let was = c.args.shared.now in
     let mid = c.accept_from.new.self in
-    let before = g.R.Read.remaining c.args.reader.now in
-    let rest = g.R.Read.remaining c.accept_from.new.reader in
+    let before = g.R.Source.remaining c.args.reader.now in
+    let rest = g.R.Source.remaining c.accept_from.new.reader in
     let p = err_from_is_err_and c.from_residual-in_err-reply.result c.from_residual-in_err-reply.ensures.1 in
     let accepts = rw c.in-Some.is at c.in_ok-accepted.ensures.accepts in
     rw (p.1, p.2)
@@ -75,9 +78,26 @@ returns-in_err-reply-clause-known g c =
     (subst (λ (found : Option Accepted). AnswersKnown g.F.Files.honest before rest (content was.files) (content mid.files) was.slots mid.slots was.is_up mid.is_up (Ok found)) c.in-Some.is c.in_ok-accepted.ensures.known))
 
 pub returns-in_err-reply-clause-lost : goal.returns-in_err-reply-clause-lost
-returns-in_err-reply-clause-lost g c = λ honest.
+returns-in_err-reply-clause-lost g c =
     let p = err_from_is_err_and c.from_residual-in_err-reply.result c.from_residual-in_err-reply.ensures.1 in
-    rw (p.1, p.2) (λ never. absurd (cc never))
+    rw (p.1, p.2) (record {
+      failures = loss_as c.in_ok-accepted.ensures.lost.failures (λ told. absurd (ok_is_no_error told)) (λ told. absurd (node_is_no_loss told)) (λ fault. absurd (true≢false fault));
+      kept = λ honest never. absurd (cc never);
+    })
+
+pub returns-in_err-accepted-clause-lost : goal.returns-in_err-accepted-clause-lost
+returns-in_err-accepted-clause-lost g c =
+    let p = err_from_is_err_and c.from_residual.result c.from_residual.ensures.1 in
+    rw (p.1, p.2) (record {
+      failures = loss_as c.in_err-accepted.ensures.lost.failures (λ told. ap Err (same_error told)) (λ told. ap Err (same_error told)) (λ fault. fault);
+      kept = c.in_err-accepted.ensures.lost.kept;
+    })
+
+pub returns-in_default-clause-lost : goal.returns-in_default-clause-lost
+returns-in_default-clause-lost g c = record { failures = loss_as c.in_ok-accepted.ensures.lost.failures (λ told. absurd (ok_is_no_error told)) (λ told. absurd (ok_is_no_error told)) (λ fault. fault); kept = λ honest. tt }
+
+pub returns-clause-lost : goal.returns-clause-lost
+returns-clause-lost g c = record { failures = loss_as c.in_ok-accepted.ensures.lost.failures (λ told. absurd (ok_is_no_error told)) (λ told. absurd (ok_is_no_error told)) (λ fault. fault); kept = λ honest. tt }
 
 pub returns-clause-wear : goal.returns-clause-wear
 returns-clause-wear g c = writes_both c.in_ok-accepted.ensures.wear (λ never. never) c.in_ok-reply.ensures.wear
