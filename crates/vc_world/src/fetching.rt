@@ -14,8 +14,8 @@ ghost use Rattle.vc_world.specs.Exchanging.{Begins, Brings, CatchesUp, HoldsClon
 
 use crate::losing::lose;
 use crate::{ExchangeEnd, Peer, Reply};
-use std::io::Read;
 use vc_files::{Fault, Files};
+use vc_message::Source;
 use vc_node::{CloneFault, CloneNode, NodeFault, ReceiveFault, Received};
 
 /// What came of a fetch.
@@ -37,7 +37,7 @@ enum Next<R> {
 }
 
 // The clone takes the message that is first of what the reader has. One that fails, or has none, is a device that failed.
-fn receive_from<F: Files, A: Read>(
+fn receive_from<F: Files, A: Source>(
     clone: &mut CloneNode<F>,
     reader: &mut A,
 ) -> Result<Received, CloneFault>
@@ -56,7 +56,7 @@ fn receive_from<F: Files, A: Read>(
 }
 
 // The clone takes the message that came back.
-fn receive<F: Files, A: Read + Drop>(
+fn receive<F: Files, A: Source + Drop>(
     clone: &mut CloneNode<F>,
     reply: Reply<A>,
 ) -> Result<Received, CloneFault>

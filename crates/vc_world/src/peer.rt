@@ -8,8 +8,7 @@ ghost use Rattle.vc_model.specs.Shared.{SharedNode};
 ghost use Rattle.vc_world.specs.Devices.{IsToRead};
 ghost use Rattle.vc_world.specs.Exchanging.{AnswersPeer};
 
-use std::io::Read;
-use vc_message::Message;
+use vc_message::{Message, Source};
 
 /// An answer: as bytes, read already, or still to be read.
 #[derive(Drop)]
@@ -28,7 +27,7 @@ pub trait Peer {
     type Refusal: Drop;
 
     /// What an answer that is long is read from.
-    type Answer: Read + Drop;
+    type Answer: Source + Drop;
 
     /// Whether it is a shared node. What stands at the other end of a connection may be none.
     ghost honest: { Type 0 };

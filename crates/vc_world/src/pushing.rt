@@ -13,10 +13,9 @@ ghost use Rattle.vc_world.specs.Pushing.{IsUnreadReport, TakesAnswer, report_in,
 use crate::losing::lose;
 use crate::{ExchangeEnd, Peer, Reply};
 use std::alloc::Global;
-use std::io::Read;
 use vc_exchange::PushItem;
 use vc_files::{Fault, Files};
-use vc_message::{IncomingFault, Message, read_message};
+use vc_message::{IncomingFault, Message, Source, read_message};
 use vc_node::{CloneFault, CloneNode, NodeFault, Received};
 use vc_pkt::PktError;
 use vc_push::Report;
@@ -128,7 +127,7 @@ fn take_message<F: Files, R: Drop>(
 }
 
 // The same of the message that is first of what the reader has. One that fails, or has none, is a device that failed.
-fn take_from<F: Files, A: Read, R: Drop>(
+fn take_from<F: Files, A: Source, R: Drop>(
     alloc: Global,
     clone: &mut CloneNode<F>,
     reader: &mut A,
@@ -149,7 +148,7 @@ fn take_from<F: Files, A: Read, R: Drop>(
 }
 
 // The clone takes what came back to its push, and it is the report that is answered.
-fn take_reply<F: Files, A: Read + Drop, R: Drop>(
+fn take_reply<F: Files, A: Source + Drop, R: Drop>(
     alloc: Global,
     clone: &mut CloneNode<F>,
     reply: Reply<A>,

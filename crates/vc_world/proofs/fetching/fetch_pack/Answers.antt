@@ -6,14 +6,14 @@ use Rattle.vc_world.proofs.fetching.fetch_pack.Goals as goal
 
 pub returns-in-Err : goal.returns-in-Err
 returns-in-Err g c = record {
-  rest = λ p f m reads. no_pack g.P.Peer.holds g.P.Peer.told g.P.Answer.Read.remaining g.F.Files.content m c.in-Err.refusal c.args.shared.now c.ask.new.self c.args.clone.now (c.in-Err.ensures.answers p m reads);
+  rest = λ p f m reads. no_pack g.P.Peer.holds g.P.Peer.told g.P.Answer.Source.remaining g.F.Files.content m c.in-Err.refusal c.args.shared.now c.ask.new.self c.args.clone.now (c.in-Err.ensures.answers p m reads);
   wear = none_lost (writes_none (λ never. never));
   peer_wear = c.in-Err.ensures.wear;
 }
 
 pub returns : goal.returns
 returns g c = record {
-  rest = λ p f m reads. pack_comes g.P.Peer.holds g.P.Peer.told g.P.Answer.Read.remaining g.F.Files.content m c.in-Ok.pack c.receive-received.result c.settle.result c.args.shared.now c.ask.new.self c.args.clone.now
+  rest = λ p f m reads. pack_comes g.P.Peer.holds g.P.Peer.told g.P.Answer.Source.remaining g.F.Files.content m c.in-Ok.pack c.receive-received.result c.settle.result c.args.shared.now c.ask.new.self c.args.clone.now
       c.receive-received.new.clone (c.in-Ok.ensures.answers p m reads) (c.receive-received.ensures.answers f) c.settle.ensures;
   wear = rw c.settle.ensures (lost_told c.receive-received.ensures.wear c.in-Ok.ensures.whole (settled_to _ c.receive-received.result) (settled_from _ c.receive-received.result));
   peer_wear = rw c.settle.ensures (looks_told c.in-Ok.ensures.wear (settled_own g.P.Peer.is_device c.receive-received.result));

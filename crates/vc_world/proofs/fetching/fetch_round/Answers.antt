@@ -7,14 +7,14 @@ use Rattle.vc_world.proofs.fetching.fetch_round.Goals as goal
 
 pub returns-in-Err : goal.returns-in-Err
 returns-in-Err g c = record {
-  round = λ p f. unstarted g.P.Peer.holds g.P.Peer.told g.P.Answer.Read.remaining g.F.Files.content c.args.shared.now c.in-Err.fault c.args.clone.now c.start_fetch.new.self (c.in-Err.ensures.answers f);
+  round = λ p f. unstarted g.P.Peer.holds g.P.Peer.told g.P.Answer.Source.remaining g.F.Files.content c.args.shared.now c.in-Err.fault c.args.clone.now c.start_fetch.new.self (c.in-Err.ensures.answers f);
   wear = none_lost (writes_from c.in-Err.ensures.same (writes_none (begins_calm c.in-Err.fault c.in-Err.ensures.refused)));
   peer_wear = looks_none (λ never. never);
 }
 
 pub returns-in-Err-ask : goal.returns-in-Err-ask
 returns-in-Err-ask g c = record {
-  round = λ p f. unanswered g.P.Peer.holds g.P.Peer.told g.P.Answer.Read.remaining g.F.Files.content c.in-Ok.list c.deref.result.now c.in-Err-ask.refusal c.args.shared.now c.ask.new.self c.args.clone.now c.start_fetch.new.self
+  round = λ p f. unanswered g.P.Peer.holds g.P.Peer.told g.P.Answer.Source.remaining g.F.Files.content c.in-Ok.list c.deref.result.now c.in-Err-ask.refusal c.args.shared.now c.ask.new.self c.args.clone.now c.start_fetch.new.self
       (c.in-Ok.ensures.answers f) c.deref.ensures.value (c.in-Err-ask.ensures.answers p);
   wear = none_lost (writes_from c.in-Ok.ensures.same (writes_none (λ never. never)));
   peer_wear = c.in-Err-ask.ensures.wear;
@@ -22,7 +22,7 @@ returns-in-Err-ask g c = record {
 
 pub returns-in-Ask : goal.returns-in-Ask
 returns-in-Ask g c = record {
-  round = λ p f. wanted g.P.Peer.holds g.P.Peer.told g.P.Answer.Read.remaining g.F.Files.content c.in-Ok.list c.in-Ok-ask.advert c.in-Ask.want c.deref.result.now c.deref-in-Ask.result.now c.receive-received.result c.fetch_pack.result
+  round = λ p f. wanted g.P.Peer.holds g.P.Peer.told g.P.Answer.Source.remaining g.F.Files.content c.in-Ok.list c.in-Ok-ask.advert c.in-Ask.want c.deref.result.now c.deref-in-Ask.result.now c.receive-received.result c.fetch_pack.result
       c.args.shared.now c.ask.new.self c.fetch_pack.new.shared c.args.clone.now c.start_fetch.new.self c.receive-received.new.clone c.fetch_pack.new.clone
       (c.in-Ok.ensures.answers f) c.deref.ensures.value (c.in-Ok-ask.ensures.answers p) (c.receive-received.ensures.answers f) (sym c.go_on.ensures ∙ c.in-Ask.is)
       c.deref-in-Ask.ensures.value (c.fetch_pack.ensures.rest p f);
@@ -34,7 +34,7 @@ pub returns : goal.returns
 returns g c =
     let so = ends_so g.P.Peer.is_device c.receive-received.result c.in-End.end (sym c.go_on.ensures ∙ c.in-End.is) in
     record {
-      round = λ p f. ended g.P.Peer.holds g.P.Peer.told g.P.Answer.Read.remaining g.F.Files.content c.in-Ok.list c.in-Ok-ask.advert c.deref.result.now c.receive-received.result c.in-End.end
+      round = λ p f. ended g.P.Peer.holds g.P.Peer.told g.P.Answer.Source.remaining g.F.Files.content c.in-Ok.list c.in-Ok-ask.advert c.deref.result.now c.receive-received.result c.in-End.end
           c.args.shared.now c.ask.new.self c.args.clone.now c.start_fetch.new.self c.receive-received.new.clone
           (c.in-Ok.ensures.answers f) c.deref.ensures.value (c.in-Ok-ask.ensures.answers p) (c.receive-received.ensures.answers f) (sym c.go_on.ensures ∙ c.in-End.is);
       wear = lost_from {new = c.receive-received.new.clone.files} c.in-Ok.ensures.same (lost_told {new = c.receive-received.new.clone.files} c.receive-received.ensures.wear c.in-Ok-ask.ensures.whole so.to so.from);

@@ -8,18 +8,18 @@ use Rattle.vc_world.proofs.fetching.receive.Goals as goal
 
 pub returns-in-Bytes : goal.returns-in-Bytes
 returns-in-Bytes g c = record {
-  answers = λ f m brings. c.receive.ensures.answers f m (subst (λ b. Reads b m) (sym c.deref.ensures.value) (subst (λ (r : Reply _). Brings g.A.Read.remaining r m) c.in-Bytes.is brings));
+  answers = λ f m brings. c.receive.ensures.answers f m (subst (λ b. Reads b m) (sym c.deref.ensures.value) (subst (λ (r : Reply _). Brings g.A.Source.remaining r m) c.in-Bytes.is brings));
   wear = none_lost c.receive.ensures.wear;
 }
 
 pub returns-in-Message : goal.returns-in-Message
 returns-in-Message g c = record {
-  answers = λ f m brings. c.receive_message.ensures.answers f m (subst (λ (r : Reply _). Brings g.A.Read.remaining r m) c.in-Message.is brings);
+  answers = λ f m brings. c.receive_message.ensures.answers f m (subst (λ (r : Reply _). Brings g.A.Source.remaining r m) c.in-Message.is brings);
   wear = none_lost c.receive_message.ensures.wear;
 }
 
 pub returns-in-Reader : goal.returns-in-Reader
 returns-in-Reader g c = record {
-  answers = λ f m brings. c.receive_from.ensures.answers f m (subst (λ (r : Reply _). Brings g.A.Read.remaining r m) c.in-Reader.is brings);
+  answers = λ f m brings. c.receive_from.ensures.answers f m (subst (λ (r : Reply _). Brings g.A.Source.remaining r m) c.in-Reader.is brings);
   wear = lost_told c.receive_from.ensures.wear (λ u. subst (λ (r : Reply _). IsToRead r) (sym c.in-Reader.is) tt) (λ told. told) (λ told. told);
 }

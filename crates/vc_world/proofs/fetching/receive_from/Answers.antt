@@ -17,7 +17,7 @@ returns-then-not-is_up g c = record {
 pub returns-in-Ok-Some : goal.returns-in-Ok-Some
 returns-in-Ok-Some g c = record {
   answers = λ f m begins.
-      taken_answers g.F.Files.honest c.args.clone.now.is_up c.receive_from.new.self.is_up m begins.1 (g.A.Read.remaining c.receive_from.new.reader) (g.F.Files.content c.args.clone.now.files) (g.F.Files.content c.receive_from.new.self.files)
+      taken_answers g.F.Files.honest c.args.clone.now.is_up c.receive_from.new.self.is_up m begins.1 (g.A.Source.remaining c.receive_from.new.reader) (g.F.Files.content c.args.clone.now.files) (g.F.Files.content c.receive_from.new.self.files)
       c.args.clone.now.awaited c.receive_from.new.self.awaited (Ok c.in-Ok-Some.field-0) c.in-Ok-Some.received (ap Ok c.in-Ok-Some.field-0-is) f (c.in-Ok-Some.ensures.known m begins.0 begins.1 begins.2 begins.3);
   wear = none_lost c.in-Ok-Some.ensures.wear;
 }
@@ -26,7 +26,7 @@ pub returns-in-Err-Node : goal.returns-in-Err-Node
 returns-in-Err-Node g c = record {
   answers = λ f m begins.
       let up : c.args.clone.now.is_up ≡ true = search rules in
-      refused_answers g.F.Files.honest c.args.clone.now.is_up c.receive_from.new.self.is_up m begins.1 (g.A.Read.remaining c.receive_from.new.reader) (g.F.Files.content c.args.clone.now.files) (g.F.Files.content c.receive_from.new.self.files)
+      refused_answers g.F.Files.honest c.args.clone.now.is_up c.receive_from.new.self.is_up m begins.1 (g.A.Source.remaining c.receive_from.new.reader) (g.F.Files.content c.args.clone.now.files) (g.F.Files.content c.receive_from.new.self.files)
       c.args.clone.now.awaited c.receive_from.new.self.awaited (Err c.in-Err-Node.field-0) c.in-Err-Node.fault (ap Err c.in-Err-Node.field-0-is) f up (c.in-Err-Node.ensures.known m begins.0 begins.1 begins.2 begins.3);
   wear = none_lost (subst (λ e. Writes g.F.Files.honest g.F.Files.content g.F.Files.failed g.F.Files.can_fail g.F.Files.left c.args.clone.now.files c.receive_from.new.self.files (IsOfDevice e)) c.in-Err-Node.field-0-is c.in-Err-Node.ensures.wear);
 }
@@ -35,7 +35,7 @@ pub returns-in-Ok-None : goal.returns-in-Ok-None
 returns-in-Ok-None g c = record {
   answers = λ f m begins.
       absurd
-      (some_came g.F.Files.honest c.args.clone.now.is_up c.receive_from.new.self.is_up m begins.1 (g.A.Read.remaining c.receive_from.new.reader) (g.F.Files.content c.args.clone.now.files) (g.F.Files.content c.receive_from.new.self.files)
+      (some_came g.F.Files.honest c.args.clone.now.is_up c.receive_from.new.self.is_up m begins.1 (g.A.Source.remaining c.receive_from.new.reader) (g.F.Files.content c.args.clone.now.files) (g.F.Files.content c.receive_from.new.self.files)
       c.args.clone.now.awaited c.receive_from.new.self.awaited (Ok c.in-Ok-None.field-0) (ap Ok c.in-Ok-None.field-0-is) (c.in-Ok-None.ensures.known m begins.0 begins.1 begins.2 begins.3));
   wear = lost_then c.in-Ok-None.ensures.wear (λ never. never) c.lose.ensures.same tt;
 }
@@ -45,7 +45,7 @@ returns-in-Err-ReadFailed g c = record {
   answers = λ f m begins.
       let up : c.args.clone.now.is_up ≡ true = search rules in
       let still : c.receive_from.new.self.is_up ≡ true = search rules in
-      answers_before (Receive m) (Err c.lose-in-Err-ReadFailed.result) _ _ _ _ _ _ _ _ _ (c.in-Err-ReadFailed.ensures.lost f c.in-Err-ReadFailed.field-0-is) (c.lose-in-Err-ReadFailed.ensures.answers f still m);
+      answers_before (Receive m) (Err c.lose-in-Err-ReadFailed.result) _ _ _ _ _ _ _ _ _ (c.in-Err-ReadFailed.ensures.lost.kept f c.in-Err-ReadFailed.field-0-is) (c.lose-in-Err-ReadFailed.ensures.answers f still m);
   wear =
       lost_then (subst (λ e. Writes g.F.Files.honest g.F.Files.content g.F.Files.failed g.F.Files.can_fail g.F.Files.left c.args.clone.now.files c.receive_from.new.self.files (IsOfDevice e)) c.in-Err-ReadFailed.field-0-is c.in-Err-ReadFailed.ensures.wear) (λ never. never)
       c.lose-in-Err-ReadFailed.ensures.same tt;

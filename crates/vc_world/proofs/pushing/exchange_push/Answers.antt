@@ -11,31 +11,31 @@ use Rattle.vc_world.proofs.pushing.exchange_push.Goals as goal
 
 pub returns-in-Err : goal.returns-in-Err
 returns-in-Err g c =
-    let leads = λ (p : g.P.Peer.honest) (f : g.F.Files.honest) (z : ¬ IsItemId (machine_items c.args.items.now) zero_id). not_sent g.P.Peer.holds g.P.Peer.told g.P.Answer.Read.remaining g.F.Files.content c.args.items.now c.args.shared.now c.in-Err.fault c.args.clone.now c.start_push.new.self (c.in-Err.ensures.answers f z) in
+    let leads = λ (p : g.P.Peer.honest) (f : g.F.Files.honest) (z : ¬ IsItemId (machine_items c.args.items.now) zero_id). not_sent g.P.Peer.holds g.P.Peer.told g.P.Answer.Source.remaining g.F.Files.content c.args.items.now c.args.shared.now c.in-Err.fault c.args.clone.now c.start_push.new.self (c.in-Err.ensures.answers f z) in
     record {
       pushed = leads;
-      done = λ p f z. pushes_one g.P.Peer.holds g.P.Peer.told g.P.Answer.Read.remaining g.F.Files.content c.args.items.now (Err (Clone c.in-Err.fault)) c.args.shared.now c.args.shared.now c.args.clone.now c.start_push.new.self (leads p f z);
+      done = λ p f z. pushes_one g.P.Peer.holds g.P.Peer.told g.P.Answer.Source.remaining g.F.Files.content c.args.items.now (Err (Clone c.in-Err.fault)) c.args.shared.now c.args.shared.now c.args.clone.now c.start_push.new.self (leads p f z);
       wear = none_lost (wears_writes c.in-Err.ensures.wear (λ h. c.in-Err.ensures.same));
       peer_wear = looks_none (λ never. never);
     }
 
 pub returns-in-Err-ask : goal.returns-in-Err-ask
 returns-in-Err-ask g c =
-    let leads = λ (p : g.P.Peer.honest) (f : g.F.Files.honest) (z : ¬ IsItemId (machine_items c.args.items.now) zero_id). not_answered g.P.Peer.holds g.P.Peer.told g.P.Answer.Read.remaining g.F.Files.content c.args.items.now c.in-Ok.push c.deref.result.now c.in-Err-ask.refusal c.args.shared.now c.ask.new.self c.args.clone.now c.start_push.new.self (c.in-Ok.ensures.answers f z) c.deref.ensures.value (c.in-Err-ask.ensures.answers p) in
+    let leads = λ (p : g.P.Peer.honest) (f : g.F.Files.honest) (z : ¬ IsItemId (machine_items c.args.items.now) zero_id). not_answered g.P.Peer.holds g.P.Peer.told g.P.Answer.Source.remaining g.F.Files.content c.args.items.now c.in-Ok.push c.deref.result.now c.in-Err-ask.refusal c.args.shared.now c.ask.new.self c.args.clone.now c.start_push.new.self (c.in-Ok.ensures.answers f z) c.deref.ensures.value (c.in-Err-ask.ensures.answers p) in
     record {
       pushed = leads;
-      done = λ p f z. pushes_one g.P.Peer.holds g.P.Peer.told g.P.Answer.Read.remaining g.F.Files.content c.args.items.now (Err (Shared c.in-Err-ask.refusal)) c.args.shared.now c.ask.new.self c.args.clone.now c.start_push.new.self (leads p f z);
+      done = λ p f z. pushes_one g.P.Peer.holds g.P.Peer.told g.P.Answer.Source.remaining g.F.Files.content c.args.items.now (Err (Shared c.in-Err-ask.refusal)) c.args.shared.now c.ask.new.self c.args.clone.now c.start_push.new.self (leads p f z);
       wear = none_lost (wears_writes c.in-Ok.ensures.wear (λ h. c.in-Ok.ensures.same));
       peer_wear = c.in-Err-ask.ensures.wear;
     }
 
 pub returns-clause-pushed : goal.returns-clause-pushed
 returns-clause-pushed g c p f z =
-    comes g.P.Peer.holds g.P.Peer.told g.P.Answer.Read.remaining g.F.Files.content c.args.items.now c.in-Ok.push c.deref.result.now c.in-Ok-ask.reply c.take_reply.result c.args.shared.now c.ask.new.self c.args.clone.now c.start_push.new.self c.take_reply.new.clone
+    comes g.P.Peer.holds g.P.Peer.told g.P.Answer.Source.remaining g.F.Files.content c.args.items.now c.in-Ok.push c.deref.result.now c.in-Ok-ask.reply c.take_reply.result c.args.shared.now c.ask.new.self c.args.clone.now c.start_push.new.self c.take_reply.new.clone
     (c.in-Ok.ensures.answers f z) c.deref.ensures.value (c.in-Ok-ask.ensures.answers p) (c.take_reply.ensures.takes f)
 
 pub returns-clause-done : goal.returns-clause-done
-returns-clause-done g c p f z = pushes_one g.P.Peer.holds g.P.Peer.told g.P.Answer.Read.remaining g.F.Files.content c.args.items.now c.take_reply.result c.args.shared.now c.ask.new.self c.args.clone.now c.take_reply.new.clone (returns-clause-pushed g c p f z)
+returns-clause-done g c p f z = pushes_one g.P.Peer.holds g.P.Peer.told g.P.Answer.Source.remaining g.F.Files.content c.args.items.now c.take_reply.result c.args.shared.now c.ask.new.self c.args.clone.now c.take_reply.new.clone (returns-clause-pushed g c p f z)
 
 pub returns-clause-wear : goal.returns-clause-wear
 returns-clause-wear g c = then_lost (wears_writes c.in-Ok.ensures.wear (λ h. c.in-Ok.ensures.same)) (lost_told c.take_reply.ensures.wear c.in-Ok-ask.ensures.whole (λ told. told) (λ told. told))

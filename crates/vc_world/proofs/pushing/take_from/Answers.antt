@@ -22,7 +22,7 @@ returns-then-not-is_up g c = record {
 pub returns-in-Ok-Some : goal.returns-in-Ok-Some
 returns-in-Ok-Some g c = record {
   takes = λ f m begins.
-      let gives = subst (λ found. GivesMessage m begins.1 (g.A.Read.remaining c.read_message.new.reader) (Ok found)) c.in-Ok-Some.field-0-is (c.in-Ok-Some.ensures.known m begins.0 begins.1 begins.2 begins.3) in
+      let gives = subst (λ found. GivesMessage m begins.1 (g.A.Source.remaining c.read_message.new.reader) (Ok found)) c.in-Ok-Some.field-0-is (c.in-Ok-Some.ensures.known m begins.0 begins.1 begins.2 begins.3) in
       c.take_message.ensures.takes f m gives.0;
   wear = none_lost c.take_message.ensures.wear;
   own = c.take_message.ensures.own;

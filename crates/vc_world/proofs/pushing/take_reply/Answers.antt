@@ -8,21 +8,21 @@ use Rattle.vc_world.proofs.pushing.take_reply.Goals as goal
 
 pub returns-in-Bytes : goal.returns-in-Bytes
 returns-in-Bytes g c = record {
-  takes = λ f m brings. c.take_bytes.ensures.takes f m (subst (λ b. Reads b m) (sym c.deref.ensures.value) (subst (λ (r : Reply _). Brings g.A.Read.remaining r m) c.in-Bytes.is brings));
+  takes = λ f m brings. c.take_bytes.ensures.takes f m (subst (λ b. Reads b m) (sym c.deref.ensures.value) (subst (λ (r : Reply _). Brings g.A.Source.remaining r m) c.in-Bytes.is brings));
   wear = none_lost c.take_bytes.ensures.wear;
   own = c.take_bytes.ensures.own;
 }
 
 pub returns-in-Message : goal.returns-in-Message
 returns-in-Message g c = record {
-  takes = λ f m brings. c.take_message.ensures.takes f m (subst (λ (r : Reply _). Brings g.A.Read.remaining r m) c.in-Message.is brings);
+  takes = λ f m brings. c.take_message.ensures.takes f m (subst (λ (r : Reply _). Brings g.A.Source.remaining r m) c.in-Message.is brings);
   wear = none_lost c.take_message.ensures.wear;
   own = c.take_message.ensures.own;
 }
 
 pub returns-in-Reader : goal.returns-in-Reader
 returns-in-Reader g c = record {
-  takes = λ f m brings. c.take_from.ensures.takes f m (subst (λ (r : Reply _). Brings g.A.Read.remaining r m) c.in-Reader.is brings);
+  takes = λ f m brings. c.take_from.ensures.takes f m (subst (λ (r : Reply _). Brings g.A.Source.remaining r m) c.in-Reader.is brings);
   wear = lost_told c.take_from.ensures.wear (λ u. subst (λ (r : Reply _). IsToRead r) (sym c.in-Reader.is) tt) (λ told. told) (λ told. told);
   own = c.take_from.ensures.own;
 }
