@@ -1,6 +1,6 @@
 //! Rows about messages that are taken object by object.
 
-ghost use Rattle.std.specs.Prelude.{◌≤◌};
+ghost use Rattle.std.specs.Prelude.{◌<◌};
 
 use crate::messages::{Telling, push_found, push_object};
 use crate::pushes::push_command;
@@ -10,7 +10,9 @@ use std::alloc::{AllocError, Global};
 use std::collections::BTreeMap;
 use std::fmt::Write;
 use std::io::Read;
-use vc_message::{AnyReader, Head, IncomingFault, Taken, next_object, read_head, skip_message};
+use vc_message::{
+    AnyReader, Fallible, Head, IncomingFault, Source, Taken, next_object, read_head, skip_message,
+};
 
 // Why nothing more comes. Want of memory ends the row.
 fn push_fault(out: &mut String, fault: IncomingFault) -> Result<(), AllocError> {
@@ -41,14 +43,14 @@ fn push_head(out: &mut String, head: &Head) -> Result<(), AllocError> {
 
 // Tells ` | `, the number of its first line and `kind:body` for each object that comes, and why no more come, unless they have
 // ended. Whether they have.
-fn push_rest<R: Read>(
+fn push_rest<R: Source>(
     out: &mut String,
     alloc: Global,
     reader: &mut R,
     taken: Taken,
     most: usize,
 ) -> Result<bool, AllocError>
-    requires few { taken.lines ≤ taken.bytes }
+    requires few { taken.lines < taken.bytes }
 {
     let mut taken = taken;
     'objects: for _ in 0..=most {
@@ -69,7 +71,7 @@ fn push_rest<R: Read>(
 }
 
 // The next message, or why none comes. Whether it came whole.
-fn push_next<R: Read>(
+fn push_next<R: Source>(
     out: &mut String,
     alloc: Global,
     reader: &mut R,
@@ -95,7 +97,7 @@ fn push_next<R: Read>(
 }
 
 // The messages that the reader gives, `;` behind each, and why no more come.
-fn told<R: Read>(alloc: Global, reader: &mut R, most: usize) -> Result<String, AllocError> {
+fn told<R: Source>(alloc: Global, reader: &mut R, most: usize) -> Result<String, AllocError> {
     let mut out = String::new(alloc);
     for _ in 0..=most {
         if !push_next(&mut out, alloc, reader, most)? {
@@ -113,17 +115,17 @@ pub fn pieces(out: &mut String, alloc: Global, text: &str) -> Result<(), AllocEr
     let mut whole_reader = bytes.as_slice();
     let whole = told(alloc, &mut whole_reader, bytes.len())?;
     out.push_str(whole.as_str())?;
-    let mut dripping = Dripping {
+    let mut dripping = Fallible::new(Dripping {
         rest: &bytes,
         is_ready: false,
-    };
+    });
     let other = told(alloc, &mut dripping, bytes.len())?;
     if other.as_str() != whole.as_str() {
         write!(out, ", but byte by byte {other}")?;
     }
     for place in 0..bytes.len() {
         let front = &bytes[..place];
-        let mut reader = front.chain(&bytes[place..]);
+        let mut reader = Fallible::new(front.chain(&bytes[place..]));
         let other = told(alloc, &mut reader, bytes.len())?;
         if other.as_str() != whole.as_str() {
             write!(out, ", but cut at {place} {other}")?;
@@ -135,10 +137,10 @@ pub fn pieces(out: &mut String, alloc: Global, text: &str) -> Result<(), AllocEr
 /// Passes over the first message of a reader that gives the bytes one by one: the messages behind it, or why it has no end.
 pub fn skip(out: &mut String, alloc: Global, text: &str) -> Result<(), AllocError> {
     let bytes = spelled(alloc, text)?;
-    let mut reader = Dripping {
+    let mut reader = Fallible::new(Dripping {
         rest: &bytes,
         is_ready: false,
-    };
+    });
     match skip_message(alloc, &mut reader) {
         Ok(Some(_)) => out.push_str(told(alloc, &mut reader, bytes.len())?.as_str()),
         Ok(None) => out.push_str("none"),
@@ -167,7 +169,7 @@ pub fn fronts(out: &mut String, alloc: Global, text: &str) -> Result<(), AllocEr
         let mut ending = &bytes[..place];
         let cut = told(alloc, &mut ending, place)?;
         count_last(alloc, &mut ends, cut.as_str())?;
-        let mut failing = (&bytes[..place]).chain(Failing);
+        let mut failing = Fallible::new((&bytes[..place]).chain(Failing));
         let broken = told(alloc, &mut failing, place)?;
         count_last(alloc, &mut ends, broken.as_str())?;
     }

@@ -1,6 +1,6 @@
 //! Rows about pushes, many at once, from the moment that they are taken to their reports.
 
-ghost use Rattle.std.specs.Prelude.{◌≤◌};
+ghost use Rattle.std.specs.Prelude.{◌<◌};
 
 use crate::messages::Telling;
 use crate::pushes;
@@ -8,10 +8,9 @@ use crate::spelling::{ids_of, push_bytes, push_id, push_ids, spelled};
 use std::alloc::{AllocError, Global};
 use std::collections::BTreeMap;
 use std::fmt::Write;
-use std::io::Read;
 use vc_files::{Fault, Files, MemoryFiles};
 use vc_history::Generations;
-use vc_message::{Head, Taken, next_object, read_head};
+use vc_message::{Head, Source, Taken, next_object, read_head};
 use vc_push::{Command, Push, ReportReader};
 use vc_refs::Refs;
 use vc_session::{Arriving, PushSession, SessionFault, Stepped};
@@ -101,7 +100,7 @@ pub fn open_push(
 
 // The objects that come, each put where it belongs, and how many files stand in quarantine behind each. Whether all came, or why
 // not.
-fn take_objects<R: Read>(
+fn take_objects<R: Source>(
     out: &mut String,
     alloc: Global,
     files: &mut MemoryFiles,
@@ -109,7 +108,7 @@ fn take_objects<R: Read>(
     taken: Taken,
     arriving: &mut Arriving,
 ) -> Result<bool, AllocError>
-    requires few { taken.lines ≤ taken.bytes }
+    requires few { taken.lines < taken.bytes }
 {
     let mut taken = taken;
     'objects: for _ in 0..1000u32 {
@@ -141,7 +140,7 @@ fn arrived(
     taken: Taken,
     commands: Vec<Command>,
 ) -> Result<Option<PushSession>, AllocError>
-    requires few { taken.lines ≤ taken.bytes }
+    requires few { taken.lines < taken.bytes }
 {
     let mut reader = rest;
     let mut arriving = match Arriving::begin(files, alloc, slot) {

@@ -5,7 +5,7 @@ use crate::spelling::{push_bytes, spelled};
 use std::alloc::{AllocError, Global};
 use std::fmt::Write;
 use std::io::{self, ErrorKind, Read};
-use vc_message::{AnyReader, IncomingFault, Message, read_message};
+use vc_message::{AnyReader, Fallible, IncomingFault, Message, read_message};
 
 /// A reader that gives one byte at a time, after a read that is interrupted.
 #[derive(Drop)]
@@ -79,12 +79,14 @@ fn push_taken(
 fn told<R: Read>(alloc: Global, reader: &mut R, most: usize) -> Result<String, AllocError> {
     let mut out = String::new(alloc);
     for _ in 0..=most {
-        let mut kept = Kept {
+        let mut kept = Fallible::new(Kept {
             reader: &mut *reader,
             given: Vec::new(alloc),
-        };
-        match read_message(alloc, &mut kept) {
-            Ok(Some(message)) => push_taken(&mut out, alloc, &kept.given, &message)?,
+        });
+        let read = read_message(alloc, &mut kept);
+        let given = kept.into_inner().given;
+        match read {
+            Ok(Some(message)) => push_taken(&mut out, alloc, &given, &message)?,
             Ok(None) => {
                 out.push_str("end")?;
                 return Ok(out);

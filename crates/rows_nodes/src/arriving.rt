@@ -9,6 +9,7 @@ use std::alloc::{AllocError, Global};
 use std::fmt::Write;
 use std::io::{self, ErrorKind, Read};
 use vc_files::Files;
+use vc_message::{Fallible, Source};
 use vc_node::{CloneFault, CloneNode, ReceiveFault, Received};
 use vc_shared::{AcceptFault, Accepted, Shared, SharedFault};
 
@@ -26,7 +27,7 @@ impl<'a> Read for Dripping<'a> {
             return Err(io::Error::from(ErrorKind::Interrupted));
         }
         let most = buffer.len().min(1);
-        self.rest.read(&mut buffer[..most])
+        Read::read(&mut self.rest, &mut buffer[..most])
     }
 }
 
@@ -44,7 +45,7 @@ impl Read for Failing {
 pub trait Receiver {
     /// Takes the next message of the reader, tells what came of it, and keeps what is sent. Whether the reader stands at the end of
     /// a message then: where it failed, its bytes were no message, or the node failed, it is not said where it stands.
-    fn take_next<R: Read>(
+    fn take_next<R: Source>(
         &mut self,
         out: &mut String,
         sent: &mut Vec<Vec<u8>>,
@@ -53,7 +54,7 @@ pub trait Receiver {
 }
 
 impl<F: Files> Receiver for Shared<F> {
-    fn take_next<R: Read>(
+    fn take_next<R: Source>(
         &mut self,
         out: &mut String,
         sent: &mut Vec<Vec<u8>>,
@@ -67,7 +68,7 @@ impl<F: Files> Receiver for Shared<F> {
 }
 
 impl<F: Files> Receiver for CloneNode<F> {
-    fn take_next<R: Read>(
+    fn take_next<R: Source>(
         &mut self,
         out: &mut String,
         sent: &mut Vec<Vec<u8>>,
@@ -127,7 +128,7 @@ fn is_after_received(found: &Result<Option<Received>, ReceiveFault>) -> bool {
 }
 
 // The messages of the reader, one behind another, and what comes of each.
-fn take_all<N: Receiver, R: Read>(
+fn take_all<N: Receiver, R: Source>(
     out: &mut String,
     sent: &mut Vec<Vec<u8>>,
     node: &mut N,
@@ -167,15 +168,15 @@ pub fn take_from<N: Receiver>(
         }
         "drip" => {
             let bytes = Vec::unescape_bytes(alloc, text)?;
-            let mut reader = Dripping {
+            let mut reader = Fallible::new(Dripping {
                 rest: &bytes,
                 is_ready: false,
-            };
+            });
             take_all(out, sent, node, &mut reader)
         }
         "fail" => {
             let bytes = front(alloc, text)?;
-            let mut reader = bytes.as_slice().chain(Failing);
+            let mut reader = Fallible::new(bytes.as_slice().chain(Failing));
             take_all(out, sent, node, &mut reader)
         }
         "end" => {
@@ -196,17 +197,21 @@ pub fn take_first<N: Receiver>(
 ) -> Result<(), AllocError> {
     let (way, text) = text.split_once(' ').unwrap_or((text, ""));
     let bytes = Vec::unescape_bytes(alloc, text)?;
-    let mut reader = Dripping {
-        rest: &bytes,
-        is_ready: false,
-    };
+    let mut rest = bytes.as_slice();
     match way {
-        "whole" => node.take_next(out, sent, &mut reader.rest)?,
-        "drip" => node.take_next(out, sent, &mut reader)?,
+        "whole" => {
+            node.take_next(out, sent, &mut rest)?;
+        }
+        "drip" => {
+            let is_ready = false;
+            let mut reader = Fallible::new(Dripping { rest, is_ready });
+            node.take_next(out, sent, &mut reader)?;
+            rest = reader.into_inner().rest;
+        }
         _ => return out.push_str("no such reader"),
     };
     out.push_str(" | ")?;
-    push_bytes(out, reader.rest)
+    push_bytes(out, rest)
 }
 
 /// The messages that a reader brings to the shared node.

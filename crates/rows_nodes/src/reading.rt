@@ -7,7 +7,7 @@ use crate::site::Device;
 use std::alloc::Global;
 use std::io::Cursor;
 use vc_files::Fault;
-use vc_message::Message;
+use vc_message::{Fallible, Message};
 use vc_node::NodeFault;
 use vc_server::answer;
 use vc_shared::{Shared, SharedFault};
@@ -34,7 +34,7 @@ pub struct Reading {
 impl Peer for Reading {
     type Refusal = SharedFault;
 
-    type Answer = Cursor<Vec<u8>>;
+    type Answer = Fallible<Cursor<Vec<u8>>>;
 
     // It stands for the other end of a connection, of which nothing is claimed.
     ghost honest = { ⊥ };
@@ -51,10 +51,10 @@ impl Peer for Reading {
 
     ghost loses = { ⊤ };
 
-    fn ask(&mut self, bytes: &[u8]) -> Result<Reply<Cursor<Vec<u8>>>, SharedFault> {
+    fn ask(&mut self, bytes: &[u8]) -> Result<Reply<Fallible<Cursor<Vec<u8>>>>, SharedFault> {
         let answered = answer(&mut self.shared, bytes)?;
         if let Coming::Unread = self.coming {
-            return Ok(Reply::Reader(Cursor::new(answered)));
+            return Ok(Reply::Reader(Fallible::new(Cursor::new(answered))));
         }
         match Message::read(self.alloc, &answered) {
             Ok(message) => Ok(Reply::Message(message)),

@@ -5,7 +5,7 @@ use std::io::{self, BufReader, ErrorKind, Read, Write};
 use std::mem;
 use std::net::{Net, OpenListener, OpenStream};
 use vc_files::MemoryFiles;
-use vc_message::read_message;
+use vc_message::{Fallible, read_message};
 use vc_remote::{answer_from, bind, make_shared};
 use vc_server::tell;
 use vc_shared::AcceptFault;
@@ -66,12 +66,12 @@ impl<R: Net + AllocGlobal> Connection<R> {
         if tell(alloc, self.server.get_mut(), &answered).is_err() {
             return Err(broken());
         }
-        let mut kept = Kept {
+        let mut kept = Fallible::new(Kept {
             reader: &mut self.client,
             given: Vec::new(alloc),
-        };
+        });
         match read_message(alloc, &mut kept) {
-            Ok(Some(_)) => Ok(kept.given),
+            Ok(Some(_)) => Ok(kept.into_inner().given),
             _ => Err(broken()),
         }
     }
@@ -79,7 +79,8 @@ impl<R: Net + AllocGlobal> Connection<R> {
     // What the node answers to the next message that comes.
     fn answer(&mut self, alloc: Global) -> Result<Option<Vec<u8>>, AcceptFault> {
         let files = mem::replace(&mut self.files, MemoryFiles::new(alloc));
-        let (files, answered) = answer_from(alloc, files, &mut self.server);
+        let mut server = Fallible::new(&mut self.server);
+        let (files, answered) = answer_from(alloc, files, &mut server);
         self.files = files;
         answered
     }

@@ -12,8 +12,8 @@ ghost use Rattle.vc_remote.specs.Answering.{AnswersCame, AnswersRead, HoldsOpene
 ghost use Rattle.vc_shared.specs.AcceptFault.{TellsDevice};
 
 use std::alloc::Global;
-use std::io::Read;
 use vc_files::Files;
+use vc_message::Source;
 use vc_node::NodeFault;
 use vc_shared::{AcceptFault, Shared, SharedFault};
 
@@ -34,7 +34,7 @@ pub fn make_shared<F: Files>(alloc: Global, files: F) -> (F, Result<(), NodeFaul
 /// Takes the next message of the reader at the shared node that the files hold, with no push open before it and none after it, and
 /// answers with the bytes of the reply; none where the reader is at its end before the first byte. The files are handed back, and can
 /// be opened as the node that it is then. Where they are no shared node's, nothing is taken of the reader.
-pub fn answer_from<F: Files, R: Read>(
+pub fn answer_from<F: Files, R: Source>(
     alloc: Global,
     files: F,
     reader: &mut R,

@@ -16,7 +16,7 @@ use std::net::{Net, OpenStream};
 use std::rt;
 use vc_files::Fault;
 use vc_folder::FolderLock;
-use vc_message::{Message, read_message, skip_message};
+use vc_message::{Fallible, Message, read_message, skip_message};
 use vc_world::{Peer, Reply};
 
 // How many bytes of an answer are kept in memory at most: an object with the longest body, and a mebibyte beside it. A longer answer
@@ -143,9 +143,9 @@ where
     S: Read + Drop,
 {
     let spool = Spool::new(rt, store, SHORT)?;
-    let mut copying = Copying { stream, spool };
+    let mut copying = Fallible::new(Copying { stream, spool });
     let skipped = skip_message(rt.alloc(), &mut copying);
-    let answer = copying.spool.finish()?;
+    let answer = copying.into_inner().spool.finish()?;
     match skipped? {
         Some(_) => Ok(Some(answer)),
         None => Ok(None),
@@ -161,10 +161,13 @@ fn refusal_in(alloc: Global, answer: Spooled<File>) -> RemoteFault {
 }
 
 // The answer, read where it is short; or what the server said where it refused, which is always short.
-fn read(alloc: Global, answer: Spooled<File>) -> Result<Reply<Spooled<File>>, RemoteFault> {
+fn read(
+    alloc: Global,
+    answer: Spooled<File>,
+) -> Result<Reply<Fallible<Spooled<File>>>, RemoteFault> {
     let mut short = match answer {
-        Spooled::Memory(short) => short,
-        long => return Ok(Reply::Reader(long)),
+        Spooled::Memory(short) => Fallible::new(short),
+        long => return Ok(Reply::Reader(Fallible::new(long))),
     };
     match read_message(alloc, &mut short)? {
         Some(Message::Error(error)) => Err(RemoteFault::Refused(error.text)),
@@ -180,7 +183,7 @@ where
 {
     type Refusal = RemoteFault;
 
-    type Answer = Spooled<File>;
+    type Answer = Fallible<Spooled<File>>;
 
     // What stands at the other end of a connection may be no shared node, so nothing is claimed of it.
     ghost honest = { ⊥ };
@@ -198,7 +201,7 @@ where
 
     ghost loses = { ⊤ };
 
-    fn ask(&mut self, bytes: &[u8]) -> Result<Reply<Spooled<File>>, RemoteFault> {
+    fn ask(&mut self, bytes: &[u8]) -> Result<Reply<Fallible<Spooled<File>>>, RemoteFault> {
         self.lock = None;
         let answered = self.exchange(bytes);
         self.lock = Some(FolderLock::take(&self.rt, self.store.as_str())?);

@@ -11,7 +11,7 @@ use std::rt;
 use std::thread::Threads;
 use vc_files::Fault;
 use vc_folder::{FolderFiles, FolderLock};
-use vc_message::{IncomingFault, skip_message};
+use vc_message::{Fallible, IncomingFault, skip_message};
 use vc_server::{ServeFault, Served, tell};
 use vc_shared::AcceptFault;
 
@@ -119,9 +119,9 @@ where
     R: rt::Files<File = File> + Net + AllocGlobal + Clone + Drop,
 {
     let spool = Spool::new(rt, store, SHORT)?;
-    let mut copying = Copying { stream, spool };
+    let mut copying = Fallible::new(Copying { stream, spool });
     let skipped = skip_message(rt.alloc(), &mut copying);
-    let spooled = match copying.spool.finish() {
+    let spooled = match copying.into_inner().spool.finish() {
         Ok(spooled) => spooled,
         Err(fault) => return Err(ServeFault::Fault(fault)),
     };
@@ -148,7 +148,7 @@ fn has_come(skipped: Result<Option<()>, IncomingFault>) -> Result<bool, ServeFau
 fn answer_in<R>(
     rt: &R,
     store: &str,
-    mut message: Spooled<File>,
+    message: Spooled<File>,
 ) -> Result<Result<Option<Vec<u8>>, AcceptFault>, Fault>
 where
     R: rt::Files<File = File> + Threads + AllocGlobal + Clone + Drop,
@@ -157,6 +157,7 @@ where
     let _lock = FolderLock::take(rt, store)?;
     let root = String::from_str(alloc, store)?;
     let files = FolderFiles::new(rt.clone()?, root);
+    let mut message = Fallible::new(message);
     let (mut files, answered) = answer_from(alloc, files, &mut message);
     files.sync(alloc)?;
     match answered {
