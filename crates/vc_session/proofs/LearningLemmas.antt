@@ -24,7 +24,7 @@ use Rattle.vc_push.specs.PushView.{command_of, commands_of}
 use Rattle.vc_push.specs.declared.command.Command.{Command}
 use Rattle.vc_store.specs.Store.{IsDamaged, objects}
 use Rattle.vc_store.specs.declared.faults.StoreFault.TheVariants as store
-use Rattle.vc_session.specs.Learning.{IsLearnt, IsOfWhole, tip_of, tips_of}
+use Rattle.vc_session.specs.Learning.{IsLearnt, IsOfWhole, KeepsNumbers, tip_of, tips_of}
 use Rattle.vc_session.specs.declared.stage.Verdict.{Verdict}
 
 module _ (content : FileMap) where
@@ -33,6 +33,14 @@ module _ (content : FileMap) where
 
   pub learnt_none : (known : Generations) → IsLearnt content [] known known
   learnt_none known x n = (inl, λ either. ⊎_elim (λ is. is) (λ of. let never : Contains [] of.tip = of.is_tip in absurd (omega (arith, never.1))) either)
+
+  -- nothing that was known is lost
+  pub learnt_kept : (tips : List ObjectId) (known now : Generations) → IsLearnt content tips known now → KeepsNumbers known now
+  learnt_kept tips known now learnt x n is = (learnt x n).1 (inl is)
+
+  pub learnt_kept_then : (tips : List ObjectId) (known between now : Generations) → IsLearnt content tips known between
+      → ((x : ObjectId) → numbers now x ≡ numbers between x) → KeepsNumbers known now
+  learnt_kept_then tips known between now learnt same x n is = same x ∙ learnt_kept tips known between learnt x n is
 
   -- of a history that is whole all is learnt
   pub learnt_whole : (tip : ObjectId) (known now : Generations) → IsClosed (parents_in (objects content)) tip

@@ -1,9 +1,11 @@
 //! What is learnt of the generations of commits, at which a later check of a branch with their history can stop.
-ghost use Rattle.std.specs.Prelude.{◌≡◌, ◌++◌, ◌∷◌, [], length, IsErrOf, OnOk};
+ghost use Rattle.std.specs.Prelude.{◌≡◌, ◌++◌, ◌∷◌, [], length, IsErrOf, OnErr, OnOk};
+ghost use Rattle.vc_history.specs.Numbering.{numbers};
 ghost use Rattle.vc_history.specs.Stored.{AgreesIn};
 ghost use Rattle.vc_files.specs.Failures.{Wears};
+ghost use Rattle.vc_object.specs.declared.id.ObjectId.{ObjectId as Id};
 ghost use Rattle.vc_push.specs.PushView.{command_of, commands_of};
-ghost use Rattle.vc_session.specs.Learning.{IsLearnt, tip_of, tips_of};
+ghost use Rattle.vc_session.specs.Learning.{IsLearnt, KeepsNumbers, tip_of, tips_of};
 
 use crate::stage::Verdict;
 use std::alloc::{AllocError, Global};
@@ -23,6 +25,7 @@ fn learn_history<F: Files>(
 ) -> Result<(), Fault>
     ensures agrees { F.honest → AgreesIn (F.content files.old) generations.old → AgreesIn (F.content files.old) generations.new }
     ensures learnt { F.honest → AgreesIn (F.content files.old) generations.old → OnOk result (IsLearnt (F.content files.old) (tip.now ∷ []) generations.old generations.new) }
+    ensures err { OnErr result ((id : Id) → numbers generations.new id ≡ numbers generations.old id) }
     ensures same { F.content files.new ≡ F.content files.old }
     ensures wear { Wears F.failed F.can_fail F.left files.old files.new (IsErrOf result Fault.Device) }
 {
@@ -42,8 +45,10 @@ fn learn_history<F: Files>(
     }
 }
 
-/// The same of some commits.
-pub(crate) fn learn_all<F: Files>(
+/// Learns the generations of these commits and of all below them, so that a later check of a branch with their history stops at
+/// them. Of a commit whose history is not all stored, or is damaged, nothing is learnt, and that is no refusal here. What was known
+/// before stays known; after an error some of the commits may have been learnt.
+pub fn learn_all<F: Files>(
     files: &mut F,
     alloc: Global,
     tips: &[ObjectId],
@@ -51,6 +56,7 @@ pub(crate) fn learn_all<F: Files>(
 ) -> Result<(), Fault>
     ensures agrees { F.honest → AgreesIn (F.content files.old) generations.old → AgreesIn (F.content files.old) generations.new }
     ensures learnt { F.honest → AgreesIn (F.content files.old) generations.old → OnOk result (IsLearnt (F.content files.old) tips.now generations.old generations.new) }
+    ensures kept { F.honest → AgreesIn (F.content files.old) generations.old → KeepsNumbers generations.old generations.new }
     ensures same { F.content files.new ≡ F.content files.old }
     ensures wear { Wears F.failed F.can_fail F.left files.old files.new (IsErrOf result Fault.Device) }
 {

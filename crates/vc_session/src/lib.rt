@@ -21,6 +21,7 @@ pub use arrival::Arriving;
 pub use fault::SessionFault;
 pub use judging::{is_legal, judge};
 pub use known::Known;
+pub use learning::learn_all;
 pub use migrating::migrate;
 pub use quarantine::{drop_quarantine, find_in_quarantine, put_in_quarantine};
 pub use seen::PushObjects;

@@ -10,9 +10,9 @@ use Rattle.vc_node.specs.Machine.{Spells}
 use Rattle.vc_node.specs.Shown.{shown}
 use Rattle.vc_rules.specs.OpenPushes.{HoldsPush}
 use Rattle.vc_session.specs.Clean.{IsQuarantineClean, MakesNoneBad}
+use Rattle.vc_session.specs.Learning.{Learnt}
 use Rattle.vc_session.specs.Quarantine.{IsDropped}
 use Rattle.vc_session.specs.Session.{SessionText}
-use Rattle.vc_shared.specs.Learning.{Learnt}
 use Rattle.vc_shared.specs.Slots.{slot_of}
 
 -- what a shared node is made of

@@ -10,14 +10,14 @@ use Rattle.vc_node.specs.declared.fault.NodeFault.TheVariants.{Down}
 use Rattle.vc_object.specs.declared.id.ObjectId.{ObjectId}
 use Rattle.vc_push.specs.Push.{CommandText}
 use Rattle.vc_session.specs.Clean.{MakesNoneBad}
-use Rattle.vc_session.specs.Learning.{IsOfWhole}
+use Rattle.vc_session.specs.Learning.{IsOfWhole, Learnt}
 use Rattle.vc_session.specs.Session.{SessionText}
 use Rattle.vc_session.specs.declared.stage.Stage.TheVariants.{Done, Unpacked}
 use Rattle.vc_session.specs.declared.stage.Verdict.TheVariants.{Accepted}
 use Rattle.vc_shared.specs.Calls.{AnswersShared, SteppedAs}
 use Rattle.vc_shared.specs.Faults.{is_fault, up_after}
 use Rattle.vc_shared.specs.Holding.{HoldsShared}
-use Rattle.vc_shared.specs.Learning.{Learnt, LearnsIn}
+use Rattle.vc_shared.specs.Learning.{LearnsIn}
 use Rattle.vc_shared.specs.Slots.{AreTellable, slot_of}
 use Rattle.vc_shared.specs.Stepping.{EndsSlotEarly, IsHeldThere, IsRefusedIn, StepsSlot}
 use Rattle.vc_shared.specs.declared.fault.SharedFault.{SharedFault}

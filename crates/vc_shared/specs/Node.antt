@@ -6,11 +6,12 @@ use Rattle.vc_model.specs.Node.{Answer}
 use Rattle.std.specs.FinMap.{empty}
 use Rattle.vc_model.specs.Repository.{Repository}
 use Rattle.vc_model.specs.SharedCall.{SharedCall}
+use Rattle.vc_session.specs.Learning.{IsNothing}
 use Rattle.vc_session.specs.Session.{SessionText}
 use Rattle.vc_shared.specs.Arriving.{AcceptsFrom, AnswersKnown, KeepsHeld}
 use Rattle.vc_shared.specs.Calls.{AnswersShared}
 use Rattle.vc_shared.specs.Holding.{HoldsShared, SharedText}
-use Rattle.vc_shared.specs.Learning.{IsNothing, LearnsIn}
+use Rattle.vc_shared.specs.Learning.{LearnsIn}
 use Rattle.vc_shared.specs.Slots.{AreTellable, free_slots, slot_of}
 use Rattle.vc_shared.specs.Stepping.{IsHeldThere, MayWriteIn, StepsSlot}
 use Rattle.vc_shared.specs.declared.accept_fault.AcceptFault.{AcceptFault}

@@ -15,12 +15,12 @@ ghost use Rattle.vc_refs.specs.Packing.{HasLoose, IsPackedFrom};
 ghost use Rattle.vc_repository.specs.Resolving.{DenotesIn};
 ghost use Rattle.vc_rev.specs.Grammar.{IsExpr};
 ghost use Rattle.vc_rev.specs.Views.{expr_view};
+ghost use Rattle.vc_session.specs.Learning.{IsNothing};
 ghost use Rattle.vc_shared.specs.AcceptFault.{TellsDevice as TellsAcceptDevice, is_fault as is_accept_fault, up_after as accept_up_after};
 ghost use Rattle.vc_shared.specs.Accepting.{IsRefusedBytes, IsToWrite};
 ghost use Rattle.vc_shared.specs.Arriving.{KeepsAtLoss};
 ghost use Rattle.vc_shared.specs.Calls.{AcceptedAs, SteppedAs};
 ghost use Rattle.vc_shared.specs.Faults.{TellsDevice, fault_answer, is_fault, up_after};
-ghost use Rattle.vc_shared.specs.Learning.{IsNothing};
 ghost use Rattle.vc_shared.specs.Node.{AcceptsNext, AnswersCall, AnswersFirst, HoldsIn, HoldsOpened, IsFresh, KeepsNode, LearnsAtStep, MayStep, Settles, SettlesStep, SettlesTaken, StepsIn};
 ghost use Rattle.vc_shared.specs.Resolving.{IsRefusedValue};
 ghost use Rattle.vc_shared.specs.Slots.{AreTellable, slot_of};
@@ -57,8 +57,8 @@ impl<F: Files> Model for Shared<F> {
     ghost use Rattle.std.specs.Coded.{codes};
     ghost use Rattle.vc_history.specs.Stored.{AgreesIn};
     ghost use Rattle.vc_history.specs.contracts.generations.Generations as known;
+    ghost use Rattle.vc_session.specs.Learning.{learnt_in};
     ghost use Rattle.vc_shared.specs.Holding.{SharedText};
-    ghost use Rattle.vc_shared.specs.Learning.{learnt_in};
     ghost use Rattle.vc_shared.specs.Slots.{AreTellable};
 
     ghost Value = { SharedText F };

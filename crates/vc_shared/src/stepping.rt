@@ -2,8 +2,8 @@
 ghost use Rattle.std.specs.Prelude.{◌≡◌, ◌<◌, IfOk, IfErr, OnErr, Err, None, Some, false, length, slice_set};
 ghost use Rattle.vc_history.specs.Stored.{AgreesIn};
 ghost use Rattle.vc_files.specs.Failures.{Wears, Writes};
+ghost use Rattle.vc_session.specs.Learning.{learnt_in};
 ghost use Rattle.vc_shared.specs.Faults.{TellsDevice, is_fault, up_after};
-ghost use Rattle.vc_shared.specs.Learning.{learnt_in};
 ghost use Rattle.vc_shared.specs.Slots.{AreTellable, AreToldInOne, slot_of};
 ghost use Rattle.vc_shared.specs.Stepping.{EndsSlotEarly, HasShortReport, IsEnd, IsHeldThere, IsRefusedIn, MayStepOr, StepsPush, StepsSlot, StepsWell, Tells, left_in};
 

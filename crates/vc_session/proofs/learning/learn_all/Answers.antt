@@ -1,8 +1,8 @@
-use Rattle.std.proofs.Common.{List, [], get_or, rules, subst, ◌∙◌}
+use Rattle.std.proofs.Common.{List, [], get_or, rules, subst, take, ◌∙◌}
 use Rattle.std.proofs.lemmas.List.{take_all}
 use Rattle.std.proofs.lemmas.Option.{slice_get-get_or}
 use Rattle.vc_object.specs.declared.id.ObjectId.{ObjectId}
-use Rattle.vc_session.proofs.LearningLemmas.{learnt_next, learnt_none}
+use Rattle.vc_session.proofs.LearningLemmas.{learnt_kept, learnt_kept_then, learnt_next, learnt_none}
 use Rattle.vc_session.specs.Learning.{IsLearnt}
 use Rattle.vc_session.proofs.learning.learn_all.Goals as goal
 
@@ -30,6 +30,14 @@ loop-i-preserved g c =
           learnt_next content tips i tip c.args.generations.now c.loop-i.generations c.learn_history.new.generations (slice_get-get_or tips i none c.loop-i-test.true) (before.learnt honest agrees)
           ((rw before.same at (c.in_ok-learn_history.ensures.learnt honest)) (before.agrees honest agrees));
     }
+
+pub returns-in_err-learn_history-clause-kept : goal.returns-in_err-learn_history-clause-kept
+returns-in_err-learn_history-clause-kept g c = λ honest agrees.
+    learnt_kept_then (g.F.Files.content c.args.files.now) (take c.loop-i.i c.args.tips.now) c.args.generations.now c.loop-i.generations c.learn_history.new.generations (c.loop-i.invariant.learnt honest agrees) c.in_err-learn_history.ensures.err
+
+pub returns-clause-kept : goal.returns-clause-kept
+returns-clause-kept g c = λ honest agrees.
+    learnt_kept (g.F.Files.content c.args.files.now) (take c.loop-i.i c.args.tips.now) c.args.generations.now c.loop-i.generations (c.loop-i.invariant.learnt honest agrees)
 
 pub returns-clause-learnt : goal.returns-clause-learnt
 returns-clause-learnt g c = λ honest agrees.
