@@ -20,7 +20,7 @@ returns-clause-serves g c = λ honest r openable.
 
 pub returns-clause-lost : goal.returns-clause-lost
 returns-clause-lost g c = λ honest r openable.
-    rw c.close.ensures (kept_openable g.F.Files.content r c.answer_from-answered.result _ _ c.in-Ok.ensures.up (c.in-Ok.ensures.opens honest r openable) c.answer_from-answered.ensures.none (c.answer_from-answered.ensures.lost honest))
+    rw c.close.ensures (kept_openable g.F.Files.content r c.answer_from-answered.result _ _ c.in-Ok.ensures.up (c.in-Ok.ensures.opens honest r openable) c.answer_from-answered.ensures.none (c.answer_from-answered.ensures.lost.kept honest))
 
 pub returns-clause-clean : goal.returns-clause-clean
 returns-clause-clean g c = λ honest. inr (rw c.close.ensures (clean_then _ _ _ (c.in-Ok.ensures.clean honest) (c.answer_from-answered.ensures.clean honest)))
