@@ -1,19 +1,9 @@
 -- What the words of a clone's subcommands stand for.
 use Rattle.std.specs.Prelude.{◌≡◌, ℕ, ◌++◌, List, Some, codes}
 use Rattle.vc_files.specs.declared.faults.Fault.TheVariants.{Memory}
-use Rattle.vc_object.specs.declared.mode.Mode.{Mode}
-use Rattle.vc_object.specs.declared.mode.Mode.TheVariants as modes
 use Rattle.vc_refname.specs.RefName.{first_broken_rule}
-use Rattle.vc_commands.specs.declared.arguments.FileMode.{FileMode}
-use Rattle.vc_commands.specs.declared.arguments.FileMode.TheVariants.{Plain, Executable, Link}
 use Rattle.vc_commands.specs.declared.failure.Failure.{Failure}
 use Rattle.vc_commands.specs.declared.failure.Failure.TheVariants.{Name, Fault}
-
--- the mode of a file's entry
-abbrev pub mode_of : FileMode → Mode
-mode_of Plain = modes.File
-mode_of Executable = modes.Executable
-mode_of Link = modes.Link
 
 -- the name of the ref that a branch is
 abbrev pub branch_ref : List ℕ → List ℕ

@@ -13,4 +13,3 @@ pub mod Revisions
 pub mod PlayedWorld
 pub mod Steps
 pub mod PushWords
-pub mod Writers

@@ -3,6 +3,8 @@ use Rattle.std.specs.Prelude.{◌≡◌, ◌⊎◌, ◌↔◌, ℕ, Bool, not, �
 use Rattle.std.specs.List.{flat_map}
 use Rattle.std.specs.Io.KnownBytes.{Appends}
 use Rattle.hex.specs.Hex.{encode_lower}
+use Rattle.vc_arguments.specs.declared.arguments.Part.{Part}
+use Rattle.vc_arguments.specs.declared.arguments.Part.TheVariants.{Kind, Size, Body}
 use Rattle.vc_history.specs.HistoryFault.{IsTold}
 use Rattle.vc_history.specs.History.{IsBestCommonAncestor}
 use Rattle.vc_files.specs.FileMap.{FileMap}
@@ -16,8 +18,6 @@ use Rattle.vc_refs.specs.RefMap.{RefMap, IsListOf}
 use Rattle.vc_store.specs.Store.{stored, objects, IsDamaged}
 use Rattle.vc_store.specs.StoreFault.{IsFault as IsStoreFault}
 use Rattle.vc_commands.specs.HashObject.{id_line}
-use Rattle.vc_commands.specs.declared.arguments.Part.{Part}
-use Rattle.vc_commands.specs.declared.arguments.Part.TheVariants.{Kind, Size, Body}
 use Rattle.vc_commands.specs.declared.failure.Failure.{Failure}
 use Rattle.vc_commands.specs.declared.failure.Failure.TheVariants.{Store, History, Refs, Fault}
 

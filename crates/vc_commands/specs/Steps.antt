@@ -1,7 +1,7 @@
 -- What the commands of a clone do: its files are opened, and a step of the machine follows.
 use Rattle.std.specs.Prelude.{◌≡◌, ◌⊎◌, ℕ, Bool, true, List, [], ◌∷◌, Option, Result, Ok, Err, IfErr, OnErr, map}
 use Rattle.std.specs.Io.KnownBytes.{Appends, Keeps}
-use Rattle.vc_commands.specs.declared.clone.Words.{Words}
+use Rattle.vc_arguments.specs.declared.arguments.Words.{Words}
 use Rattle.vc_files.specs.FileMap.{FileMap}
 use Rattle.vc_index.specs.IndexMap.{IndexMap}
 use Rattle.vc_index.specs.WrittenTrees.{IsBegun, IsOfWrite, IsWritten}

@@ -2,21 +2,21 @@
 ghost use Rattle.std.specs.Prelude.{◌≡◌, ◌≢◌, [], ◌∷◌, true, IfOk, IfErr, OnOk, IsSome, map, string_bytes};
 ghost use Rattle.std.specs.FinMap as maps;
 ghost use Rattle.std.specs.List.{All};
+ghost use Rattle.vc_arguments.specs.Modes.{mode_of};
 ghost use Rattle.vc_index.specs.IndexMap.{HasConflict, index_entry};
 ghost use Rattle.vc_index.specs.Path.{IsPath};
 ghost use Rattle.vc_object.specs.Object.{IsObject};
 ghost use Rattle.vc_checkout.specs.Steps.{IsUntouched};
 ghost use Rattle.vc_node.specs.Staging.{MayStandAll, file_placed};
 ghost use Rattle.vc_commands.specs.Adding.{AddsInto, AreBlobs, AreNamed, IsNamed, IsOfFile, IsOfStoring, RefusesFiles, RefusesInto, StoresInto, file_at, files_at};
-ghost use Rattle.vc_commands.specs.CloneWords.{mode_of};
 ghost use Rattle.vc_commands.specs.Devices.{WritesEither};
 ghost use Rattle.vc_files.specs.Failures.{Wears, unstopped};
 ghost use Rattle.vc_commands.specs.Failure.{TellsDevice};
 
-use crate::arguments::FileMode;
 use crate::failure::Failure;
 use crate::named_files::paths_named;
 use std::alloc::Global;
+use vc_arguments::FileMode;
 use vc_checkout::WorkTree;
 use vc_files::Files;
 use vc_index::Index;

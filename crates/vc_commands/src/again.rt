@@ -2,12 +2,12 @@
 ghost use Rattle.std.specs.Prelude.{◌≡◌, IfSome};
 ghost use Rattle.vc_commands.specs.Again.{IsRefusedRevision, IsRefusedTerms};
 
-use crate::arguments::{LocalTask, Task};
 use crate::at_fault::{at_line, named_by};
 use crate::failure::Failure;
 use crate::repository::{open_store, resolve, select};
 use std::alloc::Global;
 use std::rt;
+use vc_arguments::{LocalTask, Task};
 use vc_files::Files;
 use vc_folder::Syncs;
 

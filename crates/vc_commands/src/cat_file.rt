@@ -7,13 +7,13 @@ ghost use Rattle.vc_commands.specs.Failure.{IsFault, TellsOfFiles};
 ghost use Rattle.vc_commands.specs.Shown.{part_text, IsOfLook};
 ghost use Rattle.vc_files.specs.Failures.{Wears};
 
-use crate::arguments::Part;
 use crate::failure::Failure;
 use crate::output::print_text;
 use crate::repository::{open_store, resolve};
 use std::alloc::Global;
 use std::io::Write;
 use std::rt;
+use vc_arguments::Part;
 use vc_files::Files;
 use vc_folder::Syncs;
 use vc_object::ObjectId;

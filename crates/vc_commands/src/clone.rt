@@ -19,6 +19,7 @@ use crate::repository::{open_store, resolve};
 use std::alloc::Global;
 use std::io::Write;
 use std::rt;
+use vc_arguments::Words;
 use vc_files::Files;
 use vc_folder::{FolderFiles, Syncs};
 use vc_node::{CloneNode, NodeFault};
@@ -110,14 +111,6 @@ pub fn write_index<F: Files>(alloc: Global, files: &mut F) -> Result<ObjectId, F
         Ok(id) => Ok(id),
         Err(fault) => Err(Failure::Node(NodeFault::from(fault))),
     }
-}
-
-/// What a commit says beside its tree and its parents.
-#[derive(Clone, Copy)]
-pub struct Words<'a> {
-    pub author: &'a [u8],
-    pub committer: &'a [u8],
-    pub message: &'a [u8],
 }
 
 /// Commits the index of the store in this folder.

@@ -3,7 +3,6 @@
 
 mod add;
 mod again;
-mod arguments;
 mod at_fault;
 mod cat_file;
 mod checkout;

@@ -4,9 +4,7 @@ use crate::failure::{Failure, fault_of};
 use crate::repository::is_of_git;
 use std::io::ErrorKind;
 use std::{fs, rt};
-
-/// The folder of the store where none is named.
-pub const DEFAULT_STORE: &str = ".git";
+use vc_arguments::DEFAULT_STORE;
 
 // How many folders above the current one are looked at.
 const LEVELS: u32 = 100;

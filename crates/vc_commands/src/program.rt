@@ -3,10 +3,6 @@ ghost use Rattle.std.specs.Prelude.{◌≡◌, ◌⊎◌};
 ghost use Rattle.vc_commands.specs.Failure.{status_of};
 
 use crate::again::{Lists, line_of_refusal};
-use crate::arguments::{
-    LocalTask, RemoteTask, Request, Task, command, list_of, option_without_folder, request_of,
-    terms_of,
-};
 use crate::cat_file::cat_file;
 use crate::clone::{branch, branch_delete, commit, unstage, write_tree};
 use crate::failure::Failure;
@@ -33,6 +29,10 @@ use std::io::{Read, Write};
 use std::net::Net;
 use std::rt;
 use std::thread::Threads;
+use vc_arguments::{
+    LocalTask, RemoteTask, Request, Task, command, list_of, option_without_folder, request_of,
+    terms_of,
+};
 use vc_files::Fault;
 use vc_folder::Syncs;
 use vc_work_folder::Beside;

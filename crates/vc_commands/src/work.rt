@@ -1,7 +1,6 @@
 //! The subcommands that look at the work tree, over real folders: `add`, `checkout` and `status`.
 
 use crate::add::add_all;
-use crate::arguments::FileMode;
 use crate::checkout::check_out;
 use crate::clone::open_clone;
 use crate::failure::Failure;
@@ -10,6 +9,7 @@ use crate::repository::open_store;
 use crate::status::print_status;
 use std::io::Write;
 use std::rt;
+use vc_arguments::FileMode;
 use vc_folder::Syncs;
 use vc_work_folder::{Beside, FolderTree};
 

@@ -1,4 +1,5 @@
 use Rattle.std.proofs.Common.{rules, ◌≡◌, Bool, List, Err, true, map, refl, sym, subst, ◌∙◌}
+use Rattle.vc_arguments.specs.Modes.{mode_of}
 use Rattle.vc_files.proofs.WearLemmas.{wears_writes}
 use Rattle.vc_files.specs.FileMap.{FileMap}
 use Rattle.vc_node.specs.IndexFile.{SpellsIndex}
@@ -9,7 +10,6 @@ use Rattle.vc_node.specs.Staging.{BlamesStaging, File, MayStandAll, StagesShown,
 use Rattle.vc_node.specs.declared.fault.NodeFault.TheVariants.{Down}
 use Rattle.vc_node.specs.declared.staging.Staged.{Staged}
 use Rattle.vc_commands.specs.Adding.{AreBlobs, AreNamed, IsOfStoring, RefusesAdd, RefusesFiles, StoresBlobs, StoresFiles, files_at, files_named}
-use Rattle.vc_commands.specs.CloneWords.{mode_of}
 use Rattle.vc_commands.specs.declared.failure.Failure.TheVariants.{Node}
 use Rattle.vc_commands.proofs.AddLemmas.{handed_on}
 use Rattle.vc_commands.proofs.AddedLemmas.{adds_files, files_refused, files_same, index_refused, paths_there, staging_refused, still_spelled, storing_refused, was_up, words_refused}

@@ -1,9 +1,9 @@
 -- Which commands write to their store, and which look for one.
 use Rattle.std.specs.Prelude.{Bool, true, false}
-use Rattle.vc_commands.specs.declared.arguments.LocalTask.{LocalTask}
-use Rattle.vc_commands.specs.declared.arguments.LocalTask.TheVariants as locals
-use Rattle.vc_commands.specs.declared.arguments.Task.{Task}
-use Rattle.vc_commands.specs.declared.arguments.Task.TheVariants.{Init, HashObject, Local, Remote, World}
+use Rattle.vc_arguments.specs.declared.arguments.LocalTask.{LocalTask}
+use Rattle.vc_arguments.specs.declared.arguments.LocalTask.TheVariants as locals
+use Rattle.vc_arguments.specs.declared.arguments.Task.{Task}
+use Rattle.vc_arguments.specs.declared.arguments.Task.TheVariants.{Init, HashObject, Local, Remote, World}
 
 -- of a clone's commands all but `status` write
 abbrev pub is_local_writer : LocalTask → Bool

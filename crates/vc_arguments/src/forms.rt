@@ -1,0 +1,412 @@
+//! The subcommands by a table: what each is called, which words it takes, and what help says of them.
+
+use clap::builder::ValueParser;
+use clap::{Arg, ArgAction, Command};
+use std::alloc::{AllocError, Global};
+
+/// The folder of the store where none is named.
+pub const DEFAULT_STORE: &str = ".git";
+
+const KINDS: [&str; 4] = ["blob", "tree", "commit", "tag"];
+
+const MODES: [&str; 3] = ["100644", "100755", "120000"];
+
+const PARTS: [&str; 3] = ["type", "size", "body"];
+
+const MOST_PORT: u64 = 65_535;
+
+const MOST_CONNECTIONS: u64 = 1_000_000;
+
+// A subcommand, and what help says of it.
+struct Form {
+    name: &'static str,
+    about: &'static str,
+    // What stands after the list of its arguments.
+    after: &'static str,
+    arguments: &'static [Argument],
+}
+
+// An argument of a subcommand: the name by which it is read, what help calls its value, and what help says of it.
+#[derive(Clone, Copy)]
+struct Argument {
+    id: &'static str,
+    value: &'static str,
+    given: Given,
+    help: &'static str,
+}
+
+// How an argument is given.
+#[derive(Clone, Copy)]
+enum Given {
+    // By an option, or else it is this.
+    Default(&'static str),
+    // By an option that takes one of these, or else it is this.
+    OneOf(&'static [&'static str], &'static str),
+    // By an option that has to be there.
+    Said,
+    // By an option that has to be there, as a number from 1 to this.
+    Number(u64),
+    // By an option that takes no value, or by this letter.
+    Flag(char),
+    // As a word that has to be there.
+    One,
+    // As a word that may be left out.
+    Maybe,
+    // As one word or more.
+    Some,
+    // As any number of words.
+    Any,
+}
+
+const STORE: Argument = Argument {
+    id: "store",
+    value: "folder",
+    given: Given::Default(DEFAULT_STORE),
+    help: "The folder of the store",
+};
+
+const WORK: Argument = Argument {
+    id: "work",
+    value: "folder",
+    given: Given::Default("."),
+    help: "The folder of the work tree",
+};
+
+const PORT: Argument = Argument {
+    id: "port",
+    value: "port",
+    given: Given::Number(MOST_PORT),
+    help: "The port of this machine, 1 to 65535",
+};
+
+const BRANCH: Argument = Argument {
+    id: "name",
+    value: "name",
+    given: Given::One,
+    help: "The branch, without refs/heads/",
+};
+
+const COMMIT: &str = "A commit: a revision, as main~2 or its name in 40 hex digits";
+
+const REVISION: Argument = Argument {
+    id: "rev",
+    value: "rev",
+    given: Given::One,
+    help: COMMIT,
+};
+
+const FORMS: [Form; 20] = [
+    Form {
+        name: "init",
+        about: "Make a store whose HEAD is refs/heads/main; one that is there stays as it is",
+        after: "Example: vcs init --store .vcs",
+        arguments: &[STORE],
+    },
+    Form {
+        name: "hash-object",
+        about: "Print the name of an object, and store it with --write",
+        after: "Example: printf 'Hello World\\n' | vcs hash-object",
+        arguments: &[
+            STORE,
+            Argument {
+                id: "kind",
+                value: "kind",
+                given: Given::OneOf(&KINDS, "blob"),
+                help: "The kind of the object",
+            },
+            Argument {
+                id: "write",
+                value: "",
+                given: Given::Flag('w'),
+                help: "Store the object, too",
+            },
+            Argument {
+                id: "file",
+                value: "file",
+                given: Given::Maybe,
+                help: "The file with the body, by the current folder [default: standard input]",
+            },
+        ],
+    },
+    Form {
+        name: "cat-file",
+        about: "Print an object's kind, its size in bytes, or its body as it is",
+        after: "Example: vcs cat-file --show size 557db03de997c86a4a028e1ebd3a1ceb225be238",
+        arguments: &[
+            STORE,
+            Argument {
+                id: "show",
+                value: "part",
+                given: Given::OneOf(&PARTS, "body"),
+                help: "What to print",
+            },
+            Argument {
+                id: "rev",
+                value: "rev",
+                given: Given::One,
+                help: "The object: a revision, as main~2:src/lib.rs or its name in 40 hex digits",
+            },
+        ],
+    },
+    Form {
+        name: "show-ref",
+        about: "Print the refs by name, each with its id before it",
+        after: "Example: vcs show-ref --store .vcs",
+        arguments: &[STORE],
+    },
+    Form {
+        name: "merge-base",
+        about: "Print the best common ancestors of two commits; there may be several, or none (status 1)",
+        after: "Example: vcs merge-base 1cd19b32dbb05a1e6b1ad3a4d0ed7bbf4ec3df2d 61780798228d17af2d34fce4cfbdf35556832472",
+        arguments: &[
+            STORE,
+            Argument {
+                id: "first",
+                value: "rev",
+                given: Given::One,
+                help: COMMIT,
+            },
+            Argument {
+                id: "second",
+                value: "other",
+                given: Given::One,
+                help: COMMIT,
+            },
+        ],
+    },
+    Form {
+        name: "rev-parse",
+        about: "Print the name of the object that a revision names",
+        after: "Example: vcs rev-parse main~2^{tree}",
+        arguments: &[
+            STORE,
+            Argument {
+                id: "rev",
+                value: "rev",
+                given: Given::One,
+                help: "A revision: a ref, HEAD, an id or its beginning, with steps and a path",
+            },
+        ],
+    },
+    Form {
+        name: "rev-list",
+        about: "Print the commits that the terms select, sorted by name, one a line",
+        after: "Example: vcs rev-list main ^topic, or vcs rev-list topic..main",
+        arguments: &[
+            STORE,
+            Argument {
+                id: "term",
+                value: "term",
+                given: Given::Some,
+                help: "A term: r, ^r, a..b, a...b, r^@, r^! or r^-n, with revisions r, a and b",
+            },
+        ],
+    },
+    Form {
+        name: "add",
+        about: "Put files of the work tree into the index",
+        after: "A folder stands for all files in it, and . for the whole work tree; where one can't be put there, none is. A file that is\ngone from the work tree stays in the index: see unstage.\n\nExample: vcs add src/lib.rs README.md, or vcs add src, or vcs add .",
+        arguments: &[
+            STORE,
+            WORK,
+            Argument {
+                id: "mode",
+                value: "mode",
+                given: Given::OneOf(&MODES, "100644"),
+                help: "Files, files that may be run, or links whose texts the files hold",
+            },
+            Argument {
+                id: "paths",
+                value: "path",
+                given: Given::Some,
+                help: "The path of a file or a folder, from the work tree's folder",
+            },
+        ],
+    },
+    Form {
+        name: "unstage",
+        about: "Take a path out of the index; the file in the work tree stays",
+        after: "Example: vcs unstage src/lib.rs",
+        arguments: &[
+            STORE,
+            Argument {
+                id: "path",
+                value: "path",
+                given: Given::One,
+                help: "The path in the index",
+            },
+        ],
+    },
+    Form {
+        name: "write-tree",
+        about: "Store the index as trees, and print the root's name",
+        after: "Example: vcs write-tree",
+        arguments: &[STORE],
+    },
+    Form {
+        name: "commit",
+        about: "Commit the index on HEAD's branch, and print the commit's name",
+        after: "Example: vcs commit --author 'A <a@x> 0 +0000' --committer 'A <a@x> 0 +0000' --message first",
+        arguments: &[
+            STORE,
+            Argument {
+                id: "author",
+                value: "text",
+                given: Given::Said,
+                help: "Who wrote it: name, address in <>, seconds and zone",
+            },
+            Argument {
+                id: "committer",
+                value: "text",
+                given: Given::Said,
+                help: "Who commits it, in the same form",
+            },
+            Argument {
+                id: "message",
+                value: "text",
+                given: Given::Said,
+                help: "What the commit says",
+            },
+            Argument {
+                id: "parent",
+                value: "rev",
+                given: Given::Any,
+                help: "Extra parents, behind HEAD's commit",
+            },
+        ],
+    },
+    Form {
+        name: "branch",
+        about: "Set a branch to a commit, whatever it was; commits that it alone named lose their name",
+        after: "What the branch was is told on a terminal: from that id the commits can be named again.\n\nExample: vcs branch topic main~2",
+        arguments: &[STORE, BRANCH, REVISION],
+    },
+    Form {
+        name: "branch-delete",
+        about: "Remove a branch; its commits stay stored, and those that it alone named lose their name",
+        after: "What the branch was is told on a terminal: from that id the commits can be named again.\n\nExample: vcs branch-delete topic",
+        arguments: &[STORE, BRANCH],
+    },
+    Form {
+        name: "pack-refs",
+        about: "Put all refs into one file, so that many are read at once; none of them changes",
+        after: "Example: vcs pack-refs --store .vcs",
+        arguments: &[STORE],
+    },
+    Form {
+        name: "checkout",
+        about: "Bring work tree, index and HEAD to a commit; a change that is not staged stops it",
+        after: "What is staged counts as stored: a staged file that was never committed goes from the work tree and the index.\nIts blob stays in the store, under the name that hash-object gives it.\n\nExample: vcs checkout main",
+        arguments: &[STORE, WORK, REVISION],
+    },
+    Form {
+        name: "status",
+        about: "Print how HEAD's tree, the index and the work tree differ",
+        after: "Example: vcs status",
+        arguments: &[STORE, WORK],
+    },
+    Form {
+        name: "serve",
+        about: "Let clones on this machine fetch from the store and push to it",
+        after: "Prints \"listening\" and the port once it is open, and serves one connection after the other. Commands on\nthe store may run meanwhile: they take turns with each message.\n\nExample: vcs serve --store shared --port 7000 --count 100",
+        arguments: &[
+            STORE,
+            PORT,
+            Argument {
+                id: "count",
+                value: "count",
+                given: Given::Number(MOST_CONNECTIONS),
+                help: "How many connections are served before it ends, 1 to 1000000",
+            },
+        ],
+    },
+    Form {
+        name: "fetch",
+        about: "Fetch what a served store has, and print how many refs moved",
+        after: "A branch b of the served store is followed by refs/remotes/origin/b here, and no branch of this clone moves.\n\nExample: vcs fetch --port 7000, then vcs rev-list main..refs/remotes/origin/main",
+        arguments: &[STORE, PORT],
+    },
+    Form {
+        name: "push",
+        about: "Ask a served store to change refs, and print for each whether it did",
+        after: "Prints \"ok\" and the ref, or \"ng\", the ref and why not; status 1 if one is \"ng\". A branch is changed only from the value\nthat the last fetch or push saw: after \"ng\" fetch, commit or merge on what came, and push again.\n\nExample: vcs push --port 7000 main, or vcs push --port 7000 main~1:refs/heads/topic :refs/heads/old",
+        arguments: &[
+            STORE,
+            PORT,
+            Argument {
+                id: "item",
+                value: "item",
+                given: Given::Some,
+                help: "A branch b; or rev:ref, cut at the last colon, for a ref by its full name; or :ref to delete one",
+            },
+        ],
+    },
+    Form {
+        name: "world",
+        about: "Play a script of a world of nodes in memory, and print what each event is answered",
+        after: "The first line of the script is \"world\" and how many clones there are, 1 to 16; each other line is one event. A clone c0\nwrites, adds, commits, fetches and pushes; \"deliver k\" brings the message of that number to whom it is for; \"step s\" is the\nnext step of the push in that slot of the shared node. There is no store, and nothing is left.\n\nExample: printf 'world 1\\nc0 add f x\\nc0 commit m\\nc0 push main\\ndeliver 0\\n' >script, then vcs world script",
+        arguments: &[Argument {
+            id: "file",
+            value: "file",
+            given: Given::One,
+            help: "The file with the script, by the current folder",
+        }],
+    },
+];
+
+/// The whole command line.
+pub fn command<'a>(alloc: Global) -> Result<Command<'a>, AllocError> {
+    let mut program = Command::new(alloc, "vcs")
+        .version("0.1.0")
+        .about("A version control core with Git's object model: nothing that was committed is lost")
+        .subcommand_required(true)
+        .arg_required_else_help(true);
+    for form in FORMS.as_slice() {
+        program = program.subcommand(command_of(alloc, form)?)?;
+    }
+    Ok(program)
+}
+
+// A subcommand as clap has it.
+fn command_of<'a>(alloc: Global, form: &Form) -> Result<Command<'a>, AllocError> {
+    let mut command = Command::new(alloc, form.name)
+        .about(form.about)
+        .after_help(form.after);
+    for argument in form.arguments {
+        command = command.arg(arg_of(alloc, argument))?;
+    }
+    Ok(command)
+}
+
+// An argument as clap has it.
+fn arg_of<'a>(alloc: Global, argument: &Argument) -> Arg<'a> {
+    let arg = Arg::new(alloc, argument.id).help(argument.help);
+    match argument.given {
+        Given::Default(value) => arg
+            .long(argument.id)
+            .value_name(argument.value)
+            .default_value(value),
+        Given::OneOf(values, value) => arg
+            .long(argument.id)
+            .value_name(argument.value)
+            .value_parser(values)
+            .default_value(value),
+        Given::Said => arg
+            .long(argument.id)
+            .value_name(argument.value)
+            .required(true),
+        Given::Number(most) => arg
+            .long(argument.id)
+            .value_name(argument.value)
+            .required(true)
+            .value_parser(ValueParser::Unsigned(1, most)),
+        Given::Flag(letter) => arg
+            .long(argument.id)
+            .short(letter)
+            .action(ArgAction::SetTrue),
+        Given::One => arg.value_name(argument.value).required(true),
+        Given::Maybe => arg.value_name(argument.value),
+        Given::Some => arg.value_name(argument.value).required(true).num_args(1..),
+        Given::Any => arg.value_name(argument.value).num_args(0..),
+    }
+}
