@@ -36,7 +36,8 @@ pub enum Failure {
     Node(NodeFault),
     /// The file of the work tree with this path was changed and not staged, and the change would be lost.
     LocalChange(Vec<u8>),
-    /// A file that the index lacks stands in the way of the one with this path.
+    /// A file that the index lacks, or that lies where it has a commit of another repository, stands in the way of what is due
+    /// at this path.
     InTheWay(Vec<u8>),
     /// This path is not UTF-8, so no file can have it.
     NotText(Vec<u8>),
