@@ -1,6 +1,6 @@
 //! The work tree of the rows: in memory or in a real folder, of which a row may have one call fail.
 ghost use Rattle.std.specs.Prelude.{◌≡◌, ◌≤◌, IsErrOf};
-ghost use Rattle.vc_files.specs.Failures.{HasFailed};
+ghost use Rattle.vc_files.specs.Failures.{HasFailed, unstopped};
 
 use crate::bench::Host;
 use std::alloc::{AllocError, Global};
@@ -106,6 +106,8 @@ impl<R: Host> WorkTree for Scene<R> {
     ghost failed = { λ s. s };
 
     ghost can_fail = { λ _. ⊤ };
+
+    ghost left = { unstopped };
 
     fn read(&mut self, alloc: Global, path: &str) -> Result<Option<Vec<u8>>, Fault> {
         self.pass()?;

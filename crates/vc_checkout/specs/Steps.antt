@@ -100,6 +100,10 @@ MayWriteDue content objects index tree old new =
 abbrev pub IsUntouched : {W : Type 0} → (W → FileMap) → (W → Folders) → W → W → Type 0
 IsUntouched content folders old new = (content new ≡ content old) × (folders new ≡ folders old)
 
+-- the work tree is as it was, and no write was made
+abbrev pub IsUnwritten : {W : Type 0} → (W → FileMap) → (W → Folders) → (W → Option ℕ) → W → W → Type 0
+IsUnwritten content folders left old new = IsUntouched content folders old new × (left new ≡ left old)
+
 -- Each blob that is due is there, and nothing is against the checkout at any path.
 pub record IsAllowed (objects : ObjectMap) (index tree : IndexMap) (work : FileMap) : Type 0 where
   pub blobs : HasDueBlobs objects index tree
@@ -113,9 +117,9 @@ pub record Brings {W : Type 0} (content : W → FileMap) (held : W → Folders) 
   pub alone : (path : List ℕ) → IsDue (get index path) (get tree path) → StandsAlone (content new) path
 
 -- Each path has its old file or its new one, no folder is gone or made that would not have been, no file came to lie below
--- another one, and nothing changed but where the checkout was allowed.
-pub record BringsPart {W : Type 0} (content : W → FileMap) (held : W → Folders) (objects : ObjectMap) (index tree : IndexMap) (old new : W) : Type 0 where
+-- another one, and nothing was written but where the checkout was allowed.
+pub record BringsPart {W : Type 0} (content : W → FileMap) (held : W → Folders) (left : W → Option ℕ) (objects : ObjectMap) (index tree : IndexMap) (old new : W) : Type 0 where
   pub files : (path : List ℕ) → IsOldOrCheckedOut objects index tree (content old) (content new) path
   pub folders : AreFoldersBegun index tree (content old) (held old) (content new) (held new)
   pub apart : AreApart (content old) → AreApart (content new)
-  pub allowed : IsUntouched content held old new ⊎ IsAllowed objects index tree (content old)
+  pub allowed : IsUnwritten content held left old new ⊎ IsAllowed objects index tree (content old)

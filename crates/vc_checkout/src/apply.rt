@@ -12,7 +12,7 @@ ghost use Rattle.vc_checkout.specs.CheckoutFault.{IsFault, IsOfCheckout, TellsDe
 ghost use Rattle.vc_checkout.specs.Devices.{WearsEither};
 ghost use Rattle.vc_checkout.specs.FoldersAfter.{GivesWayBy, IsFolderFor, IsLeftBy, IsLink, IsMadeBy, TakesPlace};
 ghost use Rattle.vc_checkout.specs.Refusal.{IsClear, IsDue};
-ghost use Rattle.vc_checkout.specs.Steps.{Brings, BringsPart, ChangesFolders, Clears, Does, EndsFolders, GivesWayAt, IsClearedAt, IsLeftAt, IsLinkedAt, IsMadeAt, IsUntouched, IsWrittenAt, LosesFolders, MayChangeFolders, MayClear, MayDo, MayLoseFolders, MayWriteDue, WritesDue};
+ghost use Rattle.vc_checkout.specs.Steps.{Brings, BringsPart, ChangesFolders, Clears, Does, EndsFolders, GivesWayAt, IsClearedAt, IsLeftAt, IsLinkedAt, IsMadeAt, IsUnwritten, IsWrittenAt, LosesFolders, MayChangeFolders, MayClear, MayDo, MayLoseFolders, MayWriteDue, WritesDue};
 ghost use Rattle.vc_checkout.specs.WorkTree.{HasTextPaths};
 
 use crate::blobs::{blob_of, check_blobs};
@@ -139,7 +139,7 @@ fn put_in<T: WorkTree, F: Files>(
     ensures same { F.content files.new ≡ F.content files.old }
     ensures folders { T.honest → OnOk result (ChangesFolders T.content T.folders (IsLink entry path.now) (TakesPlace entry path.now) work.old work.new) }
     ensures between { T.honest → MayChangeFolders T.content T.folders (IsFolderFor entry path.now) (TakesPlace entry path.now) work.old work.new }
-    ensures wear { WearsEither T.failed T.can_fail F.failed F.can_fail F.left work.old work.new files.old files.new (TellsDevice result) }
+    ensures wear { WearsEither T.failed T.can_fail unstopped F.failed F.can_fail F.left work.old work.new files.old files.new (TellsDevice result) }
 {
     let Ok(text) = str::from_utf8(path) else {
         unreachable!();
@@ -172,7 +172,7 @@ fn write_path<T: WorkTree, F: Files>(
     ensures folders { T.honest → OnOk result (ChangesFolders T.content T.folders (IsLinkedAt index.old tree.old path.now) (GivesWayAt index.old tree.old path.now) work.old work.new) }
     ensures between { T.honest → MayChangeFolders T.content T.folders (IsMadeAt index.old tree.old path.now) (GivesWayAt index.old tree.old path.now) work.old work.new }
     ensures due { OnOk result (((maps.get index.old path.now ≡ maps.get tree.old path.now) ⊎ (maps.get tree.old path.now ≡ None)) ⊎ IsDue (maps.get index.old path.now) (maps.get tree.old path.now)) }
-    ensures wear { WearsEither T.failed T.can_fail F.failed F.can_fail F.left work.old work.new files.old files.new (TellsDevice result) }
+    ensures wear { WearsEither T.failed T.can_fail unstopped F.failed F.can_fail F.left work.old work.new files.old files.new (TellsDevice result) }
 {
     let Some(new) = tree.get(path) else {
         return Ok(());
@@ -201,7 +201,7 @@ fn write_all<T: WorkTree, F: Files>(
     ensures folders { T.honest → F.honest → OnOk result (EndsFolders T.content T.folders index.now tree.now work.old work.new) }
     ensures between { T.honest → MayChangeFolders T.content T.folders (IsMadeBy index.now tree.now) (GivesWayBy index.now tree.now) work.old work.new }
     ensures index { IsIndex tree.now }
-    ensures wear { WearsEither T.failed T.can_fail F.failed F.can_fail F.left work.old work.new files.old files.new (TellsDevice result) }
+    ensures wear { WearsEither T.failed T.can_fail unstopped F.failed F.can_fail F.left work.old work.new files.old files.new (TellsDevice result) }
 {
     let (mut old, mut new) = (IndexCursor::new(index), IndexCursor::new(tree));
     for (path, _) in tree.iter() {
@@ -223,8 +223,9 @@ fn write_all<T: WorkTree, F: Files>(
 /// repository as an empty folder. A folder that an entry which goes lies in, or that is its own, goes if nothing is left in
 /// it; every other folder stays, but where a file is written in its place. What isn't due stays as it is.
 ///
-/// A fault may leave any part of this done, but only where all was clear; each path then has its old file or its new one,
-/// no file lies below another one where none did, and no folder is gone or made that would not have been.
+/// All is looked at before the first write, so what refuses the checkout leaves the work tree with none made. A fault may
+/// leave any part of this done, but only where all was clear; each path then has its old file or its new one, no file lies
+/// below another one where none did, and no folder is gone or made that would not have been.
 pub fn checkout<T: WorkTree, F: Files>(
     alloc: Global,
     work: &mut T,
@@ -236,10 +237,10 @@ pub fn checkout<T: WorkTree, F: Files>(
     ensures blobs { F.honest → OnOk result (HasDueBlobs (objects (F.content files.old)) index.now tree.now) }
     ensures clear { T.honest → OnOk result ((path : List ℕ) → IsClear index.now tree.now (T.content work.old) path) }
     ensures refused { F.honest → IfErr result (IsOfCheckout T.honest (T.content work.old) (F.content files.old) index.now tree.now) }
-    ensures unchanged { F.honest → IfErr result (λ e. IsFault e ⊎ IsUntouched T.content T.folders work.old work.new) }
-    ensures begun { T.honest → F.honest → OnErr result (BringsPart T.content T.folders (objects (F.content files.old)) index.now tree.now work.old work.new) }
+    ensures unchanged { F.honest → IfErr result (λ e. IsFault e ⊎ IsUnwritten T.content T.folders T.left work.old work.new) }
+    ensures begun { T.honest → F.honest → OnErr result (BringsPart T.content T.folders T.left (objects (F.content files.old)) index.now tree.now work.old work.new) }
     ensures files { F.content files.new ≡ F.content files.old }
-    ensures wear { WearsEither T.failed T.can_fail F.failed F.can_fail F.left work.old work.new files.old files.new (TellsDevice result) }
+    ensures wear { WearsEither T.failed T.can_fail unstopped F.failed F.can_fail F.left work.old work.new files.old files.new (TellsDevice result) }
 {
     check_blobs(alloc, files, index, tree)?;
     check_all(alloc, work, index, tree)?;

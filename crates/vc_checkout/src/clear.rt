@@ -1,7 +1,7 @@
 // Whether anything is against a checkout, before the first write.
 ghost use Rattle.std.specs.Prelude.{◌≡◌, ◌≢◌, ◌⊎◌, ◌↔◌, ℕ, List, Some, IfOk, IfErr, OnOk, IsTrue, IsUtf8};
 ghost use Rattle.std.specs.FinMap as maps;
-ghost use Rattle.vc_files.specs.Failures.{Wears, unstopped};
+ghost use Rattle.vc_files.specs.Failures.{Wears};
 ghost use Rattle.vc_checkout.specs.CheckoutFault.{IsAgainst, IsFault, TellsDevice};
 ghost use Rattle.vc_checkout.specs.Refusal.{HasLocalChange, IsClear, IsDue, IsOther, IsRefused, RefusedAt};
 ghost use Rattle.vc_checkout.specs.Steps.{IsUntouched};
@@ -40,7 +40,7 @@ fn has_local_change<T: WorkTree>(
     ensures change { T.honest → IfOk result (λ lost. IsTrue lost ↔ HasLocalChange old new (maps.get (T.content work.old) path.now)) }
     ensures fault { IfErr result IsFault }
     ensures untouched { IsUntouched T.content T.folders work.old work.new }
-    ensures wear { Wears T.failed T.can_fail unstopped work.old work.new (TellsDevice result) }
+    ensures wear { Wears T.failed T.can_fail T.left work.old work.new (TellsDevice result) }
 {
     let Some(entry) = old else {
         return Ok(false);
@@ -74,7 +74,7 @@ fn check_path<T: WorkTree>(
     ensures text { OnOk result (IsDue (maps.get index.old path.now) (maps.get tree.old path.now) → IsUtf8 path.now) }
     ensures cursors { (index.new ≡ index.old) × (tree.new ≡ tree.old) }
     ensures untouched { IsUntouched T.content T.folders work.old work.new }
-    ensures wear { Wears T.failed T.can_fail unstopped work.old work.new (TellsDevice result) }
+    ensures wear { Wears T.failed T.can_fail T.left work.old work.new (TellsDevice result) }
 {
     let old = index.get(path);
     let new = tree.get(path);
@@ -109,7 +109,7 @@ pub(crate) fn check_all<T: WorkTree>(
     ensures text { OnOk result ((path : List ℕ) → IsDue (maps.get index.now path) (maps.get tree.now path) → IsUtf8 path) }
     ensures texts { T.honest → OnOk result (HasTextPaths (T.content work.old)) }
     ensures untouched { IsUntouched T.content T.folders work.old work.new }
-    ensures wear { Wears T.failed T.can_fail unstopped work.old work.new (TellsDevice result) }
+    ensures wear { Wears T.failed T.can_fail T.left work.old work.new (TellsDevice result) }
 {
     let unkept = unkept_paths(alloc, work, index)?;
     let paths = all_paths(alloc, &BTreeSet::new(alloc), index, tree)?;

@@ -1,7 +1,7 @@
 // What differs between a tree, the index and the work tree.
 ghost use Rattle.std.specs.Prelude.{◌≡◌, ◌↔◌, Option, Some, None, IfOk, IfErr, IsTrue, is_some, map, option_map};
 ghost use Rattle.std.specs.FinMap as maps;
-ghost use Rattle.vc_files.specs.Failures.{Wears, unstopped};
+ghost use Rattle.vc_files.specs.Failures.{Wears};
 ghost use Rattle.vc_object.specs.declared.id.ObjectId.{ObjectId as Id};
 ghost use Rattle.vc_store.specs.Store.{objects};
 ghost use Rattle.vc_checkout.specs.CheckoutFault.{IsFault, IsOfStatus, TellsDevice, TellsFirstListed};
@@ -31,7 +31,7 @@ pub(crate) fn file_name<T: WorkTree>(
     ensures name { T.honest → IfOk result (λ name. name ≡ option_map blob_name (maps.get (T.content work.old) path.now)) }
     ensures fault { IfErr result IsFault }
     ensures untouched { IsUntouched T.content T.folders work.old work.new }
-    ensures wear { Wears T.failed T.can_fail unstopped work.old work.new (TellsDevice result) }
+    ensures wear { Wears T.failed T.can_fail T.left work.old work.new (TellsDevice result) }
 {
     let Ok(text) = str::from_utf8(path) else {
         return Ok(None);
@@ -53,7 +53,7 @@ fn work_change<T: WorkTree>(
     ensures change { T.honest → IfOk result (IsWorkChange entry (maps.get (T.content work.old) path.now)) }
     ensures fault { IfErr result IsFault }
     ensures untouched { IsUntouched T.content T.folders work.old work.new }
-    ensures wear { Wears T.failed T.can_fail unstopped work.old work.new (TellsDevice result) }
+    ensures wear { Wears T.failed T.can_fail T.left work.old work.new (TellsDevice result) }
 {
     let Some(entry) = entry else {
         if untracked.contains(path) {
@@ -88,7 +88,7 @@ fn change_at<T: WorkTree>(
     ensures cursors { (index.new ≡ index.old) × (tree.new ≡ tree.old) }
     ensures fault { IfErr result IsFault }
     ensures untouched { IsUntouched T.content T.folders work.old work.new }
-    ensures wear { Wears T.failed T.can_fail unstopped work.old work.new (TellsDevice result) }
+    ensures wear { Wears T.failed T.can_fail T.left work.old work.new (TellsDevice result) }
 {
     let entry = index.get(path);
     let staged = index_change(tree.get(path), entry);
@@ -114,7 +114,7 @@ fn changes<T: WorkTree>(
     ensures status { T.honest → IfOk result (λ changes. IsStatus tree.now index.now (T.content work.old) (map seen changes.items)) }
     ensures fault { IfErr result IsFault }
     ensures untouched { IsUntouched T.content T.folders work.old work.new }
-    ensures wear { Wears T.failed T.can_fail unstopped work.old work.new (TellsDevice result) }
+    ensures wear { Wears T.failed T.can_fail T.left work.old work.new (TellsDevice result) }
 {
     let untracked = untracked_paths(alloc, work, index)?;
     let paths = all_paths(alloc, &untracked, index, tree)?;
@@ -167,7 +167,7 @@ pub fn status<T: WorkTree, F: Files>(
     ensures tree { F.honest → IfErr result (λ e. (root : Id) → tree ≡ Some root → TellsFirstListed (objects (F.content files.old)) root e) }
     ensures untouched { IsUntouched T.content T.folders work.old work.new }
     ensures files { F.content files.new ≡ F.content files.old }
-    ensures wear { WearsEither T.failed T.can_fail F.failed F.can_fail F.left work.old work.new files.old files.new (TellsDevice result) }
+    ensures wear { WearsEither T.failed T.can_fail T.left F.failed F.can_fail F.left work.old work.new files.old files.new (TellsDevice result) }
 {
     let head = head_index(alloc, files, tree)?;
     let changes = changes(alloc, work, index, &head)?;

@@ -1,6 +1,6 @@
 // What stands where a file is to be written.
 ghost use Rattle.std.specs.Prelude.{◌↔◌, ℕ, List, IfOk, IfErr, IsTrue};
-ghost use Rattle.vc_files.specs.Failures.{Wears, unstopped};
+ghost use Rattle.vc_files.specs.Failures.{Wears};
 ghost use Rattle.vc_index.specs.Path.{IsAbove};
 ghost use Rattle.vc_checkout.specs.CheckoutFault.{IsFault, TellsDevice};
 ghost use Rattle.vc_checkout.specs.Refusal.{IsHindered};
@@ -54,7 +54,7 @@ pub(crate) fn is_hindered<T: WorkTree>(
     ensures hindered { T.honest → IfOk result (λ yes. IsTrue yes ↔ IsHindered (λ other. IsTrue (has_path others.now other)) (T.content work.old) path.now entry) }
     ensures fault { IfErr result IsFault }
     ensures untouched { IsUntouched T.content T.folders work.old work.new }
-    ensures wear { Wears T.failed T.can_fail unstopped work.old work.new (TellsDevice result) }
+    ensures wear { Wears T.failed T.can_fail T.left work.old work.new (TellsDevice result) }
 {
     if has_above(others, path) {
         return Ok(true);

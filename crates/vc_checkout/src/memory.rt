@@ -2,6 +2,7 @@
 ghost use Rattle.std.specs.Prelude.{◌≡◌, ◌↔◌, ◌⊎◌, ◌||◌, not, ℕ, List, IfErr, OnOk, OnErr, IsTrue, bytes_eq};
 ghost use Rattle.std.specs.FinMap as files;
 ghost use Rattle.std.specs.FinSet as set;
+ghost use Rattle.vc_files.specs.Failures.{unstopped};
 ghost use Rattle.vc_files.specs.Memory.{files_of};
 ghost use Rattle.vc_files.specs.Path.{is_above};
 ghost use Rattle.vc_index.specs.Path.{IsAbove};
@@ -129,6 +130,8 @@ impl WorkTree for MemoryTree {
     ghost failed = { λ _. 0 };
 
     ghost can_fail = { λ _. ⊥ };
+
+    ghost left = { unstopped };
 
     fn read(&mut self, alloc: Global, path: &str) -> Result<Option<Vec<u8>>, Fault> {
         let Some(bytes) = self.files.get(path) else {

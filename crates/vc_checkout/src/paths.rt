@@ -1,7 +1,7 @@
 // Sets of paths.
 ghost use Rattle.std.specs.Prelude.{◌≡◌, ◌↔◌, ◌++◌, ◌||◌, ℕ, map, List, IfOk, IfErr, OnOk, IsTrue, is_some, MatchOption};
 ghost use Rattle.std.specs.FinMap as maps;
-ghost use Rattle.vc_files.specs.Failures.{Wears, unstopped};
+ghost use Rattle.vc_files.specs.Failures.{Wears};
 ghost use Rattle.vc_index.specs.Path.{IsAbove};
 ghost use Rattle.vc_checkout.specs.CheckoutFault.{IsFault, TellsDevice};
 ghost use Rattle.vc_checkout.specs.Folders.{IsLowestAbove};
@@ -69,7 +69,7 @@ pub(crate) fn untracked_paths<T: WorkTree>(
     ensures texts { T.honest → OnOk result (HasTextPaths (T.content work.old)) }
     ensures fault { IfErr result IsFault }
     ensures untouched { IsUntouched T.content T.folders work.old work.new }
-    ensures wear { Wears T.failed T.can_fail unstopped work.old work.new (TellsDevice result) }
+    ensures wear { Wears T.failed T.can_fail T.left work.old work.new (TellsDevice result) }
 {
     let listed = work.list(alloc)?;
     let mut found = BTreeSet::new(alloc);
@@ -103,7 +103,7 @@ pub(crate) fn unkept_paths<T: WorkTree>(
     ensures texts { T.honest → OnOk result (HasTextPaths (T.content work.old)) }
     ensures fault { IfErr result IsFault }
     ensures untouched { IsUntouched T.content T.folders work.old work.new }
-    ensures wear { Wears T.failed T.can_fail unstopped work.old work.new (TellsDevice result) }
+    ensures wear { Wears T.failed T.can_fail T.left work.old work.new (TellsDevice result) }
 {
     let listed = work.list(alloc)?;
     let mut found = BTreeSet::new(alloc);

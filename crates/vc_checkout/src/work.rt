@@ -1,8 +1,8 @@
 // What a checkout knows of a work tree.
-ghost use Rattle.std.specs.Prelude.{◌≡◌, ◌≢◌, ◌⊎◌, ◌↔◌, ℕ, map, IfOk, OnOk, OnErr, IsErrOf, false, option_map, string_bytes};
+ghost use Rattle.std.specs.Prelude.{◌≡◌, ◌≢◌, ◌⊎◌, ◌↔◌, ℕ, Option, map, IfOk, OnOk, OnErr, IsErrOf, false, option_map, string_bytes};
 ghost use Rattle.std.specs.FinMap as files;
 ghost use Rattle.vc_files.specs.FileMap.{FileMap};
-ghost use Rattle.vc_files.specs.Failures.{Wears, unstopped};
+ghost use Rattle.vc_files.specs.Failures.{Spends, Wears, unstopped};
 ghost use Rattle.vc_checkout.specs.Folders.{AreFolders, Folders, IsAtOrIn, IsFolder};
 ghost use Rattle.vc_checkout.specs.WorkTree.{blob_name};
 
@@ -30,19 +30,23 @@ pub trait WorkTree {
     /// Whether the device can fail.
     ghost can_fail: { Self → Type 0 };
 
+    /// How many more writes the device takes before it stops, or none where no stop is set. A call that looks spends none
+    /// of them, and one that writes and is done spends one, also where it changes nothing.
+    ghost left: { Self → Option ℕ };
+
     /// The bytes of a file, or none where no file has the path.
     fn read(&mut self, alloc: Global, path: &str) -> Result<Option<Vec<u8>>, Fault>
         ensures found { honest → IfOk result (λ found. option_map (λ bytes. bytes.items) found ≡ files.get (content self.old) path.now) }
         ensures same { content self.new ≡ content self.old }
         ensures folders { folders self.new ≡ folders self.old }
-        ensures wear { Wears failed can_fail unstopped self.old self.new (IsErrOf result Fault.Device) };
+        ensures wear { Wears failed can_fail left self.old self.new (IsErrOf result Fault.Device) };
 
     /// The name that the bytes of a file have as a blob, or none where no file has the path.
     fn name(&mut self, alloc: Global, path: &str) -> Result<Option<ObjectId>, Fault>
         ensures named { honest → IfOk result (λ name. name ≡ option_map blob_name (files.get (content self.old) path.now)) }
         ensures same { content self.new ≡ content self.old }
         ensures folders { folders self.new ≡ folders self.old }
-        ensures wear { Wears failed can_fail unstopped self.old self.new (IsErrOf result Fault.Device) };
+        ensures wear { Wears failed can_fail left self.old self.new (IsErrOf result Fault.Device) };
 
     /// Writes a file whole, and makes the folders above it. A folder at the path gives way with those in it, but where a
     /// file lies.
@@ -51,6 +55,7 @@ pub trait WorkTree {
         ensures err { honest → OnErr result (content self.new ≡ content self.old) }
         ensures folders { honest → OnOk result (AreFolders (content self.new) (folders self.new) (λ one. IsFolder (content self.old) (folders self.old) one × ¬ (IsAtOrIn path.now one))) }
         ensures err_folders { honest → OnErr result (folders self.new ≡ folders self.old) }
+        ensures spent { OnOk result (Spends 1 (left self.old) (left self.new)) }
         ensures wear { Wears failed can_fail unstopped self.old self.new (IsErrOf result Fault.Device) };
 
     /// Takes a file away; an absent one stays absent. The folders above it stay, also where nothing is left in them.
@@ -59,6 +64,7 @@ pub trait WorkTree {
         ensures err { honest → OnErr result (content self.new ≡ content self.old) }
         ensures folders { honest → OnOk result (AreFolders (content self.new) (folders self.new) (IsFolder (content self.old) (folders self.old))) }
         ensures err_folders { honest → OnErr result (folders self.new ≡ folders self.old) }
+        ensures spent { OnOk result (Spends 1 (left self.old) (left self.new)) }
         ensures wear { Wears failed can_fail unstopped self.old self.new (IsErrOf result Fault.Device) };
 
     /// Makes a folder, and those above it. One that is there stays.
@@ -66,6 +72,7 @@ pub trait WorkTree {
         ensures same { content self.new ≡ content self.old }
         ensures folders { honest → OnOk result (AreFolders (content self.new) (folders self.new) (λ one. IsFolder (content self.old) (folders self.old) one ⊎ (one ≡ path.now))) }
         ensures err_folders { honest → OnErr result (folders self.new ≡ folders self.old) }
+        ensures spent { OnOk result (Spends 1 (left self.old) (left self.new)) }
         ensures wear { Wears failed can_fail unstopped self.old self.new (IsErrOf result Fault.Device) };
 
     /// Takes a folder away if nothing lies in it, and says whether none is there now.
@@ -74,6 +81,7 @@ pub trait WorkTree {
         ensures folders { honest → OnOk result (AreFolders (content self.new) (folders self.new) (λ one. IsFolder (content self.old) (folders self.old) one × (one ≢ path.now))) }
         ensures gone { honest → IfOk result (λ gone. (gone ≡ false) ↔ IsFolder (content self.new) (folders self.new) path.now) }
         ensures err_folders { honest → OnErr result (folders self.new ≡ folders self.old) }
+        ensures spent { OnOk result (Spends 1 (left self.old) (left self.new)) }
         ensures wear { Wears failed can_fail unstopped self.old self.new (IsErrOf result Fault.Device) };
 
     /// The paths of all files, sorted by their bytes.
@@ -81,7 +89,7 @@ pub trait WorkTree {
         ensures listed { honest → IfOk result (λ listed. map string_bytes listed.items ≡ files.keys (content self.old)) }
         ensures same { content self.new ≡ content self.old }
         ensures folders { folders self.new ≡ folders self.old }
-        ensures wear { Wears failed can_fail unstopped self.old self.new (IsErrOf result Fault.Device) };
+        ensures wear { Wears failed can_fail left self.old self.new (IsErrOf result Fault.Device) };
 
     /// How often the device has failed; the count stops at its greatest value.
     fn failures(&self) -> u64

@@ -1,9 +1,9 @@
 -- One call after another on two devices, a work tree's and a store's: what they do to both.
-use Rattle.std.proofs.Common.{arith, ◌≡◌, ℕ, ◌+◌, Option, Some, Ok, Err, ◌⊎◌, inl, inr, sym, refl, subst}
+use Rattle.std.proofs.Common.{arith, ◌≡◌, ℕ, ◌+◌, Option, Some, Ok, Err, ◌⊎◌, inl, inr, sym, refl, subst, ◌∙◌}
 use Rattle.std.specs.Prelude.{Result, IfErr}
 use Rattle.vc_checkout.specs.Devices.{WearsEither}
 use Rattle.vc_files.proofs.WearLemmas.{both_differ, fails_later, left_before, same_differ, spends_both, spends_none}
-use Rattle.vc_files.specs.Failures.{HasFailed, Spends, Wears, Writes, unstopped}
+use Rattle.vc_files.specs.Failures.{HasFailed, Spends, Wears, Writes}
 use Rattle.vc_files.specs.FileMap.{FileMap}
 use Rattle.vc_commands.specs.Devices.{WritesEither}
 use Rattle.vc_commands.specs.Failure.{IsFault, IsOfDevice, IsOfFiles, TellsOfFiles}
@@ -24,14 +24,15 @@ pub told_apart : {T : Type 0} (r : Result T Failure) → IfErr r IsFault → Tel
 told_apart (Ok x) is of = of
 told_apart (Err e) is of = apart e is of
 
-module _ {W F : Type 0} {work_failed : W → ℕ} {work_can_fail : W → Type 0} {honest : Type 0} {content : F → FileMap} {failed : F → ℕ} {can_fail : F → Type 0} {left : F → Option ℕ} where
+module _ {W F : Type 0} {work_failed : W → ℕ} {work_can_fail : W → Type 0} {work_left : W → Option ℕ} {honest : Type 0} {content : F → FileMap} {failed : F → ℕ} {can_fail : F → Type 0} {left : F → Option ℕ} where
   -- a call on the work tree alone
-  pub of_work : {was now : W} {files : F} {P : Type 0} → Wears work_failed work_can_fail unstopped was now P → WritesEither work_failed work_can_fail honest content failed can_fail left was now files files P
+  pub of_work : {was now : W} {files : F} {P : Type 0} → Wears work_failed work_can_fail work_left was now P → WritesEither work_failed work_can_fail work_left honest content failed can_fail left was now files files P
   of_work {files = files} w = record {
     later_work = w.later;
     later = omega arith;
     calm_work = w.calm;
     calm = λ can. inl can;
+    unspent_work = w.unspent;
     made = 0;
     spent = spends_none (left files);
     could = λ device. inl (w.could device);
@@ -40,12 +41,13 @@ module _ {W F : Type 0} {work_failed : W → ℕ} {work_can_fail : W → Type 0}
   }
 
   -- a call on the store alone
-  pub of_files : {work : W} {old new : F} {P : Type 0} → Writes honest content failed can_fail left old new P → WritesEither work_failed work_can_fail honest content failed can_fail left work work old new P
+  pub of_files : {work : W} {old new : F} {P : Type 0} → Writes honest content failed can_fail left old new P → WritesEither work_failed work_can_fail work_left honest content failed can_fail left work work old new P
   of_files w = record {
     later_work = omega arith;
     later = w.later;
     calm_work = λ can. can;
     calm = w.calm;
+    unspent_work = refl;
     made = w.made;
     spent = w.spent;
     could = λ device. inr (w.could device);
@@ -54,12 +56,13 @@ module _ {W F : Type 0} {work_failed : W → ℕ} {work_can_fail : W → Type 0}
   }
 
   -- a look at both
-  pub of_either : {was now : W} {old new : F} {P : Type 0} → WearsEither work_failed work_can_fail failed can_fail left was now old new P → (honest → content new ≡ content old) → WritesEither work_failed work_can_fail honest content failed can_fail left was now old new P
+  pub of_either : {was now : W} {old new : F} {P : Type 0} → WearsEither work_failed work_can_fail work_left failed can_fail left was now old new P → (honest → content new ≡ content old) → WritesEither work_failed work_can_fail work_left honest content failed can_fail left was now old new P
   of_either {was = was} {old = old} {new = new} {P = P} w same = record {
     later_work = w.later_work;
     later = w.later_files;
     calm_work = w.calm_work;
     calm = λ can. inl (w.calm_files can);
+    unspent_work = w.unspent_work;
     made = 0;
     spent = subst (λ (x : Option ℕ). Spends 0 (left old) x) (sym w.unspent) (spends_none (left old));
     could = λ device. elim (w.could device) as (λ _. work_can_fail was ⊎ (can_fail old ⊎ (left old ≡ Some 0))) [ inl can ↦ inl can | inr can ↦ inr (inl can) ];
@@ -68,12 +71,13 @@ module _ {W F : Type 0} {work_failed : W → ℕ} {work_can_fail : W → Type 0}
   }
 
   -- a call that tells no device's fault, and then another
-  pub either_both : {was mid_work now : W} {old mid new : F} {P Q : Type 0} → WritesEither work_failed work_can_fail honest content failed can_fail left was mid_work old mid P → (P → ⊥) → WritesEither work_failed work_can_fail honest content failed can_fail left mid_work now mid new Q → WritesEither work_failed work_can_fail honest content failed can_fail left was now old new Q
+  pub either_both : {was mid_work now : W} {old mid new : F} {P Q : Type 0} → WritesEither work_failed work_can_fail work_left honest content failed can_fail left was mid_work old mid P → (P → ⊥) → WritesEither work_failed work_can_fail work_left honest content failed can_fail left mid_work now mid new Q → WritesEither work_failed work_can_fail work_left honest content failed can_fail left was now old new Q
   either_both {was = was} {mid_work = mid_work} {now = now} {old = old} {mid = mid} {new = new} {P = P} {Q = Q} v never w = record {
     later_work = omega (arith, v.later_work, w.later_work);
     later = omega (arith, v.later, w.later);
     calm_work = λ can. v.calm_work (w.calm_work can);
     calm = λ can. calm_of (w.calm can);
+    unspent_work = w.unspent_work ∙ v.unspent_work;
     made = v.made + w.made;
     spent = spends_both v.made w.made (left old) (left mid) (left new) v.spent w.spent;
     could = λ device. could_of (w.could device);
@@ -98,12 +102,13 @@ module _ {W F : Type 0} {work_failed : W → ℕ} {work_can_fail : W → Type 0}
       failed_of (inr more) = inr (fails_later v.later more)
 
   -- the same call, with its end told in other words
-  pub either_told : {was now : W} {old new : F} {P Q : Type 0} → WritesEither work_failed work_can_fail honest content failed can_fail left was now old new P → (P → Q) → (Q → P) → WritesEither work_failed work_can_fail honest content failed can_fail left was now old new Q
+  pub either_told : {was now : W} {old new : F} {P Q : Type 0} → WritesEither work_failed work_can_fail work_left honest content failed can_fail left was now old new P → (P → Q) → (Q → P) → WritesEither work_failed work_can_fail work_left honest content failed can_fail left was now old new Q
   either_told {was = was} {old = old} {P = P} {Q = Q} w to from = record {
     later_work = w.later_work;
     later = w.later;
     calm_work = w.calm_work;
     calm = λ can. calm_of (w.calm can);
+    unspent_work = w.unspent_work;
     made = w.made;
     spent = w.spent;
     could = λ device. w.could (from device);

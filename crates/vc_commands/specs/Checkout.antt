@@ -1,5 +1,5 @@
 -- What a checkout brings, what it leaves, and why it is refused.
-use Rattle.std.specs.Prelude.{◌≡◌, ◌⊎◌, ℕ, List, [], ◌∷◌, ◌++◌, ⊤, Some, Ok, Err, MatchOption, codes, true, false}
+use Rattle.std.specs.Prelude.{◌≡◌, ◌⊎◌, ℕ, List, [], ◌∷◌, ◌++◌, ⊤, Option, Some, Ok, Err, MatchOption, codes, true, false}
 use Rattle.std.specs.FinMap.{insert}
 use Rattle.hex.specs.Hex.{encode_lower}
 use Rattle.vc_files.specs.FileMap.{FileMap}
@@ -25,7 +25,7 @@ use Rattle.vc_checkout.specs.Blobs.{BlamesBlobs, HasDueBlobs}
 use Rattle.vc_checkout.specs.Folders.{Folders}
 use Rattle.vc_checkout.specs.CheckoutFault.{IsAgainst}
 use Rattle.vc_checkout.specs.Refusal.{IsClear, IsRefused}
-use Rattle.vc_checkout.specs.Steps.{Brings, BringsPart, IsUntouched}
+use Rattle.vc_checkout.specs.Steps.{Brings, BringsPart, IsUnwritten}
 use Rattle.vc_checkout.specs.declared.faults.CheckoutFault.{CheckoutFault}
 use Rattle.vc_work_folder.specs.Own.{meets_own}
 use Rattle.vc_node.specs.Blames.{BlamesHead as BlamesNewHead, MayHead}
@@ -115,12 +115,12 @@ pub record LeavesHead {W : Type 0} (honest : Type 0) (content : W → FileMap) (
   pub written : new ≡ insert old (codes "index") (index_text tree)
 
 -- a tree that may be brought was brought in part, or all of it
-pub record BringsSome {W : Type 0} (content : W → FileMap) (held : W → Folders) (own revision : List ℕ) (old : FileMap) (was now : W) : Type 0 where
+pub record BringsSome {W : Type 0} (content : W → FileMap) (held : W → Folders) (left : W → Option ℕ) (own revision : List ℕ) (old : FileMap) (was now : W) : Type 0 where
   pub index : IndexMap
   pub head : Head
   pub tree : IndexMap
   pub before : MayBring own revision old index head tree
-  pub brought : BringsPart content held (objects old) index tree was now ⊎ Brings content held (objects old) index tree was now
+  pub brought : BringsPart content held left (objects old) index tree was now ⊎ Brings content held (objects old) index tree was now
 
 -- the file of the index spells none
 abbrev pub IsOfIndex : FileMap → Failure → Type 0
@@ -212,7 +212,7 @@ pub data RefusesCheckout (honest : Type 0) (own revision : List ℕ) (content wo
 abbrev pub LeavesOrFails : {W : Type 0} → Type 0 → (W → FileMap) → (W → Folders) → (own revision : List ℕ) → (old new : FileMap) → (was now : W) → Failure → Type 0
 LeavesOrFails honest content held own revision old new was now e = (new ≡ old) ⊎ ((status_of e ≡ 3) × LeavesHead honest content held own revision old new was now)
 
--- what stands of the work tree after an error: it is as it was, or, after a fault, some of the tree was brought
-abbrev pub LeavesWork : {W : Type 0} → Type 0 → (W → FileMap) → (W → Folders) → (own revision : List ℕ) → (old : FileMap) → (was now : W) → Failure → Type 0
-LeavesWork honest content held own revision old was now e =
-    IsUntouched content held was now ⊎ ((status_of e ≡ 3) × (honest → BringsSome content held own revision old was now))
+-- what stands of the work tree after an error: it is as it was and no write was made, or, after a fault, some of the tree was brought
+abbrev pub LeavesWork : {W : Type 0} → Type 0 → (W → FileMap) → (W → Folders) → (W → Option ℕ) → (own revision : List ℕ) → (old : FileMap) → (was now : W) → Failure → Type 0
+LeavesWork honest content held left own revision old was now e =
+    IsUnwritten content held left was now ⊎ ((status_of e ≡ 3) × (honest → BringsSome content held left own revision old was now))

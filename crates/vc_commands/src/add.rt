@@ -10,7 +10,7 @@ ghost use Rattle.vc_checkout.specs.Steps.{IsUntouched};
 ghost use Rattle.vc_node.specs.Staging.{MayStandAll, file_placed};
 ghost use Rattle.vc_commands.specs.Adding.{AddsInto, AreBlobs, AreNamed, IsNamed, IsOfFile, IsOfStoring, RefusesFiles, RefusesInto, StoresInto, file_at, files_at};
 ghost use Rattle.vc_commands.specs.Devices.{WritesEither};
-ghost use Rattle.vc_files.specs.Failures.{Wears, unstopped};
+ghost use Rattle.vc_files.specs.Failures.{Wears};
 ghost use Rattle.vc_commands.specs.Failure.{TellsDevice};
 
 use crate::failure::Failure;
@@ -39,7 +39,7 @@ fn check_file<W: WorkTree>(
     ensures blob { W.honest → OnOk result (IsObject Kind.Blob (file_at (W.content work.old) mode path.now).body) }
     ensures refused { W.honest → IfErr result (IsOfFile index.old (file_at (W.content work.old) mode path.now)) }
     ensures untouched { IsUntouched W.content W.folders work.old work.new }
-    ensures wear { Wears W.failed W.can_fail unstopped work.old work.new (TellsDevice result) }
+    ensures wear { Wears W.failed W.can_fail W.left work.old work.new (TellsDevice result) }
 {
     index.add(alloc, path.as_bytes(), mode, ObjectId::ZERO)?;
     let Some(bytes) = work.read(alloc, path)? else {
@@ -63,7 +63,7 @@ fn check_files<W: WorkTree>(
     ensures blobs { W.honest → OnOk result (AreBlobs (files_at (W.content work.old) mode paths.now)) }
     ensures refused { W.honest → IfErr result (RefusesFiles index.old (files_at (W.content work.old) mode paths.now)) }
     ensures untouched { IsUntouched W.content W.folders work.old work.new }
-    ensures wear { Wears W.failed W.can_fail unstopped work.old work.new (TellsDevice result) }
+    ensures wear { Wears W.failed W.can_fail W.left work.old work.new (TellsDevice result) }
 {
     for path in paths {
         check_file(alloc, index, work, mode, path.as_str())?;
@@ -88,7 +88,7 @@ fn store_file<F: Files, W: WorkTree>(
     ensures up { OnOk result (node.new.is_up ≡ true) }
     ensures refused { W.honest → F.honest → IfErr result (IsOfStoring (file_at (W.content work.old) mode path.now ∷ []) (F.content node.old.files) (F.content node.new.files)) }
     ensures untouched { IsUntouched W.content W.folders work.old work.new }
-    ensures wear { WritesEither W.failed W.can_fail F.honest F.content F.failed F.can_fail F.left work.old work.new node.old.files node.new.files (TellsDevice result) }
+    ensures wear { WritesEither W.failed W.can_fail W.left F.honest F.content F.failed F.can_fail F.left work.old work.new node.old.files node.new.files (TellsDevice result) }
 {
     let Some(bytes) = work.read(alloc, path)? else {
         return Err(Failure::NoSuchPath);
@@ -116,7 +116,7 @@ fn store_files<F: Files, W: WorkTree>(
     ensures up { OnOk result (node.new.is_up ≡ true) }
     ensures refused { W.honest → F.honest → IfErr result (IsOfStoring (files_at (W.content work.old) mode paths.now) (F.content node.old.files) (F.content node.new.files)) }
     ensures untouched { IsUntouched W.content W.folders work.old work.new }
-    ensures wear { WritesEither W.failed W.can_fail F.honest F.content F.failed F.can_fail F.left work.old work.new node.old.files node.new.files (TellsDevice result) }
+    ensures wear { WritesEither W.failed W.can_fail W.left F.honest F.content F.failed F.can_fail F.left work.old work.new node.old.files node.new.files (TellsDevice result) }
 {
     let mut staged = Vec::new(alloc);
     for path in paths {
@@ -142,7 +142,7 @@ pub fn add_all<F: Files, W: WorkTree>(
     ensures added { W.honest → F.honest → OnOk result (AddsInto F.content (W.content work.old) own.now (mode_of mode) (map (λ word. word.now) words.now) node.old node.new) }
     ensures refused { W.honest → F.honest → IfErr result (RefusesInto F.content (W.content work.old) own.now (mode_of mode) (map (λ word. word.now) words.now) node.old node.new) }
     ensures untouched { IsUntouched W.content W.folders work.old work.new }
-    ensures wear { WritesEither W.failed W.can_fail F.honest F.content F.failed F.can_fail F.left work.old work.new node.old.files node.new.files (TellsDevice result) }
+    ensures wear { WritesEither W.failed W.can_fail W.left F.honest F.content F.failed F.can_fail F.left work.old work.new node.old.files node.new.files (TellsDevice result) }
 {
     let paths = paths_named(alloc, work, own, words)?;
     let mut index = node.index()?;

@@ -11,7 +11,7 @@ ghost use Rattle.vc_commands.specs.CloneWords.{branch_ref};
 ghost use Rattle.vc_commands.specs.Devices.{WritesEither};
 ghost use Rattle.vc_commands.specs.Failure.{TellsDevice};
 ghost use Rattle.vc_commands.specs.Revisions.{Denoted, IsOfRevision};
-ghost use Rattle.vc_files.specs.Failures.{Wears};
+ghost use Rattle.vc_files.specs.Failures.{Wears, unstopped};
 
 use crate::clone::branch_of;
 use crate::failure::Failure;
@@ -205,8 +205,8 @@ pub fn check_out<F: Files, W: WorkTree>(
     ensures done { W.honest → F.honest → OnOk result (ChecksOut W.content W.folders own.now revision.now (F.content files.old) (F.content files.new) work.old work.new) }
     ensures refused { F.honest → IfErr result (RefusesCheckout W.honest own.now revision.now (F.content files.old) (W.content work.old)) }
     ensures files { F.honest → IfErr result (LeavesOrFails W.honest W.content W.folders own.now revision.now (F.content files.old) (F.content files.new) work.old work.new) }
-    ensures begun { F.honest → IfErr result (LeavesWork W.honest W.content W.folders own.now revision.now (F.content files.old) work.old work.new) }
-    ensures wear { WritesEither W.failed W.can_fail F.honest F.content F.failed F.can_fail F.left work.old work.new files.old files.new (TellsDevice result) }
+    ensures begun { F.honest → IfErr result (LeavesWork W.honest W.content W.folders W.left own.now revision.now (F.content files.old) work.old work.new) }
+    ensures wear { WritesEither W.failed W.can_fail unstopped F.honest F.content F.failed F.can_fail F.left work.old work.new files.old files.new (TellsDevice result) }
 {
     let (index, aim, tree) = look(alloc, files, own, revision)?;
     vc_checkout::checkout(alloc, work, files, &index, &tree)?;

@@ -6,7 +6,7 @@ ghost use Rattle.vc_index.specs.Path.{IsPath};
 ghost use Rattle.vc_checkout.specs.Steps.{IsUntouched};
 ghost use Rattle.vc_work_folder.specs.Own.{is_own};
 ghost use Rattle.vc_commands.specs.Adding.{IsAbsentOr, IsListing, IsListingIf, IsOfPath, Names, RefusesWord, RefusesWords, files_below, files_named_by, is_below, spelled_path};
-ghost use Rattle.vc_files.specs.Failures.{Wears, unstopped};
+ghost use Rattle.vc_files.specs.Failures.{Wears};
 ghost use Rattle.vc_commands.specs.Failure.{TellsDevice};
 
 use crate::failure::Failure;
@@ -58,7 +58,7 @@ fn start_of(alloc: Global, word: &[u8]) -> Result<Vec<u8>, AllocError>
 fn has_file<W: WorkTree>(alloc: Global, work: &mut W, path: &str) -> Result<bool, Fault>
     ensures found { W.honest → IfOk result (λ found. found ≡ is_some (maps.get (W.content work.old) path.now)) }
     ensures untouched { IsUntouched W.content W.folders work.old work.new }
-    ensures wear { Wears W.failed W.can_fail unstopped work.old work.new (IsErrOf result Fault.Device) }
+    ensures wear { Wears W.failed W.can_fail W.left work.old work.new (IsErrOf result Fault.Device) }
 {
     let found = work.read(alloc, path)?;
     Ok(found.is_some())
@@ -73,7 +73,7 @@ fn list_once<W: WorkTree>(
     requires { W.honest → IsListingIf (W.content work.old) listed }
     ensures all { W.honest → IfOk result (IsListing (W.content work.old)) }
     ensures untouched { IsUntouched W.content W.folders work.old work.new }
-    ensures wear { Wears W.failed W.can_fail unstopped work.old work.new (IsErrOf result Fault.Device) }
+    ensures wear { Wears W.failed W.can_fail W.left work.old work.new (IsErrOf result Fault.Device) }
 {
     match listed {
         Some(all) => Ok(all),
@@ -124,7 +124,7 @@ fn add_below<W: WorkTree>(
     ensures listed { W.honest → IfOk result (IsListingIf (W.content work.old)) }
     ensures refused { W.honest → IfErr result (λ e. IsAbsentOr (files_below (W.content work.old) own.now start.now) e) }
     ensures untouched { IsUntouched W.content W.folders work.old work.new }
-    ensures wear { Wears W.failed W.can_fail unstopped work.old work.new (TellsDevice result) }
+    ensures wear { Wears W.failed W.can_fail W.left work.old work.new (TellsDevice result) }
 {
     let before = paths.len();
     let all = list_once(alloc, work, listed)?;
@@ -151,7 +151,7 @@ fn add_named<W: WorkTree>(
     ensures listed { W.honest → IfOk result (IsListingIf (W.content work.old)) }
     ensures refused { W.honest → IfErr result (RefusesWord (W.content work.old) own.now word.now) }
     ensures untouched { IsUntouched W.content W.folders work.old work.new }
-    ensures wear { Wears W.failed W.can_fail unstopped work.old work.new (TellsDevice result) }
+    ensures wear { Wears W.failed W.can_fail W.left work.old work.new (TellsDevice result) }
 {
     if word == "." {
         return add_below(alloc, work, own, b"", listed, paths);
@@ -179,7 +179,7 @@ pub fn paths_named<W: WorkTree>(
     ensures names { W.honest → OnOk result (AllByRecursion (Names (W.content work.old) own.now) (map (λ word. word.now) words.now)) }
     ensures refused { W.honest → IfErr result (RefusesWords (W.content work.old) own.now (map (λ word. word.now) words.now)) }
     ensures untouched { IsUntouched W.content W.folders work.old work.new }
-    ensures wear { Wears W.failed W.can_fail unstopped work.old work.new (TellsDevice result) }
+    ensures wear { Wears W.failed W.can_fail W.left work.old work.new (TellsDevice result) }
 {
     let mut paths = Vec::new(alloc);
     let mut listed = None;

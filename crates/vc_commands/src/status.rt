@@ -127,7 +127,7 @@ pub fn print_status<F: Files, W: WorkTree, O: Write>(
     ensures nothing_printed { IfErr result (λ e. (status_of e ≡ 3) ⊎ Keeps (O.contents output.old) (O.contents output.new)) }
     ensures files { F.content files.new ≡ F.content files.old }
     ensures untouched { IsUntouched W.content W.folders work.old work.new }
-    ensures wear { WearsEither W.failed W.can_fail F.failed F.can_fail F.left work.old work.new files.old files.new (TellsOfFiles result) }
+    ensures wear { WearsEither W.failed W.can_fail W.left F.failed F.can_fail F.left work.old work.new files.old files.new (TellsOfFiles result) }
 {
     let index = read_index(alloc, files)?;
     let tree = head_tree(alloc, files)?;

@@ -1,6 +1,6 @@
 // A work tree in a real folder. Nothing is claimed of a disk.
 ghost use Rattle.std.specs.Prelude.{◌≡◌, ◌≤◌, IsErrOf};
-ghost use Rattle.vc_files.specs.Failures.{HasFailed};
+ghost use Rattle.vc_files.specs.Failures.{HasFailed, unstopped};
 
 use crate::ahead::Ahead;
 use crate::beside::Beside;
@@ -107,6 +107,8 @@ impl<R: rt::Files + Beside<R> + AllocGlobal + Clone + Drop> WorkTree for FolderT
     ghost failed = { λ s. s };
 
     ghost can_fail = { λ _. ⊤ };
+
+    ghost left = { unstopped };
 
     fn read(&mut self, alloc: Global, path: &str) -> Result<Option<Vec<u8>>, Fault> {
         let done = self.disk.read(alloc, path);

@@ -35,11 +35,11 @@ returns-in_err-check_blobs-clause-begun g c = λ honest stored.
     let was = g.T.WorkTree.folders c.args.work.now in
     let index = c.args.index.now in
     let tree = c.args.tree.now in
-    let part : BringsPart g.T.WorkTree.content g.T.WorkTree.folders (objects (g.F.Files.content c.args.files.now)) index tree c.args.work.now c.args.work.now = record {
+    let part : BringsPart g.T.WorkTree.content g.T.WorkTree.folders g.T.WorkTree.left (objects (g.F.Files.content c.args.files.now)) index tree c.args.work.now c.args.work.now = record {
       files = λ path. inl (search rules);
       folders = first_between index tree old old was was (between_same old old was was (λ d. IsFolder old was d × (IsLeftBy index tree d → ⊥)) refl refl (λ d is. is.0));
       apart = λ were. were;
-      allowed = inl (refl, refl);
+      allowed = inl ((refl, refl), refl);
     } in
     on_err _ _ part
 
@@ -58,11 +58,11 @@ returns-in_err-check_all-clause-begun g c = λ honest stored.
     let was = g.T.WorkTree.folders c.args.work.now in
     let now = g.T.WorkTree.content c.check_all.new.work in
     let new = g.T.WorkTree.folders c.check_all.new.work in
-    let part : BringsPart g.T.WorkTree.content g.T.WorkTree.folders (objects (g.F.Files.content c.args.files.now)) index tree c.args.work.now c.check_all.new.work = record {
+    let part : BringsPart g.T.WorkTree.content g.T.WorkTree.folders g.T.WorkTree.left (objects (g.F.Files.content c.args.files.now)) index tree c.args.work.now c.check_all.new.work = record {
       files = λ path. inl (search rules);
       folders = first_between index tree old now was new (between_same old now was new (λ d. IsFolder old was d × (IsLeftBy index tree d → ⊥)) c.check_all.ensures.untouched.0 c.check_all.ensures.untouched.1 (λ d is. is.0));
       apart = subst AreApart (sym c.check_all.ensures.untouched.0);
-      allowed = inl c.check_all.ensures.untouched;
+      allowed = inl (c.check_all.ensures.untouched, c.check_all.ensures.wear.unspent);
     } in
     on_err _ _ part
 
@@ -79,7 +79,7 @@ returns-in_err-clear_all-clause-begun g c = λ honest stored.
     let now = g.T.WorkTree.content c.clear_all.new.work in
     let so : (q : List ℕ) → (get now q ≡ get old q) ⊎ IsCleared (get index q) (get tree q) (get old q) (get now q) =
     subst (λ (w : FileMap). (q : List ℕ) → (get now q ≡ get w q) ⊎ IsCleared (get index q) (get tree q) (get w q) (get now q)) c.check_all.ensures.untouched.0 (c.clear_all.ensures.begun honest) in
-    let part : BringsPart g.T.WorkTree.content g.T.WorkTree.folders (objects (g.F.Files.content c.args.files.now)) index tree c.args.work.now c.clear_all.new.work = record {
+    let part : BringsPart g.T.WorkTree.content g.T.WorkTree.folders g.T.WorkTree.left (objects (g.F.Files.content c.args.files.now)) index tree c.args.work.now c.clear_all.new.work = record {
       files = old_or_cleared (objects (g.F.Files.content c.args.files.now)) index tree old now so;
       apart = apart_cleared index tree old now so;
       allowed = inr (record { blobs = c.in_ok-check_blobs.ensures.blobs stored; clear = c.in_ok-check_all.ensures.clear honest });
@@ -104,7 +104,7 @@ returns-in_err-write_all-clause-begun g c = λ honest stored.
     let written : (q : List ℕ) → (get now q ≡ get mid q) ⊎ IsWritten all (get index q) (get tree q) (get mid q) (get now q) =
     subst (λ (f : FileMap). (q : List ℕ) → (get now q ≡ get mid q) ⊎ IsWritten (objects f) (get index q) (get tree q) (get mid q) (get now q)) c.check_blobs.ensures.same (c.write_all.ensures.begun honest stored) in
     let clear = c.in_ok-check_all.ensures.clear honest in
-    let part : BringsPart g.T.WorkTree.content g.T.WorkTree.folders all index tree c.args.work.now c.write_all.new.work = record {
+    let part : BringsPart g.T.WorkTree.content g.T.WorkTree.folders g.T.WorkTree.left all index tree c.args.work.now c.write_all.new.work = record {
       files = old_or_written all index tree old mid now cleared written;
       apart = apart_written all index tree old mid now c.write_all.ensures.index clear cleared written;
       allowed = inr (record { blobs = c.in_ok-check_blobs.ensures.blobs stored; clear = clear });

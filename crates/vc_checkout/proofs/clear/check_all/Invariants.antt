@@ -4,7 +4,7 @@ use Rattle.std.specs.FinMap.{get}
 use Rattle.std.specs.List.Sorted.{IsStrictlySortedBy}
 use Rattle.std.specs.Cmp.Lexicographic.{slice_cmp}
 use Rattle.std.specs.Ordering.{nat_cmp}
-use Rattle.vc_files.specs.Failures.{Wears, unstopped}
+use Rattle.vc_files.specs.Failures.{Wears}
 use Rattle.vc_checkout.specs.Refusal.{IsClear, IsDue}
 use Rattle.vc_checkout.proofs.ClearLemmas.{Holds}
 use Rattle.vc_checkout.proofs.clear.check_all.Given as goal
@@ -20,5 +20,5 @@ invariant-loop-path g l = record {
   text : Holds (λ path. IsDue (get l.index path) (get l.tree path) → IsUtf8 path) (map (λ k. k.items) l.path-iterator);
   same : g.T.WorkTree.content l.work ≡ g.T.WorkTree.content l.fn.work;
   folders : g.T.WorkTree.folders l.work ≡ g.T.WorkTree.folders l.fn.work;
-  wear : Wears g.T.WorkTree.failed g.T.WorkTree.can_fail unstopped l.fn.work l.work ⊥;
+  wear : Wears g.T.WorkTree.failed g.T.WorkTree.can_fail g.T.WorkTree.left l.fn.work l.work ⊥;
 }

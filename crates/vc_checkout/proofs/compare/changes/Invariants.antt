@@ -1,5 +1,5 @@
 use Rattle.std.proofs.Common.{◌≡◌, map}
-use Rattle.vc_files.specs.Failures.{Wears, unstopped}
+use Rattle.vc_files.specs.Failures.{Wears}
 use Rattle.vc_checkout.specs.Status.{seen}
 use Rattle.vc_checkout.proofs.StatusLemmas.{SoFar}
 use Rattle.vc_checkout.proofs.compare.changes.Given as goal
@@ -13,5 +13,5 @@ invariant-loop-path g l = record {
   so_far : g.T.WorkTree.honest → SoFar l.tree l.index (g.T.WorkTree.content l.fn.work) (map seen l.changes.items) (map (λ k. k.items) l.path-iterator);
   same : g.T.WorkTree.content l.work ≡ g.T.WorkTree.content l.fn.work;
   folders : g.T.WorkTree.folders l.work ≡ g.T.WorkTree.folders l.fn.work;
-  wear : Wears g.T.WorkTree.failed g.T.WorkTree.can_fail unstopped l.fn.work l.work ⊥;
+  wear : Wears g.T.WorkTree.failed g.T.WorkTree.can_fail g.T.WorkTree.left l.fn.work l.work ⊥;
 }

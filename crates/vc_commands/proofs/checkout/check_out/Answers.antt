@@ -1,4 +1,4 @@
-use Rattle.std.proofs.Common.{rules, ◌≡◌, ◌⊎◌, ℕ, List, refl, ap, subst, ◌∙◌, inl, inr}
+use Rattle.std.proofs.Common.{rules, ◌≡◌, ◌⊎◌, ℕ, List, Option, refl, ap, subst, ◌∙◌, inl, inr}
 use Rattle.std.specs.FinMap.{insert}
 use Rattle.std.specs.Prelude.{codes}
 use Rattle.vc_index.specs.IndexText.{index_text}
@@ -7,7 +7,7 @@ use Rattle.vc_store.specs.Store.{objects}
 use Rattle.vc_checkout.specs.Blobs.{HasDueBlobs}
 use Rattle.vc_checkout.specs.CheckoutFault.{IsFault}
 use Rattle.vc_checkout.specs.Folders.{Folders}
-use Rattle.vc_checkout.specs.Steps.{Brings, BringsPart, IsUntouched}
+use Rattle.vc_checkout.specs.Steps.{Brings, BringsPart, IsUnwritten}
 use Rattle.vc_checkout.specs.declared.faults.CheckoutFault.{CheckoutFault}
 use Rattle.vc_files.proofs.WearLemmas.{wears_writes}
 use Rattle.vc_index.specs.IndexMap.{IndexMap}
@@ -28,13 +28,13 @@ brought_on : {W : Type 0} (content : W → FileMap) (held : W → Folders) (mid 
 brought_on content held mid old index tree was now same brought = subst (λ (m : FileMap). Brings content held (objects m) index tree was now) same brought
 
 -- what an error of the checkout leaves of the work tree
-part_left : {W : Type 0} (honest : Type 0) (content : W → FileMap) (held : W → Folders) (own revision : List ℕ) (mid old : FileMap) (index tree : IndexMap) (head : Head) (was now : W) (cause : CheckoutFault)
-    → MayBring own revision old index head tree → mid ≡ old → IsFault cause ⊎ IsUntouched content held was now → (honest → BringsPart content held (objects mid) index tree was now)
-    → LeavesWork honest content held own revision old was now (of_checkout cause)
-part_left honest content held own revision mid old index tree head was now cause may same (inr untouched) part = inl untouched
-part_left honest content held own revision mid old index tree head was now cause may same (inl fault) part = inr (
+part_left : {W : Type 0} (honest : Type 0) (content : W → FileMap) (held : W → Folders) (left : W → Option ℕ) (own revision : List ℕ) (mid old : FileMap) (index tree : IndexMap) (head : Head) (was now : W) (cause : CheckoutFault)
+    → MayBring own revision old index head tree → mid ≡ old → IsFault cause ⊎ IsUnwritten content held left was now → (honest → BringsPart content held left (objects mid) index tree was now)
+    → LeavesWork honest content held left own revision old was now (of_checkout cause)
+part_left honest content held left own revision mid old index tree head was now cause may same (inr unwritten) part = inl unwritten
+part_left honest content held left own revision mid old index tree head was now cause may same (inl fault) part = inr (
   ap (λ (c : CheckoutFault). status_of (of_checkout c)) fault.1,
-  λ h. record { index = index; head = head; tree = tree; before = may; brought = inl (subst (λ (m : FileMap). BringsPart content held (objects m) index tree was now) same (part h)) },
+  λ h. record { index = index; head = head; tree = tree; before = may; brought = inl (subst (λ (m : FileMap). BringsPart content held left (objects m) index tree was now) same (part h)) },
 )
 
 pub returns-clause-done : goal.returns-clause-done
@@ -108,8 +108,8 @@ returns-in_err-checkout-clause-begun g c = λ honest.
     let held = g.W.WorkTree.folders in
     let old = g.F.Files.content c.args.files.now in
     let cause = c.in_err-checkout.field-0.0 in
-    handed_on (LeavesWork g.W.WorkTree.honest trees held c.args.own.now c.args.revision.now old c.args.work.now c.checkout.new.work) (of_checkout cause) c.from_residual-in_err-checkout.result c.from_residual-in_err-checkout.ensures.1
-    (part_left g.W.WorkTree.honest trees held c.args.own.now c.args.revision.now _ old c.in_ok-index.index c.in_ok-index.tree c.in_ok-index.aim c.args.work.now c.checkout.new.work cause
+    handed_on (LeavesWork g.W.WorkTree.honest trees held g.W.WorkTree.left c.args.own.now c.args.revision.now old c.args.work.now c.checkout.new.work) (of_checkout cause) c.from_residual-in_err-checkout.result c.from_residual-in_err-checkout.ensures.1
+    (part_left g.W.WorkTree.honest trees held g.W.WorkTree.left c.args.own.now c.args.revision.now _ old c.in_ok-index.index c.in_ok-index.tree c.in_ok-index.aim c.args.work.now c.checkout.new.work cause
     (c.in_ok-index.ensures.may honest) c.in_ok-index.ensures.same (c.in_err-checkout.ensures.unchanged honest) (λ work_honest. c.in_err-checkout.ensures.begun work_honest honest))
 
 pub returns-in_err-write_index-clause-begun : goal.returns-in_err-write_index-clause-begun
@@ -117,7 +117,7 @@ returns-in_err-write_index-clause-begun g c = λ honest.
     let trees = g.W.WorkTree.content in
     let held = g.W.WorkTree.folders in
     let old = g.F.Files.content c.args.files.now in
-    handed_on (LeavesWork g.W.WorkTree.honest trees held c.args.own.now c.args.revision.now old c.args.work.now c.checkout.new.work) (Fault c.in_err-write_index.field-0.0) c.from_residual-in_err-write_index.result c.from_residual-in_err-write_index.ensures.1
+    handed_on (LeavesWork g.W.WorkTree.honest trees held g.W.WorkTree.left c.args.own.now c.args.revision.now old c.args.work.now c.checkout.new.work) (Fault c.in_err-write_index.field-0.0) c.from_residual-in_err-write_index.result c.from_residual-in_err-write_index.ensures.1
     (inr (
       refl,
       λ work_honest. record {
@@ -135,7 +135,7 @@ returns-in_err-set_head-clause-begun g c = λ honest.
     let held = g.W.WorkTree.folders in
     let old = g.F.Files.content c.args.files.now in
     let fault = c.in_err-set_head.field-0.0 in
-    handed_on (LeavesWork g.W.WorkTree.honest trees held c.args.own.now c.args.revision.now old c.args.work.now c.checkout.new.work) (Refs fault) c.from_residual-in_err-set_head.result c.from_residual-in_err-set_head.ensures.1
+    handed_on (LeavesWork g.W.WorkTree.honest trees held g.W.WorkTree.left c.args.own.now c.args.revision.now old c.args.work.now c.checkout.new.work) (Refs fault) c.from_residual-in_err-set_head.result c.from_residual-in_err-set_head.ensures.1
     (inr (
       refs_status fault c.in_err-set_head.ensures.refused,
       λ work_honest. record {

@@ -1,7 +1,7 @@
 use Rattle.std.proofs.Common.{◌≡◌, map, take}
 use Rattle.std.specs.Prelude.{string_bytes}
 use Rattle.std.specs.List.{AllByRecursion, flat_map}
-use Rattle.vc_files.specs.Failures.{Wears, unstopped}
+use Rattle.vc_files.specs.Failures.{Wears}
 use Rattle.vc_commands.specs.Adding.{IsListingIf, Names, files_named_by}
 use Rattle.vc_commands.proofs.NamedLemmas.{word_bytes}
 use Rattle.vc_commands.proofs.named_files.paths_named.Given as goal
@@ -13,5 +13,5 @@ invariant-loop-word g l = record {
   listed : g.W.WorkTree.honest → IsListingIf (g.W.WorkTree.content l.fn.work) l.listed;
   same : g.W.WorkTree.content l.work ≡ g.W.WorkTree.content l.fn.work;
   folders : g.W.WorkTree.folders l.work ≡ g.W.WorkTree.folders l.fn.work;
-  wear : Wears g.W.WorkTree.failed g.W.WorkTree.can_fail unstopped l.fn.work l.work ⊥;
+  wear : Wears g.W.WorkTree.failed g.W.WorkTree.can_fail g.W.WorkTree.left l.fn.work l.work ⊥;
 }
