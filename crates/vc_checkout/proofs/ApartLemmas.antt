@@ -6,6 +6,7 @@ use Rattle.vc_files.specs.FileMap.{FileMap}
 use Rattle.vc_object.specs.ObjectMap.{ObjectMap}
 use Rattle.vc_object.specs.declared.mode.Mode.{Mode}
 use Rattle.vc_object.specs.declared.mode.Mode.TheVariants as modes
+use Rattle.vc_index.proofs.FrontLemmas.{value_of}
 use Rattle.vc_index.specs.IndexMap.{IndexMap, IsIndex}
 use Rattle.vc_index.specs.Path.{IsAbove}
 use Rattle.vc_index.specs.declared.entry.IndexEntry.{IndexEntry}
@@ -20,10 +21,6 @@ apart_cleared index tree old now so were p q above some_p some_q =
     were p q above (cleared_some (get index p) (get tree p) (get old p) (get now p) (so p) some_p) (cleared_some (get index q) (get tree q) (get old q) (get now q) (so q) some_q)
 
 -- ---- one path
-
-entry_of : (o : Option IndexEntry) → IsSome o → (entry : IndexEntry) × (o ≡ Some entry)
-entry_of None some = cc some
-entry_of (Some entry) some = (entry, refl)
 
 no_entry_of : (o : Option IndexEntry) → (IsSome o → ⊥) → o ≡ None
 no_entry_of None lacks = refl
@@ -70,7 +67,7 @@ module _ (objects : ObjectMap) (index tree : IndexMap) (old mid now : FileMap) (
 
       kept : IsSome (get old q) → KeepsNone (get index q) → ⊥
       kept some none =
-          let (entry, at) = entry_of (get tree p) due.0 in
+          let (entry, at) = value_of (get tree p) due.0 in
           let free = (clear p).free in
           free (entry, at, due.1, (q, (some, none), inr how))
 
