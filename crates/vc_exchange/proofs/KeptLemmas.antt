@@ -5,10 +5,14 @@ use Rattle.std.specs.Option.{option_or}
 use Rattle.vc_pack.specs.Reached.{KeepsObjects}
 use Rattle.vc_files.specs.FileMap.{FileMap, SameOutside}
 use Rattle.vc_graph.specs.Overlay.{with_carried}
+use Rattle.vc_history.specs.Stored.{AgreesIn}
+use Rattle.vc_history.specs.declared.generations.Generations.{Generations}
 use Rattle.vc_object.specs.Decoding.{StoredObject}
 use Rattle.vc_object.specs.declared.id.ObjectId.{ObjectId}
 use Rattle.vc_session.proofs.FrameLemmas.{objects-same}
+use Rattle.vc_session.proofs.NumberLemmas.{agreement_kept, agreement_migrated, agreement_same}
 use Rattle.vc_session.specs.Carrying.{objects_in}
+use Rattle.vc_session.specs.Migrating.{migrated}
 use Rattle.vc_store.specs.Store.{object_path, objects}
 use Rattle.vc_exchange.specs.Storing.{AreSomeStored, AreStored}
 
@@ -29,3 +33,13 @@ module _ (old new : FileMap) where
     -- or some of it
     pub keeps_some : AreSomeStored old new brought → KeepsObjects old new
     keeps_some some = record { at = λ id o is. ⊎_elim (λ same. same ∙ is) (λ added. added ∙ there id o is) (some.each id) }
+
+-- numbers that agreed agree where what is brought is stored
+pub agrees_stored : (old first mid seen : FileMap) (brought : List StoredObject) (generations : Generations) → first ≡ old → AreStored first mid brought → seen ≡ mid → AgreesIn old generations → AgreesIn seen generations
+agrees_stored old first mid seen brought generations at stored same agrees =
+    agreement_same mid seen same generations (agreement_kept first mid (keeps_stored first mid brought stored).at generations (agreement_same old first at generations agrees))
+
+-- the same of what stood in the quarantine
+pub agrees_migrated : (old first mid seen : FileMap) (names : List ObjectId) (generations : Generations) → first ≡ old → ((id : ObjectId) → objects mid id ≡ migrated first 0 names id) → seen ≡ mid → AgreesIn old generations
+    → AgreesIn seen generations
+agrees_migrated old first mid seen names generations at stored same agrees = agreement_same mid seen same generations (agreement_migrated first mid 0 names stored generations (agreement_same old first at generations agrees))

@@ -1,11 +1,15 @@
 -- The loop over what is told: what is told so far, the next one and the rest; what is blamed of files that none of it made bad; and
 -- what is known to be whole.
 use Rattle.std.proofs.Common.{◌≡◌, ℕ, suc, ◌<◌, ◌+◌, List, [], ◌∷◌, ◌++◌, length, take, drop, get_or, refl, sym, ap, ◌∙◌, subst, drop-cons}
-use Rattle.std.specs.Prelude.{Vec, codes}
+use Rattle.std.specs.Prelude.{IfErr, Result, Ok, Err, Vec, codes, string_bytes}
 use Rattle.std.specs.Global.{Global}
 use Rattle.std.proofs.lemmas.List.{take-append-drop, take_more}
 use Rattle.vc_files.specs.FileMap.{FileMap, SameOutside}
+use Rattle.vc_files.specs.declared.faults.Fault.{Fault}
 use Rattle.vc_graph.specs.Graph.{IsClosedUnder}
+use Rattle.vc_history.specs.Stored.{AgreesIn}
+use Rattle.vc_history.specs.declared.generations.Generations.{Generations}
+use Rattle.vc_model.specs.Message.{Message}
 use Rattle.vc_model.specs.Repository.{IsSound, Repository}
 use Rattle.vc_object.specs.ObjectMap.{ObjectMap, links_in, parents_in}
 use Rattle.vc_object.specs.declared.id.ObjectId.{ObjectId}
@@ -16,9 +20,15 @@ use Rattle.vc_rules.specs.OpenPushes.{HoldsContent}
 use Rattle.vc_session.specs.Known.{AreRefsWhole, AreWhole}
 use Rattle.vc_session.specs.declared.known.Known.{Known}
 use Rattle.vc_session.proofs.FrameLemmas.{objects-same}
+use Rattle.vc_session.proofs.NumberLemmas.{agreement_beside}
+use Rattle.vc_session.specs.Clean.{MakesNoneBad}
 use Rattle.vc_store.specs.Store.{object_path, objects}
 use Rattle.vc_store.specs.declared.faults.StoreFault.TheVariants as of_store
+use Rattle.vc_exchange.specs.Faults.{BlamesFiles}
 use Rattle.vc_exchange.specs.Moving.{Told, told_in}
+use Rattle.vc_exchange.specs.Receiving.{BlamesPack}
+use Rattle.vc_exchange.specs.declared.fault.ExchangeFault.{ExchangeFault}
+use Rattle.vc_exchange.specs.declared.fault.ExchangeFault.TheVariants as exchange
 
 abbrev pub Item : Type 0
 Item = Vec ℕ Global × ObjectId
@@ -47,6 +57,42 @@ objects_stay old new outside i id = objects-same old new id (outside.at (object_
 
 pub whole_after : (old new : FileMap) (known : Known) → SameOutside (codes "refs/") old new → AreWhole (objects old) known → AreWhole (objects new) known
 whole_after old new known outside whole = subst (λ (o : ObjectMap). AreWhole o known) (sym (objects_stay old new outside)) whole
+
+-- so do numbers that agree
+pub agrees_after : (old new : FileMap) (generations : Generations) → SameOutside (codes "refs/") old new → AgreesIn old generations → AgreesIn new generations
+agrees_after old new generations outside agrees = agreement_beside old new (λ id. objects-same old new id (outside.at (object_path id.0) refl)) generations agrees
+
+-- what is blamed of files that none of it made bad is blamed of them as they were
+pub blames_before : (old new : FileMap) → MakesNoneBad old new → (e : ExchangeFault) → BlamesFiles new e → BlamesFiles old e
+blames_before old new none (exchange.Store (of_store.BadObject fault)) b = b
+blames_before old new none (exchange.Store (of_store.Absent id)) b = b
+blames_before old new none (exchange.Store (of_store.Damaged id)) b = none.objects id b
+blames_before old new none (exchange.Store (of_store.Fault fault)) b = tt
+blames_before old new none (exchange.Refs (of_refs.Stale current)) b = b
+blames_before old new none (exchange.Refs (of_refs.Conflict name)) b = b
+blames_before old new none (exchange.Refs (of_refs.BadRefFile path)) b = none.refs (string_bytes path) b
+blames_before old new none (exchange.Refs of_refs.HeadLoop) b = b
+blames_before old new none (exchange.Refs (of_refs.Fault fault)) b = tt
+blames_before old new none (exchange.Incomplete id) b = b
+blames_before old new none (exchange.Fault fault) b = tt
+
+-- and so it is of a pack
+pub blames_of_pack : (content : FileMap) (wants : List ObjectId) (m : Message) (e : ExchangeFault) → BlamesFiles content e → BlamesPack content wants m e
+blames_of_pack content wants m (exchange.Store fault) b = b
+blames_of_pack content wants m (exchange.Refs fault) b = b
+blames_of_pack content wants m (exchange.Incomplete id) b = absurd b
+blames_of_pack content wants m (exchange.Fault fault) b = b
+
+-- none of it is for want of an object
+pub never_incomplete : (content : FileMap) (e : ExchangeFault) (id : ObjectId) → BlamesFiles content e → e ≡ exchange.Incomplete id → ⊥
+never_incomplete content e id why is = subst (λ (x : ExchangeFault). BlamesFiles content x) is why
+
+pub fault_other : (fault : Fault) (id : ObjectId) → exchange.Fault fault ≡ exchange.Incomplete id → ⊥
+fault_other fault id h = cc h
+
+pub told_err : {A E : Type 0} (r : Result A E) (e : E) (P : E → Type 0) → r ≡ Err e → P e → IfErr r P
+told_err (Ok a) e P is p = absurd (cc is)
+told_err (Err f) e P is p = let same : f ≡ e = cc in subst P (sym same) p
 
 -- what is found to be whole is so beside what was known
 pub whole_more : (old new : FileMap) (known more : Known) → new ≡ old → more.histories ≡ known.histories → (IsClosedUnder (links_in (objects old)) known.objects.keys → IsClosedUnder (links_in (objects old)) more.objects.keys) → AreWhole (objects old) known → AreWhole (objects new) more

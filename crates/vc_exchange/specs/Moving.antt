@@ -5,7 +5,11 @@ use Rattle.std.specs.Prelude.{◌≡◌, ◌≢◌, ◌⊎◌, ℕ, Bool, true, 
 use Rattle.std.specs.Global.{Global}
 use Rattle.std.specs.List.{AllByRecursion}
 use Rattle.vc_history.specs.History.{IsAncestor}
+use Rattle.vc_history.specs.HistoryFault.{IsMetInEither, IsMetInHistory}
+use Rattle.vc_history.specs.Right.{AgreesWith}
+use Rattle.vc_history.specs.Stored.{AgreesIn}
 use Rattle.vc_history.specs.Whole.{AreWhole as AreHistories}
+use Rattle.vc_history.specs.declared.generations.Generations.{Generations}
 use Rattle.vc_files.specs.FileMap.{FileMap}
 use Rattle.vc_format.specs.Git.{git_is_legal}
 use Rattle.vc_graph.specs.Complete.{IsComplete}
@@ -28,6 +32,7 @@ use Rattle.vc_session.specs.Known.{AreWhole}
 use Rattle.vc_session.specs.Verdict.{HasHistory, is_branch, is_tag}
 use Rattle.vc_session.specs.declared.known.Known.{Known}
 use Rattle.vc_store.specs.Store.{objects}
+use Rattle.vc_store.specs.declared.faults.StoreFault.{StoreFault}
 use Rattle.vc_exchange.specs.declared.fault.ExchangeFault.{ExchangeFault}
 use Rattle.vc_exchange.specs.declared.moving.Followed.{Followed}
 use Rattle.vc_exchange.specs.declared.moving.Followed.TheVariants.{All, Branches}
@@ -73,9 +78,14 @@ IsFreeAmong refs name = (other : List ℕ) → is_some (refs other) ≡ true →
 abbrev pub MayMove : Followed → FileMap → List ℕ → ObjectId → List ℕ → Type 0
 MayMove followed content name id to = MayFollow followed (objects content) (refs content) name id to × IsFreeAmong (refs content) to
 
--- some ref may move where what is known is so, or this holds
-abbrev pub MayMoveOne : Followed → FileMap → Known → List ℕ → ObjectId → Type 0 → Type 0
-MayMoveOne followed content known name id IsLook = (AreWhole (objects content) known → (to : List ℕ) × MayMove followed content name id to) ⊎ IsLook
+-- what is known to be whole is so, and the generations that are known agree with what is stored
+pub record IsRight (content : FileMap) (known : Known) (generations : Generations) : Type 0 where
+  pub whole : AreWhole (objects content) known
+  pub agrees : AgreesIn content generations
+
+-- some ref may move where what is known is right, or this holds
+abbrev pub MayMoveOne : Followed → FileMap → Known → Generations → List ℕ → ObjectId → Type 0 → Type 0
+MayMoveOne followed content known generations name id IsLook = (IsRight content known generations → (to : List ℕ) × MayMove followed content name id to) ⊎ IsLook
 
 -- a ref moved, and it may where what was known is so; or nothing is changed, and then none may
 abbrev pub IsMove : Type 0 → Followed → FileMap → FileMap → List ℕ → ObjectId → Bool → Type 0
@@ -88,9 +98,20 @@ abbrev pub IsDecided : Bool → Type 0 → Type 0
 IsDecided true P = P
 IsDecided false P = ¬ P
 
--- the same of whether an id is forward, where the histories are whole of the names that are known
-abbrev pub DecidesForward : ObjectMap → List ObjectId → Option ObjectId → ObjectId → Bool → Type 0
-DecidesForward objects known current id answer = AreHistories objects known → IsDecided answer (IsForward objects current id)
+-- the same of whether an id is forward, where the generations are right, and the histories are whole of the names that are known
+abbrev pub DecidesForward : ObjectMap → Generations → List ObjectId → Option ObjectId → ObjectId → Bool → Type 0
+DecidesForward objects generations known current id answer = AgreesWith objects generations → AreHistories objects known → IsDecided answer (IsForward objects current id)
+
+-- the same of whether a ref may take an id
+abbrev pub DecidesTake : ObjectMap → Generations → Known → Bool → Option ObjectId → ObjectId → Bool → Type 0
+DecidesTake objects generations known branch current id answer = AgreesWith objects generations → AreWhole objects known → IsDecided answer (MayTake objects branch current id)
+
+-- what a walk of a history tells where the generations are right, and what a walk of all that an id reaches, or of its history, tells
+abbrev pub IsMetWhereRight : Generations → ObjectMap → (ObjectId → Type 0) → List ObjectId → StoreFault → Type 0
+IsMetWhereRight generations objects IsDamaged roots e = AgreesWith objects generations → IsMetInHistory objects IsDamaged roots e
+
+abbrev pub IsMetInEitherWhereRight : Generations → ObjectMap → (ObjectId → Type 0) → List ObjectId → StoreFault → Type 0
+IsMetInEitherWhereRight generations objects IsDamaged roots e = AgreesWith objects generations → IsMetInEither objects IsDamaged roots e
 
 -- the ref that may follow, with its value, or none
 abbrev pub IsFound : Followed → FileMap → List ℕ → ObjectId → Option (List ℕ × Option ObjectId) → Type 0
@@ -155,15 +176,15 @@ pub record AreFrontMoved (known : Type 0) (followed : Followed) (told : List Tol
 abbrev pub MovesSome : Followed → List Told → Repository → Type 0
 MovesSome followed told r = (changes : List Change) × MovesBy followed r told changes × (changes ≢ [])
 
--- ---- of each repository that the files hold, where what is known is so
+-- ---- of each repository that the files hold, where what is known is right
 -- the refs moved that follow what is told
-abbrev pub MovesTold : Followed → FileMap → FileMap → Known → List Told → Result ℕ ExchangeFault → Type 0
-MovesTold followed old new known told result = (r : Repository) → HoldsContent old r → IfOk result (AreMoved (AreWhole (objects old) known) followed told r new)
+abbrev pub MovesTold : Followed → FileMap → FileMap → Known → Generations → List Told → Result ℕ ExchangeFault → Type 0
+MovesTold followed old new known generations told result = (r : Repository) → HoldsContent old r → IfOk result (AreMoved (IsRight old known generations) followed told r new)
 
 -- an error leaves some first of them moved
-abbrev pub MovesFront : {T : Type 0} → Followed → FileMap → FileMap → Known → List Told → Result T ExchangeFault → Type 0
-MovesFront followed old new known told result = (r : Repository) → HoldsContent old r → OnErr result (AreFrontMoved (AreWhole (objects old) known) followed told r new)
+abbrev pub MovesFront : {T : Type 0} → Followed → FileMap → FileMap → Known → Generations → List Told → Result T ExchangeFault → Type 0
+MovesFront followed old new known generations told result = (r : Repository) → HoldsContent old r → OnErr result (AreFrontMoved (IsRight old known generations) followed told r new)
 
 -- some ref moves, or this holds
-abbrev pub MayMoveTold : Followed → FileMap → Known → List Told → Type 0 → Type 0
-MayMoveTold followed old known told IsLook = (r : Repository) → HoldsContent old r → (AreWhole (objects old) known → MovesSome followed told r) ⊎ IsLook
+abbrev pub MayMoveTold : Followed → FileMap → Known → Generations → List Told → Type 0 → Type 0
+MayMoveTold followed old known generations told IsLook = (r : Repository) → HoldsContent old r → (IsRight old known generations → MovesSome followed told r) ⊎ IsLook

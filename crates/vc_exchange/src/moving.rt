@@ -5,7 +5,7 @@ ghost use Rattle.std.specs.Prelude.{◌≡◌, ◌⊎◌, ◌∷◌, [], true, N
 ghost use Rattle.vc_files.specs.Failures.{Wears, Writes};
 ghost use Rattle.vc_files.specs.FileMap.{SameOutside};
 ghost use Rattle.vc_format.specs.Git.{git_is_legal};
-ghost use Rattle.vc_history.specs.HistoryFault.{IsMetInEither, IsMetInHistory};
+ghost use Rattle.vc_history.specs.Stored.{AgreesIn};
 ghost use Rattle.vc_history.specs.Whole.{AreWholeBeyond};
 ghost use Rattle.vc_refs.specs.RefMap.{IsInRefs};
 ghost use Rattle.vc_refs.specs.Refs.{refs};
@@ -13,7 +13,7 @@ ghost use Rattle.vc_session.specs.Clean.{MakesNoneBad};
 ghost use Rattle.vc_session.specs.Known.{AreWhole};
 ghost use Rattle.vc_store.specs.Store.{objects};
 ghost use Rattle.vc_exchange.specs.Faults.{BlamesFiles, BlamesRefs, Looks};
-ghost use Rattle.vc_exchange.specs.Moving.{DecidesForward, IsDecided, IsFound, IsFreeAmong, IsMove, IsSetWhereFree, MayMoveOne, MayMoveTold, MayTake, MovesFront, MovesTold, follower, is_new, passed_over, told_in};
+ghost use Rattle.vc_exchange.specs.Moving.{DecidesForward, DecidesTake, IsFound, IsFreeAmong, IsMetInEitherWhereRight, IsMetWhereRight, IsMove, IsRight, IsSetWhereFree, MayMoveOne, MayMoveTold, MovesFront, MovesTold, follower, is_new, passed_over, told_in};
 
 use crate::ExchangeFault;
 use indexmap::IndexSet;
@@ -80,17 +80,19 @@ fn is_new(is_branch: bool, current: Option<ObjectId>, id: &ObjectId) -> bool
     }
 }
 
-// Whether it is a commit with commits alone along its parent links, and descends from the value, where there is one.
+// Whether it is a commit with commits alone along its parent links, and descends from the value, where there is one. Of the way down
+// to that no commit is read whose generation rules it out, where the generations are right.
 fn is_forward<C: Commits>(
     alloc: Global,
     commits: &mut C,
     histories: &mut IndexSet<ObjectId>,
     current: Option<ObjectId>,
     id: &ObjectId,
+    generations: &Generations,
 ) -> Result<bool, StoreFault>
-    ensures forward { IfOk result (λ yes. C.is_honest → DecidesForward (C.objects (C.state_of commits.old)) histories.old.keys current id.now yes) }
+    ensures forward { IfOk result (λ yes. C.is_honest → DecidesForward (C.objects (C.state_of commits.old)) generations.now histories.old.keys current id.now yes) }
     ensures known { C.is_honest → AreWholeBeyond (C.objects (C.state_of commits.old)) histories.old.keys histories.new.keys }
-    ensures refused { IfErr result (λ e. C.is_honest → IsMetInHistory (C.objects (C.state_of commits.old)) (C.damaged (C.state_of commits.old)) (id.now ∷ []) e) }
+    ensures refused { IfErr result (λ e. C.is_honest → IsMetWhereRight generations.now (C.objects (C.state_of commits.old)) (C.damaged (C.state_of commits.old)) (id.now ∷ []) e) }
     ensures kept { C.state_of commits.new ≡ C.state_of commits.old }
     ensures wear { Wears C.failed C.can_fail C.left commits.old commits.new (IsErrOf result (StoreFault.Fault Fault.Device)) }
 {
@@ -100,8 +102,7 @@ fn is_forward<C: Commits>(
     let Some(current) = current else {
         return Ok(true);
     };
-    let generations = Generations::new(alloc);
-    match is_ancestor(alloc, commits, &current, id, &generations) {
+    match is_ancestor(alloc, commits, &current, id, generations) {
         Ok(yes) => Ok(yes),
         // Its history was just read, and is whole.
         Err(HistoryFault::Missing(_)) => Ok(false),
@@ -111,7 +112,7 @@ fn is_forward<C: Commits>(
 }
 
 // Whether a ref that has this value may take the id. What is found to be whole is known from then on, and not read again; the
-// way down to the old value is walked anew for each ref.
+// way down to the old value is walked anew for each ref, as far as no generation is known.
 fn may_take<C: Commits>(
     alloc: Global,
     commits: &mut C,
@@ -119,10 +120,11 @@ fn may_take<C: Commits>(
     is_branch: bool,
     current: Option<ObjectId>,
     id: &ObjectId,
+    generations: &Generations,
 ) -> Result<bool, StoreFault>
-    ensures takes { IfOk result (λ yes. C.is_honest → AreWhole (C.objects (C.state_of commits.old)) known.old → IsDecided yes (MayTake (C.objects (C.state_of commits.old)) is_branch current id.now)) }
+    ensures takes { IfOk result (λ yes. C.is_honest → DecidesTake (C.objects (C.state_of commits.old)) generations.now known.old is_branch current id.now yes) }
     ensures known { C.is_honest → AreWhole (C.objects (C.state_of commits.old)) known.old → AreWhole (C.objects (C.state_of commits.old)) known.new }
-    ensures refused { IfErr result (λ e. C.is_honest → IsMetInEither (C.objects (C.state_of commits.old)) (C.damaged (C.state_of commits.old)) (id.now ∷ []) e) }
+    ensures refused { IfErr result (λ e. C.is_honest → IsMetInEitherWhereRight generations.now (C.objects (C.state_of commits.old)) (C.damaged (C.state_of commits.old)) (id.now ∷ []) e) }
     ensures kept { C.state_of commits.new ≡ C.state_of commits.old }
     ensures wear { Wears C.failed C.can_fail C.left commits.old commits.new (IsErrOf result (StoreFault.Fault Fault.Device)) }
 {
@@ -135,7 +137,14 @@ fn may_take<C: Commits>(
     if !is_branch {
         return Ok(true);
     }
-    let forward = is_forward(alloc, commits, &mut known.histories, current, id)?;
+    let forward = is_forward(
+        alloc,
+        commits,
+        &mut known.histories,
+        current,
+        id,
+        generations,
+    )?;
     Ok(forward)
 }
 
@@ -147,12 +156,13 @@ fn find_follower<F: Files>(
     followed: Followed,
     name: &[u8],
     id: &ObjectId,
+    generations: &Generations,
 ) -> Result<Option<(RefName, Option<ObjectId>)>, ExchangeFault>
-    ensures found { F.honest → AreWhole (objects (F.content files.old)) known.old → IfOk result (IsFound followed (F.content files.old) name.now id.now) }
+    ensures found { F.honest → AgreesIn (F.content files.old) generations.now → AreWhole (objects (F.content files.old)) known.old → IfOk result (IsFound followed (F.content files.old) name.now id.now) }
     ensures known { F.honest → AreWhole (objects (F.content files.old)) known.old → AreWhole (objects (F.content files.old)) known.new }
     ensures value { F.honest → IfOk result (λ found. IfSome found (λ f. refs (F.content files.old) f.0 ≡ f.1)) }
     ensures inside { IfOk result (λ found. IfSome found (λ f. IsInRefs f.0)) }
-    ensures refused { F.honest → IfErr result (BlamesFiles (F.content files.old)) }
+    ensures refused { F.honest → AgreesIn (F.content files.old) generations.now → IfErr result (BlamesFiles (F.content files.old)) }
     ensures same { F.content files.new ≡ F.content files.old }
     ensures wear { Wears F.failed F.can_fail F.left files.old files.new (IsErrOf result (ExchangeFault.Fault Fault.Device)) }
 {
@@ -165,7 +175,16 @@ fn find_follower<F: Files>(
     };
     let current = get(files, alloc, &to)?;
     let mut store = Store::new(alloc, files);
-    if !may_take(alloc, &mut store, known, is_branch, current, id)? {
+    let takes = may_take(
+        alloc,
+        &mut store,
+        known,
+        is_branch,
+        current,
+        id,
+        generations,
+    )?;
+    if !takes {
         return Ok(None);
     }
     Ok(Some((to, current)))
@@ -210,7 +229,7 @@ fn set_where_free<F: Files>(
 // Moves the ref that follows one of this name to the id: the tracking ref of a branch, where it is absent or the id descends
 // from its value; a tag where it is absent and tags are followed. Whether it moved. All that the id reaches must be there, and a
 // branch's history must be one of commits alone; what is not so is passed over, and so is a name that is illegal, of no branch
-// or tag, or in the way of a ref that is there. That is so where what is known is so, and then more is known after the call. In
+// or tag, or in the way of a ref that is there. That is so where what is known is right, and then more is known after the call. In
 // any case one ref is set at most, and no file becomes bad.
 fn move_ref<F: Files>(
     files: &mut F,
@@ -219,17 +238,19 @@ fn move_ref<F: Files>(
     followed: Followed,
     name: &[u8],
     id: &ObjectId,
+    generations: &Generations,
 ) -> Result<bool, ExchangeFault>
-    ensures moved { F.honest → IfOk result (IsMove (AreWhole (objects (F.content files.old)) known.old) followed (F.content files.old) (F.content files.new) name.now id.now) }
+    ensures moved { F.honest → IfOk result (IsMove (IsRight (F.content files.old) known.old generations.now) followed (F.content files.old) (F.content files.new) name.now id.now) }
     ensures known { F.honest → AreWhole (objects (F.content files.old)) known.old → AreWhole (objects (F.content files.old)) known.new }
-    ensures refused { F.honest → IfErr result (BlamesFiles (F.content files.old)) }
+    ensures refused { F.honest → AgreesIn (F.content files.old) generations.now → IfErr result (BlamesFiles (F.content files.old)) }
     ensures outside { F.honest → SameOutside (codes "refs/") (F.content files.old) (F.content files.new) }
     ensures err { F.honest → OnErr result (F.content files.new ≡ F.content files.old) }
     ensures bad { F.honest → MakesNoneBad (F.content files.old) (F.content files.new) }
     ensures wear { Writes F.honest F.content F.failed F.can_fail F.left files.old files.new (IsErrOf result (ExchangeFault.Fault Fault.Device)) }
-    ensures looks { F.honest → MayMoveOne followed (F.content files.old) known.old name.now id.now (Looks F.failed F.can_fail F.left files.old files.new result) }
+    ensures looks { F.honest → MayMoveOne followed (F.content files.old) known.old generations.now name.now id.now (Looks F.failed F.can_fail F.left files.old files.new result) }
 {
-    let Some((to, current)) = find_follower(files, alloc, known, followed, name, id)? else {
+    let Some((to, current)) = find_follower(files, alloc, known, followed, name, id, generations)?
+    else {
         return Ok(false);
     };
     let moved = set_where_free(files, alloc, &to, current, *id)?;
@@ -238,7 +259,7 @@ fn move_ref<F: Files>(
 
 /// Moves the refs that follow these, in their order, and counts those that moved. A call that ends early has moved some first
 /// of them. Each object is read once for all of them to see that it is whole, and none of which that is known. Where what is known
-/// is so, the right refs move, and more is known after the call; in any case refs alone are set, no file becomes bad, and none
+/// is right, the right refs move, and more is known after the call; in any case refs alone are set, no file becomes bad, and none
 /// outside `refs/` changes.
 pub(crate) fn move_refs<F: Files>(
     files: &mut F,
@@ -246,18 +267,19 @@ pub(crate) fn move_refs<F: Files>(
     known: &mut Known,
     followed: Followed,
     told: &[(Vec<u8>, ObjectId)],
+    generations: &Generations,
 ) -> Result<usize, ExchangeFault>
-    ensures moved { F.honest → MovesTold followed (F.content files.old) (F.content files.new) known.old (told_in told.now) result }
-    ensures refused { F.honest → IfErr result (BlamesFiles (F.content files.old)) }
+    ensures moved { F.honest → MovesTold followed (F.content files.old) (F.content files.new) known.old generations.now (told_in told.now) result }
+    ensures refused { F.honest → AgreesIn (F.content files.old) generations.now → IfErr result (BlamesFiles (F.content files.old)) }
     ensures outside { F.honest → SameOutside (codes "refs/") (F.content files.old) (F.content files.new) }
-    ensures left { F.honest → MovesFront followed (F.content files.old) (F.content files.new) known.old (told_in told.now) result }
+    ensures left { F.honest → MovesFront followed (F.content files.old) (F.content files.new) known.old generations.now (told_in told.now) result }
     ensures bad { F.honest → MakesNoneBad (F.content files.old) (F.content files.new) }
     ensures wear { Writes F.honest F.content F.failed F.can_fail F.left files.old files.new (IsErrOf result (ExchangeFault.Fault Fault.Device)) }
-    ensures looks { F.honest → MayMoveTold followed (F.content files.old) known.old (told_in told.now) (Looks F.failed F.can_fail F.left files.old files.new result) }
+    ensures looks { F.honest → MayMoveTold followed (F.content files.old) known.old generations.now (told_in told.now) (Looks F.failed F.can_fail F.left files.old files.new result) }
 {
     let mut moved = 0;
     for (name, id) in told {
-        if move_ref(files, alloc, known, followed, name, id)? {
+        if move_ref(files, alloc, known, followed, name, id, generations)? {
             moved += 1;
         }
     }

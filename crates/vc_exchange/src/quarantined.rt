@@ -1,17 +1,14 @@
 //! A pack whose objects stand in the clone's quarantine, the first slot's, until it is judged.
 ghost use Rattle.std.specs.Prelude.{◌≡◌, IfErr, IfOk, IsErrOf, OnOk};
 ghost use Rattle.vc_exchange.specs.Moving.{told_in};
-ghost use Rattle.vc_exchange.specs.Quarantined.{BlamesSeen, HoldsPack, KeepsOthers};
-ghost use Rattle.vc_exchange.specs.Receiving.{BlamesPack};
+ghost use Rattle.vc_exchange.specs.Quarantined.{BlamesSeen, KeepsOthers};
 ghost use Rattle.vc_exchange.specs.Storing.{KeepsGood};
-ghost use Rattle.vc_exchange.specs.Taking.{CutsHeldPack, ReceivesHeldPack};
-ghost use Rattle.vc_fetch.specs.Pack.{PackText};
+ghost use Rattle.vc_exchange.specs.Taking.{CutsHeldPack, ReceivesHeldPack, RefusesHeldPack};
 ghost use Rattle.vc_files.specs.Failures.{Wears, Writes};
 ghost use Rattle.vc_graph.specs.Complete.{AreComplete};
 ghost use Rattle.vc_graph.specs.GraphFault.{IsMetFrom};
 ghost use Rattle.vc_graph.specs.Incomplete.{IsFirstIncomplete};
-ghost use Rattle.vc_message.specs.Machine.{IsPack};
-ghost use Rattle.vc_model.specs.Message.{Message};
+ghost use Rattle.vc_history.specs.Stored.{AgreesIn};
 ghost use Rattle.vc_object.specs.ObjectMap.{links_in};
 ghost use Rattle.vc_object.specs.declared.id.ObjectId.{ObjectId as Name};
 ghost use Rattle.vc_session.specs.PushState.{IsDamagedSeen};
@@ -25,6 +22,7 @@ use crate::wanting::open_ids;
 use indexmap::IndexSet;
 use std::alloc::Global;
 use vc_files::{Fault, Files};
+use vc_history::Generations;
 use vc_object::ObjectId;
 use vc_pack::names_reached;
 use vc_session::{Known, PushObjects, drop_quarantine, migrate};
@@ -87,11 +85,12 @@ pub fn receive_quarantined<F: Files>(
     wants: &[ObjectId],
     told: &[(Vec<u8>, ObjectId)],
     names: &[ObjectId],
+    generations: &Generations,
 ) -> Result<Moves, ExchangeFault>
-    ensures taken { F.honest → ReceivesHeldPack (F.content files.old) (F.content files.new) names.now wants.now (told_in told.now) result }
-    ensures cut { F.honest → CutsHeldPack (F.content files.old) (F.content files.new) names.now wants.now (told_in told.now) result }
-    ensures refused { F.honest → (pack : PackText) → HoldsPack (F.content files.old) names.now pack → (m : Message) → IsPack m pack → IfErr result (BlamesPack (F.content files.old) wants.now m) }
-    ensures unchanged { F.honest → IfErr result (λ e. (id : Name) → e ≡ ExchangeFault.Incomplete id → F.content files.new ≡ F.content files.old) }
+    ensures taken { F.honest → AgreesIn (F.content files.old) generations.now → ReceivesHeldPack (F.content files.old) (F.content files.new) names.now wants.now (told_in told.now) result }
+    ensures cut { F.honest → AgreesIn (F.content files.old) generations.now → CutsHeldPack (F.content files.old) (F.content files.new) names.now wants.now (told_in told.now) result }
+    ensures refused { F.honest → AgreesIn (F.content files.old) generations.now → RefusesHeldPack (F.content files.old) names.now wants.now result }
+    ensures unchanged { F.honest → AgreesIn (F.content files.old) generations.now → IfErr result (λ e. (id : Name) → e ≡ ExchangeFault.Incomplete id → F.content files.new ≡ F.content files.old) }
     ensures dropped { F.honest → OnOk result (IsDropped 0 (F.content files.new)) }
     ensures beside { F.honest → KeepsOthers (F.content files.old) (F.content files.new) }
     ensures good { F.honest → KeepsGood (F.content files.old) (F.content files.new) }
@@ -105,7 +104,7 @@ pub fn receive_quarantined<F: Files>(
     };
     migrate(files, alloc, 0, names)?;
     let open = open_ids(files, alloc, &mut known.objects, told)?;
-    let moved = move_refs(files, alloc, &mut known, Followed::All, told)?;
+    let moved = move_refs(files, alloc, &mut known, Followed::All, told, generations)?;
     drop_quarantine(files, alloc, 0)?;
     Ok(Moves {
         moved,

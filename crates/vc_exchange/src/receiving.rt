@@ -10,6 +10,7 @@ ghost use Rattle.vc_fetch.specs.AdvertView.{advert_text, ref_ids};
 ghost use Rattle.vc_fetch.specs.PackView.{pack_text};
 ghost use Rattle.vc_files.specs.Failures.{Writes};
 ghost use Rattle.vc_files.specs.FileMap.{SameOutside};
+ghost use Rattle.vc_history.specs.Stored.{AgreesIn};
 ghost use Rattle.vc_message.specs.Machine.{IsPack, machine_told};
 ghost use Rattle.vc_model.specs.Clone.{refused_reasons};
 ghost use Rattle.vc_model.specs.Message.{Message};
@@ -25,6 +26,7 @@ use std::alloc::{AllocError, Global};
 use std::collections::BTreeMap;
 use vc_fetch::{Advert, Pack};
 use vc_files::{Fault, Files};
+use vc_history::Generations;
 use vc_object::ObjectId;
 use vc_pack::judge_pack;
 use vc_push::{Reason, Report, Told};
@@ -82,26 +84,28 @@ fn listed(
 
 /// Takes an advertisement: the ids of which not all is there are asked for, the first 256 of them in order of the refs' names;
 /// where there are none, the refs follow at once. What the clone's own refs reach is taken as there, as it is in a sound
-/// repository, and not read. A call that ends early has moved some first refs. No file becomes bad, and none outside `refs/`
+/// repository, and not read. Whether a branch's new value descends from its old one is seen by the generations that are known, where
+/// they agree with what is stored. A call that ends early has moved some first refs. No file becomes bad, and none outside `refs/`
 /// changes.
 pub fn receive_advert<F: Files>(
     files: &mut F,
     alloc: Global,
     advert: Advert,
+    generations: &Generations,
 ) -> Result<Advertised, ExchangeFault>
-    ensures taken { F.honest → ReceivesAdvert (F.content files.old) (F.content files.new) (advert_text advert) result }
-    ensures cut { F.honest → CutsAdvert (F.content files.old) (F.content files.new) (advert_text advert) result }
-    ensures refused { F.honest → IfErr result (BlamesAdvert (F.content files.old)) }
+    ensures taken { F.honest → AgreesIn (F.content files.old) generations.now → ReceivesAdvert (F.content files.old) (F.content files.new) (advert_text advert) result }
+    ensures cut { F.honest → AgreesIn (F.content files.old) generations.now → CutsAdvert (F.content files.old) (F.content files.new) (advert_text advert) result }
+    ensures refused { F.honest → AgreesIn (F.content files.old) generations.now → IfErr result (BlamesAdvert (F.content files.old)) }
     ensures outside { F.honest → SameOutside (codes "refs/") (F.content files.old) (F.content files.new) }
     ensures bad { F.honest → MakesNoneBad (F.content files.old) (F.content files.new) }
     ensures wear { Writes F.honest F.content F.failed F.can_fail F.left files.old files.new (IsErrOf result (ExchangeFault.Fault Fault.Device)) }
-    ensures looks { F.honest → MayReceiveAdvert (F.content files.old) (advert_text advert) (Looks F.failed F.can_fail F.left files.old files.new result) }
+    ensures looks { F.honest → MayReceiveAdvert (F.content files.old) generations.now (advert_text advert) (Looks F.failed F.can_fail F.left files.old files.new result) }
 {
     let refs = listed(alloc, advert.refs)?;
     let mut known = Known::by_good_refs(files, alloc)?;
     let open = open_ids(files, alloc, &mut known.objects, &refs)?;
     if open.is_empty() {
-        let moved = move_refs(files, alloc, &mut known, Followed::All, &refs)?;
+        let moved = move_refs(files, alloc, &mut known, Followed::All, &refs, generations)?;
         return Ok(Advertised::Followed(Moves { moved, left: 0 }));
     }
     let wants = first_ids(alloc, &open)?;
@@ -120,11 +124,12 @@ pub fn receive_pack<F: Files>(
     wants: &[ObjectId],
     told: &[(Vec<u8>, ObjectId)],
     pack: &Pack,
+    generations: &Generations,
 ) -> Result<Moves, ExchangeFault>
-    ensures taken { F.honest → ReceivesPack (F.content files.old) (F.content files.new) (pack_text pack.now) wants.now (told_in told.now) result }
-    ensures cut { F.honest → CutsPack (F.content files.old) (F.content files.new) (pack_text pack.now) wants.now (told_in told.now) result }
-    ensures refused { F.honest → (m : Message) → IsPack m (pack_text pack.now) → IfErr result (BlamesPack (F.content files.old) wants.now m) }
-    ensures unchanged { F.honest → IfErr result (λ e. (id : Name) → e ≡ ExchangeFault.Incomplete id → F.content files.new ≡ F.content files.old) }
+    ensures taken { F.honest → AgreesIn (F.content files.old) generations.now → ReceivesPack (F.content files.old) (F.content files.new) (pack_text pack.now) wants.now (told_in told.now) result }
+    ensures cut { F.honest → AgreesIn (F.content files.old) generations.now → CutsPack (F.content files.old) (F.content files.new) (pack_text pack.now) wants.now (told_in told.now) result }
+    ensures refused { F.honest → AgreesIn (F.content files.old) generations.now → (m : Message) → IsPack m (pack_text pack.now) → IfErr result (BlamesPack (F.content files.old) wants.now m) }
+    ensures unchanged { F.honest → AgreesIn (F.content files.old) generations.now → IfErr result (λ e. (id : Name) → e ≡ ExchangeFault.Incomplete id → F.content files.new ≡ F.content files.old) }
     ensures beside { F.honest → KeepsBeside (F.content files.old) (F.content files.new) }
     ensures good { F.honest → KeepsGood (F.content files.old) (F.content files.new) }
     ensures wear { Writes F.honest F.content F.failed F.can_fail F.left files.old files.new (IsErrOf result (ExchangeFault.Fault Fault.Device)) }
@@ -137,7 +142,7 @@ pub fn receive_pack<F: Files>(
     };
     store_all(files, alloc, &pack.objects)?;
     let open = open_ids(files, alloc, &mut known.objects, told)?;
-    let moved = move_refs(files, alloc, &mut known, Followed::All, told)?;
+    let moved = move_refs(files, alloc, &mut known, Followed::All, told, generations)?;
     Ok(Moves {
         moved,
         left: open.len(),
@@ -192,19 +197,27 @@ pub fn receive_report<F: Files>(
     files: &mut F,
     alloc: Global,
     report: &Report,
+    generations: &Generations,
 ) -> Result<Reported, ExchangeFault>
-    ensures taken { F.honest → ReceivesReport (F.content files.old) (F.content files.new) (report_text report.now) result }
-    ensures cut { F.honest → CutsReport (F.content files.old) (F.content files.new) (report_text report.now) result }
-    ensures refused { F.honest → IfErr result (BlamesFiles (F.content files.old)) }
+    ensures taken { F.honest → AgreesIn (F.content files.old) generations.now → ReceivesReport (F.content files.old) (F.content files.new) (report_text report.now) result }
+    ensures cut { F.honest → AgreesIn (F.content files.old) generations.now → CutsReport (F.content files.old) (F.content files.new) (report_text report.now) result }
+    ensures refused { F.honest → AgreesIn (F.content files.old) generations.now → IfErr result (BlamesFiles (F.content files.old)) }
     ensures outside { F.honest → SameOutside (codes "refs/") (F.content files.old) (F.content files.new) }
     ensures bad { F.honest → MakesNoneBad (F.content files.old) (F.content files.new) }
     ensures wear { Writes F.honest F.content F.failed F.can_fail F.left files.old files.new (IsErrOf result (ExchangeFault.Fault Fault.Device)) }
-    ensures looks { F.honest → MayReceiveReport (F.content files.old) (report_text report.now) (Looks F.failed F.can_fail F.left files.old files.new result) }
+    ensures looks { F.honest → MayReceiveReport (F.content files.old) generations.now (report_text report.now) (Looks F.failed F.can_fail F.left files.old files.new result) }
 {
     let refused = refused_numbers(alloc, &report.told)?;
     let refs = accepted(alloc, &report.told)?;
     let mut known = Known::by_good_refs(files, alloc)?;
-    let moved = move_refs(files, alloc, &mut known, Followed::Branches, &refs)?;
+    let moved = move_refs(
+        files,
+        alloc,
+        &mut known,
+        Followed::Branches,
+        &refs,
+        generations,
+    )?;
     Ok(Reported { moved, refused })
 }
 

@@ -1,11 +1,9 @@
-use Rattle.std.proofs.Common.{rules, inl, inr, Some, subst}
+use Rattle.std.proofs.Common.{rules, inl, inr, Some, None, subst}
 use Rattle.vc_files.proofs.WearLemmas.{wears_then, wears_writes, writes_told}
 use Rattle.vc_files.specs.FileMap.{FileMap}
 use Rattle.vc_refs.specs.Refs.{refs}
 use Rattle.vc_session.proofs.UpdateLemmas.{wears_both}
-use Rattle.vc_session.specs.Known.{AreWhole}
-use Rattle.vc_store.specs.Store.{objects}
-use Rattle.vc_exchange.specs.Moving.{IsFound, IsFreeAmong, IsSetWhereFree}
+use Rattle.vc_exchange.specs.Moving.{IsFound, IsFreeAmong, IsRight, IsSetWhereFree}
 use Rattle.vc_exchange.proofs.MovingLemmas.{free_moves, set_moves}
 use Rattle.vc_exchange.proofs.moving.move_ref.Goals as goal
 
@@ -14,6 +12,12 @@ returns-in_err-to-clause-wear g c = writes_told (wears_writes c.in_err-to.ensure
 
 pub returns-in_default-clause-wear : goal.returns-in_default-clause-wear
 returns-in_default-clause-wear g c = writes_told (wears_writes c.in_ok-to.ensures.wear (λ _. c.in_ok-to.ensures.same)) (search rules) (search rules)
+
+pub returns-in_default-clause-moved : goal.returns-in_default-clause-moved
+returns-in_default-clause-moved g c = λ honest.
+    let old = g.F.Files.content c.args.files.now in
+    let none : IsRight old c.args.known.now c.args.generations.now → IsFound c.args.followed old c.args.name.now c.args.id.now None = λ right. search (rules, c.in_ok-to.ensures.found honest right.agrees right.whole) in
+    ((λ right to moves. none right to moves.0), c.in_ok-to.ensures.same)
 
 pub returns-in_err-moved-clause-wear : goal.returns-in_err-moved-clause-wear
 returns-in_err-moved-clause-wear g c = wears_then c.in_ok-to.ensures.wear (λ _. c.in_ok-to.ensures.same) (search rules) (writes_told c.in_err-moved.ensures.wear (search rules) (search rules))
@@ -25,10 +29,10 @@ pub returns-in_err-moved-clause-looks : goal.returns-in_err-moved-clause-looks
 returns-in_err-moved-clause-looks g c = λ honest.
     let content = g.F.Files.content in
     let old = content c.args.files.now in
-    let Whole : Type 0 = AreWhole (objects old) c.args.known.now in
-    let may : Whole → IsFound c.args.followed old c.args.name.now c.args.id.now (Some (c.in-Some.to, c.in-Some.current)) = λ whole. search (rules, c.in_ok-to.ensures.found honest whole) in
+    let Right : Type 0 = IsRight old c.args.known.now c.args.generations.now in
+    let may : Right → IsFound c.args.followed old c.args.name.now c.args.id.now (Some (c.in-Some.to, c.in-Some.current)) = λ right. search (rules, c.in_ok-to.ensures.found honest right.agrees right.whole) in
     elim (c.in_err-moved.ensures.looks honest) [
-      | inl free ↦ inl (free_moves Whole c.args.followed old c.args.name.now c.args.id.now c.in-Some.to may (subst (λ (f : FileMap). IsFreeAmong (refs f) c.in-Some.to) c.in_ok-to.ensures.same free))
+      | inl free ↦ inl (free_moves Right c.args.followed old c.args.name.now c.args.id.now c.in-Some.to may (subst (λ (f : FileMap). IsFreeAmong (refs f) c.in-Some.to) c.in_ok-to.ensures.same free))
       | inr wears ↦ inr (wears_both c.in_ok-to.ensures.wear wears (search rules))
     ]
 
@@ -36,18 +40,18 @@ pub returns-clause-moved : goal.returns-clause-moved
 returns-clause-moved g c = λ honest.
     let content = g.F.Files.content in
     let old = content c.args.files.now in
-    let Whole : Type 0 = AreWhole (objects old) c.args.known.now in
-    let may : Whole → IsFound c.args.followed old c.args.name.now c.args.id.now (Some (c.in-Some.to, c.in-Some.current)) = λ whole. search (rules, c.in_ok-to.ensures.found honest whole) in
-    set_moves Whole c.args.followed old c.args.name.now c.args.id.now c.in-Some.to may (content c.set_where_free.new.files) c.in_ok-moved.moved
+    let Right : Type 0 = IsRight old c.args.known.now c.args.generations.now in
+    let may : Right → IsFound c.args.followed old c.args.name.now c.args.id.now (Some (c.in-Some.to, c.in-Some.current)) = λ right. search (rules, c.in_ok-to.ensures.found honest right.agrees right.whole) in
+    set_moves Right c.args.followed old c.args.name.now c.args.id.now c.in-Some.to may (content c.set_where_free.new.files) c.in_ok-moved.moved
     (subst (λ (f : FileMap). IsSetWhereFree f (content c.set_where_free.new.files) c.in-Some.to c.args.id.now c.in_ok-moved.moved) c.in_ok-to.ensures.same (search (rules, c.in_ok-moved.ensures.set honest)))
 
 pub returns-clause-looks : goal.returns-clause-looks
 returns-clause-looks g c = λ honest.
     let content = g.F.Files.content in
     let old = content c.args.files.now in
-    let Whole : Type 0 = AreWhole (objects old) c.args.known.now in
-    let may : Whole → IsFound c.args.followed old c.args.name.now c.args.id.now (Some (c.in-Some.to, c.in-Some.current)) = λ whole. search (rules, c.in_ok-to.ensures.found honest whole) in
+    let Right : Type 0 = IsRight old c.args.known.now c.args.generations.now in
+    let may : Right → IsFound c.args.followed old c.args.name.now c.args.id.now (Some (c.in-Some.to, c.in-Some.current)) = λ right. search (rules, c.in_ok-to.ensures.found honest right.agrees right.whole) in
     elim (c.in_ok-moved.ensures.looks honest) [
-      | inl free ↦ inl (free_moves Whole c.args.followed old c.args.name.now c.args.id.now c.in-Some.to may (subst (λ (f : FileMap). IsFreeAmong (refs f) c.in-Some.to) c.in_ok-to.ensures.same free))
+      | inl free ↦ inl (free_moves Right c.args.followed old c.args.name.now c.args.id.now c.in-Some.to may (subst (λ (f : FileMap). IsFreeAmong (refs f) c.in-Some.to) c.in_ok-to.ensures.same free))
       | inr wears ↦ inr (wears_both c.in_ok-to.ensures.wear wears (search rules))
     ]

@@ -7,11 +7,10 @@ use Rattle.vc_model.specs.Repository.{changed_all}
 use Rattle.vc_session.proofs.CleanLemmas.{bad_same, bad_then}
 use Rattle.vc_session.proofs.SessionLemmas.{wears_told}
 use Rattle.vc_session.proofs.UpdateLemmas.{wears_both}
-use Rattle.vc_session.specs.Known.{AreWhole}
-use Rattle.vc_store.specs.Store.{objects}
-use Rattle.vc_exchange.specs.Moving.{AreFrontMoved, AreMoved, IsMove, MayMove, MovesSome, Told, told_in}
+use Rattle.vc_exchange.specs.Faults.{BlamesFiles}
+use Rattle.vc_exchange.specs.Moving.{AreFrontMoved, AreMoved, IsMove, IsRight, MayMove, MovesSome, Told, told_in}
 use Rattle.vc_exchange.proofs.MovingFronts.{front_moved, more_moved, move_where, next_moves, none_moved, one_moved, some_moved}
-use Rattle.vc_exchange.proofs.MovingLoops.{front_more, front_next, front_rest, told_of, whole_after}
+use Rattle.vc_exchange.proofs.MovingLoops.{agrees_after, blames_before, front_more, front_next, front_rest, told_err, told_of, whole_after}
 use Rattle.vc_exchange.proofs.moving.move_refs.Goals.{then-branch, else-branch}
 use Rattle.vc_exchange.proofs.moving.move_refs.Goals as goal
 use Rattle.vc_lemmas.proofs.Lists.{on_err}
@@ -25,8 +24,9 @@ zero_or (suc n) = inr (λ e. omega (arith, e))
 
 pub loop-name-init : goal.loop-name-init
 loop-name-init g c = record {
-  moves = λ honest r p. none_moved c.args.followed (AreWhole (objects (g.F.Files.content c.args.files.now)) c.args.known.now) (g.F.Files.content c.args.files.now) r p;
-  known = λ honest whole. whole;
+  moves = λ honest r p. none_moved c.args.followed (IsRight (g.F.Files.content c.args.files.now) c.args.known.now c.args.generations.now) (g.F.Files.content c.args.files.now) r p;
+  known = λ honest right. right;
+  agrees = λ honest agrees. agrees;
   outside = λ honest. outside_same _ _;
   bad = λ honest. bad_same _ _ refl;
   counted = omega arith;
@@ -48,7 +48,7 @@ loop-name-preserved g c =
       | then-branch w ↦ let one : count yes ≡ 1 = ap count w.if-branch.true in let is = w.moved-is in omega (arith, one, is)
       | else-branch w ↦ let none : count yes ≡ 0 = ap count w.if-branch.false in let is = w.moved-is in omega (arith, none, is)
     ] in
-    let Whole : Type 0 = AreWhole (objects (content c.args.files.now)) c.args.known.now in
+    let Whole : Type 0 = IsRight (content c.args.files.now) c.args.known.now c.args.generations.now in
     record {
       moves = λ honest r p.
           let so_far = before.moves honest r p in
@@ -59,7 +59,13 @@ loop-name-preserved g c =
           let both = more_moved followed Whole (told_in (take i told)) (told_of item ∷ []) r (content c.loop-name.files) (content c.move_ref.new.files) n (count yes) so_far one in
           subst (λ (k : ℕ). AreMoved Whole followed (told_in (take (i + 1) told)) r (content c.move_ref.new.files) k) (sym counts)
           (subst (λ (l : List Told). AreMoved Whole followed l r (content c.move_ref.new.files) (n + count yes)) (front_more told i item c.loop-name-test.true c.loop-name-item.is) both);
-      known = λ honest whole. whole_after (content c.loop-name.files) (content c.move_ref.new.files) c.move_ref.new.known (c.in_ok-move_ref.ensures.outside honest) (c.in_ok-move_ref.ensures.known honest (before.known honest whole));
+      known = λ honest right.
+          let so = before.known honest right in
+          record {
+            whole = whole_after (content c.loop-name.files) (content c.move_ref.new.files) c.move_ref.new.known (c.in_ok-move_ref.ensures.outside honest) (c.in_ok-move_ref.ensures.known honest so.whole);
+            agrees = agrees_after (content c.loop-name.files) (content c.move_ref.new.files) c.args.generations.now (c.in_ok-move_ref.ensures.outside honest) so.agrees;
+          };
+      agrees = λ honest agrees. agrees_after (content c.loop-name.files) (content c.move_ref.new.files) c.args.generations.now (c.in_ok-move_ref.ensures.outside honest) (before.agrees honest agrees);
       outside = λ honest. outside_then (before.outside honest) (c.in_ok-move_ref.ensures.outside honest);
       bad = λ honest. bad_then (before.bad honest) (c.in_ok-move_ref.ensures.bad honest);
       counted = elim c.if-branch.branch [
@@ -71,8 +77,8 @@ loop-name-preserved g c =
         | else-branch w ↦
             let is = w.moved-is in
             let stayed : n ≡ 0 = omega (arith, is, none) in
-            let step : IsMove (AreWhole (objects (content c.loop-name.files)) c.loop-name.known) followed (content c.loop-name.files) (content c.move_ref.new.files) c.deref.result.now item.1 false =
-            subst (λ (b : Bool). IsMove (AreWhole (objects (content c.loop-name.files)) c.loop-name.known) followed (content c.loop-name.files) (content c.move_ref.new.files) c.deref.result.now item.1 b) w.if-branch.false (c.in_ok-move_ref.ensures.moved honest) in
+            let step : IsMove (IsRight (content c.loop-name.files) c.loop-name.known c.args.generations.now) followed (content c.loop-name.files) (content c.move_ref.new.files) c.deref.result.now item.1 false =
+            subst (λ (b : Bool). IsMove (IsRight (content c.loop-name.files) c.loop-name.known c.args.generations.now) followed (content c.loop-name.files) (content c.move_ref.new.files) c.deref.result.now item.1 b) w.if-branch.false (c.in_ok-move_ref.ensures.moved honest) in
             elim (before.looked honest stayed) [
               | inl never ↦ inl never
               | inr worn ↦ elim (c.in_ok-move_ref.ensures.looks honest) [
@@ -87,7 +93,7 @@ loop-name-preserved g c =
 pub returns-in_err-move_ref-clause-left : goal.returns-in_err-move_ref-clause-left
 returns-in_err-move_ref-clause-left g c = λ honest r p.
     let content = g.F.Files.content in
-    let Whole : Type 0 = AreWhole (objects (content c.args.files.now)) c.args.known.now in
+    let Whole : Type 0 = IsRight (content c.args.files.now) c.args.known.now c.args.generations.now in
     let told = c.args.told.now in
     let i = c.loop-name.name-index in
     let same : content c.move_ref.new.files ≡ content c.loop-name.files = search (rules, c.in_err-move_ref.ensures.err honest) in
@@ -95,13 +101,20 @@ returns-in_err-move_ref-clause-left g c = λ honest r p.
     let left : AreFrontMoved Whole c.args.followed (told_in told) r (content c.loop-name.files) = subst (λ (l : List Told). AreFrontMoved Whole c.args.followed l r (content c.loop-name.files)) (front_rest told i) front in
     on_err c.from_residual.result _ (subst (AreFrontMoved Whole c.args.followed (told_in told) r) (sym same) left)
 
+pub returns-in_err-move_ref-clause-refused : goal.returns-in_err-move_ref-clause-refused
+returns-in_err-move_ref-clause-refused g c = λ honest agrees.
+    let content = g.F.Files.content in
+    let e = c.in_err-move_ref.field-0.0 in
+    let why : BlamesFiles (content c.loop-name.files) e = search (rules, c.in_err-move_ref.ensures.refused honest (c.loop-name.invariant.agrees honest agrees)) in
+    told_err c.from_residual.result e (BlamesFiles (content c.args.files.now)) (search rules) (blames_before (content c.args.files.now) (content c.loop-name.files) (c.loop-name.invariant.bad honest) e why)
+
 pub returns-in_err-move_ref-clause-wear : goal.returns-in_err-move_ref-clause-wear
 returns-in_err-move_ref-clause-wear g c = writes_both c.loop-name.invariant.wear (λ never. never) (writes_told c.in_err-move_ref.ensures.wear (search rules) (search rules))
 
 pub returns-in_err-move_ref-clause-looks : goal.returns-in_err-move_ref-clause-looks
 returns-in_err-move_ref-clause-looks g c = λ honest r p.
     let content = g.F.Files.content in
-    let Whole : Type 0 = AreWhole (objects (content c.args.files.now)) c.args.known.now in
+    let Whole : Type 0 = IsRight (content c.args.files.now) c.args.known.now c.args.generations.now in
     let followed = c.args.followed in
     let told = c.args.told.now in
     let i = c.loop-name.name-index in
@@ -125,7 +138,7 @@ returns-in_err-move_ref-clause-looks g c = λ honest r p.
 
 pub returns-clause-moved : goal.returns-clause-moved
 returns-clause-moved g c = λ honest r p.
-    let Whole : Type 0 = AreWhole (objects (g.F.Files.content c.args.files.now)) c.args.known.now in
+    let Whole : Type 0 = IsRight (g.F.Files.content c.args.files.now) c.args.known.now c.args.generations.now in
     let told = c.args.told.now in
     let all : take c.loop-name.name-index told ≡ told = take_all c.loop-name.name-index told (omega (arith, c.loop-name-test.false)) in
     subst (λ l. AreMoved Whole c.args.followed (told_in l) r (g.F.Files.content c.loop-name.files) c.loop-name.moved) all (c.loop-name.invariant.moves honest r p)
@@ -133,7 +146,7 @@ returns-clause-moved g c = λ honest r p.
 pub returns-clause-looks : goal.returns-clause-looks
 returns-clause-looks g c = λ honest r p.
     let content = g.F.Files.content in
-    let Whole : Type 0 = AreWhole (objects (content c.args.files.now)) c.args.known.now in
+    let Whole : Type 0 = IsRight (content c.args.files.now) c.args.known.now c.args.generations.now in
     let told = c.args.told.now in
     let i = c.loop-name.name-index in
     elim (zero_or c.loop-name.moved) [

@@ -2,21 +2,21 @@ use Rattle.std.proofs.Common.{◌≡◌, ◌⊎◌, ◌≤◌, take}
 use Rattle.std.specs.Prelude.{codes}
 use Rattle.vc_files.specs.FileMap.{SameOutside}
 use Rattle.vc_files.specs.Failures.{Wears, Writes}
+use Rattle.vc_history.specs.Stored.{AgreesIn}
 use Rattle.vc_model.specs.Repository.{Repository}
 use Rattle.vc_rules.specs.OpenPushes.{HoldsContent}
 use Rattle.vc_session.specs.Clean.{MakesNoneBad}
-use Rattle.vc_session.specs.Known.{AreWhole}
-use Rattle.vc_store.specs.Store.{objects}
-use Rattle.vc_exchange.specs.Moving.{AreMoved, told_in}
+use Rattle.vc_exchange.specs.Moving.{AreMoved, IsRight, told_in}
 use Rattle.vc_exchange.proofs.moving.move_refs.Given as goal
 
 abbrev pub invariant-loop-name : goal.invariant-loop-name
 invariant-loop-name g l = record {
-  moves : g.F.Files.honest → (r : Repository) → HoldsContent (g.F.Files.content l.initial.files) r → AreMoved (AreWhole (objects (g.F.Files.content l.initial.files)) l.initial.known) l.fn.followed (told_in (take l.name-index l.told)) r (g.F.Files.content l.files) l.moved;
-  known : g.F.Files.honest → AreWhole (objects (g.F.Files.content l.initial.files)) l.initial.known → AreWhole (objects (g.F.Files.content l.files)) l.known;
+  moves : g.F.Files.honest → (r : Repository) → HoldsContent (g.F.Files.content l.initial.files) r → AreMoved (IsRight (g.F.Files.content l.initial.files) l.initial.known l.generations) l.fn.followed (told_in (take l.name-index l.told)) r (g.F.Files.content l.files) l.moved;
+  known : g.F.Files.honest → IsRight (g.F.Files.content l.initial.files) l.initial.known l.generations → IsRight (g.F.Files.content l.files) l.known l.generations;
+  agrees : g.F.Files.honest → AgreesIn (g.F.Files.content l.initial.files) l.generations → AgreesIn (g.F.Files.content l.files) l.generations;
   outside : g.F.Files.honest → SameOutside (codes "refs/") (g.F.Files.content l.initial.files) (g.F.Files.content l.files);
   bad : g.F.Files.honest → MakesNoneBad (g.F.Files.content l.initial.files) (g.F.Files.content l.files);
   counted : l.moved ≤ l.name-index;
-  looked : g.F.Files.honest → l.moved ≡ 0 → (¬ AreWhole (objects (g.F.Files.content l.initial.files)) l.initial.known) ⊎ Wears g.F.Files.failed g.F.Files.can_fail g.F.Files.left l.initial.files l.files ⊥;
+  looked : g.F.Files.honest → l.moved ≡ 0 → (¬ IsRight (g.F.Files.content l.initial.files) l.initial.known l.generations) ⊎ Wears g.F.Files.failed g.F.Files.can_fail g.F.Files.left l.initial.files l.files ⊥;
   wear : Writes g.F.Files.honest g.F.Files.content g.F.Files.failed g.F.Files.can_fail g.F.Files.left l.initial.files l.files ⊥;
 }

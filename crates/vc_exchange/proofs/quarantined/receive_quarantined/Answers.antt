@@ -1,10 +1,10 @@
-use Rattle.std.proofs.Common.{rules, ◌≡◌, Result, Ok, Err, sym, ◌∙◌, subst}
-use Rattle.std.specs.Prelude.{IfErr}
+use Rattle.std.proofs.Common.{rules, ◌≡◌, sym, ◌∙◌, subst}
 use Rattle.vc_pack.proofs.KeepsLemmas.{keeps_same, keeps_then}
 use Rattle.vc_files.specs.FileMap.{FileMap}
 use Rattle.vc_files.proofs.WearLemmas.{wears_then, wears_writes, writes_both, writes_told}
 use Rattle.vc_graph.specs.Graph.{IsClosedUnder}
 use Rattle.vc_graph.specs.Overlay.{with_carried}
+use Rattle.vc_history.specs.Stored.{AgreesIn}
 use Rattle.vc_model.specs.Repository.{IsSound, with_objects}
 use Rattle.vc_object.specs.ObjectMap.{links_in}
 use Rattle.vc_object.specs.declared.id.ObjectId.{ObjectId}
@@ -18,22 +18,18 @@ use Rattle.vc_session.specs.Known.{AreWhole}
 use Rattle.vc_session.specs.Migrating.{IsFrontMigrated, migrated}
 use Rattle.vc_session.specs.declared.known.Known.{Known}
 use Rattle.vc_store.specs.Store.{objects}
-use Rattle.vc_exchange.specs.Faults.{from_store}
-use Rattle.vc_exchange.specs.Moving.{told_in}
+use Rattle.vc_exchange.specs.Faults.{BlamesFiles, from_store}
+use Rattle.vc_exchange.specs.Moving.{IsRight, told_in}
 use Rattle.vc_exchange.specs.Quarantined.{BlamesSeen}
 use Rattle.vc_exchange.specs.Receiving.{BlamesPack}
 use Rattle.vc_exchange.specs.declared.fault.ExchangeFault.TheVariants as exchange
-use Rattle.vc_exchange.proofs.MovingLoops.{whole_refs}
+use Rattle.vc_exchange.proofs.MovingLoops.{blames_before, blames_of_pack, fault_other, never_incomplete, told_err, whole_refs}
 use Rattle.vc_exchange.proofs.PackDeeds.{pack_moving, pack_storing, pack_stored, pack_taken, store_other}
 use Rattle.vc_exchange.proofs.PackLemmas.{histories_met, stored_content, stored_met, stored_outside, whole_after}
-use Rattle.vc_exchange.proofs.KeptLemmas.{keeps_beside_refs}
+use Rattle.vc_exchange.proofs.KeptLemmas.{agrees_migrated, keeps_beside_refs}
 use Rattle.vc_exchange.proofs.QuarantinedLemmas.{all_stored, cut_beside, front_keeps, keeps_beside_slot, migrated_keeps, migration_blames, others_objects, others_refs, others_same, others_slot, others_then, pack_blames, received_beside, received_cut, seen_at, seen_blames, some_stored}
 use Rattle.vc_exchange.proofs.quarantined.receive_quarantined.Goals as goal
 use Rattle.vc_lemmas.proofs.Lists.{on_err}
-
-told_err : {A E : Type 0} (r : Result A E) (e : E) (P : E → Type 0) → r ≡ Err e → P e → IfErr r P
-told_err (Ok a) e P is p = absurd (cc is)
-told_err (Err f) e P is p = let same : f ≡ e = cc in subst P (sym same) p
 
 -- ---- the device
 pub returns-in_err-known-clause-wear : goal.returns-in_err-known-clause-wear
@@ -81,7 +77,7 @@ returns-clause-wear g c =
 
 -- ---- refusals
 pub returns-in_err-objects-clause-refused : goal.returns-in_err-objects-clause-refused
-returns-in_err-objects-clause-refused g c = λ honest pack holds m is.
+returns-in_err-objects-clause-refused g c = λ honest agrees pack holds m is.
     let content = g.F.Files.content in
     let old = content c.args.files.now in
     let wants = c.args.wants.now in
@@ -90,7 +86,7 @@ returns-in_err-objects-clause-refused g c = λ honest pack holds m is.
     told_err c.from_residual-in_err-objects.result e (BlamesPack old wants m) (search rules) (seen_blames old c.args.names.now pack holds wants m is e why)
 
 pub returns-in_err-migrate-clause-refused : goal.returns-in_err-migrate-clause-refused
-returns-in_err-migrate-clause-refused g c = λ honest pack holds m is.
+returns-in_err-migrate-clause-refused g c = λ honest agrees pack holds m is.
     let content = g.F.Files.content in
     let old = content c.args.files.now in
     let wants = c.args.wants.now in
@@ -99,14 +95,56 @@ returns-in_err-migrate-clause-refused g c = λ honest pack holds m is.
     told_err c.from_residual-in_err-migrate.result (from_store e) (BlamesPack old wants m) (search rules) (pack_blames old c.args.names.now pack holds wants m e (migration_blames old c.args.names.now pack holds e why))
 
 pub returns-in_err-migrate-clause-unchanged : goal.returns-in_err-migrate-clause-unchanged
-returns-in_err-migrate-clause-unchanged g c = λ honest.
+returns-in_err-migrate-clause-unchanged g c = λ honest agrees.
     let content = g.F.Files.content in
     let e = c.in_err-migrate.field-0.0 in
     told_err c.from_residual-in_err-migrate.result (from_store e) (λ x. (id : ObjectId) → x ≡ exchange.Incomplete id → content c.migrate.new.files ≡ content c.args.files.now) (search rules) (λ id is. absurd (store_other e id is))
 
+pub returns-in_err-open-clause-unchanged : goal.returns-in_err-open-clause-unchanged
+returns-in_err-open-clause-unchanged g c = λ honest agrees.
+    let content = g.F.Files.content in
+    let mid = content c.migrate.new.files in
+    let e = c.in_err-open.field-0.0 in
+    let why : BlamesFiles mid e = search (rules, c.in_err-open.ensures.refused honest) in
+    told_err c.from_residual-in_err-open.result e (λ x. (id : ObjectId) → x ≡ exchange.Incomplete id → content c.open_ids.new.files ≡ content c.args.files.now) (search rules) (λ id is. absurd (never_incomplete mid e id why is))
+
+pub returns-in_err-drop_quarantine-clause-unchanged : goal.returns-in_err-drop_quarantine-clause-unchanged
+returns-in_err-drop_quarantine-clause-unchanged g c = λ honest agrees.
+    let content = g.F.Files.content in
+    let e = c.in_err-drop_quarantine.field-0.0 in
+    told_err c.from_residual-in_err-drop_quarantine.result (exchange.Fault e) (λ x. (id : ObjectId) → x ≡ exchange.Incomplete id → content c.drop_quarantine.new.files ≡ content c.args.files.now) (search rules) (λ id is. absurd (fault_other e id is))
+
+pub returns-in_err-moved-clause-refused : goal.returns-in_err-moved-clause-refused
+returns-in_err-moved-clause-refused g c = λ honest agrees pack holds m is.
+    let content = g.F.Files.content in
+    let old = content c.args.files.now in
+    let first = content c.judge_quarantined.new.files in
+    let mid = content c.migrate.new.files in
+    let seen = content c.open_ids.new.files in
+    let at : first ≡ old = c.in_ok-objects.ensures.same ∙ c.in_ok-known.ensures.same in
+    let e = c.in_err-moved.field-0.0 in
+    let there : AgreesIn seen c.args.generations.now = agrees_migrated old first mid seen c.args.names.now c.args.generations.now at (c.in_ok-migrate.ensures.stored honest) c.in_ok-open.ensures.same agrees in
+    let none : MakesNoneBad old mid = rw (c.in_ok-objects.ensures.same, c.in_ok-known.ensures.same) at (c.in_ok-migrate.ensures.bad honest) in
+    let why : BlamesFiles seen e = search (rules, c.in_err-moved.ensures.refused honest there) in
+    let before : BlamesFiles old e = blames_before old seen (bad_then none (bad_same mid seen c.in_ok-open.ensures.same)) e why in
+    told_err c.from_residual-in_err-moved.result e (BlamesPack old c.args.wants.now m) (search rules) (blames_of_pack old c.args.wants.now m e before)
+
+pub returns-in_err-moved-clause-unchanged : goal.returns-in_err-moved-clause-unchanged
+returns-in_err-moved-clause-unchanged g c = λ honest agrees.
+    let content = g.F.Files.content in
+    let old = content c.args.files.now in
+    let first = content c.judge_quarantined.new.files in
+    let mid = content c.migrate.new.files in
+    let seen = content c.open_ids.new.files in
+    let at : first ≡ old = c.in_ok-objects.ensures.same ∙ c.in_ok-known.ensures.same in
+    let e = c.in_err-moved.field-0.0 in
+    let there : AgreesIn seen c.args.generations.now = agrees_migrated old first mid seen c.args.names.now c.args.generations.now at (c.in_ok-migrate.ensures.stored honest) c.in_ok-open.ensures.same agrees in
+    let why : BlamesFiles seen e = search (rules, c.in_err-moved.ensures.refused honest there) in
+    told_err c.from_residual-in_err-moved.result e (λ x. (id : ObjectId) → x ≡ exchange.Incomplete id → content c.move_refs.new.files ≡ old) (search rules) (λ id is. absurd (never_incomplete seen e id why is))
+
 -- ---- what is done, or some of it
 pub returns-in_err-migrate-clause-cut : goal.returns-in_err-migrate-clause-cut
-returns-in_err-migrate-clause-cut g c = λ honest pack holds r p m is refs same.
+returns-in_err-migrate-clause-cut g c = λ honest agrees pack holds r p m is refs same.
     let content = g.F.Files.content in
     let old = content c.args.files.now in
     let read = content c.by_good_refs.new.files in
@@ -126,7 +164,7 @@ returns-in_err-migrate-clause-cut g c = λ honest pack holds r p m is refs same.
     on_err c.from_residual-in_err-migrate.result _ (pack_storing old r p brought is.objects is.brought m _ is.is wants refs (told_in c.args.told.now) same closed mid outside some)
 
 pub returns-in_err-open-clause-cut : goal.returns-in_err-open-clause-cut
-returns-in_err-open-clause-cut g c = λ honest pack holds r p m is refs same.
+returns-in_err-open-clause-cut g c = λ honest agrees pack holds r p m is refs same.
     let content = g.F.Files.content in
     let old = content c.args.files.now in
     let read = content c.by_good_refs.new.files in
@@ -148,7 +186,7 @@ returns-in_err-open-clause-cut g c = λ honest pack holds r p m is refs same.
     on_err c.from_residual-in_err-open.result _ (pack_stored old r p brought is.objects is.brought m _ is.is wants refs (told_in c.args.told.now) same closed (content c.open_ids.new.files) now)
 
 pub returns-in_err-moved-clause-cut : goal.returns-in_err-moved-clause-cut
-returns-in_err-moved-clause-cut g c = λ honest pack holds r p m is refs same.
+returns-in_err-moved-clause-cut g c = λ honest agrees pack holds r p m is refs same.
     let content = g.F.Files.content in
     let old = content c.args.files.now in
     let read = content c.by_good_refs.new.files in
@@ -171,11 +209,16 @@ returns-in_err-moved-clause-cut g c = λ honest pack holds r p m is refs same.
     let keys = c.in_ok-objects.objects.keys in
     let met : IsSound git r → IsClosedUnder (links_in (objects mid)) keys = λ so. stored_met old mid brought st keys (seen_at old names pack holds read read_at keys (c.in_ok-objects.ensures.met honest (by_refs so).closed)) in
     let more : Known = record { objects = c.open_ids.new.known; histories = known.histories } in
-    let whole : IsSound git r → AreWhole (objects seen) more = λ so. whole_after mid seen c.in_ok-open.ensures.same more (c.in_ok-open.ensures.known honest (met so)) (histories_met old read mid brought read_at st known (by_refs so)) in
-    on_err c.from_residual-in_err-moved.result _ (pack_moving old r p brought is.objects is.brought m _ is.is wants refs (told_in c.args.told.now) same closed (AreWhole (objects seen) more) whole (content c.move_refs.new.files) (search (rules, c.in_err-moved.ensures.left honest all now)))
+    let Right : Type 0 = IsRight seen more c.args.generations.now in
+    let there : AgreesIn seen c.args.generations.now = agrees_migrated old first mid seen names c.args.generations.now at (c.in_ok-migrate.ensures.stored honest) c.in_ok-open.ensures.same agrees in
+    let right : IsSound git r → Right = λ so. record {
+      whole = whole_after mid seen c.in_ok-open.ensures.same more (c.in_ok-open.ensures.known honest (met so)) (histories_met old read mid brought read_at st known (by_refs so));
+      agrees = there;
+    } in
+    on_err c.from_residual-in_err-moved.result _ (pack_moving old r p brought is.objects is.brought m _ is.is wants refs (told_in c.args.told.now) same closed Right right (content c.move_refs.new.files) (search (rules, c.in_err-moved.ensures.left honest all now)))
 
 pub returns-in_err-drop_quarantine-clause-cut : goal.returns-in_err-drop_quarantine-clause-cut
-returns-in_err-drop_quarantine-clause-cut g c = λ honest pack holds r p m is refs same.
+returns-in_err-drop_quarantine-clause-cut g c = λ honest agrees pack holds r p m is refs same.
     let content = g.F.Files.content in
     let old = content c.args.files.now in
     let read = content c.by_good_refs.new.files in
@@ -198,13 +241,18 @@ returns-in_err-drop_quarantine-clause-cut g c = λ honest pack holds r p m is re
     let keys = c.in_ok-objects.objects.keys in
     let met : IsSound git r → IsClosedUnder (links_in (objects mid)) keys = λ so. stored_met old mid brought st keys (seen_at old names pack holds read read_at keys (c.in_ok-objects.ensures.met honest (by_refs so).closed)) in
     let more : Known = record { objects = c.open_ids.new.known; histories = known.histories } in
-    let whole : IsSound git r → AreWhole (objects seen) more = λ so. whole_after mid seen c.in_ok-open.ensures.same more (c.in_ok-open.ensures.known honest (met so)) (histories_met old read mid brought read_at st known (by_refs so)) in
-    let done = pack_taken old r p brought is.objects is.brought m _ is.is wants refs (told_in c.args.told.now) same closed (AreWhole (objects seen) more) whole (content c.move_refs.new.files) c.in_ok-moved.moved c.in_ok-open.open.items
+    let Right : Type 0 = IsRight seen more c.args.generations.now in
+    let there : AgreesIn seen c.args.generations.now = agrees_migrated old first mid seen names c.args.generations.now at (c.in_ok-migrate.ensures.stored honest) c.in_ok-open.ensures.same agrees in
+    let right : IsSound git r → Right = λ so. record {
+      whole = whole_after mid seen c.in_ok-open.ensures.same more (c.in_ok-open.ensures.known honest (met so)) (histories_met old read mid brought read_at st known (by_refs so));
+      agrees = there;
+    } in
+    let done = pack_taken old r p brought is.objects is.brought m _ is.is wants refs (told_in c.args.told.now) same closed Right right (content c.move_refs.new.files) c.in_ok-moved.moved c.in_ok-open.open.items
     (c.in_ok-moved.ensures.moved honest all now) (λ so. c.in_ok-open.ensures.wanted honest (met so) all held) in
     on_err c.from_residual-in_err-drop_quarantine.result _ (cut_beside (content c.move_refs.new.files) (content c.drop_quarantine.new.files) (c.in_err-drop_quarantine.ensures.outside honest) r _ m (received_cut r _ m (content c.move_refs.new.files) _ _ _ done))
 
 pub returns-clause-taken : goal.returns-clause-taken
-returns-clause-taken g c = λ honest pack holds r p m is refs same.
+returns-clause-taken g c = λ honest agrees pack holds r p m is refs same.
     let content = g.F.Files.content in
     let old = content c.args.files.now in
     let read = content c.by_good_refs.new.files in
@@ -227,8 +275,13 @@ returns-clause-taken g c = λ honest pack holds r p m is refs same.
     let keys = c.in_ok-objects.objects.keys in
     let met : IsSound git r → IsClosedUnder (links_in (objects mid)) keys = λ so. stored_met old mid brought st keys (seen_at old names pack holds read read_at keys (c.in_ok-objects.ensures.met honest (by_refs so).closed)) in
     let more : Known = record { objects = c.open_ids.new.known; histories = known.histories } in
-    let whole : IsSound git r → AreWhole (objects seen) more = λ so. whole_after mid seen c.in_ok-open.ensures.same more (c.in_ok-open.ensures.known honest (met so)) (histories_met old read mid brought read_at st known (by_refs so)) in
-    let done = pack_taken old r p brought is.objects is.brought m _ is.is wants refs (told_in c.args.told.now) same closed (AreWhole (objects seen) more) whole (content c.move_refs.new.files) c.in_ok-moved.moved c.in_ok-open.open.items
+    let Right : Type 0 = IsRight seen more c.args.generations.now in
+    let there : AgreesIn seen c.args.generations.now = agrees_migrated old first mid seen names c.args.generations.now at (c.in_ok-migrate.ensures.stored honest) c.in_ok-open.ensures.same agrees in
+    let right : IsSound git r → Right = λ so. record {
+      whole = whole_after mid seen c.in_ok-open.ensures.same more (c.in_ok-open.ensures.known honest (met so)) (histories_met old read mid brought read_at st known (by_refs so));
+      agrees = there;
+    } in
+    let done = pack_taken old r p brought is.objects is.brought m _ is.is wants refs (told_in c.args.told.now) same closed Right right (content c.move_refs.new.files) c.in_ok-moved.moved c.in_ok-open.open.items
     (c.in_ok-moved.ensures.moved honest all now) (λ so. c.in_ok-open.ensures.wanted honest (met so) all held) in
     let after = received_beside (content c.move_refs.new.files) (content c.drop_quarantine.new.files) (c.in_ok-drop_quarantine.ensures.outside honest) r _ m _ _ _ done in
     search (rules, after, c.len.ensures)

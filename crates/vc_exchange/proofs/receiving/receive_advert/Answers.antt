@@ -4,6 +4,7 @@ use Rattle.vc_files.proofs.WearLemmas.{wears_then, wears_writes, writes_told}
 use Rattle.vc_files.specs.FileMap.{FileMap}
 use Rattle.vc_format.specs.Git.{bytes_of_id}
 use Rattle.vc_message.specs.Machine.{IsWritten}
+use Rattle.vc_history.specs.Stored.{AgreesIn}
 use Rattle.vc_model.specs.Clone.{haves_of}
 use Rattle.vc_model.specs.Clone.Awaited.{AnAdvert}
 use Rattle.vc_model.specs.Message.Message.{Want as Asks}
@@ -12,18 +13,21 @@ use Rattle.vc_object.specs.declared.id.ObjectId.{ObjectId}
 use Rattle.vc_rules.specs.Git.{git}
 use Rattle.vc_rules.specs.OpenPushes.{HoldsContent}
 use Rattle.vc_session.proofs.CleanLemmas.{bad_same}
+use Rattle.vc_session.proofs.NumberLemmas.{agreement_same}
 use Rattle.vc_session.proofs.UpdateLemmas.{wears_both}
 use Rattle.vc_session.specs.Known.{AreWhole}
 use Rattle.vc_session.specs.declared.known.Known.{Known}
 use Rattle.vc_store.specs.Store.{objects}
 use Rattle.vc_exchange.specs.Deeds.{HoldsHead}
-use Rattle.vc_exchange.specs.Moving.{AreFrontMoved, AreMoved, MovesSome, Told, told_in}
+use Rattle.vc_exchange.specs.Faults.{BlamesFiles}
+use Rattle.vc_exchange.specs.Moving.{AreFrontMoved, AreMoved, IsRight, MovesSome, Told, told_in}
+use Rattle.vc_exchange.specs.Receiving.{BlamesAdvert}
 use Rattle.vc_exchange.specs.Wanting.{AreOpenTold, BlamesWanting}
 use Rattle.vc_exchange.specs.declared.moving.Followed.TheVariants.{All}
 use Rattle.vc_exchange.proofs.AdvertDeeds.{advert_asked, advert_changes, advert_cut, advert_followed, told_refs}
 use Rattle.vc_exchange.proofs.EmptyLists.{empty_items, few_first, some_items}
 use Rattle.vc_exchange.proofs.DeedLemmas.{none_received}
-use Rattle.vc_exchange.proofs.MovingLoops.{whole_more, whole_refs}
+use Rattle.vc_exchange.proofs.MovingLoops.{told_err, whole_more, whole_refs}
 use Rattle.vc_exchange.proofs.ReceivingLemmas.{outside_kept, wanting_kept}
 use Rattle.vc_exchange.proofs.receiving.receive_advert.Goals as goal
 use Rattle.vc_lemmas.proofs.Lists.{on_err}
@@ -46,7 +50,7 @@ returns-in_err-open-clause-wear g c =
     wears_then c.in_ok-known.ensures.wear (λ _. c.in_ok-known.ensures.same) (search rules) (writes_told (wears_writes c.in_err-open.ensures.wear (λ _. c.in_err-open.ensures.same)) (search rules) (search rules))
 
 pub returns-in_err-moved-clause-cut : goal.returns-in_err-moved-clause-cut
-returns-in_err-moved-clause-cut g c = λ honest r p m advert.
+returns-in_err-moved-clause-cut g c = λ honest agrees r p m advert.
     let content = g.F.Files.content in
     let old = content c.args.files.now in
     let seen = content c.open_ids.new.files in
@@ -57,12 +61,22 @@ returns-in_err-moved-clause-cut g c = λ honest r p m advert.
     let held = still_held old first r same p in
     let known = c.in_ok-known.known in
     let more : Known = record { objects = c.open_ids.new.known; histories = known.histories } in
-    let Whole : Type 0 = AreWhole (objects seen) more in
+    let Right : Type 0 = IsRight seen more c.args.generations.now in
     let by_refs : IsSound git r → AreWhole (objects first) known = whole_refs old first known r same (c.in_ok-known.ensures.whole honest) p in
-    let sound : IsSound git r → Whole = λ is. whole_more first seen known more c.in_ok-open.ensures.same refl (c.in_ok-open.ensures.known honest) (by_refs is) in
+    let there : AgreesIn seen c.args.generations.now = agreement_same old seen (c.in_ok-open.ensures.same ∙ same) c.args.generations.now agrees in
+    let sound : IsSound git r → Right = λ is. record { whole = whole_more first seen known more c.in_ok-open.ensures.same refl (c.in_ok-open.ensures.known honest) (by_refs is); agrees = there } in
     let none : IsSound git r → AreOpenTold r told [] = λ is. open_at r (told_in c.deref.result.now) told c.in_ok-open.open.items [] (ap told_in c.deref.ensures.value) (empty_items c.in_ok-open.open c.is_empty.result c.is_empty.ensures c.if-is_empty.true) (c.in_ok-open.ensures.wanted honest (by_refs is).closed r held) in
-    let front : AreFrontMoved Whole All (told_in c.deref-then-is_empty.result.now) r last = search (rules, c.in_err-moved.ensures.left honest r (still_held first seen r c.in_ok-open.ensures.same held)) in
-    on_err c.from_residual-in_err-moved.result _ (advert_cut r m (advert_text c.args.advert) advert told c.in_ok-refs.ensures Whole sound none last (subst (λ (l : List Told). AreFrontMoved Whole All l r last) (ap told_in c.deref-then-is_empty.ensures.value) front))
+    let front : AreFrontMoved Right All (told_in c.deref-then-is_empty.result.now) r last = search (rules, c.in_err-moved.ensures.left honest r (still_held first seen r c.in_ok-open.ensures.same held)) in
+    on_err c.from_residual-in_err-moved.result _ (advert_cut r m (advert_text c.args.advert) advert told c.in_ok-refs.ensures Right sound none last (subst (λ (l : List Told). AreFrontMoved Right All l r last) (ap told_in c.deref-then-is_empty.ensures.value) front))
+
+pub returns-in_err-moved-clause-refused : goal.returns-in_err-moved-clause-refused
+returns-in_err-moved-clause-refused g c = λ honest agrees.
+    let old = g.F.Files.content c.args.files.now in
+    let seen = g.F.Files.content c.open_ids.new.files in
+    let same : seen ≡ old = c.in_ok-open.ensures.same ∙ c.in_ok-known.ensures.same in
+    let e = c.in_err-moved.field-0.0 in
+    let why : BlamesFiles seen e = search (rules, c.in_err-moved.ensures.refused honest (agreement_same old seen same c.args.generations.now agrees)) in
+    told_err c.from_residual-in_err-moved.result e (BlamesAdvert old) (search rules) (inr (subst (λ (f : FileMap). BlamesFiles f e) same why))
 
 pub returns-in_err-moved-clause-wear : goal.returns-in_err-moved-clause-wear
 returns-in_err-moved-clause-wear g c =
@@ -70,7 +84,7 @@ returns-in_err-moved-clause-wear g c =
     (wears_then c.in_ok-open.ensures.wear (λ _. c.in_ok-open.ensures.same) (search rules) (writes_told c.in_err-moved.ensures.wear (search rules) (search rules)))
 
 pub returns-in_err-moved-clause-looks : goal.returns-in_err-moved-clause-looks
-returns-in_err-moved-clause-looks g c = λ honest r p m advert.
+returns-in_err-moved-clause-looks g c = λ honest agrees r p m advert.
     let content = g.F.Files.content in
     let old = content c.args.files.now in
     let seen = content c.open_ids.new.files in
@@ -80,17 +94,18 @@ returns-in_err-moved-clause-looks g c = λ honest r p m advert.
     let held = still_held old first r same p in
     let known = c.in_ok-known.known in
     let more : Known = record { objects = c.open_ids.new.known; histories = known.histories } in
-    let Whole : Type 0 = AreWhole (objects seen) more in
+    let Right : Type 0 = IsRight seen more c.args.generations.now in
     let by_refs : IsSound git r → AreWhole (objects first) known = whole_refs old first known r same (c.in_ok-known.ensures.whole honest) p in
-    let sound : IsSound git r → Whole = λ is. whole_more first seen known more c.in_ok-open.ensures.same refl (c.in_ok-open.ensures.known honest) (by_refs is) in
+    let there : AgreesIn seen c.args.generations.now = agreement_same old seen (c.in_ok-open.ensures.same ∙ same) c.args.generations.now agrees in
+    let sound : IsSound git r → Right = λ is. record { whole = whole_more first seen known more c.in_ok-open.ensures.same refl (c.in_ok-open.ensures.known honest) (by_refs is); agrees = there } in
     let none : IsSound git r → AreOpenTold r told [] = λ is. open_at r (told_in c.deref.result.now) told c.in_ok-open.open.items [] (ap told_in c.deref.ensures.value) (empty_items c.in_ok-open.open c.is_empty.result c.is_empty.ensures c.if-is_empty.true) (c.in_ok-open.ensures.wanted honest (by_refs is).closed r held) in
     elim (c.in_err-moved.ensures.looks honest r (still_held first seen r c.in_ok-open.ensures.same held)) [
-      | inl some ↦ inl (advert_changes r m (advert_text c.args.advert) advert told c.in_ok-refs.ensures Whole sound none (λ whole. subst (λ (l : List Told). MovesSome All l r) (ap told_in c.deref-then-is_empty.ensures.value) (some whole)))
+      | inl some ↦ inl (advert_changes r m (advert_text c.args.advert) advert told c.in_ok-refs.ensures Right sound none (λ whole. subst (λ (l : List Told). MovesSome All l r) (ap told_in c.deref-then-is_empty.ensures.value) (some whole)))
       | inr wears ↦ inr (wears_both c.in_ok-known.ensures.wear (wears_both c.in_ok-open.ensures.wear wears (search rules)) (λ told. told))
     ]
 
 pub returns-then-is_empty-clause-taken : goal.returns-then-is_empty-clause-taken
-returns-then-is_empty-clause-taken g c = λ honest r p head m advert.
+returns-then-is_empty-clause-taken g c = λ honest agrees r p head m advert.
     let content = g.F.Files.content in
     let old = content c.args.files.now in
     let seen = content c.open_ids.new.files in
@@ -101,12 +116,13 @@ returns-then-is_empty-clause-taken g c = λ honest r p head m advert.
     let held = still_held old first r same p in
     let known = c.in_ok-known.known in
     let more : Known = record { objects = c.open_ids.new.known; histories = known.histories } in
-    let Whole : Type 0 = AreWhole (objects seen) more in
+    let Right : Type 0 = IsRight seen more c.args.generations.now in
     let by_refs : IsSound git r → AreWhole (objects first) known = whole_refs old first known r same (c.in_ok-known.ensures.whole honest) p in
-    let sound : IsSound git r → Whole = λ is. whole_more first seen known more c.in_ok-open.ensures.same refl (c.in_ok-open.ensures.known honest) (by_refs is) in
+    let there : AgreesIn seen c.args.generations.now = agreement_same old seen (c.in_ok-open.ensures.same ∙ same) c.args.generations.now agrees in
+    let sound : IsSound git r → Right = λ is. record { whole = whole_more first seen known more c.in_ok-open.ensures.same refl (c.in_ok-open.ensures.known honest) (by_refs is); agrees = there } in
     let none : IsSound git r → AreOpenTold r told [] = λ is. open_at r (told_in c.deref.result.now) told c.in_ok-open.open.items [] (ap told_in c.deref.ensures.value) (empty_items c.in_ok-open.open c.is_empty.result c.is_empty.ensures c.if-is_empty.true) (c.in_ok-open.ensures.wanted honest (by_refs is).closed r held) in
-    let all : AreMoved Whole All (told_in c.deref-then-is_empty.result.now) r last c.in_ok-moved.moved = c.in_ok-moved.ensures.moved honest r (still_held first seen r c.in_ok-open.ensures.same held) in
-    advert_followed r m (advert_text c.args.advert) advert told c.in_ok-refs.ensures Whole sound none last c.in_ok-moved.moved (subst (λ (l : List Told). AreMoved Whole All l r last c.in_ok-moved.moved) (ap told_in c.deref-then-is_empty.ensures.value) all)
+    let all : AreMoved Right All (told_in c.deref-then-is_empty.result.now) r last c.in_ok-moved.moved = c.in_ok-moved.ensures.moved honest r (still_held first seen r c.in_ok-open.ensures.same held) in
+    advert_followed r m (advert_text c.args.advert) advert told c.in_ok-refs.ensures Right sound none last c.in_ok-moved.moved (subst (λ (l : List Told). AreMoved Right All l r last c.in_ok-moved.moved) (ap told_in c.deref-then-is_empty.ensures.value) all)
 
 pub returns-then-is_empty-clause-wear : goal.returns-then-is_empty-clause-wear
 returns-then-is_empty-clause-wear g c =
@@ -114,7 +130,7 @@ returns-then-is_empty-clause-wear g c =
     (wears_then c.in_ok-open.ensures.wear (λ _. c.in_ok-open.ensures.same) (search rules) (writes_told c.in_ok-moved.ensures.wear (search rules) (search rules)))
 
 pub returns-then-is_empty-clause-looks : goal.returns-then-is_empty-clause-looks
-returns-then-is_empty-clause-looks g c = λ honest r p m advert.
+returns-then-is_empty-clause-looks g c = λ honest agrees r p m advert.
     let content = g.F.Files.content in
     let old = content c.args.files.now in
     let seen = content c.open_ids.new.files in
@@ -124,12 +140,13 @@ returns-then-is_empty-clause-looks g c = λ honest r p m advert.
     let held = still_held old first r same p in
     let known = c.in_ok-known.known in
     let more : Known = record { objects = c.open_ids.new.known; histories = known.histories } in
-    let Whole : Type 0 = AreWhole (objects seen) more in
+    let Right : Type 0 = IsRight seen more c.args.generations.now in
     let by_refs : IsSound git r → AreWhole (objects first) known = whole_refs old first known r same (c.in_ok-known.ensures.whole honest) p in
-    let sound : IsSound git r → Whole = λ is. whole_more first seen known more c.in_ok-open.ensures.same refl (c.in_ok-open.ensures.known honest) (by_refs is) in
+    let there : AgreesIn seen c.args.generations.now = agreement_same old seen (c.in_ok-open.ensures.same ∙ same) c.args.generations.now agrees in
+    let sound : IsSound git r → Right = λ is. record { whole = whole_more first seen known more c.in_ok-open.ensures.same refl (c.in_ok-open.ensures.known honest) (by_refs is); agrees = there } in
     let none : IsSound git r → AreOpenTold r told [] = λ is. open_at r (told_in c.deref.result.now) told c.in_ok-open.open.items [] (ap told_in c.deref.ensures.value) (empty_items c.in_ok-open.open c.is_empty.result c.is_empty.ensures c.if-is_empty.true) (c.in_ok-open.ensures.wanted honest (by_refs is).closed r held) in
     elim (c.in_ok-moved.ensures.looks honest r (still_held first seen r c.in_ok-open.ensures.same held)) [
-      | inl some ↦ inl (advert_changes r m (advert_text c.args.advert) advert told c.in_ok-refs.ensures Whole sound none (λ whole. subst (λ (l : List Told). MovesSome All l r) (ap told_in c.deref-then-is_empty.ensures.value) (some whole)))
+      | inl some ↦ inl (advert_changes r m (advert_text c.args.advert) advert told c.in_ok-refs.ensures Right sound none (λ whole. subst (λ (l : List Told). MovesSome All l r) (ap told_in c.deref-then-is_empty.ensures.value) (some whole)))
       | inr wears ↦ inr (wears_both c.in_ok-known.ensures.wear (wears_both c.in_ok-open.ensures.wear wears (search rules)) (λ told. told))
     ]
 
@@ -146,10 +163,10 @@ returns-in_err-bytes-clause-wear g c =
     (wears_then c.in_ok-open.ensures.wear (λ _. c.in_ok-open.ensures.same) (search rules) (writes_told (wears_writes c.in_err-bytes.ensures.wear (λ _. c.in_err-bytes.ensures.same)) (search rules) (search rules)))
 
 pub returns-in_err-bytes-clause-looks : goal.returns-in_err-bytes-clause-looks
-returns-in_err-bytes-clause-looks g c = λ honest r p m advert. inr (wears_both c.in_ok-known.ensures.wear (wears_both c.in_ok-open.ensures.wear c.in_err-bytes.ensures.wear (search rules)) (λ told. told))
+returns-in_err-bytes-clause-looks g c = λ honest agrees r p m advert. inr (wears_both c.in_ok-known.ensures.wear (wears_both c.in_ok-open.ensures.wear c.in_err-bytes.ensures.wear (search rules)) (λ told. told))
 
 pub returns-clause-taken : goal.returns-clause-taken
-returns-clause-taken g c = λ honest r p head m advert.
+returns-clause-taken g c = λ honest agrees r p head m advert.
     let content = g.F.Files.content in
     let old = content c.args.files.now in
     let seen = content c.open_ids.new.files in
@@ -177,7 +194,7 @@ returns-clause-wear g c =
     (wears_then c.in_ok-open.ensures.wear (λ _. c.in_ok-open.ensures.same) (search rules) (writes_told (wears_writes c.in_ok-bytes.ensures.wear (λ _. c.in_ok-bytes.ensures.same)) (search rules) (search rules)))
 
 pub returns-in_err-open-clause-looks : goal.returns-in_err-open-clause-looks
-returns-in_err-open-clause-looks g c = λ honest r p m advert. inr (wears_both c.in_ok-known.ensures.wear c.in_err-open.ensures.wear (search rules))
+returns-in_err-open-clause-looks g c = λ honest agrees r p m advert. inr (wears_both c.in_ok-known.ensures.wear c.in_err-open.ensures.wear (search rules))
 
 pub returns-in_err-wants-clause-outside : goal.returns-in_err-wants-clause-outside
 returns-in_err-wants-clause-outside g c = λ honest. outside_kept (g.F.Files.content c.args.files.now) (g.F.Files.content c.open_ids.new.files) (c.in_ok-open.ensures.same ∙ c.in_ok-known.ensures.same)
@@ -186,14 +203,14 @@ pub returns-in_err-wants-clause-bad : goal.returns-in_err-wants-clause-bad
 returns-in_err-wants-clause-bad g c = λ honest. bad_same (g.F.Files.content c.args.files.now) (g.F.Files.content c.open_ids.new.files) (c.in_ok-open.ensures.same ∙ c.in_ok-known.ensures.same)
 
 pub returns-in_err-wants-clause-looks : goal.returns-in_err-wants-clause-looks
-returns-in_err-wants-clause-looks g c = λ honest r p m advert. inr (wears_both c.in_ok-known.ensures.wear c.in_ok-open.ensures.wear (search rules))
+returns-in_err-wants-clause-looks g c = λ honest agrees r p m advert. inr (wears_both c.in_ok-known.ensures.wear c.in_ok-open.ensures.wear (search rules))
 
 pub returns-in_err-bytes-clause-cut : goal.returns-in_err-bytes-clause-cut
-returns-in_err-bytes-clause-cut g c = λ honest r p m advert.
+returns-in_err-bytes-clause-cut g c = λ honest agrees r p m advert.
     on_err c.from_residual-in_err-bytes.result _ (none_received (g.F.Files.content c.args.files.now) (g.F.Files.content c.want_message.new.files) r AnAdvert m (c.in_err-bytes.ensures.same ∙ c.in_ok-open.ensures.same ∙ c.in_ok-known.ensures.same) p)
 
 pub returns-in_err-bytes-clause-refused : goal.returns-in_err-bytes-clause-refused
-returns-in_err-bytes-clause-refused g c = λ honest.
+returns-in_err-bytes-clause-refused g c = λ honest agrees.
     let seen = g.F.Files.content c.open_ids.new.files in
     let e = c.in_err-bytes.field-0.0 in
     let why : BlamesWanting seen e = search (rules, c.in_err-bytes.ensures.refused honest) in
@@ -212,4 +229,4 @@ pub returns-clause-bad : goal.returns-clause-bad
 returns-clause-bad g c = λ honest. bad_same (g.F.Files.content c.args.files.now) (g.F.Files.content c.want_message.new.files) (c.in_ok-bytes.ensures.same ∙ c.in_ok-open.ensures.same ∙ c.in_ok-known.ensures.same)
 
 pub returns-clause-looks : goal.returns-clause-looks
-returns-clause-looks g c = λ honest r p m advert. inr (wears_both c.in_ok-known.ensures.wear (wears_both c.in_ok-open.ensures.wear c.in_ok-bytes.ensures.wear (search rules)) (λ told. told))
+returns-clause-looks g c = λ honest agrees r p m advert. inr (wears_both c.in_ok-known.ensures.wear (wears_both c.in_ok-open.ensures.wear c.in_ok-bytes.ensures.wear (search rules)) (λ told. told))

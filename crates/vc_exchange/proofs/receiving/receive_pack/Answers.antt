@@ -1,5 +1,4 @@
-use Rattle.std.proofs.Common.{rules, ◌≡◌, Result, Ok, Err, sym, ap, ◌∙◌, subst}
-use Rattle.std.specs.Prelude.{IfErr}
+use Rattle.std.proofs.Common.{rules, ◌≡◌, Result, Err, sym, ap, ◌∙◌, subst}
 use Rattle.vc_pack.proofs.KeepsLemmas.{keeps_same, keeps_then}
 use Rattle.vc_pack.specs.AnswerFault.{IsRefusedPack}
 use Rattle.vc_pack.specs.declared.fault.AnswerFault.{AnswerFault}
@@ -10,6 +9,7 @@ use Rattle.vc_files.proofs.WearLemmas.{wears_then, wears_writes, writes_both, wr
 use Rattle.vc_graph.specs.Graph.{IsClosedUnder}
 use Rattle.vc_graph.specs.Overlay.{with_carried}
 use Rattle.vc_graph.specs.declared.fault.GraphFault.TheVariants as of_graph
+use Rattle.vc_history.specs.Stored.{AgreesIn}
 use Rattle.vc_model.specs.Repository.{IsSound, with_objects}
 use Rattle.vc_object.specs.ObjectMap.{ObjectMap, links_in}
 use Rattle.vc_object.specs.declared.id.ObjectId.{ObjectId}
@@ -23,31 +23,27 @@ use Rattle.vc_session.specs.Clean.{MakesNoneBad}
 use Rattle.vc_session.specs.Known.{AreWhole}
 use Rattle.vc_session.specs.declared.known.Known.{Known}
 use Rattle.vc_store.specs.Store.{objects}
-use Rattle.vc_exchange.specs.Faults.{from_answer, from_store}
-use Rattle.vc_exchange.specs.Moving.{told_in}
+use Rattle.vc_exchange.specs.Faults.{BlamesFiles, from_answer, from_store}
+use Rattle.vc_exchange.specs.Moving.{IsRight, told_in}
 use Rattle.vc_exchange.specs.Receiving.{BlamesPack}
 use Rattle.vc_exchange.specs.Storing.{AreSomeStored}
 use Rattle.vc_exchange.specs.declared.fault.ExchangeFault.TheVariants as exchange
 use Rattle.vc_files.specs.declared.faults.Fault.TheVariants.{Device}
-use Rattle.vc_exchange.proofs.MovingLoops.{whole_refs}
+use Rattle.vc_exchange.proofs.MovingLoops.{blames_before, blames_of_pack, never_incomplete, told_err, whole_refs}
 use Rattle.vc_exchange.proofs.PackDeeds.{judge_blames, pack_moving, pack_storing, pack_stored, pack_taken, store_other}
 use Rattle.vc_exchange.proofs.PackLemmas.{brought_closed, brought_same, histories_met, stored_content, stored_met, stored_outside, stored_since, some_since, whole_after}
-use Rattle.vc_exchange.proofs.KeptLemmas.{keeps_beside_refs, keeps_some, keeps_stored}
+use Rattle.vc_exchange.proofs.KeptLemmas.{agrees_stored, keeps_beside_refs, keeps_some, keeps_stored}
 use Rattle.vc_exchange.proofs.receiving.receive_pack.Goals as goal
 use Rattle.vc_lemmas.proofs.Lists.{on_err}
 
 err_same : {A E : Type 0} {e f : E} → ◌≡◌ {A = Result A E} (Err e) (Err f) → e ≡ f
 err_same h = cc
 
-told_err : {A E : Type 0} (r : Result A E) (e : E) (P : E → Type 0) → r ≡ Err e → P e → IfErr r P
-told_err (Ok a) e P is p = absurd (cc is)
-told_err (Err f) e P is p = let same : f ≡ e = cc in subst P (sym same) p
-
 pub returns-in_err-known-clause-wear : goal.returns-in_err-known-clause-wear
 returns-in_err-known-clause-wear g c = writes_told (wears_writes c.in_err-known.ensures.wear (λ _. c.in_err-known.ensures.same)) (search rules) (search rules)
 
 pub returns-in_err-objects-clause-refused : goal.returns-in_err-objects-clause-refused
-returns-in_err-objects-clause-refused g c = λ honest m p.
+returns-in_err-objects-clause-refused g c = λ honest agrees m p.
     let content = g.F.Files.content in
     let old = content c.args.files.now in
     let read = content c.by_good_refs.new.files in
@@ -78,7 +74,7 @@ returns-in_err-objects-clause-wear g c =
     (λ told. let same : from_answer e ≡ exchange.Fault Device = err_same (sym is ∙ told) in ap Err (plain e same)))
 
 pub returns-in_err-store_all-clause-cut : goal.returns-in_err-store_all-clause-cut
-returns-in_err-store_all-clause-cut g c = λ honest r p m pack refs same.
+returns-in_err-store_all-clause-cut g c = λ honest agrees r p m pack refs same.
     let content = g.F.Files.content in
     let old = content c.args.files.now in
     let read = content c.by_good_refs.new.files in
@@ -100,13 +96,13 @@ returns-in_err-store_all-clause-wear g c =
     (wears_then c.in_ok-objects.ensures.wear (λ _. c.in_ok-objects.ensures.same) (search rules) (writes_told c.in_err-store_all.ensures.wear (search rules) (search rules)))
 
 pub returns-in_err-store_all-clause-unchanged : goal.returns-in_err-store_all-clause-unchanged
-returns-in_err-store_all-clause-unchanged g c = λ honest.
+returns-in_err-store_all-clause-unchanged g c = λ honest agrees.
     let content = g.F.Files.content in
     let e = c.in_err-store_all.field-0.0 in
     told_err c.from_residual-in_err-store_all.result (from_store e) (λ x. (id : ObjectId) → x ≡ exchange.Incomplete id → content c.store_all.new.files ≡ content c.args.files.now) (search rules) (λ id is. absurd (store_other e id is))
 
 pub returns-in_err-open-clause-cut : goal.returns-in_err-open-clause-cut
-returns-in_err-open-clause-cut g c = λ honest r p m pack refs same.
+returns-in_err-open-clause-cut g c = λ honest agrees r p m pack refs same.
     let content = g.F.Files.content in
     let old = content c.args.files.now in
     let read = content c.by_good_refs.new.files in
@@ -131,7 +127,7 @@ returns-in_err-open-clause-wear g c =
     (writes_both c.in_ok-store_all.ensures.wear (search rules) (writes_told (wears_writes c.in_err-open.ensures.wear (λ _. c.in_err-open.ensures.same)) (search rules) (search rules))))
 
 pub returns-in_err-moved-clause-cut : goal.returns-in_err-moved-clause-cut
-returns-in_err-moved-clause-cut g c = λ honest r p m pack refs same.
+returns-in_err-moved-clause-cut g c = λ honest agrees r p m pack refs same.
     let content = g.F.Files.content in
     let old = content c.args.files.now in
     let read = content c.by_good_refs.new.files in
@@ -153,8 +149,49 @@ returns-in_err-moved-clause-cut g c = λ honest r p m pack refs same.
     let now : HoldsContent seen all = subst (λ (f : FileMap). HoldsContent f all) (sym c.in_ok-open.ensures.same) held in
     let met : IsSound git r → IsClosedUnder (links_in (objects mid)) keys = λ is. stored_met old mid brought st keys (brought_closed old read brought keys seen_at (c.in_ok-objects.ensures.met honest (by_refs is).closed)) in
     let more : Known = record { objects = c.open_ids.new.known; histories = known.histories } in
-    let whole : IsSound git r → AreWhole (objects seen) more = λ is. whole_after mid seen c.in_ok-open.ensures.same more (c.in_ok-open.ensures.known honest (met is)) (histories_met old read mid brought seen_at st known (by_refs is)) in
-    on_err c.from_residual-in_err-moved.result _ (pack_moving old r p brought pack.objects pack.brought m _ pack.is wants refs (told_in c.args.told.now) same closed (AreWhole (objects seen) more) whole (content c.move_refs.new.files) (search (rules, c.in_err-moved.ensures.left honest all now)))
+    let Right : Type 0 = IsRight seen more c.args.generations.now in
+    let there : AgreesIn seen c.args.generations.now = agrees_stored old first mid seen brought c.args.generations.now at (c.in_ok-store_all.ensures.stored honest) c.in_ok-open.ensures.same agrees in
+    let right : IsSound git r → Right = λ is. record {
+      whole = whole_after mid seen c.in_ok-open.ensures.same more (c.in_ok-open.ensures.known honest (met is)) (histories_met old read mid brought seen_at st known (by_refs is));
+      agrees = there;
+    } in
+    on_err c.from_residual-in_err-moved.result _ (pack_moving old r p brought pack.objects pack.brought m _ pack.is wants refs (told_in c.args.told.now) same closed Right right (content c.move_refs.new.files) (search (rules, c.in_err-moved.ensures.left honest all now)))
+
+pub returns-in_err-open-clause-unchanged : goal.returns-in_err-open-clause-unchanged
+returns-in_err-open-clause-unchanged g c = λ honest agrees.
+    let content = g.F.Files.content in
+    let mid = content c.store_all.new.files in
+    let e = c.in_err-open.field-0.0 in
+    let why : BlamesFiles mid e = search (rules, c.in_err-open.ensures.refused honest) in
+    told_err c.from_residual-in_err-open.result e (λ x. (id : ObjectId) → x ≡ exchange.Incomplete id → content c.open_ids.new.files ≡ content c.args.files.now) (search rules) (λ id is. absurd (never_incomplete mid e id why is))
+
+pub returns-in_err-moved-clause-refused : goal.returns-in_err-moved-clause-refused
+returns-in_err-moved-clause-refused g c = λ honest agrees m p.
+    let content = g.F.Files.content in
+    let old = content c.args.files.now in
+    let first = content c.judge_pack.new.files in
+    let mid = content c.store_all.new.files in
+    let seen = content c.open_ids.new.files in
+    let at : first ≡ old = c.in_ok-objects.ensures.same ∙ c.in_ok-known.ensures.same in
+    let e = c.in_err-moved.field-0.0 in
+    let there : AgreesIn seen c.args.generations.now = agrees_stored old first mid seen (carried c.args.pack.now.objects) c.args.generations.now at (c.in_ok-store_all.ensures.stored honest) c.in_ok-open.ensures.same agrees in
+    let none : MakesNoneBad old mid = rw (c.in_ok-objects.ensures.same, c.in_ok-known.ensures.same) at (c.in_ok-store_all.ensures.bad honest) in
+    let why : BlamesFiles seen e = search (rules, c.in_err-moved.ensures.refused honest there) in
+    let before : BlamesFiles old e = blames_before old seen (bad_then none (bad_same mid seen c.in_ok-open.ensures.same)) e why in
+    told_err c.from_residual-in_err-moved.result e (BlamesPack old c.args.wants.now m) (search rules) (blames_of_pack old c.args.wants.now m e before)
+
+pub returns-in_err-moved-clause-unchanged : goal.returns-in_err-moved-clause-unchanged
+returns-in_err-moved-clause-unchanged g c = λ honest agrees.
+    let content = g.F.Files.content in
+    let old = content c.args.files.now in
+    let first = content c.judge_pack.new.files in
+    let mid = content c.store_all.new.files in
+    let seen = content c.open_ids.new.files in
+    let at : first ≡ old = c.in_ok-objects.ensures.same ∙ c.in_ok-known.ensures.same in
+    let e = c.in_err-moved.field-0.0 in
+    let there : AgreesIn seen c.args.generations.now = agrees_stored old first mid seen (carried c.args.pack.now.objects) c.args.generations.now at (c.in_ok-store_all.ensures.stored honest) c.in_ok-open.ensures.same agrees in
+    let why : BlamesFiles seen e = search (rules, c.in_err-moved.ensures.refused honest there) in
+    told_err c.from_residual-in_err-moved.result e (λ x. (id : ObjectId) → x ≡ exchange.Incomplete id → content c.move_refs.new.files ≡ old) (search rules) (λ id is. absurd (never_incomplete seen e id why is))
 
 pub returns-in_err-moved-clause-wear : goal.returns-in_err-moved-clause-wear
 returns-in_err-moved-clause-wear g c =
@@ -164,7 +201,7 @@ returns-in_err-moved-clause-wear g c =
     (wears_then c.in_ok-open.ensures.wear (λ _. c.in_ok-open.ensures.same) (search rules) (writes_told c.in_err-moved.ensures.wear (search rules) (search rules)))))
 
 pub returns-clause-taken : goal.returns-clause-taken
-returns-clause-taken g c = λ honest r p m pack refs same.
+returns-clause-taken g c = λ honest agrees r p m pack refs same.
     let content = g.F.Files.content in
     let old = content c.args.files.now in
     let read = content c.by_good_refs.new.files in
@@ -186,8 +223,13 @@ returns-clause-taken g c = λ honest r p m pack refs same.
     let now : HoldsContent seen all = subst (λ (f : FileMap). HoldsContent f all) (sym c.in_ok-open.ensures.same) held in
     let met : IsSound git r → IsClosedUnder (links_in (objects mid)) keys = λ is. stored_met old mid brought st keys (brought_closed old read brought keys seen_at (c.in_ok-objects.ensures.met honest (by_refs is).closed)) in
     let more : Known = record { objects = c.open_ids.new.known; histories = known.histories } in
-    let whole : IsSound git r → AreWhole (objects seen) more = λ is. whole_after mid seen c.in_ok-open.ensures.same more (c.in_ok-open.ensures.known honest (met is)) (histories_met old read mid brought seen_at st known (by_refs is)) in
-    let done = pack_taken old r p brought pack.objects pack.brought m _ pack.is wants refs (told_in c.args.told.now) same closed (AreWhole (objects seen) more) whole (content c.move_refs.new.files) c.in_ok-moved.moved c.in_ok-open.open.items
+    let Right : Type 0 = IsRight seen more c.args.generations.now in
+    let there : AgreesIn seen c.args.generations.now = agrees_stored old first mid seen brought c.args.generations.now at (c.in_ok-store_all.ensures.stored honest) c.in_ok-open.ensures.same agrees in
+    let right : IsSound git r → Right = λ is. record {
+      whole = whole_after mid seen c.in_ok-open.ensures.same more (c.in_ok-open.ensures.known honest (met is)) (histories_met old read mid brought seen_at st known (by_refs is));
+      agrees = there;
+    } in
+    let done = pack_taken old r p brought pack.objects pack.brought m _ pack.is wants refs (told_in c.args.told.now) same closed Right right (content c.move_refs.new.files) c.in_ok-moved.moved c.in_ok-open.open.items
     (c.in_ok-moved.ensures.moved honest all now) (λ is. c.in_ok-open.ensures.wanted honest (met is) all held) in
     search (rules, done, c.len.ensures)
 
