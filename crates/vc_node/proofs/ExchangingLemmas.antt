@@ -1,7 +1,7 @@
 -- A message at a clone, kind by kind, as the machine answers it: where it is awaited, and where it isn't.
 use Rattle.std.proofs.Common.{◌≡◌, ◌⊎◌, inl, inr, ℕ, true, List, Vec, Option, Some, None, Result, Ok, Err, refl, sym, ap, ◌∙◌, subst}
 use Rattle.std.specs.Global.{Global}
-use Rattle.std.specs.Prelude.{IsErrAnd, codes}
+use Rattle.std.specs.Prelude.{IfErr, IsErrAnd, codes}
 use Rattle.vc_exchange.specs.Deeds.{ChangesAt, HoldsHead, IsCutShort, IsReceived}
 use Rattle.vc_exchange.specs.Faults.{BlamesFiles}
 use Rattle.vc_exchange.specs.Moving.{Told, told_in}
@@ -11,6 +11,10 @@ use Rattle.vc_exchange.specs.declared.fault.ExchangeFault.TheVariants as exchang
 use Rattle.vc_fetch.specs.Advert.{AdvertText}
 use Rattle.vc_fetch.specs.Pack.{PackText}
 use Rattle.vc_files.specs.FileMap.{FileMap, SameOutside}
+use Rattle.vc_history.proofs.GenerationLemmas.{agrees_where_none}
+use Rattle.vc_history.specs.Numbering.{numbers}
+use Rattle.vc_history.specs.Stored.{AgreesIn}
+use Rattle.vc_history.specs.declared.generations.Generations.{Generations}
 use Rattle.vc_message.specs.AnyMessage.{MessageText, a_list, a_pack as pack_message, a_push, a_report, a_want, an_advert as advert_message, an_error}
 use Rattle.vc_message.specs.Machine.{IsAdvert, IsPack, IsReport, IsWritten, TextOf}
 use Rattle.vc_message.specs.AnyView.{message_text}
@@ -26,26 +30,32 @@ use Rattle.vc_model.specs.Message.Message.{Advert, Error, ListRefs, Pack, Push, 
 use Rattle.vc_model.specs.Node.Reply.{Moved as MovedRefs, Reported as ReportedRefs, Sends}
 use Rattle.vc_model.specs.Refs.{Refs}
 use Rattle.vc_model.specs.Repository.{IsSound, Repository}
+use Rattle.vc_object.specs.ObjectMap.{parents_in}
 use Rattle.vc_object.specs.declared.id.ObjectId.{ObjectId}
 use Rattle.vc_push.specs.Report.{ReportText}
 use Rattle.vc_rules.proofs.GitLaws.{git_rules}
 use Rattle.vc_rules.specs.Git.{git}
 use Rattle.vc_rules.specs.OpenPushes.{HoldsContent}
 use Rattle.vc_session.specs.Clean.{MakesNoneBad}
+use Rattle.vc_store.specs.Store.{objects}
 use Rattle.vc_node.proofs.CloneCallLemmas.{Leads, held_content, refused_leads}
 use Rattle.vc_node.proofs.ReceivingClone.{SameBeside, beside_refs, cut_leads, head_held, received_leads, up_answers}
-use Rattle.vc_node.proofs.ReceivingFaults.{IsFailing, advert_fails, files_fail, pack_fails}
+use Rattle.vc_node.proofs.ReceivingFaults.{IsFailing, advert_fails, files_fail, incomplete_alone, pack_fails}
 use Rattle.vc_node.specs.Awaited.{AwaitedText, IsAwaited, a_pack, an_advert, awaited_text, nothing}
 use Rattle.vc_node.specs.CloneCalls.{AnswersUp, MayOr, ReceivedAs}
 use Rattle.vc_node.specs.CloneFaults.{of_device, of_exchange, up_after}
 use Rattle.vc_node.specs.Machine.{HoldsNode, failure_of}
-use Rattle.vc_node.specs.Receipts.{IsRefusedMessage}
+use Rattle.vc_node.specs.Receipts.{IsOfMessage, IsRefusedMessage}
 use Rattle.vc_node.specs.declared.awaited.Awaited.{Awaited as Waiting}
 use Rattle.vc_node.specs.declared.awaited.Awaited.TheVariants as of
 use Rattle.vc_node.specs.declared.clone_fault.CloneFault.{CloneFault}
 use Rattle.vc_node.specs.declared.clone_fault.CloneFault.TheVariants.{Unexpected}
 use Rattle.vc_node.specs.declared.exchanging.Received.{Received}
 use Rattle.vc_node.specs.declared.exchanging.Received.TheVariants.{Moved, Reported, Send}
+
+-- where no generation is known, those that are agree with what is stored
+pub none_agree : (content : FileMap) (generations : Generations) → ((id : ObjectId) → numbers generations id ≡ None) → AgreesIn content generations
+none_agree content generations none = agrees_where_none (parents_in (objects content)) (numbers generations) none
 
 -- ---- what a fault is told as
 pub err_is : {T : Type 0} (e : CloneFault) (q : Result T CloneFault) → IsErrAnd q (λ x. x ≡ e) → q ≡ Err e
@@ -191,6 +201,32 @@ pub pack_refused : (content : FileMap) (w : Waiting) (t : PackText) → ((wants 
 pack_refused content of.Nothing t other = refl
 pack_refused content of.Advert t other = refl
 pack_refused content (of.Pack wants refs) t other = absurd (other wants refs refl)
+
+-- why one that is awaited is refused
+pub advert_blamed : {T : Type 0} (content : FileMap) (waits : AwaitedText) (t : AdvertText) (fault : ExchangeFault) (q : Result T CloneFault) → waits ≡ an_advert → IsErrAnd q (λ x. x ≡ of_exchange fault) → BlamesAdvert content fault
+    → IfErr q (IsRefusedMessage content waits (advert_message t))
+advert_blamed content waits t fault (Ok x) at is why = tt
+advert_blamed content waits t fault (Err e) at is why = subst (λ (w : AwaitedText). IsRefusedMessage content w (advert_message t) e) (sym at) (fault, is, why)
+
+pub pack_blamed : {T : Type 0} (content : FileMap) (waits : AwaitedText) (wants : List ObjectId) (told : List Told) (t : PackText) (fault : ExchangeFault) (q : Result T CloneFault) → waits ≡ a_pack wants told
+    → IsErrAnd q (λ x. x ≡ of_exchange fault) → ((m : Message) → IsPack m t → BlamesPack content wants m fault) → IfErr q (IsRefusedMessage content waits (pack_message t))
+pack_blamed content waits wants told t fault (Ok x) at is why = tt
+pack_blamed content waits wants told t fault (Err e) at is why = subst (λ (w : AwaitedText). IsRefusedMessage content w (pack_message t) e) (sym at) (fault, is, why)
+
+pub report_blamed : {T : Type 0} (content : FileMap) (waits : AwaitedText) (t : ReportText) (fault : ExchangeFault) (q : Result T CloneFault) → IsErrAnd q (λ x. x ≡ of_exchange fault) → BlamesFiles content fault
+    → IfErr q (IsRefusedMessage content waits (a_report t))
+report_blamed content waits t fault (Ok x) is why = tt
+report_blamed content nothing t fault (Err e) is why = (fault, is, why)
+report_blamed content an_advert t fault (Err e) is why = (fault, is, why)
+report_blamed content (a_pack wants told) t fault (Err e) is why = (fault, is, why)
+
+-- no fault at an advertisement is of the message
+pub advert_no_message : (content : FileMap) (fault : ExchangeFault) → BlamesAdvert content fault → IsOfMessage (of_exchange fault) → ⊥
+advert_no_message content fault why is = let one = incomplete_alone fault is in never one.0 (subst (BlamesAdvert content) one.1 why)
+  where
+    never : (id : ObjectId) → BlamesAdvert content (exchange.Incomplete id) → ⊥
+    never id (inl none) = none
+    never id (inr none) = none
 
 -- a message that is not for a clone
 abbrev pub IsOther : MessageText → Type 0

@@ -18,6 +18,7 @@ use crate::{CloneFault, NodeFault};
 use std::alloc::Global;
 use vc_exchange::{Moves, receive_quarantined};
 use vc_files::{Fault, Files};
+use vc_history::Generations;
 use vc_message::{
     Head, IncomingFault, Source, Taken, next_object, read_head, skip_pack, skip_push,
 };
@@ -74,7 +75,15 @@ fn take_awaited<F: Files, R: Source>(
     ensures failures { TellsFailures R.failed R.can_fail reader.old reader.new (IsErrOf result ReceiveFault.ReadFailed) }
 {
     let arrived = arrive(alloc, files, reader, taken)?;
-    let moves = receive_quarantined(files, alloc, wants, told, arrived.names.as_slice())?;
+    let generations = Generations::new(alloc);
+    let moves = receive_quarantined(
+        files,
+        alloc,
+        wants,
+        told,
+        arrived.names.as_slice(),
+        &generations,
+    )?;
     Ok(moves)
 }
 

@@ -22,6 +22,7 @@ use std::alloc::Global;
 use vc_exchange::{Advertised, receive_advert, receive_pack, receive_report};
 use vc_fetch::{Advert, Pack};
 use vc_files::Files;
+use vc_history::Generations;
 use vc_message::Message;
 use vc_push::Report;
 
@@ -55,7 +56,8 @@ fn take_advert<F: Files>(
     let Awaited::Advert = awaited else {
         return Err(CloneFault::Unexpected);
     };
-    match receive_advert(files, alloc, advert)? {
+    let generations = Generations::new(alloc);
+    match receive_advert(files, alloc, advert, &generations)? {
         Advertised::Wanted(asked) => {
             *awaited = Awaited::Pack(asked.wants, asked.refs);
             Ok(Received::Send(asked.bytes))
@@ -89,7 +91,8 @@ fn take_pack<F: Files>(
     let Awaited::Pack(wants, refs) = awaited else {
         return Err(CloneFault::Unexpected);
     };
-    let moves = receive_pack(files, alloc, wants, refs, pack)?;
+    let generations = Generations::new(alloc);
+    let moves = receive_pack(files, alloc, wants, refs, pack, &generations)?;
     *awaited = Awaited::Nothing;
     Ok(Received::Moved {
         moved: moves.moved,
@@ -113,7 +116,8 @@ pub(crate) fn take_report<F: Files>(
     ensures wear { Writes F.honest F.content F.failed F.can_fail F.left files.old files.new (TellsDevice result) }
     ensures looks { F.honest → MayTake F.content (a_report (report_text report.now)) files.old awaited.old (Wears F.failed F.can_fail F.left files.old files.new (TellsDevice result)) }
 {
-    let told = receive_report(files, alloc, report)?;
+    let generations = Generations::new(alloc);
+    let told = receive_report(files, alloc, report, &generations)?;
     Ok(Received::Reported {
         moved: told.moved,
         refused: told.refused,

@@ -7,6 +7,7 @@ use Rattle.vc_files.specs.FileMap.{FileMap, SameOutside}
 use Rattle.vc_object.specs.declared.id.ObjectId.{ObjectId}
 use Rattle.vc_session.specs.Quarantine.{quarantine_folder}
 use Rattle.vc_node.proofs.ArrivedLemmas.{blames_before, exchange_writes}
+use Rattle.vc_node.proofs.ExchangingLemmas.{none_agree}
 use Rattle.vc_node.proofs.KeepingLemmas.{good_then}
 use Rattle.vc_node.specs.Arriving.{all_of_it, not_all}
 use Rattle.vc_message.proofs.SourceLaws.{ok_is_no_error, tells_error, tells_not, tells_ok}
@@ -38,9 +39,9 @@ returns-in_err-moves-clause-left g c =
     all_of_it c.in_err-moves.field-0.0 refl (record {
       pack = a.pack;
       taken = a.taken;
-      blames = λ honest m is. blames_before old mid (outside honest) (c.in_ok-arrived.ensures.bad honest) c.args.wants.now m _ (c.in_err-moves.ensures.refused honest a.pack (holds honest) m is);
-      same = λ honest id lacks. subst (λ (f : FileMap). SameOutside (quarantine_folder 0) old f) (sym (c.in_err-moves.ensures.unchanged honest id lacks)) (outside honest);
-      cut = λ honest r held m is refs same. c.in_err-moves.ensures.cut honest a.pack (holds honest) r (held_beside old mid (outside honest) r held) m is refs same;
+      blames = λ honest m is. blames_before old mid (outside honest) (c.in_ok-arrived.ensures.bad honest) c.args.wants.now m _ (c.in_err-moves.ensures.refused honest (none_agree _ c.new-generations.result c.new-generations.ensures.none) a.pack (holds honest) m is);
+      same = λ honest id lacks. subst (λ (f : FileMap). SameOutside (quarantine_folder 0) old f) (sym (c.in_err-moves.ensures.unchanged honest (none_agree _ c.new-generations.result c.new-generations.ensures.none) id lacks)) (outside honest);
+      cut = λ honest r held m is refs same. c.in_err-moves.ensures.cut honest (none_agree _ c.new-generations.result c.new-generations.ensures.none) a.pack (holds honest) r (held_beside old mid (outside honest) r held) m is refs same;
     }))
 
 pub returns-in_err-moves-clause-beside : goal.returns-in_err-moves-clause-beside
@@ -64,7 +65,7 @@ returns-clause-taken g c = λ before ack so.
     record {
       pack = a.pack;
       taken = a.taken;
-      received = λ honest r held m is refs same. c.in_ok-moves.ensures.taken honest a.pack (holds honest) r (held_beside old mid (outside honest) r held) m is refs same;
+      received = λ honest r held m is refs same. c.in_ok-moves.ensures.taken honest (none_agree _ c.new-generations.result c.new-generations.ensures.none) a.pack (holds honest) r (held_beside old mid (outside honest) r held) m is refs same;
     }
 
 pub returns-clause-beside : goal.returns-clause-beside

@@ -4,10 +4,11 @@ use Rattle.vc_fetch.specs.PackView.{pack_text}
 use Rattle.vc_files.proofs.WearLemmas.{writes_none}
 use Rattle.vc_files.specs.FileMap.{FileMap}
 use Rattle.vc_model.specs.CloneCall.CloneCall.{Receive}
-use Rattle.vc_node.proofs.ExchangingLemmas.{awaiting, pack_failed, pack_refused, pack_taken, pack_unexpected, same_pack, still_awaiting}
+use Rattle.vc_node.proofs.ExchangingLemmas.{awaiting, none_agree, pack_blamed, pack_failed, pack_refused, pack_taken, pack_unexpected, same_pack, still_awaiting}
 use Rattle.vc_node.proofs.KeepingLemmas.{good_same}
 use Rattle.vc_node.proofs.LookLemmas.{looks_none}
 use Rattle.vc_node.proofs.ReceivingClone.{beside_kept, nothing_beside}
+use Rattle.vc_node.proofs.ReceivingFaults.{incomplete_alone, kept_as}
 use Rattle.vc_node.specs.Awaited.{awaited_text}
 use Rattle.vc_node.specs.Machine.{HoldsNode}
 use Rattle.vc_node.specs.declared.exchanging.Received.TheVariants.{Moved}
@@ -30,11 +31,21 @@ returns-in_err-moves-clause-answers g c = λ honest m is.
     awaiting (Receive m) _ _ _ _ _ (ap awaited_text c.in-Pack.is) _
     (still_awaiting (Receive m) _ _ _ _ _ (same_pack _ _ _ _ (sym c.deref.ensures.value) (sym c.deref-2.ensures.value))
     (pack_failed (g.F.Files.content c.args.files.now) (g.F.Files.content c.receive_pack.new.files) c.deref.result.now (told_in c.deref-2.result.now) m (pack_text c.args.pack.now) is
-    (beside_kept _ _ (c.receive_pack.ensures.beside honest)) (c.receive_pack.ensures.good honest).bad c.in_err-moves.field-0.0 c.from_residual.result c.from_residual.ensures.1 (c.in_err-moves.ensures.refused honest)
-    (λ id lacks awaited n. subst (λ (m : FileMap). HoldsNode m true awaited n) (sym (c.in_err-moves.ensures.unchanged honest id lacks))) (c.in_err-moves.ensures.cut honest)))
+    (beside_kept _ _ (c.receive_pack.ensures.beside honest)) (c.receive_pack.ensures.good honest).bad c.in_err-moves.field-0.0 c.from_residual.result c.from_residual.ensures.1 (c.in_err-moves.ensures.refused honest (none_agree _ c.new-generations.result c.new-generations.ensures.none))
+    (λ id lacks awaited n. subst (λ (m : FileMap). HoldsNode m true awaited n) (sym (c.in_err-moves.ensures.unchanged honest (none_agree _ c.new-generations.result c.new-generations.ensures.none) id lacks))) (c.in_err-moves.ensures.cut honest (none_agree _ c.new-generations.result c.new-generations.ensures.none))))
+
+pub returns-in_err-moves-clause-refused : goal.returns-in_err-moves-clause-refused
+returns-in_err-moves-clause-refused g c = λ honest.
+    pack_blamed (g.F.Files.content c.args.files.now) (awaited_text c.args.awaited.now) c.deref.result.now (told_in c.deref-2.result.now) (pack_text c.args.pack.now) c.in_err-moves.field-0.0 c.from_residual.result
+    (ap awaited_text c.in-Pack.is ∙ same_pack _ _ _ _ (sym c.deref.ensures.value) (sym c.deref-2.ensures.value)) c.from_residual.ensures.1 (c.in_err-moves.ensures.refused honest (none_agree _ c.new-generations.result c.new-generations.ensures.none))
+
+pub returns-in_err-moves-clause-kept : goal.returns-in_err-moves-clause-kept
+returns-in_err-moves-clause-kept g c = λ honest.
+    kept_as c.in_err-moves.field-0.0 c.from_residual.result c.from_residual.ensures.1
+    (λ told. let one = incomplete_alone c.in_err-moves.field-0.0 told in c.in_err-moves.ensures.unchanged honest (none_agree _ c.new-generations.result c.new-generations.ensures.none) one.0 one.1)
 
 pub returns-clause-answers : goal.returns-clause-answers
 returns-clause-answers g c = λ honest m is.
     awaiting (Receive m) (Ok (Moved c.in_ok-moves.moves.moved c.in_ok-moves.moves.left)) _ _ _ _ (ap awaited_text c.in-Pack.is ∙ same_pack _ _ _ _ (sym c.deref.ensures.value) (sym c.deref-2.ensures.value)) _
     (pack_taken (g.F.Files.content c.args.files.now) (g.F.Files.content c.receive_pack.new.files) c.deref.result.now (told_in c.deref-2.result.now) m (pack_text c.args.pack.now) is
-    (beside_kept _ _ (c.receive_pack.ensures.beside honest)) (c.receive_pack.ensures.good honest).bad c.in_ok-moves.moves.moved c.in_ok-moves.moves.left (c.in_ok-moves.ensures.taken honest))
+    (beside_kept _ _ (c.receive_pack.ensures.beside honest)) (c.receive_pack.ensures.good honest).bad c.in_ok-moves.moves.moved c.in_ok-moves.moves.left (c.in_ok-moves.ensures.taken honest (none_agree _ c.new-generations.result c.new-generations.ensures.none)))
