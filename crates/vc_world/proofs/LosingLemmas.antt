@@ -1,13 +1,16 @@
 -- What a clone makes of an answer that is lost on its way, and of one that comes from a reader.
-use Rattle.std.proofs.Common.{◌≡◌, ◌≢◌, inl, ℕ, Bool, true, false, List, Option, Some, None, Result, Ok, Err, subst, sym}
+use Rattle.std.proofs.Common.{◌≡◌, ◌≢◌, inl, inr, ℕ, Bool, true, false, List, Option, Some, None, Result, Ok, Err, subst, sym}
 use Rattle.vc_files.specs.FileMap.{FileMap}
 use Rattle.vc_files.specs.declared.faults.Fault.{Fault as FilesFault}
+use Rattle.vc_message.specs.Coming.{Came, IsCome, a_message, cut_short, lost, no_message, nothing_came}
+use Rattle.vc_message.specs.Incoming.{TakesNothing}
+use Rattle.vc_message.specs.Source.{one_more}
 use Rattle.vc_model.specs.CloneCall.{CloneCall}
 use Rattle.vc_model.specs.CloneCall.CloneCall.{Open, Receive}
 use Rattle.vc_model.specs.Message.{Message}
 use Rattle.vc_node.proofs.CloneCallLemmas.{fault_leads}
 use Rattle.vc_node.proofs.ReceivingClone.{up_answers}
-use Rattle.vc_node.specs.Arriving.{IsKnown, KeepsHeld, ToldAs}
+use Rattle.vc_node.specs.Arriving.{IsKnown, IsTold, KeepsHeld, ReceivesFrom, TellsLoss, ToldAs}
 use Rattle.vc_node.specs.Awaited.{AwaitedText}
 use Rattle.vc_node.specs.CloneCalls.{AnswersClone, ReceivedAs}
 use Rattle.vc_node.specs.CloneFaults.{of_device}
@@ -45,3 +48,26 @@ module _ (honest : Type 0) (was_up is_up : Bool) (m : Message) (rest : List ℕ)
 
   pub some_came : (r : Result (Option Received) ReceiveFault) → r ≡ Ok None → Known r → ⊥
   some_came r is known = subst Known is known
+
+-- ---- a reader that brought none
+-- where nothing came, nothing was taken
+pub nothing_taken : (honest : Type 0) (before rest : Option (List ℕ)) (old new : FileMap) (waits after : AwaitedText) (was_up is_up : Bool) (found : Option Received) → found ≡ None
+    → ReceivesFrom honest before rest old new waits after was_up is_up (Ok found) → TakesNothing before rest
+nothing_taken honest before rest old new waits after was_up is_up found is receives = by was_up receives.came (subst (λ (f : Option Received). IsTold was_up receives.came (Ok f)) is receives.told) receives.is_come
+  where
+    by : (b : Bool) (came : Came) → IsTold b came (Ok None) → IsCome before rest came → TakesNothing before rest
+    by true (a_message text) told come = absurd told
+    by true nothing_came told come = come
+    by true (no_message fault) told come = absurd told
+    by true lost told come = absurd told
+    by true cut_short told come = absurd told
+    by false (a_message text) told come = absurd told
+    by false nothing_came told come = come
+    by false (no_message fault) told come = absurd told
+    by false lost told come = absurd told
+    by false cut_short told come = absurd told
+
+-- a reader that is told as failed has failed
+pub reader_failed : {S : Type 0} {failed : S → ℕ} {can_fail : S → Type 0} {old new : S} {P R : Type 0} → TellsLoss failed can_fail old new P R → P → (failed new ≡ one_more (failed old)) × can_fail old
+reader_failed (inl call) told = (call.once told, call.could told)
+reader_failed (inr (fault, call)) told = (call.once tt, call.could tt)

@@ -1,8 +1,8 @@
 -- What the calls of an exchange do to devices, one after another.
-use Rattle.std.proofs.Common.{◌≡◌, ◌≢◌, ◌⊎◌, inl, inr, true, false, ℕ, Option, Some, None, Result, Ok, Err, refl, subst, sym, true≢false}
+use Rattle.std.proofs.Common.{◌≡◌, ◌≢◌, ◌⊎◌, inl, inr, true, false, ℕ, List, Option, Some, None, Result, Ok, Err, refl, subst, sym, true≢false}
 use Rattle.std.specs.Global.{Global}
 use Rattle.std.specs.Prelude.{IfErr, Vec}
-use Rattle.vc_files.proofs.WearLemmas.{writes_both, writes_from, writes_told}
+use Rattle.vc_files.proofs.WearLemmas.{writes_both, writes_from, writes_none, writes_told}
 use Rattle.vc_files.specs.Failures.{Spends, Wears, Writes, unstopped}
 use Rattle.vc_files.specs.FileMap.{FileMap}
 use Rattle.vc_files.specs.declared.faults.Fault.TheVariants.{Memory as NoMemory}
@@ -14,7 +14,7 @@ use Rattle.vc_node.specs.declared.clone_fault.CloneFault.TheVariants.{Node}
 use Rattle.vc_node.specs.declared.fault.NodeFault.TheVariants.{Down}
 use Rattle.vc_node.specs.declared.exchanging.Received.{Received}
 use Rattle.vc_node.specs.declared.exchanging.Received.TheVariants.{Moved, Reported, Send}
-use Rattle.vc_world.specs.Devices.{IsOfClone, IsOwn, TellsClone, TellsPeer, WritesOrLoses}
+use Rattle.vc_world.specs.Devices.{IsLost, IsOfClone, IsOwn, IsToRead, Lost, TellsClone, TellsPeer, WritesOrLoses}
 use Rattle.vc_world.specs.Fetching.{next_of, settled}
 use Rattle.vc_world.specs.Pushing.{report_in, taken}
 use Rattle.vc_world.specs.declared.ending.ExchangeEnd.{ExchangeEnd}
@@ -22,26 +22,32 @@ use Rattle.vc_world.specs.declared.ending.ExchangeEnd.TheVariants.{Clone, Memory
 use Rattle.vc_world.specs.declared.fetching.Fetched.{Fetched}
 use Rattle.vc_world.specs.declared.fetching.Next.{Next}
 use Rattle.vc_world.specs.declared.fetching.Next.TheVariants.{Ask, End}
+use Rattle.vc_world.specs.declared.peer.Reply.{Reply}
+use Rattle.vc_world.specs.declared.peer.Reply.TheVariants as replies
 
 -- ---- the clone's device
 module _ {D : Type 0} {honest : Type 0} {content : D → FileMap} {failed : D → ℕ} {can_fail : D → Type 0} {left : D → Option ℕ} where
   -- no answer was lost
   pub none_lost : {L P : Type 0} {old new : D} → Writes honest content failed can_fail left old new P → WritesOrLoses L honest content failed can_fail left old new P
-  none_lost w = record { is_lost = false; may_lose = λ never. absurd (true≢false (sym never)); writes = writes_told w (λ told. (refl, told)) (λ told. told.1) }
+  none_lost w = record { is_lost = false; loses = λ never. absurd (true≢false (sym never)); writes = writes_told w (λ told. (refl, told)) (λ told. told.1) }
 
   -- a call that told no fault of the device, and then its answer was lost
   pub lost_then : {L P Q : Type 0} {old mid new : D} → Writes honest content failed can_fail left old mid P → (P → ⊥) → new ≡ mid → L → WritesOrLoses L honest content failed can_fail left old new Q
   lost_then {Q = Q} {old = old} w never same may = record {
     is_lost = true;
-    may_lose = λ lost. may;
+    loses = λ lost. may;
     writes = subst (λ (d : D). Writes honest content failed can_fail left old d ((true ≡ false) × Q)) (sym same) (writes_told w (λ told. absurd (never told)) (λ told. absurd (true≢false told.0)));
   }
+
+  -- nothing was written, and no fault of the device is told
+  pub none_written : {L P : Type 0} {old new : D} → new ≡ old → (P → ⊥) → WritesOrLoses L honest content failed can_fail left old new P
+  none_written {P = P} {old = old} same never = none_lost (subst (λ (d : D). Writes honest content failed can_fail left old d P) (sym same) (writes_none never))
 
   -- the same calls, with their end told in other words
   pub lost_told : {L M P Q : Type 0} {old new : D} → WritesOrLoses L honest content failed can_fail left old new P → (L → M) → (P → Q) → (Q → P) → WritesOrLoses M honest content failed can_fail left old new Q
   lost_told w may to from = record {
     is_lost = w.is_lost;
-    may_lose = λ lost. may (w.may_lose lost);
+    loses = λ lost. may (w.loses lost);
     writes = writes_told w.writes (λ told. (told.0, to told.1)) (λ told. (told.0, from told.1));
   }
 
@@ -51,11 +57,17 @@ module _ {D : Type 0} {honest : Type 0} {content : D → FileMap} {failed : D �
 
   -- such calls, and then some that may lose an answer
   pub then_lost : {L Q : Type 0} {old mid new : D} → Writes honest content failed can_fail left old mid ⊥ → WritesOrLoses L honest content failed can_fail left mid new Q → WritesOrLoses L honest content failed can_fail left old new Q
-  then_lost v w = record { is_lost = w.is_lost; may_lose = w.may_lose; writes = writes_both v (λ never. never) w.writes }
+  then_lost v w = record { is_lost = w.is_lost; loses = w.loses; writes = writes_both v (λ never. never) w.writes }
 
   -- the same calls, from what is the same
   pub lost_from : {L Q : Type 0} {old mid new : D} → mid ≡ old → WritesOrLoses L honest content failed can_fail left mid new Q → WritesOrLoses L honest content failed can_fail left old new Q
-  lost_from same w = record { is_lost = w.is_lost; may_lose = w.may_lose; writes = writes_from same w.writes }
+  lost_from same w = record { is_lost = w.is_lost; loses = w.loses; writes = writes_from same w.writes }
+
+-- only an answer that is still to be read is lost
+pub one_lost : {A loses : Type 0} {remaining : A → Option (List ℕ)} {failed : A → ℕ} {can_fail : A → Type 0} (reply : Reply A) → (IsToRead reply → loses) → IsLost remaining failed can_fail reply → Lost loses remaining failed can_fail
+one_lost (replies.Reader reader) whole lost = record { may = whole tt; reply = replies.Reader reader; is_lost = lost }
+one_lost (replies.Bytes bytes) whole lost = absurd lost
+one_lost (replies.Message message) whole lost = absurd lost
 
 -- ---- the device of a shared node at hand
 

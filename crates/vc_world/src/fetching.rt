@@ -1,5 +1,5 @@
 // A whole fetch.
-ghost use Rattle.std.specs.Prelude.{◌≡◌, ◌≢◌, ◌⊎◌, ⊤, None, false, true};
+ghost use Rattle.std.specs.Prelude.{◌≡◌, ◌≢◌, ◌⊎◌, None, false, true};
 ghost use Rattle.vc_files.specs.Failures.{Wears, unstopped};
 ghost use Rattle.vc_message.specs.Machine.{Reads};
 ghost use Rattle.vc_model.specs.CloneCall.CloneCall.{Receive};
@@ -8,7 +8,7 @@ ghost use Rattle.vc_model.specs.Message.{Message as Sent};
 ghost use Rattle.vc_node.specs.CloneCalls.{ReceivedAs};
 ghost use Rattle.vc_node.specs.CloneFaults.{TellsDevice};
 ghost use Rattle.vc_node.specs.Node.{AnswersCall};
-ghost use Rattle.vc_world.specs.Devices.{IsToRead, TellsClone, TellsPeer, WritesOrLoses};
+ghost use Rattle.vc_world.specs.Devices.{BringsNone, IsLost, Lost, TellsClone, TellsPeer, WritesOrLoses};
 ghost use Rattle.vc_world.specs.Fetching.{next_of, settled};
 ghost use Rattle.vc_world.specs.Exchanging.{Begins, Brings, CatchesUp, HoldsClone, IsFetch, IsRest, IsRound, Leads};
 
@@ -42,7 +42,7 @@ fn receive_from<F: Files, A: Source>(
     reader: &mut A,
 ) -> Result<Received, CloneFault>
     ensures answers { F.honest → (m : Sent) → Begins (A.remaining reader.old) m → AnswersCall F.content (Receive m) (ReceivedAs result) clone.old clone.new }
-    ensures wear { WritesOrLoses ⊤ F.honest F.content F.failed F.can_fail F.left clone.old.files clone.new.files (TellsDevice result) }
+    ensures wear { WritesOrLoses (BringsNone A.remaining A.failed A.can_fail reader.old reader.new) F.honest F.content F.failed F.can_fail F.left clone.old.files clone.new.files (TellsDevice result) }
 {
     if !clone.is_up() {
         return Err(CloneFault::Node(NodeFault::Down));
@@ -61,7 +61,7 @@ fn receive<F: Files, A: Source + Drop>(
     reply: Reply<A>,
 ) -> Result<Received, CloneFault>
     ensures answers { F.honest → (m : Sent) → Brings A.remaining reply m → AnswersCall F.content (Receive m) (ReceivedAs result) clone.old clone.new }
-    ensures wear { WritesOrLoses (IsToRead reply) F.honest F.content F.failed F.can_fail F.left clone.old.files clone.new.files (TellsDevice result) }
+    ensures wear { WritesOrLoses (IsLost A.remaining A.failed A.can_fail reply) F.honest F.content F.failed F.can_fail F.left clone.old.files clone.new.files (TellsDevice result) }
 {
     match reply {
         Reply::Bytes(bytes) => clone.receive(&bytes),
@@ -101,7 +101,7 @@ fn fetch_pack<P: Peer, F: Files>(
     want: &[u8],
 ) -> Result<Fetched, ExchangeEnd<P::Refusal>>
     ensures rest { P.honest → F.honest → (m : Sent) → Reads want.now m → Leads P.holds (HoldsClone F.content) shared.old shared.new clone.old clone.new (IsRest P.told m result) }
-    ensures wear { WritesOrLoses P.loses F.honest F.content F.failed F.can_fail F.left clone.old.files clone.new.files (TellsClone result) }
+    ensures wear { WritesOrLoses (Lost P.loses P.Answer.remaining P.Answer.failed P.Answer.can_fail) F.honest F.content F.failed F.can_fail F.left clone.old.files clone.new.files (TellsClone result) }
     ensures peer_wear { Wears P.failed P.can_fail unstopped shared.old shared.new (TellsPeer P.is_device result) }
 {
     let pack = match shared.ask(want) {
@@ -118,7 +118,7 @@ fn fetch_round<P: Peer, F: Files>(
     clone: &mut CloneNode<F>,
 ) -> Result<Fetched, ExchangeEnd<P::Refusal>>
     ensures round { P.honest → F.honest → Leads P.holds (HoldsClone F.content) shared.old shared.new clone.old clone.new (IsRound P.told result) }
-    ensures wear { WritesOrLoses P.loses F.honest F.content F.failed F.can_fail F.left clone.old.files clone.new.files (TellsClone result) }
+    ensures wear { WritesOrLoses (Lost P.loses P.Answer.remaining P.Answer.failed P.Answer.can_fail) F.honest F.content F.failed F.can_fail F.left clone.old.files clone.new.files (TellsClone result) }
     ensures peer_wear { Wears P.failed P.can_fail unstopped shared.old shared.new (TellsPeer P.is_device result) }
 {
     let list = match clone.start_fetch() {
@@ -154,7 +154,7 @@ pub fn exchange_fetch<P: Peer, F: Files>(
 ) -> Result<Fetched, ExchangeEnd<P::Refusal>>
     ensures fetched { P.honest → F.honest → Leads P.holds (HoldsClone F.content) shared.old shared.new clone.old clone.new (IsFetch P.told None result) }
     ensures caught_up { P.honest → F.honest → Leads P.holds (HoldsClone F.content) shared.old shared.new clone.old clone.new (CatchesUp P.told result) }
-    ensures wear { WritesOrLoses P.loses F.honest F.content F.failed F.can_fail F.left clone.old.files clone.new.files (TellsClone result) }
+    ensures wear { WritesOrLoses (Lost P.loses P.Answer.remaining P.Answer.failed P.Answer.can_fail) F.honest F.content F.failed F.can_fail F.left clone.old.files clone.new.files (TellsClone result) }
     ensures peer_wear { Wears P.failed P.can_fail unstopped shared.old shared.new (TellsPeer P.is_device result) }
 {
     let mut moved = 0_usize;

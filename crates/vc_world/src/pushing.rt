@@ -1,12 +1,12 @@
 // A whole push.
-ghost use Rattle.std.specs.Prelude.{◌≡◌, ◌≢◌, ⊤, [], IfErr, IfOk};
+ghost use Rattle.std.specs.Prelude.{◌≡◌, ◌≢◌, [], IfErr, IfOk};
 ghost use Rattle.vc_files.specs.Failures.{Wears, Writes, unstopped};
 ghost use Rattle.vc_message.specs.AnyView.{message_text};
 ghost use Rattle.vc_message.specs.Machine.{IsReport, Reads, TextOf};
 ghost use Rattle.vc_model.specs.Message.{Message as Sent};
 ghost use Rattle.vc_node.specs.Node.{PushesNoZero};
 ghost use Rattle.vc_push.specs.ReportView.{report_text};
-ghost use Rattle.vc_world.specs.Devices.{IsOwn, IsToRead, TellsClone, TellsPeer, WritesOrLoses};
+ghost use Rattle.vc_world.specs.Devices.{BringsNone, IsLost, IsOwn, Lost, TellsClone, TellsPeer, WritesOrLoses};
 ghost use Rattle.vc_world.specs.Exchanging.{Begins, Brings, HoldsClone, IsNoReport, IsPush, Leads, PushesOne};
 ghost use Rattle.vc_world.specs.Pushing.{IsUnreadReport, TakesAnswer, report_in, taken};
 
@@ -133,18 +133,19 @@ fn take_from<F: Files, A: Source, R: Drop>(
     reader: &mut A,
 ) -> Result<Report, ExchangeEnd<R>>
     ensures takes { F.honest → (m : Sent) → Begins (A.remaining reader.old) m → TakesAnswer F.content m result clone.old clone.new }
-    ensures wear { WritesOrLoses ⊤ F.honest F.content F.failed F.can_fail F.left clone.old.files clone.new.files (TellsClone result) }
+    ensures wear { WritesOrLoses (BringsNone A.remaining A.failed A.can_fail reader.old reader.new) F.honest F.content F.failed F.can_fail F.left clone.old.files clone.new.files (TellsClone result) }
     ensures own { IfErr result IsOwn }
 {
     if !clone.is_up() {
         return Err(ExchangeEnd::Clone(CloneFault::Node(NodeFault::Down)));
     }
-    let fault = match read_message(alloc, reader) {
-        Ok(Some(message)) => return take_message(clone, message),
-        Err(IncomingFault::Memory) => Fault::Memory,
-        _ => Fault::Device,
-    };
-    Err(ExchangeEnd::Clone(lose(clone, fault)))
+    match read_message(alloc, reader) {
+        Ok(Some(message)) => take_message(clone, message),
+        Err(IncomingFault::Unread(fault)) => Err(ExchangeEnd::Clone(CloneFault::Unread(fault))),
+        Err(IncomingFault::Memory) => Err(ExchangeEnd::Clone(lose(clone, Fault::Memory))),
+        Err(IncomingFault::Failed) => Err(ExchangeEnd::Clone(lose(clone, Fault::Device))),
+        Ok(None) => Err(ExchangeEnd::Clone(lose(clone, Fault::Device))),
+    }
 }
 
 // The clone takes what came back to its push, and it is the report that is answered.
@@ -154,7 +155,7 @@ fn take_reply<F: Files, A: Source + Drop, R: Drop>(
     reply: Reply<A>,
 ) -> Result<Report, ExchangeEnd<R>>
     ensures takes { F.honest → (m : Sent) → Brings A.remaining reply m → TakesAnswer F.content m result clone.old clone.new }
-    ensures wear { WritesOrLoses (IsToRead reply) F.honest F.content F.failed F.can_fail F.left clone.old.files clone.new.files (TellsClone result) }
+    ensures wear { WritesOrLoses (IsLost A.remaining A.failed A.can_fail reply) F.honest F.content F.failed F.can_fail F.left clone.old.files clone.new.files (TellsClone result) }
     ensures own { IfErr result IsOwn }
 {
     match reply {
@@ -174,7 +175,7 @@ pub fn exchange_push<P: Peer, F: Files>(
     requires some { items.now ≢ [] }
     ensures pushed { P.honest → F.honest → PushesNoZero items.now → Leads P.holds (HoldsClone F.content) shared.old shared.new clone.old clone.new (IsPush P.told items.now result) }
     ensures done { P.honest → F.honest → PushesNoZero items.now → Leads P.holds (HoldsClone F.content) shared.old shared.new clone.old clone.new (PushesOne P.told items.now result) }
-    ensures wear { WritesOrLoses P.loses F.honest F.content F.failed F.can_fail F.left clone.old.files clone.new.files (TellsClone result) }
+    ensures wear { WritesOrLoses (Lost P.loses P.Answer.remaining P.Answer.failed P.Answer.can_fail) F.honest F.content F.failed F.can_fail F.left clone.old.files clone.new.files (TellsClone result) }
     ensures peer_wear { Wears P.failed P.can_fail unstopped shared.old shared.new (TellsPeer P.is_device result) }
 {
     let push = match clone.start_push(items) {

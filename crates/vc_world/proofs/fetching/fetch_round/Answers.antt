@@ -2,7 +2,7 @@ use Rattle.std.proofs.Common.{sym, ◌∙◌}
 use Rattle.vc_files.proofs.WearLemmas.{writes_from, writes_none}
 use Rattle.vc_node.proofs.LookLemmas.{looks_none, looks_then, looks_told}
 use Rattle.vc_world.proofs.RoundCalls.{ended, unanswered, unstarted, wanted}
-use Rattle.vc_world.proofs.WearLemmas.{asks_on, begins_calm, ends_so, lost_from, lost_told, none_lost, quiet, then_lost}
+use Rattle.vc_world.proofs.WearLemmas.{asks_on, begins_calm, ends_so, lost_from, lost_told, none_lost, one_lost, quiet, then_lost}
 use Rattle.vc_world.proofs.fetching.fetch_round.Goals as goal
 
 pub returns-in-Err : goal.returns-in-Err
@@ -37,6 +37,6 @@ returns g c =
       round = λ p f. ended g.P.Peer.holds g.P.Peer.told g.P.Answer.Source.remaining g.F.Files.content c.in-Ok.list c.in-Ok-ask.advert c.deref.result.now c.receive-received.result c.in-End.end
           c.args.shared.now c.ask.new.self c.args.clone.now c.start_fetch.new.self c.receive-received.new.clone
           (c.in-Ok.ensures.answers f) c.deref.ensures.value (c.in-Ok-ask.ensures.answers p) (c.receive-received.ensures.answers f) (sym c.go_on.ensures ∙ c.in-End.is);
-      wear = lost_from {new = c.receive-received.new.clone.files} c.in-Ok.ensures.same (lost_told {new = c.receive-received.new.clone.files} c.receive-received.ensures.wear c.in-Ok-ask.ensures.whole so.to so.from);
+      wear = lost_from {new = c.receive-received.new.clone.files} c.in-Ok.ensures.same (lost_told {new = c.receive-received.new.clone.files} c.receive-received.ensures.wear (one_lost c.in-Ok-ask.advert c.in-Ok-ask.ensures.whole) so.to so.from);
       peer_wear = looks_told c.in-Ok-ask.ensures.wear so.own;
     }

@@ -1,6 +1,6 @@
 use Rattle.std.proofs.Common.{subst, sym}
 use Rattle.vc_message.specs.Machine.{Reads}
-use Rattle.vc_world.specs.Devices.{IsToRead}
+use Rattle.vc_world.specs.Devices.{IsLost}
 use Rattle.vc_world.specs.Exchanging.{Brings}
 use Rattle.vc_world.specs.declared.peer.Reply.{Reply}
 use Rattle.vc_world.proofs.WearLemmas.{lost_told, none_lost}
@@ -21,5 +21,5 @@ returns-in-Message g c = record {
 pub returns-in-Reader : goal.returns-in-Reader
 returns-in-Reader g c = record {
   answers = λ f m brings. c.receive_from.ensures.answers f m (subst (λ (r : Reply _). Brings g.A.Source.remaining r m) c.in-Reader.is brings);
-  wear = lost_told c.receive_from.ensures.wear (λ u. subst (λ (r : Reply _). IsToRead r) (sym c.in-Reader.is) tt) (λ told. told) (λ told. told);
+  wear = lost_told c.receive_from.ensures.wear (λ lost. subst (λ (r : Reply _). IsLost g.A.Source.remaining g.A.Source.failed g.A.Source.can_fail r) (sym c.in-Reader.is) (c.receive_from.new.reader, lost)) (λ told. told) (λ told. told);
 }

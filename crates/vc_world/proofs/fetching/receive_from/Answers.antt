@@ -1,10 +1,10 @@
-use Rattle.std.proofs.Common.{◌≡◌, rules, true, Ok, Err, refl, ap, subst}
+use Rattle.std.proofs.Common.{◌≡◌, rules, inl, inr, true, Ok, Err, refl, ap, subst}
 use Rattle.vc_files.proofs.WearLemmas.{writes_none}
 use Rattle.vc_files.specs.Failures.{Writes}
 use Rattle.vc_model.specs.CloneCall.CloneCall.{Receive}
 use Rattle.vc_node.proofs.CloneCallLemmas.{down_clone}
 use Rattle.vc_node.specs.ReceiveFault.{IsOfDevice}
-use Rattle.vc_world.proofs.LosingLemmas.{answers_before, refused_answers, some_came, taken_answers}
+use Rattle.vc_world.proofs.LosingLemmas.{answers_before, nothing_taken, reader_failed, refused_answers, some_came, taken_answers}
 use Rattle.vc_world.proofs.WearLemmas.{lost_then, none_lost}
 use Rattle.vc_world.proofs.fetching.receive_from.Goals as goal
 
@@ -37,7 +37,8 @@ returns-in-Ok-None g c = record {
       absurd
       (some_came g.F.Files.honest c.args.clone.now.is_up c.receive_from.new.self.is_up m begins.1 (g.A.Source.remaining c.receive_from.new.reader) (g.F.Files.content c.args.clone.now.files) (g.F.Files.content c.receive_from.new.self.files)
       c.args.clone.now.awaited c.receive_from.new.self.awaited (Ok c.in-Ok-None.field-0) (ap Ok c.in-Ok-None.field-0-is) (c.in-Ok-None.ensures.known m begins.0 begins.1 begins.2 begins.3));
-  wear = lost_then c.in-Ok-None.ensures.wear (λ never. never) c.lose.ensures.same tt;
+  wear = lost_then c.in-Ok-None.ensures.wear (λ never. never) c.lose.ensures.same
+      (inl (nothing_taken g.F.Files.honest (g.A.Source.remaining c.args.reader.now) (g.A.Source.remaining c.receive_from.new.reader) _ _ _ _ _ _ c.in-Ok-None.field-0 c.in-Ok-None.field-0-is c.in-Ok-None.ensures.receives));
 }
 
 pub returns-in-Err-ReadFailed : goal.returns-in-Err-ReadFailed
@@ -48,5 +49,5 @@ returns-in-Err-ReadFailed g c = record {
       answers_before (Receive m) (Err c.lose-in-Err-ReadFailed.result) _ _ _ _ _ _ _ _ _ (c.in-Err-ReadFailed.ensures.lost.kept f c.in-Err-ReadFailed.field-0-is) (c.lose-in-Err-ReadFailed.ensures.answers f still m);
   wear =
       lost_then (subst (λ e. Writes g.F.Files.honest g.F.Files.content g.F.Files.failed g.F.Files.can_fail g.F.Files.left c.args.clone.now.files c.receive_from.new.self.files (IsOfDevice e)) c.in-Err-ReadFailed.field-0-is c.in-Err-ReadFailed.ensures.wear) (λ never. never)
-      c.lose-in-Err-ReadFailed.ensures.same tt;
+      c.lose-in-Err-ReadFailed.ensures.same (inr (reader_failed c.in-Err-ReadFailed.ensures.lost.failures (ap Err c.in-Err-ReadFailed.field-0-is)));
 }

@@ -6,7 +6,7 @@ use Rattle.vc_model.specs.Object.{zero_id}
 use Rattle.vc_node.proofs.LookLemmas.{looks_none, looks_told}
 use Rattle.vc_world.specs.declared.ending.ExchangeEnd.TheVariants.{Clone, Shared}
 use Rattle.vc_world.proofs.PushCalls.{comes, not_answered, not_sent, pushes_one}
-use Rattle.vc_world.proofs.WearLemmas.{lost_told, none_lost, own_peer, then_lost}
+use Rattle.vc_world.proofs.WearLemmas.{lost_told, none_lost, one_lost, own_peer, then_lost}
 use Rattle.vc_world.proofs.pushing.exchange_push.Goals as goal
 
 pub returns-in-Err : goal.returns-in-Err
@@ -38,7 +38,7 @@ pub returns-clause-done : goal.returns-clause-done
 returns-clause-done g c p f z = pushes_one g.P.Peer.holds g.P.Peer.told g.P.Answer.Source.remaining g.F.Files.content c.args.items.now c.take_reply.result c.args.shared.now c.ask.new.self c.args.clone.now c.take_reply.new.clone (returns-clause-pushed g c p f z)
 
 pub returns-clause-wear : goal.returns-clause-wear
-returns-clause-wear g c = then_lost (wears_writes c.in-Ok.ensures.wear (λ h. c.in-Ok.ensures.same)) (lost_told c.take_reply.ensures.wear c.in-Ok-ask.ensures.whole (λ told. told) (λ told. told))
+returns-clause-wear g c = then_lost (wears_writes c.in-Ok.ensures.wear (λ h. c.in-Ok.ensures.same)) (lost_told c.take_reply.ensures.wear (one_lost c.in-Ok-ask.reply c.in-Ok-ask.ensures.whole) (λ told. told) (λ told. told))
 
 pub returns-clause-peer_wear : goal.returns-clause-peer_wear
 returns-clause-peer_wear g c = looks_told c.in-Ok-ask.ensures.wear (own_peer g.P.Peer.is_device c.take_reply.result c.take_reply.ensures.own)

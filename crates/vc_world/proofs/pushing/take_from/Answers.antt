@@ -1,11 +1,12 @@
-use Rattle.std.proofs.Common.{◌≡◌, rules, true, Ok, Err, refl, subst}
+use Rattle.std.proofs.Common.{◌≡◌, rules, inl, inr, true, Ok, Err, refl, ap, subst}
 use Rattle.vc_files.proofs.WearLemmas.{writes_none}
-use Rattle.vc_message.specs.Incoming.{GivesMessage}
+use Rattle.vc_message.specs.Incoming.{GivesMessage, IsLoss}
+use Rattle.vc_message.specs.declared.incoming_fault.IncomingFault.{IncomingFault}
 use Rattle.vc_model.specs.CloneCall.CloneCall.{Receive}
 use Rattle.vc_node.proofs.CloneCallLemmas.{down_clone}
 use Rattle.vc_node.specs.declared.clone_fault.CloneFault.TheVariants.{Node}
 use Rattle.vc_node.specs.declared.fault.NodeFault.TheVariants.{Down}
-use Rattle.vc_world.proofs.WearLemmas.{lost_then, none_lost}
+use Rattle.vc_world.proofs.WearLemmas.{begins_calm, lost_then, none_lost, none_written}
 use Rattle.vc_world.proofs.pushing.take_from.Goals as goal
 
 pub returns-then-not-is_up : goal.returns-then-not-is_up
@@ -28,8 +29,44 @@ returns-in-Ok-Some g c = record {
   own = c.take_message.ensures.own;
 }
 
-pub returns : goal.returns
-returns g c = record {
+pub returns-in-Err-Unread : goal.returns-in-Err-Unread
+returns-in-Err-Unread g c = record {
+  takes = λ f m begins. absurd (subst (λ (e : IncomingFault). IsLoss e) c.in-Err-Unread.field-0-is (c.in-Err-Unread.ensures.known m begins.0 begins.1 begins.2 begins.3));
+  wear = none_lost (writes_none (λ never. never));
+  own = tt;
+}
+
+pub returns-in-Err-Memory : goal.returns-in-Err-Memory
+returns-in-Err-Memory g c = record {
+  takes = λ f m begins.
+      let up : c.args.clone.now.is_up ≡ true = search rules in
+      record {
+        received = Err c.lose-in-Err-Memory.result;
+        receives = c.lose-in-Err-Memory.ensures.answers f up m;
+        tells = λ told a sends shown. shown.answer;
+      };
+  wear = none_written c.lose-in-Err-Memory.ensures.same (begins_calm c.lose-in-Err-Memory.result (inr c.lose-in-Err-Memory.ensures.fault));
+  own = tt;
+}
+
+pub returns-in-Err-Failed : goal.returns-in-Err-Failed
+returns-in-Err-Failed g c = record {
+  takes = λ f m begins.
+      let up : c.args.clone.now.is_up ≡ true = search rules in
+      record {
+        received = Err c.lose-in-Err-Failed.result;
+        receives = c.lose-in-Err-Failed.ensures.answers f up m;
+        tells = λ told a sends shown. shown.answer;
+      };
+  wear =
+      let calls = c.in-Err-Failed.ensures.failures in
+      let told = ap Err c.in-Err-Failed.field-0-is in
+      lost_then (writes_none {P = ⊥} (λ never. never)) (λ never. never) c.lose-in-Err-Failed.ensures.same (inr (calls.once told, calls.could told));
+  own = tt;
+}
+
+pub returns-in-Ok-None : goal.returns-in-Ok-None
+returns-in-Ok-None g c = record {
   takes = λ f m begins.
       let up : c.args.clone.now.is_up ≡ true = search rules in
       record {
@@ -37,6 +74,6 @@ returns g c = record {
         receives = c.lose.ensures.answers f up m;
         tells = λ told a sends shown. shown.answer;
       };
-  wear = lost_then (writes_none {P = ⊥} (λ never. never)) (λ never. never) c.lose.ensures.same tt;
+  wear = lost_then (writes_none {P = ⊥} (λ never. never)) (λ never. never) c.lose.ensures.same (inl (rw c.in-Ok-None.field-0-is at c.in-Ok-None.ensures.end));
   own = tt;
 }
