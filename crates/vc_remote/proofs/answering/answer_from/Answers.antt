@@ -1,8 +1,13 @@
-use Rattle.std.proofs.Common.{inr}
+use Rattle.std.proofs.Common.{inl, inr}
 use Rattle.vc_files.proofs.WearLemmas.{writes_both}
+use Rattle.vc_message.proofs.SourceLaws.{tells_none}
 use Rattle.vc_node.proofs.CleanLemmas.{clean_then}
 use Rattle.vc_remote.proofs.AnsweringLemmas.{came_once, kept_openable, read_once, refused_once}
+use Rattle.vc_shared.proofs.LossLemmas.{node_is_no_loss}
 use Rattle.vc_remote.proofs.answering.answer_from.Goals as goal
+
+pub returns-in-Err-clause-failures : goal.returns-in-Err-clause-failures
+returns-in-Err-clause-failures g c = inl (tells_none node_is_no_loss)
 
 pub returns-clause-answers : goal.returns-clause-answers
 returns-clause-answers g c = λ honest r openable m bytes rest is reads.
@@ -24,3 +29,6 @@ returns-clause-lost g c = λ honest r openable.
 
 pub returns-clause-clean : goal.returns-clause-clean
 returns-clause-clean g c = λ honest. inr (rw c.close.ensures (clean_then _ _ _ (c.in-Ok.ensures.clean honest) (c.answer_from-answered.ensures.clean honest)))
+
+pub returns-clause-failures : goal.returns-clause-failures
+returns-clause-failures g c = c.answer_from-answered.ensures.lost.failures
