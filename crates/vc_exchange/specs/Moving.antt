@@ -78,7 +78,11 @@ IsFreeAmong refs name = (other : List ℕ) → is_some (refs other) ≡ true →
 abbrev pub MayMove : Followed → FileMap → List ℕ → ObjectId → List ℕ → Type 0
 MayMove followed content name id to = MayFollow followed (objects content) (refs content) name id to × IsFreeAmong (refs content) to
 
--- what is known to be whole is so, and the generations that are known agree with what is stored
+-- what is known to be whole is so
+abbrev pub AreWholeIn : FileMap → Known → Type 0
+AreWholeIn content known = AreWhole (objects content) known
+
+-- and the generations that are known agree with what is stored
 pub record IsRight (content : FileMap) (known : Known) (generations : Generations) : Type 0 where
   pub whole : AreWhole (objects content) known
   pub agrees : AgreesIn content generations

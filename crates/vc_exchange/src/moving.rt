@@ -13,7 +13,7 @@ ghost use Rattle.vc_session.specs.Clean.{MakesNoneBad};
 ghost use Rattle.vc_session.specs.Known.{AreWhole};
 ghost use Rattle.vc_store.specs.Store.{objects};
 ghost use Rattle.vc_exchange.specs.Faults.{BlamesFiles, BlamesRefs, Looks};
-ghost use Rattle.vc_exchange.specs.Moving.{DecidesForward, DecidesTake, IsFound, IsFreeAmong, IsMetInEitherWhereRight, IsMetWhereRight, IsMove, IsRight, IsSetWhereFree, MayMoveOne, MayMoveTold, MovesFront, MovesTold, follower, is_new, passed_over, told_in};
+ghost use Rattle.vc_exchange.specs.Moving.{AreWholeIn, DecidesForward, DecidesTake, IsFound, IsFreeAmong, IsMetInEitherWhereRight, IsMetWhereRight, IsMove, IsRight, IsSetWhereFree, MayMoveOne, MayMoveTold, MovesFront, MovesTold, follower, is_new, passed_over, told_in};
 
 use crate::ExchangeFault;
 use indexmap::IndexSet;
@@ -158,7 +158,7 @@ fn find_follower<F: Files>(
     id: &ObjectId,
     generations: &Generations,
 ) -> Result<Option<(RefName, Option<ObjectId>)>, ExchangeFault>
-    ensures found { F.honest → AgreesIn (F.content files.old) generations.now → AreWhole (objects (F.content files.old)) known.old → IfOk result (IsFound followed (F.content files.old) name.now id.now) }
+    ensures found { F.honest → AgreesIn (F.content files.old) generations.now → AreWholeIn (F.content files.old) known.old → IfOk result (IsFound followed (F.content files.old) name.now id.now) }
     ensures known { F.honest → AreWhole (objects (F.content files.old)) known.old → AreWhole (objects (F.content files.old)) known.new }
     ensures value { F.honest → IfOk result (λ found. IfSome found (λ f. refs (F.content files.old) f.0 ≡ f.1)) }
     ensures inside { IfOk result (λ found. IfSome found (λ f. IsInRefs f.0)) }
