@@ -102,8 +102,8 @@ pub first_refused : (index tree : IndexMap) (work : FileMap) (before rest : List
 first_refused index tree work before rest k fault first sorted so refused = (k, refused, holds_before (IsClear index tree work) before rest k first sorted so)
 
 -- ---- results
-pub if_err : {T E : Type 0} (r : Result T E) (e : E) (P : E → Type 0) → r ≡ Err e → P e → IfErr r P
-if_err {T} {E} r e P is p = subst (λ (x : Result T E). IfErr x P) (sym is) p
+pub if_err : {T : Type 0} (r : Result T CheckoutFault) (e : CheckoutFault) (P : CheckoutFault → Type 0) → r ≡ Err e → P e → IfErr r P
+if_err {T} r e P is p = subst (λ (x : Result T CheckoutFault). IfErr x P) (sym is) p
 
 -- ---- why a checkout was refused
 no_fault : (e : CheckoutFault) → IsAgainst e → IsFault e → ⊥
