@@ -1,8 +1,7 @@
 //! Rows about messages that a reader brings to the shared node, or to a clone.
 
-use crate::clones::{push_received, push_sent};
-use crate::recording::Recording;
-use crate::shared::{SharedSite, push_accepted};
+use crate::clones::push_received;
+use crate::shared::push_accepted;
 use crate::words::push_bytes;
 use bstr::ByteVec;
 use std::alloc::{AllocError, Global};
@@ -10,8 +9,8 @@ use std::fmt::Write;
 use std::io::{self, ErrorKind, Read};
 use vc_files::Files;
 use vc_message::{Fallible, Source};
-use vc_node::{CloneFault, CloneNode, ReceiveFault, Received};
-use vc_shared::{AcceptFault, Accepted, Shared, SharedFault};
+use vc_node::CloneNode;
+use vc_shared::Shared;
 
 // A reader that gives one byte at a time, after a read that is interrupted.
 #[derive(Drop)]
@@ -43,14 +42,13 @@ impl Read for Failing {
 
 /// A node to which a reader brings messages.
 pub trait Receiver {
-    /// Takes the next message of the reader, tells what came of it, and keeps what is sent. Whether the reader stands at the end of
-    /// a message then: where it failed, its bytes were no message, or the node failed, it is not said where it stands.
+    /// Takes the next message of the reader, writes what came of it, and keeps what is sent.
     fn take_next<R: Source>(
         &mut self,
         out: &mut String,
         sent: &mut Vec<Vec<u8>>,
         reader: &mut R,
-    ) -> Result<bool, AllocError>;
+    ) -> Result<(), AllocError>;
 }
 
 impl<F: Files> Receiver for Shared<F> {
@@ -59,11 +57,12 @@ impl<F: Files> Receiver for Shared<F> {
         out: &mut String,
         sent: &mut Vec<Vec<u8>>,
         reader: &mut R,
-    ) -> Result<bool, AllocError> {
-        let told = self.accept_from(reader);
-        let is_at_end = is_after_accepted(&told);
-        push_told(out, sent, told)?;
-        Ok(is_at_end)
+    ) -> Result<(), AllocError> {
+        match self.accept_from(reader) {
+            Ok(Some(accepted)) => push_accepted(out, sent, accepted),
+            Ok(None) => out.push_str("none"),
+            Err(fault) => write!(out, "{fault}"),
+        }
     }
 }
 
@@ -73,86 +72,16 @@ impl<F: Files> Receiver for CloneNode<F> {
         out: &mut String,
         sent: &mut Vec<Vec<u8>>,
         reader: &mut R,
-    ) -> Result<bool, AllocError> {
-        let found = self.receive_from(reader);
-        let is_at_end = is_after_received(&found);
-        push_arrived(out, sent, found)?;
-        Ok(is_at_end)
-    }
-}
-
-// Tells what came of a message to the shared node, or that none came, and keeps what is sent.
-fn push_told(
-    out: &mut String,
-    sent: &mut Vec<Vec<u8>>,
-    told: Result<Option<Accepted>, AcceptFault>,
-) -> Result<(), AllocError> {
-    match told {
-        Ok(Some(accepted)) => push_accepted(out, sent, Ok(accepted)),
-        Ok(None) => out.push_str("none"),
-        Err(fault) => write!(out, "{fault}"),
-    }
-}
-
-// The same of a message to a clone.
-fn push_arrived(
-    out: &mut String,
-    sent: &mut Vec<Vec<u8>>,
-    found: Result<Option<Received>, ReceiveFault>,
-) -> Result<(), AllocError> {
-    match found {
-        Ok(Some(received)) => push_received(out, sent, Ok(received)),
-        Ok(None) => out.push_str("none"),
-        Err(fault) => write!(out, "{fault}"),
-    }
-}
-
-// Whether the reader stands at the end of a message that came to the shared node.
-fn is_after_accepted(told: &Result<Option<Accepted>, AcceptFault>) -> bool {
-    match told {
-        Ok(accepted) => accepted.is_some(),
-        Err(AcceptFault::ReadFailed) => false,
-        Err(AcceptFault::Node(SharedFault::Unread(_))) => false,
-        Err(fault) => !fault.is_fault(),
-    }
-}
-
-// The same of a message that came to a clone.
-fn is_after_received(found: &Result<Option<Received>, ReceiveFault>) -> bool {
-    match found {
-        Ok(received) => received.is_some(),
-        Err(ReceiveFault::ReadFailed) => false,
-        Err(ReceiveFault::Node(CloneFault::Unread(_))) => false,
-        Err(fault) => !fault.is_fault(),
-    }
-}
-
-// The messages of the reader, one behind another, and what comes of each.
-fn take_all<N: Receiver, R: Source>(
-    out: &mut String,
-    sent: &mut Vec<Vec<u8>>,
-    node: &mut N,
-    reader: &mut R,
-) -> Result<(), AllocError> {
-    for _ in 0..16 {
-        if !node.take_next(out, sent, reader)? {
-            break;
+    ) -> Result<(), AllocError> {
+        match self.receive_from(reader) {
+            Ok(Some(received)) => push_received(out, sent, received),
+            Ok(None) => out.push_str("none"),
+            Err(fault) => write!(out, "{fault}"),
         }
-        out.push_str("; ")?;
     }
-    Ok(())
 }
 
-// The first of the bytes that are spelled behind a number, which says how many.
-fn front(alloc: Global, text: &str) -> Result<Vec<u8>, AllocError> {
-    let (number, words) = text.split_once(' ').unwrap_or((text, ""));
-    let mut bytes = Vec::unescape_bytes(alloc, words)?;
-    bytes.truncate(number.parse::<usize>().unwrap_or(0));
-    Ok(bytes)
-}
-
-/// The messages of a reader that gives the bytes `whole`, or `drip`s them one by one. With a number before them it gives so many of
-/// them, behind which it `fail`s or is at its `end`.
+/// The first of the bytes that are spelled after a number, which says how many; after them the reader `fail`s or is at its `end`.
 pub fn take_from<N: Receiver>(
     out: &mut String,
     alloc: Global,
@@ -161,33 +90,36 @@ pub fn take_from<N: Receiver>(
     text: &str,
 ) -> Result<(), AllocError> {
     let (way, text) = text.split_once(' ').unwrap_or((text, ""));
+    let (number, words) = text.split_once(' ').unwrap_or((text, ""));
+    let mut bytes = Vec::unescape_bytes(alloc, words)?;
+    bytes.truncate(number.parse::<usize>().unwrap_or(0));
+    let mut front = bytes.as_slice();
     match way {
-        "whole" => {
-            let bytes = Vec::unescape_bytes(alloc, text)?;
-            take_all(out, sent, node, &mut bytes.as_slice())
-        }
-        "drip" => {
-            let bytes = Vec::unescape_bytes(alloc, text)?;
-            let mut reader = Fallible::new(Dripping {
-                rest: &bytes,
-                is_ready: false,
-            });
-            take_all(out, sent, node, &mut reader)
-        }
-        "fail" => {
-            let bytes = front(alloc, text)?;
-            let mut reader = Fallible::new(bytes.as_slice().chain(Failing));
-            take_all(out, sent, node, &mut reader)
-        }
-        "end" => {
-            let bytes = front(alloc, text)?;
-            take_all(out, sent, node, &mut bytes.as_slice())
-        }
-        _ => out.push_str("no such reader"),
+        "fail" => node.take_next(out, sent, &mut Fallible::new(front.chain(Failing))),
+        _ => node.take_next(out, sent, &mut front),
     }
 }
 
-/// One message of a reader that gives the bytes `whole`, or `drip`s them one by one, and what it still holds then.
+// One message of a reader that gives the bytes in this way, and how many it has not given then.
+fn take_one<N: Receiver>(
+    out: &mut String,
+    sent: &mut Vec<Vec<u8>>,
+    node: &mut N,
+    way: &str,
+    bytes: &[u8],
+) -> Result<usize, AllocError> {
+    let mut rest = bytes;
+    if way == "whole" {
+        node.take_next(out, sent, &mut rest)?;
+        return Ok(rest.len());
+    }
+    let is_ready = false;
+    let mut reader = Fallible::new(Dripping { rest, is_ready });
+    node.take_next(out, sent, &mut reader)?;
+    Ok(reader.into_inner().rest.len())
+}
+
+/// One message of a reader that gives the bytes `whole`, or else one by one, and what it still holds then.
 pub fn take_first<N: Receiver>(
     out: &mut String,
     alloc: Global,
@@ -197,73 +129,8 @@ pub fn take_first<N: Receiver>(
 ) -> Result<(), AllocError> {
     let (way, text) = text.split_once(' ').unwrap_or((text, ""));
     let bytes = Vec::unescape_bytes(alloc, text)?;
-    let mut rest = bytes.as_slice();
-    match way {
-        "whole" => {
-            node.take_next(out, sent, &mut rest)?;
-        }
-        "drip" => {
-            let is_ready = false;
-            let mut reader = Fallible::new(Dripping { rest, is_ready });
-            node.take_next(out, sent, &mut reader)?;
-            rest = reader.into_inner().rest;
-        }
-        _ => return out.push_str("no such reader"),
-    };
+    let left = take_one(out, sent, node, way, &bytes)?;
     out.push_str(" | ")?;
+    let (_, rest) = bytes.split_at(bytes.len().saturating_sub(left));
     push_bytes(out, rest)
-}
-
-/// The messages that a reader brings to the shared node.
-pub fn from(
-    out: &mut String,
-    alloc: Global,
-    site: &mut SharedSite,
-    sent: &mut Vec<Vec<u8>>,
-    text: &str,
-) -> Result<(), AllocError> {
-    match &mut site.node {
-        Some(node) => take_from(out, alloc, sent, node, text),
-        None => out.push_str("closed"),
-    }
-}
-
-/// The first of these messages.
-pub fn next(
-    out: &mut String,
-    alloc: Global,
-    site: &mut SharedSite,
-    sent: &mut Vec<Vec<u8>>,
-    text: &str,
-) -> Result<(), AllocError> {
-    match &mut site.node {
-        Some(node) => take_first(out, alloc, sent, node, text),
-        None => out.push_str("closed"),
-    }
-}
-
-/// All of them at a shared node of its own, and which of its files were written since there were none, in order.
-pub fn recorded(out: &mut String, alloc: Global, text: &str) -> Result<(), AllocError> {
-    let mut sent = Vec::new(alloc);
-    match Shared::open(alloc, Recording::new(alloc)) {
-        Ok(mut node) => {
-            take_from(out, alloc, &mut sent, &mut node, text)?;
-            out.push_str(node.close().into_calls().as_str())
-        }
-        Err((_, fault)) => write!(out, "{fault}"),
-    }
-}
-
-/// The same at a clone of its own, which has begun a fetch.
-pub fn recorded_fetch(out: &mut String, alloc: Global, text: &str) -> Result<(), AllocError> {
-    let mut sent = Vec::new(alloc);
-    match CloneNode::open(alloc, Recording::new(alloc)) {
-        Ok(mut node) => {
-            push_sent(out, &mut sent, node.start_fetch())?;
-            out.push_str("; ")?;
-            take_from(out, alloc, &mut sent, &mut node, text)?;
-            out.push_str(node.close().into_calls().as_str())
-        }
-        Err((_, fault)) => write!(out, "{fault}"),
-    }
 }

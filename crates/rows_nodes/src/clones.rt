@@ -4,13 +4,13 @@ ghost use Rattle.std.specs.Prelude.{◌≡◌, ◌≢◌, [], IfOk, IfSome, true
 
 use crate::arriving;
 use crate::site::{Device, Site};
-use crate::words::{push_bytes, push_done, push_found, push_restarted, taken};
+use crate::words::{push_done, push_found, push_sent, taken};
 use bstr::ByteVec;
 use std::alloc::{AllocError, Global};
 use std::fmt::Write;
 use vc_exchange::PushItem;
 use vc_node::{CloneFault, CloneNode, Received};
-use vc_object::{Kind, Mode, ObjectId};
+use vc_object::{Mode, ObjectId};
 use vc_refname::RefName;
 use vc_rev::parse;
 
@@ -20,40 +20,36 @@ pub type CloneSite = Site<CloneNode<Device>>;
 // The author and the committer of each commit.
 const SIGNATURE: &[u8] = b"a <a> 0 +0000";
 
-/// Tells the bytes that are to be sent, and keeps them.
-pub fn push_sent(
+// Writes the bytes that are to be sent, and keeps them.
+fn push_started(
     out: &mut String,
     sent: &mut Vec<Vec<u8>>,
     started: Result<Vec<u8>, CloneFault>,
 ) -> Result<(), AllocError> {
     match started {
-        Ok(bytes) => {
-            out.push_str("send ")?;
-            push_bytes(out, &bytes)?;
-            sent.push(bytes)?;
-            Ok(())
-        }
+        Ok(bytes) => push_sent(out, sent, "send ", bytes),
         Err(fault) => write!(out, "{fault}"),
     }
 }
 
-/// Tells what came of a message, and keeps what is to be sent.
+fn push_reported(out: &mut String, moved: usize, refused: &[u16]) -> Result<(), AllocError> {
+    write!(out, "moved {moved}")?;
+    for number in refused {
+        write!(out, " refused {number}")?;
+    }
+    Ok(())
+}
+
+/// Writes what came of a message, and keeps what is to be sent.
 pub fn push_received(
     out: &mut String,
     sent: &mut Vec<Vec<u8>>,
-    received: Result<Received, CloneFault>,
+    received: Received,
 ) -> Result<(), AllocError> {
     match received {
-        Ok(Received::Send(bytes)) => push_sent(out, sent, Ok(bytes)),
-        Ok(Received::Moved { moved, left }) => write!(out, "moved {moved} left {left}"),
-        Ok(Received::Reported { moved, refused }) => {
-            write!(out, "moved {moved}")?;
-            for number in &refused {
-                write!(out, " refused {number}")?;
-            }
-            Ok(())
-        }
-        Err(fault) => write!(out, "{fault}"),
+        Received::Send(bytes) => push_sent(out, sent, "send ", bytes),
+        Received::Moved { moved, left } => write!(out, "moved {moved} left {left}"),
+        Received::Reported { moved, refused } => push_reported(out, moved, &refused),
     }
 }
 
@@ -129,10 +125,25 @@ fn push(
     if items.is_empty() {
         return out.push_str("no items");
     }
-    push_sent(out, sent, node.start_push(&items))
+    push_started(out, sent, node.start_push(&items))
 }
 
-// What an expression names at the node.
+// A message that was sent comes to the clone.
+fn take(
+    out: &mut String,
+    alloc: Global,
+    node: &mut CloneNode<Device>,
+    sent: &mut Vec<Vec<u8>>,
+    text: &str,
+) -> Result<(), AllocError> {
+    let bytes = taken(alloc, sent, text)?;
+    match node.receive(&bytes) {
+        Ok(received) => push_received(out, sent, received),
+        Err(fault) => write!(out, "{fault}"),
+    }
+}
+
+// What an expression names at the clone.
 fn resolve(
     out: &mut String,
     alloc: Global,
@@ -145,6 +156,14 @@ fn resolve(
     }
 }
 
+// A commit with a message.
+fn commit(out: &mut String, node: &mut CloneNode<Device>, text: &str) -> Result<(), AllocError> {
+    push_found(
+        out,
+        &node.commit(&[], SIGNATURE, SIGNATURE, text.as_bytes()),
+    )
+}
+
 // A call of an open clone.
 fn call(
     out: &mut String,
@@ -155,33 +174,20 @@ fn call(
     text: &str,
 ) -> Result<(), AllocError> {
     match verb {
-        "blob" => push_found(out, &node.write(Kind::Blob, text.as_bytes())),
         "add" => add(out, alloc, node, text),
-        "commit" => {
-            let made = node.commit(&[], SIGNATURE, SIGNATURE, text.as_bytes());
-            push_found(out, &made)
-        }
+        "commit" => commit(out, node, text),
         "branch" => branch(out, alloc, node, text),
-        "fetch" => push_sent(out, sent, node.start_fetch()),
+        "fetch" => push_started(out, sent, node.start_fetch()),
         "push" => push(out, alloc, node, sent, text),
-        "receive" => {
-            let bytes = Vec::unescape_bytes(alloc, text)?;
-            push_received(out, sent, node.receive(&bytes))
-        }
-        "take" => {
-            let bytes = taken(alloc, sent, text)?;
-            push_received(out, sent, node.receive(&bytes))
-        }
+        "take" => take(out, alloc, node, sent, text),
         "from" => arriving::take_from(out, alloc, sent, node, text),
         "next" => arriving::take_first(out, alloc, sent, node, text),
         "resolve" => resolve(out, alloc, node, text),
-        "restart" => push_restarted(out, &node.restart(), node.is_up()),
-        "pack" => push_done(out, &node.pack_refs()),
         _ => out.push_str("no such verb"),
     }
 }
 
-/// A row about a clone: a verb, and what stands behind it.
+/// A row about a clone: a verb, and what stands after it.
 pub fn row(
     out: &mut String,
     alloc: Global,
@@ -191,15 +197,11 @@ pub fn row(
 ) -> Result<(), AllocError> {
     let (verb, rest) = text.split_once(' ').unwrap_or((text, ""));
     match verb {
-        "new" => {
-            *site = Site::empty(alloc);
+        "open" => site.open(out, rest),
+        "close" => {
+            site.close();
             out.push_str("ok")
         }
-        "open" => site.open(out, rest),
-        "file" => site.file(out, rest),
-        "text" => site.text(out, rest),
-        "count" => site.count(out, rest),
-        "recorded" => arriving::recorded_fetch(out, alloc, rest),
         _ => match &mut site.node {
             Some(node) => call(out, alloc, node, sent, verb, rest),
             None => out.push_str("closed"),

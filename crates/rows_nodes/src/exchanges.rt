@@ -3,14 +3,17 @@
 use crate::clones::{CloneSite, items_of};
 use crate::reading::{Coming, Reading};
 use crate::shared::SharedSite;
+use crate::site::Device;
 use crate::words::push_bytes;
 use std::alloc::{AllocError, Global};
 use std::fmt::Write;
+use vc_exchange::PushItem;
+use vc_node::CloneNode;
 use vc_push::{Report, Told};
-use vc_shared::SharedFault;
+use vc_shared::{Shared, SharedFault};
 use vc_world::{ExchangeEnd, Fetched, exchange_fetch, exchange_push};
 
-// Tells why an exchange came to no end of its own.
+// Writes why an exchange came to no end of its own.
 fn push_end(out: &mut String, end: &ExchangeEnd<SharedFault>) -> Result<(), AllocError> {
     match end {
         ExchangeEnd::Clone(fault) => write!(out, "clone {fault}"),
@@ -20,25 +23,23 @@ fn push_end(out: &mut String, end: &ExchangeEnd<SharedFault>) -> Result<(), Allo
     }
 }
 
-// Tells what became of a command.
+// Writes how a command ended, by a word, its name and what comes after it.
+fn push_ended(out: &mut String, word: &str, name: &[u8], behind: &[u8]) -> Result<(), AllocError> {
+    out.push_str(word)?;
+    push_bytes(out, name)?;
+    out.push(' ')?;
+    push_bytes(out, behind)
+}
+
+// Writes what became of a command.
 fn push_told(out: &mut String, told: &Told) -> Result<(), AllocError> {
     match &told.outcome {
-        Ok(id) => {
-            out.push_str(" ok ")?;
-            push_bytes(out, &told.name)?;
-            out.push(' ')?;
-            push_bytes(out, &id.to_hex())
-        }
-        Err(reason) => {
-            out.push_str(" ng ")?;
-            push_bytes(out, &told.name)?;
-            out.push(' ')?;
-            push_bytes(out, reason)
-        }
+        Ok(id) => push_ended(out, " ok ", &told.name, &id.to_hex()),
+        Err(reason) => push_ended(out, " ng ", &told.name, reason),
     }
 }
 
-// Tells a report.
+// Writes a report.
 fn push_report(out: &mut String, report: &Report) -> Result<(), AllocError> {
     out.push_str("unpack ")?;
     match &report.unpack {
@@ -51,123 +52,95 @@ fn push_report(out: &mut String, report: &Report) -> Result<(), AllocError> {
     Ok(())
 }
 
-// Tells what came of a fetch.
+// Writes what came of a fetch.
 fn push_fetched(
     out: &mut String,
-    fetched: Result<Fetched, ExchangeEnd<SharedFault>>,
+    fetched: &Result<Fetched, ExchangeEnd<SharedFault>>,
 ) -> Result<(), AllocError> {
     match fetched {
         Ok(fetched) => write!(out, "moved {} left {}", fetched.moved, fetched.left),
-        Err(end) => push_end(out, &end),
+        Err(end) => push_end(out, end),
     }
 }
 
-/// A whole fetch.
-pub fn fetch(
-    out: &mut String,
-    shared: &mut SharedSite,
-    clone: &mut CloneSite,
-) -> Result<(), AllocError> {
-    let Some(shared) = &mut shared.node else {
-        return out.push_str("closed");
-    };
-    let Some(clone) = &mut clone.node else {
-        return out.push_str("closed");
-    };
-    push_fetched(out, exchange_fetch(shared, clone))
-}
-
-/// A whole fetch, of which the clone gets no answer as bytes.
-pub fn fetch_coming(
+// A whole fetch, of which the answers come in this way.
+fn fetch(
     out: &mut String,
     alloc: Global,
     coming: Coming,
-    shared: &mut SharedSite,
-    clone: &mut CloneSite,
+    shared: &mut Shared<Device>,
+    clone: &mut CloneNode<Device>,
 ) -> Result<(), AllocError> {
-    let Some(clone) = &mut clone.node else {
-        return out.push_str("closed");
-    };
-    let Some(node) = shared.node.take() else {
-        return out.push_str("closed");
-    };
-    let mut reading = Reading {
+    let mut peer = Reading {
         alloc,
         coming,
-        shared: node,
+        shared,
     };
-    let fetched = exchange_fetch(&mut reading, clone);
-    let Reading {
-        alloc: _,
-        coming: _,
-        shared: node,
-    } = reading;
-    shared.node = Some(node);
-    push_fetched(out, fetched)
+    push_fetched(out, &exchange_fetch(&mut peer, clone))
 }
 
-// Tells what came of a push.
+// Writes what came of a push.
 fn push_pushed(
     out: &mut String,
-    pushed: Result<Report, ExchangeEnd<SharedFault>>,
+    pushed: &Result<Report, ExchangeEnd<SharedFault>>,
 ) -> Result<(), AllocError> {
     match pushed {
-        Ok(report) => push_report(out, &report),
-        Err(end) => push_end(out, &end),
+        Ok(report) => push_report(out, report),
+        Err(end) => push_end(out, end),
     }
 }
 
-/// A whole push of the items.
-pub fn push(
+// A whole push of the items, of which the answer comes in this way.
+fn push(
+    out: &mut String,
+    alloc: Global,
+    coming: Coming,
+    shared: &mut Shared<Device>,
+    clone: &mut CloneNode<Device>,
+    items: &[PushItem],
+) -> Result<(), AllocError> {
+    let mut peer = Reading {
+        alloc,
+        coming,
+        shared,
+    };
+    push_pushed(out, &exchange_push(alloc, &mut peer, clone, items))
+}
+
+// An exchange between open nodes.
+fn exchange(
+    out: &mut String,
+    alloc: Global,
+    shared: &mut Shared<Device>,
+    clone: &mut CloneNode<Device>,
+    verb: &str,
+    items: &[PushItem],
+) -> Result<(), AllocError> {
+    match verb {
+        "fetch" => push_fetched(out, &exchange_fetch(shared, clone)),
+        "fetch-read" => fetch(out, alloc, Coming::Read, shared, clone),
+        "fetch-from" => fetch(out, alloc, Coming::Unread, shared, clone),
+        "push" => push_pushed(out, &exchange_push(alloc, shared, clone, items)),
+        "push-read" => push(out, alloc, Coming::Read, shared, clone, items),
+        _ => push(out, alloc, Coming::Unread, shared, clone, items),
+    }
+}
+
+/// A whole exchange: a fetch, or a push of the items that the text names.
+pub fn row(
     out: &mut String,
     alloc: Global,
     shared: &mut SharedSite,
     clone: &mut CloneSite,
+    verb: &str,
     text: &str,
 ) -> Result<(), AllocError> {
-    let items = items_of(alloc, text)?;
-    if items.is_empty() {
-        return out.push_str("no items");
-    }
     let Some(shared) = &mut shared.node else {
         return out.push_str("closed");
     };
     let Some(clone) = &mut clone.node else {
         return out.push_str("closed");
     };
-    push_pushed(out, exchange_push(alloc, shared, clone, &items))
-}
-
-/// A whole push of the items, of which the clone doesn't get the answer as bytes.
-pub fn push_coming(
-    out: &mut String,
-    alloc: Global,
-    coming: Coming,
-    shared: &mut SharedSite,
-    clone: &mut CloneSite,
-    text: &str,
-) -> Result<(), AllocError> {
     let items = items_of(alloc, text)?;
-    if items.is_empty() {
-        return out.push_str("no items");
-    }
-    let Some(clone) = &mut clone.node else {
-        return out.push_str("closed");
-    };
-    let Some(node) = shared.node.take() else {
-        return out.push_str("closed");
-    };
-    let mut reading = Reading {
-        alloc,
-        coming,
-        shared: node,
-    };
-    let pushed = exchange_push(alloc, &mut reading, clone, &items);
-    let Reading {
-        alloc: _,
-        coming: _,
-        shared: node,
-    } = reading;
-    shared.node = Some(node);
-    push_pushed(out, pushed)
+    exchange(out, alloc, shared, clone, verb, &items)
 }

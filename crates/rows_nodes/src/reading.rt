@@ -25,13 +25,13 @@ pub enum Coming {
 
 /// The shared node of the rows, whose answers don't come as bytes.
 #[derive(Drop)]
-pub struct Reading {
+pub struct Reading<'a> {
     pub alloc: Global,
     pub coming: Coming,
-    pub shared: Shared<Device>,
+    pub shared: &'a mut Shared<Device>,
 }
 
-impl Peer for Reading {
+impl<'a> Peer for Reading<'a> {
     type Refusal = SharedFault;
 
     type Answer = Fallible<Cursor<Vec<u8>>>;
@@ -52,7 +52,7 @@ impl Peer for Reading {
     ghost loses = { ⊤ };
 
     fn ask(&mut self, bytes: &[u8]) -> Result<Reply<Fallible<Cursor<Vec<u8>>>>, SharedFault> {
-        let answered = answer(&mut self.shared, bytes)?;
+        let answered = answer(self.shared, bytes)?;
         if let Coming::Unread = self.coming {
             return Ok(Reply::Reader(Fallible::new(Cursor::new(answered))));
         }

@@ -1,7 +1,6 @@
 //! A node of the rows, or its files while it is closed.
 
 use crate::words::push_bytes;
-use bstr::ByteVec;
 use std::alloc::{AllocError, Global};
 use std::fmt::Write;
 use std::mem;
@@ -36,8 +35,8 @@ fn device_of(files: MemoryFiles, words: &str) -> Device {
     device
 }
 
-/// No files at all.
-pub fn no_files(alloc: Global) -> Device {
+// No files at all.
+fn no_files(alloc: Global) -> Device {
     sound_device(MemoryFiles::new(alloc))
 }
 
@@ -95,6 +94,12 @@ impl<N: Opened> Site<N> {
         }
     }
 
+    /// Lets go the node, and all files.
+    pub fn renew(&mut self) {
+        self.node = None;
+        self.files = no_files(self.alloc);
+    }
+
     // The files alone.
     fn take_files(&mut self) -> MemoryFiles {
         let files = mem::replace(&mut self.files, no_files(self.alloc));
@@ -138,27 +143,6 @@ impl<N: Opened> Site<N> {
         matches!(first_incomplete(self.alloc, &mut store, &ids), Ok(None))
     }
 
-    /// Puts a file below the node, which is closed for it: its path, and its bytes by escapes.
-    pub fn file(&mut self, out: &mut String, text: &str) -> Result<(), AllocError> {
-        self.close();
-        let (path, words) = text.split_once(' ').unwrap_or((text, ""));
-        let bytes = Vec::unescape_bytes(self.alloc, words)?;
-        match self.files.put(self.alloc, path, &bytes) {
-            Ok(()) => out.push_str("ok"),
-            Err(fault) => write!(out, "{fault}"),
-        }
-    }
-
-    /// What the file below the node holds, by escapes; the node is closed for it.
-    pub fn text(&mut self, out: &mut String, path: &str) -> Result<(), AllocError> {
-        self.close();
-        match self.files.get(self.alloc, path) {
-            Ok(Some(bytes)) => push_bytes(out, &bytes),
-            Ok(None) => out.push_str("no file"),
-            Err(fault) => write!(out, "{fault}"),
-        }
-    }
-
     // All files below the node, which is closed for it, on a line each: the path, and the bytes by escapes.
     fn spelled(&mut self) -> Result<String, Fault> {
         self.close();
@@ -182,15 +166,6 @@ impl<N: Opened> Site<N> {
         match other.spelled() {
             Ok(others) => files.as_str() == others.as_str(),
             Err(_) => false,
-        }
-    }
-
-    /// How many files stand below a path of the node, which is closed for it.
-    pub fn count(&mut self, out: &mut String, text: &str) -> Result<(), AllocError> {
-        self.close();
-        match self.files.list(self.alloc, text) {
-            Ok(paths) => write!(out, "{}", paths.len()),
-            Err(fault) => write!(out, "{fault}"),
         }
     }
 }

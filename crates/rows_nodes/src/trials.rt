@@ -86,13 +86,12 @@ enum Failed {
 const OPENED: [&str; 3] = ["open", "c0 open", "c1 open"];
 
 // The exchange, after a row that opens a node over a device that fails.
-fn with_failure(alloc: Global, opening: &str) -> Result<Failed, AllocError> {
-    let mut scene = Scene::empty(alloc);
-    let at_opening = run(alloc, &mut scene, &["world", opening])?;
-    if !run(alloc, &mut scene, &EXCHANGE)? && !at_opening {
+fn with_failure(alloc: Global, scene: &mut Scene, opening: &str) -> Result<Failed, AllocError> {
+    let at_opening = run(alloc, scene, &["world", opening])?;
+    if !run(alloc, scene, &EXCHANGE)? && !at_opening {
         return Ok(Failed::Never);
     }
-    if is_whole_again(alloc, &mut scene)? {
+    if is_whole_again(alloc, scene)? {
         Ok(Failed::Whole)
     } else {
         Ok(Failed::Broken)
@@ -112,11 +111,15 @@ fn is_whole_again(alloc: Global, scene: &mut Scene) -> Result<bool, AllocError> 
 
 // Tries the exchange with a failure after 0, 1, 2 .. writes or calls at a node, which the words name that open it, until it comes
 // no more: after how many that is, or else after how many the nodes were not whole.
-fn failures(alloc: Global, words: &str) -> Result<Result<usize, usize>, AllocError> {
+fn failures(
+    alloc: Global,
+    scene: &mut Scene,
+    words: &str,
+) -> Result<Result<usize, usize>, AllocError> {
     for number in 0..1000 {
         let mut opening = String::from_str(alloc, words)?;
         write!(opening, " {number}")?;
-        match with_failure(alloc, opening.as_str())? {
+        match with_failure(alloc, scene, opening.as_str())? {
             Failed::Never => return Ok(Ok(number)),
             Failed::Whole => {}
             Failed::Broken => return Ok(Err(number)),
@@ -126,28 +129,31 @@ fn failures(alloc: Global, words: &str) -> Result<Result<usize, usize>, AllocErr
 }
 
 // How many stops there are in the exchange at a node: one after each number of writes.
-fn stops(out: &mut String, alloc: Global, node: &str) -> Result<(), AllocError> {
-    match failures(alloc, node)? {
+fn stops(out: &mut String, alloc: Global, scene: &mut Scene, node: &str) -> Result<(), AllocError> {
+    match failures(alloc, scene, node)? {
         Ok(writes) => write!(out, "{writes} stops, all whole"),
         Err(writes) => write!(out, "not whole after {writes} writes"),
     }
 }
 
 // Whether all is whole after each call of a node's device failed alone.
-fn faults(out: &mut String, alloc: Global, node: &str) -> Result<(), AllocError> {
+fn faults(
+    out: &mut String,
+    alloc: Global,
+    scene: &mut Scene,
+    node: &str,
+) -> Result<(), AllocError> {
     let mut words = String::from_str(alloc, node)?;
     words.push_str(" once")?;
-    match failures(alloc, words.as_str())? {
+    match failures(alloc, scene, words.as_str())? {
         Ok(_) => out.push_str("all whole"),
         Err(calls) => write!(out, "not whole after {calls} calls"),
     }
 }
 
-// The message of a number of the exchange, as it comes to a node, with all that went before.
+// A message of the exchange, and what begins a row about the node that it comes to.
 #[derive(Drop)]
-struct Coming {
-    scene: Scene,
-    // What begins a row about the node.
+struct Message {
     node: &'static str,
     bytes: Vec<u8>,
 }
@@ -161,65 +167,77 @@ enum Answered {
 
 // What begins a row about the node that this row is about.
 fn node_of(row: &str) -> &'static str {
-    if row.starts_with("c0 ") {
-        return "c0 ";
+    match row.split_once(' ') {
+        Some(("c0", _)) => "c0 ",
+        Some(("c1", _)) => "c1 ",
+        _ => "",
     }
-    if row.starts_with("c1 ") {
-        return "c1 ";
-    }
-    ""
 }
 
-// Runs the exchange up to the row that brings the message of this number: what begins a row about the node that it comes to, and
-// the message.
-fn run_up_to(
+// The message of this number of those that were sent, as it comes to a node.
+fn message_of(
     alloc: Global,
-    scene: &mut Scene,
+    scene: &Scene,
     number: usize,
-) -> Result<Option<(&'static str, Vec<u8>)>, AllocError> {
+    node: &'static str,
+) -> Result<Option<Message>, AllocError> {
+    let Some(bytes) = scene.sent.get(number) else {
+        return Ok(None);
+    };
+    let bytes = bytes.to_vec(alloc)?;
+    Ok(Some(Message { node, bytes }))
+}
+
+// Runs the exchange in a new world up to the row that brings the message of this number, and returns the message.
+fn up_to(alloc: Global, scene: &mut Scene, number: usize) -> Result<Option<Message>, AllocError> {
     let mut taking = String::new(alloc);
     write!(taking, "take {number}")?;
     run(alloc, scene, &["world"])?;
     for row in &EXCHANGE {
         if row.ends_with(taking.as_str()) {
-            return match scene.sent.get(number) {
-                Some(bytes) => Ok(Some((node_of(row), bytes.to_vec(alloc)?))),
-                None => Ok(None),
-            };
+            return message_of(alloc, scene, number, node_of(row));
         }
         run(alloc, scene, &[*row])?;
     }
     Ok(None)
 }
 
-// The exchange up to the row that brings the message of this number.
-fn up_to(alloc: Global, number: usize) -> Result<Option<Coming>, AllocError> {
-    let mut scene = Scene::empty(alloc);
-    match run_up_to(alloc, &mut scene, number)? {
-        Some((node, bytes)) => Ok(Some(Coming { scene, node, bytes })),
-        None => Ok(None),
-    }
-}
-
-// What the node answers to a verb, and to what stands behind it.
-fn asked(alloc: Global, coming: &mut Coming, text: &str) -> Result<String, AllocError> {
-    let mut row = String::from_str(alloc, coming.node)?;
+// What a node answers to a verb, and to what stands after it.
+fn asked(
+    alloc: Global,
+    scene: &mut Scene,
+    node: &'static str,
+    text: &str,
+) -> Result<String, AllocError> {
+    let mut row = String::from_str(alloc, node)?;
     row.push_str(text)?;
     let mut answer = String::new(alloc);
-    coming.scene.row(&mut answer, row.as_str())?;
+    scene.row(&mut answer, row.as_str())?;
     Ok(answer)
 }
 
-// What the node answers to these bytes.
-fn brought(alloc: Global, coming: &mut Coming, bytes: Vec<u8>) -> Result<String, AllocError> {
-    coming.scene.sent.push(bytes)?;
-    asked(alloc, coming, "take")
+// What a node answers to these bytes.
+fn brought(
+    alloc: Global,
+    scene: &mut Scene,
+    node: &'static str,
+    bytes: &[u8],
+) -> Result<String, AllocError> {
+    scene.sent.push(bytes.to_vec(alloc)?)?;
+    asked(alloc, scene, node, "take")
 }
 
-// What the node answers to the message itself.
-fn answer_to_whole(alloc: Global, coming: &mut Coming) -> Result<String, AllocError> {
-    let bytes = coming.bytes.to_vec(alloc)?;
-    brought(alloc, coming, bytes)
+// What a node answers to these bytes from a reader, as the words say.
+fn read_from(
+    alloc: Global,
+    scene: &mut Scene,
+    node: &'static str,
+    words: &str,
+    bytes: &[u8],
+) -> Result<String, AllocError> {
+    let mut text = String::from_str(alloc, words)?;
+    push_bytes(&mut text, bytes)?;
+    asked(alloc, scene, node, text.as_str())
 }
 
 // The message with another byte at a place.
@@ -231,23 +249,42 @@ fn changed(alloc: Global, bytes: &[u8], place: usize) -> Result<Vec<u8>, AllocEr
     Ok(bytes)
 }
 
-// Whether the message is answered as it is where nothing came before it.
-fn is_as_before(alloc: Global, at: &mut Coming, number: usize) -> Result<bool, AllocError> {
-    let Some(mut whole) = up_to(alloc, number)? else {
-        return Ok(false);
-    };
-    let expected = answer_to_whole(alloc, &mut whole)?;
-    let answer = answer_to_whole(alloc, at)?;
-    Ok(answer.as_str() == expected.as_str())
+// What the message of this number is answered if nothing came before it.
+fn answer_to_whole(
+    alloc: Global,
+    beside: &mut Scene,
+    number: usize,
+) -> Result<Option<String>, AllocError> {
+    match up_to(alloc, beside, number)? {
+        Some(message) => Ok(Some(brought(alloc, beside, message.node, &message.bytes)?)),
+        None => Ok(None),
+    }
+}
+
+// Whether the message is answered as it is if nothing came before it.
+fn is_as_before(
+    alloc: Global,
+    at: &mut Scene,
+    beside: &mut Scene,
+    message: &Message,
+    number: usize,
+) -> Result<bool, AllocError> {
+    let answer = brought(alloc, at, message.node, &message.bytes)?;
+    match answer_to_whole(alloc, beside, number)? {
+        Some(expected) => Ok(answer.as_str() == expected.as_str()),
+        None => Ok(false),
+    }
 }
 
 // Brings a node each proper beginning of a message: the answer to the first that is not refused as cut, if there is one.
-fn answer_to_cut(alloc: Global, at: &mut Coming) -> Result<Option<String>, AllocError> {
-    let whole = at.bytes.to_vec(alloc)?;
-    for length in 0..whole.len() {
-        let (front, _) = whole.split_at(length);
-        let bytes = front.to_vec(alloc)?;
-        let answer = brought(alloc, at, bytes)?;
+fn answer_to_cut(
+    alloc: Global,
+    at: &mut Scene,
+    message: &Message,
+) -> Result<Option<String>, AllocError> {
+    for length in 0..message.bytes.len() {
+        let (front, _) = message.bytes.split_at(length);
+        let answer = brought(alloc, at, message.node, front)?;
         if answer.as_str() != "83 CutMessage" {
             return Ok(Some(answer));
         }
@@ -260,44 +297,41 @@ fn answer_to_cut(alloc: Global, at: &mut Coming) -> Result<Option<String>, Alloc
 fn try_cuts(
     out: &mut String,
     alloc: Global,
-    at: &mut Coming,
+    at: &mut Scene,
+    beside: &mut Scene,
+    message: &Message,
     number: usize,
 ) -> Result<(), AllocError> {
-    if let Some(answer) = answer_to_cut(alloc, at)? {
+    if let Some(answer) = answer_to_cut(alloc, at, message)? {
         return out.push_str(answer.as_str());
     }
-    if !is_as_before(alloc, at, number)? {
+    if !is_as_before(alloc, at, beside, message, number)? {
         return out.push_str("not as before");
     }
-    write!(out, "{} beginnings refused", at.bytes.len())
+    write!(out, "{} beginnings refused", message.bytes.len())
 }
 
 // What a node answers to a message with another byte at this place: whether it is taken, with all there then that refs reach, or
 // refused with a number.
-fn answer_to_changed(alloc: Global, at: &mut Coming, place: usize) -> Result<Answered, AllocError> {
-    let bytes = changed(alloc, &at.bytes, place)?;
-    let answer = brought(alloc, at, bytes)?;
-    if answer
-        .as_str()
-        .starts_with(|letter: char| letter.is_ascii_digit())
-    {
+fn answer_to_changed(
+    alloc: Global,
+    at: &mut Scene,
+    message: &Message,
+    place: usize,
+) -> Result<Answered, AllocError> {
+    let bytes = changed(alloc, &message.bytes, place)?;
+    let answer = brought(alloc, at, message.node, &bytes)?;
+    let is_refused = match answer.as_bytes().first() {
+        Some(letter) => letter.is_ascii_digit(),
+        None => false,
+    };
+    if is_refused {
         return Ok(Answered::Refused);
     }
-    if at.scene.is_whole() {
+    if at.is_whole() {
         Ok(Answered::Taken)
     } else {
         Ok(Answered::Broken)
-    }
-}
-
-// Brings the exchange to where it was before the message of this number came. Whether there is such a message.
-fn renew(alloc: Global, at: &mut Coming, number: usize) -> Result<bool, AllocError> {
-    match up_to(alloc, number)? {
-        Some(again) => {
-            *at = again;
-            Ok(true)
-        }
-        None => Ok(false),
     }
 }
 
@@ -306,48 +340,38 @@ fn renew(alloc: Global, at: &mut Coming, number: usize) -> Result<bool, AllocErr
 fn try_changes(
     out: &mut String,
     alloc: Global,
-    at: &mut Coming,
+    at: &mut Scene,
+    beside: &mut Scene,
+    message: &Message,
     number: usize,
 ) -> Result<(), AllocError> {
-    let count = at.bytes.len();
+    let count = message.bytes.len();
     for place in 0..count {
-        match answer_to_changed(alloc, at, place)? {
+        match answer_to_changed(alloc, at, message, place)? {
             Answered::Refused => {}
             Answered::Broken => return write!(out, "not whole with byte {place} changed"),
             Answered::Taken => {
-                if !renew(alloc, at, number)? {
-                    return out.push_str("no such message");
-                }
+                up_to(alloc, at, number)?;
             }
         }
     }
-    if !is_as_before(alloc, at, number)? {
+    if !is_as_before(alloc, at, beside, message, number)? {
         return out.push_str("not as before");
     }
     write!(out, "{count} changes answered")
 }
 
-// What a node makes of a message of the exchange that is cut, or changed.
-fn damaged(out: &mut String, alloc: Global, verb: &str, text: &str) -> Result<(), AllocError> {
-    let number = text.parse::<usize>().unwrap_or(1000);
-    match up_to(alloc, number)? {
-        Some(mut at) if verb == "cuts" => try_cuts(out, alloc, &mut at, number),
-        Some(mut at) => try_changes(out, alloc, &mut at, number),
-        None => out.push_str("no such message"),
-    }
-}
-
-// What the node answers where a reader gives so many bytes of the message, behind which it `fail`s or is at its `end`.
+// What a node answers if a reader gives so many bytes of the message, after which it `fail`s or is at its `end`.
 fn answer_to_broken(
     alloc: Global,
-    at: &mut Coming,
+    at: &mut Scene,
+    message: &Message,
     way: &str,
     length: usize,
 ) -> Result<String, AllocError> {
-    let mut text = String::new(alloc);
-    write!(text, "from {way} {length} ")?;
-    push_bytes(&mut text, &at.bytes)?;
-    asked(alloc, at, text.as_str())
+    let mut words = String::new(alloc);
+    write!(words, "from {way} {length} ")?;
+    read_from(alloc, at, message.node, words.as_str(), &message.bytes)
 }
 
 // What is to be answered there.
@@ -359,20 +383,21 @@ fn told_of_broken(way: &str, length: usize) -> &'static str {
     }
 }
 
-// Tries that at a node to which nothing came before. What it answers, where that is something else or a file is not as it was.
+// Tries that at a node to which nothing came before. What it answers, if that is something else or a file is not as it was.
 fn try_broken(
     alloc: Global,
+    at: &mut Scene,
+    before: &mut Scene,
     number: usize,
     way: &str,
     length: usize,
-    before: &mut Scene,
 ) -> Result<Option<String>, AllocError> {
-    let Some(mut at) = up_to(alloc, number)? else {
+    let Some(message) = up_to(alloc, at, number)? else {
         return Ok(Some(String::from_str(alloc, "no such message")?));
     };
-    let mut answer = answer_to_broken(alloc, &mut at, way, length)?;
+    let mut answer = answer_to_broken(alloc, at, &message, way, length)?;
     if answer.as_str() == told_of_broken(way, length) {
-        if at.scene.is_like(before) {
+        if at.is_like(before) {
             return Ok(None);
         }
         answer.push_str(", and files changed")?;
@@ -380,78 +405,108 @@ fn try_broken(
     Ok(Some(answer))
 }
 
+// Brings a node the message, after every proper beginning of it from such a reader: what it answers.
+fn answer_after(
+    alloc: Global,
+    at: &mut Scene,
+    way: &str,
+    number: usize,
+) -> Result<Option<String>, AllocError> {
+    let Some(message) = up_to(alloc, at, number)? else {
+        return Ok(None);
+    };
+    for length in 0..message.bytes.len() {
+        answer_to_broken(alloc, at, &message, way, length)?;
+    }
+    let answer = read_from(alloc, at, message.node, "next whole ", &message.bytes)?;
+    Ok(Some(answer))
+}
+
 // Whether the message, of which every proper beginning came from such a reader, is taken from one that gives it whole, as it is
-// where it comes at once and nothing came before it.
+// if it comes at once and nothing came before it.
 fn is_taken_after(
     alloc: Global,
-    at: &mut Coming,
+    at: &mut Scene,
+    beside: &mut Scene,
     way: &str,
     number: usize,
 ) -> Result<bool, AllocError> {
-    for length in 0..at.bytes.len() {
-        answer_to_broken(alloc, at, way, length)?;
-    }
-    let mut text = String::from_str(alloc, "next whole ")?;
-    push_bytes(&mut text, &at.bytes)?;
-    let answer = asked(alloc, at, text.as_str())?;
-    let Some(mut whole) = up_to(alloc, number)? else {
+    let Some(answer) = answer_after(alloc, at, way, number)? else {
         return Ok(false);
     };
-    let mut expected = answer_to_whole(alloc, &mut whole)?;
-    expected.push_str(" | ")?;
-    Ok(answer.as_str() == expected.as_str() && at.scene.is_like(&mut whole.scene))
+    let Some(expected) = answer_to_whole(alloc, beside, number)? else {
+        return Ok(false);
+    };
+    let told = answer.as_str().strip_suffix(" | ");
+    Ok(told == Some(expected.as_str()) && at.is_like(beside))
 }
 
-// Brings a node each proper beginning of a message of the exchange by a reader that fails behind it, or ends. How many left the
+// Brings a node each proper beginning of a message of the exchange by a reader that fails after it, or ends. How many left the
 // files as they were, if all did and the message was taken after them.
 fn try_beginnings(
     out: &mut String,
     alloc: Global,
-    at: &mut Coming,
+    at: &mut Scene,
+    beside: &mut Scene,
     way: &str,
     number: usize,
 ) -> Result<(), AllocError> {
-    let Some(mut before) = up_to(alloc, number)? else {
-        return out.push_str("no such message");
+    let count = match up_to(alloc, beside, number)? {
+        Some(message) => message.bytes.len(),
+        None => return out.push_str("no such message"),
     };
-    let count = before.bytes.len();
     for length in 0..count {
-        if let Some(answer) = try_broken(alloc, number, way, length, &mut before.scene)? {
+        if let Some(answer) = try_broken(alloc, at, beside, number, way, length)? {
             return write!(out, "{} after {length} bytes", answer.as_str());
         }
     }
-    if !is_taken_after(alloc, at, way, number)? {
+    if !is_taken_after(alloc, at, beside, way, number)? {
         return out.push_str("not as before");
     }
     write!(out, "{count} beginnings left nothing")
 }
 
-// How many bytes a reader has taken of so many, where the words spell the rest.
-fn taken_of(alloc: Global, count: usize, words: &str) -> Result<usize, AllocError> {
-    let rest = Vec::unescape_bytes(alloc, words)?;
+// How many of so many bytes a reader has given to the node that answered so. Of bytes that are no message the first fault is told,
+// whatever comes after it.
+fn given(alloc: Global, count: usize, answer: &str, rest: &str) -> Result<usize, AllocError> {
+    if answer.starts_with('8') || answer.starts_with("3 ") {
+        return Ok(count);
+    }
+    let rest = Vec::unescape_bytes(alloc, rest)?;
     Ok(count.saturating_sub(rest.len()))
 }
 
-// Whether what a reader brings, of which one byte is changed at this place, is answered as it is where it comes at once, with the same
-// files. Where it ends sooner than the message did, so much of it comes at once.
-fn is_read_alike(alloc: Global, number: usize, place: usize) -> Result<bool, AllocError> {
-    let Some(mut at) = up_to(alloc, number)? else {
-        return Ok(false);
-    };
-    let Some(mut whole) = up_to(alloc, number)? else {
-        return Ok(false);
-    };
-    let mut bytes = changed(alloc, &at.bytes, place)?;
-    let mut text = String::from_str(alloc, "next drip ")?;
-    push_bytes(&mut text, &bytes)?;
-    let answer = asked(alloc, &mut at, text.as_str())?;
+// Whether what a reader brings is answered as it is if it comes at once, with the same files. If it ends sooner than the
+// message did, so much of it comes at once.
+fn is_read_so(
+    alloc: Global,
+    at: &mut Scene,
+    beside: &mut Scene,
+    node: &'static str,
+    bytes: &[u8],
+) -> Result<bool, AllocError> {
+    let answer = read_from(alloc, at, node, "next drip ", bytes)?;
     let (answer, rest) = answer.as_str().split_once(" | ").unwrap_or(("", ""));
-    // Of bytes that are no message the first fault is told, whatever is behind it.
-    if !answer.starts_with('8') && !answer.starts_with("3 ") {
-        bytes.truncate(taken_of(alloc, bytes.len(), rest)?);
-    }
-    let expected = brought(alloc, &mut whole, bytes)?;
-    Ok(answer == expected.as_str() && at.scene.is_like(&mut whole.scene))
+    let count = given(alloc, bytes.len(), answer, rest)?;
+    let (front, _) = bytes.split_at(count.min(bytes.len()));
+    let expected = brought(alloc, beside, node, front)?;
+    Ok(answer == expected.as_str() && at.is_like(beside))
+}
+
+// Whether that is so of the message of this number with one byte changed at this place.
+fn is_read_alike(
+    alloc: Global,
+    at: &mut Scene,
+    beside: &mut Scene,
+    number: usize,
+    place: usize,
+) -> Result<bool, AllocError> {
+    up_to(alloc, beside, number)?;
+    let Some(message) = up_to(alloc, at, number)? else {
+        return Ok(false);
+    };
+    let bytes = changed(alloc, &message.bytes, place)?;
+    is_read_so(alloc, at, beside, message.node, &bytes)
 }
 
 // A reader brings a node a message of the exchange with one byte changed, for each byte. How many there are, if each is answered as
@@ -459,36 +514,56 @@ fn is_read_alike(alloc: Global, number: usize, place: usize) -> Result<bool, All
 fn try_readings(
     out: &mut String,
     alloc: Global,
+    at: &mut Scene,
+    beside: &mut Scene,
     number: usize,
     count: usize,
 ) -> Result<(), AllocError> {
     for place in 0..count {
-        if !is_read_alike(alloc, number, place)? {
+        if !is_read_alike(alloc, at, beside, number, place)? {
             return write!(out, "not alike with byte {place} changed");
         }
     }
     write!(out, "{count} changes read alike")
 }
 
-// What a node makes of a message of the exchange that a reader brings.
-fn read(out: &mut String, alloc: Global, verb: &str, text: &str) -> Result<(), AllocError> {
+// What a node makes of a message of the exchange that is cut, or changed, or that a reader brings.
+fn damaged(
+    out: &mut String,
+    alloc: Global,
+    at: &mut Scene,
+    beside: &mut Scene,
+    verb: &str,
+    text: &str,
+) -> Result<(), AllocError> {
     let number = text.parse::<usize>().unwrap_or(1000);
-    match up_to(alloc, number)? {
-        Some(mut at) if verb == "fails" => try_beginnings(out, alloc, &mut at, "fail", number),
-        Some(mut at) if verb == "ends" => try_beginnings(out, alloc, &mut at, "end", number),
-        Some(at) => try_readings(out, alloc, number, at.bytes.len()),
-        None => out.push_str("no such message"),
+    let Some(message) = up_to(alloc, at, number)? else {
+        return out.push_str("no such message");
+    };
+    match verb {
+        "cuts" => try_cuts(out, alloc, at, beside, &message, number),
+        "changes" => try_changes(out, alloc, at, beside, &message, number),
+        "fails" => try_beginnings(out, alloc, at, beside, "fail", number),
+        "ends" => try_beginnings(out, alloc, at, beside, "end", number),
+        _ => try_readings(out, alloc, at, beside, number, message.bytes.len()),
     }
 }
 
-/// A row about the exchange.
-pub fn row(out: &mut String, alloc: Global, text: &str) -> Result<(), AllocError> {
+/// A row about the exchange, which is played in one scene, and beside it in another.
+pub fn row(
+    out: &mut String,
+    alloc: Global,
+    at: &mut Scene,
+    beside: &mut Scene,
+    text: &str,
+) -> Result<(), AllocError> {
     let (verb, rest) = text.split_once(' ').unwrap_or((text, ""));
     match verb {
-        "stops" => stops(out, alloc, rest),
-        "faults" => faults(out, alloc, rest),
-        "cuts" | "changes" => damaged(out, alloc, verb, rest),
-        "fails" | "ends" | "reads" => read(out, alloc, verb, rest),
+        "stops" => stops(out, alloc, at, rest),
+        "faults" => faults(out, alloc, at, rest),
+        "cuts" | "changes" | "fails" | "ends" | "reads" => {
+            damaged(out, alloc, at, beside, verb, rest)
+        }
         _ => out.push_str("no such trial"),
     }
 }
