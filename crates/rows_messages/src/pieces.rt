@@ -70,6 +70,24 @@ fn push_rest<R: Source>(
     Ok(false)
 }
 
+// A message that begins so, and what comes behind that. Whether it came whole.
+fn push_whole<R: Source>(
+    out: &mut String,
+    alloc: Global,
+    reader: &mut R,
+    head: &Head,
+    taken: Taken,
+    most: usize,
+) -> Result<bool, AllocError>
+    requires few { taken.lines < taken.bytes }
+{
+    push_head(out, head)?;
+    match head {
+        Head::Message(_) => Ok(true),
+        _ => push_rest(out, alloc, reader, taken, most),
+    }
+}
+
 // The next message, or why none comes. Whether it came whole.
 fn push_next<R: Source>(
     out: &mut String,
@@ -78,13 +96,7 @@ fn push_next<R: Source>(
     most: usize,
 ) -> Result<bool, AllocError> {
     match read_head(alloc, reader) {
-        Ok(Some((head, taken))) => {
-            push_head(out, &head)?;
-            match head {
-                Head::Message(_) => Ok(true),
-                _ => push_rest(out, alloc, reader, taken, most),
-            }
-        }
+        Ok(Some((head, taken))) => push_whole(out, alloc, reader, &head, taken, most),
         Ok(None) => {
             out.push_str("end")?;
             Ok(false)

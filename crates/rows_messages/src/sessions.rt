@@ -56,27 +56,42 @@ fn goes_on(did: &Result<Stepped, SessionFault>) -> bool {
     }
 }
 
-// Opens the push of these words, which comes as it is written. None where it is refused, and then it is told why.
+// Opens a push in a slot. If it is refused, it is written why. Whether it is open.
+fn begin(
+    out: &mut String,
+    alloc: Global,
+    files: &mut MemoryFiles,
+    pushes: &mut OpenPushes,
+    slot: u8,
+    push: Push,
+) -> Result<bool, AllocError> {
+    match PushSession::new(files, alloc, slot, push) {
+        Ok(session) => {
+            pushes.by_slot.insert(slot, session)?;
+            Ok(true)
+        }
+        Err(fault) => {
+            write!(out, "{fault}")?;
+            Ok(false)
+        }
+    }
+}
+
+// The same of the push of these words, which comes as it is written.
 fn opened(
     out: &mut String,
     alloc: Global,
     files: &mut MemoryFiles,
+    pushes: &mut OpenPushes,
     slot: u8,
     words: &str,
-) -> Result<Option<PushSession>, AllocError> {
+) -> Result<bool, AllocError> {
     let bytes = pushes::push(alloc, words)?;
-    let push = match Push::read(alloc, &bytes) {
-        Ok(push) => push,
+    match Push::read(alloc, &bytes) {
+        Ok(push) => begin(out, alloc, files, pushes, slot, push),
         Err(fault) => {
             write!(out, "{fault}")?;
-            return Ok(None);
-        }
-    };
-    match PushSession::new(files, alloc, slot, push) {
-        Ok(session) => Ok(Some(session)),
-        Err(fault) => {
-            write!(out, "{fault}")?;
-            Ok(None)
+            Ok(false)
         }
     }
 }
@@ -91,8 +106,7 @@ pub fn open_push(
 ) -> Result<(), AllocError> {
     let (slot, words) = text.split_once(' ').unwrap_or((text, ""));
     let slot = slot.parse::<u8>().unwrap_or(0);
-    if let Some(session) = opened(out, alloc, files, slot, words)? {
-        pushes.by_slot.insert(slot, session)?;
+    if opened(out, alloc, files, pushes, slot, words)? {
         out.push_str("ok")?;
     }
     Ok(())
@@ -130,32 +144,59 @@ fn take_objects<R: Source>(
     Ok(false)
 }
 
-// The push of which this has come, once the rest has. None where it is refused, and then it is told why.
+// The objects that come from here on, after how many files stand in quarantine before the first. Whether all came.
+fn take_rest(
+    out: &mut String,
+    alloc: Global,
+    files: &mut MemoryFiles,
+    rest: &[u8],
+    taken: Taken,
+    arriving: &mut Arriving,
+) -> Result<bool, AllocError>
+    requires few { taken.lines < taken.bytes }
+{
+    let mut reader = rest;
+    count(out, alloc, files, "quarantine/")?;
+    out.push(' ')?;
+    take_objects(out, alloc, files, &mut reader, taken, arriving)
+}
+
+// Opens a push in a slot whose objects have come.
+fn insert_arrived(
+    out: &mut String,
+    alloc: Global,
+    pushes: &mut OpenPushes,
+    slot: u8,
+    arriving: Arriving,
+    commands: Vec<Command>,
+) -> Result<(), AllocError> {
+    let session = PushSession::arrived(alloc, arriving, commands)?;
+    pushes.by_slot.insert(slot, session)?;
+    out.push_str("ok")
+}
+
+// Opens the push of which this has come in a slot, once the rest has. If it is refused, it is written why.
 fn arrived(
     out: &mut String,
     alloc: Global,
     files: &mut MemoryFiles,
+    pushes: &mut OpenPushes,
     slot: u8,
     rest: &[u8],
     taken: Taken,
     commands: Vec<Command>,
-) -> Result<Option<PushSession>, AllocError>
+) -> Result<(), AllocError>
     requires few { taken.lines < taken.bytes }
 {
-    let mut reader = rest;
     let mut arriving = match Arriving::begin(files, alloc, slot) {
         Ok(arriving) => arriving,
-        Err(fault) => {
-            write!(out, "{fault}")?;
-            return Ok(None);
-        }
+        Err(fault) => return write!(out, "{fault}"),
     };
-    count(out, alloc, files, "quarantine/")?;
-    out.push(' ')?;
-    if !take_objects(out, alloc, files, &mut reader, taken, &mut arriving)? {
-        return Ok(None);
+    match take_rest(out, alloc, files, rest, taken, &mut arriving) {
+        Ok(true) => insert_arrived(out, alloc, pushes, slot, arriving, commands),
+        Ok(false) => Ok(()),
+        Err(fault) => Err(fault),
     }
-    Ok(Some(PushSession::arrived(alloc, arriving, commands)?))
 }
 
 /// Opens a push in a slot as it comes, object by object: its number, and its bytes. Told is how many files stand in quarantine at
@@ -179,11 +220,7 @@ pub fn arrive(
     let Head::Push(commands) = head else {
         return out.push_str("no push with objects");
     };
-    if let Some(session) = arrived(out, alloc, files, slot, reader, taken, commands)? {
-        pushes.by_slot.insert(slot, session)?;
-        out.push_str("ok")?;
-    }
-    Ok(())
+    arrived(out, alloc, files, pushes, slot, reader, taken, commands)
 }
 
 /// One step of the push in this slot.
@@ -266,6 +303,21 @@ fn push_steps(
     Ok(())
 }
 
+// The steps of a push from its words, where no other is open.
+fn run_alone(
+    out: &mut String,
+    alloc: Global,
+    files: &mut MemoryFiles,
+    pushes: &mut OpenPushes,
+    text: &str,
+) -> Result<(), AllocError> {
+    opened(out, alloc, files, pushes, 0, text)?;
+    match pushes.by_slot.get_mut(&0) {
+        Some(session) => push_steps(out, alloc, files, session),
+        None => Ok(()),
+    }
+}
+
 /// The steps of a push that is alone, from its words.
 pub fn run(
     out: &mut String,
@@ -273,10 +325,8 @@ pub fn run(
     files: &mut MemoryFiles,
     text: &str,
 ) -> Result<(), AllocError> {
-    match opened(out, alloc, files, 0, text)? {
-        Some(mut session) => push_steps(out, alloc, files, &mut session),
-        None => Ok(()),
-    }
+    let mut pushes = OpenPushes::new(alloc);
+    run_alone(out, alloc, files, &mut pushes, text)
 }
 
 /// Tells the refs: a name, `=` and an id for each, and what `=` of none is.
@@ -320,52 +370,99 @@ fn copy(alloc: Global, files: &mut MemoryFiles) -> Result<MemoryFiles, Fault> {
     Ok(copied)
 }
 
-// A step of a push that has not come to its end. Only what is told at its end is told, or why it has none.
+// A step of the push in this slot. Only what is told at its end is told, or why it has none. Whether there is a step behind it.
 fn push_end(
     out: &mut String,
     alloc: Global,
     files: &mut MemoryFiles,
-    turn: Option<PushSession>,
-) -> Result<Option<PushSession>, AllocError> {
-    let Some(mut session) = turn else {
-        return Ok(None);
+    pushes: &mut OpenPushes,
+    slot: u8,
+) -> Result<bool, AllocError> {
+    let Some(session) = pushes.by_slot.get_mut(&slot) else {
+        return Ok(false);
     };
     let did = session.step(files, alloc, &Generations::new(alloc));
     if goes_on(&did) {
-        return Ok(Some(session));
+        return Ok(true);
     }
     push_step(out, &did)?;
-    Ok(None)
+    Ok(false)
 }
 
-// What comes of two pushes, taken one after the other, whose steps come in this order: each of its eight lowest bits tells
-// whose step is next.
+// What comes of two pushes, taken one after the other, each told by itself, whose steps come in this order: each of its eight
+// lowest bits tells whose step is next.
+fn push_ends(
+    first: &mut String,
+    second: &mut String,
+    alloc: Global,
+    files: &mut MemoryFiles,
+    pushes: &mut OpenPushes,
+    pair: (&str, &str),
+    order: u32,
+) -> Result<(), AllocError> {
+    let mut is_first_open = opened(first, alloc, files, pushes, 0, pair.0)?;
+    let mut is_second_open = opened(second, alloc, files, pushes, 1, pair.1)?;
+    for place in 0..8u32 {
+        let is_second = order.wrapping_shr(place) % 2 == 1;
+        if is_second && is_second_open {
+            is_second_open = push_end(second, alloc, files, pushes, 1)?;
+        } else if !is_second && is_first_open {
+            is_first_open = push_end(first, alloc, files, pushes, 0)?;
+        }
+    }
+    Ok(())
+}
+
+// Puts after what is told of a push what is told of the other one, and then the refs, and how many files are left in quarantine.
+fn push_outcome(
+    told: &mut String,
+    alloc: Global,
+    files: &mut MemoryFiles,
+    other: &str,
+) -> Result<(), AllocError> {
+    told.push_str(" / ")?;
+    told.push_str(other)?;
+    told.push_str(" / ")?;
+    refs(told, alloc, files)?;
+    told.push_str(" / ")?;
+    count(told, alloc, files, "quarantine/")
+}
+
+// What comes of two pushes, over these files.
 fn in_order(
     alloc: Global,
     files: &mut MemoryFiles,
     pair: (&str, &str),
     order: u32,
 ) -> Result<String, AllocError> {
-    let mut tales = (String::new(alloc), String::new(alloc));
-    let mut first = opened(&mut tales.0, alloc, files, 0, pair.0)?;
-    let mut second = opened(&mut tales.1, alloc, files, 1, pair.1)?;
-    let mut order = order;
-    for _ in 0..8u32 {
-        if order % 2 == 0 {
-            first = push_end(&mut tales.0, alloc, files, first)?;
-        } else {
-            second = push_end(&mut tales.1, alloc, files, second)?;
-        }
-        order /= 2;
-    }
-    let (mut told, other) = tales;
-    told.push_str(" / ")?;
-    told.push_str(other.as_str())?;
-    told.push_str(" / ")?;
-    refs(&mut told, alloc, files)?;
-    told.push_str(" / ")?;
-    count(&mut told, alloc, files, "quarantine/")?;
+    let mut told = String::new(alloc);
+    let mut other = String::new(alloc);
+    let mut pushes = OpenPushes::new(alloc);
+    push_ends(
+        &mut told,
+        &mut other,
+        alloc,
+        files,
+        &mut pushes,
+        pair,
+        order,
+    )?;
+    push_outcome(&mut told, alloc, files, other.as_str())?;
     Ok(told)
+}
+
+// Counts the end that comes over these files once more.
+fn count_end(
+    ends: &mut BTreeMap<String, u32>,
+    alloc: Global,
+    files: &mut MemoryFiles,
+    pair: (&str, &str),
+    order: u32,
+) -> Result<(), AllocError> {
+    let end = in_order(alloc, files, pair, order)?;
+    let times = ends.get(&end).copied().unwrap_or(0).wrapping_add(1);
+    ends.insert(end, times)?;
+    Ok(())
 }
 
 /// All orders of the steps of two pushes, parted by ` ; `, each over the files as they are: how many come to each end. An end
@@ -385,9 +482,7 @@ pub fn orders(
         let Ok(mut copied) = copy(alloc, files) else {
             return Err(AllocError);
         };
-        let end = in_order(alloc, &mut copied, pair, order)?;
-        let times = ends.get(&end).copied().unwrap_or(0).wrapping_add(1);
-        ends.insert(end, times)?;
+        count_end(&mut ends, alloc, &mut copied, pair, order)?;
     }
     for (end, times) in &ends {
         if !out.is_empty() {

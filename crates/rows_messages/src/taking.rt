@@ -75,27 +75,47 @@ fn push_taken(
     out.push_str(" | ")
 }
 
+// What was read of these bytes. Whether it was a message.
+fn push_read(
+    out: &mut String,
+    alloc: Global,
+    given: &[u8],
+    read: &Result<Option<Message>, IncomingFault>,
+) -> Result<bool, AllocError> {
+    match read {
+        Ok(Some(message)) => {
+            push_taken(out, alloc, given, message)?;
+            Ok(true)
+        }
+        Ok(None) => {
+            out.push_str("end")?;
+            Ok(false)
+        }
+        Err(IncomingFault::Memory) => Err(AllocError),
+        Err(fault) => {
+            write!(out, "{fault}")?;
+            Ok(false)
+        }
+    }
+}
+
+// The next message of the reader, `|` after it, or why none comes. Whether one came.
+fn push_next<R: Read>(out: &mut String, alloc: Global, reader: &mut R) -> Result<bool, AllocError> {
+    let mut kept = Fallible::new(Kept {
+        reader: &mut *reader,
+        given: Vec::new(alloc),
+    });
+    let read = read_message(alloc, &mut kept);
+    let given = kept.into_inner().given;
+    push_read(out, alloc, &given, &read)
+}
+
 // The messages that the reader gives, `|` behind each, and why no more come.
 fn told<R: Read>(alloc: Global, reader: &mut R, most: usize) -> Result<String, AllocError> {
     let mut out = String::new(alloc);
     for _ in 0..=most {
-        let mut kept = Fallible::new(Kept {
-            reader: &mut *reader,
-            given: Vec::new(alloc),
-        });
-        let read = read_message(alloc, &mut kept);
-        let given = kept.into_inner().given;
-        match read {
-            Ok(Some(message)) => push_taken(&mut out, alloc, &given, &message)?,
-            Ok(None) => {
-                out.push_str("end")?;
-                return Ok(out);
-            }
-            Err(IncomingFault::Memory) => return Err(AllocError),
-            Err(fault) => {
-                write!(out, "{fault}")?;
-                return Ok(out);
-            }
+        if !push_next(&mut out, alloc, reader)? {
+            break;
         }
     }
     Ok(out)
