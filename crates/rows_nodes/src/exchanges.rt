@@ -90,7 +90,21 @@ fn push_pushed(
     }
 }
 
-// A whole push of the items, of which the answer comes in this way.
+// A whole push of the items.
+fn push_at_once(
+    out: &mut String,
+    alloc: Global,
+    shared: &mut Shared<Device>,
+    clone: &mut CloneNode<Device>,
+    items: &[PushItem],
+) -> Result<(), AllocError> {
+    if items.is_empty() {
+        return out.push_str("no items");
+    }
+    push_pushed(out, &exchange_push(alloc, shared, clone, items))
+}
+
+// The same, of which the answer comes in this way.
 fn push(
     out: &mut String,
     alloc: Global,
@@ -99,6 +113,9 @@ fn push(
     clone: &mut CloneNode<Device>,
     items: &[PushItem],
 ) -> Result<(), AllocError> {
+    if items.is_empty() {
+        return out.push_str("no items");
+    }
     let mut peer = Reading {
         alloc,
         coming,
@@ -120,7 +137,7 @@ fn exchange(
         "fetch" => push_fetched(out, &exchange_fetch(shared, clone)),
         "fetch-read" => fetch(out, alloc, Coming::Read, shared, clone),
         "fetch-from" => fetch(out, alloc, Coming::Unread, shared, clone),
-        "push" => push_pushed(out, &exchange_push(alloc, shared, clone, items)),
+        "push" => push_at_once(out, alloc, shared, clone, items),
         "push-read" => push(out, alloc, Coming::Read, shared, clone, items),
         _ => push(out, alloc, Coming::Unread, shared, clone, items),
     }
