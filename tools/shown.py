@@ -70,8 +70,9 @@ def named_by(header):
     head = re.match(r"(?:pub(?:\([^)]*\))? )?(?:impl(<(?:[^<>]|<[^<>]*>)*>)?|trait) (.*?)(?: where .*)?\{?$", header)
     parameters = re.findall(r"[<,] *(\w+)", head[1] or "")
     trait, _, of = head[2].partition(" for ")
-    words = re.findall(r"(?:\w+::)*(\w+)", re.sub(r"'\w+", "", f"{of} {trait}" if of else trait.partition(":")[0]))
-    return "".join(it for it in words if it not in parameters)
+    text = re.sub(r"'\w+", "", f"{of} {trait}" if of else trait.partition(":")[0])
+    words = re.findall(r"(?:\w+::)*(\w+)", text.replace("&", " Ref ").replace("[", " Slice "))
+    return "".join(it[0].upper() + it[1:] for it in words if it not in parameters)
 
 
 def lines_of(lines, first):
