@@ -99,7 +99,7 @@ def held(top):
 
 
 def picture(crates):
-    """The crates as a table: the lowest first, each behind its level, with what it holds and what it stands on."""
+    """The crates as a table: the lowest first, each with its level, what it holds and what it stands on."""
     height, holds = levels(crates.uses), held(crates.top)
     yield "| Level | Crate | What it holds | Stands on |"
     yield "|--:|---|---|---|"

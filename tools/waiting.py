@@ -6,7 +6,7 @@
   contracts, specs/ and proofs/ cite definitions and lemmas there, which could stand in a crate that has no bodies to be proved.
 - A crate stands on one of the two longest chains (`Crates.chains`), and its proof takes longer than `MOST_SECONDS` of one processor.
 
-Names alone are compared, comments apart: a name before `::` is a call, or a type, and one behind `Rattle.` is cited."""
+Names alone are compared, comments apart: a name before `::` is a call, or a type, and one after `Rattle.` is cited."""
 import re
 
 from crates import Crates, below
