@@ -5,7 +5,7 @@ use anyhow::{Error, Result, anyhow, bail};
 use std::alloc::Global;
 use std::collections::BTreeMap;
 use vc_index::{Index, IndexCursor, IndexFault};
-use vc_node::NodeFault;
+use vc_local::NodeFault;
 use vc_object::Mode;
 
 pub fn row<R: Host>(bench: &mut Bench<R>, row: &str) -> Result<String> {

@@ -1,7 +1,7 @@
 //! Rows about a clone's node. While it is open it holds the files.
 ghost use Rattle.std.specs.Prelude.{◌≡◌, IfOk, true, nat_eq, codes};
 ghost use Rattle.std.specs.List.{starts_with};
-ghost use Rattle.vc_node.specs.Blames.{IsLocalHead};
+ghost use Rattle.vc_local.specs.Blames.{IsLocalHead};
 
 use crate::bench::{Bench, Device, Host, no_files};
 use crate::store::kind_of;
@@ -9,7 +9,8 @@ use crate::words::{Names, bytes, cut, digits, file_mode, id_of};
 use anyhow::{Context, Result, bail};
 use std::alloc::Global;
 use std::mem;
-use vc_node::{CloneNode, Staged};
+use vc_local::Staged;
+use vc_node::CloneNode;
 use vc_refname::RefName;
 use vc_refs::Head;
 

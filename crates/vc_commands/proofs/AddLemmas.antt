@@ -37,18 +37,18 @@ use Rattle.vc_rules.proofs.GitLaws.{git_rules}
 use Rattle.vc_rules.proofs.MapLemmas.{get-put}
 use Rattle.vc_store.specs.Store.{objects, with_object as store_object, with_objects as store_objects}
 use Rattle.vc_store.specs.declared.faults.StoreFault.TheVariants as store
-use Rattle.vc_node.specs.Blames.{BlamesWrite}
-use Rattle.vc_node.specs.Clean.{StoresOnly}
-use Rattle.vc_node.specs.Machine.{AnswersShown}
-use Rattle.vc_node.specs.Reads.{NoneRead, TellsRead}
-use Rattle.vc_node.specs.Shown.{Shown, shown}
-use Rattle.vc_node.specs.Staging.{AreOf, File, MayStandAll, RefusesOne, file_placed, staging}
-use Rattle.vc_node.specs.declared.fault.NodeFault.{NodeFault}
-use Rattle.vc_node.specs.declared.fault.NodeFault.TheVariants as node
-use Rattle.vc_node.specs.declared.staging.Staged.{Staged}
-use Rattle.vc_node.proofs.CleanLemmas.{clean_same, clean_then}
-use Rattle.vc_node.proofs.IndexLemmas.{IsMachineIndex, free_path, machine_index_put, not_free_path}
-use Rattle.vc_node.proofs.StagingLemmas.{node_with, stages_one}
+use Rattle.vc_local.specs.Blames.{BlamesWrite}
+use Rattle.vc_local.specs.Clean.{StoresOnly}
+use Rattle.vc_local.specs.Machine.{AnswersShown}
+use Rattle.vc_local.specs.Reads.{NoneRead, TellsRead}
+use Rattle.vc_local.specs.Shown.{Shown, shown}
+use Rattle.vc_local.specs.Staging.{AreOf, File, MayStandAll, RefusesOne, file_placed, staging}
+use Rattle.vc_local.specs.declared.fault.NodeFault.{NodeFault}
+use Rattle.vc_local.specs.declared.fault.NodeFault.TheVariants as node
+use Rattle.vc_local.specs.declared.staging.Staged.{Staged}
+use Rattle.vc_local.proofs.CleanLemmas.{clean_same, clean_then}
+use Rattle.vc_local.proofs.IndexLemmas.{IsMachineIndex, free_path, machine_index_put, not_free_path}
+use Rattle.vc_local.proofs.StagingLemmas.{node_with, stages_one}
 use Rattle.vc_commands.specs.Adding.{AreBlobs, AreNamed, IsBlobOfOne, IsNamed, IsOfFile, IsOfStoring, RefusesFiles, StoresBlobs, StoresFiles, StoresFirst, WritesAll, file_at, file_blob, files_at}
 use Rattle.vc_commands.specs.declared.failure.Failure.{Failure}
 use Rattle.vc_commands.specs.declared.failure.Failure.TheVariants.{Node, Object, Fault}

@@ -21,18 +21,18 @@ use Rattle.vc_rules.specs.Faults.{object_number}
 use Rattle.vc_rules.specs.Git.{git}
 use Rattle.vc_rules.proofs.GitLaws.{git_rules}
 use Rattle.vc_store.specs.declared.faults.StoreFault.TheVariants as store
-use Rattle.vc_node.specs.IndexFile.{BlamesIndex, SpellsIndex}
-use Rattle.vc_node.specs.Clean.{KeepsStored}
-use Rattle.vc_node.specs.Machine.{live_of}
-use Rattle.vc_node.specs.NodeFault.{is_fault}
-use Rattle.vc_node.specs.Staging.{BlamesStaging, File, MayStandAll, RefusesFirst, StagesAll, StagesShown, file_placed, placed, staging}
-use Rattle.vc_node.specs.Shown.{shown}
-use Rattle.vc_node.specs.declared.fault.NodeFault.{NodeFault}
-use Rattle.vc_node.specs.declared.fault.NodeFault.TheVariants as node
-use Rattle.vc_node.specs.declared.staging.Staged.{Staged}
-use Rattle.vc_node.proofs.CleanLemmas.{clean_then}
+use Rattle.vc_local.specs.IndexFile.{BlamesIndex, SpellsIndex}
+use Rattle.vc_node.specs.Stored.{KeepsStored}
+use Rattle.vc_local.specs.Machine.{live_of}
+use Rattle.vc_local.specs.NodeFault.{is_fault}
+use Rattle.vc_local.specs.Staging.{BlamesStaging, File, MayStandAll, RefusesFirst, StagesAll, StagesShown, file_placed, placed, staging}
+use Rattle.vc_local.specs.Shown.{shown}
+use Rattle.vc_local.specs.declared.fault.NodeFault.{NodeFault}
+use Rattle.vc_local.specs.declared.fault.NodeFault.TheVariants as node
+use Rattle.vc_local.specs.declared.staging.Staged.{Staged}
+use Rattle.vc_local.proofs.CleanLemmas.{clean_then}
 use Rattle.vc_node.proofs.KeepingLemmas.{keeps_puts}
-use Rattle.vc_node.proofs.IndexLemmas.{IsMachineIndex, spells_index}
+use Rattle.vc_local.proofs.IndexLemmas.{IsMachineIndex, spells_index}
 use Rattle.vc_commands.specs.Adding.{AddsFiles, AreBlobs, AreNamed, IsOfFile, IsOfStoring, Names, RefusesAdd, RefusesFiles, RefusesOneNamed, RefusesWords, StoresBlobs, StoresFiles, StoresFirst, WritesAll, file_at, file_blob, files_at, files_below, files_named, files_named_by, is_below, spelled_path}
 use Rattle.vc_commands.specs.declared.failure.Failure.{Failure}
 use Rattle.vc_commands.specs.declared.failure.Failure.TheVariants.{Node, NoSuchPath, Object, Fault}

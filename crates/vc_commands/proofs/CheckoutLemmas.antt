@@ -18,8 +18,8 @@ use Rattle.std.proofs.Math.Bool.{or-true}
 use Rattle.vc_checkout.specs.WorkTree.{is_listed, is_same}
 use Rattle.vc_checkout.specs.CheckoutFault.{IsOfCheckout, IsOfStatus, TellsFirstListed, told_fault}
 use Rattle.vc_checkout.specs.declared.faults.CheckoutFault.{CheckoutFault}
-use Rattle.vc_node.specs.IndexFile.{SpellsIndex}
-use Rattle.vc_node.specs.NodeFault.{of_index}
+use Rattle.vc_local.specs.IndexFile.{SpellsIndex}
+use Rattle.vc_local.specs.NodeFault.{of_index}
 use Rattle.vc_refs.specs.declared.heads.Head.{Head}
 use Rattle.vc_work_folder.specs.Own.{meets_own}
 use Rattle.vc_object.specs.declared.kind.Kind.TheVariants as kinds

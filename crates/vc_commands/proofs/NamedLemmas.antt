@@ -6,7 +6,7 @@ use Rattle.std.specs.List.{AllByRecursion}
 use Rattle.std.proofs.lemmas.List.{map-append, take_more}
 use Rattle.std.proofs.lemmas.List.Elements.{filter-append}
 use Rattle.vc_files.specs.FileMap.{FileMap}
-use Rattle.vc_node.specs.declared.fault.NodeFault.TheVariants as node
+use Rattle.vc_local.specs.declared.fault.NodeFault.TheVariants as node
 use Rattle.vc_commands.specs.Adding.{FirstWord, Names, RefusesWord, RefusesWords}
 use Rattle.vc_commands.specs.declared.failure.Failure.{Failure}
 use Rattle.vc_commands.specs.declared.failure.Failure.TheVariants.{Node, NoSuchPath, Fault}

@@ -13,14 +13,14 @@ use Rattle.vc_index.specs.declared.faults.IndexFault.TheVariants as index
 use Rattle.vc_model.specs.Clone.{Task}
 use Rattle.vc_model.specs.Clone.Task.{SetBranch}
 use Rattle.vc_model.specs.Node.{Answer}
-use Rattle.vc_node.specs.Clean.{KeepsClean}
-use Rattle.vc_node.specs.Commit.{IsCommitted}
-use Rattle.vc_node.specs.Machine.{AnswersIfSound, AnswersShownIfSound, OrBadFile, done_answer, made_answer, up_after}
-use Rattle.vc_node.specs.Emptying.{IsOpened}
-use Rattle.vc_node.specs.Making.{EndsCommit}
-use Rattle.vc_node.specs.Reads.{IsAtHead, IsOfCommit as IsReadByCommit, TellsRead}
-use Rattle.vc_node.specs.Shown.{shown}
-use Rattle.vc_node.specs.declared.fault.NodeFault.{NodeFault}
+use Rattle.vc_local.specs.Clean.{KeepsClean}
+use Rattle.vc_local.specs.Commit.{IsCommitted}
+use Rattle.vc_local.specs.Machine.{AnswersIfSound, AnswersShownIfSound, OrBadFile, done_answer, made_answer, up_after}
+use Rattle.vc_local.specs.Emptying.{IsOpened}
+use Rattle.vc_local.specs.Making.{EndsCommit}
+use Rattle.vc_local.specs.Reads.{IsAtHead, IsOfCommit as IsReadByCommit, TellsRead}
+use Rattle.vc_local.specs.Shown.{shown}
+use Rattle.vc_local.specs.declared.fault.NodeFault.{NodeFault}
 use Rattle.vc_object.specs.declared.id.ObjectId.{ObjectId}
 use Rattle.vc_refname.specs.RefName.{IsRefName}
 use Rattle.vc_store.specs.Store.{IsDamaged}

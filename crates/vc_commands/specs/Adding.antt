@@ -28,13 +28,14 @@ use Rattle.vc_store.specs.Store.{IsDamaged, objects, with_objects}
 use Rattle.vc_store.specs.declared.faults.StoreFault.TheVariants as store
 use Rattle.vc_work_folder.specs.Own.{is_own}
 use Rattle.vc_node.specs.Held.{Held}
-use Rattle.vc_node.specs.IndexFile.{index_bytes}
-use Rattle.vc_node.specs.Clean.{KeepsClean, KeepsStored}
-use Rattle.vc_node.specs.Machine.{ShowsNode}
-use Rattle.vc_node.specs.Shown.{shown}
-use Rattle.vc_node.specs.Staging.{File, RefusesOne, StagesAll, file_placed}
-use Rattle.vc_node.specs.declared.fault.NodeFault.TheVariants as node
-use Rattle.vc_node.specs.declared.staging.Staged.{Staged}
+use Rattle.vc_local.specs.IndexFile.{index_bytes}
+use Rattle.vc_local.specs.Clean.{KeepsClean}
+use Rattle.vc_node.specs.Stored.{KeepsStored}
+use Rattle.vc_local.specs.Machine.{ShowsNode}
+use Rattle.vc_local.specs.Shown.{shown}
+use Rattle.vc_local.specs.Staging.{File, RefusesOne, StagesAll, file_placed}
+use Rattle.vc_local.specs.declared.fault.NodeFault.TheVariants as node
+use Rattle.vc_local.specs.declared.staging.Staged.{Staged}
 use Rattle.vc_commands.specs.declared.failure.Failure.{Failure}
 use Rattle.vc_commands.specs.declared.failure.Failure.TheVariants.{Node, NoSuchPath, Object, Fault}
 

@@ -6,8 +6,8 @@ use Rattle.std.specs.List.{flat_map}
 use Rattle.hex.specs.Hex.{encode_lower}
 use Rattle.vc_history.specs.declared.fault.HistoryFault.{HistoryFault}
 use Rattle.vc_history.specs.declared.fault.HistoryFault.TheVariants as bases
-use Rattle.vc_node.specs.declared.fault.NodeFault.{NodeFault}
-use Rattle.vc_node.specs.declared.fault.NodeFault.TheVariants as nodes
+use Rattle.vc_local.specs.declared.fault.NodeFault.{NodeFault}
+use Rattle.vc_local.specs.declared.fault.NodeFault.TheVariants as nodes
 use Rattle.vc_refs.specs.declared.faults.RefFault.{RefFault}
 use Rattle.vc_refs.specs.declared.faults.RefFault.TheVariants as ref_faults
 use Rattle.vc_rev.specs.declared.refusal.RevFault.{RevFault}
@@ -19,7 +19,7 @@ use Rattle.vc_store.specs.declared.faults.StoreFault.TheVariants as stores
 use Rattle.vc_commands.specs.declared.failure.Failure.{Failure}
 use Rattle.vc_commands.specs.declared.failure.Failure.TheVariants.{LocalChange, InTheWay, NotText, NoSuchPath, Node, Revision, Store, History, Refs, Syntax, BadScript, Usage}
 use Rattle.vc_commands.specs.declared.faults.Faults.{Faults}
-use Rattle.vc_node.specs.Printed.{node_fault_text}
+use Rattle.vc_local.specs.Printed.{node_fault_text}
 use Rattle.vc_rev.specs.Printed.{parse_fault_text, rev_fault_text}
 
 -- a byte by three octal digits behind a backslash

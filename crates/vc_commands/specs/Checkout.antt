@@ -28,11 +28,11 @@ use Rattle.vc_checkout.specs.Refusal.{IsClear, IsRefused}
 use Rattle.vc_checkout.specs.Steps.{Brings, BringsPart, IsUnwritten}
 use Rattle.vc_checkout.specs.declared.faults.CheckoutFault.{CheckoutFault}
 use Rattle.vc_work_folder.specs.Own.{meets_own}
-use Rattle.vc_node.specs.Blames.{BlamesHead as BlamesNewHead, MayHead}
-use Rattle.vc_node.specs.IndexFile.{BlamesIndex, SpellsIndex}
-use Rattle.vc_node.specs.NodeFault.{of_index as node_fault}
-use Rattle.vc_node.specs.Shown.{shown, with_head_shown, with_index_shown}
-use Rattle.vc_node.specs.declared.fault.NodeFault.TheVariants.{BadPath}
+use Rattle.vc_local.specs.Blames.{BlamesHead as BlamesNewHead, MayHead}
+use Rattle.vc_local.specs.IndexFile.{BlamesIndex, SpellsIndex}
+use Rattle.vc_local.specs.NodeFault.{of_index as node_fault}
+use Rattle.vc_local.specs.Shown.{shown, with_head_shown, with_index_shown}
+use Rattle.vc_local.specs.declared.fault.NodeFault.TheVariants.{BadPath}
 use Rattle.vc_commands.specs.CloneWords.{branch_ref}
 use Rattle.vc_commands.specs.Failure.{of_checkout, status_of}
 use Rattle.vc_commands.specs.Revisions.{Denoted, IsOfRevision}

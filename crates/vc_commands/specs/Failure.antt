@@ -12,8 +12,8 @@ use Rattle.vc_store.specs.declared.faults.StoreFault.TheVariants.{Fault as Store
 use Rattle.vc_checkout.specs.declared.faults.CheckoutFault.{CheckoutFault}
 use Rattle.vc_checkout.specs.declared.faults.CheckoutFault.TheVariants as checkouts
 use Rattle.vc_node.specs.CloneFaults.{IsOfDevice as IsOfCloneDevice}
-use Rattle.vc_node.specs.NodeFault.{IsOfDevice as IsOfNodeDevice, is_device, is_fault, of_index}
-use Rattle.vc_node.specs.declared.fault.NodeFault.{NodeFault}
+use Rattle.vc_local.specs.NodeFault.{IsOfDevice as IsOfNodeDevice, is_device, is_fault, of_index}
+use Rattle.vc_local.specs.declared.fault.NodeFault.{NodeFault}
 use Rattle.vc_remote.specs.Faults.{is_fault as is_remote_fault}
 use Rattle.vc_remote.specs.declared.fault.RemoteFault.{RemoteFault}
 use Rattle.vc_remote.specs.declared.fault.RemoteFault.TheVariants as remotes

@@ -18,7 +18,7 @@ use Rattle.vc_checkout.specs.declared.change.IndexChange.TheVariants.{Same, Adde
 use Rattle.vc_checkout.specs.declared.change.WorkChange.{WorkChange}
 use Rattle.vc_checkout.specs.declared.change.WorkChange.TheVariants as work
 use Rattle.vc_work_folder.specs.Own.{is_own}
-use Rattle.vc_node.specs.IndexFile.{SpellsIndex}
+use Rattle.vc_local.specs.IndexFile.{SpellsIndex}
 use Rattle.vc_commands.specs.Checkout.{IsOfIndex, IsOfTreeList, peeled}
 use Rattle.vc_commands.specs.Failure.{status_of}
 use Rattle.vc_commands.specs.Revisions.{Denoted, IsOfRevision}

@@ -8,18 +8,18 @@ use Rattle.vc_index.specs.WrittenTrees.{IsBegun, IsOfWrite, IsWritten}
 use Rattle.vc_index.specs.declared.faults.IndexFault.{IndexFault}
 use Rattle.vc_model.specs.Clone.{Task}
 use Rattle.vc_model.specs.Clone.Task.{DeleteBranch, MakeCommit, MoveHead, SetBranch}
-use Rattle.vc_node.specs.Blames.{BlamesOpen}
-use Rattle.vc_node.specs.Clean.{KeepsClean, KeepsCleanBut}
-use Rattle.vc_node.specs.Commit.{IsCommitted}
+use Rattle.vc_local.specs.Blames.{BlamesOpen}
+use Rattle.vc_local.specs.Clean.{KeepsClean, KeepsCleanBut}
+use Rattle.vc_local.specs.Commit.{IsCommitted}
 use Rattle.vc_model.specs.Node.{Answer}
 use Rattle.vc_model.specs.Refs.Head.{Detached}
-use Rattle.vc_node.specs.Machine.{Answers, AnswersIfSound, AnswersShown, AnswersShownIfSound, OrBadFile, done_answer, made_answer, up_after}
-use Rattle.vc_node.specs.Making.{EndsCommit}
-use Rattle.vc_node.specs.NodeFault.{of_index}
-use Rattle.vc_node.specs.Reads.{IsAtHead, IsAtName, IsItsFile, IsOfCommit as IsReadByCommit, IsReached, NoneRead, TellsRead}
-use Rattle.vc_node.specs.Emptying.{IsOpened, LosesCarried}
-use Rattle.vc_node.specs.Shown.{Shown, shown}
-use Rattle.vc_node.specs.declared.fault.NodeFault.{NodeFault}
+use Rattle.vc_local.specs.Machine.{Answers, AnswersIfSound, AnswersShown, AnswersShownIfSound, OrBadFile, done_answer, made_answer, up_after}
+use Rattle.vc_local.specs.Making.{EndsCommit}
+use Rattle.vc_local.specs.NodeFault.{of_index}
+use Rattle.vc_local.specs.Reads.{IsAtHead, IsAtName, IsItsFile, IsOfCommit as IsReadByCommit, IsReached, NoneRead, TellsRead}
+use Rattle.vc_local.specs.Emptying.{IsOpened, LosesCarried}
+use Rattle.vc_local.specs.Shown.{Shown, shown}
+use Rattle.vc_local.specs.declared.fault.NodeFault.{NodeFault}
 use Rattle.vc_object.specs.declared.id.ObjectId.{ObjectId}
 use Rattle.vc_refname.specs.RefName.{IsRefName}
 use Rattle.vc_repository.specs.IndexFile.{IsIndexOf, IsOfIndexFile}

@@ -7,7 +7,7 @@ ghost use Rattle.vc_index.specs.IndexMap.{HasConflict, index_entry};
 ghost use Rattle.vc_index.specs.Path.{IsPath};
 ghost use Rattle.vc_object.specs.Object.{IsObject};
 ghost use Rattle.vc_checkout.specs.Steps.{IsUntouched};
-ghost use Rattle.vc_node.specs.Staging.{MayStandAll, file_placed};
+ghost use Rattle.vc_local.specs.Staging.{MayStandAll, file_placed};
 ghost use Rattle.vc_commands.specs.Adding.{AddsInto, AreBlobs, AreNamed, IsNamed, IsOfFile, IsOfStoring, RefusesFiles, RefusesInto, StoresInto, file_at, files_at};
 ghost use Rattle.vc_commands.specs.Devices.{WritesEither};
 ghost use Rattle.vc_files.specs.Failures.{Wears};
@@ -20,7 +20,8 @@ use vc_arguments::FileMode;
 use vc_checkout::WorkTree;
 use vc_files::Files;
 use vc_index::Index;
-use vc_node::{CloneNode, Staged};
+use vc_local::Staged;
+use vc_node::CloneNode;
 use vc_object::{Kind, Mode, ObjectId};
 
 // Refuses a file of the work tree that may not be staged beside those of the index, or is too large; the index has its path then.

@@ -6,7 +6,7 @@ ghost use Rattle.vc_commands.specs.AtFault.{IsPlace, at_line, named, octal, of_h
 use crate::failure::Failure;
 use std::alloc::{AllocError, Global};
 use vc_history::HistoryFault;
-use vc_node::NodeFault;
+use vc_local::NodeFault;
 use vc_object::ObjectId;
 use vc_refs::RefFault;
 use vc_rev::{RevFault, SourceFault};

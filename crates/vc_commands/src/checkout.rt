@@ -1,7 +1,7 @@
 //! What `checkout` does to files and to a work tree: it looks at all that it needs before it writes.
 ghost use Rattle.std.specs.Prelude.{◌≡◌, ◌⊎◌, ℕ, List, Some, None, Ok, IfOk, IfErr, OnOk, IsSome, MatchOption, true, false};
 ghost use Rattle.std.specs.FinMap as maps;
-ghost use Rattle.vc_node.specs.Blames.{IsLocalHead, MayHead};
+ghost use Rattle.vc_local.specs.Blames.{IsLocalHead, MayHead};
 ghost use Rattle.vc_refs.specs.Refs.{refs};
 ghost use Rattle.vc_index.specs.TreeReading.{ListsAs};
 ghost use Rattle.vc_store.specs.Store.{objects};
@@ -20,7 +20,7 @@ use std::alloc::{AllocError, Global};
 use vc_checkout::WorkTree;
 use vc_files::Files;
 use vc_index::Index;
-use vc_node::{NodeFault, read_index, refuse_bad_commit, write_index};
+use vc_local::{NodeFault, read_index, refuse_bad_commit, write_index};
 use vc_object::{Kind, ObjectId};
 use vc_refname::RefName;
 use vc_refs::Head;

@@ -5,7 +5,7 @@ ghost use Rattle.vc_files.specs.declared.faults.Fault.TheVariants.{Memory};
 ghost use Rattle.vc_commands.specs.AtFault.{AppendsFailure};
 ghost use Rattle.vc_commands.specs.declared.failure.Failure.TheVariants.{Object, Store, History, Refs, Fault, Syntax, Revision, Node, Remote};
 ghost use Rattle.vc_rev.specs.declared.refusal.RevFault.TheVariants.{Source};
-ghost use Rattle.vc_node.specs.NodeFault.{of_index};
+ghost use Rattle.vc_local.specs.NodeFault.{of_index};
 ghost use Rattle.vc_commands.specs.Failure.{revision_status, source_status, store_status, node_status, remote_status, of_checkout};
 
 use crate::faults::Faults;
@@ -16,7 +16,7 @@ use vc_checkout::CheckoutFault;
 use vc_files::Fault;
 use vc_history::HistoryFault;
 use vc_index::IndexFault;
-use vc_node::NodeFault;
+use vc_local::NodeFault;
 use vc_object::ObjectFault;
 use vc_refname::{NameFault, NewNameError};
 use vc_refs::RefFault;

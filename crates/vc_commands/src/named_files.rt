@@ -14,7 +14,7 @@ use std::alloc::{AllocError, Global};
 use vc_checkout::WorkTree;
 use vc_files::Fault;
 use vc_index::{Index, IndexFault};
-use vc_node::NodeFault;
+use vc_local::NodeFault;
 use vc_object::{Mode, ObjectId};
 use vc_work_folder::is_own;
 

@@ -16,7 +16,7 @@ use std::alloc::{AllocError, Global};
 use std::io::Write;
 use vc_checkout::{Change, IndexChange, WorkChange, WorkTree};
 use vc_files::Files;
-use vc_node::read_index;
+use vc_local::read_index;
 use vc_object::{Kind, ObjectId};
 use vc_work_folder::is_own;
 

@@ -2,7 +2,8 @@
 use Rattle.std.specs.Prelude.{◌≡◌, ◌<◌, Option, Result, Ok, Err, option_map, length}
 use Rattle.vc_files.specs.declared.faults.Fault.{Fault as FilesFault}
 use Rattle.vc_files.specs.declared.faults.Fault.TheVariants as files
-use Rattle.vc_message.specs.Told.{SendsBytes, Quietly}
+use Rattle.vc_message.specs.Told.{SendsBytes}
+use Rattle.vc_rules.specs.Told.{Quietly}
 use Rattle.vc_model.specs.ExactWorld.{FusedWorld}
 use Rattle.vc_model.specs.Message.{Message}
 use Rattle.vc_model.specs.Node.{Answer, Failure, Reply}

@@ -1,15 +1,13 @@
 -- What a pack brings is stored, one object after another, in order of name.
-use Rattle.std.proofs.Common.{◌≡◌, ◌⊎◌, inl, inr, ℕ, Bool, true, false, cond, List, [], ◌∷◌, map, Option, Some, None, refl, sym, ap, ◌∙◌, subst, w8}
+use Rattle.std.proofs.Common.{◌≡◌, ◌⊎◌, inl, inr, ℕ, Bool, true, false, cond, List, [], ◌∷◌, map, Option, Some, None, refl, sym, ap, ◌∙◌, subst}
 use Rattle.std.specs.Prelude.{codes, unwrap_or}
 use Rattle.std.specs.Option.{option_or}
-use Rattle.std.proofs.Math.Facts.{Fits-of_lt}
 use Rattle.vc_fetch.specs.Pack.{is_object}
 use Rattle.vc_files.specs.FileMap.{FileMap, SameOutside}
-use Rattle.vc_object.proofs.Names.{byte_of, name_bytes, name_length}
 use Rattle.vc_graph.specs.Overlay.{with_carried}
-use Rattle.vc_object.proofs.IdLemmas.{id_eq-same, is_id-from_array}
+use Rattle.vc_object.proofs.IdLemmas.{id_eq-same}
 use Rattle.vc_object.specs.Decoding.{StoredObject, stored_object}
-use Rattle.vc_object.specs.Object.{object_bytes, object_name}
+use Rattle.vc_object.specs.Object.{object_name}
 use Rattle.vc_object.specs.ObjectId.{IsSortedByName, id_eq, is_id}
 use Rattle.vc_object.specs.ObjectMap.{ObjectMap}
 use Rattle.vc_object.specs.declared.id.ObjectId.{ObjectId}
@@ -17,6 +15,7 @@ use Rattle.vc_object.specs.declared.kind.Kind.{Kind}
 use Rattle.vc_pkt.specs.Carried.{stored_name}
 use Rattle.vc_pkt.specs.StreamObjectView.{AreNamed, stored}
 use Rattle.vc_pkt.specs.declared.carried.StreamObject.{StreamObject}
+use Rattle.vc_rules.proofs.SoundLemmas.{name_valid}
 use Rattle.vc_session.proofs.CarryingLemmas.{in_none, in_step, nothing_in, once, or_none}
 use Rattle.vc_session.proofs.CleanLemmas.{bad_objects}
 use Rattle.vc_session.proofs.DamageLemmas.{damaged_before}
@@ -79,9 +78,6 @@ module _ (all rest : List StoredObject) (o : StoredObject) where
         absent q false is e = sym (at q false is) ∙ e
 
 -- ---- a put makes no file bad
-pub name_valid : (kind : Kind) (body : List ℕ) → is_id (object_name kind body) ≡ true
-name_valid kind body = is_id-from_array (object_name kind body) (name_length (object_bytes kind body)) (λ i. Fits-of_lt {w = w8} (byte_of (object_name kind body).0 (name_bytes (object_bytes kind body)) i))
-
 pub put_bad : (old new : FileMap) (id : ObjectId) (kind : Kind) (body : List ℕ) → id ≡ object_name kind body → SameOutside (codes "objects/") old new → new ≡ with_file old (stored_object kind body) → objects new ≡ with_object (objects old) id (stored_object kind body) → MakesNoneBad old new
 put_bad old new id kind body named outside file made =
     bad_objects old new outside (damaged_before old new id (stored_object kind body) (subst (λ (n : ObjectId). is_id n ≡ true) (sym named) (name_valid kind body)) (sym named) file made)

@@ -51,8 +51,12 @@ unreadable TooLarge = inr refl
 pub refusal_number : (bytes : List ℕ) (n : ℕ) → IsUnread bytes n → IsUnreadable n
 refusal_number bytes n a = subst (λ k. IsUnreadable k) (sym a.number) (unreadable a.fault)
 
+-- bytes that are a message have no fault
+pub never_unread : (bytes : List ℕ) (text : MessageText) (n : ℕ) → IsSpelledBy SpellsMessage text bytes → IsUnread bytes n → ⊥
+never_unread bytes text n (lines, each, spells) unread = no_fault any_step beginning bytes text lines each (any_given text lines spells) unread.fault unread.first
+
 pub never_both : (bytes : List ℕ) (m : Message) (n : ℕ) → Reads bytes m → IsUnread bytes n → ⊥
-never_both bytes m n a b = no_fault any_step beginning bytes a.text a.spelled.0 a.spelled.1 (any_given a.text a.spelled.0 a.spelled.2) b.fault b.first
+never_both bytes m n a b = never_unread bytes a.text n a.spelled b
 
 -- ---- one or the other
 abbrev pub ReadOr : List ℕ → Type 0

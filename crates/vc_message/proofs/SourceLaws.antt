@@ -1,12 +1,12 @@
 -- Reads of a source, one after another: what was taken of its bytes, and how often it failed.
-use Rattle.std.proofs.Common.{◌≡◌, ℕ, List, Some, None, Result, Ok, Err, refl, sym, ap, ◌∙◌}
+use Rattle.std.proofs.Common.{◌≡◌, inl, inr, ℕ, List, Some, None, Result, Ok, Err, refl, sym, ap, ◌∙◌}
 use Rattle.std.specs.Io.KnownBytes.{Consumes, Keeps}
 use Rattle.std.specs.Prelude.{IsErrOf, Option}
 use Rattle.vc_pkt.specs.declared.fault.PktError.{PktError}
 use Rattle.vc_pkt.specs.declared.fault.PktError.TheVariants as errors
 use Rattle.vc_pkt.specs.declared.fault.PktFault.{PktFault}
 use Rattle.vc_message.specs.IncomingFault.{of_pkt}
-use Rattle.vc_message.specs.Source.{TellsFailures, one_more}
+use Rattle.vc_message.specs.Source.{TellsFailures, TellsLoss, one_more}
 use Rattle.vc_message.specs.declared.incoming_fault.IncomingFault.{IncomingFault}
 use Rattle.vc_message.specs.declared.incoming_fault.IncomingFault.TheVariants.{Failed, Memory, Unread}
 
@@ -70,3 +70,14 @@ module _ {S : Type 0} {failed : S → ℕ} {can_fail : S → Type 0} where
   pub tells_error : {old new : S} {T U E G : Type 0} {e lost : E} {f gone : G} → TellsFailures failed can_fail old new (IsErrOf {T = T} {E = E} (Err e) lost) → (e ≡ lost → f ≡ gone) → (f ≡ gone → e ≡ lost)
       → TellsFailures failed can_fail old new (IsErrOf {T = U} {E = G} (Err f) gone)
   tells_error call to from = tells_as call (λ told. ap Err (to (same_error told))) (λ told. ap Err (from (same_error told)))
+
+  -- ---- a node that may fail by itself, too
+  -- the same call, with its end told in other words
+  pub loss_as : {old new : S} {P Q R U : Type 0} → TellsLoss failed can_fail old new P R → (P → Q) → (Q → P) → (R → U) → TellsLoss failed can_fail old new Q U
+  loss_as (inl call) to from fault = inl (tells_as call to from)
+  loss_as (inr (came, call)) to from fault = inr (fault came, call)
+
+  -- a call in which the reader doesn't fail, and then another
+  pub loss_then : {old mid new : S} {P Q R : Type 0} → TellsFailures failed can_fail old mid P → (P → ⊥) → TellsLoss failed can_fail mid new Q R → TellsLoss failed can_fail old new Q R
+  loss_then first never (inl call) = inl (tells_then first never call)
+  loss_then first never (inr (came, call)) = inr (came, tells_then first never call)

@@ -1,5 +1,5 @@
 -- What a message of bytes is to the machine, and by which number it refuses bytes that are none.
-use Rattle.std.specs.Prelude.{◌≡◌, ◌≢◌, ◌<◌, ◌^◌, ◌⊎◌, ℕ, List, map, Option, Some, None, Result, Ok, Err, option_map, false}
+use Rattle.std.specs.Prelude.{◌≡◌, ◌≢◌, ◌<◌, ◌^◌, ◌⊎◌, ◌++◌, ℕ, List, map, Option, Some, None, Result, Ok, Err, option_map, false}
 use Rattle.std.specs.FinMap.{get}
 use Rattle.std.specs.List.{AllByRecursion, flat_map}
 use Rattle.vc_format.specs.Git.{bytes_of_id}
@@ -88,6 +88,10 @@ pub record Reads (bytes : List ℕ) (m : Message) : Type 0 where
   pub text : MessageText
   pub is : TextOf m text
   pub spelled : IsSpelledBy SpellsMessage text bytes
+
+-- it is so of the message, and of what is behind it, where the reader's bytes begin with one
+abbrev pub FirstRead : Option (List ℕ) → (Message → List ℕ → Type 0) → Type 0
+FirstRead before IsSo = (m : Message) (bytes rest : List ℕ) → before ≡ Some (bytes ++ rest) → Reads bytes m → IsSo m rest
 
 -- the message is written as the bytes, and they are read as it
 pub record IsWritten (m : Message) (bytes : List ℕ) : Type 0 where

@@ -1,5 +1,5 @@
 -- What a call does to a source of bytes: how often the source has failed, counted up to the greatest u64, and whether it can fail.
-use Rattle.std.specs.Prelude.{◌≡◌, ◌+◌, ℕ, min}
+use Rattle.std.specs.Prelude.{◌≡◌, ◌⊎◌, ◌+◌, ℕ, min}
 use Rattle.vc_files.specs.Failures.{greatest_count}
 
 -- the count after one more failure
@@ -13,6 +13,11 @@ pub record TellsFailures {S : Type 0} (failed : S → ℕ) (can_fail : S → Typ
   pub none : (IsFailure → ⊥) → failed new ≡ failed old
   pub could : IsFailure → can_fail old
   pub calm : can_fail new → can_fail old
+
+-- What a call of a node tells of a reader that fails: it answers by that once the reader has failed, and never else, unless a fault of
+-- the node's own came behind it.
+abbrev pub TellsLoss : {S : Type 0} → (S → ℕ) → (S → Type 0) → S → S → Type 0 → Type 0 → Type 0
+TellsLoss failed can_fail old new IsLost IsFault = TellsFailures failed can_fail old new IsLost ⊎ (IsFault × TellsFailures failed can_fail old new (Unit {0}))
 
 -- a reader, and how often it has failed
 pub record Counted (R : Type 0) : Type 0 where

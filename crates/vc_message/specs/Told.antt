@@ -1,5 +1,5 @@
--- What a call of a node tells, as an answer of the machine and what it sends.
-use Rattle.std.specs.Prelude.{◌≡◌, ℕ, List, Option, Some, None}
+-- What a call of a node tells that sends a message, as an answer of the machine and what it sends.
+use Rattle.std.specs.Prelude.{◌≡◌, ℕ, List, Option, Some}
 use Rattle.vc_message.specs.Machine.{IsWritten}
 use Rattle.vc_model.specs.Message.{Message}
 use Rattle.vc_model.specs.Node.{Answer}
@@ -12,8 +12,3 @@ pub record SendsBytes (bytes : List ℕ) (a : Answer) (sends : Option Message) :
   pub written : IsWritten message bytes
   pub answer : a ≡ Did Sends
   pub sent : sends ≡ Some message
-
--- nothing is sent
-pub record Quietly (b a : Answer) (sends : Option Message) : Type 0 where
-  pub answer : a ≡ b
-  pub sent : sends ≡ None

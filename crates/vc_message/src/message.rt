@@ -14,6 +14,9 @@ use vc_fetch::{Advert, Error, List, Pack, Want};
 use vc_pkt::{PktError, read_message};
 use vc_push::{Push, Report};
 
+/// What is printed where a message of this kind isn't awaited.
+pub const NOTHING_AWAITED: &str = "91 NothingAwaited";
+
 /// A message. own: git has no first line that tells the kind, since the place in the conversation does; here each kind's first
 /// line is no other's.
 #[derive(Drop)]

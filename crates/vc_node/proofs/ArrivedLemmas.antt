@@ -29,16 +29,15 @@ use Rattle.vc_session.specs.Clean.{MakesNoneBad}
 use Rattle.vc_session.specs.Quarantine.{IsDropped, quarantine_folder}
 use Rattle.vc_store.specs.declared.faults.StoreFault.{StoreFault}
 use Rattle.vc_store.specs.declared.faults.StoreFault.TheVariants as store
-use Rattle.vc_node.proofs.CloneCallLemmas.{held_content}
+use Rattle.vc_local.proofs.BesideLemmas.{SameBeside, beside_by, clean_on, held_content, spells_on}
 use Rattle.vc_node.proofs.ExchangingLemmas.{pack_failed, pack_taken}
-use Rattle.vc_node.proofs.ReceivingClone.{SameBeside, beside_by, clean_on, spells_on}
 use Rattle.vc_node.proofs.ReceivingFaults.{writes_as as clone_writes}
 use Rattle.vc_message.specs.Coming.{TakesPart}
 use Rattle.vc_node.specs.Arriving.{ComesTo, IsPackEnded, IsPackLeft, IsPackTaken, IsStopped, all_of_it, by_bytes, by_node, by_reader, not_all, stopped, whole}
 use Rattle.vc_node.specs.Awaited.{AwaitedText, a_pack, an_advert, nothing}
 use Rattle.vc_node.specs.CloneCalls.{AnswersUp}
 use Rattle.vc_node.specs.CloneFaults.{IsOfDevice as IsCloneDevice, of_device, of_exchange}
-use Rattle.vc_node.specs.Machine.{HoldsNode}
+use Rattle.vc_local.specs.Machine.{HoldsNode}
 use Rattle.vc_node.specs.ReceiveFault.{TellsDevice}
 use Rattle.vc_node.specs.Receipts.{IsRefusedMessage}
 use Rattle.vc_node.specs.declared.clone_fault.CloneFault.{CloneFault}

@@ -21,7 +21,7 @@ use Rattle.vc_pkt.specs.declared.fault.PktFault.TheVariants.{BadRecord}
 use Rattle.vc_push.specs.Push.{carry}
 use Rattle.vc_session.specs.Arrival.{HasArrived}
 use Rattle.vc_message.specs.Coming.{TakesPart}
-use Rattle.vc_node.proofs.FaultLemmas.{refusal_calm, writes_by}
+use Rattle.vc_local.proofs.FaultLemmas.{refusal_calm, writes_by}
 use Rattle.vc_node.specs.Arriving.{IsStopped, by_bytes, by_node, by_reader}
 use Rattle.vc_node.specs.CloneFaults.{of_device}
 use Rattle.vc_node.specs.ReceiveFault.{IsOfDevice, TellsDevice, is_fault, of_incoming}

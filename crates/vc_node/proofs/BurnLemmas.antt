@@ -50,16 +50,16 @@ use Rattle.vc_rules.proofs.GitLaws.{git_rules}
 use Rattle.vc_node.specs.Burning.{CallsBurn, ExchangesBurn, PacksBurn, SoundCallsBurn}
 use Rattle.vc_node.specs.CloneCalls.{ReceivedAs, SentAs}
 use Rattle.vc_node.specs.CloneFaults.{IsOfDevice as IsOfClonesDevice, TellsDevice as CloneTellsDevice, fault_answer as clone_answer}
-use Rattle.vc_node.specs.Machine.{Spells, done_answer, fault_answer, failure_of, machine_head, made_answer, ref_answer, store_answer}
-use Rattle.vc_node.specs.NodeFault.{IsOfDevice, TellsDevice}
-use Rattle.vc_node.specs.Shown.{Shown, shown}
-use Rattle.vc_node.specs.Told.{FoundAs, RestartedAs}
+use Rattle.vc_local.specs.Machine.{Spells, done_answer, fault_answer, failure_of, machine_head, made_answer, ref_answer, store_answer}
+use Rattle.vc_local.specs.NodeFault.{IsOfDevice, TellsDevice}
+use Rattle.vc_local.specs.Shown.{Shown, shown}
+use Rattle.vc_local.specs.Told.{FoundAs, RestartedAs}
 use Rattle.vc_node.specs.declared.clone_fault.CloneFault.{CloneFault}
 use Rattle.vc_node.specs.declared.clone_fault.CloneFault.TheVariants as of_clone
 use Rattle.vc_node.specs.declared.exchanging.Received.{Received}
 use Rattle.vc_node.specs.declared.exchanging.Received.TheVariants.{Moved, Reported, Send}
-use Rattle.vc_node.specs.declared.fault.NodeFault.{NodeFault}
-use Rattle.vc_node.specs.declared.fault.NodeFault.TheVariants.{Store, Ref}
+use Rattle.vc_local.specs.declared.fault.NodeFault.{NodeFault}
+use Rattle.vc_local.specs.declared.fault.NodeFault.TheVariants.{Store, Ref}
 
 -- ---- the place of a path
 

@@ -4,7 +4,8 @@ use Rattle.std.proofs.Common.{◌≡◌, ◌≢◌, ℕ, Bool, true, false, List
 use Rattle.vc_files.specs.FileMap.{FileMap}
 use Rattle.vc_files.specs.declared.faults.Fault.{Fault as FilesFault}
 use Rattle.vc_message.specs.Machine.{IsWritten}
-use Rattle.vc_message.specs.Told.{Quietly, SendsBytes}
+use Rattle.vc_rules.specs.Told.{Quietly}
+use Rattle.vc_message.specs.Told.{SendsBytes}
 use Rattle.vc_model.specs.Clone.{Awaited, CloneNode, sending}
 use Rattle.vc_model.specs.CloneCall.{CloneAnswers, CloneCall, CloneObeys, CloneRefuses}
 use Rattle.vc_model.specs.CloneCall.CloneCall.{Open}
@@ -20,12 +21,8 @@ use Rattle.vc_rules.specs.OpenPushes.{HoldsContent}
 use Rattle.vc_node.specs.Awaited.{AwaitedText, IsAwaited}
 use Rattle.vc_node.specs.CloneCalls.{AnswersClone}
 use Rattle.vc_node.specs.CloneFaults.{fault_answer, of_device}
-use Rattle.vc_node.specs.Machine.{HoldsNode, Spells, failure_of}
-use Rattle.vc_node.specs.Shown.{shown}
-
--- what is shown of a repository is its content
-pub held_content : (content : FileMap) (r : Repository) → Spells (shown content) r → HoldsContent content r
-held_content content r spells = record { objects_are = spells.objects; refs_are = spells.refs }
+use Rattle.vc_local.specs.Machine.{HoldsNode, Spells, failure_of}
+use Rattle.vc_local.specs.Shown.{shown}
 
 -- some node is held then, and where the node before was sound, it is the machine's
 abbrev pub Leads : CloneNode → CloneCall → FileMap → AwaitedText → Bool → (Answer → Option Message → Type 0) → Type 0

@@ -5,7 +5,7 @@ use Rattle.vc_files.specs.Failures.{Wears}
 use Rattle.vc_files.specs.FileMap.{FileMap}
 use Rattle.vc_files.specs.declared.faults.Fault.TheVariants.{Device}
 use Rattle.vc_format.specs.Git.{bytes_of_id}
-use Rattle.vc_message.specs.Told.{Quietly}
+use Rattle.vc_rules.specs.Told.{Quietly}
 use Rattle.vc_model.specs.Clone.{Awaited, CloneNode}
 use Rattle.vc_model.specs.CloneCall.{CloneAnswers}
 use Rattle.vc_model.specs.CloneCall.CloneCall.{Asks}
@@ -23,15 +23,15 @@ use Rattle.vc_rev.specs.declared.refusal.SourceFault.TheVariants.{BadIndex, BadR
 use Rattle.vc_rules.specs.Values.{DenotesAt}
 use Rattle.vc_store.specs.declared.faults.StoreFault.TheVariants as store
 use Rattle.vc_node.proofs.CloneCallLemmas.{Leads, as_told, fault_leads}
-use Rattle.vc_node.proofs.FaultLemmas.{source_alone}
-use Rattle.vc_node.proofs.LookLemmas.{looks_told}
-use Rattle.vc_node.proofs.ValueLemmas.{values_are_told}
+use Rattle.vc_local.proofs.FaultLemmas.{source_alone}
+use Rattle.vc_local.proofs.LookLemmas.{looks_told}
+use Rattle.vc_local.proofs.ValueLemmas.{values_are_told}
 use Rattle.vc_node.specs.Awaited.{AwaitedText, IsAwaited}
 use Rattle.vc_node.specs.CloneCalls.{AnswersClone}
 use Rattle.vc_node.specs.CloneFaults.{IsOfDevice, fault_answer, is_fault, of_rev}
-use Rattle.vc_node.specs.Machine.{HoldsNode}
-use Rattle.vc_node.specs.Told.{FoundAs}
-use Rattle.vc_node.specs.Values.{TellsValue, is_rev_fault, rev_answer, up_after_value}
+use Rattle.vc_local.specs.Machine.{HoldsNode}
+use Rattle.vc_local.specs.Told.{FoundAs}
+use Rattle.vc_local.specs.Values.{TellsValue, is_rev_fault, rev_answer, up_after_value}
 use Rattle.vc_node.specs.declared.clone_fault.CloneFault.{CloneFault}
 
 -- ---- a fault of an expression, as the clone tells it

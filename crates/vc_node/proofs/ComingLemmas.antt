@@ -22,11 +22,12 @@ use Rattle.vc_session.specs.Clean.{MakesNoneBad}
 use Rattle.vc_session.specs.Quarantine.{IsDropped, quarantine_folder}
 use Rattle.vc_node.proofs.ArrivedLemmas.{node_beside}
 use Rattle.vc_node.proofs.CloneCallLemmas.{down_clone, fault_leads}
-use Rattle.vc_node.proofs.ReceivingClone.{clean_by, unread_leads, up_answers}
+use Rattle.vc_local.proofs.BesideLemmas.{clean_by}
+use Rattle.vc_node.proofs.ReceivingClone.{unread_leads, up_answers}
 use Rattle.vc_message.specs.Coming.{Came, IsCome, TakesAll, a_message, cut_short, lost, no_message, nothing_came}
 use Rattle.vc_node.specs.Arriving.{ComesTo, IsCallOf, IsKnown, IsStopped, IsTold, KeepsHeld, ReceivesFrom, ReceivesUp, ToldAs, by_bytes, by_node, by_reader, down_told, some_told, stopped, whole}
 use Rattle.vc_node.specs.Awaited.{AwaitedText}
-use Rattle.vc_node.specs.Clean.{KeepsClean}
+use Rattle.vc_local.specs.Clean.{KeepsClean}
 use Rattle.vc_node.specs.CloneCalls.{AnswersClone, AnswersUp, ReceivedAs}
 use Rattle.vc_node.specs.CloneFaults.{of_device}
 use Rattle.vc_node.specs.ReceiveFault.{TellsDevice, UnlessFault, is_fault, told_of, up_after}
@@ -34,7 +35,7 @@ use Rattle.vc_node.specs.Receipts.{IsRefusedMessage}
 use Rattle.vc_node.specs.declared.clone_fault.CloneFault.{CloneFault}
 use Rattle.vc_node.specs.declared.clone_fault.CloneFault.TheVariants as clone
 use Rattle.vc_node.specs.declared.exchanging.Received.{Received}
-use Rattle.vc_node.specs.declared.fault.NodeFault.TheVariants.{Down}
+use Rattle.vc_local.specs.declared.fault.NodeFault.TheVariants.{Down}
 use Rattle.vc_node.specs.declared.receive_fault.ReceiveFault.{ReceiveFault}
 use Rattle.vc_node.specs.declared.receive_fault.ReceiveFault.TheVariants.{Node, ReadFailed}
 

@@ -38,13 +38,14 @@ use Rattle.vc_rules.specs.Git.{git}
 use Rattle.vc_rules.specs.OpenPushes.{HoldsContent}
 use Rattle.vc_session.specs.Clean.{MakesNoneBad}
 use Rattle.vc_store.specs.Store.{objects}
-use Rattle.vc_node.proofs.CloneCallLemmas.{Leads, held_content, refused_leads}
-use Rattle.vc_node.proofs.ReceivingClone.{SameBeside, beside_refs, cut_leads, head_held, received_leads, up_answers}
+use Rattle.vc_node.proofs.CloneCallLemmas.{Leads, refused_leads}
+use Rattle.vc_local.proofs.BesideLemmas.{SameBeside, held_content}
+use Rattle.vc_node.proofs.ReceivingClone.{beside_refs, cut_leads, head_held, received_leads, up_answers}
 use Rattle.vc_node.proofs.ReceivingFaults.{IsFailing, advert_fails, files_fail, incomplete_alone, pack_fails}
 use Rattle.vc_node.specs.Awaited.{AwaitedText, IsAwaited, a_pack, an_advert, awaited_text, nothing}
 use Rattle.vc_node.specs.CloneCalls.{AnswersUp, MayOr, ReceivedAs}
 use Rattle.vc_node.specs.CloneFaults.{of_device, of_exchange, up_after}
-use Rattle.vc_node.specs.Machine.{HoldsNode, failure_of}
+use Rattle.vc_local.specs.Machine.{HoldsNode, failure_of}
 use Rattle.vc_node.specs.Receipts.{IsOfMessage, IsRefusedMessage}
 use Rattle.vc_node.specs.declared.awaited.Awaited.{Awaited as Waiting}
 use Rattle.vc_node.specs.declared.awaited.Awaited.TheVariants as of

@@ -1,7 +1,5 @@
 -- What a clone's calls leave of its objects: each stays. For what is kept of the tracking refs' reach.
 use Rattle.std.proofs.Common.{◌≡◌, ⊎_elim, List, Some, refl, ap, ◌∙◌, map, ◌++◌, ◌∷◌, [], ℕ}
-use Rattle.std.specs.Prelude.{codes}
-use Rattle.std.specs.FinMap as files
 use Rattle.vc_pack.proofs.KeepsLemmas.{keeps_map, keeps_same, keeps_then, with_object-keeps, with_objects-keeps}
 use Rattle.vc_exchange.specs.Storing.{KeepsGood}
 use Rattle.vc_pack.specs.Reached.{KeepsObjects}
@@ -15,11 +13,10 @@ use Rattle.vc_object.specs.declared.kind.Kind.TheVariants as kinds
 use Rattle.vc_refs.specs.declared.heads.Head.{Head}
 use Rattle.vc_refs.specs.declared.heads.Head.TheVariants as heads
 use Rattle.vc_store.specs.Store.{objects, with_objects}
-use Rattle.vc_node.proofs.ShownLemmas.{shown_index}
 use Rattle.vc_session.proofs.CleanLemmas.{bad_same, bad_then}
-use Rattle.vc_node.specs.Commit.{IsCommitted, WritesCommit, made_body, moved}
-use Rattle.vc_node.specs.Making.{IsCut, LeftByCommit, StoresTrees}
-use Rattle.vc_node.specs.Shown.{Shown, shown, with_index_shown}
+use Rattle.vc_local.specs.Commit.{IsCommitted, WritesCommit, made_body, moved}
+use Rattle.vc_local.specs.Making.{IsCut, LeftByCommit, StoresTrees}
+use Rattle.vc_local.specs.Shown.{Shown, shown}
 
 -- what is shown tells the objects
 pub keeps_shown : (old new : FileMap) (s : Shown) → shown new ≡ s → s.objects ≡ objects old → KeepsObjects old new
@@ -28,9 +25,6 @@ keeps_shown old new s is same = keeps_map old new (ap (λ (x : Shown). x.objects
 -- objects that are put leave those that are there
 pub keeps_puts : (old new : FileMap) (puts : List StoredObject) → objects new ≡ with_objects (objects old) puts → KeepsObjects old new
 keeps_puts old new puts is = record { at = λ id o there. ap (λ (m : ObjectMap). m id) is ∙ with_objects-keeps (objects old) puts id o there }
-
-pub keeps_index : (old mid new : FileMap) (text : List ℕ) → mid ≡ old → new ≡ files.insert mid (codes "index") text → KeepsObjects old new
-keeps_index old mid new text same put = keeps_then old mid new (keeps_same old mid same) (keeps_shown mid new (with_index_shown (shown mid) text) (shown_index mid new text put) refl)
 
 -- ---- an exchange
 pub good_same : (old new : FileMap) → new ≡ old → KeepsGood old new

@@ -2,11 +2,11 @@
 use Rattle.std.proofs.Common.{◌≡◌, ℕ, false, Option, Some, None, Result, Ok, Err, inl, inr, refl, sym, ap, subst}
 use Rattle.std.specs.Prelude.{IsErrOf}
 use Rattle.vc_files.specs.declared.faults.Fault.{Fault as FilesFault}
-use Rattle.vc_message.proofs.SourceLaws.{memory_is_no_failure, ok_is_no_error, tells_as, tells_not, tells_then, unread_is_no_failure}
-use Rattle.vc_message.specs.Source.{TellsFailures}
+use Rattle.vc_message.proofs.SourceLaws.{loss_as, memory_is_no_failure, ok_is_no_error, tells_as, tells_not, unread_is_no_failure}
+use Rattle.vc_message.specs.Source.{TellsFailures, TellsLoss}
 use Rattle.vc_message.specs.declared.incoming_fault.IncomingFault.{IncomingFault}
 use Rattle.vc_message.specs.declared.incoming_fault.IncomingFault.TheVariants as incoming
-use Rattle.vc_node.specs.Arriving.{TellsLoss, down_told, some_told}
+use Rattle.vc_node.specs.Arriving.{down_told, some_told}
 use Rattle.vc_node.specs.CloneFaults.{of_device}
 use Rattle.vc_node.specs.ReceiveFault.{of_incoming, up_after}
 use Rattle.vc_node.specs.declared.clone_fault.CloneFault.{CloneFault}
@@ -28,16 +28,6 @@ loss_came incoming.Failed is = refl
 loss_came (incoming.Unread fault) is = absurd (cc is)
 
 module _ {S : Type 0} {failed : S → ℕ} {can_fail : S → Type 0} where
-  -- the same call, with its end told in other words
-  pub loss_as : {old new : S} {P Q R U : Type 0} → TellsLoss failed can_fail old new P R → (P → Q) → (Q → P) → (R → U) → TellsLoss failed can_fail old new Q U
-  loss_as (inl call) to from fault = inl (tells_as call to from)
-  loss_as (inr (came, call)) to from fault = inr (fault came, call)
-
-  -- a call in which the reader doesn't fail, and then another
-  pub loss_then : {old mid new : S} {P Q R : Type 0} → TellsFailures failed can_fail old mid P → (P → ⊥) → TellsLoss failed can_fail mid new Q R → TellsLoss failed can_fail old new Q R
-  loss_then first never (inl call) = inl (tells_then first never call)
-  loss_then first never (inr (came, call)) = inr (came, tells_then first never call)
-
   module _ {old new : S} where
     -- the files fail while the quarantine is emptied, whatever ended the message
     pub loss_dropped : {T U : Type 0} (e : ReceiveFault) (f : FilesFault) → TellsFailures failed can_fail old new (IsErrOf {T = T} (Err e) ReadFailed)

@@ -10,14 +10,14 @@ use Rattle.vc_model.specs.Node.Reply.{Stored}
 use Rattle.vc_model.specs.Question.Question.{PackRefs}
 use Rattle.vc_refs.specs.declared.faults.RefFault.TheVariants as ref
 use Rattle.vc_node.specs.Awaited.{AwaitedText}
-use Rattle.vc_node.specs.Blames.{BlamesPacking}
-use Rattle.vc_node.specs.Clean.{IsClean}
+use Rattle.vc_local.specs.Blames.{BlamesPacking}
+use Rattle.vc_local.specs.Clean.{IsClean}
 use Rattle.vc_node.specs.CloneCalls.{AnswersClone, MayOr}
-use Rattle.vc_node.specs.Machine.{Spells, failure_of, live_of, up_after}
-use Rattle.vc_node.specs.Shown.{Shown, shown}
-use Rattle.vc_node.specs.Told.{RestartedAs}
-use Rattle.vc_node.specs.declared.fault.NodeFault.{NodeFault}
-use Rattle.vc_node.specs.declared.fault.NodeFault.TheVariants.{BadIndex, BadPath, Down, Missing, NotACommit, PathConflict, Ref, Store, WrongEntry}
+use Rattle.vc_local.specs.Machine.{Spells, failure_of, live_of, up_after}
+use Rattle.vc_local.specs.Shown.{Shown, shown}
+use Rattle.vc_local.specs.Told.{RestartedAs}
+use Rattle.vc_local.specs.declared.fault.NodeFault.{NodeFault}
+use Rattle.vc_local.specs.declared.fault.NodeFault.TheVariants.{BadIndex, BadPath, Down, Missing, NotACommit, PathConflict, Ref, Store, WrongEntry}
 
 module _ (old new : FileMap) (waits : AwaitedText) (kept : shown new ≡ shown old) (clean : IsClean old → IsClean new) where
   pub packed_answers : AnswersClone (Asks PackRefs) (RestartedAs (Ok tt)) old new waits waits true true

@@ -27,15 +27,16 @@ use Rattle.vc_refs.specs.declared.heads.Head.TheVariants as heads
 use Rattle.vc_refs.proofs.LayeredListingLemmas.{head_of-same}
 use Rattle.vc_rules.specs.OpenPushes.{HoldsContent}
 use Rattle.vc_session.specs.Clean.{MakesNoneBad}
+use Rattle.vc_local.proofs.BesideLemmas.{SameBeside, beside_by, clean_on, spells_on}
 use Rattle.vc_node.proofs.CloneCallLemmas.{Leads}
 use Rattle.vc_node.specs.Awaited.{AwaitedText, IsAwaited}
-use Rattle.vc_node.specs.Clean.{IsClean, KeepsClean}
+use Rattle.vc_local.specs.Clean.{IsClean, KeepsClean}
 use Rattle.vc_node.specs.CloneCalls.{AnswersUp, MayOr, ReceivedAs}
 use Rattle.vc_node.specs.CloneFaults.{up_after}
-use Rattle.vc_node.specs.IndexFile.{index_bytes}
-use Rattle.vc_node.specs.Machine.{HoldsNode, Spells, machine_head}
+use Rattle.vc_local.specs.IndexFile.{index_bytes}
+use Rattle.vc_local.specs.Machine.{HoldsNode, Spells, machine_head}
 use Rattle.vc_node.specs.Receipts.{IsOfMessage}
-use Rattle.vc_node.specs.Shown.{shown}
+use Rattle.vc_local.specs.Shown.{shown}
 use Rattle.vc_node.specs.declared.clone_fault.CloneFault.{CloneFault}
 use Rattle.vc_node.specs.declared.exchanging.Received.{Received}
 
@@ -53,27 +54,6 @@ head_held content r spells =
     ap (λ (h : Option Head). option_map bytes_of_id (head_value (refs content) h)) spells.head_shown
     ∙ (value_by content r spells spells.head ∙ ap (value_of r) (sym spells.head_is))
 
--- HEAD and the index are the same
-pub record SameBeside (old new : FileMap) : Type 0 where
-  pub head : head_of new ≡ head_of old
-  pub index : index_bytes new ≡ index_bytes old
-
-pub spells_on : (old new : FileMap) (r after : Repository) → Spells (shown old) r → HoldsContent new after → SameBeside old new → after.head ≡ r.head → after.index ≡ r.index → Spells (shown new) after
-spells_on old new r after spells content beside head index = record {
-  objects = content.objects_are;
-  refs = content.refs_are;
-  head = spells.head;
-  head_shown = beside.head ∙ spells.head_shown;
-  head_is = head ∙ spells.head_is;
-  map = spells.map;
-  map_sound = spells.map_sound;
-  map_shown = beside.index ∙ spells.map_shown;
-  index = λ p. ap (λ (i : Index). get i p) index ∙ spells.index p;
-}
-
-pub beside_by : (old new : FileMap) → files.get new (codes "HEAD") ≡ files.get old (codes "HEAD") → files.get new (codes "index") ≡ files.get old (codes "index") → SameBeside old new
-beside_by old new head index = record { head = head_of-same old new head; index = ap (λ found. unwrap_or found []) index }
-
 pub beside_refs : (old new : FileMap) → SameOutside (codes "refs/") old new → SameBeside old new
 beside_refs old new same = beside_by old new (same.at (codes "HEAD") refl) (same.at (codes "index") refl)
 
@@ -86,13 +66,6 @@ nothing_beside content = record { at = λ path object ref. refl }
 
 pub refs_beside : (old new : FileMap) → SameOutside (codes "refs/") old new → KeepsBeside old new
 refs_beside old new same = record { at = λ path object ref. same.at path ref }
-
-pub clean_on : (old new : FileMap) → MakesNoneBad old new → IsClean old → IsClean new
-clean_on old new bad clean = record { objects = λ id damaged. clean.objects id (bad.objects id damaged); refs = λ path wrong. clean.refs path (bad.refs path wrong) }
-
--- what is made bad by nothing is kept clean
-pub clean_by : (old new : FileMap) → MakesNoneBad old new → KeepsClean old new
-clean_by old new bad = record { damage = record { before = bad.objects }; refs = bad.refs; packed = record { at = λ n other. ap (λ m. packed_at m n) bad.packed } }
 
 -- ---- what a held node leads to
 module _ (old : FileMap) (waits : AwaitedText) (awaited : Awaited) (n : CloneNode) (is : IsAwaited waits awaited) (held : HoldsNode old true awaited n) where

@@ -19,11 +19,11 @@ use Rattle.vc_refs.specs.declared.faults.RefFault.TheVariants as refs
 use Rattle.vc_refs.specs.declared.heads.Head.{Head}
 use Rattle.vc_store.specs.declared.faults.StoreFault.{StoreFault}
 use Rattle.vc_store.specs.declared.faults.StoreFault.TheVariants as store
-use Rattle.vc_node.proofs.FaultLemmas.{refs_calm, store_calm, told_from, writes_by}
-use Rattle.vc_node.proofs.RefusalLemmas.{no_head, of_head_value}
-use Rattle.vc_node.specs.Clean.{IsClean}
+use Rattle.vc_local.proofs.FaultLemmas.{refs_calm, store_calm, told_from, writes_by}
+use Rattle.vc_local.proofs.RefusalLemmas.{no_head, of_head_value}
+use Rattle.vc_local.specs.Clean.{IsClean}
 use Rattle.vc_node.specs.CloneFaults.{IsOfDevice, TellsDevice, of_device, of_exchange}
-use Rattle.vc_node.specs.NodeFault.{refused_by_refs, refused_by_store}
+use Rattle.vc_local.specs.NodeFault.{refused_by_refs, refused_by_store}
 use Rattle.vc_node.specs.Receipts.{IsOfMessage}
 use Rattle.vc_node.specs.declared.clone_fault.CloneFault.{CloneFault}
 use Rattle.vc_node.specs.declared.clone_fault.CloneFault.TheVariants.{Node}

@@ -6,16 +6,17 @@ use Rattle.vc_files.specs.Failures.{Wears, Writes}
 use Rattle.vc_model.specs.CloneCall.{CloneCall}
 use Rattle.vc_session.specs.Clean.{MakesNoneBad}
 use Rattle.vc_node.proofs.CloneCallLemmas.{as_told}
-use Rattle.vc_node.proofs.ReceivingClone.{clean_by, may_up}
+use Rattle.vc_local.proofs.BesideLemmas.{clean_by}
+use Rattle.vc_node.proofs.ReceivingClone.{may_up}
 use Rattle.vc_node.specs.Awaited.{AwaitedText}
-use Rattle.vc_node.specs.Clean.{KeepsClean}
+use Rattle.vc_local.specs.Clean.{KeepsClean}
 use Rattle.vc_node.specs.CloneCalls.{AnswersClone, AnswersUp, MayOr, ReceivedAs}
 use Rattle.vc_node.specs.CloneFaults.{TellsDevice, up_after}
 use Rattle.vc_node.specs.Receipts.{IsOfMessage}
 use Rattle.vc_node.specs.declared.clone_fault.CloneFault.{CloneFault}
 use Rattle.vc_node.specs.declared.clone_fault.CloneFault.TheVariants.{Node}
 use Rattle.vc_node.specs.declared.exchanging.Received.{Received}
-use Rattle.vc_node.specs.declared.fault.NodeFault.TheVariants.{Down}
+use Rattle.vc_local.specs.declared.fault.NodeFault.TheVariants.{Down}
 
 -- the files and what is awaited are those after the call, and the result is told as it came
 module _ {D : Type 0} (content : D → FileMap) (old mid new : D) (waits mids after : AwaitedText) (was_up is_up : Bool) (came told : Result Received CloneFault) (is : told ≡ came) (files : new ≡ mid) (same : after ≡ mids) where

@@ -12,7 +12,8 @@ use Rattle.vc_files.specs.FileMap.{FileMap}
 use Rattle.vc_files.specs.declared.faults.Fault.TheVariants.{Memory}
 use Rattle.vc_graph.specs.declared.fault.GraphFault.TheVariants as graph
 use Rattle.vc_message.specs.Machine.{IsWritten}
-use Rattle.vc_message.specs.Told.{Quietly, SendsBytes}
+use Rattle.vc_rules.specs.Told.{Quietly}
+use Rattle.vc_message.specs.Told.{SendsBytes}
 use Rattle.vc_model.specs.Clone.{Awaited, CloneNode, IsItemId}
 use Rattle.vc_model.specs.Clone.Awaited.{AnAdvert}
 use Rattle.vc_model.specs.Clone.Task.{StartFetch, StartPush}
@@ -22,11 +23,12 @@ use Rattle.vc_model.specs.Message.Message.{ListRefs, Push}
 use Rattle.vc_model.specs.Object.{zero_id}
 use Rattle.vc_refs.specs.declared.faults.RefFault.TheVariants as refs
 use Rattle.vc_store.specs.declared.faults.StoreFault.TheVariants as store
-use Rattle.vc_node.proofs.CloneCallLemmas.{Leads, as_told, fault_leads, held_content, refused_leads, sent_leads}
+use Rattle.vc_node.proofs.CloneCallLemmas.{Leads, as_told, fault_leads, refused_leads, sent_leads}
+use Rattle.vc_local.proofs.BesideLemmas.{held_content}
 use Rattle.vc_node.specs.Awaited.{AwaitedText, IsAwaited, an_advert}
 use Rattle.vc_node.specs.CloneCalls.{AnswersClone, SentAs}
 use Rattle.vc_node.specs.CloneFaults.{fault_answer, of_device, of_send, up_after}
-use Rattle.vc_node.specs.Machine.{HoldsNode}
+use Rattle.vc_local.specs.Machine.{HoldsNode}
 use Rattle.vc_node.specs.declared.clone_fault.CloneFault.{CloneFault}
 
 -- ---- a fetch

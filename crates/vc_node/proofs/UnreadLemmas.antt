@@ -3,7 +3,6 @@ use Rattle.std.proofs.Common.{◌≡◌, ℕ, List, Result, Ok, Err, true≢fals
 use Rattle.std.specs.Prelude.{IfErr, IsErrAnd}
 use Rattle.vc_files.specs.FileMap.{FileMap}
 use Rattle.vc_files.specs.declared.faults.Fault.TheVariants.{Memory}
-use Rattle.vc_message.proofs.AnyLaws.{any_given}
 use Rattle.vc_message.proofs.Readings.{one_refusal}
 use Rattle.vc_message.specs.AnyMessage.{MessageText, SpellsMessage, any_step, beginning}
 use Rattle.vc_message.specs.AnyView.{message_text}
@@ -12,7 +11,6 @@ use Rattle.vc_model.specs.CloneCall.{CloneCall}
 use Rattle.vc_model.specs.CloneCall.CloneCall.{Asks, Open, Receive}
 use Rattle.vc_model.specs.Message.{Message}
 use Rattle.vc_model.specs.Question.Question.{Unread as AsksUnread}
-use Rattle.vc_pkt.proofs.FaultLaws.{no_fault}
 use Rattle.vc_pkt.specs.Message.{FirstFault, IsSpelledBy, Refuses}
 use Rattle.vc_pkt.specs.StepView.{Gives}
 use Rattle.vc_pkt.specs.declared.fault.PktError.{PktError}
@@ -27,10 +25,6 @@ use Rattle.vc_node.specs.Receipts.{IsRefusedBytes, IsRefusedMessage}
 use Rattle.vc_node.specs.declared.clone_fault.CloneFault.{CloneFault}
 use Rattle.vc_node.specs.declared.clone_fault.CloneFault.TheVariants.{Unread}
 use Rattle.vc_node.specs.declared.exchanging.Received.{Received}
-
--- bytes that are a message have no fault
-pub never_unread : (bytes : List ℕ) (text : MessageText) (n : ℕ) → IsSpelledBy SpellsMessage text bytes → IsUnread bytes n → ⊥
-never_unread bytes text n (lines, each, spells) unread = no_fault any_step beginning bytes text lines each (any_given text lines spells) unread.fault unread.first
 
 same_number : (bytes : List ℕ) (fault : PktFault) (n : ℕ) → FirstFault any_step beginning bytes fault → IsUnread bytes n → pkt_number fault ≡ n
 same_number bytes fault n first unread = one_refusal bytes (pkt_number fault) n (record { fault = fault; first = first; number = refl }) unread

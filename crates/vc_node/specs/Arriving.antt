@@ -15,8 +15,8 @@ use Rattle.vc_files.specs.declared.faults.Fault.TheVariants.{Memory}
 use Rattle.vc_message.specs.Coming.{Came, IsCome, TakesAll, TakesPart, a_message, cut_short, lost, no_message, nothing_came}
 use Rattle.vc_message.specs.AnyMessage.{MessageText, a_pack, any_step, beginning}
 use Rattle.vc_message.specs.Incoming.{TakesFault}
-use Rattle.vc_message.specs.Machine.{IsPack, Reads, TextOf, pkt_number}
-use Rattle.vc_message.specs.Source.{TellsFailures}
+use Rattle.vc_message.specs.Machine.{IsPack, TextOf, pkt_number}
+use Rattle.vc_message.specs.Source.{TellsLoss}
 use Rattle.vc_message.specs.Streaming.{LeadsTo, TakesHead, of_pack, state_at}
 use Rattle.vc_message.specs.declared.incoming_fault.IncomingFault.{IncomingFault}
 use Rattle.vc_message.specs.declared.incoming_fault.IncomingFault.TheVariants as incoming
@@ -40,24 +40,19 @@ use Rattle.vc_session.specs.Quarantine.{quarantine_folder}
 use Rattle.vc_node.specs.Awaited.{AwaitedText, IsAwaited, awaited_text}
 use Rattle.vc_node.specs.CloneCalls.{AnswersClone, AnswersUp, ReceivedAs}
 use Rattle.vc_node.specs.CloneFaults.{of_device, of_exchange}
-use Rattle.vc_node.specs.Machine.{HoldsNode}
+use Rattle.vc_local.specs.Machine.{HoldsNode}
 use Rattle.vc_node.specs.ReceiveFault.{is_fault, told_of, up_after}
 use Rattle.vc_node.specs.Receipts.{IsRefusedMessage}
 use Rattle.vc_node.specs.declared.awaited.Awaited.{Awaited as Waiting}
 use Rattle.vc_node.specs.declared.clone_fault.CloneFault.{CloneFault}
 use Rattle.vc_node.specs.declared.clone_fault.CloneFault.TheVariants as clone
 use Rattle.vc_node.specs.declared.exchanging.Received.{Received}
-use Rattle.vc_node.specs.declared.fault.NodeFault.TheVariants.{Down}
+use Rattle.vc_local.specs.declared.fault.NodeFault.TheVariants.{Down}
 use Rattle.vc_node.specs.declared.receive_fault.ReceiveFault.{ReceiveFault}
 use Rattle.vc_node.specs.declared.receive_fault.ReceiveFault.TheVariants.{Node, ReadFailed}
 
 -- ---- a reader that fails
--- What a call of a node tells of a reader that fails: it answers by that once the reader has failed, and never else, unless a fault of
--- the node's own came behind it.
-abbrev pub TellsLoss : {S : Type 0} → (S → ℕ) → (S → Type 0) → S → S → Type 0 → Type 0 → Type 0
-TellsLoss failed can_fail old new IsLost IsFault = TellsFailures failed can_fail old new IsLost ⊎ (IsFault × TellsFailures failed can_fail old new (Unit {0}))
-
--- the same of a clone, and what it keeps where the reader failed
+-- what a call of a clone tells of a reader that fails, and what it keeps where the reader failed
 pub record KeepsAtLoss {S T : Type 0} (failed : S → ℕ) (can_fail : S → Type 0) (old new : S) (honest : Type 0) (result : Result T ReceiveFault) (Kept : Type 0) : Type 0 where
   pub failures : TellsLoss failed can_fail old new (IsErrOf result ReadFailed) (up_after result ≡ false)
   pub kept : honest → IfErr result (λ e. e ≡ ReadFailed → Kept)
@@ -185,10 +180,6 @@ down_told (Ok None) = Ok None
 down_told (Err incoming.Failed) = Err ReadFailed
 down_told (Err incoming.Memory) = Err (Node (of_device Memory))
 down_told (Err (incoming.Unread fault)) = Err (Node (clone.Node Down))
-
--- so it is of the message, and of what is behind it, where the reader's bytes begin with one
-abbrev pub FirstRead : Option (List ℕ) → (Message → List ℕ → Type 0) → Type 0
-FirstRead before IsSo = (m : Message) (bytes rest : List ℕ) → before ≡ Some (bytes ++ rest) → Reads bytes m → IsSo m rest
 
 -- Where a message is the first that the reader has, what is told is the machine's answer to it, and what is behind it is left; or the
 -- reader failed, or a fault came.

@@ -15,15 +15,15 @@ use Rattle.vc_model.specs.Repository.{IsSound}
 use Rattle.vc_rules.specs.Git.{git}
 use Rattle.vc_rules.proofs.GitLaws.{git_rules}
 use Rattle.vc_node.specs.Awaited.{AwaitedText, IsAwaited}
-use Rattle.vc_node.specs.Clean.{KeepsCleanBut}
+use Rattle.vc_local.specs.Clean.{KeepsCleanBut}
 use Rattle.vc_node.specs.CloneCalls.{AnswersClone, MayOr}
 use Rattle.vc_node.specs.CloneFaults.{TellsDevice as CloneTellsDevice}
-use Rattle.vc_node.specs.Machine.{Answers, AnswersIfSound, HoldsNode, MayWriteIfSoundOr, MayWriteOr}
-use Rattle.vc_node.specs.NodeFault.{TellsDevice}
-use Rattle.vc_node.specs.Shown.{shown}
-use Rattle.vc_node.specs.Told.{RestartedAs}
+use Rattle.vc_local.specs.Machine.{Answers, AnswersIfSound, HoldsNode, MayWriteIfSoundOr, MayWriteOr}
+use Rattle.vc_local.specs.NodeFault.{TellsDevice}
+use Rattle.vc_local.specs.Shown.{shown}
+use Rattle.vc_local.specs.Told.{RestartedAs}
 use Rattle.vc_node.specs.declared.clone_fault.CloneFault.{CloneFault}
-use Rattle.vc_node.specs.declared.fault.NodeFault.{NodeFault}
+use Rattle.vc_local.specs.declared.fault.NodeFault.{NodeFault}
 
 -- A call of a held node that says what it answers, what it wears, which one ref it may take out of the packed file, and where it
 -- only looks, is a step of the machine that ends with the writes left which the machine allows: one for each place that changed,

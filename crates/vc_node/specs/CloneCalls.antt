@@ -5,7 +5,8 @@ use Rattle.std.specs.Global.{Global}
 use Rattle.vc_files.specs.FileMap.{FileMap}
 use Rattle.vc_message.specs.AnyMessage.{MessageText}
 use Rattle.vc_message.specs.Machine.{TextOf}
-use Rattle.vc_message.specs.Told.{Quietly, SendsBytes}
+use Rattle.vc_rules.specs.Told.{Quietly}
+use Rattle.vc_message.specs.Told.{SendsBytes}
 use Rattle.vc_model.specs.Clone.{Awaited, CloneNode}
 use Rattle.vc_model.specs.CloneCall.{CloneAnswers, CloneCall}
 use Rattle.vc_model.specs.CloneCall.CloneCall.{Receive}
@@ -19,7 +20,7 @@ use Rattle.vc_rules.proofs.GitLaws.{git_rules}
 use Rattle.vc_rules.specs.Git.{git}
 use Rattle.vc_node.specs.Awaited.{AwaitedText, IsAwaited, awaited_text}
 use Rattle.vc_node.specs.CloneFaults.{fault_answer, up_after}
-use Rattle.vc_node.specs.Machine.{HoldsNode}
+use Rattle.vc_local.specs.Machine.{HoldsNode}
 use Rattle.vc_node.specs.declared.awaited.Awaited.{Awaited as Waiting}
 use Rattle.vc_node.specs.declared.clone_fault.CloneFault.{CloneFault}
 use Rattle.vc_node.specs.declared.exchanging.Received.{Received}

@@ -5,7 +5,7 @@ use Rattle.vc_exchange.specs.declared.item.PushItem.{PushItem}
 use Rattle.vc_files.specs.Failures.{Wears}
 use Rattle.vc_files.specs.FileMap.{FileMap}
 use Rattle.vc_message.specs.AnyMessage.{MessageText}
-use Rattle.vc_message.specs.Machine.{TextOf}
+use Rattle.vc_message.specs.Machine.{FirstRead, TextOf}
 use Rattle.vc_model.specs.Clone.{Task, IsItemId}
 use Rattle.vc_model.specs.Clone.Task.{MakeCommit}
 use Rattle.vc_model.specs.CloneCall.{CloneCall}
@@ -15,19 +15,19 @@ use Rattle.vc_model.specs.Node.{Answer}
 use Rattle.vc_format.specs.Git.{bytes_of_id}
 use Rattle.vc_model.specs.Object.{zero_id}
 use Rattle.vc_object.specs.declared.id.ObjectId.{ObjectId}
-use Rattle.vc_node.specs.Arriving.{IsKnown, KeepsHeld, ReceivesFrom, ToldAs, FirstRead}
+use Rattle.vc_node.specs.Arriving.{IsKnown, KeepsHeld, ReceivesFrom, ToldAs}
 use Rattle.vc_node.specs.Awaited.{nothing}
 use Rattle.vc_node.specs.CloneCalls.{AnswersClone, MayOr, ReceivedAs}
 use Rattle.vc_node.specs.Held.{Held}
-use Rattle.vc_node.specs.Machine.{Answers, AnswersIfSound, AnswersShown, AnswersShownIfSound, MayWriteIfSoundOr, MayWriteOr, OrBadFile, done_answer}
-use Rattle.vc_node.specs.NodeFault.{TellsDevice}
-use Rattle.vc_node.specs.Shown.{shown}
-use Rattle.vc_node.specs.Staging.{StagesAllOr, StagesHeld, StagesShown}
+use Rattle.vc_local.specs.Machine.{Answers, AnswersIfSound, AnswersShown, AnswersShownIfSound, MayWriteIfSoundOr, MayWriteOr, OrBadFile, done_answer}
+use Rattle.vc_local.specs.NodeFault.{TellsDevice}
+use Rattle.vc_local.specs.Shown.{shown}
+use Rattle.vc_local.specs.Staging.{StagesAllOr, StagesHeld, StagesShown}
 use Rattle.vc_node.specs.declared.clone_fault.CloneFault.{CloneFault}
 use Rattle.vc_node.specs.declared.exchanging.Received.{Received}
-use Rattle.vc_node.specs.declared.fault.NodeFault.{NodeFault}
+use Rattle.vc_local.specs.declared.fault.NodeFault.{NodeFault}
 use Rattle.vc_node.specs.declared.receive_fault.ReceiveFault.{ReceiveFault}
-use Rattle.vc_node.specs.declared.staging.Staged.{Staged}
+use Rattle.vc_local.specs.declared.staging.Staged.{Staged}
 
 -- ---- the node
 

@@ -4,21 +4,22 @@ ghost use Rattle.vc_exchange.specs.Quarantined.{KeepsOthers};
 ghost use Rattle.vc_exchange.specs.Storing.{KeepsGood};
 ghost use Rattle.vc_files.specs.FileMap.{SameOutside};
 ghost use Rattle.vc_files.specs.Failures.{Writes};
-ghost use Rattle.vc_message.specs.Source.{TellsFailures};
+ghost use Rattle.vc_message.specs.Source.{TellsFailures, TellsLoss};
 ghost use Rattle.vc_session.specs.Clean.{MakesNoneBad};
 ghost use Rattle.vc_session.specs.Quarantine.{IsDropped, quarantine_folder};
-ghost use Rattle.vc_node.specs.Arriving.{Arrives, Comes, FromPack, FromStart, IsStopped, KeepsAtLoss, KeepsHeld, LeavesPack, ReceivesUp, TakesPack, TellsLoss, down_told, some_told};
+ghost use Rattle.vc_node.specs.Arriving.{Arrives, Comes, FromPack, FromStart, IsStopped, KeepsAtLoss, KeepsHeld, LeavesPack, ReceivesUp, TakesPack, down_told, some_told};
 ghost use Rattle.vc_node.specs.Awaited.{awaited_text};
 ghost use Rattle.vc_node.specs.ReceiveFault.{TellsDevice, UnlessFault, up_after};
 
+use crate::CloneFault;
 use crate::awaited::Awaited;
 use crate::exchanging::{Received, take};
 use crate::receive_fault::ReceiveFault;
-use crate::{CloneFault, NodeFault};
 use std::alloc::Global;
 use vc_exchange::{Moves, receive_quarantined};
 use vc_files::{Fault, Files};
 use vc_history::Generations;
+use vc_local::NodeFault;
 use vc_message::{
     Head, IncomingFault, Source, Taken, next_object, read_head, skip_pack, skip_push,
 };

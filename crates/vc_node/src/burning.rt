@@ -2,8 +2,8 @@
 ghost use Rattle.vc_node.specs.Burning.{CallsBurn, ExchangesBurn, PacksBurn, SoundCallsBurn};
 ghost use Rattle.vc_node.specs.CloneCalls.{ReceivedAs, SentAs};
 ghost use Rattle.vc_node.specs.CloneFaults.{fault_answer};
-ghost use Rattle.vc_node.specs.Machine.{done_answer, made_answer};
-ghost use Rattle.vc_node.specs.Told.{FoundAs};
+ghost use Rattle.vc_local.specs.Machine.{done_answer, made_answer};
+ghost use Rattle.vc_local.specs.Told.{FoundAs};
 
 use vc_files::Files;
 

@@ -4,12 +4,13 @@ ghost use Rattle.vc_node.specs.CloneFaults.{is_fault, of_device, of_exchange, of
 ghost use Rattle.vc_node.specs.declared.clone_fault.CloneFault.TheVariants.{Node};
 ghost use Rattle.vc_files.specs.declared.faults.Fault.TheVariants.{Memory};
 
-use crate::NodeFault;
 use std::alloc::AllocError;
 use std::error::Error;
 use std::fmt;
 use vc_exchange::{ExchangeFault, SendFault};
 use vc_files::Fault;
+use vc_local::NodeFault;
+use vc_message::NOTHING_AWAITED;
 use vc_object::ObjectId;
 use vc_pkt::{PktError, PktFault};
 use vc_rev::{Refusal, RevFault};
@@ -37,7 +38,7 @@ impl fmt::Display for CloneFault {
     fn fmt<W: fmt::Write>(&self, f: &mut fmt::Formatter<W>) -> fmt::Result {
         match self {
             CloneFault::Unread(fault) => fmt::Display::fmt(fault, f),
-            CloneFault::Unexpected => f.write_str("91 NothingAwaited"),
+            CloneFault::Unexpected => f.write_str(NOTHING_AWAITED),
             CloneFault::TooMany => fmt::Display::fmt(&PktFault::TooMany, f),
             CloneFault::Incomplete(id) => fmt::Display::fmt(&ExchangeFault::Incomplete(*id), f),
             CloneFault::NoValue(refusal) => fmt::Display::fmt(refusal, f),

@@ -26,37 +26,33 @@ ghost use Rattle.vc_node.specs.CloneFaults.{TellsDevice as CloneTellsDevice, fau
 ghost use Rattle.vc_node.specs.Receipts.{IsOfMessage, IsRefusedBytes, IsRefusedMessage, IsRefusedStart, IsRefusedValue};
 ghost use Rattle.vc_node.specs.ReceiveFault.{TellsDevice as ReceiveTellsDevice, is_fault as is_receive_fault, up_after as receive_up_after};
 ghost use Rattle.vc_session.specs.Quarantine.{IsDropped};
-ghost use Rattle.vc_node.specs.Emptying.{AreEmpty, IsOpened, LosesCarried};
-ghost use Rattle.vc_node.specs.Blames.{BlamesLoad, BlamesOpen, BlamesPacking, BlamesWrite, IsLocalHead};
+ghost use Rattle.vc_local.specs.Emptying.{AreEmpty, IsOpened, LosesCarried};
+ghost use Rattle.vc_local.specs.Blames.{BlamesLoad, BlamesOpen, BlamesPacking, BlamesWrite, IsLocalHead};
 ghost use Rattle.vc_index.specs.IndexMap.{IndexMap};
-ghost use Rattle.vc_node.specs.Clean.{KeepsClean, KeepsCleanBut, PacksOnly, Spares, SparesStored, StoresOnly};
-ghost use Rattle.vc_node.specs.Commit.{IsCommitted};
-ghost use Rattle.vc_node.specs.IndexFile.{BlamesIndex, SpellsIndex};
-ghost use Rattle.vc_node.specs.Making.{EndsCommit};
+ghost use Rattle.vc_local.specs.Clean.{KeepsClean, KeepsCleanBut, PacksOnly, Spares, StoresOnly};
+ghost use Rattle.vc_node.specs.Stored.{SparesStored};
+ghost use Rattle.vc_local.specs.Commit.{IsCommitted};
+ghost use Rattle.vc_local.specs.IndexFile.{BlamesIndex, SpellsIndex};
+ghost use Rattle.vc_local.specs.Making.{EndsCommit};
 ghost use Rattle.vc_rules.specs.Git.{machine_object, mode_number};
-ghost use Rattle.vc_node.specs.Machine.{HoldsNode, machine_head, made_answer, done_answer, up_after};
+ghost use Rattle.vc_local.specs.Machine.{HoldsNode, machine_head, made_answer, done_answer, up_after};
 ghost use Rattle.vc_files.specs.Failures.{Wears, Writes};
-ghost use Rattle.vc_node.specs.NodeFault.{is_fault, IsOfDevice, TellsDevice};
-ghost use Rattle.vc_node.specs.Opening.{OpenableAs, opened_node};
-ghost use Rattle.vc_node.specs.Reads.{IsAtHead, IsAtName, IsBelow, IsItsFile, IsOfCommit, IsReached, IsReachedByHead, NoneRead, TellsRead};
-ghost use Rattle.vc_node.specs.Shown.{IsLoaded, shown};
-ghost use Rattle.vc_node.specs.Staging.{BlamesStaging, places};
-ghost use Rattle.vc_node.specs.Told.{FoundAs, RestartedAs};
+ghost use Rattle.vc_local.specs.NodeFault.{is_fault, IsOfDevice, TellsDevice};
+ghost use Rattle.vc_local.specs.Opening.{OpenableAs, opened_node};
+ghost use Rattle.vc_local.specs.Reads.{IsAtHead, IsAtName, IsBelow, IsItsFile, IsOfCommit, IsReached, IsReachedByHead, NoneRead, TellsRead};
+ghost use Rattle.vc_local.specs.Shown.{IsLoaded, shown};
+ghost use Rattle.vc_local.specs.Staging.{BlamesStaging, places};
+ghost use Rattle.vc_local.specs.Told.{FoundAs, RestartedAs};
 
 use crate::arriving::refuse_down;
 use crate::awaited::Awaited;
-use crate::commit::Words;
-use crate::index_file::read_index;
-use crate::opening::open_files;
-use crate::staging::Staged;
-use crate::{
-    CloneFault, NodeFault, ReceiveFault, Received, arriving, commit, exchanging, local, staging,
-};
+use crate::{CloneFault, ReceiveFault, Received, arriving, exchanging};
 use std::alloc::Global;
 use std::marker::Model;
 use vc_exchange::{PushItem, list_message, push_message};
 use vc_files::{Files, FusedFiles};
 use vc_index::Index;
+use vc_local::{NodeFault, Staged, Words, open_files, read_index};
 use vc_message::{Message, Source, skip_message};
 use vc_object::{Kind, Mode, ObjectId};
 use vc_pack::Reached;
@@ -87,7 +83,7 @@ impl<F: Files> Model for CloneNode<F> {
     ghost use Rattle.vc_pack.specs.Reached.{StandsIn};
     ghost use Rattle.vc_node.specs.Awaited.{awaited_text};
     ghost use Rattle.vc_node.specs.Held.{Held};
-    ghost use Rattle.vc_node.specs.IndexFile.{SpellsIndex};
+    ghost use Rattle.vc_local.specs.IndexFile.{SpellsIndex};
 
     ghost Value = { Held F };
 
@@ -208,7 +204,7 @@ impl<F: Files> CloneNode<F> {
             return Err(NodeFault::Down);
         }
         self.index = None;
-        match local::write(self.alloc, &mut self.files, kind, body) {
+        match vc_local::write(self.alloc, &mut self.files, kind, body) {
             Ok(id) => Ok(id),
             Err(fault) => Err(self.fail(fault)),
         }
@@ -228,7 +224,7 @@ impl<F: Files> CloneNode<F> {
         }
         // What is kept is the index as it was before.
         self.index = None;
-        match local::unstage(self.alloc, &mut self.files, path) {
+        match vc_local::unstage(self.alloc, &mut self.files, path) {
             Ok(()) => Ok(()),
             Err(fault) => Err(self.fail(fault)),
         }
@@ -249,7 +245,7 @@ impl<F: Files> CloneNode<F> {
             return Err(NodeFault::Down);
         }
         self.index = None;
-        match local::add(self.alloc, &mut self.files, path, mode, bytes) {
+        match vc_local::add(self.alloc, &mut self.files, path, mode, bytes) {
             Ok(()) => Ok(()),
             Err(fault) => Err(self.fail(fault)),
         }
@@ -273,7 +269,7 @@ impl<F: Files> CloneNode<F> {
             return Err(NodeFault::Down);
         }
         self.index = None;
-        match staging::stage_all(self.alloc, &mut self.files, files) {
+        match vc_local::stage_all(self.alloc, &mut self.files, files) {
             Ok(()) => Ok(()),
             Err(fault) => Err(self.fail(fault)),
         }
@@ -314,7 +310,7 @@ impl<F: Files> CloneNode<F> {
             return Err(NodeFault::Down);
         }
         self.index = None;
-        match local::remove_ref(self.alloc, &mut self.files, branch) {
+        match vc_local::remove_ref(self.alloc, &mut self.files, branch) {
             Ok(()) => Ok(()),
             Err(fault) => Err(self.fail(fault)),
         }
@@ -336,7 +332,7 @@ impl<F: Files> CloneNode<F> {
             return Err(NodeFault::Down);
         }
         self.index = None;
-        match local::set_branch(self.alloc, &mut self.files, branch, id) {
+        match vc_local::set_branch(self.alloc, &mut self.files, branch, id) {
             Ok(()) => Ok(()),
             Err(fault) => Err(self.fail(fault)),
         }
@@ -357,7 +353,7 @@ impl<F: Files> CloneNode<F> {
             return Err(NodeFault::Down);
         }
         self.index = None;
-        match local::set_head(self.alloc, &mut self.files, head) {
+        match vc_local::set_head(self.alloc, &mut self.files, head) {
             Ok(()) => Ok(()),
             Err(fault) => Err(self.fail(fault)),
         }
@@ -379,7 +375,7 @@ impl<F: Files> CloneNode<F> {
             return Err(NodeFault::Down);
         }
         self.index = None;
-        match local::load_tree(self.alloc, &mut self.files, id) {
+        match vc_local::load_tree(self.alloc, &mut self.files, id) {
             Ok(()) => Ok(()),
             Err(fault) => Err(self.fail(fault)),
         }
@@ -416,7 +412,7 @@ impl<F: Files> CloneNode<F> {
             message,
         };
         let kept = self.index.take();
-        match commit::commit(self.alloc, &mut self.files, kept, extra_parents, words) {
+        match vc_local::commit(self.alloc, &mut self.files, kept, extra_parents, words) {
             Ok(id) => Ok(id),
             Err(refusal) => Err(self.fail(refusal)),
         }
@@ -626,7 +622,7 @@ impl<F: Files> CloneNode<F> {
             return Err(NodeFault::Down);
         }
         self.index = None;
-        match local::pack_refs(self.alloc, &mut self.files) {
+        match vc_local::pack_refs(self.alloc, &mut self.files) {
             Ok(()) => Ok(()),
             Err(fault) => Err(self.fail(fault)),
         }

@@ -6,12 +6,12 @@ ghost use Rattle.vc_node.specs.ReceiveFault.{is_fault, of_incoming};
 ghost use Rattle.vc_node.specs.declared.receive_fault.ReceiveFault.TheVariants.{Node};
 
 use crate::clone_fault::CloneFault;
-use crate::fault::NodeFault;
 use std::alloc::AllocError;
 use std::error::Error;
 use std::fmt;
 use vc_exchange::ExchangeFault;
 use vc_files::Fault;
+use vc_local::NodeFault;
 use vc_message::IncomingFault;
 use vc_store::StoreFault;
 

@@ -9,9 +9,9 @@ use Rattle.vc_model.specs.Node.{Answer}
 use Rattle.vc_model.specs.Repository.{Repository}
 use Rattle.vc_model.specs.Shared.{SharedNode}
 use Rattle.vc_model.specs.SharedCall.{SharedCall}
-use Rattle.vc_node.specs.Blames.{BlamesOpen}
-use Rattle.vc_node.specs.Clean.{KeepsClean}
-use Rattle.vc_node.specs.Opening.{IsOpenable}
+use Rattle.vc_local.specs.Blames.{BlamesOpen}
+use Rattle.vc_local.specs.Clean.{KeepsClean}
+use Rattle.vc_local.specs.Opening.{IsOpenable}
 use Rattle.vc_session.specs.Session.{SessionText}
 use Rattle.vc_server.specs.Coming.{IsRefusedThere, Reply}
 use Rattle.vc_server.specs.Serving.{ServedAs, ServesOn}

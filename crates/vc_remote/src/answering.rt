@@ -3,18 +3,19 @@ ghost use Rattle.std.specs.Prelude.{◌≡◌, ◌⊎◌, IfErr, IsErrOf, OnErr,
 ghost use Rattle.vc_files.specs.Failures.{Writes};
 ghost use Rattle.vc_model.specs.Repository.{Repository};
 ghost use Rattle.vc_model.specs.SharedCall.SharedCall.{Accept};
-ghost use Rattle.vc_node.specs.Arriving.{FirstRead, TellsLoss};
-ghost use Rattle.vc_node.specs.Blames.{BlamesOpen};
-ghost use Rattle.vc_node.specs.Clean.{KeepsClean};
-ghost use Rattle.vc_node.specs.NodeFault.{TellsDevice as TellsNodeDevice};
-ghost use Rattle.vc_node.specs.Opening.{IsOpenable, OpenableAs};
+ghost use Rattle.vc_message.specs.Machine.{FirstRead};
+ghost use Rattle.vc_message.specs.Source.{TellsLoss};
+ghost use Rattle.vc_local.specs.Blames.{BlamesOpen};
+ghost use Rattle.vc_local.specs.Clean.{KeepsClean};
+ghost use Rattle.vc_local.specs.NodeFault.{TellsDevice as TellsNodeDevice};
+ghost use Rattle.vc_local.specs.Opening.{IsOpenable, OpenableAs};
 ghost use Rattle.vc_remote.specs.Answering.{AnswersCame, AnswersRead, HoldsOpened, IsRefusedOnce, KeepsOpenable, TellsUnopened};
 ghost use Rattle.vc_shared.specs.AcceptFault.{TellsDevice, up_after};
 
 use std::alloc::Global;
 use vc_files::Files;
+use vc_local::NodeFault;
 use vc_message::Source;
-use vc_node::NodeFault;
 use vc_shared::{AcceptFault, Shared, SharedFault};
 
 /// Makes the files those of a shared node in which no push is open, or tells why they are none. They are handed back.

@@ -1,14 +1,18 @@
--- The objects of files are objects.
-use Rattle.std.proofs.Common.{◌≡◌, ℕ, Bool, true, false, cond, Ok, Err, List, Option, Some, None, refl, subst}
+-- The objects of files are objects, and their names are legal.
+use Rattle.std.proofs.Common.{◌≡◌, ℕ, Bool, true, false, cond, Ok, Err, List, Option, Some, None, refl, subst, w8}
 use Rattle.std.specs.Prelude.{bytes_eq}
 use Rattle.std.specs.FinMap.{get}
 use Rattle.std.specs.Option.{option_or}
 use Rattle.std.specs.Result.{result_ok}
+use Rattle.std.proofs.Math.Facts.{Fits-of_lt}
 use Rattle.vc_files.specs.FileMap.{FileMap}
 use Rattle.vc_object.specs.Decoding.{StoredObject, decoded}
-use Rattle.vc_object.specs.Object.{IsObject, object_name}
+use Rattle.vc_object.specs.Object.{IsObject, object_bytes, object_name}
 use Rattle.vc_object.specs.ObjectId.{is_id}
+use Rattle.vc_object.specs.declared.kind.Kind.{Kind}
 use Rattle.vc_object.proofs.Decoding.{decoded_some}
+use Rattle.vc_object.proofs.IdLemmas.{is_id-from_array}
+use Rattle.vc_object.proofs.Names.{byte_of, name_bytes, name_length}
 use Rattle.vc_store.specs.Store.{objects, object_path, named, stored as stored_file, stored_in}
 use Rattle.vc_store.specs.declared.faults.StoreFault.TheVariants.{Damaged}
 use Rattle.vc_object.specs.declared.id.ObjectId.{ObjectId}
@@ -53,3 +57,7 @@ pub seen_sound : (content : FileMap) (slot : ℕ) (id : ObjectId) (o : StoredObj
 unfolding with_carried
 seen_sound content slot id o h =
     either_sound (objects content id) (quarantined content slot id) o (λ p e. objects_sound content id p e) (λ p e. quarantined_sound content slot id p e) h
+
+-- the name of an object
+pub name_valid : (kind : Kind) (body : List ℕ) → is_id (object_name kind body) ≡ true
+name_valid kind body = is_id-from_array (object_name kind body) (name_length (object_bytes kind body)) (λ i. Fits-of_lt {w = w8} (byte_of (object_name kind body).0 (name_bytes (object_bytes kind body)) i))

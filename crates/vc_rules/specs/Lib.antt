@@ -5,3 +5,4 @@ pub mod Values
 pub mod Laws
 pub mod Verdicts
 pub mod OpenPushes
+pub mod Told

@@ -6,7 +6,8 @@ use Rattle.std.specs.FinMap.{get}
 use Rattle.std.proofs.lemmas.Option.{slice_get_past}
 use Rattle.vc_files.specs.FileMap.{FileMap}
 use Rattle.vc_message.proofs.Totals.{less_or}
-use Rattle.vc_message.specs.Told.{Quietly, SendsBytes}
+use Rattle.vc_rules.specs.Told.{Quietly}
+use Rattle.vc_message.specs.Told.{SendsBytes}
 use Rattle.vc_model.specs.Exchange.{IsUndone, OpensNone}
 use Rattle.vc_model.specs.Message.{Message}
 use Rattle.vc_model.specs.Node.{Answer}
@@ -16,10 +17,10 @@ use Rattle.vc_model.specs.Push.{OpenPush, Slots}
 use Rattle.vc_model.specs.Shared.{SharedNode}
 use Rattle.vc_model.specs.SharedCall.{SharedCall}
 use Rattle.vc_model.specs.SharedCall.SharedCall.{StepOf}
-use Rattle.vc_node.proofs.CleanLemmas.{clean_then}
-use Rattle.vc_node.specs.Clean.{KeepsClean}
-use Rattle.vc_node.specs.declared.fault.NodeFault.TheVariants.{Down}
-use Rattle.vc_node.proofs.FaultLemmas.{node_undone}
+use Rattle.vc_local.proofs.CleanLemmas.{clean_then}
+use Rattle.vc_local.specs.Clean.{KeepsClean}
+use Rattle.vc_local.specs.declared.fault.NodeFault.TheVariants.{Down}
+use Rattle.vc_local.proofs.FaultLemmas.{node_undone}
 use Rattle.vc_rules.specs.Verdicts.{machine_reason}
 use Rattle.vc_session.specs.Session.{SessionText}
 use Rattle.vc_session.specs.declared.stage.Stepped.{Stepped as SessionStep}

@@ -8,11 +8,11 @@ use Rattle.vc_model.specs.Node.{Answer}
 use Rattle.vc_model.specs.Node.Answer.{Declined, Fault as Failed}
 use Rattle.vc_model.specs.Node.Failure.{Device as DeviceFailed}
 use Rattle.vc_model.specs.SharedCall.{SharedCall}
-use Rattle.vc_node.proofs.AnswerLemmas.{stays, stays_by_fault}
-use Rattle.vc_node.specs.Machine.{failure_of, fault_answer as node_answer}
-use Rattle.vc_node.specs.NodeFault.{IsOfDevice as IsNodeDevice}
-use Rattle.vc_node.specs.declared.fault.NodeFault.{NodeFault}
-use Rattle.vc_node.specs.declared.fault.NodeFault.TheVariants as node
+use Rattle.vc_local.proofs.AnswerLemmas.{stays, stays_by_fault}
+use Rattle.vc_local.specs.Machine.{failure_of, fault_answer as node_answer}
+use Rattle.vc_local.specs.NodeFault.{IsOfDevice as IsNodeDevice}
+use Rattle.vc_local.specs.declared.fault.NodeFault.{NodeFault}
+use Rattle.vc_local.specs.declared.fault.NodeFault.TheVariants as node
 use Rattle.vc_refs.specs.declared.faults.RefFault.TheVariants as refs
 use Rattle.vc_shared.specs.AcceptFault.{TellsDevice, up_after}
 use Rattle.vc_shared.specs.Arriving.{IsKnown}

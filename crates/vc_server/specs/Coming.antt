@@ -4,7 +4,7 @@ use Rattle.std.specs.Prelude.{◌≡◌, ⊤, ℕ, Bool, true, List, Option, Som
 use Rattle.vc_files.specs.FileMap.{FileMap}
 use Rattle.vc_message.specs.Coming.{Came, IsCome, a_message}
 use Rattle.vc_model.specs.SharedCall.{SharedCall}
-use Rattle.vc_node.specs.Arriving.{FirstRead}
+use Rattle.vc_message.specs.Machine.{FirstRead}
 use Rattle.vc_session.specs.Session.{SessionText}
 use Rattle.vc_shared.specs.Arriving.{IsCallOf, IsKnown, IsTold}
 use Rattle.vc_shared.specs.Holding.{SharedText}

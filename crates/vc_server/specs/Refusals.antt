@@ -2,8 +2,8 @@
 use Rattle.std.specs.Prelude.{◌≡◌, ◌⊎◌, ℕ, List, Option}
 use Rattle.vc_files.specs.FileMap.{FileMap}
 use Rattle.vc_message.specs.AnyMessage.{MessageText}
-use Rattle.vc_node.specs.Clean.{KeepsClean}
-use Rattle.vc_node.specs.declared.fault.NodeFault.TheVariants.{Down}
+use Rattle.vc_local.specs.Clean.{KeepsClean}
+use Rattle.vc_local.specs.declared.fault.NodeFault.TheVariants.{Down}
 use Rattle.vc_session.specs.Session.{SessionText}
 use Rattle.vc_shared.specs.Accepting.{IsRefusedBytes, IsRefusedMessage}
 use Rattle.vc_shared.specs.Stepping.{IsRefusedIn}

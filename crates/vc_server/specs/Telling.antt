@@ -7,7 +7,7 @@ use Rattle.vc_fetch.specs.ErrorMessage.{error_lines}
 use Rattle.vc_files.specs.declared.faults.Fault.{Fault as FilesFault}
 use Rattle.vc_model.specs.Node.{Answer}
 use Rattle.vc_model.specs.Node.Answer.{Declined, Fault as Failed}
-use Rattle.vc_node.specs.Machine.{failure_of}
+use Rattle.vc_local.specs.Machine.{failure_of}
 use Rattle.vc_pkt.specs.Line.{spelling}
 use Rattle.vc_shared.specs.Faults.{fault_answer}
 use Rattle.vc_shared.specs.declared.accept_fault.AcceptFault.TheVariants.{Node, ReadFailed as Lost}

@@ -1,13 +1,13 @@
 // Why a message has no reply: the number of a refusal, or the fault that ended the call.
 ghost use Rattle.std.specs.Prelude.{◌≡◌};
 ghost use Rattle.vc_message.specs.Machine.{pkt_number};
-ghost use Rattle.vc_node.specs.Machine.{fault_answer as node_answer, ref_answer, store_answer};
+ghost use Rattle.vc_local.specs.Machine.{fault_answer as node_answer, ref_answer, store_answer};
 ghost use Rattle.vc_rev.specs.Value.{refusal_number};
 ghost use Rattle.vc_server.specs.Telling.{ended_by};
 ghost use Rattle.vc_shared.specs.Faults.{fault_answer};
 
 use vc_files::Fault;
-use vc_node::NodeFault;
+use vc_local::NodeFault;
 use vc_pkt::PktFault;
 use vc_refs::RefFault;
 use vc_rev::Refusal;

@@ -3,8 +3,8 @@ ghost use Rattle.std.specs.Prelude.{◌≡◌, ◌++◌, List, ℕ, IsErrOf, Som
 ghost use Rattle.vc_files.specs.Failures.{Writes};
 ghost use Rattle.vc_message.specs.Machine.{Reads};
 ghost use Rattle.vc_model.specs.Message.{Message};
-ghost use Rattle.vc_node.specs.Arriving.{TellsLoss};
-ghost use Rattle.vc_node.specs.Clean.{KeepsClean};
+ghost use Rattle.vc_message.specs.Source.{TellsLoss};
+ghost use Rattle.vc_local.specs.Clean.{KeepsClean};
 ghost use Rattle.vc_server.specs.Turn.{LeavesRest, TakesTurn, up_after};
 
 use crate::answering::answer_from;

@@ -12,14 +12,14 @@ use Rattle.vc_message.specs.AnyMessage.{MessageText, SpellsMessage, a_list, a_pa
 use Rattle.vc_message.specs.AnyView.{message_text}
 use Rattle.vc_message.specs.Machine.{IsUnread, Reads, TextOf, pkt_number}
 use Rattle.vc_message.specs.Read.{WasRead}
-use Rattle.vc_message.specs.Told.{Quietly}
+use Rattle.vc_rules.specs.Told.{Quietly}
 use Rattle.vc_model.specs.Message.{Message}
 use Rattle.vc_model.specs.Node.Answer.{Declined, Fault}
 use Rattle.vc_model.specs.Question.Question.{Unread as AsksUnread}
 use Rattle.vc_model.specs.Shared.{ServesNot, SharedNode}
 use Rattle.vc_model.specs.SharedCall.{SharedCall}
 use Rattle.vc_model.specs.SharedCall.SharedCall.{Accept, Asks, Open}
-use Rattle.vc_node.specs.Machine.{failure_of}
+use Rattle.vc_local.specs.Machine.{failure_of}
 use Rattle.vc_pkt.specs.Message.{FirstFault, IsSpelledBy, Refuses}
 use Rattle.vc_pkt.specs.StepView.{Gives}
 use Rattle.vc_pkt.specs.declared.fault.PktError.{PktError}

@@ -3,7 +3,7 @@
 use Rattle.std.proofs.Common.{◌≡◌, ◌≢◌, ℕ, Bool, false, List, Option, Some, None, Result, Err, refl, sym, subst, ◌⊎◌, inl, inr}
 use Rattle.vc_files.specs.Failures.{Wears}
 use Rattle.vc_files.specs.FileMap.{FileMap}
-use Rattle.vc_message.specs.Told.{Quietly}
+use Rattle.vc_rules.specs.Told.{Quietly}
 use Rattle.vc_model.specs.Message.{Message}
 use Rattle.vc_model.specs.Node.{Answer, Failure}
 use Rattle.vc_model.specs.Node.Answer.{Declined, Fault}
@@ -13,9 +13,9 @@ use Rattle.vc_model.specs.Repository.{IsBare, IsSound}
 use Rattle.vc_model.specs.Shared.{SharedNode}
 use Rattle.vc_model.specs.SharedCall.{SharedAnswers, SharedCall, SharedRefuses}
 use Rattle.vc_model.specs.SharedCall.SharedCall.{Asks, Open}
-use Rattle.vc_node.specs.Clean.{IsClean, KeepsClean}
-use Rattle.vc_node.specs.Machine.{Spells}
-use Rattle.vc_node.specs.Shown.{shown}
+use Rattle.vc_local.specs.Clean.{IsClean, KeepsClean}
+use Rattle.vc_local.specs.Machine.{Spells}
+use Rattle.vc_local.specs.Shown.{shown}
 use Rattle.vc_rules.proofs.GitLaws.{git_rules}
 use Rattle.vc_rules.specs.Git.{git}
 use Rattle.vc_session.specs.Session.{SessionText}

@@ -29,8 +29,7 @@ use Rattle.vc_session.specs.Quarantine.{IsDropped, quarantine_folder}
 use Rattle.vc_session.specs.Session.{SessionText}
 use Rattle.vc_shared.proofs.AcceptingLemmas.{faulted_answers, unread_answers}
 use Rattle.vc_shared.proofs.HoldingLemmas.{beside_slot}
-use Rattle.vc_node.proofs.CloneCallLemmas.{held_content}
-use Rattle.vc_node.proofs.ReceivingClone.{clean_on, spells_on}
+use Rattle.vc_local.proofs.BesideLemmas.{clean_on, held_content, spells_on}
 use Rattle.vc_shared.proofs.PushingLemmas.{free_there, push_answers, slot_beside}
 use Rattle.vc_shared.proofs.PushingTexts.{reads_tellable}
 use Rattle.vc_shared.specs.AcceptFault.{TellsDevice, is_fault, up_after}

@@ -4,7 +4,7 @@ use Rattle.std.specs.Prelude.{IsErrAnd, IsErrOf}
 use Rattle.vc_files.specs.Failures.{Wears, Writes}
 use Rattle.vc_files.specs.FileMap.{FileMap}
 use Rattle.vc_files.specs.declared.faults.Fault.TheVariants.{Device, Memory}
-use Rattle.vc_node.proofs.FaultLemmas.{looks_by, refs_calm, store_calm, writes_by}
+use Rattle.vc_local.proofs.FaultLemmas.{looks_by, refs_calm, store_calm, writes_by}
 use Rattle.vc_session.specs.Session.{SessionText}
 use Rattle.vc_session.specs.SessionFault.{IsRefusedStep}
 use Rattle.vc_session.specs.declared.fault.SessionFault.{SessionFault}

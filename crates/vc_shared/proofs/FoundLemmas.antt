@@ -4,14 +4,14 @@ use Rattle.std.specs.Prelude.{IsErrOf, not}
 use Rattle.vc_files.specs.Failures.{Wears}
 use Rattle.vc_files.specs.FileMap.{FileMap}
 use Rattle.vc_files.specs.declared.faults.Fault.TheVariants.{Device}
-use Rattle.vc_message.specs.Told.{Quietly}
+use Rattle.vc_rules.specs.Told.{Quietly}
 use Rattle.vc_model.specs.Node.{Answer}
 use Rattle.vc_model.specs.Question.Question.{Resolve}
 use Rattle.vc_model.specs.SharedCall.SharedCall.{Asks}
-use Rattle.vc_node.proofs.FaultLemmas.{source_alone}
-use Rattle.vc_node.proofs.LookLemmas.{looks_told}
-use Rattle.vc_node.specs.Told.{FoundAs}
-use Rattle.vc_node.specs.Values.{is_rev_fault, rev_answer}
+use Rattle.vc_local.proofs.FaultLemmas.{source_alone}
+use Rattle.vc_local.proofs.LookLemmas.{looks_told}
+use Rattle.vc_local.specs.Told.{FoundAs}
+use Rattle.vc_local.specs.Values.{is_rev_fault, rev_answer}
 use Rattle.vc_repository.specs.Resolving.{IsOfExpr}
 use Rattle.vc_object.specs.declared.id.ObjectId.{ObjectId}
 use Rattle.vc_rev.specs.Grammar.{ExprText, IsExpr}

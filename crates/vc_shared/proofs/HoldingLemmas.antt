@@ -8,8 +8,8 @@ use Rattle.std.proofs.lemmas.Option.{unwrap_or-slice_get}
 use Rattle.vc_files.specs.FileMap.{FileMap, SameOutside}
 use Rattle.vc_lemmas.proofs.Texts.{split_from_starts}
 use Rattle.vc_model.specs.Push.{OpenPush}
-use Rattle.vc_node.specs.IndexFile.{index_bytes}
-use Rattle.vc_node.proofs.ReceivingClone.{SameBeside, beside_by}
+use Rattle.vc_local.specs.IndexFile.{index_bytes}
+use Rattle.vc_local.proofs.BesideLemmas.{SameBeside, beside_by}
 use Rattle.vc_refs.specs.Head.{KeepsOutside, KeepsTheRest, head_of}
 use Rattle.vc_refs.specs.Refs.{packed_path}
 use Rattle.vc_rules.proofs.OpenPushLaws.{others_stay}

@@ -2,12 +2,10 @@
 use Rattle.std.proofs.Common.{◌≡◌, ℕ, false, Option, Some, None, Result, Ok, Err, inl, inr, refl, sym, ap, ◌∙◌, subst}
 use Rattle.std.specs.Prelude.{IsErrOf}
 use Rattle.vc_files.specs.declared.faults.Fault.{Fault as FilesFault}
-use Rattle.vc_message.proofs.SourceLaws.{memory_is_no_failure, ok_is_no_error, tells_as, tells_not, unread_is_no_failure}
-use Rattle.vc_message.specs.Source.{TellsFailures}
+use Rattle.vc_message.proofs.SourceLaws.{loss_as, memory_is_no_failure, ok_is_no_error, tells_as, tells_not, unread_is_no_failure}
+use Rattle.vc_message.specs.Source.{TellsFailures, TellsLoss}
 use Rattle.vc_message.specs.declared.incoming_fault.IncomingFault.{IncomingFault}
 use Rattle.vc_message.specs.declared.incoming_fault.IncomingFault.TheVariants as incoming
-use Rattle.vc_node.proofs.LossLemmas.{loss_as}
-use Rattle.vc_node.specs.Arriving.{TellsLoss}
 use Rattle.vc_shared.specs.AcceptFault.{of_incoming, up_after}
 use Rattle.vc_shared.specs.Arriving.{down_told, message_told, slot_told}
 use Rattle.vc_shared.specs.Faults.{of_device}

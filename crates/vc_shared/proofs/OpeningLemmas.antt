@@ -7,10 +7,10 @@ use Rattle.std.specs.Ordering.{nat_cmp}
 use Rattle.vc_files.specs.FileMap.{FileMap}
 use Rattle.vc_model.specs.Push.{OpenPush}
 use Rattle.vc_model.specs.Repository.{Repository}
-use Rattle.vc_node.proofs.EmptyingLemmas.{empty_slot, openable_kept, opened_empty}
-use Rattle.vc_node.proofs.OpeningLaws.{made_ready}
-use Rattle.vc_node.specs.Emptying.{IsOpened}
-use Rattle.vc_node.specs.Opening.{IsOpenable}
+use Rattle.vc_local.proofs.EmptyingLemmas.{empty_slot, openable_kept, opened_empty}
+use Rattle.vc_local.proofs.OpeningLaws.{made_ready}
+use Rattle.vc_local.specs.Emptying.{IsOpened}
+use Rattle.vc_local.specs.Opening.{IsOpenable}
 use Rattle.vc_session.specs.Session.{SessionText}
 use Rattle.vc_shared.specs.Holding.{HoldsShared, HoldsSlot}
 use Rattle.vc_shared.specs.Slots.{free_slots, slot_of}

@@ -10,14 +10,14 @@ use Rattle.vc_model.specs.Push.{OpenPush, Slots}
 use Rattle.vc_model.specs.Question.Question.{PackRefs}
 use Rattle.vc_model.specs.Shared.{SharedNode}
 use Rattle.vc_model.specs.SharedCall.SharedCall.{Asks}
-use Rattle.vc_node.proofs.CleanLemmas.{still_clean_packed}
-use Rattle.vc_node.proofs.ShownLemmas.{shown_packed}
-use Rattle.vc_node.specs.Blames.{BlamesPacking}
-use Rattle.vc_node.specs.Machine.{Spells, failure_of, up_after}
-use Rattle.vc_node.specs.Shown.{Shown, shown}
-use Rattle.vc_node.specs.Told.{RestartedAs}
-use Rattle.vc_node.specs.declared.fault.NodeFault.{NodeFault}
-use Rattle.vc_node.specs.declared.fault.NodeFault.TheVariants.{BadIndex, BadPath, Down, Missing, NotACommit, PathConflict, Ref, Store, WrongEntry}
+use Rattle.vc_local.proofs.CleanLemmas.{still_clean_packed}
+use Rattle.vc_local.proofs.ShownLemmas.{shown_packed}
+use Rattle.vc_local.specs.Blames.{BlamesPacking}
+use Rattle.vc_local.specs.Machine.{Spells, failure_of, up_after}
+use Rattle.vc_local.specs.Shown.{Shown, shown}
+use Rattle.vc_local.specs.Told.{RestartedAs}
+use Rattle.vc_local.specs.declared.fault.NodeFault.{NodeFault}
+use Rattle.vc_local.specs.declared.fault.NodeFault.TheVariants.{BadIndex, BadPath, Down, Missing, NotACommit, PathConflict, Ref, Store, WrongEntry}
 use Rattle.vc_object.specs.declared.id.ObjectId.{ObjectId}
 use Rattle.vc_refs.specs.Head.{KeepsOutside}
 use Rattle.vc_refs.specs.Refs.{refs}

@@ -9,7 +9,7 @@ use Rattle.vc_files.specs.FileMap.{FileMap, SameOutside}
 use Rattle.vc_lemmas.proofs.Texts.{split_from_starts}
 use Rattle.vc_message.proofs.Totals.{less_or}
 use Rattle.vc_message.specs.Machine.{IsPush, IsRefusalOf}
-use Rattle.vc_message.specs.Told.{Quietly}
+use Rattle.vc_rules.specs.Told.{Quietly}
 use Rattle.vc_model.proofs.Maps.{insert_other, insert_same, same_key, none_added}
 use Rattle.vc_model.specs.Message.{Message}
 use Rattle.vc_model.specs.Node.{Deed, Failure}
@@ -20,7 +20,7 @@ use Rattle.vc_model.specs.Repository.{no_effect}
 use Rattle.vc_model.specs.Shared.{IsLowestFree, Serves, ServesNot, SharedNode, opened}
 use Rattle.vc_model.specs.SharedCall.{SharedAnswers}
 use Rattle.vc_model.specs.SharedCall.SharedCall.{Accept}
-use Rattle.vc_node.specs.Machine.{failure_of}
+use Rattle.vc_local.specs.Machine.{failure_of}
 use Rattle.vc_object.proofs.OneFault.{no_body_fault, two_bodies}
 use Rattle.vc_object.specs.declared.fault.ObjectFault.{ObjectFault}
 use Rattle.vc_push.specs.Push.{Carried, FaultOf, PushText}
@@ -34,8 +34,7 @@ use Rattle.vc_session.specs.Quarantine.{IsDropped, quarantine_folder}
 use Rattle.vc_session.specs.Session.{SessionText}
 use Rattle.vc_session.specs.Steps.{fault_number}
 use Rattle.vc_shared.proofs.HoldingLemmas.{beside_slot, slot_other, slot_set}
-use Rattle.vc_node.proofs.CloneCallLemmas.{held_content}
-use Rattle.vc_node.proofs.ReceivingClone.{clean_on, spells_on}
+use Rattle.vc_local.proofs.BesideLemmas.{clean_on, held_content, spells_on}
 use Rattle.vc_shared.proofs.CallLemmas.{Leads, fault_leads, refused_leads}
 use Rattle.vc_shared.proofs.SteppingLaws.{pushes_of}
 use Rattle.vc_shared.specs.Calls.{AcceptedAs}

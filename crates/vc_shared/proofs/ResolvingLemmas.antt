@@ -3,7 +3,7 @@ use Rattle.std.proofs.Common.{◌≡◌, ℕ, Bool, true, false, List, Option, S
 use Rattle.vc_files.specs.FileMap.{FileMap}
 use Rattle.vc_files.specs.declared.faults.Fault.{Fault as FilesFault}
 use Rattle.vc_format.specs.Git.{bytes_of_id}
-use Rattle.vc_message.specs.Told.{Quietly}
+use Rattle.vc_rules.specs.Told.{Quietly}
 use Rattle.vc_model.specs.Message.{Message}
 use Rattle.vc_model.specs.Node.{Answer}
 use Rattle.vc_model.specs.Node.Answer.{Declined, Fault}
@@ -14,10 +14,10 @@ use Rattle.vc_model.specs.Question.Question.{Resolve}
 use Rattle.vc_model.specs.Shared.{SharedNode}
 use Rattle.vc_model.specs.SharedCall.{SharedCall}
 use Rattle.vc_model.specs.SharedCall.SharedCall.{Asks}
-use Rattle.vc_node.proofs.ValueLemmas.{values_are_told}
-use Rattle.vc_node.specs.Told.{FoundAs}
-use Rattle.vc_node.specs.Values.{TellsValue, rev_answer, up_after_value}
-use Rattle.vc_node.specs.Machine.{failure_of}
+use Rattle.vc_local.proofs.ValueLemmas.{values_are_told}
+use Rattle.vc_local.specs.Told.{FoundAs}
+use Rattle.vc_local.specs.Values.{TellsValue, rev_answer, up_after_value}
+use Rattle.vc_local.specs.Machine.{failure_of}
 use Rattle.vc_object.specs.declared.id.ObjectId.{ObjectId}
 use Rattle.vc_rev.specs.Value.{refusal_number}
 use Rattle.vc_rev.specs.declared.refusal.RevFault.{RevFault}

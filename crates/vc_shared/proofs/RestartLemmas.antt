@@ -3,24 +3,24 @@ use Rattle.std.proofs.Common.{◌≡◌, Bool, true, false, List, Option, Some, 
 use Rattle.std.specs.Prelude.{IfErr, OnErr, OnOk, is_ok}
 use Rattle.std.specs.FinMap.{empty}
 use Rattle.vc_files.specs.FileMap.{FileMap}
-use Rattle.vc_message.specs.Told.{Quietly}
+use Rattle.vc_rules.specs.Told.{Quietly}
 use Rattle.vc_model.specs.Node.Answer.{Did, Fault}
 use Rattle.vc_model.specs.Node.Reply.{Stored}
 use Rattle.vc_model.specs.Shared.{SharedNode}
 use Rattle.vc_model.specs.SharedCall.{SharedAnswers}
 use Rattle.vc_model.specs.SharedCall.SharedCall.{Open}
 use Rattle.vc_model.specs.Clone.Awaited.{Nothing}
-use Rattle.vc_node.proofs.EmptyingLemmas.{shown_kept}
-use Rattle.vc_node.proofs.OpeningLaws.{held_nodes_open}
-use Rattle.vc_node.proofs.ReceivingClone.{clean_on}
-use Rattle.vc_node.proofs.RestartLemmas.{opening_fails}
-use Rattle.vc_node.specs.Blames.{BlamesOpen}
-use Rattle.vc_node.specs.Emptying.{IsOpened, LosesCarried}
-use Rattle.vc_node.specs.Machine.{Spells, fault_answer, failure_of}
-use Rattle.vc_node.specs.Opening.{opened_node}
-use Rattle.vc_node.specs.Shown.{Shown}
-use Rattle.vc_node.specs.Told.{RestartedAs}
-use Rattle.vc_node.specs.declared.fault.NodeFault.{NodeFault}
+use Rattle.vc_local.proofs.EmptyingLemmas.{shown_kept}
+use Rattle.vc_local.proofs.OpeningLaws.{held_nodes_open}
+use Rattle.vc_local.proofs.BesideLemmas.{clean_on}
+use Rattle.vc_local.proofs.OpeningFaults.{opening_fails}
+use Rattle.vc_local.specs.Blames.{BlamesOpen}
+use Rattle.vc_local.specs.Emptying.{IsOpened, LosesCarried}
+use Rattle.vc_local.specs.Machine.{Spells, fault_answer, failure_of}
+use Rattle.vc_local.specs.Opening.{opened_node}
+use Rattle.vc_local.specs.Shown.{Shown}
+use Rattle.vc_local.specs.Told.{RestartedAs}
+use Rattle.vc_local.specs.declared.fault.NodeFault.{NodeFault}
 use Rattle.vc_refs.specs.Refs.{packed_path}
 use Rattle.vc_session.proofs.CleanLemmas.{bad_loses}
 use Rattle.vc_session.specs.Session.{SessionText}

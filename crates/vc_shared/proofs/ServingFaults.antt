@@ -6,8 +6,8 @@ use Rattle.std.proofs.lemmas.Option.{none-some, same_Some}
 use Rattle.vc_pack.specs.AnswerFault.{BlamesRefs, from_refs}
 use Rattle.vc_pack.specs.declared.fault.AnswerFault.{AnswerFault}
 use Rattle.vc_files.specs.FileMap.{FileMap}
-use Rattle.vc_node.proofs.FaultLemmas.{err_as}
-use Rattle.vc_node.specs.Clean.{IsClean}
+use Rattle.vc_local.proofs.FaultLemmas.{err_as}
+use Rattle.vc_local.specs.Clean.{IsClean}
 use Rattle.vc_refs.specs.Head.{IsBadHead, IsHeadLoop, head_of, read_head, said}
 use Rattle.vc_refs.specs.RefFault.{BlamesHeadValue}
 use Rattle.vc_refs.specs.Refs.{SpellsRefs}

@@ -15,7 +15,8 @@ use Rattle.vc_format.specs.Git.{bytes_of_id}
 use Rattle.vc_graph.specs.declared.fault.GraphFault.TheVariants as graph
 use Rattle.vc_message.specs.AnyMessage.{SpellsMessage, a_pack, a_want, an_advert}
 use Rattle.vc_message.proofs.AnyLaws.{written_so}
-use Rattle.vc_message.specs.Told.{Quietly, SendsBytes}
+use Rattle.vc_rules.specs.Told.{Quietly}
+use Rattle.vc_message.specs.Told.{SendsBytes}
 use Rattle.vc_model.specs.Message.{Message}
 use Rattle.vc_model.specs.Message.Message.{Advert, ListRefs, Pack, Want}
 use Rattle.vc_model.specs.Node.{Answer, Deed}
@@ -28,7 +29,7 @@ use Rattle.vc_model.specs.Shared.{SharedNode}
 use Rattle.vc_model.specs.SharedCall.{SharedAnswers}
 use Rattle.vc_model.specs.SharedCall.SharedCall.{Accept}
 use Rattle.vc_model.proofs.Maps.{none_added}
-use Rattle.vc_node.specs.Machine.{failure_of}
+use Rattle.vc_local.specs.Machine.{failure_of}
 use Rattle.vc_object.specs.declared.id.ObjectId.{ObjectId}
 use Rattle.vc_pkt.specs.Message.{IsSpelledBy}
 use Rattle.vc_rules.specs.Git.{git}

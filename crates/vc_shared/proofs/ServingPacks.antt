@@ -24,8 +24,8 @@ use Rattle.vc_model.specs.Refs.{Head as MachineHead}
 use Rattle.vc_model.specs.Refs.Head.{Detached, OnBranch}
 use Rattle.vc_model.specs.Repository.{IsBare, IsSound, Repository}
 use Rattle.vc_model.specs.Shared as shared
-use Rattle.vc_node.specs.Machine.{Spells, machine_head}
-use Rattle.vc_node.specs.Shown.{shown}
+use Rattle.vc_local.specs.Machine.{Spells, machine_head}
+use Rattle.vc_local.specs.Shown.{shown}
 use Rattle.vc_object.specs.Decoding.{StoredObject}
 use Rattle.vc_object.specs.Lines.{IsId}
 use Rattle.vc_object.specs.Object.{IsObject}

@@ -27,8 +27,8 @@ use Rattle.vc_model.specs.Object.{Id}
 use Rattle.vc_model.specs.Refs.{Head as MachineHead}
 use Rattle.vc_model.specs.Repository.{Repository}
 use Rattle.vc_model.specs.Shared as shared
-use Rattle.vc_node.specs.Machine.{Spells, machine_head}
-use Rattle.vc_node.specs.Shown.{shown}
+use Rattle.vc_local.specs.Machine.{Spells, machine_head}
+use Rattle.vc_local.specs.Shown.{shown}
 use Rattle.vc_object.specs.Lines.{IsId}
 use Rattle.vc_object.specs.declared.id.ObjectId.{ObjectId}
 use Rattle.vc_object.proofs.IdLemmas.{IsId-from_is_id}

@@ -5,11 +5,11 @@ use Rattle.std.specs.Prelude.{IfErr, OnErr}
 use Rattle.vc_files.specs.FileMap.{FileMap}
 use Rattle.vc_files.specs.Failures.{Wears, Writes}
 use Rattle.vc_model.specs.SharedCall.{SharedCall}
-use Rattle.vc_node.specs.Clean.{KeepsClean}
-use Rattle.vc_node.specs.declared.fault.NodeFault.TheVariants.{Down}
+use Rattle.vc_local.specs.Clean.{KeepsClean}
+use Rattle.vc_local.specs.declared.fault.NodeFault.TheVariants.{Down}
 use Rattle.vc_session.specs.Clean.{MakesNoneBad}
 use Rattle.vc_session.specs.Session.{SessionText}
-use Rattle.vc_node.proofs.ReceivingClone.{clean_by}
+use Rattle.vc_local.proofs.BesideLemmas.{clean_by}
 use Rattle.vc_shared.specs.Accepting.{AnswersUp}
 use Rattle.vc_shared.specs.Calls.{AcceptedAs, AnswersShared}
 use Rattle.vc_shared.specs.Faults.{TellsDevice, up_after}

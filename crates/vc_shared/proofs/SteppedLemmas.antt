@@ -10,7 +10,8 @@ use Rattle.vc_message.proofs.AnyLaws.{written_so}
 use Rattle.vc_message.proofs.MachineTexts.{report_of}
 use Rattle.vc_message.specs.AnyMessage.{a_report}
 use Rattle.vc_message.specs.Machine.{IsReport as IsMachineReport, IsWritten}
-use Rattle.vc_message.specs.Told.{Quietly, SendsBytes}
+use Rattle.vc_rules.specs.Told.{Quietly}
+use Rattle.vc_message.specs.Told.{SendsBytes}
 use Rattle.vc_model.proofs.Maps.{insert_same, insert_other, remove_other, same_key, none_added}
 use Rattle.vc_model.specs.Message.{Message, Told}
 use Rattle.vc_model.specs.Message.Message.{Report}
@@ -37,8 +38,7 @@ use Rattle.vc_session.specs.declared.stage.Stepped.{Stepped as SessionStep}
 use Rattle.vc_session.specs.declared.stage.Stepped.TheVariants as session
 use Rattle.vc_shared.proofs.CallLemmas.{Leads}
 use Rattle.vc_shared.proofs.HoldingLemmas.{slot_set, slot_other, slot_stays, steps_beside}
-use Rattle.vc_node.proofs.CloneCallLemmas.{held_content}
-use Rattle.vc_node.proofs.ReceivingClone.{clean_on, spells_on}
+use Rattle.vc_local.proofs.BesideLemmas.{clean_on, held_content, spells_on}
 use Rattle.vc_shared.specs.Calls.{SteppedAs}
 use Rattle.vc_shared.specs.Holding.{HoldsShared, HoldsSlot, HoldsSlots}
 use Rattle.vc_shared.specs.Slots.{slot_of}

@@ -7,7 +7,7 @@ use Rattle.vc_files.specs.FileMap.{FileMap}
 use Rattle.vc_files.specs.declared.faults.Fault.{Fault as FilesFault}
 use Rattle.vc_files.specs.declared.faults.Fault.TheVariants.{Memory}
 use Rattle.vc_message.proofs.Totals.{less_or}
-use Rattle.vc_message.specs.Told.{Quietly}
+use Rattle.vc_rules.specs.Told.{Quietly}
 use Rattle.vc_model.specs.Message.{Message}
 use Rattle.vc_model.specs.Node.{Answer, Deed, Failure}
 use Rattle.vc_model.specs.Node.Answer.{Declined, Fault}
@@ -18,9 +18,9 @@ use Rattle.vc_model.specs.Repository.{Effect}
 use Rattle.vc_model.specs.Shared.{SharedNode, StepsPush as StepsMachine}
 use Rattle.vc_model.specs.SharedCall.{SharedAnswers, SharedCall}
 use Rattle.vc_model.specs.SharedCall.SharedCall.{Open, StepOf}
-use Rattle.vc_node.specs.Clean.{IsClean}
-use Rattle.vc_node.specs.Machine.{failure_of}
-use Rattle.vc_node.specs.declared.fault.NodeFault.TheVariants.{Down}
+use Rattle.vc_local.specs.Clean.{IsClean}
+use Rattle.vc_local.specs.Machine.{failure_of}
+use Rattle.vc_local.specs.declared.fault.NodeFault.TheVariants.{Down}
 use Rattle.vc_object.specs.declared.id.ObjectId.{ObjectId}
 use Rattle.vc_push.specs.Report.{IsWrittenReport, ReportText}
 use Rattle.vc_refs.specs.declared.faults.RefFault.TheVariants as ref
@@ -41,8 +41,7 @@ use Rattle.vc_session.specs.declared.stage.Stage.TheVariants as stages
 use Rattle.vc_store.specs.declared.faults.StoreFault.TheVariants as store
 use Rattle.vc_shared.proofs.CallLemmas.{Leads, fault_leads, refused_leads}
 use Rattle.vc_shared.proofs.HoldingLemmas.{beside_objects, beside_same, beside_slot}
-use Rattle.vc_node.proofs.CloneCallLemmas.{held_content}
-use Rattle.vc_node.proofs.ReceivingClone.{SameBeside, clean_on, spells_on}
+use Rattle.vc_local.proofs.BesideLemmas.{SameBeside, clean_on, held_content, spells_on}
 use Rattle.vc_shared.proofs.SlotLemmas.{told_at}
 use Rattle.vc_shared.proofs.SteppedLemmas.{stepped}
 use Rattle.vc_shared.specs.Calls.{AnswersShared, SteppedAs}

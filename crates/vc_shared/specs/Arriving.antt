@@ -6,7 +6,7 @@ use Rattle.vc_files.specs.declared.faults.Fault.TheVariants.{Memory}
 use Rattle.vc_message.specs.Coming.{Came, IsCome, TakesAll, TakesPart, a_message, cut_short, lost, no_message, nothing_came}
 use Rattle.vc_message.specs.AnyMessage.{a_push, any_step, beginning}
 use Rattle.vc_message.specs.Incoming.{TakesFault}
-use Rattle.vc_message.specs.Machine.{TextOf, pkt_number}
+use Rattle.vc_message.specs.Machine.{FirstRead, TextOf, pkt_number}
 use Rattle.vc_message.specs.Streaming.{LeadsTo, of_push, state_at}
 use Rattle.vc_message.specs.declared.incoming_fault.IncomingFault.{IncomingFault}
 use Rattle.vc_message.specs.declared.incoming_fault.IncomingFault.TheVariants as incoming
@@ -17,8 +17,8 @@ use Rattle.vc_model.specs.Question.Question.{Unread as AsksUnread}
 use Rattle.vc_model.specs.Shared.{SharedNode}
 use Rattle.vc_model.specs.SharedCall.{SharedCall}
 use Rattle.vc_model.specs.SharedCall.SharedCall.{Accept, Asks, Open}
-use Rattle.vc_node.specs.Arriving.{FirstRead, TellsLoss}
-use Rattle.vc_node.specs.declared.fault.NodeFault.TheVariants.{Down}
+use Rattle.vc_message.specs.Source.{TellsLoss}
+use Rattle.vc_local.specs.declared.fault.NodeFault.TheVariants.{Down}
 use Rattle.vc_object.specs.declared.fault.ObjectFault.{ObjectFault}
 use Rattle.vc_pkt.specs.ObjectStream.{between}
 use Rattle.vc_pkt.specs.declared.fault.PktFault.{PktFault}

@@ -2,7 +2,8 @@
 -- machine's answer.
 use Rattle.std.specs.Prelude.{◌<◌, Bool, List, Option, Result, Ok, Err, option_map}
 use Rattle.vc_files.specs.FileMap.{FileMap}
-use Rattle.vc_message.specs.Told.{Quietly, SendsBytes}
+use Rattle.vc_rules.specs.Told.{Quietly}
+use Rattle.vc_message.specs.Told.{SendsBytes}
 use Rattle.vc_model.specs.Message.{Message}
 use Rattle.vc_model.specs.Node.{Answer}
 use Rattle.vc_model.specs.Node.Answer.{Did}

@@ -7,9 +7,9 @@ use Rattle.vc_files.specs.declared.faults.Fault.TheVariants.{Memory}
 use Rattle.vc_message.specs.Machine.{pkt_number}
 use Rattle.vc_model.specs.Node.{Answer}
 use Rattle.vc_model.specs.Node.Answer.{Declined}
-use Rattle.vc_node.specs.Machine.{fault_answer as node_answer}
-use Rattle.vc_node.specs.NodeFault.{IsOfDevice as IsNodeDevice, is_fault as is_node_fault, of_source, refused_by_graph, refused_by_refs, refused_by_store}
-use Rattle.vc_node.specs.declared.fault.NodeFault.TheVariants.{Missing, NotACommit, Store}
+use Rattle.vc_local.specs.Machine.{fault_answer as node_answer}
+use Rattle.vc_local.specs.NodeFault.{IsOfDevice as IsNodeDevice, is_fault as is_node_fault, of_source, refused_by_graph, refused_by_refs, refused_by_store}
+use Rattle.vc_local.specs.declared.fault.NodeFault.TheVariants.{Missing, NotACommit, Store}
 use Rattle.vc_pkt.specs.declared.fault.PktError.{PktError}
 use Rattle.vc_pkt.specs.declared.fault.PktError.TheVariants as pkt
 use Rattle.vc_rev.specs.Value.{refusal_number}

@@ -5,9 +5,9 @@ use Rattle.vc_files.specs.FileMap.{FileMap}
 use Rattle.vc_history.specs.Stored.{KeepsAgreement}
 use Rattle.vc_model.specs.Push.{OpenPush, Slots}
 use Rattle.vc_model.specs.Shared.{SharedNode, slot_count}
-use Rattle.vc_node.specs.Clean.{IsClean}
-use Rattle.vc_node.specs.Machine.{Spells}
-use Rattle.vc_node.specs.Shown.{shown}
+use Rattle.vc_local.specs.Clean.{IsClean}
+use Rattle.vc_local.specs.Machine.{Spells}
+use Rattle.vc_local.specs.Shown.{shown}
 use Rattle.vc_rules.specs.OpenPushes.{HoldsPush}
 use Rattle.vc_session.specs.Clean.{IsQuarantineClean, MakesNoneBad}
 use Rattle.vc_session.specs.Learning.{Learnt}

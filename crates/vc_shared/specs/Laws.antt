@@ -5,8 +5,8 @@ use Rattle.vc_files.specs.FileMap.{FileMap}
 use Rattle.vc_history.specs.Numbering.{numbers}
 use Rattle.vc_model.specs.Shared.{SharedNode}
 use Rattle.vc_model.specs.SharedCall.SharedCall.{StepOf}
-use Rattle.vc_node.specs.Opening.{IsOpenable}
-use Rattle.vc_node.specs.declared.fault.NodeFault.TheVariants.{Down}
+use Rattle.vc_local.specs.Opening.{IsOpenable}
+use Rattle.vc_local.specs.declared.fault.NodeFault.TheVariants.{Down}
 use Rattle.vc_object.specs.declared.id.ObjectId.{ObjectId}
 use Rattle.vc_push.specs.Push.{CommandText}
 use Rattle.vc_session.specs.Clean.{MakesNoneBad}

@@ -1,13 +1,13 @@
 -- That the value of an expression over a node's files, or why there is none, is the machine's answer to the question for it.
 use Rattle.std.specs.Prelude.{◌≡◌, ◌≢◌, ℕ, Bool, true, false, List, Option, Result, Ok, IfOk, IfErr}
 use Rattle.vc_files.specs.FileMap.{FileMap}
-use Rattle.vc_message.specs.Told.{Quietly}
+use Rattle.vc_rules.specs.Told.{Quietly}
 use Rattle.vc_model.specs.Node.Answer.{Declined}
 use Rattle.vc_model.specs.Question.Question.{Resolve}
 use Rattle.vc_model.specs.SharedCall.{SharedCall}
 use Rattle.vc_model.specs.SharedCall.SharedCall.{Asks, Open}
-use Rattle.vc_node.specs.Told.{FoundAs}
-use Rattle.vc_node.specs.Values.{rev_answer, up_after_value}
+use Rattle.vc_local.specs.Told.{FoundAs}
+use Rattle.vc_local.specs.Values.{rev_answer, up_after_value}
 use Rattle.vc_object.specs.declared.id.ObjectId.{ObjectId}
 use Rattle.vc_repository.specs.Resolving.{DenotesIn, IsOfExpr}
 use Rattle.vc_rev.specs.Grammar.{ExprText, IsExpr}

@@ -20,10 +20,10 @@ use crate::fault::SharedFault;
 use crate::pushing::lowest_free;
 use std::alloc::Global;
 use vc_files::{Fault, Files};
+use vc_local::NodeFault;
 use vc_message::{
     Head, IncomingFault, Source, Taken, next_object, read_head, skip_pack, skip_push,
 };
-use vc_node::NodeFault;
 use vc_push::Command;
 use vc_session::{Arriving, PushSession, drop_quarantine};
 

@@ -7,7 +7,8 @@ use std::alloc::AllocError;
 use std::error::Error;
 use std::fmt;
 use vc_files::Fault;
-use vc_node::{CloneFault, NodeFault};
+use vc_local::NodeFault;
+use vc_message::NOTHING_AWAITED;
 use vc_object::ObjectId;
 use vc_pack::AnswerFault;
 use vc_pkt::{PktError, PktFault};
@@ -39,7 +40,7 @@ impl fmt::Display for SharedFault {
         match self {
             SharedFault::Unread(fault) => fmt::Display::fmt(fault, f),
             SharedFault::NotOurs(id) => fmt::Display::fmt(&AnswerFault::NotOurs(*id), f),
-            SharedFault::Unexpected => fmt::Display::fmt(&CloneFault::Unexpected, f),
+            SharedFault::Unexpected => f.write_str(NOTHING_AWAITED),
             SharedFault::Busy => f.write_str("110 Busy"),
             SharedFault::NoSuchSlot => f.write_str("111 NoSuchSlot"),
             SharedFault::NoValue(refusal) => fmt::Display::fmt(refusal, f),

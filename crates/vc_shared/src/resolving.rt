@@ -1,6 +1,6 @@
 //! The value of an expression at the shared node: laws, whose contracts are all that they have.
 
-ghost use Rattle.vc_node.specs.Values.{ValuesAreTold};
+ghost use Rattle.vc_local.specs.Values.{ValuesAreTold};
 ghost use Rattle.vc_shared.specs.Resolving.{DownDeclines, ValuesAnswer};
 
 /// Over clean files that spell a repository an expression's value is what its text denotes there, its refusal is the one that

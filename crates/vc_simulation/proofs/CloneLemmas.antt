@@ -36,17 +36,17 @@ use Rattle.vc_node.specs.Awaited.{IsAwaited}
 use Rattle.vc_node.specs.CloneCalls.{AnswersClone}
 use Rattle.vc_node.specs.CloneFaults.{IsOfDevice, TellsDevice, fault_answer, of_device}
 use Rattle.vc_node.specs.declared.clone_fault.CloneFault.TheVariants as clone
-use Rattle.vc_node.specs.declared.fault.NodeFault.TheVariants as node
+use Rattle.vc_local.specs.declared.fault.NodeFault.TheVariants as node
 use Rattle.vc_node.specs.Held.{Held}
-use Rattle.vc_node.specs.Machine.{Answers, AnswersIfSound, HoldsNode, live_of}
-use Rattle.vc_node.specs.Told.{FoundAs}
+use Rattle.vc_local.specs.Machine.{Answers, AnswersIfSound, HoldsNode, live_of}
+use Rattle.vc_local.specs.Told.{FoundAs}
 use Rattle.vc_node.specs.declared.clone_fault.CloneFault.{CloneFault}
 use Rattle.vc_object.specs.declared.id.ObjectId.{ObjectId}
 use Rattle.vc_rev.specs.Faults.{IsBadAt}
 use Rattle.vc_rules.proofs.GitLaws.{git_rules}
 use Rattle.vc_rules.specs.Git.{git}
 use Rattle.vc_events.proofs.RunLemmas.{take_whole}
-use Rattle.vc_message.specs.Told.{Quietly}
+use Rattle.vc_rules.specs.Told.{Quietly}
 use Rattle.vc_simulation.proofs.ItemLemmas.{items_behind, items_refused, zero_refused}
 use Rattle.vc_simulation.proofs.ValueLemmas.{comparison, found_is, refused_is}
 use Rattle.vc_simulation.proofs.SteadyLemmas.{StaysSteady, told_calm}

@@ -12,16 +12,16 @@ use Rattle.vc_message.proofs.ComingLaws.{rest_of_none}
 use Rattle.vc_model.specs.Clone.Awaited.{Nothing}
 use Rattle.vc_model.specs.Repository.{Repository}
 use Rattle.vc_model.specs.World.{empty_repository}
-use Rattle.vc_node.proofs.OpeningLaws.{new_files_open}
+use Rattle.vc_local.proofs.OpeningLaws.{new_files_open}
 use Rattle.vc_node.specs.Awaited.{AwaitedText, IsAwaited, nothing}
-use Rattle.vc_node.specs.Blames.{BlamesOpen}
+use Rattle.vc_local.specs.Blames.{BlamesOpen}
 use Rattle.vc_node.specs.Held.{Held}
-use Rattle.vc_node.specs.IndexFile.{index_bytes}
-use Rattle.vc_node.specs.Machine.{HoldsNode}
-use Rattle.vc_node.specs.NodeFault.{IsOfDevice}
-use Rattle.vc_node.specs.Opening.{IsOpenable, opened_node}
-use Rattle.vc_node.specs.declared.fault.NodeFault.{NodeFault}
-use Rattle.vc_node.specs.declared.fault.NodeFault.TheVariants as node
+use Rattle.vc_local.specs.IndexFile.{index_bytes}
+use Rattle.vc_local.specs.Machine.{HoldsNode}
+use Rattle.vc_local.specs.NodeFault.{IsOfDevice}
+use Rattle.vc_local.specs.Opening.{IsOpenable, opened_node}
+use Rattle.vc_local.specs.declared.fault.NodeFault.{NodeFault}
+use Rattle.vc_local.specs.declared.fault.NodeFault.TheVariants as node
 use Rattle.vc_refs.specs.Head.{read_head}
 use Rattle.vc_refs.specs.RefFault.{BlamesHead}
 use Rattle.vc_refs.specs.declared.faults.RefFault.{RefFault}

@@ -13,7 +13,7 @@ use Rattle.vc_events.specs.declared.answers.Told.TheVariants as told
 use Rattle.vc_files.specs.FileMap.{FileMap}
 use Rattle.vc_files.specs.declared.faults.Fault.TheVariants as files
 use Rattle.vc_format.specs.Git.{bytes_of_id}
-use Rattle.vc_message.specs.Told.{Quietly}
+use Rattle.vc_rules.specs.Told.{Quietly}
 use Rattle.vc_model.specs.Message.{Message}
 use Rattle.vc_model.specs.Node.{Answer, Deed as MachineDeed}
 use Rattle.vc_model.specs.Node.Answer.{Declined, Did, Fault}
@@ -31,7 +31,7 @@ use Rattle.vc_object.specs.declared.id.ObjectId.{ObjectId}
 use Rattle.vc_rev.specs.Faults.{IsBadAt}
 use Rattle.vc_rules.proofs.GitLaws.{git_rules}
 use Rattle.vc_rules.specs.Git.{git}
-use Rattle.vc_node.specs.Told.{FoundAs}
+use Rattle.vc_local.specs.Told.{FoundAs}
 use Rattle.vc_shared.specs.Calls.{AnswersShared}
 use Rattle.vc_shared.specs.Faults.{TellsDevice, fault_answer}
 use Rattle.vc_shared.specs.declared.fault.SharedFault.{SharedFault}

@@ -14,9 +14,9 @@ use Rattle.vc_model.specs.Repository.{Repository}
 use Rattle.vc_model.specs.Shared.{SharedNode}
 use Rattle.vc_node.specs.Awaited.{IsAwaited}
 use Rattle.vc_node.specs.Held.{Held}
-use Rattle.vc_node.specs.Machine.{HoldsNode}
-use Rattle.vc_node.specs.declared.fault.NodeFault.{NodeFault}
-use Rattle.vc_node.specs.declared.fault.NodeFault.TheVariants.{Ref, Store}
+use Rattle.vc_local.specs.Machine.{HoldsNode}
+use Rattle.vc_local.specs.declared.fault.NodeFault.{NodeFault}
+use Rattle.vc_local.specs.declared.fault.NodeFault.TheVariants.{Ref, Store}
 use Rattle.vc_refs.specs.declared.faults.RefFault.TheVariants as ref
 use Rattle.vc_shared.specs.Holding.{HoldsShared, SharedText}
 use Rattle.vc_store.specs.declared.faults.StoreFault.TheVariants as store

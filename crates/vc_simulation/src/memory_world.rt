@@ -11,7 +11,7 @@ use crate::{WorldClone, WorldShared};
 use std::alloc::Global;
 use vc_events::{Answer, Event, World};
 use vc_files::{Fault, FusedFiles, MemoryFiles};
-use vc_node::NodeFault;
+use vc_local::NodeFault;
 use vc_refs::RefFault;
 use vc_store::StoreFault;
 

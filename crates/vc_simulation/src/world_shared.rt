@@ -7,8 +7,8 @@ ghost use Rattle.vc_events.specs.World.{fresh_shared};
 ghost use Rattle.vc_model.specs.Question.Question.{Resolve};
 ghost use Rattle.vc_model.specs.SharedCall.SharedCall.{Asks as AsksShared};
 ghost use Rattle.vc_model.specs.Repository.{Repository};
-ghost use Rattle.vc_node.specs.Blames.{BlamesOpen};
-ghost use Rattle.vc_node.specs.Opening.{IsOpenable, OpenableAs};
+ghost use Rattle.vc_local.specs.Blames.{BlamesOpen};
+ghost use Rattle.vc_local.specs.Opening.{IsOpenable, OpenableAs};
 ghost use Rattle.vc_simulation.specs.Nodes.{HoldsServed, IsSteady, IsWantOfMemory, opened_shared};
 ghost use Rattle.vc_simulation.specs.Values.{FindsShared, IsValue};
 
@@ -16,7 +16,7 @@ use crate::ends::{DOWN, NO_EXPRESSION, accepted, restarted, shared_value, steppe
 use std::alloc::Global;
 use vc_events::{Deed, Ended, SharedCalls, Told};
 use vc_files::{Fault, Files};
-use vc_node::NodeFault;
+use vc_local::NodeFault;
 use vc_object::ObjectId;
 use vc_rev::{ParseFault, parse};
 use vc_shared::Shared;

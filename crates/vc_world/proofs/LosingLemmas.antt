@@ -4,13 +4,13 @@ use Rattle.vc_files.specs.FileMap.{FileMap}
 use Rattle.vc_files.specs.declared.faults.Fault.{Fault as FilesFault}
 use Rattle.vc_message.specs.Coming.{Came, IsCome, a_message, cut_short, lost, no_message, nothing_came}
 use Rattle.vc_message.specs.Incoming.{TakesNothing}
-use Rattle.vc_message.specs.Source.{one_more}
+use Rattle.vc_message.specs.Source.{TellsLoss, one_more}
 use Rattle.vc_model.specs.CloneCall.{CloneCall}
 use Rattle.vc_model.specs.CloneCall.CloneCall.{Open, Receive}
 use Rattle.vc_model.specs.Message.{Message}
 use Rattle.vc_node.proofs.CloneCallLemmas.{fault_leads}
 use Rattle.vc_node.proofs.ReceivingClone.{up_answers}
-use Rattle.vc_node.specs.Arriving.{IsKnown, IsTold, KeepsHeld, ReceivesFrom, TellsLoss, ToldAs}
+use Rattle.vc_node.specs.Arriving.{IsKnown, IsTold, KeepsHeld, ReceivesFrom, ToldAs}
 use Rattle.vc_node.specs.Awaited.{AwaitedText}
 use Rattle.vc_node.specs.CloneCalls.{AnswersClone, ReceivedAs}
 use Rattle.vc_node.specs.CloneFaults.{of_device}

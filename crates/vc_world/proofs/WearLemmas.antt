@@ -11,7 +11,7 @@ use Rattle.vc_message.specs.declared.message.Message.TheVariants as of
 use Rattle.vc_node.specs.CloneFaults.{IsOfDevice, TellsDevice, of_device}
 use Rattle.vc_node.specs.declared.clone_fault.CloneFault.{CloneFault}
 use Rattle.vc_node.specs.declared.clone_fault.CloneFault.TheVariants.{Node}
-use Rattle.vc_node.specs.declared.fault.NodeFault.TheVariants.{Down}
+use Rattle.vc_local.specs.declared.fault.NodeFault.TheVariants.{Down}
 use Rattle.vc_node.specs.declared.exchanging.Received.{Received}
 use Rattle.vc_node.specs.declared.exchanging.Received.TheVariants.{Moved, Reported, Send}
 use Rattle.vc_world.specs.Devices.{IsLost, IsOfClone, IsOwn, IsToRead, Lost, TellsClone, TellsPeer, WritesOrLoses}

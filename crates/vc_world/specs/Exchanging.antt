@@ -9,7 +9,8 @@ use Rattle.vc_message.specs.AnyMessage.{MessageText}
 use Rattle.vc_message.specs.AnyView.{message_text}
 use Rattle.vc_message.specs.Machine.{IsReport, Reads, TextOf}
 use Rattle.vc_message.specs.Read.{WasRead}
-use Rattle.vc_message.specs.Told.{Quietly, SendsBytes}
+use Rattle.vc_rules.specs.Told.{Quietly}
+use Rattle.vc_message.specs.Told.{SendsBytes}
 use Rattle.vc_model.specs.Clone.{Awaited, CloneNode}
 use Rattle.vc_model.specs.Exchange.{AreReady, AreUp, IsCaughtUp, IsUndone, MayPush, one_item}
 use Rattle.vc_model.specs.Message.{Message}
@@ -23,7 +24,7 @@ use Rattle.std.specs.FinMap.{get}
 use Rattle.vc_node.specs.Awaited.{IsAwaited}
 use Rattle.vc_node.specs.CloneFaults.{fault_answer}
 use Rattle.vc_node.specs.Held.{Held}
-use Rattle.vc_node.specs.Machine.{HoldsNode}
+use Rattle.vc_local.specs.Machine.{HoldsNode}
 use Rattle.vc_object.specs.declared.id.ObjectId.{ObjectId}
 use Rattle.vc_push.specs.ReportView.{report_text}
 use Rattle.vc_push.specs.declared.report.Report.{Report as PushReport}

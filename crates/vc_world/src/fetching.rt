@@ -15,8 +15,9 @@ ghost use Rattle.vc_world.specs.Exchanging.{Begins, Brings, CatchesUp, HoldsClon
 use crate::losing::lose;
 use crate::{ExchangeEnd, Peer, Reply};
 use vc_files::{Fault, Files};
+use vc_local::NodeFault;
 use vc_message::Source;
-use vc_node::{CloneFault, CloneNode, NodeFault, ReceiveFault, Received};
+use vc_node::{CloneFault, CloneNode, ReceiveFault, Received};
 
 /// What came of a fetch.
 #[derive(Clone, Copy)]

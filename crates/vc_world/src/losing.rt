@@ -7,7 +7,8 @@ ghost use Rattle.vc_node.specs.CloneFaults.{of_device};
 ghost use Rattle.vc_node.specs.Node.{AnswersCall};
 
 use vc_files::{Fault, Files};
-use vc_node::{CloneFault, CloneNode, NodeFault};
+use vc_local::NodeFault;
+use vc_node::{CloneFault, CloneNode};
 use vc_store::StoreFault;
 
 // A fault between the nodes ends the call by which the clone would have taken the answer, so the clone goes down.

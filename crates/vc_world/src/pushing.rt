@@ -15,8 +15,9 @@ use crate::{ExchangeEnd, Peer, Reply};
 use std::alloc::Global;
 use vc_exchange::PushItem;
 use vc_files::{Fault, Files};
+use vc_local::NodeFault;
 use vc_message::{IncomingFault, Message, Source, read_message};
-use vc_node::{CloneFault, CloneNode, NodeFault, Received};
+use vc_node::{CloneFault, CloneNode, Received};
 use vc_pkt::PktError;
 use vc_push::Report;
 

@@ -2,13 +2,13 @@ use Rattle.std.proofs.Common.{rules, ◌≡◌, Bool, List, Err, true, map, refl
 use Rattle.vc_arguments.specs.Modes.{mode_of}
 use Rattle.vc_files.proofs.WearLemmas.{wears_writes}
 use Rattle.vc_files.specs.FileMap.{FileMap}
-use Rattle.vc_node.specs.IndexFile.{SpellsIndex}
+use Rattle.vc_local.specs.IndexFile.{SpellsIndex}
 use Rattle.vc_model.specs.Node.Answer.{Did}
 use Rattle.vc_model.specs.Node.Reply.{Stored}
-use Rattle.vc_node.specs.Shown.{shown}
-use Rattle.vc_node.specs.Staging.{BlamesStaging, File, MayStandAll, StagesShown, file_placed, placed}
-use Rattle.vc_node.specs.declared.fault.NodeFault.TheVariants.{Down}
-use Rattle.vc_node.specs.declared.staging.Staged.{Staged}
+use Rattle.vc_local.specs.Shown.{shown}
+use Rattle.vc_local.specs.Staging.{BlamesStaging, File, MayStandAll, StagesShown, file_placed, placed}
+use Rattle.vc_local.specs.declared.fault.NodeFault.TheVariants.{Down}
+use Rattle.vc_local.specs.declared.staging.Staged.{Staged}
 use Rattle.vc_commands.specs.Adding.{AreBlobs, AreNamed, IsOfStoring, RefusesAdd, RefusesFiles, StoresBlobs, StoresFiles, files_at, files_named}
 use Rattle.vc_commands.specs.declared.failure.Failure.TheVariants.{Node}
 use Rattle.vc_commands.proofs.AddLemmas.{handed_on}

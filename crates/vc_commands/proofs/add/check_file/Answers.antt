@@ -12,7 +12,7 @@ use Rattle.vc_object.specs.ObjectFault.{BodyFault}
 use Rattle.vc_object.specs.declared.kind.Kind.TheVariants.{Blob}
 use Rattle.vc_object.specs.declared.mode.Mode.{Mode}
 use Rattle.vc_store.specs.declared.faults.StoreFault.TheVariants as store
-use Rattle.vc_node.specs.NodeFault.{of_index}
+use Rattle.vc_local.specs.NodeFault.{of_index}
 use Rattle.vc_commands.specs.Adding.{IsOfFile, file_at}
 use Rattle.vc_commands.specs.declared.failure.Failure.TheVariants.{Node, Object}
 use Rattle.vc_commands.proofs.AddLemmas.{handed_on, of_body}

@@ -8,8 +8,8 @@ use Rattle.vc_model.specs.Clone.Task.{Write}
 use Rattle.vc_model.specs.Node.Answer.{Did}
 use Rattle.vc_model.specs.Node.Reply.{Made}
 use Rattle.vc_model.specs.Object.{blob}
-use Rattle.vc_node.specs.Machine.{AnswersShown}
-use Rattle.vc_node.specs.Shown.{shown}
+use Rattle.vc_local.specs.Machine.{AnswersShown}
+use Rattle.vc_local.specs.Shown.{shown}
 use Rattle.vc_commands.specs.Adding.{IsOfStoring, file_at}
 use Rattle.vc_commands.specs.declared.failure.Failure.TheVariants.{Fault, Node}
 use Rattle.vc_commands.proofs.AddLemmas.{blobs_one, first_all, first_none, handed_on, stores_one, write_refused}

@@ -7,8 +7,8 @@ use Rattle.vc_files.proofs.WearLemmas.{writes_none}
 use Rattle.vc_object.specs.Object.{IsObject}
 use Rattle.vc_object.specs.declared.kind.Kind.TheVariants.{Blob}
 use Rattle.vc_object.specs.declared.mode.Mode.TheVariants.{Tree}
-use Rattle.vc_node.specs.Staging.{File}
-use Rattle.vc_node.specs.declared.staging.Staged.{Staged}
+use Rattle.vc_local.specs.Staging.{File}
+use Rattle.vc_local.specs.declared.staging.Staged.{Staged}
 use Rattle.vc_commands.specs.Adding.{IsNamed, IsOfStoring, StoresBlobs, StoresFiles, file_at, files_at}
 use Rattle.vc_commands.specs.declared.failure.Failure.TheVariants.{Fault}
 use Rattle.vc_commands.proofs.AddLemmas.{all_at, blob_at, done_at, first_all, handed_on, named_more, rest_at, storing_from, stores_more, stores_none}

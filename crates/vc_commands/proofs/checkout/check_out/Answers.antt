@@ -12,8 +12,8 @@ use Rattle.vc_checkout.specs.declared.faults.CheckoutFault.{CheckoutFault}
 use Rattle.vc_files.proofs.WearLemmas.{wears_writes}
 use Rattle.vc_index.specs.IndexMap.{IndexMap}
 use Rattle.vc_refs.specs.declared.heads.Head.{Head}
-use Rattle.vc_node.specs.Shown.{Shown, with_head_shown}
-use Rattle.vc_node.proofs.ShownLemmas.{shown_head, shown_index_from}
+use Rattle.vc_local.specs.Shown.{Shown, with_head_shown}
+use Rattle.vc_local.proofs.ShownLemmas.{shown_head, shown_index_from}
 use Rattle.vc_commands.specs.Checkout.{LeavesHead, LeavesWork, MayBring, RefusesCheckout}
 use Rattle.vc_commands.specs.Checkout.RefusesCheckout.{of_look}
 use Rattle.vc_commands.specs.Failure.{of_checkout, status_of}

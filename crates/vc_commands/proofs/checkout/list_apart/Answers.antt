@@ -1,6 +1,6 @@
 use Rattle.std.proofs.Common.{ap, inl, inr, refl, subst, sym}
 use Rattle.std.specs.Prelude.{is_some}
-use Rattle.vc_node.specs.declared.fault.NodeFault.{NodeFault}
+use Rattle.vc_local.specs.declared.fault.NodeFault.{NodeFault}
 use Rattle.vc_commands.specs.Checkout.{IsOfTreeList}
 use Rattle.vc_commands.specs.declared.failure.Failure.TheVariants.{Node}
 use Rattle.vc_commands.proofs.CheckoutLemmas.{own_of_tree, list_blames}

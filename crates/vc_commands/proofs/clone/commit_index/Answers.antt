@@ -1,6 +1,6 @@
 use Rattle.std.proofs.Common.{rules, map}
 use Rattle.vc_files.proofs.WearLemmas.{wears_then, wears_writes}
-use Rattle.vc_node.proofs.LookLemmas.{looks_told}
+use Rattle.vc_local.proofs.LookLemmas.{looks_told}
 use Rattle.std.proofs.KnownBytes.{Keeps-refl}
 use Rattle.std.proofs.lemmas.Result.{IfErr-weaker}
 use Rattle.vc_commands.proofs.BodyLemmas.{OnOk-map}

@@ -9,8 +9,8 @@ use Rattle.vc_node.proofs.ComingLemmas.{comes_lost, comes_receives, nothing_rece
 use Rattle.vc_node.proofs.KeepingLemmas.{good_same}
 use Rattle.vc_node.specs.Awaited.{awaited_text}
 use Rattle.vc_node.specs.ReceiveFault.{of_incoming}
-use Rattle.vc_message.proofs.SourceLaws.{ok_is_no_error, tells_error, tells_ok}
-use Rattle.vc_node.proofs.LossLemmas.{loss_came, loss_of_some, loss_then, loss_told}
+use Rattle.vc_message.proofs.SourceLaws.{loss_then, ok_is_no_error, tells_error, tells_ok}
+use Rattle.vc_node.proofs.LossLemmas.{loss_came, loss_of_some, loss_told}
 use Rattle.vc_node.proofs.arriving.take_next.Goals as goal
 
 -- ---- no message

@@ -1,11 +1,11 @@
 use Rattle.std.proofs.Common.{inr, refl}
 use Rattle.vc_files.proofs.WearLemmas.{writes_none}
-use Rattle.vc_message.proofs.Readings.{text_read}
+use Rattle.vc_message.proofs.Readings.{never_unread, text_read}
 use Rattle.vc_message.specs.AnyView.{message_text}
 use Rattle.vc_node.proofs.KeepingLemmas.{good_same}
-use Rattle.vc_node.proofs.LookLemmas.{looks_none}
+use Rattle.vc_local.proofs.LookLemmas.{looks_none}
 use Rattle.vc_node.proofs.ReceivingClone.{kept_here}
-use Rattle.vc_node.proofs.UnreadLemmas.{failed_answers, failed_refused, failed_unread, message_refused, never_unread, no_device}
+use Rattle.vc_node.proofs.UnreadLemmas.{failed_answers, failed_refused, failed_unread, message_refused, no_device}
 use Rattle.vc_node.specs.Awaited.{awaited_text}
 use Rattle.vc_node.proofs.exchanging.receive.Goals as goal
 

@@ -8,7 +8,7 @@ use Rattle.vc_files.proofs.WearLemmas.{writes_none}
 use Rattle.vc_model.specs.CloneCall.CloneCall.{Receive}
 use Rattle.vc_node.proofs.ExchangingLemmas.{advert_blamed, advert_failed, advert_followed, advert_may, advert_no_message, advert_refused, advert_unexpected, advert_wanted, awaiting, none_agree, still_awaiting}
 use Rattle.vc_node.proofs.KeepingLemmas.{good_same}
-use Rattle.vc_node.proofs.LookLemmas.{looks_none, or_told}
+use Rattle.vc_local.proofs.LookLemmas.{looks_none, or_told}
 use Rattle.vc_node.proofs.ReceivingClone.{nothing_beside, refs_beside}
 use Rattle.vc_node.proofs.ReceivingFaults.{device_from, kept_as}
 use Rattle.vc_node.specs.Awaited.{awaited_text}

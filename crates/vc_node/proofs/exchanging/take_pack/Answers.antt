@@ -6,11 +6,11 @@ use Rattle.vc_files.specs.FileMap.{FileMap}
 use Rattle.vc_model.specs.CloneCall.CloneCall.{Receive}
 use Rattle.vc_node.proofs.ExchangingLemmas.{awaiting, none_agree, pack_blamed, pack_failed, pack_refused, pack_taken, pack_unexpected, same_pack, still_awaiting}
 use Rattle.vc_node.proofs.KeepingLemmas.{good_same}
-use Rattle.vc_node.proofs.LookLemmas.{looks_none}
+use Rattle.vc_local.proofs.LookLemmas.{looks_none}
 use Rattle.vc_node.proofs.ReceivingClone.{beside_kept, nothing_beside}
 use Rattle.vc_node.proofs.ReceivingFaults.{incomplete_alone, kept_as}
 use Rattle.vc_node.specs.Awaited.{awaited_text}
-use Rattle.vc_node.specs.Machine.{HoldsNode}
+use Rattle.vc_local.specs.Machine.{HoldsNode}
 use Rattle.vc_node.specs.declared.exchanging.Received.TheVariants.{Moved}
 use Rattle.vc_node.proofs.exchanging.take_pack.Goals as goal
 

@@ -1,7 +1,7 @@
 use Rattle.std.proofs.Common.{rules}
 use Rattle.vc_exchange.proofs.KeptLemmas.{keeps_beside_refs}
 use Rattle.vc_node.proofs.ExchangingLemmas.{none_agree, report_blamed, report_failed, report_may, report_taken}
-use Rattle.vc_node.proofs.LookLemmas.{or_told}
+use Rattle.vc_local.proofs.LookLemmas.{or_told}
 use Rattle.vc_node.proofs.ReceivingFaults.{device_from, files_no_message, kept_as}
 use Rattle.vc_node.specs.Awaited.{awaited_text}
 use Rattle.vc_push.specs.ReportView.{report_text}

@@ -4,8 +4,7 @@ use Rattle.vc_files.proofs.WearLemmas.{writes_both}
 use Rattle.vc_shared.specs.Arriving.{AnswersKnown}
 use Rattle.vc_shared.specs.declared.accepting.Accepted.{Accepted}
 use Rattle.vc_server.proofs.ComingLemmas.{fault_known, fault_served, none_known, none_served, reply_known, reply_served, taken_up}
-use Rattle.vc_message.proofs.SourceLaws.{ok_is_no_error, same_error}
-use Rattle.vc_node.proofs.LossLemmas.{loss_as}
+use Rattle.vc_message.proofs.SourceLaws.{loss_as, ok_is_no_error, same_error}
 use Rattle.vc_shared.proofs.LossLemmas.{node_is_no_loss}
 use Rattle.vc_server.proofs.answering.answer_from.Goals as goal
 

@@ -1,6 +1,6 @@
 use Rattle.std.proofs.Common.{None, inr, refl, sym, ◌∙◌, arith, rules}
 use Rattle.vc_files.proofs.WearLemmas.{writes_both, writes_none}
-use Rattle.vc_node.proofs.CleanLemmas.{clean_same, clean_then}
+use Rattle.vc_local.proofs.CleanLemmas.{clean_same, clean_then}
 use Rattle.vc_server.proofs.ServingLemmas.{err_is, never_so_long, none_stepped, one_stepped, refused_to_end, stays_up, told_to_end, while_up}
 use Rattle.vc_shared.specs.Slots.{slot_of}
 use Rattle.vc_server.proofs.answering.finish.Goals as goal

@@ -1,5 +1,5 @@
 use Rattle.vc_files.specs.Failures.{Writes}
-use Rattle.vc_node.specs.Clean.{KeepsClean}
+use Rattle.vc_local.specs.Clean.{KeepsClean}
 use Rattle.vc_server.proofs.ServingLemmas.{HasStepped}
 use Rattle.std.proofs.Common.{◌≡◌, true}
 use Rattle.vc_server.proofs.answering.finish.Given as goal

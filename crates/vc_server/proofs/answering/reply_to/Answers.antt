@@ -1,6 +1,6 @@
 use Rattle.std.proofs.Common.{refl}
 use Rattle.vc_files.proofs.WearLemmas.{writes_none}
-use Rattle.vc_node.proofs.CleanLemmas.{clean_same}
+use Rattle.vc_local.proofs.CleanLemmas.{clean_same}
 use Rattle.vc_server.proofs.ServingLemmas.{replied_at_once, served_by_steps, stays_as}
 use Rattle.vc_server.proofs.answering.reply_to.Goals as goal
 

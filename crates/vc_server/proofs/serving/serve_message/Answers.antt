@@ -2,7 +2,7 @@ use Rattle.std.proofs.Common.{sym, ◌∙◌}
 use Rattle.vc_files.proofs.WearLemmas.{writes_told}
 use Rattle.vc_server.proofs.TurnLemmas.{answer_leaves, answer_up, device_from, device_to, lost_from, lost_to}
 use Rattle.vc_server.specs.Coming.{ServesAs}
-use Rattle.vc_node.proofs.LossLemmas.{loss_as}
+use Rattle.vc_message.proofs.SourceLaws.{loss_as}
 use Rattle.vc_server.proofs.serving.serve_message.Goals as goal
 
 pub returns-clause-turn : goal.returns-clause-turn

@@ -1,9 +1,8 @@
 use Rattle.std.proofs.Common.{inr}
 use Rattle.vc_files.proofs.WearLemmas.{writes_none}
-use Rattle.vc_message.proofs.Readings.{text_read}
+use Rattle.vc_message.proofs.Readings.{never_unread, text_read}
 use Rattle.vc_message.specs.AnyView.{message_text}
-use Rattle.vc_node.proofs.LookLemmas.{looks_none}
-use Rattle.vc_node.proofs.UnreadLemmas.{never_unread}
+use Rattle.vc_local.proofs.LookLemmas.{looks_none}
 use Rattle.vc_shared.proofs.AcceptingLemmas.{failed_answers, failed_refused, failed_unread, message_refused, no_device}
 use Rattle.vc_shared.proofs.accepting.accept.Goals as goal
 

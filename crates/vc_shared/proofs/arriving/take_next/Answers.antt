@@ -12,8 +12,7 @@ use Rattle.vc_shared.proofs.HoldingLemmas.{good_same}
 use Rattle.vc_shared.specs.AcceptFault.{of_incoming}
 use Rattle.vc_shared.specs.declared.accept_fault.AcceptFault.TheVariants.{Node}
 use Rattle.vc_shared.specs.declared.fault.SharedFault.TheVariants.{Unexpected}
-use Rattle.vc_message.proofs.SourceLaws.{ok_is_no_error, tells_error, tells_not, tells_ok, tells_then}
-use Rattle.vc_node.proofs.LossLemmas.{loss_then}
+use Rattle.vc_message.proofs.SourceLaws.{loss_then, ok_is_no_error, tells_error, tells_not, tells_ok, tells_then}
 use Rattle.vc_shared.proofs.LossLemmas.{loss_came, loss_of_slot, loss_told, message_is_no_loss, node_is_no_loss}
 use Rattle.vc_shared.proofs.arriving.take_next.Goals as goal
 

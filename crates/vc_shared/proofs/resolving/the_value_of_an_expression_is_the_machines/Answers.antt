@@ -1,4 +1,4 @@
-use Rattle.vc_node.proofs.ValueLemmas.{values_are_told}
+use Rattle.vc_local.proofs.ValueLemmas.{values_are_told}
 use Rattle.vc_shared.proofs.ResolvingLemmas.{down_declines, values_answer}
 use Rattle.vc_shared.proofs.resolving.the_value_of_an_expression_is_the_machines.Goals as goal
 

@@ -3,11 +3,11 @@ use Rattle.vc_files.proofs.WearLemmas.{wears_then, wears_writes, writes_told}
 use Rattle.vc_files.specs.FileMap.{FileMap}
 use Rattle.vc_files.specs.declared.faults.Fault.TheVariants.{Memory}
 use Rattle.vc_lemmas.proofs.Lists.{on_err}
-use Rattle.vc_node.proofs.LookLemmas.{looks_then}
+use Rattle.vc_local.proofs.LookLemmas.{looks_then}
 use Rattle.vc_session.specs.declared.fault.SessionFault.TheVariants as session
 use Rattle.vc_shared.specs.Faults.{of_device}
 use Rattle.vc_shared.specs.Stepping.{EndsSlotEarly, IsRefusedIn, MayWriteIn}
-use Rattle.vc_node.proofs.FaultLemmas.{err_as}
+use Rattle.vc_local.proofs.FaultLemmas.{err_as}
 use Rattle.vc_shared.proofs.FaultLemmas.{looks_as, memory_refused, writes_as}
 use Rattle.vc_shared.proofs.SlotLemmas.{end_early}
 use Rattle.vc_shared.proofs.TellingLemmas.{short_report}

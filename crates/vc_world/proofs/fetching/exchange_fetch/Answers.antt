@@ -1,6 +1,6 @@
 use Rattle.std.proofs.Common.{◌≡◌, true, false, Ok, Err, refl, rules}
 use Rattle.vc_files.proofs.WearLemmas.{writes_both, writes_none}
-use Rattle.vc_node.proofs.LookLemmas.{looks_none, looks_then}
+use Rattle.vc_local.proofs.LookLemmas.{looks_none, looks_then}
 use Rattle.vc_world.specs.Exchanging.{HoldsClone}
 use Rattle.vc_world.specs.declared.fetching.Fetched.{Fetched}
 use Rattle.vc_world.proofs.FetchRounds.{begins, breaks_off, catches_up, comes_to_end, goes_on}

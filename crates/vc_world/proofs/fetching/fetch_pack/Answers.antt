@@ -1,5 +1,5 @@
 use Rattle.vc_files.proofs.WearLemmas.{writes_none}
-use Rattle.vc_node.proofs.LookLemmas.{looks_told}
+use Rattle.vc_local.proofs.LookLemmas.{looks_told}
 use Rattle.vc_world.proofs.RoundCalls.{no_pack, pack_comes}
 use Rattle.vc_world.proofs.WearLemmas.{lost_told, none_lost, one_lost, settled_from, settled_own, settled_to}
 use Rattle.vc_world.proofs.fetching.fetch_pack.Goals as goal

@@ -1,6 +1,6 @@
 use Rattle.std.proofs.Common.{sym, ◌∙◌}
 use Rattle.vc_files.proofs.WearLemmas.{writes_from, writes_none}
-use Rattle.vc_node.proofs.LookLemmas.{looks_none, looks_then, looks_told}
+use Rattle.vc_local.proofs.LookLemmas.{looks_none, looks_then, looks_told}
 use Rattle.vc_world.proofs.RoundCalls.{ended, unanswered, unstarted, wanted}
 use Rattle.vc_world.proofs.WearLemmas.{asks_on, begins_calm, ends_so, lost_from, lost_told, none_lost, one_lost, quiet, then_lost}
 use Rattle.vc_world.proofs.fetching.fetch_round.Goals as goal

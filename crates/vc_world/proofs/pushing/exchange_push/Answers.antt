@@ -3,7 +3,7 @@ use Rattle.vc_exchange.specs.Sending.{machine_items}
 use Rattle.vc_files.proofs.WearLemmas.{wears_writes}
 use Rattle.vc_model.specs.Clone.{IsItemId}
 use Rattle.vc_model.specs.Object.{zero_id}
-use Rattle.vc_node.proofs.LookLemmas.{looks_none, looks_told}
+use Rattle.vc_local.proofs.LookLemmas.{looks_none, looks_told}
 use Rattle.vc_world.specs.declared.ending.ExchangeEnd.TheVariants.{Clone, Shared}
 use Rattle.vc_world.proofs.PushCalls.{comes, not_answered, not_sent, pushes_one}
 use Rattle.vc_world.proofs.WearLemmas.{lost_told, none_lost, one_lost, own_peer, then_lost}

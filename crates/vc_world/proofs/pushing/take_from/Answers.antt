@@ -5,7 +5,7 @@ use Rattle.vc_message.specs.declared.incoming_fault.IncomingFault.{IncomingFault
 use Rattle.vc_model.specs.CloneCall.CloneCall.{Receive}
 use Rattle.vc_node.proofs.CloneCallLemmas.{down_clone}
 use Rattle.vc_node.specs.declared.clone_fault.CloneFault.TheVariants.{Node}
-use Rattle.vc_node.specs.declared.fault.NodeFault.TheVariants.{Down}
+use Rattle.vc_local.specs.declared.fault.NodeFault.TheVariants.{Down}
 use Rattle.vc_world.proofs.WearLemmas.{begins_calm, lost_then, none_lost, none_written}
 use Rattle.vc_world.proofs.pushing.take_from.Goals as goal
 

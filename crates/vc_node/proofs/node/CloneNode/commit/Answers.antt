@@ -1,16 +1,17 @@
 use Rattle.vc_format.specs.Git.{bytes_of_id}
 use Rattle.vc_model.specs.Clone.Task.{MakeCommit}
-use Rattle.vc_node.proofs.MayLemmas.{commit_may}
-use Rattle.vc_node.proofs.LookLemmas.{looks_none, or_told, or_failed}
+use Rattle.vc_local.proofs.MayLemmas.{commit_may}
+use Rattle.vc_local.proofs.LookLemmas.{looks_none, or_told, or_failed}
 use Rattle.std.proofs.Common.{refl, rules, ap, inl, inr, sym, subst, map}
 use Rattle.vc_files.specs.FileMap.{FileMap}
 use Rattle.vc_files.proofs.FileMapLemmas.{outside_same}
-use Rattle.vc_node.specs.Making.{EndsCommit, LeftByCommit}
-use Rattle.vc_node.proofs.AnswerLemmas.{answers_down}
-use Rattle.vc_node.proofs.CommitAnswers.{commit_done}
-use Rattle.vc_node.proofs.CommitFailures.{commit_failed}
-use Rattle.vc_node.proofs.CleanLemmas.{clean_same}
-use Rattle.vc_node.proofs.SoundAnswers.{answered_if_sound, answers_too, may_if_sound, sound_failed, sound_from}
+use Rattle.vc_local.specs.Making.{EndsCommit, LeftByCommit}
+use Rattle.vc_local.proofs.AnswerLemmas.{answers_down}
+use Rattle.vc_local.proofs.CommitAnswers.{commit_done}
+use Rattle.vc_local.proofs.CommitFailures.{commit_failed}
+use Rattle.vc_local.proofs.CleanLemmas.{clean_same}
+use Rattle.vc_node.proofs.HeldAnswers.{answered_if_sound}
+use Rattle.vc_local.proofs.SoundAnswers.{answers_too, may_if_sound, sound_failed, sound_from}
 use Rattle.vc_pack.proofs.KeepsLemmas.{StandsIn-kept}
 use Rattle.vc_node.proofs.KeepingLemmas.{keeps_committed, keeps_left}
 use Rattle.vc_node.proofs.node.CloneNode.commit.Goals as goal

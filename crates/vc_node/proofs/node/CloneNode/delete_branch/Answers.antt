@@ -1,13 +1,14 @@
 use Rattle.vc_model.specs.Clone.Task.{DeleteBranch}
-use Rattle.vc_node.proofs.MayLemmas.{may_or, delete_may}
-use Rattle.vc_node.proofs.LookLemmas.{looks_none}
+use Rattle.vc_local.proofs.MayLemmas.{may_or, delete_may}
+use Rattle.vc_local.proofs.LookLemmas.{looks_none}
 use Rattle.std.proofs.Common.{refl, rules, ap, ◌∙◌, inr, inl}
-use Rattle.vc_node.proofs.AnswerLemmas.{answered, answers_down, answers_from, failed, or_unshown}
-use Rattle.vc_node.proofs.BranchLemmas.{delete_done, delete_failed}
-use Rattle.vc_node.proofs.CleanLemmas.{clean_same}
+use Rattle.vc_node.proofs.HeldAnswers.{answered}
+use Rattle.vc_local.proofs.AnswerLemmas.{answers_down, answers_from, failed, or_unshown}
+use Rattle.vc_local.proofs.BranchLemmas.{delete_done, delete_failed}
+use Rattle.vc_local.proofs.CleanLemmas.{clean_same}
 use Rattle.vc_pack.proofs.KeepsLemmas.{StandsIn-kept}
 use Rattle.vc_node.proofs.KeepingLemmas.{keeps_shown}
-use Rattle.vc_node.specs.Shown.{shown}
+use Rattle.vc_local.specs.Shown.{shown}
 use Rattle.vc_node.proofs.node.CloneNode.delete_branch.Goals as goal
 
 pub returns-then-not-self-clause-answers : goal.returns-then-not-self-clause-answers

@@ -1,10 +1,11 @@
 use Rattle.vc_model.specs.Clone.Task.{LoadTree}
-use Rattle.vc_node.proofs.MayLemmas.{may_or, load_may}
-use Rattle.vc_node.proofs.LookLemmas.{looks_none, or_told, or_failed}
+use Rattle.vc_local.proofs.MayLemmas.{may_or, load_may}
+use Rattle.vc_local.proofs.LookLemmas.{looks_none, or_told, or_failed}
 use Rattle.std.proofs.Common.{[], refl, rules, ap, ◌∙◌, inr}
-use Rattle.vc_node.proofs.AnswerLemmas.{answered, answers_down, answers_from, failed, or_unchanged}
-use Rattle.vc_node.proofs.TreeLemmas.{load_done, load_failed}
-use Rattle.vc_node.proofs.CleanLemmas.{clean_same}
+use Rattle.vc_node.proofs.HeldAnswers.{answered}
+use Rattle.vc_local.proofs.AnswerLemmas.{answers_down, answers_from, failed, or_unchanged}
+use Rattle.vc_local.proofs.TreeLemmas.{load_done, load_failed}
+use Rattle.vc_local.proofs.CleanLemmas.{clean_same}
 use Rattle.vc_pack.proofs.KeepsLemmas.{StandsIn-kept, keeps_same}
 use Rattle.vc_node.proofs.KeepingLemmas.{keeps_shown}
 use Rattle.vc_node.proofs.node.CloneNode.load_tree.Goals as goal

@@ -1,5 +1,5 @@
 use Rattle.vc_pack.proofs.ReachedLemmas.{Stands-none}
-use Rattle.vc_node.proofs.EmptyingLemmas.{opened_holds}
+use Rattle.vc_local.proofs.EmptyingLemmas.{opened_holds}
 use Rattle.vc_node.proofs.node.CloneNode.open.Goals as goal
 
 pub returns-in-Ok-clause-opens : goal.returns-in-Ok-clause-opens

@@ -5,7 +5,7 @@ use Rattle.vc_model.specs.Question.Question.{PackRefs}
 use Rattle.vc_pack.proofs.KeepsLemmas.{StandsIn-kept}
 use Rattle.vc_node.proofs.CloneCallLemmas.{down_clone}
 use Rattle.vc_node.proofs.KeepingLemmas.{keeps_shown}
-use Rattle.vc_node.proofs.LookLemmas.{looks_none}
+use Rattle.vc_local.proofs.LookLemmas.{looks_none}
 use Rattle.vc_node.proofs.PackingLemmas.{packing_answers, packing_may}
 use Rattle.vc_node.proofs.node.CloneNode.pack_refs.Goals as goal
 

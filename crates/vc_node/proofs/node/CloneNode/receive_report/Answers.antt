@@ -1,9 +1,9 @@
 use Rattle.std.proofs.Common.{inl, inr, refl, rules}
 use Rattle.vc_message.specs.AnyMessage.{a_report}
 use Rattle.vc_model.specs.CloneCall.CloneCall.{Receive}
-use Rattle.vc_node.proofs.CleanLemmas.{clean_same}
+use Rattle.vc_local.proofs.CleanLemmas.{clean_same}
 use Rattle.vc_node.proofs.CloneCallLemmas.{down_clone}
-use Rattle.vc_node.proofs.LookLemmas.{looks_none}
+use Rattle.vc_local.proofs.LookLemmas.{looks_none}
 use Rattle.vc_node.proofs.SettledLemmas.{settled_answers, settled_awaits, settled_clean, settled_err, settled_looks, settled_refusal, settled_wear}
 use Rattle.vc_node.specs.Awaited.{awaited_text}
 use Rattle.vc_node.specs.Receipts.{IsRefusedMessage}

@@ -1,6 +1,6 @@
 use Rattle.std.proofs.Common.{Ok, Err, refl}
 use Rattle.vc_pack.proofs.ReachedLemmas.{Stands-none}
-use Rattle.vc_node.proofs.EmptyingLemmas.{opened_empty}
+use Rattle.vc_local.proofs.EmptyingLemmas.{opened_empty}
 use Rattle.vc_node.proofs.RestartLemmas.{restart_answers}
 use Rattle.vc_node.proofs.node.CloneNode.restart.Goals as goal
 

@@ -1,12 +1,13 @@
-use Rattle.vc_node.specs.Machine.{machine_head}
+use Rattle.vc_local.specs.Machine.{machine_head}
 use Rattle.vc_model.specs.Clone.Task.{MoveHead}
-use Rattle.vc_node.proofs.MayLemmas.{set_head_may}
-use Rattle.vc_node.proofs.LookLemmas.{looks_none, or_told, or_failed}
+use Rattle.vc_local.proofs.MayLemmas.{set_head_may}
+use Rattle.vc_local.proofs.LookLemmas.{looks_none, or_told, or_failed}
 use Rattle.std.proofs.Common.{refl, rules, ap, ◌∙◌, inr}
-use Rattle.vc_node.proofs.AnswerLemmas.{answers_down}
-use Rattle.vc_node.proofs.BranchLemmas.{set_head_done, set_head_failed}
-use Rattle.vc_node.proofs.CleanLemmas.{clean_same}
-use Rattle.vc_node.proofs.SoundAnswers.{answered_if_sound, answers_too, may_if_sound, or_same, sound_failed, sound_from}
+use Rattle.vc_local.proofs.AnswerLemmas.{answers_down}
+use Rattle.vc_local.proofs.BranchLemmas.{set_head_done, set_head_failed}
+use Rattle.vc_local.proofs.CleanLemmas.{clean_same}
+use Rattle.vc_node.proofs.HeldAnswers.{answered_if_sound}
+use Rattle.vc_local.proofs.SoundAnswers.{answers_too, may_if_sound, or_same, sound_failed, sound_from}
 use Rattle.vc_pack.proofs.KeepsLemmas.{StandsIn-kept, keeps_same}
 use Rattle.vc_node.proofs.KeepingLemmas.{keeps_shown}
 use Rattle.vc_node.proofs.node.CloneNode.set_head.Goals as goal

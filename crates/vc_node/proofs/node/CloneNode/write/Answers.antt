@@ -1,12 +1,13 @@
 use Rattle.vc_rules.specs.Git.{machine_object}
 use Rattle.vc_model.specs.Clone.Task.{Write}
-use Rattle.vc_node.proofs.MayLemmas.{may_or, write_may}
-use Rattle.vc_node.proofs.LookLemmas.{looks_none, or_told, or_failed}
+use Rattle.vc_local.proofs.MayLemmas.{may_or, write_may}
+use Rattle.vc_local.proofs.LookLemmas.{looks_none, or_told, or_failed}
 use Rattle.std.proofs.Common.{[], refl, rules, ap, ◌∙◌, inr}
-use Rattle.vc_node.specs.Shown.{Shown, shown}
-use Rattle.vc_node.proofs.AnswerLemmas.{answered, answers_down, answers_from, failed, or_unchanged}
-use Rattle.vc_node.proofs.WriteLemmas.{write_done, write_failed}
-use Rattle.vc_node.proofs.CleanLemmas.{clean_same}
+use Rattle.vc_local.specs.Shown.{Shown, shown}
+use Rattle.vc_node.proofs.HeldAnswers.{answered}
+use Rattle.vc_local.proofs.AnswerLemmas.{answers_down, answers_from, failed, or_unchanged}
+use Rattle.vc_local.proofs.WriteLemmas.{write_done, write_failed}
+use Rattle.vc_local.proofs.CleanLemmas.{clean_same}
 use Rattle.vc_pack.proofs.KeepsLemmas.{StandsIn-kept, keeps_put, keeps_same}
 use Rattle.vc_node.proofs.node.CloneNode.write.Goals as goal
 

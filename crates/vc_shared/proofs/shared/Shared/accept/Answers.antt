@@ -1,8 +1,8 @@
 use Rattle.std.proofs.Common.{inl, inr, refl, rules}
 use Rattle.vc_model.specs.Question.Question.{Unread}
 use Rattle.vc_model.specs.SharedCall.SharedCall.{Accept, Asks}
-use Rattle.vc_node.proofs.CleanLemmas.{clean_same}
-use Rattle.vc_node.proofs.LookLemmas.{looks_none}
+use Rattle.vc_local.proofs.CleanLemmas.{clean_same}
+use Rattle.vc_local.proofs.LookLemmas.{looks_none}
 use Rattle.vc_shared.proofs.SettledLemmas.{settled_answers, settled_clean, settled_err, settled_looks, settled_refusal, settled_wear}
 use Rattle.vc_shared.proofs.SteppingLaws.{down_answers}
 use Rattle.vc_shared.specs.Accepting.{IsRefusedBytes}

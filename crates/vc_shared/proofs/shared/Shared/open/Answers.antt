@@ -1,7 +1,7 @@
 use Rattle.std.proofs.Common.{rules}
 use Rattle.vc_history.proofs.GenerationLemmas.{agrees_where_none}
 use Rattle.vc_history.specs.Numbering.{numbers}
-use Rattle.vc_node.proofs.EmptyingLemmas.{openable_kept}
+use Rattle.vc_local.proofs.EmptyingLemmas.{openable_kept}
 use Rattle.vc_shared.proofs.OpeningLemmas.{held_opened}
 use Rattle.vc_shared.proofs.shared.Shared.open.Goals as goal
 

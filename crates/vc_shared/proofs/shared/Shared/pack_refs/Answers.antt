@@ -3,10 +3,10 @@ use Rattle.std.specs.Prelude.{not}
 use Rattle.vc_files.proofs.WearLemmas.{writes_told}
 use Rattle.vc_model.specs.Question.Question.{PackRefs}
 use Rattle.vc_model.specs.SharedCall.SharedCall.{Asks}
-use Rattle.vc_node.specs.declared.fault.NodeFault.TheVariants.{Ref}
-use Rattle.vc_node.proofs.CleanLemmas.{packs_only}
-use Rattle.vc_node.proofs.LookLemmas.{looks_none, or_told}
-use Rattle.vc_node.proofs.RefBlames.{packing_blames, packing_unwritten}
+use Rattle.vc_local.specs.declared.fault.NodeFault.TheVariants.{Ref}
+use Rattle.vc_local.proofs.CleanLemmas.{packs_only}
+use Rattle.vc_local.proofs.LookLemmas.{looks_none, or_told}
+use Rattle.vc_local.proofs.RefBlames.{packing_blames, packing_unwritten}
 use Rattle.vc_session.proofs.NumberLemmas.{agreement_outside}
 use Rattle.vc_shared.proofs.PackingLemmas.{packing_answers}
 use Rattle.vc_shared.proofs.ResolvingLemmas.{down_declines}

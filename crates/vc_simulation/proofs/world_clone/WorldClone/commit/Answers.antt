@@ -3,8 +3,8 @@ use Rattle.vc_events.specs.Events.{bytes_in}
 use Rattle.vc_format.specs.Git.{bytes_of_id}
 use Rattle.vc_model.specs.Clone.Task.{MakeCommit}
 use Rattle.vc_model.specs.Order.Order.{CommitIndex}
-use Rattle.vc_node.specs.Machine.{made_answer}
-use Rattle.vc_node.specs.NodeFault.{TellsDevice}
+use Rattle.vc_local.specs.Machine.{made_answer}
+use Rattle.vc_local.specs.NodeFault.{TellsDevice}
 use Rattle.vc_simulation.proofs.CloneLemmas.{finding, sound_order, unread_order}
 use Rattle.vc_simulation.proofs.SteadyLemmas.{written_steady}
 use Rattle.vc_simulation.specs.Values.{AreIds, AreNoIds}

@@ -3,8 +3,8 @@ use Rattle.vc_format.specs.Git.{bytes_of_id}
 use Rattle.vc_model.specs.Clone.Task.{MoveHead}
 use Rattle.vc_model.specs.Order.Order.{HeadAt}
 use Rattle.vc_model.specs.Refs.Head.{Detached}
-use Rattle.vc_node.specs.Machine.{done_answer}
-use Rattle.vc_node.specs.NodeFault.{TellsDevice}
+use Rattle.vc_local.specs.Machine.{done_answer}
+use Rattle.vc_local.specs.NodeFault.{TellsDevice}
 use Rattle.vc_simulation.proofs.CloneLemmas.{finding, sound_order, unread_order}
 use Rattle.vc_simulation.proofs.SteadyLemmas.{written_steady}
 use Rattle.vc_simulation.specs.Values.{IsNoValue, IsValue}

@@ -1,9 +1,9 @@
 use Rattle.std.proofs.Common.{true, rules}
 use Rattle.vc_model.specs.Clone.Awaited.{Nothing}
 use Rattle.vc_model.specs.World.{empty_repository}
-use Rattle.vc_node.proofs.EmptyingLemmas.{openable_kept}
-use Rattle.vc_node.specs.Machine.{HoldsNode}
-use Rattle.vc_node.specs.Opening.{opened_node}
+use Rattle.vc_local.proofs.EmptyingLemmas.{openable_kept}
+use Rattle.vc_local.specs.Machine.{HoldsNode}
+use Rattle.vc_local.specs.Opening.{opened_node}
 use Rattle.vc_simulation.proofs.OpenLemmas.{clone_opened, in_ok, new_openable, want_of_memory}
 use Rattle.vc_simulation.proofs.SteadyLemmas.{written_steady}
 use Rattle.vc_simulation.proofs.world_clone.WorldClone.open.Goals as goal

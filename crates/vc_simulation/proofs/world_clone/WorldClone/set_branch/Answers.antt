@@ -2,8 +2,8 @@ use Rattle.std.proofs.Common.{Err, Ok, refl}
 use Rattle.vc_format.specs.Git.{bytes_of_id}
 use Rattle.vc_model.specs.Clone.Task.{SetBranch}
 use Rattle.vc_model.specs.Order.Order.{BranchAt}
-use Rattle.vc_node.specs.Machine.{done_answer}
-use Rattle.vc_node.specs.NodeFault.{TellsDevice}
+use Rattle.vc_local.specs.Machine.{done_answer}
+use Rattle.vc_local.specs.NodeFault.{TellsDevice}
 use Rattle.vc_simulation.proofs.CloneLemmas.{finding, sound_order, unread_order}
 use Rattle.vc_simulation.proofs.SteadyLemmas.{written_steady}
 use Rattle.vc_simulation.specs.Values.{IsNoValue, IsValue}

@@ -2,8 +2,8 @@ use Rattle.std.proofs.Common.{rules, refl}
 use Rattle.vc_model.specs.Clone.Task.{MoveHead}
 use Rattle.vc_model.specs.Order.Order.{HeadOn}
 use Rattle.vc_model.specs.Refs.Head.{OnBranch}
-use Rattle.vc_node.specs.Machine.{done_answer}
-use Rattle.vc_node.specs.NodeFault.{TellsDevice}
+use Rattle.vc_local.specs.Machine.{done_answer}
+use Rattle.vc_local.specs.NodeFault.{TellsDevice}
 use Rattle.vc_simulation.proofs.CloneLemmas.{finds_none, halted_order, sound_order}
 use Rattle.vc_simulation.proofs.SteadyLemmas.{written_steady}
 use Rattle.vc_simulation.proofs.world_clone.WorldClone.set_head.Goals as goal

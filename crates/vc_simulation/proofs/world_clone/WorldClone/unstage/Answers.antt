@@ -1,8 +1,8 @@
 use Rattle.std.proofs.Common.{refl}
 use Rattle.vc_model.specs.Clone.Task.{Unstage}
 use Rattle.vc_model.specs.Order.Order.{UnstageFile}
-use Rattle.vc_node.specs.Machine.{done_answer}
-use Rattle.vc_node.specs.NodeFault.{TellsDevice}
+use Rattle.vc_local.specs.Machine.{done_answer}
+use Rattle.vc_local.specs.NodeFault.{TellsDevice}
 use Rattle.vc_simulation.proofs.CloneLemmas.{finds_none, local_order}
 use Rattle.vc_simulation.proofs.SteadyLemmas.{written_steady}
 use Rattle.vc_simulation.proofs.world_clone.WorldClone.unstage.Goals as goal

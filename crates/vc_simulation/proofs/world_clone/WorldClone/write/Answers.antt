@@ -1,8 +1,8 @@
 use Rattle.std.proofs.Common.{refl}
 use Rattle.vc_model.specs.Clone.Task.{Write}
 use Rattle.vc_model.specs.Order.Order.{StoreObject}
-use Rattle.vc_node.specs.Machine.{made_answer}
-use Rattle.vc_node.specs.NodeFault.{TellsDevice}
+use Rattle.vc_local.specs.Machine.{made_answer}
+use Rattle.vc_local.specs.NodeFault.{TellsDevice}
 use Rattle.vc_rules.specs.Git.{machine_object}
 use Rattle.vc_simulation.proofs.CloneLemmas.{finds_none, local_order}
 use Rattle.vc_simulation.proofs.SteadyLemmas.{written_steady}

@@ -1,7 +1,7 @@
 use Rattle.vc_model.specs.CloneCall.CloneCall.{Asks}
 use Rattle.vc_model.specs.Question.Question.{PackRefs}
-use Rattle.vc_node.specs.NodeFault.{TellsDevice}
-use Rattle.vc_node.specs.Told.{RestartedAs}
+use Rattle.vc_local.specs.NodeFault.{TellsDevice}
+use Rattle.vc_local.specs.Told.{RestartedAs}
 use Rattle.vc_simulation.proofs.CloneLemmas.{exchange_called, lift}
 use Rattle.vc_simulation.proofs.SteadyLemmas.{written_steady}
 use Rattle.vc_simulation.proofs.world_clone.WorldCloneCloneCalls.pack.Goals as goal

@@ -1,6 +1,6 @@
 use Rattle.vc_model.specs.CloneCall.CloneCall.{Open}
-use Rattle.vc_node.specs.NodeFault.{TellsDevice}
-use Rattle.vc_node.specs.Told.{RestartedAs}
+use Rattle.vc_local.specs.NodeFault.{TellsDevice}
+use Rattle.vc_local.specs.Told.{RestartedAs}
 use Rattle.vc_simulation.proofs.CloneLemmas.{exchange_called, lift}
 use Rattle.vc_simulation.proofs.SteadyLemmas.{written_steady}
 use Rattle.vc_simulation.proofs.world_clone.WorldCloneCloneCalls.reopen.Goals as goal

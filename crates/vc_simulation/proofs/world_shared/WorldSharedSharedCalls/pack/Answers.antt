@@ -1,7 +1,7 @@
 use Rattle.vc_model.specs.SharedCall.SharedCall.{Asks}
 use Rattle.vc_model.specs.Question.Question.{PackRefs}
-use Rattle.vc_node.specs.NodeFault.{TellsDevice}
-use Rattle.vc_node.specs.Told.{RestartedAs}
+use Rattle.vc_local.specs.NodeFault.{TellsDevice}
+use Rattle.vc_local.specs.Told.{RestartedAs}
 use Rattle.vc_simulation.proofs.SharedLemmas.{called, lift}
 use Rattle.vc_simulation.proofs.SteadyLemmas.{written_steady}
 use Rattle.vc_simulation.proofs.world_shared.WorldSharedSharedCalls.pack.Goals as goal

@@ -1,0 +1,66 @@
+use Rattle.std.proofs.Common.{arith, rules, ◌≡◌, ℕ, ◌+◌, ◌++◌, List, [], ◌∷◌, take, map, sym, ap, ◌∙◌, subst}
+use Rattle.std.specs.Prelude.{string_bytes}
+use Rattle.std.specs.FinMap as files
+use Rattle.std.proofs.lemmas.List.{map_more, take_all}
+use Rattle.vc_files.proofs.WearLemmas.{wears_then, writes_both, writes_told}
+use Rattle.vc_files.specs.FileMap.{FileMap, paths_under}
+use Rattle.vc_session.proofs.QuarantineLemmas.{Taken, taken_none, taken_more}
+use Rattle.vc_local.proofs.EmptyingLemmas.{all_empty, loses_none, loses_on, taken_loses}
+use Rattle.vc_local.specs.Emptying.{quarantines}
+use Rattle.vc_local.proofs.opening.empty_quarantines.Goals as goal
+
+pub loop-path-init : goal.loop-path-init
+loop-path-init g c = record { taken = λ honest. taken_none (g.F.Files.content c.list.new.self); wear = search rules }
+
+pub loop-path-preserved : goal.loop-path-preserved
+loop-path-preserved g c = record {
+  taken = λ honest.
+      let content = g.F.Files.content in
+      let items = c.deref-path-items.result.now in
+      let front : List (List ℕ) = map string_bytes (take c.loop-path.path-index items) in
+      let path : List ℕ = string_bytes c.path-item.result in
+      let more : map string_bytes (take (c.loop-path.path-index + 1) items) ≡ front ++ path ∷ [] = map_more string_bytes items c.loop-path.path-index c.path-item.result c.loop-path-test.true ∙ ap (λ s. front ++ string_bytes s ∷ []) (sym c.path-item.is) in
+      let made : content c.remove.new.self ≡ files.remove (content c.loop-path.files) path = search (rules, c.in_ok-remove.ensures.ok honest) in
+      subst (λ (paths : List (List ℕ)). Taken (content c.list.new.self) (content c.remove.new.self) paths) (sym more)
+      (subst (λ (m : FileMap). Taken (content c.list.new.self) m (front ++ path ∷ [])) (sym made)
+      (taken_more (content c.list.new.self) (content c.loop-path.files) front path (c.loop-path.invariant.taken honest)));
+  wear = writes_both c.loop-path.invariant.wear (λ never. never) (writes_told c.in_ok-remove.ensures.wear (search rules) (λ never. absurd never));
+}
+
+pub returns-in_err-paths-clause-loses : goal.returns-in_err-paths-clause-loses
+returns-in_err-paths-clause-loses g c = λ honest. loses_none _ _ c.in_err-paths.ensures.same
+
+pub returns-clause-empty : goal.returns-clause-empty
+returns-clause-empty g c = λ honest.
+    let content = g.F.Files.content in
+    let items = c.deref-path-items.result.now in
+    let listed : map string_bytes items ≡ paths_under (content c.args.files.now) quarantines = search (rules, c.in_ok-paths.ensures.listed honest) in
+    let all : take c.loop-path.path-index items ≡ items = take_all c.loop-path.path-index items (omega (arith, c.loop-path-test.false)) in
+    all_empty (content c.args.files.now) (content c.loop-path.files)
+    (subst (λ (paths : List (List ℕ)). Taken (content c.args.files.now) (content c.loop-path.files) paths) (ap (map string_bytes) all ∙ listed)
+    (rw (sym c.in_ok-paths.ensures.same) (c.loop-path.invariant.taken honest)))
+
+pub returns-clause-loses : goal.returns-clause-loses
+returns-clause-loses g c = λ honest.
+    let content = g.F.Files.content in
+    let listed : map string_bytes c.deref-path-items.result.now ≡ paths_under (content c.args.files.now) quarantines = search (rules, c.in_ok-paths.ensures.listed honest) in
+    taken_loses (content c.args.files.now) (content c.loop-path.files) c.deref-path-items.result.now c.loop-path.path-index listed
+    (rw (sym c.in_ok-paths.ensures.same) (c.loop-path.invariant.taken honest))
+
+pub returns-in_err-remove-clause-loses : goal.returns-in_err-remove-clause-loses
+returns-in_err-remove-clause-loses g c = λ honest.
+    let content = g.F.Files.content in
+    let listed : map string_bytes c.deref-path-items.result.now ≡ paths_under (content c.args.files.now) quarantines = search (rules, c.in_ok-paths.ensures.listed honest) in
+    let same : content c.remove.new.self ≡ content c.loop-path.files = search (rules, c.in_err-remove.ensures.err honest) in
+    loses_on _ _ _ (taken_loses (content c.args.files.now) (content c.loop-path.files) c.deref-path-items.result.now c.loop-path.path-index listed
+    (rw (sym c.in_ok-paths.ensures.same) (c.loop-path.invariant.taken honest))) same
+
+pub returns-in_err-remove-clause-wear : goal.returns-in_err-remove-clause-wear
+returns-in_err-remove-clause-wear g c =
+    wears_then c.in_ok-paths.ensures.wear (λ _. c.in_ok-paths.ensures.same) (search rules)
+    (writes_both c.loop-path.invariant.wear (λ never. never) (writes_told c.in_err-remove.ensures.wear (search rules) (search rules)))
+
+pub returns-clause-wear : goal.returns-clause-wear
+returns-clause-wear g c =
+    wears_then c.in_ok-paths.ensures.wear (λ _. c.in_ok-paths.ensures.same) (search rules)
+    (writes_told c.loop-path.invariant.wear (λ never. absurd never) (search rules))

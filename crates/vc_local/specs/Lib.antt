@@ -1,0 +1,17 @@
+pub mod Adding
+pub mod Blames
+pub mod Clean
+pub mod Commit
+pub mod Emptying
+pub mod GoodCommit
+pub mod IndexFile
+pub mod Machine
+pub mod Making
+pub mod NodeFault
+pub mod Opening
+pub mod Printed
+pub mod Reads
+pub mod Shown
+pub mod Staging
+pub mod Told
+pub mod Values

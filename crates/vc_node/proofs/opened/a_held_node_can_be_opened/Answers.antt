@@ -1,5 +1,0 @@
-use Rattle.vc_node.proofs.OpeningLaws.{held_nodes_open}
-use Rattle.vc_node.proofs.opened.a_held_node_can_be_opened.Goals as goal
-
-pub returns : goal.returns
-returns c = held_nodes_open
