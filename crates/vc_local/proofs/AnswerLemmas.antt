@@ -1,5 +1,5 @@
 -- From what is shown before and after a call to the machine's answers.
-use Rattle.std.proofs.Common.{◌≡◌, ◌⊎◌, inl, inr, ℕ, Bool, true, false, List, Option, Some, None, Result, Ok, Err, refl, sym, ap, ◌∙◌, subst}
+use Rattle.std.proofs.Common.{◌≡◌, ◌⊎◌, inl, inr, ℕ, Bool, true, false, Option, Some, None, Result, Ok, Err, refl, sym, ap, ◌∙◌, subst}
 use Rattle.std.specs.Prelude.{string_bytes, not, IsErrAnd}
 use Rattle.vc_files.specs.FileMap.{FileMap}
 use Rattle.vc_model.specs.Repository.{Repository}
@@ -13,13 +13,12 @@ use Rattle.vc_refs.specs.declared.faults.RefFault.TheVariants as ref
 use Rattle.vc_store.specs.declared.faults.StoreFault.TheVariants as store
 use Rattle.vc_local.specs.declared.fault.NodeFault.{NodeFault}
 use Rattle.vc_local.specs.declared.fault.NodeFault.TheVariants.{Store, Ref, Missing, NotACommit, BadPath, PathConflict, BadIndex, WrongEntry, Down}
-use Rattle.vc_local.specs.Clean.{IsClean, KeepsCleanBut}
+use Rattle.vc_local.specs.Clean.{IsClean}
 use Rattle.vc_local.specs.NodeFault.{is_fault}
 use Rattle.vc_local.specs.Shown.{Shown, shown}
 use Rattle.vc_rules.specs.Git.{git}
 use Rattle.vc_rules.proofs.GitLaws.{git_rules}
-use Rattle.vc_local.specs.Machine.{live_of, Spells, Follows, Goes, AnswersShown, IsBadFile, OrBadFile, fault_answer}
-use Rattle.vc_local.proofs.CleanLemmas.{still_clean}
+use Rattle.vc_local.specs.Machine.{live_of, Spells, Follows, Goes, AnswersShown, IsBadFile, fault_answer}
 
 -- a node that is down
 pub answers_down : (task : Task) (was : Bool) (s : Shown) → was ≡ false → AnswersShown task (Declined 112) was was s s

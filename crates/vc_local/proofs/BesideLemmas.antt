@@ -1,5 +1,5 @@
 -- What a change of objects and refs leaves of a repository, and of clean files.
-use Rattle.std.proofs.Common.{◌≡◌, List, Some, ap, ◌∙◌, []}
+use Rattle.std.proofs.Common.{◌≡◌, ap, ◌∙◌, []}
 use Rattle.std.specs.Prelude.{codes, unwrap_or}
 use Rattle.std.specs.FinMap as files
 use Rattle.std.specs.FinMap.{get}

@@ -1,5 +1,5 @@
 -- The machine's answers to a command that takes it that all is there that refs reach: they are its answers of a sound node.
-use Rattle.std.proofs.Common.{◌≡◌, ◌⊎◌, inl, inr, ℕ, Bool, true, Result, ap, refl, sym, ◌∙◌, subst}
+use Rattle.std.proofs.Common.{◌≡◌, ◌⊎◌, inl, inr, ℕ, Bool, true, ap, refl, sym, ◌∙◌, subst}
 use Rattle.std.specs.Prelude.{not}
 use Rattle.vc_files.specs.FileMap.{FileMap}
 use Rattle.vc_model.specs.Clone.{Awaited, Task}
@@ -13,13 +13,11 @@ use Rattle.vc_rules.specs.Git.{git}
 use Rattle.vc_rules.proofs.GitLaws.{git_rules}
 use Rattle.vc_rules.proofs.WholeLemmas.{refs_whole}
 use Rattle.vc_session.specs.Known.{AreRefsWhole}
-use Rattle.vc_local.specs.Clean.{KeepsClean}
-use Rattle.vc_local.specs.Machine.{AnswersShown, AnswersShownIfSound, Follows, FollowsIf, IsBadFile, MayWriteIfSoundOr, OrBadFile, Spells, fault_answer, live_of}
+use Rattle.vc_local.specs.Machine.{AnswersShown, AnswersShownIfSound, Follows, FollowsIf, IsBadFile, MayWriteIfSoundOr, Spells, fault_answer, live_of}
 use Rattle.vc_local.specs.NodeFault.{is_fault}
 use Rattle.vc_local.specs.Shown.{Shown, shown}
 use Rattle.vc_local.specs.declared.fault.NodeFault.{NodeFault}
-use Rattle.vc_local.proofs.AnswerLemmas.{faults, no_bad_told, stays, stays_by_fault, step_of}
-use Rattle.vc_local.proofs.CleanLemmas.{still_clean}
+use Rattle.vc_local.proofs.AnswerLemmas.{faults, stays, stays_by_fault, step_of}
 
 -- what is shown of a sound repository reaches nothing that is absent
 pub whole_refs : (content : FileMap) (r : Repository) → Spells (shown content) r → IsSound git r → AreRefsWhole content

@@ -33,9 +33,8 @@ use Rattle.vc_rules.specs.Git.{git, stored_of}
 use Rattle.vc_rules.proofs.GitLaws.{git_rules}
 use Rattle.vc_rules.proofs.MapLemmas.{get-put}
 use Rattle.vc_store.specs.declared.faults.StoreFault.TheVariants as store
-use Rattle.vc_local.specs.Clean.{KeepsClean}
 use Rattle.vc_local.specs.IndexFile.{SpellsIndex, BlamesIndex}
-use Rattle.vc_local.specs.Machine.{HoldsNode, Spells, done_answer, fault_answer, failure_of, live_of}
+use Rattle.vc_local.specs.Machine.{HoldsNode, Spells, fault_answer, failure_of, live_of}
 use Rattle.vc_local.specs.NodeFault.{IsOfDevice, TellsDevice, is_fault, of_index}
 use Rattle.vc_local.specs.Reads.{NoneRead, TellsRead}
 use Rattle.vc_local.specs.Shown.{Shown, shown, with_index_shown}
@@ -43,7 +42,6 @@ use Rattle.vc_local.specs.Staging.{AnswersStage, AreOf, AreStaged, BlamesStaging
 use Rattle.vc_local.specs.declared.fault.NodeFault.{NodeFault}
 use Rattle.vc_local.specs.declared.fault.NodeFault.TheVariants.{Store, Ref, Missing, NotACommit, BadPath, PathConflict, BadIndex, WrongEntry, Down}
 use Rattle.vc_local.specs.declared.staging.Staged.{Staged}
-use Rattle.vc_local.proofs.CleanLemmas.{still_clean}
 use Rattle.vc_local.proofs.IndexLemmas.{IsMachineIndex, free_path, machine_index_put, no_bad_index, not_free_path, spells_index, staged_deed, staged_index}
 use Rattle.vc_local.proofs.WriteLemmas.{added_all}
 

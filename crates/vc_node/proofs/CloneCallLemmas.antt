@@ -13,16 +13,14 @@ use Rattle.vc_model.specs.Message.{Message}
 use Rattle.vc_model.specs.Node.{Answer}
 use Rattle.vc_model.specs.Node.Answer.{Declined, Did, Fault}
 use Rattle.vc_model.specs.Node.Reply.{Sends}
-use Rattle.vc_model.specs.Repository.{IsSound, Repository}
+use Rattle.vc_model.specs.Repository.{IsSound}
 use Rattle.vc_model.proofs.Maps.{none_added}
 use Rattle.vc_rules.proofs.GitLaws.{git_rules}
 use Rattle.vc_rules.specs.Git.{git}
-use Rattle.vc_rules.specs.OpenPushes.{HoldsContent}
 use Rattle.vc_node.specs.Awaited.{AwaitedText, IsAwaited}
 use Rattle.vc_node.specs.CloneCalls.{AnswersClone}
 use Rattle.vc_node.specs.CloneFaults.{fault_answer, of_device}
-use Rattle.vc_local.specs.Machine.{HoldsNode, Spells, failure_of}
-use Rattle.vc_local.specs.Shown.{shown}
+use Rattle.vc_local.specs.Machine.{HoldsNode, failure_of}
 
 -- some node is held then, and where the node before was sound, it is the machine's
 abbrev pub Leads : CloneNode → CloneCall → FileMap → AwaitedText → Bool → (Answer → Option Message → Type 0) → Type 0

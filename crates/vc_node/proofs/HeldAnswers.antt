@@ -1,5 +1,5 @@
 -- What a call answers over any files it answers over clean ones, of which none is bad.
-use Rattle.std.proofs.Common.{◌⊎◌, inl, inr, ℕ, List, Result}
+use Rattle.std.proofs.Common.{inl, inr, ℕ, List, Result}
 use Rattle.vc_files.specs.FileMap.{FileMap}
 use Rattle.vc_model.specs.Clone.{Task}
 use Rattle.vc_model.specs.Node.{Answer}

@@ -1,7 +1,6 @@
 -- What becomes of a clone's node with a message: where it is taken, where a fault cuts that short, and where nothing is done.
-use Rattle.std.proofs.Common.{◌≡◌, ℕ, Bool, true, false, Option, Some, None, Result, Ok, Err, refl, sym, ap, ◌∙◌, subst, []}
-use Rattle.std.specs.Prelude.{IfErr, codes, option_map, unwrap_or}
-use Rattle.std.specs.FinMap as files
+use Rattle.std.proofs.Common.{◌≡◌, ℕ, Bool, true, false, Option, Some, None, Result, Ok, Err, refl, sym, ap, ◌∙◌, subst}
+use Rattle.std.specs.Prelude.{IfErr, codes, option_map}
 use Rattle.std.specs.FinMap.{get}
 use Rattle.vc_exchange.specs.Deeds.{HoldsHead, IsCutShort, IsReceived}
 use Rattle.vc_exchange.specs.Deeds.IsCutShort.{at_first, within}
@@ -19,21 +18,17 @@ use Rattle.vc_model.specs.Object.{Id}
 use Rattle.vc_model.specs.Question.Question.{Unread as AsksUnread}
 use Rattle.vc_model.specs.Refs.{Head as MachineHead}
 use Rattle.vc_model.specs.Refs.Head.{Detached, OnBranch}
-use Rattle.vc_model.specs.Repository.{Index, Repository}
-use Rattle.vc_refs.specs.Head.{head_of, head_value}
-use Rattle.vc_refs.specs.Refs.{packed_at, refs}
+use Rattle.vc_model.specs.Repository.{Repository}
+use Rattle.vc_refs.specs.Head.{head_value}
+use Rattle.vc_refs.specs.Refs.{refs}
 use Rattle.vc_refs.specs.declared.heads.Head.{Head}
 use Rattle.vc_refs.specs.declared.heads.Head.TheVariants as heads
-use Rattle.vc_refs.proofs.LayeredListingLemmas.{head_of-same}
-use Rattle.vc_rules.specs.OpenPushes.{HoldsContent}
 use Rattle.vc_session.specs.Clean.{MakesNoneBad}
 use Rattle.vc_local.proofs.BesideLemmas.{SameBeside, beside_by, clean_on, spells_on}
 use Rattle.vc_node.proofs.CloneCallLemmas.{Leads}
 use Rattle.vc_node.specs.Awaited.{AwaitedText, IsAwaited}
-use Rattle.vc_local.specs.Clean.{IsClean, KeepsClean}
 use Rattle.vc_node.specs.CloneCalls.{AnswersUp, MayOr, ReceivedAs}
 use Rattle.vc_node.specs.CloneFaults.{up_after}
-use Rattle.vc_local.specs.IndexFile.{index_bytes}
 use Rattle.vc_local.specs.Machine.{HoldsNode, Spells, machine_head}
 use Rattle.vc_node.specs.Receipts.{IsOfMessage}
 use Rattle.vc_local.specs.Shown.{shown}

@@ -1,5 +1,5 @@
 -- A restart: a node that is held is opened unless a fault comes.
-use Rattle.std.proofs.Common.{◌≡◌, Bool, true, false, Some, None, Result, Ok, Err, refl, sym, subst, inl, inr}
+use Rattle.std.proofs.Common.{◌≡◌, Bool, true, false, Some, None, Result, Ok, Err, refl, sym, subst}
 use Rattle.std.specs.Prelude.{IfErr, OnErr, OnOk, is_ok}
 use Rattle.vc_files.specs.FileMap.{FileMap}
 use Rattle.vc_rules.specs.Told.{Quietly}

@@ -1,5 +1,5 @@
 -- A message that a reader brings to a clone, taken as it comes: what came of it, and what the clone makes of it.
-use Rattle.std.specs.Prelude.{◌≡◌, ◌≢◌, ◌⊎◌, ⊤, ℕ, Bool, true, false, List, [], Option, Some, None, Result, Ok, Err, IfErr, IsErrOf, Vec, ◌++◌}
+use Rattle.std.specs.Prelude.{◌≡◌, ◌≢◌, ◌⊎◌, ⊤, ℕ, Bool, true, false, List, [], Option, Some, None, Result, Ok, Err, IfErr, IsErrOf, Vec}
 use Rattle.std.specs.Global.{Global}
 use Rattle.vc_exchange.specs.Deeds.{IsCutShort, IsReceived}
 use Rattle.vc_exchange.specs.Moving.{Told, told_in}
