@@ -2,9 +2,12 @@
 use Rattle.std.proofs.Common.{◌≡◌, ⊎_elim, List, Some, refl, ap, ◌∙◌, map, ◌++◌, ◌∷◌, [], ℕ}
 use Rattle.std.specs.Prelude.{codes}
 use Rattle.std.specs.FinMap as files
-use Rattle.vc_pack.proofs.KeepsLemmas.{keeps_map, keeps_same, keeps_then, with_object-keeps, with_objects-keeps}
+use Rattle.vc_pack.proofs.KeepsLemmas.{StandsIn-kept, keeps_map, keeps_same, keeps_then, with_object-keeps, with_objects-keeps}
 use Rattle.vc_exchange.specs.Storing.{KeepsGood}
-use Rattle.vc_pack.specs.Reached.{KeepsObjects}
+use Rattle.vc_history.specs.Stored.{AgreesIn}
+use Rattle.vc_history.specs.declared.generations.Generations.{Generations}
+use Rattle.vc_pack.specs.Reached.{KeepsObjects, StandsIn}
+use Rattle.vc_pack.specs.declared.reached.Reached.{Reached}
 use Rattle.vc_files.specs.FileMap.{FileMap}
 use Rattle.vc_index.specs.IndexMap.{IndexMap}
 use Rattle.vc_index.specs.WrittenTrees.{IsBegun, IsWritten, tree_object}
@@ -17,6 +20,7 @@ use Rattle.vc_refs.specs.declared.heads.Head.TheVariants as heads
 use Rattle.vc_store.specs.Store.{objects, with_objects}
 use Rattle.vc_node.proofs.ShownLemmas.{shown_index}
 use Rattle.vc_session.proofs.CleanLemmas.{bad_same, bad_then}
+use Rattle.vc_session.proofs.NumberLemmas.{agreement_kept}
 use Rattle.vc_node.specs.Commit.{IsCommitted, WritesCommit, made_body, moved}
 use Rattle.vc_node.specs.Making.{IsCut, LeftByCommit, StoresTrees}
 use Rattle.vc_node.specs.Shown.{Shown, shown, with_index_shown}
@@ -31,6 +35,10 @@ keeps_puts old new puts is = record { at = λ id o there. ap (λ (m : ObjectMap)
 
 pub keeps_index : (old mid new : FileMap) (text : List ℕ) → mid ≡ old → new ≡ files.insert mid (codes "index") text → KeepsObjects old new
 keeps_index old mid new text same put = keeps_then old mid new (keeps_same old mid same) (keeps_shown mid new (with_index_shown (shown mid) text) (shown_index mid new text put) refl)
+
+-- what is kept of the tracking refs' reach stands then, and the generations that are known agree with what is stored
+pub both_kept : (old new : FileMap) (reached : Reached) (generations : Generations) → KeepsObjects old new → StandsIn old reached × AgreesIn old generations → StandsIn new reached × AgreesIn new generations
+both_kept old new reached generations keeps both = (StandsIn-kept old new reached keeps both.0, agreement_kept old new keeps.at generations both.1)
 
 -- ---- an exchange
 pub good_same : (old new : FileMap) → new ≡ old → KeepsGood old new

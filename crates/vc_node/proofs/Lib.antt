@@ -18,6 +18,7 @@ pub mod ExchangingLemmas
 pub mod FaultLemmas
 pub mod IndexLemmas
 pub mod KeepingLemmas
+pub mod LearningLemmas
 pub mod LookLemmas
 pub mod LossLemmas
 pub mod MakingLemmas

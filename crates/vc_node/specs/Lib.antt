@@ -11,6 +11,7 @@ pub mod Emptying
 pub mod GoodCommit
 pub mod Held
 pub mod IndexFile
+pub mod Learning
 pub mod Machine
 pub mod Making
 pub mod Node
