@@ -549,16 +549,21 @@ def paths_in(crate, parts):
     return [os.path.relpath(file, crate.folder) for part in parts for file in files_below(f"{crate.folder}/{part}")]
 
 
-def hash_of(logic, crate, edit, function, reach):
-    """A hash of all that decides what is proved of a wrong body: the logic, the texts, and the lines of crates.txt of the crates that have
-    these, but for crates there of which nothing counts."""
+def texts_for(crate, edit, function, reach):
+    """The texts that decide what is proved of a wrong body, each behind the name of a crate and a path."""
     parts = {path: without_comments(text) for path, text in parts_for(crate, edit, function).items()}
     # (what an edit writes is said in the file that it edits)
     places = {path: path if path.startswith(("src/", "proofs/")) or not function else function.file for path in parts}
     wholes = {path: text_of(crate, places[path]) if places[path].startswith("src/") else "" for path in parts}
     parts = {path: with_numbers(crate, path, text, wholes[path]) for path, text in parts.items()}
     led = set().union(*(leads_of(crate, places[path], text) for path, text in parts.items()))
-    texts = {*reach.texts(crate, led), *((crate.name, path, text) for path, text in parts.items())}
+    return {*reach.texts(crate, led), *((crate.name, path, text) for path, text in parts.items())}
+
+
+def hash_of(logic, crate, edit, function, reach):
+    """A hash of all that decides what is proved of a wrong body: the logic, the texts, and the lines of crates.txt of the crates that have
+    these, but for crates there of which nothing counts."""
+    texts = texts_for(crate, edit, function, reach)
     names = {crate.name, *(name for name, _, _ in texts)}
     said = hashlib.sha256(logic.encode())
     for it in sorted([*crate.below(), crate], key=lambda it: it.name):
@@ -572,3 +577,23 @@ def hash_of(logic, crate, edit, function, reach):
 def digest_of(text):
     """A digest of a text and of where it stands."""
     return hashlib.sha256("\0".join(text).encode()).digest()
+
+
+# The name of a crate in a text, and what says who may see an item.
+CRATE = re.compile(r"\b(?:crate|(?:vc|rows)_\w+)\b")
+SEEN_BY = re.compile(r"^((?:old: |new: )? *)pub(?:\([^)]*\))? ", re.M)
+# A line that only says where something stands: an import, a module in a file of its own, and the file that an edit changes.
+PLACED = re.compile(rf" *{PUB}(?:ghost )?(?:use|mod) .*|#!\[.*|file: .*")
+
+
+@functools.cache
+def unplaced(text):
+    """A text wherever it stands: without the names of crates, imports, and who may see an item."""
+    lines = SEEN_BY.sub(r"\1", CRATE.sub("crate", text)).split("\n")
+    return "\n".join(it for it in lines if not PLACED.fullmatch(it))
+
+
+def shape_of(logic, crate, edit, function, reach):
+    """A hash of the texts that decide what is proved of a wrong body, wherever they stand."""
+    texts = {unplaced(text) for _, _, text in texts_for(crate, edit, function, reach)}
+    return hashlib.sha256("\0".join([logic, *sorted(texts)]).encode()).hexdigest()

@@ -2,6 +2,7 @@ pub mod AdvertDeeds
 pub mod DeedLemmas
 mod EmptyLists
 pub mod KeptLemmas
+pub mod LearningLemmas
 pub mod MovingDecisions
 pub mod MovingFronts
 pub mod MovingLemmas

@@ -1,5 +1,6 @@
 pub mod Deeds
 pub mod Faults
+pub mod Learning
 pub mod Moving
 pub mod Quarantined
 pub mod Receiving

@@ -11,6 +11,7 @@ use Rattle.vc_session.specs.Carrying.{Carries, objects_in}
 use Rattle.vc_session.specs.Clean.{IsQuarantineClean}
 use Rattle.vc_session.specs.Quarantine.{objects_seen, quarantine_folder}
 use Rattle.vc_session.specs.SessionFault.{BlamesDamage}
+use Rattle.vc_exchange.specs.Storing.{KeepsGood}
 use Rattle.vc_exchange.specs.declared.fault.ExchangeFault.{ExchangeFault}
 use Rattle.vc_exchange.specs.declared.fault.ExchangeFault.TheVariants.{Fault, Incomplete, Refs as OfRefs, Store}
 
@@ -22,6 +23,11 @@ pub record HoldsPack (content : FileMap) (names : List ObjectId) (pack : PackTex
 -- beside objects, refs and the quarantine nothing changes
 pub record KeepsOthers (old new : FileMap) : Type 0 where
   pub at : (path : List ℕ) → starts_with nat_eq path (codes "objects/") ≡ false → starts_with nat_eq path (codes "refs/") ≡ false → starts_with nat_eq path (quarantine_folder 0) ≡ false → get new path ≡ get old path
+
+-- No object is lost, no file is made bad, and only objects, refs and the quarantine change.
+pub record KeepsHeld (old new : FileMap) : Type 0 where
+  pub good : KeepsGood old new
+  pub others : KeepsOthers old new
 
 -- why what stands there is not enough: a want is not complete with it, a file is damaged, in the store or there, or a fault
 abbrev pub BlamesSeen : FileMap → List ObjectId → ExchangeFault → Type 0

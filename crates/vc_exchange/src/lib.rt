@@ -3,6 +3,7 @@
 
 mod fault;
 mod item;
+mod learning;
 mod moving;
 mod quarantined;
 mod receiving;

@@ -13,6 +13,7 @@ ghost use Rattle.vc_session.specs.Clean.{MakesNoneBad};
 ghost use Rattle.vc_session.specs.Known.{AreWhole};
 ghost use Rattle.vc_store.specs.Store.{objects};
 ghost use Rattle.vc_exchange.specs.Faults.{BlamesFiles, BlamesRefs, Looks};
+ghost use Rattle.vc_exchange.specs.Learning.{NotesMoved};
 ghost use Rattle.vc_exchange.specs.Moving.{AreWholeIn, DecidesForward, DecidesTake, IsFound, IsFreeAmong, IsMetInEitherWhereRight, IsMetWhereRight, IsMove, IsRight, IsSetWhereFree, MayMoveOne, MayMoveTold, MovesFront, MovesTold, follower, is_new, passed_over, told_in};
 
 use crate::ExchangeFault;
@@ -260,16 +261,18 @@ fn move_ref<F: Files>(
 /// Moves the refs that follow these, in their order, and counts those that moved. A call that ends early has moved some first
 /// of them. Each object is read once for all of them to see that it is whole, and none of which that is known. Where what is known
 /// is right, the right refs move, and more is known after the call; in any case refs alone are set, no file becomes bad, and none
-/// outside `refs/` changes.
+/// outside `refs/` changes. The value that a ref is set to is due to be learnt then; after an error the next one may be too.
 pub(crate) fn move_refs<F: Files>(
     files: &mut F,
     alloc: Global,
     known: &mut Known,
     followed: Followed,
     told: &[(Vec<u8>, ObjectId)],
+    due: &mut Vec<ObjectId>,
     generations: &Generations,
 ) -> Result<usize, ExchangeFault>
     ensures moved { F.honest → MovesTold followed (F.content files.old) (F.content files.new) known.old generations.now (told_in told.now) result }
+    ensures noted { F.honest → NotesMoved (F.content files.old) (F.content files.new) due.old.items due.new.items result }
     ensures refused { F.honest → AgreesIn (F.content files.old) generations.now → IfErr result (BlamesFiles (F.content files.old)) }
     ensures outside { F.honest → SameOutside (codes "refs/") (F.content files.old) (F.content files.new) }
     ensures left { F.honest → MovesFront followed (F.content files.old) (F.content files.new) known.old generations.now (told_in told.now) result }
@@ -279,8 +282,13 @@ pub(crate) fn move_refs<F: Files>(
 {
     let mut moved = 0;
     for (name, id) in told {
+        // The value is noted first, so that want of memory comes before the ref is set.
+        let noted = due.len();
+        due.push(*id)?;
         if move_ref(files, alloc, known, followed, name, id, generations)? {
             moved += 1;
+        } else {
+            due.truncate(noted);
         }
     }
     Ok(moved)

@@ -1,8 +1,8 @@
 //! A pack whose objects stand in the clone's quarantine, the first slot's, until it is judged.
 ghost use Rattle.std.specs.Prelude.{◌≡◌, IfErr, IfOk, IsErrOf, OnOk};
+ghost use Rattle.vc_exchange.specs.Learning.{LearnsWhereRight};
 ghost use Rattle.vc_exchange.specs.Moving.{told_in};
-ghost use Rattle.vc_exchange.specs.Quarantined.{BlamesSeen, KeepsOthers};
-ghost use Rattle.vc_exchange.specs.Storing.{KeepsGood};
+ghost use Rattle.vc_exchange.specs.Quarantined.{BlamesSeen, KeepsHeld};
 ghost use Rattle.vc_exchange.specs.Taking.{CutsHeldPack, ReceivesHeldPack, RefusesHeldPack};
 ghost use Rattle.vc_files.specs.Failures.{Wears, Writes};
 ghost use Rattle.vc_graph.specs.Complete.{AreComplete};
@@ -11,11 +11,13 @@ ghost use Rattle.vc_graph.specs.Incomplete.{IsFirstIncomplete};
 ghost use Rattle.vc_history.specs.Stored.{AgreesIn};
 ghost use Rattle.vc_object.specs.ObjectMap.{links_in};
 ghost use Rattle.vc_object.specs.declared.id.ObjectId.{ObjectId as Name};
+ghost use Rattle.vc_session.specs.Learning.{learnt_in};
 ghost use Rattle.vc_session.specs.PushState.{IsDamagedSeen};
 ghost use Rattle.vc_session.specs.Quarantine.{IsDropped, objects_seen};
 ghost use Rattle.vc_store.specs.Store.{objects};
 
 use crate::ExchangeFault;
+use crate::learning::learn_known;
 use crate::moving::{Followed, move_refs};
 use crate::receiving::Moves;
 use crate::wanting::open_ids;
@@ -85,18 +87,19 @@ pub fn receive_quarantined<F: Files>(
     wants: &[ObjectId],
     told: &[(Vec<u8>, ObjectId)],
     names: &[ObjectId],
-    generations: &Generations,
+    due: &mut Vec<ObjectId>,
+    generations: &mut Generations,
 ) -> Result<Moves, ExchangeFault>
-    ensures taken { F.honest → AgreesIn (F.content files.old) generations.now → ReceivesHeldPack (F.content files.old) (F.content files.new) names.now wants.now (told_in told.now) result }
-    ensures cut { F.honest → AgreesIn (F.content files.old) generations.now → CutsHeldPack (F.content files.old) (F.content files.new) names.now wants.now (told_in told.now) result }
-    ensures refused { F.honest → AgreesIn (F.content files.old) generations.now → RefusesHeldPack (F.content files.old) names.now wants.now result }
-    ensures unchanged { F.honest → AgreesIn (F.content files.old) generations.now → IfErr result (λ e. (id : Name) → e ≡ ExchangeFault.Incomplete id → F.content files.new ≡ F.content files.old) }
+    ensures taken { F.honest → AgreesIn (F.content files.old) generations.old → ReceivesHeldPack (F.content files.old) (F.content files.new) names.now wants.now (told_in told.now) result }
+    ensures cut { F.honest → AgreesIn (F.content files.old) generations.old → CutsHeldPack (F.content files.old) (F.content files.new) names.now wants.now (told_in told.now) result }
+    ensures refused { F.honest → AgreesIn (F.content files.old) generations.old → RefusesHeldPack (F.content files.old) names.now wants.now result }
+    ensures unchanged { F.honest → AgreesIn (F.content files.old) generations.old → IfErr result (λ e. (id : Name) → e ≡ ExchangeFault.Incomplete id → F.content files.new ≡ F.content files.old) }
     ensures dropped { F.honest → OnOk result (IsDropped 0 (F.content files.new)) }
-    ensures beside { F.honest → KeepsOthers (F.content files.old) (F.content files.new) }
-    ensures good { F.honest → KeepsGood (F.content files.old) (F.content files.new) }
+    ensures learns { F.honest → LearnsWhereRight (F.content files.old) (F.content files.new) (learnt_in generations.old due.old) (learnt_in generations.new due.new) result }
+    ensures kept { F.honest → KeepsHeld (F.content files.old) (F.content files.new) }
     ensures wear { Writes F.honest F.content F.failed F.can_fail F.left files.old files.new (IsErrOf result (ExchangeFault.Fault Fault.Device)) }
 {
-    let known = Known::by_good_refs(files, alloc)?;
+    let known = learn_known(files, alloc, due, generations)?;
     let objects = judge_quarantined(files, alloc, known.objects, wants)?;
     let mut known = Known {
         objects,
@@ -104,7 +107,15 @@ pub fn receive_quarantined<F: Files>(
     };
     migrate(files, alloc, 0, names)?;
     let open = open_ids(files, alloc, &mut known.objects, told)?;
-    let moved = move_refs(files, alloc, &mut known, Followed::All, told, generations)?;
+    let moved = move_refs(
+        files,
+        alloc,
+        &mut known,
+        Followed::All,
+        told,
+        due,
+        generations,
+    )?;
     drop_quarantine(files, alloc, 0)?;
     Ok(Moves {
         moved,

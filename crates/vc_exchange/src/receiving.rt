@@ -2,6 +2,7 @@
 ghost use Rattle.std.specs.Prelude.{◌≡◌, ◌++◌, ◌∷◌, [], IfOk, IfErr, OnOk, IsErrOf, codes, map};
 ghost use Rattle.std.specs.FinMap.{entries};
 ghost use Rattle.vc_exchange.specs.Faults.{BlamesFiles, Looks};
+ghost use Rattle.vc_exchange.specs.Learning.{LearnsWhereRight};
 ghost use Rattle.vc_exchange.specs.Moving.{told_in};
 ghost use Rattle.vc_exchange.specs.Receiving.{AcceptedAgree, BlamesAdvert, BlamesPack, accepted};
 ghost use Rattle.vc_exchange.specs.Storing.{KeepsBeside, KeepsGood};
@@ -17,8 +18,10 @@ ghost use Rattle.vc_model.specs.Message.{Message};
 ghost use Rattle.vc_object.specs.declared.id.ObjectId.{ObjectId as Name};
 ghost use Rattle.vc_push.specs.ReportView.{report_text, told_of};
 ghost use Rattle.vc_session.specs.Clean.{MakesNoneBad};
+ghost use Rattle.vc_session.specs.Learning.{learnt_in};
 
 use crate::ExchangeFault;
+use crate::learning::learn_known;
 use crate::moving::{Followed, move_refs};
 use crate::storing::store_all;
 use crate::wanting::{first_ids, open_ids, want_message};
@@ -85,27 +88,37 @@ fn listed(
 /// Takes an advertisement: the ids of which not all is there are asked for, the first 256 of them in order of the refs' names;
 /// where there are none, the refs follow at once. What the clone's own refs reach is taken as there, as it is in a sound
 /// repository, and not read. Whether a branch's new value descends from its old one is seen by the generations that are known, where
-/// they agree with what is stored. A call that ends early has moved some first refs. No file becomes bad, and none outside `refs/`
-/// changes.
+/// they agree with what is stored: before the refs are judged those in the histories that are due are learnt, and the values that refs
+/// are set to are due then. A call that ends early has moved some first refs. No file becomes bad, and none outside `refs/` changes.
 pub fn receive_advert<F: Files>(
     files: &mut F,
     alloc: Global,
     advert: Advert,
-    generations: &Generations,
+    due: &mut Vec<ObjectId>,
+    generations: &mut Generations,
 ) -> Result<Advertised, ExchangeFault>
-    ensures taken { F.honest → AgreesIn (F.content files.old) generations.now → ReceivesAdvert (F.content files.old) (F.content files.new) (advert_text advert) result }
-    ensures cut { F.honest → AgreesIn (F.content files.old) generations.now → CutsAdvert (F.content files.old) (F.content files.new) (advert_text advert) result }
-    ensures refused { F.honest → AgreesIn (F.content files.old) generations.now → IfErr result (BlamesAdvert (F.content files.old)) }
+    ensures taken { F.honest → AgreesIn (F.content files.old) generations.old → ReceivesAdvert (F.content files.old) (F.content files.new) (advert_text advert) result }
+    ensures cut { F.honest → AgreesIn (F.content files.old) generations.old → CutsAdvert (F.content files.old) (F.content files.new) (advert_text advert) result }
+    ensures refused { F.honest → AgreesIn (F.content files.old) generations.old → IfErr result (BlamesAdvert (F.content files.old)) }
+    ensures learns { F.honest → LearnsWhereRight (F.content files.old) (F.content files.new) (learnt_in generations.old due.old) (learnt_in generations.new due.new) result }
     ensures outside { F.honest → SameOutside (codes "refs/") (F.content files.old) (F.content files.new) }
     ensures bad { F.honest → MakesNoneBad (F.content files.old) (F.content files.new) }
     ensures wear { Writes F.honest F.content F.failed F.can_fail F.left files.old files.new (IsErrOf result (ExchangeFault.Fault Fault.Device)) }
-    ensures looks { F.honest → MayReceiveAdvert (F.content files.old) generations.now (advert_text advert) (Looks F.failed F.can_fail F.left files.old files.new result) }
+    ensures looks { F.honest → MayReceiveAdvert (F.content files.old) generations.old (advert_text advert) (Looks F.failed F.can_fail F.left files.old files.new result) }
 {
     let refs = listed(alloc, advert.refs)?;
-    let mut known = Known::by_good_refs(files, alloc)?;
+    let mut known = learn_known(files, alloc, due, generations)?;
     let open = open_ids(files, alloc, &mut known.objects, &refs)?;
     if open.is_empty() {
-        let moved = move_refs(files, alloc, &mut known, Followed::All, &refs, generations)?;
+        let moved = move_refs(
+            files,
+            alloc,
+            &mut known,
+            Followed::All,
+            &refs,
+            due,
+            generations,
+        )?;
         return Ok(Advertised::Followed(Moves { moved, left: 0 }));
     }
     let wants = first_ids(alloc, &open)?;
@@ -124,17 +137,19 @@ pub fn receive_pack<F: Files>(
     wants: &[ObjectId],
     told: &[(Vec<u8>, ObjectId)],
     pack: &Pack,
-    generations: &Generations,
+    due: &mut Vec<ObjectId>,
+    generations: &mut Generations,
 ) -> Result<Moves, ExchangeFault>
-    ensures taken { F.honest → AgreesIn (F.content files.old) generations.now → ReceivesPack (F.content files.old) (F.content files.new) (pack_text pack.now) wants.now (told_in told.now) result }
-    ensures cut { F.honest → AgreesIn (F.content files.old) generations.now → CutsPack (F.content files.old) (F.content files.new) (pack_text pack.now) wants.now (told_in told.now) result }
-    ensures refused { F.honest → AgreesIn (F.content files.old) generations.now → (m : Message) → IsPack m (pack_text pack.now) → IfErr result (BlamesPack (F.content files.old) wants.now m) }
-    ensures unchanged { F.honest → AgreesIn (F.content files.old) generations.now → IfErr result (λ e. (id : Name) → e ≡ ExchangeFault.Incomplete id → F.content files.new ≡ F.content files.old) }
+    ensures taken { F.honest → AgreesIn (F.content files.old) generations.old → ReceivesPack (F.content files.old) (F.content files.new) (pack_text pack.now) wants.now (told_in told.now) result }
+    ensures cut { F.honest → AgreesIn (F.content files.old) generations.old → CutsPack (F.content files.old) (F.content files.new) (pack_text pack.now) wants.now (told_in told.now) result }
+    ensures refused { F.honest → AgreesIn (F.content files.old) generations.old → (m : Message) → IsPack m (pack_text pack.now) → IfErr result (BlamesPack (F.content files.old) wants.now m) }
+    ensures unchanged { F.honest → AgreesIn (F.content files.old) generations.old → IfErr result (λ e. (id : Name) → e ≡ ExchangeFault.Incomplete id → F.content files.new ≡ F.content files.old) }
+    ensures learns { F.honest → LearnsWhereRight (F.content files.old) (F.content files.new) (learnt_in generations.old due.old) (learnt_in generations.new due.new) result }
     ensures beside { F.honest → KeepsBeside (F.content files.old) (F.content files.new) }
     ensures good { F.honest → KeepsGood (F.content files.old) (F.content files.new) }
     ensures wear { Writes F.honest F.content F.failed F.can_fail F.left files.old files.new (IsErrOf result (ExchangeFault.Fault Fault.Device)) }
 {
-    let known = Known::by_good_refs(files, alloc)?;
+    let known = learn_known(files, alloc, due, generations)?;
     let objects = judge_pack(alloc, files, known.objects, wants, pack)?;
     let mut known = Known {
         objects,
@@ -142,7 +157,15 @@ pub fn receive_pack<F: Files>(
     };
     store_all(files, alloc, &pack.objects)?;
     let open = open_ids(files, alloc, &mut known.objects, told)?;
-    let moved = move_refs(files, alloc, &mut known, Followed::All, told, generations)?;
+    let moved = move_refs(
+        files,
+        alloc,
+        &mut known,
+        Followed::All,
+        told,
+        due,
+        generations,
+    )?;
     Ok(Moves {
         moved,
         left: open.len(),
@@ -197,25 +220,28 @@ pub fn receive_report<F: Files>(
     files: &mut F,
     alloc: Global,
     report: &Report,
-    generations: &Generations,
+    due: &mut Vec<ObjectId>,
+    generations: &mut Generations,
 ) -> Result<Reported, ExchangeFault>
-    ensures taken { F.honest → AgreesIn (F.content files.old) generations.now → ReceivesReport (F.content files.old) (F.content files.new) (report_text report.now) result }
-    ensures cut { F.honest → AgreesIn (F.content files.old) generations.now → CutsReport (F.content files.old) (F.content files.new) (report_text report.now) result }
-    ensures refused { F.honest → AgreesIn (F.content files.old) generations.now → IfErr result (BlamesFiles (F.content files.old)) }
+    ensures taken { F.honest → AgreesIn (F.content files.old) generations.old → ReceivesReport (F.content files.old) (F.content files.new) (report_text report.now) result }
+    ensures cut { F.honest → AgreesIn (F.content files.old) generations.old → CutsReport (F.content files.old) (F.content files.new) (report_text report.now) result }
+    ensures refused { F.honest → AgreesIn (F.content files.old) generations.old → IfErr result (BlamesFiles (F.content files.old)) }
+    ensures learns { F.honest → LearnsWhereRight (F.content files.old) (F.content files.new) (learnt_in generations.old due.old) (learnt_in generations.new due.new) result }
     ensures outside { F.honest → SameOutside (codes "refs/") (F.content files.old) (F.content files.new) }
     ensures bad { F.honest → MakesNoneBad (F.content files.old) (F.content files.new) }
     ensures wear { Writes F.honest F.content F.failed F.can_fail F.left files.old files.new (IsErrOf result (ExchangeFault.Fault Fault.Device)) }
-    ensures looks { F.honest → MayReceiveReport (F.content files.old) generations.now (report_text report.now) (Looks F.failed F.can_fail F.left files.old files.new result) }
+    ensures looks { F.honest → MayReceiveReport (F.content files.old) generations.old (report_text report.now) (Looks F.failed F.can_fail F.left files.old files.new result) }
 {
     let refused = refused_numbers(alloc, &report.told)?;
     let refs = accepted(alloc, &report.told)?;
-    let mut known = Known::by_good_refs(files, alloc)?;
+    let mut known = learn_known(files, alloc, due, generations)?;
     let moved = move_refs(
         files,
         alloc,
         &mut known,
         Followed::Branches,
         &refs,
+        due,
         generations,
     )?;
     Ok(Reported { moved, refused })

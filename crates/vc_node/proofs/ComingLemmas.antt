@@ -19,6 +19,7 @@ use Rattle.vc_model.specs.Message.{Message}
 use Rattle.vc_model.specs.Question.Question.{Unread as AsksUnread}
 use Rattle.vc_pkt.specs.declared.fault.PktFault.{PktFault}
 use Rattle.vc_session.specs.Clean.{MakesNoneBad}
+use Rattle.vc_session.specs.Learning.{Learnt}
 use Rattle.vc_session.specs.Quarantine.{IsDropped, quarantine_folder}
 use Rattle.vc_node.proofs.ArrivedLemmas.{node_beside}
 use Rattle.vc_node.proofs.CloneCallLemmas.{down_clone, fault_leads}
@@ -31,6 +32,7 @@ use Rattle.vc_local.specs.Clean.{KeepsClean}
 use Rattle.vc_node.specs.CloneCalls.{AnswersClone, AnswersUp, ReceivedAs}
 use Rattle.vc_node.specs.CloneFaults.{of_device}
 use Rattle.vc_node.specs.ReceiveFault.{TellsDevice, UnlessFault, is_fault, told_of, up_after}
+use Rattle.vc_node.specs.Learning.{LearnsNext, Leaves}
 use Rattle.vc_node.specs.Receipts.{IsRefusedMessage}
 use Rattle.vc_node.specs.declared.clone_fault.CloneFault.{CloneFault}
 use Rattle.vc_node.specs.declared.clone_fault.CloneFault.TheVariants as clone
@@ -133,13 +135,6 @@ told_none P r q is = subst (λ (t : Told). IfOk t (λ found. IfNone found P)) (s
     by (Ok received) = tt
     by (Err e) = tt
 
-pub told_err : (P : Type 0) (r : Result Received ReceiveFault) (q : Told) → q ≡ some_told r → OnErr r P → OnErr q P
-told_err P r q is so = subst (λ (t : Told). OnErr t P) (sym is) (by r so)
-  where
-    by : (r : Result Received ReceiveFault) → OnErr r P → OnErr (some_told r) P
-    by (Ok received) so = tt
-    by (Err e) so = so
-
 pub told_cleared : {P : Type 0} (r : Result Received ReceiveFault) (q : Told) → q ≡ some_told r → UnlessFault r P → UnlessFault q P
 told_cleared {P} r q is so = subst (λ (t : Told). UnlessFault t P) (sym is) (by r so)
   where
@@ -194,14 +189,23 @@ module _ {D : Type 0} (content : D → FileMap) (old mid new : D) (waits mids af
           subst (λ (b : Bool). KeepsHeld (content old) (content mid) waits mids was_up b) (sym here)
           (subst (λ (b : Bool). KeepsHeld (content old) (content mid) waits mids b true) (sym was) (keeps refl))
 
-  pub next_none : {T : Type 0} (text : D → AwaitedText → Bool → T) (was_up : Bool) → was_up ≡ true → is_up ≡ up_after told → IfOk came (λ found. IfNone found ((mid ≡ old) × (mids ≡ waits)))
-      → IfOk told (λ found. IfNone found (text new after is_up ≡ text old waits was_up))
-  next_none text was_up was up none = by told up (subst (λ (r : Told). IfOk r (λ found. IfNone found ((mid ≡ old) × (mids ≡ waits)))) (sym is) none)
+  pub next_learns : {honest : Type 0} (known between now : Learnt) → now ≡ between → is_up ≡ up_after told
+      → Leaves honest (LearnsNext came (content old) (content mid) known between) came (up_after came) (content mid) waits mids between → honest → is_up ≡ true → LearnsNext told (content old) (content new) known now
+  next_learns known between now still up leaves h is_there =
+      subst (λ (r : Told). LearnsNext r (content old) (content new) known now) (sym is)
+      (subst (λ (d : D). LearnsNext came (content old) (content d) known now) (sym files)
+      (subst (λ (l : Learnt). LearnsNext came (content old) (content mid) known l) (sym still)
+      ((leaves.learnt h).learns (sym (up ∙ ap (λ (r : Told). up_after r) is) ∙ is_there))))
+
+  pub next_none : {T L : Type 0} (text : D → AwaitedText → Bool → L → T) (known between now : L) → now ≡ between → (was_up : Bool) → was_up ≡ true → is_up ≡ up_after told
+      → IfOk came (λ found. IfNone found ((mid ≡ old) × (mids ≡ waits) × (between ≡ known))) → IfOk told (λ found. IfNone found (text new after is_up now ≡ text old waits was_up known))
+  next_none text known between now still was_up was up none = by told up (subst (λ (r : Told). IfOk r (λ found. IfNone found ((mid ≡ old) × (mids ≡ waits) × (between ≡ known)))) (sym is) none)
     where
-      by : (r : Told) → is_up ≡ up_after r → IfOk r (λ found. IfNone found ((mid ≡ old) × (mids ≡ waits))) → IfOk r (λ found. IfNone found (text new after is_up ≡ text old waits was_up))
+      by : (r : Told) → is_up ≡ up_after r → IfOk r (λ found. IfNone found ((mid ≡ old) × (mids ≡ waits) × (between ≡ known))) → IfOk r (λ found. IfNone found (text new after is_up now ≡ text old waits was_up known))
       by (Ok (Some received)) here none = tt
       by (Ok None) here none =
-          ap (λ (d : D). text d after is_up) (files ∙ none.0) ∙ ap (λ (w : AwaitedText). text old w is_up) (same ∙ none.1) ∙ ap (λ (b : Bool). text old waits b) (here ∙ sym was)
+          ap (λ (d : D). text d after is_up now) (files ∙ none.0) ∙ ap (λ (w : AwaitedText). text old w is_up now) (same ∙ none.1.0) ∙ ap (λ (b : Bool). text old waits b now) (here ∙ sym was)
+          ∙ ap (λ k. text old waits was_up k) (still ∙ none.1.1)
       by (Err e) here none = tt
 
   module _ {failed : D → ℕ} {can_fail : D → Type 0} {left : D → Option ℕ} where

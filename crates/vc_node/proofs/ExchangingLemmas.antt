@@ -11,10 +11,6 @@ use Rattle.vc_exchange.specs.declared.fault.ExchangeFault.TheVariants as exchang
 use Rattle.vc_fetch.specs.Advert.{AdvertText}
 use Rattle.vc_fetch.specs.Pack.{PackText}
 use Rattle.vc_files.specs.FileMap.{FileMap, SameOutside}
-use Rattle.vc_history.proofs.GenerationLemmas.{agrees_where_none}
-use Rattle.vc_history.specs.Numbering.{numbers}
-use Rattle.vc_history.specs.Stored.{AgreesIn}
-use Rattle.vc_history.specs.declared.generations.Generations.{Generations}
 use Rattle.vc_message.specs.AnyMessage.{MessageText, a_list, a_pack as pack_message, a_push, a_report, a_want, an_advert as advert_message, an_error}
 use Rattle.vc_message.specs.Machine.{IsAdvert, IsPack, IsReport, IsWritten, TextOf}
 use Rattle.vc_message.specs.AnyView.{message_text}
@@ -30,14 +26,12 @@ use Rattle.vc_model.specs.Message.Message.{Advert, Error, ListRefs, Pack, Push, 
 use Rattle.vc_model.specs.Node.Reply.{Moved as MovedRefs, Reported as ReportedRefs, Sends}
 use Rattle.vc_model.specs.Refs.{Refs}
 use Rattle.vc_model.specs.Repository.{IsSound, Repository}
-use Rattle.vc_object.specs.ObjectMap.{parents_in}
 use Rattle.vc_object.specs.declared.id.ObjectId.{ObjectId}
 use Rattle.vc_push.specs.Report.{ReportText}
 use Rattle.vc_rules.proofs.GitLaws.{git_rules}
 use Rattle.vc_rules.specs.Git.{git}
 use Rattle.vc_rules.specs.OpenPushes.{HoldsContent}
 use Rattle.vc_session.specs.Clean.{MakesNoneBad}
-use Rattle.vc_store.specs.Store.{objects}
 use Rattle.vc_node.proofs.CloneCallLemmas.{Leads, refused_leads}
 use Rattle.vc_local.proofs.BesideLemmas.{SameBeside, held_content}
 use Rattle.vc_node.proofs.ReceivingClone.{beside_refs, cut_leads, head_held, received_leads, up_answers}
@@ -53,10 +47,6 @@ use Rattle.vc_node.specs.declared.clone_fault.CloneFault.{CloneFault}
 use Rattle.vc_node.specs.declared.clone_fault.CloneFault.TheVariants.{Unexpected}
 use Rattle.vc_node.specs.declared.exchanging.Received.{Received}
 use Rattle.vc_node.specs.declared.exchanging.Received.TheVariants.{Moved, Reported, Send}
-
--- where no generation is known, those that are agree with what is stored
-pub none_agree : (content : FileMap) (generations : Generations) → ((id : ObjectId) → numbers generations id ≡ None) → AgreesIn content generations
-none_agree content generations none = agrees_where_none (parents_in (objects content)) (numbers generations) none
 
 -- ---- what a fault is told as
 pub err_is : {T : Type 0} (e : CloneFault) (q : Result T CloneFault) → IsErrAnd q (λ x. x ≡ e) → q ≡ Err e

@@ -1,8 +1,11 @@
 -- What a clone's calls leave of its objects: each stays. For what is kept of the tracking refs' reach.
 use Rattle.std.proofs.Common.{◌≡◌, ⊎_elim, List, Some, refl, ap, ◌∙◌, map, ◌++◌, ◌∷◌, [], ℕ}
-use Rattle.vc_pack.proofs.KeepsLemmas.{keeps_map, keeps_same, keeps_then, with_object-keeps, with_objects-keeps}
+use Rattle.vc_pack.proofs.KeepsLemmas.{StandsIn-kept, keeps_map, keeps_same, keeps_then, with_object-keeps, with_objects-keeps}
 use Rattle.vc_exchange.specs.Storing.{KeepsGood}
-use Rattle.vc_pack.specs.Reached.{KeepsObjects}
+use Rattle.vc_history.specs.Stored.{AgreesIn}
+use Rattle.vc_history.specs.declared.generations.Generations.{Generations}
+use Rattle.vc_pack.specs.Reached.{KeepsObjects, StandsIn}
+use Rattle.vc_pack.specs.declared.reached.Reached.{Reached}
 use Rattle.vc_files.specs.FileMap.{FileMap}
 use Rattle.vc_index.specs.IndexMap.{IndexMap}
 use Rattle.vc_index.specs.WrittenTrees.{IsBegun, IsWritten, tree_object}
@@ -14,6 +17,7 @@ use Rattle.vc_refs.specs.declared.heads.Head.{Head}
 use Rattle.vc_refs.specs.declared.heads.Head.TheVariants as heads
 use Rattle.vc_store.specs.Store.{objects, with_objects}
 use Rattle.vc_session.proofs.CleanLemmas.{bad_same, bad_then}
+use Rattle.vc_session.proofs.NumberLemmas.{agreement_kept}
 use Rattle.vc_local.specs.Commit.{IsCommitted, WritesCommit, made_body, moved}
 use Rattle.vc_local.specs.Making.{IsCut, LeftByCommit, StoresTrees}
 use Rattle.vc_local.specs.Shown.{Shown, shown}
@@ -25,6 +29,10 @@ keeps_shown old new s is same = keeps_map old new (ap (λ (x : Shown). x.objects
 -- objects that are put leave those that are there
 pub keeps_puts : (old new : FileMap) (puts : List StoredObject) → objects new ≡ with_objects (objects old) puts → KeepsObjects old new
 keeps_puts old new puts is = record { at = λ id o there. ap (λ (m : ObjectMap). m id) is ∙ with_objects-keeps (objects old) puts id o there }
+
+-- what is kept of the tracking refs' reach stands then, and the generations that are known agree with what is stored
+pub both_kept : (old new : FileMap) (reached : Reached) (generations : Generations) → KeepsObjects old new → StandsIn old reached × AgreesIn old generations → StandsIn new reached × AgreesIn new generations
+both_kept old new reached generations keeps both = (StandsIn-kept old new reached keeps both.0, agreement_kept old new keeps.at generations both.1)
 
 -- ---- an exchange
 pub good_same : (old new : FileMap) → new ≡ old → KeepsGood old new

@@ -7,6 +7,7 @@ pub mod ComingLemmas
 pub mod ExchangingLemmas
 pub mod HeldAnswers
 pub mod KeepingLemmas
+pub mod LearningLemmas
 pub mod LossLemmas
 pub mod PackingLemmas
 pub mod ReceivingClone

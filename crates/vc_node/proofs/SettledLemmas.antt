@@ -5,6 +5,7 @@ use Rattle.vc_files.specs.FileMap.{FileMap}
 use Rattle.vc_files.specs.Failures.{Wears, Writes}
 use Rattle.vc_model.specs.CloneCall.{CloneCall}
 use Rattle.vc_session.specs.Clean.{MakesNoneBad}
+use Rattle.vc_session.specs.Learning.{Learnt}
 use Rattle.vc_node.proofs.CloneCallLemmas.{as_told}
 use Rattle.vc_local.proofs.BesideLemmas.{clean_by}
 use Rattle.vc_node.proofs.ReceivingClone.{may_up}
@@ -12,6 +13,7 @@ use Rattle.vc_node.specs.Awaited.{AwaitedText}
 use Rattle.vc_local.specs.Clean.{KeepsClean}
 use Rattle.vc_node.specs.CloneCalls.{AnswersClone, AnswersUp, MayOr, ReceivedAs}
 use Rattle.vc_node.specs.CloneFaults.{TellsDevice, up_after}
+use Rattle.vc_node.specs.Learning.{LearnsFrom, Leaves}
 use Rattle.vc_node.specs.Receipts.{IsOfMessage}
 use Rattle.vc_node.specs.declared.clone_fault.CloneFault.{CloneFault}
 use Rattle.vc_node.specs.declared.clone_fault.CloneFault.TheVariants.{Node}
@@ -38,6 +40,14 @@ module _ {D : Type 0} (content : D → FileMap) (old mid new : D) (waits mids af
 
   pub settled_clean : MakesNoneBad (content old) (content mid) → KeepsClean (content old) (content new)
   settled_clean bad = subst (λ (d : D). KeepsClean (content old) (content d)) (sym files) (clean_by _ _ bad)
+
+  pub settled_learns : {honest : Type 0} (known between now : Learnt) → now ≡ between → is_up ≡ up_after told
+      → Leaves honest (LearnsFrom came (content old) (content mid) known between) came (up_after came) (content mid) waits mids between → honest → is_up ≡ true → LearnsFrom told (content old) (content new) known now
+  settled_learns known between now still up leaves h is_there =
+      subst (λ (r : Result Received CloneFault). LearnsFrom r (content old) (content new) known now) (sym is)
+      (subst (λ (d : D). LearnsFrom came (content old) (content d) known now) (sym files)
+      (subst (λ (l : Learnt). LearnsFrom came (content old) (content mid) known l) (sym still)
+      ((leaves.learnt h).learns (sym (up ∙ ap (λ (r : Result Received CloneFault). up_after r) is) ∙ is_there))))
 
   module _ {failed : D → ℕ} {can_fail : D → Type 0} {left : D → Option ℕ} where
     pub settled_wear : {honest : Type 0} → Writes honest content failed can_fail left old mid (TellsDevice came) → Writes honest content failed can_fail left old new (TellsDevice told)

@@ -4,6 +4,7 @@ pub mod Burning
 pub mod CloneCalls
 pub mod CloneFaults
 pub mod Held
+pub mod Learning
 pub mod Node
 pub mod Receipts
 pub mod ReceiveFault

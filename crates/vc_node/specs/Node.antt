@@ -1,5 +1,5 @@
 -- What a call says of a node as one value: what it holds before and after, where `content` is what its files hold.
-use Rattle.std.specs.Prelude.{◌≡◌, ◌++◌, ℕ, Bool, true, false, List, Option, Result, OnErr, map}
+use Rattle.std.specs.Prelude.{◌≡◌, ◌++◌, ℕ, Bool, true, false, List, Option, Result, Err, OnErr, map}
 use Rattle.vc_exchange.specs.Sending.{machine_items}
 use Rattle.vc_exchange.specs.declared.item.PushItem.{PushItem}
 use Rattle.vc_files.specs.Failures.{Wears}
@@ -15,38 +15,62 @@ use Rattle.vc_model.specs.Node.{Answer}
 use Rattle.vc_format.specs.Git.{bytes_of_id}
 use Rattle.vc_model.specs.Object.{zero_id}
 use Rattle.vc_object.specs.declared.id.ObjectId.{ObjectId}
+use Rattle.vc_session.specs.Learning.{IsNothing}
 use Rattle.vc_node.specs.Arriving.{IsKnown, KeepsHeld, ReceivesFrom, ToldAs}
 use Rattle.vc_node.specs.Awaited.{nothing}
 use Rattle.vc_node.specs.CloneCalls.{AnswersClone, MayOr, ReceivedAs}
+use Rattle.vc_node.specs.CloneFaults.{up_after as clone_up_after}
 use Rattle.vc_node.specs.Held.{Held}
+use Rattle.vc_node.specs.Learning.{LearnsFrom, LearnsNext}
 use Rattle.vc_local.specs.Machine.{Answers, AnswersIfSound, AnswersShown, AnswersShownIfSound, MayWriteIfSoundOr, MayWriteOr, OrBadFile, done_answer}
 use Rattle.vc_local.specs.NodeFault.{TellsDevice}
+use Rattle.vc_node.specs.ReceiveFault.{up_after as receive_up_after}
 use Rattle.vc_local.specs.Shown.{shown}
 use Rattle.vc_local.specs.Staging.{StagesAllOr, StagesHeld, StagesShown}
 use Rattle.vc_node.specs.declared.clone_fault.CloneFault.{CloneFault}
+use Rattle.vc_node.specs.declared.clone_fault.CloneFault.TheVariants.{Node}
 use Rattle.vc_node.specs.declared.exchanging.Received.{Received}
 use Rattle.vc_local.specs.declared.fault.NodeFault.{NodeFault}
+use Rattle.vc_local.specs.declared.fault.NodeFault.TheVariants.{Down}
 use Rattle.vc_node.specs.declared.receive_fault.ReceiveFault.{ReceiveFault}
 use Rattle.vc_local.specs.declared.staging.Staged.{Staged}
 
 -- ---- the node
 
--- a node that has just been opened: it is up, and awaits nothing
+-- a node that has just been opened: it is up, awaits nothing, and has learnt nothing
 pub record IsFresh {F : Type 0} (node : Held F) : Type 0 where
   pub up : node.is_up ≡ true
   pub awaits : node.awaited ≡ nothing
+  pub learnt : IsNothing node.learnt
 
--- One that is down answers so, one that is up is up after it or not, and what it awaits stays.
+-- One that is down answers so, one that is up is up after it or not, and what it awaits and has learnt stays.
 pub record Settles {F : Type 0} (IsDown : Type 0) (is_up : Bool) (old new : Held F) : Type 0 where
   pub down : old.is_up ≡ false → IsDown
   pub up : old.is_up ≡ true → new.is_up ≡ is_up
   pub awaits : new.awaited ≡ old.awaited
+  pub learnt : new.learnt ≡ old.learnt
 
--- The same of a call that may take what is awaited: after an error it is still awaited.
+-- The same of a call that may change what is awaited: after an error the same is.
 pub record SettlesTaken {F T E : Type 0} (result : Result T E) (IsDown : Type 0) (is_up : Bool) (old new : Held F) : Type 0 where
   pub down : old.is_up ≡ false → IsDown
   pub up : old.is_up ≡ true → new.is_up ≡ is_up
   pub awaits : OnErr result (new.awaited ≡ old.awaited)
+  pub learnt : new.learnt ≡ old.learnt
+
+-- The same of a call that takes a message: where the node is up then, this is learnt.
+pub record SettlesLearning {F T E : Type 0} (honest Learns : Type 0) (result : Result T E) (IsDown : Type 0) (is_up : Bool) (old new : Held F) : Type 0 where
+  pub down : old.is_up ≡ false → IsDown
+  pub up : old.is_up ≡ true → new.is_up ≡ is_up
+  pub awaits : OnErr result (new.awaited ≡ old.awaited)
+  pub learns : honest → new.is_up ≡ true → Learns
+
+abbrev pub SettlesMessage : {F : Type 0} → Type 0 → (F → FileMap) → Result Received CloneFault → Held F → Held F → Type 0
+SettlesMessage honest content result old new =
+    SettlesLearning honest (LearnsFrom result (content old.files) (content new.files) old.learnt new.learnt) result (result ≡ Err (Node Down)) (clone_up_after result) old new
+
+abbrev pub SettlesNext : {F : Type 0} → Type 0 → (F → FileMap) → Result (Option Received) ReceiveFault → Held F → Held F → Type 0
+SettlesNext honest content result old new =
+    SettlesLearning honest (LearnsNext result (content old.files) (content new.files) old.learnt new.learnt) result (new ≡ old) (receive_up_after result) old new
 
 -- the device is only looked at, as it may be where a call that is refused, or that changes nothing, ends
 abbrev pub Looks : {F T : Type 0} → (F → ℕ) → (F → Type 0) → (F → Option ℕ) → Held F → Held F → Result T NodeFault → Type 0

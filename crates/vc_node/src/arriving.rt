@@ -1,14 +1,17 @@
 // A message that a reader brings to a clone, whose objects go into the quarantine as they come.
-ghost use Rattle.std.specs.Prelude.{◌≡◌, ◌<◌, Err, IfErr, IfNone, IfOk, IsErrOf, OnErr, OnOk, false, true};
+ghost use Rattle.std.specs.Prelude.{◌≡◌, ◌<◌, Err, IfErr, IfOk, IsErrOf, OnOk, false, true};
 ghost use Rattle.vc_exchange.specs.Quarantined.{KeepsOthers};
 ghost use Rattle.vc_exchange.specs.Storing.{KeepsGood};
 ghost use Rattle.vc_files.specs.FileMap.{SameOutside};
 ghost use Rattle.vc_files.specs.Failures.{Writes};
+ghost use Rattle.vc_history.specs.Stored.{AgreesIn};
 ghost use Rattle.vc_message.specs.Source.{TellsFailures, TellsLoss};
 ghost use Rattle.vc_session.specs.Clean.{MakesNoneBad};
+ghost use Rattle.vc_session.specs.Learning.{learnt_in};
 ghost use Rattle.vc_session.specs.Quarantine.{IsDropped, quarantine_folder};
 ghost use Rattle.vc_node.specs.Arriving.{Arrives, Comes, FromPack, FromStart, IsStopped, KeepsAtLoss, KeepsHeld, LeavesPack, ReceivesUp, TakesPack, down_told, some_told};
 ghost use Rattle.vc_node.specs.Awaited.{awaited_text};
+ghost use Rattle.vc_node.specs.Learning.{IfNothing, KeepsAll, LearnsPack, LeavesCome, LeavesNext};
 ghost use Rattle.vc_node.specs.ReceiveFault.{TellsDevice, UnlessFault, up_after};
 
 use crate::CloneFault;
@@ -63,12 +66,16 @@ fn take_awaited<F: Files, R: Source>(
     files: &mut F,
     wants: &[ObjectId],
     told: &[(Vec<u8>, ObjectId)],
+    due: &mut Vec<ObjectId>,
+    generations: &mut Generations,
     reader: &mut R,
     taken: Taken,
 ) -> Result<Moves, ReceiveFault>
     requires few { taken.lines < taken.bytes }
+    requires agrees { F.honest → AgreesIn (F.content files.old) generations.old }
     ensures taken { IfOk result (λ moves. FromPack (R.remaining reader.old) taken (TakesPack F.honest F.content (R.remaining reader.new) files.old files.new wants.now told.now moves)) }
     ensures left { IfErr result (λ e. FromPack (R.remaining reader.old) taken (LeavesPack F.honest F.content (R.remaining reader.new) files.old files.new wants.now told.now e)) }
+    ensures learns { F.honest → LearnsPack F.content result files.old files.new (learnt_in generations.old due.old) (learnt_in generations.new due.new) }
     ensures dropped { F.honest → OnOk result (IsDropped 0 (F.content files.new)) }
     ensures beside { F.honest → KeepsOthers (F.content files.old) (F.content files.new) }
     ensures good { F.honest → KeepsGood (F.content files.old) (F.content files.new) }
@@ -76,14 +83,14 @@ fn take_awaited<F: Files, R: Source>(
     ensures failures { TellsFailures R.failed R.can_fail reader.old reader.new (IsErrOf result ReceiveFault.ReadFailed) }
 {
     let arrived = arrive(alloc, files, reader, taken)?;
-    let generations = Generations::new(alloc);
     let moves = receive_quarantined(
         files,
         alloc,
         wants,
         told,
         arrived.names.as_slice(),
-        &generations,
+        due,
+        generations,
     )?;
     Ok(moves)
 }
@@ -94,12 +101,15 @@ fn take_pack<F: Files, R: Source>(
     alloc: Global,
     files: &mut F,
     awaited: &mut Awaited,
+    due: &mut Vec<ObjectId>,
+    generations: &mut Generations,
     reader: &mut R,
     taken: Taken,
 ) -> Result<Received, ReceiveFault>
     requires few { taken.lines < taken.bytes }
+    requires agrees { F.honest → AgreesIn (F.content files.old) generations.old }
     ensures comes { FromPack (R.remaining reader.old) taken (Comes F.honest F.content (R.remaining reader.new) files.old files.new awaited.old awaited.new result) }
-    ensures unchanged { OnErr result (awaited_text awaited.new ≡ awaited_text awaited.old) }
+    ensures leaves { LeavesCome F.honest F.content result files.old files.new awaited.old awaited.new (learnt_in generations.old due.old) (learnt_in generations.new due.new) }
     ensures cleared { F.honest → UnlessFault result (IsDropped 0 (F.content files.old) → IsDropped 0 (F.content files.new)) }
     ensures beside { F.honest → KeepsOthers (F.content files.old) (F.content files.new) }
     ensures good { F.honest → KeepsGood (F.content files.old) (F.content files.new) }
@@ -110,7 +120,7 @@ fn take_pack<F: Files, R: Source>(
         skip_pack(alloc, reader, taken)?;
         return Err(ReceiveFault::Node(CloneFault::Unexpected));
     };
-    match take_awaited(alloc, files, wants, refs, reader, taken) {
+    match take_awaited(alloc, files, wants, refs, due, generations, reader, taken) {
         Ok(moves) => {
             *awaited = Awaited::Nothing;
             Ok(Received::Moved {
@@ -134,13 +144,16 @@ pub(crate) fn take_rest<F: Files, R: Source>(
     alloc: Global,
     files: &mut F,
     awaited: &mut Awaited,
+    due: &mut Vec<ObjectId>,
+    generations: &mut Generations,
     reader: &mut R,
     head: Head,
     taken: Taken,
 ) -> Result<Received, ReceiveFault>
     requires few { taken.lines < taken.bytes }
+    requires agrees { F.honest → AgreesIn (F.content files.old) generations.old }
     ensures comes { FromStart (R.remaining reader.old) head taken (Comes F.honest F.content (R.remaining reader.new) files.old files.new awaited.old awaited.new result) }
-    ensures unchanged { OnErr result (awaited_text awaited.new ≡ awaited_text awaited.old) }
+    ensures leaves { LeavesCome F.honest F.content result files.old files.new awaited.old awaited.new (learnt_in generations.old due.old) (learnt_in generations.new due.new) }
     ensures cleared { F.honest → UnlessFault result (IsDropped 0 (F.content files.old) → IsDropped 0 (F.content files.new)) }
     ensures beside { F.honest → KeepsOthers (F.content files.old) (F.content files.new) }
     ensures good { F.honest → KeepsGood (F.content files.old) (F.content files.new) }
@@ -149,14 +162,14 @@ pub(crate) fn take_rest<F: Files, R: Source>(
 {
     match head {
         Head::Message(message) => {
-            let received = take(alloc, files, awaited, message)?;
+            let received = take(alloc, files, awaited, due, generations, message)?;
             Ok(received)
         }
         Head::Push(_) => {
             skip_push(alloc, reader, taken)?;
             Err(ReceiveFault::Node(CloneFault::Unexpected))
         }
-        Head::Pack(_) => take_pack(alloc, files, awaited, reader, taken),
+        Head::Pack(_) => take_pack(alloc, files, awaited, due, generations, reader, taken),
     }
 }
 
@@ -176,12 +189,15 @@ pub(crate) fn take_next<F: Files, R: Source>(
     alloc: Global,
     files: &mut F,
     awaited: &mut Awaited,
+    due: &mut Vec<ObjectId>,
+    generations: &mut Generations,
     reader: &mut R,
 ) -> Result<Option<Received>, ReceiveFault>
+    requires agrees { F.honest → AgreesIn (F.content files.old) generations.old }
     ensures receives { ReceivesUp F.honest (R.remaining reader.old) (R.remaining reader.new) (F.content files.old) (F.content files.new) (awaited_text awaited.old) (awaited_text awaited.new) result }
-    ensures none { IfOk result (λ found. IfNone found ((files.new ≡ files.old) × (awaited_text awaited.new ≡ awaited_text awaited.old))) }
+    ensures none { IfNothing result (KeepsAll files.old files.new awaited.old awaited.new (learnt_in generations.old due.old) (learnt_in generations.new due.new)) }
     ensures lost { KeepsAtLoss R.failed R.can_fail reader.old reader.new F.honest result (KeepsHeld (F.content files.old) (F.content files.new) (awaited_text awaited.old) (awaited_text awaited.new) true true) }
-    ensures unchanged { OnErr result (awaited_text awaited.new ≡ awaited_text awaited.old) }
+    ensures leaves { LeavesNext F.honest F.content result files.old files.new awaited.old awaited.new (learnt_in generations.old due.old) (learnt_in generations.new due.new) }
     ensures cleared { F.honest → UnlessFault result (IsDropped 0 (F.content files.old) → IsDropped 0 (F.content files.new)) }
     ensures beside { F.honest → KeepsOthers (F.content files.old) (F.content files.new) }
     ensures good { F.honest → KeepsGood (F.content files.old) (F.content files.new) }
@@ -191,7 +207,7 @@ pub(crate) fn take_next<F: Files, R: Source>(
         return Ok(None);
     };
     let (head, taken) = found;
-    let received = take_rest(alloc, files, awaited, reader, head, taken);
+    let received = take_rest(alloc, files, awaited, due, generations, reader, head, taken);
     told(received)
 }
 

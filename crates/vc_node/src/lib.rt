@@ -10,6 +10,7 @@ mod awaited;
 mod burning;
 mod clone_fault;
 mod exchanging;
+mod learning;
 mod node;
 mod receive_fault;
 
@@ -19,5 +20,6 @@ pub use burning::{
 };
 pub use clone_fault::CloneFault;
 pub use exchanging::Received;
+pub use learning::a_value_that_a_ref_was_set_to_is_learnt;
 pub use node::CloneNode;
 pub use receive_fault::ReceiveFault;

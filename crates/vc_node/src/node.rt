@@ -20,11 +20,12 @@ ghost use Rattle.vc_rev.specs.Grammar.{IsExpr};
 ghost use Rattle.vc_rev.specs.Views.{expr_view};
 ghost use Rattle.vc_node.specs.Arriving.{KeepsAtLoss};
 ghost use Rattle.vc_node.specs.Awaited.{nothing};
-ghost use Rattle.vc_node.specs.Node.{AnswersCall, AnswersCommand, AnswersCommandIfSound, AnswersFirst, AnswersStaging, AnswersText, IsFresh, KeepsNode, Looks, MayCall, MayCommand, MayCommandIfSound, MayCommit, MayStaging, MayText, PushesNoZero, ReceivesNext, Settles, SettlesTaken, commit_task};
+ghost use Rattle.vc_node.specs.Node.{AnswersCall, AnswersCommand, AnswersCommandIfSound, AnswersFirst, AnswersStaging, AnswersText, IsFresh, KeepsNode, Looks, MayCall, MayCommand, MayCommandIfSound, MayCommit, MayStaging, MayText, PushesNoZero, ReceivesNext, Settles, SettlesMessage, SettlesNext, SettlesTaken, commit_task};
 ghost use Rattle.vc_node.specs.CloneCalls.{ReceivedAs, SentAs};
 ghost use Rattle.vc_node.specs.CloneFaults.{TellsDevice as CloneTellsDevice, fault_answer, is_fault as is_clone_fault, of_device, up_after as clone_up_after};
 ghost use Rattle.vc_node.specs.Receipts.{IsOfMessage, IsRefusedBytes, IsRefusedMessage, IsRefusedStart, IsRefusedValue};
 ghost use Rattle.vc_node.specs.ReceiveFault.{TellsDevice as ReceiveTellsDevice, is_fault as is_receive_fault, up_after as receive_up_after};
+ghost use Rattle.vc_session.specs.Learning.{IsNothing};
 ghost use Rattle.vc_session.specs.Quarantine.{IsDropped};
 ghost use Rattle.vc_local.specs.Emptying.{AreEmpty, IsOpened, LosesCarried};
 ghost use Rattle.vc_local.specs.Blames.{BlamesLoad, BlamesOpen, BlamesPacking, BlamesWrite, IsLocalHead};
@@ -51,6 +52,7 @@ use std::alloc::Global;
 use std::marker::Model;
 use vc_exchange::{PushItem, list_message, push_message};
 use vc_files::{Files, FusedFiles};
+use vc_history::Generations;
 use vc_index::Index;
 use vc_local::{NodeFault, Staged, Words, open_files, read_index};
 use vc_message::{Message, Source, skip_message};
@@ -63,7 +65,9 @@ use vc_rev::Expr;
 
 /// A clone over files: objects, refs, HEAD and an index. Once a call has ended in a fault, each later one but
 /// [`close`](CloneNode::close) is refused (112), until the files are opened again. After a push it keeps in memory the names of what
-/// its tracking refs reach, some 20 to 50 bytes for each, so that the next push reads what is new alone. The index that was read at
+/// its tracking refs reach, some 20 to 50 bytes for each, so that the next push reads what is new alone. It keeps the generations of
+/// commits that it has learnt, some 30 bytes for each: those of the values that refs were set to by a message, and of all below them,
+/// which it learns before the next message is judged, so that a judgement stops at them. The index that was read at
 /// the opening is kept in memory until the first call that reads or writes files: a [`commit`](CloneNode::commit) takes it, and any
 /// other drops it.
 #[derive(Drop)]
@@ -76,20 +80,30 @@ pub struct CloneNode<F: Files> {
     reached: Reached,
     // The index as the opening has read it, where no call has used the files since.
     index: Option<Index>,
+    // What is known of the generations of commits. No call takes an object away, so it stands until the files are opened again.
+    generations: Generations,
+    // The commits whose histories are learnt before a message is judged.
+    due: Vec<ObjectId>,
 }
 
 impl<F: Files> Model for CloneNode<F> {
+    ghost use Rattle.std.specs.Coded.{codes};
     ghost use Rattle.std.specs.Prelude.{IfSome};
+    ghost use Rattle.vc_history.specs.Stored.{AgreesIn};
+    ghost use Rattle.vc_history.specs.contracts.generations.Generations as known;
     ghost use Rattle.vc_pack.specs.Reached.{StandsIn};
+    ghost use Rattle.vc_session.specs.Learning.{learnt_in};
     ghost use Rattle.vc_node.specs.Awaited.{awaited_text};
     ghost use Rattle.vc_node.specs.Held.{Held};
     ghost use Rattle.vc_local.specs.IndexFile.{SpellsIndex};
 
     ghost Value = { Held F };
 
-    ghost view = { λ s. record { files = s.files; awaited = awaited_text s.awaited; is_up = s.is_up } };
+    ghost coded = { Prim.hlevel (codes, known.the_row.coded) };
 
-    ghost invariant = { λ s. F.honest → StandsIn (F.content s.files) s.reached × IfSome s.index (SpellsIndex (F.content s.files)) };
+    ghost view = { λ s. record { files = s.files; awaited = awaited_text s.awaited; is_up = s.is_up; learnt = learnt_in s.generations s.due } };
+
+    ghost invariant = { λ s. F.honest → (StandsIn (F.content s.files) s.reached × AgreesIn (F.content s.files) s.generations) × IfSome s.index (SpellsIndex (F.content s.files)) };
 }
 
 impl<F: Files> CloneNode<F> {
@@ -114,6 +128,8 @@ impl<F: Files> CloneNode<F> {
                 is_up: true,
                 reached: Reached::new(alloc),
                 index: Some(index),
+                generations: Generations::new(alloc),
+                due: Vec::new(alloc),
             }),
             Err(fault) => Err((files, fault)),
         }
@@ -130,6 +146,8 @@ impl<F: Files> CloneNode<F> {
             is_up: _,
             reached: _,
             index: _,
+            generations: _,
+            due: _,
         } = self;
         files
     }
@@ -149,13 +167,15 @@ impl<F: Files> CloneNode<F> {
         ensures err { F.honest → OnErr result (LosesCarried (F.content self.old.files) (F.content self.new.files)) }
         ensures empty { F.honest → OnOk result (AreEmpty (F.content self.new.files)) }
         ensures up { self.new.is_up ≡ is_ok result }
-        ensures awaits { self.new.awaited ≡ nothing }
+        ensures fresh { (self.new.awaited ≡ nothing) × IsNothing self.new.learnt }
         ensures clean { F.honest → KeepsClean (F.content self.old.files) (F.content self.new.files) }
         ensures wear { Writes F.honest F.content F.failed F.can_fail F.left self.old.files self.new.files (TellsDevice result) }
     {
         self.awaited = Awaited::Nothing;
         self.reached = Reached::new(self.alloc);
         self.index = None;
+        self.generations = Generations::new(self.alloc);
+        self.due = Vec::new(self.alloc);
         self.is_up = false;
         match open_files(self.alloc, &mut self.files) {
             Ok(index) => {
@@ -171,6 +191,7 @@ impl<F: Files> CloneNode<F> {
     pub fn take_down(&mut self)
         ensures files { self.new.files ≡ self.old.files }
         ensures awaits { self.new.awaited ≡ self.old.awaited }
+        ensures learnt { self.new.learnt ≡ self.old.learnt }
         ensures up { self.new.is_up ≡ false }
     {
         self.is_up = false;
@@ -181,6 +202,7 @@ impl<F: Files> CloneNode<F> {
         ensures fault { result ≡ fault }
         ensures files { self.new.files ≡ self.old.files }
         ensures awaits { self.new.awaited ≡ self.old.awaited }
+        ensures learnt { self.new.learnt ≡ self.old.learnt }
         ensures up { self.old.is_up ≡ true → self.new.is_up ≡ not (is_fault fault) }
     {
         if fault.is_fault() {
@@ -423,6 +445,7 @@ impl<F: Files> CloneNode<F> {
         ensures fault { result ≡ fault }
         ensures files { self.new.files ≡ self.old.files }
         ensures awaits { self.new.awaited ≡ self.old.awaited }
+        ensures learnt { self.new.learnt ≡ self.old.learnt }
         ensures up { self.old.is_up ≡ true → self.new.is_up ≡ not (is_clone_fault fault) }
     {
         self.is_up &= !fault.is_fault();
@@ -434,6 +457,7 @@ impl<F: Files> CloneNode<F> {
         ensures received { result ≡ received }
         ensures files { self.new.files ≡ self.old.files }
         ensures awaits { self.new.awaited ≡ self.old.awaited }
+        ensures learnt { self.new.learnt ≡ self.old.learnt }
         ensures up { self.old.is_up ≡ true → self.new.is_up ≡ clone_up_after result }
     {
         match received {
@@ -496,7 +520,7 @@ impl<F: Files> CloneNode<F> {
         ensures unread { F.honest → (n : ℕ) → IsUnread bytes.now n → AnswersCall F.content (Asks (Unread n)) (ReceivedAs result) self.old self.new }
         ensures bad_file { F.honest → IfErr result (λ e. (e ≡ CloneFault.Node NodeFault.Down) ⊎ IsRefusedBytes (F.content self.old.files) self.old.awaited bytes.now e) }
         ensures err { F.honest → IfErr result (λ e. IsOfMessage e → F.content self.new.files ≡ F.content self.old.files) }
-        ensures settles { SettlesTaken result (result ≡ Err (CloneFault.Node NodeFault.Down)) (clone_up_after result) self.old self.new }
+        ensures settles { SettlesMessage F.honest F.content result self.old self.new }
         ensures clean { F.honest → KeepsClean (F.content self.old.files) (F.content self.new.files) }
         ensures wear { Writes F.honest F.content F.failed F.can_fail F.left self.old.files self.new.files (CloneTellsDevice result) }
         ensures looks { F.honest → (m : Sent) → Reads bytes.now m → MayCall F.content (Receive m) self.old (Wears F.failed F.can_fail F.left self.old.files self.new.files (CloneTellsDevice result)) }
@@ -505,7 +529,14 @@ impl<F: Files> CloneNode<F> {
             return Err(CloneFault::Node(NodeFault::Down));
         }
         self.index = None;
-        let received = exchanging::receive(self.alloc, &mut self.files, &mut self.awaited, bytes);
+        let received = exchanging::receive(
+            self.alloc,
+            &mut self.files,
+            &mut self.awaited,
+            &mut self.due,
+            &mut self.generations,
+            bytes,
+        );
         self.settle(received)
     }
 
@@ -514,6 +545,7 @@ impl<F: Files> CloneNode<F> {
         ensures fault { result ≡ fault }
         ensures files { self.new.files ≡ self.old.files }
         ensures awaits { self.new.awaited ≡ self.old.awaited }
+        ensures learnt { self.new.learnt ≡ self.old.learnt }
         ensures up { self.old.is_up ≡ true → self.new.is_up ≡ not (is_receive_fault fault) }
     {
         self.is_up = self.is_up && !fault.is_fault();
@@ -528,6 +560,7 @@ impl<F: Files> CloneNode<F> {
         ensures received { result ≡ received }
         ensures files { self.new.files ≡ self.old.files }
         ensures awaits { self.new.awaited ≡ self.old.awaited }
+        ensures learnt { self.new.learnt ≡ self.old.learnt }
         ensures up { self.old.is_up ≡ true → self.new.is_up ≡ receive_up_after result }
     {
         match received {
@@ -553,7 +586,7 @@ impl<F: Files> CloneNode<F> {
         ensures none { IfOk result (λ found. IfNone found (self.new ≡ self.old)) }
         ensures lost { KeepsAtLoss R.failed R.can_fail reader.old reader.new F.honest result (KeepsNode F.content self.old self.new) }
         ensures cleared { F.honest → self.new.is_up ≡ true → IsDropped 0 (F.content self.old.files) → IsDropped 0 (F.content self.new.files) }
-        ensures settles { SettlesTaken result (self.new ≡ self.old) (receive_up_after result) self.old self.new }
+        ensures settles { SettlesNext F.honest F.content result self.old self.new }
         ensures clean { F.honest → KeepsClean (F.content self.old.files) (F.content self.new.files) }
         ensures wear { Writes F.honest F.content F.failed F.can_fail F.left self.old.files self.new.files (ReceiveTellsDevice result) }
     {
@@ -561,7 +594,14 @@ impl<F: Files> CloneNode<F> {
             return refuse_down(skip_message(self.alloc, reader));
         }
         self.index = None;
-        let received = arriving::take_next(self.alloc, &mut self.files, &mut self.awaited, reader);
+        let received = arriving::take_next(
+            self.alloc,
+            &mut self.files,
+            &mut self.awaited,
+            &mut self.due,
+            &mut self.generations,
+            reader,
+        );
         self.settle_next(received)
     }
 
@@ -570,7 +610,7 @@ impl<F: Files> CloneNode<F> {
         ensures answers { F.honest → AnswersText F.content (message_text message) result self.old self.new }
         ensures bad_file { F.honest → IfErr result (λ e. (e ≡ CloneFault.Node NodeFault.Down) ⊎ IsRefusedMessage (F.content self.old.files) self.old.awaited (message_text message) e) }
         ensures err { F.honest → IfErr result (λ e. IsOfMessage e → F.content self.new.files ≡ F.content self.old.files) }
-        ensures settles { SettlesTaken result (result ≡ Err (CloneFault.Node NodeFault.Down)) (clone_up_after result) self.old self.new }
+        ensures settles { SettlesMessage F.honest F.content result self.old self.new }
         ensures clean { F.honest → KeepsClean (F.content self.old.files) (F.content self.new.files) }
         ensures wear { Writes F.honest F.content F.failed F.can_fail F.left self.old.files self.new.files (CloneTellsDevice result) }
         ensures looks { F.honest → MayText F.content (message_text message) self.old (Wears F.failed F.can_fail F.left self.old.files self.new.files (CloneTellsDevice result)) }
@@ -579,7 +619,14 @@ impl<F: Files> CloneNode<F> {
             return Err(CloneFault::Node(NodeFault::Down));
         }
         self.index = None;
-        let received = exchanging::take(self.alloc, &mut self.files, &mut self.awaited, message);
+        let received = exchanging::take(
+            self.alloc,
+            &mut self.files,
+            &mut self.awaited,
+            &mut self.due,
+            &mut self.generations,
+            message,
+        );
         self.settle(received)
     }
 
@@ -588,7 +635,7 @@ impl<F: Files> CloneNode<F> {
         ensures answers { F.honest → AnswersText F.content (a_report (report_text report.now)) result self.old self.new }
         ensures bad_file { F.honest → IfErr result (λ e. (e ≡ CloneFault.Node NodeFault.Down) ⊎ IsRefusedMessage (F.content self.old.files) self.old.awaited (a_report (report_text report.now)) e) }
         ensures err { F.honest → IfErr result (λ e. IsOfMessage e → F.content self.new.files ≡ F.content self.old.files) }
-        ensures settles { SettlesTaken result (result ≡ Err (CloneFault.Node NodeFault.Down)) (clone_up_after result) self.old self.new }
+        ensures settles { SettlesMessage F.honest F.content result self.old self.new }
         ensures clean { F.honest → KeepsClean (F.content self.old.files) (F.content self.new.files) }
         ensures wear { Writes F.honest F.content F.failed F.can_fail F.left self.old.files self.new.files (CloneTellsDevice result) }
         ensures looks { F.honest → MayText F.content (a_report (report_text report.now)) self.old (Wears F.failed F.can_fail F.left self.old.files self.new.files (CloneTellsDevice result)) }
@@ -601,6 +648,8 @@ impl<F: Files> CloneNode<F> {
             self.alloc,
             &mut self.files,
             &mut self.awaited,
+            &mut self.due,
+            &mut self.generations,
             report,
         );
         self.settle(received)
@@ -660,6 +709,7 @@ impl<F: Files> CloneNode<FusedFiles<F>> {
         ensures files { self.new.files.files ≡ self.old.files.files }
         ensures fuse { self.new.files.fuse ≡ left_after self.old.files.fuse writes }
         ensures awaited { self.new.awaited ≡ self.old.awaited }
+        ensures learnt { self.new.learnt ≡ self.old.learnt }
         ensures up { self.new.is_up ≡ self.old.is_up }
     {
         self.files.stop_after(writes);

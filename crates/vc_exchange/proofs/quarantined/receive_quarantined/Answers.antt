@@ -1,4 +1,4 @@
-use Rattle.std.proofs.Common.{rules, ◌≡◌, sym, ◌∙◌, subst}
+use Rattle.std.proofs.Common.{rules, ◌≡◌, Err, refl, sym, ap, ◌∙◌, subst}
 use Rattle.vc_pack.proofs.KeepsLemmas.{keeps_same, keeps_then}
 use Rattle.vc_files.specs.FileMap.{FileMap}
 use Rattle.vc_files.proofs.WearLemmas.{wears_then, wears_writes, writes_both, writes_told}
@@ -8,13 +8,16 @@ use Rattle.vc_history.specs.Stored.{AgreesIn}
 use Rattle.vc_model.specs.Repository.{IsSound, with_objects}
 use Rattle.vc_object.specs.ObjectMap.{links_in}
 use Rattle.vc_object.specs.declared.id.ObjectId.{ObjectId}
+use Rattle.vc_refs.specs.Refs.{refs}
 use Rattle.vc_rules.proofs.JoinLemmas.{joined}
 use Rattle.vc_rules.specs.Git.{git}
 use Rattle.vc_rules.specs.OpenPushes.{HoldsContent}
 use Rattle.vc_session.proofs.CleanLemmas.{bad_same, bad_then}
+use Rattle.vc_session.proofs.FrameLemmas.{refs-of_objects, refs-of_slot}
 use Rattle.vc_session.specs.Carrying.{objects_in}
 use Rattle.vc_session.specs.Clean.{MakesNoneBad}
 use Rattle.vc_session.specs.Known.{AreWhole}
+use Rattle.vc_session.specs.Learning.{learnt_in}
 use Rattle.vc_session.specs.Migrating.{IsFrontMigrated, migrated}
 use Rattle.vc_session.specs.declared.known.Known.{Known}
 use Rattle.vc_store.specs.Store.{objects}
@@ -23,6 +26,7 @@ use Rattle.vc_exchange.specs.Moving.{IsRight, told_in}
 use Rattle.vc_exchange.specs.Quarantined.{BlamesSeen}
 use Rattle.vc_exchange.specs.Receiving.{BlamesPack}
 use Rattle.vc_exchange.specs.declared.fault.ExchangeFault.TheVariants as exchange
+use Rattle.vc_exchange.proofs.LearningLemmas.{faulted, learnt_alone, learnt_moved}
 use Rattle.vc_exchange.proofs.MovingLoops.{blames_before, blames_of_pack, fault_other, never_incomplete, told_err, whole_refs}
 use Rattle.vc_exchange.proofs.PackDeeds.{pack_moving, pack_storing, pack_stored, pack_taken, store_other}
 use Rattle.vc_exchange.proofs.PackLemmas.{histories_met, stored_content, stored_met, stored_outside, whole_after}
@@ -123,7 +127,7 @@ returns-in_err-moved-clause-refused g c = λ honest agrees pack holds m is.
     let seen = content c.open_ids.new.files in
     let at : first ≡ old = c.in_ok-objects.ensures.same ∙ c.in_ok-known.ensures.same in
     let e = c.in_err-moved.field-0.0 in
-    let there : AgreesIn seen c.args.generations.now = agrees_migrated old first mid seen c.args.names.now c.args.generations.now at (c.in_ok-migrate.ensures.stored honest) c.in_ok-open.ensures.same agrees in
+    let there : AgreesIn seen c.learn_known.new.generations = agrees_migrated old first mid seen c.args.names.now c.learn_known.new.generations at (c.in_ok-migrate.ensures.stored honest) c.in_ok-open.ensures.same (c.in_ok-known.ensures.agrees honest agrees) in
     let none : MakesNoneBad old mid = rw (c.in_ok-objects.ensures.same, c.in_ok-known.ensures.same) at (c.in_ok-migrate.ensures.bad honest) in
     let why : BlamesFiles seen e = search (rules, c.in_err-moved.ensures.refused honest there) in
     let before : BlamesFiles old e = blames_before old seen (bad_then none (bad_same mid seen c.in_ok-open.ensures.same)) e why in
@@ -138,7 +142,7 @@ returns-in_err-moved-clause-unchanged g c = λ honest agrees.
     let seen = content c.open_ids.new.files in
     let at : first ≡ old = c.in_ok-objects.ensures.same ∙ c.in_ok-known.ensures.same in
     let e = c.in_err-moved.field-0.0 in
-    let there : AgreesIn seen c.args.generations.now = agrees_migrated old first mid seen c.args.names.now c.args.generations.now at (c.in_ok-migrate.ensures.stored honest) c.in_ok-open.ensures.same agrees in
+    let there : AgreesIn seen c.learn_known.new.generations = agrees_migrated old first mid seen c.args.names.now c.learn_known.new.generations at (c.in_ok-migrate.ensures.stored honest) c.in_ok-open.ensures.same (c.in_ok-known.ensures.agrees honest agrees) in
     let why : BlamesFiles seen e = search (rules, c.in_err-moved.ensures.refused honest there) in
     told_err c.from_residual-in_err-moved.result e (λ x. (id : ObjectId) → x ≡ exchange.Incomplete id → content c.move_refs.new.files ≡ old) (search rules) (λ id is. absurd (never_incomplete seen e id why is))
 
@@ -147,7 +151,7 @@ pub returns-in_err-migrate-clause-cut : goal.returns-in_err-migrate-clause-cut
 returns-in_err-migrate-clause-cut g c = λ honest agrees pack holds r p m is refs same.
     let content = g.F.Files.content in
     let old = content c.args.files.now in
-    let read = content c.by_good_refs.new.files in
+    let read = content c.learn_known.new.files in
     let first = content c.judge_quarantined.new.files in
     let mid = content c.migrate.new.files in
     let brought = pack.objects in
@@ -167,7 +171,7 @@ pub returns-in_err-open-clause-cut : goal.returns-in_err-open-clause-cut
 returns-in_err-open-clause-cut g c = λ honest agrees pack holds r p m is refs same.
     let content = g.F.Files.content in
     let old = content c.args.files.now in
-    let read = content c.by_good_refs.new.files in
+    let read = content c.learn_known.new.files in
     let first = content c.judge_quarantined.new.files in
     let mid = content c.migrate.new.files in
     let brought = pack.objects in
@@ -189,7 +193,7 @@ pub returns-in_err-moved-clause-cut : goal.returns-in_err-moved-clause-cut
 returns-in_err-moved-clause-cut g c = λ honest agrees pack holds r p m is refs same.
     let content = g.F.Files.content in
     let old = content c.args.files.now in
-    let read = content c.by_good_refs.new.files in
+    let read = content c.learn_known.new.files in
     let first = content c.judge_quarantined.new.files in
     let mid = content c.migrate.new.files in
     let brought = pack.objects in
@@ -209,8 +213,8 @@ returns-in_err-moved-clause-cut g c = λ honest agrees pack holds r p m is refs 
     let keys = c.in_ok-objects.objects.keys in
     let met : IsSound git r → IsClosedUnder (links_in (objects mid)) keys = λ so. stored_met old mid brought st keys (seen_at old names pack holds read read_at keys (c.in_ok-objects.ensures.met honest (by_refs so).closed)) in
     let more : Known = record { objects = c.open_ids.new.known; histories = known.histories } in
-    let Right : Type 0 = IsRight seen more c.args.generations.now in
-    let there : AgreesIn seen c.args.generations.now = agrees_migrated old first mid seen names c.args.generations.now at (c.in_ok-migrate.ensures.stored honest) c.in_ok-open.ensures.same agrees in
+    let Right : Type 0 = IsRight seen more c.learn_known.new.generations in
+    let there : AgreesIn seen c.learn_known.new.generations = agrees_migrated old first mid seen names c.learn_known.new.generations at (c.in_ok-migrate.ensures.stored honest) c.in_ok-open.ensures.same (c.in_ok-known.ensures.agrees honest agrees) in
     let right : IsSound git r → Right = λ so. record {
       whole = whole_after mid seen c.in_ok-open.ensures.same more (c.in_ok-open.ensures.known honest (met so)) (histories_met old read mid brought read_at st known (by_refs so));
       agrees = there;
@@ -221,7 +225,7 @@ pub returns-in_err-drop_quarantine-clause-cut : goal.returns-in_err-drop_quarant
 returns-in_err-drop_quarantine-clause-cut g c = λ honest agrees pack holds r p m is refs same.
     let content = g.F.Files.content in
     let old = content c.args.files.now in
-    let read = content c.by_good_refs.new.files in
+    let read = content c.learn_known.new.files in
     let first = content c.judge_quarantined.new.files in
     let mid = content c.migrate.new.files in
     let brought = pack.objects in
@@ -241,8 +245,8 @@ returns-in_err-drop_quarantine-clause-cut g c = λ honest agrees pack holds r p 
     let keys = c.in_ok-objects.objects.keys in
     let met : IsSound git r → IsClosedUnder (links_in (objects mid)) keys = λ so. stored_met old mid brought st keys (seen_at old names pack holds read read_at keys (c.in_ok-objects.ensures.met honest (by_refs so).closed)) in
     let more : Known = record { objects = c.open_ids.new.known; histories = known.histories } in
-    let Right : Type 0 = IsRight seen more c.args.generations.now in
-    let there : AgreesIn seen c.args.generations.now = agrees_migrated old first mid seen names c.args.generations.now at (c.in_ok-migrate.ensures.stored honest) c.in_ok-open.ensures.same agrees in
+    let Right : Type 0 = IsRight seen more c.learn_known.new.generations in
+    let there : AgreesIn seen c.learn_known.new.generations = agrees_migrated old first mid seen names c.learn_known.new.generations at (c.in_ok-migrate.ensures.stored honest) c.in_ok-open.ensures.same (c.in_ok-known.ensures.agrees honest agrees) in
     let right : IsSound git r → Right = λ so. record {
       whole = whole_after mid seen c.in_ok-open.ensures.same more (c.in_ok-open.ensures.known honest (met so)) (histories_met old read mid brought read_at st known (by_refs so));
       agrees = there;
@@ -255,7 +259,7 @@ pub returns-clause-taken : goal.returns-clause-taken
 returns-clause-taken g c = λ honest agrees pack holds r p m is refs same.
     let content = g.F.Files.content in
     let old = content c.args.files.now in
-    let read = content c.by_good_refs.new.files in
+    let read = content c.learn_known.new.files in
     let first = content c.judge_quarantined.new.files in
     let mid = content c.migrate.new.files in
     let brought = pack.objects in
@@ -275,8 +279,8 @@ returns-clause-taken g c = λ honest agrees pack holds r p m is refs same.
     let keys = c.in_ok-objects.objects.keys in
     let met : IsSound git r → IsClosedUnder (links_in (objects mid)) keys = λ so. stored_met old mid brought st keys (seen_at old names pack holds read read_at keys (c.in_ok-objects.ensures.met honest (by_refs so).closed)) in
     let more : Known = record { objects = c.open_ids.new.known; histories = known.histories } in
-    let Right : Type 0 = IsRight seen more c.args.generations.now in
-    let there : AgreesIn seen c.args.generations.now = agrees_migrated old first mid seen names c.args.generations.now at (c.in_ok-migrate.ensures.stored honest) c.in_ok-open.ensures.same agrees in
+    let Right : Type 0 = IsRight seen more c.learn_known.new.generations in
+    let there : AgreesIn seen c.learn_known.new.generations = agrees_migrated old first mid seen names c.learn_known.new.generations at (c.in_ok-migrate.ensures.stored honest) c.in_ok-open.ensures.same (c.in_ok-known.ensures.agrees honest agrees) in
     let right : IsSound git r → Right = λ so. record {
       whole = whole_after mid seen c.in_ok-open.ensures.same more (c.in_ok-open.ensures.known honest (met so)) (histories_met old read mid brought read_at st known (by_refs so));
       agrees = there;
@@ -286,83 +290,131 @@ returns-clause-taken g c = λ honest agrees pack holds r p m is refs same.
     let after = received_beside (content c.move_refs.new.files) (content c.drop_quarantine.new.files) (c.in_ok-drop_quarantine.ensures.outside honest) r _ m _ _ _ done in
     search (rules, after, c.len.ensures)
 
--- ---- the objects stay, and no file becomes bad
-pub returns-in_err-known-clause-good : goal.returns-in_err-known-clause-good
-returns-in_err-known-clause-good g c = λ honest. record { objects = keeps_same _ _ c.in_err-known.ensures.same; bad = bad_same _ _ c.in_err-known.ensures.same }
-
-pub returns-in_err-objects-clause-good : goal.returns-in_err-objects-clause-good
-returns-in_err-objects-clause-good g c = λ honest.
+-- ---- the objects stay, no file becomes bad, and all else stays
+pub returns-in_err-known-clause-kept : goal.returns-in_err-known-clause-kept
+returns-in_err-known-clause-kept g c = λ honest.
     record {
-      objects = keeps_same _ _ (c.in_err-objects.ensures.same ∙ c.in_ok-known.ensures.same);
-      bad = bad_same _ _ (c.in_err-objects.ensures.same ∙ c.in_ok-known.ensures.same);
+      good = record { objects = keeps_same _ _ c.in_err-known.ensures.same; bad = bad_same _ _ c.in_err-known.ensures.same };
+      others = others_same _ _ c.in_err-known.ensures.same;
     }
 
-pub returns-in_err-migrate-clause-good : goal.returns-in_err-migrate-clause-good
-returns-in_err-migrate-clause-good g c = λ honest.
+pub returns-in_err-objects-clause-kept : goal.returns-in_err-objects-clause-kept
+returns-in_err-objects-clause-kept g c = λ honest.
+    record {
+      good = record { objects = keeps_same _ _ (c.in_err-objects.ensures.same ∙ c.in_ok-known.ensures.same); bad = bad_same _ _ (c.in_err-objects.ensures.same ∙ c.in_ok-known.ensures.same) };
+      others = others_same _ _ (c.in_err-objects.ensures.same ∙ c.in_ok-known.ensures.same);
+    }
+
+pub returns-in_err-migrate-clause-kept : goal.returns-in_err-migrate-clause-kept
+returns-in_err-migrate-clause-kept g c = λ honest.
     let content = g.F.Files.content in
     let front : IsFrontMigrated (content c.judge_quarantined.new.files) 0 c.args.names.now (content c.migrate.new.files) = search (rules, c.in_err-migrate.ensures.left honest) in
     record {
-      objects = keeps_then _ _ _ (keeps_same _ _ (c.in_ok-objects.ensures.same ∙ c.in_ok-known.ensures.same)) (front_keeps _ 0 _ c.args.names.now front);
-      bad = rw (c.in_ok-objects.ensures.same, c.in_ok-known.ensures.same) at (c.in_err-migrate.ensures.bad honest);
+      good = record { objects = keeps_then _ _ _ (keeps_same _ _ (c.in_ok-objects.ensures.same ∙ c.in_ok-known.ensures.same)) (front_keeps _ 0 _ c.args.names.now front); bad = rw (c.in_ok-objects.ensures.same, c.in_ok-known.ensures.same) at (c.in_err-migrate.ensures.bad honest) };
+      others = others_then _ _ _ (others_same _ _ (c.in_ok-objects.ensures.same ∙ c.in_ok-known.ensures.same)) (others_objects _ _ (c.in_err-migrate.ensures.outside honest));
     }
 
-pub returns-in_err-open-clause-good : goal.returns-in_err-open-clause-good
-returns-in_err-open-clause-good g c = λ honest.
+pub returns-in_err-open-clause-kept : goal.returns-in_err-open-clause-kept
+returns-in_err-open-clause-kept g c = λ honest.
     let content = g.F.Files.content in
     let stored : MakesNoneBad (content c.args.files.now) (content c.migrate.new.files) = rw (c.in_ok-objects.ensures.same, c.in_ok-known.ensures.same) at (c.in_ok-migrate.ensures.bad honest) in
     record {
-      objects = keeps_then _ _ _ (keeps_same _ _ (c.in_ok-objects.ensures.same ∙ c.in_ok-known.ensures.same)) (keeps_then _ _ _ (migrated_keeps (g.F.Files.content c.judge_quarantined.new.files) 0 (g.F.Files.content c.migrate.new.files) c.args.names.now (c.in_ok-migrate.ensures.stored honest)) (keeps_same _ _ c.in_err-open.ensures.same));
-      bad = bad_then stored (bad_same _ _ c.in_err-open.ensures.same);
+      good = record { objects = keeps_then _ _ _ (keeps_same _ _ (c.in_ok-objects.ensures.same ∙ c.in_ok-known.ensures.same)) (keeps_then _ _ _ (migrated_keeps (g.F.Files.content c.judge_quarantined.new.files) 0 (g.F.Files.content c.migrate.new.files) c.args.names.now (c.in_ok-migrate.ensures.stored honest)) (keeps_same _ _ c.in_err-open.ensures.same)); bad = bad_then stored (bad_same _ _ c.in_err-open.ensures.same) };
+      others = others_then _ _ _ (others_same _ _ (c.in_ok-objects.ensures.same ∙ c.in_ok-known.ensures.same)) (others_then _ _ _ (others_objects _ _ (c.in_ok-migrate.ensures.outside honest)) (others_same _ _ c.in_err-open.ensures.same));
     }
 
-pub returns-in_err-moved-clause-good : goal.returns-in_err-moved-clause-good
-returns-in_err-moved-clause-good g c = λ honest.
+pub returns-in_err-moved-clause-kept : goal.returns-in_err-moved-clause-kept
+returns-in_err-moved-clause-kept g c = λ honest.
     let content = g.F.Files.content in
     let stored : MakesNoneBad (content c.args.files.now) (content c.migrate.new.files) = rw (c.in_ok-objects.ensures.same, c.in_ok-known.ensures.same) at (c.in_ok-migrate.ensures.bad honest) in
     let moved : MakesNoneBad (content c.migrate.new.files) (content c.move_refs.new.files) = rw c.in_ok-open.ensures.same at (c.in_err-moved.ensures.bad honest) in
     record {
-      objects = keeps_then _ _ _ (keeps_same _ _ (c.in_ok-objects.ensures.same ∙ c.in_ok-known.ensures.same)) (keeps_then _ _ _ (migrated_keeps (g.F.Files.content c.judge_quarantined.new.files) 0 (g.F.Files.content c.migrate.new.files) c.args.names.now (c.in_ok-migrate.ensures.stored honest)) (keeps_then _ _ _ (keeps_same _ _ c.in_ok-open.ensures.same) (keeps_beside_refs _ _ (c.in_err-moved.ensures.outside honest))));
-      bad = bad_then stored moved;
+      good = record { objects = keeps_then _ _ _ (keeps_same _ _ (c.in_ok-objects.ensures.same ∙ c.in_ok-known.ensures.same)) (keeps_then _ _ _ (migrated_keeps (g.F.Files.content c.judge_quarantined.new.files) 0 (g.F.Files.content c.migrate.new.files) c.args.names.now (c.in_ok-migrate.ensures.stored honest)) (keeps_then _ _ _ (keeps_same _ _ c.in_ok-open.ensures.same) (keeps_beside_refs _ _ (c.in_err-moved.ensures.outside honest)))); bad = bad_then stored moved };
+      others = others_then _ _ _ (others_same _ _ (c.in_ok-objects.ensures.same ∙ c.in_ok-known.ensures.same)) (others_then _ _ _ (others_objects _ _ (c.in_ok-migrate.ensures.outside honest)) (others_then _ _ _ (others_same _ _ c.in_ok-open.ensures.same) (others_refs _ _ (c.in_err-moved.ensures.outside honest))));
     }
 
-pub returns-in_err-drop_quarantine-clause-good : goal.returns-in_err-drop_quarantine-clause-good
-returns-in_err-drop_quarantine-clause-good g c = λ honest.
+pub returns-in_err-drop_quarantine-clause-kept : goal.returns-in_err-drop_quarantine-clause-kept
+returns-in_err-drop_quarantine-clause-kept g c = λ honest.
     let content = g.F.Files.content in
     let stored : MakesNoneBad (content c.args.files.now) (content c.migrate.new.files) = rw (c.in_ok-objects.ensures.same, c.in_ok-known.ensures.same) at (c.in_ok-migrate.ensures.bad honest) in
     let moved : MakesNoneBad (content c.migrate.new.files) (content c.move_refs.new.files) = rw c.in_ok-open.ensures.same at (c.in_ok-moved.ensures.bad honest) in
     record {
-      objects = keeps_then _ _ _ (keeps_same _ _ (c.in_ok-objects.ensures.same ∙ c.in_ok-known.ensures.same)) (keeps_then _ _ _ (migrated_keeps (g.F.Files.content c.judge_quarantined.new.files) 0 (g.F.Files.content c.migrate.new.files) c.args.names.now (c.in_ok-migrate.ensures.stored honest)) (keeps_then _ _ _ (keeps_same _ _ c.in_ok-open.ensures.same) (keeps_then _ _ _ (keeps_beside_refs _ _ (c.in_ok-moved.ensures.outside honest)) (keeps_beside_slot _ _ (c.in_err-drop_quarantine.ensures.outside honest)))));
-      bad = bad_then stored (bad_then moved (c.in_err-drop_quarantine.ensures.bad honest));
+      good = record { objects = keeps_then _ _ _ (keeps_same _ _ (c.in_ok-objects.ensures.same ∙ c.in_ok-known.ensures.same)) (keeps_then _ _ _ (migrated_keeps (g.F.Files.content c.judge_quarantined.new.files) 0 (g.F.Files.content c.migrate.new.files) c.args.names.now (c.in_ok-migrate.ensures.stored honest)) (keeps_then _ _ _ (keeps_same _ _ c.in_ok-open.ensures.same) (keeps_then _ _ _ (keeps_beside_refs _ _ (c.in_ok-moved.ensures.outside honest)) (keeps_beside_slot _ _ (c.in_err-drop_quarantine.ensures.outside honest))))); bad = bad_then stored (bad_then moved (c.in_err-drop_quarantine.ensures.bad honest)) };
+      others = others_then _ _ _ (others_same _ _ (c.in_ok-objects.ensures.same ∙ c.in_ok-known.ensures.same)) (others_then _ _ _ (others_objects _ _ (c.in_ok-migrate.ensures.outside honest)) (others_then _ _ _ (others_same _ _ c.in_ok-open.ensures.same) (others_then _ _ _ (others_refs _ _ (c.in_ok-moved.ensures.outside honest)) (others_slot _ _ (c.in_err-drop_quarantine.ensures.outside honest)))));
     }
 
-pub returns-clause-good : goal.returns-clause-good
-returns-clause-good g c = λ honest.
+pub returns-clause-kept : goal.returns-clause-kept
+returns-clause-kept g c = λ honest.
     let content = g.F.Files.content in
     let stored : MakesNoneBad (content c.args.files.now) (content c.migrate.new.files) = rw (c.in_ok-objects.ensures.same, c.in_ok-known.ensures.same) at (c.in_ok-migrate.ensures.bad honest) in
     let moved : MakesNoneBad (content c.migrate.new.files) (content c.move_refs.new.files) = rw c.in_ok-open.ensures.same at (c.in_ok-moved.ensures.bad honest) in
     record {
-      objects = keeps_then _ _ _ (keeps_same _ _ (c.in_ok-objects.ensures.same ∙ c.in_ok-known.ensures.same)) (keeps_then _ _ _ (migrated_keeps (g.F.Files.content c.judge_quarantined.new.files) 0 (g.F.Files.content c.migrate.new.files) c.args.names.now (c.in_ok-migrate.ensures.stored honest)) (keeps_then _ _ _ (keeps_same _ _ c.in_ok-open.ensures.same) (keeps_then _ _ _ (keeps_beside_refs _ _ (c.in_ok-moved.ensures.outside honest)) (keeps_beside_slot _ _ (c.in_ok-drop_quarantine.ensures.outside honest)))));
-      bad = bad_then stored (bad_then moved (c.in_ok-drop_quarantine.ensures.bad honest));
+      good = record { objects = keeps_then _ _ _ (keeps_same _ _ (c.in_ok-objects.ensures.same ∙ c.in_ok-known.ensures.same)) (keeps_then _ _ _ (migrated_keeps (g.F.Files.content c.judge_quarantined.new.files) 0 (g.F.Files.content c.migrate.new.files) c.args.names.now (c.in_ok-migrate.ensures.stored honest)) (keeps_then _ _ _ (keeps_same _ _ c.in_ok-open.ensures.same) (keeps_then _ _ _ (keeps_beside_refs _ _ (c.in_ok-moved.ensures.outside honest)) (keeps_beside_slot _ _ (c.in_ok-drop_quarantine.ensures.outside honest))))); bad = bad_then stored (bad_then moved (c.in_ok-drop_quarantine.ensures.bad honest)) };
+      others = others_then _ _ _ (others_same _ _ (c.in_ok-objects.ensures.same ∙ c.in_ok-known.ensures.same)) (others_then _ _ _ (others_objects _ _ (c.in_ok-migrate.ensures.outside honest)) (others_then _ _ _ (others_same _ _ c.in_ok-open.ensures.same) (others_then _ _ _ (others_refs _ _ (c.in_ok-moved.ensures.outside honest)) (others_slot _ _ (c.in_ok-drop_quarantine.ensures.outside honest)))));
     }
 
--- ---- and so does all else
-pub returns-in_err-known-clause-beside : goal.returns-in_err-known-clause-beside
-returns-in_err-known-clause-beside g c = λ honest. (others_same _ _ c.in_err-known.ensures.same)
+-- ---- what is learnt
+pub returns-in_err-known-clause-learns : goal.returns-in_err-known-clause-learns
+returns-in_err-known-clause-learns g c = λ honest agrees.
+    let is : c.from_residual.result ≡ Err (exchange.Fault c.in_err-known.field-0.0) = search rules in
+    faulted _ _ _ _ c.from_residual.result c.in_err-known.field-0.0 is (c.in_err-known.ensures.agrees honest agrees)
 
-pub returns-in_err-objects-clause-beside : goal.returns-in_err-objects-clause-beside
-returns-in_err-objects-clause-beside g c = λ honest. (others_same _ _ (c.in_err-objects.ensures.same ∙ c.in_ok-known.ensures.same))
+pub returns-in_err-objects-clause-learns : goal.returns-in_err-objects-clause-learns
+returns-in_err-objects-clause-learns g c = λ honest agrees.
+    let content = g.F.Files.content in
+    let old = content c.args.files.now in
+    let before = learnt_in c.args.generations.now c.args.due.now in
+    let between = learnt_in c.learn_known.new.generations c.learn_known.new.due in
+    let learnt = c.in_ok-known.ensures.learnt honest agrees in
+    let right = c.in_ok-known.ensures.agrees honest agrees in
+    learnt_alone old (content c.judge_quarantined.new.files) before between c.from_residual-in_err-objects.result learnt right (ap refs (c.in_err-objects.ensures.same ∙ c.in_ok-known.ensures.same))
 
-pub returns-in_err-migrate-clause-beside : goal.returns-in_err-migrate-clause-beside
-returns-in_err-migrate-clause-beside g c = λ honest. (others_then _ _ _ (others_same _ _ (c.in_ok-objects.ensures.same ∙ c.in_ok-known.ensures.same)) (others_objects _ _ (c.in_err-migrate.ensures.outside honest)))
+pub returns-in_err-migrate-clause-learns : goal.returns-in_err-migrate-clause-learns
+returns-in_err-migrate-clause-learns g c = λ honest agrees.
+    let content = g.F.Files.content in
+    let old = content c.args.files.now in
+    let before = learnt_in c.args.generations.now c.args.due.now in
+    let between = learnt_in c.learn_known.new.generations c.learn_known.new.due in
+    let learnt = c.in_ok-known.ensures.learnt honest agrees in
+    let right = c.in_ok-known.ensures.agrees honest agrees in
+    learnt_alone old (content c.migrate.new.files) before between c.from_residual-in_err-migrate.result learnt right (refs-of_objects (content c.judge_quarantined.new.files) (content c.migrate.new.files) (c.in_err-migrate.ensures.outside honest) ∙ ap refs (c.in_ok-objects.ensures.same ∙ c.in_ok-known.ensures.same))
 
-pub returns-in_err-open-clause-beside : goal.returns-in_err-open-clause-beside
-returns-in_err-open-clause-beside g c = λ honest. (others_then _ _ _ (others_same _ _ (c.in_ok-objects.ensures.same ∙ c.in_ok-known.ensures.same)) (others_then _ _ _ (others_objects _ _ (c.in_ok-migrate.ensures.outside honest)) (others_same _ _ c.in_err-open.ensures.same)))
+pub returns-in_err-open-clause-learns : goal.returns-in_err-open-clause-learns
+returns-in_err-open-clause-learns g c = λ honest agrees.
+    let content = g.F.Files.content in
+    let old = content c.args.files.now in
+    let before = learnt_in c.args.generations.now c.args.due.now in
+    let between = learnt_in c.learn_known.new.generations c.learn_known.new.due in
+    let learnt = c.in_ok-known.ensures.learnt honest agrees in
+    let right = c.in_ok-known.ensures.agrees honest agrees in
+    learnt_alone old (content c.open_ids.new.files) before between c.from_residual-in_err-open.result learnt right (ap refs c.in_err-open.ensures.same ∙ refs-of_objects (content c.judge_quarantined.new.files) (content c.migrate.new.files) (c.in_ok-migrate.ensures.outside honest) ∙ ap refs (c.in_ok-objects.ensures.same ∙ c.in_ok-known.ensures.same))
 
-pub returns-in_err-moved-clause-beside : goal.returns-in_err-moved-clause-beside
-returns-in_err-moved-clause-beside g c = λ honest. (others_then _ _ _ (others_same _ _ (c.in_ok-objects.ensures.same ∙ c.in_ok-known.ensures.same)) (others_then _ _ _ (others_objects _ _ (c.in_ok-migrate.ensures.outside honest)) (others_then _ _ _ (others_same _ _ c.in_ok-open.ensures.same) (others_refs _ _ (c.in_err-moved.ensures.outside honest)))))
+pub returns-in_err-moved-clause-learns : goal.returns-in_err-moved-clause-learns
+returns-in_err-moved-clause-learns g c = λ honest agrees.
+    let content = g.F.Files.content in
+    let old = content c.args.files.now in
+    let before = learnt_in c.args.generations.now c.args.due.now in
+    let between = learnt_in c.learn_known.new.generations c.learn_known.new.due in
+    let learnt = c.in_ok-known.ensures.learnt honest agrees in
+    let right = c.in_ok-known.ensures.agrees honest agrees in
+    learnt_moved old (content c.move_refs.new.files) before between c.from_residual-in_err-moved.result learnt right (content c.open_ids.new.files) (content c.move_refs.new.files) c.move_refs.new.due.items (ap refs c.in_ok-open.ensures.same ∙ refs-of_objects (content c.judge_quarantined.new.files) (content c.migrate.new.files) (c.in_ok-migrate.ensures.outside honest) ∙ ap refs (c.in_ok-objects.ensures.same ∙ c.in_ok-known.ensures.same)) refl (c.in_err-moved.ensures.noted honest).noted
 
-pub returns-in_err-drop_quarantine-clause-beside : goal.returns-in_err-drop_quarantine-clause-beside
-returns-in_err-drop_quarantine-clause-beside g c = λ honest. (others_then _ _ _ (others_same _ _ (c.in_ok-objects.ensures.same ∙ c.in_ok-known.ensures.same)) (others_then _ _ _ (others_objects _ _ (c.in_ok-migrate.ensures.outside honest)) (others_then _ _ _ (others_same _ _ c.in_ok-open.ensures.same) (others_then _ _ _ (others_refs _ _ (c.in_ok-moved.ensures.outside honest)) (others_slot _ _ (c.in_err-drop_quarantine.ensures.outside honest))))))
+pub returns-in_err-drop_quarantine-clause-learns : goal.returns-in_err-drop_quarantine-clause-learns
+returns-in_err-drop_quarantine-clause-learns g c = λ honest agrees.
+    let content = g.F.Files.content in
+    let old = content c.args.files.now in
+    let before = learnt_in c.args.generations.now c.args.due.now in
+    let between = learnt_in c.learn_known.new.generations c.learn_known.new.due in
+    let learnt = c.in_ok-known.ensures.learnt honest agrees in
+    let right = c.in_ok-known.ensures.agrees honest agrees in
+    learnt_moved old (content c.drop_quarantine.new.files) before between c.from_residual-in_err-drop_quarantine.result learnt right (content c.open_ids.new.files) (content c.move_refs.new.files) c.move_refs.new.due.items (ap refs c.in_ok-open.ensures.same ∙ refs-of_objects (content c.judge_quarantined.new.files) (content c.migrate.new.files) (c.in_ok-migrate.ensures.outside honest) ∙ ap refs (c.in_ok-objects.ensures.same ∙ c.in_ok-known.ensures.same)) (refs-of_slot 0 (content c.move_refs.new.files) (content c.drop_quarantine.new.files) (c.in_err-drop_quarantine.ensures.outside honest)) (c.in_ok-moved.ensures.noted honest).noted
 
-pub returns-clause-beside : goal.returns-clause-beside
-returns-clause-beside g c = λ honest. (others_then _ _ _ (others_same _ _ (c.in_ok-objects.ensures.same ∙ c.in_ok-known.ensures.same)) (others_then _ _ _ (others_objects _ _ (c.in_ok-migrate.ensures.outside honest)) (others_then _ _ _ (others_same _ _ c.in_ok-open.ensures.same) (others_then _ _ _ (others_refs _ _ (c.in_ok-moved.ensures.outside honest)) (others_slot _ _ (c.in_ok-drop_quarantine.ensures.outside honest))))))
+pub returns-clause-learns : goal.returns-clause-learns
+returns-clause-learns g c = λ honest agrees.
+    let content = g.F.Files.content in
+    let old = content c.args.files.now in
+    let before = learnt_in c.args.generations.now c.args.due.now in
+    let between = learnt_in c.learn_known.new.generations c.learn_known.new.due in
+    let learnt = c.in_ok-known.ensures.learnt honest agrees in
+    let right = c.in_ok-known.ensures.agrees honest agrees in
+    learnt_moved old (content c.drop_quarantine.new.files) before between _ learnt right (content c.open_ids.new.files) (content c.move_refs.new.files) c.move_refs.new.due.items (ap refs c.in_ok-open.ensures.same ∙ refs-of_objects (content c.judge_quarantined.new.files) (content c.migrate.new.files) (c.in_ok-migrate.ensures.outside honest) ∙ ap refs (c.in_ok-objects.ensures.same ∙ c.in_ok-known.ensures.same)) (refs-of_slot 0 (content c.move_refs.new.files) (content c.drop_quarantine.new.files) (c.in_ok-drop_quarantine.ensures.outside honest)) (c.in_ok-moved.ensures.noted honest).noted

@@ -1,7 +1,8 @@
-use Rattle.std.proofs.Common.{rules, ◌≡◌, inl, inr, List, map, take, refl, sym, ap, ◌∙◌, subst, []}
+use Rattle.std.proofs.Common.{rules, ◌≡◌, inl, inr, Err, List, map, take, refl, sym, ap, ◌∙◌, subst, []}
 use Rattle.vc_fetch.specs.AdvertView.{advert_text}
 use Rattle.vc_files.proofs.WearLemmas.{wears_then, wears_writes, writes_told}
 use Rattle.vc_files.specs.FileMap.{FileMap}
+use Rattle.vc_files.specs.declared.faults.Fault.TheVariants.{Memory}
 use Rattle.vc_format.specs.Git.{bytes_of_id}
 use Rattle.vc_message.specs.Machine.{IsWritten}
 use Rattle.vc_history.specs.Stored.{AgreesIn}
@@ -10,12 +11,14 @@ use Rattle.vc_model.specs.Clone.Awaited.{AnAdvert}
 use Rattle.vc_model.specs.Message.Message.{Want as Asks}
 use Rattle.vc_model.specs.Repository.{IsSound, Repository}
 use Rattle.vc_object.specs.declared.id.ObjectId.{ObjectId}
+use Rattle.vc_refs.specs.Refs.{refs}
 use Rattle.vc_rules.specs.Git.{git}
 use Rattle.vc_rules.specs.OpenPushes.{HoldsContent}
 use Rattle.vc_session.proofs.CleanLemmas.{bad_same}
 use Rattle.vc_session.proofs.NumberLemmas.{agreement_same}
 use Rattle.vc_session.proofs.UpdateLemmas.{wears_both}
 use Rattle.vc_session.specs.Known.{AreWhole}
+use Rattle.vc_session.specs.Learning.{learnt_in}
 use Rattle.vc_session.specs.declared.known.Known.{Known}
 use Rattle.vc_store.specs.Store.{objects}
 use Rattle.vc_exchange.specs.Deeds.{HoldsHead}
@@ -23,10 +26,12 @@ use Rattle.vc_exchange.specs.Faults.{BlamesFiles}
 use Rattle.vc_exchange.specs.Moving.{AreFrontMoved, AreMoved, IsRight, MovesSome, Told, told_in}
 use Rattle.vc_exchange.specs.Receiving.{BlamesAdvert}
 use Rattle.vc_exchange.specs.Wanting.{AreOpenTold, BlamesWanting}
+use Rattle.vc_exchange.specs.declared.fault.ExchangeFault.TheVariants as exchange
 use Rattle.vc_exchange.specs.declared.moving.Followed.TheVariants.{All}
 use Rattle.vc_exchange.proofs.AdvertDeeds.{advert_asked, advert_changes, advert_cut, advert_followed, told_refs}
 use Rattle.vc_exchange.proofs.EmptyLists.{empty_items, few_first, some_items}
 use Rattle.vc_exchange.proofs.DeedLemmas.{none_received}
+use Rattle.vc_exchange.proofs.LearningLemmas.{faulted, learnt_alone, learnt_moved}
 use Rattle.vc_exchange.proofs.MovingLoops.{told_err, whole_more, whole_refs}
 use Rattle.vc_exchange.proofs.ReceivingLemmas.{outside_kept, wanting_kept}
 use Rattle.vc_exchange.proofs.receiving.receive_advert.Goals as goal
@@ -56,14 +61,14 @@ returns-in_err-moved-clause-cut g c = λ honest agrees r p m advert.
     let seen = content c.open_ids.new.files in
     let last = content c.move_refs.new.files in
     let told = told_in c.in_ok-refs.refs.items in
-    let first = content c.by_good_refs.new.files in
+    let first = content c.learn_known.new.files in
     let same : first ≡ old = c.in_ok-known.ensures.same in
     let held = still_held old first r same p in
     let known = c.in_ok-known.known in
     let more : Known = record { objects = c.open_ids.new.known; histories = known.histories } in
-    let Right : Type 0 = IsRight seen more c.args.generations.now in
+    let Right : Type 0 = IsRight seen more c.learn_known.new.generations in
     let by_refs : IsSound git r → AreWhole (objects first) known = whole_refs old first known r same (c.in_ok-known.ensures.whole honest) p in
-    let there : AgreesIn seen c.args.generations.now = agreement_same old seen (c.in_ok-open.ensures.same ∙ same) c.args.generations.now agrees in
+    let there : AgreesIn seen c.learn_known.new.generations = agreement_same old seen (c.in_ok-open.ensures.same ∙ same) c.learn_known.new.generations (c.in_ok-known.ensures.agrees honest agrees) in
     let sound : IsSound git r → Right = λ is. record { whole = whole_more first seen known more c.in_ok-open.ensures.same refl (c.in_ok-open.ensures.known honest) (by_refs is); agrees = there } in
     let none : IsSound git r → AreOpenTold r told [] = λ is. open_at r (told_in c.deref.result.now) told c.in_ok-open.open.items [] (ap told_in c.deref.ensures.value) (empty_items c.in_ok-open.open c.is_empty.result c.is_empty.ensures c.if-is_empty.true) (c.in_ok-open.ensures.wanted honest (by_refs is).closed r held) in
     let front : AreFrontMoved Right All (told_in c.deref-then-is_empty.result.now) r last = search (rules, c.in_err-moved.ensures.left honest r (still_held first seen r c.in_ok-open.ensures.same held)) in
@@ -75,7 +80,7 @@ returns-in_err-moved-clause-refused g c = λ honest agrees.
     let seen = g.F.Files.content c.open_ids.new.files in
     let same : seen ≡ old = c.in_ok-open.ensures.same ∙ c.in_ok-known.ensures.same in
     let e = c.in_err-moved.field-0.0 in
-    let why : BlamesFiles seen e = search (rules, c.in_err-moved.ensures.refused honest (agreement_same old seen same c.args.generations.now agrees)) in
+    let why : BlamesFiles seen e = search (rules, c.in_err-moved.ensures.refused honest (agreement_same old seen same c.learn_known.new.generations (c.in_ok-known.ensures.agrees honest agrees))) in
     told_err c.from_residual-in_err-moved.result e (BlamesAdvert old) (search rules) (inr (subst (λ (f : FileMap). BlamesFiles f e) same why))
 
 pub returns-in_err-moved-clause-wear : goal.returns-in_err-moved-clause-wear
@@ -89,14 +94,14 @@ returns-in_err-moved-clause-looks g c = λ honest agrees r p m advert.
     let old = content c.args.files.now in
     let seen = content c.open_ids.new.files in
     let told = told_in c.in_ok-refs.refs.items in
-    let first = content c.by_good_refs.new.files in
+    let first = content c.learn_known.new.files in
     let same : first ≡ old = c.in_ok-known.ensures.same in
     let held = still_held old first r same p in
     let known = c.in_ok-known.known in
     let more : Known = record { objects = c.open_ids.new.known; histories = known.histories } in
-    let Right : Type 0 = IsRight seen more c.args.generations.now in
+    let Right : Type 0 = IsRight seen more c.learn_known.new.generations in
     let by_refs : IsSound git r → AreWhole (objects first) known = whole_refs old first known r same (c.in_ok-known.ensures.whole honest) p in
-    let there : AgreesIn seen c.args.generations.now = agreement_same old seen (c.in_ok-open.ensures.same ∙ same) c.args.generations.now agrees in
+    let there : AgreesIn seen c.learn_known.new.generations = agreement_same old seen (c.in_ok-open.ensures.same ∙ same) c.learn_known.new.generations (c.in_ok-known.ensures.agrees honest agrees) in
     let sound : IsSound git r → Right = λ is. record { whole = whole_more first seen known more c.in_ok-open.ensures.same refl (c.in_ok-open.ensures.known honest) (by_refs is); agrees = there } in
     let none : IsSound git r → AreOpenTold r told [] = λ is. open_at r (told_in c.deref.result.now) told c.in_ok-open.open.items [] (ap told_in c.deref.ensures.value) (empty_items c.in_ok-open.open c.is_empty.result c.is_empty.ensures c.if-is_empty.true) (c.in_ok-open.ensures.wanted honest (by_refs is).closed r held) in
     elim (c.in_err-moved.ensures.looks honest r (still_held first seen r c.in_ok-open.ensures.same held)) [
@@ -111,14 +116,14 @@ returns-then-is_empty-clause-taken g c = λ honest agrees r p head m advert.
     let seen = content c.open_ids.new.files in
     let last = content c.move_refs.new.files in
     let told = told_in c.in_ok-refs.refs.items in
-    let first = content c.by_good_refs.new.files in
+    let first = content c.learn_known.new.files in
     let same : first ≡ old = c.in_ok-known.ensures.same in
     let held = still_held old first r same p in
     let known = c.in_ok-known.known in
     let more : Known = record { objects = c.open_ids.new.known; histories = known.histories } in
-    let Right : Type 0 = IsRight seen more c.args.generations.now in
+    let Right : Type 0 = IsRight seen more c.learn_known.new.generations in
     let by_refs : IsSound git r → AreWhole (objects first) known = whole_refs old first known r same (c.in_ok-known.ensures.whole honest) p in
-    let there : AgreesIn seen c.args.generations.now = agreement_same old seen (c.in_ok-open.ensures.same ∙ same) c.args.generations.now agrees in
+    let there : AgreesIn seen c.learn_known.new.generations = agreement_same old seen (c.in_ok-open.ensures.same ∙ same) c.learn_known.new.generations (c.in_ok-known.ensures.agrees honest agrees) in
     let sound : IsSound git r → Right = λ is. record { whole = whole_more first seen known more c.in_ok-open.ensures.same refl (c.in_ok-open.ensures.known honest) (by_refs is); agrees = there } in
     let none : IsSound git r → AreOpenTold r told [] = λ is. open_at r (told_in c.deref.result.now) told c.in_ok-open.open.items [] (ap told_in c.deref.ensures.value) (empty_items c.in_ok-open.open c.is_empty.result c.is_empty.ensures c.if-is_empty.true) (c.in_ok-open.ensures.wanted honest (by_refs is).closed r held) in
     let all : AreMoved Right All (told_in c.deref-then-is_empty.result.now) r last c.in_ok-moved.moved = c.in_ok-moved.ensures.moved honest r (still_held first seen r c.in_ok-open.ensures.same held) in
@@ -135,14 +140,14 @@ returns-then-is_empty-clause-looks g c = λ honest agrees r p m advert.
     let old = content c.args.files.now in
     let seen = content c.open_ids.new.files in
     let told = told_in c.in_ok-refs.refs.items in
-    let first = content c.by_good_refs.new.files in
+    let first = content c.learn_known.new.files in
     let same : first ≡ old = c.in_ok-known.ensures.same in
     let held = still_held old first r same p in
     let known = c.in_ok-known.known in
     let more : Known = record { objects = c.open_ids.new.known; histories = known.histories } in
-    let Right : Type 0 = IsRight seen more c.args.generations.now in
+    let Right : Type 0 = IsRight seen more c.learn_known.new.generations in
     let by_refs : IsSound git r → AreWhole (objects first) known = whole_refs old first known r same (c.in_ok-known.ensures.whole honest) p in
-    let there : AgreesIn seen c.args.generations.now = agreement_same old seen (c.in_ok-open.ensures.same ∙ same) c.args.generations.now agrees in
+    let there : AgreesIn seen c.learn_known.new.generations = agreement_same old seen (c.in_ok-open.ensures.same ∙ same) c.learn_known.new.generations (c.in_ok-known.ensures.agrees honest agrees) in
     let sound : IsSound git r → Right = λ is. record { whole = whole_more first seen known more c.in_ok-open.ensures.same refl (c.in_ok-open.ensures.known honest) (by_refs is); agrees = there } in
     let none : IsSound git r → AreOpenTold r told [] = λ is. open_at r (told_in c.deref.result.now) told c.in_ok-open.open.items [] (ap told_in c.deref.ensures.value) (empty_items c.in_ok-open.open c.is_empty.result c.is_empty.ensures c.if-is_empty.true) (c.in_ok-open.ensures.wanted honest (by_refs is).closed r held) in
     elim (c.in_ok-moved.ensures.looks honest r (still_held first seen r c.in_ok-open.ensures.same held)) [
@@ -171,7 +176,7 @@ returns-clause-taken g c = λ honest agrees r p head m advert.
     let old = content c.args.files.now in
     let seen = content c.open_ids.new.files in
     let told = told_in c.in_ok-refs.refs.items in
-    let first = content c.by_good_refs.new.files in
+    let first = content c.learn_known.new.files in
     let at : first ≡ old = c.in_ok-known.ensures.same in
     let held = still_held old first r at p in
     let by_refs : IsSound git r → AreWhole (objects first) c.in_ok-known.known = whole_refs old first c.in_ok-known.known r at (c.in_ok-known.ensures.whole honest) p in
@@ -230,3 +235,74 @@ returns-clause-bad g c = λ honest. bad_same (g.F.Files.content c.args.files.now
 
 pub returns-clause-looks : goal.returns-clause-looks
 returns-clause-looks g c = λ honest agrees r p m advert. inr (wears_both c.in_ok-known.ensures.wear (wears_both c.in_ok-open.ensures.wear c.in_ok-bytes.ensures.wear (search rules)) (λ told. told))
+
+-- ---- what is learnt
+pub returns-in_err-refs-clause-learns : goal.returns-in_err-refs-clause-learns
+returns-in_err-refs-clause-learns g c = λ honest agrees.
+    let is : c.from_residual.result ≡ Err (exchange.Fault Memory) = search rules in
+    faulted _ _ _ _ c.from_residual.result Memory is agrees
+
+pub returns-in_err-known-clause-learns : goal.returns-in_err-known-clause-learns
+returns-in_err-known-clause-learns g c = λ honest agrees.
+    let is : c.from_residual-in_err-known.result ≡ Err (exchange.Fault c.in_err-known.field-0.0) = search rules in
+    faulted _ _ _ _ c.from_residual-in_err-known.result c.in_err-known.field-0.0 is (c.in_err-known.ensures.agrees honest agrees)
+
+pub returns-in_err-open-clause-learns : goal.returns-in_err-open-clause-learns
+returns-in_err-open-clause-learns g c = λ honest agrees.
+    let content = g.F.Files.content in
+    let old = content c.args.files.now in
+    let before = learnt_in c.args.generations.now c.args.due.now in
+    let between = learnt_in c.learn_known.new.generations c.learn_known.new.due in
+    let learnt = c.in_ok-known.ensures.learnt honest agrees in
+    let right = c.in_ok-known.ensures.agrees honest agrees in
+    learnt_alone old (content c.open_ids.new.files) before between c.from_residual-in_err-open.result learnt right (ap refs (c.in_err-open.ensures.same ∙ c.in_ok-known.ensures.same))
+
+pub returns-in_err-moved-clause-learns : goal.returns-in_err-moved-clause-learns
+returns-in_err-moved-clause-learns g c = λ honest agrees.
+    let content = g.F.Files.content in
+    let old = content c.args.files.now in
+    let before = learnt_in c.args.generations.now c.args.due.now in
+    let between = learnt_in c.learn_known.new.generations c.learn_known.new.due in
+    let learnt = c.in_ok-known.ensures.learnt honest agrees in
+    let right = c.in_ok-known.ensures.agrees honest agrees in
+    learnt_moved old (content c.move_refs.new.files) before between c.from_residual-in_err-moved.result learnt right (content c.open_ids.new.files) (content c.move_refs.new.files) c.move_refs.new.due.items (ap refs (c.in_ok-open.ensures.same ∙ c.in_ok-known.ensures.same)) refl (c.in_err-moved.ensures.noted honest).noted
+
+pub returns-then-is_empty-clause-learns : goal.returns-then-is_empty-clause-learns
+returns-then-is_empty-clause-learns g c = λ honest agrees.
+    let content = g.F.Files.content in
+    let old = content c.args.files.now in
+    let before = learnt_in c.args.generations.now c.args.due.now in
+    let between = learnt_in c.learn_known.new.generations c.learn_known.new.due in
+    let learnt = c.in_ok-known.ensures.learnt honest agrees in
+    let right = c.in_ok-known.ensures.agrees honest agrees in
+    learnt_moved old (content c.move_refs.new.files) before between _ learnt right (content c.open_ids.new.files) (content c.move_refs.new.files) c.move_refs.new.due.items (ap refs (c.in_ok-open.ensures.same ∙ c.in_ok-known.ensures.same)) refl (c.in_ok-moved.ensures.noted honest).noted
+
+pub returns-in_err-wants-clause-learns : goal.returns-in_err-wants-clause-learns
+returns-in_err-wants-clause-learns g c = λ honest agrees.
+    let content = g.F.Files.content in
+    let old = content c.args.files.now in
+    let before = learnt_in c.args.generations.now c.args.due.now in
+    let between = learnt_in c.learn_known.new.generations c.learn_known.new.due in
+    let learnt = c.in_ok-known.ensures.learnt honest agrees in
+    let right = c.in_ok-known.ensures.agrees honest agrees in
+    learnt_alone old (content c.open_ids.new.files) before between c.from_residual-in_err-wants.result learnt right (ap refs (c.in_ok-open.ensures.same ∙ c.in_ok-known.ensures.same))
+
+pub returns-in_err-bytes-clause-learns : goal.returns-in_err-bytes-clause-learns
+returns-in_err-bytes-clause-learns g c = λ honest agrees.
+    let content = g.F.Files.content in
+    let old = content c.args.files.now in
+    let before = learnt_in c.args.generations.now c.args.due.now in
+    let between = learnt_in c.learn_known.new.generations c.learn_known.new.due in
+    let learnt = c.in_ok-known.ensures.learnt honest agrees in
+    let right = c.in_ok-known.ensures.agrees honest agrees in
+    learnt_alone old (content c.want_message.new.files) before between c.from_residual-in_err-bytes.result learnt right (ap refs (c.in_err-bytes.ensures.same ∙ c.in_ok-open.ensures.same ∙ c.in_ok-known.ensures.same))
+
+pub returns-clause-learns : goal.returns-clause-learns
+returns-clause-learns g c = λ honest agrees.
+    let content = g.F.Files.content in
+    let old = content c.args.files.now in
+    let before = learnt_in c.args.generations.now c.args.due.now in
+    let between = learnt_in c.learn_known.new.generations c.learn_known.new.due in
+    let learnt = c.in_ok-known.ensures.learnt honest agrees in
+    let right = c.in_ok-known.ensures.agrees honest agrees in
+    learnt_alone old (content c.want_message.new.files) before between _ learnt right (ap refs (c.in_ok-bytes.ensures.same ∙ c.in_ok-open.ensures.same ∙ c.in_ok-known.ensures.same))

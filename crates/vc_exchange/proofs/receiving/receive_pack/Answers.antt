@@ -1,4 +1,4 @@
-use Rattle.std.proofs.Common.{rules, ◌≡◌, Result, Err, sym, ap, ◌∙◌, subst}
+use Rattle.std.proofs.Common.{rules, ◌≡◌, Result, Err, refl, sym, ap, ◌∙◌, subst}
 use Rattle.vc_pack.proofs.KeepsLemmas.{keeps_same, keeps_then}
 use Rattle.vc_pack.specs.AnswerFault.{IsRefusedPack}
 use Rattle.vc_pack.specs.declared.fault.AnswerFault.{AnswerFault}
@@ -14,13 +14,16 @@ use Rattle.vc_model.specs.Repository.{IsSound, with_objects}
 use Rattle.vc_object.specs.ObjectMap.{ObjectMap, links_in}
 use Rattle.vc_object.specs.declared.id.ObjectId.{ObjectId}
 use Rattle.vc_pkt.specs.ObjectStreamView.{carried}
+use Rattle.vc_refs.specs.Refs.{refs}
 use Rattle.vc_rules.proofs.JoinLemmas.{joined}
 use Rattle.vc_rules.specs.Git.{git}
 use Rattle.vc_rules.specs.OpenPushes.{HoldsContent}
 use Rattle.vc_session.proofs.CleanLemmas.{bad_same, bad_then}
+use Rattle.vc_session.proofs.FrameLemmas.{refs-of_objects}
 use Rattle.vc_session.specs.Carrying.{objects_in}
 use Rattle.vc_session.specs.Clean.{MakesNoneBad}
 use Rattle.vc_session.specs.Known.{AreWhole}
+use Rattle.vc_session.specs.Learning.{learnt_in}
 use Rattle.vc_session.specs.declared.known.Known.{Known}
 use Rattle.vc_store.specs.Store.{objects}
 use Rattle.vc_exchange.specs.Faults.{BlamesFiles, from_answer, from_store}
@@ -29,6 +32,7 @@ use Rattle.vc_exchange.specs.Receiving.{BlamesPack}
 use Rattle.vc_exchange.specs.Storing.{AreSomeStored}
 use Rattle.vc_exchange.specs.declared.fault.ExchangeFault.TheVariants as exchange
 use Rattle.vc_files.specs.declared.faults.Fault.TheVariants.{Device}
+use Rattle.vc_exchange.proofs.LearningLemmas.{faulted, learnt_alone, learnt_moved}
 use Rattle.vc_exchange.proofs.MovingLoops.{blames_before, blames_of_pack, never_incomplete, told_err, whole_refs}
 use Rattle.vc_exchange.proofs.PackDeeds.{judge_blames, pack_moving, pack_storing, pack_stored, pack_taken, store_other}
 use Rattle.vc_exchange.proofs.PackLemmas.{brought_closed, brought_same, histories_met, stored_content, stored_met, stored_outside, stored_since, some_since, whole_after}
@@ -46,7 +50,7 @@ pub returns-in_err-objects-clause-refused : goal.returns-in_err-objects-clause-r
 returns-in_err-objects-clause-refused g c = λ honest agrees m p.
     let content = g.F.Files.content in
     let old = content c.args.files.now in
-    let read = content c.by_good_refs.new.files in
+    let read = content c.learn_known.new.files in
     let brought = carried c.args.pack.now.objects in
     let wants = c.args.wants.now in
     let e = c.in_err-objects.field-0.0 in
@@ -77,7 +81,7 @@ pub returns-in_err-store_all-clause-cut : goal.returns-in_err-store_all-clause-c
 returns-in_err-store_all-clause-cut g c = λ honest agrees r p m pack refs same.
     let content = g.F.Files.content in
     let old = content c.args.files.now in
-    let read = content c.by_good_refs.new.files in
+    let read = content c.learn_known.new.files in
     let first = content c.judge_pack.new.files in
     let mid = content c.store_all.new.files in
     let brought = carried c.args.pack.now.objects in
@@ -105,7 +109,7 @@ pub returns-in_err-open-clause-cut : goal.returns-in_err-open-clause-cut
 returns-in_err-open-clause-cut g c = λ honest agrees r p m pack refs same.
     let content = g.F.Files.content in
     let old = content c.args.files.now in
-    let read = content c.by_good_refs.new.files in
+    let read = content c.learn_known.new.files in
     let first = content c.judge_pack.new.files in
     let mid = content c.store_all.new.files in
     let brought = carried c.args.pack.now.objects in
@@ -130,7 +134,7 @@ pub returns-in_err-moved-clause-cut : goal.returns-in_err-moved-clause-cut
 returns-in_err-moved-clause-cut g c = λ honest agrees r p m pack refs same.
     let content = g.F.Files.content in
     let old = content c.args.files.now in
-    let read = content c.by_good_refs.new.files in
+    let read = content c.learn_known.new.files in
     let first = content c.judge_pack.new.files in
     let mid = content c.store_all.new.files in
     let seen = content c.open_ids.new.files in
@@ -149,8 +153,8 @@ returns-in_err-moved-clause-cut g c = λ honest agrees r p m pack refs same.
     let now : HoldsContent seen all = subst (λ (f : FileMap). HoldsContent f all) (sym c.in_ok-open.ensures.same) held in
     let met : IsSound git r → IsClosedUnder (links_in (objects mid)) keys = λ is. stored_met old mid brought st keys (brought_closed old read brought keys seen_at (c.in_ok-objects.ensures.met honest (by_refs is).closed)) in
     let more : Known = record { objects = c.open_ids.new.known; histories = known.histories } in
-    let Right : Type 0 = IsRight seen more c.args.generations.now in
-    let there : AgreesIn seen c.args.generations.now = agrees_stored old first mid seen brought c.args.generations.now at (c.in_ok-store_all.ensures.stored honest) c.in_ok-open.ensures.same agrees in
+    let Right : Type 0 = IsRight seen more c.learn_known.new.generations in
+    let there : AgreesIn seen c.learn_known.new.generations = agrees_stored old first mid seen brought c.learn_known.new.generations at (c.in_ok-store_all.ensures.stored honest) c.in_ok-open.ensures.same (c.in_ok-known.ensures.agrees honest agrees) in
     let right : IsSound git r → Right = λ is. record {
       whole = whole_after mid seen c.in_ok-open.ensures.same more (c.in_ok-open.ensures.known honest (met is)) (histories_met old read mid brought seen_at st known (by_refs is));
       agrees = there;
@@ -174,7 +178,7 @@ returns-in_err-moved-clause-refused g c = λ honest agrees m p.
     let seen = content c.open_ids.new.files in
     let at : first ≡ old = c.in_ok-objects.ensures.same ∙ c.in_ok-known.ensures.same in
     let e = c.in_err-moved.field-0.0 in
-    let there : AgreesIn seen c.args.generations.now = agrees_stored old first mid seen (carried c.args.pack.now.objects) c.args.generations.now at (c.in_ok-store_all.ensures.stored honest) c.in_ok-open.ensures.same agrees in
+    let there : AgreesIn seen c.learn_known.new.generations = agrees_stored old first mid seen (carried c.args.pack.now.objects) c.learn_known.new.generations at (c.in_ok-store_all.ensures.stored honest) c.in_ok-open.ensures.same (c.in_ok-known.ensures.agrees honest agrees) in
     let none : MakesNoneBad old mid = rw (c.in_ok-objects.ensures.same, c.in_ok-known.ensures.same) at (c.in_ok-store_all.ensures.bad honest) in
     let why : BlamesFiles seen e = search (rules, c.in_err-moved.ensures.refused honest there) in
     let before : BlamesFiles old e = blames_before old seen (bad_then none (bad_same mid seen c.in_ok-open.ensures.same)) e why in
@@ -189,7 +193,7 @@ returns-in_err-moved-clause-unchanged g c = λ honest agrees.
     let seen = content c.open_ids.new.files in
     let at : first ≡ old = c.in_ok-objects.ensures.same ∙ c.in_ok-known.ensures.same in
     let e = c.in_err-moved.field-0.0 in
-    let there : AgreesIn seen c.args.generations.now = agrees_stored old first mid seen (carried c.args.pack.now.objects) c.args.generations.now at (c.in_ok-store_all.ensures.stored honest) c.in_ok-open.ensures.same agrees in
+    let there : AgreesIn seen c.learn_known.new.generations = agrees_stored old first mid seen (carried c.args.pack.now.objects) c.learn_known.new.generations at (c.in_ok-store_all.ensures.stored honest) c.in_ok-open.ensures.same (c.in_ok-known.ensures.agrees honest agrees) in
     let why : BlamesFiles seen e = search (rules, c.in_err-moved.ensures.refused honest there) in
     told_err c.from_residual-in_err-moved.result e (λ x. (id : ObjectId) → x ≡ exchange.Incomplete id → content c.move_refs.new.files ≡ old) (search rules) (λ id is. absurd (never_incomplete seen e id why is))
 
@@ -204,7 +208,7 @@ pub returns-clause-taken : goal.returns-clause-taken
 returns-clause-taken g c = λ honest agrees r p m pack refs same.
     let content = g.F.Files.content in
     let old = content c.args.files.now in
-    let read = content c.by_good_refs.new.files in
+    let read = content c.learn_known.new.files in
     let first = content c.judge_pack.new.files in
     let mid = content c.store_all.new.files in
     let seen = content c.open_ids.new.files in
@@ -223,8 +227,8 @@ returns-clause-taken g c = λ honest agrees r p m pack refs same.
     let now : HoldsContent seen all = subst (λ (f : FileMap). HoldsContent f all) (sym c.in_ok-open.ensures.same) held in
     let met : IsSound git r → IsClosedUnder (links_in (objects mid)) keys = λ is. stored_met old mid brought st keys (brought_closed old read brought keys seen_at (c.in_ok-objects.ensures.met honest (by_refs is).closed)) in
     let more : Known = record { objects = c.open_ids.new.known; histories = known.histories } in
-    let Right : Type 0 = IsRight seen more c.args.generations.now in
-    let there : AgreesIn seen c.args.generations.now = agrees_stored old first mid seen brought c.args.generations.now at (c.in_ok-store_all.ensures.stored honest) c.in_ok-open.ensures.same agrees in
+    let Right : Type 0 = IsRight seen more c.learn_known.new.generations in
+    let there : AgreesIn seen c.learn_known.new.generations = agrees_stored old first mid seen brought c.learn_known.new.generations at (c.in_ok-store_all.ensures.stored honest) c.in_ok-open.ensures.same (c.in_ok-known.ensures.agrees honest agrees) in
     let right : IsSound git r → Right = λ is. record {
       whole = whole_after mid seen c.in_ok-open.ensures.same more (c.in_ok-open.ensures.known honest (met is)) (histories_met old read mid brought seen_at st known (by_refs is));
       agrees = there;
@@ -293,3 +297,59 @@ returns-clause-good g c = λ honest.
       objects = keeps_then _ _ _ (keeps_same _ _ (c.in_ok-objects.ensures.same ∙ c.in_ok-known.ensures.same)) (keeps_then _ _ _ stored (keeps_then _ _ _ (keeps_same _ _ c.in_ok-open.ensures.same) (keeps_beside_refs _ _ (c.in_ok-moved.ensures.outside honest))));
       bad = bad_then none moved;
     }
+
+-- ---- what is learnt
+pub returns-in_err-known-clause-learns : goal.returns-in_err-known-clause-learns
+returns-in_err-known-clause-learns g c = λ honest agrees.
+    let is : c.from_residual.result ≡ Err (exchange.Fault c.in_err-known.field-0.0) = search rules in
+    faulted _ _ _ _ c.from_residual.result c.in_err-known.field-0.0 is (c.in_err-known.ensures.agrees honest agrees)
+
+pub returns-in_err-objects-clause-learns : goal.returns-in_err-objects-clause-learns
+returns-in_err-objects-clause-learns g c = λ honest agrees.
+    let content = g.F.Files.content in
+    let old = content c.args.files.now in
+    let before = learnt_in c.args.generations.now c.args.due.now in
+    let between = learnt_in c.learn_known.new.generations c.learn_known.new.due in
+    let learnt = c.in_ok-known.ensures.learnt honest agrees in
+    let right = c.in_ok-known.ensures.agrees honest agrees in
+    learnt_alone old (content c.judge_pack.new.files) before between c.from_residual-in_err-objects.result learnt right (ap refs (c.in_err-objects.ensures.same ∙ c.in_ok-known.ensures.same))
+
+pub returns-in_err-store_all-clause-learns : goal.returns-in_err-store_all-clause-learns
+returns-in_err-store_all-clause-learns g c = λ honest agrees.
+    let content = g.F.Files.content in
+    let old = content c.args.files.now in
+    let before = learnt_in c.args.generations.now c.args.due.now in
+    let between = learnt_in c.learn_known.new.generations c.learn_known.new.due in
+    let learnt = c.in_ok-known.ensures.learnt honest agrees in
+    let right = c.in_ok-known.ensures.agrees honest agrees in
+    learnt_alone old (content c.store_all.new.files) before between c.from_residual-in_err-store_all.result learnt right (refs-of_objects (content c.judge_pack.new.files) (content c.store_all.new.files) (c.in_err-store_all.ensures.outside honest) ∙ ap refs (c.in_ok-objects.ensures.same ∙ c.in_ok-known.ensures.same))
+
+pub returns-in_err-open-clause-learns : goal.returns-in_err-open-clause-learns
+returns-in_err-open-clause-learns g c = λ honest agrees.
+    let content = g.F.Files.content in
+    let old = content c.args.files.now in
+    let before = learnt_in c.args.generations.now c.args.due.now in
+    let between = learnt_in c.learn_known.new.generations c.learn_known.new.due in
+    let learnt = c.in_ok-known.ensures.learnt honest agrees in
+    let right = c.in_ok-known.ensures.agrees honest agrees in
+    learnt_alone old (content c.open_ids.new.files) before between c.from_residual-in_err-open.result learnt right (ap refs c.in_err-open.ensures.same ∙ refs-of_objects (content c.judge_pack.new.files) (content c.store_all.new.files) (c.in_ok-store_all.ensures.outside honest) ∙ ap refs (c.in_ok-objects.ensures.same ∙ c.in_ok-known.ensures.same))
+
+pub returns-in_err-moved-clause-learns : goal.returns-in_err-moved-clause-learns
+returns-in_err-moved-clause-learns g c = λ honest agrees.
+    let content = g.F.Files.content in
+    let old = content c.args.files.now in
+    let before = learnt_in c.args.generations.now c.args.due.now in
+    let between = learnt_in c.learn_known.new.generations c.learn_known.new.due in
+    let learnt = c.in_ok-known.ensures.learnt honest agrees in
+    let right = c.in_ok-known.ensures.agrees honest agrees in
+    learnt_moved old (content c.move_refs.new.files) before between c.from_residual-in_err-moved.result learnt right (content c.open_ids.new.files) (content c.move_refs.new.files) c.move_refs.new.due.items (ap refs c.in_ok-open.ensures.same ∙ refs-of_objects (content c.judge_pack.new.files) (content c.store_all.new.files) (c.in_ok-store_all.ensures.outside honest) ∙ ap refs (c.in_ok-objects.ensures.same ∙ c.in_ok-known.ensures.same)) refl (c.in_err-moved.ensures.noted honest).noted
+
+pub returns-clause-learns : goal.returns-clause-learns
+returns-clause-learns g c = λ honest agrees.
+    let content = g.F.Files.content in
+    let old = content c.args.files.now in
+    let before = learnt_in c.args.generations.now c.args.due.now in
+    let between = learnt_in c.learn_known.new.generations c.learn_known.new.due in
+    let learnt = c.in_ok-known.ensures.learnt honest agrees in
+    let right = c.in_ok-known.ensures.agrees honest agrees in
+    learnt_moved old (content c.move_refs.new.files) before between _ learnt right (content c.open_ids.new.files) (content c.move_refs.new.files) c.move_refs.new.due.items (ap refs c.in_ok-open.ensures.same ∙ refs-of_objects (content c.judge_pack.new.files) (content c.store_all.new.files) (c.in_ok-store_all.ensures.outside honest) ∙ ap refs (c.in_ok-objects.ensures.same ∙ c.in_ok-known.ensures.same)) refl (c.in_ok-moved.ensures.noted honest).noted

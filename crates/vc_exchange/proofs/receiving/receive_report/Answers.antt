@@ -1,8 +1,10 @@
-use Rattle.std.proofs.Common.{rules, ◌≡◌, inl, inr, List, map, sym, ap, ◌∙◌, subst}
+use Rattle.std.proofs.Common.{rules, ◌≡◌, inl, inr, Err, List, map, refl, sym, ap, ◌∙◌, subst}
 use Rattle.vc_files.specs.FileMap.{FileMap}
 use Rattle.vc_files.proofs.WearLemmas.{wears_then, wears_writes, writes_told}
+use Rattle.vc_files.specs.declared.faults.Fault.TheVariants.{Memory}
 use Rattle.vc_history.specs.Stored.{AgreesIn}
 use Rattle.vc_model.specs.Repository.{IsSound}
+use Rattle.vc_refs.specs.Refs.{refs}
 use Rattle.vc_rules.specs.Git.{git}
 use Rattle.vc_rules.specs.OpenPushes.{HoldsContent}
 use Rattle.vc_exchange.specs.Faults.{BlamesFiles}
@@ -14,6 +16,9 @@ use Rattle.vc_push.specs.ReportView.{report_text, told_of}
 use Rattle.vc_push.specs.declared.report.Told.{Told}
 use Rattle.vc_session.proofs.NumberLemmas.{agreement_same}
 use Rattle.vc_session.proofs.UpdateLemmas.{wears_both}
+use Rattle.vc_session.specs.Learning.{learnt_in}
+use Rattle.vc_exchange.specs.declared.fault.ExchangeFault.TheVariants as exchange
+use Rattle.vc_exchange.proofs.LearningLemmas.{faulted, learnt_moved}
 use Rattle.vc_exchange.proofs.MovingLoops.{told_err, whole_refs}
 use Rattle.vc_exchange.proofs.ReceivingLemmas.{report_changes, report_cut, report_received}
 use Rattle.vc_exchange.proofs.receiving.receive_report.Goals as goal
@@ -26,11 +31,11 @@ pub returns-in_err-moved-clause-cut : goal.returns-in_err-moved-clause-cut
 returns-in_err-moved-clause-cut g c = λ honest agrees r p m report awaits.
     let content = g.F.Files.content in
     let t = report_text c.args.report.now in
-    let seen = content c.by_good_refs.new.files in
+    let seen = content c.learn_known.new.files in
     let same : seen ≡ content c.args.files.now = c.in_ok-known.ensures.same in
     let held = subst (λ (f : FileMap). HoldsContent f r) (sym same) p in
-    let Right : Type 0 = IsRight seen c.in_ok-known.known c.args.generations.now in
-    let there : AgreesIn seen c.args.generations.now = agreement_same (content c.args.files.now) seen same c.args.generations.now agrees in
+    let Right : Type 0 = IsRight seen c.in_ok-known.known c.learn_known.new.generations in
+    let there : AgreesIn seen c.learn_known.new.generations = agreement_same (content c.args.files.now) seen same c.learn_known.new.generations (c.in_ok-known.ensures.agrees honest agrees) in
     let sound : IsSound git r → Right = λ is. record { whole = whole_refs (content c.args.files.now) seen c.in_ok-known.known r same (c.in_ok-known.ensures.whole honest) p is; agrees = there } in
     let is : told_in c.deref-3.result.now ≡ accepted t.told = ap told_in c.deref-3.ensures.value ∙ c.in_ok-refs.ensures ∙ ap (λ (l : List Told). accepted (map told_of l)) c.deref-2.ensures.value in
     let are : c.in_ok-refused.refused.items ≡ refused_reasons (map machine_told t.told) = c.in_ok-refused.ensures ∙ ap (λ (l : List Told). refused_reasons (map machine_told (map told_of l))) c.deref.ensures.value in
@@ -39,21 +44,21 @@ returns-in_err-moved-clause-cut g c = λ honest agrees r p m report awaits.
 pub returns-in_err-moved-clause-refused : goal.returns-in_err-moved-clause-refused
 returns-in_err-moved-clause-refused g c = λ honest agrees.
     let old = g.F.Files.content c.args.files.now in
-    let seen = g.F.Files.content c.by_good_refs.new.files in
+    let seen = g.F.Files.content c.learn_known.new.files in
     let same : seen ≡ old = c.in_ok-known.ensures.same in
     let e = c.in_err-moved.field-0.0 in
-    let why : BlamesFiles seen e = search (rules, c.in_err-moved.ensures.refused honest (agreement_same old seen same c.args.generations.now agrees)) in
+    let why : BlamesFiles seen e = search (rules, c.in_err-moved.ensures.refused honest (agreement_same old seen same c.learn_known.new.generations (c.in_ok-known.ensures.agrees honest agrees))) in
     told_err c.from_residual-in_err-moved.result e (BlamesFiles old) (search rules) (subst (λ (f : FileMap). BlamesFiles f e) same why)
 
 pub returns-in_err-moved-clause-looks : goal.returns-in_err-moved-clause-looks
 returns-in_err-moved-clause-looks g c = λ honest agrees r p m report awaits.
     let content = g.F.Files.content in
     let t = report_text c.args.report.now in
-    let seen = content c.by_good_refs.new.files in
+    let seen = content c.learn_known.new.files in
     let same : seen ≡ content c.args.files.now = c.in_ok-known.ensures.same in
     let held = subst (λ (f : FileMap). HoldsContent f r) (sym same) p in
-    let Right : Type 0 = IsRight seen c.in_ok-known.known c.args.generations.now in
-    let there : AgreesIn seen c.args.generations.now = agreement_same (content c.args.files.now) seen same c.args.generations.now agrees in
+    let Right : Type 0 = IsRight seen c.in_ok-known.known c.learn_known.new.generations in
+    let there : AgreesIn seen c.learn_known.new.generations = agreement_same (content c.args.files.now) seen same c.learn_known.new.generations (c.in_ok-known.ensures.agrees honest agrees) in
     let sound : IsSound git r → Right = λ is. record { whole = whole_refs (content c.args.files.now) seen c.in_ok-known.known r same (c.in_ok-known.ensures.whole honest) p is; agrees = there } in
     let is : told_in c.deref-3.result.now ≡ accepted t.told = ap told_in c.deref-3.ensures.value ∙ c.in_ok-refs.ensures ∙ ap (λ (l : List Told). accepted (map told_of l)) c.deref-2.ensures.value in
     let are : c.in_ok-refused.refused.items ≡ refused_reasons (map machine_told t.told) = c.in_ok-refused.ensures ∙ ap (λ (l : List Told). refused_reasons (map machine_told (map told_of l))) c.deref.ensures.value in
@@ -63,11 +68,11 @@ pub returns-clause-taken : goal.returns-clause-taken
 returns-clause-taken g c = λ honest agrees r p m report awaits.
     let content = g.F.Files.content in
     let t = report_text c.args.report.now in
-    let seen = content c.by_good_refs.new.files in
+    let seen = content c.learn_known.new.files in
     let same : seen ≡ content c.args.files.now = c.in_ok-known.ensures.same in
     let held = subst (λ (f : FileMap). HoldsContent f r) (sym same) p in
-    let Right : Type 0 = IsRight seen c.in_ok-known.known c.args.generations.now in
-    let there : AgreesIn seen c.args.generations.now = agreement_same (content c.args.files.now) seen same c.args.generations.now agrees in
+    let Right : Type 0 = IsRight seen c.in_ok-known.known c.learn_known.new.generations in
+    let there : AgreesIn seen c.learn_known.new.generations = agreement_same (content c.args.files.now) seen same c.learn_known.new.generations (c.in_ok-known.ensures.agrees honest agrees) in
     let sound : IsSound git r → Right = λ is. record { whole = whole_refs (content c.args.files.now) seen c.in_ok-known.known r same (c.in_ok-known.ensures.whole honest) p is; agrees = there } in
     let is : told_in c.deref-3.result.now ≡ accepted t.told = ap told_in c.deref-3.ensures.value ∙ c.in_ok-refs.ensures ∙ ap (λ (l : List Told). accepted (map told_of l)) c.deref-2.ensures.value in
     let are : c.in_ok-refused.refused.items ≡ refused_reasons (map machine_told t.told) = c.in_ok-refused.ensures ∙ ap (λ (l : List Told). refused_reasons (map machine_told (map told_of l))) c.deref.ensures.value in
@@ -77,11 +82,11 @@ pub returns-clause-looks : goal.returns-clause-looks
 returns-clause-looks g c = λ honest agrees r p m report awaits.
     let content = g.F.Files.content in
     let t = report_text c.args.report.now in
-    let seen = content c.by_good_refs.new.files in
+    let seen = content c.learn_known.new.files in
     let same : seen ≡ content c.args.files.now = c.in_ok-known.ensures.same in
     let held = subst (λ (f : FileMap). HoldsContent f r) (sym same) p in
-    let Right : Type 0 = IsRight seen c.in_ok-known.known c.args.generations.now in
-    let there : AgreesIn seen c.args.generations.now = agreement_same (content c.args.files.now) seen same c.args.generations.now agrees in
+    let Right : Type 0 = IsRight seen c.in_ok-known.known c.learn_known.new.generations in
+    let there : AgreesIn seen c.learn_known.new.generations = agreement_same (content c.args.files.now) seen same c.learn_known.new.generations (c.in_ok-known.ensures.agrees honest agrees) in
     let sound : IsSound git r → Right = λ is. record { whole = whole_refs (content c.args.files.now) seen c.in_ok-known.known r same (c.in_ok-known.ensures.whole honest) p is; agrees = there } in
     let is : told_in c.deref-3.result.now ≡ accepted t.told = ap told_in c.deref-3.ensures.value ∙ c.in_ok-refs.ensures ∙ ap (λ (l : List Told). accepted (map told_of l)) c.deref-2.ensures.value in
     let are : c.in_ok-refused.refused.items ≡ refused_reasons (map machine_told t.told) = c.in_ok-refused.ensures ∙ ap (λ (l : List Told). refused_reasons (map machine_told (map told_of l))) c.deref.ensures.value in
@@ -92,3 +97,39 @@ returns-in_err-moved-clause-wear g c = wears_then c.in_ok-known.ensures.wear (λ
 
 pub returns-clause-wear : goal.returns-clause-wear
 returns-clause-wear g c = wears_then c.in_ok-known.ensures.wear (λ _. c.in_ok-known.ensures.same) (search rules) (writes_told c.in_ok-moved.ensures.wear (search rules) (search rules))
+
+-- ---- what is learnt
+pub returns-in_err-refused-clause-learns : goal.returns-in_err-refused-clause-learns
+returns-in_err-refused-clause-learns g c = λ honest agrees.
+    let is : c.from_residual.result ≡ Err (exchange.Fault Memory) = search rules in
+    faulted _ _ _ _ c.from_residual.result Memory is agrees
+
+pub returns-in_err-refs-clause-learns : goal.returns-in_err-refs-clause-learns
+returns-in_err-refs-clause-learns g c = λ honest agrees.
+    let is : c.from_residual-in_err-refs.result ≡ Err (exchange.Fault Memory) = search rules in
+    faulted _ _ _ _ c.from_residual-in_err-refs.result Memory is agrees
+
+pub returns-in_err-known-clause-learns : goal.returns-in_err-known-clause-learns
+returns-in_err-known-clause-learns g c = λ honest agrees.
+    let is : c.from_residual-in_err-known.result ≡ Err (exchange.Fault c.in_err-known.field-0.0) = search rules in
+    faulted _ _ _ _ c.from_residual-in_err-known.result c.in_err-known.field-0.0 is (c.in_err-known.ensures.agrees honest agrees)
+
+pub returns-in_err-moved-clause-learns : goal.returns-in_err-moved-clause-learns
+returns-in_err-moved-clause-learns g c = λ honest agrees.
+    let content = g.F.Files.content in
+    let old = content c.args.files.now in
+    let before = learnt_in c.args.generations.now c.args.due.now in
+    let between = learnt_in c.learn_known.new.generations c.learn_known.new.due in
+    let learnt = c.in_ok-known.ensures.learnt honest agrees in
+    let right = c.in_ok-known.ensures.agrees honest agrees in
+    learnt_moved old (content c.move_refs.new.files) before between c.from_residual-in_err-moved.result learnt right (content c.learn_known.new.files) (content c.move_refs.new.files) c.move_refs.new.due.items (ap refs c.in_ok-known.ensures.same) refl (c.in_err-moved.ensures.noted honest).noted
+
+pub returns-clause-learns : goal.returns-clause-learns
+returns-clause-learns g c = λ honest agrees.
+    let content = g.F.Files.content in
+    let old = content c.args.files.now in
+    let before = learnt_in c.args.generations.now c.args.due.now in
+    let between = learnt_in c.learn_known.new.generations c.learn_known.new.due in
+    let learnt = c.in_ok-known.ensures.learnt honest agrees in
+    let right = c.in_ok-known.ensures.agrees honest agrees in
+    learnt_moved old (content c.move_refs.new.files) before between _ learnt right (content c.learn_known.new.files) (content c.move_refs.new.files) c.move_refs.new.due.items (ap refs c.in_ok-known.ensures.same) refl (c.in_ok-moved.ensures.noted honest).noted

@@ -5,8 +5,10 @@ use Rattle.vc_files.proofs.FileMapLemmas.{outside_same}
 use Rattle.vc_files.proofs.WearLemmas.{writes_none}
 use Rattle.vc_session.proofs.CleanLemmas.{bad_same}
 use Rattle.vc_node.proofs.ArrivingLemmas.{no_device, stopped_by}
-use Rattle.vc_node.proofs.ComingLemmas.{comes_lost, comes_receives, nothing_receives, stopped_receives, told_cleared, told_err, told_none, told_receives, told_lost, told_writes}
+use Rattle.vc_node.proofs.ComingLemmas.{comes_lost, comes_receives, nothing_receives, stopped_receives, told_cleared, told_none, told_receives, told_lost, told_writes}
+use Rattle.vc_session.specs.Learning.{learnt_in}
 use Rattle.vc_node.proofs.KeepingLemmas.{good_same}
+use Rattle.vc_node.proofs.LearningLemmas.{learns_none, told_leaves}
 use Rattle.vc_node.specs.Awaited.{awaited_text}
 use Rattle.vc_node.specs.ReceiveFault.{of_incoming}
 use Rattle.vc_message.proofs.SourceLaws.{loss_then, ok_is_no_error, tells_error, tells_ok}
@@ -77,8 +79,22 @@ returns-clause-lost g c =
           (comes_lost g.F.Files.honest _ _ _ _ _ (λ honest. (c.take_rest-received.ensures.good honest).bad) honest _ c.take_rest-received.result (c.take_rest-received.ensures.comes (g.R.Source.remaining c.args.reader.now) head));
     }
 
-pub returns-clause-unchanged : goal.returns-clause-unchanged
-returns-clause-unchanged g c = told_err _ c.take_rest-received.result c.told.result c.told.ensures c.take_rest-received.ensures.unchanged
+-- ---- what is awaited and learnt
+pub returns-in_err-found-clause-leaves : goal.returns-in_err-found-clause-leaves
+returns-in_err-found-clause-leaves g c =
+    let p = err_from_is_err_and c.from_residual.result c.from_residual.ensures.1 in
+    rw (p.1, p.2) (record { awaits = refl; learnt = λ honest. learns_none _ _ _ _ refl (c.requires.agrees honest) })
+
+pub returns-in_default-clause-leaves : goal.returns-in_default-clause-leaves
+returns-in_default-clause-leaves g c = record { awaits = tt; learnt = λ honest. record { agrees = c.requires.agrees honest; learns = λ up. record { stayed = refl; same = refl } } }
+
+pub returns-in_default-clause-none : goal.returns-in_default-clause-none
+returns-in_default-clause-none g c = (refl, refl, refl)
+
+pub returns-clause-leaves : goal.returns-clause-leaves
+returns-clause-leaves g c =
+    told_leaves g.F.Files.honest (g.F.Files.content c.args.files.now) (g.F.Files.content c.take_rest-received.new.files) (awaited_text c.args.awaited.now) (awaited_text c.take_rest-received.new.awaited) (learnt_in c.args.generations.now c.args.due.now)
+    (learnt_in c.take_rest-received.new.generations c.take_rest-received.new.due) c.take_rest-received.result c.told.result c.told.ensures c.take_rest-received.ensures.leaves
 
 pub returns-clause-cleared : goal.returns-clause-cleared
 returns-clause-cleared g c = λ honest. told_cleared c.take_rest-received.result c.told.result c.told.ensures (c.take_rest-received.ensures.cleared honest)

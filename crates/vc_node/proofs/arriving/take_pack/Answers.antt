@@ -10,6 +10,7 @@ use Rattle.vc_node.proofs.ArrivedLemmas.{left_comes, left_failing, left_then, ta
 use Rattle.vc_node.proofs.ArrivingLemmas.{files_writes, no_device, refusal_no_device, stopped_by}
 use Rattle.vc_node.proofs.ExchangingLemmas.{pack_refused, pack_unexpected, same_pack}
 use Rattle.vc_node.proofs.KeepingLemmas.{good_same, good_then}
+use Rattle.vc_node.proofs.LearningLemmas.{agrees_beside, learns_dropped, learns_none}
 use Rattle.vc_node.specs.Arriving.{stopped, whole}
 use Rattle.vc_node.specs.Awaited.{awaited_text}
 use Rattle.vc_node.specs.declared.clone_fault.CloneFault.TheVariants.{Unexpected}
@@ -153,3 +154,35 @@ returns-in_err-drop_quarantine-in-Err-clause-failures g c =
 
 pub returns-in_ok-drop_quarantine-in-Err-clause-failures : goal.returns-in_ok-drop_quarantine-in-Err-clause-failures
 returns-in_ok-drop_quarantine-in-Err-clause-failures g c = inl (tells_error c.in-Err.ensures.failures (λ is. is) (λ is. is))
+
+-- ---- what is awaited and learnt
+pub returns-in_err-skip_pack-clause-leaves : goal.returns-in_err-skip_pack-clause-leaves
+returns-in_err-skip_pack-clause-leaves g c =
+    let p = err_from_is_err_and c.from_residual.result c.from_residual.ensures.1 in
+    rw (p.1, p.2) (record { awaits = refl; learnt = λ honest. learns_none _ _ _ _ refl (c.requires.agrees honest) })
+
+pub returns-in_default-clause-leaves : goal.returns-in_default-clause-leaves
+returns-in_default-clause-leaves g c = record { awaits = refl; learnt = λ honest. learns_none _ _ _ _ refl (c.requires.agrees honest) }
+
+pub returns-in-Ok-clause-leaves : goal.returns-in-Ok-clause-leaves
+returns-in-Ok-clause-leaves g c = record { awaits = tt; learnt = c.in-Ok.ensures.learns }
+
+pub returns-then-is_fault-clause-leaves : goal.returns-then-is_fault-clause-leaves
+returns-then-is_fault-clause-leaves g c = record { awaits = sym (ap awaited_text c.in-Pack.is); learnt = c.in-Err.ensures.learns }
+
+pub returns-in_err-drop_quarantine-in-Err-clause-leaves : goal.returns-in_err-drop_quarantine-in-Err-clause-leaves
+returns-in_err-drop_quarantine-in-Err-clause-leaves g c =
+    let p = err_from_is_err_and c.from_residual-in_err-drop_quarantine-in-Err.result c.from_residual-in_err-drop_quarantine-in-Err.ensures.1 in
+    rw (p.1, p.2) (record {
+      awaits = sym (ap awaited_text c.in-Pack.is);
+      learnt = λ honest. record {
+        agrees = agrees_beside (g.F.Files.content c.take_awaited.new.files) (g.F.Files.content c.drop_quarantine.new.files) (c.in_err-drop_quarantine-in-Err.ensures.outside honest) c.take_awaited.new.generations (c.in-Err.ensures.learns honest).agrees;
+        learns = λ up. absurd (true≢false (sym up));
+      };
+    })
+
+pub returns-in_ok-drop_quarantine-in-Err-clause-leaves : goal.returns-in_ok-drop_quarantine-in-Err-clause-leaves
+returns-in_ok-drop_quarantine-in-Err-clause-leaves g c = record {
+  awaits = sym (ap awaited_text c.in-Pack.is);
+  learnt = λ honest. learns_dropped _ (g.F.Files.content c.take_awaited.new.files) (g.F.Files.content c.drop_quarantine.new.files) _ _ _ (c.in_ok-drop_quarantine-in-Err.ensures.outside honest) (c.in-Err.ensures.learns honest);
+}

@@ -11,6 +11,7 @@ use Rattle.vc_node.proofs.ArrivedLemmas.{dropped_beside, message_writes, others_
 use Rattle.vc_node.proofs.ArrivingLemmas.{no_device, stopped_by}
 use Rattle.vc_node.proofs.ExchangingLemmas.{other_unexpected}
 use Rattle.vc_node.proofs.KeepingLemmas.{good_same}
+use Rattle.vc_node.proofs.LearningLemmas.{learns_none}
 use Rattle.vc_node.specs.Arriving.{stopped, whole}
 use Rattle.vc_node.specs.Awaited.{awaited_text}
 use Rattle.vc_node.specs.declared.clone_fault.CloneFault.TheVariants.{Unexpected}
@@ -105,3 +106,26 @@ returns-in-Push-clause-failures g c = inl (tells_not c.in_ok-skip_push-in-Push.e
 
 pub returns-clause-failures : goal.returns-clause-failures
 returns-clause-failures g c = c.take_pack.ensures.failures
+
+-- ---- what is awaited and learnt
+pub returns-in_err-received-in-Message-clause-leaves : goal.returns-in_err-received-in-Message-clause-leaves
+returns-in_err-received-in-Message-clause-leaves g c =
+    let p = err_from_is_err_and c.from_residual.result c.from_residual.ensures.1 in
+    let leaves = rw c.in_err-received-in-Message.was at c.take.ensures.leaves in
+    rw (p.1, p.2) (record { awaits = leaves.awaits; learnt = leaves.learnt })
+
+pub returns-in-Message-clause-leaves : goal.returns-in-Message-clause-leaves
+returns-in-Message-clause-leaves g c =
+    let leaves = rw c.in_ok-received-in-Message.was at c.take.ensures.leaves in
+    record { awaits = tt; learnt = leaves.learnt }
+
+pub returns-in_err-skip_push-in-Push-clause-leaves : goal.returns-in_err-skip_push-in-Push-clause-leaves
+returns-in_err-skip_push-in-Push-clause-leaves g c =
+    let p = err_from_is_err_and c.from_residual-in_err-skip_push-in-Push.result c.from_residual-in_err-skip_push-in-Push.ensures.1 in
+    rw (p.1, p.2) (record { awaits = refl; learnt = λ honest. learns_none _ _ _ _ refl (c.requires.agrees honest) })
+
+pub returns-in-Push-clause-leaves : goal.returns-in-Push-clause-leaves
+returns-in-Push-clause-leaves g c = record { awaits = refl; learnt = λ honest. learns_none _ _ _ _ refl (c.requires.agrees honest) }
+
+pub returns-clause-leaves : goal.returns-clause-leaves
+returns-clause-leaves g c = c.take_pack.ensures.leaves

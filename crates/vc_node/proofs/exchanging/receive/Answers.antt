@@ -1,8 +1,10 @@
 use Rattle.std.proofs.Common.{inr, refl}
+use Rattle.std.proofs.lemmas.Result.{err_from_is_err_and}
 use Rattle.vc_files.proofs.WearLemmas.{writes_none}
 use Rattle.vc_message.proofs.Readings.{never_unread, text_read}
 use Rattle.vc_message.specs.AnyView.{message_text}
 use Rattle.vc_node.proofs.KeepingLemmas.{good_same}
+use Rattle.vc_node.proofs.LearningLemmas.{learns_none}
 use Rattle.vc_local.proofs.LookLemmas.{looks_none}
 use Rattle.vc_node.proofs.ReceivingClone.{kept_here}
 use Rattle.vc_node.proofs.UnreadLemmas.{failed_answers, failed_refused, failed_unread, message_refused, no_device}
@@ -47,3 +49,8 @@ returns-clause-looks g c = λ honest m reads.
 
 pub returns-in_err-message-clause-good : goal.returns-in_err-message-clause-good
 returns-in_err-message-clause-good g c = λ honest. good_same _ _ refl
+
+pub returns-in_err-message-clause-leaves : goal.returns-in_err-message-clause-leaves
+returns-in_err-message-clause-leaves g c =
+    let p = err_from_is_err_and c.from_residual.result c.from_residual.ensures.1 in
+    rw (p.1, p.2) (record { awaits = refl; learnt = λ honest. learns_none _ _ _ _ refl (c.requires.agrees honest) })

@@ -3,6 +3,7 @@ use Rattle.vc_message.specs.AnyView.{message_text}
 use Rattle.vc_message.specs.Machine.{TextOf}
 use Rattle.vc_message.specs.declared.message.Message.{Message}
 use Rattle.vc_node.proofs.ExchangingLemmas.{other_told}
+use Rattle.vc_node.proofs.LearningLemmas.{learns_none}
 use Rattle.vc_node.proofs.KeepingLemmas.{good_same}
 use Rattle.vc_node.proofs.ReceivingClone.{nothing_beside}
 use Rattle.vc_node.specs.Awaited.{awaited_text}
@@ -52,3 +53,15 @@ returns-in-Push-clause-beside g c = λ honest. nothing_beside _
 
 pub returns-clause-beside : goal.returns-clause-beside
 returns-clause-beside g c = λ honest. nothing_beside _
+
+pub returns-in-List-clause-leaves : goal.returns-in-List-clause-leaves
+returns-in-List-clause-leaves g c = record { awaits = refl; learnt = λ honest. learns_none _ _ _ _ refl (c.requires.agrees honest) }
+
+pub returns-in-Want-clause-leaves : goal.returns-in-Want-clause-leaves
+returns-in-Want-clause-leaves g c = record { awaits = refl; learnt = λ honest. learns_none _ _ _ _ refl (c.requires.agrees honest) }
+
+pub returns-in-Push-clause-leaves : goal.returns-in-Push-clause-leaves
+returns-in-Push-clause-leaves g c = record { awaits = refl; learnt = λ honest. learns_none _ _ _ _ refl (c.requires.agrees honest) }
+
+pub returns-clause-leaves : goal.returns-clause-leaves
+returns-clause-leaves g c = record { awaits = refl; learnt = λ honest. learns_none _ _ _ _ refl (c.requires.agrees honest) }

@@ -6,8 +6,10 @@ use Rattle.vc_exchange.specs.declared.receiving.Advertised.{Advertised}
 use Rattle.vc_fetch.specs.AdvertView.{advert_text}
 use Rattle.vc_files.proofs.WearLemmas.{writes_none}
 use Rattle.vc_model.specs.CloneCall.CloneCall.{Receive}
-use Rattle.vc_node.proofs.ExchangingLemmas.{advert_blamed, advert_failed, advert_followed, advert_may, advert_no_message, advert_refused, advert_unexpected, advert_wanted, awaiting, none_agree, still_awaiting}
+use Rattle.vc_node.proofs.ExchangingLemmas.{advert_blamed, advert_failed, advert_followed, advert_may, advert_no_message, advert_refused, advert_unexpected, advert_wanted, awaiting, err_is, still_awaiting}
 use Rattle.vc_node.proofs.KeepingLemmas.{good_same}
+use Rattle.vc_lemmas.proofs.Lists.{on_err}
+use Rattle.vc_node.proofs.LearningLemmas.{learns_failed, learns_none, learns_taken}
 use Rattle.vc_local.proofs.LookLemmas.{looks_none, or_told}
 use Rattle.vc_node.proofs.ReceivingClone.{nothing_beside, refs_beside}
 use Rattle.vc_node.proofs.ReceivingFaults.{device_from, kept_as}
@@ -18,7 +20,7 @@ use Rattle.vc_node.proofs.exchanging.take_advert.Goals as goal
 pub returns-in_default : goal.returns-in_default
 returns-in_default g c = record {
   answers = λ honest m is. advert_unexpected (g.F.Files.content c.args.files.now) m c.args.awaited.now (advert_text c.args.advert) is c.in_default.not-Advert;
-  unchanged = refl;
+  leaves = record { awaits = refl; learnt = λ honest. learns_none _ _ _ _ refl (c.requires.agrees honest) };
   refused = λ honest. advert_refused (g.F.Files.content c.args.files.now) c.args.awaited.now (advert_text c.args.advert) c.in_default.not-Advert;
   kept = λ honest told. refl;
   beside = λ honest. nothing_beside (g.F.Files.content c.args.files.now);
@@ -31,22 +33,22 @@ pub returns-in_err-asked-clause-answers : goal.returns-in_err-asked-clause-answe
 returns-in_err-asked-clause-answers g c = λ honest m is.
     still_awaiting (Receive m) _ _ _ _ _ (ap awaited_text c.in-Advert.is)
     (advert_failed (g.F.Files.content c.args.files.now) (g.F.Files.content c.receive_advert.new.files) m (advert_text c.args.advert) is (c.receive_advert.ensures.outside honest) (c.receive_advert.ensures.bad honest)
-    c.in_err-asked.field-0.0 c.from_residual.result c.from_residual.ensures.1 (c.in_err-asked.ensures.refused honest (none_agree _ c.new-generations.result c.new-generations.ensures.none)) (c.in_err-asked.ensures.cut honest (none_agree _ c.new-generations.result c.new-generations.ensures.none)))
+    c.in_err-asked.field-0.0 c.from_residual.result c.from_residual.ensures.1 (c.in_err-asked.ensures.refused honest (c.requires.agrees honest)) (c.in_err-asked.ensures.cut honest (c.requires.agrees honest)))
 
 pub returns-in_err-asked-clause-refused : goal.returns-in_err-asked-clause-refused
 returns-in_err-asked-clause-refused g c = λ honest.
     advert_blamed (g.F.Files.content c.args.files.now) (awaited_text c.args.awaited.now) (advert_text c.args.advert) c.in_err-asked.field-0.0 c.from_residual.result (ap awaited_text c.in-Advert.is) c.from_residual.ensures.1
-    (c.in_err-asked.ensures.refused honest (none_agree _ c.new-generations.result c.new-generations.ensures.none))
+    (c.in_err-asked.ensures.refused honest (c.requires.agrees honest))
 
 pub returns-in_err-asked-clause-kept : goal.returns-in_err-asked-clause-kept
 returns-in_err-asked-clause-kept g c = λ honest.
     kept_as c.in_err-asked.field-0.0 c.from_residual.result c.from_residual.ensures.1
-    (λ told. absurd (advert_no_message (g.F.Files.content c.args.files.now) c.in_err-asked.field-0.0 (c.in_err-asked.ensures.refused honest (none_agree _ c.new-generations.result c.new-generations.ensures.none)) told))
+    (λ told. absurd (advert_no_message (g.F.Files.content c.args.files.now) c.in_err-asked.field-0.0 (c.in_err-asked.ensures.refused honest (c.requires.agrees honest)) told))
 
 pub returns-in_err-asked-clause-looks : goal.returns-in_err-asked-clause-looks
 returns-in_err-asked-clause-looks g c = λ honest m is.
     advert_may (g.F.Files.content c.args.files.now) m (awaited_text c.args.awaited.now) (ap awaited_text c.in-Advert.is) (λ r holds.
-    or_told (c.receive_advert.ensures.looks honest (none_agree _ c.new-generations.result c.new-generations.ensures.none) r holds m is) (λ may. may)
+    or_told (c.receive_advert.ensures.looks honest (c.requires.agrees honest) r holds m is) (λ may. may)
     (device_from c.receive_advert.result c.in_err-asked.field-0.0 c.in_err-asked.was c.from_residual.result c.from_residual.ensures.1))
 
 pub returns-in-Wanted-clause-answers : goal.returns-in-Wanted-clause-answers
@@ -54,22 +56,22 @@ returns-in-Wanted-clause-answers g c = λ honest m is.
     awaiting (Receive m) (Ok (Send c.in-Wanted.asked.bytes)) _ _ _ _ (ap awaited_text c.in-Advert.is) _
     (advert_wanted (g.F.Files.content c.args.files.now) (g.F.Files.content c.receive_advert.new.files) m (advert_text c.args.advert) is (c.receive_advert.ensures.outside honest) (c.receive_advert.ensures.bad honest)
     c.in-Wanted.asked.wants.items (told_in c.in-Wanted.asked.refs.items) c.in-Wanted.asked.bytes
-    (λ r holds head k advert. subst (λ (x : Advertised). IsAdvertTaken r k (g.F.Files.content c.receive_advert.new.files) x) c.in-Wanted.is (c.in_ok-asked.ensures.taken honest (none_agree _ c.new-generations.result c.new-generations.ensures.none) r holds head k advert)))
+    (λ r holds head k advert. subst (λ (x : Advertised). IsAdvertTaken r k (g.F.Files.content c.receive_advert.new.files) x) c.in-Wanted.is (c.in_ok-asked.ensures.taken honest (c.requires.agrees honest) r holds head k advert)))
 
 pub returns-in-Wanted-clause-looks : goal.returns-in-Wanted-clause-looks
 returns-in-Wanted-clause-looks g c = λ honest m is.
-    advert_may (g.F.Files.content c.args.files.now) m (awaited_text c.args.awaited.now) (ap awaited_text c.in-Advert.is) (λ r holds. or_told (c.in_ok-asked.ensures.looks honest (none_agree _ c.new-generations.result c.new-generations.ensures.none) r holds m is) (λ may. may) (λ never. absurd never))
+    advert_may (g.F.Files.content c.args.files.now) m (awaited_text c.args.awaited.now) (ap awaited_text c.in-Advert.is) (λ r holds. or_told (c.in_ok-asked.ensures.looks honest (c.requires.agrees honest) r holds m is) (λ may. may) (λ never. absurd never))
 
 pub returns-clause-answers : goal.returns-clause-answers
 returns-clause-answers g c = λ honest m is.
     awaiting (Receive m) (Ok (Moved c.in-Followed.moves.moved c.in-Followed.moves.left)) _ _ _ _ (ap awaited_text c.in-Advert.is) _
     (advert_followed (g.F.Files.content c.args.files.now) (g.F.Files.content c.receive_advert.new.files) m (advert_text c.args.advert) is (c.receive_advert.ensures.outside honest) (c.receive_advert.ensures.bad honest)
     c.in-Followed.moves.moved c.in-Followed.moves.left
-    (λ r holds head k advert. subst (λ (x : Advertised). IsAdvertTaken r k (g.F.Files.content c.receive_advert.new.files) x) c.in-Followed.is (c.in_ok-asked.ensures.taken honest (none_agree _ c.new-generations.result c.new-generations.ensures.none) r holds head k advert)))
+    (λ r holds head k advert. subst (λ (x : Advertised). IsAdvertTaken r k (g.F.Files.content c.receive_advert.new.files) x) c.in-Followed.is (c.in_ok-asked.ensures.taken honest (c.requires.agrees honest) r holds head k advert)))
 
 pub returns-clause-looks : goal.returns-clause-looks
 returns-clause-looks g c = λ honest m is.
-    advert_may (g.F.Files.content c.args.files.now) m (awaited_text c.args.awaited.now) (ap awaited_text c.in-Advert.is) (λ r holds. or_told (c.in_ok-asked.ensures.looks honest (none_agree _ c.new-generations.result c.new-generations.ensures.none) r holds m is) (λ may. may) (λ never. absurd never))
+    advert_may (g.F.Files.content c.args.files.now) m (awaited_text c.args.awaited.now) (ap awaited_text c.in-Advert.is) (λ r holds. or_told (c.in_ok-asked.ensures.looks honest (c.requires.agrees honest) r holds m is) (λ may. may) (λ never. absurd never))
 
 pub returns-clause-good : goal.returns-clause-good
 returns-clause-good g c = λ honest. record { objects = keeps_beside_refs _ _ (c.receive_advert.ensures.outside honest); bad = search rules }
@@ -88,3 +90,17 @@ returns-in-Wanted-clause-beside g c = λ honest. refs_beside _ _ (c.receive_adve
 
 pub returns-in_err-asked-clause-beside : goal.returns-in_err-asked-clause-beside
 returns-in_err-asked-clause-beside g c = λ honest. refs_beside _ _ (c.receive_advert.ensures.outside honest)
+
+pub returns-in_err-asked-clause-leaves : goal.returns-in_err-asked-clause-leaves
+returns-in_err-asked-clause-leaves g c = record {
+  awaits = on_err c.from_residual.result _ refl;
+  learnt = λ honest.
+      learns_failed _ _ _ _ c.receive_advert.result (c.receive_advert.ensures.learns honest (c.requires.agrees honest)) (keeps_beside_refs _ _ (c.receive_advert.ensures.outside honest)) c.in_err-asked.field-0.0 c.in_err-asked.was
+      c.from_residual.result (err_is _ c.from_residual.result c.from_residual.ensures.1);
+}
+
+pub returns-in-Wanted-clause-leaves : goal.returns-in-Wanted-clause-leaves
+returns-in-Wanted-clause-leaves g c = record { awaits = tt; learnt = λ honest. learns_taken _ _ _ _ c.receive_advert.result (c.receive_advert.ensures.learns honest (c.requires.agrees honest)) (keeps_beside_refs _ _ (c.receive_advert.ensures.outside honest)) c.in_ok-asked.was }
+
+pub returns-clause-leaves : goal.returns-clause-leaves
+returns-clause-leaves g c = record { awaits = tt; learnt = λ honest. learns_taken _ _ _ _ c.receive_advert.result (c.receive_advert.ensures.learns honest (c.requires.agrees honest)) (keeps_beside_refs _ _ (c.receive_advert.ensures.outside honest)) c.in_ok-asked.was }

@@ -6,8 +6,7 @@ use Rattle.vc_node.proofs.HeldAnswers.{answered}
 use Rattle.vc_local.proofs.AnswerLemmas.{answers_down, answers_from, failed, or_unshown}
 use Rattle.vc_local.proofs.BranchLemmas.{delete_done, delete_failed}
 use Rattle.vc_local.proofs.CleanLemmas.{clean_same}
-use Rattle.vc_pack.proofs.KeepsLemmas.{StandsIn-kept}
-use Rattle.vc_node.proofs.KeepingLemmas.{keeps_shown}
+use Rattle.vc_node.proofs.KeepingLemmas.{both_kept, keeps_shown}
 use Rattle.vc_local.specs.Shown.{shown}
 use Rattle.vc_node.proofs.node.CloneNode.delete_branch.Goals as goal
 
@@ -33,7 +32,7 @@ pub returns-in-Err-clause-looks : goal.returns-in-Err-clause-looks
 returns-in-Err-clause-looks g c = λ honest. rw (← c.self.view_is) (may_or (DeleteBranch c.args.branch.now) _ _ (search rules) (λ awaited r p. inl (delete_may c.args.branch.now (search rules) awaited r)))
 
 pub invariant_of-self : goal.invariant_of-self
-invariant_of-self g c = λ honest. (StandsIn-kept _ _ c.self.inside.reached (keeps_shown _ _ _ (c.in-Ok.ensures.removed honest) refl) (c.self.invariant honest).0, tt)
+invariant_of-self g c = λ honest. (both_kept _ _ c.self.inside.reached c.self.inside.generations (keeps_shown _ _ _ (c.in-Ok.ensures.removed honest) refl) (c.self.invariant honest).0, tt)
 
 pub invariant_of-self-in-Err : goal.invariant_of-self-in-Err
-invariant_of-self-in-Err g c = λ honest. (StandsIn-kept _ _ c.self.inside.reached (keeps_shown _ _ _ (c.in-Err.ensures.err honest) refl) (c.self.invariant honest).0, tt)
+invariant_of-self-in-Err g c = λ honest. (both_kept _ _ c.self.inside.reached c.self.inside.generations (keeps_shown _ _ _ (c.in-Err.ensures.err honest) refl) (c.self.invariant honest).0, tt)

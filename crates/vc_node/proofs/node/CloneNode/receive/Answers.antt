@@ -1,13 +1,14 @@
-use Rattle.std.proofs.Common.{inl, inr, refl, rules}
+use Rattle.std.proofs.Common.{◌≡◌, ◌∙◌, false, inl, inr, refl, rules, sym, true≢false}
 use Rattle.vc_model.specs.CloneCall.CloneCall.{Asks, Receive}
 use Rattle.vc_model.specs.Question.Question.{Unread}
 use Rattle.vc_local.proofs.CleanLemmas.{clean_same}
 use Rattle.vc_node.proofs.CloneCallLemmas.{down_clone}
 use Rattle.vc_local.proofs.LookLemmas.{looks_none}
-use Rattle.vc_node.proofs.SettledLemmas.{settled_answers, settled_awaits, settled_clean, settled_err, settled_looks, settled_refusal, settled_wear}
+use Rattle.vc_node.proofs.SettledLemmas.{settled_answers, settled_awaits, settled_clean, settled_err, settled_learns, settled_looks, settled_refusal, settled_wear}
 use Rattle.vc_node.specs.Awaited.{awaited_text}
 use Rattle.vc_node.specs.Receipts.{IsRefusedBytes}
 use Rattle.vc_pack.proofs.KeepsLemmas.{StandsIn-kept}
+use Rattle.vc_session.specs.Learning.{learnt_in}
 use Rattle.vc_node.proofs.node.CloneNode.receive.Goals as goal
 
 pub returns-then-not-self-clause-answers : goal.returns-then-not-self-clause-answers
@@ -44,13 +45,21 @@ returns-clause-err g c = λ honest.
     rw (← c.self.view_is) (settled_err g.F.Files.content c.self.inside.files c.receive-received.new.files c.settle.new.self.files (awaited_text c.self.inside.awaited) (awaited_text c.receive-received.new.awaited) c.settle.new.self.awaited c.self.inside.is_up c.settle.new.self.is_up c.receive-received.result c.settle.result
     c.settle.ensures.received c.settle.ensures.files c.settle.ensures.awaits (c.receive-received.ensures.kept honest))
 
+pub returns-then-not-self-clause-settles : goal.returns-then-not-self-clause-settles
+returns-then-not-self-clause-settles g c =
+    let down : c.args.self.now.is_up ≡ false = search rules in
+    record { down = search rules; up = search rules; awaits = refl; learns = λ honest up. absurd (true≢false (sym up ∙ down)) }
+
 pub returns-clause-settles : goal.returns-clause-settles
 returns-clause-settles g c = record {
   down = search rules;
   up = search rules;
   awaits =
       rw (← c.self.view_is) (settled_awaits g.F.Files.content c.self.inside.files c.receive-received.new.files c.settle.new.self.files (awaited_text c.self.inside.awaited) (awaited_text c.receive-received.new.awaited) c.settle.new.self.awaited c.self.inside.is_up c.settle.new.self.is_up c.receive-received.result c.settle.result
-      c.settle.ensures.received c.settle.ensures.files c.settle.ensures.awaits c.receive-received.ensures.unchanged);
+      c.settle.ensures.received c.settle.ensures.files c.settle.ensures.awaits c.receive-received.ensures.leaves.awaits);
+  learns =
+      rw (← c.self.view_is) (settled_learns g.F.Files.content c.self.inside.files c.receive-received.new.files c.settle.new.self.files (awaited_text c.self.inside.awaited) (awaited_text c.receive-received.new.awaited) c.settle.new.self.awaited c.self.inside.is_up c.settle.new.self.is_up c.receive-received.result c.settle.result
+      c.settle.ensures.received c.settle.ensures.files c.settle.ensures.awaits (learnt_in c.self.inside.generations c.self.inside.due) (learnt_in c.receive-received.new.generations c.receive-received.new.due) c.settle.new.self.learnt c.settle.ensures.learnt (c.settle.ensures.up c.if-not-self.false) c.receive-received.ensures.leaves);
 }
 
 pub returns-clause-clean : goal.returns-clause-clean
@@ -69,4 +78,9 @@ returns-clause-looks g c = λ honest.
     c.settle.ensures.received c.settle.ensures.files c.settle.ensures.awaits (Receive m) c.if-not-self.false (c.receive-received.ensures.looks honest m reads))
 
 pub invariant_of-self : goal.invariant_of-self
-invariant_of-self g c = λ honest. (StandsIn-kept _ _ c.self.inside.reached (c.receive-received.ensures.good honest).objects (c.self.invariant honest).0, tt)
+invariant_of-self g c = λ honest.
+    let both = (c.self.invariant honest).0 in
+    ((StandsIn-kept _ _ c.self.inside.reached (c.receive-received.ensures.good honest).objects both.0, (c.receive-received.ensures.leaves.learnt honest).agrees), tt)
+
+pub receive-received-requires : goal.receive-received-requires
+receive-received-requires g c = record { agrees = λ honest. (c.self.invariant honest).0.1 }

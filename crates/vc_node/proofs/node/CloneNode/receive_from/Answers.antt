@@ -1,8 +1,10 @@
-use Rattle.std.proofs.Common.{refl, rules}
+use Rattle.std.proofs.Common.{◌≡◌, ◌∙◌, false, refl, rules, sym, true≢false}
+use Rattle.vc_lemmas.proofs.Lists.{on_err}
 use Rattle.vc_pack.proofs.KeepsLemmas.{StandsIn-kept}
 use Rattle.vc_files.proofs.WearLemmas.{writes_none}
+use Rattle.vc_session.specs.Learning.{learnt_in}
 use Rattle.vc_local.proofs.CleanLemmas.{clean_same}
-use Rattle.vc_node.proofs.ComingLemmas.{down_keeps, down_no_device, down_receives, known_receives, next_awaits, next_clean, next_cleared, next_lost, next_none, next_receives, next_wear}
+use Rattle.vc_node.proofs.ComingLemmas.{down_keeps, down_no_device, down_receives, known_receives, next_awaits, next_clean, next_cleared, next_learns, next_lost, next_none, next_receives, next_wear}
 use Rattle.vc_node.specs.Awaited.{awaited_text}
 use Rattle.vc_node.proofs.LossLemmas.{loss_of_down, loss_of_same}
 use Rattle.vc_node.proofs.node.CloneNode.receive_from.Goals as goal
@@ -39,7 +41,8 @@ returns-clause-known g c = λ m bytes rest is reads.
 pub returns-clause-none : goal.returns-clause-none
 returns-clause-none g c =
     rw (← c.self.view_is) (next_none g.F.Files.content c.self.inside.files c.take_next-received.new.files c.settle_next.new.self.files (awaited_text c.self.inside.awaited) (awaited_text c.take_next-received.new.awaited) c.settle_next.new.self.awaited c.settle_next.new.self.is_up
-    c.take_next-received.result c.settle_next.result c.settle_next.ensures.received c.settle_next.ensures.files c.settle_next.ensures.awaits (λ d w b. record { files = d; awaited = w; is_up = b }) c.self.inside.is_up c.if-not-self.false
+    c.take_next-received.result c.settle_next.result c.settle_next.ensures.received c.settle_next.ensures.files c.settle_next.ensures.awaits (λ d w b known. record { files = d; awaited = w; is_up = b; learnt = known }) (learnt_in c.self.inside.generations c.self.inside.due) (learnt_in c.take_next-received.new.generations c.take_next-received.new.due) c.settle_next.new.self.learnt
+    c.settle_next.ensures.learnt c.self.inside.is_up c.if-not-self.false
     (c.settle_next.ensures.up c.if-not-self.false) c.take_next-received.ensures.none)
 
 pub returns-clause-lost : goal.returns-clause-lost
@@ -55,13 +58,21 @@ returns-clause-cleared g c = λ honest.
     rw (← c.self.view_is) (next_cleared g.F.Files.content c.self.inside.files c.take_next-received.new.files c.settle_next.new.self.files (awaited_text c.self.inside.awaited) (awaited_text c.take_next-received.new.awaited) c.settle_next.new.self.awaited c.settle_next.new.self.is_up
     c.take_next-received.result c.settle_next.result c.settle_next.ensures.received c.settle_next.ensures.files c.settle_next.ensures.awaits c.self.inside.is_up c.if-not-self.false (c.settle_next.ensures.up c.if-not-self.false) (c.take_next-received.ensures.cleared honest))
 
+pub returns-then-not-self-clause-settles : goal.returns-then-not-self-clause-settles
+returns-then-not-self-clause-settles g c =
+    let down : c.args.self.now.is_up ≡ false = search rules in
+    record { down = search rules; up = search rules; awaits = on_err c.refuse_down.result _ refl; learns = λ honest up. absurd (true≢false (sym up ∙ down)) }
+
 pub returns-clause-settles : goal.returns-clause-settles
 returns-clause-settles g c = record {
   down = search rules;
   up = search rules;
   awaits =
       rw (← c.self.view_is) (next_awaits g.F.Files.content c.self.inside.files c.take_next-received.new.files c.settle_next.new.self.files (awaited_text c.self.inside.awaited) (awaited_text c.take_next-received.new.awaited) c.settle_next.new.self.awaited c.settle_next.new.self.is_up
-      c.take_next-received.result c.settle_next.result c.settle_next.ensures.received c.settle_next.ensures.files c.settle_next.ensures.awaits c.take_next-received.ensures.unchanged);
+      c.take_next-received.result c.settle_next.result c.settle_next.ensures.received c.settle_next.ensures.files c.settle_next.ensures.awaits c.take_next-received.ensures.leaves.awaits);
+  learns =
+      rw (← c.self.view_is) (next_learns g.F.Files.content c.self.inside.files c.take_next-received.new.files c.settle_next.new.self.files (awaited_text c.self.inside.awaited) (awaited_text c.take_next-received.new.awaited) c.settle_next.new.self.awaited c.settle_next.new.self.is_up c.take_next-received.result c.settle_next.result
+      c.settle_next.ensures.received c.settle_next.ensures.files c.settle_next.ensures.awaits (learnt_in c.self.inside.generations c.self.inside.due) (learnt_in c.take_next-received.new.generations c.take_next-received.new.due) c.settle_next.new.self.learnt c.settle_next.ensures.learnt (c.settle_next.ensures.up c.if-not-self.false) c.take_next-received.ensures.leaves);
 }
 
 pub returns-clause-clean : goal.returns-clause-clean
@@ -75,7 +86,12 @@ returns-clause-wear g c =
     c.take_next-received.result c.settle_next.result c.settle_next.ensures.received c.settle_next.ensures.files c.settle_next.ensures.awaits c.take_next-received.ensures.wear)
 
 pub invariant_of-self : goal.invariant_of-self
-invariant_of-self g c = λ honest. (StandsIn-kept _ _ c.self.inside.reached (c.take_next-received.ensures.good honest).objects (c.self.invariant honest).0, tt)
+invariant_of-self g c = λ honest.
+    let both = (c.self.invariant honest).0 in
+    ((StandsIn-kept _ _ c.self.inside.reached (c.take_next-received.ensures.good honest).objects both.0, (c.take_next-received.ensures.leaves.learnt honest).agrees), tt)
+
+pub take_next-received-requires : goal.take_next-received-requires
+take_next-received-requires g c = record { agrees = λ honest. (c.self.invariant honest).0.1 }
 
 pub returns-then-not-self-clause-lost : goal.returns-then-not-self-clause-lost
 returns-then-not-self-clause-lost g c = record {

@@ -1,5 +1,6 @@
 use Rattle.std.proofs.Common.{refl, rules, ap, ◌∙◌, inr}
-use Rattle.vc_pack.proofs.KeepsLemmas.{StandsIn-kept, keeps_map}
+use Rattle.vc_pack.proofs.KeepsLemmas.{keeps_map}
+use Rattle.vc_node.proofs.KeepingLemmas.{both_kept}
 use Rattle.vc_local.proofs.CleanLemmas.{clean_same}
 use Rattle.vc_local.proofs.IndexLemmas.{spells_index}
 use Rattle.vc_local.proofs.LookLemmas.{looks_none, or_told, or_failed}
@@ -34,7 +35,7 @@ returns-in-Err-clause-looks g c = λ honest. rw (← c.self.view_is) (λ awaited
     or_failed (c.in-Err.ensures.looks honest holds.shows.spells.map (spells_index _ n.repository holds.shows.spells)) (λ may. staging_may _ c.args.files.now _ (search rules) awaited n files holds are may) c.fail.ensures.files c.fail.ensures.fault)
 
 pub invariant_of-self : goal.invariant_of-self
-invariant_of-self g c = λ honest. (StandsIn-kept _ _ c.self.inside.reached (keeps_map _ _ (c.in-Ok.ensures.objects honest)) (c.self.invariant honest).0, tt)
+invariant_of-self g c = λ honest. (both_kept _ _ c.self.inside.reached c.self.inside.generations (keeps_map _ _ (c.in-Ok.ensures.objects honest)) (c.self.invariant honest).0, tt)
 
 pub invariant_of-self-in-Err : goal.invariant_of-self-in-Err
-invariant_of-self-in-Err g c = λ honest. (StandsIn-kept _ _ c.self.inside.reached (keeps_map _ _ (c.in-Err.ensures.objects honest)) (c.self.invariant honest).0, tt)
+invariant_of-self-in-Err g c = λ honest. (both_kept _ _ c.self.inside.reached c.self.inside.generations (keeps_map _ _ (c.in-Err.ensures.objects honest)) (c.self.invariant honest).0, tt)

@@ -16,7 +16,7 @@ pub returns-in-Ok-clause-answers : goal.returns-in-Ok-clause-answers
 returns-in-Ok-clause-answers g c = λ honest zero.
     let content = g.F.Files.content in
     rw (← c.self.view_is) (push_sent c.args.items.now (content c.self.inside.files) (content c.push_message.new.files) _ _ c.self.inside.is_up c.self.inside.is_up c.push_message.ensures.same refl c.if-not-self.false
-    c.in-Ok.bytes (c.in-Ok.ensures.sent honest (c.self.invariant honest).0) c.if-not-self.false zero)
+    c.in-Ok.bytes (c.in-Ok.ensures.sent honest (c.self.invariant honest).0.0) c.if-not-self.false zero)
 
 pub returns-in-Err-clause-answers : goal.returns-in-Err-clause-answers
 returns-in-Err-clause-answers g c = λ honest zero.
@@ -27,7 +27,7 @@ returns-in-Err-clause-answers g c = λ honest zero.
     (c.fail_exchange.ensures.up c.if-not-self.false ∙ ap (λ (x : CloneFault). not (is_fault x)) (sym c.fail_exchange.ensures.fault)))
 
 pub invariant_of-self : goal.invariant_of-self
-invariant_of-self g c = λ honest. (rw c.push_message.ensures.same (c.push_message.ensures.stands honest (c.self.invariant honest).0), tt)
+invariant_of-self g c = λ honest. (rw c.push_message.ensures.same (c.push_message.ensures.stands honest (c.self.invariant honest).0.0, (c.self.invariant honest).0.1), tt)
 
 pub invariant_of-self-in-Err : goal.invariant_of-self-in-Err
-invariant_of-self-in-Err g c = λ honest. (rw c.push_message.ensures.same (c.push_message.ensures.stands honest (c.self.invariant honest).0), tt)
+invariant_of-self-in-Err g c = λ honest. (rw c.push_message.ensures.same (c.push_message.ensures.stands honest (c.self.invariant honest).0.0, (c.self.invariant honest).0.1), tt)
