@@ -28,7 +28,7 @@ use Rattle.vc_local.specs.Commit.{IsGoodParent, IsFreeHead, WritesCommit, made_b
 use Rattle.vc_local.specs.GoodCommit.{BlamesCommit}
 use Rattle.vc_local.specs.IndexFile.{SpellsIndex, BlamesIndex}
 use Rattle.vc_local.specs.Shown.{shown, with_objects_shown}
-use Rattle.vc_local.specs.declared.commit.Words.{Words}
+use Rattle.vc_local.specs.declared.committing.Words.{Words}
 use Rattle.vc_local.specs.declared.fault.NodeFault.{NodeFault}
 use Rattle.vc_local.specs.declared.fault.NodeFault.TheVariants.{Store, Ref, Down}
 

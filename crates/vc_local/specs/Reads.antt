@@ -25,7 +25,7 @@ use Rattle.vc_local.specs.IndexFile.{SpellsIndex}
 use Rattle.vc_local.specs.Making.{HasRoot}
 use Rattle.vc_local.specs.declared.fault.NodeFault.{NodeFault}
 use Rattle.vc_local.specs.declared.fault.NodeFault.TheVariants.{Store, Ref}
-use Rattle.vc_local.specs.declared.commit.Words.{Words}
+use Rattle.vc_local.specs.declared.committing.Words.{Words}
 
 -- no file
 abbrev pub NoneRead : {X : Type 0} → X → Type 0

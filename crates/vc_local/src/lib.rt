@@ -6,7 +6,7 @@
 #![tactic(auto)]
 
 mod checks;
-mod commit;
+mod committing;
 mod fault;
 mod index_file;
 mod local;
@@ -15,7 +15,7 @@ mod opening;
 mod staging;
 
 pub use checks::refuse_bad_commit;
-pub use commit::{Words, commit};
+pub use committing::{Words, commit};
 pub use fault::NodeFault;
 pub use index_file::{read_index, write_index};
 pub use local::{add, load_tree, pack_refs, remove_ref, set_branch, set_head, unstage, write};

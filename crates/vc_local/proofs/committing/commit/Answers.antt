@@ -14,7 +14,7 @@ use Rattle.vc_local.proofs.RefusalLemmas.{moving_blamed}
 use Rattle.vc_local.proofs.StoringLemmas.{memory_blamed, files_blamed}
 use Rattle.vc_local.specs.Reads.{IsAtHead, IsOfCommit, IsReachedByOne, NoneRead, TellsRead}
 use Rattle.vc_local.proofs.CommitReads.{at_head_read, made_read, moving_read, nothing_read, reached_read}
-use Rattle.vc_local.proofs.commit.commit.Goals as goal
+use Rattle.vc_local.proofs.committing.commit.Goals as goal
 
 pub kept_or_read-requires : goal.kept_or_read-requires
 kept_or_read-requires g c = λ honest.

@@ -4,7 +4,7 @@ use Rattle.vc_local.specs.declared.fault.NodeFault.TheVariants.{Ref}
 use Rattle.vc_local.proofs.RefusalLemmas.{of_head}
 use Rattle.vc_local.specs.Reads.{IsAtHead, NoneRead, TellsRead}
 use Rattle.vc_local.proofs.CommitReads.{head_read}
-use Rattle.vc_local.proofs.commit.free_head.Goals as goal
+use Rattle.vc_local.proofs.committing.free_head.Goals as goal
 
 pub returns-in_err-head-clause-refused : goal.returns-in_err-head-clause-refused
 returns-in_err-head-clause-refused g c = λ honest.

@@ -15,7 +15,7 @@ use Rattle.vc_local.proofs.LookLemmas.{looks_then, looks_told}
 use Rattle.vc_local.proofs.MakingLemmas.{all_more, fault_blamed, parents_blamed}
 use Rattle.vc_local.specs.Reads.{IsReached, IsReachedByOne, NoneRead, TellsRead}
 use Rattle.vc_local.proofs.CommitReads.{parent_of_many}
-use Rattle.vc_local.proofs.commit.refuse_bad_parents.Goals as goal
+use Rattle.vc_local.proofs.committing.refuse_bad_parents.Goals as goal
 
 pub loop-parent-preserved : goal.loop-parent-preserved
 loop-parent-preserved g c =

@@ -1,6 +1,6 @@
 use Rattle.vc_local.proofs.CleanLemmas.{clean_head}
 use Rattle.vc_local.proofs.ShownLemmas.{shown_head}
-use Rattle.vc_local.proofs.commit.move_head.Goals as goal
+use Rattle.vc_local.proofs.committing.move_head.Goals as goal
 
 pub returns-in_ok-set_head-in-Id-clause-moved : goal.returns-in_ok-set_head-in-Id-clause-moved
 returns-in_ok-set_head-in-Id-clause-moved g c = λ honest.

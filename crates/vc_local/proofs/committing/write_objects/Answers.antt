@@ -11,7 +11,7 @@ use Rattle.vc_store.specs.Store.{IsDamaged}
 use Rattle.vc_object.specs.declared.id.ObjectId.{ObjectId}
 use Rattle.vc_local.specs.Reads.{IsMade, NoneRead, TellsRead}
 use Rattle.vc_local.proofs.CommitReads.{trees_read, body_read}
-use Rattle.vc_local.proofs.commit.write_objects.Goals as goal
+use Rattle.vc_local.proofs.committing.write_objects.Goals as goal
 
 pub returns-in_err-tree-clause-refused : goal.returns-in_err-tree-clause-refused
 returns-in_err-tree-clause-refused g c =

@@ -4,7 +4,7 @@ use Rattle.vc_local.specs.declared.fault.NodeFault.TheVariants.{Ref}
 use Rattle.vc_local.proofs.RefusalLemmas.{of_head_value}
 use Rattle.vc_local.specs.Reads.{IsAtHead, NoneRead, TellsRead}
 use Rattle.vc_local.proofs.CommitReads.{value_read}
-use Rattle.vc_local.proofs.commit.parents_with.Goals as goal
+use Rattle.vc_local.proofs.committing.parents_with.Goals as goal
 
 pub returns-in_err-id-clause-refused : goal.returns-in_err-id-clause-refused
 returns-in_err-id-clause-refused g c = λ honest.

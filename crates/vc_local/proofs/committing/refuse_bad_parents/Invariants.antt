@@ -4,7 +4,7 @@ use Rattle.vc_files.specs.Failures.{Wears}
 use Rattle.vc_session.specs.Known.{AreRefsWhole, AreWhole}
 use Rattle.vc_store.specs.Store.{objects}
 use Rattle.vc_local.specs.Commit.{IsGoodParent}
-use Rattle.vc_local.proofs.commit.refuse_bad_parents.Given as goal
+use Rattle.vc_local.proofs.committing.refuse_bad_parents.Given as goal
 
 abbrev pub invariant-loop-parent : goal.invariant-loop-parent
 invariant-loop-parent g l = record {
