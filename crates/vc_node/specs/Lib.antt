@@ -20,6 +20,7 @@ pub mod Printed
 pub mod Reads
 pub mod Receipts
 pub mod ReceiveFault
+pub mod RemoteFaults
 pub mod Shown
 pub mod Staging
 pub mod Told

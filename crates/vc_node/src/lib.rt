@@ -18,6 +18,7 @@ mod node;
 mod opened;
 mod opening;
 mod receive_fault;
+mod remote_fault;
 mod staging;
 
 pub use burning::{
@@ -33,4 +34,5 @@ pub use node::CloneNode;
 pub use opened::{a_held_node_can_be_opened, new_files_can_be_opened};
 pub use opening::open_files;
 pub use receive_fault::ReceiveFault;
+pub use remote_fault::{RemoteFault, WRITE_FAILED};
 pub use staging::Staged;
