@@ -6,8 +6,7 @@ use Rattle.vc_store.specs.Store.{objects, with_object}
 use Rattle.vc_store.specs.StoreFault.{IsOfPut}
 use Rattle.vc_reading.proofs.BodyLemmas.{of_front, refused_put}
 use Rattle.vc_cli.specs.Failure.{IsFault}
-use Rattle.vc_cli.proofs.ToldLemmas.{handed_on}
-use Rattle.vc_cli.proofs.ToldLemmas.{told_apart}
+use Rattle.vc_cli.proofs.ToldLemmas.{handed_on, told_apart}
 use Rattle.vc_reading.proofs.hash_object.store_input.Goals as goal
 
 pub returns-in-Ok-clause-named : goal.returns-in-Ok-clause-named

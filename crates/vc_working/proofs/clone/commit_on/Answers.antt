@@ -2,8 +2,7 @@ use Rattle.std.proofs.Common.{rules, ap, sym, inr}
 use Rattle.vc_files.proofs.WearLemmas.{writes_both, writes_told}
 use Rattle.std.proofs.KnownBytes.{Keeps-refl}
 use Rattle.std.proofs.lemmas.Result.{IfErr-weaker}
-use Rattle.vc_cli.proofs.ToldLemmas.{OnOk-map}
-use Rattle.vc_cli.proofs.ToldLemmas.{told_apart}
+use Rattle.vc_cli.proofs.ToldLemmas.{OnOk-map, told_apart}
 use Rattle.vc_working.proofs.StepLemmas.{made_none, made_of}
 use Rattle.vc_cli.specs.Failure.{IsFault}
 use Rattle.vc_working.specs.Steps.{IsOfCommitOn, MakesCommit}
