@@ -1,11 +1,1 @@
-pub mod AddLemmas
-pub mod AddedLemmas
-pub mod BodyLemmas
-pub mod CheckoutLemmas
-pub mod CloneLemmas
-pub mod DeviceLemmas
-pub mod NamedLemmas
-pub mod PieceLemmas
 pub mod PushLemmas
-pub mod StepLemmas
-pub mod ToldLemmas

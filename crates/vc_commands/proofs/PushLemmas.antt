@@ -10,8 +10,8 @@ use Rattle.vc_remote.specs.Words.{IsOfWord}
 use Rattle.vc_remote.specs.declared.words.ItemWords.{ItemWords}
 use Rattle.vc_remote.specs.declared.words.ItemWords.TheVariants.{Branch, Delete, Set}
 use Rattle.vc_commands.specs.PushWords.{AreItemsFor, IsItemFor, IsItemOf, IsOfItem, IsOfItemWord, IsOfItemWords}
-use Rattle.vc_commands.specs.declared.failure.Failure.{Failure}
-use Rattle.vc_commands.specs.declared.failure.Failure.TheVariants.{Fault}
+use Rattle.vc_cli.specs.declared.failure.Failure.{Failure}
+use Rattle.vc_cli.specs.declared.failure.Failure.TheVariants.{Fault}
 
 -- one more word behind those that ask for items
 items_next : (content : FileMap) (words : List (List ℕ)) (items : List PushItem) (word : List ℕ) (item : PushItem)

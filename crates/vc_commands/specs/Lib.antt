@@ -1,15 +1,2 @@
-pub mod Failure
-pub mod Devices
-pub mod AtFault
-pub mod OwnPath
-pub mod Again
-pub mod HashObject
-pub mod Shown
-pub mod CloneWords
-pub mod Checkout
-pub mod StatusLines
-pub mod Adding
-pub mod Revisions
 pub mod PlayedWorld
-pub mod Steps
 pub mod PushWords

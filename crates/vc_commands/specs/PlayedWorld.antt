@@ -3,8 +3,8 @@ use Rattle.std.specs.Prelude.{⊤, ℕ, List, [], Option}
 use Rattle.std.specs.Io.KnownBytes.{Appends}
 use Rattle.vc_script.specs.Script.{IsNoScript}
 use Rattle.vc_simulation.specs.Playing.{Plays}
-use Rattle.vc_commands.specs.declared.failure.Failure.{Failure}
-use Rattle.vc_commands.specs.declared.failure.Failure.TheVariants.{BadScript, Fault}
+use Rattle.vc_cli.specs.declared.failure.Failure.{Failure}
+use Rattle.vc_cli.specs.declared.failure.Failure.TheVariants.{BadScript, Fault}
 
 -- the script was played, and the lines of its answers are printed
 pub record PrintsPlayed (script : List ℕ) (old new : Option (List ℕ)) : Type 0 where

@@ -8,10 +8,10 @@ use Rattle.vc_refname.specs.RefName.{IsRefName, first_broken_rule}
 use Rattle.vc_remote.specs.Words.{IsOfWord}
 use Rattle.vc_remote.specs.declared.words.ItemWords.{ItemWords}
 use Rattle.vc_remote.specs.declared.words.ItemWords.TheVariants.{Branch, Delete, Set}
-use Rattle.vc_commands.specs.CloneWords.{branch_ref}
-use Rattle.vc_commands.specs.Revisions.{Denoted, IsOfRevision}
-use Rattle.vc_commands.specs.declared.failure.Failure.{Failure}
-use Rattle.vc_commands.specs.declared.failure.Failure.TheVariants.{Name, Fault}
+use Rattle.vc_working.specs.CloneWords.{branch_ref}
+use Rattle.vc_cli.specs.Revisions.{Denoted, IsOfRevision}
+use Rattle.vc_cli.specs.declared.failure.Failure.{Failure}
+use Rattle.vc_cli.specs.declared.failure.Failure.TheVariants.{Name, Fault}
 
 -- the ref of this name is to have what the revision has
 pub record SetsRef (content : FileMap) (revision name : List ℕ) (item : PushItem) : Type 0 where

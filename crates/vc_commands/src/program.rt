@@ -1,25 +1,9 @@
 //! One run of the program: from words and streams to an exit status.
 ghost use Rattle.std.specs.Prelude.{◌≡◌, ◌⊎◌};
-ghost use Rattle.vc_commands.specs.Failure.{status_of};
+ghost use Rattle.vc_cli.specs.Failure.{status_of};
 
-use crate::again::{Lists, line_of_refusal};
-use crate::cat_file::cat_file;
-use crate::clone::{branch, branch_delete, commit, unstage, write_tree};
-use crate::failure::Failure;
-use crate::faults::Faults;
-use crate::hash_object::{HashObject, hash_object, store_stream};
-use crate::init::init;
-use crate::input::Input;
-use crate::merge_base::merge_base;
-use crate::nearby::refuse_second_store;
-use crate::pack_refs::pack_refs;
 use crate::remote::{fetch, push, serve};
-use crate::rev_list::rev_list;
-use crate::rev_parse::rev_parse;
-use crate::show_ref::show_ref;
-use crate::work::{add, checkout, status};
 use crate::world::world;
-use crate::writer::only_writer;
 use clap::error::ErrorKind;
 use clap::{ArgMatches, Error};
 use std::alloc::Global;
@@ -33,9 +17,21 @@ use vc_arguments::{
     LocalTask, RemoteTask, Request, Task, command, list_of, option_without_folder, request_of,
     terms_of,
 };
+use vc_cli::{Failure, Faults, only_writer, refuse_second_store};
 use vc_files::Fault;
 use vc_folder::Syncs;
+use vc_reading::cat_file::cat_file;
+use vc_reading::hash_object::{HashObject, hash_object, store_stream};
+use vc_reading::init::init;
+use vc_reading::merge_base::merge_base;
+use vc_reading::pack_refs::pack_refs;
+use vc_reading::rev_list::rev_list;
+use vc_reading::rev_parse::rev_parse;
+use vc_reading::show_ref::show_ref;
+use vc_reading::{Input, Lists, line_of_refusal};
 use vc_work_folder::Beside;
+use vc_working::work::{add, checkout, status};
+use vc_working::{branch, branch_delete, commit, unstage, write_tree};
 
 /// Does what the words ask for and gives the exit status: 0 done, 1 refused, 2 a command line that is off, 3 a
 /// fault. Answers go to `output`, everything else to `faults`. The first word is the program's name. A command that writes

@@ -1,14 +1,13 @@
 //! What a push is to change, from the words of the command line.
 ghost use Rattle.std.specs.Prelude.{◌≡◌, IfOk, IfErr, OnOk, map};
 ghost use Rattle.vc_refname.specs.RefName.{IsRefName};
-ghost use Rattle.vc_commands.specs.CloneWords.{branch_ref};
+ghost use Rattle.vc_working.specs.CloneWords.{branch_ref};
 ghost use Rattle.vc_commands.specs.PushWords.{AreItemsFor, DeletesRef, IsItemFor, IsOfItemWord, IsOfItemWords, IsOfName, IsOfSet, SetsRef};
 ghost use Rattle.vc_files.specs.Failures.{Wears};
-ghost use Rattle.vc_commands.specs.Failure.{TellsDevice};
+ghost use Rattle.vc_cli.specs.Failure.{TellsDevice};
 
-use crate::failure::Failure;
-use crate::repository::resolve;
 use std::alloc::Global;
+use vc_cli::{Failure, resolve};
 use vc_exchange::PushItem;
 use vc_files::{Fault, Files};
 use vc_refname::{NewNameError, RefName};

@@ -1,17 +1,15 @@
 //! The subcommands that speak to another process: `serve`, `fetch` and `push`.
+ghost use Rattle.std.specs.Prelude.{◌≡◌};
+ghost use Rattle.vc_remote.specs.Progress.{goes_to_terminal};
 
-use crate::failure::Failure;
-use crate::faults::Faults;
-use crate::output::print_text;
 use crate::push_items::items_of;
-use crate::repository::open_store;
-use crate::writer::only_writer;
 use std::fs::File;
 use std::io::{self, Write};
 use std::net::Net;
 use std::rt;
 use std::thread::Threads;
-use vc_remote::{is_done, make_shared, report_lines};
+use vc_cli::{Failure, Faults, only_writer, open_store, print_text};
+use vc_remote::{Progress, is_done, make_shared, report_lines};
 
 /// Serves so many connections to the store in this folder, which is made where there is none. The line `listening`, with the
 /// port, is printed once the port is open.
@@ -70,6 +68,13 @@ where
     Ok(Failure::from(error))
 }
 
+// Where a person is told how far a long message is: on a terminal alone.
+fn progress_of<E: Write>(faults: &mut Faults<E>) -> Progress<&mut E>
+    ensures { goes_to_terminal result ≡ faults.old.is_terminal }
+{
+    Progress::new(&mut faults.stream, faults.is_terminal)
+}
+
 /// Fetches into the clone in this folder from the store that is served at a port, and prints how many refs moved. What could
 /// not be told on a terminal meanwhile is a fault behind the answer.
 pub fn fetch<R, O, E>(
@@ -85,7 +90,7 @@ where
     E: Write,
 {
     let lock = only_writer(rt, store, faults)?;
-    let mut progress = faults.progress();
+    let mut progress = progress_of(faults);
     let moved = vc_remote::fetch(rt, lock, store, port, &mut progress)?;
     let line = format!(in rt.alloc(); "moved {moved}\n")?;
     print_text(line.as_bytes(), output)?;
@@ -115,7 +120,7 @@ where
     if items.is_empty() {
         return Ok(true);
     }
-    let mut progress = faults.progress();
+    let mut progress = progress_of(faults);
     let report = vc_remote::push(rt, lock, store, port, &items, &mut progress)?;
     print_text(&report_lines(alloc, &report)?, output)?;
     progress.outcome()?;

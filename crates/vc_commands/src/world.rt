@@ -1,16 +1,15 @@
 //! The subcommand `world`: a script of a world of nodes, played in memory.
 ghost use Rattle.std.specs.Prelude.{◌≡◌, ◌⊎◌, IfErr, IfOk, IfSome, OnOk};
 ghost use Rattle.std.specs.Io.KnownBytes.{Keeps};
-ghost use Rattle.vc_commands.specs.Failure.{IsFault};
+ghost use Rattle.vc_cli.specs.Failure.{IsFault};
 ghost use Rattle.vc_commands.specs.PlayedWorld.{IsOfScript, PrintsPlayed};
 
-use crate::failure::Failure;
-use crate::input::{Input, open_body};
-use crate::output::print_text;
 use std::alloc::Global;
 use std::io::{Read, Write};
 use std::rt;
+use vc_cli::{Failure, print_text};
 use vc_object::MAX_BODY;
+use vc_reading::{Input, open_body};
 use vc_script::ScriptFault;
 use vc_simulation::run_script;
 

@@ -19,7 +19,7 @@ pub use laws::{
     every_reading, messages_are_a_wire, one_message, one_reading, one_writing, read_or_unread,
     what_is_read_is_named, written_message_is_read,
 };
-pub use message::{Message, NOTHING_AWAITED};
+pub use message::{Message, NOTHING_AWAITED, WRITE_FAILED};
 pub use reader::AnyReader;
 pub use skipping::{skip_message, skip_pack, skip_push};
 pub use source::{Fallible, ReadFailed, Source};

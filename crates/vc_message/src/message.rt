@@ -17,6 +17,9 @@ use vc_push::{Push, Report};
 /// What is printed where a message of this kind isn't awaited.
 pub const NOTHING_AWAITED: &str = "91 NothingAwaited";
 
+/// What is printed where a message didn't go out.
+pub const WRITE_FAILED: &str = "116 WriteFailed";
+
 /// A message. own: git has no first line that tells the kind, since the place in the conversation does; here each kind's first
 /// line is no other's.
 #[derive(Drop)]

@@ -1,5 +1,4 @@
 pub mod Answering
-pub mod Faults
 pub mod Printed
 pub mod Progress
 pub mod Turns

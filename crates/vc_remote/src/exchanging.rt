@@ -1,7 +1,6 @@
 //! A whole fetch and a whole push between the clone in a folder and the shared node at a port of this machine.
 ghost use Rattle.std.specs.Prelude.{◌≢◌, []};
 
-use crate::fault::RemoteFault;
 use crate::peer::Server;
 use crate::progress::Progress;
 use std::alloc::Global;
@@ -12,7 +11,7 @@ use std::rt;
 use std::thread::Threads;
 use vc_exchange::PushItem;
 use vc_folder::{FolderFiles, FolderLock, Syncs};
-use vc_node::CloneNode;
+use vc_node::{CloneNode, RemoteFault};
 use vc_push::Report;
 use vc_world::{exchange_fetch, exchange_push};
 

@@ -6,7 +6,6 @@
 
 mod answering;
 mod exchanging;
-mod fault;
 mod peer;
 mod progress;
 mod report;
@@ -16,7 +15,6 @@ mod words;
 
 pub use answering::{answer_from, make_shared};
 pub use exchanging::{fetch, push};
-pub use fault::RemoteFault;
 pub use progress::Progress;
 pub use report::{is_done, report_lines};
 pub use serving::{bind, serve};

@@ -1,6 +1,7 @@
 // Why an exchange is not done.
 
-use vc_node::CloneFault;
+use vc_files::Fault;
+use vc_node::{CloneFault, RemoteFault};
 
 /// Why an exchange with a shared node that refuses with an `R` came to no end of its own.
 #[derive(Drop)]
@@ -13,4 +14,15 @@ pub enum ExchangeEnd<R> {
     Stray,
     /// No memory to read an answer that the clone has taken.
     Memory,
+}
+
+impl From<ExchangeEnd<RemoteFault>> for RemoteFault {
+    fn from(end: ExchangeEnd<RemoteFault>) -> Self {
+        match end {
+            ExchangeEnd::Clone(fault) => RemoteFault::Clone(fault),
+            ExchangeEnd::Shared(fault) => fault,
+            ExchangeEnd::Stray => RemoteFault::Clone(CloneFault::Unexpected),
+            ExchangeEnd::Memory => RemoteFault::Fault(Fault::Memory),
+        }
+    }
 }

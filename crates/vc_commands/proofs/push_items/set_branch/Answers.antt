@@ -1,5 +1,5 @@
 use Rattle.std.proofs.Common.{ℕ, List, IfErr, ◌∙◌, subst}
-use Rattle.vc_commands.specs.CloneWords.{branch_ref}
+use Rattle.vc_working.specs.CloneWords.{branch_ref}
 use Rattle.vc_commands.specs.PushWords.{IsOfSet}
 use Rattle.vc_commands.proofs.push_items.set_branch.Goals as goal
 

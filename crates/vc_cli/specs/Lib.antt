@@ -1,0 +1,4 @@
+pub mod Failure
+pub mod Printed
+pub mod Revisions
+pub mod Told

@@ -1,0 +1,4 @@
+pub mod Again
+pub mod AtFault
+pub mod HashObject
+pub mod Shown

@@ -1,0 +1,7 @@
+use Rattle.std.proofs.Common.{◌∙◌, ℕ, List, Ok, IfOk, subst}
+use Rattle.vc_cli.specs.Revisions.{Denoted}
+use Rattle.vc_working.proofs.checkout.peel.Goals as goal
+
+pub returns-clause-value : goal.returns-clause-value
+returns-clause-value g c = λ honest.
+    subst (λ (text : List ℕ). IfOk c.resolve_bytes.result (λ id. Denoted (g.F.Files.content c.args.files.now) text (Ok id))) (c.deref.ensures.value ∙ c.in_ok-text.ensures) (c.resolve_bytes.ensures.value honest)
