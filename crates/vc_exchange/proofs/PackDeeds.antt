@@ -33,12 +33,11 @@ use Rattle.vc_store.specs.declared.faults.StoreFault.{StoreFault}
 use Rattle.vc_store.specs.declared.faults.StoreFault.TheVariants as of_store
 use Rattle.vc_exchange.specs.Deeds.{IsCutShort, IsReceived}
 use Rattle.vc_exchange.specs.Deeds.IsCutShort.{within}
-use Rattle.vc_exchange.specs.Faults.{BlamesFiles, BlamesObjects, from_answer, from_store}
+use Rattle.vc_exchange.specs.Faults.{from_answer, from_store}
 use Rattle.vc_exchange.specs.Moving.{AreFrontMoved, AreMoved, MovesBy, Told, machine_refs, rule_of}
 use Rattle.vc_exchange.specs.Receiving.{AreRefs, BlamesPack, awaited_pack}
 use Rattle.vc_exchange.specs.Storing.{AreSomeStored}
 use Rattle.vc_exchange.specs.Wanting.{AreOpenTold}
-use Rattle.vc_exchange.specs.declared.fault.ExchangeFault.{ExchangeFault}
 use Rattle.vc_exchange.specs.declared.fault.ExchangeFault.TheVariants as exchange
 use Rattle.vc_exchange.specs.declared.moving.Followed.TheVariants.{All}
 use Rattle.vc_exchange.proofs.MovingDecisions.{Decided, contained_first, contained_later, decided_contains}

@@ -1,5 +1,5 @@
 -- What a pack brings, where its objects stand in the clone's quarantine until they are stored.
-use Rattle.std.proofs.Common.{arith, ◌≡◌, ◌⊎◌, inl, inr, ℕ, false, List, length, take, Option, Some, sym, ap, ◌∙◌, subst, true≢false}
+use Rattle.std.proofs.Common.{arith, ◌≡◌, ◌⊎◌, inl, inr, ℕ, List, length, take, Option, Some, sym, ap, ◌∙◌, subst, true≢false}
 use Rattle.std.specs.Prelude.{codes, is_some}
 use Rattle.std.specs.FinMap.{get}
 use Rattle.std.proofs.lemmas.List.{take_all}

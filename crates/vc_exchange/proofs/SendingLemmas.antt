@@ -1,7 +1,6 @@
 -- For the functions that make a push: what the clone knows of refs, what lists give step by step, and what is refused.
-use Rattle.std.proofs.Common.{◌≡◌, ◌<◌, ◌+◌, ◌↔◌, ◌⊎◌, inl, inr, ⊎_elim, ℕ, Bool, true, false, true≢false, cond, ◌&&◌, nat_eq, List, [], ◌∷◌, ◌++◌, drop, take, length, get_or, map, Option, Some, None, Contains, refl, sym, ap, ◌∙◌, subst, arith, length-append}
-use Rattle.std.specs.Prelude.{codes, unwrap_or, is_some, filter_map, option_and_then}
-use Rattle.std.specs.FinMap as files
+use Rattle.std.proofs.Common.{◌≡◌, ◌<◌, ◌+◌, ◌↔◌, ◌⊎◌, inl, inr, ⊎_elim, ℕ, Bool, true, false, true≢false, cond, nat_eq, List, [], ◌∷◌, ◌++◌, drop, take, length, get_or, map, Option, Some, None, Contains, refl, sym, ap, ◌∙◌, subst, arith, length-append}
+use Rattle.std.specs.Prelude.{codes, unwrap_or, is_some, filter_map}
 use Rattle.std.specs.FinMap.{find}
 use Rattle.std.specs.List.{AllByRecursion, starts_with, cons_option}
 use Rattle.std.specs.Ordering.{eq_by_cmp, nat_cmp}

@@ -1,4 +1,4 @@
-use Rattle.std.proofs.Common.{rules, ◌∙◌}
+use Rattle.std.proofs.Common.{rules}
 use Rattle.vc_session.proofs.UpdateLemmas.{wears_both}
 use Rattle.vc_exchange.proofs.learning.learn_known.Goals as goal
 

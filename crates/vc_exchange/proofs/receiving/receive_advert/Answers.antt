@@ -1,8 +1,8 @@
-use Rattle.std.proofs.Common.{rules, ◌≡◌, inl, inr, Err, List, map, take, refl, sym, ap, ◌∙◌, subst, []}
+use Rattle.std.proofs.Common.{rules, ◌≡◌, inl, inr, Result, Err, List, map, take, refl, sym, ap, ◌∙◌, subst, []}
 use Rattle.vc_fetch.specs.AdvertView.{advert_text}
-use Rattle.vc_files.proofs.WearLemmas.{wears_then, wears_writes, writes_told}
+use Rattle.vc_files.proofs.WearLemmas.{wears_then, wears_writes, writes_none, writes_told}
 use Rattle.vc_files.specs.FileMap.{FileMap}
-use Rattle.vc_files.specs.declared.faults.Fault.TheVariants.{Memory}
+use Rattle.vc_files.specs.declared.faults.Fault.TheVariants.{Device, Memory}
 use Rattle.vc_format.specs.Git.{bytes_of_id}
 use Rattle.vc_message.specs.Machine.{IsWritten}
 use Rattle.vc_history.specs.Stored.{AgreesIn}
@@ -26,6 +26,7 @@ use Rattle.vc_exchange.specs.Faults.{BlamesFiles}
 use Rattle.vc_exchange.specs.Moving.{AreFrontMoved, AreMoved, IsRight, MovesSome, Told, told_in}
 use Rattle.vc_exchange.specs.Receiving.{BlamesAdvert}
 use Rattle.vc_exchange.specs.Wanting.{AreOpenTold, BlamesWanting}
+use Rattle.vc_exchange.specs.declared.fault.ExchangeFault.{ExchangeFault}
 use Rattle.vc_exchange.specs.declared.fault.ExchangeFault.TheVariants as exchange
 use Rattle.vc_exchange.specs.declared.moving.Followed.TheVariants.{All}
 use Rattle.vc_exchange.proofs.AdvertDeeds.{advert_asked, advert_changes, advert_cut, advert_followed, told_refs}
@@ -46,6 +47,13 @@ still_held old new r same held = subst (λ (f : FileMap). HoldsContent f r) (sym
 
 still_heading : (old new : FileMap) (r : Repository) → new ≡ old → HoldsHead old r → HoldsHead new r
 still_heading old new r same heads = subst (λ (f : FileMap). HoldsHead f r) (sym same) heads
+
+-- want of memory is no failure of the device
+no_device : {T : Type 0} (r : Result T ExchangeFault) → r ≡ Err (exchange.Fault Memory) → r ≡ Err (exchange.Fault Device) → ⊥
+no_device r is told = absurd (cc (is, told))
+
+pub returns-in_err-refs-clause-wear : goal.returns-in_err-refs-clause-wear
+returns-in_err-refs-clause-wear g c = writes_none (no_device c.from_residual.result (search rules))
 
 pub returns-in_err-known-clause-wear : goal.returns-in_err-known-clause-wear
 returns-in_err-known-clause-wear g c = writes_told (wears_writes c.in_err-known.ensures.wear (λ _. c.in_err-known.ensures.same)) (search rules) (search rules)
@@ -276,6 +284,9 @@ returns-then-is_empty-clause-learns g c = λ honest agrees.
     let learnt = c.in_ok-known.ensures.learnt honest agrees in
     let right = c.in_ok-known.ensures.agrees honest agrees in
     learnt_moved old (content c.move_refs.new.files) before between _ learnt right (content c.open_ids.new.files) (content c.move_refs.new.files) c.move_refs.new.due.items (ap refs (c.in_ok-open.ensures.same ∙ c.in_ok-known.ensures.same)) refl (c.in_ok-moved.ensures.noted honest).noted
+
+pub returns-in_err-wants-clause-refused : goal.returns-in_err-wants-clause-refused
+returns-in_err-wants-clause-refused g c = λ honest agrees. told_err c.from_residual-in_err-wants.result (exchange.Fault Memory) (BlamesAdvert (g.F.Files.content c.args.files.now)) (search rules) (inl tt)
 
 pub returns-in_err-wants-clause-learns : goal.returns-in_err-wants-clause-learns
 returns-in_err-wants-clause-learns g c = λ honest agrees.
