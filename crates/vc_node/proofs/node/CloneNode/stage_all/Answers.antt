@@ -34,6 +34,14 @@ pub returns-in-Err-clause-looks : goal.returns-in-Err-clause-looks
 returns-in-Err-clause-looks g c = λ honest. rw (← c.self.view_is) (λ awaited n files holds are.
     or_failed (c.in-Err.ensures.looks honest holds.shows.spells.map (spells_index _ n.repository holds.shows.spells)) (λ may. staging_may _ c.args.files.now _ (search rules) awaited n files holds are may) c.fail.ensures.files c.fail.ensures.fault)
 
+pub returns-in-Ok-clause-kept : goal.returns-in-Ok-clause-kept
+returns-in-Ok-clause-kept g c = rw (← c.self.view_is) (λ honest. record { err = tt; clean = (c.in-Ok.ensures.kept honest).clean; objects = keeps_map _ _ (c.in-Ok.ensures.objects honest) })
+
+pub returns-in-Err-clause-kept : goal.returns-in-Err-clause-kept
+returns-in-Err-clause-kept g c = λ honest.
+    let content = g.F.Files.content in
+    rw (← c.self.view_is, ap content c.fail.ensures.files) (record { err = (c.in-Err.ensures.kept honest).err; clean = (c.in-Err.ensures.kept honest).clean; objects = keeps_map _ _ (c.in-Err.ensures.objects honest) })
+
 pub invariant_of-self : goal.invariant_of-self
 invariant_of-self g c = λ honest. (both_kept _ _ c.self.inside.reached c.self.inside.generations (keeps_map _ _ (c.in-Ok.ensures.objects honest)) (c.self.invariant honest).0, tt)
 
