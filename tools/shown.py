@@ -593,7 +593,7 @@ def unplaced(text):
     return "\n".join(it for it in lines if not PLACED.fullmatch(it))
 
 
-def shape_of(logic, crate, edit, function, reach):
-    """A hash of the texts that decide what is proved of a wrong body, wherever they stand."""
+def shape_of(crate, edit, function, reach):
+    """Digests of the texts that decide what is proved of a wrong body, wherever they stand."""
     texts = {unplaced(text) for _, _, text in texts_for(crate, edit, function, reach)}
-    return hashlib.sha256("\0".join([logic, *sorted(texts)]).encode()).hexdigest()
+    return frozenset(digest_of((text,)) for text in texts)
