@@ -204,8 +204,8 @@ module _ {D : Type 0} (content : D → FileMap) (old mid new : D) (waits mids af
       by : (r : Told) → is_up ≡ up_after r → IfOk r (λ found. IfNone found ((mid ≡ old) × (mids ≡ waits) × (between ≡ known))) → IfOk r (λ found. IfNone found (text new after is_up now ≡ text old waits was_up known))
       by (Ok (Some received)) here none = tt
       by (Ok None) here none =
-          ap (λ (d : D). text d after is_up now) (files ∙ none.0) ∙ ap (λ (w : AwaitedText). text old w is_up now) (same ∙ none.1.0) ∙ ap (λ (b : Bool). text old waits b now) (here ∙ sym was)
-          ∙ ap (λ k. text old waits was_up k) (still ∙ none.1.1)
+          ap (λ (d : D). text d after is_up now) (files ∙ none.0) ∙ ap (λ (w : AwaitedText). text old w is_up now) (same ∙ none.1) ∙ ap (λ (b : Bool). text old waits b now) (here ∙ sym was)
+          ∙ ap (λ k. text old waits was_up k) (still ∙ none.2)
       by (Err e) here none = tt
 
   module _ {failed : D → ℕ} {can_fail : D → Type 0} {left : D → Option ℕ} where

@@ -69,11 +69,11 @@ pub due_learnt : DueIsLearnt
 due_learnt old new known now x n of j = (j.learnt x n).1 (inr of)
 
 -- ---- a message that was judged, or refused before
-judged_unless : {A : Type 0} (P : Type 0) (e : ExchangeFault) → UnlessFault {T = A} (Err e) P → not (is_fault (of_exchange e)) ≡ true → P
-judged_unless P (exchange.Store fault) done up = done
-judged_unless P (exchange.Refs fault) done up = done
-judged_unless P (exchange.Incomplete id) done up = done
-judged_unless P (exchange.Fault fault) done up = absurd (true≢false (sym up))
+judged_unless : (A P : Type 0) (e : ExchangeFault) → UnlessFault {T = A} (Err e) P → not (is_fault (of_exchange e)) ≡ true → P
+judged_unless A P (exchange.Store fault) done up = done
+judged_unless A P (exchange.Refs fault) done up = done
+judged_unless A P (exchange.Incomplete id) done up = done
+judged_unless A P (exchange.Fault fault) done up = absurd (true≢false (sym up))
 
 module _ {A : Type 0} (old mid new : FileMap) (known now : Learnt) (r : Result A ExchangeFault) (taking : LearnsTaking mid new known now r) (keeps : KeepsObjects mid new) (since : LearnsJudging mid new known now → LearnsJudging old new known now) where
   agrees_now : AgreesIn new now.generations
@@ -82,7 +82,7 @@ module _ {A : Type 0} (old mid new : FileMap) (known now : Learnt) (r : Result A
   failed_from : (e : ExchangeFault) → r ≡ Err e → LeavesLearnt (LearnsJudging old new known now ⊎ LearnsNothing old new known now) (not (is_fault (of_exchange e))) new now
   failed_from e was = record {
     agrees = agrees_now;
-    learns = λ up. inl (since (judged_unless (LearnsJudging mid new known now) e (subst (λ (x : Result A ExchangeFault). UnlessFault x (LearnsJudging mid new known now)) was taking.done) up));
+    learns = λ up. inl (since (judged_unless A (LearnsJudging mid new known now) e (subst (λ (x : Result A ExchangeFault). UnlessFault x (LearnsJudging mid new known now)) was taking.done) up));
   }
 
   taken_from : (x : A) → r ≡ Ok x → LeavesLearnt (LearnsJudging old new known now) true new now

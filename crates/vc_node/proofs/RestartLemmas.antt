@@ -17,7 +17,7 @@ use Rattle.vc_local.specs.Blames.{BlamesOpen}
 use Rattle.vc_node.specs.CloneCalls.{AnswersClone}
 use Rattle.vc_local.specs.Machine.{Spells, fault_answer, failure_of}
 use Rattle.vc_local.specs.Emptying.{IsOpened, LosesCarried}
-use Rattle.vc_local.specs.Shown.{Shown, shown}
+use Rattle.vc_local.specs.Shown.{Shown}
 use Rattle.vc_local.specs.Told.{RestartedAs}
 use Rattle.vc_local.specs.declared.fault.NodeFault.{NodeFault}
 

@@ -62,19 +62,19 @@ pub returns-in-Wanted-clause-looks : goal.returns-in-Wanted-clause-looks
 returns-in-Wanted-clause-looks g c = λ honest m is.
     advert_may (g.F.Files.content c.args.files.now) m (awaited_text c.args.awaited.now) (ap awaited_text c.in-Advert.is) (λ r holds. or_told (c.in_ok-asked.ensures.looks honest (c.requires.agrees honest) r holds m is) (λ may. may) (λ never. absurd never))
 
-pub returns-clause-answers : goal.returns-clause-answers
-returns-clause-answers g c = λ honest m is.
+pub returns-in-Followed-clause-answers : goal.returns-in-Followed-clause-answers
+returns-in-Followed-clause-answers g c = λ honest m is.
     awaiting (Receive m) (Ok (Moved c.in-Followed.moves.moved c.in-Followed.moves.left)) _ _ _ _ (ap awaited_text c.in-Advert.is) _
     (advert_followed (g.F.Files.content c.args.files.now) (g.F.Files.content c.receive_advert.new.files) m (advert_text c.args.advert) is (c.receive_advert.ensures.outside honest) (c.receive_advert.ensures.bad honest)
     c.in-Followed.moves.moved c.in-Followed.moves.left
     (λ r holds head k advert. subst (λ (x : Advertised). IsAdvertTaken r k (g.F.Files.content c.receive_advert.new.files) x) c.in-Followed.is (c.in_ok-asked.ensures.taken honest (c.requires.agrees honest) r holds head k advert)))
 
-pub returns-clause-looks : goal.returns-clause-looks
-returns-clause-looks g c = λ honest m is.
+pub returns-in-Followed-clause-looks : goal.returns-in-Followed-clause-looks
+returns-in-Followed-clause-looks g c = λ honest m is.
     advert_may (g.F.Files.content c.args.files.now) m (awaited_text c.args.awaited.now) (ap awaited_text c.in-Advert.is) (λ r holds. or_told (c.in_ok-asked.ensures.looks honest (c.requires.agrees honest) r holds m is) (λ may. may) (λ never. absurd never))
 
-pub returns-clause-good : goal.returns-clause-good
-returns-clause-good g c = λ honest. record { objects = keeps_beside_refs _ _ (c.receive_advert.ensures.outside honest); bad = search rules }
+pub returns-in-Followed-clause-good : goal.returns-in-Followed-clause-good
+returns-in-Followed-clause-good g c = λ honest. record { objects = keeps_beside_refs _ _ (c.receive_advert.ensures.outside honest); bad = search rules }
 
 pub returns-in-Wanted-clause-good : goal.returns-in-Wanted-clause-good
 returns-in-Wanted-clause-good g c = λ honest. record { objects = keeps_beside_refs _ _ (c.receive_advert.ensures.outside honest); bad = search rules }
@@ -82,8 +82,8 @@ returns-in-Wanted-clause-good g c = λ honest. record { objects = keeps_beside_r
 pub returns-in_err-asked-clause-good : goal.returns-in_err-asked-clause-good
 returns-in_err-asked-clause-good g c = λ honest. record { objects = keeps_beside_refs _ _ (c.receive_advert.ensures.outside honest); bad = search rules }
 
-pub returns-clause-beside : goal.returns-clause-beside
-returns-clause-beside g c = λ honest. refs_beside _ _ (c.receive_advert.ensures.outside honest)
+pub returns-in-Followed-clause-beside : goal.returns-in-Followed-clause-beside
+returns-in-Followed-clause-beside g c = λ honest. refs_beside _ _ (c.receive_advert.ensures.outside honest)
 
 pub returns-in-Wanted-clause-beside : goal.returns-in-Wanted-clause-beside
 returns-in-Wanted-clause-beside g c = λ honest. refs_beside _ _ (c.receive_advert.ensures.outside honest)
@@ -102,5 +102,5 @@ returns-in_err-asked-clause-leaves g c = record {
 pub returns-in-Wanted-clause-leaves : goal.returns-in-Wanted-clause-leaves
 returns-in-Wanted-clause-leaves g c = record { awaits = tt; learnt = λ honest. learns_taken _ _ _ _ c.receive_advert.result (c.receive_advert.ensures.learns honest (c.requires.agrees honest)) (keeps_beside_refs _ _ (c.receive_advert.ensures.outside honest)) c.in_ok-asked.was }
 
-pub returns-clause-leaves : goal.returns-clause-leaves
-returns-clause-leaves g c = record { awaits = tt; learnt = λ honest. learns_taken _ _ _ _ c.receive_advert.result (c.receive_advert.ensures.learns honest (c.requires.agrees honest)) (keeps_beside_refs _ _ (c.receive_advert.ensures.outside honest)) c.in_ok-asked.was }
+pub returns-in-Followed-clause-leaves : goal.returns-in-Followed-clause-leaves
+returns-in-Followed-clause-leaves g c = record { awaits = tt; learnt = λ honest. learns_taken _ _ _ _ c.receive_advert.result (c.receive_advert.ensures.learns honest (c.requires.agrees honest)) (keeps_beside_refs _ _ (c.receive_advert.ensures.outside honest)) c.in_ok-asked.was }

@@ -9,7 +9,7 @@ pub returns-in-Ok-clause-opens : goal.returns-in-Ok-clause-opens
 returns-in-Ok-clause-opens g c = λ honest r can. opened_holds _ _ r (c.in-Ok.ensures.opened honest) can
 
 pub invariant_of-result : goal.invariant_of-result
-invariant_of-result g c = λ honest. ((Stands-none _ c.new.result.roots.items c.new.result.names.keys c.new.ensures.roots c.new.ensures.names, agrees_where_none _ (numbers c.new-2.result) c.new-2.ensures.none), c.in-Ok.ensures.spelled honest)
+invariant_of-result g c = λ honest. ((Stands-none _ c.new.result.roots.items c.new.result.names.keys c.new.ensures.roots c.new.ensures.names, agrees_where_none _ (numbers c.new-in-Ok.result) c.new-in-Ok.ensures.none), c.in-Ok.ensures.spelled honest)
 
 pub returns-in-Ok-clause-fresh : goal.returns-in-Ok-clause-fresh
-returns-in-Ok-clause-fresh g c = record { up = search rules; awaits = search rules; learnt = record { none = c.new-2.ensures.none; due = search rules } }
+returns-in-Ok-clause-fresh g c = record { up = search rules; awaits = search rules; learnt = record { none = c.new-in-Ok.ensures.none; due = search rules } }
