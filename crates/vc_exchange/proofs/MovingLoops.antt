@@ -17,11 +17,12 @@ use Rattle.vc_refs.specs.declared.faults.RefFault.TheVariants as of_refs
 use Rattle.vc_rules.proofs.WholeLemmas.{refs_whole}
 use Rattle.vc_rules.specs.Git.{git}
 use Rattle.vc_rules.specs.OpenPushes.{HoldsContent}
-use Rattle.vc_session.specs.Known.{AreRefsWhole, AreWhole}
-use Rattle.vc_session.specs.declared.known.Known.{Known}
-use Rattle.vc_session.proofs.FrameLemmas.{objects-same}
-use Rattle.vc_session.proofs.NumberLemmas.{agreement_beside}
-use Rattle.vc_session.specs.Clean.{MakesNoneBad}
+use Rattle.vc_push_rules.specs.Known.{AreRefsWhole}
+use Rattle.vc_quarantine.specs.Known.{AreWhole}
+use Rattle.vc_quarantine.specs.declared.known.Known.{Known}
+use Rattle.vc_push_rules.proofs.FrameLemmas.{objects-same}
+use Rattle.vc_quarantine.proofs.NumberLemmas.{agreement_beside}
+use Rattle.vc_quarantine.specs.Clean.{MakesNoneBad}
 use Rattle.vc_store.specs.Store.{object_path, objects}
 use Rattle.vc_store.specs.declared.faults.StoreFault.TheVariants as of_store
 use Rattle.vc_exchange.specs.Faults.{BlamesFiles}

@@ -31,7 +31,7 @@ use Rattle.vc_rules.proofs.ReachLemmas.{closed_from, closed_to, history_from, hi
 use Rattle.vc_rules.proofs.RefLemmas.{conflicts_from, conflicts_to, id_some, some_id}
 use Rattle.vc_rules.proofs.VerdictLaws.{branch as branch_named, tag as tag_named}
 use Rattle.vc_rules.specs.Git.{git, stored_of}
-use Rattle.vc_session.specs.Verdict.{is_branch, is_tag}
+use Rattle.vc_push_rules.specs.Verdict.{is_branch, is_tag}
 use Rattle.vc_exchange.specs.Moving.{Descends, IsFreeAmong, MayFollow, MayTake, follower, has_tags, is_new, rule_of}
 use Rattle.vc_exchange.specs.declared.moving.Followed.{Followed}
 use Rattle.vc_exchange.specs.declared.moving.Followed.TheVariants.{All, Branches}

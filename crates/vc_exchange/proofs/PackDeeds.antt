@@ -27,7 +27,7 @@ use Rattle.vc_object.specs.declared.id.ObjectId.{ObjectId}
 use Rattle.vc_rules.proofs.JoinLemmas.{joined, joined_all}
 use Rattle.vc_rules.specs.Git.{git}
 use Rattle.vc_rules.specs.OpenPushes.{AreBrought, HoldsContent}
-use Rattle.vc_session.specs.Carrying.{objects_in}
+use Rattle.vc_push_rules.specs.Carrying.{objects_in}
 use Rattle.vc_store.specs.Store.{objects}
 use Rattle.vc_store.specs.declared.faults.StoreFault.{StoreFault}
 use Rattle.vc_store.specs.declared.faults.StoreFault.TheVariants as of_store

@@ -34,11 +34,11 @@ use Rattle.vc_rules.specs.Git.{git, stored_of}
 use Rattle.vc_rules.specs.OpenPushes.{AreBrought, HoldsContent}
 use Rattle.vc_rules.proofs.OpenPushLaws.{some_stored}
 use Rattle.vc_pkt.specs.Carried.{object_named}
-use Rattle.vc_session.proofs.FrameLemmas.{refs-of_objects}
-use Rattle.vc_session.proofs.KnownLemmas.{AreWhole-with_carried}
-use Rattle.vc_session.specs.Carrying.{objects_in}
-use Rattle.vc_session.specs.Known.{AreWhole}
-use Rattle.vc_session.specs.declared.known.Known.{Known}
+use Rattle.vc_push_rules.proofs.FrameLemmas.{refs-of_objects}
+use Rattle.vc_quarantine.proofs.KnownLemmas.{AreWhole-with_carried}
+use Rattle.vc_push_rules.specs.Carrying.{objects_in}
+use Rattle.vc_quarantine.specs.Known.{AreWhole}
+use Rattle.vc_quarantine.specs.declared.known.Known.{Known}
 use Rattle.vc_store.specs.Store.{objects}
 use Rattle.vc_exchange.specs.Storing.{AreSomeStored, AreStored}
 

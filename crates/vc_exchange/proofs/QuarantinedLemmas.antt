@@ -18,13 +18,14 @@ use Rattle.vc_object.specs.ObjectMap.{ObjectMap, links_in}
 use Rattle.vc_object.specs.declared.id.ObjectId.{ObjectId}
 use Rattle.vc_refs.specs.RefMap.{RefMap}
 use Rattle.vc_rules.specs.OpenPushes.{HoldsContent}
-use Rattle.vc_session.proofs.FrameLemmas.{front-some, migrated-all, migrated-some, objects-of_slot, refs-of_slot}
-use Rattle.vc_session.proofs.SeenLemmas.{seen_stored}
-use Rattle.vc_session.specs.Carrying.{objects_in}
-use Rattle.vc_session.specs.Migrating.{IsFrontMigrated, migrated}
-use Rattle.vc_session.specs.PushState.{IsDamagedSeen}
-use Rattle.vc_session.specs.Quarantine.{objects_seen, quarantine_folder, quarantined}
-use Rattle.vc_session.specs.SessionFault.{BlamesMigration}
+use Rattle.vc_quarantine.proofs.MigratingLemmas.{front-some, migrated-all, migrated-some}
+use Rattle.vc_push_rules.proofs.FrameLemmas.{objects-of_slot, refs-of_slot}
+use Rattle.vc_quarantine.proofs.SeenLemmas.{seen_stored}
+use Rattle.vc_push_rules.specs.Carrying.{objects_in}
+use Rattle.vc_quarantine.specs.Migrating.{IsFrontMigrated, migrated}
+use Rattle.vc_quarantine.specs.PushState.{IsDamagedSeen}
+use Rattle.vc_push_rules.specs.Quarantine.{objects_seen, quarantine_folder, quarantined}
+use Rattle.vc_quarantine.specs.Blames.{BlamesMigration}
 use Rattle.vc_store.specs.Store.{objects}
 use Rattle.vc_store.specs.declared.faults.StoreFault.{StoreFault}
 use Rattle.vc_store.specs.declared.faults.StoreFault.TheVariants as of_store

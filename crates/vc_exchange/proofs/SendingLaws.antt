@@ -70,7 +70,7 @@ use Rattle.vc_rules.proofs.SoundLemmas.{objects_sound}
 use Rattle.vc_rules.specs.Git.{git, stored_of}
 use Rattle.vc_rules.specs.OpenPushes.{AreBrought, HoldsContent}
 use Rattle.vc_rules.specs.Verdicts.{machine_command}
-use Rattle.vc_session.proofs.BreakLemmas.{no_break}
+use Rattle.vc_push_rules.proofs.BreakLemmas.{no_break}
 use Rattle.vc_store.specs.Store.{objects, stored as stored_file}
 
 -- ---- a message that is written is read so

@@ -16,11 +16,11 @@ use Rattle.vc_pkt.specs.Carried.{stored_name}
 use Rattle.vc_pkt.specs.StreamObjectView.{AreNamed, stored}
 use Rattle.vc_pkt.specs.declared.carried.StreamObject.{StreamObject}
 use Rattle.vc_rules.proofs.SoundLemmas.{name_valid}
-use Rattle.vc_session.proofs.CarryingLemmas.{in_none, in_step, nothing_in, once, or_none}
-use Rattle.vc_session.proofs.CleanLemmas.{bad_objects}
-use Rattle.vc_session.proofs.DamageLemmas.{damaged_before}
-use Rattle.vc_session.specs.Carrying.{objects_in}
-use Rattle.vc_session.specs.Clean.{MakesNoneBad}
+use Rattle.vc_push_rules.proofs.CarryingLemmas.{in_none, in_step, nothing_in, once, or_none}
+use Rattle.vc_quarantine.proofs.CleanLemmas.{bad_objects}
+use Rattle.vc_quarantine.proofs.DamageLemmas.{damaged_before}
+use Rattle.vc_push_rules.specs.Carrying.{objects_in}
+use Rattle.vc_quarantine.specs.Clean.{MakesNoneBad}
 use Rattle.vc_store.specs.Store.{objects, with_file, with_object}
 use Rattle.vc_exchange.specs.Storing.{AreSomeStored, AreStored}
 

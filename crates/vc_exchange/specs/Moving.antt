@@ -28,9 +28,9 @@ use Rattle.vc_refs.specs.declared.faults.RefFault.{RefFault}
 use Rattle.vc_refs.specs.declared.faults.RefFault.TheVariants as of_refs
 use Rattle.vc_rules.specs.Git.{git}
 use Rattle.vc_rules.specs.OpenPushes.{HoldsContent}
-use Rattle.vc_session.specs.Known.{AreWhole}
-use Rattle.vc_session.specs.Verdict.{HasHistory, is_branch, is_tag}
-use Rattle.vc_session.specs.declared.known.Known.{Known}
+use Rattle.vc_quarantine.specs.Known.{AreWhole}
+use Rattle.vc_push_rules.specs.Verdict.{HasHistory, is_branch, is_tag}
+use Rattle.vc_quarantine.specs.declared.known.Known.{Known}
 use Rattle.vc_store.specs.Store.{objects}
 use Rattle.vc_store.specs.declared.faults.StoreFault.{StoreFault}
 use Rattle.vc_exchange.specs.declared.fault.ExchangeFault.{ExchangeFault}

@@ -7,8 +7,8 @@ use Rattle.vc_graph.specs.Overlay.{with_carried}
 use Rattle.vc_object.specs.Decoding.{StoredObject}
 use Rattle.vc_object.specs.declared.id.ObjectId.{ObjectId}
 use Rattle.vc_pack.specs.Reached.{KeepsObjects}
-use Rattle.vc_session.specs.Carrying.{objects_in}
-use Rattle.vc_session.specs.Clean.{MakesNoneBad}
+use Rattle.vc_push_rules.specs.Carrying.{objects_in}
+use Rattle.vc_quarantine.specs.Clean.{MakesNoneBad}
 use Rattle.vc_store.specs.Store.{objects}
 
 -- what is stored stays, and what is brought is added

@@ -9,8 +9,8 @@ ghost use Rattle.vc_history.specs.Stored.{AgreesIn};
 ghost use Rattle.vc_history.specs.Whole.{AreWholeBeyond};
 ghost use Rattle.vc_refs.specs.RefMap.{IsInRefs};
 ghost use Rattle.vc_refs.specs.Refs.{refs};
-ghost use Rattle.vc_session.specs.Clean.{MakesNoneBad};
-ghost use Rattle.vc_session.specs.Known.{AreWhole};
+ghost use Rattle.vc_quarantine.specs.Clean.{MakesNoneBad};
+ghost use Rattle.vc_quarantine.specs.Known.{AreWhole};
 ghost use Rattle.vc_store.specs.Store.{objects};
 ghost use Rattle.vc_exchange.specs.Faults.{BlamesFiles, BlamesRefs, Looks};
 ghost use Rattle.vc_exchange.specs.Learning.{NotesMoved};
@@ -23,9 +23,9 @@ use vc_files::{Fault, Files};
 use vc_graph::is_complete_beyond;
 use vc_history::{Commits, Generations, HistoryFault, is_ancestor, is_history_beyond};
 use vc_object::ObjectId;
+use vc_quarantine::{Known, is_legal};
 use vc_refname::{NewNameError, RefName};
 use vc_refs::{RefFault, get, set};
-use vc_session::{Known, is_legal};
 use vc_store::{Store, StoreFault};
 
 /// Which refs of the shared repository are followed.

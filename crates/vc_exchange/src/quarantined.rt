@@ -11,9 +11,9 @@ ghost use Rattle.vc_graph.specs.Incomplete.{IsFirstIncomplete};
 ghost use Rattle.vc_history.specs.Stored.{AgreesIn};
 ghost use Rattle.vc_object.specs.ObjectMap.{links_in};
 ghost use Rattle.vc_object.specs.declared.id.ObjectId.{ObjectId as Name};
-ghost use Rattle.vc_session.specs.Learning.{learnt_in};
-ghost use Rattle.vc_session.specs.PushState.{IsDamagedSeen};
-ghost use Rattle.vc_session.specs.Quarantine.{IsDropped, objects_seen};
+ghost use Rattle.vc_quarantine.specs.Learning.{learnt_in};
+ghost use Rattle.vc_quarantine.specs.PushState.{IsDamagedSeen};
+ghost use Rattle.vc_push_rules.specs.Quarantine.{IsDropped, objects_seen};
 ghost use Rattle.vc_store.specs.Store.{objects};
 
 use crate::ExchangeFault;
@@ -27,7 +27,7 @@ use vc_files::{Fault, Files};
 use vc_history::Generations;
 use vc_object::ObjectId;
 use vc_pack::names_reached;
-use vc_session::{Known, PushObjects, drop_quarantine, migrate};
+use vc_quarantine::{Known, PushObjects, drop_quarantine, migrate};
 use vc_store::StoreFault;
 
 // The known names and what the wants reach beyond them, where all of it is stored or stands in the quarantine; or the first want

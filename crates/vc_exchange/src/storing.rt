@@ -5,7 +5,7 @@ ghost use Rattle.vc_exchange.specs.Storing.{AreSomeStored, AreStored};
 ghost use Rattle.vc_files.specs.Failures.{Writes};
 ghost use Rattle.vc_files.specs.FileMap.{SameOutside};
 ghost use Rattle.vc_pkt.specs.ObjectStreamView.{carried};
-ghost use Rattle.vc_session.specs.Clean.{MakesNoneBad};
+ghost use Rattle.vc_quarantine.specs.Clean.{MakesNoneBad};
 
 use std::alloc::Global;
 use vc_files::{Fault, Files};

@@ -17,7 +17,7 @@ use Rattle.vc_local.specs.Clean.{IsClean}
 use Rattle.vc_local.specs.NodeFault.{is_fault}
 use Rattle.vc_local.specs.Shown.{Shown, shown}
 use Rattle.vc_rules.specs.Git.{git}
-use Rattle.vc_rules.proofs.GitLaws.{git_rules}
+use Rattle.vc_values.proofs.GitLaws.{git_rules}
 use Rattle.vc_local.specs.Machine.{live_of, Spells, Follows, Goes, AnswersShown, IsBadFile, fault_answer}
 
 -- a node that is down

@@ -35,7 +35,7 @@ use Rattle.vc_local.specs.Blames.{BlamesRemoved, BlamesBranch, BlamesHead, MayHe
 use Rattle.vc_local.specs.GoodCommit.{IsComplete, IsGoodBeyondRefs, IsHistory}
 use Rattle.vc_local.specs.Shown.{Shown, shown, with_refs_shown, with_head_shown}
 use Rattle.vc_rules.specs.Git.{git}
-use Rattle.vc_rules.proofs.GitLaws.{git_rules}
+use Rattle.vc_values.proofs.GitLaws.{git_rules}
 use Rattle.vc_local.specs.Machine.{machine_head, Spells, Follows, FollowsIf, IsBadFile, fault_answer, failure_of}
 use Rattle.vc_local.proofs.AnswerLemmas.{faults}
 use Rattle.vc_rules.proofs.MapLemmas.{get-unput, map_cond}
@@ -44,7 +44,7 @@ use Rattle.vc_local.proofs.NameLemmas.{head_named, set_named}
 use Rattle.vc_local.proofs.SoundAnswers.{declines_if, faults_if}
 use Rattle.vc_rules.proofs.RefLemmas.{conflicts_from, conflicts_to, id_some, set_rel, some_id}
 use Rattle.vc_rules.proofs.SoundLemmas.{objects_sound}
-use Rattle.vc_session.specs.Known.{AreRefsWhole}
+use Rattle.vc_push_rules.specs.Known.{AreRefsWhole}
 
 -- a name that begins so is a branch's
 pub branch_named : (name : List ℕ) → starts_with nat_eq name (codes "refs/heads/") ≡ true → IsBranch name

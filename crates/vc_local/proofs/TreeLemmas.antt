@@ -29,8 +29,8 @@ use Rattle.vc_local.specs.declared.fault.NodeFault.TheVariants.{Store, Ref, Miss
 use Rattle.vc_local.specs.Blames.{BlamesLoad, IsOfMemory}
 use Rattle.vc_local.specs.NodeFault.{of_index}
 use Rattle.vc_local.specs.Shown.{Shown, IsLoaded, shown}
-use Rattle.vc_rules.specs.Git.{machine_entry, layer_objects}
-use Rattle.vc_rules.specs.Trees.{tree_number, ShowsIndex, TreeGives}
+use Rattle.vc_values.specs.Trees.{machine_entry, tree_number, ShowsIndex, TreeGives}
+use Rattle.vc_rules.specs.Git.{layer_objects}
 use Rattle.vc_local.specs.Machine.{Spells, Follows, IsBadFile, fault_answer, failure_of}
 use Rattle.vc_local.proofs.AnswerLemmas.{declines, faults}
 use Rattle.vc_rules.proofs.MapLemmas.{map_cond}

@@ -45,8 +45,9 @@ use Rattle.vc_rev.specs.declared.refusal.RevFault.{RevFault}
 use Rattle.vc_rev.specs.declared.refusal.RevFault.TheVariants.{Missing, NotACommit, Refused, Source}
 use Rattle.vc_rev.specs.declared.refusal.SourceFault.{SourceFault}
 use Rattle.vc_rev.specs.declared.refusal.SourceFault.TheVariants.{BadIndex, BadRefFile, HeadLoop, Store}
-use Rattle.vc_rules.specs.Git.{layer_objects, machine_entry}
-use Rattle.vc_rules.specs.Values.{names_at}
+use Rattle.vc_rules.specs.Git.{layer_objects}
+use Rattle.vc_values.specs.Trees.{machine_entry}
+use Rattle.vc_values.specs.Values.{names_at}
 use Rattle.vc_store.proofs.NamesLemmas.{file-objects, objects-file}
 use Rattle.vc_store.specs.Store.{HasFile, IsDamaged, objects}
 use Rattle.vc_store.specs.StoreFault.{IsFault, IsRefused}

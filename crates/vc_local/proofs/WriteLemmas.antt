@@ -27,7 +27,7 @@ use Rattle.vc_local.specs.declared.fault.NodeFault.TheVariants.{Store, Ref, Miss
 use Rattle.vc_local.specs.Blames.{BlamesWrite}
 use Rattle.vc_local.specs.Shown.{Shown, with_objects_shown}
 use Rattle.vc_rules.specs.Git.{git, machine_object, stored_of}
-use Rattle.vc_rules.specs.Faults.{object_number}
+use Rattle.vc_values.specs.Faults.{object_number}
 use Rattle.vc_local.specs.Machine.{Spells, Follows, IsBadFile, fault_answer, failure_of}
 use Rattle.vc_local.proofs.AnswerLemmas.{declines, faults}
 use Rattle.vc_rules.proofs.CarriedLemmas.{kind_back}

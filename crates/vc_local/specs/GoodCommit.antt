@@ -3,7 +3,7 @@ use Rattle.vc_files.specs.FileMap.{FileMap}
 use Rattle.vc_graph.specs.Graph.{IsClosed}
 use Rattle.vc_object.specs.ObjectMap.{links_in, parents_in}
 use Rattle.vc_object.specs.declared.id.ObjectId.{ObjectId}
-use Rattle.vc_session.specs.Known.{AreRefsWhole}
+use Rattle.vc_push_rules.specs.Known.{AreRefsWhole}
 use Rattle.vc_store.specs.Store.{objects, IsDamaged}
 use Rattle.vc_store.specs.declared.faults.StoreFault.{StoreFault}
 use Rattle.vc_store.specs.declared.faults.StoreFault.TheVariants as store

@@ -12,7 +12,7 @@ use Rattle.vc_rev.specs.Value.{refusal_number}
 use Rattle.vc_rev.specs.declared.refusal.RevFault.{RevFault}
 use Rattle.vc_rev.specs.declared.refusal.RevFault.TheVariants.{Refused, Missing, NotACommit, Source}
 use Rattle.vc_rev.specs.declared.refusal.SourceFault.TheVariants.{Store}
-use Rattle.vc_rules.specs.Values.{DenotesAt}
+use Rattle.vc_values.specs.Values.{DenotesAt}
 use Rattle.vc_store.specs.declared.faults.StoreFault.TheVariants as store
 use Rattle.vc_local.specs.Clean.{IsClean}
 use Rattle.vc_local.specs.Machine.{Spells, fault_answer}

@@ -22,8 +22,8 @@ use std::alloc::{AllocError, Global};
 use vc_files::{Files, MemoryFiles};
 use vc_index::Index;
 use vc_object::{Kind, ObjectFault, ObjectId};
+use vc_quarantine::Known;
 use vc_refs::{Head, RefFault, refuse_conflict};
-use vc_session::Known;
 use vc_store::StoreFault;
 
 /// What a commit says beside its tree and its parents.

@@ -45,8 +45,9 @@ use Rattle.vc_store.specs.Store.{name_in, object_path, objects, stored_in}
 use Rattle.vc_store.specs.declared.faults.StoreFault.{StoreFault}
 use Rattle.vc_store.specs.declared.faults.StoreFault.TheVariants as store
 use Rattle.vc_store.proofs.PathLemmas.{name_in-some, name_in-object_path}
-use Rattle.vc_rules.specs.Git.{git, machine_entry}
-use Rattle.vc_rules.proofs.GitLaws.{git_rules}
+use Rattle.vc_rules.specs.Git.{git}
+use Rattle.vc_values.specs.Trees.{machine_entry}
+use Rattle.vc_values.proofs.GitLaws.{git_rules}
 use Rattle.vc_node.specs.Burning.{CallsBurn, ExchangesBurn, PacksBurn, SoundCallsBurn}
 use Rattle.vc_node.specs.CloneCalls.{ReceivedAs, SentAs}
 use Rattle.vc_node.specs.CloneFaults.{IsOfDevice as IsOfClonesDevice, TellsDevice as CloneTellsDevice, fault_answer as clone_answer}

@@ -20,7 +20,7 @@ use Rattle.vc_rev.specs.Value.{refusal_number}
 use Rattle.vc_rev.specs.declared.refusal.RevFault.{RevFault}
 use Rattle.vc_rev.specs.declared.refusal.RevFault.TheVariants.{Missing, NotACommit, Refused, Source}
 use Rattle.vc_rev.specs.declared.refusal.SourceFault.TheVariants.{BadIndex, BadRefFile, HeadLoop, Store}
-use Rattle.vc_rules.specs.Values.{DenotesAt}
+use Rattle.vc_values.specs.Values.{DenotesAt}
 use Rattle.vc_store.specs.declared.faults.StoreFault.TheVariants as store
 use Rattle.vc_node.proofs.CloneCallLemmas.{Leads, as_told, fault_leads}
 use Rattle.vc_local.proofs.FaultLemmas.{source_alone}

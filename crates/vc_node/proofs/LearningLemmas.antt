@@ -15,10 +15,10 @@ use Rattle.vc_pack.specs.Reached.{KeepsObjects}
 use Rattle.vc_exchange.proofs.QuarantinedLemmas.{keeps_beside_slot}
 use Rattle.vc_refs.specs.RefMap.{RefMap}
 use Rattle.vc_refs.specs.Refs.{refs}
-use Rattle.vc_session.proofs.FrameLemmas.{objects-of_slot, refs-of_slot}
-use Rattle.vc_session.proofs.NumberLemmas.{agreement_kept}
-use Rattle.vc_session.specs.Learning.{IsLearnt, IsOfWhole, Learnt}
-use Rattle.vc_session.specs.Quarantine.{quarantine_folder}
+use Rattle.vc_push_rules.proofs.FrameLemmas.{objects-of_slot, refs-of_slot}
+use Rattle.vc_quarantine.proofs.NumberLemmas.{agreement_kept}
+use Rattle.vc_quarantine.specs.Learning.{IsLearnt, IsOfWhole, Learnt}
+use Rattle.vc_push_rules.specs.Quarantine.{quarantine_folder}
 use Rattle.vc_store.specs.Store.{objects}
 use Rattle.vc_node.specs.Awaited.{AwaitedText}
 use Rattle.vc_node.specs.CloneFaults.{is_fault, of_exchange, up_after}

@@ -17,7 +17,7 @@ use Rattle.vc_store.specs.Store.{objects, object_path, named, stored as stored_f
 use Rattle.vc_store.specs.declared.faults.StoreFault.TheVariants.{Damaged}
 use Rattle.vc_object.specs.declared.id.ObjectId.{ObjectId}
 use Rattle.vc_graph.specs.Overlay.{with_carried}
-use Rattle.vc_session.specs.Quarantine.{objects_seen, quarantine_path, quarantined}
+use Rattle.vc_push_rules.specs.Quarantine.{objects_seen, quarantine_path, quarantined}
 
 named_sound : (id : ObjectId) (q o : StoredObject) (b : Bool) → ◌≡◌ {A = Option StoredObject} (result_ok (cond b (Ok q) (Err (Damaged id)))) (Some o) → q ≡ o
 named_sound id q o true h = cc

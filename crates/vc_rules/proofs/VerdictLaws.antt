@@ -17,7 +17,7 @@ use Rattle.vc_object.specs.declared.id.ObjectId.{ObjectId}
 use Rattle.vc_push.specs.Push.{CommandText, zero_id}
 use Rattle.vc_push.specs.declared.reason.Reason.{Reason}
 use Rattle.vc_push.specs.declared.reason.Reason.TheVariants.{BadName, OutsideRefs, DeletionProhibited, MissingObjects, NotACommit, NonFastForward, AlreadyExists, NameConflict, Stale, UnpackerError}
-use Rattle.vc_session.specs.Verdict.{CheckNeeds, FirstUnmet, check_reasons, is_branch, is_inside, is_tag}
+use Rattle.vc_push_rules.specs.Verdict.{CheckNeeds, FirstUnmet, check_reasons, is_branch, is_inside, is_tag}
 use Rattle.vc_rules.specs.Git.{git}
 use Rattle.vc_rules.specs.Verdicts.{AreFoundAt, CheckNeedsAgree, ChecksAgree, machine_command, machine_reason}
 use Rattle.vc_rules.proofs.ReachLemmas.{closed_from, closed_to, history_from, history_to, line_from, line_to}

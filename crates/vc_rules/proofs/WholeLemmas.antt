@@ -14,8 +14,8 @@ use Rattle.vc_rules.specs.OpenPushes.{HoldsContent}
 use Rattle.vc_rules.proofs.ReachLemmas.{closed_to, history_to}
 use Rattle.vc_rules.proofs.RefLemmas.{that_id}
 use Rattle.vc_rules.proofs.SoundLemmas.{objects_sound}
-use Rattle.vc_session.specs.Known.{AreRefsWhole}
-use Rattle.vc_session.specs.Verdict.{HasHistory, is_tag}
+use Rattle.vc_push_rules.specs.Known.{AreRefsWhole}
+use Rattle.vc_push_rules.specs.Verdict.{HasHistory, is_tag}
 use Rattle.vc_store.specs.Store.{objects}
 
 pub refs_whole : (content : FileMap) (r : Repository) → HoldsContent content r → IsSound git r → AreRefsWhole content

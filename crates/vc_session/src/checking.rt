@@ -6,20 +6,19 @@ ghost use Rattle.vc_files.specs.Failures.{Wears};
 ghost use Rattle.vc_graph.specs.GraphFault.{IsMet};
 ghost use Rattle.vc_push.specs.PushView.{command_of, commands_of};
 ghost use Rattle.vc_session.specs.Judged.{ChecksEach, ChecksOne, ChecksPush, WhereNumbered};
-ghost use Rattle.vc_session.specs.Known.{AreWhole};
-ghost use Rattle.vc_session.specs.Session.{MayBeSetWhere, is_passing};
+ghost use Rattle.vc_quarantine.specs.Known.{AreWhole};
+ghost use Rattle.vc_push_rules.specs.Session.{MayBeSetWhere, is_passing};
 ghost use Rattle.vc_session.specs.SessionFault.{IsRefusedCheck};
-ghost use Rattle.vc_session.specs.Verdict.{MayBeSet};
+ghost use Rattle.vc_push_rules.specs.Verdict.{MayBeSet};
 
 use crate::fault::SessionFault;
 use crate::judging::judge;
-use crate::known::Known;
-use crate::seen::PushObjects;
-use crate::stage::Verdict;
 use std::alloc::Global;
 use vc_files::{Fault, Files};
 use vc_history::{Commits, Generations};
 use vc_push::Command;
+use vc_push_rules::Verdict;
+use vc_quarantine::{Known, PushObjects};
 use vc_store::StoreFault;
 
 // What the check makes of the verdict on a command.

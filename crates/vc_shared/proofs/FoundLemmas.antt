@@ -18,7 +18,7 @@ use Rattle.vc_rev.specs.Grammar.{ExprText, IsExpr}
 use Rattle.vc_rev.specs.declared.refusal.RevFault.{RevFault}
 use Rattle.vc_rev.specs.declared.refusal.RevFault.TheVariants.{Missing, NotACommit, Refused, Source}
 use Rattle.vc_rev.specs.declared.refusal.SourceFault.TheVariants.{Store}
-use Rattle.vc_session.specs.Session.{SessionText}
+use Rattle.vc_push_rules.specs.Session.{SessionText}
 use Rattle.vc_store.specs.declared.faults.StoreFault.TheVariants as store
 use Rattle.vc_shared.proofs.ResolvingLemmas.{values_answer}
 use Rattle.vc_shared.specs.Calls.{AnswersShared}

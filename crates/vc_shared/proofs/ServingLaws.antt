@@ -33,7 +33,7 @@ use Rattle.vc_local.specs.Machine.{failure_of}
 use Rattle.vc_object.specs.declared.id.ObjectId.{ObjectId}
 use Rattle.vc_pkt.specs.Message.{IsSpelledBy}
 use Rattle.vc_rules.specs.Git.{git}
-use Rattle.vc_session.specs.Session.{SessionText}
+use Rattle.vc_push_rules.specs.Session.{SessionText}
 use Rattle.vc_shared.proofs.CallLemmas.{Leads, fault_leads, refused_leads}
 use Rattle.vc_shared.proofs.ServingFaults.{no_blame}
 use Rattle.vc_shared.proofs.ServingPacks.{brought, machine_first, machine_pack, machine_sent, machine_wants, not_ours, ours_there, written_pack}

@@ -15,7 +15,7 @@ ghost use Rattle.vc_refs.specs.Packing.{HasLoose, IsPackedFrom};
 ghost use Rattle.vc_repository.specs.Resolving.{DenotesIn};
 ghost use Rattle.vc_rev.specs.Grammar.{IsExpr};
 ghost use Rattle.vc_rev.specs.Views.{expr_view};
-ghost use Rattle.vc_session.specs.Learning.{IsNothing};
+ghost use Rattle.vc_quarantine.specs.Learning.{IsNothing};
 ghost use Rattle.vc_shared.specs.AcceptFault.{TellsDevice as TellsAcceptDevice, is_fault as is_accept_fault, up_after as accept_up_after};
 ghost use Rattle.vc_shared.specs.Accepting.{IsRefusedBytes, IsToWrite};
 ghost use Rattle.vc_shared.specs.Arriving.{KeepsAtLoss};
@@ -57,7 +57,7 @@ impl<F: Files> Model for Shared<F> {
     ghost use Rattle.std.specs.Coded.{codes};
     ghost use Rattle.vc_history.specs.Stored.{AgreesIn};
     ghost use Rattle.vc_history.specs.contracts.generations.Generations as known;
-    ghost use Rattle.vc_session.specs.Learning.{learnt_in};
+    ghost use Rattle.vc_quarantine.specs.Learning.{learnt_in};
     ghost use Rattle.vc_shared.specs.Holding.{SharedText};
     ghost use Rattle.vc_shared.specs.Slots.{AreTellable};
 

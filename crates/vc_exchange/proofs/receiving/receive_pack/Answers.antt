@@ -18,13 +18,13 @@ use Rattle.vc_refs.specs.Refs.{refs}
 use Rattle.vc_rules.proofs.JoinLemmas.{joined}
 use Rattle.vc_rules.specs.Git.{git}
 use Rattle.vc_rules.specs.OpenPushes.{HoldsContent}
-use Rattle.vc_session.proofs.CleanLemmas.{bad_same, bad_then}
-use Rattle.vc_session.proofs.FrameLemmas.{refs-of_objects}
-use Rattle.vc_session.specs.Carrying.{objects_in}
-use Rattle.vc_session.specs.Clean.{MakesNoneBad}
-use Rattle.vc_session.specs.Known.{AreWhole}
-use Rattle.vc_session.specs.Learning.{learnt_in}
-use Rattle.vc_session.specs.declared.known.Known.{Known}
+use Rattle.vc_quarantine.proofs.CleanLemmas.{bad_same, bad_then}
+use Rattle.vc_push_rules.proofs.FrameLemmas.{refs-of_objects}
+use Rattle.vc_push_rules.specs.Carrying.{objects_in}
+use Rattle.vc_quarantine.specs.Clean.{MakesNoneBad}
+use Rattle.vc_quarantine.specs.Known.{AreWhole}
+use Rattle.vc_quarantine.specs.Learning.{learnt_in}
+use Rattle.vc_quarantine.specs.declared.known.Known.{Known}
 use Rattle.vc_store.specs.Store.{objects}
 use Rattle.vc_exchange.specs.Faults.{BlamesFiles, from_answer, from_store}
 use Rattle.vc_exchange.specs.Moving.{IsRight, told_in}

@@ -1,6 +1,7 @@
 use Rattle.std.proofs.Common.{◌≡◌, rules, subst}
 use Rattle.vc_files.specs.FileMap.{FileMap}
-use Rattle.vc_session.specs.Known.{AreRefsWhole, AreWhole}
+use Rattle.vc_push_rules.specs.Known.{AreRefsWhole}
+use Rattle.vc_quarantine.specs.Known.{AreWhole}
 use Rattle.vc_store.specs.Store.{objects}
 use Rattle.vc_local.specs.GoodCommit.{BlamesCommit, BlamesCommitBeyond}
 use Rattle.vc_local.proofs.CommitLemmas.{blames_beyond}

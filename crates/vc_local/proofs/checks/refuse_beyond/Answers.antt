@@ -7,7 +7,7 @@ use Rattle.vc_graph.specs.Graph.{IsClosedUnder, ReachedFrom}
 use Rattle.vc_graph.specs.GraphFault.{IsMet}
 use Rattle.vc_graph.specs.StoreState.{StoreState}
 use Rattle.vc_object.specs.ObjectMap.{links_in, parents_in}
-use Rattle.vc_session.specs.Known.{AreWhole}
+use Rattle.vc_quarantine.specs.Known.{AreWhole}
 use Rattle.vc_store.specs.Store.{objects, IsDamaged}
 use Rattle.vc_local.specs.GoodCommit.{IsComplete, BlamesCommitBeyond}
 use Rattle.vc_local.specs.NodeFault.{of_history}
