@@ -3,8 +3,9 @@ use crate::answers::{Answer, word};
 use crate::ids::{bytes_of, id_in, two};
 use bstr::ByteSlice;
 use std::alloc::Global;
-use vc_history::{Commits, Generations};
+use vc_history::Generations;
 use vc_object::ObjectId;
+use vc_object_map::Commits;
 use vc_push::Command;
 use vc_session::{Known, judge};
 

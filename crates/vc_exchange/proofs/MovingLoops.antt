@@ -6,7 +6,7 @@ use Rattle.std.specs.Global.{Global}
 use Rattle.std.proofs.lemmas.List.{take-append-drop, take_more}
 use Rattle.vc_files.specs.FileMap.{FileMap, SameOutside}
 use Rattle.vc_files.specs.declared.faults.Fault.{Fault}
-use Rattle.vc_graph.specs.Graph.{IsClosedUnder}
+use Rattle.vc_object_map.specs.Graph.{IsClosedUnder}
 use Rattle.vc_history.specs.Stored.{AgreesIn}
 use Rattle.vc_history.specs.declared.generations.Generations.{Generations}
 use Rattle.vc_model.specs.Message.{Message}
@@ -22,8 +22,8 @@ use Rattle.vc_session.specs.declared.known.Known.{Known}
 use Rattle.vc_session.proofs.FrameLemmas.{objects-same}
 use Rattle.vc_session.proofs.NumberLemmas.{agreement_beside}
 use Rattle.vc_session.specs.Clean.{MakesNoneBad}
-use Rattle.vc_store.specs.Store.{object_path, objects}
-use Rattle.vc_store.specs.declared.faults.StoreFault.TheVariants as of_store
+use Rattle.vc_object_map.specs.Store.{object_path, objects}
+use Rattle.vc_object_map.specs.declared.faults.StoreFault.TheVariants as of_store
 use Rattle.vc_exchange.specs.Faults.{BlamesFiles}
 use Rattle.vc_exchange.specs.Moving.{Told, told_in}
 use Rattle.vc_exchange.specs.Receiving.{BlamesPack}

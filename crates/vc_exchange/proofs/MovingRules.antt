@@ -22,7 +22,7 @@ use Rattle.vc_object.specs.Object.{IsObject}
 use Rattle.vc_object.specs.ObjectId.{id_eq}
 use Rattle.vc_object.specs.ObjectMap.{ObjectMap}
 use Rattle.vc_object.specs.declared.id.ObjectId.{ObjectId}
-use Rattle.vc_graph.specs.Graph as graph
+use Rattle.vc_object_map.specs.Graph as graph
 use Rattle.vc_refname.proofs.BrokenRules.{is_ref_name-from_legal, legal_from_is_ref_name}
 use Rattle.vc_refname.proofs.Tracking.{tracking_legal}
 use Rattle.vc_refname.specs.RefName.{is_ref_name, tracking_name}

@@ -6,9 +6,9 @@ use Rattle.std.proofs.lemmas.List.{take_all}
 use Rattle.vc_pack.specs.Reached.{KeepsObjects}
 use Rattle.vc_fetch.specs.Pack.{PackText}
 use Rattle.vc_files.specs.FileMap.{FileMap, SameOutside}
-use Rattle.vc_graph.specs.Graph.{IsClosedUnder}
-use Rattle.vc_graph.specs.GraphFault.{IsMet}
-use Rattle.vc_graph.specs.Overlay.{with_carried}
+use Rattle.vc_object_map.specs.Graph.{IsClosedUnder}
+use Rattle.vc_object_map.specs.StoreFault.{IsMet}
+use Rattle.vc_object_map.specs.Overlay.{with_carried}
 use Rattle.vc_message.specs.Machine.{IsPack}
 use Rattle.vc_model.specs.Clone.{Awaited}
 use Rattle.vc_model.specs.Message.{Message}
@@ -25,9 +25,9 @@ use Rattle.vc_session.specs.Migrating.{IsFrontMigrated, migrated}
 use Rattle.vc_session.specs.PushState.{IsDamagedSeen}
 use Rattle.vc_session.specs.Quarantine.{objects_seen, quarantine_folder, quarantined}
 use Rattle.vc_session.specs.SessionFault.{BlamesMigration}
-use Rattle.vc_store.specs.Store.{objects}
-use Rattle.vc_store.specs.declared.faults.StoreFault.{StoreFault}
-use Rattle.vc_store.specs.declared.faults.StoreFault.TheVariants as of_store
+use Rattle.vc_object_map.specs.Store.{objects}
+use Rattle.vc_object_map.specs.declared.faults.StoreFault.{StoreFault}
+use Rattle.vc_object_map.specs.declared.faults.StoreFault.TheVariants as of_store
 use Rattle.vc_exchange.specs.Deeds.{IsCutShort, IsReceived}
 use Rattle.vc_exchange.specs.Deeds.IsCutShort.{at_first, within}
 use Rattle.vc_exchange.specs.Faults.{BlamesObjects, from_store}

@@ -5,7 +5,7 @@ ghost use Rattle.vc_files.specs.Failures.{Wears};
 ghost use Rattle.vc_history.specs.Stored.{AgreesIn};
 ghost use Rattle.vc_session.specs.Known.{AreRefsWhole, AreWhole};
 ghost use Rattle.vc_session.specs.Learning.{learnt_in};
-ghost use Rattle.vc_store.specs.Store.{objects};
+ghost use Rattle.vc_object_map.specs.Store.{objects};
 
 use std::alloc::Global;
 use vc_files::{Fault, Files};

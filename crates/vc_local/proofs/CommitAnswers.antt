@@ -30,7 +30,7 @@ use Rattle.vc_refs.specs.Head.{head_of}
 use Rattle.vc_refs.specs.declared.heads.Head.{Head}
 use Rattle.vc_refs.specs.declared.heads.Head.TheVariants as heads
 use Rattle.vc_session.specs.Known.{AreRefsWhole}
-use Rattle.vc_store.specs.Store.{objects, with_object, with_objects}
+use Rattle.vc_object_map.specs.Store.{objects, with_object, with_objects}
 use Rattle.vc_local.specs.Commit.{IsCommitted, WritesCommit, made_body, moved, parents_of_commit}
 use Rattle.vc_local.specs.IndexFile.{SpellsIndex}
 use Rattle.vc_rules.specs.Git.{git, machine_entry, stored_of}

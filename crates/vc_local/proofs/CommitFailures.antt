@@ -14,8 +14,8 @@ use Rattle.vc_object.specs.declared.kind.Kind.TheVariants as kinds
 use Rattle.vc_refs.specs.Head.{head_of}
 use Rattle.vc_refs.specs.declared.faults.RefFault.TheVariants as ref
 use Rattle.vc_session.specs.Known.{AreRefsWhole}
-use Rattle.vc_store.specs.declared.faults.StoreFault.{StoreFault}
-use Rattle.vc_store.specs.declared.faults.StoreFault.TheVariants as store
+use Rattle.vc_object_map.specs.declared.faults.StoreFault.{StoreFault}
+use Rattle.vc_object_map.specs.declared.faults.StoreFault.TheVariants as store
 use Rattle.vc_local.specs.Commit.{parents_of_commit}
 use Rattle.vc_local.specs.GoodCommit.{BlamesCommit}
 use Rattle.vc_local.specs.IndexFile.{SpellsIndex, BlamesIndex}

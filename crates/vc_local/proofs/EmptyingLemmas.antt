@@ -31,7 +31,7 @@ use Rattle.vc_refs.proofs.LayeredListingLemmas.{head_of-same}
 use Rattle.vc_session.proofs.CleanLemmas.{bad_loses}
 use Rattle.vc_session.proofs.FrameLemmas.{refs-kept}
 use Rattle.vc_session.proofs.QuarantineLemmas.{Taken, taken_left, none_left}
-use Rattle.vc_store.specs.Store.{object_path, objects}
+use Rattle.vc_object_map.specs.Store.{object_path, objects}
 use Rattle.vc_model.specs.Clone.Awaited.{Nothing}
 use Rattle.vc_local.proofs.CleanLemmas.{clean_on as kept_on, clean_then}
 use Rattle.vc_local.proofs.OpeningLaws.{made_ready}

@@ -16,8 +16,8 @@ ghost use Rattle.vc_model.specs.Message.{Message as Sent};
 ghost use Rattle.vc_model.specs.Question.Question.{PackRefs, Resolve, Unread};
 ghost use Rattle.vc_push.specs.ReportView.{report_text};
 ghost use Rattle.vc_repository.specs.Resolving.{DenotesIn};
-ghost use Rattle.vc_rev.specs.Grammar.{IsExpr};
-ghost use Rattle.vc_rev.specs.Views.{expr_view};
+ghost use Rattle.vc_expression.specs.Grammar.{IsExpr};
+ghost use Rattle.vc_expression.specs.Views.{expr_view};
 ghost use Rattle.vc_node.specs.Arriving.{KeepsAtLoss};
 ghost use Rattle.vc_node.specs.Awaited.{nothing};
 ghost use Rattle.vc_node.specs.Node.{AnswersCall, AnswersCommand, AnswersCommandIfSound, AnswersFirst, AnswersStaging, AnswersText, IsFresh, KeepsNode, Looks, MayCall, MayCommand, MayCommandIfSound, MayCommit, MayStaging, MayText, PushesNoZero, ReceivesNext, Settles, SettlesMessage, SettlesNext, SettlesTaken, commit_task};
@@ -51,6 +51,7 @@ use crate::{CloneFault, ReceiveFault, Received, arriving, exchanging};
 use std::alloc::Global;
 use std::marker::Model;
 use vc_exchange::{PushItem, list_message, push_message};
+use vc_expression::Expr;
 use vc_files::{Files, FusedFiles};
 use vc_history::Generations;
 use vc_index::Index;
@@ -61,7 +62,6 @@ use vc_pack::Reached;
 use vc_push::Report;
 use vc_refname::RefName;
 use vc_refs::Head;
-use vc_rev::Expr;
 
 /// A clone over files: objects, refs, HEAD and an index. Once a call has ended in a fault, each later one but
 /// [`close`](CloneNode::close) is refused (112), until the files are opened again. After a push it keeps in memory the names of what

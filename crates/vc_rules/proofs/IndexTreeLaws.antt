@@ -31,7 +31,7 @@ use Rattle.vc_object.specs.declared.mode.Mode.{Mode}
 use Rattle.vc_object.specs.declared.mode.Mode.TheVariants as modes
 use Rattle.vc_object.proofs.Reading.{entries_again}
 use Rattle.vc_object.proofs.IdLemmas.{id_eq-same}
-use Rattle.vc_store.specs.Store.{with_object, with_objects}
+use Rattle.vc_object_map.specs.Store.{with_object, with_objects}
 use Rattle.vc_rules.specs.Git.{git, machine_object, stored_of, mode_number, machine_entry, no_objects}
 use Rattle.vc_rules.specs.Trees.{ListsTrees, HoldsTrees, ShowsIndex}
 use Rattle.vc_rules.specs.Laws.{IndexTreesGiveOne, IndexTreesAreNamed, IndexTreesAreFormed, IndexTreesAreClosed}

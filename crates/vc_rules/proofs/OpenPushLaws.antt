@@ -7,7 +7,7 @@ use Rattle.std.specs.Ordering.{nat_cmp}
 use Rattle.std.specs.Cmp.Lexicographic.{slice_cmp}
 use Rattle.vc_files.specs.FileMap.{FileMap, SameOutside}
 use Rattle.vc_format.specs.Git.{id_of_bytes}
-use Rattle.vc_graph.specs.Overlay.{with_carried}
+use Rattle.vc_object_map.specs.Overlay.{with_carried}
 use Rattle.vc_model.specs.Node.{Reply}
 use Rattle.vc_model.specs.Node.Reply.{Passed, MigratedAll, Updated}
 use Rattle.vc_model.specs.Object.{Id, Object, Objects, stored, over}
@@ -28,7 +28,7 @@ use Rattle.vc_push.specs.declared.reason.Reason.{Reason}
 use Rattle.vc_refs.specs.Head.{KeepsTheRest}
 use Rattle.vc_refs.specs.RefMap.{RefMap}
 use Rattle.vc_refs.specs.Refs.{refs}
-use Rattle.vc_store.specs.Store.{objects}
+use Rattle.vc_object_map.specs.Store.{objects}
 use Rattle.vc_session.proofs.FrameLemmas.{objects-of_ref, objects-of_slot, quarantined-of_ref, quarantined-of_slot, refs-of_objects, refs-of_slot}
 use Rattle.vc_session.proofs.QuarantineLemmas.{quarantined-same}
 use Rattle.vc_session.specs.Carrying.{HoldsNames, objects_of_push}

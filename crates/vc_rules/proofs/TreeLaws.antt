@@ -5,8 +5,8 @@ use Rattle.std.specs.FinMap.{get, same_map, slice_cmp-IsAntisymmetric, nat_cmp-I
 use Rattle.std.specs.Cmp.Lexicographic.{nat_list_cmp_total}
 use Rattle.std.proofs.lemmas.List.Elements.{Contains-append_right, Contains-append_cases, Contains-push_cases}
 use Rattle.vc_format.specs.Git.{id_of_bytes}
-use Rattle.vc_graph.specs.Graph as graph
-use Rattle.vc_graph.specs.Graph.Reaches.{itself, onward}
+use Rattle.vc_object_map.specs.Graph as graph
+use Rattle.vc_object_map.specs.Graph.Reaches.{itself, onward}
 use Rattle.vc_index.specs.HeldFiles.{under}
 use Rattle.vc_index.specs.IndexMap.{IndexMap}
 use Rattle.vc_index.specs.Loading.{IsEntryOfTree, IsDue}

@@ -4,7 +4,7 @@ use Rattle.std.specs.List.{AllByRecursion, starts_with}
 use Rattle.std.proofs.lemmas.Bool.Decides.{Decides-eqb}
 use Rattle.std.proofs.lemmas.Slice.Eq.{starts_is}
 use Rattle.vc_format.specs.Git.{id_of_bytes}
-use Rattle.vc_graph.specs.Graph as graph
+use Rattle.vc_object_map.specs.Graph as graph
 use Rattle.vc_model.specs.Object.{Id, Lookup}
 use Rattle.vc_model.specs.Object as model
 use Rattle.vc_model.specs.Push as machine

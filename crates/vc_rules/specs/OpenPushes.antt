@@ -23,7 +23,7 @@ use Rattle.vc_push.specs.Report.{ReportText, ToldText, unpack_error}
 use Rattle.vc_push.specs.ReportView.{report_text}
 use Rattle.vc_push.specs.declared.reason.Reason.{Reason}
 use Rattle.vc_refs.specs.Refs.{refs}
-use Rattle.vc_store.specs.Store.{objects}
+use Rattle.vc_object_map.specs.Store.{objects}
 use Rattle.vc_session.specs.Carrying.{Carries, HoldsNames, objects_of_push}
 use Rattle.vc_session.specs.Quarantine.{quarantined}
 use Rattle.vc_session.specs.Session.{IsSession, SessionText}

@@ -12,7 +12,7 @@ use Rattle.vc_model.specs.Repository.{Index}
 use Rattle.vc_object.specs.Object.{object_name}
 use Rattle.vc_object.specs.Tree.{Entry as TreeEntry, spelling}
 use Rattle.vc_object.specs.declared.kind.Kind.TheVariants as kinds
-use Rattle.vc_store.specs.Store.{with_objects}
+use Rattle.vc_object_map.specs.Store.{with_objects}
 use Rattle.vc_rules.specs.Git.{machine_entry, stored_of, no_objects, layer_objects}
 
 -- the machine's index is this one

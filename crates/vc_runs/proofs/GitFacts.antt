@@ -17,7 +17,7 @@ use Rattle.vc_object.proofs.Reading.{entries_again}
 use Rattle.vc_object.specs.Links.{entry_links}
 use Rattle.vc_refname.specs.RefName.{is_ref_name, first_broken_rule}
 use Rattle.vc_refname.proofs.BrokenRules.{legal_from_is_ref_name}
-use Rattle.vc_store.specs.Store.{with_object}
+use Rattle.vc_object_map.specs.Store.{with_object}
 use Rattle.vc_index.specs.WrittenTrees.{tree_object}
 use Rattle.vc_index.specs.declared.entry.IndexEntry.{IndexEntry}
 use Rattle.vc_index.specs.FolderTrees.{NamesAll}
@@ -29,7 +29,7 @@ use Rattle.vc_object.specs.declared.mode.Mode.TheVariants as modes
 use Rattle.vc_rules.specs.Trees.{ShowsIndex}
 use Rattle.vc_rev.specs.Meaning.{or_refusal}
 use Rattle.vc_rev.specs.declared.refusal.Refusal.TheVariants.{Unknown}
-use Rattle.vc_rev.specs.Grammar.ExprText.{Object as BaseAndSteps}
+use Rattle.vc_expression.specs.Grammar.ExprText.{Object as BaseAndSteps}
 use Rattle.vc_format.specs.Git.{id_of_bytes, bytes_of_id, commit_text}
 use Rattle.vc_object.proofs.Names.{name_length, name_bytes, byte_of}
 use Rattle.vc_model.specs.Object.{Id, zero_id, Object, Objects, IsLine}

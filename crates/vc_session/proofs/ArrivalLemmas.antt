@@ -8,7 +8,7 @@ use Rattle.indexmap.proofs.CallerLemmas.{Contains-insert_key}
 use Rattle.indexmap.specs.IndexSet.{insert_key}
 use Rattle.vc_fetch.specs.Pack.{is_object}
 use Rattle.vc_files.specs.FileMap.{FileMap}
-use Rattle.vc_graph.proofs.WalkLemmas.{Contains-insert_all_old, Contains-insert_key_cases}
+use Rattle.vc_object_map.proofs.WalkLemmas.{Contains-insert_all_old, Contains-insert_key_cases}
 use Rattle.vc_object.proofs.IdLemmas.{id_eq-same, id_eq_equiv, id_ties}
 use Rattle.vc_object.specs.Decoding.{StoredObject}
 use Rattle.vc_object.specs.ObjectFault.{BodyFault}

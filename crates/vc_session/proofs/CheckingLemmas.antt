@@ -4,7 +4,7 @@ use Rattle.std.proofs.lemmas.List.{length-map, length-take-le, map_more, take_mo
 use Rattle.std.proofs.lemmas.Option.{get_or_from_slice_get, slice_get_within}
 use Rattle.std.specs.Prelude.{⊤}
 use Rattle.vc_files.specs.FileMap.{FileMap}
-use Rattle.vc_graph.specs.GraphFault.{IsMet}
+use Rattle.vc_object_map.specs.StoreFault.{IsMet}
 use Rattle.vc_object.specs.ObjectMap.{ObjectMap}
 use Rattle.vc_push.specs.Push.{CommandText}
 use Rattle.vc_push.specs.PushView.{command_of, commands_of}
@@ -12,8 +12,8 @@ use Rattle.vc_push.specs.declared.command.Command.{Command}
 use Rattle.vc_refs.specs.RefFault.{BlamesList}
 use Rattle.vc_refs.specs.declared.faults.RefFault.{RefFault}
 use Rattle.vc_refs.specs.declared.faults.RefFault.TheVariants as of_refs
-use Rattle.vc_store.specs.declared.faults.StoreFault.{StoreFault}
-use Rattle.vc_store.specs.declared.faults.StoreFault.TheVariants as of_store
+use Rattle.vc_object_map.specs.declared.faults.StoreFault.{StoreFault}
+use Rattle.vc_object_map.specs.declared.faults.StoreFault.TheVariants as of_store
 use Rattle.vc_session.specs.PushState.{IsDamagedSeen, SeenState}
 use Rattle.vc_session.specs.SessionFault.{IsRefusedCheck, from_refs, from_store}
 use Rattle.vc_session.specs.Session.{MayBeSetWhere, is_passing}

@@ -18,9 +18,9 @@ use Rattle.vc_refs.proofs.LayeredLemmas.{bad-same, bad_place, good_absent, packe
 use Rattle.vc_refs.specs.Head.{KeepsTheRest}
 use Rattle.vc_refs.specs.Refs.{IsBadRef, ChangesOnly, packed_map, packed_path}
 use Rattle.vc_store.proofs.PathLemmas.{named_by_path}
-use Rattle.vc_store.specs.Store.{IsDamaged, object_path, stored_in}
-use Rattle.vc_store.specs.declared.faults.StoreFault.{StoreFault}
-use Rattle.vc_store.specs.declared.faults.StoreFault.TheVariants.{Absent, Damaged}
+use Rattle.vc_object_map.specs.Store.{IsDamaged, object_path, stored_in}
+use Rattle.vc_object_map.specs.declared.faults.StoreFault.{StoreFault}
+use Rattle.vc_object_map.specs.declared.faults.StoreFault.TheVariants.{Absent, Damaged}
 use Rattle.vc_session.proofs.FrameLemmas.{damage-of_ref, damage-of_slot, damage-same, ref_no_object, ref_not_there, slot_of}
 use Rattle.vc_session.proofs.QuarantineLemmas.{outside_put_there, put_there, same_path, same_place}
 use Rattle.vc_session.specs.Clean.{IsQuarantineClean, MakesNoneBad}

@@ -13,10 +13,10 @@ use Rattle.vc_object.specs.ObjectMap.{ObjectMap}
 use Rattle.vc_object.specs.declared.id.ObjectId.{ObjectId}
 use Rattle.vc_store.proofs.PathLemmas.{name_in-object_path, named_by_path}
 use Rattle.vc_store.proofs.StoreLemmas.{objects-absent}
-use Rattle.vc_store.specs.Store.{IsDamaged, name_in, object_path, objects, stored_in, with_file, with_object}
-use Rattle.vc_store.specs.StoreFault.{IsFault, IsOfDamage, IsRefused}
-use Rattle.vc_store.specs.declared.faults.StoreFault.{StoreFault}
-use Rattle.vc_store.specs.declared.faults.StoreFault.TheVariants.{Absent, BadObject, Damaged, Fault}
+use Rattle.vc_object_map.specs.Store.{IsDamaged, name_in, object_path, objects, stored_in, with_file, with_object}
+use Rattle.vc_object_map.specs.StoreFault.{IsFault, IsOfDamage, IsRefused}
+use Rattle.vc_object_map.specs.declared.faults.StoreFault.{StoreFault}
+use Rattle.vc_object_map.specs.declared.faults.StoreFault.TheVariants.{Absent, BadObject, Damaged, Fault}
 use Rattle.vc_session.proofs.QuarantineLemmas.{quarantined-same}
 use Rattle.vc_session.specs.Quarantine.{IsDamagedThere, quarantine_path}
 use Rattle.vc_session.specs.SessionFault.{BlamesMigration}

@@ -11,7 +11,7 @@ use Rattle.std.proofs.lemmas.Fmt.{decimal_injective, decimal_is_IsNumeral}
 use Rattle.std.proofs.lemmas.Map.Views.{list_any-from_Contains}
 use Rattle.hex.specs.Hex.{encode_lower}
 use Rattle.vc_files.specs.FileMap.{FileMap, SameOutside}
-use Rattle.vc_graph.specs.Overlay.{with_carried}
+use Rattle.vc_object_map.specs.Overlay.{with_carried}
 use Rattle.vc_lemmas.proofs.Texts.{starts_with-append, split_from_starts}
 use Rattle.vc_object.proofs.IdLemmas.{id_eq_equiv}
 use Rattle.vc_object.specs.Decoding.{StoredObject}
@@ -20,7 +20,7 @@ use Rattle.vc_object.specs.declared.id.ObjectId.{ObjectId}
 use Rattle.vc_refs.proofs.LayeredLemmas.{refs-of_files}
 use Rattle.vc_refs.specs.Head.{KeepsTheRest}
 use Rattle.vc_refs.specs.Refs.{packed_path, refs}
-use Rattle.vc_store.specs.Store.{IsDamaged, object_path, objects, stored_in}
+use Rattle.vc_object_map.specs.Store.{IsDamaged, object_path, objects, stored_in}
 use Rattle.vc_session.proofs.QuarantineLemmas.{quarantined-none, same_at}
 use Rattle.vc_session.specs.Carrying.{HoldsNames}
 use Rattle.vc_session.specs.Migrating.{IsFrontMigrated, migrated}

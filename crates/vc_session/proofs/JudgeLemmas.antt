@@ -1,8 +1,8 @@
 -- The verdict on a command at the check, from what each part of it found.
 use Rattle.std.proofs.Common.{◌≡◌, inl, inr, Bool, true, false, cond, List, [], ◌∷◌, Option, Some, None, IsSome, refl, sym, ◌∙◌, true≢false}
 use Rattle.vc_format.specs.Git.{git_is_legal}
-use Rattle.vc_graph.proofs.WalkLemmas.{Reaches-from_one}
-use Rattle.vc_graph.specs.Graph.{IsClosed, ReachedFrom}
+use Rattle.vc_object_map.proofs.WalkLemmas.{Reaches-from_one}
+use Rattle.vc_object_map.specs.Graph.{IsClosed, ReachedFrom}
 use Rattle.vc_object.proofs.ObjectMaps.{parents_in-none}
 use Rattle.vc_object.specs.ObjectId.{id_eq}
 use Rattle.vc_object.specs.ObjectMap.{ObjectMap, links_in, parents_in}

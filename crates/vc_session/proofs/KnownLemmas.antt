@@ -19,10 +19,10 @@ use Rattle.indexmap.specs.IndexSet.{insert_key}
 use Rattle.vc_history.proofs.GenerationLemmas.{Agrees-stays}
 use Rattle.vc_history.specs.Generation.{Agrees}
 use Rattle.vc_files.specs.FileMap.{FileMap}
-use Rattle.vc_graph.proofs.OverlayLemmas.{IsClosedUnder-more, IsClosedUnder-with_carried}
-use Rattle.vc_graph.proofs.WalkLemmas.{Contains-insert_key_cases}
-use Rattle.vc_graph.specs.Graph.{IsClosedUnder}
-use Rattle.vc_graph.specs.Overlay.{with_carried}
+use Rattle.vc_object_map.proofs.OverlayLemmas.{IsClosedUnder-more, IsClosedUnder-with_carried}
+use Rattle.vc_object_map.proofs.WalkLemmas.{Contains-insert_key_cases}
+use Rattle.vc_object_map.specs.Graph.{IsClosedUnder}
+use Rattle.vc_object_map.specs.Overlay.{with_carried}
 use Rattle.vc_object.proofs.IdLemmas.{id_eq-same}
 use Rattle.vc_object.specs.Decoding.{StoredObject}
 use Rattle.vc_object.specs.Links.{parents_of}
@@ -34,7 +34,7 @@ use Rattle.vc_refs.specs.Refs.{refs}
 use Rattle.vc_session.specs.Known.{AreRefsWhole, AreWhole}
 use Rattle.vc_session.specs.Verdict.{is_tag}
 use Rattle.vc_session.specs.declared.known.Known.{Known}
-use Rattle.vc_store.specs.Store.{objects}
+use Rattle.vc_object_map.specs.Store.{objects}
 
 -- ---- what is whole as stored is so with what is carried
 module _ (stored carried : ObjectMap) where

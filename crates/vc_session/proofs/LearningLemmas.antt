@@ -14,7 +14,7 @@ use Rattle.vc_history.specs.declared.fault.HistoryFault.TheVariants.{Missing, No
 use Rattle.vc_history.specs.declared.generations.Generations.{Generations}
 use Rattle.vc_files.specs.FileMap.{FileMap}
 use Rattle.vc_files.specs.declared.faults.Fault.{Fault}
-use Rattle.vc_graph.specs.Graph.{IsClosed, ReachedFrom, Reaches}
+use Rattle.vc_object_map.specs.Graph.{IsClosed, ReachedFrom, Reaches}
 use Rattle.vc_object.proofs.ObjectMaps.{parents_in-none}
 use Rattle.vc_object.specs.ObjectMap.{parents_in}
 use Rattle.vc_object.specs.ObjectId.{is_id}
@@ -22,8 +22,8 @@ use Rattle.vc_object.specs.declared.id.ObjectId.{ObjectId}
 use Rattle.vc_push.specs.Push.{CommandText}
 use Rattle.vc_push.specs.PushView.{command_of, commands_of}
 use Rattle.vc_push.specs.declared.command.Command.{Command}
-use Rattle.vc_store.specs.Store.{IsDamaged, objects}
-use Rattle.vc_store.specs.declared.faults.StoreFault.TheVariants as store
+use Rattle.vc_object_map.specs.Store.{IsDamaged, objects}
+use Rattle.vc_object_map.specs.declared.faults.StoreFault.TheVariants as store
 use Rattle.vc_session.specs.Learning.{IsLearnt, IsOfWhole, KeepsNumbers, tip_of, tips_of}
 use Rattle.vc_session.specs.declared.stage.Verdict.{Verdict}
 

@@ -7,14 +7,14 @@ use Rattle.std.specs.Option.{option_or}
 use Rattle.std.specs.Result.{result_ok}
 use Rattle.std.proofs.lemmas.List.Folds.{list_any-append}
 use Rattle.vc_files.specs.FileMap.{FileMap, SameOutside}
-use Rattle.vc_graph.specs.Overlay.{with_carried}
+use Rattle.vc_object_map.specs.Overlay.{with_carried}
 use Rattle.vc_object.proofs.IdLemmas.{id_eq-same}
 use Rattle.vc_object.specs.Decoding.{StoredObject, decoded}
 use Rattle.vc_object.specs.Object.{object_name}
 use Rattle.vc_object.specs.ObjectId.{id_eq, is_id}
 use Rattle.vc_object.specs.declared.id.ObjectId.{ObjectId}
-use Rattle.vc_store.specs.Store.{named, objects, stored_in, with_object}
-use Rattle.vc_store.specs.declared.faults.StoreFault.TheVariants.{Damaged}
+use Rattle.vc_object_map.specs.Store.{named, objects, stored_in, with_object}
+use Rattle.vc_object_map.specs.declared.faults.StoreFault.TheVariants.{Damaged}
 use Rattle.vc_session.proofs.QuarantineLemmas.{quarantined-same}
 use Rattle.vc_session.specs.Migrating.{migrated}
 use Rattle.vc_session.specs.Quarantine.{quarantine_path, quarantined}

@@ -6,11 +6,11 @@ use Rattle.vc_history.proofs.StoredLemmas.{Agrees-more}
 use Rattle.vc_history.specs.Numbering.{numbers}
 use Rattle.vc_history.specs.Stored.{AgreesIn, KeepsAgreement}
 use Rattle.vc_files.specs.FileMap.{FileMap, SameOutside}
-use Rattle.vc_graph.specs.Overlay.{with_carried}
+use Rattle.vc_object_map.specs.Overlay.{with_carried}
 use Rattle.vc_object.specs.Decoding.{StoredObject}
 use Rattle.vc_object.specs.declared.id.ObjectId.{ObjectId}
 use Rattle.vc_refs.specs.Head.{KeepsOutside, KeepsTheRest}
-use Rattle.vc_store.specs.Store.{object_path, objects}
+use Rattle.vc_object_map.specs.Store.{object_path, objects}
 use Rattle.vc_session.proofs.FrameLemmas.{front-some, migrated-some, objects-same}
 use Rattle.vc_session.specs.Migrating.{IsFrontMigrated, migrated}
 use Rattle.vc_session.specs.Quarantine.{objects_seen, quarantine_folder, quarantined}

@@ -25,8 +25,8 @@ use Rattle.vc_object.specs.ObjectId.{id_eq, is_id, is_name}
 use Rattle.vc_object.specs.declared.id.ObjectId.{ObjectId}
 use Rattle.vc_object.specs.declared.kind.Kind.{Kind}
 use Rattle.vc_refs.proofs.PathLemmas.{is_among, is_among-paths_under}
-use Rattle.vc_store.specs.Store.{named, object_path, stored_in}
-use Rattle.vc_store.specs.declared.faults.StoreFault.TheVariants.{Damaged}
+use Rattle.vc_object_map.specs.Store.{named, object_path, stored_in}
+use Rattle.vc_object_map.specs.declared.faults.StoreFault.TheVariants.{Damaged}
 use Rattle.vc_store.proofs.StoreLemmas.{one_name}
 use Rattle.vc_session.specs.Quarantine.{IsDropped, OnlyLoses, quarantine_folder, quarantine_path, quarantined}
 

@@ -2,14 +2,14 @@
 use Rattle.std.proofs.Common.{◌≡◌, ℕ, Some, None, ap}
 use Rattle.std.specs.Option.{option_or}
 use Rattle.vc_files.specs.FileMap.{FileMap}
-use Rattle.vc_graph.specs.Overlay.{with_carried}
+use Rattle.vc_object_map.specs.Overlay.{with_carried}
 use Rattle.vc_object.specs.Decoding.{StoredObject}
 use Rattle.vc_object.specs.declared.id.ObjectId.{ObjectId}
 use Rattle.vc_session.specs.Quarantine.{objects_seen, quarantined}
-use Rattle.vc_store.specs.Store.{objects}
-use Rattle.vc_store.specs.StoreFault.{IsRefused}
-use Rattle.vc_store.specs.declared.faults.StoreFault.{StoreFault}
-use Rattle.vc_store.specs.declared.faults.StoreFault.TheVariants.{Absent, BadObject, Damaged, Fault}
+use Rattle.vc_object_map.specs.Store.{objects}
+use Rattle.vc_object_map.specs.StoreFault.{IsRefused}
+use Rattle.vc_object_map.specs.declared.faults.StoreFault.{StoreFault}
+use Rattle.vc_object_map.specs.declared.faults.StoreFault.TheVariants.{Absent, BadObject, Damaged, Fault}
 
 module _ (content : FileMap) (slot : ℕ) (id : ObjectId) where
   pub seen_stored : (object : StoredObject) → objects content id ≡ Some object → objects_seen content slot id ≡ Some object

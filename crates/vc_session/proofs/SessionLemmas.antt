@@ -14,8 +14,8 @@ use Rattle.vc_push.specs.declared.command.Command.{Command}
 use Rattle.vc_push.specs.declared.reason.Reason.{Reason}
 use Rattle.vc_refs.specs.RefMap.{RefMap}
 use Rattle.vc_refs.specs.Refs.{refs}
-use Rattle.vc_store.specs.declared.faults.StoreFault.{StoreFault}
-use Rattle.vc_store.specs.declared.faults.StoreFault.TheVariants as of_store
+use Rattle.vc_object_map.specs.declared.faults.StoreFault.{StoreFault}
+use Rattle.vc_object_map.specs.declared.faults.StoreFault.TheVariants as of_store
 use Rattle.vc_session.specs.Carrying.{Carries, objects_of_push}
 use Rattle.vc_session.specs.Quarantine.{IsDropped}
 use Rattle.vc_session.specs.Session.{SessionText, IsInStage, MayBeSetWhere, is_passing, stage_while, verdict_of}

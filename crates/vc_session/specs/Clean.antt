@@ -3,7 +3,7 @@ use Rattle.std.specs.Prelude.{◌≡◌, ℕ, ◌<◌, ◌^◌, List}
 use Rattle.vc_files.specs.FileMap.{FileMap}
 use Rattle.vc_object.specs.declared.id.ObjectId.{ObjectId}
 use Rattle.vc_refs.specs.Refs.{IsBadRef, packed_map}
-use Rattle.vc_store.specs.Store.{IsDamaged}
+use Rattle.vc_object_map.specs.Store.{IsDamaged}
 use Rattle.vc_session.specs.Quarantine.{IsDamagedThere}
 
 -- What is bad now was so before, and the packed refs are as they were.

@@ -1,11 +1,11 @@
 -- What is known to be whole before anything is read: what refs reach, in a repository that is sound.
 use Rattle.std.specs.Prelude.{◌≡◌, ℕ, List, Some, false}
 use Rattle.vc_files.specs.FileMap.{FileMap}
-use Rattle.vc_graph.specs.Graph.{IsClosed, IsClosedUnder}
+use Rattle.vc_object_map.specs.Graph.{IsClosed, IsClosedUnder}
 use Rattle.vc_object.specs.ObjectMap.{ObjectMap, links_in, parents_in}
 use Rattle.vc_object.specs.declared.id.ObjectId.{ObjectId}
 use Rattle.vc_refs.specs.Refs.{refs}
-use Rattle.vc_store.specs.Store.{objects}
+use Rattle.vc_object_map.specs.Store.{objects}
 use Rattle.vc_session.specs.Verdict.{HasHistory, is_tag}
 use Rattle.vc_session.specs.declared.known.Known.{Known}
 

@@ -6,7 +6,7 @@ use Rattle.vc_history.specs.History.{IsAncestor}
 use Rattle.vc_history.specs.Numbering.{numbers}
 use Rattle.vc_history.specs.declared.generations.Generations.{Generations}
 use Rattle.vc_files.specs.FileMap.{FileMap}
-use Rattle.vc_graph.specs.Graph.{IsClosed}
+use Rattle.vc_object_map.specs.Graph.{IsClosed}
 use Rattle.vc_object.specs.ObjectMap.{parents_in}
 use Rattle.vc_object.specs.declared.id.ObjectId.{ObjectId}
 use Rattle.vc_push.specs.Push.{CommandText}
@@ -16,7 +16,7 @@ use Rattle.vc_session.specs.declared.stage.Stage.{Stage}
 use Rattle.vc_session.specs.declared.stage.Stage.TheVariants.{Unpacked, Checked, Migrated, Done}
 use Rattle.vc_session.specs.declared.stage.Verdict.{Verdict}
 use Rattle.vc_session.specs.declared.stage.Verdict.TheVariants.{Accepted, Refused}
-use Rattle.vc_store.specs.Store.{objects}
+use Rattle.vc_object_map.specs.Store.{objects}
 
 -- the generations that are known, and the commits whose histories are learnt before the next check
 pub record Learnt : Type 0 where

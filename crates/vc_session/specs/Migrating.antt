@@ -5,7 +5,7 @@ use Rattle.vc_files.specs.FileMap.{FileMap}
 use Rattle.vc_object.specs.ObjectId.{id_eq}
 use Rattle.vc_object.specs.ObjectMap.{ObjectMap}
 use Rattle.vc_object.specs.declared.id.ObjectId.{ObjectId}
-use Rattle.vc_store.specs.Store.{objects}
+use Rattle.vc_object_map.specs.Store.{objects}
 use Rattle.vc_session.specs.Quarantine.{objects_seen}
 
 -- the objects, with those of these names as the push sees them: what is stored stays, and what it carries is added

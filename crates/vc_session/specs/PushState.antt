@@ -2,7 +2,7 @@
 use Rattle.std.specs.Prelude.{ℕ, ◌⊎◌}
 use Rattle.vc_files.specs.FileMap.{FileMap}
 use Rattle.vc_object.specs.declared.id.ObjectId.{ObjectId}
-use Rattle.vc_store.specs.Store.{IsDamaged}
+use Rattle.vc_object_map.specs.Store.{IsDamaged}
 use Rattle.vc_session.specs.Quarantine.{IsDamagedThere}
 
 -- the reference by which the files were lent, the files, and the slot

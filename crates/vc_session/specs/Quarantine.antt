@@ -9,9 +9,9 @@ use Rattle.vc_object.specs.Decoding.{StoredObject}
 use Rattle.vc_object.specs.ObjectId.{id_eq, is_id}
 use Rattle.vc_object.specs.ObjectMap.{ObjectMap}
 use Rattle.vc_object.specs.declared.id.ObjectId.{ObjectId}
-use Rattle.vc_store.specs.Store.{stored_in, objects}
-use Rattle.vc_store.specs.declared.faults.StoreFault.TheVariants.{Damaged}
-use Rattle.vc_graph.specs.Overlay.{with_carried}
+use Rattle.vc_object_map.specs.Store.{stored_in, objects}
+use Rattle.vc_object_map.specs.declared.faults.StoreFault.TheVariants.{Damaged}
+use Rattle.vc_object_map.specs.Overlay.{with_carried}
 
 -- the folder of a slot
 abbrev pub quarantine_folder : ℕ → List ℕ

@@ -5,7 +5,7 @@ use Rattle.std.specs.Prelude.{◌≡◌, ◌⊎◌, ℕ, Bool, true, false, ◌|
 use Rattle.std.specs.List.{AllByRecursion, starts_with}
 use Rattle.vc_history.specs.History.{IsAncestor}
 use Rattle.vc_format.specs.Git.{git_is_legal}
-use Rattle.vc_graph.specs.Graph.{IsClosed}
+use Rattle.vc_object_map.specs.Graph.{IsClosed}
 use Rattle.vc_object.specs.ObjectId.{id_eq}
 use Rattle.vc_object.specs.ObjectMap.{ObjectMap, links_in, parents_in}
 use Rattle.vc_object.specs.declared.id.ObjectId.{ObjectId}

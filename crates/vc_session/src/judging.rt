@@ -2,7 +2,7 @@
 ghost use Rattle.std.specs.Prelude.{◌≡◌, true, None, IfOk, IfErr, IsErrOf};
 ghost use Rattle.vc_files.specs.Failures.{Wears};
 ghost use Rattle.vc_format.specs.Git.{git_is_legal};
-ghost use Rattle.vc_graph.specs.Graph.{IsClosedUnder};
+ghost use Rattle.vc_object_map.specs.Graph.{IsClosedUnder};
 ghost use Rattle.vc_object.specs.ObjectMap.{parents_in};
 ghost use Rattle.vc_push.specs.PushView.{command_of};
 ghost use Rattle.vc_session.specs.Judged.{Judges, JudgesHistory, MeetsBelow, MeetsInHistory};
@@ -14,11 +14,11 @@ use indexmap::IndexSet;
 use std::alloc::Global;
 use vc_files::Fault;
 use vc_graph::is_complete_beyond;
-use vc_history::{Commits, Generations, HistoryFault, is_ancestor, is_history_beyond};
+use vc_history::{Generations, HistoryFault, is_ancestor, is_history_beyond};
 use vc_object::ObjectId;
+use vc_object_map::{Commits, StoreFault};
 use vc_push::{Command, Reason};
 use vc_refname::{MAX_BRANCH, RefName};
-use vc_store::StoreFault;
 
 // Whether it names a branch.
 fn is_branch(name: &[u8]) -> bool

@@ -1,20 +1,19 @@
 //! What is known to be whole before anything is read.
 ghost use Rattle.std.specs.Prelude.{◌≡◌, ⊤, [], IfOk, IfErr, IsErrOf};
 ghost use Rattle.vc_files.specs.Failures.{Wears};
-ghost use Rattle.vc_graph.specs.GraphFault.{IsMet};
+ghost use Rattle.vc_object_map.specs.StoreFault.{IsMet};
 ghost use Rattle.vc_refs.specs.RefFault.{BlamesList};
 ghost use Rattle.vc_session.specs.Known.{AreRefsWhole, AreWhole};
-ghost use Rattle.vc_store.specs.Store.{objects};
+ghost use Rattle.vc_object_map.specs.Store.{objects};
 
 use indexmap::IndexSet;
 use std::alloc::Global;
 use vc_files::{Fault, Files};
 use vc_graph::learn_links;
-use vc_history::Commits;
 use vc_object::ObjectId;
+use vc_object_map::{Commits, StoreFault};
 use vc_push::Command;
 use vc_refs::{RefFault, list};
-use vc_store::StoreFault;
 
 /// Names of which it is known that all that they reach is there. The walk of a check stops at them.
 #[derive(Drop)]

@@ -12,8 +12,9 @@ use std::alloc::{AllocError, Global};
 use vc_files::{Fault, Files};
 use vc_history::{Generations, HistoryFault};
 use vc_object::ObjectId;
+use vc_object_map::StoreFault;
 use vc_push::{Command, Reason};
-use vc_store::{Store, StoreFault};
+use vc_store::Store;
 
 // Learns the generations below a commit. Where one of them is absent, damaged or no commit, nothing is learnt, and that is no
 // refusal: what it is to a push, its check tells.

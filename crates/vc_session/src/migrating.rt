@@ -3,7 +3,7 @@ ghost use Rattle.std.specs.Prelude.{◌≡◌, ◌≢◌, ◌⊎◌, ◌∷◌, 
 ghost use Rattle.vc_files.specs.FileMap.{SameOutside};
 ghost use Rattle.vc_files.specs.Failures.{Wears, Writes};
 ghost use Rattle.vc_object.specs.declared.id.ObjectId.{ObjectId as Id};
-ghost use Rattle.vc_store.specs.Store.{IsDamaged, objects};
+ghost use Rattle.vc_object_map.specs.Store.{IsDamaged, objects};
 ghost use Rattle.vc_session.specs.Clean.{MakesNoneBad};
 ghost use Rattle.vc_session.specs.Migrating.{IsFrontMigrated, migrated};
 ghost use Rattle.vc_session.specs.SessionFault.{BlamesMigration};
@@ -12,7 +12,8 @@ use crate::quarantine::find_in_quarantine;
 use std::alloc::Global;
 use vc_files::{Fault, Files};
 use vc_object::ObjectId;
-use vc_store::{StoreFault, put_named};
+use vc_object_map::StoreFault;
+use vc_store::put_named;
 
 // Stores the object of a slot's quarantine that has this name.
 fn migrate_one<F: Files>(

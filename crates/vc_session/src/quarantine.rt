@@ -6,14 +6,15 @@ ghost use Rattle.vc_files.specs.Failures.{Wears, Writes};
 ghost use Rattle.vc_object.specs.Decoding.{stored_object};
 ghost use Rattle.vc_object.specs.Object.{object_bytes, object_name};
 ghost use Rattle.vc_object.specs.ObjectId.{is_id};
-ghost use Rattle.vc_store.specs.StoreFault.{IsFault, IsRefused};
+ghost use Rattle.vc_object_map.specs.StoreFault.{IsFault, IsRefused};
 ghost use Rattle.vc_session.specs.Clean.{MakesNoneBad};
 ghost use Rattle.vc_session.specs.Quarantine.{IsDamagedThere, IsDropped, OnlyLoses, Quarantines, quarantine_folder, quarantine_path, quarantined};
 
 use std::alloc::{AllocError, Global};
 use vc_files::{Fault, Files};
 use vc_object::{Object, ObjectId, encode, name_of};
-use vc_store::{StoreFault, Stored, object_from};
+use vc_object_map::StoreFault;
+use vc_store::{Stored, object_from};
 
 // The folder of a slot's quarantine, with its slash.
 fn quarantine_folder(alloc: Global, slot: u8) -> Result<String, AllocError>

@@ -2,17 +2,16 @@
 ghost use Rattle.std.specs.Prelude.{◌≡◌, IfOk, IfErr, IsErrOf, option_map};
 ghost use Rattle.vc_files.specs.Failures.{Wears};
 ghost use Rattle.vc_object.specs.Decoding.{stored_object};
-ghost use Rattle.vc_store.specs.StoreFault.{IsRefused};
+ghost use Rattle.vc_object_map.specs.StoreFault.{IsRefused};
 ghost use Rattle.vc_session.specs.PushState.{IsDamagedSeen};
 ghost use Rattle.vc_session.specs.Quarantine.{objects_seen};
 
 use crate::quarantine::find_in_quarantine;
 use std::alloc::Global;
 use vc_files::{Fault, Files};
-use vc_graph::Objects;
-use vc_history::{Commits, Parents};
 use vc_object::ObjectId;
-use vc_store::{StoreFault, Stored, find};
+use vc_object_map::{Commits, Objects, Parents, StoreFault};
+use vc_store::{Stored, find};
 
 /// The stored objects and, for names that the store lacks, those in the quarantine of a slot. Both are read from the files
 /// when they are asked for, so that no more than one object is in memory.

@@ -26,7 +26,7 @@ use Rattle.vc_rules.proofs.OpenPushLaws.{push_kept}
 use Rattle.vc_session.proofs.QuarantineLemmas.{same_at}
 use Rattle.vc_session.specs.Quarantine.{quarantine_path, quarantined}
 use Rattle.vc_session.specs.Session.{SessionText}
-use Rattle.vc_store.specs.Store.{stored_in}
+use Rattle.vc_object_map.specs.Store.{stored_in}
 use Rattle.vc_shared.proofs.CallLemmas.{asked_leads, fault_leads}
 use Rattle.vc_shared.proofs.HoldingLemmas.{beyond_refs, dropped_on}
 use Rattle.vc_shared.proofs.SteppingLaws.{pushes_of}

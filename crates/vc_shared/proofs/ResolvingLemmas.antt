@@ -25,7 +25,7 @@ use Rattle.vc_rev.specs.declared.refusal.RevFault.TheVariants.{Missing, NotAComm
 use Rattle.vc_rev.specs.declared.refusal.SourceFault.TheVariants.{BadIndex, BadRefFile, HeadLoop, Store}
 use Rattle.vc_rules.specs.Values.{DenotesAt}
 use Rattle.vc_session.specs.Session.{SessionText}
-use Rattle.vc_store.specs.declared.faults.StoreFault.TheVariants as store
+use Rattle.vc_object_map.specs.declared.faults.StoreFault.TheVariants as store
 use Rattle.vc_shared.proofs.CallLemmas.{Leads, asked_leads, fault_leads}
 use Rattle.vc_shared.proofs.SteppingLaws.{down_answers, pushes_of}
 use Rattle.vc_shared.specs.Holding.{HoldsShared}

@@ -44,7 +44,7 @@ use Rattle.vc_shared.specs.Faults.{fault_answer, of_answer, of_device, up_after}
 use Rattle.vc_shared.specs.Holding.{HoldsShared}
 use Rattle.vc_shared.specs.Serving.{IsAnswered, IsListed, IsRefusedList, ListAnswers, RefusesList, RefusesWant, WantAnswers, reply_of}
 use Rattle.vc_shared.specs.declared.fault.SharedFault.{SharedFault}
-use Rattle.vc_store.specs.declared.faults.StoreFault.TheVariants as store
+use Rattle.vc_object_map.specs.declared.faults.StoreFault.TheVariants as store
 
 abbrev machine_want : WantText → Message
 machine_want want = Want (map bytes_of_id want.wants) (map bytes_of_id want.haves)

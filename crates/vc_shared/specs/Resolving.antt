@@ -10,7 +10,7 @@ use Rattle.vc_local.specs.Told.{FoundAs}
 use Rattle.vc_local.specs.Values.{rev_answer, up_after_value}
 use Rattle.vc_object.specs.declared.id.ObjectId.{ObjectId}
 use Rattle.vc_repository.specs.Resolving.{DenotesIn, IsOfExpr}
-use Rattle.vc_rev.specs.Grammar.{ExprText, IsExpr}
+use Rattle.vc_expression.specs.Grammar.{ExprText, IsExpr}
 use Rattle.vc_rev.specs.declared.refusal.RevFault.{RevFault}
 use Rattle.vc_session.specs.Session.{SessionText}
 use Rattle.vc_shared.specs.Calls.{AnswersShared}

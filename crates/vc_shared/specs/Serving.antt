@@ -29,7 +29,7 @@ use Rattle.vc_shared.specs.Faults.{of_answer, up_after}
 use Rattle.vc_shared.specs.declared.accepting.Accepted.{Accepted}
 use Rattle.vc_shared.specs.declared.accepting.Accepted.TheVariants.{Reply}
 use Rattle.vc_shared.specs.declared.fault.SharedFault.{SharedFault}
-use Rattle.vc_store.specs.Store.{objects}
+use Rattle.vc_object_map.specs.Store.{objects}
 
 -- ---- a list
 -- what HEAD leads to is told, and each ref

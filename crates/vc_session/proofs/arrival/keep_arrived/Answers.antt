@@ -6,7 +6,7 @@ use Rattle.indexmap.proofs.CallerLemmas.{Contains-insert_key}
 use Rattle.indexmap.specs.IndexSet.{insert_key}
 use Rattle.vc_fetch.proofs.Packs.{ok_object, err_object}
 use Rattle.vc_fetch.specs.Pack.{is_object}
-use Rattle.vc_graph.proofs.WalkLemmas.{Contains-insert_all_old, Contains-insert_key_cases}
+use Rattle.vc_object_map.proofs.WalkLemmas.{Contains-insert_all_old, Contains-insert_key_cases}
 use Rattle.vc_object.proofs.IdLemmas.{id_eq-same, id_eq_equiv}
 use Rattle.vc_object.specs.Decoding.{StoredObject, stored_object}
 use Rattle.vc_object.specs.Object.{IsObject, object_name}

@@ -11,7 +11,7 @@ use Rattle.vc_session.specs.PushState.{SeenState, seen_state}
 use Rattle.vc_session.specs.Quarantine.{objects_seen, quarantined}
 use Rattle.vc_session.specs.SessionFault.{IsRefusedCheck, from_refs, from_store}
 use Rattle.vc_session.specs.Steps.{ChecksAll}
-use Rattle.vc_store.specs.Store.{objects}
+use Rattle.vc_object_map.specs.Store.{objects}
 use Rattle.vc_session.proofs.checking.check_in_files.Goals as goal
 
 pub returns-clause-checks : goal.returns-clause-checks

@@ -2,7 +2,7 @@ use Rattle.std.proofs.Common.{rules}
 use Rattle.vc_history.proofs.StoredLemmas.{Agrees-same}
 use Rattle.vc_history.specs.Numbering.{numbers}
 use Rattle.vc_object.specs.ObjectMap.{parents_in}
-use Rattle.vc_store.specs.Store.{objects}
+use Rattle.vc_object_map.specs.Store.{objects}
 use Rattle.vc_session.proofs.LearningLemmas.{learnt_broken, learnt_whole, told_broken}
 use Rattle.vc_session.proofs.learning.learn_history.Goals as goal
 

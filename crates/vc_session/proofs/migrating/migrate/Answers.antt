@@ -7,8 +7,8 @@ use Rattle.vc_files.proofs.WearLemmas.{writes_both, writes_told}
 use Rattle.vc_files.specs.FileMap.{FileMap}
 use Rattle.vc_lemmas.proofs.Lists.{on_err}
 use Rattle.vc_object.specs.declared.id.ObjectId.{ObjectId}
-use Rattle.vc_store.specs.Store.{objects}
-use Rattle.vc_store.specs.declared.faults.StoreFault.{StoreFault}
+use Rattle.vc_object_map.specs.Store.{objects}
+use Rattle.vc_object_map.specs.declared.faults.StoreFault.{StoreFault}
 use Rattle.vc_session.specs.SessionFault.{BlamesMigration}
 use Rattle.vc_session.proofs.CleanLemmas.{bad_objects}
 use Rattle.vc_session.proofs.DamageLemmas.{blames_before}

@@ -3,7 +3,7 @@ use Rattle.std.specs.Prelude.{codes}
 use Rattle.vc_files.specs.FileMap.{SameOutside}
 use Rattle.vc_files.specs.Failures.{Writes}
 use Rattle.vc_object.specs.declared.id.ObjectId.{ObjectId}
-use Rattle.vc_store.specs.Store.{IsDamaged, objects}
+use Rattle.vc_object_map.specs.Store.{IsDamaged, objects}
 use Rattle.vc_session.specs.Migrating.{migrated}
 use Rattle.vc_session.proofs.migrating.migrate.Given as goal
 

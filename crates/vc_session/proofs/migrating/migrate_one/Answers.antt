@@ -6,8 +6,8 @@ use Rattle.vc_object.specs.Decoding.{stored_object}
 use Rattle.vc_object.specs.Object.{object_name}
 use Rattle.vc_object.specs.ObjectId.{is_id}
 use Rattle.vc_object.specs.ObjectMap.{ObjectMap}
-use Rattle.vc_store.specs.Store.{objects, with_file, with_object}
-use Rattle.vc_store.specs.declared.faults.StoreFault.{StoreFault}
+use Rattle.vc_object_map.specs.Store.{objects, with_file, with_object}
+use Rattle.vc_object_map.specs.declared.faults.StoreFault.{StoreFault}
 use Rattle.vc_session.specs.Quarantine.{quarantined}
 use Rattle.vc_session.specs.SessionFault.{BlamesMigration}
 use Rattle.vc_session.proofs.DamageLemmas.{carried_blames, damaged_before, put_blames}

@@ -2,9 +2,9 @@ use Rattle.std.proofs.Common.{rules, ◌≡◌, None, Result, Ok, Err, sym, ◌�
 use Rattle.std.specs.FinMap as files
 use Rattle.vc_object.specs.Decoding.{StoredObject, stored_object}
 use Rattle.vc_session.specs.Quarantine.{quarantine_path}
-use Rattle.vc_store.specs.Store.{stored_in}
-use Rattle.vc_store.specs.declared.faults.StoreFault.{StoreFault}
-use Rattle.vc_store.specs.declared.faults.StoreFault.TheVariants.{Damaged}
+use Rattle.vc_object_map.specs.Store.{stored_in}
+use Rattle.vc_object_map.specs.declared.faults.StoreFault.{StoreFault}
+use Rattle.vc_object_map.specs.declared.faults.StoreFault.TheVariants.{Damaged}
 use Rattle.vc_session.proofs.QuarantineLemmas.{quarantined-found, quarantined-none}
 use Rattle.vc_session.proofs.quarantine.find_in_quarantine.Goals as goal
 

@@ -1,8 +1,8 @@
 use Rattle.std.proofs.Common.{rules, ◌≡◌, Some, None, sym, ◌∙◌, inr, subst}
 use Rattle.vc_files.specs.FileMap.{FileMap}
 use Rattle.vc_object.specs.Decoding.{stored_object}
-use Rattle.vc_store.specs.Store.{objects}
-use Rattle.vc_store.specs.StoreFault.{IsRefused}
+use Rattle.vc_object_map.specs.Store.{objects}
+use Rattle.vc_object_map.specs.StoreFault.{IsRefused}
 use Rattle.vc_session.specs.PushState.{IsDamagedSeen}
 use Rattle.vc_session.specs.Quarantine.{quarantined, IsDamagedThere}
 use Rattle.vc_session.proofs.SeenLemmas.{seen_stored, seen_carried, refused_more}

@@ -1,9 +1,9 @@
 use Rattle.std.proofs.Common.{rules, ◌≡◌, Err, ◌++◌, ◌∷◌, [], true, Contains, drop, subst}
 use Rattle.std.specs.Prelude.{⊤}
 use Rattle.std.specs.List.{list_any}
-use Rattle.vc_graph.proofs.FaultLemmas.{IsMet-more}
-use Rattle.vc_graph.specs.Graph.{IsClosedUnder}
-use Rattle.vc_graph.specs.GraphFault.{IsMet}
+use Rattle.vc_object_map.proofs.FaultLemmas.{IsMet-more}
+use Rattle.vc_object_map.specs.Graph.{IsClosedUnder}
+use Rattle.vc_object_map.specs.StoreFault.{IsMet}
 use Rattle.vc_object.specs.ObjectId.{id_eq}
 use Rattle.vc_object.specs.ObjectMap.{links_in}
 use Rattle.vc_session.proofs.KnownLemmas.{AreAmong, AreAmong-none, AreAmong-push, AreAmong-drop, IsClosedUnder-among}

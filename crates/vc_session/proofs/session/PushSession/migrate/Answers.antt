@@ -1,7 +1,7 @@
 use Rattle.std.proofs.Common.{rules, ◌≡◌, ◌⊎◌, ℕ, List, ap, ◌∙◌, subst}
 use Rattle.vc_lemmas.proofs.Lists.{on_err}
 use Rattle.vc_object.specs.declared.id.ObjectId.{ObjectId}
-use Rattle.vc_store.specs.Store.{objects}
+use Rattle.vc_object_map.specs.Store.{objects}
 use Rattle.vc_session.specs.Migrating.{migrated}
 use Rattle.vc_session.specs.Quarantine.{objects_seen}
 use Rattle.vc_session.specs.Session.{SessionText}
