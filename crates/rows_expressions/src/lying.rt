@@ -5,13 +5,12 @@ ghost use Rattle.vc_rev.specs.Source.{Names, source};
 
 use indexmap::IndexMap;
 use vc_files::{FailOnce, Fault, MemoryFiles};
-use vc_graph::Objects;
-use vc_history::{Commits, Parents};
 use vc_object::ObjectId;
+use vc_object_map::{Commits, Objects, Parents, StoreFault};
 use vc_refname::RefName;
 use vc_repository::FileRepository;
 use vc_rev::{Repository, SourceFault};
-use vc_store::{StoreFault, Stored};
+use vc_store::Stored;
 
 #[derive(Drop)]
 pub struct Lying<'a> {

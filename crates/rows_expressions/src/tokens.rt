@@ -2,7 +2,7 @@
 
 use bstr::ByteSlice;
 use std::alloc::{AllocError, Global};
-use vc_rev::{Ends, Expr, ParseFault, PathToken, Rev, Step, Term, parse, parse_set};
+use vc_expression::{Ends, Expr, ParseFault, PathToken, Rev, Step, Term, parse, parse_set};
 
 /// The tokens of an expression, or why it is none.
 pub fn expr_tokens(alloc: Global, source: &[u8]) -> Result<String, AllocError> {

@@ -7,12 +7,13 @@ use indexmap::IndexMap;
 use std::alloc::{AllocError, Global};
 use std::fmt::Display;
 use std::mem;
+use vc_expression::{parse, parse_set};
 use vc_files::{FailOnce, Files, MemoryFiles};
 use vc_index::Index;
 use vc_object::{Kind, ObjectId};
 use vc_refs::PackedCache;
 use vc_repository::FileRepository;
-use vc_rev::{RevFault, SourceFault, parse, parse_set, resolve, resolve_set};
+use vc_rev::{RevFault, SourceFault, resolve, resolve_set};
 use vc_store::Store;
 
 #[derive(Drop)]

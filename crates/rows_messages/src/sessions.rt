@@ -12,8 +12,10 @@ use vc_files::{Fault, Files, MemoryFiles};
 use vc_history::Generations;
 use vc_message::{Head, Source, Taken, next_object, read_head};
 use vc_push::{Command, Push, ReportReader};
+use vc_push_rules::Stepped;
+use vc_quarantine::Arriving;
 use vc_refs::Refs;
-use vc_session::{Arriving, PushSession, SessionFault, Stepped};
+use vc_session::{PushSession, SessionFault};
 
 /// The pushes that are open, by their slots.
 #[derive(Drop)]

@@ -9,10 +9,10 @@ use bstr::ByteVec;
 use std::alloc::{AllocError, Global};
 use std::fmt::Write;
 use vc_exchange::PushItem;
+use vc_expression::parse;
 use vc_node::{CloneFault, CloneNode, Received};
 use vc_object::{Mode, ObjectId};
 use vc_refname::RefName;
-use vc_rev::parse;
 
 /// A clone of the rows.
 pub type CloneSite = Site<CloneNode<Device>>;

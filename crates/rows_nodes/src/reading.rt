@@ -9,9 +9,9 @@ use std::io::Cursor;
 use vc_files::Fault;
 use vc_local::NodeFault;
 use vc_message::{Fallible, Message};
+use vc_object_map::StoreFault;
 use vc_server::answer;
 use vc_shared::{Shared, SharedFault};
-use vc_store::StoreFault;
 use vc_world::{Peer, Reply};
 
 /// How answers come to a clone that asks.

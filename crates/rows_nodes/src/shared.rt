@@ -6,8 +6,8 @@ use crate::words::{push_bytes, push_found, push_sent, taken};
 use bstr::ByteVec;
 use std::alloc::{AllocError, Global};
 use std::fmt::Write;
+use vc_expression::parse;
 use vc_push::Reason;
-use vc_rev::parse;
 use vc_server::answer;
 use vc_shared::{Accepted, Shared, SharedFault, Stepped};
 

@@ -7,7 +7,7 @@ use crate::words::{push_bytes, push_done, push_found, push_restarted};
 use bstr::ByteVec;
 use std::alloc::{AllocError, Global};
 use std::fmt::Write;
-use vc_rev::parse;
+use vc_expression::parse;
 use vc_server::{Served, serve_message};
 use vc_shared::Shared;
 

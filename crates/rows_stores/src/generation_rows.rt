@@ -3,7 +3,8 @@ use crate::answers::{Answer, joined};
 use crate::graph_rows::told_base;
 use crate::ids::ids_of;
 use std::alloc::Global;
-use vc_history::{Commits, Generations};
+use vc_history::Generations;
+use vc_object_map::Commits;
 
 /// Learns from nothing what the first ids lead to, one after the other, and answers each refusal, and then what is known of
 /// the ids behind the word `of`.

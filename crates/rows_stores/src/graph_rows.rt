@@ -6,14 +6,12 @@ use anyhow::bail;
 use indexmap::IndexSet;
 use std::alloc::{AllocError, Global};
 use vc_graph::{
-    GraphFault, Objects, closure, difference, first_incomplete, is_complete, is_complete_beyond,
-    learn_links,
+    GraphFault, closure, difference, first_incomplete, is_complete, is_complete_beyond, learn_links,
 };
-use vc_history::{
-    Commits, Generations, HistoryFault, commits, common_ancestors, is_ancestor, is_history,
-    is_history_beyond, merge_bases,
-};
+use vc_history::{Generations, HistoryFault, is_ancestor, is_history, is_history_beyond};
 use vc_object::ObjectId;
+use vc_object_map::{Commits, Objects};
+use vc_selection::{commits, common_ancestors, merge_bases};
 
 // The ids of a row, and behind the word `without` those that are excluded.
 #[derive(Drop)]

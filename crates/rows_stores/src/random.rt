@@ -4,8 +4,9 @@ use crate::answers::Answer;
 use crate::ids::lettered;
 use crate::tables::Table;
 use std::alloc::{AllocError, Global};
-use vc_history::{Generations, HistoryFault, commits, common_ancestors, is_ancestor, merge_bases};
+use vc_history::{Generations, HistoryFault, is_ancestor};
 use vc_object::ObjectId;
+use vc_selection::{commits, common_ancestors, merge_bases};
 
 /// A generator of numbers, told by its seed.
 #[derive(Drop)]

@@ -8,10 +8,10 @@ use crate::{generation_rows, graph_rows};
 use anyhow::bail;
 use indexmap::IndexMap;
 use std::alloc::{AllocError, Global};
-use vc_graph::{Objects, Overlay};
-use vc_history::{Commits, Generations, Parents};
+use vc_graph::Overlay;
+use vc_history::Generations;
 use vc_object::{Kind, Object, ObjectId, check};
-use vc_store::StoreFault;
+use vc_object_map::{Commits, Objects, Parents, StoreFault};
 
 /// Objects and what each links to. It claims nothing of itself, so a walk over it is tested and not proved.
 #[derive(Drop)]

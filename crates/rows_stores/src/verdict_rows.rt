@@ -3,10 +3,12 @@ use crate::answers::{Answer, word};
 use crate::ids::{bytes_of, id_in, two};
 use bstr::ByteSlice;
 use std::alloc::Global;
-use vc_history::{Commits, Generations};
+use vc_history::Generations;
 use vc_object::ObjectId;
+use vc_object_map::Commits;
 use vc_push::Command;
-use vc_session::{Known, judge};
+use vc_quarantine::Known;
+use vc_session::judge;
 
 /// A row has the old id, the new one and the name; `-` stands for no value. The answer is the number of the reason for which
 /// the command is refused, and its text, or that it passes.

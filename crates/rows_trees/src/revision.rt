@@ -2,9 +2,10 @@
 use crate::bench::{Bench, Host};
 use crate::words::{digits, or_word, push_item};
 use anyhow::Result;
+use vc_expression::{parse, parse_set};
 use vc_refs::PackedCache;
 use vc_repository::{FileRepository, read_index};
-use vc_rev::{parse, parse_set, resolve, resolve_set};
+use vc_rev::{resolve, resolve_set};
 
 /// The object that an expression names.
 pub fn value<R: Host>(bench: &mut Bench<R>, source: &str) -> Result<String> {

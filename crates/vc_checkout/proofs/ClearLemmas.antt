@@ -16,7 +16,7 @@ use Rattle.vc_checkout.specs.Refusal.{IsClear, IsDue, IsHindered, IsInTheWay, Is
 use Rattle.vc_checkout.specs.WorkTree.{IsUnkept, has_path, is_same, is_listed}
 use Rattle.vc_checkout.specs.Blobs.{HasDueBlobs}
 use Rattle.vc_checkout.specs.CheckoutFault.{IsAgainst, IsFault, IsOfCheckout}
-use Rattle.vc_store.specs.Store.{objects}
+use Rattle.vc_object_map.specs.Store.{objects}
 use Rattle.vc_checkout.specs.declared.faults.CheckoutFault.{CheckoutFault}
 use Rattle.vc_checkout.specs.declared.faults.CheckoutFault.TheVariants.{LocalChange, InTheWay, NotText, Index}
 use Rattle.vc_checkout.proofs.PathSetLemmas.{Paths, set_paths}

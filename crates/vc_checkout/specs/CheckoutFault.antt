@@ -5,11 +5,11 @@ use Rattle.vc_object.specs.declared.id.ObjectId.{ObjectId}
 use Rattle.vc_files.specs.declared.faults.Fault.{Fault as FileFault}
 use Rattle.vc_files.specs.declared.faults.Fault.TheVariants.{Device}
 use Rattle.vc_object.specs.ObjectMap.{ObjectMap}
-use Rattle.vc_store.specs.Store.{objects}
+use Rattle.vc_object_map.specs.Store.{objects}
 use Rattle.vc_index.specs.IndexMap.{IndexMap}
 use Rattle.vc_checkout.specs.Blobs.{BlamesBlobs, HasDueBlobs}
 use Rattle.vc_checkout.specs.Refusal.{IsRefused}
-use Rattle.vc_store.specs.declared.faults.StoreFault.TheVariants.{Fault}
+use Rattle.vc_object_map.specs.declared.faults.StoreFault.TheVariants.{Fault}
 use Rattle.vc_index.specs.declared.faults.IndexFault.{IndexFault}
 use Rattle.vc_index.specs.declared.faults.IndexFault.TheVariants.{Store}
 use Rattle.vc_index.specs.Loading.{IsOfList}

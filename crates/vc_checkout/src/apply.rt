@@ -2,7 +2,7 @@
 ghost use Rattle.std.specs.Prelude.{◌≡◌, ◌⊎◌, ℕ, List, None, IfErr, OnOk, OnErr, IsUtf8};
 ghost use Rattle.std.specs.FinMap as maps;
 ghost use Rattle.vc_files.specs.Failures.{Wears, unstopped};
-ghost use Rattle.vc_store.specs.Store.{objects};
+ghost use Rattle.vc_object_map.specs.Store.{objects};
 ghost use Rattle.vc_index.specs.IndexMap.{IsIndex};
 ghost use Rattle.vc_index.specs.Loading.{IsBlobIfDue};
 ghost use Rattle.vc_index.specs.Path.{IsAbove};

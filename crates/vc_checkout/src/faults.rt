@@ -1,14 +1,14 @@
 // Why a work tree was not changed, or not compared.
 ghost use Rattle.std.specs.Prelude.{◌≡◌};
 ghost use Rattle.vc_files.specs.declared.faults.Fault.TheVariants.{Memory};
-ghost use Rattle.vc_store.specs.declared.faults.StoreFault.TheVariants.{Fault};
+ghost use Rattle.vc_object_map.specs.declared.faults.StoreFault.TheVariants.{Fault};
 ghost use Rattle.vc_index.specs.declared.faults.IndexFault.TheVariants.{Store};
 ghost use Rattle.vc_checkout.specs.declared.faults.CheckoutFault.TheVariants.{Index};
 
 use std::alloc::{AllocError, AllocFailed};
 use vc_files::Fault;
 use vc_index::IndexFault;
-use vc_store::StoreFault;
+use vc_object_map::StoreFault;
 
 /// Why a work tree was not changed, or not compared.
 #[derive(Drop)]

@@ -2,13 +2,13 @@
 use Rattle.std.specs.Prelude.{ℕ, ⊤, if◌then◌else◌, IsTrue, Result, IsErrAnd}
 use Rattle.vc_history.specs.declared.fault.HistoryFault.TheVariants.{Store as HistoryStore}
 use Rattle.vc_refs.specs.declared.faults.RefFault.TheVariants.{Fault as RefFaulted}
-use Rattle.vc_rev.specs.declared.fault.ParseFault.TheVariants.{Memory}
+use Rattle.vc_expression.specs.declared.fault.ParseFault.TheVariants.{Memory}
 use Rattle.vc_rev.specs.declared.refusal.RevFault.{RevFault}
 use Rattle.vc_rev.specs.declared.refusal.RevFault.TheVariants.{Source}
 use Rattle.vc_rev.specs.declared.refusal.SourceFault.{SourceFault}
 use Rattle.vc_rev.specs.declared.refusal.SourceFault.TheVariants as sources
-use Rattle.vc_store.specs.declared.faults.StoreFault.{StoreFault}
-use Rattle.vc_store.specs.declared.faults.StoreFault.TheVariants.{Fault as StoreFaulted}
+use Rattle.vc_object_map.specs.declared.faults.StoreFault.{StoreFault}
+use Rattle.vc_object_map.specs.declared.faults.StoreFault.TheVariants.{Fault as StoreFaulted}
 use Rattle.vc_checkout.specs.declared.faults.CheckoutFault.{CheckoutFault}
 use Rattle.vc_checkout.specs.declared.faults.CheckoutFault.TheVariants as checkouts
 use Rattle.vc_node.specs.CloneFaults.{IsOfDevice as IsOfCloneDevice}

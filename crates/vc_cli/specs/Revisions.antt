@@ -5,14 +5,14 @@ use Rattle.vc_files.specs.declared.faults.Fault.TheVariants.{Memory}
 use Rattle.vc_object.specs.declared.id.ObjectId.{ObjectId}
 use Rattle.vc_repository.specs.Resolving.{DenotesIn, IsOfExpr, over}
 use Rattle.vc_repository.specs.State.{State, IsCause}
-use Rattle.vc_rev.specs.Faults.{ExprError}
-use Rattle.vc_rev.specs.Grammar.{ExprText, IsExpr}
+use Rattle.vc_expression.specs.Faults.{ExprError}
+use Rattle.vc_expression.specs.Grammar.{ExprText, IsExpr}
 use Rattle.vc_rev.specs.Selection.{Selection, SetGives, IsSelectedBy, IsToldOfSet, IsWalked}
-use Rattle.vc_rev.specs.SetGrammar.{TermText, IsSet}
-use Rattle.vc_rev.specs.SetReading.{SetError}
+use Rattle.vc_expression.specs.SetGrammar.{TermText, IsSet}
+use Rattle.vc_expression.specs.SetReading.{SetError}
 use Rattle.vc_rev.specs.declared.refusal.Refusal.{Refusal}
 use Rattle.vc_rev.specs.declared.refusal.RevFault.{RevFault}
-use Rattle.vc_store.specs.Store.{objects, IsDamaged}
+use Rattle.vc_object_map.specs.Store.{objects, IsDamaged}
 use Rattle.vc_cli.specs.declared.failure.Failure.{Failure}
 use Rattle.vc_cli.specs.declared.failure.Failure.TheVariants.{Syntax, Revision, Fault}
 

@@ -2,7 +2,8 @@
 use Rattle.std.specs.Io.KnownBytes.{Appends}
 use Rattle.std.specs.Prelude.{ℕ, Bool, if◌then◌else◌, List, [], ◌∷◌, ◌++◌, Option, None, Some, codes, string_bytes}
 use Rattle.vc_local.specs.Printed.{node_fault_text}
-use Rattle.vc_rev.specs.Printed.{parse_fault_text, rev_fault_text}
+use Rattle.vc_expression.specs.Printed.{parse_fault_text}
+use Rattle.vc_rev.specs.Printed.{rev_fault_text}
 use Rattle.vc_cli.specs.declared.failure.Failure.{Failure}
 use Rattle.vc_cli.specs.declared.failure.Failure.TheVariants.{LocalChange, InTheWay, NotText, NoSuchPath, Node, Revision, Syntax, BadScript, Usage}
 use Rattle.vc_cli.specs.declared.faults.Faults.{Faults}

@@ -13,17 +13,18 @@ use std::alloc::{AllocError, AllocFailed};
 use std::fmt;
 use std::io::{self, ErrorKind, Write};
 use vc_checkout::CheckoutFault;
+use vc_expression::ParseFault;
 use vc_files::Fault;
 use vc_history::HistoryFault;
 use vc_index::IndexFault;
 use vc_local::NodeFault;
 use vc_node::RemoteFault;
 use vc_object::ObjectFault;
+use vc_object_map::StoreFault;
 use vc_refname::{NameFault, NewNameError};
 use vc_refs::RefFault;
-use vc_rev::{ParseFault, Refusal, RevFault, SourceFault};
+use vc_rev::{Refusal, RevFault, SourceFault};
 use vc_script::ScriptFault;
-use vc_store::StoreFault;
 
 /// What stands in the way of an answer. Its text is what a person reads behind `vcs: `.
 #[derive(Drop)]

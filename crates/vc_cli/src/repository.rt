@@ -9,13 +9,14 @@ use crate::failure::{Failure, fault_of};
 use std::alloc::Global;
 use std::io::ErrorKind;
 use std::{fs, rt};
+use vc_expression::{parse, parse_set};
 use vc_files::Files;
 use vc_folder::{FolderFiles, Syncs};
 use vc_index::Index;
 use vc_object::ObjectId;
 use vc_refs::PackedCache;
 use vc_repository::FileRepository;
-use vc_rev::{parse, parse_set, resolve_set};
+use vc_rev::resolve_set;
 
 /// The files of the store in this folder, which need not be there yet. A folder that Git made is refused.
 pub fn open_store<R>(rt: &R, folder: &str) -> Result<FolderFiles<R>, Failure>

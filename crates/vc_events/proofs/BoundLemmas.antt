@@ -3,7 +3,7 @@ use Rattle.std.proofs.Common.{◌≡◌, ℕ, List, [], ◌∷◌, Some, inl, in
 use Rattle.std.specs.FinMap.{get, empty}
 use Rattle.std.specs.Ordering.{nat_cmp}
 use Rattle.std.specs.Cmp.Lexicographic.{slice_cmp}
-use Rattle.vc_message.proofs.Readings.{message_wire}
+use Rattle.vc_wire.proofs.WireLaws.{message_wire}
 use Rattle.vc_model.proofs.Maps.{none_in_empty}
 use Rattle.vc_model.specs.Clone.{CloneNode}
 use Rattle.vc_model.specs.Clone.Awaited.{Nothing}

@@ -4,7 +4,7 @@ use Rattle.std.specs.FinMap.{FinMap, get, insert, nat_cmp-IsAntisymmetric}
 use Rattle.std.specs.Ordering.{nat_cmp}
 use Rattle.std.specs.Cmp.{nat_cmp_total}
 use Rattle.std.proofs.lemmas.Option.{slice_get_past, slice_get_read}
-use Rattle.vc_message.proofs.Readings.{message_wire}
+use Rattle.vc_wire.proofs.WireLaws.{message_wire}
 use Rattle.vc_message.specs.Machine.{Reads, IsWritten}
 use Rattle.vc_model.specs.Message.{Message, Envelope}
 use Rattle.vc_model.specs.Message.Envelope.{ToShared, ToClone}

@@ -15,7 +15,7 @@ use Rattle.vc_model.proofs.ExactRuns.{exact_run, honest_shadow, same_world}
 use Rattle.vc_model.proofs.Runs.{stays_sound}
 use Rattle.vc_model.proofs.Kept.{new_is_sound}
 use Rattle.vc_model.proofs.Safety.{every_run_safe}
-use Rattle.vc_message.proofs.Readings.{message_wire}
+use Rattle.vc_wire.proofs.WireLaws.{message_wire}
 use Rattle.vc_rules.specs.Git.{git}
 use Rattle.vc_events.specs.declared.events.Event.{Event}
 use Rattle.vc_events.specs.declared.events.Event.TheVariants as event

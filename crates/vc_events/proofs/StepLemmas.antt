@@ -23,8 +23,8 @@ use Rattle.vc_model.specs.CloneCall.CloneCall.{Command, Receive, Asks, Prune, Op
 use Rattle.vc_model.specs.ExactWorld.{FusedWorld, WorldEvent, CallsShared, CallsClone, WorldAnswers, MayShared, TogetherAt, MayClone, shared_fuse_at, clone_fuse_at}
 use Rattle.vc_model.specs.ExactWorld.WorldAnswers.{at_shared, at_clone}
 use Rattle.vc_model.proofs.Maps.{insert_same, insert_other, same_key, removed_none}
-use Rattle.vc_message.proofs.Readings.{message_wire}
-use Rattle.vc_rules.proofs.GitLaws.{git_rules}
+use Rattle.vc_wire.proofs.WireLaws.{message_wire}
+use Rattle.vc_values.proofs.GitLaws.{git_rules}
 use Rattle.vc_rules.specs.Git.{git}
 use Rattle.vc_events.specs.Calls.{CloneCalled, SharedCalled}
 use Rattle.vc_events.specs.declared.answers.Answer.{Answer as WorldAnswer}

@@ -11,7 +11,7 @@ use Rattle.vc_model.specs.Object.{Object, zero_id}
 use Rattle.vc_model.specs.Repository.{IsBare, IsSound, Repository}
 use Rattle.vc_model.specs.Shared.{SharedNode}
 use Rattle.vc_model.specs.SharedCall.{SharedAnswers, SharedCall}
-use Rattle.vc_rules.proofs.GitLaws.{git_rules}
+use Rattle.vc_values.proofs.GitLaws.{git_rules}
 use Rattle.vc_rules.specs.Git.{git}
 use Rattle.vc_events.specs.Events.{order_of}
 use Rattle.vc_events.specs.declared.events.Order.{Order}

@@ -1,7 +1,7 @@
 -- Runs of a world: each that ends at the world before is lengthened to one that ends at the world after.
 use Rattle.std.specs.Global.{Global}
 use Rattle.std.specs.Prelude.{◌≡◌, ◌≢◌, ℕ, List, [], ◌∷◌, ◌++◌, Result, Ok, Err, Vec, map, take, vec_len}
-use Rattle.vc_message.proofs.Readings.{message_wire}
+use Rattle.vc_wire.proofs.WireLaws.{message_wire}
 use Rattle.vc_model.specs.Clone.{CloneNode}
 use Rattle.vc_model.specs.Exact.{Shadows}
 use Rattle.vc_model.specs.ExactWorld.{ExactHistory, ExactMoment, ExactRun, FusedWorld, NoExactCollision, NothingForgedExactly, OccursExactly, WorldAnswers, fused_after}

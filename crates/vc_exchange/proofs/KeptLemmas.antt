@@ -4,16 +4,16 @@ use Rattle.std.specs.Prelude.{codes}
 use Rattle.std.specs.Option.{option_or}
 use Rattle.vc_pack.specs.Reached.{KeepsObjects}
 use Rattle.vc_files.specs.FileMap.{FileMap, SameOutside}
-use Rattle.vc_graph.specs.Overlay.{with_carried}
+use Rattle.vc_object_map.specs.Overlay.{with_carried}
 use Rattle.vc_history.specs.Stored.{AgreesIn}
 use Rattle.vc_history.specs.declared.generations.Generations.{Generations}
 use Rattle.vc_object.specs.Decoding.{StoredObject}
 use Rattle.vc_object.specs.declared.id.ObjectId.{ObjectId}
-use Rattle.vc_session.proofs.FrameLemmas.{objects-same}
-use Rattle.vc_session.proofs.NumberLemmas.{agreement_kept, agreement_migrated, agreement_same}
-use Rattle.vc_session.specs.Carrying.{objects_in}
-use Rattle.vc_session.specs.Migrating.{migrated}
-use Rattle.vc_store.specs.Store.{object_path, objects}
+use Rattle.vc_push_rules.proofs.FrameLemmas.{objects-same}
+use Rattle.vc_quarantine.proofs.NumberLemmas.{agreement_kept, agreement_migrated, agreement_same}
+use Rattle.vc_push_rules.specs.Carrying.{objects_in}
+use Rattle.vc_quarantine.specs.Migrating.{migrated}
+use Rattle.vc_object_map.specs.Store.{object_path, objects}
 use Rattle.vc_exchange.specs.Storing.{AreSomeStored, AreStored}
 
 module _ (old new : FileMap) where

@@ -10,7 +10,7 @@ use Rattle.vc_history.specs.Stored.{AgreesIn}
 use Rattle.vc_object.specs.declared.id.ObjectId.{ObjectId}
 use Rattle.vc_refs.specs.RefMap.{RefMap, with_ref}
 use Rattle.vc_refs.specs.Refs.{refs}
-use Rattle.vc_session.specs.Learning.{Learnt}
+use Rattle.vc_quarantine.specs.Learning.{Learnt}
 use Rattle.vc_exchange.specs.Learning.{AreNoted, LearnsDue, LearnsJudging, LearnsTaking, UnlessFault}
 use Rattle.vc_exchange.specs.Moving.{IsMove}
 use Rattle.vc_exchange.specs.declared.fault.ExchangeFault.{ExchangeFault}

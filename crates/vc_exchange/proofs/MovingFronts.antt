@@ -17,8 +17,8 @@ use Rattle.vc_rules.proofs.RefLemmas.{set_rel}
 use Rattle.vc_rules.proofs.SoundLemmas.{objects_sound}
 use Rattle.vc_rules.specs.Git.{git}
 use Rattle.vc_rules.specs.OpenPushes.{HoldsContent}
-use Rattle.vc_session.proofs.FrameLemmas.{objects-same}
-use Rattle.vc_store.specs.Store.{object_path, objects}
+use Rattle.vc_push_rules.proofs.FrameLemmas.{objects-same}
+use Rattle.vc_object_map.specs.Store.{object_path, objects}
 use Rattle.vc_exchange.specs.Moving.{AreFrontMoved, AreMoved, IsMove, MayMove, MovesBy, MovesSome, Told, machine_refs, rule_of}
 use Rattle.vc_exchange.specs.declared.moving.Followed.{Followed}
 use Rattle.vc_exchange.proofs.MovingDecisions.{Decided}

@@ -11,7 +11,7 @@ use Rattle.vc_refs.specs.Refs.{refs}
 use Rattle.vc_refs.specs.Obstacle.{IsFree}
 use Rattle.vc_refs.specs.declared.faults.RefFault.{RefFault}
 use Rattle.vc_refs.specs.declared.faults.RefFault.TheVariants as fault
-use Rattle.vc_store.specs.Store.{objects}
+use Rattle.vc_object_map.specs.Store.{objects}
 use Rattle.vc_exchange.specs.Faults.{BlamesRefs}
 use Rattle.vc_exchange.specs.Moving.{IsDecided, IsFreeAmong, IsMove, IsSetWhereFree, MayFollow, MayMove, passed_over}
 use Rattle.vc_exchange.specs.declared.moving.Followed.{Followed}

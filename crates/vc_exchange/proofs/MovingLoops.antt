@@ -6,7 +6,7 @@ use Rattle.std.specs.Global.{Global}
 use Rattle.std.proofs.lemmas.List.{take-append-drop, take_more}
 use Rattle.vc_files.specs.FileMap.{FileMap, SameOutside}
 use Rattle.vc_files.specs.declared.faults.Fault.{Fault}
-use Rattle.vc_graph.specs.Graph.{IsClosedUnder}
+use Rattle.vc_object_map.specs.Graph.{IsClosedUnder}
 use Rattle.vc_history.specs.Stored.{AgreesIn}
 use Rattle.vc_history.specs.declared.generations.Generations.{Generations}
 use Rattle.vc_model.specs.Message.{Message}
@@ -17,13 +17,14 @@ use Rattle.vc_refs.specs.declared.faults.RefFault.TheVariants as of_refs
 use Rattle.vc_rules.proofs.WholeLemmas.{refs_whole}
 use Rattle.vc_rules.specs.Git.{git}
 use Rattle.vc_rules.specs.OpenPushes.{HoldsContent}
-use Rattle.vc_session.specs.Known.{AreRefsWhole, AreWhole}
-use Rattle.vc_session.specs.declared.known.Known.{Known}
-use Rattle.vc_session.proofs.FrameLemmas.{objects-same}
-use Rattle.vc_session.proofs.NumberLemmas.{agreement_beside}
-use Rattle.vc_session.specs.Clean.{MakesNoneBad}
-use Rattle.vc_store.specs.Store.{object_path, objects}
-use Rattle.vc_store.specs.declared.faults.StoreFault.TheVariants as of_store
+use Rattle.vc_push_rules.specs.Known.{AreRefsWhole}
+use Rattle.vc_quarantine.specs.Known.{AreWhole}
+use Rattle.vc_quarantine.specs.declared.known.Known.{Known}
+use Rattle.vc_push_rules.proofs.FrameLemmas.{objects-same}
+use Rattle.vc_quarantine.proofs.NumberLemmas.{agreement_beside}
+use Rattle.vc_quarantine.specs.Clean.{MakesNoneBad}
+use Rattle.vc_object_map.specs.Store.{object_path, objects}
+use Rattle.vc_object_map.specs.declared.faults.StoreFault.TheVariants as of_store
 use Rattle.vc_exchange.specs.Faults.{BlamesFiles}
 use Rattle.vc_exchange.specs.Moving.{Told, told_in}
 use Rattle.vc_exchange.specs.Receiving.{BlamesPack}

@@ -22,7 +22,7 @@ use Rattle.vc_object.specs.Object.{IsObject}
 use Rattle.vc_object.specs.ObjectId.{id_eq}
 use Rattle.vc_object.specs.ObjectMap.{ObjectMap}
 use Rattle.vc_object.specs.declared.id.ObjectId.{ObjectId}
-use Rattle.vc_graph.specs.Graph as graph
+use Rattle.vc_object_map.specs.Graph as graph
 use Rattle.vc_refname.proofs.BrokenRules.{is_ref_name-from_legal, legal_from_is_ref_name}
 use Rattle.vc_refname.proofs.Tracking.{tracking_legal}
 use Rattle.vc_refname.specs.RefName.{is_ref_name, tracking_name}
@@ -31,7 +31,7 @@ use Rattle.vc_rules.proofs.ReachLemmas.{closed_from, closed_to, history_from, hi
 use Rattle.vc_rules.proofs.RefLemmas.{conflicts_from, conflicts_to, id_some, some_id}
 use Rattle.vc_rules.proofs.VerdictLaws.{branch as branch_named, tag as tag_named}
 use Rattle.vc_rules.specs.Git.{git, stored_of}
-use Rattle.vc_session.specs.Verdict.{is_branch, is_tag}
+use Rattle.vc_push_rules.specs.Verdict.{is_branch, is_tag}
 use Rattle.vc_exchange.specs.Moving.{Descends, IsFreeAmong, MayFollow, MayTake, follower, has_tags, is_new, rule_of}
 use Rattle.vc_exchange.specs.declared.moving.Followed.{Followed}
 use Rattle.vc_exchange.specs.declared.moving.Followed.TheVariants.{All, Branches}

@@ -8,9 +8,9 @@ use Rattle.vc_pack.specs.declared.fault.AnswerFault.{AnswerFault}
 use Rattle.vc_pack.specs.declared.fault.AnswerFault.TheVariants as answer
 use Rattle.vc_files.specs.FileMap.{FileMap, SameOutside}
 use Rattle.vc_format.specs.Git.{bytes_of_id, id_of_bytes}
-use Rattle.vc_graph.specs.Graph as graph
+use Rattle.vc_object_map.specs.Graph as graph
 use Rattle.vc_graph.specs.Incomplete.{IsFirstIncomplete}
-use Rattle.vc_graph.specs.Overlay.{with_carried}
+use Rattle.vc_object_map.specs.Overlay.{with_carried}
 use Rattle.vc_graph.specs.declared.fault.GraphFault.TheVariants as of_graph
 use Rattle.vc_model.specs.Clone.{AreOpen, Moves, MovesAny, Receives, ReceivesNot, quietly}
 use Rattle.vc_model.specs.Clone.Awaited.{Nothing}
@@ -27,10 +27,10 @@ use Rattle.vc_object.specs.declared.id.ObjectId.{ObjectId}
 use Rattle.vc_rules.proofs.JoinLemmas.{joined, joined_all}
 use Rattle.vc_rules.specs.Git.{git}
 use Rattle.vc_rules.specs.OpenPushes.{AreBrought, HoldsContent}
-use Rattle.vc_session.specs.Carrying.{objects_in}
-use Rattle.vc_store.specs.Store.{objects}
-use Rattle.vc_store.specs.declared.faults.StoreFault.{StoreFault}
-use Rattle.vc_store.specs.declared.faults.StoreFault.TheVariants as of_store
+use Rattle.vc_push_rules.specs.Carrying.{objects_in}
+use Rattle.vc_object_map.specs.Store.{objects}
+use Rattle.vc_object_map.specs.declared.faults.StoreFault.{StoreFault}
+use Rattle.vc_object_map.specs.declared.faults.StoreFault.TheVariants as of_store
 use Rattle.vc_exchange.specs.Deeds.{IsCutShort, IsReceived}
 use Rattle.vc_exchange.specs.Deeds.IsCutShort.{within}
 use Rattle.vc_exchange.specs.Faults.{from_answer, from_store}

@@ -10,8 +10,8 @@ use Rattle.vc_fetch.specs.Pack.{is_object}
 use Rattle.vc_fetch.specs.PackObjects as fetch
 use Rattle.vc_files.specs.FileMap.{FileMap, SameOutside}
 use Rattle.vc_format.specs.Git.{bytes_of_id, id_of_bytes}
-use Rattle.vc_graph.specs.Graph as graph
-use Rattle.vc_graph.specs.Overlay.{with_carried}
+use Rattle.vc_object_map.specs.Graph as graph
+use Rattle.vc_object_map.specs.Overlay.{with_carried}
 use Rattle.vc_message.proofs.BodyFaults.{object_or_fault}
 use Rattle.vc_model.specs.Object.{Id, Object, Objects, over, stored}
 use Rattle.vc_model.specs.Reach.{IsClosed}
@@ -34,12 +34,12 @@ use Rattle.vc_rules.specs.Git.{git, stored_of}
 use Rattle.vc_rules.specs.OpenPushes.{AreBrought, HoldsContent}
 use Rattle.vc_rules.proofs.OpenPushLaws.{some_stored}
 use Rattle.vc_pkt.specs.Carried.{object_named}
-use Rattle.vc_session.proofs.FrameLemmas.{refs-of_objects}
-use Rattle.vc_session.proofs.KnownLemmas.{AreWhole-with_carried}
-use Rattle.vc_session.specs.Carrying.{objects_in}
-use Rattle.vc_session.specs.Known.{AreWhole}
-use Rattle.vc_session.specs.declared.known.Known.{Known}
-use Rattle.vc_store.specs.Store.{objects}
+use Rattle.vc_push_rules.proofs.FrameLemmas.{refs-of_objects}
+use Rattle.vc_quarantine.proofs.KnownLemmas.{AreWhole-with_carried}
+use Rattle.vc_push_rules.specs.Carrying.{objects_in}
+use Rattle.vc_quarantine.specs.Known.{AreWhole}
+use Rattle.vc_quarantine.specs.declared.known.Known.{Known}
+use Rattle.vc_object_map.specs.Store.{objects}
 use Rattle.vc_exchange.specs.Storing.{AreSomeStored, AreStored}
 
 -- ---- what passes the test is an object: its bytes are those of one, and so its body is no longer

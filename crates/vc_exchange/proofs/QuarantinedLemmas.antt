@@ -6,9 +6,9 @@ use Rattle.std.proofs.lemmas.List.{take_all}
 use Rattle.vc_pack.specs.Reached.{KeepsObjects}
 use Rattle.vc_fetch.specs.Pack.{PackText}
 use Rattle.vc_files.specs.FileMap.{FileMap, SameOutside}
-use Rattle.vc_graph.specs.Graph.{IsClosedUnder}
-use Rattle.vc_graph.specs.GraphFault.{IsMet}
-use Rattle.vc_graph.specs.Overlay.{with_carried}
+use Rattle.vc_object_map.specs.Graph.{IsClosedUnder}
+use Rattle.vc_object_map.specs.StoreFault.{IsMet}
+use Rattle.vc_object_map.specs.Overlay.{with_carried}
 use Rattle.vc_message.specs.Machine.{IsPack}
 use Rattle.vc_model.specs.Clone.{Awaited}
 use Rattle.vc_model.specs.Message.{Message}
@@ -18,16 +18,17 @@ use Rattle.vc_object.specs.ObjectMap.{ObjectMap, links_in}
 use Rattle.vc_object.specs.declared.id.ObjectId.{ObjectId}
 use Rattle.vc_refs.specs.RefMap.{RefMap}
 use Rattle.vc_rules.specs.OpenPushes.{HoldsContent}
-use Rattle.vc_session.proofs.FrameLemmas.{front-some, migrated-all, migrated-some, objects-of_slot, refs-of_slot}
-use Rattle.vc_session.proofs.SeenLemmas.{seen_stored}
-use Rattle.vc_session.specs.Carrying.{objects_in}
-use Rattle.vc_session.specs.Migrating.{IsFrontMigrated, migrated}
-use Rattle.vc_session.specs.PushState.{IsDamagedSeen}
-use Rattle.vc_session.specs.Quarantine.{objects_seen, quarantine_folder, quarantined}
-use Rattle.vc_session.specs.SessionFault.{BlamesMigration}
-use Rattle.vc_store.specs.Store.{objects}
-use Rattle.vc_store.specs.declared.faults.StoreFault.{StoreFault}
-use Rattle.vc_store.specs.declared.faults.StoreFault.TheVariants as of_store
+use Rattle.vc_quarantine.proofs.MigratingLemmas.{front-some, migrated-all, migrated-some}
+use Rattle.vc_push_rules.proofs.FrameLemmas.{objects-of_slot, refs-of_slot}
+use Rattle.vc_quarantine.proofs.SeenLemmas.{seen_stored}
+use Rattle.vc_push_rules.specs.Carrying.{objects_in}
+use Rattle.vc_quarantine.specs.Migrating.{IsFrontMigrated, migrated}
+use Rattle.vc_quarantine.specs.PushState.{IsDamagedSeen}
+use Rattle.vc_push_rules.specs.Quarantine.{objects_seen, quarantine_folder, quarantined}
+use Rattle.vc_quarantine.specs.Blames.{BlamesMigration}
+use Rattle.vc_object_map.specs.Store.{objects}
+use Rattle.vc_object_map.specs.declared.faults.StoreFault.{StoreFault}
+use Rattle.vc_object_map.specs.declared.faults.StoreFault.TheVariants as of_store
 use Rattle.vc_exchange.specs.Deeds.{IsCutShort, IsReceived}
 use Rattle.vc_exchange.specs.Deeds.IsCutShort.{at_first, within}
 use Rattle.vc_exchange.specs.Faults.{BlamesObjects, from_store}

@@ -27,9 +27,9 @@ use Rattle.vc_fetch.specs.Pack.{is_object}
 use Rattle.vc_fetch.proofs.WrittenAdverts.{zeros_at}
 use Rattle.vc_files.specs.FileMap.{FileMap}
 use Rattle.vc_format.specs.Git.{bytes_of_id, id_of_bytes}
-use Rattle.vc_graph.specs.Graph as graph
-use Rattle.vc_graph.specs.Graph.{IsClosedUnder}
-use Rattle.vc_graph.specs.Graph.Reaches.{itself}
+use Rattle.vc_object_map.specs.Graph as graph
+use Rattle.vc_object_map.specs.Graph.{IsClosedUnder}
+use Rattle.vc_object_map.specs.Graph.Reaches.{itself}
 use Rattle.vc_graph.specs.declared.fault.GraphFault.TheVariants as graph_fault
 use Rattle.vc_message.proofs.AnyLaws.{written_so}
 use Rattle.vc_message.proofs.MachineObjects.{some_once}
@@ -70,8 +70,8 @@ use Rattle.vc_rules.proofs.SoundLemmas.{objects_sound}
 use Rattle.vc_rules.specs.Git.{git, stored_of}
 use Rattle.vc_rules.specs.OpenPushes.{AreBrought, HoldsContent}
 use Rattle.vc_rules.specs.Verdicts.{machine_command}
-use Rattle.vc_session.proofs.BreakLemmas.{no_break}
-use Rattle.vc_store.specs.Store.{objects, stored as stored_file}
+use Rattle.vc_push_rules.proofs.BreakLemmas.{no_break}
+use Rattle.vc_object_map.specs.Store.{objects, stored as stored_file}
 
 -- ---- a message that is written is read so
 pub written_list : (bytes : List ℕ) → bytes ≡ flat_map spelling list_lines → IsWritten ListRefs bytes

@@ -18,7 +18,7 @@ use Rattle.vc_exchange.specs.Sending.{AreSent, IsKnown, IsTracked, command_for, 
 use Rattle.vc_exchange.specs.declared.item.PushItem.{PushItem}
 use Rattle.vc_fetch.proofs.RefMaps.{same_name}
 use Rattle.vc_files.specs.FileMap.{FileMap}
-use Rattle.vc_graph.specs.Graph.{IsClosedUnder, ReachedFrom}
+use Rattle.vc_object_map.specs.Graph.{IsClosedUnder, ReachedFrom}
 use Rattle.vc_graph.specs.GraphFault.{IsTold}
 use Rattle.vc_graph.specs.declared.fault.GraphFault.{GraphFault}
 use Rattle.vc_graph.specs.declared.fault.GraphFault.TheVariants as graph
@@ -39,8 +39,8 @@ use Rattle.vc_refs.specs.RefMap.{IsListOf}
 use Rattle.vc_refs.specs.Refs.{refs}
 use Rattle.vc_refs.specs.declared.faults.RefFault.{RefFault}
 use Rattle.vc_refs.specs.declared.faults.RefFault.TheVariants as of_refs
-use Rattle.vc_store.specs.Store.{IsDamaged, objects}
-use Rattle.vc_store.specs.declared.faults.StoreFault.TheVariants as of_store
+use Rattle.vc_object_map.specs.Store.{IsDamaged, objects}
+use Rattle.vc_object_map.specs.declared.faults.StoreFault.TheVariants as of_store
 
 -- ---- what the clone knows of a ref
 no_ref : (content : FileMap) (name : List ℕ) → is_ref_name name ≡ false → refs content name ≡ None

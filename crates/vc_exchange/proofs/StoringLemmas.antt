@@ -4,7 +4,7 @@ use Rattle.std.specs.Prelude.{codes, unwrap_or}
 use Rattle.std.specs.Option.{option_or}
 use Rattle.vc_fetch.specs.Pack.{is_object}
 use Rattle.vc_files.specs.FileMap.{FileMap, SameOutside}
-use Rattle.vc_graph.specs.Overlay.{with_carried}
+use Rattle.vc_object_map.specs.Overlay.{with_carried}
 use Rattle.vc_object.proofs.IdLemmas.{id_eq-same}
 use Rattle.vc_object.specs.Decoding.{StoredObject, stored_object}
 use Rattle.vc_object.specs.Object.{object_name}
@@ -16,12 +16,12 @@ use Rattle.vc_pkt.specs.Carried.{stored_name}
 use Rattle.vc_pkt.specs.StreamObjectView.{AreNamed, stored}
 use Rattle.vc_pkt.specs.declared.carried.StreamObject.{StreamObject}
 use Rattle.vc_rules.proofs.SoundLemmas.{name_valid}
-use Rattle.vc_session.proofs.CarryingLemmas.{in_none, in_step, nothing_in, once, or_none}
-use Rattle.vc_session.proofs.CleanLemmas.{bad_objects}
-use Rattle.vc_session.proofs.DamageLemmas.{damaged_before}
-use Rattle.vc_session.specs.Carrying.{objects_in}
-use Rattle.vc_session.specs.Clean.{MakesNoneBad}
-use Rattle.vc_store.specs.Store.{objects, with_file, with_object}
+use Rattle.vc_push_rules.proofs.CarryingLemmas.{in_none, in_step, nothing_in, once, or_none}
+use Rattle.vc_quarantine.proofs.CleanLemmas.{bad_objects}
+use Rattle.vc_quarantine.proofs.DamageLemmas.{damaged_before}
+use Rattle.vc_push_rules.specs.Carrying.{objects_in}
+use Rattle.vc_quarantine.specs.Clean.{MakesNoneBad}
+use Rattle.vc_object_map.specs.Store.{objects, with_file, with_object}
 use Rattle.vc_exchange.specs.Storing.{AreSomeStored, AreStored}
 
 -- ---- so far

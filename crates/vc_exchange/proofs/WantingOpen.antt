@@ -17,7 +17,7 @@ use Rattle.vc_object.specs.declared.id.ObjectId.{ObjectId}
 use Rattle.vc_rules.proofs.ReachLemmas.{closed_from, closed_to, bytes_among}
 use Rattle.vc_rules.specs.Git.{git}
 use Rattle.vc_rules.specs.OpenPushes.{HoldsContent}
-use Rattle.vc_store.specs.Store.{objects}
+use Rattle.vc_object_map.specs.Store.{objects}
 use Rattle.vc_exchange.specs.Moving.{Told, machine_refs}
 use Rattle.vc_exchange.specs.Wanting.{AddsOpen, AreOpenTold}
 use Rattle.vc_exchange.proofs.MovingDecisions.{contained_cases, contained_first, contained_later, contained_none}

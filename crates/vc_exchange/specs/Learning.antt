@@ -5,7 +5,7 @@ use Rattle.vc_history.specs.Stored.{AgreesIn}
 use Rattle.vc_object.specs.declared.id.ObjectId.{ObjectId}
 use Rattle.vc_refs.specs.RefMap.{RefMap}
 use Rattle.vc_refs.specs.Refs.{refs}
-use Rattle.vc_session.specs.Learning.{IsLearnt, Learnt}
+use Rattle.vc_quarantine.specs.Learning.{IsLearnt, Learnt}
 use Rattle.vc_exchange.specs.declared.fault.ExchangeFault.{ExchangeFault}
 use Rattle.vc_exchange.specs.declared.fault.ExchangeFault.TheVariants.{Fault, Incomplete, Refs as OfRefs, Store}
 

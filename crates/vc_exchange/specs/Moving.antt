@@ -12,7 +12,7 @@ use Rattle.vc_history.specs.Whole.{AreWhole as AreHistories}
 use Rattle.vc_history.specs.declared.generations.Generations.{Generations}
 use Rattle.vc_files.specs.FileMap.{FileMap}
 use Rattle.vc_format.specs.Git.{git_is_legal}
-use Rattle.vc_graph.specs.Complete.{IsComplete}
+use Rattle.vc_object_map.specs.Complete.{IsComplete}
 use Rattle.vc_model.specs.Clone.{MovesAny, MovesBranch, Moves}
 use Rattle.vc_model.specs.Object.{Format, Id, Lookup, stored}
 use Rattle.vc_model.specs.Refs.{RefName, Refs}
@@ -28,11 +28,11 @@ use Rattle.vc_refs.specs.declared.faults.RefFault.{RefFault}
 use Rattle.vc_refs.specs.declared.faults.RefFault.TheVariants as of_refs
 use Rattle.vc_rules.specs.Git.{git}
 use Rattle.vc_rules.specs.OpenPushes.{HoldsContent}
-use Rattle.vc_session.specs.Known.{AreWhole}
-use Rattle.vc_session.specs.Verdict.{HasHistory, is_branch, is_tag}
-use Rattle.vc_session.specs.declared.known.Known.{Known}
-use Rattle.vc_store.specs.Store.{objects}
-use Rattle.vc_store.specs.declared.faults.StoreFault.{StoreFault}
+use Rattle.vc_quarantine.specs.Known.{AreWhole}
+use Rattle.vc_push_rules.specs.Verdict.{HasHistory, is_branch, is_tag}
+use Rattle.vc_quarantine.specs.declared.known.Known.{Known}
+use Rattle.vc_object_map.specs.Store.{objects}
+use Rattle.vc_object_map.specs.declared.faults.StoreFault.{StoreFault}
 use Rattle.vc_exchange.specs.declared.fault.ExchangeFault.{ExchangeFault}
 use Rattle.vc_exchange.specs.declared.moving.Followed.{Followed}
 use Rattle.vc_exchange.specs.declared.moving.Followed.TheVariants.{All, Branches}

@@ -7,10 +7,10 @@ use Rattle.vc_files.specs.FileMap.{FileMap}
 use Rattle.vc_graph.specs.Incomplete.{IsFirstIncomplete}
 use Rattle.vc_object.specs.ObjectMap.{links_in}
 use Rattle.vc_object.specs.declared.id.ObjectId.{ObjectId}
-use Rattle.vc_session.specs.Carrying.{Carries, objects_in}
-use Rattle.vc_session.specs.Clean.{IsQuarantineClean}
-use Rattle.vc_session.specs.Quarantine.{objects_seen, quarantine_folder}
-use Rattle.vc_session.specs.SessionFault.{BlamesDamage}
+use Rattle.vc_push_rules.specs.Carrying.{Carries, objects_in}
+use Rattle.vc_quarantine.specs.Clean.{IsQuarantineClean}
+use Rattle.vc_push_rules.specs.Quarantine.{objects_seen, quarantine_folder}
+use Rattle.vc_quarantine.specs.Blames.{BlamesDamage}
 use Rattle.vc_exchange.specs.Storing.{KeepsGood}
 use Rattle.vc_exchange.specs.declared.fault.ExchangeFault.{ExchangeFault}
 use Rattle.vc_exchange.specs.declared.fault.ExchangeFault.TheVariants.{Fault, Incomplete, Refs as OfRefs, Store}

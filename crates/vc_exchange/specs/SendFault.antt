@@ -5,7 +5,7 @@ use Rattle.vc_exchange.specs.declared.item.PushItem.{PushItem}
 use Rattle.vc_exchange.specs.declared.send_fault.SendFault.{SendFault}
 use Rattle.vc_exchange.specs.declared.send_fault.SendFault.TheVariants.{TooMany, Missing, Refs, Graph, Fault}
 use Rattle.vc_files.specs.FileMap.{FileMap}
-use Rattle.vc_graph.specs.Graph.{ReachedFrom}
+use Rattle.vc_object_map.specs.Graph.{ReachedFrom}
 use Rattle.vc_graph.specs.Incomplete.{IsFirstIncomplete}
 use Rattle.vc_graph.specs.declared.fault.GraphFault.{GraphFault}
 use Rattle.vc_graph.specs.declared.fault.GraphFault.TheVariants as graph
@@ -14,9 +14,9 @@ use Rattle.vc_object.specs.declared.id.ObjectId.{ObjectId}
 use Rattle.vc_refs.specs.Refs.{IsBadRef}
 use Rattle.vc_refs.specs.declared.faults.RefFault.{RefFault}
 use Rattle.vc_refs.specs.declared.faults.RefFault.TheVariants as of_refs
-use Rattle.vc_store.specs.Store.{objects, IsDamaged}
-use Rattle.vc_store.specs.declared.faults.StoreFault.{StoreFault}
-use Rattle.vc_store.specs.declared.faults.StoreFault.TheVariants as of_store
+use Rattle.vc_object_map.specs.Store.{objects, IsDamaged}
+use Rattle.vc_object_map.specs.declared.faults.StoreFault.{StoreFault}
+use Rattle.vc_object_map.specs.declared.faults.StoreFault.TheVariants as of_store
 use Rattle.vc_push.specs.Push.{max_commands}
 
 -- what lower layers refuse, told here; a fault is told as one

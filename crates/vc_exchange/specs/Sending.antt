@@ -5,7 +5,7 @@ use Rattle.std.specs.List.{starts_with}
 use Rattle.vc_exchange.specs.declared.item.PushItem.{PushItem}
 use Rattle.vc_files.specs.FileMap.{FileMap}
 use Rattle.vc_format.specs.Git.{bytes_of_id}
-use Rattle.vc_graph.specs.Graph.{Reaches, ReachedFrom, IsClosedUnder}
+use Rattle.vc_object_map.specs.Graph.{Reaches, ReachedFrom, IsClosedUnder}
 use Rattle.vc_model.specs.Clone as machine
 use Rattle.vc_model.specs.Refs.{tracking}
 use Rattle.vc_object.specs.Decoding.{StoredObject}
@@ -16,7 +16,7 @@ use Rattle.vc_pkt.specs.Carried.{object_named, stored_name}
 use Rattle.vc_push.specs.Push.{CommandText, PushText, zero_id}
 use Rattle.vc_refname.specs.RefName.{tracking_name}
 use Rattle.vc_refs.specs.Refs.{refs}
-use Rattle.vc_store.specs.Store.{objects}
+use Rattle.vc_object_map.specs.Store.{objects}
 
 -- the ids that the items give
 abbrev pub item_ids : List PushItem → List ObjectId

@@ -9,15 +9,13 @@ use Rattle.vc_graph.specs.declared.fault.GraphFault.TheVariants as graph
 use Rattle.vc_message.specs.Machine.{IsWritten}
 use Rattle.vc_model.specs.Clone as machine
 use Rattle.vc_model.specs.Clone.{AreCommandsFor, IsItemId, IsTrackingValue}
-use Rattle.vc_model.specs.Clone.Task.{StartPush}
-use Rattle.vc_model.specs.CloneCall.{Refuses}
+use Rattle.vc_model.specs.CloneCall.{RefusesPush}
 use Rattle.vc_model.specs.Message.Message.{Push}
 use Rattle.vc_model.specs.Node.{IsDifference}
 use Rattle.vc_model.specs.Object.{Id, Objects, stored, zero_id}
 use Rattle.vc_model.specs.Push.{Command}
 use Rattle.vc_model.specs.Reach.{IsClosed}
 use Rattle.vc_model.specs.Repository.{IsSound, Repository}
-use Rattle.vc_rules.proofs.GitLaws.{git_rules}
 use Rattle.vc_rules.specs.Git.{git}
 use Rattle.vc_rules.specs.OpenPushes.{HoldsContent}
 use Rattle.vc_push.specs.Push.{max_commands}
@@ -39,7 +37,7 @@ SendsPush content items bytes = (r : Repository) → HoldsContent content r → 
 
 -- the machine refuses the push with this number, whatever repository is held
 abbrev pub IsDeclined : FileMap → List PushItem → ℕ → Type 0
-IsDeclined content items n = (r : Repository) → HoldsContent content r → Refuses git git_rules r (StartPush false (machine_items items)) n
+IsDeclined content items n = (r : Repository) → HoldsContent content r → RefusesPush git r (machine_items items) n
 
 -- So it does where a push is refused for what it asks; and a tracking ref that reaches an absent object is none of a sound repository.
 abbrev pub DeclinesPush : FileMap → List PushItem → SendFault → Type 0

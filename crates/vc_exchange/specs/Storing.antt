@@ -3,13 +3,13 @@ use Rattle.std.specs.Prelude.{◌≡◌, ◌⊎◌, ℕ, List, false, nat_eq, co
 use Rattle.std.specs.FinMap.{get}
 use Rattle.std.specs.List.{starts_with}
 use Rattle.vc_files.specs.FileMap.{FileMap}
-use Rattle.vc_graph.specs.Overlay.{with_carried}
+use Rattle.vc_object_map.specs.Overlay.{with_carried}
 use Rattle.vc_object.specs.Decoding.{StoredObject}
 use Rattle.vc_object.specs.declared.id.ObjectId.{ObjectId}
 use Rattle.vc_pack.specs.Reached.{KeepsObjects}
-use Rattle.vc_session.specs.Carrying.{objects_in}
-use Rattle.vc_session.specs.Clean.{MakesNoneBad}
-use Rattle.vc_store.specs.Store.{objects}
+use Rattle.vc_push_rules.specs.Carrying.{objects_in}
+use Rattle.vc_quarantine.specs.Clean.{MakesNoneBad}
+use Rattle.vc_object_map.specs.Store.{objects}
 
 -- what is stored stays, and what is brought is added
 pub record AreStored (old new : FileMap) (brought : List StoredObject) : Type 0 where

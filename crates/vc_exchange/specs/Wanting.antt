@@ -3,7 +3,7 @@ use Rattle.std.specs.Prelude.{◌≡◌, ◌⊎◌, ◌++◌, ◌∷◌, [], ℕ
 use Rattle.std.specs.Global.{Global}
 use Rattle.vc_files.specs.FileMap.{FileMap}
 use Rattle.vc_format.specs.Git.{bytes_of_id}
-use Rattle.vc_graph.specs.Complete.{IsComplete}
+use Rattle.vc_object_map.specs.Complete.{IsComplete}
 use Rattle.vc_message.specs.Machine.{IsWritten}
 use Rattle.vc_model.specs.Clone.{AreOpen, haves_of}
 use Rattle.vc_model.specs.Message.Message.{Want}

@@ -8,9 +8,9 @@ use std::fmt;
 use vc_files::Fault;
 use vc_graph::GraphFault;
 use vc_object::ObjectId;
+use vc_object_map::StoreFault;
 use vc_pack::AnswerFault;
 use vc_refs::RefFault;
-use vc_store::StoreFault;
 
 /// Why a clone does not do what a message asks: files of the clone are at fault, or the device or memory is.
 #[derive(Debug, Drop)]

@@ -3,15 +3,16 @@ ghost use Rattle.std.specs.Prelude.{◌≡◌, IfOk, IsErrOf, OnOk};
 ghost use Rattle.vc_exchange.specs.Learning.{LearnsDue};
 ghost use Rattle.vc_files.specs.Failures.{Wears};
 ghost use Rattle.vc_history.specs.Stored.{AgreesIn};
-ghost use Rattle.vc_session.specs.Known.{AreRefsWhole, AreWhole};
-ghost use Rattle.vc_session.specs.Learning.{learnt_in};
-ghost use Rattle.vc_store.specs.Store.{objects};
+ghost use Rattle.vc_push_rules.specs.Known.{AreRefsWhole};
+ghost use Rattle.vc_quarantine.specs.Known.{AreWhole};
+ghost use Rattle.vc_quarantine.specs.Learning.{learnt_in};
+ghost use Rattle.vc_object_map.specs.Store.{objects};
 
 use std::alloc::Global;
 use vc_files::{Fault, Files};
 use vc_history::Generations;
 use vc_object::ObjectId;
-use vc_session::{Known, learn_all};
+use vc_quarantine::{Known, learn_all};
 
 /// Learns the histories that are due, which they are no longer then, and answers what the refs tell to be whole
 /// ([`by_good_refs`](Known::by_good_refs)). Where none is due, none is read. After an error some may have been learnt.

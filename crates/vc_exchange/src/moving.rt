@@ -9,9 +9,9 @@ ghost use Rattle.vc_history.specs.Stored.{AgreesIn};
 ghost use Rattle.vc_history.specs.Whole.{AreWholeBeyond};
 ghost use Rattle.vc_refs.specs.RefMap.{IsInRefs};
 ghost use Rattle.vc_refs.specs.Refs.{refs};
-ghost use Rattle.vc_session.specs.Clean.{MakesNoneBad};
-ghost use Rattle.vc_session.specs.Known.{AreWhole};
-ghost use Rattle.vc_store.specs.Store.{objects};
+ghost use Rattle.vc_quarantine.specs.Clean.{MakesNoneBad};
+ghost use Rattle.vc_quarantine.specs.Known.{AreWhole};
+ghost use Rattle.vc_object_map.specs.Store.{objects};
 ghost use Rattle.vc_exchange.specs.Faults.{BlamesFiles, BlamesRefs, Looks};
 ghost use Rattle.vc_exchange.specs.Learning.{NotesMoved};
 ghost use Rattle.vc_exchange.specs.Moving.{AreWholeIn, DecidesForward, DecidesTake, IsFound, IsFreeAmong, IsMetInEitherWhereRight, IsMetWhereRight, IsMove, IsRight, IsSetWhereFree, MayMoveOne, MayMoveTold, MovesFront, MovesTold, follower, is_new, passed_over, told_in};
@@ -21,12 +21,13 @@ use indexmap::IndexSet;
 use std::alloc::{AllocError, Global};
 use vc_files::{Fault, Files};
 use vc_graph::is_complete_beyond;
-use vc_history::{Commits, Generations, HistoryFault, is_ancestor, is_history_beyond};
+use vc_history::{Generations, HistoryFault, is_ancestor, is_history_beyond};
 use vc_object::ObjectId;
+use vc_object_map::{Commits, StoreFault};
 use vc_refname::{NewNameError, RefName};
 use vc_refs::{RefFault, get, set};
-use vc_session::{Known, is_legal};
-use vc_store::{Store, StoreFault};
+use vc_quarantine::{Known, is_legal};
+use vc_store::Store;
 
 /// Which refs of the shared repository are followed.
 #[derive(Clone, Copy)]

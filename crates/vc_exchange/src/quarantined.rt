@@ -5,16 +5,16 @@ ghost use Rattle.vc_exchange.specs.Moving.{told_in};
 ghost use Rattle.vc_exchange.specs.Quarantined.{BlamesSeen, KeepsHeld};
 ghost use Rattle.vc_exchange.specs.Taking.{CutsHeldPack, ReceivesHeldPack, RefusesHeldPack};
 ghost use Rattle.vc_files.specs.Failures.{Wears, Writes};
-ghost use Rattle.vc_graph.specs.Complete.{AreComplete};
-ghost use Rattle.vc_graph.specs.GraphFault.{IsMetFrom};
+ghost use Rattle.vc_object_map.specs.Complete.{AreComplete};
+ghost use Rattle.vc_object_map.specs.StoreFault.{IsMetFrom};
 ghost use Rattle.vc_graph.specs.Incomplete.{IsFirstIncomplete};
 ghost use Rattle.vc_history.specs.Stored.{AgreesIn};
 ghost use Rattle.vc_object.specs.ObjectMap.{links_in};
 ghost use Rattle.vc_object.specs.declared.id.ObjectId.{ObjectId as Name};
-ghost use Rattle.vc_session.specs.Learning.{learnt_in};
-ghost use Rattle.vc_session.specs.PushState.{IsDamagedSeen};
-ghost use Rattle.vc_session.specs.Quarantine.{IsDropped, objects_seen};
-ghost use Rattle.vc_store.specs.Store.{objects};
+ghost use Rattle.vc_quarantine.specs.Learning.{learnt_in};
+ghost use Rattle.vc_quarantine.specs.PushState.{IsDamagedSeen};
+ghost use Rattle.vc_push_rules.specs.Quarantine.{IsDropped, objects_seen};
+ghost use Rattle.vc_object_map.specs.Store.{objects};
 
 use crate::ExchangeFault;
 use crate::learning::learn_known;
@@ -26,9 +26,9 @@ use std::alloc::Global;
 use vc_files::{Fault, Files};
 use vc_history::Generations;
 use vc_object::ObjectId;
+use vc_object_map::StoreFault;
 use vc_pack::names_reached;
-use vc_session::{Known, PushObjects, drop_quarantine, migrate};
-use vc_store::StoreFault;
+use vc_quarantine::{Known, PushObjects, drop_quarantine, migrate};
 
 // The known names and what the wants reach beyond them, where all of it is stored or stands in the quarantine; or the first want
 // of which that isn't so.

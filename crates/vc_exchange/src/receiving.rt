@@ -17,8 +17,8 @@ ghost use Rattle.vc_model.specs.Clone.{refused_reasons};
 ghost use Rattle.vc_model.specs.Message.{Message};
 ghost use Rattle.vc_object.specs.declared.id.ObjectId.{ObjectId as Name};
 ghost use Rattle.vc_push.specs.ReportView.{report_text, told_of};
-ghost use Rattle.vc_session.specs.Clean.{MakesNoneBad};
-ghost use Rattle.vc_session.specs.Learning.{learnt_in};
+ghost use Rattle.vc_quarantine.specs.Clean.{MakesNoneBad};
+ghost use Rattle.vc_quarantine.specs.Learning.{learnt_in};
 
 use crate::ExchangeFault;
 use crate::learning::learn_known;
@@ -33,7 +33,7 @@ use vc_history::Generations;
 use vc_object::ObjectId;
 use vc_pack::judge_pack;
 use vc_push::{Reason, Report, Told};
-use vc_session::Known;
+use vc_quarantine::Known;
 
 /// How many refs followed what was told, and how many told ids are still incomplete.
 #[derive(Clone, Copy)]

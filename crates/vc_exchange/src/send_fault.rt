@@ -8,11 +8,11 @@ use std::alloc::AllocError;
 use std::error::Error;
 use std::fmt;
 use vc_files::Fault;
-use vc_graph::{GraphFault, MISSING};
+use vc_graph::GraphFault;
 use vc_object::ObjectId;
+use vc_object_map::{MISSING, StoreFault};
 use vc_pkt::PktFault;
 use vc_refs::RefFault;
-use vc_store::StoreFault;
 
 /// Why a push is not sent.
 #[derive(Debug, Drop)]

@@ -6,7 +6,7 @@ ghost use Rattle.vc_exchange.specs.SendFault.{BlamesRefFile, IsRefusedPush, IsRe
 ghost use Rattle.vc_exchange.specs.Sending.{AreSent, IsPushOf, IsTracked, command_for, item_ids, known_value, tracked_in};
 ghost use Rattle.vc_exchange.specs.SentPush.{DeclinesPush, SendsPush};
 ghost use Rattle.vc_files.specs.Failures.{Wears};
-ghost use Rattle.vc_graph.specs.Complete.{AreComplete};
+ghost use Rattle.vc_object_map.specs.Complete.{AreComplete};
 ghost use Rattle.vc_message.specs.Machine.{IsWritten};
 ghost use Rattle.vc_model.specs.Message.Message.{ListRefs};
 ghost use Rattle.vc_object.specs.ObjectId.{IsSortedByName};
@@ -15,7 +15,7 @@ ghost use Rattle.vc_pkt.specs.Carried.{stored_name};
 ghost use Rattle.vc_pkt.specs.ObjectStreamView.{carried};
 ghost use Rattle.vc_push.specs.PushView.{command_of, commands_of, push_text};
 ghost use Rattle.vc_refname.specs.RefName.{IsRefName};
-ghost use Rattle.vc_store.specs.Store.{objects};
+ghost use Rattle.vc_object_map.specs.Store.{objects};
 
 use crate::{PushItem, SendFault};
 use std::alloc::{AllocError, Global};

@@ -5,13 +5,14 @@ ghost use Rattle.vc_exchange.specs.Storing.{AreSomeStored, AreStored};
 ghost use Rattle.vc_files.specs.Failures.{Writes};
 ghost use Rattle.vc_files.specs.FileMap.{SameOutside};
 ghost use Rattle.vc_pkt.specs.ObjectStreamView.{carried};
-ghost use Rattle.vc_session.specs.Clean.{MakesNoneBad};
+ghost use Rattle.vc_quarantine.specs.Clean.{MakesNoneBad};
 
 use std::alloc::Global;
 use vc_files::{Fault, Files};
 use vc_object::check;
+use vc_object_map::StoreFault;
 use vc_pkt::CarriedObjects;
-use vc_store::{StoreFault, put_named};
+use vc_store::put_named;
 
 /// Stores the objects, in order of their names. One that is stored already stays as it is, and a body out of its kind's grammar
 /// counts for nothing. 12 where a file stands in an object's place and isn't it. A call that ends early has stored some. No file

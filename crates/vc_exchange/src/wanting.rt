@@ -5,9 +5,9 @@ ghost use Rattle.vc_exchange.specs.Faults.{BlamesFiles};
 ghost use Rattle.vc_exchange.specs.Moving.{told_in};
 ghost use Rattle.vc_exchange.specs.Wanting.{AddsOpen, AreHaves, AsksFor, BlamesWanting, WantsOpen};
 ghost use Rattle.vc_files.specs.Failures.{Wears};
-ghost use Rattle.vc_graph.specs.Complete.{AreComplete, AreCompleteBeyond};
+ghost use Rattle.vc_object_map.specs.Complete.{AreComplete, AreCompleteBeyond};
 ghost use Rattle.vc_object.specs.Lines.{IsId};
-ghost use Rattle.vc_store.specs.Store.{objects};
+ghost use Rattle.vc_object_map.specs.Store.{objects};
 ghost use Rattle.vc_fetch.specs.Want.{max_ids};
 
 use crate::ExchangeFault;

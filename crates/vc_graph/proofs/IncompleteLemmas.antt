@@ -4,9 +4,9 @@ use Rattle.std.proofs.Math.Seq.{take-suc}
 use Rattle.std.proofs.lemmas.List.{take-append-drop, take_all}
 use Rattle.std.proofs.lemmas.List.Elements.{Contains-append_left, Contains-append_right, Contains-push_cases}
 use Rattle.std.proofs.lemmas.Option.{get_or_from_slice_get, slice_get_within}
-use Rattle.vc_graph.specs.Graph.{Reaches, ReachedFrom, IsFollowed, IsClosedUnder, IsMissing, itself}
+use Rattle.vc_object_map.specs.Graph.{Reaches, ReachedFrom, IsFollowed, IsClosedUnder, IsMissing, itself}
 use Rattle.vc_graph.specs.Incomplete.{IsFirstIncomplete}
-use Rattle.vc_graph.proofs.WalkLemmas.{Contains-reached, Contains-from_slice_get, IsClosedUnder-from_followed, IsFollowed-none}
+use Rattle.vc_object_map.proofs.WalkLemmas.{Contains-reached, Contains-from_slice_get, IsClosedUnder-from_followed, IsFollowed-none}
 
 -- the roots up to one, that one, and those behind it
 pub parted_at : {X : Type 0} (xs : List X) (n : ℕ) (x : X) → slice_get xs n ≡ Some x → xs ≡ take n xs ++ x ∷ drop (suc n) xs

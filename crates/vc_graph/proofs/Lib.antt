@@ -1,6 +1,3 @@
 pub mod FaultLemmas
 pub mod IncompleteLemmas
-pub mod KnownLemmas
-pub mod NamesLemmas
-pub mod OverlayLemmas
-pub mod WalkLemmas
+pub mod ParentsLemmas

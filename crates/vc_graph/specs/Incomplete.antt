@@ -1,6 +1,6 @@
 -- Which of several roots is the first that reaches a name that is absent.
 use Rattle.std.specs.Prelude.{◌≡◌, List, ◌∷◌, ◌++◌, Option, Some, None}
-use Rattle.vc_graph.specs.Graph.{Reaches, IsClosedUnder}
+use Rattle.vc_object_map.specs.Graph.{Reaches, IsClosedUnder}
 
 module _ {Id : Type 0} (links : Id → Option (List Id)) where
   -- x reaches a name that is absent

@@ -6,10 +6,7 @@ use std::error::Error;
 use std::fmt;
 use vc_files::Fault;
 use vc_object::ObjectId;
-use vc_store::StoreFault;
-
-/// What is printed where a name that is reached is absent.
-pub const MISSING: &str = "40 Missing";
+use vc_object_map::{MISSING, StoreFault};
 
 /// Why a question about a graph has no answer.
 #[derive(Clone, Copy, Debug)]
@@ -44,7 +41,7 @@ impl From<StoreFault> for GraphFault {
 impl From<AllocError> for GraphFault {
     ghost use Rattle.vc_graph.specs.declared.fault.GraphFault.TheVariants.{Store};
     ghost use Rattle.vc_files.specs.declared.faults.Fault.TheVariants.{Memory};
-    ghost use Rattle.vc_store.specs.declared.faults.StoreFault.TheVariants.{Fault};
+    ghost use Rattle.vc_object_map.specs.declared.faults.StoreFault.TheVariants.{Fault};
 
     ghost from_gives = { λ _ e. e ≡ Store (Fault Memory) };
 

@@ -1,17 +1,17 @@
 //! Which of several roots is the first that reaches a name that is absent.
 ghost use Rattle.std.specs.Prelude.{◌≡◌, IfOk, IfErr, IsErrOf};
 ghost use Rattle.vc_files.specs.Failures.{Wears};
-ghost use Rattle.vc_graph.specs.GraphFault.{IsMetFrom};
+ghost use Rattle.vc_object_map.specs.StoreFault.{IsMetFrom};
 ghost use Rattle.vc_graph.specs.Incomplete.{IsAnswerOfFirst};
 ghost use Rattle.vc_object.specs.ObjectMap.{links_in};
 
+use crate::GraphFault;
 use crate::walk::walk;
-use crate::{GraphFault, Objects};
 use indexmap::IndexSet;
 use std::alloc::Global;
 use vc_files::Fault;
 use vc_object::ObjectId;
-use vc_store::StoreFault;
+use vc_object_map::{Objects, StoreFault};
 
 /// The first of the roots that reaches an absent name, or none where all that they reach is there. Each object is read
 /// once, also one that several roots reach.

@@ -1,21 +1,17 @@
 //! What is reached from a root beyond names that are known to be whole: all that these reach is there. What is known is not
 //! read again, nor is what lies below it.
-ghost use Rattle.std.specs.Prelude.{◌≡◌, ◌↔◌, ◌⊎◌, ◌∷◌, [], ℕ, length, take, IsTrue, IfOk, IfErr, IsErrOf, OnOk, OnErr, Contains};
-ghost use Rattle.indexmap.specs.IndexSet.{insert_all};
+ghost use Rattle.std.specs.Prelude.{◌≡◌, ◌↔◌, ◌⊎◌, ◌∷◌, [], length, take, IsTrue, IfOk, IfErr, IsErrOf, OnOk, Contains};
 ghost use Rattle.vc_files.specs.Failures.{Wears};
-ghost use Rattle.vc_graph.specs.Complete.{AreComplete, AreCompleteBeyond, KnowsIfYes};
-ghost use Rattle.vc_graph.specs.Graph.{IsLinkOf, IsMetBeyond, TellsBeyond};
-ghost use Rattle.vc_graph.specs.GraphFault.{IsMet, IsMetFrom};
-ghost use Rattle.vc_object.specs.ObjectId.{id_eq};
+ghost use Rattle.vc_object_map.specs.Complete.{AreComplete, AreCompleteBeyond, KnowsIfYes};
+ghost use Rattle.vc_object_map.specs.Graph.{IsLinkOf, IsMetBeyond, TellsBeyond};
+ghost use Rattle.vc_object_map.specs.StoreFault.{IsMet, IsMetFrom};
 ghost use Rattle.vc_object.specs.ObjectMap.{links_in};
 ghost use Rattle.vc_object.specs.declared.id.ObjectId.{ObjectId as Id};
 
-use crate::Objects;
 use indexmap::IndexSet;
-use std::alloc::AllocError;
 use vc_files::Fault;
 use vc_object::ObjectId;
-use vc_store::StoreFault;
+use vc_object_map::{Objects, StoreFault, add_names};
 
 /// Whether every name that is reached from the root is there, where all that the known names reach is known to be. What is
 /// known is not read again, nor is what lies below it. Where the answer is yes, what was met is known from then on; else the
@@ -67,17 +63,6 @@ pub fn learn_links<O: Objects>(
         if let Some(links) = objects.links(name)? {
             add_names(known, &links)?;
         }
-    }
-    Ok(())
-}
-
-/// Adds the names to the set, in their order. Where memory is wanting, those before are added.
-pub fn add_names(set: &mut IndexSet<ObjectId>, names: &[ObjectId]) -> Result<(), AllocError>
-    ensures added { OnOk result (set.new.keys ≡ insert_all id_eq set.old.keys names.now) }
-    ensures err { OnErr result ((n : ℕ) × (set.new.keys ≡ insert_all id_eq set.old.keys (take n names.now))) }
-{
-    for name in names {
-        set.insert(*name)?;
     }
     Ok(())
 }

@@ -4,11 +4,10 @@ ghost use Rattle.std.specs.Option.{option_map};
 ghost use Rattle.vc_object.specs.Decoding.{stored_object};
 ghost use Rattle.vc_object.specs.ObjectMap.{ObjectMap};
 
-use crate::Objects;
 use indexmap::IndexMap;
 use std::alloc::{AllocError, Global};
 use vc_object::{Object, ObjectId};
-use vc_store::StoreFault;
+use vc_object_map::{Commits, Objects, Parents, StoreFault};
 
 /// Objects by name, all of which are in memory.
 pub trait Carried {
@@ -44,7 +43,7 @@ pub struct Overlay<'a, O, C> {
 }
 
 impl<O: Objects, C: Carried> Objects for Overlay<'_, O, C> {
-    ghost use Rattle.vc_graph.specs.Overlay.{OverlayState, overlay_state, with_carried};
+    ghost use Rattle.vc_object_map.specs.Overlay.{OverlayState, overlay_state, with_carried};
 
     ghost is_honest = { O.is_honest };
 
@@ -72,5 +71,21 @@ impl<O: Objects, C: Carried> Objects for Overlay<'_, O, C> {
         };
         let links = vc_object::links(self.alloc, &object)?;
         Ok(Some(links))
+    }
+}
+
+impl<O: Commits, C: Carried> Commits for Overlay<'_, O, C> {
+    fn parents(&mut self, id: &ObjectId) -> Result<Option<Parents>, StoreFault> {
+        if let Some(parents) = self.stored.parents(id)? {
+            return Ok(Some(parents));
+        }
+        let Some(object) = self.carried.find(id) else {
+            return Ok(None);
+        };
+        let parents = vc_object::parents(self.alloc, &object)?;
+        match parents {
+            Some(ids) => Ok(Some(Parents::Of(ids))),
+            None => Ok(Some(Parents::NotCommit)),
+        }
     }
 }

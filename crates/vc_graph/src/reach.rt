@@ -1,19 +1,20 @@
 //! What roots reach: all of it, whether it is there, and what other roots do not reach.
 ghost use Rattle.std.specs.Prelude.{◌≡◌, ◌↔◌, ◌++◌, ◌∷◌, [], IsTrue, IfOk, IfErr, IsErrOf, OnOk};
 ghost use Rattle.vc_files.specs.Failures.{Wears};
-ghost use Rattle.vc_graph.specs.Complete.{AreComplete, IsComplete};
-ghost use Rattle.vc_graph.specs.Graph.{AreExactly, ReachedFrom, IsReachedBeyond};
-ghost use Rattle.vc_graph.specs.GraphFault.{IsMetFrom, IsTold};
+ghost use Rattle.vc_object_map.specs.Complete.{AreComplete, IsComplete};
+ghost use Rattle.vc_object_map.specs.Graph.{AreExactly, ReachedFrom, IsReachedBeyond};
+ghost use Rattle.vc_object_map.specs.StoreFault.{IsMetFrom};
+ghost use Rattle.vc_graph.specs.GraphFault.{IsTold};
 ghost use Rattle.vc_object.specs.ObjectId.{IsSortedByName};
 ghost use Rattle.vc_object.specs.ObjectMap.{links_in};
 
+use crate::GraphFault;
 use crate::walk::walk;
-use crate::{GraphFault, Objects, sorted_from};
 use indexmap::IndexSet;
 use std::alloc::Global;
 use vc_files::Fault;
 use vc_object::ObjectId;
-use vc_store::StoreFault;
+use vc_object_map::{Objects, StoreFault, sorted_from};
 
 /// Every name that is reached from the roots, themselves included, sorted by name. Each object is read once.
 pub fn closure<O: Objects>(

@@ -1,15 +1,15 @@
 //! The walk over links. One set is both what was met and what is still to be read, so each object is read once.
 ghost use Rattle.std.specs.Prelude.{◌≡◌, ◌++◌, length, take, IfErr, IsErrOf, OnOk};
 ghost use Rattle.vc_files.specs.Failures.{Wears};
-ghost use Rattle.vc_graph.specs.Graph.{AreExactly, IsFollowed, ReachedFrom};
+ghost use Rattle.vc_object_map.specs.Graph.{AreExactly, IsFollowed, ReachedFrom};
 ghost use Rattle.vc_graph.specs.GraphFault.{IsTold};
 ghost use Rattle.vc_object.specs.ObjectMap.{links_in};
 
-use crate::{GraphFault, Objects};
+use crate::GraphFault;
 use indexmap::IndexSet;
 use vc_files::Fault;
 use vc_object::ObjectId;
-use vc_store::StoreFault;
+use vc_object_map::{Objects, StoreFault};
 
 // Adds to the names that were met the roots and all that they reach. What was met before is not read again.
 pub(crate) fn walk<O: Objects>(

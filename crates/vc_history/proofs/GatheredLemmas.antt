@@ -2,7 +2,7 @@
 use Rattle.std.proofs.Common.{ℕ, ◌⊎◌, ⊎_elim, inl, inr, List, Option, IsSome, Contains}
 use Rattle.vc_object.specs.ObjectMap.{ObjectMap, parents_in}
 use Rattle.vc_object.specs.declared.id.ObjectId.{ObjectId}
-use Rattle.vc_graph.specs.Graph.{IsClosedUnder, LinksTo, Reaches, ReachedFrom, itself, onward}
+use Rattle.vc_object_map.specs.Graph.{IsClosedUnder, LinksTo, Reaches, ReachedFrom, itself, onward}
 use Rattle.vc_history.specs.Generation.{Agrees}
 use Rattle.vc_history.specs.Walk.{Gathers, parents_read}
 use Rattle.vc_history.proofs.GenerationLemmas.{Contains-from_LinksTo}

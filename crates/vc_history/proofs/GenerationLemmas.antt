@@ -1,6 +1,6 @@
 -- Generations by the generations of the parents, and what they say of a history.
 use Rattle.std.proofs.Common.{◌≡◌, ◌≢◌, ℕ, zero, suc, ◌+◌, ◌<◌, ◌⊎◌, inl, inr, ⊎_elim, List, Option, Some, None, IsSome, Contains, sym, subst, ◌∙◌, refl, arith, true≢false}
-use Rattle.vc_graph.specs.Graph.{LinksTo, Reaches, IsClosed, itself, onward}
+use Rattle.vc_object_map.specs.Graph.{LinksTo, Reaches, IsClosed, itself, onward}
 use Rattle.vc_history.specs.Generation.{Agrees, HasGeneration, Leads}
 use Rattle.vc_history.specs.History.{IsAncestor}
 

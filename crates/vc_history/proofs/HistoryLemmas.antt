@@ -9,10 +9,10 @@ use Rattle.vc_object.specs.ObjectMap.{ObjectMap, parents_in}
 use Rattle.vc_object.specs.Decoding.{StoredObject}
 use Rattle.vc_object.specs.Links.{parents_of}
 use Rattle.vc_object.specs.declared.id.ObjectId.{ObjectId}
-use Rattle.vc_graph.specs.Graph.{LinksTo, Reaches, ReachedFrom, itself, onward}
-use Rattle.vc_graph.proofs.FaultLemmas.{IsMet-more}
+use Rattle.vc_object_map.specs.Graph.{LinksTo, Reaches, ReachedFrom, itself, onward}
+use Rattle.vc_object_map.proofs.FaultLemmas.{IsMet-more}
 use Rattle.vc_history.specs.HistoryFault.{IsTold, IsOfNext}
-use Rattle.vc_history.specs.Parents.{IsOther}
+use Rattle.vc_object_map.specs.Parents.{IsOther}
 use Rattle.vc_history.specs.declared.fault.HistoryFault.{HistoryFault}
 use Rattle.vc_history.specs.declared.fault.HistoryFault.TheVariants.{Missing, NotACommit, Store}
 

@@ -1,7 +1,7 @@
 -- What a history that was read and numbered says of generations.
 use Rattle.std.proofs.Common.{◌≡◌, ℕ, zero, suc, ◌+◌, ◌<◌, ◌^◌, ◌⊎◌, inl, inr, ⊎_elim, List, ◌∷◌, Option, Some, IsSome, Contains, ◌↔◌, ap, ◌∙◌, refl, arith, []}
-use Rattle.vc_graph.specs.Graph.{LinksTo, Reaches, IsClosed, itself, onward}
-use Rattle.vc_graph.proofs.WalkLemmas.{ReachedFrom-one, Reaches-from_one}
+use Rattle.vc_object_map.specs.Graph.{LinksTo, Reaches, IsClosed, itself, onward}
+use Rattle.vc_object_map.proofs.WalkLemmas.{ReachedFrom-one, Reaches-from_one}
 use Rattle.vc_object.specs.ObjectMap.{ObjectMap, parents_in}
 use Rattle.vc_object.specs.declared.id.ObjectId.{ObjectId}
 use Rattle.vc_history.specs.Generation.{Agrees, HasGeneration, Leads}

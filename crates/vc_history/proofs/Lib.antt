@@ -1,12 +1,9 @@
-pub mod BestLemmas
+pub mod FilterLemmas
 pub mod GatheredLemmas
 pub mod GenerationLemmas
 pub mod HistoryLemmas
 pub mod LearntLemmas
 pub mod NumberingLemmas
-pub mod PartLemmas
-pub mod PassedLemmas
-pub mod OverlayLemmas
 pub mod StoredLemmas
 pub mod TowardLemmas
 pub mod WalkLemmas

@@ -12,7 +12,7 @@ use Rattle.vc_object.specs.declared.id.ObjectId.{ObjectId}
 use Rattle.vc_history.specs.Numbering.{IsHeld, IsLast, IsOver, Keeps, LeavesIt, LetsItWait, LooksAt, NumbersHistory, NumbersIt, WaitsFor}
 use Rattle.vc_history.specs.Walk.{parents_read}
 use Rattle.vc_history.proofs.HistoryLemmas.{position-from_Contains}
-use Rattle.vc_graph.proofs.WalkLemmas.{Contains-from_slice_get}
+use Rattle.vc_object_map.proofs.WalkLemmas.{Contains-from_slice_get}
 
 -- the numbers of some parents, and the greatest of them, 0 where there is none
 pub record Greatest (known : ObjectId → Option ℕ) (parents : List ObjectId) (n : ℕ) : Type 0 where

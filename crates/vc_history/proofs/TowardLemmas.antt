@@ -1,7 +1,7 @@
 -- What the numbers rule out of a walk that looks for one commit.
 use Rattle.std.proofs.Common.{◌≡◌, ◌≢◌, ℕ, ◌<◌, ◌≤◌, Bool, true, false, if◌then◌else◌, List, Option, Some, None, IsSome, sym, ap, ◌∙◌, refl, true≢false, arith, nat_le}
 use Rattle.std.proofs.lemmas.Bool.{le-leb, leb-true}
-use Rattle.vc_graph.specs.Graph.{itself}
+use Rattle.vc_object_map.specs.Graph.{itself}
 use Rattle.vc_object.proofs.IdLemmas.{id_eq-same, id_eq_equiv}
 use Rattle.vc_object.specs.ObjectId.{id_eq}
 use Rattle.vc_object.specs.declared.id.ObjectId.{ObjectId}

@@ -13,16 +13,16 @@ use Rattle.vc_object.specs.ObjectId.{id_eq}
 use Rattle.vc_object.specs.declared.id.ObjectId.{ObjectId}
 use Rattle.vc_object.proofs.IdLemmas.{id_eq-same, id_eq_equiv}
 use Rattle.vc_object.proofs.ObjectMaps.{parents_in-none}
-use Rattle.vc_graph.specs.Graph.{LinksTo, Reaches, ReachedFrom, itself, onward}
-use Rattle.vc_graph.proofs.WalkLemmas.{Walks, Walks-start, Walks-step, insert_all-prefix, Contains-insert_all_old, Contains-from_slice_get, IsFollowed-none}
+use Rattle.vc_object_map.specs.Graph.{LinksTo, Reaches, ReachedFrom, itself, onward}
+use Rattle.vc_object_map.proofs.WalkLemmas.{Walks, Walks-start, Walks-step, insert_all-prefix, Contains-insert_all_old, Contains-from_slice_get, IsFollowed-none}
 use Rattle.vc_history.specs.HistoryFault.{IsTold}
 use Rattle.vc_history.specs.Generation.{Agrees}
-use Rattle.vc_history.specs.Parents.{IsOther}
+use Rattle.vc_object_map.specs.Parents.{IsOther}
 use Rattle.vc_history.specs.Walk.{Gathers, Reads, parents_read, read_at, unnumbered}
 use Rattle.vc_history.specs.declared.fault.HistoryFault.TheVariants.{NotACommit}
 use Rattle.vc_history.proofs.GatheredLemmas.{met_or_beyond-linked}
 use Rattle.vc_history.proofs.HistoryLemmas.{Reaches-same, LinksTo-steps, LinksTo-parents, steps_in, steps_in-commit, steps_in-other, there-from_steps, position-from_Contains}
-use Rattle.vc_history.proofs.PassedLemmas.{Contains-filter, Contains-from_filter}
+use Rattle.vc_history.proofs.FilterLemmas.{Contains-filter, Contains-from_filter}
 
 module _ (objects : ObjectMap) (beyond : ObjectId → Option ℕ) where
   -- where the walk goes from a name

@@ -3,7 +3,7 @@
 -- there, and none for any other name.
 use Rattle.std.specs.Prelude.{◌≡◌, ◌↔◌, ◌⊎◌, ◌+◌, ◌<◌, ◌^◌, ℕ, zero, suc, List, Option, Some, IsSome}
 use Rattle.vc_history.specs.History.{IsAncestor}
-use Rattle.vc_graph.specs.Graph.{IsClosed, LinksTo}
+use Rattle.vc_object_map.specs.Graph.{IsClosed, LinksTo}
 
 module _ {Id : Type 0} (parents : Id → Option (List Id)) where
   -- a list of n parent links leads from x to y

@@ -1,7 +1,7 @@
 -- The history of commits. `parents` gives the parents of a commit that is there, and none for any other name. Ancestry is
 -- a relation: nothing here asks that it has no cycle.
 use Rattle.std.specs.Prelude.{◌≢◌, List, Option}
-use Rattle.vc_graph.specs.Graph.{IsReachedBeyond, Reaches}
+use Rattle.vc_object_map.specs.Graph.{IsReachedBeyond, Reaches}
 
 module _ {Id : Type 0} (parents : Id → Option (List Id)) where
   -- a list of parent links leads from b to a, through commits; every name is its own ancestor (git-merge-base,

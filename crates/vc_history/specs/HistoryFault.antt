@@ -1,12 +1,12 @@
 -- What a refusal of this crate says of the objects.
 use Rattle.std.specs.Prelude.{◌≡◌, ◌⊎◌, ℕ, List, Option, None, IsSome}
-use Rattle.vc_graph.specs.Graph.{ReachedFrom}
-use Rattle.vc_graph.specs.GraphFault.{IsMet}
+use Rattle.vc_object_map.specs.Graph.{ReachedFrom}
+use Rattle.vc_object_map.specs.StoreFault.{IsMet}
 use Rattle.vc_object.specs.ObjectMap.{ObjectMap, links_in, parents_in}
 use Rattle.vc_object.specs.declared.id.ObjectId.{ObjectId}
-use Rattle.vc_store.specs.declared.faults.StoreFault.{StoreFault}
+use Rattle.vc_object_map.specs.declared.faults.StoreFault.{StoreFault}
 use Rattle.vc_history.specs.Generation.{Agrees}
-use Rattle.vc_history.specs.Parents.{IsOther}
+use Rattle.vc_object_map.specs.Parents.{IsOther}
 use Rattle.vc_history.specs.declared.fault.HistoryFault.{HistoryFault}
 use Rattle.vc_history.specs.declared.fault.HistoryFault.TheVariants.{Missing, NotACommit, Store}
 

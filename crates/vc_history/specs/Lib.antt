@@ -2,9 +2,6 @@ pub mod HistoryFault
 pub mod Generation
 pub mod History
 pub mod Numbering
-pub mod Parents
-pub mod Part
-pub mod Passed
 pub mod Right
 pub mod Stored
 pub mod Toward

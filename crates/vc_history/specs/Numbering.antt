@@ -13,6 +13,10 @@ use Rattle.vc_object.specs.declared.id.ObjectId.{ObjectId}
 abbrev pub numbers : Generations → ObjectId → Option ℕ
 numbers generations id = get id_eq generations.numbers id
 
+-- how many names have one
+abbrev pub count : Generations → ℕ
+count generations = length generations.numbers.entries
+
 -- each of these parents has a number, and n is one more than the greatest, or 1 where there is none
 pub record IsOver (known : ObjectId → Option ℕ) (parents : List ObjectId) (n : ℕ) : Type 0 where
   pub greater : (y : ObjectId) → Contains parents y → (m : ℕ) × (known y ≡ Some m) × (m < n)

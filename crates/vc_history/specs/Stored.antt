@@ -2,7 +2,7 @@
 use Rattle.vc_history.specs.Right.{AgreesWith}
 use Rattle.vc_history.specs.declared.generations.Generations.{Generations}
 use Rattle.vc_files.specs.FileMap.{FileMap}
-use Rattle.vc_store.specs.Store.{objects}
+use Rattle.vc_object_map.specs.Store.{objects}
 
 -- the numbers agree with what is stored
 abbrev pub AgreesIn : FileMap → Generations → Type 0

@@ -2,9 +2,9 @@
 -- has the numbers of the names that it does not go on to: those that lie beyond its limit.
 use Rattle.std.specs.Prelude.{◌≡◌, ◌⊎◌, ◌++◌, ℕ, List, [], ◌∷◌, Option, Some, None, IsSome, Contains, filter, get_or, is_none, length, map, position, slice_get}
 use Rattle.indexmap.specs.IndexSet.{insert_all}
-use Rattle.vc_history.specs.Parents.{IsOther}
+use Rattle.vc_object_map.specs.Parents.{IsOther}
 use Rattle.vc_history.specs.declared.walk.Walk.{Walk}
-use Rattle.vc_graph.specs.Graph.{ReachedFrom}
+use Rattle.vc_object_map.specs.Graph.{ReachedFrom}
 use Rattle.vc_object.specs.ObjectId.{id_eq}
 use Rattle.vc_object.specs.ObjectMap.{ObjectMap, parents_in}
 use Rattle.vc_object.specs.declared.id.ObjectId.{ObjectId}

@@ -1,6 +1,6 @@
 -- Histories of which every commit is there.
 use Rattle.std.specs.Prelude.{List}
-use Rattle.vc_graph.specs.Graph.{IsClosed, IsClosedUnder}
+use Rattle.vc_object_map.specs.Graph.{IsClosed, IsClosedUnder}
 use Rattle.vc_object.specs.ObjectMap.{ObjectMap, parents_in}
 use Rattle.vc_object.specs.declared.id.ObjectId.{ObjectId}
 

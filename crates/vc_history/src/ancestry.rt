@@ -5,15 +5,15 @@ ghost use Rattle.vc_history.specs.History.{IsAncestor};
 ghost use Rattle.vc_history.specs.Right.{TellsWhereRight, WhereRight};
 ghost use Rattle.vc_history.specs.Whole.{IsWhole};
 ghost use Rattle.vc_files.specs.Failures.{Wears};
-ghost use Rattle.vc_graph.specs.Graph.{IsClosed};
+ghost use Rattle.vc_object_map.specs.Graph.{IsClosed};
 
 use crate::toward::Toward;
 use crate::walk::{Limit, NoLimit, Walk, read_history};
-use crate::{Commits, Generations, HistoryFault};
+use crate::{Generations, HistoryFault};
 use std::alloc::Global;
 use vc_files::Fault;
 use vc_object::ObjectId;
-use vc_store::StoreFault;
+use vc_object_map::{Commits, StoreFault};
 
 /// Whether `a` is an ancestor of `b`. A commit is its own ancestor. The walk goes from `b` and ends where it reads `a`. It
 /// passes over each numbered commit other than `a` where `a` has no number, or one that is not less. What lies beyond may be

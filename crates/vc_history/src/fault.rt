@@ -2,15 +2,14 @@
 ghost use Rattle.std.specs.Prelude.{◌≡◌};
 ghost use Rattle.vc_history.specs.declared.fault.HistoryFault.TheVariants.{Store};
 ghost use Rattle.vc_files.specs.declared.faults.Fault.TheVariants.{Memory};
-ghost use Rattle.vc_store.specs.declared.faults.StoreFault.TheVariants.{Fault};
+ghost use Rattle.vc_object_map.specs.declared.faults.StoreFault.TheVariants.{Fault};
 
 use std::alloc::{AllocError, AllocFailed};
 use std::error::Error;
 use std::fmt;
 use vc_files::Fault;
-use vc_graph::MISSING;
 use vc_object::ObjectId;
-use vc_store::StoreFault;
+use vc_object_map::{MISSING, StoreFault};
 
 /// What is printed where an object that should be a commit is of another kind.
 pub const NOT_A_COMMIT: &str = "41 NotACommit";

@@ -2,20 +2,20 @@
 //! other than the commit itself, has a smaller one.
 ghost use Rattle.std.specs.Prelude.{◌≡◌, ◌∷◌, [], None, IfErr, IsErrOf, OnOk, OnErr};
 ghost use Rattle.vc_history.specs.Generation.{Learns};
-ghost use Rattle.vc_history.specs.Numbering.{numbers};
+ghost use Rattle.vc_history.specs.Numbering.{count, numbers};
 ghost use Rattle.vc_history.specs.Right.{AgreesWith, TellsWhereRight, WhereRight};
 ghost use Rattle.vc_files.specs.Failures.{Wears};
-ghost use Rattle.vc_graph.specs.Graph.{IsClosed};
+ghost use Rattle.vc_object_map.specs.Graph.{IsClosed};
 ghost use Rattle.vc_object.specs.declared.id.ObjectId.{ObjectId as Id};
 
+use crate::HistoryFault;
 use crate::numbering::number_history;
 use crate::walk::{Limit, read_history};
-use crate::{Commits, HistoryFault};
 use indexmap::IndexMap;
 use std::alloc::Global;
 use vc_files::Fault;
 use vc_object::ObjectId;
-use vc_store::StoreFault;
+use vc_object_map::{Commits, StoreFault};
 
 /// Generations of commits, where they are known.
 #[derive(Drop)]
@@ -41,8 +41,10 @@ impl Generations {
         self.numbers.get(id).copied()
     }
 
-    // How many commits have one. None has a greater one.
-    pub(crate) fn count(&self) -> u64 {
+    /// How many commits have one. None has a greater one.
+    pub fn count(&self) -> u64
+        ensures count { result ≡ count self.now }
+    {
         self.numbers.len() as u64
     }
 

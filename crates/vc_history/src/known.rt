@@ -2,18 +2,16 @@
 //! what lies below it.
 ghost use Rattle.std.specs.Prelude.{◌≡◌, ◌∷◌, [], length, take, IsTrue, IfOk, IfErr, IsErrOf, Contains};
 ghost use Rattle.vc_files.specs.Failures.{Wears};
-ghost use Rattle.vc_graph.specs.Complete.{KnowsIfYes};
-ghost use Rattle.vc_graph.specs.Graph.{IsMetBeyond, TellsBeyond};
+ghost use Rattle.vc_object_map.specs.Complete.{KnowsIfYes};
+ghost use Rattle.vc_object_map.specs.Graph.{IsMetBeyond, TellsBeyond};
 ghost use Rattle.vc_history.specs.HistoryFault.{IsMetInHistory};
 ghost use Rattle.vc_history.specs.Whole.{AreWholeBeyond};
 ghost use Rattle.vc_object.specs.ObjectMap.{parents_in};
 
-use crate::{Commits, Parents};
 use indexmap::IndexSet;
 use vc_files::Fault;
-use vc_graph::add_names;
 use vc_object::ObjectId;
-use vc_store::StoreFault;
+use vc_object_map::{Commits, Parents, StoreFault, add_names};
 
 /// Whether the root is a commit that is there, and every name that parent links lead to from it is one, where this is known
 /// of the known names. What is known is not read again, nor is what lies below it. Where the answer is yes, what was met is

@@ -3,7 +3,7 @@ ghost use Rattle.std.specs.Prelude.{◌≡◌, ◌≢◌, ◌<◌, ℕ, Option};
 ghost use Rattle.vc_history.specs.Generation.{Agrees};
 ghost use Rattle.vc_history.specs.History.{IsAncestor};
 ghost use Rattle.vc_history.specs.Right.{AreAllIn, IsGeneration};
-ghost use Rattle.vc_graph.specs.Graph.{LinksTo};
+ghost use Rattle.vc_object_map.specs.Graph.{LinksTo};
 ghost use Rattle.vc_object.specs.ObjectMap.{ObjectMap, parents_in};
 ghost use Rattle.vc_object.specs.declared.id.ObjectId.{ObjectId as Id};
 

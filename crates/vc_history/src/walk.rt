@@ -5,30 +5,30 @@ ghost use Rattle.indexmap.specs.IndexSet.{insert_all};
 ghost use Rattle.vc_history.specs.HistoryFault.{IsOfNext, IsToldWhereRight};
 ghost use Rattle.vc_history.specs.Walk.{IsNext, IsReadOf, WalkGathers, WalkReads, graph_of, parents_read, read_by, unnumbered};
 ghost use Rattle.vc_files.specs.Failures.{Wears};
-ghost use Rattle.vc_graph.specs.Graph.{ReachedFrom};
+ghost use Rattle.vc_object_map.specs.Graph.{ReachedFrom};
 ghost use Rattle.vc_object.specs.ObjectId.{id_eq};
 ghost use Rattle.vc_object.specs.declared.id.ObjectId.{ObjectId as Id};
 
-use crate::{Commits, HistoryFault, Parents};
+use crate::HistoryFault;
 use indexmap::IndexSet;
 use std::alloc::{AllocError, Global};
 use vc_files::Fault;
 use vc_object::ObjectId;
-use vc_store::StoreFault;
+use vc_object_map::{Commits, Parents, StoreFault};
 
-// How far a walk goes: it reads its roots, and does not go on to what lies beyond the limit. A name beyond it has a number,
-// and so have its ancestors.
-pub(crate) trait Limit {
-    // The numbers of the names that lie beyond it.
+/// How far a walk goes: it reads its roots, and does not go on to what lies beyond the limit. A name beyond it has a number,
+/// and so have its ancestors.
+pub trait Limit {
+    /// The numbers of the names that lie beyond it.
     ghost beyond: { Self → Id → Option ℕ };
 
-    // Whether the name lies beyond it.
+    /// Whether the name lies beyond it.
     fn is_beyond(&self, id: &ObjectId) -> bool
         ensures { result ≡ is_some (beyond self.now id.now) };
 }
 
-// No limit: all that the roots reach is read.
-pub(crate) struct NoLimit;
+/// No limit: all that the roots reach is read.
+pub struct NoLimit;
 
 impl Limit for NoLimit {
     ghost beyond = { λ _ _. None };
@@ -38,15 +38,15 @@ impl Limit for NoLimit {
     }
 }
 
-// What a walk over a history has met, and what it has read of it.
+/// What a walk over a history has met, and what it has read of it.
 #[derive(Drop)]
-pub(crate) struct Walk {
-    // The names that were met, in order: those that were read, then those that are still to be read.
-    pub(crate) met: IndexSet<ObjectId>,
-    // The parents of those that were read, in the same order. An object that is no commit has none.
-    pub(crate) parents: Vec<Vec<ObjectId>>,
-    // One of those that were read that is no commit, if there is one.
-    pub(crate) other: Option<ObjectId>,
+pub struct Walk {
+    /// The names that were met, in order: those that were read, then those that are still to be read.
+    pub met: IndexSet<ObjectId>,
+    /// The parents of those that were read, in the same order. An object that is no commit has none.
+    pub parents: Vec<Vec<ObjectId>>,
+    /// One of those that were read that is no commit, if there is one.
+    pub other: Option<ObjectId>,
 }
 
 impl Walk {
@@ -87,8 +87,8 @@ impl Walk {
         Ok(id)
     }
 
-    // The parents that were read of a name: none of one that was not met.
-    pub(crate) fn parents_of(&self, id: &ObjectId) -> &[ObjectId]
+    /// The parents that were read of a name: none of one that was not met.
+    pub fn parents_of(&self, id: &ObjectId) -> &[ObjectId]
         ensures { result.now ≡ parents_read self.now.met.keys (read_by self.now) id.now }
     {
         let Some(place) = self.met.get_index_of(id) else {
@@ -100,8 +100,8 @@ impl Walk {
         }
     }
 
-    // What the roots reach by the parents that were read.
-    pub(crate) fn ancestors(
+    /// What the roots reach by the parents that were read.
+    pub fn ancestors(
         &self,
         alloc: Global,
         roots: &[ObjectId],
@@ -120,8 +120,8 @@ impl Walk {
     }
 }
 
-// Reads the history of some roots down to the limit. All that is read must be commits.
-pub(crate) fn read_history<C: Commits, L: Limit>(
+/// Reads the history of some roots down to the limit. All that is read must be commits.
+pub fn read_history<C: Commits, L: Limit>(
     alloc: Global,
     commits: &mut C,
     roots: &[ObjectId],

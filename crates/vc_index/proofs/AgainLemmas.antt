@@ -6,7 +6,7 @@ use Rattle.std.specs.FinMap.{get, entries, get-entries, same_entries_map}
 use Rattle.hex.specs.Hex.{encode_lower}
 use Rattle.vc_object.specs.Tree.{mode_text}
 use Rattle.vc_files.specs.declared.faults.Fault.TheVariants.{Memory}
-use Rattle.vc_store.specs.declared.faults.StoreFault.TheVariants.{Fault}
+use Rattle.vc_object_map.specs.declared.faults.StoreFault.TheVariants.{Fault}
 use Rattle.vc_index.specs.IndexMap.{IndexMap, IsIndex}
 use Rattle.vc_index.specs.IndexText.{entry_text, index_text, entry_at, MayFollow, TextFault, IsOfRead}
 use Rattle.vc_index.specs.declared.entry.IndexEntry.{IndexEntry}

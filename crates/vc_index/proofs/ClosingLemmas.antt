@@ -22,11 +22,11 @@ use Rattle.vc_object.specs.declared.kind.Kind.TheVariants as kinds
 use Rattle.vc_object.specs.declared.mode.Mode.{Mode}
 use Rattle.vc_object.specs.declared.mode.Mode.TheVariants as modes
 use Rattle.vc_object.proofs.IdLemmas.{IsId-from_is_id}
-use Rattle.vc_store.specs.Store.{IsDamaged, with_object, with_objects}
-use Rattle.vc_store.specs.StoreFault.{IsOfDamage}
+use Rattle.vc_object_map.specs.Store.{IsDamaged, with_object, with_objects}
+use Rattle.vc_object_map.specs.StoreFault.{IsOfDamage}
 use Rattle.vc_files.specs.FileMap.{FileMap}
-use Rattle.vc_store.specs.declared.faults.StoreFault.{StoreFault}
-use Rattle.vc_store.specs.declared.faults.StoreFault.TheVariants.{Damaged}
+use Rattle.vc_object_map.specs.declared.faults.StoreFault.{StoreFault}
+use Rattle.vc_object_map.specs.declared.faults.StoreFault.TheVariants.{Damaged}
 use Rattle.vc_index.specs.Building.{Begins, Nested, InPlaces, IsNext, IsLeft, IsSoundPart, HasOver, ArePartTrees, Building, Closes, IsInside, open_length}
 use Rattle.vc_index.specs.FolderTrees.{AreJoined, AreIndexTrees, Fits}
 use Rattle.vc_index.specs.HeldFiles.{Pair, HasFile, placed}

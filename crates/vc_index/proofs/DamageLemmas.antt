@@ -12,8 +12,8 @@ use Rattle.vc_object.specs.ObjectId.{is_id}
 use Rattle.vc_object.specs.ObjectMap.{ObjectMap}
 use Rattle.vc_object.specs.declared.id.ObjectId.{ObjectId}
 use Rattle.vc_object.specs.declared.kind.Kind.{Kind}
-use Rattle.vc_store.specs.Store.{IsDamaged, object_path, objects, stored_in, with_file, with_object, name_in}
-use Rattle.vc_store.specs.declared.faults.StoreFault.TheVariants.{Damaged}
+use Rattle.vc_object_map.specs.Store.{IsDamaged, object_path, objects, stored_in, with_file, with_object, name_in}
+use Rattle.vc_object_map.specs.declared.faults.StoreFault.TheVariants.{Damaged}
 use Rattle.vc_store.proofs.PathLemmas.{name_in-object_path, named_by_path}
 use Rattle.vc_store.proofs.StoreLemmas.{objects-absent}
 use Rattle.vc_index.specs.Damage.{KeepsDamage}

@@ -16,8 +16,8 @@ use Rattle.vc_object.specs.declared.fault.ObjectFault.TheVariants.{TooLarge}
 use Rattle.vc_object.specs.declared.id.ObjectId.{ObjectId}
 use Rattle.vc_object.specs.declared.kind.Kind.TheVariants as kinds
 use Rattle.vc_object.specs.declared.mode.Mode.TheVariants as modes
-use Rattle.vc_store.specs.declared.faults.StoreFault.{StoreFault}
-use Rattle.vc_store.specs.declared.faults.StoreFault.TheVariants.{BadObject, Absent, Damaged, Fault}
+use Rattle.vc_object_map.specs.declared.faults.StoreFault.{StoreFault}
+use Rattle.vc_object_map.specs.declared.faults.StoreFault.TheVariants.{BadObject, Absent, Damaged, Fault}
 use Rattle.vc_index.specs.Building.{IsLeft, IsSoundPart, Building, Joins, IsInside}
 use Rattle.vc_index.specs.FolderTrees.{AllFit, Fits, HasFitting}
 use Rattle.vc_index.specs.HeldFiles.{Pair}

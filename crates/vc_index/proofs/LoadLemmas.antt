@@ -20,10 +20,10 @@ use Rattle.vc_object.specs.declared.mode.Mode.TheVariants as modes
 use Rattle.vc_index.specs.HeldFiles.{Pair, under, Has, HasFile, placed}
 use Rattle.vc_index.specs.IndexMap.{IndexMap, index_entry, HasConflict}
 use Rattle.vc_files.specs.FileMap.{FileMap}
-use Rattle.vc_store.specs.Store.{objects, IsDamaged}
-use Rattle.vc_store.specs.StoreFault.{IsRefused}
-use Rattle.vc_store.specs.declared.faults.StoreFault.{StoreFault}
-use Rattle.vc_store.specs.declared.faults.StoreFault.TheVariants.{BadObject, Absent, Damaged, Fault}
+use Rattle.vc_object_map.specs.Store.{objects, IsDamaged}
+use Rattle.vc_object_map.specs.StoreFault.{IsRefused}
+use Rattle.vc_object_map.specs.declared.faults.StoreFault.{StoreFault}
+use Rattle.vc_object_map.specs.declared.faults.StoreFault.TheVariants.{BadObject, Absent, Damaged, Fault}
 use Rattle.vc_index.specs.declared.faults.IndexFault.{IndexFault}
 use Rattle.vc_index.specs.declared.faults.IndexFault.TheVariants.{BadPath, PathConflict, BadIndex, WrongEntry, Missing, Store}
 use Rattle.vc_index.specs.Loading.{ReachesEntry, IsEntryOfTree, IsOpened, IsDue, IsDueIn, IsSought, IsBlobIfDue, HasBlobs, IsOfLook, IsOfLoadIn, IsOfLoadStored, item_pair}

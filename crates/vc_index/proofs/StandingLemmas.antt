@@ -11,10 +11,10 @@ use Rattle.vc_object.specs.declared.fault.ObjectFault.TheVariants.{TooLarge}
 use Rattle.vc_object.specs.declared.id.ObjectId.{ObjectId}
 use Rattle.vc_object.specs.declared.kind.Kind.TheVariants as kinds
 use Rattle.vc_object.proofs.Objects as grammar
-use Rattle.vc_store.specs.Store.{with_objects}
-use Rattle.vc_store.specs.StoreFault.{IsOfPut}
-use Rattle.vc_store.specs.declared.faults.StoreFault.{StoreFault}
-use Rattle.vc_store.specs.declared.faults.StoreFault.TheVariants.{BadObject, Absent, Damaged, Fault}
+use Rattle.vc_object_map.specs.Store.{with_objects}
+use Rattle.vc_object_map.specs.StoreFault.{IsOfPut}
+use Rattle.vc_object_map.specs.declared.faults.StoreFault.{StoreFault}
+use Rattle.vc_object_map.specs.declared.faults.StoreFault.TheVariants.{BadObject, Absent, Damaged, Fault}
 use Rattle.vc_index.specs.Building.{IsLeft, Building, Stands, Closes, IsInside}
 use Rattle.vc_index.specs.FolderTrees.{AllFit, AreFirstTrees, AreIndexTrees, Fits}
 use Rattle.vc_index.specs.HeldFiles.{Pair}

@@ -12,7 +12,7 @@ use Rattle.vc_object.specs.ObjectMap.{ObjectMap}
 use Rattle.vc_object.specs.Tree.{Entry, IsName, key}
 use Rattle.vc_object.specs.declared.id.ObjectId.{ObjectId}
 use Rattle.vc_object.specs.declared.mode.Mode.{Mode}
-use Rattle.vc_store.specs.Store.{with_objects}
+use Rattle.vc_object_map.specs.Store.{with_objects}
 use Rattle.vc_index.specs.FolderTrees.{AllFit, AreEntryTrees, AreFirstTrees, AreFolderTrees, AreJoined}
 use Rattle.vc_index.specs.HeldFiles.{Pair, HasFile}
 use Rattle.vc_index.specs.IndexMap.{IndexMap, IsIndex, index_entry}

@@ -1,7 +1,7 @@
 -- What a refusal of an index says.
 use Rattle.std.specs.Prelude.{◌≡◌, ℕ, List}
 use Rattle.vc_files.specs.declared.faults.Fault.TheVariants.{Memory}
-use Rattle.vc_store.specs.declared.faults.StoreFault.TheVariants.{Fault}
+use Rattle.vc_object_map.specs.declared.faults.StoreFault.TheVariants.{Fault}
 use Rattle.vc_index.specs.IndexMap.{IndexMap, HasConflict}
 use Rattle.vc_index.specs.Path.{IsPath}
 use Rattle.vc_index.specs.declared.faults.IndexFault.{IndexFault}

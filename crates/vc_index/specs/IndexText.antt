@@ -14,7 +14,7 @@ use Rattle.vc_object.specs.Lines.{after_word, lower_id, split}
 use Rattle.vc_object.specs.Tree.{mode_text}
 use Rattle.vc_object.specs.declared.id.ObjectId.{ObjectId}
 use Rattle.vc_object.specs.declared.mode.Mode.{Mode}
-use Rattle.vc_store.specs.declared.faults.StoreFault.TheVariants.{Fault}
+use Rattle.vc_object_map.specs.declared.faults.StoreFault.TheVariants.{Fault}
 use Rattle.vc_index.specs.IndexMap.{IndexMap, IsIndex, IsFile, HasConflict, index_entry}
 use Rattle.vc_index.specs.declared.entry.IndexEntry.{IndexEntry}
 use Rattle.vc_index.specs.declared.faults.IndexFault.{IndexFault}

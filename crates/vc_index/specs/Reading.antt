@@ -7,7 +7,7 @@ use Rattle.std.specs.Ordering.{nat_cmp, is_gt}
 use Rattle.std.specs.Cmp.Lexicographic.{slice_cmp}
 use Rattle.std.specs.declared.cmp.Ordering.TheVariants.{Less}
 use Rattle.vc_files.specs.declared.faults.Fault.TheVariants.{Memory}
-use Rattle.vc_store.specs.declared.faults.StoreFault.TheVariants.{Fault}
+use Rattle.vc_object_map.specs.declared.faults.StoreFault.TheVariants.{Fault}
 use Rattle.vc_index.specs.IndexMap.{HasFileAbove, IndexMap, IsIndex}
 use Rattle.vc_index.specs.Path.{IsPath}
 use Rattle.vc_index.specs.declared.entry.IndexEntry.{IndexEntry}

@@ -17,9 +17,9 @@ use Rattle.vc_index.specs.IndexMap.{IndexMap, index_entry}
 use Rattle.vc_index.specs.Part.{parts_size}
 use Rattle.vc_index.specs.Path.{IsAbove}
 use Rattle.vc_index.specs.TreeFiles.{IsFileOfTree}
-use Rattle.vc_store.specs.Store.{with_objects}
-use Rattle.vc_store.specs.declared.faults.StoreFault.{StoreFault}
-use Rattle.vc_store.specs.declared.faults.StoreFault.TheVariants.{BadObject, Absent, Damaged, Fault}
+use Rattle.vc_object_map.specs.Store.{with_objects}
+use Rattle.vc_object_map.specs.declared.faults.StoreFault.{StoreFault}
+use Rattle.vc_object_map.specs.declared.faults.StoreFault.TheVariants.{BadObject, Absent, Damaged, Fault}
 use Rattle.vc_index.specs.declared.faults.IndexFault.{IndexFault}
 use Rattle.vc_index.specs.declared.faults.IndexFault.TheVariants.{BadPath, PathConflict, BadIndex, WrongEntry, Missing, Store}
 use Rattle.vc_index.specs.declared.trees.Part.{Part}

@@ -1,13 +1,13 @@
 // Why a call on an index gives no answer.
 ghost use Rattle.std.specs.Prelude.{◌≡◌};
 ghost use Rattle.vc_files.specs.declared.faults.Fault.TheVariants.{Memory};
-ghost use Rattle.vc_store.specs.declared.faults.StoreFault.TheVariants.{Fault};
+ghost use Rattle.vc_object_map.specs.declared.faults.StoreFault.TheVariants.{Fault};
 ghost use Rattle.vc_index.specs.declared.faults.IndexFault.TheVariants.{Store};
 
 use std::alloc::{AllocError, AllocFailed};
 use vc_files::Fault;
 use vc_object::ObjectId;
-use vc_store::StoreFault;
+use vc_object_map::StoreFault;
 
 /// Why a call on an index gives no answer.
 #[derive(Drop)]

@@ -3,7 +3,7 @@ ghost use Rattle.std.specs.Prelude.{◌≡◌, ◌≢◌, ◌↔◌, OnOk, OnErr
 ghost use Rattle.std.specs.FinMap as paths;
 ghost use Rattle.vc_files.specs.Failures.{Wears, Writes};
 ghost use Rattle.vc_files.specs.FileMap.{SameOutside};
-ghost use Rattle.vc_store.specs.Store.{objects, IsDamaged};
+ghost use Rattle.vc_object_map.specs.Store.{objects, IsDamaged};
 ghost use Rattle.vc_index.specs.Loading.{HasBlobs, IsOfList, IsOfLoad};
 ghost use Rattle.vc_index.specs.TreeReading.{IsAnswered, IsIndexOfTree, ListsAs, ReadsAs, TreeFault, tree_fault};
 ghost use Rattle.vc_index.specs.WrittenTrees.{IsWritten, IsBegun, IsOfWrite, MayHaveBegun};
@@ -29,7 +29,7 @@ use std::marker::Model;
 use std::ops::Bound;
 use vc_files::{Fault, Files};
 use vc_object::{Mode, ObjectId};
-use vc_store::StoreFault;
+use vc_object_map::StoreFault;
 
 /// Files by their paths, sorted by the bytes of the paths. No file's path is the folder of another's.
 #[derive(Drop)]

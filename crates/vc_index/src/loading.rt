@@ -4,7 +4,7 @@ ghost use Rattle.std.specs.FinMap as paths;
 ghost use Rattle.vc_files.specs.Failures.{Wears};
 ghost use Rattle.vc_object.specs.Decoding.{stored_object};
 ghost use Rattle.vc_object.specs.Entries.{entries_of};
-ghost use Rattle.vc_store.specs.Store.{objects};
+ghost use Rattle.vc_object_map.specs.Store.{objects};
 ghost use Rattle.vc_index.specs.HeldFiles.{placed, under};
 ghost use Rattle.vc_index.specs.Loading.{HasBlobs, IsOfLook, IsOfLoadIn, IsOpened, IsBlobIfDue, item_pair};
 ghost use Rattle.vc_index.specs.TreeReading.{IsIndexOfTree, ReadsIn, TreeFault, tree_fault};
@@ -13,7 +13,8 @@ use crate::{Index, IndexEntry, IndexFault, MAX_PATH};
 use std::alloc::{AllocError, Global};
 use vc_files::{Fault, Files};
 use vc_object::{Kind, Mode, ObjectId, Tree, tree_of};
-use vc_store::{StoreFault, Stored};
+use vc_object_map::StoreFault;
+use vc_store::Stored;
 
 /// Which objects are looked for: those of the trees alone, or also the blob of each file and each link.
 #[derive(Clone, Copy, PartialEq)]

@@ -6,7 +6,7 @@ ghost use Rattle.vc_files.specs.FileMap.{SameOutside};
 ghost use Rattle.vc_object.specs.Bytes.{Without};
 ghost use Rattle.vc_object.specs.Object.{max_body};
 ghost use Rattle.vc_object.specs.Tree.{spelling};
-ghost use Rattle.vc_store.specs.Store.{objects, IsDamaged};
+ghost use Rattle.vc_object_map.specs.Store.{objects, IsDamaged};
 ghost use Rattle.vc_index.specs.Building.{Closes, ClosesFolders, IsInside, IsLeft, IsNext, JoinsFolders, RefusesFolders, RefusesJoins, Stands, StandsBehind, open_length};
 ghost use Rattle.vc_index.specs.Damage.{KeepsDamage};
 ghost use Rattle.vc_index.specs.FolderTrees.{HasFitting};
@@ -20,7 +20,7 @@ use std::alloc::{AllocError, Global};
 use std::collections::BTreeMap;
 use vc_files::{Fault, Files};
 use vc_object::{Kind, MAX_BODY, Mode, ObjectFault, ObjectId};
-use vc_store::StoreFault;
+use vc_object_map::StoreFault;
 
 /// A file, or a folder whose tree is stored: the folder above it, which ends in `/` or is empty, and its name.
 #[derive(Clone, Copy)]

@@ -10,14 +10,14 @@ use Rattle.vc_model.specs.CloneCall.{CloneAnswers, Refuses}
 use Rattle.vc_model.specs.CloneCall.CloneAnswers.{down, refused, obeyed, faulted}
 use Rattle.vc_model.specs.CloneCall.CloneCall.{Command}
 use Rattle.vc_refs.specs.declared.faults.RefFault.TheVariants as ref
-use Rattle.vc_store.specs.declared.faults.StoreFault.TheVariants as store
+use Rattle.vc_object_map.specs.declared.faults.StoreFault.TheVariants as store
 use Rattle.vc_local.specs.declared.fault.NodeFault.{NodeFault}
 use Rattle.vc_local.specs.declared.fault.NodeFault.TheVariants.{Store, Ref, Missing, NotACommit, BadPath, PathConflict, BadIndex, WrongEntry, Down}
 use Rattle.vc_local.specs.Clean.{IsClean}
 use Rattle.vc_local.specs.NodeFault.{is_fault}
 use Rattle.vc_local.specs.Shown.{Shown, shown}
 use Rattle.vc_rules.specs.Git.{git}
-use Rattle.vc_rules.proofs.GitLaws.{git_rules}
+use Rattle.vc_values.proofs.GitLaws.{git_rules}
 use Rattle.vc_local.specs.Machine.{live_of, Spells, Follows, Goes, AnswersShown, IsBadFile, fault_answer}
 
 -- a node that is down

@@ -9,7 +9,7 @@ use Rattle.vc_refs.specs.Head.{head_of}
 use Rattle.vc_refs.specs.Refs.{packed_at}
 use Rattle.vc_refs.proofs.LayeredListingLemmas.{head_of-same}
 use Rattle.vc_rules.specs.OpenPushes.{HoldsContent}
-use Rattle.vc_session.specs.Clean.{MakesNoneBad}
+use Rattle.vc_quarantine.specs.Clean.{MakesNoneBad}
 use Rattle.vc_local.specs.Clean.{IsClean, KeepsClean}
 use Rattle.vc_local.specs.IndexFile.{index_bytes}
 use Rattle.vc_local.specs.Machine.{Spells}

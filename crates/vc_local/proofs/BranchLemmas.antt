@@ -26,8 +26,8 @@ use Rattle.vc_refs.specs.Obstacle.{IsFree as IsFreeName}
 use Rattle.vc_refs.specs.declared.heads.Head.{Head as RefsHead}
 use Rattle.vc_refs.specs.declared.heads.Head.TheVariants as heads
 use Rattle.vc_refs.proofs.LayeredChangeLemmas.{held_from_ref}
-use Rattle.vc_store.specs.Store.{objects}
-use Rattle.vc_store.specs.declared.faults.StoreFault.TheVariants as store
+use Rattle.vc_object_map.specs.Store.{objects}
+use Rattle.vc_object_map.specs.declared.faults.StoreFault.TheVariants as store
 use Rattle.vc_refs.specs.declared.faults.RefFault.TheVariants as ref
 use Rattle.vc_local.specs.declared.fault.NodeFault.{NodeFault}
 use Rattle.vc_local.specs.declared.fault.NodeFault.TheVariants.{Store, Ref, Missing, NotACommit, BadPath, PathConflict, BadIndex, WrongEntry, Down}
@@ -35,7 +35,7 @@ use Rattle.vc_local.specs.Blames.{BlamesRemoved, BlamesBranch, BlamesHead, MayHe
 use Rattle.vc_local.specs.GoodCommit.{IsComplete, IsGoodBeyondRefs, IsHistory}
 use Rattle.vc_local.specs.Shown.{Shown, shown, with_refs_shown, with_head_shown}
 use Rattle.vc_rules.specs.Git.{git}
-use Rattle.vc_rules.proofs.GitLaws.{git_rules}
+use Rattle.vc_values.proofs.GitLaws.{git_rules}
 use Rattle.vc_local.specs.Machine.{machine_head, Spells, Follows, FollowsIf, IsBadFile, fault_answer, failure_of}
 use Rattle.vc_local.proofs.AnswerLemmas.{faults}
 use Rattle.vc_rules.proofs.MapLemmas.{get-unput, map_cond}
@@ -44,7 +44,7 @@ use Rattle.vc_local.proofs.NameLemmas.{head_named, set_named}
 use Rattle.vc_local.proofs.SoundAnswers.{declines_if, faults_if}
 use Rattle.vc_rules.proofs.RefLemmas.{conflicts_from, conflicts_to, id_some, set_rel, some_id}
 use Rattle.vc_rules.proofs.SoundLemmas.{objects_sound}
-use Rattle.vc_session.specs.Known.{AreRefsWhole}
+use Rattle.vc_push_rules.specs.Known.{AreRefsWhole}
 
 -- a name that begins so is a branch's
 pub branch_named : (name : List ℕ) → starts_with nat_eq name (codes "refs/heads/") ≡ true → IsBranch name

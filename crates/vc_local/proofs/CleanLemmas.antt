@@ -19,9 +19,9 @@ use Rattle.vc_refs.specs.RefMap.{IsInRefs}
 use Rattle.vc_refs.specs.Refs.{IsBadRef, ChangesOnly, packed_at, packed_path, refs}
 use Rattle.vc_refs.proofs.LayeredChangeLemmas.{unpacks_same}
 use Rattle.vc_refs.proofs.LayeredLemmas.{bad-same, bad_place, packed_map-same}
-use Rattle.vc_store.specs.Store.{objects, object_path, stored_in, with_object, with_file}
+use Rattle.vc_object_map.specs.Store.{objects, object_path, stored_in, with_object, with_file}
 use Rattle.vc_local.specs.Clean.{IsClean, KeepsClean, KeepsCleanBut, PacksOnly}
-use Rattle.vc_session.proofs.CleanLemmas.{bad_no_object}
+use Rattle.vc_quarantine.proofs.CleanLemmas.{bad_no_object}
 use Rattle.vc_local.proofs.ShownLemmas.{ref_no_index, shown_packed}
 
 pub clean_same : {name : List ℕ} (old new : FileMap) → new ≡ old → KeepsCleanBut name old new

@@ -29,13 +29,13 @@ use Rattle.vc_object.specs.declared.kind.Kind.TheVariants as kinds
 use Rattle.vc_refs.specs.Head.{head_of}
 use Rattle.vc_refs.specs.declared.heads.Head.{Head}
 use Rattle.vc_refs.specs.declared.heads.Head.TheVariants as heads
-use Rattle.vc_session.specs.Known.{AreRefsWhole}
-use Rattle.vc_store.specs.Store.{objects, with_object, with_objects}
+use Rattle.vc_push_rules.specs.Known.{AreRefsWhole}
+use Rattle.vc_object_map.specs.Store.{objects, with_object, with_objects}
 use Rattle.vc_local.specs.Commit.{IsCommitted, WritesCommit, made_body, moved, parents_of_commit}
 use Rattle.vc_local.specs.IndexFile.{SpellsIndex}
-use Rattle.vc_rules.specs.Git.{git, machine_entry, stored_of}
-use Rattle.vc_rules.specs.Trees.{TreesGive, ShowsIndex, ListsTrees}
-use Rattle.vc_rules.proofs.GitLaws.{git_rules}
+use Rattle.vc_rules.specs.Git.{git, stored_of}
+use Rattle.vc_values.specs.Trees.{machine_entry, TreesGive, ShowsIndex, ListsTrees}
+use Rattle.vc_values.proofs.GitLaws.{git_rules}
 use Rattle.vc_local.specs.Machine.{machine_head, Spells, FollowsIf}
 use Rattle.vc_local.specs.Making.{AreLines, HasRoot, IsCut, MayCommit}
 use Rattle.vc_local.specs.Shown.{Shown, shown, with_objects_shown}

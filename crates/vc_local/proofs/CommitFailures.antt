@@ -13,15 +13,15 @@ use Rattle.vc_object.specs.declared.id.ObjectId.{ObjectId}
 use Rattle.vc_object.specs.declared.kind.Kind.TheVariants as kinds
 use Rattle.vc_refs.specs.Head.{head_of}
 use Rattle.vc_refs.specs.declared.faults.RefFault.TheVariants as ref
-use Rattle.vc_session.specs.Known.{AreRefsWhole}
-use Rattle.vc_store.specs.declared.faults.StoreFault.{StoreFault}
-use Rattle.vc_store.specs.declared.faults.StoreFault.TheVariants as store
+use Rattle.vc_push_rules.specs.Known.{AreRefsWhole}
+use Rattle.vc_object_map.specs.declared.faults.StoreFault.{StoreFault}
+use Rattle.vc_object_map.specs.declared.faults.StoreFault.TheVariants as store
 use Rattle.vc_local.specs.Commit.{parents_of_commit}
 use Rattle.vc_local.specs.GoodCommit.{BlamesCommit}
 use Rattle.vc_local.specs.IndexFile.{SpellsIndex, BlamesIndex}
 use Rattle.vc_rules.specs.Git.{git}
-use Rattle.vc_rules.specs.Faults.{object_number}
-use Rattle.vc_rules.proofs.GitLaws.{git_rules}
+use Rattle.vc_values.specs.Faults.{object_number}
+use Rattle.vc_values.proofs.GitLaws.{git_rules}
 use Rattle.vc_local.specs.Machine.{Spells, FollowsIf, IsBadFile, fault_answer, failure_of}
 use Rattle.vc_local.specs.Making.{AreLines, BlamesLook, BlamesParents, BlamesStored, BlamesObjects, BlamesMaking, HasHeadConflict, LeftByCommit, MayCommit}
 use Rattle.vc_local.specs.Making.BlamesMaking.{of_lines, of_look, of_conflict, of_parents, of_index, of_objects}

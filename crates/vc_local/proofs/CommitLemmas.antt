@@ -7,8 +7,8 @@ use Rattle.vc_history.specs.HistoryFault.{IsTold}
 use Rattle.vc_history.specs.declared.fault.HistoryFault.{HistoryFault}
 use Rattle.vc_history.specs.declared.fault.HistoryFault.TheVariants as base
 use Rattle.vc_files.specs.FileMap.{FileMap}
-use Rattle.vc_graph.specs.Graph.{Reaches, ReachedFrom, LinksTo}
-use Rattle.vc_graph.specs.Graph.Reaches.{itself, onward}
+use Rattle.vc_object_map.specs.Graph.{Reaches, ReachedFrom, LinksTo}
+use Rattle.vc_object_map.specs.Graph.Reaches.{itself, onward}
 use Rattle.vc_object.specs.Commit.{CommitText}
 use Rattle.vc_object.specs.CommitReading.{commit_of}
 use Rattle.vc_object.specs.Decoding.{StoredObject}
@@ -18,8 +18,8 @@ use Rattle.vc_object.specs.declared.id.ObjectId.{ObjectId}
 use Rattle.vc_object.specs.declared.kind.Kind.{Kind}
 use Rattle.vc_object.specs.declared.kind.Kind.TheVariants.{Blob, Tree, Commit, Tag}
 use Rattle.vc_object.proofs.ObjectMaps.{links_in-none, links_in-some, parents_in-none, parents_in-some}
-use Rattle.vc_store.specs.Store.{objects, IsDamaged}
-use Rattle.vc_store.specs.declared.faults.StoreFault.TheVariants as store
+use Rattle.vc_object_map.specs.Store.{objects, IsDamaged}
+use Rattle.vc_object_map.specs.declared.faults.StoreFault.TheVariants as store
 use Rattle.vc_local.specs.GoodCommit.{IsComplete, BlamesCommitBeyond}
 use Rattle.vc_local.specs.NodeFault.{of_history}
 use Rattle.vc_local.specs.declared.fault.NodeFault.{NodeFault}

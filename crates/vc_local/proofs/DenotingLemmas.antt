@@ -9,13 +9,13 @@ use Rattle.vc_object.specs.declared.kind.Kind.TheVariants as kinds
 use Rattle.vc_object.specs.declared.mode.Mode.{Mode}
 use Rattle.vc_object.specs.declared.mode.Mode.TheVariants as modes
 use Rattle.vc_rev.specs.Answer.{After}
-use Rattle.vc_rev.specs.Grammar.{RevText, ExprText, Object, InTree, InIndex}
+use Rattle.vc_expression.specs.Grammar.{RevText, ExprText, Object, InTree, InIndex}
 use Rattle.vc_rev.specs.Meaning.{Answer, or_refusal, pick, places, is_prefix, is_head, id_of, components, child_at, PeelsTo, PicksFrom, FirstParents, AncestorGives, PeelGives, StepGives, StepsGive, FirstValue, PrefixGives, DigitsGive, ShortGives, NameGives, RevGives, EntryGives, PathGives, Denotes}
 use Rattle.vc_rev.specs.Source.{Source, source}
 use Rattle.vc_rev.specs.declared.refusal.Refusal.{Refusal}
 use Rattle.vc_rev.specs.declared.refusal.Refusal.TheVariants.{Unknown, Ambiguous, TooShort, NoSuchParent, WrongKind, NoSuchPath}
-use Rattle.vc_rev.specs.declared.token.Step.{Step}
-use Rattle.vc_rev.specs.declared.token.Step.TheVariants as steps
+use Rattle.vc_expression.specs.declared.token.Step.{Step}
+use Rattle.vc_expression.specs.declared.token.Step.TheVariants as steps
 
 -- one answer after another
 after_on : {A B : Type 0} (F G : Result A Refusal → Type 0) (h k : A → Result B Refusal → Type 0) (answer : Result B Refusal)

@@ -28,17 +28,17 @@ use Rattle.vc_refs.specs.Refs.{packed_path, refs}
 use Rattle.vc_refs.specs.declared.faults.RefFault.{RefFault}
 use Rattle.vc_refs.specs.declared.faults.RefFault.TheVariants.{Stale, Conflict, BadRefFile, HeadLoop, Fault}
 use Rattle.vc_refs.proofs.LayeredListingLemmas.{head_of-same}
-use Rattle.vc_session.proofs.CleanLemmas.{bad_loses}
-use Rattle.vc_session.proofs.FrameLemmas.{refs-kept}
-use Rattle.vc_session.proofs.QuarantineLemmas.{Taken, taken_left, none_left}
-use Rattle.vc_store.specs.Store.{object_path, objects}
+use Rattle.vc_quarantine.proofs.CleanLemmas.{bad_loses}
+use Rattle.vc_push_rules.proofs.FrameLemmas.{refs-kept}
+use Rattle.vc_push_rules.proofs.QuarantineLemmas.{Taken, taken_left, none_left}
+use Rattle.vc_object_map.specs.Store.{object_path, objects}
 use Rattle.vc_model.specs.Clone.Awaited.{Nothing}
 use Rattle.vc_local.proofs.CleanLemmas.{clean_on as kept_on, clean_then}
 use Rattle.vc_local.proofs.OpeningLaws.{made_ready}
 use Rattle.vc_local.proofs.BesideLemmas.{clean_by, clean_on}
 use Rattle.vc_local.proofs.ShownLemmas.{objects_same, same_shown}
 use Rattle.vc_local.specs.Emptying.{AreEmpty, IsOpened, LosesCarried, quarantines}
-use Rattle.vc_session.specs.Quarantine.{IsDropped, quarantine_folder}
+use Rattle.vc_push_rules.specs.Quarantine.{IsDropped, quarantine_folder}
 
 -- ---- files that are taken away
 

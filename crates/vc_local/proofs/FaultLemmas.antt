@@ -10,8 +10,8 @@ use Rattle.vc_refs.specs.declared.faults.RefFault.{RefFault}
 use Rattle.vc_refs.specs.declared.faults.RefFault.TheVariants as refs
 use Rattle.vc_rev.specs.declared.refusal.SourceFault.{SourceFault}
 use Rattle.vc_rev.specs.declared.refusal.SourceFault.TheVariants as source
-use Rattle.vc_store.specs.declared.faults.StoreFault.{StoreFault}
-use Rattle.vc_store.specs.declared.faults.StoreFault.TheVariants as store
+use Rattle.vc_object_map.specs.declared.faults.StoreFault.{StoreFault}
+use Rattle.vc_object_map.specs.declared.faults.StoreFault.TheVariants as store
 use Rattle.vc_local.proofs.LookLemmas.{or_told}
 use Rattle.vc_local.specs.NodeFault.{IsOfDevice, is_fault, of_source, refused_by_refs, refused_by_store}
 use Rattle.vc_local.specs.declared.fault.NodeFault.{NodeFault}

@@ -27,9 +27,9 @@ use Rattle.vc_object.specs.Object.{object_name}
 use Rattle.vc_object.specs.declared.kind.Kind.TheVariants as kinds
 use Rattle.vc_object.specs.declared.mode.Mode.{Mode}
 use Rattle.vc_object.specs.declared.mode.Mode.TheVariants as modes
-use Rattle.vc_store.specs.StoreFault.{IsFault as IsStoreFault}
-use Rattle.vc_store.specs.declared.faults.StoreFault.{StoreFault}
-use Rattle.vc_store.specs.declared.faults.StoreFault.TheVariants as store
+use Rattle.vc_object_map.specs.StoreFault.{IsFault as IsStoreFault}
+use Rattle.vc_object_map.specs.declared.faults.StoreFault.{StoreFault}
+use Rattle.vc_object_map.specs.declared.faults.StoreFault.TheVariants as store
 use Rattle.vc_local.specs.declared.fault.NodeFault.{NodeFault}
 use Rattle.vc_local.specs.declared.fault.NodeFault.TheVariants.{Store, Ref, Missing, NotACommit, BadPath, PathConflict, BadIndex, WrongEntry, Down}
 use Rattle.vc_local.specs.Adding.{IsAdded, LeftByAdd, with_blob, with_file}
@@ -37,10 +37,11 @@ use Rattle.vc_local.specs.Blames.{BlamesAdd, MayStage, TellsDamage}
 use Rattle.vc_local.specs.IndexFile.{SpellsIndex, BlamesIndex, index_bytes}
 use Rattle.vc_local.specs.NodeFault.{is_fault, of_index}
 use Rattle.vc_local.specs.Shown.{Shown, shown, with_index_shown}
-use Rattle.vc_rules.specs.Git.{git, machine_entry, mode_number}
-use Rattle.vc_rules.specs.Faults.{object_number}
-pub use Rattle.vc_rules.specs.Trees.{ShowsIndex as IsMachineIndex}
-use Rattle.vc_rules.proofs.GitLaws.{git_rules}
+use Rattle.vc_rules.specs.Git.{git, mode_number}
+use Rattle.vc_values.specs.Trees.{machine_entry}
+use Rattle.vc_values.specs.Faults.{object_number}
+pub use Rattle.vc_values.specs.Trees.{ShowsIndex as IsMachineIndex}
+use Rattle.vc_values.proofs.GitLaws.{git_rules}
 use Rattle.vc_local.specs.Machine.{Spells, Follows, IsBadFile, fault_answer, failure_of}
 use Rattle.vc_local.proofs.AnswerLemmas.{faults}
 use Rattle.vc_rules.proofs.MapLemmas.{get-put, get-unput, map_cond}

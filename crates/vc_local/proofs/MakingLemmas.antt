@@ -11,8 +11,8 @@ use Rattle.vc_object.specs.declared.id.ObjectId.{ObjectId}
 use Rattle.vc_object.specs.declared.kind.Kind.TheVariants as kinds
 use Rattle.vc_refs.specs.Head.{head_of}
 use Rattle.vc_refs.specs.declared.heads.Head.{Head}
-use Rattle.vc_store.specs.Store.{objects}
-use Rattle.vc_store.specs.declared.faults.StoreFault.TheVariants as store
+use Rattle.vc_object_map.specs.Store.{objects}
+use Rattle.vc_object_map.specs.declared.faults.StoreFault.TheVariants as store
 use Rattle.vc_local.specs.Commit.{IsFreeHead, IsGoodParent, WritesCommit, made_body, moved, parents_of_commit}
 use Rattle.vc_local.specs.GoodCommit.{BlamesCommit}
 use Rattle.vc_local.specs.IndexFile.{SpellsIndex}

@@ -25,13 +25,13 @@ use Rattle.vc_refs.specs.RefMap.{is_ref}
 use Rattle.vc_refs.specs.Obstacle.{IsFree as IsFreeName}
 use Rattle.vc_refs.specs.declared.heads.Head.{Head as RefsHead}
 use Rattle.vc_refs.specs.declared.heads.Head.TheVariants as heads
-use Rattle.vc_session.specs.Known.{AreRefsWhole}
+use Rattle.vc_push_rules.specs.Known.{AreRefsWhole}
 use Rattle.vc_local.specs.Blames.{IsLocalHead, MayHead, MayLoad, MayStage}
 use Rattle.vc_local.specs.GoodCommit.{IsGoodBeyondRefs}
 use Rattle.vc_local.specs.Making.{MayMake}
 use Rattle.vc_local.specs.Shown.{shown}
 use Rattle.vc_rules.specs.Git.{git, machine_object, mode_number}
-use Rattle.vc_rules.proofs.GitLaws.{git_rules}
+use Rattle.vc_values.proofs.GitLaws.{git_rules}
 use Rattle.vc_local.specs.Machine.{live_of, machine_head, MayWriteOr, Spells}
 use Rattle.vc_rules.proofs.CarriedLemmas.{kind_back}
 use Rattle.vc_rules.proofs.MapLemmas.{get-put}

@@ -6,8 +6,8 @@ use Rattle.vc_model.specs.Node.Answer.{Fault}
 use Rattle.vc_model.specs.Repository.{Repository}
 use Rattle.vc_refs.specs.declared.faults.RefFault.{RefFault}
 use Rattle.vc_refs.specs.declared.faults.RefFault.TheVariants as ref
-use Rattle.vc_store.specs.declared.faults.StoreFault.{StoreFault}
-use Rattle.vc_store.specs.declared.faults.StoreFault.TheVariants as store
+use Rattle.vc_object_map.specs.declared.faults.StoreFault.{StoreFault}
+use Rattle.vc_object_map.specs.declared.faults.StoreFault.TheVariants as store
 use Rattle.vc_local.proofs.IndexLemmas.{no_bad_index, spells_index}
 use Rattle.vc_local.proofs.RefusalLemmas.{no_head, of_head}
 use Rattle.vc_local.specs.Blames.{BlamesOpen}

@@ -20,11 +20,12 @@ use Rattle.vc_object.specs.declared.id.ObjectId.{ObjectId}
 use Rattle.vc_refs.specs.Head.{head_of, read_head, said}
 use Rattle.vc_refs.proofs.LayeredLemmas.{good_absent, packed_map-absent, refs-packed}
 use Rattle.vc_refs.specs.Refs.{is_taken, packed_at, packed_path, refs, IsBadRef}
-use Rattle.vc_store.specs.Store.{objects, object_path, stored_in}
+use Rattle.vc_object_map.specs.Store.{objects, object_path, stored_in}
 use Rattle.vc_index.specs.IndexMap.{IsIndex}
 use Rattle.vc_index.specs.declared.entry.IndexEntry.{IndexEntry}
 use Rattle.vc_format.specs.Git.{id_of_bytes}
-use Rattle.vc_rules.specs.Git.{machine_entry, stored_of}
+use Rattle.vc_values.specs.Trees.{machine_entry}
+use Rattle.vc_rules.specs.Git.{stored_of}
 use Rattle.vc_local.specs.Clean.{KeepsClean}
 use Rattle.vc_local.proofs.CleanLemmas.{still_clean}
 use Rattle.vc_local.proofs.StoringLemmas.{none_damaged}

@@ -4,13 +4,13 @@ use Rattle.vc_history.specs.HistoryFault.{IsTold}
 use Rattle.vc_history.specs.declared.fault.HistoryFault.{HistoryFault}
 use Rattle.vc_history.specs.declared.fault.HistoryFault.TheVariants as base
 use Rattle.vc_files.specs.FileMap.{FileMap}
-use Rattle.vc_graph.specs.Graph.{ReachedFrom}
-use Rattle.vc_graph.specs.GraphFault.{IsMet}
+use Rattle.vc_object_map.specs.Graph.{ReachedFrom}
+use Rattle.vc_object_map.specs.StoreFault.{IsMet}
 use Rattle.vc_object.specs.ObjectMap.{parents_in}
 use Rattle.vc_object.specs.declared.id.ObjectId.{ObjectId}
-use Rattle.vc_store.specs.Store.{objects, IsDamaged}
-use Rattle.vc_store.specs.declared.faults.StoreFault.{StoreFault}
-use Rattle.vc_store.specs.declared.faults.StoreFault.TheVariants as store
+use Rattle.vc_object_map.specs.Store.{objects, IsDamaged}
+use Rattle.vc_object_map.specs.declared.faults.StoreFault.{StoreFault}
+use Rattle.vc_object_map.specs.declared.faults.StoreFault.TheVariants as store
 use Rattle.vc_local.specs.NodeFault.{of_history}
 use Rattle.vc_local.specs.Reads.{NoneRead, TellsRead, IsReached}
 use Rattle.vc_local.specs.declared.fault.NodeFault.TheVariants.{Store}

@@ -24,10 +24,10 @@ use Rattle.vc_refs.specs.declared.faults.RefFault.{RefFault}
 use Rattle.vc_refs.specs.declared.faults.RefFault.TheVariants as ref
 use Rattle.vc_refs.specs.declared.heads.Head.{Head}
 use Rattle.vc_refs.specs.declared.heads.Head.TheVariants as heads
-use Rattle.vc_session.proofs.FrameLemmas.{ref_no_object}
-use Rattle.vc_session.specs.Known.{AreRefsWhole}
-use Rattle.vc_session.proofs.CleanLemmas.{bad_no_object}
-use Rattle.vc_store.specs.declared.faults.StoreFault.TheVariants as store
+use Rattle.vc_push_rules.proofs.FrameLemmas.{ref_no_object}
+use Rattle.vc_push_rules.specs.Known.{AreRefsWhole}
+use Rattle.vc_quarantine.proofs.CleanLemmas.{bad_no_object}
+use Rattle.vc_object_map.specs.declared.faults.StoreFault.TheVariants as store
 use Rattle.vc_local.specs.Blames.{BlamesName, BlamesPut, IsOfMemory}
 use Rattle.vc_local.specs.Commit.{IsGoodParent, IsFreeHead, made_body, parents_of_commit}
 use Rattle.vc_rules.specs.Git.{git}

@@ -12,8 +12,8 @@ use Rattle.vc_refs.specs.Refs.{packed_path, refs, ChangesOnly}
 use Rattle.vc_refs.specs.Head.{head_of, KeepsOutside, KeepsTheRest}
 use Rattle.vc_refs.specs.declared.heads.Head.{Head}
 use Rattle.vc_object.specs.Decoding.{StoredObject}
-use Rattle.vc_session.proofs.FrameLemmas.{objects-same, ref_no_object, refs-kept}
-use Rattle.vc_store.specs.Store.{objects, object_path, with_object}
+use Rattle.vc_push_rules.proofs.FrameLemmas.{objects-same, ref_no_object, refs-kept}
+use Rattle.vc_object_map.specs.Store.{objects, object_path, with_object}
 use Rattle.vc_index.specs.IndexMap.{IndexMap}
 use Rattle.vc_lemmas.proofs.Texts.{split_from_starts}
 use Rattle.vc_refs.specs.declared.heads.Head.TheVariants as heads

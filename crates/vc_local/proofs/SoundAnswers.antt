@@ -10,9 +10,9 @@ use Rattle.vc_model.specs.Node.{Answer, Failure}
 use Rattle.vc_model.specs.Node.Answer.{Declined, Fault}
 use Rattle.vc_model.specs.Repository.{IsSound, Repository}
 use Rattle.vc_rules.specs.Git.{git}
-use Rattle.vc_rules.proofs.GitLaws.{git_rules}
+use Rattle.vc_values.proofs.GitLaws.{git_rules}
 use Rattle.vc_rules.proofs.WholeLemmas.{refs_whole}
-use Rattle.vc_session.specs.Known.{AreRefsWhole}
+use Rattle.vc_push_rules.specs.Known.{AreRefsWhole}
 use Rattle.vc_local.specs.Machine.{AnswersShown, AnswersShownIfSound, Follows, FollowsIf, IsBadFile, MayWriteIfSoundOr, Spells, fault_answer, live_of}
 use Rattle.vc_local.specs.NodeFault.{is_fault}
 use Rattle.vc_local.specs.Shown.{Shown, shown}

@@ -30,9 +30,9 @@ use Rattle.vc_object.specs.declared.kind.Kind.TheVariants.{Blob}
 use Rattle.vc_object.specs.declared.mode.Mode.{Mode}
 use Rattle.vc_object.specs.declared.mode.Mode.TheVariants.{Tree}
 use Rattle.vc_rules.specs.Git.{git, stored_of}
-use Rattle.vc_rules.proofs.GitLaws.{git_rules}
+use Rattle.vc_values.proofs.GitLaws.{git_rules}
 use Rattle.vc_rules.proofs.MapLemmas.{get-put}
-use Rattle.vc_store.specs.declared.faults.StoreFault.TheVariants as store
+use Rattle.vc_object_map.specs.declared.faults.StoreFault.TheVariants as store
 use Rattle.vc_local.specs.IndexFile.{SpellsIndex, BlamesIndex}
 use Rattle.vc_local.specs.Machine.{HoldsNode, Spells, fault_answer, failure_of, live_of}
 use Rattle.vc_local.specs.NodeFault.{IsOfDevice, TellsDevice, is_fault, of_index}

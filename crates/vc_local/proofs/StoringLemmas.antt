@@ -13,10 +13,10 @@ use Rattle.vc_object.specs.ObjectFault.{BodyFault}
 use Rattle.vc_object.specs.ObjectMap.{ObjectMap}
 use Rattle.vc_object.specs.declared.id.ObjectId.{ObjectId}
 use Rattle.vc_object.specs.declared.kind.Kind.TheVariants as kinds
-use Rattle.vc_store.specs.Store.{IsDamaged, object_path, stored_in}
-use Rattle.vc_store.specs.StoreFault.{IsOfPut, IsOfDamage}
-use Rattle.vc_store.specs.declared.faults.StoreFault.{StoreFault}
-use Rattle.vc_store.specs.declared.faults.StoreFault.TheVariants as store
+use Rattle.vc_object_map.specs.Store.{IsDamaged, object_path, stored_in}
+use Rattle.vc_object_map.specs.StoreFault.{IsOfPut, IsOfDamage}
+use Rattle.vc_object_map.specs.declared.faults.StoreFault.{StoreFault}
+use Rattle.vc_object_map.specs.declared.faults.StoreFault.TheVariants as store
 use Rattle.vc_local.specs.Commit.{made_body}
 use Rattle.vc_local.specs.Making.{BlamesStored, BlamesObjects, HasRoot}
 use Rattle.vc_local.specs.NodeFault.{of_index}

@@ -22,15 +22,15 @@ use Rattle.vc_model.proofs.Maps.{none_added}
 use Rattle.vc_object.specs.ObjectMap.{ObjectMap}
 use Rattle.vc_object.specs.declared.id.ObjectId.{ObjectId}
 use Rattle.vc_refs.specs.declared.faults.RefFault.TheVariants as ref
-use Rattle.vc_store.specs.Store.{objects}
-use Rattle.vc_store.specs.declared.faults.StoreFault.TheVariants as store
+use Rattle.vc_object_map.specs.Store.{objects}
+use Rattle.vc_object_map.specs.declared.faults.StoreFault.TheVariants as store
 use Rattle.vc_local.specs.declared.fault.NodeFault.{NodeFault}
 use Rattle.vc_local.specs.declared.fault.NodeFault.TheVariants.{Store, Ref, Missing, NotACommit, BadPath, PathConflict, BadIndex, WrongEntry, Down}
 use Rattle.vc_local.specs.Blames.{BlamesLoad, IsOfMemory}
 use Rattle.vc_local.specs.NodeFault.{of_index}
 use Rattle.vc_local.specs.Shown.{Shown, IsLoaded, shown}
-use Rattle.vc_rules.specs.Git.{machine_entry, layer_objects}
-use Rattle.vc_rules.specs.Trees.{tree_number, ShowsIndex, TreeGives}
+use Rattle.vc_values.specs.Trees.{machine_entry, tree_number, ShowsIndex, TreeGives}
+use Rattle.vc_rules.specs.Git.{layer_objects}
 use Rattle.vc_local.specs.Machine.{Spells, Follows, IsBadFile, fault_answer, failure_of}
 use Rattle.vc_local.proofs.AnswerLemmas.{declines, faults}
 use Rattle.vc_rules.proofs.MapLemmas.{map_cond}

@@ -15,9 +15,9 @@ use Rattle.vc_object.specs.Object.{object_name}
 use Rattle.vc_object.specs.ObjectMap.{ObjectMap}
 use Rattle.vc_object.specs.Tree.{Entry, spelling}
 use Rattle.vc_object.specs.declared.kind.Kind.TheVariants as kinds
-use Rattle.vc_store.specs.Store.{with_object, with_objects}
+use Rattle.vc_object_map.specs.Store.{with_object, with_objects}
 use Rattle.vc_rules.specs.Git.{machine_object, stored_of, no_objects}
-use Rattle.vc_rules.specs.Trees.{HoldsTrees}
+use Rattle.vc_values.specs.Trees.{HoldsTrees}
 use Rattle.vc_local.specs.Machine.{Spells}
 use Rattle.vc_local.specs.Shown.{Shown, with_objects_shown}
 use Rattle.vc_rules.proofs.MapLemmas.{get-put}

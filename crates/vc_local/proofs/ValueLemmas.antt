@@ -35,7 +35,7 @@ use Rattle.vc_repository.specs.Faults.{of_refs}
 use Rattle.vc_repository.specs.IndexFile.{IsIndexOf}
 use Rattle.vc_repository.specs.Resolving.{DenotesIn, IsIndexFor, IsOfExpr, IsOfIndexFor, over}
 use Rattle.vc_repository.specs.State.{IsCause, state}
-use Rattle.vc_rev.specs.Grammar.{ExprText, InIndex, InTree, IsExpr, Object}
+use Rattle.vc_expression.specs.Grammar.{ExprText, InIndex, InTree, IsExpr, Object}
 use Rattle.vc_rev.specs.Meaning.{Answer as Value, Denotes}
 use Rattle.vc_rev.specs.Question.{Question}
 use Rattle.vc_rev.specs.Question as asks
@@ -45,13 +45,14 @@ use Rattle.vc_rev.specs.declared.refusal.RevFault.{RevFault}
 use Rattle.vc_rev.specs.declared.refusal.RevFault.TheVariants.{Missing, NotACommit, Refused, Source}
 use Rattle.vc_rev.specs.declared.refusal.SourceFault.{SourceFault}
 use Rattle.vc_rev.specs.declared.refusal.SourceFault.TheVariants.{BadIndex, BadRefFile, HeadLoop, Store}
-use Rattle.vc_rules.specs.Git.{layer_objects, machine_entry}
-use Rattle.vc_rules.specs.Values.{names_at}
+use Rattle.vc_rules.specs.Git.{layer_objects}
+use Rattle.vc_values.specs.Trees.{machine_entry}
+use Rattle.vc_values.specs.Values.{names_at}
 use Rattle.vc_store.proofs.NamesLemmas.{file-objects, objects-file}
-use Rattle.vc_store.specs.Store.{HasFile, IsDamaged, objects}
-use Rattle.vc_store.specs.StoreFault.{IsFault, IsRefused}
-use Rattle.vc_store.specs.declared.faults.StoreFault.{StoreFault}
-use Rattle.vc_store.specs.declared.faults.StoreFault.TheVariants as store
+use Rattle.vc_object_map.specs.Store.{HasFile, IsDamaged, objects}
+use Rattle.vc_object_map.specs.StoreFault.{IsFault, IsRefused}
+use Rattle.vc_object_map.specs.declared.faults.StoreFault.{StoreFault}
+use Rattle.vc_object_map.specs.declared.faults.StoreFault.TheVariants as store
 use Rattle.vc_local.proofs.DenotingLemmas.{IsIndexSame, denotes_on}
 use Rattle.vc_local.specs.Values.{TellsValue, ValuesAreTold}
 

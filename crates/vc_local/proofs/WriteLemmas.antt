@@ -20,14 +20,14 @@ use Rattle.vc_object.specs.ObjectFault.{BodyFault}
 use Rattle.vc_object.specs.ObjectMap.{ObjectMap}
 use Rattle.vc_object.specs.declared.id.ObjectId.{ObjectId}
 use Rattle.vc_object.specs.declared.kind.Kind.{Kind as ObjectKind}
-use Rattle.vc_store.specs.Store.{with_object}
-use Rattle.vc_store.specs.declared.faults.StoreFault.TheVariants as store
+use Rattle.vc_object_map.specs.Store.{with_object}
+use Rattle.vc_object_map.specs.declared.faults.StoreFault.TheVariants as store
 use Rattle.vc_local.specs.declared.fault.NodeFault.{NodeFault}
 use Rattle.vc_local.specs.declared.fault.NodeFault.TheVariants.{Store, Ref, Missing, NotACommit, BadPath, PathConflict, BadIndex, WrongEntry, Down}
 use Rattle.vc_local.specs.Blames.{BlamesWrite}
 use Rattle.vc_local.specs.Shown.{Shown, with_objects_shown}
 use Rattle.vc_rules.specs.Git.{git, machine_object, stored_of}
-use Rattle.vc_rules.specs.Faults.{object_number}
+use Rattle.vc_values.specs.Faults.{object_number}
 use Rattle.vc_local.specs.Machine.{Spells, Follows, IsBadFile, fault_answer, failure_of}
 use Rattle.vc_local.proofs.AnswerLemmas.{declines, faults}
 use Rattle.vc_rules.proofs.CarriedLemmas.{kind_back}

@@ -8,7 +8,7 @@ use Rattle.vc_object.specs.Decoding.{stored_object}
 use Rattle.vc_object.specs.Object.{object_name}
 use Rattle.vc_object.specs.declared.kind.Kind.TheVariants.{Blob}
 use Rattle.vc_object.specs.declared.mode.Mode.{Mode}
-use Rattle.vc_store.specs.Store.{objects, with_object}
+use Rattle.vc_object_map.specs.Store.{objects, with_object}
 use Rattle.vc_local.specs.Blames.{MayStage}
 use Rattle.vc_local.specs.Clean.{KeepsClean}
 use Rattle.vc_local.specs.NodeFault.{is_fault}

@@ -22,10 +22,10 @@ use Rattle.vc_refs.specs.declared.heads.Head.{Head}
 use Rattle.vc_refs.specs.declared.heads.Head.TheVariants as head
 use Rattle.vc_refs.specs.declared.faults.RefFault.{RefFault}
 use Rattle.vc_refs.specs.declared.faults.RefFault.TheVariants as ref
-use Rattle.vc_store.specs.Store.{objects, IsDamaged}
-use Rattle.vc_store.specs.StoreFault.{IsFault as IsStoreFault}
-use Rattle.vc_store.specs.declared.faults.StoreFault.{StoreFault}
-use Rattle.vc_store.specs.declared.faults.StoreFault.TheVariants as store
+use Rattle.vc_object_map.specs.Store.{objects, IsDamaged}
+use Rattle.vc_object_map.specs.StoreFault.{IsFault as IsStoreFault}
+use Rattle.vc_object_map.specs.declared.faults.StoreFault.{StoreFault}
+use Rattle.vc_object_map.specs.declared.faults.StoreFault.TheVariants as store
 use Rattle.vc_local.specs.GoodCommit.{IsGoodBeyondRefs, BlamesCommit}
 use Rattle.vc_local.specs.IndexFile.{index_bytes}
 use Rattle.vc_local.specs.NodeFault.{of_index}

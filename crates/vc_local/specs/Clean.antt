@@ -8,7 +8,7 @@ use Rattle.vc_object.specs.declared.kind.Kind.{Kind}
 use Rattle.vc_refs.specs.Head.{KeepsOutside}
 use Rattle.vc_refs.specs.Packing.{UnpacksOnly}
 use Rattle.vc_refs.specs.Refs.{IsBadRef, SpellsRefs}
-use Rattle.vc_store.specs.Store.{IsDamaged}
+use Rattle.vc_object_map.specs.Store.{IsDamaged}
 use Rattle.vc_local.specs.Shown.{HasObject, shown}
 
 -- Each file in an object's place is that object, and each file of the refs can be read.

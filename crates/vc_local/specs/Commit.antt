@@ -16,7 +16,7 @@ use Rattle.vc_refs.specs.Refs.{refs}
 use Rattle.vc_refs.specs.Obstacle.{IsFree}
 use Rattle.vc_refs.specs.declared.heads.Head.{Head}
 use Rattle.vc_refs.specs.declared.heads.Head.TheVariants as heads
-use Rattle.vc_store.specs.Store.{objects, with_object}
+use Rattle.vc_object_map.specs.Store.{objects, with_object}
 use Rattle.vc_local.specs.GoodCommit.{IsGoodBeyondRefs}
 use Rattle.vc_local.specs.IndexFile.{SpellsIndex}
 use Rattle.vc_local.specs.Shown.{Shown, shown, with_objects_shown, with_refs_shown, with_head_shown}

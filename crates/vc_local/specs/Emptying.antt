@@ -5,7 +5,7 @@ use Rattle.std.specs.List.{starts_with}
 use Rattle.vc_files.specs.FileMap.{FileMap, SameOutside}
 use Rattle.vc_local.specs.Clean.{KeepsClean}
 use Rattle.vc_local.specs.Shown.{IsReady}
-use Rattle.vc_session.specs.Quarantine.{OnlyLoses}
+use Rattle.vc_push_rules.specs.Quarantine.{OnlyLoses}
 
 -- where the quarantines of all slots stand
 abbrev pub quarantines : List ℕ

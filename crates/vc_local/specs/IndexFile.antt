@@ -6,7 +6,7 @@ use Rattle.vc_index.specs.IndexMap.{IndexMap, IsIndex}
 use Rattle.vc_index.specs.IndexText.{index_text, TextFault}
 use Rattle.vc_local.specs.declared.fault.NodeFault.{NodeFault}
 use Rattle.vc_local.specs.declared.fault.NodeFault.TheVariants.{Store, Ref, Missing, NotACommit, BadPath, PathConflict, BadIndex, WrongEntry, Down}
-use Rattle.vc_store.specs.StoreFault.{IsFault}
+use Rattle.vc_object_map.specs.StoreFault.{IsFault}
 
 -- the bytes of the index file; none where it is absent, as in a new clone
 abbrev pub index_bytes : FileMap → List ℕ

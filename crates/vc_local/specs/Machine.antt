@@ -19,18 +19,19 @@ use Rattle.vc_model.specs.Clone.{Awaited, CloneNode, Task}
 use Rattle.vc_model.specs.CloneCall.{CloneAnswers, Obeys, Refuses}
 use Rattle.vc_model.specs.CloneCall.CloneCall.{Command}
 use Rattle.vc_model.specs.ExactWorld.{MayClone}
-use Rattle.vc_rules.specs.Git.{git, machine_entry, stored_of}
-use Rattle.vc_rules.specs.Faults.{object_number}
-use Rattle.vc_rules.proofs.GitLaws.{git_rules}
+use Rattle.vc_rules.specs.Git.{git, stored_of}
+use Rattle.vc_values.specs.Trees.{machine_entry}
+use Rattle.vc_values.specs.Faults.{object_number}
+use Rattle.vc_values.proofs.GitLaws.{git_rules}
 use Rattle.vc_object.specs.declared.id.ObjectId.{ObjectId}
 use Rattle.vc_refs.specs.Refs.{IsBadRef}
 use Rattle.vc_refs.specs.declared.faults.RefFault.{RefFault}
 use Rattle.vc_refs.specs.declared.faults.RefFault.TheVariants as ref
 use Rattle.vc_refs.specs.declared.heads.Head.{Head as RefsHead}
 use Rattle.vc_refs.specs.declared.heads.Head.TheVariants as heads
-use Rattle.vc_store.specs.Store.{IsDamaged}
-use Rattle.vc_store.specs.declared.faults.StoreFault.{StoreFault}
-use Rattle.vc_store.specs.declared.faults.StoreFault.TheVariants as store
+use Rattle.vc_object_map.specs.Store.{IsDamaged}
+use Rattle.vc_object_map.specs.declared.faults.StoreFault.{StoreFault}
+use Rattle.vc_object_map.specs.declared.faults.StoreFault.TheVariants as store
 use Rattle.vc_local.specs.Clean.{IsClean}
 use Rattle.vc_local.specs.NodeFault.{is_fault}
 use Rattle.vc_local.specs.Shown.{Shown, shown}

@@ -19,10 +19,10 @@ use Rattle.vc_refs.specs.declared.faults.RefFault.{RefFault}
 use Rattle.vc_refs.specs.declared.faults.RefFault.TheVariants as ref
 use Rattle.vc_refs.specs.declared.heads.Head.{Head}
 use Rattle.vc_refs.specs.declared.heads.Head.TheVariants as heads
-use Rattle.vc_store.specs.Store.{IsDamaged, objects}
-use Rattle.vc_store.specs.StoreFault.{IsFault as IsStoreFault}
-use Rattle.vc_store.specs.declared.faults.StoreFault.{StoreFault}
-use Rattle.vc_store.specs.declared.faults.StoreFault.TheVariants as store
+use Rattle.vc_object_map.specs.Store.{IsDamaged, objects}
+use Rattle.vc_object_map.specs.StoreFault.{IsFault as IsStoreFault}
+use Rattle.vc_object_map.specs.declared.faults.StoreFault.{StoreFault}
+use Rattle.vc_object_map.specs.declared.faults.StoreFault.TheVariants as store
 use Rattle.vc_local.specs.Blames.{BlamesPut, IsOfMemory}
 use Rattle.vc_local.specs.Commit.{IsGoodParent, IsFreeHead, WritesCommit, made_body, parents_of_commit}
 use Rattle.vc_local.specs.GoodCommit.{BlamesCommit}

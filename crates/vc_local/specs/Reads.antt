@@ -1,7 +1,7 @@
 -- Which files a command reads, of those that may be bad.
 use Rattle.std.specs.Prelude.{◌≡◌, ◌⊎◌, ℕ, List, [], ◌∷◌, Some, codes, string_bytes}
 use Rattle.vc_files.specs.FileMap.{FileMap}
-use Rattle.vc_graph.specs.Graph.{ReachedFrom}
+use Rattle.vc_object_map.specs.Graph.{ReachedFrom}
 use Rattle.vc_index.specs.FolderTrees.{IsIndexTree}
 use Rattle.vc_index.specs.IndexMap.{IndexMap}
 use Rattle.vc_index.specs.Loading.{IsEntryOfTree}
@@ -17,9 +17,9 @@ use Rattle.vc_refs.specs.declared.faults.RefFault.{RefFault}
 use Rattle.vc_refs.specs.declared.faults.RefFault.TheVariants as ref
 use Rattle.vc_refs.specs.declared.heads.Head.{Head}
 use Rattle.vc_refs.specs.declared.heads.Head.TheVariants as heads
-use Rattle.vc_store.specs.Store.{objects}
-use Rattle.vc_store.specs.declared.faults.StoreFault.{StoreFault}
-use Rattle.vc_store.specs.declared.faults.StoreFault.TheVariants as store
+use Rattle.vc_object_map.specs.Store.{objects}
+use Rattle.vc_object_map.specs.declared.faults.StoreFault.{StoreFault}
+use Rattle.vc_object_map.specs.declared.faults.StoreFault.TheVariants as store
 use Rattle.vc_local.specs.Commit.{made_body, parents_of_commit}
 use Rattle.vc_local.specs.IndexFile.{SpellsIndex}
 use Rattle.vc_local.specs.Making.{HasRoot}

@@ -16,7 +16,7 @@ use Rattle.vc_refs.specs.Refs.{refs, ChangesOnly}
 use Rattle.vc_refs.specs.Head.{head_of}
 use Rattle.vc_refs.specs.declared.heads.Head.{Head}
 use Rattle.vc_refs.specs.declared.heads.Head.TheVariants as heads
-use Rattle.vc_store.specs.Store.{objects, with_object}
+use Rattle.vc_object_map.specs.Store.{objects, with_object}
 use Rattle.vc_local.specs.IndexFile.{index_bytes, SpellsIndex}
 
 -- objects by name, refs, HEAD, and the text of the index

@@ -20,8 +20,8 @@ use Rattle.vc_object.specs.Object.{IsObject, object_name}
 use Rattle.vc_object.specs.declared.kind.Kind.TheVariants.{Blob}
 use Rattle.vc_object.specs.declared.mode.Mode.{Mode}
 use Rattle.vc_rules.specs.Git.{git, mode_number}
-use Rattle.vc_rules.proofs.GitLaws.{git_rules}
-use Rattle.vc_store.specs.StoreFault.{IsFault as IsStoreFault}
+use Rattle.vc_values.proofs.GitLaws.{git_rules}
+use Rattle.vc_object_map.specs.StoreFault.{IsFault as IsStoreFault}
 use Rattle.vc_local.specs.Machine.{HoldsNode, ShowsNode}
 use Rattle.vc_local.specs.Shown.{HasIndex, Shown}
 use Rattle.vc_local.specs.declared.fault.NodeFault.{NodeFault}

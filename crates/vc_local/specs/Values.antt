@@ -7,13 +7,13 @@ use Rattle.vc_model.specs.Node.Answer.{Declined}
 use Rattle.vc_model.specs.Repository.{Repository}
 use Rattle.vc_object.specs.declared.id.ObjectId.{ObjectId}
 use Rattle.vc_repository.specs.Resolving.{DenotesIn, IsOfExpr}
-use Rattle.vc_rev.specs.Grammar.{ExprText, IsExpr}
+use Rattle.vc_expression.specs.Grammar.{ExprText, IsExpr}
 use Rattle.vc_rev.specs.Value.{refusal_number}
 use Rattle.vc_rev.specs.declared.refusal.RevFault.{RevFault}
 use Rattle.vc_rev.specs.declared.refusal.RevFault.TheVariants.{Refused, Missing, NotACommit, Source}
 use Rattle.vc_rev.specs.declared.refusal.SourceFault.TheVariants.{Store}
-use Rattle.vc_rules.specs.Values.{DenotesAt}
-use Rattle.vc_store.specs.declared.faults.StoreFault.TheVariants as store
+use Rattle.vc_values.specs.Values.{DenotesAt}
+use Rattle.vc_object_map.specs.declared.faults.StoreFault.TheVariants as store
 use Rattle.vc_local.specs.Clean.{IsClean}
 use Rattle.vc_local.specs.Machine.{Spells, fault_answer}
 use Rattle.vc_local.specs.NodeFault.{is_fault, of_source}

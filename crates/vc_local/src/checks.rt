@@ -4,16 +4,18 @@ ghost use Rattle.vc_files.specs.Failures.{Wears};
 ghost use Rattle.vc_local.specs.NodeFault.{TellsDevice};
 ghost use Rattle.vc_local.specs.Reads.{IsReached, NoneRead, TellsRead};
 ghost use Rattle.vc_local.specs.GoodCommit.{IsComplete, IsHistory, BlamesCommit, BlamesCommitBeyond};
-ghost use Rattle.vc_session.specs.Known.{AreRefsWhole, AreWhole};
-ghost use Rattle.vc_store.specs.Store.{objects};
+ghost use Rattle.vc_push_rules.specs.Known.{AreRefsWhole};
+ghost use Rattle.vc_quarantine.specs.Known.{AreWhole};
+ghost use Rattle.vc_object_map.specs.Store.{objects};
 
 use crate::NodeFault;
 use std::alloc::Global;
 use vc_files::Files;
 use vc_graph::is_complete_beyond;
-use vc_history::{Generations, commits, is_history_beyond};
+use vc_history::{Generations, is_history_beyond};
 use vc_object::ObjectId;
-use vc_session::Known;
+use vc_selection::commits;
+use vc_quarantine::Known;
 use vc_store::Store;
 
 /// Refuses an id of which not all is there that it reaches (40), and then one that is no commit, or that has an object

@@ -5,7 +5,7 @@ ghost use Rattle.vc_files.specs.Failures.{Wears, Writes};
 ghost use Rattle.vc_files.specs.FileMap.{SameOutside};
 ghost use Rattle.vc_object.specs.Lines.{id_line, line};
 ghost use Rattle.vc_refs.specs.Head.{IsHeadInRefs, head_of};
-ghost use Rattle.vc_store.specs.Store.{objects};
+ghost use Rattle.vc_object_map.specs.Store.{objects};
 ghost use Rattle.vc_local.specs.Clean.{KeepsClean};
 ghost use Rattle.vc_local.specs.Commit.{IsGoodParent, IsFreeHead, IsCommitted, made_body, moved, parents_of_commit};
 ghost use Rattle.vc_local.specs.IndexFile.{SpellsIndex};
@@ -22,9 +22,9 @@ use std::alloc::{AllocError, Global};
 use vc_files::{Files, MemoryFiles};
 use vc_index::Index;
 use vc_object::{Kind, ObjectFault, ObjectId};
+use vc_object_map::StoreFault;
 use vc_refs::{Head, RefFault, refuse_conflict};
-use vc_session::Known;
-use vc_store::StoreFault;
+use vc_quarantine::Known;
 
 /// What a commit says beside its tree and its parents.
 #[derive(Clone, Copy)]

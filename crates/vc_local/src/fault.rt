@@ -1,7 +1,7 @@
 // Why a call of a node gives no answer.
 ghost use Rattle.std.specs.Prelude.{◌≡◌};
 ghost use Rattle.vc_files.specs.declared.faults.Fault.TheVariants.{Memory};
-ghost use Rattle.vc_store.specs.declared.faults.StoreFault.TheVariants as store_fault;
+ghost use Rattle.vc_object_map.specs.declared.faults.StoreFault.TheVariants as store_fault;
 ghost use Rattle.vc_local.specs.declared.fault.NodeFault.TheVariants.{Store, Ref};
 ghost use Rattle.vc_local.specs.NodeFault.{is_fault, of_history, of_index, of_source, refused_by_graph, refused_by_refs, refused_by_store};
 ghost use Rattle.vc_local.specs.Printed.{node_fault_text};
@@ -10,13 +10,13 @@ use std::alloc::{AllocError, AllocFailed};
 use std::error::Error;
 use std::fmt;
 use vc_files::Fault;
-use vc_graph::{GraphFault, MISSING};
+use vc_graph::GraphFault;
 use vc_history::{HistoryFault, NOT_A_COMMIT};
 use vc_index::IndexFault;
 use vc_object::ObjectId;
+use vc_object_map::{MISSING, StoreFault};
 use vc_refs::RefFault;
 use vc_rev::SourceFault;
-use vc_store::StoreFault;
 
 /// What refuses a call of a node, by number, or the fault that ended it. After a fault the node is down.
 #[derive(Debug, Drop)]

@@ -9,7 +9,7 @@ ghost use Rattle.vc_object.specs.Object.{object_name, IsObject};
 ghost use Rattle.vc_refs.specs.RefMap.{IsInRefs, is_ref, with_ref, without_ref};
 ghost use Rattle.vc_refs.specs.Refs.{refs};
 ghost use Rattle.vc_refs.specs.Obstacle.{IsFree};
-ghost use Rattle.vc_store.specs.Store.{objects};
+ghost use Rattle.vc_object_map.specs.Store.{objects};
 ghost use Rattle.vc_object.specs.declared.kind.Kind.TheVariants.{Blob};
 ghost use Rattle.vc_refs.specs.Head.{IsHeadInRefs, IsLegalHead};
 ghost use Rattle.vc_refs.specs.Packing.{IsPackedFrom};

@@ -13,9 +13,9 @@ use crate::index_file::read_index;
 use std::alloc::Global;
 use vc_files::{Fault, Files};
 use vc_index::Index;
+use vc_object_map::StoreFault;
 use vc_refname::RefName;
 use vc_refs::Head;
-use vc_store::StoreFault;
 
 // Takes away all that stands in a quarantine. A call that ends early has taken away some of it.
 fn empty_quarantines<F: Files>(files: &mut F, alloc: Global) -> Result<(), Fault>

@@ -7,7 +7,7 @@ ghost use Rattle.vc_local.specs.Clean.{Spares};
 ghost use Rattle.vc_local.specs.IndexFile.{SpellsIndex};
 ghost use Rattle.vc_local.specs.NodeFault.{TellsDevice};
 ghost use Rattle.vc_local.specs.Reads.{NoneRead, TellsRead};
-ghost use Rattle.vc_store.specs.Store.{objects};
+ghost use Rattle.vc_object_map.specs.Store.{objects};
 ghost use Rattle.vc_local.specs.Staging.{AreStaged, BlamesStaging, MayStandAll, RefusesFirst, places, with_all};
 
 use crate::NodeFault;

@@ -29,23 +29,21 @@ use Rattle.vc_push.specs.Push.{Carried, PushText, SpellsCarried, SpellsPush, car
 use Rattle.vc_push.specs.Report.{ReportText, ToldText, unpack_error}
 use Rattle.vc_push.specs.Reason.{number_or_zero}
 use Rattle.vc_push.proofs.Reasons.{reason_again}
-use Rattle.vc_session.specs.Carrying.{objects_in}
-use Rattle.vc_session.specs.Steps.{fault_number}
+use Rattle.vc_push_rules.specs.Carrying.{objects_in}
+use Rattle.vc_push_rules.specs.Steps.{fault_number}
 use Rattle.vc_model.specs.Message.{IsNamedMessage, Message, Told}
 use Rattle.vc_model.specs.Message.Message.{Advert, Error, ListRefs, Pack, Push, Report, Want}
 use Rattle.vc_model.specs.Object.{Id}
 use Rattle.vc_model.specs.Refs.{RefName, Refs}
-use Rattle.vc_model.specs.Rules.{IsFormedMessage}
 use Rattle.vc_model.proofs.Maps.{bytes_same}
 use Rattle.vc_rules.specs.Git.{git}
 use Rattle.vc_rules.specs.OpenPushes.{AreToldAs, IsOutcomeAs}
 use Rattle.vc_rules.specs.Verdicts.{machine_command}
 use Rattle.vc_rules.proofs.CarriedLemmas.{each_is_brought}
-use Rattle.vc_rules.proofs.GitLaws.{git_rules}
 use Rattle.vc_message.specs.AnyMessage.{MessageText, a_list, a_pack, a_push, a_report, a_want, an_advert, an_error, SpellsMessage}
 use Rattle.vc_message.specs.Machine.{IsAdvert, IsPack, IsPush, IsRefusalOf, IsReport, IsUnpackedAs, TellsNumber, TextOf, machine_outcome, machine_told}
 use Rattle.vc_message.proofs.BodyFaults.{fault_is}
-use Rattle.vc_message.proofs.MachineObjects.{formed_set, named_set, one_set, small_pack, small_push}
+use Rattle.vc_message.proofs.MachineObjects.{named_set, one_set}
 use Rattle.vc_message.proofs.Totals.{less_or}
 
 -- ---- one at most
@@ -87,15 +85,6 @@ named_text (a_pack t) m a = subst (IsNamedMessage git) (sym a.is) (named_set (Ok
 named_text (a_push t) m a = subst (IsNamedMessage git) (sym a.is) (named_set t.carried a.objects a.brought)
 named_text (a_report t) m a = subst (IsNamedMessage git) (sym a.is) tt
 named_text (an_error words) m a = subst (IsNamedMessage git) (sym a) tt
-
-pub formed_text : (t : MessageText) (lines : List LineText) (m : Message) → SpellsMessage t lines → TextOf m t → IsFormedMessage git git_rules m
-formed_text a_list lines m s a = subst (IsFormedMessage git git_rules) (sym a) tt
-formed_text (an_advert t) lines m s a = subst (IsFormedMessage git git_rules) (sym a.is) tt
-formed_text (a_want t) lines m s a = subst (IsFormedMessage git git_rules) (sym a) tt
-formed_text (a_pack t) lines m s a = subst (IsFormedMessage git git_rules) (sym a.is) (formed_set (Ok t.objects) a.objects a.brought (small_pack t lines s))
-formed_text (a_push t) lines m s a = subst (IsFormedMessage git git_rules) (sym a.is) (formed_set t.carried a.objects a.brought (small_push t lines s))
-formed_text (a_report t) lines m s a = subst (IsFormedMessage git git_rules) (sym a.is) tt
-formed_text (an_error words) lines m s a = subst (IsFormedMessage git git_rules) (sym a) tt
 
 -- ---- one at least
 -- entries with other values

@@ -5,15 +5,12 @@ use Rattle.vc_pkt.specs.declared.fault.PktFault.{PktFault}
 use Rattle.vc_pkt.specs.declared.fault.PktFault.TheVariants.{BadLength, BadRecord, CutMessage, SizeMismatch, TooLarge, TooMany}
 use Rattle.vc_pkt.proofs.FaultLaws.{no_fault, one_first_fault, one_message}
 use Rattle.vc_model.specs.Message.{IsNamedMessage, Message}
-use Rattle.vc_model.specs.Rules.{IsFormedMessage}
-use Rattle.vc_model.specs.Wire.{IsUnreadable, Wire}
+use Rattle.vc_model.specs.Wire.{IsUnreadable}
 use Rattle.vc_rules.specs.Git.{git}
-use Rattle.vc_rules.proofs.GitLaws.{git_rules}
 use Rattle.vc_message.specs.AnyMessage.{MessageText, SpellsMessage, any_step, any_step_own, beginning}
-use Rattle.vc_message.specs.Laws.{MessageLaws, wire_of}
 use Rattle.vc_message.specs.Machine.{IsUnread, Reads, TextOf, pkt_number}
 use Rattle.vc_message.proofs.AnyLaws.{any_given, any_spelled}
-use Rattle.vc_message.proofs.MachineTexts.{formed_text, named_text, one_text, text_is}
+use Rattle.vc_message.proofs.MachineTexts.{named_text, one_text, text_is}
 use Rattle.vc_message.proofs.Totals.{read_or_unread}
 
 pub one_reading : (bytes : List ℕ) (m n : Message) → Reads bytes m → Reads bytes n → m ≡ n
@@ -25,9 +22,6 @@ one_reading bytes m n a b =
 
 pub read_named : (bytes : List ℕ) (m : Message) → Reads bytes m → IsNamedMessage git m
 read_named bytes m a = named_text a.text m a.is
-
-pub read_formed : (bytes : List ℕ) (m : Message) → Reads bytes m → IsFormedMessage git git_rules m
-read_formed bytes m a = formed_text a.text a.spelled.0 m a.spelled.2 a.is
 
 -- the text that they give is that of the message
 pub text_read : (bytes : List ℕ) (m : Message) (text : MessageText) → Reads bytes m → ((t : MessageText) → IsSpelledBy SpellsMessage t bytes → ◌≡◌ {A = Result MessageText PktFault} (Ok t) (Ok text)) → TextOf m text
@@ -71,17 +65,3 @@ by_lines bytes (inr (fault, first)) = inr (pkt_number fault, record { fault = fa
 
 pub every_reading : (bytes : List ℕ) → ReadOr bytes
 every_reading bytes = by_lines bytes (read_or_unread any_step beginning any_step_own bytes)
-
-pub message_laws : MessageLaws
-message_laws = record {
-  named = read_named;
-  formed = read_formed;
-  numbers = refusal_number;
-  one_message = one_reading;
-  one_refusal = one_refusal;
-  apart = never_both;
-}
-
--- The machine's wire, at Git's format. It is defined here and not in specs/, which may not name a proof of its own crate.
-abbrev pub message_wire : Wire git
-message_wire = wire_of message_laws

@@ -1,7 +1,6 @@
 pub mod AnyMessage
 pub mod AnyView
 pub mod Machine
-pub mod Laws
 pub mod IncomingFault
 pub mod Source
 pub mod Incoming

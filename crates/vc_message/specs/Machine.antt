@@ -15,7 +15,7 @@ use Rattle.vc_fetch.specs.Pack.{PackText}
 use Rattle.vc_push.specs.Push.{Carried, PushText}
 use Rattle.vc_push.specs.Reason.{text_number}
 use Rattle.vc_push.specs.Report.{ReportText, ToldText, unpack_error}
-use Rattle.vc_session.specs.Steps.{fault_number}
+use Rattle.vc_push_rules.specs.Steps.{fault_number}
 use Rattle.vc_model.specs.Message.{Message, Told}
 use Rattle.vc_model.specs.Message.Message.{Advert, Error, ListRefs, Pack, Push, Report, Want}
 use Rattle.vc_model.specs.Object.{Id, Objects}

@@ -8,7 +8,6 @@ ghost use Rattle.vc_pkt.specs.declared.fault.PktFault.{PktFault};
 ghost use Rattle.vc_model.specs.Message.{IsNamedMessage, Message};
 ghost use Rattle.vc_rules.specs.Git.{git};
 ghost use Rattle.vc_message.specs.AnyMessage.{IsWrittenMessage, MessageText, SpellsMessage, any_step, beginning, message_lines};
-ghost use Rattle.vc_message.specs.Laws.{MessageLaws};
 ghost use Rattle.vc_message.specs.Machine.{IsPlain, IsUnread, IsWritten, Reads};
 
 /// A written message is read as that message.
@@ -47,10 +46,4 @@ pub fn what_is_read_is_named()
 pub fn every_reading()
     ensures each { (bytes : List ℕ) → ((m : Message) × Reads bytes m) ⊎ ((n : ℕ) × IsUnread bytes n) }
     ensures apart { (bytes : List ℕ) (m : Message) (n : ℕ) → Reads bytes m → IsUnread bytes n → ⊥ }
-{}
-
-/// What is read and refused is as the machine asks of its wire: beside the laws above, each body that is read is one of its kind, and
-/// bytes that are refused have one number, of those that refuse bytes.
-pub fn messages_are_a_wire()
-    ensures { MessageLaws }
 {}

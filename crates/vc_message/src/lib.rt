@@ -16,8 +16,8 @@ mod streaming;
 pub use incoming::read_message;
 pub use incoming_fault::IncomingFault;
 pub use laws::{
-    every_reading, messages_are_a_wire, one_message, one_reading, one_writing, read_or_unread,
-    what_is_read_is_named, written_message_is_read,
+    every_reading, one_message, one_reading, one_writing, read_or_unread, what_is_read_is_named,
+    written_message_is_read,
 };
 pub use message::{Message, NOTHING_AWAITED, WRITE_FAILED};
 pub use reader::AnyReader;

@@ -14,7 +14,7 @@ use Rattle.vc_model.specs.Node.{Answer, Failure, Deed, Ends, sent_by, PruneEnds,
 use Rattle.vc_model.specs.Node.Answer.{Declined, Fault}
 use Rattle.vc_model.specs.Node.Reply.{Stored, Made}
 use Rattle.vc_model.specs.Shared.{head_value}
-use Rattle.vc_model.specs.Clone.{Awaited, CloneNode, Task, Performs, Receives, ReceivesNot, IsGoodCommit, IsHeadFree, IsItemId, IsReached, quietly, head_to, with_object}
+use Rattle.vc_model.specs.Clone.{Awaited, CloneNode, PushItem, Task, Performs, Receives, ReceivesNot, IsGoodCommit, IsHeadFree, IsItemId, IsReached, quietly, head_to, with_object}
 use Rattle.vc_model.specs.Clone.Awaited.{Nothing}
 use Rattle.vc_model.specs.Clone.Task.{Write, Stage, LoadTree, MakeCommit, SetBranch, MoveHead, StartPush}
 use Rattle.vc_model.specs.Rules.{Rules}
@@ -40,6 +40,11 @@ abbrev pub CommitsOr : Format → Lookup → List Id → ℕ → Type 0 → Type
 CommitsOr fmt at [] n rest = rest
 CommitsOr fmt at (x ∷ xs) n rest = Unless (IsClosed fmt at x) 40 n (Unless (HasHistory fmt at x) 41 n (CommitsOr fmt at xs n rest))
 
+-- The start of a push is refused with this number.
+abbrev pub RefusesPush : Format → Repository → List PushItem → ℕ → Type 0
+RefusesPush fmt r items n =
+    Unless (length items ≤ max_commands) 84 n (Unless ((x : Id) → IsItemId items x → IsClosed fmt (stored r.objects) x) 40 n ⊥)
+
 -- The local command is refused with this number.
 abbrev pub Refuses : (fmt : Format) → Rules fmt → Repository → Task → ℕ → Type 0
 Refuses fmt rules r (Write o) n = rules.fault o (Some n)
@@ -52,8 +57,7 @@ Refuses fmt rules r (MakeCommit extra author committer message) n =
 Refuses fmt rules r (SetBranch b x) n =
     Unless (IsFree r.refs b) 32 n (Unless (IsClosed fmt (stored r.objects) x) 40 n (Unless (HasHistory fmt (stored r.objects) x) 41 n ⊥))
 Refuses fmt rules r (MoveHead (Detached x)) n = Unless (IsClosed fmt (stored r.objects) x) 40 n (Unless (HasHistory fmt (stored r.objects) x) 41 n ⊥)
-Refuses fmt rules r (StartPush atomic items) n =
-    Unless (length items ≤ max_commands) 84 n (Unless ((x : Id) → IsItemId items x → IsClosed fmt (stored r.objects) x) 40 n ⊥)
+Refuses fmt rules r (StartPush atomic items) n = RefusesPush fmt r items n
 Refuses fmt rules r _ n = ⊥
 
 -- What the local command does where nothing refuses it.

@@ -24,11 +24,11 @@ use Rattle.vc_object.specs.declared.id.ObjectId.{ObjectId}
 use Rattle.vc_push.specs.Push.{PushText}
 use Rattle.vc_refs.specs.declared.faults.RefFault.{RefFault}
 use Rattle.vc_refs.specs.declared.faults.RefFault.TheVariants as refs
-use Rattle.vc_session.proofs.FrameLemmas.{damage-of_slot}
-use Rattle.vc_session.specs.Clean.{MakesNoneBad}
-use Rattle.vc_session.specs.Quarantine.{IsDropped, quarantine_folder}
-use Rattle.vc_store.specs.declared.faults.StoreFault.{StoreFault}
-use Rattle.vc_store.specs.declared.faults.StoreFault.TheVariants as store
+use Rattle.vc_push_rules.proofs.FrameLemmas.{damage-of_slot}
+use Rattle.vc_quarantine.specs.Clean.{MakesNoneBad}
+use Rattle.vc_push_rules.specs.Quarantine.{IsDropped, quarantine_folder}
+use Rattle.vc_object_map.specs.declared.faults.StoreFault.{StoreFault}
+use Rattle.vc_object_map.specs.declared.faults.StoreFault.TheVariants as store
 use Rattle.vc_local.proofs.BesideLemmas.{SameBeside, beside_by, clean_on, held_content, spells_on}
 use Rattle.vc_node.proofs.ExchangingLemmas.{pack_failed, pack_taken}
 use Rattle.vc_node.proofs.ReceivingFaults.{writes_as as clone_writes}

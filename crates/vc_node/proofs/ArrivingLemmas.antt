@@ -19,7 +19,7 @@ use Rattle.vc_pkt.specs.Carried.{with_object}
 use Rattle.vc_pkt.specs.ObjectStream.{between}
 use Rattle.vc_pkt.specs.declared.fault.PktFault.TheVariants.{BadRecord}
 use Rattle.vc_push.specs.Push.{carry}
-use Rattle.vc_session.specs.Arrival.{HasArrived}
+use Rattle.vc_quarantine.specs.Arrival.{HasArrived}
 use Rattle.vc_message.specs.Coming.{TakesPart}
 use Rattle.vc_local.proofs.FaultLemmas.{refusal_calm, writes_by}
 use Rattle.vc_node.specs.Arriving.{IsStopped, by_bytes, by_node, by_reader}

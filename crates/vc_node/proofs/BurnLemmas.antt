@@ -41,12 +41,13 @@ use Rattle.vc_refs.specs.declared.faults.RefFault.{RefFault}
 use Rattle.vc_refs.specs.declared.faults.RefFault.TheVariants as ref
 use Rattle.vc_refs.specs.declared.heads.Head.{Head as RefsHead}
 use Rattle.vc_refs.proofs.LayeredListingLemmas.{head_of-same}
-use Rattle.vc_store.specs.Store.{name_in, object_path, objects, stored_in}
-use Rattle.vc_store.specs.declared.faults.StoreFault.{StoreFault}
-use Rattle.vc_store.specs.declared.faults.StoreFault.TheVariants as store
+use Rattle.vc_object_map.specs.Store.{name_in, object_path, objects, stored_in}
+use Rattle.vc_object_map.specs.declared.faults.StoreFault.{StoreFault}
+use Rattle.vc_object_map.specs.declared.faults.StoreFault.TheVariants as store
 use Rattle.vc_store.proofs.PathLemmas.{name_in-some, name_in-object_path}
-use Rattle.vc_rules.specs.Git.{git, machine_entry}
-use Rattle.vc_rules.proofs.GitLaws.{git_rules}
+use Rattle.vc_rules.specs.Git.{git}
+use Rattle.vc_values.specs.Trees.{machine_entry}
+use Rattle.vc_values.proofs.GitLaws.{git_rules}
 use Rattle.vc_node.specs.Burning.{CallsBurn, ExchangesBurn, PacksBurn, SoundCallsBurn}
 use Rattle.vc_node.specs.CloneCalls.{ReceivedAs, SentAs}
 use Rattle.vc_node.specs.CloneFaults.{IsOfDevice as IsOfClonesDevice, TellsDevice as CloneTellsDevice, fault_answer as clone_answer}

@@ -15,13 +15,13 @@ use Rattle.vc_model.specs.Question.{found}
 use Rattle.vc_model.specs.Question.Question.{Resolve}
 use Rattle.vc_object.specs.declared.id.ObjectId.{ObjectId}
 use Rattle.vc_repository.specs.Resolving.{DenotesIn, IsOfExpr}
-use Rattle.vc_rev.specs.Grammar.{ExprText, IsExpr}
+use Rattle.vc_expression.specs.Grammar.{ExprText, IsExpr}
 use Rattle.vc_rev.specs.Value.{refusal_number}
 use Rattle.vc_rev.specs.declared.refusal.RevFault.{RevFault}
 use Rattle.vc_rev.specs.declared.refusal.RevFault.TheVariants.{Missing, NotACommit, Refused, Source}
 use Rattle.vc_rev.specs.declared.refusal.SourceFault.TheVariants.{BadIndex, BadRefFile, HeadLoop, Store}
-use Rattle.vc_rules.specs.Values.{DenotesAt}
-use Rattle.vc_store.specs.declared.faults.StoreFault.TheVariants as store
+use Rattle.vc_values.specs.Values.{DenotesAt}
+use Rattle.vc_object_map.specs.declared.faults.StoreFault.TheVariants as store
 use Rattle.vc_node.proofs.CloneCallLemmas.{Leads, as_told, fault_leads}
 use Rattle.vc_local.proofs.FaultLemmas.{source_alone}
 use Rattle.vc_local.proofs.LookLemmas.{looks_told}

@@ -18,9 +18,9 @@ use Rattle.vc_model.specs.CloneCall.CloneCall.{Asks, Open, Receive}
 use Rattle.vc_model.specs.Message.{Message}
 use Rattle.vc_model.specs.Question.Question.{Unread as AsksUnread}
 use Rattle.vc_pkt.specs.declared.fault.PktFault.{PktFault}
-use Rattle.vc_session.specs.Clean.{MakesNoneBad}
-use Rattle.vc_session.specs.Learning.{Learnt}
-use Rattle.vc_session.specs.Quarantine.{IsDropped, quarantine_folder}
+use Rattle.vc_quarantine.specs.Clean.{MakesNoneBad}
+use Rattle.vc_quarantine.specs.Learning.{Learnt}
+use Rattle.vc_push_rules.specs.Quarantine.{IsDropped, quarantine_folder}
 use Rattle.vc_node.proofs.ArrivedLemmas.{node_beside}
 use Rattle.vc_node.proofs.CloneCallLemmas.{down_clone, fault_leads}
 use Rattle.vc_local.proofs.BesideLemmas.{clean_by}

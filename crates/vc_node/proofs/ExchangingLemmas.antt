@@ -28,10 +28,10 @@ use Rattle.vc_model.specs.Refs.{Refs}
 use Rattle.vc_model.specs.Repository.{IsSound, Repository}
 use Rattle.vc_object.specs.declared.id.ObjectId.{ObjectId}
 use Rattle.vc_push.specs.Report.{ReportText}
-use Rattle.vc_rules.proofs.GitLaws.{git_rules}
+use Rattle.vc_values.proofs.GitLaws.{git_rules}
 use Rattle.vc_rules.specs.Git.{git}
 use Rattle.vc_rules.specs.OpenPushes.{HoldsContent}
-use Rattle.vc_session.specs.Clean.{MakesNoneBad}
+use Rattle.vc_quarantine.specs.Clean.{MakesNoneBad}
 use Rattle.vc_node.proofs.CloneCallLemmas.{Leads, refused_leads}
 use Rattle.vc_local.proofs.BesideLemmas.{SameBeside, held_content}
 use Rattle.vc_node.proofs.ReceivingClone.{beside_refs, cut_leads, head_held, received_leads, up_answers}

@@ -15,9 +15,9 @@ use Rattle.vc_object.specs.declared.id.ObjectId.{ObjectId}
 use Rattle.vc_object.specs.declared.kind.Kind.TheVariants as kinds
 use Rattle.vc_refs.specs.declared.heads.Head.{Head}
 use Rattle.vc_refs.specs.declared.heads.Head.TheVariants as heads
-use Rattle.vc_store.specs.Store.{objects, with_objects}
-use Rattle.vc_session.proofs.CleanLemmas.{bad_same, bad_then}
-use Rattle.vc_session.proofs.NumberLemmas.{agreement_kept}
+use Rattle.vc_object_map.specs.Store.{objects, with_objects}
+use Rattle.vc_quarantine.proofs.CleanLemmas.{bad_same, bad_then}
+use Rattle.vc_quarantine.proofs.NumberLemmas.{agreement_kept}
 use Rattle.vc_local.specs.Commit.{IsCommitted, WritesCommit, made_body, moved}
 use Rattle.vc_local.specs.Making.{IsCut, LeftByCommit, StoresTrees}
 use Rattle.vc_local.specs.Shown.{Shown, shown}

@@ -4,7 +4,7 @@ use Rattle.vc_exchange.specs.Learning.{LearnsJudging, LearnsTaking, UnlessFault}
 use Rattle.vc_exchange.specs.declared.fault.ExchangeFault.{ExchangeFault}
 use Rattle.vc_exchange.specs.declared.fault.ExchangeFault.TheVariants as exchange
 use Rattle.vc_files.specs.FileMap.{FileMap, SameOutside}
-use Rattle.vc_graph.specs.Graph.{IsClosed}
+use Rattle.vc_object_map.specs.Graph.{IsClosed}
 use Rattle.vc_history.specs.Generation.{HasGeneration}
 use Rattle.vc_history.specs.History.{IsAncestor}
 use Rattle.vc_history.specs.Stored.{AgreesIn}
@@ -15,11 +15,11 @@ use Rattle.vc_pack.specs.Reached.{KeepsObjects}
 use Rattle.vc_exchange.proofs.QuarantinedLemmas.{keeps_beside_slot}
 use Rattle.vc_refs.specs.RefMap.{RefMap}
 use Rattle.vc_refs.specs.Refs.{refs}
-use Rattle.vc_session.proofs.FrameLemmas.{objects-of_slot, refs-of_slot}
-use Rattle.vc_session.proofs.NumberLemmas.{agreement_kept}
-use Rattle.vc_session.specs.Learning.{IsLearnt, IsOfWhole, Learnt}
-use Rattle.vc_session.specs.Quarantine.{quarantine_folder}
-use Rattle.vc_store.specs.Store.{objects}
+use Rattle.vc_push_rules.proofs.FrameLemmas.{objects-of_slot, refs-of_slot}
+use Rattle.vc_quarantine.proofs.NumberLemmas.{agreement_kept}
+use Rattle.vc_quarantine.specs.Learning.{IsLearnt, IsOfWhole, Learnt}
+use Rattle.vc_push_rules.specs.Quarantine.{quarantine_folder}
+use Rattle.vc_object_map.specs.Store.{objects}
 use Rattle.vc_node.specs.Awaited.{AwaitedText}
 use Rattle.vc_node.specs.CloneFaults.{is_fault, of_exchange, up_after}
 use Rattle.vc_node.specs.Arriving.{some_told}

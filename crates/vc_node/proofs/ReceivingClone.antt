@@ -23,7 +23,7 @@ use Rattle.vc_refs.specs.Head.{head_value}
 use Rattle.vc_refs.specs.Refs.{refs}
 use Rattle.vc_refs.specs.declared.heads.Head.{Head}
 use Rattle.vc_refs.specs.declared.heads.Head.TheVariants as heads
-use Rattle.vc_session.specs.Clean.{MakesNoneBad}
+use Rattle.vc_quarantine.specs.Clean.{MakesNoneBad}
 use Rattle.vc_local.proofs.BesideLemmas.{SameBeside, beside_by, clean_on, spells_on}
 use Rattle.vc_node.proofs.CloneCallLemmas.{Leads}
 use Rattle.vc_node.specs.Awaited.{AwaitedText, IsAwaited}

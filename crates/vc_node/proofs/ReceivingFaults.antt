@@ -17,8 +17,8 @@ use Rattle.vc_refs.specs.Refs.{IsBadRef}
 use Rattle.vc_refs.specs.declared.faults.RefFault.{RefFault}
 use Rattle.vc_refs.specs.declared.faults.RefFault.TheVariants as refs
 use Rattle.vc_refs.specs.declared.heads.Head.{Head}
-use Rattle.vc_store.specs.declared.faults.StoreFault.{StoreFault}
-use Rattle.vc_store.specs.declared.faults.StoreFault.TheVariants as store
+use Rattle.vc_object_map.specs.declared.faults.StoreFault.{StoreFault}
+use Rattle.vc_object_map.specs.declared.faults.StoreFault.TheVariants as store
 use Rattle.vc_local.proofs.FaultLemmas.{refs_calm, store_calm, told_from, writes_by}
 use Rattle.vc_local.proofs.RefusalLemmas.{no_head, of_head_value}
 use Rattle.vc_local.specs.Clean.{IsClean}

@@ -4,8 +4,8 @@ use Rattle.std.specs.Prelude.{ℕ, IfErr, OnErr}
 use Rattle.vc_files.specs.FileMap.{FileMap}
 use Rattle.vc_files.specs.Failures.{Wears, Writes}
 use Rattle.vc_model.specs.CloneCall.{CloneCall}
-use Rattle.vc_session.specs.Clean.{MakesNoneBad}
-use Rattle.vc_session.specs.Learning.{Learnt}
+use Rattle.vc_quarantine.specs.Clean.{MakesNoneBad}
+use Rattle.vc_quarantine.specs.Learning.{Learnt}
 use Rattle.vc_node.proofs.CloneCallLemmas.{as_told}
 use Rattle.vc_local.proofs.BesideLemmas.{clean_by}
 use Rattle.vc_node.proofs.ReceivingClone.{may_up}

@@ -22,7 +22,7 @@ use Rattle.vc_model.specs.CloneCall.CloneCall.{Command}
 use Rattle.vc_model.specs.Message.Message.{ListRefs, Push}
 use Rattle.vc_model.specs.Object.{zero_id}
 use Rattle.vc_refs.specs.declared.faults.RefFault.TheVariants as refs
-use Rattle.vc_store.specs.declared.faults.StoreFault.TheVariants as store
+use Rattle.vc_object_map.specs.declared.faults.StoreFault.TheVariants as store
 use Rattle.vc_node.proofs.CloneCallLemmas.{Leads, as_told, fault_leads, refused_leads, sent_leads}
 use Rattle.vc_local.proofs.BesideLemmas.{held_content}
 use Rattle.vc_node.specs.Awaited.{AwaitedText, IsAwaited, an_advert}

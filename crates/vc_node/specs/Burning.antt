@@ -13,7 +13,7 @@ use Rattle.vc_model.specs.Question.Question.{PackRefs}
 use Rattle.vc_model.specs.Refs.{RefName}
 use Rattle.vc_model.specs.Repository.{IsSound}
 use Rattle.vc_rules.specs.Git.{git}
-use Rattle.vc_rules.proofs.GitLaws.{git_rules}
+use Rattle.vc_values.proofs.GitLaws.{git_rules}
 use Rattle.vc_node.specs.Awaited.{AwaitedText, IsAwaited}
 use Rattle.vc_local.specs.Clean.{KeepsCleanBut}
 use Rattle.vc_node.specs.CloneCalls.{AnswersClone, MayOr}

@@ -14,7 +14,7 @@ use Rattle.vc_pkt.specs.declared.fault.PktError.TheVariants as pkt
 use Rattle.vc_rev.specs.Value.{refusal_number}
 use Rattle.vc_rev.specs.declared.refusal.RevFault.{RevFault}
 use Rattle.vc_rev.specs.declared.refusal.RevFault.TheVariants as revs
-use Rattle.vc_store.specs.declared.faults.StoreFault.TheVariants as store
+use Rattle.vc_object_map.specs.declared.faults.StoreFault.TheVariants as store
 use Rattle.vc_local.specs.Machine.{fault_answer as node_answer}
 use Rattle.vc_local.specs.NodeFault.{IsOfDevice as IsNodeDevice, is_fault as is_node_fault, of_source, refused_by_graph, refused_by_refs, refused_by_store}
 use Rattle.vc_node.specs.declared.clone_fault.CloneFault.{CloneFault}

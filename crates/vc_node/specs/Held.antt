@@ -1,6 +1,6 @@
 -- What a node holds.
 use Rattle.std.specs.Prelude.{Bool}
-use Rattle.vc_session.specs.Learning.{Learnt}
+use Rattle.vc_quarantine.specs.Learning.{Learnt}
 use Rattle.vc_node.specs.Awaited.{AwaitedText}
 
 -- the files of a node, what it awaits, whether it is up, and what it has learnt of the generations of commits

@@ -6,7 +6,7 @@ use Rattle.vc_history.specs.Numbering.{numbers}
 use Rattle.vc_history.specs.Stored.{AgreesIn}
 use Rattle.vc_object.specs.declared.id.ObjectId.{ObjectId}
 use Rattle.vc_refs.specs.Refs.{refs}
-use Rattle.vc_session.specs.Learning.{IsOfWhole, Learnt}
+use Rattle.vc_quarantine.specs.Learning.{IsOfWhole, Learnt}
 use Rattle.vc_node.specs.Awaited.{AwaitedText, awaited_text}
 use Rattle.vc_node.specs.CloneFaults.{up_after}
 use Rattle.vc_node.specs.ReceiveFault.{up_after as receive_up_after}

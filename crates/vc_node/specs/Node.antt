@@ -15,7 +15,7 @@ use Rattle.vc_model.specs.Node.{Answer}
 use Rattle.vc_format.specs.Git.{bytes_of_id}
 use Rattle.vc_model.specs.Object.{zero_id}
 use Rattle.vc_object.specs.declared.id.ObjectId.{ObjectId}
-use Rattle.vc_session.specs.Learning.{IsNothing}
+use Rattle.vc_quarantine.specs.Learning.{IsNothing}
 use Rattle.vc_node.specs.Arriving.{IsKnown, KeepsHeld, ReceivesFrom, ToldAs}
 use Rattle.vc_node.specs.Awaited.{nothing}
 use Rattle.vc_node.specs.CloneCalls.{AnswersClone, MayOr, ReceivedAs}

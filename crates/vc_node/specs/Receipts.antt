@@ -14,7 +14,7 @@ use Rattle.vc_model.specs.Message.{Message}
 use Rattle.vc_pkt.specs.Message.{FirstFault, IsSpelledBy}
 use Rattle.vc_pkt.specs.declared.fault.PktFault.{PktFault}
 use Rattle.vc_repository.specs.Resolving.{IsOfExpr}
-use Rattle.vc_rev.specs.Grammar.{ExprText}
+use Rattle.vc_expression.specs.Grammar.{ExprText}
 use Rattle.vc_rev.specs.declared.refusal.RevFault.{RevFault}
 use Rattle.vc_node.specs.Awaited.{AwaitedText, a_pack, an_advert}
 use Rattle.vc_node.specs.CloneFaults.{of_device, of_exchange, of_rev, of_send}

@@ -6,9 +6,9 @@ ghost use Rattle.vc_files.specs.FileMap.{SameOutside};
 ghost use Rattle.vc_files.specs.Failures.{Writes};
 ghost use Rattle.vc_history.specs.Stored.{AgreesIn};
 ghost use Rattle.vc_message.specs.Source.{TellsFailures, TellsLoss};
-ghost use Rattle.vc_session.specs.Clean.{MakesNoneBad};
-ghost use Rattle.vc_session.specs.Learning.{learnt_in};
-ghost use Rattle.vc_session.specs.Quarantine.{IsDropped, quarantine_folder};
+ghost use Rattle.vc_quarantine.specs.Clean.{MakesNoneBad};
+ghost use Rattle.vc_quarantine.specs.Learning.{learnt_in};
+ghost use Rattle.vc_push_rules.specs.Quarantine.{IsDropped, quarantine_folder};
 ghost use Rattle.vc_node.specs.Arriving.{Arrives, Comes, FromPack, FromStart, IsStopped, KeepsAtLoss, KeepsHeld, LeavesPack, ReceivesUp, TakesPack, down_told, some_told};
 ghost use Rattle.vc_node.specs.Awaited.{awaited_text};
 ghost use Rattle.vc_node.specs.Learning.{IfNothing, KeepsAll, LearnsPack, LeavesCome, LeavesNext};
@@ -28,7 +28,7 @@ use vc_message::{
 };
 use vc_object::ObjectId;
 use vc_pkt::PktFault;
-use vc_session::{Arriving, drop_quarantine};
+use vc_quarantine::{Arriving, drop_quarantine};
 
 // The objects of a pack, each of which stands in the quarantine once all of the pack has come. Where it doesn't, some may be left
 // there. A body out of its kind's grammar is a fault of the pack, and nothing behind it is read.

@@ -12,9 +12,9 @@ use vc_files::Fault;
 use vc_local::NodeFault;
 use vc_message::NOTHING_AWAITED;
 use vc_object::ObjectId;
+use vc_object_map::StoreFault;
 use vc_pkt::{PktError, PktFault};
 use vc_rev::{Refusal, RevFault};
-use vc_store::StoreFault;
 
 /// What refuses such a call of a clone, by number, or the fault that ended it. After a fault the node is down.
 #[derive(Debug, Drop)]

@@ -12,7 +12,7 @@ ghost use Rattle.vc_model.specs.CloneCall.CloneCall.{Asks, Receive};
 ghost use Rattle.vc_model.specs.Message.{Message as Sent};
 ghost use Rattle.vc_model.specs.Question.Question.{Unread};
 ghost use Rattle.vc_push.specs.ReportView.{report_text};
-ghost use Rattle.vc_session.specs.Learning.{learnt_in};
+ghost use Rattle.vc_quarantine.specs.Learning.{learnt_in};
 ghost use Rattle.vc_node.specs.Awaited.{awaited_text};
 ghost use Rattle.vc_node.specs.CloneCalls.{AnswersTaken, MayTake, MayTaken, TakesMessage};
 ghost use Rattle.vc_node.specs.CloneFaults.{TellsDevice};

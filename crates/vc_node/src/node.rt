@@ -16,8 +16,8 @@ ghost use Rattle.vc_model.specs.Message.{Message as Sent};
 ghost use Rattle.vc_model.specs.Question.Question.{PackRefs, Resolve, Unread};
 ghost use Rattle.vc_push.specs.ReportView.{report_text};
 ghost use Rattle.vc_repository.specs.Resolving.{DenotesIn};
-ghost use Rattle.vc_rev.specs.Grammar.{IsExpr};
-ghost use Rattle.vc_rev.specs.Views.{expr_view};
+ghost use Rattle.vc_expression.specs.Grammar.{IsExpr};
+ghost use Rattle.vc_expression.specs.Views.{expr_view};
 ghost use Rattle.vc_node.specs.Arriving.{KeepsAtLoss};
 ghost use Rattle.vc_node.specs.Awaited.{nothing};
 ghost use Rattle.vc_node.specs.Node.{AnswersCall, AnswersCommand, AnswersCommandIfSound, AnswersFirst, AnswersStaging, AnswersText, IsFresh, KeepsNode, Looks, MayCall, MayCommand, MayCommandIfSound, MayCommit, MayStaging, MayText, PushesNoZero, ReceivesNext, Settles, SettlesMessage, SettlesNext, SettlesTaken, commit_task};
@@ -25,8 +25,8 @@ ghost use Rattle.vc_node.specs.CloneCalls.{ReceivedAs, SentAs};
 ghost use Rattle.vc_node.specs.CloneFaults.{TellsDevice as CloneTellsDevice, fault_answer, is_fault as is_clone_fault, of_device, up_after as clone_up_after};
 ghost use Rattle.vc_node.specs.Receipts.{IsOfMessage, IsRefusedBytes, IsRefusedMessage, IsRefusedStart, IsRefusedValue};
 ghost use Rattle.vc_node.specs.ReceiveFault.{TellsDevice as ReceiveTellsDevice, is_fault as is_receive_fault, up_after as receive_up_after};
-ghost use Rattle.vc_session.specs.Learning.{IsNothing};
-ghost use Rattle.vc_session.specs.Quarantine.{IsDropped};
+ghost use Rattle.vc_quarantine.specs.Learning.{IsNothing};
+ghost use Rattle.vc_push_rules.specs.Quarantine.{IsDropped};
 ghost use Rattle.vc_local.specs.Emptying.{AreEmpty, IsOpened, LosesCarried};
 ghost use Rattle.vc_local.specs.Blames.{BlamesLoad, BlamesOpen, BlamesPacking, BlamesWrite, IsLocalHead};
 ghost use Rattle.vc_index.specs.IndexMap.{IndexMap};
@@ -51,6 +51,7 @@ use crate::{CloneFault, ReceiveFault, Received, arriving, exchanging};
 use std::alloc::Global;
 use std::marker::Model;
 use vc_exchange::{PushItem, list_message, push_message};
+use vc_expression::Expr;
 use vc_files::{Files, FusedFiles};
 use vc_history::Generations;
 use vc_index::Index;
@@ -61,7 +62,6 @@ use vc_pack::Reached;
 use vc_push::Report;
 use vc_refname::RefName;
 use vc_refs::Head;
-use vc_rev::Expr;
 
 /// A clone over files: objects, refs, HEAD and an index. Once a call has ended in a fault, each later one but
 /// [`close`](CloneNode::close) is refused (112), until the files are opened again. After a push it keeps in memory the names of what
@@ -92,7 +92,7 @@ impl<F: Files> Model for CloneNode<F> {
     ghost use Rattle.vc_history.specs.Stored.{AgreesIn};
     ghost use Rattle.vc_history.specs.contracts.generations.Generations as known;
     ghost use Rattle.vc_pack.specs.Reached.{StandsIn};
-    ghost use Rattle.vc_session.specs.Learning.{learnt_in};
+    ghost use Rattle.vc_quarantine.specs.Learning.{learnt_in};
     ghost use Rattle.vc_node.specs.Awaited.{awaited_text};
     ghost use Rattle.vc_node.specs.Held.{Held};
     ghost use Rattle.vc_local.specs.IndexFile.{SpellsIndex};

@@ -13,7 +13,7 @@ use vc_exchange::ExchangeFault;
 use vc_files::Fault;
 use vc_local::NodeFault;
 use vc_message::IncomingFault;
-use vc_store::StoreFault;
+use vc_object_map::StoreFault;
 
 /// What ends the taking of a message from a reader without an answer.
 #[derive(Debug, Drop)]

@@ -9,19 +9,20 @@ use Rattle.vc_pack.specs.Picked.{IsFirst, IsPicked, BeginsWithFirst}
 use Rattle.vc_pack.specs.declared.fault.AnswerFault.{AnswerFault}
 use Rattle.vc_pack.specs.declared.fault.AnswerFault.TheVariants.{NotOurs, Incomplete, Refs, Graph, Fault}
 use Rattle.vc_files.specs.FileMap.{FileMap}
-use Rattle.vc_graph.specs.Graph.{ReachedFrom, itself}
-use Rattle.vc_graph.specs.GraphFault.{IsMet, IsTold}
-use Rattle.vc_graph.specs.Overlay.{with_carried}
+use Rattle.vc_object_map.specs.Graph.{ReachedFrom, itself}
+use Rattle.vc_object_map.specs.StoreFault.{IsMet}
+use Rattle.vc_graph.specs.GraphFault.{IsTold}
+use Rattle.vc_object_map.specs.Overlay.{with_carried}
 use Rattle.vc_graph.specs.declared.fault.GraphFault.{GraphFault}
 use Rattle.vc_graph.specs.declared.fault.GraphFault.TheVariants as graph
-use Rattle.vc_graph.proofs.WalkLemmas.{Reaches-trans}
+use Rattle.vc_object_map.proofs.WalkLemmas.{Reaches-trans}
 use Rattle.vc_object.specs.Decoding.{StoredObject}
 use Rattle.vc_object.specs.Links.{links_of}
 use Rattle.vc_object.specs.ObjectMap.{ObjectMap, links_in}
 use Rattle.vc_object.specs.declared.id.ObjectId.{ObjectId}
-use Rattle.vc_store.specs.Store.{objects, IsDamaged}
-use Rattle.vc_store.specs.declared.faults.StoreFault.{StoreFault}
-use Rattle.vc_store.specs.declared.faults.StoreFault.TheVariants as store
+use Rattle.vc_object_map.specs.Store.{objects, IsDamaged}
+use Rattle.vc_object_map.specs.declared.faults.StoreFault.{StoreFault}
+use Rattle.vc_object_map.specs.declared.faults.StoreFault.TheVariants as store
 
 -- ---- links and objects
 module _ (map : ObjectMap) (id : ObjectId) where

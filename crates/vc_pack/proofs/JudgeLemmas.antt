@@ -3,7 +3,7 @@ use Rattle.std.proofs.Common.{◌≡◌, ℕ, ◌+◌, ◌<◌, ⊎_elim, List, 
 use Rattle.std.proofs.Math.Seq.{take-append_seam}
 use Rattle.std.proofs.lemmas.List.{get_or_default, take-append-drop, take_more}
 use Rattle.std.proofs.lemmas.List.Elements.{Contains-push_cases}
-use Rattle.vc_graph.specs.Graph.{Reaches, ReachedFrom, IsClosed, IsClosedUnder}
+use Rattle.vc_object_map.specs.Graph.{Reaches, ReachedFrom, IsClosed, IsClosedUnder}
 
 module _ {Id : Type 0} (links : Id → Option (List Id)) where
   pub closed_none : (wants : List Id) → IsClosedUnder links (take 0 wants)

@@ -4,8 +4,8 @@ use Rattle.std.specs.Prelude.{unwrap_or}
 use Rattle.vc_pack.specs.Reached.{HasSame, KeepsObjects, Stands, StandsIn}
 use Rattle.vc_pack.specs.declared.reached.Reached.{Reached}
 use Rattle.vc_files.specs.FileMap.{FileMap}
-use Rattle.vc_graph.proofs.WalkLemmas.{Contains-reached}
-use Rattle.vc_graph.specs.Graph.{IsFollowed, Reaches, itself, onward}
+use Rattle.vc_object_map.proofs.WalkLemmas.{Contains-reached}
+use Rattle.vc_object_map.specs.Graph.{IsFollowed, Reaches, itself, onward}
 use Rattle.vc_object.proofs.IdLemmas.{id_eq-same}
 use Rattle.vc_object.proofs.ObjectMaps.{links_in-none, links_in-some}
 use Rattle.vc_object.specs.Decoding.{StoredObject}
@@ -13,7 +13,7 @@ use Rattle.vc_object.specs.Object.{object_name}
 use Rattle.vc_object.specs.ObjectId.{id_eq}
 use Rattle.vc_object.specs.ObjectMap.{ObjectMap, links_in}
 use Rattle.vc_object.specs.declared.id.ObjectId.{ObjectId}
-use Rattle.vc_store.specs.Store.{objects, with_object, with_objects}
+use Rattle.vc_object_map.specs.Store.{objects, with_object, with_objects}
 
 -- ---- objects that stay
 pub keeps_map : (old new : FileMap) → objects new ≡ objects old → KeepsObjects old new

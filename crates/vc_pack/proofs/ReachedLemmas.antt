@@ -5,8 +5,8 @@ use Rattle.std.proofs.lemmas.List.Elements.{Contains-append_cases}
 use Rattle.std.proofs.lemmas.Map.Views.{Contains-from_any}
 use Rattle.std.specs.List.{list_any}
 use Rattle.vc_pack.specs.Reached.{IsMetDownTo, Stands, links_beyond}
-use Rattle.vc_graph.proofs.WalkLemmas.{Contains-insert_all_cases, Contains-insert_all_new, Contains-insert_all_old, Contains-reached, IsFollowed-none, ReachedFrom-trans, Walks, Walks-start, walked-followed}
-use Rattle.vc_graph.specs.Graph.{IsClosedUnder, IsFollowed, LinksTo, Reaches, ReachedFrom, itself, onward}
+use Rattle.vc_object_map.proofs.WalkLemmas.{Contains-insert_all_cases, Contains-insert_all_new, Contains-insert_all_old, Contains-reached, IsFollowed-none, ReachedFrom-trans, Walks, Walks-start, walked-followed}
+use Rattle.vc_object_map.specs.Graph.{IsClosedUnder, IsFollowed, LinksTo, Reaches, ReachedFrom, itself, onward}
 use Rattle.vc_object.proofs.IdLemmas.{id_eq-same}
 use Rattle.vc_object.specs.ObjectId.{id_eq}
 use Rattle.vc_object.specs.declared.id.ObjectId.{ObjectId}

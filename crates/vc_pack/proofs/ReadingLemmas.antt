@@ -18,8 +18,8 @@ use Rattle.vc_object.specs.declared.id.ObjectId.{ObjectId}
 use Rattle.vc_pkt.proofs.CarriedOnce.{carried_named, carried_sorted, none_sorted}
 use Rattle.vc_pkt.specs.Carried.{stored_name, object_named, with_object, with_objects}
 use Rattle.vc_pkt.proofs.CarriedLaws.{with_objects-push}
-use Rattle.vc_store.specs.Store.{objects, object_path, stored, stored_in, named}
-use Rattle.vc_store.specs.declared.faults.StoreFault.TheVariants as of_store
+use Rattle.vc_object_map.specs.Store.{objects, object_path, stored, stored_in, named}
+use Rattle.vc_object_map.specs.declared.faults.StoreFault.TheVariants as of_store
 
 -- ---- a stored object has its own name
 own_of_object : (id : ObjectId) (o object : StoredObject) (b : Bool) → bytes_eq (object_name o.kind o.body).0 id.0 ≡ b → result_ok (cond b (Ok o) (Err (of_store.Damaged id))) ≡ Some object → stored_name object ≡ id

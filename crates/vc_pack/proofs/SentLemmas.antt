@@ -5,12 +5,12 @@ use Rattle.std.proofs.lemmas.List.Elements.{Contains-append_left, Contains-appen
 use Rattle.vc_pack.proofs.ReadingLemmas.{HasRead, HasRead-none, HasRead-push}
 use Rattle.vc_pack.specs.Reached.{IsSentUnlessKnown}
 use Rattle.vc_files.specs.FileMap.{FileMap}
-use Rattle.vc_graph.proofs.WalkLemmas.{Reaches-from_one, Reaches-trans}
-use Rattle.vc_graph.specs.Graph.{ReachedFrom}
+use Rattle.vc_object_map.proofs.WalkLemmas.{Reaches-from_one, Reaches-trans}
+use Rattle.vc_object_map.specs.Graph.{ReachedFrom}
 use Rattle.vc_object.specs.Decoding.{StoredObject}
 use Rattle.vc_object.specs.declared.id.ObjectId.{ObjectId}
 use Rattle.vc_pkt.specs.Carried.{with_object}
-use Rattle.vc_store.specs.Store.{objects}
+use Rattle.vc_object_map.specs.Store.{objects}
 
 -- what is reached from a name that the roots reach is reached from the roots
 pub ReachedFrom-onward : (links : ObjectId → Option (List ObjectId)) (roots : List ObjectId) (id : ObjectId) → ReachedFrom links roots id → (y : ObjectId) → ReachedFrom links (id ∷ []) y → ReachedFrom links roots y

@@ -1,7 +1,7 @@
 -- A set that is made of a list of names.
 use Rattle.std.proofs.Common.{◌≡◌, ⊎_elim, List, [], Contains, ◌↔◌, sym, subst, arith}
 use Rattle.indexmap.specs.IndexSet.{insert_all}
-use Rattle.vc_graph.proofs.WalkLemmas.{Contains-insert_all_cases, Contains-insert_all_new}
+use Rattle.vc_object_map.proofs.WalkLemmas.{Contains-insert_all_cases, Contains-insert_all_new}
 use Rattle.vc_object.proofs.IdLemmas.{id_eq-same}
 use Rattle.vc_object.specs.ObjectId.{id_eq}
 use Rattle.vc_object.specs.declared.id.ObjectId.{ObjectId}

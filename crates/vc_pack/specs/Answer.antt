@@ -2,13 +2,13 @@
 -- this project's own rule).
 use Rattle.std.specs.Prelude.{◌≡◌, ◌⊎◌, ℕ, List, Option, Some, None, Contains}
 use Rattle.vc_files.specs.FileMap.{FileMap}
-use Rattle.vc_graph.specs.Graph.{Reaches, ReachedFrom}
+use Rattle.vc_object_map.specs.Graph.{Reaches, ReachedFrom}
 use Rattle.vc_object.specs.ObjectMap.{links_in}
 use Rattle.vc_object.specs.declared.id.ObjectId.{ObjectId}
 use Rattle.vc_refs.specs.Head.{head_of}
 use Rattle.vc_refs.specs.Refs.{refs}
 use Rattle.vc_refs.specs.declared.heads.Head.TheVariants as head
-use Rattle.vc_store.specs.Store.{objects}
+use Rattle.vc_object_map.specs.Store.{objects}
 use Rattle.vc_pack.specs.Picked.{IsFirst}
 
 module _ (content : FileMap) where

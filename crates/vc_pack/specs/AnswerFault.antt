@@ -3,18 +3,18 @@ use Rattle.std.specs.Prelude.{◌≡◌, ◌⊎◌, ⊤, List, None, codes, stri
 use Rattle.vc_files.specs.FileMap.{FileMap}
 use Rattle.vc_object.specs.ObjectMap.{ObjectMap, links_in}
 use Rattle.vc_object.specs.declared.id.ObjectId.{ObjectId}
-use Rattle.vc_graph.specs.Graph.{ReachedFrom}
+use Rattle.vc_object_map.specs.Graph.{ReachedFrom}
 use Rattle.vc_graph.specs.Incomplete.{IsFirstIncomplete}
-use Rattle.vc_graph.specs.Overlay.{with_carried}
+use Rattle.vc_object_map.specs.Overlay.{with_carried}
 use Rattle.vc_graph.specs.declared.fault.GraphFault.{GraphFault}
 use Rattle.vc_graph.specs.declared.fault.GraphFault.TheVariants.{Missing, Store}
 use Rattle.vc_refs.specs.Head.{IsHeadLoop, IsBadHead}
 use Rattle.vc_refs.specs.RefFault.{IsFirstBadRef}
 use Rattle.vc_refs.specs.declared.faults.RefFault.{RefFault}
 use Rattle.vc_refs.specs.declared.faults.RefFault.TheVariants as of_refs
-use Rattle.vc_store.specs.Store.{objects, IsDamaged}
-use Rattle.vc_store.specs.declared.faults.StoreFault.{StoreFault}
-use Rattle.vc_store.specs.declared.faults.StoreFault.TheVariants as of_store
+use Rattle.vc_object_map.specs.Store.{objects, IsDamaged}
+use Rattle.vc_object_map.specs.declared.faults.StoreFault.{StoreFault}
+use Rattle.vc_object_map.specs.declared.faults.StoreFault.TheVariants as of_store
 use Rattle.vc_pack.specs.Answer.{IsOurs, IsNotOurs}
 use Rattle.vc_pack.specs.Picked.{IsFirst}
 use Rattle.vc_pack.specs.declared.fault.AnswerFault.{AnswerFault}

@@ -2,13 +2,13 @@
 use Rattle.std.specs.Prelude.{List}
 use Rattle.vc_fetch.specs.PackObjects.{objects_in}
 use Rattle.vc_files.specs.FileMap.{FileMap}
-use Rattle.vc_graph.specs.Complete.{AreComplete}
-use Rattle.vc_graph.specs.Overlay.{with_carried}
+use Rattle.vc_object_map.specs.Complete.{AreComplete}
+use Rattle.vc_object_map.specs.Overlay.{with_carried}
 use Rattle.vc_object.specs.ObjectMap.{ObjectMap}
 use Rattle.vc_object.specs.declared.id.ObjectId.{ObjectId}
 use Rattle.vc_pkt.specs.ObjectStreamView.{carried}
 use Rattle.vc_pkt.specs.declared.carried.CarriedObjects.{CarriedObjects}
-use Rattle.vc_store.specs.Store.{objects}
+use Rattle.vc_object_map.specs.Store.{objects}
 
 -- the stored objects and, for names that are absent there, those that the pack brings
 abbrev pub with_pack : ObjectMap → CarriedObjects → ObjectMap

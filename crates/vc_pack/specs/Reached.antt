@@ -3,13 +3,13 @@ use Rattle.std.specs.Prelude.{◌≡◌, ◌⊎◌, ◌↔◌, List, [], Option,
 use Rattle.std.specs.List.{list_any}
 use Rattle.vc_pack.specs.declared.reached.Reached.{Reached}
 use Rattle.vc_files.specs.FileMap.{FileMap}
-use Rattle.vc_graph.specs.Graph.{IsFollowed, ReachedFrom}
+use Rattle.vc_object_map.specs.Graph.{IsFollowed, ReachedFrom}
 use Rattle.vc_object.specs.Decoding.{StoredObject}
 use Rattle.vc_object.specs.ObjectId.{id_eq}
 use Rattle.vc_object.specs.ObjectMap.{links_in}
 use Rattle.vc_object.specs.declared.id.ObjectId.{ObjectId}
 use Rattle.vc_pkt.specs.Carried.{with_object}
-use Rattle.vc_store.specs.Store.{objects}
+use Rattle.vc_object_map.specs.Store.{objects}
 
 -- the names are exactly what the roots reach, and all of it is there
 pub record Stands (links : ObjectId → Option (List ObjectId)) (roots names : List ObjectId) : Type 0 where

@@ -1,12 +1,12 @@
 -- The objects that are sent.
 use Rattle.std.specs.Prelude.{◌≡◌, ◌↔◌, List, Some}
 use Rattle.vc_files.specs.FileMap.{FileMap}
-use Rattle.vc_graph.specs.Graph.{IsReachedBeyond}
+use Rattle.vc_object_map.specs.Graph.{IsReachedBeyond}
 use Rattle.vc_object.specs.Decoding.{StoredObject}
 use Rattle.vc_object.specs.ObjectMap.{links_in}
 use Rattle.vc_object.specs.declared.id.ObjectId.{ObjectId}
 use Rattle.vc_pkt.specs.Carried.{object_named}
-use Rattle.vc_store.specs.Store.{objects}
+use Rattle.vc_object_map.specs.Store.{objects}
 
 -- the list has exactly the stored objects of whose names this is so
 abbrev pub ListsStored : FileMap → (ObjectId → Type 0) → List StoredObject → Type 0

@@ -8,7 +8,7 @@ ghost use Rattle.vc_object.specs.ObjectId.{IsSortedByName};
 ghost use Rattle.vc_object.specs.declared.id.ObjectId.{ObjectId as Id};
 ghost use Rattle.vc_pkt.specs.Carried.{stored_name};
 ghost use Rattle.vc_pkt.specs.ObjectStreamView.{carried};
-ghost use Rattle.vc_store.specs.Store.{objects};
+ghost use Rattle.vc_object_map.specs.Store.{objects};
 
 use crate::AnswerFault;
 use crate::counting::{are_among, counted, first_other};

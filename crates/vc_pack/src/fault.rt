@@ -10,8 +10,8 @@ use std::fmt;
 use vc_files::Fault;
 use vc_graph::GraphFault;
 use vc_object::ObjectId;
+use vc_object_map::StoreFault;
 use vc_refs::RefFault;
-use vc_store::StoreFault;
 
 /// Why wants have no answer, or a pack is not taken.
 #[derive(Debug, Drop)]

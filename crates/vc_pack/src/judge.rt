@@ -4,21 +4,22 @@ ghost use Rattle.vc_pack.specs.AnswerFault.{IsRefusedPack};
 ghost use Rattle.vc_pack.specs.Brought.{AreCompleteWith, with_pack};
 ghost use Rattle.vc_fetch.specs.PackObjects.{objects_in};
 ghost use Rattle.vc_files.specs.Failures.{Wears};
-ghost use Rattle.vc_graph.specs.Complete.{AreComplete, AreCompleteBeyond};
-ghost use Rattle.vc_graph.specs.GraphFault.{IsMetFrom};
+ghost use Rattle.vc_object_map.specs.Complete.{AreComplete, AreCompleteBeyond};
+ghost use Rattle.vc_object_map.specs.StoreFault.{IsMetFrom};
 ghost use Rattle.vc_graph.specs.Incomplete.{IsFirstIncomplete};
 ghost use Rattle.vc_object.specs.ObjectMap.{links_in};
 ghost use Rattle.vc_pkt.specs.ObjectStreamView.{carried as carried_objects};
-ghost use Rattle.vc_store.specs.Store.{objects, IsDamaged};
+ghost use Rattle.vc_object_map.specs.Store.{objects, IsDamaged};
 
 use crate::{AnswerFault, PackObjects};
 use indexmap::IndexSet;
 use std::alloc::Global;
 use vc_fetch::Pack;
 use vc_files::{Fault, Files};
-use vc_graph::{Objects, Overlay, first_incomplete, is_complete_beyond};
+use vc_graph::{Overlay, first_incomplete, is_complete_beyond};
 use vc_object::ObjectId;
-use vc_store::{Store, StoreFault};
+use vc_object_map::{Objects, StoreFault};
+use vc_store::Store;
 
 /// The known names and what the wants reach beyond them, where all of it is there; or the first want of which that isn't so, and
 /// that whatever is known. Each object that is met is read once, and what the wants reach once more where one is told.

@@ -7,14 +7,15 @@ ghost use Rattle.vc_graph.specs.GraphFault.{IsTold};
 ghost use Rattle.vc_object.specs.ObjectId.{id_eq};
 ghost use Rattle.vc_object.specs.ObjectMap.{links_in};
 ghost use Rattle.vc_object.specs.declared.id.ObjectId.{ObjectId as Id};
-ghost use Rattle.vc_store.specs.Store.{objects, IsDamaged};
+ghost use Rattle.vc_object_map.specs.Store.{objects, IsDamaged};
 
 use indexmap::IndexSet;
 use std::alloc::{AllocError, Global};
 use vc_files::{Fault, Files};
-use vc_graph::{GraphFault, add_names};
+use vc_graph::GraphFault;
 use vc_object::{ObjectId, links};
-use vc_store::{StoreFault, find_named};
+use vc_object_map::{StoreFault, add_names};
+use vc_store::find_named;
 
 /// Roots and the names that they reach, all of which were there when they were walked. Objects that are added change
 /// nothing of that. It takes some 20 to 50 bytes of memory for each name.

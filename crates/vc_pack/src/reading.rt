@@ -3,23 +3,24 @@ ghost use Rattle.std.specs.Prelude.{◌≡◌, ◌++◌, ◌∷◌, [], map, IfO
 ghost use Rattle.vc_pack.specs.Reached.{IsSentUnlessKnown, StandsIn, links_beyond};
 ghost use Rattle.vc_pack.specs.Sent.{AreSentBeyond};
 ghost use Rattle.vc_files.specs.Failures.{Wears};
-ghost use Rattle.vc_graph.specs.Complete.{AreComplete};
+ghost use Rattle.vc_object_map.specs.Complete.{AreComplete};
 ghost use Rattle.vc_graph.specs.GraphFault.{IsTold};
 ghost use Rattle.vc_object.specs.Decoding.{StoredObject};
 ghost use Rattle.vc_object.specs.ObjectId.{IsSortedByName};
 ghost use Rattle.vc_object.specs.ObjectMap.{links_in};
 ghost use Rattle.vc_pkt.specs.Carried.{stored_name, with_object};
 ghost use Rattle.vc_pkt.specs.ObjectStreamView.{carried};
-ghost use Rattle.vc_store.specs.Store.{objects, IsDamaged};
+ghost use Rattle.vc_object_map.specs.Store.{objects, IsDamaged};
 
 use crate::Reached;
 use indexmap::IndexSet;
 use std::alloc::Global;
 use vc_files::{Fault, Files};
-use vc_graph::{GraphFault, add_names};
+use vc_graph::GraphFault;
 use vc_object::{ObjectId, links};
+use vc_object_map::{StoreFault, add_names};
 use vc_pkt::{CarriedObjects, StreamObject};
-use vc_store::{StoreFault, find_named};
+use vc_store::find_named;
 
 // Adds the stored object with this name to those that are sent. The answer is what it links to.
 fn send<F: Files>(

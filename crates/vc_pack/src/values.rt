@@ -10,8 +10,8 @@ ghost use Rattle.vc_refs.specs.RefFault.{BlamesList, BlamesHead};
 use indexmap::IndexSet;
 use std::alloc::{AllocError, Global};
 use vc_files::{Fault, Files};
-use vc_graph::{add_names, sorted_from};
 use vc_object::ObjectId;
+use vc_object_map::{add_names, sorted_from};
 use vc_refname::RefName;
 use vc_refs::{Head, RefFault, head, list};
 

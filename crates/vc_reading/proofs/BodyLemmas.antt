@@ -12,9 +12,9 @@ use Rattle.vc_object.specs.ObjectFault.BodyFault.{too_large, no_grammar}
 use Rattle.vc_object.specs.declared.id.ObjectId.{ObjectId}
 use Rattle.vc_object.specs.declared.kind.Kind.{Kind}
 use Rattle.vc_object.specs.declared.fault.ObjectFault.{ObjectFault}
-use Rattle.vc_store.specs.StoreFault.{IsOfPut}
-use Rattle.vc_store.specs.declared.faults.StoreFault.{StoreFault}
-use Rattle.vc_store.specs.declared.faults.StoreFault.TheVariants.{BadObject, Absent, Damaged, Fault}
+use Rattle.vc_object_map.specs.StoreFault.{IsOfPut}
+use Rattle.vc_object_map.specs.declared.faults.StoreFault.{StoreFault}
+use Rattle.vc_object_map.specs.declared.faults.StoreFault.TheVariants.{BadObject, Absent, Damaged, Fault}
 use Rattle.vc_cli.specs.Printed.{id_line}
 use Rattle.vc_reading.specs.HashObject.{IsOfBody, IsOfStored}
 use Rattle.vc_cli.specs.declared.failure.Failure.TheVariants.{Object, Store}

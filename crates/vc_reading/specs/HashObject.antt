@@ -6,8 +6,8 @@ use Rattle.vc_object.specs.ObjectFault.{BodyFault}
 use Rattle.vc_object.specs.declared.id.ObjectId.{ObjectId}
 use Rattle.vc_object.specs.declared.kind.Kind.{Kind}
 use Rattle.vc_cli.specs.declared.failure.Failure.{Failure}
-use Rattle.vc_store.specs.Store.{objects, with_object}
-use Rattle.vc_store.specs.StoreFault.{IsOfPut}
+use Rattle.vc_object_map.specs.Store.{objects, with_object}
+use Rattle.vc_object_map.specs.StoreFault.{IsOfPut}
 use Rattle.vc_cli.specs.declared.failure.Failure.TheVariants.{Object, Store, Fault}
 
 -- why the name of a body isn't printed: the body's own first fault, or a fault of memory or a device

@@ -15,8 +15,8 @@ use Rattle.vc_object.specs.ObjectMap.{ObjectMap, parents_in}
 use Rattle.vc_object.specs.declared.id.ObjectId.{ObjectId}
 use Rattle.vc_refs.specs.RefFault.{BlamesList, BlamesHead}
 use Rattle.vc_refs.specs.RefMap.{RefMap, IsListOf}
-use Rattle.vc_store.specs.Store.{stored, objects, IsDamaged}
-use Rattle.vc_store.specs.StoreFault.{IsFault as IsStoreFault}
+use Rattle.vc_object_map.specs.Store.{stored, objects, IsDamaged}
+use Rattle.vc_object_map.specs.StoreFault.{IsFault as IsStoreFault}
 use Rattle.vc_cli.specs.Failure.{IsFault}
 use Rattle.vc_cli.specs.Printed.{id_line}
 use Rattle.vc_cli.specs.Revisions.{Denoted, IsOfRevision, IsSelected}

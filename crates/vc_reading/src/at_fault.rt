@@ -8,9 +8,9 @@ use vc_cli::Failure;
 use vc_history::HistoryFault;
 use vc_local::NodeFault;
 use vc_object::ObjectId;
+use vc_object_map::StoreFault;
 use vc_refs::RefFault;
 use vc_rev::{RevFault, SourceFault};
-use vc_store::StoreFault;
 
 // The letters by which git writes the bytes 7 to 13.
 const LETTERS: [u8; 7] = [b'a', b'b', b't', b'n', b'v', b'f', b'r'];

@@ -2,7 +2,7 @@
 ghost use Rattle.std.specs.Prelude.{◌≡◌, ◌⊎◌, IsSome, IfSome, IfErr, OnOk};
 ghost use Rattle.std.specs.Io.KnownBytes.{Appends, Keeps};
 ghost use Rattle.vc_object.specs.Decoding.{stored_object};
-ghost use Rattle.vc_store.specs.Store.{objects};
+ghost use Rattle.vc_object_map.specs.Store.{objects};
 ghost use Rattle.vc_cli.specs.Failure.{IsFault, TellsOfFiles};
 ghost use Rattle.vc_reading.specs.Shown.{part_text, IsOfLook};
 ghost use Rattle.vc_files.specs.Failures.{Wears};

@@ -1,7 +1,7 @@
 //! The subcommand `merge-base`: the best common ancestors of two commits.
 ghost use Rattle.std.specs.Prelude.{◌≡◌, ◌⊎◌, IfOk, IfErr};
 ghost use Rattle.std.specs.Io.KnownBytes.{Keeps};
-ghost use Rattle.vc_store.specs.Store.{objects};
+ghost use Rattle.vc_object_map.specs.Store.{objects};
 ghost use Rattle.vc_cli.specs.Failure.{IsFault, TellsOfFiles};
 ghost use Rattle.vc_reading.specs.Shown.{IsOfBases, PrintsBases};
 ghost use Rattle.vc_files.specs.Failures.{Wears};
@@ -12,8 +12,9 @@ use std::rt;
 use vc_cli::{Failure, id_lines, open_store, print_text, resolve};
 use vc_files::Files;
 use vc_folder::Syncs;
-use vc_history::{Generations, merge_bases};
+use vc_history::Generations;
 use vc_object::ObjectId;
+use vc_selection::merge_bases;
 use vc_store::Store;
 
 /// Prints the best common ancestors of the commits that two revisions name.

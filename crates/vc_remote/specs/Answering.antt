@@ -12,7 +12,7 @@ use Rattle.vc_model.specs.SharedCall.{SharedCall}
 use Rattle.vc_local.specs.Blames.{BlamesOpen}
 use Rattle.vc_local.specs.Clean.{KeepsClean}
 use Rattle.vc_local.specs.Opening.{IsOpenable}
-use Rattle.vc_session.specs.Session.{SessionText}
+use Rattle.vc_push_rules.specs.Session.{SessionText}
 use Rattle.vc_server.specs.Coming.{IsRefusedThere, Reply}
 use Rattle.vc_server.specs.Serving.{ServedAs, ServesOn}
 use Rattle.vc_shared.specs.Arriving.{IsCallOf, IsTold}

@@ -4,7 +4,7 @@ use Rattle.vc_refs.specs.declared.faults.RefFault.{RefFault}
 use Rattle.vc_refs.specs.declared.faults.RefFault.TheVariants as refs
 use Rattle.vc_rev.specs.declared.refusal.SourceFault.{SourceFault}
 use Rattle.vc_rev.specs.declared.refusal.SourceFault.TheVariants.{Store, BadRefFile, HeadLoop}
-use Rattle.vc_store.specs.declared.faults.StoreFault.TheVariants.{Fault}
+use Rattle.vc_object_map.specs.declared.faults.StoreFault.TheVariants.{Fault}
 
 abbrev pub of_refs : RefFault → SourceFault
 of_refs (refs.Stale current) = Store (Fault Memory)

@@ -9,7 +9,7 @@ use Rattle.vc_index.specs.declared.faults.IndexFault.{IndexFault}
 use Rattle.vc_index.specs.declared.faults.IndexFault.TheVariants as indexes
 use Rattle.vc_rev.specs.declared.refusal.SourceFault.{SourceFault}
 use Rattle.vc_rev.specs.declared.refusal.SourceFault.TheVariants.{Store, BadIndex}
-use Rattle.vc_store.specs.declared.faults.StoreFault.TheVariants as stores
+use Rattle.vc_object_map.specs.declared.faults.StoreFault.TheVariants as stores
 
 -- the file `index` spells it; without that file it is empty
 abbrev pub IsIndexOf : FileMap → IndexMap → Type 0

@@ -8,14 +8,14 @@ use Rattle.vc_repository.specs.IndexFile.{IsIndexOf, IsOfIndexFile}
 use Rattle.vc_repository.specs.State.{State, names_in, HasFileIn, IsCause}
 use Rattle.vc_rev.specs.Answer.{IsTold}
 use Rattle.vc_rev.specs.Asking.{ExprAsks}
-use Rattle.vc_rev.specs.Grammar.{ExprText, Object, InTree, InIndex}
+use Rattle.vc_expression.specs.Grammar.{ExprText, Object, InTree, InIndex}
 use Rattle.vc_rev.specs.Meaning.{Denotes}
 use Rattle.vc_rev.specs.Source.{Source as Over, source}
 use Rattle.vc_rev.specs.declared.refusal.Refusal.{Refusal}
 use Rattle.vc_rev.specs.declared.refusal.RevFault.{RevFault}
 use Rattle.vc_rev.specs.declared.refusal.RevFault.TheVariants.{Source}
 use Rattle.vc_rev.specs.declared.refusal.SourceFault.{SourceFault}
-use Rattle.vc_store.specs.Store.{objects}
+use Rattle.vc_object_map.specs.Store.{objects}
 
 -- the index that an expression is resolved with: the one in its file, or an empty one where it reads none
 abbrev pub IsIndexFor : FileMap → ExprText → IndexMap → Type 0

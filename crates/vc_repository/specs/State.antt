@@ -14,9 +14,9 @@ use Rattle.vc_rev.specs.Question.{Question, Head, Ref, Entry, Prefix, Object}
 use Rattle.vc_rev.specs.Source.{Names}
 use Rattle.vc_rev.specs.declared.refusal.SourceFault.{SourceFault}
 use Rattle.vc_rev.specs.declared.refusal.SourceFault.TheVariants.{Store}
-use Rattle.vc_store.specs.Store.{HasFile, IsDamaged}
-use Rattle.vc_store.specs.StoreFault.{IsFault, IsRefused}
-use Rattle.vc_store.specs.declared.faults.StoreFault.{StoreFault}
+use Rattle.vc_object_map.specs.Store.{HasFile, IsDamaged}
+use Rattle.vc_object_map.specs.StoreFault.{IsFault, IsRefused}
+use Rattle.vc_object_map.specs.declared.faults.StoreFault.{StoreFault}
 
 -- the reference by which the files were lent, the files, and the index
 pub record State : Type 0 where

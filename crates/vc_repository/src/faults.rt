@@ -3,9 +3,9 @@ ghost use Rattle.std.specs.Prelude.{◌≡◌};
 ghost use Rattle.vc_repository.specs.Faults.{of_refs};
 
 use vc_files::Fault;
+use vc_object_map::StoreFault;
 use vc_refs::RefFault;
 use vc_rev::SourceFault;
-use vc_store::StoreFault;
 
 /// The fault of a repository that a look at a ref gives. No look answers that a ref is stale or in conflict: these two would
 /// be told as want of memory.

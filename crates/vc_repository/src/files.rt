@@ -4,14 +4,13 @@ ghost use Rattle.std.specs.Prelude.{◌≡◌, refl};
 use crate::faults::refs_fault;
 use std::alloc::Global;
 use vc_files::Files;
-use vc_graph::Objects;
-use vc_history::{Commits, Parents};
 use vc_index::Index;
 use vc_object::ObjectId;
+use vc_object_map::{Commits, Objects, Parents, StoreFault};
 use vc_refname::RefName;
 use vc_refs::PackedCache;
 use vc_rev::{Repository, SourceFault};
-use vc_store::{Store, StoreFault, Stored};
+use vc_store::{Store, Stored};
 
 /// The refs, HEAD and the objects that files hold, and an index that was read before: by [`read_index`](crate::read_index), or
 /// an empty one where no expression reads it. Over files that are a finite map it answers what they hold.
@@ -50,7 +49,7 @@ impl<'a, F: Files> FileRepository<'a, F> {
 }
 
 impl<F: Files> Objects for FileRepository<'_, F> {
-    ghost use Rattle.vc_store.specs.Store.{objects, IsDamaged};
+    ghost use Rattle.vc_object_map.specs.Store.{objects, IsDamaged};
     ghost use Rattle.vc_repository.specs.State.{State, state};
 
     ghost is_honest = { F.honest };

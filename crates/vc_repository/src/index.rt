@@ -8,8 +8,8 @@ ghost use Rattle.vc_repository.specs.IndexFile.{IsIndexOf, IsOfText, IsOfIndexFi
 use std::alloc::Global;
 use vc_files::{Fault, Files};
 use vc_index::{Index, IndexFault};
+use vc_object_map::StoreFault;
 use vc_rev::SourceFault;
-use vc_store::StoreFault;
 
 /// The path of the file that holds the index.
 pub const INDEX: &str = "index";

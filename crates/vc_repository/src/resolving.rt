@@ -2,17 +2,18 @@
 ghost use Rattle.std.specs.Prelude.{◌≡◌, Ok, IfOk, IfErr, IsErrOf};
 ghost use Rattle.vc_files.specs.Failures.{Wears};
 ghost use Rattle.vc_repository.specs.Resolving.{DenotesIn, IsIndexFor, IsOfExpr, IsOfIndexFor};
-ghost use Rattle.vc_rev.specs.Views.{expr_view};
+ghost use Rattle.vc_expression.specs.Views.{expr_view};
 
 use crate::files::FileRepository;
 use crate::index::read_index;
 use std::alloc::Global;
+use vc_expression::Expr;
 use vc_files::{Fault, Files};
 use vc_index::Index;
 use vc_object::ObjectId;
+use vc_object_map::StoreFault;
 use vc_refs::PackedCache;
-use vc_rev::{Expr, RevFault, SourceFault};
-use vc_store::StoreFault;
+use vc_rev::{RevFault, SourceFault};
 
 // The index that the expression is resolved with: the file's where it reads the index, else an empty one.
 fn index_for<F: Files>(alloc: Global, files: &mut F, expr: &Expr<'_>) -> Result<Index, SourceFault>

@@ -1,15 +1,3 @@
-pub mod Parts
-pub mod NameLemmas
-pub mod DigitLemmas
-pub mod StepLemmas
-pub mod ReadLemmas
-pub mod Places
-pub mod ExprLemmas
-pub mod OutcomeLemmas
-pub mod SetLemmas
-pub mod SetPlaces
-pub mod SetAgain
-pub mod SetSame
 pub mod ObjectLemmas
 pub mod StepsLemmas
 pub mod AnswerLemmas

@@ -1,6 +1,6 @@
 -- An expression denotes one answer at most.
 use Rattle.std.proofs.Common.{◌≡◌, ◌⊎◌, inl, inr, ℕ, zero, suc, Bool, true, false, List, [], ◌∷◌, Option, Some, None, Result, Ok, Err, MatchBool, MatchOption, Contains, option_map, option_and_then, nat_lt, length, refl, sym, ap, subst, ◌∙◌}
-use Rattle.vc_graph.specs.Graph.{LinksTo, Reaches, itself, onward}
+use Rattle.vc_object_map.specs.Graph.{LinksTo, Reaches, itself, onward}
 use Rattle.vc_object.specs.Decoding.{StoredObject}
 use Rattle.vc_object.specs.ObjectMap.{ObjectMap}
 use Rattle.vc_object.specs.declared.id.ObjectId.{ObjectId}
@@ -9,13 +9,13 @@ use Rattle.vc_object.specs.declared.kind.Kind.TheVariants as kinds
 use Rattle.vc_object.specs.declared.mode.Mode.{Mode}
 use Rattle.vc_object.specs.declared.mode.Mode.TheVariants as modes
 use Rattle.vc_rev.specs.Answer.{After, Continues}
-use Rattle.vc_rev.specs.Grammar.{RevText, ExprText, Object, InTree, InIndex}
+use Rattle.vc_expression.specs.Grammar.{RevText, ExprText, Object, InTree, InIndex}
 use Rattle.vc_rev.specs.Meaning.{target_in, tag_links, pick, places, is_prefix, is_head, id_of, components, child_at, PeelsTo, PicksFrom, FirstParents, AncestorGives, PeelGives, StepGives, StepsGive, RefGives, FirstValue, PrefixGives, DigitsGive, ShortGives, NameGives, RevGives, EntryGives, PathGives, Denotes}
 use Rattle.vc_rev.specs.Source.{Source}
 use Rattle.vc_rev.specs.declared.refusal.Refusal.{Refusal}
 use Rattle.vc_rev.specs.declared.refusal.Refusal.TheVariants.{Unknown, Ambiguous, TooShort, NoSuchParent, WrongKind, NoSuchPath}
-use Rattle.vc_rev.specs.declared.token.Step.{Step}
-use Rattle.vc_rev.specs.declared.token.Step.TheVariants as steps
+use Rattle.vc_expression.specs.declared.token.Step.{Step}
+use Rattle.vc_expression.specs.declared.token.Step.TheVariants as steps
 use Rattle.vc_rev.proofs.NamesLemmas.{one_is}
 
 -- at most one thing is given

@@ -6,18 +6,18 @@ use Rattle.vc_history.specs.HistoryFault.{IsTold as IsBaseTold}
 use Rattle.vc_history.specs.History.{IsCommonAncestor, IsSelected}
 use Rattle.vc_history.specs.declared.fault.HistoryFault.{HistoryFault}
 use Rattle.vc_history.specs.declared.fault.HistoryFault.TheVariants as bases
-use Rattle.vc_graph.specs.Graph.{ReachedFrom, IsClosedUnder, itself}
-use Rattle.vc_graph.proofs.FaultLemmas.{IsMet-more}
-use Rattle.vc_graph.proofs.WalkLemmas.{Reaches-trans}
+use Rattle.vc_object_map.specs.Graph.{ReachedFrom, IsClosedUnder, itself}
+use Rattle.vc_object_map.proofs.FaultLemmas.{IsMet-more}
+use Rattle.vc_object_map.proofs.WalkLemmas.{Reaches-trans}
 use Rattle.vc_object.specs.ObjectMap.{ObjectMap, parents_in}
 use Rattle.vc_object.specs.declared.id.ObjectId.{ObjectId}
 use Rattle.vc_rev.specs.Answer.{Continues, IsTold, IsAnswered}
 use Rattle.vc_rev.specs.Selection.{Selection, CommitRead, CommitGives, BothGive, Makes, TermAsks, TermGives, TermsAsk, TermsGive, SetGives, commit_at, first_of, second_of, joined, nth_of, selection, AreCommon, ArePairsWalked, IsExcludedBy, IsMetBy, IsMetByPairs, IsOfWalk, IsSelectedBy, IsWalked}
 use Rattle.vc_rev.specs.Meaning.{PeelsTo, RevGives}
-use Rattle.vc_rev.specs.Grammar.{RevText}
+use Rattle.vc_expression.specs.Grammar.{RevText}
 use Rattle.vc_rev.specs.Question.{Question}
-use Rattle.vc_rev.specs.SetGrammar.{TermText, Include, Exclude, Parents, ExcludeParents, Only, Since, Range, Symmetric}
-use Rattle.vc_rev.specs.SetViews.{term_view}
+use Rattle.vc_expression.specs.SetGrammar.{TermText, Include, Exclude, Parents, ExcludeParents, Only, Since, Range, Symmetric}
+use Rattle.vc_expression.specs.SetViews.{term_view}
 use Rattle.vc_rev.specs.Source.{Source}
 use Rattle.vc_rev.specs.WalkFault.{of_history}
 use Rattle.vc_rev.specs.declared.refusal.Refusal.{Refusal}
@@ -25,7 +25,7 @@ use Rattle.vc_rev.specs.declared.refusal.RevFault.{RevFault}
 use Rattle.vc_rev.specs.declared.refusal.RevFault.TheVariants as faults
 use Rattle.vc_rev.specs.declared.refusal.SourceFault.{SourceFault}
 use Rattle.vc_rev.specs.declared.refusal.SourceFault.TheVariants as sources
-use Rattle.vc_rev.specs.declared.token.Term.{Term}
+use Rattle.vc_expression.specs.declared.token.Term.{Term}
 use Rattle.vc_rev.proofs.AnswerLemmas.{told_same}
 use Rattle.vc_rev.proofs.SameAnswer.{AtMostOne, after_one, equal_one, peels_one, rev_one}
 

@@ -1,7 +1,7 @@
 -- Steps from an object to another.
 use Rattle.std.proofs.Common.{◌≡◌, ◌≢◌, ℕ, zero, suc, ◌+◌, ◌-◌, ◌<◌, inl, inr, length, drop, map, Ok, Err, List, [], ◌∷◌, Option, Some, Contains, option_map, option_and_then, get_or, refl, sym, ap, subst, ◌∙◌, arith}
-use Rattle.vc_graph.specs.Graph.{itself}
-use Rattle.vc_graph.proofs.WalkLemmas.{Walks}
+use Rattle.vc_object_map.specs.Graph.{itself}
+use Rattle.vc_object_map.proofs.WalkLemmas.{Walks}
 use Rattle.vc_object.specs.Decoding.{StoredObject}
 use Rattle.vc_object.specs.ObjectMap.{ObjectMap}
 use Rattle.vc_object.specs.declared.id.ObjectId.{ObjectId}
@@ -14,11 +14,11 @@ use Rattle.vc_object.specs.declared.mode.Mode.{Mode}
 use Rattle.vc_rev.specs.Source.{Source}
 use Rattle.vc_rev.specs.declared.refusal.SourceFault.{SourceFault}
 use Rattle.vc_rev.specs.declared.refusal.RevFault.{RevFault}
-use Rattle.vc_rev.specs.declared.token.StepToken.{StepToken}
+use Rattle.vc_expression.specs.declared.token.StepToken.{StepToken}
 use Rattle.vc_rev.proofs.AnswerLemmas.{told_same}
 use Rattle.std.proofs.lemmas.List.{drop_more}
 use Rattle.vc_rev.specs.declared.refusal.Refusal.{Refusal}
-use Rattle.vc_rev.specs.declared.token.Step.TheVariants as steps
+use Rattle.vc_expression.specs.declared.token.Step.TheVariants as steps
 
 -- a walk begins at its one root
 pub Walks-one : (links : ObjectId → Option (List ObjectId)) (id : ObjectId) (keys : List ObjectId) → keys ≡ id ∷ [] → Walks links (id ∷ []) keys 0

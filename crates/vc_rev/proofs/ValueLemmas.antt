@@ -1,13 +1,13 @@
 -- A text has one value at most.
 use Rattle.std.proofs.Common.{◌≡◌, inl, inr, ℕ, List, Result, Ok, Err, sym, ap, subst, ◌∙◌}
 use Rattle.vc_object.specs.declared.id.ObjectId.{ObjectId}
-use Rattle.vc_rev.specs.Faults.{IsBadAt}
-use Rattle.vc_rev.specs.Grammar.{ExprText, IsExpr}
+use Rattle.vc_expression.specs.Faults.{IsBadAt}
+use Rattle.vc_expression.specs.Grammar.{ExprText, IsExpr}
 use Rattle.vc_rev.specs.Meaning.{Answer, Denotes}
 use Rattle.vc_rev.specs.Source.{Source}
 use Rattle.vc_rev.specs.Value.{HasValue, HasOneValue, whole_source, refusal_number}
 use Rattle.vc_rev.specs.declared.refusal.Refusal.{Refusal}
-use Rattle.vc_rev.proofs.ExprLemmas.{expr_again, expr_same, bad_none}
+use Rattle.vc_expression.proofs.ExprLemmas.{expr_again, expr_same, bad_none}
 use Rattle.vc_rev.proofs.SameAnswer.{denotes_one}
 
 one_expr : (text : List ℕ) (e f : ExprText) → IsExpr text e → IsExpr text f → e ≡ f

@@ -1,6 +1,6 @@
 -- What a name, a step or an expression gives: a value or a refusal, as a relation of what it is over and its answer.
 use Rattle.std.specs.Prelude.{◌≡◌, ◌⊎◌, Result, Ok, Err, IfErr}
-use Rattle.vc_store.specs.declared.faults.StoreFault.TheVariants as stores
+use Rattle.vc_object_map.specs.declared.faults.StoreFault.TheVariants as stores
 use Rattle.vc_files.specs.declared.faults.Fault.TheVariants as devices
 use Rattle.vc_rev.specs.Question.{Question}
 use Rattle.vc_rev.specs.Source.{Source as Over}

@@ -1,18 +1,18 @@
 -- What an expression asks of a repository, by cases on its text: what has to be answered before its value is known.
 use Rattle.std.specs.Prelude.{◌≡◌, ◌⊎◌, ℕ, zero, suc, List, [], ◌∷◌, true, nat_lt, length, None, MatchBool, MatchOption}
-use Rattle.vc_graph.specs.Graph.{Reaches}
+use Rattle.vc_object_map.specs.Graph.{Reaches}
 use Rattle.vc_object.specs.declared.id.ObjectId.{ObjectId}
 use Rattle.vc_object.specs.declared.kind.Kind.{Kind}
 use Rattle.vc_object.specs.declared.kind.Kind.TheVariants as kinds
 use Rattle.vc_object.specs.declared.mode.Mode.{Mode}
 use Rattle.vc_object.specs.declared.mode.Mode.TheVariants as modes
-use Rattle.vc_rev.specs.Grammar.{RevText, ExprText, Object, InTree, InIndex}
+use Rattle.vc_expression.specs.Grammar.{RevText, ExprText, Object, InTree, InIndex}
 use Rattle.vc_rev.specs.Meaning.{IsFullName, PicksFrom, StepGives, RefGives, FirstValue, NameGives, RevGives, child_at, components, id_of, is_folder, is_head, is_prefix, places, tag_links}
 use Rattle.vc_rev.specs.Question.{Question, AsksAfter}
 use Rattle.vc_rev.specs.Question as of
 use Rattle.vc_rev.specs.Source.{Source}
-use Rattle.vc_rev.specs.declared.token.Step.{Step}
-use Rattle.vc_rev.specs.declared.token.Step.TheVariants as steps
+use Rattle.vc_expression.specs.declared.token.Step.{Step}
+use Rattle.vc_expression.specs.declared.token.Step.TheVariants as steps
 
 abbrev pub HeadAsks : Question → Type 0
 HeadAsks question = question ≡ of.Head

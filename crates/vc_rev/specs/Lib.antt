@@ -1,16 +1,3 @@
-pub mod Digits
-pub mod Seen
-pub mod Steps
-pub mod Reading
-pub mod Base
-pub mod Grammar
-pub mod Views
-pub mod Outcome
-pub mod Faults
-pub mod SetGrammar
-pub mod SetReading
-pub mod BehindView
-pub mod SetViews
 pub mod Source
 pub mod Question
 pub mod Answer

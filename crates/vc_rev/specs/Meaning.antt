@@ -8,7 +8,7 @@ use Rattle.hex.specs.Hex.{encode_lower, decode_of, is_hex_digit}
 use Rattle.vc_refname.specs.RefName.{IsRefName}
 use Rattle.vc_object.specs.Commit.{CommitText}
 use Rattle.vc_object.specs.CommitReading.{commit_of, tag_of}
-use Rattle.vc_graph.specs.Graph.{Reaches, IsClosed}
+use Rattle.vc_object_map.specs.Graph.{Reaches, IsClosed}
 use Rattle.vc_object.specs.Decoding.{StoredObject}
 use Rattle.vc_object.specs.Links.{parents_of}
 use Rattle.vc_object.specs.ObjectMap.{ObjectMap}
@@ -20,13 +20,13 @@ use Rattle.vc_object.specs.declared.kind.Kind.{Kind}
 use Rattle.vc_object.specs.declared.kind.Kind.TheVariants as kinds
 use Rattle.vc_object.specs.declared.mode.Mode.{Mode}
 use Rattle.vc_object.specs.declared.mode.Mode.TheVariants as modes
-use Rattle.vc_rev.specs.Grammar.{RevText, ExprText, Object, InTree, InIndex}
+use Rattle.vc_expression.specs.Grammar.{RevText, ExprText, Object, InTree, InIndex}
 use Rattle.vc_rev.specs.Answer.{After}
 use Rattle.vc_rev.specs.Source.{Source}
 use Rattle.vc_rev.specs.declared.refusal.Refusal.{Refusal}
 use Rattle.vc_rev.specs.declared.refusal.Refusal.TheVariants.{Unknown, Ambiguous, TooShort, NoSuchParent, WrongKind, NoSuchPath}
-use Rattle.vc_rev.specs.declared.token.Step.{Step}
-use Rattle.vc_rev.specs.declared.token.Step.TheVariants as steps
+use Rattle.vc_expression.specs.declared.token.Step.{Step}
+use Rattle.vc_expression.specs.declared.token.Step.TheVariants as steps
 
 abbrev pub Answer : Type 0
 Answer = Result ObjectId Refusal

@@ -1,17 +1,11 @@
 -- What a refusal is printed as: its number and its name.
 use Rattle.std.specs.Prelude.{ℕ, List, Option, Some, None, codes}
-use Rattle.vc_rev.specs.declared.fault.ParseFault.{ParseFault}
-use Rattle.vc_rev.specs.declared.fault.ParseFault.TheVariants.{BadSyntax, Memory}
 use Rattle.vc_rev.specs.declared.refusal.Refusal.{Refusal}
 use Rattle.vc_rev.specs.declared.refusal.Refusal.TheVariants.{Unknown, Ambiguous, TooShort, NoSuchParent, WrongKind, NoSuchPath}
 use Rattle.vc_rev.specs.declared.refusal.RevFault.{RevFault}
 use Rattle.vc_rev.specs.declared.refusal.RevFault.TheVariants.{Refused, Missing, NotACommit, Source}
 use Rattle.vc_rev.specs.declared.refusal.SourceFault.{SourceFault}
 use Rattle.vc_rev.specs.declared.refusal.SourceFault.TheVariants.{Store, BadRefFile, HeadLoop, BadIndex}
-
-abbrev pub parse_fault_text : ParseFault → List ℕ
-parse_fault_text (BadSyntax place) = codes "50 BadSyntax"
-parse_fault_text Memory = codes "memory"
 
 abbrev pub refusal_text : Refusal → List ℕ
 refusal_text Unknown = codes "51 Unknown"

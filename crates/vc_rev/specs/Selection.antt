@@ -1,19 +1,19 @@
 -- What a set of terms selects, over refs and objects.
 use Rattle.std.specs.Prelude.{◌≡◌, ◌⊎◌, ◌↔◌, ◌++◌, ℕ, List, [], ◌∷◌, Option, Some, None, IsSome, Result, Ok, Err, Contains, codes}
 use Rattle.vc_history.specs.History.{IsCommonAncestor}
-use Rattle.vc_history.specs.Parents.{IsOther}
-use Rattle.vc_graph.specs.Graph.{ReachedFrom}
-use Rattle.vc_graph.specs.GraphFault.{IsMet}
+use Rattle.vc_object_map.specs.Parents.{IsOther}
+use Rattle.vc_object_map.specs.Graph.{ReachedFrom}
+use Rattle.vc_object_map.specs.StoreFault.{IsMet}
 use Rattle.vc_object.specs.Decoding.{StoredObject}
 use Rattle.vc_object.specs.Links.{parents_of}
 use Rattle.vc_object.specs.ObjectMap.{ObjectMap, parents_in}
 use Rattle.vc_object.specs.declared.id.ObjectId.{ObjectId}
 use Rattle.vc_rev.specs.Answer.{After, IsAnswered, IsTold}
 use Rattle.vc_rev.specs.Asking.{PeelingAsks, RevAsks}
-use Rattle.vc_rev.specs.Grammar.{RevText}
+use Rattle.vc_expression.specs.Grammar.{RevText}
 use Rattle.vc_rev.specs.Meaning.{PeelsTo, RevGives}
 use Rattle.vc_rev.specs.Question.{Question, AsksAfter}
-use Rattle.vc_rev.specs.SetGrammar.{TermText, EndsText, Include, Exclude, Parents, ExcludeParents, Only, Since, Range, Symmetric, Both, From, To}
+use Rattle.vc_expression.specs.SetGrammar.{TermText, EndsText, Include, Exclude, Parents, ExcludeParents, Only, Since, Range, Symmetric, Both, From, To}
 use Rattle.vc_rev.specs.Source.{Source}
 use Rattle.vc_rev.specs.declared.refusal.Refusal.{Refusal}
 use Rattle.vc_rev.specs.declared.refusal.Refusal.TheVariants.{WrongKind}
@@ -21,7 +21,7 @@ use Rattle.vc_rev.specs.declared.refusal.RevFault.{RevFault}
 use Rattle.vc_rev.specs.declared.refusal.RevFault.TheVariants.{Refused, Missing, NotACommit, Source as Unanswered}
 use Rattle.vc_rev.specs.declared.refusal.SourceFault.{SourceFault}
 use Rattle.vc_rev.specs.declared.refusal.SourceFault.TheVariants as sources
-use Rattle.vc_rev.specs.declared.token.Step.TheVariants as steps
+use Rattle.vc_expression.specs.declared.token.Step.TheVariants as steps
 
 -- commits that are included with their ancestors, commits that are excluded with theirs, and pairs of commits whose
 -- common ancestors are excluded

@@ -2,8 +2,8 @@
 use Rattle.std.specs.Prelude.{◌≡◌, ◌⊎◌, ℕ, List, IsSome, Result, Ok, Err}
 use Rattle.vc_object.specs.ObjectMap.{ObjectMap}
 use Rattle.vc_object.specs.declared.id.ObjectId.{ObjectId}
-use Rattle.vc_rev.specs.Faults.{IsBadAt}
-use Rattle.vc_rev.specs.Grammar.{ExprText, IsExpr}
+use Rattle.vc_expression.specs.Faults.{IsBadAt}
+use Rattle.vc_expression.specs.Grammar.{ExprText, IsExpr}
 use Rattle.vc_rev.specs.Meaning.{Denotes}
 use Rattle.vc_rev.specs.Source.{Source, Names, source}
 use Rattle.vc_rev.specs.declared.refusal.Refusal.{Refusal}

@@ -14,8 +14,8 @@ use std::alloc::{AllocError, Global};
 use std::str;
 use vc_files::Fault;
 use vc_object::ObjectId;
+use vc_object_map::StoreFault;
 use vc_refname::RefName;
-use vc_store::StoreFault;
 
 /// The whole name of a ref that the text is.
 pub(crate) fn full_name(alloc: Global, text: &[u8]) -> Result<Option<RefName>, RevFault>

@@ -11,11 +11,12 @@ ghost use Rattle.vc_rev.specs.Answer.{IsToldAlone};
 ghost use Rattle.vc_rev.specs.Selection.{commit_at};
 
 use crate::refusal::{Refusal, RevFault, SourceFault};
-use crate::token::Step;
 use std::alloc::Global;
+use vc_expression::Step;
 use vc_files::Fault;
 use vc_object::{Commit, Kind, ObjectId, Tree, TreeEntry, commit_of, tag_of, tree_of};
-use vc_store::{StoreFault, Stored};
+use vc_object_map::StoreFault;
+use vc_store::Stored;
 
 /// The commit that an object is.
 fn read_commit(object: &Stored) -> Option<Commit<'_>>

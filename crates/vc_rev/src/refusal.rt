@@ -5,17 +5,16 @@ ghost use Rattle.vc_rev.specs.Printed.{refusal_text, rev_fault_text, source_text
 ghost use Rattle.vc_rev.specs.WalkFault.{of_history};
 ghost use Rattle.vc_rev.specs.declared.refusal.RevFault.TheVariants.{Refused, Source};
 ghost use Rattle.vc_rev.specs.declared.refusal.SourceFault.TheVariants.{Store};
-ghost use Rattle.vc_store.specs.declared.faults.StoreFault.TheVariants.{Fault};
+ghost use Rattle.vc_object_map.specs.declared.faults.StoreFault.TheVariants.{Fault};
 ghost use Rattle.vc_files.specs.declared.faults.Fault.TheVariants.{Memory};
 
 use std::alloc::{AllocError, AllocFailed};
 use std::error::Error;
 use std::fmt;
-use vc_graph::MISSING;
 use vc_history::{HistoryFault, NOT_A_COMMIT};
 use vc_object::ObjectId;
+use vc_object_map::{MISSING, StoreFault};
 use vc_refname::{BAD_REF_FILE, HEAD_LOOP};
-use vc_store::StoreFault;
 
 /// Why an expression has no value, though the repository answered.
 #[derive(Clone, Copy, Debug)]

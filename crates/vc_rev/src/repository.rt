@@ -13,10 +13,10 @@ ghost use Rattle.vc_rev.specs.declared.refusal.SourceFault.{SourceFault as Unans
 
 use crate::refusal::SourceFault;
 use vc_files::Fault;
-use vc_history::Commits;
 use vc_object::ObjectId;
+use vc_object_map::{Commits, StoreFault};
 use vc_refname::RefName;
-use vc_store::{StoreFault, Stored};
+use vc_store::Stored;
 
 /// Refs, objects and an index.
 pub trait Repository: Commits {

@@ -6,19 +6,20 @@ ghost use Rattle.vc_object.specs.ObjectId.{IsSortedByName};
 ghost use Rattle.vc_object.specs.declared.id.ObjectId.{ObjectId as Id};
 ghost use Rattle.vc_rev.specs.RootsView.{roots_view};
 ghost use Rattle.vc_rev.specs.Selection.{AreCommon, ArePairsWalked, IsMetBy, IsMetByPairs, IsOfWalk, IsSelectedBy, IsSetRefused, IsToldOfSet, IsWalked, Selects, SetGives};
-ghost use Rattle.vc_rev.specs.SetViews.{terms_view};
+ghost use Rattle.vc_expression.specs.SetViews.{terms_view};
 ghost use Rattle.vc_rev.specs.declared.refusal.Refusal.{Refusal};
 
 use crate::refusal::{RevFault, SourceFault};
 use crate::repository::Repository;
 use crate::roots::Roots;
 use crate::terms::set_roots;
-use crate::token::SetExpr;
 use std::alloc::Global;
+use vc_expression::SetExpr;
 use vc_files::Fault;
-use vc_history::{Generations, commits, common_ancestors};
+use vc_history::Generations;
 use vc_object::ObjectId;
-use vc_store::StoreFault;
+use vc_object_map::StoreFault;
+use vc_selection::{commits, common_ancestors};
 
 /// The common ancestors of each of the pairs.
 fn common_of_pairs<R: Repository>(

@@ -6,17 +6,18 @@ ghost use Rattle.vc_object.specs.Decoding.{stored_object};
 ghost use Rattle.vc_rev.specs.Answer.{Refuses};
 ghost use Rattle.vc_rev.specs.Asking.{AncestorAsks, PeelAsks, PeelingAsks, StepAsks, StepsAsk};
 ghost use Rattle.vc_rev.specs.Meaning.{PeelsTo, PicksFrom, AncestorGives, PeelGives, StepGives, StepsGive};
-ghost use Rattle.vc_rev.specs.Views.{steps_of};
+ghost use Rattle.vc_expression.specs.Views.{steps_of};
 
 use crate::object::{of_kind, pick, target};
 use crate::refusal::{Refusal, RevFault, SourceFault};
 use crate::repository::Repository;
-use crate::token::{Step, StepToken};
 use indexmap::IndexSet;
 use std::alloc::Global;
+use vc_expression::{Step, StepToken};
 use vc_files::Fault;
 use vc_object::{Kind, ObjectId};
-use vc_store::{StoreFault, Stored};
+use vc_object_map::StoreFault;
+use vc_store::Stored;
 
 /// The object behind the tags that a name leads to. Tags may lead back, so each is looked at once.
 pub(crate) fn peel<R: Repository>(

@@ -5,22 +5,22 @@ ghost use Rattle.vc_files.specs.Failures.{Wears};
 ghost use Rattle.vc_rev.specs.Answer.{Refuses};
 ghost use Rattle.vc_rev.specs.RootsView.{roots_view};
 ghost use Rattle.vc_rev.specs.Selection.{BothAsk, BothGive, CommitAsks, CommitGives, EndsAsk, EndsGive, Makes, SetGives, TermAsks, TermGives, TermsAsk, head_rev, nth_of};
-ghost use Rattle.vc_rev.specs.SetGrammar.{Range, Since, Symmetric};
-ghost use Rattle.vc_rev.specs.SetViews.{ends_view, term_view};
+ghost use Rattle.vc_expression.specs.SetGrammar.{Range, Since, Symmetric};
+ghost use Rattle.vc_expression.specs.SetViews.{ends_view, term_view};
 ghost use Rattle.vc_rev.specs.Uses.{used};
-ghost use Rattle.vc_rev.specs.Views.{rev_view};
+ghost use Rattle.vc_expression.specs.Views.{rev_view};
 
 use crate::object::commit_at;
 use crate::refusal::{RevFault, SourceFault};
 use crate::repository::Repository;
 use crate::roots::Roots;
 use crate::steps::peel;
-use crate::token::{BaseToken, Ends, Rev, Step, StepToken, Term};
 use crate::value::rev_value;
 use std::alloc::{AllocError, Global};
+use vc_expression::{BaseToken, Ends, Rev, Step, StepToken, Term};
 use vc_files::Fault;
 use vc_object::ObjectId;
-use vc_store::StoreFault;
+use vc_object_map::StoreFault;
 
 /// How a term takes a commit.
 #[derive(Clone, Copy)]

@@ -5,8 +5,8 @@ ghost use Rattle.vc_files.specs.Failures.{Wears};
 ghost use Rattle.vc_rev.specs.Answer.{IsAnswered, Refuses};
 ghost use Rattle.vc_rev.specs.Asking.{ChildAsks, EntryAsks, ExprAsks, IndexAsks, PathAsks, RevAsks};
 ghost use Rattle.vc_rev.specs.Meaning.{Answer, child_at, EntryGives, PathGives, IndexGives, RevGives, Denotes, components, is_folder};
-ghost use Rattle.vc_rev.specs.Views.{rev_view, expr_view, parts_of};
-ghost use Rattle.vc_rev.specs.Grammar.{InTree};
+ghost use Rattle.vc_expression.specs.Views.{rev_view, expr_view, parts_of};
+ghost use Rattle.vc_expression.specs.Grammar.{InTree};
 ghost use Rattle.vc_object.specs.declared.mode.Mode.TheVariants as modes;
 ghost use Rattle.std.specs.List.{slice_split};
 
@@ -15,11 +15,11 @@ use crate::object::entry_named;
 use crate::refusal::{Refusal, RevFault, SourceFault};
 use crate::repository::Repository;
 use crate::steps::{pick_from, steps_value};
-use crate::token::{Expr, Rev, Step};
 use std::alloc::{AllocError, Global};
+use vc_expression::{Expr, Rev, Step};
 use vc_files::Fault;
 use vc_object::{Kind, Mode, ObjectId};
-use vc_store::StoreFault;
+use vc_object_map::StoreFault;
 
 /// What stands between the slashes of a path.
 fn parts<'a>(alloc: Global, path: &'a [u8]) -> Result<Vec<&'a [u8]>, AllocError>

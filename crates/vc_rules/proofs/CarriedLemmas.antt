@@ -11,7 +11,7 @@ use Rattle.vc_object.specs.declared.kind.Kind.{Kind as ObjectKind}
 use Rattle.vc_object.specs.declared.kind.Kind.TheVariants as kinds
 use Rattle.vc_object.specs.Object.{object_name}
 use Rattle.vc_object.specs.ObjectId.{id_cmp}
-use Rattle.vc_session.specs.Carrying.{objects_in}
+use Rattle.vc_push_rules.specs.Carrying.{objects_in}
 use Rattle.vc_rules.specs.Git.{machine_kind, machine_object, stored_of}
 use Rattle.vc_rules.specs.OpenPushes.{EachIsBrought}
 

@@ -14,12 +14,12 @@ use Rattle.vc_push.specs.Reason.{reason_number}
 use Rattle.vc_push.specs.Report.{ToldText}
 use Rattle.vc_push.specs.declared.reason.Reason.{Reason}
 use Rattle.vc_push.specs.declared.reason.Reason.TheVariants.{BadName, OutsideRefs, DeletionProhibited, MissingObjects, NotACommit, NonFastForward, AlreadyExists, NameConflict, Stale, UnpackerError}
-use Rattle.vc_session.specs.Session.{is_passing, stage_while}
-use Rattle.vc_session.specs.Steps.{Checks, ChecksAll, Tells, TellsAll}
-use Rattle.vc_session.specs.declared.stage.Stage.{Stage}
-use Rattle.vc_session.specs.declared.stage.Stage.TheVariants.{Done as AtItsEnd}
-use Rattle.vc_session.specs.declared.stage.Verdict.{Verdict}
-use Rattle.vc_session.specs.declared.stage.Verdict.TheVariants.{Passing, Accepted, Refused}
+use Rattle.vc_push_rules.specs.Session.{is_passing, stage_while}
+use Rattle.vc_push_rules.specs.Steps.{Checks, ChecksAll, Tells, TellsAll}
+use Rattle.vc_push_rules.specs.declared.stage.Stage.{Stage}
+use Rattle.vc_push_rules.specs.declared.stage.Stage.TheVariants.{Done as AtItsEnd}
+use Rattle.vc_push_rules.specs.declared.stage.Verdict.{Verdict}
+use Rattle.vc_push_rules.specs.declared.stage.Verdict.TheVariants.{Passing, Accepted, Refused}
 use Rattle.vc_rules.specs.Git.{git}
 use Rattle.vc_rules.specs.OpenPushes.{AreToldAs, IsToldAs, judged_commands, machine_stage, machine_standing}
 use Rattle.vc_rules.specs.Verdicts.{AreFoundAt, machine_command, machine_reason}

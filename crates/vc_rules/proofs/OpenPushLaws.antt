@@ -7,7 +7,7 @@ use Rattle.std.specs.Ordering.{nat_cmp}
 use Rattle.std.specs.Cmp.Lexicographic.{slice_cmp}
 use Rattle.vc_files.specs.FileMap.{FileMap, SameOutside}
 use Rattle.vc_format.specs.Git.{id_of_bytes}
-use Rattle.vc_graph.specs.Overlay.{with_carried}
+use Rattle.vc_object_map.specs.Overlay.{with_carried}
 use Rattle.vc_model.specs.Node.{Reply}
 use Rattle.vc_model.specs.Node.Reply.{Passed, MigratedAll, Updated}
 use Rattle.vc_model.specs.Object.{Id, Object, Objects, stored, over}
@@ -28,19 +28,19 @@ use Rattle.vc_push.specs.declared.reason.Reason.{Reason}
 use Rattle.vc_refs.specs.Head.{KeepsTheRest}
 use Rattle.vc_refs.specs.RefMap.{RefMap}
 use Rattle.vc_refs.specs.Refs.{refs}
-use Rattle.vc_store.specs.Store.{objects}
-use Rattle.vc_session.proofs.FrameLemmas.{objects-of_ref, objects-of_slot, quarantined-of_ref, quarantined-of_slot, refs-of_objects, refs-of_slot}
-use Rattle.vc_session.proofs.QuarantineLemmas.{quarantined-same}
-use Rattle.vc_session.specs.Carrying.{HoldsNames, objects_of_push}
-use Rattle.vc_session.specs.Quarantine.{objects_seen, quarantine_folder, quarantined}
-use Rattle.vc_session.specs.Session.{IsSession, SessionText, fresh, stage_while, verdict_of}
-use Rattle.vc_session.specs.Steps.{EndsEarly, StepChecks, StepFinishes, StepMigrates, StepUpdates, fault_number, unpack_of}
-use Rattle.vc_session.specs.Verdict.{refs_after}
-use Rattle.vc_session.specs.declared.stage.Stage.{Stage}
-use Rattle.vc_session.specs.declared.stage.Stage.TheVariants.{Unpacked, Checked, Migrated, Done as AtItsEnd}
-use Rattle.vc_session.specs.declared.stage.Stepped.TheVariants as stepped
-use Rattle.vc_session.specs.declared.stage.Verdict.{Verdict}
-use Rattle.vc_session.specs.declared.stage.Verdict.TheVariants.{Passing}
+use Rattle.vc_object_map.specs.Store.{objects}
+use Rattle.vc_push_rules.proofs.FrameLemmas.{objects-of_ref, objects-of_slot, quarantined-of_ref, quarantined-of_slot, refs-of_objects, refs-of_slot}
+use Rattle.vc_push_rules.proofs.QuarantineLemmas.{quarantined-same}
+use Rattle.vc_push_rules.specs.Carrying.{HoldsNames, objects_of_push}
+use Rattle.vc_push_rules.specs.Quarantine.{objects_seen, quarantine_folder, quarantined}
+use Rattle.vc_push_rules.specs.Session.{IsSession, SessionText, fresh, stage_while, verdict_of}
+use Rattle.vc_push_rules.specs.Steps.{EndsEarly, StepChecks, StepFinishes, StepMigrates, StepUpdates, fault_number, unpack_of}
+use Rattle.vc_push_rules.specs.Verdict.{refs_after}
+use Rattle.vc_push_rules.specs.declared.stage.Stage.{Stage}
+use Rattle.vc_push_rules.specs.declared.stage.Stage.TheVariants.{Unpacked, Checked, Migrated, Done as AtItsEnd}
+use Rattle.vc_push_rules.specs.declared.stage.Stepped.TheVariants as stepped
+use Rattle.vc_push_rules.specs.declared.stage.Verdict.{Verdict}
+use Rattle.vc_push_rules.specs.declared.stage.Verdict.TheVariants.{Passing}
 use Rattle.vc_rules.specs.Git.{git, stored_of}
 use Rattle.vc_rules.specs.OpenPushes.{EndsEarlyAgree, HoldsContent, HoldsPush, IsPushEnd, IsPushStep, IsStop, OpensAgree, OthersStay, StepsAgree, judged_commands, machine_stage, machine_standing}
 use Rattle.vc_rules.specs.Verdicts.{AreFoundAt, machine_command, machine_reason}

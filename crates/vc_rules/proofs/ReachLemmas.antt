@@ -3,8 +3,8 @@ use Rattle.std.proofs.Common.{◌≡◌, ℕ, List, ◌∷◌, ◌++◌, map, Op
 use Rattle.std.specs.Prelude.{IsSome, option_map, unwrap_or}
 use Rattle.std.proofs.lemmas.List.Elements.{Contains-append_right, Contains-append_cases, Contains-push_cases}
 use Rattle.vc_format.specs.Git.{kind_of, id_of_bytes, bytes_of_id}
-use Rattle.vc_graph.specs.Graph as graph
-use Rattle.vc_graph.specs.Graph.Reaches.{itself, onward}
+use Rattle.vc_object_map.specs.Graph as graph
+use Rattle.vc_object_map.specs.Graph.Reaches.{itself, onward}
 use Rattle.vc_lemmas.proofs.Lists.{value_of, some_of}
 use Rattle.vc_model.specs.Object.{Object, Id, Lookup, Kind}
 use Rattle.vc_model.specs.Object.Kind.{Blob, Tree, Commit, Tag}

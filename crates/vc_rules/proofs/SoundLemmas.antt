@@ -13,11 +13,11 @@ use Rattle.vc_object.specs.declared.kind.Kind.{Kind}
 use Rattle.vc_object.proofs.Decoding.{decoded_some}
 use Rattle.vc_object.proofs.IdLemmas.{is_id-from_array}
 use Rattle.vc_object.proofs.Names.{byte_of, name_bytes, name_length}
-use Rattle.vc_store.specs.Store.{objects, object_path, named, stored as stored_file, stored_in}
-use Rattle.vc_store.specs.declared.faults.StoreFault.TheVariants.{Damaged}
+use Rattle.vc_object_map.specs.Store.{objects, object_path, named, stored as stored_file, stored_in}
+use Rattle.vc_object_map.specs.declared.faults.StoreFault.TheVariants.{Damaged}
 use Rattle.vc_object.specs.declared.id.ObjectId.{ObjectId}
-use Rattle.vc_graph.specs.Overlay.{with_carried}
-use Rattle.vc_session.specs.Quarantine.{objects_seen, quarantine_path, quarantined}
+use Rattle.vc_object_map.specs.Overlay.{with_carried}
+use Rattle.vc_push_rules.specs.Quarantine.{objects_seen, quarantine_path, quarantined}
 
 named_sound : (id : ObjectId) (q o : StoredObject) (b : Bool) → ◌≡◌ {A = Option StoredObject} (result_ok (cond b (Ok q) (Err (Damaged id)))) (Some o) → q ≡ o
 named_sound id q o true h = cc

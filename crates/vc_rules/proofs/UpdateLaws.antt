@@ -13,8 +13,8 @@ use Rattle.vc_push.specs.Push.{CommandText, zero_id}
 use Rattle.vc_push.specs.declared.reason.Reason.{Reason}
 use Rattle.vc_push.specs.declared.reason.Reason.TheVariants.{BadName, OutsideRefs, DeletionProhibited, MissingObjects, NotACommit, NonFastForward, AlreadyExists, NameConflict, Stale, UnpackerError}
 use Rattle.vc_refs.specs.RefMap.{RefMap, conflicts}
-use Rattle.vc_session.specs.Session.{verdict_of}
-use Rattle.vc_session.specs.Verdict.{IsVerdictAtUpdate, UpdateNeeds, update_reasons}
+use Rattle.vc_push_rules.specs.Session.{verdict_of}
+use Rattle.vc_push_rules.specs.Verdict.{IsVerdictAtUpdate, UpdateNeeds, update_reasons}
 use Rattle.vc_rules.specs.OpenPushes.{machine_standing}
 use Rattle.vc_rules.specs.Verdicts.{machine_command, machine_reason}
 use Rattle.vc_rules.proofs.RefLemmas.{conflicts_from, conflicts_to, id_some, no_id, some_id, that_id}

@@ -4,7 +4,7 @@ use Rattle.std.specs.List.{AllByRecursion, starts_with}
 use Rattle.std.proofs.lemmas.Bool.Decides.{Decides-eqb}
 use Rattle.std.proofs.lemmas.Slice.Eq.{starts_is}
 use Rattle.vc_format.specs.Git.{id_of_bytes}
-use Rattle.vc_graph.specs.Graph as graph
+use Rattle.vc_object_map.specs.Graph as graph
 use Rattle.vc_model.specs.Object.{Id, Lookup}
 use Rattle.vc_model.specs.Object as model
 use Rattle.vc_model.specs.Push as machine
@@ -17,7 +17,7 @@ use Rattle.vc_object.specs.declared.id.ObjectId.{ObjectId}
 use Rattle.vc_push.specs.Push.{CommandText, zero_id}
 use Rattle.vc_push.specs.declared.reason.Reason.{Reason}
 use Rattle.vc_push.specs.declared.reason.Reason.TheVariants.{BadName, OutsideRefs, DeletionProhibited, MissingObjects, NotACommit, NonFastForward, AlreadyExists, NameConflict, Stale, UnpackerError}
-use Rattle.vc_session.specs.Verdict.{CheckNeeds, FirstUnmet, check_reasons, is_branch, is_inside, is_tag}
+use Rattle.vc_push_rules.specs.Verdict.{CheckNeeds, FirstUnmet, check_reasons, is_branch, is_inside, is_tag}
 use Rattle.vc_rules.specs.Git.{git}
 use Rattle.vc_rules.specs.Verdicts.{AreFoundAt, CheckNeedsAgree, ChecksAgree, machine_command, machine_reason}
 use Rattle.vc_rules.proofs.ReachLemmas.{closed_from, closed_to, history_from, history_to, line_from, line_to}

@@ -2,7 +2,7 @@
 use Rattle.std.proofs.Common.{◌≡◌, inl, inr, ℕ, List, Some, false, ap, sym, ◌∙◌, true≢false}
 use Rattle.std.specs.FinMap.{get}
 use Rattle.vc_files.specs.FileMap.{FileMap}
-use Rattle.vc_graph.specs.Graph.{IsClosed}
+use Rattle.vc_object_map.specs.Graph.{IsClosed}
 use Rattle.vc_model.specs.Object.{stored}
 use Rattle.vc_model.specs.Refs.{IsTag}
 use Rattle.vc_model.specs.Repository.{IsSound, Repository}
@@ -14,9 +14,9 @@ use Rattle.vc_rules.specs.OpenPushes.{HoldsContent}
 use Rattle.vc_rules.proofs.ReachLemmas.{closed_to, history_to}
 use Rattle.vc_rules.proofs.RefLemmas.{that_id}
 use Rattle.vc_rules.proofs.SoundLemmas.{objects_sound}
-use Rattle.vc_session.specs.Known.{AreRefsWhole}
-use Rattle.vc_session.specs.Verdict.{HasHistory, is_tag}
-use Rattle.vc_store.specs.Store.{objects}
+use Rattle.vc_push_rules.specs.Known.{AreRefsWhole}
+use Rattle.vc_push_rules.specs.Verdict.{HasHistory, is_tag}
+use Rattle.vc_object_map.specs.Store.{objects}
 
 pub refs_whole : (content : FileMap) (r : Repository) → HoldsContent content r → IsSound git r → AreRefsWhole content
 refs_whole content r held sound = record { closed = closed; history = history }

@@ -1,13 +1,12 @@
--- Git's object format, and how the machine has its objects, modes and index entries.
+-- Git's object format, and how the machine has its objects and modes.
 use Rattle.std.specs.Prelude.{ℕ, List, None, option_map}
 use Rattle.std.specs.FinMap.{get}
 use Rattle.vc_format.specs.Format.{git_format}
 use Rattle.vc_format.specs.Git.{kind_of}
 use Rattle.vc_format.proofs.Laws.{links_agree, spells_commits, main_is_name}
-use Rattle.vc_index.specs.declared.entry.IndexEntry.{IndexEntry}
 use Rattle.vc_model.specs.Object.{Format, Kind, Object, Objects}
 use Rattle.vc_model.specs.Object.Kind.{Blob, Tree, Commit, Tag}
-use Rattle.vc_model.specs.Repository.{Entry, gitlink}
+use Rattle.vc_model.specs.Repository.{gitlink}
 use Rattle.vc_object.specs.Decoding.{StoredObject, stored_object}
 use Rattle.vc_object.specs.ObjectMap.{ObjectMap}
 use Rattle.vc_object.specs.declared.kind.Kind.{Kind as ObjectKind}
@@ -19,7 +18,7 @@ use Rattle.vc_object.specs.declared.mode.Mode.TheVariants as modes
 abbrev pub git : Format
 git = git_format links_agree spells_commits main_is_name
 
--- a kind, an object, a mode and an entry of the index, as the machine has them
+-- a kind, an object and a mode, as the machine has them
 abbrev pub machine_kind : ObjectKind → Kind
 machine_kind kinds.Blob = Blob
 machine_kind kinds.Tree = Tree
@@ -36,9 +35,6 @@ mode_number modes.SharedFile = 33204
 mode_number modes.Executable = 33261
 mode_number modes.Link = 40960
 mode_number modes.Commit = gitlink
-
-abbrev pub machine_entry : IndexEntry → Entry
-machine_entry e = record { mode = mode_number e.mode; id = e.id.0 }
 
 -- an object of the machine, as it is stored
 abbrev pub stored_of : Object → StoredObject

@@ -23,17 +23,17 @@ use Rattle.vc_push.specs.Report.{ReportText, ToldText, unpack_error}
 use Rattle.vc_push.specs.ReportView.{report_text}
 use Rattle.vc_push.specs.declared.reason.Reason.{Reason}
 use Rattle.vc_refs.specs.Refs.{refs}
-use Rattle.vc_store.specs.Store.{objects}
-use Rattle.vc_session.specs.Carrying.{Carries, HoldsNames, objects_of_push}
-use Rattle.vc_session.specs.Quarantine.{quarantined}
-use Rattle.vc_session.specs.Session.{IsSession, SessionText}
-use Rattle.vc_session.specs.Steps.{EndsEarly, IsOpened, Steps, fault_number}
-use Rattle.vc_session.specs.declared.stage.Stage.{Stage}
-use Rattle.vc_session.specs.declared.stage.Stage.TheVariants.{Unpacked, Checked, Migrated, Done as AtItsEnd}
-use Rattle.vc_session.specs.declared.stage.Stepped.{Stepped}
-use Rattle.vc_session.specs.declared.stage.Stepped.TheVariants as stepped
-use Rattle.vc_session.specs.declared.stage.Verdict.{Verdict}
-use Rattle.vc_session.specs.declared.stage.Verdict.TheVariants.{Passing, Accepted, Refused}
+use Rattle.vc_object_map.specs.Store.{objects}
+use Rattle.vc_push_rules.specs.Carrying.{Carries, HoldsNames, objects_of_push}
+use Rattle.vc_push_rules.specs.Quarantine.{quarantined}
+use Rattle.vc_push_rules.specs.Session.{IsSession, SessionText}
+use Rattle.vc_push_rules.specs.Steps.{EndsEarly, IsOpened, Steps, fault_number}
+use Rattle.vc_push_rules.specs.declared.stage.Stage.{Stage}
+use Rattle.vc_push_rules.specs.declared.stage.Stage.TheVariants.{Unpacked, Checked, Migrated, Done as AtItsEnd}
+use Rattle.vc_push_rules.specs.declared.stage.Stepped.{Stepped}
+use Rattle.vc_push_rules.specs.declared.stage.Stepped.TheVariants as stepped
+use Rattle.vc_push_rules.specs.declared.stage.Verdict.{Verdict}
+use Rattle.vc_push_rules.specs.declared.stage.Verdict.TheVariants.{Passing, Accepted, Refused}
 use Rattle.vc_rules.specs.Git.{git, stored_of}
 use Rattle.vc_rules.specs.Verdicts.{machine_command, machine_reason}
 

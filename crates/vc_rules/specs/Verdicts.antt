@@ -12,7 +12,7 @@ use Rattle.vc_object.specs.declared.id.ObjectId.{ObjectId}
 use Rattle.vc_push.specs.Push.{CommandText}
 use Rattle.vc_push.specs.declared.reason.Reason.{Reason}
 use Rattle.vc_push.specs.declared.reason.Reason.TheVariants.{BadName, OutsideRefs, DeletionProhibited, MissingObjects, NotACommit, NonFastForward, AlreadyExists, NameConflict, Stale, UnpackerError}
-use Rattle.vc_session.specs.Verdict.{CheckNeeds, IsVerdictAtCheck}
+use Rattle.vc_push_rules.specs.Verdict.{CheckNeeds, IsVerdictAtCheck}
 use Rattle.vc_rules.specs.Git.{git, stored_of}
 
 -- what the machine finds under a name is what stands there, and each object that stands there is one

@@ -1,21 +1,12 @@
-//! The rules of the machine at Git's object format: which bodies are refused and with which number, the trees of an index,
-//! the index of a tree, and what an expression denotes. Each is the relation by which the layer below says it
-//! (`vc_object`, `vc_index`, `vc_rev`), so what a node answers in the machine's terms it answers in theirs.
+//! The machine's pushes at Git's object format: what the check of a push asks of a command, and each step of an open push, as the
+//! layers below have them (`vc_push_rules`) and as the machine has them, so what a node answers in the machine's terms it answers in
+//! theirs. What it makes of trees, indexes and expressions is in `vc_values`.
 //!
 //! Nothing here is program code. The crates that say what a node answers say it by these rules.
 #![tactic(auto)]
 
-ghost use Rattle.vc_rules.specs.Laws.{GitLaws};
 ghost use Rattle.vc_rules.specs.OpenPushes.{EachIsBrought, OpensAgree, StepsAgree, OthersStay, EndsEarlyAgree};
 ghost use Rattle.vc_rules.specs.Verdicts.{CheckNeedsAgree, ChecksAgree};
-
-/// What the layers give is as the machine asks of its rules. A body has one fault at most, a tree one index or number, an
-/// index one list of trees or number, an expression one value or refusal. An index comes only of a tree of which all is
-/// there, and which reaches the index's files. The trees of an index stand under their names, each is a body of a tree, and
-/// the root reaches nothing that is absent but what the index's files do.
-pub fn the_layers_give_what_the_machine_asks()
-    ensures { GitLaws }
-{}
 
 /// What the check of a push asks of a command is what the machine asks, reason by reason, and so what is judged of a command
 /// is what the machine's check makes of it.

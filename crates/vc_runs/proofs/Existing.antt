@@ -18,7 +18,7 @@ use Rattle.vc_model.proofs.Tracked.{value_at_clone}
 use Rattle.vc_model.specs.Wire.{Wire}
 use Rattle.vc_rules.specs.Git.{git}
 use Rattle.vc_runs.specs.Names.{path, content, first_file, first_file_id, first_tree, first_tree_id, first_commit, first_commit_id, author, message}
-use Rattle.vc_rules.proofs.GitLaws.{git_rules}
+use Rattle.vc_values.proofs.GitLaws.{git_rules}
 use Rattle.vc_runs.specs.Wire.{Readings, git_wire}
 use Rattle.vc_runs.specs.Witness.{HasAll, main, told, IsWitness, RunsExist, PremisesAreMet}
 use Rattle.vc_runs.proofs.Names.{names_are_known}

@@ -17,7 +17,7 @@ use Rattle.vc_object.proofs.Reading.{entries_again}
 use Rattle.vc_object.specs.Links.{entry_links}
 use Rattle.vc_refname.specs.RefName.{is_ref_name, first_broken_rule}
 use Rattle.vc_refname.proofs.BrokenRules.{legal_from_is_ref_name}
-use Rattle.vc_store.specs.Store.{with_object}
+use Rattle.vc_object_map.specs.Store.{with_object}
 use Rattle.vc_index.specs.WrittenTrees.{tree_object}
 use Rattle.vc_index.specs.declared.entry.IndexEntry.{IndexEntry}
 use Rattle.vc_index.specs.FolderTrees.{NamesAll}
@@ -26,10 +26,10 @@ use Rattle.vc_index.specs.Path.{IsPath}
 use Rattle.vc_index.proofs.MapLemmas.{empty-IsIndex, insert-IsIndex, got, no_some}
 use Rattle.vc_object.specs.Tree.{IsName, IsEntry, spelling}
 use Rattle.vc_object.specs.declared.mode.Mode.TheVariants as modes
-use Rattle.vc_rules.specs.Trees.{ShowsIndex}
+use Rattle.vc_values.specs.Trees.{ShowsIndex, machine_entry, TreesGive, HoldsTrees}
 use Rattle.vc_rev.specs.Meaning.{or_refusal}
 use Rattle.vc_rev.specs.declared.refusal.Refusal.TheVariants.{Unknown}
-use Rattle.vc_rev.specs.Grammar.ExprText.{Object as BaseAndSteps}
+use Rattle.vc_expression.specs.Grammar.ExprText.{Object as BaseAndSteps}
 use Rattle.vc_format.specs.Git.{id_of_bytes, bytes_of_id, commit_text}
 use Rattle.vc_object.proofs.Names.{name_length, name_bytes, byte_of}
 use Rattle.vc_model.specs.Object.{Id, zero_id, Object, Objects, IsLine}
@@ -39,12 +39,11 @@ use Rattle.vc_model.specs.Repository.{Repository}
 use Rattle.vc_model.specs.Shared.{head_value}
 use Rattle.vc_model.proofs.Commits.{all_holds}
 use Rattle.vc_model.proofs.Maps.{same_key, insert_same, insert_other, bytes_same}
-use Rattle.vc_rules.specs.Faults.{FaultGives}
-use Rattle.vc_rules.specs.Git.{git, stored_of, machine_entry}
-use Rattle.vc_rules.specs.Trees.{TreesGive, HoldsTrees}
-use Rattle.vc_rules.specs.Values.{DenotesAt}
+use Rattle.vc_values.specs.Faults.{FaultGives}
+use Rattle.vc_rules.specs.Git.{git, stored_of}
+use Rattle.vc_values.specs.Values.{DenotesAt}
 use Rattle.vc_runs.specs.Names.{path, plain_file, content, first_file, first_file_id, first_entries, first_tree, first_tree_id, author, message, first_commit, first_commit_id}
-use Rattle.vc_rules.proofs.GitLaws.{git_rules}
+use Rattle.vc_values.proofs.GitLaws.{git_rules}
 use Rattle.vc_model.specs.Rules.{Rules}
 use Rattle.vc_model.specs.Wire.{Wire}
 use Rattle.vc_runs.specs.Witness.{main}

@@ -4,7 +4,7 @@ use Rattle.vc_model.specs.Message.{Message, IsNamedMessage}
 use Rattle.vc_model.specs.Rules.{IsFormedMessage}
 use Rattle.vc_model.specs.Wire.{Wire, IsUnreadable}
 use Rattle.vc_rules.specs.Git.{git}
-use Rattle.vc_rules.proofs.GitLaws.{git_rules}
+use Rattle.vc_values.proofs.GitLaws.{git_rules}
 
 -- What a wire has beside its rules: which bytes are which message, and how others are refused. By tests, so that a law may range
 -- over them.

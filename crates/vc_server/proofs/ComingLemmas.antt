@@ -7,7 +7,7 @@ use Rattle.vc_message.specs.Coming.{Came, a_message, cut_short, lost, no_message
 use Rattle.vc_model.specs.SharedCall.{SharedCall}
 use Rattle.vc_model.specs.SharedCall.SharedCall.{Accept}
 use Rattle.vc_local.specs.Clean.{KeepsClean}
-use Rattle.vc_session.specs.Session.{SessionText}
+use Rattle.vc_push_rules.specs.Session.{SessionText}
 use Rattle.vc_shared.specs.Accepting.{IsRefusedMessage}
 use Rattle.vc_shared.specs.Arriving.{AcceptsFrom, AnswersKnown, IsKnown, IsTold, ToldAs}
 use Rattle.vc_shared.specs.Arriving.{IsRefusedThere as IsRefusedComing}

@@ -22,9 +22,9 @@ use Rattle.vc_local.specs.Clean.{KeepsClean}
 use Rattle.vc_local.specs.declared.fault.NodeFault.TheVariants.{Down}
 use Rattle.vc_local.proofs.FaultLemmas.{node_undone}
 use Rattle.vc_rules.specs.Verdicts.{machine_reason}
-use Rattle.vc_session.specs.Session.{SessionText}
-use Rattle.vc_session.specs.declared.stage.Stepped.{Stepped as SessionStep}
-use Rattle.vc_session.specs.declared.stage.Stepped.TheVariants as session
+use Rattle.vc_push_rules.specs.Session.{SessionText}
+use Rattle.vc_push_rules.specs.declared.stage.Stepped.{Stepped as SessionStep}
+use Rattle.vc_push_rules.specs.declared.stage.Stepped.TheVariants as session
 use Rattle.vc_shared.proofs.HoldingLemmas.{slot_set}
 use Rattle.vc_shared.proofs.SlotLemmas.{open_within, told_at}
 use Rattle.vc_shared.proofs.SteppingLaws.{pushes_of}

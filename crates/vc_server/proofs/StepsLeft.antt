@@ -4,15 +4,15 @@ use Rattle.std.specs.Prelude.{cond, count_by, sum_by, if◌then◌else◌}
 use Rattle.std.specs.List.{list_any}
 use Rattle.std.proofs.lemmas.List.Sums.{count_by-le-length, sum_by-append}
 use Rattle.vc_files.specs.FileMap.{FileMap}
-use Rattle.vc_session.specs.Session.{IsSession, SessionText, is_passing, stage_while, verdict_of}
-use Rattle.vc_session.specs.Steps.{Steps}
-use Rattle.vc_session.specs.declared.stage.Stage.{Stage}
-use Rattle.vc_session.specs.declared.stage.Stage.TheVariants.{Unpacked, Checked, Migrated, Done}
-use Rattle.vc_session.specs.declared.stage.Verdict.{Verdict}
-use Rattle.vc_session.specs.declared.stage.Verdict.TheVariants.{Passing}
-use Rattle.vc_session.specs.declared.stage.Stepped.{Stepped}
-use Rattle.vc_session.specs.declared.stage.Stepped.TheVariants as session
-use Rattle.vc_session.proofs.SessionLemmas.{settled_verdict}
+use Rattle.vc_push_rules.specs.Session.{IsSession, SessionText, is_passing, stage_while, verdict_of}
+use Rattle.vc_push_rules.specs.Steps.{Steps}
+use Rattle.vc_push_rules.specs.declared.stage.Stage.{Stage}
+use Rattle.vc_push_rules.specs.declared.stage.Stage.TheVariants.{Unpacked, Checked, Migrated, Done}
+use Rattle.vc_push_rules.specs.declared.stage.Verdict.{Verdict}
+use Rattle.vc_push_rules.specs.declared.stage.Verdict.TheVariants.{Passing}
+use Rattle.vc_push_rules.specs.declared.stage.Stepped.{Stepped}
+use Rattle.vc_push_rules.specs.declared.stage.Stepped.TheVariants as session
+use Rattle.vc_push_rules.proofs.VerdictLemmas.{settled_verdict}
 use Rattle.vc_push.specs.declared.reason.Reason.{Reason}
 
 -- so many at most, its report among them

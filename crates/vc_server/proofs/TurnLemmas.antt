@@ -20,7 +20,7 @@ use Rattle.vc_shared.specs.Faults.{IsOfDevice, fault_answer, is_fault}
 use Rattle.vc_shared.specs.declared.accept_fault.AcceptFault.TheVariants.{Node as OfNode, ReadFailed as Lost}
 use Rattle.vc_shared.specs.declared.fault.SharedFault.{SharedFault}
 use Rattle.vc_shared.specs.declared.fault.SharedFault.TheVariants.{Busy, NoSuchSlot, NoValue, Node, NotOurs, Unexpected, Unread}
-use Rattle.vc_store.specs.declared.faults.StoreFault.TheVariants as store
+use Rattle.vc_object_map.specs.declared.faults.StoreFault.TheVariants as store
 use Rattle.vc_server.specs.Coming.{Reply}
 use Rattle.vc_server.specs.Telling.{TellsAnswer, TellsRefusal}
 use Rattle.vc_server.specs.Turn.{LeavesRest, up_after as turn_up}

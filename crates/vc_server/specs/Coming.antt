@@ -5,7 +5,7 @@ use Rattle.vc_files.specs.FileMap.{FileMap}
 use Rattle.vc_message.specs.Coming.{Came, IsCome, a_message}
 use Rattle.vc_model.specs.SharedCall.{SharedCall}
 use Rattle.vc_message.specs.Machine.{FirstRead}
-use Rattle.vc_session.specs.Session.{SessionText}
+use Rattle.vc_push_rules.specs.Session.{SessionText}
 use Rattle.vc_shared.specs.Arriving.{IsCallOf, IsKnown, IsTold}
 use Rattle.vc_shared.specs.Holding.{SharedText}
 use Rattle.vc_shared.specs.declared.accept_fault.AcceptFault.{AcceptFault}

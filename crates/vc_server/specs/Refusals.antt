@@ -4,7 +4,7 @@ use Rattle.vc_files.specs.FileMap.{FileMap}
 use Rattle.vc_message.specs.AnyMessage.{MessageText}
 use Rattle.vc_local.specs.Clean.{KeepsClean}
 use Rattle.vc_local.specs.declared.fault.NodeFault.TheVariants.{Down}
-use Rattle.vc_session.specs.Session.{SessionText}
+use Rattle.vc_push_rules.specs.Session.{SessionText}
 use Rattle.vc_shared.specs.Accepting.{IsRefusedBytes, IsRefusedMessage}
 use Rattle.vc_shared.specs.Stepping.{IsRefusedIn}
 use Rattle.vc_shared.specs.declared.fault.SharedFault.{SharedFault}

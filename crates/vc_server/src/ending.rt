@@ -8,11 +8,11 @@ ghost use Rattle.vc_shared.specs.Faults.{fault_answer};
 
 use vc_files::Fault;
 use vc_local::NodeFault;
+use vc_object_map::StoreFault;
 use vc_pkt::PktFault;
 use vc_refs::RefFault;
 use vc_rev::Refusal;
 use vc_shared::SharedFault;
-use vc_store::StoreFault;
 
 /// The number of bytes that are no message: 80 to 84, or 3.
 pub fn unread_number(fault: &PktFault) -> u16

@@ -4,7 +4,7 @@ use Rattle.std.proofs.lemmas.List.{length-map, length-take-le, map_more, take_mo
 use Rattle.std.proofs.lemmas.Option.{get_or_from_slice_get, slice_get_within}
 use Rattle.std.specs.Prelude.{⊤}
 use Rattle.vc_files.specs.FileMap.{FileMap}
-use Rattle.vc_graph.specs.GraphFault.{IsMet}
+use Rattle.vc_object_map.specs.StoreFault.{IsMet}
 use Rattle.vc_object.specs.ObjectMap.{ObjectMap}
 use Rattle.vc_push.specs.Push.{CommandText}
 use Rattle.vc_push.specs.PushView.{command_of, commands_of}
@@ -12,15 +12,15 @@ use Rattle.vc_push.specs.declared.command.Command.{Command}
 use Rattle.vc_refs.specs.RefFault.{BlamesList}
 use Rattle.vc_refs.specs.declared.faults.RefFault.{RefFault}
 use Rattle.vc_refs.specs.declared.faults.RefFault.TheVariants as of_refs
-use Rattle.vc_store.specs.declared.faults.StoreFault.{StoreFault}
-use Rattle.vc_store.specs.declared.faults.StoreFault.TheVariants as of_store
-use Rattle.vc_session.specs.PushState.{IsDamagedSeen, SeenState}
+use Rattle.vc_object_map.specs.declared.faults.StoreFault.{StoreFault}
+use Rattle.vc_object_map.specs.declared.faults.StoreFault.TheVariants as of_store
+use Rattle.vc_quarantine.specs.PushState.{IsDamagedSeen, SeenState}
 use Rattle.vc_session.specs.SessionFault.{IsRefusedCheck, from_refs, from_store}
-use Rattle.vc_session.specs.Session.{MayBeSetWhere, is_passing}
-use Rattle.vc_session.specs.Steps.{Checks, ChecksAll}
-use Rattle.vc_session.specs.Verdict.{MayBeSet}
-use Rattle.vc_session.specs.declared.stage.Verdict.{Verdict}
-use Rattle.vc_session.specs.declared.stage.Verdict.TheVariants.{Passing, Accepted, Refused}
+use Rattle.vc_push_rules.specs.Session.{MayBeSetWhere, is_passing}
+use Rattle.vc_push_rules.specs.Steps.{Checks, ChecksAll}
+use Rattle.vc_push_rules.specs.Verdict.{MayBeSet}
+use Rattle.vc_push_rules.specs.declared.stage.Verdict.{Verdict}
+use Rattle.vc_push_rules.specs.declared.stage.Verdict.TheVariants.{Passing, Accepted, Refused}
 
 -- one more command is checked
 pub ChecksAll-push : (objects : ObjectMap) (cs : List CommandText) (vs ws : List Verdict) (c : CommandText) (v w : Verdict) → ChecksAll objects cs vs ws → Checks objects c v w → ChecksAll objects (cs ++ c ∷ []) (vs ++ v ∷ []) (ws ++ w ∷ [])

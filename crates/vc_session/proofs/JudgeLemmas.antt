@@ -1,29 +1,18 @@
 -- The verdict on a command at the check, from what each part of it found.
-use Rattle.std.proofs.Common.{◌≡◌, inl, inr, Bool, true, false, cond, List, [], ◌∷◌, Option, Some, None, IsSome, refl, sym, ◌∙◌, true≢false}
+use Rattle.std.proofs.Common.{◌≡◌, inl, inr, Bool, true, false, cond, Option, Some, None, refl, sym, ◌∙◌, true≢false}
 use Rattle.vc_format.specs.Git.{git_is_legal}
-use Rattle.vc_graph.proofs.WalkLemmas.{Reaches-from_one}
-use Rattle.vc_graph.specs.Graph.{IsClosed, ReachedFrom}
-use Rattle.vc_object.proofs.ObjectMaps.{parents_in-none}
+use Rattle.vc_object_map.specs.Graph.{IsClosed}
 use Rattle.vc_object.specs.ObjectId.{id_eq}
-use Rattle.vc_object.specs.ObjectMap.{ObjectMap, links_in, parents_in}
-use Rattle.vc_object.specs.declared.id.ObjectId.{ObjectId}
+use Rattle.vc_object.specs.ObjectMap.{ObjectMap, links_in}
 use Rattle.vc_push.specs.Push.{CommandText, zero_id}
 use Rattle.vc_push.specs.declared.reason.Reason.{Reason}
 use Rattle.vc_push.specs.declared.reason.Reason.TheVariants.{BadName, OutsideRefs, DeletionProhibited, MissingObjects}
-use Rattle.vc_session.specs.Verdict.{CheckNeeds, HasHistory, IsVerdict, IsVerdictAtCheck, MayBeSet, history_reasons, is_inside, own_reason}
+use Rattle.vc_push_rules.specs.Verdict.{CheckNeeds, IsVerdict, IsVerdictAtCheck, MayBeSet, history_reasons, is_inside, own_reason}
 
 some_same : (x y : Reason) → ◌≡◌ {A = Option Reason} (Some x) (Some y) → x ≡ y
 some_same x y e = cc e
 
 module _ (objects : ObjectMap) (c : CommandText) where
-  -- a history that is whole has no absent commit
-  pub never_missing : HasHistory objects c.new → (id : ObjectId) → ReachedFrom (parents_in objects) (c.new ∷ []) id → objects id ≡ None → ⊥
-  never_missing history id reached absent = absurd (by (parents_in objects id) (parents_in-none objects id absent) (history id (Reaches-from_one (parents_in objects) c.new id reached)))
-    where
-      by : (o : Option (List ObjectId)) → o ≡ None → IsSome o → ⊥
-      by None e h = cc h
-      by (Some ids) e h = cc e
-
   -- ---- 100 to 102
   -- what the command alone gives nothing against
   pub record IsPlain : Type 0 where

@@ -5,9 +5,9 @@ use Rattle.std.proofs.lemmas.Bool.{false_from_ne_true}
 use Rattle.std.proofs.lemmas.List.Folds.{list_any_at}
 use Rattle.vc_push.specs.Push.{CommandText}
 use Rattle.vc_push.specs.Report.{ToldText}
-use Rattle.vc_session.specs.Session.{is_passing}
-use Rattle.vc_session.specs.Steps.{Tells, TellsAll}
-use Rattle.vc_session.specs.declared.stage.Verdict.{Verdict}
+use Rattle.vc_push_rules.specs.Session.{is_passing}
+use Rattle.vc_push_rules.specs.Steps.{Tells, TellsAll}
+use Rattle.vc_push_rules.specs.declared.stage.Verdict.{Verdict}
 
 -- one more command
 pub tells-push : (cs : List CommandText) (vs : List Verdict) (ts : List ToldText) (c : CommandText) (v : Verdict) (t : ToldText) → TellsAll cs vs ts → Tells c v t → TellsAll (cs ++ c ∷ []) (vs ++ v ∷ []) (ts ++ t ∷ [])

@@ -1,11 +1,11 @@
 -- The verdicts of a push, as one of them is settled after another, and what a step's parts say of the whole step.
-use Rattle.std.proofs.Common.{arith, ◌≡◌, ◌⊎◌, inl, inr, ℕ, zero, suc, ◌+◌, ◌<◌, cond, true, false, List, ◌∷◌, ◌++◌, length, map, take, drop, get_or, Option, Some, None, is_some, refl, ap, sym, ◌∙◌, subst, slice_set, true≢false, []}
+use Rattle.std.proofs.Common.{arith, ◌≡◌, ◌⊎◌, inl, inr, ℕ, zero, suc, ◌+◌, ◌<◌, cond, true, false, List, ◌∷◌, ◌++◌, length, map, take, drop, get_or, Option, Some, None, refl, ap, sym, ◌∙◌, subst, slice_set, []}
 use Rattle.std.specs.Prelude.{slice_get, option_map}
 use Rattle.std.specs.List.{list_any}
 use Rattle.std.proofs.lemmas.List.{length-map, length-take-le, take-append-drop, take-set, drop-set, drop_more}
 use Rattle.std.proofs.lemmas.List.Folds.{list_any_at}
 use Rattle.std.proofs.lemmas.Option.{slice_get_read, slice_get_within, slice_get-map, get_or_from_slice_get}
-use Rattle.vc_files.specs.Failures.{Wears, Writes}
+use Rattle.vc_files.specs.Failures.{Writes}
 use Rattle.vc_files.specs.FileMap.{FileMap}
 use Rattle.vc_object.specs.declared.id.ObjectId.{ObjectId}
 use Rattle.vc_push.specs.Push.{Carried, CommandText}
@@ -14,21 +14,20 @@ use Rattle.vc_push.specs.declared.command.Command.{Command}
 use Rattle.vc_push.specs.declared.reason.Reason.{Reason}
 use Rattle.vc_refs.specs.RefMap.{RefMap}
 use Rattle.vc_refs.specs.Refs.{refs}
-use Rattle.vc_store.specs.declared.faults.StoreFault.{StoreFault}
-use Rattle.vc_store.specs.declared.faults.StoreFault.TheVariants as of_store
-use Rattle.vc_session.specs.Carrying.{Carries, objects_of_push}
-use Rattle.vc_session.specs.Quarantine.{IsDropped}
-use Rattle.vc_session.specs.Session.{SessionText, IsInStage, MayBeSetWhere, is_passing, stage_while, verdict_of}
-use Rattle.vc_session.specs.SessionFault.{BlamesMigration, IsRefusedCheck, IsRefusedStep, from_store}
-use Rattle.vc_session.specs.Steps.{MaySetNext, UpdatesNext}
-use Rattle.vc_session.specs.Verdict.{IsVerdictAtUpdate, MayBeSet, refs_after}
+use Rattle.vc_object_map.specs.declared.faults.StoreFault.{StoreFault}
+use Rattle.vc_object_map.specs.declared.faults.StoreFault.TheVariants as of_store
+use Rattle.vc_push_rules.specs.Carrying.{Carries, objects_of_push}
+use Rattle.vc_push_rules.specs.Session.{SessionText, IsInStage, MayBeSetWhere, is_passing, stage_while, verdict_of}
+use Rattle.vc_quarantine.specs.Blames.{BlamesMigration}
+use Rattle.vc_session.specs.SessionFault.{IsRefusedCheck, IsRefusedStep, from_store}
+use Rattle.vc_push_rules.specs.Steps.{MaySetNext, UpdatesNext}
+use Rattle.vc_push_rules.specs.Verdict.{IsVerdictAtUpdate, MayBeSet, refs_after}
 use Rattle.vc_session.specs.declared.fault.SessionFault.{SessionFault}
 use Rattle.vc_session.specs.declared.fault.SessionFault.TheVariants.{Store, Refs, Fault}
-use Rattle.vc_session.specs.declared.stage.Stage.{Stage}
-use Rattle.vc_session.specs.declared.stage.Stage.TheVariants.{Unpacked, Checked, Done}
-use Rattle.vc_session.specs.declared.stage.Verdict.{Verdict}
-use Rattle.vc_session.specs.declared.stage.Verdict.TheVariants.{Passing, Accepted, Refused}
-use Rattle.vc_session.proofs.FrameLemmas.{dropped-none}
+use Rattle.vc_push_rules.specs.declared.stage.Stage.{Stage}
+use Rattle.vc_push_rules.specs.declared.stage.Stage.TheVariants.{Unpacked, Checked, Done}
+use Rattle.vc_push_rules.specs.declared.stage.Verdict.{Verdict}
+use Rattle.vc_push_rules.specs.declared.stage.Verdict.TheVariants.{Passing, Accepted, Refused}
 
 module _ (vs : List Verdict) (k : ℕ) (here : slice_get vs k ≡ Some Passing) where
   within : k < length vs
@@ -101,10 +100,6 @@ refused_migration content s (of_store.Damaged id) h = h
 refused_migration content s (of_store.Fault fault) h = tt
 
 -- ---- one update
-pub settled_verdict : (found : Option Reason) → is_passing (verdict_of found) ≡ false
-settled_verdict None = refl
-settled_verdict (Some reason) = refl
-
 -- the command at the place of the next verdict that passes
 pub command_there : (held : List Command) (vs : List Verdict) (k : ℕ) (command : Command) → length vs ≡ length (commands_of held) → slice_get vs k ≡ Some Passing → command ≡ get_or held k command
     → slice_get (commands_of held) k ≡ Some (command_of command)
@@ -143,10 +138,6 @@ module _ (vs : List Verdict) (k : ℕ) (here : slice_get vs k ≡ Some Passing) 
   may_set_next content s verdicts commands judged =
       (take k vs, drop (k + 1) vs, c, verdicts ∙ passing_split vs k here, first, ap (λ ds. slice_get ds (length (take k vs))) commands ∙ front_there, judged)
 
--- the device's end, told in other words
-pub wears_told : {D : Type 0} {failed : D → ℕ} {can_fail : D → Type 0} {left : D → Option ℕ} {old new : D} {P Q : Type 0} → Wears failed can_fail left old new P → (Q → P) → Wears failed can_fail left old new Q
-wears_told w from = record { later = w.later; calm = w.calm; could = λ device. w.could (from device); failed_now = λ device. w.failed_now (from device); unspent = w.unspent }
-
 pub either : {A B C D : Type 0} → A ⊎ B → (A → C) → (B → D) → C ⊎ D
 either (inl a) f g = inl (f a)
 either (inr b) f g = inr (g b)
@@ -156,16 +147,6 @@ either (inr b) f g = inr (g b)
 pub same_verdicts : (v : Verdict) (held : List Command) → map (λ (c : Command). v) held ≡ map (λ (c : CommandText). v) (commands_of held)
 same_verdicts v [] = refl
 same_verdicts v (c ∷ held) = ap (λ vs. v ∷ vs) (same_verdicts v held)
-
--- an empty quarantine carries nothing
-pub nothing_carried : (content : FileMap) (slot : ℕ) → IsDropped slot content → Carries content slot [] (λ id. None)
-nothing_carried content slot dropped = record {
-  same = dropped-none content slot dropped;
-  holds = record {
-    each = λ id among. absurd (omega (arith, among.1));
-    only = λ id some. absurd (true≢false (sym some ∙ ap is_some (dropped-none content slot dropped id)));
-  };
-}
 
 pub carries_by : (now files : FileMap) (slot : ℕ) (ids names : List ObjectId) (push carried : Carried) → now ≡ files → ids ≡ names → push ≡ carried → Carries files slot names (objects_of_push carried) → Carries now slot ids (objects_of_push push)
 carries_by now files slot ids names push carried same_files same_names same_push h =

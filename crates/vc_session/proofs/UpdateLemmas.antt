@@ -3,8 +3,6 @@ use Rattle.std.proofs.Common.{arith, ◌≡◌, ℕ, Bool, true, false, cond, su
 use Rattle.std.specs.Prelude.{codes, string_bytes, Result, Err, IfOk, IfErr, IsErrOf}
 use Rattle.std.specs.List.{starts_with}
 use Rattle.std.proofs.lemmas.Bool.{and_from, and_parts}
-use Rattle.vc_files.proofs.WearLemmas.{fails_later}
-use Rattle.vc_files.specs.Failures.{Wears}
 use Rattle.vc_files.specs.FileMap.{FileMap}
 use Rattle.vc_object.specs.declared.id.ObjectId.{ObjectId}
 use Rattle.vc_push.specs.Push.{CommandText}
@@ -18,7 +16,7 @@ use Rattle.vc_refs.specs.declared.faults.RefFault.TheVariants as fault
 use Rattle.vc_refs.specs.Refs.{is_taken, packed_path, refs}
 use Rattle.vc_refs.specs.Obstacle.{IsFirstInTheWay, IsFree}
 use Rattle.vc_session.specs.Updating.{BlamesUpdate, reason_of}
-use Rattle.vc_session.specs.Verdict.{IsVerdictAtUpdate, UpdateNeeds, expected, is_branch, is_tag}
+use Rattle.vc_push_rules.specs.Verdict.{IsVerdictAtUpdate, UpdateNeeds, expected, is_branch, is_tag}
 
 shorter : (xs front back : List ℕ) → starts_with nat_eq xs (front ++ back) ≡ true → starts_with nat_eq xs front ≡ true
 shorter [] [] back h = refl
@@ -114,13 +112,3 @@ only_name false n m h = absurd (cc h)
 pub moved : (P : FileMap → List ℕ → Option ObjectId → Type 0) {m k : FileMap} {n l : List ℕ} {e f : Option ObjectId} → m ≡ k → n ≡ l → e ≡ f → P m n e → P k l f
 moved P {m = m} {k = k} {n = n} {l = l} {e = e} {f = f} files name value h =
     subst (λ (x : Option ObjectId). P k l x) value (subst (λ (x : List ℕ). P k x e) name (subst (λ (x : FileMap). P x n e) files h))
-
--- two calls that write nothing, one after the other, whose end is told in other words
-pub wears_both : {D : Type 0} {failed : D → ℕ} {can_fail : D → Type 0} {left : D → Option ℕ} {old mid new : D} {P Q R : Type 0} → Wears failed can_fail left old mid P → Wears failed can_fail left mid new Q → (R → Q) → Wears failed can_fail left old new R
-wears_both v w from = record {
-  later = omega (arith, v.later, w.later);
-  calm = λ can. v.calm (w.calm can);
-  could = λ told. v.calm (w.could (from told));
-  failed_now = λ told. fails_later v.later (w.failed_now (from told));
-  unspent = w.unspent ∙ v.unspent;
-}

@@ -3,8 +3,8 @@
 use Rattle.std.specs.Prelude.{◌⊎◌, ℕ, List, [], ◌∷◌, Option, Result, Vec, IfOk}
 use Rattle.std.specs.Global.{Global}
 use Rattle.vc_files.specs.FileMap.{FileMap}
-use Rattle.vc_graph.specs.Graph.{IsClosedUnder, ReachedFrom}
-use Rattle.vc_graph.specs.GraphFault.{IsMet}
+use Rattle.vc_object_map.specs.Graph.{IsClosedUnder, ReachedFrom}
+use Rattle.vc_object_map.specs.StoreFault.{IsMet}
 use Rattle.vc_history.specs.Generation.{Agrees}
 use Rattle.vc_history.specs.Numbering.{numbers}
 use Rattle.vc_history.specs.Stored.{AgreesIn}
@@ -13,14 +13,15 @@ use Rattle.vc_object.specs.ObjectMap.{ObjectMap, links_in, parents_in}
 use Rattle.vc_object.specs.declared.id.ObjectId.{ObjectId}
 use Rattle.vc_push.specs.Push.{CommandText}
 use Rattle.vc_push.specs.declared.reason.Reason.{Reason}
-use Rattle.vc_store.specs.declared.faults.StoreFault.{StoreFault}
-use Rattle.vc_session.specs.Known.{AreRefsWhole, AreWhole}
-use Rattle.vc_session.specs.Quarantine.{objects_seen}
-use Rattle.vc_session.specs.Steps.{Checks, ChecksAll}
-use Rattle.vc_session.specs.Verdict.{CheckNeeds, IsVerdict, IsVerdictAtCheck, history_reasons}
+use Rattle.vc_object_map.specs.declared.faults.StoreFault.{StoreFault}
+use Rattle.vc_push_rules.specs.Known.{AreRefsWhole}
+use Rattle.vc_quarantine.specs.Known.{AreWhole}
+use Rattle.vc_push_rules.specs.Quarantine.{objects_seen}
+use Rattle.vc_push_rules.specs.Steps.{Checks, ChecksAll}
+use Rattle.vc_push_rules.specs.Verdict.{CheckNeeds, IsVerdict, IsVerdictAtCheck, history_reasons}
 use Rattle.vc_session.specs.declared.fault.SessionFault.{SessionFault}
-use Rattle.vc_session.specs.declared.known.Known.{Known}
-use Rattle.vc_session.specs.declared.stage.Verdict.{Verdict}
+use Rattle.vc_quarantine.specs.declared.known.Known.{Known}
+use Rattle.vc_push_rules.specs.declared.stage.Verdict.{Verdict}
 
 -- this holds where the commits are honest and the generations agree with them
 abbrev pub WhereNumbered : Type 0 → ObjectMap → Generations → Type 0 → Type 0

@@ -1,14 +1,5 @@
-pub mod Verdict
-pub mod Quarantine
-pub mod Clean
-pub mod PushState
 pub mod Updating
-pub mod Migrating
-pub mod Arrival
-pub mod Carrying
-pub mod Known
-pub mod Session
-pub mod Steps
 pub mod Judged
 pub mod SessionFault
+pub mod Stepping
 pub mod Learning

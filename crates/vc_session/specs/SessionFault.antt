@@ -1,17 +1,15 @@
 -- What a step of a push is refused for.
-use Rattle.std.specs.Prelude.{◌≡◌, ⊤, ℕ, List, None, Contains, string_bytes}
+use Rattle.std.specs.Prelude.{⊤, ℕ, string_bytes}
 use Rattle.vc_files.specs.FileMap.{FileMap}
-use Rattle.vc_object.specs.declared.id.ObjectId.{ObjectId}
 use Rattle.vc_refs.specs.Refs.{IsBadRef}
 use Rattle.vc_refs.specs.declared.faults.RefFault.{RefFault}
 use Rattle.vc_refs.specs.declared.faults.RefFault.TheVariants as of_refs
-use Rattle.vc_store.specs.declared.faults.StoreFault.{StoreFault}
-use Rattle.vc_store.specs.declared.faults.StoreFault.TheVariants as of_store
-use Rattle.vc_session.specs.PushState.{IsDamagedSeen}
-use Rattle.vc_session.specs.Quarantine.{quarantined}
-use Rattle.vc_session.specs.Session.{SessionText}
-use Rattle.vc_session.specs.declared.stage.Stage.{Stage}
-use Rattle.vc_session.specs.declared.stage.Stage.TheVariants.{Unpacked, Checked, Migrated, Done}
+use Rattle.vc_object_map.specs.declared.faults.StoreFault.{StoreFault}
+use Rattle.vc_object_map.specs.declared.faults.StoreFault.TheVariants as of_store
+use Rattle.vc_quarantine.specs.Blames.{BlamesDamage, BlamesMigration}
+use Rattle.vc_push_rules.specs.Session.{SessionText}
+use Rattle.vc_push_rules.specs.declared.stage.Stage.{Stage}
+use Rattle.vc_push_rules.specs.declared.stage.Stage.TheVariants.{Unpacked, Checked, Migrated, Done}
 use Rattle.vc_session.specs.declared.fault.SessionFault.{SessionFault}
 use Rattle.vc_session.specs.declared.fault.SessionFault.TheVariants.{Store, Refs, Fault}
 
@@ -28,20 +26,6 @@ from_refs (of_refs.Conflict name) = Refs (of_refs.Conflict name)
 from_refs (of_refs.BadRefFile path) = Refs (of_refs.BadRefFile path)
 from_refs of_refs.HeadLoop = Refs of_refs.HeadLoop
 from_refs (of_refs.Fault fault) = Fault fault
-
--- an object's file is damaged, in the store or in the quarantine
-abbrev pub BlamesDamage : FileMap → ℕ → StoreFault → Type 0
-BlamesDamage content slot (of_store.BadObject fault) = ⊥
-BlamesDamage content slot (of_store.Absent id) = ⊥
-BlamesDamage content slot (of_store.Damaged id) = IsDamagedSeen content slot id
-BlamesDamage content slot (of_store.Fault fault) = ⊥
-
--- or one that is to be stored is gone from there
-abbrev pub BlamesMigration : FileMap → ℕ → List ObjectId → StoreFault → Type 0
-BlamesMigration content slot names (of_store.BadObject fault) = ⊥
-BlamesMigration content slot names (of_store.Absent id) = Contains names id × (quarantined content slot id ≡ None)
-BlamesMigration content slot names (of_store.Damaged id) = Contains names id × IsDamagedSeen content slot id
-BlamesMigration content slot names (of_store.Fault fault) = ⊤
 
 -- a file of the refs can't be read
 abbrev pub BlamesRefs : FileMap → RefFault → Type 0

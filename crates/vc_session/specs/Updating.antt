@@ -1,5 +1,5 @@
 -- What stands against an update: a reason that the push is told, or a fault of the node's own files.
-use Rattle.std.specs.Prelude.{◌≡◌, ◌⊎◌, ⊤, ℕ, List, Option, Some, None, Result, Ok, Err, IfOk, OnErr, string_bytes}
+use Rattle.std.specs.Prelude.{◌≡◌, ◌⊎◌, ⊤, ℕ, List, Option, Some, Result, Ok, Err, IfOk, OnErr, string_bytes}
 use Rattle.vc_files.specs.FileMap.{FileMap}
 use Rattle.vc_push.specs.Push.{CommandText}
 use Rattle.vc_push.specs.declared.reason.Reason.{Reason}
@@ -9,8 +9,8 @@ use Rattle.vc_refs.specs.Refs.{packed_path, refs, IsBadRef}
 use Rattle.vc_refs.specs.Obstacle.{IsFirstInTheWay}
 use Rattle.vc_refs.specs.declared.faults.RefFault.{RefFault}
 use Rattle.vc_refs.specs.declared.faults.RefFault.TheVariants.{Stale, Conflict, BadRefFile, HeadLoop, Fault}
-use Rattle.vc_session.specs.Clean.{MakesNoneBad}
-use Rattle.vc_session.specs.Verdict.{IsVerdictAtUpdate, refs_after}
+use Rattle.vc_quarantine.specs.Clean.{MakesNoneBad}
+use Rattle.vc_push_rules.specs.Verdict.{refs_after}
 
 -- a file of the refs that can't be read: the packed one, the first that stands in the ref's way, or its own
 abbrev pub BlamesUpdate : FileMap → List ℕ → RefFault → Type 0
@@ -27,10 +27,6 @@ reason_of (Conflict other) = Ok (Some reason.NameConflict)
 reason_of (BadRefFile path) = Err (BadRefFile path)
 reason_of HeadLoop = Err HeadLoop
 reason_of (Fault fault) = Err (Fault fault)
-
--- nothing is against it over the refs of these files
-abbrev pub PassesUpdate : FileMap → CommandText → Type 0
-PassesUpdate content c = IsVerdictAtUpdate (refs content) c None
 
 -- What an update does to the files: its ref is set where nothing is against it, all else stays, no file becomes bad, and an error
 -- changes nothing.

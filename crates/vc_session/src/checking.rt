@@ -3,24 +3,23 @@ ghost use Rattle.std.specs.Prelude.{◌≡◌, Some, None, true, false, ⊤, len
 ghost use Rattle.std.specs.List.{list_any};
 ghost use Rattle.vc_history.specs.Stored.{AgreesIn};
 ghost use Rattle.vc_files.specs.Failures.{Wears};
-ghost use Rattle.vc_graph.specs.GraphFault.{IsMet};
+ghost use Rattle.vc_object_map.specs.StoreFault.{IsMet};
 ghost use Rattle.vc_push.specs.PushView.{command_of, commands_of};
 ghost use Rattle.vc_session.specs.Judged.{ChecksEach, ChecksOne, ChecksPush, WhereNumbered};
-ghost use Rattle.vc_session.specs.Known.{AreWhole};
-ghost use Rattle.vc_session.specs.Session.{MayBeSetWhere, is_passing};
+ghost use Rattle.vc_quarantine.specs.Known.{AreWhole};
+ghost use Rattle.vc_push_rules.specs.Session.{MayBeSetWhere, is_passing};
 ghost use Rattle.vc_session.specs.SessionFault.{IsRefusedCheck};
-ghost use Rattle.vc_session.specs.Verdict.{MayBeSet};
+ghost use Rattle.vc_push_rules.specs.Verdict.{MayBeSet};
 
 use crate::fault::SessionFault;
 use crate::judging::judge;
-use crate::known::Known;
-use crate::seen::PushObjects;
-use crate::stage::Verdict;
 use std::alloc::Global;
 use vc_files::{Fault, Files};
-use vc_history::{Commits, Generations};
+use vc_history::Generations;
+use vc_object_map::{Commits, StoreFault};
 use vc_push::Command;
-use vc_store::StoreFault;
+use vc_push_rules::Verdict;
+use vc_quarantine::{Known, PushObjects};
 
 // What the check makes of the verdict on a command.
 fn checked<C: Commits>(

@@ -5,8 +5,8 @@ use std::alloc::AllocError;
 use std::error::Error;
 use std::fmt;
 use vc_files::Fault;
+use vc_object_map::StoreFault;
 use vc_refs::RefFault;
-use vc_store::StoreFault;
 
 /// Why a step of a push is not done: files of the node are at fault, or the device or memory is.
 #[derive(Debug, Drop)]

@@ -1,50 +1,28 @@
 //! The verdict on one command at the check.
-ghost use Rattle.std.specs.Prelude.{◌≡◌, true, None, IfOk, IfErr, IsErrOf};
+ghost use Rattle.std.specs.Prelude.{◌≡◌, None, IfOk, IfErr, IsErrOf};
 ghost use Rattle.vc_files.specs.Failures.{Wears};
-ghost use Rattle.vc_format.specs.Git.{git_is_legal};
-ghost use Rattle.vc_graph.specs.Graph.{IsClosedUnder};
+ghost use Rattle.vc_object_map.specs.Graph.{IsClosedUnder};
 ghost use Rattle.vc_object.specs.ObjectMap.{parents_in};
 ghost use Rattle.vc_push.specs.PushView.{command_of};
 ghost use Rattle.vc_session.specs.Judged.{Judges, JudgesHistory, MeetsBelow, MeetsInHistory};
-ghost use Rattle.vc_session.specs.Known.{AreWhole};
-ghost use Rattle.vc_session.specs.Verdict.{MayBeSet, is_branch, is_inside, own_reason};
+ghost use Rattle.vc_quarantine.specs.Known.{AreWhole};
+ghost use Rattle.vc_push_rules.specs.Verdict.{MayBeSet, is_inside, own_reason};
 
-use crate::known::Known;
 use indexmap::IndexSet;
 use std::alloc::Global;
 use vc_files::Fault;
 use vc_graph::is_complete_beyond;
-use vc_history::{Commits, Generations, HistoryFault, is_ancestor, is_history_beyond};
+use vc_history::{Generations, HistoryFault, is_ancestor, is_history_beyond};
 use vc_object::ObjectId;
+use vc_object_map::{Commits, StoreFault};
 use vc_push::{Command, Reason};
-use vc_refname::{MAX_BRANCH, RefName};
-use vc_store::StoreFault;
-
-// Whether it names a branch.
-fn is_branch(name: &[u8]) -> bool
-    ensures { result ≡ is_branch name.now }
-{
-    name.starts_with(b"refs/heads/")
-}
+use vc_quarantine::{Known, is_branch, is_legal};
 
 // Whether it names a branch or a tag.
 fn is_inside(name: &[u8]) -> bool
     ensures { result ≡ is_inside name.now }
 {
     is_branch(name) || name.starts_with(b"refs/tags/")
-}
-
-/// Whether a ref of the shared repository may have the name: UTF-8, no rule broken, and short enough to be tracked.
-pub fn is_legal(name: &[u8]) -> bool
-    ensures { result ≡ git_is_legal name.now }
-{
-    let Ok(text) = str::from_utf8(name) else {
-        return false;
-    };
-    if RefName::check(text).is_err() {
-        return false;
-    }
-    !is_branch(name) || name.len() <= MAX_BRANCH
 }
 
 // The first reason that the command alone gives: 100, 101 or 102.

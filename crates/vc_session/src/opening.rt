@@ -3,18 +3,18 @@ ghost use Rattle.std.specs.Prelude.{◌≡◌, map, IfOk, IsErrOf};
 ghost use Rattle.vc_files.specs.FileMap.{SameOutside};
 ghost use Rattle.vc_files.specs.Failures.{Writes};
 ghost use Rattle.vc_pkt.specs.ObjectStreamView.{carried};
-ghost use Rattle.vc_session.specs.Carrying.{Carries, objects_in};
-ghost use Rattle.vc_session.specs.Clean.{MakesNoneBad};
-ghost use Rattle.vc_session.specs.Quarantine.{IsDropped, quarantine_folder};
-ghost use Rattle.vc_session.specs.Session.{fresh};
+ghost use Rattle.vc_push_rules.specs.Carrying.{Carries, objects_in};
+ghost use Rattle.vc_quarantine.specs.Clean.{MakesNoneBad};
+ghost use Rattle.vc_push_rules.specs.Quarantine.{IsDropped, quarantine_folder};
+ghost use Rattle.vc_push_rules.specs.Session.{fresh};
 
-use crate::quarantine::put_in_quarantine;
-use crate::stage::Verdict;
 use std::alloc::{AllocError, Global};
 use vc_files::{Fault, Files};
 use vc_object::{ObjectFault, ObjectId, check};
 use vc_pkt::CarriedObjects;
 use vc_push::{Command, Reason};
+use vc_push_rules::Verdict;
+use vc_quarantine::put_in_quarantine;
 
 /// The verdict on each command of a push as it is opened.
 pub(crate) fn fresh(

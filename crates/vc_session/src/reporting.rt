@@ -3,13 +3,13 @@ ghost use Rattle.std.specs.Prelude.{◌≡◌, false, length, IfOk, option_map};
 ghost use Rattle.std.specs.List.{list_any};
 ghost use Rattle.vc_push.specs.PushView.{command_of, commands_of};
 ghost use Rattle.vc_push.specs.ReportView.{report_text, told_of};
-ghost use Rattle.vc_session.specs.Session.{is_passing};
-ghost use Rattle.vc_session.specs.Steps.{Tells, TellsAll, unpack_of};
+ghost use Rattle.vc_push_rules.specs.Session.{is_passing};
+ghost use Rattle.vc_push_rules.specs.Steps.{Tells, TellsAll, unpack_of};
 
-use crate::stage::Verdict;
 use std::alloc::{AllocError, Global};
 use vc_object::ObjectFault;
 use vc_push::{Command, Reason, Report, Told};
+use vc_push_rules::Verdict;
 
 // What is told of a command. One that is not judged, of which a finished push has none, is told as stale.
 fn told(alloc: Global, command: &Command, verdict: Verdict) -> Result<Told, AllocError>

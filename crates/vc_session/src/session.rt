@@ -6,24 +6,21 @@ ghost use Rattle.vc_files.specs.Failures.{Wears, Writes};
 ghost use Rattle.vc_object.specs.declared.fault.ObjectFault.{ObjectFault as Refusal};
 ghost use Rattle.vc_push.specs.Push.{Carried, FaultOf};
 ghost use Rattle.vc_push.specs.PushView.{commands_of, push_text};
-ghost use Rattle.vc_session.specs.Arrival.{HasCome};
-ghost use Rattle.vc_session.specs.Carrying.{Carries, HoldsNames, objects_of_push};
-ghost use Rattle.vc_session.specs.Clean.{IsQuarantineClean, MakesNoneBad};
+ghost use Rattle.vc_quarantine.specs.Arrival.{HasCome};
+ghost use Rattle.vc_push_rules.specs.Carrying.{Carries, HoldsNames, objects_of_push};
+ghost use Rattle.vc_quarantine.specs.Clean.{IsQuarantineClean, MakesNoneBad};
 ghost use Rattle.vc_session.specs.Learning.{Learns};
-ghost use Rattle.vc_session.specs.Quarantine.{quarantine_folder};
-ghost use Rattle.vc_session.specs.Session.{IsSession, stage_while};
+ghost use Rattle.vc_push_rules.specs.Quarantine.{quarantine_folder};
+ghost use Rattle.vc_push_rules.specs.Session.{IsSession, stage_while};
 ghost use Rattle.vc_session.specs.SessionFault.{IsRefusedStep};
-ghost use Rattle.vc_session.specs.Steps.{EndsEarly, IsOpened, MayWrite, SparesFiles, Steps, StepsHeld, TakesStep, TellsReport};
+ghost use Rattle.vc_push_rules.specs.Steps.{EndsEarly, IsOpened, MayWrite, Steps, TellsReport};
+ghost use Rattle.vc_session.specs.Stepping.{SparesFiles, StepsHeld, TakesStep};
 
-use crate::arrival::Arriving;
 use crate::checking::{check_in_files, count_passing, next_passing};
 use crate::fault::SessionFault;
-use crate::learning::{add_tips, learn_all};
-use crate::migrating::migrate;
 use crate::opening::{fresh, put_all};
-use crate::quarantine::drop_quarantine;
 use crate::reporting::report;
-use crate::stage::{Stage, Stepped, Verdict};
+use crate::tips::add_tips;
 use crate::updating::update;
 use std::alloc::{AllocError, Global};
 use std::marker::Model;
@@ -31,6 +28,8 @@ use vc_files::{Fault, Files};
 use vc_history::Generations;
 use vc_object::{ObjectFault, ObjectId};
 use vc_push::{Command, Push};
+use vc_push_rules::{Stage, Stepped, Verdict};
+use vc_quarantine::{Arriving, drop_quarantine, learn_all, migrate};
 
 /// One open push: its commands and what became of them, and how far it has come. What it carries stands in the quarantine
 /// of its slot. It keeps neither the store nor the refs: both are handed to it, as files, at each step, so that other
@@ -50,7 +49,7 @@ pub struct PushSession {
 
 impl Model for PushSession {
     ghost use Rattle.vc_push.specs.PushView.{commands_of};
-    ghost use Rattle.vc_session.specs.Session.{IsSession, SessionText};
+    ghost use Rattle.vc_push_rules.specs.Session.{IsSession, SessionText};
 
     ghost Value = { SessionText };
 

@@ -7,8 +7,9 @@ ghost use Rattle.vc_refname.specs.RefName.{is_ref_name};
 ghost use Rattle.vc_refs.specs.RefFault.{BlamesRef, MaySet, TellsDevice};
 ghost use Rattle.vc_refs.specs.RefMap.{IsInRefs};
 ghost use Rattle.vc_refs.specs.Refs.{refs};
-ghost use Rattle.vc_session.specs.Updating.{BlamesUpdate, PassesUpdate, UpdatesRef, reason_of};
-ghost use Rattle.vc_session.specs.Verdict.{IsVerdictAtUpdate, MayBeSet, expected, is_tag};
+ghost use Rattle.vc_session.specs.Updating.{BlamesUpdate, UpdatesRef, reason_of};
+ghost use Rattle.vc_push_rules.specs.Steps.{PassesUpdate};
+ghost use Rattle.vc_push_rules.specs.Verdict.{IsVerdictAtUpdate, MayBeSet, expected, is_tag};
 
 use std::alloc::{AllocError, Global};
 use vc_files::Files;

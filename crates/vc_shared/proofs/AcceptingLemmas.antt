@@ -26,9 +26,9 @@ use Rattle.vc_pkt.specs.declared.fault.PktError.{PktError}
 use Rattle.vc_pkt.specs.declared.fault.PktError.TheVariants as pkt
 use Rattle.vc_pkt.specs.declared.fault.PktFault.{PktFault}
 use Rattle.vc_rules.specs.Git.{git}
-use Rattle.vc_session.specs.Session.{SessionText}
+use Rattle.vc_push_rules.specs.Session.{SessionText}
 use Rattle.vc_push.specs.Push.{PushText}
-use Rattle.vc_session.specs.Clean.{MakesNoneBad}
+use Rattle.vc_quarantine.specs.Clean.{MakesNoneBad}
 use Rattle.vc_shared.proofs.CallLemmas.{Leads, asked_leads, fault_leads, refused_leads}
 use Rattle.vc_shared.proofs.PushingLemmas.{push_answers}
 use Rattle.vc_shared.proofs.ServingLaws.{list_answers, want_answers}

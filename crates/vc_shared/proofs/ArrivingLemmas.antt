@@ -11,8 +11,8 @@ use Rattle.vc_message.specs.Incoming.{Fails}
 use Rattle.vc_message.specs.declared.incoming_fault.IncomingFault.{IncomingFault}
 use Rattle.vc_message.specs.declared.incoming_fault.IncomingFault.TheVariants as incoming
 use Rattle.vc_local.proofs.FaultLemmas.{refusal_calm, writes_by}
-use Rattle.vc_session.specs.Quarantine.{IsDropped, quarantine_folder}
-use Rattle.vc_session.specs.Session.{SessionText}
+use Rattle.vc_push_rules.specs.Quarantine.{IsDropped, quarantine_folder}
+use Rattle.vc_push_rules.specs.Session.{SessionText}
 use Rattle.vc_shared.proofs.PushingLemmas.{one_lowest}
 use Rattle.vc_shared.specs.AcceptFault.{IsOfDevice, TellsDevice, is_fault, of_incoming}
 use Rattle.vc_message.specs.Coming.{TakesPart}

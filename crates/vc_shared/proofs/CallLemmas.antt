@@ -16,9 +16,9 @@ use Rattle.vc_model.specs.SharedCall.SharedCall.{Asks, Open}
 use Rattle.vc_local.specs.Clean.{IsClean, KeepsClean}
 use Rattle.vc_local.specs.Machine.{Spells}
 use Rattle.vc_local.specs.Shown.{shown}
-use Rattle.vc_rules.proofs.GitLaws.{git_rules}
+use Rattle.vc_values.proofs.GitLaws.{git_rules}
 use Rattle.vc_rules.specs.Git.{git}
-use Rattle.vc_session.specs.Session.{SessionText}
+use Rattle.vc_push_rules.specs.Session.{SessionText}
 use Rattle.vc_shared.specs.Calls.{AnswersShared}
 use Rattle.vc_shared.specs.Faults.{IsOfDevice}
 use Rattle.vc_shared.specs.Holding.{HoldsShared}

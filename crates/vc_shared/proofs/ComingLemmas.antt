@@ -24,9 +24,9 @@ use Rattle.vc_pkt.proofs.Written.{line_written}
 use Rattle.vc_pkt.specs.Line.{flush, spelling}
 use Rattle.vc_push.specs.Push.{CommandText, PushText}
 use Rattle.vc_rules.proofs.OpenPushLaws.{content_beside}
-use Rattle.vc_session.specs.Clean.{MakesNoneBad}
-use Rattle.vc_session.specs.Quarantine.{IsDropped, quarantine_folder}
-use Rattle.vc_session.specs.Session.{SessionText}
+use Rattle.vc_quarantine.specs.Clean.{MakesNoneBad}
+use Rattle.vc_push_rules.specs.Quarantine.{IsDropped, quarantine_folder}
+use Rattle.vc_push_rules.specs.Session.{SessionText}
 use Rattle.vc_shared.proofs.AcceptingLemmas.{faulted_answers, unread_answers}
 use Rattle.vc_shared.proofs.HoldingLemmas.{beside_slot}
 use Rattle.vc_local.proofs.BesideLemmas.{clean_on, held_content, spells_on}

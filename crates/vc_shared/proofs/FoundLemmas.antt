@@ -14,12 +14,12 @@ use Rattle.vc_local.specs.Told.{FoundAs}
 use Rattle.vc_local.specs.Values.{is_rev_fault, rev_answer}
 use Rattle.vc_repository.specs.Resolving.{IsOfExpr}
 use Rattle.vc_object.specs.declared.id.ObjectId.{ObjectId}
-use Rattle.vc_rev.specs.Grammar.{ExprText, IsExpr}
+use Rattle.vc_expression.specs.Grammar.{ExprText, IsExpr}
 use Rattle.vc_rev.specs.declared.refusal.RevFault.{RevFault}
 use Rattle.vc_rev.specs.declared.refusal.RevFault.TheVariants.{Missing, NotACommit, Refused, Source}
 use Rattle.vc_rev.specs.declared.refusal.SourceFault.TheVariants.{Store}
-use Rattle.vc_session.specs.Session.{SessionText}
-use Rattle.vc_store.specs.declared.faults.StoreFault.TheVariants as store
+use Rattle.vc_push_rules.specs.Session.{SessionText}
+use Rattle.vc_object_map.specs.declared.faults.StoreFault.TheVariants as store
 use Rattle.vc_shared.proofs.ResolvingLemmas.{values_answer}
 use Rattle.vc_shared.specs.Calls.{AnswersShared}
 use Rattle.vc_shared.specs.Faults.{IsOfDevice, fault_answer, is_fault, of_rev}

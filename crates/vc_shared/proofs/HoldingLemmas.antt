@@ -13,15 +13,15 @@ use Rattle.vc_local.proofs.BesideLemmas.{SameBeside, beside_by}
 use Rattle.vc_refs.specs.Head.{KeepsOutside, KeepsTheRest, head_of}
 use Rattle.vc_refs.specs.Refs.{packed_path}
 use Rattle.vc_rules.proofs.OpenPushLaws.{others_stay}
-use Rattle.vc_session.specs.Clean.{MakesNoneBad}
-use Rattle.vc_session.proofs.CleanLemmas.{bad_same}
-use Rattle.vc_session.proofs.FrameLemmas.{other_slot}
-use Rattle.vc_session.proofs.NumberLemmas.{agreement_same}
-use Rattle.vc_session.specs.Quarantine.{IsDropped, quarantine_folder}
-use Rattle.vc_session.specs.Session.{SessionText}
-use Rattle.vc_session.specs.Steps.{Steps}
-use Rattle.vc_session.specs.declared.stage.Stepped.{Stepped as SessionStep}
-use Rattle.vc_session.specs.declared.stage.Stepped.TheVariants as session
+use Rattle.vc_quarantine.specs.Clean.{MakesNoneBad}
+use Rattle.vc_quarantine.proofs.CleanLemmas.{bad_same}
+use Rattle.vc_push_rules.proofs.FrameLemmas.{other_slot}
+use Rattle.vc_quarantine.proofs.NumberLemmas.{agreement_same}
+use Rattle.vc_push_rules.specs.Quarantine.{IsDropped, quarantine_folder}
+use Rattle.vc_push_rules.specs.Session.{SessionText}
+use Rattle.vc_push_rules.specs.Steps.{Steps}
+use Rattle.vc_push_rules.specs.declared.stage.Stepped.{Stepped as SessionStep}
+use Rattle.vc_push_rules.specs.declared.stage.Stepped.TheVariants as session
 use Rattle.vc_shared.specs.Holding.{HoldsSlot, KeepsGood}
 use Rattle.vc_shared.specs.Slots.{slot_of}
 

@@ -4,9 +4,9 @@ use Rattle.std.proofs.lemmas.List.Elements.{Contains-append_left, Contains-appen
 use Rattle.vc_object.specs.declared.id.ObjectId.{ObjectId}
 use Rattle.vc_push.specs.Push.{CommandText}
 use Rattle.vc_session.specs.Learning.{LearnsAt, tip_of, tips_of}
-use Rattle.vc_session.specs.declared.stage.Stage.{Stage}
-use Rattle.vc_session.specs.declared.stage.Verdict.{Verdict}
-use Rattle.vc_session.specs.declared.stage.Verdict.TheVariants.{Accepted}
+use Rattle.vc_push_rules.specs.declared.stage.Stage.{Stage}
+use Rattle.vc_push_rules.specs.declared.stage.Verdict.{Verdict}
+use Rattle.vc_push_rules.specs.declared.stage.Verdict.TheVariants.{Accepted}
 use Rattle.vc_shared.specs.Laws.{DueIsLearnt, SetIsDue}
 
 set_first : (c d : CommandText) (v : Verdict) → Some d ≡ Some c → Some v ≡ Some Accepted → Contains (tip_of d v) c.new

@@ -11,7 +11,7 @@ use Rattle.vc_local.proofs.EmptyingLemmas.{empty_slot, openable_kept, opened_emp
 use Rattle.vc_local.proofs.OpeningLaws.{made_ready}
 use Rattle.vc_local.specs.Emptying.{IsOpened}
 use Rattle.vc_local.specs.Opening.{IsOpenable}
-use Rattle.vc_session.specs.Session.{SessionText}
+use Rattle.vc_push_rules.specs.Session.{SessionText}
 use Rattle.vc_shared.specs.Holding.{HoldsShared, HoldsSlot}
 use Rattle.vc_shared.specs.Slots.{free_slots, slot_of}
 

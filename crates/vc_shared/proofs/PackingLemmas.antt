@@ -23,10 +23,10 @@ use Rattle.vc_refs.specs.Head.{KeepsOutside}
 use Rattle.vc_refs.specs.Refs.{refs}
 use Rattle.vc_refs.specs.declared.faults.RefFault.TheVariants as ref
 use Rattle.vc_rules.proofs.OpenPushLaws.{push_kept}
-use Rattle.vc_session.proofs.QuarantineLemmas.{same_at}
-use Rattle.vc_session.specs.Quarantine.{quarantine_path, quarantined}
-use Rattle.vc_session.specs.Session.{SessionText}
-use Rattle.vc_store.specs.Store.{stored_in}
+use Rattle.vc_push_rules.proofs.QuarantineLemmas.{same_at}
+use Rattle.vc_push_rules.specs.Quarantine.{quarantine_path, quarantined}
+use Rattle.vc_push_rules.specs.Session.{SessionText}
+use Rattle.vc_object_map.specs.Store.{stored_in}
 use Rattle.vc_shared.proofs.CallLemmas.{asked_leads, fault_leads}
 use Rattle.vc_shared.proofs.HoldingLemmas.{beyond_refs, dropped_on}
 use Rattle.vc_shared.proofs.SteppingLaws.{pushes_of}

@@ -28,11 +28,11 @@ use Rattle.vc_rules.proofs.OpenPushLaws.{content_beside, opens_agree, push_kept}
 use Rattle.vc_rules.specs.Git.{git}
 use Rattle.vc_rules.specs.OpenPushes.{HoldsPush}
 use Rattle.vc_rules.specs.Verdicts.{machine_command}
-use Rattle.vc_session.proofs.FrameLemmas.{other_slot, quarantined-of_slot}
-use Rattle.vc_session.specs.Clean.{MakesNoneBad}
-use Rattle.vc_session.specs.Quarantine.{IsDropped, quarantine_folder}
-use Rattle.vc_session.specs.Session.{SessionText}
-use Rattle.vc_session.specs.Steps.{fault_number}
+use Rattle.vc_push_rules.proofs.FrameLemmas.{other_slot, quarantined-of_slot}
+use Rattle.vc_quarantine.specs.Clean.{MakesNoneBad}
+use Rattle.vc_push_rules.specs.Quarantine.{IsDropped, quarantine_folder}
+use Rattle.vc_push_rules.specs.Session.{SessionText}
+use Rattle.vc_push_rules.specs.Steps.{fault_number}
 use Rattle.vc_shared.proofs.HoldingLemmas.{beside_slot, slot_other, slot_set}
 use Rattle.vc_local.proofs.BesideLemmas.{clean_on, held_content, spells_on}
 use Rattle.vc_shared.proofs.CallLemmas.{Leads, fault_leads, refused_leads}

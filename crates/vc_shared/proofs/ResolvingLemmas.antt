@@ -23,9 +23,9 @@ use Rattle.vc_rev.specs.Value.{refusal_number}
 use Rattle.vc_rev.specs.declared.refusal.RevFault.{RevFault}
 use Rattle.vc_rev.specs.declared.refusal.RevFault.TheVariants.{Missing, NotACommit, Refused, Source}
 use Rattle.vc_rev.specs.declared.refusal.SourceFault.TheVariants.{BadIndex, BadRefFile, HeadLoop, Store}
-use Rattle.vc_rules.specs.Values.{DenotesAt}
-use Rattle.vc_session.specs.Session.{SessionText}
-use Rattle.vc_store.specs.declared.faults.StoreFault.TheVariants as store
+use Rattle.vc_values.specs.Values.{DenotesAt}
+use Rattle.vc_push_rules.specs.Session.{SessionText}
+use Rattle.vc_object_map.specs.declared.faults.StoreFault.TheVariants as store
 use Rattle.vc_shared.proofs.CallLemmas.{Leads, asked_leads, fault_leads}
 use Rattle.vc_shared.proofs.SteppingLaws.{down_answers, pushes_of}
 use Rattle.vc_shared.specs.Holding.{HoldsShared}

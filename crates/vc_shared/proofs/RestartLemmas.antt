@@ -22,8 +22,8 @@ use Rattle.vc_local.specs.Shown.{Shown}
 use Rattle.vc_local.specs.Told.{RestartedAs}
 use Rattle.vc_local.specs.declared.fault.NodeFault.{NodeFault}
 use Rattle.vc_refs.specs.Refs.{packed_path}
-use Rattle.vc_session.proofs.CleanLemmas.{bad_loses}
-use Rattle.vc_session.specs.Session.{SessionText}
+use Rattle.vc_quarantine.proofs.CleanLemmas.{bad_loses}
+use Rattle.vc_push_rules.specs.Session.{SessionText}
 use Rattle.vc_shared.proofs.OpeningLemmas.{held_opened}
 use Rattle.vc_shared.specs.Calls.{AnswersShared}
 use Rattle.vc_shared.specs.Holding.{HoldsShared}

@@ -33,7 +33,7 @@ use Rattle.vc_local.specs.Machine.{failure_of}
 use Rattle.vc_object.specs.declared.id.ObjectId.{ObjectId}
 use Rattle.vc_pkt.specs.Message.{IsSpelledBy}
 use Rattle.vc_rules.specs.Git.{git}
-use Rattle.vc_session.specs.Session.{SessionText}
+use Rattle.vc_push_rules.specs.Session.{SessionText}
 use Rattle.vc_shared.proofs.CallLemmas.{Leads, fault_leads, refused_leads}
 use Rattle.vc_shared.proofs.ServingFaults.{no_blame}
 use Rattle.vc_shared.proofs.ServingPacks.{brought, machine_first, machine_pack, machine_sent, machine_wants, not_ours, ours_there, written_pack}
@@ -44,7 +44,7 @@ use Rattle.vc_shared.specs.Faults.{fault_answer, of_answer, of_device, up_after}
 use Rattle.vc_shared.specs.Holding.{HoldsShared}
 use Rattle.vc_shared.specs.Serving.{IsAnswered, IsListed, IsRefusedList, ListAnswers, RefusesList, RefusesWant, WantAnswers, reply_of}
 use Rattle.vc_shared.specs.declared.fault.SharedFault.{SharedFault}
-use Rattle.vc_store.specs.declared.faults.StoreFault.TheVariants as store
+use Rattle.vc_object_map.specs.declared.faults.StoreFault.TheVariants as store
 
 abbrev machine_want : WantText → Message
 machine_want want = Want (map bytes_of_id want.wants) (map bytes_of_id want.haves)

@@ -11,8 +11,8 @@ use Rattle.vc_fetch.specs.Want.{AreIdLines, SpellsWant, WantText}
 use Rattle.vc_fetch.proofs.Packs.{ok_object}
 use Rattle.vc_files.specs.FileMap.{FileMap}
 use Rattle.vc_format.specs.Git.{bytes_of_id, id_of_bytes}
-use Rattle.vc_graph.specs.Graph as graph
-use Rattle.vc_graph.specs.Graph.Reaches.{itself}
+use Rattle.vc_object_map.specs.Graph as graph
+use Rattle.vc_object_map.specs.Graph.Reaches.{itself}
 use Rattle.vc_message.proofs.MachineObjects.{some_once}
 use Rattle.vc_message.proofs.MachineTexts.{all_in}
 use Rattle.vc_message.specs.Machine.{IsPack}
@@ -43,7 +43,7 @@ use Rattle.vc_rules.proofs.SoundLemmas.{objects_sound}
 use Rattle.vc_rules.specs.Git.{git, stored_of}
 use Rattle.vc_shared.proofs.PushingTexts.{read_id}
 use Rattle.vc_shared.specs.Serving.{IsPackFor}
-use Rattle.vc_store.specs.Store.{objects}
+use Rattle.vc_object_map.specs.Store.{objects}
 
 -- ---- ids of a want that was read
 have_ids : (word : List ℕ) (ids : List ObjectId) (lines : List LineText) → AreIdLines word ids lines → AllByRecursion IsId ids

@@ -44,7 +44,7 @@ use Rattle.vc_refs.specs.declared.heads.Head.TheVariants as head
 use Rattle.vc_refs.proofs.LayeredLemmas.{ref_legal, ref_whole}
 use Rattle.vc_refs.proofs.PackedLaws.{id_in-valid}
 use Rattle.vc_refs.proofs.PackedLemmas.{find_below}
-use Rattle.vc_session.proofs.BreakLemmas.{no_break}
+use Rattle.vc_push_rules.proofs.BreakLemmas.{no_break}
 use Rattle.vc_shared.specs.Serving.{TellsRefs}
 
 -- ---- refs that are set one after another

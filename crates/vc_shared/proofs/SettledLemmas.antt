@@ -7,8 +7,8 @@ use Rattle.vc_files.specs.Failures.{Wears, Writes}
 use Rattle.vc_model.specs.SharedCall.{SharedCall}
 use Rattle.vc_local.specs.Clean.{KeepsClean}
 use Rattle.vc_local.specs.declared.fault.NodeFault.TheVariants.{Down}
-use Rattle.vc_session.specs.Clean.{MakesNoneBad}
-use Rattle.vc_session.specs.Session.{SessionText}
+use Rattle.vc_quarantine.specs.Clean.{MakesNoneBad}
+use Rattle.vc_push_rules.specs.Session.{SessionText}
 use Rattle.vc_local.proofs.BesideLemmas.{clean_by}
 use Rattle.vc_shared.specs.Accepting.{AnswersUp}
 use Rattle.vc_shared.specs.Calls.{AcceptedAs, AnswersShared}

@@ -6,10 +6,10 @@ use Rattle.std.proofs.lemmas.List.Elements.{All-get_or, All-set}
 use Rattle.std.proofs.lemmas.Option.{slice_get_past, unwrap_or-slice_get}
 use Rattle.vc_files.specs.FileMap.{FileMap}
 use Rattle.vc_message.proofs.Totals.{less_or}
-use Rattle.vc_session.specs.Session.{SessionText}
-use Rattle.vc_session.specs.Steps.{EndsEarly, Steps}
-use Rattle.vc_session.specs.declared.stage.Stepped.{Stepped as SessionStep}
-use Rattle.vc_session.specs.declared.stage.Stepped.TheVariants as session
+use Rattle.vc_push_rules.specs.Session.{SessionText}
+use Rattle.vc_push_rules.specs.Steps.{EndsEarly, Steps}
+use Rattle.vc_push_rules.specs.declared.stage.Stepped.{Stepped as SessionStep}
+use Rattle.vc_push_rules.specs.declared.stage.Stepped.TheVariants as session
 use Rattle.vc_shared.specs.Faults.{is_fault}
 use Rattle.vc_shared.specs.Slots.{AreTellable, AreToldInOne, IsSlotTellable, slot_of}
 use Rattle.vc_shared.specs.Stepping.{IsEnd, IsHeldThere, StepsPush, StepsSlot, left_in}

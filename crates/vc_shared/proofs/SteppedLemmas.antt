@@ -30,12 +30,12 @@ use Rattle.vc_push.specs.ReportView.{report_text}
 use Rattle.vc_rules.proofs.OpenPushLaws.{steps_agree}
 use Rattle.vc_rules.specs.OpenPushes.{AreToldAs, HoldsContent, HoldsPush, IsPushStep, IsPushEnd, StepsAs}
 use Rattle.vc_rules.specs.Verdicts.{machine_reason}
-use Rattle.vc_session.specs.Clean.{IsQuarantineClean, MakesNoneBad}
-use Rattle.vc_session.specs.Quarantine.{IsDropped}
-use Rattle.vc_session.specs.Session.{IsSession, SessionText}
-use Rattle.vc_session.specs.Steps.{IsReport, Steps, fault_number}
-use Rattle.vc_session.specs.declared.stage.Stepped.{Stepped as SessionStep}
-use Rattle.vc_session.specs.declared.stage.Stepped.TheVariants as session
+use Rattle.vc_quarantine.specs.Clean.{IsQuarantineClean, MakesNoneBad}
+use Rattle.vc_push_rules.specs.Quarantine.{IsDropped}
+use Rattle.vc_push_rules.specs.Session.{IsSession, SessionText}
+use Rattle.vc_push_rules.specs.Steps.{IsReport, Steps, fault_number}
+use Rattle.vc_push_rules.specs.declared.stage.Stepped.{Stepped as SessionStep}
+use Rattle.vc_push_rules.specs.declared.stage.Stepped.TheVariants as session
 use Rattle.vc_shared.proofs.CallLemmas.{Leads}
 use Rattle.vc_shared.proofs.HoldingLemmas.{slot_set, slot_other, slot_stays, steps_beside}
 use Rattle.vc_local.proofs.BesideLemmas.{clean_on, held_content, spells_on}

@@ -27,18 +27,18 @@ use Rattle.vc_refs.specs.declared.faults.RefFault.TheVariants as ref
 use Rattle.vc_rules.proofs.OpenPushLaws.{early_agree}
 use Rattle.vc_rules.specs.Git.{git}
 use Rattle.vc_rules.specs.OpenPushes.{EndsEarlyAs, HoldsContent, HoldsPush, IsStop, machine_stage}
-use Rattle.vc_session.specs.Carrying.{HoldsNames}
-use Rattle.vc_session.specs.Clean.{IsQuarantineClean, MakesNoneBad}
-use Rattle.vc_session.specs.PushState.{IsDamagedSeen}
-use Rattle.vc_session.specs.Quarantine.{quarantined}
-use Rattle.vc_session.specs.Session.{SessionText}
+use Rattle.vc_push_rules.specs.Carrying.{HoldsNames}
+use Rattle.vc_quarantine.specs.Clean.{IsQuarantineClean, MakesNoneBad}
+use Rattle.vc_quarantine.specs.PushState.{IsDamagedSeen}
+use Rattle.vc_push_rules.specs.Quarantine.{quarantined}
+use Rattle.vc_push_rules.specs.Session.{SessionText}
 use Rattle.vc_session.specs.SessionFault.{IsRefusedStep}
-use Rattle.vc_session.specs.Steps.{EndsEarly, IsReport}
+use Rattle.vc_push_rules.specs.Steps.{EndsEarly, IsReport}
 use Rattle.vc_session.specs.declared.fault.SessionFault.{SessionFault}
 use Rattle.vc_session.specs.declared.fault.SessionFault.TheVariants as refusal
-use Rattle.vc_session.specs.declared.stage.Stage.{Stage}
-use Rattle.vc_session.specs.declared.stage.Stage.TheVariants as stages
-use Rattle.vc_store.specs.declared.faults.StoreFault.TheVariants as store
+use Rattle.vc_push_rules.specs.declared.stage.Stage.{Stage}
+use Rattle.vc_push_rules.specs.declared.stage.Stage.TheVariants as stages
+use Rattle.vc_object_map.specs.declared.faults.StoreFault.TheVariants as store
 use Rattle.vc_shared.proofs.CallLemmas.{Leads, fault_leads, refused_leads}
 use Rattle.vc_shared.proofs.HoldingLemmas.{beside_objects, beside_same, beside_slot}
 use Rattle.vc_local.proofs.BesideLemmas.{SameBeside, clean_on, held_content, spells_on}

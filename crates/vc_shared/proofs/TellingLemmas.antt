@@ -14,12 +14,12 @@ use Rattle.vc_push.specs.ReportView.{report_text, told_of}
 use Rattle.vc_push.specs.declared.reason.Reason.{Reason}
 use Rattle.vc_push.specs.declared.reason.Reason.TheVariants as reason
 use Rattle.vc_push.specs.declared.report.Told.{Told}
-use Rattle.vc_session.specs.Session.{SessionText}
-use Rattle.vc_session.specs.Steps.{IsReport, Tells, TellsAll, TellsReport, fault_number, unpack_of}
-use Rattle.vc_session.specs.declared.stage.Stepped.{Stepped as SessionStep}
-use Rattle.vc_session.specs.declared.stage.Stepped.TheVariants as session
-use Rattle.vc_session.specs.declared.stage.Verdict.{Verdict}
-use Rattle.vc_session.specs.declared.stage.Verdict.TheVariants.{Passing, Accepted, Refused}
+use Rattle.vc_push_rules.specs.Session.{SessionText}
+use Rattle.vc_push_rules.specs.Steps.{IsReport, Tells, TellsAll, TellsReport, fault_number, unpack_of}
+use Rattle.vc_push_rules.specs.declared.stage.Stepped.{Stepped as SessionStep}
+use Rattle.vc_push_rules.specs.declared.stage.Stepped.TheVariants as session
+use Rattle.vc_push_rules.specs.declared.stage.Verdict.{Verdict}
+use Rattle.vc_push_rules.specs.declared.stage.Verdict.TheVariants.{Passing, Accepted, Refused}
 use Rattle.vc_shared.specs.Slots.{AreToldInOne, IsTellable}
 use Rattle.vc_shared.specs.Stepping.{HasShortReport}
 

@@ -8,7 +8,7 @@ use Rattle.vc_model.specs.Message.Message.{Push}
 use Rattle.vc_model.specs.SharedCall.{SharedCall}
 use Rattle.vc_pkt.specs.Message.{FirstFault, IsSpelledBy}
 use Rattle.vc_pkt.specs.declared.fault.PktFault.{PktFault}
-use Rattle.vc_session.specs.Session.{SessionText}
+use Rattle.vc_push_rules.specs.Session.{SessionText}
 use Rattle.vc_shared.specs.Calls.{AcceptedAs, AnswersShared}
 use Rattle.vc_shared.specs.Faults.{of_device, up_after}
 use Rattle.vc_shared.specs.Pushing.{IsRefusedPush}

@@ -23,10 +23,10 @@ use Rattle.vc_object.specs.declared.fault.ObjectFault.{ObjectFault}
 use Rattle.vc_pkt.specs.ObjectStream.{between}
 use Rattle.vc_pkt.specs.declared.fault.PktFault.{PktFault}
 use Rattle.vc_push.specs.Push.{CommandText, FaultOf, PushText}
-use Rattle.vc_session.specs.Carrying.{Carries, objects_of_push}
-use Rattle.vc_session.specs.Quarantine.{IsDropped}
-use Rattle.vc_session.specs.Session.{SessionText}
-use Rattle.vc_session.specs.Steps.{IsOpened}
+use Rattle.vc_push_rules.specs.Carrying.{Carries, objects_of_push}
+use Rattle.vc_push_rules.specs.Quarantine.{IsDropped}
+use Rattle.vc_push_rules.specs.Session.{SessionText}
+use Rattle.vc_push_rules.specs.Steps.{IsOpened}
 use Rattle.vc_shared.specs.AcceptFault.{is_fault, up_after}
 use Rattle.vc_shared.specs.Accepting.{IsRefusedMessage}
 use Rattle.vc_shared.specs.Calls.{AcceptedAs, AnswersShared}

@@ -11,10 +11,10 @@ use Rattle.vc_model.specs.Node.Reply.{MigratedAll, Opened, Passed, Updated as Up
 use Rattle.vc_model.specs.Repository.{IsBare, IsSound}
 use Rattle.vc_model.specs.Shared.{SharedNode, slot_count}
 use Rattle.vc_model.specs.SharedCall.{SharedAnswers, SharedCall}
-use Rattle.vc_rules.proofs.GitLaws.{git_rules}
+use Rattle.vc_values.proofs.GitLaws.{git_rules}
 use Rattle.vc_rules.specs.Git.{git}
 use Rattle.vc_rules.specs.Verdicts.{machine_reason}
-use Rattle.vc_session.specs.Session.{SessionText}
+use Rattle.vc_push_rules.specs.Session.{SessionText}
 use Rattle.vc_shared.specs.Faults.{fault_answer}
 use Rattle.vc_shared.specs.Holding.{HoldsShared}
 use Rattle.vc_shared.specs.declared.accepting.Accepted.{Accepted}

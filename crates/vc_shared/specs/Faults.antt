@@ -17,7 +17,7 @@ use Rattle.vc_rev.specs.declared.refusal.RevFault.{RevFault}
 use Rattle.vc_rev.specs.declared.refusal.RevFault.TheVariants as revs
 use Rattle.vc_session.specs.declared.fault.SessionFault.{SessionFault}
 use Rattle.vc_session.specs.declared.fault.SessionFault.TheVariants as session
-use Rattle.vc_store.specs.declared.faults.StoreFault.TheVariants as store
+use Rattle.vc_object_map.specs.declared.faults.StoreFault.TheVariants as store
 use Rattle.vc_shared.specs.declared.fault.SharedFault.{SharedFault}
 use Rattle.vc_shared.specs.declared.fault.SharedFault.TheVariants.{Busy, NoSuchSlot, NoValue, Node, NotOurs, Unexpected, Unread}
 

@@ -9,10 +9,10 @@ use Rattle.vc_local.specs.Clean.{IsClean}
 use Rattle.vc_local.specs.Machine.{Spells}
 use Rattle.vc_local.specs.Shown.{shown}
 use Rattle.vc_rules.specs.OpenPushes.{HoldsPush}
-use Rattle.vc_session.specs.Clean.{IsQuarantineClean, MakesNoneBad}
-use Rattle.vc_session.specs.Learning.{Learnt}
-use Rattle.vc_session.specs.Quarantine.{IsDropped}
-use Rattle.vc_session.specs.Session.{SessionText}
+use Rattle.vc_quarantine.specs.Clean.{IsQuarantineClean, MakesNoneBad}
+use Rattle.vc_quarantine.specs.Learning.{Learnt}
+use Rattle.vc_push_rules.specs.Quarantine.{IsDropped}
+use Rattle.vc_push_rules.specs.Session.{SessionText}
 use Rattle.vc_shared.specs.Slots.{slot_of}
 
 -- what a shared node is made of

@@ -9,11 +9,11 @@ use Rattle.vc_local.specs.Opening.{IsOpenable}
 use Rattle.vc_local.specs.declared.fault.NodeFault.TheVariants.{Down}
 use Rattle.vc_object.specs.declared.id.ObjectId.{ObjectId}
 use Rattle.vc_push.specs.Push.{CommandText}
-use Rattle.vc_session.specs.Clean.{MakesNoneBad}
-use Rattle.vc_session.specs.Learning.{IsOfWhole, Learnt}
-use Rattle.vc_session.specs.Session.{SessionText}
-use Rattle.vc_session.specs.declared.stage.Stage.TheVariants.{Done, Unpacked}
-use Rattle.vc_session.specs.declared.stage.Verdict.TheVariants.{Accepted}
+use Rattle.vc_quarantine.specs.Clean.{MakesNoneBad}
+use Rattle.vc_quarantine.specs.Learning.{IsOfWhole, Learnt}
+use Rattle.vc_push_rules.specs.Session.{SessionText}
+use Rattle.vc_push_rules.specs.declared.stage.Stage.TheVariants.{Done, Unpacked}
+use Rattle.vc_push_rules.specs.declared.stage.Verdict.TheVariants.{Accepted}
 use Rattle.vc_shared.specs.Calls.{AnswersShared, SteppedAs}
 use Rattle.vc_shared.specs.Faults.{is_fault, up_after}
 use Rattle.vc_shared.specs.Holding.{HoldsShared}

@@ -6,8 +6,8 @@ use Rattle.vc_model.specs.Node.{Answer}
 use Rattle.std.specs.FinMap.{empty}
 use Rattle.vc_model.specs.Repository.{Repository}
 use Rattle.vc_model.specs.SharedCall.{SharedCall}
-use Rattle.vc_session.specs.Learning.{IsNothing}
-use Rattle.vc_session.specs.Session.{SessionText}
+use Rattle.vc_quarantine.specs.Learning.{IsNothing}
+use Rattle.vc_push_rules.specs.Session.{SessionText}
 use Rattle.vc_shared.specs.Arriving.{AcceptsFrom, AnswersKnown, KeepsHeld}
 use Rattle.vc_shared.specs.Calls.{AnswersShared}
 use Rattle.vc_shared.specs.Holding.{HoldsShared, SharedText}

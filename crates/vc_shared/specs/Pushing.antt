@@ -11,11 +11,11 @@ use Rattle.vc_model.specs.Shared.{slot_count}
 use Rattle.vc_object.specs.declared.fault.ObjectFault.{ObjectFault}
 use Rattle.vc_pkt.specs.Message.{IsSpelledBy}
 use Rattle.vc_push.specs.Push.{CommandText, FaultOf, PushText, max_commands}
-use Rattle.vc_session.specs.Carrying.{Carries, objects_of_push}
-use Rattle.vc_session.specs.Clean.{IsQuarantineClean, MakesNoneBad}
-use Rattle.vc_session.specs.Quarantine.{quarantine_folder}
-use Rattle.vc_session.specs.Session.{IsSession, SessionText}
-use Rattle.vc_session.specs.Steps.{IsOpened}
+use Rattle.vc_push_rules.specs.Carrying.{Carries, objects_of_push}
+use Rattle.vc_quarantine.specs.Clean.{IsQuarantineClean, MakesNoneBad}
+use Rattle.vc_push_rules.specs.Quarantine.{quarantine_folder}
+use Rattle.vc_push_rules.specs.Session.{IsSession, SessionText}
+use Rattle.vc_push_rules.specs.Steps.{IsOpened}
 use Rattle.vc_shared.specs.Calls.{AcceptedAs, AnswersShared}
 use Rattle.vc_shared.specs.Faults.{of_device, up_after}
 use Rattle.vc_shared.specs.Slots.{IsTellable, slot_of}

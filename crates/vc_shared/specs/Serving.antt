@@ -23,13 +23,13 @@ use Rattle.vc_pkt.specs.Line.{spelling}
 use Rattle.vc_pkt.specs.Message.{IsSpelledBy}
 use Rattle.vc_refs.specs.Head.{head_of, head_value}
 use Rattle.vc_refs.specs.Refs.{refs}
-use Rattle.vc_session.specs.Session.{SessionText}
+use Rattle.vc_push_rules.specs.Session.{SessionText}
 use Rattle.vc_shared.specs.Calls.{AcceptedAs, AnswersShared}
 use Rattle.vc_shared.specs.Faults.{of_answer, up_after}
 use Rattle.vc_shared.specs.declared.accepting.Accepted.{Accepted}
 use Rattle.vc_shared.specs.declared.accepting.Accepted.TheVariants.{Reply}
 use Rattle.vc_shared.specs.declared.fault.SharedFault.{SharedFault}
-use Rattle.vc_store.specs.Store.{objects}
+use Rattle.vc_object_map.specs.Store.{objects}
 
 -- ---- a list
 -- what HEAD leads to is told, and each ref

@@ -4,7 +4,7 @@ use Rattle.std.specs.List.{All}
 use Rattle.vc_fetch.specs.Advert.{IsName}
 use Rattle.vc_object.specs.Lines.{IsId}
 use Rattle.vc_push.specs.Push.{CommandText, max_commands}
-use Rattle.vc_session.specs.Session.{SessionText}
+use Rattle.vc_push_rules.specs.Session.{SessionText}
 
 -- the push in a slot
 abbrev pub slot_of : List (Option SessionText) → ℕ → Option SessionText

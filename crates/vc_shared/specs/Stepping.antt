@@ -6,15 +6,15 @@ use Rattle.vc_history.specs.Stored.{AgreesIn}
 use Rattle.vc_pkt.specs.Line.{spelling}
 use Rattle.vc_push.specs.Report.{IsShortTold, IsShortUnpack, report_lines}
 use Rattle.vc_push.specs.ReportView.{bytes_of, report_text, told_of}
-use Rattle.vc_session.specs.Carrying.{HoldsNames}
-use Rattle.vc_session.specs.Clean.{MakesNoneBad}
-use Rattle.vc_session.specs.Learning.{Learnt}
-use Rattle.vc_session.specs.Session.{IsSession, SessionText}
+use Rattle.vc_push_rules.specs.Carrying.{HoldsNames}
+use Rattle.vc_quarantine.specs.Clean.{MakesNoneBad}
+use Rattle.vc_quarantine.specs.Learning.{Learnt}
+use Rattle.vc_push_rules.specs.Session.{IsSession, SessionText}
 use Rattle.vc_session.specs.SessionFault.{IsRefusedStep}
-use Rattle.vc_session.specs.Steps.{EndsEarly, MayWrite, Steps}
+use Rattle.vc_push_rules.specs.Steps.{EndsEarly, MayWrite, Steps}
 use Rattle.vc_session.specs.declared.fault.SessionFault.{SessionFault}
-use Rattle.vc_session.specs.declared.stage.Stepped.{Stepped as SessionStep}
-use Rattle.vc_session.specs.declared.stage.Stepped.TheVariants as session
+use Rattle.vc_push_rules.specs.declared.stage.Stepped.{Stepped as SessionStep}
+use Rattle.vc_push_rules.specs.declared.stage.Stepped.TheVariants as session
 use Rattle.vc_shared.specs.Faults.{of_session}
 use Rattle.vc_shared.specs.Learning.{LearnsIn}
 use Rattle.vc_shared.specs.Slots.{slot_of}

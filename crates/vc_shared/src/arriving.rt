@@ -4,9 +4,9 @@ ghost use Rattle.vc_files.specs.FileMap.{SameOutside};
 ghost use Rattle.vc_files.specs.Failures.{Writes};
 ghost use Rattle.vc_message.specs.Source.{TellsFailures};
 ghost use Rattle.vc_push.specs.PushView.{commands_of};
-ghost use Rattle.vc_session.specs.Clean.{IsQuarantineClean, MakesNoneBad};
-ghost use Rattle.vc_session.specs.Quarantine.{quarantine_folder};
-ghost use Rattle.vc_session.specs.Session.{IsSession};
+ghost use Rattle.vc_quarantine.specs.Clean.{IsQuarantineClean, MakesNoneBad};
+ghost use Rattle.vc_push_rules.specs.Quarantine.{quarantine_folder};
+ghost use Rattle.vc_push_rules.specs.Session.{IsSession};
 ghost use Rattle.vc_shared.specs.AcceptFault.{TellsDevice};
 ghost use Rattle.vc_shared.specs.Arriving.{AcceptsUp, ArrivesIn, FromHead, IsCleared, IsStopped, KeepsAtLoss, KeepsHeld, OpensIn, RefusesPush, down_told, message_told, slot_told};
 ghost use Rattle.vc_shared.specs.Holding.{KeepsGood};
@@ -25,7 +25,8 @@ use vc_message::{
     Head, IncomingFault, Source, Taken, next_object, read_head, skip_pack, skip_push,
 };
 use vc_push::Command;
-use vc_session::{Arriving, PushSession, drop_quarantine};
+use vc_quarantine::{Arriving, drop_quarantine};
+use vc_session::PushSession;
 
 // The push that comes into this slot, once all of it has come. Where it doesn't, some of what it carries may be left in the slot's
 // quarantine. After a body at fault the rest is read, and nothing is put there.

@@ -13,9 +13,9 @@ ghost use Rattle.vc_local.specs.Opening.{IsOpenable, OpenableAs};
 ghost use Rattle.vc_local.specs.Told.{FoundAs, RestartedAs};
 ghost use Rattle.vc_refs.specs.Packing.{HasLoose, IsPackedFrom};
 ghost use Rattle.vc_repository.specs.Resolving.{DenotesIn};
-ghost use Rattle.vc_rev.specs.Grammar.{IsExpr};
-ghost use Rattle.vc_rev.specs.Views.{expr_view};
-ghost use Rattle.vc_session.specs.Learning.{IsNothing};
+ghost use Rattle.vc_expression.specs.Grammar.{IsExpr};
+ghost use Rattle.vc_expression.specs.Views.{expr_view};
+ghost use Rattle.vc_quarantine.specs.Learning.{IsNothing};
 ghost use Rattle.vc_shared.specs.AcceptFault.{TellsDevice as TellsAcceptDevice, is_fault as is_accept_fault, up_after as accept_up_after};
 ghost use Rattle.vc_shared.specs.Accepting.{IsRefusedBytes, IsToWrite};
 ghost use Rattle.vc_shared.specs.Arriving.{KeepsAtLoss};
@@ -30,12 +30,12 @@ use crate::arriving::refuse_down;
 use crate::{AcceptFault, Accepted, SharedFault, Stepped, accepting, arriving, stepping};
 use std::alloc::Global;
 use std::marker::Model;
+use vc_expression::Expr;
 use vc_files::{Files, FusedFiles};
 use vc_history::Generations;
 use vc_local::{NodeFault, open_files};
 use vc_message::{Source, skip_message};
 use vc_object::ObjectId;
-use vc_rev::Expr;
 use vc_session::PushSession;
 
 /// The shared node over files: one bare repository, the pushes that are open in its eight slots, and what it has learnt of the
@@ -57,7 +57,7 @@ impl<F: Files> Model for Shared<F> {
     ghost use Rattle.std.specs.Coded.{codes};
     ghost use Rattle.vc_history.specs.Stored.{AgreesIn};
     ghost use Rattle.vc_history.specs.contracts.generations.Generations as known;
-    ghost use Rattle.vc_session.specs.Learning.{learnt_in};
+    ghost use Rattle.vc_quarantine.specs.Learning.{learnt_in};
     ghost use Rattle.vc_shared.specs.Holding.{SharedText};
     ghost use Rattle.vc_shared.specs.Slots.{AreTellable};
 

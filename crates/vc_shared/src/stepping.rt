@@ -2,7 +2,7 @@
 ghost use Rattle.std.specs.Prelude.{◌≡◌, ◌<◌, IfOk, IfErr, OnErr, Err, None, Some, false, length, slice_set};
 ghost use Rattle.vc_history.specs.Stored.{AgreesIn};
 ghost use Rattle.vc_files.specs.Failures.{Wears, Writes};
-ghost use Rattle.vc_session.specs.Learning.{learnt_in};
+ghost use Rattle.vc_quarantine.specs.Learning.{learnt_in};
 ghost use Rattle.vc_shared.specs.Faults.{TellsDevice, is_fault, up_after};
 ghost use Rattle.vc_shared.specs.Slots.{AreTellable, AreToldInOne, slot_of};
 ghost use Rattle.vc_shared.specs.Stepping.{EndsSlotEarly, HasShortReport, IsEnd, IsHeldThere, IsRefusedIn, MayStepOr, StepsPush, StepsSlot, StepsWell, Tells, left_in};
@@ -13,7 +13,8 @@ use vc_files::Files;
 use vc_history::Generations;
 use vc_object::ObjectId;
 use vc_push::Reason;
-use vc_session::{PushSession, SessionFault, Stepped as SessionStep};
+use vc_push_rules::Stepped as SessionStep;
+use vc_session::{PushSession, SessionFault};
 
 /// What a step did.
 #[derive(Drop)]

@@ -42,8 +42,8 @@ use Rattle.vc_local.specs.Machine.{Answers, AnswersIfSound, HoldsNode, live_of}
 use Rattle.vc_local.specs.Told.{FoundAs}
 use Rattle.vc_node.specs.declared.clone_fault.CloneFault.{CloneFault}
 use Rattle.vc_object.specs.declared.id.ObjectId.{ObjectId}
-use Rattle.vc_rev.specs.Faults.{IsBadAt}
-use Rattle.vc_rules.proofs.GitLaws.{git_rules}
+use Rattle.vc_expression.specs.Faults.{IsBadAt}
+use Rattle.vc_values.proofs.GitLaws.{git_rules}
 use Rattle.vc_rules.specs.Git.{git}
 use Rattle.vc_events.proofs.RunLemmas.{take_whole}
 use Rattle.vc_rules.specs.Told.{Quietly}

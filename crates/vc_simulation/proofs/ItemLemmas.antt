@@ -21,7 +21,7 @@ use Rattle.vc_model.specs.Repository.{IsSound, Repository}
 use Rattle.vc_model.proofs.Commits.{contains_first}
 use Rattle.vc_object.specs.declared.id.ObjectId.{ObjectId}
 use Rattle.vc_push.specs.Push.{zero_id}
-use Rattle.vc_rules.proofs.GitLaws.{git_rules}
+use Rattle.vc_values.proofs.GitLaws.{git_rules}
 use Rattle.vc_rules.specs.Git.{git}
 use Rattle.vc_simulation.specs.Values.{AreNotPushed, ArePushed, HasZero, IsItemFor, IsNoItem}
 

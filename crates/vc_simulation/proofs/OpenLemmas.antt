@@ -29,9 +29,9 @@ use Rattle.vc_refs.specs.declared.faults.RefFault.TheVariants as ref
 use Rattle.vc_shared.specs.Holding.{HoldsShared, SharedText}
 use Rattle.vc_simulation.proofs.SteadyLemmas.{StaysSteady, written_steady}
 use Rattle.vc_simulation.specs.Nodes.{HoldsClone, HoldsServed, IsSteady, IsWantOfMemory, opened_shared}
-use Rattle.vc_store.specs.StoreFault.{IsFault as IsStoreFault}
-use Rattle.vc_store.specs.declared.faults.StoreFault.{StoreFault}
-use Rattle.vc_store.specs.declared.faults.StoreFault.TheVariants as store
+use Rattle.vc_object_map.specs.StoreFault.{IsFault as IsStoreFault}
+use Rattle.vc_object_map.specs.declared.faults.StoreFault.{StoreFault}
+use Rattle.vc_object_map.specs.declared.faults.StoreFault.TheVariants as store
 
 pub in_ok : {T E : Type 0} (P : T → Type 0) (r : Result T E) (x : T) → r ≡ Ok x → IfOk r P → P x
 in_ok {T} {E} P r x is holds = subst (λ (r : Result T E). IfOk r P) is holds

@@ -28,8 +28,8 @@ use Rattle.vc_model.specs.SharedCall.{SharedAnswers, SharedCall}
 use Rattle.vc_model.specs.SharedCall.SharedCall.{Asks, Open, StepOf}
 use Rattle.vc_model.specs.SharedCall.SharedAnswers.{asked, down, faulted, obeyed, opened, pruned, refused}
 use Rattle.vc_object.specs.declared.id.ObjectId.{ObjectId}
-use Rattle.vc_rev.specs.Faults.{IsBadAt}
-use Rattle.vc_rules.proofs.GitLaws.{git_rules}
+use Rattle.vc_expression.specs.Faults.{IsBadAt}
+use Rattle.vc_values.proofs.GitLaws.{git_rules}
 use Rattle.vc_rules.specs.Git.{git}
 use Rattle.vc_local.specs.Told.{FoundAs}
 use Rattle.vc_shared.specs.Calls.{AnswersShared}

@@ -15,7 +15,7 @@ use Rattle.vc_model.specs.Object.{Id}
 use Rattle.vc_model.specs.Question.{found}
 use Rattle.vc_model.specs.Repository.{Repository}
 use Rattle.vc_object.specs.declared.id.ObjectId.{ObjectId}
-use Rattle.vc_rules.proofs.GitLaws.{git_rules}
+use Rattle.vc_values.proofs.GitLaws.{git_rules}
 use Rattle.vc_simulation.specs.Values.{IsNoValue, IsValue}
 
 -- a value that is found is one

@@ -8,7 +8,7 @@ use Rattle.vc_events.specs.declared.world.World.{World}
 use Rattle.vc_files.specs.Failures.{unstopped}
 use Rattle.vc_files.specs.FileMap.{FileMap}
 use Rattle.vc_files.specs.Fused.{Fused, FusedCanFail, fused_left}
-use Rattle.vc_message.proofs.Readings.{message_wire}
+use Rattle.vc_wire.proofs.WireLaws.{message_wire}
 use Rattle.vc_model.specs.Clone.{CloneNode}
 use Rattle.vc_model.specs.Exact.{IsUnfused, Shadows}
 use Rattle.vc_model.specs.ExactWorld.{ExactHistory, ExactRun, FusedWorld, fused_after}

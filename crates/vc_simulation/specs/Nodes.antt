@@ -19,7 +19,7 @@ use Rattle.vc_local.specs.declared.fault.NodeFault.{NodeFault}
 use Rattle.vc_local.specs.declared.fault.NodeFault.TheVariants.{Ref, Store}
 use Rattle.vc_refs.specs.declared.faults.RefFault.TheVariants as ref
 use Rattle.vc_shared.specs.Holding.{HoldsShared, SharedText}
-use Rattle.vc_store.specs.declared.faults.StoreFault.TheVariants as store
+use Rattle.vc_object_map.specs.declared.faults.StoreFault.TheVariants as store
 
 -- the device can't fail, and no stop is set
 pub record IsSteady {F : Type 0} (can_fail : F → Type 0) (left : F → Option ℕ) (files : F) : Type 0 where

@@ -21,7 +21,7 @@ use Rattle.vc_model.specs.Shared.{SharedNode}
 use Rattle.vc_node.specs.Held.{Held}
 use Rattle.vc_object.specs.declared.id.ObjectId.{ObjectId}
 use Rattle.vc_push.specs.Push.{zero_id}
-use Rattle.vc_rules.proofs.GitLaws.{git_rules}
+use Rattle.vc_values.proofs.GitLaws.{git_rules}
 use Rattle.vc_rules.specs.Git.{git}
 use Rattle.vc_simulation.specs.Nodes.{HoldsClone}
 

@@ -12,8 +12,8 @@ use std::alloc::Global;
 use vc_events::{Answer, Event, World};
 use vc_files::{Fault, FusedFiles, MemoryFiles};
 use vc_local::NodeFault;
+use vc_object_map::StoreFault;
 use vc_refs::RefFault;
-use vc_store::StoreFault;
 
 /// Files in memory, for which a stop could be set.
 pub type MemoryDevice = FusedFiles<MemoryFiles>;

@@ -22,6 +22,7 @@ use crate::ends::{
 use std::alloc::Global;
 use vc_events::{CloneCalls, Deed, Ended, NamedItem, Order, Told};
 use vc_exchange::PushItem;
+use vc_expression::{ParseFault, parse};
 use vc_files::{Fault, Files};
 use vc_local::NodeFault;
 use vc_node::CloneNode;
@@ -29,7 +30,6 @@ use vc_object::{Kind, Mode, ObjectId};
 use vc_push::MAX_COMMANDS;
 use vc_refname::RefName;
 use vc_refs::Head;
-use vc_rev::{ParseFault, parse};
 
 /// A clone of a world.
 #[derive(Drop)]

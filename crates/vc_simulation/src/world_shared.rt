@@ -15,10 +15,10 @@ ghost use Rattle.vc_simulation.specs.Values.{FindsShared, IsValue};
 use crate::ends::{DOWN, NO_EXPRESSION, accepted, restarted, shared_value, stepped};
 use std::alloc::Global;
 use vc_events::{Deed, Ended, SharedCalls, Told};
+use vc_expression::{ParseFault, parse};
 use vc_files::{Fault, Files};
 use vc_local::NodeFault;
 use vc_object::ObjectId;
-use vc_rev::{ParseFault, parse};
 use vc_shared::Shared;
 
 /// The first number that is none of a slot.

@@ -27,9 +27,9 @@ use Rattle.std.proofs.lemmas.List.{map_more}
 use Rattle.std.proofs.lemmas.List.Elements.{filter_map-append}
 use Rattle.std.specs.List.{cons_option}
 use Rattle.vc_object.specs.declared.id.ObjectId.{ObjectId}
-use Rattle.vc_store.specs.declared.faults.StoreFault.{StoreFault}
-use Rattle.vc_store.specs.declared.faults.StoreFault.TheVariants.{Damaged}
-use Rattle.vc_store.specs.Store.{object_path, name_in, stored, stored_in, named, objects, IsDamaged, HasFile, stored_names, has_digits, lower_case, prefix_path}
+use Rattle.vc_object_map.specs.declared.faults.StoreFault.{StoreFault}
+use Rattle.vc_object_map.specs.declared.faults.StoreFault.TheVariants.{Damaged}
+use Rattle.vc_object_map.specs.Store.{object_path, name_in, stored, stored_in, named, objects, IsDamaged, HasFile, stored_names, has_digits, lower_case, prefix_path}
 use Rattle.vc_store.proofs.PathLemmas.{name_in-some, name_in-object_path, slice_cmp-object_path, starts_with-object_path, has_digits-hex}
 
 one_more : (all : List (String Global)) (i : ℕ) (path : String Global) → i < length all → path ≡ get_or all i path

@@ -21,7 +21,7 @@ use Rattle.vc_lemmas.proofs.Texts.{bytes_eq_same}
 use Rattle.vc_object.proofs.IdLemmas.{is_id-from_array}
 use Rattle.vc_object.specs.ObjectId.{is_name, is_id}
 use Rattle.vc_object.specs.declared.id.ObjectId.{ObjectId}
-use Rattle.vc_store.specs.Store.{object_path, name_in, digits_in, prefix_path, has_digits}
+use Rattle.vc_object_map.specs.Store.{object_path, name_in, digits_in, prefix_path, has_digits}
 
 -- ---- what stands at a path
 

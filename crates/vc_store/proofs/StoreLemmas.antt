@@ -19,9 +19,9 @@ use Rattle.vc_object.specs.declared.id.ObjectId.{ObjectId}
 use Rattle.vc_object.specs.declared.kind.Kind.{Kind}
 use Rattle.vc_object.proofs.Decoding.{decoded_again}
 use Rattle.vc_object.proofs.IdLemmas.{byte_below, id_eq-same}
-use Rattle.vc_store.specs.declared.faults.StoreFault.{StoreFault}
-use Rattle.vc_store.specs.declared.faults.StoreFault.TheVariants.{Absent, Damaged}
-use Rattle.vc_store.specs.Store.{object_path, stored, stored_in, named, objects, with_object, with_file}
+use Rattle.vc_object_map.specs.declared.faults.StoreFault.{StoreFault}
+use Rattle.vc_object_map.specs.declared.faults.StoreFault.TheVariants.{Absent, Damaged}
+use Rattle.vc_object_map.specs.Store.{object_path, stored, stored_in, named, objects, with_object, with_file}
 
 ok_inside : Result (List ℕ) FromHexError → List ℕ
 ok_inside (Ok a) = a

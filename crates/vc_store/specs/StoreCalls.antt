@@ -10,11 +10,11 @@ use Rattle.vc_object.specs.ObjectId.{IsSortedByName}
 use Rattle.vc_object.specs.declared.fault.ObjectFault.{ObjectFault}
 use Rattle.vc_object.specs.declared.id.ObjectId.{ObjectId}
 use Rattle.vc_object.specs.declared.kind.Kind.{Kind}
-use Rattle.vc_store.specs.Store.{stored, IsAbsent, IsDamaged, HasFile, has_digits, stored_names, with_file, with_object}
-use Rattle.vc_store.specs.Store as store
-use Rattle.vc_store.specs.StoreFault.{IsFault, IsOfDamage, IsOfPut, IsRefused}
-use Rattle.vc_store.specs.declared.faults.StoreFault.{StoreFault}
-use Rattle.vc_store.specs.declared.faults.StoreFault.TheVariants.{BadObject, Absent, Damaged}
+use Rattle.vc_object_map.specs.Store.{stored, IsAbsent, IsDamaged, HasFile, has_digits, stored_names, with_file, with_object}
+use Rattle.vc_object_map.specs.Store as store
+use Rattle.vc_object_map.specs.StoreFault.{IsFault, IsOfDamage, IsOfPut, IsRefused}
+use Rattle.vc_object_map.specs.declared.faults.StoreFault.{StoreFault}
+use Rattle.vc_object_map.specs.declared.faults.StoreFault.TheVariants.{BadObject, Absent, Damaged}
 use Rattle.vc_store.specs.declared.stored.Stored.{Stored}
 
 -- The object with this name, or why there is none: 11 where no file stands in its place, 12 where the file is no object with the

@@ -4,15 +4,14 @@
 //! digits of its name, `/` and the other 38 digits. A store is a view of files: all that it knows is in them.
 #![tactic(auto)]
 
-mod faults;
 mod listing;
 mod paths;
 mod reading;
+mod source;
 mod stored;
 mod view;
 mod writing;
 
-pub use faults::StoreFault;
 pub use listing::{by_prefix, names};
 pub use reading::{find, find_named, get, has, object_from};
 pub use stored::Stored;

@@ -2,15 +2,15 @@
 ghost use Rattle.std.specs.Prelude.{◌≡◌, IfOk, IfErr, IsErrOf, filter_map};
 ghost use Rattle.vc_files.specs.FileMap.{paths_under};
 ghost use Rattle.vc_files.specs.Failures.{Wears};
-ghost use Rattle.vc_store.specs.Store.{name_in};
+ghost use Rattle.vc_object_map.specs.Store.{name_in};
 ghost use Rattle.vc_store.specs.StoreCalls.{Lists, ListsPrefix};
-ghost use Rattle.vc_store.specs.StoreFault.{IsFault};
+ghost use Rattle.vc_object_map.specs.StoreFault.{IsFault};
 
-use crate::StoreFault;
 use crate::paths::{name_in, prefix_path};
 use std::alloc::Global;
 use vc_files::{Fault, Files};
 use vc_object::ObjectId;
+use vc_object_map::StoreFault;
 
 // The names in whose places files stand, of the paths that begin so.
 fn names_under<F: Files>(

@@ -1,6 +1,6 @@
 // Where the files of objects stand.
 ghost use Rattle.std.specs.Prelude.{◌≡◌, IfOk, option_map, length, string_bytes};
-ghost use Rattle.vc_store.specs.Store.{object_path, digits_in, name_in, lower_case, prefix_path};
+ghost use Rattle.vc_object_map.specs.Store.{object_path, digits_in, name_in, lower_case, prefix_path};
 
 use std::alloc::{AllocError, Global};
 use vc_object::ObjectId;

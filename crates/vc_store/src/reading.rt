@@ -4,15 +4,16 @@ ghost use Rattle.vc_files.specs.Failures.{Wears};
 ghost use Rattle.vc_object.specs.Decoding.{stored_object};
 ghost use Rattle.vc_object.specs.Object.{object_bytes, object_name};
 ghost use Rattle.vc_object.specs.ObjectId.{is_id};
-ghost use Rattle.vc_store.specs.Store.{stored, stored_in};
+ghost use Rattle.vc_object_map.specs.Store.{stored, stored_in};
 ghost use Rattle.vc_store.specs.StoreCalls.{Finds, Gets, TellsStored};
-ghost use Rattle.vc_store.specs.StoreFault.{IsFault, IsOfName};
+ghost use Rattle.vc_object_map.specs.StoreFault.{IsFault, IsOfName};
 
+use crate::Stored;
 use crate::paths::object_path;
-use crate::{StoreFault, Stored};
 use std::alloc::Global;
 use vc_files::{Fault, Files};
 use vc_object::{Object, ObjectId};
+use vc_object_map::StoreFault;
 
 // The object that the bytes of a file give to the name: 12 where they are none, or one of another name.
 fn object_in<'a>(id: &ObjectId, bytes: &'a [u8]) -> Result<Object<'a>, StoreFault>

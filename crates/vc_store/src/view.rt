@@ -3,12 +3,13 @@ ghost use Rattle.std.specs.Prelude.{◌≡◌, ◌⊎◌, IfErr, IsErrOf};
 ghost use Rattle.vc_files.specs.Failures.{Wears, Writes};
 ghost use Rattle.vc_object.specs.Object.{IsObject};
 ghost use Rattle.vc_store.specs.StoreCalls.{AnswersPut, Finds, Gets, Lists, ListsPrefix, Puts, TellsStored};
-ghost use Rattle.vc_store.specs.StoreFault.{IsFault, IsOfName};
+ghost use Rattle.vc_object_map.specs.StoreFault.{IsFault, IsOfName};
 
-use crate::{StoreFault, Stored, listing, reading, writing};
+use crate::{Stored, listing, reading, writing};
 use std::alloc::Global;
 use vc_files::{Fault, Files};
 use vc_object::{Kind, ObjectFault, ObjectId};
+use vc_object_map::StoreFault;
 
 /// A view of files as objects by name. It holds nothing of its own: each method is the function of the same name
 /// on the files that are lent to it.

@@ -4,16 +4,16 @@ ghost use Rattle.vc_files.specs.FileMap.{SameOutside};
 ghost use Rattle.vc_files.specs.Failures.{Wears, Writes};
 ghost use Rattle.vc_object.specs.Decoding.{stored_object};
 ghost use Rattle.vc_object.specs.Object.{object_name, IsObject};
-ghost use Rattle.vc_store.specs.Store.{IsDamaged, objects, with_object, with_file};
+ghost use Rattle.vc_object_map.specs.Store.{IsDamaged, objects, with_object, with_file};
 ghost use Rattle.vc_store.specs.StoreCalls.{AnswersPut, Puts};
-ghost use Rattle.vc_store.specs.StoreFault.{IsFault, IsOfDamage};
+ghost use Rattle.vc_object_map.specs.StoreFault.{IsFault, IsOfDamage};
 
-use crate::StoreFault;
 use crate::paths::object_path;
 use crate::reading::has;
 use std::alloc::Global;
 use vc_files::{Fault, Files};
 use vc_object::{Kind, Object, ObjectFault, ObjectId};
+use vc_object_map::StoreFault;
 
 /// Stores an object whose own name is known, as [`put`] does: nothing is checked or named again. Who names it answers for the
 /// name.

@@ -31,12 +31,12 @@ use Rattle.vc_object.specs.declared.fault.ObjectFault.{ObjectFault}
 use Rattle.vc_object.specs.declared.mode.Mode.{Mode}
 use Rattle.vc_object.specs.declared.id.ObjectId.{ObjectId}
 use Rattle.vc_object.specs.declared.kind.Kind.TheVariants.{Blob}
-use Rattle.vc_rules.specs.Faults.{object_number}
+use Rattle.vc_values.specs.Faults.{object_number}
 use Rattle.vc_rules.specs.Git.{git}
-use Rattle.vc_rules.proofs.GitLaws.{git_rules}
+use Rattle.vc_values.proofs.GitLaws.{git_rules}
 use Rattle.vc_rules.proofs.MapLemmas.{get-put}
-use Rattle.vc_store.specs.Store.{objects, with_object as store_object, with_objects as store_objects}
-use Rattle.vc_store.specs.declared.faults.StoreFault.TheVariants as store
+use Rattle.vc_object_map.specs.Store.{objects, with_object as store_object, with_objects as store_objects}
+use Rattle.vc_object_map.specs.declared.faults.StoreFault.TheVariants as store
 use Rattle.vc_local.specs.Blames.{BlamesWrite}
 use Rattle.vc_local.specs.Clean.{StoresOnly}
 use Rattle.vc_local.specs.Machine.{AnswersShown}

@@ -17,10 +17,10 @@ use Rattle.vc_model.specs.Repository.{Repository}
 use Rattle.vc_object.specs.Object.{object_name}
 use Rattle.vc_object.specs.declared.kind.Kind.TheVariants.{Blob}
 use Rattle.vc_object.specs.declared.mode.Mode.{Mode}
-use Rattle.vc_rules.specs.Faults.{object_number}
+use Rattle.vc_values.specs.Faults.{object_number}
 use Rattle.vc_rules.specs.Git.{git}
-use Rattle.vc_rules.proofs.GitLaws.{git_rules}
-use Rattle.vc_store.specs.declared.faults.StoreFault.TheVariants as store
+use Rattle.vc_values.proofs.GitLaws.{git_rules}
+use Rattle.vc_object_map.specs.declared.faults.StoreFault.TheVariants as store
 use Rattle.vc_local.specs.IndexFile.{BlamesIndex, SpellsIndex}
 use Rattle.vc_node.specs.Stored.{KeepsStored}
 use Rattle.vc_local.specs.Machine.{live_of}

@@ -5,8 +5,8 @@ use Rattle.std.specs.FinMap.{get}
 use Rattle.vc_files.specs.FileMap.{FileMap}
 use Rattle.vc_object.specs.ObjectMap.{ObjectMap}
 use Rattle.vc_object.specs.declared.id.ObjectId.{ObjectId}
-use Rattle.vc_store.specs.Store.{objects}
-use Rattle.vc_store.specs.declared.faults.StoreFault.TheVariants as stores
+use Rattle.vc_object_map.specs.Store.{objects}
+use Rattle.vc_object_map.specs.declared.faults.StoreFault.TheVariants as stores
 use Rattle.vc_index.specs.IndexMap.{IndexMap}
 use Rattle.vc_index.specs.Loading.{IsOfList}
 use Rattle.vc_index.specs.TreeReading.{ListsAs, TreeFault, tree_fault}

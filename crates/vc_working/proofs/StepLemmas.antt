@@ -23,9 +23,9 @@ use Rattle.vc_local.specs.Shown.{shown}
 use Rattle.vc_local.specs.declared.fault.NodeFault.{NodeFault}
 use Rattle.vc_object.specs.declared.id.ObjectId.{ObjectId}
 use Rattle.vc_refname.specs.RefName.{IsRefName}
-use Rattle.vc_store.specs.Store.{IsDamaged}
-use Rattle.vc_store.specs.declared.faults.StoreFault.{StoreFault}
-use Rattle.vc_store.specs.declared.faults.StoreFault.TheVariants.{BadObject, Absent, Damaged, Fault as StoreFaulted}
+use Rattle.vc_object_map.specs.Store.{IsDamaged}
+use Rattle.vc_object_map.specs.declared.faults.StoreFault.{StoreFault}
+use Rattle.vc_object_map.specs.declared.faults.StoreFault.TheVariants.{BadObject, Absent, Damaged, Fault as StoreFaulted}
 use Rattle.vc_working.specs.CloneWords.{branch_ref}
 use Rattle.vc_cli.specs.Revisions.{Denoted, IsOfRevision}
 use Rattle.vc_working.specs.Steps.{AnswersBy, AnswersShownBy, AreDenoted, CommitsIndex, CommitsOn, IsOfCommit, IsOfCommitOn, IsOfRevisions, IsOfSetting, IsOfStep, KeepsAt, LeavesAt, MakesCommit, MakesNone, ReadsAt, SetsBranch, StepsTo, committing}

@@ -21,11 +21,11 @@ use Rattle.vc_object.specs.ObjectFault.{BodyFault}
 use Rattle.vc_object.specs.declared.kind.Kind.TheVariants.{Blob}
 use Rattle.vc_object.specs.declared.id.ObjectId.{ObjectId}
 use Rattle.vc_object.specs.declared.mode.Mode.{Mode}
-use Rattle.vc_rules.specs.Faults.{object_number}
+use Rattle.vc_values.specs.Faults.{object_number}
 use Rattle.vc_rules.specs.Git.{git}
-use Rattle.vc_rules.proofs.GitLaws.{git_rules}
-use Rattle.vc_store.specs.Store.{IsDamaged, objects, with_objects}
-use Rattle.vc_store.specs.declared.faults.StoreFault.TheVariants as store
+use Rattle.vc_values.proofs.GitLaws.{git_rules}
+use Rattle.vc_object_map.specs.Store.{IsDamaged, objects, with_objects}
+use Rattle.vc_object_map.specs.declared.faults.StoreFault.TheVariants as store
 use Rattle.vc_work_folder.specs.Own.{is_own}
 use Rattle.vc_node.specs.Held.{Held}
 use Rattle.vc_local.specs.IndexFile.{index_bytes}

@@ -14,7 +14,7 @@ use Rattle.vc_refs.specs.RefMap.{is_ref}
 use Rattle.vc_refs.specs.Refs.{IsBadRef, deciding_file, refs}
 use Rattle.vc_refs.specs.declared.heads.Head.{Head}
 use Rattle.vc_refs.specs.declared.heads.Head.TheVariants as heads
-use Rattle.vc_store.specs.Store.{objects}
+use Rattle.vc_object_map.specs.Store.{objects}
 use Rattle.vc_index.specs.IndexMap.{IndexMap, IsIndex}
 use Rattle.vc_index.specs.IndexText.{index_text}
 use Rattle.vc_index.specs.Loading.{IsOfList}

@@ -9,7 +9,7 @@ use Rattle.vc_object.specs.declared.kind.Kind.TheVariants as kinds
 use Rattle.vc_refs.specs.Head.{head_of, head_value}
 use Rattle.vc_refs.specs.RefFault.{BlamesHeadValue, IsGoodHeadValue}
 use Rattle.vc_refs.specs.Refs.{refs}
-use Rattle.vc_store.specs.Store.{objects}
+use Rattle.vc_object_map.specs.Store.{objects}
 use Rattle.vc_index.specs.IndexMap.{IndexMap}
 use Rattle.vc_checkout.specs.Heads.{IsIndexOfHead}
 use Rattle.vc_checkout.specs.Status.{IsStatus, Seen}

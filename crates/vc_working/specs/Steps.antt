@@ -24,7 +24,7 @@ use Rattle.vc_object.specs.declared.id.ObjectId.{ObjectId}
 use Rattle.vc_refname.specs.RefName.{IsRefName}
 use Rattle.vc_repository.specs.IndexFile.{IsIndexOf, IsOfIndexFile}
 use Rattle.vc_rev.specs.declared.refusal.RevFault.TheVariants as revs
-use Rattle.vc_store.specs.Store.{objects, IsDamaged}
+use Rattle.vc_object_map.specs.Store.{objects, IsDamaged}
 use Rattle.vc_working.specs.CloneWords.{IsOfBranch, branch_ref}
 use Rattle.vc_cli.specs.Failure.{IsFault}
 use Rattle.vc_cli.specs.Printed.{id_line}

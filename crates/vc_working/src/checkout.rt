@@ -4,7 +4,7 @@ ghost use Rattle.std.specs.FinMap as maps;
 ghost use Rattle.vc_local.specs.Blames.{IsLocalHead, MayHead};
 ghost use Rattle.vc_refs.specs.Refs.{refs};
 ghost use Rattle.vc_index.specs.TreeReading.{ListsAs};
-ghost use Rattle.vc_store.specs.Store.{objects};
+ghost use Rattle.vc_object_map.specs.Store.{objects};
 ghost use Rattle.vc_work_folder.specs.Own.{meets_own};
 ghost use Rattle.vc_working.specs.Checkout.{ChecksOut, IsApart, IsCommitTree, IsOfCommit, IsOfNewHead, IsOfOwn, IsOfRef, IsOfTarget, IsOfTreeList, IsReadable, IsTarget, LeavesOrFails, LeavesWork, MayBring, RefusesCheckout, RefusesLook, peeled};
 ghost use Rattle.vc_working.specs.CloneWords.{branch_ref};

@@ -14,7 +14,7 @@ use Rattle.vc_node.specs.CloneFaults.{fault_answer}
 use Rattle.vc_node.specs.declared.clone_fault.CloneFault.{CloneFault}
 use Rattle.vc_node.specs.declared.clone_fault.CloneFault.TheVariants.{Incomplete, NoValue, Node, TooMany, Unexpected, Unread}
 use Rattle.vc_local.proofs.FaultLemmas.{node_undone}
-use Rattle.vc_rules.proofs.GitLaws.{git_rules}
+use Rattle.vc_values.proofs.GitLaws.{git_rules}
 use Rattle.vc_rules.specs.Git.{git}
 use Rattle.vc_world.specs.Chains.{MayFetch, MayRound, moved_by}
 use Rattle.vc_world.specs.Chains.InRounds.{again, last}

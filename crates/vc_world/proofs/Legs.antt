@@ -8,7 +8,7 @@ use Rattle.vc_model.specs.Node.{Answer}
 use Rattle.vc_model.specs.Shared.{SharedNode}
 use Rattle.vc_node.specs.CloneCalls.{AnswersClone}
 use Rattle.vc_node.specs.Held.{Held}
-use Rattle.vc_rules.proofs.GitLaws.{git_rules}
+use Rattle.vc_values.proofs.GitLaws.{git_rules}
 use Rattle.vc_rules.specs.Git.{git}
 use Rattle.vc_world.specs.Chains.{CloneMayAnswer, MayServe, SharedMaySend}
 use Rattle.vc_world.specs.Exchanging.{AnswersPeer, AskedAs, Brings, HoldsClone}

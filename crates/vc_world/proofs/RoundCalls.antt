@@ -16,7 +16,7 @@ use Rattle.vc_node.specs.Held.{Held}
 use Rattle.vc_node.specs.declared.clone_fault.CloneFault.{CloneFault}
 use Rattle.vc_node.specs.declared.exchanging.Received.{Received}
 use Rattle.vc_node.specs.declared.exchanging.Received.TheVariants.{Moved, Reported, Send}
-use Rattle.vc_rules.proofs.GitLaws.{git_rules}
+use Rattle.vc_values.proofs.GitLaws.{git_rules}
 use Rattle.vc_rules.specs.Git.{git}
 use Rattle.vc_world.specs.Chains.{CloneMayAnswer, CloneMaySend, MayRest, MayRound, MayServe, SharedMaySend}
 use Rattle.vc_world.specs.Chains.MayRest.{unpacked, packed}

@@ -7,13 +7,13 @@ use Rattle.vc_model.specs.Message.{Message}
 use Rattle.vc_model.specs.Node.{Answer}
 use Rattle.vc_model.specs.Shared.{SharedNode}
 use Rattle.vc_model.specs.SharedCall.SharedCall.{Accept}
-use Rattle.vc_rules.proofs.GitLaws.{git_rules}
+use Rattle.vc_values.proofs.GitLaws.{git_rules}
 use Rattle.vc_rules.specs.Git.{git}
 use Rattle.vc_server.specs.Serving.{ServedAs, Serves, ServesOn, StepsOn}
 use Rattle.vc_server.specs.Serving.ServesOn.{at_once as served_at_once, stepped as served_stepped}
 use Rattle.vc_server.specs.Serving.StepsOn.{sent as step_sent, undone as step_undone, further as step_further}
 use Rattle.vc_server.proofs.ServingLemmas.{shared_undone}
-use Rattle.vc_session.specs.Session.{SessionText}
+use Rattle.vc_push_rules.specs.Session.{SessionText}
 use Rattle.vc_shared.specs.Faults.{fault_answer}
 use Rattle.vc_shared.specs.Holding.{HoldsShared}
 use Rattle.vc_shared.specs.declared.fault.SharedFault.{SharedFault}

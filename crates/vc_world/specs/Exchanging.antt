@@ -28,7 +28,7 @@ use Rattle.vc_local.specs.Machine.{HoldsNode}
 use Rattle.vc_object.specs.declared.id.ObjectId.{ObjectId}
 use Rattle.vc_push.specs.ReportView.{report_text}
 use Rattle.vc_push.specs.declared.report.Report.{Report as PushReport}
-use Rattle.vc_rules.proofs.GitLaws.{git_rules}
+use Rattle.vc_values.proofs.GitLaws.{git_rules}
 use Rattle.vc_rules.specs.Git.{git}
 use Rattle.vc_world.specs.Chains.{MayFetch, MayPushRun, MayRest, MayRound, MayServe}
 use Rattle.vc_world.specs.declared.ending.ExchangeEnd.{ExchangeEnd}

@@ -1,7 +1,7 @@
 //! What chains of calls come to at Git's objects, by the layers' own rules.
 
 ghost use Rattle.vc_model.specs.Exchange.{BranchesCanBeTracked};
-ghost use Rattle.vc_rules.proofs.GitLaws.{git_rules};
+ghost use Rattle.vc_values.proofs.GitLaws.{git_rules};
 ghost use Rattle.vc_rules.specs.Git.{git};
 ghost use Rattle.vc_world.specs.Laws.{ChainIsFetch, ChainIsPush};
 

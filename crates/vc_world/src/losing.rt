@@ -9,7 +9,7 @@ ghost use Rattle.vc_node.specs.Node.{AnswersCall};
 use vc_files::{Fault, Files};
 use vc_local::NodeFault;
 use vc_node::{CloneFault, CloneNode};
-use vc_store::StoreFault;
+use vc_object_map::StoreFault;
 
 // A fault between the nodes ends the call by which the clone would have taken the answer, so the clone goes down.
 pub(crate) fn lose<F: Files>(clone: &mut CloneNode<F>, fault: Fault) -> CloneFault

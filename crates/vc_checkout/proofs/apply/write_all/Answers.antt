@@ -1,7 +1,7 @@
 use Rattle.std.proofs.Common.{rules, ◌≡◌, [], ◌∷◌, map, refl, ap, subst, List, ℕ}
 use Rattle.std.specs.FinMap.{get}
 use Rattle.vc_files.specs.FileMap.{FileMap}
-use Rattle.vc_store.specs.Store.{objects}
+use Rattle.vc_object_map.specs.Store.{objects}
 use Rattle.vc_checkout.specs.CheckedOut.{IsWritten, StepAt, StepOrNone}
 use Rattle.vc_index.specs.IndexMap.{IsIndex}
 use Rattle.vc_checkout.specs.Folders.{IsFolder}

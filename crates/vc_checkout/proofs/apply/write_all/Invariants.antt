@@ -1,7 +1,7 @@
 use Rattle.std.proofs.Common.{◌≡◌, ◌⊎◌, map}
 use Rattle.std.specs.FinMap.{get}
 use Rattle.vc_files.specs.Failures.{unstopped}
-use Rattle.vc_store.specs.Store.{objects}
+use Rattle.vc_object_map.specs.Store.{objects}
 use Rattle.vc_checkout.specs.CheckedOut.{IsWritten}
 use Rattle.vc_checkout.specs.Devices.{WearsEither}
 use Rattle.vc_checkout.proofs.ApplyLemmas.{Working}

@@ -1,6 +1,6 @@
 use Rattle.std.proofs.Common.{rules, ◌≡◌, ◌≢◌, inl, inr, Option, Some, None, List, ℕ}
 use Rattle.std.specs.FinMap.{get}
-use Rattle.vc_store.specs.Store.{objects}
+use Rattle.vc_object_map.specs.Store.{objects}
 use Rattle.vc_checkout.specs.CheckedOut.{IsWritten, file_of}
 use Rattle.vc_checkout.proofs.ApplyLemmas.{step_or_none_map, written_due}
 use Rattle.vc_checkout.specs.Folders.{IsFolder}

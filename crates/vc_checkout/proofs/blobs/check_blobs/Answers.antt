@@ -1,7 +1,7 @@
 use Rattle.std.proofs.Common.{rules, ◌≡◌, ◌⊎◌, [], ◌∷◌, map, refl, ap, subst, inl, inr}
 use Rattle.std.specs.FinMap.{get}
 use Rattle.vc_files.specs.FileMap.{FileMap}
-use Rattle.vc_store.specs.Store.{objects}
+use Rattle.vc_object_map.specs.Store.{objects}
 use Rattle.vc_index.specs.declared.faults.IndexFault.{IndexFault}
 use Rattle.vc_checkout.specs.Blobs.{BlamesBlobs, BlamesDue, HasDueBlob}
 use Rattle.vc_checkout.specs.CheckoutFault.{IsFault}

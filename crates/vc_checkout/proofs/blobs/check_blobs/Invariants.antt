@@ -4,7 +4,7 @@ use Rattle.std.specs.FinMap.{get}
 use Rattle.std.specs.List.Sorted.{IsStrictlySortedBy}
 use Rattle.std.specs.Ordering.{nat_cmp}
 use Rattle.vc_files.specs.Failures.{Wears}
-use Rattle.vc_store.specs.Store.{objects}
+use Rattle.vc_object_map.specs.Store.{objects}
 use Rattle.vc_checkout.specs.Blobs.{HasDueBlob}
 use Rattle.vc_checkout.proofs.ClearLemmas.{Holds}
 use Rattle.vc_checkout.proofs.blobs.check_blobs.Given as goal

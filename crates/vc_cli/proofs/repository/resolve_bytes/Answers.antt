@@ -1,4 +1,4 @@
-use Rattle.vc_rev.specs.Views.{expr_view}
+use Rattle.vc_expression.specs.Views.{expr_view}
 use Rattle.vc_cli.proofs.repository.resolve_bytes.Goals as goal
 
 pub returns-in-Ok-resolve-clause-value : goal.returns-in-Ok-resolve-clause-value

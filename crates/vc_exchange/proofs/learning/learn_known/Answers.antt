@@ -1,5 +1,5 @@
 use Rattle.std.proofs.Common.{rules}
-use Rattle.vc_session.proofs.UpdateLemmas.{wears_both}
+use Rattle.vc_quarantine.proofs.WearLemmas.{wears_both}
 use Rattle.vc_exchange.proofs.learning.learn_known.Goals as goal
 
 pub returns-in_err-known-clause-wear : goal.returns-in_err-known-clause-wear

@@ -5,8 +5,8 @@ use Rattle.vc_format.specs.Git.{git_is_legal}
 use Rattle.vc_history.specs.Stored.{AgreesIn}
 use Rattle.vc_object.specs.declared.id.ObjectId.{ObjectId}
 use Rattle.vc_refs.specs.Refs.{refs}
-use Rattle.vc_session.specs.Verdict.{is_branch}
-use Rattle.vc_store.specs.Store.{objects}
+use Rattle.vc_push_rules.specs.Verdict.{is_branch}
+use Rattle.vc_object_map.specs.Store.{objects}
 use Rattle.vc_exchange.specs.Moving.{IsDecided, MayTake, follower}
 use Rattle.vc_exchange.proofs.MovingLemmas.{legal_found, undecided}
 use Rattle.vc_exchange.proofs.moving.find_follower.Goals as goal

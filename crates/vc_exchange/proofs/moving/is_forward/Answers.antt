@@ -1,6 +1,6 @@
 use Rattle.std.proofs.Common.{[]}
 use Rattle.vc_push.specs.Push.{CommandText}
-use Rattle.vc_session.proofs.JudgeLemmas.{never_missing}
+use Rattle.vc_push_rules.proofs.VerdictLemmas.{never_missing}
 use Rattle.vc_exchange.proofs.moving.is_forward.Goals as goal
 
 -- its history is whole, and so no commit of it is absent

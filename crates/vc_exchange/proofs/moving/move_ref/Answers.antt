@@ -2,7 +2,7 @@ use Rattle.std.proofs.Common.{rules, inl, inr, Some, None, subst}
 use Rattle.vc_files.proofs.WearLemmas.{wears_then, wears_writes, writes_told}
 use Rattle.vc_files.specs.FileMap.{FileMap}
 use Rattle.vc_refs.specs.Refs.{refs}
-use Rattle.vc_session.proofs.UpdateLemmas.{wears_both}
+use Rattle.vc_quarantine.proofs.WearLemmas.{wears_both}
 use Rattle.vc_exchange.specs.Moving.{IsFound, IsFreeAmong, IsRight, IsSetWhereFree}
 use Rattle.vc_exchange.proofs.MovingLemmas.{free_moves, set_moves}
 use Rattle.vc_exchange.proofs.moving.move_ref.Goals as goal

@@ -7,9 +7,8 @@ use Rattle.vc_files.proofs.WearLemmas.{writes_both, writes_told}
 use Rattle.vc_model.specs.Repository.{changed_all}
 use Rattle.vc_object.specs.declared.id.ObjectId.{ObjectId}
 use Rattle.vc_refs.specs.Refs.{refs}
-use Rattle.vc_session.proofs.CleanLemmas.{bad_same, bad_then}
-use Rattle.vc_session.proofs.SessionLemmas.{wears_told}
-use Rattle.vc_session.proofs.UpdateLemmas.{wears_both}
+use Rattle.vc_quarantine.proofs.CleanLemmas.{bad_same, bad_then}
+use Rattle.vc_quarantine.proofs.WearLemmas.{wears_both, wears_told}
 use Rattle.vc_exchange.specs.Faults.{BlamesFiles}
 use Rattle.vc_exchange.specs.Learning.{AreNoted}
 use Rattle.vc_exchange.specs.Moving.{AreFrontMoved, AreMoved, IsMove, IsRight, MayMove, MovesSome, Told, told_in}

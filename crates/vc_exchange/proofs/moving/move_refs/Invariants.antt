@@ -5,7 +5,7 @@ use Rattle.vc_files.specs.Failures.{Wears, Writes}
 use Rattle.vc_history.specs.Stored.{AgreesIn}
 use Rattle.vc_model.specs.Repository.{Repository}
 use Rattle.vc_rules.specs.OpenPushes.{HoldsContent}
-use Rattle.vc_session.specs.Clean.{MakesNoneBad}
+use Rattle.vc_quarantine.specs.Clean.{MakesNoneBad}
 use Rattle.vc_refs.specs.Refs.{refs}
 use Rattle.vc_exchange.specs.Learning.{AreNoted}
 use Rattle.vc_exchange.specs.Moving.{AreMoved, IsRight, told_in}

@@ -4,8 +4,8 @@ use Rattle.vc_files.specs.declared.faults.Fault.TheVariants.{Device}
 use Rattle.vc_refs.specs.declared.faults.RefFault.{RefFault}
 use Rattle.vc_refs.specs.declared.faults.RefFault.TheVariants.{Fault}
 use Rattle.vc_refs.proofs.RefsLemmas.{outside_from_only}
-use Rattle.vc_session.proofs.CleanLemmas.{bad_ref}
-use Rattle.vc_session.proofs.SessionLemmas.{wears_told}
+use Rattle.vc_quarantine.proofs.CleanLemmas.{bad_ref}
+use Rattle.vc_quarantine.proofs.WearLemmas.{wears_told}
 use Rattle.vc_exchange.specs.Faults.{BlamesRefs}
 use Rattle.vc_exchange.specs.Moving.{IsSetWhereFree}
 use Rattle.vc_exchange.proofs.MovingLemmas.{device_meant, free_among, passed_blames, passed_set}

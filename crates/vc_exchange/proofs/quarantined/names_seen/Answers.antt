@@ -1,10 +1,10 @@
-use Rattle.vc_graph.proofs.OverlayLemmas.{IsClosedUnder-with_carried}
+use Rattle.vc_object_map.proofs.OverlayLemmas.{IsClosedUnder-with_carried}
 use Rattle.vc_pack.proofs.JudgeLemmas.{all_under, err_under, ok_under}
-use Rattle.vc_graph.specs.Graph.{IsClosedUnder}
+use Rattle.vc_object_map.specs.Graph.{IsClosedUnder}
 use Rattle.vc_graph.specs.Incomplete.{IsFirstIncomplete}
 use Rattle.vc_object.specs.ObjectMap.{links_in}
-use Rattle.vc_session.specs.Quarantine.{objects_seen, quarantined}
-use Rattle.vc_store.specs.Store.{objects}
+use Rattle.vc_push_rules.specs.Quarantine.{objects_seen, quarantined}
+use Rattle.vc_object_map.specs.Store.{objects}
 use Rattle.vc_exchange.proofs.quarantined.names_seen.Goals as goal
 
 pub returns-clause-complete : goal.returns-clause-complete

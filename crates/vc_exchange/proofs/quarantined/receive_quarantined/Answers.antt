@@ -2,8 +2,8 @@ use Rattle.std.proofs.Common.{rules, ◌≡◌, Err, refl, sym, ap, ◌∙◌, s
 use Rattle.vc_pack.proofs.KeepsLemmas.{keeps_same, keeps_then}
 use Rattle.vc_files.specs.FileMap.{FileMap}
 use Rattle.vc_files.proofs.WearLemmas.{wears_then, wears_writes, writes_both, writes_told}
-use Rattle.vc_graph.specs.Graph.{IsClosedUnder}
-use Rattle.vc_graph.specs.Overlay.{with_carried}
+use Rattle.vc_object_map.specs.Graph.{IsClosedUnder}
+use Rattle.vc_object_map.specs.Overlay.{with_carried}
 use Rattle.vc_history.specs.Stored.{AgreesIn}
 use Rattle.vc_model.specs.Repository.{IsSound, with_objects}
 use Rattle.vc_object.specs.ObjectMap.{links_in}
@@ -12,15 +12,15 @@ use Rattle.vc_refs.specs.Refs.{refs}
 use Rattle.vc_rules.proofs.JoinLemmas.{joined}
 use Rattle.vc_rules.specs.Git.{git}
 use Rattle.vc_rules.specs.OpenPushes.{HoldsContent}
-use Rattle.vc_session.proofs.CleanLemmas.{bad_same, bad_then}
-use Rattle.vc_session.proofs.FrameLemmas.{refs-of_objects, refs-of_slot}
-use Rattle.vc_session.specs.Carrying.{objects_in}
-use Rattle.vc_session.specs.Clean.{MakesNoneBad}
-use Rattle.vc_session.specs.Known.{AreWhole}
-use Rattle.vc_session.specs.Learning.{learnt_in}
-use Rattle.vc_session.specs.Migrating.{IsFrontMigrated, migrated}
-use Rattle.vc_session.specs.declared.known.Known.{Known}
-use Rattle.vc_store.specs.Store.{objects}
+use Rattle.vc_quarantine.proofs.CleanLemmas.{bad_same, bad_then}
+use Rattle.vc_push_rules.proofs.FrameLemmas.{refs-of_objects, refs-of_slot}
+use Rattle.vc_push_rules.specs.Carrying.{objects_in}
+use Rattle.vc_quarantine.specs.Clean.{MakesNoneBad}
+use Rattle.vc_quarantine.specs.Known.{AreWhole}
+use Rattle.vc_quarantine.specs.Learning.{learnt_in}
+use Rattle.vc_quarantine.specs.Migrating.{IsFrontMigrated, migrated}
+use Rattle.vc_quarantine.specs.declared.known.Known.{Known}
+use Rattle.vc_object_map.specs.Store.{objects}
 use Rattle.vc_exchange.specs.Faults.{BlamesFiles, from_store}
 use Rattle.vc_exchange.specs.Moving.{IsRight, told_in}
 use Rattle.vc_exchange.specs.Quarantined.{BlamesSeen}

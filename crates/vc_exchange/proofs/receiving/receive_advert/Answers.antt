@@ -14,13 +14,13 @@ use Rattle.vc_object.specs.declared.id.ObjectId.{ObjectId}
 use Rattle.vc_refs.specs.Refs.{refs}
 use Rattle.vc_rules.specs.Git.{git}
 use Rattle.vc_rules.specs.OpenPushes.{HoldsContent}
-use Rattle.vc_session.proofs.CleanLemmas.{bad_same}
-use Rattle.vc_session.proofs.NumberLemmas.{agreement_same}
-use Rattle.vc_session.proofs.UpdateLemmas.{wears_both}
-use Rattle.vc_session.specs.Known.{AreWhole}
-use Rattle.vc_session.specs.Learning.{learnt_in}
-use Rattle.vc_session.specs.declared.known.Known.{Known}
-use Rattle.vc_store.specs.Store.{objects}
+use Rattle.vc_quarantine.proofs.CleanLemmas.{bad_same}
+use Rattle.vc_quarantine.proofs.NumberLemmas.{agreement_same}
+use Rattle.vc_quarantine.proofs.WearLemmas.{wears_both}
+use Rattle.vc_quarantine.specs.Known.{AreWhole}
+use Rattle.vc_quarantine.specs.Learning.{learnt_in}
+use Rattle.vc_quarantine.specs.declared.known.Known.{Known}
+use Rattle.vc_object_map.specs.Store.{objects}
 use Rattle.vc_exchange.specs.Deeds.{HoldsHead}
 use Rattle.vc_exchange.specs.Faults.{BlamesFiles}
 use Rattle.vc_exchange.specs.Moving.{AreFrontMoved, AreMoved, IsRight, MovesSome, Told, told_in}

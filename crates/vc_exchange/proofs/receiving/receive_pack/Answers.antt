@@ -6,8 +6,8 @@ use Rattle.vc_pack.specs.declared.fault.AnswerFault.TheVariants as answer
 use Rattle.vc_fetch.specs.PackObjects as fetch
 use Rattle.vc_files.specs.FileMap.{FileMap}
 use Rattle.vc_files.proofs.WearLemmas.{wears_then, wears_writes, writes_both, writes_told}
-use Rattle.vc_graph.specs.Graph.{IsClosedUnder}
-use Rattle.vc_graph.specs.Overlay.{with_carried}
+use Rattle.vc_object_map.specs.Graph.{IsClosedUnder}
+use Rattle.vc_object_map.specs.Overlay.{with_carried}
 use Rattle.vc_graph.specs.declared.fault.GraphFault.TheVariants as of_graph
 use Rattle.vc_history.specs.Stored.{AgreesIn}
 use Rattle.vc_model.specs.Repository.{IsSound, with_objects}
@@ -18,14 +18,14 @@ use Rattle.vc_refs.specs.Refs.{refs}
 use Rattle.vc_rules.proofs.JoinLemmas.{joined}
 use Rattle.vc_rules.specs.Git.{git}
 use Rattle.vc_rules.specs.OpenPushes.{HoldsContent}
-use Rattle.vc_session.proofs.CleanLemmas.{bad_same, bad_then}
-use Rattle.vc_session.proofs.FrameLemmas.{refs-of_objects}
-use Rattle.vc_session.specs.Carrying.{objects_in}
-use Rattle.vc_session.specs.Clean.{MakesNoneBad}
-use Rattle.vc_session.specs.Known.{AreWhole}
-use Rattle.vc_session.specs.Learning.{learnt_in}
-use Rattle.vc_session.specs.declared.known.Known.{Known}
-use Rattle.vc_store.specs.Store.{objects}
+use Rattle.vc_quarantine.proofs.CleanLemmas.{bad_same, bad_then}
+use Rattle.vc_push_rules.proofs.FrameLemmas.{refs-of_objects}
+use Rattle.vc_push_rules.specs.Carrying.{objects_in}
+use Rattle.vc_quarantine.specs.Clean.{MakesNoneBad}
+use Rattle.vc_quarantine.specs.Known.{AreWhole}
+use Rattle.vc_quarantine.specs.Learning.{learnt_in}
+use Rattle.vc_quarantine.specs.declared.known.Known.{Known}
+use Rattle.vc_object_map.specs.Store.{objects}
 use Rattle.vc_exchange.specs.Faults.{BlamesFiles, from_answer, from_store}
 use Rattle.vc_exchange.specs.Moving.{IsRight, told_in}
 use Rattle.vc_exchange.specs.Receiving.{BlamesPack}

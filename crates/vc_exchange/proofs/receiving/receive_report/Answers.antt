@@ -14,9 +14,9 @@ use Rattle.vc_message.specs.Machine.{machine_told}
 use Rattle.vc_model.specs.Clone.{refused_reasons}
 use Rattle.vc_push.specs.ReportView.{report_text, told_of}
 use Rattle.vc_push.specs.declared.report.Told.{Told}
-use Rattle.vc_session.proofs.NumberLemmas.{agreement_same}
-use Rattle.vc_session.proofs.UpdateLemmas.{wears_both}
-use Rattle.vc_session.specs.Learning.{learnt_in}
+use Rattle.vc_quarantine.proofs.NumberLemmas.{agreement_same}
+use Rattle.vc_quarantine.proofs.WearLemmas.{wears_both}
+use Rattle.vc_quarantine.specs.Learning.{learnt_in}
 use Rattle.vc_exchange.specs.declared.fault.ExchangeFault.TheVariants as exchange
 use Rattle.vc_exchange.proofs.LearningLemmas.{faulted, learnt_moved}
 use Rattle.vc_exchange.proofs.MovingLoops.{told_err, whole_refs}

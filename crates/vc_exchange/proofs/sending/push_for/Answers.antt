@@ -1,10 +1,10 @@
 use Rattle.std.proofs.Common.{◌≡◌, map, refl}
 use Rattle.vc_exchange.specs.Sending.{AreSent, command_for, item_ids}
-use Rattle.vc_graph.specs.Graph.{IsClosedUnder}
+use Rattle.vc_object_map.specs.Graph.{IsClosedUnder}
 use Rattle.vc_object.specs.ObjectMap.{links_in}
 use Rattle.vc_pkt.specs.ObjectStreamView.{carried}
 use Rattle.vc_push.specs.PushView.{commands_of}
-use Rattle.vc_store.specs.Store.{objects}
+use Rattle.vc_object_map.specs.Store.{objects}
 use Rattle.vc_exchange.proofs.sending.push_for.Goals as goal
 
 pub returns-clause-push : goal.returns-clause-push

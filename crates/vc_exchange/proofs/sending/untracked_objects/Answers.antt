@@ -3,10 +3,10 @@ use Rattle.vc_pack.specs.Reached.{StandsIn}
 use Rattle.vc_exchange.proofs.SendingLemmas.{closed_front, refused_graph, sent_less}
 use Rattle.vc_exchange.specs.SendFault.{IsRefusedSend, from_graph}
 use Rattle.vc_graph.proofs.FaultLemmas.{IsTold-more}
-use Rattle.vc_graph.proofs.WalkLemmas.{ReachedFrom-append_left, ReachedFrom-append_right}
+use Rattle.vc_object_map.proofs.WalkLemmas.{ReachedFrom-append_left, ReachedFrom-append_right}
 use Rattle.vc_object.specs.ObjectMap.{links_in}
 use Rattle.vc_pkt.specs.ObjectStreamView.{carried}
-use Rattle.vc_store.specs.Store.{IsDamaged, objects}
+use Rattle.vc_object_map.specs.Store.{IsDamaged, objects}
 use Rattle.vc_exchange.proofs.sending.untracked_objects.Goals as goal
 
 pub returns-in_err-renew-clause-refused : goal.returns-in_err-renew-clause-refused

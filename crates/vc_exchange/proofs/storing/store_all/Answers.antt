@@ -15,9 +15,9 @@ use Rattle.vc_pkt.specs.Carried.{stored_name}
 use Rattle.vc_pkt.specs.ObjectStreamView.{carried}
 use Rattle.vc_pkt.specs.StreamObjectView.{AreNamed, objects_of, stored}
 use Rattle.vc_pkt.specs.declared.carried.StreamObject.{StreamObject}
-use Rattle.vc_session.proofs.CarryingLemmas.{fewer}
-use Rattle.vc_session.proofs.CleanLemmas.{bad_same, bad_then}
-use Rattle.vc_store.specs.Store.{objects, with_file, with_object}
+use Rattle.vc_push_rules.proofs.CarryingLemmas.{fewer}
+use Rattle.vc_quarantine.proofs.CleanLemmas.{bad_same, bad_then}
+use Rattle.vc_object_map.specs.Store.{objects, with_file, with_object}
 use Rattle.vc_exchange.specs.Storing.{AreSomeStored}
 use Rattle.vc_exchange.proofs.StoringLemmas.{IsStoring, first_named, later_named, put_bad, storing_all, storing_none, storing_passed, storing_put, storing_some}
 use Rattle.vc_exchange.proofs.storing.store_all.Goals as goal

@@ -6,7 +6,7 @@ use Rattle.vc_object.specs.ObjectId.{IsSortedByName}
 use Rattle.vc_pkt.specs.Carried.{stored_name}
 use Rattle.vc_pkt.specs.ObjectStreamView.{carried}
 use Rattle.vc_pkt.specs.StreamObjectView.{AreNamed, objects_of}
-use Rattle.vc_session.specs.Clean.{MakesNoneBad}
+use Rattle.vc_quarantine.specs.Clean.{MakesNoneBad}
 use Rattle.vc_exchange.proofs.StoringLemmas.{IsStoring}
 use Rattle.vc_exchange.proofs.storing.store_all.Given as goal
 

@@ -1,9 +1,9 @@
 use Rattle.std.proofs.Common.{rules, ◌≡◌, inl, inr, ◌↔◌, IsTrue, refl, sym, ◌∙◌, subst}
 use Rattle.std.proofs.lemmas.Map.Views.{Contains-from_any}
-use Rattle.vc_graph.specs.Graph.{IsClosed, IsClosedUnder}
+use Rattle.vc_object_map.specs.Graph.{IsClosed, IsClosedUnder}
 use Rattle.vc_object.proofs.IdLemmas.{id_eq-same}
 use Rattle.vc_object.specs.ObjectMap.{links_in}
-use Rattle.vc_store.specs.Store.{objects}
+use Rattle.vc_object_map.specs.Store.{objects}
 use Rattle.vc_exchange.proofs.WantingOpen.{adds_new, open_not}
 use Rattle.vc_exchange.proofs.wanting.add_open.Goals as goal
 

@@ -2,9 +2,9 @@ use Rattle.std.proofs.Common.{rules, ◌≡◌, List, take, refl, sym, ◌∙◌
 use Rattle.std.proofs.lemmas.List.{take_all}
 use Rattle.vc_files.specs.FileMap.{FileMap}
 use Rattle.vc_object.specs.declared.id.ObjectId.{ObjectId}
-use Rattle.vc_graph.specs.Graph.{IsClosedUnder}
+use Rattle.vc_object_map.specs.Graph.{IsClosedUnder}
 use Rattle.vc_object.specs.ObjectMap.{links_in}
-use Rattle.vc_store.specs.Store.{objects}
+use Rattle.vc_object_map.specs.Store.{objects}
 use Rattle.vc_exchange.specs.Moving.{Told, told_in}
 use Rattle.vc_exchange.specs.Wanting.{AddsOpen, AreOpenTold}
 use Rattle.vc_exchange.proofs.MovingLoops.{front_more, told_of}

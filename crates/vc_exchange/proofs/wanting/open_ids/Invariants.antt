@@ -1,10 +1,10 @@
 use Rattle.std.proofs.Common.{◌≡◌, take}
 use Rattle.vc_files.specs.Failures.{Wears}
-use Rattle.vc_graph.specs.Graph.{IsClosedUnder}
+use Rattle.vc_object_map.specs.Graph.{IsClosedUnder}
 use Rattle.vc_model.specs.Repository.{Repository}
 use Rattle.vc_object.specs.ObjectMap.{links_in}
 use Rattle.vc_rules.specs.OpenPushes.{HoldsContent}
-use Rattle.vc_store.specs.Store.{objects}
+use Rattle.vc_object_map.specs.Store.{objects}
 use Rattle.vc_exchange.specs.Moving.{told_in}
 use Rattle.vc_exchange.specs.Wanting.{AreOpenTold}
 use Rattle.vc_exchange.proofs.wanting.open_ids.Given as goal

@@ -2,7 +2,7 @@ use Rattle.std.proofs.Common.{◌≡◌, ◌+◌, [], List, Some, None, ap, sym,
 use Rattle.indexmap.specs.IndexSet.{insert_all}
 use Rattle.std.proofs.lemmas.Option.{slice_get-get_or}
 use Rattle.std.specs.Option.{option_map}
-use Rattle.vc_graph.proofs.KnownLemmas.{Learns, Learns-absent, Learns-next, Learns-part, Learns-some, IsClosedUnder-linked, grown-inserted, take-inserted}
+use Rattle.vc_object_map.proofs.KnownLemmas.{Learns, Learns-absent, Learns-next, Learns-part, Learns-some, IsClosedUnder-linked, grown-inserted, take-inserted}
 use Rattle.vc_object.proofs.IdLemmas.{id_eq-same}
 use Rattle.vc_object.specs.ObjectId.{id_eq}
 use Rattle.vc_object.specs.ObjectMap.{links_in}

@@ -2,10 +2,10 @@ use Rattle.std.proofs.Common.{◌≡◌, ◌∷◌, [], Contains, ap, sym, ◌�
 use Rattle.indexmap.specs.IndexSet.{insert_all}
 use Rattle.std.proofs.lemmas.Grind.{common_steps}
 use Rattle.std.specs.Option.{option_map}
-use Rattle.vc_graph.proofs.FaultLemmas.{IsMet-from_refused}
-use Rattle.vc_graph.proofs.KnownLemmas.{Beyond, Beyond-start, Beyond-step, Beyond-reached, Beyond-absent, Beyond-closed, Beyond-met, grown-inserted, rooted-start, take-inserted}
-use Rattle.vc_graph.proofs.WalkLemmas.{Contains-insert_all_old, ReachedFrom-one}
-use Rattle.vc_graph.specs.Graph.{ReachedFrom}
+use Rattle.vc_object_map.proofs.FaultLemmas.{IsMet-from_refused}
+use Rattle.vc_object_map.proofs.KnownLemmas.{Beyond, Beyond-start, Beyond-step, Beyond-reached, Beyond-absent, Beyond-closed, Beyond-met, grown-inserted, rooted-start, take-inserted}
+use Rattle.vc_object_map.proofs.WalkLemmas.{Contains-insert_all_old, ReachedFrom-one}
+use Rattle.vc_object_map.specs.Graph.{ReachedFrom}
 use Rattle.vc_object.proofs.IdLemmas.{id_eq-same}
 use Rattle.vc_object.specs.ObjectId.{id_eq}
 use Rattle.vc_object.specs.ObjectMap.{links_in}

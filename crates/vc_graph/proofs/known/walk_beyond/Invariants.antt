@@ -1,6 +1,6 @@
 use Rattle.std.proofs.Common.{◌≡◌, ◌++◌, ◌-◌, ◌^◌, ◌≤◌, List, Contains, length}
 use Rattle.vc_files.specs.Failures.{Wears}
-use Rattle.vc_graph.proofs.KnownLemmas.{Beyond}
+use Rattle.vc_object_map.proofs.KnownLemmas.{Beyond}
 use Rattle.vc_object.specs.ObjectMap.{links_in}
 use Rattle.vc_object.specs.declared.id.ObjectId.{ObjectId as Id}
 use Rattle.vc_graph.proofs.known.walk_beyond.Given as goal

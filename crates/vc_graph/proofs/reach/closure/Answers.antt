@@ -1,5 +1,5 @@
 use Rattle.std.proofs.Common.{◌≡◌, ◌++◌, ap, arith}
-use Rattle.vc_graph.proofs.WalkLemmas.{IsClosedUnder-from_followed}
+use Rattle.vc_object_map.proofs.WalkLemmas.{IsClosedUnder-from_followed}
 use Rattle.vc_object.specs.ObjectMap.{links_in}
 use Rattle.vc_graph.proofs.reach.closure.Goals as goal
 

@@ -1,7 +1,7 @@
 use Rattle.std.proofs.Common.{◌≡◌, ◌++◌, Contains, ◌↔◌, ap, length, arith}
 use Rattle.std.proofs.lemmas.Grind.{common_steps}
 use Rattle.vc_graph.proofs.FaultLemmas.{IsTold-more}
-use Rattle.vc_graph.proofs.WalkLemmas.{Contains-added, IsClosedUnder-from_followed, ReachedFrom-append_right, ReachedFrom-went_on, ReachedFrom-all_roots}
+use Rattle.vc_object_map.proofs.WalkLemmas.{Contains-added, IsClosedUnder-from_followed, ReachedFrom-append_right, ReachedFrom-went_on, ReachedFrom-all_roots}
 use Rattle.vc_object.specs.ObjectMap.{links_in}
 use Rattle.vc_object.specs.declared.id.ObjectId.{ObjectId}
 use Rattle.vc_graph.proofs.reach.difference.Goals as goal

@@ -1,5 +1,5 @@
 use Rattle.std.proofs.Common.{◌≡◌, [], ◌++◌, ◌∷◌, refl, ap}
-use Rattle.vc_graph.proofs.WalkLemmas.{ReachedFrom-one, IsClosedUnder-from_followed}
+use Rattle.vc_object_map.proofs.WalkLemmas.{ReachedFrom-one, IsClosedUnder-from_followed}
 use Rattle.vc_object.specs.ObjectMap.{links_in}
 use Rattle.vc_graph.proofs.reach.is_complete.Goals as goal
 

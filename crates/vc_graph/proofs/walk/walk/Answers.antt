@@ -5,7 +5,7 @@ use Rattle.std.proofs.lemmas.Iterator.Adapters.{YieldsList-from_vec, fact_from_e
 use Rattle.std.proofs.lemmas.Iterator.{YieldsList-from_slice}
 use Rattle.std.specs.Option.{option_map}
 use Rattle.std.specs.declared.alloc.AllocError.{AllocError}
-use Rattle.vc_graph.proofs.WalkLemmas.{Walks, Walks-start, Walks-step, Contains-from_slice_get, insert_all-prefix, walked, walked-followed}
+use Rattle.vc_object_map.proofs.WalkLemmas.{Walks, Walks-start, Walks-step, Contains-from_slice_get, insert_all-prefix, walked, walked-followed}
 use Rattle.vc_graph.proofs.walk.walk.Goals as goal
 use Rattle.vc_object.proofs.IdLemmas.{id_eq-same}
 use Rattle.vc_object.specs.ObjectMap.{links_in}

@@ -1,6 +1,6 @@
 use Rattle.std.proofs.Common.{◌≡◌, ◌++◌, ◌-◌, ◌^◌, List}
 use Rattle.vc_files.specs.Failures.{Wears}
-use Rattle.vc_graph.proofs.WalkLemmas.{Walks}
+use Rattle.vc_object_map.proofs.WalkLemmas.{Walks}
 use Rattle.vc_object.specs.ObjectMap.{links_in}
 use Rattle.vc_object.specs.declared.id.ObjectId.{ObjectId as Id}
 use Rattle.vc_graph.proofs.walk.walk.Given as goal

@@ -6,7 +6,7 @@ use Rattle.vc_history.proofs.GatheredLemmas.{all_there, met_or_beyond}
 use Rattle.vc_history.proofs.HistoryLemmas.{IsTold-from_next}
 use Rattle.vc_history.proofs.LearntLemmas.{closed_below}
 use Rattle.vc_history.proofs.TowardLemmas.{Agrees-ruled_out, not_ancestor, sought_is_met}
-use Rattle.vc_graph.proofs.WalkLemmas.{Contains-from_slice_get, ReachedFrom-one, Reaches-from_one}
+use Rattle.vc_object_map.proofs.WalkLemmas.{Contains-from_slice_get, ReachedFrom-one, Reaches-from_one}
 use Rattle.vc_object.proofs.IdLemmas.{id_eq_equiv, id_eq-same}
 use Rattle.vc_object.specs.ObjectId.{id_eq}
 use Rattle.vc_object.specs.ObjectMap.{parents_in}

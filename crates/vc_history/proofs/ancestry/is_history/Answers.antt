@@ -1,5 +1,5 @@
 use Rattle.std.proofs.Common.{◌≡◌, Option, Some, None, List, IsSome, refl}
-use Rattle.vc_graph.proofs.WalkLemmas.{ReachedFrom-one, Reaches-from_one}
+use Rattle.vc_object_map.proofs.WalkLemmas.{ReachedFrom-one, Reaches-from_one}
 use Rattle.vc_object.proofs.ObjectMaps.{parents_in-none}
 use Rattle.vc_object.specs.ObjectMap.{parents_in}
 use Rattle.vc_object.specs.declared.id.ObjectId.{ObjectId}

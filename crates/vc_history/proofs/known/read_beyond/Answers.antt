@@ -1,14 +1,14 @@
 use Rattle.std.proofs.Common.{◌≡◌, ◌∷◌, [], List, Contains, ap, sym, ◌∙◌, refl, arith, rules, subst, take, None, Some, true≢false}
 use Rattle.indexmap.specs.IndexSet.{insert_all}
 use Rattle.std.proofs.lemmas.Grind.{common_steps}
-use Rattle.vc_graph.proofs.KnownLemmas.{Beyond, Beyond-start, Beyond-step, Beyond-absent, Beyond-closed, Beyond-met, grown-inserted, rooted-start, take-inserted}
-use Rattle.vc_graph.proofs.WalkLemmas.{Contains-insert_all_old}
+use Rattle.vc_object_map.proofs.KnownLemmas.{Beyond, Beyond-start, Beyond-step, Beyond-absent, Beyond-closed, Beyond-met, grown-inserted, rooted-start, take-inserted}
+use Rattle.vc_object_map.proofs.WalkLemmas.{Contains-insert_all_old}
 use Rattle.vc_object.proofs.IdLemmas.{id_eq-same}
 use Rattle.vc_object.proofs.ObjectMaps.{parents_in-none}
 use Rattle.vc_object.specs.ObjectId.{id_eq}
 use Rattle.vc_object.specs.ObjectMap.{parents_in}
 use Rattle.vc_object.specs.declared.id.ObjectId.{ObjectId}
-use Rattle.vc_history.specs.Parents.{AreParents, IsOther}
+use Rattle.vc_object_map.specs.Parents.{AreParents, IsOther}
 use Rattle.vc_history.proofs.known.read_beyond.Goals as goal
 
 pub loop-next-init : goal.loop-next-init

@@ -2,7 +2,7 @@ use Rattle.std.proofs.Common.{◌≡◌, ◌∷◌, [], None, Some, IsSome, Cont
 use Rattle.std.proofs.lemmas.Option.{get_or_from_slice_get}
 use Rattle.indexmap.specs.IndexMap.{get}
 use Rattle.indexmap.proofs.CallerLemmas.{insert_entry-new}
-use Rattle.vc_graph.proofs.WalkLemmas.{Contains-from_slice_get}
+use Rattle.vc_object_map.proofs.WalkLemmas.{Contains-from_slice_get}
 use Rattle.vc_object.specs.ObjectId.{id_eq}
 use Rattle.vc_object.specs.declared.id.ObjectId.{ObjectId}
 use Rattle.vc_history.specs.Numbering.{WaitsFor, queues}

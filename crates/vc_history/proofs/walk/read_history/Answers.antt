@@ -3,7 +3,7 @@ use Rattle.std.proofs.lemmas.Grind.{common_steps}
 use Rattle.std.proofs.Math.ListN.{length-map}
 use Rattle.vc_history.proofs.WalkLemmas.{Meets-start, Meets-reads, Meets-reached, gathered, other_told}
 use Rattle.vc_history.proofs.HistoryLemmas.{IsTold-from_next}
-use Rattle.vc_graph.proofs.WalkLemmas.{Contains-from_slice_get}
+use Rattle.vc_object_map.proofs.WalkLemmas.{Contains-from_slice_get}
 use Rattle.vc_history.proofs.walk.read_history.Goals as goal
 
 pub reading-init : goal.reading-init

@@ -4,7 +4,7 @@ use Rattle.std.specs.List.{AllByRecursion}
 use Rattle.vc_files.specs.FileMap.{FileMap}
 use Rattle.vc_object.specs.declared.kind.Kind.TheVariants as kinds
 use Rattle.vc_object.specs.declared.mode.Mode.TheVariants as modes
-use Rattle.vc_store.specs.Store.{objects}
+use Rattle.vc_object_map.specs.Store.{objects}
 use Rattle.vc_index.specs.HeldFiles.{Pair}
 use Rattle.vc_index.specs.IndexMap.{IndexMap, IsFile, IsIndex, index_entry}
 use Rattle.vc_index.specs.TreeFiles.{IsFileOfTree}

@@ -1,7 +1,7 @@
 use Rattle.std.proofs.Common.{◌≡◌, map}
 use Rattle.std.specs.List.{AllByRecursion}
 use Rattle.vc_files.specs.Failures.{Wears}
-use Rattle.vc_store.specs.Store.{objects}
+use Rattle.vc_object_map.specs.Store.{objects}
 use Rattle.vc_index.specs.IndexMap.{IsFile, IsIndex}
 use Rattle.vc_index.specs.Reading.{pairs, with_files}
 use Rattle.vc_index.specs.Loading.{HasBlobs, item_pair}

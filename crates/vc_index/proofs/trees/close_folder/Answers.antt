@@ -7,8 +7,8 @@ use Rattle.vc_object.specs.declared.id.ObjectId.{ObjectId}
 use Rattle.vc_object.specs.declared.kind.Kind.TheVariants as kinds
 use Rattle.vc_object.specs.declared.mode.Mode.TheVariants as modes
 use Rattle.vc_object.proofs.IdLemmas.{IsId-from_is_id}
-use Rattle.vc_store.specs.Store.{objects, IsDamaged}
-use Rattle.vc_store.specs.StoreFault.{IsOfPut}
+use Rattle.vc_object_map.specs.Store.{objects, IsDamaged}
+use Rattle.vc_object_map.specs.StoreFault.{IsOfPut}
 use Rattle.vc_index.specs.Building.{Building}
 use Rattle.vc_index.specs.IndexMap.{index_entry}
 use Rattle.vc_index.specs.Part.{part_entry}

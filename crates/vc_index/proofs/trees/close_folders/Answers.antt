@@ -4,7 +4,7 @@ use Rattle.std.specs.List.{starts_with}
 use Rattle.vc_files.proofs.WearLemmas.{writes_both, writes_told}
 use Rattle.vc_files.proofs.FileMapLemmas.{outside_then, outside_same}
 use Rattle.vc_object.specs.declared.id.ObjectId.{ObjectId}
-use Rattle.vc_store.specs.Store.{objects, IsDamaged}
+use Rattle.vc_object_map.specs.Store.{objects, IsDamaged}
 use Rattle.vc_index.specs.FolderTrees.{Fits}
 use Rattle.vc_index.specs.WrittenTrees.{IsOfWrite}
 use Rattle.vc_index.specs.declared.trees.Part.{Part}

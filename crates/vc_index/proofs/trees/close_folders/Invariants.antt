@@ -3,7 +3,7 @@ use Rattle.std.specs.Prelude.{codes}
 use Rattle.vc_files.specs.Failures.{Writes}
 use Rattle.vc_files.specs.FileMap.{SameOutside}
 use Rattle.vc_object.specs.Tree.{Entry}
-use Rattle.vc_store.specs.Store.{objects}
+use Rattle.vc_object_map.specs.Store.{objects}
 use Rattle.vc_index.specs.Damage.{KeepsDamage}
 use Rattle.vc_index.specs.Building.{Building, Closes, IsNext, open_length}
 use Rattle.vc_index.specs.HeldFiles.{Pair}

@@ -3,7 +3,7 @@ use Rattle.std.specs.Prelude.{codes}
 use Rattle.std.specs.FinMap.{entries}
 use Rattle.vc_files.specs.Failures.{Writes}
 use Rattle.vc_files.specs.FileMap.{SameOutside}
-use Rattle.vc_store.specs.Store.{objects}
+use Rattle.vc_object_map.specs.Store.{objects}
 use Rattle.vc_index.specs.Damage.{KeepsDamage}
 use Rattle.vc_index.specs.Building.{Closes}
 use Rattle.vc_index.specs.HeldFiles.{Pair}

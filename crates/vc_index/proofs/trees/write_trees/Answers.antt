@@ -5,11 +5,11 @@ use Rattle.std.specs.FinMap.{entries}
 use Rattle.vc_files.proofs.WearLemmas.{writes_both, writes_none, writes_told}
 use Rattle.vc_object.specs.Tree.{spelling}
 use Rattle.vc_object.specs.declared.id.ObjectId.{ObjectId}
-use Rattle.vc_store.specs.Store.{objects, IsDamaged}
+use Rattle.vc_object_map.specs.Store.{objects, IsDamaged}
 use Rattle.vc_index.specs.IndexMap.{index_of}
 use Rattle.vc_index.specs.Part.{part_entry}
 use Rattle.vc_files.specs.declared.faults.Fault.TheVariants.{Device}
-use Rattle.vc_store.specs.declared.faults.StoreFault.TheVariants.{Fault}
+use Rattle.vc_object_map.specs.declared.faults.StoreFault.TheVariants.{Fault}
 use Rattle.vc_index.specs.WrittenTrees.{IsBegun, IsOfWrite, MayHaveBegun}
 use Rattle.vc_index.specs.declared.faults.IndexFault.TheVariants.{Store}
 use Rattle.vc_index.proofs.ClosingLemmas.{building_starts, written, handed_on, still_damaged}

@@ -1,7 +1,8 @@
 use Rattle.std.proofs.Common.{◌≡◌, rules, subst}
 use Rattle.vc_files.specs.FileMap.{FileMap}
-use Rattle.vc_session.specs.Known.{AreRefsWhole, AreWhole}
-use Rattle.vc_store.specs.Store.{objects}
+use Rattle.vc_push_rules.specs.Known.{AreRefsWhole}
+use Rattle.vc_quarantine.specs.Known.{AreWhole}
+use Rattle.vc_object_map.specs.Store.{objects}
 use Rattle.vc_local.specs.GoodCommit.{BlamesCommit, BlamesCommitBeyond}
 use Rattle.vc_local.proofs.CommitLemmas.{blames_beyond}
 use Rattle.vc_local.proofs.checks.refuse_bad_commit.Goals as goal

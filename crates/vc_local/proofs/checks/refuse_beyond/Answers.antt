@@ -3,12 +3,12 @@ use Rattle.vc_history.proofs.GenerationLemmas.{agrees_where_none}
 use Rattle.vc_history.specs.HistoryFault.{IsTold}
 use Rattle.vc_history.specs.Numbering.{numbers}
 use Rattle.vc_files.specs.FileMap.{FileMap}
-use Rattle.vc_graph.specs.Graph.{IsClosedUnder, ReachedFrom}
-use Rattle.vc_graph.specs.GraphFault.{IsMet}
-use Rattle.vc_graph.specs.StoreState.{StoreState}
+use Rattle.vc_object_map.specs.Graph.{IsClosedUnder, ReachedFrom}
+use Rattle.vc_object_map.specs.StoreFault.{IsMet}
+use Rattle.vc_store.specs.StoreState.{StoreState}
 use Rattle.vc_object.specs.ObjectMap.{links_in, parents_in}
-use Rattle.vc_session.specs.Known.{AreWhole}
-use Rattle.vc_store.specs.Store.{objects, IsDamaged}
+use Rattle.vc_quarantine.specs.Known.{AreWhole}
+use Rattle.vc_object_map.specs.Store.{objects, IsDamaged}
 use Rattle.vc_local.specs.GoodCommit.{IsComplete, BlamesCommitBeyond}
 use Rattle.vc_local.specs.NodeFault.{of_history}
 use Rattle.vc_local.specs.Reads.{NoneRead, TellsRead, IsReached}

@@ -3,7 +3,7 @@ use Rattle.vc_files.proofs.WearLemmas.{wears_then, wears_writes, writes_both, wr
 use Rattle.std.proofs.Common.{◌≡◌, ◌∙◌, rules, inl, inr, sym, ap, subst}
 use Rattle.std.specs.Prelude.{IfSome, codes}
 use Rattle.vc_files.specs.FileMap.{FileMap, SameOutside}
-use Rattle.vc_store.specs.Store.{objects}
+use Rattle.vc_object_map.specs.Store.{objects}
 use Rattle.vc_local.specs.Commit.{parents_of_commit}
 use Rattle.vc_local.specs.IndexFile.{SpellsIndex, BlamesIndex}
 use Rattle.vc_local.specs.Making.{LeavesSaid, AreLines, BlamesLook, BlamesParents, BlamesMaking, LeftByCommit}

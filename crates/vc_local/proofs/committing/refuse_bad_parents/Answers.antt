@@ -3,9 +3,10 @@ use Rattle.std.specs.List.{AllByRecursion}
 use Rattle.std.proofs.lemmas.List.{take_all}
 use Rattle.vc_files.specs.FileMap.{FileMap}
 use Rattle.vc_object.specs.declared.id.ObjectId.{ObjectId}
-use Rattle.vc_session.specs.Known.{AreRefsWhole, AreWhole}
-use Rattle.vc_store.specs.Store.{objects}
-use Rattle.vc_store.specs.declared.faults.StoreFault.TheVariants as store
+use Rattle.vc_push_rules.specs.Known.{AreRefsWhole}
+use Rattle.vc_quarantine.specs.Known.{AreWhole}
+use Rattle.vc_object_map.specs.Store.{objects}
+use Rattle.vc_object_map.specs.declared.faults.StoreFault.TheVariants as store
 use Rattle.vc_local.specs.Commit.{IsGoodParent}
 use Rattle.vc_local.specs.GoodCommit.{BlamesCommit, BlamesCommitBeyond, IsComplete, IsHistory}
 use Rattle.vc_local.specs.Making.{BlamesParents}

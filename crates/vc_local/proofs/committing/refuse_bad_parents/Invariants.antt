@@ -1,8 +1,9 @@
 use Rattle.std.proofs.Common.{◌≡◌, take}
 use Rattle.std.specs.List.{AllByRecursion}
 use Rattle.vc_files.specs.Failures.{Wears}
-use Rattle.vc_session.specs.Known.{AreRefsWhole, AreWhole}
-use Rattle.vc_store.specs.Store.{objects}
+use Rattle.vc_push_rules.specs.Known.{AreRefsWhole}
+use Rattle.vc_quarantine.specs.Known.{AreWhole}
+use Rattle.vc_object_map.specs.Store.{objects}
 use Rattle.vc_local.specs.Commit.{IsGoodParent}
 use Rattle.vc_local.proofs.committing.refuse_bad_parents.Given as goal
 

@@ -1,13 +1,12 @@
 use Rattle.vc_files.proofs.WearLemmas.{writes_both, writes_told}
 use Rattle.std.proofs.Common.{rules, inr, ap, ◌∙◌}
-use Rattle.vc_store.specs.Store.{objects}
+use Rattle.vc_object_map.specs.Store.{IsDamaged, objects}
 use Rattle.vc_local.specs.Making.{BlamesObjects, StoresTrees}
 use Rattle.vc_local.specs.NodeFault.{of_index}
 use Rattle.vc_local.specs.declared.fault.NodeFault.TheVariants.{Store}
 use Rattle.vc_local.proofs.StoringLemmas.{root_of, written_still, tree_blamed, body_blamed}
 use Rattle.vc_object.specs.declared.kind.Kind.TheVariants as kinds
 use Rattle.vc_local.proofs.CleanLemmas.{clean_objects, clean_on, clean_then, clean_put}
-use Rattle.vc_store.specs.Store.{IsDamaged}
 use Rattle.vc_object.specs.declared.id.ObjectId.{ObjectId}
 use Rattle.vc_local.specs.Reads.{IsMade, NoneRead, TellsRead}
 use Rattle.vc_local.proofs.CommitReads.{trees_read, body_read}

@@ -8,7 +8,7 @@ use Rattle.vc_object.specs.declared.id.ObjectId.{ObjectId}
 use Rattle.vc_object.specs.ObjectId.{is_id}
 use Rattle.vc_object.specs.Object.{IsObject}
 use Rattle.vc_object.specs.declared.kind.Kind.TheVariants.{Blob}
-use Rattle.vc_store.specs.Store.{objects}
+use Rattle.vc_object_map.specs.Store.{objects}
 use Rattle.vc_local.specs.Shown.{Shown, shown, with_index_shown}
 use Rattle.vc_local.specs.Adding.{with_blob, with_file}
 use Rattle.vc_local.specs.Blames.{BlamesAdd, MayStage}

@@ -4,7 +4,7 @@ use Rattle.std.specs.FinMap as files
 use Rattle.std.proofs.lemmas.List.{map_more, take_all}
 use Rattle.vc_files.proofs.WearLemmas.{wears_then, writes_both, writes_told}
 use Rattle.vc_files.specs.FileMap.{FileMap, paths_under}
-use Rattle.vc_session.proofs.QuarantineLemmas.{Taken, taken_none, taken_more}
+use Rattle.vc_push_rules.proofs.QuarantineLemmas.{Taken, taken_none, taken_more}
 use Rattle.vc_local.proofs.EmptyingLemmas.{all_empty, loses_none, loses_on, taken_loses}
 use Rattle.vc_local.specs.Emptying.{quarantines}
 use Rattle.vc_local.proofs.opening.empty_quarantines.Goals as goal

@@ -1,7 +1,7 @@
 use Rattle.std.proofs.Common.{take, map}
 use Rattle.std.specs.Prelude.{string_bytes}
 use Rattle.vc_files.specs.Failures.{Writes}
-use Rattle.vc_session.proofs.QuarantineLemmas.{Taken}
+use Rattle.vc_push_rules.proofs.QuarantineLemmas.{Taken}
 use Rattle.vc_local.proofs.opening.empty_quarantines.Given as goal
 
 abbrev pub invariant-loop-path : goal.invariant-loop-path

@@ -8,11 +8,11 @@ use Rattle.vc_message.specs.Streaming.{of_pack}
 use Rattle.vc_pkt.specs.Carried.{with_object}
 use Rattle.vc_pkt.specs.StreamObjectView.{stored}
 use Rattle.vc_pkt.specs.declared.fault.PktFault.TheVariants.{BadRecord}
-use Rattle.vc_session.proofs.ArrivalLemmas.{brought_carries}
-use Rattle.vc_session.proofs.CleanLemmas.{bad_then, clean_after}
-use Rattle.vc_session.specs.Arrival.{HasArrived}
-use Rattle.vc_session.specs.Carrying.{Carries, objects_of_push}
-use Rattle.vc_session.specs.Quarantine.{quarantine_folder}
+use Rattle.vc_quarantine.proofs.ArrivalLemmas.{brought_carries}
+use Rattle.vc_quarantine.proofs.CleanLemmas.{bad_then, clean_after}
+use Rattle.vc_quarantine.specs.Arrival.{HasArrived}
+use Rattle.vc_push_rules.specs.Carrying.{Carries, objects_of_push}
+use Rattle.vc_push_rules.specs.Quarantine.{quarantine_folder}
 use Rattle.vc_message.proofs.ComingLaws.{part_taken}
 use Rattle.vc_node.proofs.ArrivingLemmas.{brought_object, files_writes, no_device, none_there, part_with, some_there, stopped_by}
 use Rattle.vc_node.specs.Arriving.{by_bytes, by_node}

@@ -7,9 +7,9 @@ use Rattle.vc_message.specs.Streaming.{LeadsTo, of_pack, state_at}
 use Rattle.vc_object.specs.Decoding.{StoredObject}
 use Rattle.vc_object.specs.declared.id.ObjectId.{ObjectId}
 use Rattle.vc_pkt.specs.ObjectStream.{between}
-use Rattle.vc_session.specs.Arrival.{HasArrived}
-use Rattle.vc_session.specs.Clean.{IsQuarantineClean, MakesNoneBad}
-use Rattle.vc_session.specs.Quarantine.{quarantine_folder}
+use Rattle.vc_quarantine.specs.Arrival.{HasArrived}
+use Rattle.vc_quarantine.specs.Clean.{IsQuarantineClean, MakesNoneBad}
+use Rattle.vc_push_rules.specs.Quarantine.{quarantine_folder}
 use Rattle.vc_node.specs.Arriving.{BeginsPack}
 use Rattle.vc_node.proofs.arriving.arrive.Given as goal
 

@@ -5,8 +5,8 @@ use Rattle.vc_exchange.specs.Quarantined.{HoldsPack}
 use Rattle.vc_files.proofs.WearLemmas.{writes_both, writes_told}
 use Rattle.vc_files.specs.FileMap.{FileMap, SameOutside}
 use Rattle.vc_object.specs.declared.id.ObjectId.{ObjectId}
-use Rattle.vc_session.proofs.FrameLemmas.{refs-of_slot}
-use Rattle.vc_session.specs.Quarantine.{quarantine_folder}
+use Rattle.vc_push_rules.proofs.FrameLemmas.{refs-of_slot}
+use Rattle.vc_push_rules.specs.Quarantine.{quarantine_folder}
 use Rattle.vc_node.proofs.ArrivedLemmas.{blames_before, exchange_writes}
 use Rattle.vc_node.proofs.KeepingLemmas.{good_then}
 use Rattle.vc_node.proofs.LearningLemmas.{agrees_beside, learns_none, pack_failed, pack_taken}

@@ -3,10 +3,10 @@ use Rattle.std.proofs.lemmas.Result.{err_from_is_err_and}
 use Rattle.vc_exchange.proofs.QuarantinedLemmas.{others_same}
 use Rattle.vc_files.proofs.FileMapLemmas.{outside_same}
 use Rattle.vc_files.proofs.WearLemmas.{writes_none}
-use Rattle.vc_session.proofs.CleanLemmas.{bad_same}
+use Rattle.vc_quarantine.proofs.CleanLemmas.{bad_same}
 use Rattle.vc_node.proofs.ArrivingLemmas.{no_device, stopped_by}
 use Rattle.vc_node.proofs.ComingLemmas.{comes_lost, comes_receives, nothing_receives, stopped_receives, told_cleared, told_none, told_receives, told_lost, told_writes}
-use Rattle.vc_session.specs.Learning.{learnt_in}
+use Rattle.vc_quarantine.specs.Learning.{learnt_in}
 use Rattle.vc_node.proofs.KeepingLemmas.{good_same}
 use Rattle.vc_node.proofs.LearningLemmas.{learns_none, told_leaves}
 use Rattle.vc_node.specs.Awaited.{awaited_text}

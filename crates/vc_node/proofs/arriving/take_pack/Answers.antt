@@ -5,7 +5,7 @@ use Rattle.vc_exchange.specs.Moving.{told_in}
 use Rattle.vc_files.proofs.FileMapLemmas.{outside_same}
 use Rattle.vc_files.proofs.WearLemmas.{writes_both, writes_none, writes_told}
 use Rattle.vc_message.specs.AnyMessage.{a_pack as pack_message}
-use Rattle.vc_session.proofs.CleanLemmas.{bad_then}
+use Rattle.vc_quarantine.proofs.CleanLemmas.{bad_then}
 use Rattle.vc_node.proofs.ArrivedLemmas.{left_comes, left_failing, left_then, taken_comes}
 use Rattle.vc_node.proofs.ArrivingLemmas.{files_writes, no_device, refusal_no_device, stopped_by}
 use Rattle.vc_node.proofs.ExchangingLemmas.{pack_refused, pack_unexpected, same_pack}

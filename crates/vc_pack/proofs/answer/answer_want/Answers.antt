@@ -3,10 +3,10 @@ use Rattle.vc_pack.proofs.AnswerLemmas.{first_not_ours, refused_answer, refused_
 use Rattle.vc_pack.specs.Answer.{IsOurs}
 use Rattle.vc_pack.specs.AnswerFault.{IsRefusedAnswer, from_graph}
 use Rattle.vc_pack.specs.Picked.{IsPicked}
-use Rattle.vc_graph.proofs.WalkLemmas.{ReachedFrom-append_left}
+use Rattle.vc_object_map.proofs.WalkLemmas.{ReachedFrom-append_left}
 use Rattle.vc_object.specs.ObjectMap.{links_in}
 use Rattle.vc_object.specs.declared.id.ObjectId.{ObjectId as Id}
-use Rattle.vc_store.specs.Store.{objects}
+use Rattle.vc_object_map.specs.Store.{objects}
 use Rattle.vc_pack.proofs.answer.answer_want.Goals as goal
 
 pub returns-in-Some-clause-refused : goal.returns-in-Some-clause-refused

@@ -1,14 +1,14 @@
 use Rattle.std.proofs.Common.{rules}
-use Rattle.vc_graph.proofs.OverlayLemmas.{IsClosedUnder-with_carried}
+use Rattle.vc_object_map.proofs.OverlayLemmas.{IsClosedUnder-with_carried}
 use Rattle.vc_pack.proofs.JudgeLemmas.{all_under, err_under, ok_under}
 use Rattle.vc_fetch.specs.PackObjects.{objects_in}
-use Rattle.vc_graph.specs.Graph.{IsClosedUnder, ReachedFrom}
-use Rattle.vc_graph.specs.GraphFault.{IsMet}
+use Rattle.vc_object_map.specs.Graph.{IsClosedUnder, ReachedFrom}
+use Rattle.vc_object_map.specs.StoreFault.{IsMet}
 use Rattle.vc_graph.specs.Incomplete.{IsFirstIncomplete}
-use Rattle.vc_graph.specs.Overlay.{with_carried}
+use Rattle.vc_object_map.specs.Overlay.{with_carried}
 use Rattle.vc_object.specs.ObjectMap.{links_in}
 use Rattle.vc_pkt.specs.ObjectStreamView.{carried}
-use Rattle.vc_store.specs.Store.{objects, IsDamaged}
+use Rattle.vc_object_map.specs.Store.{objects, IsDamaged}
 use Rattle.vc_pack.proofs.judge.names_met_in_files.Goals as goal
 
 pub returns-clause-complete : goal.returns-clause-complete

@@ -2,9 +2,9 @@ use Rattle.std.proofs.Common.{◌∙◌, ◌∷◌, [], arith, get_or, refl, rul
 use Rattle.std.proofs.Math.Seq.{take-length}
 use Rattle.std.proofs.lemmas.List.{take_all}
 use Rattle.vc_pack.proofs.JudgeLemmas.{closed_next, closed_none, front_then, reached_wants}
-use Rattle.vc_graph.proofs.FaultLemmas.{IsMet-more}
-use Rattle.vc_graph.specs.Graph.{IsClosedUnder, ReachedFrom}
-use Rattle.vc_graph.specs.GraphFault.{IsMet}
+use Rattle.vc_object_map.proofs.FaultLemmas.{IsMet-more}
+use Rattle.vc_object_map.specs.Graph.{IsClosedUnder, ReachedFrom}
+use Rattle.vc_object_map.specs.StoreFault.{IsMet}
 use Rattle.vc_object.specs.ObjectMap.{links_in}
 use Rattle.vc_object.specs.declared.id.ObjectId.{ObjectId}
 use Rattle.vc_pack.proofs.judge.names_reached.Goals as goal

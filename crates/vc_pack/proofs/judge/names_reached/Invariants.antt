@@ -1,6 +1,6 @@
 use Rattle.std.proofs.Common.{◌≡◌, length, take}
 use Rattle.vc_files.specs.Failures.{Wears}
-use Rattle.vc_graph.specs.Graph.{IsClosedUnder}
+use Rattle.vc_object_map.specs.Graph.{IsClosedUnder}
 use Rattle.vc_object.specs.ObjectMap.{links_in}
 use Rattle.vc_pack.proofs.judge.names_reached.Given as goal
 

@@ -1,6 +1,6 @@
 use Rattle.std.proofs.Common.{◌∙◌, length, take, ap}
 use Rattle.std.proofs.Math.Seq.{take-append_seam}
-use Rattle.vc_graph.proofs.WalkLemmas.{insert_all-prefix}
+use Rattle.vc_object_map.proofs.WalkLemmas.{insert_all-prefix}
 use Rattle.vc_object.specs.ObjectId.{id_eq}
 use Rattle.vc_pack.proofs.reached.add_all.Goals as goal
 

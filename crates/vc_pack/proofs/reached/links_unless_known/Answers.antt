@@ -1,12 +1,12 @@
 use Rattle.std.proofs.Common.{rules, ◌≡◌, ◌∙◌, [], ◌∷◌, Some, None, ap, sym}
 use Rattle.vc_pack.proofs.ReachedLemmas.{links_beyond-known, links_beyond-new}
-use Rattle.vc_graph.proofs.FaultLemmas.{IsMet-from_refused}
-use Rattle.vc_graph.proofs.WalkLemmas.{ReachedFrom-one}
-use Rattle.vc_graph.specs.Graph.{ReachedFrom, itself}
+use Rattle.vc_object_map.proofs.FaultLemmas.{IsMet-from_refused}
+use Rattle.vc_object_map.proofs.WalkLemmas.{ReachedFrom-one}
+use Rattle.vc_object_map.specs.Graph.{ReachedFrom, itself}
 use Rattle.vc_object.proofs.ObjectMaps.{links_in-none, links_in-some}
 use Rattle.vc_object.specs.Decoding.{stored_object}
 use Rattle.vc_object.specs.ObjectMap.{links_in}
-use Rattle.vc_store.specs.Store.{objects, IsDamaged}
+use Rattle.vc_object_map.specs.Store.{objects, IsDamaged}
 use Rattle.vc_pack.proofs.reached.links_unless_known.Goals as goal
 
 pub returns-then-contains-clause-links : goal.returns-then-contains-clause-links

@@ -4,11 +4,11 @@ use Rattle.vc_pack.proofs.ReachedLemmas.{IsMetDownTo-walked, ReachedFrom-beyond,
 use Rattle.vc_pack.proofs.SentLemmas.{ReachedFrom-onward}
 use Rattle.vc_pack.specs.Reached.{links_beyond}
 use Rattle.vc_graph.proofs.FaultLemmas.{IsTold-more}
-use Rattle.vc_graph.proofs.WalkLemmas.{Walks-step, Contains-from_slice_get}
+use Rattle.vc_object_map.proofs.WalkLemmas.{Walks-step, Contains-from_slice_get}
 use Rattle.vc_object.proofs.IdLemmas.{id_eq-same}
 use Rattle.vc_object.specs.ObjectId.{id_eq}
 use Rattle.vc_object.specs.ObjectMap.{links_in}
-use Rattle.vc_store.specs.Store.{objects, IsDamaged}
+use Rattle.vc_object_map.specs.Store.{objects, IsDamaged}
 use Rattle.vc_pack.proofs.reached.met_down_to.Goals as goal
 
 pub loop-next-init : goal.loop-next-init

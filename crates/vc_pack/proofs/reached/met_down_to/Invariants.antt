@@ -1,9 +1,9 @@
 use Rattle.std.proofs.Common.{◌≡◌, ◌-◌, ◌^◌}
 use Rattle.vc_pack.specs.Reached.{links_beyond}
 use Rattle.vc_files.specs.Failures.{Wears}
-use Rattle.vc_graph.proofs.WalkLemmas.{Walks}
+use Rattle.vc_object_map.proofs.WalkLemmas.{Walks}
 use Rattle.vc_object.specs.ObjectMap.{links_in}
-use Rattle.vc_store.specs.Store.{objects}
+use Rattle.vc_object_map.specs.Store.{objects}
 use Rattle.vc_pack.proofs.reached.met_down_to.Given as goal
 
 abbrev pub invariant-loop-next : goal.invariant-loop-next

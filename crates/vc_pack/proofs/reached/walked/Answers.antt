@@ -1,7 +1,7 @@
 use Rattle.std.proofs.Common.{◌≡◌, rules}
 use Rattle.vc_pack.proofs.ReachedLemmas.{Stands-walked}
 use Rattle.vc_object.specs.ObjectMap.{links_in}
-use Rattle.vc_store.specs.Store.{objects}
+use Rattle.vc_object_map.specs.Store.{objects}
 use Rattle.vc_pack.proofs.reached.walked.Goals as goal
 
 pub returns-clause-stands : goal.returns-clause-stands

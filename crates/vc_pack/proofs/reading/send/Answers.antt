@@ -1,12 +1,12 @@
 use Rattle.std.proofs.Common.{rules, ◌≡◌, [], ◌∷◌, Some, None}
 use Rattle.vc_pack.proofs.reading.send.Goals as goal
-use Rattle.vc_graph.proofs.FaultLemmas.{IsMet-from_refused}
-use Rattle.vc_graph.proofs.WalkLemmas.{ReachedFrom-one}
-use Rattle.vc_graph.specs.Graph.{ReachedFrom, itself}
+use Rattle.vc_object_map.proofs.FaultLemmas.{IsMet-from_refused}
+use Rattle.vc_object_map.proofs.WalkLemmas.{ReachedFrom-one}
+use Rattle.vc_object_map.specs.Graph.{ReachedFrom, itself}
 use Rattle.vc_object.proofs.ObjectMaps.{links_in-none, links_in-some}
 use Rattle.vc_object.specs.Decoding.{stored_object}
 use Rattle.vc_object.specs.ObjectMap.{links_in}
-use Rattle.vc_store.specs.Store.{objects, IsDamaged}
+use Rattle.vc_object_map.specs.Store.{objects, IsDamaged}
 
 pub returns-in_err-stored-clause-refused : goal.returns-in_err-stored-clause-refused
 returns-in_err-stored-clause-refused g c honest =

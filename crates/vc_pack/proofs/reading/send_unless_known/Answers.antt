@@ -3,7 +3,7 @@ use Rattle.std.proofs.lemmas.Map.Views.{Contains-from_any, list_any-from_Contain
 use Rattle.vc_pack.proofs.ReachedLemmas.{links_beyond-known, links_beyond-new}
 use Rattle.vc_object.proofs.IdLemmas.{id_eq-same, id_eq_equiv}
 use Rattle.vc_object.specs.ObjectMap.{links_in}
-use Rattle.vc_store.specs.Store.{objects}
+use Rattle.vc_object_map.specs.Store.{objects}
 use Rattle.vc_pack.proofs.reading.send_unless_known.Goals as goal
 
 pub returns-then-contains-clause-links : goal.returns-then-contains-clause-links

@@ -2,10 +2,10 @@ use Rattle.std.proofs.Common.{◌≡◌, ◌-◌, ◌^◌}
 use Rattle.vc_pack.proofs.SentLemmas.{Keeps}
 use Rattle.vc_pack.specs.Reached.{links_beyond}
 use Rattle.vc_files.specs.Failures.{Wears}
-use Rattle.vc_graph.proofs.WalkLemmas.{Walks}
+use Rattle.vc_object_map.proofs.WalkLemmas.{Walks}
 use Rattle.vc_object.specs.ObjectMap.{links_in}
 use Rattle.vc_pkt.specs.StreamObjectView.{objects_of}
-use Rattle.vc_store.specs.Store.{objects}
+use Rattle.vc_object_map.specs.Store.{objects}
 use Rattle.vc_pack.proofs.reading.sent_beyond.Given as goal
 
 abbrev pub invariant-loop-next : goal.invariant-loop-next

@@ -2,9 +2,9 @@ use Rattle.std.proofs.Common.{rules, ◌++◌}
 use Rattle.vc_pack.proofs.ReachedLemmas.{Stands-none}
 use Rattle.vc_pack.specs.Reached.{StandsIn}
 use Rattle.vc_graph.proofs.FaultLemmas.{IsTold-more}
-use Rattle.vc_graph.proofs.WalkLemmas.{ReachedFrom-append_left, ReachedFrom-append_right}
+use Rattle.vc_object_map.proofs.WalkLemmas.{ReachedFrom-append_left, ReachedFrom-append_right}
 use Rattle.vc_object.specs.ObjectMap.{links_in}
-use Rattle.vc_store.specs.Store.{objects, IsDamaged}
+use Rattle.vc_object_map.specs.Store.{objects, IsDamaged}
 use Rattle.vc_pack.proofs.reading.sent_objects.Goals as goal
 
 pub returns-in_err-renew-clause-refused : goal.returns-in_err-renew-clause-refused

@@ -2,8 +2,8 @@ use Rattle.std.proofs.Common.{◌≡◌, List, ℕ, subst, refl}
 use Rattle.vc_files.proofs.WearLemmas.{writes_none}
 use Rattle.vc_object.specs.Decoding.{stored_object}
 use Rattle.vc_object.specs.Object.{object_name, IsObject}
-use Rattle.vc_store.specs.Store.{objects, with_object}
-use Rattle.vc_store.specs.StoreFault.{IsOfPut}
+use Rattle.vc_object_map.specs.Store.{objects, with_object}
+use Rattle.vc_object_map.specs.StoreFault.{IsOfPut}
 use Rattle.vc_reading.proofs.BodyLemmas.{of_front, refused_put}
 use Rattle.vc_cli.specs.Failure.{IsFault}
 use Rattle.vc_cli.proofs.ToldLemmas.{handed_on, told_apart}

@@ -8,7 +8,7 @@ use Rattle.vc_history.specs.Numbering.{numbers}
 use Rattle.vc_files.specs.FileMap.{FileMap}
 use Rattle.vc_object.specs.ObjectMap.{parents_in}
 use Rattle.vc_object.specs.declared.id.ObjectId.{ObjectId}
-use Rattle.vc_store.specs.Store.{objects}
+use Rattle.vc_object_map.specs.Store.{objects}
 use Rattle.vc_cli.specs.Printed.{id_line}
 use Rattle.vc_reading.proofs.merge_base.print_bases.Goals as goal
 

@@ -1,7 +1,7 @@
 use Rattle.std.proofs.Common.{◌∙◌, ap, inl, subst, sym}
 use Rattle.vc_repository.specs.Resolving.{IsIndexFor}
 use Rattle.vc_repository.specs.State.{state}
-use Rattle.vc_rev.specs.Views.{expr_view}
+use Rattle.vc_expression.specs.Views.{expr_view}
 use Rattle.vc_repository.proofs.resolving.resolve.Goals as goal
 
 pub returns-in-Ok-resolve-clause-value : goal.returns-in-Ok-resolve-clause-value

@@ -1,7 +1,7 @@
 use Rattle.std.proofs.Common.{inr, sym}
 use Rattle.std.proofs.lemmas.Result.{err_from_is_err_and, IfErr-weaker}
 use Rattle.vc_rev.specs.RootsView.{roots_view}
-use Rattle.vc_rev.specs.SetViews.{terms_view}
+use Rattle.vc_expression.specs.SetViews.{terms_view}
 use Rattle.vc_rev.proofs.SelectionLemmas.{not_both, ok_both, told_one}
 use Rattle.vc_rev.proofs.selected.resolve_set.Goals as goal
 

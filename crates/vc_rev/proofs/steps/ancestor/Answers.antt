@@ -2,7 +2,7 @@ use Rattle.std.proofs.Common.{rules, ◌≡◌, ◌≢◌, ◌∙◌, Ok, Err, a
 use Rattle.std.proofs.lemmas.Result.{err_from_is_err_and}
 use Rattle.vc_rev.specs.Asking.{AncestorAsks, PeelingAsks}
 use Rattle.vc_rev.specs.Meaning.{PicksFrom, AncestorGives}
-use Rattle.vc_rev.specs.declared.token.Step.TheVariants as steps
+use Rattle.vc_expression.specs.declared.token.Step.TheVariants as steps
 use Rattle.vc_rev.proofs.AnswerLemmas.{told_same}
 use Rattle.vc_rev.proofs.StepsLemmas.{parents_more, parents_end, parents_none, ancestor_some, ancestor_asked, parents_asked, parents_asked-first}
 use Rattle.vc_rev.proofs.steps.ancestor.Goals as goal

@@ -1,7 +1,7 @@
 use Rattle.std.proofs.Common.{rules, inr, ◌≡◌, [], ◌∷◌, Some, ap, sym, ◌∙◌, refl, arith}
 use Rattle.std.specs.Option.{option_map}
 use Rattle.indexmap.specs.IndexSet.{insert_key, insert_all}
-use Rattle.vc_graph.proofs.WalkLemmas.{Walks-step, Contains-from_slice_get, walked-closed, Reaches-from_one, ReachedFrom-one}
+use Rattle.vc_object_map.proofs.WalkLemmas.{Walks-step, Contains-from_slice_get, walked-closed, Reaches-from_one, ReachedFrom-one}
 use Rattle.vc_object.proofs.IdLemmas.{id_eq-same}
 use Rattle.vc_object.specs.Decoding.{stored_object}
 use Rattle.vc_object.specs.ObjectId.{id_eq}

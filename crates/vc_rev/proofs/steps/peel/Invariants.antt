@@ -1,6 +1,6 @@
 use Rattle.std.proofs.Common.{◌≡◌, ◌-◌, ◌^◌, [], ◌∷◌}
 use Rattle.vc_files.specs.Failures.{Wears}
-use Rattle.vc_graph.proofs.WalkLemmas.{Walks}
+use Rattle.vc_object_map.proofs.WalkLemmas.{Walks}
 use Rattle.vc_rev.specs.Meaning.{tag_links}
 use Rattle.vc_rev.proofs.steps.peel.Given as goal
 

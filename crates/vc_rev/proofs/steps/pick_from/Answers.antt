@@ -2,7 +2,7 @@ use Rattle.std.proofs.Common.{◌≡◌, ◌≢◌, Ok, refl, sym}
 use Rattle.std.proofs.lemmas.Result.{err_from_is_err_and, IfOk-weaker, IfErr-weaker, IfErr-at_err}
 use Rattle.vc_files.specs.declared.faults.Fault.TheVariants as devices
 use Rattle.vc_object.specs.Decoding.{stored_object}
-use Rattle.vc_store.specs.declared.faults.StoreFault.TheVariants as stores
+use Rattle.vc_object_map.specs.declared.faults.StoreFault.TheVariants as stores
 use Rattle.vc_rev.specs.Asking.{PeelingAsks}
 use Rattle.vc_rev.specs.Meaning.{PeelsTo, pick}
 use Rattle.vc_rev.specs.declared.refusal.SourceFault.TheVariants as sources

@@ -3,7 +3,7 @@ use Rattle.vc_files.specs.Failures.{Wears}
 use Rattle.vc_rev.specs.Asking.{StepsAsk}
 use Rattle.vc_rev.specs.Question.{Question}
 use Rattle.vc_rev.specs.Meaning.{Answer, StepsGive}
-use Rattle.vc_rev.specs.Views.{steps_of}
+use Rattle.vc_expression.specs.Views.{steps_of}
 use Rattle.vc_rev.proofs.steps.steps_value.Given as goal
 
 -- what comes of the steps that are left is what comes of all, and what they ask all ask

@@ -4,12 +4,12 @@ use Rattle.vc_files.specs.Failures.{Wears}
 use Rattle.vc_files.specs.declared.faults.Fault.TheVariants as devices
 use Rattle.vc_object.specs.Decoding.{StoredObject, stored_object}
 use Rattle.vc_object.specs.declared.id.ObjectId.{ObjectId}
-use Rattle.vc_store.specs.declared.faults.StoreFault.TheVariants as stores
+use Rattle.vc_object_map.specs.declared.faults.StoreFault.TheVariants as stores
 use Rattle.vc_rev.specs.Answer.{After}
 use Rattle.vc_rev.specs.Asking.{PeelingAsks, RevAsks}
 use Rattle.vc_rev.specs.Meaning.{PeelsTo, RevGives}
 use Rattle.vc_rev.specs.Selection.{commit_at}
-use Rattle.vc_rev.specs.Views.{rev_view}
+use Rattle.vc_expression.specs.Views.{rev_view}
 use Rattle.vc_rev.specs.declared.refusal.SourceFault.TheVariants as sources
 use Rattle.vc_rev.specs.declared.refusal.RevFault.{RevFault}
 use Rattle.vc_rev.specs.declared.refusal.RevFault.TheVariants as faults

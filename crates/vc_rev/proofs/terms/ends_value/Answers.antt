@@ -1,8 +1,8 @@
 use Rattle.std.proofs.Common.{Ok, IfOk, IfErr, subst}
 use Rattle.vc_rev.specs.Answer.{IsTold}
-use Rattle.vc_rev.specs.Grammar.{RevText}
+use Rattle.vc_expression.specs.Grammar.{RevText}
 use Rattle.vc_rev.specs.Selection.{BothAsk, BothGive}
-use Rattle.vc_rev.specs.Views.{rev_view}
+use Rattle.vc_expression.specs.Views.{rev_view}
 use Rattle.vc_rev.proofs.terms.ends_value.Goals as goal
 
 pub returns-in-Both-clause-ok : goal.returns-in-Both-clause-ok

@@ -1,7 +1,7 @@
 use Rattle.std.proofs.Common.{◌≡◌, [], ◌∷◌, Ok, ap}
 use Rattle.std.proofs.lemmas.Result.{err_from_is_err_and}
 use Rattle.vc_rev.specs.Selection.{BothAsk, BothGive, selection, first_of, second_of}
-use Rattle.vc_rev.specs.SetViews.{ends_view}
+use Rattle.vc_expression.specs.SetViews.{ends_view}
 use Rattle.vc_rev.proofs.AnswerLemmas.{told_only}
 use Rattle.vc_rev.proofs.terms.range.Goals as goal
 

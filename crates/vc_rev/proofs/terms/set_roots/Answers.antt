@@ -3,8 +3,8 @@ use Rattle.std.proofs.lemmas.Result.{err_from_is_err_and}
 use Rattle.vc_rev.specs.Answer.{IsTold}
 use Rattle.vc_rev.specs.RootsView.{roots_view}
 use Rattle.vc_rev.specs.Selection.{TermAsks, TermGives}
-use Rattle.vc_rev.specs.SetViews.{term_view}
-use Rattle.vc_rev.specs.declared.token.Term.{Term}
+use Rattle.vc_expression.specs.SetViews.{term_view}
+use Rattle.vc_expression.specs.declared.token.Term.{Term}
 use Rattle.vc_rev.proofs.SelectionLemmas.{terms_told, terms_more, terms_asked}
 use Rattle.vc_rev.proofs.terms.set_roots.Goals as goal
 

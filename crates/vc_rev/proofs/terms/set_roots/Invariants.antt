@@ -3,7 +3,7 @@ use Rattle.vc_files.specs.Failures.{Wears}
 use Rattle.vc_rev.specs.RootsView.{roots_view}
 use Rattle.vc_rev.specs.Selection.{Selection, SetGives, TermsAsk, TermsGive}
 use Rattle.vc_rev.specs.Question.{Question}
-use Rattle.vc_rev.specs.SetViews.{term_view}
+use Rattle.vc_expression.specs.SetViews.{term_view}
 use Rattle.vc_rev.specs.declared.refusal.Refusal.{Refusal}
 use Rattle.vc_rev.proofs.terms.set_roots.Given as goal
 

@@ -1,9 +1,9 @@
 use Rattle.std.proofs.Common.{◌≡◌, [], ◌∷◌, Ok, ap, subst}
 use Rattle.std.proofs.lemmas.Result.{err_from_is_err_and}
 use Rattle.vc_rev.specs.Answer.{IsTold}
-use Rattle.vc_rev.specs.Grammar.{RevText}
+use Rattle.vc_expression.specs.Grammar.{RevText}
 use Rattle.vc_rev.specs.Selection.{BothAsk, BothGive, selection, nth_of}
-use Rattle.vc_rev.specs.Views.{rev_view}
+use Rattle.vc_expression.specs.Views.{rev_view}
 use Rattle.vc_rev.proofs.AnswerLemmas.{told_only}
 use Rattle.vc_rev.proofs.terms.since.Goals as goal
 

@@ -2,7 +2,7 @@ use Rattle.std.proofs.Common.{◌≡◌, Ok, ap}
 use Rattle.std.proofs.lemmas.Result.{err_from_is_err_and}
 use Rattle.vc_rev.specs.Selection.{CommitAsks, CommitGives}
 use Rattle.vc_rev.specs.Uses.{used}
-use Rattle.vc_rev.specs.Views.{rev_view}
+use Rattle.vc_expression.specs.Views.{rev_view}
 use Rattle.vc_rev.proofs.AnswerLemmas.{told_only}
 use Rattle.vc_rev.proofs.terms.single.Goals as goal
 

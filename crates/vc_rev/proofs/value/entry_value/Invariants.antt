@@ -4,7 +4,7 @@ use Rattle.vc_object.specs.declared.mode.Mode.TheVariants as modes
 use Rattle.vc_rev.specs.Asking.{EntryAsks}
 use Rattle.vc_rev.specs.Question.{Question}
 use Rattle.vc_rev.specs.Meaning.{Answer, EntryGives}
-use Rattle.vc_rev.specs.Views.{parts_of}
+use Rattle.vc_expression.specs.Views.{parts_of}
 use Rattle.vc_rev.proofs.value.entry_value.Given as goal
 
 -- what comes of the components that are left is what comes of all, and what they ask all ask

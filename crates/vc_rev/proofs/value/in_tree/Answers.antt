@@ -2,7 +2,7 @@ use Rattle.std.proofs.Common.{Ok}
 use Rattle.std.proofs.lemmas.Result.{err_from_is_err_and, IfOk-weaker, IfErr-weaker}
 use Rattle.vc_rev.specs.Asking.{PathAsks, RevAsks}
 use Rattle.vc_rev.specs.Meaning.{RevGives, PathGives}
-use Rattle.vc_rev.specs.Views.{rev_view}
+use Rattle.vc_expression.specs.Views.{rev_view}
 use Rattle.vc_rev.proofs.AnswerLemmas.{told_first, told_next}
 use Rattle.vc_rev.proofs.value.in_tree.Goals as goal
 

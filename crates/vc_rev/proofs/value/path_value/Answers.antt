@@ -4,7 +4,7 @@ use Rattle.vc_object.specs.declared.kind.Kind.TheVariants as kinds
 use Rattle.vc_object.specs.declared.mode.Mode.TheVariants as modes
 use Rattle.vc_rev.specs.Asking.{EntryAsks, PeelingAsks}
 use Rattle.vc_rev.specs.Meaning.{PicksFrom, EntryGives, components}
-use Rattle.vc_rev.specs.declared.token.Step.TheVariants as steps
+use Rattle.vc_expression.specs.declared.token.Step.TheVariants as steps
 use Rattle.vc_rev.proofs.AnswerLemmas.{told_first, told_next}
 use Rattle.vc_rev.proofs.value.path_value.Goals as goal
 

@@ -3,11 +3,11 @@ use Rattle.std.proofs.lemmas.List.{take_all}
 use Rattle.std.proofs.lemmas.Option.{slice_get-get_or}
 use Rattle.vc_push.specs.PushView.{commands_of}
 use Rattle.vc_session.proofs.CheckingLemmas.{checks_more, legal_more, passes_may}
-use Rattle.vc_session.specs.Session.{MayBeSetWhere}
-use Rattle.vc_session.specs.Steps.{ChecksAll}
-use Rattle.vc_session.specs.Verdict.{MayBeSet}
-use Rattle.vc_session.specs.declared.stage.Verdict.{Verdict}
-use Rattle.vc_session.specs.declared.stage.Verdict.TheVariants.{Passing}
+use Rattle.vc_push_rules.specs.Session.{MayBeSetWhere}
+use Rattle.vc_push_rules.specs.Steps.{ChecksAll}
+use Rattle.vc_push_rules.specs.Verdict.{MayBeSet}
+use Rattle.vc_push_rules.specs.declared.stage.Verdict.{Verdict}
+use Rattle.vc_push_rules.specs.declared.stage.Verdict.TheVariants.{Passing}
 use Rattle.vc_session.proofs.checking.check_all.Goals as goal
 
 pub loop-i-preserved : goal.loop-i-preserved

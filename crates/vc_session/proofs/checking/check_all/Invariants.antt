@@ -4,9 +4,9 @@ use Rattle.vc_history.specs.Numbering.{numbers}
 use Rattle.vc_files.specs.Failures.{Wears}
 use Rattle.vc_object.specs.ObjectMap.{parents_in}
 use Rattle.vc_push.specs.PushView.{commands_of}
-use Rattle.vc_session.specs.Known.{AreWhole}
-use Rattle.vc_session.specs.Session.{MayBeSetWhere}
-use Rattle.vc_session.specs.Steps.{ChecksAll}
+use Rattle.vc_quarantine.specs.Known.{AreWhole}
+use Rattle.vc_push_rules.specs.Session.{MayBeSetWhere}
+use Rattle.vc_push_rules.specs.Steps.{ChecksAll}
 use Rattle.vc_session.proofs.checking.check_all.Given as goal
 
 abbrev pub invariant-loop-i : goal.invariant-loop-i

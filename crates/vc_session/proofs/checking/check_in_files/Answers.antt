@@ -5,13 +5,13 @@ use Rattle.vc_files.specs.FileMap.{FileMap}
 use Rattle.vc_object.specs.ObjectMap.{ObjectMap, parents_in}
 use Rattle.vc_push.specs.PushView.{commands_of}
 use Rattle.vc_session.proofs.CheckingLemmas.{IsRefusedCheck-from_list, IsRefusedCheck-from_met}
-use Rattle.vc_session.proofs.KnownLemmas.{AreWhole-with_carried, Agrees-with_carried}
-use Rattle.vc_session.specs.Known.{AreWhole}
-use Rattle.vc_session.specs.PushState.{SeenState, seen_state}
-use Rattle.vc_session.specs.Quarantine.{objects_seen, quarantined}
+use Rattle.vc_quarantine.proofs.KnownLemmas.{AreWhole-with_carried, Agrees-with_carried}
+use Rattle.vc_quarantine.specs.Known.{AreWhole}
+use Rattle.vc_quarantine.specs.PushState.{SeenState, seen_state}
+use Rattle.vc_push_rules.specs.Quarantine.{objects_seen, quarantined}
 use Rattle.vc_session.specs.SessionFault.{IsRefusedCheck, from_refs, from_store}
-use Rattle.vc_session.specs.Steps.{ChecksAll}
-use Rattle.vc_store.specs.Store.{objects}
+use Rattle.vc_push_rules.specs.Steps.{ChecksAll}
+use Rattle.vc_object_map.specs.Store.{objects}
 use Rattle.vc_session.proofs.checking.check_in_files.Goals as goal
 
 pub returns-clause-checks : goal.returns-clause-checks

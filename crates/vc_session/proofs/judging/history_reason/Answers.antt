@@ -1,6 +1,6 @@
 use Rattle.std.proofs.Common.{rules, IsTrue}
 use Rattle.vc_push.specs.PushView.{command_of}
-use Rattle.vc_session.proofs.JudgeLemmas.{never_missing}
+use Rattle.vc_push_rules.proofs.VerdictLemmas.{never_missing}
 use Rattle.vc_session.proofs.judging.history_reason.Goals as goal
 
 pub returns-in-Err-Missing-clause-verdict : goal.returns-in-Err-Missing-clause-verdict

@@ -1,5 +1,5 @@
 use Rattle.std.proofs.Common.{rules, sym, ◌∙◌}
-use Rattle.vc_graph.specs.Graph.{IsClosed}
+use Rattle.vc_object_map.specs.Graph.{IsClosed}
 use Rattle.vc_object.specs.ObjectMap.{links_in}
 use Rattle.vc_push.specs.PushView.{command_of}
 use Rattle.vc_session.proofs.JudgeLemmas.{own_verdict, may_be_set, missing, the_rest}

@@ -1,5 +1,5 @@
 use Rattle.std.proofs.Common.{◌≡◌, map, take}
-use Rattle.vc_session.specs.Session.{fresh}
+use Rattle.vc_push_rules.specs.Session.{fresh}
 use Rattle.vc_session.proofs.opening.fresh.Given as goal
 
 abbrev pub invariant-loop-command : goal.invariant-loop-command

@@ -15,8 +15,8 @@ use Rattle.vc_pkt.specs.Carried.{stored_name}
 use Rattle.vc_pkt.specs.ObjectStreamView.{carried}
 use Rattle.vc_pkt.specs.StreamObjectView.{stored}
 use Rattle.vc_pkt.specs.declared.carried.StreamObject.{StreamObject}
-use Rattle.vc_session.proofs.CarryingLemmas.{IsHeld, fewer, held_all, held_none, held_passed, held_put}
-use Rattle.vc_session.proofs.CleanLemmas.{bad_same, bad_then}
+use Rattle.vc_push_rules.proofs.CarryingLemmas.{IsHeld, fewer, held_all, held_none, held_passed, held_put}
+use Rattle.vc_quarantine.proofs.CleanLemmas.{bad_same, bad_then}
 use Rattle.vc_session.proofs.opening.put_all.Goals as goal
 
 never_ok : {A E : Type 0} (r : Result A E) → ((a : A) → r ≡ Ok a → ⊥) → IsOk r → ⊥

@@ -5,9 +5,9 @@ use Rattle.vc_object.specs.ObjectId.{IsSortedByName}
 use Rattle.vc_pkt.specs.Carried.{stored_name}
 use Rattle.vc_pkt.specs.ObjectStreamView.{carried}
 use Rattle.vc_pkt.specs.StreamObjectView.{stored}
-use Rattle.vc_session.specs.Clean.{MakesNoneBad}
-use Rattle.vc_session.specs.Quarantine.{IsDropped, quarantine_folder}
-use Rattle.vc_session.proofs.CarryingLemmas.{IsHeld}
+use Rattle.vc_quarantine.specs.Clean.{MakesNoneBad}
+use Rattle.vc_push_rules.specs.Quarantine.{IsDropped, quarantine_folder}
+use Rattle.vc_push_rules.proofs.CarryingLemmas.{IsHeld}
 use Rattle.vc_session.proofs.opening.put_all.Given as goal
 
 abbrev pub invariant-loop-object : goal.invariant-loop-object

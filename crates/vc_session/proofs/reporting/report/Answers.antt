@@ -3,7 +3,7 @@ use Rattle.std.proofs.Math.ListN.{get_or-map}
 use Rattle.std.proofs.lemmas.List.{take_all, take_more, map-append, length-map}
 use Rattle.vc_push.specs.PushView.{command_of, commands_of}
 use Rattle.vc_push.specs.ReportView.{told_of}
-use Rattle.vc_session.specs.declared.stage.Verdict.TheVariants.{Passing}
+use Rattle.vc_push_rules.specs.declared.stage.Verdict.TheVariants.{Passing}
 use Rattle.vc_session.proofs.ReportLemmas.{settled_at, tells-push}
 use Rattle.vc_session.proofs.reporting.report.Goals as goal
 

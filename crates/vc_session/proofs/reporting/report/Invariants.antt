@@ -2,8 +2,8 @@ use Rattle.std.proofs.Common.{◌≡◌, false, map, take}
 use Rattle.std.specs.List.{list_any}
 use Rattle.vc_push.specs.PushView.{commands_of}
 use Rattle.vc_push.specs.ReportView.{bytes_of, told_of}
-use Rattle.vc_session.specs.Session.{is_passing}
-use Rattle.vc_session.specs.Steps.{TellsAll, unpack_of}
+use Rattle.vc_push_rules.specs.Session.{is_passing}
+use Rattle.vc_push_rules.specs.Steps.{TellsAll, unpack_of}
 use Rattle.vc_session.proofs.reporting.report.Given as goal
 
 abbrev pub invariant-loop-i : goal.invariant-loop-i

@@ -1,5 +1,5 @@
 use Rattle.std.proofs.Common.{cond, ap, sym}
-use Rattle.vc_session.specs.declared.stage.Stage.TheVariants.{Done}
+use Rattle.vc_push_rules.specs.declared.stage.Stage.TheVariants.{Done}
 use Rattle.vc_session.proofs.SessionLemmas.{passing_there}
 use Rattle.vc_session.proofs.session.stage_while.Goals as goal
 

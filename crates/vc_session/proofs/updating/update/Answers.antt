@@ -16,9 +16,10 @@ use Rattle.vc_refs.specs.Refs.{refs}
 use Rattle.vc_refs.specs.declared.faults.RefFault.{RefFault}
 use Rattle.vc_refs.specs.declared.faults.RefFault.TheVariants.{Fault}
 use Rattle.vc_session.specs.Updating.{BlamesUpdate}
-use Rattle.vc_session.specs.Verdict.{IsVerdictAtUpdate, is_tag}
-use Rattle.vc_session.proofs.CleanLemmas.{bad_from, bad_ref}
-use Rattle.vc_session.proofs.UpdateLemmas.{device_meant, device_told, moved, only_name, passes, refused_blames, refused_verdict, tag_blames, wears_both}
+use Rattle.vc_push_rules.specs.Verdict.{IsVerdictAtUpdate, is_tag}
+use Rattle.vc_quarantine.proofs.CleanLemmas.{bad_from, bad_ref}
+use Rattle.vc_session.proofs.UpdateLemmas.{device_meant, device_told, moved, only_name, passes, refused_blames, refused_verdict, tag_blames}
+use Rattle.vc_quarantine.proofs.WearLemmas.{wears_both}
 use Rattle.vc_session.proofs.updating.update.Goals as goal
 
 pub returns-in_err-is_standing_tag-clause-wear : goal.returns-in_err-is_standing_tag-clause-wear

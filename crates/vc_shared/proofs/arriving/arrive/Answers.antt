@@ -8,11 +8,11 @@ use Rattle.vc_message.specs.Streaming.{of_push}
 use Rattle.vc_pkt.specs.StreamObjectView.{stored}
 use Rattle.vc_push.specs.Push.{carry}
 use Rattle.vc_push.specs.PushView.{commands_of}
-use Rattle.vc_session.proofs.CleanLemmas.{bad_then, clean_after}
-use Rattle.vc_session.specs.Arrival.{HasArrived}
-use Rattle.vc_session.specs.Carrying.{Carries, objects_of_push}
-use Rattle.vc_session.specs.Quarantine.{quarantine_folder}
-use Rattle.vc_session.specs.Steps.{IsOpened}
+use Rattle.vc_quarantine.proofs.CleanLemmas.{bad_then, clean_after}
+use Rattle.vc_quarantine.specs.Arrival.{HasArrived}
+use Rattle.vc_push_rules.specs.Carrying.{Carries, objects_of_push}
+use Rattle.vc_push_rules.specs.Quarantine.{quarantine_folder}
+use Rattle.vc_push_rules.specs.Steps.{IsOpened}
 use Rattle.vc_message.proofs.ComingLaws.{part_taken}
 use Rattle.vc_shared.proofs.ArrivingLemmas.{no_device, stopped_by, writes_as}
 use Rattle.vc_shared.specs.Arriving.{by_node}

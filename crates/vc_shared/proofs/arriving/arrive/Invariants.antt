@@ -7,9 +7,9 @@ use Rattle.vc_message.specs.Streaming.{LeadsTo, of_push, state_at}
 use Rattle.vc_pkt.specs.ObjectStream.{between}
 use Rattle.vc_push.specs.Push.{Carried}
 use Rattle.vc_push.specs.PushView.{commands_of}
-use Rattle.vc_session.specs.Arrival.{HasArrived}
-use Rattle.vc_session.specs.Clean.{IsQuarantineClean, MakesNoneBad}
-use Rattle.vc_session.specs.Quarantine.{quarantine_folder}
+use Rattle.vc_quarantine.specs.Arrival.{HasArrived}
+use Rattle.vc_quarantine.specs.Clean.{IsQuarantineClean, MakesNoneBad}
+use Rattle.vc_push_rules.specs.Quarantine.{quarantine_folder}
 use Rattle.vc_shared.specs.Arriving.{BeginsPush}
 use Rattle.vc_shared.proofs.arriving.arrive.Given as goal
 

@@ -3,8 +3,8 @@ use Rattle.std.proofs.lemmas.Result.{err_from_is_err_and}
 use Rattle.vc_files.proofs.FileMapLemmas.{outside_then}
 use Rattle.vc_files.proofs.WearLemmas.{writes_both, writes_none, writes_told}
 use Rattle.vc_push.specs.PushView.{commands_of}
-use Rattle.vc_session.proofs.CleanLemmas.{bad_then}
-use Rattle.vc_session.proofs.NumberLemmas.{agreement_quarantine}
+use Rattle.vc_quarantine.proofs.CleanLemmas.{bad_then}
+use Rattle.vc_quarantine.proofs.NumberLemmas.{agreement_quarantine}
 use Rattle.vc_shared.proofs.ArrivingLemmas.{changes_none, cleared_by, cleared_none, no_device, part_of_stop, refusal_no_device, stopped_by, writes_as}
 use Rattle.vc_shared.proofs.HoldingLemmas.{good_same}
 use Rattle.vc_shared.proofs.PushingLemmas.{changes_free}

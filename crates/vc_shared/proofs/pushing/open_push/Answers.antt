@@ -1,5 +1,5 @@
 use Rattle.std.proofs.Common.{rules}
-use Rattle.vc_session.proofs.NumberLemmas.{agreement_quarantine}
+use Rattle.vc_quarantine.proofs.NumberLemmas.{agreement_quarantine}
 use Rattle.vc_shared.proofs.PushingLemmas.{changes_free}
 use Rattle.vc_shared.proofs.pushing.open_push.Goals as goal
 

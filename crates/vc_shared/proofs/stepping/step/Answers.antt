@@ -1,8 +1,8 @@
 use Rattle.std.proofs.Common.{◌≡◌, ◌<◌, ◌∙◌, ℕ, None, Option, ap, length, refl, rules, subst, sym}
 use Rattle.std.proofs.lemmas.List.{length-set}
-use Rattle.vc_session.specs.Learning.{learnt_in}
+use Rattle.vc_quarantine.specs.Learning.{learnt_in}
 use Rattle.vc_shared.proofs.SlotLemmas.{open_within, put_back, same_slot, slot_steps, slot_unchanged, told_after, told_at}
-use Rattle.vc_session.specs.Session.{SessionText}
+use Rattle.vc_push_rules.specs.Session.{SessionText}
 use Rattle.vc_shared.specs.Faults.{up_after}
 use Rattle.vc_shared.specs.Learning.{LearnsIn}
 use Rattle.vc_shared.specs.Stepping.{StepsWell, left_in}

@@ -1,7 +1,7 @@
 use Rattle.std.proofs.Common.{rules, ◌≡◌, ◌∙◌, sym, [], None, Some}
 use Rattle.std.specs.Prelude.{option_map, filter_map}
 use Rattle.vc_files.specs.FileMap.{paths_under}
-use Rattle.vc_store.specs.Store.{name_in, prefix_path, lower_case}
+use Rattle.vc_object_map.specs.Store.{name_in, prefix_path, lower_case}
 use Rattle.vc_store.proofs.NamesLemmas.{other_text-names, prefix-names, digits-sorted, digits-exact}
 use Rattle.vc_store.proofs.listing.by_prefix.Goals as goal
 

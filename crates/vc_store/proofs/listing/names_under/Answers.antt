@@ -1,6 +1,6 @@
 use Rattle.std.proofs.Common.{rules, ◌≡◌, None, Some, [], ◌∷◌, ◌++◌, ap, ◌∙◌}
 use Rattle.std.specs.Prelude.{string_bytes}
-use Rattle.vc_store.specs.Store.{name_in}
+use Rattle.vc_object_map.specs.Store.{name_in}
 use Rattle.vc_store.proofs.NamesLemmas.{one_more_none, one_more_some}
 use Rattle.vc_store.proofs.listing.names_under.Goals.{in-Some+in_ok-push, in_default}
 use Rattle.vc_store.proofs.listing.names_under.Goals as goal

@@ -1,7 +1,7 @@
 use Rattle.std.proofs.Common.{rules, ◌≡◌, Ok, Err, sym}
 use Rattle.vc_object.specs.Decoding.{stored_object}
-use Rattle.vc_store.specs.declared.faults.StoreFault.TheVariants.{Absent}
-use Rattle.vc_store.specs.Store.{stored}
+use Rattle.vc_object_map.specs.declared.faults.StoreFault.TheVariants.{Absent}
+use Rattle.vc_object_map.specs.Store.{stored}
 use Rattle.vc_store.proofs.StoreLemmas.{objects-stored, objects-absent}
 use Rattle.vc_store.proofs.reading.find_named.Goals as goal
 

@@ -5,8 +5,8 @@ use Rattle.vc_object.specs.declared.fault.ObjectFault.{ObjectFault}
 use Rattle.vc_object.specs.declared.id.ObjectId.{ObjectId}
 use Rattle.vc_object.specs.declared.kind.Kind.{Kind}
 use Rattle.vc_object.proofs.OneFault.{no_body_fault, two_bodies}
-use Rattle.vc_store.specs.declared.faults.StoreFault.TheVariants.{BadObject}
-use Rattle.vc_store.specs.declared.faults.StoreFault.{StoreFault}
+use Rattle.vc_object_map.specs.declared.faults.StoreFault.TheVariants.{BadObject}
+use Rattle.vc_object_map.specs.declared.faults.StoreFault.{StoreFault}
 use Rattle.vc_store.proofs.writing.put.Goals as goal
 
 -- the body was found to be an object's, so it has no fault

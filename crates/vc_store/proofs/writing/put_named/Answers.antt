@@ -4,8 +4,8 @@ use Rattle.std.specs.FinMap as files
 use Rattle.vc_files.proofs.WearLemmas.{wears_then, writes_told}
 use Rattle.vc_object.specs.Object.{object_bytes}
 use Rattle.vc_object.specs.Decoding.{stored_object}
-use Rattle.vc_store.specs.declared.faults.StoreFault.TheVariants.{Absent}
-use Rattle.vc_store.specs.Store.{object_path, stored}
+use Rattle.vc_object_map.specs.declared.faults.StoreFault.TheVariants.{Absent}
+use Rattle.vc_object_map.specs.Store.{object_path, stored}
 use Rattle.vc_store.proofs.StoreLemmas.{objects-put, objects-there, outside-put, with_file-absent, with_file-there}
 use Rattle.vc_store.proofs.writing.put_named.Goals as goal
 

@@ -11,7 +11,7 @@ use Rattle.vc_index.specs.declared.faults.IndexFault.TheVariants as index
 use Rattle.vc_object.specs.ObjectFault.{BodyFault}
 use Rattle.vc_object.specs.declared.kind.Kind.TheVariants.{Blob}
 use Rattle.vc_object.specs.declared.mode.Mode.{Mode}
-use Rattle.vc_store.specs.declared.faults.StoreFault.TheVariants as store
+use Rattle.vc_object_map.specs.declared.faults.StoreFault.TheVariants as store
 use Rattle.vc_local.specs.NodeFault.{of_index}
 use Rattle.vc_working.specs.Adding.{IsOfFile, file_at}
 use Rattle.vc_cli.specs.declared.failure.Failure.TheVariants.{Node, Object}

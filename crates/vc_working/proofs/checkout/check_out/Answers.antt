@@ -3,7 +3,7 @@ use Rattle.std.specs.FinMap.{insert}
 use Rattle.std.specs.Prelude.{codes}
 use Rattle.vc_index.specs.IndexText.{index_text}
 use Rattle.vc_files.specs.FileMap.{FileMap}
-use Rattle.vc_store.specs.Store.{objects}
+use Rattle.vc_object_map.specs.Store.{objects}
 use Rattle.vc_checkout.specs.Blobs.{HasDueBlobs}
 use Rattle.vc_checkout.specs.CheckoutFault.{IsFault}
 use Rattle.vc_checkout.specs.Folders.{Folders}

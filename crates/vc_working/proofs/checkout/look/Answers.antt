@@ -2,7 +2,7 @@ use Rattle.std.proofs.Common.{◌≡◌, ◌∙◌, ◌⊎◌, Ok, subst}
 use Rattle.vc_files.specs.FileMap.{FileMap}
 use Rattle.vc_index.specs.TreeReading.{ListsAs}
 use Rattle.vc_refs.specs.RefFault.{BlamesHead, IsGoodHead}
-use Rattle.vc_store.specs.Store.{objects}
+use Rattle.vc_object_map.specs.Store.{objects}
 use Rattle.vc_local.specs.Blames.{MayHead}
 use Rattle.vc_working.specs.Checkout.{IsApart, IsOfNewHead, IsOfOwn, IsOfTarget, IsOfTreeList, IsTarget, RefusesLook}
 use Rattle.vc_working.specs.Checkout.RefusesLook.{of_head, of_new_head, of_target, of_tree}

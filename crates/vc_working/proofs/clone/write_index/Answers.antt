@@ -3,7 +3,7 @@ use Rattle.vc_files.proofs.WearLemmas.{wears_then, wears_writes, writes_told}
 use Rattle.vc_files.specs.FileMap.{FileMap}
 use Rattle.vc_index.specs.Damage.{KeepsDamage}
 use Rattle.vc_index.specs.WrittenTrees.{IsBegun, IsWritten}
-use Rattle.vc_store.specs.Store.{objects}
+use Rattle.vc_object_map.specs.Store.{objects}
 use Rattle.vc_working.proofs.StepLemmas.{write_before}
 use Rattle.vc_working.proofs.clone.write_index.Goals as goal
 

@@ -1,6 +1,6 @@
 use Rattle.std.proofs.Common.{rules, refl, sym, subst, vec_len}
 use Rattle.std.proofs.lemmas.Option.{slice_get_read}
-use Rattle.vc_message.proofs.Readings.{message_wire}
+use Rattle.vc_wire.proofs.WireLaws.{message_wire}
 use Rattle.vc_model.specs.ExactWorld.{CallsClone, CallsShared}
 use Rattle.vc_model.specs.ExactWorld.WorldEvent.{Restarts}
 use Rattle.vc_model.specs.CloneCall.CloneCall.{Open}

@@ -4,7 +4,7 @@ use Rattle.vc_object.proofs.ObjectMaps.{links_in-none, links_in-some}
 use Rattle.vc_object.specs.Decoding.{stored_object}
 use Rattle.vc_object.specs.ObjectMap.{links_in}
 use Rattle.vc_object.specs.declared.id.ObjectId.{ObjectId}
-use Rattle.vc_graph.proofs.OverlayLemmas.{links_in-with_carried}
+use Rattle.vc_object_map.proofs.OverlayLemmas.{links_in-with_carried}
 use Rattle.vc_graph.proofs.overlay.OverlayObjects.links.Goals as goal
 
 pub returns-in-Some-clause-answer : goal.returns-in-Some-clause-answer

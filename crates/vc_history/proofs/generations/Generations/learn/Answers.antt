@@ -2,7 +2,7 @@ use Rattle.std.proofs.Common.{◌∷◌, [], rules, IsSome}
 use Rattle.indexmap.specs.IndexMap.{get}
 use Rattle.vc_object.specs.ObjectId.{id_eq}
 use Rattle.vc_object.specs.ObjectMap.{parents_in}
-use Rattle.vc_graph.proofs.WalkLemmas.{ReachedFrom-one}
+use Rattle.vc_object_map.proofs.WalkLemmas.{ReachedFrom-one}
 use Rattle.vc_history.specs.Numbering.{numbers}
 use Rattle.vc_history.specs.Walk.{read_by}
 use Rattle.vc_history.proofs.GatheredLemmas.{all_there}

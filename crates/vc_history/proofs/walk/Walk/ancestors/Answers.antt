@@ -3,7 +3,7 @@ use Rattle.indexmap.specs.IndexSet.{insert_all}
 use Rattle.std.proofs.lemmas.Iterator.Adapters.{fact_from_extend}
 use Rattle.std.proofs.lemmas.Iterator.{YieldsList-from_slice}
 use Rattle.std.specs.declared.alloc.AllocError.{AllocError}
-use Rattle.vc_graph.proofs.WalkLemmas.{Walks-start, Walks-step, IsFollowed-none, walked}
+use Rattle.vc_object_map.proofs.WalkLemmas.{Walks-start, Walks-step, IsFollowed-none, walked}
 use Rattle.vc_object.proofs.IdLemmas.{id_eq-same}
 use Rattle.vc_object.specs.ObjectId.{id_eq}
 use Rattle.vc_history.specs.Walk.{graph_read, read_by}

@@ -1,6 +1,6 @@
 use Rattle.std.proofs.Common.{◌-◌, ◌^◌}
 use Rattle.vc_history.specs.Walk.{graph_of}
-use Rattle.vc_graph.proofs.WalkLemmas.{Walks}
+use Rattle.vc_object_map.proofs.WalkLemmas.{Walks}
 use Rattle.vc_history.proofs.walk.Walk.ancestors.Given as goal
 
 abbrev pub invariant-loop-next : goal.invariant-loop-next

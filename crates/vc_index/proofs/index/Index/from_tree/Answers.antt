@@ -1,4 +1,4 @@
-use Rattle.vc_store.specs.Store.{objects}
+use Rattle.vc_object_map.specs.Store.{objects}
 use Rattle.vc_index.specs.declared.loading.Look.TheVariants as looks
 use Rattle.vc_index.proofs.ReadingLemmas.{only_reading}
 use Rattle.vc_index.proofs.index.Index.from_tree.Goals as goal

@@ -8,7 +8,7 @@ use Rattle.vc_node.proofs.SettledLemmas.{settled_answers, settled_awaits, settle
 use Rattle.vc_node.specs.Awaited.{awaited_text}
 use Rattle.vc_node.specs.Receipts.{IsRefusedBytes}
 use Rattle.vc_pack.proofs.KeepsLemmas.{StandsIn-kept}
-use Rattle.vc_session.specs.Learning.{learnt_in}
+use Rattle.vc_quarantine.specs.Learning.{learnt_in}
 use Rattle.vc_node.proofs.node.CloneNode.receive.Goals as goal
 
 pub returns-then-not-self-clause-answers : goal.returns-then-not-self-clause-answers

@@ -2,7 +2,7 @@ use Rattle.std.proofs.Common.{◌≡◌, ◌∙◌, false, refl, rules, sym, tru
 use Rattle.vc_lemmas.proofs.Lists.{on_err}
 use Rattle.vc_pack.proofs.KeepsLemmas.{StandsIn-kept}
 use Rattle.vc_files.proofs.WearLemmas.{writes_none}
-use Rattle.vc_session.specs.Learning.{learnt_in}
+use Rattle.vc_quarantine.specs.Learning.{learnt_in}
 use Rattle.vc_local.proofs.CleanLemmas.{clean_same}
 use Rattle.vc_node.proofs.ComingLemmas.{down_keeps, down_no_device, down_receives, known_receives, next_awaits, next_clean, next_cleared, next_learns, next_lost, next_none, next_receives, next_wear}
 use Rattle.vc_node.specs.Awaited.{awaited_text}

@@ -9,7 +9,7 @@ use Rattle.vc_node.specs.Awaited.{awaited_text}
 use Rattle.vc_node.specs.Receipts.{IsRefusedMessage}
 use Rattle.vc_push.specs.ReportView.{report_text}
 use Rattle.vc_pack.proofs.KeepsLemmas.{StandsIn-kept}
-use Rattle.vc_session.specs.Learning.{learnt_in}
+use Rattle.vc_quarantine.specs.Learning.{learnt_in}
 use Rattle.vc_node.proofs.node.CloneNode.receive_report.Goals as goal
 
 pub returns-then-not-self-clause-answers : goal.returns-then-not-self-clause-answers

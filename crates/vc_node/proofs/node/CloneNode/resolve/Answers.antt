@@ -1,6 +1,6 @@
 use Rattle.std.proofs.Common.{ap, inr, refl, sym, rules, ◌∙◌}
 use Rattle.std.specs.Prelude.{not}
-use Rattle.vc_rev.specs.Views.{expr_view}
+use Rattle.vc_expression.specs.Views.{expr_view}
 use Rattle.vc_model.specs.CloneCall.CloneCall.{Asks}
 use Rattle.vc_model.specs.Question.Question.{Resolve}
 use Rattle.vc_node.proofs.CloneCallLemmas.{down_clone}

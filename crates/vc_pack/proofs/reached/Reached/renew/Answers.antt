@@ -4,7 +4,7 @@ use Rattle.vc_pack.proofs.ReachedLemmas.{Stands-grown}
 use Rattle.vc_pack.specs.Reached.{HasSame}
 use Rattle.vc_object.specs.ObjectMap.{links_in}
 use Rattle.vc_object.specs.declared.id.ObjectId.{ObjectId}
-use Rattle.vc_store.specs.Store.{objects}
+use Rattle.vc_object_map.specs.Store.{objects}
 use Rattle.vc_pack.proofs.reached.Reached.renew.Goals as goal
 
 pub returns-then-are_met-clause-stands : goal.returns-then-are_met-clause-stands

@@ -1,9 +1,9 @@
 use Rattle.std.proofs.Common.{rules, ◌≡◌, List, map, ap, ◌∙◌, refl, subst, sym}
 use Rattle.vc_object.specs.declared.id.ObjectId.{ObjectId}
 use Rattle.vc_push.specs.declared.command.Command.{Command}
-use Rattle.vc_session.specs.Carrying.{Carries, objects_of_push}
-use Rattle.vc_session.specs.Session.{fresh}
-use Rattle.vc_session.proofs.ArrivalLemmas.{brought_carries, brought_fault}
+use Rattle.vc_push_rules.specs.Carrying.{Carries, objects_of_push}
+use Rattle.vc_push_rules.specs.Session.{fresh}
+use Rattle.vc_quarantine.proofs.ArrivalLemmas.{brought_carries, brought_fault}
 use Rattle.vc_session.proofs.SessionLemmas.{same_verdicts}
 use Rattle.vc_session.proofs.session.PushSession.arrived.Goals as goal
 

@@ -1,10 +1,10 @@
 use Rattle.std.proofs.Common.{rules, ap, subst, ℕ}
 use Rattle.vc_session.proofs.SessionLemmas.{refused_check}
-use Rattle.vc_session.specs.Session.{SessionText}
+use Rattle.vc_push_rules.specs.Session.{SessionText}
 use Rattle.vc_session.specs.SessionFault.{IsRefusedCheck, IsRefusedStep}
-use Rattle.vc_session.specs.declared.stage.Stage.TheVariants.{Unpacked}
-use Rattle.vc_session.proofs.NumberLemmas.{agreement_same}
-use Rattle.vc_session.proofs.CleanLemmas.{bad_same}
+use Rattle.vc_push_rules.specs.declared.stage.Stage.TheVariants.{Unpacked}
+use Rattle.vc_quarantine.proofs.NumberLemmas.{agreement_same}
+use Rattle.vc_quarantine.proofs.CleanLemmas.{bad_same}
 use Rattle.vc_session.proofs.session.PushSession.check.Goals as goal
 
 pub returns-in_err-verdicts-clause-refused : goal.returns-in_err-verdicts-clause-refused

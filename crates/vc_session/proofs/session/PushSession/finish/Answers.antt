@@ -4,14 +4,14 @@ use Rattle.vc_files.proofs.WearLemmas.{writes_none}
 use Rattle.vc_push.specs.PushView.{commands_of}
 use Rattle.vc_push.specs.ReportView.{report_text}
 use Rattle.vc_push.specs.declared.command.Command.{Command}
-use Rattle.vc_session.specs.Session.{SessionText, IsInStage, is_passing}
-use Rattle.vc_session.specs.Steps.{StepFinishes, TellsAll}
+use Rattle.vc_push_rules.specs.Session.{SessionText, IsInStage, is_passing}
+use Rattle.vc_push_rules.specs.Steps.{StepFinishes, TellsAll}
 use Rattle.vc_session.specs.contracts.session.PushSession.{the_view}
-use Rattle.vc_session.specs.declared.stage.Stage.{Stage}
-use Rattle.vc_session.specs.declared.stage.Stage.TheVariants.{Done}
-use Rattle.vc_session.specs.declared.stage.Verdict.{Verdict}
-use Rattle.vc_session.proofs.NumberLemmas.{agreement_quarantine, agreement_same}
-use Rattle.vc_session.proofs.CleanLemmas.{bad_same}
+use Rattle.vc_push_rules.specs.declared.stage.Stage.{Stage}
+use Rattle.vc_push_rules.specs.declared.stage.Stage.TheVariants.{Done}
+use Rattle.vc_push_rules.specs.declared.stage.Verdict.{Verdict}
+use Rattle.vc_quarantine.proofs.NumberLemmas.{agreement_quarantine, agreement_same}
+use Rattle.vc_quarantine.proofs.CleanLemmas.{bad_same}
 use Rattle.vc_session.proofs.session.PushSession.finish.Goals as goal
 
 pub returns-in_err-report-clause-wear : goal.returns-in_err-report-clause-wear

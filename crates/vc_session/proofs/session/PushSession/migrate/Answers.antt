@@ -1,16 +1,17 @@
 use Rattle.std.proofs.Common.{rules, ◌≡◌, ◌⊎◌, ℕ, List, ap, ◌∙◌, subst}
 use Rattle.vc_lemmas.proofs.Lists.{on_err}
 use Rattle.vc_object.specs.declared.id.ObjectId.{ObjectId}
-use Rattle.vc_store.specs.Store.{objects}
-use Rattle.vc_session.specs.Migrating.{migrated}
-use Rattle.vc_session.specs.Quarantine.{objects_seen}
-use Rattle.vc_session.specs.Session.{SessionText}
-use Rattle.vc_session.specs.SessionFault.{BlamesMigration, IsRefusedStep, from_store}
-use Rattle.vc_session.specs.Steps.{EndsEarly}
-use Rattle.vc_session.specs.declared.stage.Stage.TheVariants.{Checked, Migrated}
-use Rattle.vc_session.proofs.FrameLemmas.{front-some, migrated-all}
+use Rattle.vc_object_map.specs.Store.{objects}
+use Rattle.vc_quarantine.specs.Migrating.{migrated}
+use Rattle.vc_push_rules.specs.Quarantine.{objects_seen}
+use Rattle.vc_push_rules.specs.Session.{SessionText}
+use Rattle.vc_quarantine.specs.Blames.{BlamesMigration}
+use Rattle.vc_session.specs.SessionFault.{IsRefusedStep, from_store}
+use Rattle.vc_push_rules.specs.Steps.{EndsEarly}
+use Rattle.vc_push_rules.specs.declared.stage.Stage.TheVariants.{Checked, Migrated}
+use Rattle.vc_quarantine.proofs.MigratingLemmas.{front-some, migrated-all}
 use Rattle.vc_session.proofs.SessionLemmas.{refused_migration}
-use Rattle.vc_session.proofs.NumberLemmas.{agreement_front, agreement_migrated}
+use Rattle.vc_quarantine.proofs.NumberLemmas.{agreement_front, agreement_migrated}
 use Rattle.vc_session.proofs.session.PushSession.migrate.Goals as goal
 
 pub returns-clause-steps : goal.returns-clause-steps

@@ -6,10 +6,11 @@ use Rattle.vc_files.specs.Failures.{Writes}
 use Rattle.vc_object.specs.declared.id.ObjectId.{ObjectId}
 use Rattle.vc_push.specs.PushView.{carried_view}
 use Rattle.vc_push.specs.declared.command.Command.{Command}
-use Rattle.vc_session.specs.Session.{fresh}
-use Rattle.vc_session.proofs.CleanLemmas.{bad_on, bad_same, bad_then, clean_after, clean_dropped}
-use Rattle.vc_session.specs.Clean.{MakesNoneBad}
-use Rattle.vc_session.proofs.SessionLemmas.{carries_by, nothing_carried, same_verdicts, writes_at}
+use Rattle.vc_push_rules.specs.Session.{fresh}
+use Rattle.vc_quarantine.proofs.CleanLemmas.{bad_on, bad_same, bad_then, clean_after, clean_dropped}
+use Rattle.vc_quarantine.specs.Clean.{MakesNoneBad}
+use Rattle.vc_session.proofs.SessionLemmas.{carries_by, same_verdicts, writes_at}
+use Rattle.vc_push_rules.proofs.CarryingLemmas.{nothing_carried}
 use Rattle.vc_session.proofs.session.PushSession.new.Goals as goal
 use Rattle.vc_session.proofs.session.PushSession.new.Goals.{in-Ok+in_ok-names-in-Ok, in-Err}
 

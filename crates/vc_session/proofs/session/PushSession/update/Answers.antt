@@ -7,17 +7,19 @@ use Rattle.vc_push.specs.declared.command.Command.{Command}
 use Rattle.vc_push.specs.declared.reason.Reason.{Reason}
 use Rattle.vc_refs.specs.Head.{KeepsTheRest}
 use Rattle.vc_refs.specs.Refs.{refs}
-use Rattle.vc_session.specs.Session.{SessionText, IsInStage, MayBeSetWhere, is_passing, stage_while, verdict_of}
-use Rattle.vc_session.specs.Steps.{StepUpdates}
-use Rattle.vc_session.specs.Verdict.{IsVerdictAtUpdate, MayBeSet, refs_after}
+use Rattle.vc_push_rules.specs.Session.{SessionText, IsInStage, MayBeSetWhere, is_passing, stage_while, verdict_of}
+use Rattle.vc_push_rules.specs.Steps.{StepUpdates}
+use Rattle.vc_push_rules.specs.Verdict.{IsVerdictAtUpdate, MayBeSet, refs_after}
 use Rattle.vc_session.specs.contracts.session.PushSession.{the_view}
-use Rattle.vc_session.specs.declared.stage.Stage.{Stage}
-use Rattle.vc_session.specs.declared.stage.Stage.TheVariants.{Migrated}
-use Rattle.vc_session.specs.declared.stage.Verdict.{Verdict}
-use Rattle.vc_session.specs.declared.stage.Verdict.TheVariants.{Passing}
-use Rattle.vc_session.proofs.SessionLemmas.{command_there, either, in_stage, may_after, may_at, may_set_next, same_there, settled_verdict, updates_next, wears_told}
-use Rattle.vc_session.proofs.NumberLemmas.{agreement_rest, agreement_same}
-use Rattle.vc_session.proofs.CleanLemmas.{bad_same}
+use Rattle.vc_push_rules.specs.declared.stage.Stage.{Stage}
+use Rattle.vc_push_rules.specs.declared.stage.Stage.TheVariants.{Migrated}
+use Rattle.vc_push_rules.specs.declared.stage.Verdict.{Verdict}
+use Rattle.vc_push_rules.specs.declared.stage.Verdict.TheVariants.{Passing}
+use Rattle.vc_session.proofs.SessionLemmas.{command_there, either, in_stage, may_after, may_at, may_set_next, same_there, updates_next}
+use Rattle.vc_push_rules.proofs.VerdictLemmas.{settled_verdict}
+use Rattle.vc_quarantine.proofs.WearLemmas.{wears_told}
+use Rattle.vc_quarantine.proofs.NumberLemmas.{agreement_rest, agreement_same}
+use Rattle.vc_quarantine.proofs.CleanLemmas.{bad_same}
 use Rattle.vc_session.proofs.session.PushSession.update.Goals as goal
 use Rattle.vc_session.proofs.session.PushSession.update.Goals.{in-None, in-Some-found}
 

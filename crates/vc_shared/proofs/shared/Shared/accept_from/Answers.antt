@@ -1,6 +1,6 @@
 use Rattle.std.proofs.Common.{rules}
 use Rattle.vc_files.proofs.WearLemmas.{writes_none}
-use Rattle.vc_session.specs.Learning.{learnt_in}
+use Rattle.vc_quarantine.specs.Learning.{learnt_in}
 use Rattle.vc_shared.proofs.NextLemmas.{down_accepts, down_keeps, down_no_device, known_accepts, next_accepts, next_lost, next_none}
 use Rattle.vc_shared.proofs.LossLemmas.{loss_of_down, loss_of_same}
 use Rattle.vc_shared.proofs.shared.Shared.accept_from.Goals as goal

@@ -7,7 +7,7 @@ use Rattle.vc_local.specs.declared.fault.NodeFault.TheVariants.{Ref}
 use Rattle.vc_local.proofs.CleanLemmas.{packs_only}
 use Rattle.vc_local.proofs.LookLemmas.{looks_none, or_told}
 use Rattle.vc_local.proofs.RefBlames.{packing_blames, packing_unwritten}
-use Rattle.vc_session.proofs.NumberLemmas.{agreement_outside}
+use Rattle.vc_quarantine.proofs.NumberLemmas.{agreement_outside}
 use Rattle.vc_shared.proofs.PackingLemmas.{packing_answers}
 use Rattle.vc_shared.proofs.ResolvingLemmas.{down_declines}
 use Rattle.vc_shared.proofs.shared.Shared.pack_refs.Goals as goal

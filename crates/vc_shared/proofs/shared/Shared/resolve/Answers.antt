@@ -2,8 +2,8 @@ use Rattle.std.proofs.Common.{ap, inl, inr, refl, sym, Ok, rules, ◌∙◌}
 use Rattle.std.specs.Prelude.{not}
 use Rattle.vc_model.specs.Question.Question.{Resolve}
 use Rattle.vc_model.specs.SharedCall.SharedCall.{Asks}
-use Rattle.vc_rev.specs.Views.{expr_view}
-use Rattle.vc_session.proofs.NumberLemmas.{agreement_same}
+use Rattle.vc_expression.specs.Views.{expr_view}
+use Rattle.vc_quarantine.proofs.NumberLemmas.{agreement_same}
 use Rattle.vc_shared.proofs.FoundLemmas.{no_value_answers, no_value_wears}
 use Rattle.vc_shared.proofs.ResolvingLemmas.{down_declines, values_answer}
 use Rattle.vc_shared.specs.Faults.{is_fault}

@@ -2,7 +2,7 @@ use Rattle.std.proofs.Common.{◌∙◌, ap, refl, inl, inr, Ok, Err, rules, sub
 use Rattle.vc_model.specs.SharedCall.SharedCall.{StepOf}
 use Rattle.vc_local.proofs.CleanLemmas.{clean_same}
 use Rattle.vc_local.proofs.LookLemmas.{looks_none}
-use Rattle.vc_session.specs.Learning.{Learnt, learnt_in}
+use Rattle.vc_quarantine.specs.Learning.{Learnt, learnt_in}
 use Rattle.vc_shared.proofs.CallLemmas.{answers_through, clean_through, looks_through, told_as}
 use Rattle.vc_local.proofs.BesideLemmas.{clean_by}
 use Rattle.vc_shared.proofs.SteppingLaws.{stepped_answers, stepped_down}

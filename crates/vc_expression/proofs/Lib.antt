@@ -1,0 +1,12 @@
+pub mod DigitLemmas
+pub mod ExprLemmas
+pub mod NameLemmas
+pub mod OutcomeLemmas
+pub mod Parts
+pub mod Places
+pub mod ReadLemmas
+pub mod SetAgain
+pub mod SetLemmas
+pub mod SetPlaces
+pub mod SetSame
+pub mod StepLemmas

@@ -1,0 +1,14 @@
+pub mod Base
+pub mod BehindView
+pub mod Digits
+pub mod Faults
+pub mod Grammar
+pub mod Outcome
+pub mod Printed
+pub mod Reading
+pub mod Seen
+pub mod SetGrammar
+pub mod SetReading
+pub mod SetViews
+pub mod Steps
+pub mod Views

@@ -1,0 +1,6 @@
+pub mod Complete
+pub mod Graph
+pub mod Overlay
+pub mod Parents
+pub mod Store
+pub mod StoreFault

@@ -1,0 +1,5 @@
+pub mod BreakLemmas
+pub mod QuarantineLemmas
+pub mod FrameLemmas
+pub mod CarryingLemmas
+pub mod VerdictLemmas

@@ -1,0 +1,6 @@
+pub mod Verdict
+pub mod Quarantine
+pub mod Carrying
+pub mod Known
+pub mod Session
+pub mod Steps

@@ -1,0 +1,10 @@
+pub mod WearLemmas
+pub mod CleanLemmas
+pub mod SeenLemmas
+pub mod MigratingLemmas
+pub mod NumberLemmas
+pub mod DamageLemmas
+pub mod ArrivalLemmas
+pub mod KnownLemmas
+pub mod LearningLemmas
+pub mod NameLemmas

@@ -1,5 +1,0 @@
-use Rattle.vc_rules.proofs.GitLaws.{git_laws as proved}
-use Rattle.vc_rules.proofs.the_layers_give_what_the_machine_asks.Goals as goal
-
-pub returns : goal.returns
-returns c = proved

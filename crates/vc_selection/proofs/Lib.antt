@@ -1,0 +1,3 @@
+pub mod BestLemmas
+pub mod PartLemmas
+pub mod PassedLemmas

@@ -1,5 +1,0 @@
-use Rattle.vc_session.proofs.KnownLemmas.{AreAmong}
-use Rattle.vc_session.proofs.known.Known.learn_tips.Given as goal
-
-abbrev pub invariant-loop-command : goal.invariant-loop-command
-invariant-loop-command g l = AreAmong l.fn.self.objects.keys l.tips.items

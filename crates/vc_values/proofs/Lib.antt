@@ -1,0 +1,5 @@
+pub mod TreeLaws
+pub mod IndexTreeLaws
+pub mod FaultLaws
+pub mod ValueLaws
+pub mod GitLaws

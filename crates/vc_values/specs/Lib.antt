@@ -1,0 +1,4 @@
+pub mod Faults
+pub mod Trees
+pub mod Values
+pub mod Laws

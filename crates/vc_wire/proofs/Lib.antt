@@ -1,0 +1,2 @@
+pub mod FormedLemmas
+pub mod WireLaws
