@@ -24,9 +24,9 @@ use vc_graph::is_complete_beyond;
 use vc_history::{Generations, HistoryFault, is_ancestor, is_history_beyond};
 use vc_object::ObjectId;
 use vc_object_map::{Commits, StoreFault};
+use vc_quarantine::{Known, is_legal};
 use vc_refname::{NewNameError, RefName};
 use vc_refs::{RefFault, get, set};
-use vc_quarantine::{Known, is_legal};
 use vc_store::Store;
 
 /// Which refs of the shared repository are followed.

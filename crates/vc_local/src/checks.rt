@@ -14,8 +14,8 @@ use vc_files::Files;
 use vc_graph::is_complete_beyond;
 use vc_history::{Generations, is_history_beyond};
 use vc_object::ObjectId;
-use vc_selection::commits;
 use vc_quarantine::Known;
+use vc_selection::commits;
 use vc_store::Store;
 
 /// Refuses an id of which not all is there that it reaches (40), and then one that is no commit, or that has an object

@@ -23,8 +23,8 @@ use vc_files::{Files, MemoryFiles};
 use vc_index::Index;
 use vc_object::{Kind, ObjectFault, ObjectId};
 use vc_object_map::StoreFault;
-use vc_refs::{Head, RefFault, refuse_conflict};
 use vc_quarantine::Known;
+use vc_refs::{Head, RefFault, refuse_conflict};
 
 /// What a commit says beside its tree and its parents.
 #[derive(Clone, Copy)]
