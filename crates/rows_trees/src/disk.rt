@@ -1,13 +1,13 @@
 //! Rows about the real folder that the rows run in: what lies there is made and looked at behind the work tree's back.
-use crate::bench::{Bench, Host};
+use crate::bench::Host;
 use crate::words::{bytes, cut, escaped};
 use anyhow::{Result, bail};
+use std::alloc::Global;
 use std::fs;
 use std::io::ErrorKind;
 use std::os::unix::fs::symlink;
 
-pub fn row<R: Host>(bench: &mut Bench<R>, row: &str) -> Result<String> {
-    let (alloc, rt) = (bench.alloc, &bench.rt);
+pub fn row<R: Host>(rt: &R, alloc: Global, row: &str) -> Result<String> {
     let (verb, rest) = cut(row);
     let (path, text) = cut(rest);
     match verb {
