@@ -4,7 +4,7 @@
 use Rattle.std.specs.Prelude.{◌≡◌, ◌≢◌, ◌⊎◌, ℕ, Bool, true, false, ◌&&◌, not, List, [], map, take, length, Option, Some, None, is_some, Result, Ok, Err, IfOk, OnErr, Vec, if◌then◌else◌}
 use Rattle.std.specs.Global.{Global}
 use Rattle.std.specs.List.{AllByRecursion}
-use Rattle.vc_history.specs.History.{IsAncestor}
+use Rattle.vc_object_map.specs.History.{IsAncestor}
 use Rattle.vc_history.specs.HistoryFault.{IsMetInEither, IsMetInHistory}
 use Rattle.vc_history.specs.Right.{AgreesWith}
 use Rattle.vc_history.specs.Stored.{AgreesIn}

@@ -2,7 +2,7 @@
 use Rattle.std.proofs.Common.{◌≡◌, ◌≢◌, ℕ, zero, suc, ◌+◌, ◌<◌, ◌⊎◌, inl, inr, ⊎_elim, List, Option, Some, None, IsSome, Contains, sym, subst, ◌∙◌, refl, arith, true≢false}
 use Rattle.vc_object_map.specs.Graph.{LinksTo, Reaches, IsClosed, itself, onward}
 use Rattle.vc_history.specs.Generation.{Agrees, HasGeneration, Leads}
-use Rattle.vc_history.specs.History.{IsAncestor}
+use Rattle.vc_object_map.specs.History.{IsAncestor}
 
 module _ {Id : Type 0} (parents : Id → Option (List Id)) where
   -- a parent is one of the parents

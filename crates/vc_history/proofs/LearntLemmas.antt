@@ -5,7 +5,7 @@ use Rattle.vc_object_map.proofs.WalkLemmas.{ReachedFrom-one, Reaches-from_one}
 use Rattle.vc_object.specs.ObjectMap.{ObjectMap, parents_in}
 use Rattle.vc_object.specs.declared.id.ObjectId.{ObjectId}
 use Rattle.vc_history.specs.Generation.{Agrees, HasGeneration, Leads}
-use Rattle.vc_history.specs.History.{IsAncestor}
+use Rattle.vc_object_map.specs.History.{IsAncestor}
 use Rattle.vc_history.specs.Numbering.{IsHeld, IsOver, NumbersHistory}
 use Rattle.vc_history.specs.Walk.{Gathers, parents_read}
 use Rattle.vc_history.proofs.GatheredLemmas.{met_or_beyond}

@@ -6,7 +6,7 @@ use Rattle.vc_object.proofs.IdLemmas.{id_eq-same, id_eq_equiv}
 use Rattle.vc_object.specs.ObjectId.{id_eq}
 use Rattle.vc_object.specs.declared.id.ObjectId.{ObjectId}
 use Rattle.vc_history.specs.Generation.{Agrees}
-use Rattle.vc_history.specs.History.{IsAncestor}
+use Rattle.vc_object_map.specs.History.{IsAncestor}
 use Rattle.vc_history.specs.Toward.{not_above, ruled_out}
 use Rattle.vc_history.proofs.GenerationLemmas.{HasGeneration-parent}
 use Rattle.vc_history.proofs.LearntLemmas.{known_below}

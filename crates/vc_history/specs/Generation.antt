@@ -2,7 +2,7 @@
 -- between them (gitformat-commit-graph calls it the topological level). `parents` gives the parents of a commit that is
 -- there, and none for any other name.
 use Rattle.std.specs.Prelude.{◌≡◌, ◌↔◌, ◌⊎◌, ◌+◌, ◌<◌, ◌^◌, ℕ, zero, suc, List, Option, Some, IsSome}
-use Rattle.vc_history.specs.History.{IsAncestor}
+use Rattle.vc_object_map.specs.History.{IsAncestor}
 use Rattle.vc_object_map.specs.Graph.{IsClosed, LinksTo}
 
 module _ {Id : Type 0} (parents : Id → Option (List Id)) where

@@ -1,6 +1,5 @@
 pub mod HistoryFault
 pub mod Generation
-pub mod History
 pub mod Numbering
 pub mod Right
 pub mod Stored

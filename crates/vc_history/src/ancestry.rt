@@ -1,7 +1,7 @@
 //! Whether one commit descends from another, and whether a history is one of commits alone.
 ghost use Rattle.std.specs.Prelude.{◌≡◌, ◌↔◌, ◌∷◌, [], IsSome, IsTrue, IfOk, IfErr, IsErrOf, not};
 ghost use Rattle.vc_history.specs.HistoryFault.{IsMetInHistory};
-ghost use Rattle.vc_history.specs.History.{IsAncestor};
+ghost use Rattle.vc_object_map.specs.History.{IsAncestor};
 ghost use Rattle.vc_history.specs.Right.{TellsWhereRight, WhereRight};
 ghost use Rattle.vc_history.specs.Whole.{IsWhole};
 ghost use Rattle.vc_files.specs.Failures.{Wears};

@@ -1,7 +1,7 @@
 //! Laws of the definitions: functions with no work to do, whose contracts are the laws.
 ghost use Rattle.std.specs.Prelude.{◌≡◌, ◌≢◌, ◌<◌, ℕ, Option};
 ghost use Rattle.vc_history.specs.Generation.{Agrees};
-ghost use Rattle.vc_history.specs.History.{IsAncestor};
+ghost use Rattle.vc_object_map.specs.History.{IsAncestor};
 ghost use Rattle.vc_history.specs.Right.{AreAllIn, IsGeneration};
 ghost use Rattle.vc_object_map.specs.Graph.{LinksTo};
 ghost use Rattle.vc_object.specs.ObjectMap.{ObjectMap, parents_in};

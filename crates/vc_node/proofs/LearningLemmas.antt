@@ -6,7 +6,7 @@ use Rattle.vc_exchange.specs.declared.fault.ExchangeFault.TheVariants as exchang
 use Rattle.vc_files.specs.FileMap.{FileMap, SameOutside}
 use Rattle.vc_object_map.specs.Graph.{IsClosed}
 use Rattle.vc_history.specs.Generation.{HasGeneration}
-use Rattle.vc_history.specs.History.{IsAncestor}
+use Rattle.vc_object_map.specs.History.{IsAncestor}
 use Rattle.vc_history.specs.Stored.{AgreesIn}
 use Rattle.vc_history.specs.declared.generations.Generations.{Generations}
 use Rattle.vc_object.specs.ObjectMap.{ObjectMap, parents_in}

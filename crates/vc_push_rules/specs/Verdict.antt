@@ -3,7 +3,7 @@
 -- own: the order of the causes, the bound on a branch's name, that a ref is a branch or a tag, and what is asked of tags.
 use Rattle.std.specs.Prelude.{◌≡◌, ◌⊎◌, ℕ, Bool, true, false, ◌||◌, nat_eq, List, [], ◌∷◌, codes, is_some, Option, Some, None, if◌then◌else◌}
 use Rattle.std.specs.List.{AllByRecursion, starts_with}
-use Rattle.vc_history.specs.History.{IsAncestor}
+use Rattle.vc_object_map.specs.History.{IsAncestor}
 use Rattle.vc_format.specs.Git.{git_is_legal}
 use Rattle.vc_object_map.specs.Graph.{IsClosed}
 use Rattle.vc_object.specs.ObjectId.{id_eq}

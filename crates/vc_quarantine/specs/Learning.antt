@@ -2,7 +2,7 @@
 use Rattle.std.specs.Prelude.{◌≡◌, ◌↔◌, ◌⊎◌, ◌<◌, ◌^◌, [], ℕ, List, Some, None, Vec, Contains}
 use Rattle.std.specs.Global.{Global}
 use Rattle.vc_history.specs.Generation.{HasGeneration}
-use Rattle.vc_history.specs.History.{IsAncestor}
+use Rattle.vc_object_map.specs.History.{IsAncestor}
 use Rattle.vc_history.specs.Numbering.{numbers}
 use Rattle.vc_history.specs.declared.generations.Generations.{Generations}
 use Rattle.vc_files.specs.FileMap.{FileMap}

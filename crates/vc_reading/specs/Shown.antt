@@ -6,7 +6,7 @@ use Rattle.hex.specs.Hex.{encode_lower}
 use Rattle.vc_arguments.specs.declared.arguments.Part.{Part}
 use Rattle.vc_arguments.specs.declared.arguments.Part.TheVariants.{Kind, Size, Body}
 use Rattle.vc_history.specs.HistoryFault.{IsTold}
-use Rattle.vc_history.specs.History.{IsBestCommonAncestor}
+use Rattle.vc_object_map.specs.History.{IsBestCommonAncestor}
 use Rattle.vc_files.specs.FileMap.{FileMap}
 use Rattle.vc_object.specs.Decoding.{StoredObject}
 use Rattle.vc_object.specs.Kind.{word}

@@ -3,7 +3,7 @@ use Rattle.std.proofs.Common.{◌≡◌, ℕ, ◌+◌, ◌<◌, inl, inr, ⊎_el
 use Rattle.std.proofs.lemmas.List.{drop_more, take_more, get_or_default}
 use Rattle.std.proofs.lemmas.List.Elements.{Contains-append_left, Contains-append_right, Contains-append_cases, Contains-push, Contains-push_cases}
 use Rattle.vc_history.specs.HistoryFault.{IsTold as IsBaseTold}
-use Rattle.vc_history.specs.History.{IsCommonAncestor, IsSelected}
+use Rattle.vc_object_map.specs.History.{IsCommonAncestor, IsSelected}
 use Rattle.vc_history.specs.declared.fault.HistoryFault.{HistoryFault}
 use Rattle.vc_history.specs.declared.fault.HistoryFault.TheVariants as bases
 use Rattle.vc_object_map.specs.Graph.{ReachedFrom, IsClosedUnder, itself}

@@ -1,6 +1,6 @@
 -- What a set of terms selects, over refs and objects.
 use Rattle.std.specs.Prelude.{◌≡◌, ◌⊎◌, ◌↔◌, ◌++◌, ℕ, List, [], ◌∷◌, Option, Some, None, IsSome, Result, Ok, Err, Contains, codes}
-use Rattle.vc_history.specs.History.{IsCommonAncestor}
+use Rattle.vc_object_map.specs.History.{IsCommonAncestor}
 use Rattle.vc_object_map.specs.Parents.{IsOther}
 use Rattle.vc_object_map.specs.Graph.{ReachedFrom}
 use Rattle.vc_object_map.specs.StoreFault.{IsMet}

@@ -3,7 +3,7 @@ use Rattle.std.proofs.Common.{◌≡◌, ◌≢◌, Bool, true, false, List, Opt
 use Rattle.std.specs.Cmp.{IsEquivalence}
 use Rattle.vc_object_map.specs.Graph.{LinksTo, Reaches, itself, onward}
 use Rattle.vc_object_map.proofs.WalkLemmas.{Reaches-trans}
-use Rattle.vc_history.specs.History.{IsCommonAncestor, IsBestCommonAncestor}
+use Rattle.vc_object_map.specs.History.{IsCommonAncestor, IsBestCommonAncestor}
 use Rattle.vc_selection.specs.Passed.{IsPassed}
 
 module _ {Id : Type 0} (links : Id → Option (List Id)) where

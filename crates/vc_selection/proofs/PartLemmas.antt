@@ -10,7 +10,7 @@ use Rattle.vc_object.specs.ObjectId.{id_eq}
 use Rattle.vc_object.specs.ObjectMap.{ObjectMap, parents_in}
 use Rattle.vc_object.specs.declared.id.ObjectId.{ObjectId}
 use Rattle.vc_history.specs.Generation.{Agrees}
-use Rattle.vc_history.specs.History.{IsCommonAncestor, IsBestCommonAncestor, IsSelected}
+use Rattle.vc_object_map.specs.History.{IsCommonAncestor, IsBestCommonAncestor, IsSelected}
 use Rattle.vc_selection.specs.Part.{under, IsSettledBelow, IsSettledOutside}
 use Rattle.vc_history.specs.Toward.{not_above}
 use Rattle.vc_history.specs.Walk.{Gathers, graph_read, parents_read, read_at}

@@ -1,6 +1,6 @@
 -- The part of a history that lies above a floor: commits whose number is not above the floor are not read.
 use Rattle.std.specs.Prelude.{◌⊎◌, ℕ, Option, Some, List, Contains}
-use Rattle.vc_history.specs.History.{IsCommonAncestor}
+use Rattle.vc_object_map.specs.History.{IsCommonAncestor}
 use Rattle.vc_history.specs.Toward.{not_above}
 use Rattle.vc_history.specs.Walk.{graph_read}
 use Rattle.vc_object_map.specs.Graph.{Reaches, ReachedFrom}

@@ -2,7 +2,7 @@
 ghost use Rattle.std.specs.Prelude.{◌≡◌, ◌∷◌, [], filter, not, IfSome, OnSome, IfOk, IfErr, IsErrOf, OnOk};
 ghost use Rattle.indexmap.specs.IndexSet.{insert_all};
 ghost use Rattle.vc_history.specs.HistoryFault.{IsTold};
-ghost use Rattle.vc_history.specs.History.{IsCommonAncestor, IsBestCommonAncestor};
+ghost use Rattle.vc_object_map.specs.History.{IsCommonAncestor, IsBestCommonAncestor};
 ghost use Rattle.vc_selection.specs.Part.{IsSettledBelow};
 ghost use Rattle.vc_selection.specs.Passed.{IsPassed};
 ghost use Rattle.vc_history.specs.Right.{TellsWhereRight, WhereRight};

@@ -1,6 +1,6 @@
 //! Sets of commits, by commits that are included with their ancestors and commits that are excluded with theirs.
 ghost use Rattle.std.specs.Prelude.{◌≡◌, ◌↔◌, ◌<◌, ◌++◌, ℕ, Some, IfSome, OnSome, IfOk, IfErr, IsErrOf, OnOk, Contains};
-ghost use Rattle.vc_history.specs.History.{IsSelected};
+ghost use Rattle.vc_object_map.specs.History.{IsSelected};
 ghost use Rattle.vc_history.specs.Numbering.{numbers};
 ghost use Rattle.vc_selection.specs.Part.{IsSettledOutside};
 ghost use Rattle.vc_history.specs.Right.{TellsWhereRight, WhereRight};

@@ -1,5 +1,5 @@
 -- The verdict on a command at its update, from what its ref's files are.
-use Rattle.std.proofs.Common.{arith, ◌≡◌, ℕ, Bool, true, false, cond, subst, ◌&&◌, ◌||◌, ◌⊎◌, nat_eq, List, [], ◌∷◌, ◌++◌, inl, inr, Option, Some, None, is_some, sym, ap, refl, ◌∙◌, true≢false}
+use Rattle.std.proofs.Common.{◌≡◌, ℕ, Bool, true, false, cond, subst, ◌&&◌, ◌||◌, ◌⊎◌, nat_eq, List, [], ◌∷◌, ◌++◌, inl, inr, Option, Some, None, is_some, sym, ap, refl, ◌∙◌, true≢false}
 use Rattle.std.specs.Prelude.{codes, string_bytes, Result, Err, IfOk, IfErr, IsErrOf}
 use Rattle.std.specs.List.{starts_with}
 use Rattle.std.proofs.lemmas.Bool.{and_from, and_parts}

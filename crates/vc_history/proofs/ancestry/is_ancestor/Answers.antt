@@ -11,7 +11,7 @@ use Rattle.vc_object.proofs.IdLemmas.{id_eq_equiv, id_eq-same}
 use Rattle.vc_object.specs.ObjectId.{id_eq}
 use Rattle.vc_object.specs.ObjectMap.{parents_in}
 use Rattle.vc_object.specs.declared.id.ObjectId.{ObjectId}
-use Rattle.vc_history.specs.History.{IsAncestor}
+use Rattle.vc_object_map.specs.History.{IsAncestor}
 use Rattle.vc_history.specs.Numbering.{numbers}
 use Rattle.vc_history.specs.Toward.{ruled_out}
 use Rattle.vc_history.proofs.ancestry.is_ancestor.Goals as goal

@@ -3,7 +3,7 @@ use Rattle.std.specs.Prelude.{List, ℕ, length, ◌==◌, not, ◌↔◌, Conta
 use Rattle.std.specs.List.{flat_map}
 use Rattle.std.specs.Io.KnownBytes.{Appends}
 use Rattle.vc_history.proofs.GenerationLemmas.{agrees_where_none}
-use Rattle.vc_history.specs.History.{IsBestCommonAncestor}
+use Rattle.vc_object_map.specs.History.{IsBestCommonAncestor}
 use Rattle.vc_history.specs.Numbering.{numbers}
 use Rattle.vc_files.specs.FileMap.{FileMap}
 use Rattle.vc_object.specs.ObjectMap.{parents_in}
