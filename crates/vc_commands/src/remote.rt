@@ -3,6 +3,7 @@ ghost use Rattle.std.specs.Prelude.{◌≡◌};
 ghost use Rattle.vc_remote.specs.Progress.{goes_to_terminal};
 
 use crate::push_items::items_of;
+use crate::remote_failure::failure_of;
 use std::fs::File;
 use std::io::{self, Write};
 use std::net::Net;
@@ -91,7 +92,10 @@ where
 {
     let lock = only_writer(rt, store, faults)?;
     let mut progress = progress_of(faults);
-    let moved = vc_remote::fetch(rt, lock, store, port, &mut progress)?;
+    let moved = match vc_remote::fetch(rt, lock, store, port, &mut progress) {
+        Ok(moved) => moved,
+        Err(fault) => return Err(failure_of(fault)),
+    };
     let line = format!(in rt.alloc(); "moved {moved}\n")?;
     print_text(line.as_bytes(), output)?;
     progress.outcome()?;
@@ -121,7 +125,10 @@ where
         return Ok(true);
     }
     let mut progress = progress_of(faults);
-    let report = vc_remote::push(rt, lock, store, port, &items, &mut progress)?;
+    let report = match vc_remote::push(rt, lock, store, port, &items, &mut progress) {
+        Ok(report) => report,
+        Err(fault) => return Err(failure_of(fault)),
+    };
     print_text(&report_lines(alloc, &report)?, output)?;
     progress.outcome()?;
     Ok(is_done(&report))

@@ -3,6 +3,7 @@ ghost use Rattle.std.specs.Prelude.{◌≢◌, []};
 
 use crate::peer::Server;
 use crate::progress::Progress;
+use crate::remote_fault::RemoteFault;
 use std::alloc::Global;
 use std::fs::File;
 use std::io::Write;
@@ -11,7 +12,7 @@ use std::rt;
 use std::thread::Threads;
 use vc_exchange::PushItem;
 use vc_folder::{FolderFiles, FolderLock, Syncs};
-use vc_node::{CloneNode, RemoteFault};
+use vc_node::CloneNode;
 use vc_push::Report;
 use vc_world::{exchange_fetch, exchange_push};
 
