@@ -1,5 +1,5 @@
 -- An expression denotes one answer at most.
-use Rattle.std.proofs.Common.{◌≡◌, ◌⊎◌, inl, inr, ℕ, zero, suc, Bool, true, false, List, [], ◌∷◌, Option, Some, None, Result, Ok, Err, IfOk, IfErr, MatchBool, MatchOption, Contains, option_map, option_and_then, nat_lt, length, refl, sym, ap, subst, ◌∙◌}
+use Rattle.std.proofs.Common.{◌≡◌, ◌⊎◌, inl, inr, ℕ, zero, suc, Bool, true, false, List, [], ◌∷◌, Option, Some, None, Result, Ok, Err, IfOk, IfErr, MatchBool, MatchOption, MatchResult, Contains, option_map, option_and_then, nat_lt, length, refl, sym, ap, subst, ◌∙◌}
 use Rattle.vc_object_map.specs.Graph.{LinksTo, Reaches, itself, onward}
 use Rattle.vc_object.specs.Decoding.{StoredObject}
 use Rattle.vc_object.specs.ObjectMap.{ObjectMap}
