@@ -19,10 +19,10 @@ use Rattle.vc_object.specs.declared.id.ObjectId.{ObjectId}
 use Rattle.vc_rules.specs.Git.{git}
 use Rattle.vc_rules.specs.OpenPushes.{HoldsContent}
 use Rattle.vc_exchange.specs.Deeds.{ChangesAt, IsCutShort, IsReceived}
-use Rattle.vc_exchange.specs.Moving.{AreFrontMoved, AreMoved, MovesSome, Told, machine_refs}
+use Rattle.vc_tracking.specs.Moving.{AreFrontMoved, AreMoved, MovesSome, Told, machine_refs}
 use Rattle.vc_exchange.specs.Receiving.{AreRefs, awaited_pack}
 use Rattle.vc_exchange.specs.Wanting.{AreOpenTold}
-use Rattle.vc_exchange.specs.declared.moving.Followed.TheVariants.{All}
+use Rattle.vc_tracking.specs.declared.moving.Followed.TheVariants.{All}
 use Rattle.vc_exchange.proofs.DeedLemmas.{all_received, done_changes, front_received, some_received}
 use Rattle.vc_exchange.proofs.RefEntries.{entries_machine}
 

@@ -12,9 +12,9 @@ use Rattle.vc_rules.specs.Git.{git}
 use Rattle.vc_rules.specs.OpenPushes.{HoldsContent}
 use Rattle.vc_exchange.specs.Deeds.{ChangesAt, IsCutShort, IsReceived}
 use Rattle.vc_exchange.specs.Deeds.IsCutShort.{at_first, within}
-use Rattle.vc_exchange.specs.Moving.{AreFrontMoved, AreMoved, MovesBy, MovesSome, Told, machine_refs, rule_of}
-use Rattle.vc_exchange.specs.declared.moving.Followed.{Followed}
-use Rattle.vc_exchange.proofs.SetRefs.{set_front, set_head, set_index}
+use Rattle.vc_tracking.specs.Moving.{AreFrontMoved, AreMoved, MovesBy, MovesSome, Told, machine_refs, rule_of}
+use Rattle.vc_tracking.specs.declared.moving.Followed.{Followed}
+use Rattle.vc_tracking.proofs.SetRefs.{set_front, set_head, set_index}
 
 -- ---- effects
 pub done_with : (r : Repository) (s after : Objects) (cs : List Change) → AllAdded r.objects s after → Done r (record { objects = s; changes = cs }) (changed_all cs (with_objects r after))

@@ -14,7 +14,7 @@ use Rattle.vc_quarantine.proofs.NumberLemmas.{agreement_kept, agreement_migrated
 use Rattle.vc_push_rules.specs.Carrying.{objects_in}
 use Rattle.vc_quarantine.specs.Migrating.{migrated}
 use Rattle.vc_object_map.specs.Store.{object_path, objects}
-use Rattle.vc_exchange.specs.Storing.{AreSomeStored, AreStored}
+use Rattle.vc_tracking.specs.Storing.{AreSomeStored, AreStored}
 
 module _ (old new : FileMap) where
   -- a change of refs alone

@@ -1,14 +1,8 @@
 pub mod AdvertDeeds
 pub mod DeedLemmas
 mod EmptyLists
+pub mod JudgingLemmas
 pub mod KeptLemmas
-pub mod LearningLemmas
-pub mod MovingDecisions
-pub mod MovingFronts
-pub mod MovingLemmas
-pub mod MovingLoops
-pub mod MovingPaths
-pub mod MovingRules
 pub mod OnceLemmas
 pub mod PackDeeds
 pub mod PackLemmas
@@ -17,7 +11,5 @@ pub mod ReceivingLemmas
 pub mod RefEntries
 pub mod SendingLaws
 pub mod SendingLemmas
-pub mod SetRefs
-pub mod StoringLemmas
 pub mod WantingHaves
 pub mod WantingOpen

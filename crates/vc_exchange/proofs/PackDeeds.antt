@@ -31,20 +31,22 @@ use Rattle.vc_push_rules.specs.Carrying.{objects_in}
 use Rattle.vc_object_map.specs.Store.{objects}
 use Rattle.vc_object_map.specs.declared.faults.StoreFault.{StoreFault}
 use Rattle.vc_object_map.specs.declared.faults.StoreFault.TheVariants as of_store
+use Rattle.vc_files.specs.declared.faults.Fault.{Fault}
+use Rattle.vc_tracking.specs.Faults.{BlamesFiles, from_answer, from_store}
+use Rattle.vc_tracking.specs.declared.fault.ExchangeFault.{ExchangeFault}
 use Rattle.vc_exchange.specs.Deeds.{IsCutShort, IsReceived}
 use Rattle.vc_exchange.specs.Deeds.IsCutShort.{within}
-use Rattle.vc_exchange.specs.Faults.{from_answer, from_store}
-use Rattle.vc_exchange.specs.Moving.{AreFrontMoved, AreMoved, MovesBy, Told, machine_refs, rule_of}
+use Rattle.vc_tracking.specs.Moving.{AreFrontMoved, AreMoved, MovesBy, Told, machine_refs, rule_of}
 use Rattle.vc_exchange.specs.Receiving.{AreRefs, BlamesPack, awaited_pack}
-use Rattle.vc_exchange.specs.Storing.{AreSomeStored}
+use Rattle.vc_tracking.specs.Storing.{AreSomeStored}
 use Rattle.vc_exchange.specs.Wanting.{AreOpenTold}
-use Rattle.vc_exchange.specs.declared.fault.ExchangeFault.TheVariants as exchange
-use Rattle.vc_exchange.specs.declared.moving.Followed.TheVariants.{All}
-use Rattle.vc_exchange.proofs.MovingDecisions.{Decided, contained_first, contained_later, decided_contains}
-use Rattle.vc_exchange.proofs.MovingFronts.{all_moves}
-use Rattle.vc_exchange.proofs.MovingPaths.{decided_closed, same_id}
-use Rattle.vc_exchange.proofs.MovingRules.{decided_move}
-use Rattle.vc_exchange.proofs.SetRefs.{moves_set, set_front, set_head, set_index}
+use Rattle.vc_tracking.specs.declared.fault.ExchangeFault.TheVariants as exchange
+use Rattle.vc_tracking.specs.declared.moving.Followed.TheVariants.{All}
+use Rattle.vc_tracking.proofs.MovingDecisions.{Decided, contained_first, contained_later, decided_contains}
+use Rattle.vc_tracking.proofs.MovingFronts.{all_moves}
+use Rattle.vc_tracking.proofs.MovingPaths.{decided_closed, same_id}
+use Rattle.vc_tracking.proofs.MovingRules.{decided_move}
+use Rattle.vc_tracking.proofs.SetRefs.{moves_set, set_front, set_head, set_index}
 use Rattle.vc_exchange.proofs.PackLemmas.{all_is, seen_all, seen_sound, some_added, some_content, some_of, want_open, wants_closed}
 
 take_zero : (cs : List Change) → take 0 cs ≡ []
@@ -183,3 +185,17 @@ store_other (of_store.BadObject fault) id h = cc h
 store_other (of_store.Absent absent) id h = cc h
 store_other (of_store.Damaged damaged) id h = cc h
 store_other (of_store.Fault fault) id h = cc h
+
+-- what is blamed of files is so of a pack
+pub blames_of_pack : (content : FileMap) (wants : List ObjectId) (m : Message) (e : ExchangeFault) → BlamesFiles content e → BlamesPack content wants m e
+blames_of_pack content wants m (exchange.Store fault) b = b
+blames_of_pack content wants m (exchange.Refs fault) b = b
+blames_of_pack content wants m (exchange.Incomplete id) b = absurd b
+blames_of_pack content wants m (exchange.Fault fault) b = b
+
+-- none of it is for want of an object
+pub never_incomplete : (content : FileMap) (e : ExchangeFault) (id : ObjectId) → BlamesFiles content e → e ≡ exchange.Incomplete id → ⊥
+never_incomplete content e id why is = subst (λ (x : ExchangeFault). BlamesFiles content x) is why
+
+pub fault_other : (fault : Fault) (id : ObjectId) → exchange.Fault fault ≡ exchange.Incomplete id → ⊥
+fault_other fault id h = cc h

@@ -40,7 +40,7 @@ use Rattle.vc_push_rules.specs.Carrying.{objects_in}
 use Rattle.vc_quarantine.specs.Known.{AreWhole}
 use Rattle.vc_quarantine.specs.declared.known.Known.{Known}
 use Rattle.vc_object_map.specs.Store.{objects}
-use Rattle.vc_exchange.specs.Storing.{AreSomeStored, AreStored}
+use Rattle.vc_tracking.specs.Storing.{AreSomeStored, AreStored}
 
 -- ---- what passes the test is an object: its bytes are those of one, and so its body is no longer
 front_short : (k : Kind) → length (front k) ≤ 7

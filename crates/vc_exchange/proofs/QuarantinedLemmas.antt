@@ -31,12 +31,12 @@ use Rattle.vc_object_map.specs.declared.faults.StoreFault.{StoreFault}
 use Rattle.vc_object_map.specs.declared.faults.StoreFault.TheVariants as of_store
 use Rattle.vc_exchange.specs.Deeds.{IsCutShort, IsReceived}
 use Rattle.vc_exchange.specs.Deeds.IsCutShort.{at_first, within}
-use Rattle.vc_exchange.specs.Faults.{BlamesObjects, from_store}
+use Rattle.vc_tracking.specs.Faults.{BlamesObjects, from_store}
 use Rattle.vc_exchange.specs.Quarantined.{BlamesSeen, HoldsPack, KeepsOthers}
 use Rattle.vc_exchange.specs.Receiving.{BlamesPack}
-use Rattle.vc_exchange.specs.Storing.{AreSomeStored, AreStored}
-use Rattle.vc_exchange.specs.declared.fault.ExchangeFault.{ExchangeFault}
-use Rattle.vc_exchange.specs.declared.fault.ExchangeFault.TheVariants as exchange
+use Rattle.vc_tracking.specs.Storing.{AreSomeStored, AreStored}
+use Rattle.vc_tracking.specs.declared.fault.ExchangeFault.{ExchangeFault}
+use Rattle.vc_tracking.specs.declared.fault.ExchangeFault.TheVariants as exchange
 use Rattle.vc_exchange.proofs.PackDeeds.{declined}
 
 -- ---- what is seen is what is stored, and what the pack brings

@@ -19,11 +19,11 @@ use Rattle.vc_push.specs.ReportView.{told_of}
 use Rattle.vc_push.specs.declared.report.Told.{Told as Command}
 use Rattle.vc_rules.specs.Git.{git}
 use Rattle.vc_exchange.specs.Deeds.{ChangesAt, IsCutShort, IsReceived}
-use Rattle.vc_exchange.specs.Moving.{AreFrontMoved, AreMoved, MovesSome, Told, machine_refs}
+use Rattle.vc_tracking.specs.Moving.{AreFrontMoved, AreMoved, MovesSome, Told, machine_refs}
 use Rattle.vc_exchange.specs.Receiving.{AcceptedAgree, BlamesAdvert, accepted}
 use Rattle.vc_exchange.specs.Wanting.{BlamesWanting}
-use Rattle.vc_exchange.specs.declared.fault.ExchangeFault.{ExchangeFault}
-use Rattle.vc_exchange.specs.declared.moving.Followed.TheVariants.{Branches}
+use Rattle.vc_tracking.specs.declared.fault.ExchangeFault.{ExchangeFault}
+use Rattle.vc_tracking.specs.declared.moving.Followed.TheVariants.{Branches}
 use Rattle.vc_exchange.specs.declared.receiving.Advertised.{Advertised}
 use Rattle.vc_exchange.proofs.DeedLemmas.{all_received, front_received, some_received}
 

@@ -11,7 +11,7 @@ use Rattle.vc_format.specs.Git.{bytes_of_id}
 use Rattle.vc_model.proofs.Maps.{bytes_same}
 use Rattle.vc_model.specs.Refs.{RefName, Refs}
 use Rattle.vc_object.specs.declared.id.ObjectId.{ObjectId}
-use Rattle.vc_exchange.specs.Moving.{Told, machine_refs}
+use Rattle.vc_tracking.specs.Moving.{Told, machine_refs}
 use Rattle.vc_exchange.specs.Receiving.{AreRefs}
 
 abbrev by_bytes : List ℕ → List ℕ → Ordering

@@ -30,8 +30,8 @@ use Rattle.vc_refs.specs.Refs.{SpellsRefs, refs}
 use Rattle.vc_refs.specs.declared.faults.RefFault.{RefFault}
 use Rattle.vc_refs.specs.declared.faults.RefFault.TheVariants as ref
 use Rattle.vc_rules.specs.OpenPushes.{HoldsContent}
-use Rattle.vc_exchange.specs.Moving.{Told, machine_refs}
-use Rattle.vc_exchange.specs.Faults.{from_refs}
+use Rattle.vc_tracking.specs.Moving.{Told, machine_refs}
+use Rattle.vc_tracking.specs.Faults.{from_refs}
 use Rattle.vc_exchange.specs.Wanting.{AreHaves, BlamesWanting}
 use Rattle.vc_exchange.proofs.SendingLaws.{positive}
 use Rattle.vc_exchange.proofs.RefEntries.{find_machine, sorted_machine}

@@ -18,10 +18,10 @@ use Rattle.vc_rules.proofs.ReachLemmas.{closed_from, closed_to, bytes_among}
 use Rattle.vc_rules.specs.Git.{git}
 use Rattle.vc_rules.specs.OpenPushes.{HoldsContent}
 use Rattle.vc_object_map.specs.Store.{objects}
-use Rattle.vc_exchange.specs.Moving.{Told, machine_refs}
+use Rattle.vc_tracking.specs.Moving.{Told, machine_refs}
 use Rattle.vc_exchange.specs.Wanting.{AddsOpen, AreOpenTold}
-use Rattle.vc_exchange.proofs.MovingDecisions.{contained_cases, contained_first, contained_later, contained_none}
-use Rattle.vc_exchange.proofs.MovingFronts.{machine_append}
+use Rattle.vc_tracking.proofs.MovingDecisions.{contained_cases, contained_first, contained_later, contained_none}
+use Rattle.vc_tracking.proofs.MovingFronts.{machine_append}
 
 module _ (fmt : Format) (at : Lookup) where
   -- what the next id adds, where these were met

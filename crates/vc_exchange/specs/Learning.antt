@@ -1,32 +1,12 @@
--- What a clone that takes a message learns of the generations of commits, and whose histories are due then.
-use Rattle.std.specs.Prelude.{◌≡◌, ◌⊎◌, ◌+◌, ◌++◌, ⊤, [], ℕ, List, Some, Result, Ok, Err, IfOk, Contains, length}
+-- What a call that takes a message learns of the generations of commits, and whose histories are due after it.
+use Rattle.std.specs.Prelude.{⊤, Result, Ok, Err}
 use Rattle.vc_files.specs.FileMap.{FileMap}
 use Rattle.vc_history.specs.Stored.{AgreesIn}
-use Rattle.vc_object.specs.declared.id.ObjectId.{ObjectId}
-use Rattle.vc_refs.specs.RefMap.{RefMap}
 use Rattle.vc_refs.specs.Refs.{refs}
 use Rattle.vc_quarantine.specs.Learning.{IsLearnt, Learnt}
-use Rattle.vc_exchange.specs.declared.fault.ExchangeFault.{ExchangeFault}
-use Rattle.vc_exchange.specs.declared.fault.ExchangeFault.TheVariants.{Fault, Incomplete, Refs as OfRefs, Store}
-
--- the histories that were due are learnt, and due no longer
-abbrev pub LearnsDue : FileMap → Learnt → Learnt → Type 0
-LearnsDue content known now = IsLearnt content known.due known.generations now.generations × (now.due ≡ [])
-
--- each value that a ref has then and had not before is due
-abbrev pub AreDue : RefMap → RefMap → List ObjectId → Type 0
-AreDue old new due = (name : List ℕ) (id : ObjectId) → new name ≡ Some id → (old name ≡ Some id) ⊎ Contains due id
-
--- Beside what was due these are, and among them each value that a ref has then and had not before.
-pub record AreNoted (old new : RefMap) (due now : List ObjectId) : Type 0 where
-  pub set : List ObjectId
-  pub beside : now ≡ due ++ set
-  pub each : AreDue old new set
-
--- and they are as many as refs moved
-pub record NotesMoved (old new : FileMap) (due now : List ObjectId) (result : Result ℕ ExchangeFault) : Type 0 where
-  pub noted : AreNoted (refs old) (refs new) due now
-  pub counted : IfOk result (λ moved. length now ≡ length due + moved)
+use Rattle.vc_tracking.specs.declared.fault.ExchangeFault.{ExchangeFault}
+use Rattle.vc_tracking.specs.declared.fault.ExchangeFault.TheVariants.{Fault, Incomplete, Refs as OfRefs, Store}
+use Rattle.vc_tracking.specs.Learning.{AreDue}
 
 -- so it is, unless a fault of the device or want of memory ended the call
 abbrev pub UnlessFault : {T : Type 0} → Result T ExchangeFault → Type 0 → Type 0

@@ -1,12 +1,8 @@
 pub mod Deeds
-pub mod Faults
-pub mod Learning
-pub mod Moving
 pub mod Quarantined
 pub mod Receiving
 pub mod SendFault
 pub mod Sending
 pub mod SentPush
-pub mod Storing
 pub mod Taking
 pub mod Wanting

@@ -11,9 +11,9 @@ use Rattle.vc_push_rules.specs.Carrying.{Carries, objects_in}
 use Rattle.vc_quarantine.specs.Clean.{IsQuarantineClean}
 use Rattle.vc_push_rules.specs.Quarantine.{objects_seen, quarantine_folder}
 use Rattle.vc_quarantine.specs.Blames.{BlamesDamage}
-use Rattle.vc_exchange.specs.Storing.{KeepsGood}
-use Rattle.vc_exchange.specs.declared.fault.ExchangeFault.{ExchangeFault}
-use Rattle.vc_exchange.specs.declared.fault.ExchangeFault.TheVariants.{Fault, Incomplete, Refs as OfRefs, Store}
+use Rattle.vc_tracking.specs.Storing.{KeepsGood}
+use Rattle.vc_tracking.specs.declared.fault.ExchangeFault.{ExchangeFault}
+use Rattle.vc_tracking.specs.declared.fault.ExchangeFault.TheVariants.{Fault, Incomplete, Refs as OfRefs, Store}
 
 -- The quarantine holds what the pack brings, under these names, and no bad file.
 pub record HoldsPack (content : FileMap) (names : List ObjectId) (pack : PackText) : Type 0 where

@@ -15,11 +15,11 @@ use Rattle.vc_push.specs.Report.{ToldText}
 use Rattle.vc_rules.specs.Git.{git}
 use Rattle.vc_rules.specs.OpenPushes.{HoldsContent}
 use Rattle.vc_exchange.specs.Deeds.{IsReceived}
-use Rattle.vc_exchange.specs.Faults.{BlamesFiles, BlamesObjects, BlamesRefs}
-use Rattle.vc_exchange.specs.Moving.{Told, machine_refs, told_in}
+use Rattle.vc_tracking.specs.Faults.{BlamesFiles, BlamesObjects, BlamesRefs}
+use Rattle.vc_tracking.specs.Moving.{Told, machine_refs, told_in}
 use Rattle.vc_exchange.specs.Wanting.{BlamesWanting}
-use Rattle.vc_exchange.specs.declared.fault.ExchangeFault.{ExchangeFault}
-use Rattle.vc_exchange.specs.declared.fault.ExchangeFault.TheVariants.{Fault, Incomplete, Refs as OfRefs, Store}
+use Rattle.vc_tracking.specs.declared.fault.ExchangeFault.{ExchangeFault}
+use Rattle.vc_tracking.specs.declared.fault.ExchangeFault.TheVariants.{Fault, Incomplete, Refs as OfRefs, Store}
 use Rattle.vc_exchange.specs.declared.receiving.Advertised.{Advertised}
 use Rattle.vc_exchange.specs.declared.receiving.Advertised.TheVariants.{Followed, Wanted}
 

@@ -2,10 +2,10 @@
 -- machine's that is written so.
 use Rattle.std.specs.Prelude.{◌⊎◌, List, Result, None, IfErr, IfOk, OnErr}
 use Rattle.vc_exchange.specs.Deeds.{ChangesAt, HoldsHead, IsCutShort, IsReceived}
-use Rattle.vc_exchange.specs.Moving.{Told}
+use Rattle.vc_tracking.specs.Moving.{Told}
 use Rattle.vc_exchange.specs.Quarantined.{HoldsPack}
 use Rattle.vc_exchange.specs.Receiving.{AreRefs, BlamesPack, IsAdvertTaken, awaited_pack}
-use Rattle.vc_exchange.specs.declared.fault.ExchangeFault.{ExchangeFault}
+use Rattle.vc_tracking.specs.declared.fault.ExchangeFault.{ExchangeFault}
 use Rattle.vc_exchange.specs.declared.receiving.Advertised.{Advertised}
 use Rattle.vc_exchange.specs.declared.receiving.Moves.{Moves}
 use Rattle.vc_exchange.specs.declared.receiving.Reported.{Reported}

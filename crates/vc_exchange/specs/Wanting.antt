@@ -18,10 +18,10 @@ use Rattle.vc_refs.specs.declared.faults.RefFault.TheVariants as of_refs
 use Rattle.vc_rules.specs.Git.{git}
 use Rattle.vc_rules.specs.OpenPushes.{HoldsContent}
 use Rattle.vc_exchange.specs.Deeds.{HoldsHead}
-use Rattle.vc_exchange.specs.Faults.{BlamesObjects}
-use Rattle.vc_exchange.specs.Moving.{Told, machine_refs}
-use Rattle.vc_exchange.specs.declared.fault.ExchangeFault.{ExchangeFault}
-use Rattle.vc_exchange.specs.declared.fault.ExchangeFault.TheVariants.{Fault, Incomplete, Refs, Store}
+use Rattle.vc_tracking.specs.Faults.{BlamesObjects}
+use Rattle.vc_tracking.specs.Moving.{Told, machine_refs}
+use Rattle.vc_tracking.specs.declared.fault.ExchangeFault.{ExchangeFault}
+use Rattle.vc_tracking.specs.declared.fault.ExchangeFault.TheVariants.{Fault, Incomplete, Refs, Store}
 
 -- an id that is not complete is added where it isn't there yet; nothing is added for another
 abbrev pub AddsOpen : ObjectMap → List ObjectId → List ObjectId → ObjectId → Type 0

@@ -1,18 +1,13 @@
 //! What a clone sends to the shared node, and what it makes of what comes from there: functions over the files of a clone.
 #![tactic(auto)]
 
-mod fault;
 mod item;
-mod learning;
-mod moving;
 mod quarantined;
 mod receiving;
 mod send_fault;
 mod sending;
-mod storing;
 mod wanting;
 
-pub use fault::ExchangeFault;
 pub use item::PushItem;
 pub use quarantined::receive_quarantined;
 pub use receiving::{

@@ -1,7 +1,7 @@
 //! A pack whose objects stand in the clone's quarantine, the first slot's, until it is judged.
 ghost use Rattle.std.specs.Prelude.{◌≡◌, IfErr, IfOk, IsErrOf, OnOk};
 ghost use Rattle.vc_exchange.specs.Learning.{LearnsWhereRight};
-ghost use Rattle.vc_exchange.specs.Moving.{told_in};
+ghost use Rattle.vc_tracking.specs.Moving.{told_in};
 ghost use Rattle.vc_exchange.specs.Quarantined.{BlamesSeen, KeepsHeld};
 ghost use Rattle.vc_exchange.specs.Taking.{CutsHeldPack, ReceivesHeldPack, RefusesHeldPack};
 ghost use Rattle.vc_files.specs.Failures.{Wears, Writes};
@@ -16,9 +16,6 @@ ghost use Rattle.vc_quarantine.specs.PushState.{IsDamagedSeen};
 ghost use Rattle.vc_push_rules.specs.Quarantine.{IsDropped, objects_seen};
 ghost use Rattle.vc_object_map.specs.Store.{objects};
 
-use crate::ExchangeFault;
-use crate::learning::learn_known;
-use crate::moving::{Followed, move_refs};
 use crate::receiving::Moves;
 use crate::wanting::open_ids;
 use indexmap::IndexSet;
@@ -29,6 +26,7 @@ use vc_object::ObjectId;
 use vc_object_map::StoreFault;
 use vc_pack::names_reached;
 use vc_quarantine::{Known, PushObjects, drop_quarantine, migrate};
+use vc_tracking::{ExchangeFault, Followed, learn_known, move_refs};
 
 // The known names and what the wants reach beyond them, where all of it is stored or stands in the quarantine; or the first want
 // of which that isn't so.

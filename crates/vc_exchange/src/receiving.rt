@@ -1,11 +1,11 @@
 //! What a clone makes of a message from the shared node.
 ghost use Rattle.std.specs.Prelude.{◌≡◌, ◌++◌, ◌∷◌, [], IfOk, IfErr, OnOk, IsErrOf, codes, map};
 ghost use Rattle.std.specs.FinMap.{entries};
-ghost use Rattle.vc_exchange.specs.Faults.{BlamesFiles, Looks};
+ghost use Rattle.vc_tracking.specs.Faults.{BlamesFiles, Looks};
 ghost use Rattle.vc_exchange.specs.Learning.{LearnsWhereRight};
-ghost use Rattle.vc_exchange.specs.Moving.{told_in};
+ghost use Rattle.vc_tracking.specs.Moving.{told_in};
 ghost use Rattle.vc_exchange.specs.Receiving.{AcceptedAgree, BlamesAdvert, BlamesPack, accepted};
-ghost use Rattle.vc_exchange.specs.Storing.{KeepsBeside, KeepsGood};
+ghost use Rattle.vc_tracking.specs.Storing.{KeepsBeside, KeepsGood};
 ghost use Rattle.vc_exchange.specs.Taking.{CutsAdvert, CutsPack, CutsReport, MayReceiveAdvert, MayReceiveReport, ReceivesAdvert, ReceivesPack, ReceivesReport};
 ghost use Rattle.vc_fetch.specs.AdvertView.{advert_text, ref_ids};
 ghost use Rattle.vc_fetch.specs.PackView.{pack_text};
@@ -20,10 +20,6 @@ ghost use Rattle.vc_push.specs.ReportView.{report_text, told_of};
 ghost use Rattle.vc_quarantine.specs.Clean.{MakesNoneBad};
 ghost use Rattle.vc_quarantine.specs.Learning.{learnt_in};
 
-use crate::ExchangeFault;
-use crate::learning::learn_known;
-use crate::moving::{Followed, move_refs};
-use crate::storing::store_all;
 use crate::wanting::{first_ids, open_ids, want_message};
 use std::alloc::{AllocError, Global};
 use std::collections::BTreeMap;
@@ -34,6 +30,7 @@ use vc_object::ObjectId;
 use vc_pack::judge_pack;
 use vc_push::{Reason, Report, Told};
 use vc_quarantine::Known;
+use vc_tracking::{ExchangeFault, Followed, learn_known, move_refs, store_all};
 
 /// How many refs followed what was told, and how many told ids are still incomplete.
 #[derive(Clone, Copy)]

@@ -1,8 +1,8 @@
 //! What a clone asks for: the ids of which not all is there, beside those that it says that it has.
 ghost use Rattle.std.specs.Prelude.{◌≡◌, ◌≢◌, ◌≤◌, [], IfOk, IfErr, OnOk, IsErrOf, length, take};
 ghost use Rattle.std.specs.List.{AllByRecursion};
-ghost use Rattle.vc_exchange.specs.Faults.{BlamesFiles};
-ghost use Rattle.vc_exchange.specs.Moving.{told_in};
+ghost use Rattle.vc_tracking.specs.Faults.{BlamesFiles};
+ghost use Rattle.vc_tracking.specs.Moving.{told_in};
 ghost use Rattle.vc_exchange.specs.Wanting.{AddsOpen, AreHaves, AsksFor, BlamesWanting, WantsOpen};
 ghost use Rattle.vc_files.specs.Failures.{Wears};
 ghost use Rattle.vc_object_map.specs.Complete.{AreComplete, AreCompleteBeyond};
@@ -10,7 +10,6 @@ ghost use Rattle.vc_object.specs.Lines.{IsId};
 ghost use Rattle.vc_object_map.specs.Store.{objects};
 ghost use Rattle.vc_fetch.specs.Want.{max_ids};
 
-use crate::ExchangeFault;
 use indexmap::IndexSet;
 use std::alloc::{AllocError, Global};
 use vc_fetch::{MAX_IDS, Want};
@@ -19,6 +18,7 @@ use vc_graph::is_complete_beyond;
 use vc_object::ObjectId;
 use vc_refs::{list, resolve_head};
 use vc_store::Store;
+use vc_tracking::ExchangeFault;
 
 // Adds an id to those that are wanted, where not all is there that it reaches, and it is not wanted yet.
 fn add_open<F: Files>(

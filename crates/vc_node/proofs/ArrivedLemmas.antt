@@ -3,13 +3,13 @@ use Rattle.std.proofs.Common.{◌≡◌, ℕ, Bool, true, List, ◌++◌, drop, 
 use Rattle.std.specs.Prelude.{IsErrAnd, IsErrOf, codes}
 use Rattle.std.specs.List.{starts_with}
 use Rattle.vc_exchange.proofs.QuarantinedLemmas.{cut_beside, held_beside}
-use Rattle.vc_exchange.specs.Faults.{BlamesObjects, BlamesRefs}
-use Rattle.vc_exchange.specs.Moving.{Told}
+use Rattle.vc_tracking.specs.Faults.{BlamesObjects, BlamesRefs}
+use Rattle.vc_tracking.specs.Moving.{Told}
 use Rattle.vc_exchange.specs.Quarantined.{KeepsOthers}
 use Rattle.vc_exchange.specs.Receiving.{BlamesPack}
-use Rattle.vc_exchange.specs.Storing.{KeepsBeside}
-use Rattle.vc_exchange.specs.declared.fault.ExchangeFault.{ExchangeFault}
-use Rattle.vc_exchange.specs.declared.fault.ExchangeFault.TheVariants as exchange
+use Rattle.vc_tracking.specs.Storing.{KeepsBeside}
+use Rattle.vc_tracking.specs.declared.fault.ExchangeFault.{ExchangeFault}
+use Rattle.vc_tracking.specs.declared.fault.ExchangeFault.TheVariants as exchange
 use Rattle.vc_files.proofs.FileMapLemmas.{outside_then}
 use Rattle.vc_files.specs.Failures.{Writes}
 use Rattle.vc_files.specs.FileMap.{FileMap, SameOutside}

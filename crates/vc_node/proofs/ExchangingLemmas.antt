@@ -3,11 +3,11 @@ use Rattle.std.proofs.Common.{◌≡◌, ◌⊎◌, inl, inr, ℕ, true, List, V
 use Rattle.std.specs.Global.{Global}
 use Rattle.std.specs.Prelude.{IfErr, IsErrAnd, codes}
 use Rattle.vc_exchange.specs.Deeds.{ChangesAt, HoldsHead, IsCutShort, IsReceived}
-use Rattle.vc_exchange.specs.Faults.{BlamesFiles}
-use Rattle.vc_exchange.specs.Moving.{Told, told_in}
+use Rattle.vc_tracking.specs.Faults.{BlamesFiles}
+use Rattle.vc_tracking.specs.Moving.{Told, told_in}
 use Rattle.vc_exchange.specs.Receiving.{AreRefs, BlamesAdvert, BlamesPack, DeclinesPack, awaited_pack}
-use Rattle.vc_exchange.specs.declared.fault.ExchangeFault.{ExchangeFault}
-use Rattle.vc_exchange.specs.declared.fault.ExchangeFault.TheVariants as exchange
+use Rattle.vc_tracking.specs.declared.fault.ExchangeFault.{ExchangeFault}
+use Rattle.vc_tracking.specs.declared.fault.ExchangeFault.TheVariants as exchange
 use Rattle.vc_fetch.specs.Advert.{AdvertText}
 use Rattle.vc_fetch.specs.Pack.{PackText}
 use Rattle.vc_files.specs.FileMap.{FileMap, SameOutside}

@@ -1,7 +1,7 @@
 -- What a clone's calls leave of its objects: each stays. For what is kept of the tracking refs' reach.
 use Rattle.std.proofs.Common.{◌≡◌, ⊎_elim, List, Some, refl, ap, ◌∙◌, map, ◌++◌, ◌∷◌, [], ℕ}
 use Rattle.vc_pack.proofs.KeepsLemmas.{StandsIn-kept, keeps_map, keeps_same, keeps_then, with_object-keeps, with_objects-keeps}
-use Rattle.vc_exchange.specs.Storing.{KeepsGood}
+use Rattle.vc_tracking.specs.Storing.{KeepsGood}
 use Rattle.vc_history.specs.Stored.{AgreesIn}
 use Rattle.vc_history.specs.declared.generations.Generations.{Generations}
 use Rattle.vc_pack.specs.Reached.{KeepsObjects, StandsIn}

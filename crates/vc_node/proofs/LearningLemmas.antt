@@ -1,8 +1,8 @@
 -- What a clone has learnt once a message was taken, or refused.
 use Rattle.std.proofs.Common.{◌≡◌, ◌⊎◌, ⊎_elim, inl, inr, ℕ, Bool, true, not, List, Result, Ok, Err, refl, sym, ap, ◌∙◌, subst, true≢false}
 use Rattle.vc_exchange.specs.Learning.{LearnsJudging, LearnsTaking, UnlessFault}
-use Rattle.vc_exchange.specs.declared.fault.ExchangeFault.{ExchangeFault}
-use Rattle.vc_exchange.specs.declared.fault.ExchangeFault.TheVariants as exchange
+use Rattle.vc_tracking.specs.declared.fault.ExchangeFault.{ExchangeFault}
+use Rattle.vc_tracking.specs.declared.fault.ExchangeFault.TheVariants as exchange
 use Rattle.vc_files.specs.FileMap.{FileMap, SameOutside}
 use Rattle.vc_object_map.specs.Graph.{IsClosed}
 use Rattle.vc_history.specs.Generation.{HasGeneration}

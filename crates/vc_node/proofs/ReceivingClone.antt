@@ -4,7 +4,7 @@ use Rattle.std.specs.Prelude.{IfErr, codes, option_map}
 use Rattle.std.specs.FinMap.{get}
 use Rattle.vc_exchange.specs.Deeds.{HoldsHead, IsCutShort, IsReceived}
 use Rattle.vc_exchange.specs.Deeds.IsCutShort.{at_first, within}
-use Rattle.vc_exchange.specs.Storing.{KeepsBeside}
+use Rattle.vc_tracking.specs.Storing.{KeepsBeside}
 use Rattle.vc_exchange.proofs.WantingHaves.{bytes_back}
 use Rattle.vc_files.specs.FileMap.{FileMap, SameOutside}
 use Rattle.vc_format.specs.Git.{bytes_of_id}

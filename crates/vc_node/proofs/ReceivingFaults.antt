@@ -1,11 +1,11 @@
 -- A fault of an exchange, as a clone tells it: of which it may be over clean files, and what it says of the device.
 use Rattle.std.proofs.Common.{◌≡◌, ◌⊎◌, inl, inr, ℕ, List, Option, Some, None, Result, Ok, Err, refl, sym, subst, true≢false}
 use Rattle.std.specs.Prelude.{IfErr, IsErrAnd, IsErrOf, string_bytes}
-use Rattle.vc_exchange.specs.Faults.{BlamesFiles, BlamesObjects, BlamesRefs}
+use Rattle.vc_tracking.specs.Faults.{BlamesFiles, BlamesObjects, BlamesRefs}
 use Rattle.vc_exchange.specs.Receiving.{BlamesAdvert, BlamesPack, DeclinesPack}
 use Rattle.vc_exchange.specs.Wanting.{BlamesHeads, BlamesWanting}
-use Rattle.vc_exchange.specs.declared.fault.ExchangeFault.{ExchangeFault}
-use Rattle.vc_exchange.specs.declared.fault.ExchangeFault.TheVariants as exchange
+use Rattle.vc_tracking.specs.declared.fault.ExchangeFault.{ExchangeFault}
+use Rattle.vc_tracking.specs.declared.fault.ExchangeFault.TheVariants as exchange
 use Rattle.vc_files.specs.Failures.{Writes}
 use Rattle.vc_files.specs.FileMap.{FileMap}
 use Rattle.vc_files.specs.declared.faults.Fault.{Fault as FilesFault}

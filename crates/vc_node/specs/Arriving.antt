@@ -2,11 +2,11 @@
 use Rattle.std.specs.Prelude.{◌≡◌, ◌≢◌, ◌⊎◌, ⊤, ℕ, Bool, true, false, List, [], Option, Some, None, Result, Ok, Err, IfErr, IsErrOf, Vec}
 use Rattle.std.specs.Global.{Global}
 use Rattle.vc_exchange.specs.Deeds.{IsCutShort, IsReceived}
-use Rattle.vc_exchange.specs.Moving.{Told, told_in}
+use Rattle.vc_tracking.specs.Moving.{Told, told_in}
 use Rattle.vc_exchange.specs.Quarantined.{HoldsPack}
 use Rattle.vc_exchange.specs.Receiving.{AreRefs, BlamesPack, awaited_pack}
-use Rattle.vc_exchange.specs.declared.fault.ExchangeFault.{ExchangeFault}
-use Rattle.vc_exchange.specs.declared.fault.ExchangeFault.TheVariants as exchange
+use Rattle.vc_tracking.specs.declared.fault.ExchangeFault.{ExchangeFault}
+use Rattle.vc_tracking.specs.declared.fault.ExchangeFault.TheVariants as exchange
 use Rattle.vc_exchange.specs.declared.receiving.Moves.{Moves}
 use Rattle.vc_fetch.specs.Pack.{PackText}
 use Rattle.vc_files.specs.FileMap.{FileMap, SameOutside}

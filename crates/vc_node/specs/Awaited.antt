@@ -1,6 +1,6 @@
 -- What a clone awaits, and what that is to the machine.
 use Rattle.std.specs.Prelude.{◌≡◌, List}
-use Rattle.vc_exchange.specs.Moving.{Told, told_in}
+use Rattle.vc_tracking.specs.Moving.{Told, told_in}
 use Rattle.vc_exchange.specs.Receiving.{AreRefs, awaited_pack}
 use Rattle.vc_model.specs.Clone.{Awaited}
 use Rattle.vc_model.specs.Clone.Awaited.{AnAdvert, Nothing}

@@ -1,7 +1,7 @@
 -- What a fault of an exchange is of, as a clone tells it, and which are no refusals.
 use Rattle.std.specs.Prelude.{Bool, true, false, not, Result, Ok, Err, IsErrAnd}
-use Rattle.vc_exchange.specs.declared.fault.ExchangeFault.{ExchangeFault}
-use Rattle.vc_exchange.specs.declared.fault.ExchangeFault.TheVariants as exchange
+use Rattle.vc_tracking.specs.declared.fault.ExchangeFault.{ExchangeFault}
+use Rattle.vc_tracking.specs.declared.fault.ExchangeFault.TheVariants as exchange
 use Rattle.vc_exchange.specs.declared.send_fault.SendFault.{SendFault}
 use Rattle.vc_exchange.specs.declared.send_fault.SendFault.TheVariants as send
 use Rattle.vc_files.specs.declared.faults.Fault.{Fault as FilesFault}

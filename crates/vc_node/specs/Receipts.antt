@@ -1,9 +1,9 @@
 -- Why a message, or the start of an exchange, is refused by a clone, over any files.
 use Rattle.std.specs.Prelude.{◌≡◌, List, ℕ}
-use Rattle.vc_exchange.specs.Faults.{BlamesFiles}
+use Rattle.vc_tracking.specs.Faults.{BlamesFiles}
 use Rattle.vc_exchange.specs.Receiving.{BlamesAdvert, BlamesPack}
 use Rattle.vc_exchange.specs.SendFault.{IsRefusedPush}
-use Rattle.vc_exchange.specs.declared.fault.ExchangeFault.{ExchangeFault}
+use Rattle.vc_tracking.specs.declared.fault.ExchangeFault.{ExchangeFault}
 use Rattle.vc_exchange.specs.declared.item.PushItem.{PushItem}
 use Rattle.vc_exchange.specs.declared.send_fault.SendFault.{SendFault}
 use Rattle.vc_files.specs.FileMap.{FileMap}

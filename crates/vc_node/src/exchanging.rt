@@ -1,6 +1,6 @@
 // What a clone makes of a message that it awaits.
 ghost use Rattle.std.specs.Prelude.{◌≡◌, ℕ, IfErr};
-ghost use Rattle.vc_exchange.specs.Storing.{KeepsBeside, KeepsGood};
+ghost use Rattle.vc_tracking.specs.Storing.{KeepsBeside, KeepsGood};
 ghost use Rattle.vc_files.specs.Failures.{Wears, Writes};
 ghost use Rattle.vc_fetch.specs.AdvertView.{advert_text};
 ghost use Rattle.vc_fetch.specs.PackView.{pack_text};

@@ -9,11 +9,11 @@ use crate::clone_fault::CloneFault;
 use std::alloc::AllocError;
 use std::error::Error;
 use std::fmt;
-use vc_exchange::ExchangeFault;
 use vc_files::Fault;
 use vc_local::NodeFault;
 use vc_message::IncomingFault;
 use vc_object_map::StoreFault;
+use vc_tracking::ExchangeFault;
 
 /// What ends the taking of a message from a reader without an answer.
 #[derive(Debug, Drop)]

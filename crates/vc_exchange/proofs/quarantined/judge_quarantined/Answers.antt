@@ -1,5 +1,5 @@
 use Rattle.std.proofs.Common.{rules}
-use Rattle.vc_exchange.specs.Faults.{from_store}
+use Rattle.vc_tracking.specs.Faults.{from_store}
 use Rattle.vc_exchange.specs.Quarantined.{BlamesSeen}
 use Rattle.vc_exchange.proofs.QuarantinedLemmas.{met_blames}
 use Rattle.vc_exchange.proofs.quarantined.judge_quarantined.Goals as goal

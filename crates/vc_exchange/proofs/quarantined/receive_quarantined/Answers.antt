@@ -21,14 +21,14 @@ use Rattle.vc_quarantine.specs.Learning.{learnt_in}
 use Rattle.vc_quarantine.specs.Migrating.{IsFrontMigrated, migrated}
 use Rattle.vc_quarantine.specs.declared.known.Known.{Known}
 use Rattle.vc_object_map.specs.Store.{objects}
-use Rattle.vc_exchange.specs.Faults.{BlamesFiles, from_store}
-use Rattle.vc_exchange.specs.Moving.{IsRight, told_in}
+use Rattle.vc_tracking.specs.Faults.{BlamesFiles, from_store}
+use Rattle.vc_tracking.specs.Moving.{IsRight, told_in}
 use Rattle.vc_exchange.specs.Quarantined.{BlamesSeen}
 use Rattle.vc_exchange.specs.Receiving.{BlamesPack}
-use Rattle.vc_exchange.specs.declared.fault.ExchangeFault.TheVariants as exchange
-use Rattle.vc_exchange.proofs.LearningLemmas.{faulted, learnt_alone, learnt_moved}
-use Rattle.vc_exchange.proofs.MovingLoops.{blames_before, blames_of_pack, fault_other, never_incomplete, told_err, whole_refs}
-use Rattle.vc_exchange.proofs.PackDeeds.{pack_moving, pack_storing, pack_stored, pack_taken, store_other}
+use Rattle.vc_tracking.specs.declared.fault.ExchangeFault.TheVariants as exchange
+use Rattle.vc_exchange.proofs.JudgingLemmas.{faulted, learnt_alone, learnt_moved, whole_refs}
+use Rattle.vc_tracking.proofs.MovingLoops.{blames_before, told_err}
+use Rattle.vc_exchange.proofs.PackDeeds.{blames_of_pack, fault_other, never_incomplete, pack_moving, pack_stored, pack_storing, pack_taken, store_other}
 use Rattle.vc_exchange.proofs.PackLemmas.{histories_met, stored_content, stored_met, stored_outside, whole_after}
 use Rattle.vc_exchange.proofs.KeptLemmas.{agrees_migrated, keeps_beside_refs}
 use Rattle.vc_exchange.proofs.QuarantinedLemmas.{all_stored, cut_beside, front_keeps, keeps_beside_slot, migrated_keeps, migration_blames, others_objects, others_refs, others_same, others_slot, others_then, pack_blames, received_beside, received_cut, seen_at, seen_blames, some_stored}

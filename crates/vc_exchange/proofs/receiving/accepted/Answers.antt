@@ -1,6 +1,6 @@
 use Rattle.std.proofs.Common.{◌∷◌, [], ◌++◌, List, ap, ◌∙◌}
 use Rattle.vc_push.specs.ReportView.{told_of}
-use Rattle.vc_exchange.specs.Moving.{Told}
+use Rattle.vc_tracking.specs.Moving.{Told}
 use Rattle.vc_exchange.specs.Receiving.{accepted}
 use Rattle.vc_exchange.proofs.ReceivingLemmas.{next_accepted}
 use Rattle.vc_exchange.proofs.receiving.accepted.Goals as goal

@@ -1,6 +1,6 @@
 use Rattle.std.proofs.Common.{◌≡◌, map, take}
 use Rattle.vc_push.specs.ReportView.{told_of}
-use Rattle.vc_exchange.specs.Moving.{told_in}
+use Rattle.vc_tracking.specs.Moving.{told_in}
 use Rattle.vc_exchange.specs.Receiving.{accepted}
 use Rattle.vc_exchange.proofs.receiving.accepted.Given as goal
 

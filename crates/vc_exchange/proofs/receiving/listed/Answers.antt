@@ -2,8 +2,8 @@ use Rattle.std.proofs.Common.{rules, ◌≡◌, ◌∷◌, [], ◌++◌, List, a
 use Rattle.std.specs.BTreeMap.{IsOrdered}
 use Rattle.std.proofs.lemmas.List.{append-nil}
 use Rattle.vc_fetch.proofs.RefMaps.{entries-ref_ids, key_cmp}
-use Rattle.vc_exchange.specs.Moving.{told_in}
-use Rattle.vc_exchange.proofs.MovingLoops.{Item}
+use Rattle.vc_tracking.specs.Moving.{told_in}
+use Rattle.vc_tracking.proofs.MovingLoops.{Item}
 use Rattle.vc_exchange.proofs.receiving.listed.Goals as goal
 
 pub loop-name-init : goal.loop-name-init

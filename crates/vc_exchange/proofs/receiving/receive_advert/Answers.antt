@@ -22,18 +22,18 @@ use Rattle.vc_quarantine.specs.Learning.{learnt_in}
 use Rattle.vc_quarantine.specs.declared.known.Known.{Known}
 use Rattle.vc_object_map.specs.Store.{objects}
 use Rattle.vc_exchange.specs.Deeds.{HoldsHead}
-use Rattle.vc_exchange.specs.Faults.{BlamesFiles}
-use Rattle.vc_exchange.specs.Moving.{AreFrontMoved, AreMoved, IsRight, MovesSome, Told, told_in}
+use Rattle.vc_tracking.specs.Faults.{BlamesFiles}
+use Rattle.vc_tracking.specs.Moving.{AreFrontMoved, AreMoved, IsRight, MovesSome, Told, told_in}
 use Rattle.vc_exchange.specs.Receiving.{BlamesAdvert}
 use Rattle.vc_exchange.specs.Wanting.{AreOpenTold, BlamesWanting}
-use Rattle.vc_exchange.specs.declared.fault.ExchangeFault.{ExchangeFault}
-use Rattle.vc_exchange.specs.declared.fault.ExchangeFault.TheVariants as exchange
-use Rattle.vc_exchange.specs.declared.moving.Followed.TheVariants.{All}
+use Rattle.vc_tracking.specs.declared.fault.ExchangeFault.{ExchangeFault}
+use Rattle.vc_tracking.specs.declared.fault.ExchangeFault.TheVariants as exchange
+use Rattle.vc_tracking.specs.declared.moving.Followed.TheVariants.{All}
 use Rattle.vc_exchange.proofs.AdvertDeeds.{advert_asked, advert_changes, advert_cut, advert_followed, told_refs}
 use Rattle.vc_exchange.proofs.EmptyLists.{empty_items, few_first, some_items}
 use Rattle.vc_exchange.proofs.DeedLemmas.{none_received}
-use Rattle.vc_exchange.proofs.LearningLemmas.{faulted, learnt_alone, learnt_moved}
-use Rattle.vc_exchange.proofs.MovingLoops.{told_err, whole_more, whole_refs}
+use Rattle.vc_exchange.proofs.JudgingLemmas.{faulted, learnt_alone, learnt_moved, whole_more, whole_refs}
+use Rattle.vc_tracking.proofs.MovingLoops.{told_err}
 use Rattle.vc_exchange.proofs.ReceivingLemmas.{outside_kept, wanting_kept}
 use Rattle.vc_exchange.proofs.receiving.receive_advert.Goals as goal
 use Rattle.vc_lemmas.proofs.Lists.{on_err}

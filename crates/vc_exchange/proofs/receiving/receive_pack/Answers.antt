@@ -26,15 +26,15 @@ use Rattle.vc_quarantine.specs.Known.{AreWhole}
 use Rattle.vc_quarantine.specs.Learning.{learnt_in}
 use Rattle.vc_quarantine.specs.declared.known.Known.{Known}
 use Rattle.vc_object_map.specs.Store.{objects}
-use Rattle.vc_exchange.specs.Faults.{BlamesFiles, from_answer, from_store}
-use Rattle.vc_exchange.specs.Moving.{IsRight, told_in}
+use Rattle.vc_tracking.specs.Faults.{BlamesFiles, from_answer, from_store}
+use Rattle.vc_tracking.specs.Moving.{IsRight, told_in}
 use Rattle.vc_exchange.specs.Receiving.{BlamesPack}
-use Rattle.vc_exchange.specs.Storing.{AreSomeStored}
-use Rattle.vc_exchange.specs.declared.fault.ExchangeFault.TheVariants as exchange
+use Rattle.vc_tracking.specs.Storing.{AreSomeStored}
+use Rattle.vc_tracking.specs.declared.fault.ExchangeFault.TheVariants as exchange
 use Rattle.vc_files.specs.declared.faults.Fault.TheVariants.{Device}
-use Rattle.vc_exchange.proofs.LearningLemmas.{faulted, learnt_alone, learnt_moved}
-use Rattle.vc_exchange.proofs.MovingLoops.{blames_before, blames_of_pack, never_incomplete, told_err, whole_refs}
-use Rattle.vc_exchange.proofs.PackDeeds.{judge_blames, pack_moving, pack_storing, pack_stored, pack_taken, store_other}
+use Rattle.vc_exchange.proofs.JudgingLemmas.{faulted, learnt_alone, learnt_moved, whole_refs}
+use Rattle.vc_tracking.proofs.MovingLoops.{blames_before, told_err}
+use Rattle.vc_exchange.proofs.PackDeeds.{blames_of_pack, judge_blames, never_incomplete, pack_moving, pack_stored, pack_storing, pack_taken, store_other}
 use Rattle.vc_exchange.proofs.PackLemmas.{brought_closed, brought_same, histories_met, stored_content, stored_met, stored_outside, stored_since, some_since, whole_after}
 use Rattle.vc_exchange.proofs.KeptLemmas.{agrees_stored, keeps_beside_refs, keeps_some, keeps_stored}
 use Rattle.vc_exchange.proofs.receiving.receive_pack.Goals as goal

@@ -7,8 +7,8 @@ use Rattle.vc_model.specs.Repository.{IsSound}
 use Rattle.vc_refs.specs.Refs.{refs}
 use Rattle.vc_rules.specs.Git.{git}
 use Rattle.vc_rules.specs.OpenPushes.{HoldsContent}
-use Rattle.vc_exchange.specs.Faults.{BlamesFiles}
-use Rattle.vc_exchange.specs.Moving.{IsRight, told_in}
+use Rattle.vc_tracking.specs.Faults.{BlamesFiles}
+use Rattle.vc_tracking.specs.Moving.{IsRight, told_in}
 use Rattle.vc_exchange.specs.Receiving.{accepted}
 use Rattle.vc_message.specs.Machine.{machine_told}
 use Rattle.vc_model.specs.Clone.{refused_reasons}
@@ -17,9 +17,9 @@ use Rattle.vc_push.specs.declared.report.Told.{Told}
 use Rattle.vc_quarantine.proofs.NumberLemmas.{agreement_same}
 use Rattle.vc_quarantine.proofs.WearLemmas.{wears_both}
 use Rattle.vc_quarantine.specs.Learning.{learnt_in}
-use Rattle.vc_exchange.specs.declared.fault.ExchangeFault.TheVariants as exchange
-use Rattle.vc_exchange.proofs.LearningLemmas.{faulted, learnt_moved}
-use Rattle.vc_exchange.proofs.MovingLoops.{told_err, whole_refs}
+use Rattle.vc_tracking.specs.declared.fault.ExchangeFault.TheVariants as exchange
+use Rattle.vc_exchange.proofs.JudgingLemmas.{faulted, learnt_moved, whole_refs}
+use Rattle.vc_tracking.proofs.MovingLoops.{told_err}
 use Rattle.vc_exchange.proofs.ReceivingLemmas.{report_changes, report_cut, report_received}
 use Rattle.vc_exchange.proofs.receiving.receive_report.Goals as goal
 use Rattle.vc_lemmas.proofs.Lists.{on_err}

@@ -7,7 +7,7 @@ use Rattle.vc_object.specs.declared.id.ObjectId.{ObjectId}
 use Rattle.vc_refs.specs.Head.{head_of, head_value}
 use Rattle.vc_refs.specs.RefFault.{BlamesHeadValue}
 use Rattle.vc_refs.specs.Refs.{refs}
-use Rattle.vc_exchange.specs.Faults.{from_refs}
+use Rattle.vc_tracking.specs.Faults.{from_refs}
 use Rattle.vc_exchange.specs.Wanting.{BlamesWanting}
 use Rattle.vc_exchange.proofs.OnceLemmas.{inserted_once}
 use Rattle.vc_exchange.proofs.WantingHaves.{are_haves, heads_blames, no_head, none_taken, value_found, values_told}

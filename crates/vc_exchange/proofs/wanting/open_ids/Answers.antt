@@ -5,9 +5,9 @@ use Rattle.vc_object.specs.declared.id.ObjectId.{ObjectId}
 use Rattle.vc_object_map.specs.Graph.{IsClosedUnder}
 use Rattle.vc_object.specs.ObjectMap.{links_in}
 use Rattle.vc_object_map.specs.Store.{objects}
-use Rattle.vc_exchange.specs.Moving.{Told, told_in}
+use Rattle.vc_tracking.specs.Moving.{Told, told_in}
 use Rattle.vc_exchange.specs.Wanting.{AddsOpen, AreOpenTold}
-use Rattle.vc_exchange.proofs.MovingLoops.{front_more, told_of}
+use Rattle.vc_tracking.proofs.MovingLoops.{front_more, told_of}
 use Rattle.vc_exchange.proofs.WantingOpen.{more_open, none_open}
 use Rattle.vc_exchange.proofs.wanting.open_ids.Goals as goal
 

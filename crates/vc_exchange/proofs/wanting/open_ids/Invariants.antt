@@ -5,7 +5,7 @@ use Rattle.vc_model.specs.Repository.{Repository}
 use Rattle.vc_object.specs.ObjectMap.{links_in}
 use Rattle.vc_rules.specs.OpenPushes.{HoldsContent}
 use Rattle.vc_object_map.specs.Store.{objects}
-use Rattle.vc_exchange.specs.Moving.{told_in}
+use Rattle.vc_tracking.specs.Moving.{told_in}
 use Rattle.vc_exchange.specs.Wanting.{AreOpenTold}
 use Rattle.vc_exchange.proofs.wanting.open_ids.Given as goal
 

@@ -1,7 +1,7 @@
 use Rattle.std.proofs.Common.{not, Err, inl, refl, sym, ap, ◌∙◌, true≢false}
 use Rattle.std.proofs.lemmas.Result.{err_from_is_err_and}
 use Rattle.vc_exchange.proofs.QuarantinedLemmas.{keeps_beside_slot, others_same, others_slot, others_then}
-use Rattle.vc_exchange.specs.Moving.{told_in}
+use Rattle.vc_tracking.specs.Moving.{told_in}
 use Rattle.vc_files.proofs.FileMapLemmas.{outside_same}
 use Rattle.vc_files.proofs.WearLemmas.{writes_both, writes_none, writes_told}
 use Rattle.vc_message.specs.AnyMessage.{a_pack as pack_message}

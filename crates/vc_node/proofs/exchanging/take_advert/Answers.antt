@@ -1,6 +1,6 @@
 use Rattle.std.proofs.Common.{Ok, ap, inr, refl, subst, rules}
 use Rattle.vc_exchange.proofs.KeptLemmas.{keeps_beside_refs}
-use Rattle.vc_exchange.specs.Moving.{told_in}
+use Rattle.vc_tracking.specs.Moving.{told_in}
 use Rattle.vc_exchange.specs.Receiving.{IsAdvertTaken}
 use Rattle.vc_exchange.specs.declared.receiving.Advertised.{Advertised}
 use Rattle.vc_fetch.specs.AdvertView.{advert_text}

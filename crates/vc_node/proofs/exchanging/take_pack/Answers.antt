@@ -1,5 +1,5 @@
 use Rattle.std.proofs.Common.{Ok, ap, inr, refl, subst, sym, true, ◌∙◌}
-use Rattle.vc_exchange.specs.Moving.{told_in}
+use Rattle.vc_tracking.specs.Moving.{told_in}
 use Rattle.vc_fetch.specs.PackView.{pack_text}
 use Rattle.vc_files.proofs.WearLemmas.{writes_none}
 use Rattle.vc_files.specs.FileMap.{FileMap}

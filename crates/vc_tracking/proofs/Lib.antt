@@ -1,0 +1,9 @@
+pub mod LearningLemmas
+pub mod MovingDecisions
+pub mod MovingFronts
+pub mod MovingLemmas
+pub mod MovingLoops
+pub mod MovingPaths
+pub mod MovingRules
+pub mod SetRefs
+pub mod StoringLemmas

@@ -1,0 +1,4 @@
+pub mod Faults
+pub mod Learning
+pub mod Moving
+pub mod Storing
