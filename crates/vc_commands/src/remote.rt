@@ -1,6 +1,6 @@
 //! The subcommands that speak to another process: `serve`, `fetch` and `push`.
 ghost use Rattle.std.specs.Prelude.{◌≡◌};
-ghost use Rattle.vc_remote.specs.Progress.{goes_to_terminal};
+ghost use Rattle.vc_transport.specs.Progress.{goes_to_terminal};
 
 use crate::push_items::items_of;
 use crate::remote_failure::failure_of;
@@ -10,7 +10,8 @@ use std::net::Net;
 use std::rt;
 use std::thread::Threads;
 use vc_cli::{Failure, Faults, only_writer, open_store, print_text};
-use vc_remote::{Progress, is_done, make_shared, report_lines};
+use vc_remote::make_shared;
+use vc_transport::{Progress, is_done, report_lines};
 
 /// Serves so many connections to the store in this folder, which is made where there is none. The line `listening`, with the
 /// port, is printed once the port is open.

@@ -7,17 +7,10 @@
 mod answering;
 mod exchanging;
 mod peer;
-mod progress;
 mod remote_fault;
-mod report;
 mod serving;
-mod spool;
-mod words;
 
 pub use answering::{answer_from, make_shared};
 pub use exchanging::{fetch, push};
-pub use progress::Progress;
 pub use remote_fault::RemoteFault;
-pub use report::{is_done, report_lines};
 pub use serving::{bind, serve};
-pub use words::{ItemWords, item_words};

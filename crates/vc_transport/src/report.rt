@@ -2,7 +2,7 @@
 ghost use Rattle.std.specs.Prelude.{◌≡◌, ◌++◌, IfOk, OnOk, map};
 ghost use Rattle.std.specs.List.{flat_map, list_all};
 ghost use Rattle.vc_push.specs.ReportView.{told_of};
-ghost use Rattle.vc_remote.specs.Printed.{is_accepted, told_line};
+ghost use Rattle.vc_transport.specs.Printed.{is_accepted, told_line};
 
 use std::alloc::{AllocError, Global};
 use vc_push::{Report, Told};

@@ -1,5 +1,5 @@
 //! What a word of a push asks for.
-ghost use Rattle.vc_remote.specs.Words.{IsOfWord};
+ghost use Rattle.vc_transport.specs.Words.{IsOfWord};
 
 /// What a word of a push asks for.
 #[derive(Clone, Copy)]

@@ -20,7 +20,7 @@ enum Place<F: Write + Drop> {
 
 /// The bytes that came: in memory as long as they are few, and past that in a file with no name in the store's folder.
 #[derive(Drop)]
-pub(crate) struct Spool<R: rt::Files> {
+pub struct Spool<R: rt::Files> {
     rt: R,
     // The store's folder.
     folder: String,
@@ -33,7 +33,7 @@ pub(crate) struct Spool<R: rt::Files> {
 
 impl<R: rt::Files + AllocGlobal + Clone + Drop> Spool<R> {
     /// Nothing has come yet. What is longer than so many bytes will go to a file.
-    pub(crate) fn new(rt: &R, folder: &str, short: usize) -> Result<Spool<R>, AllocError> {
+    pub fn new(rt: &R, folder: &str, short: usize) -> Result<Spool<R>, AllocError> {
         let alloc = rt.alloc();
         Ok(Spool {
             rt: rt.clone()?,
@@ -70,7 +70,7 @@ impl<R: rt::Files + AllocGlobal + Clone + Drop> Spool<R> {
     }
 
     /// What was kept, to be read from its first byte on; or why some of it is lost.
-    pub(crate) fn finish(self) -> Result<Spooled<R::File>, Fault> {
+    pub fn finish(self) -> Result<Spooled<R::File>, Fault> {
         let Spool {
             rt,
             folder: _,
@@ -119,7 +119,7 @@ fn nameless<R: rt::Files + AllocGlobal>(rt: &R, folder: &str) -> io::Result<R::F
 }
 
 /// What an error of the system is to the layers above.
-pub(crate) fn fault_of(error: &io::Error) -> Fault {
+pub fn fault_of(error: &io::Error) -> Fault {
     match error.kind() {
         ErrorKind::OutOfMemory => Fault::Memory,
         _ => Fault::Device,
@@ -128,7 +128,7 @@ pub(crate) fn fault_of(error: &io::Error) -> Fault {
 
 /// A stream of which all that is read is kept. It hands on what the stream gives, until something of it is lost.
 #[derive(Drop)]
-pub(crate) struct Copying<S, R: rt::Files> {
+pub struct Copying<S, R: rt::Files> {
     pub stream: S,
     pub spool: Spool<R>,
 }
@@ -152,7 +152,7 @@ impl<S: Read, R: rt::Files + AllocGlobal + Clone + Drop> Read for Copying<S, R> 
 
 /// What was kept of a message, as a reader.
 #[derive(Drop)]
-pub(crate) enum Spooled<F> {
+pub enum Spooled<F> {
     Memory(Cursor<Vec<u8>>),
     File(BufReader<F>),
 }

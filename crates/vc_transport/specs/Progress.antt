@@ -1,8 +1,8 @@
 -- What a terminal is told while a long message goes by.
 use Rattle.std.specs.Prelude.{◌≡◌, ◌<◌, ◌+◌, ◌*◌, ◌/◌, ◌^◌, ℕ, Bool, nat_le, nat_lt, if◌then◌else◌, List, [], ◌∷◌, ◌++◌, codes, decimal}
-use Rattle.vc_remote.specs.declared.progress.Progress.{Progress}
-use Rattle.vc_remote.specs.declared.progress.Obstacle.{Obstacle}
-use Rattle.vc_remote.specs.declared.progress.Obstacle.TheVariants.{Sent, Received}
+use Rattle.vc_transport.specs.declared.progress.Progress.{Progress}
+use Rattle.vc_transport.specs.declared.progress.Obstacle.{Obstacle}
+use Rattle.vc_transport.specs.declared.progress.Obstacle.TheVariants.{Sent, Received}
 
 -- so many bytes more were counted; a count ends at 2^64, which no message comes to
 abbrev pub Counts : ℕ → ℕ → ℕ → Type 0

@@ -1,8 +1,8 @@
 -- What a word of a push asks for.
 use Rattle.std.specs.Prelude.{◌≡◌, ◌≢◌, ℕ, List, [], None}
 use Rattle.std.specs.Str.Pattern.{RFindsChar, SplitsAroundMatch}
-use Rattle.vc_remote.specs.declared.words.ItemWords.{ItemWords}
-use Rattle.vc_remote.specs.declared.words.ItemWords.TheVariants.{Branch, Delete, Set}
+use Rattle.vc_transport.specs.declared.words.ItemWords.{ItemWords}
+use Rattle.vc_transport.specs.declared.words.ItemWords.TheVariants.{Branch, Delete, Set}
 
 -- the word is cut at its last colon (58)
 abbrev pub IsCut : List ℕ → List ℕ → List ℕ → Type 0
