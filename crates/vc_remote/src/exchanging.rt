@@ -9,10 +9,10 @@ use std::io::Write;
 use std::net::Net;
 use std::rt;
 use std::thread::Threads;
-use vc_exchange::PushItem;
 use vc_folder::{FolderFiles, FolderLock, Syncs};
 use vc_node::{CloneNode, RemoteFault};
 use vc_push::Report;
+use vc_sending::PushItem;
 use vc_world::{exchange_fetch, exchange_push};
 
 /// Fetches into the clone in this folder, whose lock is held, until its refs are the shared node's, all on one connection.
