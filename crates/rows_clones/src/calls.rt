@@ -9,11 +9,11 @@ use crate::words::{push_done, push_found, push_restarted};
 use bstr::ByteVec;
 use std::alloc::{AllocError, Global};
 use std::fmt::Write;
-use vc_exchange::PushItem;
 use vc_expression::parse;
 use vc_node::CloneNode;
 use vc_object::{Kind, Mode, ObjectId};
 use vc_refname::RefName;
+use vc_sending::PushItem;
 
 // The author and the committer of each commit.
 const SIGNATURE: &[u8] = b"a <a> 0 +0000";

@@ -8,11 +8,11 @@ use crate::words::{push_done, push_found, push_sent, taken};
 use bstr::ByteVec;
 use std::alloc::{AllocError, Global};
 use std::fmt::Write;
-use vc_exchange::PushItem;
 use vc_expression::parse;
 use vc_node::{CloneFault, CloneNode, Received};
 use vc_object::{Mode, ObjectId};
 use vc_refname::RefName;
+use vc_sending::PushItem;
 
 /// A clone of the rows.
 pub type CloneSite = Site<CloneNode<Device>>;

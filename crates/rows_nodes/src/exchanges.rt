@@ -7,9 +7,9 @@ use crate::site::Device;
 use crate::words::push_bytes;
 use std::alloc::{AllocError, Global};
 use std::fmt::Write;
-use vc_exchange::PushItem;
 use vc_node::CloneNode;
 use vc_push::{Report, Told};
+use vc_sending::PushItem;
 use vc_shared::{Shared, SharedFault};
 use vc_world::{ExchangeEnd, Fetched, exchange_fetch, exchange_push};
 

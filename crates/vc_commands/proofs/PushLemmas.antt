@@ -3,7 +3,7 @@ use Rattle.std.proofs.Common.{◌≡◌, ℕ, ◌+◌, ◌<◌, List, [], ◌∷
 use Rattle.std.proofs.lemmas.List.{map-append, take_more}
 use denote.Ref.{Bor}
 use Rattle.std.specs.Prelude.{Result, IfErr, IfOk}
-use Rattle.vc_exchange.specs.declared.item.PushItem.{PushItem}
+use Rattle.vc_sending.specs.declared.item.PushItem.{PushItem}
 use Rattle.vc_files.specs.FileMap.{FileMap}
 use Rattle.vc_files.specs.declared.faults.Fault.TheVariants.{Memory}
 use Rattle.vc_transport.specs.Words.{IsOfWord}

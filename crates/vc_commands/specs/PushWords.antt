@@ -1,6 +1,6 @@
 -- What the words of a push ask for over files, and why one of them is refused.
 use Rattle.std.specs.Prelude.{◌≡◌, ◌⊎◌, ℕ, List, [], ◌∷◌, None, Some, Ok}
-use Rattle.vc_exchange.specs.declared.item.PushItem.{PushItem}
+use Rattle.vc_sending.specs.declared.item.PushItem.{PushItem}
 use Rattle.vc_files.specs.FileMap.{FileMap}
 use Rattle.vc_files.specs.declared.faults.Fault.TheVariants.{Memory}
 use Rattle.vc_object.specs.declared.id.ObjectId.{ObjectId}

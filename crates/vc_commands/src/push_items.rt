@@ -8,9 +8,9 @@ ghost use Rattle.vc_cli.specs.Failure.{TellsDevice};
 
 use std::alloc::Global;
 use vc_cli::{Failure, resolve};
-use vc_exchange::PushItem;
 use vc_files::{Fault, Files};
 use vc_refname::{NewNameError, RefName};
+use vc_sending::PushItem;
 use vc_transport::{ItemWords, item_words};
 
 /// The items of a push, in the order of the words. The first word that is refused is told.

@@ -9,7 +9,5 @@ pub mod PackLemmas
 pub mod QuarantinedLemmas
 pub mod ReceivingLemmas
 pub mod RefEntries
-pub mod SendingLaws
-pub mod SendingLemmas
 pub mod WantingHaves
 pub mod WantingOpen

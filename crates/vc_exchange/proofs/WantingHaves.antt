@@ -1,5 +1,5 @@
 -- What a clone says that it has: the values of its refs in order, then HEAD's; and the message that asks for what it wants.
-use Rattle.std.proofs.Common.{◌≡◌, ◌≢◌, ◌≤◌, ◌<◌, ◌+◌, inl, inr, ℕ, true, T, List, ◌∷◌, ◌++◌, length, get_or, take, map, option_to_list, Option, Some, None, refl, sym, ap, ◌∙◌, subst, []}
+use Rattle.std.proofs.Common.{◌≡◌, ◌≢◌, ◌≤◌, ◌<◌, ◌+◌, inl, inr, ℕ, true, T, List, ◌∷◌, ◌++◌, length, get_or, take, map, option_to_list, Option, Some, None, arith, refl, sym, ap, ◌∙◌, subst, []}
 use Rattle.std.specs.Prelude.{option_map, string_bytes}
 use Rattle.std.specs.FinMap.{entries, entries_sorted, get, get-entries, values}
 use Rattle.std.specs.FinMap.Entries.{same_entries}
@@ -33,7 +33,6 @@ use Rattle.vc_rules.specs.OpenPushes.{HoldsContent}
 use Rattle.vc_tracking.specs.Moving.{Told, machine_refs}
 use Rattle.vc_tracking.specs.Faults.{from_refs}
 use Rattle.vc_exchange.specs.Wanting.{AreHaves, BlamesWanting}
-use Rattle.vc_exchange.proofs.SendingLaws.{positive}
 use Rattle.vc_exchange.proofs.RefEntries.{find_machine, sorted_machine}
 use Rattle.vc_lemmas.proofs.Lists.{all_append}
 
@@ -99,8 +98,12 @@ none_taken [] = refl
 none_taken (x ∷ xs) = refl
 
 -- ---- the message
+some_wants : (wants : List ObjectId) → wants ≢ [] → 0 < length wants
+some_wants [] some = absurd (some refl)
+some_wants (id ∷ wants) some = omega arith
+
 pub written_want : (wants haves : List ObjectId) (have : List Id) (bytes : List ℕ) → wants ≢ [] → length wants ≤ 256 → length haves ≤ 256 → AllByRecursion IsId wants → AllByRecursion IsId haves
     → map bytes_of_id haves ≡ have → bytes ≡ flat_map spelling (want_lines (record { wants = wants; haves = haves })) → IsWritten (Want (map bytes_of_id wants) have) bytes
 written_want wants haves have bytes some few_wants few_haves all_wants all_haves is spelled =
     written_so (Want (map bytes_of_id wants) have) (a_want (record { wants = wants; haves = haves })) bytes (ap (λ (l : List Id). Want (map bytes_of_id wants) l) (sym is))
-    (record { some = positive wants some; few_wants = few_wants; few_haves = few_haves; wants = all_wants; haves = all_haves }) spelled
+    (record { some = some_wants wants some; few_wants = few_wants; few_haves = few_haves; wants = all_wants; haves = all_haves }) spelled

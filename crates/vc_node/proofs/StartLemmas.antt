@@ -2,12 +2,12 @@
 use Rattle.std.proofs.Common.{◌≡◌, ℕ, Bool, true, false, List, None, Ok, Err, refl, sym, ap, ◌∙◌, subst}
 use Rattle.std.specs.Prelude.{Vec, string_bytes}
 use Rattle.std.specs.Global.{Global}
-use Rattle.vc_exchange.specs.SendFault.{IsRefusedPush}
-use Rattle.vc_exchange.specs.Sending.{machine_items}
-use Rattle.vc_exchange.specs.SentPush.{DeclinesPush, IsSentPush, SendsPush}
-use Rattle.vc_exchange.specs.declared.item.PushItem.{PushItem}
-use Rattle.vc_exchange.specs.declared.send_fault.SendFault.{SendFault}
-use Rattle.vc_exchange.specs.declared.send_fault.SendFault.TheVariants as send
+use Rattle.vc_sending.specs.SendFault.{IsRefusedPush}
+use Rattle.vc_sending.specs.Sending.{machine_items}
+use Rattle.vc_sending.specs.SentPush.{DeclinesPush, IsSentPush, SendsPush}
+use Rattle.vc_sending.specs.declared.item.PushItem.{PushItem}
+use Rattle.vc_sending.specs.declared.send_fault.SendFault.{SendFault}
+use Rattle.vc_sending.specs.declared.send_fault.SendFault.TheVariants as send
 use Rattle.vc_files.specs.FileMap.{FileMap}
 use Rattle.vc_files.specs.declared.faults.Fault.TheVariants.{Memory}
 use Rattle.vc_graph.specs.declared.fault.GraphFault.TheVariants as graph

@@ -2,8 +2,8 @@
 use Rattle.std.specs.Prelude.{Bool, true, false, not, Result, Ok, Err, IsErrAnd}
 use Rattle.vc_tracking.specs.declared.fault.ExchangeFault.{ExchangeFault}
 use Rattle.vc_tracking.specs.declared.fault.ExchangeFault.TheVariants as exchange
-use Rattle.vc_exchange.specs.declared.send_fault.SendFault.{SendFault}
-use Rattle.vc_exchange.specs.declared.send_fault.SendFault.TheVariants as send
+use Rattle.vc_sending.specs.declared.send_fault.SendFault.{SendFault}
+use Rattle.vc_sending.specs.declared.send_fault.SendFault.TheVariants as send
 use Rattle.vc_files.specs.declared.faults.Fault.{Fault as FilesFault}
 use Rattle.vc_files.specs.declared.faults.Fault.TheVariants.{Memory}
 use Rattle.vc_message.specs.Machine.{pkt_number}

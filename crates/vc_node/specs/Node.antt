@@ -1,7 +1,7 @@
 -- What a call says of a node as one value: what it holds before and after, where `content` is what its files hold.
 use Rattle.std.specs.Prelude.{◌≡◌, ℕ, Bool, true, false, List, Option, Result, Err, OnErr, map}
-use Rattle.vc_exchange.specs.Sending.{machine_items}
-use Rattle.vc_exchange.specs.declared.item.PushItem.{PushItem}
+use Rattle.vc_sending.specs.Sending.{machine_items}
+use Rattle.vc_sending.specs.declared.item.PushItem.{PushItem}
 use Rattle.vc_files.specs.Failures.{Wears}
 use Rattle.vc_files.specs.FileMap.{FileMap}
 use Rattle.vc_message.specs.AnyMessage.{MessageText}

@@ -2,10 +2,10 @@
 use Rattle.std.specs.Prelude.{◌≡◌, List, ℕ}
 use Rattle.vc_tracking.specs.Faults.{BlamesFiles}
 use Rattle.vc_exchange.specs.Receiving.{BlamesAdvert, BlamesPack}
-use Rattle.vc_exchange.specs.SendFault.{IsRefusedPush}
+use Rattle.vc_sending.specs.SendFault.{IsRefusedPush}
 use Rattle.vc_tracking.specs.declared.fault.ExchangeFault.{ExchangeFault}
-use Rattle.vc_exchange.specs.declared.item.PushItem.{PushItem}
-use Rattle.vc_exchange.specs.declared.send_fault.SendFault.{SendFault}
+use Rattle.vc_sending.specs.declared.item.PushItem.{PushItem}
+use Rattle.vc_sending.specs.declared.send_fault.SendFault.{SendFault}
 use Rattle.vc_files.specs.FileMap.{FileMap}
 use Rattle.vc_files.specs.declared.faults.Fault.TheVariants.{Memory}
 use Rattle.vc_message.specs.AnyMessage.{MessageText, SpellsMessage, a_pack as pack_message, a_report, an_advert as advert_message, any_step, beginning}

@@ -7,7 +7,6 @@ ghost use Rattle.vc_files.specs.declared.faults.Fault.TheVariants.{Memory};
 use std::alloc::AllocError;
 use std::error::Error;
 use std::fmt;
-use vc_exchange::SendFault;
 use vc_files::Fault;
 use vc_local::NodeFault;
 use vc_message::NOTHING_AWAITED;
@@ -15,6 +14,7 @@ use vc_object::ObjectId;
 use vc_object_map::StoreFault;
 use vc_pkt::{PktError, PktFault};
 use vc_rev::{Refusal, RevFault};
+use vc_sending::SendFault;
 use vc_tracking::ExchangeFault;
 
 /// What refuses such a call of a clone, by number, or the fault that ended it. After a fault the node is down.

@@ -5,7 +5,7 @@ ghost use Rattle.vc_model.specs.Clone.Task.{Write, Stage, Unstage, LoadTree, Set
 ghost use Rattle.vc_model.specs.Clone.Awaited.{Nothing};
 ghost use Rattle.vc_object.specs.Object.{object_name};
 ghost use Rattle.vc_refs.specs.Packing.{IsPackedFrom};
-ghost use Rattle.vc_exchange.specs.Sending.{machine_items};
+ghost use Rattle.vc_sending.specs.Sending.{machine_items};
 ghost use Rattle.vc_files.specs.declared.faults.Fault.TheVariants.{Memory};
 ghost use Rattle.vc_message.specs.AnyMessage.{a_report};
 ghost use Rattle.vc_message.specs.AnyView.{message_text};
@@ -50,7 +50,6 @@ use crate::awaited::Awaited;
 use crate::{CloneFault, ReceiveFault, Received, arriving, exchanging};
 use std::alloc::Global;
 use std::marker::Model;
-use vc_exchange::{PushItem, list_message, push_message};
 use vc_expression::Expr;
 use vc_files::{Files, FusedFiles};
 use vc_history::Generations;
@@ -62,6 +61,7 @@ use vc_pack::Reached;
 use vc_push::Report;
 use vc_refname::RefName;
 use vc_refs::Head;
+use vc_sending::{PushItem, list_message, push_message};
 
 /// A clone over files: objects, refs, HEAD and an index. Once a call has ended in a fault, each later one but
 /// [`close`](CloneNode::close) is refused (112), until the files are opened again. After a push it keeps in memory the names of what
@@ -488,7 +488,7 @@ impl<F: Files> CloneNode<F> {
         }
     }
 
-    /// The message that asks the shared node to change refs: see [`push_message`](vc_exchange::push_message). There is at least one
+    /// The message that asks the shared node to change refs: see [`push_message`](vc_sending::push_message). There is at least one
     /// item. More than 256 are refused (84), and then the first id of which not all is there (40). What is awaited stays awaited.
     pub fn start_push(&mut self, items: &[PushItem]) -> Result<Vec<u8>, CloneFault>
         requires some { items.now ≢ [] }

@@ -9,10 +9,10 @@ use std::io::Write;
 use std::net::Net;
 use std::rt;
 use std::thread::Threads;
-use vc_exchange::PushItem;
 use vc_folder::{FolderFiles, FolderLock, Syncs};
 use vc_node::CloneNode;
 use vc_push::Report;
+use vc_sending::PushItem;
 use vc_transport::Progress;
 use vc_world::{exchange_fetch, exchange_push};
 

@@ -6,8 +6,8 @@ use Rattle.vc_events.specs.Answers.{Shows, answer_of}
 use Rattle.vc_events.specs.Calls.{CloneCalled, HasNoZero, IsOnly}
 use Rattle.vc_events.specs.Events.{bytes_in}
 use Rattle.vc_events.specs.declared.events.NamedItem.{NamedItem}
-use Rattle.vc_exchange.specs.Sending.{machine_items}
-use Rattle.vc_exchange.specs.declared.item.PushItem.{PushItem}
+use Rattle.vc_sending.specs.Sending.{machine_items}
+use Rattle.vc_sending.specs.declared.item.PushItem.{PushItem}
 use Rattle.vc_events.specs.declared.answers.Deed.{Deed}
 use Rattle.vc_events.specs.declared.answers.Deed.TheVariants as deed
 use Rattle.vc_events.specs.declared.answers.Ended.{Ended}

@@ -4,11 +4,11 @@ use Rattle.std.proofs.lemmas.List.{take_more}
 use Rattle.std.proofs.lemmas.List.Elements.{Contains-append_cases, Contains-get_or}
 use Rattle.std.specs.Prelude.{Contains}
 use Rattle.vc_events.proofs.RunLemmas.{take_whole}
-use Rattle.vc_exchange.specs.declared.item.PushItem.{PushItem}
+use Rattle.vc_sending.specs.declared.item.PushItem.{PushItem}
 use Rattle.vc_events.specs.Calls.{HasNoZero}
 use Rattle.vc_events.specs.Events.{bytes_in, item_of}
 use Rattle.vc_events.specs.declared.events.NamedItem.{NamedItem}
-use Rattle.vc_exchange.specs.Sending.{machine_item, machine_items}
+use Rattle.vc_sending.specs.Sending.{machine_item, machine_items}
 use Rattle.vc_format.specs.Git.{bytes_of_id}
 use Rattle.vc_model.specs.Clone.{CloneNode, IsItemId, PushItem as MachineItem}
 use Rattle.vc_model.specs.Clone.Task.{StartPush}

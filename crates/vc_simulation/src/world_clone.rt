@@ -5,7 +5,7 @@ ghost use Rattle.vc_events.specs.Answers.{Shows};
 ghost use Rattle.vc_events.specs.Calls.{IsOnly};
 ghost use Rattle.vc_events.specs.Events.{IsBranch, bytes_in, item_of};
 ghost use Rattle.vc_events.specs.World.{fresh_clone};
-ghost use Rattle.vc_exchange.specs.Sending.{machine_items};
+ghost use Rattle.vc_sending.specs.Sending.{machine_items};
 ghost use Rattle.vc_model.specs.Clone.Task.{StartPush};
 ghost use Rattle.vc_model.specs.CloneCall.CloneCall.{Command};
 ghost use Rattle.vc_model.specs.Order.Order.{BranchAt, CommitIndex, DropBranch, Fetch, HeadAt, HeadOn, LoadIndex, PushItems, StageFile, StoreObject, UnstageFile};
@@ -21,7 +21,6 @@ use crate::ends::{
 };
 use std::alloc::Global;
 use vc_events::{CloneCalls, Deed, Ended, NamedItem, Order, Told};
-use vc_exchange::PushItem;
 use vc_expression::{ParseFault, parse};
 use vc_files::{Fault, Files};
 use vc_local::NodeFault;
@@ -30,6 +29,7 @@ use vc_object::{Kind, Mode, ObjectId};
 use vc_push::MAX_COMMANDS;
 use vc_refname::RefName;
 use vc_refs::Head;
+use vc_sending::PushItem;
 
 /// A clone of a world.
 #[derive(Drop)]

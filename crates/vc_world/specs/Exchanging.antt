@@ -1,7 +1,7 @@
 -- What an exchange over real nodes says: whatever nodes were held before it, some are held after it, and its calls are a chain.
 use Rattle.std.specs.Prelude.{◌≡◌, ◌⊎◌, ◌++◌, ℕ, min, false, List, [], ◌∷◌, Option, Some, None, Result, Ok, Err, IfOk, IfErr}
-use Rattle.vc_exchange.specs.Sending.{machine_items}
-use Rattle.vc_exchange.specs.declared.item.PushItem.{PushItem}
+use Rattle.vc_sending.specs.Sending.{machine_items}
+use Rattle.vc_sending.specs.declared.item.PushItem.{PushItem}
 use Rattle.vc_files.specs.Failures.{greatest_count}
 use Rattle.vc_files.specs.FileMap.{FileMap}
 use Rattle.vc_format.specs.Git.{bytes_of_id}

@@ -13,13 +13,13 @@ ghost use Rattle.vc_world.specs.Pushing.{IsUnreadReport, TakesAnswer, report_in,
 use crate::losing::lose;
 use crate::{ExchangeEnd, Peer, Reply};
 use std::alloc::Global;
-use vc_exchange::PushItem;
 use vc_files::{Fault, Files};
 use vc_local::NodeFault;
 use vc_message::{IncomingFault, Message, Source, read_message};
 use vc_node::{CloneFault, CloneNode, Received};
 use vc_pkt::PktError;
 use vc_push::Report;
+use vc_sending::PushItem;
 
 // The report that a message is.
 fn report_in<R: Drop>(message: Message) -> Result<Report, ExchangeEnd<R>>

@@ -1,5 +1,5 @@
 use Rattle.std.proofs.Common.{Err}
-use Rattle.vc_exchange.specs.Sending.{machine_items}
+use Rattle.vc_sending.specs.Sending.{machine_items}
 use Rattle.vc_files.proofs.WearLemmas.{wears_writes}
 use Rattle.vc_model.specs.Clone.{IsItemId}
 use Rattle.vc_model.specs.Object.{zero_id}

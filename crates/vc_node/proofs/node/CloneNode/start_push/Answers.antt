@@ -1,6 +1,6 @@
 use Rattle.std.proofs.Common.{ap, refl, rules, sym, ◌∙◌}
 use Rattle.std.specs.Prelude.{not}
-use Rattle.vc_exchange.specs.Sending.{machine_items}
+use Rattle.vc_sending.specs.Sending.{machine_items}
 use Rattle.vc_model.specs.Clone.Task.{StartPush}
 use Rattle.vc_model.specs.CloneCall.CloneCall.{Command}
 use Rattle.vc_node.proofs.CloneCallLemmas.{down_clone}

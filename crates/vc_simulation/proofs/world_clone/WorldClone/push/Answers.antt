@@ -1,6 +1,6 @@
 use Rattle.std.proofs.Common.{false, map, rules, refl}
 use Rattle.vc_events.specs.Events.{item_of}
-use Rattle.vc_exchange.specs.Sending.{machine_items}
+use Rattle.vc_sending.specs.Sending.{machine_items}
 use Rattle.vc_model.specs.Clone.Task.{StartPush}
 use Rattle.vc_model.specs.Order.Order.{PushItems}
 use Rattle.vc_simulation.proofs.CloneLemmas.{finding, ordered, unread_order}

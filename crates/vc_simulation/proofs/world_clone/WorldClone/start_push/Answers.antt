@@ -1,5 +1,5 @@
 use Rattle.std.proofs.Common.{false, rules, refl}
-use Rattle.vc_exchange.specs.Sending.{machine_items}
+use Rattle.vc_sending.specs.Sending.{machine_items}
 use Rattle.vc_model.specs.Clone.Task.{StartPush}
 use Rattle.vc_model.specs.CloneCall.CloneCall.{Command}
 use Rattle.vc_node.specs.CloneCalls.{SentAs}

@@ -1,0 +1,3 @@
+pub mod SendFault
+pub mod Sending
+pub mod SentPush
