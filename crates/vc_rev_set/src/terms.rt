@@ -1,10 +1,11 @@
 //! What the terms of a set include and exclude.
 
-ghost use Rattle.std.specs.Prelude.{◌≡◌, Ok, map, IfOk, IsErrOf};
+ghost use Rattle.std.specs.Prelude.{◌≡◌, ◌≢◌, Ok, map, IfErr, IfOk, IsErrOf};
 ghost use Rattle.vc_files.specs.Failures.{Wears};
-ghost use Rattle.vc_rev.specs.Answer.{Refuses};
+ghost use Rattle.vc_object.specs.Decoding.{stored_object};
+ghost use Rattle.vc_rev.specs.Answer.{IsToldAlone, Refuses};
 ghost use Rattle.vc_rev_set.specs.RootsView.{roots_view};
-ghost use Rattle.vc_rev_set.specs.Selection.{BothAsk, BothGive, CommitAsks, CommitGives, EndsAsk, EndsGive, Makes, SetGives, TermAsks, TermGives, TermsAsk, head_rev, nth_of};
+ghost use Rattle.vc_rev_set.specs.Selection.{BothAsk, BothGive, CommitAsks, CommitGives, EndsAsk, EndsGive, Makes, SetGives, TermAsks, TermGives, TermsAsk, commit_at, head_rev, nth_of};
 ghost use Rattle.vc_expression.specs.SetGrammar.{Range, Since, Symmetric};
 ghost use Rattle.vc_expression.specs.SetViews.{ends_view, term_view};
 ghost use Rattle.vc_rev_set.specs.Uses.{used};
