@@ -1,10 +1,10 @@
 // In which order files of a folder are written and made durable.
-use crate::left_over;
 use crate::root::{Found, Root, above, is_absence};
 use crate::syncing::{Syncing, Syncs};
+use crate::{left_over, mark};
 use std::alloc::Global;
 use std::collections::BTreeSet;
-use std::fs::{File, OpenFile};
+use std::fs::{self, File, OpenFile};
 use std::io::{self, ErrorKind, Write};
 use std::rt;
 
@@ -56,6 +56,10 @@ pub(crate) struct Disk<R: rt::Files + Syncs<R::File> + AllocGlobal + Clone + Dro
     folders: BTreeSet<String>,
     // Folders of paths that were seen to be folders, and no links.
     seen: BTreeSet<String>,
+    // Whether the mark was made that names may not be durable.
+    is_marked: bool,
+    // Whether it has to stay: it isn't known whether all names are durable, or the mark is another's.
+    stays_marked: bool,
 }
 
 impl<R: rt::Files + Syncs<R::File> + AllocGlobal + Clone + Drop> Disk<R> {
@@ -67,7 +71,49 @@ impl<R: rt::Files + Syncs<R::File> + AllocGlobal + Clone + Drop> Disk<R> {
             syncing: Syncing::new(alloc),
             folders: BTreeSet::new(alloc),
             seen: BTreeSet::new(alloc),
+            is_marked: false,
+            stays_marked: false,
         }
+    }
+
+    // Makes the mark before a name that is not durable at once. It is made anew also if it was made before: who had the
+    // right to write meanwhile took it away.
+    fn mark(&mut self, alloc: Global) -> io::Result<()> {
+        let is_new = match mark::set(&self.root, alloc) {
+            Err(e) if e.kind() == ErrorKind::NotFound => {
+                self.make_root(alloc)?;
+                mark::set(&self.root, alloc)?
+            }
+            done => done?,
+        };
+        if !is_new && !self.is_marked {
+            self.stays_marked = true;
+        }
+        self.is_marked = true;
+        Ok(())
+    }
+
+    fn make_root(&mut self, alloc: Global) -> io::Result<()> {
+        let above = String::from_str(alloc, above(self.root.path.as_str()))?;
+        self.folders.insert(above)?;
+        fs::create_dir_all(&self.root.rt, self.root.path.as_str())
+    }
+
+    // Takes the mark away, now that all names are durable.
+    fn unmark(&mut self, alloc: Global) -> io::Result<()> {
+        if self.is_marked && !self.stays_marked {
+            mark::clear(&self.root, alloc)?;
+            self.is_marked = false;
+        }
+        Ok(())
+    }
+
+    // The mark stays if this failed, for it isn't known which names are durable.
+    fn keep_mark<T: Drop>(&mut self, done: io::Result<T>) -> io::Result<T> {
+        if done.is_err() {
+            self.stays_marked = true;
+        }
+        done
     }
 
     pub fn get(&mut self, alloc: Global, path: &str) -> io::Result<Option<Vec<u8>>> {
@@ -154,11 +200,13 @@ impl<R: rt::Files + Syncs<R::File> + AllocGlobal + Clone + Drop> Disk<R> {
 
     // All that was put before, then the content, then the name.
     fn put_now(&mut self, alloc: Global, path: &str, bytes: &[u8]) -> io::Result<()> {
-        self.sync(alloc)?;
+        self.mark(alloc)?;
+        self.bring_all(alloc)?;
         self.write_lock(alloc, path, bytes, Durable::Now)?;
-        self.put_in_place(alloc, path)?;
         self.note_folder(alloc, path)?;
-        self.sync_folders(alloc)
+        self.put_in_place(alloc, path)?;
+        self.sync_folders(alloc)?;
+        self.unmark(alloc)
     }
 
     fn put_later(&mut self, alloc: Global, path: &str, bytes: &[u8]) -> io::Result<()> {
@@ -186,13 +234,13 @@ impl<R: rt::Files + Syncs<R::File> + AllocGlobal + Clone + Drop> Disk<R> {
         when: Durable,
     ) -> io::Result<R::File> {
         let lock = self.root.lock(alloc, path)?;
-        let (mut file, has_new_folders) = self.root.create(lock.as_str())?;
+        let mut file = match self.root.create(lock.as_str())? {
+            Some(file) => file,
+            None => self.create_below(alloc, path, lock.as_str(), when)?,
+        };
         let mut written = file.write_all(bytes);
         if written.is_ok() && when == Durable::Now {
             written = file.sync_all();
-        }
-        if written.is_ok() && has_new_folders && when != Durable::Never {
-            written = self.note_folders_above(alloc, path);
         }
         match written {
             Ok(()) => Ok(file),
@@ -202,6 +250,21 @@ impl<R: rt::Files + Syncs<R::File> + AllocGlobal + Clone + Drop> Disk<R> {
                 Err(e)
             }
         }
+    }
+
+    // Opens a file in folders that are made for it. Their names wait for the next sync.
+    fn create_below(
+        &mut self,
+        alloc: Global,
+        path: &str,
+        lock: &str,
+        when: Durable,
+    ) -> io::Result<R::File> {
+        if when != Durable::Never {
+            self.mark(alloc)?;
+            self.note_folders_above(alloc, path)?;
+        }
+        self.root.create_below(lock)
     }
 
     // Renames a lock file into its place, or removes it.
@@ -226,12 +289,37 @@ impl<R: rt::Files + Syncs<R::File> + AllocGlobal + Clone + Drop> Disk<R> {
     }
 
     pub fn remove(&mut self, alloc: Global, path: &str) -> io::Result<()> {
-        let when = when_durable(path);
         // Nothing but a file is removed.
-        self.look(alloc, path)?;
-        if when == Durable::Now {
-            self.sync(alloc)?;
+        let found = self.look(alloc, path)?;
+        if when_durable(path) != Durable::Now {
+            self.remove_file(alloc, path)?;
+            return Ok(());
         }
+        if !matches!(found, Found::File(_)) {
+            return self.sync(alloc);
+        }
+        self.remove_now(alloc, path)
+    }
+
+    fn remove_now(&mut self, alloc: Global, path: &str) -> io::Result<()> {
+        self.mark(alloc)?;
+        self.bring_all(alloc)?;
+        let removed = self.remove_noted(alloc, path);
+        self.keep_mark(removed)?;
+        self.sync_folders(alloc)?;
+        self.unmark(alloc)
+    }
+
+    fn remove_noted(&mut self, alloc: Global, path: &str) -> io::Result<()> {
+        if let Some(folder) = self.remove_file(alloc, path)? {
+            self.folders.insert(folder)?;
+        }
+        Ok(())
+    }
+
+    // Takes a file away, with the folders that hold nothing then, and returns where the lowest folder stands that stays, or
+    // none if no file was there.
+    fn remove_file(&mut self, alloc: Global, path: &str) -> io::Result<Option<String>> {
         let place = self.root.place(alloc, path)?;
         let mut was_there = false;
         if self.waiting.contains(path) {
@@ -240,14 +328,9 @@ impl<R: rt::Files + Syncs<R::File> + AllocGlobal + Clone + Drop> Disk<R> {
             self.waiting.remove(path);
         }
         if !self.root.remove(place.as_str())? && !was_there {
-            return Ok(());
+            return Ok(None);
         }
-        let folder = left_over::remove_empty(&self.root, &self.waiting, alloc, path)?;
-        if when == Durable::Now {
-            self.folders.insert(folder)?;
-            self.sync_folders(alloc)?;
-        }
-        Ok(())
+        left_over::remove_empty(&self.root, &self.waiting, alloc, path).map(Some)
     }
 
     pub fn list(&mut self, alloc: Global, prefix: &str) -> io::Result<Vec<String>> {
@@ -267,6 +350,15 @@ impl<R: rt::Files + Syncs<R::File> + AllocGlobal + Clone + Drop> Disk<R> {
 
     /// Makes all that was put durable: first the contents of what waits, then its names in place.
     pub fn sync(&mut self, alloc: Global) -> io::Result<()> {
+        if !self.waiting.is_empty() {
+            self.mark(alloc)?;
+        }
+        self.bring_all(alloc)?;
+        self.unmark(alloc)
+    }
+
+    // The mark is there already.
+    fn bring_all(&mut self, alloc: Global) -> io::Result<()> {
         self.sync_contents(alloc)?;
         self.note_waiting_folders(alloc)?;
         self.put_all_in_place(alloc)?;
@@ -317,7 +409,8 @@ impl<R: rt::Files + Syncs<R::File> + AllocGlobal + Clone + Drop> Disk<R> {
     }
 
     fn sync_folders(&mut self, alloc: Global) -> io::Result<()> {
-        self.sync_noted(alloc)?;
+        let synced = self.sync_noted(alloc);
+        self.keep_mark(synced)?;
         self.folders.clear();
         Ok(())
     }
@@ -380,6 +473,8 @@ impl<R: rt::Files + Syncs<R::File> + AllocGlobal + Clone + Drop> Drop for Disk<R
             syncing: _,
             folders: _,
             seen: _,
+            is_marked: _,
+            stays_marked: _,
         } = self;
     }
 }

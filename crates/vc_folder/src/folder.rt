@@ -28,6 +28,11 @@ use vc_files::{Fault, Files};
 ///
 /// Letting the value go syncs it too, and drops an error, so a program ends with `sync`. One process at a time
 /// writes to a folder: the one that holds its `FolderLock`.
+///
+/// Before a name in the folder that isn't durable yet there is a mark, the file `unsynced.lock`, which goes when all names are
+/// durable. It stays after a kill, and after a sync that failed: who takes the `FolderLock` next makes all names durable. So
+/// what a writer stands on, or finds there already, is durable, whoever put it. A reader, who holds no lock, may see a name
+/// that a loss of power takes away.
 #[derive(Drop)]
 pub struct FolderFiles<R: rt::Files + Syncs<R::File> + AllocGlobal + Clone + Drop> {
     disk: Disk<R>,

@@ -5,6 +5,7 @@ mod disk;
 mod folder;
 mod left_over;
 mod lock;
+mod mark;
 mod root;
 mod syncing;
 

@@ -1,6 +1,7 @@
 // The right to write to a folder.
 use crate::folder::fault_of;
-use crate::root::above;
+use crate::mark;
+use crate::root::{Root, above};
 use std::fs::{self, File, OpenFile, TryLockError};
 use std::io::{self, ErrorKind};
 use std::os::unix::fs::MetadataExt;
@@ -15,6 +16,10 @@ const TRIES: u32 = 10_000;
 ///
 /// The folder is made where it isn't there, with those above it. When the lock is let go, a folder that it made is
 /// removed if it is still empty: a command that was refused leaves no empty store.
+///
+/// Who gets the lock has all names durable that a stopped process left: if the mark of `FolderFiles` stands, the folder, the one
+/// above, and all folders in `objects/` and `refs/` are synced; if the folder is empty, the one above. Contents need it not, for
+/// they are durable before they have their names.
 pub struct FolderLock<R: rt::Files + AllocGlobal + Clone + Drop> {
     rt: R,
     path: String,
@@ -63,17 +68,39 @@ fn lock_folder<R: rt::Files<File = File> + AllocGlobal + Clone + Drop>(
             return Ok(None);
         }
         if stands_at(rt, &held, folder.as_str())? {
-            let path = String::from_str(rt.alloc(), path)?;
-            let rt = rt.clone()?;
-            return Ok(Some(FolderLock {
-                rt,
-                path,
-                held,
-                has_made,
-            }));
+            return hold(rt, path, held, has_made).map(Some);
         }
     }
     Err(io::Error::from(ErrorKind::ResourceBusy))
+}
+
+// The right to write to a folder that is locked. All that a stopped process left is made durable first.
+fn hold<R: rt::Files<File = File> + AllocGlobal + Clone + Drop>(
+    rt: &R,
+    path: &str,
+    held: File,
+    has_made: bool,
+) -> io::Result<FolderLock<R>> {
+    let root = Root {
+        rt: rt.clone()?,
+        path: String::from_str(rt.alloc(), path)?,
+    };
+    if !has_made && is_empty(rt, path)? {
+        // Who made it may have been stopped before its name was durable.
+        mark::sync_above(rt, path)?;
+    }
+    mark::settle(&root, rt.alloc())?;
+    let Root { rt, path } = root;
+    Ok(FolderLock {
+        rt,
+        path,
+        held,
+        has_made,
+    })
+}
+
+fn is_empty<R: rt::Files + AllocGlobal + Clone + Drop>(rt: &R, folder: &str) -> io::Result<bool> {
+    Ok(fs::read_dir(rt, folder)?.next().is_none())
 }
 
 // Locks an open folder, and says whether it did: not where another process holds the lock and none waits.
@@ -116,10 +143,13 @@ fn make<R: rt::Files>(rt: &R, path: &str) -> io::Result<bool> {
 fn is_made<R: rt::Files>(rt: &R, folder: &str) -> io::Result<bool> {
     match fs::create_dir(rt, folder) {
         Ok(()) => {}
-        // It is there, or another process removed the one above: the next look at the whole path tells.
-        Err(e) if matches!(e.kind(), ErrorKind::AlreadyExists | ErrorKind::NotFound) => {
+        Err(e) if e.kind() == ErrorKind::AlreadyExists => {
+            // Who made it may have been stopped before its name was durable. What is no folder of ours may refuse a sync.
+            let _ = mark::sync_above(rt, folder);
             return Ok(false);
         }
+        // Another process removed the one above: the next look at the whole path tells.
+        Err(e) if e.kind() == ErrorKind::NotFound => return Ok(false),
         // Systems that refuse any new folder say so before they say that it is there.
         Err(e) => {
             return match fs::exists(rt, folder) {

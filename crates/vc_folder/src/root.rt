@@ -83,22 +83,26 @@ impl<R: rt::Files + AllocGlobal + Clone + Drop> Root<R> {
         Ok(bytes)
     }
 
-    /// Opens a file that wasn't there, and says whether folders had to be made for it. What a stopped process left
-    /// at its place is removed first: no file that another process holds open is ever cut, and no link followed.
-    pub fn create(&self, place: &str) -> io::Result<(R::File, bool)> {
+    /// Opens a file that wasn't there, or none if a folder above it is missing. What a stopped process left at its
+    /// place is removed first: no file that another process holds open is ever cut, and no link followed.
+    pub fn create(&self, place: &str) -> io::Result<Option<R::File>> {
         match File::create_new(&self.rt, place) {
-            Ok(file) => return Ok((file, false)),
+            Ok(file) => Ok(Some(file)),
             Err(e) if e.kind() == ErrorKind::AlreadyExists => {
                 self.remove(place)?;
-                return Ok((File::create_new(&self.rt, place)?, false));
+                Ok(Some(File::create_new(&self.rt, place)?))
             }
-            Err(e) if e.kind() == ErrorKind::NotFound => {}
-            Err(e) => return Err(e),
+            Err(e) if e.kind() == ErrorKind::NotFound => Ok(None),
+            Err(e) => Err(e),
         }
+    }
+
+    /// Opens a file that wasn't there, and makes the folders above it.
+    pub fn create_below(&self, place: &str) -> io::Result<R::File> {
         if let Some((folder, _)) = place.rsplit_once('/') {
             fs::create_dir_all(&self.rt, folder)?;
         }
-        Ok((File::create_new(&self.rt, place)?, true))
+        File::create_new(&self.rt, place)
     }
 
     /// Makes what stands at a place durable: a file's content, or a folder's names.

@@ -3,6 +3,7 @@ use crate::ahead::Ahead;
 use crate::beside::{Beside, list_all};
 use crate::listed::{Listed, Mark};
 use crate::root::{Root, is_absence, joined, read_whole};
+use crate::way::{Way, made};
 use std::alloc::Global;
 use std::fs::{self, File, Metadata};
 use std::io::{self, ErrorKind, Write};
@@ -23,6 +24,8 @@ pub(crate) struct Disk<R> {
     pub listed: Listed,
     /// What of it is named before it is asked for.
     pub ahead: Ahead,
+    /// The folders above the path of the last call.
+    pub way: Way,
 }
 
 impl<R: rt::Files + Beside<R> + AllocGlobal + Clone + Drop> Disk<R> {
@@ -51,7 +54,7 @@ impl<R: rt::Files + Beside<R> + AllocGlobal + Clone + Drop> Disk<R> {
                 _ => {}
             }
         }
-        if !self.root.is_open(alloc, path, "")? {
+        if !self.way.is_open(alloc, &self.root, path)? {
             return Ok(None);
         }
         self.root.look(place)
@@ -121,7 +124,7 @@ impl<R: rt::Files + Beside<R> + AllocGlobal + Clone + Drop> Disk<R> {
     /// Writes a file in place of a file, a link, or a folder in which no file is. It is whole before it has its place.
     pub fn write(&mut self, alloc: Global, path: &str, bytes: &[u8]) -> io::Result<()> {
         self.ahead.forget(&self.root);
-        self.make_folders_above(alloc, path)?;
+        self.way.make(alloc, &self.root, path)?;
         let draft = self.draft(alloc)?;
         let mut done = self.write_draft(draft.as_str(), bytes);
         if done.is_ok() {
@@ -174,37 +177,17 @@ impl<R: rt::Files + Beside<R> + AllocGlobal + Clone + Drop> Disk<R> {
         file.write_all(bytes)
     }
 
-    // Makes the folders above a path, where they are missing.
-    fn make_folders_above(&self, alloc: Global, path: &str) -> io::Result<()> {
-        if self.root.is_store(path) {
-            return Err(io::Error::from(ErrorKind::PermissionDenied));
-        }
-        for (i, byte) in path.as_bytes().iter().enumerate() {
-            if *byte == b'/' {
-                self.make_one_folder(alloc, path.split_at(i).0)?;
-            }
-        }
-        Ok(())
-    }
-
-    fn make_one_folder(&self, alloc: Global, path: &str) -> io::Result<()> {
-        match self.root.kind_at(alloc, path)? {
-            Some(kind) if kind.is_dir() => Ok(()),
-            Some(_) => Err(io::Error::from(ErrorKind::NotADirectory)),
-            None => fs::create_dir(&self.root.rt, self.root.place(alloc, path)?.as_str()),
-        }
-    }
-
     /// Makes a folder, and those above it.
-    pub fn make_folder(&self, alloc: Global, path: &str) -> io::Result<()> {
-        self.make_folders_above(alloc, path)?;
-        self.make_one_folder(alloc, path)
+    pub fn make_folder(&mut self, alloc: Global, path: &str) -> io::Result<()> {
+        self.way.make(alloc, &self.root, path)?;
+        made(&self.root, self.root.place(alloc, path)?.as_str())?;
+        Ok(())
     }
 
     /// Takes a file or a link away. A folder stays.
     pub fn remove(&mut self, alloc: Global, path: &str) -> io::Result<()> {
         self.ahead.forget(&self.root);
-        if !self.root.is_open(alloc, path, "")? {
+        if !self.way.is_open(alloc, &self.root, path)? {
             return Ok(());
         }
         let place = self.root.place(alloc, path)?;
@@ -215,8 +198,8 @@ impl<R: rt::Files + Beside<R> + AllocGlobal + Clone + Drop> Disk<R> {
     }
 
     /// Takes a folder away if it is empty, and says whether none is there now.
-    pub fn remove_folder(&self, alloc: Global, path: &str) -> io::Result<bool> {
-        if !self.root.is_open(alloc, path, "")? {
+    pub fn remove_folder(&mut self, alloc: Global, path: &str) -> io::Result<bool> {
+        if !self.way.is_open(alloc, &self.root, path)? {
             return Ok(true);
         }
         let place = self.root.place(alloc, path)?;

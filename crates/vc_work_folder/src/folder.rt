@@ -7,6 +7,7 @@ use crate::beside::Beside;
 use crate::disk::Disk;
 use crate::listed::Listed;
 use crate::root::Root;
+use crate::way::Way;
 use std::alloc::Global;
 use std::io::{self, ErrorKind};
 use std::marker::Model;
@@ -22,9 +23,10 @@ use vc_object::ObjectId;
 ///
 /// No link in the work tree is followed. A link that somebody placed there by hand is a file whose content is the
 /// text of the link: it is listed and read so, a write in its place puts a file there and leaves what it leads to
-/// alone, and a write below it is a fault. The folder's own path may lead through links. Each call looks at the folders above a
-/// path anew, but for reads of files that a listing found: these look at each folder once, while each file is still the very
-/// one that was found.
+/// alone, and a write below it is a fault. The folder's own path may lead through links. Each call looks at the folder that a
+/// path lies in, and at those above it if it isn't the very one (by its device and its number) that the calls before have
+/// reached through no link. So what somebody moves away meanwhile, with a link in its place, is still worked on as what it was.
+/// Reads of files that a listing found look at each folder once, while each file is still the very one that was found.
 ///
 /// Where the work tree is large, a few threads list its folders, and name the files behind those whose names were asked for in a
 /// row. So what somebody changes meanwhile may be seen as it was a moment before it was asked for; a write through here is always
@@ -65,6 +67,7 @@ impl<R: rt::Files + Beside<R> + AllocGlobal + Clone + Drop> FolderTree<R> {
                 store,
                 listed,
                 ahead: Ahead::new(alloc),
+                way: Way::new(alloc),
             },
             failed: 0,
         }

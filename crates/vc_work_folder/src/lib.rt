@@ -8,6 +8,7 @@ mod folder;
 mod listed;
 mod own;
 mod root;
+mod way;
 
 pub use beside::Beside;
 pub use folder::FolderTree;

@@ -1,6 +1,7 @@
 // The system's calls that look at the files of a folder, none of which follows a link below it.
 use crate::listed::Mark;
 use crate::own::is_own;
+use crate::way::shared_bytes;
 use std::alloc::{AllocError, Global};
 use std::fs::{self, File, FileType, Metadata, OpenFile};
 use std::io::{self, ErrorKind, Read};
@@ -61,13 +62,11 @@ impl<R: rt::Files + AllocGlobal + Clone + Drop> Root<R> {
         if self.is_store(path) {
             return Ok(false);
         }
-        for (i, byte) in path.as_bytes().iter().enumerate() {
+        // A folder above both is one up to whose slash they are the same.
+        let first = shared_bytes(path, known);
+        for (i, byte) in path.as_bytes().iter().enumerate().skip(first) {
             if *byte == b'/' {
-                let folder = path.split_at(i).0;
-                if is_above(folder, known) {
-                    continue;
-                }
-                match self.kind_at(alloc, folder)? {
+                match self.kind_at(alloc, path.split_at(i).0)? {
                     Some(kind) if kind.is_dir() => {}
                     _ => return Ok(false),
                 }
@@ -171,14 +170,6 @@ pub fn joined(alloc: Global, first: &str, second: &str, third: &str) -> io::Resu
     whole.push_str(second)?;
     whole.push_str(third)?;
     Ok(whole)
-}
-
-// Whether the folder is one of those above the path.
-fn is_above(folder: &str, path: &str) -> bool {
-    match path.strip_prefix(folder) {
-        Some(rest) => rest.starts_with('/'),
-        None => false,
-    }
 }
 
 // Whether the path's first part is the name of a store of Git.
