@@ -16,7 +16,7 @@ CHANGING = {
     1: "write", 18: "pwrite64", 20: "writev", 44: "sendto", 46: "sendmsg", 73: "flock", 74: "fsync", 75: "fdatasync", 77: "ftruncate",
     82: "rename", 83: "mkdir", 84: "rmdir", 85: "creat", 86: "link", 87: "unlink", 88: "symlink", 90: "chmod", 91: "fchmod",
     258: "mkdirat", 263: "unlinkat", 264: "renameat", 265: "linkat", 266: "symlinkat", 268: "fchmodat", 316: "renameat2",
-}  # fmt: skip
+}
 OPENAT, EXIT_GROUP = 257, 231
 # Those that take no room on a disk.
 ROOMLESS = {"sendto", "sendmsg", "flock", "rmdir", "unlink", "unlinkat", "chmod", "fchmod", "fchmodat"}

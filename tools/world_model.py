@@ -119,7 +119,7 @@ class Clone(Repository):
         commands = [(self.refs.get(followed(name), ZERO), new or ZERO, name) for name, new in items]
         tracked = [value for name, value in self.refs.items() if name.startswith(TRACKING)]
         carried = reached(self.objects, [new for _, new in items if new])[0] - reached(self.objects, tracked)[0]
-        return "push", (commands, {it: self.objects[it] for it in carried})
+        return "push", (commands, {it: self.objects[it] for it in sorted(carried)})
 
     def take_advert(self, refs):
         if self.awaited != "advert":
@@ -187,7 +187,7 @@ class Shared(Repository):
         if not ours.issuperset(wants):
             raise Refused(90)
         names = reached(self.objects, wants)[0] - reached(self.objects, ours.intersection(haves))[0]
-        return "pack", ({it: self.objects[it] for it in names},)
+        return "pack", ({it: self.objects[it] for it in sorted(names)},)
 
     def open(self, clone, commands, carried):
         if None not in self.slots:

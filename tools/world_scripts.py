@@ -233,7 +233,7 @@ def damaged(line, chance):
         b"c%d fetch" % chance.choice([16, 99]), b"c01 fetch", b"deliver 1234567890", b"step x", b"restart", b"c0 write blob 4",
         b"c0 write file 41", b"c0 branch %s main" % chance.choice(BAD_NAMES), b"c0 push main:%s" % chance.choice([b"HEAD", b"a", b"", b"refs/heads/a..b"]),
         b"shared fetch", b"world 1", b"c0 same main", b"prune c0",
-    ])  # fmt: skip
+    ])
 
 
 def script(chance):
