@@ -1,0 +1,393 @@
+"""A small model of a world, its nodes and the language of its scripts, as docs/FORMATS.md tells them ("Scripts of a world").
+
+`answers(text)` gives what `vcs world` has to print for a script, a line for each event, or none where the text is no script. Nothing
+here is taken from the sources or specs of the crates.
+"""
+import re
+
+import world_values
+from world_values import FILE, LONGEST_BRANCH, LONGEST_PATH, Refused, Repository, history, in_the_way, is_complete, is_legal, may_stand, name_of, reached
+
+ZERO = "0" * 40
+SLOTS = 8
+MOST = 256  # commands of a push, wants, haves
+MOST_CLONES = 16
+HEADS, TAGS, TRACKING = b"refs/heads/", b"refs/tags/", b"refs/remotes/origin/"
+TEXTS = {
+    100: b"bad name",
+    101: b"outside refs/heads and refs/tags",
+    102: b"deletion prohibited",
+    103: b"missing necessary objects",
+    104: b"not a commit",
+    105: b"non-fast-forward",
+    106: b"already exists",
+    107: b"name conflict",
+    108: b"stale",
+}
+
+
+class BadScript(Exception):
+    pass
+
+
+def followed(name):
+    """The tracking ref of a branch, if clones can follow it."""
+    return TRACKING + name[len(HEADS) :] if name.startswith(HEADS) and len(name) <= LONGEST_BRANCH else None
+
+
+class Clone(Repository):
+    """A clone. What is awaited is none, a kind of message, or the wants of a pack and the refs that were advertised with them."""
+
+    def __init__(self):
+        super().__init__()
+        self.awaited = None
+
+    def restart(self):
+        self.awaited = None
+
+    def write(self, kind, body):
+        world_values.check(kind, body)
+        self.put(kind, body)
+
+    def put(self, kind, body):
+        it = name_of(kind, body)
+        self.objects.setdefault(it, (kind, body))
+        return it
+
+    def add(self, path, word):
+        if len(path) > LONGEST_PATH or not all(map(may_stand, path.split(b"/"))):
+            raise Refused(60)
+        if in_the_way(self.index, path):
+            raise Refused(61)
+        self.index[path] = (FILE, self.put("blob", word + b"\n"))
+
+    def unstage(self, path):
+        self.index.pop(path, None)
+
+    def refuse_value(self, it):
+        """Refuses what isn't all there, or is no commit with commits alone before it."""
+        if not is_complete(self.objects, it):
+            raise Refused(40)
+        if not history(self.objects, it)[1]:
+            raise Refused(41)
+
+    def commit(self, word, *others):
+        if isinstance(self.head, bytes) and in_the_way(self.refs, self.head):
+            raise Refused(32)
+        for it in others:
+            self.refuse_value(it)
+        root, trees = world_values.trees_of(self.index)
+        value = self.head_value()
+        parents = "".join(f"parent {it}\n" for it in [*([value] if value else []), *others])
+        who = "author a <a> 0 +0000\ncommitter a <a> 0 +0000\n\n"
+        self.objects = {**trees, **self.objects}
+        it = self.put("commit", f"tree {root}\n{parents}{who}".encode() + word + b"\n")
+        if isinstance(self.head, bytes):
+            self.refs[self.head] = it
+        else:
+            self.head = it
+
+    def branch(self, name, it):
+        if in_the_way(self.refs, name):
+            raise Refused(32)
+        self.refuse_value(it)
+        self.refs[name] = it
+
+    def delete(self, name):
+        self.refs.pop(name, None)
+
+    def set_head(self, name):
+        self.head = name
+
+    def load(self, it):
+        self.index = world_values.files_of(self.objects, it)
+
+    def detach(self, it):
+        self.refuse_value(it)
+        self.head = it
+
+    def fetch(self):
+        self.awaited = "advert"
+        return "list", ()
+
+    def push(self, *items):
+        if len(items) > MOST:
+            raise Refused(84)
+        for _, new in items:
+            if new and not is_complete(self.objects, new):
+                raise Refused(40)
+        commands = [(self.refs.get(followed(name), ZERO), new or ZERO, name) for name, new in items]
+        tracked = [value for name, value in self.refs.items() if name.startswith(TRACKING)]
+        carried = reached(self.objects, [new for _, new in items if new])[0] - reached(self.objects, tracked)[0]
+        return "push", (commands, {it: self.objects[it] for it in sorted(carried)})
+
+    def take_advert(self, refs):
+        if self.awaited != "advert":
+            raise Refused(91)
+        wants = list(dict.fromkeys(it for _, it in sorted(refs.items()) if not is_complete(self.objects, it)))[:MOST]
+        if not wants:
+            self.awaited = None
+            return self.move(refs)
+        haves = [it for _, it in sorted(self.refs.items())] + [self.head_value()]
+        self.awaited = wants, refs
+        return "want", (wants, [it for it in dict.fromkeys(haves) if it][:MOST])
+
+    def take_pack(self, objects):
+        if self.awaited in (None, "advert"):
+            raise Refused(91)
+        wants, refs = self.awaited
+        if reached({**objects, **self.objects}, wants)[1]:
+            raise Refused(92)
+        self.objects = {**objects, **self.objects}
+        self.awaited = None
+        return self.move(refs)
+
+    def take_report(self, results):
+        branches = {name: new for name, new, reason in results if not reason and name.startswith(HEADS)}
+        return self.move(branches) + b"".join(b" ng %d" % reason for _, _, reason in results if reason)
+
+    def move(self, refs):
+        """Moves tracking branches forward and sets tags that aren't there, where all is there that they reach."""
+        moved = 0
+        for name, new in sorted(refs.items()):
+            to = name if name.startswith(TAGS) else followed(name)
+            if to is None or not is_complete(self.objects, new) or in_the_way(self.refs, to):
+                continue
+            commits, holds = history(self.objects, new)
+            old = self.refs.get(to)
+            if name.startswith(TAGS) and old is None or name.startswith(HEADS) and holds and old != new and old in {None, *commits}:
+                self.refs[to] = new
+                moved += 1
+        return b"moved %d" % moved
+
+
+class Push:
+    """An open push: its commands and the reasons that refuse them, and what it carries."""
+
+    def __init__(self, clone, commands, carried):
+        self.clone, self.commands, self.carried = clone, commands, carried
+        self.reasons, self.stage, self.next = [0] * len(commands), "opened", 0
+
+
+class Shared(Repository):
+    """The shared node, with its slots."""
+
+    def __init__(self):
+        super().__init__()
+        self.slots = [None] * SLOTS
+
+    def restart(self):
+        self.slots = [None] * SLOTS
+
+    def advert(self):
+        return "advert", (dict(self.refs),)
+
+    def pack(self, wants, haves):
+        ours = reached(self.objects, self.refs.values())[0]
+        if not ours.issuperset(wants):
+            raise Refused(90)
+        names = reached(self.objects, wants)[0] - reached(self.objects, ours.intersection(haves))[0]
+        return "pack", ({it: self.objects[it] for it in sorted(names)},)
+
+    def open(self, clone, commands, carried):
+        if None not in self.slots:
+            raise Refused(110)
+        slot = self.slots.index(None)
+        self.slots[slot] = Push(clone, commands, carried)
+        return b"slot %d" % slot
+
+    def judge(self, push, old, new, name):
+        """What the check refuses a command with, over what is stored and what the push carries."""
+        objects = {**push.carried, **self.objects}
+        is_branch = name.startswith(HEADS)
+        if not is_legal(name) or is_branch and len(name) > LONGEST_BRANCH:
+            return 100
+        if not is_branch and not name.startswith(TAGS):
+            return 101
+        if new == ZERO:
+            return 102
+        if not is_complete(objects, new):
+            return 103
+        commits, holds = history(objects, new)
+        if is_branch and not holds:
+            return 104
+        if is_branch and old not in {ZERO, *commits}:
+            return 105
+        return 0
+
+    def update(self, old, new, name):
+        """What refuses a command now, or none, and then its ref is set."""
+        if name.startswith(TAGS) and name in self.refs:
+            return 106
+        if in_the_way(self.refs, name):
+            return 107
+        if self.refs.get(name, ZERO) != old:
+            return 108
+        self.refs[name] = new
+        return 0
+
+    def step(self, slot):
+        """A step of the push in a slot: the answer, or the report and whom it goes to."""
+        push = self.slots[slot] if slot < SLOTS else None
+        if push is None:
+            raise Refused(111)
+        if push.stage == "opened":
+            push.reasons = [self.judge(push, *command) for command in push.commands]
+            push.stage = "checked"
+            return b"checked %d" % push.reasons.count(0)
+        passed = [number for number, reason in enumerate(push.reasons) if not reason and number >= push.next]
+        if passed and push.stage == "checked":
+            self.objects = {**push.carried, **self.objects}
+            push.stage = "migrated"
+            return b"migrated"
+        if passed:
+            number = passed[0]
+            push.reasons[number] = reason = self.update(*push.commands[number])
+            push.next = number + 1
+            name = push.commands[number][2]
+            return b"ng %s %s" % (name, TEXTS[reason]) if reason else b"ok " + name
+        self.slots[slot] = None
+        results = [(name, new, reason) for (_, new, name), reason in zip(push.commands, push.reasons)]
+        return push.clone, ("report", (results,))
+
+
+class World:
+    """One shared node, clones, and all messages that were sent: the clone that each is to or from, its kind and what it says."""
+
+    def __init__(self, count):
+        self.shared, self.clones, self.messages = Shared(), [Clone() for _ in range(count)], []
+
+    def node(self, number):
+        return self.shared if number is None else self.clones[number]
+
+    def sent(self, clone, message):
+        kind, content = message
+        self.messages.append((clone, kind, content))
+        objects = b" objects %d" % len(content[-1]) if kind in ("push", "pack") else b""
+        return b"sent %d" % (len(self.messages) - 1) + objects
+
+    def play(self, event):
+        try:
+            return getattr(self, f"play_{event[0]}")(*event[1:])
+        except Refused as refused:
+            return b"refused %d" % refused.number
+
+    def play_deliver(self, number):
+        if number >= len(self.messages):
+            raise Refused(113)
+        clone, kind, content = self.messages[number]
+        shared, node = self.shared, self.clones[clone]
+        if kind == "push":
+            return shared.open(clone, *content)
+        take = {"list": shared.advert, "want": shared.pack, "advert": node.take_advert, "pack": node.take_pack, "report": node.take_report}
+        said = take[kind](*content)
+        return said if isinstance(said, bytes) else self.sent(clone, said)
+
+    def play_step(self, slot):
+        said = self.shared.step(slot)
+        return said if isinstance(said, bytes) else self.sent(*said)
+
+    def play_restart(self, node):
+        self.node(node).restart()
+        return b"done"
+
+    def play_pack(self, node):
+        return b"done"
+
+    def play_same(self, node, *texts):
+        one, other = map(self.node(node).value, texts)
+        return b"same" if one == other else b"differ"
+
+    def play_order(self, number, order, words, texts):
+        """A clone's own order, behind whose words the values of expressions come."""
+        clone = self.clones[number]
+        said = getattr(clone, order)(*words, *[clone.value(text) for text in texts])
+        return self.sent(number, said) if said else b"done"
+
+    def play_push(self, number, items):
+        clone = self.clones[number]
+        values = [(name, None if text is None else clone.value(text)) for text, name in items]
+        return self.sent(number, clone.push(*values))
+
+
+def insist(holds):
+    if not holds:
+        raise BadScript
+
+
+def number_of(word):
+    insist(re.fullmatch(rb"[0-9]{1,9}", word))
+    return int(word)
+
+
+def node_of(word, count):
+    """The number of a clone, or none for the shared node."""
+    if word == b"shared":
+        return None
+    insist(re.fullmatch(rb"c(?:0|[1-9][0-9]*)", word) and int(word[1:]) < count)
+    return int(word[1:])
+
+
+def ref_of(name):
+    insist(is_legal(name))
+    return name
+
+
+def item_of(word):
+    """What a push is to send, or none, and the ref that it is for."""
+    text, colon, name = word.rpartition(b":")
+    return (text or None, ref_of(name)) if colon else (HEADS + word, ref_of(HEADS + word))
+
+
+def order_of(number, verb, words):
+    """The event of a line of a clone, by its verb and the words behind it."""
+    count = len(words)
+    forms = {
+        b"write": count == 2, b"add": count == 2, b"unstage": count == 1, b"commit": count >= 1, b"branch": count == 2,
+        b"delete": count == 1, b"head": count == 1, b"load": count == 1, b"detach": count == 1, b"fetch": count == 0,
+    }
+    insist(forms.get(verb))
+    verb = verb.decode()
+    if verb == "write":
+        insist(words[0].decode("latin-1") in world_values.KINDS and re.fullmatch(rb"(?:[0-9a-fA-F]{2})+", words[1]))
+        return "order", number, verb, [words[0].decode(), bytes.fromhex(words[1].decode())], []
+    if verb in ("branch", "delete", "head"):
+        return "order", number, "set_head" if verb == "head" else verb, [ref_of(HEADS + words[0])], words[1:]
+    texts = {"commit": 1, "load": 0, "detach": 0}.get(verb, count)
+    return "order", number, verb, words[:texts], words[texts:]
+
+
+def event_of(words, count):
+    """The event of a line, in a world of so many clones."""
+    if words[0] in (b"deliver", b"step") and len(words) == 2:
+        return words[0].decode(), number_of(words[1])
+    if words[0] == b"restart" and len(words) == 2:
+        return "restart", node_of(words[1], count)
+    node, verb, rest = node_of(words[0], count), *words[1:2], words[2:]
+    if verb == b"pack" and not rest:
+        return "pack", node
+    if verb == b"same" and len(rest) == 2:
+        return "same", node, *rest
+    insist(node is not None)
+    if verb == b"push" and rest:
+        return "push", node, [item_of(word) for word in rest]
+    return order_of(node, verb, rest)
+
+
+def read_script(text):
+    """The clones of a script, and its events."""
+    first, *lines = [line.split(b" ") for line in text.removesuffix(b"\n").split(b"\n")]
+    insist(len(first) == 2 and first[0] == b"world" and 1 <= number_of(first[1]) <= MOST_CLONES)
+    count = int(first[1])
+    insist(all(len(line) > 1 and all(line) for line in lines))
+    return count, [event_of(line, count) for line in lines]
+
+
+def answers(text):
+    """What a script's events are answered with, or none where the text is no script."""
+    try:
+        count, events = read_script(text)
+    except BadScript:
+        return None
+    world = World(count)
+    return [world.play(event).decode("utf-8", "surrogateescape") for event in events]

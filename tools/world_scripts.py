@@ -1,0 +1,247 @@
+"""Random scripts of worlds, for tools/worlds. Each line is chosen with an eye on the world of `world_model.py` as it is then, so
+that most of what is asked can be done, and much of the rest is refused for one reason or another.
+
+A world has habits of its own: how often each thing happens there. Messages are delivered late, more than once or never; pushes are
+left open, and steps of different ones mixed; now and then a node is restarted. One script in twenty-five is none."""
+import world_model
+from world_model import HEADS, World, event_of
+from world_values import FILE, FOLDER, KINDS, OTHER_REPOSITORY, entry_key
+
+NAMES = [b"main"] * 8 + [b"side", b"side", b"a", b"a/b", b"a/b/c", b"v1", b"abc", b"dead", b"HEAD", b"origin/main", b"\xc3\xa9"]
+REFS = [b"refs/heads/main"] * 4 + [
+    b"refs/heads/side", b"refs/heads/a", b"refs/heads/a/b", b"refs/tags/v1", b"refs/tags/v1", b"refs/tags/v1/x", b"refs/tags/main",
+    b"refs/notes/n", b"refs/remotes/origin/main", b"any/name",
+]
+LONG = [b"x" * 235, b"x" * 236, b"x" * 240, b"x" * 244]
+BAD_NAMES = [b"a..b", b".a", b"a.lock", b"a~", b"a/", b"@{a", b"a.", b"\xff", b"x" * 245]
+PATHS = [b"a", b"b", b"a.b", b"a0", b"d/x", b"d/y", b"d/e/z", b"d.x", b"\xff", b"a/b", b"d"]
+BAD_PATHS = [b".git", b"d/.GIT/x", b"./a", b"d/..", b"a/", b"/a", b"d//x", b"p/" * 2048 + b"q"]
+STEPS = [b"^", b"^", b"~", b"^0", b"^1", b"^2", b"^3", b"~0", b"~2", b"~5", b"~999999999", b"^{}", b"^{commit}", b"^{tree}", b"^{tree}", b"^{blob}", b"^{tag}"]
+BAD_STEPS = [b"^{foo}", b"^0123456789", b"^@", b"^!", b"..a", b"~-1"]
+ODD_TEXTS = [b"zzz", b"a..b", b":", b":/a", b":1:a", b":0:", b":0", b"@", b"@^", b"HEAD", b"refs/heads", b"ab", b"4b82", b"0" * 40, b"1" * 40, b"x" * 251]
+WORDS = [b"A", b"B", b"C", b"one", b"two", b"\xf0\x9f\x8c\x8d"]
+# How often what happens, against all else.
+WEIGHTS = {
+    "deliver": 26, "step": 20, "commit": 9, "add": 8, "unstage": 2, "branch": 6, "delete": 2, "head": 3, "load": 3, "detach": 1,
+    "write": 5, "fetch": 5, "push": 9, "pack": 2, "restart": 1, "same": 4, "whole_fetch": 4, "whole_push": 4,
+}
+
+
+class Script:
+    """A script as far as it is written, and the world that it leaves."""
+
+    def __init__(self, chance):
+        self.chance = chance
+        count = chance.choice([1, 2, 2, 2, 3, 3, 4, 16])
+        self.world, self.count = World(count), count
+        self.lines = [b"world %d" % count]
+        self.waiting = []  # messages that are to be delivered once more
+        habits = {it: often * chance.choice([0, 0.3, 1, 1, 1, 3]) for it, often in WEIGHTS.items()}
+        self.kinds, self.weights = [*habits], [*habits.values()]
+
+    def odds(self, share):
+        return self.chance.random() < share
+
+    def say(self, *words):
+        """Writes a line, and gives its answer."""
+        line = b" ".join(words)
+        self.lines.append(line)
+        before = len(self.world.messages)
+        answer = self.world.play(event_of(line.split(b" "), self.count))
+        # (a message that doesn't wait is lost, but for a delivery that picks any)
+        if len(self.world.messages) > before and self.odds(0.9):
+            self.waiting.append(before)
+        return answer
+
+    def clone(self):
+        return self.chance.randrange(min(self.count, 4))
+
+    def name(self):
+        return self.chance.choice(LONG if self.odds(0.03) else NAMES)
+
+    def object_id(self, node):
+        """The name of an object, mostly of one that is there."""
+        node = self.chance.choice([self.world.shared, *self.world.clones]) if self.odds(0.1) else node
+        return self.chance.choice([*node.objects]) if node.objects else "1" * 40
+
+    def text(self, node):
+        """An expression, as a node may read it."""
+        pick = self.chance.choice
+        if self.odds(0.06):
+            return pick(ODD_TEXTS)
+        if self.odds(0.06):
+            return pick([b":", b":0:"]) + pick([*node.index, *PATHS])
+        text = pick([b"main", b"main", b"HEAD", b"@", b"origin/main", b"origin/main", *NAMES])
+        if node.refs and self.odds(0.75):
+            text = pick(sorted(node.refs))
+            text = pick([text, text.removeprefix(b"refs/"), text.removeprefix(b"refs/").split(b"/", 1)[1]])
+        elif self.odds(0.25):
+            text = self.object_id(node).encode()
+            text = pick([text, text, text.upper(), text[: self.chance.randrange(1, 40)]])
+        if self.odds(0.3):
+            text += b"".join(pick(STEPS) for _ in range(pick([1, 1, 2, 3])))
+        if self.odds(0.02):
+            text += pick(BAD_STEPS)
+        if self.odds(0.06):
+            text += b":" + pick([b"", b"d", b"d/e", b"d//x", b"d/", *node.index, *PATHS])
+        return text
+
+    def one(self):
+        """Something happens. A clone that has nothing mostly makes or fetches something first, and what can't be done is mostly let be."""
+        kind, number = self.chance.choices(self.kinds, self.weights)[0], self.clone()
+        is_new = not self.world.clones[number].refs
+        if self.odds(0.9):
+            if kind == "deliver" and not self.waiting or kind == "step" and not any(self.world.shared.slots):
+                return
+            if is_new and kind not in ("deliver", "step", "add", "head", "fetch"):
+                kind = "whole_fetch" if self.world.shared.refs and self.odds(0.7) else "commit"
+        getattr(self, f"one_{kind}")(number)
+
+    def one_deliver(self, _):
+        sent = len(self.world.messages)
+        if self.waiting and self.odds(0.8):
+            number = self.waiting.pop(0 if self.odds(0.6) else self.chance.randrange(len(self.waiting)))
+        else:
+            number = self.chance.randrange(sent + 1 if self.odds(0.1) else max(sent, 1))
+        self.say(b"deliver", b"%d" % number)
+
+    def one_step(self, _):
+        slots = [slot for slot, push in enumerate(self.world.shared.slots) if push]
+        slot = self.chance.choice(slots) if slots and self.odds(0.95) else self.chance.randrange(10)
+        self.say(b"step", b"%d" % slot)
+
+    def order(self, number, verb, *words):
+        return self.say(b"c%d" % number, verb, *words)
+
+    def one_commit(self, number):
+        node = self.world.clones[number]
+        others = [self.text(node) for _ in range(self.chance.choice([0, 0, 0, 0, 1, 1, 2]) if node.refs else 0)]
+        self.order(number, b"commit", self.chance.choice(WORDS), *others)
+
+    def one_add(self, number):
+        self.order(number, b"add", self.chance.choice(BAD_PATHS if self.odds(0.05) else PATHS), self.chance.choice(WORDS))
+
+    def one_unstage(self, number):
+        self.order(number, b"unstage", self.chance.choice(PATHS))
+
+    def one_branch(self, number):
+        self.order(number, b"branch", self.name(), self.text(self.world.clones[number]))
+
+    def one_delete(self, number):
+        self.order(number, b"delete", self.name())
+
+    def one_head(self, number):
+        self.order(number, b"head", self.name())
+
+    def one_load(self, number):
+        text = self.text(self.world.clones[number])
+        self.order(number, b"load", text + b"^{tree}" if self.odds(0.8) and b":" not in text else text)
+
+    def one_detach(self, number):
+        self.order(number, b"detach", self.text(self.world.clones[number]))
+
+    def one_fetch(self, number):
+        self.order(number, b"fetch")
+
+    def item(self, node):
+        pick = self.chance.choice
+        branches = [name.removeprefix(HEADS) for name in node.refs if name.startswith(HEADS)]
+        if branches and self.odds(0.6):
+            return pick(branches)
+        if self.odds(0.1):
+            return self.name()
+        name = HEADS + pick(LONG) if self.odds(0.05) else pick(REFS)
+        return b":" + name if self.odds(0.08) else self.text(node) + b":" + name
+
+    def one_push(self, number):
+        node = self.world.clones[number]
+        count = 257 if self.odds(0.003) else self.chance.choice([1, 1, 1, 2, 3])
+        self.order(number, b"push", *[self.item(node) for _ in range(count)])
+
+    def one_pack(self, number):
+        self.say(self.chance.choice([b"shared", b"c%d" % number]), b"pack")
+
+    def one_restart(self, number):
+        self.say(b"restart", self.chance.choice([b"shared", b"c%d" % number]))
+
+    def one_same(self, number):
+        node = self.chance.choice([None, number])
+        texts = [self.text(self.world.node(node)) for _ in range(2)]
+        self.say(b"shared" if node is None else b"c%d" % node, b"same", *texts)
+
+    def one_whole_fetch(self, number):
+        """A fetch from its start to its end, and the branch follows."""
+        answer = self.order(number, b"fetch")
+        while answer.startswith(b"sent "):
+            answer = self.say(b"deliver", answer.split()[1])
+        if self.odds(0.5):
+            self.order(number, b"branch", b"main", b"origin/main")
+
+    def one_whole_push(self, number):
+        answer = self.order(number, b"push", *[self.item(self.world.clones[number]) for _ in range(self.chance.choice([1, 1, 2]))])
+        if answer.startswith(b"sent "):
+            answer = self.say(b"deliver", answer.split()[1])
+            slot = answer.split()[1]
+            while answer.startswith(b"slot ") or not answer.startswith((b"sent ", b"refused ")):
+                answer = self.say(b"step", slot)
+            self.say(b"deliver", answer.split()[1])
+
+    def one_write(self, number):
+        kind = self.chance.choice(KINDS)
+        body = getattr(self, f"{kind}_body")(self.world.clones[number])
+        if self.odds(0.15):
+            # One byte more, less or another.
+            at = self.chance.randrange(len(body) or 1)
+            body = body[:at] + self.chance.choice([b"", b"\0", b"a"]) + body[at + self.chance.randrange(2) :]
+        if body:
+            self.order(number, b"write", kind.encode(), body.hex().encode())
+
+    def blob_body(self, _):
+        return self.chance.choice(WORDS) + b"\n"
+
+    def tree_body(self, node):
+        entries = {}
+        for _ in range(self.chance.randrange(1, 4)):
+            it = self.object_id(node)
+            mode = {"tree": FOLDER, "blob": FILE}.get(node.objects.get(it, ("",))[0], OTHER_REPOSITORY)
+            if self.odds(0.1):
+                mode = self.chance.choice([FOLDER, FILE, b"120000", b"100664", b"100644x"])
+            entries[self.chance.choice([b"a", b"a.b", b"d", b"z", b".git"] if self.odds(0.1) else [b"a", b"a.b", b"d", b"z"])] = mode, it
+        names = sorted(entries, key=lambda name: entry_key(entries[name][0], name))
+        if self.odds(0.1):
+            names = names[::-1] + names[:1]
+        return b"".join(b"%s %s\0" % (entries[name][0], name) + bytes.fromhex(entries[name][1]) for name in names)
+
+    def kind_id(self, node, *kinds):
+        """The name of an object of a kind, where there is one."""
+        found = [it for it, (kind, _) in node.objects.items() if kind in kinds]
+        return self.chance.choice(found) if found and self.odds(0.9) else self.object_id(node)
+
+    def commit_body(self, node):
+        parents = "".join(f"parent {self.kind_id(node, 'commit')}\n" for _ in range(self.chance.choice([0, 1, 1, 2])))
+        return f"tree {self.kind_id(node, 'tree')}\n{parents}author x\ncommitter y\n\nz\n".encode()
+
+    def tag_body(self, node):
+        return f"object {self.kind_id(node, 'commit', 'tag')}\ntype {self.chance.choice(KINDS)}\ntag v\n\nz\n".encode()
+
+
+def damaged(line, chance):
+    """A line that is off, mostly."""
+    words = line.split(b" ")
+    return chance.choice([
+        line + b" ", b" " + line, line + b" x", line + b"\r", b" ".join(words[:-1]), line.replace(b" ", b"  ", 1), b"", line.upper(),
+        b"c%d fetch" % chance.choice([16, 99]), b"c01 fetch", b"deliver 1234567890", b"step x", b"restart", b"c0 write blob 4",
+        b"c0 write file 41", b"c0 branch %s main" % chance.choice(BAD_NAMES), b"c0 push main:%s" % chance.choice([b"HEAD", b"a", b"", b"refs/heads/a..b"]),
+        b"shared fetch", b"world 1", b"c0 same main", b"prune c0",
+    ])
+
+
+def script(chance):
+    it = Script(chance)
+    for _ in range(chance.randrange(10, 80)):
+        it.one()
+    lines = it.lines
+    if chance.random() < 0.04:
+        at = chance.randrange(len(lines))
+        lines[at] = damaged(lines[at], chance)
+    return b"\n".join(lines) + (b"" if chance.random() < 0.1 else b"\n")
