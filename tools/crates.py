@@ -6,6 +6,8 @@ import re
 
 TOP = pathlib.Path(__file__).resolve().parent.parent
 PROGRAM = "vcs"
+# The processor seconds that each run of the prover takes before it looks at the crate's own text.
+START = 12
 # A row that says what a crate holds: in the README of the repository, and for the rows in CONTRIBUTING.
 ROW = re.compile(r"\| (?:\[(\w+)\]\([^)]*\)|`?(\w+)`?) \| (.*) \|")
 HELD_BY = ("README.md", "docs/CONTRIBUTING.md")
@@ -76,6 +78,22 @@ def chains_of(uses, seconds):
     return {crate: chain(crate) for crate in uses}
 
 
+def joined(uses, seconds, groups):
+    """The same crates with those of each group in one, which is named by its first: it waits for what each of them does, and has
+    one start instead of theirs."""
+    name = {crate: group[0] for group in groups for crate in group}
+    of = lambda crate: name.get(crate, crate)
+    apart = {}
+    for crate, below in uses.items():
+        apart.setdefault(of(crate), set()).update(it for it in map(of, below) if it != of(crate))
+    took = {crate: 0 for crate in apart}
+    for crate in uses:
+        took[of(crate)] += seconds[crate]
+    for group in groups:
+        took[group[0]] -= START * (len(group) - 1)
+    return {crate: sorted(below) for crate, below in apart.items()}, took
+
+
 class Crates:
     """The crates of the repository: what each waits for, and what its proof costs, which is 0 where it isn't known."""
 
@@ -124,7 +142,23 @@ def chains(crates):
         yield f"- {what}, {took:,} seconds: {', '.join(f'{it} {crates.seconds[it]:,}' for it in chain)}."
 
 
-PARTS = {("docs/ARCHITECTURE.md", "crates"): picture, ("docs/GATE.md", "costs"): table, ("docs/GATE.md", "chains"): chains}
+def cuts(crates):
+    """What the chains would take if crates that were cut from one another were one again: by the lines of tools/cuts."""
+    lines = [line for line in (crates.top / "tools/cuts").read_text().splitlines() if line and line[0] != "#"]
+    groups = [line.partition(":")[0].split() for line in lines]
+    program = lambda uses, took: chains_of(uses, took)[PROGRAM][1]
+    gate = lambda uses, took: max(it[1] for it in chains_of(uses, took).values())
+    row = lambda what, uses, took: f"| {what} | {program(uses, took):,} | {gate(uses, took):,} |"
+    yield "| In one crate again | Chain to the program | To the end of the gate |"
+    yield "|---|--:|--:|"
+    yield row("none: as it is", crates.uses, crates.seconds)
+    for group, line in zip(groups, lines):
+        what = line.partition(":")[2].strip()
+        yield row(f"{', '.join(group)} ({what})", *joined(crates.uses, crates.seconds, [group]))
+    yield row("all of these", *joined(crates.uses, crates.seconds, groups))
+
+
+PARTS = {("docs/GATE.md", "cuts"): cuts, ("docs/ARCHITECTURE.md", "crates"): picture, ("docs/GATE.md", "costs"): table, ("docs/GATE.md", "chains"): chains}
 
 
 def written(text, name, lines):
@@ -167,6 +201,7 @@ def mistaken():
         (directly_on(uses, "top"), ["high"]),
         (chains_of(uses, SECONDS)["side"], (["low", "side"], 6)),
         (chains_of(uses, SECONDS)["top"], (["low", "side", "high", "top"], 15)),
+        (joined(uses, SECONDS | {"side": 20}, [["side", "high"]]), ({"low": [], "side": ["low"], "top": ["low", "side"]}, {"low": 5, "side": 15, "top": 2})),
         (costs_of("# what\nlow 5 -\nside - 70\n"), {"low": (5, None), "side": (None, 70)}),
         (line_of("side", None, 70), "side - 70"),
         (written(f"a\n{BEGIN.format('x')}\nold\n{END}\nb\n", "x", ["new"]), f"a\n{BEGIN.format('x')}\nnew\n{END}\nb\n"),

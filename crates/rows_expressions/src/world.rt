@@ -13,7 +13,8 @@ use vc_index::Index;
 use vc_object::{Kind, ObjectId};
 use vc_refs::PackedCache;
 use vc_repository::FileRepository;
-use vc_rev::{RevFault, SourceFault, resolve, resolve_set};
+use vc_rev::{RevFault, SourceFault, resolve};
+use vc_rev_set::resolve_set;
 use vc_store::Store;
 
 #[derive(Drop)]

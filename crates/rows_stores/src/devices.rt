@@ -43,8 +43,19 @@ fn open<R: Host>(rt: &R, text: &str) -> anyhow::Result<Device<R>> {
         "memory" => Device::Memory(MemoryFiles::new(alloc)),
         "folder" => Device::Folder(FolderFiles::new(rt.clone()?, String::from_str(alloc, rest)?)),
         "recorded" => {
-            let recorder = Recorder { host: rt.clone()? };
+            let recorder = Recorder {
+                host: rt.clone()?,
+                taken: None,
+            };
             Device::Recorded(FolderFiles::new(recorder, String::from_str(alloc, rest)?))
+        }
+        "meanwhile" => {
+            let (folder, taken) = two(rest);
+            let recorder = Recorder {
+                host: rt.clone()?,
+                taken: Some(String::from_str(alloc, taken)?),
+            };
+            Device::Recorded(FolderFiles::new(recorder, String::from_str(alloc, folder)?))
         }
         "fails" => Device::Fails(FailOnce::new(MemoryFiles::new(alloc), rest.parse()?)),
         "fused" => Device::Fused(fused(alloc, rest)?),

@@ -9,6 +9,8 @@ use vc_folder::{Begun, Syncs, sync_in_turn};
 #[derive(Clone, Drop)]
 pub struct Recorder<H> {
     pub host: H,
+    /// The path of a ref's file that another process takes away when it is about to be read, if there is such a process.
+    pub taken: Option<String>,
 }
 
 /// An open file or folder, with its path.
@@ -27,6 +29,23 @@ impl<H: Print> Recorder<H> {
     }
 }
 
+impl<H: Files<File = File> + AllocGlobal> Recorder<H> {
+    // What the other process does before a file is read: its packed file gets its place, and the ref's own file goes.
+    fn meanwhile(&self, path: &str) -> io::Result<()> {
+        let Some(taken) = &self.taken else {
+            return Ok(());
+        };
+        let Some(folder) = path.strip_suffix(taken.as_str()) else {
+            return Ok(());
+        };
+        let alloc = self.host.alloc();
+        let next = format!(in alloc; "{folder}packed-refs.next")?;
+        let packed = format!(in alloc; "{folder}packed-refs")?;
+        self.host.rename(next.as_str(), packed.as_str())?;
+        self.host.remove_file(path)
+    }
+}
+
 impl<H: AllocGlobal> Alloc for Recorder<H> {
     type A = Global;
 
@@ -41,6 +60,9 @@ impl<H: Files<File = File> + Print + AllocGlobal + Clone + Drop> Files for Recor
     type Dir = H::Dir;
 
     fn open_file(&self, how: &OpenOptions, path: &str) -> io::Result<RecordedFile<H>> {
+        if !how.asks_write() {
+            self.meanwhile(path)?;
+        }
         let mut file = self.host.open_file(how, path);
         if how.asks_create_new() {
             file = self.tell(file, "create", path);

@@ -5,7 +5,8 @@ use anyhow::Result;
 use vc_expression::{parse, parse_set};
 use vc_refs::PackedCache;
 use vc_repository::{FileRepository, read_index};
-use vc_rev::{resolve, resolve_set};
+use vc_rev::resolve;
+use vc_rev_set::resolve_set;
 
 /// The object that an expression names.
 pub fn value<R: Host>(bench: &mut Bench<R>, source: &str) -> Result<String> {

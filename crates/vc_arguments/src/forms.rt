@@ -296,7 +296,7 @@ const FORMS: [Form; 20] = [
     Form {
         name: "checkout",
         about: "Bring work tree, index and HEAD to a commit; a change that is not staged stops it",
-        after: "What is staged counts as stored: a staged file that was never committed goes from the work tree and the index.\nIts blob stays in the store, under the name that hash-object gives it.\n\nExample: vcs checkout main",
+        after: "What is staged counts as stored: a staged file that was never committed goes from the work tree and the index.\nIts blob stays in the store, under the name that hash-object gives it. So checkout main on main undoes\nwhat was staged since the last commit.\n\nExample: vcs checkout main",
         arguments: &[STORE, WORK, REVISION],
     },
     Form {
@@ -308,7 +308,7 @@ const FORMS: [Form; 20] = [
     Form {
         name: "serve",
         about: "Let clones on this machine fetch from the store and push to it",
-        after: "Prints \"listening\" and the port once it is open, and serves one connection after the other. Commands on\nthe store may run meanwhile: they take turns with each message.\n\nExample: vcs serve --store shared --port 7000 --count 100",
+        after: "Prints \"listening\" and the port once it is open, and serves one connection after the other. Commands on\nthe store may run meanwhile: they take turns with each message. Only a fault of its own, no memory or a\nfailed disk, ends it early, with status 3; what a client sends never does.\n\nExample: vcs serve --store shared --port 7000 --count 100",
         arguments: &[
             STORE,
             PORT,

@@ -11,14 +11,10 @@ use Rattle.vc_object_map.specs.declared.faults.StoreFault.{StoreFault}
 use Rattle.vc_object_map.specs.declared.faults.StoreFault.TheVariants.{Fault as StoreFaulted}
 use Rattle.vc_checkout.specs.declared.faults.CheckoutFault.{CheckoutFault}
 use Rattle.vc_checkout.specs.declared.faults.CheckoutFault.TheVariants as checkouts
-use Rattle.vc_node.specs.CloneFaults.{IsOfDevice as IsOfCloneDevice}
 use Rattle.vc_local.specs.NodeFault.{IsOfDevice as IsOfNodeDevice, is_device, is_fault, of_index}
 use Rattle.vc_local.specs.declared.fault.NodeFault.{NodeFault}
-use Rattle.vc_node.specs.RemoteFaults.{is_fault as is_remote_fault}
-use Rattle.vc_node.specs.declared.remote_fault.RemoteFault.{RemoteFault}
-use Rattle.vc_node.specs.declared.remote_fault.RemoteFault.TheVariants as remotes
 use Rattle.vc_cli.specs.declared.failure.Failure.{Failure}
-use Rattle.vc_cli.specs.declared.failure.Failure.TheVariants.{Store, History, Refs, Usage, Fault, Syntax, Revision, Node, Remote, LocalChange, InTheWay, NotText}
+use Rattle.vc_cli.specs.declared.failure.Failure.TheVariants.{Store, History, Refs, Usage, Fault, Syntax, Revision, Node, LocalChange, InTheWay, NotText}
 
 -- want of memory, or a device that failed
 abbrev pub IsFault : Failure → Type 0
@@ -37,8 +33,6 @@ IsOfDevice (History (HistoryStore fault)) = IsOfStoreDevice fault
 IsOfDevice (Refs (RefFaulted fault)) = IsTrue (is_device fault)
 IsOfDevice (Revision (Source (sources.Store fault))) = IsOfStoreDevice fault
 IsOfDevice (Node fault) = IsOfNodeDevice fault
-IsOfDevice (Remote (remotes.Fault fault)) = IsTrue (is_device fault)
-IsOfDevice (Remote (remotes.Clone fault)) = IsOfCloneDevice fault
 IsOfDevice _ = ⊥
 
 -- a command tells that one failed
@@ -70,9 +64,6 @@ revision_status _ = 1
 abbrev pub node_status : NodeFault → ℕ
 node_status fault = if is_fault fault then 3 else 1
 
-abbrev pub remote_status : RemoteFault → ℕ
-remote_status fault = if is_remote_fault fault then 3 else 1
-
 -- 2 where the command line is off, 3 at a fault, and 1 where the command was refused
 abbrev pub status_of : Failure → ℕ
 status_of (Usage text) = 2
@@ -80,7 +71,6 @@ status_of (Fault fault) = 3
 status_of (Syntax Memory) = 3
 status_of (Revision fault) = revision_status fault
 status_of (Node fault) = node_status fault
-status_of (Remote fault) = remote_status fault
 status_of (Store (StoreFaulted fault)) = 3
 status_of (History (HistoryStore (StoreFaulted fault))) = 3
 status_of (Refs (RefFaulted fault)) = 3

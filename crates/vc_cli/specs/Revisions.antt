@@ -7,7 +7,7 @@ use Rattle.vc_repository.specs.Resolving.{DenotesIn, IsOfExpr, over}
 use Rattle.vc_repository.specs.State.{State, IsCause}
 use Rattle.vc_expression.specs.Faults.{ExprError}
 use Rattle.vc_expression.specs.Grammar.{ExprText, IsExpr}
-use Rattle.vc_rev.specs.Selection.{Selection, SetGives, IsSelectedBy, IsToldOfSet, IsWalked}
+use Rattle.vc_rev_set.specs.Selection.{Selection, SetGives, IsSelectedBy, IsToldOfSet, IsWalked}
 use Rattle.vc_expression.specs.SetGrammar.{TermText, IsSet}
 use Rattle.vc_expression.specs.SetReading.{SetError}
 use Rattle.vc_rev.specs.declared.refusal.Refusal.{Refusal}

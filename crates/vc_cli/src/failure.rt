@@ -3,10 +3,10 @@ ghost use Rattle.std.specs.Prelude.{◌≡◌, IfOk, IfErr, IfSome, OnOk};
 ghost use Rattle.std.specs.Option.{option_map};
 ghost use Rattle.vc_files.specs.declared.faults.Fault.TheVariants.{Memory};
 ghost use Rattle.vc_cli.specs.Told.{AppendsFailure};
-ghost use Rattle.vc_cli.specs.declared.failure.Failure.TheVariants.{Object, Store, History, Refs, Fault, Syntax, Revision, Node, Remote};
+ghost use Rattle.vc_cli.specs.declared.failure.Failure.TheVariants.{Object, Store, History, Refs, Fault, Syntax, Revision, Node};
 ghost use Rattle.vc_rev.specs.declared.refusal.RevFault.TheVariants.{Source};
 ghost use Rattle.vc_local.specs.NodeFault.{of_index};
-ghost use Rattle.vc_cli.specs.Failure.{revision_status, source_status, store_status, node_status, remote_status, of_checkout};
+ghost use Rattle.vc_cli.specs.Failure.{revision_status, source_status, store_status, node_status, of_checkout};
 
 use crate::faults::Faults;
 use std::alloc::{AllocError, AllocFailed};
@@ -18,9 +18,11 @@ use vc_files::Fault;
 use vc_history::HistoryFault;
 use vc_index::IndexFault;
 use vc_local::NodeFault;
-use vc_node::RemoteFault;
-use vc_object::ObjectFault;
+use vc_message::{IncomingFault, NOTHING_AWAITED, WRITE_FAILED};
+use vc_object::{ObjectFault, ObjectId};
 use vc_object_map::StoreFault;
+use vc_pack::AnswerFault;
+use vc_pkt::{BAD_LENGTH, BAD_RECORD, PktFault};
 use vc_refname::{NameFault, NewNameError};
 use vc_refs::RefFault;
 use vc_rev::{Refusal, RevFault, SourceFault};
@@ -54,14 +56,41 @@ pub enum Failure {
     Name(NameFault),
     /// What the refs refused.
     Refs(RefFault),
-    /// Why an exchange with a served store ended early.
-    Remote(RemoteFault),
+    /// A served store refused a message, with this text: any bytes, as it sent them.
+    Refused(Vec<u8>),
+    /// 115: no answer of a served store came, since the connection ended or failed.
+    ReadFailed,
+    /// 116: a message to a served store didn't go out, or there is no connection.
+    WriteFailed,
+    /// 80 to 84, or 3: what a served store sent is no message.
+    Unread(PktFault),
+    /// 91: a message of this kind isn't awaited.
+    Unexpected,
+    /// 92: with the pack that a served store sent, not all is there that this wanted id reaches.
+    Incomplete(ObjectId),
     /// What was to be played is no script of a world.
     BadScript,
     /// The command line asks for what this program doesn't do.
     Usage(String),
     /// Want of memory, or a device that failed.
     Fault(Fault),
+}
+
+// A byte that a terminal shows as a letter, digit or mark; any other as a question mark.
+fn shown(byte: u8) -> char {
+    if byte < 32 || byte > 126 {
+        '?'
+    } else {
+        char::from(byte)
+    }
+}
+
+// Writes what another program sent, so that it does nothing to a terminal.
+fn write_shown<W: fmt::Write>(text: &[u8], f: &mut fmt::Formatter<W>) -> fmt::Result {
+    for byte in text {
+        f.write_char(shown(*byte))?;
+    }
+    Ok(())
 }
 
 impl fmt::Display for Failure {
@@ -83,7 +112,14 @@ impl fmt::Display for Failure {
             Failure::History(fault) => fmt::Display::fmt(fault, f),
             Failure::Name(fault) => fmt::Display::fmt(fault, f),
             Failure::Refs(fault) => fmt::Display::fmt(fault, f),
-            Failure::Remote(fault) => fmt::Display::fmt(fault, f),
+            Failure::Refused(text) => write_shown(text, f),
+            Failure::ReadFailed => fmt::Display::fmt(&IncomingFault::Failed, f),
+            Failure::WriteFailed => f.write_str(WRITE_FAILED),
+            Failure::Unread(PktFault::BadLength(_)) => f.write_str(BAD_LENGTH),
+            Failure::Unread(PktFault::BadRecord(_)) => f.write_str(BAD_RECORD),
+            Failure::Unread(fault) => fmt::Display::fmt(fault, f),
+            Failure::Unexpected => f.write_str(NOTHING_AWAITED),
+            Failure::Incomplete(id) => fmt::Display::fmt(&AnswerFault::Incomplete(*id), f),
             Failure::BadScript => fmt::Display::fmt(&ScriptFault::BadScript, f),
             Failure::Usage(text) => f.write_str(text.as_str()),
             Failure::Fault(fault) => fmt::Display::fmt(fault, f),
@@ -103,6 +139,8 @@ impl Failure {
         match self {
             Failure::NoSuchPath | Failure::Object(_) | Failure::Name(_) | Failure::BadScript => 1,
             Failure::LocalChange(_) | Failure::InTheWay(_) | Failure::NotText(_) => 1,
+            Failure::Refused(_) | Failure::ReadFailed | Failure::WriteFailed => 1,
+            Failure::Unread(_) | Failure::Unexpected | Failure::Incomplete(_) => 1,
             Failure::Node(fault) => node_status(fault),
             Failure::Syntax(ParseFault::Memory)
             | Failure::Store(StoreFault::Fault(_))
@@ -112,7 +150,6 @@ impl Failure {
             Failure::Syntax(_) => 1,
             Failure::Revision(fault) => revision_status(fault),
             Failure::Store(_) | Failure::History(_) | Failure::Refs(_) => 1,
-            Failure::Remote(fault) => remote_status(fault),
             Failure::Usage(_) => 2,
         }
     }
@@ -174,16 +211,6 @@ fn node_status(fault: &NodeFault) -> u8
     ensures { result ≡ node_status fault.now }
 {
     if fault.is_fault() { 3 } else { 1 }
-}
-
-// The exit status where an exchange ended early.
-fn remote_status(fault: &RemoteFault) -> u8
-    ensures { result ≡ remote_status fault.now }
-{
-    match fault.is_fault() {
-        true => 3,
-        false => 1,
-    }
 }
 
 // The exit status where a store gives no answer.
@@ -314,14 +341,6 @@ impl From<HistoryFault> for Failure {
 
     fn from(fault: HistoryFault) -> Failure {
         Failure::History(fault)
-    }
-}
-
-impl From<RemoteFault> for Failure {
-    ghost from_gives = { λ fault e. e ≡ Remote fault };
-
-    fn from(fault: RemoteFault) -> Failure {
-        Failure::Remote(fault)
     }
 }
 

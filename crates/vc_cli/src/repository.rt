@@ -16,7 +16,7 @@ use vc_index::Index;
 use vc_object::ObjectId;
 use vc_refs::PackedCache;
 use vc_repository::FileRepository;
-use vc_rev::resolve_set;
+use vc_rev_set::resolve_set;
 
 /// The files of the store in this folder, which need not be there yet. A folder that Git made is refused.
 pub fn open_store<R>(rt: &R, folder: &str) -> Result<FolderFiles<R>, Failure>

@@ -1,2 +1,3 @@
 pub mod PlayedWorld
 pub mod PushWords
+pub mod RemoteFailure

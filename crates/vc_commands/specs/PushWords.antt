@@ -5,9 +5,9 @@ use Rattle.vc_files.specs.FileMap.{FileMap}
 use Rattle.vc_files.specs.declared.faults.Fault.TheVariants.{Memory}
 use Rattle.vc_object.specs.declared.id.ObjectId.{ObjectId}
 use Rattle.vc_refname.specs.RefName.{IsRefName, first_broken_rule}
-use Rattle.vc_remote.specs.Words.{IsOfWord}
-use Rattle.vc_remote.specs.declared.words.ItemWords.{ItemWords}
-use Rattle.vc_remote.specs.declared.words.ItemWords.TheVariants.{Branch, Delete, Set}
+use Rattle.vc_transport.specs.Words.{IsOfWord}
+use Rattle.vc_transport.specs.declared.words.ItemWords.{ItemWords}
+use Rattle.vc_transport.specs.declared.words.ItemWords.TheVariants.{Branch, Delete, Set}
 use Rattle.vc_working.specs.CloneWords.{branch_ref}
 use Rattle.vc_cli.specs.Revisions.{Denoted, IsOfRevision}
 use Rattle.vc_cli.specs.declared.failure.Failure.{Failure}

@@ -4,6 +4,7 @@
 mod program;
 mod push_items;
 mod remote;
+mod remote_failure;
 mod world;
 
 pub use program::{run, tell};

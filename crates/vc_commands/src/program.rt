@@ -18,6 +18,7 @@ use vc_arguments::{
     terms_of,
 };
 use vc_cli::{Failure, Faults, only_writer, refuse_second_store};
+use vc_committing::{add, branch, branch_delete, commit, unstage, write_tree};
 use vc_files::Fault;
 use vc_folder::Syncs;
 use vc_reading::cat_file::cat_file;
@@ -30,8 +31,7 @@ use vc_reading::rev_parse::rev_parse;
 use vc_reading::show_ref::show_ref;
 use vc_reading::{Input, Lists, line_of_refusal};
 use vc_work_folder::Beside;
-use vc_working::work::{add, checkout, status};
-use vc_working::{branch, branch_delete, commit, unstage, write_tree};
+use vc_working::work::{checkout, status};
 
 /// Does what the words ask for and gives the exit status: 0 done, 1 refused, 2 a command line that is off, 3 a
 /// fault. Answers go to `output`, everything else to `faults`. The first word is the program's name. A command that writes

@@ -10,8 +10,8 @@ use std::alloc::Global;
 use vc_cli::{Failure, resolve};
 use vc_files::{Fault, Files};
 use vc_refname::{NewNameError, RefName};
-use vc_remote::{ItemWords, item_words};
 use vc_sending::PushItem;
+use vc_transport::{ItemWords, item_words};
 
 /// The items of a push, in the order of the words. The first word that is refused is told.
 pub fn items_of<F: Files>(

@@ -1,15 +1,17 @@
 //! The subcommands that speak to another process: `serve`, `fetch` and `push`.
 ghost use Rattle.std.specs.Prelude.{◌≡◌};
-ghost use Rattle.vc_remote.specs.Progress.{goes_to_terminal};
+ghost use Rattle.vc_transport.specs.Progress.{goes_to_terminal};
 
 use crate::push_items::items_of;
+use crate::remote_failure::failure_of;
 use std::fs::File;
 use std::io::{self, Write};
 use std::net::Net;
 use std::rt;
 use std::thread::Threads;
 use vc_cli::{Failure, Faults, only_writer, open_store, print_text};
-use vc_remote::{Progress, is_done, make_shared, report_lines};
+use vc_remote::make_shared;
+use vc_transport::{Progress, is_done, report_lines};
 
 /// Serves so many connections to the store in this folder, which is made where there is none. The line `listening`, with the
 /// port, is printed once the port is open.
@@ -91,7 +93,10 @@ where
 {
     let lock = only_writer(rt, store, faults)?;
     let mut progress = progress_of(faults);
-    let moved = vc_remote::fetch(rt, lock, store, port, &mut progress)?;
+    let moved = match vc_remote::fetch(rt, lock, store, port, &mut progress) {
+        Ok(moved) => moved,
+        Err(fault) => return Err(failure_of(fault)),
+    };
     let line = format!(in rt.alloc(); "moved {moved}\n")?;
     print_text(line.as_bytes(), output)?;
     progress.outcome()?;
@@ -121,7 +126,10 @@ where
         return Ok(true);
     }
     let mut progress = progress_of(faults);
-    let report = vc_remote::push(rt, lock, store, port, &items, &mut progress)?;
+    let report = match vc_remote::push(rt, lock, store, port, &items, &mut progress) {
+        Ok(report) => report,
+        Err(fault) => return Err(failure_of(fault)),
+    };
     print_text(&report_lines(alloc, &report)?, output)?;
     progress.outcome()?;
     Ok(is_done(&report))

@@ -12,10 +12,9 @@ use crate::NodeFault;
 use std::alloc::Global;
 use vc_files::Files;
 use vc_graph::is_complete_beyond;
-use vc_history::{Generations, is_history_beyond};
+use vc_history::{NoLimit, is_history_beyond, read_history};
 use vc_object::ObjectId;
 use vc_quarantine::Known;
-use vc_selection::commits;
 use vc_store::Store;
 
 /// Refuses an id of which not all is there that it reaches (40), and then one that is no commit, or that has an object
@@ -61,7 +60,6 @@ pub(crate) fn refuse_beyond<F: Files>(
         return Ok(());
     }
     // The walk that says which object is no commit starts anew.
-    let generations = Generations::new(alloc);
-    commits(alloc, &mut store, &[*id], &[], &generations)?;
+    read_history(alloc, &mut store, &[*id], &NoLimit)?;
     Err(NodeFault::NotACommit(*id))
 }

@@ -8,5 +8,4 @@ pub mod Learning
 pub mod Node
 pub mod Receipts
 pub mod ReceiveFault
-pub mod RemoteFaults
 pub mod Stored

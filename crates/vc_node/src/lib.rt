@@ -13,7 +13,6 @@ mod exchanging;
 mod learning;
 mod node;
 mod receive_fault;
-mod remote_fault;
 
 pub use burning::{
     a_call_spends_what_the_machine_allows, a_packing_spends_what_the_machine_allows,
@@ -24,4 +23,3 @@ pub use exchanging::Received;
 pub use learning::a_value_that_a_ref_was_set_to_is_learnt;
 pub use node::CloneNode;
 pub use receive_fault::ReceiveFault;
-pub use remote_fault::RemoteFault;

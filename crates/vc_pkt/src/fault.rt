@@ -5,6 +5,12 @@ use std::error::Error;
 use std::fmt;
 use vc_object::ObjectFault;
 
+/// The number and the name of four bytes that begin no line, as they are printed.
+pub const BAD_LENGTH: &str = "80 BadLength";
+
+/// The number and the name of a line that the message has not at its place, as they are printed.
+pub const BAD_RECORD: &str = "81 BadRecord";
+
 /// Why bytes are no lines, or lines no message. Of several causes the first in the bytes is given.
 #[derive(Clone, Copy, Debug)]
 pub enum PktFault {
@@ -28,8 +34,8 @@ pub enum PktFault {
 impl fmt::Display for PktFault {
     fn fmt<W: fmt::Write>(&self, f: &mut fmt::Formatter<W>) -> fmt::Result {
         match self {
-            PktFault::BadLength(place) => write!(f, "80 BadLength({place})"),
-            PktFault::BadRecord(place) => write!(f, "81 BadRecord({place})"),
+            PktFault::BadLength(place) => write!(f, "{BAD_LENGTH}({place})"),
+            PktFault::BadRecord(place) => write!(f, "{BAD_RECORD}({place})"),
             PktFault::SizeMismatch => f.write_str("82 SizeMismatch"),
             PktFault::CutMessage => f.write_str("83 CutMessage"),
             PktFault::TooMany => f.write_str("84 TooMany"),

@@ -17,7 +17,7 @@ mod whole;
 mod write;
 
 pub use carried::{CarriedObjects, StreamObject};
-pub use fault::{PktError, PktFault};
+pub use fault::{BAD_LENGTH, BAD_RECORD, PktError, PktFault};
 pub use incoming::{IncomingObjects, ObjectRow};
 pub use laws::{
     carried_objects_are_sorted, carried_objects_count_once, flush_is_zeros, however_cut,

@@ -1,5 +1,5 @@
 -- What a refusal is about, and the line that tells it to a person.
-use Rattle.std.specs.Prelude.{◌≡◌, ◌==◌, ◌||◌, ◌+◌, ◌-◌, ◌/◌, ◌%◌, ℕ, if◌then◌else◌, nat_le, List, [], ◌∷◌, ◌++◌, Option, None, Some, MatchOption, Vec, codes, get_or, string_bytes}
+use Rattle.std.specs.Prelude.{◌≡◌, ◌==◌, ◌||◌, ◌+◌, ◌-◌, ◌/◌, ◌%◌, ℕ, if◌then◌else◌, nat_le, List, [], ◌∷◌, ◌++◌, Option, None, Some, MatchOption, Vec, codes, decimal, get_or, string_bytes}
 use Rattle.std.specs.Global.{Global}
 use Rattle.std.specs.List.{flat_map}
 use Rattle.hex.specs.Hex.{encode_lower}
@@ -7,6 +7,8 @@ use Rattle.vc_history.specs.declared.fault.HistoryFault.{HistoryFault}
 use Rattle.vc_history.specs.declared.fault.HistoryFault.TheVariants as bases
 use Rattle.vc_local.specs.declared.fault.NodeFault.{NodeFault}
 use Rattle.vc_local.specs.declared.fault.NodeFault.TheVariants as nodes
+use Rattle.vc_pkt.specs.declared.fault.PktFault.{PktFault}
+use Rattle.vc_pkt.specs.declared.fault.PktFault.TheVariants as pkt
 use Rattle.vc_refs.specs.declared.faults.RefFault.{RefFault}
 use Rattle.vc_refs.specs.declared.faults.RefFault.TheVariants as ref_faults
 use Rattle.vc_rev.specs.declared.refusal.RevFault.{RevFault}
@@ -16,7 +18,7 @@ use Rattle.vc_rev.specs.declared.refusal.SourceFault.TheVariants as sources
 use Rattle.vc_object_map.specs.declared.faults.StoreFault.{StoreFault}
 use Rattle.vc_object_map.specs.declared.faults.StoreFault.TheVariants as stores
 use Rattle.vc_cli.specs.declared.failure.Failure.{Failure}
-use Rattle.vc_cli.specs.declared.failure.Failure.TheVariants.{LocalChange, InTheWay, NotText, Node, Revision, Store, History, Refs}
+use Rattle.vc_cli.specs.declared.failure.Failure.TheVariants.{LocalChange, InTheWay, NotText, Node, Revision, Store, History, Refs, Unread, Incomplete}
 
 -- a byte by three octal digits behind a backslash
 abbrev pub octal : ℕ → List ℕ
@@ -84,6 +86,12 @@ of_node (nodes.BadIndex place) = Some (codes "index")
 of_node (nodes.WrongEntry path) = named path.items
 of_node _ = None
 
+-- the byte at which no line begins, or the line that the message has not there, both from 0
+abbrev pub of_message : PktFault → Option (List ℕ)
+of_message (pkt.BadLength place) = Some (codes "byte " ++ decimal place)
+of_message (pkt.BadRecord line) = Some (codes "line " ++ decimal line)
+of_message _ = None
+
 -- what a failure itself names: a path of the work tree, an object, a ref, a file of the store
 abbrev pub of_failure : Failure → Option (List ℕ)
 of_failure (LocalChange path) = named path.items
@@ -94,4 +102,6 @@ of_failure (Revision fault) = of_revision fault
 of_failure (Store fault) = of_store fault
 of_failure (History fault) = of_history fault
 of_failure (Refs fault) = of_ref fault
+of_failure (Unread fault) = of_message fault
+of_failure (Incomplete id) = Some (encode_lower id.0)
 of_failure _ = None

@@ -1,7 +1,7 @@
 //! What a refusal is about, as a person reads it: the path, the object, the file of the store that the refusal itself names.
 ghost use Rattle.std.specs.Prelude.{◌≡◌, ◌++◌, IfOk, OnOk, Some};
 ghost use Rattle.hex.specs.Hex.{encode_lower};
-ghost use Rattle.vc_reading.specs.AtFault.{IsPlace, at_line, named, octal, of_history, of_failure, of_node, of_ref, of_revision, of_source, of_store, quoted_byte};
+ghost use Rattle.vc_reading.specs.AtFault.{IsPlace, at_line, named, octal, of_history, of_failure, of_message, of_node, of_ref, of_revision, of_source, of_store, quoted_byte};
 
 use std::alloc::{AllocError, Global};
 use vc_cli::Failure;
@@ -9,6 +9,7 @@ use vc_history::HistoryFault;
 use vc_local::NodeFault;
 use vc_object::ObjectId;
 use vc_object_map::StoreFault;
+use vc_pkt::PktFault;
 use vc_refs::RefFault;
 use vc_rev::{RevFault, SourceFault};
 
@@ -72,6 +73,8 @@ pub fn named_by(alloc: Global, failure: &Failure) -> Result<Option<Vec<u8>>, All
         Failure::Store(fault) => named_by_store(alloc, fault),
         Failure::History(fault) => named_by_history(alloc, fault),
         Failure::Refs(fault) => named_by_ref(alloc, fault),
+        Failure::Unread(fault) => named_by_message(alloc, fault),
+        Failure::Incomplete(id) => id_at(alloc, id),
         _ => Ok(None),
     }
 }
@@ -139,6 +142,19 @@ fn named_by_ref(alloc: Global, fault: &RefFault) -> Result<Option<Vec<u8>>, Allo
         RefFault::Conflict(name) => bytes_at(alloc, name.as_str().as_bytes()),
         RefFault::BadRefFile(path) => bytes_at(alloc, path.as_str().as_bytes()),
         RefFault::HeadLoop => bytes_at(alloc, b"HEAD"),
+        _ => Ok(None),
+    }
+}
+
+// The byte at which no line begins, and the line that the message has not there, both numbered from 0.
+fn named_by_message(alloc: Global, fault: &PktFault) -> Result<Option<Vec<u8>>, AllocError>
+    ensures { IfOk result (IsPlace (of_message fault.now)) }
+{
+    match fault {
+        PktFault::BadLength(place) => {
+            Ok(Some(format!(in alloc; "byte {place}")?.into_bytes()))
+        }
+        PktFault::BadRecord(line) => Ok(Some(format!(in alloc; "line {line}")?.into_bytes())),
         _ => Ok(None),
     }
 }

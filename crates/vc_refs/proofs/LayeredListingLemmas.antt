@@ -1,7 +1,7 @@
 -- The loose refs are put over the packed ones, path by path, and taken away when all are packed.
-use Rattle.std.proofs.Common.{◌≡◌, ℕ, Bool, true, false, cond, ◌||◌, ◌⊎◌, inl, inr, true≢false, nat_eq, List, ◌∷◌, ◌++◌, map, length, ◌<◌, Option, Some, None, sym, ap, refl, ◌∙◌, subst, arith, []}
+use Rattle.std.proofs.Common.{◌≡◌, ℕ, zero, suc, get_or, Bool, true, false, cond, ◌||◌, ◌⊎◌, inl, inr, true≢false, nat_eq, List, ◌∷◌, ◌++◌, map, length, ◌<◌, Option, Some, None, sym, ap, refl, ◌∙◌, subst, arith, [], append_assoc, append-nil}
 use Rattle.std.specs.Global.{Global}
-use Rattle.std.specs.Prelude.{◌≢◌, String, bytes_eq, codes, is_some, string_bytes, option_and_then}
+use Rattle.std.specs.Prelude.{◌≢◌, String, bytes_eq, codes, is_some, string_bytes, option_and_then, option_map}
 use Rattle.std.specs.List.{starts_with}
 use Rattle.std.specs.Option.{option_or}
 use Rattle.std.specs.Ordering.{nat_cmp, eq_by_cmp}
@@ -21,14 +21,14 @@ use Rattle.vc_lemmas.proofs.Texts.{split_from_starts}
 use Rattle.vc_object.specs.declared.id.ObjectId.{ObjectId}
 use Rattle.vc_refs.specs.Head.{head_of, read_head, said, KeepsOutside}
 use Rattle.vc_refs.specs.LooseFault as loose
-use Rattle.vc_refs.specs.Packing.{is_one_of, with_loose, AreGone, HasLoose, HasNoLoose, IsMapOf, IsPackedFrom, LosesSome}
-use Rattle.vc_refs.specs.RefFault.{BlamesList, BlamesPacked, BlamesRef, IsFirstBadRef}
-use Rattle.vc_refs.specs.Refs.{deciding_file, is_taken, loose_refs, packed_at, packed_map, packed_path, refs, IsBadLoose, IsBadRef, IsGoodPackedFile, SpellsRefs}
-use Rattle.vc_refs.specs.Packed.{PackedMap, packed_refs, packed_text}
-use Rattle.vc_refs.specs.RefMap.{IsListOf}
+use Rattle.vc_refs.specs.Packing.{is_one_of, loose_at, with_all, with_first, with_loose, AreGone, AreGood, AreInRefs, HasLoose, HasNoLoose, IsMapOf, IsPackedFrom, LosesSome}
+use Rattle.vc_refs.specs.RefFault.{BlamesList, BlamesPacked, IsFirstBadRef}
+use Rattle.vc_refs.specs.Refs.{is_taken, loose_refs, packed_at, packed_map, packed_path, refs, IsBadRef, IsGoodPackedFile, SpellsRefs}
+use Rattle.vc_refs.specs.Packed.{PackedMap, PackedRef, packed_refs, packed_text}
+use Rattle.vc_refs.specs.RefMap.{IsInRefs, IsListOf, entry_at}
 use Rattle.vc_refs.specs.declared.faults.RefFault.{RefFault}
 use Rattle.vc_refs.specs.declared.faults.RefFault.TheVariants.{Stale, Conflict, BadRefFile, HeadLoop, Fault}
-use Rattle.vc_refs.proofs.LayeredLemmas.{decides-loose, good_packed_file, refs-loose, refs-packed, packed_map-there, packed_untaken, taken_inside}
+use Rattle.vc_refs.proofs.LayeredLemmas.{good_packed_file, refs-loose, refs-packed, packed_map-there, packed_untaken, taken_inside}
 use Rattle.vc_refs.proofs.ListingLemmas.{AllGood, spells_refs}
 use Rattle.vc_refs.proofs.PackedLemmas.{of_T}
 use Rattle.vc_refs.proofs.PathLemmas.{is_among-paths_under, same_path, head_among, not_above_itself}
@@ -88,6 +88,39 @@ module _ (content : FileMap) (paths : List (List ℕ)) (p : List ℕ) (packed : 
   pub one_merged : (new : PackedMap) → new ≡ with_loose packed p (loose_refs content p) → IsMerged content (paths ++ p ∷ []) new
   one_merged new is = record { at = λ q. ap (λ (m : PackedMap). files.get m q) is ∙ by_value (loose_refs content p) refl q }
 
+-- what is put over the refs of these paths, where those of some first paths are there
+pub loose_merged : (content : FileMap) (front paths : List (List ℕ)) (packed : PackedMap) → IsMerged content front packed → IsMerged content (front ++ paths) (with_all packed (loose_at content paths))
+loose_merged content front [] packed so_far = subst (λ (ps : List (List ℕ)). IsMerged content ps packed) (sym (append-nil front)) so_far
+loose_merged content front (p ∷ paths) packed so_far =
+    let here : IsMerged content (front ++ p ∷ []) (with_loose packed p (loose_refs content p)) = one_merged content front p packed so_far _ refl in
+    subst (λ (m : PackedMap). IsMerged content (front ++ p ∷ paths) m) (sym (first (loose_refs content p)))
+    (subst (λ (ps : List (List ℕ)). IsMerged content ps (with_all (with_loose packed p (loose_refs content p)) (loose_at content paths))) (append_assoc front (p ∷ []) paths)
+    (loose_merged content (front ++ p ∷ []) paths (with_loose packed p (loose_refs content p)) here))
+  where
+    first : (o : Option ObjectId) → with_all packed (with_first (option_map (λ id. (p, id)) o) (loose_at content paths)) ≡ with_all (with_loose packed p o) (loose_at content paths)
+    first None = refl
+    first (Some id) = refl
+
+-- the refs of one path more
+pub loose_at-push : (content : FileMap) (paths : List (List ℕ)) (p : List ℕ) → loose_at content (paths ++ p ∷ []) ≡ loose_at content paths ++ with_first (entry_at (loose_refs content) p) []
+loose_at-push content [] p = refl
+loose_at-push content (q ∷ paths) p = ap (with_first (entry_at (loose_refs content) q)) (loose_at-push content paths p) ∙ by (entry_at (loose_refs content) q)
+  where
+    by : (e : Option PackedRef) → with_first e (loose_at content paths ++ with_first (entry_at (loose_refs content) p) []) ≡ with_first e (loose_at content paths) ++ with_first (entry_at (loose_refs content) p) []
+    by None = refl
+    by (Some ref) = refl
+
+-- one ref more
+pub with_all-push : (packed : PackedMap) (refs : List PackedRef) (ref : PackedRef) → with_all packed (refs ++ ref ∷ []) ≡ insert (with_all packed refs) ref.0 ref.1
+with_all-push packed [] ref = refl
+with_all-push packed (r ∷ refs) ref = with_all-push (insert packed r.0 r.1) refs ref
+
+-- each of them is in `refs/`
+pub in_refs_at : (refs : List PackedRef) (i : ℕ) (ref : PackedRef) → AreInRefs refs → i < length refs → ref ≡ get_or refs i ref → IsInRefs ref.0
+in_refs_at [] i ref all within is = absurd (omega (arith, within))
+in_refs_at (r ∷ refs) zero ref all within is = subst (λ (x : PackedRef). IsInRefs x.0) (sym is) all.0
+in_refs_at (r ∷ refs) (suc i) ref all within is = in_refs_at refs i ref all.1 (omega (arith, within)) is
+
 -- all paths
 pub all_merged : (content : FileMap) (packed : PackedMap) → AllGood content (paths_under content (codes "refs/")) → IsMerged content (paths_under content (codes "refs/")) packed → IsMapOf (refs content) packed
 all_merged content packed good so_far q =
@@ -98,36 +131,21 @@ all_merged content packed good so_far q =
     by true taken None is = absurd (spells_refs content good q (bad_from_none content q taken is))
     by false free o is = sym (refs-packed content q free)
 
+-- all that is loose, put over the packed refs
+pub all_loose : (content : FileMap) (paths : List (String Global)) (packed : PackedMap) → map string_bytes paths ≡ paths_under content (codes "refs/") → packed_map content ≡ Some packed → AreGood content (map string_bytes paths)
+    → IsMapOf (refs content) (with_all packed (loose_at content (map string_bytes paths)))
+all_loose content paths packed listed read good =
+    let merged : IsMerged content (map string_bytes paths) (with_all packed (loose_at content (map string_bytes paths))) = loose_merged content [] (map string_bytes paths) packed (none_merged content packed read) in
+    let all_good : AllGood content (map string_bytes paths) = record { each = good } in
+    all_merged content _ (subst (AllGood content) listed all_good)
+    (subst (λ (ps : List (List ℕ)). IsMerged content ps (with_all packed (loose_at content (map string_bytes paths)))) listed merged)
+
 pub all_spelled : (content : FileMap) → IsGoodPackedFile content → AllGood content (paths_under content (codes "refs/")) → SpellsRefs content
 all_spelled content packed good path (inl own) = spells_refs content good path own
 all_spelled content packed good path (inr line) = packed line.1
 
 pub listed_map : (content : FileMap) (packed : PackedMap) → IsMapOf (refs content) packed → IsListOf (refs content) (entries packed)
 listed_map content packed all = record { sorted = of_T _ (entries_sorted packed); each = λ q. sym (get-entries packed q) ∙ all q }
-
--- ---- a path that was listed
-pub listed_there : (content : FileMap) (front : List (List ℕ)) (path : List ℕ) (back : List (List ℕ)) → paths_under content (codes "refs/") ≡ front ++ path ∷ back → is_taken content path ≡ true
-listed_there content front path back listed =
-    sym (is_among-paths_under content (codes "refs/") path) ∙ ap (is_one_of path) listed ∙ list_any-append (eq_by_cmp by_bytes path) front (path ∷ back)
-    ∙ ap (λ b. is_one_of path front || b) (head_among path back) ∙ or-true (is_one_of path front)
-
--- its own file decides
-pub listed_good : (content : FileMap) (name : List ℕ) → is_taken content name ≡ true → (IsBadRef content (deciding_file content name) → ⊥) → IsBadLoose content name → ⊥
-listed_good content name taken good bad = good (subst (IsBadRef content) (sym (decides-loose content name taken)) (inl bad))
-
-pub listed_blames : (content : FileMap) (name : List ℕ) → is_taken content name ≡ true → (e : RefFault) → BlamesRef content name e → loose.BlamesPath content name e
-listed_blames content name taken (Stale current) h = h
-listed_blames content name taken (Conflict other) h = h
-listed_blames content name taken (BadRefFile path) h =
-    let at : string_bytes path ≡ name = h.0 ∙ decides-loose content name taken in (
-      at,
-      elim h.1 [
-        | inl own ↦ ap (loose_refs content) (sym at) ∙ own.none
-        | inr line ↦ absurd (true≢false (sym taken ∙ ap (is_taken content) (sym at ∙ line.0) ∙ packed_untaken content))
-      ],
-    )
-listed_blames content name taken HeadLoop h = h
-listed_blames content name taken (Fault fault) h = tt
 
 -- ---- the first bad file
 packed_first : (q : List ℕ) → starts_with nat_eq q (codes "refs/") ≡ true → by_bytes packed_path q ≢ Greater

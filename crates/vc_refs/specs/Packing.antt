@@ -1,15 +1,15 @@
 -- What packing all refs does to the files, and what taking one out of the packed file does.
-use Rattle.std.specs.Prelude.{◌≡◌, ◌⊎◌, ℕ, Bool, true, false, bytes_eq, List, Option, Some, None}
+use Rattle.std.specs.Prelude.{◌≡◌, ◌⊎◌, ℕ, Bool, true, false, bytes_eq, List, [], ◌∷◌, Option, Some, None}
 use Rattle.std.specs.FinMap.{insert}
 use Rattle.std.specs.FinMap as files
-use Rattle.std.specs.List.{list_any}
+use Rattle.std.specs.List.{list_any, AllByRecursion}
 use Rattle.std.specs.Ordering.{eq_by_cmp, nat_cmp}
 use Rattle.std.specs.Cmp.Lexicographic.{slice_cmp}
 use Rattle.vc_files.specs.FileMap.{FileMap}
 use Rattle.vc_object.specs.declared.id.ObjectId.{ObjectId}
-use Rattle.vc_refs.specs.Packed.{PackedMap, packed_text}
-use Rattle.vc_refs.specs.RefMap.{RefMap, without_ref}
-use Rattle.vc_refs.specs.Refs.{is_taken, packed_at, packed_map, packed_path, refs, ChangesOnly, IsGoodPackedFile}
+use Rattle.vc_refs.specs.Packed.{PackedMap, PackedRef, packed_text}
+use Rattle.vc_refs.specs.RefMap.{RefMap, entry_at, without_ref, IsInRefs}
+use Rattle.vc_refs.specs.Refs.{is_taken, loose_refs, packed_at, packed_map, packed_path, refs, ChangesOnly, IsBadLoose, IsGoodPackedFile}
 
 -- a file stands in `refs/`
 abbrev pub HasLoose : FileMap → Type 0
@@ -35,6 +35,28 @@ pub record UnpacksOnly (name : List ℕ) (old new : FileMap) : Type 0 where
 abbrev pub with_loose : PackedMap → List ℕ → Option ObjectId → PackedMap
 with_loose packed name None = packed
 with_loose packed name (Some id) = insert packed name id
+
+-- the refs whose own files have these paths, in the order of the paths
+abbrev pub with_first : Option PackedRef → List PackedRef → List PackedRef
+with_first None refs = refs
+with_first (Some ref) refs = ref ∷ refs
+
+abbrev pub loose_at : FileMap → List (List ℕ) → List PackedRef
+loose_at content [] = []
+loose_at content (path ∷ paths) = with_first (entry_at (loose_refs content) path) (loose_at content paths)
+
+-- the map with these put over it, one after the other
+abbrev pub with_all : PackedMap → List PackedRef → PackedMap
+with_all packed [] = packed
+with_all packed (ref ∷ refs) = with_all (insert packed ref.0 ref.1) refs
+
+-- each name is in `refs/`
+abbrev pub AreInRefs : List PackedRef → Type 0
+AreInRefs refs = AllByRecursion (λ (ref : PackedRef). IsInRefs ref.0) refs
+
+-- no path is that of a bad file
+abbrev pub AreGood : FileMap → List (List ℕ) → Type 0
+AreGood content paths = AllByRecursion (λ p. IsBadLoose content p → ⊥) paths
 
 -- the finite map has just these refs
 abbrev pub IsMapOf : RefMap → PackedMap → Type 0

@@ -10,11 +10,11 @@ mod packing;
 mod removing;
 mod setting;
 
-pub use getting::{get, get_with};
+pub use getting::{get, get_over, get_with};
 pub use head_value::{resolve_head, resolve_head_with};
 pub use listing::list;
 pub use obstacle::refuse_conflict;
-pub use packed_file::PackedCache;
+pub use packed_file::{PackedCache, read_packed};
 pub use packing::pack;
 pub use removing::remove;
-pub use setting::set;
+pub use setting::{set, set_over};

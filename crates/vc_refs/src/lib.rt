@@ -23,8 +23,8 @@ pub use faults::RefFault;
 pub use head_file::{head, set_head};
 pub use heads::Head;
 pub use layered::{
-    PackedCache, get, get_with, list, pack, refuse_conflict, remove, resolve_head,
-    resolve_head_with, set,
+    PackedCache, get, get_over, get_with, list, pack, read_packed, refuse_conflict, remove,
+    resolve_head, resolve_head_with, set, set_over,
 };
 pub use packed::PackedRefs;
 pub use view::Refs;

@@ -1,5 +1,5 @@
 // A look at a ref's own file.
-ghost use Rattle.std.specs.Prelude.{◌≡◌, true, Some, None, if◌then◌else◌, IfOk, IfErr, OnOk, IsErrOf};
+ghost use Rattle.std.specs.Prelude.{◌≡◌, true, Some, None, if◌then◌else◌, IfOk, IfSome, IfErr, OnOk, IsErrOf};
 ghost use Rattle.vc_files.specs.Failures.{Wears};
 ghost use Rattle.vc_refs.specs.RefMap.{IsInRefs, is_ref, entry_at};
 ghost use Rattle.vc_refs.specs.LooseFault.{BlamesPath, BlamesRef};
@@ -69,6 +69,7 @@ pub(crate) fn ref_at<F: Files>(
     path: &str,
 ) -> Result<Option<(RefName, ObjectId)>, RefFault>
     ensures found { F.honest → IfOk result (λ found. found ≡ entry_at (loose_refs (F.content files.old)) path.now) }
+    ensures inside { IfOk result (λ found. IfSome found (λ entry. IsInRefs entry.0)) }
     ensures good { F.honest → OnOk result (IsBadLoose (F.content files.old) path.now → ⊥) }
     ensures refused { F.honest → IfErr result (BlamesPath (F.content files.old) path.now) }
     ensures same { F.content files.new ≡ F.content files.old }

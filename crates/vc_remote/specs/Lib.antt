@@ -1,5 +1,2 @@
 pub mod Answering
-pub mod Printed
-pub mod Progress
 pub mod Turns
-pub mod Words

@@ -2,7 +2,7 @@
 ghost use Rattle.std.specs.Prelude.{◌≢◌, []};
 
 use crate::peer::Server;
-use crate::progress::Progress;
+use crate::remote_fault::RemoteFault;
 use std::alloc::Global;
 use std::fs::File;
 use std::io::Write;
@@ -10,9 +10,10 @@ use std::net::Net;
 use std::rt;
 use std::thread::Threads;
 use vc_folder::{FolderFiles, FolderLock, Syncs};
-use vc_node::{CloneNode, RemoteFault};
+use vc_node::CloneNode;
 use vc_push::Report;
 use vc_sending::PushItem;
+use vc_transport::Progress;
 use vc_world::{exchange_fetch, exchange_push};
 
 /// Fetches into the clone in this folder, whose lock is held, until its refs are the shared node's, all on one connection.

@@ -7,15 +7,10 @@
 mod answering;
 mod exchanging;
 mod peer;
-mod progress;
-mod report;
+mod remote_fault;
 mod serving;
-mod spool;
-mod words;
 
 pub use answering::{answer_from, make_shared};
 pub use exchanging::{fetch, push};
-pub use progress::Progress;
-pub use report::{is_done, report_lines};
+pub use remote_fault::RemoteFault;
 pub use serving::{bind, serve};
-pub use words::{ItemWords, item_words};

@@ -3,11 +3,10 @@ ghost use Rattle.std.specs.Prelude.{◌≡◌, ⊤};
 ghost use Rattle.vc_files.specs.Failures.{greatest_count};
 ghost use Rattle.vc_files.specs.declared.faults.Fault.TheVariants.{Device};
 ghost use Rattle.vc_model.specs.Node.Answer.{Declined};
-ghost use Rattle.vc_node.specs.declared.remote_fault.RemoteFault.TheVariants.{Fault as OfDevice};
+ghost use Rattle.vc_remote.specs.declared.remote_fault.RemoteFault.TheVariants.{Fault as OfDevice};
 
-use crate::progress::{Counted, Progress};
+use crate::remote_fault::RemoteFault;
 use crate::serving::local;
-use crate::spool::{Copying, Spool, Spooled};
 use std::alloc::Global;
 use std::fs::File;
 use std::io::{self, BufReader, Read, Write};
@@ -16,7 +15,7 @@ use std::rt;
 use vc_files::Fault;
 use vc_folder::FolderLock;
 use vc_message::{Fallible, Message, read_message, skip_message};
-use vc_node::RemoteFault;
+use vc_transport::{Copying, Counted, Progress, Spool, Spooled};
 use vc_world::{Peer, Reply};
 
 // How many bytes of an answer are kept in memory at most: an object with the longest body, and a mebibyte beside it. A longer answer

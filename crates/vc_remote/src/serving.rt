@@ -3,7 +3,6 @@ ghost use Rattle.std.specs.Prelude.{◌≡◌};
 ghost use Rattle.vc_remote.specs.Turns.{going_on, has_come};
 
 use crate::answering::answer_from;
-use crate::spool::{Copying, Spool, Spooled, fault_of};
 use std::fs::File;
 use std::io::{self, BufReader, ErrorKind};
 use std::net::{Ipv4Addr, Net, OpenListener, OpenStream, SocketAddr};
@@ -14,6 +13,7 @@ use vc_folder::{FolderFiles, FolderLock};
 use vc_message::{Fallible, IncomingFault, skip_message};
 use vc_server::{ServeFault, Served, tell};
 use vc_shared::AcceptFault;
+use vc_transport::{Copying, Spool, Spooled, fault_of};
 
 // How many bytes of a message are kept in memory at most, a mebibyte: what a client sends must not fill the memory.
 const SHORT: usize = 1_048_576;

@@ -3,5 +3,4 @@ pub mod StepsLemmas
 pub mod AnswerLemmas
 pub mod NamesLemmas
 pub mod SameAnswer
-pub mod SelectionLemmas
 pub mod ValueLemmas

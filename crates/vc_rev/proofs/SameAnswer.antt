@@ -1,5 +1,5 @@
 -- An expression denotes one answer at most.
-use Rattle.std.proofs.Common.{◌≡◌, ◌⊎◌, inl, inr, ℕ, zero, suc, Bool, true, false, List, [], ◌∷◌, Option, Some, None, Result, Ok, Err, MatchBool, MatchOption, Contains, option_map, option_and_then, nat_lt, length, refl, sym, ap, subst, ◌∙◌}
+use Rattle.std.proofs.Common.{◌≡◌, ◌⊎◌, inl, inr, ℕ, zero, suc, Bool, true, false, List, [], ◌∷◌, Option, Some, None, Result, Ok, Err, IfOk, IfErr, MatchBool, MatchOption, MatchResult, Contains, option_map, option_and_then, nat_lt, length, refl, sym, ap, subst, ◌∙◌}
 use Rattle.vc_object_map.specs.Graph.{LinksTo, Reaches, itself, onward}
 use Rattle.vc_object.specs.Decoding.{StoredObject}
 use Rattle.vc_object.specs.ObjectMap.{ObjectMap}
@@ -8,12 +8,16 @@ use Rattle.vc_object.specs.declared.kind.Kind.{Kind}
 use Rattle.vc_object.specs.declared.kind.Kind.TheVariants as kinds
 use Rattle.vc_object.specs.declared.mode.Mode.{Mode}
 use Rattle.vc_object.specs.declared.mode.Mode.TheVariants as modes
-use Rattle.vc_rev.specs.Answer.{After, Continues}
+use Rattle.vc_rev.specs.Answer.{After, Continues, IsAnswered, IsTold}
 use Rattle.vc_expression.specs.Grammar.{RevText, ExprText, Object, InTree, InIndex}
 use Rattle.vc_rev.specs.Meaning.{target_in, tag_links, pick, places, is_prefix, is_head, id_of, components, child_at, PeelsTo, PicksFrom, FirstParents, AncestorGives, PeelGives, StepGives, StepsGive, RefGives, FirstValue, PrefixGives, DigitsGive, ShortGives, NameGives, RevGives, EntryGives, PathGives, Denotes}
+use Rattle.vc_rev.specs.Question.{Question}
 use Rattle.vc_rev.specs.Source.{Source}
 use Rattle.vc_rev.specs.declared.refusal.Refusal.{Refusal}
 use Rattle.vc_rev.specs.declared.refusal.Refusal.TheVariants.{Unknown, Ambiguous, TooShort, NoSuchParent, WrongKind, NoSuchPath}
+use Rattle.vc_rev.specs.declared.refusal.RevFault.{RevFault}
+use Rattle.vc_rev.specs.declared.refusal.RevFault.TheVariants as faults
+use Rattle.vc_rev.specs.declared.refusal.SourceFault.{SourceFault}
 use Rattle.vc_expression.specs.declared.token.Step.{Step}
 use Rattle.vc_expression.specs.declared.token.Step.TheVariants as steps
 use Rattle.vc_rev.proofs.NamesLemmas.{one_is}
@@ -226,3 +230,11 @@ module _ (s : Source) where
   denotes_one (Object rev) = rev_one rev
   denotes_one (InTree rev path) = after_one (RevGives s rev) (PathGives s path) (rev_one rev) (path_one path)
   denotes_one (InIndex path) = λ a b p q. p ∙ sym q
+
+-- what a relation of one answer at most gives is answered
+pub only_answer : {A : Type 0} (Blames : Question → SourceFault → Type 0) (Asks : Question → Type 0) (Gives : Result A Refusal → Type 0) (r : Result A RevFault) → AtMostOne Gives → IfOk r (λ found. Gives (Ok found)) → IfErr r (IsTold Blames Asks Gives) → (answer : Result A Refusal) → Gives answer → MatchResult r (λ found. answer ≡ Ok found) (IsAnswered answer)
+only_answer Blames Asks Gives (Ok found) one ok told answer h = one answer (Ok found) h ok
+only_answer Blames Asks Gives (Err (faults.Refused refusal)) one ok told answer h = one answer (Err refusal) h told
+only_answer Blames Asks Gives (Err (faults.Missing id)) one ok told answer h = told
+only_answer Blames Asks Gives (Err (faults.NotACommit id)) one ok told answer h = told
+only_answer Blames Asks Gives (Err (faults.Source fault)) one ok told answer h = tt

@@ -3,9 +3,6 @@ pub mod Question
 pub mod Answer
 pub mod Meaning
 pub mod Asking
-pub mod Selection
 pub mod WalkFault
-pub mod RootsView
-pub mod Uses
 pub mod Value
 pub mod Printed

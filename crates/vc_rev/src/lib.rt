@@ -1,4 +1,4 @@
-//! What revision expressions denote: the value of one, and the commits that a set of them selects.
+//! What a revision expression denotes: its value, or its refusal.
 #![tactic(auto)]
 
 ghost use Rattle.vc_rev.specs.Value.{HasOneValue};
@@ -7,16 +7,13 @@ mod names;
 mod object;
 mod refusal;
 mod repository;
-mod roots;
-mod selected;
 mod steps;
-mod terms;
 mod value;
 
 pub use refusal::{Refusal, RevFault, SourceFault};
 pub use repository::Repository;
-pub use selected::resolve_set;
-pub use value::resolve;
+pub use steps::peel;
+pub use value::{resolve, rev_value};
 
 /// Over refs, HEAD, an index and objects a text has one value or one refusal at most, and never both: what an expression
 /// denotes is a rule that leaves nothing to choice.

@@ -8,7 +8,6 @@ ghost use Rattle.vc_object.specs.Entries.{entries_of};
 ghost use Rattle.vc_object.specs.EntryView.{entry_view};
 ghost use Rattle.vc_object.specs.Links.{parents_of};
 ghost use Rattle.vc_rev.specs.Answer.{IsToldAlone};
-ghost use Rattle.vc_rev.specs.Selection.{commit_at};
 
 use crate::refusal::{Refusal, RevFault, SourceFault};
 use std::alloc::Global;
@@ -60,23 +59,6 @@ fn parent(alloc: Global, id: ObjectId, object: &Stored, n: u32) -> Result<Object
     };
     let id = nth_parent(id, &parents, n)?;
     Ok(id)
-}
-
-/// The commit that an object is: its name, and its parents.
-pub(crate) fn commit_at(
-    alloc: Global,
-    id: ObjectId,
-    object: &Stored,
-) -> Result<(ObjectId, Vec<ObjectId>), RevFault>
-    ensures ok { IfOk result (λ found. commit_at (id, stored_object object.now.kind object.now.body.items) ≡ Ok (found.0, found.1.items)) }
-    ensures refused { IfErr result (IsToldAlone (λ answer. answer ≡ commit_at (id, stored_object object.now.kind object.now.body.items))) }
-    ensures memory { IfErr result (λ e. e ≢ RevFault.Source (SourceFault.Store (StoreFault.Fault Fault.Device))) }
-{
-    let found = vc_object::parents(alloc, &object.object())?;
-    match found {
-        Some(parents) => Ok((id, parents)),
-        None => Err(RevFault::Refused(Refusal::WrongKind)),
-    }
 }
 
 /// An object of that kind, or for a tree the tree of a commit.

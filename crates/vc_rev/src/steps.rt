@@ -20,7 +20,7 @@ use vc_object_map::StoreFault;
 use vc_store::Stored;
 
 /// The object behind the tags that a name leads to. Tags may lead back, so each is looked at once.
-pub(crate) fn peel<R: Repository>(
+pub fn peel<R: Repository>(
     alloc: Global,
     repo: &mut R,
     id: ObjectId,

@@ -118,7 +118,7 @@ fn path_value<R: Repository>(
 }
 
 /// The value of a base and its steps.
-pub(crate) fn rev_value<R: Repository>(
+pub fn rev_value<R: Repository>(
     alloc: Global,
     repo: &mut R,
     rev: &Rev<'_>,

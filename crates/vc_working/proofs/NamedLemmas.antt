@@ -7,7 +7,7 @@ use Rattle.std.proofs.lemmas.List.{map-append, take_more}
 use Rattle.std.proofs.lemmas.List.Elements.{filter-append}
 use Rattle.vc_files.specs.FileMap.{FileMap}
 use Rattle.vc_local.specs.declared.fault.NodeFault.TheVariants as node
-use Rattle.vc_working.specs.Adding.{FirstWord, Names, RefusesWord, RefusesWords}
+use Rattle.vc_working.specs.Naming.{FirstWord, Names, RefusesWord, RefusesWords}
 use Rattle.vc_cli.specs.declared.failure.Failure.{Failure}
 use Rattle.vc_cli.specs.declared.failure.Failure.TheVariants.{Node, NoSuchPath, Fault}
 

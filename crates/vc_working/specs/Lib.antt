@@ -1,7 +1,6 @@
-pub mod Adding
 pub mod Checkout
 pub mod CloneWords
 pub mod Devices
+pub mod Naming
 pub mod OwnPath
 pub mod StatusLines
-pub mod Steps

@@ -13,7 +13,7 @@ ghost use Rattle.vc_cli.specs.Failure.{TellsDevice};
 ghost use Rattle.vc_cli.specs.Revisions.{Denoted, IsOfRevision};
 ghost use Rattle.vc_files.specs.Failures.{Wears, unstopped};
 
-use crate::clone::branch_of;
+use crate::branch_name::branch_of;
 use std::alloc::{AllocError, Global};
 use vc_checkout::WorkTree;
 use vc_cli::{Failure, resolve, resolve_bytes};

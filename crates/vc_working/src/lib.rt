@@ -1,12 +1,13 @@
-//! The commands of the program `vcs` on a clone at hand: on its index, its branches, HEAD and the work tree.
+//! The commands of the program `vcs` on the work tree of a clone at hand, and which of its files words name.
 #![tactic(auto)]
 
-mod add;
+mod branch_name;
 mod checkout;
-mod clone;
 mod named_files;
 mod own_folder;
 mod status;
 pub mod work;
 
-pub use clone::{branch, branch_delete, commit, unstage, write_tree};
+pub use branch_name::branch_of;
+pub use named_files::paths_named;
+pub use own_folder::own_folder;

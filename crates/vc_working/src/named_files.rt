@@ -5,7 +5,7 @@ ghost use Rattle.std.specs.List.{AllByRecursion, flat_map};
 ghost use Rattle.vc_index.specs.Path.{IsPath};
 ghost use Rattle.vc_checkout.specs.Steps.{IsUntouched};
 ghost use Rattle.vc_work_folder.specs.Own.{is_own};
-ghost use Rattle.vc_working.specs.Adding.{IsAbsentOr, IsListing, IsListingIf, IsOfPath, Names, RefusesWord, RefusesWords, files_below, files_named_by, is_below, spelled_path};
+ghost use Rattle.vc_working.specs.Naming.{IsAbsentOr, IsListing, IsListingIf, IsOfPath, Names, RefusesWord, RefusesWords, files_below, files_named_by, is_below, spelled_path};
 ghost use Rattle.vc_files.specs.Failures.{Wears};
 ghost use Rattle.vc_cli.specs.Failure.{TellsDevice};
 

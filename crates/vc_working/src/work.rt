@@ -1,19 +1,16 @@
 //! The subcommands that look at the work tree, over real folders: `add`, `checkout` and `status`.
 
-use crate::add::add_all;
 use crate::checkout::check_out;
-use crate::clone::open_clone;
 use crate::own_folder::own_folder;
 use crate::status::print_status;
 use std::io::Write;
 use std::rt;
-use vc_arguments::FileMode;
 use vc_cli::{Failure, open_store};
 use vc_folder::Syncs;
 use vc_work_folder::{Beside, FolderTree};
 
-// The work tree in this folder, of which the folder of the store is no part.
-fn open_work<R>(rt: &R, store: &str, work: &str, own: &str) -> Result<FolderTree<R>, Failure>
+/// The work tree in this folder, of which the folder of the store, at `own` in it if it lies there, is no part.
+pub fn open_work<R>(rt: &R, store: &str, work: &str, own: &str) -> Result<FolderTree<R>, Failure>
 where
     R: rt::Files + Syncs<R::File> + Beside<R> + AllocGlobal + Clone + Drop,
 {
@@ -21,30 +18,6 @@ where
     let own = String::from_str(rt.alloc(), own)?;
     let store = String::from_str(rt.alloc(), store)?;
     Ok(FolderTree::new(rt.clone()?, path, own, store))
-}
-
-/// Puts the files of the work tree that the paths name into the index.
-pub fn add<R>(
-    rt: &R,
-    store: &str,
-    work: &str,
-    mode: FileMode,
-    paths: &[&str],
-) -> Result<(), Failure>
-where
-    R: rt::Files + Syncs<R::File> + Beside<R> + AllocGlobal + Clone + Drop,
-{
-    let own = own_folder(rt, store, work)?;
-    let mut folder = open_work(rt, store, work, own.as_str())?;
-    let mut node = open_clone(rt, store)?;
-    add_all(
-        rt.alloc(),
-        &mut node,
-        &mut folder,
-        own.as_str().as_bytes(),
-        mode,
-        paths,
-    )
 }
 
 /// Brings the work tree, the index and HEAD, in this order, to the commit that the revision names. Nothing is written

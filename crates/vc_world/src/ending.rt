@@ -1,7 +1,6 @@
 // Why an exchange is not done.
 
-use vc_files::Fault;
-use vc_node::{CloneFault, RemoteFault};
+use vc_node::CloneFault;
 
 /// Why an exchange with a shared node that refuses with an `R` came to no end of its own.
 #[derive(Drop)]
@@ -14,15 +13,4 @@ pub enum ExchangeEnd<R> {
     Stray,
     /// No memory to read an answer that the clone has taken.
     Memory,
-}
-
-impl From<ExchangeEnd<RemoteFault>> for RemoteFault {
-    fn from(end: ExchangeEnd<RemoteFault>) -> Self {
-        match end {
-            ExchangeEnd::Clone(fault) => RemoteFault::Clone(fault),
-            ExchangeEnd::Shared(fault) => fault,
-            ExchangeEnd::Stray => RemoteFault::Clone(CloneFault::Unexpected),
-            ExchangeEnd::Memory => RemoteFault::Fault(Fault::Memory),
-        }
-    }
 }

@@ -52,6 +52,28 @@ pub fn get_with<F: Files>(
     Ok(packed.get(name))
 }
 
+/// The same, over packed refs that were read: for one who looks up several refs while nobody else writes the packed file, which
+/// is read once then.
+pub fn get_over<F: Files>(
+    files: &mut F,
+    alloc: Global,
+    packed: &PackedRefs,
+    name: &RefName,
+) -> Result<Option<ObjectId>, RefFault>
+    requires inside { IsInRefs name.now }
+    requires read { F.honest → packed_map (F.content files.old) ≡ Some packed.now }
+    ensures found { F.honest → IfOk result (λ id. id ≡ refs (F.content files.old) name.now) }
+    ensures good { F.honest → OnOk result (IsBadRef (F.content files.old) (deciding_file (F.content files.old) name.now) → ⊥) }
+    ensures refused { F.honest → IfErr result (BlamesRef (F.content files.old) name.now) }
+    ensures same { F.content files.new ≡ F.content files.old }
+    ensures wear { Wears F.failed F.can_fail F.left files.old files.new (IsErrOf result (RefFault.Fault Fault.Device)) }
+{
+    if let Some(own) = loose::get(files, alloc, name)? {
+        return Ok(Some(own));
+    }
+    Ok(packed.get(name))
+}
+
 // Refuses where the ref's value is not the expected one, and else tells whether a file of its own says it.
 pub(super) fn expect_value<F: Files>(
     files: &mut F,

@@ -79,8 +79,8 @@ impl PackedCache {
     }
 }
 
-// The packed refs, or none at all where there is no packed file.
-pub(super) fn read_packed<F: Files>(files: &mut F, alloc: Global) -> Result<PackedRefs, RefFault>
+/// The packed refs, or none at all where there is no packed file.
+pub fn read_packed<F: Files>(files: &mut F, alloc: Global) -> Result<PackedRefs, RefFault>
     ensures found { F.honest → IfOk result (λ refs. packed_map (F.content files.old) ≡ Some refs) }
     ensures refused { F.honest → IfErr result (BlamesPacked (F.content files.old)) }
     ensures same { F.content files.new ≡ F.content files.old }

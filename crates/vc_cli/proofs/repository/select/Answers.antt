@@ -4,7 +4,7 @@ use Rattle.vc_files.specs.FileMap.{FileMap}
 use Rattle.vc_object.specs.declared.id.ObjectId.{ObjectId}
 use Rattle.vc_repository.specs.Resolving.{over}
 use Rattle.vc_repository.specs.State.{state}
-use Rattle.vc_rev.specs.Selection.{IsSelectedBy, IsToldOfSet, IsWalked}
+use Rattle.vc_rev_set.specs.Selection.{IsSelectedBy, IsToldOfSet, IsWalked}
 use Rattle.vc_expression.specs.SetViews.{terms_view}
 use Rattle.vc_object_map.specs.Store.{objects, IsDamaged}
 use Rattle.vc_repository.specs.State.{IsCause}

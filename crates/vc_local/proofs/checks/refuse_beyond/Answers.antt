@@ -1,7 +1,6 @@
-use Rattle.std.proofs.Common.{◌≡◌, [], ◌∷◌, sym, ap, ◌∙◌, rules, subst}
+use Rattle.std.proofs.Common.{◌≡◌, [], ◌∷◌, sym, ap, ◌∙◌, None, refl, rules, subst}
 use Rattle.vc_history.proofs.GenerationLemmas.{agrees_where_none}
 use Rattle.vc_history.specs.HistoryFault.{IsTold}
-use Rattle.vc_history.specs.Numbering.{numbers}
 use Rattle.vc_files.specs.FileMap.{FileMap}
 use Rattle.vc_object_map.specs.Graph.{IsClosedUnder, ReachedFrom}
 use Rattle.vc_object_map.specs.StoreFault.{IsMet}
@@ -38,24 +37,24 @@ returns-in_err-is_history_beyond-clause-file g c = λ honest.
     let read : TellsRead (IsReached (content c.args.files.now) id) NoneRead (Store e) = parent_read (content c.args.files.now) id e met in
     search (rules, read)
 
-pub returns-in_err-commits-clause-refused : goal.returns-in_err-commits-clause-refused
-returns-in_err-commits-clause-refused g c = λ honest.
+pub returns-in_err-read_history-clause-refused : goal.returns-in_err-read_history-clause-refused
+returns-in_err-read_history-clause-refused g c = λ honest.
     let content = g.F.Files.content in
     let id = c.args.id.now in
     let known = c.args.known.now in
-    let e = c.in_err-commits.field-0.0 in
+    let e = c.in_err-read_history.field-0.0 in
     let first : content c.new-store.result.files.now ≡ content c.args.files.now = ap content c.new-store.ensures.files in
     let second : content c.is_complete_beyond.new.objects.files.now ≡ content c.args.files.now = ap (λ (s : StoreState). s.content) c.is_complete_beyond.ensures.kept ∙ first in
     let same : content c.is_history_beyond.new.commits.files.now ≡ content c.args.files.now = ap (λ (s : StoreState). s.content) c.is_history_beyond.ensures.kept ∙ second in
-    let told = subst (λ (m : FileMap). IsTold (objects m) (IsDamaged m) (id ∷ []) e) same (c.in_err-commits.ensures.refused honest (agrees_where_none _ (numbers c.new-generations.result) c.new-generations.ensures.none)) in
+    let told = subst (λ (m : FileMap). IsTold (objects m) (IsDamaged m) (id ∷ []) e) same (c.in_err-read_history.ensures.refused honest (agrees_where_none _ (λ x. None) (λ x. refl))) in
     let complete : AreWhole (objects (content c.args.files.now)) known → IsComplete (content c.args.files.now) id = λ whole.
     subst (λ (m : FileMap). IsComplete m id) first
     ((c.in_ok-is_complete_beyond.ensures.complete honest (subst (λ (m : FileMap). IsClosedUnder (links_in (objects m)) known.objects.keys) (sym first) whole.closed)).0 (search rules)) in
     let blames : BlamesCommitBeyond (AreWhole (objects (content c.args.files.now)) known) (content c.args.files.now) id (of_history e) = told_commit (AreWhole (objects (content c.args.files.now)) known) (content c.args.files.now) id e complete told in
     search (rules, blames)
 
-pub returns-in_err-commits-clause-known : goal.returns-in_err-commits-clause-known
-returns-in_err-commits-clause-known g c = λ honest whole.
+pub returns-in_err-read_history-clause-known : goal.returns-in_err-read_history-clause-known
+returns-in_err-read_history-clause-known g c = λ honest whole.
     let content = g.F.Files.content in
     let known = c.args.known.now in
     let first : content c.new-store.result.files.now ≡ content c.args.files.now = ap content c.new-store.ensures.files in
@@ -65,15 +64,15 @@ returns-in_err-commits-clause-known g c = λ honest whole.
       histories = subst (λ (m : FileMap). IsClosedUnder (parents_in (objects m)) c.is_history_beyond.new.known.keys) same (c.is_history_beyond.ensures.known honest (subst (λ (m : FileMap). IsClosedUnder (parents_in (objects m)) known.histories.keys) (sym same) whole.histories));
     }
 
-pub returns-in_err-commits-clause-file : goal.returns-in_err-commits-clause-file
-returns-in_err-commits-clause-file g c = λ honest.
+pub returns-in_err-read_history-clause-file : goal.returns-in_err-read_history-clause-file
+returns-in_err-read_history-clause-file g c = λ honest.
     let content = g.F.Files.content in
     let id = c.args.id.now in
-    let e = c.in_err-commits.field-0.0 in
+    let e = c.in_err-read_history.field-0.0 in
     let first : content c.new-store.result.files.now ≡ content c.args.files.now = ap content c.new-store.ensures.files in
     let second : content c.is_complete_beyond.new.objects.files.now ≡ content c.args.files.now = ap (λ (s : StoreState). s.content) c.is_complete_beyond.ensures.kept ∙ first in
     let same : content c.is_history_beyond.new.commits.files.now ≡ content c.args.files.now = ap (λ (s : StoreState). s.content) c.is_history_beyond.ensures.kept ∙ second in
-    let told = subst (λ (m : FileMap). IsTold (objects m) (IsDamaged m) (id ∷ []) e) same (c.in_err-commits.ensures.refused honest (agrees_where_none _ (numbers c.new-generations.result) c.new-generations.ensures.none)) in
+    let told = subst (λ (m : FileMap). IsTold (objects m) (IsDamaged m) (id ∷ []) e) same (c.in_err-read_history.ensures.refused honest (agrees_where_none _ (λ x. None) (λ x. refl))) in
     let read : TellsRead (IsReached (content c.args.files.now) id) NoneRead (of_history e) = told_read (content c.args.files.now) id e told in
     search (rules, read)
 

@@ -19,6 +19,11 @@ get-requires g c =
     let named = named_ref c.args.path.now c.in-Some.name (rw c.in-Some.is at c.in_ok-name.ensures) in
     subst IsInRefs (sym named.0) (and_parts (is_ref_name c.args.path.now) (starts_with nat_eq c.args.path.now (codes "refs/")) named.1).1
 
+pub returns-in-Some-2-clause-inside : goal.returns-in-Some-2-clause-inside
+returns-in-Some-2-clause-inside g c =
+    let named = named_ref c.args.path.now c.in-Some.name (rw c.in-Some.is at c.in_ok-name.ensures) in
+    subst IsInRefs (sym named.0) (and_parts (is_ref_name c.args.path.now) (starts_with nat_eq c.args.path.now (codes "refs/")) named.1).1
+
 pub returns-in-Some-2-clause-found : goal.returns-in-Some-2-clause-found
 returns-in-Some-2-clause-found g c = λ honest.
     let named = named_ref c.args.path.now c.in-Some.name (rw c.in-Some.is at c.in_ok-name.ensures) in

@@ -1,8 +1,7 @@
 use Rattle.vc_rev.specs.Asking.{ExprAsks}
 use Rattle.vc_rev.specs.Meaning.{Denotes}
 use Rattle.vc_expression.specs.Views.{expr_view}
-use Rattle.vc_rev.proofs.SameAnswer.{denotes_one}
-use Rattle.vc_rev.proofs.SelectionLemmas.{only_answer}
+use Rattle.vc_rev.proofs.SameAnswer.{denotes_one, only_answer}
 use Rattle.std.proofs.lemmas.Result.{IfOk-weaker, IfErr-weaker}
 use Rattle.vc_rev.proofs.value.resolve.Goals as goal
 

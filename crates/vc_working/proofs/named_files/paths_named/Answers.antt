@@ -1,5 +1,5 @@
 use Rattle.std.proofs.Common.{map}
-use Rattle.vc_working.specs.Adding.{RefusesWords}
+use Rattle.vc_working.specs.Naming.{RefusesWords}
 use Rattle.vc_cli.proofs.ToldLemmas.{handed_on}
 use Rattle.vc_working.proofs.NamedLemmas.{word_bytes, word_refused}
 use Rattle.vc_working.proofs.named_files.paths_named.Goals as goal

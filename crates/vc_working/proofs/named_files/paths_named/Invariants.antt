@@ -2,7 +2,7 @@ use Rattle.std.proofs.Common.{◌≡◌, map, take}
 use Rattle.std.specs.Prelude.{string_bytes}
 use Rattle.std.specs.List.{AllByRecursion, flat_map}
 use Rattle.vc_files.specs.Failures.{Wears}
-use Rattle.vc_working.specs.Adding.{IsListingIf, Names, files_named_by}
+use Rattle.vc_working.specs.Naming.{IsListingIf, Names, files_named_by}
 use Rattle.vc_working.proofs.NamedLemmas.{word_bytes}
 use Rattle.vc_working.proofs.named_files.paths_named.Given as goal
 

@@ -1,6 +1,6 @@
 use Rattle.std.proofs.Common.{◌≡◌, ◌++◌, map, filter, take}
 use Rattle.std.specs.Prelude.{string_bytes}
-use Rattle.vc_working.specs.Adding.{is_below}
+use Rattle.vc_working.specs.Naming.{is_below}
 use Rattle.vc_working.proofs.named_files.push_below.Given as goal
 
 abbrev pub invariant-loop-path : goal.invariant-loop-path

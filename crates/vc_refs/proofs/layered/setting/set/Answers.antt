@@ -1,12 +1,10 @@
-use Rattle.std.proofs.Common.{rules, ◌≡◌, Some, ap, sym, ◌∙◌, subst}
-use Rattle.vc_files.proofs.WearLemmas.{wears_writes, wears_then, writes_told}
-use Rattle.vc_refs.specs.RefFault.{BlamesRemove, BlamesSet, BlamesObstacle, HasExpected}
-use Rattle.vc_refs.specs.Refs.{loose_refs, packed_map, refs, ChangesOnly}
-use Rattle.vc_refs.specs.Obstacle.{IsFree}
-use Rattle.vc_refs.specs.RefMap.{IsRefMap, with_ref}
-use Rattle.vc_refs.proofs.LayeredChangeLemmas.{only_same, refs-set, refs_free, rest_same, rest_set, set_blames_packed, set_blames_value, set_blames_way}
-use Rattle.vc_refs.proofs.RefsLemmas.{IsRefMap-with_ref}
-use Rattle.vc_refs.proofs.ObstacleLemmas.{no_own_folder}
+use Rattle.std.proofs.Common.{arith, rules, inl, inr, Ok, Err, ap, sym, ◌∙◌, subst}
+use Rattle.vc_files.specs.FileMap.{FileMap}
+use Rattle.vc_files.proofs.WearLemmas.{fails_later, wears_writes, wears_then, writes_told}
+use Rattle.vc_refs.specs.RefFault.{BlamesSet, MayWriteRef, TellsDevice}
+use Rattle.vc_refs.specs.Refs.{refs}
+use Rattle.vc_refs.specs.RefMap.{IsRefMap}
+use Rattle.vc_refs.proofs.LayeredChangeLemmas.{only_same, rest_same, set_blames_packed}
 use Rattle.vc_refs.proofs.layered.setting.set.Goals as goal
 
 pub returns-in_err-packed-clause-refused : goal.returns-in_err-packed-clause-refused
@@ -29,107 +27,41 @@ returns-in_err-packed-clause-sets g c =
 pub returns-in_err-packed-clause-wear : goal.returns-in_err-packed-clause-wear
 returns-in_err-packed-clause-wear g c = writes_told (wears_writes c.in_err-packed.ensures.wear (search rules)) (search rules) (search rules)
 
-pub returns-in_err-refuse_beside-clause-refused : goal.returns-in_err-refuse_beside-clause-refused
-returns-in_err-refuse_beside-clause-refused g c = λ honest.
-    let content = g.F.Files.content c.args.files.now in
-    let read : packed_map content ≡ Some c.in_ok-packed.packed = c.in_ok-packed.ensures.found honest in
-    let blames : BlamesObstacle content c.args.name.now c.in_err-refuse_beside.field-0.0 = rw c.in_ok-packed.ensures.same at (c.in_err-refuse_beside.ensures.refused honest (rw c.in_ok-packed.ensures.same read)) in
-    let told : BlamesSet content c.args.name.now c.args.expected c.in_err-refuse_beside.field-0.0 = set_blames_way content c.args.name.now c.args.expected c.in_err-refuse_beside.field-0.0 blames in
-    search (rules, told)
+pub set_over-requires-clause-read : goal.set_over-requires-clause-read
+set_over-requires-clause-read g c = λ honest. rw c.in_ok-packed.ensures.same (c.in_ok-packed.ensures.found honest)
 
-pub returns-in_err-refuse_beside-clause-sets : goal.returns-in_err-refuse_beside-clause-sets
-returns-in_err-refuse_beside-clause-sets g c =
-    let same = c.in_err-refuse_beside.ensures.same ∙ c.in_ok-packed.ensures.same in
-    record {
-      set = search rules;
-      kept = λ honest map. subst IsRefMap (ap refs (sym same)) map;
-      rest = λ honest. rest_same _ _ _ same;
-      only = λ honest. only_same _ _ _ same;
-      err = λ honest. search (rules, same);
-    }
+pub returns-in_err-set_over-clause-wear : goal.returns-in_err-set_over-clause-wear
+returns-in_err-set_over-clause-wear g c = wears_then c.in_ok-packed.ensures.wear (search rules) (search rules) (writes_told c.in_err-set_over.ensures.wear (search rules) (search rules))
 
-pub returns-in_err-refuse_beside-clause-wear : goal.returns-in_err-refuse_beside-clause-wear
-returns-in_err-refuse_beside-clause-wear g c =
-    wears_then c.in_ok-packed.ensures.wear (search rules) (search rules) (writes_told (wears_writes c.in_err-refuse_beside.ensures.wear (search rules)) (search rules) (search rules))
-
-pub returns-in_err-expect_value-clause-refused : goal.returns-in_err-expect_value-clause-refused
-returns-in_err-expect_value-clause-refused g c = λ honest.
-    let content = g.F.Files.content c.args.files.now in
-    let read : packed_map content ≡ Some c.in_ok-packed.packed = c.in_ok-packed.ensures.found honest in
-    let free : IsFree content c.args.name.now = rw c.in_ok-packed.ensures.same at (c.in_ok-refuse_beside.ensures.free honest (rw c.in_ok-packed.ensures.same read)) in
-    let blames : BlamesRemove content c.args.name.now c.args.expected c.in_err-expect_value.field-0.0 =
-    rw (c.in_ok-refuse_beside.ensures.same, c.in_ok-packed.ensures.same) at (c.in_err-expect_value.ensures.refused honest (rw (c.in_ok-refuse_beside.ensures.same, c.in_ok-packed.ensures.same) read)) in
-    let told : BlamesSet content c.args.name.now c.args.expected c.in_err-expect_value.field-0.0 = set_blames_value content c.args.name.now c.args.expected free c.in_err-expect_value.field-0.0 blames in
-    search (rules, told)
-
-pub returns-in_err-expect_value-clause-sets : goal.returns-in_err-expect_value-clause-sets
-returns-in_err-expect_value-clause-sets g c =
-    let same = c.in_err-expect_value.ensures.same ∙ c.in_ok-refuse_beside.ensures.same ∙ c.in_ok-packed.ensures.same in
-    record {
-      set = search rules;
-      kept = λ honest map. subst IsRefMap (ap refs (sym same)) map;
-      rest = λ honest. rest_same _ _ _ same;
-      only = λ honest. only_same _ _ _ same;
-      err = λ honest. search (rules, same);
-    }
-
-pub returns-in_err-expect_value-clause-wear : goal.returns-in_err-expect_value-clause-wear
-returns-in_err-expect_value-clause-wear g c =
-    wears_then c.in_ok-packed.ensures.wear (search rules) (search rules)
-    (wears_then c.in_ok-refuse_beside.ensures.wear (search rules) (search rules) (writes_told (wears_writes c.in_err-expect_value.ensures.wear (search rules)) (search rules) (search rules)))
-
-pub returns-in_err-put-clause-sets : goal.returns-in_err-put-clause-sets
-returns-in_err-put-clause-sets g c =
-    let content = g.F.Files.content in
-    let put : g.F.Files.honest → content c.put.new.files ≡ content c.expect_value.new.files = λ honest. search (rules, c.in_err-put.ensures.err honest) in
-    let same : g.F.Files.honest → content c.put.new.files ≡ content c.args.files.now =
-    λ honest. put honest ∙ c.in_ok-expect_value.ensures.same ∙ c.in_ok-refuse_beside.ensures.same ∙ c.in_ok-packed.ensures.same in
-    record {
-      set = search rules;
-      kept = λ honest map. subst IsRefMap (ap refs (sym (same honest))) map;
-      rest = λ honest. rest_same _ _ _ (same honest);
-      only = λ honest. only_same _ _ _ (same honest);
-      err = λ honest. search (rules, same honest);
-    }
-
-pub returns-in_err-put-clause-wear : goal.returns-in_err-put-clause-wear
-returns-in_err-put-clause-wear g c =
-    wears_then c.in_ok-packed.ensures.wear (search rules) (search rules)
-    (wears_then c.in_ok-refuse_beside.ensures.wear (search rules) (search rules)
-    (wears_then c.in_ok-expect_value.ensures.wear (search rules) (search rules) (writes_told c.in_err-put.ensures.wear (search rules) (search rules))))
-
-pub returns-clause-sets : goal.returns-clause-sets
-returns-clause-sets g c =
-    let content = g.F.Files.content in
-    let old = content c.args.files.now in
-    let new = content c.put.new.files in
-    let name = c.args.name.now in
-    let sames = c.in_ok-expect_value.ensures.same ∙ c.in_ok-refuse_beside.ensures.same ∙ c.in_ok-packed.ensures.same in
-    let own : g.F.Files.honest → loose_refs new ≡ with_ref (loose_refs old) name c.args.new = λ honest. rw sames at (c.in_ok-put.ensures.set honest) in
-    let only : g.F.Files.honest → ChangesOnly name old new = λ honest. rw sames at (c.in_ok-put.ensures.only honest) in
-    let set : g.F.Files.honest → refs new ≡ with_ref (refs old) name c.args.new = λ honest. refs-set name c.args.new old new c.requires (own honest) (only honest) in
-    record {
-      set = set;
-      kept = λ honest map.
-          let read : packed_map old ≡ Some c.in_ok-packed.packed = c.in_ok-packed.ensures.found honest in
-          let free : IsFree old name = rw c.in_ok-packed.ensures.same at (c.in_ok-refuse_beside.ensures.free honest (rw c.in_ok-packed.ensures.same read)) in
-          rw (set honest) (IsRefMap-with_ref (refs old) name c.args.new c.in_ok-put.ensures.legal (refs_free old name free) (no_own_folder name) map);
-      rest = λ honest. rest_set name c.args.new old new c.requires (own honest) (only honest);
-      only = only;
-      err = search rules;
-    }
-
-pub returns-clause-allowed : goal.returns-clause-allowed
-returns-clause-allowed g c = λ honest.
-    let content = g.F.Files.content c.args.files.now in
-    let read : packed_map content ≡ Some c.in_ok-packed.packed = c.in_ok-packed.ensures.found honest in
-    let free : IsFree content c.args.name.now = rw c.in_ok-packed.ensures.same at (c.in_ok-refuse_beside.ensures.free honest (rw c.in_ok-packed.ensures.same read)) in
-    let value : HasExpected content c.args.name.now c.args.expected =
-    rw (c.in_ok-refuse_beside.ensures.same, c.in_ok-packed.ensures.same) at (c.in_ok-expect_value.ensures.allowed honest (rw (c.in_ok-refuse_beside.ensures.same, c.in_ok-packed.ensures.same) read)) in
-    record { free = free; value = value }
+pub returns-in_err-set_over-clause-looks : goal.returns-in_err-set_over-clause-looks
+returns-in_err-set_over-clause-looks g c = λ honest.
+    let first = c.in_ok-packed.ensures.wear in
+    let from : TellsDevice c.from_residual-in_err-set_over.result → TellsDevice {T = Unit {0}} (Err c.in_err-set_over.field-0.0) = search rules in
+    elim (c.in_err-set_over.ensures.looks honest) [
+      | inl may ↦ inl (subst (λ (f : FileMap). MayWriteRef f c.args.name.now c.args.expected) c.in_ok-packed.ensures.same may)
+      | inr wears ↦ inr (record {
+        later = omega (arith, first.later, wears.later);
+        calm = λ can. first.calm (wears.calm can);
+        could = λ told. first.calm (wears.could (from told));
+        failed_now = λ told. fails_later first.later (wears.failed_now (from told));
+        unspent = wears.unspent ∙ first.unspent;
+      })
+    ]
 
 pub returns-clause-wear : goal.returns-clause-wear
-returns-clause-wear g c =
-    wears_then c.in_ok-packed.ensures.wear (search rules) (search rules)
-    (wears_then c.in_ok-refuse_beside.ensures.wear (search rules) (search rules)
-    (wears_then c.in_ok-expect_value.ensures.wear (search rules) (search rules) (writes_told c.put.ensures.wear (search rules) (search rules))))
+returns-clause-wear g c = wears_then c.in_ok-packed.ensures.wear (search rules) (search rules) (writes_told c.set_over.ensures.wear (search rules) (search rules))
+
+pub returns-clause-looks : goal.returns-clause-looks
+returns-clause-looks g c = λ honest.
+    let first = c.in_ok-packed.ensures.wear in
+    let never : TellsDevice {T = Unit {0}} (Ok tt) → ⊥ = search rules in
+    elim (c.in_ok-set_over.ensures.looks honest) [
+      | inl may ↦ inl (subst (λ (f : FileMap). MayWriteRef f c.args.name.now c.args.expected) c.in_ok-packed.ensures.same may)
+      | inr wears ↦ inr (record {
+        later = omega (arith, first.later, wears.later);
+        calm = λ can. first.calm (wears.calm can);
+        could = λ told. absurd (never told);
+        failed_now = λ told. absurd (never told);
+        unspent = wears.unspent ∙ first.unspent;
+      })
+    ]

@@ -1,0 +1,9 @@
+//! The commands of the program `vcs` that stage and commit: they change a clone's index, its branches and HEAD by calls of a node.
+#![tactic(auto)]
+
+mod add;
+mod adding;
+mod clone;
+
+pub use adding::add;
+pub use clone::{branch, branch_delete, commit, unstage, write_tree};

@@ -1,0 +1,167 @@
+//! What comes of one message on a connection, kept until the node reads it.
+ghost use Rattle.std.specs.Io.{ReadsAtMost};
+ghost use Rattle.std.specs.Io.KnownBytes.{ReadConsumes};
+
+use std::alloc::{AllocError, Global};
+use std::fs::{self, File};
+use std::io::{self, BufReader, BufWriter, Cursor, ErrorKind, Read, Seek, Write};
+use std::rt;
+use vc_files::Fault;
+
+// How many bytes go to a file with one write, where they come in small parts: a line of a message, and a little more.
+const PIECE: usize = 65_536;
+
+// Where the bytes are.
+#[derive(Drop)]
+enum Place<F: Write + Drop> {
+    Memory(Vec<u8>),
+    File(BufWriter<F>),
+}
+
+/// The bytes that came: in memory as long as they are few, and past that in a file with no name in the store's folder.
+#[derive(Drop)]
+pub struct Spool<R: rt::Files> {
+    rt: R,
+    // The store's folder.
+    folder: String,
+    // How many bytes are kept in memory at most. What is longer goes to a file, and of that no more than a piece is in memory.
+    short: usize,
+    place: Place<R::File>,
+    // Why bytes were lost, if any were.
+    fault: Option<Fault>,
+}
+
+impl<R: rt::Files + AllocGlobal + Clone + Drop> Spool<R> {
+    /// Nothing has come yet. What is longer than so many bytes will go to a file.
+    pub fn new(rt: &R, folder: &str, short: usize) -> Result<Spool<R>, AllocError> {
+        let alloc = rt.alloc();
+        Ok(Spool {
+            rt: rt.clone()?,
+            folder: String::from_str(alloc, folder)?,
+            short,
+            place: Place::Memory(Vec::new(alloc)),
+            fault: None,
+        })
+    }
+
+    // Keeps these bytes behind the others, or why they are lost.
+    fn push(&mut self, bytes: &[u8]) {
+        if let Err(error) = self.add(bytes) {
+            self.fault = Some(fault_of(&error));
+        }
+    }
+
+    fn add(&mut self, bytes: &[u8]) -> io::Result<()> {
+        match &mut self.place {
+            Place::Memory(held) => {
+                if held.len().saturating_add(bytes.len()) <= self.short {
+                    held.extend_from_slice(bytes)?;
+                    return Ok(());
+                }
+                let file = nameless(&self.rt, self.folder.as_str())?;
+                let mut file = BufWriter::with_capacity(self.rt.alloc(), PIECE, file)?;
+                file.write_all(held)?;
+                file.write_all(bytes)?;
+                self.place = Place::File(file);
+                Ok(())
+            }
+            Place::File(file) => file.write_all(bytes),
+        }
+    }
+
+    /// What was kept, to be read from its first byte on; or why some of it is lost.
+    pub fn finish(self) -> Result<Spooled<R::File>, Fault> {
+        let Spool {
+            rt,
+            folder: _,
+            short: _,
+            place,
+            fault,
+        } = self;
+        if let Some(fault) = fault {
+            return Err(fault);
+        }
+        match place.read_back(rt.alloc()) {
+            Ok(spooled) => Ok(spooled),
+            Err(error) => Err(fault_of(&error)),
+        }
+    }
+}
+
+impl<F: Read + Write + Seek + Drop> Place<F> {
+    fn read_back(self, alloc: Global) -> io::Result<Spooled<F>> {
+        match self {
+            Place::Memory(held) => Ok(Spooled::Memory(Cursor::new(held))),
+            Place::File(mut file) => {
+                file.rewind()?;
+                let (file, _) = file.into_parts();
+                Ok(Spooled::File(BufReader::new(alloc, file)?))
+            }
+        }
+    }
+}
+
+// Opens a file in a folder that no path leads to: it ends with the process, and no other process meets it. A stop between the
+// making of the file and the removal of its name leaves an empty file, which nothing reads and which stands in nobody's way.
+fn nameless<R: rt::Files + AllocGlobal>(rt: &R, folder: &str) -> io::Result<R::File> {
+    for number in 0..u64::MAX {
+        let path = format!(in rt.alloc(); "{folder}/incoming.{number}")?;
+        match File::create_new(rt, path.as_str()) {
+            Ok(file) => {
+                fs::remove_file(rt, path.as_str())?;
+                return Ok(file);
+            }
+            Err(error) if error.kind() == ErrorKind::AlreadyExists => {}
+            Err(error) => return Err(error),
+        }
+    }
+    Err(io::Error::from(ErrorKind::AlreadyExists))
+}
+
+/// What an error of the system is to the layers above.
+pub fn fault_of(error: &io::Error) -> Fault {
+    match error.kind() {
+        ErrorKind::OutOfMemory => Fault::Memory,
+        _ => Fault::Device,
+    }
+}
+
+/// A stream of which all that is read is kept. It hands on what the stream gives, until something of it is lost.
+#[derive(Drop)]
+pub struct Copying<S, R: rt::Files> {
+    pub stream: S,
+    pub spool: Spool<R>,
+}
+
+impl<S: Read, R: rt::Files + AllocGlobal + Clone + Drop> Read for Copying<S, R> {
+    ghost remaining = { λ copying. S.remaining copying.stream };
+
+    fn read(&mut self, buf: &mut [u8]) -> io::Result<usize>
+        ensures bound { ReadsAtMost result buf.new }
+        ensures bytes { ReadConsumes (S.remaining self.old.stream) (S.remaining self.new.stream) result buf.new }
+    {
+        // An error may take nothing from the stream, so a loss is told by the read behind it.
+        if self.spool.fault.is_some() {
+            return Err(io::Error::from(ErrorKind::Other));
+        }
+        let read = self.stream.read(buf)?;
+        self.spool.push(&buf[..read]);
+        Ok(read)
+    }
+}
+
+/// What was kept of a message, as a reader.
+#[derive(Drop)]
+pub enum Spooled<F> {
+    Memory(Cursor<Vec<u8>>),
+    File(BufReader<F>),
+}
+
+impl<F: Read> Read for Spooled<F> {
+    fn read(&mut self, buf: &mut [u8]) -> io::Result<usize> {
+        match self {
+            Spooled::Memory(held) => held.read(buf),
+            Spooled::File(file) => file.read(buf),
+        }
+    }
+}
