@@ -1,4 +1,5 @@
 pub mod Deeds
+pub mod Learning
 pub mod Quarantined
 pub mod Receiving
 pub mod Taking
