@@ -64,7 +64,7 @@ pub(crate) fn settle<R: rt::Files + AllocGlobal + Clone + Drop>(
 
 /// Makes the name of a folder durable. One that stands where nobody may look was made by somebody else.
 pub(crate) fn sync_above<R: rt::Files>(rt: &R, folder: &str) -> io::Result<()> {
-    match File::open(rt, above(folder)) {
+    match File::open(rt, above(folder.trim_end_matches('/'))) {
         Ok(above) => above.sync_all(),
         Err(e) if e.kind() == ErrorKind::PermissionDenied => Ok(()),
         Err(e) => Err(e),
