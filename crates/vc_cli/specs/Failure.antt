@@ -18,7 +18,7 @@ use Rattle.vc_node.specs.RemoteFaults.{is_fault as is_remote_fault}
 use Rattle.vc_node.specs.declared.remote_fault.RemoteFault.{RemoteFault}
 use Rattle.vc_node.specs.declared.remote_fault.RemoteFault.TheVariants as remotes
 use Rattle.vc_cli.specs.declared.failure.Failure.{Failure}
-use Rattle.vc_cli.specs.declared.failure.Failure.TheVariants.{Store, History, Refs, Usage, Fault, Syntax, Revision, Node, Remote, LocalChange, InTheWay, NotText}
+use Rattle.vc_cli.specs.declared.failure.Failure.TheVariants.{Store, History, Refs, Usage, Fault, Syntax, Revision, Node, Remote, LocalChange, InTheWay, BadPath, NotText}
 
 -- want of memory, or a device that failed
 abbrev pub IsFault : Failure → Type 0
@@ -90,5 +90,6 @@ status_of _ = 1
 abbrev pub of_checkout : CheckoutFault → Failure
 of_checkout (checkouts.LocalChange path) = LocalChange path
 of_checkout (checkouts.InTheWay path) = InTheWay path
+of_checkout (checkouts.BadPath path) = BadPath path
 of_checkout (checkouts.NotText path) = NotText path
 of_checkout (checkouts.Index fault) = Node (of_index fault)

@@ -5,10 +5,12 @@ mod ahead;
 mod beside;
 mod disk;
 mod folder;
+mod holding;
 mod listed;
 mod own;
 mod root;
 
 pub use beside::Beside;
 pub use folder::FolderTree;
+pub use holding::is_held;
 pub use own::{is_own, meets_own};
