@@ -23,9 +23,9 @@ pub struct Scene<R: Host> {
 impl<R: Host> Model for Scene<R> {
     ghost use Rattle.std.specs.Prelude.{ℕ};
 
-    ghost Value = { ℕ };
+    ghost Value = { ℕ × ℕ };
 
-    ghost view = { λ s. s.failed };
+    ghost view = { λ s. (s.failed, s.folder.1) };
 }
 
 impl<R: Host> Scene<R> {
@@ -65,8 +65,8 @@ impl<R: Host> Scene<R> {
 
     // Counts a call, and refuses the one that is to fail.
     fn pass(&mut self) -> Result<(), Fault>
-        ensures later { self.old ≤ self.new }
-        ensures device { IsErrOf result Fault.Device → HasFailed self.old self.new }
+        ensures later { self.old.0 ≤ self.new.0 }
+        ensures device { IsErrOf result Fault.Device → HasFailed self.old.0 self.new.0 }
     {
         if self.left > 0 {
             self.left -= 1;
@@ -78,8 +78,8 @@ impl<R: Host> Scene<R> {
 
     // Counts what the device failed to do.
     fn settle<T>(&mut self, done: Result<T, Fault>) -> Result<T, Fault>
-        ensures later { self.old ≤ self.new }
-        ensures device { IsErrOf result Fault.Device → HasFailed self.old self.new }
+        ensures later { self.old.0 ≤ self.new.0 }
+        ensures device { IsErrOf result Fault.Device → HasFailed self.old.0 self.new.0 }
     {
         match done {
             Ok(value) => Ok(value),
@@ -96,6 +96,7 @@ impl<R: Host> WorkTree for Scene<R> {
     ghost use Rattle.std.specs.Prelude.{⊤};
     ghost use Rattle.std.specs.FinMap as files;
     ghost use Rattle.std.specs.FinSet as set;
+    ghost use Rattle.vc_work_folder.specs.Holding.{is_held};
 
     ghost honest = { ⊥ };
 
@@ -103,11 +104,18 @@ impl<R: Host> WorkTree for Scene<R> {
 
     ghost folders = { λ _. set.empty };
 
-    ghost failed = { λ s. s };
+    ghost can_hold = { λ s path. is_held s.1 path };
+
+    ghost failed = { λ s. s.0 };
 
     ghost can_fail = { λ _. ⊤ };
 
     ghost left = { unstopped };
+
+    // The one in memory holds what the folder holds.
+    fn holds(&self, path: &[u8]) -> bool {
+        self.folder.holds(path)
+    }
 
     fn read(&mut self, alloc: Global, path: &str) -> Result<Option<Vec<u8>>, Fault> {
         self.pass()?;

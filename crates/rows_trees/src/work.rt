@@ -105,6 +105,7 @@ fn passed<T>(alloc: Global, done: Result<T, CheckoutFault>) -> Result<T> {
         Err(CheckoutFault::Index(fault)) => return given(alloc, Err(fault)),
         Err(CheckoutFault::LocalChange(path)) => ("70 LocalChange", path),
         Err(CheckoutFault::InTheWay(path)) => ("71 InTheWay", path),
+        Err(CheckoutFault::BadPath(path)) => ("60 BadPath", path),
         Err(CheckoutFault::NotText(path)) => ("72 NotText", path),
     };
     let path = escaped(alloc, &path)?;

@@ -1,5 +1,5 @@
 -- What is against a checkout, path by path.
-use Rattle.std.proofs.Common.{◌≡◌, ◌≢◌, ℕ, true, false, ◌||◌, List, ◌∷◌, map, Option, Some, None, sym, ap, refl, ◌∙◌, subst, ◌↔◌, IsTrue, ◌⊎◌, inl, inr, Result, Err, []}
+use Rattle.std.proofs.Common.{◌≡◌, ◌≢◌, ℕ, Bool, true, false, ◌||◌, List, ◌∷◌, map, Option, Some, None, sym, ap, refl, ◌∙◌, subst, ◌↔◌, IsTrue, ◌⊎◌, inl, inr, Result, Err, []}
 use Rattle.std.specs.Prelude.{Vec, is_some, IfErr}
 use Rattle.std.specs.Global.{Global}
 use Rattle.std.specs.FinMap.{get}
@@ -9,16 +9,18 @@ use Rattle.std.specs.Ordering.{nat_cmp}
 use Rattle.std.specs.Cmp.Lexicographic.{slice_cmp, nat_list_cmp_total}
 use Rattle.std.specs.declared.cmp.Ordering.TheVariants.{Less}
 use Rattle.vc_files.specs.FileMap.{FileMap}
+use Rattle.vc_files.specs.declared.faults.Fault.TheVariants.{Memory}
 use Rattle.vc_index.specs.IndexMap.{IndexMap}
 use Rattle.vc_index.specs.declared.entry.IndexEntry.{IndexEntry}
 use Rattle.vc_index.proofs.MapLemmas.{same_text, no_some}
 use Rattle.vc_checkout.specs.Refusal.{IsClear, IsDue, IsHindered, IsInTheWay, IsRefused, RefusedAt}
 use Rattle.vc_checkout.specs.WorkTree.{IsUnkept, has_path, is_same, is_listed}
 use Rattle.vc_checkout.specs.Blobs.{HasDueBlobs}
-use Rattle.vc_checkout.specs.CheckoutFault.{IsAgainst, IsFault, IsOfCheckout}
+use Rattle.vc_checkout.specs.Holding.{BlamesPath, HoldsDue, HoldsDueAt, BlamesPathAt}
+use Rattle.vc_checkout.specs.CheckoutFault.{IsAgainst, IsFault, IsMemory, IsOfCheckout}
 use Rattle.vc_object_map.specs.Store.{objects}
 use Rattle.vc_checkout.specs.declared.faults.CheckoutFault.{CheckoutFault}
-use Rattle.vc_checkout.specs.declared.faults.CheckoutFault.TheVariants.{LocalChange, InTheWay, NotText, Index}
+use Rattle.vc_checkout.specs.declared.faults.CheckoutFault.TheVariants.{LocalChange, InTheWay, NotText, BadPath, Index}
 use Rattle.vc_checkout.proofs.PathSetLemmas.{Paths, set_paths}
 use Rattle.vc_checkout.proofs.ApplyLemmas.{none_some}
 
@@ -110,13 +112,24 @@ no_fault : (e : CheckoutFault) → IsAgainst e → IsFault e → ⊥
 no_fault (LocalChange at) against (cause, is) = cc is
 no_fault (InTheWay at) against (cause, is) = cc is
 no_fault (NotText at) against (cause, is) = cc is
+no_fault (BadPath at) against told = absurd against
 no_fault (Index fault) against told = absurd against
 
-pub of_check : (honest : Type 0) (work content : FileMap) (index tree : IndexMap) (e : CheckoutFault) → HasDueBlobs (objects content) index tree
-    → IsFault e ⊎ IsAgainst e → (honest → IsFault e ⊎ IsRefused index tree work e) → IsOfCheckout honest work content index tree e
-of_check honest work content index tree e blobs (inl fault) told = inl fault
-of_check honest work content index tree e blobs (inr against) told = inr (inr (against, blobs, λ h. refused (told h)))
+pub of_check : (honest : Type 0) (can_hold : List ℕ → Bool) (work content : FileMap) (index tree : IndexMap) (e : CheckoutFault) → HoldsDue can_hold index tree → HasDueBlobs (objects content) index tree
+    → IsFault e ⊎ IsAgainst e → (honest → IsFault e ⊎ IsRefused index tree work e) → IsOfCheckout honest can_hold work content index tree e
+of_check honest can_hold work content index tree e holds blobs (inl fault) told = inl fault
+of_check honest can_hold work content index tree e holds blobs (inr against) told = inr (inr (holds, inr (against, blobs, λ h. refused (told h))))
   where
     refused : IsFault e ⊎ IsRefused index tree work e → IsRefused index tree work e
     refused (inl fault) = absurd (no_fault e against fault)
     refused (inr is) = is
+
+pub of_held : (honest : Type 0) (can_hold : List ℕ → Bool) (work content : FileMap) (index tree : IndexMap) (e : CheckoutFault)
+    → IsMemory e ⊎ BlamesPath can_hold index tree e → IsOfCheckout honest can_hold work content index tree e
+of_held honest can_hold work content index tree e (inl memory) = inl (Memory, memory)
+of_held honest can_hold work content index tree e (inr blames) = inr (inl blames)
+
+-- the first path that can't be held
+pub first_unheld : (can_hold : List ℕ → Bool) (index tree : IndexMap) (before rest : List (List ℕ)) (k : List ℕ) (fault : CheckoutFault) → before ≡ k ∷ rest → IsStrictlySortedBy (slice_cmp nat_cmp) before
+    → Holds (HoldsDueAt can_hold index tree) before → BlamesPathAt can_hold index tree k fault → BlamesPath can_hold index tree fault
+first_unheld can_hold index tree before rest k fault first sorted so blames = (k, blames, holds_before (HoldsDueAt can_hold index tree) before rest k first sorted so)

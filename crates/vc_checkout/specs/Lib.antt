@@ -6,6 +6,7 @@ pub mod CheckoutFault
 pub mod Devices
 pub mod Heads
 pub mod Refusal
+pub mod Holding
 pub mod CheckedOut
 pub mod FoldersAfter
 pub mod Steps

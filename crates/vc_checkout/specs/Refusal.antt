@@ -12,7 +12,7 @@ use Rattle.vc_index.specs.Path.{IsAbove}
 use Rattle.vc_index.specs.declared.entry.IndexEntry.{IndexEntry}
 use Rattle.vc_checkout.specs.WorkTree.{blob_name, IsUnkept}
 use Rattle.vc_checkout.specs.declared.faults.CheckoutFault.{CheckoutFault}
-use Rattle.vc_checkout.specs.declared.faults.CheckoutFault.TheVariants.{LocalChange, InTheWay, NotText, Index}
+use Rattle.vc_checkout.specs.declared.faults.CheckoutFault.TheVariants.{LocalChange, InTheWay, NotText, BadPath, Index}
 
 -- what the tree has at a path has to be written: the index has nothing there, or something else
 abbrev pub IsDue : Option IndexEntry → Option IndexEntry → Type 0
@@ -66,6 +66,7 @@ RefusedAt index tree work path (NotText at) = (at.items ≡ path) × IsNotText i
 RefusedAt index tree work path (LocalChange at) = (at.items ≡ path) × (IsNotText index tree path → ⊥) × HasLocalChange (get index path) (get tree path) (get work path)
 RefusedAt index tree work path (InTheWay at) =
     (at.items ≡ path) × (IsNotText index tree path → ⊥) × (HasLocalChange (get index path) (get tree path) (get work path) → ⊥) × IsInTheWay index tree work path
+RefusedAt index tree work path (BadPath at) = ⊥
 RefusedAt index tree work path (Index fault) = ⊥
 
 -- the first cause at the first path by bytes that has one

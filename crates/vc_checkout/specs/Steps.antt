@@ -1,6 +1,6 @@
 -- What the steps of a checkout do to a work tree as one value, where `content` is what its files hold and `folders` what folders
 -- it has of themselves.
-use Rattle.std.specs.Prelude.{◌≡◌, ◌⊎◌, ℕ, List, Option}
+use Rattle.std.specs.Prelude.{◌≡◌, ◌⊎◌, ℕ, Bool, List, Option}
 use Rattle.std.specs.FinMap.{get}
 use Rattle.vc_files.specs.FileMap.{FileMap}
 use Rattle.vc_object.specs.ObjectMap.{ObjectMap}
@@ -9,6 +9,7 @@ use Rattle.vc_checkout.specs.Blobs.{HasDueBlobs}
 use Rattle.vc_checkout.specs.CheckedOut.{IsCheckedOut, IsCleared, IsOldOrCheckedOut, IsWritten, StepAt, StepOrNone}
 use Rattle.vc_checkout.specs.Folders.{AreFolders, Folders, IsFolder}
 use Rattle.vc_checkout.specs.FoldersAfter.{AreBetween, AreFoldersBegun, GivesWay, IsFolderAfter, IsLeft, IsLeftBy, IsLinked, IsMadeFor}
+use Rattle.vc_checkout.specs.Holding.{HoldsDue}
 use Rattle.vc_checkout.specs.Refusal.{IsClear, IsDue}
 use Rattle.vc_checkout.specs.WorkTree.{AreApart, StandsAlone}
 
@@ -104,8 +105,9 @@ IsUntouched content folders old new = (content new ≡ content old) × (folders 
 abbrev pub IsUnwritten : {W : Type 0} → (W → FileMap) → (W → Folders) → (W → Option ℕ) → W → W → Type 0
 IsUnwritten content folders left old new = IsUntouched content folders old new × (left new ≡ left old)
 
--- Each blob that is due is there, and nothing is against the checkout at any path.
-pub record IsAllowed (objects : ObjectMap) (index tree : IndexMap) (work : FileMap) : Type 0 where
+-- All that is due can be held, each blob that is due is there, and nothing is against the checkout at any path.
+pub record IsAllowed (can_hold : List ℕ → Bool) (objects : ObjectMap) (index tree : IndexMap) (work : FileMap) : Type 0 where
+  pub holds : HoldsDue can_hold index tree
   pub blobs : HasDueBlobs objects index tree
   pub clear : (path : List ℕ) → IsClear index tree work path
 
@@ -118,8 +120,8 @@ pub record Brings {W : Type 0} (content : W → FileMap) (held : W → Folders) 
 
 -- Each path has its old file or its new one, no folder is gone or made that would not have been, no file came to lie below
 -- another one, and nothing was written but where the checkout was allowed.
-pub record BringsPart {W : Type 0} (content : W → FileMap) (held : W → Folders) (left : W → Option ℕ) (objects : ObjectMap) (index tree : IndexMap) (old new : W) : Type 0 where
+pub record BringsPart {W : Type 0} (content : W → FileMap) (held : W → Folders) (left : W → Option ℕ) (can_hold : W → List ℕ → Bool) (objects : ObjectMap) (index tree : IndexMap) (old new : W) : Type 0 where
   pub files : (path : List ℕ) → IsOldOrCheckedOut objects index tree (content old) (content new) path
   pub folders : AreFoldersBegun index tree (content old) (held old) (content new) (held new)
   pub apart : AreApart (content old) → AreApart (content new)
-  pub allowed : IsUnwritten content held left old new ⊎ IsAllowed objects index tree (content old)
+  pub allowed : IsUnwritten content held left old new ⊎ IsAllowed (can_hold old) objects index tree (content old)

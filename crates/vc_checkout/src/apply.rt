@@ -11,12 +11,14 @@ ghost use Rattle.vc_checkout.specs.CheckedOut.{file_of, left_of};
 ghost use Rattle.vc_checkout.specs.CheckoutFault.{IsFault, IsOfCheckout, TellsDevice};
 ghost use Rattle.vc_checkout.specs.Devices.{WearsEither};
 ghost use Rattle.vc_checkout.specs.FoldersAfter.{GivesWayBy, IsFolderFor, IsLeftBy, IsLink, IsMadeBy, TakesPlace};
+ghost use Rattle.vc_checkout.specs.Holding.{HoldsDue};
 ghost use Rattle.vc_checkout.specs.Refusal.{IsClear, IsDue};
 ghost use Rattle.vc_checkout.specs.Steps.{Brings, BringsPart, ChangesFolders, Clears, Does, EndsFolders, GivesWayAt, IsClearedAt, IsLeftAt, IsLinkedAt, IsMadeAt, IsUnwritten, IsWrittenAt, LosesFolders, MayChangeFolders, MayClear, MayDo, MayLoseFolders, MayWriteDue, WritesDue};
 ghost use Rattle.vc_checkout.specs.WorkTree.{HasTextPaths};
 
 use crate::blobs::{blob_of, check_blobs};
 use crate::clear::check_all;
+use crate::holding::check_held;
 use crate::paths::folder_of;
 use crate::{CheckoutFault, WorkTree};
 use std::alloc::Global;
@@ -213,8 +215,9 @@ fn write_all<T: WorkTree, F: Files>(
 /// Brings the work tree from the files of an index to those of another one, such as `Index::list_tree` answers of a tree.
 ///
 /// A path of the tree is due if the index has nothing there, or something else. Before the first write, over the paths of
-/// the tree in the order of their bytes: 40 and 63 are a file or a link that is due and whose blob is absent or no blob, 12
-/// one whose blob is damaged; no other blob is opened. Then, over the paths of both in that order, and at each path in this
+/// the tree in the order of their bytes: 60 is a due path that the work tree can't hold. Then, in the same order: 40 and 63
+/// are a file or a link that is due and whose blob is absent or no blob, 12 one whose blob is damaged; no other blob is
+/// opened. Then, over the paths of both in that order, and at each path in this
 /// one: 72 is a due path that is not UTF-8; 70 is a file that the index has and the tree lacks or has otherwise, and whose
 /// content is neither of the two; 71 is a file that the index lacks, or that lies where it has a commit of another
 /// repository, in the place of a due path: at the path with another content, above it or below it. Contents are compared
@@ -234,14 +237,16 @@ pub fn checkout<T: WorkTree, F: Files>(
     tree: &Index,
 ) -> Result<(), CheckoutFault>
     ensures brought { T.honest → F.honest → OnOk result (Brings T.content T.folders (objects (F.content files.old)) index.now tree.now work.old work.new) }
+    ensures holds { OnOk result (HoldsDue (T.can_hold work.old) index.now tree.now) }
     ensures blobs { F.honest → OnOk result (HasDueBlobs (objects (F.content files.old)) index.now tree.now) }
     ensures clear { T.honest → OnOk result ((path : List ℕ) → IsClear index.now tree.now (T.content work.old) path) }
-    ensures refused { F.honest → IfErr result (IsOfCheckout T.honest (T.content work.old) (F.content files.old) index.now tree.now) }
+    ensures refused { F.honest → IfErr result (IsOfCheckout T.honest (T.can_hold work.old) (T.content work.old) (F.content files.old) index.now tree.now) }
     ensures unchanged { F.honest → IfErr result (λ e. IsFault e ⊎ IsUnwritten T.content T.folders T.left work.old work.new) }
-    ensures begun { T.honest → F.honest → OnErr result (BringsPart T.content T.folders T.left (objects (F.content files.old)) index.now tree.now work.old work.new) }
+    ensures begun { T.honest → F.honest → OnErr result (BringsPart T.content T.folders T.left T.can_hold (objects (F.content files.old)) index.now tree.now work.old work.new) }
     ensures files { F.content files.new ≡ F.content files.old }
     ensures wear { WearsEither T.failed T.can_fail unstopped F.failed F.can_fail F.left work.old work.new files.old files.new (TellsDevice result) }
 {
+    check_held(alloc, work, index, tree)?;
     check_blobs(alloc, files, index, tree)?;
     check_all(alloc, work, index, tree)?;
     clear_all(alloc, work, index, tree)?;

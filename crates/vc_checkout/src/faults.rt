@@ -18,6 +18,8 @@ pub enum CheckoutFault {
     /// 71: a file that the index lacks, or that lies where it has a commit of another repository, stands where the file
     /// with this path is to be written.
     InTheWay(Vec<u8>),
+    /// 60: the work tree can't hold what is due at this path.
+    BadPath(Vec<u8>),
     /// 72: a file with this path, which is not UTF-8, can't be written.
     NotText(Vec<u8>),
     /// What the reading of the tree answered, and every fault.

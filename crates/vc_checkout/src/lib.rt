@@ -8,6 +8,7 @@ mod clear;
 mod compare;
 mod faults;
 mod hindrance;
+mod holding;
 mod memory;
 mod paths;
 mod work;

@@ -119,7 +119,7 @@ fn note_folder(alloc: Global, folders: &mut BTreeSet<String>, path: &str) -> Res
 }
 
 impl WorkTree for MemoryTree {
-    ghost use Rattle.std.specs.Prelude.{ℕ, ⊤};
+    ghost use Rattle.std.specs.Prelude.{ℕ, ⊤, true};
 
     ghost honest = { ⊤ };
 
@@ -127,11 +127,17 @@ impl WorkTree for MemoryTree {
 
     ghost folders = { λ s. s.1 };
 
+    ghost can_hold = { λ _ _. true };
+
     ghost failed = { λ _. 0 };
 
     ghost can_fail = { λ _. ⊥ };
 
     ghost left = { unstopped };
+
+    fn holds(&self, _path: &[u8]) -> bool {
+        true
+    }
 
     fn read(&mut self, alloc: Global, path: &str) -> Result<Option<Vec<u8>>, Fault> {
         let Some(bytes) = self.files.get(path) else {

@@ -1,5 +1,5 @@
 // What a checkout knows of a work tree.
-ghost use Rattle.std.specs.Prelude.{◌≡◌, ◌≢◌, ◌⊎◌, ◌↔◌, ℕ, Option, map, IfOk, OnOk, OnErr, IsErrOf, false, option_map, string_bytes};
+ghost use Rattle.std.specs.Prelude.{◌≡◌, ◌≢◌, ◌⊎◌, ◌↔◌, ℕ, Bool, List, Option, map, IfOk, OnOk, OnErr, IsErrOf, false, option_map, string_bytes};
 ghost use Rattle.std.specs.FinMap as files;
 ghost use Rattle.vc_files.specs.FileMap.{FileMap};
 ghost use Rattle.vc_files.specs.Failures.{Spends, Wears, unstopped};
@@ -24,6 +24,9 @@ pub trait WorkTree {
     /// The folders that are there of themselves. One in which something lies is there by what lies in it.
     ghost folders: { Self → Folders };
 
+    /// Whether a file can have the path here, and a folder.
+    ghost can_hold: { Self → List ℕ → Bool };
+
     /// How often the device has failed.
     ghost failed: { Self → ℕ };
 
@@ -33,6 +36,10 @@ pub trait WorkTree {
     /// How many more writes the device takes before it stops, or none where no stop is set. A call that looks spends none
     /// of them, and one that writes and is done spends one, also where it changes nothing.
     ghost left: { Self → Option ℕ };
+
+    /// Whether a file can have the path here, and a folder: this looks at no file, and is asked before anything is written.
+    fn holds(&self, path: &[u8]) -> bool
+        ensures { result ≡ can_hold self.now path.now };
 
     /// The bytes of a file, or none where no file has the path.
     fn read(&mut self, alloc: Global, path: &str) -> Result<Option<Vec<u8>>, Fault>

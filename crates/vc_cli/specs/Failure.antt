@@ -14,7 +14,7 @@ use Rattle.vc_checkout.specs.declared.faults.CheckoutFault.TheVariants as checko
 use Rattle.vc_local.specs.NodeFault.{IsOfDevice as IsOfNodeDevice, is_device, is_fault, of_index}
 use Rattle.vc_local.specs.declared.fault.NodeFault.{NodeFault}
 use Rattle.vc_cli.specs.declared.failure.Failure.{Failure}
-use Rattle.vc_cli.specs.declared.failure.Failure.TheVariants.{Store, History, Refs, Usage, Fault, Syntax, Revision, Node, LocalChange, InTheWay, NotText}
+use Rattle.vc_cli.specs.declared.failure.Failure.TheVariants.{Store, History, Refs, Usage, Fault, Syntax, Revision, Node, LocalChange, InTheWay, BadPath, NotText}
 
 -- want of memory, or a device that failed
 abbrev pub IsFault : Failure → Type 0
@@ -80,5 +80,6 @@ status_of _ = 1
 abbrev pub of_checkout : CheckoutFault → Failure
 of_checkout (checkouts.LocalChange path) = LocalChange path
 of_checkout (checkouts.InTheWay path) = InTheWay path
+of_checkout (checkouts.BadPath path) = BadPath path
 of_checkout (checkouts.NotText path) = NotText path
 of_checkout (checkouts.Index fault) = Node (of_index fault)

@@ -2,10 +2,11 @@
 use Rattle.std.specs.Io.KnownBytes.{Appends}
 use Rattle.std.specs.Prelude.{ℕ, Bool, if◌then◌else◌, List, [], ◌∷◌, ◌++◌, Option, None, Some, codes, string_bytes}
 use Rattle.vc_local.specs.Printed.{node_fault_text}
+use Rattle.vc_local.specs.declared.fault.NodeFault.TheVariants as node
 use Rattle.vc_expression.specs.Printed.{parse_fault_text}
 use Rattle.vc_rev.specs.Printed.{rev_fault_text}
 use Rattle.vc_cli.specs.declared.failure.Failure.{Failure}
-use Rattle.vc_cli.specs.declared.failure.Failure.TheVariants.{LocalChange, InTheWay, NotText, NoSuchPath, Node, Revision, Syntax, BadScript, Usage}
+use Rattle.vc_cli.specs.declared.failure.Failure.TheVariants.{LocalChange, InTheWay, BadPath, NotText, NoSuchPath, Node, Revision, Syntax, BadScript, Usage}
 use Rattle.vc_cli.specs.declared.faults.Faults.{Faults}
 
 -- what a failure is printed as; what the objects, the store, the walks, the names and the refs print is claimed nowhere
@@ -15,6 +16,7 @@ failure_text (Revision fault) = rev_fault_text fault
 failure_text (Node fault) = node_fault_text fault
 failure_text (LocalChange path) = Some (codes "70 LocalChange")
 failure_text (InTheWay path) = Some (codes "71 InTheWay")
+failure_text (BadPath path) = node_fault_text node.BadPath
 failure_text (NotText path) = Some (codes "72 NotText")
 failure_text NoSuchPath = Some (codes "56 NoSuchPath")
 failure_text BadScript = Some (codes "114 BadScript")

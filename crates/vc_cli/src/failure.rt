@@ -42,6 +42,8 @@ pub enum Failure {
     /// A file that the index lacks, or that lies where it has a commit of another repository, stands in the way of what is due
     /// at this path.
     InTheWay(Vec<u8>),
+    /// The work tree can't hold what is due at this path.
+    BadPath(Vec<u8>),
     /// This path is not UTF-8, so no file can have it.
     NotText(Vec<u8>),
     /// There is no such file, or it can't be read.
@@ -105,6 +107,7 @@ impl fmt::Display for Failure {
             Failure::Node(fault) => fmt::Display::fmt(fault, f),
             Failure::LocalChange(_) => f.write_str("70 LocalChange"),
             Failure::InTheWay(_) => f.write_str("71 InTheWay"),
+            Failure::BadPath(_) => fmt::Display::fmt(&NodeFault::BadPath, f),
             Failure::NotText(_) => f.write_str("72 NotText"),
             Failure::NoSuchPath => fmt::Display::fmt(&Refusal::NoSuchPath, f),
             Failure::Object(fault) => fmt::Display::fmt(fault, f),
@@ -138,7 +141,8 @@ impl Failure {
     {
         match self {
             Failure::NoSuchPath | Failure::Object(_) | Failure::Name(_) | Failure::BadScript => 1,
-            Failure::LocalChange(_) | Failure::InTheWay(_) | Failure::NotText(_) => 1,
+            Failure::LocalChange(_) | Failure::InTheWay(_) => 1,
+            Failure::BadPath(_) | Failure::NotText(_) => 1,
             Failure::Refused(_) | Failure::ReadFailed | Failure::WriteFailed => 1,
             Failure::Unread(_) | Failure::Unexpected | Failure::Incomplete(_) => 1,
             Failure::Node(fault) => node_status(fault),
@@ -306,6 +310,7 @@ impl From<CheckoutFault> for Failure {
         match fault {
             CheckoutFault::LocalChange(path) => Failure::LocalChange(path),
             CheckoutFault::InTheWay(path) => Failure::InTheWay(path),
+            CheckoutFault::BadPath(path) => Failure::BadPath(path),
             CheckoutFault::NotText(path) => Failure::NotText(path),
             CheckoutFault::Index(fault) => Failure::from(fault),
         }

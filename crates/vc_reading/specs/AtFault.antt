@@ -18,7 +18,7 @@ use Rattle.vc_rev.specs.declared.refusal.SourceFault.TheVariants as sources
 use Rattle.vc_object_map.specs.declared.faults.StoreFault.{StoreFault}
 use Rattle.vc_object_map.specs.declared.faults.StoreFault.TheVariants as stores
 use Rattle.vc_cli.specs.declared.failure.Failure.{Failure}
-use Rattle.vc_cli.specs.declared.failure.Failure.TheVariants.{LocalChange, InTheWay, NotText, Node, Revision, Store, History, Refs, Unread, Incomplete}
+use Rattle.vc_cli.specs.declared.failure.Failure.TheVariants.{LocalChange, InTheWay, BadPath, NotText, Node, Revision, Store, History, Refs, Unread, Incomplete}
 
 -- a byte by three octal digits behind a backslash
 abbrev pub octal : ℕ → List ℕ
@@ -96,6 +96,7 @@ of_message _ = None
 abbrev pub of_failure : Failure → Option (List ℕ)
 of_failure (LocalChange path) = named path.items
 of_failure (InTheWay path) = named path.items
+of_failure (BadPath path) = named path.items
 of_failure (NotText path) = named path.items
 of_failure (Node fault) = of_node fault
 of_failure (Revision fault) = of_revision fault

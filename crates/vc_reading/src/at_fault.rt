@@ -65,9 +65,8 @@ pub fn named_by(alloc: Global, failure: &Failure) -> Result<Option<Vec<u8>>, All
     ensures { IfOk result (IsPlace (of_failure failure.now)) }
 {
     match failure {
-        Failure::LocalChange(path) | Failure::InTheWay(path) | Failure::NotText(path) => {
-            bytes_at(alloc, path)
-        }
+        Failure::LocalChange(path) | Failure::InTheWay(path) => bytes_at(alloc, path),
+        Failure::BadPath(path) | Failure::NotText(path) => bytes_at(alloc, path),
         Failure::Node(fault) => named_by_node(alloc, fault),
         Failure::Revision(fault) => named_by_revision(alloc, fault),
         Failure::Store(fault) => named_by_store(alloc, fault),

@@ -1,10 +1,11 @@
 // A work tree in a real folder. Nothing is claimed of a disk.
-ghost use Rattle.std.specs.Prelude.{◌≡◌, ◌≤◌, IsErrOf};
+ghost use Rattle.std.specs.Prelude.{◌≡◌, ◌≤◌, IsErrOf, length, string_bytes};
 ghost use Rattle.vc_files.specs.Failures.{HasFailed, unstopped};
 
 use crate::ahead::Ahead;
 use crate::beside::Beside;
 use crate::disk::Disk;
+use crate::holding::is_held;
 use crate::listed::Listed;
 use crate::root::Root;
 use crate::way::Way;
@@ -32,6 +33,9 @@ use vc_object::ObjectId;
 /// row. So what somebody changes meanwhile may be seen as it was a moment before it was asked for; a write through here is always
 /// seen.
 ///
+/// A path that the system doesn't take here (a part over 255 bytes, a byte 0, over 4,095 bytes with the folder's own path) has
+/// no file: `holds` says so, nothing is read or removed there, and a write there is a fault.
+///
 /// A file is written whole into the folder of the store, as `checkout.lock`, and then renamed onto its path, which replaces
 /// a file or a link at once. So whenever a process is killed, no file of the work tree is cut short, and a write that fails
 /// leaves the file or the link that stood there. What a killed process left as `checkout.lock` is removed by the next write.
@@ -42,25 +46,28 @@ use vc_object::ObjectId;
 #[derive(Drop)]
 pub struct FolderTree<R: rt::Files + AllocGlobal + Clone + Drop> {
     disk: Disk<R>,
+    // How many bytes the folder's own path has.
+    above: usize,
     failed: u64,
 }
 
 impl<R: rt::Files + AllocGlobal + Clone + Drop> Model for FolderTree<R> {
     ghost use Rattle.std.specs.Prelude.{ℕ};
 
-    ghost Value = { ℕ };
+    ghost Value = { ℕ × ℕ };
 
-    ghost view = { λ s. s.failed };
+    ghost view = { λ s. (s.failed, s.above) };
 }
 
 impl<R: rt::Files + Beside<R> + AllocGlobal + Clone + Drop> FolderTree<R> {
     /// The work tree in the folder with this path. `own` is the path that the folder of its store has in it, empty where it
     /// lies elsewhere. `store` is where that folder is, and it is there when a file is written.
     pub fn new(rt: R, path: String, own: String, store: String) -> Self
-        ensures { result ≡ 0 }
+        ensures { result ≡ (0, length (string_bytes path)) }
     {
         let alloc = rt.alloc();
         let listed = Listed::new(alloc, Vec::new(alloc));
+        let above = path.len();
         FolderTree {
             disk: Disk {
                 root: Root { rt, path, own },
@@ -69,14 +76,15 @@ impl<R: rt::Files + Beside<R> + AllocGlobal + Clone + Drop> FolderTree<R> {
                 ahead: Ahead::new(alloc),
                 way: Way::new(alloc),
             },
+            above,
             failed: 0,
         }
     }
 
     // Counts what the device failed to do.
     fn settle<T: Drop>(&mut self, done: io::Result<T>) -> Result<T, Fault>
-        ensures later { self.old ≤ self.new }
-        ensures device { IsErrOf result Fault.Device → HasFailed self.old self.new }
+        ensures later { self.old.0 ≤ self.new.0 }
+        ensures device { IsErrOf result Fault.Device → HasFailed self.old.0 self.new.0 }
     {
         match done {
             Ok(value) => Ok(value),
@@ -85,8 +93,8 @@ impl<R: rt::Files + Beside<R> + AllocGlobal + Clone + Drop> FolderTree<R> {
     }
 
     fn fault(&mut self, e: io::Error) -> Fault
-        ensures later { self.old ≤ self.new }
-        ensures device { result ≡ Fault.Device → HasFailed self.old self.new }
+        ensures later { self.old.0 ≤ self.new.0 }
+        ensures device { result ≡ Fault.Device → HasFailed self.old.0 self.new.0 }
     {
         if e.kind() == ErrorKind::OutOfMemory {
             return Fault::Memory;
@@ -100,6 +108,7 @@ impl<R: rt::Files + Beside<R> + AllocGlobal + Clone + Drop> WorkTree for FolderT
     ghost use Rattle.std.specs.Prelude.{⊤};
     ghost use Rattle.std.specs.FinMap as files;
     ghost use Rattle.std.specs.FinSet as set;
+    ghost use Rattle.vc_work_folder.specs.Holding.{is_held};
 
     ghost honest = { ⊥ };
 
@@ -107,11 +116,17 @@ impl<R: rt::Files + Beside<R> + AllocGlobal + Clone + Drop> WorkTree for FolderT
 
     ghost folders = { λ _. set.empty };
 
-    ghost failed = { λ s. s };
+    ghost can_hold = { λ s path. is_held s.1 path };
+
+    ghost failed = { λ s. s.0 };
 
     ghost can_fail = { λ _. ⊤ };
 
     ghost left = { unstopped };
+
+    fn holds(&self, path: &[u8]) -> bool {
+        is_held(self.above, path)
+    }
 
     fn read(&mut self, alloc: Global, path: &str) -> Result<Option<Vec<u8>>, Fault> {
         let done = self.disk.read(alloc, path);

@@ -5,6 +5,7 @@ mod ahead;
 mod beside;
 mod disk;
 mod folder;
+mod holding;
 mod listed;
 mod own;
 mod root;
@@ -12,4 +13,5 @@ mod way;
 
 pub use beside::Beside;
 pub use folder::FolderTree;
+pub use holding::is_held;
 pub use own::{is_own, meets_own};

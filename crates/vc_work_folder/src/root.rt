@@ -181,11 +181,14 @@ fn is_git(path: &str) -> bool {
     first.eq_ignore_ascii_case(".git")
 }
 
-/// Whether no file has the path: nothing stands there, a folder does, or a file stands where a folder of the path
-/// should.
+/// Whether no file has the path: nothing stands there, a folder does, a file stands where a folder of the path should, or the
+/// system takes no such path.
 pub fn is_absence(e: &io::Error) -> bool {
     matches!(
         e.kind(),
-        ErrorKind::NotFound | ErrorKind::NotADirectory | ErrorKind::IsADirectory
+        ErrorKind::NotFound
+            | ErrorKind::NotADirectory
+            | ErrorKind::IsADirectory
+            | ErrorKind::InvalidFilename
     )
 }

@@ -33,7 +33,7 @@ use Rattle.vc_working.specs.CloneWords.{branch_ref}
 use Rattle.vc_working.specs.Checkout.{HasOwn, IsDetached, IsOfCommit, IsOfDetached, IsOfTarget, IsOfTreeList, IsOnBranch, IsReadable, IsTarget, MayBring, RefusesCheckout, peeled}
 use Rattle.vc_cli.specs.Revisions.{Denoted}
 use Rattle.vc_cli.specs.declared.failure.Failure.{Failure}
-use Rattle.vc_working.specs.Checkout.RefusesCheckout.{of_fault, of_work}
+use Rattle.vc_working.specs.Checkout.RefusesCheckout.{of_fault, of_path, of_work}
 use Rattle.vc_cli.specs.Failure.{of_checkout, status_of}
 use Rattle.vc_working.specs.StatusLines.{IsHeadTree, RefusesStatus}
 use Rattle.vc_working.specs.StatusLines.RefusesStatus.{by_fault, by_tree}
@@ -124,14 +124,15 @@ head_tree_is content tree commit root readable value told is = record {
 }
 
 -- what refuses a checkout of the work tree, where all that comes before was good
-pub refused_work : (honest : Type 0) (own revision : List ℕ) (content m work : FileMap) (index tree : IndexMap) (head : Head) (cause : CheckoutFault)
-    → MayBring own revision content index head tree → m ≡ content → IsOfCheckout honest work m index tree cause → RefusesCheckout honest own revision content work (of_checkout cause)
-refused_work honest own revision content m work index tree head cause may same is = by (subst (λ (f : FileMap). IsOfCheckout honest work f index tree cause) same is)
+pub refused_work : (honest : Type 0) (can_hold : List ℕ → Bool) (own revision : List ℕ) (content m work : FileMap) (index tree : IndexMap) (head : Head) (cause : CheckoutFault)
+    → MayBring own revision content index head tree → m ≡ content → IsOfCheckout honest can_hold work m index tree cause → RefusesCheckout honest can_hold own revision content work (of_checkout cause)
+refused_work honest can_hold own revision content m work index tree head cause may same is = by (subst (λ (f : FileMap). IsOfCheckout honest can_hold work f index tree cause) same is)
   where
-    by : IsOfCheckout honest work content index tree cause → RefusesCheckout honest own revision content work (of_checkout cause)
+    by : IsOfCheckout honest can_hold work content index tree cause → RefusesCheckout honest can_hold own revision content work (of_checkout cause)
     by (inl (fault, at)) = of_fault (ap (λ (c : CheckoutFault). status_of (of_checkout c)) at)
-    by (inr (inl (e, at, blames))) = of_work index head tree may (inl (e, ap of_checkout at, blames))
-    by (inr (inr against)) = of_work index head tree may (inr (cause, refl, against.0, against.1, against.2))
+    by (inr (inl blames)) = of_path index head tree may (cause, refl, blames)
+    by (inr (inr (holds, inl (e, at, blames)))) = of_work index head tree may holds (inl (e, ap of_checkout at, blames))
+    by (inr (inr (holds, inr against))) = of_work index head tree may holds (inr (cause, refl, against.0, against.1, against.2))
 
 -- what refuses a status behind HEAD's tree
 pub refused_status : (honest : Type 0) → honest → (content m : FileMap) (index : IndexMap) (tree : Option ObjectId) (cause : CheckoutFault)

@@ -1,5 +1,5 @@
 -- What a checkout brings, what it leaves, and why it is refused.
-use Rattle.std.specs.Prelude.{◌≡◌, ◌⊎◌, ℕ, List, [], ◌∷◌, ◌++◌, ⊤, Option, Some, Ok, Err, MatchOption, codes, true, false}
+use Rattle.std.specs.Prelude.{◌≡◌, ◌⊎◌, ℕ, Bool, List, [], ◌∷◌, ◌++◌, ⊤, Option, Some, Ok, Err, MatchOption, codes, true, false}
 use Rattle.std.specs.FinMap.{insert}
 use Rattle.hex.specs.Hex.{encode_lower}
 use Rattle.vc_files.specs.FileMap.{FileMap}
@@ -24,6 +24,7 @@ use Rattle.vc_index.specs.declared.faults.IndexFault.{IndexFault}
 use Rattle.vc_checkout.specs.Blobs.{BlamesBlobs, HasDueBlobs}
 use Rattle.vc_checkout.specs.Folders.{Folders}
 use Rattle.vc_checkout.specs.CheckoutFault.{IsAgainst}
+use Rattle.vc_checkout.specs.Holding.{BlamesPath, HoldsDue}
 use Rattle.vc_checkout.specs.Refusal.{IsClear, IsRefused}
 use Rattle.vc_checkout.specs.Steps.{Brings, BringsPart, IsUnwritten}
 use Rattle.vc_checkout.specs.declared.faults.CheckoutFault.{CheckoutFault}
@@ -90,13 +91,14 @@ pub record MayBring (own revision : List ℕ) (content : FileMap) (index : Index
   pub lists : ListsAs (objects content) root (Ok tree)
   pub apart : IsApart (objects content) root own
 
--- Nothing of the work tree was against it; the work tree has the files and the folders that a checkout leaves, the index is the
--- tree's, and HEAD is the target.
-pub record ChecksOut {W : Type 0} (content : W → FileMap) (held : W → Folders) (own revision : List ℕ) (old new : FileMap) (was now : W) : Type 0 where
+-- The work tree can hold all that was due, and nothing of it was against the checkout; it has the files and the folders that one
+-- leaves, the index is the tree's, and HEAD is the target.
+pub record ChecksOut {W : Type 0} (content : W → FileMap) (held : W → Folders) (can_hold : W → List ℕ → Bool) (own revision : List ℕ) (old new : FileMap) (was now : W) : Type 0 where
   pub index : IndexMap
   pub head : Head
   pub tree : IndexMap
   pub before : MayBring own revision old index head tree
+  pub holds : HoldsDue (can_hold was) index tree
   pub blobs : HasDueBlobs (objects old) index tree
   pub clear : (path : List ℕ) → IsClear index tree (content was) path
   pub brought : Brings content held (objects old) index tree was now
@@ -115,12 +117,12 @@ pub record LeavesHead {W : Type 0} (honest : Type 0) (content : W → FileMap) (
   pub written : new ≡ insert old (codes "index") (index_text tree)
 
 -- a tree that may be brought was brought in part, or all of it
-pub record BringsSome {W : Type 0} (content : W → FileMap) (held : W → Folders) (left : W → Option ℕ) (own revision : List ℕ) (old : FileMap) (was now : W) : Type 0 where
+pub record BringsSome {W : Type 0} (content : W → FileMap) (held : W → Folders) (left : W → Option ℕ) (can_hold : W → List ℕ → Bool) (own revision : List ℕ) (old : FileMap) (was now : W) : Type 0 where
   pub index : IndexMap
   pub head : Head
   pub tree : IndexMap
   pub before : MayBring own revision old index head tree
-  pub brought : BringsPart content held left (objects old) index tree was now ⊎ Brings content held (objects old) index tree was now
+  pub brought : BringsPart content held left can_hold (objects old) index tree was now ⊎ Brings content held (objects old) index tree was now
 
 -- the file of the index spells none
 abbrev pub IsOfIndex : FileMap → Failure → Type 0
@@ -180,6 +182,10 @@ abbrev pub IsOfOwn : FileMap → ObjectId → List ℕ → Failure → Type 0
 IsOfOwn content root own (Node fault) = (fault ≡ BadPath) × HasOwn (objects content) root own
 IsOfOwn content root own _ = ⊥
 
+-- the work tree can't hold what is due at a path, the first one
+abbrev pub IsOfPath : (List ℕ → Bool) → IndexMap → IndexMap → Failure → Type 0
+IsOfPath can_hold index tree e = (against : CheckoutFault) × (e ≡ of_checkout against) × BlamesPath can_hold index tree against
+
 -- a file or a link that is due has no blob: it is absent (40), of another kind (63), or its file is damaged (12), as at the first
 -- path
 abbrev pub IsOfBlobs : FileMap → IndexMap → IndexMap → Failure → Type 0
@@ -201,18 +207,19 @@ pub data RefusesLook (own revision : List ℕ) (content : FileMap) (e : Failure)
   of_tree : (index : IndexMap) (head : Head) (root : ObjectId) → IsStarted content index → IsTarget content revision head root → MayHead content head → IsOfTreeList content root e ⊎ IsOfOwn content root own e
       → RefusesLook own revision content e
 
--- The same of the whole: behind the look the blobs that are due are looked at, and then the work tree.
-pub data RefusesCheckout (honest : Type 0) (own revision : List ℕ) (content work : FileMap) (e : Failure) : Type 0 where
-  of_fault : status_of e ≡ 3 → RefusesCheckout honest own revision content work e
-  of_look : RefusesLook own revision content e → RefusesCheckout honest own revision content work e
-  of_work : (index : IndexMap) (head : Head) (tree : IndexMap) → MayBring own revision content index head tree → IsOfBlobs content index tree e ⊎ IsOfWork honest content index tree work e
-      → RefusesCheckout honest own revision content work e
+-- The same of the whole: behind the look the paths that are due are looked at, then their blobs, and then the work tree.
+pub data RefusesCheckout (honest : Type 0) (can_hold : List ℕ → Bool) (own revision : List ℕ) (content work : FileMap) (e : Failure) : Type 0 where
+  of_fault : status_of e ≡ 3 → RefusesCheckout honest can_hold own revision content work e
+  of_look : RefusesLook own revision content e → RefusesCheckout honest can_hold own revision content work e
+  of_path : (index : IndexMap) (head : Head) (tree : IndexMap) → MayBring own revision content index head tree → IsOfPath can_hold index tree e → RefusesCheckout honest can_hold own revision content work e
+  of_work : (index : IndexMap) (head : Head) (tree : IndexMap) → MayBring own revision content index head tree → HoldsDue can_hold index tree → IsOfBlobs content index tree e ⊎ IsOfWork honest content index tree work e
+      → RefusesCheckout honest can_hold own revision content work e
 
 -- what stands of the files after an error: they are as they were, or, after a fault, what such a one may leave
 abbrev pub LeavesOrFails : {W : Type 0} → Type 0 → (W → FileMap) → (W → Folders) → (own revision : List ℕ) → (old new : FileMap) → (was now : W) → Failure → Type 0
 LeavesOrFails honest content held own revision old new was now e = (new ≡ old) ⊎ ((status_of e ≡ 3) × LeavesHead honest content held own revision old new was now)
 
 -- what stands of the work tree after an error: it is as it was and no write was made, or, after a fault, some of the tree was brought
-abbrev pub LeavesWork : {W : Type 0} → Type 0 → (W → FileMap) → (W → Folders) → (W → Option ℕ) → (own revision : List ℕ) → (old : FileMap) → (was now : W) → Failure → Type 0
-LeavesWork honest content held left own revision old was now e =
-    IsUnwritten content held left was now ⊎ ((status_of e ≡ 3) × (honest → BringsSome content held left own revision old was now))
+abbrev pub LeavesWork : {W : Type 0} → Type 0 → (W → FileMap) → (W → Folders) → (W → Option ℕ) → (W → List ℕ → Bool) → (own revision : List ℕ) → (old : FileMap) → (was now : W) → Failure → Type 0
+LeavesWork honest content held left can_hold own revision old was now e =
+    IsUnwritten content held left was now ⊎ ((status_of e ≡ 3) × (honest → BringsSome content held left can_hold own revision old was now))

@@ -190,8 +190,8 @@ fn look<F: Files>(
 /// Before the first write these are looked at, and the first that is at fault is told: the file of the index (62), HEAD's
 /// (33, 34), that of the branch of that name (33), the revision (50 to 56), what it names as a commit and its tree (51, 55),
 /// all that a commit reaches which HEAD is to be (40), and the commits along its parent links (41), the tree and those below it
-/// (40, 60, 63), its paths, none of which may be own (60), the blobs of what the index has otherwise or not at all (40, 63), and
-/// the work tree, where nothing may be lost that is not stored (70, 71, 72). Of the tree's other blobs none is opened for that.
+/// (40, 60, 63), its paths, none of which may be own (60), the paths that the index has otherwise or not at all, which the work
+/// tree must be able to hold (60), their blobs (40, 63), and the work tree, where nothing may be lost that is not stored (70, 71, 72). Of the tree's other blobs none is opened for that.
 ///
 /// A fault may leave part of the work tree brought, or all of it and the index; HEAD moves last.
 pub fn check_out<F: Files, W: WorkTree>(
@@ -201,10 +201,10 @@ pub fn check_out<F: Files, W: WorkTree>(
     own: &[u8],
     revision: &str,
 ) -> Result<(), Failure>
-    ensures done { W.honest → F.honest → OnOk result (ChecksOut W.content W.folders own.now revision.now (F.content files.old) (F.content files.new) work.old work.new) }
-    ensures refused { F.honest → IfErr result (RefusesCheckout W.honest own.now revision.now (F.content files.old) (W.content work.old)) }
+    ensures done { W.honest → F.honest → OnOk result (ChecksOut W.content W.folders W.can_hold own.now revision.now (F.content files.old) (F.content files.new) work.old work.new) }
+    ensures refused { F.honest → IfErr result (RefusesCheckout W.honest (W.can_hold work.old) own.now revision.now (F.content files.old) (W.content work.old)) }
     ensures files { F.honest → IfErr result (LeavesOrFails W.honest W.content W.folders own.now revision.now (F.content files.old) (F.content files.new) work.old work.new) }
-    ensures begun { F.honest → IfErr result (LeavesWork W.honest W.content W.folders W.left own.now revision.now (F.content files.old) work.old work.new) }
+    ensures begun { F.honest → IfErr result (LeavesWork W.honest W.content W.folders W.left W.can_hold own.now revision.now (F.content files.old) work.old work.new) }
     ensures wear { WritesEither W.failed W.can_fail unstopped F.honest F.content F.failed F.can_fail F.left work.old work.new files.old files.new (TellsDevice result) }
 {
     let (index, aim, tree) = look(alloc, files, own, revision)?;

@@ -1,4 +1,4 @@
-use Rattle.std.proofs.Common.{rules, ◌≡◌, ◌⊎◌, ℕ, List, Option, refl, ap, subst, ◌∙◌, inl, inr}
+use Rattle.std.proofs.Common.{rules, ◌≡◌, ◌⊎◌, ℕ, Bool, List, Option, refl, ap, subst, ◌∙◌, inl, inr}
 use Rattle.std.specs.FinMap.{insert}
 use Rattle.std.specs.Prelude.{codes}
 use Rattle.vc_index.specs.IndexText.{index_text}
@@ -28,13 +28,13 @@ brought_on : {W : Type 0} (content : W → FileMap) (held : W → Folders) (mid 
 brought_on content held mid old index tree was now same brought = subst (λ (m : FileMap). Brings content held (objects m) index tree was now) same brought
 
 -- what an error of the checkout leaves of the work tree
-part_left : {W : Type 0} (honest : Type 0) (content : W → FileMap) (held : W → Folders) (left : W → Option ℕ) (own revision : List ℕ) (mid old : FileMap) (index tree : IndexMap) (head : Head) (was now : W) (cause : CheckoutFault)
-    → MayBring own revision old index head tree → mid ≡ old → IsFault cause ⊎ IsUnwritten content held left was now → (honest → BringsPart content held left (objects mid) index tree was now)
-    → LeavesWork honest content held left own revision old was now (of_checkout cause)
-part_left honest content held left own revision mid old index tree head was now cause may same (inr unwritten) part = inl unwritten
-part_left honest content held left own revision mid old index tree head was now cause may same (inl fault) part = inr (
+part_left : {W : Type 0} (honest : Type 0) (content : W → FileMap) (held : W → Folders) (left : W → Option ℕ) (can_hold : W → List ℕ → Bool) (own revision : List ℕ) (mid old : FileMap) (index tree : IndexMap) (head : Head) (was now : W) (cause : CheckoutFault)
+    → MayBring own revision old index head tree → mid ≡ old → IsFault cause ⊎ IsUnwritten content held left was now → (honest → BringsPart content held left can_hold (objects mid) index tree was now)
+    → LeavesWork honest content held left can_hold own revision old was now (of_checkout cause)
+part_left honest content held left can_hold own revision mid old index tree head was now cause may same (inr unwritten) part = inl unwritten
+part_left honest content held left can_hold own revision mid old index tree head was now cause may same (inl fault) part = inr (
   ap (λ (c : CheckoutFault). status_of (of_checkout c)) fault.1,
-  λ h. record { index = index; head = head; tree = tree; before = may; brought = inl (subst (λ (m : FileMap). BringsPart content held left (objects m) index tree was now) same (part h)) },
+  λ h. record { index = index; head = head; tree = tree; before = may; brought = inl (subst (λ (m : FileMap). BringsPart content held left can_hold (objects m) index tree was now) same (part h)) },
 )
 
 pub returns-clause-done : goal.returns-clause-done
@@ -50,6 +50,7 @@ returns-clause-done g c = λ work_honest honest.
       head = aim;
       tree = tree;
       before = c.in_ok-index.ensures.may honest;
+      holds = c.in_ok-checkout.ensures.holds;
       blobs = subst (λ (m : FileMap). HasDueBlobs (objects m) index tree) looked (c.in_ok-checkout.ensures.blobs honest);
       clear = c.in_ok-checkout.ensures.clear work_honest;
       brought = brought_on g.W.WorkTree.content g.W.WorkTree.folders _ _ index tree c.args.work.now c.checkout.new.work looked (c.in_ok-checkout.ensures.brought work_honest honest);
@@ -60,7 +61,7 @@ returns-clause-done g c = λ work_honest honest.
 
 pub returns-in_err-index-clause-refused : goal.returns-in_err-index-clause-refused
 returns-in_err-index-clause-refused g c = λ honest.
-    handed_on (RefusesCheckout g.W.WorkTree.honest c.args.own.now c.args.revision.now (g.F.Files.content c.args.files.now) (g.W.WorkTree.content c.args.work.now)) c.in_err-index.field-0.0 c.from_residual.result c.from_residual.ensures.1
+    handed_on (RefusesCheckout g.W.WorkTree.honest (g.W.WorkTree.can_hold c.args.work.now) c.args.own.now c.args.revision.now (g.F.Files.content c.args.files.now) (g.W.WorkTree.content c.args.work.now)) c.in_err-index.field-0.0 c.from_residual.result c.from_residual.ensures.1
     (of_look (c.in_err-index.ensures.refused honest))
 
 pub returns-in_err-checkout-clause-refused : goal.returns-in_err-checkout-clause-refused
@@ -69,8 +70,8 @@ returns-in_err-checkout-clause-refused g c = λ honest.
     let old = content c.args.files.now in
     let work = g.W.WorkTree.content c.args.work.now in
     let cause = c.in_err-checkout.field-0.0 in
-    handed_on (RefusesCheckout g.W.WorkTree.honest c.args.own.now c.args.revision.now old work) (of_checkout cause) c.from_residual-in_err-checkout.result c.from_residual-in_err-checkout.ensures.1
-    (refused_work g.W.WorkTree.honest c.args.own.now c.args.revision.now old (content c.look.new.files) work c.in_ok-index.index c.in_ok-index.tree c.in_ok-index.aim cause
+    handed_on (RefusesCheckout g.W.WorkTree.honest (g.W.WorkTree.can_hold c.args.work.now) c.args.own.now c.args.revision.now old work) (of_checkout cause) c.from_residual-in_err-checkout.result c.from_residual-in_err-checkout.ensures.1
+    (refused_work g.W.WorkTree.honest (g.W.WorkTree.can_hold c.args.work.now) c.args.own.now c.args.revision.now old (content c.look.new.files) work c.in_ok-index.index c.in_ok-index.tree c.in_ok-index.aim cause
     (c.in_ok-index.ensures.may honest) c.in_ok-index.ensures.same (c.in_err-checkout.ensures.refused honest))
 
 pub returns-in_err-set_head-clause-files : goal.returns-in_err-set_head-clause-files
@@ -108,8 +109,8 @@ returns-in_err-checkout-clause-begun g c = λ honest.
     let held = g.W.WorkTree.folders in
     let old = g.F.Files.content c.args.files.now in
     let cause = c.in_err-checkout.field-0.0 in
-    handed_on (LeavesWork g.W.WorkTree.honest trees held g.W.WorkTree.left c.args.own.now c.args.revision.now old c.args.work.now c.checkout.new.work) (of_checkout cause) c.from_residual-in_err-checkout.result c.from_residual-in_err-checkout.ensures.1
-    (part_left g.W.WorkTree.honest trees held g.W.WorkTree.left c.args.own.now c.args.revision.now _ old c.in_ok-index.index c.in_ok-index.tree c.in_ok-index.aim c.args.work.now c.checkout.new.work cause
+    handed_on (LeavesWork g.W.WorkTree.honest trees held g.W.WorkTree.left g.W.WorkTree.can_hold c.args.own.now c.args.revision.now old c.args.work.now c.checkout.new.work) (of_checkout cause) c.from_residual-in_err-checkout.result c.from_residual-in_err-checkout.ensures.1
+    (part_left g.W.WorkTree.honest trees held g.W.WorkTree.left g.W.WorkTree.can_hold c.args.own.now c.args.revision.now _ old c.in_ok-index.index c.in_ok-index.tree c.in_ok-index.aim c.args.work.now c.checkout.new.work cause
     (c.in_ok-index.ensures.may honest) c.in_ok-index.ensures.same (c.in_err-checkout.ensures.unchanged honest) (λ work_honest. c.in_err-checkout.ensures.begun work_honest honest))
 
 pub returns-in_err-write_index-clause-begun : goal.returns-in_err-write_index-clause-begun
@@ -117,7 +118,7 @@ returns-in_err-write_index-clause-begun g c = λ honest.
     let trees = g.W.WorkTree.content in
     let held = g.W.WorkTree.folders in
     let old = g.F.Files.content c.args.files.now in
-    handed_on (LeavesWork g.W.WorkTree.honest trees held g.W.WorkTree.left c.args.own.now c.args.revision.now old c.args.work.now c.checkout.new.work) (Fault c.in_err-write_index.field-0.0) c.from_residual-in_err-write_index.result c.from_residual-in_err-write_index.ensures.1
+    handed_on (LeavesWork g.W.WorkTree.honest trees held g.W.WorkTree.left g.W.WorkTree.can_hold c.args.own.now c.args.revision.now old c.args.work.now c.checkout.new.work) (Fault c.in_err-write_index.field-0.0) c.from_residual-in_err-write_index.result c.from_residual-in_err-write_index.ensures.1
     (inr (
       refl,
       λ work_honest. record {
@@ -135,7 +136,7 @@ returns-in_err-set_head-clause-begun g c = λ honest.
     let held = g.W.WorkTree.folders in
     let old = g.F.Files.content c.args.files.now in
     let fault = c.in_err-set_head.field-0.0 in
-    handed_on (LeavesWork g.W.WorkTree.honest trees held g.W.WorkTree.left c.args.own.now c.args.revision.now old c.args.work.now c.checkout.new.work) (Refs fault) c.from_residual-in_err-set_head.result c.from_residual-in_err-set_head.ensures.1
+    handed_on (LeavesWork g.W.WorkTree.honest trees held g.W.WorkTree.left g.W.WorkTree.can_hold c.args.own.now c.args.revision.now old c.args.work.now c.checkout.new.work) (Refs fault) c.from_residual-in_err-set_head.result c.from_residual-in_err-set_head.ensures.1
     (inr (
       refs_status fault c.in_err-set_head.ensures.refused,
       λ work_honest. record {
