@@ -1,5 +1,5 @@
 -- The loop over what is told: what is told so far, the next one and the rest; and what is blamed of files that none of it made bad.
-use Rattle.std.proofs.Common.{◌≡◌, ℕ, suc, ◌<◌, ◌+◌, List, [], ◌∷◌, ◌++◌, length, take, drop, get_or, refl, sym, ap, ◌∙◌, subst, drop-cons}
+use Rattle.std.proofs.Common.{◌≡◌, inr, ℕ, suc, ◌<◌, ◌+◌, List, [], ◌∷◌, ◌++◌, length, take, drop, get_or, refl, sym, ap, ◌∙◌, subst, drop-cons}
 use Rattle.std.specs.Prelude.{IfErr, Result, Ok, Err, Vec, codes, string_bytes}
 use Rattle.std.specs.Global.{Global}
 use Rattle.std.proofs.lemmas.List.{take-append-drop, take_more}
@@ -8,7 +8,11 @@ use Rattle.vc_history.specs.Stored.{AgreesIn}
 use Rattle.vc_history.specs.declared.generations.Generations.{Generations}
 use Rattle.vc_object.specs.ObjectMap.{ObjectMap}
 use Rattle.vc_object.specs.declared.id.ObjectId.{ObjectId}
+use Rattle.vc_refs.specs.RefFault.{BlamesPacked}
+use Rattle.vc_refs.specs.Refs.{packed_map, packed_path}
+use Rattle.vc_refs.specs.declared.faults.RefFault.{RefFault}
 use Rattle.vc_refs.specs.declared.faults.RefFault.TheVariants as of_refs
+use Rattle.vc_refs.proofs.LayeredLemmas.{packed_map-same}
 use Rattle.vc_quarantine.specs.Known.{AreWhole}
 use Rattle.vc_quarantine.specs.declared.known.Known.{Known}
 use Rattle.vc_push_rules.proofs.FrameLemmas.{objects-same}
@@ -16,7 +20,7 @@ use Rattle.vc_quarantine.proofs.NumberLemmas.{agreement_beside}
 use Rattle.vc_quarantine.specs.Clean.{MakesNoneBad}
 use Rattle.vc_object_map.specs.Store.{object_path, objects}
 use Rattle.vc_object_map.specs.declared.faults.StoreFault.TheVariants as of_store
-use Rattle.vc_tracking.specs.Faults.{BlamesFiles}
+use Rattle.vc_tracking.specs.Faults.{BlamesFiles, from_refs}
 use Rattle.vc_tracking.specs.Moving.{Told, told_in}
 use Rattle.vc_tracking.specs.declared.fault.ExchangeFault.{ExchangeFault}
 use Rattle.vc_tracking.specs.declared.fault.ExchangeFault.TheVariants as exchange
@@ -41,6 +45,18 @@ module _ (told : List Item) (i : ℕ) where
 
     pub front_next : told_in (take i told) ++ told_of item ∷ told_in (drop (suc i) told) ≡ told_in told
     front_next = ap (λ (x : Item). told_in (take i told) ++ told_of x ∷ told_in (drop (suc i) told)) is ∙ ap (λ (l : List Item). told_in (take i told) ++ told_in l) (sym (drop-cons told i item within)) ∙ front_rest
+
+-- what the packed file says stays so where refs alone are set
+pub packed_kept : (old new : FileMap) → SameOutside (codes "refs/") old new → packed_map new ≡ packed_map old
+packed_kept old new outside = packed_map-same old new (outside.at packed_path refl)
+
+-- a bad packed file is a bad file of the clone
+pub packed_blames : (content : FileMap) (e : RefFault) → BlamesPacked content e → BlamesFiles content (from_refs e)
+packed_blames content (of_refs.Stale current) h = h
+packed_blames content (of_refs.Conflict other) h = h
+packed_blames content (of_refs.BadRefFile path) h = inr h
+packed_blames content of_refs.HeadLoop h = h
+packed_blames content (of_refs.Fault fault) h = tt
 
 -- what is whole stays so where no object changes
 pub objects_stay : (old new : FileMap) → SameOutside (codes "refs/") old new → objects new ≡ objects old

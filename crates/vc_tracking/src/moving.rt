@@ -8,7 +8,7 @@ ghost use Rattle.vc_format.specs.Git.{git_is_legal};
 ghost use Rattle.vc_history.specs.Stored.{AgreesIn};
 ghost use Rattle.vc_history.specs.Whole.{AreWholeBeyond};
 ghost use Rattle.vc_refs.specs.RefMap.{IsInRefs};
-ghost use Rattle.vc_refs.specs.Refs.{refs};
+ghost use Rattle.vc_refs.specs.Refs.{packed_map, refs};
 ghost use Rattle.vc_quarantine.specs.Clean.{MakesNoneBad};
 ghost use Rattle.vc_quarantine.specs.Known.{AreWhole};
 ghost use Rattle.vc_object_map.specs.Store.{objects};
@@ -26,7 +26,7 @@ use vc_object::ObjectId;
 use vc_object_map::{Commits, StoreFault};
 use vc_quarantine::{Known, is_legal};
 use vc_refname::{NewNameError, RefName};
-use vc_refs::{RefFault, get, set};
+use vc_refs::{PackedRefs, RefFault, get_over, read_packed, set_over};
 use vc_store::Store;
 
 /// Which refs of the shared repository are followed.
@@ -154,12 +154,14 @@ fn may_take<C: Commits>(
 fn find_follower<F: Files>(
     files: &mut F,
     alloc: Global,
+    packed: &PackedRefs,
     known: &mut Known,
     followed: Followed,
     name: &[u8],
     id: &ObjectId,
     generations: &Generations,
 ) -> Result<Option<(RefName, Option<ObjectId>)>, ExchangeFault>
+    requires { F.honest → packed_map (F.content files.old) ≡ Some packed.now }
     ensures found { F.honest → AgreesIn (F.content files.old) generations.now → AreWholeIn (F.content files.old) known.old → IfOk result (IsFound followed (F.content files.old) name.now id.now) }
     ensures known { F.honest → AreWhole (objects (F.content files.old)) known.old → AreWhole (objects (F.content files.old)) known.new }
     ensures value { F.honest → IfOk result (λ found. IfSome found (λ f. refs (F.content files.old) f.0 ≡ f.1)) }
@@ -175,7 +177,7 @@ fn find_follower<F: Files>(
     let Some(to) = follower(alloc, followed, name)? else {
         return Ok(None);
     };
-    let current = get(files, alloc, &to)?;
+    let current = get_over(files, alloc, packed, &to)?;
     let mut store = Store::new(alloc, files);
     let takes = may_take(
         alloc,
@@ -209,11 +211,13 @@ fn passed_over(fault: RefFault) -> Result<bool, RefFault>
 fn set_where_free<F: Files>(
     files: &mut F,
     alloc: Global,
+    packed: &PackedRefs,
     to: &RefName,
     current: Option<ObjectId>,
     id: ObjectId,
 ) -> Result<bool, RefFault>
     requires inside { IsInRefs to.now }
+    requires read { F.honest → packed_map (F.content files.old) ≡ Some packed.now }
     ensures set { F.honest → IfOk result (IsSetWhereFree (F.content files.old) (F.content files.new) to.now id) }
     ensures refused { F.honest → refs (F.content files.old) to.now ≡ current → IfErr result (BlamesRefs (F.content files.old)) }
     ensures outside { F.honest → SameOutside (codes "refs/") (F.content files.old) (F.content files.new) }
@@ -222,7 +226,7 @@ fn set_where_free<F: Files>(
     ensures wear { Writes F.honest F.content F.failed F.can_fail F.left files.old files.new (IsErrOf result (RefFault.Fault Fault.Device)) }
     ensures looks { F.honest → IsFreeAmong (refs (F.content files.old)) to.now ⊎ Wears F.failed F.can_fail F.left files.old files.new (IsErrOf result (RefFault.Fault Fault.Device)) }
 {
-    match set(files, alloc, to, current, id) {
+    match set_over(files, alloc, packed, to, current, id) {
         Ok(()) => Ok(true),
         Err(fault) => passed_over(fault),
     }
@@ -236,12 +240,14 @@ fn set_where_free<F: Files>(
 fn move_ref<F: Files>(
     files: &mut F,
     alloc: Global,
+    packed: &PackedRefs,
     known: &mut Known,
     followed: Followed,
     name: &[u8],
     id: &ObjectId,
     generations: &Generations,
 ) -> Result<bool, ExchangeFault>
+    requires { F.honest → packed_map (F.content files.old) ≡ Some packed.now }
     ensures moved { F.honest → IfOk result (IsMove (IsRight (F.content files.old) known.old generations.now) followed (F.content files.old) (F.content files.new) name.now id.now) }
     ensures known { F.honest → AreWhole (objects (F.content files.old)) known.old → AreWhole (objects (F.content files.old)) known.new }
     ensures refused { F.honest → AgreesIn (F.content files.old) generations.now → IfErr result (BlamesFiles (F.content files.old)) }
@@ -251,18 +257,28 @@ fn move_ref<F: Files>(
     ensures wear { Writes F.honest F.content F.failed F.can_fail F.left files.old files.new (IsErrOf result (ExchangeFault.Fault Fault.Device)) }
     ensures looks { F.honest → MayMoveOne followed (F.content files.old) known.old generations.now name.now id.now (Looks F.failed F.can_fail F.left files.old files.new result) }
 {
-    let Some((to, current)) = find_follower(files, alloc, known, followed, name, id, generations)?
+    let Some((to, current)) = find_follower(
+        files,
+        alloc,
+        packed,
+        known,
+        followed,
+        name,
+        id,
+        generations,
+    )?
     else {
         return Ok(false);
     };
-    let moved = set_where_free(files, alloc, &to, current, *id)?;
+    let moved = set_where_free(files, alloc, packed, &to, current, *id)?;
     Ok(moved)
 }
 
 /// Moves the refs that follow these, in their order, and counts those that moved. A call that ends early has moved some first
-/// of them. Each object is read once for all of them to see that it is whole, and none of which that is known. Where what is known
-/// is right, the right refs move, and more is known after the call; in any case refs alone are set, no file becomes bad, and none
-/// outside `refs/` changes. The value that a ref is set to is due to be learnt then; after an error the next one may be too.
+/// of them. The packed file is read once for all of them, and each object is read once for all of them to see that it is whole,
+/// and none of which that is known. Where what is known is right, the right refs move, and more is known after the call; in any
+/// case refs alone are set, no file becomes bad, and none outside `refs/` changes. The value that a ref is set to is due to be
+/// learnt then; after an error the next one may be too.
 pub fn move_refs<F: Files>(
     files: &mut F,
     alloc: Global,
@@ -281,12 +297,14 @@ pub fn move_refs<F: Files>(
     ensures wear { Writes F.honest F.content F.failed F.can_fail F.left files.old files.new (IsErrOf result (ExchangeFault.Fault Fault.Device)) }
     ensures looks { F.honest → MayMoveTold followed (F.content files.old) known.old generations.now (told_in told.now) (Looks F.failed F.can_fail F.left files.old files.new result) }
 {
+    let held = read_packed(files, alloc)?;
+    let packed = &held;
     let mut moved = 0;
     for (name, id) in told {
         // The value is noted first, so that want of memory comes before the ref is set.
         let noted = due.len();
         due.push(*id)?;
-        if move_ref(files, alloc, known, followed, name, id, generations)? {
+        if move_ref(files, alloc, packed, known, followed, name, id, generations)? {
             moved += 1;
         } else {
             due.truncate(noted);

@@ -31,3 +31,6 @@ returns-then-not-takes-clause-found g c honest agrees whole to may =
     let decided : IsDecided c.in_ok-takes.takes (MayTake (objects content) c.is_branch-is_branch.result c.in_ok-current.current c.args.id.now) = search (rules, c.in_ok-takes.ensures.takes honest there) in
     let no : c.in_ok-takes.takes ≡ false = search rules in
     undecided c.in_ok-takes.takes (MayTake (objects content) c.is_branch-is_branch.result c.in_ok-current.current c.args.id.now) no decided takes
+
+pub get_over-requires-clause-read : goal.get_over-requires-clause-read
+get_over-requires-clause-read g c = c.requires

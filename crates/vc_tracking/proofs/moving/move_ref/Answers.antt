@@ -7,6 +7,9 @@ use Rattle.vc_tracking.specs.Moving.{IsFound, IsFreeAmong, IsRight, IsSetWhereFr
 use Rattle.vc_tracking.proofs.MovingLemmas.{free_moves, set_moves}
 use Rattle.vc_tracking.proofs.moving.move_ref.Goals as goal
 
+pub set_where_free-requires-clause-read : goal.set_where_free-requires-clause-read
+set_where_free-requires-clause-read g c = λ honest. rw c.in_ok-to.ensures.same (c.requires honest)
+
 pub returns-in_err-to-clause-wear : goal.returns-in_err-to-clause-wear
 returns-in_err-to-clause-wear g c = writes_told (wears_writes c.in_err-to.ensures.wear (λ _. c.in_err-to.ensures.same)) (search rules) (search rules)
 

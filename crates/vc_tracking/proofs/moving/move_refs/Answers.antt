@@ -1,22 +1,24 @@
-use Rattle.std.proofs.Common.{arith, rules, ◌≡◌, ◌⊎◌, inl, inr, ℕ, zero, suc, ◌+◌, Bool, false, cond, Err, List, ◌∷◌, ◌++◌, take, drop, refl, sym, ap, ◌∙◌, subst, []}
-use Rattle.std.specs.Prelude.{◌≢◌, Vec, length}
+use Rattle.std.proofs.Common.{Some, arith, rules, ◌≡◌, ◌⊎◌, inl, inr, ℕ, zero, suc, ◌+◌, Bool, false, cond, Err, List, ◌∷◌, ◌++◌, take, drop, refl, sym, ap, ◌∙◌, subst, []}
+use Rattle.std.specs.Prelude.{◌≢◌, Vec, codes, length}
 use Rattle.std.specs.Global.{Global}
 use Rattle.std.proofs.lemmas.List.{take_all}
+use Rattle.vc_files.specs.FileMap.{FileMap, SameOutside}
 use Rattle.vc_files.proofs.FileMapLemmas.{outside_same, outside_then}
-use Rattle.vc_files.proofs.WearLemmas.{writes_both, writes_told}
+use Rattle.vc_files.proofs.WearLemmas.{wears_writes, writes_both, writes_told}
+use Rattle.vc_history.specs.Stored.{AgreesIn}
 use Rattle.vc_model.specs.Repository.{changed_all}
 use Rattle.vc_object.specs.declared.id.ObjectId.{ObjectId}
-use Rattle.vc_refs.specs.Refs.{refs}
+use Rattle.vc_refs.specs.Refs.{packed_map, refs}
 use Rattle.vc_quarantine.proofs.CleanLemmas.{bad_same, bad_then}
 use Rattle.vc_quarantine.proofs.WearLemmas.{wears_both, wears_told}
-use Rattle.vc_tracking.specs.Faults.{BlamesFiles}
+use Rattle.vc_tracking.specs.Faults.{BlamesFiles, from_refs}
 use Rattle.vc_tracking.specs.Learning.{AreNoted}
 use Rattle.vc_tracking.specs.Moving.{AreFrontMoved, AreMoved, IsMove, IsRight, MayMove, MovesSome, Told, told_in}
 use Rattle.vc_tracking.specs.declared.fault.ExchangeFault.TheVariants as exchange
 use Rattle.vc_files.specs.declared.faults.Fault.TheVariants.{Memory}
 use Rattle.vc_tracking.proofs.LearningLemmas.{none_counted, noted_at, noted_more, noted_moved, noted_none, noted_stayed, pushed_length, pushed_off}
 use Rattle.vc_tracking.proofs.MovingFronts.{front_moved, more_moved, move_where, next_moves, none_moved, one_moved, some_moved}
-use Rattle.vc_tracking.proofs.MovingLoops.{agrees_after, blames_before, front_more, front_next, front_rest, told_err, told_of, whole_after}
+use Rattle.vc_tracking.proofs.MovingLoops.{agrees_after, blames_before, front_more, front_next, front_rest, packed_blames, packed_kept, told_err, told_of, whole_after}
 use Rattle.vc_tracking.proofs.moving.move_refs.Goals.{then-branch, else-branch}
 use Rattle.vc_tracking.proofs.moving.move_refs.Goals as goal
 use Rattle.vc_lemmas.proofs.Lists.{on_err}
@@ -31,19 +33,64 @@ zero_or : (n : ℕ) → (n ≡ 0) ⊎ (n ≢ 0)
 zero_or zero = inl refl
 zero_or (suc n) = inr (λ e. omega (arith, e))
 
+pub returns-in_err-held-clause-left : goal.returns-in_err-held-clause-left
+returns-in_err-held-clause-left g c = λ honest r p.
+    let content = g.F.Files.content in
+    let old = content c.args.files.now in
+    let Whole : Type 0 = IsRight old c.args.known.now c.args.generations.now in
+    let told = told_in c.args.told.now in
+    let front : AreFrontMoved Whole c.args.followed told r old = front_moved c.args.followed Whole [] told old r p old 0 (none_moved c.args.followed Whole old r p) in
+    on_err c.from_residual.result _ (subst (AreFrontMoved Whole c.args.followed told r) (sym c.in_err-held.ensures.same) front)
+
+pub returns-in_err-held-clause-noted : goal.returns-in_err-held-clause-noted
+returns-in_err-held-clause-noted g c = λ honest.
+    let content = g.F.Files.content in
+    let old = content c.args.files.now in
+    let is : c.from_residual.result ≡ Err (from_refs c.in_err-held.field-0.0) = search rules in
+    record {
+      noted = subst (λ (f : FileMap). AreNoted (refs old) (refs f) c.args.due.now.items c.args.due.now.items) (sym c.in_err-held.ensures.same) (noted_none (refs old) c.args.due.now.items);
+      counted = none_counted c.from_residual.result (from_refs c.in_err-held.field-0.0) _ is;
+    }
+
+pub returns-in_err-held-clause-refused : goal.returns-in_err-held-clause-refused
+returns-in_err-held-clause-refused g c = λ honest agrees.
+    let old = g.F.Files.content c.args.files.now in
+    told_err c.from_residual.result (from_refs c.in_err-held.field-0.0) (BlamesFiles old) (search rules) (packed_blames old c.in_err-held.field-0.0 (c.in_err-held.ensures.refused honest))
+
+pub returns-in_err-held-clause-outside : goal.returns-in_err-held-clause-outside
+returns-in_err-held-clause-outside g c = λ honest. subst (SameOutside (codes "refs/") (g.F.Files.content c.args.files.now)) (sym c.in_err-held.ensures.same) (outside_same _ _)
+
+pub returns-in_err-held-clause-bad : goal.returns-in_err-held-clause-bad
+returns-in_err-held-clause-bad g c = λ honest. bad_same _ _ c.in_err-held.ensures.same
+
+pub returns-in_err-held-clause-wear : goal.returns-in_err-held-clause-wear
+returns-in_err-held-clause-wear g c = writes_told (wears_writes c.in_err-held.ensures.wear (λ _. c.in_err-held.ensures.same)) (search rules) (search rules)
+
+pub returns-in_err-held-clause-looks : goal.returns-in_err-held-clause-looks
+returns-in_err-held-clause-looks g c = λ honest r p. inr (wears_told c.in_err-held.ensures.wear (search rules))
+
+pub move_ref-requires : goal.move_ref-requires
+move_ref-requires g c = c.loop-name.invariant.read
+
 pub loop-name-init : goal.loop-name-init
-loop-name-init g c = record {
-  moves = λ honest r p. none_moved c.args.followed (IsRight (g.F.Files.content c.args.files.now) c.args.known.now c.args.generations.now) (g.F.Files.content c.args.files.now) r p;
-  noted = λ honest. noted_none (refs (g.F.Files.content c.args.files.now)) c.args.due.now.items;
-  taken = omega arith;
-  known = λ honest right. right;
-  agrees = λ honest agrees. agrees;
-  outside = λ honest. outside_same _ _;
-  bad = λ honest. bad_same _ _ refl;
-  counted = omega arith;
-  looked = λ honest none. inr (record { later = omega arith; calm = λ can. can; could = λ never. absurd never; failed_now = λ never. absurd never; unspent = refl });
-  wear = search rules;
-}
+loop-name-init g c =
+    let content = g.F.Files.content in
+    let old = content c.args.files.now in
+    let back = sym c.in_ok-held.ensures.same in
+    let Whole : Type 0 = IsRight old c.args.known.now c.args.generations.now in
+    record {
+      moves = λ honest r p. subst (λ (f : FileMap). AreMoved Whole c.args.followed [] r f 0) back (none_moved c.args.followed Whole old r p);
+      noted = λ honest. subst (λ (f : FileMap). AreNoted (refs old) (refs f) c.args.due.now.items c.args.due.now.items) back (noted_none (refs old) c.args.due.now.items);
+      taken = omega arith;
+      known = λ honest right. subst (λ (f : FileMap). IsRight f c.args.known.now c.args.generations.now) back right;
+      agrees = λ honest agrees. subst (λ (f : FileMap). AgreesIn f c.args.generations.now) back agrees;
+      read = λ honest. let there : packed_map (g.F.Files.content c.read_packed.new.files) ≡ Some c.in_ok-held.held = rw c.in_ok-held.ensures.same (c.in_ok-held.ensures.found honest) in search (rules, there);
+      outside = λ honest. subst (SameOutside (codes "refs/") old) back (outside_same _ _);
+      bad = λ honest. bad_same _ _ c.in_ok-held.ensures.same;
+      counted = omega arith;
+      looked = λ honest none. inr (wears_told c.in_ok-held.ensures.wear (λ never. absurd never));
+      wear = writes_told (wears_writes c.in_ok-held.ensures.wear (λ _. c.in_ok-held.ensures.same)) (search rules) (λ never. absurd never);
+    }
 
 pub loop-name-preserved : goal.loop-name-preserved
 loop-name-preserved g c =
@@ -103,6 +150,7 @@ loop-name-preserved g c =
             agrees = agrees_after (content c.loop-name.files) (content c.move_ref.new.files) c.args.generations.now (c.in_ok-move_ref.ensures.outside honest) so.agrees;
           };
       agrees = λ honest agrees. agrees_after (content c.loop-name.files) (content c.move_ref.new.files) c.args.generations.now (c.in_ok-move_ref.ensures.outside honest) (before.agrees honest agrees);
+      read = λ honest. packed_kept (content c.loop-name.files) (content c.move_ref.new.files) (c.in_ok-move_ref.ensures.outside honest) ∙ before.read honest;
       outside = λ honest. outside_then (before.outside honest) (c.in_ok-move_ref.ensures.outside honest);
       bad = λ honest. bad_then (before.bad honest) (c.in_ok-move_ref.ensures.bad honest);
       counted = elim c.if-branch.branch [
@@ -134,15 +182,15 @@ returns-in_err-push-clause-left g c = λ honest r p.
     let told = c.args.told.now in
     let i = c.loop-name.name-index in
     let front = front_moved c.args.followed Whole (told_in (take i told)) (told_in (drop i told)) (content c.args.files.now) r p (content c.loop-name.files) c.loop-name.moved (c.loop-name.invariant.moves honest r p) in
-    on_err c.from_residual.result _ (subst (λ (l : List Told). AreFrontMoved Whole c.args.followed l r (content c.loop-name.files)) (front_rest told i) front)
+    on_err c.from_residual-in_err-push.result _ (subst (λ (l : List Told). AreFrontMoved Whole c.args.followed l r (content c.loop-name.files)) (front_rest told i) front)
 
 pub returns-in_err-push-clause-noted : goal.returns-in_err-push-clause-noted
 returns-in_err-push-clause-noted g c = λ honest.
     let content = g.F.Files.content in
-    let is : c.from_residual.result ≡ Err (exchange.Fault Memory) = search rules in
+    let is : c.from_residual-in_err-push.result ≡ Err (exchange.Fault Memory) = search rules in
     record {
       noted = noted_at (refs (content c.args.files.now)) (content c.loop-name.files) (content c.loop-name.files) c.args.due.now.items c.loop-name.due.items c.push.new.self.items refl c.in_err-push.ensures.items (c.loop-name.invariant.noted honest);
-      counted = none_counted c.from_residual.result (exchange.Fault Memory) _ is;
+      counted = none_counted c.from_residual-in_err-push.result (exchange.Fault Memory) _ is;
     }
 
 pub returns-in_err-push-clause-wear : goal.returns-in_err-push-clause-wear

@@ -26,8 +26,8 @@ returns-in-Ok-clause-looks g c = λ honest. inl (free_among (g.F.Files.content c
 pub returns-in-Err-clause-set : goal.returns-in-Err-clause-set
 returns-in-Err-clause-set g c = λ honest.
     let content = g.F.Files.content in
-    subst (λ (r : Result Bool RefFault). IfOk r (IsSetWhereFree (content c.args.files.now) (content c.set.new.files) c.args.to.now c.args.id)) (sym c.passed_over.ensures)
-    (passed_set (content c.args.files.now) c.args.to.now c.args.current (content c.set.new.files) c.args.id c.in-Err.fault (c.in-Err.ensures.sets.err honest) (c.in-Err.ensures.refused honest))
+    subst (λ (r : Result Bool RefFault). IfOk r (IsSetWhereFree (content c.args.files.now) (content c.set_over.new.files) c.args.to.now c.args.id)) (sym c.passed_over.ensures)
+    (passed_set (content c.args.files.now) c.args.to.now c.args.current (content c.set_over.new.files) c.args.id c.in-Err.fault (c.in-Err.ensures.sets.err honest) (c.in-Err.ensures.refused honest))
 
 pub returns-in-Err-clause-refused : goal.returns-in-Err-clause-refused
 returns-in-Err-clause-refused g c = λ honest is.
@@ -39,3 +39,6 @@ returns-in-Err-clause-looks g c = λ honest. elim (c.in-Err.ensures.looks honest
   | inl may ↦ inl (free_among (g.F.Files.content c.args.files.now) c.args.to.now may.1.free)
   | inr wears ↦ inr (wears_told wears (λ told. device_meant (Unit {0}) c.in-Err.fault (subst (λ (r : Result Bool RefFault). IsErrOf r (Fault Device)) c.passed_over.ensures told)))
 ]
+
+pub set_over-requires-clause-read : goal.set_over-requires-clause-read
+set_over-requires-clause-read g c = c.requires.read
