@@ -164,7 +164,7 @@ def faults_of_told(told, old, new, now):
                 yield f"it was told as done, and the {end} end has {refs_of(now[end])}"
     for name, held in refs_of(now["clone"]).items():
         branch = name.replace("refs/remotes/origin/", "refs/heads/")
-        if branch != name and held not in (old["shared"].get(branch), now["shared"].get(branch)):
+        if branch != name and held not in (old["clone"].get(name), old["shared"].get(branch), now["shared"].get(branch)):
             yield f"{name} is {held!r}, which {branch} never was"
 
 

@@ -18,6 +18,8 @@ CHANGING = {
     258: "mkdirat", 263: "unlinkat", 264: "renameat", 265: "linkat", 266: "symlinkat", 268: "fchmodat", 316: "renameat2",
 }
 OPENAT, EXIT_GROUP = 257, 231
+# Those that open a file or list a folder: open, getdents64, openat.
+LOOKS = (2, 217, OPENAT)
 # Those that take no room on a disk.
 ROOMLESS = {"sendto", "sendmsg", "flock", "rmdir", "unlink", "unlinkat", "chmod", "fchmod", "fchmodat"}
 WAYS = ("kill", "EIO", "ENOSPC")
@@ -51,12 +53,6 @@ class SystemCall(ctypes.Structure):
         return {OPENAT: "openat", EXIT_GROUP: "exit_group"}.get(self.number) or CHANGING.get(
             self.number, f"call {self.number}"
         )
-
-    def path(self, pid):
-        """The path that an `openat` is given."""
-        with open(f"/proc/{pid}/mem", "rb", buffering=0) as memory:
-            memory.seek(self.words[1])
-            return memory.read(4096).split(b"\0")[0]
 
 
 LIBC = ctypes.CDLL(None, use_errno=True)
