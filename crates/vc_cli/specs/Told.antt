@@ -4,12 +4,13 @@ use Rattle.std.specs.Prelude.{ℕ, Bool, if◌then◌else◌, List, [], ◌∷�
 use Rattle.vc_local.specs.Printed.{node_fault_text}
 use Rattle.vc_local.specs.declared.fault.NodeFault.TheVariants as node
 use Rattle.vc_expression.specs.Printed.{parse_fault_text}
+use Rattle.vc_pkt.specs.declared.fault.PktFault.TheVariants as pkt
 use Rattle.vc_rev.specs.Printed.{rev_fault_text}
 use Rattle.vc_cli.specs.declared.failure.Failure.{Failure}
-use Rattle.vc_cli.specs.declared.failure.Failure.TheVariants.{LocalChange, InTheWay, BadPath, NotText, NoSuchPath, Node, Revision, Syntax, BadScript, Usage}
+use Rattle.vc_cli.specs.declared.failure.Failure.TheVariants.{LocalChange, InTheWay, BadPath, NotText, NoSuchPath, Node, Revision, Syntax, WriteFailed, Unread, Unexpected, BadScript, Usage}
 use Rattle.vc_cli.specs.declared.faults.Faults.{Faults}
 
--- what a failure is printed as; what the objects, the store, the walks, the names and the refs print is claimed nowhere
+-- what a failure is printed as; what the objects, the store, the walks, the names, the refs and a served store print is claimed nowhere
 abbrev pub failure_text : Failure → Option (List ℕ)
 failure_text (Syntax fault) = Some (parse_fault_text fault)
 failure_text (Revision fault) = rev_fault_text fault
@@ -19,6 +20,10 @@ failure_text (InTheWay path) = Some (codes "71 InTheWay")
 failure_text (BadPath path) = node_fault_text node.BadPath
 failure_text (NotText path) = Some (codes "72 NotText")
 failure_text NoSuchPath = Some (codes "56 NoSuchPath")
+failure_text WriteFailed = Some (codes "116 WriteFailed")
+failure_text (Unread (pkt.BadLength place)) = Some (codes "80 BadLength")
+failure_text (Unread (pkt.BadRecord line)) = Some (codes "81 BadRecord")
+failure_text Unexpected = Some (codes "91 NothingAwaited")
 failure_text BadScript = Some (codes "114 BadScript")
 failure_text (Usage text) = Some (string_bytes text)
 failure_text _ = None
