@@ -87,18 +87,12 @@ where
         let Some(stream) = &mut self.stream else {
             return Err(RemoteFault::WriteFailed);
         };
-        let sent = send(stream.get_mut(), bytes, &mut *self.progress);
-        let answered = receive(&self.rt, self.store.as_str(), stream, &mut *self.progress);
-        if sent.is_ok() {
-            return match answered? {
-                Some(answer) => Ok(answer),
-                None => Err(RemoteFault::ReadFailed),
-            };
+        if send(stream.get_mut(), bytes, &mut *self.progress).is_err() {
+            return Err(said_before(&self.rt, self.store.as_str(), stream));
         }
-        // A server that refuses hears no message to its end: what it said is worth more than that it heard no more.
-        match answered {
-            Ok(Some(answer)) => Err(refusal_in(self.rt.alloc(), answer)),
-            _ => Err(RemoteFault::WriteFailed),
+        match receive(&self.rt, self.store.as_str(), stream, &mut *self.progress)? {
+            Some(answer) => Ok(answer),
+            None => Err(RemoteFault::ReadFailed),
         }
     }
 }
@@ -148,6 +142,21 @@ where
     match skipped? {
         Some(_) => Ok(Some(answer)),
         None => Ok(None),
+    }
+}
+
+// Why a message didn't go out. A server that refuses hears no message to its end, and what it said before is worth more than that it
+// heard no more. What it would say later is not waited for: it may wait for the message itself.
+fn said_before<R>(rt: &R, store: &str, stream: &mut BufReader<R::Stream>) -> RemoteFault
+where
+    R: rt::Files<File = File> + Net + AllocGlobal + Clone + Drop,
+{
+    if stream.get_ref().set_nonblocking(true).is_err() {
+        return RemoteFault::WriteFailed;
+    }
+    match keep(rt, store, stream) {
+        Ok(Some(answer)) => refusal_in(rt.alloc(), answer),
+        _ => RemoteFault::WriteFailed,
     }
 }
 
