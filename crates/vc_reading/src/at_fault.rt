@@ -150,9 +150,7 @@ fn named_by_message(alloc: Global, fault: &PktFault) -> Result<Option<Vec<u8>>, 
     ensures { IfOk result (IsPlace (of_message fault.now)) }
 {
     match fault {
-        PktFault::BadLength(place) => {
-            Ok(Some(format!(in alloc; "byte {place}")?.into_bytes()))
-        }
+        PktFault::BadLength(place) => { Ok(Some(format!(in alloc; "byte {place}")?.into_bytes())) }
         PktFault::BadRecord(line) => Ok(Some(format!(in alloc; "line {line}")?.into_bytes())),
         _ => Ok(None),
     }
