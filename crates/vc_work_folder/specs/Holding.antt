@@ -1,5 +1,5 @@
 -- The paths that the system takes below a folder.
-use Rattle.std.specs.Prelude.{ℕ, Bool, true, false, if◌then◌else◌, List, [], ◌∷◌, ◌==◌, ◌+◌, ◌&&◌, not, nat_le, length}
+use Rattle.std.specs.Prelude.{ℕ, Bool, true, false, if◌then◌else◌, List, [], ◌∷◌, ◌==◌, ◌+◌, ◌-◌, ◌&&◌, ◌||◌, nat_le, length}
 
 -- the most bytes that a name may have, and that a place may have with the byte that ends it
 abbrev pub max_part : ℕ
@@ -12,8 +12,7 @@ max_place = 4096
 -- the first part no more than are left of these
 abbrev pub has_names : ℕ → List ℕ → Bool
 has_names left [] = true
-has_names 0 (byte ∷ rest) = byte == 47 && has_names max_part rest
-has_names (suc left) (byte ∷ rest) = if byte == 47 then has_names max_part rest else (not (byte == 0) && has_names left rest)
+has_names left (byte ∷ rest) = if byte == 47 then has_names max_part rest else (if byte == 0 || left == 0 then false else has_names (left - 1) rest)
 
 -- whether a file can have the path below a folder whose own path has so many bytes: with that, a slash between the two and
 -- the byte that ends it, it is not too long

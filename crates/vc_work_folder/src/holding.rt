@@ -11,8 +11,9 @@ const MAX_PLACE: usize = 4096;
 fn has_names(path: &[u8]) -> bool
     ensures { result ≡ has_names max_part path.now }
 {
+    let mut rest = path;
     let mut left = MAX_PART;
-    for byte in path {
+    while let Some((byte, more)) = rest.split_first() {
         if *byte == b'/' {
             left = MAX_PART;
         } else if *byte == 0 || left == 0 {
@@ -20,6 +21,7 @@ fn has_names(path: &[u8]) -> bool
         } else {
             left -= 1;
         }
+        rest = more;
     }
     true
 }

@@ -107,7 +107,11 @@ impl Way {
         let Some(lowest) = self.seen.last().copied() else {
             return Ok(0);
         };
-        let place = root.place(alloc, path.split_at(lowest.length).0)?;
+        let Some((above, _)) = path.split_at_checked(lowest.length) else {
+            self.seen.clear();
+            return Ok(0);
+        };
+        let place = root.place(alloc, above)?;
         match root.look(place.as_str())? {
             Some(found) if lowest.is(&found) => Ok(lowest.length.saturating_add(1)),
             _ => {
