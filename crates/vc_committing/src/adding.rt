@@ -7,7 +7,7 @@ use vc_arguments::FileMode;
 use vc_cli::Failure;
 use vc_folder::Syncs;
 use vc_work_folder::Beside;
-use vc_working::own_folder;
+use vc_working::own_folder::own_folder;
 use vc_working::work::open_work;
 
 /// Puts the files of the work tree that the paths name into the index.

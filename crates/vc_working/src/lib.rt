@@ -4,10 +4,9 @@
 mod branch_name;
 mod checkout;
 mod named_files;
-mod own_folder;
+pub mod own_folder;
 mod status;
 pub mod work;
 
 pub use branch_name::branch_of;
 pub use named_files::paths_named;
-pub use own_folder::own_folder;
