@@ -18,7 +18,8 @@ use vc_arguments::{
     terms_of,
 };
 use vc_cli::{Failure, Faults, only_writer, refuse_second_store};
-use vc_committing::{add, branch, branch_delete, commit, unstage, write_tree};
+use vc_committing::adding::add;
+use vc_committing::{branch, branch_delete, commit, unstage, write_tree};
 use vc_files::Fault;
 use vc_folder::Syncs;
 use vc_reading::cat_file::cat_file;

@@ -2,8 +2,7 @@
 #![tactic(auto)]
 
 mod add;
-mod adding;
+pub mod adding;
 mod clone;
 
-pub use adding::add;
 pub use clone::{branch, branch_delete, commit, unstage, write_tree};
