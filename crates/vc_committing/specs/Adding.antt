@@ -34,6 +34,7 @@ use Rattle.vc_local.specs.Shown.{shown}
 use Rattle.vc_local.specs.Staging.{File, RefusesOne, StagesAll, file_placed}
 use Rattle.vc_local.specs.declared.fault.NodeFault.TheVariants as node
 use Rattle.vc_local.specs.declared.staging.Staged.{Staged}
+use Rattle.vc_working.specs.Naming.{FirstWord, IsBadWord, Names, NamesNone, files_named_by}
 use Rattle.vc_cli.specs.declared.failure.Failure.{Failure}
 use Rattle.vc_cli.specs.declared.failure.Failure.TheVariants.{Node, NoSuchPath, Object, Fault}
 
