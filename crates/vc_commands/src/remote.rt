@@ -11,7 +11,7 @@ use std::rt;
 use std::thread::Threads;
 use vc_cli::{Failure, Faults, only_writer, open_store, print_text};
 use vc_remote::make_shared;
-use vc_transport::{Progress, is_done, report_lines};
+use vc_transport::{Progress, bind, is_done, report_lines};
 
 /// Serves so many connections to the store in this folder, which is made where there is none. The line `listening`, with the
 /// port, is printed once the port is open.
@@ -29,7 +29,7 @@ where
     E: Write,
 {
     make_ready(rt, store, faults)?;
-    let listener = match vc_remote::bind(rt, port) {
+    let listener = match bind(rt, port) {
         Ok(listener) => listener,
         Err(error) => return Err(unopened(rt, port, error, faults)?),
     };

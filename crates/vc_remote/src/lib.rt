@@ -13,4 +13,4 @@ mod serving;
 pub use answering::{answer_from, make_shared};
 pub use exchanging::{fetch, push};
 pub use remote_fault::RemoteFault;
-pub use serving::{bind, serve};
+pub use serving::serve;

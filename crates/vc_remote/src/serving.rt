@@ -5,28 +5,18 @@ ghost use Rattle.vc_remote.specs.Turns.{going_on, has_come};
 use crate::answering::answer_from;
 use std::fs::File;
 use std::io::{self, BufReader, ErrorKind};
-use std::net::{Ipv4Addr, Net, OpenListener, OpenStream, SocketAddr};
+use std::net::{Net, OpenListener, OpenStream};
 use std::rt;
 use std::thread::Threads;
 use vc_files::Fault;
 use vc_folder::{FolderFiles, FolderLock};
-use vc_message::{Fallible, IncomingFault, skip_message};
+use vc_message::{Fallible, IncomingFault};
 use vc_server::{ServeFault, Served, tell};
 use vc_shared::AcceptFault;
-use vc_transport::{Copying, Spool, Spooled, fault_of};
+use vc_transport::{Spooled, fault_of, keep};
 
 // How many bytes of a message are kept in memory at most, a mebibyte: what a client sends must not fill the memory.
 const SHORT: usize = 1_048_576;
-
-/// Opens a port of this machine, which no other machine reaches.
-pub fn bind<R: Net>(rt: &R, port: u16) -> io::Result<R::Listener> {
-    rt.bind(local(port))
-}
-
-/// The address of a port on this machine.
-pub(crate) fn local(port: u16) -> SocketAddr {
-    SocketAddr::from((Ipv4Addr::LOCALHOST, port))
-}
 
 /// Serves so many connections to the store in this folder, one after the other. A connection that fails, or that is closed
 /// after a refusal, counts as one. Nothing is kept from message to message, so that other commands may change the store.
@@ -118,15 +108,12 @@ fn receive<R>(
 where
     R: rt::Files<File = File> + Net + AllocGlobal + Clone + Drop,
 {
-    let spool = Spool::new(rt, store, SHORT)?;
-    let mut copying = Fallible::new(Copying { stream, spool });
-    let skipped = skip_message(rt.alloc(), &mut copying);
-    let spooled = match copying.into_inner().spool.finish() {
-        Ok(spooled) => spooled,
+    let kept = match keep(rt, store, SHORT, stream) {
+        Ok(kept) => kept,
         Err(fault) => return Err(ServeFault::Fault(fault)),
     };
-    if has_come(skipped)? {
-        Ok(Some(spooled))
+    if has_come(kept.message)? {
+        Ok(Some(kept.bytes))
     } else {
         Ok(None)
     }
