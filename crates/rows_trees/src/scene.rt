@@ -33,9 +33,10 @@ impl<R: Host> Scene<R> {
     pub fn new(rt: &R) -> Result<Scene<R>, AllocError> {
         let path = String::from_str(rt.alloc(), "work")?;
         let store = String::from_str(rt.alloc(), "store")?;
+        let rest = String::new(rt.alloc());
         Ok(Scene {
+            folder: FolderTree::new(rt.clone()?, path, rest, store),
             memory: MemoryTree::new(rt.alloc()),
-            folder: FolderTree::new(rt.clone()?, path, String::new(rt.alloc()), store),
             on_disk: false,
             left: u64::MAX,
             failed: 0,
