@@ -2,6 +2,7 @@ pub mod PathSetLemmas
 pub mod StatusLemmas
 pub mod HindranceLemmas
 pub mod ClearLemmas
+pub mod SettlingLemmas
 pub mod ApplyLemmas
 pub mod BlobLemmas
 pub mod FolderLemmas

@@ -9,4 +9,5 @@ pub mod Refusal
 pub mod Holding
 pub mod CheckedOut
 pub mod FoldersAfter
+pub mod Settling
 pub mod Steps

@@ -11,11 +11,13 @@ mod hindrance;
 mod holding;
 mod memory;
 mod paths;
+mod settling;
 mod work;
 
-pub use apply::checkout;
+pub use apply::{bring, check, checkout};
 pub use change::{Change, IndexChange, WorkChange};
 pub use compare::status;
 pub use faults::CheckoutFault;
 pub use memory::MemoryTree;
+pub use settling::{is_brought, settle};
 pub use work::WorkTree;

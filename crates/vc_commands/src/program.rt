@@ -264,6 +264,6 @@ where
         LocalTask::BranchDelete { name } => branch_delete(rt, store, name, faults),
         LocalTask::PackRefs => pack_refs(rt, store),
         LocalTask::Checkout { work, revision } => checkout(rt, store, work, revision),
-        LocalTask::Status { work } => status(rt, store, work, output),
+        LocalTask::Status { work } => status(rt, store, work, output, faults),
     }
 }

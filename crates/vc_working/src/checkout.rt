@@ -13,6 +13,7 @@ ghost use Rattle.vc_cli.specs.Failure.{TellsDevice};
 ghost use Rattle.vc_cli.specs.Revisions.{Denoted, IsOfRevision};
 ghost use Rattle.vc_files.specs.Failures.{Wears, unstopped};
 
+use crate::begun::{begin, begun, end, settle_all};
 use crate::branch_name::branch_of;
 use std::alloc::{AllocError, Global};
 use vc_checkout::WorkTree;
@@ -169,8 +170,8 @@ fn look<F: Files>(
     files: &mut F,
     own: &[u8],
     revision: &str,
-) -> Result<(Index, Head, Index), Failure>
-    ensures may { F.honest → IfOk result (λ found. MayBring own.now revision.now (F.content files.old) found.0 found.1 found.2) }
+) -> Result<(Index, Head, ObjectId, Index), Failure>
+    ensures may { F.honest → IfOk result (λ found. MayBring own.now revision.now (F.content files.old) found.0 found.1 found.3) }
     ensures local { IfOk result (λ found. IsLocalHead found.1) }
     ensures refused { F.honest → IfErr result (RefusesLook own.now revision.now (F.content files.old)) }
     ensures same { F.content files.new ≡ F.content files.old }
@@ -181,7 +182,7 @@ fn look<F: Files>(
     let (aim, root) = target(alloc, files, revision)?;
     refuse_bad_head(alloc, files, &aim)?;
     let tree = list_apart(alloc, files, own, &root)?;
-    Ok((index, aim, tree))
+    Ok((index, aim, root, tree))
 }
 
 /// Brings the work tree, the index and HEAD, in this order, to the commit that the revision names: where there is a branch
@@ -193,7 +194,10 @@ fn look<F: Files>(
 /// (40, 60, 63), its paths, none of which may be own (60), the paths that the index has otherwise or not at all, which the work
 /// tree must be able to hold (60), their blobs (40, 63), and the work tree, where nothing may be lost that is not stored (70, 71, 72). Of the tree's other blobs none is opened for that.
 ///
-/// A fault may leave part of the work tree brought, or all of it and the index; HEAD moves last.
+/// A fault may leave part of the work tree brought, or all of it and the index; HEAD moves last. Before the first write of the
+/// work tree the tree is noted as one that was begun, and after HEAD that note goes. A checkout that finds one takes each file that
+/// has the content of such a tree for the tree's, and one that is gone and that the tree has otherwise for gone by that: so it
+/// brings what it is asked for, back or on, and what is neither the index's nor such a tree's is a person's and stays.
 pub fn check_out<F: Files, W: WorkTree>(
     alloc: Global,
     files: &mut F,
@@ -207,9 +211,14 @@ pub fn check_out<F: Files, W: WorkTree>(
     ensures begun { F.honest → IfErr result (LeavesWork W.honest W.content W.folders W.left W.can_hold own.now revision.now (F.content files.old) work.old work.new) }
     ensures wear { WritesEither W.failed W.can_fail unstopped F.honest F.content F.failed F.can_fail F.left work.old work.new files.old files.new (TellsDevice result) }
 {
-    let (index, aim, tree) = look(alloc, files, own, revision)?;
-    vc_checkout::checkout(alloc, work, files, &index, &tree)?;
+    let (mut index, aim, root, tree) = look(alloc, files, own, revision)?;
+    let before = begun(alloc, files)?;
+    settle_all(alloc, files, work, &mut index, &before)?;
+    vc_checkout::check(alloc, work, files, &index, &tree)?;
+    begin(alloc, files, &before, &root)?;
+    vc_checkout::bring(alloc, work, files, &index, &tree)?;
     write_index(alloc, files, &tree)?;
     vc_refs::set_head(files, alloc, &aim)?;
+    end(alloc, files)?;
     Ok(())
 }

@@ -1,6 +1,7 @@
 //! The commands of the program `vcs` on the work tree of a clone at hand, and which of its files words name.
 #![tactic(auto)]
 
+mod begun;
 mod branch_name;
 mod checkout;
 mod named_files;
