@@ -1,4 +1,4 @@
-//! The subcommands that look at the work tree, over real folders: `add`, `checkout` and `status`.
+//! The subcommands that look at the work tree, over real folders: `checkout` and `status`.
 
 use crate::checkout::check_out;
 use crate::own_folder::own_folder;
