@@ -67,6 +67,15 @@ impl<F: Files> FusedFiles<F> {
         matches!(self.fuse, Fuse::Blown)
     }
 
+    /// Takes the fuse out, as a restart does: every call passes then. How often calls were refused is kept.
+    pub fn mend(&mut self)
+        ensures files { self.new.files ≡ self.old.files }
+        ensures refused { self.new.refused ≡ self.old.refused }
+        ensures fuse { self.new.fuse ≡ Fuse.Unset }
+    {
+        self.fuse = Fuse::Unset;
+    }
+
     /// The files without the fuse, as a restart finds them.
     pub fn into_inner(self) -> F
         ensures { result ≡ self.files }

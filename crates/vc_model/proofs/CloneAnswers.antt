@@ -101,7 +101,7 @@ module _ (fmt : Format) (rules : Rules fmt) where
         | inl e ↦ quiet_answer a (Declined e.0) e.2 tt
         | inr e ↦ elim e [ inl f ↦ quiet_answer a (Did Same) f.1 tt | inr f ↦ quiet_answer a (Did Differs) f.3 tt ]
       ]
-  told_quiet r PackRefs a h = quiet_answer a (Did Stored) h tt
+  told_quiet r PackRefs a h = elim h [ inl stored ↦ quiet_answer a (Did Stored) stored.1 tt | inr conflict ↦ quiet_answer a (Declined 32) conflict.1 tt ]
 
   pub clone_answer_is_step : (old new : CloneNode) (e : CloneCall) (a : Answer) (sends : Option Message) → IsSound fmt old.repository → CallFits fmt rules old.repository e
       → CloneAnswers fmt rules old e a new sends → CloneStep fmt old (clone_event e) a new sends

@@ -10,7 +10,7 @@ use Rattle.vc_model.specs.Node.{Node, Answer, IsNoFault, Deed, Ends, sent_by, Pr
 use Rattle.vc_model.specs.Node.Answer.{Did, Declined, Fault}
 use Rattle.vc_model.specs.Node.Reply.{Same, Differs, Removed}
 use Rattle.vc_model.specs.Rules.{Rules}
-use Rattle.vc_model.specs.Question.{Question, Tells, Compares, found}
+use Rattle.vc_model.specs.Question.{Question, Tells, Compares, Packs, found}
 use Rattle.vc_model.specs.Question.Question.{Unread, Unresolved, Interrupted, Resolve, Compare, PackRefs}
 use Rattle.vc_model.proofs.Maps.{bytes_same}
 
@@ -121,6 +121,12 @@ module _ (fmt : Format) (rules : Rules fmt) (r : Repository) where
   compare_once (Err n) second a b g h = g ∙ sym h
   compare_once (Ok x) second a b g h = second_once x second a b g h
 
+  packed_once : (a b : Answer) → Packs r a → Packs r b → a ≡ b
+  packed_once a b (inl g) (inl h) = g.1 ∙ sym h.1
+  packed_once a b (inl g) (inr h) = absurd (h.0 g.0)
+  packed_once a b (inr g) (inl h) = absurd (g.0 h.0)
+  packed_once a b (inr g) (inr h) = g.1 ∙ sym h.1
+
   pub told_once : (q : Question) (a b : Answer) → Tells fmt rules r q a → Tells fmt rules r q b → a ≡ b
   told_once (Unread n) a b g h = g ∙ sym h
   told_once (Unresolved n) a b g h = g ∙ sym h
@@ -128,4 +134,4 @@ module _ (fmt : Format) (rules : Rules fmt) (r : Repository) where
   told_once (Resolve e) a b g h = g.2 ∙ (ap found (rules.one_value r e g.0 h.0 g.1 h.1) ∙ sym h.2)
   told_once (Compare first second) a b g h =
       compare_once h.0 second a b (subst (λ v. Compares fmt rules r v second a) (rules.one_value r first g.0 h.0 g.1 h.1) g.2) h.2
-  told_once PackRefs a b g h = g ∙ sym h
+  told_once PackRefs a b g h = packed_once a b g h

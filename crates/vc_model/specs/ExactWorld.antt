@@ -1,5 +1,5 @@
 -- The world exactly: every event with its one answer, but for what a stop leaves. Runs of it, and what occurs in them.
-use Rattle.std.specs.Prelude.{◌≡◌, ◌≢◌, ℕ, Bool, List, [], ◌∷◌, Option, Some, None, Result, Ok, ◌⊎◌, slice_get, unwrap_or}
+use Rattle.std.specs.Prelude.{◌≡◌, ◌≢◌, ℕ, Bool, IsTrue, List, [], ◌∷◌, Option, Some, None, Result, Ok, ◌⊎◌, slice_get, unwrap_or}
 use Rattle.std.specs.FinMap.{get}
 use Rattle.vc_model.specs.Object.{Object, Format}
 use Rattle.vc_model.specs.Push.{Slots}
@@ -105,16 +105,17 @@ TogetherAt n i = (slots : Slots) × (n.live ≡ Some slots) × SetsTogether slot
 abbrev pub MayClone : (fmt : Format) → Rules fmt → CloneNode → CloneCall → Type 0
 MayClone fmt rules n i = (a : Awaited) × (n.live ≡ Some a) × CloneWrites fmt rules n.repository a i
 
--- A stop sets the writes left. At a node that is down it need not: a restart takes them out before anything is seen of them.
-abbrev pub SetsFuse : {V : Type 0} → Node V → Fuse → ℕ → Fuse → Type 0
-SetsFuse n before writes after = (after ≡ Some writes) ⊎ ((n.live ≡ None) × (after ≡ before))
+-- A stop sets the writes left. It need not at a node that is down, since a restart takes them out before anything is seen of them, nor if
+-- no write was left and the device is frail: then the files may have stopped already, and stopped files stay so.
+abbrev pub SetsFuse : {V : Type 0} → (frail : Bool) → Node V → Fuse → ℕ → Fuse → Type 0
+SetsFuse frail n before writes after = (after ≡ Some writes) ⊎ (((n.live ≡ None) ⊎ (IsTrue frail × (before ≡ Some 0))) × (after ≡ before))
 
 -- The event's answer in this world, and the world after it.
 pub data WorldAnswers (fmt : Format) (wire : Wire fmt) (old : FusedWorld) (e : WorldEvent) (a : Answer) (new : FusedWorld) : Type 0 where
   no_message : (k : ℕ) → e ≡ Delivers k → slice_get old.world.sent k ≡ None → a ≡ Declined 113 → new ≡ old → WorldAnswers fmt wire old e a new
-  stop_shared : (writes : ℕ) (f : Fuse) → e ≡ Stops TheShared writes → SetsFuse old.world.shared old.shared_fuse writes f → a ≡ Did Stored
+  stop_shared : (writes : ℕ) (f : Fuse) → e ≡ Stops TheShared writes → SetsFuse old.frail old.world.shared old.shared_fuse writes f → a ≡ Did Stored
       → new ≡ record { world = old.world; frail = old.frail; shared_fuse = f; clone_fuses = old.clone_fuses } → WorldAnswers fmt wire old e a new
-  stop_clone : (c : ℕ) (n : CloneNode) (writes : ℕ) (f : Fuse) → e ≡ Stops (TheClone c) writes → get old.world.clones c ≡ Some n → SetsFuse n (get old.clone_fuses c) writes f → a ≡ Did Stored
+  stop_clone : (c : ℕ) (n : CloneNode) (writes : ℕ) (f : Fuse) → e ≡ Stops (TheClone c) writes → get old.world.clones c ≡ Some n → SetsFuse old.frail n (get old.clone_fuses c) writes f → a ≡ Did Stored
       → new ≡ record { world = old.world; frail = old.frail; shared_fuse = old.shared_fuse; clone_fuses = with_fuse old.clone_fuses c f } → WorldAnswers fmt wire old e a new
   at_shared : (c : ℕ) (i : SharedCall) (n : SharedNode) (sends : Option Message) (f : Fuse) → CallsShared fmt wire old.world e c i → SharedAnswers fmt wire.rules old.world.shared i a n sends
       → Burns old.frail (shared_fuse_at old.shared_fuse i) (MayShared fmt old.world.shared i) (TogetherAt old.world.shared i) old.world.shared.repository n.repository a f

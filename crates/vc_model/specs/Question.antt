@@ -1,6 +1,7 @@
 -- Calls that change nothing at a node, and what it answers.
 use Rattle.std.specs.Prelude.{◌≡◌, ◌≢◌, ℕ, List, Result, Ok, Err, ◌⊎◌}
 use Rattle.vc_model.specs.Object.{Id, Format}
+use Rattle.vc_model.specs.Refs.{AreApart}
 use Rattle.vc_model.specs.Repository.{Repository}
 use Rattle.vc_model.specs.Node.{Answer}
 use Rattle.vc_model.specs.Node.Answer.{Did, Declined}
@@ -31,10 +32,14 @@ Compares fmt rules r (Ok x) second a =
     (w : Result Id ℕ) × rules.denotes r second w
     × (((n : ℕ) × (w ≡ Err n) × (a ≡ Declined n)) ⊎ (((w ≡ Ok x) × (a ≡ Did Same)) ⊎ ((y : Id) × (w ≡ Ok y) × (x ≢ y) × (a ≡ Did Differs))))
 
+-- Refs are packed where no two of them conflict.
+abbrev pub Packs : Repository → Answer → Type 0
+Packs r a = (AreApart r.refs × (a ≡ Did Stored)) ⊎ ((¬ AreApart r.refs) × (a ≡ Declined 32))
+
 abbrev pub Tells : (fmt : Format) → Rules fmt → Repository → Question → Answer → Type 0
 Tells fmt rules r (Unread n) a = a ≡ Declined n
 Tells fmt rules r (Unresolved n) a = a ≡ Declined n
 Tells fmt rules r Interrupted a = ⊥
 Tells fmt rules r (Resolve e) a = (v : Result Id ℕ) × rules.denotes r e v × (a ≡ found v)
 Tells fmt rules r (Compare first second) a = (v : Result Id ℕ) × rules.denotes r first v × Compares fmt rules r v second a
-Tells fmt rules r PackRefs a = a ≡ Did Stored
+Tells fmt rules r PackRefs a = Packs r a

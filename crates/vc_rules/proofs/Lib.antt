@@ -9,3 +9,6 @@ pub mod UpdateLaws
 pub mod JudgedLemmas
 pub mod CarriedLemmas
 pub mod OpenPushLaws
+pub mod WritingLaws
+pub mod StopLemmas
+pub mod OnceLemmas

@@ -2,3 +2,4 @@ pub mod Git
 pub mod Verdicts
 pub mod OpenPushes
 pub mod Told
+pub mod Stops

@@ -13,7 +13,7 @@ use Rattle.vc_model.specs.Push.{OpenPush, Judged}
 use Rattle.vc_model.specs.Push.Stage.{Unpacked as MachineUnpacked, Checked as MachineChecked, Migrated as MachineMigrated, Finished}
 use Rattle.vc_model.specs.Push.Verdict.{Passing as MachinePassing, Accepted as MachineAccepted, Refused as MachineRefused}
 use Rattle.vc_model.specs.Refs.{RefName}
-use Rattle.vc_model.specs.Repository.{Effect, Repository, Done, StopsWithin, IsSound}
+use Rattle.vc_model.specs.Repository.{Effect, Repository, Done, StopsWithin, IsSound, no_effect}
 use Rattle.vc_model.specs.Shared as shared
 use Rattle.vc_object.specs.declared.fault.ObjectFault.{ObjectFault}
 use Rattle.vc_object.specs.declared.id.ObjectId.{ObjectId}
@@ -27,7 +27,7 @@ use Rattle.vc_object_map.specs.Store.{objects}
 use Rattle.vc_push_rules.specs.Carrying.{Carries, HoldsNames, objects_of_push}
 use Rattle.vc_push_rules.specs.Quarantine.{quarantined}
 use Rattle.vc_push_rules.specs.Session.{IsSession, SessionText}
-use Rattle.vc_push_rules.specs.Steps.{EndsEarly, IsOpened, Steps, fault_number}
+use Rattle.vc_push_rules.specs.Steps.{EndsEarly, IsOpened, MayWrite, Steps, fault_number}
 use Rattle.vc_push_rules.specs.declared.stage.Stage.{Stage}
 use Rattle.vc_push_rules.specs.declared.stage.Stage.TheVariants.{Unpacked, Checked, Migrated, Done as AtItsEnd}
 use Rattle.vc_push_rules.specs.declared.stage.Stepped.{Stepped}
@@ -156,3 +156,13 @@ EndsEarlyAs AtItsEnd new r p = HoldsContent new r
 abbrev pub EndsEarlyAgree : Type 0
 EndsEarlyAgree = (old new : FileMap) (s : SessionText) (stage : Stage) (r : Repository) (p : OpenPush) →
     HoldsContent old r → HoldsPush old s p → EndsEarly old new s stage → EndsEarlyAs stage new r p
+
+-- ---- what a step may write
+-- the machine's push is at its end, or some step of it changes what is stored
+abbrev pub WantsToWrite : Repository → OpenPush → Type 0
+WantsToWrite r p = (p.stage ≡ Finished) ⊎ ((effect : Effect) × (left : OpenPush) × (reply : Reply) × shared.StepsPush git r p p.stage effect left reply × (effect ≢ no_effect))
+
+-- if a step of a session may write, the machine's wants to
+abbrev pub WritesAgree : Type 0
+WritesAgree = (content : FileMap) (s : SessionText) (stage : Stage) (r : Repository) (p : OpenPush) →
+    HoldsContent content r → HoldsPush content s p → s.stage ≡ stage → MayWrite content s stage → WantsToWrite r p

@@ -6,7 +6,7 @@ use Rattle.std.specs.Cmp.Lexicographic.{slice_cmp, nat_list_cmp_total}
 use Rattle.vc_model.specs.Object.{Id, zero_id, Object, Format, Objects, Lookup, stored, over}
 use Rattle.vc_model.specs.Object.Kind.{Commit}
 use Rattle.vc_model.specs.Reach.{Reaches, Links, IsClosed, HasHistory}
-use Rattle.vc_model.specs.Refs.{RefName, Refs, branch, tracking, Conflicts}
+use Rattle.vc_model.specs.Refs.{RefName, Refs, branch, tracking, AreApart, Conflicts}
 use Rattle.vc_model.specs.Repository.{Repository, Index, with_objects, no_effect, only_changes}
 use Rattle.vc_model.specs.Repository.Change.{SetRefs, SetIndex}
 use Rattle.vc_model.specs.Push.{Command, OpenPush, Slots}
@@ -36,6 +36,7 @@ use Rattle.vc_model.specs.Wire.{Wire}
 use Rattle.vc_model.proofs.Commits.{all_holds}
 use Rattle.vc_model.proofs.Maps.{insert_same, insert_other, bytes_same, none_in_empty, none_added, all_added}
 use Rattle.vc_model.proofs.Tracking.{branch_apart}
+use Rattle.vc_model.proofs.Apart.{no_conflict}
 use Rattle.vc_model.proofs.Following.{branch_conflict}
 use Rattle.std.specs.Prelude.{codes}
 use Rattle.vc_runs.specs.Names.{plain_file}
@@ -390,8 +391,15 @@ module _ (here : Setting) where
   pub compares : CloneAnswers fmt wire.rules (clone knowing Nothing) (AsksClone (Compare (codes "HEAD") (codes "@"))) (Did Same) (clone knowing Nothing) None
   compares = clone_asked Nothing (Compare (codes "HEAD") (codes "@")) refl refl (Ok x, f.head knowing knowing_head, (Ok x, f.head_too knowing knowing_head, inr (inl (refl, refl)))) refl refl
 
+  -- the only ref conflicts with none
+  served_apart : AreApart served.refs
+  served_apart m n v w g h c =
+      let here : (m ≡ branch main) × (v ≡ x) = one_alone (branch main) x m v g in
+      let there : (n ≡ branch main) × (w ≡ x) = one_alone (branch main) x n w h in
+      no_conflict (branch main) (subst (λ (k : RefName). Conflicts k (branch main)) here.0 (subst (λ (k : RefName). Conflicts m k) there.0 c))
+
   pub packs_refs : SharedAnswers fmt wire.rules (up served empty) (Asks PackRefs) (Did Stored) (up served empty) None
-  packs_refs = asked empty PackRefs refl refl refl refl refl
+  packs_refs = asked empty PackRefs refl refl (inl (served_apart, refl)) refl refl
 
   -- what a prune keeps is there
   needed_there : (y : Id) → IsNeeded fmt served empty y → (o : Object) × (get all y ≡ Some o)

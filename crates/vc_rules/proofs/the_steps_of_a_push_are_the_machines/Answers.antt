@@ -1,5 +1,6 @@
 use Rattle.vc_rules.proofs.CarriedLemmas.{each_is_brought}
 use Rattle.vc_rules.proofs.OpenPushLaws.{early_agree, opens_agree, others_stay, steps_agree}
+use Rattle.vc_rules.proofs.WritingLaws.{writes_agree}
 use Rattle.vc_rules.proofs.the_steps_of_a_push_are_the_machines.Goals as goal
 
 pub returns-clause-brought : goal.returns-clause-brought
@@ -16,3 +17,6 @@ returns-clause-others c = others_stay
 
 pub returns-clause-early : goal.returns-clause-early
 returns-clause-early c = early_agree
+
+pub returns-clause-writes : goal.returns-clause-writes
+returns-clause-writes c = writes_agree
