@@ -1,5 +1,5 @@
 //! What rows act on: files of each kind, or a table of links. Several may be open, and each row is for all of them.
-use crate::answers::{Answer, done, joined, word, yes_or_no};
+use crate::answers::{Answer, displayed, done, joined, yes_or_no};
 use crate::file_rows;
 use crate::ids::two;
 use crate::recorder::Recorder;
@@ -39,38 +39,55 @@ pub fn open_all<R: Host>(rt: &R, devices: &mut Vec<Device<R>>, text: &str) -> An
 fn open<R: Host>(rt: &R, text: &str) -> anyhow::Result<Device<R>> {
     let (kind, rest) = two(text);
     let alloc = rt.alloc();
-    Ok(match kind {
-        "memory" => Device::Memory(MemoryFiles::new(alloc)),
-        "folder" => Device::Folder(FolderFiles::new(rt.clone()?, String::from_str(alloc, rest)?)),
-        "recorded" => {
-            let recorder = Recorder {
-                host: rt.clone()?,
-                taken: None,
-            };
-            Device::Recorded(FolderFiles::new(recorder, String::from_str(alloc, rest)?))
-        }
+    match kind {
+        "memory" => Ok(Device::Memory(MemoryFiles::new(alloc))),
+        "folder" => folder(rt, rest),
+        "recorded" => recorded(rt, rest, None),
         "meanwhile" => {
-            let (folder, taken) = two(rest);
-            let recorder = Recorder {
-                host: rt.clone()?,
-                taken: Some(String::from_str(alloc, taken)?),
-            };
-            Device::Recorded(FolderFiles::new(recorder, String::from_str(alloc, folder)?))
+            let (path, taken) = two(rest);
+            recorded(rt, path, Some(String::from_str(alloc, taken)?))
         }
-        "fails" => Device::Fails(FailOnce::new(MemoryFiles::new(alloc), rest.parse()?)),
-        "fused" => Device::Fused(fused(alloc, rest)?),
-        "table" => Device::Table(Drawn::new(alloc, rest)?),
+        "fails" => {
+            let calls = rest.parse::<u64>()?;
+            Ok(Device::Fails(FailOnce::new(MemoryFiles::new(alloc), calls)))
+        }
+        "fused" => fused(alloc, rest),
+        "table" => table(alloc, rest),
         _ => anyhow::bail!("no such files"),
-    })
+    }
+}
+
+fn folder<R: Host>(rt: &R, path: &str) -> anyhow::Result<Device<R>> {
+    let path = String::from_str(rt.alloc(), path)?;
+    Ok(Device::Folder(FolderFiles::new(rt.clone()?, path)))
+}
+
+fn recorded<R: Host>(rt: &R, path: &str, taken: Option<String>) -> anyhow::Result<Device<R>> {
+    let recorder = Recorder {
+        host: rt.clone()?,
+        taken,
+    };
+    let path = String::from_str(rt.alloc(), path)?;
+    Ok(Device::Recorded(FolderFiles::new(recorder, path)))
 }
 
 // Files with a fuse that is set where the text has a number.
-fn fused(alloc: Global, text: &str) -> anyhow::Result<FusedFiles<MemoryFiles>> {
+fn fused<R: Host>(alloc: Global, text: &str) -> anyhow::Result<Device<R>> {
+    let fuse = match text {
+        "" => None,
+        number => Some(number.parse::<u64>()?),
+    };
     let mut files = FusedFiles::new(MemoryFiles::new(alloc));
-    if !text.is_empty() {
-        files.stop_after(text.parse()?);
+    if let Some(writes) = fuse {
+        files.stop_after(writes);
     }
-    Ok(files)
+    Ok(Device::Fused(files))
+}
+
+fn table<R: Host>(alloc: Global, text: &str) -> anyhow::Result<Device<R>> {
+    let mut drawn = Drawn::new(alloc);
+    drawn.draw(text)?;
+    Ok(Device::Table(drawn))
 }
 
 /// The answers of all that is open, of which one is printed where all are the same.
@@ -81,24 +98,39 @@ pub fn obey_all<R: Host>(
     rest: &str,
 ) -> Answer {
     let mut answers: Vec<String> = Vec::new(alloc);
-    let mut differ = false;
     for device in devices.iter_mut() {
-        let answer = match obey(alloc, device, verb, rest) {
-            Ok(answer) => answer,
-            Err(error) => format!(in alloc; "{error}")?,
-        };
-        differ |= answers.first().is_some_and(|first| *first != answer);
-        answers.push(answer)?;
+        answers.push(told(alloc, obey(alloc, device, verb, rest))?)?;
     }
-    if !differ {
+    if are_same(&answers) {
         answers.truncate(1);
     }
     joined(alloc, &answers, " | ")
 }
 
+// An answer, or why there is none.
+fn told(alloc: Global, answer: Answer) -> Answer {
+    match answer {
+        Ok(answer) => Ok(answer),
+        Err(error) => displayed(alloc, &error),
+    }
+}
+
+fn are_same(answers: &[String]) -> bool {
+    let Some((first, others)) = answers.split_first() else {
+        return true;
+    };
+    for other in others {
+        if other != first {
+            return false;
+        }
+    }
+    true
+}
+
 fn obey<R: Host>(alloc: Global, device: &mut Device<R>, verb: &str, rest: &str) -> Answer {
     if verb == "restart" {
-        return restart(alloc, device);
+        restart(alloc, device);
+        return done(alloc);
     }
     match device {
         Device::Memory(files) => file_rows::obey(files, alloc, verb, rest),
@@ -112,6 +144,10 @@ fn obey<R: Host>(alloc: Global, device: &mut Device<R>, verb: &str, rest: &str) 
             "tripped" => yes_or_no(alloc, files.is_blown()),
             "fuse" => {
                 files.stop_after(rest.parse()?);
+                done(alloc)
+            }
+            "mend" => {
+                files.mend();
                 done(alloc)
             }
             _ => file_rows::obey(files, alloc, verb, rest),
@@ -134,12 +170,12 @@ fn obey_in_folder<R: rt::Files + Syncs<R::File> + AllocGlobal + Clone + Drop>(
 }
 
 // The files as a restart finds them, without what made them fail.
-fn restart<R: Host>(alloc: Global, device: &mut Device<R>) -> Answer {
-    let old = mem::replace(device, Device::Memory(MemoryFiles::new(alloc)));
-    *device = match old {
-        Device::Fails(files) => Device::Memory(files.into_inner()),
-        Device::Fused(files) => Device::Memory(files.into_inner()),
-        other => other,
+fn restart<R: Host>(alloc: Global, device: &mut Device<R>) {
+    let none = MemoryFiles::new(alloc);
+    let files = match device {
+        Device::Fails(files) => mem::replace(files, FailOnce::new(none, 0)).into_inner(),
+        Device::Fused(files) => mem::replace(files, FusedFiles::new(none)).into_inner(),
+        _ => return,
     };
-    word(alloc, "done")
+    *device = Device::Memory(files);
 }

@@ -1,5 +1,5 @@
 //! Rows on files.
-use crate::answers::{Answer, done, joined, quoted, word};
+use crate::answers::{Answer, displayed, done, joined, quoted, word};
 use crate::ids::{bytes_of, two};
 use crate::object_rows;
 use std::alloc::Global;
@@ -18,7 +18,7 @@ pub fn obey<F: Files>(files: &mut F, alloc: Global, verb: &str, rest: &str) -> A
             let paths = files.list(alloc, rest)?;
             joined(alloc, &paths, " ")
         }
-        "failures" => Ok(format!(in alloc; "{}", files.failures())?),
+        "failures" => displayed(alloc, &files.failures()),
         _ => object_rows::obey(files, alloc, verb, rest),
     }
 }
@@ -39,7 +39,7 @@ fn get<F: Files>(files: &mut F, alloc: Global, path: &str) -> Answer {
 
 fn length<F: Files>(files: &mut F, alloc: Global, path: &str) -> Answer {
     match files.get(alloc, path)? {
-        Some(bytes) => Ok(format!(in alloc; "{}", bytes.len())?),
+        Some(bytes) => displayed(alloc, &bytes.len()),
         None => word(alloc, "none"),
     }
 }

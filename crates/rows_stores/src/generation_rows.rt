@@ -1,9 +1,10 @@
 //! Rows on the generations of commits.
-use crate::answers::{Answer, joined};
+use crate::answers::{Answer, or_nothing, push_item};
 use crate::graph_rows::told_base;
 use crate::ids::ids_of;
-use std::alloc::Global;
+use std::alloc::{AllocError, Global};
 use vc_history::Generations;
+use vc_object::ObjectId;
 use vc_object_map::Commits;
 
 /// Learns from nothing what the first ids lead to, one after the other, and answers each refusal, and then what is known of
@@ -20,18 +21,46 @@ pub fn learn<C: Commits>(
     rest: &str,
 ) -> Answer {
     let (roots, names) = rest.split_once(" of ").unwrap_or((rest, rest));
-    let mut texts = Vec::new(alloc);
-    for root in ids_of(alloc, roots)? {
-        if let Err(refusal) = told_base(generations.learn(alloc, source, &root)) {
-            texts.push(format!(in alloc; "{refusal};")?)?;
+    let mut list = String::new(alloc);
+    learn_all(
+        &mut list,
+        source,
+        alloc,
+        generations,
+        &ids_of(alloc, roots)?,
+    )?;
+    push_numbers(&mut list, generations, &ids_of(alloc, names)?)?;
+    or_nothing(list)
+}
+
+// Learns what the ids lead to, and writes each refusal.
+fn learn_all<C: Commits>(
+    list: &mut String,
+    source: &mut C,
+    alloc: Global,
+    generations: &mut Generations,
+    roots: &[ObjectId],
+) -> Result<(), AllocError> {
+    for root in roots {
+        if let Err(refusal) = told_base(generations.learn(alloc, source, root)) {
+            push_item(list, " ", &refusal)?;
+            list.push(';')?;
         }
     }
-    for name in ids_of(alloc, names)? {
-        let text = match generations.get(&name) {
-            Some(number) => format!(in alloc; "{number}")?,
-            None => format!(in alloc; "-")?,
-        };
-        texts.push(text)?;
+    Ok(())
+}
+
+// Writes the generation of each id, or `-` if it isn't known.
+fn push_numbers(
+    list: &mut String,
+    generations: &Generations,
+    names: &[ObjectId],
+) -> Result<(), AllocError> {
+    for name in names {
+        match generations.get(name) {
+            Some(number) => push_item(list, " ", &number)?,
+            None => push_item(list, " ", &'-')?,
+        }
     }
-    joined(alloc, &texts, " ")
+    Ok(())
 }

@@ -1,5 +1,5 @@
 //! Rows on what objects reach, and on ancestry.
-use crate::answers::{Answer, id_or_none, listed, yes_or_no};
+use crate::answers::{Answer, blaming, id_or_none, listed, yes_or_no};
 use crate::ids::{Shown, ids_of};
 use crate::{generation_rows, verdict_rows};
 use anyhow::bail;
@@ -43,13 +43,20 @@ pub fn obey_commits<C: Commits>(
     rest: &str,
     generations: &Generations,
 ) -> Answer {
-    if verb == "verdict" {
-        return verdict_rows::obey(source, alloc, rest, generations);
+    match verb {
+        "verdict" => verdict_rows::obey(source, alloc, rest, generations),
+        "generations" => generation_rows::obey(source, alloc, rest),
+        _ => ask_commits(source, alloc, verb, &Sides::new(alloc, rest)?, generations),
     }
-    if verb == "generations" {
-        return generation_rows::obey(source, alloc, rest);
-    }
-    let sides = Sides::new(alloc, rest)?;
+}
+
+fn ask_commits<C: Commits>(
+    source: &mut C,
+    alloc: Global,
+    verb: &str,
+    sides: &Sides,
+    generations: &Generations,
+) -> Answer {
     let (a, b) = (sides.at(0), sides.at(1));
     let found = match verb {
         "ancestor" => {
@@ -57,40 +64,58 @@ pub fn obey_commits<C: Commits>(
             return yes_or_no(alloc, told_base(yes)?);
         }
         "history" => return yes_or_no(alloc, is_history(alloc, source, &a)?),
-        "history-beyond" => {
-            let mut known = set_of(alloc, &sides.exclude)?;
-            let whole = is_history_beyond(source, &mut known, &a)?;
-            return beyond(alloc, whole, &known);
-        }
+        "history-beyond" => return history_beyond(source, alloc, &a, &sides.exclude),
         "bases" => merge_bases(alloc, source, &a, &b, generations),
         "common" => common_ancestors(alloc, source, &a, &b),
         "commits" => commits(alloc, source, &sides.include, &sides.exclude, generations),
-        _ => return obey(source, alloc, verb, &sides),
+        _ => return ask(source, alloc, verb, sides),
     };
     listed(alloc, &told_base(found)?)
 }
 
-fn obey<O: Objects>(source: &mut O, alloc: Global, verb: &str, sides: &Sides) -> Answer {
+fn history_beyond<C: Commits>(
+    source: &mut C,
+    alloc: Global,
+    root: &ObjectId,
+    known: &[ObjectId],
+) -> Answer {
+    let mut known = set_of(alloc, known)?;
+    let whole = is_history_beyond(source, &mut known, root)?;
+    beyond(alloc, whole, &known)
+}
+
+fn ask<O: Objects>(source: &mut O, alloc: Global, verb: &str, sides: &Sides) -> Answer {
     let found = match verb {
         "closure" => closure(alloc, source, &sides.include),
         "difference" => difference(alloc, source, &sides.include, &sides.exclude),
         "complete" => return yes_or_no(alloc, is_complete(alloc, source, &sides.at(0))?),
         "complete-beyond" => {
-            let mut known = set_of(alloc, &sides.exclude)?;
-            let whole = is_complete_beyond(source, &mut known, &sides.at(0))?;
-            return beyond(alloc, whole, &known);
+            return complete_beyond(source, alloc, &sides.at(0), &sides.exclude);
         }
-        "learn" => {
-            let mut known = set_of(alloc, &sides.exclude)?;
-            learn_links(source, &mut known, &sides.include)?;
-            return listed(alloc, known.as_slice());
-        }
+        "learn" => return learn(source, alloc, sides),
         "incomplete" => {
             return id_or_none(alloc, first_incomplete(alloc, source, &sides.include)?);
         }
         _ => bail!("no such verb"),
     };
     listed(alloc, &told(found)?)
+}
+
+fn complete_beyond<O: Objects>(
+    source: &mut O,
+    alloc: Global,
+    root: &ObjectId,
+    known: &[ObjectId],
+) -> Answer {
+    let mut known = set_of(alloc, known)?;
+    let whole = is_complete_beyond(source, &mut known, root)?;
+    beyond(alloc, whole, &known)
+}
+
+fn learn<O: Objects>(source: &mut O, alloc: Global, sides: &Sides) -> Answer {
+    let mut known = set_of(alloc, &sides.exclude)?;
+    learn_links(source, &mut known, &sides.include)?;
+    listed(alloc, known.as_slice())
 }
 
 // Names that a row says are known.
@@ -110,22 +135,21 @@ fn beyond(alloc: Global, whole: bool, known: &IndexSet<ObjectId>) -> Answer {
 fn told<T>(answer: Result<T, GraphFault>) -> anyhow::Result<T> {
     match answer {
         Ok(value) => Ok(value),
-        Err(fault) => match fault {
-            GraphFault::Missing(id) => bail!("{fault} {}", Shown(id)),
-            GraphFault::Store(_) => bail!("{fault}"),
-        },
+        Err(fault) => Err(match &fault {
+            GraphFault::Missing(id) => blaming(&fault, &Shown(*id)),
+            GraphFault::Store(_) => fault.into(),
+        }),
     }
 }
 
 pub fn told_base<T>(answer: Result<T, HistoryFault>) -> anyhow::Result<T> {
     match answer {
         Ok(value) => Ok(value),
-        Err(fault) => match fault {
-            HistoryFault::Missing(id) | HistoryFault::NotACommit(id) => bail!(
-                "{fault} {}",
-                Shown(id)
-            ),
-            HistoryFault::Store(_) => bail!("{fault}"),
-        },
+        Err(fault) => Err(match &fault {
+            HistoryFault::Missing(id) | HistoryFault::NotACommit(id) => {
+                blaming(&fault, &Shown(*id))
+            }
+            HistoryFault::Store(_) => fault.into(),
+        }),
     }
 }

@@ -21,6 +21,7 @@ mod verdict_rows;
 use crate::answers::{Answer, word};
 use crate::devices::{Device, Host};
 use crate::ids::two;
+use std::io::{BufRead, BufReader, Read};
 use vc_folder::FolderLock;
 
 // What the rows so far have opened and locked.
@@ -35,9 +36,13 @@ fn main(rt: HostRuntime) -> anyhow::Result<()> {
         devices: Vec::new(rt.alloc()),
         locks: Vec::new(rt.alloc()),
     };
-    for line in rt.lines(rt.alloc()) {
-        let line = line?;
-        rt.println(printed(&rt, &mut held, line.as_str())?)?;
+    print_all(&rt, rt.reader(), &mut held)
+}
+
+fn print_all<R: Host, I: Read + Drop>(rt: &R, input: I, held: &mut Held<R>) -> anyhow::Result<()> {
+    for line in BufReader::new(rt.alloc(), input)?.lines(rt.alloc()) {
+        let text = printed(rt, held, line?.as_str())?;
+        println!(rt; "{text}")?;
     }
     Ok(())
 }

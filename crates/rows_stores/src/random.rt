@@ -51,6 +51,23 @@ fn has(set: u32, commit: u8) -> bool {
     set & bit(commit) != 0
 }
 
+// Whether these are the commits of a set, in order of name.
+fn are_names(found: &[ObjectId], set: u32) -> bool {
+    let mut rest = found;
+    for commit in 0..12_u8 {
+        if has(set, commit) {
+            let Some((first, others)) = rest.split_first() else {
+                return false;
+            };
+            if *first != lettered(commit) {
+                return false;
+            }
+            rest = others;
+        }
+    }
+    rest.is_empty()
+}
+
 // The commits of a set, in order of name.
 fn names(alloc: Global, set: u32) -> Result<Vec<ObjectId>, AllocError> {
     let mut names = Vec::new(alloc);
@@ -62,10 +79,9 @@ fn names(alloc: Global, set: u32) -> Result<Vec<ObjectId>, AllocError> {
     Ok(names)
 }
 
-// The parents of each commit, as sets. Only with cycles may a parent be no earlier commit.
-fn random_graph(alloc: Global, numbers: &mut Numbers, count: u8) -> Result<Vec<u32>, AllocError> {
+// Adds so many commits to the parents of each commit, as sets. Only with cycles may a parent be no earlier commit.
+fn add_random(parents: &mut Vec<u32>, numbers: &mut Numbers, count: u8) -> Result<(), AllocError> {
     let has_cycles = numbers.below(4) == 0;
-    let mut parents = Vec::new(alloc);
     for commit in 0..count {
         let choices = if has_cycles { count } else { commit };
         let mut own = 0;
@@ -74,17 +90,17 @@ fn random_graph(alloc: Global, numbers: &mut Numbers, count: u8) -> Result<Vec<u
         }
         parents.push(own)?;
     }
-    Ok(parents)
+    Ok(())
 }
 
-fn table_of(alloc: Global, parents: &[u32]) -> Result<Table, AllocError> {
-    let mut table = Table::new(alloc);
+// Adds each commit with its parents to a table.
+fn add_all(table: &mut Table, alloc: Global, parents: &[u32]) -> Result<(), AllocError> {
     let mut commit = 0_u8;
     for own in parents {
         table.add(lettered(commit), &names(alloc, *own)?)?;
         commit = commit.wrapping_add(1);
     }
-    Ok(table)
+    Ok(())
 }
 
 // The ancestors of all commits of a set: parents are added as often as there are commits.
@@ -113,29 +129,64 @@ fn best(parents: &[u32], common: u32) -> u32 {
     common & !passed
 }
 
-// Whether all is answered of two commits as the definitions have it, and no commit is read twice.
+// The common ancestors of two commits.
+fn common(parents: &[u32], pair: (u8, u8)) -> u32 {
+    ancestors(parents, bit(pair.0)) & ancestors(parents, bit(pair.1))
+}
+
+// Whether the best common ancestors of two commits are answered as the definition has it.
+fn agrees_on_bases(
+    alloc: Global,
+    table: &mut Table,
+    parents: &[u32],
+    pair: (u8, u8),
+    known: &Generations,
+) -> Result<bool, HistoryFault> {
+    let (a, b) = (lettered(pair.0), lettered(pair.1));
+    let found = merge_bases(alloc, table, &a, &b, known)?;
+    Ok(are_names(&found, best(parents, common(parents, pair))))
+}
+
+// The same of all common ancestors.
+fn agrees_on_common(
+    alloc: Global,
+    table: &mut Table,
+    parents: &[u32],
+    pair: (u8, u8),
+) -> Result<bool, HistoryFault> {
+    let (a, b) = (lettered(pair.0), lettered(pair.1));
+    let found = common_ancestors(alloc, table, &a, &b)?;
+    Ok(are_names(&found, common(parents, pair)))
+}
+
+// The same of whether the first is an ancestor of the second.
+fn agrees_on_ancestry(
+    alloc: Global,
+    table: &mut Table,
+    parents: &[u32],
+    pair: (u8, u8),
+    known: &Generations,
+) -> Result<bool, HistoryFault> {
+    let (a, b) = (lettered(pair.0), lettered(pair.1));
+    let descends = is_ancestor(alloc, table, &a, &b, known)?;
+    Ok(descends == has(ancestors(parents, bit(pair.1)), pair.0))
+}
+
+// Whether all is answered so of two commits with nothing known, and for the bases no commit is read twice.
 fn agrees_on_pair(
     alloc: Global,
     table: &mut Table,
     parents: &[u32],
-    a: u8,
-    b: u8,
+    pair: (u8, u8),
+    none: &Generations,
 ) -> Result<bool, HistoryFault> {
-    let of_a = ancestors(parents, bit(a));
-    let of_b = ancestors(parents, bit(b));
-    let (left, right) = (lettered(a), lettered(b));
+    let all = ancestors(parents, bit(pair.0) | bit(pair.1));
     table.reads = 0;
-    let none = Generations::new(alloc);
-    let bases = merge_bases(alloc, table, &left, &right, &none)?;
-    let reads = table.reads;
-    let common = common_ancestors(alloc, table, &left, &right)?;
-    let descends = is_ancestor(alloc, table, &left, &right, &none)?;
-    Ok(
-        bases == names(alloc, best(parents, of_a & of_b))?
-            && reads == u64::from((of_a | of_b).count_ones())
-            && common == names(alloc, of_a & of_b)?
-            && descends == has(of_b, a),
-    )
+    let bases = agrees_on_bases(alloc, table, parents, pair, none)?;
+    let once = table.reads == u64::from(all.count_ones());
+    let common = agrees_on_common(alloc, table, parents, pair)?;
+    let ancestry = agrees_on_ancestry(alloc, table, parents, pair, none)?;
+    Ok(bases && once && common && ancestry)
 }
 
 // Whether the commits are selected that the definition has, with these generations known.
@@ -146,11 +197,11 @@ fn selects(
     sets: (u32, u32),
     known: &Generations,
 ) -> Result<bool, HistoryFault> {
-    let (include, exclude) = sets;
-    let selected = ancestors(parents, include) & !ancestors(parents, exclude);
-    let (include, exclude) = (names(alloc, include)?, names(alloc, exclude)?);
+    let include = names(alloc, sets.0)?;
+    let exclude = names(alloc, sets.1)?;
     let found = commits(alloc, table, &include, &exclude, known)?;
-    Ok(found == names(alloc, selected)?)
+    let selected = ancestors(parents, sets.0) & !ancestors(parents, sets.1);
+    Ok(are_names(&found, selected))
 }
 
 // The same with nothing known: then no commit is read twice.
@@ -159,31 +210,68 @@ fn agrees_on_sets(
     table: &mut Table,
     parents: &[u32],
     sets: (u32, u32),
+    none: &Generations,
 ) -> Result<bool, HistoryFault> {
     let all = ancestors(parents, sets.0 | sets.1);
     table.reads = 0;
-    let same = selects(alloc, table, parents, sets, &Generations::new(alloc))?;
-    Ok(same && table.reads == u64::from(all.count_ones()))
+    Ok(selects(alloc, table, parents, sets, none)? && table.reads == u64::from(all.count_ones()))
 }
 
-// Whether all that is asked about the graph of a seed is answered so.
-fn agrees(alloc: Global, seed: u64) -> Result<bool, HistoryFault> {
-    let mut numbers = Numbers::of(seed);
-    let count = numbers.below(11).wrapping_add(2);
-    let parents = random_graph(alloc, &mut numbers, count)?;
-    let mut table = table_of(alloc, &parents)?;
-    let (a, b) = (numbers.below(count), numbers.below(count));
+// Whether all that is asked about a graph is answered so with nothing known.
+fn agrees(
+    alloc: Global,
+    table: &mut Table,
+    parents: &[u32],
+    numbers: &mut Numbers,
+    count: u8,
+) -> Result<bool, HistoryFault> {
+    let none = Generations::new(alloc);
+    let pair = (numbers.below(count), numbers.below(count));
     let all = bit(count).wrapping_sub(1);
     let include = numbers.next() & all;
     let exclude = numbers.next() & numbers.next() & all;
     Ok(
-        agrees_on_pair(alloc, &mut table, &parents, a, b)?
-            && agrees_on_sets(alloc, &mut table, &parents, (include, exclude))?,
+        agrees_on_pair(alloc, table, parents, pair, &none)?
+            && agrees_on_sets(alloc, table, parents, (include, exclude), &none)?,
     )
 }
 
-// Whether the bases and the ancestry of two commits are answered so, and what one has beyond the other and some more, where
-// the generations of some commits are known.
+// Whether the bases and the ancestry of two commits are answered so, and what one has beyond the other and some more, with these
+// generations known.
+fn agrees_beside(
+    alloc: Global,
+    table: &mut Table,
+    parents: &[u32],
+    roots: u32,
+    pair: (u8, u8),
+    known: &Generations,
+) -> Result<bool, HistoryFault> {
+    let (a, b) = (bit(pair.0), bit(pair.1));
+    let bases = agrees_on_bases(alloc, table, parents, pair, known)?;
+    let ancestry = agrees_on_ancestry(alloc, table, parents, pair, known)?;
+    Ok(
+        bases
+            && ancestry
+            && selects(alloc, table, parents, (a, b), known)?
+            && selects(alloc, table, parents, (a | roots, b), known)?
+            && selects(alloc, table, parents, (a, b | roots), known)?,
+    )
+}
+
+// Learns the generations of what some commits lead to.
+fn learn(
+    known: &mut Generations,
+    alloc: Global,
+    table: &mut Table,
+    roots: u32,
+) -> Result<(), HistoryFault> {
+    for root in &names(alloc, roots)? {
+        known.learn(alloc, table, root)?;
+    }
+    Ok(())
+}
+
+// Whether all is answered so with the generations known of what some commits lead to.
 fn agrees_where_known(
     alloc: Global,
     table: &mut Table,
@@ -191,39 +279,45 @@ fn agrees_where_known(
     roots: u32,
     pair: (u8, u8),
 ) -> Result<bool, HistoryFault> {
-    let (a, b) = pair;
     let mut known = Generations::new(alloc);
-    for root in names(alloc, roots)? {
-        known.learn(alloc, table, &root)?;
-    }
-    let of_a = ancestors(parents, bit(a));
-    let of_b = ancestors(parents, bit(b));
-    let (left, right) = (lettered(a), lettered(b));
-    let bases = merge_bases(alloc, table, &left, &right, &known)?;
-    let descends = is_ancestor(alloc, table, &left, &right, &known)?;
-    Ok(
-        bases == names(alloc, best(parents, of_a & of_b))?
-            && descends == has(of_b, a)
-            && selects(alloc, table, parents, (bit(a), bit(b)), &known)?
-            && selects(alloc, table, parents, (bit(a) | roots, bit(b)), &known)?
-            && selects(alloc, table, parents, (bit(a), bit(b) | roots), &known)?,
-    )
+    learn(&mut known, alloc, table, roots)?;
+    agrees_beside(alloc, table, parents, roots, pair, &known)
 }
 
-// Whether all is answered so where nothing is known of the graph of a seed, where all is, and where a part is.
-fn agrees_numbered(alloc: Global, seed: u64) -> Result<bool, HistoryFault> {
-    let mut numbers = Numbers::of(seed);
-    let count = numbers.below(11).wrapping_add(2);
-    let parents = random_graph(alloc, &mut numbers, count)?;
-    let mut table = table_of(alloc, &parents)?;
-    let (a, b) = (numbers.below(count), numbers.below(count));
+// Whether all is answered so where nothing is known of a graph, where all is, and where a part is.
+fn agrees_numbered(
+    alloc: Global,
+    table: &mut Table,
+    parents: &[u32],
+    numbers: &mut Numbers,
+    count: u8,
+) -> Result<bool, HistoryFault> {
+    let pair = (numbers.below(count), numbers.below(count));
     let all = bit(count).wrapping_sub(1);
     let part = numbers.next() & numbers.next() & all;
     Ok(
-        agrees_where_known(alloc, &mut table, &parents, 0, (a, b))?
-            && agrees_where_known(alloc, &mut table, &parents, all, (a, b))?
-            && agrees_where_known(alloc, &mut table, &parents, part, (a, b))?,
+        agrees_where_known(alloc, table, parents, 0, pair)?
+            && agrees_where_known(alloc, table, parents, all, pair)?
+            && agrees_where_known(alloc, table, parents, part, pair)?,
     )
+}
+
+// Whether all that the verb asks about the graph of a seed is answered so.
+fn agrees_of(
+    alloc: Global,
+    table: &mut Table,
+    parents: &mut Vec<u32>,
+    verb: &str,
+    seed: u64,
+) -> Result<bool, HistoryFault> {
+    let mut numbers = Numbers::of(seed);
+    let count = numbers.below(11).wrapping_add(2);
+    add_random(parents, &mut numbers, count)?;
+    add_all(table, alloc, parents)?;
+    match verb {
+        "random" => agrees(alloc, table, parents, &mut numbers, count),
+        _ => agrees_numbered(alloc, table, parents, &mut numbers, count),
+    }
 }
 
 /// About how many of so many random graphs all is answered as the definitions have it.
@@ -231,12 +325,15 @@ pub fn agreements(alloc: Global, verb: &str, text: &str) -> Answer {
     let seeds: u64 = text.parse()?;
     let mut agreed = 0_u64;
     for seed in 0..seeds {
-        let same = if verb == "random" {
-            agrees(alloc, seed)?
-        } else {
-            agrees_numbered(alloc, seed)?
-        };
+        let mut parents = Vec::new(alloc);
+        let mut table = Table::new(alloc);
+        let same = agrees_of(alloc, &mut table, &mut parents, verb, seed)?;
         agreed = agreed.wrapping_add(u64::from(same));
     }
+    told(alloc, agreed)
+}
+
+/// How many agree.
+pub fn told(alloc: Global, agreed: u64) -> Answer {
     Ok(format!(in alloc; "{agreed} agree")?)
 }

@@ -1,7 +1,7 @@
 //! Random changes of refs, packed now and then, beside a list of values that is searched from end to end.
 use crate::answers::Answer;
 use crate::ids::lettered;
-use crate::random::Numbers;
+use crate::random::{Numbers, told};
 use crate::ref_rows::name_of;
 use std::alloc::{AllocError, Global};
 use vc_files::MemoryFiles;
@@ -27,7 +27,6 @@ const STEPS: u8 = 40;
 #[derive(Clone, Copy, PartialEq, Eq)]
 enum Said {
     Done,
-    Value(Option<ObjectId>),
     Stale(Option<ObjectId>),
     Conflict(Option<u8>),
     Another,
@@ -53,9 +52,22 @@ impl Plain {
         }
     }
 
+    // Takes the value of each name away.
+    fn clear(&mut self) {
+        for value in self.0.iter_mut() {
+            *value = None;
+        }
+    }
+
     // How many names have a value.
     fn count(&self) -> usize {
-        self.0.iter().filter(|value| value.is_some()).count()
+        let mut count = 0_usize;
+        for value in &self.0 {
+            if value.is_some() {
+                count = count.wrapping_add(1);
+            }
+        }
+        count
     }
 
     fn put(&mut self, name: u8, value: Option<ObjectId>) {
@@ -162,35 +174,56 @@ fn step(
     };
     let name = name_of(alloc, text_of(at))?;
     let mut refs = Refs::new(alloc, files);
-    Ok(match numbers.below(10) {
-        0 => outcome(refs.pack()) == Said::Done,
-        1 => are_listed(&refs.list()?, plain),
-        2 => Said::Value(refs.get(&name)?) == Said::Value(plain.get(at)),
-        3 | 4 | 5 => outcome(refs.remove(&name, expected)) == plain.remove(at, expected),
-        _ => outcome(refs.set(&name, expected, new)) == plain.set(at, expected, new),
-    })
+    let same: Result<bool, RefFault> = match numbers.below(10) {
+        0 => Ok(outcome(refs.pack()) == Said::Done),
+        1 => lists(&mut refs, plain),
+        2 => is_value(refs.get(&name), plain.get(at)),
+        3 | 4 | 5 => Ok(outcome(refs.remove(&name, expected)) == plain.remove(at, expected)),
+        _ => Ok(outcome(refs.set(&name, expected, new)) == plain.set(at, expected, new)),
+    };
+    Ok(same?)
+}
+
+// Whether all refs are listed.
+fn lists(refs: &mut Refs<'_, MemoryFiles>, plain: &Plain) -> Result<bool, RefFault> {
+    let listed = refs.list()?;
+    Ok(are_listed(&listed, plain))
+}
+
+// Whether the value of a ref is this one.
+fn is_value(
+    found: Result<Option<ObjectId>, RefFault>,
+    expected: Option<ObjectId>,
+) -> Result<bool, RefFault> {
+    let value = found?;
+    Ok(value == expected)
 }
 
 // Whether each call of a seed says what it should, and all refs are listed in the end.
-fn agrees(alloc: Global, seed: u64) -> anyhow::Result<bool> {
+fn agrees(
+    alloc: Global,
+    files: &mut MemoryFiles,
+    plain: &mut Plain,
+    seed: u64,
+) -> anyhow::Result<bool> {
     let mut numbers = Numbers::of(seed);
-    let mut files = MemoryFiles::new(alloc);
-    let mut plain = Plain::new(alloc)?;
     for _ in 0..STEPS {
-        if !step(alloc, &mut files, &mut plain, &mut numbers)? {
+        if !step(alloc, files, plain, &mut numbers)? {
             return Ok(false);
         }
     }
-    let listed = Refs::new(alloc, &mut files).list()?;
-    Ok(are_listed(&listed, &plain))
+    Ok(lists(&mut Refs::new(alloc, files), plain)?)
 }
 
 /// In how many of so many runs of random calls each says what it should.
 pub fn agreements(alloc: Global, text: &str) -> Answer {
     let seeds: u64 = text.parse()?;
+    let mut plain = Plain::new(alloc)?;
     let mut agreed = 0_u64;
     for seed in 0..seeds {
-        agreed = agreed.wrapping_add(u64::from(agrees(alloc, seed)?));
+        let mut files = MemoryFiles::new(alloc);
+        plain.clear();
+        agreed = agreed.wrapping_add(u64::from(agrees(alloc, &mut files, &mut plain, seed)?));
     }
-    Ok(format!(in alloc; "{agreed} agree")?)
+    told(alloc, agreed)
 }

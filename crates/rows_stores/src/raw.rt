@@ -8,16 +8,17 @@ use std::os::unix::fs::symlink;
 
 pub fn obey<R: Host>(rt: &R, verb: &str, rest: &str) -> Answer {
     let (path, text) = two(rest);
-    match verb {
-        "raw-write" => fs::write(rt, path, bytes_of(rt.alloc(), text)?.as_slice())?,
-        "raw-folder" => fs::create_dir_all(rt, path)?,
-        "raw-remove" => fs::remove_dir(rt, path)?,
-        "raw-link" => symlink(rt, text, path)?,
-        "raw-zeros" => File::create(rt, path)?.set_len(text.parse()?)?,
-        "raw-unlink" => fs::remove_file(rt, path)?,
+    let changed = match verb {
+        "raw-write" => fs::write(rt, path, bytes_of(rt.alloc(), text)?.as_slice()),
+        "raw-folder" => fs::create_dir_all(rt, path),
+        "raw-remove" => fs::remove_dir(rt, path),
+        "raw-link" => symlink(rt, text, path),
+        "raw-zeros" => File::create(rt, path)?.set_len(text.parse()?),
+        "raw-unlink" => fs::remove_file(rt, path),
         "raw-kind" => return kind(rt, path),
         _ => return read(rt, path),
-    }
+    };
+    changed?;
     done(rt.alloc())
 }
 

@@ -3,11 +3,12 @@ ghost use Rattle.std.specs.Prelude.{IfOk};
 ghost use Rattle.vc_refs.specs.Head.{IsHeadInRefs};
 ghost use Rattle.vc_refs.specs.RefMap.{IsInRefs};
 
-use crate::answers::{Answer, done, id_or_none, joined, word};
+use crate::answers::{Answer, blaming, done, id_or_none, or_nothing, push_item, word};
 use crate::graph_rows;
 use crate::ids::{Shown, id_in, id_of, two};
-use anyhow::bail;
-use std::alloc::Global;
+use anyhow::{anyhow, bail};
+use std::alloc::{AllocError, Global};
+use std::fmt::Write;
 use vc_files::Files;
 use vc_history::Generations;
 use vc_object::ObjectId;
@@ -17,24 +18,22 @@ use vc_store::Store;
 
 pub fn obey<F: Files>(files: &mut F, alloc: Global, verb: &str, rest: &str) -> Answer {
     let mut refs = Refs::new(alloc, files);
-    match verb {
-        "refs" => listed(alloc, &told(refs.list())?),
-        "head" => head_text(alloc, told(refs.head())?),
-        "resolve-head" => id_or_none(alloc, told(refs.resolve_head())?),
-        "set-head" => {
-            told(refs.set_head(&head_of(alloc, rest)?))?;
-            done(alloc)
-        }
-        "pack-refs" => {
-            told(refs.pack())?;
-            done(alloc)
-        }
-        "ref" | "conflict" | "set" | "delete" => obey_named(&mut refs, alloc, verb, rest),
-        _ => {
-            let none = Generations::new(alloc);
-            graph_rows::obey_commits(&mut Store::new(alloc, files), alloc, verb, rest, &none)
-        }
-    }
+    let answer = match verb {
+        "refs" => return listed(alloc, &told(refs.list())?),
+        "head" => return head_text(alloc, told(refs.head())?),
+        "resolve-head" => return id_or_none(alloc, told(refs.resolve_head())?),
+        "set-head" => refs.set_head(&head_of(alloc, rest)?),
+        "pack-refs" => refs.pack(),
+        "ref" | "conflict" | "set" | "delete" => return obey_named(&mut refs, alloc, verb, rest),
+        _ => return obey_commits(files, alloc, verb, rest),
+    };
+    told(answer)?;
+    done(alloc)
+}
+
+fn obey_commits<F: Files>(files: &mut F, alloc: Global, verb: &str, rest: &str) -> Answer {
+    let none = Generations::new(alloc);
+    graph_rows::obey_commits(&mut Store::new(alloc, files), alloc, verb, rest, &none)
 }
 
 // Rows with a ref's name, and some with its old id and its new one.
@@ -55,18 +54,20 @@ fn obey_named<F: Files>(refs: &mut Refs<'_, F>, alloc: Global, verb: &str, rest:
 
 // What a call gave, or its refusal with what it tells.
 fn told<T>(answer: Result<T, RefFault>) -> anyhow::Result<T> {
-    let fault = match answer {
-        Ok(value) => return Ok(value),
-        Err(fault) => fault,
-    };
-    let what = match &fault {
-        RefFault::Stale(Some(id)) => bail!("{fault} {}", Shown(*id)),
-        RefFault::Stale(None) => "none",
-        RefFault::Conflict(name) => name.as_str(),
-        RefFault::BadRefFile(path) => path.as_str(),
-        RefFault::HeadLoop | RefFault::Fault(_) => bail!("{fault}"),
-    };
-    bail!("{fault} {what}")
+    match answer {
+        Ok(value) => Ok(value),
+        Err(fault) => Err(refusal(&fault)),
+    }
+}
+
+fn refusal(fault: &RefFault) -> anyhow::Error {
+    match fault {
+        RefFault::Stale(Some(id)) => blaming(fault, &Shown(*id)),
+        RefFault::Stale(None) => blaming(fault, &"none"),
+        RefFault::Conflict(name) => blaming(fault, name),
+        RefFault::BadRefFile(path) => blaming(fault, path),
+        RefFault::HeadLoop | RefFault::Fault(_) => anyhow!("{fault}"),
+    }
 }
 
 /// The name of a ref.
@@ -99,9 +100,15 @@ fn head_text(alloc: Global, head: Option<Head>) -> Answer {
 }
 
 fn listed(alloc: Global, refs: &[(RefName, ObjectId)]) -> Answer {
-    let mut lines = Vec::new(alloc);
+    let mut list = String::new(alloc);
     for (name, id) in refs {
-        lines.push(format!(in alloc; "{name} {}", Shown(*id))?)?;
+        push_ref(&mut list, name, *id)?;
     }
-    joined(alloc, &lines, ", ")
+    or_nothing(list)
+}
+
+/// Writes a ref after those of a list.
+pub fn push_ref(list: &mut String, name: &RefName, id: ObjectId) -> Result<(), AllocError> {
+    push_item(list, ", ", name)?;
+    write!(list, " {}", Shown(id))
 }

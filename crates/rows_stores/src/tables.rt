@@ -2,12 +2,12 @@
 ghost use Rattle.std.specs.Prelude.{None};
 ghost use Rattle.vc_files.specs.Failures.{unstopped};
 
-use crate::answers::{Answer, done};
+use crate::answers::{Answer, displayed, done};
 use crate::ids::{bytes_of, id_of, ids_of, lettered, numbered, two};
 use crate::{generation_rows, graph_rows};
-use anyhow::bail;
 use indexmap::IndexMap;
 use std::alloc::{AllocError, Global};
+use std::mem;
 use vc_graph::Overlay;
 use vc_history::Generations;
 use vc_object::{Kind, Object, ObjectId, check};
@@ -37,6 +37,30 @@ impl Table {
         let links = links.to_vec(self.alloc)?;
         self.links.insert(id, links)?;
         Ok(())
+    }
+
+    // A word is an object and then what it links to, all of them letters.
+    fn add_word(&mut self, word: &str) -> Result<(), AllocError> {
+        let Some((object, letters)) = word.as_bytes().split_first() else {
+            return Ok(());
+        };
+        let mut links = Vec::new(self.alloc);
+        for letter in letters {
+            links.push(lettered(*letter))?;
+        }
+        self.links.insert(lettered(*object), links)?;
+        Ok(())
+    }
+
+    fn add_other(&mut self, word: &str) -> anyhow::Result<()> {
+        self.add_word(word)?;
+        self.others.push(id_of(self.alloc, word)?)?;
+        Ok(())
+    }
+
+    // How many reads there were since the last such question.
+    fn take_reads(&mut self) -> u64 {
+        mem::replace(&mut self.reads, 0)
     }
 
     fn copied(&self, id: &ObjectId) -> Result<Option<Vec<ObjectId>>, AllocError> {
@@ -97,65 +121,50 @@ pub struct Drawn {
 }
 
 impl Drawn {
-    /// Each word is an object and then what it links to, all of them letters.
-    pub fn new(alloc: Global, text: &str) -> Result<Drawn, AllocError> {
-        let mut drawn = Drawn {
+    /// With no object.
+    pub fn new(alloc: Global) -> Drawn {
+        Drawn {
             alloc,
             table: Table::new(alloc),
             carried: Vec::new(alloc),
             top: Vec::new(alloc),
             known: Generations::new(alloc),
-        };
-        for word in text.split(' ') {
-            drawn.add(word)?;
         }
-        Ok(drawn)
     }
 
-    fn add(&mut self, word: &str) -> Result<(), AllocError> {
-        let Some((object, letters)) = word.as_bytes().split_first() else {
-            return Ok(());
-        };
-        let mut links = Vec::new(self.alloc);
-        for letter in letters {
-            links.push(lettered(*letter))?;
+    /// Adds objects to the table: each word is one and then what it links to, all of them letters.
+    pub fn draw(&mut self, text: &str) -> Result<(), AllocError> {
+        for word in text.split(' ') {
+            self.table.add_word(word)?;
         }
-        self.table.add(lettered(*object), &links)
+        Ok(())
     }
 
     pub fn obey(&mut self, verb: &str, rest: &str) -> Answer {
         match verb {
-            "reads" => {
-                let reads = self.table.reads;
-                self.table.reads = 0;
-                return Ok(format!(in self.alloc; "{reads}")?);
-            }
-            "other" => {
-                self.add(rest)?;
-                self.table.others.push(id_of(self.alloc, rest)?)?;
-            }
-            "carry" => {
-                let (id, text) = two(rest);
-                let body = bytes_of(self.alloc, text)?;
-                self.carried.push((id_of(self.alloc, id)?, body))?;
-            }
+            "reads" => return displayed(self.alloc, &self.table.take_reads()),
+            "other" => self.table.add_other(rest)?,
+            "carry" => self.carry(rest)?,
             "layers" => self.add_layers(rest)?,
             "know" => {
                 return generation_rows::learn(&mut self.table, self.alloc, &mut self.known, rest);
             }
-            "numbered" => {
-                let (verb, rest) = two(rest);
-                return graph_rows::obey_commits(
-                    &mut self.table,
-                    self.alloc,
-                    verb,
-                    rest,
-                    &self.known,
-                );
-            }
+            "numbered" => return self.ask_numbered(rest),
             _ => return self.ask(verb, rest),
         }
         done(self.alloc)
+    }
+
+    fn carry(&mut self, rest: &str) -> anyhow::Result<()> {
+        let (id, text) = two(rest);
+        let body = bytes_of(self.alloc, text)?;
+        self.carried.push((id_of(self.alloc, id)?, body))?;
+        Ok(())
+    }
+
+    fn ask_numbered(&mut self, rest: &str) -> Answer {
+        let (verb, rest) = two(rest);
+        graph_rows::obey_commits(&mut self.table, self.alloc, verb, rest, &self.known)
     }
 
     fn ask(&mut self, verb: &str, rest: &str) -> Answer {
@@ -163,13 +172,14 @@ impl Drawn {
         if self.carried.is_empty() {
             return graph_rows::obey_commits(&mut self.table, self.alloc, verb, rest, &none);
         }
-        let carried = lent(self.alloc, &self.carried)?;
-        let mut objects = Overlay {
-            stored: &mut self.table,
-            carried: &carried,
-            alloc: self.alloc,
-        };
-        graph_rows::obey_commits(&mut objects, self.alloc, verb, rest, &none)
+        ask_over(
+            &mut self.table,
+            self.alloc,
+            &self.carried,
+            verb,
+            rest,
+            &none,
+        )
     }
 
     // Adds so many layers of so many commits, each of which has all of the layer below as its parents: the one that was
@@ -200,22 +210,40 @@ impl Drawn {
     }
 }
 
-// The trees and commits that are carried, by name.
-fn lent(
+// A row on what is carried over a table.
+fn ask_over(
+    table: &mut Table,
     alloc: Global,
     carried: &[(ObjectId, Vec<u8>)],
-) -> anyhow::Result<IndexMap<ObjectId, Object<'_>>> {
+    verb: &str,
+    rest: &str,
+    generations: &Generations,
+) -> Answer {
     let mut objects = IndexMap::new(alloc);
+    lend_all(&mut objects, carried)?;
+    let mut overlay = Overlay {
+        stored: table,
+        carried: &objects,
+        alloc,
+    };
+    graph_rows::obey_commits(&mut overlay, alloc, verb, rest, generations)
+}
+
+// Puts the trees and commits that are carried with the objects, by name.
+fn lend_all<'a>(
+    objects: &mut IndexMap<ObjectId, Object<'a>>,
+    carried: &'a [(ObjectId, Vec<u8>)],
+) -> anyhow::Result<()> {
     for (id, body) in carried {
-        let kind = if body.starts_with(b"tree ") {
-            Kind::Commit
-        } else {
-            Kind::Tree
-        };
-        match check(kind, body) {
-            Ok(object) => objects.insert(*id, object)?,
-            Err(fault) => bail!("{fault}"),
-        };
+        objects.insert(*id, check(kind_of(body), body)?)?;
     }
-    Ok(objects)
+    Ok(())
+}
+
+fn kind_of(body: &[u8]) -> Kind {
+    if body.starts_with(b"tree ") {
+        Kind::Commit
+    } else {
+        Kind::Tree
+    }
 }

@@ -6,7 +6,7 @@ use std::alloc::Global;
 use vc_history::Generations;
 use vc_object::ObjectId;
 use vc_object_map::Commits;
-use vc_push::Command;
+use vc_push::{Command, Reason};
 use vc_quarantine::Known;
 use vc_session::judge;
 
@@ -18,17 +18,26 @@ pub fn obey<C: Commits>(
     rest: &str,
     generations: &Generations,
 ) -> Answer {
+    let command = command(alloc, rest)?;
+    let mut known = Known::nothing(alloc);
+    match judge(alloc, commits, &mut known, &command, generations) {
+        Ok(Some(reason)) => told(alloc, reason),
+        Ok(None) => word(alloc, "passes"),
+        Err(fault) => Err(fault.into()),
+    }
+}
+
+fn command(alloc: Global, rest: &str) -> anyhow::Result<Command> {
     let (old, rest) = two(rest);
     let (new, name) = two(rest);
-    let command = Command {
+    Ok(Command {
         old: id_in(alloc, old)?.unwrap_or(ObjectId::ZERO),
         new: id_in(alloc, new)?.unwrap_or(ObjectId::ZERO),
         name: bytes_of(alloc, name)?,
-    };
-    let mut known = Known::nothing(alloc);
-    let Some(reason) = judge(alloc, commits, &mut known, &command, generations)? else {
-        return word(alloc, "passes");
-    };
+    })
+}
+
+fn told(alloc: Global, reason: Reason) -> Answer {
     let text = reason.text().as_bstr();
     Ok(format!(in alloc; "{} {text}", reason.number())?)
 }

@@ -18,10 +18,11 @@ use Rattle.vc_refs.specs.RefFault.{BlamesPacked, BlamesRemove}
 use Rattle.vc_refs.specs.Refs.{deciding_file, is_taken, loose_refs, packed_at, packed_in, packed_map, packed_path, refs, ChangesOnly, IsBadLoose, IsBadRef, IsGoodPackedFile}
 use Rattle.vc_refs.specs.Packed.{PackedMap, IsPackedMap, is_packed_name, packed_refs}
 use Rattle.vc_refs.specs.RefFile.{id_in}
-use Rattle.vc_refs.specs.RefMap.{IsInRefs, is_ref}
+use Rattle.vc_refs.specs.RefMap.{IsInRefs, IsRefMap, is_ref}
 use Rattle.vc_refs.specs.declared.faults.RefFault.{RefFault}
 use Rattle.vc_refs.specs.declared.faults.RefFault.TheVariants.{Stale, Conflict, BadRefFile, HeadLoop, Fault}
-use Rattle.vc_refs.proofs.PackedLaws.{id_in-valid, packed_entry, packed_refs-valid}
+use Rattle.vc_refs.proofs.ApartLemmas.{empty-IsRefMap}
+use Rattle.vc_refs.proofs.PackedLaws.{id_in-valid, packed_entry, packed_refs-IsRefMap, packed_refs-valid}
 use Rattle.vc_refs.proofs.PackedLemmas.{empty-IsPackedMap}
 use Rattle.vc_refs.proofs.RefsLemmas.{loose-at, loose-same, loose_absent, loose_legal, taken_from_ref}
 
@@ -162,6 +163,15 @@ packed_map-valid content packed is = by (files.get content packed_path) is
     by : (found : Option (List ℕ)) → packed_in found ≡ Some packed → IsPackedMap packed
     by None e = let none : empty ≡ packed = cc e in subst IsPackedMap none empty-IsPackedMap
     by (Some text) e = packed_refs-valid text packed e
+
+-- its names are those of a map of refs
+pub packed_map-IsRefMap : (content : FileMap) (packed : PackedMap) → packed_map content ≡ Some packed → IsRefMap (files.get packed)
+unfolding packed_map
+packed_map-IsRefMap content packed is = by (files.get content packed_path) is
+  where
+    by : (found : Option (List ℕ)) → packed_in found ≡ Some packed → IsRefMap (files.get packed)
+    by None e = let none : empty ≡ packed = cc e in subst (λ (m : PackedMap). IsRefMap (files.get m)) none empty-IsRefMap
+    by (Some text) e = packed_refs-IsRefMap text packed e
 
 -- a packed one has a legal name and a whole id
 pub packed_parts : (content : FileMap) (name : List ℕ) (id : ObjectId) → packed_at (packed_map content) name ≡ Some id → (is_packed_name name ≡ true) × (is_id id ≡ true)

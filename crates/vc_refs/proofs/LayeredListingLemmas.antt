@@ -1,5 +1,5 @@
 -- The loose refs are put over the packed ones, path by path, and taken away when all are packed.
-use Rattle.std.proofs.Common.{◌≡◌, ℕ, zero, suc, get_or, Bool, true, false, cond, ◌||◌, ◌⊎◌, inl, inr, true≢false, nat_eq, List, ◌∷◌, ◌++◌, map, length, ◌<◌, Option, Some, None, sym, ap, refl, ◌∙◌, subst, arith, [], append_assoc, append-nil}
+use Rattle.std.proofs.Common.{◌≡◌, ℕ, zero, suc, get_or, Bool, true, false, cond, ◌||◌, ◌⊎◌, inl, inr, true≢false, nat_eq, List, ◌∷◌, ◌++◌, map, length, ◌<◌, Option, Some, None, Err, sym, ap, refl, ◌∙◌, subst, arith, [], append_assoc, append-nil}
 use Rattle.std.specs.Global.{Global}
 use Rattle.std.specs.Prelude.{◌≢◌, String, bytes_eq, codes, is_some, string_bytes, option_and_then, option_map}
 use Rattle.std.specs.List.{starts_with}
@@ -22,10 +22,10 @@ use Rattle.vc_object.specs.declared.id.ObjectId.{ObjectId}
 use Rattle.vc_refs.specs.Head.{head_of, read_head, said, KeepsOutside}
 use Rattle.vc_refs.specs.LooseFault as loose
 use Rattle.vc_refs.specs.Packing.{is_one_of, loose_at, with_all, with_first, with_loose, AreGone, AreGood, AreInRefs, HasLoose, HasNoLoose, IsMapOf, IsPackedFrom, LosesSome}
-use Rattle.vc_refs.specs.RefFault.{BlamesList, BlamesPacked, IsFirstBadRef}
+use Rattle.vc_refs.specs.RefFault.{BlamesFolder, BlamesList, BlamesPacked, BlamesPacking, IsFirstBadRef, TellsDevice}
 use Rattle.vc_refs.specs.Refs.{is_taken, loose_refs, packed_at, packed_map, packed_path, refs, IsBadRef, IsGoodPackedFile, SpellsRefs}
 use Rattle.vc_refs.specs.Packed.{PackedMap, PackedRef, packed_refs, packed_text}
-use Rattle.vc_refs.specs.RefMap.{IsInRefs, IsListOf, entry_at}
+use Rattle.vc_refs.specs.RefMap.{RefMap, IsFirstFolder, IsInRefs, IsListOf, IsRefMap, entry_at}
 use Rattle.vc_refs.specs.declared.faults.RefFault.{RefFault}
 use Rattle.vc_refs.specs.declared.faults.RefFault.TheVariants.{Stale, Conflict, BadRefFile, HeadLoop, Fault}
 use Rattle.vc_refs.proofs.LayeredLemmas.{good_packed_file, refs-loose, refs-packed, packed_map-there, packed_untaken, taken_inside}
@@ -173,6 +173,33 @@ list_blames_loose content good (BadRefFile path) h = record { bad = inl h.bad; f
 list_blames_loose content good HeadLoop h = h
 list_blames_loose content good (Fault fault) h = tt
 
+-- ---- why none is packed
+-- the finite map is the map of refs
+pub same_map_of : (map : RefMap) (packed : PackedMap) → IsMapOf map packed → files.get packed ≡ map
+same_map_of map packed all i name = all name i
+
+pub packing_blames_list : (content : FileMap) (e : RefFault) → BlamesList content e → BlamesPacking content e
+packing_blames_list content (Stale current) h = h
+packing_blames_list content (Conflict other) h = absurd h
+packing_blames_list content (BadRefFile path) h = h
+packing_blames_list content HeadLoop h = h
+packing_blames_list content (Fault fault) h = tt
+
+pub packing_blames_folder : (content : FileMap) (packed : PackedMap) → SpellsRefs content → IsMapOf (refs content) packed → (e : RefFault) → BlamesFolder (files.get packed) e → BlamesPacking content e
+packing_blames_folder content packed good all (Stale current) h = h
+packing_blames_folder content packed good all (Conflict other) h = (good, subst (λ (m : RefMap). IsFirstFolder m other) (same_map_of (refs content) packed all) h)
+packing_blames_folder content packed good all (BadRefFile path) h = absurd h
+packing_blames_folder content packed good all HeadLoop h = h
+packing_blames_folder content packed good all (Fault fault) h = tt
+
+-- it is never the device's fault
+pub folder_no_device : (map : RefMap) (e : RefFault) → BlamesFolder map e → TellsDevice {T = Unit {0}} (Err e) → ⊥
+folder_no_device map (Stale current) h told = absurd h
+folder_no_device map (Conflict other) h told = cc
+folder_no_device map (BadRefFile path) h told = absurd h
+folder_no_device map HeadLoop h told = absurd h
+folder_no_device map (Fault fault) h told = cc
+
 -- ---- files that go
 pub none_lost : (content : FileMap) → LosesSome [] content content
 none_lost content = record { at = λ q. inl refl }
@@ -275,8 +302,8 @@ module _ (old : FileMap) (packed : PackedMap) (paths : List (List ℕ)) (new : F
   pub rest_kept : KeepsOutside old new
   rest_kept = record { at = outside_kept; head = head_of-same old new (outside_kept (codes "HEAD") refl refl); good = good_kept }
 
-  pub all_packed : AreGone paths new → IsPackedFrom old new
-  all_packed gone = record { loose = none; packed = inr (packed, all, packed_there) }
+  pub all_packed : IsRefMap (files.get packed) → AreGone paths new → IsPackedFrom old new
+  all_packed apart gone = record { apart = subst IsRefMap (same_map_of (refs old) packed all) apart; loose = none; packed = inr (packed, all, packed_there) }
     where
       none : (q : List ℕ) → is_taken new q ≡ false
       none q = false_from_ne_true _ (λ taken.

@@ -75,7 +75,7 @@ looks_further packed name left after e so_far is apart = record {
   apart = All-push (λ e. conflicts e.0 name ≡ false) so_far.done e so_far.apart apart;
 }
 
-split_found : (q : List ℕ) (done rest : List PackedRef) → is_some (find by_bytes q (done ++ rest)) ≡ true → (is_some (find by_bytes q done) ≡ true) ⊎ (is_some (find by_bytes q rest) ≡ true)
+pub split_found : (q : List ℕ) (done rest : List PackedRef) → is_some (find by_bytes q (done ++ rest)) ≡ true → (is_some (find by_bytes q done) ≡ true) ⊎ (is_some (find by_bytes q rest) ≡ true)
 split_found q [] rest h = inr h
 split_found q (e ∷ done) rest h =
     elim (is_eq (by_bytes q e.0)) as (λ b. is_some (cond b (Some e.1) (find by_bytes q (done ++ rest))) ≡ true → (is_some (cond b (Some e.1) (find by_bytes q done)) ≡ true) ⊎ (is_some (find by_bytes q rest) ≡ true)) [
@@ -100,18 +100,18 @@ below_found k q (e ∷ rest) below h =
       | false ↦ λ _ later. below_found k q rest parts.1 later
     ] refl h
 
-first_found : (k q : List ℕ) (v : ObjectId) (rest : List PackedRef) → below_all by_bytes k rest ≡ true → is_some (find by_bytes q ((k, v) ∷ rest)) ≡ true → by_bytes k q ≢ Greater
+pub first_found : (k q : List ℕ) (v : ObjectId) (rest : List PackedRef) → below_all by_bytes k rest ≡ true → is_some (find by_bytes q ((k, v) ∷ rest)) ≡ true → by_bytes k q ≢ Greater
 first_found k q v rest below h =
     elim (is_eq (by_bytes q k)) as (λ b. is_eq (by_bytes q k) ≡ b → is_some (cond b (Some v) (find by_bytes q rest)) ≡ true → by_bytes k q ≢ Greater) [
       | true ↦ λ same _. subst (λ n. by_bytes k n ≢ Greater) (sym (same_name q k same)) (λ greater. true≢false (sym (ap is_eq (tied_itself nat_list_cmp_total k)) ∙ ap is_eq greater))
       | false ↦ λ _ later. below_found k q rest below later
     ] refl h
 
-sorted_back : (done rest : List PackedRef) → is_sorted by_bytes (done ++ rest) ≡ true → is_sorted by_bytes rest ≡ true
+pub sorted_back : (done rest : List PackedRef) → is_sorted by_bytes (done ++ rest) ≡ true → is_sorted by_bytes rest ≡ true
 sorted_back [] rest sorted = sorted
 sorted_back (e ∷ done) rest sorted = sorted_back done rest (and_parts (below_all by_bytes e.0 (done ++ rest)) (is_sorted by_bytes (done ++ rest)) sorted).1
 
-found_here : (q k : List ℕ) (v : ObjectId) (done rest : List PackedRef) → is_eq (by_bytes q k) ≡ true → is_some (find by_bytes q (done ++ (k, v) ∷ rest)) ≡ true
+pub found_here : (q k : List ℕ) (v : ObjectId) (done rest : List PackedRef) → is_eq (by_bytes q k) ≡ true → is_some (find by_bytes q (done ++ (k, v) ∷ rest)) ≡ true
 found_here q k v [] rest same = ap (λ b. is_some (cond b (Some v) (find by_bytes q rest))) same
 found_here q k v (e ∷ done) rest same =
     elim (is_eq (by_bytes q e.0)) as (λ b. is_some (cond b (Some e.1) (find by_bytes q (done ++ (k, v) ∷ rest))) ≡ true) [ true ↦ refl | false ↦ found_here q k v done rest same ]

@@ -5,9 +5,11 @@ pub mod ObstacleLemmas
 pub mod HeadLemmas
 pub mod ListingLemmas
 pub mod PackedLemmas
+pub mod ApartLemmas
 pub mod PackedTextLemmas
 pub mod PackedLaws
 pub mod LayeredLemmas
 pub mod LayeredObstacleLemmas
+pub mod FolderLemmas
 pub mod LayeredListingLemmas
 pub mod LayeredChangeLemmas

@@ -75,7 +75,7 @@ free_above content name none q is = false_from_ne_true _ (λ above.
     folder_is_longer content name q (length name) none is parts.0 parts.1 short)
 
 -- a front of a text isn't above what it begins
-not_above_from_front : (p q r : List ℕ) → q ≡ p ++ r → slice_cmp nat_cmp p q ≢ Greater
+pub not_above_from_front : (p q r : List ℕ) → q ≡ p ++ r → slice_cmp nat_cmp p q ≢ Greater
 not_above_from_front p q r whole = subst (λ t. slice_cmp nat_cmp p t ≢ Greater) (sym whole) (front_not_above p r)
 
 -- the shortest folder that holds a file is the first in the way

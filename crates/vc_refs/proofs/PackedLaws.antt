@@ -1,4 +1,5 @@
--- What a text of packed refs stands for has legal names in `refs/` and whole ids: for those who hold the text alone.
+-- What a text of packed refs stands for has legal names in `refs/`, of which none is a folder of another, and whole ids: for those
+-- who hold the text alone.
 use Rattle.std.proofs.Common.{◌≡◌, ℕ, Bool, true, false, List, [], ◌∷◌, length, Option, Some, None, Result, Ok, Err, sym, ap, refl, ◌∙◌, subst, arith, rules}
 use Rattle.std.specs.Prelude.{codes, option_map, option_and_then, if◌then◌else◌}
 use Rattle.std.specs.FinMap.{entries, from_entries, get, get-entries}
@@ -13,8 +14,10 @@ use Rattle.vc_object.proofs.Items.{bind_some}
 use Rattle.vc_object.specs.Lines.{after_word, split}
 use Rattle.vc_object.specs.ObjectId.{is_id}
 use Rattle.vc_object.specs.declared.id.ObjectId.{ObjectId}
-use Rattle.vc_refs.specs.Packed.{PackedMap, PackedRef, IsPackedMap, hex_id, is_comment, is_packed_name, is_peeled, lines, map_of, may_be_packed, names_once, packed_name, packed_refs, ref_in, refs_in, with_ref_first}
+use Rattle.vc_refs.specs.Packed.{PackedMap, PackedRef, IsPackedMap, apart_map, hex_id, is_comment, is_packed_name, is_peeled, lines, map_of, may_be_packed, names_apart, names_once, packed_name, packed_refs, ref_in, refs_in, with_ref_first}
 use Rattle.vc_refs.specs.RefFile.{id_in, id_of, without_lf}
+use Rattle.vc_refs.specs.RefMap.{IsRefMap}
+use Rattle.vc_refs.proofs.ApartLemmas.{IsRefMap-from_apart, apart_map-kept}
 use Rattle.vc_refs.proofs.PackedLemmas.{all_found, from_entries-IsPackedMap, packed_name-valid}
 
 same_id : (bytes : List ℕ) (id : ObjectId) → Some (id_of bytes) ≡ Some id → bytes ≡ id.0
@@ -83,14 +86,28 @@ map_of-valid refs m all e = by (names_once refs) e
     by true h = let is : from_entries refs ≡ m = cc h in subst IsPackedMap is (from_entries-IsPackedMap refs all)
     by false h = absurd (cc h)
 
+-- a text stands for a map of its lines, of which no name is a folder of another
+made_of : (text : List ℕ) (m : PackedMap) → packed_refs text ≡ Some m → (option_and_then map_of (refs_in false (lines text)) ≡ Some m) × (names_apart (entries m) ≡ true)
+unfolding packed_refs
+made_of text m e = by (option_and_then map_of (refs_in false (lines text))) refl e
+  where
+    by : (o : Option PackedMap) → option_and_then map_of (refs_in false (lines text)) ≡ o → option_and_then apart_map o ≡ Some m → (option_and_then map_of (refs_in false (lines text)) ≡ Some m) × (names_apart (entries m) ≡ true)
+    by (Some all) is h =
+        let kept = apart_map-kept all m h in
+        (is ∙ ap Some kept.0, subst (λ (k : PackedMap). names_apart (entries k) ≡ true) kept.0 kept.1)
+    by None is h = absurd (cc h)
+
 -- the whole text
 pub packed_refs-valid : (text : List ℕ) (m : PackedMap) → packed_refs text ≡ Some m → IsPackedMap m
-unfolding packed_refs
-packed_refs-valid text m e = by (refs_in false (lines text)) refl e
+packed_refs-valid text m e = by (refs_in false (lines text)) refl (made_of text m e).0
   where
     by : (o : Option (List PackedRef)) → refs_in false (lines text) ≡ o → option_and_then map_of o ≡ Some m → IsPackedMap m
     by (Some refs) is h = map_of-valid refs m (refs_in-valid (lines text) false refs is) h
     by None is h = absurd (cc h)
+
+-- its names are those of a map of refs
+pub packed_refs-IsRefMap : (text : List ℕ) (m : PackedMap) → packed_refs text ≡ Some m → IsRefMap (get m)
+packed_refs-IsRefMap text m e = IsRefMap-from_apart m (packed_refs-valid text m e) (made_of text m e).1
 
 -- what the map says of a name
 pub packed_entry : (m : PackedMap) (name : List ℕ) (id : ObjectId) → IsPackedMap m → get m name ≡ Some id → (is_packed_name name ≡ true) × (is_id id ≡ true)

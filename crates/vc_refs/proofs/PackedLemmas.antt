@@ -20,7 +20,7 @@ use Rattle.std.proofs.lemmas.Map.Views.{btree_map_len-from_list}
 use Rattle.std.proofs.lemmas.List.{nil_from_length}
 use Rattle.vc_lemmas.proofs.Lists.{none_parts}
 use Rattle.vc_object.specs.declared.id.ObjectId.{ObjectId}
-use Rattle.vc_refs.specs.Packed.{PackedMap, PackedRef, IsBadPacked, IsPackedMap, is_comment, is_packed_name, is_peeled, lines, map_of, may_be_packed, names_once, packed_name, packed_refs, ref_in, refs_in, with_ref_first}
+use Rattle.vc_refs.specs.Packed.{PackedMap, PackedRef, IsBadPacked, IsPackedMap, apart_map, is_comment, is_packed_name, is_peeled, lines, map_of, may_be_packed, names_once, packed_name, packed_refs, ref_in, refs_in, with_ref_first}
 use Rattle.vc_refs.specs.PackedView.{packed_of}
 use Rattle.vc_refs.specs.RefMap.{is_ref}
 
@@ -282,9 +282,12 @@ module _ (refs : List PackedRef) (m : BTreeMap (List ℕ) ObjectId) (made : IsFr
   collected-IsPackedMap same valid = subst IsPackedMap (sym (same_refs (collected_once same))) (from_entries-IsPackedMap refs valid)
 
 -- ---- the whole text
-pub read_lines : (text : List ℕ) (found_lines : List (List ℕ)) (found : Option (List PackedRef)) → found_lines ≡ lines text → found ≡ refs_in false found_lines → packed_refs text ≡ option_and_then map_of found
+pub read_lines : (text : List ℕ) (found_lines : List (List ℕ)) (found : Option (List PackedRef)) → found_lines ≡ lines text → found ≡ refs_in false found_lines → packed_refs text ≡ option_and_then apart_map (option_and_then map_of found)
 unfolding packed_refs
-read_lines text found_lines found e f = ap (λ l. option_and_then map_of (refs_in false l)) (sym e) ∙ ap (option_and_then map_of) (sym f)
+read_lines text found_lines found e f = ap (λ l. option_and_then apart_map (option_and_then map_of (refs_in false l))) (sym e) ∙ ap (λ o. option_and_then apart_map (option_and_then map_of o)) (sym f)
+
+pub read_map : (text : List ℕ) (found_lines : List (List ℕ)) (refs : List PackedRef) (m : Option PackedMap) → found_lines ≡ lines text → Some refs ≡ refs_in false found_lines → m ≡ map_of refs → packed_refs text ≡ option_and_then apart_map m
+read_map text found_lines refs m e f g = read_lines text found_lines (Some refs) e f ∙ ap (option_and_then apart_map) (sym g)
 
 pub bad_where_none : (text : List ℕ) (found : Option PackedMap) → found ≡ packed_refs text → IfNone found (IsBadPacked text)
 bad_where_none text None e = sym e

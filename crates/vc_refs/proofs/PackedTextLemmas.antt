@@ -1,7 +1,7 @@
 -- What is written for packed refs is read as the same refs.
 use Rattle.std.proofs.Common.{◌≡◌, ℕ, zero, suc, ◌==◌, Bool, true, false, cond, List, [], ◌∷◌, ◌++◌, length, Some, is_none, sym, ap, refl, ◌∙◌, arith, append_assoc, append-nil, length-append, true≢false, nat_eq}
 use Rattle.std.specs.Prelude.{codes, map, option_and_then}
-use Rattle.std.specs.FinMap.{empty, from_entries, entries, entries_sorted, get-entries, get-from_entries, same_map, slice_cmp-IsAntisymmetric, nat_cmp-IsAntisymmetric}
+use Rattle.std.specs.FinMap.{empty, from_entries, entries, entries_sorted, get, get-entries, get-from_entries, same_map, slice_cmp-IsAntisymmetric, nat_cmp-IsAntisymmetric}
 use Rattle.std.specs.FinMap.Entries.{below_all, is_sorted}
 use Rattle.std.specs.Ordering.{nat_cmp}
 use Rattle.std.specs.declared.cmp.Ordering.{Ordering}
@@ -21,10 +21,11 @@ use Rattle.vc_object.proofs.LineTexts.{after_word_again, split_again}
 use Rattle.vc_refname.specs.RefName.{is_bad_byte, is_ref_name}
 use Rattle.vc_refname.specs.declared.fault.NameFault.TheVariants as broken
 use Rattle.vc_refname.proofs.BrokenRules.{legal_from_is_ref_name}
-use Rattle.vc_refs.specs.Packed.{PackedMap, PackedRef, IsPackedMap, hex_id, is_comment, is_packed_name, is_peeled, lines, map_of, may_be_packed, names_once, packed_name, packed_refs, packed_text, parts, ref_in, ref_line, ref_text, refs_in, with_ref_first}
+use Rattle.vc_refs.specs.Packed.{PackedMap, PackedRef, IsPackedMap, apart_map, hex_id, is_comment, is_packed_name, is_peeled, lines, map_of, may_be_packed, names_once, packed_name, packed_refs, packed_text, parts, ref_in, ref_line, ref_text, refs_in, with_ref_first}
 use Rattle.vc_refs.specs.RefFile.{without_lf}
-use Rattle.vc_refs.specs.RefMap.{is_ref}
-use Rattle.vc_refs.proofs.PackedLemmas.{find_below, map_of-once, of_T}
+use Rattle.vc_refs.specs.RefMap.{IsRefMap, is_ref}
+use Rattle.vc_refs.proofs.ApartLemmas.{apart_map-whole}
+use Rattle.vc_refs.proofs.PackedLemmas.{entries-none, find_below, map_of-once, of_T}
 use Rattle.vc_refs.proofs.RefFileLemmas.{digits_of, id_in-id_text, without_lf-line}
 
 abbrev by_bytes : List ℕ → List ℕ → Ordering
@@ -150,14 +151,16 @@ sorted_once (ref ∷ refs) sorted =
 same_again : (m : PackedMap) → from_entries (entries m) ≡ m
 same_again m = same_map nat_list_cmp_total (slice_cmp-IsAntisymmetric nat_cmp-IsAntisymmetric) _ m (λ q. get-from_entries nat_list_cmp_total (entries m) q ∙ sym (get-entries m q))
 
-pub written_refs_are_read : (m : PackedMap) → IsPackedMap m → packed_refs (packed_text m) ≡ Some m
+pub written_refs_are_read : (m : PackedMap) → IsPackedMap m → IsRefMap (get m) → packed_refs (packed_text m) ≡ Some m
 unfolding packed_refs
-written_refs_are_read m valid =
-    ap (option_and_then map_of) (lines_again (entries m) valid)
+written_refs_are_read m valid apart =
+    ap (option_and_then apart_map)
+    (ap (option_and_then map_of) (lines_again (entries m) valid)
     ∙ map_of-once (entries m) (sorted_once (entries m) (of_T _ (entries_sorted m)))
-    ∙ ap Some (same_again m)
+    ∙ ap Some (same_again m))
+    ∙ apart_map-whole m apart
 
 -- no text stands for no refs
 pub no_text : packed_refs [] ≡ Some empty
 unfolding packed_refs
-no_text = refl
+no_text = rw (entries-none) refl

@@ -1,9 +1,9 @@
 -- The text of the file `packed-refs`: refs, a line for each.
-use Rattle.std.specs.Prelude.{◌≡◌, ◌==◌, ◌&&◌, ◌++◌, ℕ, Bool, true, false, nat_eq, List, [], ◌∷◌, codes, length, map, Option, Some, None, is_none, is_some, option_map, option_and_then, if◌then◌else◌}
+use Rattle.std.specs.Prelude.{◌≡◌, ◌==◌, ◌&&◌, ◌++◌, ℕ, Bool, true, false, not, nat_eq, List, [], ◌∷◌, codes, length, map, Option, Some, None, is_none, is_some, option_map, option_and_then, if◌then◌else◌}
 use Rattle.std.specs.Cmp.Lexicographic.{slice_cmp}
 use Rattle.std.specs.Coded.{Coded, coded_ℕ, coded_list}
 use Rattle.std.specs.FinMap.{FinMap, code, entries, find, from_entries}
-use Rattle.std.specs.List.{flat_map, list_all, slice_split, starts_with}
+use Rattle.std.specs.List.{flat_map, list_all, list_any, slice_split, starts_with}
 use Rattle.std.specs.Ordering.{nat_cmp}
 use Rattle.std.specs.Result.{result_ok}
 use Rattle.std.specs.Str.{is_utf8}
@@ -14,7 +14,7 @@ use Rattle.vc_object.specs.ObjectId.{is_id}
 use Rattle.vc_object.specs.declared.id.ObjectId.{ObjectId}
 use Rattle.vc_object.specs.contracts.id.ObjectId as id
 use Rattle.vc_refs.specs.RefFile.{id_of, without_lf}
-use Rattle.vc_refs.specs.RefMap.{is_ref}
+use Rattle.vc_refs.specs.RefMap.{conflicts, is_ref}
 use denote.Ref.{Bor}
 
 -- from the bytes of a name to the id that it stands for
@@ -93,11 +93,20 @@ names_once (ref ∷ refs) = is_none (find (slice_cmp nat_cmp) ref.0 refs) && nam
 abbrev pub map_of : List PackedRef → Option PackedMap
 map_of refs = if names_once refs then Some (from_entries refs) else None
 
+-- no name is a folder of another
+abbrev pub names_apart : List PackedRef → Bool
+names_apart [] = true
+names_apart (ref ∷ refs) = not (list_any (λ (other : PackedRef). conflicts ref.0 other.0) refs) && names_apart refs
+
+-- own: no map has `a` beside `a/b`
+abbrev pub apart_map : PackedMap → Option PackedMap
+apart_map refs = if names_apart (entries refs) then Some refs else None
+
 -- the refs that the text stands for
 unfoldable pub packed_refs : List ℕ → Option PackedMap
-packed_refs text = option_and_then map_of (refs_in false (lines text))
+packed_refs text = option_and_then apart_map (option_and_then map_of (refs_in false (lines text)))
 
--- the text stands for no refs: one of its lines is of no kind or in no place, or a name stands twice
+-- the text stands for no refs: one of its lines is of no kind or in no place, a name stands twice, or one is a folder of another
 abbrev pub IsBadPacked : List ℕ → Type 0
 IsBadPacked text = packed_refs text ≡ None
 

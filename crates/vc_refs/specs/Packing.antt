@@ -8,7 +8,7 @@ use Rattle.std.specs.Cmp.Lexicographic.{slice_cmp}
 use Rattle.vc_files.specs.FileMap.{FileMap}
 use Rattle.vc_object.specs.declared.id.ObjectId.{ObjectId}
 use Rattle.vc_refs.specs.Packed.{PackedMap, PackedRef, packed_text}
-use Rattle.vc_refs.specs.RefMap.{RefMap, entry_at, without_ref, IsInRefs}
+use Rattle.vc_refs.specs.RefMap.{RefMap, entry_at, without_ref, IsInRefs, IsRefMap}
 use Rattle.vc_refs.specs.Refs.{is_taken, loose_refs, packed_at, packed_map, packed_path, refs, ChangesOnly, IsBadLoose, IsGoodPackedFile}
 
 -- a file stands in `refs/`
@@ -66,8 +66,10 @@ IsMapOf map packed = (name : List ℕ) → files.get packed name ≡ map name
 abbrev pub IsTextOf : RefMap → Option (List ℕ) → Type 0
 IsTextOf map text = (packed : PackedMap) × IsMapOf map packed × (text ≡ Some (packed_text packed))
 
--- no file is left in `refs/`, and the packed file has all refs; where no file was there, nothing has changed
+-- no file is left in `refs/`, and the packed file has all refs, of which none is a folder of another; where no file was there,
+-- nothing has changed
 pub record IsPackedFrom (old new : FileMap) : Type 0 where
+  pub apart : IsRefMap (refs old)
   pub loose : HasNoLoose new
   pub packed : (new ≡ old) ⊎ IsTextOf (refs old) (files.get new packed_path)
 

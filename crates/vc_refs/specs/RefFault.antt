@@ -4,12 +4,12 @@ use Rattle.std.specs.Ordering.{nat_cmp}
 use Rattle.std.specs.declared.cmp.Ordering.TheVariants.{Greater}
 use Rattle.std.specs.Cmp.Lexicographic.{slice_cmp}
 use Rattle.vc_files.specs.FileMap.{FileMap}
-use Rattle.vc_files.specs.declared.faults.Fault.TheVariants.{Device}
+use Rattle.vc_files.specs.declared.faults.Fault.TheVariants.{Device, Memory}
 use Rattle.vc_object.specs.declared.id.ObjectId.{ObjectId}
 use Rattle.vc_refs.specs.Head.{IsHeadLoop, IsBadHead, head_of}
-use Rattle.vc_refs.specs.Refs.{packed_path, refs, deciding_file, IsBadLoose, IsBadPackedFile, IsGoodPackedFile, IsBadRef}
+use Rattle.vc_refs.specs.Refs.{packed_path, refs, deciding_file, IsBadLoose, IsBadPackedFile, IsGoodPackedFile, IsBadRef, SpellsRefs}
 use Rattle.vc_refs.specs.Obstacle.{IsFirstInTheWay, IsFree}
-use Rattle.vc_refs.specs.RefMap.{is_ref}
+use Rattle.vc_refs.specs.RefMap.{RefMap, is_ref, IsFirstFolder}
 use Rattle.vc_refs.specs.declared.heads.Head.TheVariants.{Branch}
 use Rattle.vc_refs.specs.declared.faults.RefFault.{RefFault}
 use Rattle.vc_refs.specs.declared.faults.RefFault.TheVariants.{Stale, Conflict, BadRefFile, HeadLoop, Fault}
@@ -106,6 +106,22 @@ BlamesList content (Conflict other) = ⊥
 BlamesList content (BadRefFile path) = IsFirstBadRef content (string_bytes path)
 BlamesList content HeadLoop = ⊥
 BlamesList content (Fault fault) = ⊤
+
+-- refs are kept apart: the first that is a folder of another is a conflict; or memory is short
+abbrev pub BlamesFolder : RefMap → RefFault → Type 0
+BlamesFolder refs (Stale current) = ⊥
+BlamesFolder refs (Conflict other) = IsFirstFolder refs other
+BlamesFolder refs (BadRefFile path) = ⊥
+BlamesFolder refs HeadLoop = ⊥
+BlamesFolder refs (Fault fault) = fault ≡ Memory
+
+-- a packing is refused for the first bad file, and, where there is none, for the first ref that is a folder of another
+abbrev pub BlamesPacking : FileMap → RefFault → Type 0
+BlamesPacking content (Stale current) = ⊥
+BlamesPacking content (Conflict other) = SpellsRefs content × IsFirstFolder (refs content) other
+BlamesPacking content (BadRefFile path) = IsFirstBadRef content (string_bytes path)
+BlamesPacking content HeadLoop = ⊥
+BlamesPacking content (Fault fault) = ⊤
 
 -- HEAD can be read, or it isn't there
 pub record IsGoodHead (content : FileMap) : Type 0 where

@@ -1,7 +1,8 @@
 -- Refs as a finite map from names to ids, where no name is a folder of another.
-use Rattle.std.specs.Prelude.{◌≡◌, ℕ, Bool, true, false, ◌&&◌, ◌||◌, nat_eq, bytes_eq, List, Option, Some, None, is_some, option_map, if◌then◌else◌, codes}
+use Rattle.std.specs.Prelude.{◌≡◌, ◌≢◌, ℕ, Bool, true, false, ◌&&◌, ◌||◌, nat_eq, bytes_eq, List, Option, Some, None, is_some, option_map, if◌then◌else◌, codes}
 use Rattle.std.specs.List.{starts_with}
 use Rattle.std.specs.Ordering.{nat_cmp}
+use Rattle.std.specs.declared.cmp.Ordering.TheVariants.{Greater}
 use Rattle.std.specs.Cmp.Lexicographic.{slice_cmp}
 use Rattle.std.specs.FinMap.{find, is_sorted}
 use Rattle.vc_files.specs.Path.{is_above}
@@ -28,6 +29,18 @@ conflicts a b = is_above a b || is_above b a
 pub record IsRefMap (refs : RefMap) : Type 0 where
   pub legal : (name : List ℕ) → is_some (refs name) ≡ true → is_ref name ≡ true
   pub apart : (a b : List ℕ) → is_some (refs a) ≡ true → is_some (refs b) ≡ true → conflicts a b ≡ false
+
+-- the name of a ref, and a folder of the name of another
+pub record IsFolder (refs : RefMap) (name : List ℕ) : Type 0 where
+  pub held : is_some (refs name) ≡ true
+  pub other : List ℕ
+  pub there : is_some (refs other) ≡ true
+  pub above : is_above name other ≡ true
+
+-- the first of them, by its bytes
+pub record IsFirstFolder (refs : RefMap) (name : List ℕ) : Type 0 where
+  pub here : IsFolder refs name
+  pub first : (q : List ℕ) → IsFolder refs q → slice_cmp nat_cmp name q ≢ Greater
 
 -- the refs, with this one set
 unfoldable pub with_ref : RefMap → List ℕ → ObjectId → RefMap

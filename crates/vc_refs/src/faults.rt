@@ -16,7 +16,7 @@ pub enum RefFault {
     /// 31: the ref has this value, and not the expected one; none where it isn't there.
     Stale(Option<ObjectId>),
     /// 32: this ref is there, and one of the two names is a folder of the other. It is the first such ref by the
-    /// bytes of its name.
+    /// bytes of its name. Of all refs, which are to be packed, it is the first that is a folder of another.
     Conflict(RefName),
     /// 33: the file at this path stands for no ref, or, at `HEAD`, for no HEAD.
     BadRefFile(String),

@@ -8,6 +8,7 @@
 #![tactic(auto)]
 
 mod faults;
+mod folders;
 mod head_file;
 mod heads;
 mod layered;

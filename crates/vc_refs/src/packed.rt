@@ -2,10 +2,11 @@
 ghost use Rattle.std.specs.Prelude.{◌≡◌, ◌++◌, option_map, true, false, Some, IfOk, IfSome, IfNone, OnOk, OnErr};
 ghost use Rattle.std.specs.FinMap as names;
 ghost use Rattle.std.specs.List.{list_all};
-ghost use Rattle.vc_refs.specs.Packed.{hex_id, is_comment, is_packed_name, is_peeled, lines, map_of, may_be_packed, packed_name, packed_refs, packed_text, parts, ref_in, ref_line, refs_in, texts, IsBadPacked, IsPackedMap};
+ghost use Rattle.vc_refs.specs.Packed.{apart_map, hex_id, is_comment, is_packed_name, is_peeled, lines, map_of, may_be_packed, packed_name, packed_refs, packed_text, parts, ref_in, ref_line, refs_in, texts, IsBadPacked, IsPackedMap};
 ghost use Rattle.vc_refs.specs.PackedView.{packed_of};
-ghost use Rattle.vc_refs.specs.RefMap.{IsInRefs};
+ghost use Rattle.vc_refs.specs.RefMap.{IsInRefs, IsRefMap};
 
+use crate::folders::first_folder;
 use crate::loose::name_at;
 use crate::text::without_lf;
 use std::alloc::{AllocError, Global};
@@ -45,25 +46,31 @@ impl PackedRefs {
     }
 
     /// The refs that a text stands for, or none where the text is bad. Each line is `<id> <name>`, with forty hex digits
-    /// of either case and a legal name in `refs/` that stands once; or it begins with `#` and is passed over; or it is
-    /// `^<id>` directly behind the line of a ref, and is passed over. A line ends with LF, which the last may lack.
+    /// of either case and a legal name in `refs/` that stands once and is no folder of another; or it begins with `#` and
+    /// is passed over; or it is `^<id>` directly behind the line of a ref, and is passed over. A line ends with LF, which
+    /// the last may lack.
     pub fn read(alloc: Global, text: &[u8]) -> Result<Option<PackedRefs>, AllocError>
         ensures found { IfOk result (λ found. found ≡ packed_refs text.now) }
         ensures bad { IfOk result (λ found. IfNone found (IsBadPacked text.now)) }
         ensures packed { IfOk result (λ found. IfSome found IsPackedMap) }
+        ensures apart { IfOk result (λ found. IfSome found (λ refs. IsRefMap (names.get refs))) }
     {
         let lines = lines_of(alloc, text)?;
         let Some(refs) = refs_in(alloc, &lines)? else {
             return Ok(None);
         };
-        let found = map_of(alloc, refs)?;
+        let Some(refs) = map_of(alloc, refs)? else {
+            return Ok(None);
+        };
+        let found = apart(refs)?;
         Ok(found)
     }
 
-    /// The text of the refs: a line for each, in the order of the names' bytes.
+    /// The text of the refs: a line for each, in the order of the names' bytes. It is read as these refs, if none of their names
+    /// is a folder of another.
     pub fn write(&self, alloc: Global) -> Result<Vec<u8>, AllocError>
         ensures text { IfOk result (λ text. text.items ≡ packed_text self.now) }
-        ensures written_refs_are_read { packed_refs (packed_text self.now) ≡ Some self.now }
+        ensures written_refs_are_read { IsRefMap (names.get self.now) → packed_refs (packed_text self.now) ≡ Some self.now }
     {
         let mut text = Vec::new(alloc);
         for (name, id) in &self.by_name {
@@ -246,6 +253,17 @@ fn map_of(alloc: Global, refs: Vec<(RefName, ObjectId)>) -> Result<Option<Packed
         return Ok(None);
     }
     Ok(Some(PackedRefs { by_name }))
+}
+
+// The map, if no name is a folder of another.
+fn apart(refs: PackedRefs) -> Result<Option<PackedRefs>, AllocError>
+    ensures found { IfOk result (λ found. found ≡ apart_map refs) }
+    ensures apart { IfOk result (λ found. IfSome found (λ refs. IsRefMap (names.get refs))) }
+{
+    if first_folder(&refs)?.is_some() {
+        return Ok(None);
+    }
+    Ok(Some(refs))
 }
 
 // Writes the line of a ref.

@@ -7,7 +7,7 @@ ghost use Rattle.vc_refs.specs.Head.{head_of, head_value, IsHeadInRefs, IsLegalH
 ghost use Rattle.vc_refs.specs.Packing.{HasLoose};
 ghost use Rattle.vc_refs.specs.Obstacle.{IsFree};
 ghost use Rattle.vc_refs.specs.RefCalls.{PacksRefs, RemovesRef, SetsHead, SetsRef};
-ghost use Rattle.vc_refs.specs.RefFault.{BlamesRef, BlamesRemove, BlamesSet, BlamesObstacle, BlamesList, BlamesHead, BlamesHeadValue, HasExpected, MaySet, IsGoodHead, IsGoodHeadValue, IsFault, MayWriteRef, MayRemoveRef, TellsDevice};
+ghost use Rattle.vc_refs.specs.RefFault.{BlamesRef, BlamesRemove, BlamesSet, BlamesObstacle, BlamesList, BlamesPacking, BlamesHead, BlamesHeadValue, HasExpected, MaySet, IsGoodHead, IsGoodHeadValue, IsFault, MayWriteRef, MayRemoveRef, TellsDevice};
 
 use crate::{Head, RefFault, head_file, layered};
 use std::alloc::Global;
@@ -93,7 +93,7 @@ impl<'a, F: Files> Refs<'a, F> {
         ensures same_files { self.new.files.ghost_name ≡ self.old.files.ghost_name }
         ensures packs { PacksRefs F.honest F.content self.old.files.now self.new.files.now result }
         ensures good { F.honest → OnOk result (SpellsRefs (F.content self.old.files.now)) }
-        ensures refused { F.honest → IfErr result (BlamesList (F.content self.old.files.now)) }
+        ensures refused { F.honest → IfErr result (BlamesPacking (F.content self.old.files.now)) }
         ensures wear { Writes F.honest F.content F.failed F.can_fail F.left self.old.files.now self.new.files.now (TellsDevice result) }
         ensures looks { F.honest → HasLoose (F.content self.old.files.now) ⊎ Wears F.failed F.can_fail F.left self.old.files.now self.new.files.now (TellsDevice result) }
     {

@@ -5,6 +5,7 @@ ghost use Rattle.vc_files.specs.Failures.{Wears, Writes};
 ghost use Rattle.vc_refs.specs.RefFault.{BlamesPacked};
 ghost use Rattle.vc_refs.specs.Refs.{packed_map, packed_path};
 ghost use Rattle.vc_refs.specs.Packed.{packed_refs, packed_text};
+ghost use Rattle.vc_refs.specs.RefMap.{IsRefMap};
 
 use crate::{PackedRefs, RefFault};
 use std::alloc::Global;
@@ -92,14 +93,14 @@ pub fn read_packed<F: Files>(files: &mut F, alloc: Global) -> Result<PackedRefs,
     Ok(refs)
 }
 
-// Writes the packed file.
+// Writes the packed file. It can be read, if none of the names is a folder of another.
 pub(super) fn write_packed<F: Files>(
     files: &mut F,
     alloc: Global,
     refs: &PackedRefs,
 ) -> Result<(), Fault>
     ensures written { F.honest → OnOk result (F.content files.new ≡ names.insert (F.content files.old) packed_path (packed_text refs.now)) }
-    ensures read { packed_refs (packed_text refs.now) ≡ Some refs.now }
+    ensures read { IsRefMap (names.get refs.now) → packed_refs (packed_text refs.now) ≡ Some refs.now }
     ensures err { F.honest → OnErr result (F.content files.new ≡ F.content files.old) }
     ensures wear { Writes F.honest F.content F.failed F.can_fail F.left files.old files.new (IsErrOf result Fault.Device) }
 {

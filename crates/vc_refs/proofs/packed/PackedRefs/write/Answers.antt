@@ -13,7 +13,7 @@ loop-name-init c =
     ∙ ap packed_text c.self.view_is
 
 pub returns-in_err-push_line-clause-written_refs_are_read : goal.returns-in_err-push_line-clause-written_refs_are_read
-returns-in_err-push_line-clause-written_refs_are_read c = written_refs_are_read c.args.self.now (subst IsPackedMap c.self.view_is c.self.invariant)
+returns-in_err-push_line-clause-written_refs_are_read c = λ map. written_refs_are_read c.args.self.now (subst IsPackedMap c.self.view_is c.self.invariant) map
 
 pub returns-clause-written_refs_are_read : goal.returns-clause-written_refs_are_read
-returns-clause-written_refs_are_read c = written_refs_are_read c.args.self.now (subst IsPackedMap c.self.view_is c.self.invariant)
+returns-clause-written_refs_are_read c = λ map. written_refs_are_read c.args.self.now (subst IsPackedMap c.self.view_is c.self.invariant) map
