@@ -1,11 +1,11 @@
 -- The objects that a message brings, as the machine has them: they are one set, and each stands under its name.
 use Rattle.std.proofs.Common.{◌≡◌, true, cond, List, Option, Some, None, Ok, Err, refl, ap, sym, ◌∙◌}
-use Rattle.std.specs.Prelude.{option_map, option_and_then, unwrap_or}
+use Rattle.std.specs.Prelude.{option_map, option_and_then}
 use Rattle.std.specs.FinMap.{get, same_map}
 use Rattle.std.specs.Ordering.{is_eq}
 use Rattle.std.specs.Cmp.Lexicographic.{nat_list_cmp_total}
 use Rattle.std.proofs.lemmas.Option.{cond_some, none-some}
-use Rattle.vc_format.specs.Git.{git_name, id_of_bytes, kind_of}
+use Rattle.vc_format.specs.Git.{git_name, id_of_bytes}
 use Rattle.vc_object.specs.Decoding.{StoredObject}
 use Rattle.vc_object.specs.ObjectId.{id_cmp}
 use Rattle.vc_pkt.specs.Carried.{object_named, stored_name}
@@ -14,30 +14,11 @@ use Rattle.vc_fetch.proofs.RefMaps.{same_name}
 use Rattle.vc_lemmas.proofs.Lists.{found_passes}
 use Rattle.vc_push.specs.Push.{Carried}
 use Rattle.vc_push_rules.specs.Carrying.{objects_in}
-use Rattle.vc_model.specs.Object.{Id, IsNamed, Kind, Object, Objects}
-use Rattle.vc_model.specs.Object.Kind.{Blob, Commit, Tag, Tree}
+use Rattle.vc_model.specs.Object.{Id, IsNamed, Object, Objects}
 use Rattle.vc_model.proofs.Maps.{bytes_same}
-use Rattle.vc_rules.specs.Git.{git, machine_kind, stored_of}
+use Rattle.vc_rules.specs.Git.{git, stored_of}
 use Rattle.vc_rules.specs.OpenPushes.{AreBrought}
-
--- ---- an object of the machine is known by how it is stored
-kind_again : (k : Kind) → machine_kind (kind_of k) ≡ k
-kind_again Blob = refl
-kind_again Tree = refl
-kind_again Commit = refl
-kind_again Tag = refl
-
-stored_once : (o p : Object) → stored_of o ≡ stored_of p → o ≡ p
-stored_once o p e =
-    let kinds : o.kind ≡ p.kind = sym (kind_again o.kind) ∙ ap (λ s. machine_kind s.kind) e ∙ kind_again p.kind in
-    let bodies : o.body ≡ p.body = ap (λ s. s.body) e in
-    ap (λ k. record { kind = k; body = o.body }) kinds ∙ ap (λ b. record { kind = p.kind; body = b }) bodies
-
-pub some_once : (a b : Option Object) → option_map stored_of a ≡ option_map stored_of b → a ≡ b
-some_once None None e = refl
-some_once None (Some p) e = absurd (cc e)
-some_once (Some o) None e = absurd (cc e)
-some_once (Some o) (Some p) e = ap Some (stored_once o p (ap (λ s. unwrap_or s (stored_of o)) e))
+use Rattle.vc_rules.proofs.OnceLemmas.{some_once}
 
 -- what is brought is one set
 pub one_set : (c : Carried) (s u : Objects) → AreBrought c s → AreBrought c u → s ≡ u

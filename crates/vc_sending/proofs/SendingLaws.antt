@@ -32,7 +32,7 @@ use Rattle.vc_object_map.specs.Graph.{IsClosedUnder}
 use Rattle.vc_object_map.specs.Graph.Reaches.{itself}
 use Rattle.vc_graph.specs.declared.fault.GraphFault.TheVariants as graph_fault
 use Rattle.vc_message.proofs.AnyLaws.{written_so}
-use Rattle.vc_message.proofs.MachineObjects.{some_once}
+use Rattle.vc_rules.proofs.OnceLemmas.{some_once}
 use Rattle.vc_message.proofs.MachineTexts.{all_in}
 use Rattle.vc_message.specs.AnyMessage.{a_list, a_push}
 use Rattle.vc_message.specs.Machine.{IsPush, IsWritten}

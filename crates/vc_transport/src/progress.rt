@@ -18,7 +18,7 @@ const PIECE: usize = 1_048_576;
 
 /// Which way a message goes.
 #[derive(Clone, Copy)]
-pub enum Obstacle {
+pub(crate) enum Obstacle {
     Sent,
     Received,
 }
@@ -96,7 +96,7 @@ impl<W: Write> Progress<W> {
     }
 
     /// The message is over: the line of one that was told ends.
-    pub fn end(&mut self)
+    pub(crate) fn end(&mut self)
         ensures anew { self.new.count ≡ 0 }
         ensures told { OnOk self.new.told (Appends (W.contents self.old.stream) (W.contents self.new.stream) (end_text self.old.is_terminal self.old.count)) }
         ensures failed { OnErr self.old.told ((self.new.told ≡ self.old.told) × (self.new.stream ≡ self.old.stream)) }
@@ -132,7 +132,7 @@ fn tell_count<W: Write>(stream: &mut W, way: Obstacle, count: u64) -> io::Result
 
 /// A stream whose bytes are counted as they go by. It hands on what the stream gives and takes.
 #[derive(Drop)]
-pub struct Counted<'a, S, W> {
+pub(crate) struct Counted<'a, S, W> {
     pub stream: &'a mut S,
     pub progress: &'a mut Progress<W>,
 }

@@ -20,7 +20,7 @@ enum Place<F: Write + Drop> {
 
 /// The bytes that came: in memory as long as they are few, and past that in a file with no name in the store's folder.
 #[derive(Drop)]
-pub struct Spool<R: rt::Files> {
+pub(crate) struct Spool<R: rt::Files> {
     rt: R,
     // The store's folder.
     folder: String,
@@ -33,7 +33,7 @@ pub struct Spool<R: rt::Files> {
 
 impl<R: rt::Files + AllocGlobal + Clone + Drop> Spool<R> {
     /// Nothing has come yet. What is longer than so many bytes will go to a file.
-    pub fn new(rt: &R, folder: &str, short: usize) -> Result<Spool<R>, AllocError> {
+    pub(crate) fn new(rt: &R, folder: &str, short: usize) -> Result<Spool<R>, AllocError> {
         let alloc = rt.alloc();
         Ok(Spool {
             rt: rt.clone()?,
@@ -70,7 +70,7 @@ impl<R: rt::Files + AllocGlobal + Clone + Drop> Spool<R> {
     }
 
     /// What was kept, to be read from its first byte on; or why some of it is lost.
-    pub fn finish(self) -> Result<Spooled<R::File>, Fault> {
+    pub(crate) fn finish(self) -> Result<Spooled<R::File>, Fault> {
         let Spool {
             rt,
             folder: _,
@@ -128,7 +128,7 @@ pub fn fault_of(error: &io::Error) -> Fault {
 
 /// A stream of which all that is read is kept. It hands on what the stream gives, until something of it is lost.
 #[derive(Drop)]
-pub struct Copying<S, R: rt::Files> {
+pub(crate) struct Copying<S, R: rt::Files> {
     pub stream: S,
     pub spool: Spool<R>,
 }

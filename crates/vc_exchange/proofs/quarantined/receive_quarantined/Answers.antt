@@ -17,7 +17,6 @@ use Rattle.vc_push_rules.proofs.FrameLemmas.{refs-of_objects, refs-of_slot}
 use Rattle.vc_push_rules.specs.Carrying.{objects_in}
 use Rattle.vc_quarantine.specs.Clean.{MakesNoneBad}
 use Rattle.vc_quarantine.specs.Known.{AreWhole}
-use Rattle.vc_quarantine.specs.Learning.{learnt_in}
 use Rattle.vc_quarantine.specs.Migrating.{IsFrontMigrated, migrated}
 use Rattle.vc_quarantine.specs.declared.known.Known.{Known}
 use Rattle.vc_object_map.specs.Store.{objects}
@@ -361,60 +360,27 @@ returns-in_err-known-clause-learns g c = λ honest agrees.
 
 pub returns-in_err-objects-clause-learns : goal.returns-in_err-objects-clause-learns
 returns-in_err-objects-clause-learns g c = λ honest agrees.
-    let content = g.F.Files.content in
-    let old = content c.args.files.now in
-    let before = learnt_in c.args.generations.now c.args.due.now in
-    let between = learnt_in c.learn_known.new.generations c.learn_known.new.due in
-    let learnt = c.in_ok-known.ensures.learnt honest agrees in
-    let right = c.in_ok-known.ensures.agrees honest agrees in
-    learnt_alone old (content c.judge_quarantined.new.files) before between c.from_residual-in_err-objects.result learnt right (ap refs (c.in_err-objects.ensures.same ∙ c.in_ok-known.ensures.same))
+    learnt_alone (c.in_ok-known.ensures.learnt honest agrees) (c.in_ok-known.ensures.agrees honest agrees) (ap refs (c.in_err-objects.ensures.same ∙ c.in_ok-known.ensures.same))
 
 pub returns-in_err-migrate-clause-learns : goal.returns-in_err-migrate-clause-learns
 returns-in_err-migrate-clause-learns g c = λ honest agrees.
-    let content = g.F.Files.content in
-    let old = content c.args.files.now in
-    let before = learnt_in c.args.generations.now c.args.due.now in
-    let between = learnt_in c.learn_known.new.generations c.learn_known.new.due in
-    let learnt = c.in_ok-known.ensures.learnt honest agrees in
-    let right = c.in_ok-known.ensures.agrees honest agrees in
-    learnt_alone old (content c.migrate.new.files) before between c.from_residual-in_err-migrate.result learnt right (refs-of_objects (content c.judge_quarantined.new.files) (content c.migrate.new.files) (c.in_err-migrate.ensures.outside honest) ∙ ap refs (c.in_ok-objects.ensures.same ∙ c.in_ok-known.ensures.same))
+    learnt_alone (c.in_ok-known.ensures.learnt honest agrees) (c.in_ok-known.ensures.agrees honest agrees) (refs-of_objects _ _ (c.in_err-migrate.ensures.outside honest) ∙ ap refs (c.in_ok-objects.ensures.same ∙ c.in_ok-known.ensures.same))
 
 pub returns-in_err-open-clause-learns : goal.returns-in_err-open-clause-learns
 returns-in_err-open-clause-learns g c = λ honest agrees.
-    let content = g.F.Files.content in
-    let old = content c.args.files.now in
-    let before = learnt_in c.args.generations.now c.args.due.now in
-    let between = learnt_in c.learn_known.new.generations c.learn_known.new.due in
-    let learnt = c.in_ok-known.ensures.learnt honest agrees in
-    let right = c.in_ok-known.ensures.agrees honest agrees in
-    learnt_alone old (content c.open_ids.new.files) before between c.from_residual-in_err-open.result learnt right (ap refs c.in_err-open.ensures.same ∙ refs-of_objects (content c.judge_quarantined.new.files) (content c.migrate.new.files) (c.in_ok-migrate.ensures.outside honest) ∙ ap refs (c.in_ok-objects.ensures.same ∙ c.in_ok-known.ensures.same))
+    learnt_alone (c.in_ok-known.ensures.learnt honest agrees) (c.in_ok-known.ensures.agrees honest agrees) (ap refs c.in_err-open.ensures.same ∙ refs-of_objects _ _ (c.in_ok-migrate.ensures.outside honest) ∙ ap refs (c.in_ok-objects.ensures.same ∙ c.in_ok-known.ensures.same))
 
 pub returns-in_err-moved-clause-learns : goal.returns-in_err-moved-clause-learns
 returns-in_err-moved-clause-learns g c = λ honest agrees.
     let content = g.F.Files.content in
-    let old = content c.args.files.now in
-    let before = learnt_in c.args.generations.now c.args.due.now in
-    let between = learnt_in c.learn_known.new.generations c.learn_known.new.due in
-    let learnt = c.in_ok-known.ensures.learnt honest agrees in
-    let right = c.in_ok-known.ensures.agrees honest agrees in
-    learnt_moved old (content c.move_refs.new.files) before between c.from_residual-in_err-moved.result learnt right (content c.open_ids.new.files) (content c.move_refs.new.files) c.move_refs.new.due.items (ap refs c.in_ok-open.ensures.same ∙ refs-of_objects (content c.judge_quarantined.new.files) (content c.migrate.new.files) (c.in_ok-migrate.ensures.outside honest) ∙ ap refs (c.in_ok-objects.ensures.same ∙ c.in_ok-known.ensures.same)) refl (c.in_err-moved.ensures.noted honest).noted
+    learnt_moved (c.in_ok-known.ensures.learnt honest agrees) (c.in_ok-known.ensures.agrees honest agrees) (content c.open_ids.new.files) (content c.move_refs.new.files) (ap refs c.in_ok-open.ensures.same ∙ refs-of_objects _ _ (c.in_ok-migrate.ensures.outside honest) ∙ ap refs (c.in_ok-objects.ensures.same ∙ c.in_ok-known.ensures.same)) refl (c.in_err-moved.ensures.noted honest).noted
 
 pub returns-in_err-drop_quarantine-clause-learns : goal.returns-in_err-drop_quarantine-clause-learns
 returns-in_err-drop_quarantine-clause-learns g c = λ honest agrees.
     let content = g.F.Files.content in
-    let old = content c.args.files.now in
-    let before = learnt_in c.args.generations.now c.args.due.now in
-    let between = learnt_in c.learn_known.new.generations c.learn_known.new.due in
-    let learnt = c.in_ok-known.ensures.learnt honest agrees in
-    let right = c.in_ok-known.ensures.agrees honest agrees in
-    learnt_moved old (content c.drop_quarantine.new.files) before between c.from_residual-in_err-drop_quarantine.result learnt right (content c.open_ids.new.files) (content c.move_refs.new.files) c.move_refs.new.due.items (ap refs c.in_ok-open.ensures.same ∙ refs-of_objects (content c.judge_quarantined.new.files) (content c.migrate.new.files) (c.in_ok-migrate.ensures.outside honest) ∙ ap refs (c.in_ok-objects.ensures.same ∙ c.in_ok-known.ensures.same)) (refs-of_slot 0 (content c.move_refs.new.files) (content c.drop_quarantine.new.files) (c.in_err-drop_quarantine.ensures.outside honest)) (c.in_ok-moved.ensures.noted honest).noted
+    learnt_moved (c.in_ok-known.ensures.learnt honest agrees) (c.in_ok-known.ensures.agrees honest agrees) (content c.open_ids.new.files) (content c.move_refs.new.files) (ap refs c.in_ok-open.ensures.same ∙ refs-of_objects _ _ (c.in_ok-migrate.ensures.outside honest) ∙ ap refs (c.in_ok-objects.ensures.same ∙ c.in_ok-known.ensures.same)) (refs-of_slot 0 (content c.move_refs.new.files) (content c.drop_quarantine.new.files) (c.in_err-drop_quarantine.ensures.outside honest)) (c.in_ok-moved.ensures.noted honest).noted
 
 pub returns-clause-learns : goal.returns-clause-learns
 returns-clause-learns g c = λ honest agrees.
     let content = g.F.Files.content in
-    let old = content c.args.files.now in
-    let before = learnt_in c.args.generations.now c.args.due.now in
-    let between = learnt_in c.learn_known.new.generations c.learn_known.new.due in
-    let learnt = c.in_ok-known.ensures.learnt honest agrees in
-    let right = c.in_ok-known.ensures.agrees honest agrees in
-    learnt_moved old (content c.drop_quarantine.new.files) before between _ learnt right (content c.open_ids.new.files) (content c.move_refs.new.files) c.move_refs.new.due.items (ap refs c.in_ok-open.ensures.same ∙ refs-of_objects (content c.judge_quarantined.new.files) (content c.migrate.new.files) (c.in_ok-migrate.ensures.outside honest) ∙ ap refs (c.in_ok-objects.ensures.same ∙ c.in_ok-known.ensures.same)) (refs-of_slot 0 (content c.move_refs.new.files) (content c.drop_quarantine.new.files) (c.in_ok-drop_quarantine.ensures.outside honest)) (c.in_ok-moved.ensures.noted honest).noted
+    learnt_moved (c.in_ok-known.ensures.learnt honest agrees) (c.in_ok-known.ensures.agrees honest agrees) (content c.open_ids.new.files) (content c.move_refs.new.files) (ap refs c.in_ok-open.ensures.same ∙ refs-of_objects _ _ (c.in_ok-migrate.ensures.outside honest) ∙ ap refs (c.in_ok-objects.ensures.same ∙ c.in_ok-known.ensures.same)) (refs-of_slot 0 (content c.move_refs.new.files) (content c.drop_quarantine.new.files) (c.in_ok-drop_quarantine.ensures.outside honest)) (c.in_ok-moved.ensures.noted honest).noted

@@ -5,7 +5,6 @@ use Rattle.vc_files.specs.FileMap.{FileMap}
 use Rattle.vc_files.specs.declared.faults.Fault.TheVariants.{Device, Memory}
 use Rattle.vc_format.specs.Git.{bytes_of_id}
 use Rattle.vc_message.specs.Machine.{IsWritten}
-use Rattle.vc_history.specs.Stored.{AgreesIn}
 use Rattle.vc_model.specs.Clone.{haves_of}
 use Rattle.vc_model.specs.Clone.Awaited.{AnAdvert}
 use Rattle.vc_model.specs.Message.Message.{Want as Asks}
@@ -18,7 +17,6 @@ use Rattle.vc_quarantine.proofs.CleanLemmas.{bad_same}
 use Rattle.vc_quarantine.proofs.NumberLemmas.{agreement_same}
 use Rattle.vc_quarantine.proofs.WearLemmas.{wears_both}
 use Rattle.vc_quarantine.specs.Known.{AreWhole}
-use Rattle.vc_quarantine.specs.Learning.{learnt_in}
 use Rattle.vc_quarantine.specs.declared.known.Known.{Known}
 use Rattle.vc_object_map.specs.Store.{objects}
 use Rattle.vc_exchange.specs.Deeds.{HoldsHead}
@@ -32,7 +30,7 @@ use Rattle.vc_tracking.specs.declared.moving.Followed.TheVariants.{All}
 use Rattle.vc_exchange.proofs.AdvertDeeds.{advert_asked, advert_changes, advert_cut, advert_followed, told_refs}
 use Rattle.vc_exchange.proofs.EmptyLists.{empty_items, few_first, some_items}
 use Rattle.vc_exchange.proofs.DeedLemmas.{none_received}
-use Rattle.vc_exchange.proofs.JudgingLemmas.{faulted, learnt_alone, learnt_moved, whole_more, whole_refs}
+use Rattle.vc_exchange.proofs.JudgingLemmas.{faulted, learnt_alone, learnt_moved, right_more, whole_refs}
 use Rattle.vc_tracking.proofs.MovingLoops.{told_err}
 use Rattle.vc_exchange.proofs.ReceivingLemmas.{outside_kept, wanting_kept}
 use Rattle.vc_exchange.proofs.receiving.receive_advert.Goals as goal
@@ -76,8 +74,7 @@ returns-in_err-moved-clause-cut g c = λ honest agrees r p m advert.
     let more : Known = record { objects = c.open_ids.new.known; histories = known.histories } in
     let Right : Type 0 = IsRight seen more c.learn_known.new.generations in
     let by_refs : IsSound git r → AreWhole (objects first) known = whole_refs old first known r same (c.in_ok-known.ensures.whole honest) p in
-    let there : AgreesIn seen c.learn_known.new.generations = agreement_same old seen (c.in_ok-open.ensures.same ∙ same) c.learn_known.new.generations (c.in_ok-known.ensures.agrees honest agrees) in
-    let sound : IsSound git r → Right = λ is. record { whole = whole_more first seen known more c.in_ok-open.ensures.same refl (c.in_ok-open.ensures.known honest) (by_refs is); agrees = there } in
+    let sound : IsSound git r → Right = λ is. right_more old first seen known more c.learn_known.new.generations same c.in_ok-open.ensures.same refl (by_refs is) (c.in_ok-open.ensures.known honest) (c.in_ok-known.ensures.agrees honest agrees) in
     let none : IsSound git r → AreOpenTold r told [] = λ is. open_at r (told_in c.deref.result.now) told c.in_ok-open.open.items [] (ap told_in c.deref.ensures.value) (empty_items c.in_ok-open.open c.is_empty.result c.is_empty.ensures c.if-is_empty.true) (c.in_ok-open.ensures.wanted honest (by_refs is).closed r held) in
     let front : AreFrontMoved Right All (told_in c.deref-then-is_empty.result.now) r last = search (rules, c.in_err-moved.ensures.left honest r (still_held first seen r c.in_ok-open.ensures.same held)) in
     on_err c.from_residual-in_err-moved.result _ (advert_cut r m (advert_text c.args.advert) advert told c.in_ok-refs.ensures Right sound none last (subst (λ (l : List Told). AreFrontMoved Right All l r last) (ap told_in c.deref-then-is_empty.ensures.value) front))
@@ -109,8 +106,7 @@ returns-in_err-moved-clause-looks g c = λ honest agrees r p m advert.
     let more : Known = record { objects = c.open_ids.new.known; histories = known.histories } in
     let Right : Type 0 = IsRight seen more c.learn_known.new.generations in
     let by_refs : IsSound git r → AreWhole (objects first) known = whole_refs old first known r same (c.in_ok-known.ensures.whole honest) p in
-    let there : AgreesIn seen c.learn_known.new.generations = agreement_same old seen (c.in_ok-open.ensures.same ∙ same) c.learn_known.new.generations (c.in_ok-known.ensures.agrees honest agrees) in
-    let sound : IsSound git r → Right = λ is. record { whole = whole_more first seen known more c.in_ok-open.ensures.same refl (c.in_ok-open.ensures.known honest) (by_refs is); agrees = there } in
+    let sound : IsSound git r → Right = λ is. right_more old first seen known more c.learn_known.new.generations same c.in_ok-open.ensures.same refl (by_refs is) (c.in_ok-open.ensures.known honest) (c.in_ok-known.ensures.agrees honest agrees) in
     let none : IsSound git r → AreOpenTold r told [] = λ is. open_at r (told_in c.deref.result.now) told c.in_ok-open.open.items [] (ap told_in c.deref.ensures.value) (empty_items c.in_ok-open.open c.is_empty.result c.is_empty.ensures c.if-is_empty.true) (c.in_ok-open.ensures.wanted honest (by_refs is).closed r held) in
     elim (c.in_err-moved.ensures.looks honest r (still_held first seen r c.in_ok-open.ensures.same held)) [
       | inl some ↦ inl (advert_changes r m (advert_text c.args.advert) advert told c.in_ok-refs.ensures Right sound none (λ whole. subst (λ (l : List Told). MovesSome All l r) (ap told_in c.deref-then-is_empty.ensures.value) (some whole)))
@@ -131,8 +127,7 @@ returns-then-is_empty-clause-taken g c = λ honest agrees r p head m advert.
     let more : Known = record { objects = c.open_ids.new.known; histories = known.histories } in
     let Right : Type 0 = IsRight seen more c.learn_known.new.generations in
     let by_refs : IsSound git r → AreWhole (objects first) known = whole_refs old first known r same (c.in_ok-known.ensures.whole honest) p in
-    let there : AgreesIn seen c.learn_known.new.generations = agreement_same old seen (c.in_ok-open.ensures.same ∙ same) c.learn_known.new.generations (c.in_ok-known.ensures.agrees honest agrees) in
-    let sound : IsSound git r → Right = λ is. record { whole = whole_more first seen known more c.in_ok-open.ensures.same refl (c.in_ok-open.ensures.known honest) (by_refs is); agrees = there } in
+    let sound : IsSound git r → Right = λ is. right_more old first seen known more c.learn_known.new.generations same c.in_ok-open.ensures.same refl (by_refs is) (c.in_ok-open.ensures.known honest) (c.in_ok-known.ensures.agrees honest agrees) in
     let none : IsSound git r → AreOpenTold r told [] = λ is. open_at r (told_in c.deref.result.now) told c.in_ok-open.open.items [] (ap told_in c.deref.ensures.value) (empty_items c.in_ok-open.open c.is_empty.result c.is_empty.ensures c.if-is_empty.true) (c.in_ok-open.ensures.wanted honest (by_refs is).closed r held) in
     let all : AreMoved Right All (told_in c.deref-then-is_empty.result.now) r last c.in_ok-moved.moved = c.in_ok-moved.ensures.moved honest r (still_held first seen r c.in_ok-open.ensures.same held) in
     advert_followed r m (advert_text c.args.advert) advert told c.in_ok-refs.ensures Right sound none last c.in_ok-moved.moved (subst (λ (l : List Told). AreMoved Right All l r last c.in_ok-moved.moved) (ap told_in c.deref-then-is_empty.ensures.value) all)
@@ -155,8 +150,7 @@ returns-then-is_empty-clause-looks g c = λ honest agrees r p m advert.
     let more : Known = record { objects = c.open_ids.new.known; histories = known.histories } in
     let Right : Type 0 = IsRight seen more c.learn_known.new.generations in
     let by_refs : IsSound git r → AreWhole (objects first) known = whole_refs old first known r same (c.in_ok-known.ensures.whole honest) p in
-    let there : AgreesIn seen c.learn_known.new.generations = agreement_same old seen (c.in_ok-open.ensures.same ∙ same) c.learn_known.new.generations (c.in_ok-known.ensures.agrees honest agrees) in
-    let sound : IsSound git r → Right = λ is. record { whole = whole_more first seen known more c.in_ok-open.ensures.same refl (c.in_ok-open.ensures.known honest) (by_refs is); agrees = there } in
+    let sound : IsSound git r → Right = λ is. right_more old first seen known more c.learn_known.new.generations same c.in_ok-open.ensures.same refl (by_refs is) (c.in_ok-open.ensures.known honest) (c.in_ok-known.ensures.agrees honest agrees) in
     let none : IsSound git r → AreOpenTold r told [] = λ is. open_at r (told_in c.deref.result.now) told c.in_ok-open.open.items [] (ap told_in c.deref.ensures.value) (empty_items c.in_ok-open.open c.is_empty.result c.is_empty.ensures c.if-is_empty.true) (c.in_ok-open.ensures.wanted honest (by_refs is).closed r held) in
     elim (c.in_ok-moved.ensures.looks honest r (still_held first seen r c.in_ok-open.ensures.same held)) [
       | inl some ↦ inl (advert_changes r m (advert_text c.args.advert) advert told c.in_ok-refs.ensures Right sound none (λ whole. subst (λ (l : List Told). MovesSome All l r) (ap told_in c.deref-then-is_empty.ensures.value) (some whole)))
@@ -257,63 +251,29 @@ returns-in_err-known-clause-learns g c = λ honest agrees.
 
 pub returns-in_err-open-clause-learns : goal.returns-in_err-open-clause-learns
 returns-in_err-open-clause-learns g c = λ honest agrees.
-    let content = g.F.Files.content in
-    let old = content c.args.files.now in
-    let before = learnt_in c.args.generations.now c.args.due.now in
-    let between = learnt_in c.learn_known.new.generations c.learn_known.new.due in
-    let learnt = c.in_ok-known.ensures.learnt honest agrees in
-    let right = c.in_ok-known.ensures.agrees honest agrees in
-    learnt_alone old (content c.open_ids.new.files) before between c.from_residual-in_err-open.result learnt right (ap refs (c.in_err-open.ensures.same ∙ c.in_ok-known.ensures.same))
+    learnt_alone (c.in_ok-known.ensures.learnt honest agrees) (c.in_ok-known.ensures.agrees honest agrees) (ap refs (c.in_err-open.ensures.same ∙ c.in_ok-known.ensures.same))
 
 pub returns-in_err-moved-clause-learns : goal.returns-in_err-moved-clause-learns
 returns-in_err-moved-clause-learns g c = λ honest agrees.
     let content = g.F.Files.content in
-    let old = content c.args.files.now in
-    let before = learnt_in c.args.generations.now c.args.due.now in
-    let between = learnt_in c.learn_known.new.generations c.learn_known.new.due in
-    let learnt = c.in_ok-known.ensures.learnt honest agrees in
-    let right = c.in_ok-known.ensures.agrees honest agrees in
-    learnt_moved old (content c.move_refs.new.files) before between c.from_residual-in_err-moved.result learnt right (content c.open_ids.new.files) (content c.move_refs.new.files) c.move_refs.new.due.items (ap refs (c.in_ok-open.ensures.same ∙ c.in_ok-known.ensures.same)) refl (c.in_err-moved.ensures.noted honest).noted
+    learnt_moved (c.in_ok-known.ensures.learnt honest agrees) (c.in_ok-known.ensures.agrees honest agrees) (content c.open_ids.new.files) (content c.move_refs.new.files) (ap refs (c.in_ok-open.ensures.same ∙ c.in_ok-known.ensures.same)) refl (c.in_err-moved.ensures.noted honest).noted
 
 pub returns-then-is_empty-clause-learns : goal.returns-then-is_empty-clause-learns
 returns-then-is_empty-clause-learns g c = λ honest agrees.
     let content = g.F.Files.content in
-    let old = content c.args.files.now in
-    let before = learnt_in c.args.generations.now c.args.due.now in
-    let between = learnt_in c.learn_known.new.generations c.learn_known.new.due in
-    let learnt = c.in_ok-known.ensures.learnt honest agrees in
-    let right = c.in_ok-known.ensures.agrees honest agrees in
-    learnt_moved old (content c.move_refs.new.files) before between _ learnt right (content c.open_ids.new.files) (content c.move_refs.new.files) c.move_refs.new.due.items (ap refs (c.in_ok-open.ensures.same ∙ c.in_ok-known.ensures.same)) refl (c.in_ok-moved.ensures.noted honest).noted
+    learnt_moved (c.in_ok-known.ensures.learnt honest agrees) (c.in_ok-known.ensures.agrees honest agrees) (content c.open_ids.new.files) (content c.move_refs.new.files) (ap refs (c.in_ok-open.ensures.same ∙ c.in_ok-known.ensures.same)) refl (c.in_ok-moved.ensures.noted honest).noted
 
 pub returns-in_err-wants-clause-refused : goal.returns-in_err-wants-clause-refused
 returns-in_err-wants-clause-refused g c = λ honest agrees. told_err c.from_residual-in_err-wants.result (exchange.Fault Memory) (BlamesAdvert (g.F.Files.content c.args.files.now)) (search rules) (inl tt)
 
 pub returns-in_err-wants-clause-learns : goal.returns-in_err-wants-clause-learns
 returns-in_err-wants-clause-learns g c = λ honest agrees.
-    let content = g.F.Files.content in
-    let old = content c.args.files.now in
-    let before = learnt_in c.args.generations.now c.args.due.now in
-    let between = learnt_in c.learn_known.new.generations c.learn_known.new.due in
-    let learnt = c.in_ok-known.ensures.learnt honest agrees in
-    let right = c.in_ok-known.ensures.agrees honest agrees in
-    learnt_alone old (content c.open_ids.new.files) before between c.from_residual-in_err-wants.result learnt right (ap refs (c.in_ok-open.ensures.same ∙ c.in_ok-known.ensures.same))
+    learnt_alone (c.in_ok-known.ensures.learnt honest agrees) (c.in_ok-known.ensures.agrees honest agrees) (ap refs (c.in_ok-open.ensures.same ∙ c.in_ok-known.ensures.same))
 
 pub returns-in_err-bytes-clause-learns : goal.returns-in_err-bytes-clause-learns
 returns-in_err-bytes-clause-learns g c = λ honest agrees.
-    let content = g.F.Files.content in
-    let old = content c.args.files.now in
-    let before = learnt_in c.args.generations.now c.args.due.now in
-    let between = learnt_in c.learn_known.new.generations c.learn_known.new.due in
-    let learnt = c.in_ok-known.ensures.learnt honest agrees in
-    let right = c.in_ok-known.ensures.agrees honest agrees in
-    learnt_alone old (content c.want_message.new.files) before between c.from_residual-in_err-bytes.result learnt right (ap refs (c.in_err-bytes.ensures.same ∙ c.in_ok-open.ensures.same ∙ c.in_ok-known.ensures.same))
+    learnt_alone (c.in_ok-known.ensures.learnt honest agrees) (c.in_ok-known.ensures.agrees honest agrees) (ap refs (c.in_err-bytes.ensures.same ∙ c.in_ok-open.ensures.same ∙ c.in_ok-known.ensures.same))
 
 pub returns-clause-learns : goal.returns-clause-learns
 returns-clause-learns g c = λ honest agrees.
-    let content = g.F.Files.content in
-    let old = content c.args.files.now in
-    let before = learnt_in c.args.generations.now c.args.due.now in
-    let between = learnt_in c.learn_known.new.generations c.learn_known.new.due in
-    let learnt = c.in_ok-known.ensures.learnt honest agrees in
-    let right = c.in_ok-known.ensures.agrees honest agrees in
-    learnt_alone old (content c.want_message.new.files) before between _ learnt right (ap refs (c.in_ok-bytes.ensures.same ∙ c.in_ok-open.ensures.same ∙ c.in_ok-known.ensures.same))
+    learnt_alone (c.in_ok-known.ensures.learnt honest agrees) (c.in_ok-known.ensures.agrees honest agrees) (ap refs (c.in_ok-bytes.ensures.same ∙ c.in_ok-open.ensures.same ∙ c.in_ok-known.ensures.same))

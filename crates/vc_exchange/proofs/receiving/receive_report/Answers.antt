@@ -2,7 +2,6 @@ use Rattle.std.proofs.Common.{rules, ◌≡◌, inl, inr, Err, List, map, refl, 
 use Rattle.vc_files.specs.FileMap.{FileMap}
 use Rattle.vc_files.proofs.WearLemmas.{wears_then, wears_writes, writes_told}
 use Rattle.vc_files.specs.declared.faults.Fault.TheVariants.{Memory}
-use Rattle.vc_history.specs.Stored.{AgreesIn}
 use Rattle.vc_model.specs.Repository.{IsSound}
 use Rattle.vc_refs.specs.Refs.{refs}
 use Rattle.vc_rules.specs.Git.{git}
@@ -16,9 +15,8 @@ use Rattle.vc_push.specs.ReportView.{report_text, told_of}
 use Rattle.vc_push.specs.declared.report.Told.{Told}
 use Rattle.vc_quarantine.proofs.NumberLemmas.{agreement_same}
 use Rattle.vc_quarantine.proofs.WearLemmas.{wears_both}
-use Rattle.vc_quarantine.specs.Learning.{learnt_in}
 use Rattle.vc_tracking.specs.declared.fault.ExchangeFault.TheVariants as exchange
-use Rattle.vc_exchange.proofs.JudgingLemmas.{faulted, learnt_moved, whole_refs}
+use Rattle.vc_exchange.proofs.JudgingLemmas.{faulted, learnt_moved, right_refs}
 use Rattle.vc_tracking.proofs.MovingLoops.{told_err}
 use Rattle.vc_exchange.proofs.ReceivingLemmas.{report_changes, report_cut, report_received}
 use Rattle.vc_exchange.proofs.receiving.receive_report.Goals as goal
@@ -35,8 +33,7 @@ returns-in_err-moved-clause-cut g c = λ honest agrees r p m report awaits.
     let same : seen ≡ content c.args.files.now = c.in_ok-known.ensures.same in
     let held = subst (λ (f : FileMap). HoldsContent f r) (sym same) p in
     let Right : Type 0 = IsRight seen c.in_ok-known.known c.learn_known.new.generations in
-    let there : AgreesIn seen c.learn_known.new.generations = agreement_same (content c.args.files.now) seen same c.learn_known.new.generations (c.in_ok-known.ensures.agrees honest agrees) in
-    let sound : IsSound git r → Right = λ is. record { whole = whole_refs (content c.args.files.now) seen c.in_ok-known.known r same (c.in_ok-known.ensures.whole honest) p is; agrees = there } in
+    let sound : IsSound git r → Right = right_refs (content c.args.files.now) seen c.in_ok-known.known c.learn_known.new.generations r same (c.in_ok-known.ensures.whole honest) (c.in_ok-known.ensures.agrees honest agrees) p in
     let is : told_in c.deref-3.result.now ≡ accepted t.told = ap told_in c.deref-3.ensures.value ∙ c.in_ok-refs.ensures ∙ ap (λ (l : List Told). accepted (map told_of l)) c.deref-2.ensures.value in
     let are : c.in_ok-refused.refused.items ≡ refused_reasons (map machine_told t.told) = c.in_ok-refused.ensures ∙ ap (λ (l : List Told). refused_reasons (map machine_told (map told_of l))) c.deref.ensures.value in
     on_err c.from_residual-in_err-moved.result _ (report_cut r Right sound awaits m t report (told_in c.deref-3.result.now) is c.in_ok-refused.refused.items are (content c.move_refs.new.files) (search (rules, c.in_err-moved.ensures.left honest r held)))
@@ -58,8 +55,7 @@ returns-in_err-moved-clause-looks g c = λ honest agrees r p m report awaits.
     let same : seen ≡ content c.args.files.now = c.in_ok-known.ensures.same in
     let held = subst (λ (f : FileMap). HoldsContent f r) (sym same) p in
     let Right : Type 0 = IsRight seen c.in_ok-known.known c.learn_known.new.generations in
-    let there : AgreesIn seen c.learn_known.new.generations = agreement_same (content c.args.files.now) seen same c.learn_known.new.generations (c.in_ok-known.ensures.agrees honest agrees) in
-    let sound : IsSound git r → Right = λ is. record { whole = whole_refs (content c.args.files.now) seen c.in_ok-known.known r same (c.in_ok-known.ensures.whole honest) p is; agrees = there } in
+    let sound : IsSound git r → Right = right_refs (content c.args.files.now) seen c.in_ok-known.known c.learn_known.new.generations r same (c.in_ok-known.ensures.whole honest) (c.in_ok-known.ensures.agrees honest agrees) p in
     let is : told_in c.deref-3.result.now ≡ accepted t.told = ap told_in c.deref-3.ensures.value ∙ c.in_ok-refs.ensures ∙ ap (λ (l : List Told). accepted (map told_of l)) c.deref-2.ensures.value in
     let are : c.in_ok-refused.refused.items ≡ refused_reasons (map machine_told t.told) = c.in_ok-refused.ensures ∙ ap (λ (l : List Told). refused_reasons (map machine_told (map told_of l))) c.deref.ensures.value in
     elim (c.in_err-moved.ensures.looks honest r held) [ inl some ↦ inl (report_changes r Right sound awaits m t report (told_in c.deref-3.result.now) is c.in_ok-refused.refused.items are some) | inr wears ↦ inr (wears_both c.in_ok-known.ensures.wear wears (search rules)) ]
@@ -72,8 +68,7 @@ returns-clause-taken g c = λ honest agrees r p m report awaits.
     let same : seen ≡ content c.args.files.now = c.in_ok-known.ensures.same in
     let held = subst (λ (f : FileMap). HoldsContent f r) (sym same) p in
     let Right : Type 0 = IsRight seen c.in_ok-known.known c.learn_known.new.generations in
-    let there : AgreesIn seen c.learn_known.new.generations = agreement_same (content c.args.files.now) seen same c.learn_known.new.generations (c.in_ok-known.ensures.agrees honest agrees) in
-    let sound : IsSound git r → Right = λ is. record { whole = whole_refs (content c.args.files.now) seen c.in_ok-known.known r same (c.in_ok-known.ensures.whole honest) p is; agrees = there } in
+    let sound : IsSound git r → Right = right_refs (content c.args.files.now) seen c.in_ok-known.known c.learn_known.new.generations r same (c.in_ok-known.ensures.whole honest) (c.in_ok-known.ensures.agrees honest agrees) p in
     let is : told_in c.deref-3.result.now ≡ accepted t.told = ap told_in c.deref-3.ensures.value ∙ c.in_ok-refs.ensures ∙ ap (λ (l : List Told). accepted (map told_of l)) c.deref-2.ensures.value in
     let are : c.in_ok-refused.refused.items ≡ refused_reasons (map machine_told t.told) = c.in_ok-refused.ensures ∙ ap (λ (l : List Told). refused_reasons (map machine_told (map told_of l))) c.deref.ensures.value in
     report_received r Right sound awaits m t report (told_in c.deref-3.result.now) is c.in_ok-refused.refused.items are (content c.move_refs.new.files) c.in_ok-moved.moved (c.in_ok-moved.ensures.moved honest r held)
@@ -86,8 +81,7 @@ returns-clause-looks g c = λ honest agrees r p m report awaits.
     let same : seen ≡ content c.args.files.now = c.in_ok-known.ensures.same in
     let held = subst (λ (f : FileMap). HoldsContent f r) (sym same) p in
     let Right : Type 0 = IsRight seen c.in_ok-known.known c.learn_known.new.generations in
-    let there : AgreesIn seen c.learn_known.new.generations = agreement_same (content c.args.files.now) seen same c.learn_known.new.generations (c.in_ok-known.ensures.agrees honest agrees) in
-    let sound : IsSound git r → Right = λ is. record { whole = whole_refs (content c.args.files.now) seen c.in_ok-known.known r same (c.in_ok-known.ensures.whole honest) p is; agrees = there } in
+    let sound : IsSound git r → Right = right_refs (content c.args.files.now) seen c.in_ok-known.known c.learn_known.new.generations r same (c.in_ok-known.ensures.whole honest) (c.in_ok-known.ensures.agrees honest agrees) p in
     let is : told_in c.deref-3.result.now ≡ accepted t.told = ap told_in c.deref-3.ensures.value ∙ c.in_ok-refs.ensures ∙ ap (λ (l : List Told). accepted (map told_of l)) c.deref-2.ensures.value in
     let are : c.in_ok-refused.refused.items ≡ refused_reasons (map machine_told t.told) = c.in_ok-refused.ensures ∙ ap (λ (l : List Told). refused_reasons (map machine_told (map told_of l))) c.deref.ensures.value in
     elim (c.in_ok-moved.ensures.looks honest r held) [ inl some ↦ inl (report_changes r Right sound awaits m t report (told_in c.deref-3.result.now) is c.in_ok-refused.refused.items are some) | inr wears ↦ inr (wears_both c.in_ok-known.ensures.wear wears (search rules)) ]
@@ -117,19 +111,9 @@ returns-in_err-known-clause-learns g c = λ honest agrees.
 pub returns-in_err-moved-clause-learns : goal.returns-in_err-moved-clause-learns
 returns-in_err-moved-clause-learns g c = λ honest agrees.
     let content = g.F.Files.content in
-    let old = content c.args.files.now in
-    let before = learnt_in c.args.generations.now c.args.due.now in
-    let between = learnt_in c.learn_known.new.generations c.learn_known.new.due in
-    let learnt = c.in_ok-known.ensures.learnt honest agrees in
-    let right = c.in_ok-known.ensures.agrees honest agrees in
-    learnt_moved old (content c.move_refs.new.files) before between c.from_residual-in_err-moved.result learnt right (content c.learn_known.new.files) (content c.move_refs.new.files) c.move_refs.new.due.items (ap refs c.in_ok-known.ensures.same) refl (c.in_err-moved.ensures.noted honest).noted
+    learnt_moved (c.in_ok-known.ensures.learnt honest agrees) (c.in_ok-known.ensures.agrees honest agrees) (content c.learn_known.new.files) (content c.move_refs.new.files) (ap refs c.in_ok-known.ensures.same) refl (c.in_err-moved.ensures.noted honest).noted
 
 pub returns-clause-learns : goal.returns-clause-learns
 returns-clause-learns g c = λ honest agrees.
     let content = g.F.Files.content in
-    let old = content c.args.files.now in
-    let before = learnt_in c.args.generations.now c.args.due.now in
-    let between = learnt_in c.learn_known.new.generations c.learn_known.new.due in
-    let learnt = c.in_ok-known.ensures.learnt honest agrees in
-    let right = c.in_ok-known.ensures.agrees honest agrees in
-    learnt_moved old (content c.move_refs.new.files) before between _ learnt right (content c.learn_known.new.files) (content c.move_refs.new.files) c.move_refs.new.due.items (ap refs c.in_ok-known.ensures.same) refl (c.in_ok-moved.ensures.noted honest).noted
+    learnt_moved (c.in_ok-known.ensures.learnt honest agrees) (c.in_ok-known.ensures.agrees honest agrees) (content c.learn_known.new.files) (content c.move_refs.new.files) (ap refs c.in_ok-known.ensures.same) refl (c.in_ok-moved.ensures.noted honest).noted
