@@ -14,10 +14,11 @@ use Rattle.vc_object_map.specs.declared.faults.StoreFault.TheVariants as store
 use Rattle.vc_local.specs.declared.fault.NodeFault.{NodeFault}
 use Rattle.vc_local.specs.declared.fault.NodeFault.TheVariants.{Store, Ref, Missing, NotACommit, BadPath, PathConflict, BadIndex, WrongEntry, Down}
 use Rattle.vc_local.specs.Clean.{IsClean}
-use Rattle.vc_local.specs.NodeFault.{is_fault}
+use Rattle.vc_local.specs.NodeFault.{is_of_own_file, takes_down}
 use Rattle.vc_local.specs.Shown.{Shown, shown}
 use Rattle.vc_rules.specs.Git.{git}
 use Rattle.vc_values.proofs.GitLaws.{git_rules}
+use Rattle.vc_local.proofs.OwnFileLemmas.{object_no_file, refused_by_no_file}
 use Rattle.vc_local.specs.Machine.{live_of, Spells, Follows, Goes, AnswersShown, IsBadFile, fault_answer}
 
 -- a node that is down
@@ -26,13 +27,14 @@ answers_down task was s e = record {
   each = λ awaited n holds. (n, holds, down (holds.live ∙ ap (λ (up : Bool). live_of up awaited) e) (λ h. cc h) refl refl refl);
 }
 
+-- whether a node that answers so is up then: the number of a bad file of its own takes it down, as a fault does
 abbrev pub stays : Answer → Bool
 stays (Did y) = true
-stays (Declined n) = true
+stays (Declined n) = not (is_of_own_file n)
 stays (Fault f) = false
 
-pub stays_by_fault : (e : NodeFault) → not (is_fault e) ≡ stays (fault_answer e)
-stays_by_fault (Store (store.BadObject f)) = refl
+pub stays_by_fault : (e : NodeFault) → not (takes_down e) ≡ stays (fault_answer e)
+stays_by_fault (Store (store.BadObject f)) = ap not (sym (object_no_file f))
 stays_by_fault (Store (store.Absent id)) = refl
 stays_by_fault (Store (store.Damaged id)) = refl
 stays_by_fault (Store (store.Fault f)) = refl
@@ -56,7 +58,9 @@ same_node r s a b e f i = record { repository = e i; live = f i }
 pub step_of : (task : Task) (a : Answer) (awaited : Awaited) (n : CloneNode) (after : Repository) → n.live ≡ Some awaited → Goes awaited n.repository task a after
     → CloneAnswers git git_rules n (Command task) a (record { repository = after; live = live_of (stays a) awaited }) None
 step_of task (Did y) awaited n after live g = obeyed awaited g.0 live g.1 (g.2, ap Some (sym g.3), g.5) (sym g.4)
-step_of task (Declined k) awaited n after live g = refused awaited k live g.0 refl (same_node after n.repository (Some awaited) n.live g.1 (sym live)) refl
+step_of task (Declined k) awaited n after live g =
+    let up : live_of (not (is_of_own_file k)) awaited ≡ Some awaited = ap (λ (own : Bool). live_of (not own) awaited) (refused_by_no_file n.repository task k g.0) in
+    refused awaited k live g.0 refl (same_node after n.repository (live_of (not (is_of_own_file k)) awaited) n.live g.1 (up ∙ sym live)) refl
 step_of task (Fault f) awaited n after live g = elim g [
   | inl d ↦ obeyed awaited d.0 live d.1 (d.2, refl) refl
   | inr e ↦ faulted awaited f live (λ h. cc h) refl (same_node after n.repository None None e refl) refl
@@ -74,11 +78,11 @@ answers_from task a was is old new follows up after = record {
 }
 
 -- the same after a call that failed
-pub answers_failed : (task : Task) (e : NodeFault) (was is : Bool) (old new : Shown) → Follows task (fault_answer e) old new → was ≡ true → is ≡ not (is_fault e) → AnswersShown task (fault_answer e) was is old new
+pub answers_failed : (task : Task) (e : NodeFault) (was is : Bool) (old new : Shown) → Follows task (fault_answer e) old new → was ≡ true → is ≡ not (takes_down e) → AnswersShown task (fault_answer e) was is old new
 answers_failed task e was is old new follows up after = answers_from task (fault_answer e) was is old new follows up (after ∙ stays_by_fault e)
 
 -- the same as a method gives it: the fault went through the call that takes the node down
-pub failed : (task : Task) (e told : NodeFault) (was is : Bool) (content : FileMap) (old new : Shown) → IsBadFile content e ⊎ Follows task (fault_answer e) old new → told ≡ e → was ≡ true → is ≡ not (is_fault e)
+pub failed : (task : Task) (e told : NodeFault) (was is : Bool) (content : FileMap) (old new : Shown) → IsBadFile content e ⊎ Follows task (fault_answer e) old new → told ≡ e → was ≡ true → is ≡ not (takes_down e)
     → IsBadFile content told ⊎ AnswersShown task (fault_answer told) was is old new
 failed task e told was is content old new cases same up after =
     subst (λ (f : NodeFault). IsBadFile content f ⊎ AnswersShown task (fault_answer f) was is old new) (sym same)

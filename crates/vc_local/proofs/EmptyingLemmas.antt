@@ -91,16 +91,18 @@ module _ (old new : FileMap) (loses : LosesCarried old new) where
       (refs-kept old new (λ q h. loses.outside.at q (no_ref_there q h)) (loses.outside.at packed_path refl))
       (head_of-same old new (loses.outside.at (codes "HEAD") refl)) index_kept
 
+  -- HEAD says the same
+  head_text : option_map read_head (files.get new (codes "HEAD")) ≡ option_map read_head (files.get old (codes "HEAD"))
+  head_text = ap (option_map read_head) (loses.outside.at (codes "HEAD") refl)
+
   pub openable_kept : (r : Repository) → IsOpenable old r → IsOpenable new r
   openable_kept r can = record {
     spells = subst (λ (s : Shown). Spells (opened s.head s) r) (sym shown_kept) can.spells;
     clean = clean_on old new (bad_loses old new loses.left (loses.outside.at packed_path refl)) can.clean;
+    head = record { good = λ bad. can.head.good (sym head_text ∙ bad); ends = λ loop. can.head.ends (sym head_text ∙ loop) };
   }
 
   -- a refusal is for the same files
-  head_text : option_map read_head (files.get new (codes "HEAD")) ≡ option_map read_head (files.get old (codes "HEAD"))
-  head_text = ap (option_map read_head) (loses.outside.at (codes "HEAD") refl)
-
   blames_head : (e : RefFault) → BlamesHead new e → BlamesHead old e
   blames_head (Stale current) h = h
   blames_head (Conflict other) h = h

@@ -13,7 +13,7 @@ use Rattle.vc_rev.specs.declared.refusal.SourceFault.TheVariants as source
 use Rattle.vc_object_map.specs.declared.faults.StoreFault.{StoreFault}
 use Rattle.vc_object_map.specs.declared.faults.StoreFault.TheVariants as store
 use Rattle.vc_local.proofs.LookLemmas.{or_told}
-use Rattle.vc_local.specs.NodeFault.{IsOfDevice, is_fault, of_source, refused_by_refs, refused_by_store}
+use Rattle.vc_local.specs.NodeFault.{IsOfDevice, is_fault, of_source, refused_by_refs, refused_by_store, takes_down}
 use Rattle.vc_local.specs.declared.fault.NodeFault.{NodeFault}
 use Rattle.vc_local.specs.declared.fault.NodeFault.TheVariants.{Store, Ref, Missing, NotACommit, BadPath, PathConflict, BadIndex, WrongEntry, Down}
 use Rattle.vc_local.specs.Machine.{store_answer, ref_answer, fault_answer}
@@ -37,6 +37,25 @@ refusal_calm PathConflict calm device = device
 refusal_calm (BadIndex place) calm device = device
 refusal_calm (WrongEntry at) calm device = device
 refusal_calm Down calm device = device
+
+-- what leaves the node up
+pub up_is_calm : (fault : NodeFault) → takes_down fault ≡ false → is_fault fault ≡ false
+up_is_calm (Store (store.Fault f)) up = up
+up_is_calm (Store (store.BadObject f)) up = refl
+up_is_calm (Store (store.Absent id)) up = refl
+up_is_calm (Store (store.Damaged id)) up = refl
+up_is_calm (Ref (refs.Fault f)) up = up
+up_is_calm (Ref (refs.Stale current)) up = refl
+up_is_calm (Ref (refs.Conflict name)) up = refl
+up_is_calm (Ref (refs.BadRefFile path)) up = refl
+up_is_calm (Ref refs.HeadLoop) up = refl
+up_is_calm (Missing id) up = refl
+up_is_calm (NotACommit id) up = refl
+up_is_calm BadPath up = refl
+up_is_calm PathConflict up = refl
+up_is_calm (BadIndex place) up = refl
+up_is_calm (WrongEntry at) up = refl
+up_is_calm Down up = refl
 
 -- what a layer below refuses by
 pub store_calm : (e : StoreFault) → IsOfDevice (refused_by_store e) → ⊥

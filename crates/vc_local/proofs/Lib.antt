@@ -1,6 +1,7 @@
 pub mod AnswerLemmas
 pub mod BesideLemmas
 pub mod BranchLemmas
+pub mod BurnLemmas
 pub mod CleanLemmas
 pub mod CommitAnswers
 pub mod CommitFailures
@@ -16,6 +17,7 @@ pub mod MayLemmas
 pub mod NameLemmas
 pub mod OpeningFaults
 pub mod OpeningLaws
+pub mod OwnFileLemmas
 pub mod ReadLemmas
 pub mod RefBlames
 pub mod RefusalLemmas

@@ -12,6 +12,7 @@ use Rattle.std.specs.FinMap.{get-empty}
 use Rattle.std.specs.Ordering.{nat_cmp}
 use Rattle.std.specs.Cmp.Lexicographic.{slice_cmp}
 use Rattle.std.specs.FinMap as files
+use Rattle.std.proofs.lemmas.Option.{none-some}
 use Rattle.vc_files.specs.FileMap.{FileMap}
 use Rattle.vc_model.specs.Repository.{Repository}
 use Rattle.vc_model.specs.World.{empty_repository}
@@ -28,6 +29,7 @@ use Rattle.vc_values.specs.Trees.{machine_entry}
 use Rattle.vc_rules.specs.Git.{stored_of}
 use Rattle.vc_local.specs.Clean.{KeepsClean}
 use Rattle.vc_local.proofs.CleanLemmas.{still_clean}
+use Rattle.vc_local.proofs.RefusalLemmas.{good_head}
 use Rattle.vc_local.proofs.StoringLemmas.{none_damaged}
 use Rattle.vc_model.specs.Clone.Awaited.{Nothing}
 use Rattle.vc_local.specs.Machine.{Spells, HoldsNode}
@@ -42,6 +44,7 @@ pub held_nodes_open : HeldNodesOpen
 held_nodes_open content is_up awaited n held = record {
   spells = subst (λ (s : Shown). Spells s n.repository) (sym (opened_some (shown content) held.shows.spells.head held.shows.spells.head_shown)) held.shows.spells;
   clean = held.clean;
+  head = good_head content held.shows.spells.head held.shows.spells.head_shown;
 }
 
 -- files that were made ready hold what they could be opened as
@@ -76,6 +79,9 @@ no_head : head_of files.empty ≡ None
 unfolding head_of
 no_head = ap (λ found. option_and_then (λ text. said (read_head text)) found) (nothing (codes "HEAD"))
 
+no_text : {T : Type 0} (read : List ℕ → T) {says : T} → option_map read (files.get (files.empty {X = List ℕ} {R = slice_cmp nat_cmp}) (codes "HEAD")) ≡ Some says → ⊥
+no_text read {says} is = none-some says (sym (ap (option_map read) (nothing (codes "HEAD"))) ∙ is)
+
 not_bad : (path : List ℕ) → IsBadRef files.empty path → ⊥
 not_bad path bad = good_absent files.empty path (nothing path) bad
 
@@ -99,4 +105,5 @@ new_files_open = record {
     index = λ path. get-empty (slice_cmp nat_cmp) path ∙ ap (λ found. option_map machine_entry found) (sym (get-empty {X = IndexEntry} (slice_cmp nat_cmp) path));
   });
   clean = record { objects = none_damaged; refs = not_bad };
+  head = record { good = no_text read_head; ends = no_text read_head };
 }

@@ -4,12 +4,12 @@ use Rattle.std.specs.Prelude.{string_bytes}
 use Rattle.vc_files.specs.FileMap.{FileMap}
 use Rattle.vc_object.specs.declared.id.ObjectId.{ObjectId}
 use Rattle.vc_refs.proofs.LayeredLemmas.{decides-loose}
-use Rattle.vc_refs.specs.RefFault.{BlamesList, BlamesRef, BlamesRemove, BlamesSet, BlamesObstacle, IsFault}
+use Rattle.vc_refs.specs.RefFault.{BlamesRef, BlamesRemove, BlamesSet, BlamesObstacle, IsFault}
 use Rattle.vc_refs.specs.Refs.{IsBadRef, is_taken, refs}
 use Rattle.vc_refs.specs.declared.faults.RefFault.{RefFault}
 use Rattle.vc_refs.specs.declared.faults.RefFault.TheVariants as ref
 use Rattle.vc_local.proofs.CommitReads.{its_file}
-use Rattle.vc_local.specs.Blames.{BlamesPacking, BlamesPut, BlamesRemoved}
+use Rattle.vc_local.specs.Blames.{BlamesPut, BlamesRemoved}
 use Rattle.vc_local.specs.NodeFault.{is_fault}
 use Rattle.vc_local.specs.Reads.{IsAtName, IsItsFile, NoneRead, TellsRead}
 use Rattle.vc_local.specs.declared.fault.NodeFault.TheVariants.{Ref}
@@ -88,14 +88,6 @@ module _ (content : FileMap) (name : List ℕ) where
   remove_file expected (ref.BadRefFile path) b = elim b [ inl packed ↦ inr packed.0 | inr own ↦ inl own.1 ]
   remove_file expected ref.HeadLoop b = tt
   remove_file expected (ref.Fault f) b = tt
-
--- packing
-pub packing_blames : (content : FileMap) (e : RefFault) → BlamesList content e → BlamesPacking content (Ref e)
-packing_blames content (ref.Stale current) b = absurd b
-packing_blames content (ref.Conflict other) b = absurd b
-packing_blames content (ref.BadRefFile path) b = b
-packing_blames content ref.HeadLoop b = absurd b
-packing_blames content (ref.Fault f) b = tt
 
 -- a packing that is refused, and did not fail, wrote nothing
 pub packing_unwritten : {Same : Type 0} (e : RefFault) → IsFault e ⊎ Same → (is_fault (Ref e) ≡ true) ⊎ Same

@@ -19,7 +19,7 @@ use Rattle.vc_object.specs.declared.id.ObjectId.{ObjectId}
 use Rattle.vc_refs.specs.Head.{IsBadHead, IsHeadLoop, head_of, head_value, read_head, said}
 use Rattle.vc_refs.specs.Refs.{is_taken, packed_at, packed_map, packed_path, refs, IsBadRef}
 use Rattle.vc_refs.specs.Obstacle.{is_held, IsFree as IsFreeName}
-use Rattle.vc_refs.specs.RefFault.{BlamesHead, BlamesHeadValue}
+use Rattle.vc_refs.specs.RefFault.{BlamesHead, BlamesHeadValue, IsGoodHead}
 use Rattle.vc_refs.specs.declared.faults.RefFault.{RefFault}
 use Rattle.vc_refs.specs.declared.faults.RefFault.TheVariants as ref
 use Rattle.vc_refs.specs.declared.heads.Head.{Head}
@@ -56,6 +56,9 @@ looped_head content loop = none_said read_head said (get content (codes "HEAD"))
 -- where a HEAD is shown, there is one
 pub no_head : (content : FileMap) (head : Head) → head_of content ≡ Some head → head_of content ≡ None → ⊥
 no_head content head some none = none-some head (sym none ∙ some)
+
+pub good_head : (content : FileMap) (head : Head) → head_of content ≡ Some head → IsGoodHead content
+good_head content head some = record { good = λ bad. no_head content head some (bad_head content bad); ends = λ loop. no_head content head some (looped_head content loop) }
 
 pub of_head : (content : FileMap) (e : RefFault) → BlamesHead content e → IsOfLook content e
 of_head content (ref.Stale current) blames = absurd blames

@@ -14,7 +14,7 @@ use Rattle.vc_values.proofs.GitLaws.{git_rules}
 use Rattle.vc_rules.proofs.WholeLemmas.{refs_whole}
 use Rattle.vc_push_rules.specs.Known.{AreRefsWhole}
 use Rattle.vc_local.specs.Machine.{AnswersShown, AnswersShownIfSound, Follows, FollowsIf, IsBadFile, MayWriteIfSoundOr, Spells, fault_answer, live_of}
-use Rattle.vc_local.specs.NodeFault.{is_fault}
+use Rattle.vc_local.specs.NodeFault.{takes_down}
 use Rattle.vc_local.specs.Shown.{Shown, shown}
 use Rattle.vc_local.specs.declared.fault.NodeFault.{NodeFault}
 use Rattle.vc_local.proofs.AnswerLemmas.{faults, stays, stays_by_fault, step_of}
@@ -55,7 +55,7 @@ sound_from task a was is content new follows up after = record {
 }
 
 -- the same after a call that failed, as a method gives it
-pub sound_failed : (task : Task) (e told : NodeFault) (was is : Bool) (content : FileMap) (new : Shown) → IsBadFile content e ⊎ FollowsIf (AreRefsWhole content) task (fault_answer e) (shown content) new → told ≡ e → was ≡ true → is ≡ not (is_fault e)
+pub sound_failed : (task : Task) (e told : NodeFault) (was is : Bool) (content : FileMap) (new : Shown) → IsBadFile content e ⊎ FollowsIf (AreRefsWhole content) task (fault_answer e) (shown content) new → told ≡ e → was ≡ true → is ≡ not (takes_down e)
     → IsBadFile content told ⊎ AnswersShownIfSound task (fault_answer told) was is (shown content) new
 sound_failed task e told was is content new cases same up after =
     subst (λ (f : NodeFault). IsBadFile content f ⊎ AnswersShownIfSound task (fault_answer f) was is (shown content) new) (sym same)

@@ -35,7 +35,7 @@ use Rattle.vc_rules.proofs.MapLemmas.{get-put}
 use Rattle.vc_object_map.specs.declared.faults.StoreFault.TheVariants as store
 use Rattle.vc_local.specs.IndexFile.{SpellsIndex, BlamesIndex}
 use Rattle.vc_local.specs.Machine.{HoldsNode, Spells, fault_answer, failure_of, live_of}
-use Rattle.vc_local.specs.NodeFault.{IsOfDevice, TellsDevice, is_fault, of_index}
+use Rattle.vc_local.specs.NodeFault.{IsOfDevice, TellsDevice, of_index, takes_down}
 use Rattle.vc_local.specs.Reads.{NoneRead, TellsRead}
 use Rattle.vc_local.specs.Shown.{Shown, shown, with_index_shown}
 use Rattle.vc_local.specs.Staging.{AnswersStage, AreOf, AreStaged, BlamesStaging, FailsAtFirst, File, MayStandAll, RefusesFirst, RefusesOne, StagesAll, StagesShown, file_placed, placed, staging, with_all}
@@ -273,7 +273,7 @@ module _ (content : FileMap) (staged : List Staged) (was is : Bool) (up : was �
   failed_first s (t ∷ ts) [] awaited n x are more live = absurd are
   failed_first s (t ∷ ts) (f ∷ fs) awaited n x are more live = (faulted awaited (failure_of x) live (λ h. cc h) refl refl refl, refl)
 
-  staging_fails : (e : NodeFault) → Blamed e → is ≡ not (is_fault e) → StagesShown staged (fault_answer e) was is (shown content) (shown content)
+  staging_fails : (e : NodeFault) → Blamed e → is ≡ not (takes_down e) → StagesShown staged (fault_answer e) was is (shown content) (shown content)
   staging_fails BadPath blames after = staging_refused content staged was is index.BadPath 60 bad_path blames up after
   staging_fails PathConflict blames after = staging_refused content staged was is index.PathConflict 61 conflict blames up after
   staging_fails (Store (store.Fault f)) blames after = record {
@@ -295,7 +295,7 @@ module _ (content : FileMap) (staged : List Staged) (was is : Bool) (up : was �
   staging_fails Down blames after = never _ blames
 
   -- the same as a method gives it: the fault went through the call that takes the node down
-  pub staging_failed : (e told : NodeFault) (new : FileMap) → told ≡ e → new ≡ content → Blamed e → is ≡ not (is_fault e) → StagesShown staged (fault_answer told) was is (shown content) (shown new)
+  pub staging_failed : (e told : NodeFault) (new : FileMap) → told ≡ e → new ≡ content → Blamed e → is ≡ not (takes_down e) → StagesShown staged (fault_answer told) was is (shown content) (shown new)
   staging_failed e told new same stays blames after =
       subst (λ (x : FileMap). StagesShown staged (fault_answer told) was is (shown content) (shown x)) (sym stays)
       (subst (λ (x : NodeFault). StagesShown staged (fault_answer x) was is (shown content) (shown content)) (sym same) (staging_fails e blames after))

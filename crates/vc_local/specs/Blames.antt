@@ -14,7 +14,7 @@ use Rattle.vc_object.specs.ObjectFault.{BodyFault}
 use Rattle.vc_object.specs.declared.id.ObjectId.{ObjectId}
 use Rattle.vc_object.specs.declared.kind.Kind.{Kind}
 use Rattle.vc_object.specs.declared.kind.Kind.TheVariants as kinds
-use Rattle.vc_refs.specs.RefFault.{IsFirstBadRef, BlamesObstacle, BlamesRef, BlamesHead as BlamesHeadFile}
+use Rattle.vc_refs.specs.RefFault.{BlamesObstacle, BlamesRef, BlamesHead as BlamesHeadFile, BlamesPacking as BlamesRefs}
 use Rattle.vc_refs.specs.RefMap.{is_ref}
 use Rattle.vc_refs.specs.Refs.{IsBadRef}
 use Rattle.vc_refs.specs.Obstacle.{IsFree}
@@ -120,10 +120,9 @@ BlamesRemoved content (Ref (ref.BadRefFile path)) = IsBadRef content (string_byt
 BlamesRemoved content (Ref (ref.Fault fault)) = Unit {0}
 BlamesRemoved content _ = ⊥
 
--- refs are packed where each of their files can be read
+-- refs are packed where each of their files can be read, and none of them is a folder of another
 abbrev pub BlamesPacking : FileMap → NodeFault → Type 0
-BlamesPacking content (Ref (ref.BadRefFile path)) = IsFirstBadRef content (string_bytes path)
-BlamesPacking content (Ref (ref.Fault fault)) = Unit {0}
+BlamesPacking content (Ref fault) = BlamesRefs content fault
 BlamesPacking content _ = ⊥
 
 -- a damaged file is damaged

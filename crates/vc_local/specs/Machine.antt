@@ -33,7 +33,7 @@ use Rattle.vc_object_map.specs.Store.{IsDamaged}
 use Rattle.vc_object_map.specs.declared.faults.StoreFault.{StoreFault}
 use Rattle.vc_object_map.specs.declared.faults.StoreFault.TheVariants as store
 use Rattle.vc_local.specs.Clean.{IsClean}
-use Rattle.vc_local.specs.NodeFault.{is_fault}
+use Rattle.vc_local.specs.NodeFault.{takes_down}
 use Rattle.vc_local.specs.Shown.{Shown, shown}
 use Rattle.vc_local.specs.declared.fault.NodeFault.{NodeFault}
 use Rattle.vc_local.specs.declared.fault.NodeFault.TheVariants.{Store, Ref, Missing, NotACommit, BadPath, PathConflict, BadIndex, WrongEntry, Down}
@@ -171,7 +171,7 @@ MayWriteIfSoundOr task was_up old IsLook =
 abbrev pub OrBadFile : {T : Type 0} → FileMap → Result T NodeFault → Type 0 → Type 0
 OrBadFile content result P = IsErrAnd result (IsBadFile content) ⊎ P
 
--- whether a node is up after a call: a fault takes it down
+-- whether a node is up after a call: a fault takes it down, and so does a file of its own that is damaged or gone
 abbrev pub up_after : {T : Type 0} → Result T NodeFault → Bool
 up_after (Ok x) = true
-up_after (Err e) = not (is_fault e)
+up_after (Err e) = not (takes_down e)

@@ -1,5 +1,5 @@
 -- What a fault of a node is of, and which are no refusals.
-use Rattle.std.specs.Prelude.{Bool, true, false, IsTrue, Result, IsErrAnd}
+use Rattle.std.specs.Prelude.{ℕ, Bool, true, false, IsTrue, Result, IsErrAnd, ◌||◌, ◌==◌}
 use Rattle.vc_history.specs.declared.fault.HistoryFault.{HistoryFault}
 use Rattle.vc_history.specs.declared.fault.HistoryFault.TheVariants as base
 use Rattle.vc_files.specs.declared.faults.Fault.{Fault as FilesFault}
@@ -72,7 +72,30 @@ is_fault (Store fault) = is_store_fault fault
 is_fault (Ref fault) = is_ref_fault fault
 is_fault _ = false
 
--- the device failed
+-- ---- what takes a node down
+abbrev pub store_takes_down : StoreFault → Bool
+store_takes_down (store.BadObject fault) = false
+store_takes_down (store.Absent id) = true
+store_takes_down (store.Damaged id) = true
+store_takes_down (store.Fault fault) = true
+
+abbrev pub ref_takes_down : RefFault → Bool
+ref_takes_down (ref.BadRefFile path) = true
+ref_takes_down (ref.Fault fault) = true
+ref_takes_down _ = false
+
+-- a file of the node's own that is damaged or gone, want of memory, or a device that failed
+abbrev pub takes_down : NodeFault → Bool
+takes_down (Store fault) = store_takes_down fault
+takes_down (Ref fault) = ref_takes_down fault
+takes_down _ = false
+
+-- the numbers that tell of such a file
+abbrev pub is_of_own_file : ℕ → Bool
+is_of_own_file number = number == 11 || (number == 12 || number == 33)
+
+-- ---- the device
+-- it failed
 abbrev pub is_device : FilesFault → Bool
 is_device files.Device = true
 is_device files.Memory = false

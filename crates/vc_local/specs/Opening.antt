@@ -7,14 +7,16 @@ use Rattle.vc_model.specs.Clone.Awaited.{Nothing}
 use Rattle.vc_model.specs.Repository.{Repository}
 use Rattle.vc_model.specs.World.{empty_repository}
 use Rattle.vc_refs.specs.Head.{head_of}
+use Rattle.vc_refs.specs.RefFault.{IsGoodHead}
 use Rattle.vc_local.specs.Clean.{IsClean}
 use Rattle.vc_local.specs.Machine.{Spells, HoldsNode}
 use Rattle.vc_local.specs.Shown.{shown, opened}
 
--- The files are clean, and spell this repository with HEAD on `main` where they have no HEAD.
+-- The files are clean, and spell this repository with HEAD on `main` if they have no HEAD; HEAD's file can be read, or it isn't there.
 pub record IsOpenable (content : FileMap) (r : Repository) : Type 0 where
   pub spells : Spells (opened (head_of content) (shown content)) r
   pub clean : IsClean content
+  pub head : IsGoodHead content
 
 -- so it is of each repository that the files are opened as
 abbrev pub OpenableAs : FileMap → (Repository → Type 0) → Type 0

@@ -16,7 +16,7 @@ use Rattle.vc_values.specs.Values.{DenotesAt}
 use Rattle.vc_object_map.specs.declared.faults.StoreFault.TheVariants as store
 use Rattle.vc_local.specs.Clean.{IsClean}
 use Rattle.vc_local.specs.Machine.{Spells, fault_answer}
-use Rattle.vc_local.specs.NodeFault.{is_fault, of_source}
+use Rattle.vc_local.specs.NodeFault.{of_source, takes_down}
 use Rattle.vc_local.specs.Shown.{shown}
 
 -- the machine's answer where an expression has no value
@@ -26,15 +26,15 @@ rev_answer (Missing id) = Declined 40
 rev_answer (NotACommit id) = Declined 41
 rev_answer (Source fault) = fault_answer (of_source fault)
 
--- it is no refusal
-abbrev pub is_rev_fault : RevFault → Bool
-is_rev_fault (Source fault) = is_fault (of_source fault)
-is_rev_fault _ = false
+-- what takes the node down
+abbrev pub value_takes_down : RevFault → Bool
+value_takes_down (Source fault) = takes_down (of_source fault)
+value_takes_down _ = false
 
--- whether the node is up after the call: a fault takes it down
+-- whether the node is up after the call
 abbrev pub up_after_value : Result ObjectId RevFault → Bool
 up_after_value (Ok id) = true
-up_after_value (Err e) = not (is_rev_fault e)
+up_after_value (Err e) = not (value_takes_down e)
 
 -- what the text denotes at the repository is told: its value, or the refusal that it has. A fault tells nothing of it.
 abbrev pub TellsValue : Repository → List ℕ → Result ObjectId RevFault → Type 0

@@ -3,7 +3,7 @@ ghost use Rattle.std.specs.Prelude.{◌≡◌};
 ghost use Rattle.vc_files.specs.declared.faults.Fault.TheVariants.{Memory};
 ghost use Rattle.vc_object_map.specs.declared.faults.StoreFault.TheVariants as store_fault;
 ghost use Rattle.vc_local.specs.declared.fault.NodeFault.TheVariants.{Store, Ref};
-ghost use Rattle.vc_local.specs.NodeFault.{is_fault, of_history, of_index, of_source, refused_by_graph, refused_by_refs, refused_by_store};
+ghost use Rattle.vc_local.specs.NodeFault.{is_fault, takes_down, of_history, of_index, of_source, refused_by_graph, refused_by_refs, refused_by_store};
 ghost use Rattle.vc_local.specs.Printed.{node_fault_text};
 
 use std::alloc::{AllocError, AllocFailed};
@@ -18,11 +18,12 @@ use vc_object_map::{MISSING, StoreFault};
 use vc_refs::RefFault;
 use vc_rev::SourceFault;
 
-/// What refuses a call of a node, by number, or the fault that ended it. After a fault the node is down.
+/// What refuses a call of a node, by number, or the fault that ended it. After a fault the node is down, and so it is after 11, 12 and
+/// 33: a file of its own is gone or damaged.
 #[derive(Debug, Drop)]
 pub enum NodeFault {
-    /// 1 to 10: a body that is no object of its kind, 8 also for an author or committer of more than one line; 12: a
-    /// damaged file of an object. Or a fault.
+    /// 1 to 10: a body that is no object of its kind, 8 also for an author or committer of more than one line; 11: the file of an
+    /// object is gone; 12: it is damaged. Or a fault.
     Store(StoreFault),
     /// 32: a name that conflicts with a ref; 33 and 34: a file of refs or of HEAD that stands for none. Or a fault.
     Ref(RefFault),
@@ -38,7 +39,7 @@ pub enum NodeFault {
     BadIndex(usize),
     /// 63: what a tree has at this path is of another kind than its mode says.
     WrongEntry(Vec<u8>),
-    /// 112: a fault came before, and the node was not opened again.
+    /// 112: a fault came before, or a file of the node's own was gone or damaged, and it was not opened again.
     Down,
 }
 
@@ -69,6 +70,20 @@ impl NodeFault {
     {
         match self {
             NodeFault::Store(StoreFault::Fault(_)) => true,
+            NodeFault::Ref(RefFault::Fault(_)) => true,
+            _ => false,
+        }
+    }
+
+    /// Whether the node is down after it: it is a fault, or a file of the node's own is gone or damaged (11, 12, 33). A node that finds
+    /// its files bad gives no more answers by them.
+    pub fn takes_down(&self) -> bool
+        ensures { result ≡ takes_down self.now }
+    {
+        match self {
+            NodeFault::Store(StoreFault::BadObject(_)) => false,
+            NodeFault::Store(_) => true,
+            NodeFault::Ref(RefFault::BadRefFile(_)) => true,
             NodeFault::Ref(RefFault::Fault(_)) => true,
             _ => false,
         }

@@ -28,10 +28,10 @@ use Rattle.vc_local.proofs.LookLemmas.{looks_told}
 use Rattle.vc_local.proofs.ValueLemmas.{values_are_told}
 use Rattle.vc_node.specs.Awaited.{AwaitedText, IsAwaited}
 use Rattle.vc_node.specs.CloneCalls.{AnswersClone}
-use Rattle.vc_node.specs.CloneFaults.{IsOfDevice, fault_answer, is_fault, of_rev}
+use Rattle.vc_node.specs.CloneFaults.{IsOfDevice, fault_answer, of_rev, takes_down}
 use Rattle.vc_local.specs.Machine.{HoldsNode}
 use Rattle.vc_local.specs.Told.{FoundAs}
-use Rattle.vc_local.specs.Values.{TellsValue, is_rev_fault, rev_answer, up_after_value}
+use Rattle.vc_local.specs.Values.{TellsValue, rev_answer, up_after_value, value_takes_down}
 use Rattle.vc_node.specs.declared.clone_fault.CloneFault.{CloneFault}
 
 -- ---- a fault of an expression, as the clone tells it
@@ -41,11 +41,11 @@ same_answer (Missing id) = refl
 same_answer (NotACommit id) = refl
 same_answer (Source fault) = refl
 
-same_fault : (e : RevFault) → is_fault (of_rev e) ≡ is_rev_fault e
-same_fault (Refused refusal) = refl
-same_fault (Missing id) = refl
-same_fault (NotACommit id) = refl
-same_fault (Source fault) = refl
+takes_down_so : (e : RevFault) → takes_down (of_rev e) ≡ value_takes_down e
+takes_down_so (Refused refusal) = refl
+takes_down_so (Missing id) = refl
+takes_down_so (NotACommit id) = refl
+takes_down_so (Source fault) = refl
 
 device_alone : (e : RevFault) → IsOfDevice (of_rev e) → e ≡ Source (Store (store.Fault Device))
 device_alone (Refused refusal) never = absurd never
@@ -104,9 +104,9 @@ value_answers old new waits after text e was_up is_up id spelled value files sam
     as_told (Asks (Resolve text)) (FoundAs fault_answer (Ok id)) old old new waits waits after was_up is_up true true files same was up (told_answers old waits text e (Ok id) spelled value tt)
 
 pub no_value_answers : (old new : FileMap) (waits after : AwaitedText) (text : List ℕ) (e : ExprText) (was_up is_up : Bool) (fault : RevFault) (told : CloneFault)
-    → IsExpr text e → IsOfExpr old e fault → new ≡ old → after ≡ waits → told ≡ of_rev fault → was_up ≡ true → is_up ≡ not (is_fault told)
+    → IsExpr text e → IsOfExpr old e fault → new ≡ old → after ≡ waits → told ≡ of_rev fault → was_up ≡ true → is_up ≡ not (takes_down told)
     → AnswersClone (Asks (Resolve text)) (FoundAs fault_answer (Err told)) old new waits after was_up is_up
 no_value_answers old new waits after text e was_up is_up fault told spelled why files same is was up =
     subst (λ (a : Answer). AnswersClone (Asks (Resolve text)) (Quietly a) old new waits after was_up is_up) (sym (ap fault_answer is ∙ same_answer fault))
-    (as_told (Asks (Resolve text)) (Quietly (rev_answer fault)) old old new waits waits after was_up is_up true (not (is_rev_fault fault)) files same was
-    (up ∙ ap not (ap is_fault is ∙ same_fault fault)) (told_answers old waits text e (Err fault) spelled tt why))
+    (as_told (Asks (Resolve text)) (Quietly (rev_answer fault)) old old new waits waits after was_up is_up true (not (value_takes_down fault)) files same was
+    (up ∙ ap not (ap takes_down is ∙ takes_down_so fault)) (told_answers old waits text e (Err fault) spelled tt why))

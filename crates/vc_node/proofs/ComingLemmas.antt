@@ -31,7 +31,7 @@ use Rattle.vc_node.specs.Awaited.{AwaitedText}
 use Rattle.vc_local.specs.Clean.{KeepsClean}
 use Rattle.vc_node.specs.CloneCalls.{AnswersClone, AnswersUp, ReceivedAs}
 use Rattle.vc_node.specs.CloneFaults.{of_device}
-use Rattle.vc_node.specs.ReceiveFault.{TellsDevice, UnlessFault, is_fault, told_of, up_after}
+use Rattle.vc_node.specs.ReceiveFault.{TellsDevice, UnlessFault, ends_in_fault, is_fault, told_of, up_after}
 use Rattle.vc_node.specs.Learning.{LearnsNext, Leaves}
 use Rattle.vc_node.specs.Receipts.{IsRefusedMessage}
 use Rattle.vc_node.specs.declared.clone_fault.CloneFault.{CloneFault}
@@ -171,8 +171,8 @@ module _ {D : Type 0} (content : D → FileMap) (old mid new : D) (waits mids af
   pub next_clean : MakesNoneBad (content old) (content mid) → KeepsClean (content old) (content new)
   next_clean bad = subst (λ (d : D). KeepsClean (content old) (content d)) (sym files) (clean_by _ _ bad)
 
-  pub next_cleared : (was_up : Bool) → was_up ≡ true → is_up ≡ up_after told → UnlessFault came (IsDropped 0 (content old) → IsDropped 0 (content mid)) → is_up ≡ true → IsDropped 0 (content old) → IsDropped 0 (content new)
-  next_cleared was_up was up cleared now dropped = subst (λ (d : D). IsDropped 0 (content d)) (sym files) (cleared (sym (ap (λ (r : Told). up_after r) is) ∙ sym up ∙ now) dropped)
+  pub next_cleared : UnlessFault came (IsDropped 0 (content old) → IsDropped 0 (content mid)) → UnlessFault told (IsDropped 0 (content old) → IsDropped 0 (content new))
+  next_cleared cleared calm dropped = subst (λ (d : D). IsDropped 0 (content d)) (sym files) (cleared (ap (λ (r : Told). ends_in_fault r) (sym is) ∙ calm) dropped)
 
   pub next_lost : (was_up : Bool) → was_up ≡ true → is_up ≡ up_after told → IfErr came (λ e. e ≡ ReadFailed → KeepsHeld (content old) (content mid) waits mids true true)
       → IfErr told (λ e. e ≡ ReadFailed → KeepsHeld (content old) (content new) waits after was_up is_up)

@@ -21,7 +21,7 @@ use Rattle.vc_quarantine.specs.Learning.{IsLearnt, IsOfWhole, Learnt}
 use Rattle.vc_push_rules.specs.Quarantine.{quarantine_folder}
 use Rattle.vc_object_map.specs.Store.{objects}
 use Rattle.vc_node.specs.Awaited.{AwaitedText}
-use Rattle.vc_node.specs.CloneFaults.{is_fault, of_exchange, up_after}
+use Rattle.vc_node.specs.CloneFaults.{of_exchange, takes_down, up_after}
 use Rattle.vc_node.specs.Arriving.{some_told}
 use Rattle.vc_node.specs.Learning.{DueIsLearnt, Leaves, LeavesLearnt, LearnsFrom, LearnsNext, LearnsNothing, SetIsDue}
 use Rattle.vc_node.specs.ReceiveFault.{up_after as receive_up_after}
@@ -69,7 +69,7 @@ pub due_learnt : DueIsLearnt
 due_learnt old new known now x n of j = (j.learnt x n).1 (inr of)
 
 -- ---- a message that was judged, or refused before
-judged_unless : (A P : Type 0) (e : ExchangeFault) → UnlessFault {T = A} (Err e) P → not (is_fault (of_exchange e)) ≡ true → P
+judged_unless : (A P : Type 0) (e : ExchangeFault) → UnlessFault {T = A} (Err e) P → not (takes_down (of_exchange e)) ≡ true → P
 judged_unless A P (exchange.Store fault) done up = done
 judged_unless A P (exchange.Refs fault) done up = done
 judged_unless A P (exchange.Incomplete id) done up = done
@@ -79,7 +79,7 @@ module _ {A : Type 0} (old mid new : FileMap) (known now : Learnt) (r : Result A
   agrees_now : AgreesIn new now.generations
   agrees_now = agreement_kept mid new keeps.at now.generations taking.agrees
 
-  failed_from : (e : ExchangeFault) → r ≡ Err e → LeavesLearnt (LearnsJudging old new known now ⊎ LearnsNothing old new known now) (not (is_fault (of_exchange e))) new now
+  failed_from : (e : ExchangeFault) → r ≡ Err e → LeavesLearnt (LearnsJudging old new known now ⊎ LearnsNothing old new known now) (not (takes_down (of_exchange e))) new now
   failed_from e was = record {
     agrees = agrees_now;
     learns = λ up. inl (since (judged_unless A (LearnsJudging mid new known now) e (subst (λ (x : Result A ExchangeFault). UnlessFault x (LearnsJudging mid new known now)) was taking.done) up));
@@ -99,7 +99,7 @@ module _ {A : Type 0} (old new : FileMap) (known now : Learnt) (r : Result A Exc
 
 -- the same of a pack, before which the quarantine was filled
 module _ {A : Type 0} (old mid new : FileMap) (outside : SameOutside (quarantine_folder 0) old mid) (known now : Learnt) (r : Result A ExchangeFault) (taking : LearnsTaking mid new known now r) (keeps : KeepsObjects mid new) where
-  pub pack_failed : (e : ExchangeFault) → r ≡ Err e → LeavesLearnt (LearnsJudging old new known now ⊎ LearnsNothing old new known now) (not (is_fault (of_exchange e))) new now
+  pub pack_failed : (e : ExchangeFault) → r ≡ Err e → LeavesLearnt (LearnsJudging old new known now ⊎ LearnsNothing old new known now) (not (takes_down (of_exchange e))) new now
   pack_failed = failed_from old mid new known now r taking keeps (judged_since old mid outside new known now)
 
   pub pack_taken : {x : A} → r ≡ Ok x → LeavesLearnt (LearnsJudging old new known now) true new now

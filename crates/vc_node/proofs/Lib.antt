@@ -1,6 +1,7 @@
 pub mod ArrivedLemmas
 pub mod ArrivingLemmas
 pub mod BurnLemmas
+pub mod CalmLemmas
 pub mod CloneCallLemmas
 pub mod CloneValueLemmas
 pub mod ComingLemmas
@@ -9,6 +10,7 @@ pub mod HeldAnswers
 pub mod KeepingLemmas
 pub mod LearningLemmas
 pub mod LossLemmas
+pub mod OwnLemmas
 pub mod PackingLemmas
 pub mod ReceivingClone
 pub mod ReceivingFaults

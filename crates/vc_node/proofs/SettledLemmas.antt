@@ -62,6 +62,10 @@ module _ {D : Type 0} (content : D → FileMap) (old mid new : D) (waits mids af
         (subst (λ (r : Result Received CloneFault). MayOr call waits true (content old) (Wears failed can_fail left old new (TellsDevice r))) (sym is)
         (subst (λ (d : D). MayOr call waits true (content old) (Wears failed can_fail left old d (TellsDevice came))) (sym files) may))
 
+-- what is said of the files after the call is said of those that the method leaves
+pub kept_through : {D : Type 0} (content : D → FileMap) (Keeps : FileMap → FileMap → Type 0) (old mid new : D) → new ≡ mid → Keeps (content old) (content mid) → Keeps (content old) (content new)
+kept_through content Keeps old mid new files keeps = subst (λ d. Keeps (content old) (content d)) (sym files) keeps
+
 refusal_here : (P : CloneFault → Type 0) (came : Result Received CloneFault) → IfErr came P → IfErr came (λ e. (e ≡ Node Down) ⊎ P e)
 refusal_here P (Ok x) why = tt
 refusal_here P (Err e) why = inr why

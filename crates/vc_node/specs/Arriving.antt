@@ -41,7 +41,7 @@ use Rattle.vc_node.specs.Awaited.{AwaitedText, IsAwaited, awaited_text}
 use Rattle.vc_node.specs.CloneCalls.{AnswersClone, AnswersUp, ReceivedAs}
 use Rattle.vc_node.specs.CloneFaults.{of_device, of_exchange}
 use Rattle.vc_local.specs.Machine.{HoldsNode}
-use Rattle.vc_node.specs.ReceiveFault.{is_fault, told_of, up_after}
+use Rattle.vc_node.specs.ReceiveFault.{ends_in_fault, is_fault, told_of, up_after}
 use Rattle.vc_node.specs.Receipts.{IsRefusedMessage}
 use Rattle.vc_node.specs.declared.awaited.Awaited.{Awaited as Waiting}
 use Rattle.vc_node.specs.declared.clone_fault.CloneFault.{CloneFault}
@@ -54,7 +54,7 @@ use Rattle.vc_node.specs.declared.receive_fault.ReceiveFault.TheVariants.{Node, 
 -- ---- a reader that fails
 -- what a call of a clone tells of a reader that fails, and what it keeps where the reader failed
 pub record KeepsAtLoss {S T : Type 0} (failed : S → ℕ) (can_fail : S → Type 0) (old new : S) (honest : Type 0) (result : Result T ReceiveFault) (Kept : Type 0) : Type 0 where
-  pub failures : TellsLoss failed can_fail old new (IsErrOf result ReadFailed) (up_after result ≡ false)
+  pub failures : TellsLoss failed can_fail old new (IsErrOf result ReadFailed) (ends_in_fault result ≡ true)
   pub kept : honest → IfErr result (λ e. e ≡ ReadFailed → Kept)
 
 -- ---- a message so far

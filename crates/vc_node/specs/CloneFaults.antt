@@ -16,7 +16,7 @@ use Rattle.vc_rev.specs.declared.refusal.RevFault.{RevFault}
 use Rattle.vc_rev.specs.declared.refusal.RevFault.TheVariants as revs
 use Rattle.vc_object_map.specs.declared.faults.StoreFault.TheVariants as store
 use Rattle.vc_local.specs.Machine.{fault_answer as node_answer}
-use Rattle.vc_local.specs.NodeFault.{IsOfDevice as IsNodeDevice, is_fault as is_node_fault, of_source, refused_by_graph, refused_by_refs, refused_by_store}
+use Rattle.vc_local.specs.NodeFault.{IsOfDevice as IsNodeDevice, is_fault as is_node_fault, of_source, refused_by_graph, refused_by_refs, refused_by_store, takes_down as node_takes_down}
 use Rattle.vc_node.specs.declared.clone_fault.CloneFault.{CloneFault}
 use Rattle.vc_node.specs.declared.clone_fault.CloneFault.TheVariants.{Incomplete, NoValue, Node, TooMany, Unexpected, Unread}
 use Rattle.vc_local.specs.declared.fault.NodeFault.TheVariants.{Missing, NotACommit, Store}
@@ -57,6 +57,11 @@ abbrev pub is_fault : CloneFault → Bool
 is_fault (Node fault) = is_node_fault fault
 is_fault _ = false
 
+-- a file of the clone's own that is damaged or gone, or a fault
+abbrev pub takes_down : CloneFault → Bool
+takes_down (Node fault) = node_takes_down fault
+takes_down _ = false
+
 abbrev pub IsOfDevice : CloneFault → Type 0
 IsOfDevice (Node fault) = IsNodeDevice fault
 IsOfDevice _ = ⊥
@@ -74,7 +79,7 @@ fault_answer (Incomplete id) = Declined 92
 fault_answer (NoValue refusal) = Declined (refusal_number refusal)
 fault_answer (Node fault) = node_answer fault
 
--- whether the node is up after a call: a fault takes it down
+-- whether the node is up after a call
 abbrev pub up_after : {T : Type 0} → Result T CloneFault → Bool
 up_after (Ok x) = true
-up_after (Err e) = not (is_fault e)
+up_after (Err e) = not (takes_down e)

@@ -43,9 +43,10 @@ pub record IsFresh {F : Type 0} (node : Held F) : Type 0 where
   pub awaits : node.awaited ≡ nothing
   pub learnt : IsNothing node.learnt
 
--- One that is down answers so, one that is up is up after it or not, and what it awaits and has learnt stays.
+-- One that is down answers so and stays as it is, one that is up is up after it or not, and what it awaits and has learnt stays.
 pub record Settles {F : Type 0} (IsDown : Type 0) (is_up : Bool) (old new : Held F) : Type 0 where
   pub down : old.is_up ≡ false → IsDown
+  pub unchanged : old.is_up ≡ false → new ≡ old
   pub up : old.is_up ≡ true → new.is_up ≡ is_up
   pub awaits : new.awaited ≡ old.awaited
   pub learnt : new.learnt ≡ old.learnt
@@ -53,6 +54,7 @@ pub record Settles {F : Type 0} (IsDown : Type 0) (is_up : Bool) (old new : Held
 -- The same of a call that may change what is awaited: after an error the same is.
 pub record SettlesTaken {F T E : Type 0} (result : Result T E) (IsDown : Type 0) (is_up : Bool) (old new : Held F) : Type 0 where
   pub down : old.is_up ≡ false → IsDown
+  pub unchanged : old.is_up ≡ false → new ≡ old
   pub up : old.is_up ≡ true → new.is_up ≡ is_up
   pub awaits : OnErr result (new.awaited ≡ old.awaited)
   pub learnt : new.learnt ≡ old.learnt
@@ -60,6 +62,7 @@ pub record SettlesTaken {F T E : Type 0} (result : Result T E) (IsDown : Type 0)
 -- The same of a call that takes a message: where the node is up then, this is learnt.
 pub record SettlesLearning {F T E : Type 0} (honest Learns : Type 0) (result : Result T E) (IsDown : Type 0) (is_up : Bool) (old new : Held F) : Type 0 where
   pub down : old.is_up ≡ false → IsDown
+  pub unchanged : old.is_up ≡ false → new ≡ old
   pub up : old.is_up ≡ true → new.is_up ≡ is_up
   pub awaits : OnErr result (new.awaited ≡ old.awaited)
   pub learns : honest → new.is_up ≡ true → Learns
@@ -68,9 +71,10 @@ abbrev pub SettlesMessage : {F : Type 0} → Type 0 → (F → FileMap) → Resu
 SettlesMessage honest content result old new =
     SettlesLearning honest (LearnsFrom result (content old.files) (content new.files) old.learnt new.learnt) result (result ≡ Err (Node Down)) (clone_up_after result) old new
 
+-- what one that is down answers is said of the message that comes
 abbrev pub SettlesNext : {F : Type 0} → Type 0 → (F → FileMap) → Result (Option Received) ReceiveFault → Held F → Held F → Type 0
 SettlesNext honest content result old new =
-    SettlesLearning honest (LearnsNext result (content old.files) (content new.files) old.learnt new.learnt) result (new ≡ old) (receive_up_after result) old new
+    SettlesLearning honest (LearnsNext result (content old.files) (content new.files) old.learnt new.learnt) result (Unit {0}) (receive_up_after result) old new
 
 -- the device is only looked at, as it may be where a call that is refused, or that changes nothing, ends
 abbrev pub Looks : {F T : Type 0} → (F → ℕ) → (F → Type 0) → (F → Option ℕ) → Held F → Held F → Result T NodeFault → Type 0

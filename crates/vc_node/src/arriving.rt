@@ -12,7 +12,7 @@ ghost use Rattle.vc_push_rules.specs.Quarantine.{IsDropped, quarantine_folder};
 ghost use Rattle.vc_node.specs.Arriving.{Arrives, Comes, FromPack, FromStart, IsStopped, KeepsAtLoss, KeepsHeld, LeavesPack, ReceivesUp, TakesPack, down_told, some_told};
 ghost use Rattle.vc_node.specs.Awaited.{awaited_text};
 ghost use Rattle.vc_node.specs.Learning.{IfNothing, KeepsAll, LearnsPack, LeavesCome, LeavesNext};
-ghost use Rattle.vc_node.specs.ReceiveFault.{TellsDevice, UnlessFault, up_after};
+ghost use Rattle.vc_node.specs.ReceiveFault.{TellsDevice, UnlessFault, ends_in_fault};
 
 use crate::CloneFault;
 use crate::awaited::Awaited;
@@ -114,7 +114,7 @@ fn take_pack<F: Files, R: Source>(
     ensures beside { F.honest → KeepsOthers (F.content files.old) (F.content files.new) }
     ensures good { F.honest → KeepsGood (F.content files.old) (F.content files.new) }
     ensures wear { Writes F.honest F.content F.failed F.can_fail F.left files.old files.new (TellsDevice result) }
-    ensures failures { TellsLoss R.failed R.can_fail reader.old reader.new (IsErrOf result ReceiveFault.ReadFailed) (up_after result ≡ false) }
+    ensures failures { TellsLoss R.failed R.can_fail reader.old reader.new (IsErrOf result ReceiveFault.ReadFailed) (ends_in_fault result ≡ true) }
 {
     let Awaited::Pack(wants, refs) = awaited else {
         skip_pack(alloc, reader, taken)?;
@@ -158,7 +158,7 @@ pub(crate) fn take_rest<F: Files, R: Source>(
     ensures beside { F.honest → KeepsOthers (F.content files.old) (F.content files.new) }
     ensures good { F.honest → KeepsGood (F.content files.old) (F.content files.new) }
     ensures wear { Writes F.honest F.content F.failed F.can_fail F.left files.old files.new (TellsDevice result) }
-    ensures failures { TellsLoss R.failed R.can_fail reader.old reader.new (IsErrOf result ReceiveFault.ReadFailed) (up_after result ≡ false) }
+    ensures failures { TellsLoss R.failed R.can_fail reader.old reader.new (IsErrOf result ReceiveFault.ReadFailed) (ends_in_fault result ≡ true) }
 {
     match head {
         Head::Message(message) => {

@@ -1,9 +1,11 @@
 // What a call spends of the writes left before a stop.
-ghost use Rattle.vc_node.specs.Burning.{CallsBurn, ExchangesBurn, PacksBurn, SoundCallsBurn};
+ghost use Rattle.vc_node.specs.Burning.{CallsBurn, CloneBurns, CloneSuffices, ExchangesBurn, PacksBurn, SoundCallsBurn};
 ghost use Rattle.vc_node.specs.CloneCalls.{ReceivedAs, SentAs};
-ghost use Rattle.vc_node.specs.CloneFaults.{fault_answer};
+ghost use Rattle.vc_rules.specs.Told.{Quietly};
+ghost use Rattle.vc_node.specs.CloneFaults.{TellsDevice as CloneTellsDevice, fault_answer};
+ghost use Rattle.vc_local.specs.NodeFault.{TellsDevice};
 ghost use Rattle.vc_local.specs.Machine.{done_answer, made_answer};
-ghost use Rattle.vc_local.specs.Told.{FoundAs};
+ghost use Rattle.vc_local.specs.Told.{FoundAs, RestartedAs};
 
 use vc_files::Files;
 
@@ -27,4 +29,15 @@ pub fn an_exchange_spends_what_the_machine_allows<F: Files>()
 /// The same of packing the refs, which changes no place of the repository.
 pub fn a_packing_spends_what_the_machine_allows<F: Files>()
     ensures packed { PacksBurn F.honest F.content F.failed F.can_fail F.left }
+{}
+
+/// A call of a held clone, other than its opening, spends what the machine allows, also where a fuse has blown behind it.
+pub fn a_calm_clone_spends_what_the_machine_allows<F: Files>()
+    ensures made { CloneBurns F.honest F.content F.failed F.can_fail F.left (λ r. Quietly (made_answer r)) (λ r. TellsDevice r) }
+    ensures done { CloneBurns F.honest F.content F.failed F.can_fail F.left (λ r. Quietly (done_answer r)) (λ r. TellsDevice r) }
+    ensures received { CloneBurns F.honest F.content F.failed F.can_fail F.left ReceivedAs (λ r. CloneTellsDevice r) }
+    ensures sent { CloneBurns F.honest F.content F.failed F.can_fail F.left SentAs (λ r. CloneTellsDevice r) }
+    ensures found { CloneBurns F.honest F.content F.failed F.can_fail F.left (FoundAs fault_answer) (λ r. CloneTellsDevice r) }
+    ensures packed { CloneBurns F.honest F.content F.failed F.can_fail F.left RestartedAs (λ r. TellsDevice r) }
+    ensures enough { CloneSuffices }
 {}

@@ -1,6 +1,6 @@
 // Why a call of a clone that sends or takes messages, or asks for a value, gives no answer.
 ghost use Rattle.std.specs.Prelude.{◌≡◌};
-ghost use Rattle.vc_node.specs.CloneFaults.{is_fault, of_device, of_exchange, of_pkt, of_rev, of_send};
+ghost use Rattle.vc_node.specs.CloneFaults.{is_fault, of_device, of_exchange, of_pkt, of_rev, of_send, takes_down};
 ghost use Rattle.vc_node.specs.declared.clone_fault.CloneFault.TheVariants.{Node};
 ghost use Rattle.vc_files.specs.declared.faults.Fault.TheVariants.{Memory};
 
@@ -17,7 +17,8 @@ use vc_rev::{Refusal, RevFault};
 use vc_sending::SendFault;
 use vc_tracking::ExchangeFault;
 
-/// What refuses such a call of a clone, by number, or the fault that ended it. After a fault the node is down.
+/// What refuses such a call of a clone, by number, or the fault that ended it. After a fault the node is down, and so it is after 11, 12
+/// and 33.
 #[derive(Debug, Drop)]
 pub enum CloneFault {
     /// 80 to 84, or 3: the bytes are no message.
@@ -30,8 +31,8 @@ pub enum CloneFault {
     Incomplete(ObjectId),
     /// 51 to 56: the expression has no value.
     NoValue(Refusal),
-    /// 12, 33, 34 and 62: a file of the node is at fault; 40: what this id reaches is not all there; 112: a fault came before, and
-    /// the node was not opened again. Or a fault.
+    /// 11, 12, 33, 34 and 62: a file of the node is at fault; 40: what this id reaches is not all there; 112: the node was taken down
+    /// before, and was not opened again. Or a fault.
     Node(NodeFault),
 }
 
@@ -57,6 +58,16 @@ impl CloneFault {
     {
         match self {
             CloneFault::Node(fault) => fault.is_fault(),
+            _ => false,
+        }
+    }
+
+    /// Whether the node is down after it: see [`NodeFault::takes_down`].
+    pub fn takes_down(&self) -> bool
+        ensures { result ≡ takes_down self.now }
+    {
+        match self {
+            CloneFault::Node(fault) => fault.takes_down(),
             _ => false,
         }
     }

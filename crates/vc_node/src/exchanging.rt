@@ -180,6 +180,7 @@ pub(crate) fn receive<F: Files>(
     ensures leaves { LeavesMessage F.honest F.content result files.old files.new awaited.old awaited.new (learnt_in generations.old due.old) (learnt_in generations.new due.new) }
     ensures refused { F.honest → IfErr result (IsRefusedBytes (F.content files.old) (awaited_text awaited.old) bytes.now) }
     ensures kept { F.honest → IfErr result (λ e. IsOfMessage e → F.content files.new ≡ F.content files.old) }
+    ensures beside { F.honest → KeepsBeside (F.content files.old) (F.content files.new) }
     ensures good { F.honest → KeepsGood (F.content files.old) (F.content files.new) }
     ensures wear { Writes F.honest F.content F.failed F.can_fail F.left files.old files.new (TellsDevice result) }
     ensures looks { F.honest → (m : Sent) → Reads bytes.now m → MayTaken F.content (Receive m) files.old awaited.old (Wears F.failed F.can_fail F.left files.old files.new (TellsDevice result)) }

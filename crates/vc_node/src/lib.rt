@@ -15,8 +15,8 @@ mod node;
 mod receive_fault;
 
 pub use burning::{
-    a_call_spends_what_the_machine_allows, a_packing_spends_what_the_machine_allows,
-    an_exchange_spends_what_the_machine_allows,
+    a_call_spends_what_the_machine_allows, a_calm_clone_spends_what_the_machine_allows,
+    a_packing_spends_what_the_machine_allows, an_exchange_spends_what_the_machine_allows,
 };
 pub use clone_fault::CloneFault;
 pub use exchanging::Received;

@@ -1,12 +1,15 @@
 // A clone.
-ghost use Rattle.std.specs.Prelude.{◌≡◌, ◌≢◌, ◌⊎◌, ℕ, List, [], Some, Ok, Err, OnOk, OnErr, IfNone, IfOk, IfErr, is_ok, true, false, not, nat_eq, codes};
+ghost use Rattle.std.specs.Prelude.{◌≡◌, ◌≢◌, ◌⊎◌, ℕ, IsTrue, List, [], Some, Ok, Err, OnOk, OnErr, IfNone, IfOk, IfErr, is_ok, true, false, not, nat_eq, codes};
 ghost use Rattle.std.specs.List.{All, starts_with};
 ghost use Rattle.vc_model.specs.Clone.Task.{Write, Stage, Unstage, LoadTree, SetBranch, DeleteBranch, MoveHead};
 ghost use Rattle.vc_model.specs.Clone.Awaited.{Nothing};
 ghost use Rattle.vc_object.specs.Object.{object_name};
 ghost use Rattle.vc_refs.specs.Packing.{IsPackedFrom};
 ghost use Rattle.vc_sending.specs.Sending.{machine_items};
+ghost use Rattle.vc_exchange.specs.Quarantined.{KeepsOthers};
 ghost use Rattle.vc_files.specs.declared.faults.Fault.TheVariants.{Memory};
+ghost use Rattle.vc_pack.specs.Reached.{KeepsObjects};
+ghost use Rattle.vc_tracking.specs.Storing.{KeepsBeside};
 ghost use Rattle.vc_message.specs.AnyMessage.{a_report};
 ghost use Rattle.vc_message.specs.AnyView.{message_text};
 ghost use Rattle.vc_message.specs.Machine.{IsUnread, Reads};
@@ -22,9 +25,9 @@ ghost use Rattle.vc_node.specs.Arriving.{KeepsAtLoss};
 ghost use Rattle.vc_node.specs.Awaited.{nothing};
 ghost use Rattle.vc_node.specs.Node.{AnswersCall, AnswersCommand, AnswersCommandIfSound, AnswersFirst, AnswersStaging, AnswersText, IsFresh, KeepsNode, Looks, MayCall, MayCommand, MayCommandIfSound, MayCommit, MayStaging, MayText, PushesNoZero, ReceivesNext, Settles, SettlesMessage, SettlesNext, SettlesTaken, commit_task};
 ghost use Rattle.vc_node.specs.CloneCalls.{ReceivedAs, SentAs};
-ghost use Rattle.vc_node.specs.CloneFaults.{TellsDevice as CloneTellsDevice, fault_answer, is_fault as is_clone_fault, of_device, up_after as clone_up_after};
+ghost use Rattle.vc_node.specs.CloneFaults.{TellsDevice as CloneTellsDevice, fault_answer, of_device, takes_down as clone_takes_down, up_after as clone_up_after};
 ghost use Rattle.vc_node.specs.Receipts.{IsOfMessage, IsRefusedBytes, IsRefusedMessage, IsRefusedStart, IsRefusedValue};
-ghost use Rattle.vc_node.specs.ReceiveFault.{TellsDevice as ReceiveTellsDevice, is_fault as is_receive_fault, up_after as receive_up_after};
+ghost use Rattle.vc_node.specs.ReceiveFault.{TellsDevice as ReceiveTellsDevice, UnlessFault, takes_down as receive_takes_down, up_after as receive_up_after};
 ghost use Rattle.vc_quarantine.specs.Learning.{IsNothing};
 ghost use Rattle.vc_push_rules.specs.Quarantine.{IsDropped};
 ghost use Rattle.vc_local.specs.Emptying.{AreEmpty, IsOpened, LosesCarried};
@@ -38,7 +41,7 @@ ghost use Rattle.vc_local.specs.Making.{EndsCommit};
 ghost use Rattle.vc_rules.specs.Git.{machine_object, mode_number};
 ghost use Rattle.vc_local.specs.Machine.{HoldsNode, machine_head, made_answer, done_answer, up_after};
 ghost use Rattle.vc_files.specs.Failures.{Wears, Writes};
-ghost use Rattle.vc_local.specs.NodeFault.{is_fault, IsOfDevice, TellsDevice};
+ghost use Rattle.vc_local.specs.NodeFault.{is_fault, IsOfDevice, TellsDevice, takes_down};
 ghost use Rattle.vc_local.specs.Opening.{OpenableAs, opened_node};
 ghost use Rattle.vc_local.specs.Reads.{IsAtHead, IsAtName, IsBelow, IsItsFile, IsOfCommit, IsReached, IsReachedByHead, NoneRead, TellsRead};
 ghost use Rattle.vc_local.specs.Shown.{IsLoaded, shown};
@@ -63,8 +66,8 @@ use vc_refname::RefName;
 use vc_refs::Head;
 use vc_sending::{PushItem, list_message, push_message};
 
-/// A clone over files: objects, refs, HEAD and an index. Once a call has ended in a fault, each later one but
-/// [`close`](CloneNode::close) is refused (112), until the files are opened again. After a push it keeps in memory the names of what
+/// A clone over files: objects, refs, HEAD and an index. Once a call has ended in a fault, or has met a file of the clone's own that is
+/// gone or damaged (11, 12, 33), each later one but [`close`](CloneNode::close) is refused (112), until the files are opened again. After a push it keeps in memory the names of what
 /// its tracking refs reach, some 20 to 50 bytes for each, so that the next push reads what is new alone. It keeps the generations of
 /// commits that it has learnt, some 30 bytes for each: those of the values that refs were set to by a message, and of all below them,
 /// which it learns before the next message is judged, so that a judgement stops at them. The index that was read at
@@ -114,6 +117,7 @@ impl<F: Files> CloneNode<F> {
         ensures opened { F.honest → IfOk result (λ node. IsOpened (F.content files) (F.content node.files)) }
         ensures fresh { IfOk result IsFresh }
         ensures opens { F.honest → OpenableAs (F.content files) (λ r. IfOk result (λ node. HoldsNode (F.content node.files) true Nothing (opened_node r))) }
+        ensures only { F.honest → OpenableAs (F.content files) (λ r. IfErr result (λ e. IsTrue (is_fault e.1))) }
         ensures refused { F.honest → IfErr result (λ e. BlamesOpen (F.content files) e.1) }
         ensures err { F.honest → IfErr result (λ e. LosesCarried (F.content files) (F.content e.0)) }
         ensures clean { F.honest → IfOk result (λ node. KeepsClean (F.content files) (F.content node.files)) }
@@ -152,7 +156,7 @@ impl<F: Files> CloneNode<F> {
         files
     }
 
-    /// Whether no fault has come since the files were opened.
+    /// Whether neither a fault nor a bad file of its own has taken it down since the files were opened.
     pub fn is_up(&self) -> bool
         ensures { result ≡ self.now.is_up }
     {
@@ -197,15 +201,15 @@ impl<F: Files> CloneNode<F> {
         self.is_up = false;
     }
 
-    // The fault, after which the node is down if it is no refusal.
+    // The fault, after which the node is down if it takes it down.
     fn fail(&mut self, fault: NodeFault) -> NodeFault
         ensures fault { result ≡ fault }
         ensures files { self.new.files ≡ self.old.files }
         ensures awaits { self.new.awaited ≡ self.old.awaited }
         ensures learnt { self.new.learnt ≡ self.old.learnt }
-        ensures up { self.old.is_up ≡ true → self.new.is_up ≡ not (is_fault fault) }
+        ensures up { self.old.is_up ≡ true → self.new.is_up ≡ not (takes_down fault) }
     {
-        if fault.is_fault() {
+        if fault.takes_down() {
             self.is_up = false;
         }
         fault
@@ -446,13 +450,13 @@ impl<F: Files> CloneNode<F> {
         ensures files { self.new.files ≡ self.old.files }
         ensures awaits { self.new.awaited ≡ self.old.awaited }
         ensures learnt { self.new.learnt ≡ self.old.learnt }
-        ensures up { self.old.is_up ≡ true → self.new.is_up ≡ not (is_clone_fault fault) }
+        ensures up { self.old.is_up ≡ true → self.new.is_up ≡ not (clone_takes_down fault) }
     {
-        self.is_up &= !fault.is_fault();
+        self.is_up &= !fault.takes_down();
         fault
     }
 
-    // What came of a message, after which the node is down if it is a fault.
+    // What came of a message, after which the node is down if that takes it down.
     fn settle(&mut self, received: Result<Received, CloneFault>) -> Result<Received, CloneFault>
         ensures received { result ≡ received }
         ensures files { self.new.files ≡ self.old.files }
@@ -522,6 +526,8 @@ impl<F: Files> CloneNode<F> {
         ensures err { F.honest → IfErr result (λ e. IsOfMessage e → F.content self.new.files ≡ F.content self.old.files) }
         ensures settles { SettlesMessage F.honest F.content result self.old self.new }
         ensures clean { F.honest → KeepsClean (F.content self.old.files) (F.content self.new.files) }
+        ensures objects { F.honest → KeepsObjects (F.content self.old.files) (F.content self.new.files) }
+        ensures beside { F.honest → KeepsBeside (F.content self.old.files) (F.content self.new.files) }
         ensures wear { Writes F.honest F.content F.failed F.can_fail F.left self.old.files self.new.files (CloneTellsDevice result) }
         ensures looks { F.honest → (m : Sent) → Reads bytes.now m → MayCall F.content (Receive m) self.old (Wears F.failed F.can_fail F.left self.old.files self.new.files (CloneTellsDevice result)) }
     {
@@ -540,19 +546,19 @@ impl<F: Files> CloneNode<F> {
         self.settle(received)
     }
 
-    // The fault, after which the node is down if it is no refusal.
+    // The fault, after which the node is down if it takes it down.
     fn fail_next(&mut self, fault: ReceiveFault) -> ReceiveFault
         ensures fault { result ≡ fault }
         ensures files { self.new.files ≡ self.old.files }
         ensures awaits { self.new.awaited ≡ self.old.awaited }
         ensures learnt { self.new.learnt ≡ self.old.learnt }
-        ensures up { self.old.is_up ≡ true → self.new.is_up ≡ not (is_receive_fault fault) }
+        ensures up { self.old.is_up ≡ true → self.new.is_up ≡ not (receive_takes_down fault) }
     {
-        self.is_up = self.is_up && !fault.is_fault();
+        self.is_up = self.is_up && !fault.takes_down();
         fault
     }
 
-    // What came of the reader, after which the node is down if it is a fault.
+    // What came of the reader, after which the node is down if that takes it down.
     fn settle_next(
         &mut self,
         received: Result<Option<Received>, ReceiveFault>,
@@ -576,7 +582,8 @@ impl<F: Files> CloneNode<F> {
     /// A message that isn't awaited (91) is read to its end. Bytes that are no message are refused with their first fault (80 to 84, or 3)
     /// as soon as it has come, and a reader that fails with 115. In none of these is anything changed, nor is it where not all is there
     /// that was asked for (92): what was put into the quarantine is gone again. A node that is down refuses a message and bytes that are
-    /// none (112), and takes as much of the reader. Want of memory takes the node down, as a device that fails does.
+    /// none (112), and takes as much of the reader. Want of memory takes the node down, as a device that fails does, and as a file of its own
+    /// that is gone or damaged does.
     pub fn receive_from<R: Source>(
         &mut self,
         reader: &mut R,
@@ -585,9 +592,11 @@ impl<F: Files> CloneNode<F> {
         ensures known { AnswersFirst F.honest F.content (R.remaining reader.old) (R.remaining reader.new) self.old self.new result }
         ensures none { IfOk result (λ found. IfNone found (self.new ≡ self.old)) }
         ensures lost { KeepsAtLoss R.failed R.can_fail reader.old reader.new F.honest result (KeepsNode F.content self.old self.new) }
-        ensures cleared { F.honest → self.new.is_up ≡ true → IsDropped 0 (F.content self.old.files) → IsDropped 0 (F.content self.new.files) }
+        ensures cleared { F.honest → UnlessFault result (IsDropped 0 (F.content self.old.files) → IsDropped 0 (F.content self.new.files)) }
         ensures settles { SettlesNext F.honest F.content result self.old self.new }
         ensures clean { F.honest → KeepsClean (F.content self.old.files) (F.content self.new.files) }
+        ensures objects { F.honest → KeepsObjects (F.content self.old.files) (F.content self.new.files) }
+        ensures beside { F.honest → KeepsOthers (F.content self.old.files) (F.content self.new.files) }
         ensures wear { Writes F.honest F.content F.failed F.can_fail F.left self.old.files self.new.files (ReceiveTellsDevice result) }
     {
         if !self.is_up {
@@ -612,6 +621,8 @@ impl<F: Files> CloneNode<F> {
         ensures err { F.honest → IfErr result (λ e. IsOfMessage e → F.content self.new.files ≡ F.content self.old.files) }
         ensures settles { SettlesMessage F.honest F.content result self.old self.new }
         ensures clean { F.honest → KeepsClean (F.content self.old.files) (F.content self.new.files) }
+        ensures objects { F.honest → KeepsObjects (F.content self.old.files) (F.content self.new.files) }
+        ensures beside { F.honest → KeepsBeside (F.content self.old.files) (F.content self.new.files) }
         ensures wear { Writes F.honest F.content F.failed F.can_fail F.left self.old.files self.new.files (CloneTellsDevice result) }
         ensures looks { F.honest → MayText F.content (message_text message) self.old (Wears F.failed F.can_fail F.left self.old.files self.new.files (CloneTellsDevice result)) }
     {
@@ -637,6 +648,8 @@ impl<F: Files> CloneNode<F> {
         ensures err { F.honest → IfErr result (λ e. IsOfMessage e → F.content self.new.files ≡ F.content self.old.files) }
         ensures settles { SettlesMessage F.honest F.content result self.old self.new }
         ensures clean { F.honest → KeepsClean (F.content self.old.files) (F.content self.new.files) }
+        ensures objects { F.honest → KeepsObjects (F.content self.old.files) (F.content self.new.files) }
+        ensures beside { F.honest → KeepsBeside (F.content self.old.files) (F.content self.new.files) }
         ensures wear { Writes F.honest F.content F.failed F.can_fail F.left self.old.files self.new.files (CloneTellsDevice result) }
         ensures looks { F.honest → MayText F.content (a_report (report_text report.now)) self.old (Wears F.failed F.can_fail F.left self.old.files self.new.files (CloneTellsDevice result)) }
     {
@@ -656,13 +669,13 @@ impl<F: Files> CloneNode<F> {
     }
 
     /// Puts all refs into one file. Nothing else is written, and no ref changes, wherever it stops. 33 where one of their files
-    /// can't be read: then nothing is written.
+    /// can't be read, 32 where one of them is a folder of another: then nothing is written.
     pub fn pack_refs(&mut self) -> Result<(), NodeFault>
         ensures answers { F.honest → AnswersCall F.content (Asks PackRefs) (RestartedAs result) self.old self.new }
         ensures packed { F.honest → OnOk result (IsPackedFrom (F.content self.old.files) (F.content self.new.files)) }
         ensures kept { F.honest → PacksOnly (F.content self.old.files) (F.content self.new.files) }
         ensures refused { F.honest → IfErr result (λ e. (e ≡ NodeFault.Down) ⊎ BlamesPacking (F.content self.old.files) e) }
-        ensures err { F.honest → OnErr result ((self.new.is_up ≡ false) ⊎ (F.content self.new.files ≡ F.content self.old.files)) }
+        ensures err { F.honest → IfErr result (λ e. (is_fault e ≡ true) ⊎ (F.content self.new.files ≡ F.content self.old.files)) }
         ensures settles { Settles (result ≡ Err NodeFault.Down) (up_after result) self.old self.new }
         ensures wear { Writes F.honest F.content F.failed F.can_fail F.left self.old.files self.new.files (TellsDevice result) }
         ensures looks { F.honest → MayCall F.content (Asks PackRefs) self.old (Looks F.failed F.can_fail F.left self.old self.new result) }

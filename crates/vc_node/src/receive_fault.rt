@@ -2,7 +2,7 @@
 ghost use Rattle.std.specs.Prelude.{◌≡◌};
 ghost use Rattle.vc_files.specs.declared.faults.Fault.TheVariants.{Memory};
 ghost use Rattle.vc_node.specs.CloneFaults.{of_device, of_exchange};
-ghost use Rattle.vc_node.specs.ReceiveFault.{is_fault, of_incoming};
+ghost use Rattle.vc_node.specs.ReceiveFault.{is_fault, of_incoming, takes_down};
 ghost use Rattle.vc_node.specs.declared.receive_fault.ReceiveFault.TheVariants.{Node};
 
 use crate::clone_fault::CloneFault;
@@ -20,7 +20,8 @@ use vc_tracking::ExchangeFault;
 pub enum ReceiveFault {
     /// 115: the reader failed. The node is as it was.
     ReadFailed,
-    /// What refuses the message, or the bytes that are none, by number, or the fault that ended it. After a fault the node is down.
+    /// What refuses the message, or the bytes that are none, by number, or the fault that ended it. After a fault the node is down, and
+    /// so it is after 11, 12 and 33.
     Node(CloneFault),
 }
 
@@ -43,6 +44,16 @@ impl ReceiveFault {
         match self {
             ReceiveFault::ReadFailed => false,
             ReceiveFault::Node(fault) => fault.is_fault(),
+        }
+    }
+
+    /// Whether the node is down after it: see [`NodeFault::takes_down`].
+    pub fn takes_down(&self) -> bool
+        ensures { result ≡ takes_down self.now }
+    {
+        match self {
+            ReceiveFault::ReadFailed => false,
+            ReceiveFault::Node(fault) => fault.takes_down(),
         }
     }
 }

@@ -1,4 +1,5 @@
--- What is told of an answer: that a turn is no end where something is told, and that it tells a fault of the device as the node did.
+-- What is told of an answer: that a turn is no end where something is told, that it tells a fault of the device as the node did, and
+-- whether the node is up after it.
 use Rattle.std.proofs.Common.{◌≡◌, ◌≢◌, ◌⊎◌, ℕ, Bool, true, false, List, Option, Some, None, Result, Ok, Err, refl, sym, ap, ◌∙◌, subst, inl, inr, true≢false}
 use Rattle.std.specs.Prelude.{not}
 use Rattle.vc_files.specs.declared.faults.Fault.{Fault as FilesFault}
@@ -10,20 +11,26 @@ use Rattle.vc_model.specs.Node.Failure.{Device as DeviceFailed}
 use Rattle.vc_model.specs.SharedCall.{SharedCall}
 use Rattle.vc_local.proofs.AnswerLemmas.{stays, stays_by_fault}
 use Rattle.vc_local.specs.Machine.{failure_of, fault_answer as node_answer}
-use Rattle.vc_local.specs.NodeFault.{IsOfDevice as IsNodeDevice}
+use Rattle.vc_local.specs.NodeFault.{IsOfDevice as IsNodeDevice, is_fault as is_node_fault}
 use Rattle.vc_local.specs.declared.fault.NodeFault.{NodeFault}
 use Rattle.vc_local.specs.declared.fault.NodeFault.TheVariants as node
+use Rattle.vc_message.specs.Machine.{pkt_number}
+use Rattle.vc_pkt.specs.declared.fault.PktFault.{PktFault}
+use Rattle.vc_pkt.specs.declared.fault.PktFault.TheVariants as pkt
 use Rattle.vc_refs.specs.declared.faults.RefFault.TheVariants as refs
-use Rattle.vc_shared.specs.AcceptFault.{TellsDevice, up_after}
+use Rattle.vc_rev.specs.Value.{refusal_number}
+use Rattle.vc_rev.specs.declared.refusal.Refusal.{Refusal}
+use Rattle.vc_rev.specs.declared.refusal.Refusal.TheVariants as rev
+use Rattle.vc_shared.specs.AcceptFault.{TellsDevice, ends_in_fault, up_after}
 use Rattle.vc_shared.specs.Arriving.{IsKnown}
-use Rattle.vc_shared.specs.Faults.{IsOfDevice, fault_answer, is_fault}
+use Rattle.vc_shared.specs.Faults.{IsOfDevice, fault_answer, is_fault, takes_down}
 use Rattle.vc_shared.specs.declared.accept_fault.AcceptFault.TheVariants.{Node as OfNode, ReadFailed as Lost}
 use Rattle.vc_shared.specs.declared.fault.SharedFault.{SharedFault}
 use Rattle.vc_shared.specs.declared.fault.SharedFault.TheVariants.{Busy, NoSuchSlot, NoValue, Node, NotOurs, Unexpected, Unread}
 use Rattle.vc_object_map.specs.declared.faults.StoreFault.TheVariants as store
 use Rattle.vc_server.specs.Coming.{Reply}
 use Rattle.vc_server.specs.Telling.{TellsAnswer, TellsRefusal}
-use Rattle.vc_server.specs.Turn.{LeavesRest, up_after as turn_up}
+use Rattle.vc_server.specs.Turn.{IsUpThen, LeavesRest, ends_in_fault as turn_failed}
 use Rattle.vc_server.specs.declared.serve_fault.ServeFault.{ServeFault}
 use Rattle.vc_server.specs.declared.serve_fault.ServeFault.TheVariants.{Fault, Memory, ReadFailed, WriteFailed}
 use Rattle.vc_server.specs.declared.telling.Served.{Served}
@@ -65,6 +72,67 @@ device_of Busy = declined _ _ (λ never. never)
 device_of NoSuchSlot = declined _ _ (λ never. never)
 device_of (NoValue refusal) = declined _ _ (λ never. never)
 device_of (Node fault) = node_device fault
+
+-- ---- a fault, and what takes the node down
+abbrev is_failure : Answer → Bool
+is_failure (Failed f) = true
+is_failure _ = false
+
+node_failing : (e : NodeFault) → is_node_fault e ≡ is_failure (node_answer e)
+node_failing (node.Store (store.BadObject fault)) = refl
+node_failing (node.Store (store.Absent id)) = refl
+node_failing (node.Store (store.Damaged id)) = refl
+node_failing (node.Store (store.Fault fault)) = refl
+node_failing (node.Ref (refs.Stale current)) = refl
+node_failing (node.Ref (refs.Conflict name)) = refl
+node_failing (node.Ref (refs.BadRefFile path)) = refl
+node_failing (node.Ref refs.HeadLoop) = refl
+node_failing (node.Ref (refs.Fault fault)) = refl
+node_failing (node.Missing id) = refl
+node_failing (node.NotACommit id) = refl
+node_failing node.BadPath = refl
+node_failing node.PathConflict = refl
+node_failing (node.BadIndex place) = refl
+node_failing (node.WrongEntry at) = refl
+node_failing node.Down = refl
+
+failing : (e : SharedFault) → is_fault e ≡ is_failure (fault_answer e)
+failing (Unread fault) = refl
+failing (NotOurs id) = refl
+failing Unexpected = refl
+failing Busy = refl
+failing NoSuchSlot = refl
+failing (NoValue refusal) = refl
+failing (Node fault) = node_failing fault
+
+-- a fault has no number
+no_number : (e : SharedFault) (n : ℕ) → is_fault e ≡ true → fault_answer e ≡ Declined n → ⊥
+no_number e n failed declined = true≢false (sym failed ∙ failing e ∙ ap is_failure declined)
+
+unread_stays : (fault : PktFault) → true ≡ stays (Declined (pkt_number fault))
+unread_stays (pkt.BadLength place) = refl
+unread_stays (pkt.BadRecord place) = refl
+unread_stays pkt.SizeMismatch = refl
+unread_stays pkt.CutMessage = refl
+unread_stays pkt.TooMany = refl
+unread_stays pkt.TooLarge = refl
+
+value_stays : (refusal : Refusal) → true ≡ stays (Declined (refusal_number refusal))
+value_stays rev.Unknown = refl
+value_stays rev.Ambiguous = refl
+value_stays rev.TooShort = refl
+value_stays rev.NoSuchParent = refl
+value_stays rev.WrongKind = refl
+value_stays rev.NoSuchPath = refl
+
+up_by_answer : (e : SharedFault) → not (takes_down e) ≡ stays (fault_answer e)
+up_by_answer (Unread fault) = unread_stays fault
+up_by_answer (NotOurs id) = refl
+up_by_answer Unexpected = refl
+up_by_answer Busy = refl
+up_by_answer NoSuchSlot = refl
+up_by_answer (NoValue refusal) = value_stays refusal
+up_by_answer (Node fault) = stays_by_fault fault
 
 told_device : (fault : FilesFault) → Failed (failure_of fault) ≡ Failed DeviceFailed → fault ≡ files.Device
 told_device files.Device is = refl
@@ -120,36 +188,42 @@ module _ {W : Type 0} (contents : W → Option (List ℕ)) (old new : W) where
   lost_from (Err (OfNode e)) result h is = absurd (subst (λ (r : Result Served ServeFault). TellsRefusal contents old new e r) is h)
 
   -- ---- the node after it
-  up_by_answer : (e : SharedFault) → not (is_fault e) ≡ stays (fault_answer e)
-  up_by_answer (Unread fault) = refl
-  up_by_answer (NotOurs id) = refl
-  up_by_answer Unexpected = refl
-  up_by_answer Busy = refl
-  up_by_answer NoSuchSlot = refl
-  up_by_answer (NoValue refusal) = refl
-  up_by_answer (Node fault) = stays_by_fault fault
+  refusal_up : (e : SharedFault) (result : Result Served ServeFault) (is_up : Bool) → TellsRefusal contents old new e result → is_up ≡ not (takes_down e) → IsUpThen is_up result
+  refusal_up e (Ok (Refused n)) is_up h up = up ∙ up_by_answer e ∙ ap stays h.0
+  refusal_up e (Ok Answered) is_up h up = absurd h
+  refusal_up e (Ok End) is_up h up = absurd h
+  refusal_up e (Err (Fault fault)) is_up h up = up ∙ up_by_answer e ∙ ap stays h.0
+  refusal_up e (Err Memory) is_up h up = tt
+  refusal_up e (Err WriteFailed) is_up h up = tt
+  refusal_up e (Err ReadFailed) is_up h up = absurd h
 
-  refusal_up : (e : SharedFault) (result : Result Served ServeFault) → TellsRefusal contents old new e result → not (is_fault e) ≡ turn_up result
-  refusal_up e (Ok (Refused n)) h = up_by_answer e ∙ ap stays h.0
-  refusal_up e (Ok Answered) h = absurd h
-  refusal_up e (Ok End) h = absurd h
-  refusal_up e (Err (Fault fault)) h = up_by_answer e ∙ ap stays h.0
-  refusal_up e (Err Memory) h = up_by_answer e ∙ ap stays h.0.1
-  refusal_up e (Err WriteFailed) h = up_by_answer e ∙ ap stays h.1
-  refusal_up e (Err ReadFailed) h = absurd h
+  -- it is as the answer has left it
+  pub answer_up : (answered : Reply) (result : Result Served ServeFault) (is_up : Bool) → TellsAnswer contents old new answered result → is_up ≡ up_after answered → IsUpThen is_up result
+  answer_up (Ok (Some reply)) (Ok Answered) is_up h up = up
+  answer_up (Ok (Some reply)) (Ok (Refused n)) is_up h up = absurd h
+  answer_up (Ok (Some reply)) (Ok End) is_up h up = absurd h
+  answer_up (Ok (Some reply)) (Err (Fault fault)) is_up h up = absurd h
+  answer_up (Ok (Some reply)) (Err Memory) is_up h up = absurd h
+  answer_up (Ok (Some reply)) (Err WriteFailed) is_up h up = tt
+  answer_up (Ok (Some reply)) (Err ReadFailed) is_up h up = absurd h
+  answer_up (Ok None) result is_up h up = subst (λ (r : Result Served ServeFault). IsUpThen is_up r) (sym h.1) up
+  answer_up (Err Lost) result is_up h up = subst (λ (r : Result Served ServeFault). IsUpThen is_up r) (sym h.1) up
+  answer_up (Err (OfNode e)) result is_up h up = refusal_up e result is_up h up
 
-  -- a node is down after a turn exactly where what it answered was a fault
-  pub answer_up : (answered : Reply) (result : Result Served ServeFault) → TellsAnswer contents old new answered result → up_after answered ≡ turn_up result
-  answer_up (Ok (Some reply)) (Ok Answered) h = refl
-  answer_up (Ok (Some reply)) (Ok (Refused n)) h = absurd h
-  answer_up (Ok (Some reply)) (Ok End) h = absurd h
-  answer_up (Ok (Some reply)) (Err (Fault fault)) h = absurd h
-  answer_up (Ok (Some reply)) (Err Memory) h = absurd h
-  answer_up (Ok (Some reply)) (Err WriteFailed) h = refl
-  answer_up (Ok (Some reply)) (Err ReadFailed) h = absurd h
-  answer_up (Ok None) result h = sym (ap (λ (r : Result Served ServeFault). turn_up r) h.1)
-  answer_up (Err Lost) result h = sym (ap (λ (r : Result Served ServeFault). turn_up r) h.1)
-  answer_up (Err (OfNode e)) result h = refusal_up e result h
+  -- a fault ends the turn
+  refusal_fails : (e : SharedFault) (result : Result Served ServeFault) → TellsRefusal contents old new e result → is_fault e ≡ true → turn_failed result ≡ true
+  refusal_fails e (Ok (Refused n)) h failed = absurd (no_number e n failed h.0)
+  refusal_fails e (Ok Answered) h failed = absurd h
+  refusal_fails e (Ok End) h failed = absurd h
+  refusal_fails e (Err (Fault fault)) h failed = refl
+  refusal_fails e (Err Memory) h failed = absurd (no_number e h.0.0 failed h.0.1)
+  refusal_fails e (Err WriteFailed) h failed = absurd (no_number e h.0 failed h.1)
+  refusal_fails e (Err ReadFailed) h failed = absurd h
+
+  pub answer_fails : (answered : Reply) (result : Result Served ServeFault) → TellsAnswer contents old new answered result → ends_in_fault answered ≡ true → turn_failed result ≡ true
+  answer_fails (Ok found) result h failed = absurd (true≢false (sym failed))
+  answer_fails (Err Lost) result h failed = absurd (true≢false (sym failed))
+  answer_fails (Err (OfNode e)) result h failed = refusal_fails e result h failed
 
   -- ---- where something is told, what is behind the message is left
   refusal_leaves : (rest : List ℕ) (now : Option (List ℕ)) (e : SharedFault) (result : Result Served ServeFault) → TellsRefusal contents old new e result → (now ≡ Some rest) ⊎ (is_fault e ≡ true) → LeavesRest rest now result
@@ -163,14 +237,14 @@ module _ {W : Type 0} (contents : W → Option (List ℕ)) (old new : W) where
       by (Err Memory) h = tt
       by (Err WriteFailed) h = is
       by (Err ReadFailed) h = tt
-  refusal_leaves rest now e result h (inr failed) = by result (sym (refusal_up e result h) ∙ ap not failed)
+  refusal_leaves rest now e result h (inr failed) = by result (refusal_fails e result h failed)
     where
-      by : (result : Result Served ServeFault) → turn_up result ≡ false → LeavesRest rest now result
-      by (Ok served) up = absurd (true≢false up)
-      by (Err (Fault fault)) up = tt
-      by (Err Memory) up = tt
-      by (Err WriteFailed) up = absurd (true≢false up)
-      by (Err ReadFailed) up = tt
+      by : (result : Result Served ServeFault) → turn_failed result ≡ true → LeavesRest rest now result
+      by (Ok served) ends = absurd (true≢false (sym ends))
+      by (Err (Fault fault)) ends = tt
+      by (Err Memory) ends = tt
+      by (Err WriteFailed) ends = absurd (true≢false (sym ends))
+      by (Err ReadFailed) ends = tt
 
   pub answer_leaves : (honest : Type 0) (was_up : Bool) (m : Message) (Answers : SharedCall → Type 0) (rest : List ℕ) (now : Option (List ℕ)) (answered : Reply) (result : Result Served ServeFault) → TellsAnswer contents old new answered result
       → IsKnown honest was_up m rest now Answers answered → LeavesRest rest now result

@@ -73,8 +73,8 @@ fn reply_to<F: Files>(shared: &mut Shared<F>, accepted: Accepted) -> Result<Vec<
 
 /// Takes the message that is all of the bytes, and answers with the bytes of the reply: a list is answered by the refs, a want by a
 /// pack, and a push by its report, after all its steps. Refused are bytes that are no message (80 to 84, or 3), a message that a
-/// clone takes (91), a want of what no ref reaches (90), and a push where eight are open (110). After a fault the node is down, and
-/// refuses (112).
+/// clone takes (91), a want of what no ref reaches (90), and a push where eight are open (110). After a fault, and after 11, 12 and 33,
+/// the node is down, and refuses (112).
 pub fn answer<F: Files>(shared: &mut Shared<F>, bytes: &[u8]) -> Result<Vec<u8>, SharedFault>
     ensures answers { F.honest → (m : Sent) → Reads bytes.now m → ServesCall F.content (Accept m) result shared.old shared.new }
     ensures unread { F.honest → (n : ℕ) → IsUnread bytes.now n → ServesCall F.content (Asks (Unread n)) result shared.old shared.new }
@@ -91,7 +91,7 @@ pub fn answer<F: Files>(shared: &mut Shared<F>, bytes: &[u8]) -> Result<Vec<u8>,
 /// Takes the next message of the reader, and no byte behind it, and answers with the bytes of the reply, as [`answer`] does with all of
 /// the bytes; none where the reader is at its end before the first byte. A message that is refused is read to its end, bytes that are
 /// none as far as their first fault, and a reader that fails is 115, which changes nothing. Of a push no more is held than its commands,
-/// one line and one object's body. Want of memory takes the node down, as a device that fails does.
+/// one line and one object's body. Want of memory takes the node down, as a device that fails does, and as a bad file of its own does.
 pub fn answer_from<F: Files, R: Source>(
     shared: &mut Shared<F>,
     reader: &mut R,

@@ -10,11 +10,11 @@ use Rattle.vc_message.specs.AnyMessage.{any_step, beginning}
 use Rattle.vc_message.specs.Incoming.{Fails}
 use Rattle.vc_message.specs.declared.incoming_fault.IncomingFault.{IncomingFault}
 use Rattle.vc_message.specs.declared.incoming_fault.IncomingFault.TheVariants as incoming
-use Rattle.vc_local.proofs.FaultLemmas.{refusal_calm, writes_by}
+use Rattle.vc_local.proofs.FaultLemmas.{refusal_calm, up_is_calm as node_is_calm, writes_by}
 use Rattle.vc_push_rules.specs.Quarantine.{IsDropped, quarantine_folder}
 use Rattle.vc_push_rules.specs.Session.{SessionText}
 use Rattle.vc_shared.proofs.PushingLemmas.{one_lowest}
-use Rattle.vc_shared.specs.AcceptFault.{IsOfDevice, TellsDevice, is_fault, of_incoming}
+use Rattle.vc_shared.specs.AcceptFault.{IsOfDevice, TellsDevice, is_fault, of_incoming, takes_down}
 use Rattle.vc_message.specs.Coming.{TakesPart}
 use Rattle.vc_shared.specs.Arriving.{IsCleared, IsStopped, by_bytes, by_node, by_reader}
 use Rattle.vc_shared.specs.Faults.{of_device}
@@ -62,6 +62,17 @@ refusal_no_device (Node shared.NoSuchSlot) calm device = device
 refusal_no_device (Node (shared.NoValue refusal)) calm device = device
 refusal_no_device (Node (shared.Node fault)) calm device = refusal_calm fault calm device
 
+-- what leaves the node up is a refusal
+pub up_is_calm : (e : AcceptFault) → takes_down e ≡ false → is_fault e ≡ false
+up_is_calm ReadFailed up = refl
+up_is_calm (Node (shared.Unread fault)) up = refl
+up_is_calm (Node (shared.NotOurs id)) up = refl
+up_is_calm (Node shared.Unexpected) up = refl
+up_is_calm (Node shared.Busy) up = refl
+up_is_calm (Node shared.NoSuchSlot) up = refl
+up_is_calm (Node (shared.NoValue refusal)) up = refl
+up_is_calm (Node (shared.Node fault)) up = node_is_calm fault up
+
 -- ---- a push that is turned away
 pub part_of_stop : (before new : Option (List ℕ)) (e : AcceptFault) → IsStopped before new e → TakesPart before new
 part_of_stop before new e (by_bytes fault taken is) = (taken.bytes, taken.taken)
@@ -71,6 +82,9 @@ part_of_stop before new e (by_node part fault is) = part
 -- nothing changed
 pub changes_none : (content : FileMap) (slots : List (Option SessionText)) → ChangesFree content content slots
 changes_none content slots = record { none = λ taken. refl; outside = λ k lowest. outside_same (quarantine_folder k) content }
+
+pub changes_same : (old new : FileMap) (slots : List (Option SessionText)) → new ≡ old → ChangesFree old new slots
+changes_same old new slots same = subst (λ (content : FileMap). ChangesFree old content slots) (sym same) (changes_none old slots)
 
 -- no slot is free
 pub cleared_none : (content : FileMap) (slots : List (Option SessionText)) (e : AcceptFault) → AreTaken slots → IsCleared content slots e

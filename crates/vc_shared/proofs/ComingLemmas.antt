@@ -28,11 +28,12 @@ use Rattle.vc_quarantine.specs.Clean.{MakesNoneBad}
 use Rattle.vc_push_rules.specs.Quarantine.{IsDropped, quarantine_folder}
 use Rattle.vc_push_rules.specs.Session.{SessionText}
 use Rattle.vc_shared.proofs.AcceptingLemmas.{faulted_answers, unread_answers}
+use Rattle.vc_shared.proofs.ArrivingLemmas.{up_is_calm}
 use Rattle.vc_shared.proofs.HoldingLemmas.{beside_slot}
 use Rattle.vc_local.proofs.BesideLemmas.{clean_on, held_content, spells_on}
 use Rattle.vc_shared.proofs.PushingLemmas.{free_there, push_answers, slot_beside}
 use Rattle.vc_shared.proofs.PushingTexts.{reads_tellable}
-use Rattle.vc_shared.specs.AcceptFault.{TellsDevice, is_fault, up_after}
+use Rattle.vc_shared.specs.AcceptFault.{TellsDevice, is_fault, takes_down, up_after}
 use Rattle.vc_shared.specs.Accepting.{AnswersUp, IsRefusedMessage}
 use Rattle.vc_message.specs.Coming.{TakesAll, a_message, cut_short, lost, no_message, nothing_came}
 use Rattle.vc_shared.specs.Arriving.{AcceptsUp, BeginsPush, IsCleared, IsRefusedThere, IsStopped, IsTold, KeepsHeld, OpensFrom, ToldAs, by_bytes, by_node, by_reader, message_told, slot_told}
@@ -181,8 +182,8 @@ module _ (honest : Type 0) (before rest : Option (List ℕ)) (old new : FileMap)
 
 -- it didn't all come
 module _ (honest : Type 0) (before rest : Option (List ℕ)) (old new : FileMap) (slots : List (Option SessionText)) (e : AcceptFault) (keeps : honest → (is_up : Bool) → (is_up ≡ true → is_fault e ≡ false) → KeepsHeld old new slots slots is_up is_up) where
-  calm_up : (is_up : Bool) → is_up ≡ not (is_fault e) → is_up ≡ true → is_fault e ≡ false
-  calm_up is_up up here = not_false (is_fault e) (sym here ∙ up)
+  calm_up : (is_up : Bool) → is_up ≡ not (takes_down e) → is_up ≡ true → is_fault e ≡ false
+  calm_up is_up up here = up_is_calm e (not_false (takes_down e) (sym here ∙ up))
 
   pub stopped_accepts : IsStopped before rest e → AcceptsUp honest before rest old new slots slots (Err e)
   stopped_accepts (by_bytes fault taken is) is_up up = record {
@@ -194,7 +195,7 @@ module _ (honest : Type 0) (before rest : Option (List ℕ)) (old new : FileMap)
         subst (λ (x : AcceptFault). AnswersShared call (ToldAs (Err x)) old new slots slots true is_up) (sym is)
         (subst (λ (c : SharedCall). AnswersShared c (AcceptedAs (Err (shared.Unread fault))) old new slots slots true is_up) (sym which)
         (answers_then (Asks (AsksUnread (pkt_number fault))) (AcceptedAs (Err (shared.Unread fault))) old old new slots true is_up
-        (unread_answers old slots (pkt_number fault) fault refl true is_up refl (up ∙ ap (λ (x : AcceptFault). not (is_fault x)) is)) (keeps h is_up (calm_up is_up up))));
+        (unread_answers old slots (pkt_number fault) fault refl true is_up refl (up ∙ ap (λ (x : AcceptFault). not (takes_down x)) is)) (keeps h is_up (calm_up is_up up))));
   }
   stopped_accepts (by_reader part is) is_up up = record {
     came = lost;
@@ -211,7 +212,7 @@ module _ (honest : Type 0) (before rest : Option (List ℕ)) (old new : FileMap)
     answers = λ h call never.
         subst (λ (x : AcceptFault). AnswersShared call (ToldAs (Err x)) old new slots slots true is_up) (sym is)
         (answers_then call (AcceptedAs (Err (of_device fault))) old old new slots true is_up
-        (faulted_answers old slots call fault never true is_up refl (up ∙ ap (λ (x : AcceptFault). not (is_fault x)) is)) (keeps h is_up (calm_up is_up up)));
+        (faulted_answers old slots call fault never true is_up refl (up ∙ ap (λ (x : AcceptFault). not (takes_down x)) is)) (keeps h is_up (calm_up is_up up)));
   }
 
 -- ---- a push

@@ -11,7 +11,7 @@ use Rattle.vc_model.specs.SharedCall.SharedCall.{Asks}
 use Rattle.vc_local.proofs.FaultLemmas.{source_alone}
 use Rattle.vc_local.proofs.LookLemmas.{looks_told}
 use Rattle.vc_local.specs.Told.{FoundAs}
-use Rattle.vc_local.specs.Values.{is_rev_fault, rev_answer}
+use Rattle.vc_local.specs.Values.{rev_answer, value_takes_down}
 use Rattle.vc_repository.specs.Resolving.{IsOfExpr}
 use Rattle.vc_object.specs.declared.id.ObjectId.{ObjectId}
 use Rattle.vc_expression.specs.Grammar.{ExprText, IsExpr}
@@ -22,7 +22,7 @@ use Rattle.vc_push_rules.specs.Session.{SessionText}
 use Rattle.vc_object_map.specs.declared.faults.StoreFault.TheVariants as store
 use Rattle.vc_shared.proofs.ResolvingLemmas.{values_answer}
 use Rattle.vc_shared.specs.Calls.{AnswersShared}
-use Rattle.vc_shared.specs.Faults.{IsOfDevice, fault_answer, is_fault, of_rev}
+use Rattle.vc_shared.specs.Faults.{IsOfDevice, fault_answer, of_rev, takes_down}
 use Rattle.vc_shared.specs.declared.fault.SharedFault.{SharedFault}
 
 same_answer : (e : RevFault) → fault_answer (of_rev e) ≡ rev_answer e
@@ -31,18 +31,18 @@ same_answer (Missing id) = refl
 same_answer (NotACommit id) = refl
 same_answer (Source fault) = refl
 
-same_fault : (e : RevFault) → is_fault (of_rev e) ≡ is_rev_fault e
-same_fault (Refused refusal) = refl
-same_fault (Missing id) = refl
-same_fault (NotACommit id) = refl
-same_fault (Source fault) = refl
+takes_down_so : (e : RevFault) → takes_down (of_rev e) ≡ value_takes_down e
+takes_down_so (Refused refusal) = refl
+takes_down_so (Missing id) = refl
+takes_down_so (NotACommit id) = refl
+takes_down_so (Source fault) = refl
 
 pub no_value_answers : (old new : FileMap) (slots after : List (Option SessionText)) (text : List ℕ) (e : ExprText) (was_up is_up : Bool) (fault : RevFault) (told : SharedFault)
-    → IsExpr text e → IsOfExpr old e fault → new ≡ old → after ≡ slots → told ≡ of_rev fault → was_up ≡ true → is_up ≡ not (is_fault told)
+    → IsExpr text e → IsOfExpr old e fault → new ≡ old → after ≡ slots → told ≡ of_rev fault → was_up ≡ true → is_up ≡ not (takes_down told)
     → AnswersShared (Asks (Resolve text)) (FoundAs fault_answer (Err told)) old new slots after was_up is_up
 no_value_answers old new slots after text e was_up is_up fault told spelled why files same is was up =
     subst (λ (a : Answer). AnswersShared (Asks (Resolve text)) (Quietly a) old new slots after was_up is_up) (sym (ap fault_answer is ∙ same_answer fault))
-    (values_answer old new slots after text e was_up is_up (Err fault) spelled tt why files same was (up ∙ ap not (ap is_fault is ∙ same_fault fault)))
+    (values_answer old new slots after text e was_up is_up (Err fault) spelled tt why files same was (up ∙ ap not (ap takes_down is ∙ takes_down_so fault)))
 
 device_alone : (e : RevFault) → IsOfDevice (of_rev e) → e ≡ Source (Store (store.Fault Device))
 device_alone (Refused refusal) never = absurd never

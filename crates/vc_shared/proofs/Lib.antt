@@ -23,3 +23,4 @@ pub mod ArrivingLemmas
 pub mod ComingLemmas
 pub mod LossLemmas
 pub mod NextLemmas
+pub mod BurningLemmas

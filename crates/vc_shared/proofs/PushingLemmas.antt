@@ -38,7 +38,7 @@ use Rattle.vc_local.proofs.BesideLemmas.{clean_on, held_content, spells_on}
 use Rattle.vc_shared.proofs.CallLemmas.{Leads, fault_leads, refused_leads}
 use Rattle.vc_shared.proofs.SteppingLaws.{pushes_of}
 use Rattle.vc_shared.specs.Calls.{AcceptedAs}
-use Rattle.vc_shared.specs.Faults.{is_fault, of_device, up_after}
+use Rattle.vc_shared.specs.Faults.{of_device, takes_down, up_after}
 use Rattle.vc_shared.specs.Holding.{HoldsShared, HoldsSlot, HoldsSlots}
 use Rattle.vc_shared.specs.Pushing.{AreTaken, ChangesFree, IsLowest, IsRefusedPush, OpensSlot, PushAnswers, slot_reply}
 use Rattle.vc_shared.specs.Slots.{slot_of}
@@ -171,13 +171,13 @@ module _ (old new : FileMap) (slots after : List (Option SessionText)) (push : P
       (subst (λ (c : FileMap). HoldsShared c after true n) (sym files) (subst (λ (xs : List (Option SessionText)). HoldsShared old xs true n) (sym left) held)) 110
       (λ sound bare. subst (λ (x : Message). ServesNot git n.repository pushes x 110) (sym is.is) (refl, λ k within. machine_taken old slots pushes holds k within (taken k within)))
 
-  by_err : (e : SharedFault) (is_up : Bool) → after ≡ slots → IsRefusedPush slots e → ChangesFree old new slots → is_up ≡ not (is_fault e) → Leads n (Accept m) new after is_up (AcceptedAs (Err e))
+  by_err : (e : SharedFault) (is_up : Bool) → after ≡ slots → IsRefusedPush slots e → ChangesFree old new slots → is_up ≡ not (takes_down e) → Leads n (Accept m) new after is_up (AcceptedAs (Err e))
   by_err e is_up left (inl (taken, why)) changes up =
       subst (λ (x : SharedFault). Leads n (Accept m) new after is_up (AcceptedAs (Err x))) (sym why)
-      (subst (λ (b : Bool). Leads n (Accept m) new after b (AcceptedAs (Err Busy))) (sym (up ∙ ap (λ (x : SharedFault). not (is_fault x)) why)) (busy (changes.none taken) left taken))
+      (subst (λ (b : Bool). Leads n (Accept m) new after b (AcceptedAs (Err Busy))) (sym (up ∙ ap (λ (x : SharedFault). not (takes_down x)) why)) (busy (changes.none taken) left taken))
   by_err e is_up left (inr (k, fault, lowest, why)) changes up =
       subst (λ (x : SharedFault). Leads n (Accept m) new after is_up (AcceptedAs (Err x))) (sym why)
-      (subst (λ (b : Bool). Leads n (Accept m) new after b (AcceptedAs (Err (of_device fault)))) (sym (up ∙ ap (λ (x : SharedFault). not (is_fault x)) why))
+      (subst (λ (b : Bool). Leads n (Accept m) new after b (AcceptedAs (Err (of_device fault)))) (sym (up ∙ ap (λ (x : SharedFault). not (takes_down x)) why))
       (stopped k (changes.outside k lowest) (failure_of fault)))
 
   by_result : (result : Result ℕ SharedFault) (is_up : Bool) → IfOk result (OpensSlot new slots after push) → OnErr result (after ≡ slots) → IfErr result (IsRefusedPush slots)

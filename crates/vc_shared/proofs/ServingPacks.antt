@@ -13,7 +13,7 @@ use Rattle.vc_files.specs.FileMap.{FileMap}
 use Rattle.vc_format.specs.Git.{bytes_of_id, id_of_bytes}
 use Rattle.vc_object_map.specs.Graph as graph
 use Rattle.vc_object_map.specs.Graph.Reaches.{itself}
-use Rattle.vc_message.proofs.MachineObjects.{some_once}
+use Rattle.vc_rules.proofs.OnceLemmas.{some_once}
 use Rattle.vc_message.proofs.MachineTexts.{all_in}
 use Rattle.vc_message.specs.Machine.{IsPack}
 use Rattle.vc_model.specs.Message.Message.{Pack}

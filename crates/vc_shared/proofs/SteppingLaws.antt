@@ -45,7 +45,7 @@ use Rattle.vc_local.proofs.BesideLemmas.{SameBeside, clean_on, held_content, spe
 use Rattle.vc_shared.proofs.SlotLemmas.{told_at}
 use Rattle.vc_shared.proofs.SteppedLemmas.{stepped}
 use Rattle.vc_shared.specs.Calls.{AnswersShared, SteppedAs}
-use Rattle.vc_shared.specs.Faults.{is_fault, of_device, of_session, up_after}
+use Rattle.vc_shared.specs.Faults.{is_fault, of_device, of_session, takes_down, up_after}
 use Rattle.vc_shared.specs.Holding.{HoldsShared, HoldsSlot, HoldsSlots, IsLive}
 use Rattle.vc_shared.specs.Slots.{AreTellable, AreToldInOne, slot_of}
 use Rattle.vc_shared.specs.Stepping.{EndsSlotEarly, IsHeldThere, IsRefusedIn, StepsSlot}
@@ -121,7 +121,7 @@ module _ (content : FileMap) (s : SessionText) (good : IsClean content) (clean :
 
 -- ---- whatever stands in the slot
 -- nothing stands there, or a push of the machine
-abbrev IsStanding : FileMap → Slots → ℕ → Option SessionText → Type 0
+abbrev pub IsStanding : FileMap → Slots → ℕ → Option SessionText → Type 0
 IsStanding content pushes k None = get pushes k ≡ None
 IsStanding content pushes k (Some s) = (p : OpenPush) × (k < 8) × (get pushes k ≡ Some p) × (s.slot ≡ k) × HoldsPush content s p × IsQuarantineClean content k
 
@@ -131,7 +131,7 @@ standing_in content pushes k (Some s) (Some p) (at, push, clean) is small = (p, 
 standing_in content pushes k None (Some p) never is small = absurd never
 standing_in content pushes k (Some s) None never is small = absurd never
 
-standing : (content : FileMap) (slots : List (Option SessionText)) (pushes : Slots) (k : ℕ) → HoldsSlots content slots pushes → IsStanding content pushes k (slot_of slots k)
+pub standing : (content : FileMap) (slots : List (Option SessionText)) (pushes : Slots) (k : ℕ) → HoldsSlots content slots pushes → IsStanding content pushes k (slot_of slots k)
 standing content slots pushes k holds = elim (less_or k 8) [
   | inl small ↦ standing_in content pushes k (slot_of slots k) (get pushes k) (holds.each k small) refl small
   | inr past ↦ subst (λ (v : Option SessionText). IsStanding content pushes k v) (sym (ap (λ (o : Option (Option SessionText)). unwrap_or o None) (slice_get_past slots k (omega (arith, past, holds.eight))))) (holds.others k past)
@@ -167,16 +167,16 @@ module _ (old new : FileMap) (slots after : List (Option SessionText)) (n : Shar
       (stepped old new slots after n pushes k done.session done.later there.0 held live holds there.1 there.2 there.3 there.4 there.5 bad done.step.is_session
       (λ report is. written done.session report is tells) done.step.did told done.step.steps done.step.tells done.left)
 
-  by_err : (e : SharedFault) (v : Option SessionText) → IsStanding old pushes k v → is_up ≡ not (is_fault e) → (is_fault e ≡ false → after ≡ slots) → EndsSlotEarly old new v → IsRefusedIn old v e
+  by_err : (e : SharedFault) (v : Option SessionText) → IsStanding old pushes k v → is_up ≡ not (takes_down e) → (is_fault e ≡ false → after ≡ slots) → EndsSlotEarly old new v → IsRefusedIn old v e
       → Leads n (StepOf k) new after is_up (SteppedAs (Err e))
   by_err e None none up unchanged early why =
       let calm : is_fault e ≡ false = ap is_fault why in
       subst (λ (x : SharedFault). Leads n (StepOf k) new after is_up (SteppedAs (Err x))) (sym why)
-      (refused_leads (StepOf k) n pushes live new after is_up (held_still old new slots after true is_up n early (unchanged calm) (up ∙ ap not calm) held) 111 (λ sound bare. (refl, none)))
+      (refused_leads (StepOf k) n pushes live new after is_up (held_still old new slots after true is_up n early (unchanged calm) (up ∙ ap (λ (x : SharedFault). not (takes_down x)) why) held) 111 (λ sound bare. (refl, none)))
   by_err e (Some s) (p, small, is, at, push, clean) up unchanged early (f, told, why) =
       let only = only_faults old s held.clean (subst (λ (j : ℕ). IsQuarantineClean old j) (sym at) clean) push.names s.stage f why in
       let fault : e ≡ of_device only.0 = told ∙ only.1 in
-      subst (λ (b : Bool). Leads n (StepOf k) new after b (SteppedAs (Err e))) (sym (up ∙ ap (λ (x : SharedFault). not (is_fault x)) fault))
+      subst (λ (b : Bool). Leads n (StepOf k) new after b (SteppedAs (Err e))) (sym (up ∙ ap (λ (x : SharedFault). not (takes_down x)) fault))
       (subst (λ (x : SharedFault). Leads n (StepOf k) new after false (SteppedAs (Err x))) (sym fault)
       (stopped old new slots after n pushes k s p held live is push bad (failure_of only.0) s.stage refl early))
 

@@ -27,7 +27,7 @@ use Rattle.vc_push_rules.specs.Carrying.{Carries, objects_of_push}
 use Rattle.vc_push_rules.specs.Quarantine.{IsDropped}
 use Rattle.vc_push_rules.specs.Session.{SessionText}
 use Rattle.vc_push_rules.specs.Steps.{IsOpened}
-use Rattle.vc_shared.specs.AcceptFault.{is_fault, up_after}
+use Rattle.vc_shared.specs.AcceptFault.{ends_in_fault, is_fault, up_after}
 use Rattle.vc_shared.specs.Accepting.{IsRefusedMessage}
 use Rattle.vc_shared.specs.Calls.{AcceptedAs, AnswersShared}
 use Rattle.vc_shared.specs.Faults.{of_device}
@@ -43,7 +43,7 @@ use Rattle.vc_shared.specs.declared.fault.SharedFault.TheVariants as shared
 -- ---- a reader that fails
 -- what a call tells of a reader that fails, and what the node keeps then
 pub record KeepsAtLoss {S T : Type 0} (failed : S → ℕ) (can_fail : S → Type 0) (old new : S) (honest : Type 0) (result : Result T AcceptFault) (Kept : Type 0) : Type 0 where
-  pub failures : TellsLoss failed can_fail old new (IsErrOf result ReadFailed) (up_after result ≡ false)
+  pub failures : TellsLoss failed can_fail old new (IsErrOf result ReadFailed) (ends_in_fault result ≡ true)
   pub kept : honest → IfErr result (λ e. e ≡ ReadFailed → Kept)
 
 -- ---- a push
@@ -91,7 +91,7 @@ pub data IsTurnedAway (before new : Option (List ℕ)) (slots : List (Option Ses
 
 -- so it is of a reader that had any bytes before it, and what is told of one that fails
 pub record RefusesPush {S : Type 0} (remaining : S → Option (List ℕ)) (failed : S → ℕ) (can_fail : S → Type 0) (old new : S) (taken : Taken) (commands : List CommandText) (slots : List (Option SessionText)) (result : Result ℕ AcceptFault) : Type 0 where
-  pub failures : TellsLoss failed can_fail old new (IsErrOf result ReadFailed) (up_after result ≡ false)
+  pub failures : TellsLoss failed can_fail old new (IsErrOf result ReadFailed) (ends_in_fault result ≡ true)
   pub why : IfErr result (λ e. FromHead (remaining old) taken commands (λ before. IsTurnedAway before (remaining new) slots e))
 
 -- after a refusal nothing stands in the quarantine of the lowest free slot

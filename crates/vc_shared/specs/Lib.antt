@@ -12,3 +12,4 @@ pub mod Slots
 pub mod Stepping
 pub mod AcceptFault
 pub mod Arriving
+pub mod Burning

@@ -8,19 +8,21 @@ use Rattle.vc_model.specs.Repository.{Repository}
 use Rattle.vc_model.specs.SharedCall.{SharedCall}
 use Rattle.vc_quarantine.specs.Learning.{IsNothing}
 use Rattle.vc_push_rules.specs.Session.{SessionText}
+use Rattle.vc_shared.specs.AcceptFault.{up_after as accept_up_after}
 use Rattle.vc_shared.specs.Arriving.{AcceptsFrom, AnswersKnown, KeepsHeld}
 use Rattle.vc_shared.specs.Calls.{AnswersShared}
 use Rattle.vc_shared.specs.Holding.{HoldsShared, SharedText}
 use Rattle.vc_shared.specs.Learning.{LearnsIn}
 use Rattle.vc_shared.specs.Slots.{AreTellable, free_slots, slot_of}
-use Rattle.vc_shared.specs.Stepping.{IsHeldThere, MayWriteIn, StepsSlot}
+use Rattle.vc_shared.specs.Stepping.{EndsSlotEarly, IsHeldThere, MayWriteIn, StepsSlot}
 use Rattle.vc_shared.specs.declared.accept_fault.AcceptFault.{AcceptFault}
 use Rattle.vc_shared.specs.declared.accepting.Accepted.{Accepted}
 use Rattle.vc_shared.specs.declared.stepping.Stepped.{Stepped}
 
--- One that is down answers so, one that is up is up after it or not, and its open pushes stay, as does what it has learnt.
+-- One that is down answers so and stays as it is, one that is up is up after it or not, and its open pushes stay, as does what it has learnt.
 pub record Settles {F : Type 0} (IsDown : Type 0) (is_up : Bool) (old new : SharedText F) : Type 0 where
   pub down : old.is_up ≡ false → IsDown
+  pub unchanged : old.is_up ≡ false → new ≡ old
   pub up : old.is_up ≡ true → new.is_up ≡ is_up
   pub slots : new.slots ≡ old.slots
   pub learnt : new.learnt ≡ old.learnt
@@ -28,14 +30,20 @@ pub record Settles {F : Type 0} (IsDown : Type 0) (is_up : Bool) (old new : Shar
 -- The same of a call that may open a push: after an error those that were open stay.
 pub record SettlesTaken {F T E : Type 0} (result : Result T E) (IsDown : Type 0) (is_up : Bool) (old new : SharedText F) : Type 0 where
   pub down : old.is_up ≡ false → IsDown
+  pub unchanged : old.is_up ≡ false → new ≡ old
   pub up : old.is_up ≡ true → new.is_up ≡ is_up
   pub slots : OnErr result (new.slots ≡ old.slots)
   pub tellable : AreTellable new.slots
   pub learnt : new.learnt ≡ old.learnt
 
+-- The same of the next message of a reader: what one that is down answers is said of the message that comes.
+abbrev pub SettlesNext : {F : Type 0} → Result (Option Accepted) AcceptFault → SharedText F → SharedText F → Type 0
+SettlesNext result old new = SettlesTaken result (Unit {0}) (accept_up_after result) old new
+
 -- The same of a step, which may change its slot and what is learnt.
 pub record SettlesStep {F : Type 0} (IsDown : Type 0) (is_up : Bool) (old new : SharedText F) : Type 0 where
   pub down : old.is_up ≡ false → IsDown
+  pub unchanged : old.is_up ≡ false → new ≡ old
   pub up : old.is_up ≡ true → new.is_up ≡ is_up
 
 -- One that was opened: no push is open in any slot, and nothing is learnt.
@@ -71,6 +79,10 @@ MayStep content node slot = MayWriteIn (content node.files) (slot_of node.slots 
 
 abbrev pub StepsIn : {F : Type 0} → (F → FileMap) → SharedText F → SharedText F → ℕ → Stepped → Type 0
 StepsIn content old new slot told = StepsSlot (content old.files) (content new.files) old.slots new.slots slot told
+
+-- what a step may leave that ends early
+abbrev pub EndsIn : {F : Type 0} → (F → FileMap) → SharedText F → SharedText F → ℕ → Type 0
+EndsIn content old new slot = EndsSlotEarly (content old.files) (content new.files) (slot_of old.slots slot)
 
 -- what a step in a slot learns
 abbrev pub LearnsAtStep : {F : Type 0} → (F → FileMap) → SharedText F → SharedText F → ℕ → Type 0

@@ -1,7 +1,7 @@
 // Why nothing was taken from a reader.
 ghost use Rattle.std.specs.Prelude.{◌≡◌};
 ghost use Rattle.vc_files.specs.declared.faults.Fault.TheVariants.{Memory};
-ghost use Rattle.vc_shared.specs.AcceptFault.{is_fault, of_incoming};
+ghost use Rattle.vc_shared.specs.AcceptFault.{is_fault, of_incoming, takes_down};
 ghost use Rattle.vc_shared.specs.Faults.{of_device};
 ghost use Rattle.vc_shared.specs.declared.accept_fault.AcceptFault.TheVariants.{Node};
 
@@ -18,7 +18,8 @@ use vc_session::SessionFault;
 pub enum AcceptFault {
     /// 115: the reader failed. The node is as it was.
     ReadFailed,
-    /// What refuses the message, or the bytes that are none, by number, or the fault that ended it. After a fault the node is down.
+    /// What refuses the message, or the bytes that are none, by number, or the fault that ended it. After a fault the node is down, and
+    /// so it is after 11, 12 and 33.
     Node(SharedFault),
 }
 
@@ -41,6 +42,16 @@ impl AcceptFault {
         match self {
             AcceptFault::ReadFailed => false,
             AcceptFault::Node(fault) => fault.is_fault(),
+        }
+    }
+
+    /// Whether the node is down after it: see [`SharedFault::takes_down`].
+    pub fn takes_down(&self) -> bool
+        ensures { result ≡ takes_down self.now }
+    {
+        match self {
+            AcceptFault::ReadFailed => false,
+            AcceptFault::Node(fault) => fault.takes_down(),
         }
     }
 }

@@ -10,7 +10,7 @@ ghost use Rattle.vc_model.specs.SharedCall.SharedCall.{Accept, Asks};
 ghost use Rattle.vc_shared.specs.Accepting.{AnswersUp, IsRefusedBytes, IsRefusedMessage, IsToWrite};
 ghost use Rattle.vc_shared.specs.Faults.{TellsDevice};
 ghost use Rattle.vc_shared.specs.Holding.{KeepsGood};
-ghost use Rattle.vc_shared.specs.Pushing.{slot_reply};
+ghost use Rattle.vc_shared.specs.Pushing.{ChangesFree, slot_reply};
 ghost use Rattle.vc_shared.specs.Serving.{reply_of};
 ghost use Rattle.vc_shared.specs.Slots.{AreTellable};
 
@@ -62,6 +62,7 @@ pub(crate) fn take<F: Files>(
     ensures answers { F.honest → (m : Sent) → TextOf m (message_text message) → AnswersUp (Accept m) result (F.content files.old) (F.content files.new) slots.old slots.new }
     ensures unchanged { OnErr result (slots.new ≡ slots.old) }
     ensures refused { F.honest → IfErr result (IsRefusedMessage (F.content files.old) slots.old (message_text message)) }
+    ensures outside { F.honest → ChangesFree (F.content files.old) (F.content files.new) slots.old }
     ensures good { F.honest → KeepsGood (F.content files.old) (F.content files.new) }
     ensures wear { Writes F.honest F.content F.failed F.can_fail F.left files.old files.new (TellsDevice result) }
     ensures looks { (m : Sent) → TextOf m (message_text message) → IsToWrite m ⊎ Wears F.failed F.can_fail F.left files.old files.new (TellsDevice result) }
@@ -90,6 +91,7 @@ pub(crate) fn accept<F: Files>(
     ensures unread { F.honest → (n : ℕ) → IsUnread bytes.now n → AnswersUp (Asks (Unread n)) result (F.content files.old) (F.content files.new) slots.old slots.new }
     ensures unchanged { OnErr result (slots.new ≡ slots.old) }
     ensures refused { F.honest → IfErr result (IsRefusedBytes (F.content files.old) slots.old bytes.now) }
+    ensures outside { F.honest → ChangesFree (F.content files.old) (F.content files.new) slots.old }
     ensures good { F.honest → KeepsGood (F.content files.old) (F.content files.new) }
     ensures wear { Writes F.honest F.content F.failed F.can_fail F.left files.old files.new (TellsDevice result) }
     ensures looks { (m : Sent) → Reads bytes.now m → IsToWrite m ⊎ Wears F.failed F.can_fail F.left files.old files.new (TellsDevice result) }

@@ -132,6 +132,7 @@ pub(crate) fn take_next<F: Files, R: Source>(
     ensures none { IfOk result (λ found. IfNone found ((files.new ≡ files.old) × (slots.new ≡ slots.old))) }
     ensures unchanged { OnErr result (slots.new ≡ slots.old) }
     ensures lost { KeepsAtLoss R.failed R.can_fail reader.old reader.new F.honest result ((is_up : Bool) → KeepsHeld (F.content files.old) (F.content files.new) slots.old slots.new is_up is_up) }
+    ensures outside { F.honest → ChangesFree (F.content files.old) (F.content files.new) slots.old }
     ensures good { F.honest → KeepsGood (F.content files.old) (F.content files.new) }
     ensures wear { Writes F.honest F.content F.failed F.can_fail F.left files.old files.new (TellsDevice result) }
 {

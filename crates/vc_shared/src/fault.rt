@@ -1,7 +1,7 @@
 // Why a call of the shared node gives no answer.
 ghost use Rattle.std.specs.Prelude.{◌≡◌};
 ghost use Rattle.vc_shared.specs.declared.fault.SharedFault.TheVariants.{Node};
-ghost use Rattle.vc_shared.specs.Faults.{is_fault, of_answer, of_device, of_pkt, of_rev, of_session};
+ghost use Rattle.vc_shared.specs.Faults.{is_fault, of_answer, of_device, of_pkt, of_rev, of_session, takes_down};
 
 use std::alloc::AllocError;
 use std::error::Error;
@@ -16,7 +16,8 @@ use vc_pkt::{PktError, PktFault};
 use vc_rev::{Refusal, RevFault};
 use vc_session::SessionFault;
 
-/// What refuses a call of the shared node, by number, or the fault that ended it. After a fault the node is down.
+/// What refuses a call of the shared node, by number, or the fault that ended it. After a fault the node is down, and so it is after 11,
+/// 12 and 33.
 #[derive(Debug, Drop)]
 pub enum SharedFault {
     /// 80 to 84, or 3: the bytes are no message.
@@ -31,7 +32,7 @@ pub enum SharedFault {
     NoSuchSlot,
     /// 51 to 56: the expression has no value.
     NoValue(Refusal),
-    /// 11, 12 and 33: a file of the node is at fault; 112: a fault came before, and the node was not opened again. Or a fault.
+    /// 11, 12 and 33: a file of the node is at fault; 112: the node was taken down before, and was not opened again. Or a fault.
     Node(NodeFault),
 }
 
@@ -58,6 +59,16 @@ impl SharedFault {
     {
         match self {
             SharedFault::Node(fault) => fault.is_fault(),
+            _ => false,
+        }
+    }
+
+    /// Whether the node is down after it: see [`NodeFault::takes_down`].
+    pub fn takes_down(&self) -> bool
+        ensures { result ≡ takes_down self.now }
+    {
+        match self {
+            SharedFault::Node(fault) => fault.takes_down(),
             _ => false,
         }
     }

@@ -19,8 +19,8 @@ pub use accept_fault::AcceptFault;
 pub use accepting::Accepted;
 pub use fault::SharedFault;
 pub use laws::{
-    a_held_shared_node_can_be_opened, a_step_in_a_slot_is_the_machines,
-    a_value_that_was_set_is_learnt,
+    a_call_of_the_shared_node_spends_what_the_machine_allows, a_held_shared_node_can_be_opened,
+    a_step_in_a_slot_is_the_machines, a_value_that_was_set_is_learnt,
 };
 pub use pushing::a_push_is_opened_as_the_machine_does;
 pub use resolving::the_value_of_an_expression_is_the_machines;

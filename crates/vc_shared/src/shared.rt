@@ -1,5 +1,5 @@
 // The shared node.
-ghost use Rattle.std.specs.Prelude.{◌≡◌, ◌⊎◌, ℕ, IfErr, IfNone, IfOk, OnErr, OnOk, Ok, None, List, is_ok, not, false, true};
+ghost use Rattle.std.specs.Prelude.{◌≡◌, ◌⊎◌, ℕ, IfErr, IfNone, IfOk, IsTrue, OnErr, OnOk, Ok, None, List, is_ok, not, false, true};
 ghost use Rattle.vc_files.specs.Failures.{Wears, Writes};
 ghost use Rattle.vc_message.specs.Machine.{IsUnread, Reads};
 ghost use Rattle.vc_model.specs.Message.{Message as Sent};
@@ -8,7 +8,7 @@ ghost use Rattle.vc_model.specs.SharedCall.SharedCall.{Accept, Asks, Open, StepO
 ghost use Rattle.vc_local.specs.Blames.{BlamesOpen, BlamesPacking};
 ghost use Rattle.vc_local.specs.Machine.{up_after as node_up_after};
 ghost use Rattle.vc_local.specs.Clean.{KeepsClean, PacksOnly};
-ghost use Rattle.vc_local.specs.NodeFault.{IsOfDevice as IsNodeDevice, TellsDevice as TellsNodeDevice};
+ghost use Rattle.vc_local.specs.NodeFault.{IsOfDevice as IsNodeDevice, TellsDevice as TellsNodeDevice, is_fault as is_node_fault};
 ghost use Rattle.vc_local.specs.Opening.{IsOpenable, OpenableAs};
 ghost use Rattle.vc_local.specs.Told.{FoundAs, RestartedAs};
 ghost use Rattle.vc_refs.specs.Packing.{HasLoose, IsPackedFrom};
@@ -16,12 +16,13 @@ ghost use Rattle.vc_repository.specs.Resolving.{DenotesIn};
 ghost use Rattle.vc_expression.specs.Grammar.{IsExpr};
 ghost use Rattle.vc_expression.specs.Views.{expr_view};
 ghost use Rattle.vc_quarantine.specs.Learning.{IsNothing};
-ghost use Rattle.vc_shared.specs.AcceptFault.{TellsDevice as TellsAcceptDevice, is_fault as is_accept_fault, up_after as accept_up_after};
+ghost use Rattle.vc_shared.specs.AcceptFault.{TellsDevice as TellsAcceptDevice, takes_down as accept_takes_down, up_after as accept_up_after};
 ghost use Rattle.vc_shared.specs.Accepting.{IsRefusedBytes, IsToWrite};
 ghost use Rattle.vc_shared.specs.Arriving.{KeepsAtLoss};
 ghost use Rattle.vc_shared.specs.Calls.{AcceptedAs, SteppedAs};
-ghost use Rattle.vc_shared.specs.Faults.{TellsDevice, fault_answer, is_fault, up_after};
-ghost use Rattle.vc_shared.specs.Node.{AcceptsNext, AnswersCall, AnswersFirst, HoldsIn, HoldsOpened, IsFresh, KeepsNode, LearnsAtStep, MayStep, Settles, SettlesStep, SettlesTaken, StepsIn};
+ghost use Rattle.vc_shared.specs.Faults.{TellsDevice, fault_answer, takes_down, up_after};
+ghost use Rattle.vc_shared.specs.Node.{AcceptsNext, AnswersCall, AnswersFirst, EndsIn, HoldsIn, HoldsOpened, IsFresh, KeepsNode, LearnsAtStep, MayStep, Settles, SettlesNext, SettlesStep, SettlesTaken, StepsIn};
+ghost use Rattle.vc_shared.specs.Pushing.{ChangesFree};
 ghost use Rattle.vc_shared.specs.Resolving.{IsRefusedValue};
 ghost use Rattle.vc_shared.specs.Slots.{AreTellable, slot_of};
 ghost use Rattle.vc_shared.specs.Stepping.{IsRefusedIn};
@@ -39,8 +40,8 @@ use vc_object::ObjectId;
 use vc_session::PushSession;
 
 /// The shared node over files: one bare repository, the pushes that are open in its eight slots, and what it has learnt of the
-/// generations of commits, some 30 bytes for each. Once a call has ended
-/// in a fault, each later one but [`close`](Shared::close) is refused (112), until the files are opened again.
+/// generations of commits, some 30 bytes for each. Once a call has ended in a fault, or has met a file of the node's own that is gone or
+/// damaged (11, 12, 33), each later one but [`close`](Shared::close) is refused (112), until the files are opened again.
 #[derive(Drop)]
 pub struct Shared<F: Files> {
     files: F,
@@ -78,6 +79,7 @@ impl<F: Files> Shared<F> {
         ensures up { IfOk result (λ node. node.is_up ≡ true) }
         ensures fresh { IfOk result IsFresh }
         ensures opens { F.honest → OpenableAs (F.content files) (λ r. IfOk result (λ node. HoldsOpened (F.content node.files) node.slots r)) }
+        ensures only { F.honest → OpenableAs (F.content files) (λ r. IfErr result (λ e. IsTrue (is_node_fault e.1))) }
         ensures refused { F.honest → IfErr result (λ e. BlamesOpen (F.content files) e.1) }
         ensures err { F.honest → OpenableAs (F.content files) (λ r. IfErr result (λ e. IsOpenable (F.content e.0) r)) }
         ensures clean { F.honest → IfOk result (λ node. KeepsClean (F.content files) (F.content node.files)) }
@@ -112,7 +114,7 @@ impl<F: Files> Shared<F> {
         files
     }
 
-    /// Whether no fault has come since the files were opened.
+    /// Whether neither a fault nor a bad file of its own has taken it down since the files were opened.
     pub fn is_up(&self) -> bool
         ensures { result ≡ self.now.is_up }
     {
@@ -152,21 +154,21 @@ impl<F: Files> Shared<F> {
         self.is_up = false;
     }
 
-    // The fault, after which the node is down if it is no refusal.
+    // The fault, after which the node is down if it takes it down.
     fn fail(&mut self, fault: SharedFault) -> SharedFault
         ensures fault { result ≡ fault }
         ensures files { self.new.files ≡ self.old.files }
         ensures slots { self.new.slots ≡ self.old.slots }
         ensures learnt { self.new.learnt ≡ self.old.learnt }
-        ensures up { self.old.is_up ≡ true → self.new.is_up ≡ not (is_fault fault) }
+        ensures up { self.old.is_up ≡ true → self.new.is_up ≡ not (takes_down fault) }
     {
-        if fault.is_fault() {
+        if fault.takes_down() {
             self.is_up = false;
         }
         fault
     }
 
-    // What came of a message, after which the node is down if it is a fault.
+    // What came of a message, after which the node is down if that takes it down.
     fn settle(&mut self, accepted: Result<Accepted, SharedFault>) -> Result<Accepted, SharedFault>
         ensures accepted { result ≡ accepted }
         ensures files { self.new.files ≡ self.old.files }
@@ -186,11 +188,9 @@ impl<F: Files> Shared<F> {
         ensures files { self.new.files ≡ self.old.files }
         ensures slots { self.new.slots ≡ self.old.slots }
         ensures learnt { self.new.learnt ≡ self.old.learnt }
-        ensures up { self.old.is_up ≡ true → self.new.is_up ≡ not (is_accept_fault fault) }
+        ensures up { self.old.is_up ≡ true → self.new.is_up ≡ not (accept_takes_down fault) }
     {
-        if fault.is_fault() {
-            self.is_up = false;
-        }
+        self.is_up = self.is_up && !fault.takes_down();
         fault
     }
 
@@ -218,6 +218,7 @@ impl<F: Files> Shared<F> {
         ensures bad_file { F.honest → IfErr result (λ e. (e ≡ SharedFault.Node NodeFault.Down) ⊎ IsRefusedIn (F.content self.old.files) (slot_of self.old.slots slot) e) }
         ensures settles { SettlesStep (result ≡ Err (SharedFault.Node NodeFault.Down)) (up_after result) self.old self.new }
         ensures learns { F.honest → self.new.is_up ≡ true → LearnsAtStep F.content self.old self.new slot }
+        ensures early { F.honest → self.old.is_up ≡ true → HoldsIn F.content self.old slot → OnErr result (EndsIn F.content self.old self.new slot) }
         ensures clean { F.honest → KeepsClean (F.content self.old.files) (F.content self.new.files) }
         ensures wear { Writes F.honest F.content F.failed F.can_fail F.left self.old.files self.new.files (TellsDevice result) }
         ensures looks { F.honest → HoldsIn F.content self.old slot → MayStep F.content self.old slot ⊎ Wears F.failed F.can_fail F.left self.old.files self.new.files (TellsDevice result) }
@@ -247,6 +248,7 @@ impl<F: Files> Shared<F> {
         ensures bad_file { F.honest → IfErr result (λ e. (e ≡ SharedFault.Node NodeFault.Down) ⊎ IsRefusedBytes (F.content self.old.files) self.old.slots bytes.now e) }
         ensures settles { SettlesTaken result (result ≡ Err (SharedFault.Node NodeFault.Down)) (up_after result) self.old self.new }
         ensures clean { F.honest → KeepsClean (F.content self.old.files) (F.content self.new.files) }
+        ensures outside { F.honest → ChangesFree (F.content self.old.files) (F.content self.new.files) self.old.slots }
         ensures wear { Writes F.honest F.content F.failed F.can_fail F.left self.old.files self.new.files (TellsDevice result) }
         ensures looks { (m : Sent) → Reads bytes.now m → IsToWrite m ⊎ Wears F.failed F.can_fail F.left self.old.files self.new.files (TellsDevice result) }
     {
@@ -265,7 +267,8 @@ impl<F: Files> Shared<F> {
     ///
     /// A message that is refused (90, 91, 110, 112) is read to its end. Bytes that are no message are refused with their first fault
     /// (80 to 84, or 3) as soon as it has come, and a reader that fails with 115. In none of these is anything changed: what was put
-    /// into the quarantine is gone again. Want of memory takes the node down, as a device that fails does.
+    /// into the quarantine is gone again. Want of memory takes the node down, as a device that fails does, and as a file of its own that is
+    /// gone or damaged does.
     pub fn accept_from<R: Source>(
         &mut self,
         reader: &mut R,
@@ -274,8 +277,9 @@ impl<F: Files> Shared<F> {
         ensures known { AnswersFirst F.honest F.content (R.remaining reader.old) (R.remaining reader.new) self.old self.new result }
         ensures none { IfOk result (λ found. IfNone found (self.new ≡ self.old)) }
         ensures lost { KeepsAtLoss R.failed R.can_fail reader.old reader.new F.honest result (KeepsNode F.content self.old self.new) }
-        ensures settles { SettlesTaken result (self.new ≡ self.old) (accept_up_after result) self.old self.new }
+        ensures settles { SettlesNext result self.old self.new }
         ensures clean { F.honest → KeepsClean (F.content self.old.files) (F.content self.new.files) }
+        ensures outside { F.honest → ChangesFree (F.content self.old.files) (F.content self.new.files) self.old.slots }
         ensures wear { Writes F.honest F.content F.failed F.can_fail F.left self.old.files self.new.files (TellsAcceptDevice result) }
     {
         if !self.is_up {
@@ -286,13 +290,14 @@ impl<F: Files> Shared<F> {
     }
 
     /// Puts all refs into one file. Nothing else is written, no ref changes and each open push stays, wherever it stops. 33 where
-    /// one of their files can't be read: then nothing is written. Nor is anything where no ref has a file of its own.
+    /// one of their files can't be read, 32 where one of them is a folder of another: then nothing is written. Nor is anything
+    /// where no ref has a file of its own.
     pub fn pack_refs(&mut self) -> Result<(), NodeFault>
         ensures answers { F.honest → AnswersCall F.content (Asks PackRefs) (RestartedAs result) self.old self.new }
         ensures packed { F.honest → OnOk result (IsPackedFrom (F.content self.old.files) (F.content self.new.files)) }
         ensures kept { F.honest → PacksOnly (F.content self.old.files) (F.content self.new.files) }
         ensures refused { F.honest → IfErr result (λ e. (e ≡ NodeFault.Down) ⊎ BlamesPacking (F.content self.old.files) e) }
-        ensures err { F.honest → OnErr result ((self.new.is_up ≡ false) ⊎ (F.content self.new.files ≡ F.content self.old.files)) }
+        ensures err { F.honest → IfErr result (λ e. (is_node_fault e ≡ true) ⊎ (F.content self.new.files ≡ F.content self.old.files)) }
         ensures settles { Settles (result ≡ Err NodeFault.Down) (node_up_after result) self.old self.new }
         ensures wear { Writes F.honest F.content F.failed F.can_fail F.left self.old.files self.new.files (TellsNodeDevice result) }
         ensures looks { F.honest → HasLoose (F.content self.old.files) ⊎ Wears F.failed F.can_fail F.left self.old.files self.new.files (TellsNodeDevice result) }
@@ -304,7 +309,7 @@ impl<F: Files> Shared<F> {
             Ok(()) => Ok(()),
             Err(fault) => {
                 let fault = NodeFault::from(fault);
-                self.is_up = !fault.is_fault();
+                self.is_up = !fault.takes_down();
                 Err(fault)
             }
         }

@@ -5,9 +5,10 @@ use Rattle.vc_events.specs.declared.answers.Ended.{Ended}
 use Rattle.vc_events.specs.declared.answers.Ended.TheVariants as ended
 use Rattle.vc_events.specs.declared.answers.Told.{Told}
 use Rattle.vc_events.specs.declared.answers.Told.TheVariants as told
-use Rattle.vc_files.specs.Failures.{Spends, Wears, Writes}
+use Rattle.vc_files.specs.Failures.{Wears, Writes}
 use Rattle.vc_files.specs.FileMap.{FileMap}
 use Rattle.vc_files.specs.declared.faults.Fault.TheVariants as files
+use Rattle.vc_local.proofs.BurnLemmas.{spent_none}
 use Rattle.vc_model.specs.Message.{Message}
 use Rattle.vc_model.specs.Node.{Answer}
 use Rattle.vc_model.specs.Node.Answer.{Fault}
@@ -18,10 +19,6 @@ use Rattle.vc_simulation.specs.Nodes.{IsRetold, IsSteady}
 pub record StaysSteady {F : Type 0} (can_fail : F → Type 0) (left : F → Option ℕ) (old new : F) (IsDevice : Type 0) : Type 0 where
   pub steady : IsSteady can_fail left old → IsSteady can_fail left new
   pub never : IsSteady can_fail left old → ¬ IsDevice
-
-spent_none : (made : ℕ) (before after : Option ℕ) → before ≡ None → Spends made before after → after ≡ None
-spent_none made None after none spent = spent
-spent_none made (Some w) after none spent = absurd (cc)
 
 pub written_steady : {F : Type 0} (honest : Type 0) (content : F → FileMap) (failed : F → ℕ) (can_fail : F → Type 0) (left : F → Option ℕ) (old new : F) (IsDevice : Type 0)
     → Writes honest content failed can_fail left old new IsDevice → StaysSteady can_fail left old new IsDevice

@@ -6,6 +6,7 @@ ghost use Rattle.vc_message.specs.Machine.{IsReport, Reads, TextOf};
 ghost use Rattle.vc_model.specs.Message.{Message as Sent};
 ghost use Rattle.vc_node.specs.Node.{PushesNoZero};
 ghost use Rattle.vc_push.specs.ReportView.{report_text};
+ghost use Rattle.vc_node.specs.Stored.{KeepsOwn};
 ghost use Rattle.vc_world.specs.Devices.{BringsNone, IsLost, IsOwn, Lost, TellsClone, TellsPeer, WritesOrLoses};
 ghost use Rattle.vc_world.specs.Exchanging.{Begins, Brings, HoldsClone, IsNoReport, IsPush, Leads, PushesOne};
 ghost use Rattle.vc_world.specs.Pushing.{IsUnreadReport, TakesAnswer, report_in, taken};
@@ -70,6 +71,7 @@ fn take_bytes<F: Files, R: Drop>(
     answer: &[u8],
 ) -> Result<Report, ExchangeEnd<R>>
     ensures takes { F.honest → (m : Sent) → Reads answer.now m → TakesAnswer F.content m result clone.old clone.new }
+    ensures kept { F.honest → KeepsOwn (F.content clone.old.files) (F.content clone.new.files) }
     ensures wear { Writes F.honest F.content F.failed F.can_fail F.left clone.old.files clone.new.files (TellsClone result) }
     ensures own { IfErr result IsOwn }
 {
@@ -86,6 +88,7 @@ fn take_report<F: Files, R: Drop>(
     report: Report,
 ) -> Result<Report, ExchangeEnd<R>>
     ensures takes { F.honest → (m : Sent) → IsReport m (report_text report) → TakesAnswer F.content m result clone.old clone.new }
+    ensures kept { F.honest → KeepsOwn (F.content clone.old.files) (F.content clone.new.files) }
     ensures wear { Writes F.honest F.content F.failed F.can_fail F.left clone.old.files clone.new.files (TellsClone result) }
     ensures own { IfErr result IsOwn }
 {
@@ -102,6 +105,7 @@ fn take_other<F: Files, R: Drop>(
     message: Message,
 ) -> Result<Report, ExchangeEnd<R>>
     ensures takes { F.honest → (m : Sent) → TextOf m (message_text message) → IsNoReport m → TakesAnswer F.content m result clone.old clone.new }
+    ensures kept { F.honest → KeepsOwn (F.content clone.old.files) (F.content clone.new.files) }
     ensures wear { Writes F.honest F.content F.failed F.can_fail F.left clone.old.files clone.new.files (TellsClone result) }
     ensures own { IfErr result IsOwn }
 {
@@ -118,6 +122,7 @@ fn take_message<F: Files, R: Drop>(
     message: Message,
 ) -> Result<Report, ExchangeEnd<R>>
     ensures takes { F.honest → (m : Sent) → TextOf m (message_text message) → TakesAnswer F.content m result clone.old clone.new }
+    ensures kept { F.honest → KeepsOwn (F.content clone.old.files) (F.content clone.new.files) }
     ensures wear { Writes F.honest F.content F.failed F.can_fail F.left clone.old.files clone.new.files (TellsClone result) }
     ensures own { IfErr result IsOwn }
 {
@@ -134,6 +139,7 @@ fn take_from<F: Files, A: Source, R: Drop>(
     reader: &mut A,
 ) -> Result<Report, ExchangeEnd<R>>
     ensures takes { F.honest → (m : Sent) → Begins (A.remaining reader.old) m → TakesAnswer F.content m result clone.old clone.new }
+    ensures kept { F.honest → KeepsOwn (F.content clone.old.files) (F.content clone.new.files) }
     ensures wear { WritesOrLoses (BringsNone A.remaining A.failed A.can_fail reader.old reader.new) F.honest F.content F.failed F.can_fail F.left clone.old.files clone.new.files (TellsClone result) }
     ensures own { IfErr result IsOwn }
 {
@@ -156,6 +162,7 @@ fn take_reply<F: Files, A: Source + Drop, R: Drop>(
     reply: Reply<A>,
 ) -> Result<Report, ExchangeEnd<R>>
     ensures takes { F.honest → (m : Sent) → Brings A.remaining reply m → TakesAnswer F.content m result clone.old clone.new }
+    ensures kept { F.honest → KeepsOwn (F.content clone.old.files) (F.content clone.new.files) }
     ensures wear { WritesOrLoses (IsLost A.remaining A.failed A.can_fail reply) F.honest F.content F.failed F.can_fail F.left clone.old.files clone.new.files (TellsClone result) }
     ensures own { IfErr result IsOwn }
 {
@@ -176,6 +183,7 @@ pub fn exchange_push<P: Peer, F: Files>(
     requires some { items.now ≢ [] }
     ensures pushed { P.honest → F.honest → PushesNoZero items.now → Leads P.holds (HoldsClone F.content) shared.old shared.new clone.old clone.new (IsPush P.told items.now result) }
     ensures done { P.honest → F.honest → PushesNoZero items.now → Leads P.holds (HoldsClone F.content) shared.old shared.new clone.old clone.new (PushesOne P.told items.now result) }
+    ensures kept { F.honest → KeepsOwn (F.content clone.old.files) (F.content clone.new.files) }
     ensures wear { WritesOrLoses (Lost P.loses P.Answer.remaining P.Answer.failed P.Answer.can_fail) F.honest F.content F.failed F.can_fail F.left clone.old.files clone.new.files (TellsClone result) }
     ensures peer_wear { Wears P.failed P.can_fail unstopped shared.old shared.new (TellsPeer P.is_device result) }
 {

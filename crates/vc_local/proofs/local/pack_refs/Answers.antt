@@ -2,7 +2,7 @@ use Rattle.std.proofs.Common.{◌≡◌, ◌⊎◌, true, rules}
 use Rattle.vc_local.specs.Blames.{BlamesPacking}
 use Rattle.vc_local.specs.NodeFault.{is_fault}
 use Rattle.vc_local.specs.declared.fault.NodeFault.TheVariants.{Ref}
-use Rattle.vc_local.proofs.RefBlames.{packing_blames, packing_unwritten}
+use Rattle.vc_local.proofs.RefBlames.{packing_unwritten}
 use Rattle.vc_local.proofs.CleanLemmas.{packs_only}
 use Rattle.vc_local.proofs.local.pack_refs.Goals as goal
 
@@ -14,7 +14,7 @@ returns-clause-kept g c = λ honest. packs_only _ _ (c.in_ok-pack.ensures.packs.
 
 pub returns-in_err-pack-clause-refused : goal.returns-in_err-pack-clause-refused
 returns-in_err-pack-clause-refused g c = λ honest.
-    let told : BlamesPacking (g.F.Files.content c.args.files.now) (Ref c.in_err-pack.field-0.0) = packing_blames _ _ (c.in_err-pack.ensures.refused honest) in
+    let told : BlamesPacking (g.F.Files.content c.args.files.now) (Ref c.in_err-pack.field-0.0) = c.in_err-pack.ensures.refused honest in
     search (rules, told)
 
 pub returns-in_err-pack-clause-err : goal.returns-in_err-pack-clause-err

@@ -1,4 +1,4 @@
-use Rattle.std.proofs.Common.{not, Err, inl, refl, sym, ap, ◌∙◌, true≢false}
+use Rattle.std.proofs.Common.{Err, inl, refl, sym, ap, ◌∙◌, true≢false}
 use Rattle.std.proofs.lemmas.Result.{err_from_is_err_and}
 use Rattle.vc_exchange.proofs.QuarantinedLemmas.{keeps_beside_slot, others_same, others_slot, others_then}
 use Rattle.vc_tracking.specs.Moving.{told_in}
@@ -74,7 +74,7 @@ returns-then-is_fault-clause-comes g c = λ before ack so.
     c.in-Err.fault _ (sym (ap awaited_text c.in-Pack.is)) (c.in-Err.ensures.left before ack so)
 
 pub returns-then-is_fault-clause-cleared : goal.returns-then-is_fault-clause-cleared
-returns-then-is_fault-clause-cleared g c = λ honest up. absurd (true≢false (sym up ∙ ap not (sym c.is_fault.ensures ∙ c.if-is_fault.true)))
+returns-then-is_fault-clause-cleared g c = λ honest up. absurd (true≢false (sym c.if-is_fault.true ∙ c.is_fault.ensures ∙ up))
 
 -- ---- a refusal, behind which the quarantine is emptied
 pub returns-in_err-drop_quarantine-in-Err-clause-comes : goal.returns-in_err-drop_quarantine-in-Err-clause-comes
@@ -93,7 +93,7 @@ returns-in_err-drop_quarantine-in-Err-clause-comes g c =
 pub returns-in_err-drop_quarantine-in-Err-clause-cleared : goal.returns-in_err-drop_quarantine-in-Err-clause-cleared
 returns-in_err-drop_quarantine-in-Err-clause-cleared g c = λ honest.
     let p = err_from_is_err_and c.from_residual-in_err-drop_quarantine-in-Err.result c.from_residual-in_err-drop_quarantine-in-Err.ensures.1 in
-    rw (p.1, p.2) (λ up. absurd (true≢false (sym up)))
+    rw (p.1, p.2) (λ up. absurd (true≢false up))
 
 pub returns-in_err-drop_quarantine-in-Err-clause-beside : goal.returns-in_err-drop_quarantine-in-Err-clause-beside
 returns-in_err-drop_quarantine-in-Err-clause-beside g c = λ honest. others_then _ _ _ (c.take_awaited.ensures.beside honest) (others_slot _ _ (c.in_err-drop_quarantine-in-Err.ensures.outside honest))

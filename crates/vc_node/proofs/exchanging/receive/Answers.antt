@@ -6,7 +6,7 @@ use Rattle.vc_message.specs.AnyView.{message_text}
 use Rattle.vc_node.proofs.KeepingLemmas.{good_same}
 use Rattle.vc_node.proofs.LearningLemmas.{learns_none}
 use Rattle.vc_local.proofs.LookLemmas.{looks_none}
-use Rattle.vc_node.proofs.ReceivingClone.{kept_here}
+use Rattle.vc_node.proofs.ReceivingClone.{kept_here, nothing_beside}
 use Rattle.vc_node.proofs.UnreadLemmas.{failed_answers, failed_refused, failed_unread, message_refused, no_device}
 use Rattle.vc_node.specs.Awaited.{awaited_text}
 use Rattle.vc_node.proofs.exchanging.receive.Goals as goal
@@ -46,6 +46,9 @@ returns-clause-refused g c = λ honest.
 pub returns-clause-looks : goal.returns-clause-looks
 returns-clause-looks g c = λ honest m reads.
     c.take.ensures.looks honest m (text_read c.args.bytes.now m (message_text c.in_ok-message.message) reads c.in_ok-message.ensures.read)
+
+pub returns-in_err-message-clause-beside : goal.returns-in_err-message-clause-beside
+returns-in_err-message-clause-beside g c = λ honest. nothing_beside _
 
 pub returns-in_err-message-clause-good : goal.returns-in_err-message-clause-good
 returns-in_err-message-clause-good g c = λ honest. good_same _ _ refl

@@ -1,4 +1,4 @@
-use Rattle.std.proofs.Common.{Ok, Err, Option, ap, subst, true≢false}
+use Rattle.std.proofs.Common.{Ok, Err, Option, ap, subst, sym, true≢false}
 use Rattle.std.proofs.lemmas.Result.{err_from_is_err_and}
 use Rattle.vc_files.proofs.WearLemmas.{writes_both}
 use Rattle.vc_shared.specs.Arriving.{AnswersKnown}
@@ -80,7 +80,7 @@ pub returns-in_err-reply-clause-lost : goal.returns-in_err-reply-clause-lost
 returns-in_err-reply-clause-lost g c =
     let p = err_from_is_err_and c.from_residual-in_err-reply.result c.from_residual-in_err-reply.ensures.1 in
     rw (p.1, p.2) (record {
-      failures = loss_as c.in_ok-accepted.ensures.lost.failures (λ told. absurd (ok_is_no_error told)) (λ told. absurd (node_is_no_loss told)) (λ fault. absurd (true≢false fault));
+      failures = loss_as c.in_ok-accepted.ensures.lost.failures (λ told. absurd (ok_is_no_error told)) (λ told. absurd (node_is_no_loss told)) (λ fault. absurd (true≢false (sym fault)));
       kept = λ honest never. absurd (cc never);
     })
 

@@ -1,6 +1,5 @@
-use Rattle.std.proofs.Common.{sym, ◌∙◌}
 use Rattle.vc_files.proofs.WearLemmas.{writes_told}
-use Rattle.vc_server.proofs.TurnLemmas.{answer_leaves, answer_up, device_from, device_to, lost_from, lost_to}
+use Rattle.vc_server.proofs.TurnLemmas.{answer_fails, answer_leaves, answer_up, device_from, device_to, lost_from, lost_to}
 use Rattle.vc_server.specs.Coming.{ServesAs}
 use Rattle.vc_message.proofs.SourceLaws.{loss_as}
 use Rattle.vc_server.proofs.serving.serve_message.Goals as goal
@@ -12,6 +11,7 @@ returns-clause-turn g c = record {
   none = c.answer_from-answered.ensures.none;
   lost = c.answer_from-answered.ensures.lost.kept;
   told = c.tell.ensures;
+  up = c.answer_from-answered.ensures.up;
 }
 
 pub returns-clause-known : goal.returns-clause-known
@@ -23,7 +23,7 @@ returns-clause-known g c = λ m bytes rest is reads.
     (g.R.Source.remaining c.answer_from-answered.new.reader) c.answer_from-answered.result c.tell.result c.tell.ensures (c.answer_from-answered.ensures.known m bytes rest is reads)
 
 pub returns-clause-up : goal.returns-clause-up
-returns-clause-up g c = λ up. c.answer_from-answered.ensures.up up ∙ answer_up g.W.Write.contents _ _ c.answer_from-answered.result c.tell.result c.tell.ensures
+returns-clause-up g c = λ up. answer_up g.W.Write.contents _ _ c.answer_from-answered.result c.tell.result _ c.tell.ensures (c.answer_from-answered.ensures.up up)
 
 pub returns-clause-wear : goal.returns-clause-wear
 returns-clause-wear g c =
@@ -33,4 +33,4 @@ returns-clause-wear g c =
 pub returns-clause-lost : goal.returns-clause-lost
 returns-clause-lost g c =
     loss_as c.answer_from-answered.ensures.lost.failures (lost_to g.W.Write.contents _ _ c.answer_from-answered.result c.tell.result c.tell.ensures) (lost_from g.W.Write.contents _ _ c.answer_from-answered.result c.tell.result c.tell.ensures)
-    (λ down. sym (answer_up g.W.Write.contents _ _ c.answer_from-answered.result c.tell.result c.tell.ensures) ∙ down)
+    (answer_fails g.W.Write.contents _ _ c.answer_from-answered.result c.tell.result c.tell.ensures)

@@ -4,6 +4,7 @@ use Rattle.vc_message.proofs.Readings.{never_unread, text_read}
 use Rattle.vc_message.specs.AnyView.{message_text}
 use Rattle.vc_local.proofs.LookLemmas.{looks_none}
 use Rattle.vc_shared.proofs.AcceptingLemmas.{failed_answers, failed_refused, failed_unread, message_refused, no_device}
+use Rattle.vc_shared.proofs.ArrivingLemmas.{changes_none}
 use Rattle.vc_shared.proofs.accepting.accept.Goals as goal
 
 pub take-requires : goal.take-requires
@@ -26,6 +27,9 @@ returns-in_err-message-clause-wear g c = writes_none (no_device c.in_err-message
 
 pub returns-in_err-message-clause-looks : goal.returns-in_err-message-clause-looks
 returns-in_err-message-clause-looks g c = λ m reads. inr (looks_none (no_device c.in_err-message.field-0.0 c.from_residual.result c.from_residual.ensures.1))
+
+pub returns-in_err-message-clause-outside : goal.returns-in_err-message-clause-outside
+returns-in_err-message-clause-outside g c = λ honest. changes_none _ _
 
 pub returns-clause-answers : goal.returns-clause-answers
 returns-clause-answers g c = λ honest m reads.

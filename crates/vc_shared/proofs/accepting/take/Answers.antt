@@ -10,6 +10,7 @@ use Rattle.vc_message.specs.declared.message.Message.{Message}
 use Rattle.vc_pkt.specs.Message.{IsSpelledBy}
 use Rattle.vc_push.specs.PushView.{push_text}
 use Rattle.vc_shared.proofs.AcceptingLemmas.{advert_declined, error_declined, list_told, pack_declined, push_told, reply_wears, report_declined, slot_refused, want_told}
+use Rattle.vc_shared.proofs.ArrivingLemmas.{changes_none, changes_same}
 use Rattle.vc_shared.proofs.PushingTexts.{reads_tellable}
 use Rattle.vc_shared.specs.Accepting.{IsRefusedMessage}
 use Rattle.vc_shared.specs.Pushing.{IsRefusedPush}
@@ -53,3 +54,21 @@ returns-in-Report-clause-answers g c = λ honest m is. report_declined (g.F.File
 
 pub returns-clause-answers : goal.returns-clause-answers
 returns-clause-answers g c = λ honest m is. error_declined (g.F.Files.content c.args.files.now) c.args.slots.now m _ (subst (λ (x : Message). TextOf m (message_text x)) c.in-Error.is is)
+
+pub returns-in-List-clause-outside : goal.returns-in-List-clause-outside
+returns-in-List-clause-outside g c = λ honest. changes_same _ _ _ c.list.ensures.same
+
+pub returns-in-Want-clause-outside : goal.returns-in-Want-clause-outside
+returns-in-Want-clause-outside g c = λ honest. changes_same _ _ _ c.answer.ensures.same
+
+pub returns-in-Advert-clause-outside : goal.returns-in-Advert-clause-outside
+returns-in-Advert-clause-outside g c = λ honest. changes_none _ _
+
+pub returns-in-Pack-clause-outside : goal.returns-in-Pack-clause-outside
+returns-in-Pack-clause-outside g c = λ honest. changes_none _ _
+
+pub returns-in-Report-clause-outside : goal.returns-in-Report-clause-outside
+returns-in-Report-clause-outside g c = λ honest. changes_none _ _
+
+pub returns-clause-outside : goal.returns-clause-outside
+returns-clause-outside g c = λ honest. changes_none _ _

@@ -6,7 +6,7 @@ use Rattle.vc_message.specs.AnyView.{message_text}
 use Rattle.vc_message.specs.AnyMessage.{a_pack}
 use Rattle.vc_push.specs.PushView.{commands_of}
 use Rattle.vc_shared.proofs.AcceptingLemmas.{pack_declined}
-use Rattle.vc_shared.proofs.ArrivingLemmas.{no_device, stopped_by}
+use Rattle.vc_shared.proofs.ArrivingLemmas.{changes_none, no_device, stopped_by}
 use Rattle.vc_shared.proofs.ComingLemmas.{head_tellable, kept_none, message_accepts, message_lost, nothing_accepts, opened_writes, push_accepts, push_lost, stopped_accepts, told_writes, was_read}
 use Rattle.vc_shared.proofs.HoldingLemmas.{good_same}
 use Rattle.vc_shared.specs.AcceptFault.{of_incoming}
@@ -31,6 +31,9 @@ returns-in_err-found-clause-lost g c =
       kept = λ honest which is_up. kept_none _ _ is_up;
     })
 
+pub returns-in_err-found-clause-outside : goal.returns-in_err-found-clause-outside
+returns-in_err-found-clause-outside g c = λ honest. changes_none _ _
+
 pub returns-in_err-found-clause-good : goal.returns-in_err-found-clause-good
 returns-in_err-found-clause-good g c = λ honest. good_same _ _ refl
 
@@ -42,6 +45,9 @@ returns-in_default-clause-accepts g c = nothing_accepts _ _ _ _ _ _ _ (Ok None) 
 
 pub returns-in_default-clause-lost : goal.returns-in_default-clause-lost
 returns-in_default-clause-lost g c = record { failures = inl (tells_ok c.in_ok-found.ensures.failures ok_is_no_error); kept = λ honest. tt }
+
+pub returns-in_default-clause-outside : goal.returns-in_default-clause-outside
+returns-in_default-clause-outside g c = λ honest. changes_none _ _
 
 pub returns-in_default-clause-good : goal.returns-in_default-clause-good
 returns-in_default-clause-good g c = λ honest. good_same _ _ refl
@@ -109,6 +115,9 @@ returns-in_err-skip_pack-in-Pack-clause-lost g c =
       kept = λ honest which is_up. kept_none _ _ is_up;
     })
 
+pub returns-in_err-skip_pack-in-Pack-clause-outside : goal.returns-in_err-skip_pack-in-Pack-clause-outside
+returns-in_err-skip_pack-in-Pack-clause-outside g c = λ honest. changes_none _ _
+
 pub returns-in_err-skip_pack-in-Pack-clause-good : goal.returns-in_err-skip_pack-in-Pack-clause-good
 returns-in_err-skip_pack-in-Pack-clause-good g c = λ honest. good_same _ _ refl
 
@@ -130,6 +139,9 @@ returns-in_ok-skip_pack-in-Pack-clause-lost g c = record {
   failures = inl (tells_not (tells_then c.in_ok-found.ensures.failures ok_is_no_error c.in_ok-skip_pack-in-Pack.ensures.failures) ok_is_no_error node_is_no_loss);
   kept = λ honest never. absurd (cc never);
 }
+
+pub returns-in_ok-skip_pack-in-Pack-clause-outside : goal.returns-in_ok-skip_pack-in-Pack-clause-outside
+returns-in_ok-skip_pack-in-Pack-clause-outside g c = λ honest. changes_none _ _
 
 pub returns-in_ok-skip_pack-in-Pack-clause-good : goal.returns-in_ok-skip_pack-in-Pack-clause-good
 returns-in_ok-skip_pack-in-Pack-clause-good g c = λ honest. good_same _ _ refl

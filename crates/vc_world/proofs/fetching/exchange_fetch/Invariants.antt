@@ -1,5 +1,6 @@
 use Rattle.std.proofs.Common.{◌^◌, Some, None}
 use Rattle.vc_files.specs.Failures.{Wears, Writes, unstopped}
+use Rattle.vc_node.specs.Stored.{KeepsOwn}
 use Rattle.vc_world.specs.Exchanging.{HoldsClone, Leads}
 use Rattle.vc_world.proofs.FetchRounds.{GoesOn}
 use Rattle.vc_world.proofs.fetching.exchange_fetch.Given as goal
@@ -7,6 +8,7 @@ use Rattle.vc_world.proofs.fetching.exchange_fetch.Given as goal
 abbrev pub invariant-rounds : goal.invariant-rounds
 invariant-rounds g l = record {
   so_far : g.P.Peer.honest → g.F.Files.honest → Leads g.P.Peer.holds (HoldsClone g.F.Files.content) l.initial.shared l.shared l.initial.clone l.clone (GoesOn l.before l.moved);
+  kept : g.F.Files.honest → KeepsOwn (g.F.Files.content l.initial.clone.files) (g.F.Files.content l.clone.files);
   wear : Writes g.F.Files.honest g.F.Files.content g.F.Files.failed g.F.Files.can_fail g.F.Files.left l.initial.clone.files l.clone.files ⊥;
   peer_wear : Wears g.P.Peer.failed g.P.Peer.can_fail unstopped l.initial.shared l.shared ⊥;
 }

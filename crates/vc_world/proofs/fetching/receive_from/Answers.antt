@@ -4,6 +4,7 @@ use Rattle.vc_files.specs.Failures.{Writes}
 use Rattle.vc_model.specs.CloneCall.CloneCall.{Receive}
 use Rattle.vc_node.proofs.CloneCallLemmas.{down_clone}
 use Rattle.vc_node.specs.ReceiveFault.{IsOfDevice}
+use Rattle.vc_node.proofs.OwnLemmas.{own_others, own_same, own_then}
 use Rattle.vc_world.proofs.LosingLemmas.{answers_before, nothing_taken, reader_failed, refused_answers, some_came, taken_answers}
 use Rattle.vc_world.proofs.WearLemmas.{lost_then, none_lost}
 use Rattle.vc_world.proofs.fetching.receive_from.Goals as goal
@@ -11,6 +12,7 @@ use Rattle.vc_world.proofs.fetching.receive_from.Goals as goal
 pub returns-then-not-is_up : goal.returns-then-not-is_up
 returns-then-not-is_up g c = record {
   answers = λ f m begins. down_clone (Receive m) (λ never. cc never) _ _ _ _ _ _ refl refl refl (search rules);
+  kept = λ f. own_same _ _ refl;
   wear = none_lost (writes_none (λ never. never));
 }
 
@@ -19,6 +21,7 @@ returns-in-Ok-Some g c = record {
   answers = λ f m begins.
       taken_answers g.F.Files.honest c.args.clone.now.is_up c.receive_from.new.self.is_up m begins.1 (g.A.Source.remaining c.receive_from.new.reader) (g.F.Files.content c.args.clone.now.files) (g.F.Files.content c.receive_from.new.self.files)
       c.args.clone.now.awaited c.receive_from.new.self.awaited (Ok c.in-Ok-Some.field-0) c.in-Ok-Some.received (ap Ok c.in-Ok-Some.field-0-is) f (c.in-Ok-Some.ensures.known m begins.0 begins.1 begins.2 begins.3);
+  kept = λ f. own_others (c.in-Ok-Some.ensures.objects f) (c.in-Ok-Some.ensures.beside f) (c.in-Ok-Some.ensures.clean f);
   wear = none_lost c.in-Ok-Some.ensures.wear;
 }
 
@@ -28,6 +31,7 @@ returns-in-Err-Node g c = record {
       let up : c.args.clone.now.is_up ≡ true = search rules in
       refused_answers g.F.Files.honest c.args.clone.now.is_up c.receive_from.new.self.is_up m begins.1 (g.A.Source.remaining c.receive_from.new.reader) (g.F.Files.content c.args.clone.now.files) (g.F.Files.content c.receive_from.new.self.files)
       c.args.clone.now.awaited c.receive_from.new.self.awaited (Err c.in-Err-Node.field-0) c.in-Err-Node.fault (ap Err c.in-Err-Node.field-0-is) f up (c.in-Err-Node.ensures.known m begins.0 begins.1 begins.2 begins.3);
+  kept = λ f. own_others (c.in-Err-Node.ensures.objects f) (c.in-Err-Node.ensures.beside f) (c.in-Err-Node.ensures.clean f);
   wear = none_lost (subst (λ e. Writes g.F.Files.honest g.F.Files.content g.F.Files.failed g.F.Files.can_fail g.F.Files.left c.args.clone.now.files c.receive_from.new.self.files (IsOfDevice e)) c.in-Err-Node.field-0-is c.in-Err-Node.ensures.wear);
 }
 
@@ -37,6 +41,7 @@ returns-in-Ok-None g c = record {
       absurd
       (some_came g.F.Files.honest c.args.clone.now.is_up c.receive_from.new.self.is_up m begins.1 (g.A.Source.remaining c.receive_from.new.reader) (g.F.Files.content c.args.clone.now.files) (g.F.Files.content c.receive_from.new.self.files)
       c.args.clone.now.awaited c.receive_from.new.self.awaited (Ok c.in-Ok-None.field-0) (ap Ok c.in-Ok-None.field-0-is) (c.in-Ok-None.ensures.known m begins.0 begins.1 begins.2 begins.3));
+  kept = λ f. own_then (own_others (c.in-Ok-None.ensures.objects f) (c.in-Ok-None.ensures.beside f) (c.in-Ok-None.ensures.clean f)) (own_same _ _ (ap g.F.Files.content c.lose.ensures.same));
   wear = lost_then c.in-Ok-None.ensures.wear (λ never. never) c.lose.ensures.same
       (inl (nothing_taken g.F.Files.honest (g.A.Source.remaining c.args.reader.now) (g.A.Source.remaining c.receive_from.new.reader) _ _ _ _ _ _ c.in-Ok-None.field-0 c.in-Ok-None.field-0-is c.in-Ok-None.ensures.receives));
 }
@@ -47,6 +52,7 @@ returns-in-Err-ReadFailed g c = record {
       let up : c.args.clone.now.is_up ≡ true = search rules in
       let still : c.receive_from.new.self.is_up ≡ true = search rules in
       answers_before (Receive m) (Err c.lose-in-Err-ReadFailed.result) _ _ _ _ _ _ _ _ _ (c.in-Err-ReadFailed.ensures.lost.kept f c.in-Err-ReadFailed.field-0-is) (c.lose-in-Err-ReadFailed.ensures.answers f still m);
+  kept = λ f. own_then (own_others (c.in-Err-ReadFailed.ensures.objects f) (c.in-Err-ReadFailed.ensures.beside f) (c.in-Err-ReadFailed.ensures.clean f)) (own_same _ _ (ap g.F.Files.content c.lose-in-Err-ReadFailed.ensures.same));
   wear =
       lost_then (subst (λ e. Writes g.F.Files.honest g.F.Files.content g.F.Files.failed g.F.Files.can_fail g.F.Files.left c.args.clone.now.files c.receive_from.new.self.files (IsOfDevice e)) c.in-Err-ReadFailed.field-0-is c.in-Err-ReadFailed.ensures.wear) (λ never. never)
       c.lose-in-Err-ReadFailed.ensures.same (inr (reader_failed c.in-Err-ReadFailed.ensures.lost.failures (ap Err c.in-Err-ReadFailed.field-0-is)));

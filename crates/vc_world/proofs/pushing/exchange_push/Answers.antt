@@ -5,6 +5,7 @@ use Rattle.vc_model.specs.Clone.{IsItemId}
 use Rattle.vc_model.specs.Object.{zero_id}
 use Rattle.vc_local.proofs.LookLemmas.{looks_none, looks_told}
 use Rattle.vc_world.specs.declared.ending.ExchangeEnd.TheVariants.{Clone, Shared}
+use Rattle.vc_node.proofs.OwnLemmas.{own_same, own_then}
 use Rattle.vc_world.proofs.PushCalls.{comes, not_answered, not_sent, pushes_one}
 use Rattle.vc_world.proofs.WearLemmas.{lost_told, none_lost, one_lost, own_peer, then_lost}
 use Rattle.vc_world.proofs.pushing.exchange_push.Goals as goal
@@ -15,6 +16,7 @@ returns-in-Err g c =
     record {
       pushed = leads;
       done = λ p f z. pushes_one g.P.Peer.holds g.P.Peer.told g.P.Answer.Source.remaining g.F.Files.content c.args.items.now (Err (Clone c.in-Err.fault)) c.args.shared.now c.args.shared.now c.args.clone.now c.start_push.new.self (leads p f z);
+      kept = λ f. own_same _ _ c.in-Err.ensures.same;
       wear = none_lost (wears_writes c.in-Err.ensures.wear (λ h. c.in-Err.ensures.same));
       peer_wear = looks_none (λ never. never);
     }
@@ -25,6 +27,7 @@ returns-in-Err-ask g c =
     record {
       pushed = leads;
       done = λ p f z. pushes_one g.P.Peer.holds g.P.Peer.told g.P.Answer.Source.remaining g.F.Files.content c.args.items.now (Err (Shared c.in-Err-ask.refusal)) c.args.shared.now c.ask.new.self c.args.clone.now c.start_push.new.self (leads p f z);
+      kept = λ f. own_same _ _ c.in-Ok.ensures.same;
       wear = none_lost (wears_writes c.in-Ok.ensures.wear (λ h. c.in-Ok.ensures.same));
       peer_wear = c.in-Err-ask.ensures.wear;
     }
@@ -36,6 +39,9 @@ returns-clause-pushed g c p f z =
 
 pub returns-clause-done : goal.returns-clause-done
 returns-clause-done g c p f z = pushes_one g.P.Peer.holds g.P.Peer.told g.P.Answer.Source.remaining g.F.Files.content c.args.items.now c.take_reply.result c.args.shared.now c.ask.new.self c.args.clone.now c.take_reply.new.clone (returns-clause-pushed g c p f z)
+
+pub returns-clause-kept : goal.returns-clause-kept
+returns-clause-kept g c f = own_then (own_same _ _ c.in-Ok.ensures.same) (c.take_reply.ensures.kept f)
 
 pub returns-clause-wear : goal.returns-clause-wear
 returns-clause-wear g c = then_lost (wears_writes c.in-Ok.ensures.wear (λ h. c.in-Ok.ensures.same)) (lost_told c.take_reply.ensures.wear (one_lost c.in-Ok-ask.reply c.in-Ok-ask.ensures.whole) (λ told. told) (λ told. told))

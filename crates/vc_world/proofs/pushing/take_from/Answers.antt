@@ -6,6 +6,7 @@ use Rattle.vc_model.specs.CloneCall.CloneCall.{Receive}
 use Rattle.vc_node.proofs.CloneCallLemmas.{down_clone}
 use Rattle.vc_node.specs.declared.clone_fault.CloneFault.TheVariants.{Node}
 use Rattle.vc_local.specs.declared.fault.NodeFault.TheVariants.{Down}
+use Rattle.vc_node.proofs.OwnLemmas.{own_same}
 use Rattle.vc_world.proofs.WearLemmas.{begins_calm, lost_then, none_lost, none_written}
 use Rattle.vc_world.proofs.pushing.take_from.Goals as goal
 
@@ -16,6 +17,7 @@ returns-then-not-is_up g c = record {
     receives = down_clone (Receive m) (λ never. cc never) _ _ _ _ _ _ refl refl refl (search rules);
     tells = λ told a sends shown. shown.answer;
   };
+  kept = λ f. own_same _ _ refl;
   wear = none_lost (writes_none (λ never. never));
   own = tt;
 }
@@ -25,6 +27,7 @@ returns-in-Ok-Some g c = record {
   takes = λ f m begins.
       let gives = subst (λ found. GivesMessage m begins.1 (g.A.Source.remaining c.read_message.new.reader) (Ok found)) c.in-Ok-Some.field-0-is (c.in-Ok-Some.ensures.known m begins.0 begins.1 begins.2 begins.3) in
       c.take_message.ensures.takes f m gives.0;
+  kept = λ f. c.take_message.ensures.kept f;
   wear = none_lost c.take_message.ensures.wear;
   own = c.take_message.ensures.own;
 }
@@ -32,6 +35,7 @@ returns-in-Ok-Some g c = record {
 pub returns-in-Err-Unread : goal.returns-in-Err-Unread
 returns-in-Err-Unread g c = record {
   takes = λ f m begins. absurd (subst (λ (e : IncomingFault). IsLoss e) c.in-Err-Unread.field-0-is (c.in-Err-Unread.ensures.known m begins.0 begins.1 begins.2 begins.3));
+  kept = λ f. own_same _ _ refl;
   wear = none_lost (writes_none (λ never. never));
   own = tt;
 }
@@ -45,6 +49,7 @@ returns-in-Err-Memory g c = record {
         receives = c.lose-in-Err-Memory.ensures.answers f up m;
         tells = λ told a sends shown. shown.answer;
       };
+  kept = λ f. own_same _ _ (ap g.F.Files.content c.lose-in-Err-Memory.ensures.same);
   wear = none_written c.lose-in-Err-Memory.ensures.same (begins_calm c.lose-in-Err-Memory.result (inr c.lose-in-Err-Memory.ensures.fault));
   own = tt;
 }
@@ -58,6 +63,7 @@ returns-in-Err-Failed g c = record {
         receives = c.lose-in-Err-Failed.ensures.answers f up m;
         tells = λ told a sends shown. shown.answer;
       };
+  kept = λ f. own_same _ _ (ap g.F.Files.content c.lose-in-Err-Failed.ensures.same);
   wear =
       let calls = c.in-Err-Failed.ensures.failures in
       let told = ap Err c.in-Err-Failed.field-0-is in
@@ -74,6 +80,7 @@ returns-in-Ok-None g c = record {
         receives = c.lose.ensures.answers f up m;
         tells = λ told a sends shown. shown.answer;
       };
+  kept = λ f. own_same _ _ (ap g.F.Files.content c.lose.ensures.same);
   wear = lost_then (writes_none {P = ⊥} (λ never. never)) (λ never. never) c.lose.ensures.same (inl (rw c.in-Ok-None.field-0-is at c.in-Ok-None.ensures.end));
   own = tt;
 }

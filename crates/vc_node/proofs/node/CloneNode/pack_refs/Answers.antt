@@ -1,5 +1,4 @@
-use Rattle.std.proofs.Common.{Ok, Err, ap, inl, inr, refl, rules}
-use Rattle.std.specs.Prelude.{not}
+use Rattle.std.proofs.Common.{Ok, Err, ap, inr, refl, rules}
 use Rattle.vc_model.specs.CloneCall.CloneCall.{Asks}
 use Rattle.vc_model.specs.Question.Question.{PackRefs}
 use Rattle.vc_node.proofs.CloneCallLemmas.{down_clone}
@@ -14,13 +13,13 @@ returns-then-not-self-clause-answers g c = λ honest. down_clone (Asks PackRefs)
 pub returns-in-Ok-clause-answers : goal.returns-in-Ok-clause-answers
 returns-in-Ok-clause-answers g c = λ honest.
     let content = g.F.Files.content in
-    rw (← c.self.view_is, c.if-not-self.false) (packing_answers (content c.self.inside.files) (content c.pack_refs.new.files) _ (c.in-Ok.ensures.kept honest).same (c.in-Ok.ensures.kept honest).clean (Ok tt) tt)
+    rw (← c.self.view_is, c.if-not-self.false) (packing_answers (content c.self.inside.files) (content c.pack_refs.new.files) _ (c.in-Ok.ensures.kept honest).same (c.in-Ok.ensures.kept honest).clean (Ok tt) (c.in-Ok.ensures.packed honest) tt)
 
 pub returns-in-Err-clause-answers : goal.returns-in-Err-clause-answers
 returns-in-Err-clause-answers g c = λ honest.
     let content = g.F.Files.content in
     rw (← c.self.view_is, c.if-not-self.false, c.fail.ensures.fault, ap content c.fail.ensures.files, c.fail.ensures.awaits, c.fail.ensures.up c.if-not-self.false)
-    (packing_answers (content c.self.inside.files) (content c.pack_refs.new.files) _ (c.in-Err.ensures.kept honest).same (c.in-Err.ensures.kept honest).clean (Err c.in-Err.fault) (c.in-Err.ensures.refused honest))
+    (packing_answers (content c.self.inside.files) (content c.pack_refs.new.files) _ (c.in-Err.ensures.kept honest).same (c.in-Err.ensures.kept honest).clean (Err c.in-Err.fault) tt (c.in-Err.ensures.refused honest))
 
 pub invariant_of-self : goal.invariant_of-self
 invariant_of-self g c = λ honest. (both_kept _ _ c.self.inside.reached c.self.inside.generations (keeps_shown _ _ _ (c.in-Ok.ensures.kept honest).same refl) (c.self.invariant honest).0, tt)
@@ -40,5 +39,4 @@ returns-in-Err-clause-looks g c = λ honest. packing_may _ _ _ (search rules)
 pub returns-in-Err-clause-err : goal.returns-in-Err-clause-err
 returns-in-Err-clause-err g c = λ honest.
     let content = g.F.Files.content in
-    rw (← c.self.view_is, ap content c.fail.ensures.files, c.fail.ensures.up c.if-not-self.false)
-    (elim (c.in-Err.ensures.err honest) [ inl fault ↦ inl (ap not fault) | inr same ↦ inr same ])
+    rw (← c.self.view_is, ap content c.fail.ensures.files, c.fail.ensures.fault) (c.in-Err.ensures.err honest)

@@ -1,9 +1,13 @@
 use Rattle.std.proofs.Common.{◌≡◌, ◌∙◌, false, refl, rules, sym, true≢false}
 use Rattle.vc_lemmas.proofs.Lists.{on_err}
-use Rattle.vc_pack.proofs.KeepsLemmas.{StandsIn-kept}
+use Rattle.vc_pack.proofs.KeepsLemmas.{StandsIn-kept, keeps_same}
 use Rattle.vc_files.proofs.WearLemmas.{writes_none}
 use Rattle.vc_quarantine.specs.Learning.{learnt_in}
 use Rattle.vc_local.proofs.CleanLemmas.{clean_same}
+use Rattle.vc_exchange.proofs.QuarantinedLemmas.{others_same}
+use Rattle.vc_exchange.specs.Quarantined.{KeepsOthers}
+use Rattle.vc_node.proofs.SettledLemmas.{kept_through}
+use Rattle.vc_pack.specs.Reached.{KeepsObjects}
 use Rattle.vc_node.proofs.ComingLemmas.{down_keeps, down_no_device, down_receives, known_receives, next_awaits, next_clean, next_cleared, next_learns, next_lost, next_none, next_receives, next_wear}
 use Rattle.vc_node.specs.Awaited.{awaited_text}
 use Rattle.vc_node.proofs.LossLemmas.{loss_of_down, loss_of_same}
@@ -25,6 +29,9 @@ returns-then-not-self-clause-clean g c = λ honest. clean_same _ _ refl
 
 pub returns-then-not-self-clause-wear : goal.returns-then-not-self-clause-wear
 returns-then-not-self-clause-wear g c = writes_none (down_no_device c.skip_message.result c.refuse_down.result c.refuse_down.ensures)
+
+pub returns-then-not-self-clause-cleared : goal.returns-then-not-self-clause-cleared
+returns-then-not-self-clause-cleared g c = λ honest calm dropped. dropped
 
 -- ---- up
 pub returns-clause-receives : goal.returns-clause-receives
@@ -56,16 +63,17 @@ returns-clause-lost g c = record {
 pub returns-clause-cleared : goal.returns-clause-cleared
 returns-clause-cleared g c = λ honest.
     rw (← c.self.view_is) (next_cleared g.F.Files.content c.self.inside.files c.take_next-received.new.files c.settle_next.new.self.files (awaited_text c.self.inside.awaited) (awaited_text c.take_next-received.new.awaited) c.settle_next.new.self.awaited c.settle_next.new.self.is_up
-    c.take_next-received.result c.settle_next.result c.settle_next.ensures.received c.settle_next.ensures.files c.settle_next.ensures.awaits c.self.inside.is_up c.if-not-self.false (c.settle_next.ensures.up c.if-not-self.false) (c.take_next-received.ensures.cleared honest))
+    c.take_next-received.result c.settle_next.result c.settle_next.ensures.received c.settle_next.ensures.files c.settle_next.ensures.awaits (c.take_next-received.ensures.cleared honest))
 
 pub returns-then-not-self-clause-settles : goal.returns-then-not-self-clause-settles
 returns-then-not-self-clause-settles g c =
     let down : c.args.self.now.is_up ≡ false = search rules in
-    record { down = search rules; up = search rules; awaits = on_err c.refuse_down.result _ refl; learns = λ honest up. absurd (true≢false (sym up ∙ down)) }
+    record { down = search rules; unchanged = λ _. refl; up = search rules; awaits = on_err c.refuse_down.result _ refl; learns = λ honest up. absurd (true≢false (sym up ∙ down)) }
 
 pub returns-clause-settles : goal.returns-clause-settles
 returns-clause-settles g c = record {
   down = search rules;
+  unchanged = search rules;
   up = search rules;
   awaits =
       rw (← c.self.view_is) (next_awaits g.F.Files.content c.self.inside.files c.take_next-received.new.files c.settle_next.new.self.files (awaited_text c.self.inside.awaited) (awaited_text c.take_next-received.new.awaited) c.settle_next.new.self.awaited c.settle_next.new.self.is_up
@@ -74,6 +82,18 @@ returns-clause-settles g c = record {
       rw (← c.self.view_is) (next_learns g.F.Files.content c.self.inside.files c.take_next-received.new.files c.settle_next.new.self.files (awaited_text c.self.inside.awaited) (awaited_text c.take_next-received.new.awaited) c.settle_next.new.self.awaited c.settle_next.new.self.is_up c.take_next-received.result c.settle_next.result
       c.settle_next.ensures.received c.settle_next.ensures.files c.settle_next.ensures.awaits (learnt_in c.self.inside.generations c.self.inside.due) (learnt_in c.take_next-received.new.generations c.take_next-received.new.due) c.settle_next.new.self.learnt c.settle_next.ensures.learnt (c.settle_next.ensures.up c.if-not-self.false) c.take_next-received.ensures.leaves);
 }
+
+pub returns-then-not-self-clause-objects : goal.returns-then-not-self-clause-objects
+returns-then-not-self-clause-objects g c = λ honest. keeps_same _ _ refl
+
+pub returns-then-not-self-clause-beside : goal.returns-then-not-self-clause-beside
+returns-then-not-self-clause-beside g c = λ honest. others_same _ _ refl
+
+pub returns-clause-objects : goal.returns-clause-objects
+returns-clause-objects g c = λ honest. rw (← c.self.view_is) (kept_through g.F.Files.content KeepsObjects c.self.inside.files c.take_next-received.new.files c.settle_next.new.self.files c.settle_next.ensures.files (c.take_next-received.ensures.good honest).objects)
+
+pub returns-clause-beside : goal.returns-clause-beside
+returns-clause-beside g c = λ honest. rw (← c.self.view_is) (kept_through g.F.Files.content KeepsOthers c.self.inside.files c.take_next-received.new.files c.settle_next.new.self.files c.settle_next.ensures.files (c.take_next-received.ensures.beside honest))
 
 pub returns-clause-clean : goal.returns-clause-clean
 returns-clause-clean g c = λ honest.

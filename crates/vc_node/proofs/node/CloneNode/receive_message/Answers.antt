@@ -2,9 +2,13 @@ use Rattle.std.proofs.Common.{◌≡◌, ◌∙◌, false, inl, inr, refl, rules
 use Rattle.vc_message.specs.AnyView.{message_text}
 use Rattle.vc_model.specs.CloneCall.CloneCall.{Receive}
 use Rattle.vc_local.proofs.CleanLemmas.{clean_same}
+use Rattle.vc_node.proofs.ReceivingClone.{nothing_beside}
+use Rattle.vc_pack.proofs.KeepsLemmas.{keeps_same}
+use Rattle.vc_pack.specs.Reached.{KeepsObjects}
+use Rattle.vc_tracking.specs.Storing.{KeepsBeside}
 use Rattle.vc_node.proofs.CloneCallLemmas.{down_clone}
 use Rattle.vc_local.proofs.LookLemmas.{looks_none}
-use Rattle.vc_node.proofs.SettledLemmas.{settled_answers, settled_awaits, settled_clean, settled_err, settled_learns, settled_looks, settled_refusal, settled_wear}
+use Rattle.vc_node.proofs.SettledLemmas.{kept_through, settled_answers, settled_awaits, settled_clean, settled_err, settled_learns, settled_looks, settled_refusal, settled_wear}
 use Rattle.vc_node.specs.Awaited.{awaited_text}
 use Rattle.vc_node.specs.Receipts.{IsRefusedMessage}
 use Rattle.vc_pack.proofs.KeepsLemmas.{StandsIn-kept}
@@ -40,11 +44,12 @@ returns-clause-err g c = λ honest.
 pub returns-then-not-self-clause-settles : goal.returns-then-not-self-clause-settles
 returns-then-not-self-clause-settles g c =
     let down : c.args.self.now.is_up ≡ false = search rules in
-    record { down = search rules; up = search rules; awaits = refl; learns = λ honest up. absurd (true≢false (sym up ∙ down)) }
+    record { down = search rules; unchanged = λ _. refl; up = search rules; awaits = refl; learns = λ honest up. absurd (true≢false (sym up ∙ down)) }
 
 pub returns-clause-settles : goal.returns-clause-settles
 returns-clause-settles g c = record {
   down = search rules;
+  unchanged = search rules;
   up = search rules;
   awaits =
       rw (← c.self.view_is) (settled_awaits g.F.Files.content c.self.inside.files c.take-received.new.files c.settle.new.self.files (awaited_text c.self.inside.awaited) (awaited_text c.take-received.new.awaited) c.settle.new.self.awaited c.self.inside.is_up c.settle.new.self.is_up c.take-received.result c.settle.result
@@ -53,6 +58,18 @@ returns-clause-settles g c = record {
       rw (← c.self.view_is) (settled_learns g.F.Files.content c.self.inside.files c.take-received.new.files c.settle.new.self.files (awaited_text c.self.inside.awaited) (awaited_text c.take-received.new.awaited) c.settle.new.self.awaited c.self.inside.is_up c.settle.new.self.is_up c.take-received.result c.settle.result
       c.settle.ensures.received c.settle.ensures.files c.settle.ensures.awaits (learnt_in c.self.inside.generations c.self.inside.due) (learnt_in c.take-received.new.generations c.take-received.new.due) c.settle.new.self.learnt c.settle.ensures.learnt (c.settle.ensures.up c.if-not-self.false) c.take-received.ensures.leaves);
 }
+
+pub returns-then-not-self-clause-objects : goal.returns-then-not-self-clause-objects
+returns-then-not-self-clause-objects g c = λ honest. keeps_same _ _ refl
+
+pub returns-then-not-self-clause-beside : goal.returns-then-not-self-clause-beside
+returns-then-not-self-clause-beside g c = λ honest. nothing_beside _
+
+pub returns-clause-objects : goal.returns-clause-objects
+returns-clause-objects g c = λ honest. rw (← c.self.view_is) (kept_through g.F.Files.content KeepsObjects c.self.inside.files c.take-received.new.files c.settle.new.self.files c.settle.ensures.files (c.take-received.ensures.good honest).objects)
+
+pub returns-clause-beside : goal.returns-clause-beside
+returns-clause-beside g c = λ honest. rw (← c.self.view_is) (kept_through g.F.Files.content KeepsBeside c.self.inside.files c.take-received.new.files c.settle.new.self.files c.settle.ensures.files (c.take-received.ensures.beside honest))
 
 pub returns-clause-clean : goal.returns-clause-clean
 returns-clause-clean g c = λ honest.

@@ -6,7 +6,7 @@ use Rattle.vc_model.specs.Question.Question.{Resolve}
 use Rattle.vc_node.proofs.CloneCallLemmas.{down_clone}
 use Rattle.vc_node.proofs.CloneValueLemmas.{no_value_answers, no_value_wears, value_answers}
 use Rattle.vc_node.specs.Awaited.{awaited_text}
-use Rattle.vc_node.specs.CloneFaults.{is_fault}
+use Rattle.vc_node.specs.CloneFaults.{takes_down}
 use Rattle.vc_node.specs.declared.clone_fault.CloneFault.{CloneFault}
 use Rattle.vc_node.proofs.node.CloneNode.resolve.Goals as goal
 
@@ -28,7 +28,7 @@ returns-in-Err-clause-answers g c = λ honest text spelled.
     rw (← c.self.view_is) (no_value_answers (content c.self.inside.files) (content c.fail_exchange.new.self.files) (awaited_text c.self.inside.awaited) c.fail_exchange.new.self.awaited text (expr_view c.args.expr.now)
     c.self.inside.is_up c.fail_exchange.new.self.is_up c.in-Err.fault c.fail_exchange.result
     spelled (c.in-Err.ensures.refused honest) (ap content c.fail_exchange.ensures.files ∙ c.resolve.ensures.same) c.fail_exchange.ensures.awaits (c.fail_exchange.ensures.fault ∙ c.from-fault.ensures) c.if-not-self.false
-    (c.fail_exchange.ensures.up c.if-not-self.false ∙ ap (λ (x : CloneFault). not (is_fault x)) (sym c.fail_exchange.ensures.fault)))
+    (c.fail_exchange.ensures.up c.if-not-self.false ∙ ap (λ (x : CloneFault). not (takes_down x)) (sym c.fail_exchange.ensures.fault)))
 
 pub returns-in-Err-clause-bad_file : goal.returns-in-Err-clause-bad_file
 returns-in-Err-clause-bad_file g c = λ honest.

@@ -5,7 +5,7 @@ use Rattle.vc_model.specs.CloneCall.CloneCall.{Command}
 use Rattle.vc_node.proofs.CloneCallLemmas.{down_clone}
 use Rattle.vc_node.proofs.StartLemmas.{fetch_faulted, fetch_sent}
 use Rattle.vc_node.specs.Awaited.{an_advert}
-use Rattle.vc_node.specs.CloneFaults.{is_fault}
+use Rattle.vc_node.specs.CloneFaults.{takes_down}
 use Rattle.vc_node.specs.declared.clone_fault.CloneFault.{CloneFault}
 use Rattle.vc_node.proofs.node.CloneNode.start_fetch.Goals as goal
 
@@ -22,4 +22,4 @@ returns-in-Err-clause-answers g c = λ honest.
     let content = g.F.Files.content in
     fetch_faulted (content c.args.self.now.files) (content c.fail_exchange.new.self.files) c.args.self.now.awaited c.fail_exchange.new.self.awaited c.args.self.now.is_up c.fail_exchange.new.self.is_up c.fail_exchange.result
     (c.fail_exchange.ensures.fault ∙ c.from-fault.ensures) (ap content c.fail_exchange.ensures.files) c.fail_exchange.ensures.awaits (search rules)
-    (c.fail_exchange.ensures.up (search rules) ∙ ap (λ (x : CloneFault). not (is_fault x)) c.from-fault.ensures)
+    (c.fail_exchange.ensures.up (search rules) ∙ ap (λ (x : CloneFault). not (takes_down x)) c.from-fault.ensures)

@@ -5,7 +5,7 @@ use Rattle.vc_model.specs.Clone.Task.{StartPush}
 use Rattle.vc_model.specs.CloneCall.CloneCall.{Command}
 use Rattle.vc_node.proofs.CloneCallLemmas.{down_clone}
 use Rattle.vc_node.proofs.StartLemmas.{push_declined, push_sent}
-use Rattle.vc_node.specs.CloneFaults.{is_fault}
+use Rattle.vc_node.specs.CloneFaults.{takes_down}
 use Rattle.vc_node.specs.declared.clone_fault.CloneFault.{CloneFault}
 use Rattle.vc_node.proofs.node.CloneNode.start_push.Goals as goal
 
@@ -24,7 +24,7 @@ returns-in-Err-clause-answers g c = λ honest zero.
     rw (← c.self.view_is) (push_declined c.args.items.now (content c.self.inside.files) (content c.fail_exchange.new.self.files) _ c.fail_exchange.new.self.awaited c.self.inside.is_up c.fail_exchange.new.self.is_up
     (ap content c.fail_exchange.ensures.files ∙ c.push_message.ensures.same) c.fail_exchange.ensures.awaits c.if-not-self.false
     c.in-Err.fault c.fail_exchange.result (c.in-Err.ensures.refused honest) (c.in-Err.ensures.declined honest) (c.fail_exchange.ensures.fault ∙ c.from-fault.ensures)
-    (c.fail_exchange.ensures.up c.if-not-self.false ∙ ap (λ (x : CloneFault). not (is_fault x)) (sym c.fail_exchange.ensures.fault)))
+    (c.fail_exchange.ensures.up c.if-not-self.false ∙ ap (λ (x : CloneFault). not (takes_down x)) (sym c.fail_exchange.ensures.fault)))
 
 pub invariant_of-self : goal.invariant_of-self
 invariant_of-self g c = λ honest. (rw c.push_message.ensures.same (c.push_message.ensures.stands honest (c.self.invariant honest).0.0, (c.self.invariant honest).0.1), tt)

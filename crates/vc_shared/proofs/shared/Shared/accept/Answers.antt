@@ -1,11 +1,13 @@
-use Rattle.std.proofs.Common.{inl, inr, refl, rules}
+use Rattle.std.proofs.Common.{inl, inr, refl, rules, subst, sym}
 use Rattle.vc_model.specs.Question.Question.{Unread}
 use Rattle.vc_model.specs.SharedCall.SharedCall.{Accept, Asks}
 use Rattle.vc_local.proofs.CleanLemmas.{clean_same}
 use Rattle.vc_local.proofs.LookLemmas.{looks_none}
 use Rattle.vc_shared.proofs.SettledLemmas.{settled_answers, settled_clean, settled_err, settled_looks, settled_refusal, settled_wear}
 use Rattle.vc_shared.proofs.SteppingLaws.{down_answers}
+use Rattle.vc_shared.proofs.ArrivingLemmas.{changes_none}
 use Rattle.vc_shared.specs.Accepting.{IsRefusedBytes}
+use Rattle.vc_shared.specs.Pushing.{ChangesFree}
 use Rattle.vc_shared.proofs.shared.Shared.accept.Goals as goal
 
 pub returns-then-not-self-clause-answers : goal.returns-then-not-self-clause-answers
@@ -16,6 +18,12 @@ returns-then-not-self-clause-unread g c = λ honest n unread. down_answers (Asks
 
 pub returns-then-not-self-clause-bad_file : goal.returns-then-not-self-clause-bad_file
 returns-then-not-self-clause-bad_file g c = λ honest. inl refl
+
+pub returns-then-not-self-clause-outside : goal.returns-then-not-self-clause-outside
+returns-then-not-self-clause-outside g c = λ honest. changes_none _ _
+
+pub returns-clause-outside : goal.returns-clause-outside
+returns-clause-outside g c = λ honest. rw (← c.self.view_is) (subst (λ d. ChangesFree (g.F.Files.content c.self.inside.files) (g.F.Files.content d) c.self.inside.slots) (sym c.settle.ensures.files) (c.accept-accepted.ensures.outside honest))
 
 pub returns-then-not-self-clause-clean : goal.returns-then-not-self-clause-clean
 returns-then-not-self-clause-clean g c = λ honest. clean_same _ _ refl
@@ -40,6 +48,7 @@ returns-clause-bad_file g c = λ honest.
 pub returns-clause-settles : goal.returns-clause-settles
 returns-clause-settles g c = record {
   down = search rules;
+  unchanged = search rules;
   up = search rules;
   slots =
       rw (← c.self.view_is) (settled_err g.F.Files.content c.self.inside.files c.accept-accepted.new.files c.settle.new.self.files c.self.inside.slots c.accept-accepted.new.slots c.settle.new.self.slots c.self.inside.is_up c.settle.new.self.is_up c.accept-accepted.result c.settle.result

@@ -1,8 +1,10 @@
-use Rattle.std.proofs.Common.{rules}
+use Rattle.std.proofs.Common.{rules, subst, sym}
 use Rattle.vc_files.proofs.WearLemmas.{writes_none}
 use Rattle.vc_quarantine.specs.Learning.{learnt_in}
+use Rattle.vc_shared.proofs.ArrivingLemmas.{changes_none}
 use Rattle.vc_shared.proofs.NextLemmas.{down_accepts, down_keeps, down_no_device, known_accepts, next_accepts, next_lost, next_none}
 use Rattle.vc_shared.proofs.LossLemmas.{loss_of_down, loss_of_same}
+use Rattle.vc_shared.specs.Pushing.{ChangesFree}
 use Rattle.vc_shared.proofs.shared.Shared.accept_from.Goals as goal
 
 pub returns-then-not-self-clause-accepts : goal.returns-then-not-self-clause-accepts
@@ -48,3 +50,9 @@ returns-clause-lost g c = record {
       rw (← c.self.view_is) (next_lost g.F.Files.content c.self.inside.files c.take_next-accepted.new.files c.settle_next.new.self.files c.self.inside.slots c.take_next-accepted.new.slots c.settle_next.new.self.slots c.settle_next.new.self.is_up
       c.take_next-accepted.result c.settle_next.result c.settle_next.ensures.accepted c.settle_next.ensures.files c.settle_next.ensures.slots c.self.inside.is_up c.if-not-self.false (c.settle_next.ensures.up c.if-not-self.false) (c.take_next-accepted.ensures.lost.kept honest));
 }
+
+pub returns-then-not-self-clause-outside : goal.returns-then-not-self-clause-outside
+returns-then-not-self-clause-outside g c = λ honest. changes_none _ _
+
+pub returns-clause-outside : goal.returns-clause-outside
+returns-clause-outside g c = λ honest. rw (← c.self.view_is) (subst (λ d. ChangesFree (g.F.Files.content c.self.inside.files) (g.F.Files.content d) c.self.inside.slots) (sym c.settle_next.ensures.files) (c.take_next-accepted.ensures.outside honest))

@@ -1,12 +1,11 @@
-use Rattle.std.proofs.Common.{Ok, Err, ap, inl, inr, refl, rules}
-use Rattle.std.specs.Prelude.{not}
+use Rattle.std.proofs.Common.{Ok, Err, inr, refl, rules}
 use Rattle.vc_files.proofs.WearLemmas.{writes_told}
 use Rattle.vc_model.specs.Question.Question.{PackRefs}
 use Rattle.vc_model.specs.SharedCall.SharedCall.{Asks}
 use Rattle.vc_local.specs.declared.fault.NodeFault.TheVariants.{Ref}
 use Rattle.vc_local.proofs.CleanLemmas.{packs_only}
 use Rattle.vc_local.proofs.LookLemmas.{looks_none, or_told}
-use Rattle.vc_local.proofs.RefBlames.{packing_blames, packing_unwritten}
+use Rattle.vc_local.proofs.RefBlames.{packing_unwritten}
 use Rattle.vc_quarantine.proofs.NumberLemmas.{agreement_outside}
 use Rattle.vc_shared.proofs.PackingLemmas.{packing_answers}
 use Rattle.vc_shared.proofs.ResolvingLemmas.{down_declines}
@@ -18,13 +17,13 @@ returns-then-not-self-clause-answers g c = λ honest. down_declines _ _ _ _ (Ask
 pub returns-in-Ok-clause-answers : goal.returns-in-Ok-clause-answers
 returns-in-Ok-clause-answers g c = λ honest.
     let content = g.F.Files.content in
-    rw (← c.self.view_is, c.if-not-self.false) (packing_answers (content c.self.inside.files) (content c.pack.new.files) (c.in-Ok.ensures.packs.rest honest) (c.in-Ok.ensures.packs.kept honest) c.self.inside.slots (Ok tt) tt)
+    rw (← c.self.view_is, c.if-not-self.false) (packing_answers (content c.self.inside.files) (content c.pack.new.files) (c.in-Ok.ensures.packs.rest honest) (c.in-Ok.ensures.packs.kept honest) c.self.inside.slots (Ok tt) (c.in-Ok.ensures.packs.packed honest) tt)
 
 pub returns-in-Err-clause-answers : goal.returns-in-Err-clause-answers
 returns-in-Err-clause-answers g c = λ honest.
     let content = g.F.Files.content in
-    rw (← c.self.view_is, c.if-not-self.false, c.is_fault.ensures, c.from-fault.ensures)
-    (packing_answers (content c.self.inside.files) (content c.pack.new.files) (c.in-Err.ensures.packs.rest honest) (c.in-Err.ensures.packs.kept honest) c.self.inside.slots (Err (Ref c.in-Err.fault)) (packing_blames _ _ (c.in-Err.ensures.refused honest)))
+    rw (← c.self.view_is, c.if-not-self.false, c.takes_down.ensures, c.from-fault.ensures)
+    (packing_answers (content c.self.inside.files) (content c.pack.new.files) (c.in-Err.ensures.packs.rest honest) (c.in-Err.ensures.packs.kept honest) c.self.inside.slots (Err (Ref c.in-Err.fault)) tt (c.in-Err.ensures.refused honest))
 
 pub returns-in-Ok-clause-kept : goal.returns-in-Ok-clause-kept
 returns-in-Ok-clause-kept g c = λ honest. rw (← c.self.view_is) (packs_only _ _ (c.in-Ok.ensures.packs.rest honest) (c.in-Ok.ensures.packs.kept honest))
@@ -33,7 +32,7 @@ pub returns-in-Err-clause-kept : goal.returns-in-Err-clause-kept
 returns-in-Err-clause-kept g c = λ honest. rw (← c.self.view_is) (packs_only _ _ (c.in-Err.ensures.packs.rest honest) (c.in-Err.ensures.packs.kept honest))
 
 pub returns-in-Err-clause-refused : goal.returns-in-Err-clause-refused
-returns-in-Err-clause-refused g c = λ honest. rw (← c.self.view_is, c.from-fault.ensures) (inr (packing_blames _ _ (c.in-Err.ensures.refused honest)))
+returns-in-Err-clause-refused g c = λ honest. rw (← c.self.view_is, c.from-fault.ensures) (inr (c.in-Err.ensures.refused honest))
 
 pub returns-in-Ok-clause-wear : goal.returns-in-Ok-clause-wear
 returns-in-Ok-clause-wear g c = rw (← c.self.view_is) (writes_told c.in-Ok.ensures.wear (search rules) (search rules))
@@ -43,8 +42,7 @@ returns-in-Err-clause-wear g c = rw (← c.self.view_is) (writes_told c.in-Err.e
 
 pub returns-in-Err-clause-err : goal.returns-in-Err-clause-err
 returns-in-Err-clause-err g c = λ honest.
-    rw (← c.self.view_is, c.is_fault.ensures, c.from-fault.ensures)
-    (elim (packing_unwritten c.in-Err.fault (c.in-Err.ensures.packs.err honest)) [ inl fault ↦ inl (ap not fault) | inr same ↦ inr same ])
+    rw (← c.self.view_is, c.from-fault.ensures) (packing_unwritten c.in-Err.fault (c.in-Err.ensures.packs.err honest))
 
 pub returns-then-not-self-clause-looks : goal.returns-then-not-self-clause-looks
 returns-then-not-self-clause-looks g c = λ honest. inr (looks_none (λ told. told))

@@ -6,7 +6,7 @@ use Rattle.vc_expression.specs.Views.{expr_view}
 use Rattle.vc_quarantine.proofs.NumberLemmas.{agreement_same}
 use Rattle.vc_shared.proofs.FoundLemmas.{no_value_answers, no_value_wears}
 use Rattle.vc_shared.proofs.ResolvingLemmas.{down_declines, values_answer}
-use Rattle.vc_shared.specs.Faults.{is_fault}
+use Rattle.vc_shared.specs.Faults.{takes_down}
 use Rattle.vc_shared.specs.declared.fault.SharedFault.{SharedFault}
 use Rattle.vc_shared.proofs.shared.Shared.resolve.Goals as goal
 
@@ -24,7 +24,7 @@ returns-in-Err-clause-answers g c = λ honest text spelled.
     let content = g.F.Files.content in
     rw (← c.self.view_is) (no_value_answers (content c.self.inside.files) (content c.fail.new.self.files) c.self.inside.slots c.fail.new.self.slots text (expr_view c.args.expr.now) c.self.inside.is_up c.fail.new.self.is_up c.in-Err.fault c.fail.result
     spelled (c.in-Err.ensures.refused honest) (ap content c.fail.ensures.files ∙ c.resolve.ensures.same) c.fail.ensures.slots (c.fail.ensures.fault ∙ c.from-fault.ensures) c.if-not-self.false
-    (c.fail.ensures.up c.if-not-self.false ∙ ap (λ (x : SharedFault). not (is_fault x)) (sym c.fail.ensures.fault)))
+    (c.fail.ensures.up c.if-not-self.false ∙ ap (λ (x : SharedFault). not (takes_down x)) (sym c.fail.ensures.fault)))
 
 pub returns-in-Err-clause-wear : goal.returns-in-Err-clause-wear
 returns-in-Err-clause-wear g c =

@@ -1,4 +1,4 @@
-use Rattle.std.proofs.Common.{◌∙◌, ap, refl, inl, inr, Ok, Err, rules, subst, sym}
+use Rattle.std.proofs.Common.{◌≡◌, ◌∙◌, ap, refl, inl, inr, Ok, Err, false, rules, subst, sym, true≢false}
 use Rattle.vc_model.specs.SharedCall.SharedCall.{StepOf}
 use Rattle.vc_local.proofs.CleanLemmas.{clean_same}
 use Rattle.vc_local.proofs.LookLemmas.{looks_none}
@@ -10,7 +10,7 @@ use Rattle.vc_shared.proofs.TellingLemmas.{written_report}
 use Rattle.vc_shared.specs.Calls.{SteppedAs}
 use Rattle.vc_shared.specs.Learning.{LearnsIn}
 use Rattle.vc_shared.specs.Slots.{slot_of}
-use Rattle.vc_shared.specs.Stepping.{IsRefusedIn}
+use Rattle.vc_shared.specs.Stepping.{EndsSlotEarly, IsRefusedIn}
 use Rattle.vc_shared.proofs.shared.Shared.step.Goals as goal
 
 pub returns-then-not-self-clause-answers : goal.returns-then-not-self-clause-answers
@@ -36,6 +36,16 @@ returns-then-not-self-clause-bad_file g c = λ honest. inl refl
 pub returns-in-Err-clause-bad_file : goal.returns-in-Err-clause-bad_file
 returns-in-Err-clause-bad_file g c = λ honest.
     rw (← c.self.view_is) (inr (told_as (IsRefusedIn (g.F.Files.content c.self.inside.files) (slot_of c.self.inside.slots c.args.slot)) c.in-Err.fault c.fail.result c.fail.ensures.fault (c.in-Err.ensures.refused honest)))
+
+pub returns-then-not-self-clause-early : goal.returns-then-not-self-clause-early
+returns-then-not-self-clause-early g c =
+    let down : c.args.self.now.is_up ≡ false = search rules in
+    λ honest up. absurd (true≢false (sym up ∙ down))
+
+pub returns-in-Err-clause-early : goal.returns-in-Err-clause-early
+returns-in-Err-clause-early g c = λ honest.
+    let content = g.F.Files.content in
+    rw (← c.self.view_is) (λ up held. subst (λ d. EndsSlotEarly (content c.self.inside.files) (content d) (slot_of c.self.inside.slots c.args.slot)) (sym c.fail.ensures.files) (c.in-Err.ensures.early honest held))
 
 pub returns-then-not-self-clause-clean : goal.returns-then-not-self-clause-clean
 returns-then-not-self-clause-clean g c = λ honest. clean_same _ _ refl
