@@ -18,35 +18,22 @@ pub trait Host: rt::Files + Beside<Self> + AllocGlobal + Clone + Drop {}
 
 impl<R: rt::Files + Beside<R> + AllocGlobal + Clone + Drop> Host for R {}
 
-/// What the rows work on. While a node is open it holds the files.
+/// Files, and the names that rows gave to their objects.
 #[derive(Drop)]
-pub struct Bench<R: Host> {
-    pub rt: R,
+pub struct Repository {
     pub alloc: Global,
     pub names: Names,
-    pub index: Index,
     pub files: Device,
-    pub scene: Scene<R>,
-    pub node: Option<CloneNode<Device>>,
-    pub author: Vec<u8>,
-    pub committer: Vec<u8>,
 }
 
-impl<R: Host> Bench<R> {
-    /// Nothing is there.
-    pub fn new(rt: R) -> Result<Bench<R>, AllocError> {
-        let alloc = rt.alloc();
-        Ok(Bench {
+impl Repository {
+    /// With no files.
+    pub fn new(alloc: Global) -> Repository {
+        Repository {
             alloc,
             names: BTreeMap::new(alloc),
-            index: Index::new(alloc),
             files: no_files(alloc),
-            scene: Scene::new(&rt)?,
-            node: None,
-            author: Vec::new(alloc),
-            committer: Vec::new(alloc),
-            rt,
-        })
+        }
     }
 
     /// Gives an object a name, and answers its digits.
@@ -54,6 +41,49 @@ impl<R: Host> Bench<R> {
         let name = String::from_str(self.alloc, name)?;
         self.names.insert(name, id)?;
         digits(self.alloc, id)
+    }
+}
+
+/// A clone, and who its commits are by. While its node is open it holds the repository's files.
+#[derive(Drop)]
+pub struct LocalClone {
+    pub node: Option<CloneNode<Device>>,
+    pub author: Vec<u8>,
+    pub committer: Vec<u8>,
+}
+
+impl LocalClone {
+    /// One that isn't open.
+    pub fn new(alloc: Global) -> LocalClone {
+        LocalClone {
+            node: None,
+            author: Vec::new(alloc),
+            committer: Vec::new(alloc),
+        }
+    }
+}
+
+/// What the rows work on. Few functions are handed all of it.
+#[derive(Drop)]
+pub struct Bench<R: Host> {
+    pub rt: R,
+    pub repository: Repository,
+    pub index: Index,
+    pub scene: Scene<R>,
+    pub clone: LocalClone,
+}
+
+impl<R: Host> Bench<R> {
+    /// Nothing is there.
+    pub fn new(rt: R, scene: Scene<R>) -> Bench<R> {
+        let alloc = rt.alloc();
+        Bench {
+            repository: Repository::new(alloc),
+            index: Index::new(alloc),
+            scene,
+            clone: LocalClone::new(alloc),
+            rt,
+        }
     }
 }
 

@@ -1,28 +1,28 @@
 //! Rows about an index: its files, its text and its trees.
-use crate::bench::{Bench, Host};
+use crate::bench::{Device, Repository};
 use crate::words::{Names, bytes, cut, digits, escaped, file_mode, id_of, or_word, push_item};
 use anyhow::{Error, Result, anyhow, bail};
-use std::alloc::Global;
+use std::alloc::{AllocError, Global};
 use std::collections::BTreeMap;
 use vc_index::{Index, IndexCursor, IndexFault};
 use vc_local::NodeFault;
-use vc_object::Mode;
+use vc_object::{Mode, ObjectId};
 
-pub fn row<R: Host>(bench: &mut Bench<R>, row: &str) -> Result<String> {
-    let alloc = bench.alloc;
+pub fn row(repository: &mut Repository, index: &mut Index, row: &str) -> Result<String> {
+    let alloc = repository.alloc;
     let (verb, rest) = cut(row);
     match verb {
-        "of" => bench.index = index_of(alloc, &bench.names, rest)?,
-        "add" => add(alloc, &bench.names, &mut bench.index, rest)?,
-        "remove" => bench.index.remove(&bytes(alloc, rest)?),
-        "fill" => fill(bench, rest)?,
-        "load" => load(bench, rest)?,
-        "list" => list(bench, rest)?,
-        "text" => return Ok(escaped(alloc, &bench.index.write(alloc)?)?),
-        "tree" => return tree(bench, rest),
-        "write" => return write(bench),
-        "read" => return read(bench, rest),
-        "seek" => return seek(bench, rest),
+        "of" => *index = index_of(alloc, &repository.names, rest)?,
+        "add" => add(alloc, &repository.names, index, rest)?,
+        "remove" => index.remove(&bytes(alloc, rest)?),
+        "fill" => fill(alloc, &repository.names, index, rest)?,
+        "load" => load(repository, index, rest)?,
+        "list" => list(repository, index, rest)?,
+        "text" => return Ok(text(alloc, index)?),
+        "tree" => return tree(repository, rest),
+        "write" => return write(alloc, &mut repository.files, index),
+        "read" => return read(repository, index, rest),
+        "seek" => return seek(alloc, index, rest),
         "cuts" => return cuts(alloc, rest),
         "change" => return change(alloc, rest),
         _ => bail!("no such row"),
@@ -30,16 +30,27 @@ pub fn row<R: Host>(bench: &mut Bench<R>, row: &str) -> Result<String> {
     Ok(String::new(alloc))
 }
 
-/// What a call on an index gave, or else the words of what refused it, with the place or the path.
-pub fn given<T>(alloc: Global, done: Result<T, IndexFault>) -> Result<T> {
+/// The words of what refused a call on an index, with the place or the path.
+pub fn refusal(alloc: Global, fault: IndexFault) -> Error {
+    match fault {
+        IndexFault::BadIndex(place) => anyhow!("62 BadIndex at {place}"),
+        IndexFault::WrongEntry(path) => wrong_entry(alloc, &path),
+        fault => NodeFault::from(fault).into(),
+    }
+}
+
+fn wrong_entry(alloc: Global, path: &[u8]) -> Error {
+    match escaped(alloc, path) {
+        Ok(path) => anyhow!("63 WrongEntry \"{path}\""),
+        Err(fault) => fault.into(),
+    }
+}
+
+// What a call on an index gave, or else the words of what refused it.
+fn given<T>(alloc: Global, done: Result<T, IndexFault>) -> Result<T> {
     match done {
         Ok(value) => Ok(value),
-        Err(IndexFault::BadIndex(place)) => bail!("62 BadIndex at {place}"),
-        Err(IndexFault::WrongEntry(path)) => {
-            let path = escaped(alloc, &path)?;
-            bail!("63 WrongEntry \"{path}\"")
-        }
-        Err(fault) => Err(NodeFault::from(fault).into()),
+        Err(fault) => Err(refusal(alloc, fault)),
     }
 }
 
@@ -51,83 +62,112 @@ fn add(alloc: Global, names: &Names, index: &mut Index, item: &str) -> Result<()
     given(alloc, index.add(alloc, &path, mode, id))
 }
 
-// The index of some items.
-fn index_of(alloc: Global, names: &Names, items: &str) -> Result<Index> {
-    let mut index = Index::new(alloc);
+fn add_all(alloc: Global, names: &Names, index: &mut Index, items: &str) -> Result<()> {
     for item in items.split(" | ") {
         if !item.is_empty() {
-            add(alloc, names, &mut index, item)?;
+            add(alloc, names, index, item)?;
         }
-    }
-    Ok(index)
-}
-
-// Adds so many files, whose paths are the first numbers with four digits, and 4,092 times `a`.
-fn fill<R: Host>(bench: &mut Bench<R>, rest: &str) -> Result<()> {
-    let (count, id) = cut(rest);
-    let id = id_of(&bench.names, id)?;
-    let long = bytes(bench.alloc, "{a*4092}")?;
-    for number in 0..count.parse::<u32>()? {
-        let mut path = format!(in bench.alloc; "{number:04}")?.into_bytes();
-        path.extend_from_slice(&long)?;
-        let done = bench.index.add(bench.alloc, &path, Mode::File, id);
-        given(bench.alloc, done)?;
     }
     Ok(())
 }
 
-fn load<R: Host>(bench: &mut Bench<R>, root: &str) -> Result<()> {
-    let root = id_of(&bench.names, root)?;
-    bench.index = given(
-        bench.alloc,
-        Index::from_tree(bench.alloc, &mut bench.files, &root),
-    )?;
+// The index of some items.
+fn index_of(alloc: Global, names: &Names, items: &str) -> Result<Index> {
+    let mut index = Index::new(alloc);
+    match add_all(alloc, names, &mut index, items) {
+        Ok(()) => Ok(index),
+        Err(fault) => Err(fault),
+    }
+}
+
+// Adds so many files, whose paths are the first numbers with four digits, and 4,092 times `a`.
+fn fill(alloc: Global, names: &Names, index: &mut Index, rest: &str) -> Result<()> {
+    let (count, id) = cut(rest);
+    let id = id_of(names, id)?;
+    let long = bytes(alloc, "{a*4092}")?;
+    for number in 0..count.parse::<u32>()? {
+        add_long(alloc, index, number, &long, id)?;
+    }
+    Ok(())
+}
+
+fn add_long(
+    alloc: Global,
+    index: &mut Index,
+    number: u32,
+    long: &[u8],
+    id: ObjectId,
+) -> Result<()> {
+    let mut path = format!(in alloc; "{number:04}")?.into_bytes();
+    path.extend_from_slice(long)?;
+    given(alloc, index.add(alloc, &path, Mode::File, id))
+}
+
+fn load(repository: &mut Repository, index: &mut Index, root: &str) -> Result<()> {
+    let root = id_of(&repository.names, root)?;
+    let loaded = Index::from_tree(repository.alloc, &mut repository.files, &root);
+    *index = given(repository.alloc, loaded)?;
     Ok(())
 }
 
 // Makes the index that of the files that a tree lists, whether they are there or not.
-fn list<R: Host>(bench: &mut Bench<R>, root: &str) -> Result<()> {
-    let root = id_of(&bench.names, root)?;
-    bench.index = given(
-        bench.alloc,
-        Index::list_tree(bench.alloc, &mut bench.files, &root),
-    )?;
+fn list(repository: &mut Repository, index: &mut Index, root: &str) -> Result<()> {
+    let root = id_of(&repository.names, root)?;
+    let listed = Index::list_tree(repository.alloc, &mut repository.files, &root);
+    *index = given(repository.alloc, listed)?;
     Ok(())
 }
 
+fn text(alloc: Global, index: &Index) -> Result<String, AllocError> {
+    let text = index.write(alloc)?;
+    escaped(alloc, &text)
+}
+
 // Writes the trees of an index of some items alone, and gives the root's a name.
-fn tree<R: Host>(bench: &mut Bench<R>, rest: &str) -> Result<String> {
+fn tree(repository: &mut Repository, rest: &str) -> Result<String> {
     let (name, items) = cut(rest);
-    let index = index_of(bench.alloc, &bench.names, items)?;
-    let id = given(bench.alloc, index.write_tree(bench.alloc, &mut bench.files))?;
-    Ok(bench.call(name, id)?)
+    let index = index_of(repository.alloc, &repository.names, items)?;
+    let written = index.write_tree(repository.alloc, &mut repository.files);
+    match written {
+        Ok(id) => Ok(repository.call(name, id)?),
+        Err(fault) => Err(refusal(repository.alloc, fault)),
+    }
 }
 
 // Writes the trees of the index.
-fn write<R: Host>(bench: &mut Bench<R>) -> Result<String> {
-    let written = bench.index.write_tree(bench.alloc, &mut bench.files);
-    Ok(digits(bench.alloc, given(bench.alloc, written)?)?)
+fn write(alloc: Global, files: &mut Device, index: &Index) -> Result<String> {
+    let id = given(alloc, index.write_tree(alloc, files))?;
+    Ok(digits(alloc, id)?)
 }
 
 // Makes the index that of a text, and answers the tree that stands for it.
-fn read<R: Host>(bench: &mut Bench<R>, text: &str) -> Result<String> {
-    let text = bytes(bench.alloc, text)?;
-    bench.index = given(bench.alloc, Index::read(bench.alloc, &text))?;
-    write(bench)
+fn read(repository: &mut Repository, index: &mut Index, text: &str) -> Result<String> {
+    let text = bytes(repository.alloc, text)?;
+    *index = given(repository.alloc, Index::read(repository.alloc, &text))?;
+    write(repository.alloc, &mut repository.files, index)
 }
 
 // What stands at each of the paths, looked up one after the other.
-fn seek<R: Host>(bench: &Bench<R>, paths: &str) -> Result<String> {
-    let mut cursor = IndexCursor::new(&bench.index);
-    let mut list = String::new(bench.alloc);
+fn seek(alloc: Global, index: &Index, paths: &str) -> Result<String> {
+    let mut cursor = IndexCursor::new(index);
+    let mut list = String::new(alloc);
     for path in paths.split(" | ") {
-        let item = match cursor.get(&bytes(bench.alloc, path)?) {
-            Some(entry) => digits(bench.alloc, entry.id)?,
-            None => String::from_str(bench.alloc, "none")?,
-        };
-        push_item(&mut list, " | ", item.as_str())?;
+        let path = bytes(alloc, path)?;
+        push_found(&mut list, alloc, &mut cursor, &path)?;
     }
     Ok(list)
+}
+
+fn push_found(
+    list: &mut String,
+    alloc: Global,
+    cursor: &mut IndexCursor<'_>,
+    path: &[u8],
+) -> Result<(), AllocError> {
+    match cursor.get(path) {
+        Some(entry) => push_item(list, " | ", digits(alloc, entry.id)?.as_str()),
+        None => push_item(list, " | ", "none"),
+    }
 }
 
 // Which texts were read, and where others are at fault.
@@ -138,14 +178,14 @@ fn count(alloc: Global, places: &mut Places, text: &[u8]) -> Result<()> {
     let place = match Index::read(alloc, text) {
         Ok(_) => None,
         Err(IndexFault::BadIndex(place)) => Some(place),
-        Err(fault) => return given(alloc, Err(fault)),
+        Err(fault) => return Err(refusal(alloc, fault)),
     };
     let count = places.entry(place)?.or_insert(0);
     *count = count.saturating_add(1);
     Ok(())
 }
 
-fn told(alloc: Global, places: &Places) -> Result<String> {
+fn told(alloc: Global, places: &Places) -> Result<String, AllocError> {
     let mut list = String::new(alloc);
     for (place, count) in places {
         let item = match place {
@@ -154,7 +194,7 @@ fn told(alloc: Global, places: &Places) -> Result<String> {
         };
         push_item(&mut list, ", ", item.as_str())?;
     }
-    Ok(or_word(list, "none")?)
+    or_word(list, "none")
 }
 
 // Cuts a text at each of its bytes.
@@ -164,7 +204,7 @@ fn cuts(alloc: Global, text: &str) -> Result<String> {
     for end in 0..text.len() {
         count(alloc, &mut places, &text[..end])?;
     }
-    told(alloc, &places)
+    Ok(told(alloc, &places)?)
 }
 
 // Puts a byte in place of each other byte behind so many of a text.
@@ -175,12 +215,23 @@ fn change(alloc: Global, rest: &str) -> Result<String> {
     let text = bytes(alloc, text)?;
     let mut places = BTreeMap::new(alloc);
     for at in front..text.len() {
-        let mut changed = text.clone()?;
-        match changed.get_mut(at) {
-            Some(old) if *old != byte => *old = byte,
-            _ => continue,
-        }
-        count(alloc, &mut places, &changed)?;
+        count_changed(alloc, &mut places, &text, at, byte)?;
     }
-    told(alloc, &places)
+    Ok(told(alloc, &places)?)
+}
+
+// Puts this byte at a place of a text and counts at which place that is at fault, unless it stands there already.
+fn count_changed(
+    alloc: Global,
+    places: &mut Places,
+    text: &[u8],
+    at: usize,
+    byte: u8,
+) -> Result<()> {
+    let mut changed = text.to_vec(alloc)?;
+    match changed.get_mut(at) {
+        Some(old) if *old != byte => *old = byte,
+        _ => return Ok(()),
+    }
+    count(alloc, places, &changed)
 }

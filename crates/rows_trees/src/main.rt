@@ -12,12 +12,14 @@ mod words;
 mod work;
 
 use crate::bench::{Bench, Host};
+use crate::scene::Scene;
 use anyhow::{Result, bail};
-use std::alloc::AllocError;
+use std::alloc::{AllocError, Global};
 use std::io::{self, BufRead, BufReader, Read};
 
 fn main(rt: HostRuntime) -> io::Result<()> {
-    let mut bench = Bench::new(rt.clone()?)?;
+    let host = rt.clone()?;
+    let mut bench = Bench::new(host, Scene::new(&rt)?);
     print_all(&rt, rt.reader(), &mut bench)
 }
 
@@ -27,46 +29,56 @@ fn print_all<R: Host + Print, I: Read + Drop>(
     bench: &mut Bench<R>,
 ) -> io::Result<()> {
     for line in BufReader::new(rt.alloc(), input)?.lines(rt.alloc()) {
-        let text = transcript(bench, line?.as_str())?;
+        let text = transcript(rt.alloc(), bench, line?.as_str())?;
         println!(rt; "{text}")?;
     }
     Ok(())
 }
 
 // A row and its answers; a comment and an empty line stay as they are.
-fn transcript<R: Host>(bench: &mut Bench<R>, row: &str) -> Result<String, AllocError> {
+fn transcript<R: Host>(
+    alloc: Global,
+    bench: &mut Bench<R>,
+    row: &str,
+) -> Result<String, AllocError> {
     if row.is_empty() || row.starts_with('#') {
-        return String::from_str(bench.alloc, row);
+        return String::from_str(alloc, row);
     }
-    let answers = answers(bench, row)?;
-    format!(in bench.alloc; "{row} = {answers}")
+    let answers = answers(alloc, bench, row)?;
+    format!(in alloc; "{row} = {answers}")
 }
 
 // What the steps of a row answer, but for those that have nothing to tell.
-fn answers<R: Host>(bench: &mut Bench<R>, row: &str) -> Result<String, AllocError> {
-    let mut list = String::new(bench.alloc);
+fn answers<R: Host>(alloc: Global, bench: &mut Bench<R>, row: &str) -> Result<String, AllocError> {
+    let mut list = String::new(alloc);
     for step in row.split(" ; ") {
-        let answer = match obey(bench, step) {
-            Ok(answer) => answer,
-            Err(refusal) => format!(in bench.alloc; "{refusal}")?,
-        };
-        if !answer.is_empty() {
-            words::push_item(&mut list, " ; ", answer.as_str())?;
-        }
+        push_answer(&mut list, alloc, obey(alloc, bench, step))?;
     }
     words::or_word(list, "done")
 }
 
-fn obey<R: Host>(bench: &mut Bench<R>, step: &str) -> Result<String> {
+// Writes an answer after others, or why there is none.
+fn push_answer(list: &mut String, alloc: Global, answer: Result<String>) -> Result<(), AllocError> {
+    let answer = match answer {
+        Ok(answer) => answer,
+        Err(refusal) => format!(in alloc; "{refusal}")?,
+    };
+    if answer.is_empty() {
+        return Ok(());
+    }
+    words::push_item(list, " ; ", answer.as_str())
+}
+
+fn obey<R: Host>(alloc: Global, bench: &mut Bench<R>, step: &str) -> Result<String> {
     let (group, rest) = words::cut(step);
     match group {
-        "index" => index::row(bench, rest),
-        "store" => store::row(bench, rest),
+        "index" => index::row(&mut bench.repository, &mut bench.index, rest),
+        "store" => store::row(&mut bench.repository, rest),
         "work" => work::row(bench, rest),
-        "disk" => disk::row(bench, rest),
-        "node" => node::row(bench, rest),
-        "value" => revision::value(bench, rest),
-        "set" => revision::set(bench, rest),
+        "disk" => disk::row(&bench.rt, alloc, rest),
+        "node" => node::row(&mut bench.clone, &mut bench.repository, rest),
+        "value" => revision::value(alloc, &mut bench.repository.files, rest),
+        "set" => revision::set(alloc, &mut bench.repository.files, rest),
         _ => bail!("no such row"),
     }
 }

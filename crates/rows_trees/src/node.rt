@@ -3,7 +3,7 @@ ghost use Rattle.std.specs.Prelude.{◌≡◌, IfOk, true, nat_eq, codes};
 ghost use Rattle.std.specs.List.{starts_with};
 ghost use Rattle.vc_local.specs.Blames.{IsLocalHead};
 
-use crate::bench::{Bench, Device, Host, no_files};
+use crate::bench::{Device, LocalClone, Repository, no_files};
 use crate::store::kind_of;
 use crate::words::{Names, bytes, cut, digits, file_mode, id_of};
 use anyhow::{Context, Result, bail};
@@ -11,42 +11,58 @@ use std::alloc::Global;
 use std::mem;
 use vc_local::Staged;
 use vc_node::CloneNode;
+use vc_object::ObjectId;
 use vc_refname::RefName;
 use vc_refs::Head;
 
-const NONE: &str = "no node is open";
-
-pub fn row<R: Host>(bench: &mut Bench<R>, row: &str) -> Result<String> {
+pub fn row(clone: &mut LocalClone, repository: &mut Repository, row: &str) -> Result<String> {
+    let alloc = repository.alloc;
     let (verb, rest) = cut(row);
     match verb {
-        "open" => open(bench)?,
-        "close" => bench.files = bench.node.take().context(NONE)?.close(),
-        "author" => bench.author = bytes(bench.alloc, rest)?,
-        "committer" => bench.committer = bytes(bench.alloc, rest)?,
-        "commit" => return commit(bench, rest),
-        _ => return call(bench, verb, rest),
+        "open" => open(clone, repository)?,
+        "close" => close(clone, &mut repository.files)?,
+        "author" => clone.author = bytes(alloc, rest)?,
+        "committer" => clone.committer = bytes(alloc, rest)?,
+        "commit" => return commit(clone, alloc, &repository.names, rest),
+        _ => return call(clone, alloc, &repository.names, verb, rest),
     }
-    Ok(String::new(bench.alloc))
+    Ok(String::new(alloc))
 }
 
-fn open<R: Host>(bench: &mut Bench<R>) -> Result<()> {
-    let files = mem::replace(&mut bench.files, no_files(bench.alloc));
-    match CloneNode::open(bench.alloc, files) {
+fn open(clone: &mut LocalClone, repository: &mut Repository) -> Result<()> {
+    let alloc = repository.alloc;
+    let files = mem::replace(&mut repository.files, no_files(alloc));
+    match CloneNode::open(alloc, files) {
         Ok(node) => {
-            bench.node = Some(node);
+            clone.node = Some(node);
             Ok(())
         }
         Err((files, fault)) => {
-            bench.files = files;
+            repository.files = files;
             Err(fault.into())
         }
     }
 }
 
+fn close(clone: &mut LocalClone, files: &mut Device) -> Result<()> {
+    let Some(node) = clone.node.take() else {
+        bail!("no node is open");
+    };
+    *files = node.close();
+    Ok(())
+}
+
 // A call of the node, but for a commit.
-fn call<R: Host>(bench: &mut Bench<R>, verb: &str, rest: &str) -> Result<String> {
-    let (alloc, names) = (bench.alloc, &bench.names);
-    let node = bench.node.as_mut().context(NONE)?;
+fn call(
+    clone: &mut LocalClone,
+    alloc: Global,
+    names: &Names,
+    verb: &str,
+    rest: &str,
+) -> Result<String> {
+    let Some(node) = &mut clone.node else {
+        bail!("no node is open");
+    };
     match verb {
         "write" => return write(alloc, node, rest),
         "add" => add(alloc, node, rest)?,
@@ -92,17 +108,27 @@ fn stage(alloc: Global, node: &mut CloneNode<Device>, names: &Names, rest: &str)
     Ok(())
 }
 
-// Commits the index with a message, and further parents behind HEAD's commit.
-fn commit<R: Host>(bench: &mut Bench<R>, rest: &str) -> Result<String> {
-    let (message, words) = cut(rest);
-    let message = bytes(bench.alloc, message)?;
-    let mut parents = Vec::new(bench.alloc);
+// The objects that the words name.
+fn ids_of(alloc: Global, names: &Names, words: &str) -> Result<Vec<ObjectId>> {
+    let mut ids = Vec::new(alloc);
     for word in words.split_whitespace() {
-        parents.push(id_of(&bench.names, word)?)?;
+        ids.push(id_of(names, word)?)?;
     }
-    let node = bench.node.as_mut().context(NONE)?;
-    let id = node.commit(&parents, &bench.author, &bench.committer, &message)?;
-    Ok(digits(bench.alloc, id)?)
+    Ok(ids)
+}
+
+// Commits the index with a message, and further parents behind HEAD's commit.
+fn commit(clone: &mut LocalClone, alloc: Global, names: &Names, rest: &str) -> Result<String> {
+    let (message, words) = cut(rest);
+    let message = bytes(alloc, message)?;
+    let parents = ids_of(alloc, names, words)?;
+    let Some(node) = &mut clone.node else {
+        bail!("no node is open");
+    };
+    match node.commit(&parents, &clone.author, &clone.committer, &message) {
+        Ok(id) => Ok(digits(alloc, id)?),
+        Err(fault) => Err(fault.into()),
+    }
 }
 
 // The branch of this name.

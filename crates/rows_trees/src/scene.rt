@@ -1,14 +1,15 @@
 //! The work tree of the rows: in memory or in a real folder, of which a row may have one call fail.
 ghost use Rattle.std.specs.Prelude.{◌≡◌, ◌≤◌, IsErrOf};
 ghost use Rattle.vc_files.specs.Failures.{HasFailed, unstopped};
+ghost use Rattle.vc_work_folder.specs.Holding.{is_held};
 
 use crate::bench::Host;
 use std::alloc::{AllocError, Global};
 use std::marker::Model;
-use vc_checkout::{MemoryTree, WorkTree};
 use vc_files::Fault;
 use vc_object::ObjectId;
 use vc_work_folder::FolderTree;
+use vc_work_tree::{MemoryTree, WorkTree};
 
 /// Two work trees, of which one is used. So many calls pass, the next one fails without effect, and all later ones pass.
 #[derive(Drop)]
@@ -33,9 +34,10 @@ impl<R: Host> Scene<R> {
     pub fn new(rt: &R) -> Result<Scene<R>, AllocError> {
         let path = String::from_str(rt.alloc(), "work")?;
         let store = String::from_str(rt.alloc(), "store")?;
+        let rest = String::new(rt.alloc());
         Ok(Scene {
+            folder: FolderTree::new(rt.clone()?, path, rest, store),
             memory: MemoryTree::new(rt.alloc()),
-            folder: FolderTree::new(rt.clone()?, path, String::new(rt.alloc()), store),
             on_disk: false,
             left: u64::MAX,
             failed: 0,
@@ -63,10 +65,45 @@ impl<R: Host> Scene<R> {
         self.folder.failures()
     }
 
+    // The call at the tree that is used. What this can hold stays as it was.
+    fn read_there(&mut self, alloc: Global, path: &str) -> Result<Option<Vec<u8>>, Fault>
+        ensures holds { is_held self.new.1 ≡ is_held self.old.1 }
+        ensures count { self.new.0 ≡ self.old.0 }
+    {
+        if self.on_disk {
+            self.folder.read(alloc, path)
+        } else {
+            self.memory.read(alloc, path)
+        }
+    }
+
+    fn name_there(&mut self, alloc: Global, path: &str) -> Result<Option<ObjectId>, Fault>
+        ensures holds { is_held self.new.1 ≡ is_held self.old.1 }
+        ensures count { self.new.0 ≡ self.old.0 }
+    {
+        if self.on_disk {
+            self.folder.name(alloc, path)
+        } else {
+            self.memory.name(alloc, path)
+        }
+    }
+
+    fn list_there(&mut self, alloc: Global) -> Result<Vec<String>, Fault>
+        ensures holds { is_held self.new.1 ≡ is_held self.old.1 }
+        ensures count { self.new.0 ≡ self.old.0 }
+    {
+        if self.on_disk {
+            self.folder.list(alloc)
+        } else {
+            self.memory.list(alloc)
+        }
+    }
+
     // Counts a call, and refuses the one that is to fail.
     fn pass(&mut self) -> Result<(), Fault>
         ensures later { self.old.0 ≤ self.new.0 }
         ensures device { IsErrOf result Fault.Device → HasFailed self.old.0 self.new.0 }
+        ensures above { self.new.1 ≡ self.old.1 }
     {
         if self.left > 0 {
             self.left -= 1;
@@ -80,6 +117,7 @@ impl<R: Host> Scene<R> {
     fn settle<T>(&mut self, done: Result<T, Fault>) -> Result<T, Fault>
         ensures later { self.old.0 ≤ self.new.0 }
         ensures device { IsErrOf result Fault.Device → HasFailed self.old.0 self.new.0 }
+        ensures above { self.new.1 ≡ self.old.1 }
     {
         match done {
             Ok(value) => Ok(value),
@@ -119,19 +157,13 @@ impl<R: Host> WorkTree for Scene<R> {
 
     fn read(&mut self, alloc: Global, path: &str) -> Result<Option<Vec<u8>>, Fault> {
         self.pass()?;
-        let done = match self.on_disk {
-            true => self.folder.read(alloc, path),
-            false => self.memory.read(alloc, path),
-        };
+        let done = self.read_there(alloc, path);
         self.settle(done)
     }
 
     fn name(&mut self, alloc: Global, path: &str) -> Result<Option<ObjectId>, Fault> {
         self.pass()?;
-        let done = match self.on_disk {
-            true => self.folder.name(alloc, path),
-            false => self.memory.name(alloc, path),
-        };
+        let done = self.name_there(alloc, path);
         self.settle(done)
     }
 
@@ -173,10 +205,7 @@ impl<R: Host> WorkTree for Scene<R> {
 
     fn list(&mut self, alloc: Global) -> Result<Vec<String>, Fault> {
         self.pass()?;
-        let done = match self.on_disk {
-            true => self.folder.list(alloc),
-            false => self.memory.list(alloc),
-        };
+        let done = self.list_there(alloc);
         self.settle(done)
     }
 

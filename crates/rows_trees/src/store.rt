@@ -1,39 +1,45 @@
 //! Rows about the files of a store: its objects, its refs and HEAD, and files as such.
-use crate::bench::{Bench, Host, no_files};
+use crate::bench::{Device, Repository, no_files};
 use crate::words::{bytes, cut, digits, id_of, or_word, push_item};
 use anyhow::{Context, Result, bail};
-use std::alloc::AllocError;
+use std::alloc::{AllocError, Global};
 use std::mem;
 use vc_files::{Files, FusedFiles};
 use vc_graph::is_complete;
 use vc_object::{Kind, ObjectId};
+use vc_refname::RefName;
 use vc_refs::Head;
 use vc_store::Store;
 
-pub fn row<R: Host>(bench: &mut Bench<R>, row: &str) -> Result<String> {
+pub fn row(repository: &mut Repository, row: &str) -> Result<String> {
+    let alloc = repository.alloc;
     let (verb, rest) = cut(row);
     let (name, text) = cut(rest);
     match verb {
-        "new" => bench.files = no_files(bench.alloc),
-        "stop-after" => bench.files.stop_after(rest.parse::<u64>()?),
-        "restart" => restart(bench),
-        "file" => bench
-            .files
-            .put(bench.alloc, name, &bytes(bench.alloc, text)?)?,
-        "put" => return put(bench, name, text),
-        "tree" => return tree(bench, name, text),
-        "nest" => return nest(bench, name, text),
-        "refs" => return refs(bench),
-        "head" => return head(bench),
+        "new" => repository.files = no_files(alloc),
+        "stop-after" => repository.files.stop_after(rest.parse::<u64>()?),
+        "restart" => restart(alloc, &mut repository.files),
+        "file" => file(alloc, &mut repository.files, name, text)?,
+        "put" => return put(repository, name, text),
+        "tree" => return tree(repository, name, text),
+        "nest" => return nest(repository, name, text),
+        "refs" => return refs(alloc, &mut repository.files),
+        "head" => return head(alloc, &mut repository.files),
         _ => bail!("no such row"),
     }
-    Ok(String::new(bench.alloc))
+    Ok(String::new(alloc))
 }
 
 // Opens the files again, after a stop.
-fn restart<R: Host>(bench: &mut Bench<R>) {
-    let stopped = mem::replace(&mut bench.files, no_files(bench.alloc));
-    bench.files = FusedFiles::new(stopped.into_inner());
+fn restart(alloc: Global, files: &mut Device) {
+    let stopped = mem::replace(files, no_files(alloc));
+    *files = FusedFiles::new(stopped.into_inner());
+}
+
+fn file(alloc: Global, files: &mut Device, path: &str, text: &str) -> Result<()> {
+    let bytes = bytes(alloc, text)?;
+    files.put(alloc, path, &bytes)?;
+    Ok(())
 }
 
 /// The kind of objects that a word names.
@@ -41,12 +47,17 @@ pub fn kind_of(word: &str) -> Result<Kind> {
     Kind::from_word(word.as_bytes()).context("no kind")
 }
 
+// Stores an object, and gives it a name.
+fn call(repository: &mut Repository, name: &str, kind: Kind, body: &[u8]) -> Result<String> {
+    let id = vc_store::put(&mut repository.files, repository.alloc, kind, body)?;
+    Ok(repository.call(name, id)?)
+}
+
 // Stores an object of a kind and a body, and gives it a name.
-fn put<R: Host>(bench: &mut Bench<R>, name: &str, text: &str) -> Result<String> {
+fn put(repository: &mut Repository, name: &str, text: &str) -> Result<String> {
     let (kind, body) = cut(text);
-    let body = bytes(bench.alloc, body)?;
-    let id = vc_store::put(&mut bench.files, bench.alloc, kind_of(kind)?, &body)?;
-    Ok(bench.call(name, id)?)
+    let body = bytes(repository.alloc, body)?;
+    call(repository, name, kind_of(kind)?, &body)
 }
 
 // Writes an entry of a tree behind others.
@@ -58,61 +69,71 @@ fn push_entry(body: &mut Vec<u8>, mode: &str, name: &[u8], id: ObjectId) -> Resu
     body.extend_from_slice(&id.0)
 }
 
-// Stores a tree of some entries, each a mode, a name and a name of an object, and gives it a name.
-fn tree<R: Host>(bench: &mut Bench<R>, name: &str, entries: &str) -> Result<String> {
-    let alloc = bench.alloc;
-    let mut body = Vec::new(alloc);
+// The same of an entry that a row spells: a mode, a name and a name of an object.
+fn push_spelled(body: &mut Vec<u8>, repository: &Repository, entry: &str) -> Result<()> {
+    let (mode, rest) = cut(entry);
+    let (name, id) = cut(rest);
+    let name = bytes(repository.alloc, name)?;
+    push_entry(body, mode, &name, id_of(&repository.names, id)?)?;
+    Ok(())
+}
+
+// Stores a tree of some entries, and gives it a name.
+fn tree(repository: &mut Repository, name: &str, entries: &str) -> Result<String> {
+    let mut body = Vec::new(repository.alloc);
     for entry in entries.split(" | ") {
-        let (mode, rest) = cut(entry);
-        let (name, id) = cut(rest);
-        push_entry(
-            &mut body,
-            mode,
-            &bytes(alloc, name)?,
-            id_of(&bench.names, id)?,
-        )?;
+        push_spelled(&mut body, repository, entry)?;
     }
-    let id = vc_store::put(&mut bench.files, alloc, Kind::Tree, &body)?;
-    Ok(bench.call(name, id)?)
+    call(repository, name, Kind::Tree, &body)
+}
+
+// Stores a tree of one folder.
+fn put_folder(repository: &mut Repository, id: ObjectId) -> Result<ObjectId> {
+    let mut body = Vec::new(repository.alloc);
+    push_entry(&mut body, "40000", b"d", id)?;
+    Ok(vc_store::put(&mut repository.files, repository.alloc, Kind::Tree, &body)?)
 }
 
 // Lays a tree into a tree as the folder `d`, that one into another, and so on so often.
-fn nest<R: Host>(bench: &mut Bench<R>, name: &str, rest: &str) -> Result<String> {
+fn nest(repository: &mut Repository, name: &str, rest: &str) -> Result<String> {
     let (count, inner) = cut(rest);
-    let mut id = id_of(&bench.names, inner)?;
+    let mut id = id_of(&repository.names, inner)?;
     for _ in 0..count.parse::<u32>()? {
-        let mut body = Vec::new(bench.alloc);
-        push_entry(&mut body, "40000", b"d", id)?;
-        id = vc_store::put(&mut bench.files, bench.alloc, Kind::Tree, &body)?;
+        id = put_folder(repository, id)?;
     }
-    Ok(bench.call(name, id)?)
+    Ok(repository.call(name, id)?)
 }
 
 // The refs, their values, and whether all is there that each reaches.
-fn refs<R: Host>(bench: &mut Bench<R>) -> Result<String> {
-    let alloc = bench.alloc;
+fn refs(alloc: Global, files: &mut Device) -> Result<String> {
     let mut list = String::new(alloc);
-    for (name, id) in &vc_refs::list(&mut bench.files, alloc)? {
-        let mut store = Store::new(alloc, &mut bench.files);
-        let whole = if is_complete(alloc, &mut store, id)? {
-            "complete"
-        } else {
-            "incomplete"
-        };
-        let digits = digits(alloc, *id)?;
-        push_item(
-            &mut list,
-            " | ",
-            format!(in alloc; "{name} {digits} {whole}")?.as_str(),
-        )?;
+    for (name, id) in &vc_refs::list(files, alloc)? {
+        push_ref(&mut list, alloc, files, name, *id)?;
     }
     Ok(or_word(list, "none")?)
 }
 
-fn head<R: Host>(bench: &mut Bench<R>) -> Result<String> {
-    match vc_refs::head(&mut bench.files, bench.alloc)? {
+fn push_ref(
+    list: &mut String,
+    alloc: Global,
+    files: &mut Device,
+    name: &RefName,
+    id: ObjectId,
+) -> Result<()> {
+    let whole = match is_complete(alloc, &mut Store::new(alloc, files), &id)? {
+        true => "complete",
+        false => "incomplete",
+    };
+    let digits = digits(alloc, id)?;
+    let item = format!(in alloc; "{name} {digits} {whole}")?;
+    push_item(list, " | ", item.as_str())?;
+    Ok(())
+}
+
+fn head(alloc: Global, files: &mut Device) -> Result<String> {
+    match vc_refs::head(files, alloc)? {
         None => bail!("none"),
-        Some(Head::Branch(name)) => Ok(format!(in bench.alloc; "{name}")?),
-        Some(Head::Id(id)) => Ok(digits(bench.alloc, id)?),
+        Some(Head::Branch(name)) => Ok(String::from_str(alloc, name.as_str())?),
+        Some(Head::Id(id)) => Ok(digits(alloc, id)?),
     }
 }

@@ -1,28 +1,47 @@
 //! Rows about a work tree: its files and folders, checkouts and what differs.
-use crate::bench::{Bench, Host};
-use crate::index::given;
+use crate::bench::{Bench, Device, Host, Repository};
+use crate::index::refusal;
 use crate::scene::Scene;
 use crate::words::{bytes, cut, digits, escaped, id_of, or_word, push_item};
-use anyhow::{Result, bail};
-use std::alloc::Global;
+use anyhow::{Error, Result, anyhow, bail};
+use std::alloc::{AllocError, Global};
 use std::{fs, io};
-use vc_checkout::{Change, CheckoutFault, IndexChange, MemoryTree, WorkChange, WorkTree};
+use vc_checkout::{Change, CheckoutFault, IndexChange, WorkChange};
 use vc_index::Index;
 use vc_object::ObjectId;
+use vc_work_tree::{MemoryTree, WorkTree};
 
 pub fn row<R: Host>(bench: &mut Bench<R>, row: &str) -> Result<String> {
-    let alloc = bench.alloc;
     let (verb, rest) = cut(row);
     match verb {
-        "memory" => start(bench, false, rest)?,
-        "folder" => start(bench, true, rest)?,
-        "fail-after" => bench.scene.fail_after(rest.parse::<u64>()?),
-        "checkout" => return checkout(bench, rest),
-        "status" => return status(bench, rest),
-        "files" => return files(alloc, &mut bench.scene),
-        "has-folder" => return truth(alloc, bench.scene.has_folder(rest)),
-        "failures" => return failures(alloc, &bench.scene),
-        _ => return call(alloc, &mut bench.scene, verb, rest),
+        "folder" => {
+            new_folder(&bench.rt)?;
+            bench.scene.start(bench.rt.alloc(), true);
+            fill(bench.rt.alloc(), &mut bench.scene, rest)
+        }
+        "checkout" => checkout(
+            &mut bench.scene,
+            &mut bench.repository,
+            &mut bench.index,
+            rest,
+        ),
+        "status" => status(&mut bench.scene, &mut bench.repository, &bench.index, rest),
+        _ => own_row(bench.rt.alloc(), &mut bench.scene, verb, rest),
+    }
+}
+
+// A row about the work tree alone.
+fn own_row<R: Host>(alloc: Global, scene: &mut Scene<R>, verb: &str, rest: &str) -> Result<String> {
+    match verb {
+        "memory" => {
+            scene.start(alloc, false);
+            return fill(alloc, scene, rest);
+        }
+        "fail-after" => scene.fail_after(rest.parse::<u64>()?),
+        "files" => return files(alloc, scene),
+        "has-folder" => return truth(alloc, scene.has_folder(rest)),
+        "failures" => return failures(alloc, scene),
+        _ => return call(alloc, scene, verb, rest),
     }
     Ok(String::new(alloc))
 }
@@ -30,7 +49,7 @@ pub fn row<R: Host>(bench: &mut Bench<R>, row: &str) -> Result<String> {
 // A call of the work tree.
 fn call<R: Host>(alloc: Global, scene: &mut Scene<R>, verb: &str, rest: &str) -> Result<String> {
     let (path, text) = cut(rest);
-    match verb {
+    let changed = match verb {
         "read" => match scene.read(alloc, path)? {
             Some(text) => return Ok(escaped(alloc, &text)?),
             None => bail!("none"),
@@ -40,11 +59,12 @@ fn call<R: Host>(alloc: Global, scene: &mut Scene<R>, verb: &str, rest: &str) ->
             None => bail!("none"),
         },
         "remove-folder" => return truth(alloc, scene.remove_folder(alloc, path)?),
-        "write" => scene.write(alloc, path, &bytes(alloc, text)?)?,
-        "remove" => scene.remove(alloc, path)?,
-        "make-folder" => scene.make_folder(alloc, path)?,
+        "write" => scene.write(alloc, path, &bytes(alloc, text)?),
+        "remove" => scene.remove(alloc, path),
+        "make-folder" => scene.make_folder(alloc, path),
         _ => bail!("no such row"),
-    }
+    };
+    changed?;
     Ok(String::new(alloc))
 }
 
@@ -60,19 +80,14 @@ fn new_folder<R: Host>(rt: &R) -> io::Result<()> {
     fs::create_dir(rt, "work")
 }
 
-// A new work tree with some files, each a path, `=` and the content.
-fn start<R: Host>(bench: &mut Bench<R>, on_disk: bool, items: &str) -> Result<()> {
-    if on_disk {
-        new_folder(&bench.rt)?;
-    }
-    bench.scene.start(bench.alloc, on_disk);
+// Writes some files, each a path, `=` and the content, into a new work tree.
+fn fill<R: Host>(alloc: Global, scene: &mut Scene<R>, items: &str) -> Result<String> {
     for item in items.split(" | ") {
         if let Some((path, text)) = item.split_once('=') {
-            let text = bytes(bench.alloc, text)?;
-            bench.scene.write(bench.alloc, path, &text)?;
+            scene.write(alloc, path, &bytes(alloc, text)?)?;
         }
     }
-    Ok(())
+    Ok(String::new(alloc))
 }
 
 // How often calls failed, and how often the folder did.
@@ -85,92 +100,121 @@ fn failures<R: Host>(alloc: Global, scene: &Scene<R>) -> Result<String> {
 fn files<R: Host>(alloc: Global, scene: &mut Scene<R>) -> Result<String> {
     let mut list = String::new(alloc);
     for path in &scene.list(alloc)? {
-        let Some(text) = scene.read(alloc, path.as_str())? else {
-            bail!("{path} is listed and not there");
-        };
-        let text = escaped(alloc, &text)?;
-        push_item(
-            &mut list,
-            " | ",
-            format!(in alloc; "{path}={text}")?.as_str(),
-        )?;
+        push_file(&mut list, alloc, scene, path.as_str())?;
     }
     Ok(or_word(list, "none")?)
 }
 
-// What a call gave, or else the words of what refused it, with the path.
-fn passed<T>(alloc: Global, done: Result<T, CheckoutFault>) -> Result<T> {
-    let (word, path) = match done {
-        Ok(value) => return Ok(value),
-        Err(CheckoutFault::Index(fault)) => return given(alloc, Err(fault)),
-        Err(CheckoutFault::LocalChange(path)) => ("70 LocalChange", path),
-        Err(CheckoutFault::InTheWay(path)) => ("71 InTheWay", path),
-        Err(CheckoutFault::BadPath(path)) => ("60 BadPath", path),
-        Err(CheckoutFault::NotText(path)) => ("72 NotText", path),
+fn push_file<R: Host>(
+    list: &mut String,
+    alloc: Global,
+    scene: &mut Scene<R>,
+    path: &str,
+) -> Result<()> {
+    let Some(text) = scene.read(alloc, path)? else {
+        bail!("{path} is listed and not there");
     };
-    let path = escaped(alloc, &path)?;
-    bail!("{word} {path}")
+    let text = escaped(alloc, &text)?;
+    let item = format!(in alloc; "{path}={text}")?;
+    push_item(list, " | ", item.as_str())?;
+    Ok(())
+}
+
+// The words of what refused a call, with the path.
+fn refused(alloc: Global, fault: CheckoutFault) -> Error {
+    let (word, path) = match fault {
+        CheckoutFault::Index(fault) => return refusal(alloc, fault),
+        CheckoutFault::LocalChange(path) => ("70 LocalChange", path),
+        CheckoutFault::InTheWay(path) => ("71 InTheWay", path),
+        CheckoutFault::BadPath(path) => ("60 BadPath", path),
+        CheckoutFault::NotText(path) => ("72 NotText", path),
+    };
+    match escaped(alloc, &path) {
+        Ok(path) => anyhow!("{word} {path}"),
+        Err(fault) => fault.into(),
+    }
 }
 
 // Brings the work tree to the files that a tree lists, and answers these.
-fn check_out<R: Host>(bench: &mut Bench<R>, tree: &ObjectId) -> Result<Index, CheckoutFault> {
-    let alloc = bench.alloc;
-    let tree = Index::list_tree(alloc, &mut bench.files, tree)?;
-    vc_checkout::checkout(
-        alloc,
-        &mut bench.scene,
-        &mut bench.files,
-        &bench.index,
-        &tree,
-    )?;
-    Ok(tree)
+fn check_out<R: Host>(
+    alloc: Global,
+    scene: &mut Scene<R>,
+    files: &mut Device,
+    index: &Index,
+    tree: &ObjectId,
+) -> Result<Index, CheckoutFault> {
+    let tree = Index::list_tree(alloc, files, tree)?;
+    match vc_checkout::checkout(alloc, scene, files, index, &tree) {
+        Ok(()) => Ok(tree),
+        Err(fault) => Err(fault),
+    }
 }
 
 // Brings the work tree to a tree, and answers which files it then has, also where it was refused or a call failed.
-fn checkout<R: Host>(bench: &mut Bench<R>, tree: &str) -> Result<String> {
-    let alloc = bench.alloc;
-    let tree = id_of(&bench.names, tree)?;
-    let done = check_out(bench, &tree);
-    bench.scene.fail_after(u64::MAX);
-    let files = files(alloc, &mut bench.scene)?;
-    match passed(alloc, done) {
-        Ok(index) => {
-            bench.index = index;
+fn checkout<R: Host>(
+    scene: &mut Scene<R>,
+    repository: &mut Repository,
+    index: &mut Index,
+    tree: &str,
+) -> Result<String> {
+    let alloc = repository.alloc;
+    let tree = id_of(&repository.names, tree)?;
+    let done = check_out(alloc, scene, &mut repository.files, index, &tree);
+    scene.fail_after(u64::MAX);
+    outcome(alloc, scene, index, done)
+}
+
+// The files that are there then, after what refused the call.
+fn outcome<R: Host>(
+    alloc: Global,
+    scene: &mut Scene<R>,
+    index: &mut Index,
+    done: Result<Index, CheckoutFault>,
+) -> Result<String> {
+    let files = files(alloc, scene)?;
+    match done {
+        Ok(tree) => {
+            *index = tree;
             Ok(files)
         }
-        Err(fault) => Ok(format!(in alloc; "{fault}: {files}")?),
+        Err(fault) => {
+            let fault = refused(alloc, fault);
+            Ok(format!(in alloc; "{fault}: {files}")?)
+        }
     }
 }
 
-fn status<R: Host>(bench: &mut Bench<R>, tree: &str) -> Result<String> {
-    let alloc = bench.alloc;
+fn status<R: Host>(
+    scene: &mut Scene<R>,
+    repository: &mut Repository,
+    index: &Index,
+    tree: &str,
+) -> Result<String> {
+    let alloc = repository.alloc;
     let tree = match tree {
         "" => None,
-        word => Some(id_of(&bench.names, word)?),
+        word => Some(id_of(&repository.names, word)?),
     };
-    let done = vc_checkout::status(
-        alloc,
-        &mut bench.scene,
-        &mut bench.files,
-        &bench.index,
-        tree,
-    );
-    letters(alloc, &passed(alloc, done)?)
+    match vc_checkout::status(alloc, scene, &mut repository.files, index, tree) {
+        Ok(changes) => Ok(letters(alloc, &changes)?),
+        Err(fault) => Err(refused(alloc, fault)),
+    }
 }
 
 // The changes, each as a letter for the index, one for the work tree, and the path.
-fn letters(alloc: Global, changes: &[Change]) -> Result<String> {
+fn letters(alloc: Global, changes: &[Change]) -> Result<String, AllocError> {
     let mut list = String::new(alloc);
     for change in changes {
-        let path = escaped(alloc, &change.path)?;
-        let (index, work) = (index_letter(change.index), work_letter(change.work));
-        push_item(
-            &mut list,
-            " | ",
-            format!(in alloc; "{index}{work} {path}")?.as_str(),
-        )?;
+        push_change(&mut list, alloc, change)?;
     }
-    Ok(or_word(list, "nothing differs")?)
+    or_word(list, "nothing differs")
+}
+
+fn push_change(list: &mut String, alloc: Global, change: &Change) -> Result<(), AllocError> {
+    let path = escaped(alloc, &change.path)?;
+    let (index, work) = (index_letter(change.index), work_letter(change.work));
+    let item = format!(in alloc; "{index}{work} {path}")?;
+    push_item(list, " | ", item.as_str())
 }
 
 fn index_letter(change: IndexChange) -> char {

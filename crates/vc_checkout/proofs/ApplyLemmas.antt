@@ -1,5 +1,5 @@
 -- The work tree, one path after another.
-use Rattle.std.proofs.Common.{◌≡◌, ◌≢◌, ℕ, true, false, cond, ◌||◌, List, ◌∷◌, map, Option, Some, None, sym, ap, refl, ◌∙◌, subst, ◌⊎◌, inl, inr}
+use Rattle.std.proofs.Common.{◌≡◌, ◌≢◌, ℕ, true, false, ◌||◌, List, ◌∷◌, map, Option, Some, None, sym, ap, refl, ◌∙◌, subst, ◌⊎◌, inl, inr}
 use Rattle.std.specs.Prelude.{Vec, IsSome, is_some, bytes_eq, option_map}
 use Rattle.std.specs.Global.{Global}
 use Rattle.std.specs.FinMap as files
@@ -7,7 +7,6 @@ use Rattle.std.specs.FinMap.{get}
 use Rattle.std.proofs.lemmas.Slice.Eq.{bytes_eq-Decides}
 use Rattle.std.proofs.lemmas.Bool.{false_from_ne_true}
 use Rattle.vc_files.specs.FileMap.{FileMap}
-use Rattle.vc_files.proofs.FileMapLemmas.{get-put, get-unput}
 use Rattle.vc_object.specs.ObjectMap.{ObjectMap}
 use Rattle.vc_object.specs.declared.id.ObjectId.{ObjectId}
 use Rattle.vc_object.specs.declared.mode.Mode.{Mode}
@@ -15,27 +14,14 @@ use Rattle.vc_object.specs.declared.mode.Mode.TheVariants as modes
 use Rattle.vc_index.specs.IndexMap.{IndexMap}
 use Rattle.vc_index.specs.declared.entry.IndexEntry.{IndexEntry}
 use Rattle.vc_index.proofs.MapLemmas.{same_text, no_some}
+use Rattle.vc_work_tree.proofs.ChangeLemmas.{put_at, put_others, removed_at, removed_others}
 use Rattle.vc_checkout.specs.CheckedOut.{IsCheckedOut, IsCleared, IsOldOrCheckedOut, IsWritten, StepAt, StepOrNone, file_of, left_of}
-use Rattle.vc_checkout.specs.WorkTree.{HasTextPaths, is_same, is_listed}
+use Rattle.vc_checkout.specs.WorkTree.{HasTextPaths}
+use Rattle.vc_work_tree.specs.Paths.{is_same, is_listed}
 use Rattle.vc_checkout.proofs.PathSetLemmas.{entry_paths}
-use Rattle.vc_lemmas.proofs.Texts.{bytes_eq_same, bytes_eq_other}
 
 abbrev pub Step : Type 1
 Step = Option (List ℕ) → Option (List ℕ) → Type 0
-
--- ---- one change of a map
-
-pub removed_at : (m n : FileMap) (p : List ℕ) → n ≡ files.remove m p → get n p ≡ None
-removed_at m n p is = ap (λ w. get w p) is ∙ get-unput m p p ∙ ap (λ b. cond b None (get m p)) (bytes_eq_same p)
-
-pub removed_others : (m n : FileMap) (p : List ℕ) → n ≡ files.remove m p → (q : List ℕ) → q ≢ p → get n q ≡ get m q
-removed_others m n p is q apart = ap (λ w. get w q) is ∙ get-unput m p q ∙ ap (λ b. cond b None (get m q)) (bytes_eq_other q p apart)
-
-pub put_at : (m n : FileMap) (p bytes : List ℕ) → n ≡ files.insert m p bytes → get n p ≡ Some bytes
-put_at m n p bytes is = ap (λ w. get w p) is ∙ get-put m p bytes p ∙ ap (λ b. cond b (Some bytes) (get m p)) (bytes_eq_same p)
-
-pub put_others : (m n : FileMap) (p bytes : List ℕ) → n ≡ files.insert m p bytes → (q : List ℕ) → q ≢ p → get n q ≡ get m q
-put_others m n p bytes is q apart = ap (λ w. get w q) is ∙ get-put m p bytes q ∙ ap (λ b. cond b (Some bytes) (get m q)) (bytes_eq_other q p apart)
 
 -- ---- steps
 pub step_same : (R : Step) (path : List ℕ) (m n : FileMap) → n ≡ m → R (get m path) (get m path) → StepAt R path m n

@@ -14,7 +14,8 @@ use Rattle.vc_index.specs.IndexMap.{IndexMap}
 use Rattle.vc_index.specs.declared.entry.IndexEntry.{IndexEntry}
 use Rattle.vc_index.proofs.MapLemmas.{same_text, no_some}
 use Rattle.vc_checkout.specs.Refusal.{IsClear, IsDue, IsHindered, IsInTheWay, IsRefused, RefusedAt}
-use Rattle.vc_checkout.specs.WorkTree.{IsUnkept, has_path, is_same, is_listed}
+use Rattle.vc_checkout.specs.WorkTree.{IsUnkept, has_path}
+use Rattle.vc_work_tree.specs.Paths.{is_same, is_listed}
 use Rattle.vc_checkout.specs.Blobs.{HasDueBlobs}
 use Rattle.vc_checkout.specs.Holding.{BlamesPath, HoldsDue, HoldsDueAt, BlamesPathAt}
 use Rattle.vc_checkout.specs.CheckoutFault.{IsAgainst, IsFault, IsMemory, IsOfCheckout}

@@ -19,7 +19,8 @@ use Rattle.vc_index.specs.declared.entry.IndexEntry.{IndexEntry}
 use Rattle.vc_index.proofs.ConflictLemmas.{not_after, begins_between}
 use Rattle.vc_index.proofs.MapLemmas.{key_cmp, same_text}
 use Rattle.vc_checkout.specs.Refusal.{IsHindered, IsNotWanted}
-use Rattle.vc_checkout.specs.WorkTree.{has_path, blob_name}
+use Rattle.vc_checkout.specs.WorkTree.{has_path}
+use Rattle.vc_work_tree.specs.Paths.{blob_name}
 use Rattle.vc_checkout.proofs.PathSetLemmas.{Paths}
 
 -- the key of a path that the set has

@@ -10,11 +10,12 @@ use Rattle.vc_index.specs.Path.{IsAbove}
 use Rattle.vc_index.specs.declared.entry.IndexEntry.{IndexEntry}
 use Rattle.vc_index.proofs.MapLemmas.{same_text, is_eq-same}
 use Rattle.vc_checkout.specs.CheckedOut.{IsCleared, StepAt}
-use Rattle.vc_checkout.specs.Folders.{AreFolders, Folders, IsAtOrIn, IsFolder, IsFolderBy, IsLowestAbove}
+use Rattle.vc_work_tree.specs.Folders.{AreFolders, Folders, IsAtOrIn, IsFolder, IsFolderBy, IsLowestAbove}
 use Rattle.vc_checkout.specs.FoldersAfter.{AreBetween, IsFolderFor, IsLeft}
-use Rattle.vc_checkout.specs.WorkTree.{HasTextPaths, is_same, is_listed}
-use Rattle.vc_checkout.proofs.ApplyLemmas.{removed_at, removed_others}
-use Rattle.vc_checkout.proofs.FolderLemmas.{above_in, above_itself, above_or_not, above_then, folder_above, folder_itself, folder_map, in_above, same_or_not, still_folders}
+use Rattle.vc_checkout.specs.WorkTree.{HasTextPaths}
+use Rattle.vc_work_tree.specs.Paths.{is_same, is_listed}
+use Rattle.vc_work_tree.proofs.ChangeLemmas.{removed_at, removed_others}
+use Rattle.vc_work_tree.proofs.FolderLemmas.{above_in, above_itself, above_or_not, above_then, folder_above, folder_itself, folder_map, in_above, same_or_not, still_folders}
 
 abbrev Those : Type 1
 Those = List ℕ → Type 0

@@ -2,10 +2,10 @@ pub mod PathSetLemmas
 pub mod StatusLemmas
 pub mod HindranceLemmas
 pub mod ClearLemmas
+pub mod SettlingLemmas
 pub mod ApplyLemmas
+pub mod BringLemmas
 pub mod BlobLemmas
-pub mod FolderLemmas
-pub mod HeldLemmas
 pub mod LeavingLemmas
 pub mod MakingLemmas
 pub mod ApartLemmas

@@ -15,12 +15,13 @@ use Rattle.vc_index.specs.declared.entry.IndexEntry.{IndexEntry}
 use Rattle.vc_index.proofs.MapLemmas.{is_eq-same}
 use Rattle.vc_checkout.specs.Blobs.{HasDueBlob}
 use Rattle.vc_checkout.specs.CheckedOut.{IsWritten, StepAt, file_of}
-use Rattle.vc_checkout.specs.Folders.{AreFolders, Folders, IsAtOrIn, IsFolder, IsFolderBy}
+use Rattle.vc_work_tree.specs.Folders.{AreFolders, Folders, IsAtOrIn, IsFolder, IsFolderBy}
 use Rattle.vc_checkout.specs.FoldersAfter.{AreBetween, GivesWay, GivesWayBy, IsFolderAfter, IsFolderFor, IsLeftBy, IsLink, IsLinked, IsMadeBy, IsMadeFor, Stays, TakesPlace}
 use Rattle.vc_checkout.specs.Refusal.{IsDue}
-use Rattle.vc_checkout.proofs.ApplyLemmas.{file_blob, put_others}
-use Rattle.vc_checkout.proofs.FolderLemmas.{folder_above, folder_itself, in_either, in_or_not, same_or_not, still_folders}
-use Rattle.vc_checkout.specs.WorkTree.{is_same, is_listed}
+use Rattle.vc_checkout.proofs.ApplyLemmas.{file_blob}
+use Rattle.vc_work_tree.proofs.ChangeLemmas.{put_others}
+use Rattle.vc_work_tree.proofs.FolderLemmas.{folder_above, folder_itself, in_either, in_or_not, same_or_not, still_folders}
+use Rattle.vc_work_tree.specs.Paths.{is_same, is_listed}
 use Rattle.vc_checkout.proofs.LeavingLemmas.{are_same, covered, exact_between, is_folder, same_or_before, unnot}
 
 abbrev Those : Type 1

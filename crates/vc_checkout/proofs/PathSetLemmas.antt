@@ -22,7 +22,8 @@ use Rattle.vc_files.specs.FileMap.{FileMap}
 use Rattle.vc_index.specs.IndexMap.{IndexMap}
 use Rattle.vc_index.specs.declared.entry.IndexEntry.{IndexEntry}
 use Rattle.vc_index.proofs.MapLemmas.{key_cmp, same_text, is_eq-same}
-use Rattle.vc_checkout.specs.WorkTree.{has_path, is_listed, is_same, HasTextPaths, IsUnkept, IsUntracked, KeepsNone}
+use Rattle.vc_checkout.specs.WorkTree.{has_path, HasTextPaths, IsUnkept, IsUntracked, KeepsNone}
+use Rattle.vc_work_tree.specs.Paths.{is_listed, is_same}
 
 abbrev pub Paths : Type 0
 Paths = BTreeSet (Vec ℕ Global)
@@ -232,3 +233,8 @@ all_listed ks all untracked index tree work is whole exact q some =
     by_test false true t h = refl
     by_test false false t (inl h) = cc h
     by_test false false t (inr h) = h
+
+-- no file is tracked by an index with no files
+pub untracked_all : (found : Paths) (index : IndexMap) (work : FileMap) → index ≡ maps.empty → ((q : List ℕ) → IsTrue (has_path found q) ↔ IsUntracked index work q) → (q : List ℕ) → IsTrue (has_path found q) ↔ IsSome (maps.get work q)
+untracked_all found index work none exact q =
+    (λ has. ((exact q).0 has).0, λ some. (exact q).1 (some, ap (λ (m : IndexMap). maps.get m q) none ∙ maps.get-empty (slice_cmp nat_cmp) q))

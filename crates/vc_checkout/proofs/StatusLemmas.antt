@@ -16,7 +16,8 @@ use Rattle.vc_index.specs.declared.entry.IndexEntry.{IndexEntry}
 use Rattle.vc_index.proofs.MapLemmas.{same_text}
 use Rattle.vc_checkout.specs.Status.{IsIndexChange, IsWorkChange, Differs, IsStatus, Seen, seen}
 use Rattle.vc_checkout.specs.declared.change.Change.{Change}
-use Rattle.vc_checkout.specs.WorkTree.{IsUntracked, is_same, is_listed}
+use Rattle.vc_checkout.specs.WorkTree.{IsUntracked}
+use Rattle.vc_work_tree.specs.Paths.{is_same, is_listed}
 use Rattle.vc_checkout.specs.declared.change.IndexChange.{IndexChange}
 use Rattle.vc_checkout.specs.declared.change.IndexChange.TheVariants as of_index
 use Rattle.vc_checkout.specs.declared.change.WorkChange.{WorkChange}

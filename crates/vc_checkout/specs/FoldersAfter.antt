@@ -6,7 +6,7 @@ use Rattle.vc_object.specs.declared.mode.Mode.TheVariants as modes
 use Rattle.vc_index.specs.IndexMap.{IndexMap}
 use Rattle.vc_index.specs.Path.{IsAbove}
 use Rattle.vc_index.specs.declared.entry.IndexEntry.{IndexEntry}
-use Rattle.vc_checkout.specs.Folders.{Folders, IsAtOrIn, IsFolder}
+use Rattle.vc_work_tree.specs.Folders.{Folders, IsAtOrIn, IsFolder}
 
 -- the folder is there for an entry at the path: the entry lies in it, or it is that of a commit of another repository
 abbrev pub IsFolderFor : IndexEntry → List ℕ → List ℕ → Type 0

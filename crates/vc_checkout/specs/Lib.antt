@@ -1,5 +1,4 @@
 pub mod WorkTree
-pub mod Folders
 pub mod Status
 pub mod Blobs
 pub mod CheckoutFault
@@ -9,4 +8,5 @@ pub mod Refusal
 pub mod Holding
 pub mod CheckedOut
 pub mod FoldersAfter
+pub mod Settling
 pub mod Steps

@@ -10,7 +10,8 @@ use Rattle.vc_object.specs.declared.mode.Mode.TheVariants as modes
 use Rattle.vc_index.specs.IndexMap.{IndexMap}
 use Rattle.vc_index.specs.Path.{IsAbove}
 use Rattle.vc_index.specs.declared.entry.IndexEntry.{IndexEntry}
-use Rattle.vc_checkout.specs.WorkTree.{blob_name, IsUnkept}
+use Rattle.vc_checkout.specs.WorkTree.{IsUnkept}
+use Rattle.vc_work_tree.specs.Paths.{blob_name}
 use Rattle.vc_checkout.specs.declared.faults.CheckoutFault.{CheckoutFault}
 use Rattle.vc_checkout.specs.declared.faults.CheckoutFault.TheVariants.{LocalChange, InTheWay, NotText, BadPath, Index}
 

@@ -11,7 +11,7 @@ use Rattle.vc_object.specs.declared.mode.Mode.TheVariants as modes
 use Rattle.vc_index.specs.IndexMap.{IndexMap}
 use Rattle.vc_index.specs.declared.entry.IndexEntry.{IndexEntry}
 use Rattle.vc_checkout.specs.Heads.{IsIndexOfHead}
-use Rattle.vc_checkout.specs.WorkTree.{blob_name}
+use Rattle.vc_work_tree.specs.Paths.{blob_name}
 use Rattle.vc_checkout.specs.declared.change.IndexChange.{IndexChange}
 use Rattle.vc_checkout.specs.declared.change.IndexChange.TheVariants as of_index
 use Rattle.vc_checkout.specs.declared.change.WorkChange.{WorkChange}

@@ -7,7 +7,7 @@ use Rattle.vc_object.specs.ObjectMap.{ObjectMap}
 use Rattle.vc_index.specs.IndexMap.{IndexMap}
 use Rattle.vc_checkout.specs.Blobs.{HasDueBlobs}
 use Rattle.vc_checkout.specs.CheckedOut.{IsCheckedOut, IsCleared, IsOldOrCheckedOut, IsWritten, StepAt, StepOrNone}
-use Rattle.vc_checkout.specs.Folders.{AreFolders, Folders, IsFolder}
+use Rattle.vc_work_tree.specs.Folders.{AreFolders, Folders, IsFolder}
 use Rattle.vc_checkout.specs.FoldersAfter.{AreBetween, AreFoldersBegun, GivesWay, IsFolderAfter, IsLeft, IsLeftBy, IsLinked, IsMadeFor}
 use Rattle.vc_checkout.specs.Holding.{HoldsDue}
 use Rattle.vc_checkout.specs.Refusal.{IsClear, IsDue}
@@ -125,3 +125,9 @@ pub record BringsPart {W : Type 0} (content : W → FileMap) (held : W → Folde
   pub folders : AreFoldersBegun index tree (content old) (held old) (content new) (held new)
   pub apart : AreApart (content old) → AreApart (content new)
   pub allowed : IsUnwritten content held left old new ⊎ IsAllowed (can_hold old) objects index tree (content old)
+
+-- The same of the changes alone.
+pub record Begins {W : Type 0} (content : W → FileMap) (held : W → Folders) (objects : ObjectMap) (index tree : IndexMap) (old new : W) : Type 0 where
+  pub files : (path : List ℕ) → IsOldOrCheckedOut objects index tree (content old) (content new) path
+  pub folders : AreFoldersBegun index tree (content old) (held old) (content new) (held new)
+  pub apart : AreApart (content old) → AreApart (content new)

@@ -4,20 +4,12 @@ use Rattle.std.specs.BTreeSet.{BTreeSet, contains_by}
 use Rattle.std.specs.Cmp.Lexicographic.{slice_cmp}
 use Rattle.std.specs.FinMap.{get}
 use Rattle.std.specs.Global.{Global}
-use Rattle.std.specs.List.{list_any}
-use Rattle.std.specs.Ordering.{nat_cmp, eq_by_cmp}
+use Rattle.std.specs.Ordering.{nat_cmp}
 use Rattle.vc_files.specs.FileMap.{FileMap}
-use Rattle.vc_object.specs.Object.{object_name}
-use Rattle.vc_object.specs.declared.id.ObjectId.{ObjectId}
-use Rattle.vc_object.specs.declared.kind.Kind.TheVariants as kinds
 use Rattle.vc_object.specs.declared.mode.Mode.TheVariants as modes
 use Rattle.vc_index.specs.IndexMap.{IndexMap}
 use Rattle.vc_index.specs.Path.{IsAbove}
 use Rattle.vc_index.specs.declared.entry.IndexEntry.{IndexEntry}
-
--- the name that a file's content has as a blob
-abbrev pub blob_name : List ℕ → ObjectId
-blob_name bytes = object_name kinds.Blob bytes
 
 -- the path of each file is text
 abbrev pub HasTextPaths : FileMap → Type 0
@@ -43,14 +35,6 @@ StandsAlone work path = (other : List ℕ) → IsAbove other path ⊎ IsAbove pa
 -- no file of the work tree lies below another one
 abbrev pub AreApart : FileMap → Type 0
 AreApart work = (path other : List ℕ) → IsAbove path other → IsSome (get work path) → IsSome (get work other) → ⊥
-
--- whether two paths are the same
-abbrev pub is_same : List ℕ → List ℕ → Bool
-is_same = eq_by_cmp (slice_cmp nat_cmp)
-
--- whether a path is one of the list
-abbrev pub is_listed : List ℕ → List (List ℕ) → Bool
-is_listed path paths = list_any (is_same path) paths
 
 -- whether a set of paths has the path
 abbrev pub has_path : BTreeSet (Vec ℕ Global) → List ℕ → Bool

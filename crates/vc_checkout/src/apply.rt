@@ -13,19 +13,19 @@ ghost use Rattle.vc_checkout.specs.Devices.{WearsEither};
 ghost use Rattle.vc_checkout.specs.FoldersAfter.{GivesWayBy, IsFolderFor, IsLeftBy, IsLink, IsMadeBy, TakesPlace};
 ghost use Rattle.vc_checkout.specs.Holding.{HoldsDue};
 ghost use Rattle.vc_checkout.specs.Refusal.{IsClear, IsDue};
-ghost use Rattle.vc_checkout.specs.Steps.{Brings, BringsPart, ChangesFolders, Clears, Does, EndsFolders, GivesWayAt, IsClearedAt, IsLeftAt, IsLinkedAt, IsMadeAt, IsUnwritten, IsWrittenAt, LosesFolders, MayChangeFolders, MayClear, MayDo, MayLoseFolders, MayWriteDue, WritesDue};
+ghost use Rattle.vc_checkout.specs.Steps.{Begins, Brings, BringsPart, ChangesFolders, Clears, Does, EndsFolders, GivesWayAt, IsAllowed, IsClearedAt, IsLeftAt, IsLinkedAt, IsMadeAt, IsUnwritten, IsWrittenAt, LosesFolders, MayChangeFolders, MayClear, MayDo, MayLoseFolders, MayWriteDue, WritesDue};
 ghost use Rattle.vc_checkout.specs.WorkTree.{HasTextPaths};
 
+use crate::CheckoutFault;
 use crate::blobs::{blob_of, check_blobs};
 use crate::clear::check_all;
 use crate::holding::check_held;
-use crate::paths::folder_of;
-use crate::{CheckoutFault, WorkTree};
 use std::alloc::Global;
 use std::str;
 use vc_files::Files;
 use vc_index::{Index, IndexCursor, IndexEntry};
 use vc_object::Mode;
+use vc_work_tree::{WorkTree, folder_of};
 
 // Takes the folders above a path away, from the lowest on, as long as nothing is in them.
 fn remove_empty_above<T: WorkTree>(
@@ -212,6 +212,55 @@ fn write_all<T: WorkTree, F: Files>(
     Ok(())
 }
 
+/// Whether a checkout from the files of an index to those of another one may begin: nothing is written. What refuses it, and in
+/// which order, is what [`checkout`] says.
+pub fn check<T: WorkTree, F: Files>(
+    alloc: Global,
+    work: &mut T,
+    files: &mut F,
+    index: &Index,
+    tree: &Index,
+) -> Result<(), CheckoutFault>
+    ensures allowed { T.honest → F.honest → OnOk result (IsAllowed (T.can_hold work.old) (objects (F.content files.old)) index.now tree.now (T.content work.old)) }
+    ensures holds { OnOk result (HoldsDue (T.can_hold work.old) index.now tree.now) }
+    ensures blobs { F.honest → OnOk result (HasDueBlobs (objects (F.content files.old)) index.now tree.now) }
+    ensures clear { T.honest → OnOk result ((path : List ℕ) → IsClear index.now tree.now (T.content work.old) path) }
+    ensures text { OnOk result ((path : List ℕ) → IsDue (maps.get index.now path) (maps.get tree.now path) → IsUtf8 path) }
+    ensures texts { T.honest → OnOk result (HasTextPaths (T.content work.old)) }
+    ensures refused { F.honest → IfErr result (IsOfCheckout T.honest (T.can_hold work.old) (T.content work.old) (F.content files.old) index.now tree.now) }
+    ensures unwritten { IsUnwritten T.content T.folders T.left work.old work.new }
+    ensures files { F.content files.new ≡ F.content files.old }
+    ensures wear { WearsEither T.failed T.can_fail T.left F.failed F.can_fail F.left work.old work.new files.old files.new (TellsDevice result) }
+{
+    check_held(alloc, work, index, tree)?;
+    check_blobs(alloc, files, index, tree)?;
+    check_all(alloc, work, index, tree)?;
+    Ok(())
+}
+
+/// Does a checkout that [`check`] has allowed.
+pub fn bring<T: WorkTree, F: Files>(
+    alloc: Global,
+    work: &mut T,
+    files: &mut F,
+    index: &Index,
+    tree: &Index,
+) -> Result<(), CheckoutFault>
+    requires clear { T.honest → (path : List ℕ) → IsClear index.now tree.now (T.content work.old) path }
+    requires blobs { F.honest → HasDueBlobs (objects (F.content files.old)) index.now tree.now }
+    requires text { (path : List ℕ) → IsDue (maps.get index.now path) (maps.get tree.now path) → IsUtf8 path }
+    requires texts { T.honest → HasTextPaths (T.content work.old) }
+    ensures brought { T.honest → F.honest → OnOk result (Brings T.content T.folders (objects (F.content files.old)) index.now tree.now work.old work.new) }
+    ensures refused { F.honest → IfErr result IsFault }
+    ensures begun { T.honest → F.honest → OnErr result (Begins T.content T.folders (objects (F.content files.old)) index.now tree.now work.old work.new) }
+    ensures files { F.content files.new ≡ F.content files.old }
+    ensures wear { WearsEither T.failed T.can_fail unstopped F.failed F.can_fail F.left work.old work.new files.old files.new (TellsDevice result) }
+{
+    clear_all(alloc, work, index, tree)?;
+    write_all(alloc, work, files, index, tree)?;
+    Ok(())
+}
+
 /// Brings the work tree from the files of an index to those of another one, such as `Index::list_tree` answers of a tree.
 ///
 /// A path of the tree is due if the index has nothing there, or something else. Before the first write, over the paths of
@@ -246,10 +295,7 @@ pub fn checkout<T: WorkTree, F: Files>(
     ensures files { F.content files.new ≡ F.content files.old }
     ensures wear { WearsEither T.failed T.can_fail unstopped F.failed F.can_fail F.left work.old work.new files.old files.new (TellsDevice result) }
 {
-    check_held(alloc, work, index, tree)?;
-    check_blobs(alloc, files, index, tree)?;
-    check_all(alloc, work, index, tree)?;
-    clear_all(alloc, work, index, tree)?;
-    write_all(alloc, work, files, index, tree)?;
+    check(alloc, work, files, index, tree)?;
+    bring(alloc, work, files, index, tree)?;
     Ok(())
 }

@@ -7,15 +7,16 @@ ghost use Rattle.vc_checkout.specs.Refusal.{HasLocalChange, IsClear, IsDue, IsOt
 ghost use Rattle.vc_checkout.specs.Steps.{IsUntouched};
 ghost use Rattle.vc_checkout.specs.WorkTree.{HasTextPaths, IsUnkept, has_path};
 
+use crate::CheckoutFault;
 use crate::compare::file_name;
 use crate::hindrance::is_hindered;
 use crate::paths::{all_paths, unkept_paths};
-use crate::{CheckoutFault, WorkTree};
 use std::alloc::Global;
 use std::collections::BTreeSet;
 use std::str;
 use vc_index::{Index, IndexCursor, IndexEntry};
 use vc_object::{Mode, ObjectId};
+use vc_work_tree::WorkTree;
 
 // Whether the name is not that of what stands there.
 fn is_other(entry: Option<IndexEntry>, name: ObjectId) -> bool

@@ -9,17 +9,19 @@ ghost use Rattle.vc_checkout.specs.Devices.{WearsEither};
 ghost use Rattle.vc_checkout.specs.Heads.{IsIndexOfHead};
 ghost use Rattle.vc_checkout.specs.Status.{IsWorkChange, IsChangeAt, IsStatus, IsStatusOf, seen};
 ghost use Rattle.vc_checkout.specs.Steps.{IsUntouched};
-ghost use Rattle.vc_checkout.specs.WorkTree.{HasTextPaths, IsUntracked, blob_name, has_path};
+ghost use Rattle.vc_checkout.specs.WorkTree.{HasTextPaths, IsUntracked, has_path};
+ghost use Rattle.vc_work_tree.specs.Paths.{blob_name};
 
 use crate::change::index_change;
 use crate::paths::{all_paths, untracked_paths};
-use crate::{Change, CheckoutFault, IndexChange, WorkChange, WorkTree};
+use crate::{Change, CheckoutFault, IndexChange, WorkChange};
 use std::alloc::Global;
 use std::collections::BTreeSet;
 use std::str;
 use vc_files::Files;
 use vc_index::{Index, IndexCursor, IndexEntry};
 use vc_object::{Mode, ObjectId};
+use vc_work_tree::WorkTree;
 
 /// The name that the content of the file at a path has as a blob, or none where there is no file.
 pub(crate) fn file_name<T: WorkTree>(
@@ -31,6 +33,7 @@ pub(crate) fn file_name<T: WorkTree>(
     ensures name { T.honest → IfOk result (λ name. name ≡ option_map blob_name (maps.get (T.content work.old) path.now)) }
     ensures fault { IfErr result IsFault }
     ensures untouched { IsUntouched T.content T.folders work.old work.new }
+    ensures holds { T.can_hold work.new ≡ T.can_hold work.old }
     ensures wear { Wears T.failed T.can_fail T.left work.old work.new (TellsDevice result) }
 {
     let Ok(text) = str::from_utf8(path) else {

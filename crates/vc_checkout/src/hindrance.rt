@@ -7,13 +7,14 @@ ghost use Rattle.vc_checkout.specs.Refusal.{IsHindered};
 ghost use Rattle.vc_checkout.specs.Steps.{IsUntouched};
 ghost use Rattle.vc_checkout.specs.WorkTree.{HasTextPaths, has_path};
 
+use crate::CheckoutFault;
 use crate::compare::file_name;
-use crate::{CheckoutFault, WorkTree};
 use std::alloc::{AllocError, Global};
 use std::collections::BTreeSet;
 use std::ops::Bound;
 use vc_index::IndexEntry;
 use vc_object::Mode;
+use vc_work_tree::WorkTree;
 
 // Whether a path of the set is that of a folder above the path.
 fn has_above(paths: &BTreeSet<Vec<u8>>, path: &[u8]) -> bool

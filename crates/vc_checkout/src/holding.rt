@@ -3,9 +3,10 @@ ghost use Rattle.std.specs.Prelude.{◌≡◌, ◌⊎◌, IfErr, OnOk};
 ghost use Rattle.vc_checkout.specs.CheckoutFault.{IsMemory, TellsDevice};
 ghost use Rattle.vc_checkout.specs.Holding.{BlamesPath, BlamesPathAt, HoldsDue, HoldsDueAt};
 
-use crate::{CheckoutFault, WorkTree};
+use crate::CheckoutFault;
 use std::alloc::Global;
 use vc_index::{Index, IndexCursor};
+use vc_work_tree::WorkTree;
 
 // Refuses the checkout where something is due at the path and can't be held there.
 fn check_due<T: WorkTree>(

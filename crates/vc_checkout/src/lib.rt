@@ -1,4 +1,4 @@
-//! The work tree: bringing it to the files of a tree, and how it differs from the index.
+//! A work tree beside an index: how it differs, and bringing it to the files of a tree.
 #![tactic(auto)]
 
 mod apply;
@@ -9,13 +9,11 @@ mod compare;
 mod faults;
 mod hindrance;
 mod holding;
-mod memory;
 mod paths;
-mod work;
+mod settling;
 
-pub use apply::checkout;
+pub use apply::{bring, check, checkout};
 pub use change::{Change, IndexChange, WorkChange};
 pub use compare::status;
 pub use faults::CheckoutFault;
-pub use memory::MemoryTree;
-pub use work::WorkTree;
+pub use settling::settle;

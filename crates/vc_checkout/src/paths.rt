@@ -1,26 +1,20 @@
 // Sets of paths.
-ghost use Rattle.std.specs.Prelude.{◌≡◌, ◌↔◌, ◌++◌, ◌||◌, ℕ, map, List, IfOk, IfErr, OnOk, IsTrue, is_some, MatchOption};
+ghost use Rattle.std.specs.Prelude.{◌≡◌, ◌↔◌, ◌++◌, ◌||◌, ℕ, map, List, IfOk, IfErr, OnOk, IsSome, IsTrue, is_some, MatchOption};
 ghost use Rattle.std.specs.FinMap as maps;
 ghost use Rattle.vc_files.specs.Failures.{Wears};
 ghost use Rattle.vc_index.specs.Path.{IsAbove};
 ghost use Rattle.vc_checkout.specs.CheckoutFault.{IsFault, TellsDevice};
-ghost use Rattle.vc_checkout.specs.Folders.{IsLowestAbove};
+ghost use Rattle.vc_work_tree.specs.Folders.{IsLowestAbove};
 ghost use Rattle.vc_checkout.specs.Steps.{IsUntouched};
-ghost use Rattle.vc_checkout.specs.WorkTree.{has_path, is_listed, HasTextPaths, IsUnkept, IsUntracked, KeepsNone};
+ghost use Rattle.vc_checkout.specs.WorkTree.{has_path, HasTextPaths, IsUnkept, IsUntracked, KeepsNone};
+ghost use Rattle.vc_work_tree.specs.Paths.{is_listed};
 
-use crate::{CheckoutFault, WorkTree};
+use crate::CheckoutFault;
 use std::alloc::{AllocError, Global};
 use std::collections::BTreeSet;
 use vc_index::{Index, IndexCursor, IndexEntry};
 use vc_object::Mode;
-
-/// The path of the folder that a path lies in, or none where it lies in none.
-pub(crate) fn folder_of(path: &str) -> Option<&str>
-    ensures { MatchOption result ((folder : List ℕ) → ¬ (IsAbove folder path.now)) (λ folder. IsLowestAbove folder.now path.now) }
-{
-    let end = path.rfind('/')?;
-    Some(path.split_at(end).0)
-}
+use vc_work_tree::WorkTree;
 
 // Adds the paths of an index to a list.
 fn push_paths(alloc: Global, paths: &mut Vec<Vec<u8>>, index: &Index) -> Result<(), AllocError>
@@ -69,6 +63,7 @@ pub(crate) fn untracked_paths<T: WorkTree>(
     ensures texts { T.honest → OnOk result (HasTextPaths (T.content work.old)) }
     ensures fault { IfErr result IsFault }
     ensures untouched { IsUntouched T.content T.folders work.old work.new }
+    ensures holds { T.can_hold work.new ≡ T.can_hold work.old }
     ensures wear { Wears T.failed T.can_fail T.left work.old work.new (TellsDevice result) }
 {
     let listed = work.list(alloc)?;
@@ -80,6 +75,22 @@ pub(crate) fn untracked_paths<T: WorkTree>(
             found.insert(path.to_vec(alloc)?)?;
         }
     }
+    Ok(found)
+}
+
+/// The paths of the files of the work tree.
+pub(crate) fn file_paths<T: WorkTree>(
+    alloc: Global,
+    work: &mut T,
+) -> Result<BTreeSet<Vec<u8>>, CheckoutFault>
+    ensures files { T.honest → IfOk result (λ found. (path : List ℕ) → IsTrue (has_path found path) ↔ IsSome (maps.get (T.content work.old) path)) }
+    ensures texts { T.honest → OnOk result (HasTextPaths (T.content work.old)) }
+    ensures fault { IfErr result IsFault }
+    ensures untouched { IsUntouched T.content T.folders work.old work.new }
+    ensures holds { T.can_hold work.new ≡ T.can_hold work.old }
+    ensures wear { Wears T.failed T.can_fail T.left work.old work.new (TellsDevice result) }
+{
+    let found = untracked_paths(alloc, work, &Index::new(alloc))?;
     Ok(found)
 }
 

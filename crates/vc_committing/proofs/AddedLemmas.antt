@@ -24,7 +24,7 @@ use Rattle.vc_object_map.specs.declared.faults.StoreFault.TheVariants as store
 use Rattle.vc_local.specs.IndexFile.{BlamesIndex, SpellsIndex}
 use Rattle.vc_node.specs.Stored.{KeepsStored}
 use Rattle.vc_local.specs.Machine.{live_of}
-use Rattle.vc_local.specs.NodeFault.{is_fault}
+use Rattle.vc_local.specs.NodeFault.{takes_down}
 use Rattle.vc_local.specs.Staging.{BlamesStaging, File, MayStandAll, RefusesFirst, StagesAll, StagesShown, file_placed, placed, staging}
 use Rattle.vc_local.specs.Shown.{shown}
 use Rattle.vc_local.specs.declared.fault.NodeFault.{NodeFault}
@@ -120,7 +120,7 @@ module _ (work : FileMap) (own : List ℕ) (mode : Mode) (words : List (List ℕ
   words_refused e up refuses = absurd (refuses)
 
   -- the index isn't told
-  index_blamed : (e : NodeFault) → was ≡ true → is ≡ not (is_fault e) → BlamesIndex old e → RefusesAdd work own mode words was is old new (Node e)
+  index_blamed : (e : NodeFault) → was ≡ true → is ≡ not (takes_down e) → BlamesIndex old e → RefusesAdd work own mode words was is old new (Node e)
   index_blamed (node.Store (store.BadObject f)) up after blames = absurd blames
   index_blamed (node.Store (store.Absent id)) up after blames = absurd blames
   index_blamed (node.Store (store.Damaged id)) up after blames = absurd blames
@@ -134,7 +134,7 @@ module _ (work : FileMap) (own : List ℕ) (mode : Mode) (words : List (List ℕ
   index_blamed (node.WrongEntry at) up after blames = absurd blames
   index_blamed node.Down up after blames = absurd blames
 
-  pub index_refused : (e : NodeFault) → (was ≡ false → ◌≡◌ {A = NodeFault} e node.Down) → (was ≡ true → is ≡ not (is_fault e)) → (was ≡ true → BlamesIndex old e) → RefusesAdd work own mode words was is old new (Node e)
+  pub index_refused : (e : NodeFault) → (was ≡ false → ◌≡◌ {A = NodeFault} e node.Down) → (was ≡ true → is ≡ not (takes_down e)) → (was ≡ true → BlamesIndex old e) → RefusesAdd work own mode words was is old new (Node e)
   index_refused e down after blames = by was refl
     where
       by : (b : Bool) → was ≡ b → RefusesAdd work own mode words was is old new (Node e)

@@ -15,13 +15,13 @@ ghost use Rattle.vc_cli.specs.Failure.{TellsDevice};
 
 use std::alloc::Global;
 use vc_arguments::FileMode;
-use vc_checkout::WorkTree;
 use vc_cli::Failure;
 use vc_files::Files;
 use vc_index::Index;
 use vc_local::Staged;
 use vc_node::CloneNode;
 use vc_object::{Kind, Mode, ObjectId};
+use vc_work_tree::WorkTree;
 use vc_working::paths_named;
 
 // Refuses a file of the work tree that may not be staged beside those of the index, or is too large; the index has its path then.

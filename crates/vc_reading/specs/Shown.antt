@@ -13,7 +13,7 @@ use Rattle.vc_object.specs.Kind.{word}
 use Rattle.vc_object.specs.ObjectId.{IsSortedByName}
 use Rattle.vc_object.specs.ObjectMap.{ObjectMap, parents_in}
 use Rattle.vc_object.specs.declared.id.ObjectId.{ObjectId}
-use Rattle.vc_refs.specs.RefFault.{BlamesList, BlamesHead}
+use Rattle.vc_refs.specs.RefFault.{BlamesList, BlamesPacking, BlamesHead}
 use Rattle.vc_refs.specs.RefMap.{RefMap, IsListOf}
 use Rattle.vc_object_map.specs.Store.{stored, objects, IsDamaged}
 use Rattle.vc_object_map.specs.StoreFault.{IsFault as IsStoreFault}
@@ -45,11 +45,17 @@ pub record PrintsRefs (refs : RefMap) (old new : Option (List ℕ)) : Type 0 whe
   pub all : IsListOf refs listed
   pub text : Appends old new (flat_map ref_line listed)
 
--- why no ref is printed, and why none is packed: a file of the refs can't be read, or a fault
+-- why no ref is printed: a file of the refs can't be read, or a fault
 abbrev pub IsOfList : FileMap → Failure → Type 0
 IsOfList content (Refs fault) = BlamesList content fault
 IsOfList content (Fault fault) = ⊤
 IsOfList content _ = ⊥
+
+-- why no ref is packed: a file of the refs can't be read, one of them is a folder of another, or a fault
+abbrev pub IsOfPacking : FileMap → Failure → Type 0
+IsOfPacking content (Refs fault) = BlamesPacking content fault
+IsOfPacking content (Fault fault) = ⊤
+IsOfPacking content _ = ⊥
 
 -- the best common ancestors are printed, each once and by name, and it is told whether there is one
 pub record PrintsBases (objects : ObjectMap) (a b : ObjectId) (old new : Option (List ℕ)) (some : Bool) : Type 0 where

@@ -3,7 +3,7 @@ ghost use Rattle.std.specs.Prelude.{◌≡◌, IfErr, OnOk};
 ghost use Rattle.vc_refs.specs.Head.{KeepsOutside};
 ghost use Rattle.vc_refs.specs.Packing.{IsPackedFrom};
 ghost use Rattle.vc_refs.specs.Refs.{refs};
-ghost use Rattle.vc_reading.specs.Shown.{IsOfList};
+ghost use Rattle.vc_reading.specs.Shown.{IsOfPacking};
 ghost use Rattle.vc_files.specs.Failures.{Writes};
 ghost use Rattle.vc_cli.specs.Failure.{TellsDevice};
 
@@ -26,7 +26,7 @@ where
 /// Puts the refs of these files into one file. None of them changes, wherever it stops, and neither does any other file.
 pub fn pack_in<F: Files>(alloc: Global, files: &mut F) -> Result<(), Failure>
     ensures packed { F.honest → OnOk result (IsPackedFrom (F.content files.old) (F.content files.new)) }
-    ensures refused { F.honest → IfErr result (IsOfList (F.content files.old)) }
+    ensures refused { F.honest → IfErr result (IsOfPacking (F.content files.old)) }
     ensures kept { F.honest → refs (F.content files.new) ≡ refs (F.content files.old) }
     ensures rest { F.honest → KeepsOutside (F.content files.old) (F.content files.new) }
     ensures wear { Writes F.honest F.content F.failed F.can_fail F.left files.old files.new (TellsDevice result) }

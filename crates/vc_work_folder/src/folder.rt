@@ -13,9 +13,9 @@ use std::alloc::Global;
 use std::io::{self, ErrorKind};
 use std::marker::Model;
 use std::rt;
-use vc_checkout::WorkTree;
 use vc_files::Fault;
 use vc_object::ObjectId;
+use vc_work_tree::WorkTree;
 
 /// The work tree in a folder.
 ///
@@ -85,6 +85,7 @@ impl<R: rt::Files + Beside<R> + AllocGlobal + Clone + Drop> FolderTree<R> {
     fn settle<T: Drop>(&mut self, done: io::Result<T>) -> Result<T, Fault>
         ensures later { self.old.0 ≤ self.new.0 }
         ensures device { IsErrOf result Fault.Device → HasFailed self.old.0 self.new.0 }
+        ensures above { self.new.1 ≡ self.old.1 }
     {
         match done {
             Ok(value) => Ok(value),
@@ -95,6 +96,7 @@ impl<R: rt::Files + Beside<R> + AllocGlobal + Clone + Drop> FolderTree<R> {
     fn fault(&mut self, e: io::Error) -> Fault
         ensures later { self.old.0 ≤ self.new.0 }
         ensures device { result ≡ Fault.Device → HasFailed self.old.0 self.new.0 }
+        ensures above { self.new.1 ≡ self.old.1 }
     {
         if e.kind() == ErrorKind::OutOfMemory {
             return Fault::Memory;

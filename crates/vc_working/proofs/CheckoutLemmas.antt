@@ -1,5 +1,5 @@
 -- For a checkout and a status: paths of which none is the store's own, and what refuses.
-use Rattle.std.proofs.Common.{◌≡◌, ℕ, Bool, true, false, ◌||◌, List, ◌∷◌, Some, None, ap, refl, sym, subst, ◌∙◌, inl, inr}
+use Rattle.std.proofs.Common.{◌≡◌, ℕ, Bool, true, false, ◌||◌, List, ◌∷◌, Some, None, ap, refl, sym, subst, ◌∙◌, ◌⊎◌, inl, inr}
 use Rattle.std.specs.Prelude.{Option, Ok, Err, MatchOption, is_some}
 use Rattle.std.specs.FinMap.{get}
 use Rattle.vc_files.specs.FileMap.{FileMap}
@@ -15,7 +15,7 @@ use Rattle.vc_index.specs.declared.faults.IndexFault.{IndexFault}
 use Rattle.vc_index.specs.declared.faults.IndexFault.TheVariants.{BadPath, PathConflict, BadIndex, WrongEntry, Missing, Store}
 use Rattle.vc_index.proofs.MapLemmas.{is_eq-same, same_text}
 use Rattle.std.proofs.Math.Bool.{or-true}
-use Rattle.vc_checkout.specs.WorkTree.{is_listed, is_same}
+use Rattle.vc_work_tree.specs.Paths.{is_listed, is_same}
 use Rattle.vc_checkout.specs.CheckoutFault.{IsOfCheckout, IsOfStatus, TellsFirstListed, told_fault}
 use Rattle.vc_checkout.specs.declared.faults.CheckoutFault.{CheckoutFault}
 use Rattle.vc_local.specs.IndexFile.{SpellsIndex}
@@ -30,7 +30,7 @@ use Rattle.vc_refs.specs.declared.faults.RefFault.{RefFault}
 use Rattle.vc_refs.specs.declared.faults.RefFault.TheVariants as ref
 use Rattle.vc_cli.specs.declared.failure.Failure.TheVariants.{Node, Refs}
 use Rattle.vc_working.specs.CloneWords.{branch_ref}
-use Rattle.vc_working.specs.Checkout.{HasOwn, IsDetached, IsOfCommit, IsOfDetached, IsOfTarget, IsOfTreeList, IsOnBranch, IsReadable, IsTarget, MayBring, RefusesCheckout, peeled}
+use Rattle.vc_working.specs.Checkout.{HasOwn, IsDetached, IsOfCommit, IsOfStart, IsOfDetached, IsOfTarget, IsOfTreeList, IsOnBranch, IsReadable, IsTarget, MayBring, RefusesCheckout, peeled}
 use Rattle.vc_cli.specs.Revisions.{Denoted}
 use Rattle.vc_cli.specs.declared.failure.Failure.{Failure}
 use Rattle.vc_working.specs.Checkout.RefusesCheckout.{of_fault, of_path, of_work}
@@ -124,15 +124,19 @@ head_tree_is content tree commit root readable value told is = record {
 }
 
 -- what refuses a checkout of the work tree, where all that comes before was good
-pub refused_work : (honest : Type 0) (can_hold : List ℕ → Bool) (own revision : List ℕ) (content m work : FileMap) (index tree : IndexMap) (head : Head) (cause : CheckoutFault)
-    → MayBring own revision content index head tree → m ≡ content → IsOfCheckout honest can_hold work m index tree cause → RefusesCheckout honest can_hold own revision content work (of_checkout cause)
-refused_work honest can_hold own revision content m work index tree head cause may same is = by (subst (λ (f : FileMap). IsOfCheckout honest can_hold work f index tree cause) same is)
+pub refused_start : (honest : Type 0) (can_hold : List ℕ → Bool) (own revision : List ℕ) (content m work : FileMap) (index tree : IndexMap) (root : ObjectId) (head : Head) (e : Failure)
+    → MayBring own revision content index head root tree → m ≡ content → (status_of e ≡ 3) ⊎ IsOfStart honest can_hold m work root index tree e → RefusesCheckout honest can_hold own revision content work e
+refused_start honest can_hold own revision content m work index tree root head e may same (inl fault) = of_fault fault
+refused_start honest can_hold own revision content m work index tree root head e may same (inr told) = by (subst (λ (f : FileMap). IsOfStart honest can_hold f work root index tree e) same told)
   where
-    by : IsOfCheckout honest can_hold work content index tree cause → RefusesCheckout honest can_hold own revision content work (of_checkout cause)
-    by (inl (fault, at)) = of_fault (ap (λ (c : CheckoutFault). status_of (of_checkout c)) at)
-    by (inr (inl blames)) = of_path index head tree may (cause, refl, blames)
-    by (inr (inr (holds, inl (e, at, blames)))) = of_work index head tree may holds (inl (e, ap of_checkout at, blames))
-    by (inr (inr (holds, inr against))) = of_work index head tree may holds (inr (cause, refl, against.0, against.1, against.2))
+    by : IsOfStart honest can_hold content work root index tree e → RefusesCheckout honest can_hold own revision content work e
+    by (is_cut, start, starts, (cause, is, against)) = subst (RefusesCheckout honest can_hold own revision content work) (sym is) (of against)
+      where
+        of : IsOfCheckout honest can_hold work content start tree cause → RefusesCheckout honest can_hold own revision content work (of_checkout cause)
+        of (inl (fault, at)) = of_fault (ap (λ (c : CheckoutFault). status_of (of_checkout c)) at)
+        of (inr (inl blames)) = of_path index head root tree is_cut start may starts (cause, refl, blames)
+        of (inr (inr (holds, inl (cause', at, blames)))) = of_work index head root tree is_cut start may starts holds (inl (cause', ap of_checkout at, blames))
+        of (inr (inr (holds, inr against))) = of_work index head root tree is_cut start may starts holds (inr (cause, refl, against.0, against.1, against.2))
 
 -- what refuses a status behind HEAD's tree
 pub refused_status : (honest : Type 0) → honest → (content m : FileMap) (index : IndexMap) (tree : Option ObjectId) (cause : CheckoutFault)

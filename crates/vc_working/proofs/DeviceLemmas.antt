@@ -2,7 +2,7 @@
 use Rattle.std.proofs.Common.{arith, ◌≡◌, ℕ, ◌+◌, Option, Some, ◌⊎◌, inl, inr, sym, refl, subst, ◌∙◌}
 use Rattle.vc_checkout.specs.Devices.{WearsEither}
 use Rattle.vc_files.proofs.WearLemmas.{both_differ, fails_later, left_before, same_differ, spends_both, spends_none}
-use Rattle.vc_files.specs.Failures.{HasFailed, Spends, Wears, Writes}
+use Rattle.vc_files.specs.Failures.{HasFailed, Spends, Wears, Writes, unstopped}
 use Rattle.vc_files.specs.FileMap.{FileMap}
 use Rattle.vc_working.specs.Devices.{WritesEither}
 use Rattle.vc_cli.specs.Failure.{IsOfDevice, IsOfFiles}
@@ -109,3 +109,17 @@ module _ {W F : Type 0} {work_failed : W → ℕ} {work_can_fail : W → Type 0}
       calm_of : can_fail old ⊎ P → can_fail old ⊎ Q
       calm_of (inl can) = inl can
       calm_of (inr device) = inr (to device)
+
+-- a look that leaves the work tree's writes is one at a device with no stop
+pub unstopped_either : {W F : Type 0} {work_failed : W → ℕ} {work_can_fail : W → Type 0} {work_left : W → Option ℕ} {failed : F → ℕ} {can_fail : F → Type 0} {left : F → Option ℕ} {was now : W} {old new : F} {P : Type 0}
+    → WearsEither work_failed work_can_fail work_left failed can_fail left was now old new P → WearsEither work_failed work_can_fail unstopped failed can_fail left was now old new P
+unstopped_either w = record {
+  later_work = w.later_work;
+  later_files = w.later_files;
+  calm_work = w.calm_work;
+  calm_files = w.calm_files;
+  could = w.could;
+  failed_now = w.failed_now;
+  unspent_work = refl;
+  unspent = w.unspent;
+}

@@ -1,4 +1,6 @@
+pub mod BegunLemmas
 pub mod CheckoutLemmas
 pub mod CloneLemmas
 pub mod DeviceLemmas
+pub mod MendingLemmas
 pub mod NamedLemmas

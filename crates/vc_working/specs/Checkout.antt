@@ -1,5 +1,5 @@
 -- What a checkout brings, what it leaves, and why it is refused.
-use Rattle.std.specs.Prelude.{◌≡◌, ◌⊎◌, ℕ, Bool, List, [], ◌∷◌, ◌++◌, ⊤, Option, Some, Ok, Err, MatchOption, codes, true, false}
+use Rattle.std.specs.Prelude.{◌≡◌, ◌≢◌, ◌⊎◌, ℕ, Bool, List, [], ◌∷◌, ◌++◌, ⊤, Option, Some, None, Ok, Err, MatchOption, codes, true, false}
 use Rattle.std.specs.FinMap.{insert}
 use Rattle.hex.specs.Hex.{encode_lower}
 use Rattle.vc_files.specs.FileMap.{FileMap}
@@ -22,11 +22,13 @@ use Rattle.vc_index.specs.TreeFiles.{IsFileOfTree}
 use Rattle.vc_index.specs.TreeReading.{ListsAs, TreeFault, tree_fault}
 use Rattle.vc_index.specs.declared.faults.IndexFault.{IndexFault}
 use Rattle.vc_checkout.specs.Blobs.{BlamesBlobs, HasDueBlobs}
-use Rattle.vc_checkout.specs.Folders.{Folders}
-use Rattle.vc_checkout.specs.CheckoutFault.{IsAgainst}
+use Rattle.vc_work_tree.specs.Folders.{Folders}
+use Rattle.vc_checkout.specs.CheckoutFault.{IsAgainst, IsOfCheckout}
 use Rattle.vc_checkout.specs.Holding.{BlamesPath, HoldsDue}
 use Rattle.vc_checkout.specs.Refusal.{IsClear, IsRefused}
+use Rattle.vc_checkout.specs.Settling.{Settles}
 use Rattle.vc_checkout.specs.Steps.{Brings, BringsPart, IsUnwritten}
+use Rattle.vc_checkout.specs.WorkTree.{AreApart}
 use Rattle.vc_checkout.specs.declared.faults.CheckoutFault.{CheckoutFault}
 use Rattle.vc_work_folder.specs.Own.{meets_own}
 use Rattle.vc_local.specs.Blames.{BlamesHead as BlamesNewHead, MayHead}
@@ -34,6 +36,7 @@ use Rattle.vc_local.specs.IndexFile.{BlamesIndex, SpellsIndex}
 use Rattle.vc_local.specs.NodeFault.{of_index as node_fault}
 use Rattle.vc_local.specs.Shown.{shown, with_head_shown, with_index_shown}
 use Rattle.vc_local.specs.declared.fault.NodeFault.TheVariants.{BadPath}
+use Rattle.vc_working.specs.Begun.{begun_in, with_note}
 use Rattle.vc_working.specs.CloneWords.{branch_ref}
 use Rattle.vc_cli.specs.Failure.{of_checkout, status_of}
 use Rattle.vc_cli.specs.Revisions.{Denoted, IsOfRevision}
@@ -83,46 +86,97 @@ pub record IsStarted (content : FileMap) (index : IndexMap) : Type 0 where
 
 -- all that is looked at before the blobs and the work tree: besides, the revision leads to this HEAD and to a tree that lists
 -- these files, HEAD may be that, and the tree keeps away from the store's own folder
-pub record MayBring (own revision : List ℕ) (content : FileMap) (index : IndexMap) (head : Head) (tree : IndexMap) : Type 0 where
+pub record MayBring (own revision : List ℕ) (content : FileMap) (index : IndexMap) (head : Head) (root : ObjectId) (tree : IndexMap) : Type 0 where
   pub started : IsStarted content index
-  pub root : ObjectId
   pub target : IsTarget content revision head root
   pub may : MayHead content head
   pub lists : ListsAs (objects content) root (Ok tree)
   pub apart : IsApart (objects content) root own
 
--- The work tree can hold all that was due, and nothing of it was against the checkout; it has the files and the folders that one
--- leaves, the index is the tree's, and HEAD is the target.
+-- ---- what the work tree has before it
+
+-- the files of the tree are not listed: for the first fault of it and of the trees below it, for the file of one that is
+-- damaged, or for a failure
+abbrev pub IsOfTreeList : FileMap → ObjectId → Failure → Type 0
+IsOfTreeList content root (Node fault) = (cause : IndexFault) × (fault ≡ node_fault cause) × IsOfList (Unit {0}) content root cause × ((told : TreeFault) → tree_fault cause ≡ Some told → ListsAs (objects content) root (Err told))
+IsOfTreeList content root _ = ⊥
+
+-- a checkout to another tree was cut short, which lists these files
+abbrev pub IsCut : FileMap → ObjectId → IndexMap → Type 0
+IsCut content root cut = (other : ObjectId) × (begun_in content ≡ Some other) × (other ≢ root) × ListsAs (objects content) other (Ok cut)
+
+-- none was, but for one to this tree, or to one that can't be listed now
+abbrev pub IsWhole : FileMap → ObjectId → Type 0
+IsWhole content root = (other : ObjectId) → begun_in content ≡ Some other → (other ≡ root) ⊎ ((e : Failure) × IsOfTreeList content other e × (status_of e ≢ 3))
+
+-- The index that a checkout to the tree of this id starts from: that of the files, or, where a checkout to another tree was cut short, the
+-- index of what the work tree has.
+abbrev pub IsStart : Type 0 → FileMap → FileMap → ObjectId → IndexMap → Bool → IndexMap → Type 0
+IsStart honest content work root index false start = (start ≡ index) × IsWhole content root
+IsStart honest content work root index true start = (cut : IndexMap) × IsCut content root cut × (honest → AreApart work → Settles index cut work start)
+
+-- the files where the index that it starts from is written, where that is another one
+abbrev pub with_start : FileMap → Bool → IndexMap → FileMap
+with_start content false start = content
+with_start content true start = insert content (codes "index") (index_text start)
+
+-- and where the tree is noted, before the work tree is written
+abbrev pub noted : FileMap → Bool → IndexMap → ObjectId → FileMap
+noted content is_cut start root = with_note (with_start content is_cut start) root
+
+-- The work tree can hold all that is due, each blob that is due is there, and nothing is against the checkout.
+pub record MayWrite (honest : Type 0) (can_hold : List ℕ → Bool) (content work : FileMap) (start tree : IndexMap) : Type 0 where
+  pub holds : HoldsDue can_hold start tree
+  pub blobs : HasDueBlobs (objects content) start tree
+  pub clear : honest → (path : List ℕ) → IsClear start tree work path
+
+-- ---- what it leaves
+
+-- Nothing was against the checkout. The work tree has the files and the folders that one leaves, the index is the tree's, HEAD is the
+-- target, and no checkout is noted.
 pub record ChecksOut {W : Type 0} (content : W → FileMap) (held : W → Folders) (can_hold : W → List ℕ → Bool) (own revision : List ℕ) (old new : FileMap) (was now : W) : Type 0 where
   pub index : IndexMap
   pub head : Head
+  pub root : ObjectId
   pub tree : IndexMap
-  pub before : MayBring own revision old index head tree
-  pub holds : HoldsDue (can_hold was) index tree
-  pub blobs : HasDueBlobs (objects old) index tree
-  pub clear : (path : List ℕ) → IsClear index tree (content was) path
-  pub brought : Brings content held (objects old) index tree was now
+  pub before : MayBring own revision old index head root tree
+  pub is_cut : Bool
+  pub start : IndexMap
+  pub starts : IsStart (Unit {0}) old (content was) root index is_cut start
+  pub may : MayWrite (Unit {0}) (can_hold was) old (content was) start tree
+  pub brought : Brings content held (objects old) start tree was now
   pub sound : IsIndex tree
   pub shows : shown new ≡ with_head_shown (with_index_shown (shown old) (index_text tree)) head
+  pub ended : begun_in new ≡ None
 
--- what a fault after the work tree leaves: the work tree and the index are brought, and HEAD is not moved
-pub record LeavesHead {W : Type 0} (honest : Type 0) (content : W → FileMap) (held : W → Folders) (own revision : List ℕ) (old new : FileMap) (was now : W) : Type 0 where
+-- what a fault leaves before the work tree is brought whole: it is as it was, and the index at most says what it has; or the tree is noted
+abbrev pub StopsHalfway : {W : Type 0} → (W → FileMap) → (W → Folders) → (W → Option ℕ) → (old new : FileMap) → Bool → (start : IndexMap) → (root : ObjectId) → (was now : W) → Type 0 → Type 0
+StopsHalfway content held left old new is_cut start root was now IsPart =
+    (IsUnwritten content held left was now × ((new ≡ old) ⊎ (new ≡ with_start old is_cut start)))
+    ⊎ ((new ≡ noted old is_cut start root) × (begun_in new ≡ Some root) × IsPart)
+
+-- the index is written or it isn't, and HEAD is not moved; or all is done, and the note is still there
+abbrev pub IsBroughtTo : (old new : FileMap) → Bool → (start : IndexMap) → (root : ObjectId) → (tree : IndexMap) → Head → Type 0
+IsBroughtTo old new is_cut start root tree head =
+    (new ≡ noted old is_cut start root)
+    ⊎ ((new ≡ insert (noted old is_cut start root) (codes "index") (index_text tree))
+    ⊎ (shown new ≡ with_head_shown (with_index_shown (shown old) (index_text tree)) head))
+
+-- What a fault leaves where nothing was against the checkout. The work tree is as it was, or the tree is noted, and it was brought in part or
+-- whole.
+pub record LeavesNoted {W : Type 0} (honest : Type 0) (content : W → FileMap) (held : W → Folders) (left : W → Option ℕ) (can_hold : W → List ℕ → Bool) (own revision : List ℕ) (old new : FileMap) (was now : W) : Type 0 where
   pub index : IndexMap
   pub head : Head
+  pub root : ObjectId
   pub tree : IndexMap
-  pub before : MayBring own revision old index head tree
-  pub blobs : HasDueBlobs (objects old) index tree
-  pub clear : honest → (path : List ℕ) → IsClear index tree (content was) path
-  pub brought : honest → Brings content held (objects old) index tree was now
-  pub written : new ≡ insert old (codes "index") (index_text tree)
-
--- a tree that may be brought was brought in part, or all of it
-pub record BringsSome {W : Type 0} (content : W → FileMap) (held : W → Folders) (left : W → Option ℕ) (can_hold : W → List ℕ → Bool) (own revision : List ℕ) (old : FileMap) (was now : W) : Type 0 where
-  pub index : IndexMap
-  pub head : Head
-  pub tree : IndexMap
-  pub before : MayBring own revision old index head tree
-  pub brought : BringsPart content held left can_hold (objects old) index tree was now ⊎ Brings content held (objects old) index tree was now
+  pub before : MayBring own revision old index head root tree
+  pub is_cut : Bool
+  pub start : IndexMap
+  pub starts : IsStart honest old (content was) root index is_cut start
+  pub may : MayWrite honest (can_hold was) old (content was) start tree
+  pub stage :
+      StopsHalfway content held left old new is_cut start root was now (honest → BringsPart content held left can_hold (objects old) start tree was now)
+      ⊎ ((honest → Brings content held (objects old) start tree was now) × (begun_in new ≡ Some root) × IsBroughtTo old new is_cut start root tree head)
 
 -- the file of the index spells none
 abbrev pub IsOfIndex : FileMap → Failure → Type 0
@@ -160,12 +214,6 @@ IsOfTarget content revision e =
 abbrev pub IsOfNewHead : FileMap → Head → Failure → Type 0
 IsOfNewHead content head (Node fault) = BlamesNewHead content head fault
 IsOfNewHead content head _ = ⊥
-
--- the files of the tree are not listed: for the first fault of it and of the trees below it, for the file of one that is
--- damaged, or for a failure
-abbrev pub IsOfTreeList : FileMap → ObjectId → Failure → Type 0
-IsOfTreeList content root (Node fault) = (cause : IndexFault) × (fault ≡ node_fault cause) × IsOfList (Unit {0}) content root cause × ((told : TreeFault) → tree_fault cause ≡ Some told → ListsAs (objects content) root (Err told))
-IsOfTreeList content root _ = ⊥
 
 -- a tree that was listed has a file in the store's own folder, or in the place of a folder above it
 pub record HasOwn (objects : ObjectMap) (root : ObjectId) (own : List ℕ) : Type 0 where
@@ -207,19 +255,21 @@ pub data RefusesLook (own revision : List ℕ) (content : FileMap) (e : Failure)
   of_tree : (index : IndexMap) (head : Head) (root : ObjectId) → IsStarted content index → IsTarget content revision head root → MayHead content head → IsOfTreeList content root e ⊎ IsOfOwn content root own e
       → RefusesLook own revision content e
 
+-- why the work tree may not be brought to a tree from the index that the checkout starts from
+abbrev pub IsOfStart : Type 0 → (List ℕ → Bool) → FileMap → FileMap → ObjectId → IndexMap → IndexMap → Failure → Type 0
+IsOfStart honest can_hold content work root index tree e =
+    (is_cut : Bool) × (start : IndexMap) × IsStart honest content work root index is_cut start × ((cause : CheckoutFault) × (e ≡ of_checkout cause) × IsOfCheckout honest can_hold work content start tree cause)
+
 -- The same of the whole: behind the look the paths that are due are looked at, then their blobs, and then the work tree.
 pub data RefusesCheckout (honest : Type 0) (can_hold : List ℕ → Bool) (own revision : List ℕ) (content work : FileMap) (e : Failure) : Type 0 where
   of_fault : status_of e ≡ 3 → RefusesCheckout honest can_hold own revision content work e
   of_look : RefusesLook own revision content e → RefusesCheckout honest can_hold own revision content work e
-  of_path : (index : IndexMap) (head : Head) (tree : IndexMap) → MayBring own revision content index head tree → IsOfPath can_hold index tree e → RefusesCheckout honest can_hold own revision content work e
-  of_work : (index : IndexMap) (head : Head) (tree : IndexMap) → MayBring own revision content index head tree → HoldsDue can_hold index tree → IsOfBlobs content index tree e ⊎ IsOfWork honest content index tree work e
-      → RefusesCheckout honest can_hold own revision content work e
+  of_path : (index : IndexMap) (head : Head) (root : ObjectId) (tree : IndexMap) (is_cut : Bool) (start : IndexMap) → MayBring own revision content index head root tree → IsStart honest content work root index is_cut start
+      → IsOfPath can_hold start tree e → RefusesCheckout honest can_hold own revision content work e
+  of_work : (index : IndexMap) (head : Head) (root : ObjectId) (tree : IndexMap) (is_cut : Bool) (start : IndexMap) → MayBring own revision content index head root tree → IsStart honest content work root index is_cut start
+      → HoldsDue can_hold start tree → IsOfBlobs content start tree e ⊎ IsOfWork honest content start tree work e → RefusesCheckout honest can_hold own revision content work e
 
--- what stands of the files after an error: they are as they were, or, after a fault, what such a one may leave
-abbrev pub LeavesOrFails : {W : Type 0} → Type 0 → (W → FileMap) → (W → Folders) → (own revision : List ℕ) → (old new : FileMap) → (was now : W) → Failure → Type 0
-LeavesOrFails honest content held own revision old new was now e = (new ≡ old) ⊎ ((status_of e ≡ 3) × LeavesHead honest content held own revision old new was now)
-
--- what stands of the work tree after an error: it is as it was and no write was made, or, after a fault, some of the tree was brought
-abbrev pub LeavesWork : {W : Type 0} → Type 0 → (W → FileMap) → (W → Folders) → (W → Option ℕ) → (W → List ℕ → Bool) → (own revision : List ℕ) → (old : FileMap) → (was now : W) → Failure → Type 0
-LeavesWork honest content held left can_hold own revision old was now e =
-    IsUnwritten content held left was now ⊎ ((status_of e ≡ 3) × (honest → BringsSome content held left can_hold own revision old was now))
+-- what stands after an error: files and work tree are as they were, and no write was made to it; or, after a fault, what such a one leaves
+abbrev pub LeavesOrFails : {W : Type 0} → Type 0 → (W → FileMap) → (W → Folders) → (W → Option ℕ) → (W → List ℕ → Bool) → (own revision : List ℕ) → (old new : FileMap) → (was now : W) → Failure → Type 0
+LeavesOrFails honest content held left can_hold own revision old new was now e =
+    (IsUnwritten content held left was now × (new ≡ old)) ⊎ ((status_of e ≡ 3) × LeavesNoted honest content held left can_hold own revision old new was now)

@@ -1,3 +1,4 @@
+pub mod Begun
 pub mod Checkout
 pub mod CloneWords
 pub mod Devices

@@ -6,16 +6,17 @@ ghost use Rattle.vc_refs.specs.Refs.{refs};
 ghost use Rattle.vc_index.specs.TreeReading.{ListsAs};
 ghost use Rattle.vc_object_map.specs.Store.{objects};
 ghost use Rattle.vc_work_folder.specs.Own.{meets_own};
-ghost use Rattle.vc_working.specs.Checkout.{ChecksOut, IsApart, IsCommitTree, IsOfCommit, IsOfNewHead, IsOfOwn, IsOfRef, IsOfTarget, IsOfTreeList, IsReadable, IsTarget, LeavesOrFails, LeavesWork, MayBring, RefusesCheckout, RefusesLook, peeled};
+ghost use Rattle.vc_working.specs.Checkout.{ChecksOut, IsApart, IsCommitTree, IsOfCommit, IsOfNewHead, IsOfOwn, IsOfRef, IsOfTarget, IsOfTreeList, IsReadable, IsTarget, LeavesOrFails, MayBring, RefusesCheckout, RefusesLook, peeled};
 ghost use Rattle.vc_working.specs.CloneWords.{branch_ref};
 ghost use Rattle.vc_working.specs.Devices.{WritesEither};
 ghost use Rattle.vc_cli.specs.Failure.{TellsDevice};
 ghost use Rattle.vc_cli.specs.Revisions.{Denoted, IsOfRevision};
 ghost use Rattle.vc_files.specs.Failures.{Wears, unstopped};
 
+use crate::begun::end;
 use crate::branch_name::branch_of;
+use crate::mending::{bring_noted, ready};
 use std::alloc::{AllocError, Global};
-use vc_checkout::WorkTree;
 use vc_cli::{Failure, resolve, resolve_bytes};
 use vc_files::Files;
 use vc_index::Index;
@@ -24,6 +25,7 @@ use vc_object::{Kind, ObjectId};
 use vc_refname::RefName;
 use vc_refs::Head;
 use vc_work_folder::meets_own;
+use vc_work_tree::WorkTree;
 
 // The text of an id, peeled to a kind.
 fn peel_text(alloc: Global, id: &ObjectId, kind: Kind) -> Result<Vec<u8>, AllocError>
@@ -169,8 +171,8 @@ fn look<F: Files>(
     files: &mut F,
     own: &[u8],
     revision: &str,
-) -> Result<(Index, Head, Index), Failure>
-    ensures may { F.honest → IfOk result (λ found. MayBring own.now revision.now (F.content files.old) found.0 found.1 found.2) }
+) -> Result<(Index, Head, ObjectId, Index), Failure>
+    ensures may { F.honest → IfOk result (λ found. MayBring own.now revision.now (F.content files.old) found.0 found.1 found.2 found.3) }
     ensures local { IfOk result (λ found. IsLocalHead found.1) }
     ensures refused { F.honest → IfErr result (RefusesLook own.now revision.now (F.content files.old)) }
     ensures same { F.content files.new ≡ F.content files.old }
@@ -181,7 +183,7 @@ fn look<F: Files>(
     let (aim, root) = target(alloc, files, revision)?;
     refuse_bad_head(alloc, files, &aim)?;
     let tree = list_apart(alloc, files, own, &root)?;
-    Ok((index, aim, tree))
+    Ok((index, aim, root, tree))
 }
 
 /// Brings the work tree, the index and HEAD, in this order, to the commit that the revision names: where there is a branch
@@ -193,7 +195,12 @@ fn look<F: Files>(
 /// (40, 60, 63), its paths, none of which may be own (60), the paths that the index has otherwise or not at all, which the work
 /// tree must be able to hold (60), their blobs (40, 63), and the work tree, where nothing may be lost that is not stored (70, 71, 72). Of the tree's other blobs none is opened for that.
 ///
-/// A fault may leave part of the work tree brought, or all of it and the index; HEAD moves last.
+/// Before its first write of the work tree it notes the tree, and the note goes last. Where a checkout to another tree was cut
+/// short, by a stop or a fault, this one starts from the index of what the work tree has (`vc_checkout::settle`): what that one wrote is
+/// written over, and what it took away comes again, whatever this one brings; a file that is neither's is a person's.
+///
+/// A fault may leave part of the work tree brought, or all of it, and then the index, and then HEAD; the note is there as long as the
+/// work tree may be neither what it was nor all that was to be brought.
 pub fn check_out<F: Files, W: WorkTree>(
     alloc: Global,
     files: &mut F,
@@ -203,13 +210,14 @@ pub fn check_out<F: Files, W: WorkTree>(
 ) -> Result<(), Failure>
     ensures done { W.honest → F.honest → OnOk result (ChecksOut W.content W.folders W.can_hold own.now revision.now (F.content files.old) (F.content files.new) work.old work.new) }
     ensures refused { F.honest → IfErr result (RefusesCheckout W.honest (W.can_hold work.old) own.now revision.now (F.content files.old) (W.content work.old)) }
-    ensures files { F.honest → IfErr result (LeavesOrFails W.honest W.content W.folders own.now revision.now (F.content files.old) (F.content files.new) work.old work.new) }
-    ensures begun { F.honest → IfErr result (LeavesWork W.honest W.content W.folders W.left W.can_hold own.now revision.now (F.content files.old) work.old work.new) }
+    ensures begun { F.honest → IfErr result (LeavesOrFails W.honest W.content W.folders W.left W.can_hold own.now revision.now (F.content files.old) (F.content files.new) work.old work.new) }
     ensures wear { WritesEither W.failed W.can_fail unstopped F.honest F.content F.failed F.can_fail F.left work.old work.new files.old files.new (TellsDevice result) }
 {
-    let (index, aim, tree) = look(alloc, files, own, revision)?;
-    vc_checkout::checkout(alloc, work, files, &index, &tree)?;
+    let (index, aim, root, tree) = look(alloc, files, own, revision)?;
+    let (is_cut, start) = ready(alloc, files, work, index, &root, &tree)?;
+    bring_noted(alloc, files, work, is_cut, &start, &root, &tree)?;
     write_index(alloc, files, &tree)?;
     vc_refs::set_head(files, alloc, &aim)?;
+    end(alloc, files)?;
     Ok(())
 }

@@ -10,13 +10,13 @@ ghost use Rattle.vc_files.specs.Failures.{Wears};
 ghost use Rattle.vc_cli.specs.Failure.{TellsDevice};
 
 use std::alloc::{AllocError, Global};
-use vc_checkout::WorkTree;
 use vc_cli::Failure;
 use vc_files::Fault;
 use vc_index::{Index, IndexFault};
 use vc_local::NodeFault;
 use vc_object::{Mode, ObjectId};
 use vc_work_folder::is_own;
+use vc_work_tree::WorkTree;
 
 // Refuses a path that no index may have, or that lies in the store's own folder.
 fn refuse_path(alloc: Global, own: &[u8], path: &[u8]) -> Result<(), Failure>

@@ -12,12 +12,13 @@ ghost use Rattle.vc_files.specs.Failures.{Wears};
 use crate::checkout::peel;
 use std::alloc::{AllocError, Global};
 use std::io::Write;
-use vc_checkout::{Change, IndexChange, WorkChange, WorkTree};
+use vc_checkout::{Change, IndexChange, WorkChange};
 use vc_cli::{Failure, print_text};
 use vc_files::Files;
 use vc_local::read_index;
 use vc_object::{Kind, ObjectId};
 use vc_work_folder::is_own;
+use vc_work_tree::WorkTree;
 
 // The letter of a change of the index.
 fn index_letter(change: IndexChange) -> u8

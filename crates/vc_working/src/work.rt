@@ -1,11 +1,12 @@
 //! The subcommands that look at the work tree, over real folders: `checkout` and `status`.
 
+use crate::begun::{CUT_SHORT, begun};
 use crate::checkout::check_out;
 use crate::own_folder::own_folder;
 use crate::status::print_status;
 use std::io::Write;
 use std::rt;
-use vc_cli::{Failure, open_store};
+use vc_cli::{Failure, Faults, open_store};
 use vc_folder::Syncs;
 use vc_work_folder::{Beside, FolderTree};
 
@@ -38,11 +39,19 @@ where
     )
 }
 
-/// Prints a line for each path at which HEAD's tree, the index and the work tree differ, in the order of the paths.
-pub fn status<R, O>(rt: &R, store: &str, work: &str, output: &mut O) -> Result<(), Failure>
+/// Prints a line for each path at which HEAD's tree, the index and the work tree differ, in the order of the paths. A person is
+/// told if a checkout was cut short.
+pub fn status<R, O, E>(
+    rt: &R,
+    store: &str,
+    work: &str,
+    output: &mut O,
+    faults: &mut Faults<E>,
+) -> Result<(), Failure>
 where
     R: rt::Files + Syncs<R::File> + Beside<R> + AllocGlobal + Clone + Drop,
     O: Write,
+    E: Write,
 {
     let own = own_folder(rt, store, work)?;
     let mut folder = open_work(rt, store, work, own.as_str())?;
@@ -53,5 +62,9 @@ where
         &mut folder,
         own.as_str().as_bytes(),
         output,
-    )
+    )?;
+    if begun(rt.alloc(), &mut files)?.is_none() {
+        return Ok(());
+    }
+    faults.tell(CUT_SHORT)
 }

@@ -1,9 +1,9 @@
 use Rattle.std.proofs.Common.{rules, ◌≡◌, [], ◌∷◌, map, refl, ap, List, ℕ}
 use Rattle.std.specs.FinMap.{get}
 use Rattle.vc_checkout.specs.CheckedOut.{IsCleared}
-use Rattle.vc_checkout.specs.Folders.{IsFolder}
+use Rattle.vc_work_tree.specs.Folders.{IsFolder}
 use Rattle.vc_checkout.specs.FoldersAfter.{IsLeft, IsLeftBy}
-use Rattle.vc_checkout.proofs.FolderLemmas.{still_folders}
+use Rattle.vc_work_tree.proofs.FolderLemmas.{still_folders}
 use Rattle.vc_checkout.proofs.LeavingLemmas.{between_same, between_then, clear_lost, leaving_ends, leaving_more, leaving_start, left_above, left_unknown}
 use Rattle.vc_checkout.proofs.ApplyLemmas.{Working, working_start, working_more, working_stop, cleared_again, cleared_unknown, cleared_texts, no_entry}
 use Rattle.vc_checkout.proofs.apply.clear_all.Goals as goal

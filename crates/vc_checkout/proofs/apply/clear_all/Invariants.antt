@@ -4,7 +4,7 @@ use Rattle.vc_files.specs.Failures.{Wears, unstopped}
 use Rattle.vc_checkout.specs.CheckedOut.{IsCleared}
 use Rattle.vc_checkout.specs.WorkTree.{HasTextPaths}
 use Rattle.vc_checkout.proofs.ApplyLemmas.{Working}
-use Rattle.vc_checkout.specs.Folders.{IsFolder}
+use Rattle.vc_work_tree.specs.Folders.{IsFolder}
 use Rattle.vc_checkout.specs.FoldersAfter.{AreBetween, IsLeft, IsLeftBy}
 use Rattle.vc_checkout.proofs.LeavingLemmas.{Leaving}
 use Rattle.vc_checkout.proofs.apply.clear_all.Given as goal

@@ -3,7 +3,7 @@ use Rattle.std.specs.FinMap.{get}
 use Rattle.vc_checkout.specs.CheckedOut.{IsCleared, left_of}
 use Rattle.vc_checkout.proofs.ApplyLemmas.{step_or_none_map, cleared_gone}
 use Rattle.std.specs.Prelude.{IsSome, IsUtf8}
-use Rattle.vc_checkout.specs.Folders.{IsFolder}
+use Rattle.vc_work_tree.specs.Folders.{IsFolder}
 use Rattle.vc_checkout.specs.FoldersAfter.{IsFolderFor, IsLeft}
 use Rattle.vc_checkout.proofs.LeavingLemmas.{between_less, left_as, left_kept, left_unknown, left_was, less_same, still_unless}
 use Rattle.vc_checkout.proofs.apply.clear_path.Goals as goal

@@ -11,7 +11,7 @@ use Rattle.vc_checkout.specs.declared.faults.CheckoutFault.{CheckoutFault}
 use Rattle.vc_checkout.specs.declared.faults.CheckoutFault.TheVariants.{Index}
 use Rattle.vc_checkout.proofs.ApplyLemmas.{step_removed, step_put, file_commit, file_blob}
 use Rattle.vc_checkout.proofs.BlobLemmas.{no_blame}
-use Rattle.vc_checkout.specs.Folders.{AreFolders, IsAtOrIn, IsFolder}
+use Rattle.vc_work_tree.specs.Folders.{AreFolders, IsAtOrIn, IsFolder}
 use Rattle.vc_checkout.proofs.LeavingLemmas.{kept_removed, keeps_same, moved_folders}
 use Rattle.vc_checkout.proofs.MakingLemmas.{lost_between, put_between, put_file, put_folder, was_or_put}
 use Rattle.vc_checkout.proofs.ClearLemmas.{if_err}

@@ -1,5 +1,5 @@
 use Rattle.std.proofs.Common.{rules, ◌≡◌, ◌∙◌, false, inl, inr, refl}
-use Rattle.vc_checkout.proofs.FolderLemmas.{above_in}
+use Rattle.vc_work_tree.proofs.FolderLemmas.{above_in}
 use Rattle.vc_checkout.proofs.LeavingLemmas.{chain_between, chain_ends, chain_more, chain_start, chain_stops, kept_same, keeps_same, moved_folders}
 use Rattle.vc_checkout.proofs.apply.remove_empty_above.Goals as goal
 

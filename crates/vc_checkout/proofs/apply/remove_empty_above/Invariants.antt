@@ -3,7 +3,7 @@ use denote.Text.{Utf8}
 use denote.Shadow.{shadow}
 use Rattle.vc_files.specs.Failures.{Wears, unstopped}
 use Rattle.vc_index.specs.Path.{IsAbove}
-use Rattle.vc_checkout.specs.Folders.{AreFolders, IsAtOrIn, IsFolder}
+use Rattle.vc_work_tree.specs.Folders.{AreFolders, IsAtOrIn, IsFolder}
 use Rattle.vc_checkout.proofs.apply.remove_empty_above.Given as goal
 
 -- of the folders above the path, those above where it stands are left

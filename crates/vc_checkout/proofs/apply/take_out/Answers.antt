@@ -5,7 +5,7 @@ use Rattle.vc_files.specs.FileMap.{FileMap}
 use Rattle.std.specs.Prelude.{IsSome, IsUtf8}
 use Rattle.vc_index.specs.Path.{IsAbove}
 use Rattle.vc_checkout.specs.CheckedOut.{StepAt, left_of}
-use Rattle.vc_checkout.specs.Folders.{AreFolders, IsFolder}
+use Rattle.vc_work_tree.specs.Folders.{AreFolders, IsFolder}
 use Rattle.vc_checkout.specs.FoldersAfter.{AreBetween}
 use Rattle.vc_checkout.proofs.ApplyLemmas.{step_same, step_removed, left_commit, left_other}
 use Rattle.vc_checkout.proofs.LeavingLemmas.{between_same, kept_removed, kept_same, keeps_same, out_between, out_file, out_folder, out_nothing}

@@ -4,7 +4,7 @@ use Rattle.vc_files.specs.FileMap.{FileMap}
 use Rattle.vc_object_map.specs.Store.{objects}
 use Rattle.vc_checkout.specs.CheckedOut.{IsWritten, StepAt, StepOrNone}
 use Rattle.vc_index.specs.IndexMap.{IsIndex}
-use Rattle.vc_checkout.specs.Folders.{IsFolder}
+use Rattle.vc_work_tree.specs.Folders.{IsFolder}
 use Rattle.vc_checkout.proofs.MakingLemmas.{cases, filed_there, making_begins, making_between, making_ends, making_more, making_start, not_filed, written_lost}
 use Rattle.vc_checkout.proofs.ApplyLemmas.{working_start, working_more, working_stop, written_again, written_none, no_entry}
 use Rattle.vc_checkout.proofs.apply.write_all.Goals as goal

@@ -5,7 +5,7 @@ use Rattle.vc_object_map.specs.Store.{objects}
 use Rattle.vc_checkout.specs.CheckedOut.{IsWritten}
 use Rattle.vc_checkout.specs.Devices.{WearsEither}
 use Rattle.vc_checkout.proofs.ApplyLemmas.{Working}
-use Rattle.vc_checkout.specs.Folders.{IsFolder}
+use Rattle.vc_work_tree.specs.Folders.{IsFolder}
 use Rattle.vc_checkout.specs.FoldersAfter.{AreBetween, GivesWayBy, IsMadeBy}
 use Rattle.vc_checkout.proofs.MakingLemmas.{Making}
 use Rattle.vc_checkout.proofs.apply.write_all.Given as goal

@@ -3,7 +3,7 @@ use Rattle.std.specs.FinMap.{get}
 use Rattle.vc_object_map.specs.Store.{objects}
 use Rattle.vc_checkout.specs.CheckedOut.{IsWritten, file_of}
 use Rattle.vc_checkout.proofs.ApplyLemmas.{step_or_none_map, written_due}
-use Rattle.vc_checkout.specs.Folders.{IsFolder}
+use Rattle.vc_work_tree.specs.Folders.{IsFolder}
 use Rattle.vc_checkout.proofs.MakingLemmas.{due_between, due_exact, idle_exact}
 use Rattle.vc_checkout.proofs.apply.write_path.Goals as goal
 use Rattle.vc_lemmas.proofs.Lists.{on_err}

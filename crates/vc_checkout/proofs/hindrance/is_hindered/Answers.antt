@@ -2,7 +2,8 @@ use Rattle.std.proofs.Common.{rules, ◌≡◌, ◌≢◌, false, Some, IsTrue}
 use Rattle.std.specs.Prelude.{option_map}
 use Rattle.std.specs.FinMap.{get}
 use Rattle.vc_object.specs.declared.mode.Mode.TheVariants as modes
-use Rattle.vc_checkout.specs.WorkTree.{has_path, blob_name}
+use Rattle.vc_checkout.specs.WorkTree.{has_path}
+use Rattle.vc_work_tree.specs.Paths.{blob_name}
 use Rattle.vc_checkout.proofs.HindranceLemmas.{hindered_there, hindered_at, not_wanted_of, wanted_of}
 use Rattle.vc_checkout.proofs.hindrance.is_hindered.Goals as goal
 

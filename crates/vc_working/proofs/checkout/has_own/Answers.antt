@@ -3,7 +3,7 @@ use Rattle.std.specs.Prelude.{IsSome}
 use Rattle.std.specs.FinMap as maps
 use Rattle.vc_checkout.proofs.ApplyLemmas.{no_entry}
 use Rattle.vc_checkout.proofs.PathSetLemmas.{entry_paths}
-use Rattle.vc_checkout.specs.WorkTree.{is_listed}
+use Rattle.vc_work_tree.specs.Paths.{is_listed}
 use Rattle.vc_working.proofs.CheckoutLemmas.{listed_first, listed_more, unmet_more, unmet_none}
 use Rattle.vc_working.proofs.checkout.has_own.Goals as goal
 

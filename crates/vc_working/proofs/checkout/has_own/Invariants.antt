@@ -1,7 +1,7 @@
 use Rattle.std.proofs.Common.{◌≡◌, ℕ, List, map, true, false}
 use Rattle.std.specs.Prelude.{IsSome}
 use Rattle.std.specs.FinMap as maps
-use Rattle.vc_checkout.specs.WorkTree.{is_listed}
+use Rattle.vc_work_tree.specs.Paths.{is_listed}
 use Rattle.vc_work_folder.specs.Own.{meets_own}
 use Rattle.vc_working.proofs.checkout.has_own.Given as goal
 

@@ -76,7 +76,6 @@ returns-clause-may g c = λ honest.
     let good : content c.refuse_bad_head.new.files ≡ old = c.in_ok-refuse_bad_head.ensures.same ∙ aimed in
     record {
       started = record { spelled = c.in_ok-index.ensures.spelled honest; readable = subst IsGoodHead read (c.in_ok-head.ensures.good honest) };
-      root = root;
       target = subst (λ (m : FileMap). IsTarget m c.args.revision.now aim root) headed (c.in_ok-aim.ensures.target honest);
       may = subst (λ (m : FileMap). MayHead m aim) aimed (c.in_ok-refuse_bad_head.ensures.may honest);
       lists = subst (λ (m : FileMap). ListsAs (objects m) root (Ok tree)) good (c.in_ok-tree.ensures.lists honest);
