@@ -6,9 +6,10 @@ use std::mem;
 use std::net::{Net, OpenListener, OpenStream};
 use vc_files::MemoryFiles;
 use vc_message::{Fallible, read_message};
-use vc_remote::{answer_from, bind, make_shared};
 use vc_server::tell;
+use vc_serving::{answer_from, make_shared};
 use vc_shared::AcceptFault;
+use vc_transport::bind;
 
 /// A shared node, and a connection to it.
 #[derive(Drop)]

@@ -308,7 +308,7 @@ const FORMS: [Form; 20] = [
     Form {
         name: "serve",
         about: "Let clones on this machine fetch from the store and push to it",
-        after: "Prints \"listening\" and the port once it is open, and serves one connection after the other. Commands on\nthe store may run meanwhile: they take turns with each message. Only a fault of its own, no memory or a\nfailed disk, ends it early, with status 3; what a client sends never does.\n\nExample: vcs serve --store shared --port 7000 --count 100",
+        after: "Prints \"listening\" and the port once it is open, and serves one connection after the other. Commands on\nthe store may run meanwhile, also in the middle of a long push. Only a fault of its own, no memory or a\nfailed disk, ends it early, with status 3; what a client sends never does.\n\nExample: vcs serve --store shared --port 7000 --count 100",
         arguments: &[
             STORE,
             PORT,

@@ -1,3 +1,1 @@
-pub mod PlayedWorld
-pub mod PushWords
 pub mod RemoteFailure

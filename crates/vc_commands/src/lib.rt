@@ -2,10 +2,8 @@
 #![tactic(auto)]
 
 mod program;
-mod push_items;
 mod remote;
 mod remote_failure;
-mod world;
 
 pub use program::{run, tell};
 pub use vc_cli::{Failure, Faults};

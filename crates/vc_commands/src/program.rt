@@ -2,8 +2,7 @@
 ghost use Rattle.std.specs.Prelude.{◌≡◌, ◌⊎◌};
 ghost use Rattle.vc_cli.specs.Failure.{status_of};
 
-use crate::remote::{fetch, push, serve};
-use crate::world::world;
+use crate::remote::{fetch, push};
 use clap::error::ErrorKind;
 use clap::{ArgMatches, Error};
 use std::alloc::Global;
@@ -22,6 +21,7 @@ use vc_committing::adding::add;
 use vc_committing::{branch, branch_delete, commit, unstage, write_tree};
 use vc_files::Fault;
 use vc_folder::Syncs;
+use vc_playing::world::world;
 use vc_reading::cat_file::cat_file;
 use vc_reading::hash_object::{HashObject, hash_object, store_stream};
 use vc_reading::init::init;
@@ -31,6 +31,7 @@ use vc_reading::rev_list::rev_list;
 use vc_reading::rev_parse::rev_parse;
 use vc_reading::show_ref::show_ref;
 use vc_reading::{Input, Lists, line_of_refusal};
+use vc_serving::serve;
 use vc_work_folder::Beside;
 use vc_working::work::{checkout, status};
 
@@ -265,6 +266,6 @@ where
         LocalTask::BranchDelete { name } => branch_delete(rt, store, name, faults),
         LocalTask::PackRefs => pack_refs(rt, store),
         LocalTask::Checkout { work, revision } => checkout(rt, store, work, revision),
-        LocalTask::Status { work } => status(rt, store, work, output),
+        LocalTask::Status { work } => status(rt, store, work, output, faults),
     }
 }

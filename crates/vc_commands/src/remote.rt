@@ -1,74 +1,16 @@
-//! The subcommands that speak to another process: `serve`, `fetch` and `push`.
+//! The subcommands that ask another process: `fetch` and `push`.
 ghost use Rattle.std.specs.Prelude.{◌≡◌};
 ghost use Rattle.vc_transport.specs.Progress.{goes_to_terminal};
 
-use crate::push_items::items_of;
 use crate::remote_failure::failure_of;
 use std::fs::File;
-use std::io::{self, Write};
+use std::io::Write;
 use std::net::Net;
 use std::rt;
 use std::thread::Threads;
 use vc_cli::{Failure, Faults, only_writer, open_store, print_text};
-use vc_remote::make_shared;
+use vc_push_items::items_of;
 use vc_transport::{Progress, is_done, report_lines};
-
-/// Serves so many connections to the store in this folder, which is made where there is none. The line `listening`, with the
-/// port, is printed once the port is open.
-pub fn serve<R, O, E>(
-    rt: &R,
-    store: &str,
-    port: u16,
-    count: u32,
-    output: &mut O,
-    faults: &mut Faults<E>,
-) -> Result<(), Failure>
-where
-    R: rt::Files<File = File> + Threads + Net + AllocGlobal + Clone + Drop,
-    O: Write,
-    E: Write,
-{
-    make_ready(rt, store, faults)?;
-    let listener = match vc_remote::bind(rt, port) {
-        Ok(listener) => listener,
-        Err(error) => return Err(unopened(rt, port, error, faults)?),
-    };
-    let line = format!(in rt.alloc(); "listening {port}\n")?;
-    print_text(line.as_bytes(), output)?;
-    vc_remote::serve(rt, store, &listener, count)?;
-    Ok(())
-}
-
-// Makes the store that of a shared node, or tells why it is none, before anybody is served.
-fn make_ready<R, E>(rt: &R, store: &str, faults: &mut Faults<E>) -> Result<(), Failure>
-where
-    R: rt::Files<File = File> + Threads + AllocGlobal + Clone + Drop,
-    E: Write,
-{
-    let _lock = only_writer(rt, store, faults)?;
-    let (mut files, made) = make_shared(rt.alloc(), open_store(rt, store)?);
-    files.sync(rt.alloc())?;
-    match made {
-        Ok(()) => Ok(()),
-        Err(fault) => Err(Failure::Node(fault)),
-    }
-}
-
-// The fault of a port that can't be opened. A person is told which one it is.
-fn unopened<R, E>(
-    rt: &R,
-    port: u16,
-    error: io::Error,
-    faults: &mut Faults<E>,
-) -> Result<Failure, Failure>
-where
-    R: rt::Files + AllocGlobal,
-    E: Write,
-{
-    let line = format!(in rt.alloc(); "port {port} can't be opened: another program may have it")?;
-    faults.tell(line.as_str())?;
-    Ok(Failure::from(error))
-}
 
 // Where a person is told how far a long message is: on a terminal alone.
 fn progress_of<E: Write>(faults: &mut Faults<E>) -> Progress<&mut E>

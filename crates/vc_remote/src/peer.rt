@@ -6,16 +6,15 @@ ghost use Rattle.vc_model.specs.Node.Answer.{Declined};
 ghost use Rattle.vc_remote.specs.declared.remote_fault.RemoteFault.TheVariants.{Fault as OfDevice};
 
 use crate::remote_fault::RemoteFault;
-use crate::serving::local;
 use std::alloc::Global;
 use std::fs::File;
-use std::io::{self, BufReader, Read, Write};
+use std::io::{BufReader, Write};
 use std::net::{Net, OpenStream};
 use std::rt;
 use vc_files::Fault;
 use vc_folder::FolderLock;
-use vc_message::{Fallible, Message, read_message, skip_message};
-use vc_transport::{Copying, Counted, Progress, Spool, Spooled};
+use vc_message::{Fallible, Message, read_message};
+use vc_transport::{Kept, Progress, Spooled, connect, keep, receive, send};
 use vc_world::{Peer, Reply};
 
 // How many bytes of an answer are kept in memory at most: an object with the longest body, and a mebibyte beside it. A longer answer
@@ -65,13 +64,9 @@ where
         if self.stream.is_some() {
             return Ok(());
         }
-        let Ok(stream) = self.rt.connect(local(self.port)) else {
+        let Ok(stream) = connect(&self.rt, self.port) else {
             return Err(RemoteFault::WriteFailed);
         };
-        // Without it a message in parts could wait for the server's word that the first part came.
-        if stream.set_nodelay(true).is_err() {
-            return Err(RemoteFault::WriteFailed);
-        }
         match BufReader::new(self.rt.alloc(), stream) {
             Ok(stream) => {
                 self.stream = Some(stream);
@@ -87,82 +82,36 @@ where
         let Some(stream) = &mut self.stream else {
             return Err(RemoteFault::WriteFailed);
         };
+        let folder = self.store.as_str();
         if send(stream.get_mut(), bytes, &mut *self.progress).is_err() {
-            return Err(said_before(&self.rt, self.store.as_str(), stream));
+            return Err(said_before(&self.rt, folder, stream));
         }
-        match receive(&self.rt, self.store.as_str(), stream, &mut *self.progress)? {
-            Some(answer) => Ok(answer),
+        let kept = receive(&self.rt, folder, SHORT, stream, &mut *self.progress)?;
+        match kept.message? {
+            Some(()) => Ok(kept.bytes),
             None => Err(RemoteFault::ReadFailed),
         }
     }
 }
 
-// Sends a message, and tells how much of it went out.
-fn send<S: Write, W: Write>(
-    stream: &mut S,
-    bytes: &[u8],
-    progress: &mut Progress<W>,
-) -> io::Result<()> {
-    let sent = Counted { stream, progress }.write_all(bytes);
-    progress.end();
-    sent
-}
-
-// Keeps the next message, and tells how much of it came; none where the stream is at its end.
-fn receive<R, S, W>(
-    rt: &R,
-    store: &str,
-    stream: &mut S,
-    progress: &mut Progress<W>,
-) -> Result<Option<Spooled<File>>, RemoteFault>
-where
-    R: rt::Files<File = File> + AllocGlobal + Clone + Drop,
-    S: Read,
-    W: Write,
-{
-    let counted = Counted {
-        stream,
-        progress: &mut *progress,
-    };
-    let kept = keep(rt, store, counted);
-    progress.end();
-    kept
-}
-
-// The same of any stream.
-fn keep<R, S>(rt: &R, store: &str, stream: S) -> Result<Option<Spooled<File>>, RemoteFault>
-where
-    R: rt::Files<File = File> + AllocGlobal + Clone + Drop,
-    S: Read + Drop,
-{
-    let spool = Spool::new(rt, store, SHORT)?;
-    let mut copying = Fallible::new(Copying { stream, spool });
-    let skipped = skip_message(rt.alloc(), &mut copying);
-    let answer = copying.into_inner().spool.finish()?;
-    match skipped? {
-        Some(_) => Ok(Some(answer)),
-        None => Ok(None),
-    }
-}
-
 // Why a message didn't go out. A server that refuses hears no message to its end, and what it said before is worth more than that it
 // heard no more. What it would say later is not waited for: it may wait for the message itself.
-fn said_before<R>(rt: &R, store: &str, stream: &mut BufReader<R::Stream>) -> RemoteFault
+fn said_before<R>(rt: &R, folder: &str, stream: &mut BufReader<R::Stream>) -> RemoteFault
 where
     R: rt::Files<File = File> + Net + AllocGlobal + Clone + Drop,
 {
     if stream.get_ref().set_nonblocking(true).is_err() {
         return RemoteFault::WriteFailed;
     }
-    match keep(rt, store, stream) {
-        Ok(Some(answer)) => refusal_in(rt.alloc(), answer),
-        _ => RemoteFault::WriteFailed,
+    match keep(rt, folder, SHORT, stream) {
+        Ok(answer) => refusal_in(rt.alloc(), answer),
+        Err(_) => RemoteFault::WriteFailed,
     }
 }
 
 // What the server said where it refused; else that it heard no more.
-fn refusal_in(alloc: Global, answer: Spooled<File>) -> RemoteFault {
-    match read(alloc, answer) {
+fn refusal_in(alloc: Global, answer: Kept<File>) -> RemoteFault {
+    match read(alloc, answer.bytes) {
         Err(RemoteFault::Refused(text)) => RemoteFault::Refused(text),
         _ => RemoteFault::WriteFailed,
     }

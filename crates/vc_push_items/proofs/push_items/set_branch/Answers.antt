@@ -1,7 +1,7 @@
 use Rattle.std.proofs.Common.{ℕ, List, IfErr, ◌∙◌, subst}
 use Rattle.vc_working.specs.CloneWords.{branch_ref}
-use Rattle.vc_commands.specs.PushWords.{IsOfSet}
-use Rattle.vc_commands.proofs.push_items.set_branch.Goals as goal
+use Rattle.vc_push_items.specs.PushWords.{IsOfSet}
+use Rattle.vc_push_items.proofs.push_items.set_branch.Goals as goal
 
 pub returns-clause-refused : goal.returns-clause-refused
 returns-clause-refused g c = λ honest.

@@ -2,7 +2,7 @@
 ghost use Rattle.std.specs.Prelude.{◌≡◌, IfOk, IfErr, OnOk, map};
 ghost use Rattle.vc_refname.specs.RefName.{IsRefName};
 ghost use Rattle.vc_working.specs.CloneWords.{branch_ref};
-ghost use Rattle.vc_commands.specs.PushWords.{AreItemsFor, DeletesRef, IsItemFor, IsOfItemWord, IsOfItemWords, IsOfName, IsOfSet, SetsRef};
+ghost use Rattle.vc_push_items.specs.PushWords.{AreItemsFor, DeletesRef, IsItemFor, IsOfItemWord, IsOfItemWords, IsOfName, IsOfSet, SetsRef};
 ghost use Rattle.vc_files.specs.Failures.{Wears};
 ghost use Rattle.vc_cli.specs.Failure.{TellsDevice};
 

@@ -1,5 +1,5 @@
 //! One message at the shared node that files hold.
-ghost use Rattle.std.specs.Prelude.{◌≡◌, ◌⊎◌, IfErr, IsErrOf, OnErr, OnOk, false};
+ghost use Rattle.std.specs.Prelude.{◌≡◌, ◌⊎◌, IfErr, IsErrOf, OnErr, OnOk, true};
 ghost use Rattle.vc_files.specs.Failures.{Writes};
 ghost use Rattle.vc_model.specs.Repository.{Repository};
 ghost use Rattle.vc_model.specs.SharedCall.SharedCall.{Accept};
@@ -9,8 +9,8 @@ ghost use Rattle.vc_local.specs.Blames.{BlamesOpen};
 ghost use Rattle.vc_local.specs.Clean.{KeepsClean};
 ghost use Rattle.vc_local.specs.NodeFault.{TellsDevice as TellsNodeDevice};
 ghost use Rattle.vc_local.specs.Opening.{IsOpenable, OpenableAs};
-ghost use Rattle.vc_remote.specs.Answering.{AnswersCame, AnswersRead, HoldsOpened, IsRefusedOnce, KeepsOpenable, TellsUnopened};
-ghost use Rattle.vc_shared.specs.AcceptFault.{TellsDevice, up_after};
+ghost use Rattle.vc_serving.specs.Answering.{AnswersCame, AnswersRead, HoldsOpened, IsRefusedOnce, KeepsOpenable, TellsUnopened};
+ghost use Rattle.vc_shared.specs.AcceptFault.{TellsDevice, ends_in_fault};
 
 use std::alloc::Global;
 use vc_files::Files;
@@ -44,7 +44,7 @@ pub fn answer_from<F: Files, R: Source>(
     ensures serves { F.honest → OpenableAs (F.content files) (λ r. AnswersCame (R.remaining reader.old) (R.remaining reader.new) r (F.content files) (F.content result.0) result.1) }
     ensures lost { F.honest → OpenableAs (F.content files) (λ r. KeepsOpenable (F.content result.0) r result.1) }
     ensures refused { F.honest → IsRefusedOnce (R.remaining reader.old) (R.remaining reader.new) (F.content files) result.1 }
-    ensures failures { TellsLoss R.failed R.can_fail reader.old reader.new (IsErrOf result.1 AcceptFault.ReadFailed) (up_after result.1 ≡ false) }
+    ensures failures { TellsLoss R.failed R.can_fail reader.old reader.new (IsErrOf result.1 AcceptFault.ReadFailed) (ends_in_fault result.1 ≡ true) }
     ensures clean { F.honest → TellsUnopened (F.content files) result.1 ⊎ KeepsClean (F.content files) (F.content result.0) }
     ensures wear { Writes F.honest F.content F.failed F.can_fail F.left files result.0 (TellsDevice result.1) }
 {

@@ -1,7 +1,7 @@
 use Rattle.std.proofs.Common.{◌≡◌, map, take}
 use Rattle.vc_files.specs.Failures.{Wears}
-use Rattle.vc_commands.specs.PushWords.{AreItemsFor}
-use Rattle.vc_commands.proofs.push_items.items_of.Given as goal
+use Rattle.vc_push_items.specs.PushWords.{AreItemsFor}
+use Rattle.vc_push_items.proofs.push_items.items_of.Given as goal
 
 abbrev pub invariant-loop-word : goal.invariant-loop-word
 invariant-loop-word g l = record {

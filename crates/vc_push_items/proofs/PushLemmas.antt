@@ -9,7 +9,7 @@ use Rattle.vc_files.specs.declared.faults.Fault.TheVariants.{Memory}
 use Rattle.vc_transport.specs.Words.{IsOfWord}
 use Rattle.vc_transport.specs.declared.words.ItemWords.{ItemWords}
 use Rattle.vc_transport.specs.declared.words.ItemWords.TheVariants.{Branch, Delete, Set}
-use Rattle.vc_commands.specs.PushWords.{AreItemsFor, IsItemFor, IsItemOf, IsOfItem, IsOfItemWord, IsOfItemWords}
+use Rattle.vc_push_items.specs.PushWords.{AreItemsFor, IsItemFor, IsItemOf, IsOfItem, IsOfItemWord, IsOfItemWords}
 use Rattle.vc_cli.specs.declared.failure.Failure.{Failure}
 use Rattle.vc_cli.specs.declared.failure.Failure.TheVariants.{Fault}
 

@@ -2,9 +2,9 @@ use Rattle.std.proofs.Common.{inl, inr}
 use Rattle.vc_files.proofs.WearLemmas.{writes_both}
 use Rattle.vc_message.proofs.SourceLaws.{tells_none}
 use Rattle.vc_local.proofs.CleanLemmas.{clean_then}
-use Rattle.vc_remote.proofs.AnsweringLemmas.{came_once, kept_openable, read_once, refused_once}
+use Rattle.vc_serving.proofs.AnsweringLemmas.{came_once, kept_openable, read_once, refused_once}
 use Rattle.vc_shared.proofs.LossLemmas.{node_is_no_loss}
-use Rattle.vc_remote.proofs.answering.answer_from.Goals as goal
+use Rattle.vc_serving.proofs.answering.answer_from.Goals as goal
 
 pub returns-in-Err-clause-failures : goal.returns-in-Err-clause-failures
 returns-in-Err-clause-failures g c = inl (tells_none node_is_no_loss)

@@ -10,7 +10,7 @@ use Rattle.vc_model.specs.SharedCall.{SharedCall}
 use Rattle.vc_model.specs.SharedCall.SharedCall.{Accept}
 use Rattle.vc_local.specs.Clean.{KeepsClean}
 use Rattle.vc_local.specs.Opening.{IsOpenable}
-use Rattle.vc_remote.specs.Answering.{AnswersCame, AnswersRead, IsRefusedOnce, KeepsOpenable, ServesCame, ServesOnce, ServesOnceAs, opened_shared}
+use Rattle.vc_serving.specs.Answering.{AnswersCame, AnswersRead, IsRefusedOnce, KeepsOpenable, ServesCame, ServesOnce, ServesOnceAs, opened_shared}
 use Rattle.vc_push_rules.specs.Session.{SessionText}
 use Rattle.vc_server.specs.Coming.{IsRefusedThere, Reply, ServesAs, ServesFrom, ServesKnown}
 use Rattle.vc_server.specs.Serving.{Serves}

@@ -2,7 +2,7 @@
 ghost use Rattle.std.specs.Prelude.{◌≡◌, ◌⊎◌, IfErr, IfOk, IfSome, OnOk};
 ghost use Rattle.std.specs.Io.KnownBytes.{Keeps};
 ghost use Rattle.vc_cli.specs.Failure.{IsFault};
-ghost use Rattle.vc_commands.specs.PlayedWorld.{IsOfScript, PrintsPlayed};
+ghost use Rattle.vc_playing.specs.PlayedWorld.{IsOfScript, PrintsPlayed};
 
 use std::alloc::Global;
 use std::io::{Read, Write};

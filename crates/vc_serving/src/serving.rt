@@ -1,42 +1,39 @@
 //! The server of a shared node: one connection after the other, and on each one message after the other.
 ghost use Rattle.std.specs.Prelude.{◌≡◌};
-ghost use Rattle.vc_remote.specs.Turns.{going_on, has_come};
+ghost use Rattle.vc_serving.specs.Turns.{going_on, has_come};
 
 use crate::answering::answer_from;
+use crate::own_folder::OwnFolder;
+use crate::served_files::ServedFiles;
 use std::fs::File;
 use std::io::{self, BufReader, ErrorKind};
-use std::net::{Ipv4Addr, Net, OpenListener, OpenStream, SocketAddr};
+use std::net::{Net, OpenListener, OpenStream};
 use std::rt;
 use std::thread::Threads;
 use vc_files::Fault;
-use vc_folder::{FolderFiles, FolderLock};
-use vc_message::{Fallible, IncomingFault, skip_message};
+use vc_message::{Fallible, IncomingFault};
 use vc_server::{ServeFault, Served, tell};
 use vc_shared::AcceptFault;
-use vc_transport::{Copying, Spool, Spooled, fault_of};
+use vc_transport::{Spooled, fault_of, keep};
 
 // How many bytes of a message are kept in memory at most, a mebibyte: what a client sends must not fill the memory.
 const SHORT: usize = 1_048_576;
 
-/// Opens a port of this machine, which no other machine reaches.
-pub fn bind<R: Net>(rt: &R, port: u16) -> io::Result<R::Listener> {
-    rt.bind(local(port))
-}
-
-/// The address of a port on this machine.
-pub(crate) fn local(port: u16) -> SocketAddr {
-    SocketAddr::from((Ipv4Addr::LOCALHOST, port))
-}
-
 /// Serves so many connections to the store in this folder, one after the other. A connection that fails, or that is closed
 /// after a refusal, counts as one. Nothing is kept from message to message, so that other commands may change the store.
-pub fn serve<R>(rt: &R, store: &str, listener: &R::Listener, count: u32) -> Result<(), Fault>
+pub(crate) fn serve_connections<R>(
+    rt: &R,
+    store: &str,
+    listener: &R::Listener,
+    count: u32,
+) -> Result<(), Fault>
 where
     R: rt::Files<File = File> + Threads + Net + AllocGlobal + Clone + Drop,
 {
+    let mut own = OwnFolder::new(rt, store)?;
     for _ in 0..count {
         match listener.accept() {
-            Ok((stream, _)) => serve_connection(rt, store, stream)?,
+            Ok((stream, _)) => serve_connection(rt, store, &mut own, stream)?,
             Err(error) => pass_over(&error)?,
         }
     }
@@ -53,7 +50,12 @@ fn pass_over(error: &io::Error) -> Result<(), Fault> {
 }
 
 // Answers what comes on a connection until the client closes it, the connection fails, or a message is refused.
-fn serve_connection<R>(rt: &R, store: &str, stream: R::Stream) -> Result<(), Fault>
+fn serve_connection<R>(
+    rt: &R,
+    store: &str,
+    own: &mut OwnFolder<R>,
+    stream: R::Stream,
+) -> Result<(), Fault>
 where
     R: rt::Files<File = File> + Threads + Net + AllocGlobal + Clone + Drop,
 {
@@ -65,7 +67,7 @@ where
         return Err(Fault::Memory);
     };
     for _ in 0..u64::MAX {
-        let served = serve_next(rt, store, &mut stream);
+        let served = serve_next(rt, store, own, &mut stream);
         if !goes_on(served)? {
             return Ok(());
         }
@@ -89,11 +91,12 @@ fn goes_on(served: Result<Served, ServeFault>) -> Result<bool, Fault>
     }
 }
 
-// Takes the next message, and answers it. The store's lock is held while the node works on a message, and neither while one
-// comes nor while the answer goes out.
+// Takes the next message, and answers it. The store's lock is held neither while one comes nor while the answer goes out, and of the
+// work on a message only for what hangs on it.
 fn serve_next<R>(
     rt: &R,
     store: &str,
+    own: &mut OwnFolder<R>,
     stream: &mut BufReader<R::Stream>,
 ) -> Result<Served, ServeFault>
 where
@@ -102,7 +105,7 @@ where
     let Some(message) = receive(rt, store, stream)? else {
         return Ok(Served::End);
     };
-    match answer_in(rt, store, message) {
+    match answer_in(rt, store, own, message) {
         Ok(answered) => tell(rt.alloc(), stream.get_mut(), &answered),
         Err(fault) => Err(ServeFault::Fault(fault)),
     }
@@ -118,15 +121,12 @@ fn receive<R>(
 where
     R: rt::Files<File = File> + Net + AllocGlobal + Clone + Drop,
 {
-    let spool = Spool::new(rt, store, SHORT)?;
-    let mut copying = Fallible::new(Copying { stream, spool });
-    let skipped = skip_message(rt.alloc(), &mut copying);
-    let spooled = match copying.into_inner().spool.finish() {
-        Ok(spooled) => spooled,
+    let kept = match keep(rt, store, SHORT, stream) {
+        Ok(kept) => kept,
         Err(fault) => return Err(ServeFault::Fault(fault)),
     };
-    if has_come(skipped)? {
-        Ok(Some(spooled))
+    if has_come(kept.message)? {
+        Ok(Some(kept.bytes))
     } else {
         Ok(None)
     }
@@ -144,22 +144,21 @@ fn has_come(skipped: Result<Option<()>, IncomingFault>) -> Result<bool, ServeFau
     }
 }
 
-// Answers what was kept at the store in this folder, whose lock is held meanwhile. All that the node stored is durable then.
+// Answers what was kept at the store in this folder. All that the node stored is durable then.
 fn answer_in<R>(
     rt: &R,
     store: &str,
+    own: &mut OwnFolder<R>,
     message: Spooled<File>,
 ) -> Result<Result<Option<Vec<u8>>, AcceptFault>, Fault>
 where
     R: rt::Files<File = File> + Threads + AllocGlobal + Clone + Drop,
 {
     let alloc = rt.alloc();
-    let _lock = FolderLock::take(rt, store)?;
-    let root = String::from_str(alloc, store)?;
-    let files = FolderFiles::new(rt.clone()?, root);
+    let files = ServedFiles::new(rt, store, own)?;
     let mut message = Fallible::new(message);
     let (mut files, answered) = answer_from(alloc, files, &mut message);
-    files.sync(alloc)?;
+    files.end(alloc)?;
     match answered {
         // It is the disk that wasn't read: all that the connection gave was kept before.
         Err(AcceptFault::ReadFailed) => Err(Fault::Device),

@@ -1,5 +1,5 @@
-use Rattle.vc_commands.proofs.PushLemmas.{item_from, refused_from}
-use Rattle.vc_commands.proofs.push_items.item_of.Goals as goal
+use Rattle.vc_push_items.proofs.PushLemmas.{item_from, refused_from}
+use Rattle.vc_push_items.proofs.push_items.item_of.Goals as goal
 
 pub returns-in-Branch-clause-item : goal.returns-in-Branch-clause-item
 returns-in-Branch-clause-item g c = λ honest. item_from _ _ _ _ _ c.item_words.ensures c.in-Branch.is (c.set_branch.ensures.item honest)

@@ -1,11 +1,11 @@
 use Rattle.std.proofs.Common.{rules, ◌≡◌, ◌∙◌, ap, map, take, length, arith}
 use Rattle.std.proofs.Math.Seq.{take-length}
 use Rattle.vc_files.specs.declared.faults.Fault.TheVariants.{Memory}
-use Rattle.vc_commands.specs.PushWords.{IsOfItemWords}
+use Rattle.vc_push_items.specs.PushWords.{IsOfItemWords}
 use Rattle.vc_cli.specs.declared.failure.Failure.TheVariants.{Fault}
 use Rattle.vc_cli.proofs.ToldLemmas.{handed_on}
-use Rattle.vc_commands.proofs.PushLemmas.{items_fault, items_more, items_stop}
-use Rattle.vc_commands.proofs.push_items.items_of.Goals as goal
+use Rattle.vc_push_items.proofs.PushLemmas.{items_fault, items_more, items_stop}
+use Rattle.vc_push_items.proofs.push_items.items_of.Goals as goal
 
 pub loop-word-preserved : goal.loop-word-preserved
 loop-word-preserved g c =

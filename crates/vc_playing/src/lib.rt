@@ -1,0 +1,4 @@
+//! The command of the program `vcs` that plays a script of a world of nodes.
+#![tactic(auto)]
+
+pub mod world;

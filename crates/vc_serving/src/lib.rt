@@ -1,0 +1,14 @@
+//! A shared node served at a port of this machine, and the command of the program `vcs` that does so.
+//!
+//! A connection carries messages one after the other: the client sends one, and the server answers with one. Nothing is
+//! claimed of sockets and folders; what a message does at a node, the crates below state.
+#![tactic(auto)]
+
+mod answering;
+mod command;
+mod own_folder;
+mod served_files;
+mod serving;
+
+pub use answering::{answer_from, make_shared};
+pub use command::serve;
