@@ -5,6 +5,7 @@
 #![tactic(auto)]
 
 mod answers;
+mod ends;
 mod lines;
 mod messages;
 mod pieces;

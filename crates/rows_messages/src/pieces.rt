@@ -2,6 +2,7 @@
 
 ghost use Rattle.std.specs.Prelude.{◌<◌};
 
+use crate::ends::{Ends, count_end, push_ends};
 use crate::messages::{Telling, push_found, push_object};
 use crate::pushes::push_command;
 use crate::spelling::spelled;
@@ -120,30 +121,62 @@ fn told<R: Source>(alloc: Global, reader: &mut R, most: usize) -> Result<String,
     Ok(out)
 }
 
+// Writes the messages of a reader that gives the bytes one by one, if they are others.
+fn push_dripped(
+    out: &mut String,
+    alloc: Global,
+    bytes: &[u8],
+    whole: &str,
+) -> Result<(), AllocError> {
+    let mut dripping = Fallible::new(Dripping {
+        rest: bytes,
+        is_ready: false,
+    });
+    let other = told(alloc, &mut dripping, bytes.len())?;
+    if other.as_str() == whole {
+        return Ok(());
+    }
+    write!(out, ", but byte by byte {other}")
+}
+
+// The same of a reader that gives the bytes in two parts.
+fn push_cut(
+    out: &mut String,
+    alloc: Global,
+    parts: (&[u8], &[u8]),
+    whole: &str,
+) -> Result<(), AllocError> {
+    let (front, back) = parts;
+    let mut reader = Fallible::new(front.chain(back));
+    let other = told(alloc, &mut reader, front.len().saturating_add(back.len()))?;
+    if other.as_str() == whole {
+        return Ok(());
+    }
+    write!(out, ", but cut at {} {other}", front.len())
+}
+
+// The same of each reader that does not give the bytes at once.
+fn push_others(
+    out: &mut String,
+    alloc: Global,
+    bytes: &[u8],
+    whole: &str,
+) -> Result<(), AllocError> {
+    push_dripped(out, alloc, bytes, whole)?;
+    for place in 0..bytes.len() {
+        push_cut(out, alloc, (&bytes[..place], &bytes[place..]), whole)?;
+    }
+    Ok(())
+}
+
 /// The messages of a reader that gives the bytes at once, each taken object by object; and where one that cuts them at some place,
 /// or gives them one by one, gives others, these too.
 pub fn pieces(out: &mut String, alloc: Global, text: &str) -> Result<(), AllocError> {
     let bytes = spelled(alloc, text)?;
-    let mut whole_reader = bytes.as_slice();
-    let whole = told(alloc, &mut whole_reader, bytes.len())?;
+    let mut reader = bytes.as_slice();
+    let whole = told(alloc, &mut reader, bytes.len())?;
     out.push_str(whole.as_str())?;
-    let mut dripping = Fallible::new(Dripping {
-        rest: &bytes,
-        is_ready: false,
-    });
-    let other = told(alloc, &mut dripping, bytes.len())?;
-    if other.as_str() != whole.as_str() {
-        write!(out, ", but byte by byte {other}")?;
-    }
-    for place in 0..bytes.len() {
-        let front = &bytes[..place];
-        let mut reader = Fallible::new(front.chain(&bytes[place..]));
-        let other = told(alloc, &mut reader, bytes.len())?;
-        if other.as_str() != whole.as_str() {
-            write!(out, ", but cut at {place} {other}")?;
-        }
-    }
-    Ok(())
+    push_others(out, alloc, &bytes, whole.as_str())
 }
 
 /// Passes over the first message of a reader that gives the bytes one by one: the messages behind it, or why it has no end.
@@ -161,35 +194,29 @@ pub fn skip(out: &mut String, alloc: Global, text: &str) -> Result<(), AllocErro
 }
 
 // Counts what is told last once more.
-fn count_last(
-    alloc: Global,
-    ends: &mut BTreeMap<String, u32>,
-    told: &str,
-) -> Result<(), AllocError> {
+fn count_last(alloc: Global, ends: &mut Ends, told: &str) -> Result<(), AllocError> {
     let (_, last) = told.rsplit_once(" | ").unwrap_or(("", told));
-    let end = String::from_str(alloc, last)?;
-    let times = ends.get(&end).copied().unwrap_or(0).wrapping_add(1);
-    ends.insert(end, times)?;
-    Ok(())
+    count_end(ends, String::from_str(alloc, last)?)
+}
+
+// Counts what is told last of this front of a message, if the reader ends after it, and if it fails there.
+fn count_front(alloc: Global, ends: &mut Ends, front: &[u8]) -> Result<(), AllocError> {
+    let mut ending = front;
+    count_last(alloc, ends, told(alloc, &mut ending, front.len())?.as_str())?;
+    let mut failing = Fallible::new(front.chain(Failing));
+    count_last(
+        alloc,
+        ends,
+        told(alloc, &mut failing, front.len())?.as_str(),
+    )
 }
 
 /// Each front of a message, behind which the reader ends, and behind which it fails: what is told last, and how often.
 pub fn fronts(out: &mut String, alloc: Global, text: &str) -> Result<(), AllocError> {
     let bytes = spelled(alloc, text)?;
-    let mut ends = BTreeMap::<String, u32>::new(alloc);
+    let mut ends = BTreeMap::new(alloc);
     for place in 0..bytes.len() {
-        let mut ending = &bytes[..place];
-        let cut = told(alloc, &mut ending, place)?;
-        count_last(alloc, &mut ends, cut.as_str())?;
-        let mut failing = Fallible::new((&bytes[..place]).chain(Failing));
-        let broken = told(alloc, &mut failing, place)?;
-        count_last(alloc, &mut ends, broken.as_str())?;
+        count_front(alloc, &mut ends, &bytes[..place])?;
     }
-    for (end, times) in &ends {
-        if !out.is_empty() {
-            out.push_str("; ")?;
-        }
-        write!(out, "{times}: {end}")?;
-    }
-    Ok(())
+    push_ends(out, &ends)
 }

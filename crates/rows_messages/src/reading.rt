@@ -10,17 +10,15 @@ use vc_fetch::{
 use vc_pkt::{Line, ObjectStream, PktError, PktFault, PktReader, Step};
 use vc_push::{Push, PushReader, Report, ReportReader};
 
-// What the message says, or why there is none.
-fn told<R: Telling>(
-    alloc: Global,
+// Writes what the message says, or why there is none.
+fn push_read<R: Telling>(
+    out: &mut String,
     read: Result<R::Message, PktError>,
-) -> Result<String, AllocError> {
-    let mut out = String::new(alloc);
+) -> Result<(), AllocError> {
     match read {
-        Ok(message) => R::tell(&mut out, &message)?,
-        Err(fault) => write!(out, "{fault}")?,
+        Ok(message) => R::tell(out, &message),
+        Err(fault) => write!(out, "{fault}"),
     }
-    Ok(out)
 }
 
 // How many bytes a line has.
@@ -60,6 +58,18 @@ fn in_pieces<R: Telling>(alloc: Global, bytes: &[u8], size: usize) -> Result<R::
     Err(PktError::Refused(PktFault::CutMessage))
 }
 
+// Whether this is what is read in pieces of this size.
+fn is_read_in_pieces<R: Telling>(
+    alloc: Global,
+    bytes: &[u8],
+    size: usize,
+    expected: &str,
+) -> Result<bool, AllocError> {
+    let mut told = String::new(alloc);
+    push_read::<R>(&mut told, in_pieces::<R>(alloc, bytes, size))?;
+    Ok(told.as_str() == expected)
+}
+
 // What was read at once; and where it is not read so in pieces, of one byte and of three, or of more where the text is
 // long, a word more.
 fn however_cut<R: Telling>(
@@ -67,11 +77,11 @@ fn however_cut<R: Telling>(
     bytes: &[u8],
     read: Result<R::Message, PktError>,
 ) -> Result<String, AllocError> {
-    let mut out = told::<R>(alloc, read)?;
+    let mut out = String::new(alloc);
+    push_read::<R>(&mut out, read)?;
     let size = 1 + bytes.len() / 100_000;
     for size in [size, size.saturating_mul(3)] {
-        let pieces = told::<R>(alloc, in_pieces::<R>(alloc, bytes, size))?;
-        if pieces.as_str() != out.as_str() {
+        if !is_read_in_pieces::<R>(alloc, bytes, size, out.as_str())? {
             out.push_str(" differs")?;
         }
     }

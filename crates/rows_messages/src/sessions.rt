@@ -2,6 +2,7 @@
 
 ghost use Rattle.std.specs.Prelude.{◌<◌};
 
+use crate::ends::{Ends, count_end, push_ends};
 use crate::messages::Telling;
 use crate::pushes;
 use crate::spelling::{ids_of, push_bytes, push_id, push_ids, spelled};
@@ -11,6 +12,7 @@ use std::fmt::Write;
 use vc_files::{Fault, Files, MemoryFiles};
 use vc_history::Generations;
 use vc_message::{Head, Source, Taken, next_object, read_head};
+use vc_object::ObjectId;
 use vc_push::{Command, Push, ReportReader};
 use vc_push_rules::Stepped;
 use vc_quarantine::Arriving;
@@ -258,12 +260,23 @@ pub fn learn(
     };
     let mut due = ids_of(alloc, due)?;
     let mut known = Generations::new(alloc);
-    if let Err(fault) = session.learn(files, alloc, &mut due, &mut known) {
-        return write!(out, "{fault}");
+    match session.learn(files, alloc, &mut due, &mut known) {
+        Ok(()) => push_learnt(out, alloc, &known, names, &due),
+        Err(fault) => write!(out, "{fault}"),
     }
-    push_generations(out, alloc, &known, names)?;
+}
+
+// The generations of these names, if they are known, and what is due.
+fn push_learnt(
+    out: &mut String,
+    alloc: Global,
+    known: &Generations,
+    names: &str,
+    due: &[ObjectId],
+) -> Result<(), AllocError> {
+    push_generations(out, alloc, known, names)?;
     out.push_str(", due ")?;
-    push_ids(out, &due)
+    push_ids(out, due)
 }
 
 // The generations of these names, where they are known.
@@ -361,15 +374,18 @@ pub fn count(
     }
 }
 
-// The same files once more.
-fn copy(alloc: Global, files: &mut MemoryFiles) -> Result<MemoryFiles, Fault> {
-    let mut copied = MemoryFiles::new(alloc);
+// Copies the files.
+fn copy_into(
+    copied: &mut MemoryFiles,
+    alloc: Global,
+    files: &mut MemoryFiles,
+) -> Result<(), Fault> {
     for path in files.list(alloc, "")? {
         if let Some(bytes) = files.get(alloc, path.as_str())? {
             copied.put(alloc, path.as_str(), &bytes)?;
         }
     }
-    Ok(copied)
+    Ok(())
 }
 
 // A step of the push in this slot. Only what is told at its end is told, or why it has none. Whether there is a step behind it.
@@ -393,7 +409,7 @@ fn push_end(
 
 // What comes of two pushes, taken one after the other, each told by itself, whose steps come in this order: each of its eight
 // lowest bits tells whose step is next.
-fn push_ends(
+fn push_reports(
     first: &mut String,
     second: &mut String,
     alloc: Global,
@@ -430,41 +446,61 @@ fn push_outcome(
     count(told, alloc, files, "quarantine/")
 }
 
-// What comes of two pushes, over these files.
+// Writes what comes of two pushes, over these files.
+fn push_in_order(
+    told: &mut String,
+    alloc: Global,
+    files: &mut MemoryFiles,
+    pushes: &mut OpenPushes,
+    pair: (&str, &str),
+    order: u32,
+) -> Result<(), AllocError> {
+    let mut other = String::new(alloc);
+    push_reports(told, &mut other, alloc, files, pushes, pair, order)?;
+    push_outcome(told, alloc, files, other.as_str())
+}
+
+// The same of pushes of which none is open yet.
 fn in_order(
     alloc: Global,
     files: &mut MemoryFiles,
+    pushes: &mut OpenPushes,
     pair: (&str, &str),
     order: u32,
 ) -> Result<String, AllocError> {
     let mut told = String::new(alloc);
-    let mut other = String::new(alloc);
-    let mut pushes = OpenPushes::new(alloc);
-    push_ends(
-        &mut told,
-        &mut other,
-        alloc,
-        files,
-        &mut pushes,
-        pair,
-        order,
-    )?;
-    push_outcome(&mut told, alloc, files, other.as_str())?;
+    push_in_order(&mut told, alloc, files, pushes, pair, order)?;
     Ok(told)
 }
 
-// Counts the end that comes over these files once more.
-fn count_end(
-    ends: &mut BTreeMap<String, u32>,
+// Counts the end that comes over these files.
+fn count_order(
+    ends: &mut Ends,
     alloc: Global,
     files: &mut MemoryFiles,
     pair: (&str, &str),
     order: u32,
 ) -> Result<(), AllocError> {
-    let end = in_order(alloc, files, pair, order)?;
-    let times = ends.get(&end).copied().unwrap_or(0).wrapping_add(1);
-    ends.insert(end, times)?;
-    Ok(())
+    let mut pushes = OpenPushes::new(alloc);
+    match in_order(alloc, files, &mut pushes, pair, order) {
+        Ok(end) => count_end(ends, end),
+        Err(fault) => Err(fault),
+    }
+}
+
+// The same over a copy of the files.
+fn count_copied(
+    ends: &mut Ends,
+    alloc: Global,
+    files: &mut MemoryFiles,
+    pair: (&str, &str),
+    order: u32,
+) -> Result<(), AllocError> {
+    let mut copied = MemoryFiles::new(alloc);
+    match copy_into(&mut copied, alloc, files) {
+        Ok(()) => count_order(ends, alloc, &mut copied, pair, order),
+        Err(_) => Err(AllocError),
+    }
 }
 
 /// All orders of the steps of two pushes, parted by ` ; `, each over the files as they are: how many come to each end. An end
@@ -476,21 +512,11 @@ pub fn orders(
     text: &str,
 ) -> Result<(), AllocError> {
     let pair = text.split_once(" ; ").unwrap_or((text, ""));
-    let mut ends = BTreeMap::<String, u32>::new(alloc);
+    let mut ends = BTreeMap::new(alloc);
     for order in 0..256u32 {
-        if order.count_ones() != 4 {
-            continue;
+        if order.count_ones() == 4 {
+            count_copied(&mut ends, alloc, files, pair, order)?;
         }
-        let Ok(mut copied) = copy(alloc, files) else {
-            return Err(AllocError);
-        };
-        count_end(&mut ends, alloc, &mut copied, pair, order)?;
     }
-    for (end, times) in &ends {
-        if !out.is_empty() {
-            out.push_str("; ")?;
-        }
-        write!(out, "{times}: {end}")?;
-    }
-    Ok(())
+    push_ends(out, &ends)
 }

@@ -121,30 +121,62 @@ fn told<R: Read>(alloc: Global, reader: &mut R, most: usize) -> Result<String, A
     Ok(out)
 }
 
+// Writes the messages of a reader that gives the bytes one by one, if they are others.
+fn push_dripped(
+    out: &mut String,
+    alloc: Global,
+    bytes: &[u8],
+    whole: &str,
+) -> Result<(), AllocError> {
+    let mut dripping = Dripping {
+        rest: bytes,
+        is_ready: false,
+    };
+    let other = told(alloc, &mut dripping, bytes.len())?;
+    if other.as_str() == whole {
+        return Ok(());
+    }
+    write!(out, ", but byte by byte {other}")
+}
+
+// The same of a reader that gives the bytes in two parts.
+fn push_cut(
+    out: &mut String,
+    alloc: Global,
+    parts: (&[u8], &[u8]),
+    whole: &str,
+) -> Result<(), AllocError> {
+    let (front, back) = parts;
+    let mut reader = front.chain(back);
+    let other = told(alloc, &mut reader, front.len().saturating_add(back.len()))?;
+    if other.as_str() == whole {
+        return Ok(());
+    }
+    write!(out, ", but cut at {} {other}", front.len())
+}
+
+// The same of each reader that does not give the bytes at once.
+fn push_others(
+    out: &mut String,
+    alloc: Global,
+    bytes: &[u8],
+    whole: &str,
+) -> Result<(), AllocError> {
+    push_dripped(out, alloc, bytes, whole)?;
+    for place in 0..bytes.len() {
+        push_cut(out, alloc, (&bytes[..place], &bytes[place..]), whole)?;
+    }
+    Ok(())
+}
+
 /// The messages of a reader that gives the bytes at once; and where one that cuts them at some place, or gives them one by one,
 /// gives others, these too.
 pub fn take(out: &mut String, alloc: Global, text: &str) -> Result<(), AllocError> {
     let bytes = spelled(alloc, text)?;
-    let mut whole_reader = bytes.as_slice();
-    let whole = told(alloc, &mut whole_reader, bytes.len())?;
+    let mut reader = bytes.as_slice();
+    let whole = told(alloc, &mut reader, bytes.len())?;
     out.push_str(whole.as_str())?;
-    let mut dripping = Dripping {
-        rest: &bytes,
-        is_ready: false,
-    };
-    let other = told(alloc, &mut dripping, bytes.len())?;
-    if other.as_str() != whole.as_str() {
-        write!(out, ", but byte by byte {other}")?;
-    }
-    for place in 0..bytes.len() {
-        let front = &bytes[..place];
-        let mut reader = front.chain(&bytes[place..]);
-        let other = told(alloc, &mut reader, bytes.len())?;
-        if other.as_str() != whole.as_str() {
-            write!(out, ", but cut at {place} {other}")?;
-        }
-    }
-    Ok(())
+    push_others(out, alloc, &bytes, whole.as_str())
 }
 
 /// The messages of a reader that fails behind the bytes.
