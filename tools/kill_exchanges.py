@@ -104,7 +104,7 @@ def exchange(top, words, end=None, hindrance=None):
 
 def kept(store):
     """The files of a store but those of an exchange that goes on."""
-    return {path: held for path, held in files_of(store).items() if not path.startswith(("quarantine/", "incoming."))}
+    return {path: held for path, held in files_of(store).items() if not path.startswith(("quarantine/", "incoming.", "serving."))}
 
 
 def refs_of(files):
@@ -180,7 +180,7 @@ def faults_afterwards(top, words, new):
         yield f"again: {[it['clone'] for it in said]}"
     for end in ENDS:
         store = top / end / ".git"
-        left = [path for path, held in files_of(store).items() if path.startswith("quarantine/") or path.startswith("incoming.") and held]
+        left = [path for path, held in files_of(store).items() if path.startswith(("quarantine/", "serving.")) or path.startswith("incoming.") and held]
         if left:
             yield f"again, and {left} are left at the {end} end"
         files = kept(store)

@@ -9,7 +9,7 @@ from pathlib import Path
 sys.dont_write_bytecode = True
 hardships = SourceFileLoader("hardships", str(Path(__file__).resolve().parent / "hardships")).load_module()
 
-DONE, PROGRAM = hardships.DONE, hardships.PROGRAM
+BEGUN, DONE, PROGRAM = hardships.BEGUN, hardships.DONE, hardships.PROGRAM
 
 
 def run(folder, *words, text=None):
@@ -36,8 +36,8 @@ def path_of(name):
 
 def files_of(store):
     """The files of a store by their paths, with each packed ref as a file of its own, but for those that wait under a lock name,
-    which stand for nothing."""
-    paths = (path for path in store.rglob("*") if path.is_file() and path.suffix != ".lock")
+    which stand for nothing, and but for the note of a checkout that was cut short."""
+    paths = (path for path in store.rglob("*") if path.is_file() and path.suffix != ".lock" and path != store / BEGUN)
     return hardships.unpacked({str(path.relative_to(store)): path.read_bytes() for path in paths})
 
 
