@@ -15,6 +15,6 @@ mod world;
 pub use answers::{Answer, Deed, Ended, Told};
 pub use calls::{CloneCalls, SharedCalls};
 pub use events::{Event, NamedItem, Order, Party};
-pub use laws::{every_run_is_safe, what_was_never_sent_is_refused};
+pub use laws::{events_that_forge_nothing, every_run_is_safe, what_was_never_sent_is_refused};
 pub use letters::Letter;
 pub use world::World;

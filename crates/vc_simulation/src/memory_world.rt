@@ -1,11 +1,10 @@
 // A world in memory, from its beginning.
-ghost use Rattle.std.specs.FinMap.{empty as no_files};
 ghost use Rattle.std.specs.List.{AllByRecursion};
-ghost use Rattle.std.specs.Prelude.{◌≡◌, ◌<◌, All, IfErr, IfOk, length};
+ghost use Rattle.std.specs.Prelude.{◌≡◌, ◌<◌, All, IfErr, IfOk, false, length};
 ghost use Rattle.vc_events.specs.Events.{IsInWorld};
 ghost use Rattle.vc_events.specs.World.{IsNewWorld, clones_of, fresh_clone, fresh_shared};
-ghost use Rattle.vc_simulation.specs.Memory.{HoldsMemoryClone, HoldsMemoryShared, MemoryCanFail, PlaysSafely, done_by, memory_content, memory_left};
-ghost use Rattle.vc_simulation.specs.Nodes.{IsSteady, IsWantOfMemory};
+ghost use Rattle.vc_simulation.specs.Memory.{PlaysSafely, done_by, memory_clone, memory_shared};
+ghost use Rattle.vc_simulation.specs.Nodes.{BeginsAs, IsFaultOf};
 
 use crate::{WorldClone, WorldShared};
 use std::alloc::Global;
@@ -15,7 +14,7 @@ use vc_local::NodeFault;
 use vc_object_map::StoreFault;
 use vc_refs::RefFault;
 
-/// Files in memory, for which a stop could be set.
+/// Files in memory, for which a stop can be set.
 pub type MemoryDevice = FusedFiles<MemoryFiles>;
 
 /// A world whose nodes keep their files in memory.
@@ -32,17 +31,9 @@ pub struct Played {
     pub is_whole: bool,
 }
 
-// No files yet, and no stop set.
-fn new_device(alloc: Global) -> MemoryDevice
-    ensures none { memory_content result ≡ no_files }
-    ensures steady { IsSteady MemoryCanFail memory_left result }
-{
-    FusedFiles::new(MemoryFiles::new(alloc))
-}
-
 // The fault for which no files were opened, which is one of memory.
 fn memory_of(fault: &NodeFault) -> Fault
-    requires { IsWantOfMemory fault.now }
+    requires { IsFaultOf false fault.now }
     ensures { result ≡ Fault.Memory }
 {
     match fault {
@@ -53,27 +44,27 @@ fn memory_of(fault: &NodeFault) -> Fault
 }
 
 fn new_shared(alloc: Global) -> Result<WorldShared<MemoryDevice>, Fault>
-    ensures new { IfOk result (λ shared. HoldsMemoryShared shared fresh_shared) }
+    ensures new { IfOk result (λ shared. BeginsAs memory_shared false shared fresh_shared) }
     ensures fault { IfErr result (λ e. e ≡ Fault.Memory) }
 {
-    match WorldShared::open(alloc, new_device(alloc)) {
+    match WorldShared::over(alloc, MemoryFiles::new(alloc)) {
         Ok(shared) => Ok(shared),
         Err(back) => Err(memory_of(&back.1)),
     }
 }
 
 fn new_clone(alloc: Global) -> Result<WorldClone<MemoryDevice>, Fault>
-    ensures new { IfOk result (λ clone. HoldsMemoryClone clone fresh_clone) }
+    ensures new { IfOk result (λ clone. BeginsAs memory_clone false clone fresh_clone) }
     ensures fault { IfErr result (λ e. e ≡ Fault.Memory) }
 {
-    match WorldClone::open(alloc, new_device(alloc)) {
+    match WorldClone::over(alloc, MemoryFiles::new(alloc)) {
         Ok(clone) => Ok(clone),
         Err(back) => Err(memory_of(&back.1)),
     }
 }
 
 fn new_clones(alloc: Global, count: usize) -> Result<Vec<WorldClone<MemoryDevice>>, Fault>
-    ensures new { IfOk result (λ clones. AllByRecursion (λ c. HoldsMemoryClone c fresh_clone) clones.items) }
+    ensures new { IfOk result (λ clones. AllByRecursion (λ c. BeginsAs memory_clone false c fresh_clone) clones.items) }
     ensures count { IfOk result (λ clones. length clones.items ≡ count) }
     ensures fault { IfErr result (λ e. e ≡ Fault.Memory) }
 {
@@ -84,10 +75,10 @@ fn new_clones(alloc: Global, count: usize) -> Result<Vec<WorldClone<MemoryDevice
     Ok(clones)
 }
 
-/// A new world in memory, of a shared node and so many clones, each over files that no stop is set for.
+/// A new world in memory, of a shared node and so many clones, each over files that no stop is set for yet.
 pub fn new_world(alloc: Global, clones: usize) -> Result<MemoryWorld, Fault>
     requires some { 0 < clones }
-    ensures new { IfOk result (λ world. IsNewWorld HoldsMemoryShared HoldsMemoryClone clones world) }
+    ensures new { IfOk result (λ world. IsNewWorld memory_shared memory_clone clones false world) }
     ensures count { IfOk result (λ world. clones_of world ≡ clones) }
     ensures fault { IfErr result (λ e. e ≡ Fault.Memory) }
 {
