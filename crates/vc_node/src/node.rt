@@ -715,6 +715,7 @@ impl<F: Files> CloneNode<F> {
 
 impl<F: Files> CloneNode<FusedFiles<F>> {
     ghost use Rattle.vc_files.specs.Fused.{left_after};
+    ghost use Rattle.vc_files.specs.declared.fused.Fuse.TheVariants.{Unset};
 
     /// Sets a stop: so many more writes pass, and the next one fails and takes the node down. Where the files are stopped already
     /// they stay so.
@@ -726,5 +727,16 @@ impl<F: Files> CloneNode<FusedFiles<F>> {
         ensures up { self.new.is_up ≡ self.old.is_up }
     {
         self.files.stop_after(writes);
+    }
+
+    /// Takes a stop out, so that every write passes. A node that a stop took down stays down until its restart.
+    pub fn mend(&mut self)
+        ensures files { self.new.files.files ≡ self.old.files.files }
+        ensures fuse { self.new.files.fuse ≡ Unset }
+        ensures awaited { self.new.awaited ≡ self.old.awaited }
+        ensures learnt { self.new.learnt ≡ self.old.learnt }
+        ensures up { self.new.is_up ≡ self.old.is_up }
+    {
+        self.files.mend();
     }
 }

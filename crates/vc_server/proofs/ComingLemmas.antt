@@ -1,24 +1,28 @@
--- That what a reader brings is served: for the call that takes it and replies.
-use Rattle.std.proofs.Common.{◌≡◌, inl, inr, ℕ, Bool, true, false, List, Option, Some, None, Result, Ok, Err, Vec, refl}
+-- That what comes, by bytes or a reader, is served: for the calls that take it and reply.
+use Rattle.std.proofs.Common.{◌≡◌, inl, inr, ℕ, Bool, true, false, List, Option, Some, None, Result, Ok, Err, Vec, refl, subst, sym}
 use Rattle.std.specs.Global.{Global}
-use Rattle.std.specs.Prelude.{IfErr}
+use Rattle.std.specs.Prelude.{IfErr, IfOk}
 use Rattle.vc_files.specs.FileMap.{FileMap}
+use Rattle.vc_message.specs.AnyMessage.{MessageText, a_list, a_pack, a_push, a_report, a_want, an_advert, an_error}
 use Rattle.vc_message.specs.Coming.{Came, a_message, cut_short, lost, no_message, nothing_came}
 use Rattle.vc_model.specs.SharedCall.{SharedCall}
 use Rattle.vc_model.specs.SharedCall.SharedCall.{Accept}
 use Rattle.vc_local.specs.Clean.{KeepsClean}
 use Rattle.vc_push_rules.specs.Session.{SessionText}
-use Rattle.vc_shared.specs.Accepting.{IsRefusedMessage}
-use Rattle.vc_shared.specs.Arriving.{AcceptsFrom, AnswersKnown, IsKnown, IsTold, ToldAs}
+use Rattle.vc_shared.specs.Accepting.{IsAnsweredBytes, IsAnsweredMessage, IsRefusedMessage}
+use Rattle.vc_shared.specs.Arriving.{AcceptsFrom, AnswersKnown, IsAnsweredThere, IsKnown, IsTold, ToldAs}
 use Rattle.vc_shared.specs.Arriving.{IsRefusedThere as IsRefusedComing}
 use Rattle.vc_shared.specs.Calls.{AnswersShared}
+use Rattle.vc_shared.specs.Serving.{IsAnswered, IsListed}
 use Rattle.vc_shared.specs.declared.accept_fault.AcceptFault.{AcceptFault}
 use Rattle.vc_shared.specs.declared.accept_fault.AcceptFault.TheVariants.{Node, ReadFailed}
 use Rattle.vc_shared.specs.declared.accepting.Accepted.{Accepted}
+use Rattle.vc_shared.specs.declared.accepting.Accepted.TheVariants.{Slot, Reply as Told}
 use Rattle.vc_shared.specs.declared.fault.SharedFault.{SharedFault}
 use Rattle.vc_server.proofs.ServingLemmas.{by_itself, on_the_way, refused_at_once}
 use Rattle.vc_server.specs.Coming.{IsRefusedThere, Reply, ServesAs, ServesFrom, ServesKnown}
 use Rattle.vc_server.specs.Refusals.{IsRefusedOnTheWay}
+use Rattle.vc_server.specs.Replies.{IsRepliedThere, IsReplyOf, IsReplyTo, IsReplyToBytes}
 use Rattle.vc_server.specs.Serving.{RepliesTo, Serves}
 
 -- the bytes that were replied, or why there are none
@@ -105,6 +109,50 @@ reply_refused old mid slots (no_message fault) q clean why = tt
 reply_refused old mid slots lost q clean why = tt
 reply_refused old mid slots cut_short q clean why = tt
 
+-- ---- what is replied, over any files
+none_replied : (old : FileMap) (came : Came) → IsRepliedThere came old (Ok None)
+none_replied old (a_message text) = tt
+none_replied old nothing_came = tt
+none_replied old (no_message fault) = tt
+none_replied old lost = tt
+none_replied old cut_short = tt
+
+fault_replied : (old : FileMap) (came : Came) (e : AcceptFault) → IsRepliedThere came old (Err e)
+fault_replied old (a_message text) e = tt
+fault_replied old nothing_came e = tt
+fault_replied old (no_message fault) e = tt
+fault_replied old lost e = tt
+fault_replied old cut_short e = tt
+
+module _ (old mid : FileMap) (slots mids : List (Option SessionText)) where
+  replied_by : (text : MessageText) (accepted : Accepted) (reply : Vec ℕ Global) → IsAnsweredMessage old mid slots mids text accepted → IsReplyOf accepted reply → IsReplyTo old text reply
+  replied_by a_list (Told bytes) reply so is = subst (λ (b : Vec ℕ Global). IsListed old b.items) (sym is) so
+  replied_by a_list (Slot k) reply so is = absurd so
+  replied_by (a_want want) (Told bytes) reply so is = subst (λ (b : Vec ℕ Global). IsAnswered old want b.items) (sym is) so
+  replied_by (a_want want) (Slot k) reply so is = absurd so
+  replied_by (a_push push) accepted reply so is = tt
+  replied_by (an_advert advert) accepted reply so is = absurd so
+  replied_by (a_pack pack) accepted reply so is = absurd so
+  replied_by (a_report report) accepted reply so is = absurd so
+  replied_by (an_error text) accepted reply so is = absurd so
+
+  pub bytes_replied : (bytes : List ℕ) (accepted : Accepted) (r : Result (Vec ℕ Global) SharedFault) → IsAnsweredBytes old mid slots mids bytes accepted → IfOk r (IsReplyOf accepted) → IfOk r (IsReplyToBytes old bytes)
+  bytes_replied bytes accepted (Ok reply) (text, spelled, so) is = (text, spelled, replied_by text accepted reply so is)
+  bytes_replied bytes accepted (Err e) so is = tt
+
+  replied_there : (came : Came) (accepted : Accepted) (q : Result (Vec ℕ Global) SharedFault) → IsAnsweredThere came old mid slots mids (Ok (Some accepted)) → IfOk q (IsReplyOf accepted) → IsRepliedThere came old (replied q)
+  replied_there (a_message text) accepted (Ok reply) so is = replied_by text accepted reply so is
+  replied_there (a_message text) accepted (Err e) so is = tt
+  replied_there nothing_came accepted q so is = tt
+  replied_there (no_message fault) accepted q so is = tt
+  replied_there lost accepted q so is = tt
+  replied_there cut_short accepted q so is = tt
+
+-- of a push that was opened nothing is said
+pub slot_replied : (k : ℕ) (r : Result (Vec ℕ Global) SharedFault) → IfOk r (IsReplyOf (Slot k))
+slot_replied k (Ok reply) = tt
+slot_replied k (Err e) = tt
+
 module _ (honest : Type 0) (before rest : Option (List ℕ)) (old new : FileMap) (slots after : List (Option SessionText)) (was_up is_up : Bool) where
   -- ---- nothing was taken
   pub none_served : AcceptsFrom honest before rest old new slots after was_up is_up (Ok None) → ServesFrom honest before rest old new slots after was_up is_up (Ok None)
@@ -113,6 +161,7 @@ module _ (honest : Type 0) (before rest : Option (List ℕ)) (old new : FileMap)
     is_come = a.is_come;
     told = none_told was_up a.came a.told;
     refused = λ h was. none_refused old slots a.came;
+    replied = λ h. none_replied old a.came;
     serves = λ h call which. tt;
   }
 
@@ -129,6 +178,7 @@ module _ (honest : Type 0) (before rest : Option (List ℕ)) (old new : FileMap)
     is_come = a.is_come;
     told = fault_told was_up a.came e a.told;
     refused = λ h was. fault_refused old slots a.came e (a.refused h was);
+    replied = λ h. fault_replied old a.came e;
     serves = λ h call which. as_served call e (a.answers h call which);
   }
 
@@ -146,12 +196,13 @@ module _ (honest : Type 0) (before rest : Option (List ℕ)) (old new : FileMap)
     as_replied call (Ok reply) serves = serves
     as_replied call (Err e) serves = serves
 
-    pub reply_served : (honest → KeepsClean old mid) → (honest → IfErr q (IsRefusedOnTheWay mid)) → AcceptsFrom honest before rest old mid slots mids was_up mid_up (Ok (Some accepted)) → ServesFrom honest before rest old new slots after was_up is_up (replied q)
-    reply_served clean why a = record {
+    pub reply_served : IfOk q (IsReplyOf accepted) → (honest → KeepsClean old mid) → (honest → IfErr q (IsRefusedOnTheWay mid)) → AcceptsFrom honest before rest old mid slots mids was_up mid_up (Ok (Some accepted)) → ServesFrom honest before rest old new slots after was_up is_up (replied q)
+    reply_served told clean why a = record {
       came = a.came;
       is_come = a.is_come;
       told = reply_told was_up a.came accepted q a.told;
       refused = λ h was. reply_refused old mid slots a.came q (clean h) (why h);
+      replied = λ h. replied_there old mid slots mids a.came accepted q (a.answered h) told;
       serves = λ h call which. as_replied call q ((replies h).serves call old slots was_up mid_up up (a.answers h call which));
     }
 

@@ -12,6 +12,7 @@ use Rattle.vc_shared.specs.declared.accept_fault.AcceptFault.{AcceptFault}
 use Rattle.vc_shared.specs.declared.accept_fault.AcceptFault.TheVariants.{Node}
 use Rattle.vc_shared.specs.declared.fault.SharedFault.{SharedFault}
 use Rattle.vc_server.specs.Refusals.{IsRefusedMessageAnswer}
+use Rattle.vc_server.specs.Replies.{IsRepliedThere}
 use Rattle.vc_server.specs.Serving.{Serves}
 
 -- the bytes of the reply, none where nothing came, or why there is none
@@ -35,6 +36,7 @@ pub record ServesFrom (honest : Type 0) (before rest : Option (List ℕ)) (old n
   pub is_come : IsCome before rest came
   pub told : IsTold was_up came result
   pub refused : honest → was_up ≡ true → IsRefusedThere came old slots result
+  pub replied : honest → IsRepliedThere came old result
   pub serves : honest → (call : SharedCall) → IsCallOf was_up came call → ServesAs call result old new slots after was_up is_up
 
 -- Where a message is the first that the reader has, it is what is served, and what is behind it is left; or the reader failed, or a fault

@@ -9,6 +9,7 @@ ghost use Rattle.vc_local.specs.Clean.{KeepsClean};
 ghost use Rattle.vc_local.specs.declared.fault.NodeFault.TheVariants.{Down};
 ghost use Rattle.vc_server.specs.Coming.{ServesCall, ServesFirst, ServesNext};
 ghost use Rattle.vc_server.specs.Refusals.{IsRefusedAnswer, IsRefusedOnTheWay};
+ghost use Rattle.vc_server.specs.Replies.{IsReplyOf, IsReplyToBytes};
 ghost use Rattle.vc_server.specs.Serving.{RepliesTo, StepsToEnd, report_of};
 ghost use Rattle.vc_shared.specs.AcceptFault.{TellsDevice as TellsAcceptDevice, up_after as accept_up_after};
 ghost use Rattle.vc_shared.specs.Faults.{TellsDevice, up_after};
@@ -60,6 +61,7 @@ fn reply_to<F: Files>(shared: &mut Shared<F>, accepted: Accepted) -> Result<Vec<
     requires up { shared.old.is_up ≡ true }
     requires tellable { AreTellable shared.old.slots }
     ensures replies { F.honest → RepliesTo accepted result (F.content shared.old.files) (F.content shared.new.files) shared.old.slots shared.new.slots shared.new.is_up }
+    ensures replied { IfOk result (IsReplyOf accepted) }
     ensures bad_file { F.honest → IfErr result (IsRefusedOnTheWay (F.content shared.old.files)) }
     ensures up { shared.new.is_up ≡ up_after result }
     ensures clean { F.honest → KeepsClean (F.content shared.old.files) (F.content shared.new.files) }
@@ -78,6 +80,7 @@ fn reply_to<F: Files>(shared: &mut Shared<F>, accepted: Accepted) -> Result<Vec<
 pub fn answer<F: Files>(shared: &mut Shared<F>, bytes: &[u8]) -> Result<Vec<u8>, SharedFault>
     ensures answers { F.honest → (m : Sent) → Reads bytes.now m → ServesCall F.content (Accept m) result shared.old shared.new }
     ensures unread { F.honest → (n : ℕ) → IsUnread bytes.now n → ServesCall F.content (Asks (Unread n)) result shared.old shared.new }
+    ensures replied { F.honest → IfOk result (IsReplyToBytes (F.content shared.old.files) bytes.now) }
     ensures bad_file { F.honest → IfErr result (IsRefusedAnswer (F.content shared.old.files) shared.old.slots bytes.now) }
     ensures down { shared.old.is_up ≡ false → result ≡ Err (Node Down) }
     ensures up { shared.old.is_up ≡ true → shared.new.is_up ≡ up_after result }

@@ -33,12 +33,13 @@ use Rattle.vc_shared.proofs.CallLemmas.{Leads, asked_leads, fault_leads, refused
 use Rattle.vc_shared.proofs.PushingLemmas.{push_answers}
 use Rattle.vc_shared.proofs.ServingLaws.{list_answers, want_answers}
 use Rattle.vc_shared.proofs.SteppingLaws.{held_still, pushes_of}
-use Rattle.vc_shared.specs.Accepting.{AnswersUp, IsRefusedBytes, IsRefusedMessage}
+use Rattle.vc_shared.specs.Accepting.{AnswersUp, IsAnsweredBytes, IsAnsweredMessage, IsRefusedBytes, IsRefusedMessage}
 use Rattle.vc_shared.specs.Faults.{IsOfDevice, TellsDevice, of_device, of_pkt, up_after}
 use Rattle.vc_shared.specs.Holding.{HoldsShared}
 use Rattle.vc_shared.specs.Pushing.{ChangesFree, IsRefusedPush, OpensSlot, slot_reply}
 use Rattle.vc_shared.specs.Serving.{IsAnswered, IsListed, RefusesList, RefusesWant, reply_of}
 use Rattle.vc_shared.specs.declared.accepting.Accepted.{Accepted}
+use Rattle.vc_shared.specs.declared.accepting.Accepted.TheVariants.{Reply, Slot}
 use Rattle.vc_shared.specs.declared.fault.SharedFault.{SharedFault}
 use Rattle.vc_shared.specs.declared.fault.SharedFault.TheVariants.{Unexpected, Unread}
 
@@ -46,6 +47,27 @@ use Rattle.vc_shared.specs.declared.fault.SharedFault.TheVariants.{Unexpected, U
 pub up_of_reply : (r : Result (Vec ℕ Global) SharedFault) → up_after (reply_of r) ≡ up_after r
 up_of_reply (Ok bytes) = refl
 up_of_reply (Err e) = refl
+
+-- what is replied, or which slot is taken, is what is told of the message
+pub reply_answered : (P : Vec ℕ Global → Type 0) (Q : Accepted → Type 0) (r : Result (Vec ℕ Global) SharedFault) (q : Result Accepted SharedFault) → q ≡ reply_of r → ((bytes : Vec ℕ Global) → P bytes → Q (Reply bytes)) → IfOk r P → IfOk q Q
+reply_answered P Q r q is tells so = subst (λ (x : Result Accepted SharedFault). IfOk x Q) (sym is) (by r so)
+  where
+    by : (r : Result (Vec ℕ Global) SharedFault) → IfOk r P → IfOk (reply_of r) Q
+    by (Ok bytes) so = tells bytes so
+    by (Err e) so = tt
+
+pub slot_answered : (P : ℕ → Type 0) (Q : Accepted → Type 0) (r : Result ℕ SharedFault) (q : Result Accepted SharedFault) → q ≡ slot_reply r → ((k : ℕ) → P k → Q (Slot k)) → IfOk r P → IfOk q Q
+slot_answered P Q r q is tells so = subst (λ (x : Result Accepted SharedFault). IfOk x Q) (sym is) (by r so)
+  where
+    by : (r : Result ℕ SharedFault) → IfOk r P → IfOk (slot_reply r) Q
+    by (Ok k) so = tells k so
+    by (Err e) so = tt
+
+-- a message that was read is the one that its bytes spell
+pub message_answered : (old new : FileMap) (slots after : List (Option SessionText)) (bytes : List ℕ) (text : MessageText) (r : Result Accepted SharedFault) → IsSpelledBy SpellsMessage text bytes
+    → IfOk r (IsAnsweredMessage old new slots after text) → IfOk r (IsAnsweredBytes old new slots after bytes)
+message_answered old new slots after bytes text (Ok accepted) spelled so = (text, spelled, so)
+message_answered old new slots after bytes text (Err e) spelled so = tt
 
 pub up_of_slot : (r : Result ℕ SharedFault) → up_after (slot_reply r) ≡ up_after r
 up_of_slot (Ok k) = refl

@@ -62,7 +62,7 @@ told_up content slots true n m call a s held not answers is = refl
 told_up content slots false n m call a s held not answers is = absurd (no_fault n m call a s (none_open content slots false n.live refl held.live) not answers is)
 
 -- no refs are set together, so one write a place suffices
-together : (t : Type 0) (k : ℕ) (r s : Repository) → WritesSuffice ⊥ k r s → WritesSuffice t k r s
+pub together : (t : Type 0) (k : ℕ) (r s : Repository) → WritesSuffice ⊥ k r s → WritesSuffice t k r s
 together t k r s (places, few, none, differ) = (places, few, λ all. absurd (none all), differ)
 
 pub clean_suffices : CleanSuffices

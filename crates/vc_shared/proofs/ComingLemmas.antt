@@ -34,9 +34,9 @@ use Rattle.vc_local.proofs.BesideLemmas.{clean_on, held_content, spells_on}
 use Rattle.vc_shared.proofs.PushingLemmas.{free_there, push_answers, slot_beside}
 use Rattle.vc_shared.proofs.PushingTexts.{reads_tellable}
 use Rattle.vc_shared.specs.AcceptFault.{TellsDevice, is_fault, takes_down, up_after}
-use Rattle.vc_shared.specs.Accepting.{AnswersUp, IsRefusedMessage}
+use Rattle.vc_shared.specs.Accepting.{AnswersUp, IsAnsweredMessage, IsRefusedMessage}
 use Rattle.vc_message.specs.Coming.{TakesAll, a_message, cut_short, lost, no_message, nothing_came}
-use Rattle.vc_shared.specs.Arriving.{AcceptsUp, BeginsPush, IsCleared, IsRefusedThere, IsStopped, IsTold, KeepsHeld, OpensFrom, ToldAs, by_bytes, by_node, by_reader, message_told, slot_told}
+use Rattle.vc_shared.specs.Arriving.{AcceptsUp, BeginsPush, IsAnsweredThere, IsCleared, IsRefusedThere, IsStopped, IsTold, KeepsHeld, OpensFrom, ToldAs, by_bytes, by_node, by_reader, message_told, slot_told}
 use Rattle.vc_shared.specs.Arriving.IsTurnedAway.{busy, stopped}
 use Rattle.vc_shared.specs.Arriving.{IsTurnedAway}
 use Rattle.vc_shared.specs.Calls.{AcceptedAs, AnswersShared}
@@ -146,6 +146,7 @@ module _ (honest : Type 0) (before rest : Option (List ℕ)) (old new : FileMap)
     is_come = none;
     told = subst (IsTold true nothing_came) (sym is) tt;
     refused = λ h was. subst (IsRefusedThere nothing_came old slots) (sym is) tt;
+    answered = λ h. tt;
     answers = λ h call never. absurd never;
   }
 
@@ -159,6 +160,10 @@ module _ (honest : Type 0) (before rest : Option (List ℕ)) (old new : FileMap)
     refused_there (Ok accepted) why = tt
     refused_there (Err e) why = why
 
+    answered_there : (t : Result Accepted SharedFault) → IfOk t (IsAnsweredMessage old new slots after text) → IsAnsweredThere (a_message text) old new slots after (message_told t)
+    answered_there (Ok accepted) so = so
+    answered_there (Err e) so = tt
+
     up_there : (t : Result Accepted SharedFault) → up_after (message_told t) ≡ node_up_after t
     up_there (Ok accepted) = refl
     up_there (Err e) = refl
@@ -167,12 +172,13 @@ module _ (honest : Type 0) (before rest : Option (List ℕ)) (old new : FileMap)
     as_told (Ok accepted) call is_up answers = answers
     as_told (Err e) call is_up answers = answers
 
-    pub message_accepts : (honest → IfErr told (IsRefusedMessage old slots text)) → (honest → (m : Message) → TextOf m text → AnswersUp (Accept m) told old new slots after) → AcceptsUp honest before rest old new slots after result
-    message_accepts refused answers is_up up = record {
+    pub message_accepts : (honest → IfOk told (IsAnsweredMessage old new slots after text)) → (honest → IfErr told (IsRefusedMessage old slots text)) → (honest → (m : Message) → TextOf m text → AnswersUp (Accept m) told old new slots after) → AcceptsUp honest before rest old new slots after result
+    message_accepts answered refused answers is_up up = record {
       came = a_message text;
       is_come = taken_as before rest text taken;
       told = subst (IsTold true (a_message text)) (sym is) (is_told told);
       refused = λ h was. subst (IsRefusedThere (a_message text) old slots) (sym is) (refused_there told (refused h));
+      answered = λ h. subst (IsAnsweredThere (a_message text) old new slots after) (sym is) (answered_there told (answered h));
       answers = λ h call which.
           subst (λ (r : Result (Option Accepted) AcceptFault). AnswersShared call (ToldAs r) old new slots after true is_up) (sym is)
           (as_told told call is_up
@@ -191,6 +197,7 @@ module _ (honest : Type 0) (before rest : Option (List ℕ)) (old new : FileMap)
     is_come = taken;
     told = subst (λ (x : AcceptFault). IsTold {T = Accepted} true (no_message fault) (Err x)) (sym is) refl;
     refused = λ h was. subst (λ (x : AcceptFault). IsRefusedThere (no_message fault) old slots (Err x)) (sym is) tt;
+    answered = λ h. tt;
     answers = λ h call which.
         subst (λ (x : AcceptFault). AnswersShared call (ToldAs (Err x)) old new slots slots true is_up) (sym is)
         (subst (λ (c : SharedCall). AnswersShared c (AcceptedAs (Err (shared.Unread fault))) old new slots slots true is_up) (sym which)
@@ -202,6 +209,7 @@ module _ (honest : Type 0) (before rest : Option (List ℕ)) (old new : FileMap)
     is_come = part;
     told = subst (λ (x : AcceptFault). IsTold {T = Accepted} true lost (Err x)) (sym is) tt;
     refused = λ h was. subst (λ (x : AcceptFault). IsRefusedThere lost old slots (Err x)) (sym is) tt;
+    answered = λ h. tt;
     answers = λ h call never. absurd never;
   }
   stopped_accepts (by_node part fault is) is_up up = record {
@@ -209,6 +217,7 @@ module _ (honest : Type 0) (before rest : Option (List ℕ)) (old new : FileMap)
     is_come = part;
     told = subst (λ (x : AcceptFault). IsTold {T = Accepted} true cut_short (Err x)) (sym is) (fault, refl);
     refused = λ h was. subst (λ (x : AcceptFault). IsRefusedThere cut_short old slots (Err x)) (sym is) tt;
+    answered = λ h. tt;
     answers = λ h call never.
         subst (λ (x : AcceptFault). AnswersShared call (ToldAs (Err x)) old new slots slots true is_up) (sym is)
         (answers_then call (AcceptedAs (Err (of_device fault))) old old new slots true is_up
@@ -225,7 +234,7 @@ module _ (honest : Type 0) (before now rest : Option (List ℕ)) (place number :
       → (honest → IfErr q (IsCleared new slots)) → (honest → ChangesFree old new slots) → (honest → MakesNoneBad old new) → AcceptsUp honest before rest old new slots after result
   push_accepts (Ok k) result is opens unchanged turned cleared changes bad =
       let o = opens before begins in
-      message_accepts honest before rest old new slots after result (a_push o.push) o.taken (Ok (Slot k)) is (λ h. tt)
+      message_accepts honest before rest old new slots after result (a_push o.push) o.taken (Ok (Slot k)) is o.opens (λ h. tt)
       (λ h m text was_up is_up was up. push_answers old new slots after o.push m was_up is_up (Ok k) text (o.opens h) tt tt (changes h) (bad h) was up)
   push_accepts (Err e) result is opens unchanged turned cleared changes bad = by (turned before begins)
     where
@@ -235,7 +244,7 @@ module _ (honest : Type 0) (before now rest : Option (List ℕ)) (place number :
           (subst (λ (xs : List (Option SessionText)). AcceptsUp honest before rest old new slots xs (Err e)) (sym unchanged)
           (stopped_accepts honest before rest old new slots e (λ h. kept_free old new slots e (changes h) (bad h) (cleared h)) s))
       by (busy push taken full why) =
-          message_accepts honest before rest old new slots after result (a_push push) taken (Err shared.Busy) (is ∙ ap Err why) (λ h. inl (full, refl))
+          message_accepts honest before rest old new slots after result (a_push push) taken (Err shared.Busy) (is ∙ ap Err why) (λ h. tt) (λ h. inl (full, refl))
           (λ h m text was_up is_up was up. push_answers old new slots after push m was_up is_up (Err shared.Busy) text tt unchanged (inl (full, refl)) (changes h) (bad h) was up)
 
 -- and where the reader failed, what was held is held

@@ -90,16 +90,18 @@ module _ (honest : Type 0) (before rest : Option (List ℕ)) (content : FileMap)
     is_come = taken_as before rest some.0 some.1;
     told = refl;
     refused = λ h was. absurd (true≢false (sym was));
+    answered = λ h. tt;
     answers = λ h call which. down_call call which.0 which.2;
   }
-  down_by (Ok None) some none fails = record { came = nothing_came; is_come = none; told = tt; refused = λ h was. absurd (true≢false (sym was)); answers = λ h call never. absurd never }
-  down_by (Err incoming.Failed) some none fails = record { came = lost; is_come = fails; told = tt; refused = λ h was. absurd (true≢false (sym was)); answers = λ h call never. absurd never }
-  down_by (Err incoming.Memory) some none fails = record { came = cut_short; is_come = fails; told = refl; refused = λ h was. absurd (true≢false (sym was)); answers = λ h call never. absurd never }
+  down_by (Ok None) some none fails = record { came = nothing_came; is_come = none; told = tt; refused = λ h was. absurd (true≢false (sym was)); answered = λ h. tt; answers = λ h call never. absurd never }
+  down_by (Err incoming.Failed) some none fails = record { came = lost; is_come = fails; told = tt; refused = λ h was. absurd (true≢false (sym was)); answered = λ h. tt; answers = λ h call never. absurd never }
+  down_by (Err incoming.Memory) some none fails = record { came = cut_short; is_come = fails; told = refl; refused = λ h was. absurd (true≢false (sym was)); answered = λ h. tt; answers = λ h call never. absurd never }
   down_by (Err (incoming.Unread fault)) some none fails = record {
     came = no_message fault;
     is_come = fails;
     told = refl;
     refused = λ h was. absurd (true≢false (sym was));
+    answered = λ h. tt;
     answers = λ h call which. down_unread call (pkt_number fault) which;
   }
 

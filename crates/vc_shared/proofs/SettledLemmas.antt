@@ -1,7 +1,7 @@
 -- What a method of the shared node tells of a message, once what came of it has gone through the call that takes the node down after a
 -- fault.
 use Rattle.std.proofs.Common.{◌≡◌, ℕ, Bool, true, List, Option, Result, Ok, Err, ◌⊎◌, inr, sym, ap, ◌∙◌, subst}
-use Rattle.std.specs.Prelude.{IfErr, OnErr}
+use Rattle.std.specs.Prelude.{IfErr, IfOk, OnErr}
 use Rattle.vc_files.specs.FileMap.{FileMap}
 use Rattle.vc_files.specs.Failures.{Wears, Writes}
 use Rattle.vc_model.specs.SharedCall.{SharedCall}
@@ -10,7 +10,7 @@ use Rattle.vc_local.specs.declared.fault.NodeFault.TheVariants.{Down}
 use Rattle.vc_quarantine.specs.Clean.{MakesNoneBad}
 use Rattle.vc_push_rules.specs.Session.{SessionText}
 use Rattle.vc_local.proofs.BesideLemmas.{clean_by}
-use Rattle.vc_shared.specs.Accepting.{AnswersUp}
+use Rattle.vc_shared.specs.Accepting.{AnswersUp, IsAnsweredBytes}
 use Rattle.vc_shared.specs.Calls.{AcceptedAs, AnswersShared}
 use Rattle.vc_shared.specs.Faults.{TellsDevice, up_after}
 use Rattle.vc_shared.specs.declared.accepting.Accepted.{Accepted}
@@ -26,6 +26,12 @@ module _ {D : Type 0} (content : D → FileMap) (old mid new : D) (slots mids af
       (subst (λ (d : D). AnswersShared call (AcceptedAs came) (content old) (content d) slots after was_up is_up) (sym files)
       (subst (λ (xs : List (Option SessionText)). AnswersShared call (AcceptedAs came) (content old) (content mid) slots xs was_up is_up) (sym same)
       (answers was_up is_up was (up ∙ ap (λ (r : Result Accepted SharedFault). up_after r) is))))
+
+  pub settled_answered : (bytes : List ℕ) → IfOk came (IsAnsweredBytes (content old) (content mid) slots mids bytes) → IfOk told (IsAnsweredBytes (content old) (content new) slots after bytes)
+  settled_answered bytes so =
+      subst (λ (r : Result Accepted SharedFault). IfOk r (IsAnsweredBytes (content old) (content new) slots after bytes)) (sym is)
+      (subst (λ (d : D). IfOk came (IsAnsweredBytes (content old) (content d) slots after bytes)) (sym files)
+      (subst (λ (xs : List (Option SessionText)). IfOk came (IsAnsweredBytes (content old) (content mid) slots xs bytes)) (sym same) so))
 
   pub settled_err : OnErr came (mids ≡ slots) → OnErr told (after ≡ slots)
   settled_err kept =

@@ -137,7 +137,7 @@ standing content slots pushes k holds = elim (less_or k 8) [
   | inr past ↦ subst (λ (v : Option SessionText). IsStanding content pushes k v) (sym (ap (λ (o : Option (Option SessionText)). unwrap_or o None) (slice_get_past slots k (omega (arith, past, holds.eight))))) (holds.others k past)
 ]
 
-held_there : (content : FileMap) (pushes : Slots) (k : ℕ) (v : Option SessionText) → IsStanding content pushes k v → IsHeldThere content v
+pub held_there : (content : FileMap) (pushes : Slots) (k : ℕ) (v : Option SessionText) → IsStanding content pushes k v → IsHeldThere content v
 held_there content pushes k None none = tt
 held_there content pushes k (Some s) (p, small, is, at, push, clean) = push.names
 

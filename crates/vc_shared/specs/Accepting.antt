@@ -1,4 +1,5 @@
--- A message that comes to the shared node: that it is answered as the machine answers it, and why it is refused.
+-- A message that comes to the shared node: that it is answered as the machine answers it, what it is answered over any files, and why it is
+-- refused.
 use Rattle.std.specs.Prelude.{◌≡◌, ℕ, Bool, true, List, Option, Result}
 use Rattle.vc_files.specs.FileMap.{FileMap}
 use Rattle.vc_files.specs.declared.faults.Fault.TheVariants.{Memory}
@@ -11,9 +12,10 @@ use Rattle.vc_pkt.specs.declared.fault.PktFault.{PktFault}
 use Rattle.vc_push_rules.specs.Session.{SessionText}
 use Rattle.vc_shared.specs.Calls.{AcceptedAs, AnswersShared}
 use Rattle.vc_shared.specs.Faults.{of_device, up_after}
-use Rattle.vc_shared.specs.Pushing.{IsRefusedPush}
-use Rattle.vc_shared.specs.Serving.{RefusesList, RefusesWant}
+use Rattle.vc_shared.specs.Pushing.{IsRefusedPush, OpensSlot}
+use Rattle.vc_shared.specs.Serving.{IsAnswered, IsListed, RefusesList, RefusesWant}
 use Rattle.vc_shared.specs.declared.accepting.Accepted.{Accepted}
+use Rattle.vc_shared.specs.declared.accepting.Accepted.TheVariants.{Reply, Slot}
 use Rattle.vc_shared.specs.declared.fault.SharedFault.{SharedFault}
 use Rattle.vc_shared.specs.declared.fault.SharedFault.TheVariants.{Unexpected, Unread}
 
@@ -21,6 +23,17 @@ use Rattle.vc_shared.specs.declared.fault.SharedFault.TheVariants.{Unexpected, U
 abbrev pub AnswersUp : SharedCall → Result Accepted SharedFault → FileMap → FileMap → List (Option SessionText) → List (Option SessionText) → Type 0
 AnswersUp call result old new slots after =
     (was_up is_up : Bool) → was_up ≡ true → is_up ≡ up_after result → AnswersShared call (AcceptedAs result) old new slots after was_up is_up
+
+-- what a message that was read is answered, over any files: a list by the refs, a want by its pack, and a push is open in its slot
+abbrev pub IsAnsweredMessage : (old new : FileMap) → (slots after : List (Option SessionText)) → MessageText → Accepted → Type 0
+IsAnsweredMessage old new slots after a_list (Reply bytes) = IsListed old bytes.items
+IsAnsweredMessage old new slots after (a_want want) (Reply bytes) = IsAnswered old want bytes.items
+IsAnsweredMessage old new slots after (a_push push) (Slot k) = OpensSlot new slots after push k
+IsAnsweredMessage old new slots after _ _ = ⊥
+
+-- the same of bytes that are one
+abbrev pub IsAnsweredBytes : (old new : FileMap) → (slots after : List (Option SessionText)) → (bytes : List ℕ) → Accepted → Type 0
+IsAnsweredBytes old new slots after bytes accepted = (text : MessageText) × IsSpelledBy SpellsMessage text bytes × IsAnsweredMessage old new slots after text accepted
 
 -- why a message that was read is refused
 abbrev pub IsRefusedMessage : FileMap → List (Option SessionText) → MessageText → SharedFault → Type 0

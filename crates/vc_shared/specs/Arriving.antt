@@ -28,7 +28,7 @@ use Rattle.vc_push_rules.specs.Quarantine.{IsDropped}
 use Rattle.vc_push_rules.specs.Session.{SessionText}
 use Rattle.vc_push_rules.specs.Steps.{IsOpened}
 use Rattle.vc_shared.specs.AcceptFault.{ends_in_fault, is_fault, up_after}
-use Rattle.vc_shared.specs.Accepting.{IsRefusedMessage}
+use Rattle.vc_shared.specs.Accepting.{IsAnsweredMessage, IsRefusedMessage}
 use Rattle.vc_shared.specs.Calls.{AcceptedAs, AnswersShared}
 use Rattle.vc_shared.specs.Faults.{of_device}
 use Rattle.vc_shared.specs.Holding.{HoldsShared}
@@ -129,6 +129,11 @@ abbrev pub IsRefusedThere : Came → FileMap → List (Option SessionText) → R
 IsRefusedThere (a_message text) content slots (Err (Node e)) = IsRefusedMessage content slots text e
 IsRefusedThere _ content slots _ = ⊤
 
+-- what a message is answered, over any files
+abbrev pub IsAnsweredThere : Came → (old new : FileMap) → (slots after : List (Option SessionText)) → Result (Option Accepted) AcceptFault → Type 0
+IsAnsweredThere (a_message text) old new slots after (Ok (Some accepted)) = IsAnsweredMessage old new slots after text accepted
+IsAnsweredThere _ old new slots after _ = ⊤
+
 -- the machine's answer to it
 abbrev pub ToldAs : Result (Option Accepted) AcceptFault → Answer → Option Message → Type 0
 ToldAs (Ok (Some accepted)) a sends = AcceptedAs (Ok accepted) a sends
@@ -141,6 +146,7 @@ pub record AcceptsFrom (honest : Type 0) (before rest : Option (List ℕ)) (old 
   pub is_come : IsCome before rest came
   pub told : IsTold was_up came result
   pub refused : honest → was_up ≡ true → IsRefusedThere came old slots result
+  pub answered : honest → IsAnsweredThere came old new slots after result
   pub answers : honest → (call : SharedCall) → IsCallOf was_up came call → AnswersShared call (ToldAs result) old new slots after was_up is_up
 
 -- the same of a node that is up

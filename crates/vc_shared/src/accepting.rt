@@ -1,5 +1,5 @@
 //! A message that comes to the shared node.
-ghost use Rattle.std.specs.Prelude.{◌≡◌, ◌⊎◌, ℕ, IfErr, OnErr};
+ghost use Rattle.std.specs.Prelude.{◌≡◌, ◌⊎◌, ℕ, IfErr, IfOk, OnErr};
 ghost use Rattle.vc_files.specs.Failures.{Wears, Writes};
 ghost use Rattle.vc_message.specs.AnyView.{message_text};
 ghost use Rattle.vc_message.specs.Machine.{IsUnread, Reads, TextOf};
@@ -7,7 +7,7 @@ ghost use Rattle.vc_message.specs.Read.{WasRead};
 ghost use Rattle.vc_model.specs.Message.{Message as Sent};
 ghost use Rattle.vc_model.specs.Question.Question.{Unread};
 ghost use Rattle.vc_model.specs.SharedCall.SharedCall.{Accept, Asks};
-ghost use Rattle.vc_shared.specs.Accepting.{AnswersUp, IsRefusedBytes, IsRefusedMessage, IsToWrite};
+ghost use Rattle.vc_shared.specs.Accepting.{AnswersUp, IsAnsweredBytes, IsAnsweredMessage, IsRefusedBytes, IsRefusedMessage, IsToWrite};
 ghost use Rattle.vc_shared.specs.Faults.{TellsDevice};
 ghost use Rattle.vc_shared.specs.Holding.{KeepsGood};
 ghost use Rattle.vc_shared.specs.Pushing.{ChangesFree, slot_reply};
@@ -60,6 +60,7 @@ pub(crate) fn take<F: Files>(
     requires tellable { AreTellable slots.old }
     ensures tellable { AreTellable slots.new }
     ensures answers { F.honest → (m : Sent) → TextOf m (message_text message) → AnswersUp (Accept m) result (F.content files.old) (F.content files.new) slots.old slots.new }
+    ensures answered { F.honest → IfOk result (IsAnsweredMessage (F.content files.old) (F.content files.new) slots.old slots.new (message_text message)) }
     ensures unchanged { OnErr result (slots.new ≡ slots.old) }
     ensures refused { F.honest → IfErr result (IsRefusedMessage (F.content files.old) slots.old (message_text message)) }
     ensures outside { F.honest → ChangesFree (F.content files.old) (F.content files.new) slots.old }
@@ -89,6 +90,7 @@ pub(crate) fn accept<F: Files>(
     ensures tellable { AreTellable slots.new }
     ensures answers { F.honest → (m : Sent) → Reads bytes.now m → AnswersUp (Accept m) result (F.content files.old) (F.content files.new) slots.old slots.new }
     ensures unread { F.honest → (n : ℕ) → IsUnread bytes.now n → AnswersUp (Asks (Unread n)) result (F.content files.old) (F.content files.new) slots.old slots.new }
+    ensures answered { F.honest → IfOk result (IsAnsweredBytes (F.content files.old) (F.content files.new) slots.old slots.new bytes.now) }
     ensures unchanged { OnErr result (slots.new ≡ slots.old) }
     ensures refused { F.honest → IfErr result (IsRefusedBytes (F.content files.old) slots.old bytes.now) }
     ensures outside { F.honest → ChangesFree (F.content files.old) (F.content files.new) slots.old }

@@ -17,7 +17,7 @@ ghost use Rattle.vc_expression.specs.Grammar.{IsExpr};
 ghost use Rattle.vc_expression.specs.Views.{expr_view};
 ghost use Rattle.vc_quarantine.specs.Learning.{IsNothing};
 ghost use Rattle.vc_shared.specs.AcceptFault.{TellsDevice as TellsAcceptDevice, takes_down as accept_takes_down, up_after as accept_up_after};
-ghost use Rattle.vc_shared.specs.Accepting.{IsRefusedBytes, IsToWrite};
+ghost use Rattle.vc_shared.specs.Accepting.{IsAnsweredBytes, IsRefusedBytes, IsToWrite};
 ghost use Rattle.vc_shared.specs.Arriving.{KeepsAtLoss};
 ghost use Rattle.vc_shared.specs.Calls.{AcceptedAs, SteppedAs};
 ghost use Rattle.vc_shared.specs.Faults.{TellsDevice, fault_answer, takes_down, up_after};
@@ -245,6 +245,7 @@ impl<F: Files> Shared<F> {
     pub fn accept(&mut self, bytes: &[u8]) -> Result<Accepted, SharedFault>
         ensures answers { F.honest → (m : Sent) → Reads bytes.now m → AnswersCall F.content (Accept m) (AcceptedAs result) self.old self.new }
         ensures unread { F.honest → (n : ℕ) → IsUnread bytes.now n → AnswersCall F.content (Asks (Unread n)) (AcceptedAs result) self.old self.new }
+        ensures answered { F.honest → IfOk result (IsAnsweredBytes (F.content self.old.files) (F.content self.new.files) self.old.slots self.new.slots bytes.now) }
         ensures bad_file { F.honest → IfErr result (λ e. (e ≡ SharedFault.Node NodeFault.Down) ⊎ IsRefusedBytes (F.content self.old.files) self.old.slots bytes.now e) }
         ensures settles { SettlesTaken result (result ≡ Err (SharedFault.Node NodeFault.Down)) (up_after result) self.old self.new }
         ensures clean { F.honest → KeepsClean (F.content self.old.files) (F.content self.new.files) }
@@ -339,6 +340,7 @@ impl<F: Files> Shared<F> {
 
 impl<F: Files> Shared<FusedFiles<F>> {
     ghost use Rattle.vc_files.specs.Fused.{left_after};
+    ghost use Rattle.vc_files.specs.declared.fused.Fuse.TheVariants.{Unset};
 
     /// Sets a stop: so many more writes pass, and the next one fails and takes the node down. Where the files are stopped already
     /// they stay so.
@@ -350,5 +352,16 @@ impl<F: Files> Shared<FusedFiles<F>> {
         ensures up { self.new.is_up ≡ self.old.is_up }
     {
         self.files.stop_after(writes);
+    }
+
+    /// Takes a stop out, so that every write passes. A node that a stop took down stays down until its restart.
+    pub fn mend(&mut self)
+        ensures files { self.new.files.files ≡ self.old.files.files }
+        ensures fuse { self.new.files.fuse ≡ Unset }
+        ensures slots { self.new.slots ≡ self.old.slots }
+        ensures learnt { self.new.learnt ≡ self.old.learnt }
+        ensures up { self.new.is_up ≡ self.old.is_up }
+    {
+        self.files.mend();
     }
 }

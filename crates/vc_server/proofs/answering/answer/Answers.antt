@@ -1,6 +1,7 @@
 use Rattle.vc_files.proofs.WearLemmas.{writes_both}
 use Rattle.vc_model.specs.Question.Question.{Unread}
 use Rattle.vc_model.specs.SharedCall.SharedCall.{Accept, Asks}
+use Rattle.vc_server.proofs.ComingLemmas.{bytes_replied}
 use Rattle.vc_server.proofs.ServingLemmas.{by_itself, err_is, on_the_way, refused_at_once, up_then}
 use Rattle.vc_shared.specs.Accepting.{IsRefusedBytes}
 use Rattle.vc_server.proofs.answering.answer.Goals as goal
@@ -27,3 +28,9 @@ returns-clause-bad_file g c = λ honest. on_the_way (IsRefusedBytes (g.F.Files.c
 
 pub returns-clause-wear : goal.returns-clause-wear
 returns-clause-wear g c = writes_both c.in_ok-accepted.ensures.wear (λ never. never) c.reply_to.ensures.wear
+
+pub returns-in_err-accepted-clause-replied : goal.returns-in_err-accepted-clause-replied
+returns-in_err-accepted-clause-replied g c = λ honest. rw (err_is _ _ c.from_residual.ensures.1) tt
+
+pub returns-clause-replied : goal.returns-clause-replied
+returns-clause-replied g c = λ honest. bytes_replied _ _ _ _ c.args.bytes.now c.in_ok-accepted.accepted c.reply_to.result (c.in_ok-accepted.ensures.answered honest) c.reply_to.ensures.replied

@@ -42,7 +42,7 @@ pub returns-clause-serves : goal.returns-clause-serves
 returns-clause-serves g c =
     let accepts = rw c.in-Some.is at c.in_ok-accepted.ensures.accepts in
     reply_served _ _ _ _ _ _ _ _ _ _ _ _ c.in-Some.accepted (Ok c.in_ok-reply.reply) (c.in_ok-accepted.ensures.settles.up (taken_up _ accepts.came c.in-Some.accepted accepts.told)) c.in_ok-reply.ensures.replies
-    c.in_ok-accepted.ensures.clean c.in_ok-reply.ensures.bad_file accepts
+    c.in_ok-reply.ensures.replied c.in_ok-accepted.ensures.clean c.in_ok-reply.ensures.bad_file accepts
 
 pub returns-clause-known : goal.returns-clause-known
 returns-clause-known g c =
@@ -61,7 +61,7 @@ returns-in_err-reply-clause-serves g c =
     let accepts = rw c.in-Some.is at c.in_ok-accepted.ensures.accepts in
     rw (p.1, p.2)
     (reply_served _ _ _ _ _ _ _ _ _ _ _ _ c.in-Some.accepted (Err c.in_err-reply.field-0.0) (c.in_ok-accepted.ensures.settles.up (taken_up _ accepts.came c.in-Some.accepted accepts.told)) c.in_err-reply.ensures.replies
-    c.in_ok-accepted.ensures.clean c.in_err-reply.ensures.bad_file accepts)
+    tt c.in_ok-accepted.ensures.clean c.in_err-reply.ensures.bad_file accepts)
 
 pub returns-in_err-reply-clause-known : goal.returns-in_err-reply-clause-known
 returns-in_err-reply-clause-known g c =

@@ -3,7 +3,7 @@ use Rattle.vc_files.proofs.WearLemmas.{writes_none}
 use Rattle.vc_message.proofs.Readings.{never_unread, text_read}
 use Rattle.vc_message.specs.AnyView.{message_text}
 use Rattle.vc_local.proofs.LookLemmas.{looks_none}
-use Rattle.vc_shared.proofs.AcceptingLemmas.{failed_answers, failed_refused, failed_unread, message_refused, no_device}
+use Rattle.vc_shared.proofs.AcceptingLemmas.{failed_answers, failed_refused, failed_unread, message_answered, message_refused, no_device}
 use Rattle.vc_shared.proofs.ArrivingLemmas.{changes_none}
 use Rattle.vc_shared.proofs.accepting.accept.Goals as goal
 
@@ -45,3 +45,7 @@ returns-clause-refused g c = λ honest.
 pub returns-clause-looks : goal.returns-clause-looks
 returns-clause-looks g c = λ m reads.
     c.take.ensures.looks m (text_read c.args.bytes.now m (message_text c.in_ok-message.message) reads c.in_ok-message.ensures.read)
+
+pub returns-clause-answered : goal.returns-clause-answered
+returns-clause-answered g c = λ honest.
+    message_answered (g.F.Files.content c.args.files.now) (g.F.Files.content c.take.new.files) c.args.slots.now c.take.new.slots c.args.bytes.now (message_text c.in_ok-message.message) c.take.result c.in_ok-message.ensures.spelled (c.take.ensures.answered honest)

@@ -1,19 +1,20 @@
 use Rattle.std.proofs.Common.{refl, subst, sym}
 use Rattle.vc_fetch.specs.WantView.{want_text}
 use Rattle.vc_files.proofs.WearLemmas.{wears_writes}
-use Rattle.std.specs.Prelude.{IfErr}
-use Rattle.vc_message.specs.AnyMessage.{SpellsMessage}
+use Rattle.std.specs.Prelude.{IfErr, IfOk}
+use Rattle.vc_message.specs.AnyMessage.{SpellsMessage, a_list, a_push, a_want}
 use Rattle.vc_message.specs.AnyView.{message_text}
 use Rattle.vc_message.specs.Machine.{TextOf}
 use Rattle.vc_message.specs.Read.{WasRead}
 use Rattle.vc_message.specs.declared.message.Message.{Message}
 use Rattle.vc_pkt.specs.Message.{IsSpelledBy}
 use Rattle.vc_push.specs.PushView.{push_text}
-use Rattle.vc_shared.proofs.AcceptingLemmas.{advert_declined, error_declined, list_told, pack_declined, push_told, reply_wears, report_declined, slot_refused, want_told}
+use Rattle.vc_shared.proofs.AcceptingLemmas.{advert_declined, error_declined, list_told, pack_declined, push_told, reply_answered, reply_wears, report_declined, slot_answered, slot_refused, want_told}
 use Rattle.vc_shared.proofs.ArrivingLemmas.{changes_none, changes_same}
 use Rattle.vc_shared.proofs.PushingTexts.{reads_tellable}
-use Rattle.vc_shared.specs.Accepting.{IsRefusedMessage}
-use Rattle.vc_shared.specs.Pushing.{IsRefusedPush}
+use Rattle.vc_shared.specs.Accepting.{IsAnsweredMessage, IsRefusedMessage}
+use Rattle.vc_shared.specs.Pushing.{IsRefusedPush, OpensSlot}
+use Rattle.vc_shared.specs.Serving.{IsAnswered, IsListed}
 use Rattle.vc_shared.proofs.accepting.take.Goals as goal
 
 pub returns-in-List-clause-answers : goal.returns-in-List-clause-answers
@@ -72,3 +73,28 @@ returns-in-Report-clause-outside g c = λ honest. changes_none _ _
 
 pub returns-clause-outside : goal.returns-clause-outside
 returns-clause-outside g c = λ honest. changes_none _ _
+
+pub returns-in-List-clause-answered : goal.returns-in-List-clause-answered
+returns-in-List-clause-answered g c = λ honest.
+    let old = g.F.Files.content c.args.files.now in
+    let new = g.F.Files.content c.list.new.files in
+    let slots = c.args.slots.now in
+    subst (λ (x : Message). IfOk c.replied.result (IsAnsweredMessage old new slots slots (message_text x))) (sym c.in-List.is)
+    (reply_answered (λ bytes. IsListed old bytes.items) (IsAnsweredMessage old new slots slots a_list) c.list.result c.replied.result c.replied.ensures (λ bytes so. so) (c.list.ensures.listed honest))
+
+pub returns-in-Want-clause-answered : goal.returns-in-Want-clause-answered
+returns-in-Want-clause-answered g c = λ honest.
+    let old = g.F.Files.content c.args.files.now in
+    let new = g.F.Files.content c.answer.new.files in
+    let slots = c.args.slots.now in
+    subst (λ (x : Message). IfOk c.replied-in-Want.result (IsAnsweredMessage old new slots slots (message_text x))) (sym c.in-Want.is)
+    (reply_answered (λ bytes. IsAnswered old (want_text c.in-Want.want) bytes.items) (IsAnsweredMessage old new slots slots (a_want (want_text c.in-Want.want))) c.answer.result c.replied-in-Want.result c.replied-in-Want.ensures (λ bytes so. so) (c.answer.ensures.answered honest))
+
+pub returns-in-Push-clause-answered : goal.returns-in-Push-clause-answered
+returns-in-Push-clause-answered g c = λ honest.
+    let old = g.F.Files.content c.args.files.now in
+    let new = g.F.Files.content c.open_push.new.files in
+    let slots = c.args.slots.now in
+    let after = c.open_push.new.slots in
+    subst (λ (x : Message). IfOk c.opened.result (IsAnsweredMessage old new slots after (message_text x))) (sym c.in-Push.is)
+    (slot_answered (OpensSlot new slots after (push_text c.in-Push.push)) (IsAnsweredMessage old new slots after (a_push (push_text c.in-Push.push))) c.open_push.result c.opened.result c.opened.ensures (λ k so. so) (c.open_push.ensures.opened honest))

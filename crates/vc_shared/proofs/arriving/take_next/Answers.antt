@@ -62,7 +62,7 @@ pub returns-in-Message-clause-accepts : goal.returns-in-Message-clause-accepts
 returns-in-Message-clause-accepts g c =
     let content = g.F.Files.content in
     message_accepts g.F.Files.honest (g.R.Source.remaining c.args.reader.now) (g.R.Source.remaining c.read_head.new.reader) (content c.args.files.now) (content c.take.new.files) c.args.slots.now c.take.new.slots c.told.result
-    (message_text c.in-Message.message) (rw c.in-Message.is at (rw c.in-Some.is at c.in_ok-found.ensures.head)) c.take.result c.told.ensures c.take.ensures.refused c.take.ensures.answers
+    (message_text c.in-Message.message) (rw c.in-Message.is at (rw c.in-Some.is at c.in_ok-found.ensures.head)) c.take.result c.told.ensures c.take.ensures.answered c.take.ensures.refused c.take.ensures.answers
 
 pub returns-in-Message-clause-lost : goal.returns-in-Message-clause-lost
 returns-in-Message-clause-lost g c = record {
@@ -132,7 +132,7 @@ returns-in_ok-skip_pack-in-Pack-clause-accepts g c =
     let all = c.in_ok-skip_pack-in-Pack.ensures.end (g.R.Source.remaining c.args.reader.now) c.in-Pack.field-0 head in
     let pack : PackText = record { ack = c.in-Pack.field-0; objects = all.0 } in
     message_accepts g.F.Files.honest (g.R.Source.remaining c.args.reader.now) (g.R.Source.remaining c.skip_pack.new.reader) content content c.args.slots.now c.args.slots.now (Err (Node Unexpected))
-    (a_pack pack) all.1 (Err Unexpected) refl (λ honest. refl) (λ honest m text. pack_declined content c.args.slots.now m pack text)
+    (a_pack pack) all.1 (Err Unexpected) refl (λ honest. tt) (λ honest. refl) (λ honest m text. pack_declined content c.args.slots.now m pack text)
 
 pub returns-in_ok-skip_pack-in-Pack-clause-lost : goal.returns-in_ok-skip_pack-in-Pack-clause-lost
 returns-in_ok-skip_pack-in-Pack-clause-lost g c = record {

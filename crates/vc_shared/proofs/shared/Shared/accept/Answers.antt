@@ -3,7 +3,7 @@ use Rattle.vc_model.specs.Question.Question.{Unread}
 use Rattle.vc_model.specs.SharedCall.SharedCall.{Accept, Asks}
 use Rattle.vc_local.proofs.CleanLemmas.{clean_same}
 use Rattle.vc_local.proofs.LookLemmas.{looks_none}
-use Rattle.vc_shared.proofs.SettledLemmas.{settled_answers, settled_clean, settled_err, settled_looks, settled_refusal, settled_wear}
+use Rattle.vc_shared.proofs.SettledLemmas.{settled_answered, settled_answers, settled_clean, settled_err, settled_looks, settled_refusal, settled_wear}
 use Rattle.vc_shared.proofs.SteppingLaws.{down_answers}
 use Rattle.vc_shared.proofs.ArrivingLemmas.{changes_none}
 use Rattle.vc_shared.specs.Accepting.{IsRefusedBytes}
@@ -21,6 +21,11 @@ returns-then-not-self-clause-bad_file g c = λ honest. inl refl
 
 pub returns-then-not-self-clause-outside : goal.returns-then-not-self-clause-outside
 returns-then-not-self-clause-outside g c = λ honest. changes_none _ _
+
+pub returns-clause-answered : goal.returns-clause-answered
+returns-clause-answered g c = λ honest.
+    rw (← c.self.view_is) (settled_answered g.F.Files.content c.self.inside.files c.accept-accepted.new.files c.settle.new.self.files c.self.inside.slots c.accept-accepted.new.slots c.settle.new.self.slots c.self.inside.is_up c.settle.new.self.is_up c.accept-accepted.result c.settle.result
+    c.settle.ensures.accepted c.settle.ensures.files c.settle.ensures.slots c.args.bytes.now (c.accept-accepted.ensures.answered honest))
 
 pub returns-clause-outside : goal.returns-clause-outside
 returns-clause-outside g c = λ honest. rw (← c.self.view_is) (subst (λ d. ChangesFree (g.F.Files.content c.self.inside.files) (g.F.Files.content d) c.self.inside.slots) (sym c.settle.ensures.files) (c.accept-accepted.ensures.outside honest))
