@@ -1,5 +1,5 @@
 -- A run is bound at each of its events, and not at the first alone: what was never sent is refused, however long the run is.
-use Rattle.std.proofs.Common.{◌≡◌, ℕ, List, [], ◌∷◌, Some, inl, inr, refl, sym, ap, ◌∙◌, subst, false, map, slice_get}
+use Rattle.std.proofs.Common.{◌≡◌, ℕ, List, [], ◌∷◌, Some, inl, inr, refl, sym, ap, ◌∙◌, subst, map, slice_get}
 use Rattle.std.specs.FinMap.{get, empty}
 use Rattle.std.specs.Ordering.{nat_cmp}
 use Rattle.std.specs.Cmp.Lexicographic.{slice_cmp}
@@ -21,6 +21,7 @@ use Rattle.vc_model.specs.Shared.{SharedNode}
 use Rattle.vc_model.specs.World.{World as MachineWorld, IsNew, empty_repository}
 use Rattle.vc_rules.specs.Git.{git}
 use Rattle.vc_events.specs.Answers.{IsAnswer}
+use Rattle.vc_events.specs.Calls.{Seen}
 use Rattle.vc_events.specs.Running.{AreApart, IsLengthened, IsNext, NeverSentIsRefused}
 use Rattle.vc_events.specs.declared.answers.Answer.{Answer as WorldAnswer}
 use Rattle.vc_events.specs.declared.answers.Answer.TheVariants as answer
@@ -115,8 +116,7 @@ each_refused start none h here apart (j ∷ messages) (a ∷ said) k is =
     ap (λ (b : WorldAnswer). b ∷ said) (told_refused (fused_after start h) a m.answer ends.0 next.answer)
     ∙ ap (λ (others : List WorldAnswer). answer.Refused 113 ∷ others) others
 
-pub never_sent_is_refused : {S C : Type 0} (hs : S → SharedNode → Type 0) (hc : C → CloneNode → Type 0) → NeverSentIsRefused hs hc
-never_sent_is_refused hs hc n old new messages said fresh run =
-    let s = fresh.each false in
-    let k = run.each n s.0 [] s.1 tt tt s.4 in
-    each_refused s.0 s.1.sent [] refl (new_apart s.0 n s.1) messages said k.0 k.1
+pub never_sent_is_refused : {S C : Type 0} (hs : Seen S SharedNode) (hc : Seen C CloneNode) → NeverSentIsRefused hs hc
+never_sent_is_refused hs hc n frail old new messages said fresh run =
+    let k = run.each n fresh.start [] fresh.is_new tt fresh.held in
+    each_refused fresh.start fresh.is_new.sent [] refl (new_apart fresh.start n fresh.is_new) messages said k.0 k.1

@@ -4,21 +4,25 @@ use Rattle.std.specs.FinMap.{FinMap, get, insert, nat_cmp-IsAntisymmetric}
 use Rattle.std.specs.Ordering.{nat_cmp}
 use Rattle.std.specs.Cmp.{nat_cmp_total}
 use Rattle.std.proofs.lemmas.Option.{slice_get_past, slice_get_read}
+use Rattle.vc_message.proofs.Readings.{every_reading}
 use Rattle.vc_wire.proofs.WireLaws.{message_wire}
-use Rattle.vc_message.specs.Machine.{Reads, IsWritten}
+use Rattle.vc_message.specs.Machine.{IsUnread, IsWritten, Reads}
 use Rattle.vc_model.specs.Message.{Message, Envelope}
 use Rattle.vc_model.specs.Message.Envelope.{ToShared, ToClone}
 use Rattle.vc_model.specs.Node.{Answer}
 use Rattle.vc_model.specs.Node.Answer.{Did, Declined}
 use Rattle.vc_model.specs.Shared.{SharedNode}
 use Rattle.vc_model.specs.SharedCall.{SharedCall}
-use Rattle.vc_model.specs.SharedCall.SharedCall.{Accept}
+use Rattle.vc_model.specs.SharedCall.SharedCall.{Accept, Asks as AsksShared}
 use Rattle.vc_model.specs.Clone.{CloneNode}
 use Rattle.vc_model.specs.CloneCall.{CloneCall}
-use Rattle.vc_model.specs.CloneCall.CloneCall.{Receive}
+use Rattle.vc_model.specs.CloneCall.CloneCall.{Asks, Receive}
+use Rattle.vc_model.specs.Question.Question.{Unread}
 use Rattle.vc_model.specs.World.{senders_after}
 use Rattle.vc_model.specs.ExactWorld.{FusedWorld, WorldEvent, CallsClone, CallsShared}
-use Rattle.vc_model.specs.ExactWorld.WorldEvent.{Delivers}
+use Rattle.vc_model.specs.ExactWorld.Letter.{FromClone, FromShared}
+use Rattle.vc_model.specs.ExactWorld.WorldEvent.{Delivers, Forges, Stops}
+use Rattle.vc_model.specs.World.Party.{TheClone, TheShared}
 use Rattle.vc_model.specs.ExactWorld.WorldAnswers.{no_message}
 use Rattle.vc_model.proofs.Maps.{insert_same, insert_other, same_key}
 use Rattle.vc_rules.specs.Git.{git}
@@ -34,11 +38,11 @@ use Rattle.vc_events.specs.declared.letters.Letter.{Letter}
 use Rattle.vc_events.specs.declared.letters.Letter.TheVariants as mail
 use Rattle.vc_events.specs.declared.world.World.{World}
 use Rattle.vc_events.specs.Answers.{IsAnswer, IsOfSlots, Shows, answer_of, of_end, reply_of}
-use Rattle.vc_events.specs.Calls.{CloneCalled, IsOnly, SharedCalled}
+use Rattle.vc_events.specs.Calls.{CloneCalled, IsOnly, Seen, SharedCalled, StopsNode}
 use Rattle.vc_events.specs.Posting.{PostsTold, senders_done, senders_told, to_clone, to_shared}
 use Rattle.vc_events.specs.World.{HoldsWorld, IsLetter, Steps}
 use Rattle.vc_events.proofs.LetterLemmas.{none_posted, one_posted, letter_at, no_letter, letters_count, end_at}
-use Rattle.vc_events.proofs.StepLemmas.{StepsHere, EndsSo, clone_steps, shared_steps, slice_get-set, slice_get-set_other}
+use Rattle.vc_events.proofs.StepLemmas.{StepsHere, EndsSo, clone_steps, clone_stop, shared_steps, shared_stop, slice_get-set, slice_get-set_other}
 
 -- ---- what stands in a list
 
@@ -112,7 +116,7 @@ end_senders : (m : FinMap nat_cmp ℕ) (c : ℕ) (e : Ended) → senders_after m
 end_senders m c (ended.Refused n) = refl
 end_senders m c (ended.Fault f) = refl
 
-module _ {S C : Type 0} (hs : S → SharedNode → Type 0) (hc : C → CloneNode → Type 0) (old new : World S C) where
+module _ {S C : Type 0} (hs : Seen S SharedNode) (hc : Seen C CloneNode) (old new : World S C) where
   -- ---- a clone's call
 
   clone_ends : (w : FusedWorld) (held : HoldsWorld hs hc old w) (c : ℕ) (called : Result Told Ended) (answer : WorldAnswer) → c < length old.clones.items
@@ -259,4 +263,41 @@ module _ {S C : Type 0} (hs : S → SharedNode → Type 0) (hc : C → CloneNode
         let m = shared_letter k from bytes w held letter in
         let there : from < length old.clones.items = end_at (length old.clones.items) old.letters.items k (mail.ToShared from bytes) held.ends letter in
         shared_here w held from (Accept m.0) called (Delivers k) answer clones eight there (call m.0 m.2.reads) posts senders (m.0, m.1, refl);
+  }
+
+  -- ---- stops
+
+  pub stop_at_shared : (writes : ℕ) (answer : WorldAnswer) → new.clones.items ≡ old.clones.items → new.letters.items ≡ old.letters.items → new.senders ≡ old.senders
+      → StopsNode hs writes old.shared new.shared → answer ≡ world.Did deed.Stored → Steps hs hc old (Stops TheShared writes) answer new
+  stop_at_shared writes answer clones letters senders stops is = record { each = λ w held. shared_stop hs hc old new w held writes answer clones letters senders stops is }
+
+  pub stop_at_clone : (writes c : ℕ) (x y : C) (answer : WorldAnswer) → slice_get old.clones.items c ≡ Some x → new.clones.items ≡ set old.clones.items c y
+      → new.shared ≡ old.shared → new.letters.items ≡ old.letters.items → new.senders ≡ old.senders
+      → StopsNode hc writes x y → answer ≡ world.Did deed.Stored → Steps hs hc old (Stops (TheClone c) writes) answer new
+  stop_at_clone writes c x y answer at set_is shared letters senders stops is = record { each = λ w held. clone_stop hs hc old new w held writes c x y answer at set_is shared letters senders stops is }
+
+  -- ---- forged bytes: they are a message or have a first fault
+
+  pub forged_to_shared : (from : ℕ) (bytes : List ℕ) (called : Result Told Ended) (answer : WorldAnswer)
+      → new.clones.items ≡ old.clones.items → length old.senders ≡ 8 → from < length old.clones.items
+      → ((m : Message) → Reads bytes m → SharedCalled hs (Accept m) (Shows called) old.shared new.shared)
+      → ((k : ℕ) → IsUnread bytes k → SharedCalled hs (AsksShared (Unread k)) (Shows called) old.shared new.shared)
+      → PostsTold (to_clone from) called old.letters.items new.letters.items answer → new.senders ≡ senders_told from called old.senders → Steps hs hc old (Forges (FromClone from bytes)) answer new
+  forged_to_shared from bytes called answer clones eight there read unread posts senders = record {
+    each = λ w held. elim (every_reading bytes) [
+      | inl m ↦ shared_here w held from (Accept m.0) called (Forges (FromClone from bytes)) answer clones eight there (read m.0 m.1) posts senders (refl, inl (m.0, m.1, refl))
+      | inr k ↦ shared_here w held from (AsksShared (Unread k.0)) called (Forges (FromClone from bytes)) answer clones eight there (unread k.0 k.1) posts senders (refl, inr (k.0, k.1, refl))
+    ];
+  }
+
+  pub forged_to_clone : (to : ℕ) (bytes : List ℕ) (x y : C) (called : Result Told Ended) (answer : WorldAnswer)
+      → slice_get old.clones.items to ≡ Some x → new.clones.items ≡ set old.clones.items to y → new.shared ≡ old.shared → new.senders ≡ old.senders → to < length old.clones.items
+      → ((m : Message) → Reads bytes m → CloneCalled hc (IsOnly (Receive m)) (Shows called) x y)
+      → ((k : ℕ) → IsUnread bytes k → CloneCalled hc (IsOnly (Asks (Unread k))) (Shows called) x y)
+      → PostsTold (to_shared to) called old.letters.items new.letters.items answer → Steps hs hc old (Forges (FromShared to bytes)) answer new
+  forged_to_clone to bytes x y called answer at set_is shared senders there read unread posts = record {
+    each = λ w held. elim (every_reading bytes) [
+      | inl m ↦ clone_here w held to x y (IsOnly (Receive m.0)) called (Forges (FromShared to bytes)) answer at set_is shared senders there (read m.0 m.1) posts (λ n i is. (refl, inl (m.0, m.1, is)))
+      | inr k ↦ clone_here w held to x y (IsOnly (Asks (Unread k.0))) called (Forges (FromShared to bytes)) answer at set_is shared senders there (unread k.0 k.1) posts (λ n i is. (refl, inr (k.0, k.1, is)))
+    ];
   }

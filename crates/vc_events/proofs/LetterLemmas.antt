@@ -3,7 +3,8 @@ use Rattle.std.proofs.Common.{◌≡◌, ℕ, zero, suc, List, [], ◌∷◌, �
 use Rattle.std.specs.List.{AllByRecursion}
 use Rattle.vc_model.specs.Message.{Message, Envelope}
 use Rattle.vc_events.specs.declared.letters.Letter.{Letter}
-use Rattle.vc_events.specs.World.{IsLetter, AreLetters, IsEnd}
+use Rattle.vc_events.specs.World.{IsLetter, AreLetters}
+use Rattle.vc_events.specs.Events.{IsEnd}
 
 pub letters_more : (ls : List Letter) (es : List Envelope) (l : Letter) (e : Envelope) → AreLetters ls es → IsLetter l e → AreLetters (ls ++ l ∷ []) (es ++ e ∷ [])
 letters_more [] [] l e are is = (is, tt)

@@ -10,7 +10,9 @@ use Rattle.vc_model.specs.Clone.{CloneNode}
 use Rattle.vc_model.specs.ExactWorld.{FusedWorld}
 use Rattle.vc_model.proofs.Maps.{insert_same, insert_other, same_key}
 use Rattle.vc_events.specs.declared.world.World.{World}
-use Rattle.vc_events.specs.World.{HoldsAt, AreLetters, IsEnd, IsNewWorld, fresh_shared, fresh_clone}
+use Rattle.vc_events.specs.Calls.{Seen}
+use Rattle.vc_events.specs.World.{AreFresh, HoldsAt, AreLetters, IsNewWorld, fresh_shared, fresh_clone}
+use Rattle.vc_events.specs.Events.{IsEnd}
 
 -- so many new clones, from number k on
 abbrev fresh_clones : ℕ → ℕ → FinMap nat_cmp CloneNode
@@ -69,31 +71,30 @@ zeros s = go 8 s
     go (suc n) zero = refl
     go (suc n) (suc s) = go n s
 
-pub new_world : {S C : Type 0} (hs : S → SharedNode → Type 0) (hc : C → CloneNode → Type 0) (v : World S C) → hs v.shared fresh_shared → AllByRecursion (λ c. hc c fresh_clone) v.clones.items → 0 < length v.clones.items
-    → v.letters.items ≡ [] → v.senders ≡ replicate 8 0 → IsNewWorld hs hc (length v.clones.items) v
-new_world hs hc v shared clones some letters senders = record {
-  each = λ frail. (
-    start frail,
-    record {
-      shared = refl;
-      clones = λ c. elim (there 0 (length v.clones.items) c) [
-        | inl h ↦ inl (omega (arith, h.1), h.2)
-        | inr h ↦ inr (past c h.0, h.1)
-      ];
-      sent = refl;
-    },
-    refl,
-    record { shared = refl; clones = λ c. get-empty nat_cmp c },
-    record {
-      shared = shared;
-      clones = λ c. held_fresh hc v.clones.items c clones;
-      letters = subst (λ ls. AreLetters ls []) (sym letters) tt;
-      senders = λ s. ap (λ (o : Option ℕ). unwrap_or o 0) (get-empty nat_cmp s) ∙ sym (ap (λ (l : List ℕ). unwrap_or (slice_get l s) 0) senders ∙ zeros s);
-      unfused = record { shared = refl; clones = λ c. get-empty nat_cmp c };
-      ends = subst (λ ls. AllByRecursion (IsEnd (length v.clones.items)) ls) (sym letters) tt;
-      known = λ s. subst (λ (n : ℕ). n < length v.clones.items) (sym (ap (λ (l : List ℕ). unwrap_or (slice_get l s) 0) senders ∙ zeros s)) some;
-    },
-  );
+pub new_world : {S C : Type 0} (hs : Seen S SharedNode) (hc : Seen C CloneNode) (frail : Bool) (v : World S C) → AreFresh hs hc frail v.shared v.clones.items → 0 < length v.clones.items
+    → v.letters.items ≡ [] → v.senders ≡ replicate 8 0 → IsNewWorld hs hc (length v.clones.items) frail v
+new_world {S} {C} hs hc frail v fresh some letters senders = record {
+  start = start frail;
+  is_new = record {
+    shared = refl;
+    clones = λ c. elim (there 0 (length v.clones.items) c) [
+      | inl h ↦ inl (omega (arith, h.1), h.2)
+      | inr h ↦ inr (past c h.0, h.1)
+    ];
+    sent = refl;
+  };
+  frail_is = refl;
+  unfused = record { shared = refl; clones = λ c. get-empty nat_cmp c };
+  held = record {
+    shared = fresh.shared_new;
+    clones = λ c. held_fresh (hc.may_be frail) v.clones.items c fresh.clones_new;
+    letters = subst (λ ls. AreLetters ls []) (sym letters) tt;
+    senders = λ s. ap (λ (o : Option ℕ). unwrap_or o 0) (get-empty nat_cmp s) ∙ sym (ap (λ (l : List ℕ). unwrap_or (slice_get l s) 0) senders ∙ zeros s);
+    shared_fuse = sym fresh.shared_unstopped;
+    clone_fuses = λ c x at. get-empty nat_cmp c ∙ sym (all_at (λ (x : C). hc.left x ≡ None) v.clones.items c x fresh.clones_unstopped at);
+    ends = subst (λ ls. AllByRecursion (IsEnd (length v.clones.items)) ls) (sym letters) tt;
+    known = λ s. subst (λ (n : ℕ). n < length v.clones.items) (sym (ap (λ (l : List ℕ). unwrap_or (slice_get l s) 0) senders ∙ zeros s)) some;
+  };
 }
   where
     start : Bool → FusedWorld

@@ -1,18 +1,20 @@
 -- A run of events, from one event.
-use Rattle.std.proofs.Common.{◌≡◌, ℕ, List, [], ◌∷◌, ◌++◌, inl, inr, refl, sym, ap, ◌∙◌, subst, slice_get, unwrap_or, length, take, get_or, ◌<◌, ◌+◌}
+use Rattle.std.proofs.Common.{◌≡◌, ℕ, List, [], ◌∷◌, ◌++◌, Some, Result, Ok, Err, OnErr, inl, inr, refl, sym, ap, ◌∙◌, subst, slice_get, unwrap_or, length, take, get_or, ◌<◌, ◌+◌}
 use Rattle.std.proofs.lemmas.List.{take_more}
 use Rattle.std.specs.List.{AllByRecursion}
 use Rattle.std.specs.FinMap.{get}
 use Rattle.vc_model.specs.Shared.{SharedNode}
 use Rattle.vc_model.specs.Clone.{CloneNode}
-use Rattle.vc_model.specs.World.{World as MachineWorld, StartsSound}
+use Rattle.vc_model.specs.World.{IsNew, World as MachineWorld, StartsSound}
 use Rattle.vc_model.specs.Object.{Object}
-use Rattle.vc_model.specs.Run.{OccursIn}
+use Rattle.vc_model.specs.Run.{History, NoCollision, OccursIn, Run}
 use Rattle.vc_model.specs.Run.OccursIn.{in_clone}
-use Rattle.vc_model.specs.Safe.{EveryNodeSound}
+use Rattle.vc_model.specs.Safe.{AncestorEver, EveryNodeSound, IsSafe}
+use Rattle.vc_model.specs.Exact.{Shadows}
 use Rattle.vc_model.specs.ExactWorld.{FusedWorld, WorldEvent, ExactMoment, ExactHistory, fused_after, ExactRun, IsHonest, NoExactCollision, NothingForgedExactly, OccursExactly}
 use Rattle.vc_model.proofs.ExactRuns.{exact_run, honest_shadow, same_world}
-use Rattle.vc_model.proofs.Runs.{stays_sound}
+use Rattle.vc_model.proofs.Runs.{every_node_closed, front_one, front_run, monotone, stays_sound}
+use Rattle.vc_model.proofs.Values.{ever_later}
 use Rattle.vc_model.proofs.Kept.{new_is_sound}
 use Rattle.vc_model.proofs.Safety.{every_run_safe}
 use Rattle.vc_wire.proofs.WireLaws.{message_wire}
@@ -20,10 +22,17 @@ use Rattle.vc_rules.specs.Git.{git}
 use Rattle.vc_events.specs.declared.events.Event.{Event}
 use Rattle.vc_events.specs.declared.events.Event.TheVariants as event
 use Rattle.vc_events.specs.declared.answers.Answer.{Answer as WorldAnswer}
+use Rattle.vc_events.specs.declared.letters.Letter.TheVariants as mail
 use Rattle.vc_events.specs.declared.world.World.{World}
-use Rattle.vc_events.specs.Events.{event_of}
-use Rattle.vc_events.specs.World.{HoldsAt, AreLetters, IsEnd, HoldsWorld, NoZeros, Steps, IsSame}
-use Rattle.vc_events.specs.Running.{AreApart, EveryRunIsSafe, GoesOn, IsLengthened, IsNext, Lengthens, RunsSafely}
+use Rattle.vc_events.specs.Calls.{Seen}
+use Rattle.vc_events.specs.Events.{IsEnd, event_of}
+use Rattle.vc_events.specs.World.{HoldsAt, AreLetters, HoldsWorld, NoZeros, Steps, IsSame}
+use Rattle.vc_events.specs.Running.{AreApart, EveryRunIsSafe, ForgesNothing, GoesOn, IsGuarded, IsLengthened, IsNext, IsSent, Lengthens, RunsSafely}
+
+-- what holds whatever the error is
+pub on_error : {X E : Type 0} (r : Result X E) (P : Type 0) → P → OnErr r P
+on_error (Ok x) P holds = tt
+on_error (Err e) P holds = holds
 
 -- ---- the nodes of a run are sound
 
@@ -61,24 +70,47 @@ earlier start m h one = record {
   zero = λ o a. one.zero o (inr (inr a));
 }
 
--- ---- nothing is forged by an event of a world
+-- ---- events that forge nothing
 
-honest_event : (e : Event) → IsHonest git message_wire (event_of e)
-honest_event (event.Order c o) = tt
-honest_event (event.Deliver k) = tt
-honest_event (event.Step s) = tt
-honest_event (event.Compare p first second) = tt
-honest_event (event.Pack p) = tt
-honest_event (event.Restart p) = tt
+sent_event : (e : Event) → IsSent e → IsHonest git message_wire (event_of e)
+sent_event (event.Order c o) sent = tt
+sent_event (event.Deliver k) sent = tt
+sent_event (event.Step s) sent = tt
+sent_event (event.Compare p first second) sent = tt
+sent_event (event.Pack p) sent = tt
+sent_event (event.Restart p) sent = tt
+sent_event (event.Stop p writes) sent = tt
+sent_event (event.Forge (mail.ToShared from bytes)) sent = tt
+sent_event (event.Forge (mail.ToClone to bytes)) sent = absurd sent
 
-honest_more : (start : FusedWorld) (h : ExactHistory) (es : List Event) (said : List WorldAnswer) (k : ExactHistory) → IsLengthened start h es said k → NothingForgedExactly git message_wire h → NothingForgedExactly git message_wire k
-honest_more start h [] [] k is honest = subst (λ (k : ExactHistory). NothingForgedExactly git message_wire k) (sym is) honest
-honest_more start h (e ∷ es) (a ∷ said) k is honest =
-    honest_more start (is.0 ∷ h) es said k is.2 (subst (λ (e : WorldEvent). IsHonest git message_wire e) (sym is.1.event) (honest_event e), honest)
-honest_more start h [] (a ∷ said) k is honest = absurd is
-honest_more start h (e ∷ es) [] k is honest = absurd is
+pub forges_nothing : ForgesNothing
+forges_nothing start h k [] [] sent honest is = subst (λ (k : ExactHistory). NothingForgedExactly git message_wire k) (sym is) honest
+forges_nothing start h k (e ∷ es) (a ∷ said) sent honest is =
+    forges_nothing start (is.0 ∷ h) k es said sent.1 (subst (λ (e : WorldEvent). IsHonest git message_wire e) (sym is.1.event) (sent_event e sent.0), honest) is.2
+forges_nothing start h k [] (a ∷ said) sent honest is = absurd is
+forges_nothing start h k (e ∷ es) [] sent honest is = absurd is
 
-module _ {S C : Type 0} (hs : S → SharedNode → Type 0) (hc : C → CloneNode → Type 0) where
+-- ---- what holds of a run of a new world, whoever forged what
+
+guarded : (n : ℕ) (start : FusedWorld) (p : History) → IsNew start.world n → Run git start.world p → NoCollision git start.world p → IsGuarded start p
+guarded n start p is_new r one = record {
+  closed = λ late early is. every_node_closed git start.world late early (new_is_sound git start.world n is_new) (subst (Run git start.world) is r) (subst (NoCollision git start.world) is one);
+  monotone = λ later late early b x is v.
+      let r' : Run git start.world (later ++ (late ++ early)) = subst (Run git start.world) is r in
+      let one' : NoCollision git start.world (later ++ (late ++ early)) = subst (NoCollision git start.world) is one in
+      let y = monotone git start.world late early b x (new_is_sound git start.world n is_new) (front_run git start.world later (late ++ early) r') (front_one git start.world later (late ++ early) one') v in
+      (y.0, y.1, subst (λ (k : History). AncestorEver git start.world k x y.0) (sym is) (ever_later git start.world later (late ++ early) x y.0 y.2));
+}
+
+abbrev IsSafely : FusedWorld → ExactHistory → Type 0
+IsSafely start k = (p : History) × Shadows git message_wire start k p × IsGuarded start p × (NothingForgedExactly git message_wire k → IsSafe git start.world p)
+
+safely : (n : ℕ) (start : FusedWorld) (k : ExactHistory) → IsNew start.world n → ExactRun git message_wire start k → NoExactCollision git message_wire start k → IsSafely start k
+safely n start k is_new ran names =
+    let p = exact_run git message_wire start k (new_is_sound git start.world n is_new) ran names in
+    (p.0, p.1, guarded n start p.0 is_new p.2 p.3, λ honest. every_run_safe git n start.world p.0 is_new p.2 p.3 (honest_shadow git message_wire start k p.0 p.1 honest))
+
+module _ {S C : Type 0} (hs : Seen S SharedNode) (hc : Seen C CloneNode) where
   pub lengthens_none : (old : World S C) → Lengthens hs hc old [] [] old
   lengthens_none old = record { each = λ start h sound run held. (h, refl, held, λ one. run) }
 
@@ -104,11 +136,12 @@ module _ {S C : Type 0} (hs : S → SharedNode → Type 0) (hc : C → CloneNode
   -- a world that is the same but for its room holds the same
   same_holds : (old new : World S C) → IsSame old new → (w : FusedWorld) → HoldsWorld hs hc old w → HoldsWorld hs hc new w
   same_holds old new same w held = record {
-    shared = subst (λ (x : S). hs x w.world.shared) (sym same.shared) held.shared;
-    clones = λ d. subst (λ (xs : List C). HoldsAt hc (slice_get xs d) (get w.world.clones d)) (sym same.clones) (held.clones d);
+    shared = subst (λ (x : S). hs.may_be w.frail x w.world.shared) (sym same.shared) held.shared;
+    clones = λ d. subst (λ (xs : List C). HoldsAt (hc.may_be w.frail) (slice_get xs d) (get w.world.clones d)) (sym same.clones) (held.clones d);
     letters = subst (λ ls. AreLetters ls w.world.sent) (sym same.letters) held.letters;
     senders = λ s. held.senders s ∙ ap (λ (l : List ℕ). unwrap_or (slice_get l s) 0) (sym same.senders);
-    unfused = held.unfused;
+    shared_fuse = held.shared_fuse ∙ ap hs.left (sym same.shared);
+    clone_fuses = λ c x at. held.clone_fuses c x (subst (λ (xs : List C). slice_get xs c ≡ Some x) same.clones at);
     ends = subst (λ (xs : List C). AllByRecursion (IsEnd (length xs)) new.letters.items) (sym same.clones) (subst (λ ls. AllByRecursion (IsEnd (length old.clones.items)) ls) (sym same.letters) held.ends);
     known = λ s. subst (λ (xs : List C). unwrap_or (slice_get new.senders s) 0 < length xs) (sym same.clones) (subst (λ (l : List ℕ). unwrap_or (slice_get l s) 0 < length old.clones.items) (sym same.senders) (held.known s));
   }
@@ -137,13 +170,9 @@ module _ {S C : Type 0} (hs : S → SharedNode → Type 0) (hc : C → CloneNode
   -- the headline, of a run that is lengthened
   pub runs_safely : (old new : World S C) (es : List Event) (said : List WorldAnswer) → Lengthens hs hc old es said new → RunsSafely hs hc old es said new
   runs_safely old new es said longer = record {
-    each = λ n start h is_new run honest held.
-        let k = longer.each start h (new_is_sound git start.world n is_new) run held in (
-          k.0,
-          k.1,
-          k.2,
-          λ one. let ran = k.3 one in (ran, every_run_is_safe n start k.0 is_new ran one.names (honest_more start h es said k.0 k.1 honest)),
-        );
+    each = λ n start h is_new run held.
+        let k = longer.each start h (new_is_sound git start.world n is_new) run held in
+        (k.0, k.1, k.2, λ one. let ran = k.3 one in (ran, safely n start k.0 is_new ran one.names));
   }
 
 pub take_whole : {X : Type 0} (xs : List X) → take (length xs) xs ≡ xs

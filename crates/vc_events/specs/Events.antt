@@ -2,8 +2,9 @@
 use Rattle.std.specs.Global.{Global}
 use Rattle.std.specs.List.{starts_with}
 use Rattle.std.specs.Prelude.{◌≡◌, ◌≢◌, ◌<◌, ℕ, true, false, nat_eq, List, [], map, option_map, Vec, codes}
-use Rattle.vc_model.specs.ExactWorld.{WorldEvent}
-use Rattle.vc_model.specs.ExactWorld.WorldEvent.{Compares, Delivers, Orders, Packs, Restarts, Steps}
+use Rattle.vc_model.specs.ExactWorld.{Letter as MachineLetter, WorldEvent}
+use Rattle.vc_model.specs.ExactWorld.Letter.{FromClone, FromShared}
+use Rattle.vc_model.specs.ExactWorld.WorldEvent.{Compares, Delivers, Forges, Orders, Packs, Restarts, Steps, Stops}
 use Rattle.vc_model.specs.Order.{Expression, NamedItem as MachineItem, Order as MachineOrder}
 use Rattle.vc_model.specs.Order.Order.{BranchAt, CommitIndex, DropBranch, Fetch, HeadAt, HeadOn, LoadIndex, PushItems, StageFile, StoreObject, UnstageFile}
 use Rattle.vc_model.specs.World.{Party as MachineParty}
@@ -17,6 +18,8 @@ use Rattle.vc_events.specs.declared.events.Order.{Order}
 use Rattle.vc_events.specs.declared.events.Order.TheVariants as order
 use Rattle.vc_events.specs.declared.events.Party.{Party}
 use Rattle.vc_events.specs.declared.events.Party.TheVariants as party
+use Rattle.vc_events.specs.declared.letters.Letter.{Letter}
+use Rattle.vc_events.specs.declared.letters.Letter.TheVariants as mail
 
 abbrev pub bytes_in : Vec ℕ Global → Expression
 bytes_in text = text.items
@@ -41,6 +44,10 @@ abbrev pub party_of : Party → MachineParty
 party_of party.Shared = TheShared
 party_of (party.Clone c) = TheClone c
 
+abbrev pub letter_of : Letter → MachineLetter
+letter_of (mail.ToShared c bytes) = FromClone c bytes.items
+letter_of (mail.ToClone c bytes) = FromShared c bytes.items
+
 abbrev pub event_of : Event → WorldEvent
 event_of (event.Order c o) = Orders c (order_of o)
 event_of (event.Deliver k) = Delivers k
@@ -48,6 +55,8 @@ event_of (event.Step s) = Steps s
 event_of (event.Compare p first second) = Compares (party_of p) first.items second.items
 event_of (event.Pack p) = Packs (party_of p)
 event_of (event.Restart p) = Restarts (party_of p)
+event_of (event.Stop p writes) = Stops (party_of p) writes
+event_of (event.Forge l) = Forges (letter_of l)
 
 -- ---- which events a world of n clones has
 
@@ -68,9 +77,16 @@ abbrev pub IsParty : ℕ → Party → Type 0
 IsParty n party.Shared = Unit {0}
 IsParty n (party.Clone c) = c < n
 
+-- the clone at the other end is one of n
+abbrev pub IsEnd : ℕ → Letter → Type 0
+IsEnd n (mail.ToShared c bytes) = c < n
+IsEnd n (mail.ToClone c bytes) = c < n
+
 abbrev pub IsInWorld : ℕ → Event → Type 0
 IsInWorld n (event.Order c o) = (c < n) × IsInOrder o
 IsInWorld n (event.Compare p first second) = IsParty n p
 IsInWorld n (event.Pack p) = IsParty n p
 IsInWorld n (event.Restart p) = IsParty n p
+IsInWorld n (event.Stop p writes) = IsParty n p
+IsInWorld n (event.Forge l) = IsEnd n l
 IsInWorld n _ = Unit {0}

@@ -1,23 +1,26 @@
 -- Runs of a world: each that ends at the world before is lengthened to one that ends at the world after.
 use Rattle.std.specs.Global.{Global}
-use Rattle.std.specs.Prelude.{◌≡◌, ◌≢◌, ℕ, List, [], ◌∷◌, ◌++◌, Result, Ok, Err, Vec, map, take, vec_len}
+use Rattle.std.specs.List.{AllByRecursion}
+use Rattle.std.specs.Prelude.{◌≡◌, ◌≢◌, ℕ, Bool, List, [], ◌∷◌, ◌++◌, Some, Result, Ok, Err, Vec, map, take, vec_len}
 use Rattle.vc_wire.proofs.WireLaws.{message_wire}
 use Rattle.vc_model.specs.Clone.{CloneNode}
 use Rattle.vc_model.specs.Exact.{Shadows}
 use Rattle.vc_model.specs.ExactWorld.{ExactHistory, ExactMoment, ExactRun, FusedWorld, NoExactCollision, NothingForgedExactly, OccursExactly, WorldAnswers, fused_after}
-use Rattle.vc_model.specs.Object.{Object, zero_id}
-use Rattle.vc_model.specs.Run.{History}
-use Rattle.vc_model.specs.Safe.{IsSafe}
+use Rattle.vc_model.specs.Object.{Id, Object, zero_id}
+use Rattle.vc_model.specs.Run.{History, world_after}
+use Rattle.vc_model.specs.Safe.{AncestorEver, EveryNodeClosed, IsSafe, branch_value}
 use Rattle.vc_model.specs.Shared.{SharedNode}
 use Rattle.vc_model.specs.World.{IsNew, StartsSound}
 use Rattle.vc_rules.specs.Git.{git}
 use Rattle.vc_events.specs.Answers.{IsAnswer}
+use Rattle.vc_events.specs.Calls.{Seen}
 use Rattle.vc_events.specs.Events.{event_of}
 use Rattle.vc_events.specs.World.{HoldsWorld, IsNewWorld, Steps}
 use Rattle.vc_events.specs.declared.answers.Answer.{Answer as WorldAnswer}
 use Rattle.vc_events.specs.declared.answers.Answer.TheVariants.{Refused}
 use Rattle.vc_events.specs.declared.events.Event.{Event}
-use Rattle.vc_events.specs.declared.events.Event.TheVariants.{Deliver}
+use Rattle.vc_events.specs.declared.events.Event.TheVariants.{Deliver, Forge}
+use Rattle.vc_events.specs.declared.letters.Letter.TheVariants.{ToClone}
 use Rattle.vc_events.specs.declared.world.World.{World}
 
 -- ---- what was done
@@ -53,33 +56,53 @@ IsLengthened start h [] (a ∷ said) k = ⊥
 IsLengthened start h (e ∷ es) [] k = ⊥
 
 -- Every run that ends at the world before is lengthened by these events and answers to one that ends at the world after.
-pub record Lengthens {S C : Type 0} (holds_shared : S → SharedNode → Type 0) (holds_clone : C → CloneNode → Type 0) (old : World S C) (es : List Event) (said : List WorldAnswer) (new : World S C) : Type 0 where
+pub record Lengthens {S C : Type 0} (seen_shared : Seen S SharedNode) (seen_clone : Seen C CloneNode) (old : World S C) (es : List Event) (said : List WorldAnswer) (new : World S C) : Type 0 where
   pub each : (start : FusedWorld) (h : ExactHistory) → StartsSound git start.world → ExactRun git message_wire start h
-      → HoldsWorld holds_shared holds_clone old (fused_after start h)
-      → (k : ExactHistory) × IsLengthened start h es said k × HoldsWorld holds_shared holds_clone new (fused_after start k)
+      → HoldsWorld seen_shared seen_clone old (fused_after start h)
+      → (k : ExactHistory) × IsLengthened start h es said k × HoldsWorld seen_shared seen_clone new (fused_after start k)
       × (AreApart start k → ExactRun git message_wire start k)
 
+-- A guarded run, which a run is whatever bytes came to whom. An earlier moment is what is left of it without some of its front.
+pub record IsGuarded (start : FusedWorld) (p : History) : Type 0 where
+  -- at each moment each node's objects are closed under all its refs and its HEAD
+  pub closed : (late early : History) → p ≡ late ++ early → EveryNodeClosed git (world_after start.world early)
+  -- a branch that has a value has one at every later moment, of which the first is an ancestor
+  pub monotone : (later late early : History) (b : List ℕ) (x : Id) → p ≡ later ++ (late ++ early) → branch_value (world_after start.world early) b ≡ Some x →
+      (y : Id) × (branch_value (world_after start.world (late ++ early)) b ≡ Some y) × AncestorEver git start.world p x y
+
 -- The headline. Every run of a new world that ends at the world before is lengthened by these events and answers to one that ends
--- at the world after: a run in which each node answers by the written rules, and a safe one. Nobody may have forged what a clone received.
-pub record RunsSafely {S C : Type 0} (holds_shared : S → SharedNode → Type 0) (holds_clone : C → CloneNode → Type 0) (old : World S C) (es : List Event) (said : List WorldAnswer) (new : World S C) : Type 0 where
-  pub each : (n : ℕ) (start : FusedWorld) (h : ExactHistory) → IsNew start.world n → ExactRun git message_wire start h → NothingForgedExactly git message_wire h
-      → HoldsWorld holds_shared holds_clone old (fused_after start h)
-      → (k : ExactHistory) × IsLengthened start h es said k × HoldsWorld holds_shared holds_clone new (fused_after start k)
-      × (AreApart start k → ExactRun git message_wire start k × ((p : History) × Shadows git message_wire start k p × IsSafe git start.world p))
+-- at the world after: a run in which each node answers by the written rules, and a guarded one; and if nobody forged what a clone received,
+-- a safe one.
+pub record RunsSafely {S C : Type 0} (seen_shared : Seen S SharedNode) (seen_clone : Seen C CloneNode) (old : World S C) (es : List Event) (said : List WorldAnswer) (new : World S C) : Type 0 where
+  pub each : (n : ℕ) (start : FusedWorld) (h : ExactHistory) → IsNew start.world n → ExactRun git message_wire start h
+      → HoldsWorld seen_shared seen_clone old (fused_after start h)
+      → (k : ExactHistory) × IsLengthened start h es said k × HoldsWorld seen_shared seen_clone new (fused_after start k)
+      × (AreApart start k → ExactRun git message_wire start k
+      × ((p : History) × Shadows git message_wire start k p × IsGuarded start p × (NothingForgedExactly git message_wire k → IsSafe git start.world p)))
 
 -- one event more, and its answer behind the others
-pub record GoesOn {S C : Type 0} (holds_shared : S → SharedNode → Type 0) (holds_clone : C → CloneNode → Type 0) (before after : List WorldAnswer) (old : World S C) (e : Event) (new : World S C) : Type 0 where
+pub record GoesOn {S C : Type 0} (seen_shared : Seen S SharedNode) (seen_clone : Seen C CloneNode) (before after : List WorldAnswer) (old : World S C) (e : Event) (new : World S C) : Type 0 where
   pub answer : WorldAnswer
   pub said : after ≡ before ++ answer ∷ []
-  pub steps : Steps holds_shared holds_clone old (event_of e) answer new
+  pub steps : Steps seen_shared seen_clone old (event_of e) answer new
 
 -- Every run of a new world is safe.
 abbrev pub EveryRunIsSafe : Type 0
 EveryRunIsSafe = (n : ℕ) (start : FusedWorld) (h : ExactHistory) → IsNew start.world n → ExactRun git message_wire start h → NoExactCollision git message_wire start h → NothingForgedExactly git message_wire h →
     (p : History) × Shadows git message_wire start h p × IsSafe git start.world p
 
+-- the event brings no clone bytes that the shared node did not send
+abbrev pub IsSent : Event → Type 0
+IsSent (Forge (ToClone to bytes)) = ⊥
+IsSent _ = Unit {0}
+
+-- A run in which nothing was forged, lengthened by such events, is one still.
+abbrev pub ForgesNothing : Type 0
+ForgesNothing = (start : FusedWorld) (h k : ExactHistory) (es : List Event) (said : List WorldAnswer) → AllByRecursion IsSent es → NothingForgedExactly git message_wire h → IsLengthened start h es said k →
+    NothingForgedExactly git message_wire k
+
 -- In a new world no message was sent. So a run that is told of it answers each delivery with 113, however many there are: a run is
 -- bound at each of its events, and not at the first alone.
-abbrev pub NeverSentIsRefused : {S C : Type 0} → (S → SharedNode → Type 0) → (C → CloneNode → Type 0) → Type 0
-NeverSentIsRefused {S} {C} holds_shared holds_clone = (n : ℕ) (old new : World S C) (messages : List ℕ) (said : List WorldAnswer) → IsNewWorld holds_shared holds_clone n old →
-    RunsSafely holds_shared holds_clone old (map Deliver messages) said new → said ≡ map (λ _. Refused 113) messages
+abbrev pub NeverSentIsRefused : {S C : Type 0} → Seen S SharedNode → Seen C CloneNode → Type 0
+NeverSentIsRefused {S} {C} seen_shared seen_clone = (n : ℕ) (frail : Bool) (old new : World S C) (messages : List ℕ) (said : List WorldAnswer) → IsNewWorld seen_shared seen_clone n frail old →
+    RunsSafely seen_shared seen_clone old (map Deliver messages) said new → said ≡ map (λ _. Refused 113) messages

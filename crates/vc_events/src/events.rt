@@ -1,4 +1,5 @@
 // What may happen in a world.
+use crate::Letter;
 use vc_object::{Kind, Mode};
 use vc_refname::RefName;
 
@@ -54,6 +55,10 @@ pub enum Event {
     Compare(Party, Vec<u8>, Vec<u8>),
     /// A node puts its refs into one file.
     Pack(Party),
-    /// A node starts anew over what it has stored.
+    /// A node starts anew over what it has stored, with no stop set.
     Restart(Party),
+    /// So many more writes pass at a node, and the next one fails.
+    Stop(Party, u64),
+    /// Bytes come that nobody sent, as from the other end.
+    Forge(Letter),
 }

@@ -1,5 +1,5 @@
 // What holds of every run.
-ghost use Rattle.vc_events.specs.Running.{EveryRunIsSafe, NeverSentIsRefused};
+ghost use Rattle.vc_events.specs.Running.{EveryRunIsSafe, ForgesNothing, NeverSentIsRefused};
 
 use crate::{CloneCalls, SharedCalls};
 
@@ -11,8 +11,14 @@ pub fn every_run_is_safe()
     ensures { EveryRunIsSafe }
 {}
 
+/// A run in which nothing was forged to a clone, lengthened by events of which none brings a clone forged bytes, is one still. So for
+/// such events, after a run of such events, the clause `safe` of `World::run` says that what each clone knows was so.
+pub fn events_that_forge_nothing()
+    ensures { ForgesNothing }
+{}
+
 /// Whatever run of a new world is told answers each delivery of a message that was never sent with 113. So the clause `safe` of
 /// `World::run` binds each event of a list, and not the first alone: no body may do nothing and answer as it likes.
 pub fn what_was_never_sent_is_refused<S: SharedCalls, C: CloneCalls>()
-    ensures { NeverSentIsRefused S.holds C.holds }
+    ensures { NeverSentIsRefused S.seen C.seen }
 {}

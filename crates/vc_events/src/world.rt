@@ -1,13 +1,12 @@
 // The world and its events.
-ghost use Rattle.std.specs.Prelude.{◌≡◌, ◌<◌, All, IfOk, OnErr, OnOk, vec_len, vec_capacity, length};
-ghost use Rattle.std.specs.List.{AllByRecursion};
-ghost use Rattle.vc_model.specs.ExactWorld.WorldEvent.{Orders, Delivers, Steps as StepsPush, Compares, Packs, Restarts};
-ghost use Rattle.vc_events.specs.Events.{event_of, order_of, party_of, IsInOrder, IsInWorld, IsParty};
+ghost use Rattle.std.specs.Prelude.{◌≡◌, ◌⊎◌, ◌<◌, Bool, All, IfErr, IfOk, OnErr, OnOk, vec_len, vec_capacity, length};
+ghost use Rattle.vc_model.specs.ExactWorld.WorldEvent.{Orders, Delivers, Forges, Steps as StepsPush, Stops, Compares, Packs, Restarts};
+ghost use Rattle.vc_events.specs.Events.{event_of, letter_of, order_of, party_of, IsEnd, IsInOrder, IsInWorld, IsParty};
 ghost use Rattle.vc_events.specs.Running.{GoesOn, Lengthens, RunsSafely, done_of, said_of};
-ghost use Rattle.vc_events.specs.World.{Steps, IsSame, IsNewWorld, fresh_shared, fresh_clone};
+ghost use Rattle.vc_events.specs.World.{AreFresh, Steps, IsFull, IsSame, IsNewWorld};
 
 use crate::posting::{from_clone, from_shared, sender_of};
-use crate::{Answer, CloneCalls, Event, Letter, Order, Party, SharedCalls};
+use crate::{Answer, CloneCalls, Deed, Event, Letter, Order, Party, SharedCalls};
 use std::alloc::{AllocError, Global};
 
 /// The number that refuses a delivery where no message has the number.
@@ -27,10 +26,8 @@ pub struct World<S, C> {
 impl<S: SharedCalls, C: CloneCalls> World<S, C> {
     /// The world of these nodes, which are new. There is at least one clone.
     pub fn over(alloc: Global, shared: S, clones: Vec<C>) -> World<S, C>
-        requires shared { S.honest → S.holds shared fresh_shared }
-        requires clones { C.honest → AllByRecursion (λ c. C.holds c fresh_clone) clones.items }
         requires some { 0 < length clones.items }
-        ensures new { S.honest → C.honest → IsNewWorld S.holds C.holds (length clones.items) result }
+        ensures new { S.honest → C.honest → (frail : Bool) → AreFresh S.seen C.seen frail shared clones.items → IsNewWorld S.seen C.seen (length clones.items) frail result }
         ensures clones { vec_len result.clones ≡ vec_len clones }
     {
         World {
@@ -48,11 +45,26 @@ impl<S: SharedCalls, C: CloneCalls> World<S, C> {
         &self.letters
     }
 
+    /// The nodes as they are: the shared node, and the clones in the order of their numbers. The messages are dropped.
+    pub fn into_nodes(self) -> (S, Vec<C>)
+        ensures shared { result.0 ≡ self.shared }
+        ensures clones { result.1 ≡ self.clones }
+    {
+        let World {
+            shared,
+            clones,
+            letters: _,
+            senders: _,
+        } = self;
+        (shared, clones)
+    }
+
     /// One event, and its answer. Where the world's own lists can't grow, it isn't done.
     pub fn step(&mut self, alloc: Global, event: &Event) -> Result<Answer, AllocError>
         requires { IsInWorld (vec_len self.old.clones) event.now }
-        ensures steps { S.honest → C.honest → IfOk result (λ answer. Steps S.holds C.holds self.old (event_of event.now) answer self.new) }
+        ensures steps { S.honest → C.honest → IfOk result (λ answer. Steps S.seen C.seen self.old (event_of event.now) answer self.new) }
         ensures err { OnErr result (IsSame self.old self.new) }
+        ensures full { OnErr result (IsFull self.new.letters) }
         ensures clones { vec_len self.new.clones ≡ vec_len self.old.clones }
     {
         self.letters.reserve(1)?;
@@ -63,8 +75,9 @@ impl<S: SharedCalls, C: CloneCalls> World<S, C> {
     /// after it, and the answers so far are handed back.
     pub fn run(&mut self, alloc: Global, events: &[Event]) -> Result<Vec<Answer>, Vec<Answer>>
         requires { All (IsInWorld (vec_len self.old.clones)) events.now }
-        ensures safe { S.honest → C.honest → RunsSafely S.holds C.holds self.old (done_of events.now result) (said_of result) self.new }
-        ensures run { S.honest → C.honest → Lengthens S.holds C.holds self.old (done_of events.now result) (said_of result) self.new }
+        ensures safe { S.honest → C.honest → RunsSafely S.seen C.seen self.old (done_of events.now result) (said_of result) self.new }
+        ensures run { S.honest → C.honest → Lengthens S.seen C.seen self.old (done_of events.now result) (said_of result) self.new }
+        ensures full { IfErr result (λ answers. IsFull answers ⊎ IsFull self.new.letters) }
         ensures clones { vec_len self.new.clones ≡ vec_len self.old.clones }
     {
         let mut answers = Vec::new(alloc);
@@ -84,8 +97,9 @@ impl<S: SharedCalls, C: CloneCalls> World<S, C> {
         event: &Event,
     ) -> Result<(), AllocError>
         requires { IsInWorld (vec_len self.old.clones) event.now }
-        ensures more { S.honest → C.honest → OnOk result (GoesOn S.holds C.holds answers.old.items answers.new.items self.old event.now self.new) }
+        ensures more { S.honest → C.honest → OnOk result (GoesOn S.seen C.seen answers.old.items answers.new.items self.old event.now self.new) }
         ensures err { OnErr result (IsSame self.old self.new × (answers.new.items ≡ answers.old.items)) }
+        ensures full { OnErr result (IsFull answers.new ⊎ IsFull self.new.letters) }
         ensures clones { vec_len self.new.clones ≡ vec_len self.old.clones }
     {
         answers.reserve(1)?;
@@ -98,7 +112,7 @@ impl<S: SharedCalls, C: CloneCalls> World<S, C> {
     fn answer(&mut self, alloc: Global, event: &Event) -> Answer
         requires in_world { IsInWorld (vec_len self.old.clones) event.now }
         requires room { vec_len self.old.letters < vec_capacity self.old.letters }
-        ensures steps { S.honest → C.honest → Steps S.holds C.holds self.old (event_of event.now) result self.new }
+        ensures steps { S.honest → C.honest → Steps S.seen C.seen self.old (event_of event.now) result self.new }
         ensures clones { vec_len self.new.clones ≡ vec_len self.old.clones }
     {
         match event {
@@ -108,6 +122,8 @@ impl<S: SharedCalls, C: CloneCalls> World<S, C> {
             Event::Compare(party, first, second) => self.compare(alloc, *party, first, second),
             Event::Pack(party) => self.pack(*party),
             Event::Restart(party) => self.restart(*party),
+            Event::Stop(party, writes) => self.stop(*party, *writes),
+            Event::Forge(letter) => self.forge(letter),
         }
     }
 
@@ -116,7 +132,7 @@ impl<S: SharedCalls, C: CloneCalls> World<S, C> {
         requires there { clone < vec_len self.old.clones }
         requires in_order { IsInOrder order.now }
         requires room { vec_len self.old.letters < vec_capacity self.old.letters }
-        ensures steps { S.honest → C.honest → Steps S.holds C.holds self.old (Orders clone (order_of order.now)) result self.new }
+        ensures steps { S.honest → C.honest → Steps S.seen C.seen self.old (Orders clone (order_of order.now)) result self.new }
         ensures clones { vec_len self.new.clones ≡ vec_len self.old.clones }
     {
         let called = self.clones[clone].obey(alloc, order);
@@ -126,7 +142,7 @@ impl<S: SharedCalls, C: CloneCalls> World<S, C> {
     // A message comes to its addressee.
     fn deliver(&mut self, message: usize) -> Answer
         requires { vec_len self.old.letters < vec_capacity self.old.letters }
-        ensures steps { S.honest → C.honest → Steps S.holds C.holds self.old (Delivers message) result self.new }
+        ensures steps { S.honest → C.honest → Steps S.seen C.seen self.old (Delivers message) result self.new }
         ensures clones { vec_len self.new.clones ≡ vec_len self.old.clones }
     {
         let Some(letter) = self.letters.get(message) else {
@@ -152,7 +168,7 @@ impl<S: SharedCalls, C: CloneCalls> World<S, C> {
     // A step of the push in a slot.
     fn advance(&mut self, slot: usize) -> Answer
         requires { vec_len self.old.letters < vec_capacity self.old.letters }
-        ensures steps { S.honest → C.honest → Steps S.holds C.holds self.old (StepsPush slot) result self.new }
+        ensures steps { S.honest → C.honest → Steps S.seen C.seen self.old (StepsPush slot) result self.new }
         ensures clones { vec_len self.new.clones ≡ vec_len self.old.clones }
     {
         let sender = sender_of(&self.senders, slot);
@@ -164,7 +180,7 @@ impl<S: SharedCalls, C: CloneCalls> World<S, C> {
     fn compare(&mut self, alloc: Global, party: Party, first: &[u8], second: &[u8]) -> Answer
         requires there { IsParty (vec_len self.old.clones) party }
         requires room { vec_len self.old.letters < vec_capacity self.old.letters }
-        ensures steps { S.honest → C.honest → Steps S.holds C.holds self.old (Compares (party_of party) first.now second.now) result self.new }
+        ensures steps { S.honest → C.honest → Steps S.seen C.seen self.old (Compares (party_of party) first.now second.now) result self.new }
         ensures clones { vec_len self.new.clones ≡ vec_len self.old.clones }
     {
         match party {
@@ -183,7 +199,7 @@ impl<S: SharedCalls, C: CloneCalls> World<S, C> {
     fn pack(&mut self, party: Party) -> Answer
         requires there { IsParty (vec_len self.old.clones) party }
         requires room { vec_len self.old.letters < vec_capacity self.old.letters }
-        ensures steps { S.honest → C.honest → Steps S.holds C.holds self.old (Packs (party_of party)) result self.new }
+        ensures steps { S.honest → C.honest → Steps S.seen C.seen self.old (Packs (party_of party)) result self.new }
         ensures clones { vec_len self.new.clones ≡ vec_len self.old.clones }
     {
         match party {
@@ -202,7 +218,7 @@ impl<S: SharedCalls, C: CloneCalls> World<S, C> {
     fn restart(&mut self, party: Party) -> Answer
         requires there { IsParty (vec_len self.old.clones) party }
         requires room { vec_len self.old.letters < vec_capacity self.old.letters }
-        ensures steps { S.honest → C.honest → Steps S.holds C.holds self.old (Restarts (party_of party)) result self.new }
+        ensures steps { S.honest → C.honest → Steps S.seen C.seen self.old (Restarts (party_of party)) result self.new }
         ensures clones { vec_len self.new.clones ≡ vec_len self.old.clones }
     {
         match party {
@@ -213,6 +229,43 @@ impl<S: SharedCalls, C: CloneCalls> World<S, C> {
             Party::Clone(clone) => {
                 let called = self.clones[clone].reopen();
                 from_clone(&mut self.letters, clone, called)
+            }
+        }
+    }
+
+    // A stop is set at a node.
+    fn stop(&mut self, party: Party, writes: u64) -> Answer
+        requires { IsParty (vec_len self.old.clones) party }
+        ensures steps { S.honest → C.honest → Steps S.seen C.seen self.old (Stops (party_of party) writes) result self.new }
+        ensures clones { vec_len self.new.clones ≡ vec_len self.old.clones }
+    {
+        match party {
+            Party::Shared => {
+                self.shared.stop(writes);
+                Answer::Did(Deed::Stored)
+            }
+            Party::Clone(clone) => {
+                self.clones[clone].stop(writes);
+                Answer::Did(Deed::Stored)
+            }
+        }
+    }
+
+    // Bytes come that nobody sent.
+    fn forge(&mut self, letter: &Letter) -> Answer
+        requires there { IsEnd (vec_len self.old.clones) letter.now }
+        requires room { vec_len self.old.letters < vec_capacity self.old.letters }
+        ensures steps { S.honest → C.honest → Steps S.seen C.seen self.old (Forges (letter_of letter.now)) result self.new }
+        ensures clones { vec_len self.new.clones ≡ vec_len self.old.clones }
+    {
+        match letter {
+            Letter::ToShared(from, bytes) => {
+                let called = self.shared.deliver(bytes);
+                from_shared(&mut self.letters, &mut self.senders, *from, called)
+            }
+            Letter::ToClone(to, bytes) => {
+                let called = self.clones[*to].deliver(bytes);
+                from_clone(&mut self.letters, *to, called)
             }
         }
     }

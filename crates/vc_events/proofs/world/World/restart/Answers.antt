@@ -13,10 +13,10 @@ use Rattle.vc_events.proofs.EventLemmas.{clone_event, shared_event}
 use Rattle.vc_events.proofs.world.World.restart.Goals as goal
 
 pub returns-in-Shared-clause-steps : goal.returns-in-Shared-clause-steps
-returns-in-Shared-clause-steps g c shared clone = shared_event g.S.SharedCalls.holds g.C.CloneCalls.holds _ _ OpenShared c.reopen-called.result _ _
+returns-in-Shared-clause-steps g c shared clone = shared_event g.S.SharedCalls.seen g.C.CloneCalls.seen _ _ OpenShared c.reopen-called.result _ _
     refl (search rules) (c.reopen-called.ensures.answers shared) c.from_shared.ensures.posts c.from_shared.ensures.senders (λ w. subst (λ (p : Party). CallsShared git message_wire w.world (Restarts (party_of p)) 0 OpenShared) (sym c.in-Shared.is) (refl, refl))
 
 pub returns-in-Clone-clause-steps : goal.returns-in-Clone-clause-steps
-returns-in-Clone-clause-steps g c shared clone = clone_event g.S.SharedCalls.holds g.C.CloneCalls.holds _ _ c.in-Clone.clone _ _ (IsOnly Open) c.reopen-called-in-Clone.result _ _
+returns-in-Clone-clause-steps g c shared clone = clone_event g.S.SharedCalls.seen g.C.CloneCalls.seen _ _ c.in-Clone.clone _ _ (IsOnly Open) c.reopen-called-in-Clone.result _ _
     (slice_get_read c.args.self.now.clones.items (vec_len c.args.self.now.clones) _ _ (search rules) (search rules) c.index_mut.ensures.value) refl refl refl (search rules)
     (c.reopen-called-in-Clone.ensures.answers clone) c.from_clone.ensures (λ w n i is. subst (λ (p : Party). CallsClone git message_wire w.world (Restarts (party_of p)) c.in-Clone.clone n i) (sym c.in-Clone.is) (refl, is))

@@ -15,7 +15,7 @@ more-requires g c =
 
 pub loop-event-init : goal.loop-event-init
 loop-event-init g c =
-    let hs = g.S.SharedCalls.holds in let hc = g.C.CloneCalls.holds in
+    let hs = g.S.SharedCalls.seen in let hc = g.C.CloneCalls.seen in
     record {
       run = λ shared clone. subst (λ (said : List Answer). Lengthens hs hc c.args.self.now [] said c.args.self.now) (sym c.new-answers.ensures.items) (lengthens_none hs hc c.args.self.now);
       count = λ shared clone. ap length c.new-answers.ensures.items;
@@ -24,7 +24,7 @@ loop-event-init g c =
 
 pub loop-event-preserved : goal.loop-event-preserved
 loop-event-preserved g c =
-    let hs = g.S.SharedCalls.holds in let hc = g.C.CloneCalls.holds in
+    let hs = g.S.SharedCalls.seen in let hc = g.C.CloneCalls.seen in
     let on : g.S.SharedCalls.honest → g.C.CloneCalls.honest → GoesOn hs hc c.loop-event.answers.items c.more.new.answers.items c.loop-event.self c.event-item.result c.more.new.self = search rules in
     let here : g.S.SharedCalls.honest → g.C.CloneCalls.honest → GoesOn hs hc c.loop-event.answers.items c.more.new.answers.items c.loop-event.self (get_or c.args.events.now c.loop-event.event-index c.event-item.result) c.more.new.self
     = λ shared clone. subst (λ (e : Event). GoesOn hs hc c.loop-event.answers.items c.more.new.answers.items c.loop-event.self e c.more.new.self) c.event-item.is (on shared clone) in
@@ -37,7 +37,7 @@ loop-event-preserved g c =
 
 pub returns-then-is_err-clause-run : goal.returns-then-is_err-clause-run
 returns-then-is_err-clause-run g c shared clone =
-    let hs = g.S.SharedCalls.holds in let hc = g.C.CloneCalls.holds in
+    let hs = g.S.SharedCalls.seen in let hc = g.C.CloneCalls.seen in
     let e : IsSame c.loop-event.self c.more.new.self × (c.more.new.answers.items ≡ c.loop-event.answers.items) = search rules in
     let n : vec_len c.more.new.answers ≡ length c.more.new.answers.items = search rules in
     let here = same_lengthens hs hc c.args.self.now c.loop-event.self c.more.new.self (take c.loop-event.event-index c.args.events.now) c.loop-event.answers.items e.0 (c.loop-event.invariant.run shared clone) in
@@ -46,14 +46,14 @@ returns-then-is_err-clause-run g c shared clone =
 
 pub returns-then-is_err-clause-safe : goal.returns-then-is_err-clause-safe
 returns-then-is_err-clause-safe g c shared clone =
-    runs_safely g.S.SharedCalls.holds g.C.CloneCalls.holds _ _ _ _ (returns-then-is_err-clause-run g c shared clone)
+    runs_safely g.S.SharedCalls.seen g.C.CloneCalls.seen _ _ _ _ (returns-then-is_err-clause-run g c shared clone)
 
 pub returns-clause-run : goal.returns-clause-run
 returns-clause-run g c shared clone =
-    let hs = g.S.SharedCalls.holds in let hc = g.C.CloneCalls.holds in
+    let hs = g.S.SharedCalls.seen in let hc = g.C.CloneCalls.seen in
     let end : c.loop-event.event-index ≡ length c.args.events.now = omega (arith, c.loop-event-test.false, c.loop-event.auto.event-index-end) in
     subst (λ (es : List Event). Lengthens hs hc c.args.self.now es c.loop-event.answers.items c.loop-event.self) (ap (λ n. take n c.args.events.now) end ∙ take_whole c.args.events.now) (c.loop-event.invariant.run shared clone)
 
 pub returns-clause-safe : goal.returns-clause-safe
 returns-clause-safe g c shared clone =
-    runs_safely g.S.SharedCalls.holds g.C.CloneCalls.holds _ _ _ _ (returns-clause-run g c shared clone)
+    runs_safely g.S.SharedCalls.seen g.C.CloneCalls.seen _ _ _ _ (returns-clause-run g c shared clone)
