@@ -2,32 +2,32 @@
 
 `answers(text)` gives what `vcs world` has to print for a script, a line for each event, or none where the text is no script. Nothing
 here is taken from the sources or specs of the crates.
+
+Of a stop it knows what the rules fix: an event fails if it changes more places than writes are left, and does not if it only looks, or
+if so many are left that they never run out. What an event that failed leaves is known if no write was left. An answer that isn't known,
+and each one after it, is none.
 """
+import copy
 import re
 
 import world_values
+import world_wire
 from world_values import FILE, LONGEST_BRANCH, LONGEST_PATH, Refused, Repository, history, in_the_way, is_complete, is_legal, may_stand, name_of, reached
+from world_wire import MOST, TEXTS, ZERO
 
-ZERO = "0" * 40
 SLOTS = 8
-MOST = 256  # commands of a push, wants, haves
 MOST_CLONES = 16
+MANY = 100_000  # more writes than an event of any script here makes
 HEADS, TAGS, TRACKING = b"refs/heads/", b"refs/tags/", b"refs/remotes/origin/"
-TEXTS = {
-    100: b"bad name",
-    101: b"outside refs/heads and refs/tags",
-    102: b"deletion prohibited",
-    103: b"missing necessary objects",
-    104: b"not a commit",
-    105: b"non-fast-forward",
-    106: b"already exists",
-    107: b"name conflict",
-    108: b"stale",
-}
+TO_SHARED, TO_CLONES = ("list", "want", "push"), ("advert", "pack", "report")
 
 
 class BadScript(Exception):
     pass
+
+
+class Unknown(Exception):
+    """The rules leave open what is answered."""
 
 
 def followed(name):
@@ -35,14 +35,37 @@ def followed(name):
     return TRACKING + name[len(HEADS) :] if name.startswith(HEADS) and len(name) <= LONGEST_BRANCH else None
 
 
-class Clone(Repository):
-    """A clone. What is awaited is none, a kind of message, or the wants of a pack and the refs that were advertised with them."""
+class Node(Repository):
+    """A node. The writes left, once a stop set them, are the least and the most that there may be."""
 
     def __init__(self):
         super().__init__()
-        self.awaited = None
+        self.start()
 
-    def restart(self):
+    def start(self):
+        self.is_down, self.is_unsure, self.left = False, False, None
+
+    def stop(self, writes):
+        if not self.is_down:
+            self.left = writes, writes
+
+    def fail(self, before):
+        """The node is down, as it was before the event; what it stores isn't known if some writes passed."""
+        is_unsure = self.left[1] > 0
+        vars(self).update(vars(before), is_down=True, is_unsure=is_unsure)
+
+    def changes(self, before):
+        """At how many places the node isn't as it was before."""
+        maps = [(self.objects, before.objects), (self.refs, before.refs)]
+        count = sum(new.get(key) != old.get(key) for new, old in maps for key in {*new, *old})
+        return count + (self.head != before.head) + (self.index != before.index)
+
+
+class Clone(Node):
+    """A clone. What is awaited is none, a kind of message, or the wants of a pack and the refs that were advertised with them."""
+
+    def start(self):
+        super().start()
         self.awaited = None
 
     def write(self, kind, body):
@@ -143,15 +166,15 @@ class Clone(Repository):
         return self.move(refs)
 
     def take_report(self, results):
-        branches = {name: new for name, new, reason in results if not reason and name.startswith(HEADS)}
-        return self.move(branches) + b"".join(b" ng %d" % reason for _, _, reason in results if reason)
+        branches = {name: new for name, new, reason in results if reason is None and name.startswith(HEADS)}
+        return self.move(branches) + b"".join(b" ng %d" % reason for _, _, reason in results if reason is not None)
 
     def move(self, refs):
         """Moves tracking branches forward and sets tags that aren't there, where all is there that they reach."""
         moved = 0
         for name, new in sorted(refs.items()):
             to = name if name.startswith(TAGS) else followed(name)
-            if to is None or not is_complete(self.objects, new) or in_the_way(self.refs, to):
+            if to is None or not is_legal(to) or not is_complete(self.objects, new) or in_the_way(self.refs, to):
                 continue
             commits, holds = history(self.objects, new)
             old = self.refs.get(to)
@@ -162,21 +185,18 @@ class Clone(Repository):
 
 
 class Push:
-    """An open push: its commands and the reasons that refuse them, and what it carries."""
+    """An open push: its commands and the reasons that refuse them, and what it carries, or none where a body is at fault."""
 
     def __init__(self, clone, commands, carried):
-        self.clone, self.commands, self.carried = clone, commands, carried
-        self.reasons, self.stage, self.next = [0] * len(commands), "opened", 0
+        self.clone, self.commands, self.carried = clone, commands, carried or {}
+        self.reasons, self.stage, self.next = [109 if carried is None else 0] * len(commands), "opened", 0
 
 
-class Shared(Repository):
+class Shared(Node):
     """The shared node, with its slots."""
 
-    def __init__(self):
-        super().__init__()
-        self.slots = [None] * SLOTS
-
-    def restart(self):
+    def start(self):
+        super().start()
         self.slots = [None] * SLOTS
 
     def advert(self):
@@ -232,7 +252,7 @@ class Shared(Repository):
         if push is None:
             raise Refused(111)
         if push.stage == "opened":
-            push.reasons = [self.judge(push, *command) for command in push.commands]
+            push.reasons = [reason or self.judge(push, *command) for reason, command in zip(push.reasons, push.commands)]
             push.stage = "checked"
             return b"checked %d" % push.reasons.count(0)
         passed = [number for number, reason in enumerate(push.reasons) if not reason and number >= push.next]
@@ -247,7 +267,7 @@ class Shared(Repository):
             name = push.commands[number][2]
             return b"ng %s %s" % (name, TEXTS[reason]) if reason else b"ok " + name
         self.slots[slot] = None
-        results = [(name, new, reason) for (_, new, name), reason in zip(push.commands, push.reasons)]
+        results = [(name, new, reason or None) for (_, new, name), reason in zip(push.commands, push.reasons)]
         return push.clone, ("report", (results,))
 
 
@@ -256,9 +276,22 @@ class World:
 
     def __init__(self, count):
         self.shared, self.clones, self.messages = Shared(), [Clone() for _ in range(count)], []
+        self.is_lost = False
 
     def node(self, number):
         return self.shared if number is None else self.clones[number]
+
+    def addressee(self, event):
+        """The node that an event comes to."""
+        kind, first = event[:2]
+        if kind == "deliver":
+            if first >= len(self.messages):
+                raise Refused(113)
+            clone, kind, _ = self.messages[first]
+            return self.node(None if kind in TO_SHARED else clone)
+        if kind == "forge":
+            return self.node(None if event[2] else first)
+        return self.node(None if kind == "step" else first)
 
     def sent(self, clone, message):
         kind, content = message
@@ -267,15 +300,73 @@ class World:
         return b"sent %d" % (len(self.messages) - 1) + objects
 
     def play(self, event):
+        """The answer to an event, or none where it isn't known."""
         try:
-            return getattr(self, f"play_{event[0]}")(*event[1:])
+            return None if self.is_lost else self.answer(event)
         except Refused as refused:
             return b"refused %d" % refused.number
+        except Unknown:
+            self.is_lost = True
+            return None
+
+    def answer(self, event):
+        node = self.addressee(event)
+        if event[0] not in ("stop", "restart"):
+            if node.is_down:
+                raise Refused(112)
+            if node.left is not None:
+                return self.play_stopping(node, event)
+        return self.play_at(event)
+
+    def play_at(self, event):
+        return getattr(self, f"play_{event[0]}")(*event[1:])
+
+    def play_stopping(self, node, event):
+        """An event at a node where a stop was set."""
+        before, sent = copy.deepcopy(node), len(self.messages)
+        try:
+            said = self.play_at(event)
+        except Refused as refused:
+            said = b"refused %d" % refused.number
+        (least, most), changes = node.left, node.changes(before)
+        if changes > most:
+            del self.messages[sent:]
+            node.fail(before)
+            return b"fault device"
+        if changes or not self.only_looks(event, said):
+            if least < MANY:
+                raise Unknown
+            node.left = least - MANY, most - changes
+        return said
+
+    def only_looks(self, event, said):
+        """Whether an event that changed nothing surely made no write."""
+        if event[0] in ("deliver", "forge"):
+            return self.kind_that_comes(event) in ("list", "want", "advert", "report") or said == b"refused 91"
+        if event[0] == "step":
+            return said.startswith((b"checked ", b"ng ", b"refused "))
+        return event[0] in ("same", "push") or event[2:3] == ("fetch",) or said.startswith(b"refused ")
+
+    def kind_that_comes(self, event):
+        """Which message an event brings, or none where it brings bytes that are no message."""
+        if event[0] == "deliver":
+            return self.messages[event[1]][1]
+        try:
+            return world_wire.read(event[3])[0]
+        except Refused:
+            return None
 
     def play_deliver(self, number):
-        if number >= len(self.messages):
-            raise Refused(113)
-        clone, kind, content = self.messages[number]
+        return self.come(*self.messages[number])
+
+    def play_forge(self, clone, is_to_shared, text):
+        kind, content = world_wire.read(text)
+        if kind not in (TO_SHARED if is_to_shared else TO_CLONES):
+            raise Refused(91)
+        return self.come(clone, kind, content)
+
+    def come(self, clone, kind, content):
+        """A message comes to its addressee."""
         shared, node = self.shared, self.clones[clone]
         if kind == "push":
             return shared.open(clone, *content)
@@ -287,8 +378,13 @@ class World:
         said = self.shared.step(slot)
         return said if isinstance(said, bytes) else self.sent(*said)
 
+    def play_stop(self, node, writes):
+        self.node(node).stop(writes)
+        return b"done"
+
     def play_restart(self, node):
-        self.node(node).restart()
+        self.is_lost = self.node(node).is_unsure
+        self.node(node).start()
         return b"done"
 
     def play_pack(self, node):
@@ -349,12 +445,23 @@ def order_of(number, verb, words):
     insist(forms.get(verb))
     verb = verb.decode()
     if verb == "write":
-        insist(words[0].decode("latin-1") in world_values.KINDS and re.fullmatch(rb"(?:[0-9a-fA-F]{2})+", words[1]))
-        return "order", number, verb, [words[0].decode(), bytes.fromhex(words[1].decode())], []
+        insist(words[0].decode("latin-1") in world_values.KINDS)
+        return "order", number, verb, [words[0].decode(), bytes_of(words[1])], []
     if verb in ("branch", "delete", "head"):
         return "order", number, "set_head" if verb == "head" else verb, [ref_of(HEADS + words[0])], words[1:]
     texts = {"commit": 1, "load": 0, "detach": 0}.get(verb, count)
     return "order", number, verb, words[:texts], words[texts:]
+
+
+def bytes_of(digits):
+    insist(re.fullmatch(rb"(?:[0-9a-fA-F]{2})+", digits))
+    return bytes.fromhex(digits.decode())
+
+
+def forged(to, other, text):
+    """The event of bytes that come to a node from the other end."""
+    insist((to is None) != (other is None))
+    return "forge", other if to is None else to, to is None, text
 
 
 def event_of(words, count):
@@ -363,6 +470,10 @@ def event_of(words, count):
         return words[0].decode(), number_of(words[1])
     if words[0] == b"restart" and len(words) == 2:
         return "restart", node_of(words[1], count)
+    if words[0] == b"stop" and len(words) == 3:
+        return "stop", node_of(words[1], count), number_of(words[2])
+    if words[0] == b"forge" and len(words) == 4:
+        return forged(node_of(words[1], count), node_of(words[2], count), bytes_of(words[3]))
     node, verb, rest = node_of(words[0], count), *words[1:2], words[2:]
     if verb == b"pack" and not rest:
         return "pack", node
@@ -384,10 +495,11 @@ def read_script(text):
 
 
 def answers(text):
-    """What a script's events are answered with, or none where the text is no script."""
+    """What a script's events are answered with, as far as it is known, or none where the text is no script."""
     try:
         count, events = read_script(text)
     except BadScript:
         return None
     world = World(count)
-    return [world.play(event).decode("utf-8", "surrogateescape") for event in events]
+    told = map(world.play, events)
+    return [answer if answer is None else answer.decode("utf-8", "surrogateescape") for answer in told]

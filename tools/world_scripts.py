@@ -2,9 +2,12 @@
 that most of what is asked can be done, and much of the rest is refused for one reason or another.
 
 A world has habits of its own: how often each thing happens there. Messages are delivered late, more than once or never; pushes are
-left open, and steps of different ones mixed; now and then a node is restarted. One script in twenty-five is none."""
+left open, and steps of different ones mixed; now and then a node is restarted. Bytes come that nobody sent: messages that were sent
+before, whole, cut or with a byte changed. Now and then a stop is set, mostly one of which the model knows what comes of it; where it
+doesn't, the script ends soon. One script in twenty-five is none."""
 import world_model
-from world_model import HEADS, World, event_of
+import world_wire
+from world_model import HEADS, TO_SHARED, World, event_of
 from world_values import FILE, FOLDER, KINDS, OTHER_REPOSITORY, entry_key
 
 NAMES = [b"main"] * 8 + [b"side", b"side", b"a", b"a/b", b"a/b/c", b"v1", b"abc", b"dead", b"HEAD", b"origin/main", b"\xc3\xa9"]
@@ -23,8 +26,9 @@ WORDS = [b"A", b"B", b"C", b"one", b"two", b"\xf0\x9f\x8c\x8d"]
 # How often what happens, against all else.
 WEIGHTS = {
     "deliver": 26, "step": 20, "commit": 9, "add": 8, "unstage": 2, "branch": 6, "delete": 2, "head": 3, "load": 3, "detach": 1,
-    "write": 5, "fetch": 5, "push": 9, "pack": 2, "restart": 1, "same": 4, "whole_fetch": 4, "whole_push": 4,
+    "write": 5, "fetch": 5, "push": 9, "pack": 2, "restart": 1, "same": 4, "whole_fetch": 4, "whole_push": 4, "forge": 4, "stop": 1,
 }
+LONGEST_FORGED = 4000
 
 
 class Script:
@@ -43,7 +47,7 @@ class Script:
         return self.chance.random() < share
 
     def say(self, *words):
-        """Writes a line, and gives its answer."""
+        """Writes a line, and gives its answer, or no words where it isn't known."""
         line = b" ".join(words)
         self.lines.append(line)
         before = len(self.world.messages)
@@ -51,10 +55,13 @@ class Script:
         # (a message that doesn't wait is lost, but for a delivery that picks any)
         if len(self.world.messages) > before and self.odds(0.9):
             self.waiting.append(before)
-        return answer
+        return answer or b""
 
     def clone(self):
         return self.chance.randrange(min(self.count, 4))
+
+    def nodes(self, number):
+        return [b"shared", b"c%d" % number]
 
     def name(self):
         return self.chance.choice(LONG if self.odds(0.03) else NAMES)
@@ -89,6 +96,9 @@ class Script:
     def one(self):
         """Something happens. A clone that has nothing mostly makes or fetches something first, and what can't be done is mostly let be."""
         kind, number = self.chance.choices(self.kinds, self.weights)[0], self.clone()
+        down = [name for name in self.nodes(number) if self.world.node(world_model.node_of(name, self.count)).is_down]
+        if down and self.odds(0.4):
+            self.say(b"restart", down[0])
         is_new = not self.world.clones[number].refs
         if self.odds(0.9):
             if kind == "deliver" and not self.waiting or kind == "step" and not any(self.world.shared.slots):
@@ -159,10 +169,27 @@ class Script:
         self.order(number, b"push", *[self.item(node) for _ in range(count)])
 
     def one_pack(self, number):
-        self.say(self.chance.choice([b"shared", b"c%d" % number]), b"pack")
+        self.say(self.chance.choice(self.nodes(number)), b"pack")
 
     def one_restart(self, number):
-        self.say(b"restart", self.chance.choice([b"shared", b"c%d" % number]))
+        self.say(b"restart", self.chance.choice(self.nodes(number)))
+
+    def one_stop(self, number):
+        writes = self.chance.choice([b"0", b"0", b"999999999", b"%d" % self.chance.randrange(1, 30)])
+        self.say(b"stop", self.chance.choice(self.nodes(number)), writes)
+
+    def one_forge(self, number):
+        """A message comes once more, but as one that nobody sent: whole, cut, or with a byte that is another, more or less."""
+        messages = [*self.world.messages, (number, "list", ())]
+        clone, kind, content = self.chance.choice(messages[-3:] if self.odds(0.5) else messages)
+        text = world_wire.written(kind, content)
+        at = self.chance.randrange(len(text))
+        byte = self.chance.choice([b"", b"\0", b"\n", b" ", b"0", b"f", bytes([self.chance.randrange(256)])])
+        changed = text[:at] + byte + text[at + self.chance.randrange(2) :]
+        text = self.chance.choice([text, text, text[:at] or text, changed, changed, changed])
+        if len(text) <= LONGEST_FORGED:
+            ends = [b"shared", b"c%d" % (clone if self.odds(0.8) else number)]
+            self.say(b"forge", *(ends if (kind in TO_SHARED) == self.odds(0.95) else ends[::-1]), text.hex().encode())
 
     def one_same(self, number):
         node = self.chance.choice([None, number])
@@ -181,9 +208,11 @@ class Script:
         answer = self.order(number, b"push", *[self.item(self.world.clones[number]) for _ in range(self.chance.choice([1, 1, 2]))])
         if answer.startswith(b"sent "):
             answer = self.say(b"deliver", answer.split()[1])
+        if answer.startswith(b"slot "):
             slot = answer.split()[1]
-            while answer.startswith(b"slot ") or not answer.startswith((b"sent ", b"refused ")):
+            while answer and not answer.startswith((b"sent ", b"refused ", b"fault ")):
                 answer = self.say(b"step", slot)
+        if answer.startswith(b"sent "):
             self.say(b"deliver", answer.split()[1])
 
     def one_write(self, number):
@@ -232,14 +261,16 @@ def damaged(line, chance):
         line + b" ", b" " + line, line + b" x", line + b"\r", b" ".join(words[:-1]), line.replace(b" ", b"  ", 1), b"", line.upper(),
         b"c%d fetch" % chance.choice([16, 99]), b"c01 fetch", b"deliver 1234567890", b"step x", b"restart", b"c0 write blob 4",
         b"c0 write file 41", b"c0 branch %s main" % chance.choice(BAD_NAMES), b"c0 push main:%s" % chance.choice([b"HEAD", b"a", b"", b"refs/heads/a..b"]),
-        b"shared fetch", b"world 1", b"c0 same main", b"prune c0",
+        b"shared fetch", b"world 1", b"c0 same main", b"prune c0", b"stop c0", b"stop shared 1234567890", b"stop c99 0",
+        b"forge shared shared 30", b"forge c0 c0 30", b"forge shared c0 3", b"forge c0 shared 0g", b"forge shared c99 30",
     ])
 
 
 def script(chance):
     it = Script(chance)
     for _ in range(chance.randrange(10, 80)):
-        it.one()
+        if not it.world.is_lost:
+            it.one()
     lines = it.lines
     if chance.random() < 0.04:
         at = chance.randrange(len(lines))

@@ -344,7 +344,7 @@ const FORMS: [Form; 20] = [
     Form {
         name: "world",
         about: "Play a script of a world of nodes in memory, and print what each event is answered",
-        after: "The first line of the script is \"world\" and how many clones there are, 1 to 16; each other line is one event. A clone c0\nwrites, adds, commits, fetches and pushes; \"deliver k\" brings the message of that number to whom it is for; \"step s\" is the\nnext step of the push in that slot of the shared node. There is no store, and nothing is left.\n\nExample: printf 'world 1\\nc0 add f x\\nc0 commit m\\nc0 push main\\ndeliver 0\\n' >script, then vcs world script",
+        after: "The first line of the script is \"world\" and how many clones there are, 1 to 16; each other line is one event. A clone c0\nwrites, adds, commits, fetches and pushes; \"deliver k\" brings the message of that number to whom it is for; \"step s\" is the\nnext step of the push in that slot of the shared node; \"stop c0 n\" lets n more writes pass at a node, until \"restart c0\";\n\"forge shared c0\" and hex digits bring bytes to a node as from the other end. There is no store, and nothing is left.\n\nExample: printf 'world 1\\nc0 add f x\\nc0 commit m\\nc0 push main\\ndeliver 0\\n' >script, then vcs world script",
         arguments: &[Argument {
             id: "file",
             value: "file",

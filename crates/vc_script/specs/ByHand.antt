@@ -1,7 +1,8 @@
 -- What some lines and scripts say, read by hand.
 use Rattle.std.specs.Prelude.{◌≡◌, ℕ, false, List, [], ◌∷◌, codes, Some, None}
 use Rattle.vc_model.specs.ExactWorld.{WorldEvent}
-use Rattle.vc_model.specs.ExactWorld.WorldEvent.{Compares, Delivers, Orders, Packs, Restarts, Steps}
+use Rattle.vc_model.specs.ExactWorld.Letter.{FromClone, FromShared}
+use Rattle.vc_model.specs.ExactWorld.WorldEvent.{Compares, Delivers, Forges, Orders, Packs, Restarts, Steps, Stops}
 use Rattle.vc_model.specs.Order.{Order}
 use Rattle.vc_model.specs.Order.Order.{BranchAt, CommitIndex, DropBranch, Fetch, HeadAt, HeadOn, LoadIndex, PushItems, StageFile, StoreObject, UnstageFile}
 use Rattle.vc_model.specs.World.Party.{TheClone, TheShared}
@@ -53,6 +54,10 @@ EventsByHand =
     × Tells (codes "shared same r s") (Compares TheShared (codes "r") (codes "s"))
     × Tells (codes "c0 pack") (Packs (TheClone 0))
     × Tells (codes "shared pack") (Packs TheShared)
+    × Tells (codes "stop shared 0") (Stops TheShared 0)
+    × Tells (codes "stop c11 012") (Stops (TheClone 11) 12)
+    × Tells (codes "forge shared c3 4a6B") (Forges (FromClone 3 (codes "Jk")))
+    × Tells (codes "forge c3 shared 4a6B") (Forges (FromShared 3 (codes "Jk")))
 
 abbrev pub RefusedByHand : Type 0
 RefusedByHand =
@@ -65,6 +70,15 @@ RefusedByHand =
     × TellsNothing (codes "c0 head b..c")
     × TellsNothing (codes "c0 write blob 4a6")
     × TellsNothing (codes "step 1234567890")
+    × TellsNothing (codes "stop c12 0")
+    × TellsNothing (codes "stop c0")
+    × TellsNothing (codes "stop c0 1234567890")
+    × TellsNothing (codes "forge shared shared 4a")
+    × TellsNothing (codes "forge c0 c1 4a")
+    × TellsNothing (codes "forge c12 shared 4a")
+    × TellsNothing (codes "forge shared c12 4a")
+    × TellsNothing (codes "forge shared c0 4")
+    × TellsNothing (codes "forge shared c0")
     × TellsNothing []
 
 abbrev pub ScriptsByHand : Type 0

@@ -2,8 +2,9 @@
 use Rattle.std.specs.Prelude.{◌++◌, ℕ, false, List, [], ◌∷◌, codes, Option, Some, None, Ok, Err, Result, option_map, if◌then◌else◌}
 use Rattle.std.specs.Str.{bytes_eq}
 use Rattle.hex.specs.Hex.{decode_of}
-use Rattle.vc_model.specs.ExactWorld.{WorldEvent}
-use Rattle.vc_model.specs.ExactWorld.WorldEvent.{Compares, Delivers, Orders, Packs, Restarts, Steps}
+use Rattle.vc_model.specs.ExactWorld.{Letter, WorldEvent}
+use Rattle.vc_model.specs.ExactWorld.Letter.{FromClone, FromShared}
+use Rattle.vc_model.specs.ExactWorld.WorldEvent.{Compares, Delivers, Forges, Orders, Packs, Restarts, Steps, Stops}
 use Rattle.vc_model.specs.Order.{Order}
 use Rattle.vc_model.specs.Order.Order.{BranchAt, CommitIndex, DropBranch, Fetch, HeadAt, HeadOn, LoadIndex, PushItems, StageFile, StoreObject, UnstageFile}
 use Rattle.vc_model.specs.World.{Party}
@@ -143,6 +144,36 @@ restart_in n words = do
   party ← party_in n word
   Some (Restarts party)
 
+-- a node, and how many more writes pass there
+unfoldable pub stop_in : ℕ → List (List ℕ) → Option WorldEvent
+stop_in n words = do
+  parts ← pair words
+  party ← party_in n parts.0
+  writes ← number_in parts.1
+  Some (Stops party writes)
+
+-- bytes to a node, as from the other end: one of the two is the shared node
+abbrev pub letter_in : (to from : Party) → List ℕ → Option Letter
+letter_in TheShared (TheClone c) bytes = Some (FromClone c bytes)
+letter_in (TheClone c) TheShared bytes = Some (FromShared c bytes)
+letter_in TheShared TheShared bytes = None
+letter_in (TheClone c) (TheClone d) bytes = None
+
+unfoldable pub forged : (to from : Party) → List ℕ → Option WorldEvent
+forged to from digits = do
+  bytes ← decoded_in digits
+  letter ← letter_in to from bytes
+  Some (Forges letter)
+
+-- a node, the other end, and the hex digits of the bytes
+unfoldable pub forge_in : ℕ → List (List ℕ) → Option WorldEvent
+forge_in n [] = None
+forge_in n (to ∷ words) = do
+  parts ← pair words
+  receiver ← party_in n to
+  sender ← party_in n parts.0
+  forged receiver sender parts.1
+
 unfoldable pub compare_in : Party → List (List ℕ) → Option WorldEvent
 compare_in party words = do
   parts ← pair words
@@ -176,6 +207,8 @@ event_in n (first ∷ others) =
     if bytes_eq first (codes "deliver") then deliver_in others
     else if bytes_eq first (codes "step") then step_in others
     else if bytes_eq first (codes "restart") then restart_in n others
+    else if bytes_eq first (codes "stop") then stop_in n others
+    else if bytes_eq first (codes "forge") then forge_in n others
     else node_event n first others
 
 -- no word is empty: words are separated by single spaces

@@ -1,13 +1,13 @@
 //! The event that a line tells.
 ghost use Rattle.std.specs.Prelude.{◌≡◌, ℕ, option_map, IfOk, IfSome};
-ghost use Rattle.vc_events.specs.Events.{event_of, IsInWorld, IsParty, party_of};
-ghost use Rattle.vc_script.specs.Lines.{asked_in, compare_in, deliver_in, event_in, line_event, node_event, ordered, pack_in, restart_in, step_in};
+ghost use Rattle.vc_events.specs.Events.{event_of, IsEnd, IsInWorld, IsParty, letter_of, party_of};
+ghost use Rattle.vc_script.specs.Lines.{asked_in, compare_in, deliver_in, event_in, forge_in, forged, letter_in, line_event, node_event, ordered, pack_in, restart_in, step_in, stop_in};
 ghost use Rattle.vc_script.specs.Words.{texts};
 
-use crate::orders::order_in;
+use crate::orders::{decoded_in, order_in};
 use crate::words::{first_of, has_empty, number_in, pair, party_in, sole, words_of};
 use std::alloc::{AllocError, Global};
-use vc_events::{Event, Party};
+use vc_events::{Event, Letter, Party};
 
 #[tactic(auto, unfolding(crate::specs::Lines::deliver_in))]
 fn deliver_in(words: &[&[u8]]) -> Option<Event>
@@ -34,6 +34,71 @@ fn restart_in(clones: usize, words: &[&[u8]]) -> Option<Event>
 {
     let party = party_in(clones, sole(words)?)?;
     Some(Event::Restart(party))
+}
+
+// So many more writes pass at a node.
+#[tactic(auto, unfolding(crate::specs::Lines::stop_in))]
+fn stop_in(clones: usize, words: &[&[u8]]) -> Option<Event>
+    ensures event { option_map event_of result ≡ stop_in clones (texts words.now) }
+    ensures in_world { IfSome result (IsInWorld clones) }
+{
+    let (node, writes) = pair(words)?;
+    let party = party_in(clones, node)?;
+    let writes = number_in(writes)?;
+    Some(Event::Stop(party, writes as u64))
+}
+
+// The letter that brings these bytes to a node from the other end. One of the two is the shared node.
+fn letter_in(to: Party, from: Party, bytes: Vec<u8>) -> Option<Letter>
+    ensures letter { option_map letter_of result ≡ letter_in (party_of to) (party_of from) bytes.items }
+    ensures in_world { (n : ℕ) → IsParty n to → IsParty n from → IfSome result (IsEnd n) }
+{
+    match to {
+        Party::Shared => match from {
+            Party::Shared => None,
+            Party::Clone(clone) => Some(Letter::ToShared(clone, bytes)),
+        },
+        Party::Clone(clone) => match from {
+            Party::Shared => Some(Letter::ToClone(clone, bytes)),
+            Party::Clone(_) => None,
+        },
+    }
+}
+
+// The bytes that hex digits write come to a node as if from the other end.
+#[tactic(auto, unfolding(crate::specs::Lines::forged))]
+fn forged(alloc: Global, to: Party, from: Party, digits: &[u8]) -> Result<Option<Event>, AllocError>
+    ensures event { IfOk result (λ found. option_map event_of found ≡ forged (party_of to) (party_of from) digits.now) }
+    ensures in_world { (n : ℕ) → IsParty n to → IsParty n from → IfOk result (λ found. IfSome found (IsInWorld n)) }
+{
+    let Some(bytes) = decoded_in(alloc, digits)? else {
+        return Ok(None);
+    };
+    let Some(letter) = letter_in(to, from, bytes) else {
+        return Ok(None);
+    };
+    Ok(Some(Event::Forge(letter)))
+}
+
+#[tactic(auto, unfolding(crate::specs::Lines::forge_in))]
+fn forge_in(alloc: Global, clones: usize, words: &[&[u8]]) -> Result<Option<Event>, AllocError>
+    ensures event { IfOk result (λ found. option_map event_of found ≡ forge_in clones (texts words.now)) }
+    ensures in_world { IfOk result (λ found. IfSome found (IsInWorld clones)) }
+{
+    let Some((to, others)) = first_of(words) else {
+        return Ok(None);
+    };
+    let Some((from, digits)) = pair(others) else {
+        return Ok(None);
+    };
+    let Some(to) = party_in(clones, to) else {
+        return Ok(None);
+    };
+    let Some(from) = party_in(clones, from) else {
+        return Ok(None);
+    };
+    let found = forged(alloc, to, from, digits)?;
+    Ok(found)
 }
 
 // The node puts its refs into one file.
@@ -137,6 +202,13 @@ fn event_in(alloc: Global, clones: usize, words: &[&[u8]]) -> Result<Option<Even
     }
     if first == b"restart".as_slice() {
         return Ok(restart_in(clones, others));
+    }
+    if first == b"stop".as_slice() {
+        return Ok(stop_in(clones, others));
+    }
+    if first == b"forge".as_slice() {
+        let found = forge_in(alloc, clones, others)?;
+        return Ok(found);
     }
     let found = node_event(alloc, clones, first, others)?;
     Ok(found)

@@ -70,9 +70,9 @@ fn verb_in(word: &[u8]) -> Option<Verb>
     None
 }
 
-// The bytes that hex digits write.
+/// The bytes that hex digits write.
 #[tactic(auto, unfolding(crate::specs::Lines::decoded_in))]
-fn decoded_in(alloc: Global, digits: &[u8]) -> Result<Option<Vec<u8>>, AllocError>
+pub(crate) fn decoded_in(alloc: Global, digits: &[u8]) -> Result<Option<Vec<u8>>, AllocError>
     ensures { IfOk result (λ found. option_map bytes_in found ≡ decoded_in digits.now) }
 {
     match hex::decode(alloc, digits) {
