@@ -1,8 +1,9 @@
-pub mod SteadyLemmas
+pub mod SpendingLemmas
 pub mod ValueLemmas
 pub mod SharedLemmas
 pub mod ItemLemmas
 pub mod CloneLemmas
+pub mod FuseLemmas
 pub mod OpenLemmas
 pub mod PlayLemmas
 pub mod ScriptLemmas

@@ -1,45 +1,35 @@
 -- A world in memory: the machine's nodes that its nodes are, and what is played in it from its beginning.
-use Rattle.std.specs.Prelude.{◌≡◌, ℕ, false, List, [], Option, if◌then◌else◌, take, vec_len}
-use Rattle.vc_events.specs.Running.{AreApart, IsLengthened}
+use Rattle.std.specs.Prelude.{◌≡◌, ℕ, false, List, [], if◌then◌else◌, take, vec_len}
+use Rattle.vc_events.specs.Calls.{Seen}
+use Rattle.vc_events.specs.Running.{AreApart, IsGuarded, IsLengthened}
 use Rattle.vc_events.specs.World.{HoldsWorld}
 use Rattle.vc_events.specs.declared.answers.Answer.{Answer as WorldAnswer}
 use Rattle.vc_events.specs.declared.events.Event.{Event}
 use Rattle.vc_events.specs.declared.world.World.{World}
 use Rattle.vc_files.specs.Failures.{unstopped}
 use Rattle.vc_files.specs.FileMap.{FileMap}
-use Rattle.vc_files.specs.Fused.{Fused, FusedCanFail, fused_left}
+use Rattle.vc_files.specs.Fused.{Fused}
 use Rattle.vc_wire.proofs.WireLaws.{message_wire}
 use Rattle.vc_model.specs.Clone.{CloneNode}
 use Rattle.vc_model.specs.Exact.{IsUnfused, Shadows}
-use Rattle.vc_model.specs.ExactWorld.{ExactHistory, ExactRun, FusedWorld, fused_after}
+use Rattle.vc_model.specs.ExactWorld.{ExactHistory, ExactRun, FusedWorld, NothingForgedExactly, fused_after}
 use Rattle.vc_model.specs.Run.{History}
 use Rattle.vc_model.specs.Safe.{IsSafe}
 use Rattle.vc_model.specs.Shared.{SharedNode}
 use Rattle.vc_model.specs.World.{IsNew}
 use Rattle.vc_rules.specs.Git.{git}
-use Rattle.vc_simulation.specs.Nodes.{HoldsClone, HoldsServed}
+use Rattle.vc_simulation.specs.Nodes.{seen_cloned, seen_served}
 use Rattle.vc_simulation.specs.declared.memory_world.Played.{Played}
 use Rattle.vc_simulation.specs.declared.world_clone.WorldClone.{WorldClone}
 use Rattle.vc_simulation.specs.declared.world_shared.WorldShared.{WorldShared}
 
--- ---- files in memory, with a fuse
+-- ---- the nodes, over files in memory with a fuse
 
-abbrev pub memory_content : Fused FileMap → FileMap
-memory_content s = s.files
+abbrev pub memory_shared : Seen (WorldShared (Fused FileMap)) SharedNode
+memory_shared = seen_served (λ files. files) (λ _. ⊥) unstopped
 
-abbrev pub MemoryCanFail : Fused FileMap → Type 0
-MemoryCanFail = FusedCanFail (λ _. ⊥) unstopped
-
-abbrev pub memory_left : Fused FileMap → Option ℕ
-memory_left = fused_left unstopped
-
--- ---- the nodes
-
-abbrev pub HoldsMemoryShared : WorldShared (Fused FileMap) → SharedNode → Type 0
-HoldsMemoryShared s n = HoldsServed memory_content MemoryCanFail memory_left s.node n
-
-abbrev pub HoldsMemoryClone : WorldClone (Fused FileMap) → CloneNode → Type 0
-HoldsMemoryClone c n = HoldsClone memory_content MemoryCanFail memory_left c.node n
+abbrev pub memory_clone : Seen (WorldClone (Fused FileMap)) CloneNode
+memory_clone = seen_cloned (λ files. files) (λ _. ⊥) unstopped
 
 -- ---- a play
 
@@ -47,8 +37,9 @@ HoldsMemoryClone c n = HoldsClone memory_content MemoryCanFail memory_left c.nod
 abbrev pub done_by : List Event → Played → List Event
 done_by events played = if played.is_whole then events else take (vec_len played.answers) events
 
--- The headline, from the beginning. A new world of n clones, whose devices do not fail, was led by these events and answers to the
--- world that is held: in a run in which each node answers by the written rules, and a safe one.
+-- The headline, from the beginning. A new world of n clones, whose devices fail only after a stop, was led by these events and answers
+-- to the world that is held: in a run in which each node answers by the written rules, and a guarded one; and if nobody forged what a
+-- clone received, a safe one.
 pub record PlaysSafely (n : ℕ) (es : List Event) (said : List WorldAnswer) (world : World (WorldShared (Fused FileMap)) (WorldClone (Fused FileMap))) : Type 0 where
   pub start : FusedWorld
   pub is_new : IsNew start.world n
@@ -56,5 +47,6 @@ pub record PlaysSafely (n : ℕ) (es : List Event) (said : List WorldAnswer) (wo
   pub unstopped_yet : IsUnfused start
   pub history : ExactHistory
   pub lengthened : IsLengthened start [] es said history
-  pub held : HoldsWorld HoldsMemoryShared HoldsMemoryClone world (fused_after start history)
-  pub safe : AreApart start history → ExactRun git message_wire start history × ((p : History) × Shadows git message_wire start history p × IsSafe git start.world p)
+  pub held : HoldsWorld memory_shared memory_clone world (fused_after start history)
+  pub safe : AreApart start history → ExactRun git message_wire start history
+      × ((p : History) × Shadows git message_wire start history p × IsGuarded start p × (NothingForgedExactly git message_wire history → IsSafe git start.world p))

@@ -1,7 +1,7 @@
 -- Expressions that a node reads before it does what it is told.
 use Rattle.std.specs.Global.{Global}
-use Rattle.std.specs.Prelude.{◌≡◌, ◌≢◌, ◌⊎◌, ℕ, List, [], ◌∷◌, ◌++◌, Contains, Option, None, Some, Ok, Err, Vec, map}
-use Rattle.vc_events.specs.Calls.{CloneCalled}
+use Rattle.std.specs.Prelude.{◌≡◌, ◌≢◌, ◌⊎◌, ℕ, List, [], ◌∷◌, ◌++◌, Bool, Contains, Option, None, Some, Ok, Err, Vec, map}
+use Rattle.vc_events.specs.Calls.{CloneCalled, Seen}
 use Rattle.vc_events.specs.Events.{bytes_in, item_of}
 use Rattle.vc_events.specs.declared.events.NamedItem.{NamedItem}
 use Rattle.vc_sending.specs.Sending.{machine_items}
@@ -23,7 +23,7 @@ use Rattle.vc_object.specs.declared.id.ObjectId.{ObjectId}
 use Rattle.vc_push.specs.Push.{zero_id}
 use Rattle.vc_values.proofs.GitLaws.{git_rules}
 use Rattle.vc_rules.specs.Git.{git}
-use Rattle.vc_simulation.specs.Nodes.{HoldsClone}
+use Rattle.vc_simulation.specs.Nodes.{seen_clone}
 
 -- the value of the text at a repository
 abbrev pub IsValue : List ℕ → ObjectId → Repository → Type 0
@@ -33,24 +33,27 @@ IsValue text id r = git_rules.denotes r text (Ok (bytes_of_id id))
 abbrev pub IsNoValue : List ℕ → Repository → ℕ → Type 0
 IsNoValue text r k = git_rules.denotes r text (Err k)
 
--- Whatever clone was held is held after it; and where it was sound, it is the same one, which is up, and this holds at it.
-pub record Finds {C : Type 0} (holds : C → CloneNode → Type 0) (P : Repository → Type 0) (old new : C) : Type 0 where
-  pub each : (n : CloneNode) → holds old n → (m : CloneNode) × holds new m × (IsSound git n.repository → (m ≡ n) × (n.live ≢ None) × P n.repository)
+-- Whatever clone it was, it is some clone after it; and if it was sound, it is the same one, which is up, and this holds at it. No write
+-- is spent.
+pub record Finds {C : Type 0} (seen : Seen C CloneNode) (P : Repository → Type 0) (old new : C) : Type 0 where
+  pub each : (frail : Bool) (n : CloneNode) → seen.may_be frail old n → (m : CloneNode) × seen.may_be frail new m × (IsSound git n.repository → (m ≡ n) × (n.live ≢ None) × P n.repository)
+  pub unspent : seen.left new ≡ seen.left old
 
 -- The same of a shared node.
-pub record FindsShared {S : Type 0} (holds : S → SharedNode → Type 0) (P : Repository → Type 0) (old new : S) : Type 0 where
-  pub each : (n : SharedNode) → holds old n → (m : SharedNode) × holds new m × (IsSound git n.repository → IsBare git n.repository → (m ≡ n) × (n.live ≢ None) × P n.repository)
+pub record FindsShared {S : Type 0} (seen : Seen S SharedNode) (P : Repository → Type 0) (old new : S) : Type 0 where
+  pub each : (frail : Bool) (n : SharedNode) → seen.may_be frail old n → (m : SharedNode) × seen.may_be frail new m × (IsSound git n.repository → IsBare git n.repository → (m ≡ n) × (n.live ≢ None) × P n.repository)
+  pub unspent : seen.left new ≡ seen.left old
 
 -- a clone that is up is interrupted, or refused with a number of which this holds
 abbrev pub Fails : (Repository → ℕ → Type 0) → CloneNode → CloneCall → Type 0
 Fails P n i = (n.live ≢ None) × ((i ≡ Asks Interrupted) ⊎ ((k : ℕ) × P n.repository k × (i ≡ Asks (Unresolved k))))
 
--- so it is of a clone that files hold, on a device that neither fails nor stops
+-- so it is of a clone that files hold
 abbrev pub FindsThere : {F : Type 0} → (F → FileMap) → (F → Type 0) → (F → Option ℕ) → (Repository → Type 0) → Held F → Held F → Type 0
-FindsThere content can_fail left P old new = Finds (λ v n. HoldsClone content can_fail left v n) P old new
+FindsThere content can_fail left P old new = Finds (seen_clone content can_fail left) P old new
 
 abbrev pub Called : {F : Type 0} → (F → FileMap) → (F → Type 0) → (F → Option ℕ) → (CloneNode → CloneCall → Type 0) → (Answer → Option Message → Type 0) → Held F → Held F → Type 0
-Called content can_fail left calls shows old new = CloneCalled (λ v n. HoldsClone content can_fail left v n) calls shows old new
+Called content can_fail left calls shows old new = CloneCalled (seen_clone content can_fail left) calls shows old new
 
 -- the call that the machine's order comes to
 abbrev pub Obeys : Order → CloneNode → CloneCall → Type 0

@@ -1,25 +1,21 @@
 // A world in memory, from its beginning.
 ghost use Rattle.std.specs.FinMap.{empty as no_files};
 ghost use Rattle.std.specs.List.{AllByRecursion};
-ghost use Rattle.std.specs.Prelude.{◌≡◌, ◌<◌, All, IfErr, IfOk, length};
+ghost use Rattle.std.specs.Prelude.{◌≡◌, ◌⊎◌, ◌+◌, ◌<◌, All, IfErr, IfOk, false, length};
 ghost use Rattle.vc_events.specs.Events.{IsInWorld};
-ghost use Rattle.vc_events.specs.World.{IsNewWorld, clones_of, fresh_clone, fresh_shared};
-ghost use Rattle.vc_simulation.specs.Memory.{HoldsMemoryClone, HoldsMemoryShared, MemoryCanFail, PlaysSafely, done_by, memory_content, memory_left};
-ghost use Rattle.vc_simulation.specs.Nodes.{IsSteady, IsWantOfMemory};
+ghost use Rattle.vc_events.specs.World.{IsFull, IsNewWorld, clones_of};
+ghost use Rattle.vc_simulation.specs.Memory.{PlaysSafely, done_by, memory_clone, memory_shared};
 
-use crate::{WorldClone, WorldShared};
+use crate::{FileWorld, world_over};
 use std::alloc::Global;
-use vc_events::{Answer, Event, World};
+use vc_events::{Answer, Event};
 use vc_files::{Fault, FusedFiles, MemoryFiles};
-use vc_local::NodeFault;
-use vc_object_map::StoreFault;
-use vc_refs::RefFault;
 
-/// Files in memory, for which a stop could be set.
+/// Files in memory, for which a stop can be set.
 pub type MemoryDevice = FusedFiles<MemoryFiles>;
 
 /// A world whose nodes keep their files in memory.
-pub type MemoryWorld = World<WorldShared<MemoryDevice>, WorldClone<MemoryDevice>>;
+pub type MemoryWorld = FileWorld<MemoryFiles>;
 
 /// What came of events in a new world.
 #[derive(Drop)]
@@ -32,68 +28,30 @@ pub struct Played {
     pub is_whole: bool,
 }
 
-// No files yet, and no stop set.
-fn new_device(alloc: Global) -> MemoryDevice
-    ensures none { memory_content result ≡ no_files }
-    ensures steady { IsSteady MemoryCanFail memory_left result }
-{
-    FusedFiles::new(MemoryFiles::new(alloc))
-}
-
-// The fault for which no files were opened, which is one of memory.
-fn memory_of(fault: &NodeFault) -> Fault
-    requires { IsWantOfMemory fault.now }
-    ensures { result ≡ Fault.Memory }
-{
-    match fault {
-        NodeFault::Store(StoreFault::Fault(fault)) => *fault,
-        NodeFault::Ref(RefFault::Fault(fault)) => *fault,
-        _ => Fault::Memory,
-    }
-}
-
-fn new_shared(alloc: Global) -> Result<WorldShared<MemoryDevice>, Fault>
-    ensures new { IfOk result (λ shared. HoldsMemoryShared shared fresh_shared) }
+// Files for the shared node and so many clones, with nothing stored in them.
+fn empty_files(alloc: Global, clones: usize) -> Result<Vec<MemoryFiles>, Fault>
+    ensures empty { IfOk result (λ files. AllByRecursion (λ f. f ≡ no_files) files.items) }
+    ensures count { IfOk result (λ files. length files.items ≡ clones + 1) }
     ensures fault { IfErr result (λ e. e ≡ Fault.Memory) }
 {
-    match WorldShared::open(alloc, new_device(alloc)) {
-        Ok(shared) => Ok(shared),
-        Err(back) => Err(memory_of(&back.1)),
+    let mut files = Vec::new(alloc);
+    files.push(MemoryFiles::new(alloc))?;
+    for _ in 0..clones {
+        files.push(MemoryFiles::new(alloc))?;
     }
+    Ok(files)
 }
 
-fn new_clone(alloc: Global) -> Result<WorldClone<MemoryDevice>, Fault>
-    ensures new { IfOk result (λ clone. HoldsMemoryClone clone fresh_clone) }
-    ensures fault { IfErr result (λ e. e ≡ Fault.Memory) }
-{
-    match WorldClone::open(alloc, new_device(alloc)) {
-        Ok(clone) => Ok(clone),
-        Err(back) => Err(memory_of(&back.1)),
-    }
-}
-
-fn new_clones(alloc: Global, count: usize) -> Result<Vec<WorldClone<MemoryDevice>>, Fault>
-    ensures new { IfOk result (λ clones. AllByRecursion (λ c. HoldsMemoryClone c fresh_clone) clones.items) }
-    ensures count { IfOk result (λ clones. length clones.items ≡ count) }
-    ensures fault { IfErr result (λ e. e ≡ Fault.Memory) }
-{
-    let mut clones = Vec::new(alloc);
-    for _ in 0..count {
-        clones.push(new_clone(alloc)?)?;
-    }
-    Ok(clones)
-}
-
-/// A new world in memory, of a shared node and so many clones, each over files that no stop is set for.
+/// A new world in memory, of a shared node and so many clones, each over files that no stop is set for yet.
 pub fn new_world(alloc: Global, clones: usize) -> Result<MemoryWorld, Fault>
     requires some { 0 < clones }
-    ensures new { IfOk result (λ world. IsNewWorld HoldsMemoryShared HoldsMemoryClone clones world) }
+    ensures new { IfOk result (λ world. IsNewWorld memory_shared memory_clone clones false world) }
     ensures count { IfOk result (λ world. clones_of world ≡ clones) }
     ensures fault { IfErr result (λ e. e ≡ Fault.Memory) }
 {
-    let shared = new_shared(alloc)?;
-    let nodes = new_clones(alloc, clones)?;
-    Ok(World::over(alloc, shared, nodes))
+    let files = empty_files(alloc, clones)?;
+    let world = world_over(alloc, files)?;
+    Ok(world)
 }
 
 /// The events, one after the other, in a new world in memory of so many clones. A fault that comes before the first event ends it; a
@@ -102,6 +60,7 @@ pub fn run_new_world(alloc: Global, clones: usize, events: &[Event]) -> Result<P
     requires some { 0 < clones }
     requires events { All (IsInWorld clones) events.now }
     ensures safe { IfOk result (λ played. PlaysSafely clones (done_by events.now played) played.answers.items played.world) }
+    ensures full { IfOk result (λ played. played.is_whole ≡ false → IsFull played.answers ⊎ IsFull played.world.letters) }
     ensures fault { IfErr result (λ e. e ≡ Fault.Memory) }
 {
     let mut world = new_world(alloc, clones)?;

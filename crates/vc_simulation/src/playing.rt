@@ -1,6 +1,6 @@
 // A script, played in a new world.
-ghost use Rattle.std.specs.Prelude.{◌≡◌, ◌⊎◌, Err, OnErr, OnOk};
-ghost use Rattle.vc_script.specs.Script.{IsNoScript};
+ghost use Rattle.std.specs.Prelude.{◌≡◌, ◌⊎◌, Err, IfErr, OnErr, OnOk};
+ghost use Rattle.vc_script.specs.Script.{IsNoScript, IsReadFault};
 ghost use Rattle.vc_script.specs.declared.fault.ScriptFault.TheVariants.{BadScript};
 ghost use Rattle.vc_simulation.specs.Playing.{Plays, PlaysFront};
 
@@ -16,6 +16,7 @@ pub fn run_script(alloc: Global, text: &[u8], output: &mut Vec<u8>) -> Result<()
     ensures plays { OnOk result (Plays text.now output.old.items output.new.items) }
     ensures refused { result ≡ Err BadScript → IsNoScript text.now × (output.new.items ≡ output.old.items) }
     ensures fault { OnErr result ((output.new.items ≡ output.old.items) ⊎ PlaysFront text.now output.old.items output.new.items) }
+    ensures only { IfErr result IsReadFault }
 {
     let script = match read_script(alloc, text) {
         Ok(script) => script,

@@ -1,11 +1,12 @@
 // A clone of a world, over files, as events call it.
 ghost use Rattle.std.specs.FinMap.{empty as no_files};
-ghost use Rattle.std.specs.Prelude.{◌≡◌, ◌≢◌, ◌+◌, [], Err, IfErr, IfOk, OnOk, length, map, true, false};
+ghost use Rattle.std.specs.Prelude.{◌≡◌, ◌≢◌, ◌+◌, [], Bool, Err, IfErr, IfOk, OnOk, length, map, true, false};
 ghost use Rattle.vc_events.specs.Answers.{Shows};
 ghost use Rattle.vc_events.specs.Calls.{IsOnly};
 ghost use Rattle.vc_events.specs.Events.{IsBranch, bytes_in, item_of};
 ghost use Rattle.vc_events.specs.World.{fresh_clone};
 ghost use Rattle.vc_sending.specs.Sending.{machine_items};
+ghost use Rattle.vc_model.specs.Clone.{CloneNode as MachineClone};
 ghost use Rattle.vc_model.specs.Clone.Task.{StartPush};
 ghost use Rattle.vc_model.specs.CloneCall.CloneCall.{Command};
 ghost use Rattle.vc_model.specs.Order.Order.{BranchAt, CommitIndex, DropBranch, Fetch, HeadAt, HeadOn, LoadIndex, PushItems, StageFile, StoreObject, UnstageFile};
@@ -13,7 +14,7 @@ ghost use Rattle.vc_model.specs.Repository.{Repository};
 ghost use Rattle.vc_local.specs.Blames.{BlamesOpen};
 ghost use Rattle.vc_local.specs.Opening.{IsOpenable, OpenableAs, opened_node};
 ghost use Rattle.vc_rules.specs.Git.{machine_object, mode_number};
-ghost use Rattle.vc_simulation.specs.Nodes.{HoldsClone, IsSteady, IsWantOfMemory};
+ghost use Rattle.vc_simulation.specs.Nodes.{BeginsAs, IsFaultOf, IsReady, seen_clone};
 ghost use Rattle.vc_simulation.specs.Values.{AreIds, AreNoIds, AreNotPushed, ArePushed, Called, Fails, FindsThere, HasZero, IsItemFor, IsNoItem, IsNoValue, IsOneMore, IsOneMoreItem, IsValue, Obeys};
 
 use crate::ends::{
@@ -22,7 +23,7 @@ use crate::ends::{
 use std::alloc::Global;
 use vc_events::{CloneCalls, Deed, Ended, NamedItem, Order, Told};
 use vc_expression::{ParseFault, parse};
-use vc_files::{Fault, Files};
+use vc_files::{Fault, Files, FusedFiles};
 use vc_local::NodeFault;
 use vc_node::CloneNode;
 use vc_object::{Kind, Mode, ObjectId};
@@ -51,14 +52,14 @@ fn has_zero(items: &[PushItem]) -> bool
 }
 
 impl<F: Files> WorldClone<F> {
-    /// The clone that these files hold, up and awaiting nothing. Where there are none yet, it is a new one. Files that are none of a
-    /// clone's (33 and 34: HEAD, 62: the index) are handed back, and so are they where a fault comes: what
+    /// The clone that these files hold, up and awaiting nothing. If there are none yet, it is a new one. Files that are none of a
+    /// clone's (33 and 34: HEAD, 62: the index) are handed back, and so are they if a fault comes: what
     /// could be opened can be then too.
     pub fn open(alloc: Global, files: F) -> Result<WorldClone<F>, (F, NodeFault)>
-        ensures opens { F.honest → IsSteady F.can_fail F.left files → OpenableAs (F.content files) (λ r. IfOk result (λ clone. HoldsClone F.content F.can_fail F.left clone.node (opened_node r))) }
-        ensures new { F.honest → IsSteady F.can_fail F.left files → F.content files ≡ no_files → IfOk result (λ clone. HoldsClone F.content F.can_fail F.left clone.node fresh_clone) }
+        ensures opens { F.honest → (frail : Bool) → IsReady F.can_fail F.left frail files → OpenableAs (F.content files) (λ r. IfOk result (λ clone. BeginsAs (seen_clone F.content F.can_fail F.left) frail clone.node (opened_node r))) }
+        ensures new { F.honest → (frail : Bool) → IsReady F.can_fail F.left frail files → F.content files ≡ no_files → IfOk result (λ clone. BeginsAs (seen_clone F.content F.can_fail F.left) frail clone.node fresh_clone) }
         ensures refused { F.honest → IfErr result (λ e. BlamesOpen (F.content files) e.1) }
-        ensures memory { F.honest → IsSteady F.can_fail F.left files → F.content files ≡ no_files → IfErr result (λ e. IsWantOfMemory e.1) }
+        ensures fault { F.honest → (frail : Bool) → IsReady F.can_fail F.left frail files → OpenableAs (F.content files) (λ r. IfErr result (λ e. IsFaultOf frail e.1)) }
         ensures err { F.honest → (r : Repository) → IsOpenable (F.content files) r → IfErr result (λ e. IsOpenable (F.content e.0) r) }
     {
         match CloneNode::open(alloc, files) {
@@ -330,12 +331,42 @@ impl<F: Files> WorldClone<F> {
     }
 }
 
-impl<F: Files> CloneCalls for WorldClone<F> {
-    ghost use Rattle.vc_simulation.specs.Nodes.{HoldsClone};
+impl<F: Files> WorldClone<FusedFiles<F>> {
+    ghost use Rattle.vc_rules.specs.Stops.{IsBelow};
+    ghost use Rattle.vc_simulation.specs.Nodes.{seen_cloned};
+
+    /// The clone that these files hold, for which a stop can be set, and none is set yet. Files that can't be opened are handed back:
+    /// see [`open`](WorldClone::open).
+    pub fn over(alloc: Global, files: F) -> Result<WorldClone<FusedFiles<F>>, (F, NodeFault)>
+        ensures opens { F.honest → (frail : Bool) → IsBelow F.can_fail F.left frail → OpenableAs (F.content files) (λ r. IfOk result (λ clone. BeginsAs (seen_cloned F.content F.can_fail F.left) frail clone (opened_node r))) }
+        ensures new { F.honest → (frail : Bool) → IsBelow F.can_fail F.left frail → F.content files ≡ no_files → IfOk result (λ clone. BeginsAs (seen_cloned F.content F.can_fail F.left) frail clone fresh_clone) }
+        ensures fault { F.honest → (frail : Bool) → IsBelow F.can_fail F.left frail → OpenableAs (F.content files) (λ r. IfErr result (λ e. IsFaultOf frail e.1)) }
+        ensures refused { F.honest → IfErr result (λ e. BlamesOpen (F.content files) e.1) }
+        ensures err { F.honest → (r : Repository) → IsOpenable (F.content files) r → IfErr result (λ e. IsOpenable (F.content e.0) r) }
+    {
+        let device = FusedFiles::new(files);
+        match WorldClone::open(alloc, device) {
+            Ok(clone) => Ok(clone),
+            Err((device, fault)) => Err((device.into_inner(), fault)),
+        }
+    }
+
+    /// The files without the fuse, as a restart finds them, whatever state the clone is in. They can be opened as its repository.
+    pub fn into_files(self) -> F
+        ensures files { result ≡ self.node.files.files }
+        ensures opens { (frail : Bool) (n : MachineClone) → (seen_cloned F.content F.can_fail F.left).may_be frail self n → IsOpenable (F.content result) n.repository }
+    {
+        let WorldClone { node } = self;
+        node.close().into_inner()
+    }
+}
+
+impl<F: Files> CloneCalls for WorldClone<FusedFiles<F>> {
+    ghost use Rattle.vc_simulation.specs.Nodes.{seen_cloned};
 
     ghost honest = { F.honest };
 
-    ghost holds = { λ s n. HoldsClone F.content F.can_fail F.left s.node n };
+    ghost seen = { seen_cloned F.content F.can_fail F.left };
 
     fn obey(&mut self, alloc: Global, order: &Order) -> Result<Told, Ended> {
         if !self.node.is_up() {
@@ -387,8 +418,14 @@ impl<F: Files> CloneCalls for WorldClone<F> {
         restarted(called)
     }
 
+    // The process that was stopped is another one then, over what it has stored.
     fn reopen(&mut self) -> Result<Told, Ended> {
+        self.node.mend();
         let called = self.node.restart();
         restarted(called)
+    }
+
+    fn stop(&mut self, writes: u64) {
+        self.node.stop_after(writes);
     }
 }

@@ -1,4 +1,8 @@
-use Rattle.std.proofs.Common.{inr}
+use Rattle.std.proofs.Common.{◌≡◌, Err, inr, refl, rules}
+use Rattle.vc_files.specs.declared.faults.Fault.TheVariants.{Memory}
+use Rattle.vc_script.specs.Script.{IsReadFault}
+use Rattle.vc_script.specs.declared.fault.ScriptFault.TheVariants.{Fault as Failed}
+use Rattle.vc_simulation.proofs.PlayLemmas.{by_error}
 use Rattle.vc_simulation.proofs.ScriptLemmas.{all_first, on_error, told_front, told_whole}
 use Rattle.vc_simulation.proofs.playing.run_script.Goals as goal
 
@@ -20,3 +24,8 @@ returns-clause-fault c =
     (rw c.deref.ensures.value at c.in-Ok-run_new_world.ensures.safe)
     (all_first c.in-Ok-run_new_world.played.world.letters.items c.in-Ok-run_new_world.played.answers.items c.args.output.now.items c.add_lines.new.text.items
     (rw c.letters.ensures at (rw c.deref-2.ensures.value at c.in_ok-add_lines.ensures.lines))))
+
+pub returns-in_err-add_lines-clause-only : goal.returns-in_err-add_lines-clause-only
+returns-in_err-add_lines-clause-only c =
+    let is : c.from_residual.result ≡ Err (Failed Memory) = search rules in
+    by_error IsReadFault c.from_residual.result (Failed Memory) is refl

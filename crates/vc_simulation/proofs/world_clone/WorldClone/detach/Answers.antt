@@ -1,12 +1,11 @@
-use Rattle.std.proofs.Common.{Err, Ok, refl}
+use Rattle.std.proofs.Common.{[], Err, Ok, refl}
 use Rattle.vc_format.specs.Git.{bytes_of_id}
 use Rattle.vc_model.specs.Clone.Task.{MoveHead}
 use Rattle.vc_model.specs.Order.Order.{HeadAt}
 use Rattle.vc_model.specs.Refs.Head.{Detached}
 use Rattle.vc_local.specs.Machine.{done_answer}
 use Rattle.vc_local.specs.NodeFault.{TellsDevice}
-use Rattle.vc_simulation.proofs.CloneLemmas.{finding, sound_order, unread_order}
-use Rattle.vc_simulation.proofs.SteadyLemmas.{written_steady}
+use Rattle.vc_simulation.proofs.CloneLemmas.{commanding, finding, sound_order, unread_order}
 use Rattle.vc_simulation.specs.Values.{IsNoValue, IsValue}
 use Rattle.vc_simulation.proofs.world_clone.WorldClone.detach.Goals as goal
 
@@ -15,7 +14,7 @@ returns-in-Err g c = record { answers = λ honest. unread_order g.F.Files.conten
 
 pub returns : goal.returns
 returns g c = record {
-  answers = λ honest. sound_order g.F.Files.content g.F.Files.can_fail g.F.Files.left (IsValue c.args.text.now c.in-Ok.id) c.args.self.now.node c.value.new.self.node c.set_head-called.new.self (MoveHead (Detached c.in-Ok.id.0)) (HeadAt c.args.text.now) (done_answer c.set_head-called.result) (TellsDevice c.set_head-called.result) c.done.result
+  answers = λ honest. sound_order g.F.Files.honest g.F.Files.content g.F.Files.failed g.F.Files.can_fail g.F.Files.left (IsValue c.args.text.now c.in-Ok.id) c.args.self.now.node c.value.new.self.node c.set_head-called.new.self (MoveHead (Detached c.in-Ok.id.0)) (HeadAt c.args.text.now) (done_answer c.set_head-called.result) (TellsDevice c.set_head-called.result) c.done.result honest
       (finding g.F.Files.content g.F.Files.can_fail g.F.Files.left (IsValue c.args.text.now) c.value.result c.in-Ok.id _ _ c.in-Ok.is (c.value.ensures.found honest))
-      (c.set_head-called.ensures.answers honest).held c.set_head-called.ensures.settles.awaits (written_steady g.F.Files.honest g.F.Files.content g.F.Files.failed g.F.Files.can_fail g.F.Files.left _ _ _ c.set_head-called.ensures.wear) c.done.ensures (λ s p. (Ok (bytes_of_id c.in-Ok.id), p, refl));
+      (c.set_head-called.ensures.answers honest).held c.set_head-called.ensures.settles.awaits (commanding g.F.Files.honest g.F.Files.content g.F.Files.failed g.F.Files.can_fail g.F.Files.left _ _ _ c.set_head-called.result [] c.set_head-called.ensures.wear c.set_head-called.ensures.settles (c.set_head-called.ensures.kept honest).clean (c.set_head-called.ensures.looks honest)) c.done.ensures (λ s p. (Ok (bytes_of_id c.in-Ok.id), p, refl));
 }

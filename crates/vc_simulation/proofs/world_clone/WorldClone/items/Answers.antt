@@ -3,7 +3,7 @@ use Rattle.vc_events.specs.Answers.{Shows}
 use Rattle.vc_events.specs.Calls.{CloneCalled}
 use Rattle.vc_events.specs.declared.events.NamedItem.{NamedItem}
 use Rattle.vc_simulation.proofs.CloneLemmas.{failure, items_fail, items_more, items_none, items_whole}
-use Rattle.vc_simulation.specs.Nodes.{HoldsClone}
+use Rattle.vc_simulation.specs.Nodes.{seen_clone}
 use Rattle.vc_simulation.specs.Values.{Fails, IsNoItem}
 use Rattle.vc_simulation.proofs.world_clone.WorldClone.items.Goals as goal
 
@@ -22,10 +22,10 @@ returns-clause-found g c honest = items_whole g.F.Files.content g.F.Files.can_fa
 
 pub returns-in-Err-clause-err : goal.returns-in-Err-clause-err
 returns-in-Err-clause-err g c honest =
-    let fails : CloneCalled (λ v n. HoldsClone g.F.Files.content g.F.Files.can_fail g.F.Files.left v n) (Fails (IsNoItem c.one-item.result)) (Shows (Err c.in-Err.end)) c.loop-one.self.node c.add_item.new.self.node
+    let fails : CloneCalled (seen_clone g.F.Files.content g.F.Files.can_fail g.F.Files.left) (Fails (IsNoItem c.one-item.result)) (Shows (Err c.in-Err.end)) c.loop-one.self.node c.add_item.new.self.node
     = failure g.F.Files.content g.F.Files.can_fail g.F.Files.left (IsNoItem c.one-item.result) (IsNoItem c.one-item.result) c.add_item.result c.in-Err.end _ _ c.in-Err.is (λ r k p. p) (c.add_item.ensures.err honest) in
     items_fail g.F.Files.content g.F.Files.can_fail g.F.Files.left c.args.named.now c.loop-one.one-index c.one-item.result c.loop-one.items.items c.in-Err.end c.args.self.now.node c.loop-one.self.node c.add_item.new.self.node c.loop-one-test.true
-    (c.loop-one.invariant.found honest) (subst (λ (n : NamedItem). CloneCalled (λ v n. HoldsClone g.F.Files.content g.F.Files.can_fail g.F.Files.left v n) (Fails (IsNoItem n)) (Shows (Err c.in-Err.end)) c.loop-one.self.node c.add_item.new.self.node) c.one-item.is fails)
+    (c.loop-one.invariant.found honest) (subst (λ (n : NamedItem). CloneCalled (seen_clone g.F.Files.content g.F.Files.can_fail g.F.Files.left) (Fails (IsNoItem n)) (Shows (Err c.in-Err.end)) c.loop-one.self.node c.add_item.new.self.node) c.one-item.is fails)
 
 pub loop-one-preserved : goal.loop-one-preserved
 loop-one-preserved g c = record {

@@ -4,7 +4,7 @@ use Rattle.vc_sending.specs.Sending.{machine_items}
 use Rattle.vc_model.specs.Clone.Task.{StartPush}
 use Rattle.vc_model.specs.Order.Order.{PushItems}
 use Rattle.vc_simulation.proofs.CloneLemmas.{finding, ordered, unread_order}
-use Rattle.vc_simulation.specs.Nodes.{HoldsClone}
+use Rattle.vc_simulation.specs.Nodes.{seen_clone}
 use Rattle.vc_simulation.specs.Values.{AreNotPushed, ArePushed}
 use Rattle.vc_simulation.proofs.world_clone.WorldClone.push.Goals as goal
 
@@ -13,7 +13,7 @@ returns-in-Err g c = record { answers = λ honest. unread_order g.F.Files.conten
 
 pub returns-in-Ok : goal.returns-in-Ok
 returns-in-Ok g c = record {
-  answers = λ honest. ordered (λ v n. HoldsClone g.F.Files.content g.F.Files.can_fail g.F.Files.left v n) (ArePushed c.args.named.now c.in-Ok.items.items) (StartPush false (machine_items c.deref.result.now)) (PushItems false (map item_of c.args.named.now)) _ c.args.self.now.node c.items.new.self.node _
+  answers = λ honest. ordered (seen_clone g.F.Files.content g.F.Files.can_fail g.F.Files.left) (ArePushed c.args.named.now c.in-Ok.items.items) (StartPush false (machine_items c.deref.result.now)) (PushItems false (map item_of c.args.named.now)) _ c.args.self.now.node c.items.new.self.node _
       (finding g.F.Files.content g.F.Files.can_fail g.F.Files.left (λ items. ArePushed c.args.named.now items.items) c.items.result c.in-Ok.items _ _ c.in-Ok.is (c.items.ensures.found honest))
       (c.start_push.ensures.answers honest) (λ s p. (_, p, search rules));
 }

@@ -4,9 +4,8 @@ use Rattle.vc_model.specs.Clone.Task.{StartPush}
 use Rattle.vc_model.specs.CloneCall.CloneCall.{Command}
 use Rattle.vc_node.specs.CloneCalls.{SentAs}
 use Rattle.vc_node.specs.CloneFaults.{TellsDevice}
-use Rattle.vc_simulation.proofs.CloneLemmas.{exchange_called, zero_push}
+use Rattle.vc_simulation.proofs.CloneLemmas.{exchange_called, sending, zero_push}
 use Rattle.vc_simulation.proofs.ItemLemmas.{no_zero_pushed}
-use Rattle.vc_simulation.proofs.SteadyLemmas.{worn_steady}
 use Rattle.vc_simulation.proofs.world_clone.WorldClone.start_push.Goals as goal
 
 pub returns-then-has_zero : goal.returns-then-has_zero
@@ -14,6 +13,6 @@ returns-then-has_zero g c = record { answers = λ honest. zero_push g.F.Files.co
 
 pub returns : goal.returns
 returns g c = record {
-  answers = λ honest. exchange_called g.F.Files.content g.F.Files.can_fail g.F.Files.left _ _ (Command (StartPush false (machine_items c.args.items.now))) (SentAs c.start_push-called.result) (TellsDevice c.start_push-called.result) _
-      (c.start_push-called.ensures.answers honest (no_zero_pushed c.args.items.now (c.has_zero.ensures.none (search rules)))) (worn_steady g.F.Files.failed g.F.Files.can_fail g.F.Files.left _ _ _ c.start_push-called.ensures.wear) c.sent.ensures;
+  answers = λ honest. exchange_called g.F.Files.honest g.F.Files.content g.F.Files.failed g.F.Files.can_fail g.F.Files.left _ _ (Command (StartPush false (machine_items c.args.items.now))) (SentAs c.start_push-called.result) (TellsDevice c.start_push-called.result) _ honest (λ h. absurd (cc))
+      (c.start_push-called.ensures.answers honest (no_zero_pushed c.args.items.now (c.has_zero.ensures.none (search rules)))) (sending g.F.Files.honest g.F.Files.content g.F.Files.failed g.F.Files.can_fail g.F.Files.left _ _ _ c.start_push-called.result c.start_push-called.ensures.wear c.start_push-called.ensures.same c.start_push-called.ensures.settles) c.sent.ensures;
 }

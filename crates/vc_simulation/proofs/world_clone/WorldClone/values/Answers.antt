@@ -2,7 +2,7 @@ use Rattle.std.proofs.Common.{ℕ, List, Err, Vec, Global, rules, subst, arith}
 use Rattle.vc_simulation.proofs.CloneLemmas.{failure, ids_fail, ids_more, ids_none, ids_whole}
 use Rattle.vc_events.specs.Answers.{Shows}
 use Rattle.vc_events.specs.Calls.{CloneCalled}
-use Rattle.vc_simulation.specs.Nodes.{HoldsClone}
+use Rattle.vc_simulation.specs.Nodes.{seen_clone}
 use Rattle.vc_simulation.specs.Values.{Fails, IsNoValue}
 use Rattle.vc_simulation.proofs.world_clone.WorldClone.values.Goals as goal
 
@@ -27,8 +27,8 @@ returns-clause-found g c honest = ids_whole g.F.Files.content g.F.Files.can_fail
 
 pub returns-in-Err-clause-err : goal.returns-in-Err-clause-err
 returns-in-Err-clause-err g c honest =
-    let fails : CloneCalled (λ v n. HoldsClone g.F.Files.content g.F.Files.can_fail g.F.Files.left v n) (Fails (IsNoValue c.text-item.result.items)) (Shows (Err c.in-Err.end)) c.loop-text.self.node c.add_value.new.self.node
+    let fails : CloneCalled (seen_clone g.F.Files.content g.F.Files.can_fail g.F.Files.left) (Fails (IsNoValue c.text-item.result.items)) (Shows (Err c.in-Err.end)) c.loop-text.self.node c.add_value.new.self.node
     = failure g.F.Files.content g.F.Files.can_fail g.F.Files.left (IsNoValue c.deref.result.now) (IsNoValue c.text-item.result.items) c.add_value.result c.in-Err.end _ _ c.in-Err.is
     (λ r k p. subst (λ (t : List ℕ). IsNoValue t r k) c.deref.ensures.value p) (c.add_value.ensures.err honest) in
     ids_fail g.F.Files.content g.F.Files.can_fail g.F.Files.left c.args.texts.now c.loop-text.text-index c.text-item.result c.loop-text.ids.items c.in-Err.end c.args.self.now.node c.loop-text.self.node c.add_value.new.self.node c.loop-text-test.true
-    (c.loop-text.invariant.found honest) (subst (λ (t : Vec ℕ Global). CloneCalled (λ v n. HoldsClone g.F.Files.content g.F.Files.can_fail g.F.Files.left v n) (Fails (IsNoValue t.items)) (Shows (Err c.in-Err.end)) c.loop-text.self.node c.add_value.new.self.node) c.text-item.is fails)
+    (c.loop-text.invariant.found honest) (subst (λ (t : Vec ℕ Global). CloneCalled (seen_clone g.F.Files.content g.F.Files.can_fail g.F.Files.left) (Fails (IsNoValue t.items)) (Shows (Err c.in-Err.end)) c.loop-text.self.node c.add_value.new.self.node) c.text-item.is fails)
