@@ -10,7 +10,7 @@ use std::alloc::{AllocError, Global};
 use std::fmt::Write;
 use vc_expression::parse;
 use vc_node::{CloneFault, CloneNode, Received};
-use vc_object::{Mode, ObjectId};
+use vc_object::{Kind, Mode, ObjectId};
 use vc_refname::RefName;
 use vc_sending::PushItem;
 
@@ -73,6 +73,42 @@ fn add(
     let (path, words) = text.split_once(' ').unwrap_or((text, ""));
     let bytes = Vec::unescape_bytes(alloc, words)?;
     push_done(out, &node.add(path.as_bytes(), Mode::File, &bytes))
+}
+
+// The word of a kind and a body: the object is stored.
+fn store(
+    out: &mut String,
+    alloc: Global,
+    node: &mut CloneNode<Device>,
+    text: &str,
+) -> Result<(), AllocError> {
+    let (word, body) = text.split_once(' ').unwrap_or((text, ""));
+    let Some(kind) = Kind::from_word(word.as_bytes()) else {
+        return out.push_str("no kind");
+    };
+    let body = Vec::unescape_bytes(alloc, body)?;
+    push_found(out, &node.write(kind, &body))
+}
+
+// The index becomes that of the tree with this id.
+fn load(out: &mut String, node: &mut CloneNode<Device>, digits: &str) -> Result<(), AllocError> {
+    match ObjectId::from_hex(digits.as_bytes()) {
+        Some(id) => push_done(out, &node.load_tree(&id)),
+        None => out.push_str("no id"),
+    }
+}
+
+// The branch of this name goes.
+fn delete(
+    out: &mut String,
+    alloc: Global,
+    node: &mut CloneNode<Device>,
+    name: &str,
+) -> Result<(), AllocError> {
+    match branch_of(alloc, name) {
+        Some(name) => push_done(out, &node.delete_branch(&name)),
+        None => out.push_str("no branch"),
+    }
 }
 
 // A branch and an id.
@@ -174,9 +210,13 @@ fn call(
     text: &str,
 ) -> Result<(), AllocError> {
     match verb {
+        "write" => store(out, alloc, node, text),
+        "load" => load(out, node, text),
         "add" => add(out, alloc, node, text),
+        "unstage" => push_done(out, &node.unstage(text.as_bytes())),
         "commit" => commit(out, node, text),
         "branch" => branch(out, alloc, node, text),
+        "delete" => delete(out, alloc, node, text),
         "fetch" => push_started(out, sent, node.start_fetch()),
         "push" => push(out, alloc, node, sent, text),
         "take" => take(out, alloc, node, sent, text),
@@ -198,6 +238,10 @@ pub fn row(
     let (verb, rest) = text.split_once(' ').unwrap_or((text, ""));
     match verb {
         "open" => site.open(out, rest),
+        "new" => {
+            site.renew();
+            site.open(out, "")
+        }
         "close" => {
             site.close();
             out.push_str("ok")

@@ -1,0 +1,149 @@
+//! What holds of the files of the nodes at each moment: all that a ref reaches is there, the shared node's branches only go forward,
+//! and what a clone knows as a branch's value was its value.
+
+use crate::disk::{Disk, OnDisk, counts};
+use anyhow::{Result, bail};
+use std::alloc::Global;
+use vc_graph::first_incomplete;
+use vc_history::{Generations, is_ancestor};
+use vc_object::ObjectId;
+use vc_refname::RefName;
+use vc_refs::list;
+use vc_store::Store;
+
+/// The values that the shared node's branches were seen to have.
+#[derive(Drop)]
+pub struct Seen {
+    alloc: Global,
+    // Each value of each branch, in the order in which they were seen first.
+    values: Vec<(RefName, ObjectId)>,
+    // How many writes each disk had seen when it was looked at.
+    looked: Vec<u64>,
+}
+
+// The last value that the list has for a name.
+fn last_value(values: &[(RefName, ObjectId)], name: &RefName) -> Option<ObjectId> {
+    let mut found = None;
+    for (other, id) in values {
+        if other == name {
+            found = Some(*id);
+        }
+    }
+    found
+}
+
+fn ids_of(alloc: Global, refs: &[(RefName, ObjectId)]) -> Result<Vec<ObjectId>> {
+    let mut ids = Vec::new(alloc);
+    for (_, id) in refs {
+        ids.push(*id)?;
+    }
+    Ok(ids)
+}
+
+// The refs in the files. All that they reach has to be there.
+fn whole_refs(alloc: Global, files: &mut OnDisk<'_>) -> Result<Vec<(RefName, ObjectId)>> {
+    let refs = list(files, alloc)?;
+    let ids = ids_of(alloc, &refs)?;
+    match first_incomplete(alloc, &mut Store::new(alloc, files), &ids)? {
+        None => Ok(refs),
+        Some(_) => bail!("not all is there that the refs reach"),
+    }
+}
+
+/// Each disk holds all that its refs reach.
+pub fn refuse_partial(alloc: Global, disks: &[Disk]) -> Result<()> {
+    for disk in disks {
+        whole_refs(alloc, &mut OnDisk::seen(disk))?;
+    }
+    Ok(())
+}
+
+impl Seen {
+    /// Nothing was seen yet.
+    pub fn nothing(alloc: Global) -> Seen {
+        Seen {
+            alloc,
+            values: Vec::new(alloc),
+            looked: Vec::new(alloc),
+        }
+    }
+
+    /// Looks at the disk of the shared node, which is the first, and at those of the clones, if they were written to since.
+    pub fn look(&mut self, disks: &[Disk]) -> Result<()> {
+        let mut looked = Vec::new(self.alloc);
+        for (place, disk) in disks.iter().enumerate() {
+            let (_, writes) = counts(disk)?;
+            if self.looked.get(place) != Some(&writes) {
+                self.look_at(place, disk)?;
+            }
+            looked.push(writes)?;
+        }
+        self.looked = looked;
+        Ok(())
+    }
+
+    fn look_at(&mut self, place: usize, disk: &Disk) -> Result<()> {
+        if place == 0 {
+            self.look_at_shared(disk)
+        } else {
+            self.look_at_clone(disk)
+        }
+    }
+
+    fn look_at_shared(&mut self, disk: &Disk) -> Result<()> {
+        let mut files = OnDisk::seen(disk);
+        let refs = whole_refs(self.alloc, &mut files)?;
+        for (name, id) in &refs {
+            if name.is_branch() {
+                self.go_on(&mut files, name, id)?;
+            }
+        }
+        self.refuse_gone(&refs)
+    }
+
+    // A branch has this value: the last one that was seen, or one that descends from it.
+    fn go_on(&mut self, files: &mut OnDisk<'_>, name: &RefName, id: &ObjectId) -> Result<()> {
+        let last = last_value(&self.values, name);
+        if last == Some(*id) {
+            return Ok(());
+        }
+        if let Some(last) = last {
+            let mut store = Store::new(self.alloc, files);
+            let known = Generations::new(self.alloc);
+            if !is_ancestor(self.alloc, &mut store, &last, id, &known)? {
+                bail!("{name} went back");
+            }
+        }
+        self.values.push((name.clone()?, *id))?;
+        Ok(())
+    }
+
+    // Each branch that was seen is still there.
+    fn refuse_gone(&self, refs: &[(RefName, ObjectId)]) -> Result<()> {
+        for (name, _) in &self.values {
+            if last_value(refs, name).is_none() {
+                bail!("{name} is gone");
+            }
+        }
+        Ok(())
+    }
+
+    fn look_at_clone(&self, disk: &Disk) -> Result<()> {
+        for (name, id) in &whole_refs(self.alloc, &mut OnDisk::seen(disk))? {
+            if let Some(branch) = name.as_str().strip_prefix("refs/remotes/origin/") {
+                self.refuse_unknown(branch, id)?;
+            }
+        }
+        Ok(())
+    }
+
+    // The shared node's branch had this value.
+    fn refuse_unknown(&self, branch: &str, id: &ObjectId) -> Result<()> {
+        for (name, value) in &self.values {
+            if value == id && name.as_str().strip_prefix("refs/heads/") == Some(branch) {
+                return Ok(());
+            }
+        }
+        bail!("{branch} never had what a clone knows")
+    }
+}

@@ -1,0 +1,153 @@
+"""What the answers of a world tell of it, and laws that each of them keeps, for tools/stopped and tools/refused.
+
+A world is followed line by line: which messages were sent and to whom, which pushes are open and how far they are, which nodes are down.
+No object and no ref is known here, so of most answers it is judged whether they may come at all, and not whether they are right."""
+from collections import Counter
+
+from world_model import HEADS, SLOTS, TRACKING
+
+DEVICE, MEMORY = b"fault device", b"fault memory"
+DONE, DOWN, NO_MESSAGE, NO_SLOT, NOTHING = b"done", b"refused 112", b"refused 113", b"refused 111", b"refused 51"
+
+
+class Wrong(Exception):
+    """A law that an answer breaks."""
+
+
+def insist(holds, text):
+    if not holds:
+        raise Wrong(text)
+
+
+def number_in(answer, word):
+    """The number behind the word that an answer begins with."""
+    words = answer.split(b" ")
+    insist(words[0] == word and len(words) > 1 and words[1].isdigit(), f"`{word.decode()}` is wanted, and not {answer!r}")
+    return int(words[1])
+
+
+class Push:
+    """An open push: the clone that it is from, the names of its commands if they are known, with whether the value is another one, and how
+    far it is."""
+
+    def __init__(self, clone, items):
+        self.clone, self.items, self.stage, self.left = clone, items, "opened", 0
+
+    def step(self, answer):
+        """What the next step is answered with. The ref that it sets, if it sets one."""
+        if self.stage == "opened":
+            self.left, self.stage = number_in(answer, b"checked"), "checked"
+            return None
+        insist(self.left > 0, f"the push is at its end, and not {answer!r}")
+        if self.stage == "checked":
+            insist(answer == b"migrated", f"`migrated` is wanted, and not {answer!r}")
+            self.stage = "migrated"
+            return None
+        self.left -= 1
+        words = answer.split(b" ")
+        insist(words[0] in (b"ok", b"ng") and (self.items is None or words[1] in self.items), f"an update is wanted, and not {answer!r}")
+        return words[1] if words[0] == b"ok" else None
+
+
+class World:
+    """What the answers so far tell of a world in which this fault may come."""
+
+    def __init__(self, fault):
+        self.fault = fault
+        self.sent = []  # of each message whom it goes to, the clone at its other end, and its items
+        self.slots, self.down, self.stopped, self.deceived = {}, set(), set(), set()
+        self.asked = {}  # what was answered, by clone and tracking ref
+        self.met = Counter()
+
+    def addressee(self, words):
+        if words[0] == b"deliver":
+            number = int(words[1])
+            return self.sent[number][0] if number < len(self.sent) else None
+        return {b"step": b"shared", b"forge": words[1]}.get(words[0], words[0])
+
+    def tell(self, line, answer):
+        """Judges the answer to a line. The refs that are set, each with whether its value is another one: yes, no, or none."""
+        words = line.split(b" ")
+        if words[0] == b"restart" and answer == self.fault == MEMORY:
+            return self.fail(words[1], words, answer)
+        if words[0] in (b"stop", b"restart"):
+            insist(answer == DONE, f"it is not done: {answer!r}")
+            self.restart(words[1]) if words[0] == b"restart" else self.stopped.add(words[1])
+            return {}
+        node = self.addressee(words)
+        if node is None or node in self.down:
+            wanted = DOWN if node else NO_MESSAGE
+            insist(answer == wanted, f"{wanted!r} is wanted, and not {answer!r}")
+            return {}
+        insist(answer not in (DOWN, NO_MESSAGE), f"{answer!r} has no cause")
+        if answer.startswith(b"fault "):
+            return self.fail(node, words, answer)
+        if words[0] == b"forge" and not answer.startswith(b"refused "):
+            self.met["forged messages taken"] += 1
+            self.deceived.add(node)
+        return self.step(int(words[1]), answer) if words[0] == b"step" else self.take(node, words, answer)
+
+    def restart(self, node):
+        self.stopped.discard(node)
+        self.down.discard(node)
+        if node == b"shared":
+            self.slots = {}
+
+    def fail(self, node, words, answer):
+        """A fault, which a stop explains, or the one allocation that was refused. Which refs may have been set."""
+        may_come = node in self.stopped if self.fault == DEVICE else not self.met["faults"]
+        insist(answer == self.fault and may_come, f"{answer!r} has no cause")
+        self.met["faults"] += 1
+        self.down.add(node)
+        push = self.slots.get(int(words[1])) if words[0] == b"step" else None
+        if node == b"shared":
+            self.slots = {}
+        if push is None or push.stage != "migrated" or not push.left:
+            return {}
+        return dict.fromkeys(push.items, None) if push.items is not None else {None: None}
+
+    def send(self, answer, to, clone, items=None):
+        number = number_in(answer, b"sent")
+        insist(number == len(self.sent), f"message {len(self.sent)} is wanted, and not {answer!r}")
+        self.sent.append((to, clone, items))
+
+    def step(self, slot, answer):
+        push = self.slots.get(slot)
+        if push is None:
+            insist(answer == NO_SLOT, f"{NO_SLOT!r} is wanted, and not {answer!r}")
+            return {}
+        if push.stage != "opened" and not push.left:
+            self.send(answer, push.clone, push.clone)
+            del self.slots[slot]
+            return {}
+        name = push.step(answer)
+        return {} if name is None else {name: True if push.items is None and not name.startswith(HEADS) else (push.items or {}).get(name)}
+
+    def take(self, node, words, answer):
+        """Another line, which a node took."""
+        if node != b"shared":
+            if words[1:2] == [b"same"]:
+                self.asked[node, words[3]] = answer
+            if answer.startswith(b"sent "):
+                self.send(answer, b"shared", node, self.items(node, words[2:]) if words[1:2] == [b"push"] else None)
+            return {}
+        clone = words[2] if words[0] == b"forge" else self.sent[int(words[1])][1] if words[0] == b"deliver" else None
+        if answer.startswith(b"sent "):
+            self.send(answer, clone, clone)
+        if answer.startswith(b"slot "):
+            free = min({*range(SLOTS)} - {*self.slots}, default=None)
+            insist(answer == b"slot %s" % str(free).encode(), f"slot {free} is free, and not {answer!r}")
+            self.slots[free] = Push(clone, self.sent[int(words[1])][2] if words[0] == b"deliver" else None)
+        return {}
+
+    def items(self, node, words):
+        """The names of a push, each with whether its value is another one than that which its clone knows."""
+        items = {}
+        for word in words:
+            value, colon, name = word.rpartition(b":")
+            name = name if colon else HEADS + word
+            known = self.asked.get((node, TRACKING + name[len(HEADS) :]))
+            is_other = {b"same": False, b"differ": True, NOTHING: True}.get(known) if name.startswith(HEADS) else True
+            items[name] = None if name in items else is_other
+        self.asked = {}
+        return items
