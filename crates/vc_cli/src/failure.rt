@@ -1,5 +1,5 @@
 //! Why a command ended without its answer: the line that it prints, and its exit status.
-ghost use Rattle.std.specs.Prelude.{◌≡◌, IfOk, IfErr, IfSome, OnOk};
+ghost use Rattle.std.specs.Prelude.{◌≡◌, ◌↔◌, IfOk, IfErr, IfSome, IsTrue, OnOk};
 ghost use Rattle.std.specs.Option.{option_map};
 ghost use Rattle.vc_files.specs.declared.faults.Fault.TheVariants.{Memory};
 ghost use Rattle.vc_cli.specs.Told.{AppendsFailure};
@@ -156,6 +156,13 @@ impl Failure {
             Failure::Store(_) | Failure::History(_) | Failure::Refs(_) => 1,
             Failure::Usage(_) => 2,
         }
+    }
+
+    /// Whether this is a fault of memory or of a device, and no refusal.
+    pub fn is_fault(&self) -> bool
+        ensures { IsTrue result ↔ (status_of self.now ≡ 3) }
+    {
+        self.status() == 3
     }
 
     /// Prints the line of this failure, on a terminal another one behind it that is to tell what is at fault, and gives the

@@ -22,9 +22,6 @@ use vc_local::{NodeFault, write_index};
 use vc_object::ObjectId;
 use vc_work_tree::WorkTree;
 
-// The exit status of a fault.
-const FAULT: u8 = 3;
-
 // The files of the tree to which a checkout was cut short. There are none if it is the tree that is brought now, where going on
 // needs nothing, or if it can't be listed, as after it was cleaned away.
 fn cut_tree<F: Files>(
@@ -47,7 +44,7 @@ fn cut_tree<F: Files>(
         Ok(cut) => return Ok(Some(cut)),
         Err(fault) => Failure::Node(NodeFault::from(fault)),
     };
-    if fault.status() == FAULT {
+    if fault.is_fault() {
         return Err(fault);
     }
     Ok(None)
