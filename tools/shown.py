@@ -66,12 +66,16 @@ class Function:
 
 
 def named_by(header):
-    """How the prover names what an `impl` or `trait` is for: the type and then the trait, with their arguments, but for parameters."""
+    """How the prover names what an `impl` or `trait` is for: the type and then the trait, with their arguments, but for parameters. Where
+    there is no trait the arguments are told apart, and parameters are among them, if any is none."""
     head = re.match(r"(?:pub(?:\([^)]*\))? )?(?:impl(<(?:[^<>]|<[^<>]*>)*>)?|trait) (.*?)(?: where .*)?\{?$", header)
     parameters = re.findall(r"[<,] *(\w+)", head[1] or "")
     trait, _, of = head[2].partition(" for ")
     text = re.sub(r"'\w+", "", f"{of} {trait}" if of else trait.partition(":")[0])
     words = re.findall(r"(?:\w+::)*(\w+)", text.replace("&", " Ref ").replace("[", " Slice "))
+    # (what a type has only with certain arguments)
+    if not of and any(it not in parameters for it in words[1:]):
+        return "+".join(words)
     return "".join(it[0].upper() + it[1:] for it in words if it not in parameters)
 
 
