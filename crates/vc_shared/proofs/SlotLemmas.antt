@@ -1,5 +1,5 @@
 -- What stands in the slots, before a step of the push in one of them and after it.
-use Rattle.std.proofs.Common.{◌≡◌, ℕ, ◌<◌, ◌≤◌, false, List, length, Option, Some, None, Result, Ok, Err, sym, ap, ◌∙◌, subst, inl, inr, ◌⊎◌}
+use Rattle.std.proofs.Common.{◌≡◌, ℕ, ◌<◌, ◌≤◌, false, List, length, Option, Some, None, Result, Ok, Err, refl, sym, ap, ◌∙◌, subst, inl, inr, ◌⊎◌}
 use Rattle.std.specs.Prelude.{IfOk, IfErr, slice_set, unwrap_or}
 use Rattle.std.proofs.lemmas.List.{set-get_or, set-set}
 use Rattle.std.proofs.lemmas.List.Elements.{All-get_or, All-set}
@@ -12,10 +12,15 @@ use Rattle.vc_push_rules.specs.declared.stage.Stepped.{Stepped as SessionStep}
 use Rattle.vc_push_rules.specs.declared.stage.Stepped.TheVariants as session
 use Rattle.vc_shared.specs.Faults.{is_fault}
 use Rattle.vc_shared.specs.Slots.{AreTellable, AreToldInOne, IsSlotTellable, slot_of}
-use Rattle.vc_shared.specs.Stepping.{IsEnd, IsHeldThere, StepsPush, StepsSlot, left_in}
+use Rattle.vc_shared.specs.Stepping.{IsEnd, IsHeldThere, LeavesPackedIn, StepsPush, StepsSlot, left_in}
 use Rattle.vc_shared.specs.declared.fault.SharedFault.{SharedFault}
 use Rattle.vc_shared.specs.declared.stepping.Stepped.{Stepped}
 use Rattle.vc_shared.specs.declared.stepping.Stepped.TheVariants.{Checked, Migrated, Updated, Finished}
+
+-- nothing is packed where no file changes
+pub packed_none : (content : FileMap) (v : Option SessionText) → LeavesPackedIn content content v
+packed_none content None = refl
+packed_none content (Some s) = inl refl
 
 -- what comes from a step of the push whose slot was emptied for it
 pub put_back : (slots mid after : List (Option SessionText)) (k : ℕ) (left v : Option SessionText) → mid ≡ slice_set slots k None → after ≡ slice_set mid k left → left ≡ v → after ≡ slice_set slots k v

@@ -1,9 +1,10 @@
-use Rattle.std.proofs.Common.{◌∙◌, ⊎_elim, inl, inr, rules, Some, refl, subst, sym, true≢false}
+use Rattle.std.proofs.Common.{◌∙◌, ⊎_elim, ap, inl, inr, rules, Some, refl, subst, sym, true≢false}
 use Rattle.vc_files.proofs.WearLemmas.{wears_then, wears_writes, writes_told}
 use Rattle.vc_files.specs.FileMap.{FileMap}
 use Rattle.vc_files.specs.declared.faults.Fault.TheVariants.{Memory}
 use Rattle.vc_lemmas.proofs.Lists.{on_err}
 use Rattle.vc_local.proofs.LookLemmas.{looks_then}
+use Rattle.vc_refs.specs.Refs.{packed_map}
 use Rattle.vc_session.specs.declared.fault.SessionFault.TheVariants as session
 use Rattle.vc_shared.specs.Faults.{of_device}
 use Rattle.vc_shared.specs.Stepping.{EndsSlotEarly, IsRefusedIn, MayWriteIn}
@@ -68,6 +69,7 @@ pub returns-in_err-did-clause-good : goal.returns-in_err-did-clause-good
 returns-in_err-did-clause-good g c honest = record {
   agrees = (rw c.in_default.ensures.same at c.step.ensures.spares.agrees) honest c.learn.new.generations (c.in_default.ensures.agrees honest (c.requires.agrees honest));
   bad = search rules;
+  packed = (rw c.in_default.ensures.same at c.step.ensures.spares.packed) honest;
   learns = λ up. c.in_default.ensures.learnt honest (c.requires.agrees honest);
 }
 
@@ -75,6 +77,7 @@ pub returns-in_err-told-clause-good : goal.returns-in_err-told-clause-good
 returns-in_err-told-clause-good g c honest = record {
   agrees = (rw c.in_default.ensures.same at c.step.ensures.spares.agrees) honest c.learn.new.generations (c.in_default.ensures.agrees honest (c.requires.agrees honest));
   bad = search rules;
+  packed = (rw c.in_default.ensures.same at c.step.ensures.spares.packed) honest;
   learns = λ up. c.in_default.ensures.learnt honest (c.requires.agrees honest);
 }
 
@@ -82,6 +85,7 @@ pub returns-clause-good : goal.returns-clause-good
 returns-clause-good g c honest = record {
   agrees = (rw c.in_default.ensures.same at c.step.ensures.spares.agrees) honest c.learn.new.generations (c.in_default.ensures.agrees honest (c.requires.agrees honest));
   bad = search rules;
+  packed = (rw c.in_default.ensures.same at c.step.ensures.spares.packed) honest;
   learns = λ up. c.in_default.ensures.learnt honest (c.requires.agrees honest);
 }
 
@@ -89,5 +93,6 @@ pub returns-in-Err-clause-good : goal.returns-in-Err-clause-good
 returns-in-Err-clause-good g c honest = record {
   agrees = search rules;
   bad = search rules;
+  packed = inl (ap packed_map c.in-Err.ensures.same);
   learns = λ up. absurd (true≢false (sym up ∙ rw c.from.ensures refl));
 }
