@@ -1,4 +1,5 @@
-//! What is reached from objects by their links: closure, completeness and difference, over anything that gives links.
+//! What is reached from objects by their links: closure, completeness, what of it is there, and difference, over anything that gives
+//! links.
 #![tactic(auto)]
 
 mod fault;
@@ -12,4 +13,4 @@ pub use fault::GraphFault;
 pub use incomplete::first_incomplete;
 pub use known::{is_complete_beyond, learn_links};
 pub use overlay::{Carried, Overlay};
-pub use reach::{closure, difference, is_complete};
+pub use reach::{closure, difference, is_complete, present};

@@ -1,4 +1,5 @@
 pub mod Maps
+pub mod Removals
 pub mod Reaching
 pub mod Sound
 pub mod Clones

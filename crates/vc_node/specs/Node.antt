@@ -51,6 +51,14 @@ pub record Settles {F : Type 0} (IsDown : Type 0) (is_up : Bool) (old new : Held
   pub awaits : new.awaited ≡ old.awaited
   pub learnt : new.learnt ≡ old.learnt
 
+-- The same of a prune: what is known of generations, and what is due, is forgotten.
+pub record SettlesForgetting {F : Type 0} (IsDown : Type 0) (is_up : Bool) (old new : Held F) : Type 0 where
+  pub down : old.is_up ≡ false → IsDown
+  pub unchanged : old.is_up ≡ false → new ≡ old
+  pub up : old.is_up ≡ true → new.is_up ≡ is_up
+  pub awaits : new.awaited ≡ old.awaited
+  pub forgets : old.is_up ≡ true → IsNothing new.learnt
+
 -- The same of a call that may change what is awaited: after an error the same is.
 pub record SettlesTaken {F T E : Type 0} (result : Result T E) (IsDown : Type 0) (is_up : Bool) (old new : Held F) : Type 0 where
   pub down : old.is_up ≡ false → IsDown

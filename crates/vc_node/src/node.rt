@@ -14,7 +14,7 @@ ghost use Rattle.vc_message.specs.AnyMessage.{a_report};
 ghost use Rattle.vc_message.specs.AnyView.{message_text};
 ghost use Rattle.vc_message.specs.Machine.{IsUnread, Reads};
 ghost use Rattle.vc_model.specs.Clone.Task.{StartFetch, StartPush};
-ghost use Rattle.vc_model.specs.CloneCall.CloneCall.{Asks, Command, Open, Receive};
+ghost use Rattle.vc_model.specs.CloneCall.CloneCall.{Asks, Command, Open, Prune, Receive};
 ghost use Rattle.vc_model.specs.Message.{Message as Sent};
 ghost use Rattle.vc_model.specs.Question.Question.{PackRefs, Resolve, Unread};
 ghost use Rattle.vc_push.specs.ReportView.{report_text};
@@ -23,7 +23,7 @@ ghost use Rattle.vc_expression.specs.Grammar.{IsExpr};
 ghost use Rattle.vc_expression.specs.Views.{expr_view};
 ghost use Rattle.vc_node.specs.Arriving.{KeepsAtLoss};
 ghost use Rattle.vc_node.specs.Awaited.{nothing};
-ghost use Rattle.vc_node.specs.Node.{AnswersCall, AnswersCommand, AnswersCommandIfSound, AnswersFirst, AnswersStaging, AnswersText, IsFresh, KeepsNode, Looks, MayCall, MayCommand, MayCommandIfSound, MayCommit, MayStaging, MayText, PushesNoZero, ReceivesNext, Settles, SettlesMessage, SettlesNext, SettlesTaken, commit_task};
+ghost use Rattle.vc_node.specs.Node.{AnswersCall, AnswersCommand, AnswersCommandIfSound, AnswersFirst, AnswersStaging, AnswersText, IsFresh, KeepsNode, Looks, MayCall, MayCommand, MayCommandIfSound, MayCommit, MayStaging, MayText, PushesNoZero, ReceivesNext, Settles, SettlesForgetting, SettlesMessage, SettlesNext, SettlesTaken, commit_task};
 ghost use Rattle.vc_node.specs.CloneCalls.{ReceivedAs, SentAs};
 ghost use Rattle.vc_node.specs.CloneFaults.{TellsDevice as CloneTellsDevice, fault_answer, of_device, takes_down as clone_takes_down, up_after as clone_up_after};
 ghost use Rattle.vc_node.specs.Receipts.{IsOfMessage, IsRefusedBytes, IsRefusedMessage, IsRefusedStart, IsRefusedValue};
@@ -47,6 +47,7 @@ ghost use Rattle.vc_local.specs.Reads.{IsAtHead, IsAtName, IsBelow, IsItsFile, I
 ghost use Rattle.vc_local.specs.Shown.{IsLoaded, shown};
 ghost use Rattle.vc_local.specs.Staging.{BlamesStaging, places};
 ghost use Rattle.vc_local.specs.Told.{FoundAs, RestartedAs};
+ghost use Rattle.vc_pruning.specs.Pruning.{BlamesPrune, PrunedAs, PrunesSome};
 
 use crate::arriving::refuse_down;
 use crate::awaited::Awaited;
@@ -79,11 +80,13 @@ pub struct CloneNode<F: Files> {
     alloc: Global,
     awaited: Awaited,
     is_up: bool,
-    // What the tracking refs reached at the last push. No call takes an object away, so it stands for them until the next one.
+    // What the tracking refs reached at the last push. No call but a prune takes an object away, and that one forgets it, so it stands
+    // for them until the next one.
     reached: Reached,
     // The index as the opening has read it, where no call has used the files since.
     index: Option<Index>,
-    // What is known of the generations of commits. No call takes an object away, so it stands until the files are opened again.
+    // What is known of the generations of commits. No call but a prune takes an object away, so it stands until then, or until the files
+    // are opened again.
     generations: Generations,
     // The commits whose histories are learnt before a message is judged.
     due: Vec<ObjectId>,
@@ -686,6 +689,30 @@ impl<F: Files> CloneNode<F> {
         self.index = None;
         match vc_local::pack_refs(self.alloc, &mut self.files) {
             Ok(()) => Ok(()),
+            Err(fault) => Err(self.fail(fault)),
+        }
+    }
+
+    /// Takes away each object that neither a ref, nor HEAD, nor a file of the index reaches, and answers how many went: 12 where an object
+    /// file is damaged that is reached, or that stands in the way. What is known of generations, and of what tracking refs reach, is forgotten
+    /// before the first goes. Wherever it stops, some of them are gone and nothing else has changed.
+    pub fn prune(&mut self) -> Result<u64, NodeFault>
+        ensures answers { F.honest → AnswersCall F.content Prune (PrunedAs result) self.old self.new }
+        ensures some { F.honest → PrunesSome (F.content self.old.files) (F.content self.new.files) }
+        ensures refused { F.honest → IfErr result (λ e. (e ≡ NodeFault.Down) ⊎ BlamesPrune (F.content self.old.files) e) }
+        ensures settles { SettlesForgetting (result ≡ Err NodeFault.Down) (up_after result) self.old self.new }
+        ensures wear { Writes F.honest F.content F.failed F.can_fail F.left self.old.files self.new.files (TellsDevice result) }
+    {
+        if !self.is_up {
+            return Err(NodeFault::Down);
+        }
+        let alloc = self.alloc;
+        self.index = None;
+        self.reached = Reached::new(alloc);
+        self.generations = Generations::new(alloc);
+        self.due = Vec::new(alloc);
+        match vc_pruning::prune(alloc, &mut self.files) {
+            Ok(removed) => Ok(removed),
             Err(fault) => Err(self.fail(fault)),
         }
     }

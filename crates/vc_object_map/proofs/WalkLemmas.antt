@@ -10,6 +10,7 @@ use Rattle.std.proofs.lemmas.Grind.{common_steps}
 use Rattle.indexmap.specs.IndexSet.{insert_key, insert_all}
 use Rattle.indexmap.proofs.CallerLemmas.{Contains-insert_key}
 use Rattle.vc_object_map.specs.Graph.{Reaches, ReachedFrom, IsFollowed, IsClosedUnder, itself, onward}
+pub use Rattle.vc_object_map.specs.Graph.{Walks}
 
 pub Contains-from_slice_get : {X : Type 0} (xs : List X) (i : ℕ) (x : X) → slice_get xs i ≡ Some x → Contains xs x
 Contains-from_slice_get xs i x at = (i, slice_get_within xs i x at, get_or_from_slice_get xs i x x at)
@@ -67,17 +68,10 @@ module _ {Id : Type 0} (eq : Id → Id → Bool) where
         (Contains-append_cases (x ∷ []) xs y h)
 
 module _ {Id : Type 0} (links : Id → Option (List Id)) (roots : List Id) where
-  -- the first `next` of the names that were seen are there, and their links were seen too
-  pub record Walks (seen : List Id) (next : ℕ) : Type 0 where
-    pub reached : (y : Id) → Contains seen y → ReachedFrom links roots y
-    pub rooted : (y : Id) → Contains roots y → Contains seen y
-    pub within : next ≤ length seen
-    pub followed : (k : ℕ) (d : Id) → k < next → (ys : List Id) × (links (get_or seen k d) ≡ Some ys) × ((y : Id) → Contains ys y → Contains seen y)
-
   module _ (eq : Id → Id → Bool) (same : (x y : Id) → eq x y ≡ true → x ≡ y) where
     -- the next name of the list was met, and its links after it
-    pub Walks-step : (seen now ys : List Id) (next : ℕ) (id : Id) → Walks seen next → slice_get seen next ≡ Some id → links id ≡ Some ys
-        → now ≡ insert_all eq seen ys → Walks now (next + 1)
+    pub Walks-step : (seen now ys : List Id) (next : ℕ) (id : Id) → Walks links roots seen next → slice_get seen next ≡ Some id → links id ≡ Some ys
+        → now ≡ insert_all eq seen ys → Walks links roots now (next + 1)
     Walks-step seen now ys next id walk at links_of added =
         let here : next < length seen = slice_get_within seen next id at in
         let prefix = insert_all-prefix eq seen ys in
@@ -111,7 +105,7 @@ module _ {Id : Type 0} (links : Id → Option (List Id)) (roots : List Id) where
       let same : l.0 ≡ f.0 = cc in
       f.2 z (subst (λ ys. Contains ys z) same l.2)
 
-  module _ (seen : List Id) (next : ℕ) (walk : Walks seen next) (end : length seen ≤ next) where
+  module _ (seen : List Id) (next : ℕ) (walk : Walks links roots seen next) (end : length seen ≤ next) where
     -- at the end of a walk each name that was met was followed
     pub walked-followed : IsFollowed links seen
     walked-followed = record {

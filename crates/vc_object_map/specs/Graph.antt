@@ -1,7 +1,7 @@
 -- A set of objects as a graph. `links` gives what an object that is there links to, and none for a name that is absent
 -- (what an object links to is Git's object format: gitcore-tutorial, git-rev-list's `--objects`). Nothing here asks that
 -- the links have no cycle, or that the set is finite.
-use Rattle.std.specs.Prelude.{◌≡◌, ◌⊎◌, ◌↔◌, Bool, List, Option, Some, None, IsSome, IsTrue, Contains}
+use Rattle.std.specs.Prelude.{◌≡◌, ◌⊎◌, ◌↔◌, ◌≤◌, ◌<◌, ℕ, Bool, List, Option, Some, None, IsSome, IsTrue, Contains, get_or, length}
 
 -- the names are exactly those of which this is so
 abbrev pub AreExactly : {Id : Type 0} → (Id → Type 0) → List Id → Type 0
@@ -58,3 +58,10 @@ module _ {Id : Type 0} (links : Id → Option (List Id)) where
   -- a root reaches the name y, which is absent
   abbrev pub IsMissing : List Id → Id → Type 0
   IsMissing roots y = ReachedFrom roots y × (links y ≡ None)
+
+  -- A walk from the roots over the names that it has seen: the first `next` of them are there, and their links were seen too.
+  pub record Walks (roots seen : List Id) (next : ℕ) : Type 0 where
+    pub reached : (y : Id) → Contains seen y → ReachedFrom roots y
+    pub rooted : (y : Id) → Contains roots y → Contains seen y
+    pub within : next ≤ length seen
+    pub followed : (k : ℕ) (d : Id) → k < next → (ys : List Id) × (links (get_or seen k d) ≡ Some ys) × ((y : Id) → Contains ys y → Contains seen y)

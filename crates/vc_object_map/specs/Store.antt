@@ -49,6 +49,10 @@ IsDamaged content id = stored content id ≡ Err (Damaged id)
 unfoldable pub with_object : ObjectMap → ObjectId → StoredObject → ObjectMap
 with_object objects id object q = if bytes_eq q.0 id.0 then Some (unwrap_or (objects id) object) else objects q
 
+-- the objects but the one of this name
+unfoldable pub without_object : ObjectMap → ObjectId → ObjectMap
+without_object objects id q = if bytes_eq q.0 id.0 then None else objects q
+
 -- the objects, with these too, the first of them first
 abbrev pub with_objects : ObjectMap → List StoredObject → ObjectMap
 with_objects objects [] = objects

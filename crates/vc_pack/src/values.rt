@@ -37,8 +37,9 @@ pub(crate) fn sorted_names(alloc: Global, ids: &[ObjectId]) -> Result<Vec<Object
     Ok(names)
 }
 
-// The values of all refs and, where HEAD is an id, that id.
-pub(crate) fn ref_values<F: Files>(alloc: Global, files: &mut F) -> Result<Vec<ObjectId>, RefFault>
+/// The values of all refs and, where HEAD is an id, that id. 33 where a file in `refs/`, the packed file or HEAD can't be read, 34 where
+/// HEAD names HEAD.
+pub fn ref_values<F: Files>(alloc: Global, files: &mut F) -> Result<Vec<ObjectId>, RefFault>
     ensures values { F.honest → IfOk result (λ ids. (id : Id) → Contains ids.items id ↔ IsRefValue (F.content files.old) id) }
     ensures refused { F.honest → IfErr result (λ e. BlamesList (F.content files.old) e ⊎ BlamesHead (F.content files.old) e) }
     ensures same { F.content files.new ≡ F.content files.old }

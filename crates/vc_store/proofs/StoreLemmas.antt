@@ -1,4 +1,4 @@
--- What a write of an object's file does to the objects.
+-- What a write of an object's file does to the objects, and what its removal does.
 use Rattle.std.proofs.Common.{◌≡◌, ℕ, Bool, true, false, cond, ◌==◌, nat_eq, nat_lt, List, ◌∷◌, ◌++◌, take, drop, length, Option, Some, None, Result, Ok, Err, sym, ap, refl, ◌∙◌, subst, []}
 use Rattle.std.specs.Prelude.{bytes_eq, is_ok, is_some, codes, unwrap_or}
 use Rattle.std.specs.List.{list_all, starts_with}
@@ -10,7 +10,7 @@ use Rattle.hex.specs.declared.error.FromHexError.{FromHexError}
 use Rattle.hex.specs.Hex.{encode_lower, encode_with, decode_of, IsBytes}
 use Rattle.hex.proofs.HexLemmas.{decode_of-encode_lower}
 use Rattle.vc_files.specs.FileMap.{FileMap, SameOutside}
-use Rattle.vc_files.proofs.FileMapLemmas.{get-put, outside_put}
+use Rattle.vc_files.proofs.FileMapLemmas.{get-put, get-unput, outside_put, unput_absent}
 use Rattle.vc_lemmas.proofs.Texts.{bytes_eq_same}
 use Rattle.vc_object.specs.Decoding.{StoredObject, stored_object, decoded}
 use Rattle.vc_object.specs.Object.{object_name, object_bytes, IsObject}
@@ -21,7 +21,7 @@ use Rattle.vc_object.proofs.Decoding.{decoded_again}
 use Rattle.vc_object.proofs.IdLemmas.{byte_below, id_eq-same}
 use Rattle.vc_object_map.specs.declared.faults.StoreFault.{StoreFault}
 use Rattle.vc_object_map.specs.declared.faults.StoreFault.TheVariants.{Absent, Damaged}
-use Rattle.vc_object_map.specs.Store.{object_path, stored, stored_in, named, objects, with_object, with_file}
+use Rattle.vc_object_map.specs.Store.{object_path, stored, stored_in, named, objects, with_object, with_file, without_object, IsDamaged}
 
 ok_inside : Result (List ℕ) FromHexError → List ℕ
 ok_inside (Ok a) = a
@@ -152,3 +152,51 @@ unfolding with_file
 with_file-there content id kind body is there =
     let some : is_some (files.get content (object_path (object_name kind body).0)) ≡ true = subst (λ (i : ObjectId). is_some (files.get content (object_path i.0)) ≡ true) is (there_file id (files.get content (object_path id.0)) there) in
     sym (ap (λ b. cond b content (files.insert content (object_path (object_name kind body).0) (object_bytes kind body))) some)
+
+-- ---- what a removal does
+
+-- whether an object is there is whether its file is one
+pub objects-is_some : (content : FileMap) (id : ObjectId) → is_id id ≡ true → is_some (objects content id) ≡ is_ok (stored content id)
+unfolding objects
+objects-is_some content id valid = ap (λ b. is_some (cond b (result_ok (stored content id)) None)) valid ∙ by (stored content id)
+  where
+    by : (r : Result StoredObject StoreFault) → is_some (result_ok r) ≡ is_ok r
+    by (Ok object) = refl
+    by (Err e) = refl
+
+no_file : (id : ObjectId) (found : Option (List ℕ)) → stored_in id found ≡ Err (Absent id) → found ≡ None
+no_file id None h = refl
+no_file id (Some bytes) h = let no : true ≡ false = absent_file id (Some bytes) h in cc no
+
+-- an object that is absent has no file
+pub absent-unput : (content : FileMap) (id : ObjectId) → stored content id ≡ Err (Absent id) → content ≡ files.remove content (object_path id.0)
+absent-unput content id absent = unput_absent content (object_path id.0) (no_file id (files.get content (object_path id.0)) absent)
+
+module _ (content : FileMap) (id : ObjectId) where
+  abbrev without : FileMap
+  without = files.remove content (object_path id.0)
+
+  unput : (q : List ℕ) (b : Bool) → bytes_eq q (object_path id.0) ≡ b → files.get without q ≡ cond b None (files.get content q)
+  unput q b e = get-unput content (object_path id.0) q ∙ ap (λ t. cond t None (files.get content q)) e
+
+  gone_at : is_id id ≡ true → (q : ObjectId) → objects without q ≡ without_object (objects content) id q
+  unfolding without_object
+  gone_at valid q =
+      elim (bytes_eq q.0 id.0) as (λ b. bytes_eq q.0 id.0 ≡ b → objects without q ≡ cond b None (objects content q)) [
+        | true ↦ λ same. ap (objects without) (id_eq-same q id same) ∙ objects-absent without id (Absent id) (ap (stored_in id) (unput (object_path id.0) true (bytes_eq_same (object_path id.0))))
+        | false ↦ λ other. same_at content without q (λ p. unput (object_path q.0) false (apart q.0 id.0 other p valid))
+      ] refl
+
+  -- without its file the object is gone, and no other
+  pub objects-unput : is_id id ≡ true → objects without ≡ without_object (objects content) id
+  objects-unput valid i q = gone_at valid q i
+
+  -- no file is damaged then that was not
+  pub damage-unput : (q : ObjectId) → IsDamaged without q → IsDamaged content q
+  damage-unput q bad = by (bytes_eq (object_path q.0) (object_path id.0)) refl
+    where
+      by : (b : Bool) → bytes_eq (object_path q.0) (object_path id.0) ≡ b → IsDamaged content q
+      by true same =
+          let no : ◌≡◌ {A = Result StoredObject StoreFault} (Err (Absent q)) (Err (Damaged q)) = sym (ap (stored_in q) (unput (object_path q.0) true same)) ∙ bad in
+          absurd (cc no)
+      by false other = ap (stored_in q) (sym (unput (object_path q.0) false other)) ∙ bad

@@ -1,6 +1,7 @@
 -- What the calls of a store answer and do, said once, for the functions over files and for the view of them: `content` is what
 -- the files hold.
-use Rattle.std.specs.Prelude.{◌≡◌, ◌⊎◌, ◌↔◌, List, ℕ, true, false, Bool, Vec, filter, option_map, Option, Some, None, Result, Err, Ok, Contains, IsSome, IfOk, IfErr, IsErrAnd, IsOk, IsErr, OnOk, OnErr, is_ok, codes}
+use Rattle.std.specs.Prelude.{◌≡◌, ◌⊎◌, ◌↔◌, List, ℕ, true, false, Bool, Vec, filter, option_map, Option, Some, None, Result, Err, Ok, Contains, IsSome, IfOk, IfErr, IsErrAnd, IsOk, IsErr, OnOk, OnErr, is_ok, is_some, codes}
+use Rattle.std.specs.FinMap as paths
 use Rattle.std.specs.Global.{Global}
 use Rattle.vc_files.specs.FileMap.{FileMap, SameOutside}
 use Rattle.vc_object.specs.Decoding.{stored_object}
@@ -10,7 +11,7 @@ use Rattle.vc_object.specs.ObjectId.{IsSortedByName}
 use Rattle.vc_object.specs.declared.fault.ObjectFault.{ObjectFault}
 use Rattle.vc_object.specs.declared.id.ObjectId.{ObjectId}
 use Rattle.vc_object.specs.declared.kind.Kind.{Kind}
-use Rattle.vc_object_map.specs.Store.{stored, IsAbsent, IsDamaged, HasFile, has_digits, stored_names, with_file, with_object}
+use Rattle.vc_object_map.specs.Store.{stored, object_path, IsAbsent, IsDamaged, HasFile, has_digits, stored_names, with_file, with_object, without_object}
 use Rattle.vc_object_map.specs.Store as store
 use Rattle.vc_object_map.specs.StoreFault.{IsFault, IsOfDamage, IsOfPut, IsRefused}
 use Rattle.vc_object_map.specs.declared.faults.StoreFault.{StoreFault}
@@ -72,4 +73,21 @@ pub record Puts {F : Type 0} (honest : Type 0) (content : F → FileMap) (kind :
   pub objects : honest → IfOk result (λ id. store.objects (content new) ≡ with_object (store.objects (content old)) id (stored_object kind body))
   pub files : honest → OnOk result (content new ≡ with_file (content old) (stored_object kind body))
   pub outside : honest → SameOutside (codes "objects/") (content old) (content new)
+  pub err : honest → OnErr result (content new ≡ content old)
+
+-- an object has this name
+abbrev pub IsThere : {F : Type 0} → Type 0 → (F → FileMap) → ObjectId → F → Type 0
+IsThere honest content id files = honest → IsSome (store.objects (content files) id)
+
+-- What a removal answers, and does to the files: whether the object was there, and it is gone, with its file. Every other file stays,
+-- and so does that of this name where it is damaged, which is 12, and only there. An error changes nothing.
+pub record Removes {F : Type 0} (honest : Type 0) (content : F → FileMap) (id : ObjectId) (old new : F) (result : Result Bool StoreFault) : Type 0 where
+  pub there : honest → IfOk result (λ there. there ≡ is_some (store.objects (content old) id))
+  pub objects : honest → OnOk result (store.objects (content new) ≡ without_object (store.objects (content old)) id)
+  pub files : honest → OnOk result (content new ≡ paths.remove (content old) (object_path id.0))
+  pub outside : honest → SameOutside (codes "objects/") (content old) (content new)
+  pub undamaged : honest → (q : ObjectId) → IsDamaged (content new) q → IsDamaged (content old) q
+  pub damaged : honest → IsDamaged (content old) id → IsErrAnd result (λ e. IsFault e ⊎ (e ≡ Damaged id))
+  pub refused : honest → IfErr result (λ e. IsFault e ⊎ ((e ≡ Damaged id) × IsDamaged (content old) id))
+  pub of_name : IfErr result (λ e. IsFault e ⊎ (e ≡ Damaged id))
   pub err : honest → OnErr result (content new ≡ content old)

@@ -16,4 +16,4 @@ pub use listing::{by_prefix, names};
 pub use reading::{find, find_named, get, has, object_from};
 pub use stored::Stored;
 pub use view::Store;
-pub use writing::{put, put_named};
+pub use writing::{put, put_named, remove};

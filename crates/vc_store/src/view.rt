@@ -2,7 +2,7 @@
 ghost use Rattle.std.specs.Prelude.{◌≡◌, ◌⊎◌, IfErr, IsErrOf};
 ghost use Rattle.vc_files.specs.Failures.{Wears, Writes};
 ghost use Rattle.vc_object.specs.Object.{IsObject};
-ghost use Rattle.vc_store.specs.StoreCalls.{AnswersPut, Finds, Gets, Lists, ListsPrefix, Puts, TellsStored};
+ghost use Rattle.vc_store.specs.StoreCalls.{AnswersPut, Finds, Gets, IsThere, Lists, ListsPrefix, Puts, Removes, TellsStored};
 ghost use Rattle.vc_object_map.specs.StoreFault.{IsFault, IsOfName};
 
 use crate::{Stored, listing, reading, writing};
@@ -77,6 +77,16 @@ impl<'a, F: Files> Store<'a, F> {
         ensures looks { IsObject kind body.now ⊎ Wears F.failed F.can_fail F.left self.old.files.now self.new.files.now (IsErrOf result (StoreFault.Fault Fault.Device)) }
     {
         writing::put(self.files, self.alloc, kind, body)
+    }
+
+    /// Takes the object with this name away, and answers whether there was one; 12 where its file is damaged, which stays.
+    pub fn remove(&mut self, id: &ObjectId) -> Result<bool, StoreFault>
+        ensures same_files { self.new.files.ghost_name ≡ self.old.files.ghost_name }
+        ensures removes { Removes F.honest F.content id.now self.old.files.now self.new.files.now result }
+        ensures wear { Writes F.honest F.content F.failed F.can_fail F.left self.old.files.now self.new.files.now (IsErrOf result (StoreFault.Fault Fault.Device)) }
+        ensures looks { IsThere F.honest F.content id.now self.old.files.now ⊎ Wears F.failed F.can_fail F.left self.old.files.now self.new.files.now (IsErrOf result (StoreFault.Fault Fault.Device)) }
+    {
+        writing::remove(self.files, self.alloc, id)
     }
 
     /// The names of all objects, sorted. A name is there if a file stands in its place, also a damaged one.

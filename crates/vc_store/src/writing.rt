@@ -1,11 +1,11 @@
-// Storing objects.
+// Storing objects, and taking them away.
 ghost use Rattle.std.specs.Prelude.{◌≡◌, ◌⊎◌, IfErr, IsErr, OnOk, OnErr, IsErrOf, codes};
 ghost use Rattle.vc_files.specs.FileMap.{SameOutside};
 ghost use Rattle.vc_files.specs.Failures.{Wears, Writes};
 ghost use Rattle.vc_object.specs.Decoding.{stored_object};
 ghost use Rattle.vc_object.specs.Object.{object_name, IsObject};
 ghost use Rattle.vc_object_map.specs.Store.{IsDamaged, objects, with_object, with_file};
-ghost use Rattle.vc_store.specs.StoreCalls.{AnswersPut, Puts};
+ghost use Rattle.vc_store.specs.StoreCalls.{AnswersPut, IsThere, Puts, Removes};
 ghost use Rattle.vc_object_map.specs.StoreFault.{IsFault, IsOfDamage};
 
 use crate::paths::object_path;
@@ -61,4 +61,20 @@ pub fn put<F: Files>(
     let id = vc_object::name_of(kind, body);
     put_named(files, alloc, &id, &object)?;
     Ok(id)
+}
+
+/// Takes the object with this name away, and answers whether there was one. Its file is read first: where there is none, nothing is
+/// written, and a damaged one stays (12). No other file is touched.
+pub fn remove<F: Files>(files: &mut F, alloc: Global, id: &ObjectId) -> Result<bool, StoreFault>
+    ensures removes { Removes F.honest F.content id.now files.old files.new result }
+    ensures wear { Writes F.honest F.content F.failed F.can_fail F.left files.old files.new (IsErrOf result (StoreFault.Fault Fault.Device)) }
+    ensures looks { IsThere F.honest F.content id.now files.old ⊎ Wears F.failed F.can_fail F.left files.old files.new (IsErrOf result (StoreFault.Fault Fault.Device)) }
+{
+    let id = &id.named();
+    let there = has(files, alloc, id)?;
+    if there {
+        let file = object_path(alloc, id)?;
+        files.remove(alloc, file.as_str())?;
+    }
+    Ok(there)
 }

@@ -1,0 +1,3 @@
+pub mod PruningLemmas
+pub mod RemovingLemmas
+pub mod RootLemmas
