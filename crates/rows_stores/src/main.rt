@@ -2,6 +2,7 @@
 #![tactic(auto)]
 
 mod answers;
+mod change_rows;
 mod devices;
 mod file_rows;
 mod generation_rows;

@@ -4,8 +4,8 @@ ghost use Rattle.vc_refs.specs.Head.{IsHeadInRefs};
 ghost use Rattle.vc_refs.specs.RefMap.{IsInRefs};
 
 use crate::answers::{Answer, blaming, done, id_or_none, or_nothing, push_item, word};
-use crate::graph_rows;
 use crate::ids::{Shown, id_in, id_of, two};
+use crate::{change_rows, graph_rows};
 use anyhow::{anyhow, bail};
 use std::alloc::{AllocError, Global};
 use std::fmt::Write;
@@ -24,6 +24,7 @@ pub fn obey<F: Files>(files: &mut F, alloc: Global, verb: &str, rest: &str) -> A
         "resolve-head" => return id_or_none(alloc, told(refs.resolve_head())?),
         "set-head" => refs.set_head(&head_of(alloc, rest)?),
         "pack-refs" => refs.pack(),
+        "set-all" => return change_rows::obey(&mut refs, alloc, rest),
         "ref" | "conflict" | "set" | "delete" => return obey_named(&mut refs, alloc, verb, rest),
         _ => return obey_commits(files, alloc, verb, rest),
     };
@@ -60,7 +61,8 @@ fn told<T>(answer: Result<T, RefFault>) -> anyhow::Result<T> {
     }
 }
 
-fn refusal(fault: &RefFault) -> anyhow::Error {
+/// A refusal with what it tells.
+pub fn refusal(fault: &RefFault) -> anyhow::Error {
     match fault {
         RefFault::Stale(Some(id)) => blaming(fault, &Shown(*id)),
         RefFault::Stale(None) => blaming(fault, &"none"),

@@ -13,3 +13,5 @@ pub mod LayeredObstacleLemmas
 pub mod FolderLemmas
 pub mod LayeredListingLemmas
 pub mod LayeredChangeLemmas
+pub mod ChangesLemmas
+pub mod SetAllLemmas

@@ -10,3 +10,4 @@ pub mod LooseFault
 pub mod RefFault
 pub mod Packing
 pub mod RefCalls
+pub mod SetAll

@@ -7,6 +7,7 @@
 //! over the files themselves, for a caller that also reads them otherwise.
 #![tactic(auto)]
 
+mod changes;
 mod faults;
 mod folders;
 mod head_file;
@@ -20,12 +21,13 @@ mod setting;
 mod text;
 mod view;
 
+pub use changes::{RefChange, SetAllFault};
 pub use faults::RefFault;
 pub use head_file::{head, set_head};
 pub use heads::Head;
 pub use layered::{
     PackedCache, get, get_over, get_with, list, pack, read_packed, refuse_conflict, remove,
-    resolve_head, resolve_head_with, set, set_over,
+    resolve_head, resolve_head_with, set, set_all, set_over,
 };
 pub use packed::PackedRefs;
 pub use view::Refs;

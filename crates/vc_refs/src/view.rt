@@ -7,9 +7,10 @@ ghost use Rattle.vc_refs.specs.Head.{head_of, head_value, IsHeadInRefs, IsLegalH
 ghost use Rattle.vc_refs.specs.Packing.{HasLoose};
 ghost use Rattle.vc_refs.specs.Obstacle.{IsFree};
 ghost use Rattle.vc_refs.specs.RefCalls.{PacksRefs, RemovesRef, SetsHead, SetsRef};
+ghost use Rattle.vc_refs.specs.SetAll.{AreNamedInRefs, BlamesSetAll, MayChangeAll, SetsAll, TellsDeviceOfAll};
 ghost use Rattle.vc_refs.specs.RefFault.{BlamesRef, BlamesRemove, BlamesSet, BlamesObstacle, BlamesList, BlamesPacking, BlamesHead, BlamesHeadValue, HasExpected, MaySet, IsGoodHead, IsGoodHeadValue, IsFault, MayWriteRef, MayRemoveRef, TellsDevice};
 
-use crate::{Head, RefFault, head_file, layered};
+use crate::{Head, RefChange, RefFault, SetAllFault, head_file, layered};
 use std::alloc::Global;
 use vc_files::Files;
 use vc_object::ObjectId;
@@ -147,5 +148,18 @@ impl<'a, F: Files> Refs<'a, F> {
         ensures looks { IsLegalHead head.now ⊎ Wears F.failed F.can_fail F.left self.old.files.now self.new.files.now (TellsDevice result) }
     {
         head_file::set_head(self.files, self.alloc, head)
+    }
+
+    /// Makes all of these changes, or none. See [`set_all`](crate::set_all).
+    pub fn set_all(&mut self, changes: &[RefChange]) -> Result<(), SetAllFault>
+        requires { AreNamedInRefs changes.now }
+        ensures same_files { self.new.files.ghost_name ≡ self.old.files.ghost_name }
+        ensures sets { SetsAll F.honest F.content changes.now self.old.files.now self.new.files.now result }
+        ensures allowed { F.honest → OnOk result (MayChangeAll (F.content self.old.files.now) changes.now) }
+        ensures refused { F.honest → IfErr result (BlamesSetAll (F.content self.old.files.now) changes.now) }
+        ensures wear { Writes F.honest F.content F.failed F.can_fail F.left self.old.files.now self.new.files.now (TellsDeviceOfAll result) }
+        ensures looks { F.honest → MayChangeAll (F.content self.old.files.now) changes.now ⊎ Wears F.failed F.can_fail F.left self.old.files.now self.new.files.now (TellsDeviceOfAll result) }
+    {
+        layered::set_all(self.files, self.alloc, changes)
     }
 }

@@ -113,7 +113,10 @@ fn newest<F: Files>(
 }
 
 // The refs with these put over them.
-fn put_over(packed: PackedRefs, loose: &[(RefName, ObjectId)]) -> Result<PackedRefs, AllocError>
+pub(super) fn put_over(
+    packed: PackedRefs,
+    loose: &[(RefName, ObjectId)],
+) -> Result<PackedRefs, AllocError>
     requires { AreInRefs loose.now }
     ensures { IfOk result (λ merged. merged ≡ with_all packed loose.now) }
 {

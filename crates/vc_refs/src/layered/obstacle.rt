@@ -14,7 +14,7 @@ use vc_files::{Fault, Files, is_above};
 use vc_refname::RefName;
 
 // Whether no map may have both names.
-fn conflicts(a: &[u8], b: &[u8]) -> bool
+pub(super) fn conflicts(a: &[u8], b: &[u8]) -> bool
     ensures { result ≡ conflicts a.now b.now }
 {
     is_above(a, b) || is_above(b, a)
