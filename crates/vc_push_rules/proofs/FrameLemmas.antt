@@ -13,7 +13,7 @@ use Rattle.vc_lemmas.proofs.Texts.{starts_with-append, split_from_starts}
 use Rattle.vc_object.specs.ObjectId.{is_id}
 use Rattle.vc_object.specs.declared.id.ObjectId.{ObjectId}
 use Rattle.vc_refs.proofs.LayeredLemmas.{refs-of_files}
-use Rattle.vc_refs.specs.Head.{KeepsTheRest}
+use Rattle.vc_refs.specs.Head.{KeepsOutside, KeepsTheRest}
 use Rattle.vc_refs.specs.Refs.{packed_path, refs}
 use Rattle.vc_object_map.specs.Store.{IsDamaged, object_path, objects, stored_in}
 use Rattle.vc_push_rules.proofs.QuarantineLemmas.{quarantined-none, same_at}
@@ -97,6 +97,10 @@ module _ (name : List ℕ) (old new : FileMap) (rest : KeepsTheRest name old new
 
   pub quarantined-of_ref : (slot : ℕ) (id : ObjectId) → quarantined new slot id ≡ quarantined old slot id
   quarantined-of_ref slot id = same_at old new slot id (λ _. rest.outside.at (quarantine_path slot id.0) refl refl)
+
+-- ---- a change of the files in which refs stand
+pub objects-of_packed : (old new : FileMap) → KeepsOutside old new → (id : ObjectId) → objects new id ≡ objects old id
+objects-of_packed old new rest id = objects-same old new id (rest.at (object_path id.0) refl refl)
 
 -- an empty folder holds nothing
 pub dropped-none : (content : FileMap) (slot : ℕ) → IsDropped slot content → (id : ObjectId) → quarantined content slot id ≡ None

@@ -4,3 +4,4 @@ pub mod Carrying
 pub mod Known
 pub mod Session
 pub mod Steps
+pub mod Turn

@@ -14,6 +14,8 @@ use Rattle.vc_push_rules.specs.declared.stage.Verdict.TheVariants.{Passing, Acce
 
 pub record SessionText : Type 0 where
   pub slot : ℕ
+  -- all its refs are set, or none
+  pub atomic : Bool
   -- why the first carried body at fault is none of its kind
   pub fault : Option ObjectFault
   pub commands : List CommandText

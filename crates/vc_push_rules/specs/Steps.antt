@@ -1,5 +1,5 @@
 -- The steps of an open push, each a relation between the files and the session before it and after it.
-use Rattle.std.specs.Prelude.{◌≡◌, ◌≢◌, ◌⊎◌, ⊤, ℕ, false, List, [], ◌∷◌, ◌++◌, map, slice_get, length, codes, count_by, Option, Some, None, Ok, Err}
+use Rattle.std.specs.Prelude.{◌≡◌, ◌≢◌, ◌⊎◌, ⊤, ℕ, Bool, true, false, List, [], ◌∷◌, ◌++◌, map, slice_get, length, codes, count_by, Option, Some, None, Ok, Err}
 use Rattle.std.specs.List.{AllByRecursion, list_any}
 use Rattle.vc_files.specs.FileMap.{FileMap, SameOutside}
 use Rattle.vc_object.specs.ObjectMap.{ObjectMap}
@@ -11,7 +11,7 @@ use Rattle.vc_push.specs.Reason.{reason_text}
 use Rattle.vc_push.specs.Report.{ToldText, ReportText, unpack_error}
 use Rattle.vc_push.specs.ReportView.{report_text}
 use Rattle.vc_push.specs.declared.reason.Reason.{Reason}
-use Rattle.vc_refs.specs.Head.{KeepsTheRest}
+use Rattle.vc_refs.specs.Head.{KeepsOutside, KeepsTheRest}
 use Rattle.vc_refs.specs.RefMap.{RefMap}
 use Rattle.vc_refs.specs.Refs.{refs}
 use Rattle.vc_object_map.specs.Store.{objects}
@@ -27,8 +27,9 @@ use Rattle.vc_push_rules.specs.declared.stage.Stepped.{Stepped}
 use Rattle.vc_push_rules.specs.declared.stage.Stepped.TheVariants as stepped
 
 -- a push as it is opened
-pub record IsOpened (slot : ℕ) (fault : Option ObjectFault) (commands : List CommandText) (s : SessionText) : Type 0 where
+pub record IsOpened (slot : ℕ) (fault : Option ObjectFault) (atomic : Bool) (commands : List CommandText) (s : SessionText) : Type 0 where
   pub slot_is : s.slot ≡ slot
+  pub atomic_is : s.atomic ≡ atomic
   pub fault_is : s.fault ≡ fault
   pub commands_are : s.commands ≡ commands
   pub verdicts_are : s.verdicts ≡ map (λ c. fresh fault) commands
@@ -47,9 +48,10 @@ ChecksAll objects [] [] [] = Unit {0}
 ChecksAll objects (c ∷ cs) (v ∷ vs) (w ∷ ws) = Checks objects c v w × ChecksAll objects cs vs ws
 ChecksAll objects _ _ _ = ⊥
 
--- all commands are judged over what is stored and carried at that moment, in a repository whose refs are whole
+-- all commands are judged over what is stored and carried at that moment, each by itself, in a repository whose refs are whole
 pub record StepChecks (old new : FileMap) (s t : SessionText) (n : ℕ) : Type 0 where
   pub stage : s.stage ≡ Unpacked
+  pub single : s.atomic ≡ false
   pub verdicts : AreRefsWhole old → ChecksAll (objects_seen old s.slot) s.commands s.verdicts t.verdicts
   pub session : t ≡ record s { verdicts = t.verdicts; stage = stage_while t.verdicts Checked }
   pub passed : n ≡ count_by is_passing t.verdicts
@@ -78,6 +80,7 @@ pub record UpdatesNext (old new : RefMap) (commands : List CommandText) (vs ws :
 
 pub record StepUpdates (old new : FileMap) (s t : SessionText) (name : List ℕ) (found : Option Reason) : Type 0 where
   pub stage : s.stage ≡ Migrated
+  pub single : s.atomic ≡ false
   pub update : UpdatesNext (refs old) (refs new) s.commands s.verdicts t.verdicts name found
   pub session : t ≡ record s { verdicts = t.verdicts; stage = stage_while t.verdicts Migrated }
   pub rest : KeepsTheRest name old new
@@ -135,21 +138,26 @@ Steps old new s t (stepped.Updated name found) = StepUpdates old new s t name.it
 Steps old new s t (stepped.Finished report) = StepFinishes old new s t (report_text report)
 
 -- ---- a step that ends early, or writes nothing
+-- what an update may leave that ends early: of an atomic push refs may stand in other files, and nothing else has changed
+abbrev pub EndsUpdate : Bool → FileMap → FileMap → Type 0
+EndsUpdate false old new = new ≡ old
+EndsUpdate true old new = (refs new ≡ refs old) × KeepsOutside old new
+
 -- what a step may leave that ends early: some of what is carried is stored, or taken out of the quarantine at the end
 abbrev pub EndsEarly : FileMap → FileMap → SessionText → Stage → Type 0
 EndsEarly old new s Unpacked = new ≡ old
 EndsEarly old new s Checked = ((id : ObjectId) → (objects new id ≡ objects old id) ⊎ (objects new id ≡ objects_seen old s.slot id)) × SameOutside (codes "objects/") old new
-EndsEarly old new s Migrated = new ≡ old
+EndsEarly old new s Migrated = EndsUpdate s.atomic old new
 EndsEarly old new s Done = SameOutside (quarantine_folder s.slot) old new
 
 -- nothing is against it over the refs of these files
 abbrev pub PassesUpdate : FileMap → CommandText → Type 0
 PassesUpdate content c = IsVerdictAtUpdate (refs content) c None
 
--- a passing command's update over these refs would set its ref
+-- a passing command's update over these refs would set its ref, by itself
 abbrev pub MaySetNext : FileMap → SessionText → Type 0
 MaySetNext content s =
-    (front back : List Verdict) × (c : CommandText) × (s.verdicts ≡ front ++ Passing ∷ back) × (list_any is_passing front ≡ false) × (slice_get s.commands (length front) ≡ Some c)
+    (s.atomic ≡ false) × (front back : List Verdict) × (c : CommandText) × (s.verdicts ≡ front ++ Passing ∷ back) × (list_any is_passing front ≡ false) × (slice_get s.commands (length front) ≡ Some c)
     × PassesUpdate content c
 
 -- the steps that may write: storing where something is carried, an update that sets its ref, and the end

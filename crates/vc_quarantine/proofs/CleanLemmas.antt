@@ -7,16 +7,16 @@ use Rattle.std.proofs.lemmas.Slice.Eq.{bytes_eq-Decides}
 use Rattle.hex.specs.Hex.{encode_lower}
 use Rattle.vc_files.proofs.FileMapLemmas.{get-put}
 use Rattle.vc_files.specs.FileMap.{FileMap, SameOutside}
-use Rattle.vc_lemmas.proofs.Texts.{starts_with-append, split_from_starts}
+use Rattle.vc_lemmas.proofs.Texts.{starts_with-append}
 use Rattle.vc_object.proofs.IdLemmas.{id_eq-same}
 use Rattle.vc_object.specs.Decoding.{StoredObject, stored_object}
 use Rattle.vc_object.specs.Object.{object_bytes, object_name, IsObject}
 use Rattle.vc_object.specs.ObjectId.{is_id}
 use Rattle.vc_object.specs.declared.id.ObjectId.{ObjectId}
 use Rattle.vc_object.specs.declared.kind.Kind.{Kind}
-use Rattle.vc_refs.proofs.LayeredLemmas.{bad-same, bad_place, good_absent, packed_map-same}
+use Rattle.vc_refs.proofs.LayeredLemmas.{bad-same, bad_place, good_absent}
 use Rattle.vc_refs.specs.Head.{KeepsTheRest}
-use Rattle.vc_refs.specs.Refs.{IsBadRef, ChangesOnly, packed_map, packed_path}
+use Rattle.vc_refs.specs.Refs.{IsBadRef}
 use Rattle.vc_store.proofs.PathLemmas.{named_by_path}
 use Rattle.vc_object_map.specs.Store.{IsDamaged, object_path, stored_in}
 use Rattle.vc_object_map.specs.declared.faults.StoreFault.{StoreFault}
@@ -32,7 +32,6 @@ bad_same old new same = record {
   objects = λ id bad. subst (λ (m : FileMap). IsDamaged m id) same bad;
   refs = λ path bad. subst (λ (m : FileMap). IsBadRef m path) same bad;
   quarantines = λ slot small id bad. subst (λ (m : FileMap). IsDamagedThere m slot id) same bad;
-  packed = ap packed_map same;
 }
 
 pub bad_then : {old mid new : FileMap} → MakesNoneBad old mid → MakesNoneBad mid new → MakesNoneBad old new
@@ -40,7 +39,6 @@ bad_then first second = record {
   objects = λ id bad. first.objects id (second.objects id bad);
   refs = λ path bad. first.refs path (second.refs path bad);
   quarantines = λ slot small id bad. first.quarantines slot small id (second.quarantines slot small id bad);
-  packed = second.packed ∙ first.packed;
 }
 
 -- after a call that changed nothing, and before one
@@ -74,8 +72,8 @@ not_gone id found gone bad =
     cc no
 
 -- ---- files that are taken away
-pub bad_loses : (old new : FileMap) → OnlyLoses old new → files.get new packed_path ≡ files.get old packed_path → MakesNoneBad old new
-bad_loses old new lost packed = record {
+pub bad_loses : (old new : FileMap) → OnlyLoses old new → MakesNoneBad old new
+bad_loses old new lost = record {
   objects = λ id bad. elim (lost.at (object_path id.0)) [ inl same ↦ damage-same old new id same bad | inr gone ↦ absurd (not_gone id (files.get new (object_path id.0)) gone bad) ];
   refs = λ path bad. elim (lost.at path) [ inl same ↦ bad-same old new path same bad | inr gone ↦ absurd (good_absent new path gone bad) ];
   quarantines = λ slot small id bad.
@@ -83,7 +81,6 @@ bad_loses old new lost packed = record {
         | inl same ↦ damage_there-same old new slot id same bad
         | inr gone ↦ absurd (not_gone id (files.get new (quarantine_path slot id.0)) gone bad)
       ];
-  packed = packed_map-same old new packed;
 }
 
 -- ---- objects that are stored, of which none becomes damaged
@@ -92,16 +89,14 @@ bad_objects old new outside undamaged = record {
   objects = undamaged;
   refs = λ path bad. bad-same old new path (outside.at path (bad_no_object new path bad)) bad;
   quarantines = λ slot small id bad. damage_there-same old new slot id (outside.at (quarantine_path slot id.0) refl) bad;
-  packed = packed_map-same old new (outside.at packed_path refl);
 }
 
 -- ---- a ref that is set
-pub bad_ref : (old new : FileMap) (name : List ℕ) → starts_with nat_eq name (codes "refs/") ≡ true → KeepsTheRest name old new → ChangesOnly name old new → MakesNoneBad old new
-bad_ref old new name inside rest only = record {
+pub bad_ref : (old new : FileMap) (name : List ℕ) → KeepsTheRest name old new → MakesNoneBad old new
+bad_ref old new name rest = record {
   objects = damage-of_ref name old new rest;
   refs = rest.outside.good;
   quarantines = λ slot small id bad. damage_there-same old new slot id (rest.outside.at (quarantine_path slot id.0) refl refl) bad;
-  packed = packed_map-same old new (only.at packed_path (ap (λ n. bytes_eq packed_path n) (split_from_starts name (codes "refs/") inside)));
 }
 
 -- ---- a quarantine with no bad file
@@ -153,5 +148,4 @@ module _ (old : FileMap) (slot : ℕ) (id : ObjectId) (kind : Kind) (body : List
     objects = damage-of_slot slot old new (outside_put_there old slot id.0 (object_bytes kind body));
     refs = λ q bad. bad-same old new q ((outside_put_there old slot id.0 (object_bytes kind body)).at q (bad_not_there slot new q bad)) bad;
     quarantines = λ other fits q bad. by other q (bytes_eq (quarantine_path other q.0) path) fits refl bad;
-    packed = packed_map-same old new ((outside_put_there old slot id.0 (object_bytes kind body)).at packed_path refl);
   }

@@ -6,13 +6,16 @@ use Rattle.vc_refs.specs.Refs.{IsBadRef, packed_map}
 use Rattle.vc_object_map.specs.Store.{IsDamaged}
 use Rattle.vc_push_rules.specs.Quarantine.{IsDamagedThere}
 
--- What is bad now was so before, and the packed refs are as they were.
+-- What is bad now was so before.
 pub record MakesNoneBad (old new : FileMap) : Type 0 where
   pub objects : (id : ObjectId) → IsDamaged new id → IsDamaged old id
   pub refs : (path : List ℕ) → IsBadRef new path → IsBadRef old path
   -- a slot is written in digits, which are told apart for any number that fits in 64 bits
   pub quarantines : (slot : ℕ) → slot < 2 ^ 64 → (id : ObjectId) → IsDamagedThere new slot id → IsDamagedThere old slot id
-  pub packed : packed_map new ≡ packed_map old
+
+-- The packed refs are as they were: of a step that does not pack refs.
+abbrev pub KeepsPacked : FileMap → FileMap → Type 0
+KeepsPacked old new = packed_map new ≡ packed_map old
 
 -- each file in the place of an object in the slot's quarantine is that object
 abbrev pub IsQuarantineClean : FileMap → ℕ → Type 0

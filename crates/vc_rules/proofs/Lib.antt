@@ -6,6 +6,7 @@ pub mod WholeLemmas
 pub mod MapLemmas
 pub mod JoinLemmas
 pub mod UpdateLaws
+pub mod TurnLaws
 pub mod JudgedLemmas
 pub mod CarriedLemmas
 pub mod OpenPushLaws

@@ -1,5 +1,5 @@
 -- Each step of a session is a step of the push that it stands for.
-use Rattle.std.proofs.Common.{◌≡◌, ◌⊎◌, inl, inr, ℕ, suc, List, ◌∷◌, map, length, drop, Option, Some, None, Bool, cond, refl, ap, sym, ◌∙◌, subst, []}
+use Rattle.std.proofs.Common.{◌≡◌, ◌⊎◌, inl, inr, ℕ, suc, List, ◌∷◌, map, length, drop, Option, Some, None, Bool, true, false, cond, refl, ap, sym, ◌∙◌, subst, []}
 use Rattle.std.specs.Prelude.{option_map, is_some, is_none, IsSome, Ok, Err}
 use Rattle.std.specs.FinMap.{empty, get, get-empty}
 use Rattle.std.specs.Option.{option_or}
@@ -29,12 +29,12 @@ use Rattle.vc_refs.specs.Head.{KeepsTheRest}
 use Rattle.vc_refs.specs.RefMap.{RefMap}
 use Rattle.vc_refs.specs.Refs.{refs}
 use Rattle.vc_object_map.specs.Store.{objects}
-use Rattle.vc_push_rules.proofs.FrameLemmas.{objects-of_ref, objects-of_slot, quarantined-of_ref, quarantined-of_slot, refs-of_objects, refs-of_slot}
+use Rattle.vc_push_rules.proofs.FrameLemmas.{objects-of_packed, objects-of_ref, objects-of_slot, quarantined-of_ref, quarantined-of_slot, refs-of_objects, refs-of_slot}
 use Rattle.vc_push_rules.proofs.QuarantineLemmas.{quarantined-same}
 use Rattle.vc_push_rules.specs.Carrying.{HoldsNames, objects_of_push}
 use Rattle.vc_push_rules.specs.Quarantine.{objects_seen, quarantine_folder, quarantined}
 use Rattle.vc_push_rules.specs.Session.{IsSession, SessionText, fresh, stage_while, verdict_of}
-use Rattle.vc_push_rules.specs.Steps.{EndsEarly, StepChecks, StepFinishes, StepMigrates, StepUpdates, fault_number, unpack_of}
+use Rattle.vc_push_rules.specs.Steps.{EndsEarly, EndsUpdate, StepChecks, StepFinishes, StepMigrates, StepUpdates, fault_number, unpack_of}
 use Rattle.vc_push_rules.specs.Verdict.{refs_after}
 use Rattle.vc_push_rules.specs.declared.stage.Stage.{Stage}
 use Rattle.vc_push_rules.specs.declared.stage.Stage.TheVariants.{Unpacked, Checked, Migrated, Done as AtItsEnd}
@@ -84,7 +84,7 @@ names_kept old new slot names same held = record {
 pub push_kept : (old new : FileMap) (s : SessionText) (p : OpenPush) → ((id : ObjectId) → quarantined new s.slot id ≡ quarantined old s.slot id) → HoldsPush old s p → HoldsPush new s p
 push_kept old new s p same held = record {
   session = held.session;
-  single = held.single;
+  atomic = held.atomic;
   fault = held.fault;
   commands = held.commands;
   carried = λ x. same (id_of_bytes x) ∙ held.carried x;
@@ -100,7 +100,7 @@ module _ (old new : FileMap) (s t : SessionText) (r : Repository) (p : OpenPush)
       → HoldsPush new t (record p { commands = ks; stage = left })
   kept ws stage ks left is later same commands at = subst (λ (x : SessionText). HoldsPush new x (record p { commands = ks; stage = left })) (sym is) (record {
     session = subst IsSession is later;
-    single = held.single;
+    atomic = held.atomic;
     fault = held.fault;
     commands = commands;
     carried = λ x. same (id_of_bytes x) ∙ held.carried x;
@@ -122,7 +122,7 @@ module _ (old new : FileMap) (s t : SessionText) (r : Repository) (p : OpenPush)
       let all : IsSound git r → machine.ChecksAll git (over r.objects p.carried) (judged_commands s.commands s.verdicts) ks = λ sound.
       checks_all (objects_seen old s.slot) (over r.objects p.carried) (seen_found old r content s.slot p.carried held.carried) s.commands s.verdicts t.verdicts (h.verdicts (refs_whole old r content sound)) in
       let whole : IsSound git r → machine.ChecksPush git (over r.objects p.carried) p.atomic p.commands ks = λ sound.
-      subst (λ (a : Bool). machine.ChecksPush git (over r.objects p.carried) a p.commands ks) (sym held.single)
+      subst (λ (a : Bool). machine.ChecksPush git (over r.objects p.carried) a p.commands ks) (sym (held.atomic ∙ h.single))
       (subst (λ (js : List Judged). machine.ChecksAll git (over r.objects p.carried) js ks) (sym held.commands) (all sound)) in
       record {
         effect = no_effect;
@@ -206,7 +206,7 @@ module _ (old new : FileMap) (s t : SessionText) (r : Repository) (p : OpenPush)
         left = left;
         after = changed_all cs r;
         step = λ sound. subst (λ (at : machine.Stage). shared.StepsPush git r p at (only_changes cs) left (Updated name (option_map machine_reason found))) (sym (stands_at Migrated h.stage))
-            (ks, cs, shared.UpdatesPush.singly next held.single reply, refl, refl);
+            (ks, cs, shared.UpdatesPush.singly next (held.atomic ∙ h.single) reply, refl, refl);
         done = (r.objects, none_added r.objects, refl);
         content = updated_content name c found h.rest u.refs_are;
         head = head_stays c found;
@@ -258,9 +258,9 @@ brought (Ok all) (Some fault) c x faulty made = absurd (cc faulty)
 brought (Err bad) (Some fault) c x faulty made = ap (option_map stored_of) (sym (get-empty (slice_cmp nat_cmp) x))
 
 pub opens_agree : OpensAgree
-opens_agree content s slot fault commands carried c opened session faulty carries made = record {
+opens_agree content s slot fault atomic commands carried c opened session faulty carries made = record {
   session = session;
-  single = refl;
+  atomic = sym opened.atomic_is;
   fault = ap (option_map fault_number) (sym opened.fault_is);
   commands = fresh_judged fault commands ∙ ap (λ cs. judged_commands cs (map (λ d. fresh fault) commands)) (sym opened.commands_are) ∙ ap (judged_commands s.commands) (sym opened.verdicts_are);
   carried = λ x. ap (λ (n : ℕ). quarantined content n (id_of_bytes x)) opened.slot_is ∙ carries.same (id_of_bytes x) ∙ brought carried fault c x faulty (made x);
@@ -308,8 +308,16 @@ module _ (old new : FileMap) (s : SessionText) (r : Repository) (p : OpenPush) (
   unchanged : new ≡ old → HoldsContent new r
   unchanged same = subst (λ (m : FileMap). HoldsContent m r) (sym same) content
 
+  -- refs may stand in other files
+  updated_early : (atomic : Bool) → EndsUpdate atomic old new → HoldsContent new r
+  updated_early false same = unchanged same
+  updated_early true (same, rest) = record {
+    objects_are = λ x. objects-of_packed old new rest (id_of_bytes x) ∙ content.objects_are x;
+    refs_are = λ n. ap (λ (m : RefMap). m n) same ∙ content.refs_are n;
+  }
+
 pub early_agree : EndsEarlyAgree
 early_agree old new s Unpacked r p content held e = unchanged old new s r p content held e
 early_agree old new s Checked r p content held e = stopped old new s r p content held e
-early_agree old new s Migrated r p content held e = unchanged old new s r p content held e
+early_agree old new s Migrated r p content held e = updated_early old new s r p content held s.atomic e
 early_agree old new s AtItsEnd r p content held e = content_beside s.slot old new r e content

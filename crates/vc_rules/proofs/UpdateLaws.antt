@@ -41,7 +41,7 @@ module _ (map : RefMap) (rs : Refs) (rel : (n : RefName) → map n ≡ option_ma
     current_to false e (inl h) = absurd ((not_zero c.old).0 e h.0)
     current_to false e (inr h) = rel c.name ∙ ap (option_map id_of_bytes) h.1
 
-    needs : (r : Reason) → UpdateNeeds map c r ↔ machine.UpdateNeeds rs (machine_command c) (machine_reason r)
+    pub needs : (r : Reason) → UpdateNeeds map c r ↔ machine.UpdateNeeds rs (machine_command c) (machine_reason r)
     needs BadName = (λ h. h, λ h. h)
     needs OutsideRefs = (λ h. h, λ h. h)
     needs DeletionProhibited = (λ h. h, λ h. h)

@@ -48,7 +48,7 @@ writes_agree content s Checked r p holds held is may = inr (
   subst (λ (at : machine.Stage). shared.StepsPush git r p at (record { objects = p.carried; changes = [] }) (record p { stage = MachineMigrated }) MigratedAll) (sym (held.stage ∙ ap machine_stage is)) (refl, refl, refl),
   λ e. some_carried content s.slot s.names p.carried held.names held.carried may (ap (λ (e : Effect). e.objects) e),
 )
-writes_agree content s Migrated r p holds held is (front, back, c, before, first, command_is, passes) =
+writes_agree content s Migrated r p holds held is (single, front, back, c, before, first, command_is, passes) =
     let ks : List Judged = judged_commands s.commands (front ++ verdict_of None ∷ back) in
     let cs : List Change = changes_of (refs content) r.refs holds.refs_are c None in
     let left : OpenPush = record p { commands = ks; stage = machine.stage_while ks MachineMigrated } in
@@ -68,7 +68,7 @@ writes_agree content s Migrated r p holds held is (front, back, c, before, first
       left,
       Updated c.name None,
       subst (λ (at : machine.Stage). shared.StepsPush git r p at (only_changes cs) left (Updated c.name None)) (sym (held.stage ∙ ap machine_stage is))
-          (ks, cs, shared.UpdatesPush.singly next held.single refl, refl, refl),
+          (ks, cs, shared.UpdatesPush.singly next (held.atomic ∙ single) refl, refl, refl),
       sets _,
     )
 writes_agree content s AtItsEnd r p holds held is may = inl (held.stage ∙ ap machine_stage is)

@@ -1,6 +1,6 @@
 -- An open push of the machine, as a session and the files under its slot have it, and that each step of the session is the
 -- machine's.
-use Rattle.std.specs.Prelude.{◌≡◌, ◌≢◌, ◌<◌, ◌^◌, ◌⊎◌, ℕ, List, [], ◌∷◌, map, Option, Result, Ok, Err, option_map, false}
+use Rattle.std.specs.Prelude.{◌≡◌, ◌≢◌, ◌<◌, ◌^◌, ◌⊎◌, ℕ, Bool, List, [], ◌∷◌, map, Option, Result, Ok, Err, option_map}
 use Rattle.std.specs.FinMap.{get}
 use Rattle.vc_files.specs.FileMap.{FileMap}
 use Rattle.vc_format.specs.Git.{id_of_bytes}
@@ -62,7 +62,7 @@ machine_stage AtItsEnd = Finished
 -- the session and the quarantine of its slot are this open push
 pub record HoldsPush (content : FileMap) (s : SessionText) (p : OpenPush) : Type 0 where
   pub session : IsSession s
-  pub single : p.atomic ≡ false
+  pub atomic : p.atomic ≡ s.atomic
   pub fault : p.fault ≡ option_map fault_number s.fault
   pub commands : p.commands ≡ judged_commands s.commands s.verdicts
   pub carried : (x : Id) → quarantined content s.slot (id_of_bytes x) ≡ option_map stored_of (get p.carried x)
@@ -133,9 +133,9 @@ EachIsBrought = (carried : Carried) → (c : Objects) × AreBrought carried c
 
 -- a push that is opened is the machine's as it opens one that brings them
 abbrev pub OpensAgree : Type 0
-OpensAgree = (content : FileMap) (s : SessionText) (slot : ℕ) (fault : Option ObjectFault) (commands : List CommandText) (carried : Carried) (c : Objects) →
-    IsOpened slot fault commands s → IsSession s → FaultOf carried fault → Carries content slot s.names (objects_of_push carried) → AreBrought carried c
-    → HoldsPush content s (shared.opened false (option_map fault_number fault) (map machine_command commands) c)
+OpensAgree = (content : FileMap) (s : SessionText) (slot : ℕ) (fault : Option ObjectFault) (atomic : Bool) (commands : List CommandText) (carried : Carried) (c : Objects) →
+    IsOpened slot fault atomic commands s → IsSession s → FaultOf carried fault → Carries content slot s.names (objects_of_push carried) → AreBrought carried c
+    → HoldsPush content s (shared.opened atomic (option_map fault_number fault) (map machine_command commands) c)
 
 -- ---- a step that ends early
 -- what a stop of the machine's may leave of this effect

@@ -1,5 +1,5 @@
 -- The verdicts of a push, as one of them is settled after another, and what a step's parts say of the whole step.
-use Rattle.std.proofs.Common.{arith, ◌≡◌, ◌⊎◌, inl, inr, ℕ, zero, suc, ◌+◌, ◌<◌, cond, true, false, List, ◌∷◌, ◌++◌, length, map, take, drop, get_or, Option, Some, None, refl, ap, sym, ◌∙◌, subst, slice_set, []}
+use Rattle.std.proofs.Common.{arith, ◌≡◌, ◌⊎◌, inl, inr, ℕ, zero, suc, ◌+◌, ◌<◌, Bool, cond, true, false, List, ◌∷◌, ◌++◌, length, map, take, drop, get_or, Option, Some, None, refl, ap, sym, ◌∙◌, subst, slice_set, []}
 use Rattle.std.specs.Prelude.{slice_get, option_map}
 use Rattle.std.specs.List.{list_any}
 use Rattle.std.proofs.lemmas.List.{length-map, length-take-le, take-append-drop, take-set, drop-set, drop_more}
@@ -20,12 +20,12 @@ use Rattle.vc_push_rules.specs.Carrying.{Carries, objects_of_push}
 use Rattle.vc_push_rules.specs.Session.{SessionText, IsInStage, MayBeSetWhere, is_passing, stage_while, verdict_of}
 use Rattle.vc_quarantine.specs.Blames.{BlamesMigration}
 use Rattle.vc_session.specs.SessionFault.{IsRefusedCheck, IsRefusedStep, from_store}
-use Rattle.vc_push_rules.specs.Steps.{MaySetNext, UpdatesNext}
+use Rattle.vc_push_rules.specs.Steps.{EndsEarly, EndsUpdate, MaySetNext, UpdatesNext}
 use Rattle.vc_push_rules.specs.Verdict.{IsVerdictAtUpdate, MayBeSet, refs_after}
 use Rattle.vc_session.specs.declared.fault.SessionFault.{SessionFault}
 use Rattle.vc_session.specs.declared.fault.SessionFault.TheVariants.{Store, Refs, Fault}
 use Rattle.vc_push_rules.specs.declared.stage.Stage.{Stage}
-use Rattle.vc_push_rules.specs.declared.stage.Stage.TheVariants.{Unpacked, Checked, Done}
+use Rattle.vc_push_rules.specs.declared.stage.Stage.TheVariants.{Unpacked, Checked, Migrated, Done}
 use Rattle.vc_push_rules.specs.declared.stage.Verdict.{Verdict}
 use Rattle.vc_push_rules.specs.declared.stage.Verdict.TheVariants.{Passing, Accepted, Refused}
 
@@ -134,9 +134,13 @@ module _ (vs : List Verdict) (k : ℕ) (here : slice_get vs k ≡ Some Passing) 
     after = after ∙ settled_split vs k here (verdict_of found);
   }
 
-  pub may_set_next : (content : FileMap) (s : SessionText) → s.verdicts ≡ vs → s.commands ≡ cs → IsVerdictAtUpdate (refs content) c None → MaySetNext content s
-  may_set_next content s verdicts commands judged =
-      (take k vs, drop (k + 1) vs, c, verdicts ∙ passing_split vs k here, first, ap (λ ds. slice_get ds (length (take k vs))) commands ∙ front_there, judged)
+  pub may_set_next : (content : FileMap) (s : SessionText) → s.atomic ≡ false → s.verdicts ≡ vs → s.commands ≡ cs → IsVerdictAtUpdate (refs content) c None → MaySetNext content s
+  may_set_next content s single verdicts commands judged =
+      (single, take k vs, drop (k + 1) vs, c, verdicts ∙ passing_split vs k here, first, ap (λ ds. slice_get ds (length (take k vs))) commands ∙ front_there, judged)
+
+-- an update of one command changes nothing where it ends early
+pub early_update : (old new : FileMap) (s : SessionText) → s.atomic ≡ false → new ≡ old → EndsEarly old new s Migrated
+early_update old new s single same = subst (λ (b : Bool). EndsUpdate b old new) (sym single) same
 
 pub either : {A B C D : Type 0} → A ⊎ B → (A → C) → (B → D) → C ⊎ D
 either (inl a) f g = inl (f a)

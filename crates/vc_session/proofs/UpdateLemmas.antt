@@ -1,20 +1,22 @@
 -- The verdict on a command at its update, from what its ref's files are.
 use Rattle.std.proofs.Common.{◌≡◌, ℕ, Bool, true, false, cond, subst, ◌&&◌, ◌||◌, ◌⊎◌, nat_eq, List, [], ◌∷◌, ◌++◌, inl, inr, Option, Some, None, is_some, sym, ap, refl, ◌∙◌, true≢false}
-use Rattle.std.specs.Prelude.{codes, string_bytes, Result, Err, IfOk, IfErr, IsErrOf}
+use Rattle.std.specs.Prelude.{bytes_eq, codes, string_bytes, Result, Err, IfOk, IfErr, IsErrOf}
 use Rattle.std.specs.List.{starts_with}
 use Rattle.std.proofs.lemmas.Bool.{and_from, and_parts}
 use Rattle.vc_files.specs.FileMap.{FileMap}
+use Rattle.vc_lemmas.proofs.Texts.{split_from_starts}
 use Rattle.vc_object.specs.declared.id.ObjectId.{ObjectId}
 use Rattle.vc_push.specs.Push.{CommandText}
 use Rattle.vc_push.specs.declared.reason.Reason.TheVariants.{AlreadyExists, NameConflict, Stale}
 use Rattle.vc_refs.proofs.LayeredChangeLemmas.{refs_free}
-use Rattle.vc_refs.proofs.LayeredLemmas.{decides-loose, decides-packed}
+use Rattle.vc_refs.proofs.LayeredLemmas.{decides-loose, decides-packed, packed_map-same}
 use Rattle.vc_files.specs.declared.faults.Fault.TheVariants.{Device}
 use Rattle.vc_refs.specs.RefFault.{BlamesRef, BlamesSet, IsStale, MaySet}
 use Rattle.vc_refs.specs.declared.faults.RefFault.{RefFault}
 use Rattle.vc_refs.specs.declared.faults.RefFault.TheVariants as fault
-use Rattle.vc_refs.specs.Refs.{is_taken, packed_path, refs}
+use Rattle.vc_refs.specs.Refs.{ChangesOnly, is_taken, packed_path, refs}
 use Rattle.vc_refs.specs.Obstacle.{IsFirstInTheWay, IsFree}
+use Rattle.vc_quarantine.specs.Clean.{KeepsPacked}
 use Rattle.vc_session.specs.Updating.{BlamesUpdate, reason_of}
 use Rattle.vc_push_rules.specs.Verdict.{IsVerdictAtUpdate, UpdateNeeds, expected, is_branch, is_tag}
 
@@ -112,3 +114,7 @@ only_name false n m h = absurd (cc h)
 pub moved : (P : FileMap → List ℕ → Option ObjectId → Type 0) {m k : FileMap} {n l : List ℕ} {e f : Option ObjectId} → m ≡ k → n ≡ l → e ≡ f → P m n e → P k l f
 moved P {m = m} {k = k} {n = n} {l = l} {e = e} {f = f} files name value h =
     subst (λ (x : Option ObjectId). P k l x) value (subst (λ (x : List ℕ). P k x e) name (subst (λ (x : FileMap). P x n e) files h))
+
+-- a ref that is set leaves the packed refs
+pub packed_set : (old new : FileMap) (name : List ℕ) → starts_with nat_eq name (codes "refs/") ≡ true → ChangesOnly name old new → KeepsPacked old new
+packed_set old new name inside only = packed_map-same old new (only.at packed_path (ap (λ n. bytes_eq packed_path n) (split_from_starts name (codes "refs/") inside)))

@@ -9,7 +9,7 @@ use Rattle.vc_refs.specs.Refs.{packed_path, refs, IsBadRef}
 use Rattle.vc_refs.specs.Obstacle.{IsFirstInTheWay}
 use Rattle.vc_refs.specs.declared.faults.RefFault.{RefFault}
 use Rattle.vc_refs.specs.declared.faults.RefFault.TheVariants.{Stale, Conflict, BadRefFile, HeadLoop, Fault}
-use Rattle.vc_quarantine.specs.Clean.{MakesNoneBad}
+use Rattle.vc_quarantine.specs.Clean.{KeepsPacked, MakesNoneBad}
 use Rattle.vc_push_rules.specs.Verdict.{refs_after}
 
 -- a file of the refs that can't be read: the packed one, the first that stands in the ref's way, or its own
@@ -28,10 +28,11 @@ reason_of (BadRefFile path) = Err (BadRefFile path)
 reason_of HeadLoop = Err HeadLoop
 reason_of (Fault fault) = Err (Fault fault)
 
--- What an update does to the files: its ref is set where nothing is against it, all else stays, no file becomes bad, and an error
--- changes nothing.
+-- What an update does to the files: its ref is set where nothing is against it, all else stays, and so do the packed refs, no file
+-- becomes bad, and an error changes nothing.
 pub record UpdatesRef {F : Type 0} (honest : Type 0) (content : F → FileMap) (c : CommandText) (old new : F) (result : Result (Option Reason) RefFault) : Type 0 where
   pub set : honest → IfOk result (λ found. refs (content new) ≡ refs_after (refs (content old)) c found)
   pub rest : honest → KeepsTheRest c.name (content old) (content new)
   pub err : honest → OnErr result (content new ≡ content old)
   pub bad : honest → MakesNoneBad (content old) (content new)
+  pub packed : honest → KeepsPacked (content old) (content new)

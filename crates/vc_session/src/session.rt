@@ -1,5 +1,5 @@
 //! One open push.
-ghost use Rattle.std.specs.Prelude.{◌≡◌, ◌⊎◌, ◌<◌, Option, length, slice_set, IfOk, IfErr, OnErr, OnOk, IsErrOf};
+ghost use Rattle.std.specs.Prelude.{◌≡◌, ◌⊎◌, ◌<◌, Option, false, length, slice_set, IfOk, IfErr, OnErr, OnOk, IsErrOf};
 ghost use Rattle.vc_history.specs.Stored.{AgreesIn};
 ghost use Rattle.vc_files.specs.FileMap.{FileMap, SameOutside};
 ghost use Rattle.vc_files.specs.Failures.{Wears, Writes};
@@ -48,14 +48,15 @@ pub struct PushSession {
 }
 
 impl Model for PushSession {
+    ghost use Rattle.std.specs.Prelude.{false};
     ghost use Rattle.vc_push.specs.PushView.{commands_of};
     ghost use Rattle.vc_push_rules.specs.Session.{IsSession, SessionText};
 
     ghost Value = { SessionText };
 
-    ghost view = { λ s. record { slot = s.slot; fault = s.fault; commands = commands_of s.commands.items; verdicts = s.verdicts.items; names = s.names.items; stage = s.stage } };
+    ghost view = { λ s. record { slot = s.slot; atomic = false; fault = s.fault; commands = commands_of s.commands.items; verdicts = s.verdicts.items; names = s.names.items; stage = s.stage } };
 
-    ghost invariant = { λ s. IsSession (record { slot = s.slot; fault = s.fault; commands = commands_of s.commands.items; verdicts = s.verdicts.items; names = s.names.items; stage = s.stage }) };
+    ghost invariant = { λ s. IsSession (record { slot = s.slot; atomic = false; fault = s.fault; commands = commands_of s.commands.items; verdicts = s.verdicts.items; names = s.names.items; stage = s.stage }) };
 }
 
 // Another verdict at this place.
@@ -86,7 +87,7 @@ impl PushSession {
         slot: u8,
         push: Push,
     ) -> Result<PushSession, Fault>
-        ensures opened { IfOk result (λ s. (fault : Option Refusal) × FaultOf (push_text push).carried fault × IsOpened slot fault (push_text push).commands s) }
+        ensures opened { IfOk result (λ s. (fault : Option Refusal) × FaultOf (push_text push).carried fault × IsOpened slot fault false (push_text push).commands s) }
         ensures carried { F.honest → IfOk result (λ s. Carries (F.content files.new) slot s.names (objects_of_push (push_text push).carried)) }
         ensures session { IfOk result IsSession }
         ensures outside { F.honest → SameOutside (quarantine_folder slot) (F.content files.old) (F.content files.new) }
@@ -121,7 +122,7 @@ impl PushSession {
         arriving: Arriving,
         commands: Vec<Command>,
     ) -> Result<PushSession, AllocError>
-        ensures opened { IfOk result (IsOpened arriving.slot arriving.fault (commands_of commands.items)) }
+        ensures opened { IfOk result (IsOpened arriving.slot arriving.fault false (commands_of commands.items)) }
         ensures fault { (content : FileMap) (carried : Carried) → HasCome content arriving carried → FaultOf carried arriving.fault }
         ensures carried { IfOk result (λ s. (content : FileMap) (carried : Carried) → HasCome content arriving carried → Carries content arriving.slot s.names (objects_of_push carried)) }
         ensures session { IfOk result IsSession }
@@ -151,7 +152,7 @@ impl PushSession {
         ensures takes { TakesStep self.old self.new result }
         ensures same { F.content files.new ≡ F.content files.old }
         ensures refused { F.honest → AgreesIn (F.content files.old) generations.now → IfErr result (IsRefusedStep (F.content files.old) self.old Stage.Unpacked) }
-        ensures spares { SparesFiles F.honest F.content files.old files.new }
+        ensures spares { SparesFiles F.honest F.content self.old.atomic files.old files.new }
         ensures wear { Wears F.failed F.can_fail F.left files.old files.new (IsErrOf result (SessionFault.Fault Fault.Device)) }
     {
         let verdicts = check_in_files(
@@ -175,7 +176,7 @@ impl PushSession {
         ensures takes { TakesStep self.old self.new result }
         ensures early { F.honest → OnErr result (EndsEarly (F.content files.old) (F.content files.new) self.old Stage.Checked) }
         ensures refused { F.honest → IfErr result (IsRefusedStep (F.content files.old) self.old Stage.Checked) }
-        ensures spares { SparesFiles F.honest F.content files.old files.new }
+        ensures spares { SparesFiles F.honest F.content self.old.atomic files.old files.new }
         ensures wear { Writes F.honest F.content F.failed F.can_fail F.left files.old files.new (IsErrOf result (SessionFault.Fault Fault.Device)) }
         ensures looks { MayWrite (F.content files.old) self.old Stage.Checked ⊎ Wears F.failed F.can_fail F.left files.old files.new (IsErrOf result (SessionFault.Fault Fault.Device)) }
     {
@@ -190,9 +191,9 @@ impl PushSession {
         requires stage { self.old.stage ≡ Stage.Migrated }
         ensures steps { F.honest → IfOk result (Steps (F.content files.old) (F.content files.new) self.old self.new) }
         ensures takes { TakesStep self.old self.new result }
-        ensures err { F.honest → OnErr result (F.content files.new ≡ F.content files.old) }
+        ensures early { F.honest → OnErr result (EndsEarly (F.content files.old) (F.content files.new) self.old Stage.Migrated) }
         ensures refused { F.honest → IfErr result (IsRefusedStep (F.content files.old) self.old Stage.Migrated) }
-        ensures spares { SparesFiles F.honest F.content files.old files.new }
+        ensures spares { SparesFiles F.honest F.content self.old.atomic files.old files.new }
         ensures wear { Writes F.honest F.content F.failed F.can_fail F.left files.old files.new (IsErrOf result (SessionFault.Fault Fault.Device)) }
         ensures looks { F.honest → MayWrite (F.content files.old) self.old Stage.Migrated ⊎ Wears F.failed F.can_fail F.left files.old files.new (IsErrOf result (SessionFault.Fault Fault.Device)) }
     {
@@ -217,7 +218,7 @@ impl PushSession {
         ensures told { IfOk result (TellsReport self.now) }
         ensures early { F.honest → OnErr result (EndsEarly (F.content files.old) (F.content files.new) self.now Stage.Done) }
         ensures refused { F.honest → IfErr result (IsRefusedStep (F.content files.old) self.now Stage.Done) }
-        ensures spares { SparesFiles F.honest F.content files.old files.new }
+        ensures spares { SparesFiles F.honest F.content self.now.atomic files.old files.new }
         ensures wear { Writes F.honest F.content F.failed F.can_fail F.left files.old files.new (IsErrOf result (SessionFault.Fault Fault.Device)) }
     {
         let report = report(alloc, self.fault, &self.commands, &self.verdicts)?;
@@ -270,7 +271,7 @@ impl PushSession {
         ensures takes { TakesStep self.old self.new result }
         ensures early { F.honest → OnErr result (EndsEarly (F.content files.old) (F.content files.new) self.old self.old.stage) }
         ensures refused { F.honest → AgreesIn (F.content files.old) generations.now → IfErr result (IsRefusedStep (F.content files.old) self.old self.old.stage) }
-        ensures spares { SparesFiles F.honest F.content files.old files.new }
+        ensures spares { SparesFiles F.honest F.content self.old.atomic files.old files.new }
         ensures wear { Writes F.honest F.content F.failed F.can_fail F.left files.old files.new (IsErrOf result (SessionFault.Fault Fault.Device)) }
         ensures looks { F.honest → MayWrite (F.content files.old) self.old self.old.stage ⊎ Wears F.failed F.can_fail F.left files.old files.new (IsErrOf result (SessionFault.Fault Fault.Device)) }
     {

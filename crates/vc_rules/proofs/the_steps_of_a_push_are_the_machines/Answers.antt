@@ -1,5 +1,6 @@
 use Rattle.vc_rules.proofs.CarriedLemmas.{each_is_brought}
 use Rattle.vc_rules.proofs.OpenPushLaws.{early_agree, opens_agree, others_stay, steps_agree}
+use Rattle.vc_rules.proofs.TurnLaws.{turns_agree}
 use Rattle.vc_rules.proofs.WritingLaws.{writes_agree}
 use Rattle.vc_rules.proofs.the_steps_of_a_push_are_the_machines.Goals as goal
 
@@ -20,3 +21,6 @@ returns-clause-early c = early_agree
 
 pub returns-clause-writes : goal.returns-clause-writes
 returns-clause-writes c = writes_agree
+
+pub returns-clause-turns : goal.returns-clause-turns
+returns-clause-turns c = turns_agree

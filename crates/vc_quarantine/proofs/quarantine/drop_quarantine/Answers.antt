@@ -1,11 +1,10 @@
-use Rattle.std.proofs.Common.{arith, rules, ◌≡◌, ℕ, ◌+◌, ◌++◌, List, [], ◌∷◌, take, map, sym, ap, ◌∙◌, subst, refl}
+use Rattle.std.proofs.Common.{arith, rules, ◌≡◌, ℕ, ◌+◌, ◌++◌, List, [], ◌∷◌, take, map, sym, ap, ◌∙◌, subst}
 use Rattle.std.specs.Prelude.{string_bytes}
 use Rattle.std.specs.FinMap as files
 use Rattle.std.proofs.lemmas.List.{map_more, take_all}
 use Rattle.vc_files.proofs.WearLemmas.{wears_then, writes_both, writes_told}
 use Rattle.vc_files.specs.FileMap.{FileMap, paths_under}
 use Rattle.vc_push_rules.specs.Quarantine.{OnlyLoses, quarantine_folder}
-use Rattle.vc_refs.specs.Refs.{packed_path}
 use Rattle.vc_quarantine.proofs.CleanLemmas.{bad_loses}
 use Rattle.vc_push_rules.proofs.QuarantineLemmas.{Taken, taken_none, taken_more, taken_all, taken_left, taken_outside}
 use Rattle.vc_quarantine.proofs.quarantine.drop_quarantine.Goals as goal
@@ -76,7 +75,7 @@ returns-clause-left g c = λ honest.
     subst (λ (m : FileMap). OnlyLoses m (content c.loop-path.files)) c.in_ok-paths.ensures.same (taken_left (c.loop-path.invariant.taken honest))
 
 pub returns-in_err-remove-clause-bad : goal.returns-in_err-remove-clause-bad
-returns-in_err-remove-clause-bad g c = λ honest. bad_loses _ _ (returns-in_err-remove-clause-left g c honest) ((returns-in_err-remove-clause-outside g c honest).at packed_path refl)
+returns-in_err-remove-clause-bad g c = λ honest. bad_loses _ _ (returns-in_err-remove-clause-left g c honest)
 
 pub returns-clause-bad : goal.returns-clause-bad
-returns-clause-bad g c = λ honest. bad_loses _ _ (returns-clause-left g c honest) ((returns-clause-outside g c honest).at packed_path refl)
+returns-clause-bad g c = λ honest. bad_loses _ _ (returns-clause-left g c honest)

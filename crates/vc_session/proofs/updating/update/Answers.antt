@@ -12,13 +12,13 @@ use Rattle.vc_refname.specs.RefName.{is_ref_name}
 use Rattle.vc_refs.specs.Head.{KeepsTheRest}
 use Rattle.vc_refs.specs.RefFault.{BlamesRef, BlamesSet, MaySet}
 use Rattle.vc_refs.specs.RefMap.{with_ref}
-use Rattle.vc_refs.specs.Refs.{refs}
+use Rattle.vc_refs.specs.Refs.{packed_map, refs}
 use Rattle.vc_refs.specs.declared.faults.RefFault.{RefFault}
 use Rattle.vc_refs.specs.declared.faults.RefFault.TheVariants.{Fault}
 use Rattle.vc_session.specs.Updating.{BlamesUpdate}
 use Rattle.vc_push_rules.specs.Verdict.{IsVerdictAtUpdate, is_tag}
 use Rattle.vc_quarantine.proofs.CleanLemmas.{bad_from, bad_ref}
-use Rattle.vc_session.proofs.UpdateLemmas.{device_meant, device_told, moved, only_name, passes, refused_blames, refused_verdict, tag_blames}
+use Rattle.vc_session.proofs.UpdateLemmas.{device_meant, device_told, moved, only_name, packed_set, passes, refused_blames, refused_verdict, tag_blames}
 use Rattle.vc_quarantine.proofs.WearLemmas.{wears_both}
 use Rattle.vc_session.proofs.updating.update.Goals as goal
 
@@ -64,7 +64,8 @@ returns-in-Ok-clause-updates g c =
           ∙ ap (λ (n : List ℕ). with_ref (refs (content c.args.files.now)) n id) named;
       rest = λ honest. moved (λ files name value. KeepsTheRest name files (content c.set.new.files)) {e = None} same named refl (c.in-Ok.ensures.sets.rest honest);
       err = search rules;
-      bad = λ honest. bad_from same (bad_ref _ _ c.in-Some.name inside (c.in-Ok.ensures.sets.rest honest) (c.in-Ok.ensures.sets.only honest));
+      bad = λ honest. bad_from same (bad_ref _ _ c.in-Some.name (c.in-Ok.ensures.sets.rest honest));
+      packed = λ honest. packed_set _ _ c.in-Some.name inside (c.in-Ok.ensures.sets.only honest) ∙ ap packed_map same;
     }
 
 pub returns-in-Ok-clause-wear : goal.returns-in-Ok-clause-wear

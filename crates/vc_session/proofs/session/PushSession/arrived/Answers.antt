@@ -20,6 +20,7 @@ returns-clause-opened c =
     let made : c.in_ok-verdicts.verdicts.items ≡ map (λ (x : Command). fresh c.args.arriving.fault) c.deref.result.now = c.in_ok-verdicts.ensures in
     record {
       slot_is = refl;
+      atomic_is = refl;
       fault_is = refl;
       commands_are = refl;
       verdicts_are = made ∙ ap (λ (held : List Command). map (λ (x : Command). fresh c.args.arriving.fault) held) c.deref.ensures.value ∙ same_verdicts (fresh c.args.arriving.fault) c.args.commands.items;

@@ -1,6 +1,7 @@
-use Rattle.std.proofs.Common.{rules, ap, subst, ℕ}
+use Rattle.std.proofs.Common.{rules, ap, inl, subst, ℕ}
 use Rattle.vc_session.proofs.SessionLemmas.{refused_check}
 use Rattle.vc_push_rules.specs.Session.{SessionText}
+use Rattle.vc_refs.specs.Refs.{packed_map}
 use Rattle.vc_session.specs.SessionFault.{IsRefusedCheck, IsRefusedStep}
 use Rattle.vc_push_rules.specs.declared.stage.Stage.TheVariants.{Unpacked}
 use Rattle.vc_quarantine.proofs.NumberLemmas.{agreement_same}
@@ -20,6 +21,7 @@ returns-in_err-verdicts-clause-spares g c =
     record {
       agrees = λ honest. agreement_same _ _ c.in_err-verdicts.ensures.same;
       bad = λ honest. bad_same _ _ c.in_err-verdicts.ensures.same;
+      packed = λ honest. inl (ap packed_map c.in_err-verdicts.ensures.same);
     }
 
 pub returns-clause-spares : goal.returns-clause-spares
@@ -27,4 +29,5 @@ returns-clause-spares g c =
     record {
       agrees = λ honest. agreement_same _ _ c.in_ok-verdicts.ensures.same;
       bad = λ honest. bad_same _ _ c.in_ok-verdicts.ensures.same;
+      packed = λ honest. inl (ap packed_map c.in_ok-verdicts.ensures.same);
     }

@@ -1,9 +1,11 @@
-use Rattle.std.proofs.Common.{rules, ◌≡◌, false, List, ap, ◌∙◌, refl, subst}
+use Rattle.std.proofs.Common.{rules, ◌≡◌, inl, false, List, ap, ◌∙◌, refl, subst}
 use Rattle.std.specs.List.{list_any}
 use Rattle.vc_files.proofs.WearLemmas.{writes_none}
 use Rattle.vc_push.specs.PushView.{commands_of}
 use Rattle.vc_push.specs.ReportView.{report_text}
 use Rattle.vc_push.specs.declared.command.Command.{Command}
+use Rattle.vc_refs.proofs.LayeredLemmas.{packed_map-same}
+use Rattle.vc_refs.specs.Refs.{packed_path}
 use Rattle.vc_push_rules.specs.Session.{SessionText, IsInStage, is_passing}
 use Rattle.vc_push_rules.specs.Steps.{StepFinishes, TellsAll}
 use Rattle.vc_session.specs.contracts.session.PushSession.{the_view}
@@ -41,6 +43,7 @@ returns-in_err-report-clause-spares g c =
     record {
       agrees = λ honest. agreement_same _ _ refl;
       bad = λ honest. bad_same _ _ refl;
+      packed = λ honest. inl refl;
     }
 
 pub returns-in_err-drop_quarantine-clause-spares : goal.returns-in_err-drop_quarantine-clause-spares
@@ -48,6 +51,7 @@ returns-in_err-drop_quarantine-clause-spares g c =
     record {
       agrees = λ honest. agreement_quarantine c.self.inside.slot _ _ (c.in_err-drop_quarantine.ensures.outside honest);
       bad = c.in_err-drop_quarantine.ensures.bad;
+      packed = λ honest. inl (packed_map-same _ _ ((c.in_err-drop_quarantine.ensures.outside honest).at packed_path refl));
     }
 
 pub returns-clause-spares : goal.returns-clause-spares
@@ -55,4 +59,5 @@ returns-clause-spares g c =
     record {
       agrees = λ honest. agreement_quarantine c.self.inside.slot _ _ (c.in_ok-drop_quarantine.ensures.outside honest);
       bad = c.in_ok-drop_quarantine.ensures.bad;
+      packed = λ honest. inl (packed_map-same _ _ ((c.in_ok-drop_quarantine.ensures.outside honest).at packed_path refl));
     }

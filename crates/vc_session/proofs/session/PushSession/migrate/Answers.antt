@@ -1,7 +1,9 @@
-use Rattle.std.proofs.Common.{rules, ◌≡◌, ◌⊎◌, ℕ, List, ap, ◌∙◌, subst}
+use Rattle.std.proofs.Common.{rules, ◌≡◌, ◌⊎◌, inl, ℕ, List, ap, ◌∙◌, refl, subst}
 use Rattle.vc_lemmas.proofs.Lists.{on_err}
 use Rattle.vc_object.specs.declared.id.ObjectId.{ObjectId}
 use Rattle.vc_object_map.specs.Store.{objects}
+use Rattle.vc_refs.proofs.LayeredLemmas.{packed_map-same}
+use Rattle.vc_refs.specs.Refs.{packed_path}
 use Rattle.vc_quarantine.specs.Migrating.{migrated}
 use Rattle.vc_push_rules.specs.Quarantine.{objects_seen}
 use Rattle.vc_push_rules.specs.Session.{SessionText}
@@ -58,6 +60,7 @@ returns-in_err-migrate-clause-spares g c =
     record {
       agrees = λ honest. agreement_front _ _ c.self.inside.slot c.deref.result.now (c.in_err-migrate.ensures.left honest);
       bad = c.in_err-migrate.ensures.bad;
+      packed = λ honest. inl (packed_map-same _ _ ((c.in_err-migrate.ensures.outside honest).at packed_path refl));
     }
 
 pub returns-clause-spares : goal.returns-clause-spares
@@ -65,4 +68,5 @@ returns-clause-spares g c =
     record {
       agrees = λ honest. agreement_migrated _ _ c.self.inside.slot c.deref.result.now (c.in_ok-migrate.ensures.stored honest);
       bad = c.in_ok-migrate.ensures.bad;
+      packed = λ honest. inl (packed_map-same _ _ ((c.in_ok-migrate.ensures.outside honest).at packed_path refl));
     }

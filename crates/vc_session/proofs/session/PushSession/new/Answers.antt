@@ -33,6 +33,7 @@ returns-clause-opened g c =
       c.fault-fault.ensures,
       record {
         slot_is = refl;
+        atomic_is = refl;
         fault_is = refl;
         commands_are = refl;
         verdicts_are = made ∙ ap (λ (held : List Command). map (λ (x : Command). fresh fault) held) c.deref.ensures.value ∙ same_verdicts (fresh fault) c.args.push.commands.items;

@@ -1,6 +1,7 @@
-use Rattle.std.proofs.Common.{rules, ◌≡◌, false, length, get_or, take, List, Some, Option, ap, sym, ◌∙◌, refl, subst, slice_set, ℕ}
+use Rattle.std.proofs.Common.{rules, ◌≡◌, inl, false, length, get_or, take, List, Some, Option, ap, sym, ◌∙◌, refl, subst, slice_set, ℕ}
 use Rattle.std.specs.Prelude.{slice_get}
 use Rattle.std.specs.List.{list_any}
+use Rattle.vc_lemmas.proofs.Lists.{on_err}
 use Rattle.std.proofs.lemmas.List.{length-set}
 use Rattle.vc_push.specs.PushView.{command_of}
 use Rattle.vc_push.specs.declared.command.Command.{Command}
@@ -15,7 +16,7 @@ use Rattle.vc_push_rules.specs.declared.stage.Stage.{Stage}
 use Rattle.vc_push_rules.specs.declared.stage.Stage.TheVariants.{Migrated}
 use Rattle.vc_push_rules.specs.declared.stage.Verdict.{Verdict}
 use Rattle.vc_push_rules.specs.declared.stage.Verdict.TheVariants.{Passing}
-use Rattle.vc_session.proofs.SessionLemmas.{command_there, either, in_stage, may_after, may_at, may_set_next, same_there, updates_next}
+use Rattle.vc_session.proofs.SessionLemmas.{command_there, early_update, either, in_stage, may_after, may_at, may_set_next, same_there, updates_next}
 use Rattle.vc_push_rules.proofs.VerdictLemmas.{settled_verdict}
 use Rattle.vc_quarantine.proofs.WearLemmas.{wears_told}
 use Rattle.vc_quarantine.proofs.NumberLemmas.{agreement_rest, agreement_same}
@@ -36,7 +37,7 @@ returns-in_err-found-clause-looks g c = λ honest.
     let stage : t.stage ≡ Migrated = ap (λ (s : SessionText). s.stage) c.self.view_is ∙ c.requires.stage in
     let may : MayBeSetWhere t.commands t.verdicts = (subst (λ (x : Stage). IsInStage t x) stage c.self.invariant.in_stage).0 in
     either (c.in_err-found.ensures.looks honest (may_at t.commands t.verdicts k (command_of command) may here there))
-    (may_set_next t.verdicts k here first t.commands (command_of command) there content c.args.self.now (ap (λ (s : SessionText). s.verdicts) (sym c.self.view_is)) (ap (λ (s : SessionText). s.commands) (sym c.self.view_is)))
+    (may_set_next t.verdicts k here first t.commands (command_of command) there content c.args.self.now (ap (λ (s : SessionText). s.atomic) (sym c.self.view_is)) (ap (λ (s : SessionText). s.verdicts) (sym c.self.view_is)) (ap (λ (s : SessionText). s.commands) (sym c.self.view_is)))
     (λ w. wears_told w (search rules))
 
 pub invariant_of-self : goal.invariant_of-self
@@ -95,6 +96,7 @@ returns-clause-steps g c = λ honest.
     let stage : c.stage_while-self-inside.result ≡ stage_while ws Migrated = c.stage_while-self-inside.ensures ∙ ap (λ (vs : List Verdict). stage_while vs Migrated) c.deref-3.ensures.value in
     subst (λ (s : SessionText). StepUpdates old new s (record t { verdicts = ws; stage = c.stage_while-self-inside.result }) c.in_ok-name.name.items found) c.self.view_is (record {
       stage = before;
+      single = refl;
       update = updates_next t.verdicts k here first t.commands (command_of command) there (refs old) (refs new) ws c.in_ok-name.name.items found named judged set after;
       session = ap (λ (x : Stage). record t { verdicts = ws; stage = x }) stage;
       rest = subst (λ (n : List ℕ). KeepsTheRest n old new) (sym named) (c.in_ok-found.ensures.updates.rest honest);
@@ -113,7 +115,7 @@ returns-clause-looks g c = λ honest.
     let stage : t.stage ≡ Migrated = ap (λ (s : SessionText). s.stage) c.self.view_is ∙ c.requires.stage in
     let may : MayBeSetWhere t.commands t.verdicts = (subst (λ (x : Stage). IsInStage t x) stage c.self.invariant.in_stage).0 in
     either (c.in_ok-found.ensures.looks honest (may_at t.commands t.verdicts k (command_of command) may here there))
-    (may_set_next t.verdicts k here first t.commands (command_of command) there content c.args.self.now (ap (λ (s : SessionText). s.verdicts) (sym c.self.view_is)) (ap (λ (s : SessionText). s.commands) (sym c.self.view_is)))
+    (may_set_next t.verdicts k here first t.commands (command_of command) there content c.args.self.now (ap (λ (s : SessionText). s.atomic) (sym c.self.view_is)) (ap (λ (s : SessionText). s.verdicts) (sym c.self.view_is)) (ap (λ (s : SessionText). s.commands) (sym c.self.view_is)))
     (λ w. wears_told w (λ never. absurd (cc never)))
 
 pub returns-clause-takes : goal.returns-clause-takes
@@ -130,6 +132,7 @@ returns-in_err-name-clause-spares g c =
     record {
       agrees = λ honest. agreement_same _ _ refl;
       bad = λ honest. bad_same _ _ refl;
+      packed = λ honest. inl refl;
     }
 
 pub returns-in_err-found-clause-spares : goal.returns-in_err-found-clause-spares
@@ -137,6 +140,7 @@ returns-in_err-found-clause-spares g c =
     record {
       agrees = λ honest. agreement_rest _ _ _ (c.in_err-found.ensures.updates.rest honest);
       bad = c.in_err-found.ensures.updates.bad;
+      packed = λ honest. inl (c.in_err-found.ensures.updates.packed honest);
     }
 
 pub returns-clause-spares : goal.returns-clause-spares
@@ -144,4 +148,16 @@ returns-clause-spares g c =
     record {
       agrees = λ honest. agreement_rest _ _ _ (c.in_ok-found.ensures.updates.rest honest);
       bad = c.in_ok-found.ensures.updates.bad;
+      packed = λ honest. inl (c.in_ok-found.ensures.updates.packed honest);
     }
+
+pub returns-in_err-name-clause-early : goal.returns-in_err-name-clause-early
+returns-in_err-name-clause-early g c = λ honest.
+    let content = g.F.Files.content c.args.files.now in
+    on_err c.from_residual.result _ (early_update content content c.args.self.now (ap (λ (s : SessionText). s.atomic) (sym c.self.view_is)) refl)
+
+pub returns-in_err-found-clause-early : goal.returns-in_err-found-clause-early
+returns-in_err-found-clause-early g c = λ honest.
+    let content = g.F.Files.content in
+    on_err c.from_residual-in_err-found.result _
+    (early_update (content c.args.files.now) (content c.update.new.files) c.args.self.now (ap (λ (s : SessionText). s.atomic) (sym c.self.view_is)) (c.in_err-found.ensures.updates.err honest))
