@@ -342,7 +342,7 @@ write_refused f bytes old new node.Down body object blames told same = absurd bl
 -- why a file is not stored, after others that are
 pub storing_from : (fs more all : List File) (f : File) (old mid new : FileMap) (e : Failure) → all ≡ fs ++ f ∷ more → StoresBlobs fs old mid → IsOfStoring (f ∷ []) mid new e → IsOfStoring all old new e
 storing_from fs more all f old mid new (Node (node.Store (store.Damaged id))) is before of =
-    (before.clean.damage.before id of.0, subst (λ (gs : List File). IsBlobOfOne gs id) (sym is) (blob_of_all fs more f id of.1), first_then fs more all f old mid new is before of.2)
+    (before.clean.stays.damage.before id of.0, subst (λ (gs : List File). IsBlobOfOne gs id) (sym is) (blob_of_all fs more f id of.1), first_then fs more all f old mid new is before of.2)
 storing_from fs more all f old mid new (Node (node.Store (store.Fault fault))) is before of = first_then fs more all f old mid new is before of
 storing_from fs more all f old mid new (Fault fault) is before of = first_then fs more all f old mid new is before of
 storing_from fs more all f old mid new _ is before of = absurd of

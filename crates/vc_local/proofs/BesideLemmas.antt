@@ -9,8 +9,8 @@ use Rattle.vc_refs.specs.Head.{head_of}
 use Rattle.vc_refs.specs.Refs.{packed_at}
 use Rattle.vc_refs.proofs.LayeredListingLemmas.{head_of-same}
 use Rattle.vc_rules.specs.OpenPushes.{HoldsContent}
-use Rattle.vc_quarantine.specs.Clean.{MakesNoneBad}
-use Rattle.vc_local.specs.Clean.{IsClean, KeepsClean}
+use Rattle.vc_quarantine.specs.Clean.{KeepsPacked, MakesNoneBad}
+use Rattle.vc_local.specs.Clean.{IsClean, KeepsClean, StaysClean}
 use Rattle.vc_local.specs.IndexFile.{index_bytes}
 use Rattle.vc_local.specs.Machine.{Spells}
 use Rattle.vc_local.specs.Shown.{shown}
@@ -43,6 +43,12 @@ beside_by old new head index = record { head = head_of-same old new head; index 
 pub clean_on : (old new : FileMap) → MakesNoneBad old new → IsClean old → IsClean new
 clean_on old new bad clean = record { objects = λ id damaged. clean.objects id (bad.objects id damaged); refs = λ path wrong. clean.refs path (bad.refs path wrong) }
 
--- what is made bad by nothing is kept clean
-pub clean_by : (old new : FileMap) → MakesNoneBad old new → KeepsClean old new
-clean_by old new bad = record { damage = record { before = bad.objects }; refs = bad.refs; packed = record { at = λ n other. ap (λ m. packed_at m n) bad.packed } }
+-- what is made bad by nothing stays clean, and is kept so where the packed refs are
+pub stays_by : (old new : FileMap) → MakesNoneBad old new → StaysClean old new
+stays_by old new bad = record { damage = record { before = bad.objects }; refs = bad.refs }
+
+pub kept_clean : (old new : FileMap) → StaysClean old new → KeepsPacked old new → KeepsClean old new
+kept_clean old new stays packed = record { stays = stays; packed = record { at = λ n other. ap (λ m. packed_at m n) packed } }
+
+pub clean_by : (old new : FileMap) → MakesNoneBad old new → KeepsPacked old new → KeepsClean old new
+clean_by old new bad packed = kept_clean old new (stays_by old new bad) packed

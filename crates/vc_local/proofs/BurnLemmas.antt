@@ -30,8 +30,9 @@ use Rattle.vc_object.specs.declared.id.ObjectId.{ObjectId}
 use Rattle.vc_refname.specs.RefName.{is_ref_name}
 use Rattle.vc_refs.specs.RefMap.{is_ref}
 use Rattle.vc_refs.specs.Packing.{UnpacksOnly}
-use Rattle.vc_refs.specs.Refs.{packed_path, refs}
-use Rattle.vc_refs.proofs.LayeredLemmas.{ref_legal, refs-same, value_same}
+use Rattle.vc_refs.specs.Head.{KeepsOutside}
+use Rattle.vc_refs.specs.Refs.{packed_at, packed_path, refs}
+use Rattle.vc_refs.proofs.LayeredLemmas.{packed_map-same, ref_legal, refs-same, value_same}
 use Rattle.vc_refs.specs.declared.faults.RefFault.{RefFault}
 use Rattle.vc_refs.specs.declared.faults.RefFault.TheVariants as ref
 use Rattle.vc_refs.specs.declared.heads.Head.{Head as RefsHead}
@@ -211,6 +212,27 @@ suffices old new r s p q name packed k d = (
   λ all. let image = image_of (place name) d.0 TheRefs all in no_place_of_all name image.0 image.1,
   differs old new r s p q name packed d.0 d.2,
 )
+
+-- and one for all refs where they are set as one, and beside the files in which refs stand nothing changes
+module _ (old new : FileMap) (r s : Repository) (p : Spells (shown old) r) (q : Spells (shown new) s) (rest : KeepsOutside old new) where
+  refs_alone : DiffersAt (TheRefs ∷ []) r s
+  refs_alone = record {
+    objects = λ x. inl (some_once (get s.objects x) (get r.objects x) (sym (q.objects x) ∙ object_at old new x (λ valid. rest.at (object_path x) refl refl) ∙ p.objects x));
+    refs = λ n. inr (inr (0, omega arith, refl));
+    head = inl (
+        let heads : ◌≡◌ {A = Option RefsHead} (Some q.head) (Some p.head) = sym q.head_shown ∙ rest.head ∙ p.head_shown in
+        q.head_is ∙ ap machine_head (ap (λ h. unwrap_or h p.head) heads) ∙ sym p.head_is);
+    index = inl (
+        let maps : q.map ≡ p.map = one_index q.map p.map q.map_sound p.map_sound (sym q.map_shown ∙ ap (λ f. unwrap_or f []) (rest.at (codes "index") refl refl) ∙ p.map_shown) in
+        same_map nat_list_cmp_total bytes_same s.index r.index (λ path. q.index path ∙ ap (λ m. option_map machine_entry (get m path)) maps ∙ sym (p.index path)));
+  }
+
+  pub suffices_together : (t : Type 0) → t → (k : ℕ) → DifferAtMost k old new → WritesSuffice t k r s
+  suffices_together t all k ([], few, each) =
+      let same : get new packed_path ≡ get old packed_path = elim (each packed_path) [ inl same ↦ same | inr there ↦ absurd (let here = there.1 in omega arith) ] in
+      let kept = suffices old new r s p q [] (record { at = λ n other. ap (λ m. packed_at m n) (packed_map-same old new same) }) k ([], few, each) in
+      (kept.0, kept.1, λ set. absurd (kept.2 set), kept.3)
+  suffices_together t all k (path ∷ paths, few, each) = (TheRefs ∷ [], omega (arith, few), λ set. all, refs_alone)
 
 -- and any number of them where what is shown is as it was
 pub suffices_unchanged : (old new : FileMap) (r s : Repository) → Spells (shown old) r → Spells (shown new) s → shown new ≡ shown old → (k : ℕ) → DifferAtMost k old new → WritesSuffice ⊥ k r s

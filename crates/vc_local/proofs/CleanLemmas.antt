@@ -20,15 +20,21 @@ use Rattle.vc_refs.specs.Refs.{IsBadRef, ChangesOnly, packed_at, packed_path, re
 use Rattle.vc_refs.proofs.LayeredChangeLemmas.{unpacks_same}
 use Rattle.vc_refs.proofs.LayeredLemmas.{bad-same, bad_place, packed_map-same}
 use Rattle.vc_object_map.specs.Store.{objects, object_path, stored_in, with_object, with_file}
-use Rattle.vc_local.specs.Clean.{IsClean, KeepsClean, KeepsCleanBut, PacksOnly}
+use Rattle.vc_local.specs.Clean.{IsClean, KeepsClean, KeepsCleanBut, PacksOnly, StaysClean}
 use Rattle.vc_quarantine.proofs.CleanLemmas.{bad_no_object}
 use Rattle.vc_local.proofs.ShownLemmas.{ref_no_index, shown_packed}
 
+pub stays_same : (old new : FileMap) → new ≡ old → StaysClean old new
+stays_same old new same = record { damage = damage_same old new same; refs = λ path bad. subst (λ (m : FileMap). IsBadRef m path) same bad }
+
+pub stays_then : (old mid new : FileMap) → StaysClean old mid → StaysClean mid new → StaysClean old new
+stays_then old mid new first second = record { damage = damage_then first.damage second.damage; refs = λ path bad. first.refs path (second.refs path bad) }
+
 pub clean_same : {name : List ℕ} (old new : FileMap) → new ≡ old → KeepsCleanBut name old new
-clean_same {name = name} old new same = record { damage = damage_same old new same; refs = λ path bad. subst (λ (m : FileMap). IsBadRef m path) same bad; packed = unpacks_same name old new same }
+clean_same {name = name} old new same = record { stays = stays_same old new same; packed = unpacks_same name old new same }
 
 pub clean_then : {name : List ℕ} (old mid new : FileMap) → KeepsCleanBut name old mid → KeepsCleanBut name mid new → KeepsCleanBut name old new
-clean_then old mid new first second = record { damage = damage_then first.damage second.damage; refs = λ path bad. first.refs path (second.refs path bad); packed = record { at = λ n other. second.packed.at n other ∙ first.packed.at n other } }
+clean_then old mid new first second = record { stays = stays_then old mid new first.stays second.stays; packed = record { at = λ n other. second.packed.at n other ∙ first.packed.at n other } }
 
 -- after a call that changed nothing, and before one
 pub clean_from : {name : List ℕ} (old mid new : FileMap) → mid ≡ old → KeepsCleanBut name mid new → KeepsCleanBut name old new
@@ -39,7 +45,7 @@ clean_on old mid new keeps same = clean_then old mid new keeps (clean_same mid n
 
 -- what was clean is so
 pub still_clean : {name : List ℕ} (old new : FileMap) → KeepsCleanBut name old new → IsClean old → IsClean new
-still_clean old new keeps clean = record { objects = λ id damaged. clean.objects id (keeps.damage.before id damaged); refs = λ path bad. clean.refs path (keeps.refs path bad) }
+still_clean old new keeps clean = record { objects = λ id damaged. clean.objects id (keeps.stays.damage.before id damaged); refs = λ path bad. clean.refs path (keeps.stays.refs path bad) }
 
 -- a file is bad by itself alone
 damage_at : (old new : FileMap) → ((name : List ℕ) → files.get new (object_path name) ≡ files.get old (object_path name)) → KeepsDamage old new
@@ -57,7 +63,10 @@ packed_file old new same = record { at = λ n other. ap (λ m. packed_at m n) (p
 
 -- objects
 pub clean_objects : (old new : FileMap) → KeepsDamage old new → SameOutside (codes "objects/") old new → KeepsClean old new
-clean_objects old new damage outside = record { damage = damage; refs = λ path bad. bad-same old new path (outside.at path (bad_no_object new path bad)) bad; packed = packed_file old new (outside.at packed_path refl) }
+clean_objects old new damage outside = record {
+  stays = record { damage = damage; refs = λ path bad. bad-same old new path (outside.at path (bad_no_object new path bad)) bad };
+  packed = packed_file old new (outside.at packed_path refl);
+}
 
 pub clean_put : (old new : FileMap) (kind : Kind) (body : List ℕ) (id : ObjectId) → id ≡ object_name kind body → new ≡ with_file old (stored_object kind body) → objects new ≡ with_object (objects old) id (stored_object kind body)
     → SameOutside (codes "objects/") old new → KeepsClean old new
@@ -66,7 +75,7 @@ clean_put old new kind body id name file put outside =
 
 -- a ref
 pub clean_ref : {but : List ℕ} (old new : FileMap) (name : List ℕ) → KeepsTheRest name old new → UnpacksOnly but old new → KeepsCleanBut but old new
-clean_ref old new name rest packed = record { damage = damage_at old new (λ n. rest.outside.at (object_path n) refl refl); refs = rest.outside.good; packed = packed }
+clean_ref old new name rest packed = record { stays = record { damage = damage_at old new (λ n. rest.outside.at (object_path n) refl refl); refs = rest.outside.good }; packed = packed }
 
 pub clean_set : (old new : FileMap) (name : List ℕ) → IsInRefs name → KeepsTheRest name old new → ChangesOnly name old new → KeepsClean old new
 clean_set old new name inside rest only = clean_ref old new name rest (packed_file old new (only.at packed_path (ap (λ n. bytes_eq packed_path n) (split_from_starts name (codes "refs/") inside))))
@@ -84,15 +93,16 @@ packs_only old new rest is = record { outside = rest; same = shown_packed old ne
 -- HEAD and the index
 pub clean_head : (old new : FileMap) → ChangesOnly (codes "HEAD") old new → KeepsClean old new
 clean_head old new only = record {
-  damage = damage_at old new (λ n. only.at (object_path n) refl);
-  refs = λ path bad. bad-same old new path (only.at path (bad_no_head new path bad)) bad;
+  stays = record { damage = damage_at old new (λ n. only.at (object_path n) refl); refs = λ path bad. bad-same old new path (only.at path (bad_no_head new path bad)) bad };
   packed = packed_file old new (only.at packed_path refl);
 }
 
 pub clean_index : (old new : FileMap) (text : List ℕ) → new ≡ files.insert old (codes "index") text → KeepsClean old new
 clean_index old new text e = record {
-  damage = damage_at old new (λ n. put (object_path n));
-  refs = λ path bad. bad-same old new path (put path ∙ ap (λ b. cond b (Some text) (files.get old path)) (bad_no_index new path bad)) bad;
+  stays = record {
+    damage = damage_at old new (λ n. put (object_path n));
+    refs = λ path bad. bad-same old new path (put path ∙ ap (λ b. cond b (Some text) (files.get old path)) (bad_no_index new path bad)) bad;
+  };
   packed = packed_file old new (put packed_path);
 }
   where

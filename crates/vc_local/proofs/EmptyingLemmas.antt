@@ -27,6 +27,7 @@ use Rattle.vc_refs.specs.RefFault.{BlamesHead}
 use Rattle.vc_refs.specs.Refs.{packed_path, refs}
 use Rattle.vc_refs.specs.declared.faults.RefFault.{RefFault}
 use Rattle.vc_refs.specs.declared.faults.RefFault.TheVariants.{Stale, Conflict, BadRefFile, HeadLoop, Fault}
+use Rattle.vc_refs.proofs.LayeredLemmas.{packed_map-same}
 use Rattle.vc_refs.proofs.LayeredListingLemmas.{head_of-same}
 use Rattle.vc_quarantine.proofs.CleanLemmas.{bad_loses}
 use Rattle.vc_push_rules.proofs.FrameLemmas.{refs-kept}
@@ -74,7 +75,7 @@ loses_on old mid now loses same = subst (λ (m : FileMap). LosesCarried old m) (
 
 -- no file becomes bad
 pub clean_lost : (old new : FileMap) → LosesCarried old new → KeepsClean old new
-clean_lost old new loses = clean_by old new (bad_loses old new loses.left (loses.outside.at packed_path refl))
+clean_lost old new loses = clean_by old new (bad_loses old new loses.left) (packed_map-same old new (loses.outside.at packed_path refl))
 
 -- ---- what files show then
 no_ref_there : (q : List ℕ) → starts_with nat_eq q (codes "refs/") ≡ true → starts_with nat_eq q quarantines ≡ false
@@ -98,7 +99,7 @@ module _ (old new : FileMap) (loses : LosesCarried old new) where
   pub openable_kept : (r : Repository) → IsOpenable old r → IsOpenable new r
   openable_kept r can = record {
     spells = subst (λ (s : Shown). Spells (opened s.head s) r) (sym shown_kept) can.spells;
-    clean = clean_on old new (bad_loses old new loses.left (loses.outside.at packed_path refl)) can.clean;
+    clean = clean_on old new (bad_loses old new loses.left) can.clean;
     head = record { good = λ bad. can.head.good (sym head_text ∙ bad); ends = λ loop. can.head.ends (sym head_text ∙ loop) };
   }
 

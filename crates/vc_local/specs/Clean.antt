@@ -16,10 +16,14 @@ pub record IsClean (content : FileMap) : Type 0 where
   pub objects : (id : ObjectId) → ¬ IsDamaged content id
   pub refs : SpellsRefs content
 
--- What is bad now was so before, and each packed ref but this one is as it was.
-pub record KeepsCleanBut (name : List ℕ) (old new : FileMap) : Type 0 where
+-- What is bad now was so before.
+pub record StaysClean (old new : FileMap) : Type 0 where
   pub damage : KeepsDamage old new
   pub refs : (path : List ℕ) → IsBadRef new path → IsBadRef old path
+
+-- The same, and each packed ref but this one is as it was.
+pub record KeepsCleanBut (name : List ℕ) (old new : FileMap) : Type 0 where
+  pub stays : StaysClean old new
   pub packed : UnpacksOnly name old new
 
 -- What is bad now was so before, and each packed ref is as it was: no ref has no name.

@@ -29,6 +29,9 @@ use Rattle.vc_message.specs.Coming.{Came, IsCome, TakesAll, a_message, cut_short
 use Rattle.vc_node.specs.Arriving.{ComesTo, IsCallOf, IsKnown, IsStopped, IsTold, KeepsHeld, ReceivesFrom, ReceivesUp, ToldAs, by_bytes, by_node, by_reader, down_told, some_told, stopped, whole}
 use Rattle.vc_node.specs.Awaited.{AwaitedText}
 use Rattle.vc_local.specs.Clean.{KeepsClean}
+use Rattle.vc_refs.proofs.LayeredLemmas.{packed_map-same}
+use Rattle.vc_refs.specs.Refs.{packed_path}
+use Rattle.vc_exchange.specs.Quarantined.{KeepsOthers}
 use Rattle.vc_node.specs.CloneCalls.{AnswersClone, AnswersUp, ReceivedAs}
 use Rattle.vc_node.specs.CloneFaults.{of_device}
 use Rattle.vc_node.specs.ReceiveFault.{TellsDevice, UnlessFault, ends_in_fault, is_fault, told_of, up_after}
@@ -168,8 +171,10 @@ module _ {D : Type 0} (content : D → FileMap) (old mid new : D) (waits mids af
       subst (λ (r : Told). OnErr r (after ≡ waits)) (sym is)
       (subst (λ (w : AwaitedText). OnErr came (w ≡ waits)) (sym same) kept)
 
-  pub next_clean : MakesNoneBad (content old) (content mid) → KeepsClean (content old) (content new)
-  next_clean bad = subst (λ (d : D). KeepsClean (content old) (content d)) (sym files) (clean_by _ _ bad)
+  pub next_clean : MakesNoneBad (content old) (content mid) → KeepsOthers (content old) (content mid) → KeepsClean (content old) (content new)
+  next_clean bad others =
+      subst (λ (d : D). KeepsClean (content old) (content d)) (sym files)
+      (clean_by (content old) (content mid) bad (packed_map-same (content old) (content mid) (others.at packed_path refl refl refl)))
 
   pub next_cleared : UnlessFault came (IsDropped 0 (content old) → IsDropped 0 (content mid)) → UnlessFault told (IsDropped 0 (content old) → IsDropped 0 (content new))
   next_cleared cleared calm dropped = subst (λ (d : D). IsDropped 0 (content d)) (sym files) (cleared (ap (λ (r : Told). ends_in_fault r) (sym is) ∙ calm) dropped)

@@ -11,6 +11,9 @@ use Rattle.vc_local.proofs.BesideLemmas.{clean_by}
 use Rattle.vc_node.proofs.ReceivingClone.{may_up}
 use Rattle.vc_node.specs.Awaited.{AwaitedText}
 use Rattle.vc_local.specs.Clean.{KeepsClean}
+use Rattle.vc_refs.proofs.LayeredLemmas.{packed_map-same}
+use Rattle.vc_refs.specs.Refs.{packed_path}
+use Rattle.vc_tracking.specs.Storing.{KeepsBeside}
 use Rattle.vc_node.specs.CloneCalls.{AnswersClone, AnswersUp, MayOr, ReceivedAs}
 use Rattle.vc_node.specs.CloneFaults.{TellsDevice, up_after}
 use Rattle.vc_node.specs.Learning.{LearnsFrom, Leaves}
@@ -38,8 +41,10 @@ module _ {D : Type 0} (content : D → FileMap) (old mid new : D) (waits mids af
       subst (λ (r : Result Received CloneFault). OnErr r (after ≡ waits)) (sym is)
       (subst (λ (w : AwaitedText). OnErr came (w ≡ waits)) (sym same) kept)
 
-  pub settled_clean : MakesNoneBad (content old) (content mid) → KeepsClean (content old) (content new)
-  settled_clean bad = subst (λ (d : D). KeepsClean (content old) (content d)) (sym files) (clean_by _ _ bad)
+  pub settled_clean : MakesNoneBad (content old) (content mid) → KeepsBeside (content old) (content mid) → KeepsClean (content old) (content new)
+  settled_clean bad beside =
+      subst (λ (d : D). KeepsClean (content old) (content d)) (sym files)
+      (clean_by (content old) (content mid) bad (packed_map-same (content old) (content mid) (beside.at packed_path refl refl)))
 
   pub settled_learns : {honest : Type 0} (known between now : Learnt) → now ≡ between → is_up ≡ up_after told
       → Leaves honest (LearnsFrom came (content old) (content mid) known between) came (up_after came) (content mid) waits mids between → honest → is_up ≡ true → LearnsFrom told (content old) (content new) known now

@@ -15,7 +15,7 @@ pub returns-in-Ok-clause-set : goal.returns-in-Ok-clause-set
 returns-in-Ok-clause-set g c = λ honest. (free_among (g.F.Files.content c.args.files.now) c.args.to.now (c.in-Ok.ensures.allowed honest).free, c.in-Ok.ensures.sets.set honest)
 
 pub returns-in-Ok-clause-bad : goal.returns-in-Ok-clause-bad
-returns-in-Ok-clause-bad g c = λ honest. bad_ref _ _ c.args.to.now c.requires.inside (c.in-Ok.ensures.sets.rest honest) (c.in-Ok.ensures.sets.only honest)
+returns-in-Ok-clause-bad g c = λ honest. bad_ref _ _ c.args.to.now (c.in-Ok.ensures.sets.rest honest)
 
 pub returns-in-Ok-clause-outside : goal.returns-in-Ok-clause-outside
 returns-in-Ok-clause-outside g c = λ honest. outside_from_only (codes "refs/") (c.in-Ok.ensures.sets.only honest) c.requires.inside

@@ -98,7 +98,7 @@ returns-clause-beside g c = λ honest. rw (← c.self.view_is) (kept_through g.F
 pub returns-clause-clean : goal.returns-clause-clean
 returns-clause-clean g c = λ honest.
     rw (← c.self.view_is) (next_clean g.F.Files.content c.self.inside.files c.take_next-received.new.files c.settle_next.new.self.files (awaited_text c.self.inside.awaited) (awaited_text c.take_next-received.new.awaited) c.settle_next.new.self.awaited c.settle_next.new.self.is_up
-    c.take_next-received.result c.settle_next.result c.settle_next.ensures.received c.settle_next.ensures.files c.settle_next.ensures.awaits (c.take_next-received.ensures.good honest).bad)
+    c.take_next-received.result c.settle_next.result c.settle_next.ensures.received c.settle_next.ensures.files c.settle_next.ensures.awaits (c.take_next-received.ensures.good honest).bad (c.take_next-received.ensures.beside honest))
 
 pub returns-clause-wear : goal.returns-clause-wear
 returns-clause-wear g c =

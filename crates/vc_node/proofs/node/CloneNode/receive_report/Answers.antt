@@ -75,7 +75,7 @@ returns-clause-beside g c = λ honest. rw (← c.self.view_is) (kept_through g.F
 pub returns-clause-clean : goal.returns-clause-clean
 returns-clause-clean g c = λ honest.
     rw (← c.self.view_is) (settled_clean g.F.Files.content c.self.inside.files c.take_report-received.new.files c.settle.new.self.files (awaited_text c.self.inside.awaited) (awaited_text c.take_report-received.new.awaited) c.settle.new.self.awaited c.self.inside.is_up c.settle.new.self.is_up c.take_report-received.result c.settle.result
-    c.settle.ensures.received c.settle.ensures.files c.settle.ensures.awaits (c.take_report-received.ensures.good honest).bad)
+    c.settle.ensures.received c.settle.ensures.files c.settle.ensures.awaits (c.take_report-received.ensures.good honest).bad (c.take_report-received.ensures.beside honest))
 
 pub returns-clause-wear : goal.returns-clause-wear
 returns-clause-wear g c =
