@@ -17,7 +17,7 @@ use Rattle.vc_model.specs.Push.{OpenPush, Slots}
 use Rattle.vc_model.specs.Shared.{SharedNode}
 use Rattle.vc_model.specs.SharedCall.{SharedCall}
 use Rattle.vc_model.specs.SharedCall.SharedCall.{StepOf}
-use Rattle.vc_local.proofs.CleanLemmas.{clean_then}
+use Rattle.vc_local.proofs.CleanLemmas.{stays_then}
 use Rattle.vc_local.specs.Clean.{KeepsClean}
 use Rattle.vc_local.specs.declared.fault.NodeFault.TheVariants.{Down}
 use Rattle.vc_local.proofs.FaultLemmas.{node_undone}
@@ -253,4 +253,4 @@ module _ (Refuses : SharedFault → Type 0) where
 
   pub on_the_way : (old mid : FileMap) (result : Result (Vec ℕ Global) SharedFault) → KeepsClean old mid → IfErr result (IsRefusedOnTheWay mid) → IfErr result (IsRefusedFor Refuses old)
   on_the_way old mid (Ok reply) clean refused = tt
-  on_the_way old mid (Err e) clean (content, slot, keeps, why) = inr (inr (content, slot, clean_then old mid content clean keeps, why))
+  on_the_way old mid (Err e) clean (content, slot, keeps, why) = inr (inr (content, slot, stays_then old mid content clean.stays keeps, why))

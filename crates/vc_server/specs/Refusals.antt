@@ -2,7 +2,7 @@
 use Rattle.std.specs.Prelude.{◌≡◌, ◌⊎◌, ℕ, List, Option}
 use Rattle.vc_files.specs.FileMap.{FileMap}
 use Rattle.vc_message.specs.AnyMessage.{MessageText}
-use Rattle.vc_local.specs.Clean.{KeepsClean}
+use Rattle.vc_local.specs.Clean.{StaysClean}
 use Rattle.vc_local.specs.declared.fault.NodeFault.TheVariants.{Down}
 use Rattle.vc_push_rules.specs.Session.{SessionText}
 use Rattle.vc_shared.specs.Accepting.{IsRefusedBytes, IsRefusedMessage}
@@ -12,7 +12,7 @@ use Rattle.vc_shared.specs.declared.fault.SharedFault.TheVariants.{Node}
 
 -- a step is refused over files of which none is bad that was not so before, or the node is down
 abbrev pub IsRefusedOnTheWay : FileMap → SharedFault → Type 0
-IsRefusedOnTheWay old e = (content : FileMap) × (slot : Option SessionText) × KeepsClean old content × ((e ≡ Node Down) ⊎ IsRefusedIn content slot e)
+IsRefusedOnTheWay old e = (content : FileMap) × (slot : Option SessionText) × StaysClean old content × ((e ≡ Node Down) ⊎ IsRefusedIn content slot e)
 
 -- what came is refused, or a step of the push that it opened
 abbrev pub IsRefusedFor : (SharedFault → Type 0) → FileMap → SharedFault → Type 0

@@ -5,7 +5,7 @@ ghost use Rattle.vc_message.specs.Machine.{IsUnread, Reads};
 ghost use Rattle.vc_model.specs.Message.{Message as Sent};
 ghost use Rattle.vc_model.specs.Question.Question.{Unread};
 ghost use Rattle.vc_model.specs.SharedCall.SharedCall.{Accept, Asks};
-ghost use Rattle.vc_local.specs.Clean.{KeepsClean};
+ghost use Rattle.vc_local.specs.Clean.{StaysClean};
 ghost use Rattle.vc_local.specs.declared.fault.NodeFault.TheVariants.{Down};
 ghost use Rattle.vc_server.specs.Coming.{ServesCall, ServesFirst, ServesNext};
 ghost use Rattle.vc_server.specs.Refusals.{IsRefusedAnswer, IsRefusedOnTheWay};
@@ -43,7 +43,7 @@ fn finish<F: Files>(shared: &mut Shared<F>, slot: u8) -> Result<Vec<u8>, SharedF
     ensures steps { F.honest → StepsToEnd slot result (F.content shared.old.files) (F.content shared.new.files) shared.old.slots shared.new.slots shared.new.is_up }
     ensures bad_file { F.honest → IfErr result (IsRefusedOnTheWay (F.content shared.old.files)) }
     ensures up { shared.new.is_up ≡ up_after result }
-    ensures clean { F.honest → KeepsClean (F.content shared.old.files) (F.content shared.new.files) }
+    ensures clean { F.honest → StaysClean (F.content shared.old.files) (F.content shared.new.files) }
     ensures wear { Writes F.honest F.content F.failed F.can_fail F.left shared.old.files shared.new.files (TellsDevice result) }
 {
     'steps: for _ in 0..MAX_STEPS {
@@ -64,7 +64,7 @@ fn reply_to<F: Files>(shared: &mut Shared<F>, accepted: Accepted) -> Result<Vec<
     ensures replied { IfOk result (IsReplyOf accepted) }
     ensures bad_file { F.honest → IfErr result (IsRefusedOnTheWay (F.content shared.old.files)) }
     ensures up { shared.new.is_up ≡ up_after result }
-    ensures clean { F.honest → KeepsClean (F.content shared.old.files) (F.content shared.new.files) }
+    ensures clean { F.honest → StaysClean (F.content shared.old.files) (F.content shared.new.files) }
     ensures wear { Writes F.honest F.content F.failed F.can_fail F.left shared.old.files shared.new.files (TellsDevice result) }
 {
     match accepted {
@@ -84,7 +84,7 @@ pub fn answer<F: Files>(shared: &mut Shared<F>, bytes: &[u8]) -> Result<Vec<u8>,
     ensures bad_file { F.honest → IfErr result (IsRefusedAnswer (F.content shared.old.files) shared.old.slots bytes.now) }
     ensures down { shared.old.is_up ≡ false → result ≡ Err (Node Down) }
     ensures up { shared.old.is_up ≡ true → shared.new.is_up ≡ up_after result }
-    ensures clean { F.honest → KeepsClean (F.content shared.old.files) (F.content shared.new.files) }
+    ensures clean { F.honest → StaysClean (F.content shared.old.files) (F.content shared.new.files) }
     ensures wear { Writes F.honest F.content F.failed F.can_fail F.left shared.old.files shared.new.files (TellsDevice result) }
 {
     let accepted = shared.accept(bytes)?;
@@ -105,7 +105,7 @@ pub fn answer_from<F: Files, R: Source>(
     ensures lost { KeepsAtLoss R.failed R.can_fail reader.old reader.new F.honest result (KeepsNode F.content shared.old shared.new) }
     ensures down { shared.old.is_up ≡ false → shared.new ≡ shared.old }
     ensures up { shared.old.is_up ≡ true → shared.new.is_up ≡ accept_up_after result }
-    ensures clean { F.honest → KeepsClean (F.content shared.old.files) (F.content shared.new.files) }
+    ensures clean { F.honest → StaysClean (F.content shared.old.files) (F.content shared.new.files) }
     ensures wear { Writes F.honest F.content F.failed F.can_fail F.left shared.old.files shared.new.files (TellsAcceptDevice result) }
 {
     let Some(accepted) = shared.accept_from(reader)? else {

@@ -4,7 +4,7 @@ ghost use Rattle.vc_files.specs.Failures.{Writes};
 ghost use Rattle.vc_message.specs.Machine.{Reads};
 ghost use Rattle.vc_model.specs.Message.{Message};
 ghost use Rattle.vc_message.specs.Source.{TellsLoss};
-ghost use Rattle.vc_local.specs.Clean.{KeepsClean};
+ghost use Rattle.vc_local.specs.Clean.{StaysClean};
 ghost use Rattle.vc_server.specs.Turn.{IsUpThen, LeavesRest, TakesTurn, ends_in_fault};
 
 use crate::answering::answer_from;
@@ -29,7 +29,7 @@ pub fn serve_message<F: Files, R: Source, W: Write>(
     ensures turn { TakesTurn F.honest F.content R.remaining W.contents shared.old shared.new reader.old reader.new writer.old writer.new result }
     ensures known { (m : Message) (bytes rest : List ℕ) → R.remaining reader.old ≡ Some (bytes ++ rest) → Reads bytes m → LeavesRest rest (R.remaining reader.new) result }
     ensures up { shared.old.is_up ≡ true → IsUpThen shared.new.is_up result }
-    ensures clean { F.honest → KeepsClean (F.content shared.old.files) (F.content shared.new.files) }
+    ensures clean { F.honest → StaysClean (F.content shared.old.files) (F.content shared.new.files) }
     ensures lost { TellsLoss R.failed R.can_fail reader.old reader.new (IsErrOf result ServeFault.ReadFailed) (ends_in_fault result ≡ true) }
     ensures wear { Writes F.honest F.content F.failed F.can_fail F.left shared.old.files shared.new.files (IsErrOf result (ServeFault.Fault Fault.Device)) }
 {

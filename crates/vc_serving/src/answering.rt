@@ -6,7 +6,7 @@ ghost use Rattle.vc_model.specs.SharedCall.SharedCall.{Accept};
 ghost use Rattle.vc_message.specs.Machine.{FirstRead};
 ghost use Rattle.vc_message.specs.Source.{TellsLoss};
 ghost use Rattle.vc_local.specs.Blames.{BlamesOpen};
-ghost use Rattle.vc_local.specs.Clean.{KeepsClean};
+ghost use Rattle.vc_local.specs.Clean.{KeepsClean, StaysClean};
 ghost use Rattle.vc_local.specs.NodeFault.{TellsDevice as TellsNodeDevice};
 ghost use Rattle.vc_local.specs.Opening.{IsOpenable, OpenableAs};
 ghost use Rattle.vc_serving.specs.Answering.{AnswersCame, AnswersRead, HoldsOpened, IsRefusedOnce, KeepsOpenable, TellsUnopened};
@@ -45,7 +45,7 @@ pub fn answer_from<F: Files, R: Source>(
     ensures lost { F.honest → OpenableAs (F.content files) (λ r. KeepsOpenable (F.content result.0) r result.1) }
     ensures refused { F.honest → IsRefusedOnce (R.remaining reader.old) (R.remaining reader.new) (F.content files) result.1 }
     ensures failures { TellsLoss R.failed R.can_fail reader.old reader.new (IsErrOf result.1 AcceptFault.ReadFailed) (ends_in_fault result.1 ≡ true) }
-    ensures clean { F.honest → TellsUnopened (F.content files) result.1 ⊎ KeepsClean (F.content files) (F.content result.0) }
+    ensures clean { F.honest → TellsUnopened (F.content files) result.1 ⊎ StaysClean (F.content files) (F.content result.0) }
     ensures wear { Writes F.honest F.content F.failed F.can_fail F.left files result.0 (TellsDevice result.1) }
 {
     let mut shared = match Shared::open(alloc, files) {

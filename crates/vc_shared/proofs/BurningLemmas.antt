@@ -1,5 +1,5 @@
 -- What a call of the shared node spends of the writes left is what the machine allows.
-use Rattle.std.proofs.Common.{◌≡◌, ◌≢◌, inl, inr, ℕ, Bool, true, false, List, Option, Some, None, refl, sym, ◌∙◌, []}
+use Rattle.std.proofs.Common.{◌≡◌, ◌≢◌, inl, inr, ℕ, Bool, true, false, List, Option, Some, None, refl, sym, ap, ◌∙◌, []}
 use Rattle.std.specs.FinMap.{insert}
 use Rattle.vc_files.specs.FileMap.{FileMap}
 use Rattle.vc_model.specs.ExactWorld.{MayShared, TogetherAt}
@@ -14,17 +14,19 @@ use Rattle.vc_model.specs.Shared.{SharedNode}
 use Rattle.vc_model.specs.SharedCall.{SharedAnswers, SharedCall}
 use Rattle.vc_model.specs.SharedCall.SharedCall.{Open, StepOf}
 use Rattle.vc_model.specs.SharedCall.SharedAnswers.{asked, down, faulted, obeyed, opened, pruned, refused}
-use Rattle.vc_local.proofs.BurnLemmas.{burns, spent_none, suffices}
+use Rattle.vc_local.proofs.BurnLemmas.{burns, spent_none, suffices, suffices_together}
 use Rattle.vc_values.proofs.GitLaws.{git_rules}
 use Rattle.vc_rules.proofs.WritingLaws.{writes_agree}
 use Rattle.vc_rules.specs.Git.{git}
 use Rattle.vc_push_rules.specs.Session.{SessionText}
+use Rattle.vc_quarantine.specs.Clean.{KeepsPacked}
+use Rattle.vc_refs.specs.Refs.{packed_at}
 use Rattle.vc_local.proofs.BesideLemmas.{held_content}
 use Rattle.vc_shared.proofs.SteppingLaws.{IsStanding, pushes_of, standing}
-use Rattle.vc_shared.specs.Burning.{CleanSuffices, OpeningBurns, SharedBurns, StepMayWrite}
+use Rattle.vc_shared.specs.Burning.{CleanSuffices, IsEnough, OpeningBurns, SharedBurns, StepMayWrite, StepSuffices}
 use Rattle.vc_shared.specs.Holding.{HoldsShared, IsLive}
 use Rattle.vc_shared.specs.Slots.{slot_of}
-use Rattle.vc_shared.specs.Stepping.{MayWriteIn}
+use Rattle.vc_shared.specs.Stepping.{LeavesPackedIn, MayWriteIn}
 
 -- ---- a step
 pub may_step : StepMayWrite
@@ -67,6 +69,21 @@ together t k r s (places, few, none, differ) = (places, few, λ all. absurd (non
 
 pub clean_suffices : CleanSuffices
 clean_suffices old new slots is_up call n held keeps s spells k differ = together (TogetherAt n call) k n.repository s (suffices old new n.repository s held.spells spells [] keeps.packed k differ)
+
+pub step_suffices : StepSuffices
+step_suffices old new slots k n held =
+    let open_now = pushes_of old slots n.live held.live in
+    by open_now.0 open_now.1 (slot_of slots k) (standing old slots open_now.0 k open_now.2)
+  where
+    kept : KeepsPacked old new → IsEnough old new (StepOf k) n
+    kept same s spells j differ =
+        together (TogetherAt n (StepOf k)) j n.repository s (suffices old new n.repository s held.spells spells [] (record { at = λ q other. ap (λ m. packed_at m q) same }) j differ)
+
+    by : (pushes : Slots) → n.live ≡ Some pushes → (v : Option SessionText) → IsStanding old pushes k v → LeavesPackedIn old new v → IsEnough old new (StepOf k) n
+    by pushes live None none same = kept same
+    by pushes live (Some s) stands (inl same) = kept same
+    by pushes live (Some s) (p, small, is, at, push, clean) (inr (atomic, rest)) = λ after spells j differ.
+        suffices_together old new n.repository after held.spells spells rest (TogetherAt n (StepOf k)) (pushes, live, (p, is, push.atomic ∙ atomic)) j differ
 
 pub shared_burns : {D R : Type 0} (honest : Type 0) (content : D → FileMap) (failed : D → ℕ) (can_fail : D → Type 0) (left : D → Option ℕ) (shows : R → Answer → Option Message → Type 0) (tells_device : R → Type 0)
     → SharedBurns honest content failed can_fail left shows tells_device

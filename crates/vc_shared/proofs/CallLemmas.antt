@@ -13,7 +13,7 @@ use Rattle.vc_model.specs.Repository.{IsBare, IsSound}
 use Rattle.vc_model.specs.Shared.{SharedNode}
 use Rattle.vc_model.specs.SharedCall.{SharedAnswers, SharedCall, SharedRefuses}
 use Rattle.vc_model.specs.SharedCall.SharedCall.{Asks, Open}
-use Rattle.vc_local.specs.Clean.{IsClean, KeepsClean}
+use Rattle.vc_local.specs.Clean.{IsClean}
 use Rattle.vc_local.specs.Machine.{Spells}
 use Rattle.vc_local.specs.Shown.{shown}
 use Rattle.vc_values.proofs.GitLaws.{git_rules}
@@ -63,8 +63,8 @@ module _ {T : Type 0} (call : SharedCall) (Shows : Result T SharedFault → Answ
 pub told_as : (P : SharedFault → Type 0) (e told : SharedFault) → told ≡ e → P e → P told
 told_as P e told is holds = subst P (sym is) holds
 
-pub clean_through : (old mid new : FileMap) → new ≡ mid → KeepsClean old mid → KeepsClean old new
-clean_through old mid new files keeps = subst (λ (m : FileMap). KeepsClean old m) (sym files) keeps
+pub kept_through : (Keeps : FileMap → FileMap → Type 0) (old mid new : FileMap) → new ≡ mid → Keeps old mid → Keeps old new
+kept_through Keeps old mid new files keeps = subst (Keeps old) (sym files) keeps
 
 module _ {D : Type 0} {failed : D → ℕ} {can_fail : D → Type 0} {left : D → Option ℕ} {old mid new : D} {May : Type 0} (e told : SharedFault) (is : told ≡ e) (files : new ≡ mid) where
   pub looks_through : May ⊎ Wears failed can_fail left old mid (IsOfDevice e) → May ⊎ Wears failed can_fail left old new (IsOfDevice told)

@@ -24,8 +24,10 @@ use Rattle.vc_pkt.proofs.Written.{line_written}
 use Rattle.vc_pkt.specs.Line.{flush, spelling}
 use Rattle.vc_push.specs.Push.{CommandText, PushText}
 use Rattle.vc_rules.proofs.OpenPushLaws.{content_beside}
-use Rattle.vc_quarantine.specs.Clean.{MakesNoneBad}
+use Rattle.vc_quarantine.specs.Clean.{KeepsPacked, MakesNoneBad}
 use Rattle.vc_push_rules.specs.Quarantine.{IsDropped, quarantine_folder}
+use Rattle.vc_refs.proofs.LayeredLemmas.{packed_map-same}
+use Rattle.vc_refs.specs.Refs.{packed_map, packed_path}
 use Rattle.vc_push_rules.specs.Session.{SessionText}
 use Rattle.vc_shared.proofs.AcceptingLemmas.{faulted_answers, unread_answers}
 use Rattle.vc_shared.proofs.ArrivingLemmas.{up_is_calm}
@@ -125,6 +127,14 @@ kept_free old new slots e changes bad cleared is_up calm = by (lowest_or_taken s
     by : AreTaken slots ⊎ ((k : ℕ) × IsLowest slots k) → KeepsHeld old new slots slots is_up is_up
     by (inl taken) = λ n held. subst (λ (content : FileMap). HoldsShared content slots is_up n) (sym (changes.none taken)) held
     by (inr (k, lowest)) = kept_beside old new slots bad k lowest (changes.outside k lowest) is_up (λ up. cleared (calm up) k lowest)
+
+-- no ref was packed
+pub packed_free : (old new : FileMap) (slots : List (Option SessionText)) → ChangesFree old new slots → KeepsPacked old new
+packed_free old new slots changes = by (lowest_or_taken slots)
+  where
+    by : AreTaken slots ⊎ ((k : ℕ) × IsLowest slots k) → KeepsPacked old new
+    by (inl taken) = ap packed_map (changes.none taken)
+    by (inr (k, lowest)) = packed_map-same old new ((changes.outside k lowest).at packed_path refl)
 
 -- what is held after a call is held after what changes nothing of it
 answers_then : (call : SharedCall) (shows : Answer → Option Message → Type 0) (old mid new : FileMap) (slots : List (Option SessionText)) (was_up is_up : Bool) → AnswersShared call shows old mid slots slots was_up is_up

@@ -1,5 +1,5 @@
 -- What stays of a held node where files change.
-use Rattle.std.proofs.Common.{◌≡◌, ◌≢◌, ◌<◌, ◌^◌, ◌++◌, arith, ℕ, true, false, nat_eq, length, List, Option, Some, None, refl, sym, ap, ◌∙◌, subst}
+use Rattle.std.proofs.Common.{◌≡◌, ◌≢◌, ◌<◌, ◌^◌, ◌++◌, arith, ℕ, Bool, true, false, nat_eq, length, List, Option, Some, None, refl, sym, ap, ◌∙◌, subst}
 use Rattle.std.specs.Prelude.{bytes_eq, codes, slice_set}
 use Rattle.std.specs.FinMap as files
 use Rattle.std.specs.List.{starts_with}
@@ -19,7 +19,7 @@ use Rattle.vc_push_rules.proofs.FrameLemmas.{other_slot}
 use Rattle.vc_quarantine.proofs.NumberLemmas.{agreement_same}
 use Rattle.vc_push_rules.specs.Quarantine.{IsDropped, quarantine_folder}
 use Rattle.vc_push_rules.specs.Session.{SessionText}
-use Rattle.vc_push_rules.specs.Steps.{Steps}
+use Rattle.vc_push_rules.specs.Steps.{EndsUpdate, Steps}
 use Rattle.vc_push_rules.specs.declared.stage.Stepped.{Stepped as SessionStep}
 use Rattle.vc_push_rules.specs.declared.stage.Stepped.TheVariants as session
 use Rattle.vc_shared.specs.Holding.{HoldsSlot, KeepsGood}
@@ -44,6 +44,10 @@ beside_objects old new same = beside_by old new (same.at (codes "HEAD") refl) (s
 
 pub beside_ref : (name : List ℕ) (old new : FileMap) → KeepsTheRest name old new → SameBeside old new
 beside_ref name old new rest = beside_by old new (rest.outside.at (codes "HEAD") refl refl) (rest.outside.at (codes "index") refl refl)
+
+pub beside_update : (old new : FileMap) (atomic : Bool) → EndsUpdate atomic old new → SameBeside old new
+beside_update old new false same = beside_same old new same
+beside_update old new true (same, rest) = beside_by old new (rest.at (codes "HEAD") refl refl) (rest.at (codes "index") refl refl)
 
 pub steps_beside : (old new : FileMap) (s t : SessionText) (did : SessionStep) → Steps old new s t did → SameBeside old new
 steps_beside old new s t (session.Checked n) h = beside_same old new h.files

@@ -124,7 +124,7 @@ module _ (old new : FileMap) (slots after : List (Option SessionText)) (push : P
       push_held : HoldsPush new o.session machine_push
       push_held =
           subst (λ r. HoldsPush new o.session (opened false r (map machine_command push.commands) is.objects)) (sym (refusal_is push.carried o.fault is.refusal o.fault_is is.refused))
-          (opens_agree new o.session k o.fault push.commands push.carried is.objects o.opened o.is_session o.fault_is o.carries is.brought)
+          (opens_agree new o.session k o.fault false push.commands push.carried is.objects o.opened o.is_session o.fault_is o.carries is.brought)
 
       slots_then : HoldsSlots new (slice_set slots k (Some o.session)) pushes_then
       slots_then = record {

@@ -21,7 +21,6 @@ use Rattle.vc_local.specs.Opening.{opened_node}
 use Rattle.vc_local.specs.Shown.{Shown}
 use Rattle.vc_local.specs.Told.{RestartedAs}
 use Rattle.vc_local.specs.declared.fault.NodeFault.{NodeFault}
-use Rattle.vc_refs.specs.Refs.{packed_path}
 use Rattle.vc_quarantine.proofs.CleanLemmas.{bad_loses}
 use Rattle.vc_push_rules.specs.Session.{SessionText}
 use Rattle.vc_shared.proofs.OpeningLemmas.{held_opened}
@@ -59,7 +58,7 @@ module _ (old new : FileMap) (slots after : List (Option SessionText)) (was_up :
           None,
           record {
             spells = subst (λ (s : Shown). Spells s n.repository) (sym (shown_kept old new loses)) held.spells;
-            clean = clean_on old new (bad_loses old new loses.left (loses.outside.at packed_path refl)) held.clean;
+            clean = clean_on old new (bad_loses old new loses.left) held.clean;
             live = tt;
           },
           record { answer = sym why.1; sent = refl },

@@ -12,7 +12,9 @@ use Rattle.vc_push_rules.specs.Session.{SessionText}
 use Rattle.vc_local.proofs.BesideLemmas.{clean_by}
 use Rattle.vc_shared.specs.Accepting.{AnswersUp, IsAnsweredBytes}
 use Rattle.vc_shared.specs.Calls.{AcceptedAs, AnswersShared}
+use Rattle.vc_shared.proofs.ComingLemmas.{packed_free}
 use Rattle.vc_shared.specs.Faults.{TellsDevice, up_after}
+use Rattle.vc_shared.specs.Pushing.{ChangesFree}
 use Rattle.vc_shared.specs.declared.accepting.Accepted.{Accepted}
 use Rattle.vc_shared.specs.declared.fault.SharedFault.{SharedFault}
 use Rattle.vc_shared.specs.declared.fault.SharedFault.TheVariants.{Node}
@@ -38,8 +40,10 @@ module _ {D : Type 0} (content : D → FileMap) (old mid new : D) (slots mids af
       subst (λ (r : Result Accepted SharedFault). OnErr r (after ≡ slots)) (sym is)
       (subst (λ (xs : List (Option SessionText)). OnErr came (xs ≡ slots)) (sym same) kept)
 
-  pub settled_clean : MakesNoneBad (content old) (content mid) → KeepsClean (content old) (content new)
-  settled_clean bad = subst (λ (d : D). KeepsClean (content old) (content d)) (sym files) (clean_by _ _ bad)
+  pub settled_clean : MakesNoneBad (content old) (content mid) → ChangesFree (content old) (content mid) slots → KeepsClean (content old) (content new)
+  settled_clean bad outside =
+      subst (λ (d : D). KeepsClean (content old) (content d)) (sym files)
+      (clean_by (content old) (content mid) bad (packed_free (content old) (content mid) slots outside))
 
   module _ {failed : D → ℕ} {can_fail : D → Type 0} {left : D → Option ℕ} where
     pub settled_wear : {honest : Type 0} → Writes honest content failed can_fail left old mid (TellsDevice came) → Writes honest content failed can_fail left old new (TellsDevice told)

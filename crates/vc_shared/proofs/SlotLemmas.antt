@@ -1,5 +1,5 @@
 -- What stands in the slots, before a step of the push in one of them and after it.
-use Rattle.std.proofs.Common.{◌≡◌, ℕ, ◌<◌, ◌≤◌, false, List, length, Option, Some, None, Result, Ok, Err, sym, ap, ◌∙◌, subst, inl, inr, ◌⊎◌}
+use Rattle.std.proofs.Common.{◌≡◌, ℕ, ◌<◌, ◌≤◌, Bool, true, false, List, length, Option, Some, None, Result, Ok, Err, refl, sym, ap, ◌∙◌, subst, inl, inr, ◌⊎◌}
 use Rattle.std.specs.Prelude.{IfOk, IfErr, slice_set, unwrap_or}
 use Rattle.std.proofs.lemmas.List.{set-get_or, set-set}
 use Rattle.std.proofs.lemmas.List.Elements.{All-get_or, All-set}
@@ -7,15 +7,22 @@ use Rattle.std.proofs.lemmas.Option.{slice_get_past, unwrap_or-slice_get}
 use Rattle.vc_files.specs.FileMap.{FileMap}
 use Rattle.vc_message.proofs.Totals.{less_or}
 use Rattle.vc_push_rules.specs.Session.{SessionText}
-use Rattle.vc_push_rules.specs.Steps.{EndsEarly, Steps}
+use Rattle.vc_push_rules.specs.Steps.{EndsEarly, EndsUpdate, Steps}
+use Rattle.vc_push_rules.specs.declared.stage.Stage.{Stage}
+use Rattle.vc_push_rules.specs.declared.stage.Stage.TheVariants as stages
 use Rattle.vc_push_rules.specs.declared.stage.Stepped.{Stepped as SessionStep}
 use Rattle.vc_push_rules.specs.declared.stage.Stepped.TheVariants as session
 use Rattle.vc_shared.specs.Faults.{is_fault}
 use Rattle.vc_shared.specs.Slots.{AreTellable, AreToldInOne, IsSlotTellable, slot_of}
-use Rattle.vc_shared.specs.Stepping.{IsEnd, IsHeldThere, StepsPush, StepsSlot, left_in}
+use Rattle.vc_shared.specs.Stepping.{IsEnd, IsHeldThere, LeavesPackedIn, StepsPush, StepsSlot, left_in}
 use Rattle.vc_shared.specs.declared.fault.SharedFault.{SharedFault}
 use Rattle.vc_shared.specs.declared.stepping.Stepped.{Stepped}
 use Rattle.vc_shared.specs.declared.stepping.Stepped.TheVariants.{Checked, Migrated, Updated, Finished}
+
+-- nothing is packed where no file changes
+pub packed_none : (content : FileMap) (v : Option SessionText) → LeavesPackedIn content content v
+packed_none content None = refl
+packed_none content (Some s) = inl refl
 
 -- what comes from a step of the push whose slot was emptied for it
 pub put_back : (slots mid after : List (Option SessionText)) (k : ℕ) (left v : Option SessionText) → mid ≡ slice_set slots k None → after ≡ slice_set mid k left → left ≡ v → after ≡ slice_set slots k v
@@ -57,6 +64,17 @@ module _ (slots : List (Option SessionText)) (k : ℕ) where
       → IfErr r (λ e. is_fault e ≡ false → t ≡ s) → IfErr r (λ e. is_fault e ≡ false → after ≡ slots)
   slot_unchanged after s t (Ok did) is put same = tt
   slot_unchanged after s t (Err e) is put same = λ refusal. put ∙ ap (λ (u : SessionText). slice_set slots k (Some u)) (same refusal) ∙ same_slot (Some s) is
+
+-- ---- a step that ends before anything is done
+none_updated : (content : FileMap) (atomic : Bool) → EndsUpdate atomic content content
+none_updated content false = refl
+none_updated content true = (refl, record { at = λ path outside other. refl; head = refl; good = λ path bad. bad })
+
+pub none_done : (content : FileMap) (s : SessionText) (stage : Stage) → EndsEarly content content s stage
+none_done content s stages.Unpacked = refl
+none_done content s stages.Checked = (λ id. inl refl, record { at = λ path outside. refl })
+none_done content s stages.Migrated = none_updated content s.atomic
+none_done content s stages.Done = record { at = λ path outside. refl }
 
 -- ---- the end
 -- a report is told at the last stage, where any fault may leave some of the quarantine

@@ -40,7 +40,7 @@ use Rattle.vc_push_rules.specs.declared.stage.Stage.{Stage}
 use Rattle.vc_push_rules.specs.declared.stage.Stage.TheVariants as stages
 use Rattle.vc_object_map.specs.declared.faults.StoreFault.TheVariants as store
 use Rattle.vc_shared.proofs.CallLemmas.{Leads, fault_leads, refused_leads}
-use Rattle.vc_shared.proofs.HoldingLemmas.{beside_objects, beside_same, beside_slot}
+use Rattle.vc_shared.proofs.HoldingLemmas.{beside_objects, beside_same, beside_slot, beside_update}
 use Rattle.vc_local.proofs.BesideLemmas.{SameBeside, clean_on, held_content, spells_on}
 use Rattle.vc_shared.proofs.SlotLemmas.{told_at}
 use Rattle.vc_shared.proofs.SteppedLemmas.{stepped}
@@ -83,7 +83,7 @@ module _ (old new : FileMap) (slots after : List (Option SessionText)) (n : Shar
   stopped : (stage : Stage) → s.stage ≡ stage → EndsEarly old new s stage → Leads n (StepOf k) new after false (Quietly (Fault f))
   stopped stages.Unpacked at early = idle (beside_same old new early) (agrees stages.Unpacked early)
   stopped stages.Checked at early = cut (push.stage ∙ ap machine_stage at) (beside_objects old new early.1) (agrees stages.Checked early)
-  stopped stages.Migrated at early = idle (beside_same old new early) (agrees stages.Migrated early)
+  stopped stages.Migrated at early = idle (beside_update old new s.atomic early) (agrees stages.Migrated early)
   stopped stages.Done at early = idle (beside_slot s.slot old new early) (agrees stages.Done early)
 
 -- ---- over clean files a step is refused for a fault alone

@@ -61,7 +61,7 @@ pub record Arrives (honest : Type 0) (before new : Option (List ℕ)) (content :
   pub taken : TakesAll before new (a_push push)
   pub fault : Option ObjectFault
   pub fault_is : honest → FaultOf push.carried fault
-  pub opened : IsOpened slot fault push.commands s
+  pub opened : IsOpened slot fault false push.commands s
   pub carries : honest → Carries content slot s.names (objects_of_push push.carried)
 
 -- the same, of what the reader had before as the last: so a clause says it of each

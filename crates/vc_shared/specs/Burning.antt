@@ -22,7 +22,7 @@ use Rattle.vc_push_rules.specs.Session.{SessionText}
 use Rattle.vc_shared.specs.Calls.{AnswersShared}
 use Rattle.vc_shared.specs.Holding.{HoldsShared}
 use Rattle.vc_shared.specs.Slots.{slot_of}
-use Rattle.vc_shared.specs.Stepping.{MayWriteIn}
+use Rattle.vc_shared.specs.Stepping.{LeavesPackedIn, MayWriteIn}
 
 -- One write for each place that changed is enough, or one for all refs if the call sets them together.
 abbrev pub IsEnough : FileMap → FileMap → SharedCall → SharedNode → Type 0
@@ -31,6 +31,10 @@ IsEnough old new call n = (s : Repository) → Spells (shown new) s → (k : ℕ
 -- so it is of a call that leaves each packed ref as it was
 abbrev pub CleanSuffices : Type 0
 CleanSuffices = (old new : FileMap) (slots : List (Option SessionText)) (is_up : Bool) (call : SharedCall) (n : SharedNode) → HoldsShared old slots is_up n → KeepsClean old new → IsEnough old new call n
+
+-- and of a step, which sets the refs of an atomic push together
+abbrev pub StepSuffices : Type 0
+StepSuffices = (old new : FileMap) (slots : List (Option SessionText)) (k : ℕ) (n : SharedNode) → HoldsShared old slots true n → LeavesPackedIn old new (slot_of slots k) → IsEnough old new (StepOf k) n
 
 -- A call of a held node, other than its opening, that says what it answers, what it wears and where it only looks, is a step of the
 -- machine that ends with the writes left which the machine allows; and a node that is up then is calm.

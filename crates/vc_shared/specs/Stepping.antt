@@ -7,10 +7,11 @@ use Rattle.vc_pkt.specs.Line.{spelling}
 use Rattle.vc_push.specs.Report.{IsShortTold, IsShortUnpack, report_lines}
 use Rattle.vc_push.specs.ReportView.{bytes_of, report_text, told_of}
 use Rattle.vc_push_rules.specs.Carrying.{HoldsNames}
-use Rattle.vc_quarantine.specs.Clean.{MakesNoneBad}
+use Rattle.vc_quarantine.specs.Clean.{KeepsPacked, MakesNoneBad}
 use Rattle.vc_quarantine.specs.Learning.{Learnt}
 use Rattle.vc_push_rules.specs.Session.{IsSession, SessionText}
 use Rattle.vc_session.specs.SessionFault.{IsRefusedStep}
+use Rattle.vc_session.specs.Stepping.{LeavesPacked}
 use Rattle.vc_push_rules.specs.Steps.{EndsEarly, MayWrite, Steps}
 use Rattle.vc_session.specs.declared.fault.SessionFault.{SessionFault}
 use Rattle.vc_push_rules.specs.declared.stage.Stepped.{Stepped as SessionStep}
@@ -89,8 +90,15 @@ MayWriteIn content (Some s) = MayWrite content s s.stage
 abbrev pub MayStepOr : FileMap → Option SessionText → Type 0 → Type 0
 MayStepOr content slot IsLook = IsHeldThere content slot → MayWriteIn content slot ⊎ IsLook
 
--- what is known of generations agrees then, no file was made bad, and a step that ended in no fault has learnt what it had to
+-- what a step leaves of the packed refs
+abbrev pub LeavesPackedIn : FileMap → FileMap → Option SessionText → Type 0
+LeavesPackedIn old new None = KeepsPacked old new
+LeavesPackedIn old new (Some s) = LeavesPacked s.atomic old new
+
+-- what is known of generations agrees then, no file was made bad, no ref packed but by an atomic push, and a step that ended in no fault
+-- has learnt what it had to
 pub record StepsWell (old new : FileMap) (slot : Option SessionText) (known now : Learnt) (is_up : Bool) : Type 0 where
   pub agrees : AgreesIn new now.generations
   pub bad : MakesNoneBad old new
+  pub packed : LeavesPackedIn old new slot
   pub learns : is_up ≡ true → LearnsIn old slot known now

@@ -2,7 +2,7 @@
 
 ghost use Rattle.vc_local.specs.NodeFault.{TellsDevice as TellsNodeDevice};
 ghost use Rattle.vc_local.specs.Told.{FoundAs, RestartedAs};
-ghost use Rattle.vc_shared.specs.Burning.{CleanSuffices, OpeningBurns, SharedBurns, StepMayWrite};
+ghost use Rattle.vc_shared.specs.Burning.{CleanSuffices, OpeningBurns, SharedBurns, StepMayWrite, StepSuffices};
 ghost use Rattle.vc_shared.specs.Calls.{AcceptedAs, SteppedAs};
 ghost use Rattle.vc_shared.specs.Faults.{TellsDevice, fault_answer};
 ghost use Rattle.vc_shared.specs.Laws.{DownAnswers, DueIsLearnt, HeldSharedOpen, SetIsDue, StepsAnswer};
@@ -39,5 +39,6 @@ pub fn a_call_of_the_shared_node_spends_what_the_machine_allows<F: Files>()
     ensures packed { SharedBurns F.honest F.content F.failed F.can_fail F.left RestartedAs (λ r. TellsNodeDevice r) }
     ensures step { StepMayWrite }
     ensures clean { CleanSuffices }
+    ensures enough { StepSuffices }
     ensures opened { OpeningBurns F.honest F.content F.failed F.can_fail F.left RestartedAs (λ r. TellsNodeDevice r) }
 {}

@@ -7,7 +7,7 @@ ghost use Rattle.vc_model.specs.Question.Question.{PackRefs, Resolve, Unread};
 ghost use Rattle.vc_model.specs.SharedCall.SharedCall.{Accept, Asks, Open, StepOf};
 ghost use Rattle.vc_local.specs.Blames.{BlamesOpen, BlamesPacking};
 ghost use Rattle.vc_local.specs.Machine.{up_after as node_up_after};
-ghost use Rattle.vc_local.specs.Clean.{KeepsClean, PacksOnly};
+ghost use Rattle.vc_local.specs.Clean.{KeepsClean, PacksOnly, StaysClean};
 ghost use Rattle.vc_local.specs.NodeFault.{IsOfDevice as IsNodeDevice, TellsDevice as TellsNodeDevice, is_fault as is_node_fault};
 ghost use Rattle.vc_local.specs.Opening.{IsOpenable, OpenableAs};
 ghost use Rattle.vc_local.specs.Told.{FoundAs, RestartedAs};
@@ -25,7 +25,7 @@ ghost use Rattle.vc_shared.specs.Node.{AcceptsNext, AnswersCall, AnswersFirst, E
 ghost use Rattle.vc_shared.specs.Pushing.{ChangesFree};
 ghost use Rattle.vc_shared.specs.Resolving.{IsRefusedValue};
 ghost use Rattle.vc_shared.specs.Slots.{AreTellable, slot_of};
-ghost use Rattle.vc_shared.specs.Stepping.{IsRefusedIn};
+ghost use Rattle.vc_shared.specs.Stepping.{IsRefusedIn, LeavesPackedIn};
 
 use crate::arriving::refuse_down;
 use crate::{AcceptFault, Accepted, SharedFault, Stepped, accepting, arriving, stepping};
@@ -219,7 +219,8 @@ impl<F: Files> Shared<F> {
         ensures settles { SettlesStep (result ≡ Err (SharedFault.Node NodeFault.Down)) (up_after result) self.old self.new }
         ensures learns { F.honest → self.new.is_up ≡ true → LearnsAtStep F.content self.old self.new slot }
         ensures early { F.honest → self.old.is_up ≡ true → HoldsIn F.content self.old slot → OnErr result (EndsIn F.content self.old self.new slot) }
-        ensures clean { F.honest → KeepsClean (F.content self.old.files) (F.content self.new.files) }
+        ensures clean { F.honest → StaysClean (F.content self.old.files) (F.content self.new.files) }
+        ensures packed { F.honest → LeavesPackedIn (F.content self.old.files) (F.content self.new.files) (slot_of self.old.slots slot) }
         ensures wear { Writes F.honest F.content F.failed F.can_fail F.left self.old.files self.new.files (TellsDevice result) }
         ensures looks { F.honest → HoldsIn F.content self.old slot → MayStep F.content self.old slot ⊎ Wears F.failed F.can_fail F.left self.old.files self.new.files (TellsDevice result) }
     {

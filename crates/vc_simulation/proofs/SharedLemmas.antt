@@ -44,7 +44,7 @@ use Rattle.vc_local.specs.Shown.{shown}
 use Rattle.vc_local.specs.Told.{FoundAs}
 use Rattle.vc_local.specs.declared.fault.NodeFault.{NodeFault}
 use Rattle.vc_local.specs.declared.fault.NodeFault.TheVariants as node
-use Rattle.vc_shared.proofs.BurningLemmas.{clean_suffices, may_step, shared_burns, together}
+use Rattle.vc_shared.proofs.BurningLemmas.{clean_suffices, may_step, shared_burns, step_suffices, together}
 use Rattle.vc_shared.proofs.SteppingLaws.{held_there, pushes_of, standing}
 use Rattle.vc_shared.specs.Accepting.{IsToWrite}
 use Rattle.vc_shared.specs.Burning.{IsEnough}
@@ -55,7 +55,7 @@ use Rattle.vc_shared.specs.declared.fault.SharedFault.TheVariants as shared
 use Rattle.vc_shared.specs.Holding.{HoldsShared, HoldsSlots, IsLive, SharedText}
 use Rattle.vc_shared.specs.Node.{Settles}
 use Rattle.vc_shared.specs.Slots.{slot_of}
-use Rattle.vc_shared.specs.Stepping.{IsHeldThere, MayWriteIn}
+use Rattle.vc_shared.specs.Stepping.{IsHeldThere, LeavesPackedIn, MayWriteIn}
 use Rattle.vc_simulation.proofs.SpendingLemmas.{burns_more, burns_nothing, node_calm, same_wears, shared_calm, still_up, told_device}
 use Rattle.vc_simulation.proofs.ValueLemmas.{comparison, found_is, refused_is}
 use Rattle.vc_simulation.specs.Nodes.{HoldsServed, IsRetold, seen_shared}
@@ -137,17 +137,40 @@ module _ {F : Type 0} (honest : Type 0) (content : F → FileMap) (failed : F �
     | inr is_down ↦ inr (same_wears failed can_fail left old.files new.files IsDevice (ap (λ (v : SharedText F). v.files) (unchanged is_down)) (never is_down))
   ]
 
-  -- a call that leaves the files as clean as they were
+  -- a call that may write, for which so many writes are enough
+  writing_enough : {T : Type 0} (call : SharedCall) (old new : SharedText F) (said : Result T SharedFault) → Writes honest content failed can_fail left old.files new.files (TellsDevice said)
+      → (old.is_up ≡ false → said ≡ Err (shared.Node node.Down)) → (old.is_up ≡ false → new ≡ old) → (old.is_up ≡ true → new.is_up ≡ up_after said)
+      → ((n : SharedNode) → HoldsShared (content old.files) old.slots old.is_up n → IsEnough (content old.files) (content new.files) call n)
+      → ((n : SharedNode) → old.is_up ≡ true → HoldsShared (content old.files) old.slots old.is_up n → MayShared git n call ⊎ Wears failed can_fail left old.files new.files (TellsDevice said))
+      → Spending honest content failed can_fail left call old new (TellsDevice said)
+  writing_enough {T} call old new said wear answers_down unchanged up enough may = record {
+    wear = wear;
+    ups = still_up old.is_up new.is_up (up_after said) (TellsDevice said) (λ is_down. ap (λ (v : SharedText F). v.is_up) (unchanged is_down) ∙ is_down) up (shared_calm said);
+    enough = enough;
+    looks = looks_up call old new (TellsDevice said) unchanged (λ is_down device. absurd (subst (λ (r : Result T SharedFault). TellsDevice r) (answers_down is_down) device)) may;
+  }
+
+  -- one that leaves the files as clean as they were
   pub writing : {T : Type 0} (call : SharedCall) (old new : SharedText F) (said : Result T SharedFault) → Writes honest content failed can_fail left old.files new.files (TellsDevice said)
       → (old.is_up ≡ false → said ≡ Err (shared.Node node.Down)) → (old.is_up ≡ false → new ≡ old) → (old.is_up ≡ true → new.is_up ≡ up_after said) → KeepsClean (content old.files) (content new.files)
       → ((n : SharedNode) → old.is_up ≡ true → HoldsShared (content old.files) old.slots old.is_up n → MayShared git n call ⊎ Wears failed can_fail left old.files new.files (TellsDevice said))
       → Spending honest content failed can_fail left call old new (TellsDevice said)
-  writing {T} call old new said wear answers_down unchanged up keeps may = record {
-    wear = wear;
-    ups = still_up old.is_up new.is_up (up_after said) (TellsDevice said) (λ is_down. ap (λ (v : SharedText F). v.is_up) (unchanged is_down) ∙ is_down) up (shared_calm said);
-    enough = λ n held. clean_suffices (content old.files) (content new.files) old.slots old.is_up call n held keeps;
-    looks = looks_up call old new (TellsDevice said) unchanged (λ is_down device. absurd (subst (λ (r : Result T SharedFault). TellsDevice r) (answers_down is_down) device)) may;
-  }
+  writing call old new said wear answers_down unchanged up keeps may =
+      writing_enough call old new said wear answers_down unchanged up (λ n held. clean_suffices (content old.files) (content new.files) old.slots old.is_up call n held keeps) may
+
+  -- and a step
+  pub stepping : {T : Type 0} (k : ℕ) (old new : SharedText F) (said : Result T SharedFault) → Writes honest content failed can_fail left old.files new.files (TellsDevice said)
+      → (old.is_up ≡ false → said ≡ Err (shared.Node node.Down)) → (old.is_up ≡ false → new ≡ old) → (old.is_up ≡ true → new.is_up ≡ up_after said)
+      → LeavesPackedIn (content old.files) (content new.files) (slot_of old.slots k)
+      → ((n : SharedNode) → old.is_up ≡ true → HoldsShared (content old.files) old.slots old.is_up n → MayShared git n (StepOf k) ⊎ Wears failed can_fail left old.files new.files (TellsDevice said))
+      → Spending honest content failed can_fail left (StepOf k) old new (TellsDevice said)
+  stepping k old new said wear answers_down unchanged up packed may = writing_enough (StepOf k) old new said wear answers_down unchanged up enough may
+    where
+      enough : (n : SharedNode) → HoldsShared (content old.files) old.slots old.is_up n → IsEnough (content old.files) (content new.files) (StepOf k) n
+      enough n held = elim (either_way old.is_up) [
+        | inl is_up ↦ step_suffices (content old.files) (content new.files) old.slots k n (subst (λ (b : Bool). HoldsShared (content old.files) old.slots b n) is_up held) packed
+        | inr is_down ↦ enough_unchanged (content old.files) (content new.files) (StepOf k) n held.spells (ap (λ (v : SharedText F). shown (content v.files)) (unchanged is_down))
+      ]
 
   -- packing the refs
   pub packing : (old new : SharedText F) (said : Result (Unit {0}) NodeFault) → Writes honest content failed can_fail left old.files new.files (NodeTellsDevice said) → Settles (said ≡ Err node.Down) (node_up_after said) old new

@@ -1,4 +1,5 @@
 use Rattle.vc_files.proofs.WearLemmas.{writes_both}
+use Rattle.vc_local.proofs.CleanLemmas.{stays_then}
 use Rattle.vc_model.specs.Question.Question.{Unread}
 use Rattle.vc_model.specs.SharedCall.SharedCall.{Accept, Asks}
 use Rattle.vc_server.proofs.ComingLemmas.{bytes_replied}
@@ -25,6 +26,12 @@ returns-in_err-accepted-clause-bad_file g c = λ honest. rw (err_is _ _ c.from_r
 
 pub returns-clause-bad_file : goal.returns-clause-bad_file
 returns-clause-bad_file g c = λ honest. on_the_way (IsRefusedBytes (g.F.Files.content c.args.shared.now.files) c.args.shared.now.slots c.args.bytes.now) _ _ c.reply_to.result (c.in_ok-accepted.ensures.clean honest) (c.reply_to.ensures.bad_file honest)
+
+pub returns-in_err-accepted-clause-clean : goal.returns-in_err-accepted-clause-clean
+returns-in_err-accepted-clause-clean g c = λ honest. (c.in_err-accepted.ensures.clean honest).stays
+
+pub returns-clause-clean : goal.returns-clause-clean
+returns-clause-clean g c = λ honest. stays_then _ _ _ (c.in_ok-accepted.ensures.clean honest).stays (c.reply_to.ensures.clean honest)
 
 pub returns-clause-wear : goal.returns-clause-wear
 returns-clause-wear g c = writes_both c.in_ok-accepted.ensures.wear (λ never. never) c.reply_to.ensures.wear

@@ -1,6 +1,7 @@
 use Rattle.std.proofs.Common.{Ok, Err, Option, ap, subst, sym, true≢false}
 use Rattle.std.proofs.lemmas.Result.{err_from_is_err_and}
 use Rattle.vc_files.proofs.WearLemmas.{writes_both}
+use Rattle.vc_local.proofs.CleanLemmas.{stays_then}
 use Rattle.vc_shared.specs.Arriving.{AnswersKnown}
 use Rattle.vc_shared.specs.declared.accepting.Accepted.{Accepted}
 use Rattle.vc_server.proofs.ComingLemmas.{fault_known, fault_served, none_known, none_served, reply_known, reply_served, taken_up}
@@ -97,6 +98,18 @@ returns-in_default-clause-lost g c = record { failures = loss_as c.in_ok-accepte
 
 pub returns-clause-lost : goal.returns-clause-lost
 returns-clause-lost g c = record { failures = loss_as c.in_ok-accepted.ensures.lost.failures (λ told. absurd (ok_is_no_error told)) (λ told. absurd (ok_is_no_error told)) (λ fault. fault); kept = λ honest. tt }
+
+pub returns-in_err-accepted-clause-clean : goal.returns-in_err-accepted-clause-clean
+returns-in_err-accepted-clause-clean g c = λ honest. (c.in_err-accepted.ensures.clean honest).stays
+
+pub returns-in_default-clause-clean : goal.returns-in_default-clause-clean
+returns-in_default-clause-clean g c = λ honest. (c.in_ok-accepted.ensures.clean honest).stays
+
+pub returns-in_err-reply-clause-clean : goal.returns-in_err-reply-clause-clean
+returns-in_err-reply-clause-clean g c = λ honest. stays_then _ _ _ (c.in_ok-accepted.ensures.clean honest).stays (c.in_err-reply.ensures.clean honest)
+
+pub returns-clause-clean : goal.returns-clause-clean
+returns-clause-clean g c = λ honest. stays_then _ _ _ (c.in_ok-accepted.ensures.clean honest).stays (c.in_ok-reply.ensures.clean honest)
 
 pub returns-clause-wear : goal.returns-clause-wear
 returns-clause-wear g c = writes_both c.in_ok-accepted.ensures.wear (λ never. never) c.in_ok-reply.ensures.wear

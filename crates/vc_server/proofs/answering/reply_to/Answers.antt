@@ -1,7 +1,7 @@
 use Rattle.std.proofs.Common.{refl, subst, sym}
 use Rattle.std.specs.Prelude.{IfOk}
 use Rattle.vc_files.proofs.WearLemmas.{writes_none}
-use Rattle.vc_local.proofs.CleanLemmas.{clean_same}
+use Rattle.vc_local.proofs.CleanLemmas.{stays_same}
 use Rattle.vc_server.proofs.ComingLemmas.{slot_replied}
 use Rattle.vc_server.proofs.ServingLemmas.{replied_at_once, served_by_steps, stays_as}
 use Rattle.vc_server.specs.Replies.{IsReplyOf}
@@ -14,7 +14,7 @@ returns-in-Reply-clause-replies g c = λ honest. record {
 }
 
 pub returns-in-Reply-clause-clean : goal.returns-in-Reply-clause-clean
-returns-in-Reply-clause-clean g c = λ honest. clean_same _ _ refl
+returns-in-Reply-clause-clean g c = λ honest. stays_same _ _ refl
 
 pub returns-in-Reply-clause-wear : goal.returns-in-Reply-clause-wear
 returns-in-Reply-clause-wear g c = writes_none (λ never. never)

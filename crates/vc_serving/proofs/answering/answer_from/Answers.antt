@@ -1,7 +1,7 @@
 use Rattle.std.proofs.Common.{inl, inr}
 use Rattle.vc_files.proofs.WearLemmas.{writes_both}
 use Rattle.vc_message.proofs.SourceLaws.{tells_none}
-use Rattle.vc_local.proofs.CleanLemmas.{clean_then}
+use Rattle.vc_local.proofs.CleanLemmas.{stays_then}
 use Rattle.vc_serving.proofs.AnsweringLemmas.{came_once, kept_openable, read_once, refused_once}
 use Rattle.vc_shared.proofs.LossLemmas.{node_is_no_loss}
 use Rattle.vc_serving.proofs.answering.answer_from.Goals as goal
@@ -28,7 +28,7 @@ returns-clause-lost g c = λ honest r openable.
     rw c.close.ensures (kept_openable g.F.Files.content r c.answer_from-answered.result _ _ c.in-Ok.ensures.up (c.in-Ok.ensures.opens honest r openable) c.answer_from-answered.ensures.none (c.answer_from-answered.ensures.lost.kept honest))
 
 pub returns-clause-clean : goal.returns-clause-clean
-returns-clause-clean g c = λ honest. inr (rw c.close.ensures (clean_then _ _ _ (c.in-Ok.ensures.clean honest) (c.answer_from-answered.ensures.clean honest)))
+returns-clause-clean g c = λ honest. inr (rw c.close.ensures (stays_then _ _ _ (c.in-Ok.ensures.clean honest).stays (c.answer_from-answered.ensures.clean honest)))
 
 pub returns-clause-failures : goal.returns-clause-failures
 returns-clause-failures g c = c.answer_from-answered.ensures.lost.failures

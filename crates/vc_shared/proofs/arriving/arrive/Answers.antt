@@ -1,4 +1,4 @@
-use Rattle.std.proofs.Common.{arith, ◌<◌, ◌^◌, ℕ, [], Ok, refl, sym, ◌∙◌, subst}
+use Rattle.std.proofs.Common.{arith, ◌<◌, ◌^◌, ℕ, false, [], Ok, refl, sym, ◌∙◌, subst}
 use Rattle.std.proofs.lemmas.Result.{err_from_is_err_and}
 use Rattle.vc_files.proofs.FileMapLemmas.{outside_then}
 use Rattle.vc_files.proofs.WearLemmas.{writes_both, writes_told}
@@ -96,7 +96,7 @@ returns-in_default-clause-arrived g c = λ before so.
       taken = all;
       fault = c.objects.arriving.fault;
       fault_is = λ honest. c.arrived.ensures.fault content at.0 (at.2 honest);
-      opened = subst (λ (k : ℕ). IsOpened k c.objects.arriving.fault commands s) c.objects.invariant.slot c.in_ok-session.ensures.opened;
+      opened = subst (λ (k : ℕ). IsOpened k c.objects.arriving.fault false commands s) c.objects.invariant.slot c.in_ok-session.ensures.opened;
       carries = λ honest. subst (λ (k : ℕ). Carries content k s.names (objects_of_push at.0)) c.objects.invariant.slot (c.in_ok-session.ensures.carried content at.0 (at.2 honest));
     }
 

@@ -5,7 +5,7 @@ use Rattle.vc_shared.proofs.SlotLemmas.{open_within, put_back, same_slot, slot_s
 use Rattle.vc_push_rules.specs.Session.{SessionText}
 use Rattle.vc_shared.specs.Faults.{up_after}
 use Rattle.vc_shared.specs.Learning.{LearnsIn}
-use Rattle.vc_shared.specs.Stepping.{StepsWell, left_in}
+use Rattle.vc_shared.specs.Stepping.{LeavesPackedIn, StepsWell, left_in}
 use Rattle.vc_shared.proofs.stepping.step.Goals as goal
 
 pub returns-in_default-clause-unchanged : goal.returns-in_default-clause-unchanged
@@ -40,6 +40,7 @@ pub returns-in_default-clause-good : goal.returns-in_default-clause-good
 returns-in_default-clause-good g c honest = record {
   agrees = c.requires.agrees honest;
   bad = search rules;
+  packed = subst (λ (s : Option SessionText). LeavesPackedIn (g.F.Files.content c.args.files.now) (g.F.Files.content c.args.files.now) s) (sym c.in_default.is ∙ c.take.ensures.push) refl;
   learns = λ up. subst (λ (s : Option SessionText). LearnsIn (g.F.Files.content c.args.files.now) s (learnt_in c.args.generations.now c.args.due.now) (learnt_in c.args.generations.now c.args.due.now)) (sym c.in_default.is ∙ c.take.ensures.push) refl;
 }
 

@@ -1,15 +1,16 @@
-use Rattle.std.proofs.Common.{◌∙◌, ⊎_elim, inl, inr, rules, Some, refl, subst, sym, true≢false}
+use Rattle.std.proofs.Common.{◌∙◌, ⊎_elim, ap, inl, inr, rules, Some, refl, subst, sym, true≢false}
 use Rattle.vc_files.proofs.WearLemmas.{wears_then, wears_writes, writes_told}
 use Rattle.vc_files.specs.FileMap.{FileMap}
 use Rattle.vc_files.specs.declared.faults.Fault.TheVariants.{Memory}
 use Rattle.vc_lemmas.proofs.Lists.{on_err}
 use Rattle.vc_local.proofs.LookLemmas.{looks_then}
+use Rattle.vc_refs.specs.Refs.{packed_map}
 use Rattle.vc_session.specs.declared.fault.SessionFault.TheVariants as session
 use Rattle.vc_shared.specs.Faults.{of_device}
 use Rattle.vc_shared.specs.Stepping.{EndsSlotEarly, IsRefusedIn, MayWriteIn}
 use Rattle.vc_local.proofs.FaultLemmas.{err_as}
 use Rattle.vc_shared.proofs.FaultLemmas.{looks_as, memory_refused, writes_as}
-use Rattle.vc_shared.proofs.SlotLemmas.{end_early}
+use Rattle.vc_shared.proofs.SlotLemmas.{end_early, none_done}
 use Rattle.vc_shared.proofs.TellingLemmas.{short_report}
 use Rattle.vc_shared.proofs.stepping.step_push.Goals as goal
 
@@ -40,6 +41,11 @@ returns-clause-wear g c = wears_then c.in_default.ensures.wear (λ honest. c.in_
 pub returns-in-Err-clause-wear : goal.returns-in-Err-clause-wear
 returns-in-Err-clause-wear g c = rw c.from.ensures (writes_told (wears_writes c.in-Err.ensures.wear (λ honest. c.in-Err.ensures.same)) (search rules) (search rules))
 
+pub returns-in-Err-clause-early : goal.returns-in-Err-clause-early
+returns-in-Err-clause-early g c honest held =
+    let content = g.F.Files.content c.args.files.now in
+    subst (λ (f : FileMap). EndsSlotEarly content f (Some c.args.push.now)) (sym c.in-Err.ensures.same) (none_done content c.args.push.now c.args.push.now.stage)
+
 pub returns-in_err-told-clause-early : goal.returns-in_err-told-clause-early
 returns-in_err-told-clause-early g c honest held =
     let old = g.F.Files.content c.args.files.now in
@@ -68,6 +74,7 @@ pub returns-in_err-did-clause-good : goal.returns-in_err-did-clause-good
 returns-in_err-did-clause-good g c honest = record {
   agrees = (rw c.in_default.ensures.same at c.step.ensures.spares.agrees) honest c.learn.new.generations (c.in_default.ensures.agrees honest (c.requires.agrees honest));
   bad = search rules;
+  packed = (rw c.in_default.ensures.same at c.step.ensures.spares.packed) honest;
   learns = λ up. c.in_default.ensures.learnt honest (c.requires.agrees honest);
 }
 
@@ -75,6 +82,7 @@ pub returns-in_err-told-clause-good : goal.returns-in_err-told-clause-good
 returns-in_err-told-clause-good g c honest = record {
   agrees = (rw c.in_default.ensures.same at c.step.ensures.spares.agrees) honest c.learn.new.generations (c.in_default.ensures.agrees honest (c.requires.agrees honest));
   bad = search rules;
+  packed = (rw c.in_default.ensures.same at c.step.ensures.spares.packed) honest;
   learns = λ up. c.in_default.ensures.learnt honest (c.requires.agrees honest);
 }
 
@@ -82,6 +90,7 @@ pub returns-clause-good : goal.returns-clause-good
 returns-clause-good g c honest = record {
   agrees = (rw c.in_default.ensures.same at c.step.ensures.spares.agrees) honest c.learn.new.generations (c.in_default.ensures.agrees honest (c.requires.agrees honest));
   bad = search rules;
+  packed = (rw c.in_default.ensures.same at c.step.ensures.spares.packed) honest;
   learns = λ up. c.in_default.ensures.learnt honest (c.requires.agrees honest);
 }
 
@@ -89,5 +98,6 @@ pub returns-in-Err-clause-good : goal.returns-in-Err-clause-good
 returns-in-Err-clause-good g c honest = record {
   agrees = search rules;
   bad = search rules;
+  packed = inl (ap packed_map c.in-Err.ensures.same);
   learns = λ up. absurd (true≢false (sym up ∙ rw c.from.ensures refl));
 }

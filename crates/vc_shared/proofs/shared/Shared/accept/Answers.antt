@@ -65,7 +65,7 @@ returns-clause-settles g c = record {
 pub returns-clause-clean : goal.returns-clause-clean
 returns-clause-clean g c = λ honest.
     rw (← c.self.view_is) (settled_clean g.F.Files.content c.self.inside.files c.accept-accepted.new.files c.settle.new.self.files c.self.inside.slots c.accept-accepted.new.slots c.settle.new.self.slots c.self.inside.is_up c.settle.new.self.is_up c.accept-accepted.result c.settle.result
-    c.settle.ensures.accepted c.settle.ensures.files c.settle.ensures.slots (c.accept-accepted.ensures.good honest).bad)
+    c.settle.ensures.accepted c.settle.ensures.files c.settle.ensures.slots (c.accept-accepted.ensures.good honest).bad (c.accept-accepted.ensures.outside honest))
 
 pub returns-clause-wear : goal.returns-clause-wear
 returns-clause-wear g c =

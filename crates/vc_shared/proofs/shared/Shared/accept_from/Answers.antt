@@ -1,7 +1,11 @@
-use Rattle.std.proofs.Common.{rules, subst, sym}
+use Rattle.std.proofs.Common.{ap, rules, subst, sym}
 use Rattle.vc_files.proofs.WearLemmas.{writes_none}
+use Rattle.vc_local.proofs.BesideLemmas.{clean_by}
+use Rattle.vc_local.specs.Clean.{KeepsClean}
 use Rattle.vc_quarantine.specs.Learning.{learnt_in}
 use Rattle.vc_shared.proofs.ArrivingLemmas.{changes_none}
+use Rattle.vc_shared.proofs.CallLemmas.{kept_through}
+use Rattle.vc_shared.proofs.ComingLemmas.{packed_free}
 use Rattle.vc_shared.proofs.NextLemmas.{down_accepts, down_keeps, down_no_device, known_accepts, next_accepts, next_lost, next_none}
 use Rattle.vc_shared.proofs.LossLemmas.{loss_of_down, loss_of_same}
 use Rattle.vc_shared.specs.Pushing.{ChangesFree}
@@ -56,3 +60,9 @@ returns-then-not-self-clause-outside g c = λ honest. changes_none _ _
 
 pub returns-clause-outside : goal.returns-clause-outside
 returns-clause-outside g c = λ honest. rw (← c.self.view_is) (subst (λ d. ChangesFree (g.F.Files.content c.self.inside.files) (g.F.Files.content d) c.self.inside.slots) (sym c.settle_next.ensures.files) (c.take_next-accepted.ensures.outside honest))
+
+pub returns-clause-clean : goal.returns-clause-clean
+returns-clause-clean g c = λ honest.
+    let content = g.F.Files.content in
+    rw (← c.self.view_is) (kept_through KeepsClean (content c.self.inside.files) (content c.take_next-accepted.new.files) (content c.settle_next.new.self.files) (ap content c.settle_next.ensures.files)
+    (clean_by _ _ (c.take_next-accepted.ensures.good honest).bad (packed_free _ _ c.self.inside.slots (c.take_next-accepted.ensures.outside honest))))

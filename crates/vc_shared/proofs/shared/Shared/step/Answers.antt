@@ -1,16 +1,18 @@
 use Rattle.std.proofs.Common.{◌≡◌, ◌∙◌, ap, refl, inl, inr, Ok, Err, false, rules, subst, sym, true≢false}
 use Rattle.vc_model.specs.SharedCall.SharedCall.{StepOf}
-use Rattle.vc_local.proofs.CleanLemmas.{clean_same}
+use Rattle.vc_local.proofs.CleanLemmas.{stays_same}
 use Rattle.vc_local.proofs.LookLemmas.{looks_none}
 use Rattle.vc_quarantine.specs.Learning.{Learnt, learnt_in}
-use Rattle.vc_shared.proofs.CallLemmas.{answers_through, clean_through, looks_through, told_as}
-use Rattle.vc_local.proofs.BesideLemmas.{clean_by}
+use Rattle.vc_shared.proofs.CallLemmas.{answers_through, kept_through, looks_through, told_as}
+use Rattle.vc_local.proofs.BesideLemmas.{stays_by}
+use Rattle.vc_local.specs.Clean.{StaysClean}
 use Rattle.vc_shared.proofs.SteppingLaws.{stepped_answers, stepped_down}
 use Rattle.vc_shared.proofs.TellingLemmas.{written_report}
 use Rattle.vc_shared.specs.Calls.{SteppedAs}
 use Rattle.vc_shared.specs.Learning.{LearnsIn}
 use Rattle.vc_shared.specs.Slots.{slot_of}
-use Rattle.vc_shared.specs.Stepping.{EndsSlotEarly, IsRefusedIn}
+use Rattle.vc_shared.proofs.SlotLemmas.{packed_none}
+use Rattle.vc_shared.specs.Stepping.{EndsSlotEarly, IsRefusedIn, LeavesPackedIn}
 use Rattle.vc_shared.proofs.shared.Shared.step.Goals as goal
 
 pub returns-then-not-self-clause-answers : goal.returns-then-not-self-clause-answers
@@ -48,15 +50,26 @@ returns-in-Err-clause-early g c = λ honest.
     rw (← c.self.view_is) (λ up held. subst (λ d. EndsSlotEarly (content c.self.inside.files) (content d) (slot_of c.self.inside.slots c.args.slot)) (sym c.fail.ensures.files) (c.in-Err.ensures.early honest held))
 
 pub returns-then-not-self-clause-clean : goal.returns-then-not-self-clause-clean
-returns-then-not-self-clause-clean g c = λ honest. clean_same _ _ refl
+returns-then-not-self-clause-clean g c = λ honest. stays_same _ _ refl
+
+pub returns-then-not-self-clause-packed : goal.returns-then-not-self-clause-packed
+returns-then-not-self-clause-packed g c = λ honest. packed_none _ _
 
 pub returns-in-Ok-clause-clean : goal.returns-in-Ok-clause-clean
-returns-in-Ok-clause-clean g c = λ honest. rw (← c.self.view_is) (clean_by _ _ (c.in-Ok.ensures.good honest).bad)
+returns-in-Ok-clause-clean g c = λ honest. rw (← c.self.view_is) (stays_by _ _ (c.in-Ok.ensures.good honest).bad)
+
+pub returns-in-Ok-clause-packed : goal.returns-in-Ok-clause-packed
+returns-in-Ok-clause-packed g c = λ honest. rw (← c.self.view_is) ((c.in-Ok.ensures.good honest).packed)
 
 pub returns-in-Err-clause-clean : goal.returns-in-Err-clause-clean
 returns-in-Err-clause-clean g c = λ honest.
     let content = g.F.Files.content in
-    rw (← c.self.view_is) (clean_through (content c.self.inside.files) (content c.step.new.files) (content c.fail.new.self.files) (ap content c.fail.ensures.files) (clean_by _ _ (c.in-Err.ensures.good honest).bad))
+    rw (← c.self.view_is) (kept_through StaysClean (content c.self.inside.files) (content c.step.new.files) (content c.fail.new.self.files) (ap content c.fail.ensures.files) (stays_by _ _ (c.in-Err.ensures.good honest).bad))
+
+pub returns-in-Err-clause-packed : goal.returns-in-Err-clause-packed
+returns-in-Err-clause-packed g c = λ honest.
+    let content = g.F.Files.content in
+    rw (← c.self.view_is) (kept_through (λ old new. LeavesPackedIn old new (slot_of c.self.inside.slots c.args.slot)) (content c.self.inside.files) (content c.step.new.files) (content c.fail.new.self.files) (ap content c.fail.ensures.files) (c.in-Err.ensures.good honest).packed)
 
 pub returns-then-not-self-clause-looks : goal.returns-then-not-self-clause-looks
 returns-then-not-self-clause-looks g c = λ honest held. inr (looks_none (λ told. told))
