@@ -1,5 +1,5 @@
 -- A run of events, from one event.
-use Rattle.std.proofs.Common.{◌≡◌, ℕ, List, [], ◌∷◌, ◌++◌, Some, Result, Ok, Err, OnErr, inl, inr, refl, sym, ap, ◌∙◌, subst, slice_get, unwrap_or, length, take, get_or, ◌<◌, ◌+◌}
+use Rattle.std.proofs.Common.{◌≡◌, ℕ, List, [], ◌∷◌, ◌++◌, Some, inl, inr, refl, sym, ap, ◌∙◌, subst, slice_get, unwrap_or, length, take, get_or, ◌<◌, ◌+◌}
 use Rattle.std.proofs.lemmas.List.{take_more}
 use Rattle.std.specs.List.{AllByRecursion}
 use Rattle.std.specs.FinMap.{get}
@@ -28,11 +28,6 @@ use Rattle.vc_events.specs.Calls.{Seen}
 use Rattle.vc_events.specs.Events.{IsEnd, event_of}
 use Rattle.vc_events.specs.World.{HoldsAt, AreLetters, HoldsWorld, NoZeros, Steps, IsSame}
 use Rattle.vc_events.specs.Running.{AreApart, EveryRunIsSafe, ForgesNothing, GoesOn, IsGuarded, IsLengthened, IsNext, IsSent, Lengthens, RunsSafely}
-
--- what holds whatever the error is
-pub on_error : {X E : Type 0} (r : Result X E) (P : Type 0) → P → OnErr r P
-on_error (Ok x) P holds = tt
-on_error (Err e) P holds = holds
 
 -- ---- the nodes of a run are sound
 
