@@ -6,7 +6,7 @@ compared. Before each push its clone is asked which of the values are those that
 told from one that was set to what it was."""
 import world_model
 import world_scripts
-from world_model import HEADS, TRACKING
+from world_model import HEADS, PUSHES, TRACKING
 from world_values import Refused
 from world_wire import ZERO, written
 
@@ -27,6 +27,8 @@ class World(world_model.World):
         maps = [(vars(node)[name], before[name]) for name in ("objects", "refs")]
         changes = sum(new.get(key) != old.get(key) for new, old in maps for key in {*new, *old})
         changes += sum(vars(node)[name] != before[name] for name in ("head", "index"))
+        if said.startswith(b"atomic ok "):
+            changes = min(changes, 1)
         if changes > node.left[0]:
             del self.messages[sent:]
             vars(node).update(before, is_down=True)
@@ -59,7 +61,7 @@ class Script(world_scripts.Script):
         super().one()
 
     def order(self, number, verb, *words):
-        if verb == b"push" and len(words) <= FEW:
+        if verb in PUSHES and len(words) <= FEW:
             for item in words:
                 value, colon, name = item.rpartition(b":")
                 value, name = (value, name) if colon else (HEADS + item, HEADS + item)
@@ -87,11 +89,11 @@ class Script(world_scripts.Script):
         self.push_whole(number, name)
 
     def one_whole_push(self, number):
-        self.push_whole(number, *[self.item(self.world.clones[number]) for _ in range(self.chance.choice([1, 1, 2]))])
+        self.push_whole(number, *[self.item(self.world.clones[number]) for _ in range(self.chance.choice([1, 1, 2, 3]))])
 
     def push_whole(self, number, *items):
         """A push from its start to its end, or to a fault."""
-        answer = self.order(number, b"push", *items)
+        answer = self.order(number, self.push_verb(), *items)
         if not answer.startswith(b"sent "):
             return
         opened = self.say(b"deliver", answer.split()[1])
@@ -137,7 +139,7 @@ class Script(world_scripts.Script):
         if kind == "pack":
             return written(kind, (objects,))
         old = lambda to: self.world.shared.refs.get(to, ZERO) if self.odds(0.7) else pick([ZERO, it()])
-        return written(kind, ([(old(to), it(), to) for to in dict.fromkeys(name() for _ in range(pick([1, 1, 2])))], objects))
+        return written(kind, ([(old(to), it(), to) for to in dict.fromkeys(name() for _ in range(pick([1, 1, 2])))], objects, self.odds(0.3)))
 
 
 def script(chance):

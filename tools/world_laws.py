@@ -4,7 +4,8 @@ A world is followed line by line: which messages were sent and to whom, which pu
 No object and no ref is known here, so of most answers it is judged whether they may come at all, and not whether they are right."""
 from collections import Counter
 
-from world_model import HEADS, SLOTS, TRACKING
+import world_wire
+from world_model import HEADS, PUSHES, SLOTS, TRACKING
 
 DEVICE, MEMORY = b"fault device", b"fault memory"
 DONE, DOWN, NO_MESSAGE, NO_SLOT, NOTHING = b"done", b"refused 112", b"refused 113", b"refused 111", b"refused 51"
@@ -27,26 +28,44 @@ def number_in(answer, word):
 
 
 class Push:
-    """An open push: the clone that it is from, the names of its commands if they are known, with whether the value is another one, and how
-    far it is."""
+    """An open push: the clone that it is from, the names of its commands if they are known, with whether the value is another one, whether
+    it is atomic, and how far it is."""
 
-    def __init__(self, clone, items):
-        self.clone, self.items, self.stage, self.left = clone, items, "opened", 0
+    def __init__(self, clone, items, is_atomic):
+        self.clone, self.items, self.is_atomic, self.stage, self.left = clone, items, is_atomic, "opened", 0
 
     def step(self, answer):
-        """What the next step is answered with. The ref that it sets, if it sets one."""
+        """What the next step is answered with. The refs that it sets."""
         if self.stage == "opened":
             self.left, self.stage = number_in(answer, b"checked"), "checked"
-            return None
+            insist(not self.is_atomic or not self.left or self.left >= len(self.items), f"some of an atomic push pass: {answer!r}")
+            return []
         insist(self.left > 0, f"the push is at its end, and not {answer!r}")
         if self.stage == "checked":
             insist(answer == b"migrated", f"`migrated` is wanted, and not {answer!r}")
             self.stage = "migrated"
-            return None
+            return []
+        if self.is_atomic:
+            return self.update_all(answer)
         self.left -= 1
         words = answer.split(b" ")
         insist(words[0] in (b"ok", b"ng") and (self.items is None or words[1] in self.items), f"an update is wanted, and not {answer!r}")
-        return words[1] if words[0] == b"ok" else None
+        return [words[1]] if words[0] == b"ok" else []
+
+    def update_all(self, answer):
+        """The refs of an atomic push are all set, or none."""
+        words = answer.split(b" ")
+        is_set = answer == b"atomic ok %d" % self.left
+        insist(is_set or words[:2] == [b"atomic", b"ng"] and words[2] in self.items, f"the update of an atomic push is wanted, and not {answer!r}")
+        self.left = 0
+        return [*self.items] if is_set else []
+
+
+def forged_items(digits):
+    """The names of a push that nobody sent, of which a tag's value is another one than none, and whether it is atomic. Of one that isn't
+    atomic its answers tell the names."""
+    commands, _, is_atomic = world_wire.read(bytes.fromhex(digits.decode()))[1]
+    return (dict((name, None if name.startswith(HEADS) else True) for _, _, name in commands), True) if is_atomic else (None, False)
 
 
 class World:
@@ -54,9 +73,10 @@ class World:
 
     def __init__(self, fault):
         self.fault = fault
-        self.sent = []  # of each message whom it goes to, the clone at its other end, and its items
+        self.sent = []  # of each message whom it goes to, the clone at its other end, its items and whether it is atomic
         self.slots, self.down, self.stopped, self.deceived = {}, set(), set(), set()
         self.asked = {}  # what was answered, by clone and tracking ref
+        self.together = None  # refs that may have been set, all of them or none
         self.met = Counter()
 
     def addressee(self, words):
@@ -104,12 +124,14 @@ class World:
             self.slots = {}
         if push is None or push.stage != "migrated" or not push.left:
             return {}
+        if push.is_atomic and None not in push.items.values():
+            self.together = {name for name, is_other in push.items.items() if is_other}
         return dict.fromkeys(push.items, None) if push.items is not None else {None: None}
 
-    def send(self, answer, to, clone, items=None):
+    def send(self, answer, to, clone, items=None, is_atomic=False):
         number = number_in(answer, b"sent")
         insist(number == len(self.sent), f"message {len(self.sent)} is wanted, and not {answer!r}")
-        self.sent.append((to, clone, items))
+        self.sent.append((to, clone, items, is_atomic))
 
     def step(self, slot, answer):
         push = self.slots.get(slot)
@@ -120,8 +142,8 @@ class World:
             self.send(answer, push.clone, push.clone)
             del self.slots[slot]
             return {}
-        name = push.step(answer)
-        return {} if name is None else {name: True if push.items is None and not name.startswith(HEADS) else (push.items or {}).get(name)}
+        names = push.step(answer)
+        return {name: True if push.items is None and not name.startswith(HEADS) else (push.items or {}).get(name) for name in names}
 
     def take(self, node, words, answer):
         """Another line, which a node took."""
@@ -129,7 +151,8 @@ class World:
             if words[1:2] == [b"same"]:
                 self.asked[node, words[3]] = answer
             if answer.startswith(b"sent "):
-                self.send(answer, b"shared", node, self.items(node, words[2:]) if words[1:2] == [b"push"] else None)
+                is_push = words[1:2] and words[1] in PUSHES
+                self.send(answer, b"shared", node, self.items(node, words[2:]) if is_push else None, words[1:2] == [PUSHES[1]])
             return {}
         clone = words[2] if words[0] == b"forge" else self.sent[int(words[1])][1] if words[0] == b"deliver" else None
         if answer.startswith(b"sent "):
@@ -137,7 +160,7 @@ class World:
         if answer.startswith(b"slot "):
             free = min({*range(SLOTS)} - {*self.slots}, default=None)
             insist(answer == b"slot %s" % str(free).encode(), f"slot {free} is free, and not {answer!r}")
-            self.slots[free] = Push(clone, self.sent[int(words[1])][2] if words[0] == b"deliver" else None)
+            self.slots[free] = Push(clone, *(self.sent[int(words[1])][2:] if words[0] == b"deliver" else forged_items(words[3])))
         return {}
 
     def items(self, node, words):

@@ -11,7 +11,7 @@ use vc_node::CloneNode;
 use vc_push::{Report, Told};
 use vc_sending::PushItem;
 use vc_shared::{Shared, SharedFault};
-use vc_world::{ExchangeEnd, Fetched, exchange_fetch, exchange_push};
+use vc_world::{ExchangeEnd, Fetched, exchange_fetch, exchange_push, exchange_push_atomic};
 
 // Writes why an exchange came to no end of its own.
 fn push_end(out: &mut String, end: &ExchangeEnd<SharedFault>) -> Result<(), AllocError> {
@@ -104,7 +104,21 @@ fn push_at_once(
     push_pushed(out, &exchange_push(alloc, shared, clone, items))
 }
 
-// The same, of which the answer comes in this way.
+// The same of an atomic push.
+fn push_all(
+    out: &mut String,
+    alloc: Global,
+    shared: &mut Shared<Device>,
+    clone: &mut CloneNode<Device>,
+    items: &[PushItem],
+) -> Result<(), AllocError> {
+    if items.is_empty() {
+        return out.push_str("no items");
+    }
+    push_pushed(out, &exchange_push_atomic(alloc, shared, clone, items))
+}
+
+// A push of which the answer comes in this way.
 fn push(
     out: &mut String,
     alloc: Global,
@@ -138,6 +152,7 @@ fn exchange(
         "fetch-read" => fetch(out, alloc, Coming::Read, shared, clone),
         "fetch-from" => fetch(out, alloc, Coming::Unread, shared, clone),
         "push" => push_at_once(out, alloc, shared, clone, items),
+        "push-atomic" => push_all(out, alloc, shared, clone, items),
         "push-read" => push(out, alloc, Coming::Read, shared, clone, items),
         _ => push(out, alloc, Coming::Unread, shared, clone, items),
     }

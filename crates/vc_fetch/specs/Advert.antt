@@ -120,9 +120,13 @@ abbrev pub or_no_refs : List Ref → List Ref
 or_no_refs [] = (codes "capabilities^{}", record { 0 = replicate 20 0 }) ∷ []
 or_no_refs (ref ∷ refs) = ref ∷ refs
 
+-- a NUL, and what the node can do: it reports on each command, and sets all refs of a push or none
+abbrev pub capabilities : List ℕ
+capabilities = 0 ∷ codes "report-status-v2 atomic"
+
 -- HEAD first, then the refs in order of name; capabilities behind the first name
 abbrev pub advert_lines : AdvertText → List LineText
-advert_lines advert = ref_lines (0 ∷ codes "report-status-v2") (or_no_refs (with_head advert.head (entries advert.refs))) ++ flush ∷ []
+advert_lines advert = ref_lines capabilities (or_no_refs (with_head advert.head (entries advert.refs))) ++ flush ∷ []
 
 -- where HEAD has a value, it is an id
 abbrev pub IsHeadId : Option ObjectId → Type 0
@@ -131,7 +135,7 @@ IsHeadId (Some id) = IsId id
 
 -- the most bytes of a name that fits in a line with its id and the capabilities
 abbrev pub max_listed : ℕ
-max_listed = 65457
+max_listed = 65450
 
 -- the name of a ref, which fits in a line with the capabilities
 pub record IsWrittenRef (ref : Ref) : Type 0 where

@@ -102,6 +102,9 @@ module _ (name : List ℕ) (old new : FileMap) (rest : KeepsTheRest name old new
 pub objects-of_packed : (old new : FileMap) → KeepsOutside old new → (id : ObjectId) → objects new id ≡ objects old id
 objects-of_packed old new rest id = objects-same old new id (rest.at (object_path id.0) refl refl)
 
+pub quarantined-of_packed : (old new : FileMap) → KeepsOutside old new → (slot : ℕ) (id : ObjectId) → quarantined new slot id ≡ quarantined old slot id
+quarantined-of_packed old new rest slot id = same_at old new slot id (λ _. rest.at (quarantine_path slot id.0) refl refl)
+
 -- an empty folder holds nothing
 pub dropped-none : (content : FileMap) (slot : ℕ) → IsDropped slot content → (id : ObjectId) → quarantined content slot id ≡ None
 dropped-none content slot dropped id = quarantined-none content slot id (dropped (quarantine_path slot id.0) (starts_with-append (quarantine_folder slot) (encode_lower (take 1 id.0) ++ 47 ∷ encode_lower (drop 1 id.0))))

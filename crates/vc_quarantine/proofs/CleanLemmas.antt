@@ -15,7 +15,7 @@ use Rattle.vc_object.specs.ObjectId.{is_id}
 use Rattle.vc_object.specs.declared.id.ObjectId.{ObjectId}
 use Rattle.vc_object.specs.declared.kind.Kind.{Kind}
 use Rattle.vc_refs.proofs.LayeredLemmas.{bad-same, bad_place, good_absent}
-use Rattle.vc_refs.specs.Head.{KeepsTheRest}
+use Rattle.vc_refs.specs.Head.{KeepsOutside, KeepsTheRest}
 use Rattle.vc_refs.specs.Refs.{IsBadRef}
 use Rattle.vc_store.proofs.PathLemmas.{named_by_path}
 use Rattle.vc_object_map.specs.Store.{IsDamaged, object_path, stored_in}
@@ -97,6 +97,14 @@ bad_ref old new name rest = record {
   objects = damage-of_ref name old new rest;
   refs = rest.outside.good;
   quarantines = λ slot small id bad. damage_there-same old new slot id (rest.outside.at (quarantine_path slot id.0) refl refl) bad;
+}
+
+-- ---- several refs that are set at once
+pub bad_outside : (old new : FileMap) → KeepsOutside old new → MakesNoneBad old new
+bad_outside old new outside = record {
+  objects = λ id. damage-same old new id (outside.at (object_path id.0) refl refl);
+  refs = outside.good;
+  quarantines = λ slot small id bad. damage_there-same old new slot id (outside.at (quarantine_path slot id.0) refl refl) bad;
 }
 
 -- ---- a quarantine with no bad file

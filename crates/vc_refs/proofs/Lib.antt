@@ -15,3 +15,4 @@ pub mod LayeredListingLemmas
 pub mod LayeredChangeLemmas
 pub mod ChangesLemmas
 pub mod SetAllLemmas
+pub mod RefusalLemmas

@@ -14,7 +14,7 @@ mod setting_all;
 
 pub use getting::{get, get_over, get_with};
 pub use head_value::{resolve_head, resolve_head_with};
-pub use listing::list;
+pub use listing::{list, read_all};
 pub use obstacle::refuse_conflict;
 pub use packed_file::{PackedCache, read_packed};
 pub use packing::pack;

@@ -26,7 +26,7 @@ pub use faults::RefFault;
 pub use head_file::{head, set_head};
 pub use heads::Head;
 pub use layered::{
-    PackedCache, get, get_over, get_with, list, pack, read_packed, refuse_conflict, remove,
+    PackedCache, get, get_over, get_with, list, pack, read_all, read_packed, refuse_conflict, remove,
     resolve_head, resolve_head_with, set, set_all, set_over,
 };
 pub use packed::PackedRefs;

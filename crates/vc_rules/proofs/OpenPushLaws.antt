@@ -2,6 +2,7 @@
 use Rattle.std.proofs.Common.{◌≡◌, ◌⊎◌, inl, inr, ℕ, suc, List, ◌∷◌, map, length, drop, Option, Some, None, Bool, true, false, cond, refl, ap, sym, ◌∙◌, subst, []}
 use Rattle.std.specs.Prelude.{option_map, is_some, is_none, IsSome, Ok, Err}
 use Rattle.std.specs.FinMap.{empty, get, get-empty}
+use Rattle.std.specs.List.{list_all}
 use Rattle.std.specs.Option.{option_or}
 use Rattle.std.specs.Ordering.{nat_cmp}
 use Rattle.std.specs.Cmp.Lexicographic.{slice_cmp}
@@ -9,7 +10,7 @@ use Rattle.vc_files.specs.FileMap.{FileMap, SameOutside}
 use Rattle.vc_format.specs.Git.{id_of_bytes}
 use Rattle.vc_object_map.specs.Overlay.{with_carried}
 use Rattle.vc_model.specs.Node.{Reply}
-use Rattle.vc_model.specs.Node.Reply.{Passed, MigratedAll, Updated}
+use Rattle.vc_model.specs.Node.Reply.{Passed, MigratedAll, Updated, UpdatedAll, RefusedAll}
 use Rattle.vc_model.specs.Object.{Id, Object, Objects, stored, over}
 use Rattle.vc_model.specs.Push as machine
 use Rattle.vc_model.specs.Push.{OpenPush, Judged}
@@ -29,12 +30,13 @@ use Rattle.vc_refs.specs.Head.{KeepsTheRest}
 use Rattle.vc_refs.specs.RefMap.{RefMap}
 use Rattle.vc_refs.specs.Refs.{refs}
 use Rattle.vc_object_map.specs.Store.{objects}
-use Rattle.vc_push_rules.proofs.FrameLemmas.{objects-of_packed, objects-of_ref, objects-of_slot, quarantined-of_ref, quarantined-of_slot, refs-of_objects, refs-of_slot}
+use Rattle.vc_push_rules.proofs.FrameLemmas.{objects-of_packed, objects-of_ref, objects-of_slot, quarantined-of_packed, quarantined-of_ref, quarantined-of_slot, refs-of_objects, refs-of_slot}
 use Rattle.vc_push_rules.proofs.QuarantineLemmas.{quarantined-same}
 use Rattle.vc_push_rules.specs.Carrying.{HoldsNames, objects_of_push}
 use Rattle.vc_push_rules.specs.Quarantine.{objects_seen, quarantine_folder, quarantined}
 use Rattle.vc_push_rules.specs.Session.{IsSession, SessionText, fresh, stage_while, verdict_of}
-use Rattle.vc_push_rules.specs.Steps.{EndsEarly, EndsUpdate, StepChecks, StepFinishes, StepMigrates, StepUpdates, fault_number, unpack_of}
+use Rattle.vc_push_rules.specs.Steps.{EndsEarly, EndsUpdate, StepChecks, StepFinishes, StepMigrates, StepRefusesAll, StepSetsAll, StepUpdates, StepUpdatesAll, fault_number, unpack_of}
+use Rattle.vc_push_rules.specs.Turn.{all_pass, verdicts_together}
 use Rattle.vc_push_rules.specs.Verdict.{refs_after}
 use Rattle.vc_push_rules.specs.declared.stage.Stage.{Stage}
 use Rattle.vc_push_rules.specs.declared.stage.Stage.TheVariants.{Unpacked, Checked, Migrated, Done as AtItsEnd}
@@ -45,9 +47,10 @@ use Rattle.vc_rules.specs.Git.{git, stored_of}
 use Rattle.vc_rules.specs.OpenPushes.{EndsEarlyAgree, HoldsContent, HoldsPush, IsPushEnd, IsPushStep, IsStop, OpensAgree, OthersStay, StepsAgree, judged_commands, machine_stage, machine_standing}
 use Rattle.vc_rules.specs.Verdicts.{AreFoundAt, machine_command, machine_reason}
 use Rattle.vc_rules.proofs.JoinLemmas.{joined, joined_all, joined_some, joined_where, joined_where_each}
-use Rattle.vc_rules.proofs.JudgedLemmas.{checks_all, count_judged, none_judged, split_judged, stage_judged, tells_all}
+use Rattle.vc_rules.proofs.JudgedLemmas.{any_judged, count_judged, none_judged, split_judged, stage_judged, tells_all}
 use Rattle.vc_rules.proofs.RefLemmas.{set_rel}
 use Rattle.vc_rules.proofs.SoundLemmas.{seen_sound}
+use Rattle.vc_rules.proofs.TogetherLaws.{changes_together, checks_together, first_told, machine_founds, many_judged, none_found, not_all, refs_together_are, updates_together}
 use Rattle.vc_rules.proofs.UpdateLaws.{changes_of, updates_agree}
 use Rattle.vc_rules.proofs.WholeLemmas.{refs_whole}
 
@@ -119,11 +122,10 @@ module _ (old new : FileMap) (s t : SessionText) (r : Repository) (p : OpenPush)
       let ks : List Judged = judged_commands s.commands t.verdicts in
       let left : OpenPush = record p { commands = ks; stage = machine.stage_while ks MachineChecked } in
       let fits : length t.verdicts ≡ length s.commands = paired t.verdicts (stage_while t.verdicts Checked) h.session later in
-      let all : IsSound git r → machine.ChecksAll git (over r.objects p.carried) (judged_commands s.commands s.verdicts) ks = λ sound.
-      checks_all (objects_seen old s.slot) (over r.objects p.carried) (seen_found old r content s.slot p.carried held.carried) s.commands s.verdicts t.verdicts (h.verdicts (refs_whole old r content sound)) in
       let whole : IsSound git r → machine.ChecksPush git (over r.objects p.carried) p.atomic p.commands ks = λ sound.
-      subst (λ (a : Bool). machine.ChecksPush git (over r.objects p.carried) a p.commands ks) (sym (held.atomic ∙ h.single))
-      (subst (λ (js : List Judged). machine.ChecksAll git (over r.objects p.carried) js ks) (sym held.commands) (all sound)) in
+      subst (λ (a : Bool). machine.ChecksPush git (over r.objects p.carried) a p.commands ks) (sym held.atomic)
+      (subst (λ (js : List Judged). machine.ChecksPush git (over r.objects p.carried) s.atomic js ks) (sym held.commands)
+      (checks_together (objects_seen old s.slot) (over r.objects p.carried) (seen_found old r content s.slot p.carried held.carried) s.atomic s.commands s.verdicts t.verdicts (h.verdicts (refs_whole old r content sound)))) in
       record {
         effect = no_effect;
         left = left;
@@ -215,6 +217,65 @@ module _ (old new : FileMap) (s t : SessionText) (r : Repository) (p : OpenPush)
             (quarantined-of_ref name old new h.rest s.slot) refl (stage_judged s.commands t.verdicts Migrated fits);
       }
 
+  -- ---- the update of an atomic push
+  same_head : (b : Bool) → (changed_all (changes_together (judged_commands s.commands s.verdicts) b) r).head ≡ r.head
+  same_head true = refl
+  same_head false = refl
+
+  same_index : (b : Bool) → (changed_all (changes_together (judged_commands s.commands s.verdicts) b) r).index ≡ r.index
+  same_index true = refl
+  same_index false = refl
+
+  together_content : (founds : List (Option Reason)) → StepUpdatesAll old new s t founds → (b : Bool) → all_pass founds ≡ b
+      → HoldsContent new (changed_all (changes_together (judged_commands s.commands s.verdicts) b) r)
+  together_content founds h true passed = record {
+    objects_are = λ x. objects-of_packed old new h.rest.outside (id_of_bytes x) ∙ content.objects_are x;
+    refs_are = λ n. ap (λ (m : RefMap). m n) h.refs_are ∙ refs_together_are (refs old) r.refs content.refs_are s.commands s.verdicts held.session.paired founds true passed n;
+  }
+  together_content founds h false some = record {
+    objects_are = λ x. objects-of_packed old new h.rest.outside (id_of_bytes x) ∙ content.objects_are x;
+    refs_are = λ n. ap (λ (m : RefMap). m n) h.refs_are ∙ refs_together_are (refs old) r.refs content.refs_are s.commands s.verdicts held.session.paired founds false some n;
+  }
+
+  settled : (founds : List (Option Reason)) (reply : Reply) → StepUpdatesAll old new s t founds → IsSession t
+      → cond (list_all is_none (machine_founds founds)) (Some (UpdatedAll (length p.commands))) (shared.first_refusal p.commands (machine_founds founds)) ≡ Some reply → IsPushStep new t reply r p
+  settled founds reply h later told =
+      let ws : List Verdict = verdicts_together founds in
+      let js : List Judged = judged_commands s.commands s.verdicts in
+      let ks : List Judged = judged_commands s.commands ws in
+      let cs : List Change = changes_together js (all_pass founds) in
+      let left : OpenPush = record p { commands = ks; stage = machine.stage_while ks MachineMigrated } in
+      let then : IsSession (record s { verdicts = ws; stage = AtItsEnd }) = subst IsSession h.session later in
+      let all : machine.UpdatesAll r.refs js (machine_founds founds) ks cs =
+      updates_together (refs old) r.refs content.refs_are s.commands s.verdicts held.session.paired founds h.judged (all_pass founds) refl in
+      record {
+        effect = only_changes cs;
+        left = left;
+        after = changed_all cs r;
+        step = λ sound. subst (λ (at : machine.Stage). shared.StepsPush git r p at (only_changes cs) left reply) (sym (stands_at Migrated h.stage))
+            (ks, cs, shared.UpdatesPush.together (machine_founds founds) (held.atomic ∙ h.atomic)
+            (subst (λ (xs : List Judged). machine.UpdatesAll r.refs xs (machine_founds founds) ks cs) (sym held.commands) all) told, refl, refl);
+        done = (r.objects, none_added r.objects, refl);
+        content = together_content founds h (all_pass founds) refl;
+        head = same_head (all_pass founds);
+        index = same_index (all_pass founds);
+        held = kept ws AtItsEnd ks (machine.stage_while ks MachineMigrated) h.session later (quarantined-of_packed old new h.rest.outside s.slot) refl
+            (ap (λ b. cond b MachineMigrated Finished) (any_judged s.commands ws then.paired ∙ then.in_stage));
+      }
+
+  set_all : (n : ℕ) → StepSetsAll old new s t n → IsSession t → IsPushStep new t (UpdatedAll n) r p
+  set_all n h later = settled h.founds (UpdatedAll n) h.update later (
+      ap (λ b. cond b (Some (UpdatedAll (length p.commands))) (shared.first_refusal p.commands (machine_founds h.founds))) (none_found h.founds ∙ h.passed)
+      ∙ ap (λ (k : ℕ). Some (UpdatedAll k)) (ap length held.commands ∙ many_judged s.commands s.verdicts held.session.paired ∙ sym h.count)
+  )
+
+  refused_all : (name : List ℕ) (reason : Reason) → StepRefusesAll old new s t name reason → IsSession t → IsPushStep new t (RefusedAll name (machine_reason reason)) r p
+  refused_all name reason h later = settled h.founds (RefusedAll name (machine_reason reason)) h.update later (
+      ap (λ b. cond b (Some (UpdatedAll (length p.commands))) (shared.first_refusal p.commands (machine_founds h.founds))) (none_found h.founds ∙ not_all s.commands h.founds (name, reason) h.first)
+      ∙ ap (λ (js : List Judged). shared.first_refusal js (machine_founds h.founds)) held.commands
+      ∙ first_told s.commands s.verdicts h.founds (name, reason) held.session.paired h.first
+  )
+
   unpacked : (fault : Option ObjectFault) → unpack_of fault ≡ option_map unpack_error (option_map fault_number fault)
   unpacked None = refl
   unpacked (Some fault) = refl
@@ -235,12 +296,16 @@ pub steps_agree : StepsAgree
 steps_agree old new s t (stepped.Checked n) r p content held h later = checked old new s t r p content held n h later
 steps_agree old new s t stepped.Migrated r p content held h later = migrated old new s t r p content held h later
 steps_agree old new s t (stepped.Updated name found) r p content held h later = updated old new s t r p content held name.items found h later
+steps_agree old new s t (stepped.Atomic n) r p content held h later = set_all old new s t r p content held n h later
+steps_agree old new s t (stepped.AtomicRefused name reason) r p content held h later = refused_all old new s t r p content held name.items reason h later
 steps_agree old new s t (stepped.Finished report) r p content held h later = finished old new s t r p content held (report_text report) h
 
 pub others_stay : OthersStay
 others_stay old new s t u (stepped.Checked n) q small fits apart h held = subst (λ (m : FileMap). HoldsPush m u q) (sym h.files) held
 others_stay old new s t u stepped.Migrated q small fits apart h held = push_kept old new u q (quarantined-same old new u.slot h.outside) held
 others_stay old new s t u (stepped.Updated name found) q small fits apart h held = push_kept old new u q (quarantined-of_ref name.items old new h.rest u.slot) held
+others_stay old new s t u (stepped.Atomic n) q small fits apart h held = push_kept old new u q (quarantined-of_packed old new h.update.rest.outside u.slot) held
+others_stay old new s t u (stepped.AtomicRefused name reason) q small fits apart h held = push_kept old new u q (quarantined-of_packed old new h.update.rest.outside u.slot) held
 others_stay old new s t u (stepped.Finished report) q small fits apart h held =
     push_kept old new u q (λ id. quarantined-of_slot s.slot old new h.outside u.slot id small fits apart) held
 

@@ -7,7 +7,7 @@ use Rattle.vc_model.specs.Push as machine
 use Rattle.vc_model.specs.Refs.{RefName, Refs}
 use Rattle.vc_push.specs.Push.{CommandText}
 use Rattle.vc_push.specs.declared.reason.Reason.{Reason}
-use Rattle.vc_push.specs.declared.reason.Reason.TheVariants.{BadName, OutsideRefs, DeletionProhibited, MissingObjects, NotACommit, NonFastForward, AlreadyExists, NameConflict, Stale, UnpackerError}
+use Rattle.vc_push.specs.declared.reason.Reason.TheVariants.{BadName, OutsideRefs, DeletionProhibited, MissingObjects, NotACommit, NonFastForward, AlreadyExists, NameConflict, Stale, UnpackerError, AtomicFailure}
 use Rattle.vc_push_rules.specs.Turn.{TurnNeeds}
 use Rattle.vc_push_rules.specs.Verdict.{update_reasons}
 use Rattle.vc_refs.specs.RefMap.{RefMap, with_ref}
@@ -33,6 +33,7 @@ module _ (refs : RefMap) (rs : Refs) (rel : (n : RefName) → refs n ≡ option_
     λ h. ((needs refs rs rel c Stale).1 h.0, λ is. h.1 ((branch c.name).0 is)),
   )
   turn_needs UnpackerError = needs refs rs rel c UnpackerError
+  turn_needs AtomicFailure = needs refs rs rel c AtomicFailure
 
 pub turns_agree : TurnsAgree
 turns_agree refs rs rel named [] [] [] fits h = tt

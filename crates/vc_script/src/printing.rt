@@ -6,7 +6,7 @@ ghost use Rattle.vc_message.specs.AnyView.{message_text};
 ghost use Rattle.vc_pkt.specs.Message.{IsSpelledBy};
 ghost use Rattle.vc_pkt.specs.ObjectStreamView.{carried};
 ghost use Rattle.vc_push.specs.PushView.{carried_view};
-ghost use Rattle.vc_script.specs.Printing.{AddsFirst, AddsLine, AddsLines, AreWords, carried_words, count_words, deed_words, fault_words, letter_bytes, objects_words, moved_words, reason_words, refused_words, updated_words};
+ghost use Rattle.vc_script.specs.Printing.{AddsFirst, AddsLine, AddsLines, AreWords, atomic_words, carried_words, count_words, deed_words, fault_words, letter_bytes, objects_words, moved_words, reason_words, refused_words, updated_words};
 
 use std::alloc::{AllocError, Global};
 use vc_events::{Answer, Deed, Letter};
@@ -66,6 +66,15 @@ fn updated_words(alloc: Global, name: &[u8], found: Option<Reason>) -> Result<Ve
     }
 }
 
+// No ref of an atomic push was set, and why.
+fn atomic_words(alloc: Global, name: &[u8], reason: Reason) -> Result<Vec<u8>, AllocError>
+    ensures { IfOk result (λ line. line.items ≡ atomic_words name.now reason) }
+{
+    let refusal = refusal_words(alloc, name, reason)?;
+    let line = joined(alloc, b"atomic ", &refusal)?;
+    Ok(line)
+}
+
 // The numbers that refused commands.
 fn refused_words(alloc: Global, numbers: &[u16]) -> Result<Vec<u8>, AllocError>
     ensures { IfOk result (λ line. line.items ≡ refused_words numbers.now) }
@@ -109,6 +118,8 @@ fn deed_words(alloc: Global, done: &Deed) -> Result<Vec<u8>, AllocError>
         Deed::Passed(count) => numbered(alloc, b"checked ", *count),
         Deed::Migrated => Vec::from_slice(alloc, b"migrated"),
         Deed::Updated(name, found) => updated_words(alloc, name, *found),
+        Deed::Atomic(count) => numbered(alloc, b"atomic ok ", *count),
+        Deed::AtomicRefused(name, reason) => atomic_words(alloc, name, *reason),
         Deed::Moved(count, _) => moved_words(alloc, *count),
         Deed::Reported(count, numbers) => reported_words(alloc, *count, numbers),
     }

@@ -28,11 +28,11 @@ shorter (x ∷ xs) (b ∷ front) back h =
     let parts = and_parts (nat_eq b x) (starts_with nat_eq xs (front ++ back)) h in
     and_from (nat_eq b x) (starts_with nat_eq xs front) parts.0 (shorter xs front back parts.1)
 
-in_refs : (name : List ℕ) (branch : Bool) → is_branch name ≡ branch → (branch || is_tag name) ≡ true → starts_with nat_eq name (codes "refs/") ≡ true
+pub in_refs : (name : List ℕ) (branch : Bool) → is_branch name ≡ branch → (branch || is_tag name) ≡ true → starts_with nat_eq name (codes "refs/") ≡ true
 in_refs name true is inside = shorter name (codes "refs/") (codes "heads/") is
 in_refs name false is inside = shorter name (codes "refs/") (codes "tags/") inside
 
-none_there : (o : Option ObjectId) → is_some o ≡ true → o ≡ None → ⊥
+pub none_there : (o : Option ObjectId) → is_some o ≡ true → o ≡ None → ⊥
 none_there None some none = true≢false (sym some)
 none_there (Some id) some none = cc none
 

@@ -17,7 +17,7 @@ use Rattle.vc_shared.specs.Slots.{AreTellable, AreToldInOne, IsSlotTellable, slo
 use Rattle.vc_shared.specs.Stepping.{IsEnd, IsHeldThere, LeavesPackedIn, StepsPush, StepsSlot, left_in}
 use Rattle.vc_shared.specs.declared.fault.SharedFault.{SharedFault}
 use Rattle.vc_shared.specs.declared.stepping.Stepped.{Stepped}
-use Rattle.vc_shared.specs.declared.stepping.Stepped.TheVariants.{Checked, Migrated, Updated, Finished}
+use Rattle.vc_shared.specs.declared.stepping.Stepped.TheVariants.{Checked, Migrated, Updated, Atomic, AtomicRefused, Finished}
 
 -- nothing is packed where no file changes
 pub packed_none : (content : FileMap) (v : Option SessionText) → LeavesPackedIn content content v
@@ -51,6 +51,8 @@ module _ (slots : List (Option SessionText)) (k : ℕ) where
         by (Ok (Checked n)) = told
         by (Ok Migrated) = told
         by (Ok (Updated name found)) = told
+        by (Ok (Atomic n)) = told
+        by (Ok (AtomicRefused name reason)) = told
         by (Ok (Finished bytes)) = tt
         by (Err e) = told
 
@@ -83,3 +85,5 @@ end_early old new s t (session.Finished report) end h = subst (EndsEarly old new
 end_early old new s t (session.Checked n) end h = absurd end
 end_early old new s t session.Migrated end h = absurd end
 end_early old new s t (session.Updated name found) end h = absurd end
+end_early old new s t (session.Atomic n) end h = absurd end
+end_early old new s t (session.AtomicRefused name reason) end h = absurd end

@@ -57,7 +57,7 @@ pub record OpensSlot (new : FileMap) (slots after : List (Option SessionText)) (
   pub session : SessionText
   pub fault : Option ObjectFault
   pub fault_is : FaultOf push.carried fault
-  pub opened : IsOpened k fault false push.commands session
+  pub opened : IsOpened k fault push.atomic push.commands session
   pub is_session : IsSession session
   pub carries : Carries new k session.names (objects_of_push push.carried)
   pub clean : IsQuarantineClean new k

@@ -26,10 +26,22 @@ pub fn list<F: Files>(files: &mut F, alloc: Global) -> Result<Vec<(RefName, Obje
     ensures same { F.content files.new ≡ F.content files.old }
     ensures wear { Wears F.failed F.can_fail F.left files.old files.new (IsErrOf result (RefFault.Fault Fault.Device)) }
 {
-    let paths = files.list(alloc, "refs/")?;
-    let refs = all_refs(files, alloc, &paths)?;
+    let refs = read_all(files, alloc)?;
     let listed = refs.into_vec(alloc)?;
     Ok(listed)
+}
+
+/// The refs with their ids, as a map. Files are read and refused as by [`list`].
+pub fn read_all<F: Files>(files: &mut F, alloc: Global) -> Result<PackedRefs, RefFault>
+    ensures found { F.honest → IfOk result (IsMapOf (refs (F.content files.old))) }
+    ensures good { F.honest → OnOk result (SpellsRefs (F.content files.old)) }
+    ensures refused { F.honest → IfErr result (BlamesList (F.content files.old)) }
+    ensures same { F.content files.new ≡ F.content files.old }
+    ensures wear { Wears F.failed F.can_fail F.left files.old files.new (IsErrOf result (RefFault.Fault Fault.Device)) }
+{
+    let paths = files.list(alloc, "refs/")?;
+    let refs = all_refs(files, alloc, &paths)?;
+    Ok(refs)
 }
 
 // All refs, where these are the paths of the loose ones. They are put over one packed file, the newest: where another process

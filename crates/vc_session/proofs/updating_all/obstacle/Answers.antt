@@ -1,0 +1,23 @@
+use Rattle.std.proofs.Common.{rules, ◌≡◌, true, false}
+use Rattle.std.specs.Map.Iter.{deref_pair}
+use Rattle.std.proofs.lemmas.Map.Iter.{rest_more, rest_all}
+use Rattle.vc_refs.specs.RefMap.{conflicts}
+use Rattle.vc_refs.proofs.LayeredObstacleLemmas.{first_conflict, looks_further, none_conflicts}
+use Rattle.vc_session.proofs.updating_all.obstacle.Goals as goal
+
+pub returns-then-conflicts-clause-some : goal.returns-then-conflicts-clause-some
+returns-then-conflicts-clause-some c =
+    let next = rest_more deref_pair _ _ _ (c.in-Some.other, c.in-Some.field-0-1) c.in-Some.is c.next.ensures.steps in
+    let conflict : conflicts c.in-Some.other.now c.args.name.now ≡ true = search rules in
+    (first_conflict _ _ _ c.loop-other.invariant c.in-Some.other.now c.in-Some.field-0-1.now _ next conflict).here
+
+pub loop-other-preserved : goal.loop-other-preserved
+loop-other-preserved c =
+    let next = rest_more deref_pair _ _ _ (c.in-Some.other, c.in-Some.field-0-1) c.in-Some.is c.next.ensures.steps in
+    let apart : conflicts c.in-Some.other.now c.args.name.now ≡ false = search rules in
+    looks_further _ _ _ _ (c.in-Some.other.now, c.in-Some.field-0-1.now) c.loop-other.invariant next apart
+
+pub returns-clause-none : goal.returns-clause-none
+returns-clause-none c =
+    let none = rest_all deref_pair _ _ _ c.in-None.is c.next.ensures.steps in
+    none_conflicts _ _ _ c.loop-other.invariant none
