@@ -6,7 +6,7 @@ use std::alloc::{AllocError, Global};
 use std::fmt::{Display, Write};
 use vc_object::ObjectId;
 
-/// What is printed behind a row, or why there is no answer.
+/// What is printed after a row, or why there is no answer.
 pub type Answer = anyhow::Result<String>;
 
 pub fn word(alloc: Global, text: &str) -> Answer {

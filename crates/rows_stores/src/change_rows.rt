@@ -11,8 +11,8 @@ use std::alloc::Global;
 use vc_files::Files;
 use vc_refs::{RefChange, Refs, SetAllFault};
 
-/// A row has changes, parted by `, `: each has a name, the id that it should have, and the one that it is to have, where `-` is
-/// none. The answer to a change that is refused has its place.
+/// A row has changes, parted by `, `, or none at all: each has a name, the id that it should have, and the one that it is to have,
+/// where `-` is none. The answer to a change that is refused has its place.
 pub fn obey<F: Files>(refs: &mut Refs<'_, F>, alloc: Global, text: &str) -> Answer {
     let changes = changes_of(alloc, text)?;
     match refs.set_all(&changes) {
@@ -29,6 +29,9 @@ fn changes_of(alloc: Global, text: &str) -> anyhow::Result<Vec<RefChange>>
     ensures { IfOk result (λ changes. AreNamedInRefs changes.items) }
 {
     let mut changes = Vec::new(alloc);
+    if text.is_empty() {
+        return Ok(changes);
+    }
     for part in text.split(", ") {
         let change = change_of(alloc, part)?;
         changes.push(change)?;

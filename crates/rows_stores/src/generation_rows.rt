@@ -8,7 +8,7 @@ use vc_object::ObjectId;
 use vc_object_map::Commits;
 
 /// Learns from nothing what the first ids lead to, one after the other, and answers each refusal, and then what is known of
-/// the ids behind the word `of`.
+/// the ids after the word `of`.
 pub fn obey<C: Commits>(source: &mut C, alloc: Global, rest: &str) -> Answer {
     learn(source, alloc, &mut Generations::new(alloc), rest)
 }

@@ -13,7 +13,7 @@ use vc_object::ObjectId;
 use vc_object_map::{Commits, Objects};
 use vc_selection::{commits, common_ancestors, merge_bases};
 
-// The ids of a row, and behind the word `without` those that are excluded.
+// The ids of a row, and after the word `without` those that are excluded.
 #[derive(Drop)]
 struct Sides {
     include: Vec<ObjectId>,

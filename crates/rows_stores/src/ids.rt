@@ -4,7 +4,7 @@ use std::alloc::{AllocError, Global};
 use std::fmt;
 use vc_object::ObjectId;
 
-/// The first word of a text, and what follows the space behind it.
+/// The first word of a text, and what follows the space after it.
 pub fn two(text: &str) -> (&str, &str) {
     text.split_once(' ').unwrap_or((text, ""))
 }

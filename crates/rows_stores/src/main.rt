@@ -62,6 +62,7 @@ fn obey<R: Host>(rt: &R, held: &mut Held<R>, row: &str) -> Answer {
     match verb {
         "files" => devices::open_all(rt, &mut held.devices, rest),
         "packed" | "packed-text" => packed_rows::obey(rt.alloc(), verb, rest),
+        "packed-conflict" => packed_rows::conflict(rt.alloc(), rest),
         "random-refs" => random_refs::agreements(rt.alloc(), rest),
         "random" | "random-numbered" => random::agreements(rt.alloc(), verb, rest),
         "lock" | "try-lock" | "unlock" => lock_rows::obey(rt, &mut held.locks, verb, rest),

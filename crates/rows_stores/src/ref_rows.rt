@@ -5,7 +5,7 @@ ghost use Rattle.vc_refs.specs.RefMap.{IsInRefs};
 
 use crate::answers::{Answer, blaming, done, id_or_none, or_nothing, push_item, word};
 use crate::ids::{Shown, id_in, id_of, two};
-use crate::{change_rows, graph_rows};
+use crate::{change_rows, graph_rows, packed_rows};
 use anyhow::{anyhow, bail};
 use std::alloc::{AllocError, Global};
 use std::fmt::Write;
@@ -13,13 +13,14 @@ use vc_files::Files;
 use vc_history::Generations;
 use vc_object::ObjectId;
 use vc_refname::RefName;
-use vc_refs::{Head, RefFault, Refs};
+use vc_refs::{Head, RefFault, Refs, read_all};
 use vc_store::Store;
 
 pub fn obey<F: Files>(files: &mut F, alloc: Global, verb: &str, rest: &str) -> Answer {
     let mut refs = Refs::new(alloc, files);
     let answer = match verb {
         "refs" => return listed(alloc, &told(refs.list())?),
+        "read-refs" => return packed_rows::listed(alloc, &told(read_all(files, alloc))?),
         "head" => return head_text(alloc, told(refs.head())?),
         "resolve-head" => return id_or_none(alloc, told(refs.resolve_head())?),
         "set-head" => refs.set_head(&head_of(alloc, rest)?),

@@ -55,7 +55,7 @@ pub changes_same : (changes : List RefChange) (f g : RefMap) (q : List ℕ) → 
 changes_same [] f g q same = same
 changes_same (c ∷ changes) f g q same = changes_same changes (with_change f c) (with_change g c) q (change_same f g c q same)
 
--- and what it had, where they say nothing of it
+-- and what it had, if they say nothing of it
 pub changes_other : (changes : List RefChange) (f : RefMap) (q : List ℕ) → is_one_of q (names_of changes) ≡ false → with_changes f changes q ≡ f q
 changes_other [] f q other = refl
 changes_other (c ∷ changes) f q other =
@@ -156,7 +156,7 @@ conflicting_later changes i c name within is none apart =
     ∙ conflicting_front (take i changes) (c ∷ []) name none
     ∙ ap (λ b. cond b (Some c.name) None) apart
 
--- where none conflicts, each of them is apart
+-- if none conflicts, each of them is apart
 apart_from : (earlier : List RefChange) (name q : List ℕ) → first_conflicting earlier name ≡ None → is_one_of q (names_of earlier) ≡ true → conflicts q name ≡ false
 apart_from [] name q none among = absurd (true≢false (sym among))
 apart_from (c ∷ earlier) name q none among = by (conflicts c.name name) refl none (λ later. apart_from earlier name q later)

@@ -200,7 +200,7 @@ module _ (m : PackedMap) (left : List PackedRef) (e : PackedRef) (after : List P
         | inr later ↦ found_cases (λ n. is_above e.0 n ≡ false) q e after (or_parts (is_above e.0 e.0) (is_above e.0 e.0) (no_own_folder e.0)).0 (not_inside e.0 after (sym none) q) later
       ]
 
--- where none is left, no name is a folder of another
+-- if none is left, no name is a folder of another
 pub folder_none : (m : PackedMap) (left : List PackedRef) → IsPackedMap m → SeeksFolder m left → left ≡ [] → IsRefMap (get m)
 folder_none m left valid so_far none = record { legal = names_legal m valid; apart = apart }
   where

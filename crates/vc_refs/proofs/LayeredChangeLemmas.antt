@@ -87,7 +87,7 @@ held_from_ref content q there = by (is_taken content q) refl
     by true taken = ap (λ b. b || is_some (packed_at (packed_map content) q)) taken
     by false free = ap (λ b. b || is_some (packed_at (packed_map content) q)) free ∙ ap is_some (sym (refs-packed content q free)) ∙ there
 
--- where nothing is in the way, no ref of the map conflicts
+-- if nothing is in the way, no ref of the map conflicts
 pub refs_free : (content : FileMap) (name : List ℕ) → IsFree content name → (q : List ℕ) → is_some (refs content q) ≡ true → conflicts q name ≡ false
 refs_free content name free q there = false_from_ne_true _ (λ conflict. free.none q (record { held = held_from_ref content q there; conflict = conflict }))
 
@@ -179,7 +179,7 @@ module _ (name : List ℕ) (old mid : FileMap) (inside : IsInRefs name) (change 
   own_stays : (q : List ℕ) → is_taken old q ≡ true → loose_refs mid q ≡ loose_refs old q
   own_stays q taken = loose-same old mid q (file_same q (in_refs_other q taken))
 
-  -- where the ref has a file of its own, all refs are as before
+  -- if the ref has a file of its own, all refs are as before
   pub kept_by_file : is_taken old name ≡ true → refs mid ≡ refs old
   kept_by_file own i q = at q i
     where
@@ -194,7 +194,7 @@ module _ (name : List ℕ) (old mid : FileMap) (inside : IsInRefs name) (change 
       at : (q : List ℕ) → refs mid q ≡ refs old q
       at q = by q (is_taken old q) refl
 
-  -- where it has none, it is gone
+  -- if it has none, it is gone
   pub gone_with_line : is_taken old name ≡ false → refs mid ≡ without_ref (refs old) name
   gone_with_line own i q = at q (bytes_eq q name) refl i
     where

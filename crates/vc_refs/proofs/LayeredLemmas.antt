@@ -59,7 +59,7 @@ refs-packed content name free = ap (λ b. cond b (loose_refs content name) (pack
 pub taken_from_value : (content : FileMap) (name : List ℕ) (id : ObjectId) → loose_refs content name ≡ Some id → is_taken content name ≡ true
 taken_from_value content name id is = taken_from_ref content name (ap is_some is)
 
--- none, where that file isn't bad: so it isn't there
+-- none, if that file isn't bad: so it isn't there
 pub untaken_from_none : (content : FileMap) (name : List ℕ) → loose_refs content name ≡ None → (IsBadLoose content name → ⊥) → is_taken content name ≡ false
 untaken_from_none content name none good = false_from_ne_true _ (λ taken. good (record { taken = taken; none = none }))
 
@@ -119,7 +119,7 @@ untaken_outside content q outside = ap (λ b. b && is_some (files.get content q)
 pub refs-same : (old new : FileMap) (q : List ℕ) → files.get new q ≡ files.get old q → files.get new packed_path ≡ files.get old packed_path → refs new q ≡ refs old q
 refs-same old new q file packed = value_same old new q file (ap (λ m. packed_at m q) (packed_map-same old new packed))
 
--- where the files in `refs/` and the packed one are as before, the refs are
+-- if the files in `refs/` and the packed one are as before, the refs are
 pub refs-of_files : (old new : FileMap) → ((q : List ℕ) → IsInRefs q → files.get new q ≡ files.get old q) → files.get new packed_path ≡ files.get old packed_path → refs new ≡ refs old
 refs-of_files old new own packed i q = at q (starts_with nat_eq q (codes "refs/")) refl i
   where

@@ -88,7 +88,7 @@ module _ (content : FileMap) (paths : List (List ℕ)) (p : List ℕ) (packed : 
   pub one_merged : (new : PackedMap) → new ≡ with_loose packed p (loose_refs content p) → IsMerged content (paths ++ p ∷ []) new
   one_merged new is = record { at = λ q. ap (λ (m : PackedMap). files.get m q) is ∙ by_value (loose_refs content p) refl q }
 
--- what is put over the refs of these paths, where those of some first paths are there
+-- what is put over the refs of these paths, if those of some first paths are there
 pub loose_merged : (content : FileMap) (front paths : List (List ℕ)) (packed : PackedMap) → IsMerged content front packed → IsMerged content (front ++ paths) (with_all packed (loose_at content paths))
 loose_merged content front [] packed so_far = subst (λ (ps : List (List ℕ)). IsMerged content ps packed) (sym (append-nil front)) so_far
 loose_merged content front (p ∷ paths) packed so_far =
@@ -310,7 +310,7 @@ module _ (old : FileMap) (packed : PackedMap) (paths : List (List ℕ)) (new : F
           let there : is_some (files.get new q) ≡ true = (and_parts (starts_with nat_eq q (codes "refs/")) (is_some (files.get new q)) taken).1 in
           true≢false (sym there ∙ ap is_some (gone q (listed_taken q ∙ taken_before q taken))))
 
--- where nothing is loose
+-- if nothing is loose
 pub none_loose : (content : FileMap) → paths_under content (codes "refs/") ≡ [] → HasNoLoose content
 none_loose content none q = sym (is_among-paths_under content (codes "refs/") q) ∙ ap (is_one_of q) none
 

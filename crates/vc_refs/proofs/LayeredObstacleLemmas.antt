@@ -139,7 +139,7 @@ module _ (packed : PackedMap) (name : List ℕ) (left : List PackedRef) (so_far 
         | inr later ↦ first_found k q v after below (ap (λ l. is_some (find by_bytes q l)) (sym is) ∙ later)
       ]
 
-  -- where none is left, none conflicts
+  -- if none is left, none conflicts
   pub none_conflicts : left ≡ [] → IsFreeOfPacked packed name
   none_conflicts none q obstacle = elim (split_found q so_far.done left (held_in q obstacle.held)) [
     | inl before ↦ true≢false (sym obstacle.conflict ∙ found_apart q name so_far.done so_far.apart before)
@@ -160,7 +160,7 @@ module _ (content : FileMap) (name other : List ℕ) where
   pub comes_first_none : loose.IsFree content name → ComesFirst content name other true
   comes_first_none free = λ q here. absurd (free q here)
 
--- a loose file that doesn't come behind the first packed ref comes behind none
+-- a loose file that doesn't come after the first packed ref comes after none
 pub behind_loose : (content : FileMap) (packed : PackedMap) (name other : List ℕ) → IsFirstPackedInTheWay packed name other → ComesFirst content name other false → IsBehindLoose content packed name
 behind_loose content packed name other first before q obstacle = (before.0, before.1, then_most before.0 other q before.2 (first.first q obstacle))
 

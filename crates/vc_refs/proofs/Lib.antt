@@ -1,3 +1,4 @@
+pub mod LookLemmas
 pub mod RefFileLemmas
 pub mod RefsLemmas
 pub mod PathLemmas
@@ -15,3 +16,4 @@ pub mod LayeredListingLemmas
 pub mod LayeredChangeLemmas
 pub mod ChangesLemmas
 pub mod SetAllLemmas
+pub mod RefusalLemmas

@@ -67,7 +67,7 @@ folder_is_longer content name q i none is rest whole short =
     let there : is_some (files.get content q) ≡ true = inside.1 in
     cc
 
--- where no folder holds a file, none is in the way above
+-- if no folder holds a file, none is in the way above
 pub free_above : (content : FileMap) (name : List ℕ) → NoneShorter content name (length name) → IsFreeAbove content name
 free_above content name none q is = false_from_ne_true _ (λ above.
     let parts = is_above-parts q name above in
@@ -130,7 +130,7 @@ first_below content name p ps inside free listed = record { here = here; first =
           (member q ∙ and_from (is_above name q) (is_some (files.get content q)) down (taken_inside content q obstacle.taken).1)
     ]
 
--- where nothing lies there either, nothing is in the way
+-- if nothing lies there either, nothing is in the way
 pub free_below : (content : FileMap) (name : List ℕ) → IsFreeAbove content name → paths_under content (name ++ 47 ∷ []) ≡ [] → IsFree content name
 free_below content name free listed q obstacle = elim (or_cases (is_above q name) (is_above name q) obstacle.conflict) [
   | inl up ↦ true≢false (sym up ∙ free q obstacle.taken)

@@ -47,7 +47,7 @@ packed_name-valid text found e = valid_at text (is_packed_name text) refl found 
 
 -- ---- lines
 module _ (done : List PackedRef) where
-  -- what the lines give behind the refs that are done
+  -- what the lines give after the refs that are done
   abbrev pub behind_refs : Option (List PackedRef) → Option (List PackedRef)
   behind_refs rest = option_map (λ (refs : List PackedRef). done ++ refs) rest
 
@@ -59,7 +59,7 @@ module _ (done : List PackedRef) where
   pub line-comment : (behind : Bool) (line : List ℕ) (others : List (List ℕ)) → is_comment line ≡ true → behind_refs (refs_in behind (line ∷ others)) ≡ behind_refs (refs_in false others)
   line-comment behind line others comment = rw comment refl
 
-  -- a peeled line behind that of a ref
+  -- a peeled line after that of a ref
   pub line-peeled : (line : List ℕ) (others : List (List ℕ)) → is_comment line ≡ false → is_peeled line ≡ true → behind_refs (refs_in true (line ∷ others)) ≡ behind_refs (refs_in false others)
   line-peeled line others comment peeled = rw (comment, peeled) refl
 
@@ -193,7 +193,7 @@ nothing v e = cc e
 same_id : (v w : ObjectId) → Some v ≡ Some w → v ≡ w
 same_id v w e = cc e
 
--- what is found passes where all do
+-- what is found passes if all do
 pub all_found : (q : List ℕ) (v : ObjectId) (es : List PackedRef) → list_all may_be_packed es ≡ true → find by_bytes q es ≡ Some v → may_be_packed (q, v) ≡ true
 all_found q v [] all is = absurd (nothing v is)
 all_found q v (e ∷ es) all is =
@@ -203,7 +203,7 @@ all_found q v (e ∷ es) all is =
       | false ↦ λ other later. all_found q v es parts.1 later
     ] refl is
 
--- all pass where each that is found does
+-- all pass if each that is found does
 found_all : (es : List PackedRef) → is_sorted by_bytes es ≡ true → ((q : List ℕ) (v : ObjectId) → find by_bytes q es ≡ Some v → may_be_packed (q, v) ≡ true) → list_all may_be_packed es ≡ true
 found_all [] sorted each = refl
 found_all (e ∷ es) sorted each =

@@ -122,7 +122,7 @@ bad_there content name text legal there none = record {
   none = loose-there content name text legal there ∙ none;
 }
 
--- a ref that is set keeps the map free of conflicts, where nothing of the map conflicts with it
+-- a ref that is set keeps the map free of conflicts, if nothing of the map conflicts with it
 pub IsRefMap-with_ref : (refs : RefMap) (name : List ℕ) (id : ObjectId) → is_ref name ≡ true → ((q : List ℕ) → is_some (refs q) ≡ true → conflicts q name ≡ false) → conflicts name name ≡ false
     → IsRefMap refs → IsRefMap (with_ref refs name id)
 unfolding with_ref

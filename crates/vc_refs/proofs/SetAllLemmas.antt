@@ -1,6 +1,6 @@
 -- Several refs set at once: the named loose ones are packed, their own files go, and one write of the packed file sets them all.
-use Rattle.std.proofs.Common.{◌≡◌, ℕ, Bool, true, false, cond, ◌⊎◌, inl, inr, true≢false, nat_eq, List, [], ◌∷◌, ◌++◌, take, drop, length, get_or, suc, ◌+◌, ◌<◌, Option, Some, None, sym, ap, refl, ◌∙◌, subst, drop-cons}
-use Rattle.std.specs.Prelude.{bytes_eq, codes, is_some, option_map}
+use Rattle.std.proofs.Common.{◌≡◌, ℕ, Bool, true, false, cond, ◌⊎◌, inl, inr, true≢false, nat_eq, List, [], ◌∷◌, ◌++◌, take, drop, length, get_or, suc, ◌+◌, ◌<◌, Option, Some, None, Ok, Err, sym, ap, refl, ◌∙◌, subst, drop-cons}
+use Rattle.std.specs.Prelude.{bytes_eq, codes, is_some, option_map, Result, IfErr, OnErr, OnOk}
 use Rattle.std.specs.List.{starts_with}
 use Rattle.std.specs.Option.{option_or}
 use Rattle.std.specs.Ordering.{nat_cmp, eq_by_cmp}
@@ -19,8 +19,9 @@ use Rattle.vc_refs.specs.Packed.{PackedMap, PackedRef, packed_refs, packed_text}
 use Rattle.vc_refs.specs.Packing.{is_one_of, loose_at, with_all, with_first, AreGone, IsMapOf}
 use Rattle.vc_refs.specs.RefMap.{RefMap, IsRefMap, conflicts, is_ref}
 use Rattle.vc_refs.specs.Refs.{is_taken, loose_refs, packed_at, packed_map, packed_path, refs, IsBadRef, IsGoodPackedFile}
-use Rattle.vc_refs.specs.SetAll.{names_in, names_of, with_changes, AreNamedInRefs, KeepsAllBut, MayChangeAfter, MayPackSome, PacksSome, PacksThem}
+use Rattle.vc_refs.specs.SetAll.{names_in, names_of, with_changes, AreNamedInRefs, IsFaultOfAll, KeepsAllBut, MayChangeAfter, MayChangeAll, MayPackSome, PacksSome, PacksThem, SetsAll}
 use Rattle.vc_refs.specs.declared.changes.RefChange.{RefChange}
+use Rattle.vc_refs.specs.declared.changes.SetAllFault.{SetAllFault}
 use Rattle.vc_refs.proofs.ChangesLemmas.{IsOpen, changes-IsRefMap, changes_other, changes_same, conflicts_back, held_apart, named_inside, named_open, same_maps}
 use Rattle.vc_refs.proofs.LayeredChangeLemmas.{held_from_ref}
 use Rattle.vc_refs.proofs.LayeredLemmas.{good_packed_file, other_than_packed, packed_map-IsRefMap, packed_map-there, packed_untaken, refs-loose, refs-packed, taken_from_value, taken_inside, taken_same, untaken_from_none}
@@ -253,12 +254,12 @@ module _ (old : FileMap) (changes : List RefChange) (packed : PackedMap) (read :
                 let same = stands all_named old new lost_named q taken in
                 true≢false (sym taken ∙ taken_same old new q same ∙ untaken_from_none old q is (is_open old changes packed read may q among).good)
 
-  -- where it ended before its end
+  -- if it ended before its end
   pub same_packing : (new : FileMap) → MayPackSome (loose_at old all_named) now_packed old new → IsSame changes old new
   same_packing new (inl same) = same_all changes old new same
   same_packing new (inr packs) = some_same new packs
 
-  -- where none of the named ones is loose
+  -- if none of the named ones is loose
   none_ready : loose_at old all_named ≡ [] → IsReady changes now_packed old old
   none_ready none = record { same = same_all changes old old refl; lost = record { at = λ path beside. inl refl }; packed_is = read ∙ ap Some (sym (ap (with_all packed) none)); free = free }
     where
@@ -319,31 +320,126 @@ module _ (old : FileMap) (changes : List RefChange) (packed : PackedMap) (read :
 pub set_kept : (old : FileMap) (changes : List RefChange) → MayChangeAfter old [] changes → IsRefMap (refs old) → IsRefMap (with_changes (refs old) changes)
 set_kept old changes may apart = changes-IsRefMap old [] changes (refs old) may (λ q there. inl (held_from_ref old q there)) apart
 
--- ---- the same, over what was read and made
-module _ (old : FileMap) (changes : List RefChange) (packed : PackedMap) (read : packed_map old ≡ Some packed) (may : MayChangeAfter old [] changes) (inside : AreNamedInRefs changes)
-    (loose : List PackedRef) (now : PackedMap) (mid new : FileMap) (is : loose ≡ loose_at old (names_of changes)) (put : now ≡ with_all packed loose) (looked : mid ≡ old) where
-  abbrev pub then_packed : PackedMap
-  then_packed = present old changes packed read may
+-- ---- the whole call
+-- what is known before the first write: the packed refs that were read, the named loose ones, and the map of both
+pub record IsRead (changes : List RefChange) (packed : PackedMap) (loose : List PackedRef) (both : PackedMap) (old : FileMap) : Type 0 where
+  pub read : packed_map old ≡ Some packed
+  pub may : MayChangeAll old changes
+  pub loose_is : loose ≡ loose_at old (names_of changes)
+  pub both_is : both ≡ with_all packed loose
+  pub inside : AreNamedInRefs changes
 
-  now_is : now ≡ then_packed
-  now_is = put ∙ ap (with_all packed) is
+-- the check ranges over files that the look at the packed one left as they were
+pub may_all : {old first : FileMap} {changes : List RefChange} {packed : PackedMap} → first ≡ old → packed_map old ≡ Some packed → (packed_map first ≡ Some packed → MayChangeAll first changes) → MayChangeAll old changes
+may_all {changes = changes} same read allowed = subst (λ (m : FileMap). MayChangeAll m changes) same (allowed (ap packed_map same ∙ read))
 
-  pub packing_ended : MayPackSome loose now mid new → IsSame changes old new
-  packing_ended packs =
-      same_packing old changes packed read may inside new
-      (subst (λ (m : FileMap). MayPackSome (loose_at old (names_of changes)) then_packed m new) looked
-      (subst (λ (m : PackedMap). MayPackSome (loose_at old (names_of changes)) m mid new) now_is
-      (subst (λ (l : List PackedRef). MayPackSome l now mid new) is packs)))
+pub is_read : {old first : FileMap} {changes : List RefChange} {packed both : PackedMap} {found loose lent : List PackedRef} → first ≡ old → packed_map old ≡ Some packed → (packed_map first ≡ Some packed → MayChangeAll first changes)
+    → (packed_map first ≡ Some packed → found ≡ loose_at first (names_of changes)) → loose ≡ found → lent ≡ found → both ≡ with_all packed lent → AreNamedInRefs changes → IsRead changes packed loose both old
+is_read {changes = changes} {packed = packed} same read allowed all loose_is lent_is put_over inside = record {
+  read = read;
+  may = may_all same read allowed;
+  loose_is = loose_is ∙ all (ap packed_map same ∙ read) ∙ ap (λ (m : FileMap). loose_at m (names_of changes)) same;
+  both_is = put_over ∙ ap (with_all packed) (lent_is ∙ sym loose_is);
+  inside = inside;
+}
 
-  pub packing_done : PacksThem loose now mid new → IsReady changes then_packed old new
-  packing_done packs =
-      ready_packing old changes packed read may inside new
-      (subst (λ (m : FileMap). PacksThem (loose_at old (names_of changes)) then_packed m new) looked
-      (subst (λ (m : PackedMap). PacksThem (loose_at old (names_of changes)) m mid new) now_is
-      (subst (λ (l : List PackedRef). PacksThem l now mid new) is packs)))
+-- all have their new values, and all else is as before
+pub record AreSet (changes : List RefChange) (old new : FileMap) : Type 0 where
+  pub set : refs new ≡ with_changes (refs old) changes
+  pub rest : KeepsAllBut changes old new
 
-  pub made_of : (after : PackedMap) → IsMapOf (with_changes (files.get now) changes) after → IsMapOf (with_changes (files.get then_packed) changes) after
-  made_of after made = subst (λ (m : PackedMap). IsMapOf (with_changes (files.get m) changes) after) now_is made
+module _ {changes : List RefChange} {packed : PackedMap} {loose : List PackedRef} {both : PackedMap} {old : FileMap} (is : IsRead changes packed loose both old) where
+  abbrev all_packed : PackedMap
+  all_packed = present old changes packed is.read is.may.each
 
-pub same_after : (changes : List RefChange) (old mid new : FileMap) → new ≡ mid → IsSame changes old mid → IsSame changes old new
-same_after changes old mid new same before = subst (λ (m : FileMap). IsSame changes old m) (sym same) before
+  all_is : both ≡ all_packed
+  all_is = is.both_is ∙ ap (with_all packed) is.loose_is
+
+  pub packing_ended : {mid new : FileMap} → mid ≡ old → MayPackSome loose both mid new → IsSame changes old new
+  packing_ended {mid = mid} {new = new} looked packs =
+      same_packing old changes packed is.read is.may.each is.inside new
+      (subst (λ (m : FileMap). MayPackSome (loose_at old (names_of changes)) all_packed m new) looked
+      (subst (λ (m : PackedMap). MayPackSome (loose_at old (names_of changes)) m mid new) all_is
+      (subst (λ (l : List PackedRef). MayPackSome l both mid new) is.loose_is packs)))
+
+  pub packing_done : {mid new : FileMap} → mid ≡ old → PacksThem loose both mid new → IsReady changes all_packed old new
+  packing_done {mid = mid} {new = new} looked packs =
+      ready_packing old changes packed is.read is.may.each is.inside new
+      (subst (λ (m : FileMap). PacksThem (loose_at old (names_of changes)) all_packed m new) looked
+      (subst (λ (m : PackedMap). PacksThem (loose_at old (names_of changes)) m mid new) all_is
+      (subst (λ (l : List PackedRef). PacksThem l both mid new) is.loose_is packs)))
+
+  pub all_written : {mid new : FileMap} {after : PackedMap} → IsReady changes all_packed old mid → IsMapOf (with_changes (files.get both) changes) after
+      → (IsRefMap (files.get after) → packed_refs (packed_text after) ≡ Some after) → new ≡ insert mid packed_path (packed_text after) → AreSet changes old new
+  all_written {mid = mid} {after = after} ready made again written =
+      let from : IsMapOf (with_changes (files.get all_packed) changes) after = subst (λ (m : PackedMap). IsMapOf (with_changes (files.get m) changes) after) all_is made in
+      let read = again (after_apart old changes packed is.read is.may.each is.inside mid ready after from) in
+      let are : AreSet changes old (insert mid packed_path (packed_text after)) = record {
+        set = all_set old changes packed is.read is.may.each is.inside mid ready after from read;
+        rest = all_rest old changes packed is.read is.may.each is.inside mid ready after from read;
+      } in
+      subst (λ (m : FileMap). AreSet changes old m) (sym written) are
+
+pub same_after : {changes : List RefChange} {old mid new : FileMap} → new ≡ mid → IsSame changes old mid → IsSame changes old new
+same_after {changes = changes} {old = old} same before = subst (λ (m : FileMap). IsSame changes old m) (sym same) before
+
+-- ---- what the call says at each of its ends
+abbrev Ending : Type 0
+Ending = Result (Unit {0}) SetAllFault
+
+never_ok : (P : Type 0) (result : Ending) → OnOk result ⊥ → OnOk result P
+never_ok P (Ok done) never = absurd never
+never_ok P (Err e) never = tt
+
+on_err : {P : Type 0} (result : Ending) → P → OnErr result P
+on_err (Ok done) p = tt
+on_err (Err e) p = p
+
+refused_alone : {P : Type 0} (result : Ending) → P → IfErr result (λ e. IsFaultOfAll e ⊎ P)
+refused_alone (Ok done) p = tt
+refused_alone (Err e) p = inr p
+
+fault_alone : (P : Type 0) (result : Ending) → IfErr result IsFaultOfAll → IfErr result (λ e. IsFaultOfAll e ⊎ P)
+fault_alone P (Ok done) fault = tt
+fault_alone P (Err e) fault = inl fault
+
+module _ {F : Type 0} {honest : Type 0} {content : F → FileMap} {changes : List RefChange} where
+  -- of no change
+  pub sets_nothing : {device : F} → changes ≡ [] → SetsAll honest content changes device device (Ok tt)
+  sets_nothing {device = device} none = record {
+    set = λ h. ap (with_changes (refs (content device))) (sym none);
+    kept = λ h map. map;
+    rest = λ h. keeps_all changes (content device) (content device) refl;
+    err = λ h. tt;
+    unchanged = λ h. tt;
+  }
+
+  -- refused before the first write
+  pub sets_refused : {old new : F} {result : Ending} → OnOk result ⊥ → content new ≡ content old → SetsAll honest content changes old new result
+  sets_refused {old = old} {new = new} {result = result} never same = record {
+    set = λ h. never_ok _ result never;
+    kept = λ h map. subst IsRefMap (ap refs (sym same)) map;
+    rest = λ h. keeps_all changes (content old) (content new) same;
+    err = λ h. on_err result (ap refs same);
+    unchanged = λ h. refused_alone result same;
+  }
+
+  -- ended by a fault
+  pub sets_ended : {old new : F} {result : Ending} → OnOk result ⊥ → IfErr result IsFaultOfAll → (honest → IsSame changes (content old) (content new)) → SetsAll honest content changes old new result
+  sets_ended {result = result} never fault same = record {
+    set = λ h. never_ok _ result never;
+    kept = λ h map. subst IsRefMap (sym (same h).refs) map;
+    rest = λ h. (same h).rest;
+    err = λ h. on_err result (same h).refs;
+    unchanged = λ h. fault_alone _ result fault;
+  }
+
+  -- done
+  pub sets_done : {old new : F} → (honest → MayChangeAll (content old) changes) → (honest → AreSet changes (content old) (content new)) → SetsAll honest content changes old new (Ok tt)
+  sets_done {old = old} may are = record {
+    set = λ h. (are h).set;
+    kept = λ h map. subst IsRefMap (sym (are h).set) (set_kept (content old) changes (may h).each map);
+    rest = λ h. (are h).rest;
+    err = λ h. tt;
+    unchanged = λ h. tt;
+  }

@@ -17,7 +17,7 @@ BlamesRef content name (BadRefFile path) = (string_bytes path ≡ name) × IsBad
 BlamesRef content name HeadLoop = ⊥
 BlamesRef content name (Fault fault) = ⊤
 
--- a look at the file of one path is refused where that path stands for no ref
+-- a look at the file of one path is refused if that path stands for no ref
 abbrev pub BlamesPath : FileMap → List ℕ → RefFault → Type 0
 BlamesPath content at (Stale current) = ⊥
 BlamesPath content at (Conflict other) = ⊥

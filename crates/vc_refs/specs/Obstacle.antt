@@ -45,7 +45,7 @@ pub record IsFirstPackedInTheWay (packed : PackedMap) (name other : List ℕ) : 
 abbrev pub IsFreeOfPacked : PackedMap → List ℕ → Type 0
 IsFreeOfPacked packed name = (other : List ℕ) → IsPackedInTheWay packed name other → ⊥
 
--- the first loose file in the way comes behind this name, or it comes first or has it as its path
+-- the first loose file in the way comes after this name, or it comes first or has it as its path
 abbrev pub ComesFirst : FileMap → List ℕ → List ℕ → Bool → Type 0
 ComesFirst content name other true = (q : List ℕ) → loose.IsInTheWay content name q → slice_cmp nat_cmp other q ≡ Less
 ComesFirst content name other false = (path : List ℕ) × loose.IsInTheWay content name path × (slice_cmp nat_cmp path other ≢ Greater)

@@ -76,7 +76,7 @@ abbrev pub with_ref_first : Option PackedRef → Option (List PackedRef) → Opt
 with_ref_first (Some ref) (Some refs) = Some (ref ∷ refs)
 with_ref_first _ _ = None
 
--- the refs of the lines, in the order of the lines; whether they come directly behind the line of a ref says whether
+-- the refs of the lines, in the order of the lines; whether they come directly after the line of a ref says whether
 -- the first may be `^<id>`
 abbrev pub refs_in : Bool → List (List ℕ) → Option (List PackedRef)
 refs_in behind [] = Some []

@@ -31,7 +31,7 @@ pub record UnpacksOnly (name : List ℕ) (old new : FileMap) : Type 0 where
 
 -- ---- all refs in one map
 
--- the map with this id at the name, or as it is where there is none
+-- the map with this id at the name, or as it is if there is none
 abbrev pub with_loose : PackedMap → List ℕ → Option ObjectId → PackedMap
 with_loose packed name None = packed
 with_loose packed name (Some id) = insert packed name id
@@ -66,7 +66,7 @@ IsMapOf map packed = (name : List ℕ) → files.get packed name ≡ map name
 abbrev pub IsTextOf : RefMap → Option (List ℕ) → Type 0
 IsTextOf map text = (packed : PackedMap) × IsMapOf map packed × (text ≡ Some (packed_text packed))
 
--- no file is left in `refs/`, and the packed file has all refs, of which none is a folder of another; where no file was there,
+-- no file is left in `refs/`, and the packed file has all refs, of which none is a folder of another; if no file was there,
 -- nothing has changed
 pub record IsPackedFrom (old new : FileMap) : Type 0 where
   pub apart : IsRefMap (refs old)

@@ -115,7 +115,7 @@ BlamesFolder refs (BadRefFile path) = ⊥
 BlamesFolder refs HeadLoop = ⊥
 BlamesFolder refs (Fault fault) = fault ≡ Memory
 
--- a packing is refused for the first bad file, and, where there is none, for the first ref that is a folder of another
+-- a packing is refused for the first bad file, and, if there is none, for the first ref that is a folder of another
 abbrev pub BlamesPacking : FileMap → RefFault → Type 0
 BlamesPacking content (Stale current) = ⊥
 BlamesPacking content (Conflict other) = SpellsRefs content × IsFirstFolder (refs content) other

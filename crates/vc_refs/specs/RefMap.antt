@@ -1,4 +1,4 @@
--- Refs as a finite map from names to ids, where no name is a folder of another.
+-- Refs as a finite map from names to ids, in which no name is a folder of another.
 use Rattle.std.specs.Prelude.{◌≡◌, ◌≢◌, ℕ, Bool, true, false, ◌&&◌, ◌||◌, nat_eq, bytes_eq, List, Option, Some, None, is_some, option_map, if◌then◌else◌, codes}
 use Rattle.std.specs.List.{starts_with}
 use Rattle.std.specs.Ordering.{nat_cmp}

@@ -10,7 +10,7 @@ use Rattle.vc_refs.specs.RefMap.{RefMap, is_ref}
 
 -- ---- a ref's own file
 
--- the id that it spells, where the path is a ref's name
+-- the id that it spells, if the path is a ref's name
 unfoldable pub loose_refs : FileMap → RefMap
 loose_refs content name = if is_ref name then option_and_then id_in (files.get content name) else None
 
@@ -37,7 +37,7 @@ pub record ChangesOnly (path : List ℕ) (old new : FileMap) : Type 0 where
 abbrev pub packed_path : List ℕ
 packed_path = codes "packed-refs"
 
--- no refs where there is no packed file, and else those of its text, or none at all where it is bad
+-- no refs if there is no packed file, and else those of its text, or none at all if it is bad
 abbrev pub packed_in : Option (List ℕ) → Option PackedMap
 packed_in None = Some empty
 packed_in (Some text) = packed_refs text
@@ -60,7 +60,7 @@ packed_at (Some packed) name = files.get packed name
 
 -- ---- all refs
 
--- a name has the value that its own file spells, where that file is there, and else the packed one
+-- a name has the value that its own file spells, if that file is there, and else the packed one
 unfoldable pub refs : FileMap → RefMap
 refs content name = if is_taken content name then loose_refs content name else packed_at (packed_map content) name
 

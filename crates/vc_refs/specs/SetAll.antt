@@ -74,7 +74,7 @@ BlamesChange content earlier change (BadRefFile path) =
 BlamesChange content earlier change HeadLoop = ⊥
 BlamesChange content earlier change (Fault fault) = ⊤
 
--- what a refusal of one change is to all of them, where it has this place
+-- what a refusal of one change is to all of them, if it has this place
 abbrev pub placed : ℕ → RefFault → SetAllFault
 placed place (Stale current) = At place (Stale current)
 placed place (Conflict other) = At place (Conflict other)
@@ -143,6 +143,6 @@ pub record PacksSome (loose : List PackedRef) (present : PackedMap) (old new : F
 abbrev pub MayPackSome : List PackedRef → PackedMap → FileMap → FileMap → Type 0
 MayPackSome loose present old new = (new ≡ old) ⊎ PacksSome loose present old new
 
--- to the end: where none has a file of its own, nothing is done
+-- to the end: if none has a file of its own, nothing is done
 abbrev pub PacksThem : List PackedRef → PackedMap → FileMap → FileMap → Type 0
 PacksThem loose present old new = ((loose ≡ []) × (new ≡ old)) ⊎ (PacksSome loose present old new × AreGone (names_in loose) new)

@@ -1,4 +1,4 @@
-// What is asked of each ref where several are set at once, and what refuses it.
+// What is asked of each ref when several are set at once, and what refuses it.
 ghost use Rattle.std.specs.Prelude.{◌≡◌};
 ghost use Rattle.vc_files.specs.declared.faults.Fault.TheVariants.{Memory};
 ghost use Rattle.vc_refs.specs.declared.changes.SetAllFault.TheVariants.{Whole};
@@ -17,9 +17,9 @@ use vc_refname::RefName;
 pub struct RefChange {
     /// The ref's name, in `refs/`.
     pub name: RefName,
-    /// Its value before, or none where it isn't there.
+    /// Its value before, or none if it isn't there.
     pub expected: Option<ObjectId>,
-    /// Its value after, or none where it is to be removed.
+    /// Its value after, or none if it is to be removed.
     pub new: Option<ObjectId>,
 }
 

@@ -13,7 +13,7 @@ use vc_refname::{BAD_REF_FILE, HEAD_LOOP, RefName};
 /// What refuses a call on refs, by number, or the fault that ended it.
 #[derive(Debug, Drop)]
 pub enum RefFault {
-    /// 31: the ref has this value, and not the expected one; none where it isn't there.
+    /// 31: the ref has this value, and not the expected one; none if it isn't there.
     Stale(Option<ObjectId>),
     /// 32: this ref is there, and one of the two names is a folder of the other. It is the first such ref by the
     /// bytes of its name. Of all refs, which are to be packed, it is the first that is a folder of another.

@@ -16,7 +16,7 @@ use vc_files::Files;
 // The path of HEAD's file.
 const HEAD: &str = "HEAD";
 
-// What HEAD is by the name that its text has behind `ref: `.
+// What HEAD is by the name that its text has after `ref: `.
 fn head_named(alloc: Global, name: &[u8]) -> Result<HeadText, AllocError>
     ensures { IfOk result (λ text. text ≡ name_said name.now) }
 {
@@ -66,7 +66,7 @@ fn head_text(alloc: Global, head: &Head) -> Result<String, AllocError>
     }
 }
 
-/// What HEAD is, or none where its file isn't there, as in a repository that is not made yet.
+/// What HEAD is, or none if its file isn't there, as in a repository that is not made yet.
 pub fn head<F: Files>(files: &mut F, alloc: Global) -> Result<Option<Head>, RefFault>
     ensures found { F.honest → IfOk result (λ head. head ≡ head_of (F.content files.old)) }
     ensures inside { IfOk result (λ head. IfSome head IsHeadInRefs) }

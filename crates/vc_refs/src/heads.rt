@@ -2,7 +2,7 @@
 use vc_object::ObjectId;
 use vc_refname::RefName;
 
-/// The branch that is checked out, or an id where none is (a detached HEAD).
+/// The branch that is checked out, or an id if none is (a detached HEAD).
 #[derive(Drop)]
 pub enum Head {
     /// The ref with this name, which need not be there yet.

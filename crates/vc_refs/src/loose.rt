@@ -12,7 +12,7 @@ use vc_files::{Fault, Files};
 use vc_object::ObjectId;
 use vc_refname::{NewNameError, RefName};
 
-// The id that the file of a ref spells, or none where there is no such file.
+// The id that the file of a ref spells, or none if there is no such file.
 pub(crate) fn read<F: Files>(
     files: &mut F,
     alloc: Global,
@@ -34,7 +34,7 @@ pub(crate) fn read<F: Files>(
     }
 }
 
-// The id that the file of this ref spells, or none where there is no such file.
+// The id that the file of this ref spells, or none if there is no such file.
 pub(crate) fn get<F: Files>(
     files: &mut F,
     alloc: Global,
@@ -51,7 +51,7 @@ pub(crate) fn get<F: Files>(
     Ok(id)
 }
 
-// The name of the ref whose file has this path, or none where the path is no ref's.
+// The name of the ref whose file has this path, or none if the path is no ref's.
 pub(crate) fn name_at(alloc: Global, path: &str) -> Result<Option<RefName>, AllocError>
     ensures { IfOk result (λ name. name ≡ (if is_ref path.now then Some path.now else None)) }
 {
@@ -62,7 +62,7 @@ pub(crate) fn name_at(alloc: Global, path: &str) -> Result<Option<RefName>, Allo
     }
 }
 
-// The ref whose file has this path, or none where there is no such file.
+// The ref whose file has this path, or none if there is no such file.
 pub(crate) fn ref_at<F: Files>(
     files: &mut F,
     alloc: Global,

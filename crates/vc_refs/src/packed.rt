@@ -45,9 +45,9 @@ impl PackedRefs {
         }
     }
 
-    /// The refs that a text stands for, or none where the text is bad. Each line is `<id> <name>`, with forty hex digits
+    /// The refs that a text stands for, or none if the text is bad. Each line is `<id> <name>`, with forty hex digits
     /// of either case and a legal name in `refs/` that stands once and is no folder of another; or it begins with `#` and
-    /// is passed over; or it is `^<id>` directly behind the line of a ref, and is passed over. A line ends with LF, which
+    /// is passed over; or it is `^<id>` directly after the line of a ref, and is passed over. A line ends with LF, which
     /// the last may lack.
     pub fn read(alloc: Global, text: &[u8]) -> Result<Option<PackedRefs>, AllocError>
         ensures found { IfOk result (λ found. found ≡ packed_refs text.now) }
@@ -118,7 +118,7 @@ impl PackedRefs {
         Ok(())
     }
 
-    /// Takes a ref away. Where the name stands for nothing, nothing changes.
+    /// Takes a ref away. If the name stands for nothing, nothing changes.
     pub fn remove(&mut self, name: &RefName)
         ensures { self.new ≡ names.remove self.old name.now }
     {
@@ -168,7 +168,7 @@ fn is_comment(line: &[u8]) -> bool
     line.starts_with(b"#")
 }
 
-// Whether a line tells what a tag leads to.
+// Whether a line says what a tag leads to.
 fn is_peeled(line: &[u8]) -> bool
     ensures { result ≡ is_peeled line.now }
 {
@@ -178,7 +178,7 @@ fn is_peeled(line: &[u8]) -> bool
     }
 }
 
-// The name that the bytes are, where it may be packed.
+// The name that the bytes are, if it may be packed.
 fn name_in(alloc: Global, text: &[u8]) -> Result<Option<RefName>, AllocError>
     ensures name { IfOk result (λ found. found ≡ packed_name text.now) }
     ensures valid { IfOk result (λ found. IfSome found (λ name. is_packed_name name ≡ true)) }
@@ -240,7 +240,7 @@ fn refs_in(alloc: Global, lines: &[&[u8]]) -> Result<Option<Vec<(RefName, Object
     Ok(Some(refs))
 }
 
-// The map of the refs, where no name stands twice.
+// The map of the refs, if no name stands twice.
 fn map_of(alloc: Global, refs: Vec<(RefName, ObjectId)>) -> Result<Option<PackedRefs>, AllocError>
     requires { list_all may_be_packed refs.items ≡ true }
     ensures found { IfOk result (λ found. found ≡ map_of refs.items) }

@@ -1,5 +1,5 @@
 // Refs as a view of files.
-ghost use Rattle.std.specs.Prelude.{◌≡◌, ◌⊎◌, IfOk, IfErr, IfSome, OnOk};
+ghost use Rattle.std.specs.Prelude.{◌≡◌, ◌⊎◌, [], Ok, IfOk, IfErr, IfSome, OnOk};
 ghost use Rattle.vc_files.specs.Failures.{Wears, Writes};
 ghost use Rattle.vc_refs.specs.RefMap.{IsInRefs, IsListOf};
 ghost use Rattle.vc_refs.specs.Refs.{deciding_file, refs, IsBadRef, SpellsRefs};
@@ -32,7 +32,7 @@ impl<'a, F: Files> Refs<'a, F> {
         Refs { files, alloc }
     }
 
-    /// The id that the ref stands for, or none where there is no such ref. See [`get`](crate::get).
+    /// The id that the ref stands for, or none if there is no such ref. See [`get`](crate::get).
     pub fn get(&mut self, name: &RefName) -> Result<Option<ObjectId>, RefFault>
         requires { IsInRefs name.now }
         ensures same_files { self.new.files.ghost_name ≡ self.old.files.ghost_name }
@@ -113,7 +113,7 @@ impl<'a, F: Files> Refs<'a, F> {
         layered::list(self.files, self.alloc)
     }
 
-    /// What HEAD is, or none where it isn't there. See [`head`](crate::head).
+    /// What HEAD is, or none if it isn't there. See [`head`](crate::head).
     pub fn head(&mut self) -> Result<Option<Head>, RefFault>
         ensures same_files { self.new.files.ghost_name ≡ self.old.files.ghost_name }
         ensures found { F.honest → IfOk result (λ head. head ≡ head_of (F.content self.old.files.now)) }
@@ -155,8 +155,9 @@ impl<'a, F: Files> Refs<'a, F> {
         requires { AreNamedInRefs changes.now }
         ensures same_files { self.new.files.ghost_name ≡ self.old.files.ghost_name }
         ensures sets { SetsAll F.honest F.content changes.now self.old.files.now self.new.files.now result }
-        ensures allowed { F.honest → OnOk result (MayChangeAll (F.content self.old.files.now) changes.now) }
+        ensures allowed { F.honest → OnOk result ((changes.now ≡ []) ⊎ MayChangeAll (F.content self.old.files.now) changes.now) }
         ensures refused { F.honest → IfErr result (BlamesSetAll (F.content self.old.files.now) changes.now) }
+        ensures none { changes.now ≡ [] → (result ≡ Ok tt) × (self.new.files.now ≡ self.old.files.now) }
         ensures wear { Writes F.honest F.content F.failed F.can_fail F.left self.old.files.now self.new.files.now (TellsDeviceOfAll result) }
         ensures looks { F.honest → MayChangeAll (F.content self.old.files.now) changes.now ⊎ Wears F.failed F.can_fail F.left self.old.files.now self.new.files.now (TellsDeviceOfAll result) }
     {

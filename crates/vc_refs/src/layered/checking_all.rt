@@ -28,7 +28,7 @@ fn earlier_in_the_way(earlier: &[RefChange], name: &RefName) -> Result<Option<Re
     Ok(None)
 }
 
-// Refuses a change that can't be made after these, and else tells whether its ref has a file of its own.
+// Refuses a change that can't be made after these, and else returns whether its ref has a file of its own.
 fn check<F: Files>(
     files: &mut F,
     alloc: Global,
@@ -66,7 +66,7 @@ fn placed(place: usize, fault: RefFault) -> SetAllFault
     }
 }
 
-// The same check, with the place of the change in what it refuses.
+// Checks the change that comes after these; what refuses it has its place.
 fn check_next<F: Files>(
     files: &mut F,
     alloc: Global,
@@ -87,7 +87,7 @@ fn check_next<F: Files>(
     }
 }
 
-// Checks the change that comes after these, and adds its ref to the loose ones, with its value, where it has a file of its own.
+// Checks the change that comes after these, and adds its ref to the loose ones, with its value, if it has a file of its own.
 fn add_checked<F: Files>(
     files: &mut F,
     alloc: Global,
@@ -116,7 +116,7 @@ fn add_checked<F: Files>(
     Ok(())
 }
 
-// Refuses the first change that can't be made after those before it, and else gives the named refs that have files of their
+// Refuses the first change that can't be made after those before it, and else returns the named refs that have files of their
 // own, with their values.
 pub(super) fn check_all<F: Files>(
     files: &mut F,

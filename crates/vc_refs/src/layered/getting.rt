@@ -12,7 +12,7 @@ use vc_files::{Fault, Files};
 use vc_object::ObjectId;
 use vc_refname::RefName;
 
-/// The id that the ref stands for, or none where there is no such ref. The packed file is read only where no file of
+/// The id that the ref stands for, or none if there is no such ref. The packed file is read only if no file of
 /// the ref's own is there.
 pub fn get<F: Files>(
     files: &mut F,
@@ -74,7 +74,7 @@ pub fn get_over<F: Files>(
     Ok(packed.get(name))
 }
 
-// Refuses where the ref's value is not the expected one, and else tells whether a file of its own says it.
+// Refuses if the ref's value is not the expected one, and else returns whether a file of its own says it.
 pub(super) fn expect_value<F: Files>(
     files: &mut F,
     alloc: Global,

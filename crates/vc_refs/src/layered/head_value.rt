@@ -12,7 +12,7 @@ use std::alloc::Global;
 use vc_files::{Fault, Files};
 use vc_object::ObjectId;
 
-/// The id that HEAD leads to: its own, or that of the ref that it names. None where HEAD or that ref isn't there.
+/// The id that HEAD leads to: its own, or that of the ref that it names. None if HEAD or that ref isn't there.
 pub fn resolve_head<F: Files>(files: &mut F, alloc: Global) -> Result<Option<ObjectId>, RefFault>
     ensures found { F.honest → IfOk result (λ id. id ≡ head_value (refs (F.content files.old)) (head_of (F.content files.old))) }
     ensures good { F.honest → OnOk result (IsGoodHeadValue (F.content files.old)) }

@@ -17,7 +17,7 @@ use vc_object::ObjectId;
 use vc_refname::RefName;
 
 /// The refs with their ids, in the order of the names' bytes. The packed file and each file in `refs/` are read once, and the
-/// packed file once more where another process took one of them away meanwhile. None is passed over: the first one, by the
+/// packed file once more if another process took one of them away meanwhile. None is passed over: the first one, by the
 /// bytes of its path, that can't be read is refused.
 pub fn list<F: Files>(files: &mut F, alloc: Global) -> Result<Vec<(RefName, ObjectId)>, RefFault>
     ensures listed { F.honest → IfOk result (λ listed. IsListOf (refs (F.content files.old)) listed.items) }
@@ -26,14 +26,26 @@ pub fn list<F: Files>(files: &mut F, alloc: Global) -> Result<Vec<(RefName, Obje
     ensures same { F.content files.new ≡ F.content files.old }
     ensures wear { Wears F.failed F.can_fail F.left files.old files.new (IsErrOf result (RefFault.Fault Fault.Device)) }
 {
-    let paths = files.list(alloc, "refs/")?;
-    let refs = all_refs(files, alloc, &paths)?;
+    let refs = read_all(files, alloc)?;
     let listed = refs.into_vec(alloc)?;
     Ok(listed)
 }
 
-// All refs, where these are the paths of the loose ones. They are put over one packed file, the newest: where another process
-// packed a ref or removed it since its file was listed, what the packed file said before is no more so.
+/// The refs with their ids, as a map. Files are read and refused as by [`list`].
+pub fn read_all<F: Files>(files: &mut F, alloc: Global) -> Result<PackedRefs, RefFault>
+    ensures found { F.honest → IfOk result (IsMapOf (refs (F.content files.old))) }
+    ensures good { F.honest → OnOk result (SpellsRefs (F.content files.old)) }
+    ensures refused { F.honest → IfErr result (BlamesList (F.content files.old)) }
+    ensures same { F.content files.new ≡ F.content files.old }
+    ensures wear { Wears F.failed F.can_fail F.left files.old files.new (IsErrOf result (RefFault.Fault Fault.Device)) }
+{
+    let paths = files.list(alloc, "refs/")?;
+    let refs = all_refs(files, alloc, &paths)?;
+    Ok(refs)
+}
+
+// All refs, given the paths of the loose ones. They are put over one packed file, the newest: if another process packed a ref or
+// removed it since its file was listed, what the packed file said before no longer holds.
 pub(super) fn all_refs<F: Files>(
     files: &mut F,
     alloc: Global,
@@ -93,7 +105,7 @@ fn add_loose<F: Files>(
     Ok(())
 }
 
-// The packed refs, read anew where a ref's own file has gone since the packed file was read.
+// The packed refs, read anew if a ref's own file has gone since the packed file was read.
 fn newest<F: Files>(
     files: &mut F,
     alloc: Global,

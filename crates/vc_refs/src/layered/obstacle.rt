@@ -9,7 +9,7 @@ ghost use Rattle.vc_refs.specs.RefMap.{conflicts, IsInRefs};
 use super::packed_file::read_packed;
 use crate::obstacle::first_in_the_way;
 use crate::{PackedRefs, RefFault, obstacle};
-use std::alloc::{AllocError, Global};
+use std::alloc::Global;
 use vc_files::{Fault, Files, is_above};
 use vc_refname::RefName;
 
@@ -20,17 +20,17 @@ pub(super) fn conflicts(a: &[u8], b: &[u8]) -> bool
     is_above(a, b) || is_above(b, a)
 }
 
-// The first packed ref, by the bytes of its name, that stands in the way.
-fn packed_in_the_way(packed: &PackedRefs, name: &RefName) -> Result<Option<RefName>, AllocError>
-    ensures first { IfOk result (λ found. MatchOption found (IsFreeOfPacked packed.now name.now) (IsFirstPackedInTheWay packed.now name.now)) }
+/// The first of these refs, by the bytes of its name, that no map may have beside this name, since one of the two names is a
+/// folder of the other; or none. It is lent from the map, and nothing is allocated.
+pub fn packed_in_the_way<'a>(refs: &'a PackedRefs, name: &RefName) -> Option<&'a RefName>
+    ensures { MatchOption result (IsFreeOfPacked refs.now name.now) (λ other. IsFirstPackedInTheWay refs.now name.now other.now) }
 {
-    for (other, _) in packed.iter() {
+    for (other, _) in refs.iter() {
         if conflicts(other.as_str().as_bytes(), name.as_str().as_bytes()) {
-            let other = other.clone()?;
-            return Ok(Some(other));
+            return Some(other);
         }
     }
-    Ok(None)
+    None
 }
 
 // Whether no file that stands in the way comes before this name, or has it as its path.
@@ -63,10 +63,11 @@ fn packed_first<F: Files>(
     ensures same { F.content files.new ≡ F.content files.old }
     ensures wear { Wears F.failed F.can_fail F.left files.old files.new (IsErrOf result Fault.Device) }
 {
-    let Some(other) = packed_in_the_way(packed, name)? else {
+    let Some(other) = packed_in_the_way(packed, name) else {
         return Ok(None);
     };
-    if comes_first(files, alloc, &other, name)? {
+    if comes_first(files, alloc, other, name)? {
+        let other = other.clone()?;
         return Ok(Some(other));
     }
     Ok(None)

@@ -51,7 +51,7 @@ impl PackedCache {
         }
     }
 
-    // Reads the packed file. Its refs are none at all where there is no such file.
+    // Reads the packed file. Its refs are none at all if there is no such file.
     pub(super) fn refresh<F: Files>(&mut self, files: &mut F, alloc: Global) -> Result<(), RefFault>
         ensures found { F.honest → OnOk result (packed_map (F.content files.old) ≡ Some self.new) }
         ensures refused { F.honest → IfErr result (BlamesPacked (F.content files.old)) }
@@ -80,7 +80,7 @@ impl PackedCache {
     }
 }
 
-/// The packed refs, or none at all where there is no packed file.
+/// The packed refs, or none at all if there is no packed file.
 pub fn read_packed<F: Files>(files: &mut F, alloc: Global) -> Result<PackedRefs, RefFault>
     ensures found { F.honest → IfOk result (λ refs. packed_map (F.content files.old) ≡ Some refs) }
     ensures refused { F.honest → IfErr result (BlamesPacked (F.content files.old)) }

@@ -16,8 +16,8 @@ use std::alloc::Global;
 use vc_files::{Fault, Files};
 
 /// Puts all refs into the packed file, and removes their own files then. The packed file has each ref before the first
-/// of these goes, so wherever it stops, the refs are as before. Where no file is in `refs/`, it writes nothing. Nor does it
-/// where a ref is a folder of another, loose beside packed, since no packed file holds both: the first is a conflict.
+/// of these goes, so wherever it stops, the refs are as before. If no file is in `refs/`, it writes nothing. Nor does it
+/// if a ref is a folder of another, loose beside packed, since no packed file holds both: the first is a conflict.
 pub fn pack<F: Files>(files: &mut F, alloc: Global) -> Result<(), RefFault>
     ensures packs { PacksRefs F.honest F.content files.old files.new result }
     ensures good { F.honest → OnOk result (SpellsRefs (F.content files.old)) }

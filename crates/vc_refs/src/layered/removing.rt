@@ -17,7 +17,7 @@ use vc_object::ObjectId;
 use vc_refname::RefName;
 
 /// Removes the ref, if its value is the expected one. One that isn't there, and was expected not to be, stays so. The
-/// packed file loses the ref first, and then its own file goes: where the second write fails, the refs are as before,
+/// packed file loses the ref first, and then its own file goes: if the second write fails, the refs are as before,
 /// since the ref's own file says its value.
 pub fn remove<F: Files>(
     files: &mut F,

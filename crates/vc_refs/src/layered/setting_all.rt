@@ -1,5 +1,5 @@
 // Setting several refs at once.
-ghost use Rattle.std.specs.Prelude.{◌⊎◌, IfOk, IfErr, OnOk, IsErrOf};
+ghost use Rattle.std.specs.Prelude.{◌≡◌, ◌⊎◌, [], Ok, IfOk, IfErr, OnOk, IsErrOf};
 ghost use Rattle.std.specs.FinMap as names;
 ghost use Rattle.vc_files.specs.Failures.{Wears, Writes};
 ghost use Rattle.vc_refs.specs.Packing.{AreGone, IsMapOf, LosesSome};
@@ -19,7 +19,7 @@ use vc_refname::RefName;
 /// change is judged first, over the refs as they are, and against the names of those before it; the first that can't be made
 /// is refused with its place, and nothing is written. Then the named refs that have files of their own are packed and these
 /// files go, and then the packed file is written with the new values. The names should differ: of two changes of one
-/// ref the later one decides.
+/// ref the later one decides. If there is no change at all, it returns at once, and looks at no file.
 pub fn set_all<F: Files>(
     files: &mut F,
     alloc: Global,
@@ -27,11 +27,15 @@ pub fn set_all<F: Files>(
 ) -> Result<(), SetAllFault>
     requires { AreNamedInRefs changes.now }
     ensures sets { SetsAll F.honest F.content changes.now files.old files.new result }
-    ensures allowed { F.honest → OnOk result (MayChangeAll (F.content files.old) changes.now) }
+    ensures allowed { F.honest → OnOk result ((changes.now ≡ []) ⊎ MayChangeAll (F.content files.old) changes.now) }
     ensures refused { F.honest → IfErr result (BlamesSetAll (F.content files.old) changes.now) }
+    ensures none { changes.now ≡ [] → (result ≡ Ok tt) × (files.new ≡ files.old) }
     ensures wear { Writes F.honest F.content F.failed F.can_fail F.left files.old files.new (TellsDeviceOfAll result) }
     ensures looks { F.honest → MayChangeAll (F.content files.old) changes.now ⊎ Wears F.failed F.can_fail F.left files.old files.new (TellsDeviceOfAll result) }
 {
+    if changes.is_empty() {
+        return Ok(());
+    }
     let packed = read_packed(files, alloc)?;
     let loose = check_all(files, alloc, &packed, changes)?;
     let present = put_over(packed, &loose)?;
@@ -41,7 +45,7 @@ pub fn set_all<F: Files>(
     Ok(())
 }
 
-// Writes the packed file with the present values of the loose refs, and removes their own files then. Where there are none, it
+// Writes the packed file with the present values of the loose refs, and then removes their own files. If there are none, it
 // writes nothing.
 fn pack_loose<F: Files>(
     files: &mut F,

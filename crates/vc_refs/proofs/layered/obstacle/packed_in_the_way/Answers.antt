@@ -1,7 +1,6 @@
-use Rattle.std.proofs.Common.{rules, ◌≡◌, true, false, sym, subst}
+use Rattle.std.proofs.Common.{rules, ◌≡◌, true, false}
 use Rattle.std.specs.Map.Iter.{deref_pair}
 use Rattle.std.proofs.lemmas.Map.Iter.{rest_more, rest_all}
-use Rattle.vc_refs.specs.Obstacle.{IsFirstPackedInTheWay}
 use Rattle.vc_refs.specs.RefMap.{conflicts}
 use Rattle.vc_refs.proofs.LayeredObstacleLemmas.{first_conflict, looks_further, none_conflicts}
 use Rattle.vc_refs.proofs.layered.obstacle.packed_in_the_way.Goals as goal
@@ -10,8 +9,7 @@ pub returns-then-conflicts : goal.returns-then-conflicts
 returns-then-conflicts c =
     let next = rest_more deref_pair _ _ _ (c.in-Some.other, c.in-Some.field-0-1) c.in-Some.is c.next.ensures.steps in
     let conflict : conflicts c.in-Some.other.now c.args.name.now ≡ true = search rules in
-    let same : c.in_ok-other.other ≡ c.in-Some.other.now = search rules in
-    record { first = subst (IsFirstPackedInTheWay c.args.packed.now c.args.name.now) (sym same) (first_conflict _ _ _ c.loop-other.invariant c.in-Some.other.now c.in-Some.field-0-1.now _ next conflict) }
+    first_conflict _ _ _ c.loop-other.invariant c.in-Some.other.now c.in-Some.field-0-1.now _ next conflict
 
 pub loop-other-preserved : goal.loop-other-preserved
 loop-other-preserved c =
@@ -22,4 +20,4 @@ loop-other-preserved c =
 pub returns : goal.returns
 returns c =
     let none = rest_all deref_pair _ _ _ c.in-None.is c.next.ensures.steps in
-    record { first = none_conflicts _ _ _ c.loop-other.invariant none }
+    none_conflicts _ _ _ c.loop-other.invariant none

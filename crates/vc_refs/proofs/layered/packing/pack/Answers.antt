@@ -1,4 +1,4 @@
-use Rattle.std.proofs.Common.{arith, rules, ◌≡◌, inl, inr, Err, ◌<◌, length, map, ap, ◌∙◌, subst}
+use Rattle.std.proofs.Common.{rules, ◌≡◌, inl, inr, Err, ◌<◌, length, map, ap, ◌∙◌, subst}
 use Rattle.std.specs.FinMap.{insert}
 use Rattle.std.specs.Prelude.{codes, string_bytes}
 use Rattle.vc_files.specs.FileMap.{paths_under}
@@ -9,6 +9,7 @@ use Rattle.vc_refs.specs.Refs.{packed_path, refs, SpellsRefs}
 use Rattle.vc_refs.specs.Packed.{packed_text}
 use Rattle.vc_refs.specs.RefMap.{IsRefMap}
 use Rattle.vc_refs.proofs.LayeredListingLemmas.{all_packed, folder_no_device, keeps_same, none_listed, packing_blames_folder, packing_blames_list, refs_kept, rest_kept, same_map_of, some_listed}
+use Rattle.vc_refs.proofs.LookLemmas.{wears_both}
 use Rattle.vc_refs.proofs.layered.packing.pack.Goals as goal
 
 pub returns-in_err-paths-clause-packs : goal.returns-in_err-paths-clause-packs
@@ -73,15 +74,7 @@ returns-in_err-refuse_folder-clause-wear g c =
 pub returns-in_err-refuse_folder-clause-looks : goal.returns-in_err-refuse_folder-clause-looks
 returns-in_err-refuse_folder-clause-looks g c = λ honest.
     let from : TellsDevice c.from_residual-in_err-refuse_folder.result → TellsDevice {T = Unit {0}} (Err c.in_err-refuse_folder.field-0.0) = search rules in
-    let first = c.in_ok-paths.ensures.wear in
-    let then = c.in_ok-refs.ensures.wear in
-    inr (record {
-      later = omega (arith, first.later, then.later);
-      calm = λ can. first.calm (then.calm can);
-      could = λ told. absurd (folder_no_device _ _ c.in_err-refuse_folder.ensures.refused (from told));
-      failed_now = λ told. absurd (folder_no_device _ _ c.in_err-refuse_folder.ensures.refused (from told));
-      unspent = then.unspent ∙ first.unspent;
-    })
+    inr (wears_both c.in_ok-paths.ensures.wear c.in_ok-refs.ensures.wear (λ told. absurd (folder_no_device _ _ c.in_err-refuse_folder.ensures.refused (from told))))
 
 pub returns-then-is_empty-clause-packs : goal.returns-then-is_empty-clause-packs
 returns-then-is_empty-clause-packs g c =

@@ -1,10 +1,11 @@
-use Rattle.std.proofs.Common.{arith, rules, inl, inr, Ok, Err, ap, sym, ◌∙◌, subst}
+use Rattle.std.proofs.Common.{rules, inl, inr, Ok, Err, ap, sym, subst}
 use Rattle.vc_files.specs.FileMap.{FileMap}
-use Rattle.vc_files.proofs.WearLemmas.{fails_later, wears_writes, wears_then, writes_told}
+use Rattle.vc_files.proofs.WearLemmas.{wears_writes, wears_then, writes_told}
 use Rattle.vc_refs.specs.RefFault.{BlamesSet, MayWriteRef, TellsDevice}
 use Rattle.vc_refs.specs.Refs.{refs}
 use Rattle.vc_refs.specs.RefMap.{IsRefMap}
 use Rattle.vc_refs.proofs.LayeredChangeLemmas.{only_same, rest_same, set_blames_packed}
+use Rattle.vc_refs.proofs.LookLemmas.{wears_both}
 use Rattle.vc_refs.proofs.layered.setting.set.Goals as goal
 
 pub returns-in_err-packed-clause-refused : goal.returns-in_err-packed-clause-refused
@@ -35,17 +36,10 @@ returns-in_err-set_over-clause-wear g c = wears_then c.in_ok-packed.ensures.wear
 
 pub returns-in_err-set_over-clause-looks : goal.returns-in_err-set_over-clause-looks
 returns-in_err-set_over-clause-looks g c = λ honest.
-    let first = c.in_ok-packed.ensures.wear in
     let from : TellsDevice c.from_residual-in_err-set_over.result → TellsDevice {T = Unit {0}} (Err c.in_err-set_over.field-0.0) = search rules in
     elim (c.in_err-set_over.ensures.looks honest) [
       | inl may ↦ inl (subst (λ (f : FileMap). MayWriteRef f c.args.name.now c.args.expected) c.in_ok-packed.ensures.same may)
-      | inr wears ↦ inr (record {
-        later = omega (arith, first.later, wears.later);
-        calm = λ can. first.calm (wears.calm can);
-        could = λ told. first.calm (wears.could (from told));
-        failed_now = λ told. fails_later first.later (wears.failed_now (from told));
-        unspent = wears.unspent ∙ first.unspent;
-      })
+      | inr wears ↦ inr (wears_both c.in_ok-packed.ensures.wear wears from)
     ]
 
 pub returns-clause-wear : goal.returns-clause-wear
@@ -53,15 +47,8 @@ returns-clause-wear g c = wears_then c.in_ok-packed.ensures.wear (search rules) 
 
 pub returns-clause-looks : goal.returns-clause-looks
 returns-clause-looks g c = λ honest.
-    let first = c.in_ok-packed.ensures.wear in
     let never : TellsDevice {T = Unit {0}} (Ok tt) → ⊥ = search rules in
     elim (c.in_ok-set_over.ensures.looks honest) [
       | inl may ↦ inl (subst (λ (f : FileMap). MayWriteRef f c.args.name.now c.args.expected) c.in_ok-packed.ensures.same may)
-      | inr wears ↦ inr (record {
-        later = omega (arith, first.later, wears.later);
-        calm = λ can. first.calm (wears.calm can);
-        could = λ told. absurd (never told);
-        failed_now = λ told. absurd (never told);
-        unspent = wears.unspent ∙ first.unspent;
-      })
+      | inr wears ↦ inr (wears_both c.in_ok-packed.ensures.wear wears (λ told. absurd (never told)))
     ]
