@@ -27,9 +27,12 @@ fn push_fault(out: &mut String, fault: IncomingFault) -> Result<(), AllocError> 
 fn push_head(out: &mut String, head: &Head) -> Result<(), AllocError> {
     match head {
         Head::Message(message) => AnyReader::tell(out, message),
-        Head::Push(commands) => {
+        Head::Push(head) => {
             out.push_str("push")?;
-            for command in commands {
+            if head.atomic {
+                out.push_str(" atomic")?;
+            }
+            for command in &head.commands {
                 out.push(' ')?;
                 push_command(out, command)?;
             }

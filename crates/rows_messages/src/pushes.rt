@@ -30,6 +30,9 @@ pub fn push_command(out: &mut String, command: &Command) -> Result<(), AllocErro
 
 impl Telling for PushReader {
     fn tell(out: &mut String, push: &Push) -> Result<(), AllocError> {
+        if push.atomic {
+            out.push_str("atomic ")?;
+        }
         for command in &push.commands {
             push_command(out, command)?;
             out.push(' ')?;
@@ -83,7 +86,7 @@ fn command(alloc: Global, word: &str) -> Result<Command, AllocError>
     let old = ObjectId::from_hex(old.as_bytes()).unwrap_or(ObjectId::ZERO);
     let new = ObjectId::from_hex(new.as_bytes()).unwrap_or(ObjectId::ZERO);
     let mut name = spelled(alloc, name)?;
-    name.truncate(65_416);
+    name.truncate(65_409);
     Ok(Command { old, new, name })
 }
 
@@ -95,15 +98,24 @@ fn carried(alloc: Global, words: &str) -> Result<Result<CarriedObjects, StreamOb
     }
 }
 
-/// The push of these words, as it is written.
+/// The push of these words, of which the first may be `atomic`, as it is written.
 pub fn push(alloc: Global, words: &str) -> Result<Vec<u8>, AllocError> {
+    let (atomic, words) = match words.strip_prefix("atomic ") {
+        Some(others) => (true, others),
+        None => (false, words),
+    };
     let (asked, objects) = words.split_once(" | ").unwrap_or((words, ""));
     let mut commands = Vec::new(alloc);
     'words: for word in asked.split(' ') {
         commands.push(command(alloc, word)?)?;
     }
     let carried = carried(alloc, objects)?;
-    Push { commands, carried }.write(alloc)
+    Push {
+        atomic,
+        commands,
+        carried,
+    }
+    .write(alloc)
 }
 
 // What became of the command that `name=id` or `name!text` spells. Its line isn't too long.

@@ -13,7 +13,7 @@ use vc_files::{Fault, Files, MemoryFiles};
 use vc_history::Generations;
 use vc_message::{Head, Source, Taken, next_object, read_head};
 use vc_object::ObjectId;
-use vc_push::{Command, Push, ReportReader};
+use vc_push::{Push, PushHead, ReportReader};
 use vc_push_rules::Stepped;
 use vc_quarantine::Arriving;
 use vc_refs::Refs;
@@ -44,6 +44,11 @@ fn push_step(out: &mut String, did: &Result<Stepped, SessionFault>) -> Result<()
                 Some(reason) => write!(out, "{} ", reason.number())?,
                 None => out.push_str("set ")?,
             }
+            push_bytes(out, name, "\\x20")
+        }
+        Ok(Stepped::Atomic(refs)) => write!(out, "all {refs} set"),
+        Ok(Stepped::AtomicRefused(name, reason)) => {
+            write!(out, "none set, {} ", reason.number())?;
             push_bytes(out, name, "\\x20")
         }
         Ok(Stepped::Finished(report)) => ReportReader::tell(out, report),
@@ -172,9 +177,10 @@ fn insert_arrived(
     pushes: &mut OpenPushes,
     slot: u8,
     arriving: Arriving,
-    commands: Vec<Command>,
+    head: PushHead,
 ) -> Result<(), AllocError> {
-    let session = PushSession::arrived(alloc, arriving, commands)?;
+    let PushHead { atomic, commands } = head;
+    let session = PushSession::arrived(alloc, arriving, atomic, commands)?;
     pushes.by_slot.insert(slot, session)?;
     out.push_str("ok")
 }
@@ -188,7 +194,7 @@ fn arrived(
     slot: u8,
     rest: &[u8],
     taken: Taken,
-    commands: Vec<Command>,
+    head: PushHead,
 ) -> Result<(), AllocError>
     requires few { taken.lines < taken.bytes }
 {
@@ -197,7 +203,7 @@ fn arrived(
         Err(fault) => return write!(out, "{fault}"),
     };
     match take_rest(out, alloc, files, rest, taken, &mut arriving) {
-        Ok(true) => insert_arrived(out, alloc, pushes, slot, arriving, commands),
+        Ok(true) => insert_arrived(out, alloc, pushes, slot, arriving, head),
         Ok(false) => Ok(()),
         Err(fault) => Err(fault),
     }
@@ -221,10 +227,10 @@ pub fn arrive(
         Ok(None) => return out.push_str("end"),
         Err(fault) => return write!(out, "{fault}"),
     };
-    let Head::Push(commands) = head else {
+    let Head::Push(asked) = head else {
         return out.push_str("no push with objects");
     };
-    arrived(out, alloc, files, pushes, slot, reader, taken, commands)
+    arrived(out, alloc, files, pushes, slot, reader, taken, asked)
 }
 
 /// One step of the push in this slot.

@@ -76,7 +76,7 @@ fn set_ref(advert: &mut Advert, alloc: Global, word: &str) -> Result<(), AllocEr
     ensures { HasShortNames (advert_text advert.old) → HasShortNames (advert_text advert.new) }
 {
     let (id, name) = word.split_once(':').unwrap_or((word, ""));
-    if name.is_empty() || name.len() > 65_457 {
+    if name.is_empty() || name.len() > 65_450 {
         return Ok(());
     }
     let id = ObjectId::from_hex(id.as_bytes()).unwrap_or(ObjectId::ZERO);

@@ -51,7 +51,7 @@ AreNew before refs = AllByRecursion (λ (r : Ref). find by_bytes r.0 before ≡ 
 abbrev one_more : List Ref → Ref → List Ref
 one_more before ref = before ++ ref ∷ []
 
--- a name that is new behind one more ref was new before it, and isn't that ref's
+-- a name that is new after one more ref was new before it, and isn't that ref's
 earlier : (before : List Ref) (ref : Ref) (refs : List Ref) → find by_bytes ref.0 before ≡ None → AreNew (one_more before ref) refs
     → AreNew before refs × AllByRecursion (λ q. bytes_eq ref.0 q ≡ false) (keys_of refs)
 earlier before ref [] new later = (tt, tt)
@@ -105,7 +105,7 @@ more_new : (m : ℕ) (before : List Ref) (ref : Ref) (k : Next) (rest : List Lin
 more_new m before ref k rest n new =
     ap (λ b. going (new_or m before ref b) k rest n) (contains before ref.0 ∙ ap is_some new) ∙ ap k (listed before ref new)
 
--- ---- the lines behind the first
+-- ---- the lines after the first
 record Refs (before : List Ref) (lines : List LineText) (a : AdvertText) : Type 0 where
   refs : List Ref
   others : List LineText

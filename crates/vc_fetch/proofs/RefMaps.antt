@@ -159,9 +159,9 @@ entries-some m some = some_refs m.entries some
 
 -- ---- names that are short
 abbrev Short : Ref → Type 0
-Short ref = length ref.0 ≤ 65457
+Short ref = length ref.0 ≤ 65450
 
-short_put : (k : List ℕ) (v : ObjectId) (es : List Ref) → length k ≤ 65457 → AllByRecursion Short es → AllByRecursion Short (put by_bytes k v es)
+short_put : (k : List ℕ) (v : ObjectId) (es : List Ref) → length k ≤ 65450 → AllByRecursion Short es → AllByRecursion Short (put by_bytes k v es)
 short_put k v [] h all = (h, tt)
 short_put k v (x ∷ es) h all = by (by_bytes k x.0) (short_put k v es h all.1)
   where
@@ -171,7 +171,7 @@ short_put k v (x ∷ es) h all = by (by_bytes k x.0) (short_put k v es h all.1)
     by Greater rest = (all.0, rest)
 
 -- they stay short when a short one is set
-pub short_insert : (m : RefIds) (k : List ℕ) (v : ObjectId) → length k ≤ 65457 → AllByRecursion Short (entries m) → AllByRecursion Short (entries (insert m k v))
+pub short_insert : (m : RefIds) (k : List ℕ) (v : ObjectId) → length k ≤ 65450 → AllByRecursion Short (entries m) → AllByRecursion Short (entries (insert m k v))
 short_insert m k v h all = subst (λ (es : List Ref). AllByRecursion Short es) (sym (entries-insert nat_list_cmp_total m k v)) (short_put k v (entries m) h all)
 
 pub short_empty : AllByRecursion Short (entries (empty {X = ObjectId} {R = slice_cmp nat_cmp}))

@@ -96,7 +96,7 @@ haves_of [] n ws hs w few e = absurd (cc e)
 haves_of (flush ∷ ls) n ws hs w few e = absurd (cc e)
 haves_of (text line ∷ rest) n ws hs w few e = have_line line rest n ws hs w (bytes_eq (without_lf line) (codes "done")) (λ hs' few' e'. haves_of rest (n + 1) ws hs' w few' e') few refl e
 
--- ---- the wants behind the first
+-- ---- the wants after the first
 pub record Wants (ws : List ObjectId) (lines : List LineText) (w : WantText) : Type 0 where
   pub ids : List ObjectId
   pub others : List LineText

@@ -19,7 +19,7 @@ use Rattle.vc_pkt.specs.Line.{flush, spelling, IsWritable}
 use Rattle.vc_pkt.specs.Message.{IsSpelledBy}
 use Rattle.vc_pkt.proofs.TextLaws.{with_lf}
 use Rattle.vc_pkt.proofs.Written.{lines_written}
-use Rattle.vc_fetch.specs.Advert.{RefIds, Ref, AdvertText, IsName, IsRefLine, IsFirstRefLine, IsCapabilities, AreRefLines, SpellsAdvert, IsHeadId, IsWrittenRef, IsWrittenAdvert, is_ref, ref_text, written_ref, ref_lines, with_head, or_no_refs, advert_lines}
+use Rattle.vc_fetch.specs.Advert.{RefIds, Ref, AdvertText, IsName, IsRefLine, IsFirstRefLine, IsCapabilities, AreRefLines, SpellsAdvert, IsHeadId, IsWrittenRef, IsWrittenAdvert, is_ref, ref_text, written_ref, ref_lines, with_head, or_no_refs, capabilities, advert_lines}
 use Rattle.vc_fetch.proofs.Adverts.{IsDistinct-none}
 use Rattle.vc_fetch.proofs.RefMaps.{by_bytes, total, tied_same, same_name, same_ids, is_eq-same}
 use Rattle.vc_lemmas.proofs.Texts.{bytes_eq_other}
@@ -48,9 +48,9 @@ some_written (Err e) tail refs old new some is = tt
 record IsPlain (ref : Ref) : Type 0 where
   name : IsName ref.0
   id : IsId ref.1
-  short : length ref.0 ≤ 65457
+  short : length ref.0 ≤ 65450
 
-line_fits : (tail : List ℕ) (ref : Ref) → length tail ≤ 17 → IsPlain ref → IsWritable (written_ref tail ref)
+line_fits : (tail : List ℕ) (ref : Ref) → length tail ≤ 24 → IsPlain ref → IsWritable (written_ref tail ref)
 line_fits tail ref few h =
     let a = length-append (ref_text ref ++ tail) (10 ∷ []) in
     let b = length-append (ref_text ref) tail in
@@ -60,7 +60,7 @@ line_fits tail ref few h =
     let f = h.short in
     (omega arith, omega arith)
 
-lines_fit : (tail : List ℕ) (refs : List Ref) → length tail ≤ 17 → AllByRecursion IsPlain refs → AllByRecursion IsWritable (ref_lines tail refs ++ flush ∷ [])
+lines_fit : (tail : List ℕ) (refs : List Ref) → length tail ≤ 24 → AllByRecursion IsPlain refs → AllByRecursion IsWritable (ref_lines tail refs ++ flush ∷ [])
 lines_fit tail [] few all = (tt, tt)
 lines_fit tail (ref ∷ refs) few all = (line_fits tail ref few all.0, lines_fit [] refs (omega arith) all.1)
 
@@ -228,5 +228,4 @@ pub written_advert : (advert : AdvertText) → IsWrittenAdvert advert → IsSpel
 written_advert advert w =
     let listed = or_no_refs (with_head advert.head (entries advert.refs)) in
     let all = writes advert.head advert.refs w.head w.refs in
-    let tail : List ℕ = 0 ∷ codes "report-status-v2" in
-    (advert_lines advert, lines_written (advert_lines advert) (lines_fit tail listed (omega arith) all.plain), spells advert.head advert.refs tail listed refl (some_listed (with_head advert.head (entries advert.refs))) all)
+    (advert_lines advert, lines_written (advert_lines advert) (lines_fit capabilities listed (omega arith) all.plain), spells advert.head advert.refs capabilities listed refl (some_listed (with_head advert.head (entries advert.refs))) all)

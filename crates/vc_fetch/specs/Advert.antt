@@ -60,7 +60,7 @@ abbrev pub IsCapabilities : List ℕ → Type 0
 IsCapabilities [] = Unit {0}
 IsCapabilities (b ∷ bs) = b ≡ 0
 
--- the same, with capabilities behind the name or without
+-- the same, with capabilities after the name or without
 pub record IsFirstRefLine (ref : Ref) (line : List ℕ) : Type 0 where
   pub digits : List ℕ
   pub tail : List ℕ
@@ -101,11 +101,11 @@ pub record SpellsAdvert (advert : AdvertText) (lines : List LineText) : Type 0 w
 abbrev pub ref_text : Ref → List ℕ
 ref_text ref = encode_lower ref.1.0 ++ 32 ∷ ref.0
 
--- a line of them, and more behind the name
+-- a line of them, and more after the name
 abbrev pub written_ref : List ℕ → Ref → LineText
 written_ref tail ref = text ((ref_text ref ++ tail) ++ 10 ∷ [])
 
--- the first line has more behind its name
+-- the first line has more after its name
 abbrev pub ref_lines : List ℕ → List Ref → List LineText
 ref_lines tail [] = []
 ref_lines tail (ref ∷ refs) = written_ref tail ref ∷ ref_lines [] refs
@@ -120,9 +120,13 @@ abbrev pub or_no_refs : List Ref → List Ref
 or_no_refs [] = (codes "capabilities^{}", record { 0 = replicate 20 0 }) ∷ []
 or_no_refs (ref ∷ refs) = ref ∷ refs
 
--- HEAD first, then the refs in order of name; capabilities behind the first name
+-- a NUL, and what the node can do: it reports on each command, and sets all refs of a push or none
+abbrev pub capabilities : List ℕ
+capabilities = 0 ∷ codes "report-status-v2 atomic"
+
+-- HEAD first, then the refs in order of name; capabilities after the first name
 abbrev pub advert_lines : AdvertText → List LineText
-advert_lines advert = ref_lines (0 ∷ codes "report-status-v2") (or_no_refs (with_head advert.head (entries advert.refs))) ++ flush ∷ []
+advert_lines advert = ref_lines capabilities (or_no_refs (with_head advert.head (entries advert.refs))) ++ flush ∷ []
 
 -- where HEAD has a value, it is an id
 abbrev pub IsHeadId : Option ObjectId → Type 0
@@ -131,7 +135,7 @@ IsHeadId (Some id) = IsId id
 
 -- the most bytes of a name that fits in a line with its id and the capabilities
 abbrev pub max_listed : ℕ
-max_listed = 65457
+max_listed = 65450
 
 -- the name of a ref, which fits in a line with the capabilities
 pub record IsWrittenRef (ref : Ref) : Type 0 where
@@ -177,7 +181,7 @@ abbrev pub one_more_ref : ℕ → RefIds → Option Ref → Result (Stepped RefI
 one_more_ref number listed None = Err (BadRecord number)
 one_more_ref number listed (Some ref) = if contains_key listed ref.0 then Err (BadRecord number) else Ok (onward (insert listed ref.0 ref.1))
 
--- the flush ends it, behind one line or more
+-- the flush ends it, after one line or more
 abbrev pub advert_step : Steps RefIds AdvertText
 advert_step number listed flush = if number == 0 then Err (BadRecord number) else Ok (complete (advert_of listed))
 advert_step number listed (text line) = one_more_ref number listed (ref_line (number == 0) line)

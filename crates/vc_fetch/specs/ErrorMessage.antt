@@ -7,7 +7,7 @@ use Rattle.vc_pkt.specs.Message.{Stepped, complete, Steps, IsOwnFault}
 use Rattle.vc_pkt.specs.declared.fault.PktFault.{PktFault}
 use Rattle.vc_pkt.specs.declared.fault.PktFault.TheVariants.{BadRecord}
 
--- the most bytes of a text that fits in a line behind `ERR`
+-- the most bytes of a text that fits in a line after `ERR`
 abbrev pub max_words : ℕ
 max_words = 65511
 

@@ -22,7 +22,7 @@ abbrev pub IsTail : List ℕ → Type 0
 IsTail [] = Unit {0}
 IsTail (b ∷ bs) = b ≡ 32
 
--- the same, with a space and more behind the id or without
+-- the same, with a space and more after the id or without
 pub record IsFirstIdLine (word : List ℕ) (id : ObjectId) (line : List ℕ) : Type 0 where
   pub digits : List ℕ
   pub tail : List ℕ

@@ -20,7 +20,7 @@ pub record SpellsList (message : ListText) (lines : List LineText) : Type 0 wher
 abbrev pub list_lines : List LineText
 list_lines = text (codes "list" ++ 10 ∷ []) ∷ flush ∷ []
 
--- what a line does, before the word and behind it
+-- what a line does, before the word and after it
 abbrev pub list_step : Steps Bool ListText
 list_step number false flush = Err (BadRecord number)
 list_step number false (text line) = if bytes_eq (without_lf line) (codes "list") then Ok (onward true) else Err (BadRecord number)

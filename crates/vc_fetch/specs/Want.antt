@@ -28,7 +28,7 @@ AreIdLines word (id ∷ ids) [] = ⊥
 AreIdLines word (id ∷ ids) (flush ∷ lines) = ⊥
 AreIdLines word (id ∷ ids) (text line ∷ lines) = IsIdLine word id line × AreIdLines word ids lines
 
--- the first want may have more behind its id; neither the wants nor the haves are too many
+-- the first want may have more after its id; neither the wants nor the haves are too many
 pub record SpellsWant (want : WantText) (lines : List LineText) : Type 0 where
   pub id : ObjectId
   pub ids : List ObjectId
@@ -74,7 +74,7 @@ abbrev pub want_id : List ObjectId → List ℕ → Option ObjectId
 want_id [] line = first_id_line (codes "want ") line
 want_id (w ∷ ws) line = id_line (codes "want ") line
 
--- the flush behind the wants, of which there is one or more
+-- the flush after the wants, of which there is one or more
 abbrev pub wants_end : ℕ → List ObjectId → Result (Stepped WantState WantText) PktFault
 wants_end number [] = Err (BadRecord number)
 wants_end number (w ∷ ws) = Ok (onward (having (w ∷ ws) []))

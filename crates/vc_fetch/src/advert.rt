@@ -1,13 +1,13 @@
 //! The message by which a shared node tells its refs: HEAD, and each ref with its id.
 
-ghost use Rattle.std.specs.Prelude.{◌≡◌, ◌≤◌, ◌+◌, ◌++◌, ◌∷◌, codes, length, Ok, OnOk, OnErr, IfOk, IfErr};
+ghost use Rattle.std.specs.Prelude.{◌≡◌, ◌≤◌, ◌+◌, ◌++◌, length, Ok, OnOk, OnErr, IfOk, IfErr};
 ghost use Rattle.std.specs.FinMap.{empty, entries};
 ghost use Rattle.std.specs.List.{AllByRecursion, flat_map, list_any};
 ghost use Rattle.std.specs.Option.{option_map};
 ghost use Rattle.vc_pkt.specs.Line.{spelling};
 ghost use Rattle.vc_pkt.specs.Message.{onward, IsSpelledBy, Refuses};
 ghost use Rattle.vc_pkt.specs.StepView.{Gives};
-ghost use Rattle.vc_fetch.specs.Advert.{AdvertText, HasShortNames, RefIds, SpellsAdvert, advert_lines, advert_of, advert_step, advert_step_own, before_nul, is_break, is_name, is_ref, no_refs, one_more_ref, or_no_refs, ref_line, ref_lines, with_ref, written_ref, max_listed};
+ghost use Rattle.vc_fetch.specs.Advert.{AdvertText, HasShortNames, RefIds, SpellsAdvert, advert_lines, advert_of, advert_step, advert_step_own, before_nul, capabilities, is_break, is_name, is_ref, no_refs, one_more_ref, or_no_refs, ref_line, ref_lines, with_ref, written_ref, max_listed};
 ghost use Rattle.vc_fetch.specs.AdvertView.{advert_state, advert_text, ref_ids};
 
 use crate::ids::id_of;
@@ -19,8 +19,8 @@ use vc_pkt::{
     write_text,
 };
 
-/// What stands behind the first name where it is written: a NUL, and what the node can do.
-const CAPABILITIES: &[u8] = b"\0report-status-v2";
+/// What is written after the first name: a NUL, and what the node can do.
+const CAPABILITIES: &[u8] = b"\0report-status-v2 atomic";
 
 /// The message that tells the refs of a node.
 #[derive(Drop)]
@@ -75,7 +75,7 @@ pub fn before_nul(words: &[u8]) -> &[u8]
     words
 }
 
-/// The name and the id of a line. Behind the name of the first line there may be a NUL and capabilities.
+/// The name and the id of a line. After the name of the first line there may be a NUL and capabilities.
 #[tactic(auto, unfolding(crate::specs::Advert::ref_line))]
 fn ref_line(is_first: bool, line: &[u8]) -> Option<(&[u8], ObjectId)>
     ensures { option_map (λ ref. (ref.0.now, ref.1)) result ≡ ref_line is_first line.now }
@@ -170,7 +170,7 @@ impl MessageReader for AdvertReader {
     ghost line_faults = { advert_step_own };
 }
 
-/// Writes the line of a ref, with this tail behind its name.
+/// Writes the line of a ref, with this tail after its name.
 fn write_ref(out: &mut Vec<u8>, tail: &[u8], name: &[u8], id: ObjectId) -> Result<(), AllocError>
     requires short { length name.now + length tail.now ≤ 65474 }
     ensures { OnOk result (out.new.items ≡ out.old.items ++ spelling (written_ref tail.now (name.now, id))) }
@@ -183,14 +183,14 @@ fn write_ref(out: &mut Vec<u8>, tail: &[u8], name: &[u8], id: ObjectId) -> Resul
     write_text(out, &words)
 }
 
-/// Writes a line for each ref, the first with this tail behind its name.
+/// Writes a line for each ref, the first with this tail after its name.
 fn write_refs(
     out: &mut Vec<u8>,
     tail: &[u8],
     refs: &BTreeMap<Vec<u8>, ObjectId>,
 ) -> Result<(), AllocError>
     requires short { AllByRecursion (λ ref. length ref.0 ≤ max_listed) (entries (ref_ids refs.now)) }
-    requires tail { length tail.now ≤ 17 }
+    requires tail { length tail.now ≤ 24 }
     ensures { OnOk result (out.new.items ≡ out.old.items ++ flat_map spelling (ref_lines tail.now (entries (ref_ids refs.now)))) }
 {
     let mut tail = tail;
@@ -207,7 +207,7 @@ fn write_refs_or_none(
     refs: &BTreeMap<Vec<u8>, ObjectId>,
 ) -> Result<(), AllocError>
     requires short { AllByRecursion (λ ref. length ref.0 ≤ max_listed) (entries (ref_ids refs.now)) }
-    ensures { OnOk result (out.new.items ≡ out.old.items ++ flat_map spelling (ref_lines (0 ∷ codes "report-status-v2") (or_no_refs (entries (ref_ids refs.now))))) }
+    ensures { OnOk result (out.new.items ≡ out.old.items ++ flat_map spelling (ref_lines capabilities (or_no_refs (entries (ref_ids refs.now))))) }
 {
     if refs.is_empty() {
         return write_ref(out, CAPABILITIES, b"capabilities^{}", ObjectId::ZERO);
@@ -248,7 +248,7 @@ impl Advert {
     }
 
     /// The message as it is written: HEAD first, then the refs in order of the names' bytes, and
-    /// `report-status-v2` behind the first name.
+    /// `report-status-v2 atomic` after the first name.
     pub fn write(&self, alloc: Global) -> Result<Vec<u8>, AllocError>
         requires short { HasShortNames (advert_text self.now) }
         ensures { IfOk result (λ bytes. bytes.items ≡ flat_map spelling (advert_lines (advert_text self.now))) }

@@ -27,7 +27,7 @@ pub fn id_line(word: &[u8], line: &[u8]) -> Option<ObjectId>
     id_of(digits)
 }
 
-/// The same of a line that may have a space and more behind the id.
+/// The same of a line that may have a space and more after the id.
 #[tactic(auto, unfolding(crate::specs::Ids::first_id_line))]
 pub(crate) fn first_id_line(word: &[u8], line: &[u8]) -> Option<ObjectId>
     ensures { result ≡ first_id_line word.now line.now }

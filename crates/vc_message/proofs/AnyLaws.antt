@@ -18,7 +18,7 @@ use Rattle.vc_fetch.proofs.Packs.{pack_spelled, pack_given}
 use Rattle.vc_fetch.proofs.Wants.{want_spelled, want_given}
 use Rattle.vc_fetch.proofs.WrittenAdverts.{written_advert}
 use Rattle.vc_fetch.proofs.WrittenMessages.{written_list, written_error, written_want, written_pack}
-use Rattle.vc_push.specs.Push.{PushState, PushText, commanding, push_step}
+use Rattle.vc_push.specs.Push.{PushState, PushText, commanding, no_commands, push_step}
 use Rattle.vc_push.specs.Report.{ReportState, ReportText, unpacking, report_step}
 use Rattle.vc_push.proofs.Pushes.{push_spelled, push_given}
 use Rattle.vc_push.proofs.Reports.{report_spelled, report_given}
@@ -102,7 +102,7 @@ abbrev from_advert : LineText → Read
 from_advert l = or_next (as_advert (advert_step 0 empty l)) (Err (BadRecord 0))
 
 abbrev from_push : LineText → Read
-from_push l = or_next (as_push (push_step 0 (commanding []) l)) (from_advert l)
+from_push l = or_next (as_push (push_step 0 (commanding no_commands) l)) (from_advert l)
 
 abbrev from_error : LineText → Read
 from_error l = or_next (as_error (error_step 0 tt l)) (from_push l)
@@ -163,13 +163,13 @@ module _ (l : LineText) where
       no_list (λ h. omega (arith, is, h)) ∙ no_want (λ h. omega (arith, is, h)) ∙ no_pack (λ h. omega (arith, is, h)) ∙ no_report (λ h. omega (arith, is, h))
       ∙ hit error_step in_error an_error (error_step 0 tt l) x (from_push l) e
 
-  push_takes : (x : Stepped PushState PushText) → push_step 0 (commanding []) l ≡ Ok x → first_step 0 l ≡ as_push (Ok x)
-  push_takes x e = no_word (push_third l x e) ∙ hit push_step in_push a_push (push_step 0 (commanding []) l) x (from_advert l) e
+  push_takes : (x : Stepped PushState PushText) → push_step 0 (commanding no_commands) l ≡ Ok x → first_step 0 l ≡ as_push (Ok x)
+  push_takes x e = no_word (push_third l x e) ∙ hit push_step in_push a_push (push_step 0 (commanding no_commands) l) x (from_advert l) e
 
   advert_takes : (x : Stepped RefIds AdvertText) → advert_step 0 empty l ≡ Ok x → first_step 0 l ≡ as_advert (Ok x)
   advert_takes x e =
       no_word (advert_third l x e)
-      ∙ miss push_step in_push a_push (push_step 0 (commanding []) l) (from_advert l) (λ y f. push_no_advert l y x f e)
+      ∙ miss push_step in_push a_push (push_step 0 (commanding no_commands) l) (from_advert l) (λ y f. push_no_advert l y x f e)
       ∙ hit advert_step in_advert an_advert (advert_step 0 empty l) x (Err (BadRecord 0)) e
 
 -- ---- both ways
@@ -178,7 +178,7 @@ any_given a_list lines s = given list_step in_list (λ _. a_list) (λ n u l. ref
 any_given (an_advert m) lines s = given advert_step in_advert an_advert (λ n u l. refl) empty advert_takes m lines (advert_given m lines s)
 any_given (a_want m) lines s = given want_step in_want a_want (λ n u l. refl) (wanting []) want_takes m lines (want_given m lines s)
 any_given (a_pack m) lines s = given pack_step in_pack a_pack (λ n u l. refl) starting pack_takes m lines (pack_given m lines s)
-any_given (a_push m) lines s = given push_step in_push a_push (λ n u l. refl) (commanding []) push_takes m lines (push_given m lines s)
+any_given (a_push m) lines s = given push_step in_push a_push (λ n u l. refl) (commanding no_commands) push_takes m lines (push_given m lines s)
 any_given (a_report m) lines s = given report_step in_report a_report (λ n u l. refl) unpacking report_takes m lines (report_given m lines s)
 any_given (an_error m) lines s = given error_step in_error an_error (λ n u l. refl) tt error_takes m lines (error_given m lines s)
 
@@ -193,7 +193,7 @@ any_spelled t (l ∷ ls) e =
     (tried pack_step in_pack a_pack (λ n u k. refl) starting pack_spelled l ls t (from_report l)
     (tried report_step in_report a_report (λ n u k. refl) unpacking report_spelled l ls t (from_error l)
     (tried error_step in_error an_error (λ n u k. refl) tt error_spelled l ls t (from_push l)
-    (tried push_step in_push a_push (λ n u k. refl) (commanding []) push_spelled l ls t (from_advert l)
+    (tried push_step in_push a_push (λ n u k. refl) (commanding no_commands) push_spelled l ls t (from_advert l)
     (tried advert_step in_advert an_advert (λ n u k. refl) empty advert_spelled l ls t (Err (BadRecord 0)) (λ h. absurd (cc h))))))))
     e
 

@@ -27,7 +27,7 @@ use Rattle.vc_fetch.specs.Want.{WantState, WantText, wanting, one_more, want_ste
 use Rattle.vc_fetch.proofs.IdLines.{line_some, first_some}
 use Rattle.vc_fetch.proofs.RefLines.{first_ref_some}
 use Rattle.vc_lemmas.proofs.Lists.{same_head, same_tail}
-use Rattle.vc_push.specs.Push.{CommandText, PushState, PushText, IsFirstCommandLine, commanding, command_line, one_more as more_commands, push_step}
+use Rattle.vc_push.specs.Push.{CommandText, PushState, PushText, IsFirstCommandLine, commanding, command_line, no_commands, one_more as more_commands, push_step}
 use Rattle.vc_push.specs.Report.{ReportState, ReportText, unpack_of, unpacked, unpacking, report_step}
 use Rattle.vc_push.proofs.CommandLines.{first_command_some}
 
@@ -98,19 +98,19 @@ id_third : (t digits rest : List ℕ) (id : ObjectId) → WritesId id digits →
 id_third t digits rest id w e = ap (λ s. is_hex_digit (slice_index s 2)) e ∙ third_digit digits rest (decode_sized-ok digits 20 id.0 w) (digits_pass digits id w)
 
 -- the first line of a push
-pub push_first : (t : List ℕ) (x : Stepped PushState PushText) → push_step 0 (commanding []) (text t) ≡ Ok x → (command : CommandText) × IsFirstCommandLine command t
+pub push_first : (t : List ℕ) (x : Stepped PushState PushText) → push_step 0 (commanding no_commands) (text t) ≡ Ok x → (found : CommandText × Bool) × IsFirstCommandLine found.1 found.0 t
 push_first t x e = by (command_line true t) refl e
   where
-    by : (o : Option CommandText) → command_line true t ≡ o → more_commands 0 [] o ≡ Ok x → (command : CommandText) × IsFirstCommandLine command t
+    by : (o : Option (CommandText × Bool)) → command_line true t ≡ o → more_commands 0 no_commands o ≡ Ok x → (found : CommandText × Bool) × IsFirstCommandLine found.1 found.0 t
     by None is e = absurd (cc e)
-    by (Some command) is e = (command, first_command_some t command is)
+    by (Some found) is e = (found, first_command_some t found is)
 
-pub push_third : (line : LineText) (x : Stepped PushState PushText) → push_step 0 (commanding []) line ≡ Ok x → is_hex_digit (third line) ≡ true
+pub push_third : (line : LineText) (x : Stepped PushState PushText) → push_step 0 (commanding no_commands) line ≡ Ok x → is_hex_digit (third line) ≡ true
 push_third flush x e = absurd (cc e)
 push_third (text t) x e =
     let p = push_first t x e in
     let h = p.1 in
-    id_third t h.old (32 ∷ (h.new ++ 32 ∷ (p.0.name ++ 0 ∷ h.capabilities))) p.0.old h.writes_old h.spelled
+    id_third t h.old (32 ∷ (h.new ++ 32 ∷ (p.0.0.name ++ 0 ∷ h.capabilities))) p.0.0.old h.writes_old h.spelled
 
 -- the first line of an advertisement
 pub advert_first : (t : List ℕ) (x : Stepped RefIds AdvertText) → advert_step 0 empty (text t) ≡ Ok x → (ref : Ref) × IsFirstRefLine ref t
@@ -153,14 +153,14 @@ same_behind [] (b ∷ bs) x y len e = absurd (omega arith)
 same_behind (a ∷ as') [] x y len e = absurd (omega arith)
 same_behind (a ∷ as') (b ∷ bs) x y len e = same_behind as' bs x y (omega arith) (same_tail a b (as' ++ x) (bs ++ y) e)
 
-pub push_no_advert : (line : LineText) (x : Stepped PushState PushText) (y : Stepped RefIds AdvertText) → push_step 0 (commanding []) line ≡ Ok x → advert_step 0 empty line ≡ Ok y → ⊥
+pub push_no_advert : (line : LineText) (x : Stepped PushState PushText) (y : Stepped RefIds AdvertText) → push_step 0 (commanding no_commands) line ≡ Ok x → advert_step 0 empty line ≡ Ok y → ⊥
 push_no_advert flush x y e f = cc e
 push_no_advert (text t) x y e f =
     let p = push_first t x e in
     let q = advert_first t y f in
     let h = p.1 in
     let k = q.1 in
-    let command = p.0 in
+    let command = p.0.0 in
     let ref = q.0 in
     let long = decode_sized-ok h.old 20 command.old.0 h.writes_old in
     let other = decode_sized-ok k.digits 20 ref.1.0 k.writes in

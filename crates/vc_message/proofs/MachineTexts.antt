@@ -63,8 +63,8 @@ one_refusal_of (Err bad) a b (e, fault, is) (f, other, at) = is ∙ ap (λ g. So
 
 same_push : (t : PushText) (m n : Message) → IsPush m t → IsPush n t → m ≡ n
 same_push t m n a b =
-    a.is ∙ ap (λ r. Push false r (map machine_command t.commands) a.objects) (one_refusal_of t.carried a.refusal b.refusal a.refused b.refused)
-    ∙ ap (λ s. Push false b.refusal (map machine_command t.commands) s) (one_set t.carried a.objects b.objects a.brought b.brought) ∙ sym b.is
+    a.is ∙ ap (λ r. Push t.atomic r (map machine_command t.commands) a.objects) (one_refusal_of t.carried a.refusal b.refusal a.refused b.refused)
+    ∙ ap (λ s. Push t.atomic b.refusal (map machine_command t.commands) s) (one_set t.carried a.objects b.objects a.brought b.brought) ∙ sym b.is
 
 pub one_text : (t : MessageText) (m n : Message) → TextOf m t → TextOf n t → m ≡ n
 one_text a_list m n a b = a ∙ sym b
@@ -134,7 +134,7 @@ a_push_is : (t : PushText) (lines : List LineText) → SpellsPush t lines → (m
 a_push_is t lines s =
     let r = refusal_is (only_deletes t.commands) t.carried s.stream s.carries in
     let brought = each_is_brought t.carried in (
-      Push false r.0 (map machine_command t.commands) brought.0,
+      Push t.atomic r.0 (map machine_command t.commands) brought.0,
       record { refusal = r.0; objects = brought.0; is = refl; refused = r.1; brought = brought.1 },
     )
 

@@ -21,7 +21,7 @@ use Rattle.vc_push.specs.Push.{Carried, CommandText, IsWrittenCarried, PushText,
 use Rattle.vc_push.specs.Reason.{all_reasons, number_or_zero, reason_number, reason_of, reason_text}
 use Rattle.vc_push.specs.Report.{ReportText, ToldText, unpack_error}
 use Rattle.vc_push.specs.declared.reason.Reason.{Reason}
-use Rattle.vc_push.specs.declared.reason.Reason.TheVariants.{AlreadyExists, BadName, DeletionProhibited, MissingObjects, NameConflict, NonFastForward, NotACommit, OutsideRefs, Stale, UnpackerError}
+use Rattle.vc_push.specs.declared.reason.Reason.TheVariants.{AlreadyExists, AtomicFailure, BadName, DeletionProhibited, MissingObjects, NameConflict, NonFastForward, NotACommit, OutsideRefs, Stale, UnpackerError}
 use Rattle.vc_push.proofs.Reasons.{reason_some}
 use Rattle.vc_model.specs.Message.{Message, Told}
 use Rattle.vc_model.specs.Message.Message.{Advert, Error, ListRefs, Pack, Push, Report, Want}
@@ -65,7 +65,7 @@ text_back ListRefs = a_list
 text_back (Advert head refs) = an_advert (record { head = option_map id_of_bytes head; refs = refs_back refs })
 text_back (Want wants haves) = a_want (record { wants = map id_of_bytes wants; haves = map id_of_bytes haves })
 text_back (Pack ack s) = a_pack (record { ack = option_map id_of_bytes ack; objects = listed s })
-text_back (Push atomic refusal commands s) = a_push (record { commands = map command_back commands; carried = Ok (listed s) })
+text_back (Push atomic refusal commands s) = a_push (record { atomic = atomic; commands = map command_back commands; carried = Ok (listed s) })
 text_back (Report refusal told) = a_report (record { unpack = option_map unpack_error refusal; told = map told_back told })
 text_back (Error words) = an_error words
 
@@ -147,6 +147,7 @@ number_back AlreadyExists = refl
 number_back NameConflict = refl
 number_back Stale = refl
 number_back UnpackerError = refl
+number_back AtomicFailure = refl
 
 text_again : (words : List ℕ) (found : Option Reason) → reason_of words ≡ found → number_or_zero found ≢ 0 → words ≡ text_of (reason_at (number_or_zero found))
 unfolding text_of
@@ -177,8 +178,8 @@ push_back : (t : PushText) (m : Message) → IsWrittenMessage (a_push t) → IsP
 unfolding text_back
 push_back t m written plain a =
     let whole : a.refusal ≡ None = subst IsPlain a.is plain in
-    ap (λ c. a_push (record { commands = t.commands; carried = c })) (carried_back (only_deletes t.commands) t.carried a.objects written.carried (subst (λ r. IsRefusalOf t.carried r) whole a.refused) a.brought)
-    ∙ ap (λ cs. a_push (record { commands = cs; carried = Ok (listed a.objects) })) (commands_back t.commands) ∙ ap text_back (sym a.is)
+    ap (λ c. a_push (record { atomic = t.atomic; commands = t.commands; carried = c })) (carried_back (only_deletes t.commands) t.carried a.objects written.carried (subst (λ r. IsRefusalOf t.carried r) whole a.refused) a.brought)
+    ∙ ap (λ cs. a_push (record { atomic = t.atomic; commands = cs; carried = Ok (listed a.objects) })) (commands_back t.commands) ∙ ap text_back (sym a.is)
 
 report_back : (t : ReportText) (m : Message) → IsPlain m → IsReport m t → a_report t ≡ text_back m
 unfolding text_back

@@ -16,9 +16,9 @@ use Rattle.vc_pkt.specs.declared.fault.PktFault.{PktFault}
 use Rattle.vc_pkt.specs.declared.fault.PktFault.TheVariants.{BadRecord}
 use Rattle.vc_fetch.specs.Pack.{is_object, with_ack}
 use Rattle.vc_fetch.specs.Pack as pack
-use Rattle.vc_push.specs.Push.{Carried, CommandText, carry, with_commands}
+use Rattle.vc_push.specs.Push.{Carried, HeadText, carry, with_commands}
 use Rattle.vc_push.specs.Push as push
-use Rattle.vc_push.specs.PushView.{commands_of}
+use Rattle.vc_push.specs.PushView.{head_text}
 use Rattle.vc_message.specs.AnyMessage.{AnyState, MessageText, Read, any_step, any_step_own, as_pack, as_push, beginning, in_pack, in_push}
 use Rattle.vc_message.specs.Incoming.{Fails, IsLineOf, IsLoss, TakesFault, TakesText, whole}
 use Rattle.vc_message.specs.IncomingFault.{of_pkt}
@@ -71,11 +71,11 @@ carrier_stepped c (Ok (going_on progress)) = Ok (onward (state_at c progress))
 carrier_stepped c (Ok (full first object)) = if may_carry c object then Ok (onward (state_at (with_more object c) between)) else Err (BadRecord first)
 carrier_stepped c (Ok over) = Ok (complete (text_of c))
 
-pushed : (commands : List CommandText) (carried : Carried) (r : Result ObjectStepped PktFault) → as_push (with_commands commands (gather_stepped carry is_any carried r)) ≡ carrier_stepped (of_push commands carried) r
-pushed commands carried (Err fault) = refl
-pushed commands carried (Ok (going_on progress)) = refl
-pushed commands carried (Ok (full first object)) = refl
-pushed commands carried (Ok over) = refl
+pushed : (head : HeadText) (carried : Carried) (r : Result ObjectStepped PktFault) → as_push (with_commands head (gather_stepped carry is_any carried r)) ≡ carrier_stepped (of_push head carried) r
+pushed head carried (Err fault) = refl
+pushed head carried (Ok (going_on progress)) = refl
+pushed head carried (Ok (full first object)) = refl
+pushed head carried (Ok over) = refl
 
 packed : (ack : Option ObjectId) (objects : List StoredObject) (r : Result ObjectStepped PktFault) → as_pack (with_ack ack (gather_stepped with_object is_object objects r)) ≡ carrier_stepped (of_pack ack objects) r
 packed ack objects (Err fault) = refl
@@ -89,14 +89,14 @@ packed ack objects (Ok (full first object)) = by (is_object object)
 packed ack objects (Ok over) = refl
 
 pub carrier_step : (number : ℕ) (c : Carrier) (progress : Progress) (line : LineText) → any_step number (state_at c progress) line ≡ carrier_stepped c (object_step number progress line)
-carrier_step number (of_push commands carried) progress line = pushed commands carried (object_step number progress line)
+carrier_step number (of_push head carried) progress line = pushed head carried (object_step number progress line)
 carrier_step number (of_pack ack objects) progress line = packed ack objects (object_step number progress line)
 
 -- where no object has begun
-pub push_begins : (commands : List CommandText) (set : List StoredObject) (p : Progress) → set ≡ [] → p ≡ between → in_push (push.streaming commands (record { set = Ok set; progress = p })) ≡ state_at (of_push commands (Ok [])) between
-push_begins commands set p none start =
-    ap (λ (objects : List StoredObject). in_push (push.streaming commands (record { set = Ok objects; progress = p }))) none
-    ∙ ap (λ (q : Progress). in_push (push.streaming commands (record { set = Ok []; progress = q }))) start
+pub push_begins : (head : HeadText) (set : List StoredObject) (p : Progress) → set ≡ [] → p ≡ between → in_push (push.streaming head (record { set = Ok set; progress = p })) ≡ state_at (of_push head (Ok [])) between
+push_begins head set p none start =
+    ap (λ (objects : List StoredObject). in_push (push.streaming head (record { set = Ok objects; progress = p }))) none
+    ∙ ap (λ (q : Progress). in_push (push.streaming head (record { set = Ok []; progress = q }))) start
 
 pub pack_begins : (ack : Option ObjectId) (set : List StoredObject) (p : Progress) → set ≡ [] → p ≡ between → in_pack (pack.streaming ack (record { set = set; progress = p })) ≡ state_at (of_pack ack []) between
 pack_begins ack set p none start =
@@ -174,8 +174,8 @@ module _ (before now new : Option (List ℕ)) (place number : ℕ) (c : Carrier)
 -- what stands before the objects was taken
 pub head_taken : (old new : Option (List ℕ)) (head : Head) (bytes lines : ℕ) (s : AnyState) → IsHeadAt head s → LeadsTo any_step beginning old new bytes lines s → TakesHead old new head bytes lines
 head_taken old new (heads.Message message) bytes lines s at so = let none : ◌≡◌ {A = Option Carrier} None (Some at.0) = at.1 in absurd (cc none)
-head_taken old new (heads.Push commands) bytes lines s at so =
-    let is : of_push (commands_of commands.items) (Ok []) ≡ at.0 = let some : ◌≡◌ {A = Option Carrier} (Some (of_push (commands_of commands.items) (Ok []))) (Some at.0) = at.1 in cc some in
+head_taken old new (heads.Push head) bytes lines s at so =
+    let is : of_push (head_text head) (Ok []) ≡ at.0 = let some : ◌≡◌ {A = Option Carrier} (Some (of_push (head_text head) (Ok []))) (Some at.0) = at.1 in cc some in
     subst (λ (t : AnyState). LeadsTo any_step beginning old new bytes lines t) (at.2 ∙ sym (ap (λ (c : Carrier). state_at c between) is)) so
 head_taken old new (heads.Pack ack) bytes lines s at so =
     let is : of_pack ack [] ≡ at.0 = let some : ◌≡◌ {A = Option Carrier} (Some (of_pack ack [])) (Some at.0) = at.1 in cc some in

@@ -10,7 +10,7 @@ use Rattle.vc_fetch.specs.ErrorMessage.{SpellsError, error_lines, error_step, er
 use Rattle.vc_fetch.specs.ListMessage.{ListText, list, SpellsList, list_lines, list_step, list_step_own}
 use Rattle.vc_fetch.specs.Pack.{PackText, PackState, starting, SpellsPack, IsWrittenPack, pack_lines, pack_step, pack_step_own}
 use Rattle.vc_fetch.specs.Want.{WantText, WantState, wanting, SpellsWant, IsWrittenWant, want_lines, want_step, want_step_own}
-use Rattle.vc_push.specs.Push.{PushText, PushState, commanding, SpellsPush, IsWrittenPush, push_lines, push_step, push_step_own}
+use Rattle.vc_push.specs.Push.{PushText, PushState, commanding, no_commands, SpellsPush, IsWrittenPush, push_lines, push_step, push_step_own}
 use Rattle.vc_push.specs.Report.{ReportText, ReportState, unpacking, SpellsReport, IsWrittenReport, report_lines, report_step, report_step_own}
 
 pub data MessageText : Type 0 where
@@ -108,7 +108,7 @@ first_step number line =
     (or_next (as_pack (pack_step number starting line))
     (or_next (as_report (report_step number unpacking line))
     (or_next (as_error (error_step number tt line))
-    (or_next (as_push (push_step number (commanding []) line))
+    (or_next (as_push (push_step number (commanding no_commands) line))
     (or_next (as_advert (advert_step number empty line)) (Err (BadRecord number))))))))
 
 abbrev pub any_step : Steps AnyState MessageText
@@ -137,7 +137,7 @@ first_step_own number line =
     (or_next_own (as_pack (pack_step number starting line)) _
     (or_next_own (as_report (report_step number unpacking line)) _
     (or_next_own (as_error (error_step number tt line)) _
-    (or_next_own (as_push (push_step number (commanding []) line)) _
+    (or_next_own (as_push (push_step number (commanding no_commands) line)) _
     (or_next_own (as_advert (advert_step number empty line)) _ tt))))))
 
 pub any_step_own : (number : ℕ) (state : AnyState) (line : LineText) → IsOwnFault (any_step number state line)

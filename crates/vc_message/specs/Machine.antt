@@ -1,5 +1,5 @@
 -- What a message of bytes is to the machine, and by which number it refuses bytes that are none.
-use Rattle.std.specs.Prelude.{◌≡◌, ◌≢◌, ◌<◌, ◌^◌, ◌⊎◌, ◌++◌, ℕ, List, map, Option, Some, None, Result, Ok, Err, option_map, false}
+use Rattle.std.specs.Prelude.{◌≡◌, ◌≢◌, ◌<◌, ◌^◌, ◌⊎◌, ◌++◌, ℕ, List, map, Option, Some, None, Result, Ok, Err, option_map}
 use Rattle.std.specs.FinMap.{get}
 use Rattle.std.specs.List.{AllByRecursion, flat_map}
 use Rattle.vc_format.specs.Git.{bytes_of_id}
@@ -42,11 +42,11 @@ abbrev pub IsRefusalOf : Carried → Option ℕ → Type 0
 IsRefusalOf (Ok objects) refusal = refusal ≡ None
 IsRefusalOf (Err bad) refusal = (fault : ObjectFault) × BodyFault bad.kind bad.body fault × (refusal ≡ Some (fault_number fault))
 
--- no capability is looked at, so no push is atomic; where a body is at fault, nothing is carried
+-- where a body is at fault, nothing is carried
 pub record IsPush (m : Message) (t : PushText) : Type 0 where
   pub refusal : Option ℕ
   pub objects : Objects
-  pub is : m ≡ Push false refusal (map machine_command t.commands) objects
+  pub is : m ≡ Push t.atomic refusal (map machine_command t.commands) objects
   pub refused : IsRefusalOf t.carried refusal
   pub brought : AreBrought t.carried objects
 

@@ -1,5 +1,5 @@
 -- A message that carries objects, taken object by object.
-use Rattle.std.specs.Prelude.{◌≡◌, ◌≢◌, ◌+◌, ◌⊎◌, ℕ, Bool, true, false, List, [], ◌++◌, length, Option, Some, None, Result, Ok, Err}
+use Rattle.std.specs.Prelude.{◌≡◌, ◌≢◌, ◌+◌, ◌⊎◌, ℕ, Bool, true, false, List, [], ◌++◌, length, Option, Some, None, Ok}
 use Rattle.std.specs.Io.KnownBytes.{Consumes}
 use Rattle.vc_object.specs.Decoding.{StoredObject}
 use Rattle.vc_object.specs.declared.id.ObjectId.{ObjectId}
@@ -12,9 +12,9 @@ use Rattle.vc_pkt.specs.declared.fault.PktFault.{PktFault}
 use Rattle.vc_pkt.specs.declared.fault.PktFault.TheVariants.{BadRecord}
 use Rattle.vc_fetch.specs.Pack.{is_object}
 use Rattle.vc_fetch.specs.Pack as pack
-use Rattle.vc_push.specs.Push.{Carried, CommandText, carry}
+use Rattle.vc_push.specs.Push.{Carried, HeadText, carry, with_carried}
 use Rattle.vc_push.specs.Push as push
-use Rattle.vc_push.specs.PushView.{commands_of}
+use Rattle.vc_push.specs.PushView.{head_text}
 use Rattle.vc_message.specs.AnyMessage.{AnyState, MessageText, a_pack, a_push, any_step, beginning, in_pack, in_push}
 use Rattle.vc_message.specs.AnyView.{message_text}
 use Rattle.vc_message.specs.Incoming.{Fails, IsLineOf, IsLoss, TakesFault, TakesText, TakesWithinLine}
@@ -56,32 +56,32 @@ pub record LeadsTo {S M : Type 0} (step : Steps S M) (start : S) (old now : Opti
 -- ---- objects
 -- what came of a message that carries objects
 pub data Carrier : Type 0 where
-  of_push : List CommandText → Carried → Carrier
+  of_push : HeadText → Carried → Carrier
   of_pack : Option ObjectId → List StoredObject → Carrier
 
 -- what its next line finds, where the stream of its objects stands so
 abbrev pub state_at : Carrier → Progress → AnyState
-state_at (of_push commands carried) progress = in_push (push.streaming commands (record { set = carried; progress = progress }))
+state_at (of_push head carried) progress = in_push (push.streaming head (record { set = carried; progress = progress }))
 state_at (of_pack ack objects) progress = in_pack (pack.streaming ack (record { set = objects; progress = progress }))
 
 -- whether an object may come in it
 abbrev pub may_carry : Carrier → StoredObject → Bool
-may_carry (of_push commands carried) object = true
+may_carry (of_push head carried) object = true
 may_carry (of_pack ack objects) object = is_object object
 
 abbrev pub with_more : StoredObject → Carrier → Carrier
-with_more object (of_push commands carried) = of_push commands (carry object carried)
+with_more object (of_push head carried) = of_push head (carry object carried)
 with_more object (of_pack ack objects) = of_pack ack (with_object object objects)
 
 -- the message, once its stream has ended
 abbrev pub text_of : Carrier → MessageText
-text_of (of_push commands carried) = a_push (record { commands = commands; carried = carried })
+text_of (of_push head carried) = a_push (with_carried head carried)
 text_of (of_pack ack objects) = a_pack (record { ack = ack; objects = objects })
 
 -- what stands before the objects of a message, with none of them yet; none for one that carries none
 abbrev pub carrier_of : Head → Option Carrier
 carrier_of (heads.Message message) = None
-carrier_of (heads.Push commands) = Some (of_push (commands_of commands.items) (Ok []))
+carrier_of (heads.Push head) = Some (of_push (head_text head) (Ok []))
 carrier_of (heads.Pack ack) = Some (of_pack ack [])
 
 -- the state is that of its next line
@@ -91,7 +91,7 @@ IsHeadAt head s = (c : Carrier) × (carrier_of head ≡ Some c) × (s ≡ state_
 -- a whole message was taken, or what stands before its objects, so many bytes and lines
 abbrev pub TakesHead : Option (List ℕ) → Option (List ℕ) → Head → ℕ → ℕ → Type 0
 TakesHead old new (heads.Message message) bytes lines = TakesText any_step beginning (GivenBy any_step beginning) old new (message_text message)
-TakesHead old new (heads.Push commands) bytes lines = LeadsTo any_step beginning old new bytes lines (state_at (of_push (commands_of commands.items) (Ok [])) between)
+TakesHead old new (heads.Push head) bytes lines = LeadsTo any_step beginning old new bytes lines (state_at (of_push (head_text head) (Ok [])) between)
 TakesHead old new (heads.Pack ack) bytes lines = LeadsTo any_step beginning old new bytes lines (state_at (of_pack ack []) between)
 
 -- ---- messages that came whole, as they are known
@@ -99,9 +99,9 @@ TakesHead old new (heads.Pack ack) bytes lines = LeadsTo any_step beginning old 
 abbrev pub TakesSome : Option (List ℕ) → Option (List ℕ) → Type 0
 TakesSome old new = (text : MessageText) × TakesText any_step beginning (GivenBy any_step beginning) old new text
 
--- a push with these commands, whatever it carries
-abbrev pub TakesPush : Option (List ℕ) → Option (List ℕ) → List CommandText → Type 0
-TakesPush old new commands = (carried : Carried) × TakesText any_step beginning (GivenBy any_step beginning) old new (text_of (of_push commands carried))
+-- a push that asks for this, whatever it carries
+abbrev pub TakesPush : Option (List ℕ) → Option (List ℕ) → HeadText → Type 0
+TakesPush old new head = (carried : Carried) × TakesText any_step beginning (GivenBy any_step beginning) old new (text_of (of_push head carried))
 
 -- a pack with this first line, whatever objects it brings
 abbrev pub TakesPack : Option (List ℕ) → Option (List ℕ) → Option ObjectId → Type 0
@@ -129,14 +129,14 @@ abbrev pub FailsFrom : {C : Type 0} → (C → Carrier) → Option (List ℕ) �
 FailsFrom {C = C} carrier old taken new e = (before : Option (List ℕ)) (c : C) → StandsAt before old taken (carrier c) → Fails any_step beginning before new e
 
 -- a push, or a pack, none of whose objects was taken yet
-abbrev pub no_push : List CommandText → Carrier
-no_push commands = of_push commands (Ok [])
+abbrev pub no_push : HeadText → Carrier
+no_push head = of_push head (Ok [])
 
 abbrev pub no_pack : Option ObjectId → Carrier
 no_pack ack = of_pack ack []
 
 abbrev pub EndsPush : Option (List ℕ) → Taken → Option (List ℕ) → Type 0
-EndsPush old taken new = (before : Option (List ℕ)) (commands : List CommandText) → StandsAt before old taken (no_push commands) → TakesPush before new commands
+EndsPush old taken new = (before : Option (List ℕ)) (head : HeadText) → StandsAt before old taken (no_push head) → TakesPush before new head
 
 abbrev pub EndsPack : Option (List ℕ) → Taken → Option (List ℕ) → Type 0
 EndsPack old taken new = (before : Option (List ℕ)) (ack : Option ObjectId) → StandsAt before old taken (no_pack ack) → TakesPack before new ack

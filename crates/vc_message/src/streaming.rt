@@ -23,7 +23,7 @@ use vc_pkt::{
     IncomingObjects, MessageReader, ObjectStep, Step, StreamObject, StreamProgress, parse_line,
     take_object_line,
 };
-use vc_push::{Command, PushReader, PushStream};
+use vc_push::{PushHead, PushReader, PushStream};
 
 /// Takes the next line of a message of which so many bytes were taken, in place of what the buffer held, and tells where it
 /// ends; none where the reader is at its end before the first byte.
@@ -55,7 +55,7 @@ pub enum Head {
     /// All of it.
     Message(Message),
     /// What stands before the objects of a push.
-    Push(Vec<Command>),
+    Push(PushHead),
     /// What stands before the objects of a pack.
     Pack(Option<ObjectId>),
 }
@@ -78,21 +78,21 @@ fn head_of(state: AnyReader) -> Result<Head, AnyReader>
     ensures { MatchResult result (λ head. IsHeadAt head (reader_state state)) (λ same. reader_state same ≡ reader_state state) }
 {
     match state {
-        AnyReader::Push(PushReader::Objects(commands, stream)) => {
+        AnyReader::Push(PushReader::Objects(head, stream)) => {
             let PushStream { carried, progress } = stream;
             match carried {
                 Ok(objects) => {
                     if is_at_start(&objects, &progress) {
-                        return Ok(Head::Push(commands));
+                        return Ok(Head::Push(head));
                     }
                     let carried = Ok(objects);
                     let stream = PushStream { carried, progress };
-                    Err(AnyReader::Push(PushReader::Objects(commands, stream)))
+                    Err(AnyReader::Push(PushReader::Objects(head, stream)))
                 }
                 Err(bad) => {
                     let carried = Err(bad);
                     let stream = PushStream { carried, progress };
-                    Err(AnyReader::Push(PushReader::Objects(commands, stream)))
+                    Err(AnyReader::Push(PushReader::Objects(head, stream)))
                 }
             }
         }

@@ -6,7 +6,7 @@ use Rattle.std.proofs.lemmas.Slice.Eq.{bytes_eq-Decides}
 use Rattle.std.proofs.lemmas.Option.{same_Some}
 use Rattle.vc_push.specs.Reason.{all_reasons, reason_of, reason_text}
 use Rattle.vc_push.specs.declared.reason.Reason.{Reason}
-use Rattle.vc_push.specs.declared.reason.Reason.TheVariants.{BadName, OutsideRefs, DeletionProhibited, MissingObjects, NotACommit, NonFastForward, AlreadyExists, NameConflict, Stale, UnpackerError}
+use Rattle.vc_push.specs.declared.reason.Reason.TheVariants.{BadName, OutsideRefs, DeletionProhibited, MissingObjects, NotACommit, NonFastForward, AlreadyExists, NameConflict, Stale, UnpackerError, AtomicFailure}
 
 pub reason_again : (reason : Reason) → reason_of (reason_text reason) ≡ Some reason
 unfolding reason_of
@@ -20,6 +20,7 @@ reason_again AlreadyExists = refl
 reason_again NameConflict = refl
 reason_again Stale = refl
 reason_again UnpackerError = refl
+reason_again AtomicFailure = refl
 
 found_text : (words : List ℕ) (reason : Reason) (reasons : List Reason) → find (λ r. bytes_eq (reason_text r) words) reasons ≡ Some reason → words ≡ reason_text reason
 found_text words reason [] e = absurd (cc e)

@@ -17,14 +17,14 @@ use Rattle.vc_pkt.proofs.Written.{lines_written}
 use Rattle.vc_pkt.proofs.WrittenStreams.{written_set, stream_spelled, stream_fits}
 use Rattle.vc_fetch.specs.Pack.{is_object}
 use Rattle.vc_fetch.proofs.IdLines.{line_again, written_line}
-use Rattle.vc_push.specs.Push.{CommandText, Carried, PushText, IsCommandLine, IsFirstCommandLine, AreCommandLines, SpellsCarried, SpellsPush, carried_or, only_deletes, IsWrittenCommand, IsWrittenCarried, IsWrittenPush, command_text, written_command, capabilities, carried_lines, push_lines, zero_id}
+use Rattle.vc_push.specs.Push.{CommandText, Carried, PushText, IsCommandLine, IsFirstCommandLine, AreCommandLines, SpellsCarried, SpellsPush, carried_or, only_deletes, IsWrittenCommand, IsWrittenCarried, IsWrittenPush, asks_atomic, command_text, written_command, written_words, capabilities, carried_lines, push_lines, zero_id}
 use Rattle.vc_push.specs.Report.{ToldText, ReportText, IsUnpackLine, AreToldBy, SpellsReport, unpack_text, ok_text, new_id_text, ng_text, text_line, outcome_lines, told_lines, report_lines, IsShortUnpack, IsShortOutcome, IsOutcomeId, IsWrittenTold, IsUnpackText, IsWrittenReport, new_id, or_else}
 
 -- ---- Push
 digits_of : (id : ObjectId) → IsId id → decode_sized (encode_lower id.0) 20 ≡ Ok id.0
 digits_of id h = decode_sized-encode_lower id.0 20 h.sized h.bytes
 
-command_fits : (tail : List ℕ) (c : CommandText) → length tail ≤ 17 → IsWrittenCommand c → IsWritable (written_command tail c)
+command_fits : (tail : List ℕ) (c : CommandText) → length tail ≤ 24 → IsWrittenCommand c → IsWritable (written_command tail c)
 command_fits tail c few h =
     let a = length-append (command_text c ++ tail) (10 ∷ []) in
     let b = length-append (command_text c) tail in
@@ -55,18 +55,28 @@ others_spell : (cs : List CommandText) → AllByRecursion IsWrittenCommand cs �
 others_spell [] h = refl
 others_spell (c ∷ cs) h = (command_spells c h.0, others_spell cs h.1)
 
-first_spells : (c : CommandText) → IsWrittenCommand c → IsFirstCommandLine c ((command_text c ++ capabilities) ++ 10 ∷ [])
-first_spells c h = record {
+-- the words that are written ask for an atomic push, or not
+words_ask : (atomic : Bool) → atomic ≡ asks_atomic (written_words atomic)
+words_ask true = refl
+words_ask false = refl
+
+few_words : (atomic : Bool) → length (capabilities atomic) ≤ 24
+few_words true = omega arith
+few_words false = omega arith
+
+first_spells : (atomic : Bool) (c : CommandText) → IsWrittenCommand c → IsFirstCommandLine atomic c ((command_text c ++ capabilities atomic) ++ 10 ∷ [])
+first_spells atomic c h = record {
   old = encode_lower c.old.0;
   new = encode_lower c.new.0;
-  capabilities = codes "report-status-v2";
+  capabilities = written_words atomic;
   writes_old = digits_of c.old h.old;
   writes_new = digits_of c.new h.new;
   name = h.name;
+  asks = words_ask atomic;
   spelled =
-      with_lf (command_text c ++ capabilities)
-      ∙ append_assoc (encode_lower c.old.0) (32 ∷ (encode_lower c.new.0 ++ 32 ∷ c.name)) capabilities
-      ∙ ap (λ t. encode_lower c.old.0 ++ 32 ∷ t) (append_assoc (encode_lower c.new.0) (32 ∷ c.name) capabilities);
+      with_lf (command_text c ++ capabilities atomic)
+      ∙ append_assoc (encode_lower c.old.0) (32 ∷ (encode_lower c.new.0 ++ 32 ∷ c.name)) (capabilities atomic)
+      ∙ ap (λ t. encode_lower c.old.0 ++ 32 ∷ t) (append_assoc (encode_lower c.new.0) (32 ∷ c.name) (capabilities atomic));
 }
 
 -- objects of which none is at fault are carried as their set
@@ -93,21 +103,22 @@ carried_spells false (Ok objects) h =
 carried_spells false (Err bad) h =
     (bad ∷ [], stream_spelled is_any (bad ∷ []) (h.0, tt) (refl, tt), sym (ap (λ b. carried_or (cond (not b) (Some bad) None) (bad ∷ [])) h.1))
 
-push_of : (cs : List CommandText) (carried : Carried) → IsWrittenPush (record { commands = cs; carried = carried }) → IsSpelledBy SpellsPush (record { commands = cs; carried = carried }) (flat_map spelling (push_lines (record { commands = cs; carried = carried })))
-push_of [] carried w = absurd (let s = w.some in omega arith)
-push_of (c ∷ cs) carried w =
+push_of : (atomic : Bool) (cs : List CommandText) (carried : Carried) → IsWrittenPush (record { atomic = atomic; commands = cs; carried = carried })
+    → IsSpelledBy SpellsPush (record { atomic = atomic; commands = cs; carried = carried }) (flat_map spelling (push_lines (record { atomic = atomic; commands = cs; carried = carried })))
+push_of atomic [] carried w = absurd (let s = w.some in omega arith)
+push_of atomic (c ∷ cs) carried w =
     let b = only_deletes (c ∷ cs) in
-    let lines = push_lines (record { commands = c ∷ cs; carried = carried }) in (
+    let lines = push_lines (record { atomic = atomic; commands = c ∷ cs; carried = carried }) in (
       lines,
-      lines_written lines (command_fits capabilities c (omega arith) w.commands.0, others_fit cs (flush ∷ carried_lines b carried) w.commands.1 (tt, carried_fits b carried w.carried)),
+      lines_written lines (command_fits (capabilities atomic) c (few_words atomic) w.commands.0, others_fit cs (flush ∷ carried_lines b carried) w.commands.1 (tt, carried_fits b carried w.carried)),
       record {
         command = c;
         commands = cs;
-        first = (command_text c ++ capabilities) ++ 10 ∷ [];
+        first = (command_text c ++ capabilities atomic) ++ 10 ∷ [];
         others = map (written_command []) cs;
         stream = carried_lines b carried;
         some = refl;
-        begins = first_spells c w.commands.0;
+        begins = first_spells atomic c w.commands.0;
         each = others_spell cs w.commands.1;
         few = w.few;
         carries = carried_spells b carried w.carried;
@@ -116,7 +127,7 @@ push_of (c ∷ cs) carried w =
     )
 
 pub written_push : (push : PushText) → IsWrittenPush push → IsSpelledBy SpellsPush push (flat_map spelling (push_lines push))
-written_push push w = push_of push.commands push.carried w
+written_push push w = push_of push.atomic push.commands push.carried w
 
 -- ---- Report
 unpack_spells : (unpack : Option (List ℕ)) → IsUnpackText unpack → IsUnpackLine unpack (unpack_text unpack ++ 10 ∷ [])
@@ -133,7 +144,7 @@ unpack_fits (Some words) h = line_fits (codes "unpack " ++ words) (let a = lengt
 new_id_again : (id : ObjectId) → IsId id → new_id (new_id_text id ++ 10 ∷ []) ≡ Some id
 new_id_again id h = line_again (codes "option new-oid ") (new_id_text id ++ 10 ∷ []) id (written_line (codes "option new-oid ") id h)
 
--- the lines of one command, and more behind them
+-- the lines of one command, and more after them
 outcome_fits : (name : List ℕ) (outcome : Result ObjectId (List ℕ)) (lines : List LineText) → IsShortOutcome name outcome → IsOutcomeId outcome → AllByRecursion IsWritable lines → AllByRecursion IsWritable (outcome_lines name outcome ++ lines)
 outcome_fits name (Ok id) lines short h more =
     let a = length-append (codes "ok ") name in

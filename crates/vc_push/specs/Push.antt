@@ -1,7 +1,9 @@
 -- The message Push: commands that change refs, a flush, and the objects that they need (gitprotocol-pack).
-use Rattle.std.specs.Prelude.{◌≡◌, ◌≤◌, ◌<◌, ◌++◌, ℕ, Bool, true, false, not, nat_lt, List, [], ◌∷◌, length, map, codes, replicate, find, Option, Some, None, Result, Ok, Err, if◌then◌else◌}
-use Rattle.std.specs.List.{AllByRecursion, list_all}
+use Rattle.std.specs.Prelude.{◌≡◌, ◌≤◌, ◌<◌, ◌==◌, ◌||◌, ◌++◌, ℕ, Bool, true, false, not, nat_lt, List, [], ◌∷◌, length, map, codes, replicate, find, Option, Some, None, Result, Ok, Err, if◌then◌else◌}
+use Rattle.std.specs.List.{AllByRecursion, list_all, list_any, slice_split}
+use Rattle.std.specs.Str.{bytes_eq}
 use Rattle.hex.specs.Hex.{encode_lower}
+use Rattle.vc_object.specs.Bytes.{cut}
 use Rattle.vc_object.specs.Decoding.{StoredObject}
 use Rattle.vc_object.specs.Items.{◌>>=◌}
 use Rattle.vc_object.specs.Lines.{IsId, after_word, split}
@@ -19,7 +21,7 @@ use Rattle.vc_pkt.specs.TextLine.{without_lf}
 use Rattle.vc_pkt.specs.Written.{stream_lines, IsWrittenSet}
 use Rattle.vc_pkt.specs.declared.fault.PktFault.{PktFault}
 use Rattle.vc_pkt.specs.declared.fault.PktFault.TheVariants.{BadRecord, TooMany}
-use Rattle.vc_fetch.specs.Advert.{IsName, is_name, before_nul}
+use Rattle.vc_fetch.specs.Advert.{IsName, is_name}
 use Rattle.vc_fetch.specs.Ids.{WritesId, id_of}
 use Rattle.vc_fetch.specs.Pack.{is_object}
 
@@ -41,9 +43,18 @@ zero_id = record { 0 = replicate 20 0 }
 abbrev pub Carried : Type 0
 Carried = Result (List StoredObject) StoredObject
 
+-- what stands before the objects: whether all refs are to be set or none, and the commands
+pub record HeadText : Type 0 where
+  pub atomic : Bool
+  pub commands : List CommandText
+
 pub record PushText : Type 0 where
+  pub atomic : Bool
   pub commands : List CommandText
   pub carried : Carried
+
+abbrev pub with_carried : HeadText → Carried → PushText
+with_carried head carried = record { atomic = head.atomic; commands = head.commands; carried = carried }
 
 -- ---- lines
 -- the digits of both ids and the name, with single spaces between
@@ -58,14 +69,19 @@ pub record IsCommandLine (command : CommandText) (line : List ℕ) : Type 0 wher
   pub name : IsName command.name
   pub spelled : without_lf line ≡ spelled_command old new command.name
 
--- the first has a NUL and any capabilities behind its name
-pub record IsFirstCommandLine (command : CommandText) (line : List ℕ) : Type 0 where
+-- a push is atomic if the word `atomic` is among its capabilities, which spaces (32) part
+abbrev pub asks_atomic : List ℕ → Bool
+asks_atomic capabilities = list_any (λ word. bytes_eq word (codes "atomic")) (slice_split (λ byte. byte == 32) capabilities)
+
+-- the first has a NUL and any capabilities after its name; words other than `atomic` are passed over
+pub record IsFirstCommandLine (atomic : Bool) (command : CommandText) (line : List ℕ) : Type 0 where
   pub old : List ℕ
   pub new : List ℕ
   pub capabilities : List ℕ
   pub writes_old : WritesId command.old old
   pub writes_new : WritesId command.new new
   pub name : IsName command.name
+  pub asks : atomic ≡ asks_atomic capabilities
   pub spelled : without_lf line ≡ spelled_command old new (command.name ++ 0 ∷ capabilities)
 
 -- a line for each command
@@ -100,7 +116,7 @@ pub record SpellsPush (push : PushText) (lines : List LineText) : Type 0 where
   pub others : List LineText
   pub stream : List LineText
   pub some : push.commands ≡ command ∷ commands
-  pub begins : IsFirstCommandLine command first
+  pub begins : IsFirstCommandLine push.atomic command first
   pub each : AreCommandLines commands others
   pub few : length push.commands ≤ max_commands
   pub carries : SpellsCarried (only_deletes push.commands) push.carried stream
@@ -116,17 +132,22 @@ FaultOf (Err bad) (Some fault) = BodyFault bad.kind bad.body fault
 abbrev pub command_text : CommandText → List ℕ
 command_text command = encode_lower command.old.0 ++ 32 ∷ (encode_lower command.new.0 ++ 32 ∷ command.name)
 
--- a line of it, and more behind the name
+-- a line of it, and more after the name
 abbrev pub written_command : List ℕ → CommandText → LineText
 written_command tail command = text ((command_text command ++ tail) ++ 10 ∷ [])
 
-abbrev pub capabilities : List ℕ
-capabilities = 0 ∷ codes "report-status-v2"
+-- the words of the first line: `atomic` is among them if all refs are to be set or none
+abbrev pub written_words : Bool → List ℕ
+written_words false = codes "report-status-v2"
+written_words true = codes "report-status-v2 atomic"
 
--- the first line has the capabilities behind its name
-abbrev pub command_lines : List CommandText → List LineText
-command_lines [] = []
-command_lines (command ∷ commands) = written_command capabilities command ∷ map (written_command []) commands
+abbrev pub capabilities : Bool → List ℕ
+capabilities atomic = 0 ∷ written_words atomic
+
+-- the first line has the capabilities after its name
+abbrev pub command_lines : Bool → List CommandText → List LineText
+command_lines atomic [] = []
+command_lines atomic (command ∷ commands) = written_command (capabilities atomic) command ∷ map (written_command []) commands
 
 -- the objects that are brought: all, or the one at fault
 abbrev pub brought : Carried → List StoredObject
@@ -138,11 +159,14 @@ carried_lines true carried = []
 carried_lines false carried = stream_lines (brought carried)
 
 abbrev pub push_lines : PushText → List LineText
-push_lines push = command_lines push.commands ++ flush ∷ carried_lines (only_deletes push.commands) push.carried
+push_lines push = command_lines push.atomic push.commands ++ flush ∷ carried_lines (only_deletes push.commands) push.carried
 
--- the name of a command, which fits in a line with the capabilities
+-- the most bytes of a name that fits in a line with two ids and any of the capabilities
+abbrev pub max_named : ℕ
+max_named = 65409
+
 abbrev pub IsShort : CommandText → Type 0
-IsShort command = length command.name ≤ 65416
+IsShort command = length command.name ≤ max_named
 
 pub record IsWrittenCommand (command : CommandText) : Type 0 where
   pub old : IsId command.old
@@ -163,16 +187,17 @@ pub record IsWrittenPush (push : PushText) : Type 0 where
   pub carried : IsWrittenCarried (only_deletes push.commands) push.carried
 
 -- ---- line by line
--- the name, of which the first stands before a NUL
+-- the name of a command
 abbrev pub named : List ℕ → Option (List ℕ)
 named name = if is_name name then Some name else None
 
-abbrev pub name_in : Bool → List ℕ → Option (List ℕ)
-name_in true words = if nat_lt (length (before_nul words)) (length words) then named (before_nul words) else None
-name_in false words = named words
+-- it and the capabilities, which stand after a NUL in the first line
+abbrev pub name_cut : Bool → List ℕ → Option (List ℕ × List ℕ)
+name_cut true words = cut 0 words
+name_cut false words = Some (words, [])
 
--- the command of a line, which may be the first
-unfoldable pub command_line : Bool → List ℕ → Option CommandText
+-- the command of a line, which may be the first, and whether the line asks for an atomic push
+unfoldable pub command_line : Bool → List ℕ → Option (CommandText × Bool)
 command_line is_first line = do
   parts ← split 40 (without_lf line)
   old ← id_of parts.0
@@ -180,8 +205,9 @@ command_line is_first line = do
   others ← split 40 rest
   new ← id_of others.0
   words ← after_word (32 ∷ []) others.1
-  name ← name_in is_first words
-  Some (record { old = old; new = new; name = name })
+  cuts ← name_cut is_first words
+  name ← named cuts.0
+  Some (record { old = old; new = new; name = name }, asks_atomic cuts.1)
 
 -- one object more; the first that is at fault stays
 abbrev pub carry : StoredObject → Carried → Carried
@@ -189,53 +215,58 @@ carry object (Err bad) = Err bad
 carry object (Ok objects) = if is_object object then Ok (with_object object objects) else Err object
 
 pub data PushState : Type 0 where
-  commanding : List CommandText → PushState
-  streaming : List CommandText → Gathered Carried → PushState
+  commanding : HeadText → PushState
+  streaming : HeadText → Gathered Carried → PushState
+
+-- before the first line
+abbrev pub no_commands : HeadText
+no_commands = record { atomic = false; commands = [] }
 
 -- whether no command came before
 abbrev pub is_none_yet : List CommandText → Bool
 is_none_yet [] = true
 is_none_yet (c ∷ cs) = false
 
+abbrev pub with_command : HeadText → CommandText × Bool → HeadText
+with_command head found = record { atomic = head.atomic || found.1; commands = head.commands ++ found.0 ∷ [] }
+
 -- one more command, where there is room for it
-abbrev pub one_more : ℕ → List CommandText → Option CommandText → Result (Stepped PushState PushText) PktFault
-one_more number commands None = Err (BadRecord number)
-one_more number commands (Some command) = if nat_lt (length commands) max_commands then Ok (onward (commanding (commands ++ command ∷ []))) else Err TooMany
+abbrev pub one_more : ℕ → HeadText → Option (CommandText × Bool) → Result (Stepped PushState PushText) PktFault
+one_more number head None = Err (BadRecord number)
+one_more number head (Some found) = if nat_lt (length head.commands) max_commands then Ok (onward (commanding (with_command head found))) else Err TooMany
 
--- the flush behind the commands, of which there is one or more
-abbrev pub flushed : List CommandText → Result (Stepped PushState PushText) PktFault
-flushed commands =
-    if only_deletes commands then Ok (complete (record { commands = commands; carried = Ok [] }))
-    else Ok (onward (streaming commands (record { set = Ok []; progress = between })))
+-- the flush after the commands, of which there is one or more
+abbrev pub flushed : HeadText → Result (Stepped PushState PushText) PktFault
+flushed head =
+    if only_deletes head.commands then Ok (complete (with_carried head (Ok [])))
+    else Ok (onward (streaming head (record { set = Ok []; progress = between })))
 
-abbrev pub commands_end : ℕ → List CommandText → Result (Stepped PushState PushText) PktFault
-commands_end number [] = Err (BadRecord number)
-commands_end number (c ∷ cs) = flushed (c ∷ cs)
+abbrev pub commands_end : ℕ → HeadText → Result (Stepped PushState PushText) PktFault
+commands_end number head = if is_none_yet head.commands then Err (BadRecord number) else flushed head
 
-abbrev pub with_commands : List CommandText → Result (Stepped (Gathered Carried) Carried) PktFault → Result (Stepped PushState PushText) PktFault
-with_commands commands (Err fault) = Err fault
-with_commands commands (Ok (onward state)) = Ok (onward (streaming commands state))
-with_commands commands (Ok (complete carried)) = Ok (complete (record { commands = commands; carried = carried }))
+abbrev pub with_commands : HeadText → Result (Stepped (Gathered Carried) Carried) PktFault → Result (Stepped PushState PushText) PktFault
+with_commands head (Err fault) = Err fault
+with_commands head (Ok (onward state)) = Ok (onward (streaming head state))
+with_commands head (Ok (complete carried)) = Ok (complete (with_carried head carried))
 
 abbrev pub push_step : Steps PushState PushText
-push_step number (commanding commands) flush = commands_end number commands
-push_step number (commanding commands) (text line) = one_more number commands (command_line (is_none_yet commands) line)
-push_step number (streaming commands state) line = with_commands commands (gather_step carry is_any number state line)
+push_step number (commanding head) flush = commands_end number head
+push_step number (commanding head) (text line) = one_more number head (command_line (is_none_yet head.commands) line)
+push_step number (streaming head state) line = with_commands head (gather_step carry is_any number state line)
 
-one_more_own : (number : ℕ) (commands : List CommandText) (found : Option CommandText) → IsOwnFault (one_more number commands found)
-one_more_own number commands None = tt
-one_more_own number commands (Some command) = either_own (nat_lt (length commands) max_commands) _ _ tt tt
+one_more_own : (number : ℕ) (head : HeadText) (found : Option (CommandText × Bool)) → IsOwnFault (one_more number head found)
+one_more_own number head None = tt
+one_more_own number head (Some found) = either_own (nat_lt (length head.commands) max_commands) _ _ tt tt
 
-commands_end_own : (number : ℕ) (commands : List CommandText) → IsOwnFault (commands_end number commands)
-commands_end_own number [] = tt
-commands_end_own number (c ∷ cs) = either_own (only_deletes (c ∷ cs)) _ _ tt tt
+commands_end_own : (number : ℕ) (head : HeadText) → IsOwnFault (commands_end number head)
+commands_end_own number head = either_own (is_none_yet head.commands) _ _ tt (either_own (only_deletes head.commands) _ _ tt tt)
 
-with_commands_own : (commands : List CommandText) (r : Result (Stepped (Gathered Carried) Carried) PktFault) → IsOwnFault r → IsOwnFault (with_commands commands r)
-with_commands_own commands (Err fault) own = own
-with_commands_own commands (Ok (onward state)) own = tt
-with_commands_own commands (Ok (complete carried)) own = tt
+with_commands_own : (head : HeadText) (r : Result (Stepped (Gathered Carried) Carried) PktFault) → IsOwnFault r → IsOwnFault (with_commands head r)
+with_commands_own head (Err fault) own = own
+with_commands_own head (Ok (onward state)) own = tt
+with_commands_own head (Ok (complete carried)) own = tt
 
 pub push_step_own : (number : ℕ) (state : PushState) (line : LineText) → IsOwnFault (push_step number state line)
-push_step_own number (commanding commands) flush = commands_end_own number commands
-push_step_own number (commanding commands) (text line) = one_more_own number commands (command_line (is_none_yet commands) line)
-push_step_own number (streaming commands state) line = with_commands_own commands (gather_step carry is_any number state line) (gather_step_own carry is_any number state line)
+push_step_own number (commanding head) flush = commands_end_own number head
+push_step_own number (commanding head) (text line) = one_more_own number head (command_line (is_none_yet head.commands) line)
+push_step_own number (streaming head state) line = with_commands_own head (gather_step carry is_any number state line) (gather_step_own carry is_any number state line)

@@ -73,7 +73,7 @@ first_new_id [] = None
 first_new_id (flush ∷ lines) = first_new_id lines
 first_new_id (text line ∷ lines) = or_else (new_id line) (first_new_id lines)
 
--- a first line, and the options behind it, that tell this of a command: an accepted one has its new id, or zeros without one
+-- a first line, and the options after it, that tell this of a command: an accepted one has its new id, or zeros without one
 abbrev pub IsToldBy : List ℕ → Result ObjectId (List ℕ) → List ℕ → List LineText → Type 0
 IsToldBy name (Ok id) line options = IsOkLine name line × AreOptions options × (id ≡ unwrap_or (first_new_id options) zero_id)
 IsToldBy name (Err reason) line options = IsNgLine name reason line × (options ≡ [])
@@ -227,7 +227,7 @@ said line =
 abbrev pub told_more : List ToldText → Result (Stepped ReportState ReportText) PktFault → Result (Stepped ReportState ReportText) PktFault
 told_more told next = if nat_lt (length told) max_commands then next else Err TooMany
 
--- an option counts only behind an accepted command, and the first new id alone
+-- an option counts only after an accepted command, and the first new id alone
 abbrev pub opted : ℕ → Option (List ℕ) → List ToldText → Option Pending → Option ObjectId → Result (Stepped ReportState ReportText) PktFault
 opted number unpack told None new = Err (BadRecord number)
 opted number unpack told (Some p) new = Ok (onward (telling unpack told (Some (record { name = p.name; new = or_else p.new new }))))

@@ -13,7 +13,7 @@ mod reason;
 mod report;
 mod report_reader;
 
-pub use command::{Command, MAX_COMMANDS};
+pub use command::{Command, MAX_COMMANDS, PushHead};
 pub use laws::{one_reason, written_push_is_read, written_report_is_read};
 pub use push::{Push, PushReader, PushStream};
 pub use reason::Reason;

@@ -1,16 +1,16 @@
 //! The message by which a clone asks the shared node to change refs.
 
-ghost use Rattle.std.specs.Prelude.{◌≡◌, ◌++◌, [], Ok, OnOk, IfOk, IfErr};
+ghost use Rattle.std.specs.Prelude.{◌≡◌, ◌++◌, Ok, OnOk, IfOk, IfErr};
 ghost use Rattle.std.specs.List.{All, flat_map};
 ghost use Rattle.vc_pkt.specs.Line.{spelling};
 ghost use Rattle.vc_pkt.specs.Message.{IsSpelledBy, Refuses};
 ghost use Rattle.vc_pkt.specs.StepView.{Gives};
 ghost use Rattle.vc_pkt.specs.StreamObjectView.{stored};
 ghost use Rattle.vc_pkt.specs.Written.{stream_lines};
-ghost use Rattle.vc_push.specs.Push.{FaultOf, IsShort, PushState, PushText, SpellsPush, brought, carry, commanding, push_lines, push_step, push_step_own};
+ghost use Rattle.vc_push.specs.Push.{FaultOf, IsShort, PushState, PushText, SpellsPush, brought, carry, commanding, no_commands, push_lines, push_step, push_step_own};
 ghost use Rattle.vc_push.specs.PushView.{carried_view, command_of, incoming_view, push_state, push_text};
 
-use crate::command::{Command, command_line, only_deletes, push_command, write_commands};
+use crate::command::{Command, PushHead, command_line, only_deletes, push_command, write_commands};
 use std::alloc::{AllocError, Global};
 use vc_fetch::is_object;
 use vc_object::{ObjectFault, check};
@@ -23,6 +23,8 @@ use vc_pkt::{
 /// The message that asks for refs to be changed, and brings the objects that they need.
 #[derive(Drop)]
 pub struct Push {
+    /// Whether all refs are to be set, or none.
+    pub atomic: bool,
     /// At least one, at most 256, where the message was read.
     pub commands: Vec<Command>,
     /// The objects, each with its body in the grammar of its kind; or the first in the stream whose body is not, and then
@@ -43,9 +45,9 @@ pub struct PushStream {
 #[derive(Drop)]
 pub enum PushReader {
     /// The flush has not come yet.
-    Commands(Vec<Command>),
+    Commands(PushHead),
     /// The commands, and some of the objects.
-    Objects(Vec<Command>, PushStream),
+    Objects(PushHead, PushStream),
 }
 
 /// One object more. The first that is at fault stays, and nothing else does then.
@@ -111,12 +113,15 @@ impl MessageReader for PushReader {
 
     ghost text_of = { push_text };
 
-    ghost start = { commanding [] };
+    ghost start = { commanding no_commands };
 
     ghost step = { push_step };
 
     fn new(alloc: Global) -> PushReader {
-        PushReader::Commands(Vec::new(alloc))
+        PushReader::Commands(PushHead {
+            atomic: false,
+            commands: Vec::new(alloc),
+        })
     }
 
     fn take(
@@ -126,41 +131,51 @@ impl MessageReader for PushReader {
         number: u64,
     ) -> Result<Step<PushReader, Push>, PktError> {
         match self {
-            PushReader::Commands(commands) => {
-                let mut commands = commands;
+            PushReader::Commands(head) => {
+                let mut head = head;
                 let Line::Data(data) = line else {
-                    if commands.is_empty() {
+                    if head.commands.is_empty() {
                         return Err(PktError::Refused(PktFault::BadRecord(number)));
                     }
-                    if only_deletes(&commands) {
+                    if only_deletes(&head.commands) {
+                        let PushHead { atomic, commands } = head;
                         let carried = Ok(CarriedObjects::new(alloc));
-                        return Ok(Step::Done(Push { commands, carried }));
+                        return Ok(Step::Done(Push {
+                            atomic,
+                            commands,
+                            carried,
+                        }));
                     }
                     let carried = Ok(IncomingObjects::new(alloc));
                     let progress = StreamProgress::Between;
                     let stream = PushStream { carried, progress };
-                    return Ok(Step::More(PushReader::Objects(commands, stream)));
+                    return Ok(Step::More(PushReader::Objects(head, stream)));
                 };
-                let found = command_line(commands.is_empty(), data);
-                push_command(alloc, &mut commands, found, number)?;
-                Ok(Step::More(PushReader::Commands(commands)))
+                let found = command_line(head.commands.is_empty(), data);
+                push_command(alloc, &mut head, found, number)?;
+                Ok(Step::More(PushReader::Commands(head)))
             }
-            PushReader::Objects(commands, stream) => {
+            PushReader::Objects(head, stream) => {
                 let PushStream { carried, progress } = stream;
                 match take_object_line(alloc, progress, line, number)? {
                     ObjectStep::More(progress) => {
                         let stream = PushStream { carried, progress };
-                        Ok(Step::More(PushReader::Objects(commands, stream)))
+                        Ok(Step::More(PushReader::Objects(head, stream)))
                     }
                     ObjectStep::Object(_, object) => {
                         let carried = carry(alloc, carried, object)?;
                         let progress = StreamProgress::Between;
                         let stream = PushStream { carried, progress };
-                        Ok(Step::More(PushReader::Objects(commands, stream)))
+                        Ok(Step::More(PushReader::Objects(head, stream)))
                     }
                     ObjectStep::End => {
                         let carried = all_carried(alloc, carried)?;
-                        Ok(Step::Done(Push { commands, carried }))
+                        let PushHead { atomic, commands } = head;
+                        Ok(Step::Done(Push {
+                            atomic,
+                            commands,
+                            carried,
+                        }))
                     }
                 }
             }
@@ -177,19 +192,19 @@ impl Push {
     pub fn read(alloc: Global, bytes: &[u8]) -> Result<Push, PktError>
         ensures spelled { IfOk result (λ push. IsSpelledBy SpellsPush (push_text push) bytes.now) }
         ensures read { (push : PushText) → IsSpelledBy SpellsPush push bytes.now → Gives push_text result (Ok push) }
-        ensures refused { IfErr result (Refuses push_step (commanding []) bytes.now) }
+        ensures refused { IfErr result (Refuses push_step (commanding no_commands) bytes.now) }
     {
         read_message::<PushReader>(alloc, bytes)
     }
 
-    /// The message as it is written, its objects in order of name, and `report-status-v2` behind the first name. Each name has
-    /// at most 65,416 bytes, so that its line isn't too long.
+    /// The message as it is written, its objects in order of name, and `report-status-v2` after the first name, and then
+    /// `atomic` if all refs are to be set or none. Each name has at most 65,409 bytes, so that its line isn't too long.
     pub fn write(&self, alloc: Global) -> Result<Vec<u8>, AllocError>
         requires short { All (λ c. IsShort (command_of c)) self.now.commands.items }
         ensures { IfOk result (λ bytes. bytes.items ≡ flat_map spelling (push_lines (push_text self.now))) }
     {
         let mut bytes = Vec::new(alloc);
-        write_commands(&mut bytes, &self.commands)?;
+        write_commands(&mut bytes, self.atomic, &self.commands)?;
         write_flush(&mut bytes)?;
         if only_deletes(&self.commands) {
             return Ok(bytes);

@@ -6,7 +6,8 @@ ghost use Rattle.vc_push.specs.Reason.{reason_number, reason_of, reason_text, te
 /// Why a command is refused. own: the numbers and the texts, 101, and the bound in 100.
 ///
 /// The first that holds is told, in the order 109, 100 to 108, each at its moment: 109 when the push is taken, 100 to 105 at
-/// the check, 106 to 108 at the command's update.
+/// the check, 106 to 108 at the command's update. If none holds of a command of an atomic push, but one does of another command,
+/// its reason is 117.
 #[derive(Clone, Copy, Debug, PartialEq, Eq)]
 pub enum Reason {
     /// 100: the name is not UTF-8, not legal, or a branch's of over 246 bytes, which a clone could not track.
@@ -29,10 +30,12 @@ pub enum Reason {
     Stale = 108,
     /// 109: a carried body is out of its kind's grammar. Then every command has it.
     UnpackerError = 109,
+    /// 117: the push is atomic, and another of its commands is refused.
+    AtomicFailure = 117,
 }
 
 /// In the order of their numbers.
-const REASONS: [Reason; 10] = [
+const REASONS: [Reason; 11] = [
     Reason::BadName,
     Reason::OutsideRefs,
     Reason::DeletionProhibited,
@@ -43,10 +46,11 @@ const REASONS: [Reason; 10] = [
     Reason::NameConflict,
     Reason::Stale,
     Reason::UnpackerError,
+    Reason::AtomicFailure,
 ];
 
 impl Reason {
-    /// The number, 100 to 109.
+    /// The number, 100 to 109 or 117.
     pub fn number(self) -> u16
         ensures { result ≡ reason_number self }
     {
@@ -68,6 +72,7 @@ impl Reason {
             Reason::NameConflict => b"name conflict",
             Reason::Stale => b"stale",
             Reason::UnpackerError => b"unpacker error",
+            Reason::AtomicFailure => b"atomic push failure",
         }
     }
 

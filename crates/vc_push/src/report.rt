@@ -26,7 +26,7 @@ pub struct Told {
 /// The message that answers a push.
 #[derive(Drop)]
 pub struct Report {
-    /// None where all that was carried was taken (`unpack ok`); else the text behind `unpack `, as `error 8`.
+    /// None where all that was carried was taken (`unpack ok`); else the text after `unpack `, as `error 8`.
     pub unpack: Option<Vec<u8>>,
     /// What became of each command, in the order of the push. At most 256, where the message was read.
     pub told: Vec<Told>,
@@ -122,7 +122,7 @@ fn write_all(out: &mut Vec<u8>, all: &[Told]) -> Result<(), AllocError>
 
 impl Report {
     /// The message that is all of the bytes, or their first fault: 80 to 84, with 81 the number of its line from 0. A reason
-    /// is kept as its text. own: behind an accepted command any options may stand; the first `option new-oid` that is well
+    /// is kept as its text. own: after an accepted command any options may stand; the first `option new-oid` that is well
     /// formed is its new id, and all others are passed over.
     pub fn read(alloc: Global, bytes: &[u8]) -> Result<Report, PktError>
         ensures spelled { IfOk result (λ report. IsSpelledBy SpellsReport (report_text report) bytes.now) }

@@ -39,7 +39,7 @@ pub struct Telling {
 pub enum ReportReader {
     /// The first line has not come yet.
     Start,
-    /// It has come, and lines behind it.
+    /// It has come, and lines after it.
     Told(Telling),
 }
 
@@ -86,7 +86,7 @@ fn opted_by(line: &[u8]) -> LineSays<'_>
     LineSays::Opts(id_line(b"option new-oid ", line))
 }
 
-/// What a line says behind the first.
+/// What a line says after the first.
 #[tactic(auto, unfolding(crate::specs::Report::said))]
 fn said(line: &[u8]) -> LineSays<'_>
     ensures { said_view result ≡ said line.now }
@@ -203,7 +203,7 @@ impl Telling {
         })
     }
 
-    /// The line of a number behind the first.
+    /// The line of a number after the first.
     fn tell(self, alloc: Global, line: &[u8], number: u64) -> Result<Telling, PktError>
         ensures { Gives (λ t. onward (telling_state t)) result (told_by number (bytes_of self.unpack) (map told_of self.told.items) (option_map pending_of self.pending) (said line.now)) }
     {

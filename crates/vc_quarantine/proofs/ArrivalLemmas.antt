@@ -50,7 +50,7 @@ module _ (slot : ℕ) (names : List ObjectId) (os : List StoredObject) (o : Stor
           before.same id ∙ sym (named_behind id os o ∙ some_first (object_named id os) (cond (id_eq id (stored_name o)) (Some o) None) (subst (λ (found : Option StoredObject). IsSome found) (before.same id) there))
       by id false is = before.same id ∙ sym (named_behind id os o ∙ ap (λ b. option_or (object_named id os) (cond b (Some o) None)) is ∙ or_none (object_named id os))
 
--- and one that is put under its name, which goes behind the others
+-- and one that is put under its name, which goes after the others
 module _ (slot : ℕ) (names after : List ObjectId) (os : List StoredObject) (o : StoredObject) (from : (id : ObjectId) → Contains after id → Contains names id ⊎ (stored_name o ≡ id)) (stays : (id : ObjectId) → Contains names id → Contains after id)
     (there : Contains after (stored_name o)) (first : Contains names (stored_name o) → ⊥) (old new : FileMap) (put : (id : ObjectId) → quarantined new slot id ≡ cond (id_eq id (stored_name o)) (Some o) (quarantined old slot id)) (before : HoldsArrived old slot names os) where
   at : (id : ObjectId) (b : Bool) → id_eq id (stored_name o) ≡ b → quarantined new slot id ≡ cond b (Some o) (quarantined old slot id)
@@ -129,7 +129,7 @@ module _ (old : FileMap) (slot : ℕ) (names : List ObjectId) (fault : Option Ob
       one_bad o f (ap (carry o) is ∙ ap (λ (b : Bool). cond b (Ok (with_object o (with_objects [] os))) (Err o)) wrong) refl body refl dropped
   brought_bad new f none wrong body dropped (one_bad bad g is at other empty gone) = absurd (let both : ◌≡◌ {A = Option ObjectFault} None (Some g) = sym none ∙ at in cc both)
 
-  -- and whatever comes behind it
+  -- and whatever comes after it
   pub brought_after : IsSome fault → HasArrived old slot names fault carried → HasArrived old slot names fault (carry o carried)
   brought_after some (all_good os is all none brings) = absurd (true≢false (sym (subst (λ (found : Option ObjectFault). IsSome found) none some)))
   brought_after some (one_bad bad g is at body empty dropped) = one_bad bad g (ap (carry o) is) at body empty dropped

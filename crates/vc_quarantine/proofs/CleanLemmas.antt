@@ -15,13 +15,13 @@ use Rattle.vc_object.specs.ObjectId.{is_id}
 use Rattle.vc_object.specs.declared.id.ObjectId.{ObjectId}
 use Rattle.vc_object.specs.declared.kind.Kind.{Kind}
 use Rattle.vc_refs.proofs.LayeredLemmas.{bad-same, bad_place, good_absent}
-use Rattle.vc_refs.specs.Head.{KeepsTheRest}
+use Rattle.vc_refs.specs.Head.{KeepsOutside, KeepsTheRest}
 use Rattle.vc_refs.specs.Refs.{IsBadRef}
 use Rattle.vc_store.proofs.PathLemmas.{named_by_path}
 use Rattle.vc_object_map.specs.Store.{IsDamaged, object_path, stored_in}
 use Rattle.vc_object_map.specs.declared.faults.StoreFault.{StoreFault}
 use Rattle.vc_object_map.specs.declared.faults.StoreFault.TheVariants.{Absent, Damaged}
-use Rattle.vc_push_rules.proofs.FrameLemmas.{damage-of_ref, damage-of_slot, damage-same, ref_no_object, ref_not_there, slot_of}
+use Rattle.vc_push_rules.proofs.FrameLemmas.{damage-of_slot, damage-same, ref_no_object, ref_not_there, slot_of}
 use Rattle.vc_push_rules.proofs.QuarantineLemmas.{outside_put_there, put_there, same_path, same_place}
 use Rattle.vc_quarantine.specs.Clean.{IsQuarantineClean, MakesNoneBad}
 use Rattle.vc_push_rules.specs.Quarantine.{IsDamagedThere, IsDropped, OnlyLoses, quarantine_folder, quarantine_path}
@@ -91,13 +91,17 @@ bad_objects old new outside undamaged = record {
   quarantines = λ slot small id bad. damage_there-same old new slot id (outside.at (quarantine_path slot id.0) refl) bad;
 }
 
--- ---- a ref that is set
-pub bad_ref : (old new : FileMap) (name : List ℕ) → KeepsTheRest name old new → MakesNoneBad old new
-bad_ref old new name rest = record {
-  objects = damage-of_ref name old new rest;
-  refs = rest.outside.good;
-  quarantines = λ slot small id bad. damage_there-same old new slot id (rest.outside.at (quarantine_path slot id.0) refl refl) bad;
+-- ---- refs that are set
+pub bad_outside : (old new : FileMap) → KeepsOutside old new → MakesNoneBad old new
+bad_outside old new outside = record {
+  objects = λ id. damage-same old new id (outside.at (object_path id.0) refl refl);
+  refs = outside.good;
+  quarantines = λ slot small id bad. damage_there-same old new slot id (outside.at (quarantine_path slot id.0) refl refl) bad;
 }
+
+-- one alone
+pub bad_ref : (old new : FileMap) (name : List ℕ) → KeepsTheRest name old new → MakesNoneBad old new
+bad_ref old new name rest = bad_outside old new rest.outside
 
 -- ---- a quarantine with no bad file
 pub clean_dropped : (content : FileMap) (slot : ℕ) → IsDropped slot content → IsQuarantineClean content slot

@@ -18,7 +18,7 @@ pub record HoldsArrived (content : FileMap) (slot : ℕ) (names : List ObjectId)
   pub same : (id : ObjectId) → quarantined content slot id ≡ object_named id objects
   pub holds : HoldsNames content slot names
 
--- one more came, and is held behind those that were
+-- one more came, and is held after those that were
 abbrev pub HoldsMore : StoredObject → (slot : ℕ) → (old : FileMap) → List ObjectId → (new : FileMap) → List ObjectId → Type 0
 HoldsMore object slot old names new more = (before : List StoredObject) → HoldsArrived old slot names before → HoldsArrived new slot more (before ++ object ∷ [])
 

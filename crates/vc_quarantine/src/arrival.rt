@@ -16,7 +16,7 @@ use vc_files::{Fault, Files};
 use vc_object::{ObjectFault, ObjectId, check, name_of};
 use vc_pkt::StreamObject;
 
-// Puts an object that came into a slot's quarantine, and its name behind those that are there. Of two with one name the first
+// Puts an object that came into a slot's quarantine, and its name after those that are there. Of two with one name the first
 // stays. Where its body is not in the grammar of its kind, nothing is put there, and it is told why. No file becomes bad.
 fn keep_arrived<F: Files>(
     files: &mut F,

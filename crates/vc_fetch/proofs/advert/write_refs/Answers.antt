@@ -12,6 +12,6 @@ refs-init c =
     let same : entries (ref_ids c.args.refs.now) ≡ seen c.into_iter-name-iterator.result =
     entries-ref_ids c.args.refs.now c.into_iter-name-iterator.ensures.into_iter_gives.5 ∙ ap seen (sym c.into_iter-name-iterator.ensures.into_iter_gives.0) in (
       ap (λ es. c.args.out.now.items ++ flat_map spelling (ref_lines c.args.tail.now es)) (sym same),
-      subst (λ (es : List Ref). AllByRecursion (λ (ref : Ref). length ref.0 ≤ 65457) es) same c.requires.short,
+      subst (λ (es : List Ref). AllByRecursion (λ (ref : Ref). length ref.0 ≤ 65450) es) same c.requires.short,
       c.requires.tail,
     )

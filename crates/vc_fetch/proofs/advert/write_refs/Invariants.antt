@@ -11,5 +11,5 @@ use Rattle.vc_fetch.proofs.advert.write_refs.Given as goal
 abbrev pub invariant-refs : goal.invariant-refs
 invariant-refs l =
     (l.out.items ++ flat_map spelling (ref_lines l.tail (seen l.name-iterator)) ≡ l.fn.out.items ++ flat_map spelling (ref_lines l.fn.tail (entries (ref_ids l.refs))))
-    × AllByRecursion (λ (ref : Ref). length ref.0 ≤ 65457) (seen l.name-iterator)
-    × (length l.tail ≤ 17)
+    × AllByRecursion (λ (ref : Ref). length ref.0 ≤ 65450) (seen l.name-iterator)
+    × (length l.tail ≤ 24)

@@ -3,7 +3,7 @@ use Rattle.vc_message.specs.AnyView.{message_text}
 use Rattle.vc_message.specs.Streaming.{of_pack, of_push, text_of}
 use Rattle.vc_message.proofs.SourceLaws.{ok_is_no_error, tells_error, tells_ok, tells_then}
 use Rattle.vc_message.proofs.skipping.skip_message.Goals as goal
-use Rattle.vc_push.specs.PushView.{commands_of}
+use Rattle.vc_push.specs.PushView.{head_text}
 
 pub returns-in-Message-clause-message : goal.returns-in-Message-clause-message
 returns-in-Message-clause-message g c = (message_text c.in-Message.field-0, rw c.in-Message.is at (rw c.in-Some.is at c.in_ok-found.ensures.head))
@@ -11,9 +11,9 @@ returns-in-Message-clause-message g c = (message_text c.in-Message.field-0, rw c
 pub returns-in-Push-clause-message : goal.returns-in-Push-clause-message
 returns-in-Push-clause-message g c =
     let so = rw c.in-Push.is at (rw c.in-Some.is at c.in_ok-found.ensures.head) in
-    let commands = commands_of c.in-Push.field-0.items in
-    let all = c.in_ok-skip_push-in-Push.ensures.end (g.R.Source.remaining c.args.reader.now) commands so in
-    (text_of (of_push commands all.0), all.1)
+    let head = head_text c.in-Push.field-0 in
+    let all = c.in_ok-skip_push-in-Push.ensures.end (g.R.Source.remaining c.args.reader.now) head so in
+    (text_of (of_push head all.0), all.1)
 
 pub returns-clause-message : goal.returns-clause-message
 returns-clause-message g c =

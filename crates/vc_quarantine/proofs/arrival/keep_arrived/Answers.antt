@@ -1,20 +1,17 @@
-use Rattle.std.proofs.Common.{arith, rules, ◌≡◌, ℕ, ◌∷◌, [], List, true, false, sym, ap, subst, refl, ◌∙◌, Result, Ok, Err, true≢false}
+use Rattle.std.proofs.Common.{arith, rules, ◌≡◌, ℕ, List, true, false, sym, ap, subst, refl, ◌∙◌, Result, Ok, Err, true≢false}
 use Rattle.std.specs.Prelude.{Contains, IsOk}
 use Rattle.std.specs.List.{list_any}
 use Rattle.std.proofs.lemmas.Map.Views.{Contains-from_any, list_any-from_Contains}
-use Rattle.indexmap.proofs.CallerLemmas.{Contains-insert_key}
 use Rattle.indexmap.specs.IndexSet.{insert_key}
 use Rattle.vc_fetch.proofs.Packs.{ok_object, err_object}
 use Rattle.vc_fetch.specs.Pack.{is_object}
-use Rattle.vc_object_map.proofs.WalkLemmas.{Contains-insert_all_old, Contains-insert_key_cases}
 use Rattle.vc_object.proofs.IdLemmas.{id_eq-same, id_eq_equiv}
-use Rattle.vc_object.specs.Decoding.{StoredObject, stored_object}
+use Rattle.vc_object.specs.Decoding.{stored_object}
 use Rattle.vc_object.specs.Object.{IsObject, object_name}
 use Rattle.vc_object.specs.ObjectFault.{BodyFault}
 use Rattle.vc_object.specs.declared.fault.ObjectFault.{ObjectFault}
 use Rattle.vc_object.specs.declared.object.Object.{Object}
 use Rattle.vc_object.specs.ObjectId.{id_eq}
-use Rattle.vc_object.specs.declared.id.ObjectId.{ObjectId}
 use Rattle.vc_object.specs.declared.kind.Kind.{Kind}
 use Rattle.vc_pkt.specs.Carried.{stored_name}
 use Rattle.vc_pkt.specs.StreamObjectView.{stored}

@@ -16,5 +16,5 @@ pub returns-clause-short : goal.returns-clause-short
 returns-clause-short c = λ few all.
     let key : c.in_ok-to_vec.field-0.items ≡ c.args.name.now = search rules in
     let refs = ref_ids-set c.args.self.now.refs c.insert.new.self c.in_ok-to_vec.field-0.items c.args.id c.in_ok-insert.ensures.updates in
-    subst (λ (m : RefIds). AllByRecursion (λ (ref : Ref). length ref.0 ≤ 65457) (entries m)) (sym (refs ∙ ap (λ k. insert (ref_ids c.args.self.now.refs) k c.args.id) key))
+    subst (λ (m : RefIds). AllByRecursion (λ (ref : Ref). length ref.0 ≤ 65450) (entries m)) (sym (refs ∙ ap (λ k. insert (ref_ids c.args.self.now.refs) k c.args.id) key))
     (short_insert (ref_ids c.args.self.now.refs) c.args.name.now c.args.id few all)

@@ -1,0 +1,12 @@
+use Rattle.std.proofs.Common.{rules, tests, ◌==◌}
+use Rattle.std.specs.Prelude.{codes}
+use Rattle.std.specs.Str.{bytes_eq}
+use Rattle.std.proofs.lemmas.Iterator.Search.{any_from_yields_List}
+use Rattle.std.proofs.lemmas.Iterator.Splits.{YieldsList-from_slice_split}
+use Rattle.vc_push.proofs.command.asks_atomic.Goals as goal
+
+pub returns : goal.returns
+returns c =
+    any_from_yields_List (λ word. bytes_eq word (codes "atomic")) _ _ _ c.any.ensures.ran
+    (YieldsList-from_slice_split _ (λ byte. byte == 32) c.args.capabilities.now c.split.ensures.rest c.split.ensures.done c.split.ensures.closure (λ x b q k. search (rules, tests)))
+    (λ x b q k. search (rules, tests))
