@@ -4,7 +4,7 @@ use Rattle.std.specs.Option.{option_and_then}
 use Rattle.std.specs.FinMap.{get}
 use Rattle.vc_model.specs.Object.{Id, Format, stored}
 use Rattle.vc_model.specs.Reach.{IsClosed, IsAncestorAmong}
-use Rattle.vc_model.specs.Refs.{RefName, branch, tracking, with_refs}
+use Rattle.vc_model.specs.Refs.{RefName, Refs, branch, tracking, with_refs}
 use Rattle.vc_model.specs.Repository.{Repository, IsSound, IsBare}
 use Rattle.vc_model.specs.Clone.{CloneNode}
 use Rattle.vc_model.specs.Shared.{head_value}
@@ -45,6 +45,22 @@ AncestorEver fmt start h a b = IsAncestorAmong fmt (Occurs start h) a b
 abbrev pub Comparable : Format → World → History → Id → Id → Type 0
 Comparable fmt start h a b = AncestorEver fmt start h a b ⊎ AncestorEver fmt start h b a
 
+-- The refs are as they were, or as they are after all commands of the push are set: none is set without the others.
+abbrev pub AreSetTogether : OpenPush → Refs → Refs → Type 0
+AreSetTogether p old new = (new ≡ old) ⊎ (new ≡ with_refs (map new_value p.commands) old)
+
+-- A guarded run, which a run is whatever bytes came to whom. An earlier moment is what is left of it without some of its front.
+pub record IsGuarded (fmt : Format) (start : World) (h : History) : Type 0 where
+  -- at each moment each node's objects are closed under all its refs and its HEAD
+  pub closed : (late early : History) → h ≡ late ++ early → EveryNodeClosed fmt (world_after start early)
+  -- a branch that has a value has one at every later moment, of which the first is an ancestor
+  pub monotone : (later late early : History) (b : List ℕ) (x : Id) → h ≡ later ++ (late ++ early) → branch_value (world_after start early) b ≡ Some x →
+      (y : Id) × (branch_value (world_after start (late ++ early)) b ≡ Some y) × AncestorEver fmt start h x y
+  -- a step of an atomic push at the shared node sets all its refs there or none, also if a stop cuts it short
+  pub together : (late early : History) (m : Moment) (slots : Slots) (s : ℕ) (p : OpenPush) → h ≡ late ++ (m ∷ early) →
+      (world_after start early).shared.live ≡ Some slots → get slots s ≡ Some p → p.atomic ≡ true → m.event ≡ StepPush s →
+      AreSetTogether p (world_after start early).shared.repository.refs m.world.shared.repository.refs
+
 -- A safe run. An earlier moment is what is left of it without some of its front.
 pub record IsSafe (fmt : Format) (start : World) (h : History) : Type 0 where
   -- at each moment each node's objects are closed under all its refs and its HEAD
@@ -59,6 +75,10 @@ pub record IsSafe (fmt : Format) (start : World) (h : History) : Type 0 where
 -- Every run of a new world is safe.
 abbrev pub EveryRunIsSafe : Type 0
 EveryRunIsSafe = (fmt : Format) (n : ℕ) (start : World) (h : History) → IsNew start n → Run fmt start h → NoCollision fmt start h → NothingForgedToClones h → IsSafe fmt start h
+
+-- Every run from sound nodes is guarded.
+abbrev pub EveryRunIsGuarded : Type 0
+EveryRunIsGuarded = (fmt : Format) (start : World) (h : History) → StartsSound fmt start → Run fmt start h → NoCollision fmt start h → IsGuarded fmt start h
 
 -- At each moment each node is closed under its refs and HEAD.
 abbrev pub Closed : Type 0
@@ -86,12 +106,11 @@ Steady = (fmt : Format) (start : World) (late early : History) (c : ℕ) (b : Li
     tracking_value (world_after start early) c b ≡ Some x →
     (y : Id) × (tracking_value (world_after start (late ++ early)) c b ≡ Some y) × AncestorEver fmt start (late ++ early) x y
 
--- A step of an atomic push leaves the refs of the shared node as they were, or with all of its commands' new values, also where it is cut by a stop.
+-- A step of an atomic push leaves the refs of the shared node as they were, or with all of its commands' new values, also if a stop cuts it short.
 abbrev pub Together : Type 0
 Together = (fmt : Format) (start : World) (m : Moment) (h : History) (slots : Slots) (s : ℕ) (p : OpenPush) →
     Run fmt start (m ∷ h) → (world_after start h).shared.live ≡ Some slots → get slots s ≡ Some p → p.atomic ≡ true → m.event ≡ StepPush s →
-    (m.world.shared.repository.refs ≡ (world_after start h).shared.repository.refs)
-    ⊎ (m.world.shared.repository.refs ≡ with_refs (map new_value p.commands) (world_after start h).shared.repository.refs)
+    AreSetTogether p (world_after start h).shared.repository.refs m.world.shared.repository.refs
 
 -- A new world starts sound.
 abbrev pub NewIsSound : Type 0

@@ -2,7 +2,7 @@
 
 ghost use Rattle.vc_model.specs.Apart.{RefsStayApart};
 ghost use Rattle.vc_model.specs.Race.{TheRace};
-ghost use Rattle.vc_model.specs.Safe.{EveryRunIsSafe, Closed, StaysSound, Monotone, HonestTracking, InLine, Steady, Together, NewIsSound, ARunExists};
+ghost use Rattle.vc_model.specs.Safe.{EveryRunIsSafe, EveryRunIsGuarded, Closed, StaysSound, Monotone, HonestTracking, InLine, Steady, Together, NewIsSound, ARunExists};
 
 /// Every run of a new world is safe: each node has all that its refs and HEAD reach, a branch of the shared node
 /// only moves to descendants, and what a clone knows as a branch's value was its value.
@@ -11,6 +11,12 @@ ghost use Rattle.vc_model.specs.Safe.{EveryRunIsSafe, Closed, StaysSound, Monoto
 /// anyone may come to the shared node. The functions below state each part by itself, from the weakest premises.
 pub fn every_run_is_safe()
     ensures { EveryRunIsSafe }
+{}
+
+/// Every run from sound nodes is guarded, whoever forges what to whom: each node has all that its refs and HEAD reach, a
+/// branch of the shared node only moves to descendants, and the refs of an atomic push are set together or not at all.
+pub fn every_run_is_guarded()
+    ensures { EveryRunIsGuarded }
 {}
 
 /// At each moment, also while it is down, each node's objects are closed under all its refs and its HEAD: what they

@@ -92,15 +92,15 @@ module _ (name : List ℕ) (old new : FileMap) (rest : KeepsTheRest name old new
   pub objects-of_ref : (id : ObjectId) → objects new id ≡ objects old id
   objects-of_ref id = objects-same old new id (rest.outside.at (object_path id.0) refl refl)
 
-  pub damage-of_ref : (id : ObjectId) → IsDamaged new id → IsDamaged old id
-  damage-of_ref id = damage-same old new id (rest.outside.at (object_path id.0) refl refl)
-
   pub quarantined-of_ref : (slot : ℕ) (id : ObjectId) → quarantined new slot id ≡ quarantined old slot id
   quarantined-of_ref slot id = same_at old new slot id (λ _. rest.outside.at (quarantine_path slot id.0) refl refl)
 
 -- ---- a change of the files in which refs stand
 pub objects-of_packed : (old new : FileMap) → KeepsOutside old new → (id : ObjectId) → objects new id ≡ objects old id
 objects-of_packed old new rest id = objects-same old new id (rest.at (object_path id.0) refl refl)
+
+pub quarantined-of_packed : (old new : FileMap) → KeepsOutside old new → (slot : ℕ) (id : ObjectId) → quarantined new slot id ≡ quarantined old slot id
+quarantined-of_packed old new rest slot id = same_at old new slot id (λ _. rest.at (quarantine_path slot id.0) refl refl)
 
 -- an empty folder holds nothing
 pub dropped-none : (content : FileMap) (slot : ℕ) → IsDropped slot content → (id : ObjectId) → quarantined content slot id ≡ None

@@ -3,3 +3,4 @@ pub mod QuarantineLemmas
 pub mod FrameLemmas
 pub mod CarryingLemmas
 pub mod VerdictLemmas
+pub mod TurnLemmas

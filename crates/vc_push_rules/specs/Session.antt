@@ -1,6 +1,6 @@
 -- One open push, from the moment that it is taken to its report.
 use Rattle.std.specs.Prelude.{◌≡◌, ℕ, Bool, true, false, List, ◌∷◌, length, Option, Some, None, if◌then◌else◌}
-use Rattle.std.specs.List.{list_any}
+use Rattle.std.specs.List.{list_all, list_any}
 use Rattle.vc_object.specs.declared.fault.ObjectFault.{ObjectFault}
 use Rattle.vc_object.specs.declared.id.ObjectId.{ObjectId}
 use Rattle.vc_push.specs.Push.{CommandText}
@@ -50,11 +50,15 @@ MayBeSetWhere (c ∷ cs) (Passing ∷ vs) = MayBeSet c.name × MayBeSetWhere cs 
 MayBeSetWhere (c ∷ cs) (v ∷ vs) = MayBeSetWhere cs vs
 MayBeSetWhere _ _ = Unit {0}
 
--- between the check and the end a command passes; at the end none does
+-- of an atomic push each command passes
+abbrev pub AllPassTogether : SessionText → Type 0
+AllPassTogether s = s.atomic ≡ true → list_all is_passing s.verdicts ≡ true
+
+-- between the check and the end a command passes, or each one if the push is atomic; at the end none does
 abbrev pub IsInStage : SessionText → Stage → Type 0
 IsInStage s Unpacked = Unit {0}
-IsInStage s Checked = MayBeSetWhere s.commands s.verdicts × (list_any is_passing s.verdicts ≡ true)
-IsInStage s Migrated = MayBeSetWhere s.commands s.verdicts × (list_any is_passing s.verdicts ≡ true)
+IsInStage s Checked = MayBeSetWhere s.commands s.verdicts × (list_any is_passing s.verdicts ≡ true) × AllPassTogether s
+IsInStage s Migrated = MayBeSetWhere s.commands s.verdicts × (list_any is_passing s.verdicts ≡ true) × AllPassTogether s
 IsInStage s Done = list_any is_passing s.verdicts ≡ false
 
 -- what holds of every session

@@ -8,7 +8,8 @@ pub enum Stage {
     Unpacked,
     /// A command passed the check. What is carried is stored next.
     Checked,
-    /// What was carried is stored. The commands that passed are judged at their updates, one a step.
+    /// What was carried is stored. The commands that passed are judged at their updates, one a step, or all in one step if the
+    /// push is atomic.
     Migrated,
     /// Every command is judged. The report is given next.
     Done,
@@ -34,6 +35,10 @@ pub enum Stepped {
     Migrated,
     /// The ref of this name was set, or why it was not.
     Updated(Vec<u8>, Option<Reason>),
+    /// The refs of all commands of an atomic push were set, so many.
+    Atomic(u64),
+    /// No ref of an atomic push was set: the name of the first command that has a cause of its own, and that cause.
+    AtomicRefused(Vec<u8>, Reason),
     /// All is judged and told, and the quarantine is empty.
     Finished(Report),
 }

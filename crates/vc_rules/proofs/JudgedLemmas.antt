@@ -13,7 +13,7 @@ use Rattle.vc_push.specs.Push.{CommandText}
 use Rattle.vc_push.specs.Reason.{reason_number}
 use Rattle.vc_push.specs.Report.{ToldText}
 use Rattle.vc_push.specs.declared.reason.Reason.{Reason}
-use Rattle.vc_push.specs.declared.reason.Reason.TheVariants.{BadName, OutsideRefs, DeletionProhibited, MissingObjects, NotACommit, NonFastForward, AlreadyExists, NameConflict, Stale, UnpackerError}
+use Rattle.vc_push.specs.declared.reason.Reason.TheVariants.{BadName, OutsideRefs, DeletionProhibited, MissingObjects, NotACommit, NonFastForward, AlreadyExists, NameConflict, Stale, UnpackerError, AtomicFailure}
 use Rattle.vc_push_rules.specs.Session.{is_passing, stage_while}
 use Rattle.vc_push_rules.specs.Steps.{Checks, ChecksAll, Tells, TellsAll}
 use Rattle.vc_push_rules.specs.declared.stage.Stage.{Stage}
@@ -26,12 +26,12 @@ use Rattle.vc_rules.specs.Verdicts.{AreFoundAt, machine_command, machine_reason}
 use Rattle.vc_rules.proofs.VerdictLaws.{checks_agree}
 
 -- ---- those that pass
-passes : (c : CommandText) (v : Verdict) → machine.is_passing (record { command = machine_command c; verdict = machine_standing v }) ≡ is_passing v
+pub passes : (c : CommandText) (v : Verdict) → machine.is_passing (record { command = machine_command c; verdict = machine_standing v }) ≡ is_passing v
 passes c Passing = refl
 passes c Accepted = refl
 passes c (Refused r) = refl
 
-less : (m n : ℕ) → suc m ≡ suc n → m ≡ n
+pub less : (m n : ℕ) → suc m ≡ suc n → m ≡ n
 less m n e = cc
 
 pub any_judged : (cs : List CommandText) (vs : List Verdict) → length vs ≡ length cs → list_any machine.is_passing (judged_commands cs vs) ≡ list_any is_passing vs
@@ -107,6 +107,7 @@ number AlreadyExists = refl
 number NameConflict = refl
 number Stale = refl
 number UnpackerError = refl
+number AtomicFailure = refl
 
 tells : (c : CommandText) (v : Verdict) (text : ToldText) → Tells c v text → (t : Told) × shared.Tells (record { command = machine_command c; verdict = machine_standing v }) t × IsToldAs text t
 tells c Passing text h = absurd h

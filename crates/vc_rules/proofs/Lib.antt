@@ -8,6 +8,7 @@ pub mod JoinLemmas
 pub mod UpdateLaws
 pub mod TurnLaws
 pub mod JudgedLemmas
+pub mod TogetherLaws
 pub mod CarriedLemmas
 pub mod OpenPushLaws
 pub mod WritingLaws

@@ -2,6 +2,7 @@
 use Rattle.std.proofs.Common.{◌≡◌, ◌⊎◌, inl, inr, ℕ, suc, List, ◌∷◌, map, length, drop, Option, Some, None, Bool, true, false, cond, refl, ap, sym, ◌∙◌, subst, []}
 use Rattle.std.specs.Prelude.{option_map, is_some, is_none, IsSome, Ok, Err}
 use Rattle.std.specs.FinMap.{empty, get, get-empty}
+use Rattle.std.specs.List.{list_all}
 use Rattle.std.specs.Option.{option_or}
 use Rattle.std.specs.Ordering.{nat_cmp}
 use Rattle.std.specs.Cmp.Lexicographic.{slice_cmp}
@@ -9,13 +10,14 @@ use Rattle.vc_files.specs.FileMap.{FileMap, SameOutside}
 use Rattle.vc_format.specs.Git.{id_of_bytes}
 use Rattle.vc_object_map.specs.Overlay.{with_carried}
 use Rattle.vc_model.specs.Node.{Reply}
-use Rattle.vc_model.specs.Node.Reply.{Passed, MigratedAll, Updated}
-use Rattle.vc_model.specs.Object.{Id, Object, Objects, stored, over}
+use Rattle.vc_model.specs.Node.Reply.{Passed, MigratedAll, Updated, UpdatedAll, RefusedAll}
+use Rattle.vc_model.specs.Object.{Id, Object, Objects, over}
 use Rattle.vc_model.specs.Push as machine
 use Rattle.vc_model.specs.Push.{OpenPush, Judged}
 use Rattle.vc_model.specs.Push.Stage.{Checked as MachineChecked, Migrated as MachineMigrated, Finished}
 use Rattle.vc_model.specs.Refs.{RefName}
 use Rattle.vc_model.specs.Repository.{Change, Repository, IsSound, changed_all, no_effect, only_changes, with_objects}
+use Rattle.vc_model.specs.Repository.Change.{SetRefs}
 use Rattle.vc_model.specs.Shared as shared
 use Rattle.vc_model.proofs.Maps.{none_added}
 use Rattle.vc_object.specs.Decoding.{StoredObject}
@@ -29,25 +31,28 @@ use Rattle.vc_refs.specs.Head.{KeepsTheRest}
 use Rattle.vc_refs.specs.RefMap.{RefMap}
 use Rattle.vc_refs.specs.Refs.{refs}
 use Rattle.vc_object_map.specs.Store.{objects}
-use Rattle.vc_push_rules.proofs.FrameLemmas.{objects-of_packed, objects-of_ref, objects-of_slot, quarantined-of_ref, quarantined-of_slot, refs-of_objects, refs-of_slot}
+use Rattle.vc_push_rules.proofs.FrameLemmas.{objects-of_packed, objects-of_ref, objects-of_slot, quarantined-of_packed, quarantined-of_ref, quarantined-of_slot, refs-of_objects, refs-of_slot}
 use Rattle.vc_push_rules.proofs.QuarantineLemmas.{quarantined-same}
+use Rattle.vc_push_rules.proofs.TurnLemmas.{some_refused}
 use Rattle.vc_push_rules.specs.Carrying.{HoldsNames, objects_of_push}
 use Rattle.vc_push_rules.specs.Quarantine.{objects_seen, quarantine_folder, quarantined}
 use Rattle.vc_push_rules.specs.Session.{IsSession, SessionText, fresh, stage_while, verdict_of}
-use Rattle.vc_push_rules.specs.Steps.{EndsEarly, EndsUpdate, StepChecks, StepFinishes, StepMigrates, StepUpdates, fault_number, unpack_of}
+use Rattle.vc_push_rules.specs.Steps.{names_of, EndsEarly, EndsUpdate, StepChecks, StepFinishes, StepMigrates, StepRefusesAll, StepSetsAll, StepUpdates, fault_number, unpack_of}
+use Rattle.vc_push_rules.specs.Turn.{all_pass, refused_by}
 use Rattle.vc_push_rules.specs.Verdict.{refs_after}
 use Rattle.vc_push_rules.specs.declared.stage.Stage.{Stage}
 use Rattle.vc_push_rules.specs.declared.stage.Stage.TheVariants.{Unpacked, Checked, Migrated, Done as AtItsEnd}
 use Rattle.vc_push_rules.specs.declared.stage.Stepped.TheVariants as stepped
 use Rattle.vc_push_rules.specs.declared.stage.Verdict.{Verdict}
-use Rattle.vc_push_rules.specs.declared.stage.Verdict.TheVariants.{Passing}
+use Rattle.vc_push_rules.specs.declared.stage.Verdict.TheVariants.{Passing, Accepted}
 use Rattle.vc_rules.specs.Git.{git, stored_of}
 use Rattle.vc_rules.specs.OpenPushes.{EndsEarlyAgree, HoldsContent, HoldsPush, IsPushEnd, IsPushStep, IsStop, OpensAgree, OthersStay, StepsAgree, judged_commands, machine_stage, machine_standing}
 use Rattle.vc_rules.specs.Verdicts.{AreFoundAt, machine_command, machine_reason}
 use Rattle.vc_rules.proofs.JoinLemmas.{joined, joined_all, joined_some, joined_where, joined_where_each}
-use Rattle.vc_rules.proofs.JudgedLemmas.{checks_all, count_judged, none_judged, split_judged, stage_judged, tells_all}
+use Rattle.vc_rules.proofs.JudgedLemmas.{any_judged, count_judged, none_judged, split_judged, stage_judged, tells_all}
 use Rattle.vc_rules.proofs.RefLemmas.{set_rel}
 use Rattle.vc_rules.proofs.SoundLemmas.{seen_sound}
+use Rattle.vc_rules.proofs.TogetherLaws.{checks_together, first_told, machine_founds, many_judged, none_found, refuses_together, set_together, sets_together}
 use Rattle.vc_rules.proofs.UpdateLaws.{changes_of, updates_agree}
 use Rattle.vc_rules.proofs.WholeLemmas.{refs_whole}
 
@@ -119,11 +124,10 @@ module _ (old new : FileMap) (s t : SessionText) (r : Repository) (p : OpenPush)
       let ks : List Judged = judged_commands s.commands t.verdicts in
       let left : OpenPush = record p { commands = ks; stage = machine.stage_while ks MachineChecked } in
       let fits : length t.verdicts ≡ length s.commands = paired t.verdicts (stage_while t.verdicts Checked) h.session later in
-      let all : IsSound git r → machine.ChecksAll git (over r.objects p.carried) (judged_commands s.commands s.verdicts) ks = λ sound.
-      checks_all (objects_seen old s.slot) (over r.objects p.carried) (seen_found old r content s.slot p.carried held.carried) s.commands s.verdicts t.verdicts (h.verdicts (refs_whole old r content sound)) in
       let whole : IsSound git r → machine.ChecksPush git (over r.objects p.carried) p.atomic p.commands ks = λ sound.
-      subst (λ (a : Bool). machine.ChecksPush git (over r.objects p.carried) a p.commands ks) (sym (held.atomic ∙ h.single))
-      (subst (λ (js : List Judged). machine.ChecksAll git (over r.objects p.carried) js ks) (sym held.commands) (all sound)) in
+      subst (λ (a : Bool). machine.ChecksPush git (over r.objects p.carried) a p.commands ks) (sym held.atomic)
+      (subst (λ (js : List Judged). machine.ChecksPush git (over r.objects p.carried) s.atomic js ks) (sym held.commands)
+      (checks_together (objects_seen old s.slot) (over r.objects p.carried) (seen_found old r content s.slot p.carried held.carried) s.atomic s.commands s.verdicts t.verdicts (h.verdicts (refs_whole old r content sound)))) in
       record {
         effect = no_effect;
         left = left;
@@ -215,6 +219,60 @@ module _ (old new : FileMap) (s t : SessionText) (r : Repository) (p : OpenPush)
             (quarantined-of_ref name old new h.rest s.slot) refl (stage_judged s.commands t.verdicts Migrated fits);
       }
 
+  -- ---- the update of an atomic push
+  -- all commands are judged, and these are the changes
+  settled : (ws : List Verdict) (founds : List (Option Reason)) (cs : List Change) (reply : Reply) → s.stage ≡ Migrated → s.atomic ≡ true → t ≡ record s { verdicts = ws; stage = AtItsEnd } → IsSession t
+      → machine.UpdatesAll r.refs (judged_commands s.commands s.verdicts) (machine_founds founds) (judged_commands s.commands ws) cs
+      → cond (list_all is_none (machine_founds founds)) (Some (UpdatedAll (length p.commands))) (shared.first_refusal p.commands (machine_founds founds)) ≡ Some reply
+      → ((id : ObjectId) → quarantined new s.slot id ≡ quarantined old s.slot id) → HoldsContent new (changed_all cs r) → (changed_all cs r).head ≡ r.head → (changed_all cs r).index ≡ r.index
+      → IsPushStep new t reply r p
+  settled ws founds cs reply stage atomic is later all told same content_then head index =
+      let ks : List Judged = judged_commands s.commands ws in
+      let left : OpenPush = record p { commands = ks; stage = machine.stage_while ks MachineMigrated } in
+      let then : IsSession (record s { verdicts = ws; stage = AtItsEnd }) = subst IsSession is later in
+      record {
+        effect = only_changes cs;
+        left = left;
+        after = changed_all cs r;
+        step = λ sound. subst (λ (at : machine.Stage). shared.StepsPush git r p at (only_changes cs) left reply) (sym (stands_at Migrated stage)) (
+          ks,
+          cs,
+          shared.UpdatesPush.together (machine_founds founds) (held.atomic ∙ atomic)
+              (subst (λ (xs : List Judged). machine.UpdatesAll r.refs xs (machine_founds founds) ks cs) (sym held.commands) all) told,
+          refl,
+          refl,
+        );
+        done = (r.objects, none_added r.objects, refl);
+        content = content_then;
+        head = head;
+        index = index;
+        held = kept ws AtItsEnd ks (machine.stage_while ks MachineMigrated) is later same refl
+            (ap (λ b. cond b MachineMigrated Finished) (any_judged s.commands ws then.paired ∙ then.in_stage));
+      }
+
+  set_all : (n : ℕ) → StepSetsAll old new s t n → IsSession t → IsPushStep new t (UpdatedAll n) r p
+  set_all n h later =
+      let js : List Judged = judged_commands s.commands s.verdicts in
+      let founds : List (Option Reason) = h.passed.0 in
+      settled (map (λ (c : CommandText). Accepted) s.commands) founds (SetRefs (map machine.new_value js) ∷ []) (UpdatedAll n) h.stage h.atomic h.session later
+      (sets_together (refs old) r.refs content.refs_are s.commands s.verdicts held.session.paired founds h.passed.1 h.passed.2)
+      (ap (λ b. cond b (Some (UpdatedAll (length p.commands))) (shared.first_refusal p.commands (machine_founds founds))) (none_found founds ∙ h.passed.2)
+      ∙ ap (λ (k : ℕ). Some (UpdatedAll k)) (ap length held.commands ∙ many_judged s.commands s.verdicts held.session.paired ∙ sym h.count))
+      (quarantined-of_packed old new h.rest.outside s.slot) (record {
+        objects_are = λ x. objects-of_packed old new h.rest.outside (id_of_bytes x) ∙ content.objects_are x;
+        refs_are = λ q. ap (λ (m : RefMap). m q) h.refs_are ∙ set_together s.commands s.verdicts (refs old) r.refs content.refs_are held.session.paired q;
+      }) refl refl
+
+  refused_all : (name : List ℕ) (reason : Reason) → StepRefusesAll old new s t name reason → IsSession t → IsPushStep new t (RefusedAll name (machine_reason reason)) r p
+  refused_all name reason h later =
+      let some : all_pass h.founds ≡ false = some_refused s.commands h.founds (name, reason) h.first in
+      settled (map refused_by h.founds) h.founds [] (RefusedAll name (machine_reason reason)) h.stage h.atomic h.session later
+      (refuses_together (refs old) r.refs content.refs_are s.commands s.verdicts held.session.paired h.founds h.judged some)
+      (ap (λ b. cond b (Some (UpdatedAll (length p.commands))) (shared.first_refusal p.commands (machine_founds h.founds))) (none_found h.founds ∙ some)
+      ∙ ap (λ (js : List Judged). shared.first_refusal js (machine_founds h.founds)) held.commands
+      ∙ first_told s.commands s.verdicts h.founds (name, reason) held.session.paired h.first)
+      (λ id. ap (λ (m : FileMap). quarantined m s.slot id) h.files) (subst (λ (m : FileMap). HoldsContent m r) (sym h.files) content) refl refl
+
   unpacked : (fault : Option ObjectFault) → unpack_of fault ≡ option_map unpack_error (option_map fault_number fault)
   unpacked None = refl
   unpacked (Some fault) = refl
@@ -235,12 +293,16 @@ pub steps_agree : StepsAgree
 steps_agree old new s t (stepped.Checked n) r p content held h later = checked old new s t r p content held n h later
 steps_agree old new s t stepped.Migrated r p content held h later = migrated old new s t r p content held h later
 steps_agree old new s t (stepped.Updated name found) r p content held h later = updated old new s t r p content held name.items found h later
+steps_agree old new s t (stepped.Atomic n) r p content held h later = set_all old new s t r p content held n h later
+steps_agree old new s t (stepped.AtomicRefused name reason) r p content held h later = refused_all old new s t r p content held name.items reason h later
 steps_agree old new s t (stepped.Finished report) r p content held h later = finished old new s t r p content held (report_text report) h
 
 pub others_stay : OthersStay
 others_stay old new s t u (stepped.Checked n) q small fits apart h held = subst (λ (m : FileMap). HoldsPush m u q) (sym h.files) held
 others_stay old new s t u stepped.Migrated q small fits apart h held = push_kept old new u q (quarantined-same old new u.slot h.outside) held
 others_stay old new s t u (stepped.Updated name found) q small fits apart h held = push_kept old new u q (quarantined-of_ref name.items old new h.rest u.slot) held
+others_stay old new s t u (stepped.Atomic n) q small fits apart h held = push_kept old new u q (quarantined-of_packed old new h.rest.outside u.slot) held
+others_stay old new s t u (stepped.AtomicRefused name reason) q small fits apart h held = subst (λ (m : FileMap). HoldsPush m u q) (sym h.files) held
 others_stay old new s t u (stepped.Finished report) q small fits apart h held =
     push_kept old new u q (λ id. quarantined-of_slot s.slot old new h.outside u.slot id small fits apart) held
 
@@ -309,15 +371,15 @@ module _ (old new : FileMap) (s : SessionText) (r : Repository) (p : OpenPush) (
   unchanged same = subst (λ (m : FileMap). HoldsContent m r) (sym same) content
 
   -- refs may stand in other files
-  updated_early : (atomic : Bool) → EndsUpdate atomic old new → HoldsContent new r
-  updated_early false same = unchanged same
-  updated_early true (same, rest) = record {
-    objects_are = λ x. objects-of_packed old new rest (id_of_bytes x) ∙ content.objects_are x;
+  updated_early : (atomic : Bool) (names : List (List ℕ)) → EndsUpdate atomic names old new → HoldsContent new r
+  updated_early false names same = unchanged same
+  updated_early true names (same, rest) = record {
+    objects_are = λ x. objects-of_packed old new rest.outside (id_of_bytes x) ∙ content.objects_are x;
     refs_are = λ n. ap (λ (m : RefMap). m n) same ∙ content.refs_are n;
   }
 
 pub early_agree : EndsEarlyAgree
 early_agree old new s Unpacked r p content held e = unchanged old new s r p content held e
 early_agree old new s Checked r p content held e = stopped old new s r p content held e
-early_agree old new s Migrated r p content held e = updated_early old new s r p content held s.atomic e
+early_agree old new s Migrated r p content held e = updated_early old new s r p content held s.atomic (names_of s.commands) e
 early_agree old new s AtItsEnd r p content held e = content_beside s.slot old new r e content

@@ -11,7 +11,7 @@ use Rattle.vc_model.specs.Repository.Change.{SetRefs}
 use Rattle.vc_object.specs.ObjectId.{id_eq}
 use Rattle.vc_push.specs.Push.{CommandText, zero_id}
 use Rattle.vc_push.specs.declared.reason.Reason.{Reason}
-use Rattle.vc_push.specs.declared.reason.Reason.TheVariants.{BadName, OutsideRefs, DeletionProhibited, MissingObjects, NotACommit, NonFastForward, AlreadyExists, NameConflict, Stale, UnpackerError}
+use Rattle.vc_push.specs.declared.reason.Reason.TheVariants.{BadName, OutsideRefs, DeletionProhibited, MissingObjects, NotACommit, NonFastForward, AlreadyExists, NameConflict, Stale, UnpackerError, AtomicFailure}
 use Rattle.vc_refs.specs.RefMap.{RefMap, conflicts}
 use Rattle.vc_push_rules.specs.Session.{verdict_of}
 use Rattle.vc_push_rules.specs.Verdict.{IsVerdictAtUpdate, UpdateNeeds, update_reasons}
@@ -55,6 +55,7 @@ module _ (map : RefMap) (rs : Refs) (rel : (n : RefName) → map n ≡ option_ma
     needs NameConflict = (free_from, free_to)
     needs Stale = (current_from (id_eq c.old zero_id) refl, current_to (id_eq c.old zero_id) refl)
     needs UnpackerError = (λ h. h, λ h. h)
+    needs AtomicFailure = (λ h. h, λ h. h)
 
     -- what is changed, by what was found against it
     abbrev pub changes_of : Option Reason → List Change

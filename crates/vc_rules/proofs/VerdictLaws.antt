@@ -16,7 +16,7 @@ use Rattle.vc_object.specs.ObjectMap.{ObjectMap, parents_in}
 use Rattle.vc_object.specs.declared.id.ObjectId.{ObjectId}
 use Rattle.vc_push.specs.Push.{CommandText, zero_id}
 use Rattle.vc_push.specs.declared.reason.Reason.{Reason}
-use Rattle.vc_push.specs.declared.reason.Reason.TheVariants.{BadName, OutsideRefs, DeletionProhibited, MissingObjects, NotACommit, NonFastForward, AlreadyExists, NameConflict, Stale, UnpackerError}
+use Rattle.vc_push.specs.declared.reason.Reason.TheVariants.{BadName, OutsideRefs, DeletionProhibited, MissingObjects, NotACommit, NonFastForward, AlreadyExists, NameConflict, Stale, UnpackerError, AtomicFailure}
 use Rattle.vc_push_rules.specs.Verdict.{CheckNeeds, FirstUnmet, check_reasons, is_branch, is_inside, is_tag}
 use Rattle.vc_rules.specs.Git.{git}
 use Rattle.vc_rules.specs.Verdicts.{AreFoundAt, CheckNeedsAgree, ChecksAgree, machine_command, machine_reason}
@@ -90,6 +90,7 @@ module _ (objects : ObjectMap) (at : Lookup) (c : CommandText) (found : AreFound
   needs NameConflict = (λ h. h, λ h. h)
   needs Stale = (λ h. h, λ h. h)
   needs UnpackerError = (λ h. h, λ h. h)
+  needs AtomicFailure = (λ h. h, λ h. h)
 
 -- ---- the first that is not met
 module _ (A : Reason → Type 0) (B : machine.Reason → Type 0) (agree : (r : Reason) → A r ↔ B (machine_reason r)) where

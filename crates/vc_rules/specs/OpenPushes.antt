@@ -6,7 +6,7 @@ use Rattle.vc_files.specs.FileMap.{FileMap}
 use Rattle.vc_format.specs.Git.{id_of_bytes}
 use Rattle.vc_model.specs.Message.{Told}
 use Rattle.vc_model.specs.Node.{Reply}
-use Rattle.vc_model.specs.Node.Reply.{Passed, MigratedAll, Updated}
+use Rattle.vc_model.specs.Node.Reply.{Passed, MigratedAll, Updated, UpdatedAll, RefusedAll}
 use Rattle.vc_model.specs.Object.{Id, Objects}
 use Rattle.vc_model.specs.Push as machine
 use Rattle.vc_model.specs.Push.{OpenPush, Judged}
@@ -109,6 +109,8 @@ abbrev pub StepsAs : Stepped → FileMap → SessionText → Repository → Open
 StepsAs (stepped.Checked n) new t r p = IsPushStep new t (Passed n) r p
 StepsAs stepped.Migrated new t r p = IsPushStep new t MigratedAll r p
 StepsAs (stepped.Updated name found) new t r p = IsPushStep new t (Updated name.items (option_map machine_reason found)) r p
+StepsAs (stepped.Atomic n) new t r p = IsPushStep new t (UpdatedAll n) r p
+StepsAs (stepped.AtomicRefused name reason) new t r p = IsPushStep new t (RefusedAll name.items (machine_reason reason)) r p
 StepsAs (stepped.Finished report) new t r p = IsPushEnd new (report_text report) r p
 
 -- a step of a session is a step of the push that it stands for

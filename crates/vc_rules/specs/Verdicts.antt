@@ -3,7 +3,7 @@ use Rattle.std.specs.Prelude.{◌≡◌, ◌↔◌, Option, Some, None, option_m
 use Rattle.vc_format.specs.Git.{id_of_bytes}
 use Rattle.vc_model.specs.Object.{Id, Lookup}
 use Rattle.vc_model.specs.Push as machine
-use Rattle.vc_model.specs.Push.Reason.{BadName as MachineBadName, OutsideRefs as MachineOutsideRefs, Deletion as MachineDeletion, MissingObjects as MachineMissingObjects, NotACommit as MachineNotACommit, NonFastForward as MachineNonFastForward, AlreadyExists as MachineAlreadyExists, NameConflict as MachineNameConflict, Stale as MachineStale, UnpackerError as MachineUnpackerError}
+use Rattle.vc_model.specs.Push.Reason.{BadName as MachineBadName, OutsideRefs as MachineOutsideRefs, Deletion as MachineDeletion, MissingObjects as MachineMissingObjects, NotACommit as MachineNotACommit, NonFastForward as MachineNonFastForward, AlreadyExists as MachineAlreadyExists, NameConflict as MachineNameConflict, Stale as MachineStale, UnpackerError as MachineUnpackerError, AtomicFailure as MachineAtomicFailure}
 use Rattle.vc_model.specs.Push.Verdict.{Passing, Refused}
 use Rattle.vc_object.specs.Decoding.{StoredObject}
 use Rattle.vc_object.specs.Object.{IsObject}
@@ -11,7 +11,7 @@ use Rattle.vc_object.specs.ObjectMap.{ObjectMap}
 use Rattle.vc_object.specs.declared.id.ObjectId.{ObjectId}
 use Rattle.vc_push.specs.Push.{CommandText}
 use Rattle.vc_push.specs.declared.reason.Reason.{Reason}
-use Rattle.vc_push.specs.declared.reason.Reason.TheVariants.{BadName, OutsideRefs, DeletionProhibited, MissingObjects, NotACommit, NonFastForward, AlreadyExists, NameConflict, Stale, UnpackerError}
+use Rattle.vc_push.specs.declared.reason.Reason.TheVariants.{BadName, OutsideRefs, DeletionProhibited, MissingObjects, NotACommit, NonFastForward, AlreadyExists, NameConflict, Stale, UnpackerError, AtomicFailure}
 use Rattle.vc_push_rules.specs.Verdict.{CheckNeeds, IsVerdictAtCheck}
 use Rattle.vc_rules.specs.Git.{git, stored_of}
 
@@ -31,6 +31,7 @@ machine_reason AlreadyExists = MachineAlreadyExists
 machine_reason NameConflict = MachineNameConflict
 machine_reason Stale = MachineStale
 machine_reason UnpackerError = MachineUnpackerError
+machine_reason AtomicFailure = MachineAtomicFailure
 
 abbrev pub machine_command : CommandText → machine.Command
 machine_command c = record { old = c.old.0; new = c.new.0; name = c.name }

@@ -1,6 +1,6 @@
 use Rattle.vc_rules.proofs.CarriedLemmas.{each_is_brought}
 use Rattle.vc_rules.proofs.OpenPushLaws.{early_agree, opens_agree, others_stay, steps_agree}
-use Rattle.vc_rules.proofs.TurnLaws.{turns_agree}
+use Rattle.vc_rules.proofs.TurnLaws.{nexts_agree, turns_agree}
 use Rattle.vc_rules.proofs.WritingLaws.{writes_agree}
 use Rattle.vc_rules.proofs.the_steps_of_a_push_are_the_machines.Goals as goal
 
@@ -24,3 +24,6 @@ returns-clause-writes c = writes_agree
 
 pub returns-clause-turns : goal.returns-clause-turns
 returns-clause-turns c = turns_agree
+
+pub returns-clause-nexts : goal.returns-clause-nexts
+returns-clause-nexts c = nexts_agree
