@@ -12,7 +12,7 @@ use Rattle.vc_model.specs.Exchange.{IsUndone, OpensNone}
 use Rattle.vc_model.specs.Message.{Message}
 use Rattle.vc_model.specs.Node.{Answer}
 use Rattle.vc_model.specs.Node.Answer.{Declined, Did, Fault}
-use Rattle.vc_model.specs.Node.Reply.{MigratedAll, Opened, Passed, Updated as UpdatedOne}
+use Rattle.vc_model.specs.Node.Reply.{MigratedAll, Opened, Passed, RefusedAll, Updated as UpdatedOne, UpdatedAll}
 use Rattle.vc_model.specs.Push.{OpenPush, Slots}
 use Rattle.vc_model.specs.Shared.{SharedNode}
 use Rattle.vc_model.specs.SharedCall.{SharedCall}
@@ -22,7 +22,7 @@ use Rattle.vc_local.specs.Clean.{KeepsClean}
 use Rattle.vc_local.specs.declared.fault.NodeFault.TheVariants.{Down}
 use Rattle.vc_local.proofs.FaultLemmas.{node_undone}
 use Rattle.vc_rules.specs.Verdicts.{machine_reason}
-use Rattle.vc_push_rules.specs.Session.{SessionText}
+use Rattle.vc_push_rules.specs.Session.{IsSession, SessionText}
 use Rattle.vc_push_rules.specs.declared.stage.Stepped.{Stepped as SessionStep}
 use Rattle.vc_push_rules.specs.declared.stage.Stepped.TheVariants as session
 use Rattle.vc_shared.proofs.HoldingLemmas.{slot_set}
@@ -38,7 +38,7 @@ use Rattle.vc_shared.specs.declared.accepting.Accepted.TheVariants.{Reply, Slot}
 use Rattle.vc_shared.specs.declared.fault.SharedFault.{SharedFault}
 use Rattle.vc_shared.specs.declared.fault.SharedFault.TheVariants.{Busy, NoSuchSlot, NoValue, Node, NotOurs, Unexpected, Unread}
 use Rattle.vc_shared.specs.declared.stepping.Stepped.{Stepped}
-use Rattle.vc_shared.specs.declared.stepping.Stepped.TheVariants.{Checked, Migrated, Updated, Finished}
+use Rattle.vc_shared.specs.declared.stepping.Stepped.TheVariants.{Checked, Migrated, Updated, Atomic, AtomicRefused, Finished}
 use Rattle.vc_server.proofs.StepsLeft.{IsBefore, few_left, fewer_left, one_left, steps_left}
 use Rattle.vc_server.specs.Refusals.{IsRefusedFor, IsRefusedOnTheWay}
 use Rattle.vc_server.specs.Serving.{MayAnswer, Serves, ServesOn, StepsOn, StepsToEnd, report_of}
@@ -49,6 +49,12 @@ names_in content k None None h = tt
 names_in content k (Some s) (Some p) (at, push, clean) = push.names
 names_in content k None (Some p) never = absurd never
 names_in content k (Some s) None never = absurd never
+
+-- a push that stands there is one
+session_in : (content : FileMap) (k : ℕ) (v : Option SessionText) (q : Option OpenPush) → HoldsSlot content k v q → (s : SessionText) → v ≡ Some s → IsSession s
+session_in content k None q h s is = absurd (cc is)
+session_in content k (Some u) (Some p) (at, push, clean) s is = let same : u ≡ s = cc is in subst IsSession same push.session
+session_in content k (Some u) None never s is = absurd never
 
 few_in : (content : FileMap) (slots : List (Option SessionText)) (k : ℕ) (v : Option SessionText) (q : Option OpenPush) → slot_of slots k ≡ v → AreTellable slots → HoldsSlot content k v q → steps_left v ≤ 259
 few_in content slots k None q is tellable h = omega arith
@@ -68,6 +74,14 @@ module _ (content : FileMap) (slots : List (Option SessionText)) (k : ℕ) where
         | inr past ↦ subst (λ (v : Option SessionText). IsHeldThere content v) (sym (past_eight open_now.0 open_now.2 past)) tt
       ]
 
+  session_held : (n : SharedNode) → HoldsShared content slots true n → (s : SessionText) → slot_of slots k ≡ Some s → IsSession s
+  session_held n held s is =
+      let open_now = pushes_of content slots n.live held.live in
+      elim (less_or k 8) [
+        | inl small ↦ session_in content k (slot_of slots k) (get open_now.0 k) (open_now.2.each k small) s is
+        | inr past ↦ absurd (let both : ◌≡◌ {A = Option SessionText} None (Some s) = sym (past_eight open_now.0 open_now.2 past) ∙ is in cc both)
+      ]
+
   few_held : (n : SharedNode) → HoldsShared content slots true n → AreTellable slots → steps_left (slot_of slots k) ≤ 259
   few_held n held tellable =
       let open_now = pushes_of content slots n.live held.live in
@@ -81,22 +95,28 @@ is_before : (did : SessionStep) (told : Stepped) → Tells did told → report_o
 is_before (session.Checked n) told tells before = tt
 is_before session.Migrated told tells before = tt
 is_before (session.Updated name found) told tells before = tt
+is_before (session.Atomic n) told tells before = tt
+is_before (session.AtomicRefused name reason) told tells before = tt
 is_before (session.Finished report) (Finished bytes) tells before = absurd (cc before)
 is_before (session.Finished report) (Checked n) tells before = absurd tells
 is_before (session.Finished report) Migrated tells before = absurd tells
 is_before (session.Finished report) (Updated name found) tells before = absurd tells
+is_before (session.Finished report) (Atomic n) tells before = absurd tells
+is_before (session.Finished report) (AtomicRefused name reason) tells before = absurd tells
 
 left_open : (told : Stepped) (t : SessionText) → report_of told ≡ None → left_by told t ≡ Some t
 left_open (Checked n) t before = refl
 left_open Migrated t before = refl
 left_open (Updated name found) t before = refl
+left_open (Atomic n) t before = refl
+left_open (AtomicRefused name reason) t before = refl
 left_open (Finished bytes) t before = absurd (cc before)
 
-fewer : (mid new : FileMap) (mids after : List (Option SessionText)) (k : ℕ) (told : Stepped) → report_of told ≡ None → StepsSlot mid new mids after k told → steps_left (slot_of after k) < steps_left (slot_of mids k)
-fewer mid new mids after k told before done =
+fewer : (mid new : FileMap) (mids after : List (Option SessionText)) (k : ℕ) (told : Stepped) → report_of told ≡ None → (done : StepsSlot mid new mids after k told) → IsSession done.session → steps_left (slot_of after k) < steps_left (slot_of mids k)
+fewer mid new mids after k told before done was =
     let now : slot_of after k ≡ Some done.later =
     ap (λ (xs : List (Option SessionText)). slot_of xs k) done.left ∙ slot_set mids k (left_by told done.later) (open_within mids k done.session done.found) ∙ left_open told done.later before in
-    let falls = fewer_left mid new done.session done.later done.step.did done.step.is_session done.step.steps (is_before done.step.did told done.step.tells before) in
+    let falls = fewer_left mid new done.session done.later done.step.did was done.step.is_session done.step.steps (is_before done.step.did told done.step.tells before) in
     omega (arith, falls, ap steps_left now, ap steps_left done.found)
 
 -- ---- answers
@@ -140,6 +160,10 @@ module _ (k : ℕ) (n t : SharedNode) (a : Answer) (sends : Option Message) wher
   further_on (Updated name found) before shows exact b u out on =
       let reply = UpdatedOne name.items (option_map machine_reason found) in
       StepsOn.further reply (quietly n t (StepOf k) a (Did reply) sends shows exact) on
+  further_on (Atomic count) before shows exact b u out on = StepsOn.further (UpdatedAll count) (quietly n t (StepOf k) a (Did (UpdatedAll count)) sends shows exact) on
+  further_on (AtomicRefused name reason) before shows exact b u out on =
+      let reply = RefusedAll name.items (machine_reason reason) in
+      StepsOn.further reply (quietly n t (StepOf k) a (Did reply) sends shows exact) on
   further_on (Finished bytes) before shows exact b u out on = absurd (cc before)
 
 -- ---- the steps so far
@@ -158,7 +182,8 @@ module _ (old mid new : FileMap) (slots mids after : List (Option SessionText)) 
     each = λ n held.
         let here = so.each n held in
         let next = call.each here.0 here.1 in
-        let falls = fewer mid new mids after k told before (steps (held_there mid mids k here.0 here.1)) in (
+        let done = steps (held_there mid mids k here.0 here.1) in
+        let falls = fewer mid new mids after k told before done (session_held mid mids k here.0 here.1 done.session done.found) in (
           next.0,
           next.3,
           λ a t sends on. here.2 a t sends (further_on k here.0 next.0 next.1 next.2 told before next.4 next.5 a t sends on),
@@ -178,6 +203,8 @@ module _ (old mid new : FileMap) (slots mids after : List (Option SessionText)) 
   told_to_end (Checked n) bytes is_up is call = absurd (cc is)
   told_to_end Migrated bytes is_up is call = absurd (cc is)
   told_to_end (Updated name found) bytes is_up is call = absurd (cc is)
+  told_to_end (Atomic n) bytes is_up is call = absurd (cc is)
+  told_to_end (AtomicRefused name reason) bytes is_up is call = absurd (cc is)
 
   pub refused_to_end : (e : SharedFault) (is_up : Bool) → AnswersShared (StepOf k) (SteppedAs (Err e)) mid new mids after true is_up → StepsToEnd k (Err e) old new slots after is_up
   refused_to_end e is_up call = record {

@@ -1,10 +1,10 @@
 -- How many steps an open push still takes: for the loop that steps it to its end.
-use Rattle.std.proofs.Common.{◌≡◌, ◌≤◌, ◌<◌, ◌+◌, ◌++◌, ◌∷◌, ℕ, Bool, true, false, List, length, Option, Some, None, arith, sym, ap, ◌∙◌, []}
+use Rattle.std.proofs.Common.{◌≡◌, ◌≤◌, ◌<◌, ◌+◌, ◌++◌, ◌||◌, ℕ, Bool, true, false, List, [], ◌∷◌, length, Option, Some, None, arith, refl, sym, ap, ◌∙◌, subst, true≢false}
 use Rattle.std.specs.Prelude.{cond, count_by, sum_by, if◌then◌else◌}
 use Rattle.std.specs.List.{list_any}
 use Rattle.std.proofs.lemmas.List.Sums.{count_by-le-length, sum_by-append}
 use Rattle.vc_files.specs.FileMap.{FileMap}
-use Rattle.vc_push_rules.specs.Session.{IsSession, SessionText, is_passing, stage_while, verdict_of}
+use Rattle.vc_push_rules.specs.Session.{IsInStage, IsSession, SessionText, is_passing, stage_while, verdict_of}
 use Rattle.vc_push_rules.specs.Steps.{Steps}
 use Rattle.vc_push_rules.specs.declared.stage.Stage.{Stage}
 use Rattle.vc_push_rules.specs.declared.stage.Stage.TheVariants.{Unpacked, Checked, Migrated, Done}
@@ -74,19 +74,44 @@ abbrev pub IsBefore : Stepped → Type 0
 IsBefore (session.Finished report) = ⊥
 IsBefore _ = Unit {0}
 
-pub fewer_left : (old new : FileMap) (s t : SessionText) (did : Stepped) → IsSession t → Steps old new s t did → IsBefore did → session_left t < session_left s
-fewer_left old new s t (session.Checked n) is h before =
+-- one passes at least
+some_passing : (vs : List Verdict) → list_any is_passing vs ≡ true → 1 ≤ count_by is_passing vs
+some_passing [] h = absurd (true≢false (sym h))
+some_passing (v ∷ vs) h = by (some_passing vs) (is_passing v) refl
+  where
+    by : (list_any is_passing vs ≡ true → 1 ≤ count_by is_passing vs) → (b : Bool) → is_passing v ≡ b → 1 ≤ count_by is_passing (v ∷ vs)
+    by more true e =
+        let count : Verdict → ℕ = λ w. cond (is_passing w) 1 0 in
+        let split = sum_by-append count (v ∷ []) vs in
+        let first : sum_by count (v ∷ []) ≡ 1 = ap (λ (b : Bool). 0 + cond {A = ℕ} b 1 0) e in
+        omega (arith, split, first)
+    by more false e =
+        let count : Verdict → ℕ = λ w. cond (is_passing w) 1 0 in
+        let split = sum_by-append count (v ∷ []) vs in
+        let others = more (ap (λ (b : Bool). b || list_any is_passing vs) (sym e) ∙ h) in
+        omega (arith, split, others)
+
+-- once all commands of an atomic push are judged the report alone is left; one passed before, so more than that was
+settled_left : (s t : SessionText) (verdicts : List Verdict) → IsSession s → s.stage ≡ Migrated → t ≡ record s { verdicts = verdicts; stage = Done } → session_left t < session_left s
+settled_left s t verdicts is stage settled =
+    let parts = subst (λ (x : Stage). IsInStage s x) stage is.in_stage in
+    let was : session_left s ≡ count_by is_passing s.verdicts + 1 = ap (λ g. left_at g (length s.commands) (count_by is_passing s.verdicts)) stage in
+    let now : session_left t ≡ 1 = ap session_left settled in
+    omega (arith, was, now, some_passing s.verdicts parts.1)
+
+pub fewer_left : (old new : FileMap) (s t : SessionText) (did : Stepped) → IsSession s → IsSession t → Steps old new s t did → IsBefore did → session_left t < session_left s
+fewer_left old new s t (session.Checked n) was_one is h before =
     let stage : t.stage ≡ stage_while t.verdicts Checked = ap (λ (u : SessionText). u.stage) h.session in
     let commands : t.commands ≡ s.commands = ap (λ (u : SessionText). u.commands) h.session in
     let was : session_left s ≡ length s.commands + 3 = ap (λ g. left_at g (length s.commands) (count_by is_passing s.verdicts)) h.stage in
     let now : session_left t ≡ left_at (stage_while t.verdicts Checked) (length t.commands) (count_by is_passing t.verdicts) = ap (λ g. left_at g (length t.commands) (count_by is_passing t.verdicts)) stage in
     let same : length t.commands ≡ length s.commands = ap length commands in
     omega (arith, was, now, same, is.paired, count_by-le-length is_passing t.verdicts, passed_over (list_any is_passing t.verdicts) Checked (length t.commands) (count_by is_passing t.verdicts))
-fewer_left old new s t session.Migrated is h before =
+fewer_left old new s t session.Migrated was_one is h before =
     let was : session_left s ≡ count_by is_passing s.verdicts + 2 = ap (λ g. left_at g (length s.commands) (count_by is_passing s.verdicts)) h.stage in
     let now : session_left t ≡ count_by is_passing s.verdicts + 1 = ap session_left h.session in
     omega (arith, was, now)
-fewer_left old new s t (session.Updated name found) is h before =
+fewer_left old new s t (session.Updated name found) was_one is h before =
     let stage : t.stage ≡ stage_while t.verdicts Migrated = ap (λ (u : SessionText). u.stage) h.session in
     let was : session_left s ≡ count_by is_passing s.verdicts + 1 = ap (λ g. left_at g (length s.commands) (count_by is_passing s.verdicts)) h.stage in
     let now : session_left t ≡ left_at (stage_while t.verdicts Migrated) (length t.commands) (count_by is_passing t.verdicts) = ap (λ g. left_at g (length t.commands) (count_by is_passing t.verdicts)) stage in
@@ -94,4 +119,6 @@ fewer_left old new s t (session.Updated name found) is h before =
     let fewer : count_by is_passing s.verdicts ≡ count_by is_passing t.verdicts + 1 =
     ap (λ vs. count_by is_passing vs) u.before ∙ one_fewer u.front u.back found ∙ ap (λ vs. count_by is_passing vs + 1) (sym u.after) in
     omega (arith, was, now, fewer, passed_over (list_any is_passing t.verdicts) Migrated (length t.commands) (count_by is_passing t.verdicts))
-fewer_left old new s t (session.Finished report) is h before = absurd before
+fewer_left old new s t (session.Atomic n) was_one is h before = settled_left s t _ was_one h.stage h.session
+fewer_left old new s t (session.AtomicRefused name reason) was_one is h before = settled_left s t _ was_one h.stage h.session
+fewer_left old new s t (session.Finished report) was_one is h before = absurd before

@@ -1,5 +1,5 @@
 //! One turn of the shared node at a connection.
-ghost use Rattle.std.specs.Prelude.{◌≡◌, ◌++◌, List, ℕ, IsErrOf, Some, false, true};
+ghost use Rattle.std.specs.Prelude.{◌≡◌, ◌++◌, List, ℕ, IsErrOf, Some, true};
 ghost use Rattle.vc_files.specs.Failures.{Writes};
 ghost use Rattle.vc_message.specs.Machine.{Reads};
 ghost use Rattle.vc_model.specs.Message.{Message};

@@ -1,8 +1,9 @@
 -- Lists of commands and verdicts, for the loops that go over them.
-use Rattle.std.proofs.Common.{◌≡◌, ℕ, ◌+◌, true, false, List, [], ◌∷◌, ◌++◌, Some, length, take, slice_get, refl, sym, ap, subst, ◌∙◌, true≢false, arith}
+use Rattle.std.proofs.Common.{◌≡◌, ℕ, ◌+◌, Bool, cond, true, false, List, [], ◌∷◌, ◌++◌, Some, length, map, take, slice_get, refl, sym, ap, subst, ◌∙◌, true≢false, arith}
 use Rattle.std.proofs.lemmas.List.{length-map, length-take-le, map_more, take_more}
 use Rattle.std.proofs.lemmas.Option.{get_or_from_slice_get, slice_get_within}
 use Rattle.std.specs.Prelude.{⊤}
+use Rattle.std.specs.List.{list_all, list_any}
 use Rattle.vc_files.specs.FileMap.{FileMap}
 use Rattle.vc_object_map.specs.StoreFault.{IsMet}
 use Rattle.vc_object.specs.ObjectMap.{ObjectMap}
@@ -16,11 +17,15 @@ use Rattle.vc_object_map.specs.declared.faults.StoreFault.{StoreFault}
 use Rattle.vc_object_map.specs.declared.faults.StoreFault.TheVariants as of_store
 use Rattle.vc_quarantine.specs.PushState.{IsDamagedSeen, SeenState}
 use Rattle.vc_session.specs.SessionFault.{IsRefusedCheck, from_refs, from_store}
-use Rattle.vc_push_rules.specs.Session.{MayBeSetWhere, is_passing}
-use Rattle.vc_push_rules.specs.Steps.{Checks, ChecksAll}
+use Rattle.vc_push_rules.specs.Session.{SessionText, IsInStage, IsSession, MayBeSetWhere, is_passing, stage_while}
+use Rattle.vc_push_rules.specs.Steps.{Checks, ChecksAll, ChecksPush}
+use Rattle.vc_push_rules.specs.Turn.{checked_together, failed_with_others}
 use Rattle.vc_push_rules.specs.Verdict.{MayBeSet}
+use Rattle.vc_push_rules.specs.declared.stage.Stage.{Stage}
+use Rattle.vc_push_rules.specs.declared.stage.Stage.TheVariants.{Checked}
 use Rattle.vc_push_rules.specs.declared.stage.Verdict.{Verdict}
 use Rattle.vc_push_rules.specs.declared.stage.Verdict.TheVariants.{Passing, Accepted, Refused}
+use Rattle.vc_session.proofs.SessionLemmas.{in_stage}
 
 -- one more command is checked
 pub ChecksAll-push : (objects : ObjectMap) (cs : List CommandText) (vs ws : List Verdict) (c : CommandText) (v w : Verdict) → ChecksAll objects cs vs ws → Checks objects c v w → ChecksAll objects (cs ++ c ∷ []) (vs ++ v ∷ []) (ws ++ w ∷ [])
@@ -84,3 +89,47 @@ IsRefusedCheck-from_met s (of_store.BadObject fault) h = h
 IsRefusedCheck-from_met s (of_store.Absent id) h = h
 IsRefusedCheck-from_met s (of_store.Damaged id) h = h.1
 IsRefusedCheck-from_met s (of_store.Fault fault) h = tt
+
+-- ---- the whole push
+-- one of its verdicts each, and in an atomic one all commands pass if one does
+pub record IsCheckedPush (atomic : Bool) (cs : List CommandText) (ws : List Verdict) : Type 0 where
+  pub paired : length ws ≡ length cs
+  pub may : MayBeSetWhere cs ws
+  pub together : atomic ≡ true → list_any is_passing ws ≡ true → list_all is_passing ws ≡ true
+
+none_left : (us : List Verdict) → list_any is_passing (map failed_with_others us) ≡ false
+none_left [] = refl
+none_left (Passing ∷ us) = none_left us
+none_left (Accepted ∷ us) = none_left us
+none_left (Refused r ∷ us) = none_left us
+
+failed_may : (cs : List CommandText) (us : List Verdict) → MayBeSetWhere cs (map failed_with_others us)
+failed_may [] us = tt
+failed_may (c ∷ cs) [] = tt
+failed_may (c ∷ cs) (Passing ∷ us) = failed_may cs us
+failed_may (c ∷ cs) (Accepted ∷ us) = failed_may cs us
+failed_may (c ∷ cs) (Refused r ∷ us) = failed_may cs us
+
+together_push : (cs : List CommandText) (us : List Verdict) → length us ≡ length cs → MayBeSetWhere cs us → IsCheckedPush true cs (checked_together us)
+together_push cs us paired may =
+    elim (list_all is_passing us) as (λ b. list_all is_passing us ≡ b → IsCheckedPush true cs (cond b us (map failed_with_others us))) [
+      | true ↦ λ all. record { paired = paired; may = may; together = λ _ _. all }
+      | false ↦ λ _. record { paired = length-map us failed_with_others ∙ paired; may = failed_may cs us; together = λ _ some. absurd (true≢false (sym some ∙ none_left us)) }
+    ] refl
+
+pub checked_push : (atomic : Bool) (cs : List CommandText) (us ws : List Verdict) → length us ≡ length cs → MayBeSetWhere cs us → ws ≡ cond atomic (checked_together us) us → IsCheckedPush atomic cs ws
+checked_push true cs us ws paired may is = subst (λ (xs : List Verdict). IsCheckedPush true cs xs) (sym is) (together_push cs us paired may)
+checked_push false cs us ws paired may is = subst (λ (xs : List Verdict). IsCheckedPush false cs xs) (sym is) (record { paired = paired; may = may; together = λ single. absurd (true≢false (sym single)) })
+
+-- so it is one still
+pub session_checked : (t : SessionText) (ws : List Verdict) (stage : Stage) → IsCheckedPush t.atomic t.commands ws → stage ≡ stage_while ws Checked → IsSession (record t { verdicts = ws; stage = stage })
+session_checked t ws stage checked is =
+    let u : SessionText = record t { verdicts = ws; stage = stage } in
+    record {
+      paired = checked.paired;
+      in_stage = subst (λ (x : Stage). IsInStage u x) (sym is) (in_stage u Checked (λ passes. (checked.may, passes, λ atomic. checked.together atomic passes)));
+    }
+
+pub checks_push : (objects : ObjectMap) (atomic : Bool) (cs : List CommandText) (vs us ws : List Verdict) → ChecksAll objects cs vs us → ws ≡ cond atomic (checked_together us) us → ChecksPush objects atomic cs vs ws
+checks_push objects true cs vs us ws all is = (us, all, is)
+checks_push objects false cs vs us ws all is = subst (λ (xs : List Verdict). ChecksAll objects cs vs xs) (sym is) all

@@ -4,3 +4,6 @@ pub mod ReportLemmas
 pub mod SessionLemmas
 pub mod CheckingLemmas
 pub mod LearningLemmas
+pub mod TurnLemmas
+pub mod TogetherLemmas
+pub mod AtomicLemmas

@@ -20,7 +20,7 @@ use Rattle.vc_push_rules.specs.Carrying.{Carries, objects_of_push}
 use Rattle.vc_push_rules.specs.Session.{SessionText, IsInStage, MayBeSetWhere, is_passing, stage_while, verdict_of}
 use Rattle.vc_quarantine.specs.Blames.{BlamesMigration}
 use Rattle.vc_session.specs.SessionFault.{IsRefusedCheck, IsRefusedStep, from_store}
-use Rattle.vc_push_rules.specs.Steps.{EndsEarly, EndsUpdate, MaySetNext, UpdatesNext}
+use Rattle.vc_push_rules.specs.Steps.{names_of, EndsEarly, EndsUpdate, MaySetNext, UpdatesNext}
 use Rattle.vc_push_rules.specs.Verdict.{IsVerdictAtUpdate, MayBeSet, refs_after}
 use Rattle.vc_session.specs.declared.fault.SessionFault.{SessionFault}
 use Rattle.vc_session.specs.declared.fault.SessionFault.TheVariants.{Store, Refs, Fault}
@@ -140,7 +140,7 @@ module _ (vs : List Verdict) (k : ℕ) (here : slice_get vs k ≡ Some Passing) 
 
 -- an update of one command changes nothing where it ends early
 pub early_update : (old new : FileMap) (s : SessionText) → s.atomic ≡ false → new ≡ old → EndsEarly old new s Migrated
-early_update old new s single same = subst (λ (b : Bool). EndsUpdate b old new) (sym single) same
+early_update old new s single same = subst (λ (b : Bool). EndsUpdate b (names_of s.commands) old new) (sym single) same
 
 pub either : {A B C D : Type 0} → A ⊎ B → (A → C) → (B → D) → C ⊎ D
 either (inl a) f g = inl (f a)

@@ -1,13 +1,15 @@
 -- The verdict on a command at its update, from what its ref's files are.
 use Rattle.std.proofs.Common.{◌≡◌, ℕ, Bool, true, false, cond, subst, ◌&&◌, ◌||◌, ◌⊎◌, nat_eq, List, [], ◌∷◌, ◌++◌, inl, inr, Option, Some, None, is_some, sym, ap, refl, ◌∙◌, true≢false}
-use Rattle.std.specs.Prelude.{bytes_eq, codes, string_bytes, Result, Err, IfOk, IfErr, IsErrOf}
+use Rattle.std.specs.Prelude.{bytes_eq, codes, length, nat_le, not, string_bytes, Result, Err, IfOk, IfErr, IsErrOf}
 use Rattle.std.specs.List.{starts_with}
+use Rattle.std.specs.Str.{is_utf8}
 use Rattle.std.proofs.lemmas.Bool.{and_from, and_parts}
 use Rattle.vc_files.specs.FileMap.{FileMap}
 use Rattle.vc_lemmas.proofs.Texts.{split_from_starts}
 use Rattle.vc_object.specs.declared.id.ObjectId.{ObjectId}
 use Rattle.vc_push.specs.Push.{CommandText}
 use Rattle.vc_push.specs.declared.reason.Reason.TheVariants.{AlreadyExists, NameConflict, Stale}
+use Rattle.vc_refname.specs.RefName.{is_ref_name, max_branch}
 use Rattle.vc_refs.proofs.LayeredChangeLemmas.{refs_free}
 use Rattle.vc_refs.proofs.LayeredLemmas.{decides-loose, decides-packed, packed_map-same}
 use Rattle.vc_files.specs.declared.faults.Fault.TheVariants.{Device}
@@ -18,7 +20,7 @@ use Rattle.vc_refs.specs.Refs.{ChangesOnly, is_taken, packed_path, refs}
 use Rattle.vc_refs.specs.Obstacle.{IsFirstInTheWay, IsFree}
 use Rattle.vc_quarantine.specs.Clean.{KeepsPacked}
 use Rattle.vc_session.specs.Updating.{BlamesUpdate, reason_of}
-use Rattle.vc_push_rules.specs.Verdict.{IsVerdictAtUpdate, UpdateNeeds, expected, is_branch, is_tag}
+use Rattle.vc_push_rules.specs.Verdict.{IsVerdictAtUpdate, MayBeSet, UpdateNeeds, expected, is_branch, is_tag}
 
 shorter : (xs front back : List ℕ) → starts_with nat_eq xs (front ++ back) ≡ true → starts_with nat_eq xs front ≡ true
 shorter [] [] back h = refl
@@ -28,15 +30,22 @@ shorter (x ∷ xs) (b ∷ front) back h =
     let parts = and_parts (nat_eq b x) (starts_with nat_eq xs (front ++ back)) h in
     and_from (nat_eq b x) (starts_with nat_eq xs front) parts.0 (shorter xs front back parts.1)
 
-in_refs : (name : List ℕ) (branch : Bool) → is_branch name ≡ branch → (branch || is_tag name) ≡ true → starts_with nat_eq name (codes "refs/") ≡ true
+pub in_refs : (name : List ℕ) (branch : Bool) → is_branch name ≡ branch → (branch || is_tag name) ≡ true → starts_with nat_eq name (codes "refs/") ≡ true
 in_refs name true is inside = shorter name (codes "refs/") (codes "heads/") is
 in_refs name false is inside = shorter name (codes "refs/") (codes "tags/") inside
 
-none_there : (o : Option ObjectId) → is_some o ≡ true → o ≡ None → ⊥
+-- what may be set is the name of a ref
+pub legal_parts : (name : List ℕ) → MayBeSet name → (is_utf8 name ≡ true) × (is_ref_name name ≡ true)
+legal_parts name may =
+    let short : Bool = not (starts_with nat_eq name (codes "refs/heads/")) || nat_le (length name) max_branch in
+    let text = and_parts (is_utf8 name) (is_ref_name name && short) may.legal in
+    (text.0, (and_parts (is_ref_name name) short text.1).0)
+
+pub none_there : (o : Option ObjectId) → is_some o ≡ true → o ≡ None → ⊥
 none_there None some none = true≢false (sym some)
 none_there (Some id) some none = cc none
 
-not_there : (tag : Bool) (o : Option ObjectId) → (tag && is_some o) ≡ false → tag ≡ true → o ≡ None
+pub not_there : (tag : Bool) (o : Option ObjectId) → (tag && is_some o) ≡ false → tag ≡ true → o ≡ None
 not_there true None h is = refl
 not_there true (Some id) h is = absurd (true≢false h)
 not_there false o h is = absurd (true≢false (sym is))

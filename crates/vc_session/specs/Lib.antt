@@ -1,4 +1,5 @@
 pub mod Updating
+pub mod Together
 pub mod Judged
 pub mod SessionFault
 pub mod Stepping

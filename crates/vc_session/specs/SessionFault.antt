@@ -2,6 +2,8 @@
 use Rattle.std.specs.Prelude.{⊤, ℕ, string_bytes}
 use Rattle.vc_files.specs.FileMap.{FileMap}
 use Rattle.vc_refs.specs.Refs.{IsBadRef}
+use Rattle.vc_refs.specs.declared.changes.SetAllFault.{SetAllFault}
+use Rattle.vc_refs.specs.declared.changes.SetAllFault.TheVariants.{At, Whole}
 use Rattle.vc_refs.specs.declared.faults.RefFault.{RefFault}
 use Rattle.vc_refs.specs.declared.faults.RefFault.TheVariants as of_refs
 use Rattle.vc_object_map.specs.declared.faults.StoreFault.{StoreFault}
@@ -40,6 +42,17 @@ abbrev pub IsRefusedCheck : FileMap → ℕ → SessionFault → Type 0
 IsRefusedCheck content slot (Store fault) = BlamesDamage content slot fault
 IsRefusedCheck content slot (Refs fault) = BlamesRefs content fault
 IsRefusedCheck content slot (Fault fault) = ⊤
+
+-- what refuses several refs that are to be set at once, told here; a change that is refused by itself is told as it is
+abbrev pub from_set : SetAllFault → SessionFault
+from_set (At place fault) = Refs fault
+from_set (Whole fault) = from_refs fault
+
+-- why the update of an atomic push may be refused
+abbrev pub IsRefusedUpdate : FileMap → SessionFault → Type 0
+IsRefusedUpdate content (Store fault) = ⊥
+IsRefusedUpdate content (Refs fault) = BlamesRefs content fault
+IsRefusedUpdate content (Fault fault) = ⊤
 
 -- why a step may be refused, over the files and the session before it, by its stage
 abbrev pub IsRefusedStep : FileMap → SessionText → Stage → SessionFault → Type 0

@@ -1,6 +1,6 @@
 //! The check of all commands of a push.
-ghost use Rattle.std.specs.Prelude.{◌≡◌, Some, None, true, false, ⊤, length, slice_get, take, count_by, IfOk, IfErr, IfSome, IfNone, IsErrOf};
-ghost use Rattle.std.specs.List.{list_any};
+ghost use Rattle.std.specs.Prelude.{◌≡◌, Some, None, true, false, ⊤, length, map, slice_get, take, count_by, if◌then◌else◌, IfOk, IfErr, IfSome, IfNone, IsErrOf};
+ghost use Rattle.std.specs.List.{list_all, list_any};
 ghost use Rattle.vc_history.specs.Stored.{AgreesIn};
 ghost use Rattle.vc_files.specs.Failures.{Wears};
 ghost use Rattle.vc_object_map.specs.StoreFault.{IsMet};
@@ -8,16 +8,17 @@ ghost use Rattle.vc_push.specs.PushView.{command_of, commands_of};
 ghost use Rattle.vc_session.specs.Judged.{ChecksEach, ChecksOne, ChecksPush, WhereNumbered};
 ghost use Rattle.vc_quarantine.specs.Known.{AreWhole};
 ghost use Rattle.vc_push_rules.specs.Session.{MayBeSetWhere, is_passing};
+ghost use Rattle.vc_push_rules.specs.Turn.{checked_together, failed_with_others};
 ghost use Rattle.vc_session.specs.SessionFault.{IsRefusedCheck};
 ghost use Rattle.vc_push_rules.specs.Verdict.{MayBeSet};
 
 use crate::fault::SessionFault;
 use crate::judging::judge;
-use std::alloc::Global;
+use std::alloc::{AllocError, Global};
 use vc_files::{Fault, Files};
 use vc_history::Generations;
 use vc_object_map::{Commits, StoreFault};
-use vc_push::Command;
+use vc_push::{Command, Reason};
 use vc_push_rules::Verdict;
 use vc_quarantine::{Known, PushObjects};
 
@@ -113,6 +114,59 @@ pub(crate) fn check_in_files<F: Files>(
         verdicts,
         generations,
     )?;
+    Ok(after)
+}
+
+// Whether each of the verdicts passes.
+fn all_passing(verdicts: &[Verdict]) -> bool
+    ensures { result ≡ list_all is_passing verdicts.now }
+{
+    for verdict in verdicts {
+        if !matches!(verdict, Verdict::Passing) {
+            return false;
+        }
+    }
+    true
+}
+
+// The verdict on a command of an atomic push of which not all pass.
+fn failed_with_others(verdict: Verdict) -> Verdict
+    ensures { result ≡ failed_with_others verdict }
+{
+    match verdict {
+        Verdict::Passing => Verdict::Refused(Reason::AtomicFailure),
+        Verdict::Accepted => Verdict::Accepted,
+        Verdict::Refused(reason) => Verdict::Refused(reason),
+    }
+}
+
+// The same for all verdicts.
+fn fail_all(alloc: Global, verdicts: &[Verdict]) -> Result<Vec<Verdict>, AllocError>
+    ensures { IfOk result (λ after. after.items ≡ map failed_with_others verdicts.now) }
+{
+    let mut after = Vec::new(alloc);
+    for verdict in verdicts {
+        after.push(failed_with_others(*verdict))?;
+    }
+    Ok(after)
+}
+
+/// What the check makes of the verdicts, once each command is judged by itself: in an atomic push none passes if another does
+/// not.
+pub(crate) fn check_together(
+    alloc: Global,
+    atomic: bool,
+    verdicts: Vec<Verdict>,
+) -> Result<Vec<Verdict>, AllocError>
+    ensures { IfOk result (λ after. after.items ≡ (if atomic then checked_together verdicts.items else verdicts.items)) }
+{
+    if !atomic {
+        return Ok(verdicts);
+    }
+    if all_passing(&verdicts) {
+        return Ok(verdicts);
+    }
+    let after = fail_all(alloc, &verdicts)?;
     Ok(after)
 }
 

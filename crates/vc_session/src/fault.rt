@@ -6,7 +6,7 @@ use std::error::Error;
 use std::fmt;
 use vc_files::Fault;
 use vc_object_map::StoreFault;
-use vc_refs::RefFault;
+use vc_refs::{RefFault, SetAllFault};
 
 /// Why a step of a push is not done: files of the node are at fault, or the device or memory is.
 #[derive(Debug, Drop)]
@@ -58,6 +58,19 @@ impl From<RefFault> for SessionFault {
             RefFault::Conflict(name) => SessionFault::Refs(RefFault::Conflict(name)),
             RefFault::BadRefFile(path) => SessionFault::Refs(RefFault::BadRefFile(path)),
             RefFault::HeadLoop => SessionFault::Refs(RefFault::HeadLoop),
+        }
+    }
+}
+
+impl From<SetAllFault> for SessionFault {
+    ghost use Rattle.vc_session.specs.SessionFault.{from_set};
+
+    ghost from_gives = { λ fault e. e ≡ from_set fault };
+
+    fn from(fault: SetAllFault) -> SessionFault {
+        match fault {
+            SetAllFault::At(_, fault) => SessionFault::Refs(fault),
+            SetAllFault::Whole(fault) => SessionFault::from(fault),
         }
     }
 }

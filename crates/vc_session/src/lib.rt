@@ -10,6 +10,7 @@ mod reporting;
 mod session;
 mod tips;
 mod updating;
+mod updating_all;
 
 pub use fault::SessionFault;
 pub use judging::judge;

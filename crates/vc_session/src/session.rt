@@ -1,5 +1,5 @@
 //! One open push.
-ghost use Rattle.std.specs.Prelude.{◌≡◌, ◌⊎◌, ◌<◌, Option, false, length, slice_set, IfOk, IfErr, OnErr, OnOk, IsErrOf};
+ghost use Rattle.std.specs.Prelude.{◌≡◌, ◌⊎◌, ◌<◌, Option, false, true, length, slice_set, IfOk, IfErr, OnErr, OnOk, IsErrOf};
 ghost use Rattle.vc_history.specs.Stored.{AgreesIn};
 ghost use Rattle.vc_files.specs.FileMap.{FileMap, SameOutside};
 ghost use Rattle.vc_files.specs.Failures.{Wears, Writes};
@@ -16,12 +16,13 @@ ghost use Rattle.vc_session.specs.SessionFault.{IsRefusedStep};
 ghost use Rattle.vc_push_rules.specs.Steps.{EndsEarly, IsOpened, MayWrite, Steps, TellsReport};
 ghost use Rattle.vc_session.specs.Stepping.{SparesFiles, StepsHeld, TakesStep};
 
-use crate::checking::{check_in_files, count_passing, next_passing};
+use crate::checking::{check_in_files, check_together, count_passing, next_passing};
 use crate::fault::SessionFault;
 use crate::opening::{fresh, put_all};
 use crate::reporting::report;
 use crate::tips::add_tips;
 use crate::updating::update;
+use crate::updating_all::{Judgement, judge_all, set_passed};
 use std::alloc::{AllocError, Global};
 use std::marker::Model;
 use vc_files::{Fault, Files};
@@ -37,6 +38,8 @@ use vc_quarantine::{Arriving, drop_quarantine, learn_all, migrate};
 #[derive(Drop)]
 pub struct PushSession {
     slot: u8,
+    // Whether all its refs are set, or none.
+    atomic: bool,
     // Why the first carried body at fault is none of its kind. Then nothing is carried, and every command has 109.
     fault: Option<ObjectFault>,
     commands: Vec<Command>,
@@ -48,15 +51,14 @@ pub struct PushSession {
 }
 
 impl Model for PushSession {
-    ghost use Rattle.std.specs.Prelude.{false};
     ghost use Rattle.vc_push.specs.PushView.{commands_of};
     ghost use Rattle.vc_push_rules.specs.Session.{IsSession, SessionText};
 
     ghost Value = { SessionText };
 
-    ghost view = { λ s. record { slot = s.slot; atomic = false; fault = s.fault; commands = commands_of s.commands.items; verdicts = s.verdicts.items; names = s.names.items; stage = s.stage } };
+    ghost view = { λ s. record { slot = s.slot; atomic = s.atomic; fault = s.fault; commands = commands_of s.commands.items; verdicts = s.verdicts.items; names = s.names.items; stage = s.stage } };
 
-    ghost invariant = { λ s. IsSession (record { slot = s.slot; atomic = false; fault = s.fault; commands = commands_of s.commands.items; verdicts = s.verdicts.items; names = s.names.items; stage = s.stage }) };
+    ghost invariant = { λ s. IsSession (record { slot = s.slot; atomic = s.atomic; fault = s.fault; commands = commands_of s.commands.items; verdicts = s.verdicts.items; names = s.names.items; stage = s.stage }) };
 }
 
 // Another verdict at this place.
@@ -87,7 +89,7 @@ impl PushSession {
         slot: u8,
         push: Push,
     ) -> Result<PushSession, Fault>
-        ensures opened { IfOk result (λ s. (fault : Option Refusal) × FaultOf (push_text push).carried fault × IsOpened slot fault false (push_text push).commands s) }
+        ensures opened { IfOk result (λ s. (fault : Option Refusal) × FaultOf (push_text push).carried fault × IsOpened slot fault (push_text push).atomic (push_text push).commands s) }
         ensures carried { F.honest → IfOk result (λ s. Carries (F.content files.new) slot s.names (objects_of_push (push_text push).carried)) }
         ensures session { IfOk result IsSession }
         ensures outside { F.honest → SameOutside (quarantine_folder slot) (F.content files.old) (F.content files.new) }
@@ -103,11 +105,13 @@ impl PushSession {
         };
         let verdicts = fresh(alloc, &push.commands, fault)?;
         let Push {
+            atomic,
             commands,
             carried: _,
         } = push;
         Ok(PushSession {
             slot,
+            atomic,
             fault,
             commands,
             verdicts,
@@ -120,9 +124,10 @@ impl PushSession {
     pub fn arrived(
         alloc: Global,
         arriving: Arriving,
+        atomic: bool,
         commands: Vec<Command>,
     ) -> Result<PushSession, AllocError>
-        ensures opened { IfOk result (IsOpened arriving.slot arriving.fault false (commands_of commands.items)) }
+        ensures opened { IfOk result (IsOpened arriving.slot arriving.fault atomic (commands_of commands.items)) }
         ensures fault { (content : FileMap) (carried : Carried) → HasCome content arriving carried → FaultOf carried arriving.fault }
         ensures carried { IfOk result (λ s. (content : FileMap) (carried : Carried) → HasCome content arriving carried → Carries content arriving.slot s.names (objects_of_push carried)) }
         ensures session { IfOk result IsSession }
@@ -132,6 +137,7 @@ impl PushSession {
         let verdicts = fresh(alloc, &commands, fault)?;
         Ok(PushSession {
             slot,
+            atomic,
             fault,
             commands,
             verdicts,
@@ -140,7 +146,8 @@ impl PushSession {
         })
     }
 
-    // The check: 100 to 105, over what is stored and carried now.
+    // The check: 100 to 105, over what is stored and carried now; in an atomic push each command that has none of them has 117
+    // if another has one.
     fn check<F: Files>(
         &mut self,
         files: &mut F,
@@ -155,7 +162,7 @@ impl PushSession {
         ensures spares { SparesFiles F.honest F.content self.old.atomic files.old files.new }
         ensures wear { Wears F.failed F.can_fail F.left files.old files.new (IsErrOf result (SessionFault.Fault Fault.Device)) }
     {
-        let verdicts = check_in_files(
+        let each = check_in_files(
             alloc,
             files,
             self.slot,
@@ -163,6 +170,7 @@ impl PushSession {
             &self.verdicts,
             generations,
         )?;
+        let verdicts = check_together(alloc, self.atomic, each)?;
         let passed = count_passing(&verdicts);
         self.stage = stage_while(&verdicts, Stage::Checked);
         self.verdicts = verdicts;
@@ -189,6 +197,7 @@ impl PushSession {
     // no fault comes behind the write.
     fn update<F: Files>(&mut self, files: &mut F, alloc: Global) -> Result<Stepped, SessionFault>
         requires stage { self.old.stage ≡ Stage.Migrated }
+        requires single { self.old.atomic ≡ false }
         ensures steps { F.honest → IfOk result (Steps (F.content files.old) (F.content files.new) self.old self.new) }
         ensures takes { TakesStep self.old self.new result }
         ensures early { F.honest → OnErr result (EndsEarly (F.content files.old) (F.content files.new) self.old Stage.Migrated) }
@@ -209,6 +218,36 @@ impl PushSession {
         set_verdict(&mut self.verdicts, place, verdict);
         self.stage = stage_while(&self.verdicts, Stage::Migrated);
         Ok(Stepped::Updated(name, found))
+    }
+
+    // All commands of an atomic push are judged by the refs, 106 to 108, one after another, and then all refs are set, or none. All
+    // that takes memory is made first, so that no fault comes after the write that sets them.
+    fn update_all<F: Files>(
+        &mut self,
+        files: &mut F,
+        alloc: Global,
+    ) -> Result<Stepped, SessionFault>
+        requires stage { self.old.stage ≡ Stage.Migrated }
+        requires atomic { self.old.atomic ≡ true }
+        ensures steps { F.honest → IfOk result (Steps (F.content files.old) (F.content files.new) self.old self.new) }
+        ensures takes { TakesStep self.old self.new result }
+        ensures early { F.honest → OnErr result (EndsEarly (F.content files.old) (F.content files.new) self.old Stage.Migrated) }
+        ensures refused { F.honest → IfErr result (IsRefusedStep (F.content files.old) self.old Stage.Migrated) }
+        ensures spares { SparesFiles F.honest F.content self.old.atomic files.old files.new }
+        ensures wear { Writes F.honest F.content F.failed F.can_fail F.left files.old files.new (IsErrOf result (SessionFault.Fault Fault.Device)) }
+        ensures looks { F.honest → MayWrite (F.content files.old) self.old Stage.Migrated ⊎ Wears F.failed F.can_fail F.left files.old files.new (IsErrOf result (SessionFault.Fault Fault.Device)) }
+    {
+        let made = judge_all(files, alloc, &self.commands)?;
+        let Judgement { verdicts, refused } = made;
+        if let Some((name, reason)) = refused {
+            self.verdicts = verdicts;
+            self.stage = Stage::Done;
+            return Ok(Stepped::AtomicRefused(name, reason));
+        }
+        set_passed(files, alloc, &self.commands)?;
+        self.verdicts = verdicts;
+        self.stage = Stage::Done;
+        Ok(Stepped::Atomic(self.commands.len() as u64))
     }
 
     // All is told, and the quarantine is dropped.
@@ -257,9 +296,9 @@ impl PushSession {
         }
     }
 
-    /// The next step: the check of all commands, the storing of what is carried, the update of one command, or the end. After
-    /// an error the session is as it was, and of what the step was to store some may be there; no ref has changed. Once
-    /// it has told its report the session is at its end, and its slot is free. No step makes a file bad. The check looks at no
+    /// The next step: the check of all commands, the storing of what is carried, the update of one command, or of all if the push is
+    /// atomic, or the end. After an error the session is as it was, and of what the step was to store some may be there; no ref has
+    /// changed. Once it has told its report the session is at its end, and its slot is free. No step makes a file bad. The check looks at no
     /// commit whose number rules out that an old value is its ancestor, where the numbers agree with what is stored.
     pub fn step<F: Files>(
         &mut self,
@@ -278,6 +317,7 @@ impl PushSession {
         match self.stage {
             Stage::Unpacked => self.check(files, alloc, generations),
             Stage::Checked => self.migrate(files, alloc),
+            Stage::Migrated if self.atomic => self.update_all(files, alloc),
             Stage::Migrated => self.update(files, alloc),
             Stage::Done => self.finish(files, alloc),
         }

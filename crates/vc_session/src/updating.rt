@@ -19,7 +19,7 @@ use vc_refname::{NewNameError, RefName};
 use vc_refs::{RefFault, get, set};
 
 // The name that the bytes are, or none where they break a rule of names.
-fn ref_named(alloc: Global, name: &[u8]) -> Result<Option<RefName>, AllocError>
+pub(crate) fn ref_named(alloc: Global, name: &[u8]) -> Result<Option<RefName>, AllocError>
     ensures { IfOk result (λ found. found ≡ (if is_utf8 name.now && is_ref_name name.now then Some name.now else None)) }
 {
     let Ok(text) = str::from_utf8(name) else {
@@ -33,7 +33,7 @@ fn ref_named(alloc: Global, name: &[u8]) -> Result<Option<RefName>, AllocError>
 }
 
 // The value that a command expects of its ref: none where the old id is zero.
-fn expected(old: ObjectId) -> Option<ObjectId>
+pub(crate) fn expected(old: ObjectId) -> Option<ObjectId>
     ensures { result ≡ expected old }
 {
     if old == ObjectId::ZERO {

@@ -22,7 +22,7 @@ use Rattle.vc_model.specs.SharedCall.SharedCall.{Accept, Asks}
 use Rattle.vc_pkt.proofs.ListLaws.{IsLines-push}
 use Rattle.vc_pkt.proofs.Written.{line_written}
 use Rattle.vc_pkt.specs.Line.{flush, spelling}
-use Rattle.vc_push.specs.Push.{CommandText, PushText}
+use Rattle.vc_push.specs.Push.{HeadText, PushText, with_carried}
 use Rattle.vc_rules.proofs.OpenPushLaws.{content_beside}
 use Rattle.vc_quarantine.specs.Clean.{KeepsPacked, MakesNoneBad}
 use Rattle.vc_push_rules.specs.Quarantine.{IsDropped, quarantine_folder}
@@ -54,10 +54,10 @@ use Rattle.vc_shared.specs.declared.fault.SharedFault.{SharedFault}
 use Rattle.vc_shared.specs.declared.fault.SharedFault.TheVariants as shared
 
 -- ---- the commands
--- A push whose commands came can be told of: with a flush behind them it is a message.
-pub head_tellable : (before now : Option (List ℕ)) (place number : ℕ) (commands : List CommandText) → BeginsPush before now place number commands → AreTellableInOne commands
-head_tellable before now place number commands l =
-    let push : PushText = record { commands = commands; carried = Ok [] } in
+-- A push whose commands came can be told of: with a flush after them it is a message.
+pub head_tellable : (before now : Option (List ℕ)) (place number : ℕ) (head : HeadText) → BeginsPush before now place number head → AreTellableInOne head.commands
+head_tellable before now place number head l =
+    let push : PushText = with_carried head (Ok []) in
     let lines = l.lines ++ flush ∷ [] in
     let given = l.goes (flush ∷ []) in
     reads_tellable push (l.bytes ++ spelling flush) (lines, IsLines-push l.lines flush l.bytes (spelling flush) l.each (line_written flush tt), any_spelled (a_push push) lines given)
@@ -235,12 +235,12 @@ module _ (honest : Type 0) (before rest : Option (List ℕ)) (old new : FileMap)
   }
 
 -- ---- a push
-module _ (honest : Type 0) (before now rest : Option (List ℕ)) (place number : ℕ) (commands : List CommandText) (begins : BeginsPush before now place number commands) (old new : FileMap) (slots after : List (Option SessionText)) where
+module _ (honest : Type 0) (before now rest : Option (List ℕ)) (place number : ℕ) (head : HeadText) (begins : BeginsPush before now place number head) (old new : FileMap) (slots after : List (Option SessionText)) where
   -- it is open, or was turned away
   pub push_accepts : (q : Result ℕ AcceptFault) (result : Result (Option Accepted) AcceptFault) → result ≡ slot_told q
-      → IfOk q (λ k. (b : Option (List ℕ)) → BeginsPush b now place number commands → OpensFrom honest b rest new slots after k)
+      → IfOk q (λ k. (b : Option (List ℕ)) → BeginsPush b now place number head → OpensFrom honest b rest new slots after k)
       → OnErr q (after ≡ slots)
-      → IfErr q (λ e. (b : Option (List ℕ)) → BeginsPush b now place number commands → IsTurnedAway b rest slots e)
+      → IfErr q (λ e. (b : Option (List ℕ)) → BeginsPush b now place number head → IsTurnedAway b rest slots e)
       → (honest → IfErr q (IsCleared new slots)) → (honest → ChangesFree old new slots) → (honest → MakesNoneBad old new) → AcceptsUp honest before rest old new slots after result
   push_accepts (Ok k) result is opens unchanged turned cleared changes bad =
       let o = opens before begins in

@@ -45,14 +45,19 @@ beside_objects old new same = beside_by old new (same.at (codes "HEAD") refl) (s
 pub beside_ref : (name : List ℕ) (old new : FileMap) → KeepsTheRest name old new → SameBeside old new
 beside_ref name old new rest = beside_by old new (rest.outside.at (codes "HEAD") refl refl) (rest.outside.at (codes "index") refl refl)
 
-pub beside_update : (old new : FileMap) (atomic : Bool) → EndsUpdate atomic old new → SameBeside old new
-beside_update old new false same = beside_same old new same
-beside_update old new true (same, rest) = beside_by old new (rest.at (codes "HEAD") refl refl) (rest.at (codes "index") refl refl)
+beside_outside : (old new : FileMap) → KeepsOutside old new → SameBeside old new
+beside_outside old new rest = beside_by old new (rest.at (codes "HEAD") refl refl) (rest.at (codes "index") refl refl)
+
+pub beside_update : (old new : FileMap) (atomic : Bool) (names : List (List ℕ)) → EndsUpdate atomic names old new → SameBeside old new
+beside_update old new false names same = beside_same old new same
+beside_update old new true names (same, rest) = beside_outside old new rest.outside
 
 pub steps_beside : (old new : FileMap) (s t : SessionText) (did : SessionStep) → Steps old new s t did → SameBeside old new
 steps_beside old new s t (session.Checked n) h = beside_same old new h.files
 steps_beside old new s t session.Migrated h = beside_objects old new h.outside
 steps_beside old new s t (session.Updated name found) h = beside_ref name.items old new h.rest
+steps_beside old new s t (session.Atomic n) h = beside_outside old new h.rest.outside
+steps_beside old new s t (session.AtomicRefused name reason) h = beside_same old new h.files
 steps_beside old new s t (session.Finished report) h = beside_slot s.slot old new h.outside
 
 -- ---- a quarantine that is empty
@@ -76,6 +81,8 @@ pub steps_dropped : (old new : FileMap) (s t : SessionText) (did : SessionStep) 
 steps_dropped old new s t (session.Checked n) slot small fits apart h dropped = subst (IsDropped slot) (sym h.files) dropped
 steps_dropped old new s t session.Migrated slot small fits apart h dropped = dropped_on old new slot (beyond (codes "objects/") slot (λ rest. refl) old new h.outside) dropped
 steps_dropped old new s t (session.Updated name found) slot small fits apart h dropped = dropped_on old new slot (beyond_refs slot old new h.rest.outside) dropped
+steps_dropped old new s t (session.Atomic n) slot small fits apart h dropped = dropped_on old new slot (beyond_refs slot old new h.rest.outside) dropped
+steps_dropped old new s t (session.AtomicRefused name reason) slot small fits apart h dropped = subst (IsDropped slot) (sym h.files) dropped
 steps_dropped old new s t (session.Finished report) slot small fits apart h dropped =
     dropped_on old new slot (beyond (quarantine_folder s.slot) slot (λ rest. other_slot s.slot slot rest small fits apart) old new h.outside) dropped
 

@@ -110,7 +110,7 @@ module _ (old new : FileMap) (slots after : List (Option SessionText)) (push : P
     (held : HoldsShared old slots true n) (live : n.live ≡ Some pushes) (holds : HoldsSlots old slots pushes) (is : IsPush m push) (bad : MakesNoneBad old new) where
   -- the push as the machine opens it
   abbrev machine_push : OpenPush
-  machine_push = opened false is.refusal (map machine_command push.commands) is.objects
+  machine_push = opened push.atomic is.refusal (map machine_command push.commands) is.objects
 
   module _ (k : ℕ) (same : SameOutside (quarantine_folder k) old new) where
     -- it is open
@@ -123,8 +123,8 @@ module _ (old new : FileMap) (slots after : List (Option SessionText)) (push : P
 
       push_held : HoldsPush new o.session machine_push
       push_held =
-          subst (λ r. HoldsPush new o.session (opened false r (map machine_command push.commands) is.objects)) (sym (refusal_is push.carried o.fault is.refusal o.fault_is is.refused))
-          (opens_agree new o.session k o.fault false push.commands push.carried is.objects o.opened o.is_session o.fault_is o.carries is.brought)
+          subst (λ r. HoldsPush new o.session (opened push.atomic r (map machine_command push.commands) is.objects)) (sym (refusal_is push.carried o.fault is.refusal o.fault_is is.refused))
+          (opens_agree new o.session k o.fault push.atomic push.commands push.carried is.objects o.opened o.is_session o.fault_is o.carries is.brought)
 
       slots_then : HoldsSlots new (slice_set slots k (Some o.session)) pushes_then
       slots_then = record {

@@ -60,8 +60,8 @@ told_line c line h fit = record {
   id = read_id h.new c.new h.writes_new;
 }
 
-told_first : (c : CommandText) (line : List ℕ) → IsFirstCommandLine c line → length line ≤ 65516 → IsTellable c
-told_first c line h fit = record {
+told_first : (atomic : Bool) (c : CommandText) (line : List ℕ) → IsFirstCommandLine atomic c line → length line ≤ 65516 → IsTellable c
+told_first atomic c line h fit = record {
   name = h.name;
   short =
       let whole = room h.old h.new (c.name ++ 0 ∷ h.capabilities) line (ids_long h.old c.old h.writes_old) (ids_long h.new c.new h.writes_new) h.spelled fit in
@@ -79,5 +79,5 @@ told_lines (c ∷ cs) (text line ∷ others) behind (here, each) fit = (told_lin
 pub reads_tellable : ReadsTellable
 reads_tellable push bytes (lines, each, s) =
     let fit = subst (AllByRecursion Fits) s.whole (all_fit lines bytes each) in
-    let told : AllByRecursion IsTellable (s.command ∷ s.commands) = (told_first s.command s.first s.begins fit.0, told_lines s.commands s.others (flush ∷ s.stream) s.each fit.1) in
+    let told : AllByRecursion IsTellable (s.command ∷ s.commands) = (told_first push.atomic s.command s.first s.begins fit.0, told_lines s.commands s.others (flush ∷ s.stream) s.each fit.1) in
     record { each = All-from_recursion IsTellable push.commands (subst (AllByRecursion IsTellable) (sym s.some) told); few = s.few }

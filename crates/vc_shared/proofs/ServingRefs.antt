@@ -153,7 +153,7 @@ module _ (name : List ℕ) (legal : is_ref name ≡ true) where
   short_name : length name ≤ 255
   short_name = ltb-false 255 (length name) (keeps rules.TooLong)
 
-pub few_bytes : (name : List ℕ) → IsRefName name → length name ≤ 65457
+pub few_bytes : (name : List ℕ) → IsRefName name → length name ≤ 65450
 few_bytes name legal = let few : length name ≤ 255 = ltb-false 255 (length name) (legal rules.TooLong) in omega (arith, few)
 
 written_ref : (content : FileMap) (name : List ℕ) (id : ObjectId) → refs content name ≡ Some id → IsWrittenRef (name, id)

@@ -7,7 +7,7 @@ use Rattle.std.proofs.lemmas.Option.{slice_get_past, unwrap_or-slice_get}
 use Rattle.vc_files.specs.FileMap.{FileMap}
 use Rattle.vc_message.proofs.Totals.{less_or}
 use Rattle.vc_push_rules.specs.Session.{SessionText}
-use Rattle.vc_push_rules.specs.Steps.{EndsEarly, EndsUpdate, Steps}
+use Rattle.vc_push_rules.specs.Steps.{EndsEarly, EndsUpdate, Steps, names_of}
 use Rattle.vc_push_rules.specs.declared.stage.Stage.{Stage}
 use Rattle.vc_push_rules.specs.declared.stage.Stage.TheVariants as stages
 use Rattle.vc_push_rules.specs.declared.stage.Stepped.{Stepped as SessionStep}
@@ -17,7 +17,7 @@ use Rattle.vc_shared.specs.Slots.{AreTellable, AreToldInOne, IsSlotTellable, slo
 use Rattle.vc_shared.specs.Stepping.{IsEnd, IsHeldThere, LeavesPackedIn, StepsPush, StepsSlot, left_in}
 use Rattle.vc_shared.specs.declared.fault.SharedFault.{SharedFault}
 use Rattle.vc_shared.specs.declared.stepping.Stepped.{Stepped}
-use Rattle.vc_shared.specs.declared.stepping.Stepped.TheVariants.{Checked, Migrated, Updated, Finished}
+use Rattle.vc_shared.specs.declared.stepping.Stepped.TheVariants.{Checked, Migrated, Updated, Atomic, AtomicRefused, Finished}
 
 -- nothing is packed where no file changes
 pub packed_none : (content : FileMap) (v : Option SessionText) → LeavesPackedIn content content v
@@ -51,6 +51,8 @@ module _ (slots : List (Option SessionText)) (k : ℕ) where
         by (Ok (Checked n)) = told
         by (Ok Migrated) = told
         by (Ok (Updated name found)) = told
+        by (Ok (Atomic n)) = told
+        by (Ok (AtomicRefused name reason)) = told
         by (Ok (Finished bytes)) = tt
         by (Err e) = told
 
@@ -66,14 +68,14 @@ module _ (slots : List (Option SessionText)) (k : ℕ) where
   slot_unchanged after s t (Err e) is put same = λ refusal. put ∙ ap (λ (u : SessionText). slice_set slots k (Some u)) (same refusal) ∙ same_slot (Some s) is
 
 -- ---- a step that ends before anything is done
-none_updated : (content : FileMap) (atomic : Bool) → EndsUpdate atomic content content
-none_updated content false = refl
-none_updated content true = (refl, record { at = λ path outside other. refl; head = refl; good = λ path bad. bad })
+none_updated : (content : FileMap) (atomic : Bool) (names : List (List ℕ)) → EndsUpdate atomic names content content
+none_updated content false names = refl
+none_updated content true names = (refl, record { only = λ path other beside. refl; outside = record { at = λ path outside other. refl; head = refl; good = λ path bad. bad } })
 
 pub none_done : (content : FileMap) (s : SessionText) (stage : Stage) → EndsEarly content content s stage
 none_done content s stages.Unpacked = refl
 none_done content s stages.Checked = (λ id. inl refl, record { at = λ path outside. refl })
-none_done content s stages.Migrated = none_updated content s.atomic
+none_done content s stages.Migrated = none_updated content s.atomic (names_of s.commands)
 none_done content s stages.Done = record { at = λ path outside. refl }
 
 -- ---- the end
@@ -83,3 +85,5 @@ end_early old new s t (session.Finished report) end h = subst (EndsEarly old new
 end_early old new s t (session.Checked n) end h = absurd end
 end_early old new s t session.Migrated end h = absurd end
 end_early old new s t (session.Updated name found) end h = absurd end
+end_early old new s t (session.Atomic n) end h = absurd end
+end_early old new s t (session.AtomicRefused name reason) end h = absurd end

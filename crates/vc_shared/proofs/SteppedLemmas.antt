@@ -17,7 +17,7 @@ use Rattle.vc_model.specs.Message.{Message, Told}
 use Rattle.vc_model.specs.Message.Message.{Report}
 use Rattle.vc_model.specs.Node.{Deed, Reply}
 use Rattle.vc_model.specs.Node.Answer.{Did}
-use Rattle.vc_model.specs.Node.Reply.{MigratedAll, Passed, Sends, Updated as UpdatedOne}
+use Rattle.vc_model.specs.Node.Reply.{MigratedAll, Passed, RefusedAll, Sends, Updated as UpdatedOne, UpdatedAll}
 use Rattle.vc_model.specs.Push.{OpenPush, Slots}
 use Rattle.vc_model.specs.Repository.{Repository, no_effect}
 use Rattle.vc_model.specs.Shared.{SharedNode}
@@ -44,7 +44,7 @@ use Rattle.vc_shared.specs.Holding.{HoldsShared, HoldsSlot, HoldsSlots}
 use Rattle.vc_shared.specs.Slots.{slot_of}
 use Rattle.vc_shared.specs.Stepping.{Tells, left_by}
 use Rattle.vc_shared.specs.declared.stepping.Stepped.{Stepped}
-use Rattle.vc_shared.specs.declared.stepping.Stepped.TheVariants.{Checked, Migrated, Updated, Finished}
+use Rattle.vc_shared.specs.declared.stepping.Stepped.TheVariants.{Checked, Migrated, Updated, Atomic, AtomicRefused, Finished}
 
 -- ---- what is sent at the end
 report_written : (report : ReportText) (told : List Told) (fault : Option ObjectFault) (number : Option ℕ) (bytes : List ℕ) → number ≡ option_map fault_number fault → report.unpack ≡ option_map unpack_error number
@@ -142,19 +142,44 @@ module _ (old new : FileMap) (slots after : List (Option SessionText)) (n : Shar
       subst (λ (x : List ℕ). Leads n (StepOf k) new after true (Quietly (Did (UpdatedOne x (option_map machine_reason reason))))) (sym (ap (λ v. v.items) tells.0))
       (subst (λ x. Leads n (StepOf k) new after true (Quietly (Did (UpdatedOne name.items (option_map machine_reason x))))) (sym tells.1)
       (goes (session.Updated name found) h (UpdatedOne name.items (option_map machine_reason found)) (ap (λ (u : SessionText). u.slot) h.session) (step (session.Updated name found) h) left))
+  stepped (session.Atomic c) (Atomic set) h tells left =
+      subst (λ (x : ℕ). Leads n (StepOf k) new after true (Quietly (Did (UpdatedAll x)))) (sym tells)
+      (goes (session.Atomic c) h (UpdatedAll c) (ap (λ (u : SessionText). u.slot) h.session) (step (session.Atomic c) h) left)
+  stepped (session.AtomicRefused name reason) (AtomicRefused named cause) h tells left =
+      subst (λ (x : List ℕ). Leads n (StepOf k) new after true (Quietly (Did (RefusedAll x (machine_reason cause))))) (sym (ap (λ v. v.items) tells.0))
+      (subst (λ x. Leads n (StepOf k) new after true (Quietly (Did (RefusedAll name.items (machine_reason x))))) (sym tells.1)
+      (goes (session.AtomicRefused name reason) h (RefusedAll name.items (machine_reason reason)) (ap (λ (u : SessionText). u.slot) h.session) (step (session.AtomicRefused name reason) h) left))
   stepped (session.Finished report) (Finished bytes) h tells left =
       subst (λ (xs : List (Option SessionText)). Leads n (StepOf k) new xs true (SendsBytes bytes.items)) (sym left)
       (ended old new slots n pushes k s t p (session.Finished report) held live holds small is at push clean h bad (report_text report) bytes.items
       (subst (λ (j : ℕ). IsDropped j new) at h.dropped) (step (session.Finished report) h) (written (report_text report) h.report_is) tells)
   stepped (session.Checked c) Migrated h tells left = absurd tells
   stepped (session.Checked c) (Updated named reason) h tells left = absurd tells
+  stepped (session.Checked c) (Atomic set) h tells left = absurd tells
+  stepped (session.Checked c) (AtomicRefused named because) h tells left = absurd tells
   stepped (session.Checked c) (Finished bytes) h tells left = absurd tells
   stepped session.Migrated (Checked passed) h tells left = absurd tells
   stepped session.Migrated (Updated named reason) h tells left = absurd tells
+  stepped session.Migrated (Atomic set) h tells left = absurd tells
+  stepped session.Migrated (AtomicRefused named because) h tells left = absurd tells
   stepped session.Migrated (Finished bytes) h tells left = absurd tells
   stepped (session.Updated name found) (Checked passed) h tells left = absurd tells
   stepped (session.Updated name found) Migrated h tells left = absurd tells
+  stepped (session.Updated name found) (Atomic set) h tells left = absurd tells
+  stepped (session.Updated name found) (AtomicRefused named because) h tells left = absurd tells
   stepped (session.Updated name found) (Finished bytes) h tells left = absurd tells
+  stepped (session.Atomic c) (Checked passed) h tells left = absurd tells
+  stepped (session.Atomic c) Migrated h tells left = absurd tells
+  stepped (session.Atomic c) (Updated named reason) h tells left = absurd tells
+  stepped (session.Atomic c) (AtomicRefused named because) h tells left = absurd tells
+  stepped (session.Atomic c) (Finished bytes) h tells left = absurd tells
+  stepped (session.AtomicRefused name cause) (Checked passed) h tells left = absurd tells
+  stepped (session.AtomicRefused name cause) Migrated h tells left = absurd tells
+  stepped (session.AtomicRefused name cause) (Updated named reason) h tells left = absurd tells
+  stepped (session.AtomicRefused name cause) (Atomic set) h tells left = absurd tells
+  stepped (session.AtomicRefused name cause) (Finished bytes) h tells left = absurd tells
   stepped (session.Finished report) (Checked passed) h tells left = absurd tells
   stepped (session.Finished report) Migrated h tells left = absurd tells
   stepped (session.Finished report) (Updated named reason) h tells left = absurd tells
+  stepped (session.Finished report) (Atomic set) h tells left = absurd tells
+  stepped (session.Finished report) (AtomicRefused named because) h tells left = absurd tells

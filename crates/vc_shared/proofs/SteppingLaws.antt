@@ -33,7 +33,7 @@ use Rattle.vc_quarantine.specs.PushState.{IsDamagedSeen}
 use Rattle.vc_push_rules.specs.Quarantine.{quarantined}
 use Rattle.vc_push_rules.specs.Session.{SessionText}
 use Rattle.vc_session.specs.SessionFault.{IsRefusedStep}
-use Rattle.vc_push_rules.specs.Steps.{EndsEarly, IsReport}
+use Rattle.vc_push_rules.specs.Steps.{EndsEarly, IsReport, names_of}
 use Rattle.vc_session.specs.declared.fault.SessionFault.{SessionFault}
 use Rattle.vc_session.specs.declared.fault.SessionFault.TheVariants as refusal
 use Rattle.vc_push_rules.specs.declared.stage.Stage.{Stage}
@@ -83,7 +83,7 @@ module _ (old new : FileMap) (slots after : List (Option SessionText)) (n : Shar
   stopped : (stage : Stage) → s.stage ≡ stage → EndsEarly old new s stage → Leads n (StepOf k) new after false (Quietly (Fault f))
   stopped stages.Unpacked at early = idle (beside_same old new early) (agrees stages.Unpacked early)
   stopped stages.Checked at early = cut (push.stage ∙ ap machine_stage at) (beside_objects old new early.1) (agrees stages.Checked early)
-  stopped stages.Migrated at early = idle (beside_update old new s.atomic early) (agrees stages.Migrated early)
+  stopped stages.Migrated at early = idle (beside_update old new s.atomic (names_of s.commands) early) (agrees stages.Migrated early)
   stopped stages.Done at early = idle (beside_slot s.slot old new early) (agrees stages.Done early)
 
 -- ---- over clean files a step is refused for a fault alone

@@ -65,6 +65,7 @@ reason_short reason.AlreadyExists = omega arith
 reason_short reason.NameConflict = omega arith
 reason_short reason.Stale = omega arith
 reason_short reason.UnpackerError = omega arith
+reason_short reason.AtomicFailure = omega arith
 
 told_written : (c : CommandText) (v : Verdict) (t : ToldText) → IsTellable c → Tells c v t → IsWrittenTold t
 told_written c Accepted t h is = subst IsWrittenTold (sym is) (record { name = h.name; id = h.id; short = let short = h.short in omega (arith, short) })
@@ -104,6 +105,8 @@ pub short_report : (s : SessionText) (did : SessionStep) → TellsReport s did �
 short_report s (session.Checked n) tells h = tt
 short_report s session.Migrated tells h = tt
 short_report s (session.Updated name found) tells h = tt
+short_report s (session.Atomic n) tells h = tt
+short_report s (session.AtomicRefused name reason) tells h = tt
 short_report s (session.Finished report) tells h =
     let written = written_report s (report_text report) tells h in
     (written.short, All-from_recursion (λ t. IsShortTold (told_of t)) report.told.items (short_told report.told.items written.told))

@@ -22,7 +22,7 @@ use Rattle.vc_local.specs.declared.fault.NodeFault.TheVariants.{Down}
 use Rattle.vc_object.specs.declared.fault.ObjectFault.{ObjectFault}
 use Rattle.vc_pkt.specs.ObjectStream.{between}
 use Rattle.vc_pkt.specs.declared.fault.PktFault.{PktFault}
-use Rattle.vc_push.specs.Push.{CommandText, FaultOf, PushText}
+use Rattle.vc_push.specs.Push.{FaultOf, HeadText, PushText}
 use Rattle.vc_push_rules.specs.Carrying.{Carries, objects_of_push}
 use Rattle.vc_push_rules.specs.Quarantine.{IsDropped}
 use Rattle.vc_push_rules.specs.Session.{SessionText}
@@ -47,13 +47,13 @@ pub record KeepsAtLoss {S T : Type 0} (failed : S → ℕ) (can_fail : S → Typ
   pub kept : honest → IfErr result (λ e. e ≡ ReadFailed → Kept)
 
 -- ---- a push
--- of a push with these commands what stands before its objects was taken, so many bytes and lines
-abbrev pub BeginsPush : Option (List ℕ) → Option (List ℕ) → ℕ → ℕ → List CommandText → Type 0
-BeginsPush before now place number commands = LeadsTo any_step beginning before now place number (state_at (of_push commands (Ok [])) between)
+-- of a push that asks for this what stands before its objects was taken, so many bytes and lines
+abbrev pub BeginsPush : Option (List ℕ) → Option (List ℕ) → ℕ → ℕ → HeadText → Type 0
+BeginsPush before now place number head = LeadsTo any_step beginning before now place number (state_at (of_push head (Ok [])) between)
 
 -- so it is, whatever the reader had before
-abbrev pub FromHead : Option (List ℕ) → Taken → List CommandText → (Option (List ℕ) → Type 0) → Type 0
-FromHead now taken commands Holds = (before : Option (List ℕ)) → BeginsPush before now taken.bytes taken.lines commands → Holds before
+abbrev pub FromHead : Option (List ℕ) → Taken → HeadText → (Option (List ℕ) → Type 0) → Type 0
+FromHead now taken head Holds = (before : Option (List ℕ)) → BeginsPush before now taken.bytes taken.lines head → Holds before
 
 -- All of the push came. The session has its commands, and what it carries stands in the slot's quarantine.
 pub record Arrives (honest : Type 0) (before new : Option (List ℕ)) (content : FileMap) (slot : ℕ) (s : SessionText) : Type 0 where
@@ -61,7 +61,7 @@ pub record Arrives (honest : Type 0) (before new : Option (List ℕ)) (content :
   pub taken : TakesAll before new (a_push push)
   pub fault : Option ObjectFault
   pub fault_is : honest → FaultOf push.carried fault
-  pub opened : IsOpened slot fault false push.commands s
+  pub opened : IsOpened slot fault push.atomic push.commands s
   pub carries : honest → Carries content slot s.names (objects_of_push push.carried)
 
 -- the same, of what the reader had before as the last: so a clause says it of each
@@ -90,9 +90,9 @@ pub data IsTurnedAway (before new : Option (List ℕ)) (slots : List (Option Ses
   busy : (push : PushText) → TakesAll before new (a_push push) → AreTaken slots → e ≡ Node shared.Busy → IsTurnedAway before new slots e
 
 -- so it is of a reader that had any bytes before it, and what is told of one that fails
-pub record RefusesPush {S : Type 0} (remaining : S → Option (List ℕ)) (failed : S → ℕ) (can_fail : S → Type 0) (old new : S) (taken : Taken) (commands : List CommandText) (slots : List (Option SessionText)) (result : Result ℕ AcceptFault) : Type 0 where
+pub record RefusesPush {S : Type 0} (remaining : S → Option (List ℕ)) (failed : S → ℕ) (can_fail : S → Type 0) (old new : S) (taken : Taken) (head : HeadText) (slots : List (Option SessionText)) (result : Result ℕ AcceptFault) : Type 0 where
   pub failures : TellsLoss failed can_fail old new (IsErrOf result ReadFailed) (ends_in_fault result ≡ true)
-  pub why : IfErr result (λ e. FromHead (remaining old) taken commands (λ before. IsTurnedAway before (remaining new) slots e))
+  pub why : IfErr result (λ e. FromHead (remaining old) taken head (λ before. IsTurnedAway before (remaining new) slots e))
 
 -- after a refusal nothing stands in the quarantine of the lowest free slot
 abbrev pub IsCleared : FileMap → List (Option SessionText) → AcceptFault → Type 0

@@ -7,7 +7,7 @@ use Rattle.vc_message.specs.Told.{SendsBytes}
 use Rattle.vc_model.specs.Message.{Message}
 use Rattle.vc_model.specs.Node.{Answer}
 use Rattle.vc_model.specs.Node.Answer.{Did}
-use Rattle.vc_model.specs.Node.Reply.{MigratedAll, Opened, Passed, Updated as UpdatedOne}
+use Rattle.vc_model.specs.Node.Reply.{MigratedAll, Opened, Passed, RefusedAll, Updated as UpdatedOne, UpdatedAll}
 use Rattle.vc_model.specs.Repository.{IsBare, IsSound}
 use Rattle.vc_model.specs.Shared.{SharedNode, slot_count}
 use Rattle.vc_model.specs.SharedCall.{SharedAnswers, SharedCall}
@@ -21,13 +21,15 @@ use Rattle.vc_shared.specs.declared.accepting.Accepted.{Accepted}
 use Rattle.vc_shared.specs.declared.accepting.Accepted.TheVariants.{Reply, Slot}
 use Rattle.vc_shared.specs.declared.fault.SharedFault.{SharedFault}
 use Rattle.vc_shared.specs.declared.stepping.Stepped.{Stepped}
-use Rattle.vc_shared.specs.declared.stepping.Stepped.TheVariants.{Checked, Migrated, Updated, Finished}
+use Rattle.vc_shared.specs.declared.stepping.Stepped.TheVariants.{Checked, Migrated, Updated, Atomic, AtomicRefused, Finished}
 
 -- the machine's answer to a step, as it is told
 abbrev pub SteppedAs : Result Stepped SharedFault → Answer → Option Message → Type 0
 SteppedAs (Ok (Checked n)) a sends = Quietly (Did (Passed n)) a sends
 SteppedAs (Ok Migrated) a sends = Quietly (Did MigratedAll) a sends
 SteppedAs (Ok (Updated name found)) a sends = Quietly (Did (UpdatedOne name.items (option_map machine_reason found))) a sends
+SteppedAs (Ok (Atomic n)) a sends = Quietly (Did (UpdatedAll n)) a sends
+SteppedAs (Ok (AtomicRefused name reason)) a sends = Quietly (Did (RefusedAll name.items (machine_reason reason))) a sends
 SteppedAs (Ok (Finished bytes)) a sends = SendsBytes bytes.items a sends
 SteppedAs (Err e) a sends = Quietly (fault_answer e) a sends
 

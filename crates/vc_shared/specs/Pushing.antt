@@ -1,5 +1,5 @@
 -- How a push is opened in the lowest free slot, and that what is said of it is the machine's answer to its message.
-use Rattle.std.specs.Prelude.{◌≡◌, ◌≢◌, ◌≤◌, ◌<◌, ◌⊎◌, ℕ, Bool, true, false, List, length, Option, Some, None, Result, Ok, Err, IfOk, IfErr, OnErr, slice_set}
+use Rattle.std.specs.Prelude.{◌≡◌, ◌≢◌, ◌≤◌, ◌<◌, ◌⊎◌, ℕ, Bool, true, List, length, Option, Some, None, Result, Ok, Err, IfOk, IfErr, OnErr, slice_set}
 use Rattle.std.specs.List.{All}
 use Rattle.vc_files.specs.FileMap.{FileMap, SameOutside}
 use Rattle.vc_files.specs.declared.faults.Fault.{Fault as FilesFault}
@@ -57,7 +57,7 @@ pub record OpensSlot (new : FileMap) (slots after : List (Option SessionText)) (
   pub session : SessionText
   pub fault : Option ObjectFault
   pub fault_is : FaultOf push.carried fault
-  pub opened : IsOpened k fault false push.commands session
+  pub opened : IsOpened k fault push.atomic push.commands session
   pub is_session : IsSession session
   pub carries : Carries new k session.names (objects_of_push push.carried)
   pub clean : IsQuarantineClean new k

@@ -22,13 +22,15 @@ use Rattle.vc_shared.specs.Slots.{slot_of}
 use Rattle.vc_shared.specs.declared.fault.SharedFault.{SharedFault}
 use Rattle.vc_shared.specs.declared.fault.SharedFault.TheVariants.{NoSuchSlot}
 use Rattle.vc_shared.specs.declared.stepping.Stepped.{Stepped}
-use Rattle.vc_shared.specs.declared.stepping.Stepped.TheVariants.{Checked, Migrated, Updated, Finished}
+use Rattle.vc_shared.specs.declared.stepping.Stepped.TheVariants.{Checked, Migrated, Updated, Atomic, AtomicRefused, Finished}
 
 -- what a session's step did is told so; a report by its bytes
 abbrev pub Tells : SessionStep → Stepped → Type 0
 Tells (session.Checked n) (Checked m) = m ≡ n
 Tells session.Migrated Migrated = Unit {0}
 Tells (session.Updated name found) (Updated told reason) = (told ≡ name) × (reason ≡ found)
+Tells (session.Atomic n) (Atomic m) = m ≡ n
+Tells (session.AtomicRefused name reason) (AtomicRefused told cause) = (told ≡ name) × (cause ≡ reason)
 Tells (session.Finished report) (Finished bytes) = bytes.items ≡ flat_map spelling (report_lines (report_text report))
 Tells _ _ = ⊥
 

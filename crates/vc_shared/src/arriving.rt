@@ -3,7 +3,7 @@ ghost use Rattle.std.specs.Prelude.{◌≡◌, ◌<◌, Bool, IfOk, IfErr, IfNon
 ghost use Rattle.vc_files.specs.FileMap.{SameOutside};
 ghost use Rattle.vc_files.specs.Failures.{Writes};
 ghost use Rattle.vc_message.specs.Source.{TellsFailures};
-ghost use Rattle.vc_push.specs.PushView.{commands_of};
+ghost use Rattle.vc_push.specs.PushView.{commands_of, head_text};
 ghost use Rattle.vc_quarantine.specs.Clean.{IsQuarantineClean, MakesNoneBad};
 ghost use Rattle.vc_push_rules.specs.Quarantine.{quarantine_folder};
 ghost use Rattle.vc_push_rules.specs.Session.{IsSession};
@@ -24,7 +24,7 @@ use vc_local::NodeFault;
 use vc_message::{
     Head, IncomingFault, Source, Taken, next_object, read_head, skip_pack, skip_push,
 };
-use vc_push::Command;
+use vc_push::PushHead;
 use vc_quarantine::{Arriving, drop_quarantine};
 use vc_session::PushSession;
 
@@ -36,13 +36,13 @@ fn arrive<F: Files, R: Source>(
     slot: u8,
     reader: &mut R,
     mut taken: Taken,
-    commands: Vec<Command>,
+    head: PushHead,
 ) -> Result<PushSession, AcceptFault>
     requires few { taken.lines < taken.bytes }
-    ensures arrived { IfOk result (λ s. FromHead (R.remaining reader.old) taken (commands_of commands.items) (ArrivesIn F.honest (R.remaining reader.new) (F.content files.new) slot s)) }
-    ensures session { IfOk result (λ s. IsSession s × (s.commands ≡ commands_of commands.items)) }
+    ensures arrived { IfOk result (λ s. FromHead (R.remaining reader.old) taken (head_text head) (ArrivesIn F.honest (R.remaining reader.new) (F.content files.new) slot s)) }
+    ensures session { IfOk result (λ s. IsSession s × (s.commands ≡ commands_of head.commands.items)) }
     ensures clean { F.honest → OnOk result (IsQuarantineClean (F.content files.new) slot) }
-    ensures stopped { IfErr result (λ e. FromHead (R.remaining reader.old) taken (commands_of commands.items) (λ before. IsStopped before (R.remaining reader.new) e)) }
+    ensures stopped { IfErr result (λ e. FromHead (R.remaining reader.old) taken (head_text head) (λ before. IsStopped before (R.remaining reader.new) e)) }
     ensures outside { F.honest → SameOutside (quarantine_folder slot) (F.content files.old) (F.content files.new) }
     ensures bad { F.honest → MakesNoneBad (F.content files.old) (F.content files.new) }
     ensures wear { Writes F.honest F.content F.failed F.can_fail F.left files.old files.new (TellsDevice result) }
@@ -51,7 +51,8 @@ fn arrive<F: Files, R: Source>(
     let mut arriving = Arriving::begin(files, alloc, slot)?;
     'objects: loop {
         let Some(found) = next_object(alloc, reader, &mut taken)? else {
-            let session = PushSession::arrived(alloc, arriving, commands)?;
+            let PushHead { atomic, commands } = head;
+            let session = PushSession::arrived(alloc, arriving, atomic, commands)?;
             return Ok(session);
         };
         arriving.take(files, alloc, &found.1)?;
@@ -67,15 +68,15 @@ pub(crate) fn take_push<F: Files, R: Source>(
     slots: &mut [Option<PushSession>; 8],
     reader: &mut R,
     taken: Taken,
-    commands: Vec<Command>,
+    head: PushHead,
 ) -> Result<u8, AcceptFault>
     requires few { taken.lines < taken.bytes }
-    requires told { AreTellableInOne (commands_of commands.items) }
+    requires told { AreTellableInOne (commands_of head.commands.items) }
     requires tellable { AreTellable slots.old }
     ensures tellable { AreTellable slots.new }
-    ensures opened { IfOk result (λ k. FromHead (R.remaining reader.old) taken (commands_of commands.items) (OpensIn F.honest (R.remaining reader.new) (F.content files.new) slots.old slots.new k)) }
+    ensures opened { IfOk result (λ k. FromHead (R.remaining reader.old) taken (head_text head) (OpensIn F.honest (R.remaining reader.new) (F.content files.new) slots.old slots.new k)) }
     ensures unchanged { OnErr result (slots.new ≡ slots.old) }
-    ensures refused { RefusesPush R.remaining R.failed R.can_fail reader.old reader.new taken (commands_of commands.items) slots.old result }
+    ensures refused { RefusesPush R.remaining R.failed R.can_fail reader.old reader.new taken (head_text head) slots.old result }
     ensures cleared { F.honest → IfErr result (IsCleared (F.content files.new) slots.old) }
     ensures outside { F.honest → ChangesFree (F.content files.old) (F.content files.new) slots.old }
     ensures good { F.honest → KeepsGood (F.content files.old) (F.content files.new) }
@@ -85,7 +86,7 @@ pub(crate) fn take_push<F: Files, R: Source>(
         skip_push(alloc, reader, taken)?;
         return Err(AcceptFault::Node(SharedFault::Busy));
     };
-    match arrive(alloc, files, slot, reader, taken, commands) {
+    match arrive(alloc, files, slot, reader, taken, head) {
         Ok(session) => {
             slots[usize::from(slot)] = Some(session);
             Ok(slot)
@@ -142,7 +143,7 @@ pub(crate) fn take_next<F: Files, R: Source>(
     let (head, taken) = found;
     match head {
         Head::Message(message) => told(accepting::take(alloc, files, slots, message)),
-        Head::Push(commands) => opened(take_push(alloc, files, slots, reader, taken, commands)),
+        Head::Push(asked) => opened(take_push(alloc, files, slots, reader, taken, asked)),
         Head::Pack(_) => {
             skip_pack(alloc, reader, taken)?;
             Err(AcceptFault::Node(SharedFault::Unexpected))

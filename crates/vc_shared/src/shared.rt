@@ -211,7 +211,8 @@ impl<F: Files> Shared<F> {
     }
 
     /// The next step of the push in this slot: the check of all its commands, the storing of what it carries, the update of
-    /// one ref, or its report, after which the slot is free. 111 where no push is open there.
+    /// one ref, or of all the refs of an atomic push at once, or its report, after which the slot is free. 111 where no push is
+    /// open there.
     pub fn step(&mut self, slot: u8) -> Result<Stepped, SharedFault>
         ensures answers { F.honest → AnswersCall F.content (StepOf slot) (SteppedAs result) self.old self.new }
         ensures steps { F.honest → HoldsIn F.content self.old slot → IfOk result (StepsIn F.content self.old self.new slot) }

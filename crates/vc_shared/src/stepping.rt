@@ -25,6 +25,10 @@ pub enum Stepped {
     Migrated,
     /// The ref of this name was set, or why it was not.
     Updated(Vec<u8>, Option<Reason>),
+    /// The refs of all commands of an atomic push were set, so many.
+    Atomic(u64),
+    /// No ref of an atomic push was set: the name of the first command that has a cause of its own, and that cause.
+    AtomicRefused(Vec<u8>, Reason),
     /// The slot is free, and these bytes are the report.
     Finished(Vec<u8>),
 }
@@ -39,6 +43,8 @@ fn told(alloc: Global, did: SessionStep) -> Result<Stepped, AllocError>
         SessionStep::Checked(passed) => Ok(Stepped::Checked(passed)),
         SessionStep::Migrated => Ok(Stepped::Migrated),
         SessionStep::Updated(name, found) => Ok(Stepped::Updated(name, found)),
+        SessionStep::Atomic(refs) => Ok(Stepped::Atomic(refs)),
+        SessionStep::AtomicRefused(name, reason) => Ok(Stepped::AtomicRefused(name, reason)),
         SessionStep::Finished(report) => Ok(Stepped::Finished(report.write(alloc)?)),
     }
 }

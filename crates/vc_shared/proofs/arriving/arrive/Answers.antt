@@ -1,4 +1,4 @@
-use Rattle.std.proofs.Common.{arith, ◌<◌, ◌^◌, ℕ, false, [], Ok, refl, sym, ◌∙◌, subst}
+use Rattle.std.proofs.Common.{arith, ◌<◌, ◌^◌, ℕ, [], Ok, refl, sym, ◌∙◌, subst}
 use Rattle.std.proofs.lemmas.Result.{err_from_is_err_and}
 use Rattle.vc_files.proofs.FileMapLemmas.{outside_then}
 use Rattle.vc_files.proofs.WearLemmas.{writes_both, writes_told}
@@ -6,8 +6,8 @@ use Rattle.vc_files.specs.FileMap.{SameOutside}
 use Rattle.vc_files.specs.declared.faults.Fault.TheVariants.{Memory}
 use Rattle.vc_message.specs.Streaming.{of_push}
 use Rattle.vc_pkt.specs.StreamObjectView.{stored}
-use Rattle.vc_push.specs.Push.{carry}
-use Rattle.vc_push.specs.PushView.{commands_of}
+use Rattle.vc_push.specs.Push.{HeadText, carry, with_carried}
+use Rattle.vc_push.specs.PushView.{head_text}
 use Rattle.vc_quarantine.proofs.CleanLemmas.{bad_then, clean_after}
 use Rattle.vc_quarantine.specs.Arrival.{HasArrived}
 use Rattle.vc_push_rules.specs.Carrying.{Carries, objects_of_push}
@@ -47,7 +47,7 @@ returns-in_err-found-clause-stopped g c =
     let p = err_from_is_err_and c.from_residual-in_err-found.result c.from_residual-in_err-found.ensures.1 in
     rw (p.1, p.2) (λ before so.
     let at = c.objects.invariant.leads before so in
-    stopped_by before _ c.in_err-found.field-0.0 (c.in_err-found.ensures.fault before (of_push (commands_of c.args.commands.items) at.0) at.1))
+    stopped_by before _ c.in_err-found.field-0.0 (c.in_err-found.ensures.fault before (of_push (head_text c.args.head) at.0) at.1))
 
 pub returns-in_err-found-clause-wear : goal.returns-in_err-found-clause-wear
 returns-in_err-found-clause-wear g c =
@@ -62,7 +62,7 @@ objects-preserved g c =
     record {
       leads = λ before so.
           let at = c.objects.invariant.leads before so in
-          (carry (stored c.in-Some.found.1) at.0, next before (of_push (commands_of c.args.commands.items) at.0) at.1 refl, λ honest. c.in_ok-take.ensures.brought honest at.0 (at.2 honest));
+          (carry (stored c.in-Some.found.1) at.0, next before (of_push (head_text c.args.head) at.0) at.1 refl, λ honest. c.in_ok-take.ensures.brought honest at.0 (at.2 honest));
       few = c.in_ok-found.ensures.few;
       slot = c.in_ok-take.ensures.slot ∙ c.objects.invariant.slot;
       outside = λ honest. outside_then (c.objects.invariant.outside honest)
@@ -81,22 +81,22 @@ returns-in_err-session-clause-stopped g c =
     let p = err_from_is_err_and c.from_residual-in_err-session.result c.from_residual-in_err-session.ensures.1 in
     rw (p.1, p.2) (λ before so.
     let at = c.objects.invariant.leads before so in
-    let all = (rw c.in_default.is at c.in_ok-found.ensures.end) before (of_push (commands_of c.args.commands.items) at.0) at.1 in
+    let all = (rw c.in_default.is at c.in_ok-found.ensures.end) before (of_push (head_text c.args.head) at.0) at.1 in
     by_node (all.0, all.1) Memory refl)
 
 pub returns-in_default-clause-arrived : goal.returns-in_default-clause-arrived
 returns-in_default-clause-arrived g c = λ before so.
-    let commands = commands_of c.args.commands.items in
+    let head : HeadText = head_text c.args.head in
     let content = g.F.Files.content c.objects.files in
     let s = c.in_ok-session.session in
     let at = c.objects.invariant.leads before so in
-    let all = (rw c.in_default.is at c.in_ok-found.ensures.end) before (of_push commands at.0) at.1 in
+    let all = (rw c.in_default.is at c.in_ok-found.ensures.end) before (of_push head at.0) at.1 in
     record {
-      push = record { commands = commands; carried = at.0 };
+      push = with_carried head at.0;
       taken = all;
       fault = c.objects.arriving.fault;
       fault_is = λ honest. c.arrived.ensures.fault content at.0 (at.2 honest);
-      opened = subst (λ (k : ℕ). IsOpened k c.objects.arriving.fault false commands s) c.objects.invariant.slot c.in_ok-session.ensures.opened;
+      opened = subst (λ (k : ℕ). IsOpened k c.objects.arriving.fault head.atomic head.commands s) c.objects.invariant.slot c.in_ok-session.ensures.opened;
       carries = λ honest. subst (λ (k : ℕ). Carries content k s.names (objects_of_push at.0)) c.objects.invariant.slot (c.in_ok-session.ensures.carried content at.0 (at.2 honest));
     }
 
@@ -106,7 +106,7 @@ returns-in_err-take-clause-stopped g c =
     let next = rw c.in-Some.is at c.in_ok-found.ensures.object in
     rw (p.1, p.2) (λ before so.
     let at = c.objects.invariant.leads before so in
-    by_node (part_taken _ _ _ _ _ (next before (of_push (commands_of c.args.commands.items) at.0) at.1 refl)) c.in_err-take.field-0.0 refl)
+    by_node (part_taken _ _ _ _ _ (next before (of_push (head_text c.args.head) at.0) at.1 refl)) c.in_err-take.field-0.0 refl)
 
 pub returns-in_err-take-clause-bad : goal.returns-in_err-take-clause-bad
 returns-in_err-take-clause-bad g c = λ honest. bad_then (c.objects.invariant.bad honest) (c.in_err-take.ensures.bad honest)

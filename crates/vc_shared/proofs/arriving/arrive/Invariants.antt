@@ -6,7 +6,7 @@ use Rattle.vc_message.specs.Source.{TellsFailures}
 use Rattle.vc_message.specs.Streaming.{LeadsTo, of_push, state_at}
 use Rattle.vc_pkt.specs.ObjectStream.{between}
 use Rattle.vc_push.specs.Push.{Carried}
-use Rattle.vc_push.specs.PushView.{commands_of}
+use Rattle.vc_push.specs.PushView.{head_text}
 use Rattle.vc_quarantine.specs.Arrival.{HasArrived}
 use Rattle.vc_quarantine.specs.Clean.{IsQuarantineClean, MakesNoneBad}
 use Rattle.vc_push_rules.specs.Quarantine.{quarantine_folder}
@@ -15,8 +15,8 @@ use Rattle.vc_shared.proofs.arriving.arrive.Given as goal
 
 abbrev pub invariant-objects : goal.invariant-objects
 invariant-objects g l = record {
-  leads : (before : Option (List ℕ)) → BeginsPush before (g.R.Source.remaining l.fn.reader) l.fn.taken.bytes l.fn.taken.lines (commands_of l.fn.commands.items)
-      → (carried : Carried) × LeadsTo any_step beginning before (g.R.Source.remaining l.reader) l.taken.bytes l.taken.lines (state_at (of_push (commands_of l.fn.commands.items) carried) between)
+  leads : (before : Option (List ℕ)) → BeginsPush before (g.R.Source.remaining l.fn.reader) l.fn.taken.bytes l.fn.taken.lines (head_text l.fn.head)
+      → (carried : Carried) × LeadsTo any_step beginning before (g.R.Source.remaining l.reader) l.taken.bytes l.taken.lines (state_at (of_push (head_text l.fn.head) carried) between)
       × (g.F.Files.honest → HasArrived (g.F.Files.content l.files) l.arriving.slot l.arriving.names.keys l.arriving.fault carried);
   few : l.taken.lines < l.taken.bytes;
   slot : l.arriving.slot ≡ l.fn.slot;

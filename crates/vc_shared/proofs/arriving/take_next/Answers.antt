@@ -4,7 +4,7 @@ use Rattle.vc_files.proofs.WearLemmas.{writes_none}
 use Rattle.vc_fetch.specs.Pack.{PackText}
 use Rattle.vc_message.specs.AnyView.{message_text}
 use Rattle.vc_message.specs.AnyMessage.{a_pack}
-use Rattle.vc_push.specs.PushView.{commands_of}
+use Rattle.vc_push.specs.PushView.{head_text}
 use Rattle.vc_shared.proofs.AcceptingLemmas.{pack_declined}
 use Rattle.vc_shared.proofs.ArrivingLemmas.{changes_none, no_device, stopped_by}
 use Rattle.vc_shared.proofs.ComingLemmas.{head_tellable, kept_none, message_accepts, message_lost, nothing_accepts, opened_writes, push_accepts, push_lost, stopped_accepts, told_writes, was_read}
@@ -76,13 +76,13 @@ returns-in-Message-clause-wear g c = told_writes c.take.result c.told.result c.t
 pub take_push-requires : goal.take_push-requires
 take_push-requires g c =
     let head = rw c.in-Push.is at (rw c.in-Some.is at c.in_ok-found.ensures.head) in
-    record { few = rw c.in-Some.is at c.in_ok-found.ensures.few; told = head_tellable _ _ _ _ (commands_of c.in-Push.commands.items) head; tellable = c.requires.tellable }
+    record { few = rw c.in-Some.is at c.in_ok-found.ensures.few; told = head_tellable _ _ _ _ (head_text c.in-Push.asked) head; tellable = c.requires.tellable }
 
 pub returns-in-Push-clause-accepts : goal.returns-in-Push-clause-accepts
 returns-in-Push-clause-accepts g c =
     let content = g.F.Files.content in
     let head = rw c.in-Push.is at (rw c.in-Some.is at c.in_ok-found.ensures.head) in
-    push_accepts g.F.Files.honest (g.R.Source.remaining c.args.reader.now) (g.R.Source.remaining c.read_head.new.reader) (g.R.Source.remaining c.take_push.new.reader) c.in-Some.found.1.bytes c.in-Some.found.1.lines (commands_of c.in-Push.commands.items) head
+    push_accepts g.F.Files.honest (g.R.Source.remaining c.args.reader.now) (g.R.Source.remaining c.read_head.new.reader) (g.R.Source.remaining c.take_push.new.reader) c.in-Some.found.1.bytes c.in-Some.found.1.lines (head_text c.in-Push.asked) head
     (content c.args.files.now) (content c.take_push.new.files) c.args.slots.now c.take_push.new.slots c.take_push.result c.opened.result c.opened.ensures c.take_push.ensures.opened c.take_push.ensures.unchanged c.take_push.ensures.refused.why
     c.take_push.ensures.cleared c.take_push.ensures.outside (λ honest. (c.take_push.ensures.good honest).bad)
 

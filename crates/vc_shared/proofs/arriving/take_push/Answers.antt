@@ -2,7 +2,8 @@ use Rattle.std.proofs.Common.{rules, inl, refl, sym, ◌∙◌, true≢false}
 use Rattle.std.proofs.lemmas.Result.{err_from_is_err_and}
 use Rattle.vc_files.proofs.FileMapLemmas.{outside_then}
 use Rattle.vc_files.proofs.WearLemmas.{writes_both, writes_none, writes_told}
-use Rattle.vc_push.specs.PushView.{commands_of}
+use Rattle.vc_push.specs.Push.{HeadText, with_carried}
+use Rattle.vc_push.specs.PushView.{head_text}
 use Rattle.vc_quarantine.proofs.CleanLemmas.{bad_then}
 use Rattle.vc_quarantine.proofs.NumberLemmas.{agreement_quarantine}
 use Rattle.vc_shared.proofs.ArrivingLemmas.{changes_none, cleared_by, cleared_none, no_device, part_of_stop, refusal_no_device, stopped_by, writes_as}
@@ -21,7 +22,7 @@ returns-in_err-skip_push-clause-refused g c =
     let p = err_from_is_err_and c.from_residual.result c.from_residual.ensures.1 in
     rw (p.1, p.2) (record {
       failures = inl (tells_error c.in_err-skip_push.ensures.failures (loss_told c.in_err-skip_push.field-0.0) (loss_came c.in_err-skip_push.field-0.0));
-      why = λ before so. stopped (stopped_by before _ c.in_err-skip_push.field-0.0 (c.in_err-skip_push.ensures.fault before (commands_of c.args.commands.items) so));
+      why = λ before so. stopped (stopped_by before _ c.in_err-skip_push.field-0.0 (c.in_err-skip_push.ensures.fault before (head_text c.args.head) so));
     })
 
 pub returns-in_err-skip_push-clause-cleared : goal.returns-in_err-skip_push-clause-cleared
@@ -42,9 +43,9 @@ pub returns-in_default-clause-refused : goal.returns-in_default-clause-refused
 returns-in_default-clause-refused g c = record {
   failures = inl (tells_not c.in_ok-skip_push.ensures.failures ok_is_no_error node_is_no_loss);
   why = λ before so.
-      let commands = commands_of c.args.commands.items in
-      let all = c.in_ok-skip_push.ensures.end before commands so in
-      busy (record { commands = commands; carried = all.0 }) all.1 (rw c.in_default.is at c.lowest_free.ensures) refl;
+      let head : HeadText = head_text c.args.head in
+      let all = c.in_ok-skip_push.ensures.end before head so in
+      busy (with_carried head all.0) all.1 (rw c.in_default.is at c.lowest_free.ensures) refl;
 }
 
 pub returns-in_default-clause-cleared : goal.returns-in_default-clause-cleared

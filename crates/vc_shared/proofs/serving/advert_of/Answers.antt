@@ -26,7 +26,7 @@ loop-name-preserved c =
           ∙ ap (λ n. with_ref (advert_text c.loop-name.advert) n ref.1) name
           ∙ ap (λ t. with_ref t ref.0 ref.1) c.loop-name.invariant.told
           ∙ ap (λ (ids : RefIds). record { head = c.args.head; refs = ids }) (sym (with_all-push empty (take i listed) ref) ∙ ap (with_all empty) (sym more));
-      short = c.in_ok-set.ensures.short (subst (λ n. length n ≤ 65457) (sym name) (few_bytes ref.0 legal)) c.loop-name.invariant.short;
+      short = c.in_ok-set.ensures.short (subst (λ n. length n ≤ 65450) (sym name) (few_bytes ref.0 legal)) c.loop-name.invariant.short;
     }
 
 pub returns-clause-head : goal.returns-clause-head

@@ -1,4 +1,4 @@
-use Rattle.std.proofs.Common.{rules, ◌≡◌, inl, false, length, get_or, take, List, Some, Option, ap, sym, ◌∙◌, refl, subst, slice_set, ℕ}
+use Rattle.std.proofs.Common.{rules, ◌≡◌, inl, false, true≢false, length, get_or, take, List, Some, Option, ap, sym, ◌∙◌, refl, subst, slice_set, ℕ}
 use Rattle.std.specs.Prelude.{slice_get}
 use Rattle.std.specs.List.{list_any}
 use Rattle.vc_lemmas.proofs.Lists.{on_err}
@@ -37,7 +37,7 @@ returns-in_err-found-clause-looks g c = λ honest.
     let stage : t.stage ≡ Migrated = ap (λ (s : SessionText). s.stage) c.self.view_is ∙ c.requires.stage in
     let may : MayBeSetWhere t.commands t.verdicts = (subst (λ (x : Stage). IsInStage t x) stage c.self.invariant.in_stage).0 in
     either (c.in_err-found.ensures.looks honest (may_at t.commands t.verdicts k (command_of command) may here there))
-    (may_set_next t.verdicts k here first t.commands (command_of command) there content c.args.self.now (ap (λ (s : SessionText). s.atomic) (sym c.self.view_is)) (ap (λ (s : SessionText). s.verdicts) (sym c.self.view_is)) (ap (λ (s : SessionText). s.commands) (sym c.self.view_is)))
+    (λ judged. inl (may_set_next t.verdicts k here first t.commands (command_of command) there content c.args.self.now c.requires.single (ap (λ (s : SessionText). s.verdicts) (sym c.self.view_is)) (ap (λ (s : SessionText). s.commands) (sym c.self.view_is)) judged))
     (λ w. wears_told w (search rules))
 
 pub invariant_of-self : goal.invariant_of-self
@@ -55,10 +55,11 @@ invariant_of-self g c =
     let may : MayBeSetWhere t.commands t.verdicts = (subst (λ (x : Stage). IsInStage t x) before c.self.invariant.in_stage).0 in
     let after : MayBeSetWhere t.commands ws = subst (λ (vs : List Verdict). MayBeSetWhere t.commands vs) (sym set) (may_after t.commands t.verdicts k c.match-found.verdict settled may) in
     let u : SessionText = record t { verdicts = ws; stage = c.stage_while-self-inside.result } in
+    let single : t.atomic ≡ false = ap (λ (s : SessionText). s.atomic) c.self.view_is ∙ c.requires.single in
     let stage : u.stage ≡ stage_while ws Migrated = c.stage_while-self-inside.ensures ∙ ap (λ (vs : List Verdict). stage_while vs Migrated) c.deref-3.ensures.value in
     record {
       paired = ap length set ∙ length-set t.verdicts k c.match-found.verdict ∙ c.self.invariant.paired;
-      in_stage = subst (λ (x : Stage). IsInStage u x) (sym stage) (in_stage u Migrated (λ passes. (after, passes)));
+      in_stage = subst (λ (x : Stage). IsInStage u x) (sym stage) (in_stage u Migrated (λ passes. (after, passes, λ atomic. absurd (true≢false (sym atomic ∙ single)))));
     }
 
 pub returns-clause-steps : goal.returns-clause-steps
@@ -96,7 +97,7 @@ returns-clause-steps g c = λ honest.
     let stage : c.stage_while-self-inside.result ≡ stage_while ws Migrated = c.stage_while-self-inside.ensures ∙ ap (λ (vs : List Verdict). stage_while vs Migrated) c.deref-3.ensures.value in
     subst (λ (s : SessionText). StepUpdates old new s (record t { verdicts = ws; stage = c.stage_while-self-inside.result }) c.in_ok-name.name.items found) c.self.view_is (record {
       stage = before;
-      single = refl;
+      single = ap (λ (s : SessionText). s.atomic) c.self.view_is ∙ c.requires.single;
       update = updates_next t.verdicts k here first t.commands (command_of command) there (refs old) (refs new) ws c.in_ok-name.name.items found named judged set after;
       session = ap (λ (x : Stage). record t { verdicts = ws; stage = x }) stage;
       rest = subst (λ (n : List ℕ). KeepsTheRest n old new) (sym named) (c.in_ok-found.ensures.updates.rest honest);
@@ -115,7 +116,7 @@ returns-clause-looks g c = λ honest.
     let stage : t.stage ≡ Migrated = ap (λ (s : SessionText). s.stage) c.self.view_is ∙ c.requires.stage in
     let may : MayBeSetWhere t.commands t.verdicts = (subst (λ (x : Stage). IsInStage t x) stage c.self.invariant.in_stage).0 in
     either (c.in_ok-found.ensures.looks honest (may_at t.commands t.verdicts k (command_of command) may here there))
-    (may_set_next t.verdicts k here first t.commands (command_of command) there content c.args.self.now (ap (λ (s : SessionText). s.atomic) (sym c.self.view_is)) (ap (λ (s : SessionText). s.verdicts) (sym c.self.view_is)) (ap (λ (s : SessionText). s.commands) (sym c.self.view_is)))
+    (λ judged. inl (may_set_next t.verdicts k here first t.commands (command_of command) there content c.args.self.now c.requires.single (ap (λ (s : SessionText). s.verdicts) (sym c.self.view_is)) (ap (λ (s : SessionText). s.commands) (sym c.self.view_is)) judged))
     (λ w. wears_told w (λ never. absurd (cc never)))
 
 pub returns-clause-takes : goal.returns-clause-takes
@@ -154,10 +155,10 @@ returns-clause-spares g c =
 pub returns-in_err-name-clause-early : goal.returns-in_err-name-clause-early
 returns-in_err-name-clause-early g c = λ honest.
     let content = g.F.Files.content c.args.files.now in
-    on_err c.from_residual.result _ (early_update content content c.args.self.now (ap (λ (s : SessionText). s.atomic) (sym c.self.view_is)) refl)
+    on_err c.from_residual.result _ (early_update content content c.args.self.now c.requires.single refl)
 
 pub returns-in_err-found-clause-early : goal.returns-in_err-found-clause-early
 returns-in_err-found-clause-early g c = λ honest.
     let content = g.F.Files.content in
     on_err c.from_residual-in_err-found.result _
-    (early_update (content c.args.files.now) (content c.update.new.files) c.args.self.now (ap (λ (s : SessionText). s.atomic) (sym c.self.view_is)) (c.in_err-found.ensures.updates.err honest))
+    (early_update (content c.args.files.now) (content c.update.new.files) c.args.self.now c.requires.single (c.in_err-found.ensures.updates.err honest))
